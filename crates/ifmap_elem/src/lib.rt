@@ -1,0 +1,15 @@
+//! Elements of XML as values: texts, lists, names, attributes and children, with their copies.
+//! `Text` and `Many` are the text and the list of every public type of the crates above.
+#![tactic(auto)]
+
+pub mod copying;
+pub mod elements;
+pub mod equality;
+pub mod lists;
+pub mod texts;
+
+pub use copying::Copied;
+pub use elements::{Attribute, Child, Element, Name};
+pub use equality::Equals;
+pub use lists::Many;
+pub use texts::Text;

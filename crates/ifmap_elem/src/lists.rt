@@ -1,0 +1,82 @@
+//! Lists.
+ghost use Rattle.std.specs.Prelude.{◌≡◌, take, IfOk};
+ghost use Rattle.std.specs.Cmp.Lexicographic.{lists_agrees, lists_po, lists_ties, lists_total, pointwise, slice_cmp, slice_partial_cmp};
+ghost use Rattle.std.specs.Cmp.Rules.{comparing};
+ghost use Rattle.std.proofs.Common.{rules};
+
+use crate::copying::Copied;
+use std::alloc::{AllocError, Global};
+use std::cmp::Ordering;
+use std::marker::Model;
+
+/// A vector, which contracts see as the list of its members. A type may hold itself through it, as
+/// an element holds elements.
+#[derive(Debug, Drop)]
+pub struct Many<T>(pub Vec<T>);
+
+impl<T> Model for Many<T> {
+    ghost use Rattle.std.specs.Prelude.{List};
+    ghost use Rattle.std.specs.Coded.{coded_list};
+
+    ghost Value = { List T };
+
+    ghost coded = { coded_list T.code };
+
+    ghost view = { λ many. many.0.items };
+}
+
+impl<T: Copied> Copied for Many<T> {
+    fn copy(&self, alloc: Global) -> Result<Self, AllocError> {
+        let members: &[T] = self.0.as_slice();
+        Ok(Many(copied_members(alloc, members)?))
+    }
+}
+
+fn copied_members<T: Copied>(alloc: Global, members: &[T]) -> Result<Vec<T>, AllocError>
+    ensures { IfOk result (λ made. made.items ≡ members.now) }
+{
+    let mut made = Vec::with_capacity(alloc, members.len())?;
+    for member in members {
+        made.push(member.copy(alloc)?)?;
+    }
+    Ok(made)
+}
+
+impl<T: PartialEq> PartialEq for Many<T> {
+    ghost eq = { pointwise T.eq };
+
+    ghost laws = { Prim.search (comparing, rules) };
+
+    fn eq(&self, other: &Many<T>) -> bool {
+        self.0.as_slice() == other.0.as_slice()
+    }
+}
+
+impl<T: Eq> Eq for Many<T> {
+    ghost laws = { Prim.search (comparing, rules) };
+}
+
+/// By the first member that differs; a list comes before those that go on from it.
+impl<T: Ord> Ord for Many<T> {
+    ghost cmp = { slice_cmp T.cmp };
+
+    ghost total = { lists_total T.total };
+
+    ghost matches_partial_cmp = { λ x y. lists_agrees T.matches_partial_cmp x y };
+
+    ghost matches_eq = { λ x y. lists_ties T.cmp T.matches_eq x y };
+
+    fn cmp(&self, other: &Many<T>) -> Ordering {
+        self.0.as_slice().cmp(other.0.as_slice())
+    }
+}
+
+impl<T: PartialOrd> PartialOrd for Many<T> {
+    ghost partial_cmp = { slice_partial_cmp T.partial_cmp };
+
+    ghost laws = { lists_po T.PartialOrd.laws };
+
+    fn partial_cmp(&self, other: &Many<T>) -> Option<Ordering> {
+        self.0.as_slice().partial_cmp(other.0.as_slice())
+    }
+}

@@ -1,0 +1,2 @@
+//! General definitions and laws on sequences, for readers that take one item after another.
+#![tactic(auto)]
