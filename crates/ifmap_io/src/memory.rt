@@ -1,0 +1,149 @@
+//! A source and a sink in memory, which fail at the calls that are listed.
+ghost use Rattle.std.specs.Prelude.{◌≡◌, ◌+◌, ◌-◌, ◌^◌, ◌<◌, ◌≤◌, ◌↔◌, ◌++◌, [], Contains, IsTrue, Some, drop, length, min, take};
+
+use crate::ends::{Failed, Sink, Source};
+use std::marker::Model;
+
+/// A source over bytes in memory. It tells what it has left.
+#[derive(Drop)]
+pub struct MemorySource {
+    bytes: Vec<u8>,
+    taken: usize,
+    fails: Vec<u64>,
+    calls: u64,
+    faults: u64,
+}
+
+impl Model for MemorySource {
+    ghost use Rattle.std.specs.Prelude.{◌≤◌, drop, vec_len};
+    ghost use Rattle.ifmap_io.specs.Memory.{Feed};
+
+    ghost Value = { Feed };
+
+    ghost view = { λ s. record { left = drop s.taken s.bytes.items; fails = s.fails.items; calls = s.calls; faults = s.faults } };
+
+    ghost invariant = { λ s. s.taken ≤ vec_len s.bytes };
+}
+
+impl MemorySource {
+    /// A source that has `left`, and whose reads fail at the numbers `fails`, counted from 0.
+    pub fn new(left: Vec<u8>, fails: Vec<u64>) -> MemorySource
+        ensures { result ≡ record { left = left.items; fails = fails.items; calls = 0; faults = 0 } }
+    {
+        MemorySource {
+            bytes: left,
+            taken: 0,
+            fails,
+            calls: 0,
+            faults: 0,
+        }
+    }
+}
+
+impl Source for MemorySource {
+    ghost left = { λ s. Some s.left };
+
+    ghost faults = { λ s. s.faults };
+
+    fn read(&mut self, room: &mut [u8]) -> Result<usize, Failed> {
+        if is_to_fail(&self.fails, &mut self.calls) {
+            self.faults = self.faults.saturating_add(1);
+            return Err(Failed);
+        }
+        Ok(give(&self.bytes, &mut self.taken, room))
+    }
+}
+
+/// A sink over a vector. It tells what it holds, and fails too where it finds no memory.
+#[derive(Drop)]
+pub struct MemorySink {
+    held: Vec<u8>,
+    fails: Vec<u64>,
+    calls: u64,
+    faults: u64,
+}
+
+impl Model for MemorySink {
+    ghost use Rattle.ifmap_io.specs.Memory.{Store};
+
+    ghost Value = { Store };
+
+    ghost view = { λ s. record { held = s.held.items; fails = s.fails.items; calls = s.calls; faults = s.faults } };
+}
+
+impl MemorySink {
+    /// A sink that holds `held`, and whose writes and flushes, counted together from 0, fail at the
+    /// numbers `fails`.
+    pub fn new(held: Vec<u8>, fails: Vec<u64>) -> MemorySink
+        ensures { result ≡ record { held = held.items; fails = fails.items; calls = 0; faults = 0 } }
+    {
+        MemorySink {
+            held,
+            fails,
+            calls: 0,
+            faults: 0,
+        }
+    }
+
+    /// The bytes that it holds.
+    pub fn held(&self) -> &[u8]
+        ensures { result.now ≡ self.now.held }
+    {
+        self.held.as_slice()
+    }
+}
+
+impl Sink for MemorySink {
+    ghost held = { λ s. Some s.held };
+
+    ghost faults = { λ s. s.faults };
+
+    fn write_all(&mut self, bytes: &[u8]) -> Result<(), Failed> {
+        if is_to_fail(&self.fails, &mut self.calls) || self.held.extend_from_slice(bytes).is_err() {
+            self.faults = self.faults.saturating_add(1);
+            return Err(Failed);
+        }
+        Ok(())
+    }
+
+    fn flush(&mut self) -> Result<(), Failed> {
+        if is_to_fail(&self.fails, &mut self.calls) {
+            self.faults = self.faults.saturating_add(1);
+            return Err(Failed);
+        }
+        Ok(())
+    }
+}
+
+// Counts this call, and answers whether its number is listed.
+pub(crate) fn is_to_fail(fails: &[u64], calls: &mut u64) -> bool
+    ensures listed { IsTrue result ↔ Contains fails.now calls.old }
+    ensures counted { calls.new ≡ min (calls.old + 1) (2 ^ 64 - 1) }
+{
+    let is_listed = fails.contains(calls);
+    *calls = calls.saturating_add(1);
+    is_listed
+}
+
+// Moves what fits from the bytes past `taken` to the start of `room`, and answers how many.
+pub(crate) fn give(bytes: &[u8], taken: &mut usize, room: &mut [u8]) -> usize
+    requires { taken.old ≤ length bytes.now }
+    ensures within { taken.new ≤ length bytes.now }
+    ensures bound { result ≤ length room.new }
+    ensures moved { drop taken.old bytes.now ≡ take result room.new ++ drop taken.new bytes.now }
+    ensures end { result ≡ 0 → 0 < length room.new → drop taken.new bytes.now ≡ [] }
+{
+    let count = copy(&bytes[*taken..], room);
+    *taken += count;
+    count
+}
+
+// Copies what fits.
+fn copy(rest: &[u8], room: &mut [u8]) -> usize
+    ensures count { result ≡ min (length rest.now) (length room.old) }
+    ensures bytes { take result room.new ≡ take result rest.now }
+{
+    let count = rest.len().min(room.len());
+    room[..count].copy_from_slice(&rest[..count]);
+    count
+}

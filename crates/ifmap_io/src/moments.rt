@@ -1,0 +1,45 @@
+//! Moments, in seconds from 1970-01-01T00:00:00Z, without leap seconds.
+ghost use Rattle.std.specs.Prelude.{◌≡◌, ◌≤◌, SomeIff};
+
+use std::marker::Model;
+
+/// A moment, which contracts see as its number of seconds: 0 to 253402300799, the last second of
+/// the year 9999.
+#[derive(Clone, Copy, Debug, PartialEq, Eq, PartialOrd, Ord)]
+pub struct Moment(u64);
+
+impl Model for Moment {
+    ghost use Rattle.std.specs.Prelude.{ℕ, ◌≤◌};
+
+    ghost Value = { ℕ };
+
+    ghost view = { λ moment. moment.0 };
+
+    ghost invariant = { λ moment. moment.0 ≤ 253402300799 };
+
+    ghost inverse = { λ seconds. record { 0 = seconds } };
+}
+
+impl Moment {
+    /// The greatest moment, in seconds.
+    pub const LAST: u64 = 253_402_300_799;
+
+    /// The moment of that many seconds; None exactly above 253402300799.
+    pub fn new(seconds: u64) -> Option<Moment>
+        ensures { SomeIff result (seconds ≤ 253402300799) seconds }
+    {
+        if seconds <= Moment::LAST {
+            Some(Moment(seconds))
+        } else {
+            None
+        }
+    }
+
+    /// Its seconds, at most 253402300799.
+    pub fn seconds(&self) -> u64
+        ensures value { result ≡ self.now }
+        ensures bound { result ≤ 253402300799 }
+    {
+        self.0
+    }
+}
