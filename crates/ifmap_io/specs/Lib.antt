@@ -1,3 +1,6 @@
 pub mod Causes
+pub mod Doors
+pub mod Links
 pub mod Memory
+pub mod Tcp
 pub mod Written

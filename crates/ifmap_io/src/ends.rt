@@ -3,6 +3,7 @@ ghost use Rattle.std.specs.Prelude.{◌≡◌, ℕ, List, Option, is_some};
 ghost use Rattle.std.specs.Io.{ReadsAtMost};
 ghost use Rattle.std.specs.Io.KnownBytes.{Keeps, ReadConsumes};
 ghost use Rattle.ifmap_io.specs.Causes.{HasCause};
+ghost use Rattle.ifmap_io.specs.Links.{Side, no_side};
 ghost use Rattle.ifmap_io.specs.Written.{WritesAll};
 
 /// The outside failed. The object's count of faults has risen.
@@ -17,12 +18,16 @@ pub trait Source {
     /// How often a read has failed.
     ghost faults: { Self → ℕ };
 
+    /// What the object is as a sink too, where it is a link.
+    ghost outgoing: { Self → Side } = { λ _. no_side };
+
     /// Puts the next bytes at the start of `room`, and answers how many. With room, 0 is the end of
-    /// input. A read that fails takes nothing.
+    /// input. A read that fails takes nothing, and no read changes what was written.
     fn read(&mut self, room: &mut [u8]) -> Result<usize, Failed>
         ensures bound { ReadsAtMost result room.new }
         ensures bytes { ReadConsumes (left self.old) (left self.new) result room.new }
         ensures told { is_some (left self.new) ≡ is_some (left self.old) }
+        ensures apart { outgoing self.new ≡ outgoing self.old }
         ensures cause { HasCause (faults self.old) (faults self.new) result };
 }
 
@@ -34,15 +39,21 @@ pub trait Sink {
     /// How often a write or a flush has failed.
     ghost faults: { Self → ℕ };
 
-    /// Writes all of `bytes`. A write that fails has written a prefix of them.
+    /// What the object is as a source too, where it is a link.
+    ghost incoming: { Self → Side } = { λ _. no_side };
+
+    /// Writes all of `bytes`. A write that fails has written a prefix of them, and no write takes
+    /// from what is left to read.
     fn write_all(&mut self, bytes: &[u8]) -> Result<(), Failed>
         ensures bytes { WritesAll (held self.old) (held self.new) result bytes.now }
         ensures told { is_some (held self.new) ≡ is_some (held self.old) }
+        ensures apart { incoming self.new ≡ incoming self.old }
         ensures cause { HasCause (faults self.old) (faults self.new) result };
 
     /// Hands on what was written.
     fn flush(&mut self) -> Result<(), Failed>
         ensures bytes { Keeps (held self.old) (held self.new) }
         ensures told { is_some (held self.new) ≡ is_some (held self.old) }
+        ensures apart { incoming self.new ≡ incoming self.old }
         ensures cause { HasCause (faults self.old) (faults self.new) result };
 }

@@ -1,5 +1,6 @@
 //! Moments, in seconds from 1970-01-01T00:00:00Z, without leap seconds.
-ghost use Rattle.std.specs.Prelude.{◌≡◌, ◌≤◌, SomeIff};
+ghost use Rattle.std.specs.Prelude.{◌≡◌, ◌≤◌, min};
+ghost use Rattle.std.specs.Option.{SomeIff};
 
 use std::marker::Model;
 
@@ -33,6 +34,13 @@ impl Moment {
         } else {
             None
         }
+    }
+
+    // The moment of that many seconds, or the greatest.
+    pub(crate) fn nearest(seconds: u64) -> Moment
+        ensures { result ≡ min seconds 253402300799 }
+    {
+        Moment(seconds.min(Moment::LAST))
     }
 
     /// Its seconds, at most 253402300799.

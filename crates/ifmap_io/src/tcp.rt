@@ -1,0 +1,139 @@
+//! The adapters over the system's TCP sockets. They tell nothing, and count each error.
+ghost use Rattle.std.specs.Prelude.{◌≡◌, None};
+
+use crate::doors::Door;
+use crate::ends::{Failed, Sink, Source};
+use crate::links::Link;
+use std::io::{Read, Write};
+use std::marker::Model;
+use std::net::{TcpListener, TcpStream};
+
+/// A link over a TCP stream. Contracts see it as its two counts of faults.
+#[derive(Drop)]
+pub struct TcpLink {
+    stream: TcpStream,
+    read_faults: u64,
+    write_faults: u64,
+}
+
+impl Model for TcpLink {
+    ghost use Rattle.ifmap_io.specs.Tcp.{Counts};
+
+    ghost Value = { Counts };
+
+    ghost view = { λ l. record { read_faults = l.read_faults; write_faults = l.write_faults } };
+}
+
+impl TcpLink {
+    /// A link over that stream, which dropping the link closes.
+    pub fn new(stream: TcpStream) -> TcpLink
+        ensures { result ≡ record { read_faults = 0; write_faults = 0 } }
+    {
+        TcpLink {
+            stream,
+            read_faults: 0,
+            write_faults: 0,
+        }
+    }
+}
+
+impl Source for TcpLink {
+    ghost left = { λ _. None };
+
+    ghost faults = { λ l. l.read_faults };
+
+    ghost outgoing = { λ l. record { bytes = None; faults = l.write_faults } };
+
+    fn read(&mut self, room: &mut [u8]) -> Result<usize, Failed> {
+        match self.stream.read(room) {
+            Ok(count) => Ok(count),
+            Err(_) => {
+                self.read_faults = self.read_faults.saturating_add(1);
+                Err(Failed)
+            }
+        }
+    }
+}
+
+impl Sink for TcpLink {
+    ghost held = { λ _. None };
+
+    ghost faults = { λ l. l.write_faults };
+
+    ghost incoming = { λ l. record { bytes = None; faults = l.read_faults } };
+
+    fn write_all(&mut self, bytes: &[u8]) -> Result<(), Failed> {
+        match self.stream.write_all(bytes) {
+            Ok(()) => Ok(()),
+            Err(_) => {
+                self.write_faults = self.write_faults.saturating_add(1);
+                Err(Failed)
+            }
+        }
+    }
+
+    fn flush(&mut self) -> Result<(), Failed> {
+        match self.stream.flush() {
+            Ok(()) => Ok(()),
+            Err(_) => {
+                self.write_faults = self.write_faults.saturating_add(1);
+                Err(Failed)
+            }
+        }
+    }
+}
+
+impl Link for TcpLink {
+    ghost use Rattle.std.specs.Prelude.{refl};
+
+    ghost outgoing_is = { λ link. refl };
+
+    ghost incoming_is = { λ link. refl };
+}
+
+/// A door over a TCP listener. Contracts see it as its count of faults. It never answers None.
+#[derive(Drop)]
+pub struct TcpDoor<'a> {
+    listener: &'a TcpListener,
+    faults: u64,
+}
+
+impl<'a> Model for TcpDoor<'a> {
+    ghost use Rattle.std.specs.Prelude.{ℕ};
+
+    ghost Value = { ℕ };
+
+    ghost view = { λ d. d.faults };
+}
+
+impl<'a> TcpDoor<'a> {
+    /// A door over that listener, which several doors may share.
+    pub fn new(listener: &'a TcpListener) -> TcpDoor<'a>
+        ensures { result ≡ 0 }
+    {
+        TcpDoor {
+            listener,
+            faults: 0,
+        }
+    }
+}
+
+impl<'a> Door for TcpDoor<'a> {
+    type Wire = TcpLink;
+
+    ghost links = { λ _. None };
+
+    ghost faults = { λ d. d };
+
+    fn accept(&mut self) -> Result<Option<TcpLink>, Failed> {
+        match self.listener.accept() {
+            Ok((stream, _)) => Ok(Some(TcpLink::new(stream))),
+            Err(_) => {
+                self.faults = self.faults.saturating_add(1);
+                Err(Failed)
+            }
+        }
+    }
+
+    fn ended(&mut self, _link: TcpLink) {}
+}
