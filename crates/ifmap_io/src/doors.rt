@@ -1,14 +1,14 @@
 //! Doors: where links come from, and where they go back to.
-ghost use Rattle.std.specs.Prelude.{◌≡◌, ℕ, Option, Some, [], IfOk, is_some};
+ghost use Rattle.std.specs.Prelude.{◌≡◌, ◌-◌, ◌<◌, ◌↔◌, ◌++◌, ◌∷◌, ℕ, Option, Some, [], IfOk, IsNone, MatchResult, is_some, option_to_list};
 ghost use Rattle.std.specs.VecDeque.{deque_len};
 ghost use Rattle.ifmap_io.specs.Causes.{HasCause};
 ghost use Rattle.ifmap_io.specs.Doors.{Doorway, Accepts, TakesBack};
 ghost use Rattle.ifmap_io.specs.Links.{seen};
-ghost use Rattle.ifmap_io.specs.Memory.{porch_seen};
+ghost use Rattle.ifmap_io.specs.Memory.{porch_seen, FailsAsListed, one_more, faults_after};
 
 use crate::ends::Failed;
 use crate::links::{Link, MemoryLink};
-use crate::memory::is_to_fail;
+use crate::memory::begin_call;
 use std::alloc::{AllocError as NoMemory, Global};
 use std::collections::VecDeque;
 use std::marker::Model;
@@ -97,15 +97,21 @@ impl Door for MemoryDoor {
 
     ghost faults = { λ d. d.faults };
 
-    fn accept(&mut self) -> Result<Option<MemoryLink>, Failed> {
-        if is_to_fail(&self.fails, &mut self.calls) {
-            self.faults = self.faults.saturating_add(1);
-            return Err(Failed);
-        }
+    fn accept(&mut self) -> Result<Option<MemoryLink>, Failed>
+        ensures taken { MatchResult result (λ link. self.old.left ≡ option_to_list link ++ self.new.left) (λ _. self.new.left ≡ self.old.left) }
+        ensures last { IfOk result (λ link. IsNone link ↔ (self.old.left ≡ [])) }
+        ensures cause { HasCause self.old.faults self.new.faults result }
+        ensures listed { FailsAsListed self.old.fails self.old.calls result }
+        ensures rest { self.new ≡ record { left = self.new.left; back = self.old.back; room = self.old.room; fails = self.old.fails; calls = one_more self.old.calls; faults = faults_after result self.old.faults } }
+    {
+        begin_call(&self.fails, &mut self.calls, &mut self.faults)?;
         Ok(self.links.pop_front())
     }
 
-    fn ended(&mut self, link: MemoryLink) {
+    fn ended(&mut self, link: MemoryLink)
+        ensures room { 0 < self.old.room → self.new ≡ record { left = self.old.left; back = self.old.back ++ link ∷ []; room = self.old.room - 1; fails = self.old.fails; calls = self.old.calls; faults = self.old.faults } }
+        ensures full { self.old.room ≡ 0 → self.new ≡ self.old }
+    {
         if self.room > 0 {
             self.back.push_reserved(link);
             self.room -= 1;

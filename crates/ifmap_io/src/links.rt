@@ -1,9 +1,13 @@
 //! Links: what is read from and written to at once, as a connection.
-ghost use Rattle.std.specs.Prelude.{◌≡◌, ◌+◌, ◌-◌, ◌^◌, ◌<◌, ◌≤◌, ◌↔◌, ◌++◌, [], Contains, IsTrue, Some, drop, length, min, take, is_some, IsErr, OnErr};
-ghost use Rattle.ifmap_io.specs.Links.{Side};
+ghost use Rattle.std.specs.Prelude.{◌≡◌, Contains, IsErr, OnErr, Some};
+ghost use Rattle.std.specs.Io.{ReadsAtMost};
+ghost use Rattle.std.specs.Io.KnownBytes.{Keeps, ReadConsumes};
+ghost use Rattle.ifmap_io.specs.Causes.{HasCause};
+ghost use Rattle.ifmap_io.specs.Memory.{FailsAsListed, one_more, faults_after};
+ghost use Rattle.ifmap_io.specs.Written.{WritesAll};
 
 use crate::ends::{Failed, Sink, Source};
-use crate::memory::{give, is_to_fail};
+use crate::memory::{begin_call, give};
 use std::marker::Model;
 
 /// A source and a sink in one object, each with its own count of faults.
@@ -71,11 +75,14 @@ impl Source for MemoryLink {
 
     ghost outgoing = { λ l. record { bytes = Some l.held; faults = l.write_faults } };
 
-    fn read(&mut self, room: &mut [u8]) -> Result<usize, Failed> {
-        if is_to_fail(&self.fails, &mut self.calls) {
-            self.read_faults = self.read_faults.saturating_add(1);
-            return Err(Failed);
-        }
+    fn read(&mut self, room: &mut [u8]) -> Result<usize, Failed>
+        ensures bound { ReadsAtMost result room.new }
+        ensures bytes { ReadConsumes (Some self.old.left) (Some self.new.left) result room.new }
+        ensures cause { HasCause self.old.read_faults self.new.read_faults result }
+        ensures listed { FailsAsListed self.old.fails self.old.calls result }
+        ensures rest { self.new ≡ record { left = self.new.left; held = self.old.held; fails = self.old.fails; calls = one_more self.old.calls; read_faults = faults_after result self.old.read_faults; write_faults = self.old.write_faults } }
+    {
+        begin_call(&self.fails, &mut self.calls, &mut self.read_faults)?;
         Ok(give(&self.bytes, &mut self.taken, room))
     }
 }
@@ -87,19 +94,28 @@ impl Sink for MemoryLink {
 
     ghost incoming = { λ l. record { bytes = Some l.left; faults = l.read_faults } };
 
-    fn write_all(&mut self, bytes: &[u8]) -> Result<(), Failed> {
-        if is_to_fail(&self.fails, &mut self.calls) || self.held.extend_from_slice(bytes).is_err() {
+    fn write_all(&mut self, bytes: &[u8]) -> Result<(), Failed>
+        ensures bytes { WritesAll (Some self.old.held) (Some self.new.held) result bytes.now }
+        ensures cause { HasCause self.old.write_faults self.new.write_faults result }
+        ensures listed { Contains self.old.fails self.old.calls → IsErr result }
+        ensures none { OnErr result (self.new.held ≡ self.old.held) }
+        ensures rest { self.new ≡ record { left = self.old.left; held = self.new.held; fails = self.old.fails; calls = one_more self.old.calls; read_faults = self.old.read_faults; write_faults = faults_after result self.old.write_faults } }
+    {
+        begin_call(&self.fails, &mut self.calls, &mut self.write_faults)?;
+        if self.held.extend_from_slice(bytes).is_err() {
             self.write_faults = self.write_faults.saturating_add(1);
             return Err(Failed);
         }
         Ok(())
     }
 
-    fn flush(&mut self) -> Result<(), Failed> {
-        if is_to_fail(&self.fails, &mut self.calls) {
-            self.write_faults = self.write_faults.saturating_add(1);
-            return Err(Failed);
-        }
+    fn flush(&mut self) -> Result<(), Failed>
+        ensures bytes { Keeps (Some self.old.held) (Some self.new.held) }
+        ensures cause { HasCause self.old.write_faults self.new.write_faults result }
+        ensures listed { FailsAsListed self.old.fails self.old.calls result }
+        ensures rest { self.new ≡ record { left = self.old.left; held = self.old.held; fails = self.old.fails; calls = one_more self.old.calls; read_faults = self.old.read_faults; write_faults = faults_after result self.old.write_faults } }
+    {
+        begin_call(&self.fails, &mut self.calls, &mut self.write_faults)?;
         Ok(())
     }
 }

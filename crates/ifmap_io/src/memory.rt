@@ -1,5 +1,10 @@
 //! A source and a sink in memory, which fail at the calls that are listed.
-ghost use Rattle.std.specs.Prelude.{◌≡◌, ◌+◌, ◌-◌, ◌^◌, ◌<◌, ◌≤◌, ◌↔◌, ◌++◌, [], Contains, IsTrue, Some, drop, length, min, take};
+ghost use Rattle.std.specs.Prelude.{◌≡◌, ◌+◌, ◌-◌, ◌^◌, ◌<◌, ◌≤◌, ◌↔◌, ◌++◌, [], Contains, IsErr, IsTrue, OnErr, Some, drop, length, min, take};
+ghost use Rattle.std.specs.Io.{ReadsAtMost};
+ghost use Rattle.std.specs.Io.KnownBytes.{Keeps, ReadConsumes};
+ghost use Rattle.ifmap_io.specs.Causes.{HasCause, Rose};
+ghost use Rattle.ifmap_io.specs.Memory.{FailsAsListed, one_more, faults_after};
+ghost use Rattle.ifmap_io.specs.Written.{WritesAll};
 
 use crate::ends::{Failed, Sink, Source};
 use std::marker::Model;
@@ -45,11 +50,14 @@ impl Source for MemorySource {
 
     ghost faults = { λ s. s.faults };
 
-    fn read(&mut self, room: &mut [u8]) -> Result<usize, Failed> {
-        if is_to_fail(&self.fails, &mut self.calls) {
-            self.faults = self.faults.saturating_add(1);
-            return Err(Failed);
-        }
+    fn read(&mut self, room: &mut [u8]) -> Result<usize, Failed>
+        ensures bound { ReadsAtMost result room.new }
+        ensures bytes { ReadConsumes (Some self.old.left) (Some self.new.left) result room.new }
+        ensures cause { HasCause self.old.faults self.new.faults result }
+        ensures listed { FailsAsListed self.old.fails self.old.calls result }
+        ensures rest { self.new ≡ record { left = self.new.left; fails = self.old.fails; calls = one_more self.old.calls; faults = faults_after result self.old.faults } }
+    {
+        begin_call(&self.fails, &mut self.calls, &mut self.faults)?;
         Ok(give(&self.bytes, &mut self.taken, room))
     }
 }
@@ -98,31 +106,47 @@ impl Sink for MemorySink {
 
     ghost faults = { λ s. s.faults };
 
-    fn write_all(&mut self, bytes: &[u8]) -> Result<(), Failed> {
-        if is_to_fail(&self.fails, &mut self.calls) || self.held.extend_from_slice(bytes).is_err() {
+    fn write_all(&mut self, bytes: &[u8]) -> Result<(), Failed>
+        ensures bytes { WritesAll (Some self.old.held) (Some self.new.held) result bytes.now }
+        ensures cause { HasCause self.old.faults self.new.faults result }
+        ensures listed { Contains self.old.fails self.old.calls → IsErr result }
+        ensures none { OnErr result (self.new.held ≡ self.old.held) }
+        ensures rest { self.new ≡ record { held = self.new.held; fails = self.old.fails; calls = one_more self.old.calls; faults = faults_after result self.old.faults } }
+    {
+        begin_call(&self.fails, &mut self.calls, &mut self.faults)?;
+        if self.held.extend_from_slice(bytes).is_err() {
             self.faults = self.faults.saturating_add(1);
             return Err(Failed);
         }
         Ok(())
     }
 
-    fn flush(&mut self) -> Result<(), Failed> {
-        if is_to_fail(&self.fails, &mut self.calls) {
-            self.faults = self.faults.saturating_add(1);
-            return Err(Failed);
-        }
+    fn flush(&mut self) -> Result<(), Failed>
+        ensures bytes { Keeps (Some self.old.held) (Some self.new.held) }
+        ensures cause { HasCause self.old.faults self.new.faults result }
+        ensures listed { FailsAsListed self.old.fails self.old.calls result }
+        ensures rest { self.new ≡ record { held = self.old.held; fails = self.old.fails; calls = one_more self.old.calls; faults = faults_after result self.old.faults } }
+    {
+        begin_call(&self.fails, &mut self.calls, &mut self.faults)?;
         Ok(())
     }
 }
 
-// Counts this call, and answers whether its number is listed.
-pub(crate) fn is_to_fail(fails: &[u64], calls: &mut u64) -> bool
-    ensures listed { IsTrue result ↔ Contains fails.now calls.old }
-    ensures counted { calls.new ≡ min (calls.old + 1) (2 ^ 64 - 1) }
+// Counts this call, which fails where its number is listed, and then the fault.
+pub(crate) fn begin_call(fails: &[u64], calls: &mut u64, faults: &mut u64) -> Result<(), Failed>
+    ensures listed { FailsAsListed fails.now calls.old result }
+    ensures counted { calls.new ≡ one_more calls.old }
+    ensures faults { faults.new ≡ faults_after result faults.old }
+    ensures later { faults.old ≤ faults.new }
+    ensures rose { OnErr result (Rose faults.old faults.new) }
 {
     let is_listed = fails.contains(calls);
     *calls = calls.saturating_add(1);
-    is_listed
+    if is_listed {
+        *faults = faults.saturating_add(1);
+        return Err(Failed);
+    }
+    Ok(())
 }
 
 // Moves what fits from the bytes past `taken` to the start of `room`, and answers how many.
