@@ -1,7 +1,9 @@
 //! The adapters over the system's readers and writers. They tell no bytes, and count each error.
-ghost use Rattle.std.specs.Prelude.{◌≡◌, None};
+ghost use Rattle.std.specs.Prelude.{◌≡◌, ◌≤◌, IsErr, MatchResult, None, OnErr};
+ghost use Rattle.ifmap_io.specs.Causes.{Rose};
 
 use crate::ends::{Failed, Sink, Source};
+use std::io;
 use std::io::{Read, Write};
 use std::marker::Model;
 
@@ -34,13 +36,7 @@ impl<R: Read> Source for StdSource<R> {
     ghost faults = { λ s. s };
 
     fn read(&mut self, room: &mut [u8]) -> Result<usize, Failed> {
-        match self.reader.read(room) {
-            Ok(count) => Ok(count),
-            Err(_) => {
-                self.faults = self.faults.saturating_add(1);
-                Err(Failed)
-            }
-        }
+        counted(self.reader.read(room), &mut self.faults)
     }
 }
 
@@ -73,22 +69,25 @@ impl<W: Write> Sink for StdSink<W> {
     ghost faults = { λ s. s };
 
     fn write_all(&mut self, bytes: &[u8]) -> Result<(), Failed> {
-        match self.writer.write_all(bytes) {
-            Ok(()) => Ok(()),
-            Err(_) => {
-                self.faults = self.faults.saturating_add(1);
-                Err(Failed)
-            }
-        }
+        counted(self.writer.write_all(bytes), &mut self.faults)
     }
 
     fn flush(&mut self) -> Result<(), Failed> {
-        match self.writer.flush() {
-            Ok(()) => Ok(()),
-            Err(_) => {
-                self.faults = self.faults.saturating_add(1);
-                Err(Failed)
-            }
+        counted(self.writer.flush(), &mut self.faults)
+    }
+}
+
+// The system's answer, whose error is counted.
+pub(crate) fn counted<T>(answer: io::Result<T>, faults: &mut u64) -> Result<T, Failed>
+    ensures same { MatchResult result (λ value. answer ≡ Ok value) (λ _. IsErr answer) }
+    ensures later { faults.old ≤ faults.new }
+    ensures rose { OnErr result (Rose faults.old faults.new) }
+{
+    match answer {
+        Ok(value) => Ok(value),
+        Err(_) => {
+            *faults = faults.saturating_add(1);
+            Err(Failed)
         }
     }
 }

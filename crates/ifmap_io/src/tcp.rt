@@ -4,6 +4,7 @@ ghost use Rattle.std.specs.Prelude.{◌≡◌, None};
 use crate::doors::Door;
 use crate::ends::{Failed, Sink, Source};
 use crate::links::Link;
+use crate::std_ends::counted;
 use std::io::{Read, Write};
 use std::marker::Model;
 use std::net::{TcpListener, TcpStream};
@@ -45,13 +46,7 @@ impl Source for TcpLink {
     ghost outgoing = { λ l. record { bytes = None; faults = l.write_faults } };
 
     fn read(&mut self, room: &mut [u8]) -> Result<usize, Failed> {
-        match self.stream.read(room) {
-            Ok(count) => Ok(count),
-            Err(_) => {
-                self.read_faults = self.read_faults.saturating_add(1);
-                Err(Failed)
-            }
-        }
+        counted(self.stream.read(room), &mut self.read_faults)
     }
 }
 
@@ -63,23 +58,11 @@ impl Sink for TcpLink {
     ghost incoming = { λ l. record { bytes = None; faults = l.read_faults } };
 
     fn write_all(&mut self, bytes: &[u8]) -> Result<(), Failed> {
-        match self.stream.write_all(bytes) {
-            Ok(()) => Ok(()),
-            Err(_) => {
-                self.write_faults = self.write_faults.saturating_add(1);
-                Err(Failed)
-            }
-        }
+        counted(self.stream.write_all(bytes), &mut self.write_faults)
     }
 
     fn flush(&mut self) -> Result<(), Failed> {
-        match self.stream.flush() {
-            Ok(()) => Ok(()),
-            Err(_) => {
-                self.write_faults = self.write_faults.saturating_add(1);
-                Err(Failed)
-            }
-        }
+        counted(self.stream.flush(), &mut self.write_faults)
     }
 }
 
@@ -126,13 +109,8 @@ impl<'a> Door for TcpDoor<'a> {
     ghost faults = { λ d. d };
 
     fn accept(&mut self) -> Result<Option<TcpLink>, Failed> {
-        match self.listener.accept() {
-            Ok((stream, _)) => Ok(Some(TcpLink::new(stream))),
-            Err(_) => {
-                self.faults = self.faults.saturating_add(1);
-                Err(Failed)
-            }
-        }
+        let (stream, _) = counted(self.listener.accept(), &mut self.faults)?;
+        Ok(Some(TcpLink::new(stream)))
     }
 
     fn ended(&mut self, _link: TcpLink) {}
