@@ -1,3 +1,4 @@
+pub mod Calendar
 pub mod Causes
 pub mod Doors
 pub mod Links

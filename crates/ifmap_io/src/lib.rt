@@ -3,6 +3,7 @@
 //! the system's.
 #![tactic(auto)]
 
+mod calendar;
 pub mod clocks;
 pub mod doors;
 pub mod ends;

@@ -1,7 +1,9 @@
 //! Moments, in seconds from 1970-01-01T00:00:00Z, without leap seconds.
 ghost use Rattle.std.specs.Prelude.{◌≡◌, ◌≤◌, min};
 ghost use Rattle.std.specs.Option.{SomeIff};
+ghost use Rattle.ifmap_io.specs.Calendar.{Civil, IsCivil, civil_text, second_number};
 
+use crate::calendar::{civil_at, text_of};
 use std::marker::Model;
 
 /// A moment, which contracts see as its number of seconds: 0 to 253402300799, the last second of
@@ -49,5 +51,13 @@ impl Moment {
         ensures bound { result ≤ 253402300799 }
     {
         self.0
+    }
+
+    /// Its date and time of day in UTC, as `YYYY-MM-DDThh:mm:ssZ` (RFC 3339).
+    pub fn text(&self) -> [u8; 20]
+        ensures shown { (c : Civil) × IsCivil c × (second_number c ≡ self.now) × (result ≡ civil_text c) }
+        ensures only { (c : Civil) → IsCivil c → second_number c ≡ self.now → result ≡ civil_text c }
+    {
+        text_of(civil_at(self.0))
     }
 }

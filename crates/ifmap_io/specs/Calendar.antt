@@ -1,0 +1,61 @@
+-- The Gregorian calendar and the clock in UTC, for the years 1970 to 9999: the date and the time of day
+-- of a second counted from 1970-01-01T00:00:00Z (RFC 3339; ISO 8601; no leap seconds), and its text.
+use Rattle.std.specs.Prelude.{ℕ, zero, suc, ◌+◌, ◌-◌, ◌*◌, ◌/◌, ◌%◌, ◌<◌, ◌≤◌, Bool, not, ◌&&◌, ◌||◌, ◌==◌, if◌then◌else◌, List, [], ◌∷◌, ◌++◌, sum, take, slice_index, codes}
+
+-- each fourth year is a leap year, but of those that end a century only each fourth
+abbrev pub is_leap : ℕ → Bool
+is_leap year = (year % 4 == 0) && (not (year % 100 == 0) || (year % 400 == 0))
+
+-- the lengths in days of the year's twelve months
+abbrev pub months : ℕ → List ℕ
+months year =
+    31 ∷ (if is_leap year then 29 else 28) ∷ 31 ∷ 30 ∷ 31 ∷ 30 ∷ 31 ∷ 31 ∷ 30 ∷ 31 ∷ 30 ∷ 31 ∷ []
+
+-- the days of the n years from 1970 on
+unfoldable pub days_of_years : ℕ → ℕ
+days_of_years zero = 0
+days_of_years (suc n) = days_of_years n + sum (months (1970 + n))
+
+-- a date and a time of day
+pub record Civil : Type 0 where
+  pub year : ℕ
+  pub month : ℕ
+  pub day : ℕ
+  pub hour : ℕ
+  pub minute : ℕ
+  pub second : ℕ
+
+-- the calendar has the date, and a clock shows the time
+pub record IsCivil (c : Civil) : Type 0 where
+  pub year : (1970 ≤ c.year) × (c.year ≤ 9999)
+  pub month : (1 ≤ c.month) × (c.month ≤ 12)
+  pub day : (1 ≤ c.day) × (c.day ≤ slice_index (months c.year) (c.month - 1))
+  pub hour : c.hour < 24
+  pub minute : c.minute < 60
+  pub second : c.second < 60
+
+-- the days from 1970-01-01 to the date
+abbrev pub day_number : Civil → ℕ
+day_number c = days_of_years (c.year - 1970) + sum (take (c.month - 1) (months c.year)) + (c.day - 1)
+
+-- the seconds from 1970-01-01T00:00:00Z to the date and the time
+abbrev pub second_number : Civil → ℕ
+second_number c = day_number c * 86400 + c.hour * 3600 + c.minute * 60 + c.second
+
+-- the last decimal digit, in ASCII
+abbrev pub digit : ℕ → ℕ
+digit n = 48 + n % 10
+
+-- the last two decimal digits
+abbrev pub two_digits : ℕ → List ℕ
+two_digits n = digit (n / 10) ∷ digit n ∷ []
+
+-- the last four decimal digits
+abbrev pub four_digits : ℕ → List ℕ
+four_digits n = digit (n / 1000) ∷ digit (n / 100) ∷ two_digits n
+
+-- `YYYY-MM-DDThh:mm:ssZ`
+abbrev pub civil_text : Civil → List ℕ
+civil_text c =
+    four_digits c.year ++ codes "-" ++ two_digits c.month ++ codes "-" ++ two_digits c.day ++ codes "T"
+    ++ two_digits c.hour ++ codes ":" ++ two_digits c.minute ++ codes ":" ++ two_digits c.second ++ codes "Z"
