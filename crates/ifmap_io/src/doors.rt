@@ -15,7 +15,8 @@ use std::marker::Model;
 
 /// Where links come from.
 pub trait Door {
-    type Wire: Link;
+    /// Its links, which can cross threads, so that a door can serve in one.
+    type Wire: Link + Send;
 
     /// The links that it has left, those that came back, and its room for more of these, where they
     /// are told.
