@@ -15,7 +15,7 @@ pub struct MemorySource {
     bytes: Vec<u8>,
     taken: usize,
     fails: Vec<u64>,
-    calls: u64,
+    reads: u64,
     faults: u64,
 }
 
@@ -25,7 +25,7 @@ impl Model for MemorySource {
 
     ghost Value = { Feed };
 
-    ghost view = { λ s. record { left = drop s.taken s.bytes.items; fails = s.fails.items; calls = s.calls; faults = s.faults } };
+    ghost view = { λ s. record { left = drop s.taken s.bytes.items; fails = s.fails.items; calls = s.reads; faults = s.faults } };
 
     ghost invariant = { λ s. s.taken ≤ vec_len s.bytes };
 }
@@ -39,7 +39,7 @@ impl MemorySource {
             bytes: left,
             taken: 0,
             fails,
-            calls: 0,
+            reads: 0,
             faults: 0,
         }
     }
@@ -57,7 +57,7 @@ impl Source for MemorySource {
         ensures listed { FailsAsListed self.old.fails self.old.calls result }
         ensures rest { self.new ≡ record { left = self.new.left; fails = self.old.fails; calls = one_more self.old.calls; faults = faults_after result self.old.faults } }
     {
-        begin_call(&self.fails, &mut self.calls, &mut self.faults)?;
+        begin_call(&self.fails, &mut self.reads, &mut self.faults)?;
         Ok(give(&self.bytes, &mut self.taken, room))
     }
 }

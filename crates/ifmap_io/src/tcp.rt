@@ -1,5 +1,8 @@
 //! The adapters over the system's TCP sockets. They tell nothing, and count each error.
-ghost use Rattle.std.specs.Prelude.{◌≡◌, None};
+ghost use Rattle.std.specs.Prelude.{◌≡◌, IfOk, IsSome, None};
+ghost use Rattle.ifmap_io.specs.Causes.{HasCause};
+ghost use Rattle.ifmap_io.specs.Doors.{Accepts};
+ghost use Rattle.ifmap_io.specs.Links.{seen};
 
 use crate::doors::Door;
 use crate::ends::{Failed, Sink, Source};
@@ -108,7 +111,11 @@ impl<'a> Door for TcpDoor<'a> {
 
     ghost faults = { λ d. d };
 
-    fn accept(&mut self) -> Result<Option<TcpLink>, Failed> {
+    fn accept(&mut self) -> Result<Option<TcpLink>, Failed>
+        ensures links { Accepts (seen ⟦<TcpLink as Source>⟧.left ⟦<TcpLink as Sink>⟧.held ⟦<TcpLink as Source>⟧.faults ⟦<TcpLink as Sink>⟧.faults) None None result }
+        ensures some { IfOk result IsSome }
+        ensures cause { HasCause self.old self.new result }
+    {
         let (stream, _) = counted(self.listener.accept(), &mut self.faults)?;
         Ok(Some(TcpLink::new(stream)))
     }

@@ -43,24 +43,27 @@ fn a_listed_read_fails_and_takes_nothing(rt: HostRuntime) -> Result<(), Fail> {
     let alloc = rt.alloc();
     let mut source = MemorySource::new(b"abcde".to_vec(alloc)?, [1].to_vec(alloc)?);
     let mut room = [0; 3];
-    assert_eq!(rt; source.read(&mut room), Ok(3));
-    assert_eq!(rt; room, *b"abc");
-    assert_eq!(rt; source.read(&mut room), Err(Failed));
-    assert_eq!(rt; source.read(&mut room), Ok(2));
-    assert!(rt; room[..2] == b"de"[..]);
-    assert_eq!(rt; source.read(&mut room), Ok(0));
+    let mut answers = [Ok(0); 4];
+    for answer in answers.iter_mut() {
+        *answer = source.read(&mut room);
+    }
+    assert_eq!(rt; answers, [Ok(3), Err(Failed), Ok(2), Ok(0)]);
+    assert_eq!(rt; room, *b"dec");
     Ok(())
 }
 
 #[test]
 fn a_listed_write_fails_and_a_flush_counts_too(rt: HostRuntime) -> Result<(), Fail> {
     let alloc = rt.alloc();
-    let mut sink = MemorySink::new(b"a".to_vec(alloc)?, [1, 3].to_vec(alloc)?);
-    assert_eq!(rt; sink.write_all(b"bc"), Ok(()));
-    assert_eq!(rt; sink.flush(), Err(Failed));
-    assert_eq!(rt; sink.flush(), Ok(()));
-    assert_eq!(rt; sink.write_all(b"d"), Err(Failed));
-    assert_eq!(rt; sink.write_all(b"e"), Ok(()));
+    let mut sink = MemorySink::new(b"a".to_vec(alloc)?, [1, 2].to_vec(alloc)?);
+    let answers = [
+        sink.write_all(b"bc"),
+        sink.flush(),
+        sink.write_all(b"d"),
+        sink.flush(),
+        sink.write_all(b"e"),
+    ];
+    assert_eq!(rt; answers, [Ok(()), Err(Failed), Err(Failed), Ok(()), Ok(())]);
     assert!(rt; sink.held() == b"abce".as_slice());
     Ok(())
 }
@@ -74,11 +77,12 @@ fn link_of(rt: &HostRuntime, left: &[u8], fails: &[u64]) -> Result<MemoryLink, F
 fn a_link_counts_its_reads_and_writes_together(rt: HostRuntime) -> Result<(), Fail> {
     let mut link = link_of(&rt, b"abc", &[1, 2])?;
     let mut room = [0; 2];
-    assert_eq!(rt; link.read(&mut room), Ok(2));
-    assert_eq!(rt; link.write_all(b"x"), Err(Failed));
-    assert_eq!(rt; link.read(&mut room), Err(Failed));
-    assert_eq!(rt; link.write_all(b"y"), Ok(()));
-    assert_eq!(rt; link.flush(), Ok(()));
+    let first = link.read(&mut room);
+    let write = link.write_all(b"x");
+    let second = link.read(&mut room);
+    assert_eq!(rt; (first, write, second), (Ok(2), Err(Failed), Err(Failed)));
+    let writes = [link.write_all(b"y"), link.flush()];
+    assert_eq!(rt; writes, [Ok(()), Ok(())]);
     assert_eq!(rt; link.read(&mut room), Ok(1));
     assert!(rt; link.held() == b"y".as_slice());
     Ok(())
