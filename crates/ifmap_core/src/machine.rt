@@ -1,0 +1,124 @@
+//! The machine: a state, and one step for each event.
+ghost use Rattle.std.specs.Prelude.{◌≡◌, ◌≤◌, ◌↔◌, IfOk, OnErr};
+ghost use Rattle.ifmap_core.specs.Causes.{AsksForNoneLeft, NamesAnothersSession, NamesNoSession};
+ghost use Rattle.ifmap_core.specs.State.{opening};
+ghost use Rattle.ifmap_core.specs.Step.{refused, step};
+
+use crate::clients::ClientName;
+use crate::codes::Code;
+use crate::events::{Answer, Ask, Event};
+use crate::messages::{Reply, Request};
+use crate::sessions::Sessions;
+use ifmap_elem::{Copied, Equals, Text};
+use ifmap_steps::Steps;
+use std::alloc::{AllocError, Global};
+use std::marker::Model;
+use std::sync::ledger::Ledger;
+
+/// How many sessions may live at a time.
+pub const MOST_SESSIONS: usize = 10_000;
+
+/// The machine. Contracts see its state.
+#[derive(Drop)]
+pub struct Core {
+    ttl: u32,
+    sessions: Sessions,
+}
+
+impl Model for Core {
+    ghost use Rattle.ifmap_core.specs.State.{State};
+
+    ghost Value = { State };
+
+    ghost view = { λ core. record { ttl = core.ttl; counter = core.sessions.counter; sessions = core.sessions.live } };
+}
+
+impl Core {
+    /// A machine in its opening state. `ttl` is in seconds.
+    pub fn new(alloc: Global, ttl: u32) -> Core
+        requires { 1 ≤ ttl }
+        ensures { result ≡ opening ttl }
+    {
+        Core {
+            ttl,
+            sessions: Sessions::new(alloc),
+        }
+    }
+
+    /// Answers an event. The answer and the state after it are those of `step`; the one error is
+    /// want of memory, which leaves the state as it was. No link is looked at.
+    pub fn step<L: Ledger>(
+        &mut self,
+        alloc: Global,
+        event: &Event,
+        steps: &mut Steps<L>,
+    ) -> Result<Answer, AllocError>
+        ensures answer { IfOk result (λ answer. (self.new, answer) ≡ step self.old event.now) }
+        ensures err { OnErr result (self.new ≡ self.old) }
+        ensures cost { steps.new ≡ steps.old }
+
+        // Each refusal comes exactly where its cause stands.
+        ensures invalid_session { IfOk result (λ answer. (answer ≡ refused Code.InvalidSessionID) ↔ NamesNoSession self.old event.now.ask) }
+        ensures access_denied { IfOk result (λ answer. (answer ≡ refused Code.AccessDenied) ↔ NamesAnothersSession self.old event.now.client event.now.ask) }
+        ensures system_error { IfOk result (λ answer. (answer ≡ refused Code.SystemError) ↔ AsksForNoneLeft self.old event.now.client event.now.ask) }
+    {
+        match &event.ask {
+            Ask::Request(Request::NewSession) => self.new_session(
+                alloc,
+                &event.client,
+                event.random,
+            ),
+            Ask::Request(Request::EndSession { session }) => Ok(self.end_session(
+                session,
+                &event.client,
+            )),
+        }
+    }
+
+    fn new_session(
+        &mut self,
+        alloc: Global,
+        client: &ClientName,
+        random: u128,
+    ) -> Result<Answer, AllocError> {
+        let held = self.sessions.of_client(client);
+        let is_taken = MOST_SESSIONS <= self.sessions.len() && held.is_none();
+        if is_taken || self.sessions.counter() == u64::MAX {
+            return Ok(refusal(Code::SystemError));
+        }
+        let opening = self.sessions.prepare(alloc, client, random)?;
+        let session = opening.id.copy(alloc)?;
+        let publisher = client.text().copy(alloc)?;
+        if let Some(serial) = held {
+            self.sessions.end(serial);
+        }
+        self.sessions.open(opening);
+        Ok(Answer::Reply(Reply::NewSession { session, publisher }))
+    }
+
+    fn end_session(&mut self, id: &Text, client: &ClientName) -> Answer {
+        match self.owned(id, client) {
+            Ok(serial) => {
+                self.sessions.end(serial);
+                Answer::Reply(Reply::Ended)
+            }
+            Err(code) => refusal(code),
+        }
+    }
+
+    // The serial of the live session with that id, where it is the client's.
+    fn owned(&self, id: &Text, client: &ClientName) -> Result<u64, Code> {
+        let Some(session) = self.sessions.with_id(id) else {
+            return Err(Code::InvalidSessionID);
+        };
+        if session.client.equals(client) {
+            Ok(session.serial)
+        } else {
+            Err(Code::AccessDenied)
+        }
+    }
+}
+
+fn refusal(code: Code) -> Answer {
+    Answer::Reply(Reply::Error { code })
+}
