@@ -54,10 +54,15 @@ abbrev pub in_session : State → List ℕ → Option Session → (Session → S
 in_session state client None accept = (state, refused InvalidSessionID)
 in_session state client (Some s) accept = if is_text s.client client then accept s else (state, refused AccessDenied)
 
+-- the client ends a session of its own
+abbrev pub end_session : State → List ℕ → List ℕ → State × Answer
+end_session state client id =
+    in_session state client (session_with_id id state.sessions) (λ s. (ended (s.serial ∷ []) state, the_answer.Reply the_reply.Ended))
+
+-- the row of each request
 abbrev pub step_ask : State → Event → Ask → State × Answer
 step_ask state event (Request NewSession) = new_session state event.client event.random
-step_ask state event (Request (EndSession id)) =
-    in_session state event.client (session_with_id id state.sessions) (λ s. (ended (s.serial ∷ []) state, the_answer.Reply the_reply.Ended))
+step_ask state event (Request (EndSession id)) = end_session state event.client id
 
 -- the state after an event, and its answer
 abbrev pub step : State → Event → State × Answer

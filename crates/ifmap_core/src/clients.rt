@@ -3,6 +3,7 @@ ghost use Rattle.std.specs.Prelude.{◌≡◌, ◌==◌, ◌↔◌, ◌≤◌, I
 ghost use Rattle.std.specs.Cmp.{partial_order_from_own_ties};
 ghost use Rattle.std.specs.Cmp.Lexicographic.{pointwise, slice_cmp};
 ghost use Rattle.std.specs.Cmp.Rules.{comparing};
+ghost use Rattle.std.specs.List.{list_all};
 ghost use Rattle.std.specs.Ordering.{nat_cmp, as_partial_cmp};
 ghost use Rattle.std.proofs.Common.{rules};
 ghost use Rattle.ifmap_core.specs.ClientNames.{IsClientName, is_client_byte};
@@ -104,8 +105,13 @@ impl PartialOrd for ClientName {
 fn is_client_name(text: &str) -> bool
     ensures { IsTrue result ↔ IsClientName text.now }
 {
-    let bytes = text.as_bytes();
-    1 <= bytes.len() && bytes.len() <= 40 && bytes.iter().all(|b| is_client_byte(*b))
+    1 <= text.len() && text.len() <= 40 && are_client_bytes(text.as_bytes())
+}
+
+fn are_client_bytes(bytes: &[u8]) -> bool
+    ensures { result ≡ list_all is_client_byte bytes.now }
+{
+    bytes.iter().all(|b| is_client_byte(*b))
 }
 
 fn is_client_byte(b: u8) -> bool

@@ -1,14 +1,14 @@
 //! The machine: a state, and one step for each event.
-ghost use Rattle.std.specs.Prelude.{◌≡◌, ◌≤◌, ◌↔◌, IfOk, OnErr};
+ghost use Rattle.std.specs.Prelude.{◌≡◌, ◌≤◌, ◌↔◌, IfErr, IfOk, OnErr, Some};
 ghost use Rattle.ifmap_core.specs.Causes.{AsksForNoneLeft, NamesAnothersSession, NamesNoSession};
-ghost use Rattle.ifmap_core.specs.State.{opening};
-ghost use Rattle.ifmap_core.specs.Step.{refused, step};
+ghost use Rattle.ifmap_core.specs.State.{State, opening, session_with_id};
+ghost use Rattle.ifmap_core.specs.Step.{end_session, in_session, new_session, refused, step};
 
 use crate::clients::ClientName;
 use crate::codes::Code;
 use crate::events::{Answer, Ask, Event};
 use crate::messages::{Reply, Request};
-use crate::sessions::Sessions;
+use crate::sessions::{Session, Sessions};
 use ifmap_elem::{Copied, Equals, Text};
 use ifmap_steps::Steps;
 use std::alloc::{AllocError, Global};
@@ -80,7 +80,10 @@ impl Core {
         alloc: Global,
         client: &ClientName,
         random: u128,
-    ) -> Result<Answer, AllocError> {
+    ) -> Result<Answer, AllocError>
+        ensures answer { IfOk result (λ answer. (self.new, answer) ≡ new_session self.old client.now random) }
+        ensures err { OnErr result (self.new ≡ self.old) }
+    {
         let held = self.sessions.of_client(client);
         let is_taken = MOST_SESSIONS <= self.sessions.len() && held.is_none();
         if is_taken || self.sessions.counter() == u64::MAX {
@@ -96,7 +99,9 @@ impl Core {
         Ok(Answer::Reply(Reply::NewSession { session, publisher }))
     }
 
-    fn end_session(&mut self, id: &Text, client: &ClientName) -> Answer {
+    fn end_session(&mut self, id: &Text, client: &ClientName) -> Answer
+        ensures { (self.new, result) ≡ end_session self.old client.now id.now }
+    {
         match self.owned(id, client) {
             Ok(serial) => {
                 self.sessions.end(serial);
@@ -107,7 +112,10 @@ impl Core {
     }
 
     // The serial of the live session with that id, where it is the client's.
-    fn owned(&self, id: &Text, client: &ClientName) -> Result<u64, Code> {
+    fn owned(&self, id: &Text, client: &ClientName) -> Result<u64, Code>
+        ensures own { IfOk result (λ serial. (s : Session) × (s.serial ≡ serial) × (session_with_id id.now self.now.sessions ≡ Some s) × (s.client ≡ client.now)) }
+        ensures refusal { IfErr result (λ code. (accept : Session → State × Answer) → in_session self.now client.now (session_with_id id.now self.now.sessions) accept ≡ (self.now, refused code)) }
+    {
         let Some(session) = self.sessions.with_id(id) else {
             return Err(Code::InvalidSessionID);
         };
@@ -119,6 +127,8 @@ impl Core {
     }
 }
 
-fn refusal(code: Code) -> Answer {
+fn refusal(code: Code) -> Answer
+    ensures { result ≡ refused code }
+{
     Answer::Reply(Reply::Error { code })
 }

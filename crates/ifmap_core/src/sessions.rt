@@ -1,8 +1,11 @@
 //! The live sessions, found by id and by client.
-ghost use Rattle.std.specs.Prelude.{◌≡◌, ℕ, ◌+◌, ◌-◌, ◌^◌, ◌<◌, ◌≤◌, [], ◌∷◌, ◌++◌, length, IfOk, IsSome, None, OnErr, OnOk, option_map};
+ghost use Rattle.std.specs.Prelude.{◌≡◌, ℕ, ◌+◌, ◌-◌, ◌^◌, ◌<◌, ◌≤◌, ◌==◌, [], ◌∷◌, ◌++◌, length, IfErr, IfOk, IsSome, List, None, OnErr, OnOk, Some, option_map};
+ghost use Rattle.std.specs.Fmt.{decimal};
+ghost use Rattle.std.specs.List.Sorted.{IsStrictlySortedBy};
 ghost use Rattle.std.specs.Option.{option_copied};
 ghost use Rattle.ifmap_core.specs.SessionIds.{session_id};
-ghost use Rattle.ifmap_core.specs.State.{session_of_client, session_with_id, session_with_serial, without_sessions};
+ghost use Rattle.ifmap_core.specs.Table.{IsPlaceFor, IsPlaceOf, client_order, serial_order};
+ghost use Rattle.ifmap_core.specs.State.{is_text, session_of_client, session_with_id, session_with_serial, without_sessions};
 
 use crate::clients::ClientName;
 use ifmap_elem::{Copied, Equals, Text};
@@ -43,15 +46,18 @@ pub struct Opening {
     pub id: Text,
     client: ClientName,
     holder: ClientName,
+    ghost one_client: { holder ≡ client },
 }
 
 impl Model for Sessions {
     ghost use Rattle.std.specs.Prelude.{◌-◌, min, vec_capacity, vec_len};
-    ghost use Rattle.ifmap_core.specs.Table.{Table};
+    ghost use Rattle.ifmap_core.specs.Table.{IsKept, Table};
 
     ghost Value = { Table };
 
     ghost view = { λ s. record { counter = s.counter; live = s.live.items; room = min (vec_capacity s.live - vec_len s.live) (vec_capacity s.holders - vec_len s.holders) } };
+
+    ghost invariant = { λ s. IsKept s.counter s.live.items s.holders.items };
 }
 
 impl Sessions {
@@ -85,9 +91,9 @@ impl Sessions {
     pub fn with_id(&self, id: &Text) -> Option<&Session>
         ensures { option_copied result ≡ session_with_id id.now self.now.live }
     {
+        let live = &self.live;
         let serial = serial_of(id.0.as_str())?;
-        let place = self.live.binary_search_by_key(&serial, |s| s.serial).ok()?;
-        let session = &self.live[place];
+        let session = with_serial(live, serial)?;
         if session.id.equals(id) {
             Some(session)
         } else {
@@ -99,13 +105,8 @@ impl Sessions {
     pub fn of_client(&self, client: &ClientName) -> Option<u64>
         ensures { result ≡ option_map (λ s. s.serial) (session_of_client client.now self.now.live) }
     {
-        let place = self.place_of(client).ok()?;
+        let place = place_of_client(&self.holders, client).ok()?;
         Some(self.holders[place].serial)
-    }
-
-    // Where the client stands among the holders, or is to stand.
-    fn place_of(&self, client: &ClientName) -> Result<usize, usize> {
-        self.holders.binary_search_by(|h| h.client.cmp(client))
     }
 
     /// Takes all the memory that the client's next session needs, and changes nothing but the room.
@@ -143,17 +144,16 @@ impl Sessions {
     {
         let Opening { id, client, holder } = opening;
         let serial = self.counter + 1;
-        if let Err(place) = self.place_of(&client) {
-            self.holders
-                .insert(
-                    place,
-                    Holder {
-                        client: holder,
-                        serial,
-                    },
-                )
-                .unwrap();
-        }
+        let place = place_of_client(&self.holders, &client).unwrap_err();
+        self.holders
+            .insert(
+                place,
+                Holder {
+                    client: holder,
+                    serial,
+                },
+            )
+            .unwrap();
         self.live.push_reserved(Session { serial, id, client });
         self.counter = serial;
     }
@@ -163,19 +163,46 @@ impl Sessions {
         requires { IsSome (session_with_serial serial self.old.live) }
         ensures counter { self.new.counter ≡ self.old.counter }
         ensures live { self.new.live ≡ without_sessions (serial ∷ []) self.old.live }
+        ensures gone { (client : List ℕ) → option_map (λ s. s.serial) (session_of_client client self.old.live) ≡ Some serial → session_of_client client self.new.live ≡ None }
         ensures room { self.new.room ≡ self.old.room + 1 }
     {
-        if let Ok(place) = self.live.binary_search_by_key(&serial, |s| s.serial) {
-            let ended = self.live.remove(place);
-            if let Ok(place) = self.place_of(&ended.client) {
-                let _holder = self.holders.remove(place);
-            }
-        }
+        let place = place_of_serial(&self.live, serial).unwrap();
+        let ended = self.live.remove(place);
+        let place = place_of_client(&self.holders, &ended.client).unwrap();
+        let _holder = self.holders.remove(place);
     }
 }
 
-// The number before the first hyphen.
-fn serial_of(id: &str) -> Option<u64> {
+// Where the session with that serial stands.
+fn place_of_serial(live: &[Session], serial: u64) -> Result<usize, usize>
+    requires { IsStrictlySortedBy serial_order live.now }
+    ensures { IsPlaceOf (λ s. s.serial == serial) live.now result }
+{
+    live.binary_search_by_key(&serial, |s| s.serial)
+}
+
+// The session with that serial.
+fn with_serial(live: &[Session], serial: u64) -> Option<&Session>
+    requires { IsStrictlySortedBy serial_order live.now }
+    ensures { option_copied result ≡ session_with_serial serial live.now }
+{
+    let place = place_of_serial(live, serial).ok()?;
+    Some(&live[place])
+}
+
+// Where the client's entry stands, or is to stand.
+fn place_of_client(holders: &[Holder], client: &ClientName) -> Result<usize, usize>
+    requires { IsStrictlySortedBy client_order holders.now }
+    ensures place { IsPlaceOf (λ h. is_text h.client client.now) holders.now result }
+    ensures gap { IfErr result (IsPlaceFor client.now holders.now) }
+{
+    holders.binary_search_by(|h| h.client.cmp(client))
+}
+
+// The number before the first hyphen, if the text begins with one.
+fn serial_of(id: &str) -> Option<u64>
+    ensures { (serial : ℕ) (rest : List ℕ) → serial < 2 ^ 64 → id.now ≡ decimal serial ++ 45 ∷ rest → result ≡ Some serial }
+{
     let (digits, _) = id.split_once('-')?;
     digits.parse::<u64>().ok()
 }
