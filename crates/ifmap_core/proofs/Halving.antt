@@ -1,5 +1,5 @@
 -- Searches by halving, in lists that rise strictly by a key.
-use Rattle.std.proofs.Common.{◌≡◌, refl, sym, ◌∙◌, ap, subst, ℕ, suc, zero, ◌+◌, ◌<◌, ◌≤◌, Bool, true, false, not, cond, List, [], ◌∷◌, ◌++◌, length, get_or, take, drop, Option, None, Some, Result, Ok, Err, Ordering, ◌⊎◌, inl, inr, arith, add-one}
+use Rattle.std.proofs.Common.{◌≡◌, refl, sym, ◌∙◌, ap, subst, ℕ, suc, zero, ◌<◌, ◌≤◌, Bool, true, false, not, cond, List, [], ◌∷◌, ◌++◌, length, get_or, None, Some, Result, Ok, Err, Ordering, inl, inr, arith, add-one}
 use Rattle.std.proofs.lemmas.Bool.{cases_Bool, cases_lt}
 use Rattle.std.proofs.lemmas.Cmp.{alike_right}
 use Rattle.std.proofs.lemmas.List.Elements.{All-from_recursion, recursion_from_All}
@@ -38,7 +38,7 @@ pub all_found : {X : Type 0} (P : X → Type 0) (p : X → Bool) (xs : List X) (
 all_found P p [] x h e = cc
 all_found P p (y ∷ ys) x h e =
     elim (cases_Bool (p y)) [
-        inl hit ↦ let same : y ≡ x = cc (rw hit at e) in subst P same h.0
+      | inl hit ↦ let same : y ≡ x = cc (rw hit at e) in subst P same h.0
       | inr miss ↦ all_found P p ys x h.1 (rw miss at e)
     ]
 
@@ -46,7 +46,7 @@ pub found_passes : {X : Type 0} (p : X → Bool) (xs : List X) (x : X) → find 
 found_passes p [] x e = cc
 found_passes p (y ∷ ys) x e =
     elim (cases_Bool (p y)) [
-        inl hit ↦ let same : y ≡ x = cc (rw hit at e) in subst (λ z. p z ≡ true) same hit
+      | inl hit ↦ let same : y ≡ x = cc (rw hit at e) in subst (λ z. p z ≡ true) same hit
       | inr miss ↦ found_passes p ys x (rw miss at e)
     ]
 
@@ -58,7 +58,7 @@ pub none_passes : {X : Type 0} (p : X → Bool) (xs : List X) → find p xs ≡ 
 none_passes p [] e = tt
 none_passes p (x ∷ xs) e =
     elim (cases_Bool (p x)) [
-        inl hit ↦ let bad : Some x ≡ None = rw hit at e in cc
+      | inl hit ↦ let bad : Some x ≡ None = rw hit at e in cc
       | inr miss ↦ (miss, none_passes p xs (rw miss at e))
     ]
 
@@ -76,7 +76,7 @@ find_insert q [] (suc i) y h = refl
 find_insert q (x ∷ xs) zero y h = refl
 find_insert q (x ∷ xs) (suc i) y h =
     elim (cases_Bool (q x)) [
-        inl hit ↦ elim (cases_Bool (q y)) [ inl is ↦ let bad : Some x ≡ None = rw hit at (h is) in cc | inr miss ↦ rw (hit, miss) refl ]
+      | inl hit ↦ elim (cases_Bool (q y)) [ inl is ↦ let bad : Some x ≡ None = rw hit at (h is) in cc | inr miss ↦ rw (hit, miss) refl ]
       | inr miss ↦ rw miss (find_insert q xs i y (λ is. rw miss at (h is)))
     ]
 
@@ -124,9 +124,9 @@ module _ (X K : Type 0) (key : X → K) (C : K → K → Ordering) (o : IsTotalO
   pub no_one : (xs : List X) (i : ℕ) (k : K) → IsPartitionPoint (λ y. C (key y) k ≡ Less) (λ y. C (key y) k ≡ Greater) xs i → find (λ y. E (key y) k) xs ≡ None
   no_one xs i k p =
       let each : All (λ y. E (key y) k ≡ false) xs = λ j d h. elim (cases_lt j i) [
-              inl below ↦ differs (key (get_or xs j d)) k (p.0 j d (omega arith) below)
-            | inr above ↦ differs_back (key (get_or xs j d)) k (p.1 j d above h)
-          ] in
+        | inl below ↦ differs (key (get_or xs j d)) k (p.0 j d (omega arith) below)
+        | inr above ↦ differs_back (key (get_or xs j d)) k (p.1 j d above h)
+      ] in
       find_none (λ y. E (key y) k) xs (recursion_from_All (λ y. E (key y) k ≡ false) xs each)
 
   rises_next : (xs : List X) → IsStrictlySortedBy (on key C) xs → (j : ℕ) (d : X) → suc j < length xs → is_lt (C (key (get_or xs (suc j) d)) (key (get_or xs j d))) ≡ false
@@ -150,9 +150,10 @@ module _ (X K : Type 0) (key : X → K) (C : K → K → Ordering) (o : IsTotalO
   inserted [] (suc i) y up le p = (tt, tt)
   inserted (x ∷ xs) zero y up le p =
       (recursion_from_All (λ z. on key C y z ≡ Less) (x ∷ xs) (λ j d h. flipped_back (key (get_or (x ∷ xs) j d)) (key y) (p.1 j d (omega arith) h)), up)
-  inserted (x ∷ xs) (suc i) y up le p =
-      (all_insert (λ z. on key C x z ≡ Less) xs i y up.0 (p.0 0 x (omega arith) (omega arith)),
-       inserted xs i y up.1 (omega arith) ((λ j d low h. p.0 (suc j) d (omega arith) (omega arith)), (λ j d low h. p.1 (suc j) d (omega arith) (omega arith))))
+  inserted (x ∷ xs) (suc i) y up le p = (
+    all_insert (λ z. on key C x z ≡ Less) xs i y up.0 (p.0 0 x (omega arith) (omega arith)),
+    inserted xs i y up.1 (omega arith) ((λ j d low h. p.0 (suc j) d (omega arith) (omega arith)), (λ j d low h. p.1 (suc j) d (omega arith) (omega arith))),
+  )
 
   pub place_for : (xs : List X) (i : ℕ) (y : X) → IsStrictlySortedBy (on key C) xs → i ≤ length xs → IsBinarySearchResult (λ z. C (key z) (key y)) xs (Err i) → IsStrictlySortedBy (on key C) (insert xs i y)
   place_for xs i y up within is = inserted xs i y up within (is (searchable_from_sorted o key xs (key y) (rises xs up)))

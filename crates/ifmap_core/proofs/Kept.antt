@@ -1,9 +1,8 @@
 -- The kept lists, as sessions begin and end.
-use Rattle.std.proofs.Common.{◌≡◌, refl, sym, ◌∙◌, ap, subst, ℕ, suc, ◌+◌, ◌-◌, ◌<◌, ◌≤◌, ◌^◌, ◌==◌, Bool, true, false, not, cond, List, [], ◌∷◌, ◌++◌, length, map, get_or, Option, None, Some, Result, Ok, Err, ◌⊎◌, inl, inr, arith}
+use Rattle.std.proofs.Common.{◌≡◌, refl, sym, ◌∙◌, ap, subst, ℕ, ◌+◌, ◌-◌, ◌<◌, ◌≤◌, ◌^◌, ◌==◌, Bool, true, false, not, cond, List, [], ◌∷◌, ◌++◌, length, map, get_or, Option, None, Some, Result, Ok, Err, inl, inr, arith}
 use Rattle.std.proofs.lemmas.Bool.{both_ways, cases_Bool, eqb-true, eqb-false, eq-eqb, false_from_ne_true, not-true}
 use Rattle.std.proofs.lemmas.Bool.Decides.{nat_tests}
 use Rattle.std.proofs.lemmas.Cmp.{nat_cmp_total, nat_list_cmp_total, nat_list_eq_equiv}
-use Rattle.std.proofs.lemmas.List.{map_push}
 use Rattle.std.proofs.lemmas.List.Folds.{find-append}
 use Rattle.std.proofs.lemmas.List.Kept.{IsStrictlySortedBy-filter}
 use Rattle.std.proofs.lemmas.Map.Text.{is_eq-slice_cmp}
@@ -13,13 +12,13 @@ use Rattle.std.specs.List.{AllByRecursion, IsDistinct, filter, find, insert, lis
 use Rattle.std.specs.List.Sorted.{IsStrictlySortedBy, IsBinarySearchResult, IsSearchInRange}
 use Rattle.std.specs.Option.{IsSome, option_map, option_or}
 use Rattle.std.specs.Result.{IfErr, IsErr, IsOk}
-use Rattle.std.specs.Ordering.{is_eq, nat_cmp, on}
-use Rattle.std.specs.declared.cmp.Ordering.TheVariants.{Less, Equal, Greater}
+use Rattle.std.specs.Ordering.{is_eq, nat_cmp}
+use Rattle.std.specs.declared.cmp.Ordering.TheVariants.{Less}
 use Rattle.ifmap_core.specs.declared.sessions.Holder.{Holder}
 use Rattle.ifmap_core.specs.declared.sessions.Session.{Session}
 use Rattle.ifmap_core.specs.State.{is_text, session_of_client, session_with_id, session_with_serial, without_sessions}
 use Rattle.ifmap_core.specs.Table.{BeginsWithSerial, IsKept, IsPlaceFor, IsPlaceOf, client_order, holder_of, serial_order}
-use Rattle.ifmap_core.proofs.Halving.{all_filter, all_found, all_push, all_weaker, filter_all, filter_same, find_insert, find_none, found_passes, none_passes, place_for, placed}
+use Rattle.ifmap_core.proofs.Halving.{all_filter, all_found, all_push, all_weaker, filter_all, filter_same, find_insert, find_none, none_passes, place_for, placed}
 
 -- texts and numbers
 pub text_is : (a b : List ℕ) → is_text a b ≡ true → a ≡ b
@@ -60,7 +59,7 @@ all_map_filter : {X : Type 0} (key : X → List ℕ) (p : X → Bool) (P : List 
 all_map_filter key p P [] h = tt
 all_map_filter key p P (x ∷ xs) h =
     elim (p x) as (λ b. AllByRecursion P (map key (cond b (x ∷ filter p xs) (filter p xs)))) [
-        true ↦ (h.0, all_map_filter key p P xs h.1)
+      | true ↦ (h.0, all_map_filter key p P xs h.1)
       | false ↦ all_map_filter key p P xs h.1
     ]
 
@@ -69,7 +68,7 @@ unfolding IsDistinct
 distinct_filter key p [] h = tt
 distinct_filter key p (x ∷ xs) h =
     elim (p x) as (λ b. IsDistinct is_text (map key (cond b (x ∷ filter p xs) (filter p xs)))) [
-        true ↦ (all_map_filter key p (λ k. is_text (key x) k ≡ false) xs h.0, distinct_filter key p xs h.1)
+      | true ↦ (all_map_filter key p (λ k. is_text (key x) k ≡ false) xs h.0, distinct_filter key p xs h.1)
       | false ↦ distinct_filter key p xs h.1
     ]
 
@@ -88,7 +87,7 @@ pub all_map_found : {X : Type 0} (key : X → List ℕ) (P : List ℕ → Type 0
 all_map_found key P p [] x h e = cc
 all_map_found key P p (y ∷ ys) x h e =
     elim (cases_Bool (p y)) [
-        inl hit ↦ let same : y ≡ x = cc (rw hit at e) in subst (λ z. P (key z)) same h.0
+      | inl hit ↦ let same : y ≡ x = cc (rw hit at e) in subst (λ z. P (key z)) same h.0
       | inr miss ↦ all_map_found key P p ys x h.1 (rw miss at e)
     ]
 
@@ -127,7 +126,7 @@ later_stays serial x t hit less = grind (arith, nat_tests)
 at_first : (x : Session) (xs : List Session) (c : List ℕ) → AllByRecursion (λ k. is_text x.client k ≡ false) (map (λ (t : Session). t.client) xs) → session_of_client c xs ≡ cond (is_text x.client c) None (session_of_client c (x ∷ xs))
 at_first x xs c differ =
     elim (cases_Bool (is_text x.client c)) [
-        inl hit ↦ rw hit (find_none (λ (t : Session). is_text t.client c) xs (rest_differ (λ (t : Session). t.client) x c xs differ hit))
+      | inl hit ↦ rw hit (find_none (λ (t : Session). is_text t.client c) xs (rest_differ (λ (t : Session). t.client) x c xs differ hit))
       | inr miss ↦ rw miss refl
     ]
 
@@ -136,7 +135,7 @@ unfolding IsStrictlySortedBy IsDistinct
 client_after [] serial s c up apart e = cc
 client_after (x ∷ xs) serial s c up apart e =
     elim (cases_Bool (x.serial == serial)) [
-        inl hit ↦
+      | inl hit ↦
           let same : x ≡ s = cc (rw hit at e) in
           let kept : filter (λ (t : Session). not (t.serial == serial)) xs ≡ xs = filter_all (λ (t : Session). not (t.serial == serial)) xs (all_weaker (λ z. serial_order x z ≡ Less) (λ t. not (t.serial == serial) ≡ true) (λ t l. later_stays serial x t (eqb-true x.serial serial hit) l) xs up.0) in
           rw (hit, kept) (subst (λ t. session_of_client c xs ≡ cond (is_text t.client c) None (session_of_client c (x ∷ xs))) same (at_first x xs c apart.0))
@@ -159,7 +158,7 @@ pub holder_after : (holders : List Holder) (k c : List ℕ) → holder_of c (fil
 holder_after [] k c = no_choice (is_text k c)
 holder_after (x ∷ xs) k c =
     elim (cases_Bool (is_text x.client k)) [
-        inl hit ↦ rw (hit, holder_after xs k c) (subst (λ t. cond (is_text k c) None (holder_of c xs) ≡ cond (is_text k c) None (cond (is_text t c) (Some x) (holder_of c xs))) (sym (text_is x.client k hit)) (once (is_text k c) (Some x) (holder_of c xs)))
+      | inl hit ↦ rw (hit, holder_after xs k c) (subst (λ t. cond (is_text k c) None (holder_of c xs) ≡ cond (is_text k c) None (cond (is_text t c) (Some x) (holder_of c xs))) (sym (text_is x.client k hit)) (once (is_text k c) (Some x) (holder_of c xs)))
       | inr miss ↦ rw (miss, holder_after xs k c) (swap_choices (is_text x.client c) (is_text k c) (Some x) None (holder_of c xs) (not_both x.client k c miss))
     ]
 
@@ -173,11 +172,11 @@ ended counter serial live holders s k e = record {
   apart = distinct_filter (λ (t : Session). t.client) (λ (t : Session). not (t.serial == serial)) live k.apart;
   ordered = IsStrictlySortedBy-filter client_order (λ (h : Holder). not (is_text h.client s.client)) holders k.ordered;
   indexed = λ c.
-    ap (option_map (λ (h : Holder). h.serial)) (holder_after holders s.client c)
-    ∙ map_choice (λ (h : Holder). h.serial) (is_text s.client c) (holder_of c holders)
-    ∙ ap (λ o. cond (is_text s.client c) None o) (k.indexed c)
-    ∙ sym (map_choice (λ (t : Session). t.serial) (is_text s.client c) (session_of_client c live))
-    ∙ sym (ap (option_map (λ (t : Session). t.serial)) (client_after live serial s c k.rising k.apart e))
+      ap (option_map (λ (h : Holder). h.serial)) (holder_after holders s.client c)
+      ∙ map_choice (λ (h : Holder). h.serial) (is_text s.client c) (holder_of c holders)
+      ∙ ap (λ o. cond (is_text s.client c) None o) (k.indexed c)
+      ∙ sym (map_choice (λ (t : Session). t.serial) (is_text s.client c) (session_of_client c live))
+      ∙ sym (ap (option_map (λ (t : Session). t.serial)) (client_after live serial s c k.rising k.apart e));
 }
 
 -- what a filter leaves passes
@@ -198,7 +197,7 @@ pub client_gone : (live : List Session) (serial : ℕ) (s : Session) (c : List �
 client_gone live serial s c up apart e held =
     let after = client_after live serial s c up apart e in
     elim (cases_Bool (is_text s.client c)) [
-        inl hit ↦ rw hit at after
+      | inl hit ↦ rw hit at after
       | inr miss ↦ absurd (still_there serial c (session_of_client c live) (filter (λ (t : Session). not (t.serial == serial)) live) (filter_passes (λ (t : Session). not (t.serial == serial)) live) (rw miss at after) held)
     ]
 
@@ -210,7 +209,7 @@ begun_indexed serial live holders i id client c none indexed =
     let entry : holder_of c (insert holders i (record { client = client; serial = serial })) ≡ cond (is_text client c) (Some (record { client = client; serial = serial })) (holder_of c holders) = find_insert (λ (h : Holder). is_text h.client c) holders i (record { client = client; serial = serial }) no_holder in
     let session = find-append (λ (s : Session). is_text s.client c) live (record { serial = serial; id = id; client = client } ∷ []) in
     elim (cases_Bool (is_text client c)) [
-        inl hit ↦ rw (entry, session, hit, no_session hit) refl
+      | inl hit ↦ rw (entry, session, hit, no_session hit) refl
       | inr miss ↦ rw (entry, session, miss, or_none (session_of_client c live)) (indexed c)
     ]
 
@@ -228,7 +227,7 @@ begun counter live holders i id client k small none begins place = record {
   ids = all_push (λ (s : Session). BeginsWithSerial s.serial s.id) live (record { serial = counter + 1; id = id; client = client }) k.ids begins;
   apart = distinct_push (λ (s : Session). s.client) live (record { serial = counter + 1; id = id; client = client }) k.apart none;
   ordered = place (counter + 1);
-  indexed = λ c. begun_indexed (counter + 1) live holders i id client c none k.indexed
+  indexed = λ c. begun_indexed (counter + 1) live holders i id client c none k.indexed;
 }
 
 -- the session that an id names
@@ -245,7 +244,7 @@ unfolding IsStrictlySortedBy
 id_at [] n id s up leads e = cc
 id_at (x ∷ xs) n id s up leads e =
     elim (cases_Bool (x.serial == n)) [
-        inl hit ↦
+      | inl hit ↦
           let same : x ≡ s = cc (rw hit at e) in
           let none : session_with_id id xs ≡ None = with_serial_none xs n id leads.1 (all_weaker (λ z. serial_order x z ≡ Less) (λ (t : Session). (t.serial == n) ≡ false) (λ t l. not-true (t.serial == n) (later_stays n x t (eqb-true x.serial n hit) l)) xs up.0) in
           rw none (subst (λ t. cond (is_text x.id id) (Some x) None ≡ cond (is_text t.id id) (Some t) None) same refl)
@@ -287,10 +286,10 @@ pub found_again : {X : Type 0} (p q : X → Bool) (xs : List X) (x : X) → find
 found_again p q [] x e h = cc
 found_again p q (y ∷ ys) x e h =
     elim (cases_Bool (q y)) [
-        inl hit ↦ rw hit refl
+      | inl hit ↦ rw hit refl
       | inr miss ↦
           elim (cases_Bool (p y)) [
-              inl here ↦ let same : y ≡ x = cc (rw here at e) in absurd (both_ways (q x) (subst (λ z. q z ≡ false) same miss) h)
+            | inl here ↦ let same : y ≡ x = cc (rw here at e) in absurd (both_ways (q x) (subst (λ z. q z ≡ false) same miss) h)
             | inr past ↦ rw miss (found_again p q ys x (rw past at e) h)
           ]
     ]
@@ -304,7 +303,7 @@ some_alike f g None None e h = h
 pub holder_is_there : (counter serial : ℕ) (live : List Session) (holders : List Holder) (s : Session) → IsKept counter live holders → session_with_serial serial live ≡ Some s → IsSome (holder_of s.client holders)
 holder_is_there counter serial live holders s k e =
     some_alike (λ (h : Holder). h.serial) (λ (t : Session). t.serial) (holder_of s.client holders) (session_of_client s.client live) (k.indexed s.client)
-      (found_again (λ (t : Session). t.serial == serial) (λ (t : Session). is_text t.client s.client) live s e (text_itself s.client))
+    (found_again (λ (t : Session). t.serial == serial) (λ (t : Session). is_text t.client s.client) live s e (text_itself s.client))
 
 -- what the search that ends at a session says of it
 pub session_there : (live : List Session) (serial i : ℕ) (r : Result ℕ ℕ) (s : Session) → IsPlaceOf (λ (t : Session). t.serial == serial) live r → r ≡ Ok i → s ≡ get_or live i s → session_with_serial serial live ≡ Some s
@@ -317,7 +316,7 @@ place_rest test xs ys i r place is rest = let found = subst (IsPlaceOf test xs) 
 pub ended_lists : (counter serial i j : ℕ) (live live2 : List Session) (holders holders2 : List Holder) (s : Session) (r q : Result ℕ ℕ) → IsKept counter live holders → IsPlaceOf (λ (t : Session). t.serial == serial) live r → r ≡ Ok i → s ≡ get_or live i s → live2 ≡ remove live i → IsPlaceOf (λ (h : Holder). is_text h.client s.client) holders q → q ≡ Ok j → holders2 ≡ remove holders j → IsKept counter live2 holders2
 ended_lists counter serial i j live live2 holders holders2 s r q k place is at rest place2 is2 rest2 =
     rw (place_rest (λ (t : Session). t.serial == serial) live live2 i r place is rest, place_rest (λ (h : Holder). is_text h.client s.client) holders holders2 j q place2 is2 rest2)
-      (ended counter serial live holders s k (session_there live serial i r s place is at))
+    (ended counter serial live holders s k (session_there live serial i r s place is at))
 
 pub live_after : (live live2 : List Session) (serial i : ℕ) (r : Result ℕ ℕ) → IsPlaceOf (λ (t : Session). t.serial == serial) live r → r ≡ Ok i → live2 ≡ remove live i → live2 ≡ without_sessions (serial ∷ []) live
 live_after live live2 serial i r place is rest = place_rest (λ (t : Session). t.serial == serial) live live2 i r place is rest ∙ without_one serial live
@@ -338,3 +337,17 @@ begun_lists counter i live live2 holders holders2 id client r k small none begin
 pub kept_none : IsKept 0 [] []
 unfolding IsStrictlySortedBy IsDistinct
 kept_none = record { small = omega arith; rising = tt; counted = tt; ids = tt; apart = tt; ordered = tt; indexed = λ c. refl }
+
+-- the session that a client holds is live
+held_at : (live : List Session) (c : List ℕ) (n : ℕ) (o : Option Session) → session_of_client c live ≡ o → option_map (λ (s : Session). s.serial) o ≡ Some n → IsSome (session_with_serial n live)
+held_at live c n None e held = cc
+held_at live c n (Some s) e held =
+    let same : s.serial ≡ n = cc in
+    found_again (λ (s : Session). is_text s.client c) (λ (s : Session). s.serial == n) live s e (eq-eqb s.serial n same)
+
+pub held_is_live : (live : List Session) (c : List ℕ) (n : ℕ) → option_map (λ (s : Session). s.serial) (session_of_client c live) ≡ Some n → IsSome (session_with_serial n live)
+held_is_live live c n held = held_at live c n (session_of_client c live) refl held
+
+-- and so is one that an id names
+pub named_is_live : (live : List Session) (id : List ℕ) (n : ℕ) (s : Session) → session_with_id id live ≡ Some s → s.serial ≡ n → IsSome (session_with_serial n live)
+named_is_live live id n s e same = found_again (λ (t : Session). is_text t.id id) (λ (t : Session). t.serial == n) live s e (eq-eqb s.serial n same)

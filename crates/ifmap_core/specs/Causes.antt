@@ -1,8 +1,7 @@
 -- When each refusal comes.
-use Rattle.std.specs.Prelude.{◌≡◌, ◌≢◌, ℕ, ◌-◌, ◌^◌, ◌≤◌, ◌⊎◌, List, length, Option, None, Some}
+use Rattle.std.specs.Prelude.{◌≡◌, ◌≢◌, ℕ, ◌-◌, ◌^◌, ◌≤◌, ◌⊎◌, List, length, None, Some}
 use Rattle.ifmap_core.specs.declared.events.Ask.{Ask}
 use Rattle.ifmap_core.specs.declared.events.Ask.TheVariants.{Request}
-use Rattle.ifmap_core.specs.declared.events.Event.{Event}
 use Rattle.ifmap_core.specs.declared.messages.Request.TheVariants.{NewSession, EndSession}
 use Rattle.ifmap_core.specs.declared.sessions.Session.{Session}
 use Rattle.ifmap_core.specs.State.{State, session_of_client, session_with_id}

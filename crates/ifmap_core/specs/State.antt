@@ -1,5 +1,5 @@
 -- What the machine knows between two events.
-use Rattle.std.specs.Prelude.{ℕ, ◌==◌, ◌||◌, Bool, true, false, List, [], ◌∷◌, filter, find, Option, not}
+use Rattle.std.specs.Prelude.{ℕ, ◌==◌, Bool, List, [], filter, find, Option, not}
 use Rattle.std.specs.Cmp.Lexicographic.{pointwise}
 use Rattle.std.specs.List.{list_any}
 use Rattle.ifmap_core.specs.declared.sessions.Session.{Session}

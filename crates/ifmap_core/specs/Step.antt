@@ -1,5 +1,5 @@
 -- What the machine answers to an event, and the state after it.
-use Rattle.std.specs.Prelude.{◌≡◌, ℕ, ◌+◌, ◌-◌, ◌^◌, ◌==◌, ◌&&◌, ◌||◌, nat_le, Bool, List, [], ◌∷◌, ◌++◌, length, Option, None, Some, is_none, if◌then◌else◌}
+use Rattle.std.specs.Prelude.{ℕ, ◌+◌, ◌-◌, ◌^◌, ◌==◌, ◌&&◌, ◌||◌, nat_le, Bool, List, [], ◌∷◌, ◌++◌, length, Option, None, Some, is_none, if◌then◌else◌}
 use Rattle.ifmap_core.specs.declared.codes.Code.{Code}
 use Rattle.ifmap_core.specs.declared.codes.Code.TheVariants.{AccessDenied, InvalidSessionID, SystemError}
 use Rattle.ifmap_core.specs.declared.events.Answer.{Answer}
@@ -7,7 +7,6 @@ use Rattle.ifmap_core.specs.declared.events.Answer.TheVariants as the_answer
 use Rattle.ifmap_core.specs.declared.events.Ask.{Ask}
 use Rattle.ifmap_core.specs.declared.events.Ask.TheVariants.{Request}
 use Rattle.ifmap_core.specs.declared.events.Event.{Event}
-use Rattle.ifmap_core.specs.declared.messages.Reply.{Reply}
 use Rattle.ifmap_core.specs.declared.messages.Reply.TheVariants as the_reply
 use Rattle.ifmap_core.specs.declared.messages.Request.TheVariants.{NewSession, EndSession}
 use Rattle.ifmap_core.specs.declared.sessions.Session.{Session}

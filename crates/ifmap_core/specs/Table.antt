@@ -51,8 +51,8 @@ pub record IsKept (counter : ℕ) (live : List Session) (holders : List Holder) 
 abbrev pub IsPlaceOf : {X : Type 0} → (X → Bool) → List X → Result ℕ ℕ → Type 0
 IsPlaceOf {X} test xs result =
     MatchResult result
-        (λ i. (i < length xs) × ((d : X) → find test xs ≡ Some (slice_index_or xs i d)) × (remove xs i ≡ filter (λ x. not (test x)) xs))
-        (λ i. (i ≤ length xs) × (find test xs ≡ None))
+    (λ i. (i < length xs) × ((d : X) → find test xs ≡ Some (slice_index_or xs i d)) × (remove xs i ≡ filter (λ x. not (test x)) xs))
+    (λ i. (i ≤ length xs) × (find test xs ≡ None))
 
 -- a client that has no entry may have one at that place
 abbrev pub IsPlaceFor : List ℕ → List Holder → ℕ → Type 0

@@ -18,5 +18,5 @@ returns c =
     let found = c.binary_search_by.ensures.position (λ h. slice_cmp nat_cmp h.client c.args.client.now) (always_returns_same _ (λ a r. r ≡ slice_cmp nat_cmp a.0.now.client c.args.client.now) _ (λ a r q k. search rules)) in
     record {
       place = holder_placed _ _ _ c.requires c.binary_search_by.ensures.bound found;
-      gap = gap_at _ _ _ c.requires c.binary_search_by.ensures.bound found
+      gap = gap_at _ _ _ c.requires c.binary_search_by.ensures.bound found;
     }

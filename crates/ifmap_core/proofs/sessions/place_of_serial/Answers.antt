@@ -6,4 +6,4 @@ use Rattle.ifmap_core.proofs.sessions.place_of_serial.Goals as goal
 pub returns : goal.returns
 returns c =
     session_placed _ _ _ c.requires c.binary_search_by_key.ensures.bound
-      (c.binary_search_by_key.ensures.position (λ s. s.serial) (answers_always _ (λ a r. r ≡ a.0.now.serial) _ (λ f a r q k. search rules)))
+    (c.binary_search_by_key.ensures.position (λ s. s.serial) (answers_always _ (λ a r. r ≡ a.0.now.serial) _ (λ f a r q k. search rules)))

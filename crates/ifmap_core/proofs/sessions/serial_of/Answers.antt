@@ -1,4 +1,4 @@
-use Rattle.std.proofs.Common.{◌≡◌, ◌≢◌, refl, ◌∙◌, ℕ, ◌+◌, ◌^◌, ◌<◌, ◌≤◌, List, ◌∷◌, ◌++◌, length, get_or, Option, None, Some, Result, Ok, arith}
+use Rattle.std.proofs.Common.{◌≢◌, refl, ◌∙◌, ℕ, ◌^◌, ◌<◌, length, get_or, arith}
 use Rattle.std.proofs.lemmas.Fmt.{digits_decimal, parse-decimal}
 use Rattle.std.proofs.lemmas.Str.Parse.{IsNumeralModel, not_in_digits, numerals_by_value, tells_digits}
 use Rattle.std.proofs.lemmas.Str.Pattern.{split_after}

@@ -1,6 +1,6 @@
-use Rattle.std.proofs.Common.{◌≡◌, sym, ◌∙◌, Bool, true, false, cond, List, ℕ, Option, None, Some}
+use Rattle.std.proofs.Common.{◌≡◌, sym, ◌∙◌, false}
 use Rattle.std.proofs.lemmas.Bool.{both_ways, false_from_ne_true}
-use Rattle.ifmap_core.specs.State.{is_text, session_with_id, session_with_serial}
+use Rattle.ifmap_core.specs.State.{is_text}
 use Rattle.ifmap_core.proofs.Kept.{id_at, id_leads, id_nowhere, id_of_none, leads_to, text_is, text_same}
 use Rattle.ifmap_core.proofs.sessions.Sessions.with_id.Goals as goal
 
@@ -16,7 +16,7 @@ returns-in_err-session c =
     let leads = id_leads c.self.inside.counter c.self.inside.live.items c.args.id.now c.serial_of.result c.self.invariant.small c.self.invariant.counted c.self.invariant.ids (λ n rest small e. c.serial_of.ensures n rest small (id ∙ e)) in
     let found = rw (c.deref.ensures.value, c.in_err-session.was) at c.with_serial.ensures in
     rw (c.from_residual-in_err-session.ensures, ← c.self.view_is)
-      (sym (id_nowhere c.self.inside.live.items c.in_ok-serial.serial c.args.id.now (leads_to c.in_ok-serial.serial c.self.inside.live.items c.args.id.now c.serial_of.result c.in_ok-serial.was leads) (sym found)))
+    (sym (id_nowhere c.self.inside.live.items c.in_ok-serial.serial c.args.id.now (leads_to c.in_ok-serial.serial c.self.inside.live.items c.args.id.now c.serial_of.result c.in_ok-serial.was leads) (sym found)))
 
 pub returns-then-equals : goal.returns-then-equals
 returns-then-equals c =
