@@ -1,4 +1,5 @@
-//! The machine: a plain, deterministic answer to each event, and the state after it.
+//! The machine: a plain, deterministic answer to each event, and the state after it. Its one step is
+//! the definition in specs/Step.antt.
 #![tactic(auto)]
 
 pub mod clients;
@@ -7,7 +8,7 @@ pub mod events;
 pub mod laws;
 pub mod machine;
 pub mod messages;
-pub mod sessions;
+mod sessions;
 
 pub use clients::ClientName;
 pub use codes::Code;
