@@ -1,8 +1,9 @@
 //! The machine: a state, and one step for each event.
-ghost use Rattle.std.specs.Prelude.{◌≡◌, ◌≤◌, ◌↔◌, IfErr, IfOk, OnErr, Some};
+ghost use Rattle.std.specs.Prelude.{◌≡◌, ◌-◌, ◌^◌, ◌<◌, ◌≤◌, ◌↔◌, IfErr, IfOk, OnErr, Some};
+ghost use Rattle.std.specs.Bool.{OnFalse};
 ghost use Rattle.ifmap_core.specs.Causes.{AsksForNoneLeft, NamesAnothersSession, NamesNoSession};
 ghost use Rattle.ifmap_core.specs.State.{State, opening, session_with_id};
-ghost use Rattle.ifmap_core.specs.Step.{end_session, in_session, new_session, refused, step};
+ghost use Rattle.ifmap_core.specs.Step.{end_session, in_session, is_full, new_session, refused, step};
 
 use crate::clients::ClientName;
 use crate::codes::Code;
@@ -84,11 +85,10 @@ impl Core {
         ensures answer { IfOk result (λ answer. (self.new, answer) ≡ new_session self.old client.now random) }
         ensures err { OnErr result (self.new ≡ self.old) }
     {
-        let held = self.sessions.of_client(client);
-        let is_taken = MOST_SESSIONS <= self.sessions.len() && held.is_none();
-        if is_taken || self.sessions.counter() == u64::MAX {
+        if self.is_full(client) {
             return Ok(refusal(Code::SystemError));
         }
+        let held = self.sessions.of_client(client);
         let opening = self.sessions.prepare(alloc, client, random)?;
         let session = opening.id.copy(alloc)?;
         let publisher = client.text().copy(alloc)?;
@@ -97,6 +97,16 @@ impl Core {
         }
         self.sessions.open(opening);
         Ok(Answer::Reply(Reply::NewSession { session, publisher }))
+    }
+
+    // Whether the client can be given no session.
+    fn is_full(&self, client: &ClientName) -> bool
+        ensures full { result ≡ is_full self.now client.now }
+        ensures next { OnFalse result (self.now.counter < 2 ^ 64 - 1) }
+    {
+        let is_taken = MOST_SESSIONS <= self.sessions.len();
+        (is_taken && self.sessions.of_client(client).is_none())
+            || self.sessions.counter() == u64::MAX
     }
 
     fn end_session(&mut self, id: &Text, client: &ClientName) -> Answer
