@@ -1,0 +1,3 @@
+pub mod Halving
+pub mod Histories
+pub mod Kept

@@ -1,0 +1,48 @@
+-- Histories of the machine.
+use Rattle.std.specs.Prelude.{◌≡◌, ℕ, ◌+◌, List, [], ◌∷◌, ◌++◌, map}
+use Rattle.ifmap_core.specs.declared.events.Answer.{Answer}
+use Rattle.ifmap_core.specs.declared.events.Answer.TheVariants as the_answer
+use Rattle.ifmap_core.specs.declared.events.Event.{Event}
+use Rattle.ifmap_core.specs.declared.messages.Reply.TheVariants.{NewSession, Ended, Error}
+use Rattle.ifmap_core.specs.declared.sessions.Session.{Session}
+use Rattle.ifmap_core.specs.SessionIds.{session_id}
+use Rattle.ifmap_core.specs.State.{State, opening}
+use Rattle.ifmap_core.specs.Step.{step}
+
+-- events with their answers, in order
+abbrev pub History : Type 0
+History = List (Event × Answer)
+
+-- each answer is that of the step in the state after the events before it
+abbrev pub LegalFrom : State → History → Type 0
+LegalFrom state [] = Unit {0}
+LegalFrom state (e ∷ history) = (e.1 ≡ (step state e.0).1) × LegalFrom (step state e.0).0 history
+
+-- the same, from the opening state
+abbrev pub Legal : ℕ → History → Type 0
+Legal ttl history = LegalFrom (opening ttl) history
+
+-- the state after the events of a history
+abbrev pub state_after : State → History → State
+state_after state [] = state
+state_after state (e ∷ history) = state_after (step state e.0).0 history
+
+-- the id that an answer gives to a new session, with the event's random word
+abbrev pub begun_by : Event → Answer → List (ℕ × List ℕ)
+begun_by event (the_answer.Reply (NewSession id publisher)) = (event.random, id) ∷ []
+begun_by event (the_answer.Reply Ended) = []
+begun_by event (the_answer.Reply (Error code)) = []
+
+-- all such ids of a history, in order
+abbrev pub begun_ids : History → List (ℕ × List ℕ)
+begun_ids [] = []
+begun_ids (e ∷ history) = begun_by e.0 e.1 ++ begun_ids history
+
+-- the ids have the serials after n, one after another
+abbrev pub AreNumberedAfter : ℕ → List (ℕ × List ℕ) → Type 0
+AreNumberedAfter n [] = Unit {0}
+AreNumberedAfter n (b ∷ begun) = (b.1 ≡ session_id (n + 1) b.0) × AreNumberedAfter (n + 1) begun
+
+-- the clients of the live sessions, in the order of the sessions
+abbrev pub live_clients : State → List (List ℕ)
+live_clients state = map (λ (s : Session). s.client) state.sessions

@@ -1,0 +1,32 @@
+//! Events, which the machine answers one after another.
+use crate::clients::ClientName;
+use crate::messages::{Reply, Request};
+use ifmap_io::Moment;
+
+/// What is asked of the machine.
+#[derive(Debug, Drop)]
+pub enum Ask {
+    Request(Request),
+}
+
+/// One event: a request with all that its answer depends on beside the state.
+#[derive(Debug, Drop)]
+pub struct Event {
+    /// When the request came. A moment before an earlier event's changes nothing.
+    pub moment: Moment,
+    /// Who asks.
+    pub client: ClientName,
+    /// A word of 128 random bits, for a session id.
+    pub random: u128,
+    /// Whether a poll that was held is asked again.
+    pub again: bool,
+    /// The length of the body that the request came in, in bytes.
+    pub bytes: u32,
+    pub ask: Ask,
+}
+
+/// The answer to an event.
+#[derive(Debug, Drop)]
+pub enum Answer {
+    Reply(Reply),
+}

@@ -1,0 +1,12 @@
+pub mod Cuts
+pub mod Errors
+pub mod Forms
+pub mod Framing
+pub mod Headers
+pub mod Meanings
+pub mod Pieces
+pub mod Progress
+pub mod Scripts
+pub mod Sending
+pub mod Splits
+pub mod Taking

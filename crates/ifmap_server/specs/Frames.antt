@@ -1,0 +1,42 @@
+-- The frames of a script.
+use Rattle.std.specs.Prelude.{◌≡◌, ℕ, ◌≤◌, ◌<◌, ◌^◌, List, [], ◌∷◌, ◌++◌, length}
+use Rattle.std.specs.Fmt.{decimal}
+use Rattle.std.specs.Int.{to_be_bytes, w128}
+use Rattle.uuid.specs.Text.{lower, simple_text}
+use Rattle.ifmap_core.specs.ClientNames.{IsClientName}
+use Rattle.ifmap_server.specs.declared.frames.Header.{Header}
+
+-- a request as it came: when, from whom, with which random word, and its bytes
+pub record Frame : Type 0 where
+  pub moment : ℕ
+  pub client : List ℕ
+  pub random : ℕ
+  pub body : List ℕ
+
+-- a frame keeps to these limits
+pub record IsFrame (f : Frame) : Type 0 where
+  pub moment : f.moment ≤ 253402300799
+  pub client : IsClientName f.client
+  pub random : f.random < 2 ^ 128
+  pub body : length f.body ≤ 10000000
+
+-- a word of 128 bits as 32 hexadecimal digits in lower case
+abbrev pub word_text : ℕ → List ℕ
+word_text random = simple_text lower (to_be_bytes w128 random)
+
+-- `@`, the moment, the client, the random word and the length of the body, with single spaces between them, and a newline
+abbrev pub header_text : ℕ → List ℕ → ℕ → ℕ → List ℕ
+header_text moment client random size =
+    64 ∷ decimal moment ++ 32 ∷ client ++ 32 ∷ word_text random ++ 32 ∷ decimal size ++ 10 ∷ []
+
+-- the header, and then the body
+abbrev pub frame_text : Frame → List ℕ
+frame_text f = header_text f.moment f.client f.random (length f.body) ++ f.body
+
+-- a line without its newline is this header, of a frame that keeps to the limits
+pub record IsHeader (line : List ℕ) (h : Header) : Type 0 where
+  pub text : line ++ 10 ∷ [] ≡ header_text h.moment h.client h.random h.size
+  pub moment : h.moment ≤ 253402300799
+  pub client : IsClientName h.client
+  pub random : h.random < 2 ^ 128
+  pub size : h.size ≤ 10000000

@@ -1,0 +1,11 @@
+pub mod Bodies
+pub mod Frames
+pub mod Lines
+pub mod Output
+pub mod Pending
+pub mod Replayed
+pub mod Replies
+pub mod Script
+pub mod Statuses
+pub mod Turns
+pub mod Words

@@ -1,0 +1,17 @@
+-- The words of a header's line.
+use Rattle.std.specs.Prelude.{◌≡◌, ◌≢◌, ℕ, ◌<◌, List, ◌∷◌, ◌++◌, length, slice_index}
+
+-- `@` and four words, with single spaces between them
+abbrev pub words_line : (moment client random size : List ℕ) → List ℕ
+words_line moment client random size = 64 ∷ moment ++ 32 ∷ client ++ 32 ∷ random ++ 32 ∷ size
+
+-- no byte is a space
+abbrev pub HasNoSpace : List ℕ → Type 0
+HasNoSpace text = (i : ℕ) → i < length text → slice_index text i ≢ 32
+
+-- the line is a header's with these words
+pub record AreWords (line m c r s : List ℕ) : Type 0 where
+  pub text : line ≡ words_line m c r s
+  pub moment : HasNoSpace m
+  pub client : HasNoSpace c
+  pub random : HasNoSpace r

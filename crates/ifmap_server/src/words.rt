@@ -1,0 +1,43 @@
+//! The words that the program is given.
+ghost use Rattle.std.specs.Prelude.{◌≡◌, ◌↔◌, map, string_bytes};
+ghost use Rattle.ifmap_server.specs.Words.{IsReplay};
+
+/// What the words ask for.
+#[derive(Clone, Copy, Debug, PartialEq, Eq)]
+pub enum Form {
+    /// `replay`: answers the frames of the source.
+    Replay,
+    /// None of the forms.
+    Wrong,
+}
+
+/// The form of the words.
+pub fn form_of(words: &[String]) -> Form
+    ensures replay { (result ≡ Form.Replay) ↔ IsReplay (map string_bytes words.now) }
+{
+    match words {
+        [word] if word.as_str() == "replay" => Form::Replay,
+        _ => Form::Wrong,
+    }
+}
+
+#[cfg(test)]
+mod tests {
+    use super::*;
+    use std::test::Fail;
+
+    #[test]
+    fn the_one_word_replay_is_a_form(rt: HostRuntime) -> Result<(), Fail> {
+        let alloc = rt.alloc();
+        let mut words = Vec::new(alloc);
+        assert_eq!(rt; form_of(&words), Form::Wrong);
+        words.push(String::from_str(alloc, "replay")?)?;
+        assert_eq!(rt; form_of(&words), Form::Replay);
+        words.push(String::from_str(alloc, "replay")?)?;
+        assert_eq!(rt; form_of(&words), Form::Wrong);
+        words.clear();
+        words.push(String::from_str(alloc, "Replay")?)?;
+        assert_eq!(rt; form_of(&words), Form::Wrong);
+        Ok(())
+    }
+}
