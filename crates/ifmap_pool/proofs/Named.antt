@@ -1,5 +1,5 @@
 -- What contracts see of a pool, against its slots and its list of numbers.
-use Rattle.std.proofs.Common.{◌≡◌, ◌≢◌, ℕ, suc, ◌+◌, ◌-◌, ◌<◌, ◌≤◌, List, length, get_or, Option, Some, None, Ok, Err, Ordering, refl, sym, ap, subst, ◌∙◌, inl, inr, arith}
+use Rattle.std.proofs.Common.{◌≡◌, ◌≢◌, ◌↔◌, ℕ, suc, ◌+◌, ◌-◌, ◌<◌, ◌≤◌, List, length, get_or, Option, Some, None, Ok, Err, Ordering, refl, sym, ap, subst, ◌∙◌, inl, inr, arith}
 use Rattle.std.proofs.lemmas.Bool.{cases_lt}
 use Rattle.std.proofs.lemmas.Cmp.{tied_back}
 use Rattle.std.proofs.lemmas.Option.{same_Some}
@@ -7,7 +7,7 @@ use Rattle.std.specs.Prelude.{IsSome, is_some, option_map, unwrap_or}
 use Rattle.std.specs.Cmp.{IsTotalOrder}
 use Rattle.std.specs.FinMap.{get}
 use Rattle.std.specs.declared.cmp.Ordering.TheVariants.{Less, Equal, Greater}
-use Rattle.ifmap_pool.specs.Holdings.{Holdings, entry_at, key_at, holds_at, EachIsHeld, Names, IsAbsent, OneToOne}
+use Rattle.ifmap_pool.specs.Holdings.{Holdings, entry_at, key_at, holds_at, Names, IsAbsent, OneToOne}
 use Rattle.ifmap_pool.specs.Index.{AllBelow, AllAbove, IsPlace, IsIndexed, entry_of, live_of}
 use Rattle.ifmap_pool.specs.declared.places.Held.{Held}
 use Rattle.ifmap_pool.proofs.Live.{get-live_of}
@@ -20,6 +20,12 @@ module _ {K : Type 0} where
   entry_some : (o : Option (Held K)) (entry : K × ℕ) → option_map entry_of o ≡ Some entry → (held : Held K) × (o ≡ Some held) × (entry_of held ≡ entry)
   entry_some None entry e = absurd (cc)
   entry_some (Some held) entry e = (held, refl, same_Some _ _ e)
+
+  -- a slot that stays keeps its entry
+  pub same_entry : (old new : List (Option (Held K))) (pool next : Holdings K) → pool.live ≡ live_of old → next.live ≡ live_of new
+      → (number : ℕ) → get_or new number None ≡ get_or old number None → entry_at next number ≡ entry_at pool number
+  same_entry old new pool next is now number e =
+      ap (λ m. get m number) now ∙ get-live_of new number ∙ ap (option_map entry_of) e ∙ sym (get-live_of old number) ∙ sym (ap (λ m. get m number) is)
 
   module _ (slots : List (Option (Held K))) (pool : Holdings K) (is : pool.live ≡ live_of slots) where
     pub entry_is : (number : ℕ) → entry_at pool number ≡ option_map entry_of (get_or slots number None)
@@ -41,6 +47,9 @@ module _ {K : Type 0} where
     pub holds_from_slot : (number : ℕ) (held : Held K) → get_or slots number None ≡ Some held → holds_at pool number ≡ held.holds
     holds_from_slot number held e = ap (λ o. unwrap_or (option_map (λ (entry : K × ℕ). entry.1) o) 0) (entry_from_slot number held e)
 
+    pub holds_from_none : (number : ℕ) → get_or slots number None ≡ None → holds_at pool number ≡ 0
+    holds_from_none number e = ap (λ o. unwrap_or (option_map (λ (entry : K × ℕ). entry.1) o) 0) (entry_is number ∙ ap (option_map entry_of) e)
+
     -- a live number has one entry
     pub entry_known : (number : ℕ) (held : Held K) (entry : K × ℕ) → get_or slots number None ≡ Some held → entry_at pool number ≡ Some entry → (held.key, held.holds) ≡ entry
     entry_known number held entry e there = same_Some _ _ (sym (entry_from_slot number held e) ∙ there)
@@ -61,11 +70,6 @@ module _ {K : Type 0} where
           (there.0, there.1, ap (λ (entry : K × ℕ). cmp entry.0 key) there.2 ∙ names.2)
 
     module _ {cmp : K → K → Ordering} (total : IsTotalOrder cmp) (order : List ℕ) (indexed : IsIndexed cmp (λ n. get_or slots n None) order) where
-      pub held_once : EachIsHeld pool
-      held_once number entry e =
-          let there = slot_from_entry number entry e in
-          subst (λ (x : K × ℕ). 0 < x.1) there.2 (indexed.held number there.0 there.1)
-
       pub numbers_apart : OneToOne cmp pool
       numbers_apart first second key one other =
           let a = slot_from_names cmp first key one in

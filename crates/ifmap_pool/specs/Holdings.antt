@@ -34,10 +34,6 @@ module _ {K : Type 0} where
   abbrev pub holds_at : Holdings K → ℕ → ℕ
   holds_at pool number = unwrap_or (option_map (λ entry. entry.1) (entry_at pool number)) 0
 
-  -- each live number is held at least once
-  abbrev pub EachIsHeld : Holdings K → Type 0
-  EachIsHeld pool = (number : ℕ) (entry : K × ℕ) → entry_at pool number ≡ Some entry → 0 < entry.1
-
   -- the number was free, and is the key's, held once; one new key less fits
   pub record Takes (old new : Holdings K) (number : ℕ) (key : K) : Type 0 where
     pub free : entry_at old number ≡ None

@@ -1,7 +1,7 @@
 //! The pool: numbers that stand for keys.
-ghost use Rattle.std.specs.Prelude.{◌≡◌, ◌⊎◌, ℕ, ◌+◌, ◌-◌, ◌<◌, ◌≤◌, ◌^◌, Some, IsSome, IfSome, IfNone, IsOk, OnOk, option_copied};
+ghost use Rattle.std.specs.Prelude.{◌≡◌, ◌≢◌, ◌↔◌, ◌⊎◌, ℕ, ◌+◌, ◌-◌, ◌<◌, ◌≤◌, ◌^◌, Some, IsSome, IfSome, IfNone, IsOk, OnOk, option_copied};
 ghost use Rattle.std.specs.FinMap.{empty};
-ghost use Rattle.ifmap_pool.specs.Holdings.{entry_at, key_at, holds_at, EachIsHeld, Takes, HoldsAgain, LetsGo, Frees, Names, IsPresent, IsAbsent, OneToOne};
+ghost use Rattle.ifmap_pool.specs.Holdings.{entry_at, key_at, holds_at, Takes, HoldsAgain, LetsGo, Frees, Names, IsPresent, IsAbsent, OneToOne};
 
 use crate::places::{self, Held};
 use slab::Slab;
@@ -69,7 +69,8 @@ impl<K: Ord> Pool<K> {
 
     /// The key of the number, if it is live.
     pub fn key_of(&self, number: u64) -> Option<&K>
-        ensures { option_copied result ≡ key_at self.now number }
+        ensures key { option_copied result ≡ key_at self.now number }
+        ensures held { IsSome result ↔ (0 < holds_at self.now number) }
     {
         match self.slots.get(number as usize) {
             Some(held) => Some(&held.key),
@@ -99,6 +100,8 @@ impl<K: Ord> Pool<K> {
         ensures named { Names K.cmp self.new result key }
         ensures present { (number : ℕ) → Names K.cmp self.old number key → (result ≡ number) × HoldsAgain self.old self.new number }
         ensures absent { IsAbsent K.cmp self.old key → Takes self.old self.new result key }
+        ensures counted { holds_at self.new result ≡ holds_at self.old result + 1 }
+        ensures others { (other : ℕ) → other ≢ result → entry_at self.new other ≡ entry_at self.old other }
         ensures one_to_one { OneToOne K.cmp self.new }
     {
         match places::place_of(&self.slots, &self.order, &key) {
@@ -122,7 +125,8 @@ impl<K: Ord> Pool<K> {
         requires { IsSome (entry_at self.old number) }
         ensures kept { LetsGo self.old self.new number }
         ensures last { holds_at self.old number ≡ 1 → Frees self.old self.new number }
-        ensures held { 0 < holds_at self.old number }
+        ensures counted { holds_at self.new number + 1 ≡ holds_at self.old number }
+        ensures others { (other : ℕ) → other ≢ number → entry_at self.new other ≡ entry_at self.old other }
         ensures spare { self.old.spare ≤ self.new.spare }
         ensures one_to_one { OneToOne K.cmp self.new }
     {

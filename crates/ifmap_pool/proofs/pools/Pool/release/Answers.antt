@@ -3,9 +3,9 @@ use Rattle.std.specs.FinMap.{insert}
 use Rattle.ifmap_pool.specs.Holdings.{Holdings, holds_at}
 use Rattle.ifmap_pool.specs.Index.{live_of}
 use Rattle.ifmap_pool.specs.declared.places.Held.{Held}
-use Rattle.ifmap_pool.proofs.Changes.{Fields, seen, IsKept, apart_now, after_write, kept_write, seen_write, kept_free, seen_free}
+use Rattle.ifmap_pool.proofs.Changes.{Fields, seen, IsKept, apart_now, written, kept_write, seen_write, kept_free, seen_free}
 use Rattle.ifmap_pool.proofs.Kept.{IsSome-from}
-use Rattle.ifmap_pool.proofs.Named.{slot_from_live, holds_from_slot, entry_known}
+use Rattle.ifmap_pool.proofs.Named.{slot_from_live, holds_from_slot, holds_from_none, entry_known, same_entry}
 use Rattle.ifmap_pool.proofs.pools.Pool.release.Goals as goal
 
 pub index-held-requires : goal.index-held-requires
@@ -40,12 +40,6 @@ returns-then-held-gt1-clause-last g c once =
     let is = sym (ap (λ (p : Holdings g.row.K.Denot). p.live) c.self.view_is) in
     let holds = holds_from_slot c.self.inside.slots.slots c.args.self.now is c.args.number c.index-held.result.now c.index-held.ensures in
     absurd (omega arith)
-
-pub returns-then-held-gt1-clause-held : goal.returns-then-held-gt1-clause-held
-returns-then-held-gt1-clause-held g c =
-    let is = sym (ap (λ (p : Holdings g.row.K.Denot). p.live) c.self.view_is) in
-    let holds = holds_from_slot c.self.inside.slots.slots c.args.self.now is c.args.number c.index-held.result.now c.index-held.ensures in
-    omega arith
 
 pub returns-then-held-gt1-clause-spare : goal.returns-then-held-gt1-clause-spare
 returns-then-held-gt1-clause-spare g c =
@@ -84,13 +78,45 @@ returns-clause-last g c once =
     seen_free g.met.K.Ord.total fields c.self.invariant c.args.self.now c.self.view_is c.args.number listed.0 listed.1 listed.2 after
     c.remove.ensures.updates c.remove.ensures.len c.remove.ensures.capacity listed.3 c.unlist_number.ensures.len c.unlist_number.ensures.capacity
 
-pub returns-clause-held : goal.returns-clause-held
-returns-clause-held g c =
-    let is = sym (ap (λ (p : Holdings g.row.K.Denot). p.live) c.self.view_is) in
-    let holds = holds_from_slot c.self.inside.slots.slots c.args.self.now is c.args.number c.index-held.result.now c.index-held.ensures in
-    omega (arith, c.self.invariant.0.held c.args.number c.index-held.result.now c.index-held.ensures)
-
 pub returns-clause-one_to_one : goal.returns-clause-one_to_one
 returns-clause-one_to_one g c =
     let after : Fields g.row.K.Denot = record { slots = c.remove.new.self; items = c.unlist_number.new.order.items; len = vec_len c.unlist_number.new.order; room = vec_capacity c.unlist_number.new.order } in
     apart_now g.met.K.Ord.total after (invariant_of-self-2 g c) _ refl
+
+pub returns-then-held-gt1-clause-counted : goal.returns-then-held-gt1-clause-counted
+returns-then-held-gt1-clause-counted g c =
+    let is = sym (ap (λ (p : Holdings g.row.K.Denot). p.live) c.self.view_is) in
+    let held = c.index-held.result.now in
+    let fields : Fields g.row.K.Denot = record { slots = c.self.inside.slots; items = c.self.inside.order.items; len = vec_len c.self.inside.order; room = vec_capacity c.self.inside.order } in
+    let after : Fields g.row.K.Denot = record fields { slots = c.drop_hold.new.slots } in
+    let value : Held g.row.K.Denot = record held { holds = held.holds - 1 } in
+    let now = written g.met.K.Ord.total fields c.self.invariant c.args.self.now c.self.view_is c.args.number held (record held { holds = held.holds - 1 })
+      c.index-held.ensures refl (omega arith) c.drop_hold.new.slots (c.drop_hold.ensures held c.index-held.ensures) in
+    let before = holds_from_slot c.self.inside.slots.slots c.args.self.now is c.args.number held c.index-held.ensures in
+    let later = holds_from_slot c.drop_hold.new.slots.slots (seen after) refl c.args.number value now.changed in
+    omega (arith, before, later)
+
+pub returns-then-held-gt1-clause-others : goal.returns-then-held-gt1-clause-others
+returns-then-held-gt1-clause-others g c other differs =
+    let is = sym (ap (λ (p : Holdings g.row.K.Denot). p.live) c.self.view_is) in
+    let held = c.index-held.result.now in
+    let fields : Fields g.row.K.Denot = record { slots = c.self.inside.slots; items = c.self.inside.order.items; len = vec_len c.self.inside.order; room = vec_capacity c.self.inside.order } in
+    let after : Fields g.row.K.Denot = record fields { slots = c.drop_hold.new.slots } in
+    let now = written g.met.K.Ord.total fields c.self.invariant c.args.self.now c.self.view_is c.args.number held (record held { holds = held.holds - 1 })
+      c.index-held.ensures refl (omega arith) c.drop_hold.new.slots (c.drop_hold.ensures held c.index-held.ensures) in
+    same_entry c.self.inside.slots.slots c.drop_hold.new.slots.slots c.args.self.now (seen after) is refl other (now.others other differs)
+
+pub returns-clause-counted : goal.returns-clause-counted
+returns-clause-counted g c =
+    let is = sym (ap (λ (p : Holdings g.row.K.Denot). p.live) c.self.view_is) in
+    let held = c.index-held.result.now in
+    let after : Fields g.row.K.Denot = record { slots = c.remove.new.self; items = c.unlist_number.new.order.items; len = vec_len c.unlist_number.new.order; room = vec_capacity c.unlist_number.new.order } in
+    let before = holds_from_slot c.self.inside.slots.slots c.args.self.now is c.args.number held c.index-held.ensures in
+    let later = holds_from_none c.remove.new.self.slots (seen after) refl c.args.number c.remove.ensures.updates.changed in
+    omega (arith, before, later, c.self.invariant.0.held c.args.number held c.index-held.ensures)
+
+pub returns-clause-others : goal.returns-clause-others
+returns-clause-others g c other differs =
+    let is = sym (ap (λ (p : Holdings g.row.K.Denot). p.live) c.self.view_is) in
+    let after : Fields g.row.K.Denot = record { slots = c.remove.new.self; items = c.unlist_number.new.order.items; len = vec_len c.unlist_number.new.order; room = vec_capacity c.unlist_number.new.order } in
+    same_entry c.self.inside.slots.slots c.remove.new.self.slots c.args.self.now (seen after) is refl other (c.remove.ensures.updates.others other differs)
