@@ -46,6 +46,7 @@ impl<K: Ord> Pool<K> {
     /// No key and no room. It takes no memory.
     pub fn new(alloc: Global) -> Pool<K>
         ensures live { result.live ≡ empty }
+        ensures none { (number : ℕ) → holds_at result number ≡ 0 }
         ensures spare { result.spare ≡ 0 }
     {
         Pool {
@@ -131,8 +132,8 @@ impl<K: Ord> Pool<K> {
         ensures one_to_one { OneToOne K.cmp self.new }
     {
         let number = number as usize;
-        let held = &self.slots[number];
-        if held.holds > 1 {
+        let holds = self.slots[number].holds;
+        if holds > 1 {
             places::drop_hold(&mut self.slots, number);
             return;
         }

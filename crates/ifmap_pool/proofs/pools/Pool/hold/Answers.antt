@@ -30,7 +30,7 @@ invariant_of-self g c =
     let stands : get_or c.self.inside.order.items c.in-Ok.place 0 ≡ number = get_or_default c.self.inside.order.items c.in-Ok.place 0 number found.0 ∙ sym c.index-number.ensures in
     let there = place_held g.met.K.Ord.total (get c.self.inside.slots) c.self.inside.order.items c.self.invariant.0 c.args.key c.in-Ok.place found number stands in
     kept_write g.met.K.Ord.total fields c.self.invariant c.args.self.now c.self.view_is number there.0 (record there.0 { holds = there.0.holds + 1 })
-      there.1 refl (omega arith) c.add_hold.new.slots (c.add_hold.ensures there.0 there.1)
+    there.1 refl (omega arith) c.add_hold.new.slots (c.add_hold.ensures there.0 there.1)
 
 pub returns-in-Ok-clause-named : goal.returns-in-Ok-clause-named
 returns-in-Ok-clause-named g c =
@@ -42,7 +42,7 @@ returns-in-Ok-clause-named g c =
     let after : Fields g.row.K.Denot = record fields { slots = c.add_hold.new.slots } in
     let value : Held g.row.K.Denot = record there.0 { holds = there.0.holds + 1 } in
     let now = written g.met.K.Ord.total fields c.self.invariant c.args.self.now c.self.view_is number there.0 (record there.0 { holds = there.0.holds + 1 })
-      there.1 refl (omega arith) c.add_hold.new.slots (c.add_hold.ensures there.0 there.1) in
+    there.1 refl (omega arith) c.add_hold.new.slots (c.add_hold.ensures there.0 there.1) in
     names_from_slot c.add_hold.new.slots.slots (seen after) refl g.K.Ord.cmp number value c.args.key now.changed there.2
 
 pub returns-in-Ok-clause-present : goal.returns-in-Ok-clause-present
@@ -57,10 +57,10 @@ returns-in-Ok-clause-present g c given names =
     let mine = names_from_slot c.self.inside.slots.slots c.args.self.now is g.K.Ord.cmp number there.0 c.args.key there.1 there.2 in
     let one : number ≡ given = apart_now g.met.K.Ord.total fields c.self.invariant c.args.self.now c.self.view_is number given c.args.key mine names in
     let again : HoldsAgain c.args.self.now (seen after) number = λ entry stood.
-      let known = entry_known c.self.inside.slots.slots c.args.self.now is number there.0 entry there.1 stood in
-      subst (λ (x : g.row.K.Denot × ℕ). seen after ≡ record c.args.self.now { live = insert c.args.self.now.live number (x.0, x.1 + 1) }) known
-        (seen_write g.met.K.Ord.total fields c.self.invariant c.args.self.now c.self.view_is number there.0 (record there.0 { holds = there.0.holds + 1 })
-      there.1 refl (omega arith) c.add_hold.new.slots (c.add_hold.ensures there.0 there.1)) in
+    let known = entry_known c.self.inside.slots.slots c.args.self.now is number there.0 entry there.1 stood in
+    subst (λ (x : g.row.K.Denot × ℕ). seen after ≡ record c.args.self.now { live = insert c.args.self.now.live number (x.0, x.1 + 1) }) known
+    (seen_write g.met.K.Ord.total fields c.self.invariant c.args.self.now c.self.view_is number there.0 (record there.0 { holds = there.0.holds + 1 })
+    there.1 refl (omega arith) c.add_hold.new.slots (c.add_hold.ensures there.0 there.1)) in
     (one, subst (λ (n : ℕ). HoldsAgain c.args.self.now (seen after) n) one again)
 
 pub returns-in-Ok-clause-absent : goal.returns-in-Ok-clause-absent
@@ -90,7 +90,7 @@ returns-in-Ok-clause-counted g c =
     let after : Fields g.row.K.Denot = record fields { slots = c.add_hold.new.slots } in
     let value : Held g.row.K.Denot = record there.0 { holds = there.0.holds + 1 } in
     let now = written g.met.K.Ord.total fields c.self.invariant c.args.self.now c.self.view_is number there.0 (record there.0 { holds = there.0.holds + 1 })
-      there.1 refl (omega arith) c.add_hold.new.slots (c.add_hold.ensures there.0 there.1) in
+    there.1 refl (omega arith) c.add_hold.new.slots (c.add_hold.ensures there.0 there.1) in
     let before = holds_from_slot c.self.inside.slots.slots c.args.self.now is number there.0 there.1 in
     let later = holds_from_slot c.add_hold.new.slots.slots (seen after) refl number value now.changed in
     omega (arith, before, later)
@@ -105,7 +105,7 @@ returns-in-Ok-clause-others g c other differs =
     let there = place_held g.met.K.Ord.total (get c.self.inside.slots) c.self.inside.order.items c.self.invariant.0 c.args.key c.in-Ok.place found number stands in
     let after : Fields g.row.K.Denot = record fields { slots = c.add_hold.new.slots } in
     let now = written g.met.K.Ord.total fields c.self.invariant c.args.self.now c.self.view_is number there.0 (record there.0 { holds = there.0.holds + 1 })
-      there.1 refl (omega arith) c.add_hold.new.slots (c.add_hold.ensures there.0 there.1) in
+    there.1 refl (omega arith) c.add_hold.new.slots (c.add_hold.ensures there.0 there.1) in
     same_entry c.self.inside.slots.slots c.add_hold.new.slots.slots c.args.self.now (seen after) is refl other (now.others other differs)
 
 pub insert_reserved-number-requires : goal.insert_reserved-number-requires
@@ -132,15 +132,15 @@ invariant_of-self-in-Err g c =
     let after : Fields g.row.K.Denot = record { slots = c.insert_reserved-number.new.self; items = c.list_number.new.order.items; len = vec_len c.list_number.new.order; room = vec_capacity c.list_number.new.order } in
     let value : Held g.row.K.Denot = record { key = c.args.key; holds = 1 } in
     kept_take g.met.K.Ord.total fields c.self.invariant c.args.self.now c.self.view_is c.insert_reserved-number.result c.in-Err.place value
-      c.insert_reserved-number.ensures.was_vacant refl room missing after c.insert_reserved-number.ensures.updates c.insert_reserved-number.ensures.len
-      c.insert_reserved-number.ensures.capacity c.list_number.ensures.items c.list_number.ensures.len c.list_number.ensures.capacity
+    c.insert_reserved-number.ensures.was_vacant refl room missing after c.insert_reserved-number.ensures.updates c.insert_reserved-number.ensures.len
+    c.insert_reserved-number.ensures.capacity c.list_number.ensures.items c.list_number.ensures.len c.list_number.ensures.capacity
 
 pub returns-in-Err-clause-named : goal.returns-in-Err-clause-named
 returns-in-Err-clause-named g c =
     let after : Fields g.row.K.Denot = record { slots = c.insert_reserved-number.new.self; items = c.list_number.new.order.items; len = vec_len c.list_number.new.order; room = vec_capacity c.list_number.new.order } in
     let value : Held g.row.K.Denot = record { key = c.args.key; holds = 1 } in
     names_from_slot c.insert_reserved-number.new.self.slots (seen after) refl g.K.Ord.cmp c.insert_reserved-number.result value c.args.key
-      c.insert_reserved-number.ensures.updates.changed (tied_itself g.met.K.Ord.total c.args.key)
+    c.insert_reserved-number.ensures.updates.changed (tied_itself g.met.K.Ord.total c.args.key)
 
 pub returns-in-Err-clause-present : goal.returns-in-Err-clause-present
 returns-in-Err-clause-present g c given names =
@@ -156,8 +156,8 @@ returns-in-Err-clause-absent g c none =
     let after : Fields g.row.K.Denot = record { slots = c.insert_reserved-number.new.self; items = c.list_number.new.order.items; len = vec_len c.list_number.new.order; room = vec_capacity c.list_number.new.order } in
     let value : Held g.row.K.Denot = record { key = c.args.key; holds = 1 } in
     seen_take g.met.K.Ord.total fields c.self.invariant c.args.self.now c.self.view_is c.insert_reserved-number.result c.in-Err.place value
-      c.insert_reserved-number.ensures.was_vacant refl room missing after c.insert_reserved-number.ensures.updates c.insert_reserved-number.ensures.len
-      c.insert_reserved-number.ensures.capacity c.list_number.ensures.items c.list_number.ensures.len c.list_number.ensures.capacity
+    c.insert_reserved-number.ensures.was_vacant refl room missing after c.insert_reserved-number.ensures.updates c.insert_reserved-number.ensures.len
+    c.insert_reserved-number.ensures.capacity c.list_number.ensures.items c.list_number.ensures.len c.list_number.ensures.capacity
 
 pub returns-in-Err-clause-one_to_one : goal.returns-in-Err-clause-one_to_one
 returns-in-Err-clause-one_to_one g c =
@@ -178,4 +178,4 @@ returns-in-Err-clause-others g c other differs =
     let is = sym (ap (λ (p : Holdings g.row.K.Denot). p.live) c.self.view_is) in
     let after : Fields g.row.K.Denot = record { slots = c.insert_reserved-number.new.self; items = c.list_number.new.order.items; len = vec_len c.list_number.new.order; room = vec_capacity c.list_number.new.order } in
     same_entry c.self.inside.slots.slots c.insert_reserved-number.new.self.slots c.args.self.now (seen after) is refl other
-      (c.insert_reserved-number.ensures.updates.others other differs)
+    (c.insert_reserved-number.ensures.updates.others other differs)

@@ -8,50 +8,50 @@ use Rattle.ifmap_pool.proofs.Kept.{IsSome-from}
 use Rattle.ifmap_pool.proofs.Named.{slot_from_live, holds_from_slot, holds_from_none, entry_known, same_entry}
 use Rattle.ifmap_pool.proofs.pools.Pool.release.Goals as goal
 
-pub index-held-requires : goal.index-held-requires
-index-held-requires g c =
+pub index-requires : goal.index-requires
+index-requires g c =
     let is = sym (ap (λ (p : Holdings g.row.K.Denot). p.live) c.self.view_is) in
     let there = slot_from_live c.self.inside.slots.slots c.args.self.now is c.args.number c.requires in
     IsSome-from _ there.0 there.1
 
 pub drop_hold-requires : goal.drop_hold-requires
-drop_hold-requires g c = (c.index-held.result.now, c.index-held.ensures, omega arith)
+drop_hold-requires g c = (c.index.result.now, c.index.ensures, omega arith)
 
 pub invariant_of-self : goal.invariant_of-self
 invariant_of-self g c =
-    let held = c.index-held.result.now in
+    let held = c.index.result.now in
     let fields : Fields g.row.K.Denot = record { slots = c.self.inside.slots; items = c.self.inside.order.items; len = vec_len c.self.inside.order; room = vec_capacity c.self.inside.order } in
     kept_write g.met.K.Ord.total fields c.self.invariant c.args.self.now c.self.view_is c.args.number held (record held { holds = held.holds - 1 })
-    c.index-held.ensures refl (omega arith) c.drop_hold.new.slots (c.drop_hold.ensures held c.index-held.ensures)
+    c.index.ensures refl (omega arith) c.drop_hold.new.slots (c.drop_hold.ensures held c.index.ensures)
 
-pub returns-then-held-gt1-clause-kept : goal.returns-then-held-gt1-clause-kept
-returns-then-held-gt1-clause-kept g c entry there more =
-    let held = c.index-held.result.now in
+pub returns-then-holds-gt1-clause-kept : goal.returns-then-holds-gt1-clause-kept
+returns-then-holds-gt1-clause-kept g c entry there more =
+    let held = c.index.result.now in
     let fields : Fields g.row.K.Denot = record { slots = c.self.inside.slots; items = c.self.inside.order.items; len = vec_len c.self.inside.order; room = vec_capacity c.self.inside.order } in
     let after : Fields g.row.K.Denot = record fields { slots = c.drop_hold.new.slots } in
     let is = sym (ap (λ (p : Holdings g.row.K.Denot). p.live) c.self.view_is) in
-    let known = entry_known c.self.inside.slots.slots c.args.self.now is c.args.number held entry c.index-held.ensures there in
+    let known = entry_known c.self.inside.slots.slots c.args.self.now is c.args.number held entry c.index.ensures there in
     subst (λ (x : g.row.K.Denot × ℕ). seen after ≡ record c.args.self.now { live = insert c.args.self.now.live c.args.number (x.0, x.1 - 1) }) known
     (seen_write g.met.K.Ord.total fields c.self.invariant c.args.self.now c.self.view_is c.args.number held (record held { holds = held.holds - 1 })
-    c.index-held.ensures refl (omega arith) c.drop_hold.new.slots (c.drop_hold.ensures held c.index-held.ensures))
+    c.index.ensures refl (omega arith) c.drop_hold.new.slots (c.drop_hold.ensures held c.index.ensures))
 
-pub returns-then-held-gt1-clause-last : goal.returns-then-held-gt1-clause-last
-returns-then-held-gt1-clause-last g c once =
+pub returns-then-holds-gt1-clause-last : goal.returns-then-holds-gt1-clause-last
+returns-then-holds-gt1-clause-last g c once =
     let is = sym (ap (λ (p : Holdings g.row.K.Denot). p.live) c.self.view_is) in
-    let holds = holds_from_slot c.self.inside.slots.slots c.args.self.now is c.args.number c.index-held.result.now c.index-held.ensures in
+    let holds = holds_from_slot c.self.inside.slots.slots c.args.self.now is c.args.number c.index.result.now c.index.ensures in
     absurd (omega arith)
 
-pub returns-then-held-gt1-clause-spare : goal.returns-then-held-gt1-clause-spare
-returns-then-held-gt1-clause-spare g c =
-    let held = c.index-held.result.now in
+pub returns-then-holds-gt1-clause-spare : goal.returns-then-holds-gt1-clause-spare
+returns-then-holds-gt1-clause-spare g c =
+    let held = c.index.result.now in
     let fields : Fields g.row.K.Denot = record { slots = c.self.inside.slots; items = c.self.inside.order.items; len = vec_len c.self.inside.order; room = vec_capacity c.self.inside.order } in
     let same = ap (λ (p : Holdings g.row.K.Denot). p.spare)
     (seen_write g.met.K.Ord.total fields c.self.invariant c.args.self.now c.self.view_is c.args.number held (record held { holds = held.holds - 1 })
-    c.index-held.ensures refl (omega arith) c.drop_hold.new.slots (c.drop_hold.ensures held c.index-held.ensures)) in
+    c.index.ensures refl (omega arith) c.drop_hold.new.slots (c.drop_hold.ensures held c.index.ensures)) in
     omega (arith, same)
 
-pub returns-then-held-gt1-clause-one_to_one : goal.returns-then-held-gt1-clause-one_to_one
-returns-then-held-gt1-clause-one_to_one g c =
+pub returns-then-holds-gt1-clause-one_to_one : goal.returns-then-holds-gt1-clause-one_to_one
+returns-then-holds-gt1-clause-one_to_one g c =
     let fields : Fields g.row.K.Denot = record { slots = c.drop_hold.new.slots; items = c.self.inside.order.items; len = vec_len c.self.inside.order; room = vec_capacity c.self.inside.order } in
     apart_now g.met.K.Ord.total fields (invariant_of-self g c) _ refl
 
@@ -66,7 +66,7 @@ invariant_of-self-2 g c =
 pub returns-clause-kept : goal.returns-clause-kept
 returns-clause-kept g c entry there more =
     let is = sym (ap (λ (p : Holdings g.row.K.Denot). p.live) c.self.view_is) in
-    let known = entry_known c.self.inside.slots.slots c.args.self.now is c.args.number c.index-held.result.now entry c.index-held.ensures there in
+    let known = entry_known c.self.inside.slots.slots c.args.self.now is c.args.number c.index.result.now entry c.index.ensures there in
     let holds = ap (λ (x : g.row.K.Denot × ℕ). x.1) known in
     absurd (omega arith)
 
@@ -83,37 +83,37 @@ returns-clause-one_to_one g c =
     let after : Fields g.row.K.Denot = record { slots = c.remove.new.self; items = c.unlist_number.new.order.items; len = vec_len c.unlist_number.new.order; room = vec_capacity c.unlist_number.new.order } in
     apart_now g.met.K.Ord.total after (invariant_of-self-2 g c) _ refl
 
-pub returns-then-held-gt1-clause-counted : goal.returns-then-held-gt1-clause-counted
-returns-then-held-gt1-clause-counted g c =
+pub returns-then-holds-gt1-clause-counted : goal.returns-then-holds-gt1-clause-counted
+returns-then-holds-gt1-clause-counted g c =
     let is = sym (ap (λ (p : Holdings g.row.K.Denot). p.live) c.self.view_is) in
-    let held = c.index-held.result.now in
+    let held = c.index.result.now in
     let fields : Fields g.row.K.Denot = record { slots = c.self.inside.slots; items = c.self.inside.order.items; len = vec_len c.self.inside.order; room = vec_capacity c.self.inside.order } in
     let after : Fields g.row.K.Denot = record fields { slots = c.drop_hold.new.slots } in
     let value : Held g.row.K.Denot = record held { holds = held.holds - 1 } in
     let now = written g.met.K.Ord.total fields c.self.invariant c.args.self.now c.self.view_is c.args.number held (record held { holds = held.holds - 1 })
-      c.index-held.ensures refl (omega arith) c.drop_hold.new.slots (c.drop_hold.ensures held c.index-held.ensures) in
-    let before = holds_from_slot c.self.inside.slots.slots c.args.self.now is c.args.number held c.index-held.ensures in
+    c.index.ensures refl (omega arith) c.drop_hold.new.slots (c.drop_hold.ensures held c.index.ensures) in
+    let before = holds_from_slot c.self.inside.slots.slots c.args.self.now is c.args.number held c.index.ensures in
     let later = holds_from_slot c.drop_hold.new.slots.slots (seen after) refl c.args.number value now.changed in
     omega (arith, before, later)
 
-pub returns-then-held-gt1-clause-others : goal.returns-then-held-gt1-clause-others
-returns-then-held-gt1-clause-others g c other differs =
+pub returns-then-holds-gt1-clause-others : goal.returns-then-holds-gt1-clause-others
+returns-then-holds-gt1-clause-others g c other differs =
     let is = sym (ap (λ (p : Holdings g.row.K.Denot). p.live) c.self.view_is) in
-    let held = c.index-held.result.now in
+    let held = c.index.result.now in
     let fields : Fields g.row.K.Denot = record { slots = c.self.inside.slots; items = c.self.inside.order.items; len = vec_len c.self.inside.order; room = vec_capacity c.self.inside.order } in
     let after : Fields g.row.K.Denot = record fields { slots = c.drop_hold.new.slots } in
     let now = written g.met.K.Ord.total fields c.self.invariant c.args.self.now c.self.view_is c.args.number held (record held { holds = held.holds - 1 })
-      c.index-held.ensures refl (omega arith) c.drop_hold.new.slots (c.drop_hold.ensures held c.index-held.ensures) in
+    c.index.ensures refl (omega arith) c.drop_hold.new.slots (c.drop_hold.ensures held c.index.ensures) in
     same_entry c.self.inside.slots.slots c.drop_hold.new.slots.slots c.args.self.now (seen after) is refl other (now.others other differs)
 
 pub returns-clause-counted : goal.returns-clause-counted
 returns-clause-counted g c =
     let is = sym (ap (λ (p : Holdings g.row.K.Denot). p.live) c.self.view_is) in
-    let held = c.index-held.result.now in
+    let held = c.index.result.now in
     let after : Fields g.row.K.Denot = record { slots = c.remove.new.self; items = c.unlist_number.new.order.items; len = vec_len c.unlist_number.new.order; room = vec_capacity c.unlist_number.new.order } in
-    let before = holds_from_slot c.self.inside.slots.slots c.args.self.now is c.args.number held c.index-held.ensures in
+    let before = holds_from_slot c.self.inside.slots.slots c.args.self.now is c.args.number held c.index.ensures in
     let later = holds_from_none c.remove.new.self.slots (seen after) refl c.args.number c.remove.ensures.updates.changed in
-    omega (arith, before, later, c.self.invariant.0.held c.args.number held c.index-held.ensures)
+    omega (arith, before, later, c.self.invariant.0.held c.args.number held c.index.ensures)
 
 pub returns-clause-others : goal.returns-clause-others
 returns-clause-others g c other differs =
