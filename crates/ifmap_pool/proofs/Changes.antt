@@ -1,17 +1,16 @@
 -- What a write, an insert and a removal make of a pool's fields and of what contracts see.
-use Rattle.std.proofs.Common.{◌≡◌, ◌≢◌, ◌⊎◌, ℕ, suc, ◌+◌, ◌-◌, ◌<◌, ◌≤◌, List, length, get_or, set, Option, Some, None, Ok, Err, min, count_by, cond, Ordering, refl, sym, ap, subst, ◌∙◌, inl, inr, arith}
-use Rattle.std.proofs.lemmas.Option.{same_Some}
+use Rattle.std.proofs.Common.{◌≡◌, ◌⊎◌, ℕ, ◌+◌, ◌-◌, ◌<◌, ◌≤◌, List, length, get_or, Option, Some, None, Err, min, cond, Ordering, sym, ap, subst, ◌∙◌, inl, inr, arith}
 use Rattle.std.proofs.lemmas.List.Sums.{sum_by-set}
-use Rattle.std.specs.Prelude.{IsSome, is_some, option_map}
+use Rattle.std.specs.Prelude.{is_some, option_map}
 use Rattle.std.specs.List as lists
 use Rattle.std.specs.Cmp.{IsTotalOrder}
 use Rattle.std.specs.FinMap as map
 use Rattle.slab.specs.Slab.{Slab, get, slab_len, with_value, Updates}
 use Rattle.slab.proofs.SlabLemmas.{ContainsKey-within, Updates-with_value}
-use Rattle.ifmap_pool.specs.Holdings.{Holdings, entry_at, IsPresent, Takes, Frees, OneToOne}
+use Rattle.ifmap_pool.specs.Holdings.{Holdings, IsPresent, Takes, Frees, OneToOne}
 use Rattle.ifmap_pool.specs.Index.{IsPlace, IsIndexed, entry_of, live_of}
 use Rattle.ifmap_pool.specs.declared.places.Held.{Held}
-use Rattle.ifmap_pool.proofs.Live.{get-live_of, live_of-set, live_of-removed}
+use Rattle.ifmap_pool.proofs.Live.{live_of-set, live_of-removed}
 use Rattle.ifmap_pool.proofs.Kept.{IsSome-from, IsIndexed-written, IsIndexed-inserted, IsIndexed-removed}
 use Rattle.ifmap_pool.proofs.Named.{same_holdings, entry_is, numbers_apart, absent_at}
 

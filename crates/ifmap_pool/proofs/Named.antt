@@ -1,17 +1,16 @@
 -- What contracts see of a pool, against its slots and its list of numbers.
-use Rattle.std.proofs.Common.{◌≡◌, ◌≢◌, ◌↔◌, ℕ, suc, ◌+◌, ◌-◌, ◌<◌, ◌≤◌, List, length, get_or, Option, Some, None, Ok, Err, Ordering, refl, sym, ap, subst, ◌∙◌, inl, inr, arith}
-use Rattle.std.proofs.lemmas.Bool.{cases_lt}
+use Rattle.std.proofs.Common.{◌≡◌, ℕ, List, get_or, Option, Some, None, Ok, Err, Ordering, refl, sym, ap, ◌∙◌}
 use Rattle.std.proofs.lemmas.Cmp.{tied_back}
 use Rattle.std.proofs.lemmas.Option.{same_Some}
-use Rattle.std.specs.Prelude.{IsSome, is_some, option_map, unwrap_or}
+use Rattle.std.specs.Prelude.{IsSome, option_map, unwrap_or}
 use Rattle.std.specs.Cmp.{IsTotalOrder}
 use Rattle.std.specs.FinMap.{get}
-use Rattle.std.specs.declared.cmp.Ordering.TheVariants.{Less, Equal, Greater}
+use Rattle.std.specs.declared.cmp.Ordering.TheVariants.{Equal}
 use Rattle.ifmap_pool.specs.Holdings.{Holdings, entry_at, key_at, holds_at, Names, IsAbsent, OneToOne}
-use Rattle.ifmap_pool.specs.Index.{AllBelow, AllAbove, IsPlace, IsIndexed, entry_of, live_of}
+use Rattle.ifmap_pool.specs.Index.{IsPlace, IsIndexed, entry_of, live_of}
 use Rattle.ifmap_pool.specs.declared.places.Held.{Held}
 use Rattle.ifmap_pool.proofs.Live.{get-live_of}
-use Rattle.ifmap_pool.proofs.Kept.{IsSome-from, some_from, one_number, none_missed}
+use Rattle.ifmap_pool.proofs.Kept.{some_from, one_number, none_missed}
 
 module _ {K : Type 0} where
   pub same_holdings : (a b : Holdings K) → a.live ≡ b.live → a.spare ≡ b.spare → a ≡ b

@@ -1,9 +1,9 @@
-use Rattle.std.proofs.Common.{◌≡◌, ℕ, ◌+◌, ◌-◌, ◌<◌, Some, get_or, refl, sym, ap, subst, ◌∙◌, arith, vec_len, vec_capacity}
+use Rattle.std.proofs.Common.{◌≡◌, ℕ, ◌+◌, get_or, refl, sym, ap, subst, ◌∙◌, arith, vec_len, vec_capacity}
 use Rattle.std.proofs.lemmas.Cmp.{tied_itself}
 use Rattle.std.proofs.lemmas.List.{get_or_default}
 use Rattle.std.specs.FinMap.{insert}
 use Rattle.slab.specs.Slab.{get}
-use Rattle.ifmap_pool.specs.Holdings.{Holdings, HoldsAgain, holds_at}
+use Rattle.ifmap_pool.specs.Holdings.{Holdings, HoldsAgain}
 use Rattle.ifmap_pool.specs.declared.places.Held.{Held}
 use Rattle.ifmap_pool.proofs.Changes.{Fields, seen, room_for_new, room_is, apart_now, written, kept_write, seen_write, kept_take, seen_take}
 use Rattle.ifmap_pool.proofs.Kept.{place_held}

@@ -1,7 +1,6 @@
-use Rattle.std.proofs.Common.{◌≡◌, ℕ, List, get_or, Some, None, Ok, Err, sym, ap, subst, ◌∙◌}
+use Rattle.std.proofs.Common.{◌≡◌, ℕ, get_or, Some, sym, ap, subst, ◌∙◌}
 use Rattle.std.proofs.lemmas.List.{get_or_default}
-use Rattle.ifmap_pool.specs.Holdings.{Holdings, Names, OneToOne}
-use Rattle.ifmap_pool.specs.Index.{IsPlace}
+use Rattle.ifmap_pool.specs.Holdings.{Holdings, Names}
 use Rattle.ifmap_pool.proofs.Named.{numbers_apart, named_at, absent_at}
 use Rattle.ifmap_pool.proofs.pools.Pool.number_of.Goals as goal
 

@@ -1,9 +1,8 @@
-use Rattle.std.proofs.Common.{◌≡◌, ℕ, ◌+◌, ◌-◌, ◌<◌, Some, refl, sym, ap, subst, arith, vec_len, vec_capacity}
+use Rattle.std.proofs.Common.{◌≡◌, ℕ, ◌-◌, refl, sym, ap, subst, arith, vec_len, vec_capacity}
 use Rattle.std.specs.FinMap.{insert}
-use Rattle.ifmap_pool.specs.Holdings.{Holdings, holds_at}
-use Rattle.ifmap_pool.specs.Index.{live_of}
+use Rattle.ifmap_pool.specs.Holdings.{Holdings}
 use Rattle.ifmap_pool.specs.declared.places.Held.{Held}
-use Rattle.ifmap_pool.proofs.Changes.{Fields, seen, IsKept, apart_now, written, kept_write, seen_write, kept_free, seen_free}
+use Rattle.ifmap_pool.proofs.Changes.{Fields, seen, apart_now, written, kept_write, seen_write, kept_free, seen_free}
 use Rattle.ifmap_pool.proofs.Kept.{IsSome-from}
 use Rattle.ifmap_pool.proofs.Named.{slot_from_live, holds_from_slot, holds_from_none, entry_known, same_entry}
 use Rattle.ifmap_pool.proofs.pools.Pool.release.Goals as goal
