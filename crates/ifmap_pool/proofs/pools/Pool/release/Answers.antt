@@ -14,7 +14,11 @@ index-requires g c =
     IsSome-from _ there.0 there.1
 
 pub drop_hold-requires : goal.drop_hold-requires
-drop_hold-requires g c = (c.index.result.now, c.index.ensures, omega arith)
+drop_hold-requires g c = (
+  c.index.result.now,
+  c.index.ensures,
+  omega (arith, c.self.invariant.0.held c.args.number c.index.result.now c.index.ensures),
+)
 
 pub invariant_of-self : goal.invariant_of-self
 invariant_of-self g c =
