@@ -1,0 +1,80 @@
+-- The map that contracts see, against the slots.
+use Rattle.std.proofs.Common.{◌≡◌, ◌≢◌, ℕ, zero, suc, ◌+◌, ◌<◌, List, [], ◌∷◌, map, get_or, Option, Some, None, true, false, cond, refl, sym, ap, ◌∙◌, inl, inr, arith}
+use Rattle.std.proofs.lemmas.Bool.{cases_eq}
+use Rattle.std.proofs.lemmas.Bool.Decides.{nat_tests}
+use Rattle.std.specs.Prelude.{option_map}
+use Rattle.std.specs.Ordering.{nat_cmp, eq_by_cmp}
+use Rattle.std.specs.Cmp.{nat_cmp_total, unsigned_tied}
+use Rattle.std.specs.FinMap.{find, get, empty, insert, remove, get-from_entries, get-insert, get-remove, same_map, nat_cmp-IsAntisymmetric}
+use Rattle.slab.specs.Slab.{entries_from}
+use Rattle.ifmap_pool.specs.Index.{entry_of, live_of}
+use Rattle.ifmap_pool.specs.declared.places.Held.{Held}
+
+-- two numbers tie where they are one
+tied : (q : ℕ) → eq_by_cmp nat_cmp q q ≡ true
+tied q = unsigned_tied q q ∙ grind (arith, nat_tests)
+
+apart : (q k : ℕ) → q ≢ k → eq_by_cmp nat_cmp q k ≡ false
+apart q k ne = unsigned_tied q k ∙ grind (arith, nat_tests)
+
+module _ {K : Type 0} where
+  abbrev listed : ℕ → List (Option (Held K)) → List (ℕ × (K × ℕ))
+  listed first slots = map (λ e. (e.0, entry_of e.1)) (entries_from first slots)
+
+  -- no entry has a number below the first
+  find_before : (first q : ℕ) (slots : List (Option (Held K))) → q < first → find nat_cmp q (listed first slots) ≡ None
+  find_before first q [] h = refl
+  find_before first q (None ∷ rest) h = find_before (first + 1) q rest (omega arith)
+  find_before first q (Some held ∷ rest) h =
+      ap (λ b. cond b (Some (entry_of held)) (find nat_cmp q (listed (first + 1) rest))) (apart q first (omega arith))
+      ∙ find_before (first + 1) q rest (omega arith)
+
+  find_listed : (first q k : ℕ) (slots : List (Option (Held K))) → q ≡ first + k → find nat_cmp q (listed first slots) ≡ option_map entry_of (get_or slots k None)
+  find_listed first q k [] e = refl
+  find_listed first q zero (None ∷ rest) e = find_before (first + 1) q rest (omega arith)
+  find_listed first q (suc k) (None ∷ rest) e = find_listed (first + 1) q k rest (omega arith)
+  find_listed first q zero (Some held ∷ rest) e =
+      let here : q ≡ first = omega arith in
+      ap (λ b. cond b (Some (entry_of held)) (find nat_cmp q (listed (first + 1) rest))) (ap (eq_by_cmp nat_cmp q) (sym here) ∙ tied q)
+  find_listed first q (suc k) (Some held ∷ rest) e =
+      ap (λ b. cond b (Some (entry_of held)) (find nat_cmp q (listed (first + 1) rest))) (apart q first (omega arith))
+      ∙ find_listed (first + 1) q k rest (omega arith)
+
+  -- the map has at a number what its slot has
+  pub get-live_of : (slots : List (Option (Held K))) (number : ℕ) → get (live_of slots) number ≡ option_map entry_of (get_or slots number None)
+  unfolding live_of
+  get-live_of slots number = get-from_entries nat_cmp_total (listed 0 slots) number ∙ find_listed 0 number number slots (omega arith)
+
+  pub live_of-nil : (slots : List (Option (Held K))) → slots ≡ [] → live_of slots ≡ empty
+  unfolding live_of
+  live_of-nil slots e = ap (λ s. live_of s) e
+
+  -- a slot that is filled or written
+  pub live_of-set : (old new : List (Option (Held K))) (number : ℕ) (held : Held K)
+      → get_or new number None ≡ Some held → ((other : ℕ) → other ≢ number → get_or new other None ≡ get_or old other None)
+      → live_of new ≡ insert (live_of old) number (entry_of held)
+  live_of-set old new number held changed others =
+      same_map nat_cmp_total nat_cmp-IsAntisymmetric _ _ (λ q.
+      get-live_of new q ∙ elim (cases_eq q number) [
+        | inl same ↦ ap (λ n. option_map entry_of (get_or new n None)) same ∙ ap (option_map entry_of) changed
+            ∙ sym (get-insert nat_cmp_total (live_of old) number (entry_of held) q
+            ∙ ap (λ b. cond b (Some (entry_of held)) (get (live_of old) q)) (ap (eq_by_cmp nat_cmp q) (sym same) ∙ tied q))
+        | inr differs ↦ ap (option_map entry_of) (others q differs) ∙ sym (get-live_of old q)
+            ∙ sym (get-insert nat_cmp_total (live_of old) number (entry_of held) q
+            ∙ ap (λ b. cond b (Some (entry_of held)) (get (live_of old) q)) (apart q number differs))
+      ])
+
+  -- a slot that is emptied
+  pub live_of-removed : (old new : List (Option (Held K))) (number : ℕ)
+      → get_or new number None ≡ None → ((other : ℕ) → other ≢ number → get_or new other None ≡ get_or old other None)
+      → live_of new ≡ remove (live_of old) number
+  live_of-removed old new number changed others =
+      same_map nat_cmp_total nat_cmp-IsAntisymmetric _ _ (λ q.
+      get-live_of new q ∙ elim (cases_eq q number) [
+        | inl same ↦ ap (λ n. option_map entry_of (get_or new n None)) same ∙ ap (option_map entry_of) changed
+            ∙ sym (get-remove nat_cmp_total (live_of old) number q
+            ∙ ap (λ b. cond b None (get (live_of old) q)) (ap (eq_by_cmp nat_cmp q) (sym same) ∙ tied q))
+        | inr differs ↦ ap (option_map entry_of) (others q differs) ∙ sym (get-live_of old q)
+            ∙ sym (get-remove nat_cmp_total (live_of old) number q
+            ∙ ap (λ b. cond b None (get (live_of old) q)) (apart q number differs))
+      ])

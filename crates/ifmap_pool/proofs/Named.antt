@@ -1,0 +1,87 @@
+-- What contracts see of a pool, against its slots and its list of numbers.
+use Rattle.std.proofs.Common.{◌≡◌, ℕ, List, get_or, Option, Some, None, Ok, Err, Ordering, refl, sym, ap, ◌∙◌}
+use Rattle.std.proofs.lemmas.Cmp.{tied_back}
+use Rattle.std.proofs.lemmas.Option.{same_Some}
+use Rattle.std.specs.Prelude.{IsSome, option_map, unwrap_or}
+use Rattle.std.specs.Cmp.{IsTotalOrder}
+use Rattle.std.specs.FinMap.{get}
+use Rattle.std.specs.declared.cmp.Ordering.TheVariants.{Equal}
+use Rattle.ifmap_pool.specs.Holdings.{Holdings, entry_at, key_at, holds_at, Names, IsAbsent, OneToOne}
+use Rattle.ifmap_pool.specs.Index.{IsPlace, IsIndexed, entry_of, live_of}
+use Rattle.ifmap_pool.specs.declared.places.Held.{Held}
+use Rattle.ifmap_pool.proofs.Live.{get-live_of}
+use Rattle.ifmap_pool.proofs.Kept.{some_from, one_number, none_missed}
+
+module _ {K : Type 0} where
+  pub same_holdings : (a b : Holdings K) → a.live ≡ b.live → a.spare ≡ b.spare → a ≡ b
+  same_holdings a b p q = λ i. record { live = p i; spare = q i }
+
+  entry_some : (o : Option (Held K)) (entry : K × ℕ) → option_map entry_of o ≡ Some entry → (held : Held K) × (o ≡ Some held) × (entry_of held ≡ entry)
+  entry_some None entry e = absurd (cc)
+  entry_some (Some held) entry e = (held, refl, same_Some _ _ e)
+
+  -- a slot that stays keeps its entry
+  pub same_entry : (old new : List (Option (Held K))) (pool next : Holdings K) → pool.live ≡ live_of old → next.live ≡ live_of new
+      → (number : ℕ) → get_or new number None ≡ get_or old number None → entry_at next number ≡ entry_at pool number
+  same_entry old new pool next is now number e =
+      ap (λ m. get m number) now ∙ get-live_of new number ∙ ap (option_map entry_of) e ∙ sym (get-live_of old number) ∙ sym (ap (λ m. get m number) is)
+
+  module _ (slots : List (Option (Held K))) (pool : Holdings K) (is : pool.live ≡ live_of slots) where
+    pub entry_is : (number : ℕ) → entry_at pool number ≡ option_map entry_of (get_or slots number None)
+    entry_is number = ap (λ m. get m number) is ∙ get-live_of slots number
+
+    pub key_is : (number : ℕ) → key_at pool number ≡ option_map (λ held. held.key) (get_or slots number None)
+    key_is number = ap (option_map (λ entry. entry.0)) (entry_is number) ∙ by_cases (get_or slots number None)
+      where
+        by_cases : (o : Option (Held K)) → option_map (λ entry. entry.0) (option_map entry_of o) ≡ option_map (λ held. held.key) o
+        by_cases None = refl
+        by_cases (Some held) = refl
+
+    pub entry_from_slot : (number : ℕ) (held : Held K) → get_or slots number None ≡ Some held → entry_at pool number ≡ Some (held.key, held.holds)
+    entry_from_slot number held e = entry_is number ∙ ap (option_map entry_of) e
+
+    pub slot_from_entry : (number : ℕ) (entry : K × ℕ) → entry_at pool number ≡ Some entry → (held : Held K) × (get_or slots number None ≡ Some held) × (entry_of held ≡ entry)
+    slot_from_entry number entry e = entry_some _ entry (sym (entry_is number) ∙ e)
+
+    pub holds_from_slot : (number : ℕ) (held : Held K) → get_or slots number None ≡ Some held → holds_at pool number ≡ held.holds
+    holds_from_slot number held e = ap (λ o. unwrap_or (option_map (λ (entry : K × ℕ). entry.1) o) 0) (entry_from_slot number held e)
+
+    pub holds_from_none : (number : ℕ) → get_or slots number None ≡ None → holds_at pool number ≡ 0
+    holds_from_none number e = ap (λ o. unwrap_or (option_map (λ (entry : K × ℕ). entry.1) o) 0) (entry_is number ∙ ap (option_map entry_of) e)
+
+    -- a live number has one entry
+    pub entry_known : (number : ℕ) (held : Held K) (entry : K × ℕ) → get_or slots number None ≡ Some held → entry_at pool number ≡ Some entry → (held.key, held.holds) ≡ entry
+    entry_known number held entry e there = same_Some _ _ (sym (entry_from_slot number held e) ∙ there)
+
+    pub slot_from_live : (number : ℕ) → IsSome (entry_at pool number) → (held : Held K) × (get_or slots number None ≡ Some held)
+    slot_from_live number live =
+        let entry = some_from _ live in
+        let there = slot_from_entry number entry.0 entry.1 in
+        (there.0, there.1)
+
+    module _ (cmp : K → K → Ordering) where
+      pub names_from_slot : (number : ℕ) (held : Held K) (key : K) → get_or slots number None ≡ Some held → cmp held.key key ≡ Equal → Names cmp pool number key
+      names_from_slot number held key e tie = ((held.key, held.holds), entry_from_slot number held e, tie)
+
+      pub slot_from_names : (number : ℕ) (key : K) → Names cmp pool number key → (held : Held K) × (get_or slots number None ≡ Some held) × (cmp held.key key ≡ Equal)
+      slot_from_names number key names =
+          let there = slot_from_entry number names.0 names.1 in
+          (there.0, there.1, ap (λ (entry : K × ℕ). cmp entry.0 key) there.2 ∙ names.2)
+
+    module _ {cmp : K → K → Ordering} (total : IsTotalOrder cmp) (order : List ℕ) (indexed : IsIndexed cmp (λ n. get_or slots n None) order) where
+      pub numbers_apart : OneToOne cmp pool
+      numbers_apart first second key one other =
+          let a = slot_from_names cmp first key one in
+          let b = slot_from_names cmp second key other in
+          one_number total (λ n. get_or slots n None) order indexed first second a.0 b.0 a.1 b.1 (total.congr _ _ b.0.key a.2 ∙ tied_back total _ _ b.2)
+
+      -- what a search tells
+      pub named_at : (key : K) (place : ℕ) → IsPlace cmp (λ n. get_or slots n None) order key (Ok place) → Names cmp pool (get_or order place 0) key
+      named_at key place found =
+          let there = some_from _ (indexed.live place found.0) in
+          names_from_slot cmp _ there.0 key there.1 (found.1 there.0 there.1)
+
+      pub absent_at : (key : K) (place : ℕ) → IsPlace cmp (λ n. get_or slots n None) order key (Err place) → IsAbsent cmp pool key
+      absent_at key place missing number names =
+          let there = slot_from_names cmp number key names in
+          none_missed total (λ n. get_or slots n None) order indexed key place missing number there.0 there.1 there.2

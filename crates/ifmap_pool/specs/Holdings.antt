@@ -1,0 +1,75 @@
+-- What contracts see of a pool: keys under numbers, each with a count of its holds.
+use Rattle.std.specs.Prelude.{◌≡◌, ℕ, ◌+◌, ◌-◌, ◌<◌, Option, Some, None, option_map, unwrap_or, refl}
+use Rattle.std.specs.Ordering.{nat_cmp}
+use Rattle.std.specs.declared.cmp.Ordering.{Ordering}
+use Rattle.std.specs.declared.cmp.Ordering.TheVariants.{Equal}
+use Rattle.std.specs.FinMap.{FinMap, get, insert, remove, code}
+use Rattle.std.specs.Coded.{Coded, code_by, coded×, coded_ℕ}
+
+-- the live numbers, each with its key and the count of its holds, and how many new keys fit with no memory
+pub record Holdings (K : Type 0) : Type 0 where
+  pub live : FinMap nat_cmp (K × ℕ)
+  pub spare : ℕ
+
+-- a pool is stored as the pair of its fields
+abbrev pub holdings_code : {K : Type 0} → Coded K → Coded (Holdings K)
+holdings_code {K} key =
+    code_by
+    (FinMap nat_cmp (K × ℕ) × ℕ)
+    (coded× (code coded_ℕ (coded× key coded_ℕ)) coded_ℕ)
+    (λ pool. (pool.live, pool.spare))
+    (λ pair. record { live = pair.0; spare = pair.1 })
+    (λ _. refl)
+
+module _ {K : Type 0} where
+  -- the key and the count of holds of a number, where it is live
+  abbrev pub entry_at : Holdings K → ℕ → Option (K × ℕ)
+  entry_at pool number = get pool.live number
+
+  -- the key of a number, where it is live
+  abbrev pub key_at : Holdings K → ℕ → Option K
+  key_at pool number = option_map (λ entry. entry.0) (entry_at pool number)
+
+  -- how often a number is held: never, where it is not live
+  abbrev pub holds_at : Holdings K → ℕ → ℕ
+  holds_at pool number = unwrap_or (option_map (λ entry. entry.1) (entry_at pool number)) 0
+
+  -- the number was free, and is the key's, held once; one new key less fits
+  pub record Takes (old new : Holdings K) (number : ℕ) (key : K) : Type 0 where
+    pub free : entry_at old number ≡ None
+    pub live : new.live ≡ insert old.live number (key, 1)
+    pub spare : new.spare + 1 ≡ old.spare
+
+  -- the number keeps its key and is held once more; nothing else changes
+  abbrev pub HoldsAgain : Holdings K → Holdings K → ℕ → Type 0
+  HoldsAgain old new number =
+      (entry : K × ℕ) → entry_at old number ≡ Some entry
+      → new ≡ record old { live = insert old.live number (entry.0, entry.1 + 1) }
+
+  -- the number keeps its key and is held once less; nothing else changes
+  abbrev pub LetsGo : Holdings K → Holdings K → ℕ → Type 0
+  LetsGo old new number =
+      (entry : K × ℕ) → entry_at old number ≡ Some entry → 1 < entry.1
+      → new ≡ record old { live = insert old.live number (entry.0, entry.1 - 1) }
+
+  -- the number is free, and one new key more fits
+  pub record Frees (old new : Holdings K) (number : ℕ) : Type 0 where
+    pub live : new.live ≡ remove old.live number
+    pub spare : new.spare ≡ old.spare + 1
+
+module _ {K : Type 0} (cmp : K → K → Ordering) where
+  -- the number is live, and its key equals this one
+  abbrev pub Names : Holdings K → ℕ → K → Type 0
+  Names pool number key = (entry : K × ℕ) × (entry_at pool number ≡ Some entry) × (cmp entry.0 key ≡ Equal)
+
+  -- some live number has this key
+  abbrev pub IsPresent : Holdings K → K → Type 0
+  IsPresent pool key = (number : ℕ) × Names pool number key
+
+  -- no live number has this key
+  abbrev pub IsAbsent : Holdings K → K → Type 0
+  IsAbsent pool key = (number : ℕ) → ¬ Names pool number key
+
+  -- no two live numbers have one key
+  abbrev pub OneToOne : Holdings K → Type 0
+  OneToOne pool = (first second : ℕ) (key : K) → Names pool first key → Names pool second key → first ≡ second
