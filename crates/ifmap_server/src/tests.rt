@@ -1,18 +1,132 @@
 use crate::*;
 use ifmap_io::{MemorySink, MemorySource};
+use std::alloc::Global;
+use std::process::Abort;
 use std::test::Fail;
 
-const SCRIPT: &str =
+const THREE_FRAMES: &str =
     "@1000000000 c1 00000000000000000000000000000001 174\n<n1:Envelope xmlns:n1=\"http://www.w3.org/2003/05/soap-envelope\" xmlns:n2=\"http://www.trustedcomputinggroup.org/2010/IFMAP/2\"><n1:Body><n2:newSession/></n1:Body></n1:Envelope>@1000000001 c1 00000000000000000000000000000002 226\n<n1:Envelope xmlns:n1=\"http://www.w3.org/2003/05/soap-envelope\" xmlns:n2=\"http://www.trustedcomputinggroup.org/2010/IFMAP/2\"><n1:Body><n2:endSession session-id=\"1-00000000-0000-0000-0000-000000000001\"/></n1:Body></n1:Envelope>@1000000002 c1 00000000000000000000000000000003 226\n<n1:Envelope xmlns:n1=\"http://www.w3.org/2003/05/soap-envelope\" xmlns:n2=\"http://www.trustedcomputinggroup.org/2010/IFMAP/2\"><n1:Body><n2:endSession session-id=\"1-00000000-0000-0000-0000-000000000001\"/></n1:Body></n1:Envelope>";
 
-#[test]
-fn three_frames(rt: HostRuntime) -> Result<(), Fail> {
-    let alloc = rt.alloc();
-    let mut source = MemorySource::new(SCRIPT.as_bytes().to_vec(alloc)?, Vec::new(alloc));
-    let mut sink = MemorySink::new(Vec::new(alloc), Vec::new(alloc));
+const THREE_ANSWERS: &str =
+    "=311\n<n1:Envelope xmlns:n1=\"http://www.w3.org/2003/05/soap-envelope\" xmlns:n2=\"http://www.trustedcomputinggroup.org/2010/IFMAP/2\"><n1:Body><n2:response><newSessionResult ifmap-publisher-id=\"c1\" max-poll-result-size=\"5000000\" session-id=\"1-00000000-0000-0000-0000-000000000001\"/></n2:response></n1:Body></n1:Envelope>=204\n<n1:Envelope xmlns:n1=\"http://www.w3.org/2003/05/soap-envelope\" xmlns:n2=\"http://www.trustedcomputinggroup.org/2010/IFMAP/2\"><n1:Body><n2:response><endSessionResult/></n2:response></n1:Body></n1:Envelope>=284\n<n1:Envelope xmlns:n1=\"http://www.w3.org/2003/05/soap-envelope\" xmlns:n2=\"http://www.trustedcomputinggroup.org/2010/IFMAP/2\"><n1:Body><n2:response><errorResult errorCode=\"InvalidSessionID\"><errorString>InvalidSessionID</errorString></errorResult></n2:response></n1:Body></n1:Envelope>";
+
+// A replay over memory, with the reads and the writes that are to fail: its status, and what is held.
+fn replayed(
+    alloc: Global,
+    script: &str,
+    failing_reads: &[u64],
+    failing_writes: &[u64],
+) -> Result<(u8, Vec<u8>), Fail> {
+    let mut source = MemorySource::new(
+        script.as_bytes().to_vec(alloc)?,
+        failing_reads.to_vec(alloc)?,
+    );
+    let mut sink = MemorySink::new(Vec::new(alloc), failing_writes.to_vec(alloc)?);
     let status = replay(alloc, &mut source, &mut sink);
-    assert_eq!(rt; SCRIPT.len(), 782);
+    Ok((status, sink.held().to_vec(alloc)?))
+}
+
+fn expect_replay(
+    rt: &(impl Abort + AllocGlobal),
+    script: &str,
+    status: u8,
+    written: &str,
+) -> Result<(), Fail> {
+    let (got, held) = replayed(rt.alloc(), script, &[], &[])?;
+    assert_eq!(rt; got, status, "{script}");
+    assert_eq!(rt; held.as_slice(), written.as_bytes(), "{script}");
+    Ok(())
+}
+
+#[test]
+fn three_frames_are_answered(rt: HostRuntime) -> Result<(), Fail> {
+    expect_replay(&rt, THREE_FRAMES, 0, THREE_ANSWERS)
+}
+
+#[test]
+fn scripts_end_where_they_should(rt: HostRuntime) -> Result<(), Fail> {
+    expect_replay(&rt, "", 0, "")?;
+    let cut = THREE_FRAMES.get(..600).ok_or("short")?;
+    let answers = THREE_ANSWERS.get(..525).ok_or("short")?;
+    let told = format!(in rt.alloc(); "{answers}!504\n")?;
+    expect_replay(&rt, cut, 3, told.as_str())
+}
+
+#[test]
+fn headers_are_of_one_form(rt: HostRuntime) -> Result<(), Fail> {
+    let unreadable = [
+        "@0 c 00000000000000000000000000000000 0\n",
+        "@253402300799 azAZ09._-azAZ09._-azAZ09._-azAZ09._-azAZ ffffffffffffffffffffffffffffffff 0\n",
+        "@1 c 0123456789abcdef0123456789abcdef 3\nabc",
+    ];
+    for script in unreadable {
+        expect_replay(&rt, script, 0, "unreadable\n")?;
+    }
+    let faulty = [
+        "\n",
+        "x",
+        "@",
+        "@1 c 00000000000000000000000000000000 0",
+        "@1 c 00000000000000000000000000000000 4\nabc",
+        "@01 c 00000000000000000000000000000000 0\n",
+        "@+1 c 00000000000000000000000000000000 0\n",
+        "@1 c 00000000000000000000000000000000 00\n",
+        "@253402300800 c 00000000000000000000000000000000 0\n",
+        "@1  00000000000000000000000000000000 0\n",
+        "@1 c/d 00000000000000000000000000000000 0\n",
+        "@1 azAZ09._-azAZ09._-azAZ09._-azAZ09._-azAZ0 00000000000000000000000000000000 0\n",
+        "@1 c 0000000000000000000000000000000 0\n",
+        "@1 c 0000000000000000000000000000000G 0\n",
+        "@1 c 0000000000000000000000000000000F 0\n",
+        "@1 c 00000000-0000-0000-0000-000000000000 0\n",
+        "@1 c 00000000000000000000000000000000 10000001\n",
+        "@1 c 00000000000000000000000000000000  0\n",
+        "@1 c 00000000000000000000000000000000 0 \n",
+        "@1 c 00000000000000000000000000000000 0\r\n",
+        "@1\tc 00000000000000000000000000000000 0\n",
+        " @1 c 00000000000000000000000000000000 0\n",
+    ];
+    for script in faulty {
+        expect_replay(&rt, script, 3, "!0\n")?;
+    }
+    Ok(())
+}
+
+#[test]
+fn a_failing_read_or_write_ends_the_replay(rt: HostRuntime) -> Result<(), Fail> {
+    for read in 0..2 {
+        let (status, held) = replayed(rt.alloc(), THREE_FRAMES, &[read], &[])?;
+        assert_eq!(rt; status, 4);
+        assert!(rt; THREE_ANSWERS.as_bytes().starts_with(held.as_slice()));
+    }
+    for write in 0..6 {
+        let (status, held) = replayed(rt.alloc(), THREE_FRAMES, &[], &[write])?;
+        assert_eq!(rt; status, 5);
+        assert!(rt; THREE_ANSWERS.as_bytes().starts_with(held.as_slice()));
+    }
+    let (status, held) = replayed(rt.alloc(), THREE_FRAMES, &[2], &[6])?;
     assert_eq!(rt; status, 0);
-    assert_eq!(rt; sink.held().len(), 814);
+    assert_eq!(rt; held.as_slice(), THREE_ANSWERS.as_bytes());
+    Ok(())
+}
+
+#[test]
+fn words_lead_to_a_replay_or_to_the_usage(rt: HostRuntime) -> Result<(), Fail> {
+    let alloc = rt.alloc();
+    let replay = vec![in alloc; String::from_str(alloc, "replay")?]?;
+    let drill = vec![in alloc;
+        String::from_str(alloc, "drill")?,
+        String::from_str(alloc, "7")?,
+    ]?;
+    let mut source = MemorySource::new(THREE_FRAMES.as_bytes().to_vec(alloc)?, Vec::new(alloc));
+    let mut sink = MemorySink::new(Vec::new(alloc), Vec::new(alloc));
+    assert_eq!(rt; run(alloc, drill.as_slice(), &mut source, &mut sink), 2);
+    assert_eq!(rt;
+        sink.held(),
+        b"usage: mapd replay | drill KEY COUNT | serve ADDRESS WORKERS\n".as_slice()
+    );
+    let mut sink = MemorySink::new(Vec::new(alloc), Vec::new(alloc));
+    assert_eq!(rt; run(alloc, replay.as_slice(), &mut source, &mut sink), 0);
+    assert_eq!(rt; sink.held(), THREE_ANSWERS.as_bytes());
     Ok(())
 }
