@@ -1,6 +1,6 @@
 -- At most one token stands at the front of bytes.
 use Rattle.std.proofs.Common.{◌≡◌, ◌≢◌, ℕ, Bool, true, false, not, ◌||◌, List, [], ◌∷◌, ◌++◌, map, refl, ap, sym, ◌∙◌, subst, arith, append_assoc, ◌⊎◌, inl, inr}
-use Rattle.std.specs.Prelude.{nat_eq, ◌==◌, if◌then◌else◌, codes, Some, Option}
+use Rattle.std.specs.Prelude.{◌==◌, if◌then◌else◌, codes, Some}
 use Rattle.std.specs.Char.{to_ascii_uppercase}
 use Rattle.std.specs.List.{flat_map, list_all}
 use Rattle.std.proofs.lemmas.Bool.{not-true, or_cases, and_parts}
@@ -9,9 +9,9 @@ use Rattle.ifmap_sequences.specs.Items.{To}
 use Rattle.ifmap_elem.specs.Chars.{AllAre, IsSpace, is_space}
 use Rattle.ifmap_elem.specs.Names.{Qualified, IsQualified, name_bytes}
 use Rattle.ifmap_elem.specs.Values.{Part, Byte, Reference, TakesPart, Expands, meaning, referred, IsText, IsValue, line_ends, as_space}
-use Rattle.ifmap_elem.specs.Tokens.{Assignment, Tag, Token, Declaration, Comment, Start, Empty, End, Section, Text, Lacks, TakesQuoted, TakesAssignment, TakesTag, TakesSetting, TakesOptional, TakesDeclaration, TakesBetween, TakesEnd, EndsText, TakesText, TakesToken}
-use Rattle.ifmap_elem.proofs.Cuts.{Stops, all_append, cut, front_stops, is_number, is_other, dash_cut, bracket_cut, one_list}
-use Rattle.ifmap_elem.proofs.NameBytes.{is_name_byte, name_are_bytes, name_is_some, name_cut, no_name_byte, name_is_no_space, space_is_no_name, space_stops_at_name, name_stops_at_space}
+use Rattle.ifmap_elem.specs.Tokens.{Assignment, Tag, Token, Declaration, Comment, Start, Empty, End, Section, Text, TakesQuoted, TakesAssignment, TakesTag, TakesSetting, TakesOptional, TakesDeclaration, TakesEnd, EndsText, TakesText, TakesToken}
+use Rattle.ifmap_elem.proofs.Cuts.{Stops, all_append, cut, is_number, dash_cut, bracket_cut, one_list}
+use Rattle.ifmap_elem.proofs.NameBytes.{is_name_byte, name_are_bytes, name_is_some, name_cut, no_name_byte, space_is_no_name, space_stops_at_name, name_stops_at_space}
 
 -- one part
 
@@ -63,17 +63,17 @@ itself q = let same : (q == q) ≡ true = grind (arith, nat_tests) in rw same re
 pub one_quoted : (bytes v w r s : List ℕ) → TakesQuoted bytes v r → TakesQuoted bytes w s → (v ≡ w) × (r ≡ s)
 one_quoted bytes v w r s l m =
     let first = cut is_space l.before m.before (0x3D ∷ (l.after ++ (l.quote ∷ (v ++ (l.quote ∷ r))))) (0x3D ∷ (m.after ++ (m.quote ∷ (w ++ (m.quote ∷ s)))))
-        l.space_before m.space_before refl refl (sym l.bytes_are ∙ m.bytes_are) in
+    l.space_before m.space_before refl refl (sym l.bytes_are ∙ m.bytes_are) in
     let equals : 0x3D ∷ (l.after ++ (l.quote ∷ (v ++ (l.quote ∷ r)))) ≡ 0x3D ∷ (m.after ++ (m.quote ∷ (w ++ (m.quote ∷ s)))) = first.1 in
     let behind : l.after ++ (l.quote ∷ (v ++ (l.quote ∷ r))) ≡ m.after ++ (m.quote ∷ (w ++ (m.quote ∷ s))) = cc in
     let second = cut is_space l.after m.after (l.quote ∷ (v ++ (l.quote ∷ r))) (m.quote ∷ (w ++ (m.quote ∷ s)))
-        l.space_after m.space_after (quote_is_no_space l.quote l.is_quote) (quote_is_no_space m.quote m.is_quote) behind in
+    l.space_after m.space_after (quote_is_no_space l.quote l.is_quote) (quote_is_no_space m.quote m.is_quote) behind in
     let quoted : l.quote ∷ (v ++ (l.quote ∷ r)) ≡ m.quote ∷ (w ++ (m.quote ∷ s)) = second.1 in
     let quote : l.quote ≡ m.quote = cc in
     let inside : v ++ (l.quote ∷ r) ≡ w ++ (m.quote ∷ s) = cc in
     let p : ℕ → Bool = λ b. not (b == l.quote) in
     let third = cut p v w (l.quote ∷ r) (m.quote ∷ s) l.unquoted (subst (λ (q : ℕ). AllAre (λ b. not (b == q)) w) (sym quote) m.unquoted)
-        (itself l.quote) (subst (λ (q : ℕ). not (q == l.quote) ≡ false) quote (itself l.quote)) inside in
+    (itself l.quote) (subst (λ (q : ℕ). not (q == l.quote) ≡ false) quote (itself l.quote)) inside in
     let rest : l.quote ∷ r ≡ m.quote ∷ s = third.1 in
     (third.0, cc)
 
@@ -84,7 +84,7 @@ quoted_stops bytes v r t = subst (Stops is_name_byte) (sym t.bytes_are) (name_st
 pub one_assignment : (bytes : List ℕ) (a b : Assignment) (r s : List ℕ) → TakesAssignment bytes a r → TakesAssignment bytes b s → (a ≡ b) × (r ≡ s)
 one_assignment bytes a b r s l m =
     let first = cut is_space l.space m.space (name_bytes a.name ++ l.behind) (name_bytes b.name ++ m.behind) l.is_space m.is_space
-        (space_stops_at_name a.name l.behind l.is_name) (space_stops_at_name b.name m.behind m.is_name) (sym l.bytes_are ∙ m.bytes_are) in
+    (space_stops_at_name a.name l.behind l.is_name) (space_stops_at_name b.name m.behind m.is_name) (sym l.bytes_are ∙ m.bytes_are) in
     let second = name_cut a.name b.name l.behind m.behind l.is_name m.is_name (quoted_stops l.behind l.written r l.given) (quoted_stops m.behind m.written s m.given) first.1 in
     let third = one_quoted m.behind l.written m.written r s (subst (λ (x : List ℕ). TakesQuoted x l.written r) second.1 l.given) m.given in
     let value = one_expansion (map as_space (line_ends m.written)) a.value b.value (subst (λ (x : List ℕ). IsValue x a.value) third.0 l.means) m.means in
@@ -135,10 +135,10 @@ one_tag bytes a b end after ends also l m =
     let e : 0x3C ∷ (name_bytes a.name ++ l.behind) ≡ 0x3C ∷ (name_bytes b.name ++ m.behind) = sym l.bytes_are ∙ m.bytes_are in
     let named : name_bytes a.name ++ l.behind ≡ name_bytes b.name ++ m.behind = cc in
     let first = name_cut a.name b.name l.behind m.behind l.is_name m.is_name
-        (assigned_stops l.behind a.assignments l.space end l.is_space ends l.assigned) (assigned_stops m.behind b.assignments m.space after m.is_space also m.assigned) named in
+    (assigned_stops l.behind a.assignments l.space end l.is_space ends l.assigned) (assigned_stops m.behind b.assignments m.space after m.is_space also m.assigned) named in
     let second = one_list TakesAssignment IsTagEnd no_assignment one_assignment m.behind a.assignments b.assignments (l.space ++ end) (m.space ++ after)
-        (l.space, end, refl, l.is_space, ends) (m.space, after, refl, m.is_space, also)
-        (subst (λ (x : List ℕ). To TakesAssignment x a.assignments (l.space ++ end)) first.1 l.assigned) m.assigned in
+    (l.space, end, refl, l.is_space, ends) (m.space, after, refl, m.is_space, also)
+    (subst (λ (x : List ℕ). To TakesAssignment x a.assignments (l.space ++ end)) first.1 l.assigned) m.assigned in
     let third = cut is_space l.space m.space end after l.is_space m.is_space (stops_space end ends) (stops_space after also) second.1 in
     (λ k. record { name = first.0 k; assignments = second.0 k }, third.1)
 
@@ -166,7 +166,7 @@ quote_no_end q h =
       | inr e ↦ subst (λ (n : ℕ). no_end n ≡ true) (sym (is_number q 0x27 e)) refl
     ]
 
-seam : (a b c d : List ℕ) (q : ℕ) → a ++ (0x3D ∷ (b ++ (q ∷ (c ++ (q ∷ d))))) ≡ (a ++ (0x3D ∷ (b ++ (q ∷ (c ++ (q ∷ []))))) ) ++ d
+seam : (a b c d : List ℕ) (q : ℕ) → a ++ (0x3D ∷ (b ++ (q ∷ (c ++ (q ∷ d))))) ≡ (a ++ (0x3D ∷ (b ++ (q ∷ (c ++ (q ∷ [])))))) ++ d
 seam a b c d q = simp append_assoc
 
 quoted_no_end : (bytes v rest : List ℕ) → AllAre no_end v → TakesQuoted bytes v rest → TakesNoEnd bytes rest
@@ -215,9 +215,9 @@ declaration_no_end : (bytes rest : List ℕ) → TakesDeclaration bytes rest →
 declaration_no_end bytes rest t =
     let first : TakesNoEnd bytes t.first = (codes "<?xml", t.bytes_are, each (codes "<?xml") refl) in
     let second = setting_no_end (codes "version") (λ v. v ≡ codes "1.0") (each (codes "version") refl)
-        (λ v e. subst (AllAre no_end) (sym e) (each (codes "1.0") refl)) t.first t.second t.version in
+    (λ v e. subst (AllAre no_end) (sym e) (each (codes "1.0") refl)) t.first t.second t.version in
     let third = optional_no_end (codes "encoding") (λ v. map to_ascii_uppercase v ≡ codes "UTF-8") (each (codes "encoding") refl)
-        (λ v e. raised_no_end v (codes "UTF-8") e (each (codes "UTF-8") refl)) t.second t.third t.encoding in
+    (λ v e. raised_no_end v (codes "UTF-8") e (each (codes "UTF-8") refl)) t.second t.third t.encoding in
     let fourth = optional_no_end (codes "standalone") (λ v. (v ≡ codes "yes") ⊎ (v ≡ codes "no")) (each (codes "standalone") refl) yes_or_no t.third (t.space ++ (codes "?>" ++ rest)) t.standalone in
     let last : TakesNoEnd (t.space ++ (codes "?>" ++ rest)) (0x3E ∷ rest) = (t.space ++ codes "?", sym (append_assoc t.space (codes "?") (0x3E ∷ rest)), all_append no_end t.space (codes "?") (space_no_end t.space t.is_space) (refl, tt)) in
     joined_no_end bytes t.first _ first (joined_no_end t.first t.second _ second (joined_no_end t.second t.third _ third (joined_no_end t.third _ _ fourth last)))
@@ -299,7 +299,7 @@ one_end bytes q u r s l m =
     let e : codes "</" ++ (name_bytes q ++ (l.space ++ (codes ">" ++ r))) ≡ codes "</" ++ (name_bytes u ++ (m.space ++ (codes ">" ++ s))) = sym l.bytes_are ∙ m.bytes_are in
     let inside : name_bytes q ++ (l.space ++ (codes ">" ++ r)) ≡ name_bytes u ++ (m.space ++ (codes ">" ++ s)) = cc in
     let first = name_cut q u (l.space ++ (codes ">" ++ r)) (m.space ++ (codes ">" ++ s)) l.is_name m.is_name
-        (name_stops_at_space l.space (codes ">" ++ r) l.is_space refl) (name_stops_at_space m.space (codes ">" ++ s) m.is_space refl) inside in
+    (name_stops_at_space l.space (codes ">" ++ r) l.is_space refl) (name_stops_at_space m.space (codes ">" ++ s) m.is_space refl) inside in
     let second = cut is_space l.space m.space (codes ">" ++ r) (codes ">" ++ s) l.is_space m.is_space refl refl first.1 in
     let end : codes ">" ++ r ≡ codes ">" ++ s = second.1 in
     (first.0, cc)

@@ -1,5 +1,5 @@
 -- Characters, over the bytes of their UTF-8: XML 1.0 (fifth edition), section 2.2, and white space, section 2.3.
-use Rattle.std.specs.Prelude.{◌≡◌, ℕ, Bool, true, ◌==◌, ◌||◌, List, [], encode_utf8_all}
+use Rattle.std.specs.Prelude.{◌≡◌, ℕ, Bool, true, ◌==◌, ◌||◌, List, encode_utf8_all}
 use Rattle.std.specs.Int.{is_in_range}
 use Rattle.std.specs.List.{AllByRecursion}
 

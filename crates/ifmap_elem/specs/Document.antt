@@ -1,12 +1,11 @@
 -- What a list of tokens is as a document: XML 1.0 (fifth edition), sections 2.1, 2.4, 2.8, 3 and 3.1.
-use Rattle.std.specs.Prelude.{◌≡◌, ℕ, ◌+◌, Bool, true, false, not, ◌==◌, ◌&&◌, if◌then◌else◌, List, [], ◌∷◌, ◌++◌, length, map, filter}
+use Rattle.std.specs.Prelude.{◌≡◌, ℕ, ◌+◌, Bool, true, false, not, ◌==◌, if◌then◌else◌, List, [], ◌∷◌, ◌++◌, length, map, filter}
 use Rattle.std.specs.List.{list_all, list_any}
 use Rattle.ifmap_elem.specs.declared.elements.Child as the
 use Rattle.ifmap_elem.specs.declared.elements.Element.{Element}
 use Rattle.ifmap_elem.specs.declared.readings.Declared.{Declared}
 use Rattle.ifmap_elem.specs.declared.readings.Reading.{Reading}
 use Rattle.ifmap_elem.specs.Chars.{is_space}
-use Rattle.ifmap_elem.specs.Names.{Qualified}
 use Rattle.ifmap_elem.specs.Scopes.{Scope, Binding, root_scope, scope_within, bindings, NamesElement}
 use Rattle.ifmap_elem.specs.Tokens.{Tag, Token, Declaration, Comment, Start, Empty, End, Section, Text}
 

@@ -1,12 +1,12 @@
 -- The tokens of a document, each by the bytes that it takes from the front: XML 1.0 (fifth edition), section 2.4 for text, 2.5 for comments,
 -- 2.7 for character sections, 2.8 for the declaration and 3.1 for tags.
-use Rattle.std.specs.Prelude.{◌≡◌, ◌≢◌, ℕ, Bool, true, false, not, ◌==◌, ◌&&◌, ◌||◌, ◌⊎◌, List, [], ◌∷◌, ◌++◌, map, codes}
+use Rattle.std.specs.Prelude.{◌≡◌, ◌≢◌, ℕ, Bool, true, false, not, ◌==◌, ◌||◌, ◌⊎◌, List, [], ◌∷◌, ◌++◌, map, codes}
 use Rattle.std.specs.Char.{to_ascii_uppercase}
 use Rattle.std.specs.List.{list_all, starts_with}
 use Rattle.ifmap_sequences.specs.Items.{To}
 use Rattle.ifmap_elem.specs.Chars.{AllAre, IsCharacters, IsSpace, is_space}
 use Rattle.ifmap_elem.specs.Names.{Qualified, IsQualified, name_bytes}
-use Rattle.ifmap_elem.specs.Values.{IsText, IsValue, line_ends, begins_with}
+use Rattle.ifmap_elem.specs.Values.{IsText, IsValue, line_ends}
 
 -- what stands in a tag: a name and the value that it is given
 pub record Assignment : Type 0 where

@@ -1,5 +1,5 @@
 -- What written text and written values mean: line ends, white space and references. XML 1.0 (fifth edition), sections 2.11, 3.3.3, 4.1 and 4.6.
-use Rattle.std.specs.Prelude.{◌≡◌, ℕ, Bool, true, false, not, ◌==◌, ◌&&◌, ◌||◌, if◌then◌else◌, List, [], ◌∷◌, ◌++◌, length, drop, map, codes, Option, Some, None, encode_utf8}
+use Rattle.std.specs.Prelude.{◌≡◌, ℕ, Bool, false, not, ◌==◌, ◌&&◌, ◌||◌, if◌then◌else◌, List, [], ◌∷◌, ◌++◌, length, drop, map, codes, Option, Some, None, encode_utf8}
 use Rattle.std.specs.Char.{is_digit}
 use Rattle.std.specs.List.{flat_map, list_all, starts_with}
 use Rattle.std.specs.Str.{bytes_eq}

@@ -5,6 +5,7 @@
 pub mod copying;
 pub mod elements;
 pub mod equality;
+pub mod laws;
 pub mod lists;
 pub mod readings;
 pub mod texts;
