@@ -7,7 +7,8 @@ use Rattle.std.proofs.lemmas.List.{append-nil}
 use Rattle.std.proofs.lemmas.List.Elements.{recursion_from_All, All-from_get_or}
 use Rattle.std.proofs.lemmas.Str.{inside_one, length-encode, len_utf8_bounds}
 use Rattle.ifmap_elem.specs.Chars.{AllAre, IsSpace, is_space}
-use Rattle.ifmap_elem.specs.Names.{is_name_start, is_name_character, IsNamePart, Qualified, IsQualified, name_bytes, prefixed}
+use Rattle.ifmap_elem.specs.declared.tokens.Qualified.{Qualified}
+use Rattle.ifmap_elem.specs.Names.{is_name_start, is_name_character, IsNamePart, IsQualified, name_bytes, prefixed}
 use Rattle.ifmap_elem.proofs.Cuts.{Stops, all_append, all_weaker, cut, front_stops, is_other}
 
 -- a byte that a name part may have

@@ -7,7 +7,11 @@ use Rattle.ifmap_elem.specs.declared.elements.Name.{Name}
 use Rattle.ifmap_elem.specs.declared.elements.Element.{Element}
 use Rattle.ifmap_elem.specs.declared.readings.Declared.{Declared}
 use Rattle.ifmap_elem.specs.declared.readings.Reading.{Reading}
-use Rattle.ifmap_elem.specs.Tokens.{Assignment, Tag, Token, Declaration, Comment, Start, Empty, End, Section, Text, TakesToken}
+use Rattle.ifmap_elem.specs.declared.tokens.Assignment.{Assignment}
+use Rattle.ifmap_elem.specs.declared.tokens.Tag.{Tag}
+use Rattle.ifmap_elem.specs.declared.tokens.Token.{Token}
+use Rattle.ifmap_elem.specs.declared.tokens.Token.TheVariants.{Declaration, Comment, Start, Empty, End, Section, Text}
+use Rattle.ifmap_elem.specs.Tokens.{TakesToken}
 use Rattle.ifmap_elem.specs.Scopes.{Scope, root_scope, scope_within, plain_assignments, IsAttribute, AreAttributes, NamesElement}
 use Rattle.ifmap_elem.specs.Document.{Content, Nothing, Remark, Words, Verbatim, Leaf, Branch, tokens_of, Item, Inner, Run, IsElement, Means, IsRoot, heading, IsDocument}
 use Rattle.ifmap_elem.specs.Spells.{Spells, without_mark}

@@ -7,29 +7,37 @@ use Rattle.std.proofs.lemmas.Bool.{not-true, or_cases, and_parts}
 use Rattle.std.proofs.lemmas.Bool.Decides.{nat_tests}
 use Rattle.ifmap_sequences.specs.Items.{To}
 use Rattle.ifmap_elem.specs.Chars.{AllAre, IsSpace, is_space}
-use Rattle.ifmap_elem.specs.Names.{Qualified, IsQualified, name_bytes}
-use Rattle.ifmap_elem.specs.Values.{Part, Byte, Reference, TakesPart, Expands, meaning, referred, IsText, IsValue, line_ends, as_space}
-use Rattle.ifmap_elem.specs.Tokens.{Assignment, Tag, Token, Declaration, Comment, Start, Empty, End, Section, Text, TakesQuoted, TakesAssignment, TakesTag, TakesSetting, TakesOptional, TakesDeclaration, TakesEnd, EndsText, TakesText, TakesToken}
+use Rattle.ifmap_elem.specs.declared.tokens.Qualified.{Qualified}
+use Rattle.ifmap_elem.specs.Names.{IsQualified, name_bytes}
+use Rattle.ifmap_elem.specs.Values.{Part, Plain, Reference, TakesPart, EndsRun, Expands, referred, IsText, IsValue, text_part, value_part, line_ends}
+use Rattle.ifmap_elem.specs.declared.tokens.Assignment.{Assignment}
+use Rattle.ifmap_elem.specs.declared.tokens.Tag.{Tag}
+use Rattle.ifmap_elem.specs.declared.tokens.Token.{Token}
+use Rattle.ifmap_elem.specs.declared.tokens.Token.TheVariants.{Declaration, Comment, Start, Empty, End, Section, Text}
+use Rattle.ifmap_elem.specs.Tokens.{TakesQuoted, TakesAssignment, TakesTag, TakesSetting, TakesOptional, TakesDeclaration, TakesEnd, EndsText, TakesText, TakesToken}
 use Rattle.ifmap_elem.proofs.Cuts.{Stops, all_append, cut, is_number, dash_cut, bracket_cut, one_list}
 use Rattle.ifmap_elem.proofs.NameBytes.{is_name_byte, name_are_bytes, name_is_some, name_cut, no_name_byte, space_is_no_name, space_stops_at_name, name_stops_at_space}
 
 -- one part
 
-one_part : (bytes : List ℕ) (p q : Part) (r s : List ℕ) → TakesPart bytes p r → TakesPart bytes q s → (p ≡ q) × (r ≡ s)
-one_part bytes (Byte b) (Byte c) r s l m =
-    let e : b ∷ r ≡ c ∷ s = sym l.0 ∙ m.0 in
-    let head : b ≡ c = cc in
-    (ap Byte head, cc)
-one_part bytes (Byte b) (Reference c) r s l m =
-    let e : b ∷ r ≡ 0x26 ∷ (m.0 ++ (0x3B ∷ s)) = sym l.0 ∙ m.1 in
+run_stops : (rest : List ℕ) → EndsRun rest → Stops (λ b. not (b == 0x26)) rest
+run_stops [] e = tt
+run_stops (b ∷ bs) e = subst (λ (n : ℕ). not (n == 0x26) ≡ false) (sym e) refl
+
+-- no run stands where a reference does
+no_run : (run r s : List ℕ) → run ≢ [] → AllAre (λ b. not (b == 0x26)) run → run ++ r ≡ 0x26 ∷ s → ⊥
+no_run [] r s some f e = some refl
+no_run (b ∷ bs) r s some f e =
     let head : b ≡ 0x26 = cc in
-    let wrong : true ≡ false = subst (λ (n : ℕ). (n == 0x26) ≡ false) head l.1 in
+    let wrong : false ≡ true = subst (λ (n : ℕ). not (n == 0x26) ≡ true) head f.0 in
     cc
-one_part bytes (Reference c) (Byte b) r s l m =
-    let e : b ∷ s ≡ 0x26 ∷ (l.0 ++ (0x3B ∷ r)) = sym m.0 ∙ l.1 in
-    let head : b ≡ 0x26 = cc in
-    let wrong : true ≡ false = subst (λ (n : ℕ). (n == 0x26) ≡ false) head m.1 in
-    cc
+
+pub one_part : (bytes : List ℕ) (p q : Part) (r s : List ℕ) → TakesPart bytes p r → TakesPart bytes q s → (p ≡ q) × (r ≡ s)
+one_part bytes (Plain a) (Plain b) r s l m =
+    let both = cut (λ b. not (b == 0x26)) a b r s l.2 m.2 (run_stops r l.3) (run_stops s m.3) (sym l.0 ∙ m.0) in
+    (ap Plain both.0, both.1)
+one_part bytes (Plain a) (Reference c) r s l m = absurd (no_run a r _ l.1 l.2 (sym l.0 ∙ m.1))
+one_part bytes (Reference c) (Plain b) r s l m = absurd (no_run b s _ m.1 m.2 (sym m.0 ∙ l.1))
 one_part bytes (Reference c) (Reference d) r s l m =
     let e : 0x26 ∷ (l.0 ++ (0x3B ∷ r)) ≡ 0x26 ∷ (m.0 ++ (0x3B ∷ s)) = sym l.1 ∙ m.1 in
     let tail : l.0 ++ (0x3B ∷ r) ≡ m.0 ++ (0x3B ∷ s) = cc in
@@ -39,14 +47,18 @@ one_part bytes (Reference c) (Reference d) r s l m =
     let behind : 0x3B ∷ r ≡ 0x3B ∷ s = both.1 in
     (ap Reference same, cc)
 
-no_part : (end : List ℕ) (p : Part) (rest : List ℕ) → end ≡ [] → TakesPart end p rest → ⊥
-no_part end (Byte b) rest none t = let wrong : [] ≡ b ∷ rest = sym none ∙ t.0 in cc
+no_run_of_none : (run rest : List ℕ) → run ≢ [] → [] ≡ run ++ rest → ⊥
+no_run_of_none [] rest some e = some refl
+no_run_of_none (b ∷ bs) rest some e = cc
+
+pub no_part : (end : List ℕ) (p : Part) (rest : List ℕ) → end ≡ [] → TakesPart end p rest → ⊥
+no_part end (Plain run) rest none t = no_run_of_none run rest t.1 (sym none ∙ t.0)
 no_part end (Reference c) rest none t = let wrong : [] ≡ 0x26 ∷ (t.0 ++ (0x3B ∷ rest)) = sym none ∙ t.1 in cc
 
-pub one_expansion : (bytes v w : List ℕ) → Expands bytes v → Expands bytes w → v ≡ w
-one_expansion bytes v w l m =
-    let both = one_list TakesPart (λ (end : List ℕ). end ≡ []) no_part (λ (b : List ℕ) (p q : Part) (r s : List ℕ) i j. one_part b p q r s i j) bytes l.parts m.parts [] [] refl refl l.taken m.taken in
-    l.text_is ∙ ap (flat_map meaning) both.0 ∙ sym m.text_is
+pub one_expansion : (adds : Part → List ℕ) (bytes v w : List ℕ) → Expands adds bytes v → Expands adds bytes w → v ≡ w
+one_expansion adds bytes v w l m =
+    let both = one_list TakesPart (λ (end : List ℕ). end ≡ []) no_part one_part bytes l.parts m.parts [] [] refl refl l.taken m.taken in
+    l.text_is ∙ ap (flat_map adds) both.0 ∙ sym m.text_is
 
 -- one quoted value, and one assignment
 
@@ -87,7 +99,7 @@ one_assignment bytes a b r s l m =
     (space_stops_at_name a.name l.behind l.is_name) (space_stops_at_name b.name m.behind m.is_name) (sym l.bytes_are ∙ m.bytes_are) in
     let second = name_cut a.name b.name l.behind m.behind l.is_name m.is_name (quoted_stops l.behind l.written r l.given) (quoted_stops m.behind m.written s m.given) first.1 in
     let third = one_quoted m.behind l.written m.written r s (subst (λ (x : List ℕ). TakesQuoted x l.written r) second.1 l.given) m.given in
-    let value = one_expansion (map as_space (line_ends m.written)) a.value b.value (subst (λ (x : List ℕ). IsValue x a.value) third.0 l.means) m.means in
+    let value = one_expansion value_part m.written a.value b.value (subst (λ (x : List ℕ). IsValue x a.value) third.0 l.means) m.means in
     (λ k. record { name = second.0 k; value = value k }, third.1)
 
 -- how a tag ends: with a byte that is neither white space nor a name's
@@ -312,7 +324,7 @@ one_text : (bytes : List ℕ) (a b : Bool) (t u r s : List ℕ) → TakesText by
 one_text bytes a b t u r s l m =
     let both = cut (λ b. not (b == 0x3C)) l.own m.own r s l.no_tag m.no_tag (text_stops r l.ends) (text_stops s m.ends) (sym l.bytes_are ∙ m.bytes_are) in
     let blank : a ≡ b = l.blank_is ∙ ap (list_all is_space) both.0 ∙ sym m.blank_is in
-    let text : t ≡ u = one_expansion (line_ends m.own) t u (subst (λ (x : List ℕ). IsText x t) both.0 l.means) m.means in
+    let text : t ≡ u = one_expansion text_part m.own t u (subst (λ (x : List ℕ). IsText x t) both.0 l.means) m.means in
     (cc, both.1)
 
 other_kinds : (bytes : List ℕ) (t u : Token) (r s : List ℕ) → TakesToken bytes t r → TakesToken bytes u s → kind_of t ≡ kind_of u

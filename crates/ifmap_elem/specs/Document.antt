@@ -7,7 +7,9 @@ use Rattle.ifmap_elem.specs.declared.readings.Declared.{Declared}
 use Rattle.ifmap_elem.specs.declared.readings.Reading.{Reading}
 use Rattle.ifmap_elem.specs.Chars.{is_space}
 use Rattle.ifmap_elem.specs.Scopes.{Scope, Binding, root_scope, scope_within, bindings, NamesElement}
-use Rattle.ifmap_elem.specs.Tokens.{Tag, Token, Declaration, Comment, Start, Empty, End, Section, Text}
+use Rattle.ifmap_elem.specs.declared.tokens.Tag.{Tag}
+use Rattle.ifmap_elem.specs.declared.tokens.Token.{Token}
+use Rattle.ifmap_elem.specs.declared.tokens.Token.TheVariants.{Declaration, Comment, Start, Empty, End, Section, Text}
 
 -- what stands between two tags, from its first piece on: each constructor is a piece, and then what comes after it
 pub data Content : Type 0 where

@@ -1,6 +1,7 @@
 -- Names: XML 1.0 (fifth edition), section 2.3, without the colon, and Namespaces in XML 1.0, sections 3 and 4.
 use Rattle.std.specs.Prelude.{◌≡◌, ℕ, Bool, true, ◌==◌, ◌||◌, ◌⊎◌, List, [], ◌∷◌, ◌++◌, encode_utf8_all}
 use Rattle.std.specs.Int.{is_in_range}
+use Rattle.ifmap_elem.specs.declared.tokens.Qualified.{Qualified}
 use Rattle.ifmap_elem.specs.Chars.{AllAre}
 
 -- a character that may begin a name part
@@ -23,12 +24,7 @@ pub record IsNamePart (bytes : List ℕ) : Type 0 where
   pub begins : is_name_start first ≡ true
   pub goes_on : AllAre is_name_character others
 
--- a qualified name as it is written; without a prefix, the prefix is empty
-pub record Qualified : Type 0 where
-  pub prefix : List ℕ
-  pub local : List ℕ
-
--- its bytes: the prefix and a colon, where there is a prefix, and the local part
+-- the bytes of a qualified name: the prefix and a colon, where there is a prefix, and the local part
 abbrev pub prefixed : List ℕ → List ℕ → List ℕ
 prefixed [] local = local
 prefixed (b ∷ bs) local = (b ∷ bs) ++ (0x3A ∷ local)

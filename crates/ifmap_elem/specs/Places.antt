@@ -4,7 +4,9 @@ use Rattle.ifmap_sequences.specs.Items.{To}
 use Rattle.ifmap_elem.specs.declared.readings.Reading.{Reading}
 use Rattle.ifmap_elem.specs.Document.{IsDocument}
 use Rattle.ifmap_elem.specs.Spells.{without_mark}
-use Rattle.ifmap_elem.specs.Tokens.{Token, Declaration, Comment, Start, Empty, End, Section, Text, TakesToken}
+use Rattle.ifmap_elem.specs.declared.tokens.Token.{Token}
+use Rattle.ifmap_elem.specs.declared.tokens.Token.TheVariants.{Declaration, Comment, Start, Empty, End, Section, Text}
+use Rattle.ifmap_elem.specs.Tokens.{TakesToken}
 
 -- some document begins with these tokens
 pub record BeginsDocument (ts : List Token) : Type 0 where

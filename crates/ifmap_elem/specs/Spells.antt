@@ -4,7 +4,8 @@ use Rattle.std.specs.List.{starts_with}
 use Rattle.ifmap_sequences.specs.Items.{To}
 use Rattle.ifmap_elem.specs.declared.readings.Reading.{Reading}
 use Rattle.ifmap_elem.specs.Document.{IsDocument}
-use Rattle.ifmap_elem.specs.Tokens.{Token, TakesToken}
+use Rattle.ifmap_elem.specs.declared.tokens.Token.{Token}
+use Rattle.ifmap_elem.specs.Tokens.{TakesToken}
 
 -- the byte order mark in UTF-8 (XML 1.0, section 4.3.3)
 abbrev pub byte_order_mark : List ℕ

@@ -5,28 +5,13 @@ use Rattle.std.specs.Char.{to_ascii_uppercase}
 use Rattle.std.specs.List.{list_all, starts_with}
 use Rattle.ifmap_sequences.specs.Items.{To}
 use Rattle.ifmap_elem.specs.Chars.{AllAre, IsCharacters, IsSpace, is_space}
-use Rattle.ifmap_elem.specs.Names.{Qualified, IsQualified, name_bytes}
+use Rattle.ifmap_elem.specs.declared.tokens.Assignment.{Assignment}
+use Rattle.ifmap_elem.specs.declared.tokens.Qualified.{Qualified}
+use Rattle.ifmap_elem.specs.declared.tokens.Tag.{Tag}
+use Rattle.ifmap_elem.specs.declared.tokens.Token.{Token}
+use Rattle.ifmap_elem.specs.declared.tokens.Token.TheVariants.{Declaration, Comment, Start, Empty, End, Section, Text}
+use Rattle.ifmap_elem.specs.Names.{IsQualified, name_bytes}
 use Rattle.ifmap_elem.specs.Values.{IsText, IsValue, line_ends}
-
--- what stands in a tag: a name and the value that it is given
-pub record Assignment : Type 0 where
-  pub name : Qualified
-  pub value : List ℕ
-
--- a start tag or an empty tag
-pub record Tag : Type 0 where
-  pub name : Qualified
-  pub assignments : List Assignment
-
--- a token by what it means; a text is told by whether its own bytes are white space alone, and by what it means
-pub data Token : Type 0 where
-  Declaration : Token
-  Comment : Token
-  Start : Tag → Token
-  Empty : Tag → Token
-  End : Qualified → Token
-  Section : List ℕ → Token
-  Text : Bool → List ℕ → Token
 
 -- the word begins at no place in the bytes
 abbrev pub Lacks : List ℕ → List ℕ → Type 0

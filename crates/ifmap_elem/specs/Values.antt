@@ -1,5 +1,5 @@
 -- What written text and written values mean: line ends, white space and references. XML 1.0 (fifth edition), sections 2.11, 3.3.3, 4.1 and 4.6.
-use Rattle.std.specs.Prelude.{◌≡◌, ℕ, Bool, false, not, ◌==◌, ◌&&◌, ◌||◌, if◌then◌else◌, List, [], ◌∷◌, ◌++◌, length, drop, map, codes, Option, Some, None, encode_utf8}
+use Rattle.std.specs.Prelude.{◌≡◌, ◌≢◌, ℕ, Bool, false, not, ◌==◌, ◌&&◌, ◌||◌, if◌then◌else◌, List, [], ◌∷◌, ◌++◌, length, drop, map, codes, Option, Some, None, encode_utf8}
 use Rattle.std.specs.Char.{is_digit}
 use Rattle.std.specs.List.{flat_map, list_all, starts_with}
 use Rattle.std.specs.Str.{bytes_eq}
@@ -38,31 +38,41 @@ referred name =
     else (if starts_with ◌==◌ name (codes "#") then numbered 10 (drop 1 name)
     else None))))))
 
--- a byte as it is, or a reference to a character
+-- a run of bytes that are as they are, or a reference to a character
 pub data Part : Type 0 where
-  Byte : ℕ → Part
+  Plain : List ℕ → Part
   Reference : ℕ → Part
 
--- what a part adds to the text
-abbrev pub meaning : Part → List ℕ
-meaning (Byte b) = b ∷ []
-meaning (Reference c) = encode_utf8 c
+-- a run goes on up to the next reference or the end
+abbrev pub EndsRun : List ℕ → Type 0
+EndsRun [] = Unit {0}
+EndsRun (b ∷ bs) = b ≡ 0x26
 
--- a part stands at the front: a byte that is no `&`, or `&`, what names a character, and `;`
+-- a part stands at the front: a run without `&`, or `&`, what names a character, and `;`
 abbrev pub TakesPart : List ℕ → Part → List ℕ → Type 0
-TakesPart bytes (Byte b) rest = (bytes ≡ b ∷ rest) × ((b == 0x26) ≡ false)
+TakesPart bytes (Plain run) rest = (bytes ≡ run ++ rest) × (run ≢ []) × AllAre (λ b. not (b == 0x26)) run × EndsRun rest
 TakesPart bytes (Reference c) rest = (name : List ℕ) × (bytes ≡ 0x26 ∷ (name ++ (0x3B ∷ rest))) × AllAre (λ b. not (b == 0x3B)) name × (referred name ≡ Some c)
 
--- the bytes, with each reference replaced by its character, are the text
-pub record Expands (bytes text : List ℕ) : Type 0 where
+-- what a part adds to a text: a run with its line ends as A, or the character
+abbrev pub text_part : Part → List ℕ
+text_part (Plain run) = line_ends run
+text_part (Reference c) = encode_utf8 c
+
+-- what a part adds to an attribute's value: a run with its white space as spaces, or the character
+abbrev pub value_part : Part → List ℕ
+value_part (Plain run) = map as_space (line_ends run)
+value_part (Reference c) = encode_utf8 c
+
+-- the written bytes are parts, and what these add makes the text
+pub record Expands (adds : Part → List ℕ) (written text : List ℕ) : Type 0 where
   pub parts : List Part
-  pub taken : To TakesPart bytes parts []
-  pub text_is : text ≡ flat_map meaning parts
+  pub taken : To TakesPart written parts []
+  pub text_is : text ≡ flat_map adds parts
 
 -- written text means this text
 abbrev pub IsText : List ℕ → List ℕ → Type 0
-IsText written text = Expands (line_ends written) text
+IsText written text = Expands text_part written text
 
 -- a written attribute value means this value
 abbrev pub IsValue : List ℕ → List ℕ → Type 0
-IsValue written value = Expands (map as_space (line_ends written)) value
+IsValue written value = Expands value_part written value

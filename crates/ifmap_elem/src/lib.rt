@@ -9,6 +9,7 @@ pub mod laws;
 pub mod lists;
 pub mod readings;
 pub mod texts;
+mod tokens;
 
 pub use copying::Copied;
 pub use elements::{Attribute, Child, Element, Name};
