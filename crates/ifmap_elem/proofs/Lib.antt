@@ -1,0 +1,4 @@
+pub mod Cuts
+pub mod NameBytes
+pub mod OneReading
+pub mod OneToken

@@ -5,11 +5,15 @@
 pub mod copying;
 pub mod elements;
 pub mod equality;
+pub mod laws;
 pub mod lists;
+pub mod readings;
 pub mod texts;
+mod tokens;
 
 pub use copying::Copied;
 pub use elements::{Attribute, Child, Element, Name};
 pub use equality::Equals;
 pub use lists::Many;
+pub use readings::{Declared, Reading};
 pub use texts::Text;

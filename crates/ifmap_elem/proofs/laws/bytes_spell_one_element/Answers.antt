@@ -1,0 +1,5 @@
+use Rattle.ifmap_elem.proofs.OneReading.{one_reading}
+use Rattle.ifmap_elem.proofs.laws.bytes_spell_one_element.Goals as goal
+
+pub returns : goal.returns
+returns c = one_reading

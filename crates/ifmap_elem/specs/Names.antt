@@ -1,0 +1,38 @@
+-- Names: XML 1.0 (fifth edition), section 2.3, without the colon, and Namespaces in XML 1.0, sections 3 and 4.
+use Rattle.std.specs.Prelude.{◌≡◌, ℕ, Bool, true, ◌==◌, ◌||◌, ◌⊎◌, List, [], ◌∷◌, ◌++◌, encode_utf8_all}
+use Rattle.std.specs.Int.{is_in_range}
+use Rattle.ifmap_elem.specs.declared.tokens.Qualified.{Qualified}
+use Rattle.ifmap_elem.specs.Chars.{AllAre}
+
+-- a character that may begin a name part
+abbrev pub is_name_start : ℕ → Bool
+is_name_start c =
+    is_in_range 0x41 0x5A c || c == 0x5F || is_in_range 0x61 0x7A c || is_in_range 0xC0 0xD6 c || is_in_range 0xD8 0xF6 c || is_in_range 0xF8 0x2FF c
+    || is_in_range 0x370 0x37D c || is_in_range 0x37F 0x1FFF c || is_in_range 0x200C 0x200D c || is_in_range 0x2070 0x218F c || is_in_range 0x2C00 0x2FEF c
+    || is_in_range 0x3001 0xD7FF c || is_in_range 0xF900 0xFDCF c || is_in_range 0xFDF0 0xFFFD c || is_in_range 0x1_0000 0xE_FFFF c
+
+-- a character that may stand in a name part: one that may begin it, `-`, `.`, a digit, or one of the further characters
+abbrev pub is_name_character : ℕ → Bool
+is_name_character c =
+    is_name_start c || c == 0x2D || c == 0x2E || is_in_range 0x30 0x39 c || c == 0xB7 || is_in_range 0x300 0x36F c || is_in_range 0x203F 0x2040 c
+
+-- the bytes are a name part: a name without a colon
+pub record IsNamePart (bytes : List ℕ) : Type 0 where
+  pub first : ℕ
+  pub others : List ℕ
+  pub bytes_are : encode_utf8_all (first ∷ others) ≡ bytes
+  pub begins : is_name_start first ≡ true
+  pub goes_on : AllAre is_name_character others
+
+-- the bytes of a qualified name: the prefix and a colon, where there is a prefix, and the local part
+abbrev pub prefixed : List ℕ → List ℕ → List ℕ
+prefixed [] local = local
+prefixed (b ∷ bs) local = (b ∷ bs) ++ (0x3A ∷ local)
+
+abbrev pub name_bytes : Qualified → List ℕ
+name_bytes q = prefixed q.prefix q.local
+
+-- its parts are name parts
+pub record IsQualified (q : Qualified) : Type 0 where
+  pub prefix_is : (q.prefix ≡ []) ⊎ IsNamePart q.prefix
+  pub local_is : IsNamePart q.local

@@ -1,0 +1,78 @@
+-- What written text and written values mean: line ends, white space and references. XML 1.0 (fifth edition), sections 2.11, 3.3.3, 4.1 and 4.6.
+use Rattle.std.specs.Prelude.{◌≡◌, ◌≢◌, ℕ, Bool, false, not, ◌==◌, ◌&&◌, ◌||◌, if◌then◌else◌, List, [], ◌∷◌, ◌++◌, length, drop, map, codes, Option, Some, None, encode_utf8}
+use Rattle.std.specs.Char.{is_digit}
+use Rattle.std.specs.List.{flat_map, list_all, starts_with}
+use Rattle.std.specs.Str.{bytes_eq}
+use Rattle.std.specs.Str.Parse.{digits_value}
+use Rattle.ifmap_sequences.specs.Items.{To}
+use Rattle.ifmap_elem.specs.Chars.{AllAre, is_character}
+
+-- whether the bytes begin with this one
+abbrev pub begins_with : ℕ → List ℕ → Bool
+begins_with b [] = false
+begins_with b (c ∷ cs) = c == b
+
+-- the line ends as one A each: a D before an A goes, and any other D is an A
+abbrev pub line_ends : List ℕ → List ℕ
+line_ends [] = []
+line_ends (b ∷ bs) = if b == 0xD then (if begins_with 0xA bs then line_ends bs else 0xA ∷ line_ends bs) else b ∷ line_ends bs
+
+-- white space within a written attribute value is a space
+abbrev pub as_space : ℕ → ℕ
+as_space b = if b == 0x9 || b == 0xA then 0x20 else b
+
+-- the character with that number, where these digits are some and the number is a character's
+abbrev pub numbered : ℕ → List ℕ → Option ℕ
+numbered base digits =
+    if not (length digits == 0) && list_all (λ d. is_digit d base) digits && is_character (digits_value base digits) then Some (digits_value base digits) else None
+
+-- the character that a reference stands for, by what is between its `&` and its `;`
+abbrev pub referred : List ℕ → Option ℕ
+referred name =
+    if bytes_eq name (codes "amp") then Some 0x26
+    else (if bytes_eq name (codes "lt") then Some 0x3C
+    else (if bytes_eq name (codes "gt") then Some 0x3E
+    else (if bytes_eq name (codes "quot") then Some 0x22
+    else (if bytes_eq name (codes "apos") then Some 0x27
+    else (if starts_with ◌==◌ name (codes "#x") then numbered 16 (drop 2 name)
+    else (if starts_with ◌==◌ name (codes "#") then numbered 10 (drop 1 name)
+    else None))))))
+
+-- a run of bytes that are as they are, or a reference to a character
+pub data Part : Type 0 where
+  Plain : List ℕ → Part
+  Reference : ℕ → Part
+
+-- a run goes on up to the next reference or the end
+abbrev pub EndsRun : List ℕ → Type 0
+EndsRun [] = Unit {0}
+EndsRun (b ∷ bs) = b ≡ 0x26
+
+-- a part stands at the front: a run without `&`, or `&`, what names a character, and `;`
+abbrev pub TakesPart : List ℕ → Part → List ℕ → Type 0
+TakesPart bytes (Plain run) rest = (bytes ≡ run ++ rest) × (run ≢ []) × AllAre (λ b. not (b == 0x26)) run × EndsRun rest
+TakesPart bytes (Reference c) rest = (name : List ℕ) × (bytes ≡ 0x26 ∷ (name ++ (0x3B ∷ rest))) × AllAre (λ b. not (b == 0x3B)) name × (referred name ≡ Some c)
+
+-- what a part adds to a text: a run with its line ends as A, or the character
+abbrev pub text_part : Part → List ℕ
+text_part (Plain run) = line_ends run
+text_part (Reference c) = encode_utf8 c
+
+-- what a part adds to an attribute's value: a run with its white space as spaces, or the character
+abbrev pub value_part : Part → List ℕ
+value_part (Plain run) = map as_space (line_ends run)
+value_part (Reference c) = encode_utf8 c
+
+-- the written bytes are parts, and what these add makes the text
+pub record Expands (adds : Part → List ℕ) (written text : List ℕ) : Type 0 where
+  pub parts : List Part
+  pub taken : To TakesPart written parts []
+  pub text_is : text ≡ flat_map adds parts
+
+-- written text means this text
+abbrev pub IsText : List ℕ → List ℕ → Type 0
+IsText written text = Expands text_part written text
+
+-- a written attribute value means this value
+abbrev pub IsValue : List ℕ → List ℕ → Type 0
+IsValue written value = Expands value_part written value
