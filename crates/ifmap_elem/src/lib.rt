@@ -2,12 +2,14 @@
 //! `Text` and `Many` are the text and the list of every public type of the crates above.
 #![tactic(auto)]
 
+pub mod comparing;
 pub mod copying;
 pub mod elements;
 pub mod equality;
 pub mod lists;
 pub mod texts;
 
+pub use comparing::same;
 pub use copying::Copied;
 pub use elements::{Attribute, Child, Element, Name};
 pub use equality::Equals;

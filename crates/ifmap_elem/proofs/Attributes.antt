@@ -1,0 +1,117 @@
+-- The order of attributes, and how often they occur.
+use Rattle.std.proofs.Common.{◌≡◌, ℕ, ◌+◌, ◌≤◌, ◌<◌, suc, List, [], ◌∷◌, length, Bool, true, false, refl, ap, sym, ◌∙◌, subst, arith, get_or, map, inl, inr, ◌⊎◌, cond}
+use Rattle.std.proofs.lemmas.List.Sums.{sum_by-cons}
+use Rattle.std.specs.List.{All}
+use Rattle.std.proofs.lemmas.Bool.{cases_Bool, and_parts}
+use Rattle.std.proofs.lemmas.Cmp.{nat_list_cmp_total, then_total, on_total, upto}
+use Rattle.std.proofs.lemmas.Slice.Eq.{bytes_eq-Decides}
+use Rattle.std.specs.Cmp.{IsTotalOrder}
+use Rattle.std.specs.Cmp.Lexicographic.{slice_cmp, texts_ties}
+use Rattle.std.specs.Str.{bytes_eq}
+use Rattle.std.specs.Ordering.{is_gt, is_lt, is_eq, ordering_then, ordering_reverse, nat_cmp}
+use Rattle.std.specs.declared.cmp.Ordering.{Ordering}
+use Rattle.std.specs.declared.cmp.Ordering.TheVariants.{Less, Equal, Greater}
+use Rattle.ifmap_elem.specs.declared.elements.Attribute.{Attribute}
+use Rattle.ifmap_elem.specs.Arranged.{attribute_order, name_order, sorted}
+use Rattle.ifmap_elem.specs.Occurrences.{attribute_eq, occurrences_of}
+use Rattle.ifmap_elem.proofs.Orders.{Ranks, in_order_same, length-in_order, count-in_order}
+
+texts_total : IsTotalOrder (slice_cmp nat_cmp)
+texts_total = nat_list_cmp_total
+
+pub attributes_total : IsTotalOrder attribute_order
+attributes_total =
+    then_total (then_total (on_total (λ (a : Attribute). a.name.space) texts_total) (on_total (λ (a : Attribute). a.name.local) texts_total)) (on_total (λ (a : Attribute). a.value) texts_total)
+
+pub same_texts : (xs ys : List ℕ) → slice_cmp nat_cmp xs ys ≡ Equal → xs ≡ ys
+same_texts xs ys e = (bytes_eq-Decides xs ys).0 (texts_ties xs ys ∙ ap is_eq e)
+
+both_equal : (o p : Ordering) → ordering_then o p ≡ Equal → (o ≡ Equal) × (p ≡ Equal)
+both_equal Less p e = cc
+both_equal Equal p e = (refl, e)
+both_equal Greater p e = cc
+
+pub attributes_tied : (a b : Attribute) → attribute_order a b ≡ Equal → a ≡ b
+attributes_tied a b e =
+    let v = both_equal (name_order a.name b.name) (slice_cmp nat_cmp a.value b.value) e in
+    let n = both_equal (slice_cmp nat_cmp a.name.space b.name.space) (slice_cmp nat_cmp a.name.local b.name.local) v.0 in
+    let s = same_texts a.name.space b.name.space n.0 in
+    let l = same_texts a.name.local b.name.local n.1 in
+    let w = same_texts a.value b.value v.1 in
+    λ i. record { name = record { space = s i; local = l i }; value = w i }
+
+module _ {X : Type 0} (R : X → X → Ordering) (o : IsTotalOrder R) (tied : (x y : X) → R x y ≡ Equal → x ≡ y) where
+  neither : (p q : Ordering) → p ≡ ordering_reverse q → is_gt p ≡ false → is_gt q ≡ false → p ≡ Equal
+  neither Less Less e g h = cc
+  neither Less Equal e g h = cc
+  neither Less Greater e g h = cc
+  neither Equal q e g h = refl
+  neither Greater q e g h = cc
+
+  other_way : (p q : Ordering) → p ≡ ordering_reverse q → is_gt p ≡ true → is_gt q ≡ false
+  other_way Less q e g = cc
+  other_way Equal q e g = cc
+  other_way Greater Less e g = refl
+  other_way Greater Equal e g = cc
+  other_way Greater Greater e g = cc
+
+  pub ranks : Ranks (λ x y. is_gt (R x y))
+  ranks = record {
+    tied = λ x y e f. tied x y (neither (R x y) (R y x) (o.antisymm x y) e f);
+    chain = upto o;
+    one_way = λ x y e. other_way (R x y) (R y x) (o.antisymm x y) e;
+  }
+
+pub attribute_ranks : Ranks (λ a b. is_gt (attribute_order a b))
+attribute_ranks = ranks attribute_order attributes_total attributes_tied
+
+pub eq_itself : (a : Attribute) → attribute_eq a a ≡ true
+eq_itself a =
+    let s : bytes_eq a.name.space a.name.space ≡ true = (bytes_eq-Decides a.name.space a.name.space).1 refl in
+    let l : bytes_eq a.name.local a.name.local ≡ true = (bytes_eq-Decides a.name.local a.name.local).1 refl in
+    let v : bytes_eq a.value a.value ≡ true = (bytes_eq-Decides a.value a.value).1 refl in
+    rw (s, l, v) refl
+
+pub eq_tells : (a b : Attribute) → attribute_eq a b ≡ true → a ≡ b
+eq_tells a b e =
+    let p = and_parts _ _ e in
+    let q = and_parts _ _ p.0 in
+    let s = (bytes_eq-Decides a.name.space b.name.space).0 q.0 in
+    let l = (bytes_eq-Decides a.name.local b.name.local).0 q.1 in
+    let w = (bytes_eq-Decides a.value b.value).0 p.1 in
+    λ i. record { name = record { space = s i; local = l i }; value = w i }
+
+pub length-sorted : (xs : List Attribute) → length (sorted xs) ≡ length xs
+length-sorted xs = length-in_order attribute_order attribute_ranks xs
+
+pub occurrences-sorted : (a : Attribute) (xs : List Attribute) → occurrences_of a (sorted xs) ≡ occurrences_of a xs
+occurrences-sorted a xs = count-in_order attribute_order attribute_ranks attribute_eq eq_itself eq_tells a xs
+
+-- different lengths, or numbers of occurrences, show that two lists are not the same in order
+pub not_same_lengths : (xs ys : List Attribute) → (length xs ≡ length ys → ⊥) → sorted xs ≡ sorted ys → ⊥
+not_same_lengths xs ys other same = other (sym (length-sorted xs) ∙ ap length same ∙ length-sorted ys)
+
+pub not_same_numbers : (a : Attribute) (xs ys : List Attribute) → (occurrences_of a xs ≡ occurrences_of a ys → ⊥) → sorted xs ≡ sorted ys → ⊥
+not_same_numbers a xs ys other same = other (sym (occurrences-sorted a xs) ∙ ap (occurrences_of a) same ∙ occurrences-sorted a ys)
+
+-- an attribute stands nowhere in a list, or at some place
+nowhere_or_at : (a : Attribute) (xs : List Attribute) → (occurrences_of a xs ≡ 0) ⊎ ((k : ℕ) × (k < length xs) × ((d : Attribute) → get_or xs k d ≡ a))
+nowhere_or_at a [] = inl refl
+nowhere_or_at a (x ∷ xs) = elim (cases_Bool (attribute_eq x a)) [
+    inl e ↦ inr (0, omega arith, λ d. eq_tells x a e)
+  | inr e ↦
+      let none : cond {A = ℕ} (attribute_eq x a) 1 0 ≡ 0 = rw e refl in
+      elim (nowhere_or_at a xs) [
+          inl n ↦ inl (omega (arith, sum_by-cons (λ y. cond (attribute_eq y a) 1 0) x xs))
+        | inr p ↦ inr (suc p.0, omega arith, p.2) ] ]
+
+-- lists of one length where each member of the first occurs as often in the second
+pub same_members : (xs ys : List Attribute) → length xs ≡ length ys → All (λ a. occurrences_of a xs ≡ occurrences_of a ys) xs → sorted xs ≡ sorted ys
+same_members xs ys long often = in_order_same attribute_order attribute_ranks attribute_eq eq_itself eq_tells xs ys long (λ a. fewer a)
+  where
+    fewer : (a : Attribute) → occurrences_of a xs ≤ occurrences_of a ys
+    fewer a = elim (nowhere_or_at a xs) [
+        inl n ↦ omega arith
+      | inr p ↦
+          let h : occurrences_of a xs ≡ occurrences_of a ys = subst (λ b. occurrences_of b xs ≡ occurrences_of b ys) (p.2 a) (often p.0 a p.1) in
+          omega arith ]
