@@ -1,5 +1,5 @@
 -- The order of attributes, and how often they occur.
-use Rattle.std.proofs.Common.{◌≡◌, ℕ, ◌+◌, ◌≤◌, ◌<◌, suc, List, [], ◌∷◌, length, Bool, true, false, refl, ap, sym, ◌∙◌, subst, arith, get_or, map, inl, inr, ◌⊎◌, cond}
+use Rattle.std.proofs.Common.{◌≡◌, ℕ, ◌+◌, ◌≤◌, ◌<◌, suc, List, [], ◌∷◌, length, Bool, true, false, refl, ap, sym, ◌∙◌, subst, arith, get_or, map, inl, inr, ◌⊎◌, cond, add-one, Bor}
 use Rattle.std.proofs.lemmas.List.Sums.{sum_by-cons}
 use Rattle.std.specs.List.{All}
 use Rattle.std.proofs.lemmas.Bool.{cases_Bool, and_parts}
@@ -14,7 +14,10 @@ use Rattle.std.specs.declared.cmp.Ordering.TheVariants.{Less, Equal, Greater}
 use Rattle.ifmap_elem.specs.declared.elements.Attribute.{Attribute}
 use Rattle.ifmap_elem.specs.Arranged.{attribute_order, name_order, sorted}
 use Rattle.ifmap_elem.specs.Occurrences.{attribute_eq, occurrences_of}
-use Rattle.ifmap_elem.proofs.Orders.{Ranks, in_order_same, length-in_order, count-in_order}
+use Rattle.std.specs.List.Sorted.{IsPermutation, IsSorted}
+use Rattle.std.proofs.lemmas.List.Sorted.{IsPermutation-map}
+use Rattle.std.proofs.lemmas.List.{get_or-map, length-map}
+use Rattle.ifmap_elem.proofs.Orders.{Ranks, in_order_same, in_order_is, length-in_order, count-in_order}
 
 texts_total : IsTotalOrder (slice_cmp nat_cmp)
 texts_total = nat_list_cmp_total
@@ -115,3 +118,34 @@ same_members xs ys long often = in_order_same attribute_order attribute_ranks at
       | inr p ↦
           let h : occurrences_of a xs ≡ occurrences_of a ys = subst (λ b. occurrences_of b xs ≡ occurrences_of b ys) (p.2 a) (often p.0 a p.1) in
           omega arith ]
+
+not_greater : (p q : Ordering) → p ≡ ordering_reverse q → is_lt q ≡ false → is_gt p ≡ false
+not_greater Less q e f = refl
+not_greater Equal q e f = refl
+not_greater Greater Less e f = cc
+not_greater Greater Equal e f = cc
+not_greater Greater Greater e f = cc
+
+-- a permutation of the attributes that rises
+rising_is_sorted : (xs ys : List Attribute) → IsPermutation xs ys → ((k : ℕ) (d : Attribute) → suc k < length ys → is_lt (attribute_order (get_or ys (suc k) d) (get_or ys k d)) ≡ false) → ys ≡ sorted xs
+rising_is_sorted xs ys p up =
+    in_order_is attribute_order attribute_ranks attribute_eq eq_itself eq_tells xs ys p
+    (λ k d l. not_greater (attribute_order (get_or ys k d) (get_or ys (suc k) d)) (attribute_order (get_or ys (suc k) d) (get_or ys k d)) (attributes_total.antisymm (get_or ys k d) (get_or ys (suc k) d)) (up k d l))
+
+abbrev referred : List (Bor Attribute) → List Attribute
+referred rs = map (λ (r : Bor Attribute). r.now) rs
+
+rising_references : (ss : List (Bor Attribute)) → IsSorted (λ (x y : Bor Attribute). attribute_order x.now y.now) ss
+    → (k : ℕ) (d : Attribute) → suc k < length (referred ss) → is_lt (attribute_order (get_or (referred ss) (suc k) d) (get_or (referred ss) k d)) ≡ false
+rising_references [] up k d l = absurd (omega (arith, l))
+rising_references (s ∷ ss) up k d l =
+    let now : Bor Attribute → Attribute = λ (r : Bor Attribute). r.now in
+    let long : suc k < length (s ∷ ss) = omega (arith, l, length-map (s ∷ ss) now) in
+    let step : is_lt (attribute_order (now (get_or (s ∷ ss) (suc k) s)) (now (get_or (s ∷ ss) k s))) ≡ false = subst (λ (n : ℕ). is_lt (attribute_order (now (get_or (s ∷ ss) n s)) (now (get_or (s ∷ ss) k s))) ≡ false) (add-one k) (up k s (omega arith) (omega arith)) in
+    let here : get_or (referred (s ∷ ss)) k d ≡ now (get_or (s ∷ ss) k s) = get_or-map now (s ∷ ss) k s d (omega arith) in
+    let next : get_or (referred (s ∷ ss)) (suc k) d ≡ now (get_or (s ∷ ss) (suc k) s) = get_or-map now (s ∷ ss) (suc k) s d long in
+    ap (λ a. is_lt (attribute_order a (get_or (referred (s ∷ ss)) k d))) next ∙ ap (λ a. is_lt (attribute_order (now (get_or (s ∷ ss) (suc k) s)) a)) here ∙ step
+
+-- references that were put in order refer to the attributes in order
+pub sorted_references : (rs ss : List (Bor Attribute)) → IsPermutation rs ss → IsSorted (λ (x y : Bor Attribute). attribute_order x.now y.now) ss → referred ss ≡ sorted (referred rs)
+sorted_references rs ss p up = rising_is_sorted (referred rs) (referred ss) (IsPermutation-map (λ (r : Bor Attribute). r.now) rs ss p) (rising_references ss up)

@@ -7,6 +7,7 @@ pub mod copying;
 pub mod elements;
 pub mod equality;
 pub mod lists;
+mod sorting;
 pub mod texts;
 
 pub use comparing::same;
