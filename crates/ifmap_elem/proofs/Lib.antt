@@ -1,3 +1,5 @@
 pub mod ArrangedLaws
 pub mod Attributes
+pub mod NamespaceLaws
 pub mod Orders
+pub mod SpaceLaws

@@ -1,6 +1,8 @@
 -- How text and the values of attributes are written in canonical bytes (XML 1.0, section 2.4).
 use Rattle.std.specs.Prelude.{ℕ, List, [], ◌∷◌, Bool, cond, ◌==◌, codes}
 use Rattle.std.specs.List.{flat_map}
+use Rattle.ifmap_elem.specs.declared.escaping.Place.{Place}
+use Rattle.ifmap_elem.specs.declared.escaping.Place.TheVariants.{Content, Value}
 
 -- a byte of text: `&`, `<`, `>` and the carriage return are references
 abbrev pub text_byte : ℕ → List ℕ
@@ -18,3 +20,12 @@ text_bytes text = flat_map text_byte text
 -- the value of an attribute as it is written between its quotes
 abbrev pub value_bytes : List ℕ → List ℕ
 value_bytes value = flat_map value_byte value
+
+-- a byte as it is written in its place
+abbrev pub escaped_byte : Place → ℕ → List ℕ
+escaped_byte Content b = text_byte b
+escaped_byte Value b = value_byte b
+
+-- bytes as they are written in their place
+abbrev pub escaped : Place → List ℕ → List ℕ
+escaped place bytes = flat_map (escaped_byte place) bytes

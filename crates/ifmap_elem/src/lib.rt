@@ -6,7 +6,9 @@ pub mod comparing;
 pub mod copying;
 pub mod elements;
 pub mod equality;
+mod escaping;
 pub mod lists;
+mod numbering;
 mod sorting;
 pub mod texts;
 
