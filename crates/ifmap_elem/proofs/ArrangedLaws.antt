@@ -39,7 +39,8 @@ same_out a b e = one_element (arranged a) (arranged b) (sym (arranged_in a) ∙ 
 pub same_children_of : (x y : Child) (a b : Element) (r : Bool) → x ≡ the.Element a → y ≡ the.Element b → (IsTrue r ↔ (arranged a ≡ arranged b)) → IsTrue r ↔ (arranged_child x ≡ arranged_child y)
 same_children_of x y a b r p q h = (
   λ t. ap arranged_child p ∙ same_in a b (h.0 t) ∙ sym (ap arranged_child q),
-  λ e. h.1 (same_out a b (sym (ap arranged_child p) ∙ e ∙ ap arranged_child q)))
+  λ e. h.1 (same_out a b (sym (ap arranged_child p) ∙ e ∙ ap arranged_child q)),
+)
 
 -- where two lists have other members at a place, they are not the same
 pub other_at : (xs ys : List Child) (i : ℕ) (x y : Child) → i < length xs → i < length ys → x ≡ get_or xs i x → y ≡ get_or ys i y

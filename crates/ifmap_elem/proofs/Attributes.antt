@@ -101,12 +101,14 @@ not_same_numbers a xs ys other same = other (sym (occurrences-sorted a xs) ∙ a
 nowhere_or_at : (a : Attribute) (xs : List Attribute) → (occurrences_of a xs ≡ 0) ⊎ ((k : ℕ) × (k < length xs) × ((d : Attribute) → get_or xs k d ≡ a))
 nowhere_or_at a [] = inl refl
 nowhere_or_at a (x ∷ xs) = elim (cases_Bool (attribute_eq x a)) [
-    inl e ↦ inr (0, omega arith, λ d. eq_tells x a e)
+  | inl e ↦ inr (0, omega arith, λ d. eq_tells x a e)
   | inr e ↦
       let none : cond {A = ℕ} (attribute_eq x a) 1 0 ≡ 0 = rw e refl in
       elim (nowhere_or_at a xs) [
-          inl n ↦ inl (omega (arith, sum_by-cons (λ y. cond (attribute_eq y a) 1 0) x xs))
-        | inr p ↦ inr (suc p.0, omega arith, p.2) ] ]
+        | inl n ↦ inl (omega (arith, sum_by-cons (λ y. cond (attribute_eq y a) 1 0) x xs))
+        | inr p ↦ inr (suc p.0, omega arith, p.2)
+      ]
+]
 
 -- lists of one length where each member of the first occurs as often in the second
 pub same_members : (xs ys : List Attribute) → length xs ≡ length ys → All (λ a. occurrences_of a xs ≡ occurrences_of a ys) xs → sorted xs ≡ sorted ys
@@ -114,10 +116,11 @@ same_members xs ys long often = in_order_same attribute_order attribute_ranks at
   where
     fewer : (a : Attribute) → occurrences_of a xs ≤ occurrences_of a ys
     fewer a = elim (nowhere_or_at a xs) [
-        inl n ↦ omega arith
+      | inl n ↦ omega arith
       | inr p ↦
           let h : occurrences_of a xs ≡ occurrences_of a ys = subst (λ b. occurrences_of b xs ≡ occurrences_of b ys) (p.2 a) (often p.0 a p.1) in
-          omega arith ]
+          omega arith
+    ]
 
 not_greater : (p q : Ordering) → p ≡ ordering_reverse q → is_lt q ≡ false → is_gt p ≡ false
 not_greater Less q e f = refl

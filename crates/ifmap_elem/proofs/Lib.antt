@@ -2,4 +2,5 @@ pub mod ArrangedLaws
 pub mod Attributes
 pub mod NamespaceLaws
 pub mod Orders
+pub mod PrintedLaws
 pub mod SpaceLaws

@@ -37,10 +37,11 @@ apart x y e = false_from_ne_true (bytes_eq y x) (λ h. let k : bytes_eq x y ≡ 
 among-others : (s x : List ℕ) (ys : Texts) → bytes_eq s x ≡ false → among s (others x ys) ≡ among s ys
 among-others s x [] e = refl
 among-others s x (y ∷ ys) e = elim (cases_Bool (bytes_eq y x)) [
-    inl f ↦
+  | inl f ↦
       let g : bytes_eq s y ≡ false = subst (λ z. bytes_eq s z ≡ false) (sym (eq_tells y x f)) e in
       rw (f, g) (among-others s x ys e)
-  | inr f ↦ rw f (ap (λ b. bytes_eq s y || b) (among-others s x ys e)) ]
+  | inr f ↦ rw f (ap (λ b. bytes_eq s y || b) (among-others s x ys e))
+]
 
 left_out : (p : List ℕ → Bool) (xs : Texts) (s : List ℕ) → p s ≡ false → (b : Bool) → filter p (cond b xs (xs ++ s ∷ [])) ≡ filter p xs
 left_out p xs s e true = refl
@@ -55,12 +56,13 @@ kept p x xs s e false = ap (λ l. x ∷ l) (filter-append p xs (s ∷ []) ∙ (r
 once_each-push : (xs : Texts) (s : List ℕ) → once_each (xs ++ s ∷ []) ≡ cond (among s (once_each xs)) (once_each xs) (once_each xs ++ s ∷ [])
 once_each-push [] s = refl
 once_each-push (x ∷ xs) s = elim (cases_Bool (bytes_eq s x)) [
-    inl e ↦
+  | inl e ↦
       let out : not (bytes_eq s x) ≡ false = ap not e in
       rw (once_each-push xs s, e) (ap (λ l. x ∷ l) (left_out (λ y. not (bytes_eq y x)) (once_each xs) s out (among s (once_each xs))))
   | inr e ↦
       let stays : not (bytes_eq s x) ≡ true = ap not e in
-      rw (once_each-push xs s, e, among-others s x (once_each xs) e) (kept (λ y. not (bytes_eq y x)) x (once_each xs) s stays (among s (once_each xs))) ]
+      rw (once_each-push xs s, e, among-others s x (once_each xs) e) (kept (λ y. not (bytes_eq y x)) x (once_each xs) s stays (among s (once_each xs)))
+]
 
 undeclared : (seen : Texts) (s : List ℕ) → is_declared s ≡ false → declared_among (seen ++ s ∷ []) ≡ declared_among seen
 undeclared seen s e = ap once_each (filter-append is_declared seen (s ∷ []) ∙ (rw e (append-nil (filter is_declared seen))))
@@ -91,16 +93,18 @@ adds_new xs s d new seen e =
 is_some-prefixed : (letter : List ℕ) (n : ℕ) (s : List ℕ) (xs : Texts) → is_some (lookup (bytes_eq s) (prefixed letter n xs)) ≡ among s xs
 is_some-prefixed letter n s [] = refl
 is_some-prefixed letter n s (x ∷ xs) = elim (cases_Bool (bytes_eq s x)) [
-    inl e ↦ rw e refl
-  | inr e ↦ rw e (is_some-prefixed letter (n + 1) s xs) ]
+  | inl e ↦ rw e refl
+  | inr e ↦ rw e (is_some-prefixed letter (n + 1) s xs)
+]
 
 -- a namespace that has a prefix adds nothing
 pub adds_prefixed : (xs : Texts) (s : List ℕ) → is_some (lookup (bytes_eq s) (name_prefixes xs)) ≡ true → AddsSpaces xs (s ∷ []) xs
 adds_prefixed xs s known = elim (cases_Bool (is_declared s)) [
-    inr d ↦ adds_undeclared xs s d
+  | inr d ↦ adds_undeclared xs s d
   | inl d ↦
       let other : bytes_eq s xml_space ≡ false = not-true (bytes_eq s xml_space) (and_parts (not (bytes_eq s [])) (not (bytes_eq s xml_space)) d).1 in
-      adds_known xs s d (sym (is_some-prefixed (codes "n") 1 s xs) ∙ (rw other at known)) ]
+      adds_known xs s d (sym (is_some-prefixed (codes "n") 1 s xs) ∙ (rw other at known))
+]
 
 -- no namespace adds nothing
 pub adds_no_space : (xs : Texts) (s : List ℕ) → s ≡ [] → AddsSpaces xs (s ∷ []) xs
@@ -120,7 +124,7 @@ adds_unprefixed xs ys s some none is =
         let off : bytes_eq s xml_space ≡ false = false_from_ne_true (bytes_eq s xml_space) (λ e. let h : true ≡ false = rw e at none in cc) in
         (off, sym (is_some-prefixed (codes "n") 1 s xs) ∙ (rw off at none))
 
-prefixed-push : (letter : List ℕ) (n : ℕ) (xs : Texts) (s : List ℕ) → prefixed letter n (xs ++ s ∷ []) ≡ prefixed letter n xs ++ (s, letter ++ decimal (n + length xs)) ∷ []
+pub prefixed-push : (letter : List ℕ) (n : ℕ) (xs : Texts) (s : List ℕ) → prefixed letter n (xs ++ s ∷ []) ≡ prefixed letter n xs ++ (s, letter ++ decimal (n + length xs)) ∷ []
 prefixed-push letter n [] s = let e : n ≡ n + length {A = List ℕ} [] = omega arith in ap (λ (k : ℕ). (s, letter ++ decimal k) ∷ []) e
 prefixed-push letter n (x ∷ xs) s =
     let e : n + 1 + length xs ≡ n + suc (length xs) = omega arith in
@@ -136,8 +140,9 @@ lookup-other p (r ∷ rows) s label e = ap (cond (p r.0) (Some r.1)) (lookup-oth
 lookup-new : (p : List ℕ → Bool) (rows : Rows) (s label : List ℕ) → p s ≡ true → lookup p rows ≡ None → lookup p (rows ++ (s, label) ∷ []) ≡ Some label
 lookup-new p [] s label e none = rw e refl
 lookup-new p (r ∷ rows) s label e none = elim (cases_Bool (p r.0)) [
-    inl f ↦ let h : Some r.1 ≡ None = rw f at none in cc
-  | inr f ↦ rw f (lookup-new p rows s label e (rw f at none)) ]
+  | inl f ↦ let h : Some r.1 ≡ None = rw f at none in cc
+  | inr f ↦ rw f (lookup-new p rows s label e (rw f at none))
+]
 
 -- a table from namespaces to prefixes, where one more is numbered
 one_row_more : (old new : List ℕ → Option (List ℕ)) (xs : Texts) (s label : List ℕ) → ((q : List ℕ) → old q ≡ lookup (bytes_eq q) (name_prefixes xs))

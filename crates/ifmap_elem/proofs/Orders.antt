@@ -21,10 +21,12 @@ module _ {X : Type 0} (cmp : X → X → Ordering) (r : Ranks (λ x y. is_gt (cm
 
   two : (x y : X) (zs : List X) → cond (gt x y) (y ∷ (x ∷ zs)) (x ∷ (y ∷ zs)) ≡ cond (gt y x) (x ∷ (y ∷ zs)) (y ∷ (x ∷ zs))
   two x y zs = elim (cases_Bool (gt x y)) [
-      inl e ↦ let f = r.one_way x y e in rw (e, f) refl
+    | inl e ↦ let f = r.one_way x y e in rw (e, f) refl
     | inr e ↦ elim (cases_Bool (gt y x)) [
-          inl f ↦ rw (e, f) refl
-        | inr f ↦ rw (e, f, r.tied x y e f) refl ] ]
+      | inl f ↦ rw (e, f) refl
+      | inr f ↦ rw (e, f, r.tied x y e f) refl
+    ]
+  ]
 
   before : (x y z : X) → gt x z ≡ false → gt y z ≡ true → gt y x ≡ true
   before x y z e f = elim (cases_Bool (gt y x)) [ inl g ↦ g | inr g ↦ let h : gt y z ≡ false = r.chain y x z g e in cc ]
@@ -33,12 +35,15 @@ module _ {X : Type 0} (cmp : X → X → Ordering) (r : Ranks (λ x y. is_gt (cm
   placed_twice : (x y : X) (zs : List X) → placed cmp x (placed cmp y zs) ≡ placed cmp y (placed cmp x zs)
   placed_twice x y [] = two x y []
   placed_twice x y (z ∷ zs) = elim (cases_Bool (gt x z)) [
-      inl e ↦ elim (cases_Bool (gt y z)) [
-          inl f ↦ rw (e, f, e) (ap (λ l. z ∷ l) (placed_twice x y zs))
-        | inr f ↦ let g = before y x z f e in rw (e, f, g, e) refl ]
+    | inl e ↦ elim (cases_Bool (gt y z)) [
+      | inl f ↦ rw (e, f, e) (ap (λ l. z ∷ l) (placed_twice x y zs))
+      | inr f ↦ let g = before y x z f e in rw (e, f, g, e) refl
+    ]
     | inr e ↦ elim (cases_Bool (gt y z)) [
-          inl f ↦ let g = before x y z e f in rw (e, f, e, g) refl
-        | inr f ↦ rw (e, f, e) (two x y (z ∷ zs)) ] ]
+      | inl f ↦ let g = before x y z e f in rw (e, f, e, g) refl
+      | inr f ↦ rw (e, f, e) (two x y (z ∷ zs))
+    ]
+  ]
 
   in_order_middle : (x : X) (xs ys : List X) → in_order cmp (xs ++ x ∷ ys) ≡ placed cmp x (in_order cmp (xs ++ ys))
   in_order_middle x [] ys = refl
@@ -79,8 +84,9 @@ module _ {X : Type 0} (cmp : X → X → Ordering) (r : Ranks (λ x y. is_gt (cm
     count-placed : (z x : X) (ys : List X) → count z (placed cmp x ys) ≡ one x z + count z ys
     count-placed z x [] = count-cons z x []
     count-placed z x (y ∷ ys) = elim (cases_Bool (gt x y)) [
-        inl e ↦ rw e (omega (arith, count-cons z y (placed cmp x ys), count-placed z x ys, count-cons z y ys))
-      | inr e ↦ rw e (count-cons z x (y ∷ ys)) ]
+      | inl e ↦ rw e (omega (arith, count-cons z y (placed cmp x ys), count-placed z x ys, count-cons z y ys))
+      | inr e ↦ rw e (count-cons z x (y ∷ ys))
+    ]
 
     pub count-in_order : (z : X) (xs : List X) → count z (in_order cmp xs) ≡ count z xs
     count-in_order z [] = refl
@@ -89,11 +95,12 @@ module _ {X : Type 0} (cmp : X → X → Ordering) (r : Ranks (λ x y. is_gt (cm
     parted : (z : X) (ys : List X) → 0 < count z ys → (front : List X) × (back : List X) × (ys ≡ front ++ z ∷ back)
     parted z [] some = absurd (omega (arith, some))
     parted z (y ∷ ys) some = elim (cases_Bool (eq y z)) [
-        inl e ↦ ([], ys, ap (λ w. w ∷ ys) (tells y z e))
+      | inl e ↦ ([], ys, ap (λ w. w ∷ ys) (tells y z e))
       | inr e ↦
           let none : one y z ≡ 0 = rw e refl in
           let p = parted z ys (omega (arith, count-cons z y ys)) in
-          (y ∷ p.0, p.1, ap (λ l. y ∷ l) p.2) ]
+          (y ∷ p.0, p.1, ap (λ l. y ∷ l) p.2)
+    ]
 
     -- lists of one length, the first of which has nothing more often than the second, have the same order
     pub in_order_same : (xs ys : List X) → length xs ≡ length ys → ((z : X) → count z xs ≤ count z ys) → in_order cmp xs ≡ in_order cmp ys
@@ -104,8 +111,8 @@ module _ {X : Type 0} (cmp : X → X → Ordering) (r : Ranks (λ x y. is_gt (cm
         let p = parted x ys (omega (arith, fewer x, count-cons x x xs)) in
         let there : length ys ≡ length (p.0 ++ x ∷ p.1) = ap length p.2 in
         let h : in_order cmp xs ≡ in_order cmp (p.0 ++ p.1) =
-            in_order_same xs (p.0 ++ p.1) (omega (arith, length-append p.0 (x ∷ p.1), length-append p.0 p.1))
-            (λ z. omega (arith, fewer z, count-cons z x xs, ap (count z) p.2, count-middle z x p.0 p.1)) in
+        in_order_same xs (p.0 ++ p.1) (omega (arith, length-append p.0 (x ∷ p.1), length-append p.0 p.1))
+        (λ z. omega (arith, fewer z, count-cons z x xs, ap (count z) p.2, count-middle z x p.0 p.1)) in
         ap (placed cmp x) h ∙ sym (in_order_middle x p.0 p.1) ∙ ap (in_order cmp) (sym p.2)
 
     -- a permutation that rises is the list in order

@@ -31,7 +31,7 @@ pub adds_element : (e : Element) (a b c d : List (List ℕ)) → AddsSpaces a (e
 adds_element e a b c d h k l =
     subst (λ s. AddsSpaces a s d) (sym (spaces_arranged e))
     (adds_both a c d (e.name.space ∷ map space_of (sorted e.attributes)) (flat_map (λ c. spaces_of_child (arranged_child c)) e.children)
-        (adds_both a b c (e.name.space ∷ []) (map space_of (sorted e.attributes)) h k) l)
+    (adds_both a b c (e.name.space ∷ []) (map space_of (sorted e.attributes)) h k) l)
 
 pub adds_next : {X : Type 0} (f : X → List ℕ) (xs : List X) (i : ℕ) (x : X) (a b c : List (List ℕ)) → i < length xs → x ≡ get_or xs i x
     → AddsSpaces a (map f (take i xs)) b → AddsSpaces b (f x ∷ []) c → AddsSpaces a (map f (take (i + 1) xs)) c

@@ -28,11 +28,7 @@ pub(crate) fn write_escaped(place: Place, bytes: &[u8], out: &mut Vec<u8>) -> Re
 }
 
 /// Appends the first byte, where there is one, and gives the others.
-fn write_first<'a>(
-    place: Place,
-    bytes: &'a [u8],
-    out: &mut Vec<u8>,
-) -> Result<&'a [u8], NoMemory>
+fn write_first<'a>(place: Place, bytes: &'a [u8], out: &mut Vec<u8>) -> Result<&'a [u8], NoMemory>
     ensures written { IfOk result (λ rest. out.new.items ++ escaped place rest.now ≡ out.old.items ++ escaped place bytes.now) }
     ensures shorter { IfOk result (λ rest. length rest.now ≤ length bytes.now - 1) }
 {

@@ -9,6 +9,7 @@ pub mod equality;
 mod escaping;
 pub mod lists;
 mod numbering;
+pub mod printing;
 mod sorting;
 pub mod texts;
 
@@ -17,4 +18,5 @@ pub use copying::Copied;
 pub use elements::{Attribute, Child, Element, Name};
 pub use equality::Equals;
 pub use lists::Many;
+pub use printing::{canonical, written};
 pub use texts::Text;

@@ -18,7 +18,8 @@ loop-attribute-preserved c =
     (subst (λ a. occurrences_of a c.args.one.now ≡ occurrences_of a c.args.other.now) c.attribute-item.is (sym c.occurrences.ensures ∙ c.if-occurrences.false ∙ c.occurrences-in-loop-attribute.ensures))
 
 pub returns : goal.returns
-returns c =
-    (λ t. same_members c.args.one.now c.args.other.now c.if-one-other.false
-        (All-same (λ a. occurrences_of a c.args.one.now ≡ occurrences_of a c.args.other.now) c.args.one.now _ (sym (take_all c.loop-attribute.attribute-index c.args.one.now c.loop-attribute-test.false)) c.loop-attribute.invariant),
-      λ same. refl)
+returns c = (
+  λ t. same_members c.args.one.now c.args.other.now c.if-one-other.false
+      (All-same (λ a. occurrences_of a c.args.one.now ≡ occurrences_of a c.args.other.now) c.args.one.now _ (sym (take_all c.loop-attribute.attribute-index c.args.one.now c.loop-attribute-test.false)) c.loop-attribute.invariant),
+  λ same. refl,
+)

@@ -5,8 +5,9 @@ use Rattle.ifmap_elem.proofs.numbering.Prefixes.with_space.Goals.{then-is_none-v
 
 pub returns-then-is_none : goal.returns-then-is_none
 returns-then-is_none c = elim c.then-is_none.branch [
-    then-is_none-via-then-is_none w ↦ adds_no_space c.args.self c.args.space.now (c.is_none.ensures.0 w.if-is_none.true)
-  | then-is_none-via-else-is_none+then-knows w ↦ adds_prefixed c.args.self c.args.space.now (sym w.knows.ensures ∙ w.if-knows.true) ]
+  | then-is_none-via-then-is_none w ↦ adds_no_space c.args.self c.args.space.now (c.is_none.ensures.0 w.if-is_none.true)
+  | then-is_none-via-else-is_none+then-knows w ↦ adds_prefixed c.args.self c.args.space.now (sym w.knows.ensures ∙ w.if-knows.true)
+]
 
 pub returns : goal.returns
 returns c =
