@@ -1,5 +1,5 @@
--- How deep elements stand in one another.
-use Rattle.std.specs.Prelude.{ℕ, suc, List, [], ◌∷◌, max}
+-- How deep elements nest.
+use Rattle.std.specs.Prelude.{ℕ, suc, max, List, [], ◌∷◌}
 use Rattle.ifmap_elem.specs.declared.elements.Child.{Child, fold-Child}
 use Rattle.ifmap_elem.specs.declared.elements.Element.{Element, fold-Element}
 use Rattle.ifmap_elem.specs.declared.elements.Child.TheOpen.{Child-F, Element-F}
@@ -9,17 +9,16 @@ abbrev pub greatest : List ℕ → ℕ
 greatest [] = 0
 greatest (n ∷ ns) = max n (greatest ns)
 
--- a text adds no level
-abbrev pub child_level : Child-F ℕ ℕ → ℕ
-child_level (Child-F.Element n) = n
-child_level (Child-F.Text text) = 0
+abbrev pub child_levels : Child-F ℕ ℕ → ℕ
+child_levels (Child-F.Element levels) = levels
+child_levels (Child-F.Text text) = 0
 
-abbrev pub one_level_more : Element-F ℕ ℕ → ℕ
-one_level_more e = suc (greatest e.children)
+abbrev pub element_levels : Element-F ℕ ℕ → ℕ
+element_levels e = suc (greatest e.children)
 
--- the nesting of an element: an element without child elements has 1
+-- the levels of an element: 1, and those of the child with the most
 abbrev pub nesting : Element → ℕ
-nesting = fold-Element ℕ ℕ child_level one_level_more
+nesting = fold-Element ℕ ℕ child_levels element_levels
 
 abbrev pub child_nesting : Child → ℕ
-child_nesting = fold-Child ℕ ℕ child_level one_level_more
+child_nesting = fold-Child ℕ ℕ child_levels element_levels

@@ -20,3 +20,6 @@ pub use equality::Equals;
 pub use lists::Many;
 pub use printing::{canonical, written};
 pub use texts::Text;
+
+#[cfg(test)]
+mod tests;

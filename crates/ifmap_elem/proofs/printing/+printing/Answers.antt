@@ -12,11 +12,11 @@ write_content-returns t c =
     content_written (λ x. child_bytes (name_prefixes c.args.prefixes.now) (arranged_child x)) c.args.children.now (name_bytes (name_prefixes c.args.prefixes.now) c.args.name.now)
     c.args.out.now.items c.extend_from_slice-2.new.self.items c.loop-child.out.items _ _ _
     (λ e.
-        let h : vec_len c.children.inside.0 ≡ 0 = omega (arith, e, c.children.inside.0.ok.0, ap length c.children.view_is) in
-        let k = eq-eqb (vec_len c.children.inside.0) 0 h in cc)
+    let h : vec_len c.children.inside.0 ≡ 0 = omega (arith, e, c.children.inside.0.ok.0, ap length c.children.view_is) in
+    let k = eq-eqb (vec_len c.children.inside.0) 0 h in cc)
     c.in_ok-extend_from_slice.ensures.items
     (c.loop-child.invariant ∙ ap (λ l. c.extend_from_slice-2.new.self.items ++ flat_map (λ x. child_bytes (name_prefixes c.args.prefixes.now) (arranged_child x)) l)
-        (take_all c.loop-child.child-index c.args.children.now (omega (arith, c.loop-child-test.false, ap length c.deref-child-items.ensures.value, ap length c.children.view_is))))
+    (take_all c.loop-child.child-index c.args.children.now (omega (arith, c.loop-child-test.false, ap length c.deref-child-items.ensures.value, ap length c.children.view_is))))
     c.in_ok-extend_from_slice-2.ensures.items c.in_ok-write_name.ensures c.in_ok-extend_from_slice-3.ensures.items
 
 pub write_element-returns : goal.write_element-returns
