@@ -17,7 +17,7 @@ use Rattle.ifmap_elem.specs.Occurrences.{attribute_eq, occurrences_of}
 use Rattle.std.specs.List.Sorted.{IsPermutation, IsSorted}
 use Rattle.std.proofs.lemmas.List.Sorted.{IsPermutation-map}
 use Rattle.std.proofs.lemmas.List.{get_or-map, length-map}
-use Rattle.ifmap_elem.proofs.Orders.{Ranks, in_order_same, in_order_is, length-in_order, count-in_order}
+use Rattle.ifmap_elem.proofs.Orders.{Ranks, in_order_same, in_order_is, in_order-rises, in_order-permutation, IsPermutation-in_order, length-in_order, count-in_order}
 
 texts_total : IsTotalOrder (slice_cmp nat_cmp)
 texts_total = nat_list_cmp_total
@@ -152,3 +152,24 @@ rising_references (s ∷ ss) up k d l =
 -- references that were put in order refer to the attributes in order
 pub sorted_references : (rs ss : List (Bor Attribute)) → IsPermutation rs ss → IsSorted (λ (x y : Bor Attribute). attribute_order x.now y.now) ss → referred ss ≡ sorted (referred rs)
 sorted_references rs ss p up = rising_is_sorted (referred rs) (referred ss) (IsPermutation-map (λ (r : Bor Attribute). r.now) rs ss p) (rising_references ss up)
+
+pub sorted_permutation : (xs : List Attribute) → IsPermutation xs (sorted xs)
+sorted_permutation xs = IsPermutation-in_order attribute_order attribute_ranks xs
+
+not_less : (p q : Ordering) → p ≡ ordering_reverse q → is_gt q ≡ false → is_lt p ≡ false
+not_less Less Less e f = cc
+not_less Less Equal e f = cc
+not_less Less Greater e f = cc
+not_less Equal q e f = refl
+not_less Greater q e f = refl
+
+pub sorted_rises : (xs : List Attribute) → IsSorted attribute_order (sorted xs)
+sorted_rises xs k d low high =
+    let next : Attribute = get_or (sorted xs) (suc k) d in
+    let here : Attribute = get_or (sorted xs) k d in
+    let step : is_lt (attribute_order next here) ≡ false =
+        not_less (attribute_order next here) (attribute_order here next) (attributes_total.antisymm next here) (in_order-rises attribute_order attribute_ranks xs k d (omega arith)) in
+    subst (λ (n : ℕ). is_lt (attribute_order (get_or (sorted xs) n d) here) ≡ false) (sym (add-one k)) step
+
+pub one_order : (xs ys : List Attribute) → IsPermutation xs ys → sorted xs ≡ sorted ys
+one_order xs ys p = in_order-permutation attribute_order attribute_ranks attribute_eq eq_itself eq_tells xs ys p

@@ -2,7 +2,7 @@
 use Rattle.std.proofs.Common.{◌≡◌, ℕ, ◌+◌, ◌≤◌, ◌<◌, zero, suc, List, [], ◌∷◌, ◌++◌, length, Bool, true, false, cond, refl, ap, sym, ◌∙◌, subst, arith, inl, inr, get_or, length-append, add-one}
 use Rattle.std.proofs.lemmas.Bool.{cases_Bool}
 use Rattle.std.proofs.lemmas.List.Sums.{sum_by-cons, sum_by-append}
-use Rattle.std.proofs.lemmas.List.Sorted.{length_permutation, sum_by-IsPermutation}
+use Rattle.std.proofs.lemmas.List.Sorted.{length_permutation, sum_by-IsPermutation, IsPermutation-refl, IsPermutation-trans, IsPermutation-cons, IsPermutation-middle}
 use Rattle.std.specs.Prelude.{count_by}
 use Rattle.std.specs.List.Sorted.{IsPermutation}
 use Rattle.std.specs.Ordering.{is_gt}
@@ -66,6 +66,49 @@ module _ {X : Type 0} (cmp : X → X → Ordering) (r : Ranks (λ x y. is_gt (cm
       let first : gt x y ≡ false = up 0 x (omega arith) in
       ap (placed cmp x) h ∙ (rw first refl)
 
+  -- x stands before these, and a list that rises
+  abbrev Before : X → List X → Type 0
+  Before x [] = Unit {0}
+  Before x (y ∷ ys) = gt x y ≡ false
+
+  abbrev Rises : List X → Type 0
+  Rises [] = Unit {0}
+  Rises (x ∷ xs) = Before x xs × Rises xs
+
+  before_placed : (z x : X) (ys : List X) → Before z ys → gt z x ≡ false → Before z (placed cmp x ys)
+  before_placed z x [] b e = e
+  before_placed z x (y ∷ ys) b e = elim (cases_Bool (gt x y)) [ inl f ↦ rw f b | inr f ↦ rw f e ]
+
+  rises_placed : (x : X) (ys : List X) → Rises ys → Rises (placed cmp x ys)
+  rises_placed x [] up = (tt, tt)
+  rises_placed x (y ∷ ys) up = elim (cases_Bool (gt x y)) [
+      inl f ↦ rw f (before_placed y x ys up.0 (r.one_way x y f), rises_placed x ys up.1)
+    | inr f ↦ rw f (f, up) ]
+
+  rises_in_order : (xs : List X) → Rises (in_order cmp xs)
+  rises_in_order [] = tt
+  rises_in_order (x ∷ xs) = rises_placed x (in_order cmp xs) (rises_in_order xs)
+
+  at_places : (xs : List X) → Rises xs → (k : ℕ) (d : X) → suc k < length xs → gt (get_or xs k d) (get_or xs (suc k) d) ≡ false
+  at_places [] up k d l = absurd (omega (arith, l))
+  at_places (x ∷ []) up k d l = absurd (omega (arith, l))
+  at_places (x ∷ (y ∷ ys)) up zero d l = up.0
+  at_places (x ∷ (y ∷ ys)) up (suc k) d l = at_places (y ∷ ys) up.1 k d (omega arith)
+
+  pub in_order-rises : (xs : List X) (k : ℕ) (d : X) → suc k < length (in_order cmp xs) → gt (get_or (in_order cmp xs) k d) (get_or (in_order cmp xs) (suc k) d) ≡ false
+  in_order-rises xs = at_places (in_order cmp xs) (rises_in_order xs)
+
+  IsPermutation-placed : (x : X) (ys : List X) → IsPermutation (x ∷ ys) (placed cmp x ys)
+  IsPermutation-placed x [] = IsPermutation-refl (x ∷ [])
+  IsPermutation-placed x (y ∷ ys) = elim (cases_Bool (gt x y)) [
+      inl f ↦ rw f (IsPermutation-trans (x ∷ (y ∷ ys)) (y ∷ (x ∷ ys)) (y ∷ placed cmp x ys) (IsPermutation-middle (x ∷ []) y ys) (IsPermutation-cons y (x ∷ ys) (placed cmp x ys) (IsPermutation-placed x ys)))
+    | inr f ↦ rw f (IsPermutation-refl (x ∷ (y ∷ ys))) ]
+
+  pub IsPermutation-in_order : (xs : List X) → IsPermutation xs (in_order cmp xs)
+  IsPermutation-in_order [] = IsPermutation-refl []
+  IsPermutation-in_order (x ∷ xs) =
+      IsPermutation-trans (x ∷ xs) (x ∷ in_order cmp xs) (placed cmp x (in_order cmp xs)) (IsPermutation-cons x xs (in_order cmp xs) (IsPermutation-in_order xs)) (IsPermutation-placed x (in_order cmp xs))
+
   module _ (eq : X → X → Bool) (itself : (x : X) → eq x x ≡ true) (tells : (x y : X) → eq x y ≡ true → x ≡ y) where
     abbrev count : X → List X → ℕ
     count z xs = count_by (λ x. eq x z) xs
@@ -114,6 +157,10 @@ module _ {X : Type 0} (cmp : X → X → Ordering) (r : Ranks (λ x y. is_gt (cm
         in_order_same xs (p.0 ++ p.1) (omega (arith, length-append p.0 (x ∷ p.1), length-append p.0 p.1))
         (λ z. omega (arith, fewer z, count-cons z x xs, ap (count z) p.2, count-middle z x p.0 p.1)) in
         ap (placed cmp x) h ∙ sym (in_order_middle x p.0 p.1) ∙ ap (in_order cmp) (sym p.2)
+
+    pub in_order-permutation : (xs ys : List X) → IsPermutation xs ys → in_order cmp xs ≡ in_order cmp ys
+    in_order-permutation xs ys p =
+        in_order_same xs ys (sym (length_permutation xs ys p)) (λ z. omega (arith, sum_by-IsPermutation (λ y. cond (eq y z) 1 0) xs ys p))
 
     -- a permutation that rises is the list in order
     pub in_order_is : (xs ys : List X) → IsPermutation xs ys → ((k : ℕ) (d : X) → suc k < length ys → gt (get_or ys k d) (get_or ys (suc k) d) ≡ false) → ys ≡ in_order cmp xs

@@ -9,6 +9,7 @@ pub mod equality;
 mod escaping;
 pub mod lists;
 mod numbering;
+pub mod order_laws;
 pub mod printing;
 mod sorting;
 pub mod texts;
