@@ -168,7 +168,7 @@ sorted_rises xs k d low high =
     let next : Attribute = get_or (sorted xs) (suc k) d in
     let here : Attribute = get_or (sorted xs) k d in
     let step : is_lt (attribute_order next here) ≡ false =
-        not_less (attribute_order next here) (attribute_order here next) (attributes_total.antisymm next here) (in_order-rises attribute_order attribute_ranks xs k d (omega arith)) in
+    not_less (attribute_order next here) (attribute_order here next) (attributes_total.antisymm next here) (in_order-rises attribute_order attribute_ranks xs k d (omega arith)) in
     subst (λ (n : ℕ). is_lt (attribute_order (get_or (sorted xs) n d) here) ≡ false) (sym (add-one k)) step
 
 pub one_order : (xs ys : List Attribute) → IsPermutation xs ys → sorted xs ≡ sorted ys

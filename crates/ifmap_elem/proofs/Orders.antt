@@ -82,8 +82,9 @@ module _ {X : Type 0} (cmp : X → X → Ordering) (r : Ranks (λ x y. is_gt (cm
   rises_placed : (x : X) (ys : List X) → Rises ys → Rises (placed cmp x ys)
   rises_placed x [] up = (tt, tt)
   rises_placed x (y ∷ ys) up = elim (cases_Bool (gt x y)) [
-      inl f ↦ rw f (before_placed y x ys up.0 (r.one_way x y f), rises_placed x ys up.1)
-    | inr f ↦ rw f (f, up) ]
+    | inl f ↦ rw f (before_placed y x ys up.0 (r.one_way x y f), rises_placed x ys up.1)
+    | inr f ↦ rw f (f, up)
+  ]
 
   rises_in_order : (xs : List X) → Rises (in_order cmp xs)
   rises_in_order [] = tt
@@ -101,8 +102,9 @@ module _ {X : Type 0} (cmp : X → X → Ordering) (r : Ranks (λ x y. is_gt (cm
   IsPermutation-placed : (x : X) (ys : List X) → IsPermutation (x ∷ ys) (placed cmp x ys)
   IsPermutation-placed x [] = IsPermutation-refl (x ∷ [])
   IsPermutation-placed x (y ∷ ys) = elim (cases_Bool (gt x y)) [
-      inl f ↦ rw f (IsPermutation-trans (x ∷ (y ∷ ys)) (y ∷ (x ∷ ys)) (y ∷ placed cmp x ys) (IsPermutation-middle (x ∷ []) y ys) (IsPermutation-cons y (x ∷ ys) (placed cmp x ys) (IsPermutation-placed x ys)))
-    | inr f ↦ rw f (IsPermutation-refl (x ∷ (y ∷ ys))) ]
+    | inl f ↦ rw f (IsPermutation-trans (x ∷ (y ∷ ys)) (y ∷ (x ∷ ys)) (y ∷ placed cmp x ys) (IsPermutation-middle (x ∷ []) y ys) (IsPermutation-cons y (x ∷ ys) (placed cmp x ys) (IsPermutation-placed x ys)))
+    | inr f ↦ rw f (IsPermutation-refl (x ∷ (y ∷ ys)))
+  ]
 
   pub IsPermutation-in_order : (xs : List X) → IsPermutation xs (in_order cmp xs)
   IsPermutation-in_order [] = IsPermutation-refl []

@@ -1,7 +1,7 @@
 //! Text and the values of attributes as they stand in canonical bytes.
 ghost use Rattle.std.specs.Prelude.{◌≡◌, ◌++◌, ◌∷◌, [], ◌≤◌, ◌-◌, take, length, OnOk, IfOk, MatchOption};
 ghost use Rattle.std.specs.Bool.{OnFalse};
-ghost use Rattle.ifmap_elem.specs.Escapes.{escaped_byte, escaped};
+ghost use Rattle.ifmap_elem.specs.Escapes.{escaped_byte, escaped, text_bytes, value_bytes};
 
 use std::alloc::AllocError as NoMemory;
 
@@ -42,8 +42,45 @@ fn write_first<'a>(place: Place, bytes: &'a [u8], out: &mut Vec<u8>) -> Result<&
     Ok(rest)
 }
 
+/// How many bytes are looked at together, without a branch for each.
+const BLOCK: usize = 64;
+
 /// How many bytes at the front stand for themselves.
 fn plain_len(place: Place, bytes: &[u8]) -> usize
+    ensures bound { result ≤ length bytes.now }
+    ensures plain { escaped place (take result bytes.now) ≡ take result bytes.now }
+{
+    let (blocks, behind) = bytes.split_at(plain_blocks(place, bytes));
+    blocks.len() + plain_tail(place, behind)
+}
+
+/// How many bytes behind whole blocks stand for themselves.
+fn plain_tail(place: Place, bytes: &[u8]) -> usize
+    ensures bound { result ≤ length bytes.now }
+    ensures plain { escaped place (take result bytes.now) ≡ take result bytes.now }
+{
+    if bytes.len() < BLOCK && !has_reference(place, bytes) {
+        return bytes.len();
+    }
+    plain_front(place, bytes)
+}
+
+/// The length of some whole blocks at the front that stand for themselves.
+fn plain_blocks(place: Place, bytes: &[u8]) -> usize
+    ensures bound { result ≤ length bytes.now }
+    ensures plain { escaped place (take result bytes.now) ≡ take result bytes.now }
+{
+    let mut len = 0;
+    while bytes.len() - len >= BLOCK {
+        if has_reference(place, &bytes[len..len + BLOCK]) {
+            return len;
+        }
+        len += BLOCK;
+    }
+    len
+}
+
+fn plain_front(place: Place, bytes: &[u8]) -> usize
     ensures bound { result ≤ length bytes.now }
     ensures plain { escaped place (take result bytes.now) ≡ take result bytes.now }
 {
@@ -53,6 +90,43 @@ fn plain_len(place: Place, bytes: &[u8]) -> usize
         }
     }
     bytes.len()
+}
+
+/// Whether some byte is written as a reference.
+fn has_reference(place: Place, bytes: &[u8]) -> bool
+    ensures { OnFalse result (escaped place bytes.now ≡ bytes.now) }
+{
+    match place {
+        Place::Content => has_reference_in_content(bytes),
+        Place::Value => has_reference_in_value(bytes),
+    }
+}
+
+fn has_reference_in_content(bytes: &[u8]) -> bool
+    ensures { OnFalse result (text_bytes bytes.now ≡ bytes.now) }
+{
+    let mut found = false;
+    for byte in bytes {
+        let b = *byte;
+        found |= (b == b'&') | (b == b'<') | (b == b'>') | (b == b'\r');
+    }
+    found
+}
+
+fn has_reference_in_value(bytes: &[u8]) -> bool
+    ensures { OnFalse result (value_bytes bytes.now ≡ bytes.now) }
+{
+    let mut found = false;
+    for byte in bytes {
+        let b = *byte;
+        found |= (b == b'&')
+            | (b == b'<')
+            | (b == b'"')
+            | (b == b'\t')
+            | (b == b'\n')
+            | (b == b'\r');
+    }
+    found
 }
 
 /// The reference that a byte is written as, where it does not stand for itself.
