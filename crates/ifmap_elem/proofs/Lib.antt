@@ -1,4 +1,11 @@
+pub mod ArrangedLaws
+pub mod Attributes
 pub mod Cuts
+pub mod EscapeLaws
 pub mod NameBytes
+pub mod NamespaceLaws
 pub mod OneReading
 pub mod OneToken
+pub mod Orders
+pub mod PrintedLaws
+pub mod SpaceLaws

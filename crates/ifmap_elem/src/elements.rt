@@ -22,8 +22,8 @@ impl Copied for Name {
     }
 }
 
-/// An attribute.
-#[derive(Debug, Drop)]
+/// An attribute. Attributes are ordered by namespace, then local name, then value.
+#[derive(Debug, Drop, PartialEq, Eq, PartialOrd, Ord)]
 pub struct Attribute {
     pub name: Name,
     pub value: Text,

@@ -1,19 +1,31 @@
-//! Elements of XML as values: texts, lists, names, attributes and children, with their copies.
-//! `Text` and `Many` are the text and the list of every public type of the crates above.
+//! Elements of XML as values: texts, lists, names, attributes and children, with their copies; what
+//! bytes spell an element, and the printer of its canonical bytes. `Text` and `Many` are the text and
+//! the list of every public type of the crates above.
 #![tactic(auto)]
 
+pub mod comparing;
 pub mod copying;
 pub mod elements;
 pub mod equality;
+mod escaping;
 pub mod laws;
 pub mod lists;
+mod numbering;
+pub mod order_laws;
+pub mod printing;
 pub mod readings;
+mod sorting;
 pub mod texts;
 mod tokens;
 
+pub use comparing::same;
 pub use copying::Copied;
 pub use elements::{Attribute, Child, Element, Name};
 pub use equality::Equals;
 pub use lists::Many;
+pub use printing::{canonical, written};
 pub use readings::{Declared, Reading};
 pub use texts::Text;
+
+#[cfg(test)]
+mod tests;

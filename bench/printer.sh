@@ -1,0 +1,134 @@
+#!/bin/sh
+# Times the printer of ifmap_elem against copies of what it prints.
+# Run from anywhere: sh bench/printer.sh. It needs `rt`, and builds in a new folder under TMPDIR.
+set -e
+top=$(cd "$(dirname "$0")/.." && pwd)
+work=$(mktemp -d "${TMPDIR:-/tmp}/printer-bench.XXXXXX")
+trap 'rm -rf "$work"' EXIT
+mkdir -p "$work/crates/printer_bench/src"
+cp "$top/crates.txt" "$work/crates.txt"
+echo 'printer_bench: ifmap_elem' >> "$work/crates.txt"
+for crate in "$top"/crates/*; do
+    mkdir -p "$work/crates/$(basename "$crate")"
+    for part in src specs proofs; do
+        if [ -d "$crate/$part" ]; then cp -r "$crate/$part" "$work/crates/$(basename "$crate")/"; fi
+    done
+done
+cat > "$work/crates/printer_bench/src/main.rt" <<'RATTLE'
+//! Prints elements of about one megabyte, and copies the bytes.
+#![tactic(auto)]
+
+use ifmap_elem::{Attribute, Child, Copied, Element, Many, Name, Text, canonical, same};
+use std::alloc::{AllocError, Global};
+use std::io;
+use std::rt::Runtime;
+use std::time::Instant;
+
+const META: &str = "http://www.trustedcomputinggroup.org/2010/IFMAP-METADATA/2";
+
+fn text(alloc: Global, words: &str) -> Result<Text, AllocError> {
+    Ok(Text(String::from_str(alloc, words)?))
+}
+
+fn name(alloc: Global, space: &str, local: &str) -> Result<Name, AllocError> {
+    let space = text(alloc, space)?;
+    let local = text(alloc, local)?;
+    Ok(Name { space, local })
+}
+
+fn attribute(alloc: Global, local: &str, value: &str) -> Result<Attribute, AllocError> {
+    let name = name(alloc, "", local)?;
+    let value = text(alloc, value)?;
+    Ok(Attribute { name, value })
+}
+
+fn leaf(alloc: Global, space: &str, local: &str, words: &str) -> Result<Element, AllocError> {
+    let name = name(alloc, space, local)?;
+    let attributes = Many(Vec::new(alloc));
+    let mut members = Vec::new(alloc);
+    members.push(Child::Text(text(alloc, words)?))?;
+    let children = Many(members);
+    Ok(Element { name, attributes, children })
+}
+
+fn metadata(alloc: Global) -> Result<Element, AllocError> {
+    let name = name(alloc, META, "event")?;
+    let mut attributes = Vec::new(alloc);
+    attributes.push(attribute(alloc, "ifmap-cardinality", "multiValue")?)?;
+    attributes.push(attribute(alloc, "ifmap-publisher-id", "pdp-17")?)?;
+    attributes.push(attribute(alloc, "ifmap-timestamp", "2026-11-27T01:23:45Z")?)?;
+    let mut members = Vec::new(alloc);
+    for local in ["name", "discovered-time", "discoverer-id", "magnitude", "confidence", "significance", "type", "other-type-definition", "information", "vulnerability-uri"] {
+        members.push(Child::Element(leaf(alloc, "", local, "some words that a sensor wrote, of sixty bytes or about that")?))?;
+    }
+    let attributes = Many(attributes);
+    let children = Many(members);
+    Ok(Element { name, attributes, children })
+}
+
+fn thousand(alloc: Global) -> Result<Element, AllocError> {
+    let name = name(alloc, "http://www.trustedcomputinggroup.org/2010/IFMAP/2", "response")?;
+    let attributes = Many(Vec::new(alloc));
+    let mut members = Vec::new(alloc);
+    for _ in 0..1000 {
+        members.push(Child::Element(metadata(alloc)?))?;
+    }
+    let children = Many(members);
+    Ok(Element { name, attributes, children })
+}
+
+fn long_text(alloc: Global) -> Result<Element, AllocError> {
+    let mut words = String::new(alloc);
+    for _ in 0..16000 {
+        words.push_str("sixty-three bytes of plain text, as the log of a scanner has it")?;
+    }
+    leaf(alloc, "", "a", words.as_str())
+}
+
+fn spaces(alloc: Global) -> Result<Element, AllocError> {
+    let name = name(alloc, "", "a")?;
+    let attributes = Many(Vec::new(alloc));
+    let mut members = Vec::new(alloc);
+    for i in 0..10000 {
+        let space = format!(in alloc; "http://example.com/namespaces/number-{i}")?;
+        members.push(Child::Element(leaf(alloc, space.as_str(), "b", "c")?))?;
+    }
+    let children = Many(members);
+    Ok(Element { name, attributes, children })
+}
+
+fn bench<R: Runtime>(rt: &R, alloc: Global, label: &str, element: &Element) -> io::Result<()> {
+    let mut prints = u128::MAX;
+    let mut copies = u128::MAX;
+    let mut compares = u128::MAX;
+    let mut length = 0;
+    for _ in 0..20 {
+        let start = Instant::now(rt)?;
+        let printed = canonical(alloc, element).map_err(io::Error::from)?;
+        prints = prints.min(start.elapsed(rt)?.as_nanos());
+        length = printed.0.len();
+        let start = Instant::now(rt)?;
+        let one = Vec::from_slice(alloc, printed.0.as_slice()).map_err(io::Error::from)?;
+        let two = Vec::from_slice(alloc, one.as_slice()).map_err(io::Error::from)?;
+        copies = copies.min(start.elapsed(rt)?.as_nanos());
+        drop(two);
+        let other = element.copy(alloc).map_err(io::Error::from)?;
+        let start = Instant::now(rt)?;
+        let _ = same(element, &other);
+        compares = compares.min(start.elapsed(rt)?.as_nanos());
+    }
+    rt.println(format_args!("{label}: {length} bytes, printed in {} us, copied twice in {} us, compared in {} us", prints / 1000, copies / 1000, compares / 1000))
+}
+
+fn main(rt: HostRuntime) -> io::Result<()> {
+    let alloc = rt.alloc();
+    let element = thousand(alloc).map_err(io::Error::from)?;
+    bench(&rt, alloc, "a thousand metadata elements", &element)?;
+    let element = long_text(alloc).map_err(io::Error::from)?;
+    bench(&rt, alloc, "one long text", &element)?;
+    let element = spaces(alloc).map_err(io::Error::from)?;
+    bench(&rt, alloc, "ten thousand namespaces", &element)
+}
+RATTLE
+cd "$work/crates/printer_bench"
+rt run

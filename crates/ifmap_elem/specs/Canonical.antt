@@ -1,0 +1,69 @@
+-- The one canonical byte list of an element.
+use Rattle.std.specs.Prelude.{ℕ, List, [], ◌∷◌, ◌++◌, map, codes, Option, None, Some}
+use Rattle.std.specs.List.{concat, flat_map}
+use Rattle.std.specs.Map.{lookup}
+use Rattle.std.specs.Str.{bytes_eq}
+use Rattle.ifmap_elem.specs.declared.elements.Name.{Name}
+use Rattle.ifmap_elem.specs.declared.elements.Attribute.{Attribute}
+use Rattle.ifmap_elem.specs.declared.elements.Child.{Child, fold-Child}
+use Rattle.ifmap_elem.specs.declared.elements.Element.{Element, fold-Element}
+use Rattle.ifmap_elem.specs.declared.elements.Child.TheOpen.{Child-F, Element-F}
+use Rattle.ifmap_elem.specs.Arranged.{arranged}
+use Rattle.ifmap_elem.specs.Escapes.{text_bytes, value_bytes}
+use Rattle.ifmap_elem.specs.Namespaces.{namespaces, prefixed, name_prefixes}
+
+-- a local name behind the prefix, if there is one
+abbrev pub after_prefix : Option (List ℕ) → List ℕ → List ℕ
+after_prefix None local = local
+after_prefix (Some prefix) local = prefix ++ (codes ":" ++ local)
+
+-- a name, with the prefix of its namespace
+abbrev pub name_bytes : List (List ℕ × List ℕ) → Name → List ℕ
+name_bytes prefixes name = after_prefix (lookup (bytes_eq name.space) prefixes) name.local
+
+-- a declaration of a prefix
+abbrev pub declaration_bytes : List ℕ × List ℕ → List ℕ
+declaration_bytes row = codes " xmlns:" ++ (row.1 ++ (codes "=\"" ++ (value_bytes row.0 ++ codes "\"")))
+
+abbrev pub attribute_bytes : List (List ℕ × List ℕ) → Attribute → List ℕ
+attribute_bytes prefixes a = codes " " ++ (name_bytes prefixes a.name ++ (codes "=\"" ++ (value_bytes a.value ++ codes "\"")))
+
+-- what follows the attributes: `/>`, or the children as they are printed and an end tag
+abbrev pub content_bytes : List ℕ → List (List ℕ) → List ℕ
+content_bytes name [] = codes "/>"
+content_bytes name (first ∷ others) = codes ">" ++ (concat (first ∷ others) ++ (codes "</" ++ (name ++ codes ">")))
+
+-- an element of this name and these attributes, with these declarations, whose children are printed already
+abbrev pub tagged : List (List ℕ × List ℕ) → List (List ℕ × List ℕ) → Name → List Attribute → List (List ℕ) → List ℕ
+tagged prefixes declared name attributes children =
+    let written = name_bytes prefixes name in
+    codes "<" ++ (written ++ (flat_map declaration_bytes declared ++ (flat_map (attribute_bytes prefixes) attributes ++ content_bytes written children)))
+
+module _ (prefixes : List (List ℕ × List ℕ)) where
+  abbrev pub child_piece : Child-F (List ℕ) (List ℕ) → List ℕ
+  child_piece (Child-F.Element bytes) = bytes
+  child_piece (Child-F.Text text) = text_bytes text
+
+  -- of an element below the root, which carries no declarations
+  abbrev pub element_piece : Element-F (List ℕ) (List ℕ) → List ℕ
+  element_piece e = tagged prefixes [] e.name e.attributes e.children
+
+  abbrev pub child_bytes : Child → List ℕ
+  child_bytes = fold-Child (List ℕ) (List ℕ) child_piece element_piece
+
+  abbrev pub element_bytes : Element → List ℕ
+  element_bytes = fold-Element (List ℕ) (List ℕ) child_piece element_piece
+
+-- the element as it stands, as a root that declares its own namespaces and then the given ones
+abbrev pub root_bytes : List (List ℕ × List ℕ) → Element → List ℕ
+root_bytes given e =
+    let spaces = namespaces e in
+    tagged (name_prefixes spaces) (prefixed (codes "n") 1 spaces ++ given) e.name e.attributes (map (child_bytes (name_prefixes spaces)) e.children)
+
+-- the canonical bytes, with ` xmlns:f1=".."`, ` xmlns:f2=".."` and so on for the given namespaces behind the declarations
+abbrev pub written_bytes : Element → List (List ℕ) → List ℕ
+written_bytes e spaces = root_bytes (prefixed (codes "f") 1 spaces) (arranged e)
+
+-- the canonical bytes
+abbrev pub canonical_bytes : Element → List ℕ
+canonical_bytes e = written_bytes e []

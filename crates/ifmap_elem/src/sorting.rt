@@ -1,0 +1,22 @@
+//! Attributes in the order in which they are printed.
+ghost use Rattle.std.specs.Prelude.{◌≡◌, IfOk, map};
+ghost use Rattle.ifmap_elem.specs.Arranged.{sorted};
+
+use crate::elements::Attribute;
+use crate::lists::Many;
+use std::alloc::{AllocError as NoMemory, Global};
+
+/// References to the attributes, by name and then by value.
+pub(crate) fn sorted_attributes(
+    alloc: Global,
+    attributes: &Many<Attribute>,
+) -> Result<Vec<&Attribute>, NoMemory>
+    ensures { IfOk result (λ order. map (λ a. a.now) order.items ≡ sorted attributes.now) }
+{
+    let mut order = Vec::with_capacity(alloc, attributes.0.len())?;
+    for attribute in &attributes.0 {
+        order.push(attribute)?;
+    }
+    order.sort_unstable();
+    Ok(order)
+}
