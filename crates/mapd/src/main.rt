@@ -5,11 +5,10 @@ use ifmap_io::{StdSink, StdSource};
 use ifmap_server::endings::NO_MEMORY;
 use ifmap_server::run;
 use std::alloc::{AllocError, Global};
-use std::env;
 use std::env::Args;
-use std::io;
 use std::io::ErrorKind;
 use std::process::ExitCode;
+use std::{env, io};
 
 fn main(rt: HostRuntime) -> ExitCode {
     let Ok(words) = words_of(rt.alloc(), env::args(&rt)) else {
@@ -17,12 +16,7 @@ fn main(rt: HostRuntime) -> ExitCode {
     };
     let mut source = StdSource::new(rt.stdin());
     let mut sink = StdSink::new(rt.stdout());
-    ExitCode::from(run(
-        rt.alloc(),
-        words.as_slice(),
-        &mut source,
-        &mut sink,
-    ))
+    ExitCode::from(run(rt.alloc(), words.as_slice(), &mut source, &mut sink))
 }
 
 // The words behind the program's name. Words that are no text are of no form, as no words are.
