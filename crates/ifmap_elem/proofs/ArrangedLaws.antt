@@ -1,11 +1,11 @@
 -- What arranging does, level by level.
-use Rattle.std.proofs.Common.{◌≡◌, ℕ, List, [], ◌∷◌, map, length, get_or, ◌<◌, Bool, IsTrue, ◌↔◌, refl, ap, sym, ◌∙◌}
+use Rattle.std.proofs.Common.{◌≡◌, ℕ, List, map, length, get_or, ◌<◌, Bool, IsTrue, ◌↔◌, ap, sym, ◌∙◌}
 use Rattle.std.proofs.lemmas.List.{get_or-map}
 use Rattle.ifmap_elem.specs.Folds.{at_element, at_child_element, at_child_text}
 use Rattle.ifmap_elem.specs.Arranged.{arranged, arranged_child, sorted, child_arranged, element_arranged}
 use Rattle.ifmap_elem.specs.declared.elements.Child.{Child, out-Child, out-roll-Child}
 use Rattle.ifmap_elem.specs.declared.elements.Child as the
-use Rattle.ifmap_elem.specs.declared.elements.Child.TheVariants.{rolls-Element, rolls-Text}
+use Rattle.ifmap_elem.specs.declared.elements.Child.TheVariants.{rolls-Element}
 use Rattle.ifmap_elem.specs.declared.elements.Child.TheOpen.{Child-F}
 use Rattle.ifmap_elem.specs.declared.elements.Element.{Element}
 

@@ -1,5 +1,5 @@
 -- The order of attributes, and how often they occur.
-use Rattle.std.proofs.Common.{◌≡◌, ℕ, ◌+◌, ◌≤◌, ◌<◌, suc, List, [], ◌∷◌, length, Bool, true, false, refl, ap, sym, ◌∙◌, subst, arith, get_or, map, inl, inr, ◌⊎◌, cond, add-one, Bor}
+use Rattle.std.proofs.Common.{◌≡◌, ℕ, ◌≤◌, ◌<◌, suc, List, [], ◌∷◌, length, true, false, refl, ap, sym, ◌∙◌, subst, arith, get_or, map, inl, inr, ◌⊎◌, cond, add-one, Bor}
 use Rattle.std.proofs.lemmas.List.Sums.{sum_by-cons}
 use Rattle.std.specs.List.{All}
 use Rattle.std.proofs.lemmas.Bool.{cases_Bool, and_parts}

@@ -1,5 +1,5 @@
 -- What an element is printed as, piece by piece.
-use Rattle.std.proofs.Common.{◌≡◌, ◌≢◌, ℕ, ◌+◌, ◌<◌, ◌≤◌, List, [], ◌∷◌, ◌++◌, map, take, length, get_or, refl, ap, sym, ◌∙◌, subst, Bor, append_assoc, arith}
+use Rattle.std.proofs.Common.{◌≡◌, ◌≢◌, ℕ, ◌+◌, ◌<◌, ◌≤◌, List, [], ◌∷◌, ◌++◌, map, take, length, get_or, refl, ap, sym, ◌∙◌, Bor, append_assoc, arith}
 use Rattle.std.proofs.lemmas.List.{take_more, take_all, length-take-le, append-nil}
 use Rattle.std.proofs.lemmas.List.Concat.{flat_map-append}
 use Rattle.std.specs.Prelude.{codes}
@@ -8,8 +8,7 @@ use Rattle.std.specs.Fmt.{decimal}
 use Rattle.ifmap_elem.specs.Folds.{at_element}
 use Rattle.ifmap_elem.specs.Arranged.{arranged, arranged_child, sorted}
 use Rattle.ifmap_elem.specs.Namespaces.{namespaces, prefixed, name_prefixes}
-use Rattle.ifmap_elem.specs.Canonical.{name_bytes, declaration_bytes, attribute_bytes, content_bytes, tagged, child_piece, element_piece, child_bytes, element_bytes, root_bytes, written_bytes}
-use Rattle.ifmap_elem.specs.declared.elements.Name.{Name}
+use Rattle.ifmap_elem.specs.Canonical.{name_bytes, declaration_bytes, attribute_bytes, content_bytes, tagged, child_piece, element_piece, child_bytes, element_bytes, written_bytes}
 use Rattle.ifmap_elem.specs.declared.elements.Attribute.{Attribute}
 use Rattle.ifmap_elem.specs.declared.elements.Child.{Child}
 use Rattle.ifmap_elem.specs.declared.elements.Element.{Element}

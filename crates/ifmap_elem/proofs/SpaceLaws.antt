@@ -7,7 +7,6 @@ use Rattle.ifmap_elem.specs.Folds.{at_element}
 use Rattle.ifmap_elem.specs.Arranged.{arranged, arranged_child, sorted}
 use Rattle.ifmap_elem.specs.Namespaces.{spaces_of, spaces_of_child, child_spaces, element_spaces, AddsSpaces}
 use Rattle.ifmap_elem.specs.declared.elements.Attribute.{Attribute}
-use Rattle.ifmap_elem.specs.declared.elements.Child.{Child}
 use Rattle.ifmap_elem.specs.declared.elements.Element.{Element}
 use Rattle.ifmap_elem.proofs.ArrangedLaws.{arranged_is}
 use Rattle.ifmap_elem.proofs.NamespaceLaws.{adds_both}

@@ -1,5 +1,5 @@
 -- How text and the values of attributes are written in canonical bytes (XML 1.0, section 2.4).
-use Rattle.std.specs.Prelude.{ℕ, List, [], ◌∷◌, Bool, cond, ◌==◌, codes}
+use Rattle.std.specs.Prelude.{ℕ, List, [], ◌∷◌, cond, ◌==◌, codes}
 use Rattle.std.specs.List.{flat_map}
 use Rattle.ifmap_elem.specs.declared.escaping.Place.{Place}
 use Rattle.ifmap_elem.specs.declared.escaping.Place.TheVariants.{Content, Value}

@@ -1,4 +1,4 @@
-use Rattle.std.proofs.Common.{◌≡◌, ◌∙◌, sym, ap, map, arith}
+use Rattle.std.proofs.Common.{◌∙◌, sym, ap, map, arith}
 use Rattle.ifmap_elem.specs.Arranged.{arranged_child}
 use Rattle.ifmap_elem.proofs.ArrangedLaws.{same_children_of, other_at}
 use Rattle.ifmap_elem.proofs.comparing.+same.Goals as goal

@@ -1,4 +1,4 @@
-use Rattle.std.proofs.Common.{◌≡◌, ℕ, ◌+◌, take, ap, sym, ◌∙◌, subst}
+use Rattle.std.proofs.Common.{◌≡◌, ℕ, ◌+◌, take, sym, subst}
 use Rattle.ifmap_elem.specs.Escapes.{escaped}
 use Rattle.ifmap_elem.proofs.EscapeLaws.{plain_both}
 use Rattle.ifmap_elem.proofs.escaping.plain_len.Goals as goal
