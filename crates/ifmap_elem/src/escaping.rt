@@ -43,7 +43,7 @@ fn write_first<'a>(place: Place, bytes: &'a [u8], out: &mut Vec<u8>) -> Result<&
 }
 
 /// How many bytes are looked at together, without a branch for each.
-const BLOCK: usize = 64;
+const BLOCK: usize = 256;
 
 /// How many bytes at the front stand for themselves.
 fn plain_len(place: Place, bytes: &[u8]) -> usize
@@ -102,6 +102,8 @@ fn has_reference(place: Place, bytes: &[u8]) -> bool
     }
 }
 
+// It is not inlined, since it becomes vector code where its length is not known.
+#[inline(never)]
 fn has_reference_in_content(bytes: &[u8]) -> bool
     ensures { OnFalse result (text_bytes bytes.now ≡ bytes.now) }
 {
@@ -113,6 +115,8 @@ fn has_reference_in_content(bytes: &[u8]) -> bool
     found
 }
 
+// As above.
+#[inline(never)]
 fn has_reference_in_value(bytes: &[u8]) -> bool
     ensures { OnFalse result (value_bytes bytes.now ≡ bytes.now) }
 {

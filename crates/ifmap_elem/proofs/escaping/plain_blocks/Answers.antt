@@ -8,7 +8,7 @@ loop-len-preserved c = record {
   inside = omega (arith, c.loop-len-test.true);
   plain =
       let behind = drop c.loop-len.len c.args.bytes.now in
-      let block : c.loop-len.len + 64 - c.loop-len.len ≡ 64 = omega arith in
-      plain_both c.args.place c.args.bytes.now behind c.loop-len.len 64 c.loop-len.invariant.plain refl
+      let block : c.loop-len.len + 256 - c.loop-len.len ≡ 256 = omega arith in
+      plain_both c.args.place c.args.bytes.now behind c.loop-len.len 256 c.loop-len.invariant.plain refl
       (subst (λ (n : ℕ). escaped c.args.place (take n behind) ≡ take n behind) block c.if-has_reference.ensures);
 }
