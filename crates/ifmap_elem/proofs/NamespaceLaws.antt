@@ -13,7 +13,8 @@ use Rattle.std.specs.Fmt.{decimal}
 use Rattle.std.specs.Ordering.{nat_cmp, is_eq}
 use Rattle.std.specs.Cmp.Lexicographic.{slice_cmp, texts_ties}
 use Rattle.std.proofs.lemmas.Cmp.{nat_list_eq_equiv}
-use Rattle.ifmap_elem.specs.Namespaces.{once_each, is_declared, declared_among, AddsSpaces, prefixed, name_prefixes, xml_space}
+use Rattle.ifmap_elem.specs.Namespaces.{once_each, is_declared, declared_among, AddsSpaces, prefix_rows, name_prefixes}
+use Rattle.ifmap_elem.specs.Scopes.{xml_space}
 
 abbrev Texts : Type 0
 Texts = List (List ℕ)
@@ -90,11 +91,11 @@ adds_new xs s d new seen e =
     let k : among s (declared_among seen) ≡ false = ap (among s) (sym e) ∙ new in
     ap (λ l. l ++ s ∷ []) e ∙ sym (declared_among-push seen s d ∙ (rw k refl))
 
-is_some-prefixed : (letter : List ℕ) (n : ℕ) (s : List ℕ) (xs : Texts) → is_some (lookup (bytes_eq s) (prefixed letter n xs)) ≡ among s xs
-is_some-prefixed letter n s [] = refl
-is_some-prefixed letter n s (x ∷ xs) = elim (cases_Bool (bytes_eq s x)) [
+is_some-prefix_rows : (letter : List ℕ) (n : ℕ) (s : List ℕ) (xs : Texts) → is_some (lookup (bytes_eq s) (prefix_rows letter n xs)) ≡ among s xs
+is_some-prefix_rows letter n s [] = refl
+is_some-prefix_rows letter n s (x ∷ xs) = elim (cases_Bool (bytes_eq s x)) [
   | inl e ↦ rw e refl
-  | inr e ↦ rw e (is_some-prefixed letter (n + 1) s xs)
+  | inr e ↦ rw e (is_some-prefix_rows letter (n + 1) s xs)
 ]
 
 -- a namespace that has a prefix adds nothing
@@ -103,7 +104,7 @@ adds_prefixed xs s known = elim (cases_Bool (is_declared s)) [
   | inr d ↦ adds_undeclared xs s d
   | inl d ↦
       let other : bytes_eq s xml_space ≡ false = not-true (bytes_eq s xml_space) (and_parts (not (bytes_eq s [])) (not (bytes_eq s xml_space)) d).1 in
-      adds_known xs s d (sym (is_some-prefixed (codes "n") 1 s xs) ∙ (rw other at known))
+      adds_known xs s d (sym (is_some-prefix_rows (codes "n") 1 s xs) ∙ (rw other at known))
 ]
 
 -- no namespace adds nothing
@@ -122,13 +123,13 @@ adds_unprefixed xs ys s some none is =
     unprefixed : (s : List ℕ) (xs : Texts) → is_some (lookup (bytes_eq s) (name_prefixes xs)) ≡ false → (bytes_eq s xml_space ≡ false) × (among s xs ≡ false)
     unprefixed s xs none =
         let off : bytes_eq s xml_space ≡ false = false_from_ne_true (bytes_eq s xml_space) (λ e. let h : true ≡ false = rw e at none in cc) in
-        (off, sym (is_some-prefixed (codes "n") 1 s xs) ∙ (rw off at none))
+        (off, sym (is_some-prefix_rows (codes "n") 1 s xs) ∙ (rw off at none))
 
-pub prefixed-push : (letter : List ℕ) (n : ℕ) (xs : Texts) (s : List ℕ) → prefixed letter n (xs ++ s ∷ []) ≡ prefixed letter n xs ++ (s, letter ++ decimal (n + length xs)) ∷ []
-prefixed-push letter n [] s = let e : n ≡ n + length {A = List ℕ} [] = omega arith in ap (λ (k : ℕ). (s, letter ++ decimal k) ∷ []) e
-prefixed-push letter n (x ∷ xs) s =
+pub prefix_rows-push : (letter : List ℕ) (n : ℕ) (xs : Texts) (s : List ℕ) → prefix_rows letter n (xs ++ s ∷ []) ≡ prefix_rows letter n xs ++ (s, letter ++ decimal (n + length xs)) ∷ []
+prefix_rows-push letter n [] s = let e : n ≡ n + length {A = List ℕ} [] = omega arith in ap (λ (k : ℕ). (s, letter ++ decimal k) ∷ []) e
+prefix_rows-push letter n (x ∷ xs) s =
     let e : n + 1 + length xs ≡ n + suc (length xs) = omega arith in
-    ap (λ l. (x, letter ++ decimal n) ∷ l) (prefixed-push letter (n + 1) xs s ∙ ap (λ (k : ℕ). prefixed letter (n + 1) xs ++ (s, letter ++ decimal k) ∷ []) e)
+    ap (λ l. (x, letter ++ decimal n) ∷ l) (prefix_rows-push letter (n + 1) xs s ∙ ap (λ (k : ℕ). prefix_rows letter (n + 1) xs ++ (s, letter ++ decimal k) ∷ []) e)
 
 abbrev Rows : Type 0
 Rows = List (List ℕ × List ℕ)
@@ -149,7 +150,7 @@ one_row_more : (old new : List ℕ → Option (List ℕ)) (xs : Texts) (s label 
     → ((q : List ℕ) → new q ≡ cond (is_eq (slice_cmp nat_cmp s q)) (Some label) (old q)) → label ≡ codes "n" ++ decimal (1 + length xs) → lookup (bytes_eq s) (name_prefixes xs) ≡ None
     → (q : List ℕ) → new q ≡ lookup (bytes_eq q) (name_prefixes (xs ++ s ∷ []))
 one_row_more old new xs s label was now is none q =
-    let rows : name_prefixes (xs ++ s ∷ []) ≡ name_prefixes xs ++ (s, codes "n" ++ decimal (1 + length xs)) ∷ [] = ap (λ l. (xml_space, codes "xml") ∷ l) (prefixed-push (codes "n") 1 xs s) in
+    let rows : name_prefixes (xs ++ s ∷ []) ≡ name_prefixes xs ++ (s, codes "n" ++ decimal (1 + length xs)) ∷ [] = ap (λ l. (xml_space, codes "xml") ∷ l) (prefix_rows-push (codes "n") 1 xs s) in
     now q ∙ ap (λ b. cond b (Some label) (old q)) (sym (texts_ties s q)) ∙ row (bytes_eq s q) refl ∙ ap (lookup (bytes_eq q)) (sym rows)
   where
     row : (b : Bool) → bytes_eq s q ≡ b → cond b (Some label) (old q) ≡ lookup (bytes_eq q) (name_prefixes xs ++ (s, codes "n" ++ decimal (1 + length xs)) ∷ [])

@@ -7,13 +7,13 @@ use Rattle.std.specs.List.{flat_map, concat}
 use Rattle.std.specs.Fmt.{decimal}
 use Rattle.ifmap_elem.specs.Folds.{at_element}
 use Rattle.ifmap_elem.specs.Arranged.{arranged, arranged_child, sorted}
-use Rattle.ifmap_elem.specs.Namespaces.{namespaces, prefixed, name_prefixes}
-use Rattle.ifmap_elem.specs.Canonical.{name_bytes, declaration_bytes, attribute_bytes, content_bytes, tagged, child_piece, element_piece, child_bytes, element_bytes, written_bytes}
+use Rattle.ifmap_elem.specs.Namespaces.{namespaces, prefix_rows, name_prefixes}
+use Rattle.ifmap_elem.specs.Canonical.{printed_name, declaration_bytes, attribute_bytes, content_bytes, tagged, child_piece, element_piece, child_bytes, element_bytes, written_bytes}
 use Rattle.ifmap_elem.specs.declared.elements.Attribute.{Attribute}
 use Rattle.ifmap_elem.specs.declared.elements.Child.{Child}
 use Rattle.ifmap_elem.specs.declared.elements.Element.{Element}
 use Rattle.ifmap_elem.proofs.ArrangedLaws.{arranged_is}
-use Rattle.ifmap_elem.proofs.NamespaceLaws.{prefixed-push}
+use Rattle.ifmap_elem.proofs.NamespaceLaws.{prefix_rows-push}
 
 abbrev Rows : Type 0
 Rows = List (List ℕ × List ℕ)
@@ -45,12 +45,12 @@ element_is prefixes e =
     ∙ at_element (List ℕ) (List ℕ) (child_piece prefixes) (element_piece prefixes) (record { name = e.name; attributes = sorted e.attributes; children = map arranged_child e.children })
     ∙ ap (tagged prefixes [] e.name (sorted e.attributes)) (map_map (child_bytes prefixes) arranged_child e.children)
 
-pub element_written : (prefixes : Rows) (element : Element) (a b c d e : List ℕ) → b ≡ a ++ codes "<" → c ≡ b ++ name_bytes prefixes element.name
+pub element_written : (prefixes : Rows) (element : Element) (a b c d e : List ℕ) → b ≡ a ++ codes "<" → c ≡ b ++ printed_name prefixes element.name
     → d ≡ c ++ flat_map (attribute_bytes prefixes) (sorted element.attributes)
-    → e ≡ d ++ content_bytes (name_bytes prefixes element.name) (map (λ c. child_bytes prefixes (arranged_child c)) element.children)
+    → e ≡ d ++ content_bytes (printed_name prefixes element.name) (map (λ c. child_bytes prefixes (arranged_child c)) element.children)
     → e ≡ a ++ element_bytes prefixes (arranged element)
 element_written prefixes element a b c d e p q r s =
-    two_written a b e (codes "<") _ p (two_written b c e (name_bytes prefixes element.name) _ q (two_written c d e _ _ r s))
+    two_written a b e (codes "<") _ p (two_written b c e (printed_name prefixes element.name) _ q (two_written c d e _ _ r s))
     ∙ ap (λ l. a ++ l) (sym (element_is prefixes element))
 
 abbrev rooted : Rows → Rows → Element → List ℕ
@@ -62,38 +62,38 @@ root_is prefixes declared e =
     ap (rooted prefixes declared) (arranged_is e) ∙ ap (tagged prefixes declared e.name (sorted e.attributes)) (map_map (child_bytes prefixes) arranged_child e.children)
 
 pub root_written : (element : Element) (given spaces : List (List ℕ)) (a b c d e f : List ℕ) → spaces ≡ namespaces (arranged element)
-    → a ≡ codes "<" → b ≡ a ++ name_bytes (name_prefixes spaces) element.name
-    → c ≡ b ++ flat_map declaration_bytes (prefixed (codes "n") 1 spaces) → d ≡ c ++ flat_map declaration_bytes (prefixed (codes "f") 1 given)
+    → a ≡ codes "<" → b ≡ a ++ printed_name (name_prefixes spaces) element.name
+    → c ≡ b ++ flat_map declaration_bytes (prefix_rows (codes "n") 1 spaces) → d ≡ c ++ flat_map declaration_bytes (prefix_rows (codes "f") 1 given)
     → e ≡ d ++ flat_map (attribute_bytes (name_prefixes spaces)) (sorted element.attributes)
-    → f ≡ e ++ content_bytes (name_bytes (name_prefixes spaces) element.name) (map (λ c. child_bytes (name_prefixes spaces) (arranged_child c)) element.children)
+    → f ≡ e ++ content_bytes (printed_name (name_prefixes spaces) element.name) (map (λ c. child_bytes (name_prefixes spaces) (arranged_child c)) element.children)
     → f ≡ written_bytes element given
 root_written element given spaces a b c d e f are p q r s t u =
-    let own = prefixed (codes "n") 1 spaces in
-    let more = prefixed (codes "f") 1 given in
+    let own = prefix_rows (codes "n") 1 spaces in
+    let more = prefix_rows (codes "f") 1 given in
     let prefixes = name_prefixes spaces in
-    two_written a b f (name_bytes prefixes element.name) _ q
+    two_written a b f (printed_name prefixes element.name) _ q
     (two_written b c f (flat_map declaration_bytes own) _ r (two_written c d f (flat_map declaration_bytes more) _ s (two_written d e f _ _ t u)))
-    ∙ ap (λ l. l ++ (name_bytes prefixes element.name ++ (flat_map declaration_bytes own ++ (flat_map declaration_bytes more ++ rest)))) p
-    ∙ ap (λ l. codes "<" ++ (name_bytes prefixes element.name ++ l)) (sym (append_assoc (flat_map declaration_bytes own) (flat_map declaration_bytes more) rest))
-    ∙ ap (λ l. codes "<" ++ (name_bytes prefixes element.name ++ (l ++ rest))) (sym (flat_map-append declaration_bytes own more))
+    ∙ ap (λ l. l ++ (printed_name prefixes element.name ++ (flat_map declaration_bytes own ++ (flat_map declaration_bytes more ++ rest)))) p
+    ∙ ap (λ l. codes "<" ++ (printed_name prefixes element.name ++ l)) (sym (append_assoc (flat_map declaration_bytes own) (flat_map declaration_bytes more) rest))
+    ∙ ap (λ l. codes "<" ++ (printed_name prefixes element.name ++ (l ++ rest))) (sym (flat_map-append declaration_bytes own more))
     ∙ sym (root_is prefixes (own ++ more) element)
-    ∙ ap (λ (l : List (List ℕ)). rooted (name_prefixes l) (prefixed (codes "n") 1 l ++ prefixed (codes "f") 1 given) (arranged element)) are
+    ∙ ap (λ (l : List (List ℕ)). rooted (name_prefixes l) (prefix_rows (codes "n") 1 l ++ prefix_rows (codes "f") 1 given) (arranged element)) are
   where
     rest : List ℕ
     rest =
         flat_map (attribute_bytes (name_prefixes spaces)) (sorted element.attributes)
-        ++ content_bytes (name_bytes (name_prefixes spaces) element.name) (map (λ c. child_bytes (name_prefixes spaces) (arranged_child c)) element.children)
+        ++ content_bytes (printed_name (name_prefixes spaces) element.name) (map (λ c. child_bytes (name_prefixes spaces) (arranged_child c)) element.children)
 
 -- one more declaration
 pub declarations_more : (letter : List ℕ) (xs : List (List ℕ)) (i : ℕ) (x : List ℕ) → i < length xs → x ≡ get_or xs i x
-    → flat_map declaration_bytes (prefixed letter 1 (take (i + 1) xs)) ≡ flat_map declaration_bytes (prefixed letter 1 (take i xs)) ++ declaration_bytes (x, letter ++ decimal (i + 1))
+    → flat_map declaration_bytes (prefix_rows letter 1 (take (i + 1) xs)) ≡ flat_map declaration_bytes (prefix_rows letter 1 (take i xs)) ++ declaration_bytes (x, letter ++ decimal (i + 1))
 declarations_more letter xs i x l is =
     let long : 1 + length (take i xs) ≡ i + 1 = omega (arith, length-take-le i xs (omega arith)) in
     let back : get_or xs i x ≡ x = sym is in
-    ap (λ s. flat_map declaration_bytes (prefixed letter 1 s)) (take_more xs i x l)
-    ∙ ap (flat_map declaration_bytes) (prefixed-push letter 1 (take i xs) (get_or xs i x))
-    ∙ flat_map-append declaration_bytes (prefixed letter 1 (take i xs)) ((get_or xs i x, letter ++ decimal (1 + length (take i xs))) ∷ [])
-    ∙ ap (λ s. flat_map declaration_bytes (prefixed letter 1 (take i xs)) ++ s)
+    ap (λ s. flat_map declaration_bytes (prefix_rows letter 1 s)) (take_more xs i x l)
+    ∙ ap (flat_map declaration_bytes) (prefix_rows-push letter 1 (take i xs) (get_or xs i x))
+    ∙ flat_map-append declaration_bytes (prefix_rows letter 1 (take i xs)) ((get_or xs i x, letter ++ decimal (1 + length (take i xs))) ∷ [])
+    ∙ ap (λ s. flat_map declaration_bytes (prefix_rows letter 1 (take i xs)) ++ s)
     (append-nil (declaration_bytes (get_or xs i x, letter ++ decimal (1 + length (take i xs)))) ∙ (λ j. declaration_bytes (back j, letter ++ decimal (long j))))
 
 referred_attributes : (prefixes : Rows) (rs : List (Bor Attribute))
@@ -108,9 +108,9 @@ attributes_written prefixes rs ss attributes i a b l e f is =
     is ∙ ap (λ x. a ++ x) (ap (flat_map (λ (r : Bor Attribute). attribute_bytes prefixes r.now)) (take_all i rs l ∙ e) ∙ referred_attributes prefixes ss ∙ ap (flat_map (attribute_bytes prefixes)) f)
 
 pub declared_more : (letter : List ℕ) (xs : List (List ℕ)) (i : ℕ) (x prefix a b c : List ℕ) → i < length xs → x ≡ get_or xs i x → prefix ≡ letter ++ decimal (i + 1)
-    → b ≡ a ++ flat_map declaration_bytes (prefixed letter 1 (take i xs)) → c ≡ b ++ declaration_bytes (x, prefix)
-    → c ≡ a ++ flat_map declaration_bytes (prefixed letter 1 (take (i + 1) xs))
+    → b ≡ a ++ flat_map declaration_bytes (prefix_rows letter 1 (take i xs)) → c ≡ b ++ declaration_bytes (x, prefix)
+    → c ≡ a ++ flat_map declaration_bytes (prefix_rows letter 1 (take (i + 1) xs))
 declared_more letter xs i x prefix a b c l is named was now =
-    two_written a b c (flat_map declaration_bytes (prefixed letter 1 (take i xs))) (declaration_bytes (x, prefix)) was now
-    ∙ ap (λ p. a ++ (flat_map declaration_bytes (prefixed letter 1 (take i xs)) ++ declaration_bytes (x, p))) named
+    two_written a b c (flat_map declaration_bytes (prefix_rows letter 1 (take i xs))) (declaration_bytes (x, prefix)) was now
+    ∙ ap (λ p. a ++ (flat_map declaration_bytes (prefix_rows letter 1 (take i xs)) ++ declaration_bytes (x, p))) named
     ∙ ap (λ s. a ++ s) (sym (declarations_more letter xs i x l is))

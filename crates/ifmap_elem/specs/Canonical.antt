@@ -10,7 +10,7 @@ use Rattle.ifmap_elem.specs.declared.elements.Element.{Element, fold-Element}
 use Rattle.ifmap_elem.specs.declared.elements.Child.TheOpen.{Child-F, Element-F}
 use Rattle.ifmap_elem.specs.Arranged.{arranged}
 use Rattle.ifmap_elem.specs.Escapes.{text_bytes, value_bytes}
-use Rattle.ifmap_elem.specs.Namespaces.{namespaces, prefixed, name_prefixes}
+use Rattle.ifmap_elem.specs.Namespaces.{namespaces, prefix_rows, name_prefixes}
 
 -- a local name behind the prefix, if there is one
 abbrev pub after_prefix : Option (List ℕ) → List ℕ → List ℕ
@@ -18,15 +18,15 @@ after_prefix None local = local
 after_prefix (Some prefix) local = prefix ++ (codes ":" ++ local)
 
 -- a name, with the prefix of its namespace
-abbrev pub name_bytes : List (List ℕ × List ℕ) → Name → List ℕ
-name_bytes prefixes name = after_prefix (lookup (bytes_eq name.space) prefixes) name.local
+abbrev pub printed_name : List (List ℕ × List ℕ) → Name → List ℕ
+printed_name prefixes name = after_prefix (lookup (bytes_eq name.space) prefixes) name.local
 
 -- a declaration of a prefix
 abbrev pub declaration_bytes : List ℕ × List ℕ → List ℕ
 declaration_bytes row = codes " xmlns:" ++ (row.1 ++ (codes "=\"" ++ (value_bytes row.0 ++ codes "\"")))
 
 abbrev pub attribute_bytes : List (List ℕ × List ℕ) → Attribute → List ℕ
-attribute_bytes prefixes a = codes " " ++ (name_bytes prefixes a.name ++ (codes "=\"" ++ (value_bytes a.value ++ codes "\"")))
+attribute_bytes prefixes a = codes " " ++ (printed_name prefixes a.name ++ (codes "=\"" ++ (value_bytes a.value ++ codes "\"")))
 
 -- what follows the attributes: `/>`, or the children as they are printed and an end tag
 abbrev pub content_bytes : List ℕ → List (List ℕ) → List ℕ
@@ -36,7 +36,7 @@ content_bytes name (first ∷ others) = codes ">" ++ (concat (first ∷ others) 
 -- an element of this name and these attributes, with these declarations, whose children are printed already
 abbrev pub tagged : List (List ℕ × List ℕ) → List (List ℕ × List ℕ) → Name → List Attribute → List (List ℕ) → List ℕ
 tagged prefixes declared name attributes children =
-    let written = name_bytes prefixes name in
+    let written = printed_name prefixes name in
     codes "<" ++ (written ++ (flat_map declaration_bytes declared ++ (flat_map (attribute_bytes prefixes) attributes ++ content_bytes written children)))
 
 module _ (prefixes : List (List ℕ × List ℕ)) where
@@ -58,11 +58,11 @@ module _ (prefixes : List (List ℕ × List ℕ)) where
 abbrev pub root_bytes : List (List ℕ × List ℕ) → Element → List ℕ
 root_bytes given e =
     let spaces = namespaces e in
-    tagged (name_prefixes spaces) (prefixed (codes "n") 1 spaces ++ given) e.name e.attributes (map (child_bytes (name_prefixes spaces)) e.children)
+    tagged (name_prefixes spaces) (prefix_rows (codes "n") 1 spaces ++ given) e.name e.attributes (map (child_bytes (name_prefixes spaces)) e.children)
 
 -- the canonical bytes, with ` xmlns:f1=".."`, ` xmlns:f2=".."` and so on for the given namespaces behind the declarations
 abbrev pub written_bytes : Element → List (List ℕ) → List ℕ
-written_bytes e spaces = root_bytes (prefixed (codes "f") 1 spaces) (arranged e)
+written_bytes e spaces = root_bytes (prefix_rows (codes "f") 1 spaces) (arranged e)
 
 -- the canonical bytes
 abbrev pub canonical_bytes : Element → List ℕ

@@ -6,10 +6,7 @@ use Rattle.std.specs.Str.{bytes_eq}
 use Rattle.ifmap_elem.specs.declared.elements.Child.{fold-Child, Child}
 use Rattle.ifmap_elem.specs.declared.elements.Element.{Element, fold-Element}
 use Rattle.ifmap_elem.specs.declared.elements.Child.TheOpen.{Child-F, Element-F}
-
--- the namespace to which the prefix `xml` is bound from the start (Namespaces in XML 1.0, section 3)
-abbrev pub xml_space : List ℕ
-xml_space = codes "http://www.w3.org/XML/1998/namespace"
+use Rattle.ifmap_elem.specs.Scopes.{xml_space}
 
 abbrev pub child_spaces : Child-F (List (List ℕ)) (List (List ℕ)) → List (List ℕ)
 child_spaces (Child-F.Element spaces) = spaces
@@ -48,10 +45,10 @@ abbrev pub AddsSpaces : List (List ℕ) → List (List ℕ) → List (List ℕ) 
 AddsSpaces old spaces new = (seen : List (List ℕ)) → old ≡ declared_among seen → new ≡ declared_among (seen ++ spaces)
 
 -- namespaces with the prefixes of a letter and a number, the first with this one
-abbrev pub prefixed : List ℕ → ℕ → List (List ℕ) → List (List ℕ × List ℕ)
-prefixed letter number [] = []
-prefixed letter number (space ∷ spaces) = (space, letter ++ decimal number) ∷ prefixed letter (number + 1) spaces
+abbrev pub prefix_rows : List ℕ → ℕ → List (List ℕ) → List (List ℕ × List ℕ)
+prefix_rows letter number [] = []
+prefix_rows letter number (space ∷ spaces) = (space, letter ++ decimal number) ∷ prefix_rows letter (number + 1) spaces
 
 -- the prefixes by which names are written where these namespaces are declared: `xml`, `n1`, `n2` and so on
 abbrev pub name_prefixes : List (List ℕ) → List (List ℕ × List ℕ)
-name_prefixes spaces = (xml_space, codes "xml") ∷ prefixed (codes "n") 1 spaces
+name_prefixes spaces = (xml_space, codes "xml") ∷ prefix_rows (codes "n") 1 spaces

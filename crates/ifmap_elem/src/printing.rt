@@ -2,8 +2,8 @@
 ghost use Rattle.std.specs.Prelude.{◌≡◌, ◌++◌, ◌+◌, ◌∷◌, [], map, codes, IfOk, OnOk, length};
 ghost use Rattle.std.specs.List.{flat_map};
 ghost use Rattle.ifmap_elem.specs.Arranged.{arranged, arranged_child, sorted};
-ghost use Rattle.ifmap_elem.specs.Namespaces.{name_prefixes, prefixed};
-ghost use Rattle.ifmap_elem.specs.Canonical.{canonical_bytes, written_bytes, root_bytes, element_bytes, child_bytes, name_bytes, attribute_bytes, declaration_bytes, content_bytes};
+ghost use Rattle.ifmap_elem.specs.Namespaces.{name_prefixes, prefix_rows};
+ghost use Rattle.ifmap_elem.specs.Canonical.{canonical_bytes, written_bytes, root_bytes, element_bytes, child_bytes, printed_name, attribute_bytes, declaration_bytes, content_bytes};
 
 use crate::elements::{Attribute, Child, Element, Name};
 use crate::escaping::{Place, write_escaped};
@@ -68,7 +68,7 @@ fn write_content(
     children: &Many<Child>,
     out: &mut Vec<u8>,
 ) -> Result<(), NoMemory>
-    ensures { OnOk result (out.new.items ≡ out.old.items ++ content_bytes (name_bytes (name_prefixes prefixes.now) name.now) (map (λ c. child_bytes (name_prefixes prefixes.now) (arranged_child c)) children.now)) }
+    ensures { OnOk result (out.new.items ≡ out.old.items ++ content_bytes (printed_name (name_prefixes prefixes.now) name.now) (map (λ c. child_bytes (name_prefixes prefixes.now) (arranged_child c)) children.now)) }
 {
     if children.0.is_empty() {
         return out.extend_from_slice(b"/>");
@@ -129,7 +129,7 @@ fn write_attribute(
 }
 
 fn write_name(prefixes: &Prefixes, name: &Name, out: &mut Vec<u8>) -> Result<(), NoMemory>
-    ensures { OnOk result (out.new.items ≡ out.old.items ++ name_bytes (name_prefixes prefixes.now) name.now) }
+    ensures { OnOk result (out.new.items ≡ out.old.items ++ printed_name (name_prefixes prefixes.now) name.now) }
 {
     if let Some(prefix) = prefixes.of_space(&name.space) {
         out.extend_from_slice(prefix.0.as_bytes())?;
@@ -146,7 +146,7 @@ fn write_declarations(
     spaces: &[Text],
     out: &mut Vec<u8>,
 ) -> Result<(), NoMemory>
-    ensures { OnOk result (out.new.items ≡ out.old.items ++ flat_map declaration_bytes (prefixed letter.now 1 spaces.now)) }
+    ensures { OnOk result (out.new.items ≡ out.old.items ++ flat_map declaration_bytes (prefix_rows letter.now 1 spaces.now)) }
 {
     for (i, space) in spaces.iter().enumerate() {
         let prefix = numbered_prefix(alloc, letter, i + 1)?;

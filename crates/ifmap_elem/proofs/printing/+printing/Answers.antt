@@ -2,14 +2,14 @@ use Rattle.std.proofs.Common.{◌≡◌, ◌++◌, ap, length, ◌∙◌, arith,
 use Rattle.std.proofs.lemmas.List.{take_all}
 use Rattle.std.specs.List.{flat_map}
 use Rattle.ifmap_elem.specs.Arranged.{arranged_child}
-use Rattle.ifmap_elem.specs.Canonical.{child_bytes, name_bytes}
+use Rattle.ifmap_elem.specs.Canonical.{child_bytes, printed_name}
 use Rattle.ifmap_elem.specs.Namespaces.{name_prefixes}
 use Rattle.ifmap_elem.proofs.PrintedLaws.{content_written, element_written}
 use Rattle.ifmap_elem.proofs.printing.+printing.Goals as goal
 
 pub write_content-returns : goal.write_content-returns
 write_content-returns t c =
-    content_written (λ x. child_bytes (name_prefixes c.args.prefixes.now) (arranged_child x)) c.args.children.now (name_bytes (name_prefixes c.args.prefixes.now) c.args.name.now)
+    content_written (λ x. child_bytes (name_prefixes c.args.prefixes.now) (arranged_child x)) c.args.children.now (printed_name (name_prefixes c.args.prefixes.now) c.args.name.now)
     c.args.out.now.items c.extend_from_slice-2.new.self.items c.loop-child.out.items _ _ _
     (λ e.
     let h : vec_len c.children.inside.0 ≡ 0 = omega (arith, e, c.children.inside.0.ok.0, ap length c.children.view_is) in
