@@ -5,7 +5,7 @@ use Rattle.std.specs.List.{list_any}
 use Rattle.ifmap_core.specs.declared.sessions.Session.{Session}
 
 pub record State : Type 0 where
-  -- after how many seconds without a request a session is expired
+  -- after how many seconds without a request a session is to expire; no step ends one for that yet
   pub ttl : ℕ
   -- the serial that was given last
   pub counter : ℕ

@@ -2,14 +2,14 @@
 ghost use Rattle.std.specs.Prelude.{◌≡◌};
 ghost use Rattle.ifmap_core.specs.Codes.{code_name};
 
-/// Why a request was refused (IF-MAP Binding for SOAP 2.2, section 3.9.1, the `errorCode` values).
+/// Why a request was refused: the error codes of the IF-MAP binding for SOAP, version 2.2.
 #[derive(Clone, Copy, Debug, PartialEq, Eq)]
 pub enum Code {
     /// The session belongs to another client.
     AccessDenied,
     /// No live session has that id.
     InvalidSessionID,
-    /// The server has no room left for another session.
+    /// The server has no room left for another session, or has used its serials up.
     SystemError,
 }
 

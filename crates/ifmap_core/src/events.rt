@@ -12,7 +12,7 @@ pub enum Ask {
 /// One event: a request with all that its answer depends on beside the state.
 #[derive(Debug, Drop)]
 pub struct Event {
-    /// When the request came. A moment before an earlier event's changes nothing.
+    /// When the request came. No answer depends on it yet.
     pub moment: Moment,
     /// Who asks.
     pub client: ClientName,

@@ -2,6 +2,7 @@
 ghost use Rattle.std.specs.Prelude.{◌≡◌, ◌-◌, ◌^◌, ◌<◌, ◌≤◌, ◌↔◌, IfErr, IfOk, OnErr, Some};
 ghost use Rattle.std.specs.Bool.{OnFalse};
 ghost use Rattle.ifmap_core.specs.Causes.{AsksForNoneLeft, NamesAnothersSession, NamesNoSession};
+ghost use Rattle.ifmap_core.specs.declared.codes.Code.{Code};
 ghost use Rattle.ifmap_core.specs.State.{State, opening, session_with_id};
 ghost use Rattle.ifmap_core.specs.Step.{end_session, in_session, is_full, new_session, refused, step};
 
@@ -47,7 +48,8 @@ impl Core {
     }
 
     /// Answers an event. The answer and the state after it are those of `step`; the one error is
-    /// want of memory, which leaves the state as it was. No link is looked at.
+    /// want of memory, which leaves the state as it was, as a refusal does. No link is looked at. No
+    /// session expires yet, so `ttl` and the event's moment change nothing.
     pub fn step<L: Ledger>(
         &mut self,
         alloc: Global,
@@ -56,6 +58,7 @@ impl Core {
     ) -> Result<Answer, AllocError>
         ensures answer { IfOk result (λ answer. (self.new, answer) ≡ step self.old event.now) }
         ensures err { OnErr result (self.new ≡ self.old) }
+        ensures refusal { IfOk result (λ answer. (code : Code) → answer ≡ refused code → self.new ≡ self.old) }
         ensures cost { steps.new ≡ steps.old }
 
         // Each refusal comes exactly where its cause stands.
