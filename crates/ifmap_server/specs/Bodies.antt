@@ -5,7 +5,7 @@ use Rattle.ifmap_core.specs.declared.messages.Request.{Request}
 use Rattle.ifmap_core.specs.declared.messages.Request.TheVariants.{NewSession, EndSession}
 use Rattle.ifmap_core.specs.State.{is_text}
 
--- the start and the end of every SOAP envelope (SOAP 1.2 part 1, section 5) as its canonical bytes are written
+-- the start and the end of an envelope (SOAP 1.2 part 1, section 5) of the two forms and of a reply
 abbrev pub envelope_start : List ℕ
 envelope_start = codes "<n1:Envelope xmlns:n1=\"http://www.w3.org/2003/05/soap-envelope\" xmlns:n2=\"http://www.trustedcomputinggroup.org/2010/IFMAP/2\"><n1:Body>"
 

@@ -1,4 +1,4 @@
--- The words of a header's line.
+-- The words of a header's line. No public clause cites this file.
 use Rattle.std.specs.Prelude.{◌≡◌, ◌≢◌, ℕ, ◌<◌, List, ◌∷◌, ◌++◌, length, slice_index}
 
 -- `@` and four words, with single spaces between them

@@ -1,4 +1,4 @@
--- What was taken from a source and is not used yet.
+-- What was taken from a source and is not used yet. No public clause cites this file.
 use Rattle.std.specs.Prelude.{◌≡◌, ◌≢◌, ℕ, ◌<◌, List, ◌++◌, length, slice_index, Option}
 use Rattle.std.specs.Io.KnownBytes.{Consumes}
 

@@ -1,9 +1,9 @@
 -- The statuses that a replay ends with.
 use Rattle.std.specs.Prelude.{◌≡◌, ℕ}
-use Rattle.ifmap_server.specs.declared.endings.Ending.{Ending}
-use Rattle.ifmap_server.specs.declared.endings.Ending.TheVariants.{Done, FrameFault, NoMemory, ReadFault, WriteFault}
+use Rattle.ifmap_server.specs.declared.endings.ReplayEnd.{ReplayEnd}
+use Rattle.ifmap_server.specs.declared.endings.ReplayEnd.TheVariants.{Done, FrameFault, NoMemory, ReadFault, WriteFault}
 
-abbrev pub status_of : Ending → ℕ
+abbrev pub status_of : ReplayEnd → ℕ
 status_of Done = 0
 status_of FrameFault = 3
 status_of ReadFault = 4
@@ -12,4 +12,4 @@ status_of NoMemory = 6
 
 -- a status that tells how a replay ended: 0, 3, 4, 5 or 6
 abbrev pub IsReplayStatus : ℕ → Type 0
-IsReplayStatus n = (ending : Ending) × (n ≡ status_of ending)
+IsReplayStatus n = (ending : ReplayEnd) × (n ≡ status_of ending)

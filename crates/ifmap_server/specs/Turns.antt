@@ -1,5 +1,5 @@
 -- One turn of a replay: a frame is taken and answered, or the replay ends. `left` is what the source had left and has
--- left, `held` what the sink held and holds, each where it is told.
+-- left, `held` what the sink held and holds, each where it is told. No public clause cites this file.
 use Rattle.std.specs.Prelude.{◌≡◌, ◌≢◌, ℕ, ◌+◌, ◌≤◌, List, [], ◌++◌, drop, length, slice_range, Option, IfSome}
 use Rattle.std.specs.Io.KnownBytes.{Appends, IsAtEnd, Keeps}
 use Rattle.ifmap_core.specs.State.{State, opening}

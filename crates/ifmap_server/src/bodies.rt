@@ -1,5 +1,5 @@
-//! The two bodies that are requests so far, each in one spelling. The reader of every spelling takes
-//! the place of this module.
+//! The two bodies that are requests so far, each in one spelling. Every other spelling of them
+//! means nothing.
 ghost use Rattle.std.specs.Prelude.{◌≡◌, Some, None, true, false, IfOk};
 ghost use Rattle.std.specs.List.{list_all};
 ghost use Rattle.std.specs.Option.{MatchOption};

@@ -5,7 +5,7 @@ ghost use Rattle.std.specs.Io.KnownBytes.{Consumes, IsAtEnd, Keeps};
 ghost use Rattle.ifmap_io.specs.Causes.{Rose};
 ghost use Rattle.ifmap_server.specs.Pending.{HasNoLine, IsLineEnd, Takes};
 
-use crate::endings::Ending;
+use crate::endings::ReplayEnd;
 use crate::frames::LONGEST_HEADER;
 use ifmap_io::Source;
 use std::alloc::{AllocError, Global};
@@ -59,21 +59,21 @@ impl Input {
     }
 
     /// Takes more from the source; false at its end.
-    pub fn fill<S: Source>(&mut self, source: &mut S) -> Result<bool, Ending>
+    pub fn fill<S: Source>(&mut self, source: &mut S) -> Result<bool, ReplayEnd>
         ensures taken { OnOk result (Takes (S.left source.old) (S.left source.new) self.old self.new) }
         ensures more { IfOk result (λ more. OnTrue more (length self.old < length self.new)) }
         ensures end { IfOk result (λ more. OnFalse more (IsAtEnd (S.left source.new) × (self.new ≡ self.old))) }
-        ensures fault { result ≡ Err Ending.ReadFault → Rose (S.faults source.old) (S.faults source.new) }
-        ensures kept { result ≡ Err Ending.ReadFault → Takes (S.left source.old) (S.left source.new) self.old self.new × (self.new ≡ self.old) }
-        ensures cause { IfErr result (λ e. (e ≡ Ending.ReadFault) ⊎ (e ≡ Ending.NoMemory)) }
+        ensures fault { result ≡ Err ReplayEnd.ReadFault → Rose (S.faults source.old) (S.faults source.new) }
+        ensures kept { result ≡ Err ReplayEnd.ReadFault → Takes (S.left source.old) (S.left source.new) self.old self.new × (self.new ≡ self.old) }
+        ensures cause { IfErr result (λ e. (e ≡ ReplayEnd.ReadFault) ⊎ (e ≡ ReplayEnd.NoMemory)) }
         ensures later { S.faults source.old ≤ S.faults source.new }
     {
         self.compact();
         let Ok(count) = source.read(&mut self.chunk) else {
-            return Err(Ending::ReadFault);
+            return Err(ReplayEnd::ReadFault);
         };
         if self.taken.extend_from_slice(&self.chunk[..count]).is_err() {
-            return Err(Ending::NoMemory);
+            return Err(ReplayEnd::NoMemory);
         }
         Ok(count > 0)
     }
@@ -91,15 +91,15 @@ impl Input {
     #[tactic(auto, using(crate::proofs::Taking::takes_nothing, crate::proofs::Taking::takes_more, crate::proofs::Taking::rose_since))]
     /// Waits for a header's line, and answers the place of its newline; `None` where the source ends
     /// and nothing is pending.
-    pub fn await_line<S: Source>(&mut self, source: &mut S) -> Result<Option<usize>, Ending>
+    pub fn await_line<S: Source>(&mut self, source: &mut S) -> Result<Option<usize>, ReplayEnd>
         ensures taken { OnOk result (Takes (S.left source.old) (S.left source.new) self.old self.new) }
         ensures line { IfOk result (λ found. IfSome found (λ place. IsLineEnd self.new place)) }
         ensures end { result ≡ Ok None → IsAtEnd (S.left source.new) × (self.new ≡ []) }
-        ensures fault { result ≡ Err Ending.FrameFault → Takes (S.left source.old) (S.left source.new) self.old self.new
+        ensures fault { result ≡ Err ReplayEnd.FrameFault → Takes (S.left source.old) (S.left source.new) self.old self.new
             × IfSome (S.left source.new) (λ rest. (self.new ≢ []) × HasNoLine (self.new ++ rest)) }
-        ensures read { result ≡ Err Ending.ReadFault → Takes (S.left source.old) (S.left source.new) self.old self.new × HasNoLine self.new }
-        ensures rose { result ≡ Err Ending.ReadFault → Rose (S.faults source.old) (S.faults source.new) }
-        ensures cause { result ≢ Err Ending.Done × (result ≢ Err Ending.WriteFault) }
+        ensures read { result ≡ Err ReplayEnd.ReadFault → Takes (S.left source.old) (S.left source.new) self.old self.new × HasNoLine self.new }
+        ensures rose { result ≡ Err ReplayEnd.ReadFault → Rose (S.faults source.old) (S.faults source.new) }
+        ensures cause { result ≢ Err ReplayEnd.Done × (result ≢ Err ReplayEnd.WriteFault) }
         ensures later { S.faults source.old ≤ S.faults source.new }
     {
         'line: loop {
@@ -107,13 +107,13 @@ impl Input {
                 return Ok(Some(place));
             }
             if self.pending().len() >= LONGEST_HEADER {
-                return Err(Ending::FrameFault);
+                return Err(ReplayEnd::FrameFault);
             }
             if !self.fill(source)? {
                 return if self.pending().is_empty() {
                     Ok(None)
                 } else {
-                    Err(Ending::FrameFault)
+                    Err(ReplayEnd::FrameFault)
                 };
             }
         }
@@ -121,13 +121,17 @@ impl Input {
 
     #[tactic(auto, using(crate::proofs::Taking::takes_nothing, crate::proofs::Taking::takes_more, crate::proofs::Taking::rose_since))]
     /// Waits until that many bytes are pending; false where the source ends before.
-    pub fn await_bytes<S: Source>(&mut self, source: &mut S, count: usize) -> Result<bool, Ending>
+    pub fn await_bytes<S: Source>(
+        &mut self,
+        source: &mut S,
+        count: usize,
+    ) -> Result<bool, ReplayEnd>
         ensures taken { OnOk result (Takes (S.left source.old) (S.left source.new) self.old self.new) }
         ensures enough { IfOk result (λ enough. OnTrue enough (count ≤ length self.new)) }
         ensures end { IfOk result (λ enough. OnFalse enough (IsAtEnd (S.left source.new) × (length self.new < count))) }
-        ensures read { result ≡ Err Ending.ReadFault → Takes (S.left source.old) (S.left source.new) self.old self.new × (length self.new < count) }
-        ensures rose { result ≡ Err Ending.ReadFault → Rose (S.faults source.old) (S.faults source.new) }
-        ensures cause { IfErr result (λ e. (e ≡ Ending.ReadFault) ⊎ (e ≡ Ending.NoMemory)) }
+        ensures read { result ≡ Err ReplayEnd.ReadFault → Takes (S.left source.old) (S.left source.new) self.old self.new × (length self.new < count) }
+        ensures rose { result ≡ Err ReplayEnd.ReadFault → Rose (S.faults source.old) (S.faults source.new) }
+        ensures cause { IfErr result (λ e. (e ≡ ReplayEnd.ReadFault) ⊎ (e ≡ ReplayEnd.NoMemory)) }
         ensures later { S.faults source.old ≤ S.faults source.new }
     {
         'bytes: while self.pending().len() < count {

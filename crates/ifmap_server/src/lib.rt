@@ -1,16 +1,19 @@
-//! Answers scripts of requests by the machine, from bytes in to bytes out.
+//! Answers scripts of requests by the machine, from bytes in to bytes out. `run` is the call that the
+//! program makes.
 #![tactic(auto)]
 
-pub mod bodies;
-pub mod endings;
-pub mod frames;
-pub mod input;
-pub mod laws;
-pub mod replaying;
-pub mod replies;
-pub mod running;
-pub mod words;
+mod bodies;
+mod endings;
+mod frames;
+mod input;
+mod laws;
+mod replaying;
+mod replies;
+mod running;
+pub mod statuses;
+mod words;
 
+pub use laws::{bodies_mean_one_request, bytes_are_one_script};
 pub use running::{replay, run};
 pub use words::{Form, form_of};
 

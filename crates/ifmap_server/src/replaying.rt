@@ -12,7 +12,7 @@ ghost use Rattle.ifmap_server.specs.Script.{longest_script};
 ghost use Rattle.ifmap_server.specs.Turns.{Answers, BeginsNone, IsFaulty, IsFramed, IsOver, IsUnread, IsUnwritten, beginning, frame_of};
 
 use crate::bodies::request_of;
-use crate::endings::Ending;
+use crate::endings::ReplayEnd;
 use crate::frames::{Header, header_of};
 use crate::input::Input;
 use crate::replies::write_answer;
@@ -42,28 +42,28 @@ pub fn next_frame<S: Source>(
     input: &mut Input,
     offset: u64,
     source: &mut S,
-) -> Result<Option<Framed>, Ending>
+) -> Result<Option<Framed>, ReplayEnd>
     requires { offset ≤ longest_script }
     ensures taken { OnOk result (Takes (S.left source.old) (S.left source.new) input.old input.new) }
     ensures frame { IfOk result (λ found. IfSome found (λ framed. IsFramed offset input.new framed)) }
     ensures end { result ≡ Ok None → IsAtEnd (S.left source.new) × (input.new ≡ []) }
-    ensures fault { result ≡ Err Ending.FrameFault → Takes (S.left source.old) (S.left source.new) input.old input.new
+    ensures fault { result ≡ Err ReplayEnd.FrameFault → Takes (S.left source.old) (S.left source.new) input.old input.new
         × IfSome (S.left source.new) (λ rest. (input.new ++ rest ≢ []) × BeginsNone offset (input.new ++ rest)) }
-    ensures read { result ≡ Err Ending.ReadFault → Takes (S.left source.old) (S.left source.new) input.old input.new × BeginsNone offset input.new }
-    ensures rose { result ≡ Err Ending.ReadFault → Rose (S.faults source.old) (S.faults source.new) }
-    ensures cause { result ≢ Err Ending.Done × (result ≢ Err Ending.WriteFault) }
+    ensures read { result ≡ Err ReplayEnd.ReadFault → Takes (S.left source.old) (S.left source.new) input.old input.new × BeginsNone offset input.new }
+    ensures rose { result ≡ Err ReplayEnd.ReadFault → Rose (S.faults source.old) (S.faults source.new) }
+    ensures cause { result ≢ Err ReplayEnd.Done × (result ≢ Err ReplayEnd.WriteFault) }
     ensures later { S.faults source.old ≤ S.faults source.new }
 {
     let Some(line) = input.await_line(source)? else {
         return Ok(None);
     };
     let Some(header) = header_of(alloc, &input.pending()[..line])? else {
-        return Err(Ending::FrameFault);
+        return Err(ReplayEnd::FrameFault);
     };
     let start = line + 1;
     let end = start + header.size as usize;
     if end as u64 > LONGEST_SCRIPT - offset || !input.await_bytes(source, end)? {
-        return Err(Ending::FrameFault);
+        return Err(ReplayEnd::FrameFault);
     }
     Ok(Some(Framed { header, start, end }))
 }
@@ -76,11 +76,11 @@ pub fn answer_frame<L: Ledger>(
     body: &[u8],
     out: &mut String,
     steps: &mut Steps<L>,
-) -> Result<(), Ending>
+) -> Result<(), ReplayEnd>
     requires { header.size ≡ length body.now }
     ensures state { OnOk result (core.new ≡ (answered core.old (frame_of header body.now)).0) }
     ensures text { OnOk result (string_bytes out.new ≡ (answered core.old (frame_of header body.now)).1) }
-    ensures cause { IfErr result (λ e. e ≡ Ending.NoMemory) }
+    ensures cause { IfErr result (λ e. e ≡ ReplayEnd.NoMemory) }
 {
     out.clear();
     let Some(request) = request_of(alloc, body)? else {
@@ -108,17 +108,17 @@ pub fn answer_frame<L: Ledger>(
 
 #[tactic(auto, using(crate::proofs::Sending::appends_kept, crate::proofs::Sending::appends_whole, crate::proofs::Taking::rose_since))]
 /// Writes bytes, and hands them on.
-pub fn send<K: Sink>(sink: &mut K, bytes: &[u8]) -> Result<(), Ending>
+pub fn send<K: Sink>(sink: &mut K, bytes: &[u8]) -> Result<(), ReplayEnd>
     ensures bytes { WritesAll (K.held sink.old) (K.held sink.new) result bytes.now }
-    ensures cause { IfErr result (λ e. e ≡ Ending.WriteFault) }
+    ensures cause { IfErr result (λ e. e ≡ ReplayEnd.WriteFault) }
     ensures fault { HasCause (K.faults sink.old) (K.faults sink.new) result }
 {
     if let Err(_) = sink.write_all(bytes) {
-        return Err(Ending::WriteFault);
+        return Err(ReplayEnd::WriteFault);
     }
     match sink.flush() {
         Ok(()) => Ok(()),
-        Err(_) => Err(Ending::WriteFault),
+        Err(_) => Err(ReplayEnd::WriteFault),
     }
 }
 
@@ -163,20 +163,20 @@ impl Replay {
         source: &mut S,
         sink: &mut K,
         steps: &mut Steps<L>,
-    ) -> Result<(), Ending>
+    ) -> Result<(), ReplayEnd>
         ensures answered { OnOk result (Answers (S.left source.old) (S.left source.new) (K.held sink.old) (K.held sink.new) self.old self.new) }
-        ensures over { result ≡ Err Ending.Done → IsOver (S.left source.old) (S.left source.new) (K.held sink.old) (K.held sink.new) self.old }
-        ensures faulty { result ≡ Err Ending.FrameFault → IsFaulty (S.left source.old) (S.left source.new) (K.held sink.old) (K.held sink.new) self.old }
-        ensures unread { result ≡ Err Ending.ReadFault → IsUnread (S.left source.old) (S.left source.new) (K.held sink.old) (K.held sink.new) self.old }
-        ensures unwritten { result ≡ Err Ending.WriteFault → IsUnwritten (S.left source.old) (S.left source.new) (K.held sink.old) (K.held sink.new) self.old }
-        ensures memory { result ≡ Err Ending.NoMemory → Keeps (K.held sink.old) (K.held sink.new) }
+        ensures over { result ≡ Err ReplayEnd.Done → IsOver (S.left source.old) (S.left source.new) (K.held sink.old) (K.held sink.new) self.old }
+        ensures faulty { result ≡ Err ReplayEnd.FrameFault → IsFaulty (S.left source.old) (S.left source.new) (K.held sink.old) (K.held sink.new) self.old }
+        ensures unread { result ≡ Err ReplayEnd.ReadFault → IsUnread (S.left source.old) (S.left source.new) (K.held sink.old) (K.held sink.new) self.old }
+        ensures unwritten { result ≡ Err ReplayEnd.WriteFault → IsUnwritten (S.left source.old) (S.left source.new) (K.held sink.old) (K.held sink.new) self.old }
+        ensures memory { result ≡ Err ReplayEnd.NoMemory → Keeps (K.held sink.old) (K.held sink.new) }
         ensures offset { OnErr result (self.new.offset ≡ self.old.offset) }
-        ensures read { result ≡ Err Ending.ReadFault → Rose (S.faults source.old) (S.faults source.new) }
-        ensures write { result ≡ Err Ending.WriteFault → Rose (K.faults sink.old) (K.faults sink.new) }
+        ensures read { result ≡ Err ReplayEnd.ReadFault → Rose (S.faults source.old) (S.faults source.new) }
+        ensures write { result ≡ Err ReplayEnd.WriteFault → Rose (K.faults sink.old) (K.faults sink.new) }
         ensures later { (S.faults source.old ≤ S.faults source.new) × (K.faults sink.old ≤ K.faults sink.new) }
     {
         let Some(framed) = next_frame(alloc, &mut self.input, self.offset, source)? else {
-            return Err(Ending::Done);
+            return Err(ReplayEnd::Done);
         };
         let Framed { header, start, end } = framed;
         let body = &self.input.pending()[start..end];
@@ -194,22 +194,22 @@ impl Replay {
         source: &mut S,
         sink: &mut K,
         steps: &mut Steps<L>,
-    ) -> Ending
+    ) -> ReplayEnd
         requires { self.old ≡ beginning }
-        ensures done { result ≡ Ending.Done → AnswersAll (S.left source.old) (S.left source.new) (K.held sink.old) (K.held sink.new) }
-        ensures fault { result ≡ Ending.FrameFault → AnswersUpToFault (S.left source.old) (K.held sink.old) (K.held sink.new) }
-        ensures read { result ≡ Ending.ReadFault → AnswersTaken (S.left source.old) (S.left source.new) (K.held sink.old) (K.held sink.new) }
-        ensures write { result ≡ Ending.WriteFault → AnswersPart (S.left source.old) (K.held sink.old) (K.held sink.new) }
-        ensures memory { result ≡ Ending.NoMemory → AnswersPart (S.left source.old) (K.held sink.old) (K.held sink.new) }
-        ensures read_cause { result ≡ Ending.ReadFault → Rose (S.faults source.old) (S.faults source.new) }
-        ensures write_cause { result ≡ Ending.WriteFault → Rose (K.faults sink.old) (K.faults sink.new) }
+        ensures done { result ≡ ReplayEnd.Done → AnswersAll (S.left source.old) (S.left source.new) (K.held sink.old) (K.held sink.new) }
+        ensures fault { result ≡ ReplayEnd.FrameFault → AnswersUpToFault (S.left source.old) (K.held sink.old) (K.held sink.new) }
+        ensures read { result ≡ ReplayEnd.ReadFault → AnswersTaken (S.left source.old) (S.left source.new) (K.held sink.old) (K.held sink.new) }
+        ensures write { result ≡ ReplayEnd.WriteFault → AnswersPart (S.left source.old) (K.held sink.old) (K.held sink.new) }
+        ensures memory { result ≡ ReplayEnd.NoMemory → AnswersPart (S.left source.old) (K.held sink.old) (K.held sink.new) }
+        ensures read_cause { result ≡ ReplayEnd.ReadFault → Rose (S.faults source.old) (S.faults source.new) }
+        ensures write_cause { result ≡ ReplayEnd.WriteFault → Rose (K.faults sink.old) (K.faults sink.new) }
     {
         'frames: loop {
             match self.turn(alloc, source, sink, steps) {
                 Ok(()) => {}
                 Err(ending) => {
                     return match ending {
-                        Ending::FrameFault => self.tell_fault(alloc, sink),
+                        ReplayEnd::FrameFault => self.tell_fault(alloc, sink),
                         other => other,
                     };
                 }
@@ -218,19 +218,19 @@ impl Replay {
     }
 
     // Tells the offset of the fault.
-    fn tell_fault<K: Sink>(&self, alloc: Global, sink: &mut K) -> Ending
-        ensures told { result ≡ Ending.FrameFault → Appends (K.held sink.old) (K.held sink.new) (fault_line (Some self.now.offset)) }
-        ensures write { result ≡ Ending.WriteFault → AppendsPrefix (K.held sink.old) (K.held sink.new) (fault_line (Some self.now.offset)) }
-        ensures memory { result ≡ Ending.NoMemory → Keeps (K.held sink.old) (K.held sink.new) }
-        ensures only { (result ≢ Ending.Done) × (result ≢ Ending.ReadFault) }
-        ensures fault { (K.faults sink.old ≤ K.faults sink.new) × (result ≡ Ending.WriteFault → Rose (K.faults sink.old) (K.faults sink.new)) }
+    fn tell_fault<K: Sink>(&self, alloc: Global, sink: &mut K) -> ReplayEnd
+        ensures told { result ≡ ReplayEnd.FrameFault → Appends (K.held sink.old) (K.held sink.new) (fault_line (Some self.now.offset)) }
+        ensures write { result ≡ ReplayEnd.WriteFault → AppendsPrefix (K.held sink.old) (K.held sink.new) (fault_line (Some self.now.offset)) }
+        ensures memory { result ≡ ReplayEnd.NoMemory → Keeps (K.held sink.old) (K.held sink.new) }
+        ensures only { (result ≢ ReplayEnd.Done) × (result ≢ ReplayEnd.ReadFault) }
+        ensures fault { (K.faults sink.old ≤ K.faults sink.new) × (result ≡ ReplayEnd.WriteFault → Rose (K.faults sink.old) (K.faults sink.new)) }
     {
         let offset = self.offset;
         let Ok(line) = format!(in alloc; "!{offset}\n") else {
-            return Ending::NoMemory;
+            return ReplayEnd::NoMemory;
         };
         match send(sink, line.as_bytes()) {
-            Ok(()) => Ending::FrameFault,
+            Ok(()) => ReplayEnd::FrameFault,
             Err(ending) => ending,
         }
     }

@@ -1,4 +1,4 @@
-//! Replies as they are written. The printer of elements takes the place of this module.
+//! Replies as they are written.
 ghost use Rattle.std.specs.Prelude.{◌≡◌, ◌∷◌, ◌++◌, OnOk, length, string_bytes};
 ghost use Rattle.std.specs.Fmt.{decimal};
 ghost use Rattle.ifmap_server.specs.Output.{answer_text};

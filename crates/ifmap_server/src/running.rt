@@ -7,8 +7,8 @@ ghost use Rattle.ifmap_server.specs.Replayed.{AnswersAll, AnswersPart, AnswersTa
 ghost use Rattle.ifmap_server.specs.Statuses.{IsReplayStatus};
 ghost use Rattle.ifmap_server.specs.Words.{IsReplay, usage_line};
 
-use crate::endings::{DONE, FRAME_FAULT, NO_MEMORY, READ_FAULT, USAGE, WRITE_FAULT};
 use crate::replaying::{Replay, send};
+use crate::statuses::{DONE, FRAME_FAULT, NO_MEMORY, READ_FAULT, USAGE, WRITE_FAULT};
 use crate::words::{Form, form_of};
 use ifmap_io::{Sink, Source};
 use ifmap_steps::Steps;

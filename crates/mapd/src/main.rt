@@ -2,8 +2,8 @@
 #![tactic(auto)]
 
 use ifmap_io::{StdSink, StdSource};
-use ifmap_server::endings::NO_MEMORY;
 use ifmap_server::run;
+use ifmap_server::statuses::NO_MEMORY;
 use std::alloc::{AllocError, Global};
 use std::env::Args;
 use std::io::ErrorKind;
