@@ -1,6 +1,8 @@
 //! The program `mapd`: its words, the standard streams, and one call.
 #![tactic(auto)]
 
+ghost use Rattle.std.specs.Prelude.{◌≡◌, [], IfOk, IsErr};
+
 use ifmap_io::{StdSink, StdSource};
 use ifmap_server::run;
 use ifmap_server::statuses::NO_MEMORY;
@@ -20,7 +22,9 @@ fn main(rt: HostRuntime) -> ExitCode {
 }
 
 // The words behind the program's name. Words that are no text are of no form, as no words are.
-fn words_of(alloc: Global, args: io::Result<Args>) -> Result<Vec<String>, AllocError> {
+fn words_of(alloc: Global, args: io::Result<Args>) -> Result<Vec<String>, AllocError>
+    ensures { IsErr args → IfOk result (λ words. words.items ≡ []) }
+{
     match args {
         Ok(args) => args.skip(1).collect(alloc),
         Err(error) if error.kind() == ErrorKind::OutOfMemory => Err(AllocError),
