@@ -1,0 +1,15 @@
+-- Marks: the rows of a map from numbers to depths, where a row may stand without a mark.
+use Rattle.std.specs.Prelude.{◌≡◌, ℕ, ◌<◌, Option, Some, None, List, nat_eq, unwrap_or, is_some, IsSome}
+use Rattle.std.specs.Map.{lookup}
+
+-- the row of a number: none, or one that holds a mark or holds none
+abbrev pub row_of : List (ℕ × Option ℕ) → ℕ → Option (Option ℕ)
+row_of rows v = lookup (nat_eq v) rows
+
+-- the mark of a number, where its row holds one
+abbrev pub mark_of : List (ℕ × Option ℕ) → ℕ → Option ℕ
+mark_of rows v = unwrap_or (row_of rows v) None
+
+-- the marks of `rows` where they have a row, and those below elsewhere
+abbrev pub over : List (ℕ × Option ℕ) → (ℕ → Option ℕ) → ℕ → Option ℕ
+over rows below v = unwrap_or (row_of rows v) (below v)
