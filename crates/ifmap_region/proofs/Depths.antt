@@ -2,28 +2,22 @@
 use Rattle.std.proofs.Common.{◌≡◌, ℕ, zero, suc, ◌+◌, ◌<◌, ◌≤◌, Bool, false, Option, Some, None, ◌⊎◌, inl, inr, refl, sym, ap, subst, ◌∙◌, arith, ◌↔◌}
 use Rattle.std.proofs.lemmas.Bool.{cases_lt}
 use Rattle.std.proofs.lemmas.Option.{same_Some, none-some}
-use Rattle.ifmap_region.specs.Walks.{Walk, begins, goes_on, HasDepth, AreDepths}
+use Rattle.ifmap_region.specs.Walks.{Walk, begins, goes_on, HasDepth, AreDepths, Expands}
 
 module _ (links : ℕ → ℕ → Type 0) (terminal : ℕ → Bool) (start top : ℕ) where
   -- each mark stands for a walk
   abbrev pub IsSound : (ℕ → Option ℕ) → Type 0
   IsSound m = (v k : ℕ) → m v ≡ Some k → (k ≤ top) × Walk links terminal start k v
 
-  -- a walk that ends in a number goes on from it
-  pub record Expands (m : ℕ → Option ℕ) (x d : ℕ) : Type 0 where
-    pub mark : m x ≡ Some d
-    pub below : d < top
-    pub passable : terminal x ≡ false
-
   -- a neighbour of a number that expands has a mark, and it is greater by one at most
   abbrev pub IsClosed : (ℕ → Option ℕ) → Type 0
-  IsClosed m = (m start ≡ Some 0) × ((x y d : ℕ) → Expands m x d → links x y → (j : ℕ) × (m y ≡ Some j) × (j ≤ suc d))
+  IsClosed m = (m start ≡ Some 0) × ((x y d : ℕ) → Expands terminal top m x d → links x y → (j : ℕ) × (m y ≡ Some j) × (j ≤ suc d))
 
   pub marked_from_closed : (m : ℕ → Option ℕ) → IsClosed m → (k v : ℕ) → Walk links terminal start k v → k ≤ top → (j : ℕ) × (m v ≡ Some j) × (j ≤ k)
   marked_from_closed m closed zero v (begins e) within = (0, subst (λ (x : ℕ). m x ≡ Some 0) (sym e) closed.0, omega arith)
   marked_from_closed m closed (suc k) v (goes_on {u = u} w t l) within =
       let before = marked_from_closed m closed k u w (omega arith) in
-      let here = closed.1 u v before.0 (record { mark = before.1; below = omega (arith, before.2, within); passable = t }) l in
+      let here = closed.1 u v before.0 (record { marked = before.1; below = omega (arith, before.2, within); passable = t }) l in
       (here.0, here.1, omega (arith, here.2, before.2))
 
   pub depths_from : (m : ℕ → Option ℕ) → IsSound m → IsClosed m → AreDepths links terminal start top m
@@ -68,8 +62,8 @@ module _ (links : ℕ → ℕ → Type 0) (terminal : ℕ → Bool) (start top :
     pub marked_start : m start ≡ Some 0
     marked_start = (depths start 0).1 (record { within = omega arith; walk = begins refl; least = λ j w. omega arith })
 
-    pub closed_from : (x y d : ℕ) → Expands m x d → links x y → (j : ℕ) × (m y ≡ Some j) × (j ≤ suc d)
-    closed_from x y d e l = marked y (suc d) (omega (arith, e.below)) (goes_on ((depths x d).0 e.mark).walk e.passable l)
+    pub closed_from : (x y d : ℕ) → Expands terminal top m x d → links x y → (j : ℕ) × (m y ≡ Some j) × (j ≤ suc d)
+    closed_from x y d e l = marked y (suc d) (omega (arith, e.below)) (goes_on ((depths x d).0 e.marked).walk e.passable l)
 
     -- a number at some depth has a neighbour that is nearer by one and not terminal
     pub supported : (v d : ℕ) → m v ≡ Some (suc d) → (u : ℕ) × links u v × (terminal u ≡ false) × (m u ≡ Some d)

@@ -1,1 +1,5 @@
 pub mod Depths
+pub mod Offering
+pub mod Overs
+pub mod Ready
+pub mod Waits

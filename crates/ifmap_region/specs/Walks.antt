@@ -1,5 +1,5 @@
 -- Walks along links from a start, and the least number of links of a walk that ends in a number.
-use Rattle.std.specs.Prelude.{◌≡◌, ℕ, ◌≤◌, Bool, false, Option, Some, ◌↔◌}
+use Rattle.std.specs.Prelude.{◌≡◌, ℕ, ◌<◌, ◌≤◌, Bool, false, Option, Some, ◌↔◌}
 use Rattle.std.proofs.Common.{zero, suc}
 
 -- links lead from number to number; no walk goes on from a terminal number
@@ -18,3 +18,9 @@ module _ (links : ℕ → ℕ → Type 0) (terminal : ℕ → Bool) (start : ℕ
   -- a number has a mark exactly where it has a depth, and the mark is the depth
   abbrev pub AreDepths : ℕ → (ℕ → Option ℕ) → Type 0
   AreDepths top mark = (v k : ℕ) → (mark v ≡ Some k) ↔ HasDepth top v k
+
+-- a walk may go on from a number with this mark: it has fewer than `top` links, and the number is not terminal
+pub record Expands (terminal : ℕ → Bool) (top : ℕ) (mark : ℕ → Option ℕ) (x d : ℕ) : Type 0 where
+  pub marked : mark x ≡ Some d
+  pub below : d < top
+  pub passable : terminal x ≡ false

@@ -1,7 +1,9 @@
 //! Which numbers a bounded walk along links reaches, and by how many links.
 #![tactic(auto)]
 
+mod levels;
 mod link_source;
 mod rows;
+mod spread;
 
 pub use link_source::LinkSource;
