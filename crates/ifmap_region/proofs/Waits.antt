@@ -65,7 +65,7 @@ below_first xs i lt e is floor all =
     let same : (get_or (drop i xs) 0 e).0 ≡ e.0 = ap (λ (p : ℕ × ℕ). p.0) (get_or-drop i xs 0 e ∙ ap (λ (n : ℕ). get_or xs n e) (omega arith) ∙ sym is) in
     omega (arith, at_first, same)
 
-no_member : {X : Type 0} (xs : List X) (x : X) → xs ≡ [] → Contains xs x → ⊥
+pub no_member : {X : Type 0} (xs : List X) (x : X) → xs ≡ [] → Contains xs x → ⊥
 no_member xs x e h = omega (arith, h.1, ap length e)
 
 pub contains_at : (k : ℕ) (ns : List ℕ) (s : ℕ × ℕ) → Contains (at_level k ns) s → (s.0 ≡ k) × Contains ns s.1

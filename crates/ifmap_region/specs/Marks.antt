@@ -13,3 +13,11 @@ mark_of rows v = unwrap_or (row_of rows v) None
 -- the marks of `rows` where they have a row, and those below elsewhere
 abbrev pub over : List (ℕ × Option ℕ) → (ℕ → Option ℕ) → ℕ → Option ℕ
 over rows below v = unwrap_or (row_of rows v) (below v)
+
+-- no row stands without a mark
+abbrev pub AllMarked : List (ℕ × Option ℕ) → Type 0
+AllMarked rows = (v : ℕ) → row_of rows v ≡ Some None → ⊥
+
+-- each row of the new ones that holds no mark stood like that before
+abbrev pub AddsMarks : List (ℕ × Option ℕ) → List (ℕ × Option ℕ) → Type 0
+AddsMarks old new = (v : ℕ) → row_of new v ≡ Some None → row_of old v ≡ Some None

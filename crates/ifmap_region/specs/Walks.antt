@@ -15,6 +15,10 @@ module _ (links : ℕ → ℕ → Type 0) (terminal : ℕ → Bool) (start : ℕ
     pub walk : Walk k v
     pub least : (j : ℕ) → Walk j v → k ≤ j
 
+  -- some walk of at most `top` links ends in the number
+  abbrev pub IsReached : ℕ → ℕ → Type 0
+  IsReached top v = (k : ℕ) × (k ≤ top) × Walk k v
+
   -- a number has a mark exactly where it has a depth, and the mark is the depth
   abbrev pub AreDepths : ℕ → (ℕ → Option ℕ) → Type 0
   AreDepths top mark = (v k : ℕ) → (mark v ≡ Some k) ↔ HasDepth top v k

@@ -3,7 +3,9 @@
 
 mod levels;
 mod link_source;
+mod region;
 mod rows;
 mod spread;
 
 pub use link_source::LinkSource;
+pub use region::{Region, build};

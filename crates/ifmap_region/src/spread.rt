@@ -2,7 +2,7 @@
 ghost use Rattle.std.specs.Prelude.{◌≡◌, ℕ, ◌+◌, ◌<◌, ◌≤◌, ◌^◌, ◌⊎◌, ◌∷◌, [], Option, Some, true, false, List, Contains, OnOk};
 ghost use Rattle.ifmap_region.specs.Bounds.{IsWithin};
 ghost use Rattle.ifmap_region.specs.Links.{Linked};
-ghost use Rattle.ifmap_region.specs.Marks.{mark_of, over};
+ghost use Rattle.ifmap_region.specs.Marks.{mark_of, over, AddsMarks};
 ghost use Rattle.ifmap_region.specs.Spreading.{Offers, waiting, IsReady, IsCharged, Improves};
 ghost use Rattle.ifmap_region.specs.Walks.{AreDepths};
 
@@ -65,6 +65,7 @@ fn visit<G: LinkSource, L: Ledger>(
 ) -> Result<(), NoMemory>
     requires { levels.old.floor ≡ level + 1 }
     ensures floor { levels.new.floor ≡ level + 1 }
+    ensures rows { AddsMarks rows.old.entries rows.new.entries }
     ensures ready {
         OnOk result ((start : ℕ) (rest : List ℕ)
             → IsReady (Linked (G.count graph.now) (G.link graph.now)) (G.terminal graph.now) start top (over rows.old.entries (mark_of base.now.entries)) (waiting level (number ∷ rest) levels.old.entries)
@@ -100,6 +101,7 @@ fn visit_level<G: LinkSource, L: Ledger>(
 ) -> Result<(), NoMemory>
     requires { levels.old.floor ≡ level + 1 }
     ensures floor { levels.new.floor ≡ level + 1 }
+    ensures rows { AddsMarks rows.old.entries rows.new.entries }
     ensures ready {
         OnOk result ((start : ℕ)
             → IsReady (Linked (G.count graph.now) (G.link graph.now)) (G.terminal graph.now) start top (over rows.old.entries (mark_of base.now.entries)) (waiting level now.now levels.old.entries)
@@ -114,6 +116,38 @@ fn visit_level<G: LinkSource, L: Ledger>(
 {
     for number in now {
         visit(base, rows, top, graph, level, *number, levels, steps)?;
+    }
+    Ok(())
+}
+
+/// Lowers marks until they are the depths: each seed, a level and a number, stands for a walk, and
+/// where a walk goes on there is a mark that is low enough, or a seed.
+///
+/// After want of memory only some marks have fallen.
+pub(crate) fn spread<G: LinkSource, L: Ledger>(
+    alloc: Global,
+    base: &IndexMap<u64, Option<u32>>,
+    rows: &mut IndexMap<u64, Option<u32>>,
+    top: u32,
+    graph: &G,
+    seeds: Vec<(u32, u64)>,
+    steps: &mut Steps<L>,
+) -> Result<(), NoMemory>
+    ensures rows { AddsMarks rows.old.entries rows.new.entries }
+    ensures depths {
+        OnOk result ((start : ℕ)
+            → IsReady (Linked (G.count graph.now) (G.link graph.now)) (G.terminal graph.now) start top (over rows.old.entries (mark_of base.now.entries)) (λ k v. Contains seeds.items (k, v))
+            → AreDepths (Linked (G.count graph.now) (G.link graph.now)) (G.terminal graph.now) start top (over rows.new.entries (mark_of base.now.entries)))
+    }
+    ensures charged {
+        (start : ℕ)
+            → IsReady (Linked (G.count graph.now) (G.link graph.now)) (G.terminal graph.now) start top (over rows.old.entries (mark_of base.now.entries)) (λ k v. Contains seeds.items (k, v))
+            → IsWithin (G.count graph.now) (Improves (Linked (G.count graph.now) (G.link graph.now)) (G.terminal graph.now) start top (over rows.old.entries (mark_of base.now.entries))) 1 steps.old steps.new
+    }
+{
+    let mut levels = Levels::from_seeds(alloc, seeds);
+    while let Some((level, now)) = levels.next_level(alloc)? {
+        visit_level(base, rows, top, graph, level, &now, &mut levels, steps)?;
     }
     Ok(())
 }

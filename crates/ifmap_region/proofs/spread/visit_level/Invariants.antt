@@ -1,6 +1,6 @@
 use Rattle.std.proofs.Common.{◌≡◌, ℕ, ◌+◌, drop, Option}
 use Rattle.ifmap_region.specs.Links.{Linked}
-use Rattle.ifmap_region.specs.Marks.{mark_of, over}
+use Rattle.ifmap_region.specs.Marks.{mark_of, over, AddsMarks}
 use Rattle.ifmap_region.specs.Spreading.{waiting, IsReady, IsCharged}
 use Rattle.ifmap_region.proofs.spread.visit_level.Given as goal
 
@@ -10,6 +10,7 @@ invariant-loop-number g l =
     let terminal = g.G.LinkSource.terminal l.graph in
     record {
         floor : l.levels.floor ≡ l.level + 1;
+        rows : AddsMarks l.initial.rows.entries l.rows.entries;
         ready : (start : ℕ)
             → IsReady links terminal start l.top (over l.initial.rows.entries (mark_of l.base.entries)) (waiting l.level l.now l.initial.levels.entries)
             → IsReady links terminal start l.top (over l.rows.entries (mark_of l.base.entries)) (waiting l.level (drop l.number-index l.now) l.levels.entries);
