@@ -1,4 +1,5 @@
 pub mod Depths
+pub mod FlipLists
 pub mod Offering
 pub mod Overs
 pub mod Ready

@@ -1,6 +1,10 @@
 pub mod Bounds
+pub mod Flips
+pub mod Hiding
 pub mod Links
+pub mod Losing
 pub mod Marks
+pub mod Near
 pub mod Spreading
 pub mod Waiting
 pub mod Walks

@@ -1,0 +1,106 @@
+//! Marks are taken away, level by level, where what held them is gone.
+ghost use Rattle.std.specs.Prelude.{◌≡◌, ℕ, suc, ◌+◌, ◌<◌, ◌≤◌, ◌∷◌, [], Some, true, false, List, Contains, OnOk, IfSome, IfNone};
+ghost use Rattle.ifmap_region.specs.Bounds.{IsWithin};
+ghost use Rattle.ifmap_region.specs.Flips.{IsFlipped, WithRemoved};
+ghost use Rattle.ifmap_region.specs.Links.{Linked, IsSymmetric};
+ghost use Rattle.ifmap_region.specs.Losing.{Follows, IsHeld, IsLosing, AreGone, IsLookedAt, Reseeds};
+ghost use Rattle.ifmap_region.specs.Marks.{mark_of, row_of, over};
+ghost use Rattle.ifmap_region.specs.Near.{NearOneWay};
+ghost use Rattle.ifmap_region.specs.Spreading.{waiting};
+ghost use Rattle.ifmap_region.specs.Walks.{AreDepths, Expands};
+
+use crate::flips::Flip;
+use crate::levels::Levels;
+use crate::link_source::LinkSource;
+use crate::rows::{has_row, mark, put};
+use ifmap_steps::Steps;
+use indexmap::IndexMap;
+use std::alloc::{AllocError as NoMemory, Global};
+use std::sync::ledger::Ledger;
+
+/// Whether there is a mark, and it is one below the level.
+fn is_just_below(mark: Option<u32>, level: u32) -> bool
+    ensures yes { result ≡ true → (d : ℕ) × (mark ≡ Some d) × (level ≡ suc d) }
+    ensures no { result ≡ false → (d : ℕ) → mark ≡ Some d → level ≡ suc d → ⊥ }
+{
+    match mark {
+        Some(known) => known < level && known + 1 == level,
+        None => false,
+    }
+}
+
+/// Whether a neighbour that is nearer by one, and not terminal, has its mark. The look ends at the first.
+fn is_held<G: LinkSource, L: Ledger>(
+    base: &IndexMap<u64, Option<u32>>,
+    rows: &IndexMap<u64, Option<u32>>,
+    graph: &G,
+    number: u64,
+    level: u32,
+    steps: &mut Steps<L>,
+) -> bool
+    ensures yes {
+        result ≡ true → (u : ℕ) × (d : ℕ) × (level ≡ suc d) × Linked (G.count graph.now) (G.link graph.now) number u × (G.terminal graph.now u ≡ false)
+            × (over rows.now.entries (mark_of base.now.entries) u ≡ Some d)
+    }
+    ensures no {
+        result ≡ false → (u d : ℕ) → level ≡ suc d → Linked (G.count graph.now) (G.link graph.now) number u → G.terminal graph.now u ≡ false
+            → over rows.now.entries (mark_of base.now.entries) u ≡ Some d → ⊥
+    }
+    ensures steps { steps.new ≤ steps.old + G.count graph.now number }
+{
+    for i in 0..graph.count(number) {
+        if let Some(neighbour) = graph.at(number, i, steps) {
+            if is_just_below(mark(base, rows, neighbour), level) && !graph.is_terminal(neighbour) {
+                return true;
+            }
+        }
+    }
+    false
+}
+
+/// Whether the mark is this one.
+fn is_mark(mark: Option<u32>, level: u32) -> bool
+    ensures yes { result ≡ true → mark ≡ Some level }
+    ensures no { result ≡ false → mark ≡ Some level → ⊥ }
+{
+    match mark {
+        Some(known) => known == level,
+        None => false,
+    }
+}
+
+/// The mark that the number had before any was taken away.
+fn mark_before(base: &IndexMap<u64, Option<u32>>, number: u64) -> Option<u32>
+    ensures { result ≡ mark_of base.now.entries number }
+{
+    match base.get(&number) {
+        Some(row) => *row,
+        None => None,
+    }
+}
+
+/// Lets the neighbours of a number wait that had the next level as their mark.
+fn follow<G: LinkSource, L: Ledger>(
+    base: &IndexMap<u64, Option<u32>>,
+    graph: &G,
+    number: u64,
+    next: u32,
+    levels: &mut Levels,
+    steps: &mut Steps<L>,
+) -> Result<(), NoMemory>
+    requires { levels.old.floor ≡ next }
+    ensures floor { levels.new.floor ≡ next }
+    ensures follows {
+        OnOk result (Follows (G.link graph.now number) (G.count graph.now number) (mark_of base.now.entries) next levels.old.entries levels.new.entries)
+    }
+    ensures steps { steps.new ≤ steps.old + G.count graph.now number }
+{
+    for i in 0..graph.count(number) {
+        if let Some(neighbour) = graph.at(number, i, steps) {
+            if is_mark(mark_before(base, neighbour), next) {
+                levels.push(neighbour)?;
+            }
+        }
+    }
+    Ok(())
+}
