@@ -1,5 +1,6 @@
 pub mod Depths
 pub mod FlipLists
+pub mod Lost
 pub mod Offering
 pub mod Overs
 pub mod Ready
