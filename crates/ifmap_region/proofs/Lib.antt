@@ -1,7 +1,9 @@
+pub mod Cuts
 pub mod Depths
 pub mod FlipLists
 pub mod Lost
 pub mod Offering
 pub mod Overs
 pub mod Ready
+pub mod Sums
 pub mod Waits

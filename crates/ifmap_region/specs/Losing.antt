@@ -1,8 +1,12 @@
 -- Marks that are taken away level by level, where what held them is gone.
 use Rattle.std.specs.Prelude.{◌≡◌, ℕ, suc, ◌+◌, ◌<◌, ◌≤◌, Bool, false, Option, Some, None, List, Contains, All, IsSome, sum_by, nat_eq, ◌⊎◌}
 use Rattle.std.specs.List.{IsDistinct}
+use Rattle.ifmap_region.specs.declared.flips.Flip.{Flip}
+use Rattle.ifmap_region.specs.Flips.{WithRemoved, IsFlipped}
+use Rattle.ifmap_region.specs.Links.{IsSymmetric}
+use Rattle.ifmap_region.specs.Near.{NearOneWay}
 use Rattle.ifmap_region.specs.Marks.{row_of, over}
-use Rattle.ifmap_region.specs.Walks.{Walk, Expands}
+use Rattle.ifmap_region.specs.Walks.{Walk, AreDepths, Expands}
 
 -- the ends of the first links of a number, given by their places, have come to wait at the level, where it is their mark
 pub record Follows (link : ℕ → Option ℕ) (places : ℕ) (mark : ℕ → Option ℕ) (level : ℕ) (before after : List (ℕ × ℕ)) : Type 0 where
@@ -41,3 +45,20 @@ pub record IsLookedAt (count : ℕ → ℕ) (rows : List (ℕ × Option ℕ)) (g
 pub record Reseeds (links : ℕ → ℕ → Type 0) (terminal : ℕ → Bool) (top : ℕ) (mark : ℕ → Option ℕ) (gone : List ℕ) (seeds : List (ℕ × ℕ)) : Type 0 where
   pub only : (k v : ℕ) → Contains seeds (k, v) → Contains gone v × ((u : ℕ) × (d : ℕ) × links v u × Expands terminal top mark u d × (k ≡ suc d))
   pub each : (v u d : ℕ) → Contains gone v → links v u → Expands terminal top mark u d → (k : ℕ) × (k ≤ suc d) × Contains seeds (k, v)
+
+-- the marks are the depths over the links with the removed ones
+pub record IsBeforeCut (links : ℕ → ℕ → Type 0) (terminal : ℕ → Bool) (flips : List Flip) (start top : ℕ) (first : ℕ → Option ℕ) : Type 0 where
+  pub symmetric : IsSymmetric links
+  pub depths : AreDepths (WithRemoved links flips) terminal start top first
+
+-- the rows, the numbers that are gone and the steps agree while removed links are cut
+pub record IsCutting (links : ℕ → ℕ → Type 0) (terminal : ℕ → Bool) (count : ℕ → ℕ) (flips : List Flip) (start top : ℕ) (first : ℕ → Option ℕ)
+    (rows : List (ℕ × Option ℕ)) (gone : List ℕ) (waits : ℕ → ℕ → Type 0) (level before after : ℕ) : Type 0 where
+  pub losing : IsLosing (WithRemoved links flips) links terminal start (NearOneWay flips false (WithRemoved links flips) links terminal start top) first rows waits level
+  pub are_gone : AreGone rows gone
+  pub charged : IsLookedAt count rows gone before after
+
+-- seeds of a cut: an end of a removed link, at its mark, where the mark is one above that of the other end and a walk went on there
+pub record SeedsCut (terminal : ℕ → Bool) (top : ℕ) (flips : List Flip) (mark : ℕ → Option ℕ) (seeds : List (ℕ × ℕ)) : Type 0 where
+  pub only : (k y : ℕ) → Contains seeds (k, y) → (x : ℕ) × (d : ℕ) × IsFlipped flips false x y × (k ≡ suc d) × (mark y ≡ Some k)
+  pub each : (x y d : ℕ) → IsFlipped flips false x y → Expands terminal top mark x d → mark y ≡ Some (suc d) → Contains seeds (suc d, y)

@@ -1,9 +1,10 @@
 //! Marks are taken away, level by level, where what held them is gone.
 ghost use Rattle.std.specs.Prelude.{◌≡◌, ℕ, suc, ◌+◌, ◌<◌, ◌≤◌, ◌∷◌, [], Some, true, false, List, Contains, OnOk, IfSome, IfNone};
 ghost use Rattle.ifmap_region.specs.Bounds.{IsWithin};
-ghost use Rattle.ifmap_region.specs.Flips.{IsFlipped, WithRemoved};
-ghost use Rattle.ifmap_region.specs.Links.{Linked, IsSymmetric};
-ghost use Rattle.ifmap_region.specs.Losing.{Follows, IsHeld, IsLosing, AreGone, IsLookedAt, Reseeds};
+ghost use Rattle.ifmap_region.specs.Flips.{WithRemoved};
+ghost use Rattle.ifmap_region.specs.Links.{Linked};
+ghost use Rattle.ifmap_region.specs.declared.flips.Flip.{Flip};
+ghost use Rattle.ifmap_region.specs.Losing.{Follows, IsHeld, IsBeforeCut, IsCutting, Reseeds};
 ghost use Rattle.ifmap_region.specs.Marks.{mark_of, row_of, over};
 ghost use Rattle.ifmap_region.specs.Near.{NearOneWay};
 ghost use Rattle.ifmap_region.specs.Spreading.{waiting};
@@ -101,6 +102,89 @@ fn follow<G: LinkSource, L: Ledger>(
                 levels.push(neighbour)?;
             }
         }
+    }
+    Ok(())
+}
+
+/// Looks at a number that may have lost what held it: it keeps its mark where a neighbour holds it.
+/// Otherwise it loses its mark, and the neighbours wait that it may have held.
+fn look<G: LinkSource, L: Ledger>(
+    base: &IndexMap<u64, Option<u32>>,
+    rows: &mut IndexMap<u64, Option<u32>>,
+    top: u32,
+    graph: &G,
+    level: u32,
+    number: u64,
+    gone: &mut Vec<u64>,
+    levels: &mut Levels,
+    steps: &mut Steps<L>,
+) -> Result<(), NoMemory>
+    requires { levels.old.floor ≡ level + 1 }
+    ensures floor { levels.new.floor ≡ level + 1 }
+    ensures keeps {
+        OnOk result ((flips : List Flip) (start before : ℕ) (rest : List ℕ)
+            → IsBeforeCut (Linked (G.count graph.now) (G.link graph.now)) (G.terminal graph.now) flips start top (mark_of base.now.entries)
+            → IsCutting (Linked (G.count graph.now) (G.link graph.now)) (G.terminal graph.now) (G.count graph.now) flips start top (mark_of base.now.entries)
+                rows.old.entries gone.old.items (waiting level (number ∷ rest) levels.old.entries) level before steps.old
+            → IsCutting (Linked (G.count graph.now) (G.link graph.now)) (G.terminal graph.now) (G.count graph.now) flips start top (mark_of base.now.entries)
+                rows.new.entries gone.new.items (waiting level rest levels.new.entries) level before steps.new)
+    }
+    ensures spent {
+        (flips : List Flip) (start before : ℕ) (rest : List ℕ)
+            → IsCutting (Linked (G.count graph.now) (G.link graph.now)) (G.terminal graph.now) (G.count graph.now) flips start top (mark_of base.now.entries)
+                rows.old.entries gone.old.items (waiting level (number ∷ rest) levels.old.entries) level before steps.old
+            → IsWithin (G.count graph.now) (NearOneWay flips false (WithRemoved (Linked (G.count graph.now) (G.link graph.now)) flips) (Linked (G.count graph.now) (G.link graph.now)) (G.terminal graph.now) start top)
+                2 before steps.new
+    }
+{
+    if has_row(rows, number) {
+        return Ok(());
+    }
+    if is_held(base, rows, graph, number, level, steps) {
+        put(rows, number, Some(level))?;
+        return Ok(());
+    }
+    put(rows, number, None)?;
+    gone.push(number)?;
+    if level < top && !graph.is_terminal(number) {
+        follow(base, graph, number, level + 1, levels, steps)?;
+    }
+    Ok(())
+}
+
+/// Looks at the numbers of one level.
+fn look_level<G: LinkSource, L: Ledger>(
+    base: &IndexMap<u64, Option<u32>>,
+    rows: &mut IndexMap<u64, Option<u32>>,
+    top: u32,
+    graph: &G,
+    level: u32,
+    now: &[u64],
+    gone: &mut Vec<u64>,
+    levels: &mut Levels,
+    steps: &mut Steps<L>,
+) -> Result<(), NoMemory>
+    requires { levels.old.floor ≡ level + 1 }
+    ensures floor { levels.new.floor ≡ level + 1 }
+    ensures keeps {
+        OnOk result ((flips : List Flip) (start before : ℕ)
+            → IsBeforeCut (Linked (G.count graph.now) (G.link graph.now)) (G.terminal graph.now) flips start top (mark_of base.now.entries)
+            → IsCutting (Linked (G.count graph.now) (G.link graph.now)) (G.terminal graph.now) (G.count graph.now) flips start top (mark_of base.now.entries)
+                rows.old.entries gone.old.items (waiting level now.now levels.old.entries) level before steps.old
+            → IsCutting (Linked (G.count graph.now) (G.link graph.now)) (G.terminal graph.now) (G.count graph.now) flips start top (mark_of base.now.entries)
+                rows.new.entries gone.new.items (waiting level [] levels.new.entries) level before steps.new)
+    }
+    ensures spent {
+        (flips : List Flip) (start before : ℕ)
+            → IsBeforeCut (Linked (G.count graph.now) (G.link graph.now)) (G.terminal graph.now) flips start top (mark_of base.now.entries)
+            → IsCutting (Linked (G.count graph.now) (G.link graph.now)) (G.terminal graph.now) (G.count graph.now) flips start top (mark_of base.now.entries)
+                rows.old.entries gone.old.items (waiting level now.now levels.old.entries) level before steps.old
+            → IsWithin (G.count graph.now) (NearOneWay flips false (WithRemoved (Linked (G.count graph.now) (G.link graph.now)) flips) (Linked (G.count graph.now) (G.link graph.now)) (G.terminal graph.now) start top)
+                2 before steps.new
+    }
+{
+    for number in now {
+        look(base, rows, top, graph, level, *number, gone, levels, steps)?;
     }
     Ok(())
 }
