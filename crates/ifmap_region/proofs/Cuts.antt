@@ -11,7 +11,11 @@ use Rattle.ifmap_region.specs.Bounds.{IsWithin}
 use Rattle.ifmap_region.specs.Flips.{WithRemoved}
 use Rattle.ifmap_region.specs.Links.{Linked, IsSymmetric}
 use Rattle.ifmap_region.specs.Marks.{row_of, over}
-use Rattle.ifmap_region.specs.Near.{NearOneWay, beside}
+use Rattle.ifmap_region.specs.Near.{NearOneWay, at_flip, beside}
+use Rattle.ifmap_region.specs.Seeds.{MayHold, SeedsAlong}
+use Rattle.ifmap_region.specs.Waiting.{Waiting, ComesOut}
+use Rattle.ifmap_region.proofs.Depths.{sound_from}
+use Rattle.ifmap_region.proofs.FlipLists.{flipped_back}
 use Rattle.ifmap_region.specs.Spreading.{waiting}
 use Rattle.ifmap_region.specs.Losing.{Follows, IsHeld, IsLosing, AreGone, IsLookedAt, IsBeforeCut, IsCutting}
 use Rattle.ifmap_region.proofs.Lost.{losing_passed, losing_held, losing_gone, moved_here}
@@ -186,3 +190,57 @@ module _ (count : ℕ → ℕ) (link : ℕ → ℕ → Option ℕ) (terminal : �
 pub no_row : (o : Option (Option ℕ)) → is_some o ≡ false → o ≡ None
 no_row None h = refl
 no_row (Some r) h = absurd (true≢false h)
+
+module _ (links : ℕ → ℕ → Type 0) (terminal : ℕ → Bool) (count : ℕ → ℕ) (flips : List Flip) (start top : ℕ) (first : ℕ → Option ℕ)
+    (b : IsBeforeCut links terminal flips start top first) where
+  -- at the beginning no number was looked at, and the seeds wait
+  pub cutting_begun : (seeds entries : List (ℕ × ℕ)) (level before : ℕ)
+      → ((s : ℕ × ℕ) → Contains seeds s → Contains entries s) → ((s : ℕ × ℕ) → Contains entries s → Contains seeds s)
+      → SeedsAlong flips false (MayHold terminal top first) seeds
+      → IsCutting links terminal count flips start top first [] [] (λ k v. Contains entries (k, v)) level before before
+  unfolding IsDistinct
+  cutting_begun seeds entries level before kept only s = record {
+      losing = record {
+          entered = λ k v h. let p = s.only k v (only (k, v) h) in
+              (p.2.1, omega (arith, p.2.0.1), at_flip (p.0, flipped_back flips false p.0 v p.1));
+          looked = λ v r e. absurd (none-some r e);
+          held = λ v k e. absurd (none-some (Some k) e);
+          lost = λ v k e f. absurd (none-some None e);
+          firm = λ v u d e none o t f. elim o [
+              inl link ↦ inr (link, f)
+            | inr flip ↦
+                let bound = (sound_from (WithRemoved links flips) terminal start top first b.depths v (suc d) e).0 in
+                inl (kept (suc d, v) (s.each u v (suc d) flip ((d, refl, record { marked = f; below = omega (arith, bound); passable = t }), e))) ] };
+      are_gone = record { all = λ v e. absurd (none-some None e); only = λ v h. absurd (omega (arith, h.1)); distinct = tt };
+      charged = record { numbers = []; distinct = tt; among = All-nil (λ (x : ℕ). IsSome (row_of [] x)); all = λ v h. absurd (true≢false (sym h)); bound = omega arith } }
+
+  -- the same numbers wait, at a level that is no lower
+  pub cutting_same : (rows : List (ℕ × Option ℕ)) (gone : List ℕ) (waits waits' : ℕ → ℕ → Type 0) (level later before after : ℕ) → level ≤ later
+      → ((k x : ℕ) → waits k x → waits' k x) → ((k x : ℕ) → waits' k x → waits k x)
+      → IsCutting links terminal count flips start top first rows gone waits level before after
+      → IsCutting links terminal count flips start top first rows gone waits' later before after
+  cutting_same rows gone waits waits' level later before after le there back c = record {
+      losing = record {
+          entered = λ k x w. c.losing.entered k x (back k x w);
+          looked = λ v r e. let s = c.losing.looked v r e in (s.0, s.1, s.2, omega (arith, s.3, le), s.4, s.5);
+          held = c.losing.held;
+          lost = c.losing.lost;
+          firm = λ v u d e none o t f. elim (c.losing.firm v u d e none o t f) [ inl w ↦ inl (there (suc d) v w) | inr p ↦ inr p ] };
+      are_gone = c.are_gone;
+      charged = c.charged }
+
+  pub cutting_out : (rows : List (ℕ × Option ℕ)) (gone : List ℕ) (old new : Waiting) (level before after : ℕ) (now : List ℕ) → ComesOut old new level now
+      → IsCutting links terminal count flips start top first rows gone (λ k v. Contains old.entries (k, v)) old.floor before after
+      → IsCutting links terminal count flips start top first rows gone (waiting level now new.entries) level before after
+  cutting_out rows gone old new level before after now out c =
+      cutting_same rows gone (λ k v. Contains old.entries (k, v)) (waiting level now new.entries) old.floor level before after out.rises
+          (λ k x w. out.each (k, x) w)
+          (λ k x w. elim w [ inl p ↦ subst (λ (n : ℕ). Contains old.entries (n, x)) (sym p.0) (out.out x p.1) | inr e ↦ out.left (k, x) e ])
+          c
+
+  pub cutting_done : (rows : List (ℕ × Option ℕ)) (gone : List ℕ) (level floor before after : ℕ) (entries : List (ℕ × ℕ)) → level ≤ floor
+      → IsCutting links terminal count flips start top first rows gone (waiting level [] entries) level before after
+      → IsCutting links terminal count flips start top first rows gone (λ k v. Contains entries (k, v)) floor before after
+  cutting_done rows gone level floor before after entries le c =
+      cutting_same rows gone (waiting level [] entries) (λ k v. Contains entries (k, v)) level floor before after le
+          (λ k x w. elim w [ inl p ↦ absurd (omega (arith, p.1.1)) | inr e ↦ e ]) (λ k x e. inr e) c

@@ -57,8 +57,3 @@ pub record IsCutting (links : ℕ → ℕ → Type 0) (terminal : ℕ → Bool) 
   pub losing : IsLosing (WithRemoved links flips) links terminal start (NearOneWay flips false (WithRemoved links flips) links terminal start top) first rows waits level
   pub are_gone : AreGone rows gone
   pub charged : IsLookedAt count rows gone before after
-
--- seeds of a cut: an end of a removed link, at its mark, where the mark is one above that of the other end and a walk went on there
-pub record SeedsCut (terminal : ℕ → Bool) (top : ℕ) (flips : List Flip) (mark : ℕ → Option ℕ) (seeds : List (ℕ × ℕ)) : Type 0 where
-  pub only : (k y : ℕ) → Contains seeds (k, y) → (x : ℕ) × (d : ℕ) × IsFlipped flips false x y × (k ≡ suc d) × (mark y ≡ Some k)
-  pub each : (x y d : ℕ) → IsFlipped flips false x y → Expands terminal top mark x d → mark y ≡ Some (suc d) → Contains seeds (suc d, y)

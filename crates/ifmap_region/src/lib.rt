@@ -8,6 +8,7 @@ mod lose;
 mod mid;
 mod region;
 mod rows;
+mod seeds;
 mod spread;
 
 pub use flips::Flip;

@@ -1,19 +1,19 @@
 //! Marks are taken away, level by level, where what held them is gone.
-ghost use Rattle.std.specs.Prelude.{◌≡◌, ℕ, suc, ◌+◌, ◌<◌, ◌≤◌, ◌∷◌, [], Some, true, false, List, Contains, OnOk, IfSome, IfNone};
+ghost use Rattle.std.specs.Prelude.{◌≡◌, ℕ, suc, ◌+◌, ◌<◌, ◌≤◌, ◌∷◌, [], Some, true, false, List, OnOk, IfOk};
 ghost use Rattle.ifmap_region.specs.Bounds.{IsWithin};
 ghost use Rattle.ifmap_region.specs.Flips.{WithRemoved};
 ghost use Rattle.ifmap_region.specs.Links.{Linked};
 ghost use Rattle.ifmap_region.specs.declared.flips.Flip.{Flip};
-ghost use Rattle.ifmap_region.specs.Losing.{Follows, IsHeld, IsBeforeCut, IsCutting, Reseeds};
-ghost use Rattle.ifmap_region.specs.Marks.{mark_of, row_of, over};
+ghost use Rattle.ifmap_region.specs.Losing.{Follows, IsBeforeCut, IsCutting};
+ghost use Rattle.ifmap_region.specs.Marks.{mark_of, over};
 ghost use Rattle.ifmap_region.specs.Near.{NearOneWay};
+ghost use Rattle.ifmap_region.specs.Seeds.{MayHold, SeedsAlong};
 ghost use Rattle.ifmap_region.specs.Spreading.{waiting};
-ghost use Rattle.ifmap_region.specs.Walks.{AreDepths, Expands};
 
 use crate::flips::Flip;
 use crate::levels::Levels;
 use crate::link_source::LinkSource;
-use crate::rows::{has_row, mark, put};
+use crate::rows::{has_row, is_mark, mark, put};
 use ifmap_steps::Steps;
 use indexmap::IndexMap;
 use std::alloc::{AllocError as NoMemory, Global};
@@ -57,17 +57,6 @@ fn is_held<G: LinkSource, L: Ledger>(
         }
     }
     false
-}
-
-/// Whether the mark is this one.
-fn is_mark(mark: Option<u32>, level: u32) -> bool
-    ensures yes { result ≡ true → mark ≡ Some level }
-    ensures no { result ≡ false → mark ≡ Some level → ⊥ }
-{
-    match mark {
-        Some(known) => known == level,
-        None => false,
-    }
 }
 
 /// The mark that the number had before any was taken away.
@@ -187,4 +176,39 @@ fn look_level<G: LinkSource, L: Ledger>(
         look(base, rows, top, graph, level, *number, gone, levels, steps)?;
     }
     Ok(())
+}
+
+/// Takes away the mark of each number that has another depth over the links of `graph` than over
+/// these and the removed ones, and gives those numbers.
+pub(crate) fn lose<G: LinkSource, L: Ledger>(
+    alloc: Global,
+    base: &IndexMap<u64, Option<u32>>,
+    rows: &mut IndexMap<u64, Option<u32>>,
+    top: u32,
+    graph: &G,
+    seeds: Vec<(u32, u64)>,
+    steps: &mut Steps<L>,
+) -> Result<Vec<u64>, NoMemory>
+    requires { rows.old.entries ≡ [] }
+    ensures keeps {
+        IfOk result (λ gone. (flips : List Flip) (start : ℕ)
+            → IsBeforeCut (Linked (G.count graph.now) (G.link graph.now)) (G.terminal graph.now) flips start top (mark_of base.now.entries)
+            → SeedsAlong flips false (MayHold (G.terminal graph.now) top (mark_of base.now.entries)) seeds.items
+            → (level : ℕ) × IsCutting (Linked (G.count graph.now) (G.link graph.now)) (G.terminal graph.now) (G.count graph.now) flips start top (mark_of base.now.entries)
+                rows.new.entries gone.items (λ _ _. ⊥) level steps.old steps.new)
+    }
+    ensures spent {
+        (flips : List Flip) (start : ℕ)
+            → IsBeforeCut (Linked (G.count graph.now) (G.link graph.now)) (G.terminal graph.now) flips start top (mark_of base.now.entries)
+            → SeedsAlong flips false (MayHold (G.terminal graph.now) top (mark_of base.now.entries)) seeds.items
+            → IsWithin (G.count graph.now) (NearOneWay flips false (WithRemoved (Linked (G.count graph.now) (G.link graph.now)) flips) (Linked (G.count graph.now) (G.link graph.now)) (G.terminal graph.now) start top)
+                2 steps.old steps.new
+    }
+{
+    let mut gone = Vec::new(alloc);
+    let mut levels = Levels::from_seeds(alloc, seeds);
+    while let Some((level, now)) = levels.next_level(alloc)? {
+        look_level(base, rows, top, graph, level, &now, &mut gone, &mut levels, steps)?;
+    }
+    Ok(gone)
 }

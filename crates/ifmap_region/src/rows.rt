@@ -1,5 +1,5 @@
 //! Rows of marks.
-ghost use Rattle.std.specs.Prelude.{◌≡◌, ℕ, ◌+◌, ◌<◌, Option, Bool, nat_eq, is_some, OnOk, OnErr, None, Some};
+ghost use Rattle.std.specs.Prelude.{◌≡◌, ℕ, ◌<◌, ◌≤◌, true, false, nat_eq, is_some, OnOk, OnErr, Some};
 ghost use Rattle.ifmap_region.specs.Marks.{row_of, mark_of, over};
 ghost use Rattle.std.specs.Map.{update};
 
@@ -31,8 +31,28 @@ pub(crate) fn put(rows: &mut IndexMap<u64, Option<u32>>, number: u64, mark: Opti
     ensures put { OnOk result ((q : ℕ) → row_of rows.new.entries q ≡ update nat_eq (row_of rows.old.entries) number (Some mark) q) }
     ensures err { OnErr result (rows.new.entries ≡ rows.old.entries) }
 {
-    match rows.insert(number, mark) {
-        Ok(_) => Ok(()),
-        Err(_) => Err(NoMemory),
+    rows.insert(number, mark)?;
+    Ok(())
+}
+
+/// Whether there is a mark, and it is at most the level.
+pub(crate) fn is_within(mark: Option<u32>, level: u32) -> bool
+    ensures yes { result ≡ true → (k : ℕ) × (mark ≡ Some k) × (k ≤ level) }
+    ensures no { result ≡ false → (k : ℕ) → mark ≡ Some k → level < k }
+{
+    match mark {
+        Some(known) => known <= level,
+        None => false,
+    }
+}
+
+/// Whether the mark is this one.
+pub(crate) fn is_mark(mark: Option<u32>, level: u32) -> bool
+    ensures yes { result ≡ true → mark ≡ Some level }
+    ensures no { result ≡ false → mark ≡ Some level → ⊥ }
+{
+    match mark {
+        Some(known) => known == level,
+        None => false,
     }
 }

@@ -8,22 +8,11 @@ ghost use Rattle.ifmap_region.specs.Walks.{AreDepths};
 
 use crate::levels::Levels;
 use crate::link_source::LinkSource;
-use crate::rows::{mark, put};
+use crate::rows::{is_within, mark, put};
 use ifmap_steps::Steps;
 use indexmap::IndexMap;
 use std::alloc::{AllocError as NoMemory, Global};
 use std::sync::ledger::Ledger;
-
-/// Whether there is a mark, and it is at most the level.
-pub(crate) fn is_within(mark: Option<u32>, level: u32) -> bool
-    ensures yes { result ≡ true → (k : ℕ) × (mark ≡ Some k) × (k ≤ level) }
-    ensures no { result ≡ false → (k : ℕ) → mark ≡ Some k → level < k }
-{
-    match mark {
-        Some(known) => known <= level,
-        None => false,
-    }
-}
 
 /// Lets the neighbours of a number wait that have no mark, or one above the level that follows.
 fn offer_neighbours<G: LinkSource, L: Ledger>(
