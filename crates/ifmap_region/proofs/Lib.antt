@@ -4,6 +4,9 @@ pub mod FlipLists
 pub mod Lost
 pub mod Offering
 pub mod Overs
+pub mod Patches
 pub mod Ready
+pub mod Regrow
+pub mod Repairs
 pub mod Sums
 pub mod Waits

@@ -13,7 +13,7 @@ ghost use Rattle.ifmap_region.specs.Spreading.{waiting};
 use crate::flips::Flip;
 use crate::levels::Levels;
 use crate::link_source::LinkSource;
-use crate::rows::{has_row, is_mark, mark, put};
+use crate::rows::{has_row, is_mark, mark, mark_in, put};
 use ifmap_steps::Steps;
 use indexmap::IndexMap;
 use std::alloc::{AllocError as NoMemory, Global};
@@ -59,16 +59,6 @@ fn is_held<G: LinkSource, L: Ledger>(
     false
 }
 
-/// The mark that the number had before any was taken away.
-fn mark_before(base: &IndexMap<u64, Option<u32>>, number: u64) -> Option<u32>
-    ensures { result ≡ mark_of base.now.entries number }
-{
-    match base.get(&number) {
-        Some(row) => *row,
-        None => None,
-    }
-}
-
 /// Lets the neighbours of a number wait that had the next level as their mark.
 fn follow<G: LinkSource, L: Ledger>(
     base: &IndexMap<u64, Option<u32>>,
@@ -87,7 +77,7 @@ fn follow<G: LinkSource, L: Ledger>(
 {
     for i in 0..graph.count(number) {
         if let Some(neighbour) = graph.at(number, i, steps) {
-            if is_mark(mark_before(base, neighbour), next) {
+            if is_mark(mark_in(base, neighbour), next) {
                 levels.push(neighbour)?;
             }
         }

@@ -14,8 +14,8 @@ use std::sync::ledger::Ledger;
 /// The links of a graph without some, each of which is named both ways round.
 #[derive(Drop)]
 pub(crate) struct Mid<'a, G> {
-    graph: &'a G,
-    hidden: HashSet<(u64, u64)>,
+    pub(crate) graph: &'a G,
+    pub(crate) hidden: HashSet<(u64, u64)>,
 }
 
 /// The pairs of ends of the added links, both ways round.

@@ -56,3 +56,13 @@ pub(crate) fn is_mark(mark: Option<u32>, level: u32) -> bool
         None => false,
     }
 }
+
+/// The mark of the number in these rows alone.
+pub(crate) fn mark_in(rows: &IndexMap<u64, Option<u32>>, number: u64) -> Option<u32>
+    ensures { result ≡ mark_of rows.now.entries number }
+{
+    match rows.get(&number) {
+        Some(row) => *row,
+        None => None,
+    }
+}
