@@ -1,5 +1,6 @@
 pub mod Cuts
 pub mod Depths
+pub mod Exchange
 pub mod FlipLists
 pub mod Lost
 pub mod Offering

@@ -9,3 +9,4 @@ pub mod Seeds
 pub mod Spreading
 pub mod Waiting
 pub mod Walks
+pub mod Ways

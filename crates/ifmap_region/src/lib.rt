@@ -14,6 +14,7 @@ mod repairing;
 mod rows;
 mod seeds;
 mod spread;
+mod ways;
 
 pub use flips::Flip;
 pub use link_source::LinkSource;
