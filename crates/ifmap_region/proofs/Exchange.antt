@@ -9,7 +9,8 @@ use Rattle.std.proofs.lemmas.Bool.{cases_eq, cases_lt, eqb-true, eq-eqb, ne_eqb}
 use Rattle.std.proofs.lemmas.List.{take_more, drop_more, take_all, drop_all, take-append-drop, append-nil, length-map, map_push}
 use Rattle.std.proofs.lemmas.List.Elements.{Contains-append_right}
 use Rattle.ifmap_region.specs.Marks.{row_of, mark_of, over}
-use Rattle.ifmap_region.specs.Ways.{HasRoom, OnlyRoom, Makes, Sweeps, Exchanges, taken_from}
+use Rattle.ifmap_region.specs.Ways.{HasRoom, OnlyRoom, Makes, Sweeps, Exchanges, IsWayBack, taken_from}
+use Rattle.std.specs.Option.{option_map}
 use Rattle.ifmap_region.proofs.Overs.{row_here, row_apart}
 use Rattle.ifmap_region.proofs.Patches.{row_place}
 use Rattle.ifmap_region.proofs.Sums.{distinct_head, distinct_tail}
@@ -248,3 +249,65 @@ swept_all patch old rows i within each out = record { each = each; out = λ v h 
     by : (v : ℕ) (o : Option (Option ℕ)) → row_of patch v ≡ o → IsSome o → row_of old v ≡ Some None → row_of rows v ≡ None
     by v None e h bare = absurd (true≢false (sym h))
     by v (Some r) e h bare = let p = row_place patch v r e in out p.0 v r (within p.0 v r p.1) p.1 bare
+
+-- what was taken has the numbers of the patch, with the marks that were there
+row_taken : (rows patch : List (ℕ × Option ℕ)) (v : ℕ) → row_of (taken_from rows patch) v ≡ option_map (λ _. mark_of rows v) (row_of patch v)
+row_taken rows [] v = refl
+row_taken rows (x ∷ xs) v = by (nat_eq v x.0) refl (row_taken rows xs v)
+  where
+    by : (t : Bool) → nat_eq v x.0 ≡ t → row_of (taken_from rows xs) v ≡ option_map (λ _. mark_of rows v) (row_of xs v)
+        → cond t (Some (mark_of rows x.0)) (row_of (taken_from rows xs) v) ≡ option_map (λ _. mark_of rows v) (cond t (Some x.1) (row_of xs v))
+    by true e rest = ap (λ (n : ℕ). Some (mark_of rows n)) (sym (eqb-true v x.0 e))
+    by false e rest = rest
+
+-- the marks before come back, and the patch with them
+module _ (undo patch before after new : List (ℕ × Option ℕ)) (way : IsWayBack undo patch before after) (v : ℕ) where
+  undo_row : row_of undo v ≡ option_map (λ _. mark_of before v) (row_of patch v)
+  undo_row = ap (λ (l : List (ℕ × Option ℕ)). row_of l v) way.taken ∙ row_taken before patch v
+
+  pub marks_back : Makes undo after new → mark_of new v ≡ mark_of before v
+  marks_back made = made.marks v ∙ by (row_of patch v) refl
+    where
+      by : (o : Option (Option ℕ)) → row_of patch v ≡ o → over undo (mark_of after) v ≡ mark_of before v
+      by None e =
+          ap (λ (o : Option (Option ℕ)). unwrap_or o (mark_of after v)) (undo_row ∙ ap (option_map (λ _. mark_of before v)) e)
+          ∙ way.made.marks v ∙ ap (λ (o : Option (Option ℕ)). unwrap_or o (mark_of before v)) e
+      by (Some r) e = ap (λ (o : Option (Option ℕ)). unwrap_or o (mark_of after v)) (undo_row ∙ ap (option_map (λ _. mark_of before v)) e)
+
+  pub patch_back : row_of (taken_from after undo) v ≡ row_of patch v
+  patch_back = row_taken after undo v ∙ by (row_of patch v) refl
+    where
+      by : (o : Option (Option ℕ)) → row_of patch v ≡ o → option_map (λ _. mark_of after v) (row_of undo v) ≡ row_of patch v
+      by None e = ap (option_map (λ _. mark_of after v)) (undo_row ∙ ap (option_map (λ _. mark_of before v)) e) ∙ sym e
+      by (Some r) e =
+          ap (option_map (λ _. mark_of after v)) (undo_row ∙ ap (option_map (λ _. mark_of before v)) e)
+          ∙ ap Some (way.made.marks v ∙ ap (λ (o : Option (Option ℕ)). unwrap_or o (mark_of before v)) e) ∙ sym e
+
+-- a sweep leaves the marks
+pub marks_swept : (patch old new : List (ℕ × Option ℕ)) → Sweeps patch old new → (v : ℕ) → mark_of new v ≡ mark_of old v
+marks_swept patch old new s v = elim (s.each v) [
+    inl same ↦ ap (λ (o : Option (Option ℕ)). unwrap_or o None) same
+  | inr p ↦ ap (λ (o : Option (Option ℕ)). unwrap_or o None) p.1 ∙ sym (ap (λ (o : Option (Option ℕ)). unwrap_or o None) p.0) ]
+
+-- room leaves the marks
+pub marks_roomed : (patch old new : List (ℕ × Option ℕ)) → OnlyRoom patch old new → (v : ℕ) → mark_of new v ≡ mark_of old v
+marks_roomed patch old new s v = elim (s v) [
+    inl same ↦ ap (λ (o : Option (Option ℕ)). unwrap_or o None) same
+  | inr p ↦ ap (λ (o : Option (Option ℕ)). unwrap_or o None) p.1 ∙ sym (ap (λ (o : Option (Option ℕ)). unwrap_or o None) p.0) ]
+
+-- a change and a sweep of its numbers
+module _ (patch old mid new : List (ℕ × Option ℕ)) (made : Makes patch old mid) (swept : Sweeps (taken_from old patch) mid new) (v : ℕ) where
+  pub commit_swept : IsSome (row_of patch v) → row_of new v ≡ Some None → ⊥
+  commit_swept h e = elim (swept.each v) [
+      inl same ↦ none-some None (sym (swept.out v (rowed_taken old patch v ∙ h) (sym same ∙ e)) ∙ e)
+    | inr p ↦ none-some None (sym p.1 ∙ e) ]
+
+  pub commit_others : row_of patch v ≡ None → is_some (row_of new v) ≡ is_some (row_of old v)
+  commit_others none = elim (swept.each v) [
+      inl same ↦ ap is_some same ∙ made.rows v
+    | inr p ↦ absurd (true≢false (sym p.2 ∙ rowed_taken old patch v ∙ ap is_some none)) ]
+
+-- the numbers that were exchanged still have rows
+pub room_taken : (patch old new taken : List (ℕ × Option ℕ)) → HasRoom patch old → Makes patch old new → taken ≡ taken_from old patch → HasRoom taken new
+room_taken patch old new taken room made is v h =
+    made.rows v ∙ room v (sym (rowed_taken old patch v) ∙ ap (λ (l : List (ℕ × Option ℕ)). is_some (row_of l v)) (sym is) ∙ h)

@@ -30,3 +30,8 @@ pub record Sweeps (patch old new : List (ℕ × Option ℕ)) : Type 0 where
 pub record Exchanges (i : ℕ) (old patch new back : List (ℕ × Option ℕ)) : Type 0 where
   pub at : (n : ℕ) (r : Option ℕ) → slice_get patch i ≡ Some (n, r)
       → ((q : ℕ) → row_of new q ≡ update nat_eq (row_of old) n (Some r) q) × (back ≡ insert_entry nat_eq patch n (mark_of old n))
+
+-- what a change gave as its way back, with the marks that it left
+pub record IsWayBack (undo patch before after : List (ℕ × Option ℕ)) : Type 0 where
+  pub taken : undo ≡ taken_from before patch
+  pub made : Makes patch before after

@@ -1,5 +1,5 @@
 //! Changes of marks that wait to be made, and the ways back.
-ghost use Rattle.std.specs.Prelude.{◌≡◌, ◌≢◌, ℕ, Option, Some, true, false, IfOk};
+ghost use Rattle.std.specs.Prelude.{◌≡◌, ◌≢◌, ℕ, Option, Some, true, false, ◌↔◌, IsTrue, IfOk, length, slice_get};
 ghost use Rattle.ifmap_region.specs.Marks.{mark_of, row_of};
 
 use crate::rows::{mark_in, put};
@@ -20,6 +20,39 @@ impl Model for Patch {
     ghost Value = { List (ℕ × Option ℕ) };
 
     ghost view = { λ p. p.rows.entries };
+}
+
+impl Patch {
+    /// How many numbers lose their mark or get another.
+    pub fn len(&self) -> usize
+        ensures { result ≡ length self.now }
+    {
+        self.rows.len()
+    }
+
+    /// Whether no mark changes.
+    pub fn is_empty(&self) -> bool
+        ensures { IsTrue result ↔ (length self.now ≡ 0) }
+    {
+        self.rows.len() == 0
+    }
+
+    /// The number at a place, with its new mark; `None` past the end.
+    pub fn at(&self, i: usize) -> Option<(u64, Option<u32>)>
+        ensures { result ≡ slice_get self.now i }
+    {
+        match self.rows.get_index(i) {
+            Some((number, row)) => Some((*number, *row)),
+            None => None,
+        }
+    }
+
+    /// The new mark of a number, where the patch has one for it.
+    pub fn row(&self, number: u64) -> Option<Option<u32>>
+        ensures { result ≡ row_of self.now number }
+    {
+        self.rows.get(&number).copied()
+    }
 }
 
 /// The way back of a change that was made: the marks that were there before.
