@@ -5,6 +5,7 @@ pub mod Links
 pub mod Losing
 pub mod Marks
 pub mod Near
+pub mod Pairs
 pub mod Seeds
 pub mod Spreading
 pub mod Waiting
