@@ -25,13 +25,16 @@ module _ (links : ℕ → ℕ → Type 0) (terminal : ℕ → Bool) (start top :
     where
       least : m v ≡ Some k → (j : ℕ) → Walk links terminal start j v → k ≤ j
       least e j w = elim (cases_lt j k) [
-          inl lt ↦ let s = sound v k e in
-                   let h = marked_from_closed m closed j v w (omega (arith, s.0, lt)) in
-                   let same : h.0 ≡ k = same_Some _ _ (sym h.1 ∙ e) in
-                   omega (arith, h.2, same, lt)
-        | inr ge ↦ ge ]
+        | inl lt ↦ let s = sound v k e in
+            let h = marked_from_closed m closed j v w (omega (arith, s.0, lt)) in
+            let same : h.0 ≡ k = same_Some _ _ (sym h.1 ∙ e) in
+            omega (arith, h.2, same, lt)
+        | inr ge ↦ ge
+      ]
+
       there : m v ≡ Some k → HasDepth links terminal start top v k
       there e = let s = sound v k e in record { within = s.0; walk = s.1; least = least e }
+
       back : HasDepth links terminal start top v k → m v ≡ Some k
       back h =
           let f = marked_from_closed m closed k v h.walk h.within in
@@ -43,9 +46,14 @@ module _ (links : ℕ → ℕ → Type 0) (terminal : ℕ → Bool) (start top :
   pub no_walk : (v : ℕ) → ((n : ℕ) → HasDepth links terminal start top v n → ⊥) → (bound k : ℕ) → k < bound → k ≤ top → Walk links terminal start k v → ⊥
   no_walk v none zero k lt within w = absurd (omega (arith, lt))
   no_walk v none (suc bound) k lt within w =
-      none k (record { within = within; walk = w; least = λ j shorter. elim (cases_lt j k) [
-          inl below ↦ absurd (no_walk v none bound j (omega (arith, lt, below)) (omega (arith, within, below)) shorter)
-        | inr ge ↦ ge ] })
+      none k (record {
+        within = within;
+        walk = w;
+        least = λ j shorter. elim (cases_lt j k) [
+          | inl below ↦ absurd (no_walk v none bound j (omega (arith, lt, below)) (omega (arith, within, below)) shorter)
+          | inr ge ↦ ge
+        ];
+      })
 
   module _ (m : ℕ → Option ℕ) (depths : AreDepths links terminal start top m) where
     pub sound_from : IsSound m
@@ -88,16 +96,18 @@ module _ (links others : ℕ → ℕ → Type 0) (terminal : ℕ → Bool) (star
   -- the same links give the same depths
   pub depth_along : (v k : ℕ) → HasDepth links terminal start top v k → HasDepth others terminal start top v k
   depth_along v k h = record {
-      within = h.within;
-      walk = walk_along links others terminal start there k v h.walk;
-      least = λ j w. h.least j (walk_along others links terminal start back j v w) }
+    within = h.within;
+    walk = walk_along links others terminal start there k v h.walk;
+    least = λ j w. h.least j (walk_along others links terminal start back j v w);
+  }
 
 pub depths_along : (links others : ℕ → ℕ → Type 0) (terminal : ℕ → Bool) (start top : ℕ)
     → ((u v : ℕ) → links u v → others u v) → ((u v : ℕ) → others u v → links u v)
     → (m : ℕ → Option ℕ) → AreDepths links terminal start top m → AreDepths others terminal start top m
-depths_along links others terminal start top there back m depths v k =
-    (λ e. depth_along links others terminal start top there back v k ((depths v k).0 e),
-     λ h. (depths v k).1 (depth_along others links terminal start top back there v k h))
+depths_along links others terminal start top there back m depths v k = (
+  λ e. depth_along links others terminal start top there back v k ((depths v k).0 e),
+  λ h. (depths v k).1 (depth_along others links terminal start top back there v k h),
+)
 
 -- the same marks are the same depths
 pub depths_same : (links : ℕ → ℕ → Type 0) (terminal : ℕ → Bool) (start top : ℕ) (m n : ℕ → Option ℕ) → ((v : ℕ) → n v ≡ m v)

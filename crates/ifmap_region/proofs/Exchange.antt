@@ -86,8 +86,10 @@ module _ (rows es now patch : List (ℕ × Option ℕ)) (i : ℕ) (distinct : Is
       some : is_some (first_row (row_of (take i es) v) (row_of (drop i es) v)) ≡ true
       some = sym (rowed_first (row_of (taken_from rows (take i es)) v) (row_of (drop i es) v) (row_of (take i es) v) (rowed_taken rows (take i es) v))
           ∙ sym (ap is_some (row_append (taken_from rows (take i es)) (drop i es) v)) ∙ ap (λ (l : List (ℕ × Option ℕ)). is_some (row_of l v)) (sym inv_patch) ∙ h
+
       in_all : is_some (row_of es v) ≡ true
       in_all = ap (λ (l : List (ℕ × Option ℕ)). is_some (row_of l v)) (sym (take-append-drop i es)) ∙ ap is_some (row_append (take i es) (drop i es) v) ∙ some
+
       by : (a b : Option (Option ℕ)) → row_of (take i es) v ≡ a → row_of (drop i es) v ≡ b → IsSome (row_of now v)
       by None b e f = ap is_some (inv_rows v ∙ ap (λ (o : Option (Option ℕ)). first_row o (row_of rows v)) e) ∙ room v in_all
       by (Some r) b e f = ap is_some (inv_rows v ∙ ap (λ (o : Option (Option ℕ)). first_row o (row_of rows v)) e)
@@ -108,7 +110,7 @@ module _ (rows es now patch : List (ℕ × Option ℕ)) (i : ℕ) (distinct : Is
     at_place : slice_get patch i ≡ Some (get_or es i (0, None))
     at_place = ap (λ (l : List (ℕ × Option ℕ)). slice_get l i) patch_is
         ∙ slice_at (taken_from rows (take i es)) (drop (i + 1) es) (get_or es i (0, None)) i
-            (length-map {B = ℕ × Option ℕ} (take i es) (λ (x : ℕ × Option ℕ). (x.0, mark_of rows x.0)) ∙ length_front)
+        (length-map {B = ℕ × Option ℕ} (take i es) (λ (x : ℕ × Option ℕ). (x.0, mark_of rows x.0)) ∙ length_front)
       where
         length_front : length (take i es) ≡ i
         length_front = omega (arith, length-take i es, lt)
@@ -126,26 +128,27 @@ module _ (rows es now patch : List (ℕ × Option ℕ)) (i : ℕ) (distinct : Is
 
     pub rows_next : (v : ℕ) → row_of rows' v ≡ first_row (row_of (take (i + 1) es) v) (row_of rows v)
     rows_next v = elim (cases_eq v (get_or es i (0, None)).0) [
-        inl at ↦
-            ap (row_of rows') at ∙ row_here now rows' (λ _. None) (get_or es i (0, None)).0 (get_or es i (0, None)).1 done.0
-            ∙ sym (ap (λ (o : Option (Option ℕ)). first_row o (row_of rows v))
-                (front_row v ∙ ap (λ (o : Option (Option ℕ)). first_row o (row_of (get_or es i (0, None) ∷ []) v)) (ap (row_of (take i es)) at ∙ fresh)
-                 ∙ ap (λ (t : Bool). cond t (Some (get_or es i (0, None)).1) None) (eq-eqb v (get_or es i (0, None)).0 at)))
+      | inl at ↦
+          ap (row_of rows') at ∙ row_here now rows' (λ _. None) (get_or es i (0, None)).0 (get_or es i (0, None)).1 done.0
+          ∙ sym (ap (λ (o : Option (Option ℕ)). first_row o (row_of rows v))
+          (front_row v ∙ ap (λ (o : Option (Option ℕ)). first_row o (row_of (get_or es i (0, None) ∷ []) v)) (ap (row_of (take i es)) at ∙ fresh)
+          ∙ ap (λ (t : Bool). cond t (Some (get_or es i (0, None)).1) None) (eq-eqb v (get_or es i (0, None)).0 at)))
       | inr apart ↦
-            row_apart now rows' (λ _. None) (get_or es i (0, None)).0 (get_or es i (0, None)).1 done.0 v apart ∙ inv_rows v
-            ∙ sym (ap (λ (o : Option (Option ℕ)). first_row o (row_of rows v))
-                (front_row v ∙ ap (λ (t : Bool). first_row (row_of (take i es) v) (cond t (Some (get_or es i (0, None)).1) None)) (ne_eqb v (get_or es i (0, None)).0 apart))
-               ∙ drop_none (row_of (take i es) v) (row_of rows v)) ]
+          row_apart now rows' (λ _. None) (get_or es i (0, None)).0 (get_or es i (0, None)).1 done.0 v apart ∙ inv_rows v
+          ∙ sym (ap (λ (o : Option (Option ℕ)). first_row o (row_of rows v))
+          (front_row v ∙ ap (λ (t : Bool). first_row (row_of (take i es) v) (cond t (Some (get_or es i (0, None)).1) None)) (ne_eqb v (get_or es i (0, None)).0 apart))
+          ∙ drop_none (row_of (take i es) v) (row_of rows v))
+    ]
 
     pub patch_next : patch' ≡ taken_from rows (take (i + 1) es) ++ drop (i + 1) es
     patch_next =
         done.1 ∙ ap (λ (l : List (ℕ × Option ℕ)). insert_entry nat_eq l (get_or es i (0, None)).0 (mark_of now (get_or es i (0, None)).0)) patch_is
         ∙ insert_at (taken_from rows (take i es)) (drop (i + 1) es) (get_or es i (0, None)).0 (get_or es i (0, None)).1 (mark_of now (get_or es i (0, None)).0)
-            (none_from (row_of (taken_from rows (take i es)) (get_or es i (0, None)).0) (rowed_taken rows (take i es) (get_or es i (0, None)).0 ∙ ap is_some fresh))
+        (none_from (row_of (taken_from rows (take i es)) (get_or es i (0, None)).0) (rowed_taken rows (take i es) (get_or es i (0, None)).0 ∙ ap is_some fresh))
         ∙ ap (λ (m : Option ℕ). taken_from rows (take i es) ++ ((get_or es i (0, None)).0, m) ∷ drop (i + 1) es) mark_is
         ∙ sym (ap (λ (l : List (ℕ × Option ℕ)). taken_from rows l ++ drop (i + 1) es) (take_more es i (0, None) lt)
-            ∙ ap (λ (l : List (ℕ × Option ℕ)). l ++ drop (i + 1) es) (map_push (λ (x : ℕ × Option ℕ). (x.0, mark_of rows x.0)) (take i es) (get_or es i (0, None)))
-            ∙ append_assoc (taken_from rows (take i es)) (((get_or es i (0, None)).0, mark_of rows (get_or es i (0, None)).0) ∷ []) (drop (i + 1) es))
+        ∙ ap (λ (l : List (ℕ × Option ℕ)). l ++ drop (i + 1) es) (map_push (λ (x : ℕ × Option ℕ). (x.0, mark_of rows x.0)) (take i es) (get_or es i (0, None)))
+        ∙ append_assoc (taken_from rows (take i es)) (((get_or es i (0, None)).0, mark_of rows (get_or es i (0, None)).0) ∷ []) (drop (i + 1) es))
       where
         mark_is : mark_of now (get_or es i (0, None)).0 ≡ mark_of rows (get_or es i (0, None)).0
         mark_is = ap (λ (o : Option (Option ℕ)). unwrap_or o None) (inv_rows (get_or es i (0, None)).0 ∙ ap (λ (o : Option (Option ℕ)). first_row o (row_of rows (get_or es i (0, None)).0)) fresh)
@@ -155,9 +158,11 @@ module _ (rows es now patch : List (ℕ × Option ℕ)) (i : ℕ) (distinct : Is
     where
       row : (v : ℕ) → row_of now v ≡ first_row (row_of es v) (row_of rows v)
       row v = inv_rows v ∙ ap (λ (l : List (ℕ × Option ℕ)). first_row (row_of l v) (row_of rows v)) (take_all i es le)
+
       marked : (v : ℕ) (o : Option (Option ℕ)) → row_of es v ≡ o → mark_of now v ≡ over es (mark_of rows) v
       marked v None f = ap (λ (o : Option (Option ℕ)). unwrap_or o None) (row v ∙ ap (λ (o : Option (Option ℕ)). first_row o (row_of rows v)) f) ∙ sym (ap (λ (o : Option (Option ℕ)). unwrap_or o (mark_of rows v)) f)
       marked v (Some r) f = ap (λ (o : Option (Option ℕ)). unwrap_or o None) (row v ∙ ap (λ (o : Option (Option ℕ)). first_row o (row_of rows v)) f) ∙ sym (ap (λ (o : Option (Option ℕ)). unwrap_or o (mark_of rows v)) f)
+
       rowed : (v : ℕ) (o : Option (Option ℕ)) → row_of es v ≡ o → is_some (row_of now v) ≡ is_some (row_of rows v)
       rowed v None f = ap is_some (row v ∙ ap (λ (o : Option (Option ℕ)). first_row o (row_of rows v)) f)
       rowed v (Some r) f = ap is_some (row v ∙ ap (λ (o : Option (Option ℕ)). first_row o (row_of rows v)) f) ∙ sym (room v (ap is_some f))
@@ -171,10 +176,11 @@ module _ (rows es now patch : List (ℕ × Option ℕ)) (i : ℕ) (distinct : Is
 pub place_cases : (es : List (ℕ × Option ℕ)) (n : ℕ) (s : Option ℕ) (i : ℕ) → slice_get es i ≡ Some (n, s)
     → (j v : ℕ) (r : Option ℕ) → j < i + 1 → slice_get es j ≡ Some (v, r) → (j < i) ⊎ (n ≡ v)
 place_cases es n s i place j v r lt e = elim (cases_lt j i) [
-    inl l ↦ inl l
+  | inl l ↦ inl l
   | inr g ↦
       let at : j ≡ i = omega (arith, lt, g) in
-      inr (ap (λ (p : ℕ × Option ℕ). p.0) (same_Some (n, s) (v, r) (sym place ∙ ap (slice_get es) (sym at) ∙ e))) ]
+      inr (ap (λ (p : ℕ × Option ℕ). p.0) (same_Some (n, s) (v, r) (sym place ∙ ap (slice_get es) (sym at) ∙ e)))
+]
 
 -- room for one number more
 module _ (patch old rows after : List (ℕ × Option ℕ)) (n : ℕ) (s : Option ℕ) (i : ℕ)
@@ -186,19 +192,24 @@ module _ (patch old rows after : List (ℕ × Option ℕ)) (n : ℕ) (s : Option
   module _ (bare : row_of rows n ≡ None) (put : (q : ℕ) → row_of after q ≡ update nat_eq (row_of rows) n (Some None) q) where
     pub only_put : OnlyRoom patch old after
     only_put v = elim (cases_eq v n) [
-        inl at ↦ elim (only n) [
-            inl same ↦ inr (ap (row_of old) at ∙ sym same ∙ bare, ap (row_of after) at ∙ row_here rows after (λ _. None) n None put, ap is_some (ap (row_of patch) at ∙ listed))
-          | inr p ↦ absurd (none-some None (sym bare ∙ p.1)) ]
+      | inl at ↦ elim (only n) [
+        | inl same ↦ inr (ap (row_of old) at ∙ sym same ∙ bare, ap (row_of after) at ∙ row_here rows after (λ _. None) n None put, ap is_some (ap (row_of patch) at ∙ listed))
+        | inr p ↦ absurd (none-some None (sym bare ∙ p.1))
+      ]
       | inr apart ↦ elim (only v) [
-            inl same ↦ inl (row_apart rows after (λ _. None) n None put v apart ∙ same)
-          | inr p ↦ inr (p.0, row_apart rows after (λ _. None) n None put v apart ∙ p.1, p.2) ] ]
+        | inl same ↦ inl (row_apart rows after (λ _. None) n None put v apart ∙ same)
+        | inr p ↦ inr (p.0, row_apart rows after (λ _. None) n None put v apart ∙ p.1, p.2)
+      ]
+    ]
 
     pub done_put : (j v : ℕ) (r : Option ℕ) → j < i + 1 → slice_get patch j ≡ Some (v, r) → IsSome (row_of after v)
     done_put j v r lt e = elim (cases_eq v n) [
-        inl at ↦ ap is_some (ap (row_of after) at ∙ row_here rows after (λ _. None) n None put)
+      | inl at ↦ ap is_some (ap (row_of after) at ∙ row_here rows after (λ _. None) n None put)
       | inr apart ↦ elim (place_cases patch n s i place j v r lt e) [
-            inl l ↦ ap is_some (row_apart rows after (λ _. None) n None put v apart) ∙ done j v r l e
-          | inr at ↦ absurd (apart (sym at)) ] ]
+        | inl l ↦ ap is_some (row_apart rows after (λ _. None) n None put v apart) ∙ done j v r l e
+        | inr at ↦ absurd (apart (sym at))
+      ]
+    ]
 
 pub room_all : (patch rows : List (ℕ × Option ℕ)) (i : ℕ) → ((j v : ℕ) (r : Option ℕ) → slice_get patch j ≡ Some (v, r) → j < i)
     → ((j v : ℕ) (r : Option ℕ) → j < i → slice_get patch j ≡ Some (v, r) → IsSome (row_of rows v)) → HasRoom patch rows
@@ -215,10 +226,12 @@ module _ (patch old rows after : List (ℕ × Option ℕ)) (n : ℕ) (s : Option
     (out : (j v : ℕ) (r : Option ℕ) → j < i → slice_get patch j ≡ Some (v, r) → row_of old v ≡ Some None → row_of rows v ≡ None) where
   pub out_same : (row_of rows n ≡ Some None → ⊥) → (j v : ℕ) (r : Option ℕ) → j < i + 1 → slice_get patch j ≡ Some (v, r) → row_of old v ≡ Some None → row_of rows v ≡ None
   out_same marked j v r lt e bare = elim (place_cases patch n s i place j v r lt e) [
-      inl l ↦ out j v r l e bare
+    | inl l ↦ out j v r l e bare
     | inr at ↦ elim (each v) [
-          inl same ↦ absurd (marked (ap (row_of rows) at ∙ same ∙ bare))
-        | inr p ↦ p.1 ] ]
+      | inl same ↦ absurd (marked (ap (row_of rows) at ∙ same ∙ bare))
+      | inr p ↦ p.1
+    ]
+  ]
 
   module _ (bare : row_of rows n ≡ Some None) (gone : (q : ℕ) → row_of after q ≡ cond (nat_eq n q) None (row_of rows q)) where
     gone_here : row_of after n ≡ None
@@ -229,17 +242,21 @@ module _ (patch old rows after : List (ℕ × Option ℕ)) (n : ℕ) (s : Option
 
     pub each_swept : (v : ℕ) → (row_of after v ≡ row_of old v) ⊎ ((row_of old v ≡ Some None) × (row_of after v ≡ None) × IsSome (row_of patch v))
     each_swept v = elim (cases_eq v n) [
-        inl at ↦ elim (each n) [
-            inl same ↦ inr (ap (row_of old) at ∙ sym same ∙ bare, ap (row_of after) at ∙ gone_here, ap is_some (ap (row_of patch) at ∙ listed))
-          | inr p ↦ absurd (none-some None (sym p.1 ∙ bare)) ]
+      | inl at ↦ elim (each n) [
+        | inl same ↦ inr (ap (row_of old) at ∙ sym same ∙ bare, ap (row_of after) at ∙ gone_here, ap is_some (ap (row_of patch) at ∙ listed))
+        | inr p ↦ absurd (none-some None (sym p.1 ∙ bare))
+      ]
       | inr apart ↦ elim (each v) [
-            inl same ↦ inl (gone_apart v apart ∙ same)
-          | inr p ↦ inr (p.0, gone_apart v apart ∙ p.1, p.2) ] ]
+        | inl same ↦ inl (gone_apart v apart ∙ same)
+        | inr p ↦ inr (p.0, gone_apart v apart ∙ p.1, p.2)
+      ]
+    ]
 
     pub out_swept : (j v : ℕ) (r : Option ℕ) → j < i + 1 → slice_get patch j ≡ Some (v, r) → row_of old v ≡ Some None → row_of after v ≡ None
     out_swept j v r lt e old_bare = elim (cases_eq v n) [
-        inl at ↦ ap (row_of after) at ∙ gone_here
-      | inr apart ↦ gone_apart v apart ∙ elim (place_cases patch n s i place j v r lt e) [ inl l ↦ out j v r l e old_bare | inr at ↦ absurd (apart (sym at)) ] ]
+      | inl at ↦ ap (row_of after) at ∙ gone_here
+      | inr apart ↦ gone_apart v apart ∙ elim (place_cases patch n s i place j v r lt e) [ inl l ↦ out j v r l e old_bare | inr at ↦ absurd (apart (sym at)) ]
+    ]
 
 pub swept_all : (patch old rows : List (ℕ × Option ℕ)) (i : ℕ) → ((j v : ℕ) (r : Option ℕ) → slice_get patch j ≡ Some (v, r) → j < i)
     → ((v : ℕ) → (row_of rows v ≡ row_of old v) ⊎ ((row_of old v ≡ Some None) × (row_of rows v ≡ None) × IsSome (row_of patch v)))
@@ -286,26 +303,30 @@ module _ (undo patch before after new : List (ℕ × Option ℕ)) (way : IsWayBa
 -- a sweep leaves the marks
 pub marks_swept : (patch old new : List (ℕ × Option ℕ)) → Sweeps patch old new → (v : ℕ) → mark_of new v ≡ mark_of old v
 marks_swept patch old new s v = elim (s.each v) [
-    inl same ↦ ap (λ (o : Option (Option ℕ)). unwrap_or o None) same
-  | inr p ↦ ap (λ (o : Option (Option ℕ)). unwrap_or o None) p.1 ∙ sym (ap (λ (o : Option (Option ℕ)). unwrap_or o None) p.0) ]
+  | inl same ↦ ap (λ (o : Option (Option ℕ)). unwrap_or o None) same
+  | inr p ↦ ap (λ (o : Option (Option ℕ)). unwrap_or o None) p.1 ∙ sym (ap (λ (o : Option (Option ℕ)). unwrap_or o None) p.0)
+]
 
 -- room leaves the marks
 pub marks_roomed : (patch old new : List (ℕ × Option ℕ)) → OnlyRoom patch old new → (v : ℕ) → mark_of new v ≡ mark_of old v
 marks_roomed patch old new s v = elim (s v) [
-    inl same ↦ ap (λ (o : Option (Option ℕ)). unwrap_or o None) same
-  | inr p ↦ ap (λ (o : Option (Option ℕ)). unwrap_or o None) p.1 ∙ sym (ap (λ (o : Option (Option ℕ)). unwrap_or o None) p.0) ]
+  | inl same ↦ ap (λ (o : Option (Option ℕ)). unwrap_or o None) same
+  | inr p ↦ ap (λ (o : Option (Option ℕ)). unwrap_or o None) p.1 ∙ sym (ap (λ (o : Option (Option ℕ)). unwrap_or o None) p.0)
+]
 
 -- a change and a sweep of its numbers
 module _ (patch old mid new : List (ℕ × Option ℕ)) (made : Makes patch old mid) (swept : Sweeps (taken_from old patch) mid new) (v : ℕ) where
   pub commit_swept : IsSome (row_of patch v) → row_of new v ≡ Some None → ⊥
   commit_swept h e = elim (swept.each v) [
-      inl same ↦ none-some None (sym (swept.out v (rowed_taken old patch v ∙ h) (sym same ∙ e)) ∙ e)
-    | inr p ↦ none-some None (sym p.1 ∙ e) ]
+    | inl same ↦ none-some None (sym (swept.out v (rowed_taken old patch v ∙ h) (sym same ∙ e)) ∙ e)
+    | inr p ↦ none-some None (sym p.1 ∙ e)
+  ]
 
   pub commit_others : row_of patch v ≡ None → is_some (row_of new v) ≡ is_some (row_of old v)
   commit_others none = elim (swept.each v) [
-      inl same ↦ ap is_some same ∙ made.rows v
-    | inr p ↦ absurd (true≢false (sym p.2 ∙ rowed_taken old patch v ∙ ap is_some none)) ]
+    | inl same ↦ ap is_some same ∙ made.rows v
+    | inr p ↦ absurd (true≢false (sym p.2 ∙ rowed_taken old patch v ∙ ap is_some none))
+  ]
 
 -- the numbers that were exchanged still have rows
 pub room_taken : (patch old new taken : List (ℕ × Option ℕ)) → HasRoom patch old → Makes patch old new → taken ≡ taken_from old patch → HasRoom taken new

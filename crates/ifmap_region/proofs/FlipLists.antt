@@ -13,8 +13,9 @@ use Rattle.ifmap_region.specs.Seeds.{SeedsAlong}
 module _ (flips : List Flip) (flip : Flip) (added : Bool) (v w : ℕ) where
   pub flipped_cases : IsFlipped (flips ++ flip ∷ []) added v w → IsFlipped flips added v w ⊎ ((flip.added ≡ added) × Joins flip v w)
   flipped_cases h = elim (Contains-push_cases flips flip h.0 h.1) [
-      inl before ↦ inl (h.0, before, h.2, h.3)
-    | inr e ↦ inr (ap (λ (f : Flip). f.added) e ∙ h.2, subst (λ (f : Flip). Joins f v w) (sym e) h.3) ]
+    | inl before ↦ inl (h.0, before, h.2, h.3)
+    | inr e ↦ inr (ap (λ (f : Flip). f.added) e ∙ h.2, subst (λ (f : Flip). Joins f v w) (sym e) h.3)
+  ]
 
   pub flipped_kept : IsFlipped flips added v w → IsFlipped (flips ++ flip ∷ []) added v w
   flipped_kept h = (h.0, Contains-append_left flips (flip ∷ []) h.0 h.1, h.2, h.3)
@@ -68,8 +69,9 @@ module _ (Gives : ℕ → ℕ → ℕ → Type 0) (x y : ℕ) (level : Option �
       by : (o : Option ℕ) → MatchOption o (after ≡ before) (λ k. after ≡ before ++ (k, y) ∷ []) → IfSome o (λ k. Gives x y k) → Contains before (k, z) ⊎ ((y ≡ z) × Gives x y k)
       by None e g = inl (subst (λ (l : List (ℕ × ℕ)). Contains l (k, z)) e h)
       by (Some j) e g = elim (Contains-push_cases before (j, y) (k, z) (subst (λ (l : List (ℕ × ℕ)). Contains l (k, z)) e h)) [
-          inl old ↦ inl old
-        | inr p ↦ inr (ap (λ (q : ℕ × ℕ). q.1) p, subst (λ (n : ℕ). Gives x y n) (ap (λ (q : ℕ × ℕ). q.0) p) g) ]
+        | inl old ↦ inl old
+        | inr p ↦ inr (ap (λ (q : ℕ × ℕ). q.1) p, subst (λ (n : ℕ). Gives x y n) (ap (λ (q : ℕ × ℕ). q.0) p) g)
+      ]
 
   pub offer_each : (k : ℕ) → Gives x y k → Contains after (k, y)
   offer_each k g = by level offered (each k g)
@@ -82,8 +84,9 @@ module _ (Gives : ℕ → ℕ → ℕ → Type 0) (x y : ℕ) (level : Option �
 module _ (flips : List Flip) (flip : Flip) (added : Bool) (Gives : ℕ → ℕ → ℕ → Type 0) where
   pub seeds_other : (seeds : List (ℕ × ℕ)) → (flip.added ≡ added → ⊥) → SeedsAlong flips added Gives seeds → SeedsAlong (flips ++ flip ∷ []) added Gives seeds
   seeds_other seeds other s = record {
-      only = λ k y h. let p = s.only k y h in (p.0, flipped_kept flips flip added p.0 y p.1, p.2);
-      each = λ x y k f g. elim (flipped_cases flips flip added x y f) [ inl old ↦ s.each x y k old g | inr p ↦ absurd (other p.0) ] }
+    only = λ k y h. let p = s.only k y h in (p.0, flipped_kept flips flip added p.0 y p.1, p.2);
+    each = λ x y k f g. elim (flipped_cases flips flip added x y f) [ inl old ↦ s.each x y k old g | inr p ↦ absurd (other p.0) ];
+  }
 
   pub seeds_more : (at_b at_a : Option ℕ) (before mid after : List (ℕ × ℕ)) → flip.added ≡ added
       → MatchOption at_b (mid ≡ before) (λ k. mid ≡ before ++ (k, flip.b) ∷ []) → IfSome at_b (λ k. Gives flip.a flip.b k) → ((k : ℕ) → Gives flip.a flip.b k → at_b ≡ Some k)
@@ -93,17 +96,22 @@ module _ (flips : List Flip) (flip : Flip) (added : Bool) (Gives : ℕ → ℕ �
     where
       only : (k y : ℕ) → Contains after (k, y) → (x : ℕ) × IsFlipped (flips ++ flip ∷ []) added x y × Gives x y k
       only k y h = elim (offer_only Gives flip.b flip.a at_a mid after second second_only second_each k y h) [
-          inl m ↦ elim (offer_only Gives flip.a flip.b at_b before mid first first_only first_each k y m) [
-              inl old ↦ let p = s.only k y old in (p.0, flipped_kept flips flip added p.0 y p.1, p.2)
-            | inr p ↦ (flip.a, flipped_last flips flip added flip.a y kind (inl (refl, p.0)), subst (λ (z : ℕ). Gives flip.a z k) p.0 p.1) ]
-        | inr p ↦ (flip.b, flipped_last flips flip added flip.b y kind (inr (p.0, refl)), subst (λ (z : ℕ). Gives flip.b z k) p.0 p.1) ]
+        | inl m ↦ elim (offer_only Gives flip.a flip.b at_b before mid first first_only first_each k y m) [
+          | inl old ↦ let p = s.only k y old in (p.0, flipped_kept flips flip added p.0 y p.1, p.2)
+          | inr p ↦ (flip.a, flipped_last flips flip added flip.a y kind (inl (refl, p.0)), subst (λ (z : ℕ). Gives flip.a z k) p.0 p.1)
+        ]
+        | inr p ↦ (flip.b, flipped_last flips flip added flip.b y kind (inr (p.0, refl)), subst (λ (z : ℕ). Gives flip.b z k) p.0 p.1)
+      ]
+
       each : (x y k : ℕ) → IsFlipped (flips ++ flip ∷ []) added x y → Gives x y k → Contains after (k, y)
       each x y k f g = elim (flipped_cases flips flip added x y f) [
-          inl old ↦ offer_kept Gives flip.b flip.a at_a mid after second second_only second_each (k, y)
-              (offer_kept Gives flip.a flip.b at_b before mid first first_only first_each (k, y) (s.each x y k old g))
+        | inl old ↦ offer_kept Gives flip.b flip.a at_a mid after second second_only second_each (k, y)
+            (offer_kept Gives flip.a flip.b at_b before mid first first_only first_each (k, y) (s.each x y k old g))
         | inr p ↦ elim p.1 [
-              inl e ↦ offer_kept Gives flip.b flip.a at_a mid after second second_only second_each (k, y)
-                  (subst (λ (z : ℕ). Contains mid (k, z)) e.1 (offer_each Gives flip.a flip.b at_b before mid first first_only first_each k
-                      (subst (λ (z : ℕ). Gives flip.a z k) (sym e.1) (subst (λ (z : ℕ). Gives z y k) (sym e.0) g))))
-            | inr e ↦ subst (λ (z : ℕ). Contains after (k, z)) e.0 (offer_each Gives flip.b flip.a at_a mid after second second_only second_each k
-                  (subst (λ (z : ℕ). Gives flip.b z k) (sym e.0) (subst (λ (z : ℕ). Gives z y k) (sym e.1) g))) ] ]
+          | inl e ↦ offer_kept Gives flip.b flip.a at_a mid after second second_only second_each (k, y)
+              (subst (λ (z : ℕ). Contains mid (k, z)) e.1 (offer_each Gives flip.a flip.b at_b before mid first first_only first_each k
+              (subst (λ (z : ℕ). Gives flip.a z k) (sym e.1) (subst (λ (z : ℕ). Gives z y k) (sym e.0) g))))
+          | inr e ↦ subst (λ (z : ℕ). Contains after (k, z)) e.0 (offer_each Gives flip.b flip.a at_a mid after second second_only second_each k
+              (subst (λ (z : ℕ). Gives flip.b z k) (sym e.0) (subst (λ (z : ℕ). Gives z y k) (sym e.1) g)))
+        ]
+      ]

@@ -5,6 +5,7 @@ pub mod FlipLists
 pub mod Lost
 pub mod Offering
 pub mod Overs
+pub mod PairLinks
 pub mod Patches
 pub mod Ready
 pub mod Regrow

@@ -23,7 +23,6 @@ above_zero (suc d) lt = (d, refl)
 
 module _ (old mid : ℕ → ℕ → Type 0) (terminal : ℕ → Bool) (start top : ℕ) (first : ℕ → Option ℕ)
     (depths : AreDepths old terminal start top first) (within : (u v : ℕ) → mid u v → old u v) (IsNear : ℕ → Type 0) where
-
   abbrev Losing : List (ℕ × Option ℕ) → (ℕ → ℕ → Type 0) → ℕ → Type 0
   Losing rows waits level = IsLosing old mid terminal start IsNear first rows waits level
 
@@ -32,15 +31,18 @@ module _ (old mid : ℕ → ℕ → Type 0) (terminal : ℕ → Bool) (start top
       → ((k x : ℕ) → waits k x → ((k ≡ level) × (x ≡ v)) ⊎ waits' k x) → ((k x : ℕ) → waits' k x → waits k x)
       → IsLosing old mid terminal start IsNear first rows waits level → IsLosing old mid terminal start IsNear first rows waits' level
   losing_passed rows waits waits' level v r rowed there back l = record {
-      entered = λ k x w. l.entered k x (back k x w);
-      looked = l.looked;
-      held = l.held;
-      lost = l.lost;
-      firm = λ x u d e none o t f. elim (l.firm x u d e none o t f) [
-          inl w ↦ elim (there (suc d) x w) [
-              inl at ↦ absurd (none-some r (sym none ∙ ap (row_of rows) at.1 ∙ rowed))
-            | inr w' ↦ inl w' ]
-        | inr p ↦ inr p ] }
+    entered = λ k x w. l.entered k x (back k x w);
+    looked = l.looked;
+    held = l.held;
+    lost = l.lost;
+    firm = λ x u d e none o t f. elim (l.firm x u d e none o t f) [
+      | inl w ↦ elim (there (suc d) x w) [
+        | inl at ↦ absurd (none-some r (sym none ∙ ap (row_of rows) at.1 ∙ rowed))
+        | inr w' ↦ inl w'
+      ]
+      | inr p ↦ inr p
+    ];
+  }
 
   -- a number whose walk of that many links stays has its mark
   pub still_marked : (rows : List (ℕ × Option ℕ)) (waits : ℕ → ℕ → Type 0) (level : ℕ) → IsLosing old mid terminal start IsNear first rows waits level
@@ -57,7 +59,6 @@ module _ (old mid : ℕ → ℕ → Type 0) (terminal : ℕ → Bool) (start top
       (unrowed : row_of rows v ≡ None) (others : (q : ℕ) → q ≢ v → row_of rows' q ≡ row_of rows q)
       (waited : waits level v) (l : IsLosing old mid terminal start IsNear first rows waits level)
       (there : (k x : ℕ) → waits k x → ((k ≡ level) × (x ≡ v)) ⊎ waits' k x) where
-
     over_other : (q : ℕ) → q ≢ v → over rows' first q ≡ over rows first q
     over_other q apart = ap (λ (o : Option (Option ℕ)). unwrap_or o (first q)) (others q apart)
 
@@ -74,31 +75,42 @@ module _ (old mid : ℕ → ℕ → Type 0) (terminal : ℕ → Bool) (start top
       where
         same : (q : ℕ) → over rows' first q ≡ over rows first q
         same q = elim (cases_eq q v) [
-            inl at ↦ ap (over rows' first) at ∙ over_rowed rows' first v (Some level) here ∙ sym over_here ∙ ap (over rows first) (sym at)
-          | inr apart ↦ over_other q apart ]
+          | inl at ↦ ap (over rows' first) at ∙ over_rowed rows' first v (Some level) here ∙ sym over_here ∙ ap (over rows first) (sym at)
+          | inr apart ↦ over_other q apart
+        ]
+
         moved : (x k : ℕ) → IsHeld mid terminal (over rows first) x k → IsHeld mid terminal (over rows' first) x k
         moved x k h = (h.0, h.1, h.2, h.3, h.4, same h.0 ∙ h.5)
+
         looked : (x : ℕ) (r : Option ℕ) → row_of rows' x ≡ Some r → (k : ℕ) × (first x ≡ Some k) × (0 < k) × (k ≤ level) × IsNear x × ((r ≡ None) ⊎ (r ≡ Some k))
         looked x r e = elim (cases_eq x v) [
-            inl at ↦ let w = l.entered level v waited in
-                     (level, ap first at ∙ w.0, w.1, omega arith, subst IsNear (sym at) w.2, inr (same_Some r (Some level) (sym e ∙ ap (row_of rows') at ∙ here)))
-          | inr apart ↦ l.looked x r (sym (others x apart) ∙ e) ]
+          | inl at ↦ let w = l.entered level v waited in
+              (level, ap first at ∙ w.0, w.1, omega arith, subst IsNear (sym at) w.2, inr (same_Some r (Some level) (sym e ∙ ap (row_of rows') at ∙ here)))
+          | inr apart ↦ l.looked x r (sym (others x apart) ∙ e)
+        ]
+
         held : (x k : ℕ) → row_of rows' x ≡ Some (Some k) → IsHeld mid terminal (over rows' first) x k
         held x k e = elim (cases_eq x v) [
-            inl at ↦ let level_is : level ≡ k = same_Some level k (same_Some (Some level) (Some k) (sym here ∙ ap (row_of rows') (sym at) ∙ e)) in
-                     moved x k (subst (λ (n : ℕ). IsHeld mid terminal (over rows first) x n) level_is (subst (λ (y : ℕ). IsHeld mid terminal (over rows first) y level) (sym at) by_one))
-          | inr apart ↦ moved x k (l.held x k (sym (others x apart) ∙ e)) ]
+          | inl at ↦ let level_is : level ≡ k = same_Some level k (same_Some (Some level) (Some k) (sym here ∙ ap (row_of rows') (sym at) ∙ e)) in
+              moved x k (subst (λ (n : ℕ). IsHeld mid terminal (over rows first) x n) level_is (subst (λ (y : ℕ). IsHeld mid terminal (over rows first) y level) (sym at) by_one))
+          | inr apart ↦ moved x k (l.held x k (sym (others x apart) ∙ e))
+        ]
+
         lost : (x k : ℕ) → row_of rows' x ≡ Some None → first x ≡ Some k → ¬ Walk mid terminal start k x
         lost x k e f = elim (cases_eq x v) [
-            inl at ↦ absurd (none-some level (sym (same_Some (Some level) None (sym here ∙ ap (row_of rows') (sym at) ∙ e))))
-          | inr apart ↦ l.lost x k (sym (others x apart) ∙ e) f ]
+          | inl at ↦ absurd (none-some level (sym (same_Some (Some level) None (sym here ∙ ap (row_of rows') (sym at) ∙ e))))
+          | inr apart ↦ l.lost x k (sym (others x apart) ∙ e) f
+        ]
+
         firm : (x u d : ℕ) → first x ≡ Some (suc d) → row_of rows' x ≡ None → old u x → terminal u ≡ false → first u ≡ Some d
             → waits' (suc d) x ⊎ (mid u x × (over rows' first u ≡ Some d))
         firm x u d e none o t f = elim (cases_eq x v) [
-            inl at ↦ absurd (none-some (Some level) (sym none ∙ ap (row_of rows') at ∙ here))
+          | inl at ↦ absurd (none-some (Some level) (sym none ∙ ap (row_of rows') at ∙ here))
           | inr apart ↦ elim (l.firm x u d e (sym (others x apart) ∙ none) o t f) [
-                inl w ↦ elim (there (suc d) x w) [ inl p ↦ absurd (apart p.1) | inr w' ↦ inl w' ]
-              | inr p ↦ inr (p.0, same u ∙ p.1) ] ]
+            | inl w ↦ elim (there (suc d) x w) [ inl p ↦ absurd (apart p.1) | inr w' ↦ inl w' ]
+            | inr p ↦ inr (p.0, same u ∙ p.1)
+          ]
+        ]
 
     module _ (not_held : (u d : ℕ) → level ≡ suc d → mid u v → terminal u ≡ false → over rows first u ≡ Some d → ⊥) where
       -- no walk of that many links ends in it any more
@@ -128,42 +140,59 @@ module _ (old mid : ℕ → ℕ → Type 0) (terminal : ℕ → Bool) (start top
         where
           entered : (k x : ℕ) → waits' k x → (first x ≡ Some k) × (0 < k) × IsNear x
           entered k x w = elim (back k x w) [
-              inl old_one ↦ l.entered k x old_one
-            | inr p ↦ (p.1 ∙ ap Some (sym p.0), omega (arith, p.0), p.2) ]
+            | inl old_one ↦ l.entered k x old_one
+            | inr p ↦ (p.1 ∙ ap Some (sym p.0), omega (arith, p.0), p.2)
+          ]
+
           looked : (x : ℕ) (r : Option ℕ) → row_of rows' x ≡ Some r → (k : ℕ) × (first x ≡ Some k) × (0 < k) × (k ≤ level) × IsNear x × ((r ≡ None) ⊎ (r ≡ Some k))
           looked x r e = elim (cases_eq x v) [
-              inl at ↦ let w = l.entered level v waited in
-                       (level, ap first at ∙ w.0, w.1, omega arith, subst IsNear (sym at) w.2, inl (same_Some r None (sym e ∙ ap (row_of rows') at ∙ here)))
-            | inr apart ↦ l.looked x r (sym (others x apart) ∙ e) ]
+            | inl at ↦ let w = l.entered level v waited in
+                (level, ap first at ∙ w.0, w.1, omega arith, subst IsNear (sym at) w.2, inl (same_Some r None (sym e ∙ ap (row_of rows') at ∙ here)))
+            | inr apart ↦ l.looked x r (sym (others x apart) ∙ e)
+          ]
+
           held : (x k : ℕ) → row_of rows' x ≡ Some (Some k) → IsHeld mid terminal (over rows' first) x k
           held x k e = elim (cases_eq x v) [
-              inl at ↦ absurd (none-some k (same_Some None (Some k) (sym here ∙ ap (row_of rows') (sym at) ∙ e)))
+            | inl at ↦ absurd (none-some k (same_Some None (Some k) (sym here ∙ ap (row_of rows') (sym at) ∙ e)))
             | inr apart ↦
                 let row = sym (others x apart) ∙ e in
                 let h = l.held x k row in
                 let k_is = l.looked x (Some k) row in
-                let same : k_is.0 ≡ k = elim k_is.5 [ inl none ↦ absurd (none-some k (sym none)) | inr some ↦ sym (same_Some k k_is.0 some) ] in
-                (h.0, h.1, h.2, h.3, h.4, over_other h.0 (λ at.
-                    let level_is : level ≡ h.1 = same_Some level h.1 (sym over_here ∙ ap (over rows first) (sym at) ∙ h.5) in
-                    absurd (omega (arith, level_is, same, k_is.3, h.2))) ∙ h.5) ]
+                let same : k_is.0 ≡ k = elim k_is.5 [ inl none ↦ absurd (none-some k (sym none)) | inr some ↦ sym (same_Some k k_is.0 some) ] in (
+                  h.0,
+                  h.1,
+                  h.2,
+                  h.3,
+                  h.4,
+                  over_other h.0 (λ at.
+                      let level_is : level ≡ h.1 = same_Some level h.1 (sym over_here ∙ ap (over rows first) (sym at) ∙ h.5) in
+                      absurd (omega (arith, level_is, same, k_is.3, h.2))) ∙ h.5,
+                )
+          ]
+
           lost : (x k : ℕ) → row_of rows' x ≡ Some None → first x ≡ Some k → ¬ Walk mid terminal start k x
           lost x k e f = elim (cases_eq x v) [
-              inl at ↦ λ w. let level_is : level ≡ k = same_Some level k (sym first_here ∙ ap first (sym at) ∙ f) in
-                            lost_here (subst (λ (n : ℕ). Walk mid terminal start n v) (sym level_is) (subst (λ (y : ℕ). Walk mid terminal start k y) at w))
-            | inr apart ↦ l.lost x k (sym (others x apart) ∙ e) f ]
+            | inl at ↦ λ w. let level_is : level ≡ k = same_Some level k (sym first_here ∙ ap first (sym at) ∙ f) in
+                lost_here (subst (λ (n : ℕ). Walk mid terminal start n v) (sym level_is) (subst (λ (y : ℕ). Walk mid terminal start k y) at w))
+            | inr apart ↦ l.lost x k (sym (others x apart) ∙ e) f
+          ]
+
           firm : (x u d : ℕ) → first x ≡ Some (suc d) → row_of rows' x ≡ None → old u x → terminal u ≡ false → first u ≡ Some d
               → waits' (suc d) x ⊎ (mid u x × (over rows' first u ≡ Some d))
           firm x u d e none o t f = elim (cases_eq x v) [
-              inl at ↦ absurd (none-some None (sym none ∙ ap (row_of rows') at ∙ here))
+            | inl at ↦ absurd (none-some None (sym none ∙ ap (row_of rows') at ∙ here))
             | inr apart ↦ elim (l.firm x u d e (sym (others x apart) ∙ none) o t f) [
-                  inl w ↦ elim (there (suc d) x w) [ inl p ↦ absurd (apart p.1) | inr w' ↦ inl w' ]
-                | inr p ↦ elim (cases_eq u v) [
-                      inl at ↦
-                          let level_is : level ≡ d = same_Some level d (sym first_here ∙ ap first (sym at) ∙ f) in
-                          let bound = (sound_from old terminal start top first depths x (suc d) e).0 in
-                          let next : level + 1 ≡ suc d = omega (arith, level_is) in
-                          inl (subst (λ (n : ℕ). waits' n x) next (followed x (omega (arith, bound, level_is)) (ap terminal (sym at) ∙ t) (subst (λ (y : ℕ). mid y x) at p.0) (e ∙ ap Some (sym next))))
-                    | inr other ↦ inr (p.0, over_other u other ∙ p.1) ] ] ]
+              | inl w ↦ elim (there (suc d) x w) [ inl p ↦ absurd (apart p.1) | inr w' ↦ inl w' ]
+              | inr p ↦ elim (cases_eq u v) [
+                | inl at ↦
+                    let level_is : level ≡ d = same_Some level d (sym first_here ∙ ap first (sym at) ∙ f) in
+                    let bound = (sound_from old terminal start top first depths x (suc d) e).0 in
+                    let next : level + 1 ≡ suc d = omega (arith, level_is) in
+                    inl (subst (λ (n : ℕ). waits' n x) next (followed x (omega (arith, bound, level_is)) (ap terminal (sym at) ∙ t) (subst (λ (y : ℕ). mid y x) at p.0) (e ∙ ap Some (sym next))))
+                | inr other ↦ inr (p.0, over_other u other ∙ p.1)
+              ]
+            ]
+          ]
 
   -- nothing waits any more: the marks that are left are depths over the links that stay
   module _ (rows : List (ℕ × Option ℕ)) (waits : ℕ → ℕ → Type 0) (level : ℕ) (none_waits : (k x : ℕ) → waits k x → ⊥)
@@ -189,8 +218,9 @@ module _ (old mid : ℕ → ℕ → Type 0) (terminal : ℕ → Bool) (start top
         go shorter None u =
             let s = supported old terminal start top first depths v d (first_of_over v (suc d) e) in
             elim (l.firm v s.0 d (first_of_over v (suc d) e) u s.1 s.2 s.3) [
-                inl w ↦ absurd (none_waits (suc d) v w)
-              | inr p ↦ goes_on (shorter s.0 p.1) s.2 p.0 ]
+              | inl w ↦ absurd (none_waits (suc d) v w)
+              | inr p ↦ goes_on (shorter s.0 p.1) s.2 p.0
+            ]
         go shorter (Some r) u =
             let r_is : r ≡ Some (suc d) = sym (over_rowed rows first v r u) ∙ e in
             let h = l.held v (suc d) (u ∙ ap Some r_is) in
@@ -203,23 +233,28 @@ module _ (old mid : ℕ → ℕ → Type 0) (terminal : ℕ → Bool) (start top
       where
         sound : (v k : ℕ) → over rows first v ≡ Some k → (k ≤ top) × Walk mid terminal start k v
         sound v k e = ((sound_from old terminal start top first depths v k (first_of_over v k e)).0, sound_left k v e)
+
         walks : (v k : ℕ) → Contains seeds (k, v) → (k ≤ top) × Walk mid terminal start k v
         walks v k h =
             let p = (r.only k v h).1 in
             (omega (arith, p.3.below, p.4), subst (λ (n : ℕ). Walk mid terminal start n v) (sym p.4) (goes_on (sound_left p.1 p.0 p.3.marked) p.3.passable (sym_mid v p.0 p.2)))
+
         start_row : (o : Option (Option ℕ)) → row_of rows start ≡ o → over rows first start ≡ Some 0
         start_row None u = over_unrowed rows first start u ∙ marked_start old terminal start top first depths
         start_row (Some x) u =
             let s = l.looked start x u in
             let zero_is : s.0 ≡ 0 = same_Some s.0 0 (sym s.1 ∙ marked_start old terminal start top first depths) in
             absurd (omega (arith, s.2, zero_is))
+
         begun : IsBound (over rows first) (λ k v. Contains seeds (k, v)) start 0
         begun = (0, omega arith, inl (start_row (row_of rows start) refl))
+
         along : (x y d : ℕ) → Expands terminal top (over rows first) x d → mid x y → IsBound (over rows first) (λ k v. Contains seeds (k, v)) y (suc d)
         along x y d e link = by (row_of rows y) refl
           where
             s : (j : ℕ) × (first y ≡ Some j) × (j ≤ suc d)
             s = closed_from old terminal start top first depths x y d (record { marked = first_of_over x d e.marked; below = e.below; passable = e.passable }) (within x y link)
+
             by : (o : Option (Option ℕ)) → row_of rows y ≡ o → IsBound (over rows first) (λ k v. Contains seeds (k, v)) y (suc d)
             by None u = (s.0, s.2, inl (over_unrowed rows first y u ∙ s.1))
             by (Some None) u = let q = r.each y x d (g.all y u) (sym_mid x y link) e in (q.0, q.1, inr q.2)

@@ -23,36 +23,41 @@ module _ (rows base changed after : List (ℕ × Option ℕ)) (n : ℕ) (s : Opt
     (place : slice_get rows i ≡ Some (n, s)) (row : row_of rows n ≡ Some s) where
   last_place : (j v : ℕ) (r : Option ℕ) → j < i + 1 → slice_get rows j ≡ Some (v, r) → (j < i) ⊎ ((n ≡ v) × (s ≡ r))
   last_place j v r lt e = elim (cases_lt j i) [
-      inl l ↦ inl l
+    | inl l ↦ inl l
     | inr g ↦
         let at : j ≡ i = omega (arith, lt, g) in
         let same = same_Some (n, s) (v, r) (sym place ∙ ap (slice_get rows) (sym at) ∙ e) in
-        inr (ap (λ (p : ℕ × Option ℕ). p.0) same, ap (λ (p : ℕ × Option ℕ). p.1) same) ]
+        inr (ap (λ (p : ℕ × Option ℕ). p.0) same, ap (λ (p : ℕ × Option ℕ). p.1) same)
+  ]
 
   pub each_same : s ≡ mark_of base n
       → ((j v : ℕ) (r : Option ℕ) → j < i → slice_get rows j ≡ Some (v, r) → row_of rows v ≡ Some r → r ≢ mark_of base v → row_of changed v ≡ Some r)
       → (j v : ℕ) (r : Option ℕ) → j < i + 1 → slice_get rows j ≡ Some (v, r) → row_of rows v ≡ Some r → r ≢ mark_of base v → row_of changed v ≡ Some r
   each_same same each j v r lt e f d = elim (last_place j v r lt e) [
-      inl l ↦ each j v r l e f d
-    | inr p ↦ absurd (d (sym p.1 ∙ same ∙ ap (mark_of base) p.0)) ]
+    | inl l ↦ each j v r l e f d
+    | inr p ↦ absurd (d (sym p.1 ∙ same ∙ ap (mark_of base) p.0))
+  ]
 
   module _ (put : (q : ℕ) → row_of after q ≡ update nat_eq (row_of changed) n (Some s) q) where
     pub only_put : s ≢ mark_of base n
         → ((v : ℕ) (r : Option ℕ) → row_of changed v ≡ Some r → (row_of rows v ≡ Some r) × (r ≢ mark_of base v))
         → (v : ℕ) (r : Option ℕ) → row_of after v ≡ Some r → (row_of rows v ≡ Some r) × (r ≢ mark_of base v)
     only_put differs only v r e = elim (cases_eq v n) [
-        inl at ↦
-            let same : s ≡ r = same_Some s r (sym (row_here changed after (mark_of base) n s put) ∙ ap (row_of after) (sym at) ∙ e) in
-            (ap (row_of rows) at ∙ row ∙ ap Some same, λ d. differs (same ∙ d ∙ ap (mark_of base) at))
-      | inr apart ↦ only v r (sym (row_apart changed after (mark_of base) n s put v apart) ∙ e) ]
+      | inl at ↦
+          let same : s ≡ r = same_Some s r (sym (row_here changed after (mark_of base) n s put) ∙ ap (row_of after) (sym at) ∙ e) in
+          (ap (row_of rows) at ∙ row ∙ ap Some same, λ d. differs (same ∙ d ∙ ap (mark_of base) at))
+      | inr apart ↦ only v r (sym (row_apart changed after (mark_of base) n s put v apart) ∙ e)
+    ]
 
     pub each_put : ((j v : ℕ) (r : Option ℕ) → j < i → slice_get rows j ≡ Some (v, r) → row_of rows v ≡ Some r → r ≢ mark_of base v → row_of changed v ≡ Some r)
         → (j v : ℕ) (r : Option ℕ) → j < i + 1 → slice_get rows j ≡ Some (v, r) → row_of rows v ≡ Some r → r ≢ mark_of base v → row_of after v ≡ Some r
     each_put each j v r lt e f d = elim (cases_eq v n) [
-        inl at ↦ ap (row_of after) at ∙ row_here changed after (mark_of base) n s put ∙ sym row ∙ ap (row_of rows) (sym at) ∙ f
+      | inl at ↦ ap (row_of after) at ∙ row_here changed after (mark_of base) n s put ∙ sym row ∙ ap (row_of rows) (sym at) ∙ f
       | inr apart ↦ row_apart changed after (mark_of base) n s put v apart ∙ elim (last_place j v r lt e) [
-            inl l ↦ each j v r l e f d
-          | inr p ↦ absurd (apart (sym p.0)) ] ]
+        | inl l ↦ each j v r l e f d
+        | inr p ↦ absurd (apart (sym p.0))
+      ]
+    ]
 
 pub each_past : (rows base changed : List (ℕ × Option ℕ)) (i : ℕ) → length rows ≤ i
     → ((j v : ℕ) (r : Option ℕ) → j < i → slice_get rows j ≡ Some (v, r) → row_of rows v ≡ Some r → r ≢ mark_of base v → row_of changed v ≡ Some r)
@@ -77,10 +82,12 @@ over_differing rows base changed only each v = by (row_of rows v) (row_of change
   where
     at : (m : List (ℕ × Option ℕ)) (o : Option (Option ℕ)) → row_of m v ≡ o → over m (mark_of base) v ≡ unwrap_or o (mark_of base v)
     at m o e = ap (λ (x : Option (Option ℕ)). unwrap_or x (mark_of base v)) e
+
     by : (o p : Option (Option ℕ)) → row_of rows v ≡ o → row_of changed v ≡ p → over changed (mark_of base) v ≡ over rows (mark_of base) v
     by None None e f = at changed None f ∙ sym (at rows None e)
     by None (Some r) e f = absurd (none-some r (sym e ∙ (only v r f).0))
     by (Some r) (Some s) e f = at changed (Some s) f ∙ same_Some s r (sym (only v s f).0 ∙ e) ∙ sym (at rows (Some r) e)
     by (Some r) None e f = elim (same_or_not r (mark_of base v)) [
-        inl same ↦ at changed None f ∙ sym same ∙ sym (at rows (Some r) e)
-      | inr differs ↦ absurd (none-some r (sym f ∙ each v r e differs)) ]
+      | inl same ↦ at changed None f ∙ sym same ∙ sym (at rows (Some r) e)
+      | inr differs ↦ absurd (none-some r (sym f ∙ each v r e differs))
+    ]

@@ -25,10 +25,12 @@ use Rattle.ifmap_region.proofs.Waits.{contains_one}
 pub member_or_not : (xs : List ℕ) (x : ℕ) → Contains xs x ⊎ (Contains xs x → ⊥)
 member_or_not [] x = inr (λ h. omega (arith, h.1))
 member_or_not (y ∷ ys) x = elim (cases_eq y x) [
-    inl at ↦ inl (0, omega arith, at)
+  | inl at ↦ inl (0, omega arith, at)
   | inr apart ↦ elim (member_or_not ys x) [
-        inl h ↦ inl (Contains-append_right (y ∷ []) ys x h)
-      | inr out ↦ inr (λ h. elim (Contains-append_cases (y ∷ []) ys x h) [ inl one ↦ apart (contains_one y x one) | inr later ↦ out later ]) ] ]
+    | inl h ↦ inl (Contains-append_right (y ∷ []) ys x h)
+    | inr out ↦ inr (λ h. elim (Contains-append_cases (y ∷ []) ys x h) [ inl one ↦ apart (contains_one y x one) | inr later ↦ out later ])
+  ]
+]
 
 -- two lists of distinct numbers are both in a third
 pub both : (Among : ℕ → Type 0) (xs ys : List ℕ) → IsDistinct nat_eq xs → All Among xs → All Among ys
@@ -37,17 +39,27 @@ both Among xs [] d a b = (xs, d, a, λ x h. h, λ y h. absurd (omega (arith, h.1
 both Among xs (y ∷ ys) d a b =
     let rest = both Among xs ys d a (λ k e lt. b (suc k) e (omega (arith, lt))) in
     elim (member_or_not rest.0 y) [
-        inl there ↦ (rest.0, rest.1, rest.2, rest.3, λ z h. elim (Contains-append_cases (y ∷ []) ys z h) [
-            inl one ↦ subst (λ (x : ℕ). Contains rest.0 x) (contains_one y z one) there
-          | inr later ↦ rest.4 z later ])
-      | inr out ↦
-          (y ∷ rest.0,
-           distinct_cons y rest.0 (λ k e lt at. out (subst (λ (x : ℕ). Contains rest.0 x) (sym at) (Contains-get_or rest.0 k e lt))) rest.1,
-           All-cons Among y rest.0 (b 0 y (omega arith)) rest.2,
-           λ x h. Contains-append_right (y ∷ []) rest.0 x (rest.3 x h),
-           λ z h. elim (Contains-append_cases (y ∷ []) ys z h) [
-               inl one ↦ (0, omega arith, contains_one y z one)
-             | inr later ↦ Contains-append_right (y ∷ []) rest.0 z (rest.4 z later) ]) ]
+      | inl there ↦ (
+        rest.0,
+        rest.1,
+        rest.2,
+        rest.3,
+        λ z h. elim (Contains-append_cases (y ∷ []) ys z h) [
+          | inl one ↦ subst (λ (x : ℕ). Contains rest.0 x) (contains_one y z one) there
+          | inr later ↦ rest.4 z later
+        ],
+      )
+      | inr out ↦ (
+        y ∷ rest.0,
+        distinct_cons y rest.0 (λ k e lt at. out (subst (λ (x : ℕ). Contains rest.0 x) (sym at) (Contains-get_or rest.0 k e lt))) rest.1,
+        All-cons Among y rest.0 (b 0 y (omega arith)) rest.2,
+        λ x h. Contains-append_right (y ∷ []) rest.0 x (rest.3 x h),
+        λ z h. elim (Contains-append_cases (y ∷ []) ys z h) [
+          | inl one ↦ (0, omega arith, contains_one y z one)
+          | inr later ↦ Contains-append_right (y ∷ []) rest.0 z (rest.4 z later)
+        ],
+      )
+    ]
 
 sum_more : (count : ℕ → ℕ) (xs : List ℕ) → sum_by count xs ≤ sum_by (λ v. 1 + count v) xs
 sum_more count [] = omega arith
@@ -67,10 +79,11 @@ spent_both count Among First Second before mid after f g a b =
 pub spent_first : (count : ℕ → ℕ) (Among First : ℕ → Type 0) (before after : ℕ) → ((v : ℕ) → First v → Among v)
     → IsWithin count First 4 before after → IsWithin (λ v. 1 + count v) Among 5 before after
 spent_first count Among First before after f a = record {
-    numbers = a.numbers;
-    distinct = a.distinct;
-    among = All-weaker First Among f a.numbers a.among;
-    bound = omega (arith, a.bound, sum_more count a.numbers) }
+  numbers = a.numbers;
+  distinct = a.distinct;
+  among = All-weaker First Among f a.numbers a.among;
+  bound = omega (arith, a.bound, sum_more count a.numbers);
+}
 
 -- the links of a graph where the added ones are hidden are those that both graphs have
 module _ {S : Type 0} (count : ℕ → ℕ) (link : ℕ → ℕ → Option ℕ) (flips : List Flip) (hidden : HashSet (ℕ × ℕ) S)
@@ -86,6 +99,7 @@ module _ {S : Type 0} (count : ℕ → ℕ) (link : ℕ → ℕ → Option ℕ) 
       test x false e here f =
           let same = same_Some x w f in
           ((l.0, l.1, here ∙ f), λ flip. true≢false (sym (each v w flip) ∙ ap (hides hidden v) (sym same) ∙ e))
+
       by : (o : Option ℕ) → link v l.0 ≡ o → unhidden hidden v o ≡ Some w → Mid (Linked count link) flips v w
       by None e f = absurd (none-some w f)
       by (Some x) e f = test x (hides hidden v x) refl e f
@@ -108,16 +122,18 @@ module _ (new mid : ℕ → ℕ → Type 0) (terminal : ℕ → Bool) (flips : L
 
   pub before_cut : (m : ℕ → Option ℕ) → IsSymmetric new → AreDepths (Old new flips) terminal start top m → IsBeforeCut mid terminal flips start top m
   before_cut m symmetric depths = record {
-      symmetric = λ v w l. let k = there v w l in back w v (symmetric v w k.0, λ f. k.1 (flipped_back flips true w v f));
-      depths = depths_along (Old new flips) (WithRemoved mid flips) terminal start top old_back old_there m depths }
+    symmetric = λ v w l. let k = there v w l in back w v (symmetric v w k.0, λ f. k.1 (flipped_back flips true w v f));
+    depths = depths_along (Old new flips) (WithRemoved mid flips) terminal start top old_back old_there m depths;
+  }
 
   pub after_cut : (m : ℕ → Option ℕ) → AreDepths mid terminal start top m → AreDepths (Mid new flips) terminal start top m
   after_cut m depths = depths_along mid (Mid new flips) terminal start top there back m depths
 
   same_cut : (v : ℕ) → SameDepth (Old new flips) (Mid new flips) terminal start top v → SameDepth (WithRemoved mid flips) mid terminal start top v
-  same_cut v same k =
-      (λ h. depth_along (Mid new flips) mid terminal start top back there v k ((same k).0 (depth_along (WithRemoved mid flips) (Old new flips) terminal start top old_there old_back v k h)),
-       λ h. depth_along (Old new flips) (WithRemoved mid flips) terminal start top old_back old_there v k ((same k).1 (depth_along mid (Mid new flips) terminal start top there back v k h)))
+  same_cut v same k = (
+    λ h. depth_along (Mid new flips) mid terminal start top back there v k ((same k).0 (depth_along (WithRemoved mid flips) (Old new flips) terminal start top old_there old_back v k h)),
+    λ h. depth_along (Old new flips) (WithRemoved mid flips) terminal start top old_back old_there v k ((same k).1 (depth_along mid (Mid new flips) terminal start top there back v k h)),
+  )
 
   pub near_cut : (v : ℕ) → NearOneWay flips false (WithRemoved mid flips) mid terminal start top v → NearFlips new flips terminal start top v
   near_cut v (at_flip e) = at_flip (inr e)

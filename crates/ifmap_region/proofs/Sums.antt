@@ -28,11 +28,13 @@ sum_within f [] ys d within = omega arith
 sum_within f (x ∷ xs) ys d within =
     let p = parted ys x (within x (0, omega arith, refl)) in
     let rest = sum_within f xs (p.0 ++ p.1) (distinct_tail x xs d) (λ y h.
-        let apart : x ≢ y = distinct_head x xs d y h in
-        let there = subst (λ (l : List ℕ). Contains l y) p.2 (within y (Contains-append_right (x ∷ []) xs y h)) in
-        elim (Contains-append_cases p.0 (x ∷ p.1) y there) [
-            inl front ↦ Contains-append_left p.0 p.1 y front
-          | inr later ↦ elim (Contains-append_cases (x ∷ []) p.1 y later) [
-                inl one ↦ absurd (apart (contains_one x y one))
-              | inr back ↦ Contains-append_right p.0 p.1 y back ] ]) in
+    let apart : x ≢ y = distinct_head x xs d y h in
+    let there = subst (λ (l : List ℕ). Contains l y) p.2 (within y (Contains-append_right (x ∷ []) xs y h)) in
+    elim (Contains-append_cases p.0 (x ∷ p.1) y there) [
+      | inl front ↦ Contains-append_left p.0 p.1 y front
+      | inr later ↦ elim (Contains-append_cases (x ∷ []) p.1 y later) [
+        | inl one ↦ absurd (apart (contains_one x y one))
+        | inr back ↦ Contains-append_right p.0 p.1 y back
+      ]
+    ]) in
     omega (arith, rest, sum_by-cons f x xs, ap (sum_by f) p.2, sum_by-append f p.0 (x ∷ p.1), sum_by-cons f x p.1, sum_by-append f p.0 p.1)

@@ -40,17 +40,21 @@ moves_none xs level numbers = record { kept = λ n h. h; joined = λ n h. inl h;
 pub moves_more : (old mid new : List (ℕ × ℕ)) (level n : ℕ) (before after : List ℕ) → mid ≡ (level, n) ∷ new
     → Moves old mid level before after → Moves old new level before (after ++ n ∷ [])
 moves_more old mid new level n before after is m = record {
-    kept = λ x h. Contains-append_left after (n ∷ []) x (m.kept x h);
-    joined = λ x h. elim (Contains-push_cases after n x h) [
-        inl before_it ↦ m.joined x before_it
-      | inr e ↦ inr (m.left (level, x) (subst (λ (l : List (ℕ × ℕ)). Contains l (level, x)) (sym is) (subst (λ (y : ℕ). Contains ((level, n) ∷ new) (level, y)) e (0, omega arith, refl)))) ];
-    left = λ s h. m.left s (subst (λ (l : List (ℕ × ℕ)). Contains l s) (sym is) (Contains-append_right ((level, n) ∷ []) new s h));
-    each = λ s h. elim (m.each s h) [
-        inl p ↦ inl (p.0, Contains-append_left after (n ∷ []) s.1 p.1)
-      | inr there ↦ elim (Contains-append_cases ((level, n) ∷ []) new s (subst (λ (l : List (ℕ × ℕ)). Contains l s) is there)) [
-            inl first ↦ let e = contains_one (level, n) s first in
-                        inl (ap (λ (p : ℕ × ℕ). p.0) (sym e), subst (λ (x : ℕ). Contains (after ++ n ∷ []) x) (ap (λ (p : ℕ × ℕ). p.1) e) (Contains-push after n))
-          | inr rest ↦ inr rest ] ] }
+  kept = λ x h. Contains-append_left after (n ∷ []) x (m.kept x h);
+  joined = λ x h. elim (Contains-push_cases after n x h) [
+    | inl before_it ↦ m.joined x before_it
+    | inr e ↦ inr (m.left (level, x) (subst (λ (l : List (ℕ × ℕ)). Contains l (level, x)) (sym is) (subst (λ (y : ℕ). Contains ((level, n) ∷ new) (level, y)) e (0, omega arith, refl))))
+  ];
+  left = λ s h. m.left s (subst (λ (l : List (ℕ × ℕ)). Contains l s) (sym is) (Contains-append_right ((level, n) ∷ []) new s h));
+  each = λ s h. elim (m.each s h) [
+    | inl p ↦ inl (p.0, Contains-append_left after (n ∷ []) s.1 p.1)
+    | inr there ↦ elim (Contains-append_cases ((level, n) ∷ []) new s (subst (λ (l : List (ℕ × ℕ)). Contains l s) is there)) [
+      | inl first ↦ let e = contains_one (level, n) s first in
+          inl (ap (λ (p : ℕ × ℕ). p.0) (sym e), subst (λ (x : ℕ). Contains (after ++ n ∷ []) x) (ap (λ (p : ℕ × ℕ). p.1) e) (Contains-push after n))
+      | inr rest ↦ inr rest
+    ]
+  ];
+}
 
 -- what holds of each entry holds of those that are left
 pub all_left : (P : ℕ × ℕ → Type 0) (old new : List (ℕ × ℕ)) → ((s : ℕ × ℕ) → Contains new s → Contains old s) → All P old → All P new
@@ -82,20 +86,24 @@ pub comes_out : (floor level : ℕ) (seeds rest : List (ℕ × ℕ)) (next now n
     → Moves seeds rest level next now
     → ComesOut (record { floor = floor; entries = seeds ++ at_level floor next }) (record { floor = level + 1; entries = rest ++ at_level (level + 1) none }) level now
 comes_out floor level seeds rest next now none le side empty m = record {
-    floor = refl;
-    rises = le;
-    out = λ n h. elim (m.joined n h) [
-        inl old ↦ let at : level ≡ floor = elim side [ inl e ↦ absurd (no_member next n e old) | inr e ↦ e ] in
-                  subst (λ (k : ℕ). Contains (seeds ++ at_level floor next) (k, n)) (sym at) (Contains-append_right seeds (at_level floor next) (floor, n) (at_contains floor next n old))
-      | inr seed ↦ Contains-append_left seeds (at_level floor next) (level, n) seed ];
-    left = λ s h. elim (Contains-append_cases rest (at_level (level + 1) none) s h) [
-        inl seed ↦ Contains-append_left seeds (at_level floor next) s (m.left s seed)
-      | inr nothing ↦ absurd (no_member none s.1 empty (contains_at (level + 1) none s nothing).1) ];
-    each = λ s h. elim (Contains-append_cases seeds (at_level floor next) s h) [
-        inl seed ↦ elim (m.each s seed) [ inl p ↦ inl p | inr r ↦ inr (Contains-append_left rest (at_level (level + 1) none) s r) ]
-      | inr old ↦ let p = contains_at floor next s old in
-                  let at : level ≡ floor = elim side [ inl e ↦ absurd (no_member next s.1 e p.1) | inr e ↦ e ] in
-                  inl (p.0 ∙ sym at, m.kept s.1 p.1) ] }
+  floor = refl;
+  rises = le;
+  out = λ n h. elim (m.joined n h) [
+    | inl old ↦ let at : level ≡ floor = elim side [ inl e ↦ absurd (no_member next n e old) | inr e ↦ e ] in
+        subst (λ (k : ℕ). Contains (seeds ++ at_level floor next) (k, n)) (sym at) (Contains-append_right seeds (at_level floor next) (floor, n) (at_contains floor next n old))
+    | inr seed ↦ Contains-append_left seeds (at_level floor next) (level, n) seed
+  ];
+  left = λ s h. elim (Contains-append_cases rest (at_level (level + 1) none) s h) [
+    | inl seed ↦ Contains-append_left seeds (at_level floor next) s (m.left s seed)
+    | inr nothing ↦ absurd (no_member none s.1 empty (contains_at (level + 1) none s nothing).1)
+  ];
+  each = λ s h. elim (Contains-append_cases seeds (at_level floor next) s h) [
+    | inl seed ↦ elim (m.each s seed) [ inl p ↦ inl p | inr r ↦ inr (Contains-append_left rest (at_level (level + 1) none) s r) ]
+    | inr old ↦ let p = contains_at floor next s old in
+        let at : level ≡ floor = elim side [ inl e ↦ absurd (no_member next s.1 e p.1) | inr e ↦ e ] in
+        inl (p.0 ∙ sym at, m.kept s.1 p.1)
+  ];
+}
 
 pub left_of_rest : {X : Type 0} (old rest : List X) (x : X) → old ≡ x ∷ rest → (y : X) → Contains rest y → Contains old y
 left_of_rest old rest x e y h = subst (λ (l : List _). Contains l y) (sym e) (Contains-append_right (x ∷ []) rest y h)

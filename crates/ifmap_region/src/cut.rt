@@ -28,13 +28,7 @@ fn lesser(a: Option<u32>, b: Option<u32>) -> Option<u32>
 {
     match a {
         Some(x) => match b {
-            Some(y) => {
-                if x <= y {
-                    Some(x)
-                } else {
-                    Some(y)
-                }
-            }
+            Some(y) => { if x <= y { Some(x) } else { Some(y) } }
             None => Some(x),
         },
         None => b,
@@ -50,13 +44,9 @@ fn least_level<G: LinkSource, L: Ledger>(
     number: u64,
     steps: &mut Steps<L>,
 ) -> Option<u32>
-    ensures only {
-        IfSome result (λ k. (u : ℕ) × Linked (G.count graph.now) (G.link graph.now) number u × IsNext (G.terminal graph.now) top (over rows.now.entries (mark_of base.now.entries)) u k)
-    }
-    ensures least {
-        (u k : ℕ) → Linked (G.count graph.now) (G.link graph.now) number u → IsNext (G.terminal graph.now) top (over rows.now.entries (mark_of base.now.entries)) u k
-            → (m : ℕ) × (m ≤ k) × (result ≡ Some m)
-    }
+    ensures only { IfSome result (λ k. (u : ℕ) × Linked (G.count graph.now) (G.link graph.now) number u × IsNext (G.terminal graph.now) top (over rows.now.entries (mark_of base.now.entries)) u k) }
+    ensures least { (u k : ℕ) → Linked (G.count graph.now) (G.link graph.now) number u → IsNext (G.terminal graph.now) top (over rows.now.entries (mark_of base.now.entries)) u k
+        → (m : ℕ) × (m ≤ k) × (result ≡ Some m) }
     ensures steps { steps.new ≤ steps.old + G.count graph.now number }
 {
     let mut least = None;
@@ -78,9 +68,7 @@ fn reseed<G: LinkSource, L: Ledger>(
     gone: &[u64],
     steps: &mut Steps<L>,
 ) -> Result<Vec<(u32, u64)>, NoMemory>
-    ensures seeds {
-        IfOk result (λ seeds. Reseeds (Linked (G.count graph.now) (G.link graph.now)) (G.terminal graph.now) top (over rows.now.entries (mark_of base.now.entries)) gone.now seeds.items)
-    }
+    ensures seeds { IfOk result (λ seeds. Reseeds (Linked (G.count graph.now) (G.link graph.now)) (G.terminal graph.now) top (over rows.now.entries (mark_of base.now.entries)) gone.now seeds.items) }
     ensures steps { steps.new ≤ steps.old + sum_by (G.count graph.now) gone.now }
 {
     let mut seeds = Vec::new(alloc);
@@ -105,18 +93,14 @@ pub(crate) fn cut<G: LinkSource, L: Ledger>(
     flips: &[Flip],
     steps: &mut Steps<L>,
 ) -> Result<IndexMap<u64, Option<u32>>, NoMemory>
-    ensures depths {
-        IfOk result (λ rows. (start : ℕ)
-            → IsBeforeCut (Linked (G.count graph.now) (G.link graph.now)) (G.terminal graph.now) flips.now start top (mark_of base.now.entries)
-            → AreDepths (Linked (G.count graph.now) (G.link graph.now)) (G.terminal graph.now) start top (over rows.entries (mark_of base.now.entries)))
-    }
-    ensures steps {
-        (start : ℕ)
-            → IsBeforeCut (Linked (G.count graph.now) (G.link graph.now)) (G.terminal graph.now) flips.now start top (mark_of base.now.entries)
-            → IsWithin (G.count graph.now)
-                (NearOneWay flips.now false (WithRemoved (Linked (G.count graph.now) (G.link graph.now)) flips.now) (Linked (G.count graph.now) (G.link graph.now)) (G.terminal graph.now) start top)
-                4 steps.old steps.new
-    }
+    ensures depths { IfOk result (λ rows. (start : ℕ)
+        → IsBeforeCut (Linked (G.count graph.now) (G.link graph.now)) (G.terminal graph.now) flips.now start top (mark_of base.now.entries)
+        → AreDepths (Linked (G.count graph.now) (G.link graph.now)) (G.terminal graph.now) start top (over rows.entries (mark_of base.now.entries))) }
+    ensures steps { (start : ℕ)
+        → IsBeforeCut (Linked (G.count graph.now) (G.link graph.now)) (G.terminal graph.now) flips.now start top (mark_of base.now.entries)
+        → IsWithin (G.count graph.now)
+        (NearOneWay flips.now false (WithRemoved (Linked (G.count graph.now) (G.link graph.now)) flips.now) (Linked (G.count graph.now) (G.link graph.now)) (G.terminal graph.now) start top)
+        4 steps.old steps.new }
 {
     let mut rows = IndexMap::new(alloc);
     let seeds = held_seeds(alloc, base, &rows, top, graph, flips)?;

@@ -44,15 +44,11 @@ pub fn build<G: LinkSource, L: Ledger>(
 ) -> Result<Region, NoMemory>
     ensures start { IfOk result (λ region. region.start ≡ start) }
     ensures max_depth { IfOk result (λ region. region.max_depth ≡ max_depth) }
-    ensures depths {
-        IfOk result (λ region. AreDepths (Linked (G.count graph.now) (G.link graph.now)) (G.terminal graph.now) start max_depth (mark_of region.marks.entries))
-    }
+    ensures depths { IfOk result (λ region. AreDepths (Linked (G.count graph.now) (G.link graph.now)) (G.terminal graph.now) start max_depth (mark_of region.marks.entries)) }
     ensures rows { IfOk result (λ region. AllMarked region.marks.entries) }
 
     // Also where memory runs out.
-    ensures steps {
-        IsWithin (G.count graph.now) (IsReached (Linked (G.count graph.now) (G.link graph.now)) (G.terminal graph.now) start max_depth) 1 steps.old steps.new
-    }
+    ensures steps { IsWithin (G.count graph.now) (IsReached (Linked (G.count graph.now) (G.link graph.now)) (G.terminal graph.now) start max_depth) 1 steps.old steps.new }
 {
     let unmarked = IndexMap::new(alloc);
     let mut marks = IndexMap::new(alloc);
@@ -128,12 +124,8 @@ impl Region {
         ensures room { HasRoom result self.new.marks.entries }
 
         // Where the marks are those that `commit_kept` left, they are again those before it.
-        ensures back {
-            (patch before : List (ℕ × Option ℕ)) → IsWayBack undo patch before self.old.marks.entries → (v : ℕ) → mark_of self.new.marks.entries v ≡ mark_of before v
-        }
-        ensures patch {
-            (patch before : List (ℕ × Option ℕ)) → IsWayBack undo patch before self.old.marks.entries → (v : ℕ) → row_of result v ≡ row_of patch v
-        }
+        ensures back { (patch before : List (ℕ × Option ℕ)) → IsWayBack undo patch before self.old.marks.entries → (v : ℕ) → mark_of self.new.marks.entries v ≡ mark_of before v }
+        ensures patch { (patch before : List (ℕ × Option ℕ)) → IsWayBack undo patch before self.old.marks.entries → (v : ℕ) → row_of result v ≡ row_of patch v }
     {
         let mut rows = undo.rows;
         exchange(&mut self.marks, &mut rows);

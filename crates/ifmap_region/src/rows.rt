@@ -7,7 +7,11 @@ use indexmap::IndexMap;
 use std::alloc::AllocError as NoMemory;
 
 /// The marks of `rows` where they have a row, else those of `base`.
-pub(crate) fn mark(base: &IndexMap<u64, Option<u32>>, rows: &IndexMap<u64, Option<u32>>, number: u64) -> Option<u32>
+pub(crate) fn mark(
+    base: &IndexMap<u64, Option<u32>>,
+    rows: &IndexMap<u64, Option<u32>>,
+    number: u64,
+) -> Option<u32>
     ensures { result ≡ over rows.now.entries (mark_of base.now.entries) number }
 {
     match rows.get(&number) {
@@ -27,7 +31,11 @@ pub(crate) fn has_row(rows: &IndexMap<u64, Option<u32>>, number: u64) -> bool
 }
 
 /// Puts a row in, in place of the one that is there.
-pub(crate) fn put(rows: &mut IndexMap<u64, Option<u32>>, number: u64, mark: Option<u32>) -> Result<(), NoMemory>
+pub(crate) fn put(
+    rows: &mut IndexMap<u64, Option<u32>>,
+    number: u64,
+    mark: Option<u32>,
+) -> Result<(), NoMemory>
     ensures put { OnOk result ((q : ℕ) → row_of rows.new.entries q ≡ update nat_eq (row_of rows.old.entries) number (Some mark) q) }
     ensures err { OnErr result (rows.new.entries ≡ rows.old.entries) }
 {

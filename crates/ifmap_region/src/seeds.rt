@@ -82,7 +82,11 @@ fn lowered_to<G: LinkSource>(
 }
 
 /// Puts a seed in, where there is a level.
-pub(crate) fn offer(seeds: &mut Vec<(u32, u64)>, level: Option<u32>, number: u64) -> Result<(), NoMemory>
+pub(crate) fn offer(
+    seeds: &mut Vec<(u32, u64)>,
+    level: Option<u32>,
+    number: u64,
+) -> Result<(), NoMemory>
     ensures { OnOk result (MatchOption level (seeds.new.items ≡ seeds.old.items) (λ k. seeds.new.items ≡ seeds.old.items ++ (k, number) ∷ [])) }
 {
     if let Some(level) = level {
@@ -100,9 +104,7 @@ pub(crate) fn held_seeds<G: LinkSource>(
     graph: &G,
     flips: &[Flip],
 ) -> Result<Vec<(u32, u64)>, NoMemory>
-    ensures {
-        IfOk result (λ seeds. SeedsAlong flips.now false (MayHold (G.terminal graph.now) top (over rows.now.entries (mark_of base.now.entries))) seeds.items)
-    }
+    ensures { IfOk result (λ seeds. SeedsAlong flips.now false (MayHold (G.terminal graph.now) top (over rows.now.entries (mark_of base.now.entries))) seeds.items) }
 {
     let mut seeds = Vec::new(alloc);
     for flip in flips {
@@ -125,9 +127,7 @@ pub(crate) fn lowered_seeds<G: LinkSource>(
     graph: &G,
     flips: &[Flip],
 ) -> Result<Vec<(u32, u64)>, NoMemory>
-    ensures {
-        IfOk result (λ seeds. SeedsAlong flips.now true (Lowers (G.terminal graph.now) top (over rows.now.entries (mark_of base.now.entries))) seeds.items)
-    }
+    ensures { IfOk result (λ seeds. SeedsAlong flips.now true (Lowers (G.terminal graph.now) top (over rows.now.entries (mark_of base.now.entries))) seeds.items) }
 {
     let mut seeds = Vec::new(alloc);
     for flip in flips {

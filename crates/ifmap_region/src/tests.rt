@@ -101,7 +101,12 @@ fn searched(alloc: Global, links: &[(u64, u64)], top: u32) -> Result<Vec<(u64, u
     Ok(found)
 }
 
-fn search_from(links: &[(u64, u64)], number: u64, depth: u32, found: &mut Vec<(u64, u32)>) -> Result<(), NoMemory>
+fn search_from(
+    links: &[(u64, u64)],
+    number: u64,
+    depth: u32,
+    found: &mut Vec<(u64, u32)>,
+) -> Result<(), NoMemory>
     requires { depth < 4294967295 }
 {
     for link in links {
@@ -173,8 +178,12 @@ fn added(a: u64, b: u64) -> Flip {
 fn marks_follow_links_that_go_and_come(rt: HostRuntime) -> Result<(), Fail> {
     let alloc = rt.alloc();
     let moved = Case {
-        old: Pairs { links: vec![in alloc; (0, 1), (1, 2), (2, 3)]? },
-        new: Pairs { links: vec![in alloc; (1, 2), (2, 3), (0, 2)]? },
+        old: Pairs {
+            links: vec![in alloc; (0, 1), (1, 2), (2, 3)]?,
+        },
+        new: Pairs {
+            links: vec![in alloc; (1, 2), (2, 3), (0, 2)]?,
+        },
         flips: vec![in alloc; removed(0, 1), added(0, 2)]?,
         max_depth: 2,
         before: vec![in alloc; (0, 0), (1, 1), (2, 2)]?,
@@ -182,8 +191,12 @@ fn marks_follow_links_that_go_and_come(rt: HostRuntime) -> Result<(), Fail> {
     };
     assert!(rt; holds(alloc, &moved)?);
     let cycle_cut = Case {
-        old: Pairs { links: vec![in alloc; (0, 1), (1, 2), (2, 3), (3, 1)]? },
-        new: Pairs { links: vec![in alloc; (1, 2), (2, 3), (3, 1)]? },
+        old: Pairs {
+            links: vec![in alloc; (0, 1), (1, 2), (2, 3), (3, 1)]?,
+        },
+        new: Pairs {
+            links: vec![in alloc; (1, 2), (2, 3), (3, 1)]?,
+        },
         flips: vec![in alloc; removed(1, 0)]?,
         max_depth: 9,
         before: vec![in alloc; (0, 0), (1, 1), (2, 2), (3, 2)]?,
@@ -200,7 +213,9 @@ fn drawn(alloc: Global, seed: u64) -> Result<Case, NoMemory> {
     let mut flips = Vec::new(alloc);
     let mut state = seed;
     for pair in 0u64..49 {
-        state = state.wrapping_mul(6364136223846793005).wrapping_add(1442695040888963407);
+        state = state
+            .wrapping_mul(6364136223846793005)
+            .wrapping_add(1442695040888963407);
         let (a, b) = (pair / 7, pair % 7);
         let dice = state / 8589934592 % 9;
         if a < b {

@@ -34,7 +34,10 @@ fn is_bare(rows: &IndexMap<u64, Option<u32>>, number: u64) -> bool
 }
 
 /// Makes room for the numbers of `patch`: each that has no row gets one without a mark.
-pub(crate) fn make_room(rows: &mut IndexMap<u64, Option<u32>>, patch: &IndexMap<u64, Option<u32>>) -> Result<(), NoMemory>
+pub(crate) fn make_room(
+    rows: &mut IndexMap<u64, Option<u32>>,
+    patch: &IndexMap<u64, Option<u32>>,
+) -> Result<(), NoMemory>
     ensures room { OnOk result (HasRoom patch.now.entries rows.new.entries) }
     ensures only { OnOk result (OnlyRoom patch.now.entries rows.old.entries rows.new.entries) }
     ensures err { OnErr result (rows.new.entries ≡ rows.old.entries) }
@@ -52,7 +55,10 @@ pub(crate) fn make_room(rows: &mut IndexMap<u64, Option<u32>>, patch: &IndexMap<
 }
 
 /// Exchanges the marks of the numbers of `patch` with those that `patch` has.
-pub(crate) fn exchange(rows: &mut IndexMap<u64, Option<u32>>, patch: &mut IndexMap<u64, Option<u32>>)
+pub(crate) fn exchange(
+    rows: &mut IndexMap<u64, Option<u32>>,
+    patch: &mut IndexMap<u64, Option<u32>>,
+)
     requires { HasRoom patch.old.entries rows.old.entries }
     ensures makes { Makes patch.old.entries rows.old.entries rows.new.entries }
     ensures taken { patch.new.entries ≡ taken_from rows.old.entries patch.old.entries }
@@ -63,7 +69,11 @@ pub(crate) fn exchange(rows: &mut IndexMap<u64, Option<u32>>, patch: &mut IndexM
 }
 
 /// Exchanges the mark of the number at a place of `patch` with the one that `patch` has.
-fn exchange_at(rows: &mut IndexMap<u64, Option<u32>>, patch: &mut IndexMap<u64, Option<u32>>, i: usize)
+fn exchange_at(
+    rows: &mut IndexMap<u64, Option<u32>>,
+    patch: &mut IndexMap<u64, Option<u32>>,
+    i: usize,
+)
     requires { HasRoom patch.old.entries rows.old.entries }
     ensures { Exchanges i rows.old.entries patch.old.entries rows.new.entries patch.new.entries }
 {

@@ -5,7 +5,7 @@ use Rattle.ifmap_region.proofs.lose.follow.Given as goal
 
 abbrev pub invariant-loop-i : goal.invariant-loop-i
 invariant-loop-i g l = record {
-    floor : l.levels.floor ≡ l.next;
-    follows : Follows (g.G.LinkSource.link l.graph l.number) l.i (mark_of l.base.entries) l.next l.initial.levels.entries l.levels.entries;
-    steps : l.steps ≤ l.initial.steps + l.i
-  }
+  floor : l.levels.floor ≡ l.next;
+  follows : Follows (g.G.LinkSource.link l.graph l.number) l.i (mark_of l.base.entries) l.next l.initial.levels.entries l.levels.entries;
+  steps : l.steps ≤ l.initial.steps + l.i;
+}

@@ -7,8 +7,9 @@ pub loop-number-preserved : goal.loop-number-preserved
 loop-number-preserved g c =
     let at = drop_more c.args.now.now c.loop-number.number-index 0 c.loop-number-test.true in
     record {
-        floor = c.look.ensures.floor;
-        keeps = λ flips start before b s. c.in_ok-look.ensures.keeps flips start before (drop (c.loop-number.number-index + 1) c.args.now.now) b (rw at at (c.loop-number.invariant.keeps flips start before b s)) }
+      floor = c.look.ensures.floor;
+      keeps = λ flips start before b s. c.in_ok-look.ensures.keeps flips start before (drop (c.loop-number.number-index + 1) c.args.now.now) b (rw at at (c.loop-number.invariant.keeps flips start before b s));
+    }
 
 pub returns-in_err-look-clause-spent : goal.returns-in_err-look-clause-spent
 returns-in_err-look-clause-spent g c flips start before b s =

@@ -27,9 +27,9 @@ returns-in_err-grow-clause-steps g c d =
     let back = mid_back count link c.args.flips.now c.in_ok-hidden.hidden c.in_ok-hidden.ensures.only c.in_ok-hidden.ensures.each in
     let first = before_cut (Linked count link) _ _ c.args.flips.now c.args.region.now.start _ there back _ c.requires.symmetric d in
     spent_both count _ _ _ _ _ _ (near_cut (Linked count link) _ _ c.args.flips.now c.args.region.now.start _ there back)
-        (near_grown (Linked count link) _ _ c.args.flips.now c.args.region.now.start _ there back)
-        (c.cut.ensures.steps c.args.region.now.start first)
-        (c.grow.ensures.steps c.args.region.now.start (after_cut (Linked count link) _ _ c.args.flips.now c.args.region.now.start _ there back _ (c.in_ok-rows.ensures.depths c.args.region.now.start first)))
+    (near_grown (Linked count link) _ _ c.args.flips.now c.args.region.now.start _ there back)
+    (c.cut.ensures.steps c.args.region.now.start first)
+    (c.grow.ensures.steps c.args.region.now.start (after_cut (Linked count link) _ _ c.args.flips.now c.args.region.now.start _ there back _ (c.in_ok-rows.ensures.depths c.args.region.now.start first)))
 
 pub returns-in_err-rows-2-clause-steps : goal.returns-in_err-rows-2-clause-steps
 returns-in_err-rows-2-clause-steps g c d =
@@ -39,9 +39,9 @@ returns-in_err-rows-2-clause-steps g c d =
     let back = mid_back count link c.args.flips.now c.in_ok-hidden.hidden c.in_ok-hidden.ensures.only c.in_ok-hidden.ensures.each in
     let first = before_cut (Linked count link) _ _ c.args.flips.now c.args.region.now.start _ there back _ c.requires.symmetric d in
     spent_both count _ _ _ _ _ _ (near_cut (Linked count link) _ _ c.args.flips.now c.args.region.now.start _ there back)
-        (near_grown (Linked count link) _ _ c.args.flips.now c.args.region.now.start _ there back)
-        (c.cut.ensures.steps c.args.region.now.start first)
-        (c.grow.ensures.steps c.args.region.now.start (after_cut (Linked count link) _ _ c.args.flips.now c.args.region.now.start _ there back _ (c.in_ok-rows.ensures.depths c.args.region.now.start first)))
+    (near_grown (Linked count link) _ _ c.args.flips.now c.args.region.now.start _ there back)
+    (c.cut.ensures.steps c.args.region.now.start first)
+    (c.grow.ensures.steps c.args.region.now.start (after_cut (Linked count link) _ _ c.args.flips.now c.args.region.now.start _ there back _ (c.in_ok-rows.ensures.depths c.args.region.now.start first)))
 
 pub returns-clause-steps : goal.returns-clause-steps
 returns-clause-steps g c d =
@@ -51,9 +51,9 @@ returns-clause-steps g c d =
     let back = mid_back count link c.args.flips.now c.in_ok-hidden.hidden c.in_ok-hidden.ensures.only c.in_ok-hidden.ensures.each in
     let first = before_cut (Linked count link) _ _ c.args.flips.now c.args.region.now.start _ there back _ c.requires.symmetric d in
     spent_both count _ _ _ _ _ _ (near_cut (Linked count link) _ _ c.args.flips.now c.args.region.now.start _ there back)
-        (near_grown (Linked count link) _ _ c.args.flips.now c.args.region.now.start _ there back)
-        (c.cut.ensures.steps c.args.region.now.start first)
-        (c.grow.ensures.steps c.args.region.now.start (after_cut (Linked count link) _ _ c.args.flips.now c.args.region.now.start _ there back _ (c.in_ok-rows.ensures.depths c.args.region.now.start first)))
+    (near_grown (Linked count link) _ _ c.args.flips.now c.args.region.now.start _ there back)
+    (c.cut.ensures.steps c.args.region.now.start first)
+    (c.grow.ensures.steps c.args.region.now.start (after_cut (Linked count link) _ _ c.args.flips.now c.args.region.now.start _ there back _ (c.in_ok-rows.ensures.depths c.args.region.now.start first)))
 
 pub returns-clause-depths : goal.returns-clause-depths
 returns-clause-depths g c d =
@@ -63,5 +63,5 @@ returns-clause-depths g c d =
     let back = mid_back count link c.args.flips.now c.in_ok-hidden.hidden c.in_ok-hidden.ensures.only c.in_ok-hidden.ensures.each in
     let first = before_cut (Linked count link) _ _ c.args.flips.now c.args.region.now.start _ there back _ c.requires.symmetric d in
     depths_same _ _ c.args.region.now.start _ (over c.grow.new.rows.entries (mark_of c.args.region.now.marks.entries)) _
-        (over_differing c.grow.new.rows.entries c.args.region.now.marks.entries _ c.in_ok-rows-2.ensures.only c.in_ok-rows-2.ensures.each)
-        (c.in_ok-grow.ensures.depths c.args.region.now.start (after_cut (Linked count link) _ _ c.args.flips.now c.args.region.now.start _ there back _ (c.in_ok-rows.ensures.depths c.args.region.now.start first)))
+    (over_differing c.grow.new.rows.entries c.args.region.now.marks.entries _ c.in_ok-rows-2.ensures.only c.in_ok-rows-2.ensures.each)
+    (c.in_ok-grow.ensures.depths c.args.region.now.start (after_cut (Linked count link) _ _ c.args.flips.now c.args.region.now.start _ there back _ (c.in_ok-rows.ensures.depths c.args.region.now.start first)))

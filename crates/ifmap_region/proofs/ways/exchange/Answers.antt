@@ -8,17 +8,18 @@ exchange_at-requires c =
 
 pub loop-i-preserved : goal.loop-i-preserved
 loop-i-preserved c = record {
-    rows = rows_next c.args.rows.now.entries c.args.patch.now.entries c.loop-i.rows.entries c.loop-i.patch.entries c.loop-i.i c.len-i-end.ensures.unique c.loop-i.invariant.rows c.loop-i.invariant.patch
-        c.exchange_at.new.rows.entries c.exchange_at.new.patch.entries (omega (arith, c.loop-i-test.true, c.len-i-end.ensures.len)) c.exchange_at.ensures;
-    patch = patch_next c.args.rows.now.entries c.args.patch.now.entries c.loop-i.rows.entries c.loop-i.patch.entries c.loop-i.i c.len-i-end.ensures.unique c.loop-i.invariant.rows c.loop-i.invariant.patch
-        c.exchange_at.new.rows.entries c.exchange_at.new.patch.entries (omega (arith, c.loop-i-test.true, c.len-i-end.ensures.len)) c.exchange_at.ensures }
+  rows = rows_next c.args.rows.now.entries c.args.patch.now.entries c.loop-i.rows.entries c.loop-i.patch.entries c.loop-i.i c.len-i-end.ensures.unique c.loop-i.invariant.rows c.loop-i.invariant.patch
+      c.exchange_at.new.rows.entries c.exchange_at.new.patch.entries (omega (arith, c.loop-i-test.true, c.len-i-end.ensures.len)) c.exchange_at.ensures;
+  patch = patch_next c.args.rows.now.entries c.args.patch.now.entries c.loop-i.rows.entries c.loop-i.patch.entries c.loop-i.i c.len-i-end.ensures.unique c.loop-i.invariant.rows c.loop-i.invariant.patch
+      c.exchange_at.new.rows.entries c.exchange_at.new.patch.entries (omega (arith, c.loop-i-test.true, c.len-i-end.ensures.len)) c.exchange_at.ensures;
+}
 
 pub returns-clause-makes : goal.returns-clause-makes
 returns-clause-makes c =
     makes_all c.args.rows.now.entries c.args.patch.now.entries c.loop-i.rows.entries c.loop-i.patch.entries c.loop-i.i c.len-i-end.ensures.unique c.loop-i.invariant.rows c.loop-i.invariant.patch c.requires
-        (omega (arith, c.loop-i-test.false, c.len-i-end.ensures.len))
+    (omega (arith, c.loop-i-test.false, c.len-i-end.ensures.len))
 
 pub returns-clause-taken : goal.returns-clause-taken
 returns-clause-taken c =
     taken_all c.args.rows.now.entries c.args.patch.now.entries c.loop-i.rows.entries c.loop-i.patch.entries c.loop-i.i c.len-i-end.ensures.unique c.loop-i.invariant.rows c.loop-i.invariant.patch
-        (omega (arith, c.loop-i-test.false, c.len-i-end.ensures.len))
+    (omega (arith, c.loop-i-test.false, c.len-i-end.ensures.len))

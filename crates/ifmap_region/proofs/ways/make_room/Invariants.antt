@@ -7,7 +7,7 @@ use Rattle.ifmap_region.proofs.ways.make_room.Given as goal
 
 abbrev pub invariant-loop-i : goal.invariant-loop-i
 invariant-loop-i l = record {
-    only : OnlyRoom l.patch.entries l.fn.rows.entries l.rows.entries;
-    done : (j v : ℕ) (r : Option ℕ) → j < l.i → slice_get l.patch.entries j ≡ Some (v, r) → IsSome (row_of l.rows.entries v);
-    spare : l.count ≤ spare l.rows + l.i
-  }
+  only : OnlyRoom l.patch.entries l.fn.rows.entries l.rows.entries;
+  done : (j v : ℕ) (r : Option ℕ) → j < l.i → slice_get l.patch.entries j ≡ Some (v, r) → IsSome (row_of l.rows.entries v);
+  spare : l.count ≤ spare l.rows + l.i;
+}
