@@ -1,15 +1,15 @@
 -- What one number that is looked at changes, with the steps that it takes.
-use Rattle.std.proofs.Common.{◌≡◌, ◌≢◌, ℕ, suc, ◌+◌, ◌*◌, ◌<◌, ◌≤◌, Bool, true, false, Option, Some, None, List, [], ◌∷◌, ◌++◌, Contains, All, sum_by, nat_eq, is_some, ◌⊎◌, inl, inr, refl, sym, ap, subst, ◌∙◌, arith, true≢false}
+use Rattle.std.proofs.Common.{◌≡◌, ◌≢◌, ℕ, suc, ◌+◌, ◌*◌, ◌<◌, ◌≤◌, Bool, true, false, Option, Some, None, List, [], ◌∷◌, ◌++◌, Contains, sum_by, nat_eq, is_some, ◌⊎◌, inl, inr, refl, sym, ap, subst, ◌∙◌, arith, true≢false}
 use Rattle.std.specs.Prelude.{IsSome}
 use Rattle.std.proofs.lemmas.Option.{same_Some, none-some}
 use Rattle.std.proofs.lemmas.Bool.{cases_eq, ne_eqb}
-use Rattle.std.proofs.lemmas.List.Elements.{Contains-append_left, Contains-append_right, Contains-push, Contains-push_cases, All-weaker, All-cons, All-nil, All-push, All-contains, All-from_recursion, recursion_from_All}
+use Rattle.std.proofs.lemmas.List.Elements.{Contains-append_left, Contains-append_right, Contains-push, Contains-push_cases, All-weaker, All-cons, All-nil, All-push, All-from_recursion, recursion_from_All}
 use Rattle.std.proofs.lemmas.List.Sums.{sum_by-cons, sum_by_push}
 use Rattle.std.specs.List.{IsDistinct}
 use Rattle.ifmap_region.specs.declared.flips.Flip.{Flip}
 use Rattle.ifmap_region.specs.Bounds.{IsWithin}
 use Rattle.ifmap_region.specs.Flips.{WithRemoved}
-use Rattle.ifmap_region.specs.Links.{Linked, IsSymmetric}
+use Rattle.ifmap_region.specs.Links.{Linked}
 use Rattle.ifmap_region.specs.Marks.{row_of, over}
 use Rattle.ifmap_region.specs.Near.{NearOneWay, at_flip, beside}
 use Rattle.ifmap_region.specs.Seeds.{MayHold, SeedsAlong}
@@ -17,10 +17,10 @@ use Rattle.ifmap_region.specs.Waiting.{Waiting, ComesOut}
 use Rattle.ifmap_region.proofs.Depths.{sound_from}
 use Rattle.ifmap_region.proofs.FlipLists.{flipped_back}
 use Rattle.ifmap_region.specs.Spreading.{waiting}
-use Rattle.ifmap_region.specs.Losing.{Follows, IsHeld, IsLosing, AreGone, IsLookedAt, IsBeforeCut, IsCutting}
+use Rattle.ifmap_region.specs.Losing.{Follows, AreGone, IsLookedAt, IsBeforeCut, IsCutting}
 use Rattle.ifmap_region.proofs.Lost.{losing_passed, losing_held, losing_gone, moved_here}
 use Rattle.ifmap_region.proofs.Ready.{waiting_out, waiting_in, waiting_first, distinct_cons}
-use Rattle.ifmap_region.proofs.Sums.{sum_within, distinct_head, distinct_tail}
+use Rattle.ifmap_region.proofs.Sums.{sum_within}
 
 pub some_row : (o : Option (Option ℕ)) → IsSome o → (r : Option ℕ) × (o ≡ Some r)
 some_row None h = absurd (true≢false (sym h))

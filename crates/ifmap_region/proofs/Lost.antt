@@ -1,10 +1,10 @@
 -- What one number that is looked at changes while marks are taken away, and what is so at the end.
-use Rattle.std.proofs.Common.{◌≡◌, ◌≢◌, ℕ, zero, suc, ◌+◌, ◌<◌, ◌≤◌, Bool, true, false, Option, Some, None, List, [], ◌∷◌, Contains, ◌⊎◌, inl, inr, refl, sym, ap, subst, ◌∙◌, arith, unwrap_or}
+use Rattle.std.proofs.Common.{◌≡◌, ◌≢◌, ℕ, zero, suc, ◌+◌, ◌<◌, ◌≤◌, Bool, false, Option, Some, None, List, Contains, ◌⊎◌, inl, inr, refl, sym, ap, subst, ◌∙◌, arith, unwrap_or}
 use Rattle.std.proofs.lemmas.Option.{same_Some, none-some}
-use Rattle.std.proofs.lemmas.Bool.{cases_eq, cases_lt}
+use Rattle.std.proofs.lemmas.Bool.{cases_eq}
 use Rattle.ifmap_region.specs.Links.{IsSymmetric}
 use Rattle.ifmap_region.specs.Marks.{row_of, over}
-use Rattle.ifmap_region.specs.Walks.{Walk, begins, goes_on, HasDepth, AreDepths, Expands}
+use Rattle.ifmap_region.specs.Walks.{Walk, begins, goes_on, AreDepths, Expands}
 use Rattle.ifmap_region.specs.Near.{IsMoved}
 use Rattle.ifmap_region.specs.Losing.{IsHeld, IsLosing, AreGone, Reseeds}
 use Rattle.ifmap_region.specs.Spreading.{IsBound, IsReady}

@@ -1,8 +1,8 @@
 -- Marks after one row is put in.
-use Rattle.std.proofs.Common.{◌≡◌, ◌≢◌, ℕ, Option, Some, None, List, nat_eq, refl, sym, ap, ◌∙◌, unwrap_or}
+use Rattle.std.proofs.Common.{◌≡◌, ◌≢◌, ℕ, Option, Some, List, nat_eq, ap, ◌∙◌, unwrap_or}
 use Rattle.std.specs.Map.{update}
 use Rattle.std.proofs.lemmas.Map.{update_here, update_apart}
-use Rattle.ifmap_region.specs.Marks.{row_of, mark_of, over}
+use Rattle.ifmap_region.specs.Marks.{row_of, over}
 
 module _ (rows after : List (ℕ × Option ℕ)) (below : ℕ → Option ℕ) (k : ℕ) (w : Option ℕ)
     (put : (q : ℕ) → row_of after q ≡ update nat_eq (row_of rows) k (Some w) q) where

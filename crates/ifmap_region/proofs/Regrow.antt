@@ -1,22 +1,20 @@
 -- What is found again after a cut, and what is found by added links.
-use Rattle.std.proofs.Common.{◌≡◌, ◌≢◌, ℕ, zero, suc, ◌+◌, ◌*◌, ◌<◌, ◌≤◌, Bool, true, false, Option, Some, None, List, [], ◌∷◌, ◌++◌, Contains, All, sum_by, nat_eq, is_some, ◌⊎◌, inl, inr, refl, sym, ap, subst, ◌∙◌, arith, true≢false}
+use Rattle.std.proofs.Common.{◌≡◌, ℕ, suc, ◌+◌, ◌*◌, ◌<◌, ◌≤◌, Bool, true, false, Option, Some, None, List, [], ◌∷◌, ◌++◌, Contains, sum_by, is_some, ◌⊎◌, inl, inr, refl, sym, ap, subst, ◌∙◌, arith, true≢false}
 use Rattle.std.specs.Prelude.{MatchOption, IfSome, IsSome}
 use Rattle.std.proofs.lemmas.Option.{same_Some, none-some}
-use Rattle.std.proofs.lemmas.Bool.{cases_eq, cases_lt, cases_Bool, true≢false}
+use Rattle.std.proofs.lemmas.Bool.{cases_eq, cases_lt, true≢false}
 use Rattle.std.proofs.lemmas.List.Elements.{Contains-append_left, Contains-append_right, Contains-append_cases, Contains-push, Contains-push_cases, All-weaker, All-contains, All-nil}
 use Rattle.std.specs.List.{IsDistinct}
 use Rattle.ifmap_region.specs.declared.flips.Flip.{Flip}
 use Rattle.ifmap_region.specs.Bounds.{IsWithin}
 use Rattle.ifmap_region.specs.Flips.{Joins, IsFlipped, WithRemoved, Mid}
-use Rattle.ifmap_region.specs.Links.{IsSymmetric}
 use Rattle.ifmap_region.specs.Marks.{row_of, over}
 use Rattle.ifmap_region.specs.Near.{NearOneWay, IsMoved, touched}
 use Rattle.ifmap_region.specs.Seeds.{IsNext, Lowers, SeedsAlong}
 use Rattle.ifmap_region.specs.Spreading.{IsBound, IsReady, Improves}
-use Rattle.ifmap_region.specs.Losing.{Reseeds, AreGone, IsBeforeCut, IsCutting}
-use Rattle.ifmap_region.specs.Walks.{Walk, goes_on, HasDepth, AreDepths, Expands}
+use Rattle.ifmap_region.specs.Losing.{Reseeds, IsBeforeCut, IsCutting}
+use Rattle.ifmap_region.specs.Walks.{Walk, goes_on, AreDepths, Expands}
 use Rattle.ifmap_region.proofs.Depths.{marked, marked_start, closed_from, sound_from, walk_along, no_walk}
-use Rattle.ifmap_region.proofs.FlipLists.{flipped_back}
 use Rattle.ifmap_region.proofs.Lost.{ready_left, over_unrowed, over_rowed}
 use Rattle.ifmap_region.proofs.Cuts.{some_row}
 use Rattle.ifmap_region.proofs.Sums.{sum_within}

@@ -1,20 +1,20 @@
 -- A repair is a cut and then growth.
-use Rattle.std.proofs.Common.{◌≡◌, ◌≢◌, ℕ, suc, ◌+◌, ◌*◌, ◌<◌, ◌≤◌, Bool, true, false, Option, Some, None, List, [], ◌∷◌, ◌++◌, Contains, All, sum_by, nat_eq, ◌⊎◌, inl, inr, refl, sym, ap, subst, ◌∙◌, arith, true≢false}
+use Rattle.std.proofs.Common.{◌≡◌, ℕ, suc, ◌+◌, ◌≤◌, Bool, true, false, Option, Some, None, List, [], ◌∷◌, Contains, All, sum_by, nat_eq, ◌⊎◌, inl, inr, refl, sym, ap, subst, ◌∙◌, arith, true≢false}
 use Rattle.std.specs.Prelude.{if◌then◌else◌}
 use Rattle.std.proofs.lemmas.Option.{same_Some, none-some}
 use Rattle.std.proofs.lemmas.Bool.{cases_eq}
-use Rattle.std.proofs.lemmas.List.Elements.{Contains-append_right, Contains-append_cases, Contains-get_or, All-weaker, All-contains, All-nil, All-cons}
+use Rattle.std.proofs.lemmas.List.Elements.{Contains-append_right, Contains-append_cases, Contains-get_or, All-weaker, All-cons}
 use Rattle.std.proofs.lemmas.List.Sums.{sum_by-cons}
 use Rattle.std.specs.List.{IsDistinct}
 use Rattle.std.specs.HashSet.{HashSet}
 use Rattle.ifmap_region.specs.declared.flips.Flip.{Flip}
 use Rattle.ifmap_region.specs.Bounds.{IsWithin}
-use Rattle.ifmap_region.specs.Flips.{IsFlipped, IsEnd, WithRemoved, Mid, Old}
+use Rattle.ifmap_region.specs.Flips.{IsFlipped, WithRemoved, Mid, Old}
 use Rattle.ifmap_region.specs.Hiding.{hides, unhidden}
 use Rattle.ifmap_region.specs.Links.{Linked, IsSymmetric}
 use Rattle.ifmap_region.specs.Losing.{IsBeforeCut}
-use Rattle.ifmap_region.specs.Near.{Near, at_flip, touched, beside, NearOneWay, NearFlips, SameDepth, IsMoved}
-use Rattle.ifmap_region.specs.Walks.{HasDepth, AreDepths}
+use Rattle.ifmap_region.specs.Near.{at_flip, touched, beside, NearOneWay, NearFlips, SameDepth}
+use Rattle.ifmap_region.specs.Walks.{AreDepths}
 use Rattle.ifmap_region.proofs.Depths.{depth_along, depths_along}
 use Rattle.ifmap_region.proofs.FlipLists.{flipped_back}
 use Rattle.ifmap_region.proofs.Ready.{distinct_cons}

@@ -2,7 +2,7 @@
 use Rattle.std.specs.Prelude.{◌≡◌, ℕ, suc, ◌+◌, ◌<◌, ◌≤◌, Bool, false, Option, Some, None, List, Contains, All, IsSome, sum_by, nat_eq, ◌⊎◌}
 use Rattle.std.specs.List.{IsDistinct}
 use Rattle.ifmap_region.specs.declared.flips.Flip.{Flip}
-use Rattle.ifmap_region.specs.Flips.{WithRemoved, IsFlipped}
+use Rattle.ifmap_region.specs.Flips.{WithRemoved}
 use Rattle.ifmap_region.specs.Links.{IsSymmetric}
 use Rattle.ifmap_region.specs.Near.{NearOneWay}
 use Rattle.ifmap_region.specs.Marks.{row_of, over}

@@ -1,5 +1,5 @@
 -- Marks: the rows of a map from numbers to depths, where a row may stand without a mark.
-use Rattle.std.specs.Prelude.{◌≡◌, ℕ, ◌<◌, Option, Some, None, List, nat_eq, unwrap_or, is_some, IsSome}
+use Rattle.std.specs.Prelude.{◌≡◌, ℕ, Option, Some, None, List, nat_eq, unwrap_or}
 use Rattle.std.specs.Map.{lookup}
 
 -- the row of a number: none, or one that holds a mark or holds none

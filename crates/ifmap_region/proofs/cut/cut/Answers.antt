@@ -1,5 +1,4 @@
-use Rattle.std.proofs.Common.{◌≡◌, ℕ, refl}
-use Rattle.ifmap_region.specs.Marks.{mark_of}
+use Rattle.std.proofs.Common.{refl}
 use Rattle.ifmap_region.proofs.Regrow.{ready_again, spent_cut, spent_reseed, spent_times}
 use Rattle.ifmap_region.proofs.cut.cut.Goals as goal
 

@@ -1,7 +1,5 @@
-use Rattle.std.proofs.Common.{◌≡◌, ℕ, Some, Option, sym, ap, subst, ◌∙◌, refl, arith}
-use Rattle.std.specs.Prelude.{IfSome}
+use Rattle.std.proofs.Common.{sym, arith}
 use Rattle.std.proofs.lemmas.Option.{IfSome_then}
-use Rattle.ifmap_region.specs.Links.{Linked}
 use Rattle.ifmap_region.specs.Marks.{mark_of, over}
 use Rattle.ifmap_region.specs.Seeds.{IsNext}
 use Rattle.ifmap_region.proofs.Regrow.{least_unmatched, least_more, lesser_only}

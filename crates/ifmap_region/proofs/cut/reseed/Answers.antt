@@ -1,7 +1,6 @@
-use Rattle.std.proofs.Common.{◌≡◌, ◌≤◌, ◌+◌, ℕ, sum_by, take, get_or, [], ◌∷◌, ◌++◌, arith, ap}
+use Rattle.std.proofs.Common.{take, get_or, arith}
 use Rattle.std.proofs.lemmas.List.{take_more}
 use Rattle.std.proofs.lemmas.List.Sums.{sum_by_push}
-use Rattle.ifmap_region.specs.Links.{Linked}
 use Rattle.ifmap_region.proofs.Regrow.{reseeds_more}
 use Rattle.ifmap_region.proofs.cut.reseed.Goals as goal
 

@@ -1,4 +1,3 @@
-use Rattle.std.proofs.Common.{◌≡◌, ℕ}
 use Rattle.std.proofs.lemmas.Result.{on_ok_weaker}
 use Rattle.ifmap_region.proofs.Regrow.{ready_grown, spent_grown, spent_nothing}
 use Rattle.ifmap_region.proofs.grow.grow.Goals as goal

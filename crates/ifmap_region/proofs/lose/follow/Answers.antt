@@ -1,4 +1,4 @@
-use Rattle.std.proofs.Common.{◌≡◌, ℕ, Some, None, sym, ap, ◌∙◌, arith}
+use Rattle.std.proofs.Common.{sym, ◌∙◌, arith}
 use Rattle.ifmap_region.proofs.Offering.{follows_unmatched, follows_other, follows_pushed}
 use Rattle.ifmap_region.proofs.lose.follow.Goals as goal
 use Rattle.ifmap_region.proofs.lose.follow.Goals.{in-Some+then-is_mark+in_ok-push, in-Some+else-is_mark, in_default}

@@ -1,6 +1,5 @@
-use Rattle.std.proofs.Common.{◌≡◌, ℕ, ◌+◌, ◌*◌, ◌≤◌, ◌<◌, Some, None, false, sym, ap, ◌∙◌, refl, arith, true≢false}
-use Rattle.ifmap_region.specs.Links.{Linked}
-use Rattle.ifmap_region.specs.Marks.{mark_of, row_of}
+use Rattle.std.proofs.Common.{◌<◌, sym, ◌∙◌, refl, arith, true≢false}
+use Rattle.ifmap_region.specs.Marks.{mark_of}
 use Rattle.ifmap_region.proofs.Overs.{row_here, row_apart}
 use Rattle.ifmap_region.proofs.Ready.{waiting_first}
 use Rattle.ifmap_region.proofs.Cuts.{spent_now, spent_more, cutting_passed, cutting_held, cutting_followed, cutting_ended, no_row}

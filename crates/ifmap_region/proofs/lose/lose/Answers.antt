@@ -1,6 +1,5 @@
-use Rattle.std.proofs.Common.{◌≡◌, ◌≤◌, ◌+◌, ℕ, [], Contains, arith, sym, ap, ◌∙◌, subst, refl}
+use Rattle.std.proofs.Common.{arith}
 use Rattle.ifmap_region.specs.Waiting.{ComesOut}
-use Rattle.ifmap_region.specs.Marks.{mark_of}
 use Rattle.ifmap_region.proofs.Waits.{no_member}
 use Rattle.ifmap_region.proofs.Cuts.{spent_now, cutting_begun, cutting_same, cutting_out, cutting_done}
 use Rattle.ifmap_region.proofs.lose.lose.Goals as goal

@@ -1,5 +1,4 @@
-use Rattle.std.proofs.Common.{◌≡◌, ℕ, Some, sym, ◌∙◌, arith, true≢false}
-use Rattle.ifmap_region.specs.Marks.{mark_of, row_of}
+use Rattle.std.proofs.Common.{sym, ◌∙◌, arith, true≢false}
 use Rattle.ifmap_region.proofs.Patches.{each_same, only_put, each_put, each_past}
 use Rattle.ifmap_region.proofs.patch.differing.Goals as goal
 use Rattle.ifmap_region.proofs.patch.differing.Goals.{in-Some+then-not-is_same+in_ok-put, in-Some+else-not-is_same, in_default}

@@ -1,7 +1,4 @@
-use Rattle.std.proofs.Common.{◌≡◌, ℕ, [], ◌∷◌, ◌++◌, Contains, None, refl, ap, ◌∙◌}
-use Rattle.ifmap_region.specs.Links.{Linked}
-use Rattle.ifmap_region.specs.Marks.{mark_of, over}
-use Rattle.ifmap_region.specs.Spreading.{IsReady}
+use Rattle.std.proofs.Common.{[], ◌∷◌, ◌++◌, refl, ap, ◌∙◌}
 use Rattle.ifmap_region.proofs.Ready.{ready_begun, reached_spent}
 use Rattle.ifmap_region.proofs.region.build.Goals as goal
 

@@ -1,4 +1,3 @@
-use Rattle.std.proofs.Common.{◌≡◌, ℕ, ◌∙◌, sym}
 use Rattle.ifmap_region.specs.Links.{Linked}
 use Rattle.ifmap_region.specs.Marks.{mark_of, over}
 use Rattle.ifmap_region.proofs.Depths.{depths_same}

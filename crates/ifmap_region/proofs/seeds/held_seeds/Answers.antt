@@ -1,8 +1,8 @@
-use Rattle.std.proofs.Common.{◌≡◌, ℕ, ◌+◌, true, false, List, [], ◌∷◌, ◌++◌, sym, ap, subst, ◌∙◌, take, get_or, true≢false}
+use Rattle.std.proofs.Common.{◌≡◌, ◌+◌, false, [], ◌∷◌, ◌++◌, sym, ◌∙◌, take, get_or, true≢false}
 use Rattle.std.proofs.lemmas.List.{take_more}
 use Rattle.ifmap_region.specs.declared.flips.Flip.{Flip}
 use Rattle.ifmap_region.specs.Marks.{mark_of, over}
-use Rattle.ifmap_region.specs.Seeds.{MayHold, SeedsAlong}
+use Rattle.ifmap_region.specs.Seeds.{MayHold}
 use Rattle.ifmap_region.proofs.FlipLists.{seeds_other, seeds_more}
 use Rattle.ifmap_region.proofs.seeds.held_seeds.Goals as goal
 use Rattle.ifmap_region.proofs.seeds.held_seeds.Goals.{then-not-flip+in_ok-offer+in_ok-offer-2, else-not-flip}

@@ -1,4 +1,4 @@
-use Rattle.std.proofs.Common.{◌≡◌, ℕ, Some, None, sym, ap, ◌∙◌, arith}
+use Rattle.std.proofs.Common.{sym, ◌∙◌, arith}
 use Rattle.ifmap_region.proofs.Offering.{offers_unmatched, offers_marked, offers_pushed}
 use Rattle.ifmap_region.proofs.spread.offer_neighbours.Goals as goal
 use Rattle.ifmap_region.proofs.spread.offer_neighbours.Goals.{in-Some+then-not-is_within+in_ok-push, in-Some+else-not-is_within, in_default}

@@ -1,6 +1,5 @@
-use Rattle.std.proofs.Common.{◌≡◌, ℕ, [], Contains, arith, sym, ap, ◌∙◌, subst}
+use Rattle.std.proofs.Common.{Contains, arith}
 use Rattle.ifmap_region.specs.Waiting.{ComesOut}
-use Rattle.ifmap_region.specs.Marks.{mark_of, over}
 use Rattle.ifmap_region.proofs.Waits.{no_member}
 use Rattle.ifmap_region.proofs.Ready.{ready_same, ready_out, ready_done, depths_ready, charged_start, charged_later, spent_from}
 use Rattle.ifmap_region.proofs.spread.spread.Goals as goal

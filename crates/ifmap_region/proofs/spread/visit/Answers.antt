@@ -1,6 +1,5 @@
-use Rattle.std.proofs.Common.{◌≡◌, ℕ, Some, None, false, ◌<◌, sym, ap, ◌∙◌, arith, true≢false}
+use Rattle.std.proofs.Common.{◌<◌, sym, ◌∙◌, arith, true≢false}
 use Rattle.ifmap_region.specs.Marks.{mark_of, over}
-use Rattle.ifmap_region.specs.Walks.{Expands}
 use Rattle.ifmap_region.proofs.Overs.{over_here, over_apart}
 use Rattle.ifmap_region.proofs.Ready.{ready_passed, charged_set, ready_offered, ready_ended, waiting_out, waiting_in, waiting_first}
 use Rattle.ifmap_region.proofs.spread.visit.Goals as goal

@@ -1,4 +1,4 @@
-use Rattle.std.proofs.Common.{◌≡◌, ◌<◌, ◌+◌, ℕ, length, arith, drop}
+use Rattle.std.proofs.Common.{◌+◌, arith, drop}
 use Rattle.std.proofs.lemmas.List.{drop_more, drop_all}
 use Rattle.ifmap_region.proofs.spread.visit_level.Goals as goal
 

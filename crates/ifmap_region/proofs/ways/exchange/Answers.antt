@@ -1,4 +1,4 @@
-use Rattle.std.proofs.Common.{◌≡◌, ◌<◌, arith, length}
+use Rattle.std.proofs.Common.{arith}
 use Rattle.ifmap_region.proofs.Exchange.{room_now, rows_next, patch_next, makes_all, taken_all}
 use Rattle.ifmap_region.proofs.ways.exchange.Goals as goal
 

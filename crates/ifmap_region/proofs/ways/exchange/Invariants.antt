@@ -1,5 +1,5 @@
 use Rattle.std.proofs.Common.{◌≡◌, ℕ, ◌++◌, take, drop}
-use Rattle.ifmap_region.specs.Marks.{row_of, mark_of}
+use Rattle.ifmap_region.specs.Marks.{row_of}
 use Rattle.ifmap_region.specs.Ways.{taken_from}
 use Rattle.ifmap_region.proofs.Exchange.{first_row}
 use Rattle.ifmap_region.proofs.ways.exchange.Given as goal

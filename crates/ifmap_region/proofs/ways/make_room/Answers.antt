@@ -1,4 +1,4 @@
-use Rattle.std.proofs.Common.{◌≡◌, sym, ◌∙◌, arith, true≢false}
+use Rattle.std.proofs.Common.{sym, ◌∙◌, arith, true≢false}
 use Rattle.std.proofs.lemmas.Option.{slice_get_within}
 use Rattle.ifmap_region.proofs.Cuts.{no_row}
 use Rattle.ifmap_region.proofs.Exchange.{done_same, only_put, done_put, room_all}

@@ -1,4 +1,4 @@
-use Rattle.std.proofs.Common.{◌≡◌, sym, ◌∙◌, arith, true≢false}
+use Rattle.std.proofs.Common.{sym, arith, true≢false}
 use Rattle.std.proofs.lemmas.Option.{slice_get_within}
 use Rattle.ifmap_region.proofs.Exchange.{out_same, each_swept, out_swept, swept_all}
 use Rattle.ifmap_region.proofs.ways.sweep.Goals as goal

@@ -1,5 +1,4 @@
-use Rattle.std.proofs.Common.{ℕ, ◌≤◌, arith, List, ◌∷◌, [], Contains, sym, subst}
-use Rattle.std.proofs.lemmas.List.Elements.{Contains-append_right}
+use Rattle.std.proofs.Common.{ℕ, ◌≤◌}
 use Rattle.ifmap_region.proofs.Waits.{moves_more, all_left, left_of_rest}
 use Rattle.ifmap_region.proofs.levels.Seeds.pop_level.Goals as goal
 

@@ -1,4 +1,4 @@
-use Rattle.std.proofs.Common.{length, All, ◌≤◌}
+use Rattle.std.proofs.Common.{length}
 use Rattle.ifmap_region.specs.Waiting.{Moves}
 use Rattle.ifmap_region.proofs.levels.Seeds.pop_level.Given as goal
 

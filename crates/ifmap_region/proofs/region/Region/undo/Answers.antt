@@ -1,4 +1,4 @@
-use Rattle.std.proofs.Common.{◌≡◌, ℕ, Option, List, sym, ap, subst, ◌∙◌}
+use Rattle.std.proofs.Common.{ℕ, Option, List, sym, ap, subst, ◌∙◌}
 use Rattle.std.specs.Prelude.{IsSome}
 use Rattle.ifmap_region.specs.Marks.{row_of}
 use Rattle.ifmap_region.specs.Ways.{Makes, taken_from}
