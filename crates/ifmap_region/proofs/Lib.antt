@@ -2,6 +2,7 @@ pub mod Cuts
 pub mod Depths
 pub mod Exchange
 pub mod FlipLists
+pub mod GridLinks
 pub mod Lost
 pub mod Offering
 pub mod Overs

@@ -1,5 +1,6 @@
 pub mod Bounds
 pub mod Flips
+pub mod Grid
 pub mod Hiding
 pub mod Links
 pub mod Losing

@@ -44,8 +44,11 @@ fn least_level<G: LinkSource, L: Ledger>(
     number: u64,
     steps: &mut Steps<L>,
 ) -> Option<u32>
-    ensures only { IfSome result (λ k. (u : ℕ) × Linked (G.count graph.now) (G.link graph.now) number u × IsNext (G.terminal graph.now) top (over rows.now.entries (mark_of base.now.entries)) u k) }
-    ensures least { (u k : ℕ) → Linked (G.count graph.now) (G.link graph.now) number u → IsNext (G.terminal graph.now) top (over rows.now.entries (mark_of base.now.entries)) u k
+    ensures only { IfSome result (λ k. (u : ℕ)
+        × Linked (G.count graph.now) (G.link graph.now) number u
+        × IsNext (G.terminal graph.now) top (over rows.now.entries (mark_of base.now.entries)) u k) }
+    ensures least { (u k : ℕ) → Linked (G.count graph.now) (G.link graph.now) number u
+        → IsNext (G.terminal graph.now) top (over rows.now.entries (mark_of base.now.entries)) u k
         → (m : ℕ) × (m ≤ k) × (result ≡ Some m) }
     ensures steps { steps.new ≤ steps.old + G.count graph.now number }
 {
@@ -68,7 +71,9 @@ fn reseed<G: LinkSource, L: Ledger>(
     gone: &[u64],
     steps: &mut Steps<L>,
 ) -> Result<Vec<(u32, u64)>, NoMemory>
-    ensures seeds { IfOk result (λ seeds. Reseeds (Linked (G.count graph.now) (G.link graph.now)) (G.terminal graph.now) top (over rows.now.entries (mark_of base.now.entries)) gone.now seeds.items) }
+    ensures seeds { IfOk result (λ seeds. Reseeds (Linked (G.count graph.now) (G.link graph.now))
+        (G.terminal graph.now) top (over rows.now.entries (mark_of base.now.entries)) gone.now
+        seeds.items) }
     ensures steps { steps.new ≤ steps.old + sum_by (G.count graph.now) gone.now }
 {
     let mut seeds = Vec::new(alloc);
@@ -94,12 +99,17 @@ pub(crate) fn cut<G: LinkSource, L: Ledger>(
     steps: &mut Steps<L>,
 ) -> Result<IndexMap<u64, Option<u32>>, NoMemory>
     ensures depths { IfOk result (λ rows. (start : ℕ)
-        → IsBeforeCut (Linked (G.count graph.now) (G.link graph.now)) (G.terminal graph.now) flips.now start top (mark_of base.now.entries)
-        → AreDepths (Linked (G.count graph.now) (G.link graph.now)) (G.terminal graph.now) start top (over rows.entries (mark_of base.now.entries))) }
+        → IsBeforeCut (Linked (G.count graph.now) (G.link graph.now)) (G.terminal graph.now)
+        flips.now start top (mark_of base.now.entries)
+        → AreDepths (Linked (G.count graph.now) (G.link graph.now)) (G.terminal graph.now) start top
+        (over rows.entries (mark_of base.now.entries))) }
     ensures steps { (start : ℕ)
-        → IsBeforeCut (Linked (G.count graph.now) (G.link graph.now)) (G.terminal graph.now) flips.now start top (mark_of base.now.entries)
+        → IsBeforeCut (Linked (G.count graph.now) (G.link graph.now)) (G.terminal graph.now)
+        flips.now start top (mark_of base.now.entries)
         → IsWithin (G.count graph.now)
-        (NearOneWay flips.now false (WithRemoved (Linked (G.count graph.now) (G.link graph.now)) flips.now) (Linked (G.count graph.now) (G.link graph.now)) (G.terminal graph.now) start top)
+        (NearOneWay flips.now false (WithRemoved (Linked (G.count graph.now) (G.link graph.now))
+        flips.now) (Linked (G.count graph.now) (G.link graph.now)) (G.terminal graph.now) start
+        top)
         4 steps.old steps.new }
 {
     let mut rows = IndexMap::new(alloc);

@@ -28,14 +28,19 @@ pub(crate) fn grow<G: LinkSource, L: Ledger>(
     flips: &[Flip],
     steps: &mut Steps<L>,
 ) -> Result<(), NoMemory>
-    requires { (v w : ℕ) → IsFlipped flips.now true v w → Linked (G.count graph.now) (G.link graph.now) v w }
+    requires { (v w : ℕ) → IsFlipped flips.now true v w
+        → Linked (G.count graph.now) (G.link graph.now) v w }
     ensures depths { OnOk result ((start : ℕ)
-        → AreDepths (Mid (Linked (G.count graph.now) (G.link graph.now)) flips.now) (G.terminal graph.now) start top (over rows.old.entries (mark_of base.now.entries))
-        → AreDepths (Linked (G.count graph.now) (G.link graph.now)) (G.terminal graph.now) start top (over rows.new.entries (mark_of base.now.entries))) }
+        → AreDepths (Mid (Linked (G.count graph.now) (G.link graph.now)) flips.now)
+        (G.terminal graph.now) start top (over rows.old.entries (mark_of base.now.entries))
+        → AreDepths (Linked (G.count graph.now) (G.link graph.now)) (G.terminal graph.now) start top
+        (over rows.new.entries (mark_of base.now.entries))) }
     ensures steps { (start : ℕ)
-        → AreDepths (Mid (Linked (G.count graph.now) (G.link graph.now)) flips.now) (G.terminal graph.now) start top (over rows.old.entries (mark_of base.now.entries))
+        → AreDepths (Mid (Linked (G.count graph.now) (G.link graph.now)) flips.now)
+        (G.terminal graph.now) start top (over rows.old.entries (mark_of base.now.entries))
         → IsWithin (G.count graph.now)
-        (NearOneWay flips.now true (Mid (Linked (G.count graph.now) (G.link graph.now)) flips.now) (Linked (G.count graph.now) (G.link graph.now)) (G.terminal graph.now) start top)
+        (NearOneWay flips.now true (Mid (Linked (G.count graph.now) (G.link graph.now)) flips.now)
+        (Linked (G.count graph.now) (G.link graph.now)) (G.terminal graph.now) start top)
         1 steps.old steps.new }
 {
     let seeds = lowered_seeds(alloc, base, rows, top, graph, flips)?;

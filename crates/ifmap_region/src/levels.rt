@@ -22,7 +22,8 @@ impl Model for Seeds {
 
     ghost view = { λ s. drop s.taken s.items.items };
 
-    ghost invariant = { λ s. IsNonDecreasingBy (λ p. p.0) s.items.items × (s.taken ≤ vec_len s.items) };
+    ghost invariant = { λ s. IsNonDecreasingBy (λ p. p.0) s.items.items
+        × (s.taken ≤ vec_len s.items) };
 }
 
 impl Seeds {
@@ -39,7 +40,8 @@ impl Seeds {
     fn least(&self) -> Option<u32>
         ensures none { IfNone result (self.now ≡ []) }
         ensures least { IfSome result (λ level. All (λ s. level ≤ s.0) self.now) }
-        ensures greatest { IfSome result (λ level. (floor : ℕ) → All (λ s. floor ≤ s.0) self.now → floor ≤ level) }
+        ensures greatest { IfSome result (λ level. (floor : ℕ) → All (λ s. floor ≤ s.0) self.now
+            → floor ≤ level) }
     {
         if self.taken < self.items.len() {
             Some(self.items[self.taken].0)
@@ -52,7 +54,8 @@ impl Seeds {
     fn pop_at(&mut self, level: u32) -> Option<u64>
         ensures some { IfSome result (λ number. self.old ≡ (level, number) ∷ self.new) }
         ensures none { IfNone result (self.new ≡ self.old) }
-        ensures above { IfNone result (All (λ s. level ≤ s.0) self.old → All (λ s. level < s.0) self.old) }
+        ensures above { IfNone result (All (λ s. level ≤ s.0) self.old
+            → All (λ s. level < s.0) self.old) }
     {
         if self.taken < self.items.len() && self.items[self.taken].0 == level {
             let number = self.items[self.taken].1;
@@ -67,7 +70,8 @@ impl Seeds {
     fn pop_level(&mut self, level: u32, into: &mut Vec<u64>) -> Result<(), NoMemory>
         ensures moves { OnOk result (Moves self.old self.new level into.old.items into.new.items) }
         ensures left { (s : ℕ × ℕ) → Contains self.new s → Contains self.old s }
-        ensures above { OnOk result (All (λ s. level ≤ s.0) self.old → All (λ s. level < s.0) self.new) }
+        ensures above { OnOk result (All (λ s. level ≤ s.0) self.old
+            → All (λ s. level < s.0) self.new) }
     {
         while let Some(number) = self.pop_at(level) {
             into.push(number)?;
@@ -94,9 +98,13 @@ impl Model for Levels {
 
     ghost Value = { Waiting };
 
-    ghost view = { λ l. record { floor = l.floor; entries = l.seeds ++ at_level l.floor l.next.items } };
+    ghost view = { λ l. record {
+      floor = l.floor;
+      entries = l.seeds ++ at_level l.floor l.next.items;
+    } };
 
-    ghost invariant = { λ l. (0 < vec_len l.next → l.floor < 2 ^ 32) × All (λ s. l.floor ≤ s.0) l.seeds };
+    ghost invariant = { λ l. (0 < vec_len l.next → l.floor < 2 ^ 32)
+        × All (λ s. l.floor ≤ s.0) l.seeds };
 }
 
 impl Levels {
@@ -116,7 +124,8 @@ impl Levels {
     pub(crate) fn push(&mut self, number: u64) -> Result<(), NoMemory>
         requires { self.old.floor < 2 ^ 32 }
         ensures floor { self.new.floor ≡ self.old.floor }
-        ensures entries { OnOk result (self.new.entries ≡ self.old.entries ++ (self.old.floor, number) ∷ []) }
+        ensures entries { OnOk result (self.new.entries ≡ self.old.entries ++
+            (self.old.floor, number) ∷ []) }
         ensures err { OnErr result (self.new.entries ≡ self.old.entries) }
     {
         self.next.push(number)?;
@@ -125,7 +134,8 @@ impl Levels {
 
     /// The least level at which a number waits, with all numbers that wait there; they are out then.
     pub(crate) fn next_level(&mut self, alloc: Global) -> Result<Option<(u32, Vec<u64>)>, NoMemory>
-        ensures { IfOk result (λ found. MatchOption found (self.old.entries ≡ []) (λ out. ComesOut self.old self.new out.0 out.1.items)) }
+        ensures { IfOk result (λ found. MatchOption found (self.old.entries ≡ [])
+            (λ out. ComesOut self.old self.new out.0 out.1.items)) }
     {
         let level = if self.next.is_empty() {
             match self.seeds.least() {

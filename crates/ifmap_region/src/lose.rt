@@ -39,9 +39,11 @@ fn is_held<G: LinkSource, L: Ledger>(
     level: u32,
     steps: &mut Steps<L>,
 ) -> bool
-    ensures yes { result ≡ true → (u : ℕ) × (d : ℕ) × (level ≡ suc d) × Linked (G.count graph.now) (G.link graph.now) number u × (G.terminal graph.now u ≡ false)
+    ensures yes { result ≡ true → (u : ℕ) × (d : ℕ) × (level ≡ suc d)
+        × Linked (G.count graph.now) (G.link graph.now) number u × (G.terminal graph.now u ≡ false)
         × (over rows.now.entries (mark_of base.now.entries) u ≡ Some d) }
-    ensures no { result ≡ false → (u d : ℕ) → level ≡ suc d → Linked (G.count graph.now) (G.link graph.now) number u → G.terminal graph.now u ≡ false
+    ensures no { result ≡ false → (u d : ℕ) → level ≡ suc d
+        → Linked (G.count graph.now) (G.link graph.now) number u → G.terminal graph.now u ≡ false
         → over rows.now.entries (mark_of base.now.entries) u ≡ Some d → ⊥ }
     ensures steps { steps.new ≤ steps.old + G.count graph.now number }
 {
@@ -66,7 +68,8 @@ fn follow<G: LinkSource, L: Ledger>(
 ) -> Result<(), NoMemory>
     requires { levels.old.floor ≡ next }
     ensures floor { levels.new.floor ≡ next }
-    ensures follows { OnOk result (Follows (G.link graph.now number) (G.count graph.now number) (mark_of base.now.entries) next levels.old.entries levels.new.entries) }
+    ensures follows { OnOk result (Follows (G.link graph.now number) (G.count graph.now number)
+        (mark_of base.now.entries) next levels.old.entries levels.new.entries) }
     ensures steps { steps.new ≤ steps.old + G.count graph.now number }
 {
     for i in 0..graph.count(number) {
@@ -95,15 +98,24 @@ fn look<G: LinkSource, L: Ledger>(
     requires { levels.old.floor ≡ level + 1 }
     ensures floor { levels.new.floor ≡ level + 1 }
     ensures keeps { OnOk result ((flips : List Flip) (start before : ℕ) (rest : List ℕ)
-        → IsBeforeCut (Linked (G.count graph.now) (G.link graph.now)) (G.terminal graph.now) flips start top (mark_of base.now.entries)
-        → IsCutting (Linked (G.count graph.now) (G.link graph.now)) (G.terminal graph.now) (G.count graph.now) flips start top (mark_of base.now.entries)
-        rows.old.entries gone.old.items (waiting level (number ∷ rest) levels.old.entries) level before steps.old
-        → IsCutting (Linked (G.count graph.now) (G.link graph.now)) (G.terminal graph.now) (G.count graph.now) flips start top (mark_of base.now.entries)
-        rows.new.entries gone.new.items (waiting level rest levels.new.entries) level before steps.new) }
+        → IsBeforeCut (Linked (G.count graph.now) (G.link graph.now)) (G.terminal graph.now) flips
+        start top (mark_of base.now.entries)
+        → IsCutting (Linked (G.count graph.now) (G.link graph.now)) (G.terminal graph.now)
+        (G.count graph.now) flips start top (mark_of base.now.entries)
+        rows.old.entries gone.old.items (waiting level (number ∷ rest) levels.old.entries) level
+        before steps.old
+        → IsCutting (Linked (G.count graph.now) (G.link graph.now)) (G.terminal graph.now)
+        (G.count graph.now) flips start top (mark_of base.now.entries)
+        rows.new.entries gone.new.items (waiting level rest levels.new.entries) level before
+        steps.new) }
     ensures spent { (flips : List Flip) (start before : ℕ) (rest : List ℕ)
-        → IsCutting (Linked (G.count graph.now) (G.link graph.now)) (G.terminal graph.now) (G.count graph.now) flips start top (mark_of base.now.entries)
-        rows.old.entries gone.old.items (waiting level (number ∷ rest) levels.old.entries) level before steps.old
-        → IsWithin (G.count graph.now) (NearOneWay flips false (WithRemoved (Linked (G.count graph.now) (G.link graph.now)) flips) (Linked (G.count graph.now) (G.link graph.now)) (G.terminal graph.now) start top)
+        → IsCutting (Linked (G.count graph.now) (G.link graph.now)) (G.terminal graph.now)
+        (G.count graph.now) flips start top (mark_of base.now.entries)
+        rows.old.entries gone.old.items (waiting level (number ∷ rest) levels.old.entries) level
+        before steps.old
+        → IsWithin (G.count graph.now) (NearOneWay flips false
+        (WithRemoved (Linked (G.count graph.now) (G.link graph.now)) flips)
+        (Linked (G.count graph.now) (G.link graph.now)) (G.terminal graph.now) start top)
         2 before steps.new }
 {
     if has_row(rows, number) {
@@ -136,16 +148,26 @@ fn look_level<G: LinkSource, L: Ledger>(
     requires { levels.old.floor ≡ level + 1 }
     ensures floor { levels.new.floor ≡ level + 1 }
     ensures keeps { OnOk result ((flips : List Flip) (start before : ℕ)
-        → IsBeforeCut (Linked (G.count graph.now) (G.link graph.now)) (G.terminal graph.now) flips start top (mark_of base.now.entries)
-        → IsCutting (Linked (G.count graph.now) (G.link graph.now)) (G.terminal graph.now) (G.count graph.now) flips start top (mark_of base.now.entries)
-        rows.old.entries gone.old.items (waiting level now.now levels.old.entries) level before steps.old
-        → IsCutting (Linked (G.count graph.now) (G.link graph.now)) (G.terminal graph.now) (G.count graph.now) flips start top (mark_of base.now.entries)
-        rows.new.entries gone.new.items (waiting level [] levels.new.entries) level before steps.new) }
+        → IsBeforeCut (Linked (G.count graph.now) (G.link graph.now)) (G.terminal graph.now) flips
+        start top (mark_of base.now.entries)
+        → IsCutting (Linked (G.count graph.now) (G.link graph.now)) (G.terminal graph.now)
+        (G.count graph.now) flips start top (mark_of base.now.entries)
+        rows.old.entries gone.old.items (waiting level now.now levels.old.entries) level before
+        steps.old
+        → IsCutting (Linked (G.count graph.now) (G.link graph.now)) (G.terminal graph.now)
+        (G.count graph.now) flips start top (mark_of base.now.entries)
+        rows.new.entries gone.new.items (waiting level [] levels.new.entries) level before
+        steps.new) }
     ensures spent { (flips : List Flip) (start before : ℕ)
-        → IsBeforeCut (Linked (G.count graph.now) (G.link graph.now)) (G.terminal graph.now) flips start top (mark_of base.now.entries)
-        → IsCutting (Linked (G.count graph.now) (G.link graph.now)) (G.terminal graph.now) (G.count graph.now) flips start top (mark_of base.now.entries)
-        rows.old.entries gone.old.items (waiting level now.now levels.old.entries) level before steps.old
-        → IsWithin (G.count graph.now) (NearOneWay flips false (WithRemoved (Linked (G.count graph.now) (G.link graph.now)) flips) (Linked (G.count graph.now) (G.link graph.now)) (G.terminal graph.now) start top)
+        → IsBeforeCut (Linked (G.count graph.now) (G.link graph.now)) (G.terminal graph.now) flips
+        start top (mark_of base.now.entries)
+        → IsCutting (Linked (G.count graph.now) (G.link graph.now)) (G.terminal graph.now)
+        (G.count graph.now) flips start top (mark_of base.now.entries)
+        rows.old.entries gone.old.items (waiting level now.now levels.old.entries) level before
+        steps.old
+        → IsWithin (G.count graph.now) (NearOneWay flips false
+        (WithRemoved (Linked (G.count graph.now) (G.link graph.now)) flips)
+        (Linked (G.count graph.now) (G.link graph.now)) (G.terminal graph.now) start top)
         2 before steps.new }
 {
     for number in now {
@@ -167,14 +189,21 @@ pub(crate) fn lose<G: LinkSource, L: Ledger>(
 ) -> Result<Vec<u64>, NoMemory>
     requires { rows.old.entries ≡ [] }
     ensures keeps { IfOk result (λ gone. (flips : List Flip) (start : ℕ)
-        → IsBeforeCut (Linked (G.count graph.now) (G.link graph.now)) (G.terminal graph.now) flips start top (mark_of base.now.entries)
-        → SeedsAlong flips false (MayHold (G.terminal graph.now) top (mark_of base.now.entries)) seeds.items
-        → (level : ℕ) × IsCutting (Linked (G.count graph.now) (G.link graph.now)) (G.terminal graph.now) (G.count graph.now) flips start top (mark_of base.now.entries)
+        → IsBeforeCut (Linked (G.count graph.now) (G.link graph.now)) (G.terminal graph.now) flips
+        start top (mark_of base.now.entries)
+        → SeedsAlong flips false (MayHold (G.terminal graph.now) top (mark_of base.now.entries))
+        seeds.items
+        → (level : ℕ) × IsCutting (Linked (G.count graph.now) (G.link graph.now))
+        (G.terminal graph.now) (G.count graph.now) flips start top (mark_of base.now.entries)
         rows.new.entries gone.items (λ _ _. ⊥) level steps.old steps.new) }
     ensures spent { (flips : List Flip) (start : ℕ)
-        → IsBeforeCut (Linked (G.count graph.now) (G.link graph.now)) (G.terminal graph.now) flips start top (mark_of base.now.entries)
-        → SeedsAlong flips false (MayHold (G.terminal graph.now) top (mark_of base.now.entries)) seeds.items
-        → IsWithin (G.count graph.now) (NearOneWay flips false (WithRemoved (Linked (G.count graph.now) (G.link graph.now)) flips) (Linked (G.count graph.now) (G.link graph.now)) (G.terminal graph.now) start top)
+        → IsBeforeCut (Linked (G.count graph.now) (G.link graph.now)) (G.terminal graph.now) flips
+        start top (mark_of base.now.entries)
+        → SeedsAlong flips false (MayHold (G.terminal graph.now) top (mark_of base.now.entries))
+        seeds.items
+        → IsWithin (G.count graph.now) (NearOneWay flips false
+        (WithRemoved (Linked (G.count graph.now) (G.link graph.now)) flips)
+        (Linked (G.count graph.now) (G.link graph.now)) (G.terminal graph.now) start top)
         2 steps.old steps.new }
 {
     let mut gone = Vec::new(alloc);

@@ -20,8 +20,10 @@ pub(crate) struct Mid<'a, G> {
 
 /// The pairs of ends of the added links, both ways round.
 pub(crate) fn added_pairs(alloc: Global, flips: &[Flip]) -> Result<HashSet<(u64, u64)>, NoMemory>
-    ensures only { IfOk result (λ pairs. (v w : ℕ) → hides pairs v w ≡ true → IsFlipped flips.now true v w) }
-    ensures each { IfOk result (λ pairs. (v w : ℕ) → IsFlipped flips.now true v w → hides pairs v w ≡ true) }
+    ensures only { IfOk result (λ pairs. (v w : ℕ) → hides pairs v w ≡ true
+        → IsFlipped flips.now true v w) }
+    ensures each { IfOk result (λ pairs. (v w : ℕ) → IsFlipped flips.now true v w
+        → hides pairs v w ≡ true) }
 {
     let mut pairs = HashSet::new(alloc);
     for flip in flips {

@@ -92,8 +92,12 @@ pub(crate) fn differing(
     base: &IndexMap<u64, Option<u32>>,
     rows: &IndexMap<u64, Option<u32>>,
 ) -> Result<IndexMap<u64, Option<u32>>, NoMemory>
-    ensures only { IfOk result (λ changed. (v : ℕ) (r : Option ℕ) → row_of changed.entries v ≡ Some r → (row_of rows.now.entries v ≡ Some r) × (r ≢ mark_of base.now.entries v)) }
-    ensures each { IfOk result (λ changed. (v : ℕ) (r : Option ℕ) → row_of rows.now.entries v ≡ Some r → r ≢ mark_of base.now.entries v → row_of changed.entries v ≡ Some r) }
+    ensures only { IfOk result (λ changed. (v : ℕ) (r : Option ℕ)
+        → row_of changed.entries v ≡ Some r → (row_of rows.now.entries v ≡ Some r)
+        × (r ≢ mark_of base.now.entries v)) }
+    ensures each { IfOk result (λ changed. (v : ℕ) (r : Option ℕ)
+        → row_of rows.now.entries v ≡ Some r → r ≢ mark_of base.now.entries v
+        → row_of changed.entries v ≡ Some r) }
 {
     let mut changed = IndexMap::new(alloc);
     for i in 0..rows.len() {

@@ -44,11 +44,15 @@ pub fn build<G: LinkSource, L: Ledger>(
 ) -> Result<Region, NoMemory>
     ensures start { IfOk result (λ region. region.start ≡ start) }
     ensures max_depth { IfOk result (λ region. region.max_depth ≡ max_depth) }
-    ensures depths { IfOk result (λ region. AreDepths (Linked (G.count graph.now) (G.link graph.now)) (G.terminal graph.now) start max_depth (mark_of region.marks.entries)) }
+    ensures depths { IfOk result (λ region. AreDepths
+        (Linked (G.count graph.now) (G.link graph.now)) (G.terminal graph.now) start max_depth
+        (mark_of region.marks.entries)) }
     ensures rows { IfOk result (λ region. AllMarked region.marks.entries) }
 
     // Also where memory runs out.
-    ensures steps { IsWithin (G.count graph.now) (IsReached (Linked (G.count graph.now) (G.link graph.now)) (G.terminal graph.now) start max_depth) 1 steps.old steps.new }
+    ensures steps { IsWithin (G.count graph.now) (IsReached
+        (Linked (G.count graph.now) (G.link graph.now)) (G.terminal graph.now) start max_depth) 1
+        steps.old steps.new }
 {
     let unmarked = IndexMap::new(alloc);
     let mut marks = IndexMap::new(alloc);
@@ -76,9 +80,11 @@ impl Region {
     pub fn reserve(&mut self, patch: &Patch) -> Result<(), NoMemory>
         ensures start { self.new.start ≡ self.old.start }
         ensures max_depth { self.new.max_depth ≡ self.old.max_depth }
-        ensures marks { (v : ℕ) → mark_of self.new.marks.entries v ≡ mark_of self.old.marks.entries v }
+        ensures marks { (v : ℕ)
+            → mark_of self.new.marks.entries v ≡ mark_of self.old.marks.entries v }
         ensures room { OnOk result (HasRoom patch.now self.new.marks.entries) }
-        ensures only { OnOk result (OnlyRoom patch.now self.old.marks.entries self.new.marks.entries) }
+        ensures only { OnOk result (OnlyRoom patch.now self.old.marks.entries
+            self.new.marks.entries) }
         ensures err { OnErr result (self.new.marks.entries ≡ self.old.marks.entries) }
     {
         make_room(&mut self.marks, &patch.rows)
@@ -90,9 +96,12 @@ impl Region {
         requires { HasRoom patch self.old.marks.entries }
         ensures start { self.new.start ≡ self.old.start }
         ensures max_depth { self.new.max_depth ≡ self.old.max_depth }
-        ensures marks { (v : ℕ) → mark_of self.new.marks.entries v ≡ over patch (mark_of self.old.marks.entries) v }
-        ensures swept { (v : ℕ) → IsSome (row_of patch v) → row_of self.new.marks.entries v ≡ Some None → ⊥ }
-        ensures others { (v : ℕ) → row_of patch v ≡ None → is_some (row_of self.new.marks.entries v) ≡ is_some (row_of self.old.marks.entries v) }
+        ensures marks { (v : ℕ)
+            → mark_of self.new.marks.entries v ≡ over patch (mark_of self.old.marks.entries) v }
+        ensures swept { (v : ℕ) → IsSome (row_of patch v)
+            → row_of self.new.marks.entries v ≡ Some None → ⊥ }
+        ensures others { (v : ℕ) → row_of patch v ≡ None
+            → is_some (row_of self.new.marks.entries v) ≡ is_some (row_of self.old.marks.entries v) }
     {
         let undo = self.commit_kept(patch);
         self.settle(undo);
@@ -124,8 +133,12 @@ impl Region {
         ensures room { HasRoom result self.new.marks.entries }
 
         // Where the marks are those that `commit_kept` left, they are again those before it.
-        ensures back { (patch before : List (ℕ × Option ℕ)) → IsWayBack undo patch before self.old.marks.entries → (v : ℕ) → mark_of self.new.marks.entries v ≡ mark_of before v }
-        ensures patch { (patch before : List (ℕ × Option ℕ)) → IsWayBack undo patch before self.old.marks.entries → (v : ℕ) → row_of result v ≡ row_of patch v }
+        ensures back { (patch before : List (ℕ × Option ℕ))
+            → IsWayBack undo patch before self.old.marks.entries → (v : ℕ)
+            → mark_of self.new.marks.entries v ≡ mark_of before v }
+        ensures patch { (patch before : List (ℕ × Option ℕ))
+            → IsWayBack undo patch before self.old.marks.entries → (v : ℕ)
+            → row_of result v ≡ row_of patch v }
     {
         let mut rows = undo.rows;
         exchange(&mut self.marks, &mut rows);
@@ -137,7 +150,8 @@ impl Region {
     pub fn settle(&mut self, undo: RegionUndo)
         ensures start { self.new.start ≡ self.old.start }
         ensures max_depth { self.new.max_depth ≡ self.old.max_depth }
-        ensures marks { (v : ℕ) → mark_of self.new.marks.entries v ≡ mark_of self.old.marks.entries v }
+        ensures marks { (v : ℕ)
+            → mark_of self.new.marks.entries v ≡ mark_of self.old.marks.entries v }
         ensures rows { Sweeps undo self.old.marks.entries self.new.marks.entries }
     {
         sweep(&mut self.marks, &undo.rows);
@@ -148,7 +162,8 @@ impl Region {
     pub fn forget(&mut self, patch: Patch)
         ensures start { self.new.start ≡ self.old.start }
         ensures max_depth { self.new.max_depth ≡ self.old.max_depth }
-        ensures marks { (v : ℕ) → mark_of self.new.marks.entries v ≡ mark_of self.old.marks.entries v }
+        ensures marks { (v : ℕ)
+            → mark_of self.new.marks.entries v ≡ mark_of self.old.marks.entries v }
         ensures rows { Sweeps patch self.old.marks.entries self.new.marks.entries }
     {
         sweep(&mut self.marks, &patch.rows);

@@ -34,17 +34,26 @@ pub fn repair<G: LinkSource, L: Ledger>(
     steps: &mut Steps<L>,
 ) -> Result<Patch, NoMemory>
     requires symmetric { IsSymmetric (Linked (G.count graph.now) (G.link graph.now)) }
-    requires added { (v w : ℕ) → IsFlipped flips.now true v w → Linked (G.count graph.now) (G.link graph.now) v w }
+    requires added { (v w : ℕ) → IsFlipped flips.now true v w
+        → Linked (G.count graph.now) (G.link graph.now) v w }
     ensures depths { IfOk result (λ patch.
-        AreDepths (Old (Linked (G.count graph.now) (G.link graph.now)) flips.now) (G.terminal graph.now) region.now.start region.now.max_depth (mark_of region.now.marks.entries)
-        → AreDepths (Linked (G.count graph.now) (G.link graph.now)) (G.terminal graph.now) region.now.start region.now.max_depth (over patch (mark_of region.now.marks.entries))) }
+        AreDepths (Old (Linked (G.count graph.now) (G.link graph.now)) flips.now)
+        (G.terminal graph.now) region.now.start region.now.max_depth
+        (mark_of region.now.marks.entries)
+        → AreDepths (Linked (G.count graph.now) (G.link graph.now)) (G.terminal graph.now)
+        region.now.start region.now.max_depth (over patch (mark_of region.now.marks.entries))) }
 
     // The patch has only marks that come, go or change.
-    ensures changes { IfOk result (λ patch. (v : ℕ) (r : Option ℕ) → row_of patch v ≡ Some r → r ≢ mark_of region.now.marks.entries v) }
+    ensures changes { IfOk result (λ patch. (v : ℕ) (r : Option ℕ) → row_of patch v ≡ Some r
+        → r ≢ mark_of region.now.marks.entries v) }
 
     // Also where memory runs out.
-    ensures steps { AreDepths (Old (Linked (G.count graph.now) (G.link graph.now)) flips.now) (G.terminal graph.now) region.now.start region.now.max_depth (mark_of region.now.marks.entries)
-        → IsWithin (λ v. 1 + G.count graph.now v) (NearFlips (Linked (G.count graph.now) (G.link graph.now)) flips.now (G.terminal graph.now) region.now.start region.now.max_depth)
+    ensures steps { AreDepths (Old (Linked (G.count graph.now) (G.link graph.now)) flips.now)
+        (G.terminal graph.now) region.now.start region.now.max_depth
+        (mark_of region.now.marks.entries)
+        → IsWithin (λ v. 1 + G.count graph.now v) (NearFlips
+        (Linked (G.count graph.now) (G.link graph.now)) flips.now (G.terminal graph.now)
+        region.now.start region.now.max_depth)
         5 steps.old steps.new }
 {
     let top = region.max_depth;

@@ -36,7 +36,8 @@ pub(crate) fn put(
     number: u64,
     mark: Option<u32>,
 ) -> Result<(), NoMemory>
-    ensures put { OnOk result ((q : ℕ) → row_of rows.new.entries q ≡ update nat_eq (row_of rows.old.entries) number (Some mark) q) }
+    ensures put { OnOk result ((q : ℕ)
+        → row_of rows.new.entries q ≡ update nat_eq (row_of rows.old.entries) number (Some mark) q) }
     ensures err { OnErr result (rows.new.entries ≡ rows.old.entries) }
 {
     rows.insert(number, mark)?;

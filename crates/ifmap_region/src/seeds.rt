@@ -18,8 +18,11 @@ pub(crate) fn next_of<G: LinkSource>(
     graph: &G,
     number: u64,
 ) -> Option<u32>
-    ensures only { IfSome result (λ k. IsNext (G.terminal graph.now) top (over rows.now.entries (mark_of base.now.entries)) number k) }
-    ensures each { (k : ℕ) → IsNext (G.terminal graph.now) top (over rows.now.entries (mark_of base.now.entries)) number k → result ≡ Some k }
+    ensures only { IfSome result (λ k. IsNext (G.terminal graph.now) top
+        (over rows.now.entries (mark_of base.now.entries)) number k) }
+    ensures each { (k : ℕ)
+        → IsNext (G.terminal graph.now) top (over rows.now.entries (mark_of base.now.entries))
+        number k → result ≡ Some k }
 {
     match mark(base, rows, number) {
         Some(known) => {
@@ -42,8 +45,11 @@ fn held_at<G: LinkSource>(
     from: u64,
     to: u64,
 ) -> Option<u32>
-    ensures only { IfSome result (λ k. MayHold (G.terminal graph.now) top (over rows.now.entries (mark_of base.now.entries)) from to k) }
-    ensures each { (k : ℕ) → MayHold (G.terminal graph.now) top (over rows.now.entries (mark_of base.now.entries)) from to k → result ≡ Some k }
+    ensures only { IfSome result (λ k. MayHold (G.terminal graph.now) top
+        (over rows.now.entries (mark_of base.now.entries)) from to k) }
+    ensures each { (k : ℕ)
+        → MayHold (G.terminal graph.now) top (over rows.now.entries (mark_of base.now.entries)) from
+        to k → result ≡ Some k }
 {
     match next_of(base, rows, top, graph, from) {
         Some(level) => {
@@ -66,8 +72,11 @@ fn lowered_to<G: LinkSource>(
     from: u64,
     to: u64,
 ) -> Option<u32>
-    ensures only { IfSome result (λ k. Lowers (G.terminal graph.now) top (over rows.now.entries (mark_of base.now.entries)) from to k) }
-    ensures each { (k : ℕ) → Lowers (G.terminal graph.now) top (over rows.now.entries (mark_of base.now.entries)) from to k → result ≡ Some k }
+    ensures only { IfSome result (λ k. Lowers (G.terminal graph.now) top
+        (over rows.now.entries (mark_of base.now.entries)) from to k) }
+    ensures each { (k : ℕ)
+        → Lowers (G.terminal graph.now) top (over rows.now.entries (mark_of base.now.entries)) from
+        to k → result ≡ Some k }
 {
     match next_of(base, rows, top, graph, from) {
         Some(level) => {
@@ -87,7 +96,8 @@ pub(crate) fn offer(
     level: Option<u32>,
     number: u64,
 ) -> Result<(), NoMemory>
-    ensures { OnOk result (MatchOption level (seeds.new.items ≡ seeds.old.items) (λ k. seeds.new.items ≡ seeds.old.items ++ (k, number) ∷ [])) }
+    ensures { OnOk result (MatchOption level (seeds.new.items ≡ seeds.old.items)
+        (λ k. seeds.new.items ≡ seeds.old.items ++ (k, number) ∷ [])) }
 {
     if let Some(level) = level {
         seeds.push((level, number))?;
@@ -104,7 +114,9 @@ pub(crate) fn held_seeds<G: LinkSource>(
     graph: &G,
     flips: &[Flip],
 ) -> Result<Vec<(u32, u64)>, NoMemory>
-    ensures { IfOk result (λ seeds. SeedsAlong flips.now false (MayHold (G.terminal graph.now) top (over rows.now.entries (mark_of base.now.entries))) seeds.items) }
+    ensures { IfOk result (λ seeds. SeedsAlong flips.now false
+        (MayHold (G.terminal graph.now) top (over rows.now.entries (mark_of base.now.entries)))
+        seeds.items) }
 {
     let mut seeds = Vec::new(alloc);
     for flip in flips {
@@ -127,7 +139,9 @@ pub(crate) fn lowered_seeds<G: LinkSource>(
     graph: &G,
     flips: &[Flip],
 ) -> Result<Vec<(u32, u64)>, NoMemory>
-    ensures { IfOk result (λ seeds. SeedsAlong flips.now true (Lowers (G.terminal graph.now) top (over rows.now.entries (mark_of base.now.entries))) seeds.items) }
+    ensures { IfOk result (λ seeds. SeedsAlong flips.now true
+        (Lowers (G.terminal graph.now) top (over rows.now.entries (mark_of base.now.entries)))
+        seeds.items) }
 {
     let mut seeds = Vec::new(alloc);
     for flip in flips {

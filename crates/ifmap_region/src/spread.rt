@@ -26,7 +26,9 @@ fn offer_neighbours<G: LinkSource, L: Ledger>(
 ) -> Result<(), NoMemory>
     requires { levels.old.floor ≡ next }
     ensures floor { levels.new.floor ≡ next }
-    ensures offers { OnOk result (Offers (G.link graph.now number) (G.count graph.now number) (over rows.now.entries (mark_of base.now.entries)) next levels.old.entries levels.new.entries) }
+    ensures offers { OnOk result (Offers (G.link graph.now number) (G.count graph.now number)
+        (over rows.now.entries (mark_of base.now.entries)) next levels.old.entries
+        levels.new.entries) }
     ensures steps { steps.new ≤ steps.old + G.count graph.now number }
 {
     for i in 0..graph.count(number) {
@@ -54,12 +56,22 @@ fn visit<G: LinkSource, L: Ledger>(
     ensures floor { levels.new.floor ≡ level + 1 }
     ensures rows { AddsMarks rows.old.entries rows.new.entries }
     ensures ready { OnOk result ((start : ℕ) (rest : List ℕ)
-        → IsReady (Linked (G.count graph.now) (G.link graph.now)) (G.terminal graph.now) start top (over rows.old.entries (mark_of base.now.entries)) (waiting level (number ∷ rest) levels.old.entries)
-        → IsReady (Linked (G.count graph.now) (G.link graph.now)) (G.terminal graph.now) start top (over rows.new.entries (mark_of base.now.entries)) (waiting level rest levels.new.entries)) }
+        → IsReady (Linked (G.count graph.now) (G.link graph.now)) (G.terminal graph.now) start top
+        (over rows.old.entries (mark_of base.now.entries))
+        (waiting level (number ∷ rest) levels.old.entries)
+        → IsReady (Linked (G.count graph.now) (G.link graph.now)) (G.terminal graph.now) start top
+        (over rows.new.entries (mark_of base.now.entries))
+        (waiting level rest levels.new.entries)) }
     ensures charged { (start before : ℕ) (rest : List ℕ) (first : ℕ → Option ℕ)
-        → IsReady (Linked (G.count graph.now) (G.link graph.now)) (G.terminal graph.now) start top (over rows.old.entries (mark_of base.now.entries)) (waiting level (number ∷ rest) levels.old.entries)
-        → IsCharged (Linked (G.count graph.now) (G.link graph.now)) (G.terminal graph.now) start top (G.count graph.now) first (over rows.old.entries (mark_of base.now.entries)) level before steps.old
-        → IsCharged (Linked (G.count graph.now) (G.link graph.now)) (G.terminal graph.now) start top (G.count graph.now) first (over rows.new.entries (mark_of base.now.entries)) level before steps.new }
+        → IsReady (Linked (G.count graph.now) (G.link graph.now)) (G.terminal graph.now) start top
+        (over rows.old.entries (mark_of base.now.entries))
+        (waiting level (number ∷ rest) levels.old.entries)
+        → IsCharged (Linked (G.count graph.now) (G.link graph.now)) (G.terminal graph.now) start top
+        (G.count graph.now) first (over rows.old.entries (mark_of base.now.entries)) level
+        before steps.old
+        → IsCharged (Linked (G.count graph.now) (G.link graph.now)) (G.terminal graph.now) start top
+        (G.count graph.now) first (over rows.new.entries (mark_of base.now.entries)) level
+        before steps.new }
 {
     if is_within(mark(base, rows, number), level) {
         return Ok(());
@@ -86,12 +98,22 @@ fn visit_level<G: LinkSource, L: Ledger>(
     ensures floor { levels.new.floor ≡ level + 1 }
     ensures rows { AddsMarks rows.old.entries rows.new.entries }
     ensures ready { OnOk result ((start : ℕ)
-        → IsReady (Linked (G.count graph.now) (G.link graph.now)) (G.terminal graph.now) start top (over rows.old.entries (mark_of base.now.entries)) (waiting level now.now levels.old.entries)
-        → IsReady (Linked (G.count graph.now) (G.link graph.now)) (G.terminal graph.now) start top (over rows.new.entries (mark_of base.now.entries)) (waiting level [] levels.new.entries)) }
+        → IsReady (Linked (G.count graph.now) (G.link graph.now)) (G.terminal graph.now) start top
+        (over rows.old.entries (mark_of base.now.entries))
+        (waiting level now.now levels.old.entries)
+        → IsReady (Linked (G.count graph.now) (G.link graph.now)) (G.terminal graph.now) start top
+        (over rows.new.entries (mark_of base.now.entries))
+        (waiting level [] levels.new.entries)) }
     ensures charged { (start before : ℕ) (first : ℕ → Option ℕ)
-        → IsReady (Linked (G.count graph.now) (G.link graph.now)) (G.terminal graph.now) start top (over rows.old.entries (mark_of base.now.entries)) (waiting level now.now levels.old.entries)
-        → IsCharged (Linked (G.count graph.now) (G.link graph.now)) (G.terminal graph.now) start top (G.count graph.now) first (over rows.old.entries (mark_of base.now.entries)) level before steps.old
-        → IsCharged (Linked (G.count graph.now) (G.link graph.now)) (G.terminal graph.now) start top (G.count graph.now) first (over rows.new.entries (mark_of base.now.entries)) level before steps.new }
+        → IsReady (Linked (G.count graph.now) (G.link graph.now)) (G.terminal graph.now) start top
+        (over rows.old.entries (mark_of base.now.entries))
+        (waiting level now.now levels.old.entries)
+        → IsCharged (Linked (G.count graph.now) (G.link graph.now)) (G.terminal graph.now) start top
+        (G.count graph.now) first (over rows.old.entries (mark_of base.now.entries)) level
+        before steps.old
+        → IsCharged (Linked (G.count graph.now) (G.link graph.now)) (G.terminal graph.now) start top
+        (G.count graph.now) first (over rows.new.entries (mark_of base.now.entries)) level
+        before steps.new }
 {
     for number in now {
         visit(base, rows, top, graph, level, *number, levels, steps)?;
@@ -114,11 +136,16 @@ pub(crate) fn spread<G: LinkSource, L: Ledger>(
 ) -> Result<(), NoMemory>
     ensures rows { AddsMarks rows.old.entries rows.new.entries }
     ensures depths { OnOk result ((start : ℕ)
-        → IsReady (Linked (G.count graph.now) (G.link graph.now)) (G.terminal graph.now) start top (over rows.old.entries (mark_of base.now.entries)) (λ k v. Contains seeds.items (k, v))
-        → AreDepths (Linked (G.count graph.now) (G.link graph.now)) (G.terminal graph.now) start top (over rows.new.entries (mark_of base.now.entries))) }
+        → IsReady (Linked (G.count graph.now) (G.link graph.now)) (G.terminal graph.now) start top
+        (over rows.old.entries (mark_of base.now.entries)) (λ k v. Contains seeds.items (k, v))
+        → AreDepths (Linked (G.count graph.now) (G.link graph.now)) (G.terminal graph.now) start top
+        (over rows.new.entries (mark_of base.now.entries))) }
     ensures charged { (start : ℕ)
-        → IsReady (Linked (G.count graph.now) (G.link graph.now)) (G.terminal graph.now) start top (over rows.old.entries (mark_of base.now.entries)) (λ k v. Contains seeds.items (k, v))
-        → IsWithin (G.count graph.now) (Improves (Linked (G.count graph.now) (G.link graph.now)) (G.terminal graph.now) start top (over rows.old.entries (mark_of base.now.entries))) 1 steps.old steps.new }
+        → IsReady (Linked (G.count graph.now) (G.link graph.now)) (G.terminal graph.now) start top
+        (over rows.old.entries (mark_of base.now.entries)) (λ k v. Contains seeds.items (k, v))
+        → IsWithin (G.count graph.now) (Improves (Linked (G.count graph.now) (G.link graph.now))
+        (G.terminal graph.now) start top (over rows.old.entries (mark_of base.now.entries))) 1
+        steps.old steps.new }
 {
     let mut levels = Levels::from_seeds(alloc, seeds);
     while let Some((level, now)) = levels.next_level(alloc)? {

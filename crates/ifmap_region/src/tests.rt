@@ -1,12 +1,14 @@
 //! Small graphs, whose depths a plain breadth-first search gives.
-ghost use Rattle.std.specs.Prelude.{◌≡◌, ℕ, ◌<◌, true, nat_le, vec_len};
+ghost use Rattle.std.specs.Prelude.{◌≡◌, ℕ, ◌<◌, true, false, nat_le, vec_len};
 ghost use Rattle.ifmap_region.specs.Flips.{IsFlipped};
+ghost use Rattle.ifmap_region.specs.Grid.{beside, is_corner, grid_link};
 ghost use Rattle.ifmap_region.specs.Links.{Linked};
 ghost use Rattle.ifmap_region.specs.Pairs.{far_end_of, far_end_at};
 
 use super::*;
 use ifmap_steps::Steps;
 use std::alloc::{AllocError as NoMemory, Global};
+use std::cell::Cell;
 use std::marker::Brand;
 use std::sync::ledger::{Blank, Ledger};
 use std::test::Fail;
@@ -55,7 +57,8 @@ impl LinkSource for Pairs {
 }
 
 fn has_link(graph: &Pairs, a: u64, b: u64) -> bool
-    ensures { result ≡ true → Linked (λ _. vec_len graph.now.links) (far_end_at graph.now.links.items) a b }
+    ensures { result ≡ true
+        → Linked (λ _. vec_len graph.now.links) (far_end_at graph.now.links.items) a b }
 {
     for i in 0..graph.links.len() {
         if let Some(other) = far_end(graph.links[i], a) {
@@ -69,7 +72,8 @@ fn has_link(graph: &Pairs, a: u64, b: u64) -> bool
 
 /// Whether each added flip is a link.
 fn added_are_links(graph: &Pairs, flips: &[Flip]) -> bool
-    ensures { result ≡ true → (v w : ℕ) → IsFlipped flips.now true v w → Linked (λ _. vec_len graph.now.links) (far_end_at graph.now.links.items) v w }
+    ensures { result ≡ true → (v w : ℕ) → IsFlipped flips.now true v w
+        → Linked (λ _. vec_len graph.now.links) (far_end_at graph.now.links.items) v w }
 {
     for flip in flips {
         if flip.added {
@@ -166,7 +170,9 @@ fn holds(alloc: Global, case: &Case) -> Result<bool, NoMemory> {
     run::<Brand>(alloc, case, Blank::new(1))
 }
 
-fn removed(a: u64, b: u64) -> Flip {
+fn removed(a: u64, b: u64) -> Flip
+    ensures { result.added ≡ false }
+{
     Flip { a, b, added: false }
 }
 
@@ -254,5 +260,139 @@ fn two_hundred_small_graphs_agree_with_a_plain_search(rt: HostRuntime) -> Result
         let case = drawn(alloc, seed)?;
         assert!(rt; holds(alloc, &case)?, "at {seed}");
     }
+    Ok(())
+}
+
+/// A grid of a hundred by a hundred numbers, 128 times the row and the column, which counts its
+/// answers. Where `cut` holds, the first link of the corner is not there.
+#[derive(Drop)]
+struct Grid {
+    cut: bool,
+    answers: Cell<u64>,
+}
+
+fn beside_at(number: u64, i: u64) -> Option<u64>
+    ensures { result ≡ beside number i }
+{
+    match i {
+        0 => {
+            if number % 128 < 99 {
+                number.checked_add(1)
+            } else {
+                None
+            }
+        }
+        1 => {
+            if 0 < number % 128 && number % 128 < 100 {
+                Some(number - 1)
+            } else {
+                None
+            }
+        }
+        2 => {
+            if number / 128 < 99 {
+                Some(number + 128)
+            } else {
+                None
+            }
+        }
+        _ => {
+            if 127 < number && number < 12800 {
+                Some(number - 128)
+            } else {
+                None
+            }
+        }
+    }
+}
+
+fn is_first_link(a: u64, b: u64) -> bool
+    ensures { result ≡ is_corner a b }
+{
+    (a == 0 && b == 1) || (a == 1 && b == 0)
+}
+
+impl LinkSource for Grid {
+    ghost count = { λ _ _. 4 };
+
+    ghost link = { λ grid number i. grid_link grid.cut number i };
+
+    ghost terminal = { λ _ _. false };
+
+    fn count(&self, _number: u64) -> u64 {
+        4
+    }
+
+    fn at<L: Ledger>(&self, number: u64, i: u64, steps: &mut Steps<L>) -> Option<u64> {
+        steps.tick();
+        self.answers.set(self.answers.get().wrapping_add(1));
+        match beside_at(number, i) {
+            Some(other) => {
+                if self.cut && is_first_link(number, other) {
+                    None
+                } else {
+                    Some(other)
+                }
+            }
+            None => None,
+        }
+    }
+
+    fn is_terminal(&self, _number: u64) -> bool {
+        false
+    }
+}
+
+/// How many marks of the grid are not the row and the column together, the first row excepted,
+/// where it is two more from the column 1 on.
+fn wrong_marks(region: &Region) -> u64 {
+    let mut wrong = 0u64;
+    for y in 0u32..100 {
+        for x in 0u32..100 {
+            let detour = if y == 0 && 0 < x { 2 } else { 0 };
+            if region.mark(u64::from(y) * 128 + u64::from(x)) != Some(x + y + detour) {
+                wrong = wrong.wrapping_add(1);
+            }
+        }
+    }
+    wrong
+}
+
+/// The answers that building took, those that the repair took, and the marks that are wrong then.
+fn cut_corner<L: Ledger>(alloc: Global, blank: Blank) -> Result<(u64, u64, u64), NoMemory>
+    requires name { blank.name ≡ L.name }
+    requires parts { blank.parts ≡ L.parts }
+    requires some { 0 < blank.parts }
+{
+    let mut steps: Steps<L> = Steps::from_blank(blank);
+    let whole = Grid {
+        cut: false,
+        answers: Cell::new(0),
+    };
+    let mut region = build(alloc, 0, 1000, &whole, &mut steps)?;
+    let cut = Grid {
+        cut: true,
+        answers: Cell::new(0),
+    };
+    let first = removed(0, 1);
+    let patch = repair(alloc, &region, &cut, &[first], &mut steps)?;
+    region.reserve(&patch)?;
+    region.commit(patch);
+    Ok((whole.answers.get(), cut.answers.get(), wrong_marks(&region)))
+}
+
+fn corner_cut(alloc: Global) -> Result<(u64, u64, u64), NoMemory> {
+    cut_corner::<Brand>(alloc, Blank::new(1))
+}
+
+// The first row is touched, and the second is beside it: two hundred numbers of four links each.
+#[test]
+fn a_cut_corner_of_a_grid_takes_steps_near_it_alone(rt: HostRuntime) -> Result<(), Fail> {
+    let (built, repaired, wrong) = corner_cut(rt.alloc())?;
+    let bound = 5 * 200 * (1 + 4);
+    println!(rt; "built in {built} steps, repaired in {repaired}, of at most {bound}")?;
+    assert_eq!(rt; wrong, 0);
+    assert_eq!(rt; built, 40000);
+    assert!(rt; repaired <= bound, "{repaired}");
     Ok(())
 }

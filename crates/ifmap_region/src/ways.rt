@@ -12,7 +12,8 @@ use std::alloc::AllocError as NoMemory;
 /// Puts a row in where there is room for one, or the number has one. It takes no memory.
 fn put_within(rows: &mut IndexMap<u64, Option<u32>>, number: u64, mark: Option<u32>)
     requires { (0 < spare rows.old) ⊎ IsSome (row_of rows.old.entries number) }
-    ensures put { (q : ℕ) → row_of rows.new.entries q ≡ update nat_eq (row_of rows.old.entries) number (Some mark) q }
+    ensures put { (q : ℕ)
+        → row_of rows.new.entries q ≡ update nat_eq (row_of rows.old.entries) number (Some mark) q }
     ensures entries { rows.new.entries ≡ insert_entry nat_eq rows.old.entries number mark }
     ensures spare { spare rows.old ≤ spare rows.new + 1 }
 {
