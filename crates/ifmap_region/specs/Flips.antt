@@ -1,0 +1,27 @@
+-- Flips: links that two graphs do not share.
+use Rattle.std.specs.Prelude.{◌≡◌, ℕ, Bool, true, false, List, Contains, ◌⊎◌}
+use Rattle.ifmap_region.specs.declared.flips.Flip.{Flip}
+
+-- the flip joins two numbers, whichever end is `a`
+abbrev pub Joins : Flip → ℕ → ℕ → Type 0
+Joins flip v w = ((flip.a ≡ v) × (flip.b ≡ w)) ⊎ ((flip.a ≡ w) × (flip.b ≡ v))
+
+-- some flip of the kind, added or removed, joins two numbers
+abbrev pub IsFlipped : List Flip → Bool → ℕ → ℕ → Type 0
+IsFlipped flips added v w = (flip : Flip) × Contains flips flip × (flip.added ≡ added) × Joins flip v w
+
+-- some flip of the kind has the number as an end
+abbrev pub IsEnd : List Flip → Bool → ℕ → Type 0
+IsEnd flips added v = (w : ℕ) × IsFlipped flips added v w
+
+-- the links, and those that were removed
+abbrev pub WithRemoved : (ℕ → ℕ → Type 0) → List Flip → ℕ → ℕ → Type 0
+WithRemoved links flips v w = links v w ⊎ IsFlipped flips false v w
+
+-- the links that both graphs have: those of the new one but the added ones
+abbrev pub Mid : (ℕ → ℕ → Type 0) → List Flip → ℕ → ℕ → Type 0
+Mid new flips v w = new v w × ¬ IsFlipped flips true v w
+
+-- the links of the old graph: the new ones with the flips undone
+abbrev pub Old : (ℕ → ℕ → Type 0) → List Flip → ℕ → ℕ → Type 0
+Old new flips = WithRemoved (Mid new flips) flips

@@ -1,0 +1,23 @@
+-- Marks: the rows of a map from numbers to depths, where a row may stand without a mark.
+use Rattle.std.specs.Prelude.{◌≡◌, ℕ, Option, Some, None, List, nat_eq, unwrap_or}
+use Rattle.std.specs.Map.{lookup}
+
+-- the row of a number: none, or one that holds a mark or holds none
+abbrev pub row_of : List (ℕ × Option ℕ) → ℕ → Option (Option ℕ)
+row_of rows v = lookup (nat_eq v) rows
+
+-- the mark of a number, where its row holds one
+abbrev pub mark_of : List (ℕ × Option ℕ) → ℕ → Option ℕ
+mark_of rows v = unwrap_or (row_of rows v) None
+
+-- the marks of `rows` where they have a row, and those below elsewhere
+abbrev pub over : List (ℕ × Option ℕ) → (ℕ → Option ℕ) → ℕ → Option ℕ
+over rows below v = unwrap_or (row_of rows v) (below v)
+
+-- no row stands without a mark
+abbrev pub AllMarked : List (ℕ × Option ℕ) → Type 0
+AllMarked rows = (v : ℕ) → row_of rows v ≡ Some None → ⊥
+
+-- each row of the new ones that holds no mark stood like that before
+abbrev pub AddsMarks : List (ℕ × Option ℕ) → List (ℕ × Option ℕ) → Type 0
+AddsMarks old new = (v : ℕ) → row_of new v ≡ Some None → row_of old v ≡ Some None

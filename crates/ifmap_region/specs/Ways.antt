@@ -1,0 +1,37 @@
+-- Ways back: how rows of a region change when patches are made room for, made, taken back and swept.
+use Rattle.std.specs.Prelude.{◌≡◌, ℕ, Option, Some, None, List, map, is_some, IsSome, nat_eq, slice_get, ◌⊎◌}
+use Rattle.std.specs.Map.{update}
+use Rattle.indexmap.specs.IndexMap.{insert_entry}
+use Rattle.ifmap_region.specs.Marks.{row_of, mark_of, over}
+
+-- each number of the patch has a row
+abbrev pub HasRoom : List (ℕ × Option ℕ) → List (ℕ × Option ℕ) → Type 0
+HasRoom patch rows = (v : ℕ) → IsSome (row_of patch v) → IsSome (row_of rows v)
+
+-- numbers of the patch that had no row may have one without a mark; all other rows stay
+abbrev pub OnlyRoom : List (ℕ × Option ℕ) → List (ℕ × Option ℕ) → List (ℕ × Option ℕ) → Type 0
+OnlyRoom patch old new = (v : ℕ) → (row_of new v ≡ row_of old v) ⊎ ((row_of old v ≡ None) × (row_of new v ≡ Some None) × IsSome (row_of patch v))
+
+-- the marks of the patch are made, where it has a number, and all rows stay rows
+pub record Makes (patch old new : List (ℕ × Option ℕ)) : Type 0 where
+  pub marks : (v : ℕ) → mark_of new v ≡ over patch (mark_of old) v
+  pub rows : (v : ℕ) → is_some (row_of new v) ≡ is_some (row_of old v)
+
+-- the numbers of the patch, with the marks that were there
+abbrev pub taken_from : List (ℕ × Option ℕ) → List (ℕ × Option ℕ) → List (ℕ × Option ℕ)
+taken_from rows patch = map (λ e. (e.0, mark_of rows e.0)) patch
+
+-- the numbers of the patch have no row without a mark any more; all other rows stay
+pub record Sweeps (patch old new : List (ℕ × Option ℕ)) : Type 0 where
+  pub each : (v : ℕ) → (row_of new v ≡ row_of old v) ⊎ ((row_of old v ≡ Some None) × (row_of new v ≡ None) × IsSome (row_of patch v))
+  pub out : (v : ℕ) → IsSome (row_of patch v) → row_of old v ≡ Some None → row_of new v ≡ None
+
+-- the mark of the number at a place of the patch is exchanged with the one that the patch has there; past the patch's end nothing changes
+pub record Exchanges (i : ℕ) (old patch new back : List (ℕ × Option ℕ)) : Type 0 where
+  pub at : (n : ℕ) (r : Option ℕ) → slice_get patch i ≡ Some (n, r)
+      → ((q : ℕ) → row_of new q ≡ update nat_eq (row_of old) n (Some r) q) × (back ≡ insert_entry nat_eq patch n (mark_of old n))
+
+-- what a change gave as its way back, with the marks that it left
+pub record IsWayBack (undo patch before after : List (ℕ × Option ℕ)) : Type 0 where
+  pub taken : undo ≡ taken_from before patch
+  pub made : Makes patch before after

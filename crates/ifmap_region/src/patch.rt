@@ -1,0 +1,111 @@
+//! Changes of marks that wait to be made, and the ways back.
+ghost use Rattle.std.specs.Prelude.{◌≡◌, ◌≢◌, ℕ, Option, Some, true, false, ◌↔◌, IsTrue, IfOk, length, slice_get};
+ghost use Rattle.ifmap_region.specs.Marks.{mark_of, row_of};
+
+use crate::rows::{mark_in, put};
+use indexmap::IndexMap;
+use std::alloc::{AllocError as NoMemory, Global};
+use std::marker::Model;
+
+/// A change of the marks of a region: the new mark of each number whose mark comes or changes, and
+/// none for each number whose mark goes.
+#[derive(Drop)]
+pub struct Patch {
+    pub(crate) rows: IndexMap<u64, Option<u32>>,
+}
+
+impl Model for Patch {
+    ghost use Rattle.std.specs.Prelude.{ℕ, List, Option};
+
+    ghost Value = { List (ℕ × Option ℕ) };
+
+    ghost view = { λ p. p.rows.entries };
+}
+
+impl Patch {
+    /// How many numbers lose their mark or get another.
+    pub fn len(&self) -> usize
+        ensures { result ≡ length self.now }
+    {
+        self.rows.len()
+    }
+
+    /// Whether no mark changes.
+    pub fn is_empty(&self) -> bool
+        ensures { IsTrue result ↔ (length self.now ≡ 0) }
+    {
+        self.rows.len() == 0
+    }
+
+    /// The number at a place, with its new mark; `None` past the end.
+    pub fn at(&self, i: usize) -> Option<(u64, Option<u32>)>
+        ensures { result ≡ slice_get self.now i }
+    {
+        match self.rows.get_index(i) {
+            Some((number, row)) => Some((*number, *row)),
+            None => None,
+        }
+    }
+
+    /// The new mark of a number, where the patch has one for it.
+    pub fn row(&self, number: u64) -> Option<Option<u32>>
+        ensures { result ≡ row_of self.now number }
+    {
+        self.rows.get(&number).copied()
+    }
+}
+
+/// The way back of a change that was made: the marks that were there before.
+#[derive(Drop)]
+pub struct RegionUndo {
+    pub(crate) rows: IndexMap<u64, Option<u32>>,
+}
+
+impl Model for RegionUndo {
+    ghost use Rattle.std.specs.Prelude.{ℕ, List, Option};
+
+    ghost Value = { List (ℕ × Option ℕ) };
+
+    ghost view = { λ p. p.rows.entries };
+}
+
+/// Whether two marks are the same; having none is the same as having none.
+fn is_same(a: Option<u32>, b: Option<u32>) -> bool
+    ensures yes { result ≡ true → a ≡ b }
+    ensures no { result ≡ false → a ≡ b → ⊥ }
+{
+    match a {
+        Some(x) => match b {
+            Some(y) => x == y,
+            None => false,
+        },
+        None => match b {
+            Some(_) => false,
+            None => true,
+        },
+    }
+}
+
+/// The rows that differ from the marks below them.
+pub(crate) fn differing(
+    alloc: Global,
+    base: &IndexMap<u64, Option<u32>>,
+    rows: &IndexMap<u64, Option<u32>>,
+) -> Result<IndexMap<u64, Option<u32>>, NoMemory>
+    ensures only { IfOk result (λ changed. (v : ℕ) (r : Option ℕ)
+        → row_of changed.entries v ≡ Some r → (row_of rows.now.entries v ≡ Some r)
+        × (r ≢ mark_of base.now.entries v)) }
+    ensures each { IfOk result (λ changed. (v : ℕ) (r : Option ℕ)
+        → row_of rows.now.entries v ≡ Some r → r ≢ mark_of base.now.entries v
+        → row_of changed.entries v ≡ Some r) }
+{
+    let mut changed = IndexMap::new(alloc);
+    for i in 0..rows.len() {
+        if let Some((number, row)) = rows.get_index(i) {
+            if !is_same(*row, mark_in(base, *number)) {
+                put(&mut changed, *number, *row)?;
+            }
+        }
+    }
+    Ok(changed)
+}

@@ -1,0 +1,66 @@
+//! Marks are repaired after links came and went, at a cost that is bounded by what is near these.
+ghost use Rattle.std.specs.Prelude.{◌≡◌, ◌≢◌, ℕ, ◌+◌, Option, Some, true, IfOk};
+ghost use Rattle.ifmap_region.specs.Bounds.{IsWithin};
+ghost use Rattle.ifmap_region.specs.Flips.{IsFlipped, Old};
+ghost use Rattle.ifmap_region.specs.Links.{Linked, IsSymmetric};
+ghost use Rattle.ifmap_region.specs.Marks.{mark_of, row_of, over};
+ghost use Rattle.ifmap_region.specs.Near.{NearFlips};
+ghost use Rattle.ifmap_region.specs.Walks.{AreDepths};
+
+use crate::cut::cut;
+use crate::flips::Flip;
+use crate::grow::grow;
+use crate::link_source::LinkSource;
+use crate::mid::{Mid, added_pairs};
+use crate::patch::{Patch, differing};
+use crate::region::Region;
+use ifmap_steps::Steps;
+use std::alloc::{AllocError as NoMemory, Global};
+use std::sync::ledger::Ledger;
+
+/// The patch that brings a region's marks from the links before the flips to those of `graph`.
+///
+/// `graph` has the new links; the flips are the matching links in which the two graphs differ. Where
+/// the marks are the depths over the old links, they are exactly the depths over the new ones after
+/// the patch. The call is safe for any marks. The only error is want of memory.
+///
+/// Removed links are cut first, then marks fall along the added ones, so the steps are bounded by
+/// the links of what is near the flips.
+pub fn repair<G: LinkSource, L: Ledger>(
+    alloc: Global,
+    region: &Region,
+    graph: &G,
+    flips: &[Flip],
+    steps: &mut Steps<L>,
+) -> Result<Patch, NoMemory>
+    requires symmetric { IsSymmetric (Linked (G.count graph.now) (G.link graph.now)) }
+    requires added { (v w : ℕ) → IsFlipped flips.now true v w
+        → Linked (G.count graph.now) (G.link graph.now) v w }
+    ensures depths { IfOk result (λ patch.
+        AreDepths (Old (Linked (G.count graph.now) (G.link graph.now)) flips.now)
+        (G.terminal graph.now) region.now.start region.now.max_depth
+        (mark_of region.now.marks.entries)
+        → AreDepths (Linked (G.count graph.now) (G.link graph.now)) (G.terminal graph.now)
+        region.now.start region.now.max_depth (over patch (mark_of region.now.marks.entries))) }
+
+    // The patch has only marks that come, go or change.
+    ensures changes { IfOk result (λ patch. (v : ℕ) (r : Option ℕ) → row_of patch v ≡ Some r
+        → r ≢ mark_of region.now.marks.entries v) }
+
+    // Also where memory runs out.
+    ensures steps { AreDepths (Old (Linked (G.count graph.now) (G.link graph.now)) flips.now)
+        (G.terminal graph.now) region.now.start region.now.max_depth
+        (mark_of region.now.marks.entries)
+        → IsWithin (λ v. 1 + G.count graph.now v) (NearFlips
+        (Linked (G.count graph.now) (G.link graph.now)) flips.now (G.terminal graph.now)
+        region.now.start region.now.max_depth)
+        5 steps.old steps.new }
+{
+    let top = region.max_depth;
+    let hidden = added_pairs(alloc, flips)?;
+    let mid = Mid { graph, hidden };
+    let mut rows = cut(alloc, &region.marks, top, &mid, flips, steps)?;
+    grow(alloc, &region.marks, &mut rows, top, graph, flips, steps)?;
+    let rows = differing(alloc, &region.marks, &rows)?;
+    Ok(Patch { rows })
+}

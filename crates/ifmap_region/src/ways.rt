@@ -1,0 +1,101 @@
+//! Rows are made room for, exchanged and swept. None of it but making room takes memory.
+ghost use Rattle.std.specs.Prelude.{◌≡◌, ℕ, ◌+◌, ◌<◌, ◌≤◌, ◌⊎◌, Some, None, true, false, nat_eq, IsSome, OnOk, OnErr};
+ghost use Rattle.std.specs.Map.{update};
+ghost use Rattle.indexmap.specs.IndexMap.{spare, insert_entry};
+ghost use Rattle.ifmap_region.specs.Marks.{row_of, mark_of};
+ghost use Rattle.ifmap_region.specs.Ways.{HasRoom, OnlyRoom, Makes, Sweeps, Exchanges, taken_from};
+
+use crate::rows::{has_row, mark_in};
+use indexmap::IndexMap;
+use std::alloc::AllocError as NoMemory;
+
+/// Puts a row in where there is room for one, or the number has one. It takes no memory.
+fn put_within(rows: &mut IndexMap<u64, Option<u32>>, number: u64, mark: Option<u32>)
+    requires { (0 < spare rows.old) ⊎ IsSome (row_of rows.old.entries number) }
+    ensures put { (q : ℕ)
+        → row_of rows.new.entries q ≡ update nat_eq (row_of rows.old.entries) number (Some mark) q }
+    ensures entries { rows.new.entries ≡ insert_entry nat_eq rows.old.entries number mark }
+    ensures spare { spare rows.old ≤ spare rows.new + 1 }
+{
+    match rows.insert(number, mark) {
+        Ok(_) => (),
+        Err(_) => unreachable!(),
+    }
+}
+
+/// Whether the number has a row without a mark.
+fn is_bare(rows: &IndexMap<u64, Option<u32>>, number: u64) -> bool
+    ensures yes { result ≡ true → row_of rows.now.entries number ≡ Some None }
+    ensures no { result ≡ false → row_of rows.now.entries number ≡ Some None → ⊥ }
+{
+    match rows.get(&number) {
+        Some(row) => row.is_none(),
+        None => false,
+    }
+}
+
+/// Makes room for the numbers of `patch`: each that has no row gets one without a mark.
+pub(crate) fn make_room(
+    rows: &mut IndexMap<u64, Option<u32>>,
+    patch: &IndexMap<u64, Option<u32>>,
+) -> Result<(), NoMemory>
+    ensures room { OnOk result (HasRoom patch.now.entries rows.new.entries) }
+    ensures only { OnOk result (OnlyRoom patch.now.entries rows.old.entries rows.new.entries) }
+    ensures err { OnErr result (rows.new.entries ≡ rows.old.entries) }
+{
+    let count = patch.len();
+    rows.reserve(count)?;
+    for i in 0..count {
+        if let Some((number, _)) = patch.get_index(i) {
+            if !has_row(rows, *number) {
+                put_within(rows, *number, None);
+            }
+        }
+    }
+    Ok(())
+}
+
+/// Exchanges the marks of the numbers of `patch` with those that `patch` has.
+pub(crate) fn exchange(
+    rows: &mut IndexMap<u64, Option<u32>>,
+    patch: &mut IndexMap<u64, Option<u32>>,
+)
+    requires { HasRoom patch.old.entries rows.old.entries }
+    ensures makes { Makes patch.old.entries rows.old.entries rows.new.entries }
+    ensures taken { patch.new.entries ≡ taken_from rows.old.entries patch.old.entries }
+{
+    for i in 0..patch.len() {
+        exchange_at(rows, patch, i);
+    }
+}
+
+/// Exchanges the mark of the number at a place of `patch` with the one that `patch` has.
+fn exchange_at(
+    rows: &mut IndexMap<u64, Option<u32>>,
+    patch: &mut IndexMap<u64, Option<u32>>,
+    i: usize,
+)
+    requires { HasRoom patch.old.entries rows.old.entries }
+    ensures { Exchanges i rows.old.entries patch.old.entries rows.new.entries patch.new.entries }
+{
+    if let Some((number, row)) = patch.get_index(i) {
+        let number = *number;
+        let row = *row;
+        let before = mark_in(rows, number);
+        put_within(rows, number, row);
+        put_within(patch, number, before);
+    }
+}
+
+/// Takes out the rows of the numbers of `patch` that have no mark.
+pub(crate) fn sweep(rows: &mut IndexMap<u64, Option<u32>>, patch: &IndexMap<u64, Option<u32>>)
+    ensures { Sweeps patch.now.entries rows.old.entries rows.new.entries }
+{
+    for i in 0..patch.len() {
+        if let Some((number, _)) = patch.get_index(i) {
+            if is_bare(rows, *number) {
+                rows.swap_remove(number);
+            }
+        }
+    }
+}
