@@ -8,4 +8,6 @@ pub mod OneReading
 pub mod OneToken
 pub mod Orders
 pub mod PrintedLaws
+pub mod PrintedParts
+pub mod PrintedTags
 pub mod SpaceLaws

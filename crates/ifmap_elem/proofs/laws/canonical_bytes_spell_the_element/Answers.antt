@@ -1,0 +1,5 @@
+use Rattle.ifmap_elem.proofs.PrintedTags.{names_element}
+use Rattle.ifmap_elem.proofs.laws.canonical_bytes_spell_the_element.Goals as goal
+
+pub returns : goal.returns
+returns c = ?
