@@ -1,5 +1,6 @@
 pub mod ArrangedLaws
 pub mod Attributes
+pub mod CanonicalSpells
 pub mod Cuts
 pub mod FitLaws
 pub mod EscapeLaws
@@ -11,5 +12,6 @@ pub mod Orders
 pub mod PrintedElements
 pub mod PrintedLaws
 pub mod PrintedParts
+pub mod PrintedScopes
 pub mod PrintedTags
 pub mod SpaceLaws
