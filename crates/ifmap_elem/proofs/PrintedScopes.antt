@@ -16,7 +16,7 @@ use Rattle.std.proofs.lemmas.Str.Parse.{digit_from_value}
 use Rattle.ifmap_elem.specs.Chars.{AllAre, IsCharacters}
 use Rattle.ifmap_elem.specs.Names.{IsNamePart, is_name_start, is_name_character, prefixed}
 use Rattle.ifmap_elem.specs.Scopes.{Binding, Scope, AllDiffer, IsBinding, bound, root_scope, xml_space, xmlns_space}
-use Rattle.ifmap_elem.specs.Fit.{IsNamespace}
+use Rattle.ifmap_elem.specs.Fit.{IsNamespace, IsDeclarable}
 use Rattle.ifmap_elem.specs.Canonical.{after_prefix}
 use Rattle.ifmap_elem.specs.Namespaces.{once_each, is_declared, declared_among, prefix_rows, name_prefixes}
 use Rattle.ifmap_elem.proofs.NameBytes.{part_is_some}
@@ -36,8 +36,20 @@ or_right false b h = h
 
 -- numbered prefixes
 
-abbrev label : ℕ → List ℕ
-label n = codes "n" ++ decimal n
+abbrev pub label : ℕ → ℕ → List ℕ
+label letter n = letter ∷ decimal n
+
+-- a letter that can begin a prefix, which is neither `xml` nor `xmlns`
+pub record IsLetter (letter : ℕ) : Type 0 where
+  pub start : is_name_start letter ≡ true
+  pub low : is_ascii letter ≡ true
+  pub no_x : letter ≢ 0x78
+
+pub n_letter : IsLetter 0x6E
+n_letter = record { start = refl; low = refl; no_x = λ e. absurd (omega arith) }
+
+pub f_letter : IsLetter 0x66
+f_letter = record { start = refl; low = refl; no_x = λ e. absurd (omega arith) }
 
 among_tests : (a b c d e f : Bool) → (a || b || c || true || d || e || f) ≡ true
 among_tests true b c d e f = refl
@@ -63,57 +75,56 @@ digits_ascii : (ds : List ℕ) → AllDigits 10 ds → AllAre is_ascii ds
 digits_ascii [] f = tt
 digits_ascii (d ∷ ds) f = let r = digit_from_value d f.0 in (digit_ascii d r.1, digits_ascii ds f.1)
 
-label_part : (n : ℕ) → n < 2 ^ 64 → IsNamePart (label n)
-label_part n small =
-    let digits : AllDigits 10 (decimal n) = (decimal_is_IsNumeral n small).0.1 in
-    ascii_part 0x6E (decimal n) refl (digits_characters (decimal n) digits) (refl, digits_ascii (decimal n) digits)
-
-no_letter : (n b : ℕ) (bs : List ℕ) → (0x6E ≡ b → ⊥) → label n ≢ b ∷ bs
-no_letter n b bs other e = let h : 0x6E ≡ b = cc in other h
-
-label_no_xml : (n : ℕ) → label n ≢ codes "xml"
-label_no_xml n = no_letter n 0x78 (codes "ml") (λ e. omega arith)
-
-label_no_xmlns : (n : ℕ) → label n ≢ codes "xmlns"
-label_no_xmlns n = no_letter n 0x78 (codes "mlns") (λ e. omega arith)
-
-label_some : (n : ℕ) → label n ≢ []
-label_some n e = cc
-
-labels_differ : (m n : ℕ) → m < 2 ^ 64 → n < 2 ^ 64 → m ≢ n → label m ≢ label n
-labels_differ m n p q other e = let d : decimal m ≡ decimal n = cc in other (decimal_injective m n p q d)
+label_some : (letter n : ℕ) → label letter n ≢ []
+label_some letter n e = cc
 
 -- what the rows bind
 
-abbrev scope_of : ℕ → Texts → Scope → Scope
-scope_of n xs more = map row_binding (prefix_rows (codes "n") n xs) ++ more
+abbrev pub rows_of : ℕ → ℕ → Texts → Rows
+rows_of letter n xs = prefix_rows (letter ∷ []) n xs
+
+abbrev pub scope_of : ℕ → ℕ → Texts → Scope → Scope
+scope_of letter n xs more = map row_binding (rows_of letter n xs) ++ more
 
 -- a namespace with a number
-pub record Numbered (n : ℕ) (xs : Texts) (more : Scope) (s p : List ℕ) : Type 0 where
+pub record Numbered (letter n : ℕ) (xs : Texts) (more : Scope) (s p : List ℕ) : Type 0 where
   pub number : ℕ
   pub from : n ≤ number
   pub below : number < n + length xs
-  pub prefix_is : p ≡ label number
-  pub binds : bound (scope_of n xs more) p ≡ Some s
+  pub prefix_is : p ≡ label letter number
+  pub binds : bound (scope_of letter n xs more) p ≡ Some s
 
-rows_bind : (n : ℕ) (xs : Texts) (more : Scope) (s p : List ℕ) → n + length xs ≤ 2 ^ 64 → lookup (bytes_eq s) (prefix_rows (codes "n") n xs) ≡ Some p → Numbered n xs more s p
-rows_bind n [] more s p small found = let wrong : None ≡ Some p = found in cc
-rows_bind n (x ∷ xs) more s p small found = elim (cases_Bool (bytes_eq s x)) [
-  | inl e ↦
-      let h : Some (label n) ≡ Some p = rw e at found in
-      let q : label n ≡ p = cc in
-      let t : bytes_eq (label n) p ≡ true = (bytes_eq-Decides (label n) p).1 q in
-      record { number = n; from = omega arith; below = omega arith; prefix_is = sym q; binds = rw t (ap (λ z. Some z) (sym (eq_tells s x e))) }
-  | inr e ↦
-      let h : lookup (bytes_eq s) (prefix_rows (codes "n") (n + 1) xs) ≡ Some p = rw e at found in
-      let r : Numbered (n + 1) xs more s p = rows_bind (n + 1) xs more s p (omega arith) h in
-      let t : bytes_eq (label n) p ≡ false = differ (label n) p (λ q. labels_differ n r.number (omega arith) (omega arith) (λ same. absurd (omega arith)) (q ∙ r.prefix_is)) in
-      record { number = r.number; from = omega arith; below = omega arith; prefix_is = r.prefix_is; binds = rw t r.binds }
-]
+module _ (letter : ℕ) (is : IsLetter letter) where
+  label_part : (n : ℕ) → n < 2 ^ 64 → IsNamePart (label letter n)
+  label_part n small =
+      let digits : AllDigits 10 (decimal n) = (decimal_is_IsNumeral n small).0.1 in
+      ascii_part letter (decimal n) is.start (digits_characters (decimal n) digits) (is.low, digits_ascii (decimal n) digits)
 
-past_rows : (n : ℕ) (xs : Texts) (more : Scope) (p : List ℕ) → ((k : ℕ) → label k ≢ p) → bound (scope_of n xs more) p ≡ bound more p
-past_rows n [] more p other = refl
-past_rows n (x ∷ xs) more p other = rw (differ (label n) p (other n)) (past_rows (n + 1) xs more p other)
+  label_no_x : (n : ℕ) (bs : List ℕ) → label letter n ≢ 0x78 ∷ bs
+  label_no_x n bs e = let h : letter ≡ 0x78 = cc in is.no_x h
+
+  labels_differ : (m n : ℕ) → m < 2 ^ 64 → n < 2 ^ 64 → m ≢ n → label letter m ≢ label letter n
+  labels_differ m n p q other e = let d : decimal m ≡ decimal n = cc in other (decimal_injective m n p q d)
+
+  rows_bind : (n : ℕ) (xs : Texts) (more : Scope) (s p : List ℕ) → n + length xs ≤ 2 ^ 64 → lookup (bytes_eq s) (rows_of letter n xs) ≡ Some p → Numbered letter n xs more s p
+  rows_bind n [] more s p small found = let wrong : None ≡ Some p = found in cc
+  rows_bind n (x ∷ xs) more s p small found = elim (cases_Bool (bytes_eq s x)) [
+    | inl e ↦
+        let h : Some (label letter n) ≡ Some p = rw e at found in
+        let q : label letter n ≡ p = cc in
+        let t : bytes_eq (label letter n) p ≡ true = (bytes_eq-Decides (label letter n) p).1 q in
+        record { number = n; from = omega arith; below = omega arith; prefix_is = sym q; binds = rw t (ap (λ z. Some z) (sym (eq_tells s x e))) }
+    | inr e ↦
+        let h : lookup (bytes_eq s) (rows_of letter (n + 1) xs) ≡ Some p = rw e at found in
+        let r : Numbered letter (n + 1) xs more s p = rows_bind (n + 1) xs more s p (omega arith) h in
+        let t : bytes_eq (label letter n) p ≡ false =
+        differ (label letter n) p (λ q. labels_differ n r.number (omega arith) (omega arith) (λ same. absurd (omega arith)) (q ∙ r.prefix_is)) in
+        record { number = r.number; from = omega arith; below = omega arith; prefix_is = r.prefix_is; binds = rw t r.binds }
+  ]
+
+pub past_rows : (letter n : ℕ) (xs : Texts) (more : Scope) (p : List ℕ) → ((k : ℕ) → label letter k ≢ p) → bound (scope_of letter n xs more) p ≡ bound more p
+past_rows letter n [] more p other = refl
+past_rows letter n (x ∷ xs) more p other = rw (differ (label letter n) p (other n)) (past_rows letter (n + 1) xs more p other)
 
 resolves_none : (prefixes : Rows) (scope : Scope) (s : List ℕ) → lookup (bytes_eq s) prefixes ≡ None → s ≡ [] → bound scope [] ≡ Some [] → Resolves prefixes scope s
 resolves_none prefixes scope s found is default = record {
@@ -175,33 +186,50 @@ has_none (Some p) h = let wrong : true ≡ false = h in cc
 xml_part : IsNamePart (codes "xml")
 xml_part = ascii_part 0x78 (codes "ml") refl (all_of_test is_name_character (codes "ml") refl) (all_of_test is_ascii (codes "xml") refl)
 
-module _ (all : Texts) (small : length (declared_among all) < 2 ^ 64) where
+-- the default and `xml` are bound as they are outside of a document
+pub record IsOutermost (scope : Scope) : Type 0 where
+  pub default : bound scope [] ≡ Some []
+  pub xml : bound scope (codes "xml") ≡ Some xml_space
+
+pub root_outermost : IsOutermost root_scope
+root_outermost = record { default = refl; xml = refl }
+
+pub rows_outermost : (letter n : ℕ) (xs : Texts) (more : Scope) → IsLetter letter → IsOutermost more → IsOutermost (scope_of letter n xs more)
+rows_outermost letter n xs more is outer = record {
+  default = past_rows letter n xs more [] (label_some letter) ∙ outer.default;
+  xml = past_rows letter n xs more (codes "xml") (λ k. label_no_x letter is k (codes "ml")) ∙ outer.xml;
+}
+
+module _ (all : Texts) (more : Scope) (outer : IsOutermost more) (small : length (declared_among all) < 2 ^ 64) where
   abbrev its_prefixes : Rows
   its_prefixes = name_prefixes (declared_among all)
 
   abbrev its_scope : Scope
-  its_scope = scope_of 1 (declared_among all) root_scope
+  its_scope = scope_of 0x6E 1 (declared_among all) more
+
+  outermost : IsOutermost its_scope
+  outermost = rows_outermost 0x6E 1 (declared_among all) more n_letter outer
 
   no_space : (s : List ℕ) → s ≡ [] → Resolves its_prefixes its_scope s
   no_space s is =
       let out : is_declared s ≡ false = ap is_declared is in
       let none : among s (declared_among all) ≡ false = among_once s (filter is_declared all) ∙ among_dropped is_declared s all out in
-      let rows : lookup (bytes_eq s) (prefix_rows (codes "n") 1 (declared_among all)) ≡ None = has_none _ (is_some-prefix_rows (codes "n") 1 s (declared_among all) ∙ none) in
+      let rows : lookup (bytes_eq s) (rows_of 0x6E 1 (declared_among all)) ≡ None = has_none _ (is_some-prefix_rows (codes "n") 1 s (declared_among all) ∙ none) in
       let xml : bytes_eq s xml_space ≡ false = ap (λ z. bytes_eq z xml_space) is in
-      resolves_none its_prefixes its_scope s (rw xml rows) is (past_rows 1 (declared_among all) root_scope [] label_some)
+      resolves_none its_prefixes its_scope s (rw xml rows) is outermost.default
 
   the_xml_space : (s : List ℕ) → bytes_eq s xml_space ≡ true → Resolves its_prefixes its_scope s
   the_xml_space s same =
       resolves_some its_prefixes its_scope s (codes "xml") (rw same refl) xml_part (λ e. cc)
-      (past_rows 1 (declared_among all) root_scope (codes "xml") label_no_xml ∙ ap (λ z. Some z) (sym (eq_tells s xml_space same)))
+      (outermost.xml ∙ ap (λ z. Some z) (sym (eq_tells s xml_space same)))
 
   numbered : (s : List ℕ) → is_declared s ≡ true → bytes_eq s xml_space ≡ false → among s all ≡ true → Resolves its_prefixes its_scope s
   numbered s out other here =
       let found : among s (declared_among all) ≡ true = among_once s (filter is_declared all) ∙ among_kept is_declared s all out ∙ here in
-      let row = has_value (lookup (bytes_eq s) (prefix_rows (codes "n") 1 (declared_among all))) (is_some-prefix_rows (codes "n") 1 s (declared_among all) ∙ found) in
-      let r : Numbered 1 (declared_among all) root_scope s row.0 = rows_bind 1 (declared_among all) root_scope s row.0 (omega arith) row.1 in
-      resolves_some its_prefixes its_scope s row.0 (rw other row.1) (subst IsNamePart (sym r.prefix_is) (label_part r.number (omega arith)))
-      (λ e. label_no_xmlns r.number (sym r.prefix_is ∙ e)) r.binds
+      let row = has_value (lookup (bytes_eq s) (rows_of 0x6E 1 (declared_among all))) (is_some-prefix_rows (codes "n") 1 s (declared_among all) ∙ found) in
+      let r : Numbered 0x6E 1 (declared_among all) more s row.0 = rows_bind 0x6E n_letter 1 (declared_among all) more s row.0 (omega arith) row.1 in
+      resolves_some its_prefixes its_scope s row.0 (rw other row.1) (subst IsNamePart (sym r.prefix_is) (label_part 0x6E n_letter r.number (omega arith)))
+      (λ e. label_no_x 0x6E n_letter r.number (codes "mlns") (sym r.prefix_is ∙ e)) r.binds
 
   resolved : (s : List ℕ) → among s all ≡ true → Resolves its_prefixes its_scope s
   resolved s here = elim (cases_Bool (bytes_eq s [])) [
@@ -222,11 +250,6 @@ module _ (all : Texts) (small : length (declared_among all) < 2 ^ 64) where
 
 -- the declarations are allowed
 
--- a namespace that is declared
-pub record IsDeclared (s : List ℕ) : Type 0 where
-  pub out : is_declared s ≡ true
-  pub fit : IsNamespace s
-
 all_others : (P : List ℕ → Type 0) (test : List ℕ → Bool) (xs : Texts) → AllByRecursion P xs → AllByRecursion P (filter test xs)
 all_others P test [] f = tt
 all_others P test (x ∷ xs) f = elim (cases_Bool (test x)) [
@@ -238,15 +261,15 @@ all_once : (P : List ℕ → Type 0) (xs : Texts) → AllByRecursion P xs → Al
 all_once P [] f = tt
 all_once P (x ∷ xs) f = (f.0, all_others P (λ y. not (bytes_eq y x)) (once_each xs) (all_once P xs f.1))
 
-all_declared : (xs : Texts) → AllByRecursion IsNamespace xs → AllByRecursion IsDeclared (filter is_declared xs)
+all_declared : (xs : Texts) → AllByRecursion IsNamespace xs → AllByRecursion IsDeclarable (filter is_declared xs)
 all_declared [] f = tt
 all_declared (x ∷ xs) f = elim (cases_Bool (is_declared x)) [
-  | inl e ↦ rw e (record { out = e; fit = f.0 }, all_declared xs f.1)
+  | inl e ↦ rw e (record { declared = e; fit = f.0 }, all_declared xs f.1)
   | inr e ↦ rw e (all_declared xs f.1)
 ]
 
-pub are_declared : (all : Texts) → AllByRecursion IsNamespace all → AllByRecursion IsDeclared (declared_among all)
-are_declared all f = all_once IsDeclared (filter is_declared all) (all_declared all f)
+pub are_declared : (all : Texts) → AllByRecursion IsNamespace all → AllByRecursion IsDeclarable (declared_among all)
+are_declared all f = all_once IsDeclarable (filter is_declared all) (all_declared all f)
 
 no_xml : (s : List ℕ) → is_declared s ≡ true → s ≢ xml_space
 no_xml s out e = let wrong : false ≡ true = sym (ap is_declared e) ∙ out in cc
@@ -254,26 +277,52 @@ no_xml s out e = let wrong : false ≡ true = sym (ap is_declared e) ∙ out in 
 is_some_space : (s : List ℕ) → is_declared s ≡ true → s ≢ []
 is_some_space s out e = let wrong : false ≡ true = sym (ap is_declared e) ∙ out in cc
 
-pub rows_fit : (n : ℕ) (xs : Texts) → n + length xs ≤ 2 ^ 64 → AllByRecursion IsDeclared xs → AllByRecursion FitRow (prefix_rows (codes "n") n xs)
-rows_fit n [] small f = tt
-rows_fit n (x ∷ xs) small f = (record { prefix = label_part n (omega arith); space = f.0.fit.characters }, rows_fit (n + 1) xs (omega arith) f.1)
+module _ (letter : ℕ) (is : IsLetter letter) where
+  pub rows_fit : (n : ℕ) (xs : Texts) → n + length xs ≤ 2 ^ 64 → AllByRecursion IsDeclarable xs → AllByRecursion FitRow (rows_of letter n xs)
+  rows_fit n [] small f = tt
+  rows_fit n (x ∷ xs) small f = (record { prefix = label_part letter is n (omega arith); space = f.0.fit.characters }, rows_fit (n + 1) xs (omega arith) f.1)
 
-pub rows_are_bindings : (n : ℕ) (xs : Texts) → AllByRecursion IsDeclared xs → AllByRecursion IsBinding (map row_binding (prefix_rows (codes "n") n xs))
-rows_are_bindings n [] f = tt
-rows_are_bindings n (x ∷ xs) f = (
-  record {
-    no_xmlns = label_no_xmlns n;
-    no_xmlns_space = f.0.fit.not_reserved;
-    xml_alone = (λ e. absurd (label_no_xml n e), λ e. absurd (no_xml x f.0.out e));
-    some_space = λ e. is_some_space x f.0.out;
-  },
-  rows_are_bindings (n + 1) xs f.1,
+  pub rows_are_bindings : (n : ℕ) (xs : Texts) → AllByRecursion IsDeclarable xs → AllByRecursion IsBinding (map row_binding (rows_of letter n xs))
+  rows_are_bindings n [] f = tt
+  rows_are_bindings n (x ∷ xs) f = (
+    record {
+      no_xmlns = label_no_x letter is n (codes "mlns");
+      no_xmlns_space = f.0.fit.not_reserved;
+      xml_alone = (λ e. absurd (label_no_x letter is n (codes "ml") e), λ e. absurd (no_xml x f.0.declared e));
+      some_space = λ e. is_some_space x f.0.declared;
+    },
+    rows_are_bindings (n + 1) xs f.1,
+  )
+
+  later_differ : (m n : ℕ) (xs : Texts) → m < n → n + length xs ≤ 2 ^ 64 → AllByRecursion (λ y. label letter m ≢ y) (map (λ b. b.prefix) (map row_binding (rows_of letter n xs)))
+  later_differ m n [] low small = tt
+  later_differ m n (x ∷ xs) low small =
+      (labels_differ letter is m n (omega arith) (omega arith) (λ e. absurd (omega arith)), later_differ m (n + 1) xs (omega arith) (omega arith))
+
+  pub prefixes_differ : (n : ℕ) (xs : Texts) → n + length xs ≤ 2 ^ 64 → AllDiffer (map (λ b. b.prefix) (map row_binding (rows_of letter n xs)))
+  prefixes_differ n [] small = tt
+  prefixes_differ n (x ∷ xs) small = (later_differ n (n + 1) xs (omega arith) (omega arith), prefixes_differ (n + 1) xs (omega arith))
+
+-- prefixes of different letters differ
+
+others_differ : (letter other m n : ℕ) (ys : Texts) → letter ≢ other → AllByRecursion (λ y. label letter m ≢ y) (map (λ b. b.prefix) (map row_binding (rows_of other n ys)))
+others_differ letter other m n [] apart = tt
+others_differ letter other m n (y ∷ ys) apart = (λ e. let h : letter ≡ other = cc in apart h, others_differ letter other m (n + 1) ys apart)
+
+all_in_both : (P : List ℕ → Type 0) (rows more : Rows) → AllByRecursion P (map (λ b. b.prefix) (map row_binding rows)) → AllByRecursion P (map (λ b. b.prefix) (map row_binding more))
+    → AllByRecursion P (map (λ b. b.prefix) (map row_binding (rows ++ more)))
+all_in_both P [] more f g = g
+all_in_both P (row ∷ rows) more f g = (f.0, all_in_both P rows more f.1 g)
+
+pub both_differ : (letter other n m : ℕ) (xs ys : Texts) → letter ≢ other → AllDiffer (map (λ b. b.prefix) (map row_binding (rows_of letter n xs)))
+    → AllDiffer (map (λ b. b.prefix) (map row_binding (rows_of other m ys))) → AllDiffer (map (λ b. b.prefix) (map row_binding (rows_of letter n xs ++ rows_of other m ys)))
+both_differ letter other n m [] ys apart f g = g
+both_differ letter other n m (x ∷ xs) ys apart f g = (
+  all_in_both (λ y. label letter n ≢ y) (rows_of letter (n + 1) xs) (rows_of other m ys) f.0 (others_differ letter other n m ys apart),
+  both_differ letter other (n + 1) m xs ys apart f.1 g,
 )
 
-later_differ : (m n : ℕ) (xs : Texts) → m < n → n + length xs ≤ 2 ^ 64 → AllByRecursion (λ y. label m ≢ y) (map (λ b. b.prefix) (map row_binding (prefix_rows (codes "n") n xs)))
-later_differ m n [] low small = tt
-later_differ m n (x ∷ xs) low small = (labels_differ m n (omega arith) (omega arith) (λ e. absurd (omega arith)), later_differ m (n + 1) xs (omega arith) (omega arith))
-
-pub prefixes_differ : (n : ℕ) (xs : Texts) → n + length xs ≤ 2 ^ 64 → AllDiffer (map (λ b. b.prefix) (map row_binding (prefix_rows (codes "n") n xs)))
-prefixes_differ n [] small = tt
-prefixes_differ n (x ∷ xs) small = (later_differ n (n + 1) xs (omega arith) (omega arith), prefixes_differ (n + 1) xs (omega arith))
+-- there are as many rows as namespaces
+pub length-rows : (letter n : ℕ) (xs : Texts) → length (rows_of letter n xs) ≡ length xs
+length-rows letter n [] = refl
+length-rows letter n (x ∷ xs) = ap suc (length-rows letter (n + 1) xs)
