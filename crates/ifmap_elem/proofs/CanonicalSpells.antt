@@ -1,5 +1,5 @@
 -- The canonical bytes of an element that fits spell the element with its attributes in order, and tell elements apart.
-use Rattle.std.proofs.Common.{◌≡◌, ℕ, ◌+◌, ◌<◌, ◌≤◌, false, List, [], ◌∷◌, ◌++◌, map, length, refl, ap, sym, ◌∙◌, subst, arith, length-append}
+use Rattle.std.proofs.Common.{◌≡◌, ◌↔◌, ℕ, ◌+◌, ◌<◌, ◌≤◌, Bool, false, IsTrue, List, [], ◌∷◌, ◌++◌, map, length, refl, ap, sym, ◌∙◌, subst, arith, length-append}
 use Rattle.std.specs.Prelude.{◌^◌, codes}
 use Rattle.std.specs.List.{AllByRecursion, flat_map}
 use Rattle.std.proofs.lemmas.List.{append-nil}
@@ -145,3 +145,7 @@ same_when_alike a b fit also held alike =
     let m = canonical_spelled b also (subst AreHeld alike held) in
     let one : l.0 ≡ m.0 = one_reading (canonical_bytes b) l.0 m.0 (subst (λ (bytes : List ℕ). Spells bytes l.0) alike l.2) m.2 in
     sym l.1 ∙ ap (λ (r : Reading). r.root) one ∙ m.1
+
+-- what tells whether two elements are the same tells it of their canonical bytes
+pub tells_apart : (a b : Element) (r : Bool) → (IsTrue r ↔ IsSame a b) → IsFit a → IsFit b → AreHeld (canonical_bytes a) → (IsTrue r ↔ (canonical_bytes a ≡ canonical_bytes b))
+tells_apart a b r h fit also held = (λ t. alike_when_same a b (h.0 t), λ e. h.1 (same_when_alike a b fit also held e))
