@@ -1,5 +1,5 @@
 -- The canonical bytes of an element that fits spell the element with its attributes in order, and tell elements apart.
-use Rattle.std.proofs.Common.{◌≡◌, ◌↔◌, ℕ, ◌+◌, ◌<◌, ◌≤◌, Bool, false, IsTrue, List, [], ◌∷◌, ◌++◌, map, length, refl, ap, sym, ◌∙◌, subst, arith, length-append}
+use Rattle.std.proofs.Common.{◌≡◌, ◌↔◌, ℕ, ◌<◌, ◌≤◌, Bool, false, IsTrue, List, [], ◌∷◌, ◌++◌, map, length, refl, ap, sym, ◌∙◌, subst, arith, length-append}
 use Rattle.std.specs.Prelude.{◌^◌, codes}
 use Rattle.std.specs.List.{AllByRecursion, flat_map}
 use Rattle.std.proofs.lemmas.List.{append-nil}
@@ -9,13 +9,12 @@ use Rattle.ifmap_elem.specs.declared.elements.Child.{Child}
 use Rattle.ifmap_elem.specs.declared.elements.Child as the
 use Rattle.ifmap_elem.specs.declared.elements.Element.{Element}
 use Rattle.ifmap_elem.specs.declared.readings.Reading.{Reading}
-use Rattle.ifmap_elem.specs.declared.tokens.Token.{Token}
 use Rattle.ifmap_elem.specs.Folds.{at_child_element, at_child_text, Each, by_children}
 use Rattle.ifmap_elem.specs.Arranged.{arranged, IsSame}
 use Rattle.ifmap_elem.specs.Canonical.{printed_name, declaration_bytes, attribute_bytes, content_bytes, child_bytes, root_bytes, written_bytes, canonical_bytes, AreHeld}
 use Rattle.ifmap_elem.specs.Document.{tokens_of}
 use Rattle.ifmap_elem.specs.Fit.{IsFit, IsFitAlone, IsFitAttribute, IsNamespace, IsDeclarable}
-use Rattle.ifmap_elem.specs.Namespaces.{spaces_of, spaces_of_child, child_spaces, element_spaces, namespaces, prefix_rows, name_prefixes}
+use Rattle.ifmap_elem.specs.Namespaces.{spaces_of, spaces_of_child, child_spaces, element_spaces, namespaces, name_prefixes}
 use Rattle.ifmap_elem.specs.Scopes.{Scope, IsBinding, root_scope}
 use Rattle.ifmap_elem.specs.Spells.{Spells, without_mark}
 use Rattle.ifmap_elem.specs.Tokens.{TakesToken}
@@ -49,8 +48,10 @@ fit_spaces = by_children HasNamespaces (λ e. IsFit e → AllByRecursion IsNames
     in_element : (e : Element) → (IsFit e → AllByRecursion IsNamespace (spaces_of e)) → HasNamespaces (the.Element e)
     in_element e q f =
         subst (AllByRecursion IsNamespace) (sym (at_child_element (List (List ℕ)) (List (List ℕ)) child_spaces element_spaces e)) (q (subst (AllByRecursion IsFitAlone) (elements_in e) f))
+
     in_text : (t : List ℕ) → HasNamespaces (the.Text t)
     in_text t f = subst (AllByRecursion IsNamespace) (sym (at_child_text (List (List ℕ)) (List (List ℕ)) child_spaces element_spaces t)) tt
+
     in_children : (e : Element) → Each HasNamespaces e.children → IsFit e → AllByRecursion IsNamespace (spaces_of e)
     in_children e each f =
         let parts = fit_parts e f in
@@ -115,8 +116,13 @@ within_tag n d r = omega (arith, length-append n (d ++ r), length-append d r)
 few_rows : (given : Rows) (e : Element) → AreHeld (root_bytes given e) → length (rows_of 0x6E 1 (namespaces e) ++ given) < 2 ^ 64
 few_rows given e held =
     let rows : Rows = rows_of 0x6E 1 (namespaces e) ++ given in
-    omega (arith, held, some_bytes rows, within_tag (printed_name (name_prefixes (namespaces e)) e.name) (flat_map declaration_bytes rows)
-    (flat_map (attribute_bytes (name_prefixes (namespaces e))) e.attributes ++ content_bytes (printed_name (name_prefixes (namespaces e)) e.name) (map (child_bytes (name_prefixes (namespaces e))) e.children)))
+    omega (
+      arith,
+      held,
+      some_bytes rows,
+      within_tag (printed_name (name_prefixes (namespaces e)) e.name) (flat_map declaration_bytes rows)
+          (flat_map (attribute_bytes (name_prefixes (namespaces e))) e.attributes ++ content_bytes (printed_name (name_prefixes (namespaces e)) e.name) (map (child_bytes (name_prefixes (namespaces e))) e.children)),
+    )
 
 -- the element as it stands, printed as a root, is spelled by its bytes
 pub root_spelled : (e : Element) (given : Texts) → IsFit e → AllByRecursion IsDeclarable given → AreHeld (root_bytes (rows_of 0x66 1 given) e)

@@ -1,14 +1,13 @@
 -- What fits in an element fits, level by level, and an element that fits does so with its attributes in order.
-use Rattle.std.proofs.Common.{◌≡◌, ◌≢◌, ℕ, suc, Bool, true, false, ◌||◌, IsTrue, List, [], ◌∷◌, ◌++◌, map, refl, ap, sym, ◌∙◌, subst, inl, inr}
+use Rattle.std.proofs.Common.{◌≡◌, ◌≢◌, ℕ, suc, List, [], ◌∷◌, ◌++◌, map, refl, ap, sym, ◌∙◌, subst, inl, inr}
 use Rattle.std.specs.List.{AllByRecursion, flat_map, list_any}
 use Rattle.std.specs.Ordering.{is_gt}
-use Rattle.std.specs.declared.cmp.Ordering.{Ordering}
 use Rattle.std.proofs.lemmas.Bool.{cases_Bool}
 use Rattle.std.proofs.lemmas.List.Folds.{flat_map-map}
 use Rattle.ifmap_elem.specs.Folds.{at_element, at_child_element, at_child_text, Each, by_children, each_child}
 use Rattle.ifmap_elem.specs.Arranged.{arranged, arranged_child, attribute_order, sorted}
 use Rattle.ifmap_elem.specs.Nesting.{nesting, child_nesting, greatest, child_levels, element_levels}
-use Rattle.ifmap_elem.specs.Order.{placed, in_order}
+use Rattle.ifmap_elem.specs.Order.{placed}
 use Rattle.ifmap_elem.specs.Scopes.{AllDiffer}
 use Rattle.ifmap_elem.specs.Fit.{IsFit, IsFitAlone, IsFitAttribute, AreFitChildren, HasCharacters, IsNotBlank, AreApart, is_element, elements_of, child_with_elements, element_with_elements}
 use Rattle.ifmap_elem.specs.declared.elements.Attribute.{Attribute}
@@ -191,8 +190,10 @@ fit_arranged = by_children FitStays (λ e. IsFit e → IsFit (arranged e)) in_el
     in_element : (e : Element) → (IsFit e → IsFit (arranged e)) → FitStays (the.Element e)
     in_element e q f =
         subst (AllByRecursion IsFitAlone) (sym (ap elements_of_child (arranged_in e) ∙ elements_in (arranged e))) (q (subst (AllByRecursion IsFitAlone) (elements_in e) f))
+
     in_text : (t : List ℕ) → FitStays (the.Text t)
     in_text t f = subst (AllByRecursion IsFitAlone) (sym (ap elements_of_child (arranged_text t) ∙ elements_text t)) tt
+
     in_children : (e : Element) → Each FitStays e.children → IsFit e → IsFit (arranged e)
     in_children e each f =
         let parts = fit_parts e f in

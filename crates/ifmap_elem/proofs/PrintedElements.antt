@@ -1,12 +1,11 @@
 -- Printed children and printed elements are tokens that mean them.
-use Rattle.std.proofs.Common.{◌≡◌, ◌≢◌, ℕ, Bool, true, false, not, ◌||◌, List, [], ◌∷◌, ◌++◌, map, length, refl, ap, sym, ◌∙◌, subst, arith, append_assoc}
+use Rattle.std.proofs.Common.{◌≡◌, ◌≢◌, ℕ, Bool, true, false, not, List, [], ◌∷◌, ◌++◌, map, length, refl, ap, sym, ◌∙◌, subst, arith, append_assoc}
 use Rattle.std.specs.Prelude.{◌==◌, codes, filter}
 use Rattle.std.specs.List.{AllByRecursion, flat_map, concat, list_all, list_any}
 use Rattle.std.proofs.lemmas.Bool.{false_from_ne_true}
 use Rattle.std.proofs.lemmas.List.Folds.{flat_map-map}
 use Rattle.ifmap_sequences.specs.Items.{To}
 use Rattle.ifmap_elem.specs.declared.elements.Attribute.{Attribute}
-use Rattle.ifmap_elem.specs.declared.elements.Name.{Name}
 use Rattle.ifmap_elem.specs.declared.elements.Child.{Child, out-Child}
 use Rattle.ifmap_elem.specs.declared.elements.Child as the
 use Rattle.ifmap_elem.specs.declared.elements.Child.TheOpen.{Child-F}
@@ -14,11 +13,11 @@ use Rattle.ifmap_elem.specs.declared.elements.Element.{Element}
 use Rattle.ifmap_elem.specs.declared.readings.Declared.{Declared}
 use Rattle.ifmap_elem.specs.declared.tokens.Tag.{Tag}
 use Rattle.ifmap_elem.specs.declared.tokens.Token.{Token}
-use Rattle.ifmap_elem.specs.declared.tokens.Token.TheVariants.{Declaration, Comment, Start, Empty, End, Section, Text}
-use Rattle.ifmap_elem.specs.Folds.{at_element, at_child_element, at_child_text, Each, by_children, each_child}
+use Rattle.ifmap_elem.specs.declared.tokens.Token.TheVariants.{Comment, Start, Empty, End, Section, Text}
+use Rattle.ifmap_elem.specs.Folds.{at_element, at_child_element, at_child_text, Each, each_child}
 use Rattle.ifmap_elem.specs.Chars.{IsCharacters, is_space}
 use Rattle.ifmap_elem.specs.Scopes.{Scope, AllDiffer, IsBinding, root_scope, scope_within, bindings}
-use Rattle.ifmap_elem.specs.Tokens.{TakesToken, TakesTag, TakesText, TakesEnd, EndsText}
+use Rattle.ifmap_elem.specs.Tokens.{TakesToken, TakesTag, TakesText, EndsText}
 use Rattle.ifmap_elem.specs.Document.{Content, Nothing, Remark, Words, Verbatim, Leaf, Branch, tokens_of, Item, Inner, Run, is_inner, joined, put_before, is_kept, kept, child_of, declared_here, declared_below, IsElement, Means, IsMargin, IsRoot}
 use Rattle.ifmap_elem.specs.Escapes.{text_bytes}
 use Rattle.ifmap_elem.specs.Fit.{IsFit, IsFitAlone, IsFitAttribute, AreFitChildren, HasCharacters, IsNotBlank, AreApart, is_element}
@@ -257,11 +256,11 @@ module _ (prefixes declared : Rows) (outer : Scope) (e : Element) (fit : IsFitAl
     lexed = λ rest. (
       flat_map (child_bytes prefixes) (c ∷ cs) ++ (codes "</" ++ (printed_name prefixes e.name ++ (codes ">" ++ rest))),
       subst (λ (b : List ℕ). TakesTag b its_tag (codes ">" ++ (flat_map (child_bytes prefixes) (c ∷ cs) ++ (codes "</" ++ (printed_name prefixes e.name ++ (codes ">" ++ rest)))))) (sym (seam rest))
-      (start_taken (codes ">" ++ (flat_map (child_bytes prefixes) (c ∷ cs) ++ (codes "</" ++ (printed_name prefixes e.name ++ (codes ">" ++ rest)))))),
+          (start_taken (codes ">" ++ (flat_map (child_bytes prefixes) (c ∷ cs) ++ (codes "</" ++ (printed_name prefixes e.name ++ (codes ">" ++ rest)))))),
       to_both TakesToken (flat_map (child_bytes prefixes) (c ∷ cs) ++ (codes "</" ++ (printed_name prefixes e.name ++ (codes ">" ++ rest)))) (tokens_of (contents_of prefixes within_it (c ∷ cs) each))
-      (codes "</" ++ (printed_name prefixes e.name ++ (codes ">" ++ rest))) (End (qualified prefixes e.name) ∷ []) rest
-      (children_lexed prefixes within_it (c ∷ cs) each (codes "</" ++ (printed_name prefixes e.name ++ (codes ">" ++ rest))) refl apart)
-      (rest, end_taken prefixes within_it e.name rest fit.name named, refl),
+          (codes "</" ++ (printed_name prefixes e.name ++ (codes ">" ++ rest))) (End (qualified prefixes e.name) ∷ []) rest
+          (children_lexed prefixes within_it (c ∷ cs) each (codes "</" ++ (printed_name prefixes e.name ++ (codes ">" ++ rest))) refl apart)
+          (rest, end_taken prefixes within_it e.name rest fit.name named, refl),
     );
     one = (
       items_of prefixes within_it (c ∷ cs) each,
@@ -274,10 +273,13 @@ module _ (prefixes declared : Rows) (outer : Scope) (e : Element) (fit : IsFitAl
     where
       opened : map item_child (items_of prefixes within_it (c ∷ cs) each) ≡ map out-Child e.children
       opened = children_opened prefixes within_it (c ∷ cs) each ∙ ap (map out-Child) is
+
       apart : AreApart (map item_child (items_of prefixes within_it (c ∷ cs) each))
       apart = subst AreApart (sym opened) fit.children.apart
+
       within : scope_within outer its_tag ≡ within_it
       within = ap (λ l. l ++ outer) (bindings_are prefixes declared within_it e.name e.attributes fits)
+
       seam : (rest : List ℕ) → its_bytes (c ∷ cs) ++ rest ≡ its_start (codes ">" ++ (flat_map (child_bytes prefixes) (c ∷ cs) ++ (codes "</" ++ (printed_name prefixes e.name ++ (codes ">" ++ rest)))))
       seam rest =
           tag_seam (printed_name prefixes e.name) (flat_map declaration_bytes declared) (flat_map (attribute_bytes prefixes) e.attributes) (content_bytes (printed_name prefixes e.name) (map (child_bytes prefixes) (c ∷ cs))) rest

@@ -1,28 +1,28 @@
 -- The declarations of a root bind a prefix to each namespace in it, and each prefix to one namespace.
-use Rattle.std.proofs.Common.{◌≡◌, ◌≢◌, ℕ, ◌+◌, ◌<◌, ◌≤◌, suc, Bool, true, false, not, ◌||◌, ◌&&◌, cond, List, [], ◌∷◌, ◌++◌, map, length, refl, ap, sym, ◌∙◌, subst, arith, inl, inr, ◌⊎◌, Option, Some, None}
-use Rattle.std.specs.Prelude.{◌==◌, ◌^◌, ◌↔◌, nat_le, codes, filter}
-use Rattle.std.specs.List.{AllByRecursion, list_any}
+use Rattle.std.proofs.Common.{◌≡◌, ◌≢◌, ℕ, ◌+◌, ◌<◌, ◌≤◌, suc, Bool, true, false, not, ◌||◌, List, [], ◌∷◌, ◌++◌, map, length, refl, ap, sym, ◌∙◌, subst, arith, inl, inr, Option, Some, None}
+use Rattle.std.specs.Prelude.{◌==◌, ◌^◌, nat_le, codes, filter}
+use Rattle.std.specs.List.{AllByRecursion}
 use Rattle.std.specs.Fmt.{decimal}
 use Rattle.std.specs.Int.{is_in_range}
 use Rattle.std.specs.Map.{lookup}
 use Rattle.std.specs.Option.{is_some}
 use Rattle.std.specs.Str.{bytes_eq}
 use Rattle.std.specs.Str.Parse.{AllDigits}
-use Rattle.std.proofs.lemmas.Bool.{cases_Bool, false_from_ne_true, not-true}
+use Rattle.std.proofs.lemmas.Bool.{cases_Bool, false_from_ne_true}
 use Rattle.std.proofs.lemmas.Bool.Decides.{nat_tests}
 use Rattle.std.proofs.lemmas.Fmt.{decimal_injective, decimal_is_IsNumeral}
 use Rattle.std.proofs.lemmas.Slice.Eq.{bytes_eq-Decides}
 use Rattle.std.proofs.lemmas.Str.Parse.{digit_from_value}
-use Rattle.ifmap_elem.specs.Chars.{AllAre, IsCharacters}
+use Rattle.ifmap_elem.specs.Chars.{AllAre}
 use Rattle.ifmap_elem.specs.Names.{IsNamePart, is_name_start, is_name_character, prefixed}
-use Rattle.ifmap_elem.specs.Scopes.{Binding, Scope, AllDiffer, IsBinding, bound, root_scope, xml_space, xmlns_space}
+use Rattle.ifmap_elem.specs.Scopes.{Scope, AllDiffer, IsBinding, bound, root_scope, xml_space}
 use Rattle.ifmap_elem.specs.Fit.{IsNamespace, IsDeclarable}
 use Rattle.ifmap_elem.specs.Canonical.{after_prefix}
 use Rattle.ifmap_elem.specs.Namespaces.{once_each, is_declared, declared_among, prefix_rows, name_prefixes}
 use Rattle.ifmap_elem.proofs.NameBytes.{part_is_some}
-use Rattle.ifmap_elem.proofs.NamespaceLaws.{among, others, eq_tells, eq_itself, among-others, is_some-prefix_rows}
+use Rattle.ifmap_elem.proofs.NamespaceLaws.{among, eq_tells, eq_itself, among-others, is_some-prefix_rows}
 use Rattle.ifmap_elem.proofs.PrintedParts.{all_of_test, is_ascii}
-use Rattle.ifmap_elem.proofs.PrintedTags.{Rows, prefix_or, prefix_of, row_binding, Resolves, FitRow, ascii_part}
+use Rattle.ifmap_elem.proofs.PrintedTags.{Rows, prefix_or, row_binding, Resolves, FitRow, ascii_part}
 
 abbrev Texts : Type 0
 Texts = List (List ℕ)

@@ -1,10 +1,10 @@
 -- Printed names, attributes, declarations, tags and texts are taken as such, and printed tags are allowed.
-use Rattle.std.proofs.Common.{◌≡◌, ◌≢◌, ℕ, Bool, true, false, not, ◌&&◌, List, [], ◌∷◌, ◌++◌, map, refl, ap, sym, ◌∙◌, subst, arith, inl, inr, ◌⊎◌, append_assoc, Option, Some, None}
-use Rattle.std.specs.Prelude.{◌==◌, codes, encode_utf8_all, filter, is_none}
+use Rattle.std.proofs.Common.{◌≡◌, ◌≢◌, ℕ, true, false, ◌&&◌, List, [], ◌∷◌, ◌++◌, map, refl, ap, sym, ◌∙◌, subst, inr, ◌⊎◌, append_assoc, Option, Some, None}
+use Rattle.std.specs.Prelude.{codes, filter, is_none}
 use Rattle.std.specs.List.{AllByRecursion, flat_map, filter_map, list_all}
 use Rattle.std.specs.Map.{lookup}
 use Rattle.std.specs.Str.{bytes_eq}
-use Rattle.std.proofs.lemmas.Bool.{cases_Bool, false_from_ne_true}
+use Rattle.std.proofs.lemmas.Bool.{false_from_ne_true}
 use Rattle.std.proofs.lemmas.List.{append-nil}
 use Rattle.std.proofs.lemmas.List.Elements.{filter-append, filter_map-append}
 use Rattle.std.proofs.lemmas.Slice.Eq.{bytes_eq-Decides}
@@ -16,7 +16,7 @@ use Rattle.ifmap_elem.specs.declared.tokens.Qualified.{Qualified}
 use Rattle.ifmap_elem.specs.declared.tokens.Tag.{Tag}
 use Rattle.ifmap_elem.specs.Chars.{AllAre, IsCharacters, is_space}
 use Rattle.ifmap_elem.specs.Names.{IsNamePart, IsQualified, is_name_start, is_name_character, name_bytes, prefixed}
-use Rattle.ifmap_elem.specs.Scopes.{Binding, Scope, AllDiffer, bound, binding_of, bindings, plain_assignments, scope_within, attribute_space, IsBinding, IsAttribute, AreAttributes, NamesElement}
+use Rattle.ifmap_elem.specs.Scopes.{Binding, Scope, AllDiffer, bound, binding_of, bindings, plain_assignments, scope_within, attribute_space, IsBinding, AreAttributes, NamesElement}
 use Rattle.ifmap_elem.specs.Tokens.{TakesAssignment, TakesTag, TakesEnd, TakesText, EndsText}
 use Rattle.ifmap_elem.specs.Escapes.{text_bytes, value_bytes}
 use Rattle.ifmap_elem.specs.Fit.{IsFitName, IsFitAttribute}
@@ -83,8 +83,8 @@ assignment_taken q value rest i f = record {
   behind = codes "=\"" ++ (value_bytes value ++ (codes "\"" ++ rest));
   written = value_bytes value;
   bytes_are =
-    ap (λ l. codes " " ++ l)
-    (append_assoc (name_bytes q) (codes "=\"" ++ (value_bytes value ++ codes "\"")) rest ∙ ap (λ l. name_bytes q ++ (codes "=\"" ++ l)) (append_assoc (value_bytes value) (codes "\"") rest));
+      ap (λ l. codes " " ++ l)
+      (append_assoc (name_bytes q) (codes "=\"" ++ (value_bytes value ++ codes "\"")) rest ∙ ap (λ l. name_bytes q ++ (codes "=\"" ++ l)) (append_assoc (value_bytes value) (codes "\"") rest));
   is_space = (refl, tt);
   some_space = λ e. cc;
   is_name = i;
@@ -128,10 +128,10 @@ tag_taken prefixes declared scope name attributes end f r rows fits = record {
   bytes_are = ap (λ l. codes "<" ++ (l ++ (flat_map declaration_bytes declared ++ (flat_map (attribute_bytes prefixes) attributes ++ end)))) (r.printed name.local);
   is_name = is_qualified prefixes scope name f r;
   assigned =
-    to_both TakesAssignment (flat_map declaration_bytes declared ++ (flat_map (attribute_bytes prefixes) attributes ++ end)) (map declaration_assignment declared)
-    (flat_map (attribute_bytes prefixes) attributes ++ end) (map (attribute_assignment prefixes) attributes) end
-    (all_taken declaration_bytes declaration_assignment FitRow declaration_taken declared (flat_map (attribute_bytes prefixes) attributes ++ end) rows)
-    (all_taken (attribute_bytes prefixes) (attribute_assignment prefixes) (FitsIn prefixes scope) (attribute_taken prefixes scope) attributes end fits);
+      to_both TakesAssignment (flat_map declaration_bytes declared ++ (flat_map (attribute_bytes prefixes) attributes ++ end)) (map declaration_assignment declared)
+      (flat_map (attribute_bytes prefixes) attributes ++ end) (map (attribute_assignment prefixes) attributes) end
+      (all_taken declaration_bytes declaration_assignment FitRow declaration_taken declared (flat_map (attribute_bytes prefixes) attributes ++ end) rows)
+      (all_taken (attribute_bytes prefixes) (attribute_assignment prefixes) (FitsIn prefixes scope) (attribute_taken prefixes scope) attributes end fits);
   is_space = tt;
 }
 
@@ -230,7 +230,7 @@ names_element prefixes declared outer name attributes binds once r f differ =
       space_is = ap (λ (s : Scope). bound s (prefix_of prefixes name.space)) within ∙ r.bound_to;
       local_is = refl;
       attributes_are =
-        subst (λ (s : Scope). AreAttributes s (plain_assignments (tag_of prefixes declared name attributes)) attributes) (sym within)
-        (subst (λ (l : List Assignment). AreAttributes scope l attributes) (sym (plain_are prefixes declared scope name attributes f)) (are_attributes prefixes scope attributes f));
+          subst (λ (s : Scope). AreAttributes s (plain_assignments (tag_of prefixes declared name attributes)) attributes) (sym within)
+          (subst (λ (l : List Assignment). AreAttributes scope l attributes) (sym (plain_are prefixes declared scope name attributes f)) (are_attributes prefixes scope attributes f));
       names_differ = differ;
     }

@@ -1,5 +1,5 @@
 -- Elements that a document can have (XML 1.0, fifth edition, and Namespaces in XML 1.0, with the profile of texts that this crate reads).
-use Rattle.std.specs.Prelude.{◌≡◌, ◌≢◌, ℕ, List, [], ◌∷◌, map, codes, Bool, true, false, IsTrue}
+use Rattle.std.specs.Prelude.{◌≢◌, ℕ, List, [], ◌∷◌, map, codes, Bool, true, false, IsTrue}
 use Rattle.std.specs.List.{AllByRecursion, flat_map, list_any}
 use Rattle.ifmap_elem.specs.Chars.{IsCharacters, IsSpace}
 use Rattle.ifmap_elem.specs.Names.{IsNamePart}
