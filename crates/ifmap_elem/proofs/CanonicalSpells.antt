@@ -1,6 +1,6 @@
 -- The canonical bytes of an element that fits spell the element with its attributes in order, and tell elements apart.
 use Rattle.std.proofs.Common.{◌≡◌, ◌↔◌, ℕ, ◌<◌, ◌≤◌, Bool, false, IsTrue, List, [], ◌∷◌, ◌++◌, map, length, refl, ap, sym, ◌∙◌, subst, arith, length-append}
-use Rattle.std.specs.Prelude.{◌^◌, codes}
+use Rattle.std.specs.Prelude.{Result, Ok, Err, IfOk, ◌^◌, codes}
 use Rattle.std.specs.List.{AllByRecursion, flat_map}
 use Rattle.std.proofs.lemmas.List.{append-nil}
 use Rattle.ifmap_sequences.specs.Items.{To}
@@ -16,7 +16,7 @@ use Rattle.ifmap_elem.specs.Document.{tokens_of}
 use Rattle.ifmap_elem.specs.Fit.{IsFit, IsFitAlone, IsFitAttribute, IsNamespace, IsDeclarable}
 use Rattle.ifmap_elem.specs.Namespaces.{spaces_of, spaces_of_child, child_spaces, element_spaces, namespaces, name_prefixes}
 use Rattle.ifmap_elem.specs.Scopes.{Scope, IsBinding, root_scope}
-use Rattle.ifmap_elem.specs.Spells.{Spells, without_mark}
+use Rattle.ifmap_elem.specs.Spells.{Spells, SpelledBy, without_mark}
 use Rattle.ifmap_elem.specs.Tokens.{TakesToken}
 use Rattle.ifmap_elem.proofs.FitLaws.{elements_of_child, elements_in, fit_parts, fit_arranged, all_both, both_all}
 use Rattle.ifmap_elem.proofs.OneReading.{one_reading}
@@ -93,7 +93,7 @@ root_taken e given fit can small few =
     (both_differ 0x6E 0x66 1 1 (namespaces e) given (λ q. absurd (omega arith)) (prefixes_differ 0x6E n_letter 1 (namespaces e) (omega arith)) (prefixes_differ 0x66 f_letter 1 given (omega arith)))
     r.0 (fits_in prefixes scope e.attributes parts.0.attributes s.0) (children_taken prefixes scope e.children parts.1 parts.0.children.texts s.1)
 
-taken_spells : (e : Element) (bytes : List ℕ) → without_mark bytes ≡ bytes → ElementTaken root_scope bytes e → (r : Reading) × (r.root ≡ e) × Spells bytes r
+taken_spells : (e : Element) (bytes : List ℕ) → without_mark bytes ≡ bytes → ElementTaken root_scope bytes e → SpelledBy bytes e
 taken_spells e bytes marked t = (
   record { root = e; declared = t.declared },
   refl,
@@ -126,7 +126,7 @@ few_rows given e held =
 
 -- the element as it stands, printed as a root, is spelled by its bytes
 pub root_spelled : (e : Element) (given : Texts) → IsFit e → AllByRecursion IsDeclarable given → AreHeld (root_bytes (rows_of 0x66 1 given) e)
-    → (r : Reading) × (r.root ≡ e) × Spells (root_bytes (rows_of 0x66 1 given) e) r
+    → SpelledBy (root_bytes (rows_of 0x66 1 given) e) e
 root_spelled e given fit can held =
     let few : length (rows_of 0x6E 1 (namespaces e) ++ rows_of 0x66 1 given) < 2 ^ 64 = few_rows (rows_of 0x66 1 given) e held in
     let both = length-append (rows_of 0x6E 1 (namespaces e)) (rows_of 0x66 1 given) in
@@ -135,10 +135,10 @@ root_spelled e given fit can held =
     taken_spells e (root_bytes (rows_of 0x66 1 given) e) refl (root_taken e given fit can (omega arith) (omega arith))
 
 pub written_spelled : (e : Element) (given : Texts) → IsFit e → AllByRecursion IsDeclarable given → AreHeld (written_bytes e given)
-    → (r : Reading) × (r.root ≡ arranged e) × Spells (written_bytes e given) r
+    → SpelledBy (written_bytes e given) (arranged e)
 written_spelled e given fit can held = root_spelled (arranged e) given (fit_arranged e fit) can held
 
-pub canonical_spelled : (e : Element) → IsFit e → AreHeld (canonical_bytes e) → (r : Reading) × (r.root ≡ arranged e) × Spells (canonical_bytes e) r
+pub canonical_spelled : (e : Element) → IsFit e → AreHeld (canonical_bytes e) → SpelledBy (canonical_bytes e) (arranged e)
 canonical_spelled e fit held = written_spelled e [] fit tt held
 
 -- elements that fit are printed alike just where they are the same but for the order of attributes
@@ -155,3 +155,9 @@ same_when_alike a b fit also held alike =
 -- what tells whether two elements are the same tells it of their canonical bytes
 pub tells_apart : (a b : Element) (r : Bool) → (IsTrue r ↔ IsSame a b) → IsFit a → IsFit b → AreHeld (canonical_bytes a) → (IsTrue r ↔ (canonical_bytes a ≡ canonical_bytes b))
 tells_apart a b r h fit also held = (λ t. alike_when_same a b (h.0 t), λ e. h.1 (same_when_alike a b fit also held e))
+
+-- what was printed, where there was memory
+pub written_if_ok : {E : Type 0} (r : Result (List ℕ) E) (e : Element) (given : Texts) → IfOk r (λ bytes. bytes ≡ written_bytes e given) → IfOk r AreHeld → IsFit e → AllByRecursion IsDeclarable given
+    → IfOk r (λ bytes. SpelledBy bytes (arranged e))
+written_if_ok (Ok bytes) e given is held fit can = subst (λ (b : List ℕ). SpelledBy b (arranged e)) (sym is) (written_spelled e given fit can (subst AreHeld is held))
+written_if_ok (Err error) e given is held fit can = tt

@@ -2,7 +2,7 @@
 ghost use Rattle.std.specs.Prelude.{◌≡◌, ◌↔◌, ℕ, List};
 ghost use Rattle.std.specs.List.{AllByRecursion};
 ghost use Rattle.ifmap_elem.specs.declared.readings.Reading.{Reading};
-ghost use Rattle.ifmap_elem.specs.Spells.{Spells};
+ghost use Rattle.ifmap_elem.specs.Spells.{SpelledBy, Spells};
 ghost use Rattle.ifmap_elem.specs.declared.elements.Element.{Element};
 ghost use Rattle.ifmap_elem.specs.Arranged.{IsSame, arranged};
 ghost use Rattle.ifmap_elem.specs.Canonical.{AreHeld, canonical_bytes, written_bytes};
@@ -17,14 +17,13 @@ pub fn bytes_spell_one_element()
 /// The canonical bytes of an element that fits spell the element with its attributes in order, which
 /// nests as deep as the element.
 pub fn canonical_bytes_spell_the_element()
-    ensures spelled { (element : Element) → IsFit element → AreHeld (canonical_bytes element) → (reading : Reading) × (reading.root ≡ arranged element) × Spells (canonical_bytes element) reading }
+    ensures spelled { (element : Element) → IsFit element → AreHeld (canonical_bytes element) → SpelledBy (canonical_bytes element) (arranged element) }
     ensures nesting { (element : Element) → nesting (arranged element) ≡ nesting element }
 {}
 
 /// So do the bytes with declarations of given namespaces.
 pub fn written_bytes_spell_the_element()
-    ensures { (element : Element) (spaces : List (List ℕ)) → IsFit element → AllByRecursion IsDeclarable spaces → AreHeld (written_bytes element spaces)
-        → (reading : Reading) × (reading.root ≡ arranged element) × Spells (written_bytes element spaces) reading }
+    ensures { (element : Element) (spaces : List (List ℕ)) → IsFit element → AllByRecursion IsDeclarable spaces → AreHeld (written_bytes element spaces) → SpelledBy (written_bytes element spaces) (arranged element) }
 {}
 
 /// Elements that fit have the same canonical bytes exactly where they are the same but for the order
