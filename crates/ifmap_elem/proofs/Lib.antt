@@ -1,11 +1,17 @@
 pub mod ArrangedLaws
 pub mod Attributes
+pub mod CanonicalSpells
 pub mod Cuts
+pub mod FitLaws
 pub mod EscapeLaws
 pub mod NameBytes
 pub mod NamespaceLaws
 pub mod OneReading
 pub mod OneToken
 pub mod Orders
+pub mod PrintedElements
 pub mod PrintedLaws
+pub mod PrintedParts
+pub mod PrintedScopes
+pub mod PrintedTags
 pub mod SpaceLaws

@@ -16,26 +16,26 @@ use Rattle.std.proofs.lemmas.Cmp.{nat_list_eq_equiv}
 use Rattle.ifmap_elem.specs.Namespaces.{once_each, is_declared, declared_among, AddsSpaces, prefix_rows, name_prefixes}
 use Rattle.ifmap_elem.specs.Scopes.{xml_space}
 
-abbrev Texts : Type 0
+abbrev pub Texts : Type 0
 Texts = List (List ℕ)
 
-abbrev among : List ℕ → Texts → Bool
+abbrev pub among : List ℕ → Texts → Bool
 among s xs = list_any (bytes_eq s) xs
 
-abbrev others : List ℕ → Texts → Texts
+abbrev pub others : List ℕ → Texts → Texts
 others x xs = filter (λ y. not (bytes_eq y x)) xs
 
-eq_tells : (x y : List ℕ) → bytes_eq x y ≡ true → x ≡ y
+pub eq_tells : (x y : List ℕ) → bytes_eq x y ≡ true → x ≡ y
 eq_tells x y = (bytes_eq-Decides x y).0
 
-eq_itself : (x : List ℕ) → bytes_eq x x ≡ true
+pub eq_itself : (x : List ℕ) → bytes_eq x x ≡ true
 eq_itself x = (bytes_eq-Decides x x).1 refl
 
 apart : (x y : List ℕ) → bytes_eq x y ≡ false → bytes_eq y x ≡ false
 apart x y e = false_from_ne_true (bytes_eq y x) (λ h. let k : bytes_eq x y ≡ true = (bytes_eq-Decides x y).1 (sym (eq_tells y x h)) in cc)
 
 -- what is no x is among the others exactly where it is among all
-among-others : (s x : List ℕ) (ys : Texts) → bytes_eq s x ≡ false → among s (others x ys) ≡ among s ys
+pub among-others : (s x : List ℕ) (ys : Texts) → bytes_eq s x ≡ false → among s (others x ys) ≡ among s ys
 among-others s x [] e = refl
 among-others s x (y ∷ ys) e = elim (cases_Bool (bytes_eq y x)) [
   | inl f ↦
@@ -91,7 +91,7 @@ adds_new xs s d new seen e =
     let k : among s (declared_among seen) ≡ false = ap (among s) (sym e) ∙ new in
     ap (λ l. l ++ s ∷ []) e ∙ sym (declared_among-push seen s d ∙ (rw k refl))
 
-is_some-prefix_rows : (letter : List ℕ) (n : ℕ) (s : List ℕ) (xs : Texts) → is_some (lookup (bytes_eq s) (prefix_rows letter n xs)) ≡ among s xs
+pub is_some-prefix_rows : (letter : List ℕ) (n : ℕ) (s : List ℕ) (xs : Texts) → is_some (lookup (bytes_eq s) (prefix_rows letter n xs)) ≡ among s xs
 is_some-prefix_rows letter n s [] = refl
 is_some-prefix_rows letter n s (x ∷ xs) = elim (cases_Bool (bytes_eq s x)) [
   | inl e ↦ rw e refl

@@ -1,5 +1,5 @@
 -- The one canonical byte list of an element.
-use Rattle.std.specs.Prelude.{ℕ, List, [], ◌∷◌, ◌++◌, map, codes, Option, None, Some}
+use Rattle.std.specs.Prelude.{ℕ, ◌<◌, ◌^◌, length, List, [], ◌∷◌, ◌++◌, map, codes, Option, None, Some}
 use Rattle.std.specs.List.{concat, flat_map}
 use Rattle.std.specs.Map.{lookup}
 use Rattle.std.specs.Str.{bytes_eq}
@@ -67,3 +67,7 @@ written_bytes e spaces = root_bytes (prefix_rows (codes "f") 1 spaces) (arranged
 -- the canonical bytes
 abbrev pub canonical_bytes : Element → List ℕ
 canonical_bytes e = written_bytes e []
+
+-- bytes that a machine can hold, in which fewer namespaces are numbered than there are numbers with 64 digits
+abbrev pub AreHeld : List ℕ → Type 0
+AreHeld bytes = length bytes < 2 ^ 64

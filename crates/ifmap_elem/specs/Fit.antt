@@ -1,8 +1,9 @@
 -- Elements that a document can have (XML 1.0, fifth edition, and Namespaces in XML 1.0, with the profile of texts that this crate reads).
-use Rattle.std.specs.Prelude.{◌≡◌, ◌≢◌, ℕ, List, [], ◌∷◌, map, codes, Bool, true, false, IsTrue}
+use Rattle.std.specs.Prelude.{◌≢◌, ℕ, List, [], ◌∷◌, map, codes, Bool, true, false, IsTrue}
 use Rattle.std.specs.List.{AllByRecursion, flat_map, list_any}
 use Rattle.ifmap_elem.specs.Chars.{IsCharacters, IsSpace}
 use Rattle.ifmap_elem.specs.Names.{IsNamePart}
+use Rattle.ifmap_elem.specs.Namespaces.{is_declared}
 use Rattle.ifmap_elem.specs.Scopes.{AllDiffer, xmlns_space}
 use Rattle.ifmap_elem.specs.declared.elements.Name.{Name}
 use Rattle.ifmap_elem.specs.declared.elements.Attribute.{Attribute}
@@ -15,6 +16,11 @@ use Rattle.ifmap_elem.specs.declared.elements.Child.TheOpen.{Child-F, Element-F}
 pub record IsNamespace (space : List ℕ) : Type 0 where
   pub characters : IsCharacters space
   pub not_reserved : space ≢ xmlns_space
+
+-- a namespace that a root can declare by a prefix of a letter and a number
+pub record IsDeclarable (space : List ℕ) : Type 0 where
+  pub fit : IsNamespace space
+  pub declared : IsTrue (is_declared space)
 
 pub record IsFitName (name : Name) : Type 0 where
   pub space : IsNamespace name.space

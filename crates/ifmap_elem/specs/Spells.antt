@@ -1,7 +1,8 @@
 -- Which bytes spell which element.
-use Rattle.std.specs.Prelude.{ℕ, ◌==◌, if◌then◌else◌, List, [], ◌∷◌, drop}
+use Rattle.std.specs.Prelude.{◌≡◌, ℕ, ◌==◌, if◌then◌else◌, List, [], ◌∷◌, drop}
 use Rattle.std.specs.List.{starts_with}
 use Rattle.ifmap_sequences.specs.Items.{To}
+use Rattle.ifmap_elem.specs.declared.elements.Element.{Element}
 use Rattle.ifmap_elem.specs.declared.readings.Reading.{Reading}
 use Rattle.ifmap_elem.specs.Document.{IsDocument}
 use Rattle.ifmap_elem.specs.declared.tokens.Token.{Token}
@@ -20,3 +21,7 @@ pub record Spells (bytes : List ℕ) (r : Reading) : Type 0 where
   pub tokens : List Token
   pub lexed : To TakesToken (without_mark bytes) tokens []
   pub document : IsDocument tokens r
+
+-- the bytes spell this element, with some declarations
+abbrev pub SpelledBy : List ℕ → Element → Type 0
+SpelledBy bytes e = (r : Reading) × (r.root ≡ e) × Spells bytes r

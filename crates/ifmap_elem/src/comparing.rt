@@ -1,6 +1,8 @@
 //! Whether two elements are the same but for the order of their attributes.
 ghost use Rattle.std.specs.Prelude.{◌≡◌, ◌↔◌, IsTrue, map};
 ghost use Rattle.ifmap_elem.specs.Arranged.{IsSame, arranged, arranged_child, sorted};
+ghost use Rattle.ifmap_elem.specs.Canonical.{AreHeld, canonical_bytes};
+ghost use Rattle.ifmap_elem.specs.Fit.{IsFit};
 ghost use Rattle.ifmap_elem.specs.Occurrences.{occurrences_of};
 
 use crate::elements::{Attribute, Child, Element};
@@ -11,7 +13,8 @@ use crate::lists::Many;
 /// Attributes in one order are compared once each; in different orders each is counted in both
 /// elements, in time that grows with the square of their number in one element.
 pub fn same(a: &Element, b: &Element) -> bool
-    ensures { IsTrue result ↔ IsSame a.now b.now }
+    ensures same { IsTrue result ↔ IsSame a.now b.now }
+    ensures canonical { IsFit a.now → IsFit b.now → AreHeld (canonical_bytes a.now) → (IsTrue result ↔ (canonical_bytes a.now ≡ canonical_bytes b.now)) }
 {
     same_element(a, b)
 }

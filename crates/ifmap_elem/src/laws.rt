@@ -1,9 +1,33 @@
 //! Laws on what bytes spell: functions that do nothing, whose contracts are the laws.
-ghost use Rattle.std.specs.Prelude.{◌≡◌, ℕ, List};
+ghost use Rattle.std.specs.Prelude.{◌≡◌, ◌↔◌, ℕ, List};
+ghost use Rattle.std.specs.List.{AllByRecursion};
 ghost use Rattle.ifmap_elem.specs.declared.readings.Reading.{Reading};
-ghost use Rattle.ifmap_elem.specs.Spells.{Spells};
+ghost use Rattle.ifmap_elem.specs.Spells.{SpelledBy, Spells};
+ghost use Rattle.ifmap_elem.specs.declared.elements.Element.{Element};
+ghost use Rattle.ifmap_elem.specs.Arranged.{IsSame, arranged};
+ghost use Rattle.ifmap_elem.specs.Canonical.{AreHeld, canonical_bytes, written_bytes};
+ghost use Rattle.ifmap_elem.specs.Fit.{IsDeclarable, IsFit};
+ghost use Rattle.ifmap_elem.specs.Nesting.{nesting};
 
 /// A list of bytes spells at most one element, with one list of declarations.
 pub fn bytes_spell_one_element()
     ensures { (bytes : List ℕ) (one other : Reading) → Spells bytes one → Spells bytes other → one ≡ other }
+{}
+
+/// The canonical bytes of an element that fits spell the element with its attributes in order, which
+/// nests as deep as the element.
+pub fn canonical_bytes_spell_the_element()
+    ensures spelled { (element : Element) → IsFit element → AreHeld (canonical_bytes element) → SpelledBy (canonical_bytes element) (arranged element) }
+    ensures nesting { (element : Element) → nesting (arranged element) ≡ nesting element }
+{}
+
+/// So do the bytes with declarations of given namespaces.
+pub fn written_bytes_spell_the_element()
+    ensures { (element : Element) (spaces : List (List ℕ)) → IsFit element → AllByRecursion IsDeclarable spaces → AreHeld (written_bytes element spaces) → SpelledBy (written_bytes element spaces) (arranged element) }
+{}
+
+/// Elements that fit have the same canonical bytes exactly where they are the same but for the order
+/// of attributes.
+pub fn canonical_bytes_tell_elements_apart()
+    ensures { (one other : Element) → IsFit one → IsFit other → AreHeld (canonical_bytes one) → ((canonical_bytes one ≡ canonical_bytes other) ↔ IsSame one other) }
 {}

@@ -1,9 +1,11 @@
 //! Printing: the canonical bytes of an element.
 ghost use Rattle.std.specs.Prelude.{◌≡◌, ◌++◌, ◌+◌, ◌∷◌, [], map, codes, IfOk, OnOk, length};
-ghost use Rattle.std.specs.List.{flat_map};
+ghost use Rattle.std.specs.List.{AllByRecursion, flat_map};
 ghost use Rattle.ifmap_elem.specs.Arranged.{arranged, arranged_child, sorted};
+ghost use Rattle.ifmap_elem.specs.Fit.{IsDeclarable, IsFit};
 ghost use Rattle.ifmap_elem.specs.Namespaces.{name_prefixes, prefix_rows};
-ghost use Rattle.ifmap_elem.specs.Canonical.{canonical_bytes, written_bytes, root_bytes, element_bytes, child_bytes, printed_name, attribute_bytes, declaration_bytes, content_bytes};
+ghost use Rattle.ifmap_elem.specs.Spells.{SpelledBy};
+ghost use Rattle.ifmap_elem.specs.Canonical.{AreHeld, canonical_bytes, written_bytes, root_bytes, element_bytes, child_bytes, printed_name, attribute_bytes, declaration_bytes, content_bytes};
 
 use crate::elements::{Attribute, Child, Element, Name};
 use crate::escaping::{Place, write_escaped};
@@ -16,7 +18,8 @@ use std::alloc::{AllocError as NoMemory, Global};
 /// The canonical bytes of an element: its one byte list, by which elements are compared, kept and
 /// sent. The one error is want of memory.
 pub fn canonical(alloc: Global, element: &Element) -> Result<Many<u8>, NoMemory>
-    ensures { IfOk result (λ bytes. bytes ≡ canonical_bytes element.now) }
+    ensures bytes { IfOk result (λ bytes. bytes ≡ canonical_bytes element.now) }
+    ensures spelled { IsFit element.now → IfOk result (λ bytes. SpelledBy bytes (arranged element.now)) }
 {
     printed(alloc, element, &[])
 }
@@ -24,13 +27,15 @@ pub fn canonical(alloc: Global, element: &Element) -> Result<Many<u8>, NoMemory>
 /// The canonical bytes with declarations of the prefixes `f1`, `f2` and so on for these namespaces
 /// at the root, behind the element's own. The one error is want of memory.
 pub fn written(alloc: Global, element: &Element, spaces: &Many<Text>) -> Result<Many<u8>, NoMemory>
-    ensures { IfOk result (λ bytes. bytes ≡ written_bytes element.now spaces.now) }
+    ensures bytes { IfOk result (λ bytes. bytes ≡ written_bytes element.now spaces.now) }
+    ensures spelled { IsFit element.now → AllByRecursion IsDeclarable spaces.now → IfOk result (λ bytes. SpelledBy bytes (arranged element.now)) }
 {
     printed(alloc, element, &spaces.0)
 }
 
 fn printed(alloc: Global, element: &Element, spaces: &[Text]) -> Result<Many<u8>, NoMemory>
-    ensures { IfOk result (λ bytes. bytes ≡ written_bytes element.now spaces.now) }
+    ensures bytes { IfOk result (λ bytes. bytes ≡ written_bytes element.now spaces.now) }
+    ensures held { IfOk result AreHeld }
 {
     let prefixes = prefixes_of(alloc, element)?;
     let mut out = Vec::new(alloc);

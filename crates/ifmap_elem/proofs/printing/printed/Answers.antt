@@ -6,8 +6,8 @@ use Rattle.ifmap_elem.specs.Namespaces.{prefix_rows}
 use Rattle.ifmap_elem.proofs.PrintedLaws.{root_written}
 use Rattle.ifmap_elem.proofs.printing.printed.Goals as goal
 
-pub returns : goal.returns
-returns c =
+pub returns-clause-bytes : goal.returns-clause-bytes
+returns-clause-bytes c =
     root_written c.args.element.now c.args.spaces.now c.in_ok-prefixes.prefixes _ _ _ _ _ _ c.in_ok-prefixes.ensures
     (c.in_ok-extend_from_slice.ensures.items ∙ ap (λ l. l ++ codes "<") c.new-out.ensures.items) c.in_ok-write_name.ensures
     (c.in_ok-write_declarations.ensures ∙ ap (λ l. c.write_name.new.out.items ++ flat_map declaration_bytes (prefix_rows (codes "n") 1 l)) c.spaces.ensures)

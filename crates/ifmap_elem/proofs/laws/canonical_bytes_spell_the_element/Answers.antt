@@ -1,0 +1,6 @@
+use Rattle.ifmap_elem.proofs.CanonicalSpells.{canonical_spelled}
+use Rattle.ifmap_elem.proofs.FitLaws.{nesting_arranged}
+use Rattle.ifmap_elem.proofs.laws.canonical_bytes_spell_the_element.Goals as goal
+
+pub returns : goal.returns
+returns c = record { spelled = canonical_spelled; nesting = nesting_arranged }
