@@ -1,5 +1,5 @@
 -- Namespaces, each once, and their prefixes.
-use Rattle.std.proofs.Common.{◌≡◌, ℕ, ◌+◌, suc, List, [], ◌∷◌, ◌++◌, length, Bool, true, false, not, cond, ◌||◌, Option, Some, None, refl, ap, sym, ◌∙◌, subst, arith, inl, inr, append_assoc}
+use Rattle.std.proofs.Common.{◌≡◌, ◌≢◌, ℕ, ◌+◌, suc, List, [], ◌∷◌, ◌++◌, length, Bool, true, false, not, cond, ◌||◌, Option, Some, None, refl, ap, sym, ◌∙◌, subst, arith, inl, inr, append_assoc}
 use Rattle.std.proofs.lemmas.List.{append-nil}
 use Rattle.std.proofs.lemmas.List.Elements.{filter-append}
 use Rattle.std.proofs.lemmas.Bool.{cases_Bool, false_from_ne_true, not-true, and_parts}
@@ -167,6 +167,19 @@ keyed old new xs ys s key other label was now k o more is none q =
     let e : length xs + 1 ≡ 1 + length xs = omega arith in
     one_row_more old new xs s label was (λ t. now t ∙ ap (λ x. cond (is_eq (slice_cmp nat_cmp x t)) (Some label) (old t)) k) (is ∙ ap (λ n. codes "n" ++ decimal n) e) none q
     ∙ ap (λ l. lookup (bytes_eq q) (name_prefixes l)) (sym (more ∙ ap (λ x. xs ++ x ∷ []) o))
+
+-- the lack of a namespace has no prefix where nothing is numbered
+pub none_first : (xs : Texts) → xs ≡ [] → lookup (bytes_eq []) (name_prefixes xs) ≡ None
+none_first xs e = ap (λ l. lookup (bytes_eq []) (name_prefixes l)) e
+
+-- nor where one more namespace is
+pub none_more : (xs ys : Texts) (s other : List ℕ) → s ≢ [] → other ≡ s → ys ≡ xs ++ other ∷ [] → lookup (bytes_eq []) (name_prefixes xs) ≡ None
+    → lookup (bytes_eq []) (name_prefixes ys) ≡ None
+none_more xs ys s other some o more none =
+    let off : bytes_eq [] s ≡ false = false_from_ne_true (bytes_eq [] s) (λ e. some (sym (eq_tells [] s e))) in
+    ap (λ l. lookup (bytes_eq []) (name_prefixes l)) (more ∙ ap (λ x. xs ++ x ∷ []) o)
+    ∙ ap (λ l. lookup (bytes_eq []) ((xml_space, codes "xml") ∷ l)) (prefix_rows-push (codes "n") 1 xs s)
+    ∙ lookup-other (bytes_eq []) (name_prefixes xs) s (codes "n" ++ decimal (1 + length xs)) off ∙ none
 
 -- the table that begins with the prefix `xml`
 pub first_row : (old new : List ℕ → Option (List ℕ)) (xs : Texts) (key label : List ℕ) → ((q : List ℕ) → old q ≡ None)

@@ -45,12 +45,13 @@ element_is prefixes e =
     ∙ at_element (List ℕ) (List ℕ) (child_piece prefixes) (element_piece prefixes) (record { name = e.name; attributes = sorted e.attributes; children = map arranged_child e.children })
     ∙ ap (tagged prefixes [] e.name (sorted e.attributes)) (map_map (child_bytes prefixes) arranged_child e.children)
 
-pub element_written : (prefixes : Rows) (element : Element) (a b c d e : List ℕ) → b ≡ a ++ codes "<" → c ≡ b ++ printed_name prefixes element.name
+pub element_written : (prefixes : Rows) (element : Element) (name a b c d e : List ℕ) → name ≡ printed_name prefixes element.name → b ≡ a ++ codes "<" → c ≡ b ++ name
     → d ≡ c ++ flat_map (attribute_bytes prefixes) (sorted element.attributes)
-    → e ≡ d ++ content_bytes (printed_name prefixes element.name) (map (λ c. child_bytes prefixes (arranged_child c)) element.children)
+    → e ≡ d ++ content_bytes name (map (λ c. child_bytes prefixes (arranged_child c)) element.children)
     → e ≡ a ++ element_bytes prefixes (arranged element)
-element_written prefixes element a b c d e p q r s =
-    two_written a b e (codes "<") _ p (two_written b c e (printed_name prefixes element.name) _ q (two_written c d e _ _ r s))
+element_written prefixes element name a b c d e named p q r s =
+    two_written a b e (codes "<") _ p (two_written b c e name _ q (two_written c d e _ _ r s))
+    ∙ ap (λ n. a ++ (codes "<" ++ (n ++ (flat_map (attribute_bytes prefixes) (sorted element.attributes) ++ content_bytes n (map (λ c. child_bytes prefixes (arranged_child c)) element.children))))) named
     ∙ ap (λ l. a ++ l) (sym (element_is prefixes element))
 
 abbrev rooted : Rows → Rows → Element → List ℕ
@@ -61,13 +62,13 @@ root_is : (prefixes declared : Rows) (e : Element)
 root_is prefixes declared e =
     ap (rooted prefixes declared) (arranged_is e) ∙ ap (tagged prefixes declared e.name (sorted e.attributes)) (map_map (child_bytes prefixes) arranged_child e.children)
 
-pub root_written : (element : Element) (given spaces : List (List ℕ)) (a b c d e f : List ℕ) → spaces ≡ namespaces (arranged element)
+root_printed : (element : Element) (given spaces : List (List ℕ)) (a b c d e f : List ℕ) → spaces ≡ namespaces (arranged element)
     → a ≡ codes "<" → b ≡ a ++ printed_name (name_prefixes spaces) element.name
     → c ≡ b ++ flat_map declaration_bytes (prefix_rows (codes "n") 1 spaces) → d ≡ c ++ flat_map declaration_bytes (prefix_rows (codes "f") 1 given)
     → e ≡ d ++ flat_map (attribute_bytes (name_prefixes spaces)) (sorted element.attributes)
     → f ≡ e ++ content_bytes (printed_name (name_prefixes spaces) element.name) (map (λ c. child_bytes (name_prefixes spaces) (arranged_child c)) element.children)
     → f ≡ written_bytes element given
-root_written element given spaces a b c d e f are p q r s t u =
+root_printed element given spaces a b c d e f are p q r s t u =
     let own = prefix_rows (codes "n") 1 spaces in
     let more = prefix_rows (codes "f") 1 given in
     let prefixes = name_prefixes spaces in
@@ -83,6 +84,16 @@ root_written element given spaces a b c d e f are p q r s t u =
     rest =
         flat_map (attribute_bytes (name_prefixes spaces)) (sorted element.attributes)
         ++ content_bytes (printed_name (name_prefixes spaces) element.name) (map (λ c. child_bytes (name_prefixes spaces) (arranged_child c)) element.children)
+
+pub root_written : (element : Element) (given spaces : List (List ℕ)) (name a b c d e f : List ℕ) → spaces ≡ namespaces (arranged element)
+    → name ≡ printed_name (name_prefixes spaces) element.name → a ≡ codes "<" → b ≡ a ++ name
+    → c ≡ b ++ flat_map declaration_bytes (prefix_rows (codes "n") 1 spaces) → d ≡ c ++ flat_map declaration_bytes (prefix_rows (codes "f") 1 given)
+    → e ≡ d ++ flat_map (attribute_bytes (name_prefixes spaces)) (sorted element.attributes)
+    → f ≡ e ++ content_bytes name (map (λ c. child_bytes (name_prefixes spaces) (arranged_child c)) element.children)
+    → f ≡ written_bytes element given
+root_written element given spaces name a b c d e f are named p q r s t u =
+    root_printed element given spaces a b c d e f are p (q ∙ ap (λ n. a ++ n) named) r s t
+    (u ∙ ap (λ n. e ++ content_bytes n (map (λ c. child_bytes (name_prefixes spaces) (arranged_child c)) element.children)) named)
 
 -- one more declaration
 pub declarations_more : (letter : List ℕ) (xs : List (List ℕ)) (i : ℕ) (x : List ℕ) → i < length xs → x ≡ get_or xs i x

@@ -1,5 +1,5 @@
 //! The prefixes of an element's namespaces, numbered by first occurrence.
-ghost use Rattle.std.specs.Prelude.{◌≡◌, ◌↔◌, ◌∷◌, [], ◌++◌, map, IfOk, IsTrue, is_some};
+ghost use Rattle.std.specs.Prelude.{◌≡◌, ◌≢◌, ◌↔◌, ◌∷◌, [], ◌++◌, map, IfOk, IsTrue, is_some};
 ghost use Rattle.std.specs.Fmt.{decimal};
 ghost use Rattle.std.specs.List.{flat_map};
 ghost use Rattle.std.specs.Map.{lookup};
@@ -27,7 +27,7 @@ pub(crate) struct Prefixes {
 }
 
 impl Model for Prefixes {
-    ghost use Rattle.std.specs.Prelude.{◌≡◌, List, ℕ};
+    ghost use Rattle.std.specs.Prelude.{◌≡◌, List, ℕ, [], None};
     ghost use Rattle.std.specs.Ordering.{nat_cmp};
     ghost use Rattle.std.specs.Cmp.Lexicographic.{slice_cmp};
     ghost use Rattle.std.specs.BTreeMap.{get};
@@ -39,7 +39,7 @@ impl Model for Prefixes {
 
     ghost view = { λ p. p.order.items };
 
-    ghost invariant = { λ p. (space : List ℕ) → get (slice_cmp nat_cmp) p.labels space ≡ lookup (bytes_eq space) (name_prefixes p.order.items) };
+    ghost invariant = { λ p. ((space : List ℕ) → get (slice_cmp nat_cmp) p.labels space ≡ lookup (bytes_eq space) (name_prefixes p.order.items)) × (lookup (bytes_eq []) (name_prefixes p.order.items) ≡ None) };
 }
 
 impl Prefixes {
@@ -58,7 +58,11 @@ impl Prefixes {
     pub(crate) fn of_space(&self, space: &Text) -> Option<&Text>
         ensures { option_copied result ≡ lookup (bytes_eq space.now) (name_prefixes self.now) }
     {
-        self.labels.get(space)
+        let labels = &self.labels;
+        if is_none(space) {
+            return None;
+        }
+        labels.get(space)
     }
 
     fn knows(&self, space: &Text) -> bool
@@ -85,7 +89,8 @@ impl Prefixes {
     }
 
     fn with_new_space(self, alloc: Global, space: &Text) -> Result<Prefixes, NoMemory>
-        requires { lookup (bytes_eq space.now) (name_prefixes self) ≡ None }
+        requires some { space.now ≢ [] }
+        requires new { lookup (bytes_eq space.now) (name_prefixes self) ≡ None }
         ensures { IfOk result (λ made. made ≡ self ++ space.now ∷ []) }
     {
         let Prefixes {

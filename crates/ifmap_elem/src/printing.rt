@@ -1,13 +1,14 @@
 //! Printing: the canonical bytes of an element.
 ghost use Rattle.std.specs.Prelude.{◌≡◌, ◌++◌, ◌+◌, ◌∷◌, [], map, codes, IfOk, OnOk, length};
 ghost use Rattle.std.specs.List.{AllByRecursion, flat_map};
+ghost use Rattle.std.specs.Option.{option_copied};
 ghost use Rattle.ifmap_elem.specs.Arranged.{arranged, arranged_child, sorted};
 ghost use Rattle.ifmap_elem.specs.Fit.{IsDeclarable, IsFit};
 ghost use Rattle.ifmap_elem.specs.Namespaces.{name_prefixes, prefix_rows};
 ghost use Rattle.ifmap_elem.specs.Spells.{SpelledBy};
-ghost use Rattle.ifmap_elem.specs.Canonical.{AreHeld, canonical_bytes, written_bytes, root_bytes, element_bytes, child_bytes, printed_name, attribute_bytes, declaration_bytes, content_bytes};
+ghost use Rattle.ifmap_elem.specs.Canonical.{AreHeld, canonical_bytes, written_bytes, root_bytes, element_bytes, child_bytes, after_prefix, attribute_bytes, declaration_bytes, content_bytes};
 
-use crate::elements::{Attribute, Child, Element, Name};
+use crate::elements::{Attribute, Child, Element};
 use crate::escaping::{Place, write_escaped};
 use crate::lists::Many;
 use crate::numbering::{Prefixes, numbered_prefix, prefixes_of};
@@ -39,12 +40,20 @@ fn printed(alloc: Global, element: &Element, spaces: &[Text]) -> Result<Many<u8>
 {
     let prefixes = prefixes_of(alloc, element)?;
     let mut out = Vec::new(alloc);
+    let prefix = prefixes.of_space(&element.name.space);
     out.extend_from_slice(b"<")?;
-    write_name(&prefixes, &element.name, &mut out)?;
+    write_name(prefix, &element.name.local, &mut out)?;
     write_declarations(alloc, "n", prefixes.spaces(), &mut out)?;
     write_declarations(alloc, "f", spaces, &mut out)?;
     write_attributes(alloc, &prefixes, &element.attributes, &mut out)?;
-    write_content(alloc, &prefixes, &element.name, &element.children, &mut out)?;
+    write_content(
+        alloc,
+        &prefixes,
+        prefix,
+        &element.name.local,
+        &element.children,
+        &mut out,
+    )?;
     Ok(Many(out))
 }
 
@@ -57,10 +66,18 @@ fn write_element(
 ) -> Result<(), NoMemory>
     ensures { OnOk result (out.new.items ≡ out.old.items ++ element_bytes (name_prefixes prefixes.now) (arranged element.now)) }
 {
+    let prefix = prefixes.of_space(&element.name.space);
     out.extend_from_slice(b"<")?;
-    write_name(prefixes, &element.name, out)?;
+    write_name(prefix, &element.name.local, out)?;
     write_attributes(alloc, prefixes, &element.attributes, out)?;
-    write_content(alloc, prefixes, &element.name, &element.children, out)?;
+    write_content(
+        alloc,
+        prefixes,
+        prefix,
+        &element.name.local,
+        &element.children,
+        out,
+    )?;
     Ok(())
 }
 
@@ -69,11 +86,12 @@ fn write_element(
 fn write_content(
     alloc: Global,
     prefixes: &Prefixes,
-    name: &Name,
+    prefix: Option<&Text>,
+    local: &Text,
     children: &Many<Child>,
     out: &mut Vec<u8>,
 ) -> Result<(), NoMemory>
-    ensures { OnOk result (out.new.items ≡ out.old.items ++ content_bytes (printed_name (name_prefixes prefixes.now) name.now) (map (λ c. child_bytes (name_prefixes prefixes.now) (arranged_child c)) children.now)) }
+    ensures { OnOk result (out.new.items ≡ out.old.items ++ content_bytes (after_prefix (option_copied prefix.entry) local.now) (map (λ c. child_bytes (name_prefixes prefixes.now) (arranged_child c)) children.now)) }
 {
     if children.0.is_empty() {
         return out.extend_from_slice(b"/>");
@@ -83,7 +101,7 @@ fn write_content(
         write_child(alloc, prefixes, child, out)?;
     }
     out.extend_from_slice(b"</")?;
-    write_name(prefixes, name, out)?;
+    write_name(prefix, local, out)?;
     out.extend_from_slice(b">")?;
     Ok(())
 }
@@ -126,21 +144,25 @@ fn write_attribute(
     ensures { OnOk result (out.new.items ≡ out.old.items ++ attribute_bytes (name_prefixes prefixes.now) attribute.now) }
 {
     out.extend_from_slice(b" ")?;
-    write_name(prefixes, &attribute.name, out)?;
+    write_name(
+        prefixes.of_space(&attribute.name.space),
+        &attribute.name.local,
+        out,
+    )?;
     out.extend_from_slice(b"=\"")?;
     write_escaped(Place::Value, attribute.value.0.as_bytes(), out)?;
     out.extend_from_slice(b"\"")?;
     Ok(())
 }
 
-fn write_name(prefixes: &Prefixes, name: &Name, out: &mut Vec<u8>) -> Result<(), NoMemory>
-    ensures { OnOk result (out.new.items ≡ out.old.items ++ printed_name (name_prefixes prefixes.now) name.now) }
+fn write_name(prefix: Option<&Text>, local: &Text, out: &mut Vec<u8>) -> Result<(), NoMemory>
+    ensures { OnOk result (out.new.items ≡ out.old.items ++ after_prefix (option_copied prefix.entry) local.now) }
 {
-    if let Some(prefix) = prefixes.of_space(&name.space) {
+    if let Some(prefix) = prefix {
         out.extend_from_slice(prefix.0.as_bytes())?;
         out.extend_from_slice(b":")?;
     }
-    out.extend_from_slice(name.local.0.as_bytes())?;
+    out.extend_from_slice(local.0.as_bytes())?;
     Ok(())
 }
 

@@ -7,13 +7,15 @@ use Rattle.std.specs.Str.{bytes_eq}
 use Rattle.std.specs.Ordering.{nat_cmp}
 use Rattle.std.specs.Cmp.Lexicographic.{slice_cmp}
 use Rattle.ifmap_elem.specs.Namespaces.{name_prefixes}
-use Rattle.ifmap_elem.proofs.NamespaceLaws.{keyed}
+use Rattle.ifmap_elem.proofs.NamespaceLaws.{keyed, none_more}
 use Rattle.ifmap_elem.proofs.numbering.Prefixes.with_new_space.Goals as goal
 
 pub invariant_of-result : goal.invariant_of-result
 invariant_of-result c =
-    let long : c.len.result ≡ length c.self.inside.order.items = omega (arith, c.len.ensures, c.self.inside.order.ok.0) in
-    keyed (get (slice_cmp nat_cmp) c.self.inside.labels) (get (slice_cmp nat_cmp) c.insert.new.self) c.self.inside.order.items c.push.new.self.items
-    c.args.space.now c.in_ok-copy.field-0 c.in_ok-copy-2.field-0 c.in_ok-label.label c.self.invariant c.in_ok-insert.ensures.updates.0
-    c.in_ok-copy.ensures c.in_ok-copy-2.ensures c.in_ok-push.ensures.items (c.in_ok-label.ensures ∙ ap (λ (n : ℕ). codes "n" ++ decimal (n + 1)) long)
-    (subst (λ xs. lookup (bytes_eq c.args.space.now) (name_prefixes xs) ≡ None) (sym c.self.view_is) c.requires)
+    let long : c.len.result ≡ length c.self.inside.order.items = omega (arith, c.len.ensures, c.self.inside.order.ok.0) in (
+      keyed (get (slice_cmp nat_cmp) c.self.inside.labels) (get (slice_cmp nat_cmp) c.insert.new.self) c.self.inside.order.items c.push.new.self.items
+          c.args.space.now c.in_ok-copy.field-0 c.in_ok-copy-2.field-0 c.in_ok-label.label c.self.invariant.0 c.in_ok-insert.ensures.updates.0
+          c.in_ok-copy.ensures c.in_ok-copy-2.ensures c.in_ok-push.ensures.items (c.in_ok-label.ensures ∙ ap (λ (n : ℕ). codes "n" ++ decimal (n + 1)) long)
+          (subst (λ xs. lookup (bytes_eq c.args.space.now) (name_prefixes xs) ≡ None) (sym c.self.view_is) c.requires.new),
+      none_more c.self.inside.order.items c.push.new.self.items c.args.space.now c.in_ok-copy-2.field-0 c.requires.some c.in_ok-copy-2.ensures c.in_ok-push.ensures.items c.self.invariant.1,
+    )
