@@ -1,21 +1,22 @@
 -- The order of attributes, and how often they occur.
-use Rattle.std.proofs.Common.{◌≡◌, ℕ, ◌≤◌, ◌<◌, suc, List, [], ◌∷◌, length, true, false, refl, ap, sym, ◌∙◌, subst, arith, get_or, map, inl, inr, ◌⊎◌, cond, add-one, Bor}
+use Rattle.std.proofs.Common.{◌≡◌, ℕ, ◌+◌, ◌≤◌, ◌<◌, suc, List, [], ◌∷◌, length, Bool, true, false, Option, Some, refl, ap, sym, ◌∙◌, subst, arith, get_or, map, inl, inr, ◌⊎◌, cond, add-one, Bor}
 use Rattle.std.proofs.lemmas.List.Sums.{sum_by-cons}
-use Rattle.std.specs.List.{All}
+use Rattle.std.specs.Bool.{OnTrue}
+use Rattle.std.specs.List.{All, IsEachAdjacentAnswer}
 use Rattle.std.proofs.lemmas.Bool.{cases_Bool, and_parts}
 use Rattle.std.proofs.lemmas.Cmp.{nat_list_cmp_total, then_total, on_total, upto}
 use Rattle.std.proofs.lemmas.Slice.Eq.{bytes_eq-Decides}
 use Rattle.std.specs.Cmp.{IsTotalOrder}
 use Rattle.std.specs.Cmp.Lexicographic.{slice_cmp, texts_ties}
 use Rattle.std.specs.Str.{bytes_eq}
-use Rattle.std.specs.Ordering.{is_gt, is_lt, is_eq, ordering_then, ordering_reverse, nat_cmp}
+use Rattle.std.specs.Ordering.{is_gt, is_lt, is_le, is_eq, is_some_and, partial_le, partial_ordering_then, ordering_then, ordering_reverse, nat_cmp}
 use Rattle.std.specs.declared.cmp.Ordering.{Ordering}
 use Rattle.std.specs.declared.cmp.Ordering.TheVariants.{Less, Equal, Greater}
 use Rattle.ifmap_elem.specs.declared.elements.Attribute.{Attribute}
 use Rattle.ifmap_elem.specs.Arranged.{attribute_order, name_order, sorted}
 use Rattle.ifmap_elem.specs.Occurrences.{attribute_eq, occurrences_of}
 use Rattle.std.specs.List.Sorted.{IsPermutation, IsSorted}
-use Rattle.std.proofs.lemmas.List.Sorted.{IsPermutation-map}
+use Rattle.std.proofs.lemmas.List.Sorted.{IsPermutation-map, IsPermutation-refl}
 use Rattle.std.proofs.lemmas.List.{get_or-map, length-map}
 use Rattle.ifmap_elem.proofs.Orders.{Ranks, in_order_same, in_order_is, in_order-rises, in_order-permutation, IsPermutation-in_order, length-in_order, count-in_order}
 
@@ -134,6 +135,43 @@ rising_is_sorted : (xs ys : List Attribute) → IsPermutation xs ys → ((k : �
 rising_is_sorted xs ys p up =
     in_order_is attribute_order attribute_ranks attribute_eq eq_itself eq_tells xs ys p
     (λ k d l. not_greater (attribute_order (get_or ys k d) (get_or ys (suc k) d)) (attribute_order (get_or ys (suc k) d) (get_or ys k d)) (attributes_total.antisymm (get_or ys k d) (get_or ys (suc k) d)) (up k d l))
+
+next_not_less : (p q : Ordering) → p ≡ ordering_reverse q → is_le p ≡ true → is_lt q ≡ false
+next_not_less Less Less e f = cc
+next_not_less Less Equal e f = cc
+next_not_less Less Greater e f = refl
+next_not_less Equal Less e f = cc
+next_not_less Equal Equal e f = refl
+next_not_less Equal Greater e f = cc
+next_not_less Greater q e f = cc
+
+then_some : (o p : Ordering) → partial_ordering_then (Some o) (Some p) ≡ Some (ordering_then o p)
+then_some Less p = refl
+then_some Equal p = refl
+then_some Greater p = refl
+
+-- how two attributes compare, as `<=` asks
+abbrev compared : Attribute → Attribute → Option Ordering
+compared a b =
+    partial_ordering_then (partial_ordering_then (Some (slice_cmp nat_cmp a.name.space b.name.space)) (Some (slice_cmp nat_cmp a.name.local b.name.local))) (Some (slice_cmp nat_cmp a.value b.value))
+
+compared_is : (a b : Attribute) → compared a b ≡ Some (attribute_order a b)
+compared_is a b =
+    ap (λ o. partial_ordering_then o (Some (slice_cmp nat_cmp a.value b.value))) (then_some (slice_cmp nat_cmp a.name.space b.name.space) (slice_cmp nat_cmp a.name.local b.name.local))
+    ∙ then_some (name_order a.name b.name) (slice_cmp nat_cmp a.value b.value)
+
+-- attributes each of which is not greater than the next are in order
+pub already_sorted : (xs : List Attribute) (r : Bool) → IsEachAdjacentAnswer (λ x y b. partial_le compared x y ≡ b) xs r → OnTrue r (sorted xs ≡ xs)
+already_sorted xs true up = sym (rising_is_sorted xs xs (IsPermutation-refl xs) (λ k d l. rises k d l))
+  where
+    rises : (k : ℕ) (d : Attribute) → suc k < length xs → is_lt (attribute_order (get_or xs (suc k) d) (get_or xs k d)) ≡ false
+    rises k d l =
+        let a = get_or xs k d in
+        let b = get_or xs (suc k) d in
+        let h : partial_le compared a (get_or xs (k + 1) d) ≡ true = (up k d (omega (arith, l))).1 in
+        let g : partial_le compared a b ≡ true = subst (λ (n : ℕ). partial_le compared a (get_or xs n d) ≡ true) (add-one k) h in
+        next_not_less (attribute_order a b) (attribute_order b a) (attributes_total.antisymm a b) (ap (λ o. is_some_and is_le o) (sym (compared_is a b)) ∙ g)
+already_sorted xs false up = tt
 
 abbrev referred : List (Bor Attribute) → List Attribute
 referred rs = map (λ (r : Bor Attribute). r.now) rs

@@ -11,7 +11,7 @@ ghost use Rattle.ifmap_elem.specs.Namespaces.{namespaces, spaces_of, spaces_of_c
 use crate::copying::Copied;
 use crate::elements::{Attribute, Child, Element};
 use crate::lists::Many;
-use crate::sorting::sorted_attributes;
+use crate::sorting::{are_sorted, sorted_attributes};
 use crate::texts::Text;
 use std::alloc::{AllocError as NoMemory, Global};
 use std::collections::BTreeMap;
@@ -175,9 +175,26 @@ fn with_attributes(
 ) -> Result<Prefixes, NoMemory>
     ensures { IfOk result (λ made. AddsSpaces prefixes (map (λ a. a.name.space) (sorted attributes.now)) made) }
 {
+    if are_sorted(&attributes.0) {
+        return with_each(alloc, prefixes, &attributes.0);
+    }
     let order = sorted_attributes(alloc, attributes)?;
     let mut made = prefixes;
     for attribute in &order {
+        made = made.with_space(alloc, &attribute.name.space)?;
+    }
+    Ok(made)
+}
+
+fn with_each(
+    alloc: Global,
+    prefixes: Prefixes,
+    attributes: &[Attribute],
+) -> Result<Prefixes, NoMemory>
+    ensures { IfOk result (λ made. AddsSpaces prefixes (map (λ a. a.name.space) attributes.now) made) }
+{
+    let mut made = prefixes;
+    for attribute in attributes {
         made = made.with_space(alloc, &attribute.name.space)?;
     }
     Ok(made)

@@ -12,7 +12,7 @@ use crate::elements::{Attribute, Child, Element};
 use crate::escaping::{Place, write_escaped};
 use crate::lists::Many;
 use crate::numbering::{Prefixes, numbered_prefix, prefixes_of};
-use crate::sorting::sorted_attributes;
+use crate::sorting::{are_sorted, sorted_attributes};
 use crate::texts::Text;
 use std::alloc::{AllocError as NoMemory, Global};
 
@@ -129,9 +129,26 @@ fn write_attributes(
 ) -> Result<(), NoMemory>
     ensures { OnOk result (out.new.items ≡ out.old.items ++ flat_map (attribute_bytes (name_prefixes prefixes.now)) (sorted attributes.now)) }
 {
+    if are_sorted(&attributes.0) {
+        return write_each(prefixes, &attributes.0, out);
+    }
     let order = sorted_attributes(alloc, attributes)?;
     for attribute in &order {
         write_attribute(prefixes, *attribute, out)?;
+    }
+    Ok(())
+}
+
+/// Writes attributes in the order in which they stand.
+fn write_each(
+    prefixes: &Prefixes,
+    attributes: &[Attribute],
+    out: &mut Vec<u8>,
+) -> Result<(), NoMemory>
+    ensures { OnOk result (out.new.items ≡ out.old.items ++ flat_map (attribute_bytes (name_prefixes prefixes.now)) attributes.now) }
+{
+    for attribute in attributes {
+        write_attribute(prefixes, attribute, out)?;
     }
     Ok(())
 }

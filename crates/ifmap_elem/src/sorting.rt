@@ -1,10 +1,18 @@
 //! Attributes in the order in which they are printed.
 ghost use Rattle.std.specs.Prelude.{◌≡◌, IfOk, map};
+ghost use Rattle.std.specs.Bool.{OnTrue};
 ghost use Rattle.ifmap_elem.specs.Arranged.{sorted};
 
 use crate::elements::Attribute;
 use crate::lists::Many;
 use std::alloc::{AllocError as NoMemory, Global};
+
+/// Whether the attributes stand in order.
+pub(crate) fn are_sorted(attributes: &[Attribute]) -> bool
+    ensures { OnTrue result (sorted attributes.now ≡ attributes.now) }
+{
+    attributes.is_sorted()
+}
 
 /// References to the attributes, by name and then by value.
 pub(crate) fn sorted_attributes(
