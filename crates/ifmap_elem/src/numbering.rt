@@ -1,5 +1,5 @@
 //! The prefixes of an element's namespaces, numbered by first occurrence.
-ghost use Rattle.std.specs.Prelude.{◌≡◌, ◌≢◌, ◌↔◌, ◌∷◌, [], ◌++◌, map, IfOk, IsTrue, is_some};
+ghost use Rattle.std.specs.Prelude.{◌≡◌, ◌≢◌, ◌↔◌, ◌∷◌, [], ◌++◌, map, IfOk, OnOk, IsTrue, is_some};
 ghost use Rattle.std.specs.Fmt.{decimal};
 ghost use Rattle.std.specs.List.{flat_map};
 ghost use Rattle.std.specs.Map.{lookup};
@@ -78,29 +78,28 @@ impl Prefixes {
         &self.order
     }
 
-    fn with_space(self, alloc: Global, space: &Text) -> Result<Prefixes, NoMemory>
-        ensures { IfOk result (λ made. AddsSpaces self (space.now ∷ []) made) }
+    fn add(&mut self, alloc: Global, space: &Text) -> Result<(), NoMemory>
+        ensures { OnOk result (AddsSpaces self.old (space.now ∷ []) self.new) }
     {
         if is_none(space) || self.knows(space) {
-            return Ok(self);
+            return Ok(());
         }
-        let made = self.with_new_space(alloc, space)?;
-        Ok(made)
+        self.add_new(alloc, space)?;
+        Ok(())
     }
 
-    fn with_new_space(self, alloc: Global, space: &Text) -> Result<Prefixes, NoMemory>
+    fn add_new(&mut self, alloc: Global, space: &Text) -> Result<(), NoMemory>
         requires some { space.now ≢ [] }
-        requires new { lookup (bytes_eq space.now) (name_prefixes self) ≡ None }
-        ensures { IfOk result (λ made. made ≡ self ++ space.now ∷ []) }
+        requires new { lookup (bytes_eq space.now) (name_prefixes self.old) ≡ None }
+        ensures { OnOk result (self.new ≡ self.old ++ space.now ∷ []) }
     {
-        let Prefixes {
-            mut order,
-            mut labels,
-        } = self;
-        let label = numbered_prefix(alloc, "n", order.len() + 1)?;
-        labels.insert(space.copy(alloc)?, label)?;
-        order.push(space.copy(alloc)?)?;
-        Ok(Prefixes { order, labels })
+        let label = numbered_prefix(alloc, "n", self.order.len() + 1)?;
+        let key = space.copy(alloc)?;
+        let listed = space.copy(alloc)?;
+        self.order.reserve(1)?;
+        self.labels.insert(key, label)?;
+        self.order.push_reserved(listed);
+        Ok(())
     }
 }
 
@@ -128,74 +127,71 @@ fn is_none(space: &Text) -> bool
 pub(crate) fn prefixes_of(alloc: Global, element: &Element) -> Result<Prefixes, NoMemory>
     ensures { IfOk result (λ prefixes. prefixes ≡ namespaces (arranged element.now)) }
 {
-    let none = Prefixes::new(alloc)?;
-    let made = with_element(alloc, none, element)?;
-    Ok(made)
+    let mut prefixes = Prefixes::new(alloc)?;
+    add_element(alloc, &mut prefixes, element)?;
+    Ok(prefixes)
 }
 
 #[cycle(numbering)]
-fn with_element(alloc: Global, prefixes: Prefixes, element: &Element) -> Result<Prefixes, NoMemory>
-    ensures { IfOk result (λ made. AddsSpaces prefixes (spaces_of (arranged element.now)) made) }
+fn add_element(alloc: Global, prefixes: &mut Prefixes, element: &Element) -> Result<(), NoMemory>
+    ensures { OnOk result (AddsSpaces prefixes.old (spaces_of (arranged element.now)) prefixes.new) }
 {
-    let named = prefixes.with_space(alloc, &element.name.space)?;
-    let attributed = with_attributes(alloc, named, &element.attributes)?;
-    let made = with_children(alloc, attributed, &element.children)?;
-    Ok(made)
+    prefixes.add(alloc, &element.name.space)?;
+    add_attributes(alloc, prefixes, &element.attributes)?;
+    add_children(alloc, prefixes, &element.children)?;
+    Ok(())
 }
 
 #[cycle(numbering)]
-fn with_children(
+fn add_children(
     alloc: Global,
-    prefixes: Prefixes,
+    prefixes: &mut Prefixes,
     children: &Many<Child>,
-) -> Result<Prefixes, NoMemory>
-    ensures { IfOk result (λ made. AddsSpaces prefixes (flat_map (λ c. spaces_of_child (arranged_child c)) children.now) made) }
+) -> Result<(), NoMemory>
+    ensures { OnOk result (AddsSpaces prefixes.old (flat_map (λ c. spaces_of_child (arranged_child c)) children.now) prefixes.new) }
 {
-    let mut made = prefixes;
     for child in &children.0 {
-        made = with_child(alloc, made, child)?;
+        add_child(alloc, prefixes, child)?;
     }
-    Ok(made)
+    Ok(())
 }
 
 #[cycle(numbering)]
-fn with_child(alloc: Global, prefixes: Prefixes, child: &Child) -> Result<Prefixes, NoMemory>
-    ensures { IfOk result (λ made. AddsSpaces prefixes (spaces_of_child (arranged_child child.now)) made) }
+fn add_child(alloc: Global, prefixes: &mut Prefixes, child: &Child) -> Result<(), NoMemory>
+    ensures { OnOk result (AddsSpaces prefixes.old (spaces_of_child (arranged_child child.now)) prefixes.new) }
 {
     match child {
-        Child::Element(element) => with_element(alloc, prefixes, element),
-        Child::Text(_) => Ok(prefixes),
+        Child::Element(element) => add_element(alloc, prefixes, element),
+        Child::Text(_) => Ok(()),
     }
 }
 
-fn with_attributes(
+fn add_attributes(
     alloc: Global,
-    prefixes: Prefixes,
+    prefixes: &mut Prefixes,
     attributes: &Many<Attribute>,
-) -> Result<Prefixes, NoMemory>
-    ensures { IfOk result (λ made. AddsSpaces prefixes (map (λ a. a.name.space) (sorted attributes.now)) made) }
+) -> Result<(), NoMemory>
+    ensures { OnOk result (AddsSpaces prefixes.old (map (λ a. a.name.space) (sorted attributes.now)) prefixes.new) }
 {
     if are_sorted(&attributes.0) {
-        return with_each(alloc, prefixes, &attributes.0);
+        return add_each(alloc, prefixes, &attributes.0);
     }
     let order = sorted_attributes(alloc, attributes)?;
-    let mut made = prefixes;
     for attribute in &order {
-        made = made.with_space(alloc, &attribute.name.space)?;
+        prefixes.add(alloc, &attribute.name.space)?;
     }
-    Ok(made)
+    Ok(())
 }
 
-fn with_each(
+fn add_each(
     alloc: Global,
-    prefixes: Prefixes,
+    prefixes: &mut Prefixes,
     attributes: &[Attribute],
-) -> Result<Prefixes, NoMemory>
-    ensures { IfOk result (λ made. AddsSpaces prefixes (map (λ a. a.name.space) attributes.now) made) }
+) -> Result<(), NoMemory>
+    ensures { OnOk result (AddsSpaces prefixes.old (map (λ a. a.name.space) attributes.now) prefixes.new) }
 {
-    let mut made = prefixes;
     for attribute in attributes {
-        made = made.with_space(alloc, &attribute.name.space)?;
+        prefixes.add(alloc, &attribute.name.space)?;
     }
-    Ok(made)
+    Ok(())
 }
