@@ -1,5 +1,6 @@
 #!/bin/sh
-# Times the printer of ifmap_elem against copies of what it prints.
+# Times the printer of ifmap_elem against copies of what it prints, in turn, and takes the least of
+# a hundred times of each.
 # Run from anywhere: sh bench/printer.sh. It needs `rt`, and builds in a new folder under TMPDIR.
 set -e
 top=$(cd "$(dirname "$0")/.." && pwd)
@@ -100,9 +101,8 @@ fn spaces(alloc: Global) -> Result<Element, AllocError> {
 fn bench<R: Runtime>(rt: &R, alloc: Global, label: &str, element: &Element) -> io::Result<()> {
     let mut prints = u128::MAX;
     let mut copies = u128::MAX;
-    let mut compares = u128::MAX;
     let mut length = 0;
-    for _ in 0..20 {
+    for _ in 0..100 {
         let start = Instant::now(rt)?;
         let printed = canonical(alloc, element).map_err(io::Error::from)?;
         prints = prints.min(start.elapsed(rt)?.as_nanos());
@@ -112,7 +112,10 @@ fn bench<R: Runtime>(rt: &R, alloc: Global, label: &str, element: &Element) -> i
         let two = Vec::from_slice(alloc, one.as_slice()).map_err(io::Error::from)?;
         copies = copies.min(start.elapsed(rt)?.as_nanos());
         drop(two);
-        let other = element.copy(alloc).map_err(io::Error::from)?;
+    }
+    let mut compares = u128::MAX;
+    let other = element.copy(alloc).map_err(io::Error::from)?;
+    for _ in 0..20 {
         let start = Instant::now(rt)?;
         let _ = same(element, &other);
         compares = compares.min(start.elapsed(rt)?.as_nanos());
@@ -122,6 +125,10 @@ fn bench<R: Runtime>(rt: &R, alloc: Global, label: &str, element: &Element) -> i
 
 fn main(rt: HostRuntime) -> io::Result<()> {
     let alloc = rt.alloc();
+    // Once this much was given back at once, the C library keeps what is given back, so that
+    // neither prints nor copies wait for pages from the system.
+    let room: Vec<u8> = Vec::with_capacity(alloc, 1 << 24).map_err(io::Error::from)?;
+    drop(room);
     let element = thousand(alloc).map_err(io::Error::from)?;
     bench(&rt, alloc, "a thousand metadata elements", &element)?;
     let element = long_text(alloc).map_err(io::Error::from)?;
