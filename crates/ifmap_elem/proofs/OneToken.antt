@@ -62,7 +62,7 @@ one_expansion adds bytes v w l m =
 
 -- one quoted value, and one assignment
 
-quote_is_no_space : (q : ℕ) → (q == 0x22 || q == 0x27) ≡ true → is_space q ≡ false
+pub quote_is_no_space : (q : ℕ) → (q == 0x22 || q == 0x27) ≡ true → is_space q ≡ false
 quote_is_no_space q h =
     elim (or_cases (q == 0x22) (q == 0x27) h) [
       | inl e ↦ subst (λ (n : ℕ). is_space n ≡ false) (sym (is_number q 0x22 e)) refl
@@ -90,7 +90,7 @@ one_quoted bytes v w r s l m =
     (third.0, cc)
 
 -- what stands behind a name in a tag
-quoted_stops : (bytes v r : List ℕ) → TakesQuoted bytes v r → Stops is_name_byte bytes
+pub quoted_stops : (bytes v r : List ℕ) → TakesQuoted bytes v r → Stops is_name_byte bytes
 quoted_stops bytes v r t = subst (Stops is_name_byte) (sym t.bytes_are) (name_stops_at_space t.before _ t.space_before refl)
 
 pub one_assignment : (bytes : List ℕ) (a b : Assignment) (r s : List ℕ) → TakesAssignment bytes a r → TakesAssignment bytes b s → (a ≡ b) × (r ≡ s)
@@ -134,7 +134,7 @@ no_assignment bytes a rest i t =
     no_name_ends i.1 a.name t.behind t.is_name i.4 both.1
 
 -- what stands behind a tag's name is no byte of a name
-assigned_stops : (bytes : List ℕ) (as' : List Assignment) (space end : List ℕ) → IsSpace space → EndsTag end → To TakesAssignment bytes as' (space ++ end) → Stops is_name_byte bytes
+pub assigned_stops : (bytes : List ℕ) (as' : List Assignment) (space end : List ℕ) → IsSpace space → EndsTag end → To TakesAssignment bytes as' (space ++ end) → Stops is_name_byte bytes
 assigned_stops bytes [] space end f ends l = subst (Stops is_name_byte) (sym l) (name_stops_at_space space end f (stops_name end ends))
 assigned_stops bytes (a ∷ as') space end f ends l = subst (Stops is_name_byte) (sym l.1.bytes_are) (some_space l.1.space l.1.some_space l.1.is_space)
   where
@@ -250,19 +250,19 @@ one_declaration bytes r s l m =
 
 -- which kind of token the first bytes can begin
 
-abbrev third_kind : List ℕ → ℕ
+abbrev pub third_kind : List ℕ → ℕ
 third_kind [] = 0
 third_kind (b ∷ bs) = if b == 0x2D then 5 else (if b == 0x5B then 6 else 0)
 
-abbrev second_kind : List ℕ → ℕ
+abbrev pub second_kind : List ℕ → ℕ
 second_kind [] = 0
 second_kind (b ∷ bs) = if b == 0x3F then 2 else (if b == 0x2F then 3 else (if b == 0x21 then third_kind bs else 4))
 
-abbrev kind_at : List ℕ → ℕ
+abbrev pub kind_at : List ℕ → ℕ
 kind_at [] = 0
 kind_at (b ∷ bs) = if b == 0x3C then second_kind bs else 1
 
-abbrev kind_of : Token → ℕ
+abbrev pub kind_of : Token → ℕ
 kind_of Declaration = 2
 kind_of Comment = 5
 kind_of (Start tag) = 4
@@ -282,7 +282,7 @@ text_kind : (own r : List ℕ) → own ≢ [] → AllAre (λ b. not (b == 0x3C))
 text_kind [] r some f = absurd (some refl)
 text_kind (b ∷ bs) r some f = rw (not-true (b == 0x3C) f.0) refl
 
-kind_is : (bytes : List ℕ) (t : Token) (rest : List ℕ) → TakesToken bytes t rest → kind_at bytes ≡ kind_of t
+pub kind_is : (bytes : List ℕ) (t : Token) (rest : List ℕ) → TakesToken bytes t rest → kind_at bytes ≡ kind_of t
 kind_is bytes Declaration rest t = ap kind_at t.bytes_are
 kind_is bytes Comment rest t = ap kind_at t.1.bytes_are
 kind_is bytes (Start tag) rest t = tag_kind bytes tag _ t

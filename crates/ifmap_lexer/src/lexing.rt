@@ -3,19 +3,10 @@ ghost use Rattle.std.specs.Prelude.{◌≡◌, ◌≤◌, ℕ, List, drop, lengt
 ghost use Rattle.ifmap_elem.specs.Tokens.{TakesToken};
 ghost use Rattle.ifmap_elem.specs.declared.tokens.Token.{Token};
 
+use crate::errors::LexError;
+use crate::tokens::first_token;
 use ifmap_elem::tokens::Token;
 use std::alloc::Global;
-use thiserror::Error;
-
-/// Why no token was read.
-#[derive(Debug, Drop, Error)]
-pub enum LexError {
-    /// No token stands at the front.
-    #[error("no token stands here")]
-    Malformed,
-    #[error("out of memory")]
-    NoMemory,
-}
 
 /// The token that stands at the front, and how many bytes it takes.
 #[derive(Debug, Drop)]
@@ -31,7 +22,7 @@ pub fn token_of(alloc: Global, bytes: &[u8]) -> Result<Lexed, LexError>
     ensures alone { IfOk result (λ l. (t : Token) (rest : List ℕ) → TakesToken bytes.now t rest → (t ≡ l.token) × (rest ≡ drop l.length bytes.now)) }
     ensures malformed { IfErr result (λ e. e ≡ LexError.Malformed → (t : Token) (rest : List ℕ) → TakesToken bytes.now t rest → ⊥) }
 {
-    let _ = alloc;
-    let _ = bytes;
-    Err(LexError::NoMemory)
+    let (token, rest) = first_token(alloc, bytes)?;
+    let length = bytes.len() - rest.len();
+    Ok(Lexed { token, length })
 }

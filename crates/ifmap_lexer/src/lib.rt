@@ -1,6 +1,18 @@
 //! Cuts the bytes of a document into tokens, one at a time.
 #![tactic(auto)]
 
+mod characters;
+mod declaration;
+mod errors;
+mod kinds;
 pub mod lexing;
+mod names;
+mod quoting;
+mod references;
+mod splitting;
+mod tags;
+mod tokens;
+mod values;
 
-pub use lexing::{LexError, Lexed, token_of};
+pub use errors::LexError;
+pub use lexing::{token_of, Lexed};
