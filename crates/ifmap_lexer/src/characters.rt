@@ -5,16 +5,24 @@ ghost use Rattle.ifmap_elem.specs.Chars.{AllAre, IsCharacters, is_character};
 ghost use Rattle.ifmap_lexer.specs.Common.{is_common};
 
 /// The bytes as text, where they are characters that a document can have.
+#[tactic(auto, using(crate::proofs::CharacterLaws::characters_are_utf8))]
 pub(crate) fn characters(bytes: &[u8]) -> Option<&str>
     ensures found { IfSome result (λ text. (text.now ≡ bytes.now) × IsCharacters bytes.now) }
     ensures none { IfNone result (IsCharacters bytes.now → ⊥) }
 {
     match str::from_utf8(bytes) {
-        Ok(text) if are_characters(text) => Some(text),
-        _ => None,
+        Ok(text) => {
+            if are_characters(text) {
+                Some(text)
+            } else {
+                None
+            }
+        }
+        Err(_) => None,
     }
 }
 
+#[tactic(auto, using(crate::proofs::CharacterLaws::common_are_characters))]
 fn are_characters(text: &str) -> bool
     ensures { IsTrue result ↔ IsCharacters text.now }
 {
@@ -25,6 +33,7 @@ fn are_characters(text: &str) -> bool
 }
 
 // Without a branch for each byte it becomes vector code.
+#[tactic(auto, using(crate::proofs::CharacterLaws::all_more))]
 fn are_common(bytes: &[u8]) -> bool
     ensures { OnTrue result (AllAre is_common bytes.now) }
 {

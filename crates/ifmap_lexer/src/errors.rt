@@ -14,7 +14,8 @@ pub enum LexError {
 }
 
 impl From<AllocError> for LexError {
-    ghost from_gives = { λ _ e. e ≡ LexError.NoMemory };
+    ghost use Rattle.ifmap_lexer.specs.declared.errors.LexError.TheVariants.{NoMemory};
+    ghost from_gives = { λ _ e. e ≡ NoMemory };
 
     fn from(_: AllocError) -> Self {
         LexError::NoMemory
@@ -22,7 +23,8 @@ impl From<AllocError> for LexError {
 }
 
 impl<T: Drop> From<AllocFailed<T>> for LexError {
-    ghost from_gives = { λ _ e. e ≡ LexError.NoMemory };
+    ghost use Rattle.ifmap_lexer.specs.declared.errors.LexError.TheVariants.{NoMemory};
+    ghost from_gives = { λ _ e. e ≡ NoMemory };
 
     fn from(_: AllocFailed<T>) -> Self {
         LexError::NoMemory

@@ -63,13 +63,20 @@ fn qualified(alloc: Global, bytes: &[u8]) -> Result<Qualified, LexError>
 }
 
 /// The name part that is written so.
+#[tactic(auto, using(crate::proofs::NameLaws::part_is_utf8))]
 fn name_part(alloc: Global, bytes: &[u8]) -> Result<Text, LexError>
     ensures found { IfOk result (λ text. (text ≡ bytes.now) × IsNamePart bytes.now) }
     ensures refused { IfErr result (λ e. Refuses e (IsNamePart bytes.now)) }
 {
     match str::from_utf8(bytes) {
-        Ok(text) if is_name_part(text) => Ok(Text(String::from_str(alloc, text)?)),
-        _ => Err(LexError::Malformed),
+        Ok(text) => {
+            if is_name_part(text) {
+                Ok(Text(String::from_str(alloc, text)?))
+            } else {
+                Err(LexError::Malformed)
+            }
+        }
+        Err(_) => Err(LexError::Malformed),
     }
 }
 

@@ -55,6 +55,7 @@ pub(crate) fn behind_word<'a>(word: &[u8], bytes: &'a [u8]) -> Option<&'a [u8]>
 
 /// The bytes before the first place of the word, and those behind it.
 pub(crate) fn split_word<'a>(word: &[u8], bytes: &'a [u8]) -> Option<(&'a [u8], &'a [u8])>
+    requires { 0 < length word.now }
     ensures found { IfSome result (λ s. CutsWord word.now bytes.now s.0.now s.1.now) }
     ensures none { IfNone result (Lacks word.now bytes.now) }
 {
