@@ -156,11 +156,11 @@ one_tag bytes a b end after ends also l m =
 
 -- the declaration has no `>` but its last byte
 
-abbrev no_end : ℕ → Bool
+abbrev pub no_end : ℕ → Bool
 no_end b = not (b == 0x3E)
 
 -- what was taken has no `>`
-abbrev TakesNoEnd : List ℕ → List ℕ → Type 0
+abbrev pub TakesNoEnd : List ℕ → List ℕ → Type 0
 TakesNoEnd bytes rest = (front : List ℕ) × (bytes ≡ front ++ rest) × AllAre no_end front
 
 space_no_end : (a : List ℕ) → IsSpace a → AllAre no_end a
@@ -223,7 +223,7 @@ each : (xs : List ℕ) → list_all no_end xs ≡ true → AllAre no_end xs
 each [] h = tt
 each (x ∷ xs) h = let parts = and_parts (no_end x) (list_all no_end xs) h in (parts.0, each xs parts.1)
 
-declaration_no_end : (bytes rest : List ℕ) → TakesDeclaration bytes rest → TakesNoEnd bytes (0x3E ∷ rest)
+pub declaration_no_end : (bytes rest : List ℕ) → TakesDeclaration bytes rest → TakesNoEnd bytes (0x3E ∷ rest)
 declaration_no_end bytes rest t =
     let first : TakesNoEnd bytes t.first = (codes "<?xml", t.bytes_are, each (codes "<?xml") refl) in
     let second = setting_no_end (codes "version") (λ v. v ≡ codes "1.0") (each (codes "version") refl)
@@ -297,7 +297,8 @@ one_comment : (bytes r s : List ℕ) → TakesToken bytes Comment r → TakesTok
 one_comment bytes r s l m =
     let e : codes "<!--" ++ (l.0 ++ (codes "-->" ++ r)) ≡ codes "<!--" ++ (m.0 ++ (codes "-->" ++ s)) = sym l.1.bytes_are ∙ m.1.bytes_are in
     let inside : l.0 ++ (codes "-->" ++ r) ≡ m.0 ++ (codes "-->" ++ s) = cc in
-    (dash_cut l.0 m.0 r s l.2 m.2 inside).1
+    let behind : codes ">" ++ r ≡ codes ">" ++ s = (dash_cut l.0 m.0 (codes ">" ++ r) (codes ">" ++ s) l.2 m.2 inside).1 in
+    cc
 
 one_section : (bytes t u r s : List ℕ) → TakesToken bytes (Section t) r → TakesToken bytes (Section u) s → (t ≡ u) × (r ≡ s)
 one_section bytes t u r s l m =
@@ -316,7 +317,7 @@ one_end bytes q u r s l m =
     let end : codes ">" ++ r ≡ codes ">" ++ s = second.1 in
     (first.0, cc)
 
-text_stops : (rest : List ℕ) → EndsText rest → Stops (λ b. not (b == 0x3C)) rest
+pub text_stops : (rest : List ℕ) → EndsText rest → Stops (λ b. not (b == 0x3C)) rest
 text_stops [] e = tt
 text_stops (b ∷ bs) e = subst (λ (n : ℕ). not (n == 0x3C) ≡ false) (sym e) refl
 

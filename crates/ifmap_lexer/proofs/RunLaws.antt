@@ -1,6 +1,6 @@
 -- What runs of characters add to a text or a value.
 use Rattle.std.proofs.Common.{◌≡◌, ℕ, Bool, true, false, not, List, [], ◌∷◌, ◌++◌, length, map, refl, ap, sym, ◌∙◌, subst, arith, append_assoc}
-use Rattle.std.specs.Prelude.{◌==◌, ◌||◌, if◌then◌else◌}
+use Rattle.std.specs.Prelude.{◌==◌, ◌||◌, if◌then◌else◌, Result, Ok, Err, OnOk, is_ok}
 use Rattle.std.proofs.lemmas.Bool.{not-true}
 use Rattle.std.proofs.lemmas.List.{map-append}
 use Rattle.ifmap_elem.specs.Chars.{AllAre}
@@ -58,6 +58,14 @@ no_newline (b ∷ bs) h = is_other b 10 (λ e. h bs (ap (λ n. n ∷ bs) e))
 pub two_more : (start old first rest later a d : List ℕ) → old ++ rest ≡ start → first ≡ old ++ a → later ≡ first ++ d → (after : List ℕ) → rest ≡ a ++ (d ++ after) → later ++ after ≡ start
 two_more start old first rest later a d inv p q after r =
     ap (λ x. x ++ after) (q ∙ ap (λ x. x ++ d) p) ∙ append_assoc (old ++ a) d after ∙ append_assoc old a (d ++ after) ∙ ap (λ x. old ++ x) (sym r) ∙ inv
+
+pub last_str : {T E : Type 0} (r : Result T E) (start old rest later a : List ℕ) → old ++ rest ≡ start → later ≡ (if is_ok r then old ++ a else old) → rest ≡ a → OnOk r (later ≡ start)
+last_str (Ok x) start old rest later a inv p e = p ∙ ap (λ x. old ++ x) (sym e) ∙ inv
+last_str (Err x) start old rest later a inv p e = tt
+
+pub last_line : {T E : Type 0} (r : Result T E) (start old rest later a : List ℕ) → old ++ rest ≡ start → OnOk r (later ≡ old ++ a) → rest ≡ a → OnOk r (later ≡ start)
+last_line (Ok x) start old rest later a inv p e = p ∙ ap (λ x. old ++ x) (sym e) ∙ inv
+last_line (Err x) start old rest later a inv p e = tt
 
 pub last_more : (start old rest later a : List ℕ) → old ++ rest ≡ start → later ≡ old ++ a → rest ≡ a → later ≡ start
 last_more start old rest later a inv p r = p ∙ ap (λ x. old ++ x) (sym r) ∙ inv

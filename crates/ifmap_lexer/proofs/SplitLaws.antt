@@ -1,9 +1,11 @@
 -- What the splits of bytes give.
-use Rattle.std.proofs.Common.{◌≡◌, ◌≢◌, ℕ, suc, ◌+◌, ◌<◌, Bool, true, false, cond, List, [], ◌∷◌, ◌++◌, length, get_or, take, drop, refl, ap, sym, ◌∙◌, subst, arith, one-add}
-use Rattle.std.specs.Prelude.{Option, Some, None, MatchOption, IfSome, IfNone, nat_eq, ◌==◌}
+use Rattle.std.proofs.Common.{◌≡◌, ◌≢◌, ℕ, suc, ◌+◌, ◌<◌, Bool, true, false, cond, List, [], ◌∷◌, ◌++◌, length, get_or, take, drop, refl, ap, sym, ◌∙◌, subst, arith, one-add, append_assoc, length-append}
+use Rattle.std.specs.Prelude.{Option, Some, None, MatchOption, IfSome, IfNone, nat_eq, ◌==◌, is_none, IsTrue, ◌↔◌, IsUtf8}
 use Rattle.std.specs.Borrow.{Bor}
 use Rattle.std.specs.List.{prefix_len}
 use Rattle.std.proofs.lemmas.List.{take-append-drop}
+use Rattle.std.proofs.lemmas.Str.{IsUtf8-drop, IsCharBoundary-after_ascii}
+use Rattle.std.proofs.Math.Seq.{drop-append_seam, get_or-append_seam}
 use Rattle.ifmap_elem.specs.Chars.{AllAre}
 use Rattle.ifmap_elem.proofs.Cuts.{Stops, is_other}
 use Rattle.ifmap_lexer.specs.Cutting.{Cuts, CutsAt, is_but}
@@ -31,6 +33,21 @@ module _ (p : ℕ → Bool) where
     passes = subst (AllAre p) (sym (f ∙ ap (λ m. take m bytes) is)) (front_passes bytes);
     stops = subst (Stops p) (sym (r ∙ ap (λ m. drop m bytes) is)) (rest_stops bytes);
   }
+
+-- behind an ASCII byte of a text stands a text
+pub behind_is_utf8 : (c : ℕ) (text front behind : List ℕ) → c < 128 → text ≡ front ++ (c ∷ behind) → IsUtf8 text → IsUtf8 behind
+behind_is_utf8 c text front behind small e u =
+    let n = length front in
+    let here : get_or text n 0 ≡ c = ap (λ x. get_or x n 0) e ∙ get_or-append_seam front c behind 0 in
+    let inside : n < length text = omega (arith, ap length e, length-append front (c ∷ behind)) in
+    let rest : drop (n + 1) text ≡ behind
+    = ap (drop (n + 1)) (e ∙ sym (append_assoc front (c ∷ []) behind)) ∙ ap (λ k. drop k ((front ++ (c ∷ [])) ++ behind)) (sym (length-append front (c ∷ []))) ∙ drop-append_seam (front ++ (c ∷ [])) behind in
+    subst IsUtf8 rest (IsUtf8-drop text (n + 1) u (IsCharBoundary-after_ascii text n u inside (omega arith)))
+
+-- an option by whether it is none
+pub tells_none : {X : Type 0} (o : Option X) (Found : X → Type 0) (None' : Type 0) → ((x : X) → Found x → None' → ⊥) → IfSome o Found → IfNone o None' → (b : Bool) → b ≡ is_none o → IsTrue b ↔ None'
+tells_none None Found None' apart f n b e = ((λ t. n), (λ x. e))
+tells_none (Some x) Found None' apart f n b e = ((λ t. let wrong : true ≡ false = sym t ∙ e in absurd (cc)), (λ y. absurd (apart x f y)))
 
 pub all_but : (c : ℕ) (bs : List ℕ) → ((i : ℕ) → i < length bs → get_or bs i 0 ≢ c) → AllAre (is_but c) bs
 all_but c [] h = tt

@@ -4,6 +4,7 @@ use Rattle.std.specs.Prelude.{◌==◌, nat_eq}
 use Rattle.std.specs.List.{starts_with}
 use Rattle.std.proofs.lemmas.List.{take-append-drop, length-take}
 use Rattle.std.proofs.Math.ListN.{get_or-append}
+use Rattle.std.proofs.Math.Seq.{take-append_seam}
 use Rattle.std.proofs.lemmas.Slice.Eq.{bytes_eq-Decides}
 use Rattle.memchr.specs.Find.{OccursAt, NoneBefore, Passes, is_byte}
 use Rattle.memchr.proofs.lemmas.MatchLemmas.{OccursAt-part, OccursAt-from_part}
@@ -50,6 +51,7 @@ word_found w bytes front behind k some first o f b =
       bytes_are = whole;
       lacks = lacks_from w (front ++ take m w) (λ j inside.
         first.before j (omega arith) (omega (arith, inside.fits, length-append front (take m w), length-take m w, ap length f, length-take k bytes)) (occurs_whole w bytes (front ++ take m w) (drop m w ++ behind) j cut inside));
+      front_lacks = lacks_from w front (λ j inside. first.before j (omega arith) (omega (arith, inside.fits, ap length f, length-take k bytes)) (occurs_whole w bytes front (w ++ behind) j whole inside));
     }
 
 -- a byte's first place
@@ -74,3 +76,16 @@ byte_found c bytes front behind k first here f b = record {
         nothing (suc n) = tt
     before (x ∷ xs) zero none = tt
     before (x ∷ xs) (suc n) none = (by_test x (nat_eq x c) refl (none 0 (omega arith)), before xs n (λ j l. none (suc j) (omega arith)))
+
+-- a word that stands inside is not lacked
+pub word_not_lacked : (w bytes front behind : List ℕ) → 0 < length w → bytes ≡ front ++ (w ++ behind) → Lacks w bytes → ⊥
+word_not_lacked [] bytes front behind some e l = absurd (omega arith)
+word_not_lacked (x ∷ xs) bytes front behind some e l = at_seam front (subst (Lacks (x ∷ xs)) e l)
+  where
+    at_seam : (front : List ℕ) → Lacks (x ∷ xs) (front ++ ((x ∷ xs) ++ behind)) → ⊥
+    at_seam [] l =
+        let same : take (length (x ∷ xs)) ((x ∷ xs) ++ behind) ≡ x ∷ xs = take-append_seam (x ∷ xs) behind in
+        let test : starts_with ◌==◌ ((x ∷ xs) ++ behind) (x ∷ xs) ≡ true = (bytes_eq-Decides (x ∷ xs) (take (length (x ∷ xs)) ((x ∷ xs) ++ behind))).1 (sym same) in
+        let wrong : true ≡ false = sym test ∙ l.0 in
+        cc
+    at_seam (y ∷ ys) l = at_seam ys l.1

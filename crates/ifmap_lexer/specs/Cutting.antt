@@ -23,3 +23,4 @@ pub record CutsAt (byte : ℕ) (bytes front behind : List ℕ) : Type 0 where
 pub record CutsWord (word bytes front behind : List ℕ) : Type 0 where
   pub bytes_are : bytes ≡ front ++ (word ++ behind)
   pub lacks : Lacks word (front ++ take (length word - 1) word)
+  pub front_lacks : Lacks word front

@@ -20,8 +20,3 @@ pub record TakesAssignments (bytes : List ℕ) (assignments : List Assignment) (
 -- white space, and then a tag's end
 abbrev pub IsAtEnd : List ℕ → Type 0
 IsAtEnd bytes = (space : List ℕ) × (end : List ℕ) × (bytes ≡ space ++ end) × IsSpace space × ClosesTag end
-
--- how a read of assignments goes on from what is left: as it does from the front
-pub record GoesOn (bytes : List ℕ) (made : List Assignment) (rest : List ℕ) : Type 0 where
-  pub so_far : To TakesAssignment bytes made rest
-  pub ahead : (assignments : List Assignment) (end : List ℕ) → TakesAssignments bytes assignments end → (others : List Assignment) × TakesAssignments rest others end

@@ -29,9 +29,13 @@ fn behind_version(bytes: &[u8]) -> Option<&[u8]>
     ensures found { IfSome result (λ rest. TakesSetting (codes "version") IsVersion bytes.now rest.now) }
     ensures none { IfNone result ((rest : List ℕ) → TakesSetting (codes "version") IsVersion bytes.now rest → ⊥) }
 {
-    match setting(b"version", bytes) {
-        Some((written, rest)) if written == b"1.0".as_slice() => Some(rest),
-        _ => None,
+    let Some((written, rest)) = setting(b"version", bytes) else {
+        return None;
+    };
+    if written == b"1.0".as_slice() {
+        Some(rest)
+    } else {
+        None
     }
 }
 
@@ -39,9 +43,13 @@ fn behind_version(bytes: &[u8]) -> Option<&[u8]>
 fn behind_encoding(bytes: &[u8]) -> &[u8]
     ensures { TakesWhereSet (codes "encoding") IsEncoding bytes.now result.now }
 {
-    match setting(b"encoding", bytes) {
-        Some((written, rest)) if written.eq_ignore_ascii_case(b"utf-8") => rest,
-        _ => bytes,
+    let Some((written, rest)) = setting(b"encoding", bytes) else {
+        return bytes;
+    };
+    if written.eq_ignore_ascii_case(b"utf-8") {
+        rest
+    } else {
+        bytes
     }
 }
 
@@ -49,9 +57,13 @@ fn behind_encoding(bytes: &[u8]) -> &[u8]
 fn behind_standalone(bytes: &[u8]) -> &[u8]
     ensures { TakesWhereSet (codes "standalone") IsYesOrNo bytes.now result.now }
 {
-    match setting(b"standalone", bytes) {
-        Some((written, rest)) if is_yes_or_no(written) => rest,
-        _ => bytes,
+    let Some((written, rest)) = setting(b"standalone", bytes) else {
+        return bytes;
+    };
+    if is_yes_or_no(written) {
+        rest
+    } else {
+        bytes
     }
 }
 

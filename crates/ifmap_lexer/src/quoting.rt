@@ -25,8 +25,18 @@ fn quote_at(bytes: &[u8]) -> Option<(u8, &[u8])>
     ensures found { IfSome result (λ f. (bytes.now ≡ f.0 ∷ f.1.now) × ((f.0 == 0x22 || f.0 == 0x27) ≡ true)) }
     ensures none { IfNone result ((quote : ℕ) (rest : List ℕ) → (quote == 0x22 || quote == 0x27) ≡ true → bytes.now ≡ quote ∷ rest → ⊥) }
 {
-    match bytes.split_first() {
-        Some((first, rest)) if *first == b'"' || *first == b'\'' => Some((*first, rest)),
-        _ => None,
+    let Some((first, rest)) = bytes.split_first() else {
+        return None;
+    };
+    if is_quote(*first) {
+        Some((*first, rest))
+    } else {
+        None
     }
+}
+
+fn is_quote(byte: u8) -> bool
+    ensures { result ≡ (byte == 0x22 || byte == 0x27) }
+{
+    byte == b'"' || byte == b'\''
 }

@@ -1,7 +1,7 @@
 //! References to characters.
 ghost use Rattle.std.specs.Prelude.{◌≡◌, ◌≤◌};
 ghost use Rattle.ifmap_elem.specs.Values.{numbered, referred};
-ghost use Rattle.ifmap_lexer.specs.Numbers.{code_of};
+ghost use Rattle.ifmap_lexer.specs.Numbers.{by_number, code_of};
 
 use crate::characters::is_allowed;
 
@@ -25,6 +25,7 @@ pub(crate) fn character_named(name: &[u8]) -> Option<char>
 }
 
 fn character_numbered(name: &[u8]) -> Option<char>
+    ensures { result ≡ by_number name.now }
 {
     if name.starts_with(b"#x") {
         character_with_number(16, &name[2..])
