@@ -26,6 +26,15 @@ SomeName bytes = (name : Qualified) × (rest : List ℕ) × IsQualified name × 
 abbrev pub IsGiven : List ℕ → List ℕ → Type 0
 IsGiven written value = IsCharacters written × AllAre (is_but 0x3C) written × IsValue written value
 
+abbrev pub SomeGiven : List ℕ → Type 0
+SomeGiven written = (value : List ℕ) × IsCharacters written × AllAre (is_but 0x3C) written × IsValue written value
+
+abbrev pub SomeValue : List ℕ → Type 0
+SomeValue written = (value : List ℕ) × IsValue written value
+
+pub value_meant : (written text : List ℕ) → text ≡ written → SomeGiven written → SomeValue text
+value_meant written text e s = (s.0, subst (λ (x : List ℕ). IsValue x s.0) (sym e) s.3)
+
 module _ (bytes space inner : List ℕ) (c : Cuts is_space bytes space inner) where
   parted : (a : Assignment) (r : List ℕ) (t : TakesAssignment bytes a r) → (space ≡ t.space) × (inner ≡ name_bytes a.name ++ t.behind)
   parted a r t = cut is_space space t.space inner (name_bytes a.name ++ t.behind) c.passes t.is_space c.stops (space_stops_at_name a.name t.behind t.is_name) (sym c.bytes_are ∙ t.bytes_are)

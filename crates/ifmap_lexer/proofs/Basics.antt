@@ -1,6 +1,6 @@
 -- Small laws on answers, tests and lists.
 use Rattle.std.proofs.Common.{◌≡◌, ◌≢◌, ℕ, suc, Bool, true, false, not, List, [], ◌∷◌, ◌++◌, length, refl, ap, sym, ◌∙◌, subst, arith, inl, inr}
-use Rattle.std.specs.Prelude.{Option, Some, None, MatchOption, IfSome, IfNone, nat_eq, ◌==◌, ◌||◌, ◌⊎◌, IsTrue, ◌↔◌}
+use Rattle.std.specs.Prelude.{Option, Some, None, MatchOption, IfSome, IfNone, nat_eq, ◌==◌, ◌||◌, ◌⊎◌, IsTrue, ◌↔◌, Result, Ok, Err, IfErr}
 use Rattle.std.specs.List.{list_all}
 use Rattle.std.proofs.lemmas.Bool.{and_from, and_parts}
 use Rattle.ifmap_elem.specs.Chars.{AllAre}
@@ -49,3 +49,7 @@ is_none (x ∷ xs) h = absurd (omega (arith, is_number (length (x ∷ xs)) 0 h))
 pub is_some_list : (xs : List ℕ) → nat_eq (length xs) 0 ≡ false → xs ≢ []
 is_some_list [] h e = let wrong : true ≡ false = h in cc
 is_some_list (x ∷ xs) h e = cc
+
+pub refused_by : {X : Type 0} (r : Result X LexError) (P Q : Type 0) → (Q → P) → IfErr r (λ e. Refuses e P) → IfErr r (λ e. Refuses e Q)
+refused_by (Ok x) P Q f h = tt
+refused_by (Err e) P Q f h = refuses_by e P Q f h

@@ -1,6 +1,7 @@
 -- What the splits of bytes give.
 use Rattle.std.proofs.Common.{◌≡◌, ◌≢◌, ℕ, suc, ◌+◌, ◌<◌, Bool, true, false, cond, List, [], ◌∷◌, ◌++◌, length, get_or, take, drop, refl, ap, sym, ◌∙◌, subst, arith, one-add, append_assoc, length-append}
-use Rattle.std.specs.Prelude.{Option, Some, None, MatchOption, IfSome, IfNone, nat_eq, ◌==◌, is_none, IsTrue, ◌↔◌, IsUtf8}
+use Rattle.std.specs.Prelude.{Option, Some, None, MatchOption, IfSome, IfNone, nat_eq, ◌==◌, is_some, IsUtf8}
+use Rattle.std.specs.Bool.{OnFalse, OnTrue}
 use Rattle.std.specs.Borrow.{Bor}
 use Rattle.std.specs.List.{prefix_len}
 use Rattle.std.proofs.lemmas.List.{take-append-drop}
@@ -44,10 +45,10 @@ behind_is_utf8 c text front behind small e u =
     = ap (drop (n + 1)) (e ∙ sym (append_assoc front (c ∷ []) behind)) ∙ ap (λ k. drop k ((front ++ (c ∷ [])) ++ behind)) (sym (length-append front (c ∷ []))) ∙ drop-append_seam (front ++ (c ∷ [])) behind in
     subst IsUtf8 rest (IsUtf8-drop text (n + 1) u (IsCharBoundary-after_ascii text n u inside (omega arith)))
 
--- an option by whether it is none
-pub tells_none : {X : Type 0} (o : Option X) (Found : X → Type 0) (None' : Type 0) → ((x : X) → Found x → None' → ⊥) → IfSome o Found → IfNone o None' → (b : Bool) → b ≡ is_none o → IsTrue b ↔ None'
-tells_none None Found None' apart f n b e = ((λ t. n), (λ x. e))
-tells_none (Some x) Found None' apart f n b e = ((λ t. let wrong : true ≡ false = sym t ∙ e in absurd (cc)), (λ y. absurd (apart x f y)))
+-- an option by whether it is some
+pub some_or_not : {X : Type 0} (o : Option X) (Found : X → Type 0) (Lacking : Type 0) → ((x : X) → Found x → Lacking → ⊥) → IfSome o Found → IfNone o Lacking → (b : Bool) → b ≡ is_some o → OnTrue b (Lacking → ⊥) × OnFalse b Lacking
+some_or_not None Found Lacking apart f n b e = subst (λ (t : Bool). OnTrue t (Lacking → ⊥) × OnFalse t Lacking) (sym e) (tt, n)
+some_or_not (Some x) Found Lacking apart f n b e = subst (λ (t : Bool). OnTrue t (Lacking → ⊥) × OnFalse t Lacking) (sym e) (apart x f, tt)
 
 pub all_but : (c : ℕ) (bs : List ℕ) → ((i : ℕ) → i < length bs → get_or bs i 0 ≢ c) → AllAre (is_but c) bs
 all_but c [] h = tt

@@ -1,6 +1,6 @@
 -- Tokens that are read are those that stand there.
 use Rattle.std.proofs.Common.{◌≡◌, ◌≢◌, ℕ, ◌+◌, ◌-◌, ◌<◌, ◌≤◌, Bool, true, false, not, List, [], ◌∷◌, ◌++◌, length, take, drop, refl, ap, sym, ◌∙◌, subst, arith, append_assoc, length-append}
-use Rattle.std.specs.Prelude.{◌==◌, codes, Option, Some, None, IfSome, IfNone, is_none, is_some}
+use Rattle.std.specs.Prelude.{◌==◌, codes, Option, Some, None, IfSome, IfNone, is_none, is_some, Result, Ok, Err, IfErr}
 use Rattle.std.specs.List.{list_all, starts_with}
 use Rattle.std.proofs.lemmas.Bool.{not-true}
 use Rattle.std.proofs.Math.Seq.{drop-append_seam}
@@ -20,13 +20,20 @@ use Rattle.ifmap_elem.proofs.OneToken.{kind_at, kind_of, kind_is, one_tag, one_t
 use Rattle.ifmap_lexer.specs.Cutting.{Cuts, CutsAt, CutsWord, is_but}
 use Rattle.ifmap_lexer.specs.Kinds.{Stands, kind_number}
 use Rattle.ifmap_lexer.specs.Tags.{ClosesTag}
+use Rattle.ifmap_lexer.specs.Refusing.{Refuses}
+use Rattle.ifmap_lexer.specs.declared.errors.LexError.{LexError}
+use Rattle.ifmap_lexer.specs.declared.errors.LexError.TheVariants.{Malformed, NoMemory}
 use Rattle.ifmap_lexer.specs.declared.kinds.Kind.{Kind}
 use Rattle.ifmap_lexer.specs.declared.kinds.Kind.TheVariants as kinds
 use Rattle.ifmap_lexer.proofs.AssignmentLaws.{SomeName, SomeTag, closes_ends}
+use Rattle.ifmap_lexer.proofs.Basics.{refuses_by}
 use Rattle.ifmap_lexer.proofs.NameLaws.{NameAt}
 
 abbrev pub SomeToken : List ℕ → Type 0
 SomeToken bytes = (t : Token) × (rest : List ℕ) × TakesToken bytes t rest
+
+abbrev pub SomeMeaning : List ℕ → Type 0
+SomeMeaning written = (text : List ℕ) × IsText written text
 
 -- by kinds
 
@@ -44,6 +51,10 @@ of_no_kind bytes e s = none s.0 (sym (kind_is bytes s.0 s.1 s.2) ∙ sym e)
     none (End name) h = omega arith
     none (Section text) h = omega arith
     none (Text blank text) h = omega arith
+
+pub kind_refused : {X : Type 0} (kind : Kind) (bytes : List ℕ) (r : Result X LexError) → kind_number kind ≡ kind_at bytes → IfErr r (λ e. Refuses e (Stands kind bytes)) → IfErr r (λ e. Refuses e (SomeToken bytes))
+kind_refused kind bytes (Ok x) e h = tt
+kind_refused kind bytes (Err d) e h = refuses_by d (Stands kind bytes) (SomeToken bytes) (of_kind kind bytes e) h
 
 declaration_by : (bytes : List ℕ) (t : Token) (rest : List ℕ) → TakesToken bytes t rest → kind_of t ≡ 2 → TakesDeclaration bytes rest
 declaration_by bytes Declaration rest l e = l
@@ -153,9 +164,9 @@ module _ (bytes inner : List ℕ) (e : bytes ≡ codes "</" ++ inner) where
   module _ (name : Qualified) (behind space end : List ℕ) (n : NameAt inner name behind) (c : Cuts is_space behind space end) where
     pub no_end_end : ((rest : List ℕ) → end ≡ codes ">" ++ rest → ⊥) → Stands kinds.End bytes → ⊥
     no_end_end none s =
-        let o = end_name s in
-        let t = (end_by bytes s.0 s.1 s.2 s.3).1 in
-        let both = name_cut name o.0 behind o.1 n.0 o.2 n.2 o.4 (sym n.1 ∙ o.3) in
+        let o = end_by bytes s.0 s.1 s.2 s.3 in
+        let t = o.1 in
+        let both = name_cut name o.0 behind (t.space ++ (codes ">" ++ s.1)) n.0 t.is_name n.2 (name_stops_at_space t.space (codes ">" ++ s.1) t.is_space refl) (sym n.1 ∙ end_inner o.0 s.1 t) in
         none s.1 (cut is_space space t.space end (codes ">" ++ s.1) c.passes t.is_space c.stops refl (sym c.bytes_are ∙ both.1)).1
 
     pub end_found : (rest : List ℕ) → end ≡ codes ">" ++ rest → TakesEnd bytes name rest
@@ -209,6 +220,9 @@ module _ (bytes own rest : List ℕ) (c : Cuts (is_but 0x3C) bytes own rest) whe
 
   pub some_text : Stands kinds.Text bytes → (text : List ℕ) × IsText own text
   some_text s = let t = (text_by bytes s.0 s.1 s.2 s.3) in (t.1, subst (λ (x : List ℕ). IsText x t.1) (sym (text_cut t.0 t.1 s.1 t.2)) t.2.means)
+
+  pub some_text_of : (written : List ℕ) → written ≡ own → Stands kinds.Text bytes → SomeMeaning written
+  some_text_of written e s = subst SomeMeaning (sym e) (some_text s)
 
   pub text_found : own ≢ [] → Lacks (codes "]]>") own → IsCharacters own → (blank : Bool) → blank ≡ list_all is_space own → (text : List ℕ) → IsText own text → TakesText bytes blank text rest
   text_found some lacks f blank b text m = record {
@@ -284,3 +298,10 @@ token_front bytes (Text blank text) rest t = (t.own, t.bytes_are, t.some)
 pub token_length : (bytes : List ℕ) (t : Token) (rest : List ℕ) → TakesToken bytes t rest
     → (1 ≤ length bytes - length rest) × (length bytes - length rest ≤ length bytes) × (drop (length bytes - length rest) bytes ≡ rest)
 token_length bytes t rest l = let f = token_front bytes t rest l in shorter f.0 rest bytes f.1 f.2
+
+pub is_behind : (bytes : List ℕ) (t : Token) (rest : List ℕ) → TakesToken bytes t rest → length rest ≤ length bytes
+is_behind bytes t rest l = let f = token_front bytes t rest l in omega (arith, ap length f.1, length-append f.0 rest)
+
+pub malformed_of : (bytes : List ℕ) (e : LexError) → Refuses e (SomeToken bytes) → e ≡ Malformed → (t : Token) (rest : List ℕ) → TakesToken bytes t rest → ⊥
+malformed_of bytes Malformed r e t rest l = r (t, rest, l)
+malformed_of bytes NoMemory r e t rest l = cc

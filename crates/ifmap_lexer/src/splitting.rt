@@ -1,5 +1,6 @@
 //! How far runs go: white space, a byte, a word.
-ghost use Rattle.std.specs.Prelude.{◌≡◌, ◌<◌, ◌≤◌, ◌+◌, ◌++◌, ℕ, List, IfNone, IfSome, IsTrue, ◌↔◌, length, take, drop};
+ghost use Rattle.std.specs.Prelude.{◌≡◌, ◌<◌, ◌≤◌, ◌+◌, ◌++◌, ℕ, List, IfNone, IfSome, length, take, drop};
+ghost use Rattle.std.specs.Bool.{OnFalse, OnTrue};
 ghost use Rattle.std.specs.List.{prefix_len};
 ghost use Rattle.ifmap_elem.specs.Chars.{AllAre, is_space};
 ghost use Rattle.ifmap_elem.specs.Tokens.{Lacks};
@@ -76,19 +77,21 @@ pub(crate) fn split_round_byte(byte: u8, bytes: &[u8]) -> Option<(&[u8], &[u8])>
     }
 }
 
-/// Whether the byte stands nowhere.
-pub(crate) fn lacks_byte(byte: u8, bytes: &[u8]) -> bool
-    ensures { IsTrue result ↔ AllAre (is_but byte) bytes.now }
+/// Whether the byte stands somewhere.
+pub(crate) fn has_byte(byte: u8, bytes: &[u8]) -> bool
+    ensures yes { OnTrue result (AllAre (is_but byte) bytes.now → ⊥) }
+    ensures no { OnFalse result (AllAre (is_but byte) bytes.now) }
 {
-    split_round_byte(byte, bytes).is_none()
+    split_round_byte(byte, bytes).is_some()
 }
 
-/// Whether the word begins nowhere.
-pub(crate) fn lacks_word(word: &[u8], bytes: &[u8]) -> bool
+/// Whether the word begins somewhere.
+pub(crate) fn has_word(word: &[u8], bytes: &[u8]) -> bool
     requires { 0 < length word.now }
-    ensures { IsTrue result ↔ Lacks word.now bytes.now }
+    ensures yes { OnTrue result (Lacks word.now bytes.now → ⊥) }
+    ensures no { OnFalse result (Lacks word.now bytes.now) }
 {
-    split_word(word, bytes).is_none()
+    split_word(word, bytes).is_some()
 }
 
 /// The bytes before a place, and those behind as many from there on.

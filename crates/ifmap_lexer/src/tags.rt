@@ -13,7 +13,7 @@ use crate::characters::characters;
 use crate::errors::LexError;
 use crate::names::name_of;
 use crate::quoting::quoted;
-use crate::splitting::{behind_word, lacks_byte, split_space};
+use crate::splitting::{behind_word, has_byte, split_space};
 use crate::values::{Place, meaning};
 use ifmap_elem::tokens::{Assignment, Tag};
 use ifmap_elem::{Many, Text};
@@ -88,7 +88,7 @@ fn value_of(alloc: Global, written: &[u8]) -> Result<Text, LexError>
     ensures found { IfOk result (λ value. IsCharacters written.now × AllAre (is_but 0x3C) written.now × IsValue written.now value) }
     ensures refused { IfErr result (λ e. Refuses e ((value : List ℕ) × IsCharacters written.now × AllAre (is_but 0x3C) written.now × IsValue written.now value)) }
 {
-    if !lacks_byte(b'<', written) {
+    if has_byte(b'<', written) {
         return Err(LexError::Malformed);
     }
     let Some(text) = characters(written) else {

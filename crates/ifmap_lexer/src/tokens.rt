@@ -12,7 +12,7 @@ use crate::declaration::behind_declaration;
 use crate::errors::LexError;
 use crate::kinds::{Kind, kind_of};
 use crate::names::name_of;
-use crate::splitting::{behind_word, is_white, lacks_word, split_byte, split_space, split_word};
+use crate::splitting::{behind_word, has_word, is_white, split_byte, split_space, split_word};
 use crate::tags::tag_of;
 use crate::values::{Place, meaning, plain_meaning};
 use ifmap_elem::tokens::Token;
@@ -116,7 +116,7 @@ fn text(alloc: Global, bytes: &[u8]) -> Result<(Token, &[u8]), LexError>
     if own.is_empty() {
         return Err(LexError::Malformed);
     }
-    if !lacks_word(b"]]>", own) {
+    if has_word(b"]]>", own) {
         return Err(LexError::Malformed);
     }
     let Some(written) = characters(own) else {
