@@ -1,9 +1,9 @@
 -- Assignments that are read are those that stand there.
-use Rattle.std.proofs.Common.{◌≡◌, ◌≢◌, ℕ, ◌+◌, ◌<◌, ◌≤◌, Bool, true, false, not, List, [], ◌∷◌, ◌++◌, length, refl, ap, sym, ◌∙◌, subst, arith, length-append, inl, inr}
-use Rattle.std.specs.Prelude.{◌==◌, ◌||◌, ◌⊎◌}
+use Rattle.std.proofs.Common.{◌≡◌, ◌≢◌, ℕ, ◌<◌, Bool, true, false, List, [], ◌∷◌, ◌++◌, length, refl, ap, sym, ◌∙◌, subst, arith, length-append, inl, inr}
+use Rattle.std.specs.Prelude.{◌==◌}
 use Rattle.std.proofs.lemmas.Bool.{or_cases}
 use Rattle.ifmap_sequences.specs.Items.{To, to_last}
-use Rattle.ifmap_elem.specs.Chars.{AllAre, IsCharacters, IsSpace, is_space}
+use Rattle.ifmap_elem.specs.Chars.{AllAre, IsCharacters, is_space}
 use Rattle.ifmap_elem.specs.Names.{IsQualified, name_bytes}
 use Rattle.ifmap_elem.specs.Tokens.{TakesAssignment, TakesQuoted, TakesTag}
 use Rattle.ifmap_elem.specs.Values.{IsValue}
@@ -13,7 +13,7 @@ use Rattle.ifmap_elem.specs.declared.tokens.Tag.{Tag}
 use Rattle.ifmap_elem.proofs.Cuts.{Stops, cut, is_number}
 use Rattle.ifmap_elem.proofs.NameBytes.{is_name_byte, name_cut, space_stops_at_name}
 use Rattle.ifmap_elem.proofs.OneToken.{EndsTag, one_assignment, one_quoted, quoted_stops, assigned_stops}
-use Rattle.ifmap_lexer.specs.Cutting.{Cuts, CutsAt, is_but}
+use Rattle.ifmap_lexer.specs.Cutting.{Cuts, is_but}
 use Rattle.ifmap_lexer.specs.Tags.{ClosesTag, IsAtEnd, TakesAssignments}
 use Rattle.ifmap_lexer.proofs.NameLaws.{NameAt}
 
@@ -120,13 +120,16 @@ module _ (rest : List ℕ) (open_still : IsAtEnd rest → ⊥) where
       first : (xs : List Assignment) → To TakesAssignment rest xs (s.2.space ++ s.1) → SomeAssignments behind
       first [] l = absurd (open_still (s.2.space, s.1, l, s.2.is_space, s.2.closes))
       first (x ∷ xs) l =
-          let both = one_assignment rest a x behind l.0 takes l.1 in
-          (xs, s.1, record {
-            space = s.2.space;
-            assigned = subst (λ (m : List ℕ). To TakesAssignment m xs (s.2.space ++ s.1)) (sym both.1) l.2;
-            is_space = s.2.is_space;
-            closes = s.2.closes;
-          })
+          let both = one_assignment rest a x behind l.0 takes l.1 in (
+            xs,
+            s.1,
+            record {
+              space = s.2.space;
+              assigned = subst (λ (m : List ℕ). To TakesAssignment m xs (s.2.space ++ s.1)) (sym both.1) l.2;
+              is_space = s.2.is_space;
+              closes = s.2.closes;
+            },
+          )
 
   pub goes_on_next : (bytes : List ℕ) (made new : List Assignment) (a : Assignment) (behind : List ℕ) → GoesOn bytes made rest → TakesAssignment rest a behind → new ≡ made ++ a ∷ [] → GoesOn bytes new behind
   goes_on_next bytes made new a behind g takes e = record {
@@ -169,13 +172,16 @@ module _ (bytes inner : List ℕ) (e : bytes ≡ 0x3C ∷ inner) where
     pub tag_assignments : SomeTag bytes → SomeAssignments behind
     tag_assignments s =
         let t = s.2 in
-        let same : behind ≡ t.behind = (name_cut name s.0.name behind t.behind n.0 t.is_name n.2 (stops s.0 s.1 t s.3) (sym n.1 ∙ inside s.0 s.1 t)).1 in
-        (s.0.assignments, s.1, record {
-          space = t.space;
-          assigned = subst (λ (x : List ℕ). To TakesAssignment x s.0.assignments (t.space ++ s.1)) (sym same) t.assigned;
-          is_space = t.is_space;
-          closes = s.3;
-        })
+        let same : behind ≡ t.behind = (name_cut name s.0.name behind t.behind n.0 t.is_name n.2 (stops s.0 s.1 t s.3) (sym n.1 ∙ inside s.0 s.1 t)).1 in (
+          s.0.assignments,
+          s.1,
+          record {
+            space = t.space;
+            assigned = subst (λ (x : List ℕ). To TakesAssignment x s.0.assignments (t.space ++ s.1)) (sym same) t.assigned;
+            is_space = t.is_space;
+            closes = s.3;
+          },
+        )
 
     pub tag_found : (assignments : List Assignment) (end : List ℕ) → TakesAssignments behind assignments end → TakesTag bytes (record { name = name; assignments = assignments }) end × ClosesTag end
     tag_found assignments end t = (

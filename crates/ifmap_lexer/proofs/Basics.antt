@@ -1,10 +1,10 @@
 -- Small laws on answers, tests and lists.
-use Rattle.std.proofs.Common.{◌≡◌, ◌≢◌, ℕ, suc, Bool, true, false, not, List, [], ◌∷◌, ◌++◌, length, refl, ap, sym, ◌∙◌, subst, arith, inl, inr}
-use Rattle.std.specs.Prelude.{Option, Some, None, MatchOption, IfSome, IfNone, nat_eq, ◌==◌, ◌||◌, ◌⊎◌, IsTrue, ◌↔◌, Result, Ok, Err, IfErr}
+use Rattle.std.proofs.Common.{◌≡◌, ◌≢◌, ℕ, Bool, true, false, List, [], ◌∷◌, ◌++◌, length, refl, sym, ◌∙◌, arith}
+use Rattle.std.specs.Prelude.{Option, Some, None, MatchOption, IfSome, IfNone, nat_eq, IsTrue, ◌↔◌, Result, Ok, Err, IfErr}
 use Rattle.std.specs.List.{list_all}
 use Rattle.std.proofs.lemmas.Bool.{and_from, and_parts}
 use Rattle.ifmap_elem.specs.Chars.{AllAre}
-use Rattle.ifmap_elem.proofs.Cuts.{Stops, cut, is_number, is_other}
+use Rattle.ifmap_elem.proofs.Cuts.{is_number}
 use Rattle.ifmap_lexer.specs.declared.errors.LexError.{LexError}
 use Rattle.ifmap_lexer.specs.declared.errors.LexError.TheVariants.{Malformed, NoMemory}
 use Rattle.ifmap_lexer.specs.Refusing.{Refuses}

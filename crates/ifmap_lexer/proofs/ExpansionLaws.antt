@@ -1,6 +1,6 @@
 -- Written characters and what they mean, part by part.
-use Rattle.std.proofs.Common.{◌≡◌, ◌≢◌, ℕ, Bool, true, false, not, List, [], ◌∷◌, ◌++◌, refl, ap, sym, ◌∙◌, subst, arith, append_assoc}
-use Rattle.std.specs.Prelude.{◌==◌, Option, Some, None, encode_utf8}
+use Rattle.std.proofs.Common.{◌≡◌, ◌≢◌, ℕ, true, false, List, [], ◌∷◌, ◌++◌, refl, ap, sym, ◌∙◌, subst, append_assoc}
+use Rattle.std.specs.Prelude.{Option, Some, None, encode_utf8}
 use Rattle.std.specs.List.{flat_map}
 use Rattle.std.proofs.lemmas.List.{append-nil}
 use Rattle.ifmap_sequences.specs.Items.{To}
@@ -75,6 +75,7 @@ module _ (place : Place) where
           let behind : 0x3B ∷ after ≡ 0x3B ∷ mid = both.1 in
           let same : mid ≡ after = cc in
           (c, ap referred both.0 ∙ l.3, (flat_map (part_in place) ps, record { parts = ps; taken = subst (λ (b : List ℕ). To TakesPart b ps []) same m; text_is = refl }))
+
       first : (parts : List Part) → To TakesPart (0x26 ∷ (name ++ (0x3B ∷ after))) parts [] → Refers name after
       first [] l = absurd (no_cons 0x26 (name ++ (0x3B ∷ after)) l)
       first (p ∷ ps) l = refers p ps l.0 l.1 l.2
@@ -90,12 +91,14 @@ module _ (place : Place) where
           cc
       inside (n ∷ ns) rest [] g e = cc
       inside (n ∷ ns) rest (b ∷ bs) g e = let tail : bs ≡ ns ++ (0x3B ∷ rest) = cc in inside ns rest bs g.1 tail
+
       refers : (p : Part) (mid : List ℕ) → TakesPart (0x26 ∷ behind) p mid → ⊥
       refers (Plain run) mid l = no_run run mid behind l.1 l.2 l.0
       refers (Reference c) mid l =
           let e : 0x26 ∷ behind ≡ 0x26 ∷ (l.0 ++ (0x3B ∷ mid)) = l.1 in
           let tail : behind ≡ l.0 ++ (0x3B ∷ mid) = cc in
           inside l.0 mid behind f tail
+
       first : (parts : List Part) → To TakesPart (0x26 ∷ behind) parts [] → ⊥
       first [] l = no_cons 0x26 behind l
       first (p ∷ ps) l = refers p l.0 l.1

@@ -1,6 +1,6 @@
 -- Names that are read are those that stand there.
-use Rattle.std.proofs.Common.{◌≡◌, ◌≢◌, ℕ, ◌+◌, ◌<◌, ◌≤◌, Bool, true, false, List, [], ◌∷◌, ◌++◌, length, refl, ap, sym, ◌∙◌, subst, arith, ◌⊎◌, inl, inr}
-use Rattle.std.specs.Prelude.{encode_utf8, encode_utf8_all, IsTrue, ◌↔◌, IsUtf8, not, ◌==◌}
+use Rattle.std.proofs.Common.{◌≡◌, ◌≢◌, ℕ, ◌≤◌, Bool, true, false, List, [], ◌∷◌, ◌++◌, length, refl, ap, sym, ◌∙◌, subst, arith, inl, inr}
+use Rattle.std.specs.Prelude.{encode_utf8, encode_utf8_all, IsTrue, ◌↔◌, IsUtf8}
 use Rattle.std.specs.Str.{chars, all_scalars}
 use Rattle.std.specs.List.{list_all}
 use Rattle.std.proofs.Math.Utf8.{scalar, low_scalar}
@@ -13,7 +13,7 @@ use Rattle.ifmap_elem.specs.Names.{IsNamePart, IsQualified, is_name_start, is_na
 use Rattle.ifmap_elem.proofs.Cuts.{Stops, cut, all_weaker, is_other}
 use Rattle.ifmap_elem.proofs.NameBytes.{is_name_byte, is_part_byte, name_are_bytes, part_bytes, part_is_some}
 use Rattle.ifmap_lexer.specs.Cutting.{Cuts, CutsAt, is_but}
-use Rattle.ifmap_lexer.proofs.Basics.{each, of_each, all_front, all_back}
+use Rattle.ifmap_lexer.proofs.Basics.{each, of_each, all_back}
 
 high_start : (c : ℕ) → 55296 ≤ c → is_name_start c ≡ true → scalar c ≡ true
 high_start c g h = grind (arith, nat_tests)

@@ -1,11 +1,10 @@
 -- Quoted values that are read are those that stand there.
-use Rattle.std.proofs.Common.{◌≡◌, ◌≢◌, ℕ, ◌<◌, Bool, true, false, not, List, [], ◌∷◌, ◌++◌, length, refl, ap, sym, ◌∙◌, subst, arith}
-use Rattle.std.specs.Prelude.{◌==◌, ◌||◌, Option, Some, None, IfSome, IfNone, is_none, IsTrue, ◌↔◌}
-use Rattle.std.specs.Borrow.{Bor}
+use Rattle.std.proofs.Common.{◌≡◌, ℕ, true, false, List, ◌∷◌, ◌++◌, refl, ap, sym, ◌∙◌, subst, arith}
+use Rattle.std.specs.Prelude.{◌==◌, ◌||◌, Option, Some, None, IfSome, IfNone}
 use Rattle.std.proofs.lemmas.Bool.Decides.{nat_tests}
-use Rattle.ifmap_elem.specs.Chars.{AllAre, IsSpace, is_space}
+use Rattle.ifmap_elem.specs.Chars.{AllAre, is_space}
 use Rattle.ifmap_elem.specs.Tokens.{TakesQuoted}
-use Rattle.ifmap_elem.proofs.Cuts.{Stops, cut}
+use Rattle.ifmap_elem.proofs.Cuts.{cut}
 use Rattle.ifmap_elem.proofs.OneToken.{quote_is_no_space}
 use Rattle.ifmap_lexer.specs.Cutting.{Cuts, CutsAt, is_but}
 use Rattle.ifmap_lexer.proofs.Basics.{all_back}

@@ -1,8 +1,7 @@
 -- The settings of the declaration, and the declaration.
-use Rattle.std.proofs.Common.{◌≡◌, ◌≢◌, ℕ, ◌+◌, ◌-◌, ◌<◌, ◌≤◌, Bool, true, false, List, [], ◌∷◌, ◌++◌, length, map, refl, ap, sym, ◌∙◌, subst, arith, inl, inr}
-use Rattle.std.specs.Prelude.{◌⊎◌, codes}
+use Rattle.std.proofs.Common.{◌≡◌, ◌≢◌, ℕ, Bool, true, false, List, [], ◌∷◌, ◌++◌, map, refl, ap, sym, ◌∙◌, subst, arith, inl, inr}
+use Rattle.std.specs.Prelude.{codes}
 use Rattle.std.specs.Char.{to_ascii_uppercase, to_ascii_lowercase}
-use Rattle.std.proofs.lemmas.Bool.{cases_lt}
 use Rattle.std.proofs.lemmas.Bool.Decides.{nat_tests}
 use Rattle.ifmap_elem.specs.Chars.{IsSpace, is_space}
 use Rattle.ifmap_elem.specs.Tokens.{TakesQuoted, TakesSetting, TakesOptional, TakesDeclaration}

@@ -1,6 +1,6 @@
 -- What the splits of bytes give.
 use Rattle.std.proofs.Common.{◌≡◌, ◌≢◌, ℕ, suc, ◌+◌, ◌<◌, Bool, true, false, cond, List, [], ◌∷◌, ◌++◌, length, get_or, take, drop, refl, ap, sym, ◌∙◌, subst, arith, one-add, append_assoc, length-append}
-use Rattle.std.specs.Prelude.{Option, Some, None, MatchOption, IfSome, IfNone, nat_eq, ◌==◌, is_some, IsUtf8}
+use Rattle.std.specs.Prelude.{Option, Some, None, MatchOption, IfSome, IfNone, is_some, IsUtf8}
 use Rattle.std.specs.Bool.{OnFalse, OnTrue}
 use Rattle.std.specs.Borrow.{Bor}
 use Rattle.std.specs.List.{prefix_len}

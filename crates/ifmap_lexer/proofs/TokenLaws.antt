@@ -1,23 +1,22 @@
 -- Tokens that are read are those that stand there.
-use Rattle.std.proofs.Common.{◌≡◌, ◌≢◌, ℕ, ◌+◌, ◌-◌, ◌<◌, ◌≤◌, Bool, true, false, not, List, [], ◌∷◌, ◌++◌, length, take, drop, refl, ap, sym, ◌∙◌, subst, arith, append_assoc, length-append}
-use Rattle.std.specs.Prelude.{◌==◌, codes, Option, Some, None, IfSome, IfNone, is_none, is_some, Result, Ok, Err, IfErr}
-use Rattle.std.specs.List.{list_all, starts_with}
-use Rattle.std.proofs.lemmas.Bool.{not-true}
+use Rattle.std.proofs.Common.{◌≡◌, ◌≢◌, ℕ, ◌+◌, ◌-◌, ◌≤◌, Bool, true, false, not, List, [], ◌∷◌, ◌++◌, length, drop, refl, ap, sym, ◌∙◌, subst, arith, append_assoc, length-append}
+use Rattle.std.specs.Prelude.{◌==◌, codes, Result, Ok, Err, IfErr}
+use Rattle.std.specs.List.{list_all}
 use Rattle.std.proofs.Math.Seq.{drop-append_seam}
 use Rattle.ifmap_sequences.specs.Items.{To}
-use Rattle.ifmap_elem.specs.Chars.{AllAre, IsCharacters, IsSpace, is_space}
-use Rattle.ifmap_elem.specs.Names.{IsQualified, name_bytes}
+use Rattle.ifmap_elem.specs.Chars.{IsCharacters, is_space}
+use Rattle.ifmap_elem.specs.Names.{name_bytes}
 use Rattle.ifmap_elem.specs.Values.{IsText, line_ends}
-use Rattle.ifmap_elem.specs.Tokens.{Lacks, TakesBetween, TakesDeclaration, TakesEnd, TakesTag, TakesText, TakesToken, TakesAssignment, EndsText}
+use Rattle.ifmap_elem.specs.Tokens.{Lacks, TakesDeclaration, TakesEnd, TakesTag, TakesText, TakesToken, TakesAssignment, EndsText}
 use Rattle.ifmap_elem.specs.declared.tokens.Assignment.{Assignment}
 use Rattle.ifmap_elem.specs.declared.tokens.Qualified.{Qualified}
 use Rattle.ifmap_elem.specs.declared.tokens.Tag.{Tag}
 use Rattle.ifmap_elem.specs.declared.tokens.Token.{Token}
 use Rattle.ifmap_elem.specs.declared.tokens.Token.TheVariants.{Declaration, Comment, Start, Empty, End, Section, Text}
 use Rattle.ifmap_elem.proofs.Cuts.{Stops, cut, dash_cut, bracket_cut, is_number}
-use Rattle.ifmap_elem.proofs.NameBytes.{is_name_byte, name_cut, name_stops_at_space}
-use Rattle.ifmap_elem.proofs.OneToken.{kind_at, kind_of, kind_is, one_tag, one_token, no_token, text_stops, declaration_no_end}
-use Rattle.ifmap_lexer.specs.Cutting.{Cuts, CutsAt, CutsWord, is_but}
+use Rattle.ifmap_elem.proofs.NameBytes.{name_cut, name_stops_at_space}
+use Rattle.ifmap_elem.proofs.OneToken.{kind_at, kind_of, kind_is, one_tag, text_stops, declaration_no_end}
+use Rattle.ifmap_lexer.specs.Cutting.{Cuts, CutsWord, is_but}
 use Rattle.ifmap_lexer.specs.Kinds.{Stands, kind_number}
 use Rattle.ifmap_lexer.specs.Tags.{ClosesTag}
 use Rattle.ifmap_lexer.specs.Refusing.{Refuses}
@@ -265,7 +264,7 @@ tag_front bytes tag end t =
         let quoted : List ℕ = q.before ++ (0x3D ∷ (q.after ++ (q.quote ∷ (l.1.written ++ (q.quote ∷ []))))) in (
           l.1.space ++ (name_bytes x.name ++ (quoted ++ f.0)),
           l.1.bytes_are ∙ ap (λ b. l.1.space ++ (name_bytes x.name ++ b)) q.bytes_are
-          ∙ ap (λ b. l.1.space ++ (name_bytes x.name ++ (q.before ++ (0x3D ∷ (q.after ++ (q.quote ∷ (l.1.written ++ (q.quote ∷ b)))))))) f.1 ∙ simp append_assoc,
+              ∙ ap (λ b. l.1.space ++ (name_bytes x.name ++ (q.before ++ (0x3D ∷ (q.after ++ (q.quote ∷ (l.1.written ++ (q.quote ∷ b)))))))) f.1 ∙ simp append_assoc,
         )
 
 pub token_front : (bytes : List ℕ) (t : Token) (rest : List ℕ) → TakesToken bytes t rest → (front : List ℕ) × (bytes ≡ front ++ rest) × (front ≢ [])

@@ -1,5 +1,5 @@
 -- The first place of a word.
-use Rattle.std.proofs.Common.{◌≡◌, ◌≢◌, ℕ, zero, suc, ◌+◌, ◌-◌, ◌<◌, ◌≤◌, Bool, true, false, List, [], ◌∷◌, ◌++◌, length, get_or, take, drop, refl, ap, sym, ◌∙◌, subst, arith, append_assoc, length-append}
+use Rattle.std.proofs.Common.{◌≡◌, ℕ, zero, suc, ◌+◌, ◌-◌, ◌<◌, ◌≤◌, Bool, true, false, List, [], ◌∷◌, ◌++◌, length, get_or, take, drop, refl, ap, sym, ◌∙◌, subst, arith, append_assoc, length-append}
 use Rattle.std.specs.Prelude.{◌==◌, nat_eq}
 use Rattle.std.specs.List.{starts_with}
 use Rattle.std.proofs.lemmas.List.{take-append-drop, length-take}
@@ -10,7 +10,7 @@ use Rattle.memchr.specs.Find.{OccursAt, NoneBefore, Passes, is_byte}
 use Rattle.memchr.proofs.lemmas.MatchLemmas.{OccursAt-part, OccursAt-from_part}
 use Rattle.ifmap_elem.specs.Chars.{AllAre}
 use Rattle.ifmap_elem.specs.Tokens.{Lacks}
-use Rattle.ifmap_elem.proofs.Cuts.{is_other, is_number}
+use Rattle.ifmap_elem.proofs.Cuts.{is_number}
 use Rattle.ifmap_lexer.specs.Cutting.{CutsWord, CutsAt, is_but}
 
 fits : (w xs : List ℕ) → w ≡ take (length w) xs → 0 + length w ≤ length xs
@@ -28,6 +28,7 @@ lacks_from w (b ∷ bs) none = (head (starts_with ◌==◌ (b ∷ bs) w) refl, l
     head true e =
         let part : w ≡ take (length w) (b ∷ bs) = (bytes_eq-Decides w (take (length w) (b ∷ bs))).0 e in
         absurd (none 0 (OccursAt-from_part (b ∷ bs) w 0 (fits w (b ∷ bs) part) (sym part)))
+
     later : (k : ℕ) → OccursAt bs w k → OccursAt (b ∷ bs) w (suc k)
     later k o = record { fits = omega (arith, o.fits); reads = λ j l. ap (λ n. get_or (b ∷ bs) n 0) (suc_add k j) ∙ o.reads j l }
 
@@ -50,7 +51,7 @@ word_found w bytes front behind k some first o f b =
     record {
       bytes_are = whole;
       lacks = lacks_from w (front ++ take m w) (λ j inside.
-        first.before j (omega arith) (omega (arith, inside.fits, length-append front (take m w), length-take m w, ap length f, length-take k bytes)) (occurs_whole w bytes (front ++ take m w) (drop m w ++ behind) j cut inside));
+          first.before j (omega arith) (omega (arith, inside.fits, length-append front (take m w), length-take m w, ap length f, length-take k bytes)) (occurs_whole w bytes (front ++ take m w) (drop m w ++ behind) j cut inside));
       front_lacks = lacks_from w front (λ j inside. first.before j (omega arith) (omega (arith, inside.fits, ap length f, length-take k bytes)) (occurs_whole w bytes front (w ++ behind) j whole inside));
     }
 
@@ -65,9 +66,11 @@ byte_found c bytes front behind k first here f b = record {
     split [] n l e = absurd (omega arith)
     split (x ∷ xs) zero l e = ap (λ y. y ∷ xs) (is_number x c e)
     split (x ∷ xs) (suc n) l e = ap (λ ys. x ∷ ys) (split xs n (omega arith) e)
+
     by_test : (x : ℕ) (t : Bool) → nat_eq x c ≡ t → (nat_eq x c ≡ true → ⊥) → is_but c x ≡ true
     by_test x false e none = rw e refl
     by_test x true e none = absurd (none e)
+
     before : (xs : List ℕ) (n : ℕ) → ((j : ℕ) → j < n → nat_eq (get_or xs j 0) c ≡ true → ⊥) → AllAre (is_but c) (take n xs)
     before [] n none = nothing n
       where

@@ -60,11 +60,7 @@ fn behind_standalone(bytes: &[u8]) -> &[u8]
     let Some((written, rest)) = setting(b"standalone", bytes) else {
         return bytes;
     };
-    if is_yes_or_no(written) {
-        rest
-    } else {
-        bytes
-    }
+    if is_yes_or_no(written) { rest } else { bytes }
 }
 
 fn is_yes_or_no(written: &[u8]) -> bool

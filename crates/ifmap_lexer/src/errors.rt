@@ -15,6 +15,7 @@ pub enum LexError {
 
 impl From<AllocError> for LexError {
     ghost use Rattle.ifmap_lexer.specs.declared.errors.LexError.TheVariants.{NoMemory};
+
     ghost from_gives = { λ _ e. e ≡ NoMemory };
 
     fn from(_: AllocError) -> Self {
@@ -24,6 +25,7 @@ impl From<AllocError> for LexError {
 
 impl<T: Drop> From<AllocFailed<T>> for LexError {
     ghost use Rattle.ifmap_lexer.specs.declared.errors.LexError.TheVariants.{NoMemory};
+
     ghost from_gives = { λ _ e. e ≡ NoMemory };
 
     fn from(_: AllocFailed<T>) -> Self {

@@ -15,4 +15,4 @@ mod tokens;
 mod values;
 
 pub use errors::LexError;
-pub use lexing::{token_of, Lexed};
+pub use lexing::{Lexed, token_of};

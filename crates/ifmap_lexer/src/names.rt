@@ -10,8 +10,8 @@ ghost use Rattle.ifmap_lexer.specs.Refusing.{Refuses};
 
 use crate::errors::LexError;
 use crate::splitting::split_round_byte;
-use ifmap_elem::tokens::Qualified;
 use ifmap_elem::Text;
+use ifmap_elem::tokens::Qualified;
 use std::alloc::Global;
 
 /// The qualified name at the front, and what is left.

@@ -10,9 +10,12 @@ returns-in_default c = inr (refl, not_set (codes "encoding") refl IsEncoding c.a
 pub returns-then-eq_ignore_ascii_case : goal.returns-then-eq_ignore_ascii_case
 returns-then-eq_ignore_ascii_case c =
     inl (taken_with (codes "encoding") refl IsEncoding c.args.bytes.now c.in-Some.written.now c.in-Some.rest.now c.in-Some.ensures.found
-      (encoding_from c.in-Some.written.now (c.eq_ignore_ascii_case.ensures.test.0 c.if-eq_ignore_ascii_case.true)))
+    (encoding_from c.in-Some.written.now (c.eq_ignore_ascii_case.ensures.test.0 c.if-eq_ignore_ascii_case.true)))
 
 pub returns-else-eq_ignore_ascii_case : goal.returns-else-eq_ignore_ascii_case
 returns-else-eq_ignore_ascii_case c =
-    inr (refl, not_allowed (codes "encoding") refl IsEncoding c.args.bytes.now c.in-Some.written.now c.in-Some.rest.now c.in-Some.ensures.found
-      (λ is. is_not _ _ c.eq_ignore_ascii_case.ensures.test c.if-eq_ignore_ascii_case.false (from_encoding c.in-Some.written.now is)))
+    inr (
+      refl,
+      not_allowed (codes "encoding") refl IsEncoding c.args.bytes.now c.in-Some.written.now c.in-Some.rest.now c.in-Some.ensures.found
+          (λ is. is_not _ _ c.eq_ignore_ascii_case.ensures.test c.if-eq_ignore_ascii_case.false (from_encoding c.in-Some.written.now is)),
+    )

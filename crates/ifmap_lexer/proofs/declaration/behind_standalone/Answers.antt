@@ -13,5 +13,8 @@ returns-then-is_yes_or_no c =
 
 pub returns-else-is_yes_or_no : goal.returns-else-is_yes_or_no
 returns-else-is_yes_or_no c =
-    inr (refl, not_allowed (codes "standalone") refl IsYesOrNo c.args.bytes.now c.in-Some.written.now c.in-Some.rest.now c.in-Some.ensures.found
-      (is_not _ _ c.is_yes_or_no.ensures c.if-is_yes_or_no.false))
+    inr (
+      refl,
+      not_allowed (codes "standalone") refl IsYesOrNo c.args.bytes.now c.in-Some.written.now c.in-Some.rest.now c.in-Some.ensures.found
+          (is_not _ _ c.is_yes_or_no.ensures c.if-is_yes_or_no.false),
+    )

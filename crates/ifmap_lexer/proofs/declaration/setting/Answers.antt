@@ -16,7 +16,7 @@ pub returns-clause-found : goal.returns-clause-found
 returns-clause-found c =
     map_some c.quoted.result _ _
     (λ x q. setting_found c.args.name.now c.requires c.args.bytes.now c.split_space.result.0.now c.split_space.result.1.now c.split_space.ensures c.in-Some.behind.now c.in-Some.ensures.found x.0.now x.1.now
-      (is_some_list c.split_space.result.0.now (sym c.is_empty.ensures ∙ c.if-is_empty.false)) q)
+    (is_some_list c.split_space.result.0.now (sym c.is_empty.ensures ∙ c.if-is_empty.false)) q)
     c.quoted.ensures.found
 
 pub returns-clause-none : goal.returns-clause-none

@@ -1,4 +1,4 @@
-use Rattle.std.proofs.Common.{subst, sym, ◌∙◌, List, ℕ, drop, length, ◌-◌}
+use Rattle.std.proofs.Common.{subst, sym, ◌∙◌}
 use Rattle.ifmap_elem.specs.Tokens.{TakesToken}
 use Rattle.ifmap_elem.proofs.OneToken.{one_token}
 use Rattle.std.proofs.lemmas.Result.{err_from_is_err_and}

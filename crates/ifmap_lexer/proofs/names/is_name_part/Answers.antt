@@ -1,4 +1,4 @@
-use Rattle.std.proofs.Common.{◌≡◌, ◌++◌, false, true, ap, length, IsTrue, sym, ◌∙◌, refl, rules, tests}
+use Rattle.std.proofs.Common.{◌≡◌, ◌++◌, false, true, ap, length, sym, ◌∙◌, refl, rules, tests}
 use Rattle.std.specs.Prelude.{encode_utf8}
 use Rattle.std.proofs.lemmas.Iterator.{YieldsList-from_chars}
 use Rattle.std.proofs.lemmas.Iterator.Search.{all_from_yields_List}

@@ -1,7 +1,5 @@
-use Rattle.std.proofs.Common.{List, ℕ, refl}
 use Rattle.std.proofs.lemmas.Result.{err_from_is_err_and}
-use Rattle.ifmap_elem.specs.declared.tokens.Qualified.{Qualified}
-use Rattle.ifmap_elem.specs.Names.{IsNamePart, IsQualified, name_bytes}
+use Rattle.ifmap_elem.specs.Names.{IsNamePart}
 use Rattle.ifmap_lexer.proofs.Basics.{refuses_by}
 use Rattle.ifmap_lexer.proofs.NameLaws.{Written, prefixed_found, prefixed_parts, unprefixed_part}
 use Rattle.ifmap_lexer.proofs.names.qualified.Goals as goal

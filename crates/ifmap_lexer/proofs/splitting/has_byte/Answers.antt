@@ -1,5 +1,5 @@
 use Rattle.ifmap_elem.specs.Chars.{AllAre}
-use Rattle.ifmap_lexer.specs.Cutting.{CutsAt, is_but}
+use Rattle.ifmap_lexer.specs.Cutting.{is_but}
 use Rattle.ifmap_lexer.proofs.QuoteLaws.{not_lacked}
 use Rattle.ifmap_lexer.proofs.SplitLaws.{some_or_not}
 use Rattle.ifmap_lexer.proofs.splitting.has_byte.Goals as goal

@@ -1,4 +1,4 @@
-use Rattle.std.proofs.Common.{◌≡◌, ℕ, ◌≤◌, length, sym, subst}
+use Rattle.std.proofs.Common.{ℕ, ◌≤◌, length, sym, subst}
 use Rattle.std.proofs.lemmas.List.Sums.{prefix_len-le-length}
 use Rattle.ifmap_elem.specs.Chars.{is_space}
 use Rattle.ifmap_lexer.proofs.SplitLaws.{cuts_at_len}

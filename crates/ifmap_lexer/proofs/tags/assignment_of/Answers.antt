@@ -12,7 +12,7 @@ pub returns-in_err-name-clause-refused : goal.returns-in_err-name-clause-refused
 returns-in_err-name-clause-refused c =
     let p = err_from_is_err_and c.from_residual.result c.from_residual.ensures.1 in
     rw (p.1, p.2) (refuses_by c.in_err-name.field-0.0 (SomeName c.split_space.result.1.now) (SomeAssignment c.args.bytes.now)
-      (some_name c.args.bytes.now c.split_space.result.0.now c.split_space.result.1.now c.split_space.ensures) c.in_err-name.ensures.refused)
+    (some_name c.args.bytes.now c.split_space.result.0.now c.split_space.result.1.now c.split_space.ensures) c.in_err-name.ensures.refused)
 
 pub returns-in_default-clause-refused : goal.returns-in_default-clause-refused
 returns-in_default-clause-refused c =
@@ -22,8 +22,8 @@ pub returns-in_err-value-clause-refused : goal.returns-in_err-value-clause-refus
 returns-in_err-value-clause-refused c =
     let p = err_from_is_err_and c.from_residual-in_err-value.result c.from_residual-in_err-value.ensures.1 in
     rw (p.1, p.2) (refuses_by c.in_err-value.field-0.0 _ (SomeAssignment c.args.bytes.now)
-      (some_value c.args.bytes.now c.split_space.result.0.now c.split_space.result.1.now c.split_space.ensures c.in_ok-name.name c.in_ok-name.behind.now c.in_ok-name.ensures.found c.in-Some.written.now c.in-Some.rest.now c.in-Some.ensures.found)
-      c.in_err-value.ensures.refused)
+    (some_value c.args.bytes.now c.split_space.result.0.now c.split_space.result.1.now c.split_space.ensures c.in_ok-name.name c.in_ok-name.behind.now c.in_ok-name.ensures.found c.in-Some.written.now c.in-Some.rest.now c.in-Some.ensures.found)
+    c.in_err-value.ensures.refused)
 
 pub returns-clause-found : goal.returns-clause-found
 returns-clause-found c =

@@ -1,5 +1,4 @@
 use Rattle.std.proofs.lemmas.Result.{err_from_is_err_and}
-use Rattle.ifmap_elem.specs.declared.tokens.Tag.{Tag}
 use Rattle.ifmap_lexer.proofs.AssignmentLaws.{SomeTag, SomeName, SomeAssignments, tag_name, tag_assignments, tag_found}
 use Rattle.ifmap_lexer.proofs.Basics.{refuses_by}
 use Rattle.ifmap_lexer.proofs.tags.tag_of.Goals as goal
@@ -16,7 +15,7 @@ pub returns-in_err-assignments-clause-refused : goal.returns-in_err-assignments-
 returns-in_err-assignments-clause-refused c =
     let p = err_from_is_err_and c.from_residual-in_err-assignments.result c.from_residual-in_err-assignments.ensures.1 in
     rw (p.1, p.2) (refuses_by c.in_err-assignments.field-0.0 (SomeAssignments c.in_ok-name.behind.now) (SomeTag c.args.bytes.now)
-      (tag_assignments c.args.bytes.now c.in-Some.inner.now c.in-Some.ensures.found c.in_ok-name.name c.in_ok-name.behind.now c.in_ok-name.ensures.found) c.in_err-assignments.ensures.refused)
+    (tag_assignments c.args.bytes.now c.in-Some.inner.now c.in-Some.ensures.found c.in_ok-name.name c.in_ok-name.behind.now c.in_ok-name.ensures.found) c.in_err-assignments.ensures.refused)
 
 pub returns-clause-found : goal.returns-clause-found
 returns-clause-found c =

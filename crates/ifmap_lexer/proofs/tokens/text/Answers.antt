@@ -23,7 +23,7 @@ pub returns-in_err-meant-clause-refused : goal.returns-in_err-meant-clause-refus
 returns-in_err-meant-clause-refused c =
     let p = err_from_is_err_and c.from_residual.result c.from_residual.ensures.1 in
     rw (p.1, p.2) (refuses_by c.in_err-meant.field-0.0 (SomeMeaning c.in-Some.written.now) (Stands kinds.Text c.args.bytes.now)
-      (some_text_of c.args.bytes.now c.split_byte.result.0.now c.split_byte.result.1.now c.split_byte.ensures c.in-Some.written.now c.in-Some.ensures.found.0) c.in_err-meant.ensures.refused)
+    (some_text_of c.args.bytes.now c.split_byte.result.0.now c.split_byte.result.1.now c.split_byte.ensures c.in-Some.written.now c.in-Some.ensures.found.0) c.in_err-meant.ensures.refused)
 
 pub returns-clause-found : goal.returns-clause-found
 returns-clause-found c =

@@ -28,8 +28,8 @@ loop-run-preserved c =
     let character = c.in-Some-character_named.character in (
       behind_is_utf8 59 behind name after (lit< tt) second.bytes_are (behind_is_utf8 38 rest run behind (lit< tt) first.bytes_are inv.0),
       along_next c.args.place c.args.written.now (string_bytes c.loop-run.text) rest run behind inv.1 first name after second (string_bytes c.push.new.self) character
-      (ap referred (sym c.as_bytes.ensures.value) ∙ sym c.character_named.ensures ∙ c.in-Some-character_named.is)
-      (c.in_ok-push.ensures.bytes ∙ ap (λ x. x ++ encode_utf8 character) c.in_ok-push_run.ensures),
+          (ap referred (sym c.as_bytes.ensures.value) ∙ sym c.character_named.ensures ∙ c.in-Some-character_named.is)
+          (c.in_ok-push.ensures.bytes ∙ ap (λ x. x ++ encode_utf8 character) c.in_ok-push_run.ensures),
     )
 
 pub returns-clause-found : goal.returns-clause-found

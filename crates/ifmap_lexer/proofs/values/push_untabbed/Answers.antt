@@ -14,7 +14,7 @@ loop-front-preserved c =
       behind_is_utf8 9 rest front behind (lit< tt) cut.bytes_are inv.0,
       tab_behind rest front behind cut inv.1,
       two_more _ (string_bytes c.loop-front.text) (string_bytes c.push_str.new.self) (map as_space rest) (string_bytes c.push.new.self) front (0x20 ∷ []) inv.2
-      c.in_ok-push_str.ensures.bytes (c.in_ok-push.ensures.bytes ∙ ap (λ x. string_bytes c.push_str.new.self ++ x) (c.in_ok-push.ensures.ascii (lit< tt))) (map as_space behind) (tab_step rest front behind cut inv.1),
+          c.in_ok-push_str.ensures.bytes (c.in_ok-push.ensures.bytes ∙ ap (λ x. string_bytes c.push_str.new.self ++ x) (c.in_ok-push.ensures.ascii (lit< tt))) (map as_space behind) (tab_step rest front behind cut inv.1),
     )
 
 pub returns : goal.returns

@@ -2,9 +2,8 @@ use Rattle.std.proofs.Common.{◌≡◌, ◌++◌, length, map, string_bytes}
 use denote.Text.{Utf8}
 use denote.Shadow.{shadow}
 use Rattle.ifmap_elem.specs.Chars.{AllAre}
-use Rattle.ifmap_elem.specs.Values.{Plain, as_space}
+use Rattle.ifmap_elem.specs.Values.{as_space}
 use Rattle.ifmap_lexer.specs.Cutting.{is_but}
-use Rattle.ifmap_lexer.specs.Runs.{part_in}
 use Rattle.ifmap_lexer.proofs.values.push_untabbed.Given as goal
 
 abbrev pub invariant-loop-front : goal.invariant-loop-front
