@@ -16,3 +16,6 @@ mod values;
 
 pub use errors::LexError;
 pub use lexing::{Lexed, token_of};
+
+#[cfg(test)]
+mod tests;
