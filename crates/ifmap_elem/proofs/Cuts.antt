@@ -43,7 +43,7 @@ front_stops p q apart [] r some f = absurd (some refl)
 front_stops p q apart (x ∷ xs) r some f = apart x f.0
 
 -- the bytes before the first `--`
-pub dash_cut : (a b r s : List ℕ) → Lacks (codes "--") (a ++ codes "-") → Lacks (codes "--") (b ++ codes "-") → a ++ (codes "-->" ++ r) ≡ b ++ (codes "-->" ++ s) → (a ≡ b) × (r ≡ s)
+pub dash_cut : (a b r s : List ℕ) → Lacks (codes "--") (a ++ codes "-") → Lacks (codes "--") (b ++ codes "-") → a ++ (codes "--" ++ r) ≡ b ++ (codes "--" ++ s) → (a ≡ b) × (r ≡ s)
 dash_cut [] [] r s f g e = (refl, cc)
 dash_cut [] (y ∷ []) r s f g e =
     let one : y ≡ 45 = cc in
@@ -67,7 +67,7 @@ dash_cut (x ∷ (z ∷ zs)) [] r s f g e =
     cc
 dash_cut (x ∷ xs) (y ∷ ys) r s f g e =
     let head : x ≡ y = cc in
-    let tail : xs ++ (codes "-->" ++ r) ≡ ys ++ (codes "-->" ++ s) = cc in
+    let tail : xs ++ (codes "--" ++ r) ≡ ys ++ (codes "--" ++ s) = cc in
     let both = dash_cut xs ys r s f.1 g.1 tail in
     let same : xs ≡ ys = both.0 in
     (cc, both.1)

@@ -62,7 +62,7 @@ one_expansion adds bytes v w l m =
 
 -- one quoted value, and one assignment
 
-quote_is_no_space : (q : ℕ) → (q == 0x22 || q == 0x27) ≡ true → is_space q ≡ false
+pub quote_is_no_space : (q : ℕ) → (q == 0x22 || q == 0x27) ≡ true → is_space q ≡ false
 quote_is_no_space q h =
     elim (or_cases (q == 0x22) (q == 0x27) h) [
       | inl e ↦ subst (λ (n : ℕ). is_space n ≡ false) (sym (is_number q 0x22 e)) refl
@@ -90,7 +90,7 @@ one_quoted bytes v w r s l m =
     (third.0, cc)
 
 -- what stands behind a name in a tag
-quoted_stops : (bytes v r : List ℕ) → TakesQuoted bytes v r → Stops is_name_byte bytes
+pub quoted_stops : (bytes v r : List ℕ) → TakesQuoted bytes v r → Stops is_name_byte bytes
 quoted_stops bytes v r t = subst (Stops is_name_byte) (sym t.bytes_are) (name_stops_at_space t.before _ t.space_before refl)
 
 pub one_assignment : (bytes : List ℕ) (a b : Assignment) (r s : List ℕ) → TakesAssignment bytes a r → TakesAssignment bytes b s → (a ≡ b) × (r ≡ s)
@@ -134,7 +134,7 @@ no_assignment bytes a rest i t =
     no_name_ends i.1 a.name t.behind t.is_name i.4 both.1
 
 -- what stands behind a tag's name is no byte of a name
-assigned_stops : (bytes : List ℕ) (as' : List Assignment) (space end : List ℕ) → IsSpace space → EndsTag end → To TakesAssignment bytes as' (space ++ end) → Stops is_name_byte bytes
+pub assigned_stops : (bytes : List ℕ) (as' : List Assignment) (space end : List ℕ) → IsSpace space → EndsTag end → To TakesAssignment bytes as' (space ++ end) → Stops is_name_byte bytes
 assigned_stops bytes [] space end f ends l = subst (Stops is_name_byte) (sym l) (name_stops_at_space space end f (stops_name end ends))
 assigned_stops bytes (a ∷ as') space end f ends l = subst (Stops is_name_byte) (sym l.1.bytes_are) (some_space l.1.space l.1.some_space l.1.is_space)
   where
@@ -156,11 +156,11 @@ one_tag bytes a b end after ends also l m =
 
 -- the declaration has no `>` but its last byte
 
-abbrev no_end : ℕ → Bool
+abbrev pub no_end : ℕ → Bool
 no_end b = not (b == 0x3E)
 
 -- what was taken has no `>`
-abbrev TakesNoEnd : List ℕ → List ℕ → Type 0
+abbrev pub TakesNoEnd : List ℕ → List ℕ → Type 0
 TakesNoEnd bytes rest = (front : List ℕ) × (bytes ≡ front ++ rest) × AllAre no_end front
 
 space_no_end : (a : List ℕ) → IsSpace a → AllAre no_end a
@@ -223,7 +223,7 @@ each : (xs : List ℕ) → list_all no_end xs ≡ true → AllAre no_end xs
 each [] h = tt
 each (x ∷ xs) h = let parts = and_parts (no_end x) (list_all no_end xs) h in (parts.0, each xs parts.1)
 
-declaration_no_end : (bytes rest : List ℕ) → TakesDeclaration bytes rest → TakesNoEnd bytes (0x3E ∷ rest)
+pub declaration_no_end : (bytes rest : List ℕ) → TakesDeclaration bytes rest → TakesNoEnd bytes (0x3E ∷ rest)
 declaration_no_end bytes rest t =
     let first : TakesNoEnd bytes t.first = (codes "<?xml", t.bytes_are, each (codes "<?xml") refl) in
     let second = setting_no_end (codes "version") (λ v. v ≡ codes "1.0") (each (codes "version") refl)
@@ -250,19 +250,19 @@ one_declaration bytes r s l m =
 
 -- which kind of token the first bytes can begin
 
-abbrev third_kind : List ℕ → ℕ
+abbrev pub third_kind : List ℕ → ℕ
 third_kind [] = 0
 third_kind (b ∷ bs) = if b == 0x2D then 5 else (if b == 0x5B then 6 else 0)
 
-abbrev second_kind : List ℕ → ℕ
+abbrev pub second_kind : List ℕ → ℕ
 second_kind [] = 0
 second_kind (b ∷ bs) = if b == 0x3F then 2 else (if b == 0x2F then 3 else (if b == 0x21 then third_kind bs else 4))
 
-abbrev kind_at : List ℕ → ℕ
+abbrev pub kind_at : List ℕ → ℕ
 kind_at [] = 0
 kind_at (b ∷ bs) = if b == 0x3C then second_kind bs else 1
 
-abbrev kind_of : Token → ℕ
+abbrev pub kind_of : Token → ℕ
 kind_of Declaration = 2
 kind_of Comment = 5
 kind_of (Start tag) = 4
@@ -282,7 +282,7 @@ text_kind : (own r : List ℕ) → own ≢ [] → AllAre (λ b. not (b == 0x3C))
 text_kind [] r some f = absurd (some refl)
 text_kind (b ∷ bs) r some f = rw (not-true (b == 0x3C) f.0) refl
 
-kind_is : (bytes : List ℕ) (t : Token) (rest : List ℕ) → TakesToken bytes t rest → kind_at bytes ≡ kind_of t
+pub kind_is : (bytes : List ℕ) (t : Token) (rest : List ℕ) → TakesToken bytes t rest → kind_at bytes ≡ kind_of t
 kind_is bytes Declaration rest t = ap kind_at t.bytes_are
 kind_is bytes Comment rest t = ap kind_at t.1.bytes_are
 kind_is bytes (Start tag) rest t = tag_kind bytes tag _ t
@@ -297,7 +297,8 @@ one_comment : (bytes r s : List ℕ) → TakesToken bytes Comment r → TakesTok
 one_comment bytes r s l m =
     let e : codes "<!--" ++ (l.0 ++ (codes "-->" ++ r)) ≡ codes "<!--" ++ (m.0 ++ (codes "-->" ++ s)) = sym l.1.bytes_are ∙ m.1.bytes_are in
     let inside : l.0 ++ (codes "-->" ++ r) ≡ m.0 ++ (codes "-->" ++ s) = cc in
-    (dash_cut l.0 m.0 r s l.2 m.2 inside).1
+    let behind : codes ">" ++ r ≡ codes ">" ++ s = (dash_cut l.0 m.0 (codes ">" ++ r) (codes ">" ++ s) l.2 m.2 inside).1 in
+    cc
 
 one_section : (bytes t u r s : List ℕ) → TakesToken bytes (Section t) r → TakesToken bytes (Section u) s → (t ≡ u) × (r ≡ s)
 one_section bytes t u r s l m =
@@ -316,7 +317,7 @@ one_end bytes q u r s l m =
     let end : codes ">" ++ r ≡ codes ">" ++ s = second.1 in
     (first.0, cc)
 
-text_stops : (rest : List ℕ) → EndsText rest → Stops (λ b. not (b == 0x3C)) rest
+pub text_stops : (rest : List ℕ) → EndsText rest → Stops (λ b. not (b == 0x3C)) rest
 text_stops [] e = tt
 text_stops (b ∷ bs) e = subst (λ (n : ℕ). not (n == 0x3C) ≡ false) (sym e) refl
 

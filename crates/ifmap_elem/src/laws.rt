@@ -4,10 +4,17 @@ ghost use Rattle.std.specs.List.{AllByRecursion};
 ghost use Rattle.ifmap_elem.specs.declared.readings.Reading.{Reading};
 ghost use Rattle.ifmap_elem.specs.Spells.{SpelledBy, Spells};
 ghost use Rattle.ifmap_elem.specs.declared.elements.Element.{Element};
+ghost use Rattle.ifmap_elem.specs.declared.tokens.Token.{Token};
 ghost use Rattle.ifmap_elem.specs.Arranged.{IsSame, arranged};
 ghost use Rattle.ifmap_elem.specs.Canonical.{AreHeld, canonical_bytes, written_bytes};
 ghost use Rattle.ifmap_elem.specs.Fit.{IsDeclarable, IsFit};
 ghost use Rattle.ifmap_elem.specs.Nesting.{nesting};
+ghost use Rattle.ifmap_elem.specs.Tokens.{TakesToken};
+
+/// At most one token stands at the front of bytes, and it takes the same bytes.
+pub fn one_token_stands_at_the_front()
+    ensures { (bytes : List ℕ) (one other : Token) (rest after : List ℕ) → TakesToken bytes one rest → TakesToken bytes other after → (one ≡ other) × (rest ≡ after) }
+{}
 
 /// A list of bytes spells at most one element, with one list of declarations.
 pub fn bytes_spell_one_element()

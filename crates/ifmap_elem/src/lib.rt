@@ -16,7 +16,7 @@ pub mod printing;
 pub mod readings;
 mod sorting;
 pub mod texts;
-mod tokens;
+pub mod tokens;
 
 pub use comparing::same;
 pub use copying::Copied;

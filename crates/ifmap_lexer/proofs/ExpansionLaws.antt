@@ -1,0 +1,155 @@
+-- Written characters and what they mean, part by part.
+use Rattle.std.proofs.Common.{◌≡◌, ◌≢◌, ℕ, true, false, List, [], ◌∷◌, ◌++◌, refl, ap, sym, ◌∙◌, subst, append_assoc}
+use Rattle.std.specs.Prelude.{Option, Some, None, encode_utf8}
+use Rattle.std.specs.List.{flat_map}
+use Rattle.std.proofs.lemmas.List.{append-nil}
+use Rattle.ifmap_sequences.specs.Items.{To}
+use Rattle.ifmap_elem.specs.Chars.{AllAre}
+use Rattle.ifmap_elem.specs.Values.{Part, Plain, Reference, TakesPart, EndsRun, Expands, referred}
+use Rattle.ifmap_elem.proofs.Cuts.{cut}
+use Rattle.ifmap_elem.proofs.OneToken.{one_part}
+use Rattle.ifmap_lexer.specs.Cutting.{CutsAt, is_but}
+use Rattle.ifmap_lexer.specs.Runs.{part_in}
+use Rattle.ifmap_lexer.specs.declared.values.Place.{Place}
+use Rattle.ifmap_lexer.specs.declared.values.Place.TheVariants.{Content, Value}
+
+empty_run : (place : Place) → part_in place (Plain []) ≡ []
+empty_run Content = refl
+empty_run Value = refl
+
+character_in : (place : Place) (c : ℕ) → part_in place (Reference c) ≡ encode_utf8 c
+character_in Content c = refl
+character_in Value c = refl
+
+no_cons : (b : ℕ) (bs : List ℕ) → b ∷ bs ≡ [] → ⊥
+no_cons b bs e = cc
+
+no_run : (run rest tail : List ℕ) → run ≢ [] → AllAre (is_but 0x26) run → 0x26 ∷ tail ≡ run ++ rest → ⊥
+no_run [] rest tail some f e = some refl
+no_run (b ∷ bs) rest tail some f e =
+    let head : b ≡ 0x26 = cc in
+    let wrong : false ≡ true = subst (λ (n : ℕ). is_but 0x26 n ≡ true) head f.0 in
+    cc
+
+module _ (place : Place) where
+  abbrev Means : List ℕ → List ℕ → Type 0
+  Means written text = Expands (part_in place) written text
+
+  run_found : (run behind u : List ℕ) → AllAre (is_but 0x26) run → EndsRun behind → Means behind u → Means (run ++ behind) (part_in place (Plain run) ++ u)
+  run_found [] behind u f ends x = subst (Means behind) (sym (ap (λ y. y ++ u) (empty_run place))) x
+  run_found (b ∷ bs) behind u f ends x = record {
+    parts = Plain (b ∷ bs) ∷ x.parts;
+    taken = (behind, (refl, no_cons b bs, f, ends), x.taken);
+    text_is = ap (λ y. part_in place (Plain (b ∷ bs)) ++ y) x.text_is;
+  }
+
+  reference_found : (name after u : List ℕ) (c : ℕ) → AllAre (is_but 0x3B) name → referred name ≡ Some c → Means after u → Means (0x26 ∷ (name ++ (0x3B ∷ after))) (encode_utf8 c ++ u)
+  reference_found name after u c f e x = subst (λ (y : List ℕ). Means (0x26 ∷ (name ++ (0x3B ∷ after))) (y ++ u)) (character_in place c) (record {
+    parts = Reference c ∷ x.parts;
+    taken = (after, (name, refl, f, e), x.taken);
+    text_is = ap (λ y. part_in place (Reference c) ++ y) x.text_is;
+  })
+
+  run_ahead : (run behind : List ℕ) → AllAre (is_but 0x26) run → EndsRun behind → (t : List ℕ) → Means (run ++ behind) t → (u : List ℕ) × Means behind u
+  run_ahead [] behind f ends t x = (t, x)
+  run_ahead (b ∷ bs) behind f ends t x = first x.parts x.taken
+    where
+      first : (parts : List Part) → To TakesPart ((b ∷ bs) ++ behind) parts [] → (u : List ℕ) × Means behind u
+      first [] l = absurd (no_cons b (bs ++ behind) l)
+      first (p ∷ ps) l =
+          let both = one_part ((b ∷ bs) ++ behind) (Plain (b ∷ bs)) p behind l.0 (refl, no_cons b bs, f, ends) l.1 in
+          (flat_map (part_in place) ps, record { parts = ps; taken = subst (λ (m : List ℕ). To TakesPart m ps []) (sym both.1) l.2; text_is = refl })
+
+  abbrev Refers : List ℕ → List ℕ → Type 0
+  Refers name after = (c : ℕ) × (referred name ≡ Some c) × ((u : List ℕ) × Means after u)
+
+  reference_ahead : (name after : List ℕ) → AllAre (is_but 0x3B) name → (t : List ℕ) → Means (0x26 ∷ (name ++ (0x3B ∷ after))) t → Refers name after
+  reference_ahead name after f t x = first x.parts x.taken
+    where
+      refers : (p : Part) (ps : List Part) (mid : List ℕ) → TakesPart (0x26 ∷ (name ++ (0x3B ∷ after))) p mid → To TakesPart mid ps [] → Refers name after
+      refers (Plain run) ps mid l m = absurd (no_run run mid (name ++ (0x3B ∷ after)) l.1 l.2 l.0)
+      refers (Reference c) ps mid l m =
+          let e : 0x26 ∷ (name ++ (0x3B ∷ after)) ≡ 0x26 ∷ (l.0 ++ (0x3B ∷ mid)) = l.1 in
+          let tail : name ++ (0x3B ∷ after) ≡ l.0 ++ (0x3B ∷ mid) = cc in
+          let both = cut (is_but 0x3B) name l.0 (0x3B ∷ after) (0x3B ∷ mid) f l.2 refl refl tail in
+          let behind : 0x3B ∷ after ≡ 0x3B ∷ mid = both.1 in
+          let same : mid ≡ after = cc in
+          (c, ap referred both.0 ∙ l.3, (flat_map (part_in place) ps, record { parts = ps; taken = subst (λ (b : List ℕ). To TakesPart b ps []) same m; text_is = refl }))
+
+      first : (parts : List Part) → To TakesPart (0x26 ∷ (name ++ (0x3B ∷ after))) parts [] → Refers name after
+      first [] l = absurd (no_cons 0x26 (name ++ (0x3B ∷ after)) l)
+      first (p ∷ ps) l = refers p ps l.0 l.1 l.2
+
+  no_reference : (behind : List ℕ) → AllAre (is_but 0x3B) behind → (t : List ℕ) → Means (0x26 ∷ behind) t → ⊥
+  no_reference behind f t x = first x.parts x.taken
+    where
+      inside : (name rest : List ℕ) (bs : List ℕ) → AllAre (is_but 0x3B) bs → bs ≡ name ++ (0x3B ∷ rest) → ⊥
+      inside [] rest [] g e = cc
+      inside [] rest (b ∷ bs) g e =
+          let head : b ≡ 0x3B = cc in
+          let wrong : false ≡ true = subst (λ (n : ℕ). is_but 0x3B n ≡ true) head g.0 in
+          cc
+      inside (n ∷ ns) rest [] g e = cc
+      inside (n ∷ ns) rest (b ∷ bs) g e = let tail : bs ≡ ns ++ (0x3B ∷ rest) = cc in inside ns rest bs g.1 tail
+
+      refers : (p : Part) (mid : List ℕ) → TakesPart (0x26 ∷ behind) p mid → ⊥
+      refers (Plain run) mid l = no_run run mid behind l.1 l.2 l.0
+      refers (Reference c) mid l =
+          let e : 0x26 ∷ behind ≡ 0x26 ∷ (l.0 ++ (0x3B ∷ mid)) = l.1 in
+          let tail : behind ≡ l.0 ++ (0x3B ∷ mid) = cc in
+          inside l.0 mid behind f tail
+
+      first : (parts : List Part) → To TakesPart (0x26 ∷ behind) parts [] → ⊥
+      first [] l = no_cons 0x26 behind l
+      first (p ∷ ps) l = refers p l.0 l.1
+
+  -- how a reading goes on: what is left means what is missing
+  pub record Along (written made rest : List ℕ) : Type 0 where
+    pub found : (u : List ℕ) → Means rest u → Means written (made ++ u)
+    pub ahead : (t : List ℕ) → Means written t → (u : List ℕ) × Means rest u
+
+  pub along_start : (written made : List ℕ) → made ≡ [] → Along written made written
+  along_start written made e = record {
+    found = λ u x. subst (λ (m : List ℕ). Means written (m ++ u)) (sym e) x;
+    ahead = λ t x. (t, x);
+  }
+
+  module _ (written made rest run behind : List ℕ) (along : Along written made rest) (c : CutsAt 0x26 rest run behind) where
+    reference_left : (t : List ℕ) → Means written t → (u : List ℕ) × Means (0x26 ∷ behind) u
+    reference_left t x =
+        let a = along.ahead t x in
+        run_ahead run (0x26 ∷ behind) c.passes refl a.0 (subst (λ (b : List ℕ). Means b a.0) c.bytes_are a.1)
+
+    pub along_unended : AllAre (is_but 0x3B) behind → (t : List ℕ) × Means written t → ⊥
+    along_unended f s = let r = reference_left s.0 s.1 in no_reference behind f r.0 r.1
+
+    module _ (name after : List ℕ) (d : CutsAt 0x3B behind name after) where
+      referred_left : (t : List ℕ) → Means written t → Refers name after
+      referred_left t x =
+          let r = reference_left t x in
+          reference_ahead name after d.passes r.0 (subst (λ (b : List ℕ). Means (0x26 ∷ b) r.0) d.bytes_are r.1)
+
+      pub along_unknown : referred name ≡ None → (t : List ℕ) × Means written t → ⊥
+      along_unknown e s =
+          let r = referred_left s.0 s.1 in
+          let wrong : ◌≡◌ {A = Option ℕ} None (Some r.0) = sym e ∙ r.1 in
+          cc
+
+      pub along_next : (new : List ℕ) (ch : ℕ) → referred name ≡ Some ch → new ≡ (made ++ part_in place (Plain run)) ++ encode_utf8 ch → Along written new after
+      along_next new ch e is = record {
+        found = λ u x.
+            let whole : rest ≡ run ++ (0x26 ∷ (name ++ (0x3B ∷ after))) = c.bytes_are ∙ ap (λ b. run ++ (0x26 ∷ b)) d.bytes_are in
+            let m = run_found run (0x26 ∷ (name ++ (0x3B ∷ after))) (encode_utf8 ch ++ u) c.passes refl (reference_found name after u ch d.passes e x) in
+            let all = along.found (part_in place (Plain run) ++ (encode_utf8 ch ++ u)) (subst (λ (b : List ℕ). Means b (part_in place (Plain run) ++ (encode_utf8 ch ++ u))) (sym whole) m) in
+            let joined : made ++ (part_in place (Plain run) ++ (encode_utf8 ch ++ u)) ≡ new ++ u
+            = sym (ap (λ x. x ++ u) is ∙ append_assoc (made ++ part_in place (Plain run)) (encode_utf8 ch) u ∙ append_assoc made (part_in place (Plain run)) (encode_utf8 ch ++ u)) in
+            subst (Means written) joined all;
+        ahead = λ t x. (referred_left t x).2;
+      }
+
+  pub along_end : (written made rest text : List ℕ) → Along written made rest → AllAre (is_but 0x26) rest → text ≡ made ++ part_in place (Plain rest) → Means written text
+  along_end written made rest text along f e =
+      let nothing : Means [] [] = record { parts = []; taken = refl; text_is = refl } in
+      let m = run_found rest [] [] f tt nothing in
+      let n : Means rest (part_in place (Plain rest)) = subst (λ (b : List ℕ). Means b (part_in place (Plain rest))) (append-nil rest) (subst (Means (rest ++ [])) (append-nil (part_in place (Plain rest))) m) in
+      subst (Means written) (sym e) (along.found (part_in place (Plain rest)) n)

@@ -1,0 +1,12 @@
+pub mod AssignmentLaws
+pub mod Basics
+pub mod CharacterLaws
+pub mod ExpansionLaws
+pub mod NameLaws
+pub mod NumberLaws
+pub mod QuoteLaws
+pub mod RunLaws
+pub mod SettingLaws
+pub mod SplitLaws
+pub mod TokenLaws
+pub mod WordLaws

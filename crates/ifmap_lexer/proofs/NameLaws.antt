@@ -1,0 +1,123 @@
+-- Names that are read are those that stand there.
+use Rattle.std.proofs.Common.{◌≡◌, ◌≢◌, ℕ, ◌≤◌, Bool, true, false, List, [], ◌∷◌, ◌++◌, length, refl, ap, sym, ◌∙◌, subst, arith, inl, inr}
+use Rattle.std.specs.Prelude.{encode_utf8, encode_utf8_all, IsTrue, ◌↔◌, IsUtf8}
+use Rattle.std.specs.Str.{chars, all_scalars}
+use Rattle.std.specs.List.{list_all}
+use Rattle.std.proofs.Math.Utf8.{scalar, low_scalar}
+use Rattle.std.proofs.lemmas.Bool.{cases_lt, and_from}
+use Rattle.std.proofs.lemmas.Bool.Decides.{nat_tests}
+use Rattle.std.proofs.lemmas.Str.{encode_same, encodes-chars, chars_from_encodes, IsUtf8-past_char}
+use Rattle.ifmap_elem.specs.Chars.{AllAre}
+use Rattle.ifmap_elem.specs.declared.tokens.Qualified.{Qualified}
+use Rattle.ifmap_elem.specs.Names.{IsNamePart, IsQualified, is_name_start, is_name_character, name_bytes, prefixed}
+use Rattle.ifmap_elem.proofs.Cuts.{Stops, cut, all_weaker, is_other}
+use Rattle.ifmap_elem.proofs.NameBytes.{is_name_byte, is_part_byte, name_are_bytes, part_bytes, part_is_some}
+use Rattle.ifmap_lexer.specs.Cutting.{Cuts, CutsAt, is_but}
+use Rattle.ifmap_lexer.proofs.Basics.{each, of_each, all_back}
+
+high_start : (c : ℕ) → 55296 ≤ c → is_name_start c ≡ true → scalar c ≡ true
+high_start c g h = grind (arith, nat_tests)
+
+start_is_scalar : (c : ℕ) → is_name_start c ≡ true → scalar c ≡ true
+start_is_scalar c h = elim (cases_lt c 55296) [ inl l ↦ low_scalar c l | inr g ↦ high_start c g h ]
+
+high_inner : (c : ℕ) → 55296 ≤ c → is_name_character c ≡ true → scalar c ≡ true
+high_inner c g h = grind (arith, nat_tests)
+
+inner_is_scalar : (c : ℕ) → is_name_character c ≡ true → scalar c ≡ true
+inner_is_scalar c h = elim (cases_lt c 55296) [ inl l ↦ low_scalar c l | inr g ↦ high_inner c g h ]
+
+inner_are_scalars : (cs : List ℕ) → AllAre is_name_character cs → all_scalars cs ≡ true
+inner_are_scalars [] f = refl
+inner_are_scalars (c ∷ cs) f = and_from (scalar c) (all_scalars cs) (inner_is_scalar c f.0) (inner_are_scalars cs f.1)
+
+pub part_is_utf8 : (bytes : List ℕ) → IsNamePart bytes → IsUtf8 bytes
+part_is_utf8 bytes p = (p.first ∷ p.others, (and_from (scalar p.first) (all_scalars p.others) (start_is_scalar p.first p.begins) (inner_are_scalars p.others p.goes_on), p.bytes_are))
+
+-- the first character and the others
+
+module _ (text rest : List ℕ) (first : ℕ) (split : text ≡ encode_utf8 first ++ rest) where
+  pub part_begins : IsNamePart text → is_name_start first ≡ true
+  part_begins p =
+      let same = encode_same p.first first (encode_utf8_all p.others) rest (p.bytes_are ∙ split) in
+      subst (λ (c : ℕ). is_name_start c ≡ true) same.0 p.begins
+
+  pub tells_part : (r : Bool) → IsUtf8 text → is_name_start first ≡ true → r ≡ list_all is_name_character (chars rest) → IsTrue r ↔ IsNamePart text
+  tells_part r u begins e =
+      let v : IsUtf8 rest = IsUtf8-past_char text rest first u split in (
+        (λ t. record {
+          first = first;
+          others = chars rest;
+          bytes_are = ap (λ x. encode_utf8 first ++ x) (encodes-chars rest v) ∙ sym split;
+          begins = begins;
+          goes_on = each is_name_character (chars rest) (sym e ∙ t);
+        }),
+        (λ p. let same = encode_same p.first first (encode_utf8_all p.others) rest (p.bytes_are ∙ split) in
+            e ∙ ap (list_all is_name_character) (sym (chars_from_encodes p.others rest v same.1)) ∙ of_each is_name_character p.others p.goes_on),
+      )
+
+pub no_part_of_none : (text : List ℕ) → length text ≡ 0 → IsNamePart text → ⊥
+no_part_of_none [] e p = part_is_some [] p refl
+no_part_of_none (b ∷ bs) e p = absurd (omega arith)
+
+-- a qualified name by its colon
+
+abbrev pub Written : List ℕ → Type 0
+Written bytes = (name : Qualified) × IsQualified name × (name_bytes name ≡ bytes)
+
+no_colon : (b : ℕ) → is_part_byte b ≡ true → is_but 58 b ≡ true
+no_colon b h = rw (is_other b 58 (λ e. let wrong : false ≡ true = subst (λ (n : ℕ). is_part_byte n ≡ true) e h in cc)) refl
+
+prefixed_some : (prefix local : List ℕ) → prefix ≢ [] → prefixed prefix local ≡ prefix ++ (58 ∷ local)
+prefixed_some [] local some = absurd (some refl)
+prefixed_some (b ∷ bs) local some = refl
+
+pub prefixed_found : (bytes prefix local : List ℕ) → CutsAt 58 bytes prefix local → IsNamePart prefix → IsNamePart local
+    → (q : Qualified) → q.prefix ≡ prefix → q.local ≡ local → IsQualified q × (name_bytes q ≡ bytes)
+prefixed_found bytes prefix local c p l q e f = (
+  record { prefix_is = inr (subst IsNamePart (sym e) p); local_is = subst IsNamePart (sym f) l },
+  (λ i. prefixed (e i) (f i)) ∙ prefixed_some prefix local (part_is_some prefix p) ∙ sym c.bytes_are,
+)
+
+pub unprefixed_found : (bytes : List ℕ) → IsNamePart bytes → (q : Qualified) → q.prefix ≡ [] → q.local ≡ bytes → IsQualified q × (name_bytes q ≡ bytes)
+unprefixed_found bytes l q e f = (record { prefix_is = inl e; local_is = subst IsNamePart (sym f) l }, (λ i. prefixed (e i) (f i)))
+
+local_bytes : (q : Qualified) → q.prefix ≡ [] → name_bytes q ≡ q.local
+local_bytes q e = ap (λ x. prefixed x q.local) e
+
+pub prefixed_parts : (bytes front behind : List ℕ) → CutsAt 58 bytes front behind → (q : Qualified) → IsQualified q → name_bytes q ≡ bytes → IsNamePart front × IsNamePart behind
+prefixed_parts bytes front behind c q i e =
+    elim i.prefix_is [
+      | inl none ↦
+          let all : AllAre is_part_byte (front ++ (58 ∷ behind)) = subst (AllAre is_part_byte) (sym (local_bytes q none) ∙ e ∙ c.bytes_are) (part_bytes q.local i.local_is) in
+          let wrong : false ≡ true = (all_back is_part_byte front (58 ∷ behind) all).0 in cc
+      | inr part ↦
+          let both = cut (is_but 58) q.prefix front (58 ∷ q.local) (58 ∷ behind) (all_weaker is_part_byte (is_but 58) no_colon q.prefix (part_bytes q.prefix part)) c.passes refl refl
+          (sym (prefixed_some q.prefix q.local (part_is_some q.prefix part)) ∙ e ∙ c.bytes_are) in
+          let tail : 58 ∷ q.local ≡ 58 ∷ behind = both.1 in
+          let local : q.local ≡ behind = cc in
+          (subst IsNamePart both.0 part, subst IsNamePart local i.local_is)
+    ]
+
+pub unprefixed_part : (bytes : List ℕ) → AllAre (is_but 58) bytes → (q : Qualified) → IsQualified q → name_bytes q ≡ bytes → IsNamePart bytes
+unprefixed_part bytes f q i e =
+    elim i.prefix_is [
+      | inl none ↦ subst IsNamePart (sym (local_bytes q none) ∙ e) i.local_is
+      | inr part ↦
+          let all : AllAre (is_but 58) (q.prefix ++ (58 ∷ q.local)) = subst (AllAre (is_but 58)) (sym e ∙ prefixed_some q.prefix q.local (part_is_some q.prefix part)) f in
+          let wrong : false ≡ true = (all_back (is_but 58) q.prefix (58 ∷ q.local) all).0 in cc
+    ]
+
+-- the name at the front
+
+abbrev pub NameAt : List ℕ → Qualified → List ℕ → Type 0
+NameAt bytes name rest = IsQualified name × (bytes ≡ name_bytes name ++ rest) × Stops is_name_byte rest
+
+pub name_found : (bytes run rest : List ℕ) (name : Qualified) → Cuts is_name_byte bytes run rest → IsQualified name × (name_bytes name ≡ run) → NameAt bytes name rest
+name_found bytes run rest name c f = (f.0, c.bytes_are ∙ ap (λ x. x ++ rest) (sym f.1), c.stops)
+
+pub name_run : (bytes run rest : List ℕ) → Cuts is_name_byte bytes run rest
+    → ((name : Qualified) × (after : List ℕ) × IsQualified name × (bytes ≡ name_bytes name ++ after) × Stops is_name_byte after) → (name : Qualified) × IsQualified name × (name_bytes name ≡ run)
+name_run bytes run rest c s =
+    let both = cut is_name_byte run (name_bytes s.0) rest s.1 c.passes (name_are_bytes s.0 s.2) c.stops s.4 (sym c.bytes_are ∙ s.3) in
+    (s.0, s.2, sym both.0)

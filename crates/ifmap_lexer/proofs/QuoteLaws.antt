@@ -1,0 +1,78 @@
+-- Quoted values that are read are those that stand there.
+use Rattle.std.proofs.Common.{◌≡◌, ℕ, true, false, List, ◌∷◌, ◌++◌, refl, ap, sym, ◌∙◌, subst, arith}
+use Rattle.std.specs.Prelude.{◌==◌, ◌||◌, Option, Some, None, IfSome, IfNone}
+use Rattle.std.proofs.lemmas.Bool.Decides.{nat_tests}
+use Rattle.ifmap_elem.specs.Chars.{AllAre, is_space}
+use Rattle.ifmap_elem.specs.Tokens.{TakesQuoted}
+use Rattle.ifmap_elem.proofs.Cuts.{cut}
+use Rattle.ifmap_elem.proofs.OneToken.{quote_is_no_space}
+use Rattle.ifmap_lexer.specs.Cutting.{Cuts, CutsAt, is_but}
+use Rattle.ifmap_lexer.proofs.Basics.{all_back}
+
+pub map_some : {X : Type 0} (o : Option X) (P Q : X → Type 0) → ((x : X) → P x → Q x) → IfSome o P → IfSome o Q
+map_some None P Q f h = tt
+map_some (Some x) P Q f h = f x h
+
+pub map_none : {X : Type 0} (o : Option X) (P Q : Type 0) → (P → Q) → IfNone o P → IfNone o Q
+map_none None P Q f h = f h
+map_none (Some x) P Q f h = tt
+
+itself : (q : ℕ) → is_but q q ≡ false
+itself q = let same : (q == q) ≡ true = grind (arith, nat_tests) in rw same refl
+
+-- a byte that stands inside is not lacked
+pub not_lacked : (q : ℕ) (bytes front behind : List ℕ) → bytes ≡ front ++ (q ∷ behind) → AllAre (is_but q) bytes → ⊥
+not_lacked q bytes front behind e f =
+    let all : AllAre (is_but q) (front ++ (q ∷ behind)) = subst (AllAre (is_but q)) e f in
+    let wrong : true ≡ false = sym (all_back (is_but q) front (q ∷ behind) all).0 ∙ itself q in
+    cc
+
+abbrev IsQuote : ℕ → Type 0
+IsQuote q = (q == 0x22 || q == 0x27) ≡ true
+
+pub no_quote_at : (b : ℕ) (bs bytes : List ℕ) → bytes ≡ b ∷ bs → (b == 0x22 || b == 0x27) ≡ false → (q : ℕ) (r : List ℕ) → (q == 0x22 || q == 0x27) ≡ true → bytes ≡ q ∷ r → ⊥
+no_quote_at b bs bytes e h q r g d =
+    let s : b ∷ bs ≡ q ∷ r = sym e ∙ d in
+    let same : q ≡ b = cc in
+    let wrong : true ≡ false = sym (subst IsQuote same g) ∙ h in
+    cc
+
+module _ (bytes before sign : List ℕ) (c : Cuts is_space bytes before sign) where
+  sign_is : (w r : List ℕ) (t : TakesQuoted bytes w r) → sign ≡ 0x3D ∷ (t.after ++ (t.quote ∷ (w ++ (t.quote ∷ r))))
+  sign_is w r t = (cut is_space before t.before sign (0x3D ∷ (t.after ++ (t.quote ∷ (w ++ (t.quote ∷ r))))) c.passes t.space_before c.stops refl (sym c.bytes_are ∙ t.bytes_are)).1
+
+  pub no_sign : ((rest : List ℕ) → sign ≡ 0x3D ∷ rest → ⊥) → (w r : List ℕ) → TakesQuoted bytes w r → ⊥
+  no_sign none w r t = none (t.after ++ (t.quote ∷ (w ++ (t.quote ∷ r)))) (sign_is w r t)
+
+  module _ (behind after value : List ℕ) (e : sign ≡ 0x3D ∷ behind) (d : Cuts is_space behind after value) where
+    value_is : (w r : List ℕ) (t : TakesQuoted bytes w r) → value ≡ t.quote ∷ (w ++ (t.quote ∷ r))
+    value_is w r t =
+        let s : 0x3D ∷ behind ≡ 0x3D ∷ (t.after ++ (t.quote ∷ (w ++ (t.quote ∷ r)))) = sym e ∙ sign_is w r t in
+        let tail : behind ≡ t.after ++ (t.quote ∷ (w ++ (t.quote ∷ r))) = cc in
+        (cut is_space after t.after value (t.quote ∷ (w ++ (t.quote ∷ r))) d.passes t.space_after d.stops (quote_is_no_space t.quote t.is_quote) (sym d.bytes_are ∙ tail)).1
+
+    pub no_quote : ((quote : ℕ) (rest : List ℕ) → (quote == 0x22 || quote == 0x27) ≡ true → value ≡ quote ∷ rest → ⊥) → (w r : List ℕ) → TakesQuoted bytes w r → ⊥
+    no_quote none w r t = none t.quote (w ++ (t.quote ∷ r)) t.is_quote (value_is w r t)
+
+    module _ (quote : ℕ) (inside : List ℕ) (is : value ≡ quote ∷ inside) (q : (quote == 0x22 || quote == 0x27) ≡ true) where
+      inside_is : (w r : List ℕ) → TakesQuoted bytes w r → inside ≡ w ++ (quote ∷ r)
+      inside_is w r t =
+          let v : quote ∷ inside ≡ t.quote ∷ (w ++ (t.quote ∷ r)) = sym is ∙ value_is w r t in
+          let same : t.quote ≡ quote = cc in
+          let tail : inside ≡ w ++ (t.quote ∷ r) = cc in
+          subst (λ (n : ℕ). inside ≡ w ++ (n ∷ r)) same tail
+
+      pub unclosed : AllAre (is_but quote) inside → (w r : List ℕ) → TakesQuoted bytes w r → ⊥
+      unclosed f w r t = not_lacked quote inside w r (inside_is w r t) f
+
+      pub quoted_found : (w r : List ℕ) → CutsAt quote inside w r → TakesQuoted bytes w r
+      quoted_found w r k = record {
+        before = before;
+        after = after;
+        quote = quote;
+        bytes_are = c.bytes_are ∙ ap (λ x. before ++ x) (e ∙ ap (λ x. 0x3D ∷ x) (d.bytes_are ∙ ap (λ x. after ++ x) (is ∙ ap (λ x. quote ∷ x) k.bytes_are)));
+        space_before = c.passes;
+        space_after = d.passes;
+        is_quote = q;
+        unquoted = k.passes;
+      }

@@ -1,0 +1,19 @@
+use Rattle.std.proofs.lemmas.Result.{err_from_is_err_and}
+use Rattle.ifmap_lexer.specs.Kinds.{Stands}
+use Rattle.ifmap_lexer.specs.declared.kinds.Kind.TheVariants as kinds
+use Rattle.ifmap_lexer.proofs.AssignmentLaws.{SomeName}
+use Rattle.ifmap_lexer.proofs.Basics.{refuses_by}
+use Rattle.ifmap_lexer.proofs.TokenLaws.{no_opening_end, end_name, no_end_end}
+use Rattle.ifmap_lexer.proofs.tokens.end_tag.Goals as goal
+
+pub returns-in_default-clause-refused : goal.returns-in_default-clause-refused
+returns-in_default-clause-refused c = no_opening_end c.args.bytes.now c.in_default.ensures.none
+
+pub returns-in_err-name-clause-refused : goal.returns-in_err-name-clause-refused
+returns-in_err-name-clause-refused c =
+    let p = err_from_is_err_and c.from_residual.result c.from_residual.ensures.1 in
+    rw (p.1, p.2) (refuses_by c.in_err-name.field-0.0 (SomeName c.in-Some.inner.now) (Stands kinds.End c.args.bytes.now) (end_name c.args.bytes.now c.in-Some.inner.now c.in-Some.ensures.found) c.in_err-name.ensures.refused)
+
+pub returns-in-None-clause-refused : goal.returns-in-None-clause-refused
+returns-in-None-clause-refused c =
+    no_end_end c.args.bytes.now c.in-Some.inner.now c.in-Some.ensures.found c.in_ok-name.name c.in_ok-name.behind.now c.split_space.result.0.now c.split_space.result.1.now c.in_ok-name.ensures.found c.split_space.ensures c.in-None.ensures.none

@@ -1,0 +1,23 @@
+use Rattle.std.proofs.Common.{[], ◌∷◌, string_bytes}
+use Rattle.ifmap_elem.specs.Values.{Plain}
+use Rattle.ifmap_lexer.specs.Runs.{break_in, line_in, part_in}
+use Rattle.ifmap_lexer.proofs.RunLaws.{break_step, break_end, two_more, last_line}
+use Rattle.ifmap_lexer.proofs.values.push_run.Goals as goal
+
+pub loop-line-preserved : goal.loop-line-preserved
+loop-line-preserved c =
+    let inv = c.loop-line.invariant in
+    let place = c.args.place in
+    let rest = c.loop-line.rest.now in
+    let after = c.behind_newline-rest.result.now in (
+      c.behind_newline-rest.utf8,
+      two_more _ (string_bytes c.loop-line.text) (string_bytes c.push_line.new.text) (part_in place (Plain rest)) (string_bytes c.push_break.new.text) (line_in place c.in-Some.line.now) (break_in place ∷ []) inv.1
+          c.in_ok-push_line.ensures c.in_ok-push_break.ensures (part_in place (Plain after)) (break_step place rest c.in-Some.line.now c.in-Some.behind.now after c.in-Some.ensures.found c.behind_newline-rest.ensures.line),
+    )
+
+pub returns : goal.returns
+returns c =
+    let place = c.args.place in
+    let rest = c.loop-line.rest.now in
+    last_line c.push_line-2.result _ (string_bytes c.loop-line.text) (part_in place (Plain rest)) (string_bytes c.push_line-2.new.text) (line_in place rest) c.loop-line.invariant.1 c.push_line-2.ensures
+    (break_end place rest c.in_default.ensures.none)

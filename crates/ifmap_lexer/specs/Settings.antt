@@ -1,0 +1,33 @@
+-- The settings of the XML declaration (XML 1.0, section 2.8).
+use Rattle.std.specs.Prelude.{◌≡◌, ◌≢◌, ◌⊎◌, ℕ, false, List, [], ◌∷◌, ◌++◌, codes, map}
+use Rattle.std.specs.Char.{to_ascii_uppercase}
+use Rattle.ifmap_elem.specs.Chars.{IsSpace, is_space}
+use Rattle.ifmap_elem.specs.Tokens.{TakesQuoted, TakesSetting}
+
+-- the name does not begin with white space
+abbrev pub StartsNoSpace : List ℕ → Type 0
+StartsNoSpace [] = ⊥
+StartsNoSpace (b ∷ bs) = is_space b ≡ false
+
+-- white space, this name and a value
+pub record SetsTo (name bytes written rest : List ℕ) : Type 0 where
+  pub space : List ℕ
+  pub behind : List ℕ
+  pub bytes_are : bytes ≡ space ++ (name ++ behind)
+  pub is_space : IsSpace space
+  pub some_space : space ≢ []
+  pub given : TakesQuoted behind written rest
+
+-- the setting is taken where it stands, and else nothing is
+abbrev pub TakesWhereSet : List ℕ → (List ℕ → Type 0) → List ℕ → List ℕ → Type 0
+TakesWhereSet name IsAllowed bytes rest = TakesSetting name IsAllowed bytes rest ⊎ ((bytes ≡ rest) × ((r : List ℕ) → TakesSetting name IsAllowed bytes r → ⊥))
+
+-- the values that a declaration may have
+abbrev pub IsVersion : List ℕ → Type 0
+IsVersion v = v ≡ codes "1.0"
+
+abbrev pub IsEncoding : List ℕ → Type 0
+IsEncoding v = map to_ascii_uppercase v ≡ codes "UTF-8"
+
+abbrev pub IsYesOrNo : List ℕ → Type 0
+IsYesOrNo v = (v ≡ codes "yes") ⊎ (v ≡ codes "no")

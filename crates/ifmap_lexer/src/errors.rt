@@ -1,0 +1,34 @@
+//! Why no token was read.
+ghost use Rattle.std.specs.Prelude.{◌≡◌};
+
+use std::alloc::{AllocError, AllocFailed};
+use thiserror::Error;
+
+/// Why no token was read.
+#[derive(Debug, Drop, Error)]
+pub enum LexError {
+    #[error("no token stands here")]
+    Malformed,
+    #[error("out of memory")]
+    NoMemory,
+}
+
+impl From<AllocError> for LexError {
+    ghost use Rattle.ifmap_lexer.specs.declared.errors.LexError.TheVariants.{NoMemory};
+
+    ghost from_gives = { λ _ e. e ≡ NoMemory };
+
+    fn from(_: AllocError) -> Self {
+        LexError::NoMemory
+    }
+}
+
+impl<T: Drop> From<AllocFailed<T>> for LexError {
+    ghost use Rattle.ifmap_lexer.specs.declared.errors.LexError.TheVariants.{NoMemory};
+
+    ghost from_gives = { λ _ e. e ≡ NoMemory };
+
+    fn from(_: AllocFailed<T>) -> Self {
+        LexError::NoMemory
+    }
+}

@@ -1,0 +1,21 @@
+//! Cuts the bytes of a document into tokens, one at a time.
+#![tactic(auto)]
+
+mod characters;
+mod declaration;
+mod errors;
+mod kinds;
+pub mod lexing;
+mod names;
+mod quoting;
+mod references;
+mod splitting;
+mod tags;
+mod tokens;
+mod values;
+
+pub use errors::LexError;
+pub use lexing::{Lexed, token_of};
+
+#[cfg(test)]
+mod tests;

@@ -1,0 +1,126 @@
+//! Names as they are written.
+ghost use Rattle.std.specs.Prelude.{◌≡◌, ◌++◌, ◌↔◌, ℕ, List, IfErr, IfOk, IsTrue};
+ghost use Rattle.std.specs.List.{prefix_len};
+ghost use Rattle.ifmap_elem.specs.declared.tokens.Qualified.{Qualified};
+ghost use Rattle.ifmap_elem.specs.Names.{IsNamePart, IsQualified, is_name_start, is_name_character, name_bytes};
+ghost use Rattle.ifmap_elem.proofs.Cuts.{Stops};
+ghost use Rattle.ifmap_elem.proofs.NameBytes.{is_name_byte};
+ghost use Rattle.ifmap_lexer.specs.Cutting.{Cuts};
+ghost use Rattle.ifmap_lexer.specs.Refusing.{Refuses};
+
+use crate::errors::LexError;
+use crate::splitting::split_round_byte;
+use ifmap_elem::Text;
+use ifmap_elem::tokens::Qualified;
+use std::alloc::Global;
+
+/// The qualified name at the front, and what is left.
+pub(crate) fn name_of(alloc: Global, bytes: &[u8]) -> Result<(Qualified, &[u8]), LexError>
+    ensures found { IfOk result (λ f. IsQualified f.0 × (bytes.now ≡ name_bytes f.0 ++ f.1.now) × Stops is_name_byte f.1.now) }
+    ensures refused { IfErr result (λ e. Refuses e ((name : Qualified) × (rest : List ℕ) × IsQualified name × (bytes.now ≡ name_bytes name ++ rest) × Stops is_name_byte rest)) }
+{
+    let (run, rest) = split_name(bytes);
+    let name = qualified(alloc, run)?;
+    Ok((name, rest))
+}
+
+/// The bytes at the front that a name may have, and what is left.
+fn split_name(bytes: &[u8]) -> (&[u8], &[u8])
+    ensures { Cuts is_name_byte bytes.now result.0.now result.1.now }
+{
+    bytes.split_at(name_len(bytes))
+}
+
+fn name_len(bytes: &[u8]) -> usize
+    ensures { result ≡ prefix_len is_name_byte bytes.now }
+{
+    bytes.iter().take_while(|byte| may_be_named(**byte)).count()
+}
+
+fn may_be_named(byte: u8) -> bool
+    ensures { result ≡ is_name_byte byte }
+{
+    byte == b':' || byte >= 128 || is_inner(byte as char)
+}
+
+/// The name that is written so.
+fn qualified(alloc: Global, bytes: &[u8]) -> Result<Qualified, LexError>
+    ensures found { IfOk result (λ name. IsQualified name × (name_bytes name ≡ bytes.now)) }
+    ensures refused { IfErr result (λ e. Refuses e ((name : Qualified) × IsQualified name × (name_bytes name ≡ bytes.now))) }
+{
+    match split_round_byte(b':', bytes) {
+        Some((prefix, local)) => {
+            let prefix = name_part(alloc, prefix)?;
+            let local = name_part(alloc, local)?;
+            Ok(Qualified { prefix, local })
+        }
+        None => {
+            let local = name_part(alloc, bytes)?;
+            let prefix = Text(String::new(alloc));
+            Ok(Qualified { prefix, local })
+        }
+    }
+}
+
+/// The name part that is written so.
+#[tactic(auto, using(crate::proofs::NameLaws::part_is_utf8))]
+fn name_part(alloc: Global, bytes: &[u8]) -> Result<Text, LexError>
+    ensures found { IfOk result (λ text. (text ≡ bytes.now) × IsNamePart bytes.now) }
+    ensures refused { IfErr result (λ e. Refuses e (IsNamePart bytes.now)) }
+{
+    match str::from_utf8(bytes) {
+        Ok(text) => {
+            if is_name_part(text) {
+                Ok(Text(String::from_str(alloc, text)?))
+            } else {
+                Err(LexError::Malformed)
+            }
+        }
+        Err(_) => Err(LexError::Malformed),
+    }
+}
+
+fn is_name_part(text: &str) -> bool
+    ensures { IsTrue result ↔ IsNamePart text.now }
+{
+    let mut characters = text.chars();
+    match characters.next() {
+        Some(first) => is_first(first) && characters.all(|c| is_inner(c)),
+        None => false,
+    }
+}
+
+/// Whether a name part may begin with the character.
+fn is_first(character: char) -> bool
+    ensures { result ≡ is_name_start character }
+{
+    matches!(
+        character as u32,
+        0x41..=0x5A
+            | 0x5F
+            | 0x61..=0x7A
+            | 0xC0..=0xD6
+            | 0xD8..=0xF6
+            | 0xF8..=0x2FF
+            | 0x370..=0x37D
+            | 0x37F..=0x1FFF
+            | 0x200C..=0x200D
+            | 0x2070..=0x218F
+            | 0x2C00..=0x2FEF
+            | 0x3001..=0xD7FF
+            | 0xF900..=0xFDCF
+            | 0xFDF0..=0xFFFD
+            | 0x1_0000..=0xE_FFFF
+    )
+}
+
+/// Whether the character may stand in a name part.
+fn is_inner(character: char) -> bool
+    ensures { result ≡ is_name_character character }
+{
+    is_first(character)
+        || matches!(
+            character as u32,
+            0x2D | 0x2E | 0x30..=0x39 | 0xB7 | 0x300..=0x36F | 0x203F..=0x2040
+        )
+}

@@ -1,0 +1,42 @@
+//! Values in quotes.
+ghost use Rattle.std.specs.Prelude.{◌≡◌, ℕ, List, ◌∷◌, ◌==◌, ◌||◌, true, IfNone, IfSome};
+ghost use Rattle.ifmap_elem.specs.Tokens.{TakesQuoted};
+
+use crate::splitting::{behind_word, split_round_byte, split_space};
+
+/// The value behind an equals sign, as it is written between its quotes, and what is left.
+pub(crate) fn quoted(bytes: &[u8]) -> Option<(&[u8], &[u8])>
+    ensures found { IfSome result (λ f. TakesQuoted bytes.now f.0.now f.1.now) }
+    ensures none { IfNone result ((written : List ℕ) (rest : List ℕ) → TakesQuoted bytes.now written rest → ⊥) }
+{
+    let (_before, sign) = split_space(bytes);
+    let Some(behind) = behind_word(b"=", sign) else {
+        return None;
+    };
+    let (_after, value) = split_space(behind);
+    let Some((quote, inside)) = quote_at(value) else {
+        return None;
+    };
+    split_round_byte(quote, inside)
+}
+
+/// The quote at the front, single or double, and what is left.
+fn quote_at(bytes: &[u8]) -> Option<(u8, &[u8])>
+    ensures found { IfSome result (λ f. (bytes.now ≡ f.0 ∷ f.1.now) × ((f.0 == 0x22 || f.0 == 0x27) ≡ true)) }
+    ensures none { IfNone result ((quote : ℕ) (rest : List ℕ) → (quote == 0x22 || quote == 0x27) ≡ true → bytes.now ≡ quote ∷ rest → ⊥) }
+{
+    let Some((first, rest)) = bytes.split_first() else {
+        return None;
+    };
+    if is_quote(*first) {
+        Some((*first, rest))
+    } else {
+        None
+    }
+}
+
+fn is_quote(byte: u8) -> bool
+    ensures { result ≡ (byte == 0x22 || byte == 0x27) }
+{
+    byte == b'"' || byte == b'\''
+}

@@ -1,0 +1,98 @@
+//! Tags.
+ghost use Rattle.std.specs.Prelude.{◌≡◌, ◌<◌, ◌↔◌, ℕ, List, IfErr, IfOk, IsTrue, length};
+ghost use Rattle.ifmap_elem.specs.Chars.{AllAre, IsCharacters};
+ghost use Rattle.ifmap_elem.specs.Tokens.{TakesAssignment, TakesTag};
+ghost use Rattle.ifmap_elem.specs.Values.{IsValue};
+ghost use Rattle.ifmap_elem.specs.declared.tokens.Assignment.{Assignment};
+ghost use Rattle.ifmap_elem.specs.declared.tokens.Tag.{Tag};
+ghost use Rattle.ifmap_lexer.specs.Cutting.{is_but};
+ghost use Rattle.ifmap_lexer.specs.Refusing.{Refuses};
+ghost use Rattle.ifmap_lexer.specs.Tags.{ClosesTag, IsAtEnd, TakesAssignments};
+
+use crate::characters::characters;
+use crate::errors::LexError;
+use crate::names::name_of;
+use crate::quoting::quoted;
+use crate::splitting::{behind_word, has_byte, split_space};
+use crate::values::{Place, meaning};
+use ifmap_elem::tokens::{Assignment, Tag};
+use ifmap_elem::{Many, Text};
+use std::alloc::Global;
+
+/// The tag at the front, and how it ends.
+pub(crate) fn tag_of(alloc: Global, bytes: &[u8]) -> Result<(Tag, &[u8]), LexError>
+    ensures found { IfOk result (λ f. TakesTag bytes.now f.0 f.1.now × ClosesTag f.1.now) }
+    ensures refused { IfErr result (λ e. Refuses e ((tag : Tag) × (end : List ℕ) × TakesTag bytes.now tag end × ClosesTag end)) }
+{
+    let Some(inner) = behind_word(b"<", bytes) else {
+        return Err(LexError::Malformed);
+    };
+    let (name, behind) = name_of(alloc, inner)?;
+    let (assignments, end) = assignments_of(alloc, behind)?;
+    Ok((Tag { name, assignments }, end))
+}
+
+/// The assignments up to the end of a tag, and that end.
+fn assignments_of(alloc: Global, bytes: &[u8]) -> Result<(Many<Assignment>, &[u8]), LexError>
+    ensures found { IfOk result (λ f. TakesAssignments bytes.now f.0 f.1.now) }
+    ensures refused { IfErr result (λ e. Refuses e ((assignments : List Assignment) × (end : List ℕ) × TakesAssignments bytes.now assignments end)) }
+{
+    let mut made = Vec::new(alloc);
+    let mut rest = bytes;
+    'all: while !is_at_end(rest) {
+        let (assignment, behind) = assignment_of(alloc, rest)?;
+        made.push(assignment)?;
+        rest = behind;
+    }
+    let (_space, end) = split_space(rest);
+    Ok((Many(made), end))
+}
+
+/// Whether white space stands here, or none, and then a tag's end.
+fn is_at_end(bytes: &[u8]) -> bool
+    ensures { IsTrue result ↔ IsAtEnd bytes.now }
+{
+    let (_space, end) = split_space(bytes);
+    closes(end)
+}
+
+fn closes(bytes: &[u8]) -> bool
+    ensures { IsTrue result ↔ ClosesTag bytes.now }
+{
+    match bytes.first() {
+        Some(first) => *first == b'>' || *first == b'/',
+        None => false,
+    }
+}
+
+/// White space and the assignment behind it, and what is left.
+fn assignment_of(alloc: Global, bytes: &[u8]) -> Result<(Assignment, &[u8]), LexError>
+    ensures found { IfOk result (λ f. TakesAssignment bytes.now f.0 f.1.now) }
+    ensures refused { IfErr result (λ e. Refuses e ((a : Assignment) × (rest : List ℕ) × TakesAssignment bytes.now a rest)) }
+    ensures shorter { IfOk result (λ f. length f.1.now < length bytes.now) }
+{
+    let (space, inner) = split_space(bytes);
+    if space.is_empty() {
+        return Err(LexError::Malformed);
+    }
+    let (name, behind) = name_of(alloc, inner)?;
+    let Some((written, rest)) = quoted(behind) else {
+        return Err(LexError::Malformed);
+    };
+    let value = value_of(alloc, written)?;
+    Ok((Assignment { name, value }, rest))
+}
+
+/// What the written value means.
+fn value_of(alloc: Global, written: &[u8]) -> Result<Text, LexError>
+    ensures found { IfOk result (λ value. IsCharacters written.now × AllAre (is_but 0x3C) written.now × IsValue written.now value) }
+    ensures refused { IfErr result (λ e. Refuses e ((value : List ℕ) × IsCharacters written.now × AllAre (is_but 0x3C) written.now × IsValue written.now value)) }
+{
+    if has_byte(b'<', written) {
+        return Err(LexError::Malformed);
+    }
+    let Some(text) = characters(written) else {
+        return Err(LexError::Malformed);
+    };
+    meaning(alloc, Place::Value, text)
+}

@@ -1,0 +1,133 @@
+//! Each kind of token by itself.
+ghost use Rattle.std.specs.Prelude.{◌≡◌, List, ℕ, IfErr, IfOk, IfSome, IfNone};
+ghost use Rattle.std.specs.List.{list_all};
+ghost use Rattle.ifmap_elem.specs.Chars.{is_space};
+ghost use Rattle.ifmap_elem.specs.Tokens.{TakesToken, TakesText};
+ghost use Rattle.ifmap_elem.specs.declared.tokens.Token.{Token};
+ghost use Rattle.ifmap_lexer.specs.Kinds.{Stands};
+ghost use Rattle.ifmap_lexer.specs.Refusing.{Refuses};
+
+use crate::characters::characters;
+use crate::declaration::behind_declaration;
+use crate::errors::LexError;
+use crate::kinds::{Kind, kind_of};
+use crate::names::name_of;
+use crate::splitting::{behind_word, has_word, is_white, split_byte, split_space, split_word};
+use crate::tags::tag_of;
+use crate::values::{Place, meaning, plain_meaning};
+use ifmap_elem::tokens::Token;
+use std::alloc::Global;
+
+/// The token at the front, and what is left.
+pub(crate) fn first_token(alloc: Global, bytes: &[u8]) -> Result<(Token, &[u8]), LexError>
+    ensures found { IfOk result (λ f. TakesToken bytes.now f.0 f.1.now) }
+    ensures refused { IfErr result (λ e. Refuses e ((t : Token) × (rest : List ℕ) × TakesToken bytes.now t rest)) }
+{
+    match kind_of(bytes) {
+        Kind::Nothing => Err(LexError::Malformed),
+        Kind::Text => text(alloc, bytes),
+        Kind::Declaration => declaration(bytes),
+        Kind::End => end_tag(alloc, bytes),
+        Kind::Tag => tag(alloc, bytes),
+        Kind::Comment => comment(bytes),
+        Kind::Section => section(alloc, bytes),
+    }
+}
+
+fn declaration(bytes: &[u8]) -> Result<(Token, &[u8]), LexError>
+    ensures found { IfOk result (λ f. TakesToken bytes.now f.0 f.1.now) }
+    ensures refused { IfErr result (λ e. Refuses e (Stands Kind.Declaration bytes.now)) }
+{
+    match behind_declaration(bytes) {
+        Some(rest) => Ok((Token::Declaration, rest)),
+        None => Err(LexError::Malformed),
+    }
+}
+
+fn comment(bytes: &[u8]) -> Result<(Token, &[u8]), LexError>
+    ensures found { IfOk result (λ f. TakesToken bytes.now f.0 f.1.now) }
+    ensures refused { IfErr result (λ e. Refuses e (Stands Kind.Comment bytes.now)) }
+{
+    let Some(inner) = behind_word(b"<!--", bytes) else {
+        return Err(LexError::Malformed);
+    };
+    let Some((content, end)) = split_word(b"--", inner) else {
+        return Err(LexError::Malformed);
+    };
+    let Some(rest) = behind_word(b">", end) else {
+        return Err(LexError::Malformed);
+    };
+    match characters(content) {
+        Some(_) => Ok((Token::Comment, rest)),
+        None => Err(LexError::Malformed),
+    }
+}
+
+fn section(alloc: Global, bytes: &[u8]) -> Result<(Token, &[u8]), LexError>
+    ensures found { IfOk result (λ f. TakesToken bytes.now f.0 f.1.now) }
+    ensures refused { IfErr result (λ e. Refuses e (Stands Kind.Section bytes.now)) }
+{
+    let Some(inner) = behind_word(b"<![CDATA[", bytes) else {
+        return Err(LexError::Malformed);
+    };
+    let Some((content, rest)) = split_word(b"]]>", inner) else {
+        return Err(LexError::Malformed);
+    };
+    let Some(written) = characters(content) else {
+        return Err(LexError::Malformed);
+    };
+    Ok((Token::Section(plain_meaning(alloc, written)?), rest))
+}
+
+fn end_tag(alloc: Global, bytes: &[u8]) -> Result<(Token, &[u8]), LexError>
+    ensures found { IfOk result (λ f. TakesToken bytes.now f.0 f.1.now) }
+    ensures refused { IfErr result (λ e. Refuses e (Stands Kind.End bytes.now)) }
+{
+    let Some(inner) = behind_word(b"</", bytes) else {
+        return Err(LexError::Malformed);
+    };
+    let (name, behind) = name_of(alloc, inner)?;
+    let (_space, end) = split_space(behind);
+    match behind_word(b">", end) {
+        Some(rest) => Ok((Token::End(name), rest)),
+        None => Err(LexError::Malformed),
+    }
+}
+
+fn tag(alloc: Global, bytes: &[u8]) -> Result<(Token, &[u8]), LexError>
+    ensures found { IfOk result (λ f. TakesToken bytes.now f.0 f.1.now) }
+    ensures refused { IfErr result (λ e. Refuses e (Stands Kind.Tag bytes.now)) }
+{
+    let (tag, end) = tag_of(alloc, bytes)?;
+    if let Some(rest) = behind_word(b">", end) {
+        return Ok((Token::Start(tag), rest));
+    }
+    match behind_word(b"/>", end) {
+        Some(rest) => Ok((Token::Empty(tag), rest)),
+        None => Err(LexError::Malformed),
+    }
+}
+
+fn text(alloc: Global, bytes: &[u8]) -> Result<(Token, &[u8]), LexError>
+    ensures found { IfOk result (λ f. TakesToken bytes.now f.0 f.1.now) }
+    ensures refused { IfErr result (λ e. Refuses e (Stands Kind.Text bytes.now)) }
+{
+    let (own, rest) = split_byte(b'<', bytes);
+    if own.is_empty() {
+        return Err(LexError::Malformed);
+    }
+    if has_word(b"]]>", own) {
+        return Err(LexError::Malformed);
+    }
+    let Some(written) = characters(own) else {
+        return Err(LexError::Malformed);
+    };
+    let meant = meaning(alloc, Place::Content, written)?;
+    Ok((Token::Text(is_blank(own), meant), rest))
+}
+
+fn is_blank(bytes: &[u8]) -> bool
+    ensures { result ≡ list_all is_space bytes.now }
+{
+    bytes.iter().all(|byte| is_white(*byte))
+}

@@ -1,0 +1,122 @@
+//! Written text and written values as what they mean.
+ghost use Rattle.std.specs.Prelude.{◌≡◌, ◌<◌, ◌++◌, [], ◌∷◌, ◌≤◌, ℕ, List, IfErr, IfOk, OnOk, length, map, string_bytes};
+ghost use Rattle.ifmap_elem.specs.Chars.{AllAre, IsCharacters};
+ghost use Rattle.ifmap_elem.specs.Values.{Expands, IsValue, Plain, as_space, line_ends};
+ghost use Rattle.ifmap_lexer.specs.Cutting.{is_but};
+ghost use Rattle.ifmap_lexer.specs.Refusing.{Refuses};
+ghost use Rattle.ifmap_lexer.specs.Runs.{break_in, line_in, part_in};
+
+use crate::errors::LexError;
+use crate::references::character_named;
+use crate::splitting::split_char;
+use ifmap_elem::Text;
+use std::alloc::{AllocError, Global};
+
+/// Where characters are written.
+#[derive(Clone, Copy)]
+pub(crate) enum Place {
+    /// Between tags.
+    Content,
+    /// In the value of an attribute.
+    Value,
+}
+
+/// What the written characters mean.
+pub(crate) fn meaning(alloc: Global, place: Place, written: &str) -> Result<Text, LexError>
+    ensures found { IfOk result (λ text. Expands (part_in place) written.now text) }
+    ensures refused { IfErr result (λ e. Refuses e ((text : List ℕ) × Expands (part_in place) written.now text)) }
+{
+    let mut text = String::with_capacity(alloc, written.len())?;
+    let mut rest = written;
+    while let Some((run, behind)) = split_char('&', rest) {
+        push_run(place, run, &mut text)?;
+        let Some((name, after)) = split_char(';', behind) else {
+            return Err(LexError::Malformed);
+        };
+        let Some(character) = character_named(name.as_bytes()) else {
+            return Err(LexError::Malformed);
+        };
+        text.push(character)?;
+        rest = after;
+    }
+    push_run(place, rest, &mut text)?;
+    Ok(Text(text))
+}
+
+/// What characters mean between which no references stand.
+pub(crate) fn plain_meaning(alloc: Global, written: &str) -> Result<Text, AllocError>
+    ensures { IfOk result (λ text. text ≡ line_ends written.now) }
+{
+    let mut text = String::with_capacity(alloc, written.len())?;
+    push_run(Place::Content, written, &mut text)?;
+    Ok(Text(text))
+}
+
+/// Appends what a run without references means.
+fn push_run(place: Place, run: &str, text: &mut String) -> Result<(), AllocError>
+    ensures { OnOk result (string_bytes text.new ≡ string_bytes text.old ++ part_in place (Plain run.now)) }
+{
+    let mut rest = run;
+    while let Some((line, behind)) = split_char('\r', rest) {
+        push_line(place, line, text)?;
+        push_break(place, text)?;
+        rest = behind_newline(behind);
+    }
+    push_line(place, rest, text)
+}
+
+/// What is behind a carriage return and the line feed that belongs to it.
+fn behind_newline(text: &str) -> &str
+    ensures line { line_ends (0xD ∷ text.now) ≡ 0xA ∷ line_ends result.now }
+    ensures shorter { length result.now ≤ length text.now }
+{
+    match text.strip_prefix('\n') {
+        Some(rest) => rest,
+        None => text,
+    }
+}
+
+fn push_break(place: Place, text: &mut String) -> Result<(), AllocError>
+    ensures { OnOk result (string_bytes text.new ≡ string_bytes text.old ++ (break_in place ∷ [])) }
+{
+    match place {
+        Place::Content => text.push('\n'),
+        Place::Value => text.push(' '),
+    }
+}
+
+fn push_line(place: Place, line: &str, text: &mut String) -> Result<(), AllocError>
+    ensures { OnOk result (string_bytes text.new ≡ string_bytes text.old ++ line_in place line.now) }
+{
+    match place {
+        Place::Content => text.push_str(line),
+        Place::Value => push_spaced(line, text),
+    }
+}
+
+/// Appends a line with its white space as spaces.
+fn push_spaced(line: &str, text: &mut String) -> Result<(), AllocError>
+    ensures { OnOk result (string_bytes text.new ≡ string_bytes text.old ++ map as_space line.now) }
+{
+    let mut rest = line;
+    while let Some((front, behind)) = split_char('\n', rest) {
+        push_untabbed(front, text)?;
+        text.push(' ')?;
+        rest = behind;
+    }
+    push_untabbed(rest, text)
+}
+
+/// Appends characters without line feeds, with their tabs as spaces.
+fn push_untabbed(line: &str, text: &mut String) -> Result<(), AllocError>
+    requires { AllAre (is_but 0xA) line.now }
+    ensures { OnOk result (string_bytes text.new ≡ string_bytes text.old ++ map as_space line.now) }
+{
+    let mut rest = line;
+    while let Some((front, behind)) = split_char('\t', rest) {
+        text.push_str(front)?;
+        text.push(' ')?;
+        rest = behind;
+    }
+    text.push_str(rest)
+}
