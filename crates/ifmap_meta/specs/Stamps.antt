@@ -20,10 +20,14 @@ without_stamps attributes = filter (λ a. not (is_stamp a)) attributes
 abbrev pub content_of : Element → Element
 content_of e = record { name = e.name; attributes = without_stamps e.attributes; children = e.children }
 
--- these attributes and the two stamps, in order
+-- what the server sets: the publisher, and the moment of publishing
+abbrev pub stamps : List ℕ → ℕ → List Attribute
+stamps publisher moment =
+    plain_attribute (codes "ifmap-publisher-id") publisher ∷ plain_attribute (codes "ifmap-timestamp") (moment_text moment) ∷ []
+
+-- these attributes and the stamps, in order
 abbrev pub with_stamps : List ℕ → ℕ → List Attribute → List Attribute
-with_stamps publisher moment attributes =
-    sorted (attributes ++ plain_attribute (codes "ifmap-publisher-id") publisher ∷ plain_attribute (codes "ifmap-timestamp") (moment_text moment) ∷ [])
+with_stamps publisher moment attributes = sorted (attributes ++ stamps publisher moment)
 
 -- an element as this publisher's at that moment, whatever it says of that itself
 abbrev pub stamped : List ℕ → ℕ → Element → Element

@@ -1,9 +1,15 @@
 //! Laws on stamps and keys: functions that do nothing, whose contracts are the laws.
 ghost use Rattle.std.specs.Prelude.{◌≡◌, ℕ, List};
+ghost use Rattle.std.specs.List.{filter};
 ghost use Rattle.ifmap_elem.specs.declared.elements.Element.{Element};
 ghost use Rattle.ifmap_meta.specs.Cardinality.{is_single};
-ghost use Rattle.ifmap_meta.specs.Keys.{content_bytes, same_type};
-ghost use Rattle.ifmap_meta.specs.Stamps.{content_of, stamped};
+ghost use Rattle.ifmap_meta.specs.Keys.{content_bytes};
+ghost use Rattle.ifmap_meta.specs.Stamps.{is_stamp, stamped, stamps};
+
+/// A stamped element has exactly the stamps that it was given.
+pub fn stamped_elements_have_their_stamps_alone()
+    ensures { (publisher : List ℕ) (moment : ℕ) (element : Element) → filter is_stamp (stamped publisher moment element).attributes ≡ stamps publisher moment }
+{}
 
 /// Stamping keeps what keys compare: the content, the name and the cardinality.
 pub fn stamping_keeps_what_keys_compare()
