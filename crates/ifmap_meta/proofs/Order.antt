@@ -1,5 +1,5 @@
 -- Attributes in order.
-use Rattle.std.proofs.Common.{◌≡◌, ℕ, ◌+◌, ◌≤◌, ◌<◌, suc, List, length, Bool, true, false, cond, ◌&&◌, [], ◌∷◌, refl, ap, sym, ◌∙◌, subst, arith, inl, inr, get_or, add-one}
+use Rattle.std.proofs.Common.{◌≡◌, ℕ, ◌+◌, suc, List, Bool, false, cond, ◌&&◌, [], ◌∷◌, refl, ap, sym, ◌∙◌, subst, arith, inl, inr, get_or, add-one}
 use Rattle.std.proofs.lemmas.Bool.{cases_Bool}
 use Rattle.std.proofs.lemmas.List.Sums.{length-filter, sum_by-cons}
 use Rattle.std.proofs.lemmas.List.Sorted.{IsPermutation-refl, ranks_by, sum_by-IsPermutation}

@@ -25,7 +25,7 @@ pub(crate) fn plain_attribute(
 pub(crate) fn is_plainly(attribute: &Attribute, local: &str) -> bool
     ensures { result ≡ is_plainly local.now attribute.now }
 {
-    attribute.name.space.0.as_str() == "" && attribute.name.local.0.as_str() == local
+    attribute.name.space.0.is_empty() && attribute.name.local.0.as_str() == local
 }
 
 // Puts attributes in order, by name and then by value.

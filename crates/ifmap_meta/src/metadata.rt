@@ -1,6 +1,4 @@
 //! Elements that are to be published.
-ghost use Rattle.std.specs.Prelude.{◌≡◌, IfOk};
-
 use ifmap_elem::{Copied, Element};
 use std::alloc::{AllocError as NoMemory, Global};
 

@@ -1,7 +1,6 @@
 //! Elements as they are stored.
-ghost use Rattle.std.specs.Prelude.{◌≡◌, ◌∷◌, codes, IfOk};
+ghost use Rattle.std.specs.Prelude.{◌≡◌, IfOk};
 ghost use Rattle.ifmap_io.specs.Calendar.{moment_text};
-ghost use Rattle.ifmap_meta.specs.Attributes.{plain_attribute};
 ghost use Rattle.ifmap_meta.specs.Cardinality.{is_single, is_single_value};
 ghost use Rattle.ifmap_meta.specs.Keys.{content_bytes, same_type};
 ghost use Rattle.ifmap_meta.specs.Stamps.{content_of, is_stamp, with_stamps, without_stamps};
