@@ -22,7 +22,7 @@ starts_at_zero dt d t =
     let n : dt.date.day ≡ 1 = omega (arith, signed_arith, d.2) in
     rw (d.0, m, n) (omega (arith, signed_arith, days_from_civil-day_count (pos 1970) 1 1, day_count-epoch, t.0, t.1, t.2, t.3))
 
-sum_of_year : (n : ℕ) → sum (months n) ≡ 365 + leap_day (pos n)
+pub sum_of_year : (n : ℕ) → sum (months n) ≡ 365 + leap_day (pos n)
 sum_of_year n = grind arith
 
 -- the table of the days before each month
@@ -123,10 +123,10 @@ same_time d h m s d₂ h₂ m₂ s₂ a b c a₂ b₂ c₂ e =
 days_before_civil : (c : Civil) → IsCivil c → day_count (pos c.year) c.month c.day ≡ day_number c + 4371953
 days_before_civil c h = days_before c.year c.month c.day h.year.0 h.month.0 h.month.1 h.day.0
 
-abbrev made : ℕ → ℕ → ℕ → ℕ → ℕ → ℕ → Civil
+abbrev pub made : ℕ → ℕ → ℕ → ℕ → ℕ → ℕ → Civil
 made y m d h n s = record { year = y; month = m; day = d; hour = h; minute = n; second = s }
 
-same_parts : (y m d h n s y₂ m₂ d₂ h₂ n₂ s₂ : ℕ) → y ≡ y₂ → m ≡ m₂ → d ≡ d₂ → h ≡ h₂ → n ≡ n₂ → s ≡ s₂ → made y m d h n s ≡ made y₂ m₂ d₂ h₂ n₂ s₂
+pub same_parts : (y m d h n s y₂ m₂ d₂ h₂ n₂ s₂ : ℕ) → y ≡ y₂ → m ≡ m₂ → d ≡ d₂ → h ≡ h₂ → n ≡ n₂ → s ≡ s₂ → made y m d h n s ≡ made y₂ m₂ d₂ h₂ n₂ s₂
 same_parts y m d h n s y₂ m₂ d₂ h₂ n₂ s₂ a b c e f g = rw (a, b, c, e, f, g)
 
 -- a second has one date and time

@@ -1,1 +1,2 @@
 pub mod CivilFacts
+pub mod CivilOf

@@ -1,6 +1,6 @@
 -- The Gregorian calendar and the clock in UTC, for the years 1970 to 9999: the date and the time of day
 -- of a second counted from 1970-01-01T00:00:00Z (RFC 3339; ISO 8601; no leap seconds), and its text.
-use Rattle.std.specs.Prelude.{ℕ, zero, suc, ◌+◌, ◌-◌, ◌*◌, ◌/◌, ◌%◌, ◌<◌, ◌≤◌, Bool, not, ◌&&◌, ◌||◌, ◌==◌, if◌then◌else◌, List, [], ◌∷◌, ◌++◌, sum, take, slice_index, codes}
+use Rattle.std.specs.Prelude.{ℕ, zero, suc, ◌+◌, ◌-◌, ◌*◌, ◌/◌, ◌%◌, ◌<◌, ◌≤◌, nat_le, Bool, not, ◌&&◌, ◌||◌, ◌==◌, if◌then◌else◌, List, [], ◌∷◌, ◌++◌, sum, take, slice_index, codes}
 
 -- each fourth year is a leap year, but of those that end a century only each fourth
 abbrev pub is_leap : ℕ → Bool
@@ -59,3 +59,35 @@ abbrev pub civil_text : Civil → List ℕ
 civil_text c =
     four_digits c.year ++ codes "-" ++ two_digits c.month ++ codes "-" ++ two_digits c.day ++ codes "T"
     ++ two_digits c.hour ++ codes ":" ++ two_digits c.minute ++ codes ":" ++ two_digits c.second ++ codes "Z"
+
+-- the greatest number up to n at which f is d at most, or 0
+unfoldable pub last_within : (ℕ → ℕ) → ℕ → ℕ → ℕ
+last_within f d zero = zero
+last_within f d (suc n) = if nat_le (f (suc n)) d then suc n else last_within f d n
+
+-- the whole years from 1970 to a day, which is counted from 1970-01-01
+abbrev pub years_to : ℕ → ℕ
+years_to day = last_within days_of_years day day
+
+-- the days of a year before a month of it, which is counted from 0
+abbrev pub days_before_month : ℕ → ℕ → ℕ
+days_before_month year month = sum (take month (months year))
+
+-- the whole months of a year to a day of it, which is counted from 0
+abbrev pub months_to : ℕ → ℕ → ℕ
+months_to year day = last_within (days_before_month year) day 11
+
+-- the date of a day of a year, which is counted from 0, and the time of a second of a day
+abbrev pub civil_in_year : ℕ → ℕ → ℕ → Civil
+civil_in_year year day second =
+    record { year = year; month = months_to year day + 1; day = day - days_before_month year (months_to year day) + 1; hour = second / 3600; minute = second % 3600 / 60; second = second % 60 }
+
+-- the date and the time of a second, which is counted from 1970-01-01T00:00:00Z
+unfoldable pub civil_of : ℕ → Civil
+civil_of seconds =
+    let day = seconds / 86400 in
+    civil_in_year (1970 + years_to day) (day - days_of_years (years_to day)) (seconds % 86400)
+
+-- the text of a second
+unfoldable pub moment_text : ℕ → List ℕ
+moment_text seconds = civil_text (civil_of seconds)

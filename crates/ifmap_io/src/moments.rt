@@ -1,7 +1,7 @@
 //! Moments, in seconds from 1970-01-01T00:00:00Z, without leap seconds.
 ghost use Rattle.std.specs.Prelude.{◌≡◌, ◌≤◌, min};
 ghost use Rattle.std.specs.Option.{SomeIff};
-ghost use Rattle.ifmap_io.specs.Calendar.{Civil, IsCivil, civil_text, second_number};
+ghost use Rattle.ifmap_io.specs.Calendar.{Civil, IsCivil, civil_text, moment_text, second_number};
 
 use crate::calendar::{civil_at, text_of};
 use std::marker::Model;
@@ -55,6 +55,7 @@ impl Moment {
 
     /// Its date and time of day in UTC, as `YYYY-MM-DDThh:mm:ssZ` (RFC 3339).
     pub fn text(&self) -> [u8; 20]
+        ensures value { result ≡ moment_text self.now }
         ensures shown { (c : Civil) × IsCivil c × (second_number c ≡ self.now) × (result ≡ civil_text c) }
         ensures only { (c : Civil) → IsCivil c → second_number c ≡ self.now → result ≡ civil_text c }
     {

@@ -1,7 +1,14 @@
 use Rattle.std.proofs.Common.{sym, ap, ◌∙◌}
-use Rattle.ifmap_io.specs.Calendar.{civil_text}
+use Rattle.ifmap_io.specs.Calendar.{civil_text, moment_text}
 use Rattle.ifmap_io.proofs.CivilFacts.{shown, shows, same_civil}
+use Rattle.ifmap_io.proofs.CivilOf.{civil_of_is}
 use Rattle.ifmap_io.proofs.moments.Moment.text.Goals as goal
+
+pub returns-clause-value : goal.returns-clause-value
+unfolding moment_text
+returns-clause-value c =
+    let p = shows c.civil_at.result c.self.inside.0 c.civil_at.ensures in
+    c.text_of.ensures ∙ ap civil_text (sym (civil_of_is (shown c.civil_at.result) p.0)) ∙ ap moment_text (p.1 ∙ c.self.view_is)
 
 pub returns-clause-shown : goal.returns-clause-shown
 returns-clause-shown c =

@@ -1,0 +1,93 @@
+-- Stamping keeps what keys compare.
+use Rattle.std.proofs.Common.{◌≡◌, ℕ, List, [], ◌∷◌, ◌++◌, Bool, true, false, not, ◌&&◌, ◌||◌, map, codes, refl, ap, sym, ◌∙◌, inl, inr}
+use Rattle.std.proofs.Math.Bool.{or-false}
+use Rattle.std.proofs.lemmas.Bool.{cases_Bool, and_parts}
+use Rattle.std.proofs.lemmas.List.{append-nil}
+use Rattle.std.proofs.lemmas.List.Elements.{filter-append}
+use Rattle.std.proofs.lemmas.List.Folds.{list_any-append}
+use Rattle.std.proofs.lemmas.List.Sorted.{list_any-IsPermutation}
+use Rattle.std.proofs.lemmas.Map.Views.{any-filter_same}
+use Rattle.std.proofs.lemmas.Slice.Eq.{bytes_eq-Decides}
+use Rattle.std.specs.List.{filter, list_any}
+use Rattle.std.specs.Str.{bytes_eq}
+use Rattle.ifmap_elem.specs.Arranged.{arranged, arranged_child, sorted}
+use Rattle.ifmap_elem.specs.Canonical.{root_bytes}
+use Rattle.ifmap_elem.specs.Namespaces.{prefix_rows}
+use Rattle.ifmap_elem.specs.declared.elements.Attribute.{Attribute}
+use Rattle.ifmap_elem.specs.declared.elements.Element.{Element}
+use Rattle.ifmap_elem.proofs.ArrangedLaws.{arranged_is}
+use Rattle.ifmap_elem.proofs.Attributes.{one_order, sorted_permutation}
+use Rattle.ifmap_meta.specs.Cardinality.{is_single, is_single_value}
+use Rattle.ifmap_meta.specs.Keys.{content_bytes}
+use Rattle.ifmap_meta.specs.Stamps.{content_of, is_stamp, stamped, stamps, with_stamps, without_stamps}
+use Rattle.ifmap_meta.proofs.Order.{filter_sorted}
+
+abbrev is_content : Attribute → Bool
+is_content a = not (is_stamp a)
+
+sorted_again : (xs : List Attribute) → sorted (sorted xs) ≡ sorted xs
+sorted_again xs = sym (one_order xs (sorted xs) (sorted_permutation xs))
+
+-- what passes a test passes it again
+filter_again : {X : Type 0} (p : X → Bool) (xs : List X) → filter p (filter p xs) ≡ filter p xs
+filter_again p [] = refl
+filter_again p (x ∷ xs) = elim (cases_Bool (p x)) [
+  | inl e ↦ rw (e, e) (ap (λ ys. x ∷ ys) (filter_again p xs))
+  | inr e ↦ rw e (filter_again p xs)
+]
+
+stamps_go : (publisher : List ℕ) (moment : ℕ) (xs : List Attribute) → without_stamps (without_stamps xs ++ stamps publisher moment) ≡ without_stamps xs
+stamps_go publisher moment xs =
+    filter-append is_content (without_stamps xs) (stamps publisher moment)
+    ∙ append-nil (without_stamps (without_stamps xs))
+    ∙ filter_again is_content xs
+
+same_content : (publisher : List ℕ) (moment : ℕ) (xs : List Attribute) → sorted (without_stamps (with_stamps publisher moment (without_stamps xs))) ≡ sorted (without_stamps xs)
+same_content publisher moment xs =
+    let all = without_stamps xs ++ stamps publisher moment in
+    ap sorted (filter_sorted is_content all ∙ ap sorted (stamps_go publisher moment xs)) ∙ sorted_again (without_stamps xs)
+
+arranged_content : (publisher : List ℕ) (moment : ℕ) (e : Element) → arranged (content_of (stamped publisher moment e)) ≡ arranged (content_of e)
+arranged_content publisher moment e =
+    arranged_is (content_of (stamped publisher moment e))
+    ∙ ap (λ attributes. record { name = e.name; attributes = attributes; children = map arranged_child e.children }) (same_content publisher moment e.attributes)
+    ∙ sym (arranged_is (content_of e))
+
+pub content_stays : (publisher : List ℕ) (moment : ℕ) (e : Element) → content_bytes (stamped publisher moment e) ≡ content_bytes e
+unfolding content_bytes
+content_stays publisher moment e = ap (root_bytes (prefix_rows (codes "f") 1 [])) (arranged_content publisher moment e)
+
+never_both : (s : Bool) → not ((s && false) || (s && false)) ≡ true
+never_both true = refl
+never_both false = refl
+
+-- what tells the cardinality is no stamp
+is_content_too : (a : Attribute) → is_single_value a ≡ true → is_content a ≡ true
+is_content_too a e =
+    let l = (bytes_eq-Decides a.name.local (codes "ifmap-cardinality")).0 (and_parts _ _ (and_parts _ _ e).0).1 in
+    let first : bytes_eq a.name.local (codes "ifmap-publisher-id") ≡ false = rw l refl in
+    let second : bytes_eq a.name.local (codes "ifmap-timestamp") ≡ false = rw l refl in
+    rw (first, second) (never_both (bytes_eq a.name.space []))
+
+pub cardinality_stays : (publisher : List ℕ) (moment : ℕ) (e : Element) → is_single (stamped publisher moment e) ≡ is_single e
+cardinality_stays publisher moment e =
+    let content = without_stamps e.attributes in
+    let all = content ++ stamps publisher moment in
+    sym (list_any-IsPermutation is_single_value all (sorted all) (sorted_permutation all))
+    ∙ list_any-append is_single_value content (stamps publisher moment)
+    ∙ or-false (list_any is_single_value content)
+    ∙ any-filter_same is_single_value is_content true is_content_too e.attributes
+
+-- content has no stamps
+no_stamps : (xs : List Attribute) → filter is_stamp (without_stamps xs) ≡ []
+no_stamps [] = refl
+no_stamps (x ∷ xs) = elim (cases_Bool (is_stamp x)) [
+  | inl e ↦ rw e (no_stamps xs)
+  | inr e ↦ rw (e, e) (no_stamps xs)
+]
+
+pub stamps_stay : (publisher : List ℕ) (moment : ℕ) (e : Element) → filter is_stamp (stamped publisher moment e).attributes ≡ stamps publisher moment
+stamps_stay publisher moment e =
+    let content = without_stamps e.attributes in
+    filter_sorted is_stamp (content ++ stamps publisher moment)
+    ∙ ap sorted (filter-append is_stamp content (stamps publisher moment) ∙ ap (λ xs. xs ++ stamps publisher moment) (no_stamps e.attributes))

@@ -1,0 +1,21 @@
+-- Which stored elements take each other's place on an item (IF-MAP binding for SOAP 2.2, metadata cardinality).
+use Rattle.std.specs.Prelude.{ℕ, List, Bool, ◌&&◌, ◌||◌}
+use Rattle.std.specs.Str.{bytes_eq}
+use Rattle.std.proofs.Math.Bool.{beq}
+use Rattle.ifmap_elem.specs.declared.elements.Element.{Element}
+use Rattle.ifmap_elem.specs.Canonical.{canonical_bytes}
+use Rattle.ifmap_meta.specs.declared.stored.Stored.{Stored}
+use Rattle.ifmap_meta.specs.Cardinality.{is_single}
+use Rattle.ifmap_meta.specs.Stamps.{content_of}
+
+-- the canonical bytes of an element's content
+unfoldable pub content_bytes : Element → List ℕ
+content_bytes e = canonical_bytes (content_of e)
+
+-- of one type: one name and one cardinality
+abbrev pub same_type : Element → Element → Bool
+same_type a b = (bytes_eq a.name.space b.name.space && bytes_eq a.name.local b.name.local) && beq (is_single a) (is_single b)
+
+-- under one key, on one item: of one type, and where there may be many, of one publisher and content
+abbrev pub same_key : Stored → Stored → Bool
+same_key a b = same_type a.element b.element && (is_single a.element || (bytes_eq a.publisher b.publisher && bytes_eq (content_bytes a.element) (content_bytes b.element)))

@@ -1,0 +1,6 @@
+pub mod Attributes
+pub mod Cardinality
+pub mod ClientNames
+pub mod Keys
+pub mod Stamps
+pub mod Stored

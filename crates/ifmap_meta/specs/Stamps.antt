@@ -1,0 +1,34 @@
+-- What the server says of a published element: who published it, and when (IF-MAP binding for SOAP 2.2,
+-- the operational attributes of metadata).
+use Rattle.std.specs.Prelude.{ℕ, List, [], ◌∷◌, ◌++◌, Bool, not, ◌||◌, codes}
+use Rattle.std.specs.List.{filter}
+use Rattle.ifmap_elem.specs.Arranged.{sorted}
+use Rattle.ifmap_elem.specs.declared.elements.Attribute.{Attribute}
+use Rattle.ifmap_elem.specs.declared.elements.Element.{Element}
+use Rattle.ifmap_io.specs.Calendar.{moment_text}
+use Rattle.ifmap_meta.specs.Attributes.{is_plainly, plain_attribute}
+
+-- the attribute is for the server to set
+abbrev pub is_stamp : Attribute → Bool
+is_stamp a = is_plainly (codes "ifmap-publisher-id") a || is_plainly (codes "ifmap-timestamp") a
+
+-- the attributes that are not
+abbrev pub without_stamps : List Attribute → List Attribute
+without_stamps attributes = filter (λ a. not (is_stamp a)) attributes
+
+-- an element without what the server sets: its content
+abbrev pub content_of : Element → Element
+content_of e = record { name = e.name; attributes = without_stamps e.attributes; children = e.children }
+
+-- what the server sets: the publisher, and the moment of publishing
+abbrev pub stamps : List ℕ → ℕ → List Attribute
+stamps publisher moment =
+    plain_attribute (codes "ifmap-publisher-id") publisher ∷ plain_attribute (codes "ifmap-timestamp") (moment_text moment) ∷ []
+
+-- these attributes and the stamps, in order
+abbrev pub with_stamps : List ℕ → ℕ → List Attribute → List Attribute
+with_stamps publisher moment attributes = sorted (attributes ++ stamps publisher moment)
+
+-- an element as this publisher's at that moment, whatever it says of that itself
+abbrev pub stamped : List ℕ → ℕ → Element → Element
+stamped publisher moment e = record { name = e.name; attributes = with_stamps publisher moment (without_stamps e.attributes); children = e.children }

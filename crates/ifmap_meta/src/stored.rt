@@ -1,0 +1,155 @@
+//! Elements as they are stored.
+ghost use Rattle.std.specs.Prelude.{◌≡◌, IfOk};
+ghost use Rattle.ifmap_io.specs.Calendar.{moment_text};
+ghost use Rattle.ifmap_meta.specs.Cardinality.{is_single, is_single_value};
+ghost use Rattle.ifmap_meta.specs.Keys.{content_bytes, same_type};
+ghost use Rattle.ifmap_meta.specs.Stamps.{content_of, is_stamp, with_stamps, without_stamps};
+ghost use Rattle.ifmap_meta.specs.Stored.{stored_as};
+
+use crate::attributes::{is_plainly, plain_attribute, put_in_order};
+use crate::clients::ClientName;
+use crate::metadata::Metadata;
+use ifmap_elem::{Attribute, Copied, Element, Equals, Many, Text, canonical};
+use ifmap_io::Moment;
+use std::alloc::{AllocError as NoMemory, Global};
+
+/// How long an element is stored.
+#[derive(Clone, Copy, Debug, PartialEq, Eq)]
+pub enum Life {
+    /// Until the session with this serial ends.
+    Session(u64),
+    /// Until it is deleted.
+    Forever,
+}
+
+impl Copied for Life {
+    fn copy(&self, _alloc: Global) -> Result<Self, NoMemory> {
+        Ok(*self)
+    }
+}
+
+/// An element as it is stored, with its stamps.
+#[derive(Debug, Drop)]
+pub struct Stored {
+    pub element: Element,
+    pub publisher: ClientName,
+    pub life: Life,
+}
+
+impl Copied for Stored {
+    fn copy(&self, alloc: Global) -> Result<Self, NoMemory> {
+        Ok(Stored {
+            element: self.element.copy(alloc)?,
+            publisher: self.publisher.copy(alloc)?,
+            life: self.life,
+        })
+    }
+}
+
+impl Metadata {
+    /// What is stored of the element where this client publishes it at that moment: its content with
+    /// the client and the moment as its stamps, whatever it says of these itself. The one error is
+    /// want of memory.
+    pub fn stamp(
+        &self,
+        alloc: Global,
+        publisher: &ClientName,
+        moment: Moment,
+        life: Life,
+    ) -> Result<Stored, NoMemory>
+        ensures { IfOk result (λ s. s ≡ stored_as self.now.element publisher.now moment life) }
+    {
+        let content = content(alloc, &self.element)?;
+        Ok(Stored {
+            element: Element {
+                name: content.name,
+                attributes: with_stamps(alloc, publisher, moment, content.attributes)?,
+                children: content.children,
+            },
+            publisher: publisher.copy(alloc)?,
+            life,
+        })
+    }
+}
+
+/// The element without its stamps. The one error is want of memory.
+pub fn content(alloc: Global, element: &Element) -> Result<Element, NoMemory>
+    ensures { IfOk result (λ e. e ≡ content_of element.now) }
+{
+    Ok(Element {
+        name: element.name.copy(alloc)?,
+        attributes: without_stamps(alloc, &element.attributes)?,
+        children: element.children.copy(alloc)?,
+    })
+}
+
+/// The canonical bytes of the element's content. The one error is want of memory.
+#[tactic(auto, unfolding(crate::specs::Keys::content_bytes))]
+pub fn content_bytes(alloc: Global, element: &Element) -> Result<Many<u8>, NoMemory>
+    ensures { IfOk result (λ bytes. bytes ≡ content_bytes element.now) }
+{
+    canonical(alloc, &content(alloc, element)?)
+}
+
+/// Whether an item carries one element of this type at most. It takes no memory.
+pub fn is_single(element: &Element) -> bool
+    ensures { result ≡ is_single element.now }
+{
+    element.attributes.0.iter().any(is_single_value)
+}
+
+/// Whether both have one name and one cardinality. It takes no memory.
+pub fn same_type(a: &Element, b: &Element) -> bool
+    ensures { result ≡ same_type a.now b.now }
+{
+    a.name == b.name && is_single(a) == is_single(b)
+}
+
+fn is_single_value(attribute: &Attribute) -> bool
+    ensures { result ≡ is_single_value attribute.now }
+{
+    is_plainly(attribute, "ifmap-cardinality") && attribute.value.0.as_str() == "singleValue"
+}
+
+fn is_stamp(attribute: &Attribute) -> bool
+    ensures { result ≡ is_stamp attribute.now }
+{
+    is_plainly(attribute, "ifmap-publisher-id") || is_plainly(attribute, "ifmap-timestamp")
+}
+
+fn without_stamps(alloc: Global, attributes: &Many<Attribute>) -> Result<Many<Attribute>, NoMemory>
+    ensures { IfOk result (λ made. made ≡ without_stamps attributes.now) }
+{
+    let mut made = Vec::with_capacity(alloc, attributes.0.len())?;
+    for attribute in &attributes.0 {
+        if !is_stamp(attribute) {
+            made.push(attribute.copy(alloc)?)?;
+        }
+    }
+    Ok(Many(made))
+}
+
+fn with_stamps(
+    alloc: Global,
+    publisher: &ClientName,
+    moment: Moment,
+    attributes: Many<Attribute>,
+) -> Result<Many<Attribute>, NoMemory>
+    ensures { IfOk result (λ made. made ≡ with_stamps publisher.now moment attributes) }
+{
+    let publisher = publisher.text().copy(alloc)?;
+    let moment = moment_text(alloc, moment)?;
+    let mut made = attributes.0;
+    made.push(plain_attribute(alloc, "ifmap-publisher-id", publisher)?)?;
+    made.push(plain_attribute(alloc, "ifmap-timestamp", moment)?)?;
+    put_in_order(&mut made);
+    Ok(Many(made))
+}
+
+fn moment_text(alloc: Global, moment: Moment) -> Result<Text, NoMemory>
+    ensures { IfOk result (λ text. text ≡ moment_text moment) }
+{
+    let bytes = moment.text();
+    let text = std::str::from_utf8(&bytes).unwrap();
+    Ok(Text(String::from_str(alloc, text)?))
+}
