@@ -9,6 +9,7 @@ pub mod NamespaceLaws
 pub mod OneReading
 pub mod OneToken
 pub mod Orders
+pub mod PieceLaws
 pub mod PrintedElements
 pub mod PrintedLaws
 pub mod PrintedParts
