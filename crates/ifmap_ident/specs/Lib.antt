@@ -1,0 +1,4 @@
+pub mod Addresses
+pub mod Codes
+pub mod Identifiers
+pub mod Items

@@ -1,0 +1,113 @@
+//! Identifiers.
+ghost use Rattle.std.specs.Prelude.{◌≡◌, ◌==◌, ◌<◌, ◌^◌, IfOk, length};
+ghost use Rattle.std.specs.Cmp.{partial_order_from_own_ties};
+ghost use Rattle.std.specs.Cmp.Lexicographic.{pointwise, slice_cmp};
+ghost use Rattle.std.specs.Cmp.Rules.{comparing};
+ghost use Rattle.std.specs.Ordering.{nat_cmp, on, as_partial_cmp};
+ghost use Rattle.std.proofs.Common.{rules};
+ghost use Rattle.ifmap_ident.specs.Identifiers.{identifier_bytes, identifier_element};
+
+use ifmap_elem::{Copied, Element, Equals, Text};
+use std::alloc::{AllocError as NoMemory, Global};
+use std::cmp::Ordering;
+
+/// What metadata is said of. Its parts are in their canonical form.
+#[derive(Debug, Drop)]
+pub enum Identifier {
+    /// The address of a network interface. The empty domain is no domain.
+    MacAddress { value: [u8; 6], domain: Text },
+}
+
+impl Identifier {
+    /// The identifier as an element, whose canonical bytes are the identifier's. The one error is
+    /// want of memory.
+    pub fn element(&self, alloc: Global) -> Result<Element, NoMemory>
+        ensures { IfOk result (λ element. element ≡ identifier_element self.now) }
+    {
+        Err(NoMemory)
+    }
+
+    #[tactic(auto, unfolding(crate::specs::Identifiers::identifier_bytes))]
+    /// How many canonical bytes the identifier has.
+    pub fn size(&self) -> u64
+        requires held { length (identifier_bytes self.now) < 2 ^ 64 }
+        ensures { result ≡ length (identifier_bytes self.now) }
+    {
+        match self {
+            Identifier::MacAddress { domain, .. } => domain.0.len() as u64,
+        }
+    }
+}
+
+impl Copied for Identifier {
+    fn copy(&self, alloc: Global) -> Result<Self, NoMemory> {
+        match self {
+            Identifier::MacAddress { value, domain } => Ok(Identifier::MacAddress {
+                value: *value,
+                domain: domain.copy(alloc)?,
+            }),
+        }
+    }
+}
+
+impl Equals for Identifier {
+    fn equals(&self, other: &Identifier) -> bool {
+        match (self, other) {
+            (
+                Identifier::MacAddress { value, domain },
+                Identifier::MacAddress {
+                    value: other_value,
+                    domain: other_domain,
+                },
+            ) => value == other_value && domain.equals(other_domain),
+        }
+    }
+}
+
+impl PartialEq for Identifier {
+    ghost eq = { on identifier_bytes (pointwise ◌==◌) };
+
+    ghost laws = { Prim.search (comparing, rules) };
+
+    fn eq(&self, other: &Identifier) -> bool {
+        self.cmp(other).is_eq()
+    }
+}
+
+impl Eq for Identifier {
+    ghost laws = { Prim.search (comparing, rules) };
+}
+
+/// By the canonical bytes.
+impl Ord for Identifier {
+    ghost cmp = { on identifier_bytes (slice_cmp nat_cmp) };
+
+    ghost total = { Prim.search (comparing, rules) };
+
+    ghost matches_partial_cmp = { Prim.search (comparing, rules) };
+
+    ghost matches_eq = { Prim.search (comparing, rules) };
+
+    #[tactic(auto, unfolding(crate::specs::Identifiers::identifier_bytes))]
+    fn cmp(&self, other: &Identifier) -> Ordering {
+        match (self, other) {
+            (
+                Identifier::MacAddress { domain, .. },
+                Identifier::MacAddress {
+                    domain: other_domain,
+                    ..
+                },
+            ) => domain.cmp(other_domain),
+        }
+    }
+}
+
+impl PartialOrd for Identifier {
+    ghost partial_cmp = { as_partial_cmp (on identifier_bytes (slice_cmp nat_cmp)) };
+
+    ghost laws = { partial_order_from_own_ties (Prim.search (comparing, rules)) (Prim.search (comparing, rules)) };
+
+    fn partial_cmp(&self, other: &Identifier) -> Option<Ordering> {
+        Some(self.cmp(other))
+    }
+}

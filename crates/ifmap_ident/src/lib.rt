@@ -1,0 +1,12 @@
+//! What metadata stands on: identifiers, and items of one identifier or of two. They are compared and
+//! measured by the canonical bytes of their elements, which are not made for it. The error codes of
+//! the protocol stand here too, since every crate above tells them.
+#![tactic(auto)]
+
+pub mod codes;
+pub mod identifiers;
+pub mod items;
+
+pub use codes::Code;
+pub use identifiers::Identifier;
+pub use items::Item;
