@@ -9,7 +9,7 @@ use Rattle.ifmap_elem.specs.declared.elements.Name.{Name}
 use Rattle.ifmap_elem.specs.Canonical.{canonical_bytes}
 use Rattle.ifmap_ident.specs.declared.identifiers.Identifier.{Identifier}
 use Rattle.ifmap_ident.specs.declared.identifiers.Identifier.TheVariants.{MacAddress}
-use Rattle.ifmap_ident.specs.Addresses.{address_text}
+use Rattle.ifmap_ident.specs.MacAddresses.{address_text}
 
 -- a name in no namespace
 abbrev pub plain_name : List ℕ → Name

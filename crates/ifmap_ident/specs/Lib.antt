@@ -1,4 +1,6 @@
-pub mod Addresses
 pub mod Codes
 pub mod Identifiers
 pub mod Items
+pub mod Leading
+pub mod MacAddresses
+pub mod Written

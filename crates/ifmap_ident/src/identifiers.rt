@@ -7,6 +7,9 @@ ghost use Rattle.std.specs.Ordering.{nat_cmp, on, as_partial_cmp};
 ghost use Rattle.std.proofs.Common.{rules};
 ghost use Rattle.ifmap_ident.specs.Identifiers.{identifier_bytes, identifier_element};
 
+use crate::domains::domain_attributes;
+use crate::mac_addresses::{address_text, mac_address_len, mac_address_order};
+use crate::plain::{plain_attribute, plain_element};
 use ifmap_elem::{Copied, Element, Equals, Text};
 use std::alloc::{AllocError as NoMemory, Global};
 use std::cmp::Ordering;
@@ -24,17 +27,23 @@ impl Identifier {
     pub fn element(&self, alloc: Global) -> Result<Element, NoMemory>
         ensures { IfOk result (λ element. element ≡ identifier_element self.now) }
     {
-        Err(NoMemory)
+        match self {
+            Identifier::MacAddress { value, domain } => {
+                let mut attributes = domain_attributes(alloc, domain)?;
+                let text = address_text(alloc, value)?;
+                attributes.push(plain_attribute(alloc, "value", text)?)?;
+                plain_element(alloc, "mac-address", attributes)
+            }
+        }
     }
 
-    #[tactic(auto, unfolding(crate::specs::Identifiers::identifier_bytes))]
     /// How many canonical bytes the identifier has.
     pub fn size(&self) -> u64
         requires held { length (identifier_bytes self.now) < 2 ^ 64 }
         ensures { result ≡ length (identifier_bytes self.now) }
     {
         match self {
-            Identifier::MacAddress { domain, .. } => domain.0.len() as u64,
+            Identifier::MacAddress { value, domain } => mac_address_len(value, domain),
         }
     }
 }
@@ -88,16 +97,15 @@ impl Ord for Identifier {
 
     ghost matches_eq = { Prim.search (comparing, rules) };
 
-    #[tactic(auto, unfolding(crate::specs::Identifiers::identifier_bytes))]
     fn cmp(&self, other: &Identifier) -> Ordering {
         match (self, other) {
             (
-                Identifier::MacAddress { domain, .. },
+                Identifier::MacAddress { value, domain },
                 Identifier::MacAddress {
+                    value: other_value,
                     domain: other_domain,
-                    ..
                 },
-            ) => domain.cmp(other_domain),
+            ) => mac_address_order(value, domain, other_value, other_domain),
         }
     }
 }

@@ -4,8 +4,12 @@
 #![tactic(auto)]
 
 pub mod codes;
+mod domains;
 pub mod identifiers;
 pub mod items;
+mod mac_addresses;
+mod plain;
+mod values;
 
 pub use codes::Code;
 pub use identifiers::Identifier;

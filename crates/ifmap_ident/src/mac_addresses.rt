@@ -1,0 +1,65 @@
+//! MAC addresses: as text, and their canonical bytes compared and measured.
+ghost use Rattle.std.specs.Prelude.{◌≡◌, ◌++◌, ◌<◌, ◌^◌, IfOk, OnOk, length, string_bytes};
+ghost use Rattle.std.specs.Char.{digit_char};
+ghost use Rattle.ifmap_ident.specs.Identifiers.{identifier_bytes, identifier_order};
+ghost use Rattle.ifmap_ident.specs.MacAddresses.{address_text, hex_pair};
+ghost use Rattle.ifmap_ident.specs.declared.identifiers.Identifier.TheVariants.{MacAddress};
+
+use crate::domains::{domain_len, domain_order};
+use ifmap_elem::Text;
+use std::alloc::{AllocError as NoMemory, Global};
+use std::cmp::Ordering;
+
+/// How two MAC addresses compare by their canonical bytes.
+pub(crate) fn mac_address_order(
+    value: &[u8; 6],
+    domain: &Text,
+    other_value: &[u8; 6],
+    other_domain: &Text,
+) -> Ordering
+    ensures { result ≡ identifier_order (MacAddress value.now domain.now) (MacAddress other_value.now other_domain.now) }
+{
+    domain_order(domain, other_domain).then(value.cmp(other_value))
+}
+
+/// How many canonical bytes a MAC address without a domain has.
+const BARE_LEN: u64 = 40;
+
+/// How many canonical bytes a MAC address has.
+pub(crate) fn mac_address_len(value: &[u8; 6], domain: &Text) -> u64
+    requires held { length (identifier_bytes (MacAddress value.now domain.now)) < 2 ^ 64 }
+    ensures { result ≡ length (identifier_bytes (MacAddress value.now domain.now)) }
+{
+    BARE_LEN + domain_len(domain)
+}
+
+/// The bytes in hexadecimal digits, with a colon between each two.
+pub(crate) fn address_text(alloc: Global, bytes: &[u8]) -> Result<Text, NoMemory>
+    ensures { IfOk result (λ text. text ≡ address_text bytes.now) }
+{
+    let mut text = String::new(alloc);
+    let Some((first, rest)) = bytes.split_first() else {
+        return Ok(Text(text));
+    };
+    push_pair(*first, &mut text)?;
+    for byte in rest {
+        text.push(':')?;
+        push_pair(*byte, &mut text)?;
+    }
+    Ok(Text(text))
+}
+
+/// Appends a byte as two digits.
+fn push_pair(byte: u8, text: &mut String) -> Result<(), NoMemory>
+    ensures { OnOk result (string_bytes text.new ≡ string_bytes text.old ++ hex_pair byte) }
+{
+    text.push(hex_digit(byte / 16))?;
+    text.push(hex_digit(byte % 16))
+}
+
+fn hex_digit(value: u8) -> char
+    requires { value < 16 }
+    ensures { result ≡ digit_char value }
+{
+    char::from_digit(u32::from(value), 16).unwrap()
+}
