@@ -8,6 +8,7 @@ use Rattle.std.specs.Ordering.{is_eq, nat_cmp, ordering_then}
 use Rattle.std.specs.declared.cmp.Ordering.{Ordering}
 use Rattle.std.specs.declared.cmp.Ordering.TheVariants.{Less, Equal, Greater}
 use Rattle.ifmap_ident.specs.Leading.{Leads}
+use Rattle.ifmap_ident.proofs.Ties.{itself}
 
 pub then_equal : (r : Ordering) → ordering_then r Equal ≡ r
 then_equal Less = refl
@@ -70,3 +71,23 @@ leads_parted [] (c ∷ cs) h = absurd h
 leads_parted (b ∷ bs) [] h = absurd h
 leads_parted (b ∷ bs) (c ∷ cs) h =
     record { compares = λ x y. first_decides (nat_cmp b c) (slice_cmp nat_cmp (bs ++ x) (cs ++ y)) (slice_cmp nat_cmp bs cs) (slice_cmp nat_cmp x y) (λ e. (leads_parted bs cs (h (exact_unsigned b c e))).compares x y) }
+
+-- texts alike begin alike, where neither beginning goes on from the other
+pub parted_alike : (p q s t : List ℕ) → Parted p q → p ++ s ≡ q ++ t → (p ≡ q) × (s ≡ t)
+parted_alike [] [] s t h e = (refl, e)
+parted_alike [] (c ∷ cs) s t h e = absurd h
+parted_alike (b ∷ bs) [] s t h e = absurd h
+parted_alike (b ∷ bs) (c ∷ cs) s t h e =
+    let first : b ≡ c = cc in
+    let others : bs ++ s ≡ cs ++ t = cc in
+    let rest = parted_alike bs cs s t (h first) others in
+    ((λ i. first i ∷ rest.0 i), rest.1)
+
+tied_first : (o r : Ordering) → ordering_then o r ≡ Equal → o ≡ Equal
+tied_first Less r e = cc
+tied_first Equal r e = refl
+tied_first Greater r e = cc
+
+-- and they compare alike there
+pub leads_alike : {o : Ordering} {p q : List ℕ} → (s t : List ℕ) → Leads o p q → p ++ s ≡ q ++ t → o ≡ Equal
+leads_alike {o} {p} {q} s t f e = tied_first o (slice_cmp nat_cmp s t) (sym (f.compares s t) ∙ itself (p ++ s) (q ++ t) e)

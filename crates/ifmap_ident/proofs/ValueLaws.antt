@@ -15,7 +15,7 @@ use Rattle.std.specs.declared.cmp.Ordering.{Ordering}
 use Rattle.ifmap_elem.specs.Escapes.{value_byte, value_bytes}
 use Rattle.ifmap_ident.specs.Leading.{Leads}
 use Rattle.ifmap_ident.specs.Written.{closed_value, written_byte}
-use Rattle.ifmap_ident.proofs.LeadingLaws.{Parted, leads_behind, leads_decided, leads_parted}
+use Rattle.ifmap_ident.proofs.LeadingLaws.{Parted, leads_behind, leads_decided, leads_parted, parted_alike}
 
 not_equal : (b c : ℕ) → (b ≡ c → ⊥) → nat_eq b c ≡ false
 not_equal b c n = elim (cases_Bool (nat_eq b c)) [ inl e ↦ absurd (n (eqb-true b c e)) | inr e ↦ e ]
@@ -168,6 +168,27 @@ value_leads (b ∷ bs) (c ∷ cs) (suc n) e h =
     subst (λ p. Leads (piece_order bs cs n) p (closed_value (c ∷ cs))) (sym (append_assoc (value_byte b) (value_bytes bs) (34 ∷ [])))
     (subst (λ q. Leads (piece_order bs cs n) (value_byte b ++ closed_value bs) q) (ap (λ x. value_byte x ++ closed_value cs) same ∙ sym (append_assoc (value_byte c) (value_bytes cs) (34 ∷ [])))
     (leads_behind (value_byte b) (value_leads bs cs n rest h)))
+
+-- ---- values are told apart
+
+piece_alike : (one other s t : List ℕ) → closed_value one ++ s ≡ closed_value other ++ t → (slice_get one 0 ≡ slice_get other 0) × (behind one ++ s ≡ behind other ++ t)
+piece_alike one other s t e =
+    let o = slice_get one 0 in
+    let r = slice_get other 0 in
+    let split = sym (append_assoc (written_byte o) (behind one) s) ∙ ap (λ p. p ++ s) (sym (first_piece one)) ∙ e ∙ ap (λ p. p ++ t) (first_piece other) ∙ append_assoc (written_byte r) (behind other) t in
+    let both = parted_alike (written_byte o) (written_byte r) (behind one ++ s) (behind other ++ t) (parted_pieces (written_byte o) (written_byte r) (is_piece o) (is_piece r)) split in
+    (sym (written_once o) ∙ ap unwritten both.0 ∙ written_once r, both.1)
+
+pub value_alike : (one other s t : List ℕ) → closed_value one ++ s ≡ closed_value other ++ t → (one ≡ other) × (s ≡ t)
+unfolding behind
+value_alike [] [] s t e = (refl, (piece_alike [] [] s t e).1)
+value_alike [] (c ∷ cs) s t e = let first = (piece_alike [] (c ∷ cs) s t e).0 in cc
+value_alike (b ∷ bs) [] s t e = let first = (piece_alike (b ∷ bs) [] s t e).0 in cc
+value_alike (b ∷ bs) (c ∷ cs) s t e =
+    let here = piece_alike (b ∷ bs) (c ∷ cs) s t e in
+    let first : b ≡ c = let some = here.0 in cc in
+    let rest = value_alike bs cs s t here.1 in
+    ((λ i. first i ∷ rest.0 i), rest.1)
 
 -- ---- an element that was looked up
 

@@ -1,5 +1,5 @@
 //! Identifiers.
-ghost use Rattle.std.specs.Prelude.{◌≡◌, ◌==◌, ◌<◌, ◌^◌, IfOk, length};
+ghost use Rattle.std.specs.Prelude.{◌≡◌, ◌↔◌, ◌==◌, IsTrue, ◌<◌, ◌^◌, IfOk, length};
 ghost use Rattle.std.specs.Cmp.{partial_order_from_own_ties};
 ghost use Rattle.std.specs.Cmp.Lexicographic.{pointwise, slice_cmp};
 ghost use Rattle.std.specs.Cmp.Rules.{comparing};
@@ -8,7 +8,9 @@ ghost use Rattle.std.proofs.Common.{rules};
 ghost use Rattle.ifmap_ident.specs.Identifiers.{identifier_bytes, identifier_element};
 
 use crate::domains::domain_attributes;
-use crate::mac_addresses::{address_text, mac_address_len, mac_address_order};
+use crate::mac_addresses::{
+    address_text, mac_address_len, mac_address_order, mac_addresses_are_one,
+};
 use crate::plain::{plain_attribute, plain_element};
 use ifmap_elem::{Copied, Element, Equals, Text};
 use std::alloc::{AllocError as NoMemory, Global};
@@ -60,7 +62,10 @@ impl Copied for Identifier {
 }
 
 impl Equals for Identifier {
-    fn equals(&self, other: &Identifier) -> bool {
+    fn equals(&self, other: &Identifier) -> bool
+        ensures value { IsTrue result ↔ (self.now ≡ other.now) }
+        ensures canonical { IsTrue result ↔ (identifier_bytes self.now ≡ identifier_bytes other.now) }
+    {
         match (self, other) {
             (
                 Identifier::MacAddress { value, domain },
@@ -68,7 +73,7 @@ impl Equals for Identifier {
                     value: other_value,
                     domain: other_domain,
                 },
-            ) => value == other_value && domain.equals(other_domain),
+            ) => mac_addresses_are_one(value, domain, other_value, other_domain),
         }
     }
 }
@@ -79,7 +84,7 @@ impl PartialEq for Identifier {
     ghost laws = { Prim.search (comparing, rules) };
 
     fn eq(&self, other: &Identifier) -> bool {
-        self.cmp(other).is_eq()
+        self.equals(other)
     }
 }
 

@@ -1,14 +1,38 @@
 //! MAC addresses: as text, and their canonical bytes compared and measured.
-ghost use Rattle.std.specs.Prelude.{◌≡◌, ◌++◌, ◌<◌, ◌^◌, IfOk, OnOk, length, string_bytes};
+ghost use Rattle.std.specs.Prelude.{◌≡◌, ◌↔◌, ◌++◌, ◌<◌, ◌^◌, IsTrue, IfOk, OnOk, length, string_bytes};
 ghost use Rattle.std.specs.Char.{digit_char};
 ghost use Rattle.ifmap_ident.specs.Identifiers.{identifier_bytes, identifier_order};
 ghost use Rattle.ifmap_ident.specs.MacAddresses.{address_text, hex_pair};
 ghost use Rattle.ifmap_ident.specs.declared.identifiers.Identifier.TheVariants.{MacAddress};
 
 use crate::domains::{domain_len, domain_order};
-use ifmap_elem::Text;
+use ifmap_elem::{Equals, Text};
 use std::alloc::{AllocError as NoMemory, Global};
 use std::cmp::Ordering;
+
+/// Whether two MAC addresses are one, which their canonical bytes tell.
+pub(crate) fn mac_addresses_are_one(
+    value: &[u8; 6],
+    domain: &Text,
+    other_value: &[u8; 6],
+    other_domain: &Text,
+) -> bool
+    ensures one { IsTrue result ↔ (MacAddress value.now domain.now ≡ MacAddress other_value.now other_domain.now) }
+    ensures bytes { IsTrue result ↔ (identifier_bytes (MacAddress value.now domain.now) ≡ identifier_bytes (MacAddress other_value.now other_domain.now)) }
+{
+    have_same_parts(value, domain, other_value, other_domain)
+}
+
+fn have_same_parts(
+    value: &[u8; 6],
+    domain: &Text,
+    other_value: &[u8; 6],
+    other_domain: &Text,
+) -> bool
+    ensures { IsTrue result ↔ (MacAddress value.now domain.now ≡ MacAddress other_value.now other_domain.now) }
+{
+    value == other_value && domain.equals(other_domain)
+}
 
 /// How two MAC addresses compare by their canonical bytes.
 pub(crate) fn mac_address_order(
