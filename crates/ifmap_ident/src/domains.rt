@@ -1,5 +1,5 @@
 //! Administrative domains.
-ghost use Rattle.std.specs.Prelude.{◌≡◌, ℕ, ◌<◌, ◌^◌, ◌++◌, ◌∷◌, [], IfOk, length};
+ghost use Rattle.std.specs.Prelude.{◌≡◌, ℕ, ◌-◌, ◌<◌, ◌^◌, ◌++◌, ◌∷◌, [], IfOk, length, min};
 ghost use Rattle.ifmap_ident.specs.Identifiers.{domain_attributes};
 ghost use Rattle.ifmap_ident.specs.Leading.{Leads};
 ghost use Rattle.ifmap_ident.specs.Written.{domain_bytes};
@@ -36,14 +36,13 @@ pub(crate) fn domain_order(one: &Text, other: &Text) -> Ordering
     }
 }
 
-/// How many bytes the attribute of a domain has.
+/// How many bytes the attribute of a domain has; at most 2^64 - 1.
 pub(crate) fn domain_len(domain: &Text) -> u64
-    requires held { length (domain_bytes domain.now) < 2 ^ 64 }
-    ensures { result ≡ length (domain_bytes domain.now) }
+    ensures { result ≡ min (length (domain_bytes domain.now)) (2 ^ 64 - 1) }
 {
     if domain.0.is_empty() {
         return 0;
     }
     let around = b" administrative-domain=\"\"".len() as u64;
-    around + value_len(domain.0.as_bytes())
+    value_len(domain.0.as_bytes()).saturating_add(around)
 }

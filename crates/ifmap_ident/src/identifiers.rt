@@ -1,5 +1,5 @@
 //! Identifiers.
-ghost use Rattle.std.specs.Prelude.{◌≡◌, ◌↔◌, ◌==◌, IsTrue, ◌<◌, ◌^◌, IfOk, length};
+ghost use Rattle.std.specs.Prelude.{◌≡◌, ◌↔◌, ◌==◌, ◌-◌, ◌<◌, ◌^◌, IsTrue, IfOk, length, min};
 ghost use Rattle.std.specs.Cmp.{partial_order_from_own_ties};
 ghost use Rattle.std.specs.Cmp.Lexicographic.{pointwise, slice_cmp};
 ghost use Rattle.std.specs.Cmp.Rules.{comparing};
@@ -39,10 +39,11 @@ impl Identifier {
         }
     }
 
-    /// How many canonical bytes the identifier has.
+    /// How many canonical bytes the identifier has. Where they are more than a `u64` can tell, which
+    /// no identifier of a document has, it stands at the greatest.
     pub fn size(&self) -> u64
-        requires held { length (identifier_bytes self.now) < 2 ^ 64 }
-        ensures { result ≡ length (identifier_bytes self.now) }
+        ensures size { result ≡ min (length (identifier_bytes self.now)) (2 ^ 64 - 1) }
+        ensures exact { length (identifier_bytes self.now) < 2 ^ 64 → result ≡ length (identifier_bytes self.now) }
     {
         match self {
             Identifier::MacAddress { value, domain } => mac_address_len(value, domain),

@@ -1,5 +1,5 @@
 //! Items.
-ghost use Rattle.std.specs.Prelude.{◌≡◌, ◌==◌, ◌↔◌, ◌<◌, ◌^◌, IfSome, IsNone};
+ghost use Rattle.std.specs.Prelude.{◌≡◌, ◌==◌, ◌↔◌, ◌-◌, ◌<◌, ◌^◌, min, IfSome, IsNone};
 ghost use Rattle.std.specs.Cmp.{on_equiv, on_total, partial_order_from_own_ties};
 ghost use Rattle.std.specs.Cmp.Lexicographic.{lists_equiv, lists_ties, lists_total, pointwise, slice_cmp};
 ghost use Rattle.std.specs.Cmp.Rules.{comparing};
@@ -36,14 +36,14 @@ impl Item {
         }
     }
 
-    /// How many canonical bytes the identifiers have together.
+    /// How many canonical bytes the identifiers have together; at most 2^64 - 1.
     pub fn size(&self) -> u64
-        requires held { item_size self.now < 2 ^ 64 }
-        ensures { result ≡ item_size self.now }
+        ensures size { result ≡ min (item_size self.now) (2 ^ 64 - 1) }
+        ensures exact { item_size self.now < 2 ^ 64 → result ≡ item_size self.now }
     {
         match self {
             Item::One(a) => a.size(),
-            Item::Pair(a, b) => a.size() + b.size(),
+            Item::Pair(a, b) => a.size().saturating_add(b.size()),
         }
     }
 }

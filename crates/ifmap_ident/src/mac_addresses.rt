@@ -1,5 +1,5 @@
 //! MAC addresses: as text, and their canonical bytes compared and measured.
-ghost use Rattle.std.specs.Prelude.{◌≡◌, ◌↔◌, ◌++◌, ◌<◌, ◌^◌, IsTrue, IfOk, OnOk, length, string_bytes};
+ghost use Rattle.std.specs.Prelude.{◌≡◌, ◌↔◌, ◌-◌, ◌++◌, ◌<◌, ◌^◌, IsTrue, IfOk, OnOk, length, min, string_bytes};
 ghost use Rattle.std.specs.Char.{digit_char};
 ghost use Rattle.ifmap_ident.specs.Identifiers.{identifier_bytes, identifier_order};
 ghost use Rattle.ifmap_ident.specs.MacAddresses.{address_text, hex_pair};
@@ -49,12 +49,11 @@ pub(crate) fn mac_address_order(
 /// How many canonical bytes a MAC address without a domain has.
 const BARE_LEN: u64 = 40;
 
-/// How many canonical bytes a MAC address has.
+/// How many canonical bytes a MAC address has; at most 2^64 - 1.
 pub(crate) fn mac_address_len(value: &[u8; 6], domain: &Text) -> u64
-    requires held { length (identifier_bytes (MacAddress value.now domain.now)) < 2 ^ 64 }
-    ensures { result ≡ length (identifier_bytes (MacAddress value.now domain.now)) }
+    ensures { result ≡ min (length (identifier_bytes (MacAddress value.now domain.now))) (2 ^ 64 - 1) }
 {
-    BARE_LEN + domain_len(domain)
+    domain_len(domain).saturating_add(BARE_LEN)
 }
 
 /// The bytes in hexadecimal digits, with a colon between each two.

@@ -1,5 +1,5 @@
 //! The values of attributes, as they are written in canonical bytes, without writing them.
-ghost use Rattle.std.specs.Prelude.{◌≡◌, ◌≤◌, ◌<◌, ◌^◌, None, length, take};
+ghost use Rattle.std.specs.Prelude.{◌≡◌, ◌-◌, ◌^◌, None, length, min, take};
 ghost use Rattle.std.specs.List.{slice_get};
 ghost use Rattle.std.specs.Option.{option_copied};
 ghost use Rattle.ifmap_elem.specs.Escapes.{value_bytes};
@@ -30,14 +30,13 @@ fn shared_len(one: &[u8], other: &[u8]) -> usize
     one.len()
 }
 
-/// How long a value is as it is written.
+/// How long a value is as it is written; at most 2^64 - 1.
 pub(crate) fn value_len(bytes: &[u8]) -> u64
-    requires held { length (value_bytes bytes.now) < 2 ^ 64 }
-    ensures { result ≡ length (value_bytes bytes.now) }
+    ensures { result ≡ min (length (value_bytes bytes.now)) (2 ^ 64 - 1) }
 {
-    let mut len = 0;
+    let mut len: u64 = 0;
     for byte in bytes {
-        len += written_byte(Some(byte)).len() as u64;
+        len = len.saturating_add(written_byte(Some(byte)).len() as u64);
     }
     len
 }

@@ -4,18 +4,10 @@ use Rattle.ifmap_elem.specs.Escapes.{value_bytes}
 use Rattle.ifmap_ident.proofs.DomainLaws.{domain_length, some_bytes}
 use Rattle.ifmap_ident.proofs.domains.domain_len.Goals as goal
 
-pub value_len-requires : goal.value_len-requires
-value_len-requires c =
+pub returns : goal.returns
+returns c =
     let text = c.as_bytes.ensures.value ∙ c.domain.view_is in
     let some = some_bytes c.args.domain.now (string_len c.domain.inside.0) c.if-is_empty.ensures (sym c.as_bytes.ensures.len ∙ ap length text) in
-    let e = domain_length c.args.domain.now some in
+    let whole = domain_length c.args.domain.now some in
     let same = ap (λ d. length (value_bytes d)) text in
-    record { held = omega (arith, c.requires.held) }
-
-pub overflow_add-result : goal.overflow_add-result
-overflow_add-result c =
-    let text = c.as_bytes.ensures.value ∙ c.domain.view_is in
-    let some = some_bytes c.args.domain.now (string_len c.domain.inside.0) c.if-is_empty.ensures (sym c.as_bytes.ensures.len ∙ ap length text) in
-    let e = domain_length c.args.domain.now some in
-    let same = c.value_len.ensures ∙ ap (λ d. length (value_bytes d)) text in
-    omega (arith, c.requires.held)
+    omega arith
