@@ -1,11 +1,10 @@
 //! Identifiers.
-ghost use Rattle.std.specs.Prelude.{◌≡◌, ◌↔◌, ◌==◌, ◌-◌, ◌<◌, ◌^◌, IsTrue, IfOk, length, min};
+ghost use Rattle.std.specs.Prelude.{◌≡◌, ◌↔◌, ◌-◌, ◌<◌, ◌^◌, IsTrue, IfOk, length, min};
 ghost use Rattle.std.specs.Cmp.{partial_order_from_own_ties};
-ghost use Rattle.std.specs.Cmp.Lexicographic.{pointwise, slice_cmp};
 ghost use Rattle.std.specs.Cmp.Rules.{comparing};
-ghost use Rattle.std.specs.Ordering.{nat_cmp, on, as_partial_cmp};
+ghost use Rattle.std.specs.Ordering.{as_partial_cmp};
 ghost use Rattle.std.proofs.Common.{rules};
-ghost use Rattle.ifmap_ident.specs.Identifiers.{identifier_bytes, identifier_element};
+ghost use Rattle.ifmap_ident.specs.Identifiers.{identifier_bytes, identifier_element, identifier_order, same_identifier};
 
 use crate::domains::domain_attributes;
 use crate::mac_addresses::{
@@ -80,7 +79,7 @@ impl Equals for Identifier {
 }
 
 impl PartialEq for Identifier {
-    ghost eq = { on identifier_bytes (pointwise ◌==◌) };
+    ghost eq = { same_identifier };
 
     ghost laws = { Prim.search (comparing, rules) };
 
@@ -95,7 +94,7 @@ impl Eq for Identifier {
 
 /// By the canonical bytes.
 impl Ord for Identifier {
-    ghost cmp = { on identifier_bytes (slice_cmp nat_cmp) };
+    ghost cmp = { identifier_order };
 
     ghost total = { Prim.search (comparing, rules) };
 
@@ -117,7 +116,7 @@ impl Ord for Identifier {
 }
 
 impl PartialOrd for Identifier {
-    ghost partial_cmp = { as_partial_cmp (on identifier_bytes (slice_cmp nat_cmp)) };
+    ghost partial_cmp = { as_partial_cmp identifier_order };
 
     ghost laws = { partial_order_from_own_ties (Prim.search (comparing, rules)) (Prim.search (comparing, rules)) };
 

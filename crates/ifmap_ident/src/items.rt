@@ -1,12 +1,11 @@
 //! Items.
-ghost use Rattle.std.specs.Prelude.{◌≡◌, ◌==◌, ◌↔◌, ◌-◌, ◌<◌, ◌^◌, min, IfSome, IsNone};
-ghost use Rattle.std.specs.Cmp.{on_equiv, on_total, partial_order_from_own_ties};
-ghost use Rattle.std.specs.Cmp.Lexicographic.{lists_equiv, lists_ties, lists_total, pointwise, slice_cmp};
+ghost use Rattle.std.specs.Prelude.{◌≡◌, ◌↔◌, ◌-◌, ◌<◌, ◌^◌, min, IfSome, IsNone};
+ghost use Rattle.std.specs.Cmp.{partial_order_from_own_ties};
 ghost use Rattle.std.specs.Cmp.Rules.{comparing};
-ghost use Rattle.std.specs.Ordering.{as_partial_cmp, nat_cmp, on};
+ghost use Rattle.std.specs.Ordering.{as_partial_cmp};
 ghost use Rattle.std.proofs.Common.{rules};
 ghost use Rattle.ifmap_ident.specs.Identifiers.{identifier_bytes};
-ghost use Rattle.ifmap_ident.specs.Items.{IsItem, identifiers_of, item_order, item_size, items_tie, pair_of, same_item};
+ghost use Rattle.ifmap_ident.specs.Items.{IsItem, item_order, item_size, items_tie, pair_of, same_item};
 
 use crate::identifiers::Identifier;
 use ifmap_elem::{Copied, Equals};
