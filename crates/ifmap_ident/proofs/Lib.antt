@@ -1,0 +1,7 @@
+pub mod DomainLaws
+pub mod LeadingLaws
+pub mod MacAddressLaws
+pub mod OrderLaws
+pub mod PrintedLaws
+pub mod Ties
+pub mod ValueLaws
