@@ -1,0 +1,2 @@
+//! The graph.
+#![tactic(auto)]
