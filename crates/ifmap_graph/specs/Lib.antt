@@ -1,1 +1,4 @@
+pub mod Attachments
+pub mod Graph
+pub mod Places
 pub mod Placing
