@@ -150,5 +150,5 @@ fn retain_others(rows: &mut Vec<Row>, serial: u64)
     ensures len { vec_len rows.new ≤ vec_len rows.old }
     ensures capacity { vec_capacity rows.new ≡ vec_capacity rows.old }
 {
-    rows.retain(|row| !row.ends_with(serial));
+    rows.retain(|row| row.outlives(serial));
 }

@@ -1,5 +1,5 @@
 //! Attachments made ready to stand in a graph.
-ghost use Rattle.std.specs.Prelude.{◌≡◌, ◌+◌, length, IfOk};
+ghost use Rattle.std.specs.Prelude.{◌≡◌, ◌+◌, not, length, IfOk};
 ghost use Rattle.ifmap_ident.specs.Identifiers.{identifier_bytes};
 ghost use Rattle.ifmap_ident.specs.Items.{item_size};
 ghost use Rattle.ifmap_meta.specs.Keys.{content_bytes, same_key};
@@ -104,13 +104,13 @@ impl Row {
                 || (one.publisher == two.publisher && self.0.content == other.0.content))
     }
 
-    // Whether it ends with the session of that serial.
-    pub(crate) fn ends_with(&self, serial: u64) -> bool
-        ensures { result ≡ ends_with serial self.now.stored.life }
+    // Whether it stays when the session of that serial ends.
+    pub(crate) fn outlives(&self, serial: u64) -> bool
+        ensures { result ≡ not (ends_with serial self.now.stored.life) }
     {
         match self.stored().life {
-            Life::Session(own) => own == serial,
-            Life::Forever => false,
+            Life::Session(own) => own != serial,
+            Life::Forever => true,
         }
     }
 }
