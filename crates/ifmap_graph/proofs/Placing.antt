@@ -171,9 +171,11 @@ module _ (X : Type 0) (C : X → X → Ordering) (o : IsTotalOrder C) where
     distinct_at : (x : X) (xs : List X) (r : Ordering) → C x a ≡ r → AllByRecursion (λ y. C x y ≡ Less) xs → AllByRecursion (λ y. E x y ≡ false) xs → IsDistinct E xs → E a x ≡ false → AllByRecursion (λ y. E a y ≡ false) xs → IsDistinct E (put C a xs) → IsDistinct E (put C a (x ∷ xs))
     unfolding IsDistinct
     distinct_at x xs Less is up others apart differs differ rest =
-        subst (IsDistinct E) (sym (put_less a x xs is))
-        (all_around (λ y. E x y ≡ false) (filter (λ y. is_lt (C y a)) xs) a (filter (λ y. is_gt (C y a)) xs)
-        (all_filter (λ y. E x y ≡ false) (λ y. is_lt (C y a)) xs others) (e.symm x a ∙ differs) (all_filter (λ y. E x y ≡ false) (λ y. is_gt (C y a)) xs others), rest)
+        subst (IsDistinct E) (sym (put_less a x xs is)) (
+          all_around (λ y. E x y ≡ false) (filter (λ y. is_lt (C y a)) xs) a (filter (λ y. is_gt (C y a)) xs)
+              (all_filter (λ y. E x y ≡ false) (λ y. is_lt (C y a)) xs others) (e.symm x a ∙ differs) (all_filter (λ y. E x y ≡ false) (λ y. is_gt (C y a)) xs others),
+          rest,
+        )
     distinct_at x xs Equal is up others apart differs differ rest = subst (IsDistinct E) (sym (put_equal a x xs is)) rest
     distinct_at x xs Greater is up others apart differs differ rest =
         subst (IsDistinct E) (sym (put_front a (x ∷ xs) (is, greater_next a x xs is up))) ((differs, differ), (others, apart))

@@ -84,7 +84,6 @@ is_both Equal e f = cc
 is_both Greater e f = cc
 
 module _ (item : Item) where
-
   ends_rise : (graph : List Attachment) (s e : ℕ) → s ≤ length graph → IsPartitionPoint (λ (a : Attachment). is_lt (item_order a.item item) ≡ true) (λ (a : Attachment). is_lt (item_order a.item item) ≡ false) graph s → IsPartitionPoint (λ (a : Attachment). is_le (item_order a.item item) ≡ true) (λ (a : Attachment). is_le (item_order a.item item) ≡ false) graph e → s ≤ e
   ends_rise [] s e le p q = omega arith
   ends_rise (x ∷ xs) s e le p q =
@@ -122,19 +121,19 @@ module _ (item : Item) where
   pub no_place_with_key : (a : Attachment) (graph : List Attachment) (s e : ℕ) → a.item ≡ item → IsRangeOn item graph s e → AllWithin (λ (b : Attachment). stored.same_key a.stored b.stored ≡ false) graph s e → without_key a graph ≡ graph
   no_place_with_key a graph s e on r none =
       filter_all (λ b. not (same_key a b)) graph (recursion_from_All (λ b. not (same_key a b) ≡ true) graph (λ k d h. ap not (other_key k d h)))
-      where
-        other_item : (k : ℕ) (d : Attachment) → same_item (get_or graph k d).item item ≡ false → same_key a (get_or graph k d) ≡ false
-        other_item k d differ = rw (items_equiv.symm a.item (get_or graph k d).item ∙ subst (λ j. same_item (get_or graph k d).item j ≡ false) (sym on) differ) refl
+    where
+      other_item : (k : ℕ) (d : Attachment) → same_item (get_or graph k d).item item ≡ false → same_key a (get_or graph k d) ≡ false
+      other_item k d differ = rw (items_equiv.symm a.item (get_or graph k d).item ∙ subst (λ j. same_item (get_or graph k d).item j ≡ false) (sym on) differ) refl
 
-        other_stored : (k : ℕ) (d : Attachment) → stored.same_key a.stored (get_or graph k d).stored ≡ false → same_key a (get_or graph k d) ≡ false
-        other_stored k d differ = rw differ (and_false (same_item a.item (get_or graph k d).item))
+      other_stored : (k : ℕ) (d : Attachment) → stored.same_key a.stored (get_or graph k d).stored ≡ false → same_key a (get_or graph k d) ≡ false
+      other_stored k d differ = rw differ (and_false (same_item a.item (get_or graph k d).item))
 
-        other_key : (k : ℕ) (d : Attachment) → k < length graph → same_key a (get_or graph k d) ≡ false
-        other_key k d h =
-            elim (cases_lt k s) [
-              | inl before ↦ other_item k d (r.before k d (omega arith) before)
-              | inr from ↦ elim (cases_lt k e) [ inl among ↦ other_stored k d (none k d from among) | inr behind ↦ other_item k d (r.behind k d behind h) ]
-            ]
+      other_key : (k : ℕ) (d : Attachment) → k < length graph → same_key a (get_or graph k d) ≡ false
+      other_key k d h =
+          elim (cases_lt k s) [
+            | inl before ↦ other_item k d (r.before k d (omega arith) before)
+            | inr from ↦ elim (cases_lt k e) [ inl among ↦ other_stored k d (none k d from among) | inr behind ↦ other_item k d (r.behind k d behind h) ]
+          ]
 
 -- where one more has not the key
 pub none_more : (a x : Attachment) (graph : List Attachment) (s i : ℕ) → i < length graph → x ≡ get_or graph i x → stored.same_key a.stored x.stored ≡ false → AllWithin (λ (b : Attachment). stored.same_key a.stored b.stored ≡ false) graph s i → AllWithin (λ (b : Attachment). stored.same_key a.stored b.stored ≡ false) graph s (i + 1)

@@ -8,5 +8,4 @@ pub fn graphs_stay_graphs()
     ensures empty { IsGraph [] }
     ensures attached { (graph : List Attachment) (a : Attachment) → IsGraph graph → IsGraph (attached graph a) }
     ensures retracted { (serial : ℕ) (graph : List Attachment) → IsGraph graph → IsGraph (retract serial graph) }
-{
-}
+{}

@@ -10,3 +10,6 @@ pub mod rows;
 pub use attachments::Attachment;
 pub use graphs::Graph;
 pub use rows::Row;
+
+#[cfg(test)]
+mod tests;
