@@ -1,8 +1,8 @@
 -- Graphs stay graphs.
-use Rattle.std.proofs.Common.{◌≡◌, refl, sym, ◌∙◌, ap, subst, ℕ, ◌<◌, ◌≤◌, Bool, true, false, not, List, [], length, get_or, Result, Ok, Err, set}
+use Rattle.std.proofs.Common.{◌≡◌, ℕ, Bool, true, false, not, List, [], length, Result, Ok, Err}
 use Rattle.std.proofs.lemmas.Bool.{not-true}
 use Rattle.std.proofs.lemmas.List.Kept.{IsStrictlySortedBy-filter}
-use Rattle.std.specs.List.{AllByRecursion, IsDistinct, filter, remove}
+use Rattle.std.specs.List.{AllByRecursion, IsDistinct, filter}
 use Rattle.std.specs.List.Sorted.{IsBinarySearchResult, IsSearchInRange, IsStrictlySortedBy}
 use Rattle.ifmap_graph.specs.declared.attachments.Attachment.{Attachment}
 use Rattle.ifmap_graph.specs.Attachments.{attachment_order, ends_with, same_key}
@@ -10,7 +10,7 @@ use Rattle.ifmap_graph.specs.Graph.{IsGraph, attached, retract, without_key}
 use Rattle.ifmap_graph.specs.Places.{IsPlaceFor}
 use Rattle.ifmap_graph.specs.Placing.{put}
 use Rattle.ifmap_graph.proofs.Keys.{attachments_total, keys_equiv}
-use Rattle.ifmap_graph.proofs.Placing.{all_weaker, distinct_filter, filter_passes, found_is_put, gap_is_put, put_distinct, put_sorted, remove_one}
+use Rattle.ifmap_graph.proofs.Placing.{all_weaker, distinct_filter, filter_passes, found_is_put, gap_is_put, put_distinct, put_sorted}
 
 pub graph_empty : IsGraph []
 unfolding IsStrictlySortedBy IsDistinct

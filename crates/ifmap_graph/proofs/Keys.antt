@@ -1,11 +1,11 @@
 -- The order of attachments is total, and having one key is an equivalence.
-use Rattle.std.proofs.Common.{◌≡◌, refl, sym, ◌∙◌, ap, ℕ, Bool, true, false, ◌&&◌, ◌||◌, ◌==◌, List, inl, inr, Ordering}
+use Rattle.std.proofs.Common.{◌≡◌, refl, sym, Bool, true, false, ◌&&◌, ◌||◌, inl, inr}
 use Rattle.std.proofs.lemmas.Bool.{and_parts, cases_Bool}
 use Rattle.std.proofs.lemmas.Cmp.{and_equiv, lists_equiv, lists_total, nat_list_cmp_total, nat_list_eq_equiv, on_equiv, on_total, then_total}
 use Rattle.std.proofs.lemmas.Map.Text.{is_eq-slice_cmp}
 use Rattle.std.specs.Cmp.{IsEquivalence, IsTotalOrder, bool_eq_equiv}
-use Rattle.std.specs.Cmp.Lexicographic.{lists_ties, pointwise, slice_cmp}
-use Rattle.std.specs.Ordering.{is_eq, on}
+use Rattle.std.specs.Cmp.Lexicographic.{lists_ties}
+use Rattle.std.specs.Ordering.{is_eq}
 use Rattle.std.specs.Str.{bytes_eq}
 use Rattle.std.proofs.Math.Bool.{beq}
 use Rattle.ifmap_elem.specs.declared.elements.Element.{Element}
