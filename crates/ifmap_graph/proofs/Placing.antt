@@ -69,7 +69,7 @@ module _ {X : Type 0} where
       rw (before 0 x (omega arith) (omega arith))
       (filter_range p xs s n (omega arith) (λ k d low h. before (suc k) d (omega arith) (omega arith)) (λ k d low h. within (suc k) d (omega arith) (omega arith)) (λ k d low h. after (suc k) d (omega arith) (omega arith)))
 
-is_less : (r : Ordering) → is_lt r ≡ true → r ≡ Less
+pub is_less : (r : Ordering) → is_lt r ≡ true → r ≡ Less
 is_less Less e = refl
 is_less Equal e = cc
 is_less Greater e = cc

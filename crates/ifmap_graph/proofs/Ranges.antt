@@ -17,7 +17,7 @@ use Rattle.ifmap_graph.specs.Attachments.{attachment_order, same_key}
 use Rattle.ifmap_graph.specs.Graph.{IsGraph, on_item, without_key}
 use Rattle.ifmap_graph.specs.Places.{IsRangeOn}
 use Rattle.ifmap_graph.proofs.Keys.{items_equiv, items_tied, items_total, keys_equiv}
-use Rattle.ifmap_graph.proofs.Placing.{filter_all, filter_range, remove_one}
+use Rattle.ifmap_graph.proofs.Placing.{filter_all, filter_range, is_less, remove_one}
 
 -- by what comes first in an order of two parts
 not_greater : (r s : Ordering) → ordering_then r s ≡ Less → (r ≡ Less) ⊎ (r ≡ Equal)
@@ -25,14 +25,9 @@ not_greater Less s e = inl refl
 not_greater Equal s e = inr refl
 not_greater Greater s e = cc
 
-less_is : (r : Ordering) → is_lt r ≡ true → r ≡ Less
-less_is Less e = refl
-less_is Equal e = cc
-less_is Greater e = cc
-
 -- what is not after one that passes passes too
 down_lt : (a b x : Item) → (item_order a b ≡ Less) ⊎ (item_order a b ≡ Equal) → is_lt (item_order b x) ≡ true → is_lt (item_order a x) ≡ true
-down_lt a b x (inl less) h = ap is_lt (items_total.trans a b x less (less_is (item_order b x) h))
+down_lt a b x (inl less) h = ap is_lt (items_total.trans a b x less (is_less (item_order b x) h))
 down_lt a b x (inr same) h = ap is_lt (items_total.congr a b x same) ∙ h
 
 le_by : (a b x : Item) (r : Ordering) → item_order b x ≡ r → item_order a b ≡ Less → is_le r ≡ true → is_le (item_order a x) ≡ true

@@ -34,7 +34,7 @@ impl Model for Graph {
 }
 
 impl Graph {
-    /// Nothing, and no room. It takes no memory.
+    /// Nothing yet. It takes no memory.
     pub fn new(alloc: Global) -> Graph
         ensures { result.rows ≡ [] }
     {
