@@ -1,13 +1,12 @@
 //! Attachments made ready to stand in a graph.
 ghost use Rattle.std.specs.Prelude.{◌≡◌, ◌+◌, not, length, IfOk};
-ghost use Rattle.ifmap_ident.specs.Identifiers.{identifier_bytes};
 ghost use Rattle.ifmap_ident.specs.Items.{item_size};
 ghost use Rattle.ifmap_meta.specs.Keys.{content_bytes, same_key};
 ghost use Rattle.ifmap_graph.specs.Attachments.{attachment_order, ends_with, entry_size, stored_bytes};
 
 use crate::attachments::Attachment;
 use ifmap_elem::{Many, canonical};
-use ifmap_ident::{Identifier, Item};
+use ifmap_ident::Item;
 use ifmap_meta::{Life, Stored, content_bytes, is_single, same_type};
 use std::alloc::{AllocError as NoMemory, Global};
 use std::cmp::Ordering;
@@ -51,7 +50,7 @@ impl Row {
     {
         let printed = canonical(alloc, &stored.element)?;
         let content = content_bytes(alloc, &stored.element)?;
-        let size = sum_of(item_size(alloc, &item)?, printed.0.len() as u64)?;
+        let size = entry_size(&item, &printed)?;
         Ok(Row(Box::new(
             alloc,
             Prepared {
@@ -115,29 +114,12 @@ impl Row {
     }
 }
 
-// How many canonical bytes the identifiers of an item have together.
-fn item_size(alloc: Global, item: &Item) -> Result<u64, NoMemory>
-    ensures { IfOk result (λ size. size ≡ item_size item.now) }
+// The size of an entry, where memory can hold as many bytes.
+fn entry_size(item: &Item, printed: &Many<u8>) -> Result<u64, NoMemory>
+    ensures { IfOk result (λ size. size ≡ item_size item.now + length printed.now) }
 {
-    match item {
-        Item::One(a) => identifier_size(alloc, a),
-        Item::Pair(a, b) => sum_of(identifier_size(alloc, a)?, identifier_size(alloc, b)?),
+    match item.size().checked_add(printed.0.len() as u64) {
+        Some(size) if size < u64::MAX => Ok(size),
+        _ => Err(NoMemory),
     }
-}
-
-// How many canonical bytes an identifier has. They are printed to be counted, since nothing bounds
-// their number but memory.
-#[tactic(auto, unfolding(ifmap_ident::specs::Identifiers::identifier_bytes))]
-fn identifier_size(alloc: Global, identifier: &Identifier) -> Result<u64, NoMemory>
-    ensures { IfOk result (λ size. size ≡ length (identifier_bytes identifier.now)) }
-{
-    let bytes = canonical(alloc, &identifier.element(alloc)?)?;
-    Ok(bytes.0.len() as u64)
-}
-
-// The sum of two sizes, where memory can hold as many bytes.
-fn sum_of(a: u64, b: u64) -> Result<u64, NoMemory>
-    ensures { IfOk result (λ sum. sum ≡ a + b) }
-{
-    a.checked_add(b).ok_or(NoMemory)
 }
