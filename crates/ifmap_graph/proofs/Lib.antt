@@ -1,0 +1,4 @@
+pub mod GraphLaws
+pub mod Keys
+pub mod Placing
+pub mod Ranges

@@ -1,0 +1,4 @@
+pub mod Attachments
+pub mod Graph
+pub mod Places
+pub mod Placing
