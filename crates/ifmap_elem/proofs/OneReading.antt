@@ -86,7 +86,7 @@ one_content c d r s h k e = cc
 
 -- a tag names one element
 
-one_attribute : (scope : Scope) (a : Assignment) (t u : Attribute) → IsAttribute scope a t → IsAttribute scope a u → t ≡ u
+pub one_attribute : (scope : Scope) (a : Assignment) (t u : Attribute) → IsAttribute scope a t → IsAttribute scope a u → t ≡ u
 one_attribute scope a t u l m =
     let found : Some t.name.space ≡ Some u.name.space = sym l.space_is ∙ m.space_is in
     let space : t.name.space ≡ u.name.space = cc in
@@ -105,7 +105,7 @@ one_list_of_attributes scope (a ∷ as') (t ∷ ts) (u ∷ us) l m =
     let tail : ts ≡ us = one_list_of_attributes scope as' ts us l.1 m.1 in
     cc
 
-one_name : (outer : Scope) (tag : Tag) (n o : Name) (as' bs : List Attribute) → NamesElement outer tag n as' → NamesElement outer tag o bs → (n ≡ o) × (as' ≡ bs)
+pub one_name : (outer : Scope) (tag : Tag) (n o : Name) (as' bs : List Attribute) → NamesElement outer tag n as' → NamesElement outer tag o bs → (n ≡ o) × (as' ≡ bs)
 one_name outer tag n o as' bs l m =
     let found : Some n.space ≡ Some o.space = sym l.space_is ∙ m.space_is in
     let space : n.space ≡ o.space = cc in

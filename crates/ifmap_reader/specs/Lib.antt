@@ -1,0 +1,5 @@
+pub mod Depths
+pub mod Frames
+pub mod Opening
+pub mod Progress
+pub mod Rows
