@@ -1,5 +1,5 @@
 -- What an open element goes on with, by the next token.
-use Rattle.std.proofs.Common.{◌≡◌, ℕ, Bool, true, false, List, [], ◌∷◌, ◌++◌, refl, ap, sym, ◌∙◌, subst, append_assoc}
+use Rattle.std.proofs.Common.{◌≡◌, ℕ, Bool, true, false, List, [], ◌∷◌, ◌++◌, refl, ap, sym, inl, inr, ◌∙◌, subst, append_assoc}
 use Rattle.std.specs.Prelude.{◌↔◌}
 use Rattle.ifmap_elem.specs.declared.elements.Element.{Element}
 use Rattle.ifmap_elem.specs.declared.readings.Declared.{Declared}
@@ -7,16 +7,15 @@ use Rattle.ifmap_elem.specs.declared.tokens.Qualified.{Qualified}
 use Rattle.ifmap_elem.specs.declared.tokens.Tag.{Tag}
 use Rattle.ifmap_elem.specs.declared.tokens.Token.{Token}
 use Rattle.ifmap_elem.specs.declared.tokens.Token.TheVariants.{Declaration, Comment, Start, Empty, End, Section, Text}
-use Rattle.ifmap_elem.specs.Scopes.{Scope, scope_within, bindings}
+use Rattle.ifmap_elem.specs.declared.elements.Attribute.{Attribute}
+use Rattle.ifmap_elem.specs.declared.elements.Name.{Name}
+use Rattle.ifmap_elem.specs.Scopes.{Scope, bindings, NamesElement}
 use Rattle.ifmap_elem.specs.Document.{Content, Nothing, Remark, Words, Verbatim, Leaf, Branch, tokens_of, Item, Inner, Run, IsElement, Means}
 use Rattle.ifmap_reader.specs.declared.frames.Frame.{Frame}
 use Rattle.ifmap_reader.specs.Frames.{Closes, with_inner, with_words, written_name}
 use Rattle.ifmap_reader.specs.Opening.{Opened}
 use Rattle.ifmap_reader.specs.Progress.{Ends, IsWords}
 use Rattle.ifmap_reader.proofs.Items.{words_close, close_words, inner_closes, closes_inner, opened_closes, closes_opened}
-
-abbrev Rest : Type 1
-Rest = Element → List Declared → List Token → Type 0
 
 module _ (scope : Scope) (f : Frame) (ts : List Token) (Then : Element → List Declared → List Token → Type 0) where
   -- a comment
@@ -111,8 +110,7 @@ module _ (scope : Scope) (f : Frame) (ts : List Token) (Then : Element → List 
         let made : IsElement scope tag [] m.0 m.1 = subst (λ (u : Tag). IsElement scope u [] m.0 m.1) same m.4 in
         let h = opened_closes scope tag new o [] m.0 m.1 made in
         record { inside = after; behind = behind; items = m.2; element = e; declared = d; tokens_are = cc; means = m.5;
-          closes = subst (λ (is : List Item). Closes (with_inner f inner below) m.2 e d) refl
-            (inner_closes f inner below m.2 e d (subst (λ (is : List Item). Closes f is e d)
+          closes = (inner_closes f inner below m.2 e d (subst (λ (is : List Item). Closes f is e d)
             (m.3 ∙ ap (λ (y : Element). Inner y m.1 ∷ m.2) (h.element_is ∙ sym k.element_is) ∙ ap (λ (y : List Declared). Inner inner y ∷ m.2) (h.declared_is ∙ sym k.declared_is)) c)); goes_on = t }
     empty_off Nothing behind items e d is m c t inner below k = cc
     empty_off (Remark after) behind items e d is m c t inner below k = cc
@@ -127,5 +125,66 @@ module _ (scope : Scope) (f : Frame) (ts : List Token) (Then : Element → List 
         means = (inner, below, x.items, refl, closes_opened scope tag new o [] inner below k, x.means); closes = closes_inner f inner below x.items x.element x.declared x.closes; goes_on = x.goes_on },
     )
 
-    Inside : Element → List Declared → List Token → Type 0
-    Inside inner below rest = Ends scope (with_inner f inner below) rest Then
+    branch_off : (c : Content) (behind : List Token) (items : List Item) (e : Element) (d : List Declared) → Start tag ∷ ts ≡ tokens_of c ++ (End (written_name f) ∷ behind)
+        → Means scope c items → Closes f items e d → Then e d behind → Ends (new.bindings ++ scope) new ts (λ inner below rest. Ends scope (with_inner f inner below) rest Then)
+    branch_off (Branch other inside after) behind items e d is m c t =
+        let same : other ≡ tag = cc in
+        let tail : ts ≡ (tokens_of inside ++ (End other.name ∷ tokens_of after)) ++ (End (written_name f) ∷ behind) = cc in
+        record {
+          inside = inside; behind = tokens_of after ++ (End (written_name f) ∷ behind); items = m.0; element = m.1; declared = m.2;
+          tokens_are = tail ∙ append_assoc (tokens_of inside) (End other.name ∷ tokens_of after) (End (written_name f) ∷ behind)
+              ∙ ap (λ (n : Qualified). tokens_of inside ++ (End n ∷ (tokens_of after ++ (End (written_name f) ∷ behind)))) (ap (λ (u : Tag). u.name) same ∙ o.name_is);
+          means = subst (λ (s : Scope). Means s inside m.0) (ap (λ (u : Tag). bindings u ++ scope) same ∙ ap (λ bs. bs ++ scope) (sym o.bindings_are)) m.5;
+          closes = opened_closes scope tag new o m.0 m.1 m.2 (subst (λ (u : Tag). IsElement scope u m.0 m.1 m.2) same m.6);
+          goes_on = record { inside = after; behind = behind; items = m.3; element = e; declared = d; tokens_are = refl; means = m.7;
+            closes = inner_closes f m.1 m.2 m.3 e d (subst (λ (is : List Item). Closes f is e d) m.4 c); goes_on = t };
+        }
+    branch_off Nothing behind items e d is m c t = cc
+    branch_off (Remark after) behind items e d is m c t = cc
+    branch_off (Words blank text after) behind items e d is m c t = cc
+    branch_off (Verbatim text after) behind items e d is m c t = cc
+    branch_off (Leaf other after) behind items e d is m c t = cc
+
+    branch_on : Ends (new.bindings ++ scope) new ts (λ inner below rest. Ends scope (with_inner f inner below) rest Then) → Ends scope f (Start tag ∷ ts) Then
+    branch_on x =
+        let y = x.goes_on in
+        record {
+          inside = Branch tag x.inside y.inside; behind = y.behind; items = Inner x.element x.declared ∷ y.items; element = y.element; declared = y.declared;
+          tokens_are = ap (λ us. Start tag ∷ us) (x.tokens_are ∙ ap (λ us. tokens_of x.inside ++ (End (written_name new) ∷ us)) y.tokens_are
+              ∙ ap (λ (n : Qualified). tokens_of x.inside ++ (End n ∷ (tokens_of y.inside ++ (End (written_name f) ∷ y.behind)))) (sym o.name_is)
+              ∙ sym (append_assoc (tokens_of x.inside) (End tag.name ∷ tokens_of y.inside) (End (written_name f) ∷ y.behind)));
+          means = (x.items, x.element, x.declared, y.items, refl, subst (λ (s : Scope). Means s x.inside x.items) (ap (λ bs. bs ++ scope) o.bindings_are) x.means,
+            closes_opened scope tag new o x.items x.element x.declared x.closes, y.means);
+          closes = closes_inner f x.element x.declared y.items y.element y.declared y.closes; goes_on = y.goes_on;
+        }
+
+    pub ends_start : Ends scope f (Start tag ∷ ts) Then ↔ Ends (new.bindings ++ scope) new ts (λ inner below rest. Ends scope (with_inner f inner below) rest Then)
+    ends_start = (λ x. branch_off x.inside x.behind x.items x.element x.declared x.tokens_are x.means x.closes x.goes_on, branch_on)
+
+-- a tag that is not allowed
+module _ (scope : Scope) (f : Frame) (ts : List Token) (Then : Element → List Declared → List Token → Type 0) (tag : Tag) (none : (name : Name) (attributes : List Attribute) → NamesElement scope tag name attributes → ⊥) where
+  start_off : (c : Content) (behind : List Token) (items : List Item) → Start tag ∷ ts ≡ tokens_of c ++ (End (written_name f) ∷ behind) → Means scope c items → ⊥
+  start_off (Branch other inside after) behind items is m =
+      let same : other ≡ tag = cc in
+      none m.1.name m.1.attributes (subst (λ (u : Tag). NamesElement scope u m.1.name m.1.attributes) same m.6.named)
+  start_off Nothing behind items is m = cc
+  start_off (Remark after) behind items is m = cc
+  start_off (Words blank text after) behind items is m = cc
+  start_off (Verbatim text after) behind items is m = cc
+  start_off (Leaf other after) behind items is m = cc
+
+  pub start_named : Ends scope f (Start tag ∷ ts) Then → ⊥
+  start_named x = start_off x.inside x.behind x.items x.tokens_are x.means
+
+  leaf_off : (c : Content) (behind : List Token) (items : List Item) → Empty tag ∷ ts ≡ tokens_of c ++ (End (written_name f) ∷ behind) → Means scope c items → ⊥
+  leaf_off (Leaf other after) behind items is m =
+      let same : other ≡ tag = cc in
+      none m.0.name m.0.attributes (subst (λ (u : Tag). NamesElement scope u m.0.name m.0.attributes) same m.4.named)
+  leaf_off Nothing behind items is m = cc
+  leaf_off (Remark after) behind items is m = cc
+  leaf_off (Words blank text after) behind items is m = cc
+  leaf_off (Verbatim text after) behind items is m = cc
+  leaf_off (Branch other inside after) behind items is m = cc
+
+  pub empty_named : Ends scope f (Empty tag ∷ ts) Then → ⊥
+  empty_named x = leaf_off x.inside x.behind x.items x.tokens_are x.means

@@ -1,2 +1,5 @@
 pub mod Contents
 pub mod Goings
+pub mod Items
+pub mod Levels
+pub mod Stepping

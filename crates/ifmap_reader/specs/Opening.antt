@@ -1,5 +1,6 @@
 -- What a tag opens.
-use Rattle.std.specs.Prelude.{◌≡◌, ℕ, List, [], ◌∷◌, ◌++◌, map, Option, Some, None, Result, Ok, Err, Bor}
+use Rattle.std.specs.Prelude.{◌≡◌, ℕ, List, [], ◌∷◌, ◌++◌, map, Option, Some, None, Result, Ok, Err}
+use Rattle.std.proofs.Common.{Bor}
 use Rattle.std.specs.List.{AllByRecursion, filter_map}
 use Rattle.ifmap_elem.specs.Scopes.{Scope, Binding, IsBinding, AllDiffer, IsAttribute, AreAttributes, NamesElement, binding_of, bindings, bound, plain_assignments, scope_within}
 use Rattle.ifmap_elem.specs.declared.elements.Attribute.{Attribute}

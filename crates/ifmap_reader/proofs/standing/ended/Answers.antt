@@ -1,0 +1,1 @@
+use Rattle.ifmap_reader.proofs.Stepping.{end_step}
