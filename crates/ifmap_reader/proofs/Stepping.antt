@@ -1,7 +1,7 @@
 -- What one more token makes of where a reader stands.
-use Rattle.std.proofs.Common.{◌≡◌, ℕ, ◌+◌, ◌<◌, ◌≤◌, suc, Bool, true, false, max, List, [], ◌∷◌, ◌++◌, length, reverse, map, refl, ap, sym, ◌∙◌, subst, arith, ◌⊎◌, inl, inr}
+use Rattle.std.proofs.Common.{◌≡◌, ℕ, ◌+◌, ◌<◌, ◌≤◌, suc, Bool, true, false, max, List, [], ◌∷◌, ◌++◌, length, reverse, take, ◌-◌, map, refl, ap, sym, ◌∙◌, subst, arith, ◌⊎◌, inl, inr}
 use Rattle.std.specs.Prelude.{◌↔◌, Err}
-use Rattle.std.proofs.lemmas.List.{reverse-append, length-reverse}
+use Rattle.std.proofs.lemmas.List.{append-nil, reverse-append, length-reverse}
 use Rattle.ifmap_elem.specs.declared.elements.Element.{Element}
 use Rattle.ifmap_elem.specs.declared.readings.Declared.{Declared}
 use Rattle.ifmap_elem.specs.declared.readings.Reading.{Reading}
@@ -16,7 +16,7 @@ use Rattle.ifmap_reader.specs.declared.frames.Frame.{Frame}
 use Rattle.ifmap_reader.specs.Depths.{levels}
 use Rattle.ifmap_reader.specs.Frames.{Closes, scope_of, with_inner, with_words, written_name}
 use Rattle.ifmap_reader.specs.Opening.{Opened, IsOpened}
-use Rattle.ifmap_reader.specs.Progress.{Where, AtStart, Among, Behind, GoesOn, Follows, IsWords, Leads, Passes, Steps, adopted, open_in, so_deep, one_if}
+use Rattle.ifmap_reader.specs.Progress.{Where, AtStart, Among, Behind, GoesOn, Follows, IsWords, is_margin, Leads, Passes, Steps, adopted, open_in, so_deep, one_if}
 use Rattle.ifmap_reader.proofs.Goings.{inner_comment, inner_words, inner_start, inner_empty, inner_end, inner_declaration, inner_other_end, root_comment, root_blank, IsInner, no_root, root_start, root_empty, no_start, no_empty, behind_comment, behind_blank, no_behind, no_second_root, start_declaration, IsOther, start_other}
 use Rattle.ifmap_reader.proofs.Levels.{deepest, adopted_fits, adopted_deep}
 
@@ -33,12 +33,6 @@ still depth old t new follows deep count starts ends opens = record {
 pub comment_leads : (depth : ℕ) (fs : List Frame) → Leads depth (Among fs) Comment (Among fs)
 comment_leads depth [] = still depth (Among []) Comment (Among []) root_comment refl refl refl refl (λ o. o)
 comment_leads depth (f ∷ fs) = still depth (Among (f ∷ fs)) Comment (Among (f ∷ fs)) (inner_comment f fs) refl refl refl refl (λ o. o)
-
-pub behind_comment_leads : (depth : ℕ) (root : Reading) → Leads depth (Behind root) Comment (Behind root)
-behind_comment_leads depth root = still depth (Behind root) Comment (Behind root) (behind_comment root) refl refl refl refl (λ o. o)
-
-pub behind_blank_leads : (depth : ℕ) (root : Reading) (text : List ℕ) → Leads depth (Behind root) (Text true text) (Behind root)
-behind_blank_leads depth root text = still depth (Behind root) (Text true text) (Behind root) (behind_blank root text) refl refl refl refl (λ o. o)
 
 pub declaration_leads : (depth : ℕ) → Leads depth AtStart Declaration (Among [])
 declaration_leads depth = still depth AtStart Declaration (Among []) start_declaration refl refl refl refl (λ o. o)
@@ -184,15 +178,32 @@ empty_refused depth fs tag TooDeep h = absurd h
 empty_refused depth fs tag NoMemory h = tt
 
 -- behind the root
-pub behind_refused : (root : Reading) (t : Token) → (t ≡ Comment → ⊥) → ((text : List ℕ) → t ≡ Text true text → ⊥) → (ts : List Token) (r : Reading) → GoesOn (Behind root) (t ∷ ts) r → ⊥
-behind_refused root Declaration c b = no_behind root Declaration tt
-behind_refused root Comment c b = absurd (c refl)
-behind_refused root (Start tag) c b = λ ts r. (no_second_root root tag ts r).0
-behind_refused root (Empty tag) c b = λ ts r. (no_second_root root tag ts r).1
-behind_refused root (End name) c b = no_behind root (End name) tt
-behind_refused root (Section text) c b = no_behind root (Section text) tt
-behind_refused root (Text true text) c b = absurd (b text refl)
-behind_refused root (Text false text) c b = no_behind root (Text false text) refl
+pub margin_leads : (depth : ℕ) (root : Reading) (t : Token) → is_margin t ≡ true → Leads depth (Behind root) t (Behind root)
+margin_leads depth root Comment m = still depth (Behind root) Comment (Behind root) (behind_comment root) refl refl refl refl (λ o. o)
+margin_leads depth root (Text true text) m = still depth (Behind root) (Text true text) (Behind root) (behind_blank root text) refl refl refl refl (λ o. o)
+margin_leads depth root Declaration m = cc
+margin_leads depth root (Start tag) m = cc
+margin_leads depth root (Empty tag) m = cc
+margin_leads depth root (End name) m = cc
+margin_leads depth root (Section text) m = cc
+margin_leads depth root (Text false text) m = cc
+
+pub no_margin : (root : Reading) (t : Token) → is_margin t ≡ false → (ts : List Token) (r : Reading) → GoesOn (Behind root) (t ∷ ts) r → ⊥
+no_margin root Declaration m = no_behind root Declaration tt
+no_margin root Comment m = cc
+no_margin root (Start tag) m = λ ts r. (no_second_root root tag ts r).0
+no_margin root (Empty tag) m = λ ts r. (no_second_root root tag ts r).1
+no_margin root (End name) m = no_behind root (End name) tt
+no_margin root (Section text) m = no_behind root (Section text) tt
+no_margin root (Text true text) m = cc
+no_margin root (Text false text) m = no_behind root (Text false text) refl
+
+-- of the code's list after a pop that finds nothing
+pub none_left : {X : Type 0} (old new : List X) (n : ℕ) → new ≡ take (n - 1) old → n ≡ 0 → new ≡ []
+none_left old new n rest empty = rest ∙ ap (λ (m : ℕ). take (m - 1) old) empty
+
+pub none_was : {X : Type 0} (old new : List X) (n : ℕ) → old ≡ new ++ [] → new ≡ take (n - 1) old → n ≡ 0 → old ≡ []
+none_was old new n is rest empty = is ∙ append-nil new ∙ none_left old new n rest empty
 
 -- but for a declaration the start is before the root
 module _ (depth : ℕ) (t : Token) (other : IsOther t) where

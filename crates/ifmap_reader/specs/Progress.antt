@@ -8,14 +8,14 @@ use Rattle.ifmap_elem.specs.declared.elements.Element.{Element}
 use Rattle.ifmap_elem.specs.declared.readings.Declared.{Declared}
 use Rattle.ifmap_elem.specs.declared.readings.Reading.{Reading}
 use Rattle.ifmap_elem.specs.declared.tokens.Token.{Token}
-use Rattle.ifmap_elem.specs.declared.tokens.Token.TheVariants.{End, Section, Text}
+use Rattle.ifmap_elem.specs.declared.tokens.Token.TheVariants.{Declaration, Comment, Start, Empty, End, Section, Text}
 use Rattle.ifmap_reader.specs.Depths.{levels}
 use Rattle.ifmap_reader.specs.Frames.{Closes, scope_of, with_inner, written_name}
 use Rattle.ifmap_reader.specs.declared.errors.Refusal.{Refusal}
 use Rattle.ifmap_reader.specs.declared.errors.Refusal.TheVariants.{NotAllowed, TooDeep, NoMemory}
 use Rattle.ifmap_reader.specs.declared.frames.Frame.{Frame}
 use Rattle.ifmap_reader.specs.declared.standing.Standing.{Standing}
-use Rattle.ifmap_reader.specs.declared.standing.Standing.TheVariants.{Start, Open, Done}
+use Rattle.ifmap_reader.specs.declared.standing.Standing.TheVariants as standing
 
 -- where a reader stands: at the start, within some open elements, the innermost first and none before the root, or behind the root
 pub data Where : Type 0 where
@@ -24,9 +24,9 @@ pub data Where : Type 0 where
   Behind : Reading → Where
 
 abbrev pub where_is : Standing → Where
-where_is Start = AtStart
-where_is (Open frames) = Among (reverse frames)
-where_is (Done r) = Behind r
+where_is standing.Start = AtStart
+where_is (standing.Open frames) = Among (reverse frames)
+where_is (standing.Done r) = Behind r
 
 -- the tokens are the rest of an open element's content, its end tag, and what Then says of the element that ended
 pub record Ends (scope : Scope) (f : Frame) (ts : List Token) (Then : Element → List Declared → List Token → Type 0) : Type 0 where
@@ -77,6 +77,16 @@ adopted (g ∷ gs) e declared = Among (with_inner g e declared ∷ gs)
 -- a token of text that means this, with its own bytes white space alone or not
 abbrev pub IsWords : Bool → List ℕ → Token → Type 0
 IsWords blank text t = (t ≡ Text blank text) ⊎ ((blank ≡ false) × (t ≡ Section text))
+
+-- the token may stand beside the root: a comment, or white space alone in its own bytes
+abbrev pub is_margin : Token → Bool
+is_margin Declaration = false
+is_margin Comment = true
+is_margin (Start tag) = false
+is_margin (Empty tag) = false
+is_margin (End name) = false
+is_margin (Section text) = false
+is_margin (Text blank text) = blank
 
 -- how many elements are open
 abbrev pub open_in : Where → ℕ

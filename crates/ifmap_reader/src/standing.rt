@@ -1,6 +1,6 @@
 //! Where a reader stands, and what one more token makes of it.
 ghost use Rattle.std.specs.Prelude.{◌≡◌, ℕ, reverse, IfOk};
-ghost use Rattle.ifmap_reader.specs.Progress.{Among, Behind, IsWords, Steps, adopted, where_is};
+ghost use Rattle.ifmap_reader.specs.Progress.{Among, Behind, IsWords, Steps, adopted, is_margin, where_is};
 
 ghost use Rattle.ifmap_elem.specs.declared.tokens.Token.{Token};
 
@@ -43,10 +43,17 @@ pub(crate) fn step(
 fn behind_root(depth: u32, reading: Reading, token: Token) -> Result<Standing, Refusal>
     ensures { Steps depth (Behind reading) token result }
 {
-    match token {
-        Token::Comment | Token::Text(true, _) => Ok(Standing::Done(reading)),
-        _ => Err(Refusal::NotAllowed),
+    if !is_margin(&token) {
+        return Err(Refusal::NotAllowed);
     }
+    Ok(Standing::Done(reading))
+}
+
+/// Whether a token may stand beside the root.
+fn is_margin(token: &Token) -> bool
+    ensures { result ≡ is_margin token.now }
+{
+    matches!(token, Token::Comment | Token::Text(true, _))
 }
 
 fn continued(

@@ -1,8 +1,9 @@
-use Rattle.ifmap_reader.proofs.Stepping.{behind_refused, behind_comment_leads, behind_blank_leads}
+use Rattle.std.proofs.Common.{sym, ◌∙◌}
+use Rattle.ifmap_reader.proofs.Stepping.{margin_leads, no_margin}
 use Rattle.ifmap_reader.proofs.standing.behind_root.Goals as goal
 
-pub returns-in-Comment : goal.returns-in-Comment
-returns-in-Comment c = ?
+pub returns-then-not-is_margin : goal.returns-then-not-is_margin
+returns-then-not-is_margin c = no_margin c.args.reading c.args.token (sym c.is_margin.ensures ∙ c.if-not-is_margin.true)
 
-pub returns-in_default : goal.returns-in_default
-returns-in_default c = ?
+pub returns : goal.returns
+returns c = margin_leads c.args.depth c.args.reading c.args.token (sym c.is_margin.ensures ∙ c.if-not-is_margin.false)

@@ -1,1 +1,0 @@
-use Rattle.ifmap_reader.proofs.Stepping.{end_step}
