@@ -1,6 +1,9 @@
+pub mod Attributing
+pub mod Binding
 pub mod Contents
 pub mod Goings
 pub mod Items
+pub mod Lasts
 pub mod Levels
 pub mod Lookups
 pub mod Stepping

@@ -25,3 +25,8 @@ bound_outer (b ∷ bs) outer p h = elim (cases_Bool (bytes_eq b.prefix p)) [
 
 pub frame_last : (frames : List Frame) (i : ℕ) (f : Frame) → i < length frames → f ≡ get_or frames i f → reverse (take (i + 1) frames) ≡ f ∷ reverse (take i frames)
 frame_last frames i f l is = ap reverse (take_more frames i f l ∙ ap (λ (g : Frame). take i frames ++ g ∷ []) (sym is)) ∙ reverse-append (take i frames) (f ∷ [])
+
+pub frame_before : (frames : List Frame) (n : ℕ) (f : Frame) → 0 < n → n ≤ length frames → f ≡ get_or frames (n - 1) f → reverse (take n frames) ≡ f ∷ reverse (take (n - 1) frames)
+frame_before frames n f some within is =
+    let back : n - 1 + 1 ≡ n = omega arith in
+    ap (λ (m : ℕ). reverse (take m frames)) (sym back) ∙ frame_last frames (n - 1) f (omega arith) is

@@ -1,7 +1,7 @@
 -- What one more token makes of where a reader stands.
-use Rattle.std.proofs.Common.{◌≡◌, ℕ, ◌+◌, ◌<◌, ◌≤◌, suc, Bool, true, false, max, List, [], ◌∷◌, ◌++◌, length, reverse, take, ◌-◌, map, refl, ap, sym, ◌∙◌, subst, arith, ◌⊎◌, inl, inr}
+use Rattle.std.proofs.Common.{◌≡◌, ℕ, ◌+◌, ◌<◌, ◌≤◌, suc, Bool, true, false, max, List, [], ◌∷◌, ◌++◌, length, reverse, map, refl, ap, sym, ◌∙◌, subst, arith, ◌⊎◌, inl, inr}
 use Rattle.std.specs.Prelude.{◌↔◌, Err}
-use Rattle.std.proofs.lemmas.List.{append-nil, reverse-append, length-reverse}
+use Rattle.std.proofs.lemmas.List.{length-reverse}
 use Rattle.ifmap_elem.specs.declared.elements.Element.{Element}
 use Rattle.ifmap_elem.specs.declared.readings.Declared.{Declared}
 use Rattle.ifmap_elem.specs.declared.readings.Reading.{Reading}
@@ -18,6 +18,7 @@ use Rattle.ifmap_reader.specs.Frames.{Closes, scope_of, with_inner, with_words, 
 use Rattle.ifmap_reader.specs.Opening.{Opened, IsOpened}
 use Rattle.ifmap_reader.specs.Progress.{Where, AtStart, Among, Behind, GoesOn, Follows, IsWords, is_margin, Leads, Passes, Steps, adopted, open_in, so_deep, one_if}
 use Rattle.ifmap_reader.proofs.Goings.{inner_comment, inner_words, inner_start, inner_empty, inner_end, inner_declaration, inner_other_end, root_comment, root_blank, IsInner, no_root, root_start, root_empty, no_start, no_empty, behind_comment, behind_blank, no_behind, no_second_root, start_declaration, IsOther, start_other}
+use Rattle.ifmap_reader.proofs.Lasts.{last_first}
 use Rattle.ifmap_reader.proofs.Levels.{deepest, adopted_fits, adopted_deep}
 
 -- a token that opens and ends nothing
@@ -45,9 +46,6 @@ words_lead depth f fs t blank text w = elim w [
   | inr e ↦ subst (λ (u : Token). Leads depth (Among (f ∷ fs)) u (Among (with_words f text ∷ fs))) (sym e.1)
       (still depth (Among (f ∷ fs)) (Section text) (Among (with_words f text ∷ fs)) (inner_words f fs (Section text) blank text (inr (e.0, refl))) refl refl refl refl (λ o. o))
 ]
-
-last_first : {X : Type 0} (xs ys : List X) (x : X) → xs ≡ ys ++ x ∷ [] → reverse xs ≡ x ∷ reverse ys
-last_first xs ys x e = ap reverse e ∙ reverse-append ys (x ∷ [])
 
 pub words_step : (depth : ℕ) (old mid new : List Frame) (f g : Frame) (t : Token) (blank : Bool) (text : List ℕ) → IsWords blank text t → old ≡ mid ++ f ∷ [] → new ≡ mid ++ g ∷ [] → g ≡ with_words f text
     → Leads depth (Among (reverse old)) t (Among (reverse new))
@@ -197,13 +195,6 @@ no_margin root (End name) m = no_behind root (End name) tt
 no_margin root (Section text) m = no_behind root (Section text) tt
 no_margin root (Text true text) m = cc
 no_margin root (Text false text) m = no_behind root (Text false text) refl
-
--- of the code's list after a pop that finds nothing
-pub none_left : {X : Type 0} (old new : List X) (n : ℕ) → new ≡ take (n - 1) old → n ≡ 0 → new ≡ []
-none_left old new n rest empty = rest ∙ ap (λ (m : ℕ). take (m - 1) old) empty
-
-pub none_was : {X : Type 0} (old new : List X) (n : ℕ) → old ≡ new ++ [] → new ≡ take (n - 1) old → n ≡ 0 → old ≡ []
-none_was old new n is rest empty = is ∙ append-nil new ∙ none_left old new n rest empty
 
 -- but for a declaration the start is before the root
 module _ (depth : ℕ) (t : Token) (other : IsOther t) where

@@ -1,5 +1,7 @@
 //! The elements that are open.
 ghost use Rattle.std.specs.Prelude.{◌≡◌, ◌↔◌, ◌∷◌, [], ◌++◌, length, map, IfOk, IsTrue};
+ghost use Rattle.std.specs.List.{list_all};
+ghost use Rattle.ifmap_elem.specs.Chars.{is_space};
 ghost use Rattle.ifmap_elem.specs.Document.{from_above};
 ghost use Rattle.ifmap_reader.specs.Frames.{Closes, kept_text, text_behind, with_inner, with_words, written_name};
 
@@ -126,12 +128,18 @@ fn is_kept_text(beside: bool, text: &[u8]) -> bool
     ensures { result ≡ kept_text beside text.now }
 {
     if beside {
-        !text
-            .iter()
-            .all(|b| matches!(*b, b' ' | b'\t' | b'\r' | b'\n'))
+        !is_blank(text)
     } else {
         !text.is_empty()
     }
+}
+
+/// Whether a text is white space alone.
+fn is_blank(text: &[u8]) -> bool
+    ensures { result ≡ list_all is_space text.now }
+{
+    text.iter()
+        .all(|b| *b == b' ' || *b == b'\t' || *b == b'\r' || *b == b'\n')
 }
 
 fn with_child(children: Many<Child>, child: Child) -> Result<Many<Child>, NoMemory>

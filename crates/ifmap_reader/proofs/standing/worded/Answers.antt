@@ -1,5 +1,6 @@
 use Rattle.std.proofs.Common.{sym, ◌∙◌}
-use Rattle.ifmap_reader.proofs.Stepping.{words_step, blank_step, words_refused, none_left, none_was}
+use Rattle.ifmap_reader.proofs.Lasts.{none_left, none_was}
+use Rattle.ifmap_reader.proofs.Stepping.{words_step, blank_step, words_refused}
 use Rattle.ifmap_reader.proofs.standing.worded.Goals as goal
 
 pub returns-then-blank : goal.returns-then-blank

@@ -1,0 +1,1 @@
+use Rattle.ifmap_reader.proofs.bindings.Bindings.with_assignment.Goals as goal
