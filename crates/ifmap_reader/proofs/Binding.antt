@@ -1,6 +1,6 @@
 -- The bindings that assignments make, one assignment at a time.
-use Rattle.std.proofs.Common.{◌≡◌, ◌≢◌, ℕ, Bool, true, false, cond, List, [], ◌∷◌, ◌++◌, map, refl, ap, sym, ◌∙◌, subst, append_assoc, inl, inr}
-use Rattle.std.specs.Prelude.{Some, None, Ok, Err, Option}
+use Rattle.std.proofs.Common.{◌≡◌, ◌≢◌, ℕ, ◌+◌, ◌<◌, Bool, true, false, not, cond, drop, length, get_or, drop-cons, add-one, List, [], ◌∷◌, ◌++◌, map, refl, ap, sym, ◌∙◌, subst, append_assoc, inl, inr}
+use Rattle.std.specs.Prelude.{Some, None, Ok, Err, Option, ◌↔◌, IsTrue, codes}
 use Rattle.std.specs.List.{AllByRecursion, filter_map}
 use Rattle.std.specs.Ordering.{nat_cmp, is_eq}
 use Rattle.std.specs.Cmp.Lexicographic.{slice_cmp, texts_ties}
@@ -10,7 +10,7 @@ use Rattle.std.proofs.lemmas.List.{append-nil, map-append}
 use Rattle.ifmap_elem.specs.declared.readings.Declared.{Declared}
 use Rattle.ifmap_elem.specs.declared.tokens.Assignment.{Assignment}
 use Rattle.ifmap_elem.specs.Document.{declared_here}
-use Rattle.ifmap_elem.specs.Scopes.{Binding, IsBinding, AllDiffer, binding_of, bound}
+use Rattle.ifmap_elem.specs.Scopes.{Binding, IsBinding, AllDiffer, binding_of, bound, xml_space, xmlns_space}
 use Rattle.ifmap_elem.proofs.NamespaceLaws.{eq_tells, eq_itself}
 use Rattle.ifmap_reader.specs.declared.errors.Refusal.{Refusal}
 use Rattle.ifmap_reader.specs.declared.errors.Refusal.TheVariants.{NotAllowed, TooDeep, NoMemory}
@@ -130,3 +130,53 @@ binding_first assignments made none = record { whole = ap (λ bs. bs ++ Made ass
 
 pub binding_done : (all made : List Binding) (left : List Assignment) → left ≡ [] → Binding-so-far all made left → (made ≡ all) × MayBind made
 binding_done all made left none at = (sym (at.whole ∙ ap (λ (ls : List Assignment). made ++ Made ls) none ∙ append-nil made), at.may)
+
+-- of the code's list, at an index
+pub at_item : (all made : List Binding) (assignments : List Assignment) (i : ℕ) (a : Assignment) → i < length assignments → a ≡ get_or assignments i a → Binding-so-far all made (drop i assignments)
+    → Binding-so-far all made (a ∷ drop (i + 1) assignments)
+at_item all made assignments i a l is at =
+    subst (λ (as' : List Assignment). Binding-so-far all made as')
+    (drop-cons assignments i a l ∙ ap (λ (n : ℕ). get_or assignments i a ∷ drop n assignments) (sym (add-one i)) ∙ ap (λ (b : Assignment). b ∷ drop (i + 1) assignments) (sym is)) at
+
+-- whether a binding may be made, by tests in turn
+module _ (p s : List ℕ) where
+  pub not_xmlns : (b : Bool) → (IsTrue b ↔ (p ≡ codes "xmlns")) → b ≡ true → IsBinding (record { prefix = p; space = s }) → ⊥
+  not_xmlns b t e h = h.no_xmlns (t.0 e)
+
+  pub not_xmlns_space : (b : Bool) → (IsTrue b ↔ (s ≡ xmlns_space)) → b ≡ true → IsBinding (record { prefix = p; space = s }) → ⊥
+  not_xmlns_space b t e h = h.no_xmlns_space (t.0 e)
+
+  false_not : (P : Type 0) (b : Bool) → (IsTrue b ↔ P) → b ≡ false → P → ⊥
+  false_not P b t e h = let k : b ≡ true = t.1 h in cc
+
+  module _ (b c : Bool) (t : IsTrue b ↔ (p ≡ codes "xmlns")) (u : IsTrue c ↔ (s ≡ xmlns_space)) (e : b ≡ false) (f : c ≡ false) where
+    pub xml_binds : (d x : Bool) → (IsTrue d ↔ (p ≡ codes "xml")) → d ≡ true → (IsTrue x ↔ (s ≡ xml_space)) → IsTrue x ↔ IsBinding (record { prefix = p; space = s })
+    xml_binds d x v is w = (
+      λ h. record {
+        no_xmlns = false_not (p ≡ codes "xmlns") b t e;
+        no_xmlns_space = false_not (s ≡ xmlns_space) c u f;
+        xml_alone = (λ _. w.0 h, λ _. v.0 is);
+        some_space = λ _ none. let k : xml_space ≡ [] = sym (w.0 h) ∙ none in cc;
+      },
+      λ h. w.1 (h.xml_alone.0 (v.0 is)),
+    )
+
+    module _ (d : Bool) (v : IsTrue d ↔ (p ≡ codes "xml")) (g : d ≡ false) where
+      pub not_xml_space : (x : Bool) → (IsTrue x ↔ (s ≡ xml_space)) → x ≡ true → IsBinding (record { prefix = p; space = s }) → ⊥
+      not_xml_space x w is h = false_not (p ≡ codes "xml") d v g (h.xml_alone.1 (w.0 is))
+
+      module _ (x : Bool) (w : IsTrue x ↔ (s ≡ xml_space)) (k : x ≡ false) where
+        binds_where : (p ≢ [] → s ≢ []) → IsBinding (record { prefix = p; space = s })
+        binds_where some = record {
+          no_xmlns = false_not (p ≡ codes "xmlns") b t e;
+          no_xmlns_space = false_not (s ≡ xmlns_space) c u f;
+          xml_alone = (λ q. absurd (false_not (p ≡ codes "xml") d v g q), λ q. absurd (false_not (s ≡ xml_space) x w k q));
+          some_space = some;
+        }
+
+        pub default_binds : (y : Bool) → (IsTrue y ↔ (p ≡ [])) → y ≡ true → IsBinding (record { prefix = p; space = s })
+        default_binds y m is = binds_where (λ some. absurd (some (m.0 is)))
+
+        pub prefix_binds : (y z : Bool) → (IsTrue y ↔ (p ≡ [])) → y ≡ false → (IsTrue z ↔ (s ≡ [])) → IsTrue (not z) ↔ IsBinding (record { prefix = p; space = s })
+        prefix_binds y true m is o = (λ h. let k : false ≡ true = h in cc, λ h. absurd (h.some_space (false_not (p ≡ []) y m is) (o.0 refl)))
+        prefix_binds y false m is o = (λ _. binds_where (λ _ none. let k : false ≡ true = o.1 none in cc), λ _. refl)

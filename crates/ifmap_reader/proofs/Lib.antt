@@ -1,6 +1,7 @@
 pub mod Attributing
 pub mod Binding
 pub mod Contents
+pub mod Differing
 pub mod Goings
 pub mod Items
 pub mod Lasts

@@ -93,7 +93,7 @@ impl Bindings {
             return Ok(self);
         };
         let space = &assignment.value;
-        if !may_bind(prefix.as_bytes(), space.0.as_bytes()) {
+        if !may_bind(prefix, space.0.as_str()) {
             return Err(Refusal::NotAllowed);
         }
         let prefix = Text(String::from_str(alloc, prefix)?);
@@ -120,13 +120,31 @@ pub(crate) fn bound_prefix(assignment: &Assignment) -> Option<&str>
     None
 }
 
-fn may_bind(prefix: &[u8], space: &[u8]) -> bool
+fn may_bind(prefix: &str, space: &str) -> bool
     ensures { IsTrue result ↔ IsBinding (record { prefix = prefix.now; space = space.now }) }
 {
-    prefix != XMLNS.as_bytes()
-        && space != XMLNS_SPACE.as_bytes()
-        && (prefix == XML.as_bytes()) == (space == XML_SPACE.as_bytes())
-        && (prefix.is_empty() || !space.is_empty())
+    if is_word(prefix, XMLNS) {
+        return false;
+    }
+    if is_word(space, XMLNS_SPACE) {
+        return false;
+    }
+    if is_word(prefix, XML) {
+        return is_word(space, XML_SPACE);
+    }
+    if is_word(space, XML_SPACE) {
+        return false;
+    }
+    if is_word(prefix, "") {
+        return true;
+    }
+    !is_word(space, "")
+}
+
+fn is_word(text: &str, word: &str) -> bool
+    ensures { IsTrue result ↔ (text.now ≡ word.now) }
+{
+    text == word
 }
 
 /// The bindings that the assignments of a tag make.

@@ -1,1 +1,0 @@
-use Rattle.ifmap_reader.proofs.bindings.Bindings.with_assignment.Goals as goal
