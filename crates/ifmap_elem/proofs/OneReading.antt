@@ -94,7 +94,7 @@ one_attribute scope a t u l m =
     let value = l.value_is ∙ sym m.value_is in
     λ i. record { name = record { space = space i; local = local i }; value = value i }
 
-one_list_of_attributes : (scope : Scope) (as' : List Assignment) (ts us : List Attribute) → AreAttributes scope as' ts → AreAttributes scope as' us → ts ≡ us
+pub one_list_of_attributes : (scope : Scope) (as' : List Assignment) (ts us : List Attribute) → AreAttributes scope as' ts → AreAttributes scope as' us → ts ≡ us
 one_list_of_attributes scope [] [] [] l m = refl
 one_list_of_attributes scope [] (t ∷ ts) us l m = absurd l
 one_list_of_attributes scope [] [] (u ∷ us) l m = absurd m

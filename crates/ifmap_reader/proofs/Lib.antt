@@ -1,10 +1,10 @@
 pub mod Attributing
 pub mod Binding
 pub mod Contents
-pub mod Differing
 pub mod Goings
 pub mod Items
 pub mod Lasts
 pub mod Levels
 pub mod Lookups
+pub mod NameLaws
 pub mod Stepping

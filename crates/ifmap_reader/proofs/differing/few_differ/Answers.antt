@@ -1,11 +1,12 @@
-use Rattle.ifmap_reader.proofs.Differing.{onwards_next, onwards_not, onwards_all}
+use Rattle.std.proofs.Common.{refl}
+use Rattle.ifmap_reader.proofs.NameLaws.{onwards_next, onwards_not, onwards_all}
 use Rattle.ifmap_reader.proofs.differing.few_differ.Goals as goal
 
 pub returns-then-has_name : goal.returns-then-has_name
-returns-then-has_name c = ?
+returns-then-has_name c = (λ h. cc, λ all. absurd (onwards_not c.args.attributes.now c.loop-i.i c.index-attributes-i.result c.loop-i-test.true (c.if-has_name.ensures.found refl) c.loop-i.invariant all))
 
 pub loop-i-preserved : goal.loop-i-preserved
-loop-i-preserved c = ?
+loop-i-preserved c = onwards_next c.args.attributes.now c.loop-i.i c.index-attributes-i.result c.loop-i-test.true (c.if-has_name.ensures.none refl) c.loop-i.invariant
 
 pub returns : goal.returns
-returns c = ?
+returns c = (λ h. onwards_all c.args.attributes.now c.loop-i.i c.loop-i-test.false c.loop-i.invariant, λ all. refl)

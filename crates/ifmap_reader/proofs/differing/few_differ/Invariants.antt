@@ -1,4 +1,4 @@
-use Rattle.ifmap_reader.proofs.Differing.{Onwards}
+use Rattle.ifmap_reader.proofs.NameLaws.{Onwards}
 use Rattle.ifmap_reader.proofs.differing.few_differ.Given as goal
 
 abbrev pub invariant-loop-i : goal.invariant-loop-i

@@ -1,5 +1,5 @@
 use Rattle.std.proofs.Common.{take}
-use Rattle.ifmap_reader.proofs.Differing.{Lacks}
+use Rattle.ifmap_reader.proofs.NameLaws.{Lacks}
 use Rattle.ifmap_reader.proofs.differing.has_name.Given as goal
 
 abbrev pub invariant-loop-attribute : goal.invariant-loop-attribute

@@ -1,11 +1,14 @@
 -- Whether the names of some attributes differ, one attribute at a time.
 use Rattle.std.proofs.Common.{◌≡◌, ◌≢◌, ℕ, ◌+◌, ◌<◌, ◌≤◌, zero, suc, Bool, true, false, List, [], ◌∷◌, ◌++◌, map, take, drop, length, get_or, drop-cons, add-one, refl, ap, sym, ◌∙◌, subst, arith}
-use Rattle.std.specs.Prelude.{◌↔◌, IsTrue}
-use Rattle.std.specs.List.{AllByRecursion}
+use Rattle.std.specs.Prelude.{◌↔◌, IsTrue, filter, is_none}
+use Rattle.std.specs.List.{AllByRecursion, filter_map}
 use Rattle.std.proofs.lemmas.List.{take_more, take_all, map-append}
 use Rattle.ifmap_elem.specs.declared.elements.Attribute.{Attribute}
 use Rattle.ifmap_elem.specs.declared.elements.Name.{Name}
-use Rattle.ifmap_elem.specs.Scopes.{AllDiffer}
+use Rattle.ifmap_elem.specs.declared.tokens.Assignment.{Assignment}
+use Rattle.ifmap_elem.specs.declared.tokens.Tag.{Tag}
+use Rattle.ifmap_elem.specs.Scopes.{Scope, Binding, AllDiffer, AreAttributes, NamesElement, binding_of, bindings}
+use Rattle.ifmap_elem.proofs.OneReading.{one_list_of_attributes}
 
 abbrev pub names : List Attribute → List Name
 names ts = map (λ t. t.name) ts
@@ -48,14 +51,25 @@ onwards_next ts i d l h at = (
 pub onwards_not : (ts : List Attribute) (i : ℕ) (d : Attribute) → i < length ts → (Lacks (get_or ts i d).name (drop (i + 1) ts) → ⊥) → Onwards ts i → AllDiffer (names ts) → ⊥
 onwards_not ts i d l h at a = h (subst (λ (us : List Attribute). AllDiffer (names us)) (dropped ts i d l) (at.0 a)).0
 
+drop_none : (i : ℕ) → drop {A = Attribute} i [] ≡ []
+drop_none zero = refl
+drop_none (suc i) = refl
+
 onwards_end : (ts : List Attribute) (i : ℕ) → length ts ≤ i → AllDiffer (names (drop i ts))
 onwards_end [] i l = subst (λ (us : List Attribute). AllDiffer (names us)) (sym (drop_none i)) tt
-  where
-    drop_none : (i : ℕ) → drop i [] ≡ []
-    drop_none zero = refl
-    drop_none (suc i) = refl
 onwards_end (t ∷ ts) zero l = absurd (omega arith)
 onwards_end (t ∷ ts) (suc i) l = onwards_end ts i (omega arith)
 
 pub onwards_all : (ts : List Attribute) (i : ℕ) → length ts ≤ i → Onwards ts i → AllDiffer (names ts)
 onwards_all ts i l at = at.1 (onwards_end ts i l)
+
+-- where some names are one, the tag is not allowed
+pub no_names : (outer : Scope) (tag : Tag) (bs : List Binding) (given : List Assignment) (made shown : List Attribute) (differ : Bool) → bs ≡ filter_map binding_of given → given ≡ tag.assignments
+    → AreAttributes (bs ++ outer) (filter (λ a. is_none (binding_of a)) tag.assignments) made → shown ≡ made → (IsTrue differ ↔ AllDiffer (names shown)) → differ ≡ false
+    → (name : Name) (attributes : List Attribute) → NamesElement outer tag name attributes → ⊥
+no_names outer tag bs given made shown differ bound is are same tells no name attributes h =
+    let scope : bs ++ outer ≡ bindings tag ++ outer = ap (λ xs. xs ++ outer) (bound ∙ ap (filter_map binding_of) is) in
+    let one : attributes ≡ made = one_list_of_attributes (bindings tag ++ outer) (filter (λ a. is_none (binding_of a)) tag.assignments) attributes made h.attributes_are
+        (subst (λ (s : Scope). AreAttributes s (filter (λ a. is_none (binding_of a)) tag.assignments) made) scope are) in
+    let k : differ ≡ true = tells.1 (subst (λ (ts : List Attribute). AllDiffer (names ts)) (one ∙ sym same) h.names_differ) in
+    cc
