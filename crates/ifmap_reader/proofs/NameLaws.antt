@@ -1,5 +1,5 @@
 -- Whether the names of some attributes differ, one attribute at a time.
-use Rattle.std.proofs.Common.{◌≡◌, ◌≢◌, ℕ, ◌+◌, ◌<◌, ◌≤◌, zero, suc, Bool, true, false, List, [], ◌∷◌, ◌++◌, map, take, drop, length, get_or, drop-cons, add-one, refl, ap, sym, ◌∙◌, subst, arith}
+use Rattle.std.proofs.Common.{◌≡◌, ◌≢◌, ℕ, ◌+◌, ◌<◌, ◌≤◌, ◌-◌, zero, suc, Bool, true, false, List, [], ◌∷◌, ◌++◌, map, take, drop, length, get_or, length-drop, drop-cons, add-one, refl, ap, sym, ◌∙◌, subst, arith}
 use Rattle.std.specs.Prelude.{◌↔◌, IsTrue, filter, is_none}
 use Rattle.std.specs.List.{AllByRecursion, filter_map}
 use Rattle.std.proofs.lemmas.List.{take_more, take_all, map-append}
@@ -63,11 +63,15 @@ onwards_end (t ∷ ts) (suc i) l = onwards_end ts i (omega arith)
 pub onwards_all : (ts : List Attribute) (i : ℕ) → length ts ≤ i → Onwards ts i → AllDiffer (names ts)
 onwards_all ts i l at = at.1 (onwards_end ts i l)
 
+-- the slice behind an index
+pub behind_is : (ts : List Attribute) (n : ℕ) → take (length ts - n) (drop n ts) ≡ drop n ts
+behind_is ts n = take_all (length ts - n) (drop n ts) (omega (arith, length-drop n ts))
+
 -- where some names are one, the tag is not allowed
 pub no_names : (outer : Scope) (tag : Tag) (bs : List Binding) (given : List Assignment) (made shown : List Attribute) (differ : Bool) → bs ≡ filter_map binding_of given → given ≡ tag.assignments
     → AreAttributes (bs ++ outer) (filter (λ a. is_none (binding_of a)) tag.assignments) made → shown ≡ made → (IsTrue differ ↔ AllDiffer (names shown)) → differ ≡ false
     → (name : Name) (attributes : List Attribute) → NamesElement outer tag name attributes → ⊥
-no_names outer tag bs given made shown differ bound is are same tells no name attributes h =
+no_names outer tag bs given made shown differ bound is are same tells fails name attributes h =
     let scope : bs ++ outer ≡ bindings tag ++ outer = ap (λ xs. xs ++ outer) (bound ∙ ap (filter_map binding_of) is) in
     let one : attributes ≡ made = one_list_of_attributes (bindings tag ++ outer) (filter (λ a. is_none (binding_of a)) tag.assignments) attributes made h.attributes_are
         (subst (λ (s : Scope). AreAttributes s (filter (λ a. is_none (binding_of a)) tag.assignments) made) scope are) in

@@ -1,6 +1,6 @@
 -- What one more token makes of where a reader stands.
 use Rattle.std.proofs.Common.{◌≡◌, ℕ, ◌+◌, ◌<◌, ◌≤◌, suc, Bool, true, false, max, List, [], ◌∷◌, ◌++◌, length, reverse, map, refl, ap, sym, ◌∙◌, subst, arith, ◌⊎◌, inl, inr}
-use Rattle.std.specs.Prelude.{◌↔◌, Err}
+use Rattle.std.specs.Prelude.{◌↔◌, Ok, Err, Result}
 use Rattle.std.proofs.lemmas.List.{length-reverse}
 use Rattle.ifmap_elem.specs.declared.elements.Element.{Element}
 use Rattle.ifmap_elem.specs.declared.readings.Declared.{Declared}
@@ -13,10 +13,11 @@ use Rattle.ifmap_elem.specs.Places.{is_start, is_end, Opens}
 use Rattle.ifmap_reader.specs.declared.errors.Refusal.{Refusal}
 use Rattle.ifmap_reader.specs.declared.errors.Refusal.TheVariants.{NotAllowed, TooDeep, NoMemory}
 use Rattle.ifmap_reader.specs.declared.frames.Frame.{Frame}
+use Rattle.ifmap_reader.specs.declared.standing.Standing.{Standing}
 use Rattle.ifmap_reader.specs.Depths.{levels}
 use Rattle.ifmap_reader.specs.Frames.{Closes, scope_of, with_inner, with_words, written_name}
 use Rattle.ifmap_reader.specs.Opening.{Opened, IsOpened}
-use Rattle.ifmap_reader.specs.Progress.{Where, AtStart, Among, Behind, GoesOn, Follows, IsWords, is_margin, Leads, Passes, Steps, adopted, open_in, so_deep, one_if}
+use Rattle.ifmap_reader.specs.Progress.{Where, AtStart, Among, Behind, GoesOn, Follows, IsWords, is_margin, Leads, Passes, Steps, adopted, open_in, so_deep, one_if, where_is}
 use Rattle.ifmap_reader.proofs.Goings.{inner_comment, inner_words, inner_start, inner_empty, inner_end, inner_declaration, inner_other_end, root_comment, root_blank, IsInner, no_root, root_start, root_empty, no_start, no_empty, behind_comment, behind_blank, no_behind, no_second_root, start_declaration, IsOther, start_other}
 use Rattle.ifmap_reader.proofs.Lasts.{last_first}
 use Rattle.ifmap_reader.proofs.Levels.{deepest, adopted_fits, adopted_deep}
@@ -205,3 +206,21 @@ module _ (depth : ℕ) (t : Token) (other : IsOther t) where
     counts = l.counts;
     within = l.within;
   }
+
+  start_steps : (result : Result Standing Refusal) → Steps depth (Among []) t result → Steps depth AtStart t result
+  start_steps (Ok new) h = from_start (where_is new) h
+  start_steps (Err NotAllowed) h = λ ts r x. h ts r ((start_other t other ts r).0 x)
+  start_steps (Err TooDeep) h = record {
+    opens = h.opens; level_is = h.level_is; new = h.new; deeper = h.deeper;
+    follows = λ ts r. let e = start_other t other ts r in let k = h.follows ts r in (λ x. k.0 (e.0 x), λ x. e.1 (k.1 x));
+  }
+  start_steps (Err NoMemory) h = tt
+
+  pub steps_at_start : (s : Where) (fs : List Frame) (result : Result Standing Refusal) → s ≡ AtStart → fs ≡ [] → Steps depth (Among (reverse fs)) t result → Steps depth s t result
+  steps_at_start s fs result is none h =
+      subst (λ (w : Where). Steps depth w t result) (sym is) (start_steps result (subst (λ (gs : List Frame). Steps depth (Among (reverse gs)) t result) none h))
+
+pub declaration_at_start : (depth : ℕ) (s : Where) (t : Token) (new : List Frame) → s ≡ AtStart → t ≡ Declaration → new ≡ [] → Leads depth s t (Among (reverse new))
+declaration_at_start depth s t new is same none =
+    subst (λ (w : Where). Leads depth w t (Among (reverse new))) (sym is) (subst (λ (u : Token). Leads depth AtStart u (Among (reverse new))) (sym same)
+    (subst (λ (fs : List Frame). Leads depth AtStart Declaration (Among (reverse fs))) (sym none) (declaration_leads depth)))

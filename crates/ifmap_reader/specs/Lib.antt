@@ -2,4 +2,5 @@ pub mod Depths
 pub mod Frames
 pub mod Opening
 pub mod Progress
+pub mod Reads
 pub mod Rows
