@@ -249,3 +249,31 @@ start_other t other ts r = (
   λ x. other_off t other x.declared x.content ts r x.tokens_are x.rooted,
   λ x. record { declared = false; content = x.content; tokens_are = x.tokens_are; rooted = x.rooted },
 )
+
+-- without a token nothing goes on but behind the root
+empty_root : (c : Content) (r : Reading) → [] ≡ tokens_of c → IsRoot c r → ⊥
+empty_root Nothing r is h = h
+empty_root (Remark after) r is h = cc
+empty_root (Words blank text after) r is h = cc
+empty_root (Verbatim text after) r is h = h
+empty_root (Leaf tag after) r is h = cc
+empty_root (Branch tag inside after) r is h = cc
+
+empty_document : (declared : Bool) (c : Content) (r : Reading) → [] ≡ heading declared ++ tokens_of c → IsRoot c r → ⊥
+empty_document true c r is h = cc
+empty_document false c r is h = empty_root c r is h
+
+pub no_tokens_start : (r : Reading) → GoesOn AtStart [] r → ⊥
+no_tokens_start r x = empty_document x.declared x.content r x.tokens_are x.rooted
+
+some_tokens : (ts us : List Token) (t : Token) → [] ≡ ts ++ (t ∷ us) → ⊥
+some_tokens [] us t e = cc
+some_tokens (x ∷ xs) us t e = cc
+
+pub no_tokens : (fs : List Frame) (r : Reading) → GoesOn (Among fs) [] r → ⊥
+no_tokens [] r x = empty_root x.content r x.tokens_are x.rooted
+no_tokens (f ∷ []) r x = some_tokens (tokens_of x.inside) x.behind (End (written_name f)) x.tokens_are
+no_tokens (f ∷ (g ∷ gs)) r x = some_tokens (tokens_of x.inside) x.behind (End (written_name f)) x.tokens_are
+
+pub behind_ends : (root : Reading) → GoesOn (Behind root) [] root
+behind_ends root = record { after = Nothing; tokens_are = refl; margin = tt; same = refl }

@@ -7,4 +7,6 @@ pub mod Lasts
 pub mod Levels
 pub mod Lookups
 pub mod NameLaws
+pub mod Progressing
 pub mod Stepping
+pub mod Ways

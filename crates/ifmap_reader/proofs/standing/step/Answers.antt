@@ -8,4 +8,4 @@ returns-in-Declaration c = declaration_at_start c.args.depth (where_is c.args.st
 
 pub returns-in_default : goal.returns-in_default
 returns-in_default c =
-    steps_at_start c.args.depth c.args.token ? (where_is c.args.standing) ? c.continued.result (ap where_is c.in-Start.is) ? c.continued.ensures
+    steps_at_start c.args.depth c.args.token c.in_default.not-Declaration (where_is c.args.standing) c.new-in_default.result.items c.continued.result (ap where_is c.in-Start.is) c.new-in_default.ensures.items c.continued.ensures
