@@ -1,3 +1,4 @@
+pub mod Answering
 pub mod Attributing
 pub mod Binding
 pub mod Contents

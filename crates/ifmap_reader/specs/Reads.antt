@@ -1,5 +1,6 @@
 -- When which answer of a reading comes.
 use Rattle.std.specs.Prelude.{◌≡◌, ℕ, ◌<◌, ◌≤◌, List, length, Result, Ok, Err}
+use Rattle.ifmap_elem.specs.declared.elements.Element.{Element}
 use Rattle.ifmap_elem.specs.declared.readings.Reading.{Reading}
 use Rattle.ifmap_elem.specs.Nesting.{nesting}
 use Rattle.ifmap_elem.specs.Places.{Deep, Stop}
@@ -26,6 +27,13 @@ OnTooDeep (Ok r) P = Unit {0}
 OnTooDeep (Err (Unreadable at)) P = Unit {0}
 OnTooDeep (Err (TooDeep at)) P = P at
 OnTooDeep (Err NoMemory) P = Unit {0}
+
+-- an element like this is the root, or memory ran out
+abbrev pub GivesRoot : Result Reading ReadError → Element → Type 0
+GivesRoot (Ok r) e = r.root ≡ e
+GivesRoot (Err (Unreadable at)) e = ⊥
+GivesRoot (Err (TooDeep at)) e = ⊥
+GivesRoot (Err NoMemory) e = Unit {0}
 
 -- no element is spelled, and this is where the bytes stop to be the beginning of a document
 pub record IsUnreadable (bytes : List ℕ) (at : ℕ) : Type 0 where

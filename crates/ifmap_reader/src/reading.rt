@@ -1,10 +1,14 @@
 //! Reading a document.
 ghost use Rattle.std.specs.Prelude.{◌≡◌, ◌<◌, ◌≤◌, ℕ, drop, length, IfOk};
+ghost use Rattle.ifmap_elem.specs.declared.elements.Element.{Element};
 ghost use Rattle.ifmap_elem.specs.declared.readings.Reading.{Reading};
+ghost use Rattle.ifmap_elem.specs.Arranged.{arranged};
+ghost use Rattle.ifmap_elem.specs.Canonical.{AreHeld, canonical_bytes};
+ghost use Rattle.ifmap_elem.specs.Fit.{IsFit};
 ghost use Rattle.ifmap_elem.specs.Nesting.{nesting};
 ghost use Rattle.ifmap_elem.specs.Places.{Deep, Stop};
 ghost use Rattle.ifmap_elem.specs.Spells.{Spells, without_mark};
-ghost use Rattle.ifmap_reader.specs.Reads.{IsRead, OnTooDeep, OnUnreadable, lex_error, read_at_end, step_error};
+ghost use Rattle.ifmap_reader.specs.Reads.{GivesRoot, IsRead, OnTooDeep, OnUnreadable, lex_error, read_at_end, step_error};
 
 use crate::errors::{ReadError, Refusal};
 use crate::standing::{Standing, step};
@@ -22,8 +26,9 @@ pub fn read(alloc: Global, bytes: &[u8], depth: u32) -> Result<Reading, ReadErro
     ensures too_deep { OnTooDeep result (λ at. (r : Reading) → Spells bytes.now r → depth < nesting r.root) }
     ensures stop { OnUnreadable result (λ at. Stop bytes.now at) }
     ensures deep { OnTooDeep result (λ at. Deep bytes.now depth at) }
-    ensures within_unreadable { OnUnreadable result (λ at. at ≤ length bytes.now) }
-    ensures within_too_deep { OnTooDeep result (λ at. at ≤ length bytes.now) }
+    ensures unreadable_within { OnUnreadable result (λ at. at ≤ length bytes.now) }
+    ensures too_deep_within { OnTooDeep result (λ at. at ≤ length bytes.now) }
+    ensures canonical { (element : Element) → IsFit element → nesting element ≤ depth → bytes.now ≡ canonical_bytes element → AreHeld bytes.now → GivesRoot result (arranged element) }
 {
     tokens_read(alloc, bytes, depth)
 }
