@@ -86,7 +86,7 @@ one_content c d r s h k e = cc
 
 -- a tag names one element
 
-one_attribute : (scope : Scope) (a : Assignment) (t u : Attribute) → IsAttribute scope a t → IsAttribute scope a u → t ≡ u
+pub one_attribute : (scope : Scope) (a : Assignment) (t u : Attribute) → IsAttribute scope a t → IsAttribute scope a u → t ≡ u
 one_attribute scope a t u l m =
     let found : Some t.name.space ≡ Some u.name.space = sym l.space_is ∙ m.space_is in
     let space : t.name.space ≡ u.name.space = cc in
@@ -94,7 +94,7 @@ one_attribute scope a t u l m =
     let value = l.value_is ∙ sym m.value_is in
     λ i. record { name = record { space = space i; local = local i }; value = value i }
 
-one_list_of_attributes : (scope : Scope) (as' : List Assignment) (ts us : List Attribute) → AreAttributes scope as' ts → AreAttributes scope as' us → ts ≡ us
+pub one_list_of_attributes : (scope : Scope) (as' : List Assignment) (ts us : List Attribute) → AreAttributes scope as' ts → AreAttributes scope as' us → ts ≡ us
 one_list_of_attributes scope [] [] [] l m = refl
 one_list_of_attributes scope [] (t ∷ ts) us l m = absurd l
 one_list_of_attributes scope [] [] (u ∷ us) l m = absurd m
@@ -105,7 +105,7 @@ one_list_of_attributes scope (a ∷ as') (t ∷ ts) (u ∷ us) l m =
     let tail : ts ≡ us = one_list_of_attributes scope as' ts us l.1 m.1 in
     cc
 
-one_name : (outer : Scope) (tag : Tag) (n o : Name) (as' bs : List Attribute) → NamesElement outer tag n as' → NamesElement outer tag o bs → (n ≡ o) × (as' ≡ bs)
+pub one_name : (outer : Scope) (tag : Tag) (n o : Name) (as' bs : List Attribute) → NamesElement outer tag n as' → NamesElement outer tag o bs → (n ≡ o) × (as' ≡ bs)
 one_name outer tag n o as' bs l m =
     let found : Some n.space ≡ Some o.space = sym l.space_is ∙ m.space_is in
     let space : n.space ≡ o.space = cc in

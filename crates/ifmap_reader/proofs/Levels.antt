@@ -1,0 +1,97 @@
+-- How deep the elements nest that a reader has read, and those that it can go on to.
+use Rattle.std.proofs.Common.{◌≡◌, ℕ, ◌+◌, ◌<◌, ◌≤◌, suc, Bool, true, false, cond, ◌||◌, max, List, [], ◌∷◌, ◌++◌, length, map, refl, ap, sym, ◌∙◌, subst, arith}
+use Rattle.std.proofs.lemmas.List.{map-append}
+use Rattle.ifmap_elem.specs.declared.elements.Child.{Child}
+use Rattle.ifmap_elem.specs.declared.elements.Child as the
+use Rattle.ifmap_elem.specs.declared.elements.Element.{Element}
+use Rattle.ifmap_elem.specs.declared.readings.Declared.{Declared}
+use Rattle.ifmap_elem.specs.declared.readings.Reading.{Reading}
+use Rattle.ifmap_elem.specs.declared.tokens.Token.{Token}
+use Rattle.ifmap_elem.specs.Document.{Item, Run, is_kept, child_of}
+use Rattle.ifmap_elem.specs.Folds.{at_element, at_child_element, at_child_text}
+use Rattle.ifmap_elem.specs.Nesting.{greatest, nesting, child_nesting, child_levels, element_levels}
+use Rattle.ifmap_reader.specs.declared.frames.Frame.{Frame}
+use Rattle.ifmap_reader.specs.Depths.{levels}
+use Rattle.ifmap_reader.specs.Frames.{Closes, has_children, kept_behind, kept_text, text_behind, with_inner}
+use Rattle.ifmap_reader.specs.Progress.{Where, AtStart, Among, Behind, Ends, EndsDocument, Closing, GoesOn, adopted, so_deep}
+
+-- the greatest nesting of some children
+abbrev pub deepest : List Child → ℕ
+deepest cs = greatest (map child_nesting cs)
+
+greatest_append : (ms ns : List ℕ) → greatest (ms ++ ns) ≡ max (greatest ms) (greatest ns)
+greatest_append [] ns = omega arith
+greatest_append (m ∷ ms) ns = let h = greatest_append ms ns in omega (arith, h)
+
+deepest_append : (cs ds : List Child) → deepest (cs ++ ds) ≡ max (deepest cs) (deepest ds)
+deepest_append cs ds = ap greatest (map-append child_nesting cs ds) ∙ greatest_append (map child_nesting cs) (map child_nesting ds)
+
+nesting_is : (e : Element) → nesting e ≡ suc (deepest e.children)
+nesting_is e = at_element ℕ ℕ child_levels element_levels e
+
+element_nests : (e : Element) → child_nesting (the.Element e) ≡ nesting e
+element_nests e = at_child_element ℕ ℕ child_levels element_levels e
+
+text_nests : (t : List ℕ) → child_nesting (the.Text t) ≡ 0
+text_nests t = at_child_text ℕ ℕ child_levels element_levels t
+
+one_text : (b : Bool) (t : List ℕ) → deepest (map child_of (cond b (Run t ∷ []) [])) ≡ 0
+one_text true t = let h = text_nests t in omega (arith, h)
+one_text false t = refl
+
+children_deep : (f : Frame) (items : List Item) (e : Element) (d : List Declared) → Closes f items e d → nesting e ≡ suc (max (deepest f.children) (deepest (map child_of (kept_behind f items))))
+children_deep f items e d c =
+    nesting_is e ∙ ap (λ (y : Element). suc (deepest y.children)) c.element_is ∙ ap suc (deepest_append f.children (map child_of (kept_behind f items)))
+
+-- an element that ends
+pub closed_nests : (f : Frame) (e : Element) (d : List Declared) → Closes f [] e d → nesting e ≡ suc (deepest f.children)
+closed_nests f e d c =
+    let h = children_deep f [] e d c in
+    let t : deepest (map child_of (kept_behind f [])) ≡ 0 = one_text (is_kept (has_children f || false) (Run f.text)) f.text in
+    omega (arith, h, t)
+
+one_child : (b : Bool) (t : List ℕ) → deepest (cond b (the.Text t ∷ []) []) ≡ 0
+one_child true t = let h = text_nests t in omega (arith, h)
+one_child false t = refl
+
+inner_deep : (g : Frame) (e : Element) (d : List Declared) → deepest (with_inner g e d).children ≡ max (deepest g.children) (nesting e)
+inner_deep g e d =
+    let h = deepest_append (g.children ++ text_behind true g.text) (the.Element e ∷ []) in
+    let k = deepest_append g.children (text_behind true g.text) in
+    let t : deepest (text_behind true g.text) ≡ 0 = one_child (kept_text true g.text) g.text in
+    let l = element_nests e in
+    omega (arith, h, k, t, l)
+
+-- behind an element that ended nothing is deeper than before
+pub adopted_fits : (n : ℕ) (f : Frame) (fs : List Frame) (e : Element) (d : List Declared) → Closes f [] e d → levels (f ∷ fs) ≤ n → so_deep (adopted fs e d) ≤ n
+adopted_fits n f [] e d c fits = let h = closed_nests f e d c in omega (arith, h, fits)
+adopted_fits n f (g ∷ gs) e d c fits =
+    let h = closed_nests f e d c in
+    let k = inner_deep g e d in
+    omega (arith, h, k, fits)
+
+-- and no less deep
+pub adopted_deep : (f : Frame) (fs : List Frame) (e : Element) (d : List Declared) → Closes f [] e d → length fs < so_deep (adopted fs e d)
+adopted_deep f [] e d c = let h = closed_nests f e d c in omega (arith, h)
+adopted_deep f (g ∷ gs) e d c =
+    let h = closed_nests f e d c in
+    let k = inner_deep g e d in
+    omega (arith, h, k)
+
+closing_deep : (f : Frame) (fs : List Frame) (ts : List Token) (r : Reading) → Closing f fs ts r → levels (f ∷ fs) ≤ nesting r.root
+closing_deep f [] ts r x =
+    let h = children_deep f x.items x.element x.declared x.closes in
+    let s = ap (λ (y : Reading). nesting y.root) x.goes_on.same in
+    omega (arith, h, s)
+closing_deep f (g ∷ gs) ts r x =
+    let h = children_deep f x.items x.element x.declared x.closes in
+    let k = inner_deep g x.element x.declared in
+    let l = closing_deep (with_inner g x.element x.declared) gs x.behind r x.goes_on in
+    omega (arith, h, k, l)
+
+-- what goes on nests at least as deep as what has been read
+pub goes_deep : (w : Where) (ts : List Token) (r : Reading) → GoesOn w ts r → so_deep w ≤ nesting r.root
+goes_deep AtStart ts r x = omega arith
+goes_deep (Among []) ts r x = omega arith
+goes_deep (Among (f ∷ fs)) ts r x = closing_deep f fs ts r x
+goes_deep (Behind root) ts r x = let s = ap (λ (y : Reading). nesting y.root) x.same in omega (arith, s)

@@ -1,0 +1,13 @@
+pub mod Answering
+pub mod Attributing
+pub mod Binding
+pub mod Contents
+pub mod Goings
+pub mod Items
+pub mod Lasts
+pub mod Levels
+pub mod Lookups
+pub mod NameLaws
+pub mod Progressing
+pub mod Stepping
+pub mod Ways

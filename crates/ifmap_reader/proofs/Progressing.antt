@@ -1,0 +1,259 @@
+-- How far a reader has come.
+use Rattle.std.proofs.Common.{◌≡◌, ◌≢◌, ℕ, ◌+◌, ◌-◌, ◌<◌, ◌≤◌, suc, Bool, true, false, max, List, [], ◌∷◌, ◌++◌, length, reverse, drop, take, refl, ap, sym, ◌∙◌, subst, append_assoc, arith, length-drop, drop-drop, ◌⊎◌, inl, inr, cond}
+use Rattle.std.specs.Prelude.{◌↔◌, count_by, Ok, Err, Result}
+use Rattle.std.proofs.lemmas.List.{append-nil, take_all}
+use Rattle.std.proofs.lemmas.List.Sums.{sum_by-append, sum_by-cons}
+use Rattle.ifmap_sequences.specs.Items.{To, to_last, IsOnly, Ahead, ahead_at_start, ahead_next, none_ahead}
+use Rattle.ifmap_elem.specs.declared.readings.Reading.{Reading}
+use Rattle.ifmap_elem.specs.declared.tokens.Token.{Token}
+use Rattle.ifmap_elem.specs.Document.{IsDocument}
+use Rattle.ifmap_elem.specs.Nesting.{nesting}
+use Rattle.ifmap_elem.specs.Places.{BeginsDocument, Reaches, Stop, Deep, Opens, is_start, is_end, open_after, offset}
+use Rattle.ifmap_elem.specs.Spells.{Spells, without_mark}
+use Rattle.ifmap_elem.specs.Tokens.{TakesToken}
+use Rattle.ifmap_elem.proofs.OneToken.{no_token}
+use Rattle.ifmap_lexer.specs.declared.lexing.LexError.{LexError}
+use Rattle.ifmap_lexer.specs.declared.lexing.LexError.TheVariants as lexing
+use Rattle.ifmap_reader.specs.declared.errors.ReadError.{ReadError}
+use Rattle.ifmap_reader.specs.declared.errors.Refusal.{Refusal}
+use Rattle.ifmap_reader.specs.declared.errors.Refusal.TheVariants as refusals
+use Rattle.ifmap_reader.specs.declared.frames.Frame.{Frame}
+use Rattle.ifmap_reader.specs.declared.standing.Standing.{Standing}
+use Rattle.ifmap_reader.specs.declared.standing.Standing.TheVariants as standing
+use Rattle.ifmap_reader.specs.Depths.{levels}
+use Rattle.ifmap_reader.specs.Progress.{Where, AtStart, Among, Behind, GoesOn, Follows, Leads, Passes, Steps, open_in, so_deep, one_if, where_is}
+use Rattle.ifmap_reader.specs.Reads.{IsUnreadable, IsTooDeep, IsRead, lex_error, step_error, read_at_end}
+use Rattle.ifmap_reader.proofs.Goings.{no_tokens, no_tokens_start, behind_ends}
+use Rattle.ifmap_reader.proofs.Levels.{goes_deep}
+use Rattle.ifmap_reader.proofs.Ways.{some_way}
+
+-- each tag so far opened a level up to that depth
+abbrev pub Shallow : ℕ → List Token → Type 0
+Shallow depth ts = (before after : List Token) (t : Token) → ts ≡ before ++ (t ∷ after) → Opens t → open_after before < depth
+
+-- where a reader is: the tokens so far, what they make of any document, and what any spelling goes on with
+pub record At (bytes : List ℕ) (depth : ℕ) (w : Where) (rest : List ℕ) : Type 0 where
+  pub so_far : List Token
+  pub lexed : To TakesToken (without_mark bytes) so_far rest
+  pub goes : (ts : List Token) (r : Reading) → (IsDocument (so_far ++ ts) r ↔ GoesOn w ts r)
+  pub ahead : Ahead TakesToken (without_mark bytes) so_far rest []
+  pub fits : so_deep w ≤ depth
+  pub level : count_by is_start so_far ≡ open_in w + count_by is_end so_far
+  pub shallow : Shallow depth so_far
+
+no_split : (before after : List Token) (t : Token) → [] ≡ before ++ (t ∷ after) → ⊥
+no_split [] after t e = cc
+no_split (b ∷ bs) after t e = cc
+
+pub at_start : (bytes : List ℕ) (depth : ℕ) (rest : List ℕ) → rest ≡ without_mark bytes → At bytes depth AtStart rest
+at_start bytes depth rest is = record {
+  so_far = [];
+  lexed = sym is;
+  goes = λ ts r. (λ x. x, λ x. x);
+  ahead = subst (λ (b : List ℕ). Ahead TakesToken (without_mark bytes) [] b []) (sym is) (ahead_at_start TakesToken (without_mark bytes) []);
+  fits = omega arith;
+  level = omega arith;
+  shallow = λ before after t e o. absurd (no_split before after t e);
+}
+
+-- a place in a list with one more at the end is in the list or at the end
+split_last : (ts before after : List Token) (u t : Token) → ts ++ u ∷ [] ≡ before ++ (t ∷ after) → ((others : List Token) × (ts ≡ before ++ (t ∷ others))) ⊎ ((before ≡ ts) × (t ≡ u))
+split_last [] [] after u t e = inr (refl, cc)
+split_last [] (b ∷ []) after u t e = cc
+split_last [] (b ∷ (c ∷ bs)) after u t e = cc
+split_last (x ∷ xs) [] after u t e = let same : x ≡ t = cc in inl (xs, ap (λ (y : Token). y ∷ xs) same)
+split_last (x ∷ xs) (b ∷ bs) after u t e =
+    let head : x ≡ b = cc in
+    let tail : xs ++ u ∷ [] ≡ bs ++ (t ∷ after) = cc in
+    elim (split_last xs bs after u t tail) [
+      | inl h ↦ inl (h.0, λ i. head i ∷ h.1 i)
+      | inr h ↦ let k = h.0 in let l = h.1 in inr (cc, h.1)
+    ]
+
+module _ (bytes : List ℕ) (depth : ℕ) (w : Where) (rest : List ℕ) (at : At bytes depth w rest) where
+  open_after_is : open_after at.so_far ≡ open_in w
+  open_after_is = let l = at.level in omega (arith, l)
+
+  counted : (p : Token → Bool) (t : Token) → count_by p (at.so_far ++ t ∷ []) ≡ count_by p at.so_far + one_if (p t)
+  counted p t =
+      let a = sum_by-append (λ (u : Token). cond (p u) 1 0) at.so_far (t ∷ []) in
+      let b = sum_by-cons (λ (u : Token). cond (p u) 1 0) t [] in
+      let none : count_by p [] ≡ 0 = refl in
+      omega (arith, a, b, none)
+
+  -- one token more
+  module _ (t : Token) (behind : List ℕ) (some : rest ≢ []) (takes : TakesToken rest t behind) (only : (u : Token) (after : List ℕ) → TakesToken rest u after → (u ≡ t) × (after ≡ behind)) where
+    is_only : IsOnly TakesToken rest t behind
+    is_only u after h = let k = only u after h in (sym k.0, sym k.1)
+
+    goes_next : (ts : List Token) (r : Reading) → IsDocument ((at.so_far ++ t ∷ []) ++ ts) r ↔ GoesOn w (t ∷ ts) r
+    goes_next ts r =
+        let g = at.goes (t ∷ ts) r in
+        let e = append_assoc at.so_far (t ∷ []) ts in
+        (λ x. g.0 (subst (λ (us : List Token). IsDocument us r) e x), λ x. subst (λ (us : List Token). IsDocument us r) (sym e) (g.1 x))
+
+    pub at_next : (new : Where) → Leads depth w t new → At bytes depth new behind
+    at_next new l = record {
+      so_far = at.so_far ++ t ∷ [];
+      lexed = to_last TakesToken (without_mark bytes) at.so_far rest t behind at.lexed takes;
+      goes = λ ts r. let g = goes_next ts r in let f = l.follows ts r in (λ x. f.0 (g.0 x), λ x. g.1 (f.1 x));
+      ahead = ahead_next TakesToken (without_mark bytes) at.so_far rest t behind [] some is_only at.ahead;
+      fits = l.fits at.fits;
+      level = let a = counted is_start t in let b = counted is_end t in let c = l.counts in let d = at.level in omega (arith, a, b, c, d);
+      shallow = λ before after u e o. elim (split_last at.so_far before after t u e) [
+        | inl h ↦ at.shallow before h.0 u h.1 o
+        | inr h ↦ let inside = l.within (subst Opens h.1 o) in let same : open_after before ≡ open_in w = ap open_after h.0 ∙ open_after_is in omega (arith, inside, same)
+      ];
+    }
+
+    -- what any spelling goes on with
+    spelled : (r : Reading) → Spells bytes r → (others : List Token) × GoesOn w (t ∷ others) r
+    spelled r s =
+        let a = at.ahead s.tokens s.lexed in
+        let x = (at.goes a.0 r).0 (subst (λ (us : List Token). IsDocument us r) a.1 s.document) in
+        first a.0 a.2 x
+      where
+        first : (more : List Token) → To TakesToken rest more [] → GoesOn w more r → (others : List Token) × GoesOn w (t ∷ others) r
+        first [] l x = absurd (some l)
+        first (u ∷ us) l x = (us, subst (λ (v : Token). GoesOn w (v ∷ us) r) (only u l.0 l.1).0 x)
+
+    begins_so_far : BeginsDocument at.so_far
+    begins_so_far = let s = some_way w in record { more = s.0; reading = s.1.0; document = (at.goes s.0 s.1.0).1 s.1.1 }
+
+    pub step_refused : (place : ℕ) → place ≡ offset bytes rest → place ≤ length bytes → ((ts : List Token) (r : Reading) → GoesOn w (t ∷ ts) r → ⊥) → IsUnreadable bytes place
+    step_refused place is within refused = record {
+      none = λ r s. let x = spelled r s in refused x.0 r x.1;
+      stop = record {
+        tokens = at.so_far; rest = rest; reaches = record { lexed = at.lexed; allowed = begins_so_far };
+        no_further = λ u after h b.
+          refused b.more b.reading ((goes_next b.more b.reading).0 (subst (λ (v : Token). IsDocument ((at.so_far ++ v ∷ []) ++ b.more) b.reading) (only u after h).0 b.document));
+        at_is = is;
+      };
+      within = within;
+    }
+
+    open_fits : open_in w ≤ depth
+    open_fits = let f = at.fits in fitting w f
+      where
+        fitting : (v : Where) → so_deep v ≤ depth → open_in v ≤ depth
+        fitting AtStart f = omega arith
+        fitting (Among []) f = omega arith
+        fitting (Among (g ∷ gs)) f = omega (arith, f)
+        fitting (Behind root) f = omega arith
+
+    pub step_too_deep : (place : ℕ) → place ≡ offset bytes rest → place ≤ length bytes → Passes depth w t → IsTooDeep bytes depth place
+    step_too_deep place is within p =
+        let s = some_way p.new in
+        record {
+          deeper = λ r s. let x = spelled r s in let d = goes_deep p.new x.0 r ((p.follows x.0 r).0 x.1) in let e = p.deeper in omega (arith, d, e);
+          deep = record {
+            tokens = at.so_far; tag = t; rest = rest; behind = behind; lexed = at.lexed; taken = takes;
+            allowed = record { more = s.0; reading = s.1.0; document = (goes_next s.0 s.1.0).1 ((p.follows s.0 s.1.0).1 s.1.1) };
+            opens = p.opens;
+            level_is = let a = open_after_is in let b = p.level_is in let c = open_fits in omega (arith, a, b, c);
+            first = at.shallow; at_is = is;
+          };
+          within = within;
+        }
+
+  begins : BeginsDocument at.so_far
+  begins = let s = some_way w in record { more = s.0; reading = s.1.0; document = (at.goes s.0 s.1.0).1 s.1.1 }
+
+  pub not_lexed : rest ≢ [] → ((t : Token) (after : List ℕ) → TakesToken rest t after → ⊥) → (place : ℕ) → place ≡ offset bytes rest → place ≤ length bytes → IsUnreadable bytes place
+  not_lexed some none place is within = record {
+    none = λ r s. none_ahead TakesToken (without_mark bytes) at.so_far rest [] some none at.ahead s.tokens s.lexed;
+    stop = record { tokens = at.so_far; rest = rest; reaches = record { lexed = at.lexed; allowed = begins }; no_further = λ t after h b. none t after h; at_is = is };
+    within = within;
+  }
+
+  -- at the end of the input
+  module _ (end : rest ≡ []) where
+    no_more : (more : List Token) → To TakesToken rest more [] → more ≡ []
+    no_more [] l = refl
+    no_more (u ∷ us) l = absurd (no_token rest u l.0 end l.1)
+
+    spelled_so_far : (r : Reading) → Spells bytes r → GoesOn w [] r
+    spelled_so_far r s =
+        let a = at.ahead s.tokens s.lexed in
+        let x = (at.goes a.0 r).0 (subst (λ (us : List Token). IsDocument us r) a.1 s.document) in
+        subst (λ (us : List Token). GoesOn w us r) (no_more a.0 a.2) x
+
+    pub ended_early : ((r : Reading) → GoesOn w [] r → ⊥) → (place : ℕ) → place ≡ offset bytes rest → place ≤ length bytes → IsUnreadable bytes place
+    ended_early none place is within = record {
+      none = λ r s. none r (spelled_so_far r s);
+      stop = record { tokens = at.so_far; rest = rest; reaches = record { lexed = at.lexed; allowed = begins }; no_further = λ t after h b. no_token rest t after end h; at_is = is };
+      within = within;
+    }
+
+    pub whole : (r : Reading) → GoesOn w [] r → Spells bytes r
+    whole r x = record {
+      tokens = at.so_far;
+      lexed = subst (λ (b : List ℕ). To TakesToken (without_mark bytes) at.so_far b) end at.lexed;
+      document = subst (λ (us : List Token). IsDocument us r) (append-nil at.so_far) ((at.goes [] r).1 x);
+    }
+
+-- of the code's offset
+module _ (bytes : List ℕ) (depth : ℕ) (w : Where) (place : ℕ) (at : At bytes depth w (drop place bytes)) where
+  some_left : place < length bytes → drop place bytes ≢ []
+  some_left l e = let a = ap length e in let b = length-drop place bytes in omega (arith, a, b, l)
+
+  offset_is : place ≤ length bytes → place ≡ offset bytes (drop place bytes)
+  offset_is l = let b = length-drop place bytes in omega (arith, b, l)
+
+  pub lex_refused : (shown : List ℕ) (error : LexError) (result : ReadError) → place < length bytes → shown ≡ drop place bytes → result ≡ lex_error error place
+      → (error ≡ lexing.Malformed → (t : Token) (rest : List ℕ) → TakesToken shown t rest → ⊥) → IsRead bytes depth (Err result)
+  lex_refused shown error result l is made none =
+      subst (λ (e : ReadError). IsRead bytes depth (Err e)) (sym made) (by error none)
+    where
+      by : (error : LexError) → (error ≡ lexing.Malformed → (t : Token) (rest : List ℕ) → TakesToken shown t rest → ⊥) → IsRead bytes depth (Err (lex_error error place))
+      by lexing.Malformed none =
+          not_lexed bytes depth w (drop place bytes) at (some_left l) (subst (λ (b : List ℕ). (t : Token) (rest : List ℕ) → TakesToken b t rest → ⊥) is (none refl)) place (offset_is (omega (arith, l))) (omega (arith, l))
+      by lexing.NoMemory none = tt
+
+  module _ (shown : List ℕ) (t : Token) (count : ℕ) (l : place < length bytes) (is : shown ≡ drop place bytes) (taken : TakesToken shown t (drop count shown))
+      (alone : (u : Token) (rest : List ℕ) → TakesToken shown u rest → (u ≡ t) × (rest ≡ drop count shown)) where
+    behind_here : drop count shown ≡ drop (place + count) bytes
+    behind_here = ap (drop count) is ∙ drop-drop count place bytes
+
+    taken_here : TakesToken (drop place bytes) t (drop (place + count) bytes)
+    taken_here = subst (λ (b : List ℕ). TakesToken b t (drop (place + count) bytes)) is (subst (λ (b : List ℕ). TakesToken shown t b) behind_here taken)
+
+    alone_here : (u : Token) (rest : List ℕ) → TakesToken (drop place bytes) u rest → (u ≡ t) × (rest ≡ drop (place + count) bytes)
+    alone_here u rest h = let k = alone u rest (subst (λ (b : List ℕ). TakesToken b u rest) (sym is) h) in (k.0, k.1 ∙ behind_here)
+
+    pub next_at : (new : Where) → Leads depth w t new → At bytes depth new (drop (place + count) bytes)
+    next_at new h = at_next bytes depth w (drop place bytes) at t (drop (place + count) bytes) (some_left l) taken_here alone_here new h
+
+    pub refused_at : (refusal : Refusal) (result : ReadError) → result ≡ step_error refusal place → Steps depth w t (Err refusal) → IsRead bytes depth (Err result)
+    refused_at refusal result made h = subst (λ (e : ReadError). IsRead bytes depth (Err e)) (sym made) (by refusal h)
+      where
+        by : (refusal : Refusal) → Steps depth w t (Err refusal) → IsRead bytes depth (Err (step_error refusal place))
+        by refusals.NotAllowed h =
+            step_refused bytes depth w (drop place bytes) at t (drop (place + count) bytes) (some_left l) taken_here alone_here place (offset_is (omega (arith, l))) (omega (arith, l)) h
+        by refusals.TooDeep h =
+            step_too_deep bytes depth w (drop place bytes) at t (drop (place + count) bytes) (some_left l) taken_here alone_here place (offset_is (omega (arith, l))) (omega (arith, l)) h
+        by refusals.NoMemory h = tt
+
+pub shown_is : (bytes : List ℕ) (place : ℕ) → take (length bytes - place) (drop place bytes) ≡ drop place bytes
+shown_is bytes place = take_all (length bytes - place) (drop place bytes) (omega (arith, length-drop place bytes))
+
+pub within_next : (bytes : List ℕ) (place count : ℕ) → place < length bytes → count ≤ length (take (length bytes - place) (drop place bytes)) → place + count ≤ length bytes
+within_next bytes place count l h = let a = ap length (shown_is bytes place) in let b = length-drop place bytes in omega (arith, a, b, h, l)
+
+-- at the end
+pub end_read : (bytes : List ℕ) (depth : ℕ) (s : Standing) (place : ℕ) (result : Result Reading ReadError) → At bytes depth (where_is s) (drop place bytes) → place ≤ length bytes → length bytes ≤ place → result ≡ read_at_end s place
+    → IsRead bytes depth result
+end_read bytes depth s place result at within end made = subst (λ (a : Result Reading ReadError). IsRead bytes depth a) (sym made) (by s at)
+  where
+    none_left : drop place bytes ≡ []
+    none_left = no_length (drop place bytes) (let b = length-drop place bytes in omega (arith, b, end))
+      where
+        no_length : (xs : List ℕ) → length xs ≡ 0 → xs ≡ []
+        no_length [] e = refl
+        no_length (x ∷ xs) e = absurd (omega (arith, e))
+    here : (w : Where) → At bytes depth w (drop place bytes) → place ≡ offset bytes (drop place bytes)
+    here w a = offset_is bytes depth w place a within
+    by : (s : Standing) → At bytes depth (where_is s) (drop place bytes) → IsRead bytes depth (read_at_end s place)
+    by standing.Start a = ended_early bytes depth AtStart (drop place bytes) a none_left no_tokens_start place (here AtStart a) within
+    by (standing.Open frames) a = ended_early bytes depth (Among (reverse frames)) (drop place bytes) a none_left (no_tokens (reverse frames)) place (here (Among (reverse frames)) a) within
+    by (standing.Done r) a = (whole bytes depth (Behind r) (drop place bytes) a none_left r (behind_ends r), a.fits)

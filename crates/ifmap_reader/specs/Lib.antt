@@ -1,0 +1,6 @@
+pub mod Depths
+pub mod Frames
+pub mod Opening
+pub mod Progress
+pub mod Reads
+pub mod Rows

@@ -1,0 +1,162 @@
+//! The bindings of prefixes that one tag makes.
+ghost use Rattle.std.specs.Prelude.{◌≡◌, ◌↔◌, ◌∷◌, [], ◌++◌, codes, IfOk, IsTrue, None};
+ghost use Rattle.std.specs.Option.{option_copied};
+ghost use Rattle.ifmap_elem.specs.Scopes.{Binding, IsBinding, binding_of, bound, xml_space, xmlns_space};
+ghost use Rattle.ifmap_elem.specs.Document.{declared_here};
+ghost use Rattle.ifmap_reader.specs.Opening.{Binds, IsBound, told};
+
+use crate::errors::Refusal;
+use ifmap_elem::tokens::Assignment;
+use ifmap_elem::{Copied, Declared, Many, Text};
+use std::alloc::{AllocError as NoMemory, Global};
+use std::collections::BTreeMap;
+use std::marker::Model;
+
+pub(crate) const XML_SPACE: &str = "http://www.w3.org/XML/1998/namespace";
+const XMLNS: &str = "xmlns";
+pub(crate) const XML: &str = "xml";
+const XMLNS_SPACE: &str = "http://www.w3.org/2000/xmlns/";
+
+/// The bindings that a tag makes, in order, which contracts see as a list; and what each prefix is
+/// bound to.
+#[derive(Drop)]
+pub(crate) struct Bindings {
+    rows: Vec<Declared>,
+    spaces: BTreeMap<Text, Text>,
+}
+
+impl Model for Bindings {
+    ghost use Rattle.std.specs.Prelude.{◌≡◌, List, ℕ, map};
+    ghost use Rattle.std.specs.Ordering.{nat_cmp};
+    ghost use Rattle.std.specs.Cmp.Lexicographic.{slice_cmp};
+    ghost use Rattle.std.specs.BTreeMap.{get};
+    ghost use Rattle.ifmap_elem.specs.Scopes.{Binding, bound};
+    ghost use Rattle.ifmap_elem.specs.Document.{declared_here};
+    ghost use Rattle.ifmap_reader.specs.Rows.{row_binding};
+
+    ghost Value = { List Binding };
+
+    ghost view = { λ b. map row_binding b.rows.items };
+
+    ghost invariant = { λ b. (b.rows.items ≡ declared_here (map row_binding b.rows.items)) × ((prefix : List ℕ) → get (slice_cmp nat_cmp) b.spaces prefix ≡ bound (map row_binding b.rows.items) prefix) };
+}
+
+impl Bindings {
+    pub(crate) fn new(alloc: Global) -> Bindings
+        ensures { result ≡ [] }
+    {
+        Bindings {
+            rows: Vec::new(alloc),
+            spaces: BTreeMap::new(alloc),
+        }
+    }
+
+    /// What the tag binds a prefix to.
+    pub(crate) fn space_of(&self, prefix: &Text) -> Option<&Text>
+        ensures { option_copied result ≡ bound self.now prefix.now }
+    {
+        self.spaces.get(prefix)
+    }
+
+    /// With one binding more, of a prefix that has none.
+    fn with(self, alloc: Global, prefix: Text, space: Text) -> Result<Bindings, NoMemory>
+        requires { bound self prefix ≡ None }
+        ensures { IfOk result (λ made. made ≡ self ++ record { prefix = prefix; space = space } ∷ []) }
+    {
+        let Bindings {
+            mut rows,
+            mut spaces,
+        } = self;
+        spaces.insert(prefix.copy(alloc)?, space.copy(alloc)?)?;
+        let path = Many(Vec::new(alloc));
+        rows.push(Declared {
+            path,
+            prefix,
+            space,
+        })?;
+        Ok(Bindings { rows, spaces })
+    }
+
+    /// The bindings as declarations at the tag's own element.
+    pub(crate) fn into_declared(self) -> Many<Declared>
+        ensures { result ≡ declared_here self }
+    {
+        let Bindings { rows, spaces: _ } = self;
+        Many(rows)
+    }
+
+    /// With the binding that an assignment makes, if it makes one.
+    fn with_assignment(self, alloc: Global, assignment: &Assignment) -> Result<Bindings, Refusal>
+        ensures { Binds self (binding_of assignment.now) result }
+    {
+        let Some(prefix) = bound_prefix(assignment) else {
+            return Ok(self);
+        };
+        let space = &assignment.value;
+        if !may_bind(prefix, space.0.as_str()) {
+            return Err(Refusal::NotAllowed);
+        }
+        let prefix = Text(String::from_str(alloc, prefix)?);
+        if self.space_of(&prefix).is_some() {
+            return Err(Refusal::NotAllowed);
+        }
+        let made = self.with(alloc, prefix, space.copy(alloc)?)?;
+        Ok(made)
+    }
+}
+
+/// The prefix that an assignment binds, which is empty for the default; none where the assignment
+/// gives an attribute.
+pub(crate) fn bound_prefix(assignment: &Assignment) -> Option<&str>
+    ensures { binding_of assignment.now ≡ told result assignment.now.value }
+{
+    let name = &assignment.name;
+    if name.prefix.0.as_bytes() == XMLNS.as_bytes() {
+        return Some(name.local.0.as_str());
+    }
+    if name.prefix.0.as_bytes().is_empty() && name.local.0.as_bytes() == XMLNS.as_bytes() {
+        return Some("");
+    }
+    None
+}
+
+fn may_bind(prefix: &str, space: &str) -> bool
+    ensures { IsTrue result ↔ IsBinding (record { prefix = prefix.now; space = space.now }) }
+{
+    if is_word(prefix, XMLNS) {
+        return false;
+    }
+    if is_word(space, XMLNS_SPACE) {
+        return false;
+    }
+    if is_word(prefix, XML) {
+        return is_word(space, XML_SPACE);
+    }
+    if is_word(space, XML_SPACE) {
+        return false;
+    }
+    if is_word(prefix, "") {
+        return true;
+    }
+    !is_word(space, "")
+}
+
+fn is_word(text: &str, word: &str) -> bool
+    ensures { IsTrue result ↔ (text.now ≡ word.now) }
+{
+    text == word
+}
+
+/// The bindings that the assignments of a tag make.
+pub(crate) fn bindings_of(
+    alloc: Global,
+    assignments: &[Assignment],
+) -> Result<Bindings, Refusal>
+    ensures { IsBound assignments.now result }
+{
+    let mut made = Bindings::new(alloc);
+    for assignment in assignments {
+        made = made.with_assignment(alloc, assignment)?;
+    }
+    Ok(made)
+}

@@ -1,0 +1,37 @@
+//! Whether the attributes of an element have different names.
+ghost use Rattle.std.specs.Prelude.{◌≡◌, ◌≢◌, ◌↔◌, IfOk, IsTrue, map, false};
+ghost use Rattle.std.specs.List.{AllByRecursion};
+ghost use Rattle.ifmap_elem.specs.Scopes.{AllDiffer};
+
+use ifmap_elem::{Attribute, Equals, Name};
+use std::alloc::{AllocError as NoMemory, Global};
+
+pub(crate) fn have_other_names(alloc: Global, attributes: &[Attribute]) -> Result<bool, NoMemory>
+    ensures { IfOk result (λ differ. IsTrue differ ↔ AllDiffer (map (λ t. t.name) attributes.now)) }
+{
+    let _ = alloc;
+    Ok(few_differ(attributes))
+}
+
+fn few_differ(attributes: &[Attribute]) -> bool
+    ensures { IsTrue result ↔ AllDiffer (map (λ t. t.name) attributes.now) }
+{
+    for i in 0..attributes.len() {
+        if has_name(&attributes[i + 1..], &attributes[i].name) {
+            return false;
+        }
+    }
+    true
+}
+
+fn has_name(attributes: &[Attribute], name: &Name) -> bool
+    ensures found { IsTrue result → AllByRecursion (λ n. name.now ≢ n) (map (λ t. t.name) attributes.now) → ⊥ }
+    ensures none { result ≡ false → AllByRecursion (λ n. name.now ≢ n) (map (λ t. t.name) attributes.now) }
+{
+    for attribute in attributes {
+        if attribute.name.equals(name) {
+            return true;
+        }
+    }
+    false
+}

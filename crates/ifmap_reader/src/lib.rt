@@ -1,0 +1,15 @@
+//! Reads the bytes of a document: `read` answers the element that they spell, in one pass over its
+//! tokens and with a stack of the elements that are open; `scope_at` answers which prefixes are in
+//! scope at an element that was read.
+#![tactic(auto)]
+
+mod bindings;
+mod differing;
+pub mod errors;
+mod frames;
+mod opening;
+pub mod reading;
+mod standing;
+
+pub use errors::ReadError;
+pub use reading::read;
