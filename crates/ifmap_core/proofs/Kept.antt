@@ -213,7 +213,7 @@ begun_indexed serial live holders i id client c none indexed =
       | inr miss ↦ rw (entry, session, miss, or_none (session_of_client c live)) (indexed c)
     ]
 
-sorted_push : (counter : ℕ) (live : List Session) (y : Session) → IsStrictlySortedBy serial_order live → AllByRecursion (λ (s : Session). s.serial ≤ counter) live → counter < y.serial → IsStrictlySortedBy serial_order (live ++ y ∷ [])
+pub sorted_push : (counter : ℕ) (live : List Session) (y : Session) → IsStrictlySortedBy serial_order live → AllByRecursion (λ (s : Session). s.serial ≤ counter) live → counter < y.serial → IsStrictlySortedBy serial_order (live ++ y ∷ [])
 unfolding IsStrictlySortedBy
 sorted_push counter [] y up counted above = (tt, tt)
 sorted_push counter (x ∷ xs) y up counted above =

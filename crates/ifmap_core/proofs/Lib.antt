@@ -1,3 +1,5 @@
+pub mod Graphs
 pub mod Halving
 pub mod Histories
 pub mod Kept
+pub mod Refusals
