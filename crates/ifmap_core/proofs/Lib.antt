@@ -1,3 +1,4 @@
+pub mod Attaching
 pub mod Graphs
 pub mod Halving
 pub mod Histories

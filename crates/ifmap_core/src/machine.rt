@@ -83,11 +83,13 @@ impl Core {
     {
         let before = self.moment;
         self.moment = before.max(event.moment);
-        let answer = self.answer(alloc, event);
-        if answer.is_err() {
-            self.moment = before;
+        match self.answer(alloc, event) {
+            Ok(answer) => Ok(answer),
+            Err(no_memory) => {
+                self.moment = before;
+                Err(no_memory)
+            }
         }
-        answer
     }
 
     // The row of the request, once the event's moment was taken in.
@@ -126,9 +128,9 @@ impl Core {
         let opening = self.sessions.prepare(alloc, client, random)?;
         let session = opening.id.copy(alloc)?;
         let publisher = client.text().copy(alloc)?;
-        if let Some(serial) = held {
-            self.sessions.end(serial);
-            self.graph.retract_session(serial);
+        if let Some(former) = held {
+            self.sessions.end(former);
+            self.graph.retract_session(former);
         }
         self.sessions.open(opening);
         Ok(Answer::Reply(Reply::NewSession { session, publisher }))
@@ -183,6 +185,7 @@ impl Core {
     }
 
     // All the operations, or none where memory is wanting.
+    #[tactic(auto, using(crate::proofs::Attaching::apply_rows))]
     fn apply(
         &mut self,
         alloc: Global,
