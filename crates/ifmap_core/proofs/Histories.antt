@@ -1,6 +1,6 @@
 -- What holds over all histories, by the definition of the step.
-use Rattle.std.proofs.Common.{◌≡◌, ◌≢◌, refl, sym, ◌∙◌, ap, subst, ℕ, suc, ◌+◌, ◌-◌, ◌^◌, ◌<◌, ◌≤◌, ◌==◌, ◌&&◌, ◌||◌, Bool, true, false, not, cond, List, [], ◌∷◌, ◌++◌, length, map, Option, None, Some, inl, inr, nat_le, nat_lt, is_none, arith, length-append}
-use Rattle.std.proofs.lemmas.Bool.{and_cases, both_ways, cases_Bool, eq-eqb, eqb-true, not_from_true, not-true, or_left, or_parts}
+use Rattle.std.proofs.Common.{◌≡◌, ◌≢◌, refl, sym, ◌∙◌, ap, subst, ℕ, ◌+◌, ◌-◌, ◌^◌, ◌<◌, ◌≤◌, ◌==◌, ◌&&◌, Bool, true, false, not, List, [], ◌∷◌, ◌++◌, length, map, Option, None, Some, inl, inr, nat_le, nat_lt, is_none, arith, length-append}
+use Rattle.std.proofs.lemmas.Bool.{and_cases, both_ways, cases_Bool, eq-eqb, not_from_true, or_left, or_parts}
 use Rattle.std.proofs.lemmas.Bool.Decides.{nat_tests}
 use Rattle.std.proofs.lemmas.List.Elements.{All-from_recursion}
 use Rattle.std.proofs.lemmas.List.Folds.{find-append}
@@ -10,7 +10,6 @@ use Rattle.std.specs.List.{All, AllByRecursion, AllPairs, IsDistinct, filter, fi
 use Rattle.std.specs.List.Sorted.{IsStrictlySortedBy}
 use Rattle.std.specs.declared.cmp.Ordering.TheVariants.{Less}
 use Rattle.ifmap_core.specs.declared.events.Answer.{Answer}
-use Rattle.ifmap_core.specs.declared.events.Answer.TheVariants as the_answer
 use Rattle.ifmap_core.specs.declared.events.Ask.{Ask}
 use Rattle.ifmap_core.specs.declared.events.Ask.TheVariants.{Request}
 use Rattle.ifmap_core.specs.declared.events.Event.{Event}
@@ -33,7 +32,6 @@ use Rattle.ifmap_ident.specs.declared.items.Item.{Item}
 use Rattle.ifmap_meta.specs.declared.metadata.Metadata.{Metadata}
 use Rattle.ifmap_meta.specs.declared.stored.Life.{Life}
 use Rattle.ifmap_meta.specs.declared.stored.Life.TheVariants as the_life
-use Rattle.ifmap_msg.specs.declared.replies.Reply.TheVariants as the_reply
 use Rattle.ifmap_msg.specs.declared.requests.PublishOp.{PublishOp}
 use Rattle.ifmap_msg.specs.declared.requests.PublishOp.TheVariants.{Update}
 use Rattle.ifmap_msg.specs.declared.requests.Request.TheVariants as the_request

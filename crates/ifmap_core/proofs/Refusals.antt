@@ -1,5 +1,5 @@
 -- When the rows of the step refuse, and with which code.
-use Rattle.std.proofs.Common.{◌≡◌, ◌≢◌, ◌↔◌, refl, sym, ◌∙◌, ap, ℕ, ◌-◌, ◌^◌, ◌<◌, ◌≤◌, ◌==◌, ◌||◌, ◌&&◌, Bool, true, false, List, length, Option, None, Some, inl, inr, ◌⊎◌, nat_le, nat_lt, is_none, arith}
+use Rattle.std.proofs.Common.{◌≡◌, ◌≢◌, ◌↔◌, refl, sym, ◌∙◌, ap, ℕ, ◌-◌, ◌^◌, ◌<◌, ◌≤◌, ◌==◌, ◌&&◌, true, List, length, Option, None, Some, inl, inr, ◌⊎◌, nat_le, nat_lt, is_none, arith}
 use Rattle.std.proofs.lemmas.Bool.{and_from, and_parts, both_ways, cases_Bool, eq-eqb, eqb-true, or_cases, or_left, or_right}
 use Rattle.std.proofs.lemmas.Bool.Decides.{nat_tests}
 use Rattle.ifmap_core.specs.declared.events.Answer.{Answer}
@@ -10,7 +10,7 @@ use Rattle.ifmap_core.specs.declared.sessions.Session.{Session}
 use Rattle.ifmap_core.specs.Causes.{AsksForNoneLeft, FindsTooMuch, IsRefusal, NamesAnothersSession, NamesNoSession}
 use Rattle.ifmap_core.specs.Fresh.{found, size_of}
 use Rattle.ifmap_core.specs.State.{State, advanced, is_text, session_of_client, session_with_id}
-use Rattle.ifmap_core.specs.Step.{end_session, in_session, is_full, most_sessions, new_session, publish, search_answer, step, step_ask}
+use Rattle.ifmap_core.specs.Step.{end_session, in_session, is_full, most_sessions, new_session, publish, search_answer, step_ask}
 use Rattle.ifmap_core.proofs.Kept.{text_is, text_same}
 use Rattle.ifmap_graph.specs.declared.attachments.Attachment.{Attachment}
 use Rattle.ifmap_ident.specs.declared.codes.Code.{Code}

@@ -1,5 +1,5 @@
 -- The rows that a publish attaches, before they are attached.
-use Rattle.std.specs.Prelude.{Bool, List, [], ◌∷◌, ◌++◌, flat_map, map}
+use Rattle.std.specs.Prelude.{Bool, List, [], ◌∷◌, flat_map, map}
 use Rattle.ifmap_core.specs.declared.publishing.Author.{Author}
 use Rattle.ifmap_core.specs.Apply.{Authorship, attachment_of}
 use Rattle.ifmap_graph.specs.declared.attachments.Attachment.{Attachment}

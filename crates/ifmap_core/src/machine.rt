@@ -185,7 +185,6 @@ impl Core {
     }
 
     // All the operations, or none where memory is wanting.
-    #[tactic(auto, using(crate::proofs::Attaching::apply_rows))]
     fn apply(
         &mut self,
         alloc: Global,
