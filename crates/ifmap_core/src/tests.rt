@@ -113,13 +113,20 @@ fn request(alloc: Global, asks: Asks) -> Result<Request, Fail> {
     }
 }
 
+// The text of an element that holds text alone.
+fn text_of(element: &Element) -> &str {
+    let children = &element.children;
+    match children.0.first() {
+        Some(Child::Text(text)) => text.0.as_str(),
+        _ => "no text",
+    }
+}
+
 // The name of a role.
 fn name_of(element: &Element) -> &str {
-    match element.children.0.first() {
-        Some(Child::Element(name)) => match name.children.0.first() {
-            Some(Child::Text(text)) => text.0.as_str(),
-            _ => "no text",
-        },
+    let children = &element.children;
+    match children.0.first() {
+        Some(Child::Element(name)) => text_of(name),
         _ => "no element",
     }
 }
