@@ -3,7 +3,7 @@ use Rattle.std.proofs.Common.{◌≡◌, ℕ, Bool, true, false, not, List, [], 
 use Rattle.std.proofs.lemmas.Bool.{cases_Bool, not-true}
 use Rattle.std.specs.List.{AllByRecursion, filter}
 use Rattle.std.specs.Ordering.{is_gt, is_lt}
-use Rattle.ifmap_core.proofs.Halving.{all_filter}
+use Rattle.ifmap_graph.proofs.Placing.{all_around, all_filter}
 use Rattle.ifmap_graph.specs.declared.attachments.Attachment.{Attachment}
 use Rattle.ifmap_graph.specs.Attachments.{attachment_order, ends_with, same_key}
 use Rattle.ifmap_graph.specs.Graph.{attached, retract, without_key}
@@ -13,10 +13,6 @@ all_kept : {X : Type 0} (P Q : X → Type 0) (p : X → Bool) → ((x : X) → p
 all_kept P Q p f [] h = tt
 all_kept P Q p f (x ∷ xs) h =
     elim (cases_Bool (p x)) [ inl stays ↦ rw stays (f x stays h.0, all_kept P Q p f xs h.1) | inr goes ↦ rw goes (all_kept P Q p f xs h.1) ]
-
-all_around : {X : Type 0} (P : X → Type 0) (xs : List X) (y : X) (zs : List X) → AllByRecursion P xs → P y → AllByRecursion P zs → AllByRecursion P (xs ++ y ∷ zs)
-all_around P [] y zs h k l = (k, l)
-all_around P (x ∷ xs) y zs h k l = (h.0, all_around P xs y zs h.1 k l)
 
 -- what is true of the new one and of the others stays true of all
 pub all_attached : (P : Attachment → Type 0) (graph : List Attachment) (a : Attachment) → AllByRecursion P graph → P a → AllByRecursion P (attached graph a)

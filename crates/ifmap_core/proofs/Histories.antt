@@ -23,8 +23,9 @@ use Rattle.ifmap_core.specs.State.{State, advanced, is_text, opening, session_of
 use Rattle.ifmap_core.specs.Step.{begun, end_session, ended, ended_session, in_session, is_full, most_sessions, publish, search_answer, step, step_ask}
 use Rattle.ifmap_core.specs.Table.{serial_order}
 use Rattle.ifmap_core.proofs.Graphs.{all_attached, all_retracted}
-use Rattle.ifmap_core.proofs.Halving.{all_filter, all_found, all_push, all_weaker, find_none}
+use Rattle.ifmap_core.proofs.Halving.{all_found, all_push, find_none}
 use Rattle.ifmap_core.proofs.Kept.{distinct_filter, distinct_push, rest_differ, sorted_push, text_is, text_same}
+use Rattle.ifmap_graph.proofs.Placing.{all_filter, all_weaker}
 use Rattle.ifmap_graph.specs.declared.attachments.Attachment.{Attachment}
 use Rattle.ifmap_graph.specs.Attachments.{ends_with}
 use Rattle.ifmap_graph.specs.Graph.{IsGraph, attached, retract}
