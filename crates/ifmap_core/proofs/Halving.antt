@@ -10,15 +10,7 @@ use Rattle.std.specs.List.Sorted.{IsStrictlySortedBy, IsSortedBy, IsPartitionPoi
 use Rattle.std.specs.Ordering.{is_eq, is_lt, on, ordering_reverse}
 use Rattle.std.specs.declared.cmp.Ordering.TheVariants.{Less, Equal, Greater}
 use Rattle.ifmap_core.specs.Table.{IsPlaceOf}
-
-pub all_weaker : {X : Type 0} (P Q : X → Type 0) → ((x : X) → P x → Q x) → (xs : List X) → AllByRecursion P xs → AllByRecursion Q xs
-all_weaker P Q f [] h = tt
-all_weaker P Q f (x ∷ xs) h = (f x h.0, all_weaker P Q f xs h.1)
-
-pub all_filter : {X : Type 0} (P : X → Type 0) (p : X → Bool) (xs : List X) → AllByRecursion P xs → AllByRecursion P (filter p xs)
-all_filter P p [] h = tt
-all_filter P p (x ∷ xs) h =
-    elim (p x) as (λ b. AllByRecursion P (cond b (x ∷ filter p xs) (filter p xs))) [ true ↦ (h.0, all_filter P p xs h.1) | false ↦ all_filter P p xs h.1 ]
+use Rattle.ifmap_graph.proofs.Placing.{all_at, all_weaker, filter_all}
 
 pub all_push : {X : Type 0} (P : X → Type 0) (xs : List X) (y : X) → AllByRecursion P xs → P y → AllByRecursion P (xs ++ y ∷ [])
 all_push P [] y h k = (k, tt)
@@ -29,9 +21,6 @@ all_insert P [] zero y h k = (k, tt)
 all_insert P [] (suc i) y h k = (k, tt)
 all_insert P (x ∷ xs) zero y h k = (k, h)
 all_insert P (x ∷ xs) (suc i) y h k = (h.0, all_insert P xs i y h.1 k)
-
-pub all_at : {X : Type 0} (P : X → Type 0) (xs : List X) (i : ℕ) (d : X) → AllByRecursion P xs → i < length xs → P (get_or xs i d)
-all_at P xs i d h lt = All-from_recursion P xs h i d lt
 
 -- what a search finds passes, and is among the elements
 pub all_found : {X : Type 0} (P : X → Type 0) (p : X → Bool) (xs : List X) (x : X) → AllByRecursion P xs → find p xs ≡ Some x → P x
@@ -61,10 +50,6 @@ none_passes p (x ∷ xs) e =
       | inl hit ↦ let bad : Some x ≡ None = rw hit at e in cc
       | inr miss ↦ (miss, none_passes p xs (rw miss at e))
     ]
-
-pub filter_all : {X : Type 0} (p : X → Bool) (xs : List X) → AllByRecursion (λ x. p x ≡ true) xs → filter p xs ≡ xs
-filter_all p [] h = refl
-filter_all p (x ∷ xs) h = rw h.0 (ap (λ t. x ∷ t) (filter_all p xs h.1))
 
 pub filter_same : {X : Type 0} (p q : X → Bool) → ((x : X) → p x ≡ q x) → (xs : List X) → filter p xs ≡ filter q xs
 filter_same p q e [] = refl

@@ -18,7 +18,8 @@ use Rattle.ifmap_core.specs.declared.sessions.Holder.{Holder}
 use Rattle.ifmap_core.specs.declared.sessions.Session.{Session}
 use Rattle.ifmap_core.specs.State.{is_text, session_of_client, session_with_id, session_with_serial, without_sessions}
 use Rattle.ifmap_core.specs.Table.{BeginsWithSerial, IsKept, IsPlaceFor, IsPlaceOf, client_order, holder_of, serial_order}
-use Rattle.ifmap_core.proofs.Halving.{all_filter, all_found, all_push, all_weaker, filter_all, filter_same, find_insert, find_none, none_passes, place_for, placed}
+use Rattle.ifmap_core.proofs.Halving.{all_found, all_push, filter_same, find_insert, find_none, none_passes, place_for, placed}
+use Rattle.ifmap_graph.proofs.Placing.{all_filter, all_weaker, filter_all, filter_passes}
 
 -- texts and numbers
 pub text_is : (a b : List ℕ) → is_text a b ≡ true → a ≡ b
@@ -179,12 +180,6 @@ ended counter serial live holders s k e = record {
       ∙ sym (ap (option_map (λ (t : Session). t.serial)) (client_after live serial s c k.rising k.apart e));
 }
 
--- what a filter leaves passes
-filter_passes : {X : Type 0} (p : X → Bool) (xs : List X) → AllByRecursion (λ x. p x ≡ true) (filter p xs)
-filter_passes p [] = tt
-filter_passes p (x ∷ xs) =
-    elim (cases_Bool (p x)) [ inl hit ↦ rw hit (hit, filter_passes p xs) | inr miss ↦ rw miss (filter_passes p xs) ]
-
 still_there : (serial : ℕ) (c : List ℕ) (o : Option Session) (rest : List Session) → AllByRecursion (λ (t : Session). not (t.serial == serial) ≡ true) rest → session_of_client c rest ≡ o → option_map (λ (t : Session). t.serial) o ≡ Some serial → ⊥
 still_there serial c None rest h e held = cc
 still_there serial c (Some t) rest h e held =
@@ -213,7 +208,7 @@ begun_indexed serial live holders i id client c none indexed =
       | inr miss ↦ rw (entry, session, miss, or_none (session_of_client c live)) (indexed c)
     ]
 
-sorted_push : (counter : ℕ) (live : List Session) (y : Session) → IsStrictlySortedBy serial_order live → AllByRecursion (λ (s : Session). s.serial ≤ counter) live → counter < y.serial → IsStrictlySortedBy serial_order (live ++ y ∷ [])
+pub sorted_push : (counter : ℕ) (live : List Session) (y : Session) → IsStrictlySortedBy serial_order live → AllByRecursion (λ (s : Session). s.serial ≤ counter) live → counter < y.serial → IsStrictlySortedBy serial_order (live ++ y ∷ [])
 unfolding IsStrictlySortedBy
 sorted_push counter [] y up counted above = (tt, tt)
 sorted_push counter (x ∷ xs) y up counted above =

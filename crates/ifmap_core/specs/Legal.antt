@@ -3,11 +3,11 @@ use Rattle.std.specs.Prelude.{◌≡◌, ℕ, ◌+◌, List, [], ◌∷◌, ◌+
 use Rattle.ifmap_core.specs.declared.events.Answer.{Answer}
 use Rattle.ifmap_core.specs.declared.events.Answer.TheVariants as the_answer
 use Rattle.ifmap_core.specs.declared.events.Event.{Event}
-use Rattle.ifmap_core.specs.declared.messages.Reply.TheVariants.{NewSession, Ended, Error}
 use Rattle.ifmap_core.specs.declared.sessions.Session.{Session}
 use Rattle.ifmap_core.specs.SessionIds.{session_id}
 use Rattle.ifmap_core.specs.State.{State, opening}
 use Rattle.ifmap_core.specs.Step.{step}
+use Rattle.ifmap_msg.specs.declared.replies.Reply.TheVariants.{NewSession, Ended, Error, Found, Published}
 
 -- events with their answers, in order
 abbrev pub History : Type 0
@@ -31,7 +31,9 @@ state_after state (e ∷ history) = state_after (step state e.0).0 history
 abbrev pub begun_by : Event → Answer → List (ℕ × List ℕ)
 begun_by event (the_answer.Reply (NewSession id publisher)) = (event.random, id) ∷ []
 begun_by event (the_answer.Reply Ended) = []
-begun_by event (the_answer.Reply (Error code)) = []
+begun_by event (the_answer.Reply Published) = []
+begun_by event (the_answer.Reply (Found entries)) = []
+begun_by event (the_answer.Reply (Error code note)) = []
 
 -- all such ids of a history, in order
 abbrev pub begun_ids : History → List (ℕ × List ℕ)

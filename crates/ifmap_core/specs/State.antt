@@ -1,20 +1,29 @@
 -- What the machine knows between two events.
-use Rattle.std.specs.Prelude.{ℕ, ◌==◌, Bool, List, [], filter, find, Option, not}
+use Rattle.std.specs.Prelude.{ℕ, ◌==◌, Bool, List, [], filter, find, max, Option, not}
 use Rattle.std.specs.Cmp.Lexicographic.{pointwise}
 use Rattle.std.specs.List.{list_any}
 use Rattle.ifmap_core.specs.declared.sessions.Session.{Session}
+use Rattle.ifmap_graph.specs.declared.attachments.Attachment.{Attachment}
 
 pub record State : Type 0 where
+  -- the greatest moment that was handed in
+  pub moment : ℕ
   -- after how many seconds without a request a session is to expire; no step ends one for that yet
   pub ttl : ℕ
   -- the serial that was given last
   pub counter : ℕ
+  -- what is attached to identifiers and links, in order
+  pub graph : List Attachment
   -- the live sessions, in the order of their serials
   pub sessions : List Session
 
 -- the state at the start
 abbrev pub opening : ℕ → State
-opening ttl = record { ttl = ttl; counter = 0; sessions = [] }
+opening ttl = record { moment = 0; ttl = ttl; counter = 0; graph = []; sessions = [] }
+
+-- the state at that moment, or at its own where that is later
+abbrev pub advanced : ℕ → State → State
+advanced moment state = record state { moment = max state.moment moment }
 
 -- whether two texts are one
 abbrev pub is_text : List ℕ → List ℕ → Bool

@@ -1,29 +1,41 @@
 -- What the machine answers to an event, and the state after it.
-use Rattle.std.specs.Prelude.{ℕ, ◌+◌, ◌-◌, ◌^◌, ◌==◌, ◌&&◌, ◌||◌, nat_le, Bool, List, [], ◌∷◌, ◌++◌, length, Option, None, Some, is_none, if◌then◌else◌}
-use Rattle.ifmap_core.specs.declared.codes.Code.{Code}
-use Rattle.ifmap_core.specs.declared.codes.Code.TheVariants.{AccessDenied, InvalidSessionID, SystemError}
+use Rattle.std.specs.Prelude.{ℕ, ◌+◌, ◌-◌, ◌^◌, ◌==◌, ◌&&◌, ◌||◌, nat_le, nat_lt, Bool, List, [], ◌∷◌, ◌++◌, length, Option, None, Some, is_none, if◌then◌else◌}
 use Rattle.ifmap_core.specs.declared.events.Answer.{Answer}
 use Rattle.ifmap_core.specs.declared.events.Answer.TheVariants as the_answer
 use Rattle.ifmap_core.specs.declared.events.Ask.{Ask}
 use Rattle.ifmap_core.specs.declared.events.Ask.TheVariants.{Request}
 use Rattle.ifmap_core.specs.declared.events.Event.{Event}
-use Rattle.ifmap_core.specs.declared.messages.Reply.TheVariants as the_reply
-use Rattle.ifmap_core.specs.declared.messages.Request.TheVariants.{NewSession, EndSession}
 use Rattle.ifmap_core.specs.declared.sessions.Session.{Session}
+use Rattle.ifmap_core.specs.Apply.{apply}
+use Rattle.ifmap_core.specs.Fresh.{found, fresh, limit_note, size_of}
+use Rattle.ifmap_core.specs.Retract.{retracted}
 use Rattle.ifmap_core.specs.SessionIds.{session_id}
-use Rattle.ifmap_core.specs.State.{State, is_text, session_of_client, session_with_id, without_sessions}
+use Rattle.ifmap_core.specs.State.{State, advanced, is_text, session_of_client, session_with_id, without_sessions}
+use Rattle.ifmap_graph.specs.declared.attachments.Attachment.{Attachment}
+use Rattle.ifmap_ident.specs.declared.codes.Code.{Code}
+use Rattle.ifmap_ident.specs.declared.codes.Code.TheVariants.{AccessDenied, InvalidSessionID, SearchResultsTooBig, SystemError}
+use Rattle.ifmap_ident.specs.Codes.{code_name}
+use Rattle.ifmap_msg.specs.declared.replies.Reply.TheVariants as the_reply
+use Rattle.ifmap_msg.specs.declared.requests.PublishOp.{PublishOp}
+use Rattle.ifmap_msg.specs.declared.requests.Request.TheVariants as the_request
+use Rattle.ifmap_msg.specs.declared.requests.Search.{Search}
 
 -- how many sessions may live
 abbrev pub most_sessions : ℕ
 most_sessions = 10000
 
--- a refusal
-abbrev pub refused : Code → Answer
-refused code = the_answer.Reply (the_reply.Error code)
+-- a refusal with a note
+abbrev pub refused_as : Code → List ℕ → Answer
+refused_as code note = the_answer.Reply (the_reply.Error code note)
 
--- the state after the end of these sessions
+-- a refusal whose note is the code's name
+abbrev pub refused : Code → Answer
+refused code = refused_as code (code_name code)
+
+-- the state after the end of these sessions, and of what was to stay as long as they
 abbrev pub ended : List ℕ → State → State
-ended serials state = record state { sessions = without_sessions serials state.sessions }
+ended serials state =
+    record state { graph = retracted serials state.graph; sessions = without_sessions serials state.sessions }
 
 -- the state after the end of the client's session, if there is one
 abbrev pub ended_session : Option Session → State → State
@@ -54,15 +66,32 @@ in_session state client None accept = (state, refused InvalidSessionID)
 in_session state client (Some s) accept = if is_text s.client client then accept s else (state, refused AccessDenied)
 
 -- the client ends a session of its own
-abbrev pub end_session : State → List ℕ → List ℕ → State × Answer
-end_session state client id =
-    in_session state client (session_with_id id state.sessions) (λ s. (ended (s.serial ∷ []) state, the_answer.Reply the_reply.Ended))
+abbrev pub end_session : State → Session → State × Answer
+end_session state s = (ended (s.serial ∷ []) state, the_answer.Reply the_reply.Ended)
+
+-- the client publishes in a session of its own, at the state's moment
+abbrev pub publish : State → List PublishOp → Session → State × Answer
+publish state ops s =
+    (record state { graph = apply state.graph (record { client = s.client; serial = s.serial; moment = state.moment }) ops }, the_answer.Reply the_reply.Published)
+
+-- what a search is answered: refused where the size of what it finds is greater than its limit
+abbrev pub search_answer : List Attachment → Search → Answer
+search_answer graph search =
+    let size = size_of (found graph search) in
+    if nat_lt search.max_size size
+    then refused_as SearchResultsTooBig (limit_note size search.max_size)
+    else the_answer.Reply (the_reply.Found (fresh graph search))
 
 -- the row of each request
 abbrev pub step_ask : State → Event → Ask → State × Answer
-step_ask state event (Request NewSession) = new_session state event.client event.random
-step_ask state event (Request (EndSession id)) = end_session state event.client id
+step_ask state event (Request the_request.NewSession) = new_session state event.client event.random
+step_ask state event (Request (the_request.EndSession id)) =
+    in_session state event.client (session_with_id id state.sessions) (end_session state)
+step_ask state event (Request (the_request.Publish id ops)) =
+    in_session state event.client (session_with_id id state.sessions) (publish state ops)
+step_ask state event (Request (the_request.Search id search)) =
+    in_session state event.client (session_with_id id state.sessions) (λ s. (state, search_answer state.graph search))
 
--- the state after an event, and its answer
+-- the state after an event, and its answer: the moment is taken in before all else
 abbrev pub step : State → Event → State × Answer
-step state event = step_ask state event event.ask
+step state event = step_ask (advanced event.moment state) event event.ask

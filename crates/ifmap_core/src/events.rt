@@ -1,7 +1,7 @@
 //! Events, which the machine answers one after another.
-use crate::clients::ClientName;
-use crate::messages::{Reply, Request};
 use ifmap_io::Moment;
+use ifmap_meta::ClientName;
+use ifmap_msg::{Reply, Request};
 
 /// What is asked of the machine.
 #[derive(Debug, Drop)]
@@ -12,7 +12,7 @@ pub enum Ask {
 /// One event: a request with all that its answer depends on beside the state.
 #[derive(Debug, Drop)]
 pub struct Event {
-    /// When the request came. No answer depends on it yet.
+    /// When the request came.
     pub moment: Moment,
     /// Who asks.
     pub client: ClientName,

@@ -2,19 +2,15 @@
 //! the definition in specs/Step.antt.
 #![tactic(auto)]
 
-pub mod clients;
-pub mod codes;
 pub mod events;
 pub mod laws;
 pub mod machine;
-pub mod messages;
+mod publishing;
+mod searching;
 mod sessions;
 
-pub use clients::ClientName;
-pub use codes::Code;
 pub use events::{Answer, Ask, Event};
 pub use machine::Core;
-pub use messages::{Reply, Request};
 pub use sessions::Session;
 
 #[cfg(test)]

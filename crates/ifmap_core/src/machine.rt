@@ -1,17 +1,23 @@
 //! The machine: a state, and one step for each event.
-ghost use Rattle.std.specs.Prelude.{◌≡◌, ◌-◌, ◌^◌, ◌<◌, ◌≤◌, ◌↔◌, IfErr, IfOk, OnErr, Some};
+ghost use Rattle.std.specs.Prelude.{◌≡◌, ◌-◌, ◌^◌, ◌<◌, ◌≤◌, ◌↔◌, IfErr, IfOk, OnErr, OnOk, Some, vec_len};
 ghost use Rattle.std.specs.Bool.{OnFalse};
-ghost use Rattle.ifmap_core.specs.Causes.{AsksForNoneLeft, NamesAnothersSession, NamesNoSession};
-ghost use Rattle.ifmap_core.specs.declared.codes.Code.{Code};
-ghost use Rattle.ifmap_core.specs.State.{State, opening, session_with_id};
-ghost use Rattle.ifmap_core.specs.Step.{end_session, in_session, is_full, new_session, refused, step};
+ghost use Rattle.ifmap_core.specs.Apply.{apply};
+ghost use Rattle.ifmap_core.specs.Causes.{AsksForNoneLeft, FindsTooMuch, IsRefusal, NamesAnothersSession, NamesNoSession};
+ghost use Rattle.ifmap_core.specs.Rows.{attached_all};
+ghost use Rattle.ifmap_core.specs.State.{State, advanced, opening, session_of_client, session_with_id, session_with_serial};
+ghost use Rattle.ifmap_core.specs.Step.{end_session, ended, ended_session, in_session, is_full, new_session, publish, refused, search_answer, step, step_ask};
+ghost use Rattle.ifmap_ident.specs.declared.codes.Code.{Code};
 
-use crate::clients::ClientName;
-use crate::codes::Code;
 use crate::events::{Answer, Ask, Event};
-use crate::messages::{Reply, Request};
+use crate::publishing::Author;
+use crate::searching::search_answer;
 use crate::sessions::{Session, Sessions};
-use ifmap_elem::{Copied, Equals, Text};
+use ifmap_elem::{Copied, Equals, Many, Text};
+use ifmap_graph::{Graph, Row};
+use ifmap_ident::Code;
+use ifmap_io::Moment;
+use ifmap_meta::ClientName;
+use ifmap_msg::{PublishOp, Reply, Request, Search};
 use ifmap_steps::Steps;
 use std::alloc::{AllocError, Global};
 use std::marker::Model;
@@ -24,15 +30,21 @@ pub const MOST_SESSIONS: usize = 10_000;
 #[derive(Drop)]
 pub struct Core {
     ttl: u32,
+    moment: Moment,
+    graph: Graph,
     sessions: Sessions,
 }
 
 impl Model for Core {
+    ghost use Rattle.std.specs.Coded.{codes};
     ghost use Rattle.ifmap_core.specs.State.{State};
+    ghost use Rattle.ifmap_graph.specs.contracts.attachments.Attachment as the_attachment;
 
     ghost Value = { State };
 
-    ghost view = { λ core. record { ttl = core.ttl; counter = core.sessions.counter; sessions = core.sessions.live } };
+    ghost coded = { Prim.hlevel (codes, the_attachment.the_row.coded) };
+
+    ghost view = { λ core. record { moment = core.moment; ttl = core.ttl; counter = core.sessions.counter; graph = core.graph.rows; sessions = core.sessions.live } };
 }
 
 impl Core {
@@ -43,13 +55,15 @@ impl Core {
     {
         Core {
             ttl,
+            moment: Moment::new(0).unwrap(),
+            graph: Graph::new(alloc),
             sessions: Sessions::new(alloc),
         }
     }
 
     /// Answers an event. The answer and the state after it are those of `step`; the one error is
-    /// want of memory, which leaves the state as it was, as a refusal does. No link is looked at. No
-    /// session expires yet, so `ttl` and the event's moment change nothing.
+    /// want of memory, which leaves the state as it was. A refusal takes the event's moment in and
+    /// changes nothing else. No link is looked at. No session expires yet, so `ttl` changes nothing.
     pub fn step<L: Ledger>(
         &mut self,
         alloc: Global,
@@ -58,24 +72,43 @@ impl Core {
     ) -> Result<Answer, AllocError>
         ensures answer { IfOk result (λ answer. (self.new, answer) ≡ step self.old event.now) }
         ensures err { OnErr result (self.new ≡ self.old) }
-        ensures refusal { IfOk result (λ answer. (code : Code) → answer ≡ refused code → self.new ≡ self.old) }
+        ensures refusal { IfOk result (λ answer. (code : Code) → IsRefusal code answer → self.new ≡ advanced event.now.moment self.old) }
         ensures cost { steps.new ≡ steps.old }
 
         // Each refusal comes exactly where its cause stands.
-        ensures invalid_session { IfOk result (λ answer. (answer ≡ refused Code.InvalidSessionID) ↔ NamesNoSession self.old event.now.ask) }
-        ensures access_denied { IfOk result (λ answer. (answer ≡ refused Code.AccessDenied) ↔ NamesAnothersSession self.old event.now.client event.now.ask) }
-        ensures system_error { IfOk result (λ answer. (answer ≡ refused Code.SystemError) ↔ AsksForNoneLeft self.old event.now.client event.now.ask) }
+        ensures invalid_session { IfOk result (λ answer. IsRefusal Code.InvalidSessionID answer ↔ NamesNoSession self.old event.now.ask) }
+        ensures access_denied { IfOk result (λ answer. IsRefusal Code.AccessDenied answer ↔ NamesAnothersSession self.old event.now.client event.now.ask) }
+        ensures system_error { IfOk result (λ answer. IsRefusal Code.SystemError answer ↔ AsksForNoneLeft self.old event.now.client event.now.ask) }
+        ensures too_big { IfOk result (λ answer. IsRefusal Code.SearchResultsTooBig answer ↔ FindsTooMuch self.old event.now.client event.now.ask) }
     {
+        let before = self.moment;
+        self.moment = before.max(event.moment);
+        match self.answer(alloc, event) {
+            Ok(answer) => Ok(answer),
+            Err(no_memory) => {
+                self.moment = before;
+                Err(no_memory)
+            }
+        }
+    }
+
+    // The row of the request, once the event's moment was taken in.
+    fn answer(&mut self, alloc: Global, event: &Event) -> Result<Answer, AllocError>
+        ensures answer { IfOk result (λ answer. (self.new, answer) ≡ step_ask self.old event.now event.now.ask) }
+        ensures err { OnErr result (self.new ≡ self.old) }
+    {
+        let client = &event.client;
         match &event.ask {
-            Ask::Request(Request::NewSession) => self.new_session(
-                alloc,
-                &event.client,
-                event.random,
+            Ask::Request(Request::NewSession) => self.new_session(alloc, client, event.random),
+            Ask::Request(Request::EndSession { session }) => self.end_session(
+                alloc, session, client,
             ),
-            Ask::Request(Request::EndSession { session }) => Ok(self.end_session(
-                session,
-                &event.client,
-            )),
+            Ask::Request(Request::Publish { session, ops }) => self.publish(
+                alloc, session, ops, client,
+            ),
+            Ask::Request(Request::Search { session, search }) => self.search(
+                alloc, session, search, client,
+            ),
         }
     }
 
@@ -89,14 +122,15 @@ impl Core {
         ensures err { OnErr result (self.new ≡ self.old) }
     {
         if self.is_full(client) {
-            return Ok(refusal(Code::SystemError));
+            return refusal(alloc, Code::SystemError);
         }
         let held = self.sessions.of_client(client);
         let opening = self.sessions.prepare(alloc, client, random)?;
         let session = opening.id.copy(alloc)?;
         let publisher = client.text().copy(alloc)?;
-        if let Some(serial) = held {
-            self.sessions.end(serial);
+        if let Some(former) = held {
+            self.sessions.end(former);
+            self.graph.retract_session(former);
         }
         self.sessions.open(opening);
         Ok(Answer::Reply(Reply::NewSession { session, publisher }))
@@ -112,15 +146,78 @@ impl Core {
             || self.sessions.counter() == u64::MAX
     }
 
-    fn end_session(&mut self, id: &Text, client: &ClientName) -> Answer
-        ensures { (self.new, result) ≡ end_session self.old client.now id.now }
+    fn end_session(
+        &mut self,
+        alloc: Global,
+        id: &Text,
+        client: &ClientName,
+    ) -> Result<Answer, AllocError>
+        ensures answer { IfOk result (λ answer. (self.new, answer) ≡ in_session self.old client.now (session_with_id id.now self.old.sessions) (end_session self.old)) }
+        ensures err { OnErr result (self.new ≡ self.old) }
     {
         match self.owned(id, client) {
             Ok(serial) => {
                 self.sessions.end(serial);
-                Answer::Reply(Reply::Ended)
+                self.graph.retract_session(serial);
+                Ok(Answer::Reply(Reply::Ended))
             }
-            Err(code) => refusal(code),
+            Err(code) => refusal(alloc, code),
+        }
+    }
+
+    fn publish(
+        &mut self,
+        alloc: Global,
+        id: &Text,
+        ops: &Many<PublishOp>,
+        client: &ClientName,
+    ) -> Result<Answer, AllocError>
+        ensures answer { IfOk result (λ answer. (self.new, answer) ≡ in_session self.old client.now (session_with_id id.now self.old.sessions) (publish self.old ops.now)) }
+        ensures err { OnErr result (self.new ≡ self.old) }
+    {
+        match self.owned(id, client) {
+            Ok(serial) => {
+                self.apply(alloc, ops, client, serial)?;
+                Ok(Answer::Reply(Reply::Published))
+            }
+            Err(code) => refusal(alloc, code),
+        }
+    }
+
+    // All the operations, or none where memory is wanting.
+    fn apply(
+        &mut self,
+        alloc: Global,
+        ops: &Many<PublishOp>,
+        client: &ClientName,
+        serial: u64,
+    ) -> Result<(), AllocError>
+        ensures ok { OnOk result (self.new ≡ record self.old { graph = apply self.old.graph (record { client = client.now; serial = serial; moment = self.old.moment }) ops.now }) }
+        ensures err { OnErr result (self.new ≡ self.old) }
+    {
+        let author = Author {
+            client,
+            serial,
+            moment: self.moment,
+        };
+        let rows = author.rows_of(alloc, ops)?;
+        self.graph.reserve(rows.len())?;
+        attach_all(&mut self.graph, rows);
+        Ok(())
+    }
+
+    fn search(
+        &self,
+        alloc: Global,
+        id: &Text,
+        search: &Search,
+        client: &ClientName,
+    ) -> Result<Answer, AllocError>
+        ensures { IfOk result (λ answer. (self.now, answer) ≡ in_session self.now client.now (session_with_id id.now self.now.sessions) (λ s. (self.now, search_answer self.now.graph search.now))) }
+    {
+        match self.owned(id, client) {
+            Ok(_) => search_answer(alloc, &self.graph, search),
+            Err(code) => refusal(alloc, code),
         }
     }
 
@@ -140,8 +237,20 @@ impl Core {
     }
 }
 
-fn refusal(code: Code) -> Answer
-    ensures { result ≡ refused code }
+// Attaches the rows in order. It takes no memory.
+fn attach_all(graph: &mut Graph, rows: Vec<Row>)
+    requires { vec_len rows ≤ graph.old.room }
+    ensures { graph.new.rows ≡ attached_all graph.old.rows rows.items }
 {
-    Answer::Reply(Reply::Error { code })
+    for row in rows {
+        graph.attach(row);
+    }
+}
+
+// A refusal whose note is the code's name.
+fn refusal(alloc: Global, code: Code) -> Result<Answer, AllocError>
+    ensures { IfOk result (λ answer. answer ≡ refused code) }
+{
+    let note = Text(String::from_str(alloc, code.name())?);
+    Ok(Answer::Reply(Reply::Error { code, note }))
 }

@@ -7,8 +7,8 @@ ghost use Rattle.ifmap_core.specs.SessionIds.{session_id};
 ghost use Rattle.ifmap_core.specs.Table.{IsPlaceFor, IsPlaceOf, client_order, serial_order};
 ghost use Rattle.ifmap_core.specs.State.{is_text, session_of_client, session_with_id, session_with_serial, without_sessions};
 
-use crate::clients::ClientName;
 use ifmap_elem::{Copied, Equals, Text};
+use ifmap_meta::ClientName;
 use std::alloc::{AllocError, Global};
 use std::marker::Model;
 use uuid::Uuid;

@@ -1,0 +1,65 @@
+//! What a search is answered.
+ghost use Rattle.std.specs.Prelude.{◌≡◌, ◌<◌, ◌^◌, IfOk, map, sum_by};
+ghost use Rattle.ifmap_core.specs.Fresh.{entry_of, limit_note, size_of};
+ghost use Rattle.ifmap_core.specs.Step.{search_answer};
+
+use crate::events::Answer;
+use ifmap_elem::{Copied, Many, Text};
+use ifmap_graph::{Graph, Row};
+use ifmap_ident::{Code, Item};
+use ifmap_msg::{Entry, Reply, Search};
+use std::alloc::{AllocError, Global};
+
+/// What the search finds in the graph, or the refusal where its size is greater than the limit.
+pub fn search_answer(alloc: Global, graph: &Graph, search: &Search) -> Result<Answer, AllocError>
+    ensures { IfOk result (λ answer. answer ≡ search_answer graph.now.rows search.now) }
+{
+    let start = Item::One(search.start.copy(alloc)?);
+    let rows = graph.on(&start);
+    let size = size_of(rows)?;
+    if search.max_size < size {
+        let note = limit_note(alloc, size, search.max_size)?;
+        return Ok(Answer::Reply(Reply::Error {
+            code: Code::SearchResultsTooBig,
+            note,
+        }));
+    }
+    let entries = entries_of(alloc, rows)?;
+    Ok(Answer::Reply(Reply::Found(entries)))
+}
+
+// The size of a result. A sum of 2^64 or more is told as want of memory.
+fn size_of(rows: &[Row]) -> Result<u64, AllocError>
+    ensures { IfOk result (λ size. size ≡ size_of rows.now) }
+{
+    let mut size = 0u64;
+    for row in rows {
+        size = size.checked_add(row.size()).ok_or(AllocError)?;
+    }
+    Ok(size)
+}
+
+fn entries_of(alloc: Global, rows: &[Row]) -> Result<Many<Entry>, AllocError>
+    ensures { IfOk result (λ entries. entries ≡ map entry_of rows.now) }
+{
+    let mut entries = Vec::with_capacity(alloc, rows.len())?;
+    for row in rows {
+        entries.push(entry_of(alloc, row)?)?;
+    }
+    Ok(Many(entries))
+}
+
+fn entry_of(alloc: Global, row: &Row) -> Result<Entry, AllocError>
+    ensures { IfOk result (λ entry. entry ≡ entry_of row.now) }
+{
+    Ok(Entry {
+        item: row.item().copy(alloc)?,
+        element: row.stored().element.copy(alloc)?,
+    })
+}
+
+fn limit_note(alloc: Global, size: u64, limit: u64) -> Result<Text, AllocError>
+    ensures { IfOk result (λ note. note ≡ limit_note size limit) }
+{
+    Ok(Text(format!(in alloc; "{size} of {limit}")?))
+}
