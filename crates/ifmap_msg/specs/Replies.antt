@@ -40,9 +40,9 @@ abbrev pub new_session_result : List ℕ → List ℕ → Element
 new_session_result session publisher =
     plain_element (codes "newSessionResult")
     (plain_attribute (codes "ifmap-publisher-id") publisher
-        ∷ plain_attribute (codes "max-poll-result-size") (codes "5000000")
-        ∷ plain_attribute (codes "session-id") session
-        ∷ [])
+    ∷ plain_attribute (codes "max-poll-result-size") (codes "5000000")
+    ∷ plain_attribute (codes "session-id") session
+    ∷ [])
     []
 
 abbrev pub error_result : List ℕ → List ℕ → Element

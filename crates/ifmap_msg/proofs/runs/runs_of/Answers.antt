@@ -9,6 +9,6 @@ loop-entry-init c = ap (λ runs. onto c.args.entries.items (reverse runs)) c.new
 pub loop-entry-preserved : goal.loop-entry-preserved
 loop-entry-preserved c =
     ap (onto c.pop.new.self.items) c.in_ok-take_in.ensures
-        ∙ sym (onto_last c.pop.new.self.items c.in-Some.entry (reverse c.loop-entry.runs.items))
-        ∙ ap (λ es. onto es (reverse c.loop-entry.runs.items)) (sym c.in-Some.ensures.items)
-        ∙ c.loop-entry.invariant
+    ∙ sym (onto_last c.pop.new.self.items c.in-Some.entry (reverse c.loop-entry.runs.items))
+    ∙ ap (λ es. onto es (reverse c.loop-entry.runs.items)) (sym c.in-Some.ensures.items)
+    ∙ c.loop-entry.invariant
