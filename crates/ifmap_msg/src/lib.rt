@@ -1,7 +1,7 @@
 //! Requests and replies as values, and a reply as the element that is sent for it.
 #![tactic(auto)]
 
-mod building;
+pub mod building;
 pub mod replies;
 pub mod requests;
 pub mod results;

@@ -4,7 +4,6 @@ pub mod Forms
 pub mod Framing
 pub mod Headers
 pub mod Meanings
-pub mod Pieces
 pub mod Progress
 pub mod Scripts
 pub mod Sending

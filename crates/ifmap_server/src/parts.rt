@@ -1,0 +1,73 @@
+//! Texts that are fixed but for some parts.
+ghost use Rattle.std.specs.Prelude.{◌≡◌, ◌∷◌, [], map, Bor, IfOk, MatchOption, None, Some, option_map};
+ghost use Rattle.std.specs.Str.{IsAscii};
+ghost use Rattle.ifmap_server.specs.Parts.{behind, cut, parts_in, parts_from};
+
+use ifmap_elem::Text;
+use std::alloc::{AllocError, Global};
+
+/// The parts of a text that begins with `start`. Behind each part stand the byte that ends it and a
+/// fixed text.
+pub fn parts_in<'a>(
+    alloc: Global,
+    start: &str,
+    fixed: &[(u8, &str)],
+    text: &'a [u8],
+) -> Result<Option<Vec<&'a [u8]>>, AllocError>
+    ensures { IfOk result (λ found. option_map (λ parts. map (λ part. part.now) parts.items) found ≡ parts_in start.now (map (λ f. (f.0, f.1.now)) fixed.now) text.now) }
+{
+    match behind(text, start) {
+        Some(rest) => parts_from(alloc, fixed, rest),
+        None => Ok(None),
+    }
+}
+
+fn parts_from<'a>(
+    alloc: Global,
+    fixed: &[(u8, &str)],
+    text: &'a [u8],
+) -> Result<Option<Vec<&'a [u8]>>, AllocError>
+    ensures { IfOk result (λ found. option_map (λ parts. map (λ part. part.now) parts.items) found ≡ parts_from (map (λ f. (f.0, f.1.now)) fixed.now) text.now) }
+{
+    let mut parts = Vec::new(alloc);
+    let mut rest = text;
+    for (end, next) in fixed {
+        let Some((part, after)) = cut(rest, *end) else {
+            return Ok(None);
+        };
+        let Some(left) = behind(after, next) else {
+            return Ok(None);
+        };
+        parts.push(part)?;
+        rest = left;
+    }
+    if rest.is_empty() {
+        Ok(Some(parts))
+    } else {
+        Ok(None)
+    }
+}
+
+// The text before the first of a byte, and the text behind it.
+fn cut(text: &[u8], end: u8) -> Option<(&[u8], &[u8])>
+    ensures { MatchOption result (cut end text.now ≡ None) (λ halves. cut end text.now ≡ Some (halves.0.now, halves.1.now)) }
+{
+    let place = text.iter().position(|b| *b == end)?;
+    Some((&text[..place], &text[place + 1..]))
+}
+
+// What follows a fixed text.
+fn behind<'a>(text: &'a [u8], fixed: &str) -> Option<&'a [u8]>
+    ensures { MatchOption result (behind fixed.now text.now ≡ None) (λ rest. behind fixed.now text.now ≡ Some rest.now) }
+{
+    text.strip_prefix(fixed.as_bytes())
+}
+
+/// A part as text.
+pub fn text_of(alloc: Global, part: &[u8]) -> Result<Text, AllocError>
+    requires { IsAscii part.now }
+    ensures { IfOk result (λ text. text ≡ part.now) }
+{
+    let text = std::str::from_utf8(part).unwrap();
+    Ok(Text(String::from_str(alloc, text)?))
+}
