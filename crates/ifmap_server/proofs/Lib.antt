@@ -4,6 +4,7 @@ pub mod Forms
 pub mod Framing
 pub mod Headers
 pub mod Meanings
+pub mod PartLaws
 pub mod Progress
 pub mod Scripts
 pub mod Sending

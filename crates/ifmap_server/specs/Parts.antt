@@ -15,12 +15,16 @@ behind fixed text = if bytes_eq (take (length fixed) text) fixed then Some (drop
 abbrev pub Fixed : Type 0
 Fixed = ℕ × List ℕ
 
+-- the part at the front of a text, and what stands behind the fixed text that follows
+abbrev pub part_before : Fixed → List ℕ → Option (List ℕ × List ℕ)
+part_before f text = option_and_then (λ halves. option_map (λ rest. (halves.0, rest)) (behind f.1 halves.1)) (cut f.0 text)
+
 -- the parts of a text that begins with one, each up to the byte that ends it
 abbrev pub parts_from : List Fixed → List ℕ → Option (List (List ℕ))
 parts_from [] [] = Some []
 parts_from [] (b ∷ bs) = None
 parts_from (f ∷ fs) text =
-    option_and_then (λ halves. option_and_then (λ rest. option_map (λ parts. halves.0 ∷ parts) (parts_from fs rest)) (behind f.1 halves.1)) (cut f.0 text)
+    option_and_then (λ front. option_map (λ parts. front.0 ∷ parts) (parts_from fs front.1)) (part_before f text)
 
 -- the parts of a text that begins with a fixed text
 abbrev pub parts_in : List ℕ → List Fixed → List ℕ → Option (List (List ℕ))

@@ -1,7 +1,7 @@
 //! Texts that are fixed but for some parts.
-ghost use Rattle.std.specs.Prelude.{◌≡◌, ◌∷◌, [], map, Bor, IfOk, MatchOption, None, Some, option_map};
+ghost use Rattle.std.specs.Prelude.{◌≡◌, ◌≢◌, ◌<◌, ℕ, length, map, slice_index, IfNone, IfOk, IfSome, MatchOption, None, Some, option_map};
 ghost use Rattle.std.specs.Str.{IsAscii};
-ghost use Rattle.ifmap_server.specs.Parts.{behind, cut, parts_in, parts_from};
+ghost use Rattle.ifmap_server.specs.Parts.{behind, cut, part_before, parts_from, parts_in};
 
 use ifmap_elem::Text;
 use std::alloc::{AllocError, Global};
@@ -31,29 +31,37 @@ fn parts_from<'a>(
 {
     let mut parts = Vec::new(alloc);
     let mut rest = text;
-    for (end, next) in fixed {
-        let Some((part, after)) = cut(rest, *end) else {
-            return Ok(None);
-        };
-        let Some(left) = behind(after, next) else {
+    for next in fixed {
+        let Some((part, left)) = part_before(rest, next.0, next.1) else {
             return Ok(None);
         };
         parts.push(part)?;
         rest = left;
     }
-    if rest.is_empty() {
-        Ok(Some(parts))
-    } else {
-        Ok(None)
-    }
+    if rest.is_empty() { Ok(Some(parts)) } else { Ok(None) }
+}
+
+// The part up to the byte that ends it, and what stands behind the fixed text that follows.
+fn part_before<'a>(text: &'a [u8], end: u8, fixed: &str) -> Option<(&'a [u8], &'a [u8])>
+    ensures { MatchOption result (part_before (end, fixed.now) text.now ≡ None) (λ cut. part_before (end, fixed.now) text.now ≡ Some (cut.0.now, cut.1.now)) }
+{
+    let (part, after) = cut(text, end)?;
+    Some((part, behind(after, fixed)?))
 }
 
 // The text before the first of a byte, and the text behind it.
 fn cut(text: &[u8], end: u8) -> Option<(&[u8], &[u8])>
     ensures { MatchOption result (cut end text.now ≡ None) (λ halves. cut end text.now ≡ Some (halves.0.now, halves.1.now)) }
 {
-    let place = text.iter().position(|b| *b == end)?;
+    let place = place_of(text, end)?;
     Some((&text[..place], &text[place + 1..]))
+}
+
+fn place_of(text: &[u8], end: u8) -> Option<usize>
+    ensures found { IfSome result (λ place. (place < length text.now) × (slice_index text.now place ≡ end) × ((k : ℕ) → k < place → slice_index text.now k ≢ end)) }
+    ensures none { IfNone result ((k : ℕ) → k < length text.now → slice_index text.now k ≢ end) }
+{
+    text.iter().position(|b| *b == end)
 }
 
 // What follows a fixed text.
