@@ -4,7 +4,8 @@ use Rattle.std.proofs.lemmas.Bool.{ne_eqb, eq-eqb}
 use Rattle.std.proofs.lemmas.List.{append_assoc, get_or-take, length-drop, length-take-le, take_at, drop_at}
 use Rattle.std.proofs.Math.Seq.{take-length}
 use Rattle.std.proofs.lemmas.Slice.Eq.{bytes_eq-Decides}
-use Rattle.std.specs.Prelude.{option_map, option_and_then}
+use Rattle.std.proofs.lemmas.Bool.Decides.{nat_tests}
+use Rattle.std.specs.Prelude.{◌==◌, option_map, option_and_then}
 use Rattle.std.specs.Str.{bytes_eq}
 use Rattle.ifmap_server.specs.Parts.{Fixed, behind, cut, part_before, parts_from, parts_in}
 use Rattle.ifmap_server.proofs.Splits.{Without, cut_at, without_from}
@@ -21,29 +22,25 @@ cut_none c (x ∷ xs) w = rw (ne_eqb x c w.0) (ap (option_map (λ (h : List ℕ 
 
 -- reading goes on behind a part
 
-abbrev pub onto : List (List ℕ) → Option (List (List ℕ)) → Option (List (List ℕ))
-onto done found = option_map (λ parts. done ++ parts) found
+pub no_start : (start : List ℕ) (fs : List Fixed) (text : List ℕ) → behind start text ≡ None → parts_in start fs text ≡ None
+no_start start fs text e = ap (option_and_then (parts_from fs)) e
 
-pub onto_nothing : (found : Option (List (List ℕ))) → onto [] found ≡ found
-onto_nothing None = refl
-onto_nothing (Some parts) = refl
+pub started : (start : List ℕ) (fs : List Fixed) (text rest : List ℕ) (found : Option (List (List ℕ))) → behind start text ≡ Some rest → parts_from fs rest ≡ found → parts_in start fs text ≡ found
+started start fs text rest found e f = ap (option_and_then (parts_from fs)) e ∙ f
 
-onto_part : (done : List (List ℕ)) (part : List ℕ) (found : Option (List (List ℕ))) → onto (done ++ part ∷ []) found ≡ onto done (option_map (λ parts. part ∷ parts) found)
-onto_part done part None = refl
-onto_part done part (Some parts) = ap Some (append_assoc done (part ∷ []) parts)
+pub no_part : (f : Fixed) (fs : List Fixed) (text : List ℕ) → part_before f text ≡ None → parts_from (f ∷ fs) text ≡ None
+no_part f fs text e = ap (option_and_then (λ front. option_map (λ parts. front.0 ∷ parts) (parts_from fs front.1))) e
 
-pub behind_part : (done : List (List ℕ)) (f : Fixed) (fs : List Fixed) (text part rest : List ℕ) → part_before f text ≡ Some (part, rest) → onto (done ++ part ∷ []) (parts_from fs rest) ≡ onto done (parts_from (f ∷ fs) text)
-behind_part done f fs text part rest e = onto_part done part (parts_from fs rest) ∙ ap (onto done) (sym (ap (option_and_then (λ front. option_map (λ parts. front.0 ∷ parts) (parts_from fs front.1))) e))
+pub one_part : (f : Fixed) (fs : List Fixed) (text part rest : List ℕ) (found : Option (List (List ℕ))) → part_before f text ≡ Some (part, rest) → parts_from fs rest ≡ found → parts_from (f ∷ fs) text ≡ option_map (λ parts. part ∷ parts) found
+one_part f fs text part rest found e r = ap (option_and_then (λ front. option_map (λ parts. front.0 ∷ parts) (parts_from fs front.1))) e ∙ ap (option_map (λ parts. part ∷ parts)) r
 
-pub no_part : (done : List (List ℕ)) (f : Fixed) (fs : List Fixed) (text : List ℕ) → part_before f text ≡ None → onto done (parts_from (f ∷ fs) text) ≡ None
-no_part done f fs text e = ap (λ front. onto done (option_and_then (λ front. option_map (λ parts. front.0 ∷ parts) (parts_from fs front.1)) front)) e
+pub no_more : (rest : List ℕ) → (length rest == 0) ≡ true → parts_from [] rest ≡ Some []
+no_more [] e = refl
+no_more (b ∷ bs) e = grind (arith, nat_tests)
 
-pub no_more : (done : List (List ℕ)) → onto done (parts_from [] []) ≡ Some done
-no_more done = ap Some (append_none done)
-  where
-    append_none : (xs : List (List ℕ)) → xs ++ [] ≡ xs
-    append_none [] = refl
-    append_none (x ∷ xs) = ap (λ ys. x ∷ ys) (append_none xs)
+pub some_more : (rest : List ℕ) → (length rest == 0) ≡ false → parts_from [] rest ≡ None
+some_more [] e = grind (arith, nat_tests)
+some_more (b ∷ bs) e = refl
 
 pub cut_there : (c : ℕ) (xs : List ℕ) (place : ℕ) → place < length xs → get_or xs place 0 ≡ c → ((k : ℕ) → k < place → get_or xs k 0 ≢ c) → cut c xs ≡ Some (take place xs, take (length xs - (place + 1)) (drop (place + 1) xs))
 cut_there c xs place within at first =

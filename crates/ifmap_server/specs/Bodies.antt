@@ -37,8 +37,11 @@ abbrev pub ending_by : List (List ℕ) → Option Request
 ending_by (id ∷ []) = if is_id id then Some (EndSession id) else None
 ending_by parts = None
 
+abbrev pub end_parts : List ℕ → Option (List (List ℕ))
+end_parts body = parts_in before_id ((34, behind_id) ∷ []) body
+
 abbrev pub ending : List ℕ → Option Request
-ending body = option_and_then ending_by (parts_in before_id ((34, behind_id) ∷ []) body)
+ending body = option_and_then ending_by (end_parts body)
 
 -- the first request of two, if there is one
 abbrev pub first_of : Option Request → Option Request → Option Request

@@ -150,7 +150,7 @@ publish_of p = request.Publish p.session (operations_of p)
 -- the request of a body that publishes, by the parts that it has
 abbrev pub publishing_by : List (List ℕ) → Option Request
 publishing_by (session ∷ address ∷ local ∷ cardinality ∷ value ∷ closing ∷ []) =
-    if is_id session && is_local local && is_value value && bytes_eq closing local
+    if (is_id session && is_local local && is_value value) && bytes_eq closing local
     then option_and_then (λ a. option_and_then (λ c. Some (publish_of (record { session = session; address = a; local = local; cardinality = c; value = value }))) (cardinality_in cardinality)) (address_in address)
     else None
 publishing_by parts = None
@@ -165,8 +165,11 @@ publish_fixed =
     ∷ (62, codes "</metadata></update></n2:publish></n1:Body></n1:Envelope>")
     ∷ []
 
+abbrev pub publish_parts : List ℕ → Option (List (List ℕ))
+publish_parts body = parts_in publish_start publish_fixed body
+
 abbrev pub publishing : List ℕ → Option Request
-publishing body = option_and_then publishing_by (parts_in publish_start publish_fixed body)
+publishing body = option_and_then publishing_by (publish_parts body)
 
 -- the request of a body that searches, by the parts that it has
 abbrev pub searching_by : List (List ℕ) → Option Request
@@ -179,5 +182,8 @@ searching_by parts = None
 abbrev pub search_fixed : List Fixed
 search_fixed = (34, codes "><mac-address value=\"") ∷ (34, codes "/></n2:search></n1:Body></n1:Envelope>") ∷ []
 
+abbrev pub search_parts : List ℕ → Option (List (List ℕ))
+search_parts body = parts_in search_start search_fixed body
+
 abbrev pub searching : List ℕ → Option Request
-searching body = option_and_then searching_by (parts_in search_start search_fixed body)
+searching body = option_and_then searching_by (search_parts body)

@@ -1,10 +1,10 @@
 //! The bodies that are requests so far, each in one spelling. Every other spelling of them means
 //! nothing.
-ghost use Rattle.std.specs.Prelude.{◌≡◌, IfOk};
-ghost use Rattle.ifmap_server.specs.Bodies.{ending, meaning};
+ghost use Rattle.std.specs.Prelude.{◌≡◌, ◌∷◌, [], IfOk, MatchOption, None, Some};
+ghost use Rattle.ifmap_server.specs.Bodies.{end_parts, ending, meaning};
 
 use crate::ids::is_id;
-use crate::parts::{parts_in, text_of};
+use crate::parts::{behind, part_before, text_of};
 use crate::publications::{publishing, searching};
 use ifmap_msg::Request;
 use std::alloc::{AllocError, Global};
@@ -37,16 +37,24 @@ pub fn request_of(alloc: Global, body: &[u8]) -> Result<Option<Request>, AllocEr
 fn ending(alloc: Global, body: &[u8]) -> Result<Option<Request>, AllocError>
     ensures { IfOk result (λ request. request ≡ ending body.now) }
 {
-    let Some(parts) = parts_in(alloc, BEFORE_ID, &[(b'"', BEHIND_ID)], body)? else {
-        return Ok(None);
-    };
-    let [session] = parts.as_slice() else {
+    let Some(session) = end_part(body) else {
         return Ok(None);
     };
     if !is_id(session) {
         return Ok(None);
     }
-    Ok(Some(Request::EndSession {
-        session: text_of(alloc, session)?,
-    }))
+    let session = text_of(alloc, session)?;
+    Ok(Some(Request::EndSession { session }))
+}
+
+// What stands in the place of the id of a session that is to end.
+fn end_part(body: &[u8]) -> Option<&[u8]>
+    ensures { MatchOption result (end_parts body.now ≡ None) (λ id. end_parts body.now ≡ Some (id.now ∷ [])) }
+{
+    let rest = behind(body, BEFORE_ID)?;
+    let (session, rest) = part_before(rest, b'"', BEHIND_ID)?;
+    if !rest.is_empty() {
+        return None;
+    }
+    Some(session)
 }

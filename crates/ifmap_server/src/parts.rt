@@ -1,48 +1,13 @@
 //! Texts that are fixed but for some parts.
-ghost use Rattle.std.specs.Prelude.{◌≡◌, ◌≢◌, ◌<◌, ℕ, length, map, slice_index, IfNone, IfOk, IfSome, MatchOption, None, Some, option_map};
+ghost use Rattle.std.specs.Prelude.{◌≡◌, ◌≢◌, ◌<◌, ℕ, length, slice_index, IfNone, IfOk, IfSome, MatchOption, None, Some};
 ghost use Rattle.std.specs.Str.{IsAscii};
-ghost use Rattle.ifmap_server.specs.Parts.{behind, cut, part_before, parts_from, parts_in};
+ghost use Rattle.ifmap_server.specs.Parts.{behind, cut, part_before};
 
 use ifmap_elem::Text;
 use std::alloc::{AllocError, Global};
 
-/// The parts of a text that begins with `start`. Behind each part stand the byte that ends it and a
-/// fixed text.
-pub fn parts_in<'a>(
-    alloc: Global,
-    start: &str,
-    fixed: &[(u8, &str)],
-    text: &'a [u8],
-) -> Result<Option<Vec<&'a [u8]>>, AllocError>
-    ensures { IfOk result (λ found. option_map (λ parts. map (λ part. part.now) parts.items) found ≡ parts_in start.now (map (λ f. (f.0, f.1.now)) fixed.now) text.now) }
-{
-    match behind(text, start) {
-        Some(rest) => parts_from(alloc, fixed, rest),
-        None => Ok(None),
-    }
-}
-
-fn parts_from<'a>(
-    alloc: Global,
-    fixed: &[(u8, &str)],
-    text: &'a [u8],
-) -> Result<Option<Vec<&'a [u8]>>, AllocError>
-    ensures { IfOk result (λ found. option_map (λ parts. map (λ part. part.now) parts.items) found ≡ parts_from (map (λ f. (f.0, f.1.now)) fixed.now) text.now) }
-{
-    let mut parts = Vec::new(alloc);
-    let mut rest = text;
-    for next in fixed {
-        let Some((part, left)) = part_before(rest, next.0, next.1) else {
-            return Ok(None);
-        };
-        parts.push(part)?;
-        rest = left;
-    }
-    if rest.is_empty() { Ok(Some(parts)) } else { Ok(None) }
-}
-
-// The part up to the byte that ends it, and what stands behind the fixed text that follows.
-fn part_before<'a>(text: &'a [u8], end: u8, fixed: &str) -> Option<(&'a [u8], &'a [u8])>
+/// The part up to the byte that ends it, and what stands behind the fixed text that follows.
+pub fn part_before<'a>(text: &'a [u8], end: u8, fixed: &str) -> Option<(&'a [u8], &'a [u8])>
     ensures { MatchOption result (part_before (end, fixed.now) text.now ≡ None) (λ cut. part_before (end, fixed.now) text.now ≡ Some (cut.0.now, cut.1.now)) }
 {
     let (part, after) = cut(text, end)?;
@@ -64,14 +29,15 @@ fn place_of(text: &[u8], end: u8) -> Option<usize>
     text.iter().position(|b| *b == end)
 }
 
-// What follows a fixed text.
-fn behind<'a>(text: &'a [u8], fixed: &str) -> Option<&'a [u8]>
+/// What follows a fixed text.
+pub fn behind<'a>(text: &'a [u8], fixed: &str) -> Option<&'a [u8]>
     ensures { MatchOption result (behind fixed.now text.now ≡ None) (λ rest. behind fixed.now text.now ≡ Some rest.now) }
 {
     text.strip_prefix(fixed.as_bytes())
 }
 
 /// A part as text.
+#[tactic(none)]
 pub fn text_of(alloc: Global, part: &[u8]) -> Result<Text, AllocError>
     requires { IsAscii part.now }
     ensures { IfOk result (λ text. text ≡ part.now) }

@@ -1,14 +1,15 @@
 //! Bodies that publish one element on a MAC address, and bodies that search from one, each in one
 //! spelling. Every other spelling of them means nothing.
-ghost use Rattle.std.specs.Prelude.{◌≡◌, [], ◌<◌, IfOk, get_or};
+ghost use Rattle.std.specs.Prelude.{◌≡◌, ◌∷◌, [], ◌<◌, ◌&&◌, get_or, IfOk, MatchOption, None, Some};
 ghost use Rattle.std.specs.Char.{digit_char};
 ghost use Rattle.std.specs.List.{list_all};
 ghost use Rattle.ifmap_ident.specs.Addresses.{address_text};
 ghost use Rattle.ifmap_ident.specs.declared.identifiers.Identifier.TheVariants.{MacAddress};
-ghost use Rattle.ifmap_server.specs.Publications.{address_in, cardinality_in, cardinality_text, digit_number, is_local, is_local_byte, is_lower, is_value, is_value_byte, one_update, pair_at, published_element, publishing, searching};
+ghost use Rattle.ifmap_server.specs.Ids.{is_id};
+ghost use Rattle.ifmap_server.specs.Publications.{address_in, cardinality_in, cardinality_text, digit_number, is_local, is_local_byte, is_lower, is_value, is_value_byte, one_update, pair_at, published_element, publish_parts, publishing, search_parts, searching};
 
 use crate::ids::is_id;
-use crate::parts::{parts_in, text_of};
+use crate::parts::{behind, part_before, text_of};
 use ifmap_elem::{Child, Element, Many, Name, Text};
 use ifmap_ident::{Identifier, Item};
 use ifmap_meta::{Cardinality, Metadata};
@@ -22,68 +23,96 @@ const PUBLISH_START: &str =
 const SEARCH_START: &str =
     "<n1:Envelope xmlns:n1=\"http://www.w3.org/2003/05/soap-envelope\" xmlns:n2=\"http://www.trustedcomputinggroup.org/2010/IFMAP/2\"><n1:Body><n2:search session-id=\"";
 
+const PUBLISH_END: &str = "</metadata></update></n2:publish></n1:Body></n1:Envelope>";
+
+const SEARCH_END: &str = "/></n2:search></n1:Body></n1:Envelope>";
+
 const METADATA_SPACE: &str = "http://www.trustedcomputinggroup.org/2010/IFMAP-METADATA/2";
 
 /// The limit on what a search finds where it names none, in bytes.
 const MOST_FOUND: u64 = 100_000;
 
+// The parts of a body that publishes.
+#[derive(Drop)]
+struct PublishParts<'a> {
+    session: &'a [u8],
+    address: &'a [u8],
+    local: &'a [u8],
+    cardinality: &'a [u8],
+    value: &'a [u8],
+    closing: &'a [u8],
+}
+
+#[tactic(none)]
+fn publish_parts(body: &[u8]) -> Option<PublishParts<'_>>
+    ensures { MatchOption result (publish_parts body.now ≡ None)
+        (λ p. publish_parts body.now ≡ Some (p.session.now ∷ p.address.now ∷ p.local.now ∷ p.cardinality.now ∷ p.value.now ∷ p.closing.now ∷ [])) }
+{
+    let rest = behind(body, PUBLISH_START)?;
+    let (session, rest) = part_before(rest, b'"', "><update><mac-address value=\"")?;
+    let (address, rest) = part_before(rest, b'"', "/><metadata><n3:")?;
+    let (local, rest) = part_before(rest, b' ', "ifmap-cardinality=\"")?;
+    let (cardinality, rest) = part_before(rest, b'"', "><name>")?;
+    let (value, rest) = part_before(rest, b'<', "/name></n3:")?;
+    let (closing, rest) = part_before(rest, b'>', PUBLISH_END)?;
+    if !rest.is_empty() {
+        return None;
+    }
+    Some(PublishParts {
+        session,
+        address,
+        local,
+        cardinality,
+        value,
+        closing,
+    })
+}
+
 /// The publish that a body means, if it means one.
+#[tactic(none)]
 pub fn publishing(alloc: Global, body: &[u8]) -> Result<Option<Request>, AllocError>
     ensures { IfOk result (λ request. request ≡ publishing body.now) }
 {
-    let fixed = [
-        (b'"', "><update><mac-address value=\""),
-        (b'"', "/><metadata><n3:"),
-        (b' ', "ifmap-cardinality=\""),
-        (b'"', "><name>"),
-        (b'<', "/name></n3:"),
-        (
-            b'>',
-            "</metadata></update></n2:publish></n1:Body></n1:Envelope>",
-        ),
-    ];
-    let Some(parts) = parts_in(alloc, PUBLISH_START, &fixed, body)? else {
+    let Some(parts) = publish_parts(body) else {
         return Ok(None);
     };
-    let [session, address, local, cardinality, value, closing] = parts.as_slice() else {
-        return Ok(None);
-    };
-    if !is_id(session) || !is_local(local) || !is_value(value) || closing != local {
+    if !are_fit(parts.session, parts.local, parts.value) || parts.closing != parts.local {
         return Ok(None);
     }
-    let Some(address) = address_in(address) else {
+    let Some(address) = address_in(parts.address) else {
         return Ok(None);
     };
-    let Some(cardinality) = cardinality_in(cardinality) else {
+    let Some(cardinality) = cardinality_in(parts.cardinality) else {
         return Ok(None);
     };
-    let local = text_of(alloc, local)?;
-    let value = text_of(alloc, value)?;
+    let local = text_of(alloc, parts.local)?;
+    let value = text_of(alloc, parts.value)?;
     let element = published_element(alloc, local, cardinality, value)?;
-    let ops = one_update(
-        alloc,
-        address,
-        Metadata {
-            element,
-            cardinality,
-        },
-    )?;
-    let session = text_of(alloc, session)?;
+    let ops = one_update(alloc, address, Metadata { element, cardinality })?;
+    let session = text_of(alloc, parts.session)?;
     Ok(Some(Request::Publish { session, ops }))
 }
 
+// The parts of a body that searches: the session's id and the address.
+fn search_parts(body: &[u8]) -> Option<(&[u8], &[u8])>
+    ensures { MatchOption result (search_parts body.now ≡ None)
+        (λ p. search_parts body.now ≡ Some (p.0.now ∷ p.1.now ∷ [])) }
+{
+    let rest = behind(body, SEARCH_START)?;
+    let (session, rest) = part_before(rest, b'"', "><mac-address value=\"")?;
+    let (address, rest) = part_before(rest, b'"', SEARCH_END)?;
+    if !rest.is_empty() {
+        return None;
+    }
+    Some((session, address))
+}
+
 /// The search that a body means, if it means one.
+#[tactic(none)]
 pub fn searching(alloc: Global, body: &[u8]) -> Result<Option<Request>, AllocError>
     ensures { IfOk result (λ request. request ≡ searching body.now) }
 {
-    let fixed = [
-        (b'"', "><mac-address value=\""),
-        (b'"', "/></n2:search></n1:Body></n1:Envelope>"),
-    ];
-    let Some(parts) = parts_in(alloc, SEARCH_START, &fixed, body)? else {
-        return Ok(None);
-    };
-    let [session, address] = parts.as_slice() else {
+    let Some((session, address)) = search_parts(body) else {
         return Ok(None);
     };
     if !is_id(session) {
@@ -98,6 +127,12 @@ pub fn searching(alloc: Global, body: &[u8]) -> Result<Option<Request>, AllocErr
     };
     let session = text_of(alloc, session)?;
     Ok(Some(Request::Search { session, search }))
+}
+
+fn are_fit(session: &[u8], local: &[u8], value: &[u8]) -> bool
+    ensures { result ≡ (is_id session.now && is_local local.now && is_value value.now) }
+{
+    is_id(session) && is_local(local) && is_value(value)
 }
 
 fn published_element(
@@ -166,6 +201,7 @@ fn cardinality_in(text: &[u8]) -> Option<Cardinality>
     }
 }
 
+#[tactic(none)]
 // The address that a text writes in six pairs of digits with colons between them.
 fn address_in(text: &[u8]) -> Option<[u8; 6]>
     ensures { result ≡ address_in text.now }
