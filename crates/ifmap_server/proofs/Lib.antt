@@ -6,6 +6,7 @@ pub mod Headers
 pub mod Meanings
 pub mod PartLaws
 pub mod Progress
+pub mod RequestLaws
 pub mod Scripts
 pub mod Sending
 pub mod Splits

@@ -6,7 +6,8 @@ use Rattle.std.proofs.Math.Seq.{take-length}
 use Rattle.std.proofs.lemmas.Slice.Eq.{bytes_eq-Decides}
 use Rattle.std.proofs.lemmas.Bool.Decides.{nat_tests}
 use Rattle.std.specs.Prelude.{◌==◌, option_map, option_and_then}
-use Rattle.std.specs.Str.{bytes_eq}
+use Rattle.std.proofs.lemmas.Str.{IsUtf8-from_ascii}
+use Rattle.std.specs.Str.{IsAscii, IsUtf8, bytes_eq}
 use Rattle.ifmap_server.specs.Parts.{Fixed, behind, cut, part_before, parts_from, parts_in}
 use Rattle.ifmap_server.proofs.Splits.{Without, cut_at, without_from}
 
@@ -46,11 +47,14 @@ pub cut_there : (c : ℕ) (xs : List ℕ) (place : ℕ) → place < length xs �
 cut_there c xs place within at first =
     let whole = cut_at xs place c within at in
     let front : Without c (take place xs) = without_from c (take place xs) (λ k h.
-        let less : k < place = omega (arith, length-take-le place xs (omega arith), h) in
-        rw (get_or-take place xs k 0 less) (first k less)) in
+    let less : k < place = omega (arith, length-take-le place xs (omega arith), h) in
+    rw (get_or-take place xs k 0 less) (first k less)) in
     let rest : take (length xs - (place + 1)) (drop (place + 1) xs) ≡ drop (place + 1) xs =
-        ap (λ n. take n (drop (place + 1) xs)) (sym (length-drop (place + 1) xs)) ∙ take-length (drop (place + 1) xs) in
+    ap (λ n. take n (drop (place + 1) xs)) (sym (length-drop (place + 1) xs)) ∙ take-length (drop (place + 1) xs) in
     ap (cut c) whole ∙ cut_found c (take place xs) (drop (place + 1) xs) front ∙ ap (λ ys. Some (take place xs, ys)) (sym rest)
 
 pub cut_nowhere : (c : ℕ) (xs : List ℕ) → ((k : ℕ) → k < length xs → get_or xs k 0 ≢ c) → cut c xs ≡ None
 cut_nowhere c xs never = cut_none c xs (without_from c xs never)
+
+pub ascii_is_utf8 : (text : List ℕ) → IsAscii text → IsUtf8 text
+ascii_is_utf8 text is = IsUtf8-from_ascii text is

@@ -37,7 +37,7 @@ pub fn behind<'a>(text: &'a [u8], fixed: &str) -> Option<&'a [u8]>
 }
 
 /// A part as text.
-#[tactic(none)]
+#[tactic(auto, using(crate::proofs::PartLaws::ascii_is_utf8))]
 pub fn text_of(alloc: Global, part: &[u8]) -> Result<Text, AllocError>
     requires { IsAscii part.now }
     ensures { IfOk result (λ text. text ≡ part.now) }

@@ -3,6 +3,7 @@
 ghost use Rattle.std.specs.Prelude.{◌≡◌, ◌∷◌, [], ◌<◌, ◌&&◌, get_or, IfOk, MatchOption, None, Some};
 ghost use Rattle.std.specs.Char.{digit_char};
 ghost use Rattle.std.specs.List.{list_all};
+ghost use Rattle.std.specs.Str.{bytes_eq};
 ghost use Rattle.ifmap_ident.specs.Addresses.{address_text};
 ghost use Rattle.ifmap_ident.specs.declared.identifiers.Identifier.TheVariants.{MacAddress};
 ghost use Rattle.ifmap_server.specs.Ids.{is_id};
@@ -43,7 +44,6 @@ struct PublishParts<'a> {
     closing: &'a [u8],
 }
 
-#[tactic(none)]
 fn publish_parts(body: &[u8]) -> Option<PublishParts<'_>>
     ensures { MatchOption result (publish_parts body.now ≡ None)
         (λ p. publish_parts body.now ≡ Some (p.session.now ∷ p.address.now ∷ p.local.now ∷ p.cardinality.now ∷ p.value.now ∷ p.closing.now ∷ [])) }
@@ -69,14 +69,13 @@ fn publish_parts(body: &[u8]) -> Option<PublishParts<'_>>
 }
 
 /// The publish that a body means, if it means one.
-#[tactic(none)]
 pub fn publishing(alloc: Global, body: &[u8]) -> Result<Option<Request>, AllocError>
     ensures { IfOk result (λ request. request ≡ publishing body.now) }
 {
     let Some(parts) = publish_parts(body) else {
         return Ok(None);
     };
-    if !are_fit(parts.session, parts.local, parts.value) || parts.closing != parts.local {
+    if !are_fit(&parts) {
         return Ok(None);
     }
     let Some(address) = address_in(parts.address) else {
@@ -88,7 +87,14 @@ pub fn publishing(alloc: Global, body: &[u8]) -> Result<Option<Request>, AllocEr
     let local = text_of(alloc, parts.local)?;
     let value = text_of(alloc, parts.value)?;
     let element = published_element(alloc, local, cardinality, value)?;
-    let ops = one_update(alloc, address, Metadata { element, cardinality })?;
+    let ops = one_update(
+        alloc,
+        address,
+        Metadata {
+            element,
+            cardinality,
+        },
+    )?;
     let session = text_of(alloc, parts.session)?;
     Ok(Some(Request::Publish { session, ops }))
 }
@@ -108,7 +114,6 @@ fn search_parts(body: &[u8]) -> Option<(&[u8], &[u8])>
 }
 
 /// The search that a body means, if it means one.
-#[tactic(none)]
 pub fn searching(alloc: Global, body: &[u8]) -> Result<Option<Request>, AllocError>
     ensures { IfOk result (λ request. request ≡ searching body.now) }
 {
@@ -129,10 +134,13 @@ pub fn searching(alloc: Global, body: &[u8]) -> Result<Option<Request>, AllocErr
     Ok(Some(Request::Search { session, search }))
 }
 
-fn are_fit(session: &[u8], local: &[u8], value: &[u8]) -> bool
-    ensures { result ≡ (is_id session.now && is_local local.now && is_value value.now) }
+fn are_fit(parts: &PublishParts<'_>) -> bool
+    ensures { result ≡ ((is_id parts.now.session.now && is_local parts.now.local.now && is_value parts.now.value.now) && bytes_eq parts.now.closing.now parts.now.local.now) }
 {
-    is_id(session) && is_local(local) && is_value(value)
+    is_id(parts.session)
+        && is_local(parts.local)
+        && is_value(parts.value)
+        && parts.closing == parts.local
 }
 
 fn published_element(
@@ -201,7 +209,6 @@ fn cardinality_in(text: &[u8]) -> Option<Cardinality>
     }
 }
 
-#[tactic(none)]
 // The address that a text writes in six pairs of digits with colons between them.
 fn address_in(text: &[u8]) -> Option<[u8; 6]>
     ensures { result ≡ address_in text.now }
@@ -214,11 +221,17 @@ fn address_in(text: &[u8]) -> Option<[u8; 6]>
         pair_at(text, 12),
         pair_at(text, 15),
     ];
-    if text == address_text(address).as_slice() {
+    if is_address(text, address) {
         Some(address)
     } else {
         None
     }
+}
+
+fn is_address(text: &[u8], address: [u8; 6]) -> bool
+    ensures { result ≡ bytes_eq text.now (address_text address) }
+{
+    text == address_text(address).as_slice()
 }
 
 fn address_text(address: [u8; 6]) -> [u8; 17]
