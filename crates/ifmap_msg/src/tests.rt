@@ -38,13 +38,13 @@ fn expect_reply(
     rt: &(impl Abort + AllocGlobal),
     reply: Reply,
     start: &str,
-    result: &str,
+    inner: &str,
 ) -> Result<(), Fail> {
     let alloc = rt.alloc();
     let element = element_of(alloc, reply.copy(alloc)?)?;
     let bytes = canonical(alloc, &element)?;
-    let wanted = format!(in alloc; "{start}{result}{END}")?;
-    assert_eq!(rt; bytes.0.as_slice(), wanted.as_bytes(), "{result}");
+    let wanted = format!(in alloc; "{start}{inner}{END}")?;
+    assert_eq!(rt; bytes.0.as_slice(), wanted.as_bytes(), "{inner}");
     Ok(())
 }
 
