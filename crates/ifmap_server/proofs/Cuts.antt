@@ -19,7 +19,7 @@ use Rattle.uuid.proofs.RoundTrips.{parse_gives}
 use Rattle.uuid.proofs.OrderLemmas.{from_be_bytes-to_be_bytes_16}
 use Rattle.uuid.proofs.TextLemmas.{by_index_ascii, nibble_small, hex_digit_ascii}
 use Rattle.std.proofs.Common.{inl}
-use Rattle.ifmap_core.specs.ClientNames.{is_client_byte}
+use Rattle.ifmap_meta.specs.ClientNames.{is_client_byte}
 use Rattle.ifmap_server.specs.declared.frames.Header.{Header}
 use Rattle.ifmap_server.specs.Frames.{IsHeader, word_text}
 use Rattle.ifmap_server.specs.Lines.{AreWords, HasNoSpace, words_line}

@@ -14,7 +14,7 @@ use Rattle.uuid.specs.Text.{lower, parsed, hex_digit, nibble}
 use Rattle.uuid.proofs.TextLemmas.{by_index_length, by_index_at, nibble_small}
 use Rattle.uuid.proofs.RoundTrips.{parses_simple}
 use Rattle.uuid.proofs.OrderLemmas.{from_be_bytes-to_be_bytes_16}
-use Rattle.ifmap_core.specs.ClientNames.{IsClientName, is_client_byte}
+use Rattle.ifmap_meta.specs.ClientNames.{IsClientName, is_client_byte}
 use Rattle.ifmap_server.specs.declared.frames.Header.{Header}
 use Rattle.ifmap_server.specs.Frames.{IsHeader, header_text, word_text}
 use Rattle.ifmap_server.proofs.Splits.{Without, without_from, without_at, without_append, before, behind, before_at, behind_at}

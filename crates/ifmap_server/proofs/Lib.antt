@@ -4,8 +4,9 @@ pub mod Forms
 pub mod Framing
 pub mod Headers
 pub mod Meanings
-pub mod Pieces
+pub mod PartLaws
 pub mod Progress
+pub mod RequestLaws
 pub mod Scripts
 pub mod Sending
 pub mod Splits

@@ -6,7 +6,7 @@ use Rattle.std.proofs.lemmas.Slice.Eq.{bytes_eq-Decides}
 use Rattle.std.specs.Bool.{IsTrue}
 use Rattle.std.specs.List.{list_all}
 use Rattle.std.specs.Str.{bytes_eq}
-use Rattle.ifmap_core.specs.ClientNames.{IsClientName, is_client_byte}
+use Rattle.ifmap_meta.specs.ClientNames.{IsClientName, is_client_byte}
 use Rattle.ifmap_server.specs.declared.frames.Header.{Header}
 use Rattle.ifmap_server.specs.Frames.{Frame, IsFrame, IsHeader, frame_text}
 use Rattle.ifmap_server.specs.Script.{Begins, IsScriptFrom, longest_script}

@@ -3,7 +3,7 @@ use Rattle.std.specs.Prelude.{◌≡◌, ℕ, ◌≤◌, ◌<◌, ◌^◌, List,
 use Rattle.std.specs.Fmt.{decimal}
 use Rattle.std.specs.Int.{to_be_bytes, w128}
 use Rattle.uuid.specs.Text.{lower, simple_text}
-use Rattle.ifmap_core.specs.ClientNames.{IsClientName}
+use Rattle.ifmap_meta.specs.ClientNames.{IsClientName}
 use Rattle.ifmap_server.specs.declared.frames.Header.{Header}
 
 -- a request as it came: when, from whom, with which random word, and its bytes

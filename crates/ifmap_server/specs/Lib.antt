@@ -1,10 +1,12 @@
 pub mod Bodies
 pub mod Frames
+pub mod Ids
 pub mod Lines
 pub mod Output
 pub mod Pending
 pub mod Replayed
-pub mod Replies
+pub mod Parts
+pub mod Publications
 pub mod Script
 pub mod Statuses
 pub mod Turns

@@ -6,12 +6,12 @@ use Rattle.ifmap_core.specs.declared.events.Answer.{Answer}
 use Rattle.ifmap_core.specs.declared.events.Answer.TheVariants.{Reply}
 use Rattle.ifmap_core.specs.declared.events.Ask.TheVariants as ask
 use Rattle.ifmap_core.specs.declared.events.Event.{Event}
-use Rattle.ifmap_core.specs.declared.messages.Request.{Request}
 use Rattle.ifmap_core.specs.State.{State, opening}
 use Rattle.ifmap_core.specs.Step.{step}
+use Rattle.ifmap_msg.specs.declared.requests.Request.{Request}
+use Rattle.ifmap_msg.specs.Replies.{reply_bytes}
 use Rattle.ifmap_server.specs.Bodies.{meaning}
 use Rattle.ifmap_server.specs.Frames.{Frame}
-use Rattle.ifmap_server.specs.Replies.{reply_text}
 use Rattle.ifmap_server.specs.Script.{IsScript}
 
 -- after how many seconds without a request a session is expired
@@ -25,7 +25,7 @@ event_of f request =
 
 -- `=`, the length of the reply, a newline and the reply
 abbrev pub answer_text : Answer → List ℕ
-answer_text (Reply reply) = 61 ∷ decimal (length (reply_text reply)) ++ 10 ∷ reply_text reply
+answer_text (Reply reply) = 61 ∷ decimal (length (reply_bytes reply)) ++ 10 ∷ reply_bytes reply
 
 -- the state after a frame that asks this, if anything, and what is written for it
 abbrev pub answered_as : State → Frame → Option Request → State × List ℕ

@@ -1,12 +1,12 @@
-//! The two bodies that are requests so far, each in one spelling. Every other spelling of them
-//! means nothing.
-ghost use Rattle.std.specs.Prelude.{◌≡◌, Some, None, true, false, IfOk};
-ghost use Rattle.std.specs.List.{list_all};
-ghost use Rattle.std.specs.Option.{MatchOption};
-ghost use Rattle.ifmap_server.specs.Bodies.{id_within, is_id, is_id_byte, meaning};
+//! The bodies that are requests so far, each in one spelling. Every other spelling of them means
+//! nothing.
+ghost use Rattle.std.specs.Prelude.{◌≡◌, ◌∷◌, [], IfOk, MatchOption, None, Some};
+ghost use Rattle.ifmap_server.specs.Bodies.{end_parts, ending, meaning};
 
-use ifmap_core::Request;
-use ifmap_elem::Text;
+use crate::ids::is_id;
+use crate::parts::{behind, part_before, text_of};
+use crate::publications::{publishing, searching};
+use ifmap_msg::Request;
 use std::alloc::{AllocError, Global};
 
 const NEW_SESSION: &str =
@@ -15,7 +15,7 @@ const NEW_SESSION: &str =
 const BEFORE_ID: &str =
     "<n1:Envelope xmlns:n1=\"http://www.w3.org/2003/05/soap-envelope\" xmlns:n2=\"http://www.trustedcomputinggroup.org/2010/IFMAP/2\"><n1:Body><n2:endSession session-id=\"";
 
-const BEHIND_ID: &str = "\"/></n1:Body></n1:Envelope>";
+const BEHIND_ID: &str = "/></n1:Body></n1:Envelope>";
 
 /// The request that a body means, if it means one.
 pub fn request_of(alloc: Global, body: &[u8]) -> Result<Option<Request>, AllocError>
@@ -24,53 +24,37 @@ pub fn request_of(alloc: Global, body: &[u8]) -> Result<Option<Request>, AllocEr
     if body == NEW_SESSION.as_bytes() {
         return Ok(Some(Request::NewSession));
     }
-    match id_within(body) {
-        Some(id) => Ok(Some(Request::EndSession {
-            session: Text(String::from_str(alloc, id)?),
-        })),
-        None => Ok(None),
+    if let Some(request) = ending(alloc, body)? {
+        return Ok(Some(request));
     }
+    if let Some(request) = searching(alloc, body)? {
+        return Ok(Some(request));
+    }
+    publishing(alloc, body)
 }
 
-// The id of a session that is to end.
-fn id_within(body: &[u8]) -> Option<&str>
-    ensures { MatchOption result (id_within body.now ≡ None) (λ id. id_within body.now ≡ Some id.now) }
+// The end of a session.
+fn ending(alloc: Global, body: &[u8]) -> Result<Option<Request>, AllocError>
+    ensures { IfOk result (λ request. request ≡ ending body.now) }
 {
-    let id = body
-        .strip_prefix(BEFORE_ID.as_bytes())?
-        .strip_suffix(BEHIND_ID.as_bytes())?;
-    id_text(id)
+    let Some(session) = end_part(body) else {
+        return Ok(None);
+    };
+    if !is_id(session) {
+        return Ok(None);
+    }
+    let session = text_of(alloc, session)?;
+    Ok(Some(Request::EndSession { session }))
 }
 
-// The bytes as text, where they can be the id of a session.
-#[tactic(auto, using(crate::proofs::Meanings::id_is_utf8))]
-fn id_text(id: &[u8]) -> Option<&str>
-    ensures { MatchOption result (is_id id.now ≡ false) (λ text. (is_id id.now ≡ true) × (text.now ≡ id.now)) }
+// What stands in the place of the id of a session that is to end.
+fn end_part(body: &[u8]) -> Option<&[u8]>
+    ensures { MatchOption result (end_parts body.now ≡ None) (λ id. end_parts body.now ≡ Some (id.now ∷ [])) }
 {
-    if !is_id(id) {
+    let rest = behind(body, BEFORE_ID)?;
+    let (session, rest) = part_before(rest, b'"', BEHIND_ID)?;
+    if !rest.is_empty() {
         return None;
     }
-    match std::str::from_utf8(id) {
-        Ok(text) => Some(text),
-        Err(_) => None,
-    }
-}
-
-// Whether the bytes can be the id of a session: 1 to 57 digits, letters a to f and hyphens.
-fn is_id(id: &[u8]) -> bool
-    ensures { result ≡ is_id id.now }
-{
-    1 <= id.len() && id.len() <= 57 && are_id_bytes(id)
-}
-
-fn are_id_bytes(id: &[u8]) -> bool
-    ensures { result ≡ list_all is_id_byte id.now }
-{
-    id.iter().all(|b| is_id_byte(*b))
-}
-
-fn is_id_byte(b: u8) -> bool
-    ensures { result ≡ is_id_byte b }
-{
-    matches!(b, b'0'..=b'9' | b'a'..=b'f' | b'-')
+    Some(session)
 }

@@ -7,9 +7,9 @@ ghost use Rattle.ifmap_server.specs.declared.frames.Header.{Header};
 ghost use Rattle.ifmap_server.specs.Frames.{IsHeader, word_text};
 ghost use Rattle.ifmap_server.specs.Lines.{AreWords, HasNoSpace};
 
-use ifmap_core::ClientName;
 use ifmap_elem::Text;
 use ifmap_io::Moment;
+use ifmap_meta::ClientName;
 use itoa::Buffer;
 use std::alloc::{AllocError, Global};
 use uuid::Uuid;

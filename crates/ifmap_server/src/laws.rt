@@ -1,6 +1,6 @@
 //! Laws of scripts, over all bytes.
 ghost use Rattle.std.specs.Prelude.{◌≡◌, ◌↔◌, ℕ, List, Option, Some};
-ghost use Rattle.ifmap_core.specs.declared.messages.Request.{Request};
+ghost use Rattle.ifmap_msg.specs.declared.requests.Request.{Request};
 ghost use Rattle.ifmap_server.specs.Bodies.{Means, meaning};
 ghost use Rattle.ifmap_server.specs.Frames.{Frame};
 ghost use Rattle.ifmap_server.specs.Script.{IsScript};

@@ -5,8 +5,11 @@
 mod bodies;
 mod endings;
 mod frames;
+mod ids;
 mod input;
 mod laws;
+mod parts;
+mod publications;
 mod replaying;
 mod replies;
 mod running;

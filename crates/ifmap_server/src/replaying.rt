@@ -1,5 +1,5 @@
 //! Replays: the frames of a source, answered one after another.
-ghost use Rattle.std.specs.Prelude.{◌≡◌, ◌≢◌, ℕ, ◌+◌, ◌≤◌, List, [], ◌++◌, length, string_bytes, IfErr, IfOk, IfSome, None, OnErr, OnOk, Some};
+ghost use Rattle.std.specs.Prelude.{◌≡◌, ◌≢◌, ℕ, ◌+◌, ◌≤◌, List, [], ◌++◌, length, IfErr, IfOk, IfSome, None, OnErr, OnOk, Some};
 ghost use Rattle.std.specs.Io.KnownBytes.{Appends, IsAtEnd, Keeps};
 ghost use Rattle.ifmap_io.specs.Causes.{HasCause, Rose};
 ghost use Rattle.ifmap_io.specs.Written.{WritesAll};
@@ -74,17 +74,17 @@ pub fn answer_frame<L: Ledger>(
     core: &mut Core,
     header: Header,
     body: &[u8],
-    out: &mut String,
+    out: &mut Vec<u8>,
     steps: &mut Steps<L>,
 ) -> Result<(), ReplayEnd>
     requires { header.size ≡ length body.now }
     ensures state { OnOk result (core.new ≡ (answered core.old (frame_of header body.now)).0) }
-    ensures text { OnOk result (string_bytes out.new ≡ (answered core.old (frame_of header body.now)).1) }
+    ensures text { OnOk result (out.new.items ≡ (answered core.old (frame_of header body.now)).1) }
     ensures cause { IfErr result (λ e. e ≡ ReplayEnd.NoMemory) }
 {
     out.clear();
     let Some(request) = request_of(alloc, body)? else {
-        out.push_str("unreadable\n")?;
+        out.extend_from_slice(b"unreadable\n")?;
         return Ok(());
     };
     let Header {
@@ -102,7 +102,7 @@ pub fn answer_frame<L: Ledger>(
         ask: Ask::Request(request),
     };
     let answer = core.step(alloc, &event, steps)?;
-    write_answer(alloc, &answer, out)?;
+    write_answer(alloc, answer, out)?;
     Ok(())
 }
 
@@ -128,15 +128,19 @@ pub struct Replay {
     core: Core,
     input: Input,
     offset: u64,
-    out: String,
+    out: Vec<u8>,
 }
 
 impl Model for Replay {
     ghost use Rattle.std.specs.Prelude.{◌≤◌};
+    ghost use Rattle.std.specs.Coded.{codes};
+    ghost use Rattle.ifmap_core.specs.contracts.machine.Core as the_core;
     ghost use Rattle.ifmap_server.specs.Script.{longest_script};
     ghost use Rattle.ifmap_server.specs.Turns.{Replaying};
 
     ghost Value = { Replaying };
+
+    ghost coded = { Prim.hlevel (codes, the_core.the_row.coded) };
 
     ghost view = { λ replay. record { state = replay.core; pending = replay.input; offset = replay.offset } };
 
@@ -152,7 +156,7 @@ impl Replay {
             core: Core::new(alloc, 180),
             input: Input::new(alloc)?,
             offset: 0,
-            out: String::new(alloc),
+            out: Vec::new(alloc),
         })
     }
 
@@ -181,7 +185,7 @@ impl Replay {
         let Framed { header, start, end } = framed;
         let body = &self.input.pending()[start..end];
         answer_frame(alloc, &mut self.core, header, body, &mut self.out, steps)?;
-        send(sink, self.out.as_bytes())?;
+        send(sink, self.out.as_slice())?;
         self.input.advance(end);
         self.offset += end as u64;
         Ok(())

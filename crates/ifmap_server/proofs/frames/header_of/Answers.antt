@@ -1,7 +1,7 @@
 use Rattle.std.proofs.Common.{ℕ, List, subst, sym, ◌∙◌}
 use Rattle.std.proofs.lemmas.Bool.{false≢true}
 use Rattle.std.specs.Fmt.{decimal}
-use Rattle.ifmap_core.specs.ClientNames.{IsClientName}
+use Rattle.ifmap_meta.specs.ClientNames.{IsClientName}
 use Rattle.ifmap_server.specs.Frames.{word_text}
 use Rattle.ifmap_server.proofs.Cuts.{header_words, header_utf8, header_shares}
 use Rattle.ifmap_server.proofs.frames.header_of.Goals as goal

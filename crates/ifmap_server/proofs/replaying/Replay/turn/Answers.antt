@@ -29,7 +29,7 @@ returns-in_err-send-clause-unwritten g c =
     let pending = c.next_frame.new.input in
     let is : IsFramed c.self.inside.offset pending framed = rw c.in-Some.is at c.in_ok-framed.ensures.frame in
     let text = rw c.pending.ensures at c.in_ok-answer_frame.ensures.text in
-    let written : c.as_bytes.result.now ≡ (answered c.self.inside.core (frame_within framed pending)).1 = c.as_bytes.ensures.value ∙ text in
+    let written : c.as_slice.result.now ≡ (answered c.self.inside.core (frame_within framed pending)).1 = c.as_slice.ensures.value ∙ text in
     let wrote = c.in_err-send.ensures.bytes in
     rw (← c.self.view_is) (λ e. record {
       frame = frame_within framed pending;
@@ -47,7 +47,7 @@ returns-clause-answered g c =
     let is : IsFramed c.self.inside.offset pending framed = rw c.in-Some.is at c.in_ok-framed.ensures.frame in
     let text = rw c.pending.ensures at c.in_ok-answer_frame.ensures.text in
     let state = rw c.pending.ensures at c.in_ok-answer_frame.ensures.state in
-    let written : c.as_bytes.result.now ≡ (answered c.self.inside.core (frame_within framed pending)).1 = c.as_bytes.ensures.value ∙ text in
+    let written : c.as_slice.result.now ≡ (answered c.self.inside.core (frame_within framed pending)).1 = c.as_slice.ensures.value ∙ text in
     rw (← c.self.view_is) (record {
       frame = frame_within framed pending;
       taken = pending;
