@@ -11,7 +11,7 @@ use Rattle.ifmap_ident.specs.Addresses.{address_text}
 use Rattle.ifmap_meta.specs.declared.metadata.Cardinality.{Cardinality}
 use Rattle.ifmap_msg.specs.declared.requests.Request.{Request}
 use Rattle.ifmap_msg.specs.declared.requests.Request.TheVariants as request
-use Rattle.ifmap_server.specs.Bodies.{end_parts, ending, ending_by}
+use Rattle.ifmap_server.specs.Bodies.{end_parts, ending, ending_by, first_of, meaning, new_session_body}
 use Rattle.ifmap_server.specs.Ids.{is_id, is_id_byte}
 use Rattle.ifmap_server.specs.Publications.{address_at, address_in, cardinality_in, is_local, is_local_byte, is_value, is_value_byte, publish_of, publish_parts, publishing, publishing_by, search_of, search_parts, searching, searching_by}
 
@@ -106,3 +106,10 @@ fit_parts s l v d is =
     let inner = and_parts (is_id s && is_local l) (is_value v) outer.0 in
     let front = and_parts (is_id s) (is_local l) inner.0 in
     (front.0, front.1, inner.1, outer.1)
+
+-- a body of none of the other forms
+pub meaning_last : (body : List ℕ) → bytes_eq body new_session_body ≡ false → ending body ≡ None → searching body ≡ None → meaning body ≡ publishing body
+meaning_last body e f g =
+    ap (λ b. if b then Some request.NewSession else first_of (ending body) (first_of (searching body) (publishing body))) e
+        ∙ ap (λ o. first_of o (first_of (searching body) (publishing body))) f
+        ∙ ap (λ o. first_of o (publishing body)) g

@@ -1,11 +1,12 @@
 //! Replies as they are written.
-ghost use Rattle.std.specs.Prelude.{◌≡◌, ◌∷◌, ◌++◌, OnOk, length};
+ghost use Rattle.std.specs.Prelude.{◌≡◌, ◌∷◌, ◌++◌, IfOk, OnOk, length};
 ghost use Rattle.std.specs.Fmt.{decimal};
+ghost use Rattle.ifmap_msg.specs.Replies.{reply_bytes};
 ghost use Rattle.ifmap_server.specs.Output.{answer_text};
 
 use ifmap_core::Answer;
-use ifmap_elem::canonical;
-use ifmap_msg::element_of;
+use ifmap_elem::{Many, canonical};
+use ifmap_msg::{Reply, element_of};
 use itoa::Buffer;
 use std::alloc::{AllocError, Global};
 
@@ -14,9 +15,16 @@ pub fn write_answer(alloc: Global, answer: Answer, out: &mut Vec<u8>) -> Result<
     ensures { OnOk result (out.new.items ≡ out.old.items ++ answer_text answer) }
 {
     let Answer::Reply(reply) = answer;
-    let element = element_of(alloc, reply)?;
-    let bytes = canonical(alloc, &element)?;
+    let bytes = reply_bytes(alloc, reply)?;
     write_sized(&bytes.0, out)
+}
+
+// A reply as it is sent.
+fn reply_bytes(alloc: Global, reply: Reply) -> Result<Many<u8>, AllocError>
+    ensures { IfOk result (λ bytes. bytes ≡ reply_bytes reply) }
+{
+    let element = element_of(alloc, reply)?;
+    canonical(alloc, &element)
 }
 
 // Appends `=`, the number of the bytes, a newline and the bytes.

@@ -24,12 +24,17 @@ returns-in_default-cardinality_in c =
     publish_no_cardinality c.args.body.now p.session.now p.address.now p.local.now p.cardinality.now p.value.now p.closing.now c.in-Some.ensures (sym c.are_fit.ensures ∙ c.if-not-are_fit.false)
     c.in-Some-address_in.address c.in-Some-address_in.ensures c.in_default-cardinality_in.ensures
 
-pub text_of-local-requires : goal.text_of-local-requires
-text_of-local-requires c =
+pub text_of-requires : goal.text_of-requires
+text_of-requires c =
     let p = c.in-Some.parts in
-    local_is_ascii p.local.now (fit_parts p.session.now p.local.now p.value.now p.closing.now (sym c.are_fit.ensures ∙ c.if-not-are_fit.false)).2.0
+    local_is_ascii p.local.now (fit_parts p.session.now p.local.now p.value.now p.closing.now (sym c.are_fit.ensures ∙ c.if-not-are_fit.false)).1
 
-pub text_of-value-requires : goal.text_of-value-requires
-text_of-value-requires c =
+pub text_of-requires-2 : goal.text_of-requires-2
+text_of-requires-2 c =
     let p = c.in-Some.parts in
-    value_is_ascii p.value.now (fit_parts p.session.now p.local.now p.value.now p.closing.now (sym c.are_fit.ensures ∙ c.if-not-are_fit.false)).2.2.0
+    value_is_ascii p.value.now (fit_parts p.session.now p.local.now p.value.now p.closing.now (sym c.are_fit.ensures ∙ c.if-not-are_fit.false)).2
+
+pub text_of-requires-3 : goal.text_of-requires-3
+text_of-requires-3 c =
+    let p = c.in-Some.parts in
+    id_is_ascii p.session.now (fit_parts p.session.now p.local.now p.value.now p.closing.now (sym c.are_fit.ensures ∙ c.if-not-are_fit.false)).0
