@@ -12,8 +12,8 @@ use Rattle.ifmap_elem.specs.Places.{BeginsDocument, Reaches, Stop, Deep, Opens, 
 use Rattle.ifmap_elem.specs.Spells.{Spells, without_mark}
 use Rattle.ifmap_elem.specs.Tokens.{TakesToken}
 use Rattle.ifmap_elem.proofs.OneToken.{no_token}
-use Rattle.ifmap_lexer.specs.declared.lexing.LexError.{LexError}
-use Rattle.ifmap_lexer.specs.declared.lexing.LexError.TheVariants as lexing
+use Rattle.ifmap_lexer.specs.declared.errors.LexError.{LexError}
+use Rattle.ifmap_lexer.specs.declared.errors.LexError.TheVariants as lexing
 use Rattle.ifmap_reader.specs.declared.errors.ReadError.{ReadError}
 use Rattle.ifmap_reader.specs.declared.errors.Refusal.{Refusal}
 use Rattle.ifmap_reader.specs.declared.errors.Refusal.TheVariants as refusals
