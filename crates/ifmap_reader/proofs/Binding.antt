@@ -44,7 +44,7 @@ rows_more rows after path prefix space was more none =
     let made : after ≡ rows ++ record { path = []; prefix = prefix; space = space } ∷ [] = more ∙ ap (λ (p : List ℕ). rows ++ record { path = p; prefix = prefix; space = space } ∷ []) none in
     made ∙ ap (λ ds. ds ++ record { path = []; prefix = prefix; space = space } ∷ []) was
     ∙ sym (ap declared_here (ap (map row_binding) made ∙ map-append row_binding rows (record { path = []; prefix = prefix; space = space } ∷ []))
-      ∙ map-append (λ (b : Binding). let d : Declared = record { path = []; prefix = b.prefix; space = b.space } in d) (map row_binding rows) (record { prefix = prefix; space = space } ∷ []))
+    ∙ map-append (λ (b : Binding). let d : Declared = record { path = []; prefix = b.prefix; space = b.space } in d) (map row_binding rows) (record { prefix = prefix; space = space } ∷ []))
 
 abbrev prefix_of : Binding → List ℕ
 prefix_of b = b.prefix

@@ -43,21 +43,57 @@ module _ (scope : Scope) (f : Frame) (ts : List Token) (Then : Element → List 
   words_off t blank text w (Remark after) behind items e d is m c th = elim w [ inl k ↦ cc | inr k ↦ let h = k.1 in cc ]
   words_off t blank text w (Words b more after) behind items e d is m c th =
       let same : text ≡ more = elim w [ inl k ↦ cc | inr k ↦ let h = k.1 in cc ] in
-      record { inside = after; behind = behind; items = m.0; element = e; declared = d; tokens_are = cc; means = m.2;
-        closes = words_close f text m.0 e d (subst (λ (is : List Item). Closes f is e d) (m.1 ∙ ap (λ (u : List ℕ). Run u ∷ m.0) (sym same)) c); goes_on = th }
+      record {
+        inside = after;
+        behind = behind;
+        items = m.0;
+        element = e;
+        declared = d;
+        tokens_are = cc;
+        means = m.2;
+        closes = words_close f text m.0 e d (subst (λ (is : List Item). Closes f is e d) (m.1 ∙ ap (λ (u : List ℕ). Run u ∷ m.0) (sym same)) c);
+        goes_on = th;
+      }
   words_off t blank text w (Verbatim more after) behind items e d is m c th =
       let same : text ≡ more = elim w [ inl k ↦ cc | inr k ↦ let h = k.1 in cc ] in
-      record { inside = after; behind = behind; items = m.0; element = e; declared = d; tokens_are = cc; means = m.2;
-        closes = words_close f text m.0 e d (subst (λ (is : List Item). Closes f is e d) (m.1 ∙ ap (λ (u : List ℕ). Run u ∷ m.0) (sym same)) c); goes_on = th }
+      record {
+        inside = after;
+        behind = behind;
+        items = m.0;
+        element = e;
+        declared = d;
+        tokens_are = cc;
+        means = m.2;
+        closes = words_close f text m.0 e d (subst (λ (is : List Item). Closes f is e d) (m.1 ∙ ap (λ (u : List ℕ). Run u ∷ m.0) (sym same)) c);
+        goes_on = th;
+      }
   words_off t blank text w (Leaf tag after) behind items e d is m c th = elim w [ inl k ↦ cc | inr k ↦ let h = k.1 in cc ]
   words_off t blank text w (Branch tag inside after) behind items e d is m c th = elim w [ inl k ↦ cc | inr k ↦ let h = k.1 in cc ]
 
   words_on : (t : Token) (blank : Bool) (text : List ℕ) → IsWords blank text t → Ends scope (with_words f text) ts Then → Ends scope f (t ∷ ts) Then
   words_on t blank text w x = elim w [
-    | inl k ↦ record { inside = Words blank text x.inside; behind = x.behind; items = Run text ∷ x.items; element = x.element; declared = x.declared;
-        tokens_are = ap (λ (u : Token). u ∷ ts) k ∙ ap (λ us. Text blank text ∷ us) x.tokens_are; means = (x.items, refl, x.means); closes = close_words f text x.items x.element x.declared x.closes; goes_on = x.goes_on }
-    | inr k ↦ record { inside = Verbatim text x.inside; behind = x.behind; items = Run text ∷ x.items; element = x.element; declared = x.declared;
-        tokens_are = ap (λ (u : Token). u ∷ ts) k.1 ∙ ap (λ us. Section text ∷ us) x.tokens_are; means = (x.items, refl, x.means); closes = close_words f text x.items x.element x.declared x.closes; goes_on = x.goes_on }
+    | inl k ↦ record {
+      inside = Words blank text x.inside;
+      behind = x.behind;
+      items = Run text ∷ x.items;
+      element = x.element;
+      declared = x.declared;
+      tokens_are = ap (λ (u : Token). u ∷ ts) k ∙ ap (λ us. Text blank text ∷ us) x.tokens_are;
+      means = (x.items, refl, x.means);
+      closes = close_words f text x.items x.element x.declared x.closes;
+      goes_on = x.goes_on;
+    }
+    | inr k ↦ record {
+      inside = Verbatim text x.inside;
+      behind = x.behind;
+      items = Run text ∷ x.items;
+      element = x.element;
+      declared = x.declared;
+      tokens_are = ap (λ (u : Token). u ∷ ts) k.1 ∙ ap (λ us. Section text ∷ us) x.tokens_are;
+      means = (x.items, refl, x.means);
+      closes = close_words f text x.items x.element x.declared x.closes;
+      goes_on = x.goes_on;
+    }
   ]
 
   pub ends_words : (t : Token) (blank : Bool) (text : List ℕ) → IsWords blank text t → Ends scope f (t ∷ ts) Then ↔ Ends scope (with_words f text) ts Then
@@ -94,10 +130,10 @@ module _ (scope : Scope) (f : Frame) (ts : List Token) (Then : Element → List 
   pub ends_here : (name : Qualified) (e : Element) (d : List Declared) → name ≡ written_name f → Closes f [] e d → Ends scope f (End name ∷ ts) Then ↔ Then e d ts
   ends_here name e d is c = (
     λ x.
-      let h = end_off name x.inside x.behind x.items x.element x.declared x.tokens_are x.means x.closes x.goes_on in
-      let same : x.element ≡ e = h.1.element_is ∙ sym c.element_is in
-      let told : x.declared ≡ d = h.1.declared_is ∙ sym c.declared_is in
-      subst (λ (y : Element). Then y d ts) same (subst (λ (y : List Declared). Then x.element y ts) told h.2),
+        let h = end_off name x.inside x.behind x.items x.element x.declared x.tokens_are x.means x.closes x.goes_on in
+        let same : x.element ≡ e = h.1.element_is ∙ sym c.element_is in
+        let told : x.declared ≡ d = h.1.declared_is ∙ sym c.declared_is in
+        subst (λ (y : Element). Then y d ts) same (subst (λ (y : List Declared). Then x.element y ts) told h.2),
     λ t. record { inside = Nothing; behind = ts; items = []; element = e; declared = d; tokens_are = ap (λ (n : Qualified). End n ∷ ts) is; means = refl; closes = c; goes_on = t },
   )
 
@@ -109,9 +145,18 @@ module _ (scope : Scope) (f : Frame) (ts : List Token) (Then : Element → List 
         let same : other ≡ tag = cc in
         let made : IsElement scope tag [] m.0 m.1 = subst (λ (u : Tag). IsElement scope u [] m.0 m.1) same m.4 in
         let h = opened_closes scope tag new o [] m.0 m.1 made in
-        record { inside = after; behind = behind; items = m.2; element = e; declared = d; tokens_are = cc; means = m.5;
+        record {
+          inside = after;
+          behind = behind;
+          items = m.2;
+          element = e;
+          declared = d;
+          tokens_are = cc;
+          means = m.5;
           closes = (inner_closes f inner below m.2 e d (subst (λ (is : List Item). Closes f is e d)
-            (m.3 ∙ ap (λ (y : Element). Inner y m.1 ∷ m.2) (h.element_is ∙ sym k.element_is) ∙ ap (λ (y : List Declared). Inner inner y ∷ m.2) (h.declared_is ∙ sym k.declared_is)) c)); goes_on = t }
+              (m.3 ∙ ap (λ (y : Element). Inner y m.1 ∷ m.2) (h.element_is ∙ sym k.element_is) ∙ ap (λ (y : List Declared). Inner inner y ∷ m.2) (h.declared_is ∙ sym k.declared_is)) c));
+          goes_on = t;
+        }
     empty_off Nothing behind items e d is m c t inner below k = cc
     empty_off (Remark after) behind items e d is m c t inner below k = cc
     empty_off (Words blank text after) behind items e d is m c t inner below k = cc
@@ -121,8 +166,17 @@ module _ (scope : Scope) (f : Frame) (ts : List Token) (Then : Element → List 
     pub ends_empty : (inner : Element) (below : List Declared) → Closes new [] inner below → Ends scope f (Empty tag ∷ ts) Then ↔ Ends scope (with_inner f inner below) ts Then
     ends_empty inner below k = (
       λ x. empty_off x.inside x.behind x.items x.element x.declared x.tokens_are x.means x.closes x.goes_on inner below k,
-      λ x. record { inside = Leaf tag x.inside; behind = x.behind; items = Inner inner below ∷ x.items; element = x.element; declared = x.declared; tokens_are = ap (λ us. Empty tag ∷ us) x.tokens_are;
-        means = (inner, below, x.items, refl, closes_opened scope tag new o [] inner below k, x.means); closes = closes_inner f inner below x.items x.element x.declared x.closes; goes_on = x.goes_on },
+      λ x. record {
+        inside = Leaf tag x.inside;
+        behind = x.behind;
+        items = Inner inner below ∷ x.items;
+        element = x.element;
+        declared = x.declared;
+        tokens_are = ap (λ us. Empty tag ∷ us) x.tokens_are;
+        means = (inner, below, x.items, refl, closes_opened scope tag new o [] inner below k, x.means);
+        closes = closes_inner f inner below x.items x.element x.declared x.closes;
+        goes_on = x.goes_on;
+      },
     )
 
     branch_off : (c : Content) (behind : List Token) (items : List Item) (e : Element) (d : List Declared) → Start tag ∷ ts ≡ tokens_of c ++ (End (written_name f) ∷ behind)
@@ -131,13 +185,26 @@ module _ (scope : Scope) (f : Frame) (ts : List Token) (Then : Element → List 
         let same : other ≡ tag = cc in
         let tail : ts ≡ (tokens_of inside ++ (End other.name ∷ tokens_of after)) ++ (End (written_name f) ∷ behind) = cc in
         record {
-          inside = inside; behind = tokens_of after ++ (End (written_name f) ∷ behind); items = m.0; element = m.1; declared = m.2;
+          inside = inside;
+          behind = tokens_of after ++ (End (written_name f) ∷ behind);
+          items = m.0;
+          element = m.1;
+          declared = m.2;
           tokens_are = tail ∙ append_assoc (tokens_of inside) (End other.name ∷ tokens_of after) (End (written_name f) ∷ behind)
               ∙ ap (λ (n : Qualified). tokens_of inside ++ (End n ∷ (tokens_of after ++ (End (written_name f) ∷ behind)))) (ap (λ (u : Tag). u.name) same ∙ o.name_is);
           means = subst (λ (s : Scope). Means s inside m.0) (ap (λ (u : Tag). bindings u ++ scope) same ∙ ap (λ bs. bs ++ scope) (sym o.bindings_are)) m.5;
           closes = opened_closes scope tag new o m.0 m.1 m.2 (subst (λ (u : Tag). IsElement scope u m.0 m.1 m.2) same m.6);
-          goes_on = record { inside = after; behind = behind; items = m.3; element = e; declared = d; tokens_are = refl; means = m.7;
-            closes = inner_closes f m.1 m.2 m.3 e d (subst (λ (is : List Item). Closes f is e d) m.4 c); goes_on = t };
+          goes_on = record {
+            inside = after;
+            behind = behind;
+            items = m.3;
+            element = e;
+            declared = d;
+            tokens_are = refl;
+            means = m.7;
+            closes = inner_closes f m.1 m.2 m.3 e d (subst (λ (is : List Item). Closes f is e d) m.4 c);
+            goes_on = t;
+          };
         }
     branch_off Nothing behind items e d is m c t = cc
     branch_off (Remark after) behind items e d is m c t = cc
@@ -149,13 +216,26 @@ module _ (scope : Scope) (f : Frame) (ts : List Token) (Then : Element → List 
     branch_on x =
         let y = x.goes_on in
         record {
-          inside = Branch tag x.inside y.inside; behind = y.behind; items = Inner x.element x.declared ∷ y.items; element = y.element; declared = y.declared;
+          inside = Branch tag x.inside y.inside;
+          behind = y.behind;
+          items = Inner x.element x.declared ∷ y.items;
+          element = y.element;
+          declared = y.declared;
           tokens_are = ap (λ us. Start tag ∷ us) (x.tokens_are ∙ ap (λ us. tokens_of x.inside ++ (End (written_name new) ∷ us)) y.tokens_are
               ∙ ap (λ (n : Qualified). tokens_of x.inside ++ (End n ∷ (tokens_of y.inside ++ (End (written_name f) ∷ y.behind)))) (sym o.name_is)
               ∙ sym (append_assoc (tokens_of x.inside) (End tag.name ∷ tokens_of y.inside) (End (written_name f) ∷ y.behind)));
-          means = (x.items, x.element, x.declared, y.items, refl, subst (λ (s : Scope). Means s x.inside x.items) (ap (λ bs. bs ++ scope) o.bindings_are) x.means,
-            closes_opened scope tag new o x.items x.element x.declared x.closes, y.means);
-          closes = closes_inner f x.element x.declared y.items y.element y.declared y.closes; goes_on = y.goes_on;
+          means = (
+            x.items,
+            x.element,
+            x.declared,
+            y.items,
+            refl,
+            subst (λ (s : Scope). Means s x.inside x.items) (ap (λ bs. bs ++ scope) o.bindings_are) x.means,
+            closes_opened scope tag new o x.items x.element x.declared x.closes,
+            y.means,
+          );
+          closes = closes_inner f x.element x.declared y.items y.element y.declared y.closes;
+          goes_on = y.goes_on;
         }
 
     pub ends_start : Ends scope f (Start tag ∷ ts) Then ↔ Ends (new.bindings ++ scope) new ts (λ inner below rest. Ends scope (with_inner f inner below) rest Then)

@@ -107,7 +107,11 @@ module _ (tag : Tag) (new : Frame) (o : Opened root_scope tag new) where
       let same : other ≡ tag = cc in
       let tail : ts ≡ tokens_of inside ++ (End other.name ∷ tokens_of after) = cc in
       record {
-        inside = inside; behind = tokens_of after; items = h.0; element = r.root; declared = r.declared;
+        inside = inside;
+        behind = tokens_of after;
+        items = h.0;
+        element = r.root;
+        declared = r.declared;
         tokens_are = tail ∙ ap (λ (n : Qualified). tokens_of inside ++ (End n ∷ tokens_of after)) (ap (λ (u : Tag). u.name) same ∙ o.name_is);
         means = subst (λ (s : Scope). Means s inside h.0) (ap (λ (u : Tag). bindings u ++ root_scope) same ∙ ap (λ bs. bs ++ root_scope) (sym o.bindings_are)) h.1;
         closes = opened_closes root_scope tag new o h.0 r.root r.declared (subst (λ (u : Tag). IsElement root_scope u h.0 r.root r.declared) same h.2);
@@ -126,8 +130,12 @@ module _ (tag : Tag) (new : Frame) (o : Opened root_scope tag new) where
         content = Branch tag x.inside y.after;
         tokens_are = ap (λ us. Start tag ∷ us) (x.tokens_are ∙ ap (λ us. tokens_of x.inside ++ (End (written_name new) ∷ us)) y.tokens_are
             ∙ ap (λ (n : Qualified). tokens_of x.inside ++ (End n ∷ tokens_of y.after)) (sym o.name_is));
-        rooted = (x.items, subst (λ (s : Scope). Means s x.inside x.items) (ap (λ bs. bs ++ root_scope) o.bindings_are) x.means,
-          subst (λ (s : Reading). IsElement root_scope tag x.items s.root s.declared) y.same (closes_opened root_scope tag new o x.items x.element x.declared x.closes), y.margin);
+        rooted = (
+          x.items,
+          subst (λ (s : Scope). Means s x.inside x.items) (ap (λ bs. bs ++ root_scope) o.bindings_are) x.means,
+          subst (λ (s : Reading). IsElement root_scope tag x.items s.root s.declared) y.same (closes_opened root_scope tag new o x.items x.element x.declared x.closes),
+          y.margin,
+        );
       }
 
   pub root_start : Follows (Among []) (Start tag) (Among (new ∷ []))
@@ -150,8 +158,11 @@ module _ (tag : Tag) (new : Frame) (o : Opened root_scope tag new) where
     pub root_empty : Follows (Among []) (Empty tag) (Behind (record { root = e; declared = d }))
     root_empty ts r = (
       λ x. root_empty_off x.content ts r x.tokens_are x.rooted,
-      λ y. record { content = Leaf tag y.after; tokens_are = ap (λ us. Empty tag ∷ us) y.tokens_are;
-        rooted = (subst (λ (s : Reading). IsElement root_scope tag [] s.root s.declared) y.same (closes_opened root_scope tag new o [] e d k), y.margin) },
+      λ y. record {
+        content = Leaf tag y.after;
+        tokens_are = ap (λ us. Empty tag ∷ us) y.tokens_are;
+        rooted = (subst (λ (s : Reading). IsElement root_scope tag [] s.root s.declared) y.same (closes_opened root_scope tag new o [] e d k), y.margin);
+      },
     )
 
 -- a tag that is not allowed

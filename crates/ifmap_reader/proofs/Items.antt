@@ -41,8 +41,10 @@ module _ (f : Frame) (e : Element) (declared : List Declared) where
       → f.below ++ declared_below (length f.children) (kept_behind f is) ≡ g.below ++ declared_below (length g.children) (kept_behind g js)
       → Closes f is e declared → Closes g js e declared
   closes_by g is js name attributes bound children below c =
-      record { element_is = c.element_is ∙ (λ i. record { name = name i; attributes = attributes i; children = children i });
-        declared_is = c.declared_is ∙ (λ i. declared_here (bound i) ++ below i) }
+      record {
+        element_is = c.element_is ∙ (λ i. record { name = name i; attributes = attributes i; children = children i });
+        declared_is = c.declared_is ∙ (λ i. declared_here (bound i) ++ below i);
+      }
 
 pub words_close : (f : Frame) (text : List ℕ) (items : List Item) (e : Element) (declared : List Declared) → Closes f (Run text ∷ items) e declared → Closes (with_words f text) items e declared
 words_close f text items e declared =

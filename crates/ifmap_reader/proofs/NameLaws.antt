@@ -74,6 +74,6 @@ pub no_names : (outer : Scope) (tag : Tag) (bs : List Binding) (given : List Ass
 no_names outer tag bs given made shown differ bound is are same tells fails name attributes h =
     let scope : bs ++ outer ≡ bindings tag ++ outer = ap (λ xs. xs ++ outer) (bound ∙ ap (filter_map binding_of) is) in
     let one : attributes ≡ made = one_list_of_attributes (bindings tag ++ outer) (filter (λ a. is_none (binding_of a)) tag.assignments) attributes made h.attributes_are
-        (subst (λ (s : Scope). AreAttributes s (filter (λ a. is_none (binding_of a)) tag.assignments) made) scope are) in
+    (subst (λ (s : Scope). AreAttributes s (filter (λ a. is_none (binding_of a)) tag.assignments) made) scope are) in
     let k : differ ≡ true = tells.1 (subst (λ (ts : List Attribute). AllDiffer (names ts)) (one ∙ sym same) h.names_differ) in
     cc

@@ -12,8 +12,8 @@ use Rattle.ifmap_elem.specs.Places.{BeginsDocument, Reaches, Stop, Deep, Opens, 
 use Rattle.ifmap_elem.specs.Spells.{Spells, without_mark}
 use Rattle.ifmap_elem.specs.Tokens.{TakesToken}
 use Rattle.ifmap_elem.proofs.OneToken.{no_token}
-use Rattle.ifmap_lexer.specs.declared.lexing.LexError.{LexError}
-use Rattle.ifmap_lexer.specs.declared.lexing.LexError.TheVariants as lexing
+use Rattle.ifmap_lexer.specs.declared.errors.LexError.{LexError}
+use Rattle.ifmap_lexer.specs.declared.errors.LexError.TheVariants as lexing
 use Rattle.ifmap_reader.specs.declared.errors.ReadError.{ReadError}
 use Rattle.ifmap_reader.specs.declared.errors.Refusal.{Refusal}
 use Rattle.ifmap_reader.specs.declared.errors.Refusal.TheVariants as refusals
@@ -124,9 +124,11 @@ module _ (bytes : List ℕ) (depth : ℕ) (w : Where) (rest : List ℕ) (at : At
     step_refused place is within refused = record {
       none = λ r s. let x = spelled r s in refused x.0 r x.1;
       stop = record {
-        tokens = at.so_far; rest = rest; reaches = record { lexed = at.lexed; allowed = begins_so_far };
+        tokens = at.so_far;
+        rest = rest;
+        reaches = record { lexed = at.lexed; allowed = begins_so_far };
         no_further = λ u after h b.
-          refused b.more b.reading ((goes_next b.more b.reading).0 (subst (λ (v : Token). IsDocument ((at.so_far ++ v ∷ []) ++ b.more) b.reading) (only u after h).0 b.document));
+            refused b.more b.reading ((goes_next b.more b.reading).0 (subst (λ (v : Token). IsDocument ((at.so_far ++ v ∷ []) ++ b.more) b.reading) (only u after h).0 b.document));
         at_is = is;
       };
       within = within;
@@ -147,11 +149,17 @@ module _ (bytes : List ℕ) (depth : ℕ) (w : Where) (rest : List ℕ) (at : At
         record {
           deeper = λ r s. let x = spelled r s in let d = goes_deep p.new x.0 r ((p.follows x.0 r).0 x.1) in let e = p.deeper in omega (arith, d, e);
           deep = record {
-            tokens = at.so_far; tag = t; rest = rest; behind = behind; lexed = at.lexed; taken = takes;
+            tokens = at.so_far;
+            tag = t;
+            rest = rest;
+            behind = behind;
+            lexed = at.lexed;
+            taken = takes;
             allowed = record { more = s.0; reading = s.1.0; document = (goes_next s.0 s.1.0).1 ((p.follows s.0 s.1.0).1 s.1.1) };
             opens = p.opens;
             level_is = let a = open_after_is in let b = p.level_is in let c = open_fits in omega (arith, a, b, c);
-            first = at.shallow; at_is = is;
+            first = at.shallow;
+            at_is = is;
           };
           within = within;
         }
@@ -251,8 +259,10 @@ end_read bytes depth s place result at within end made = subst (λ (a : Result R
         no_length : (xs : List ℕ) → length xs ≡ 0 → xs ≡ []
         no_length [] e = refl
         no_length (x ∷ xs) e = absurd (omega (arith, e))
+
     here : (w : Where) → At bytes depth w (drop place bytes) → place ≡ offset bytes (drop place bytes)
     here w a = offset_is bytes depth w place a within
+
     by : (s : Standing) → At bytes depth (where_is s) (drop place bytes) → IsRead bytes depth (read_at_end s place)
     by standing.Start a = ended_early bytes depth AtStart (drop place bytes) a none_left no_tokens_start place (here AtStart a) within
     by (standing.Open frames) a = ended_early bytes depth (Among (reverse frames)) (drop place bytes) a none_left (no_tokens (reverse frames)) place (here (Among (reverse frames)) a) within

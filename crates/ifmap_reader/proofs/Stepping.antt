@@ -211,7 +211,10 @@ module _ (depth : ℕ) (t : Token) (other : IsOther t) where
   start_steps (Ok new) h = from_start (where_is new) h
   start_steps (Err NotAllowed) h = λ ts r x. h ts r ((start_other t other ts r).0 x)
   start_steps (Err TooDeep) h = record {
-    opens = h.opens; level_is = h.level_is; new = h.new; deeper = h.deeper;
+    opens = h.opens;
+    level_is = h.level_is;
+    new = h.new;
+    deeper = h.deeper;
     follows = λ ts r. let e = start_other t other ts r in let k = h.follows ts r in (λ x. k.0 (e.0 x), λ x. e.1 (k.1 x));
   }
   start_steps (Err NoMemory) h = tt

@@ -32,15 +32,32 @@ SomeWay w = (ts : List Token) × ((r : Reading) × GoesOn w ts r)
 
 some_closing : (f : Frame) (fs : List Frame) → (ts : List Token) × ((r : Reading) × Closing f fs ts r)
 some_closing f [] =
-    let end : (e : Element) × ((d : List Declared) × Closes f [] e d) = (_, (_, record { element_is = refl; declared_is = refl })) in
-    (End (written_name f) ∷ [], (record { root = end.0; declared = end.1.0 },
-      record { inside = Nothing; behind = []; items = []; element = end.0; declared = end.1.0; tokens_are = refl; means = refl; closes = end.1.1;
-        goes_on = record { after = Nothing; tokens_are = refl; margin = tt; same = refl } }))
+    let end : (e : Element) × ((d : List Declared) × Closes f [] e d) = (_, (_, record { element_is = refl; declared_is = refl })) in (
+      End (written_name f) ∷ [],
+      (
+        record { root = end.0; declared = end.1.0 },
+        record {
+          inside = Nothing;
+          behind = [];
+          items = [];
+          element = end.0;
+          declared = end.1.0;
+          tokens_are = refl;
+          means = refl;
+          closes = end.1.1;
+          goes_on = record { after = Nothing; tokens_are = refl; margin = tt; same = refl };
+        },
+      ),
+    )
 some_closing f (g ∷ gs) =
     let end : (e : Element) × ((d : List Declared) × Closes f [] e d) = (_, (_, record { element_is = refl; declared_is = refl })) in
-    let outer = some_closing (with_inner g end.0 end.1.0) gs in
-    (End (written_name f) ∷ outer.0, (outer.1.0,
-      record { inside = Nothing; behind = outer.0; items = []; element = end.0; declared = end.1.0; tokens_are = refl; means = refl; closes = end.1.1; goes_on = outer.1.1 }))
+    let outer = some_closing (with_inner g end.0 end.1.0) gs in (
+      End (written_name f) ∷ outer.0,
+      (
+        outer.1.0,
+        record { inside = Nothing; behind = outer.0; items = []; element = end.0; declared = end.1.0; tokens_are = refl; means = refl; closes = end.1.1; goes_on = outer.1.1 },
+      ),
+    )
 
 pub some_way : (w : Where) → SomeWay w
 some_way AtStart = (Empty some_tag ∷ [], (some_reading, record { declared = false; content = Leaf some_tag Nothing; tokens_are = refl; rooted = (some_element, tt) }))

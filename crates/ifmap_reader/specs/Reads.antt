@@ -5,8 +5,8 @@ use Rattle.ifmap_elem.specs.declared.readings.Reading.{Reading}
 use Rattle.ifmap_elem.specs.Nesting.{nesting}
 use Rattle.ifmap_elem.specs.Places.{Deep, Stop}
 use Rattle.ifmap_elem.specs.Spells.{Spells}
-use Rattle.ifmap_lexer.specs.declared.lexing.LexError.{LexError}
-use Rattle.ifmap_lexer.specs.declared.lexing.LexError.TheVariants as lexing
+use Rattle.ifmap_lexer.specs.declared.errors.LexError.{LexError}
+use Rattle.ifmap_lexer.specs.declared.errors.LexError.TheVariants as lexing
 use Rattle.ifmap_reader.specs.declared.errors.ReadError.{ReadError}
 use Rattle.ifmap_reader.specs.declared.errors.ReadError.TheVariants.{Unreadable, TooDeep, NoMemory}
 use Rattle.ifmap_reader.specs.declared.errors.Refusal.{Refusal}

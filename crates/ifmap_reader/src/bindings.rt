@@ -13,8 +13,11 @@ use std::collections::BTreeMap;
 use std::marker::Model;
 
 pub(crate) const XML_SPACE: &str = "http://www.w3.org/XML/1998/namespace";
+
 const XMLNS: &str = "xmlns";
+
 pub(crate) const XML: &str = "xml";
+
 const XMLNS_SPACE: &str = "http://www.w3.org/2000/xmlns/";
 
 /// The bindings that a tag makes, in order, which contracts see as a list; and what each prefix is
@@ -148,10 +151,7 @@ fn is_word(text: &str, word: &str) -> bool
 }
 
 /// The bindings that the assignments of a tag make.
-pub(crate) fn bindings_of(
-    alloc: Global,
-    assignments: &[Assignment],
-) -> Result<Bindings, Refusal>
+pub(crate) fn bindings_of(alloc: Global, assignments: &[Assignment]) -> Result<Bindings, Refusal>
     ensures { IsBound assignments.now result }
 {
     let mut made = Bindings::new(alloc);

@@ -138,8 +138,7 @@ fn is_kept_text(beside: bool, text: &[u8]) -> bool
 fn is_blank(text: &[u8]) -> bool
     ensures { result ≡ list_all is_space text.now }
 {
-    text.iter()
-        .all(|b| *b == b' ' || *b == b'\t' || *b == b'\r' || *b == b'\n')
+    text.iter().all(|b| *b == b' ' || *b == b'\t' || *b == b'\r' || *b == b'\n')
 }
 
 fn with_child(children: Many<Child>, child: Child) -> Result<Many<Child>, NoMemory>

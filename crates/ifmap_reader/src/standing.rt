@@ -1,7 +1,6 @@
 //! Where a reader stands, and what one more token makes of it.
 ghost use Rattle.std.specs.Prelude.{◌≡◌, ℕ, reverse, IfOk};
 ghost use Rattle.ifmap_reader.specs.Progress.{Among, Behind, IsWords, Steps, adopted, is_margin, where_is};
-
 ghost use Rattle.ifmap_elem.specs.declared.tokens.Token.{Token};
 
 use crate::errors::Refusal;
@@ -90,12 +89,7 @@ fn worded(frames: Many<Frame>, blank: bool, text: Text) -> Result<Standing, Refu
     Ok(Standing::Open(Many(frames)))
 }
 
-fn started(
-    alloc: Global,
-    depth: u32,
-    frames: Many<Frame>,
-    tag: Tag,
-) -> Result<Standing, Refusal>
+fn started(alloc: Global, depth: u32, frames: Many<Frame>, tag: Tag) -> Result<Standing, Refusal>
     ensures { Steps depth (Among (reverse frames)) (Token.Start tag) result }
 {
     let Many(mut frames) = frames;
@@ -107,12 +101,7 @@ fn started(
     Ok(Standing::Open(Many(frames)))
 }
 
-fn emptied(
-    alloc: Global,
-    depth: u32,
-    frames: Many<Frame>,
-    tag: Tag,
-) -> Result<Standing, Refusal>
+fn emptied(alloc: Global, depth: u32, frames: Many<Frame>, tag: Tag) -> Result<Standing, Refusal>
     ensures { Steps depth (Among (reverse frames)) (Token.Empty tag) result }
 {
     let Many(frames) = frames;
@@ -124,11 +113,7 @@ fn emptied(
     Ok(with_element(alloc, frames, element, declared)?)
 }
 
-fn ended(
-    alloc: Global,
-    frames: Many<Frame>,
-    name: Qualified,
-) -> Result<Standing, Refusal>
+fn ended(alloc: Global, frames: Many<Frame>, name: Qualified) -> Result<Standing, Refusal>
     ensures { (depth : ℕ) → Steps depth (Among (reverse frames)) (Token.End name) result }
 {
     let Many(mut frames) = frames;
