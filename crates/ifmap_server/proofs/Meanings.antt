@@ -86,7 +86,7 @@ part_is f text p rest e =
 part_at : (f : Fixed) (p rest : List ℕ) → Without f.0 p → part_before f (p ++ (f.0 ∷ (f.1 ++ rest))) ≡ Some (p, rest)
 part_at f p rest w =
     ap (option_and_then (λ (halves : List ℕ × List ℕ). option_map (λ rest. (halves.0, rest)) (behind f.1 halves.1))) (cut_found f.0 p (f.1 ++ rest) w)
-        ∙ ap (option_map (λ (r : List ℕ). (p, r))) (behind_at f.1 rest)
+    ∙ ap (option_map (λ (r : List ℕ). (p, r))) (behind_at f.1 rest)
 
 from_is : (fs : List Fixed) (text : List ℕ) (ps : List (List ℕ)) → parts_from fs text ≡ Some ps → text ≡ spelled fs ps
 from_is [] [] ps e = refl
@@ -102,7 +102,7 @@ from_at [] (p ∷ ps) fit = absurd fit
 from_at (f ∷ fs) [] fit = absurd fit
 from_at (f ∷ fs) (p ∷ ps) fit =
     ap (option_and_then (λ (front : List ℕ × List ℕ). option_map (λ parts. front.0 ∷ parts) (parts_from fs front.1))) (part_at f p (spelled fs ps) fit.0)
-        ∙ ap (option_map (λ (parts : List (List ℕ)). p ∷ parts)) (from_at fs ps fit.1)
+    ∙ ap (option_map (λ (parts : List (List ℕ)). p ∷ parts)) (from_at fs ps fit.1)
 
 pub in_is : (start : List ℕ) (fs : List Fixed) (text : List ℕ) (ps : List (List ℕ)) → parts_in start fs text ≡ Some ps → text ≡ start ++ spelled fs ps
 in_is start fs text ps e =
@@ -266,12 +266,11 @@ publish_is body r e =
         let fit = fit_parts s l v d t.0 in
         let address = address_is a x.0 x.1 in
         let cardinality = cardinality_is c y.0 y.1 in
-        let closing : d ≡ l = (bytes_eq-Decides d l).0 fit.3 in
-        (
+        let closing : d ≡ l = (bytes_eq-Decides d l).0 fit.3 in (
           record { session = s; address = x.0; local = l; cardinality = y.0; value = v },
           record { session = fit.0; address = address.1; local = fit.1; value = fit.2 },
           six_parts s l v a c d _ _ _ address.0 cardinality closing,
-          sym (some_is _ _ y.2)
+          sym (some_is _ _ y.2),
         )
     by_parts (s ∷ (a ∷ (l ∷ (c ∷ (v ∷ (d ∷ (x ∷ xs))))))) f = cc
 
@@ -305,7 +304,6 @@ not_new body other =
       | inl same ↦ absurd (other (ap (λ xs. get_or xs 138 0) ((bytes_eq-Decides body new_session_body).0 same)))
       | inr differs ↦ differs
     ]
-
 
 means_end : (body : List ℕ) (x : Request) → ending body ≡ Some x → Means body x
 means_end body x e = let t = end_is body x e in subst (Means body) (sym t.3) (t.1, t.2)
@@ -341,8 +339,8 @@ letter_is body n m e other f = other (sym e ∙ f)
 told_is : (body : List ℕ) (b : Bool) (o s : Option Request) → bytes_eq body new_session_body ≡ b → ending body ≡ o → searching body ≡ s → meaning body ≡ (if b then Some request.NewSession else first_of o (first_of s (publishing body)))
 told_is body b o s e f g =
     ap (λ b. if b then Some request.NewSession else first_of (ending body) (first_of (searching body) (publishing body))) e
-        ∙ ap (λ o. if b then Some request.NewSession else first_of o (first_of (searching body) (publishing body))) f
-        ∙ ap (λ s. if b then Some request.NewSession else first_of o (first_of s (publishing body))) g
+    ∙ ap (λ o. if b then Some request.NewSession else first_of o (first_of (searching body) (publishing body))) f
+    ∙ ap (λ s. if b then Some request.NewSession else first_of o (first_of s (publishing body))) g
 
 pub meaning_of : (body : List ℕ) (r : Request) → Means body r → meaning body ≡ Some r
 meaning_of body request.NewSession m = told_is body true (ending body) (searching body) ((bytes_eq-Decides body new_session_body).1 m) refl refl

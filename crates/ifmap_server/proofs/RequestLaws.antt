@@ -111,5 +111,5 @@ fit_parts s l v d is =
 pub meaning_last : (body : List ℕ) → bytes_eq body new_session_body ≡ false → ending body ≡ None → searching body ≡ None → meaning body ≡ publishing body
 meaning_last body e f g =
     ap (λ b. if b then Some request.NewSession else first_of (ending body) (first_of (searching body) (publishing body))) e
-        ∙ ap (λ o. first_of o (first_of (searching body) (publishing body))) f
-        ∙ ap (λ o. first_of o (publishing body)) g
+    ∙ ap (λ o. first_of o (first_of (searching body) (publishing body))) f
+    ∙ ap (λ o. first_of o (publishing body)) g

@@ -10,6 +10,15 @@ const THREE_FRAMES: &str =
 const THREE_ANSWERS: &str =
     "=311\n<n1:Envelope xmlns:n1=\"http://www.w3.org/2003/05/soap-envelope\" xmlns:n2=\"http://www.trustedcomputinggroup.org/2010/IFMAP/2\"><n1:Body><n2:response><newSessionResult ifmap-publisher-id=\"c1\" max-poll-result-size=\"5000000\" session-id=\"1-00000000-0000-0000-0000-000000000001\"/></n2:response></n1:Body></n1:Envelope>=204\n<n1:Envelope xmlns:n1=\"http://www.w3.org/2003/05/soap-envelope\" xmlns:n2=\"http://www.trustedcomputinggroup.org/2010/IFMAP/2\"><n1:Body><n2:response><endSessionResult/></n2:response></n1:Body></n1:Envelope>=284\n<n1:Envelope xmlns:n1=\"http://www.w3.org/2003/05/soap-envelope\" xmlns:n2=\"http://www.trustedcomputinggroup.org/2010/IFMAP/2\"><n1:Body><n2:response><errorResult errorCode=\"InvalidSessionID\"><errorString>InvalidSessionID</errorString></errorResult></n2:response></n1:Body></n1:Envelope>";
 
+const PUBLISH_AND_FIND: &str =
+    "@1000000000 c1 00000000000000000000000000000001 174\n<n1:Envelope xmlns:n1=\"http://www.w3.org/2003/05/soap-envelope\" xmlns:n2=\"http://www.trustedcomputinggroup.org/2010/IFMAP/2\"><n1:Body><n2:newSession/></n1:Body></n1:Envelope>@1000000000 c1 00000000000000000000000000000002 447\n<n1:Envelope xmlns:n1=\"http://www.w3.org/2003/05/soap-envelope\" xmlns:n2=\"http://www.trustedcomputinggroup.org/2010/IFMAP/2\" xmlns:n3=\"http://www.trustedcomputinggroup.org/2010/IFMAP-METADATA/2\"><n1:Body><n2:publish session-id=\"1-00000000-0000-0000-0000-000000000001\"><update><mac-address value=\"00:00:5e:00:53:01\"/><metadata><n3:role ifmap-cardinality=\"multiValue\"><name>r</name></n3:role></metadata></update></n2:publish></n1:Body></n1:Envelope>@1000000000 c1 00000000000000000000000000000003 273\n<n1:Envelope xmlns:n1=\"http://www.w3.org/2003/05/soap-envelope\" xmlns:n2=\"http://www.trustedcomputinggroup.org/2010/IFMAP/2\"><n1:Body><n2:search session-id=\"1-00000000-0000-0000-0000-000000000001\"><mac-address value=\"00:00:5e:00:53:01\"/></n2:search></n1:Body></n1:Envelope>";
+
+const FOUND: &str =
+    "=311\n<n1:Envelope xmlns:n1=\"http://www.w3.org/2003/05/soap-envelope\" xmlns:n2=\"http://www.trustedcomputinggroup.org/2010/IFMAP/2\"><n1:Body><n2:response><newSessionResult ifmap-publisher-id=\"c1\" max-poll-result-size=\"5000000\" session-id=\"1-00000000-0000-0000-0000-000000000001\"/></n2:response></n1:Body></n1:Envelope>=203\n<n1:Envelope xmlns:n1=\"http://www.w3.org/2003/05/soap-envelope\" xmlns:n2=\"http://www.trustedcomputinggroup.org/2010/IFMAP/2\"><n1:Body><n2:response><publishReceived/></n2:response></n1:Body></n1:Envelope>=497\n<n1:Envelope xmlns:n1=\"http://www.w3.org/2003/05/soap-envelope\" xmlns:n2=\"http://www.trustedcomputinggroup.org/2010/IFMAP/2\" xmlns:n3=\"http://www.trustedcomputinggroup.org/2010/IFMAP-METADATA/2\"><n1:Body><n2:response><searchResult><resultItem><mac-address value=\"00:00:5e:00:53:01\"/><metadata><n3:role ifmap-cardinality=\"multiValue\" ifmap-publisher-id=\"c1\" ifmap-timestamp=\"2001-09-09T01:46:40Z\"><name>r</name></n3:role></metadata></resultItem></searchResult></n2:response></n1:Body></n1:Envelope>";
+
+const PUBLISH: &str =
+    "<n1:Envelope xmlns:n1=\"http://www.w3.org/2003/05/soap-envelope\" xmlns:n2=\"http://www.trustedcomputinggroup.org/2010/IFMAP/2\" xmlns:n3=\"http://www.trustedcomputinggroup.org/2010/IFMAP-METADATA/2\"><n1:Body><n2:publish session-id=\"1-00000000-0000-0000-0000-000000000001\"><update><mac-address value=\"00:00:5e:00:53:01\"/><metadata><n3:role ifmap-cardinality=\"multiValue\"><name>r</name></n3:role></metadata></update></n2:publish></n1:Body></n1:Envelope>";
+
 // A replay over memory, with the reads and the writes that are to fail: its status, and what is held.
 fn replayed(
     alloc: Global,
@@ -41,6 +50,46 @@ fn expect_replay(
 #[test]
 fn three_frames_are_answered(rt: HostRuntime) -> Result<(), Fail> {
     expect_replay(&rt, THREE_FRAMES, 0, THREE_ANSWERS)
+}
+
+#[test]
+fn what_is_published_is_found(rt: HostRuntime) -> Result<(), Fail> {
+    expect_replay(&rt, PUBLISH_AND_FIND, 0, FOUND)
+}
+
+// The answer to a body in which one text is put in place of another.
+fn expect_unreadable(
+    rt: &(impl Abort + AllocGlobal),
+    text: &str,
+    other: &str,
+) -> Result<(), Fail> {
+    let alloc = rt.alloc();
+    let body = PUBLISH.replace(alloc, text, other)?;
+    let length = body.len();
+    let script = format!(in alloc; "@1 c1 00000000000000000000000000000001 {length}\n{body}")?;
+    expect_replay(rt, script.as_str(), 0, "unreadable\n")
+}
+
+#[test]
+fn bodies_beside_the_forms_mean_nothing(rt: HostRuntime) -> Result<(), Fail> {
+    let beside = [
+        ("53:01", "53-01"),
+        ("5e:00", "5E:00"),
+        ("53:01", "53:1"),
+        ("session-id=", "validation=\"x\" session-id="),
+        ("<n3:role ", "<n3:Role "),
+        ("<n3:role ", "<n3:-role "),
+        ("</n3:role>", "</n3:rola>"),
+        ("multiValue", "manyValue"),
+        ("<name>r<", "<name>r s<"),
+        ("<name>r<", "<name><"),
+        ("<update>", "<update lifetime=\"session\">"),
+        ("</n1:Envelope>", "</n1:Envelope> "),
+    ];
+    for (text, other) in beside {
+        expect_unreadable(&rt, text, other)?;
+    }
+    Ok(())
 }
 
 #[test]
