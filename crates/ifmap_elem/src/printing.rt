@@ -45,7 +45,7 @@ fn printed(alloc: Global, element: &Element, spaces: &[Text]) -> Result<Many<u8>
     let mut inside = Vec::new(alloc);
     write_attributes(alloc, &mut prefixes, &element.attributes, &mut inside)?;
     write_content(alloc, &mut prefixes, name, &element.children, &mut inside)?;
-    let mut out = Vec::new(alloc);
+    let mut out = Vec::with_capacity(alloc, inside.len())?;
     out.extend_from_slice(b"<")?;
     write_name(prefixes.of_space(&name.space), &name.local, &mut out)?;
     write_declarations(alloc, "n", prefixes.spaces(), &mut out)?;
