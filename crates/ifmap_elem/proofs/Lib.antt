@@ -9,7 +9,6 @@ pub mod NamespaceLaws
 pub mod OneReading
 pub mod OneToken
 pub mod Orders
-pub mod PieceLaws
 pub mod PrintedElements
 pub mod PrintedLaws
 pub mod PrintedParts

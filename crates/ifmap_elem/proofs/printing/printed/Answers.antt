@@ -1,13 +1,14 @@
-use Rattle.ifmap_elem.proofs.PieceLaws.{numbered_later, piece_root}
+use Rattle.std.proofs.Common.{◌++◌, ap, ◌∙◌}
+use Rattle.std.specs.Prelude.{codes}
+use Rattle.std.specs.List.{flat_map}
+use Rattle.ifmap_elem.specs.Canonical.{after_prefix, declaration_bytes}
+use Rattle.ifmap_elem.specs.Namespaces.{prefix_rows}
+use Rattle.ifmap_elem.proofs.PrintedLaws.{root_written}
 use Rattle.ifmap_elem.proofs.printing.printed.Goals as goal
 
 pub returns-clause-bytes : goal.returns-clause-bytes
 returns-clause-bytes c =
-    piece_root c.args.element.now c.args.spaces.now c.in_ok-prefixes.prefixes c.add.new.self c.write_attributes.new.prefixes c.write_content.new.prefixes c.spaces.result.now _
-    c.new-inside.result.items c.write_attributes.new.out.items c.write_content.new.out.items c.deref.result.now
-    c.in_ok-out.out.items c.extend_from_slice.new.self.items c.write_name.new.out.items c.write_declarations.new.out.items c.write_declarations-2.new.out.items c.extend_from_slice-2.new.self.items
-    c.in_ok-prefixes.ensures c.in_ok-add.ensures.added c.new-inside.ensures.items c.in_ok-write_attributes.ensures
-    (c.in_ok-write_content.ensures
-    (numbered_later c.add.new.self c.write_attributes.new.prefixes c.args.element.now.name.space c.in_ok-write_attributes.ensures.behind c.in_ok-add.ensures.numbered))
-    c.spaces.ensures.bare c.of_space.ensures c.spaces.ensures.all c.deref.ensures.value c.in_ok-out.ensures.items c.in_ok-extend_from_slice.ensures.items
-    c.in_ok-write_name.ensures c.in_ok-write_declarations.ensures c.in_ok-write_declarations-2.ensures c.in_ok-extend_from_slice-2.ensures.items
+    root_written c.args.element.now c.args.spaces.now c.in_ok-prefixes.prefixes _ _ _ _ _ _ _ c.in_ok-prefixes.ensures (ap (λ p. after_prefix p c.args.element.now.name.local) c.of_space-prefix.ensures)
+    (c.in_ok-extend_from_slice.ensures.items ∙ ap (λ l. l ++ codes "<") c.new-out.ensures.items) c.in_ok-write_name.ensures
+    (c.in_ok-write_declarations.ensures ∙ ap (λ l. c.write_name.new.out.items ++ flat_map declaration_bytes (prefix_rows (codes "n") 1 l)) c.spaces.ensures)
+    c.in_ok-write_declarations-2.ensures c.in_ok-write_attributes.ensures c.in_ok-write_content.ensures
