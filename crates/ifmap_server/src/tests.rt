@@ -58,11 +58,7 @@ fn what_is_published_is_found(rt: HostRuntime) -> Result<(), Fail> {
 }
 
 // The answer to a body in which one text is put in place of another.
-fn expect_unreadable(
-    rt: &(impl Abort + AllocGlobal),
-    text: &str,
-    other: &str,
-) -> Result<(), Fail> {
+fn expect_unreadable(rt: &(impl Abort + AllocGlobal), text: &str, other: &str) -> Result<(), Fail> {
     let alloc = rt.alloc();
     let body = PUBLISH.replace(alloc, text, other)?;
     let length = body.len();
