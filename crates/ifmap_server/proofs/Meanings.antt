@@ -8,7 +8,7 @@ use Rattle.std.specs.List.{AllByRecursion, list_all}
 use Rattle.std.specs.Char.{digit_char}
 use Rattle.std.specs.Prelude.{◌==◌, codes, option_and_then, option_map}
 use Rattle.std.specs.Str.{bytes_eq}
-use Rattle.ifmap_ident.specs.Addresses.{address_text}
+use Rattle.ifmap_ident.specs.MacAddresses.{address_text}
 use Rattle.ifmap_meta.specs.declared.metadata.Cardinality.{Cardinality}
 use Rattle.ifmap_meta.specs.declared.metadata.Cardinality.TheVariants.{Single, Multi}
 use Rattle.ifmap_msg.specs.declared.requests.Request.{Request}

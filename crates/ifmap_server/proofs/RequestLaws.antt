@@ -7,7 +7,7 @@ use Rattle.std.proofs.Common.{arith}
 use Rattle.std.specs.List.{list_all}
 use Rattle.std.specs.Prelude.{get_or, length, nat_le, option_and_then}
 use Rattle.std.specs.Str.{IsAscii, bytes_eq}
-use Rattle.ifmap_ident.specs.Addresses.{address_text}
+use Rattle.ifmap_ident.specs.MacAddresses.{address_text}
 use Rattle.ifmap_meta.specs.declared.metadata.Cardinality.{Cardinality}
 use Rattle.ifmap_msg.specs.declared.requests.Request.{Request}
 use Rattle.ifmap_msg.specs.declared.requests.Request.TheVariants as request

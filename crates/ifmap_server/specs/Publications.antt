@@ -6,7 +6,7 @@ use Rattle.ifmap_elem.specs.declared.elements.Child.TheVariants as child
 use Rattle.ifmap_elem.specs.declared.elements.Element.{Element}
 use Rattle.ifmap_ident.specs.declared.identifiers.Identifier.TheVariants.{MacAddress}
 use Rattle.ifmap_ident.specs.declared.items.Item.TheVariants.{One}
-use Rattle.ifmap_ident.specs.Addresses.{address_text}
+use Rattle.ifmap_ident.specs.MacAddresses.{address_text}
 use Rattle.ifmap_ident.specs.Identifiers.{plain_attribute}
 use Rattle.ifmap_meta.specs.declared.metadata.Cardinality.{Cardinality}
 use Rattle.ifmap_meta.specs.declared.metadata.Cardinality.TheVariants.{Single, Multi}

@@ -4,7 +4,7 @@ ghost use Rattle.std.specs.Prelude.{◌≡◌, ◌∷◌, [], ◌<◌, ◌&&◌,
 ghost use Rattle.std.specs.Char.{digit_char};
 ghost use Rattle.std.specs.List.{list_all};
 ghost use Rattle.std.specs.Str.{bytes_eq};
-ghost use Rattle.ifmap_ident.specs.Addresses.{address_text};
+ghost use Rattle.ifmap_ident.specs.MacAddresses.{address_text};
 ghost use Rattle.ifmap_ident.specs.declared.identifiers.Identifier.TheVariants.{MacAddress};
 ghost use Rattle.ifmap_server.specs.Ids.{is_id};
 ghost use Rattle.ifmap_server.specs.Publications.{address_in, cardinality_in, cardinality_text, digit_number, is_local, is_local_byte, is_lower, is_value, is_value_byte, one_update, pair_at, published_element, publish_parts, publishing, search_parts, searching};
