@@ -9,5 +9,6 @@ pub mod Levels
 pub mod Lookups
 pub mod NameLaws
 pub mod Progressing
+pub mod ScopeLaws
 pub mod Stepping
 pub mod Ways
