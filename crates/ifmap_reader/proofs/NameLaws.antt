@@ -39,7 +39,7 @@ not_lacking name ts i t l is e h = lacks_at name ts i t l h (sym e ∙ ap (λ (u
 abbrev pub Onwards : List Attribute → ℕ → Type 0
 Onwards ts i = AllDiffer (names ts) ↔ AllDiffer (names (drop i ts))
 
-dropped : (ts : List Attribute) (i : ℕ) (d : Attribute) → i < length ts → drop i ts ≡ get_or ts i d ∷ drop (i + 1) ts
+pub dropped : (ts : List Attribute) (i : ℕ) (d : Attribute) → i < length ts → drop i ts ≡ get_or ts i d ∷ drop (i + 1) ts
 dropped ts i d l = drop-cons ts i d l ∙ ap (λ (n : ℕ). get_or ts i d ∷ drop n ts) (sym (add-one i))
 
 pub onwards_next : (ts : List Attribute) (i : ℕ) (d : Attribute) → i < length ts → Lacks (get_or ts i d).name (drop (i + 1) ts) → Onwards ts i → Onwards ts (i + 1)
