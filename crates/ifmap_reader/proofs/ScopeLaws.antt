@@ -8,12 +8,12 @@ use Rattle.std.specs.Ordering.{nat_cmp, is_eq}
 use Rattle.std.specs.declared.cmp.Ordering.TheVariants.{Less}
 use Rattle.std.specs.Cmp.Lexicographic.{slice_cmp, texts_ties}
 use Rattle.std.specs.Str.{bytes_eq}
-use Rattle.std.proofs.lemmas.Bool.{cases_Bool, false_from_ne_true, and_parts}
+use Rattle.std.proofs.lemmas.Bool.{cases_Bool, and_parts}
 use Rattle.std.proofs.lemmas.List.{append-nil, map-append, reverse-append, take_more}
 use Rattle.std.proofs.lemmas.List.Elements.{filter-append}
 use Rattle.std.proofs.lemmas.Map.Keys.{sorted_head, sorted_tail}
 use Rattle.ifmap_elem.specs.declared.readings.Declared.{Declared}
-use Rattle.ifmap_elem.specs.Scopes.{Scope, Binding, AllDiffer, bound}
+use Rattle.ifmap_elem.specs.Scopes.{Scope, Binding, AllDiffer}
 use Rattle.ifmap_elem.proofs.NamespaceLaws.{eq_tells, eq_itself}
 use Rattle.ifmap_reader.specs.InScope.{declared_at, is_listed, listed}
 use Rattle.ifmap_reader.specs.Rows.{row_binding}
