@@ -49,11 +49,11 @@ rows_more rows after path prefix space was more none =
 abbrev prefix_of : Binding → List ℕ
 prefix_of b = b.prefix
 
-all_last : {X : Type 0} (P : X → Type 0) (xs : List X) (x : X) → AllByRecursion P xs → P x → AllByRecursion P (xs ++ x ∷ [])
+pub all_last : {X : Type 0} (P : X → Type 0) (xs : List X) (x : X) → AllByRecursion P xs → P x → AllByRecursion P (xs ++ x ∷ [])
 all_last P [] x h p = (p, tt)
 all_last P (y ∷ ys) x h p = (h.0, all_last P ys x h.1 p)
 
-all_middle : {X : Type 0} (P : X → Type 0) (xs : List X) (x : X) (ys : List X) → AllByRecursion P (xs ++ x ∷ ys) → P x
+pub all_middle : {X : Type 0} (P : X → Type 0) (xs : List X) (x : X) (ys : List X) → AllByRecursion P (xs ++ x ∷ ys) → P x
 all_middle P [] x ys h = h.0
 all_middle P (z ∷ zs) x ys h = all_middle P zs x ys h.1
 

@@ -1,5 +1,5 @@
 -- How a document goes on behind each token.
-use Rattle.std.proofs.Common.{◌≡◌, ℕ, Bool, true, false, List, [], ◌∷◌, ◌++◌, refl, ap, sym, ◌∙◌, subst, append_assoc, ◌⊎◌, inl, inr}
+use Rattle.std.proofs.Common.{◌≡◌, ℕ, Bool, true, false, List, [], ◌∷◌, ◌++◌, refl, ap, sym, ◌∙◌, subst, ◌⊎◌, inl, inr}
 use Rattle.std.specs.Prelude.{◌↔◌}
 use Rattle.ifmap_elem.specs.declared.elements.Attribute.{Attribute}
 use Rattle.ifmap_elem.specs.declared.elements.Element.{Element}
@@ -11,11 +11,11 @@ use Rattle.ifmap_elem.specs.declared.tokens.Tag.{Tag}
 use Rattle.ifmap_elem.specs.declared.tokens.Token.{Token}
 use Rattle.ifmap_elem.specs.declared.tokens.Token.TheVariants.{Declaration, Comment, Start, Empty, End, Section, Text}
 use Rattle.ifmap_elem.specs.Scopes.{Scope, root_scope, bindings, NamesElement}
-use Rattle.ifmap_elem.specs.Document.{Content, Nothing, Remark, Words, Verbatim, Leaf, Branch, tokens_of, Item, IsElement, Means, IsMargin, IsRoot, heading, IsDocument}
+use Rattle.ifmap_elem.specs.Document.{Content, Nothing, Remark, Words, Verbatim, Leaf, Branch, tokens_of, IsElement, Means, IsMargin, IsRoot, heading}
 use Rattle.ifmap_reader.specs.declared.frames.Frame.{Frame}
 use Rattle.ifmap_reader.specs.Frames.{Closes, scope_of, with_inner, with_words, written_name}
 use Rattle.ifmap_reader.specs.Opening.{Opened}
-use Rattle.ifmap_reader.specs.Progress.{Where, AtStart, Among, Behind, Ends, EndsDocument, BeginsRoot, Closing, GoesOn, Follows, IsWords, adopted}
+use Rattle.ifmap_reader.specs.Progress.{AtStart, Among, Behind, EndsDocument, BeginsRoot, Closing, GoesOn, Follows, IsWords, adopted}
 use Rattle.ifmap_reader.proofs.Items.{opened_closes, closes_opened}
 use Rattle.ifmap_reader.proofs.Contents.{ends_comment, ends_words, no_declaration, no_other_end, ends_here, ends_empty, ends_start, start_named, empty_named}
 

@@ -1,5 +1,5 @@
 -- How deep the elements nest that a reader has read, and those that it can go on to.
-use Rattle.std.proofs.Common.{◌≡◌, ℕ, ◌+◌, ◌<◌, ◌≤◌, suc, Bool, true, false, cond, ◌||◌, max, List, [], ◌∷◌, ◌++◌, length, map, refl, ap, sym, ◌∙◌, subst, arith}
+use Rattle.std.proofs.Common.{◌≡◌, ℕ, ◌<◌, ◌≤◌, suc, Bool, true, false, cond, ◌||◌, max, List, [], ◌∷◌, ◌++◌, length, map, refl, ap, ◌∙◌, arith}
 use Rattle.std.proofs.lemmas.List.{map-append}
 use Rattle.ifmap_elem.specs.declared.elements.Child.{Child}
 use Rattle.ifmap_elem.specs.declared.elements.Child as the
@@ -13,7 +13,7 @@ use Rattle.ifmap_elem.specs.Nesting.{greatest, nesting, child_nesting, child_lev
 use Rattle.ifmap_reader.specs.declared.frames.Frame.{Frame}
 use Rattle.ifmap_reader.specs.Depths.{levels}
 use Rattle.ifmap_reader.specs.Frames.{Closes, has_children, kept_behind, kept_text, text_behind, with_inner}
-use Rattle.ifmap_reader.specs.Progress.{Where, AtStart, Among, Behind, Ends, EndsDocument, Closing, GoesOn, adopted, so_deep}
+use Rattle.ifmap_reader.specs.Progress.{Where, AtStart, Among, Behind, Closing, GoesOn, adopted, so_deep}
 
 -- the greatest nesting of some children
 abbrev pub deepest : List Child → ℕ

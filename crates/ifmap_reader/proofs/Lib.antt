@@ -8,6 +8,8 @@ pub mod Lasts
 pub mod Levels
 pub mod Lookups
 pub mod NameLaws
+pub mod NameSets
 pub mod Progressing
+pub mod ScopeLaws
 pub mod Stepping
 pub mod Ways

@@ -1,12 +1,11 @@
 -- What prefixes are bound to, scope by scope.
-use Rattle.std.proofs.Common.{◌≡◌, ℕ, ◌<◌, ◌≤◌, ◌+◌, ◌-◌, Bool, true, false, List, [], ◌∷◌, ◌++◌, length, reverse, take, get_or, refl, ap, sym, ◌∙◌, subst, arith, inl, inr}
-use Rattle.std.specs.Prelude.{Option, Some, None}
+use Rattle.std.proofs.Common.{◌≡◌, ℕ, ◌<◌, ◌≤◌, ◌+◌, ◌-◌, List, [], ◌∷◌, ◌++◌, length, reverse, take, get_or, refl, ap, sym, ◌∙◌, arith, inl, inr}
+use Rattle.std.specs.Prelude.{Some, None}
 use Rattle.std.specs.Str.{bytes_eq}
 use Rattle.std.proofs.lemmas.Bool.{cases_Bool}
 use Rattle.std.proofs.lemmas.List.{reverse-append, take_more}
-use Rattle.ifmap_elem.specs.Scopes.{Scope, Binding, bound}
+use Rattle.ifmap_elem.specs.Scopes.{Scope, bound}
 use Rattle.ifmap_reader.specs.declared.frames.Frame.{Frame}
-use Rattle.ifmap_reader.specs.Frames.{scope_of}
 
 -- where an inner scope binds a prefix, that holds; where it does not, what holds round it
 pub bound_inner : (inner outer : Scope) (p space : List ℕ) → bound inner p ≡ Some space → bound (inner ++ outer) p ≡ Some space

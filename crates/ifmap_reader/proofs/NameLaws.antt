@@ -2,7 +2,7 @@
 use Rattle.std.proofs.Common.{◌≡◌, ◌≢◌, ℕ, ◌+◌, ◌<◌, ◌≤◌, ◌-◌, zero, suc, Bool, true, false, List, [], ◌∷◌, ◌++◌, map, take, drop, length, get_or, length-drop, drop-cons, add-one, refl, ap, sym, ◌∙◌, subst, arith}
 use Rattle.std.specs.Prelude.{◌↔◌, IsTrue, filter, is_none}
 use Rattle.std.specs.List.{AllByRecursion, filter_map}
-use Rattle.std.proofs.lemmas.List.{take_more, take_all, map-append}
+use Rattle.std.proofs.lemmas.List.{take_more, take_all}
 use Rattle.ifmap_elem.specs.declared.elements.Attribute.{Attribute}
 use Rattle.ifmap_elem.specs.declared.elements.Name.{Name}
 use Rattle.ifmap_elem.specs.declared.tokens.Assignment.{Assignment}
@@ -39,7 +39,7 @@ not_lacking name ts i t l is e h = lacks_at name ts i t l h (sym e ∙ ap (λ (u
 abbrev pub Onwards : List Attribute → ℕ → Type 0
 Onwards ts i = AllDiffer (names ts) ↔ AllDiffer (names (drop i ts))
 
-dropped : (ts : List Attribute) (i : ℕ) (d : Attribute) → i < length ts → drop i ts ≡ get_or ts i d ∷ drop (i + 1) ts
+pub dropped : (ts : List Attribute) (i : ℕ) (d : Attribute) → i < length ts → drop i ts ≡ get_or ts i d ∷ drop (i + 1) ts
 dropped ts i d l = drop-cons ts i d l ∙ ap (λ (n : ℕ). get_or ts i d ∷ drop n ts) (sym (add-one i))
 
 pub onwards_next : (ts : List Attribute) (i : ℕ) (d : Attribute) → i < length ts → Lacks (get_or ts i d).name (drop (i + 1) ts) → Onwards ts i → Onwards ts (i + 1)

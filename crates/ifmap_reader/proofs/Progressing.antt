@@ -1,14 +1,13 @@
 -- How far a reader has come.
-use Rattle.std.proofs.Common.{◌≡◌, ◌≢◌, ℕ, ◌+◌, ◌-◌, ◌<◌, ◌≤◌, suc, Bool, true, false, max, List, [], ◌∷◌, ◌++◌, length, reverse, drop, take, refl, ap, sym, ◌∙◌, subst, append_assoc, arith, length-drop, drop-drop, ◌⊎◌, inl, inr, cond}
-use Rattle.std.specs.Prelude.{◌↔◌, count_by, Ok, Err, Result}
+use Rattle.std.proofs.Common.{◌≡◌, ◌≢◌, ℕ, ◌+◌, ◌-◌, ◌<◌, ◌≤◌, Bool, List, [], ◌∷◌, ◌++◌, length, reverse, drop, take, refl, ap, sym, ◌∙◌, subst, append_assoc, arith, length-drop, drop-drop, ◌⊎◌, inl, inr, cond}
+use Rattle.std.specs.Prelude.{◌↔◌, count_by, Err, Result}
 use Rattle.std.proofs.lemmas.List.{append-nil, take_all}
 use Rattle.std.proofs.lemmas.List.Sums.{sum_by-append, sum_by-cons}
 use Rattle.ifmap_sequences.specs.Items.{To, to_last, IsOnly, Ahead, ahead_at_start, ahead_next, none_ahead}
 use Rattle.ifmap_elem.specs.declared.readings.Reading.{Reading}
 use Rattle.ifmap_elem.specs.declared.tokens.Token.{Token}
 use Rattle.ifmap_elem.specs.Document.{IsDocument}
-use Rattle.ifmap_elem.specs.Nesting.{nesting}
-use Rattle.ifmap_elem.specs.Places.{BeginsDocument, Reaches, Stop, Deep, Opens, is_start, is_end, open_after, offset}
+use Rattle.ifmap_elem.specs.Places.{BeginsDocument, Opens, is_start, is_end, open_after, offset}
 use Rattle.ifmap_elem.specs.Spells.{Spells, without_mark}
 use Rattle.ifmap_elem.specs.Tokens.{TakesToken}
 use Rattle.ifmap_elem.proofs.OneToken.{no_token}
@@ -17,11 +16,9 @@ use Rattle.ifmap_lexer.specs.declared.errors.LexError.TheVariants as lexing
 use Rattle.ifmap_reader.specs.declared.errors.ReadError.{ReadError}
 use Rattle.ifmap_reader.specs.declared.errors.Refusal.{Refusal}
 use Rattle.ifmap_reader.specs.declared.errors.Refusal.TheVariants as refusals
-use Rattle.ifmap_reader.specs.declared.frames.Frame.{Frame}
 use Rattle.ifmap_reader.specs.declared.standing.Standing.{Standing}
 use Rattle.ifmap_reader.specs.declared.standing.Standing.TheVariants as standing
-use Rattle.ifmap_reader.specs.Depths.{levels}
-use Rattle.ifmap_reader.specs.Progress.{Where, AtStart, Among, Behind, GoesOn, Follows, Leads, Passes, Steps, open_in, so_deep, one_if, where_is}
+use Rattle.ifmap_reader.specs.Progress.{Where, AtStart, Among, Behind, GoesOn, Leads, Passes, Steps, open_in, so_deep, one_if, where_is}
 use Rattle.ifmap_reader.specs.Reads.{IsUnreadable, IsTooDeep, IsRead, lex_error, step_error, read_at_end}
 use Rattle.ifmap_reader.proofs.Goings.{no_tokens, no_tokens_start, behind_ends}
 use Rattle.ifmap_reader.proofs.Levels.{goes_deep}

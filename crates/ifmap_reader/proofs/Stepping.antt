@@ -1,6 +1,6 @@
 -- What one more token makes of where a reader stands.
-use Rattle.std.proofs.Common.{◌≡◌, ℕ, ◌+◌, ◌<◌, ◌≤◌, suc, Bool, true, false, max, List, [], ◌∷◌, ◌++◌, length, reverse, map, refl, ap, sym, ◌∙◌, subst, arith, ◌⊎◌, inl, inr}
-use Rattle.std.specs.Prelude.{◌↔◌, Ok, Err, Result}
+use Rattle.std.proofs.Common.{◌≡◌, ℕ, ◌+◌, ◌<◌, ◌≤◌, Bool, true, false, max, List, [], ◌∷◌, ◌++◌, length, reverse, refl, ap, sym, ◌∙◌, subst, arith, inl, inr}
+use Rattle.std.specs.Prelude.{Ok, Err, Result}
 use Rattle.std.proofs.lemmas.List.{length-reverse}
 use Rattle.ifmap_elem.specs.declared.elements.Element.{Element}
 use Rattle.ifmap_elem.specs.declared.readings.Declared.{Declared}
@@ -15,7 +15,7 @@ use Rattle.ifmap_reader.specs.declared.errors.Refusal.TheVariants.{NotAllowed, T
 use Rattle.ifmap_reader.specs.declared.frames.Frame.{Frame}
 use Rattle.ifmap_reader.specs.declared.standing.Standing.{Standing}
 use Rattle.ifmap_reader.specs.Depths.{levels}
-use Rattle.ifmap_reader.specs.Frames.{Closes, scope_of, with_inner, with_words, written_name}
+use Rattle.ifmap_reader.specs.Frames.{Closes, scope_of, with_words, written_name}
 use Rattle.ifmap_reader.specs.Opening.{Opened, IsOpened}
 use Rattle.ifmap_reader.specs.Progress.{Where, AtStart, Among, Behind, GoesOn, Follows, IsWords, is_margin, Leads, Passes, Steps, adopted, open_in, so_deep, one_if, where_is}
 use Rattle.ifmap_reader.proofs.Goings.{inner_comment, inner_words, inner_start, inner_empty, inner_end, inner_declaration, inner_other_end, root_comment, root_blank, IsInner, no_root, root_start, root_empty, no_start, no_empty, behind_comment, behind_blank, no_behind, no_second_root, start_declaration, IsOther, start_other}

@@ -1,5 +1,5 @@
 -- Wherever a reader stands, some document goes on from there.
-use Rattle.std.proofs.Common.{◌≡◌, ℕ, true, false, List, [], ◌∷◌, ◌++◌, refl, ap, sym, ◌∙◌, subst}
+use Rattle.std.proofs.Common.{false, List, [], ◌∷◌, refl}
 use Rattle.std.specs.Prelude.{codes}
 use Rattle.ifmap_elem.specs.declared.elements.Element.{Element}
 use Rattle.ifmap_elem.specs.declared.readings.Declared.{Declared}
@@ -8,10 +8,10 @@ use Rattle.ifmap_elem.specs.declared.tokens.Tag.{Tag}
 use Rattle.ifmap_elem.specs.declared.tokens.Token.{Token}
 use Rattle.ifmap_elem.specs.declared.tokens.Token.TheVariants.{Empty, End}
 use Rattle.ifmap_elem.specs.Scopes.{root_scope}
-use Rattle.ifmap_elem.specs.Document.{Nothing, Leaf, IsElement, IsDocument}
+use Rattle.ifmap_elem.specs.Document.{Nothing, Leaf, IsElement}
 use Rattle.ifmap_reader.specs.declared.frames.Frame.{Frame}
-use Rattle.ifmap_reader.specs.Frames.{Closes, with_inner, written_name, kept_behind}
-use Rattle.ifmap_reader.specs.Progress.{Where, AtStart, Among, Behind, Ends, EndsDocument, BeginsRoot, Closing, GoesOn}
+use Rattle.ifmap_reader.specs.Frames.{Closes, with_inner, written_name}
+use Rattle.ifmap_reader.specs.Progress.{Where, AtStart, Among, Behind, Closing, GoesOn}
 
 -- `<a/>`
 abbrev some_tag : Tag

@@ -1,6 +1,6 @@
 -- How deep what has been read nests.
 use Rattle.std.specs.Prelude.{ℕ, suc, ◌+◌, max, List, [], ◌∷◌, length, map}
-use Rattle.ifmap_elem.specs.Nesting.{greatest, nesting, child_nesting}
+use Rattle.ifmap_elem.specs.Nesting.{greatest, child_nesting}
 use Rattle.ifmap_reader.specs.declared.frames.Frame.{Frame}
 
 -- the levels of some open elements, the innermost first, with the children that they have

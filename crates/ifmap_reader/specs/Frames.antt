@@ -1,7 +1,6 @@
 -- Elements that are open, by what they are once they end.
 use Rattle.std.specs.Prelude.{◌≡◌, ℕ, Bool, true, not, ◌==◌, ◌||◌, if◌then◌else◌, List, [], ◌∷◌, ◌++◌, length, map, filter}
-use Rattle.std.specs.List.{list_all, list_any}
-use Rattle.ifmap_elem.specs.Chars.{is_space}
+use Rattle.std.specs.List.{list_any}
 use Rattle.ifmap_elem.specs.Document.{Item, Run, is_inner, put_before, joined, is_kept, child_of, declared_here, declared_below, from_above}
 use Rattle.ifmap_elem.specs.Scopes.{Scope, root_scope}
 use Rattle.ifmap_elem.specs.declared.elements.Child.{Child}

@@ -2,7 +2,7 @@
 use Rattle.std.specs.Prelude.{◌≡◌, ℕ, List, [], ◌∷◌, ◌++◌, map, Option, Some, None, Result, Ok, Err}
 use Rattle.std.proofs.Common.{Bor}
 use Rattle.std.specs.List.{AllByRecursion, filter_map}
-use Rattle.ifmap_elem.specs.Scopes.{Scope, Binding, IsBinding, AllDiffer, IsAttribute, AreAttributes, NamesElement, binding_of, bindings, bound, plain_assignments, scope_within}
+use Rattle.ifmap_elem.specs.Scopes.{Scope, Binding, IsBinding, AllDiffer, IsAttribute, AreAttributes, NamesElement, binding_of, bindings, bound}
 use Rattle.ifmap_elem.specs.declared.elements.Attribute.{Attribute}
 use Rattle.ifmap_elem.specs.declared.elements.Name.{Name}
 use Rattle.ifmap_elem.specs.declared.tokens.Assignment.{Assignment}

@@ -5,12 +5,30 @@ ghost use Rattle.ifmap_elem.specs.Scopes.{AllDiffer};
 
 use ifmap_elem::{Attribute, Equals, Name};
 use std::alloc::{AllocError as NoMemory, Global};
+use std::collections::BTreeSet;
+
+/// So many attributes are compared each to each, which takes no memory.
+const FEW: usize = 8;
 
 pub(crate) fn have_other_names(alloc: Global, attributes: &[Attribute]) -> Result<bool, NoMemory>
     ensures { IfOk result (λ differ. IsTrue differ ↔ AllDiffer (map (λ t. t.name) attributes.now)) }
 {
-    let _ = alloc;
-    Ok(few_differ(attributes))
+    if attributes.len() <= FEW {
+        return Ok(few_differ(attributes));
+    }
+    many_differ(alloc, attributes)
+}
+
+fn many_differ(alloc: Global, attributes: &[Attribute]) -> Result<bool, NoMemory>
+    ensures { IfOk result (λ differ. IsTrue differ ↔ AllDiffer (map (λ t. t.name) attributes.now)) }
+{
+    let mut names = BTreeSet::new(alloc);
+    for attribute in attributes {
+        if !names.insert(&attribute.name)? {
+            return Ok(false);
+        }
+    }
+    Ok(true)
 }
 
 fn few_differ(attributes: &[Attribute]) -> bool

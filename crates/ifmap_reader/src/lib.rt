@@ -9,7 +9,9 @@ pub mod errors;
 mod frames;
 mod opening;
 pub mod reading;
+pub mod scoping;
 mod standing;
 
 pub use errors::ReadError;
 pub use reading::read;
+pub use scoping::{Scope, scope_at};

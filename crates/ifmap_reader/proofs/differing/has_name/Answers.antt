@@ -1,5 +1,4 @@
-use Rattle.std.proofs.Common.{refl, ap, ◌∙◌}
-use Rattle.ifmap_elem.specs.declared.elements.Attribute.{Attribute}
+use Rattle.std.proofs.Common.{refl}
 use Rattle.ifmap_reader.proofs.NameLaws.{not_lacking}
 use Rattle.ifmap_reader.proofs.differing.has_name.Goals as goal
 

@@ -1,4 +1,4 @@
-use Rattle.std.proofs.Common.{sym, ◌∙◌, ◌++◌, reverse}
+use Rattle.std.proofs.Common.{◌++◌, reverse}
 use Rattle.std.proofs.lemmas.Result.{err_from_is_err_and}
 use Rattle.ifmap_reader.specs.Frames.{scope_of}
 use Rattle.ifmap_reader.proofs.Attributing.{attributing_first, attribute_added, binding_left, attribute_refused, all_given, plain, told_some, told_none}

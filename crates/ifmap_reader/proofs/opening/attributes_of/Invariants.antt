@@ -1,4 +1,4 @@
-use Rattle.std.proofs.Common.{◌≡◌, ◌++◌, reverse, vec_len}
+use Rattle.std.proofs.Common.{◌++◌, reverse, vec_len}
 use Rattle.ifmap_reader.specs.Frames.{scope_of}
 use Rattle.ifmap_reader.proofs.Attributing.{Attributing, plain}
 use Rattle.ifmap_reader.proofs.opening.attributes_of.Given as goal

@@ -1,7 +1,7 @@
-use Rattle.std.proofs.Common.{◌≡◌, ap, sym, ◌∙◌, arith, reverse, take}
+use Rattle.std.proofs.Common.{ap, sym, ◌∙◌, arith, reverse, take}
 use Rattle.std.specs.Prelude.{Some}
 use Rattle.std.proofs.lemmas.List.{take_all}
-use Rattle.ifmap_elem.specs.Scopes.{Scope, bound}
+use Rattle.ifmap_elem.specs.Scopes.{bound}
 use Rattle.ifmap_reader.specs.declared.frames.Frame.{Frame}
 use Rattle.ifmap_reader.specs.Frames.{scope_of}
 use Rattle.ifmap_reader.proofs.Lookups.{bound_inner, bound_outer, frame_before}

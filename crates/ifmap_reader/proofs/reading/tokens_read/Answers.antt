@@ -1,4 +1,3 @@
-use Rattle.std.proofs.Common.{List, ◌≡◌, subst}
 use Rattle.ifmap_reader.specs.Progress.{where_is}
 use Rattle.ifmap_reader.proofs.Progressing.{at_start, lex_refused, next_at, refused_at, shown_is, within_next, end_read}
 use Rattle.ifmap_reader.proofs.reading.tokens_read.Goals as goal

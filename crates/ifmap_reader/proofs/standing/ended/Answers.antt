@@ -1,4 +1,4 @@
-use Rattle.std.proofs.Common.{◌∙◌, sym, refl}
+use Rattle.std.proofs.Common.{◌∙◌, sym}
 use Rattle.ifmap_reader.specs.Progress.{where_is}
 use Rattle.ifmap_reader.proofs.Lasts.{none_was}
 use Rattle.ifmap_reader.proofs.Stepping.{end_step, other_end, no_end}
