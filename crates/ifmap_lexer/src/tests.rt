@@ -57,6 +57,17 @@ fn told(alloc: Global, bytes: &[u8]) -> Result<String, AllocError> {
     }
 }
 
+/// How many cases agree, up to the first that does not.
+fn agreeing(alloc: Global, cases: &[(&str, &str)]) -> Result<usize, AllocError> {
+    for (i, (bytes, wanted)) in cases.iter().enumerate() {
+        let got = told(alloc, bytes.as_bytes())?;
+        if got.as_str() != *wanted {
+            return Ok(i);
+        }
+    }
+    Ok(cases.len())
+}
+
 #[test]
 fn tokens_are_as_written_by_hand(rt: HostRuntime) -> Result<(), Fail> {
     let alloc = rt.alloc();
@@ -133,10 +144,8 @@ fn tokens_are_as_written_by_hand(rt: HostRuntime) -> Result<(), Fail> {
         ("a\u{1}", "malformed"),
         ("", "malformed"),
     ];
-    for (bytes, wanted) in &cases {
-        let got = told(alloc, bytes.as_bytes())?;
-        assert_eq!(rt; got.as_str(), *wanted);
-    }
+    let agreeing = agreeing(alloc, &cases)?;
+    assert_eq!(rt; agreeing, cases.len());
     Ok(())
 }
 
