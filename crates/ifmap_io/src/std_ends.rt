@@ -1,6 +1,8 @@
 //! The adapters over the system's readers and writers. They tell no bytes, and count each error.
 ghost use Rattle.std.specs.Prelude.{◌≡◌, ◌≤◌, IsErr, MatchResult, None, OnErr};
-ghost use Rattle.ifmap_io.specs.Causes.{Rose};
+ghost use Rattle.std.specs.Io.{ReadsAtMost};
+ghost use Rattle.ifmap_io.specs.Causes.{HasCause, Rose};
+ghost use Rattle.ifmap_io.specs.Memory.{faults_after};
 
 use crate::ends::{Failed, Sink, Source};
 use std::io;
@@ -23,6 +25,7 @@ impl<R> Model for StdSource<R> {
 }
 
 impl<R: Read> StdSource<R> {
+    /// A source over that reader, with no fault yet. It takes no memory.
     pub fn new(reader: R) -> StdSource<R>
         ensures { result ≡ 0 }
     {
@@ -35,7 +38,11 @@ impl<R: Read> Source for StdSource<R> {
 
     ghost faults = { λ s. s };
 
-    fn read(&mut self, room: &mut [u8]) -> Result<usize, Failed> {
+    fn read(&mut self, room: &mut [u8]) -> Result<usize, Failed>
+        ensures bound { ReadsAtMost result room.new }
+        ensures cause { HasCause self.old self.new result }
+        ensures counted { self.new ≡ faults_after result self.old }
+    {
         counted(self.reader.read(room), &mut self.faults)
     }
 }
@@ -56,6 +63,7 @@ impl<W> Model for StdSink<W> {
 }
 
 impl<W: Write> StdSink<W> {
+    /// A sink over that writer, with no fault yet. It takes no memory.
     pub fn new(writer: W) -> StdSink<W>
         ensures { result ≡ 0 }
     {
@@ -68,11 +76,17 @@ impl<W: Write> Sink for StdSink<W> {
 
     ghost faults = { λ s. s };
 
-    fn write_all(&mut self, bytes: &[u8]) -> Result<(), Failed> {
+    fn write_all(&mut self, bytes: &[u8]) -> Result<(), Failed>
+        ensures cause { HasCause self.old self.new result }
+        ensures counted { self.new ≡ faults_after result self.old }
+    {
         counted(self.writer.write_all(bytes), &mut self.faults)
     }
 
-    fn flush(&mut self) -> Result<(), Failed> {
+    fn flush(&mut self) -> Result<(), Failed>
+        ensures cause { HasCause self.old self.new result }
+        ensures counted { self.new ≡ faults_after result self.old }
+    {
         counted(self.writer.flush(), &mut self.faults)
     }
 }
@@ -80,6 +94,7 @@ impl<W: Write> Sink for StdSink<W> {
 // The system's answer, whose error is counted.
 pub(crate) fn counted<T>(answer: io::Result<T>, faults: &mut u64) -> Result<T, Failed>
     ensures same { MatchResult result (λ value. answer ≡ Ok value) (λ _. IsErr answer) }
+    ensures counted { faults.new ≡ faults_after result faults.old }
     ensures later { faults.old ≤ faults.new }
     ensures rose { OnErr result (Rose faults.old faults.new) }
 {
