@@ -1,3 +1,4 @@
+pub mod Adapters
 pub mod Calendar
 pub mod Causes
 pub mod Doors

@@ -1,7 +1,7 @@
 -- The objects in memory that stand for the outside, as contracts see them.
 -- Of each, `fails` lists the calls that are to fail, by their number from 0 over all calls that can fail,
 -- and `calls` is how many of these were made.
-use Rattle.std.specs.Prelude.{ℕ, ◌+◌, ◌-◌, ◌^◌, min, List, Some, map, Contains, Result, IsErr, is_err, if◌then◌else◌, ◌↔◌}
+use Rattle.std.specs.Prelude.{ℕ, ◌+◌, ◌*◌, ◌-◌, ◌^◌, min, List, Some, map, Contains, Result, IsErr, is_err, if◌then◌else◌, ◌↔◌}
 use Rattle.ifmap_io.specs.Doors.{Doorway}
 use Rattle.ifmap_io.specs.Links.{Seen}
 
@@ -37,10 +37,15 @@ pub record Porch : Type 0 where
   pub calls : ℕ
   pub faults : ℕ
 
--- a clock: its first and its last moment
+-- a clock: its first moment, by how many seconds it goes on at a pause, and its last moment
 pub record Dial : Type 0 where
   pub first : ℕ
+  pub step : ℕ
   pub last : ℕ
+
+-- the moment of a clock after so many pauses: it stays at its last moment
+abbrev pub moment_after : Dial → ℕ → ℕ
+moment_after dial pauses = min (dial.first + pauses * dial.step) dial.last
 
 -- a link in memory as every link is seen
 abbrev pub cable_seen : Cable → Seen

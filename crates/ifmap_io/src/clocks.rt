@@ -1,5 +1,6 @@
 //! Clocks.
 ghost use Rattle.std.specs.Prelude.{◌≡◌, ◌≤◌, ℕ, ⊤};
+ghost use Rattle.ifmap_io.specs.Memory.{moment_after};
 
 use crate::moments::Moment;
 use std::marker::Model;
@@ -20,7 +21,8 @@ pub trait Clock {
     fn pause(&self);
 }
 
-/// A clock in memory, which goes on at each pause alone. It can be shared between threads.
+/// A clock in memory, which goes on at each pause alone. It can be shared between threads, and
+/// contracts do not see how often it has paused.
 #[derive(Drop)]
 pub struct MemoryClock {
     first: Moment,
@@ -35,7 +37,7 @@ impl Model for MemoryClock {
 
     ghost Value = { Dial };
 
-    ghost view = { λ c. record { first = c.first; last = c.last } };
+    ghost view = { λ c. record { first = c.first; step = c.step; last = c.last } };
 
     ghost invariant = { λ c. c.first ≤ c.last };
 }
@@ -44,7 +46,7 @@ impl MemoryClock {
     /// A clock that begins at `first`, goes on by `step` seconds at each pause, and stays at `last`.
     pub fn new(first: Moment, step: u64, last: Moment) -> MemoryClock
         requires { first ≤ last }
-        ensures { result ≡ record { first = first; last = last } }
+        ensures { result ≡ record { first = first; step = step; last = last } }
     {
         MemoryClock {
             first,
@@ -60,11 +62,14 @@ impl Clock for MemoryClock {
 
     ghost gives = { λ c moment. (c.first ≤ moment) × (moment ≤ c.last) };
 
-    fn now(&self) -> Moment {
+    fn now(&self) -> Moment
+        ensures gives { (self.now.first ≤ result) × (result ≤ self.now.last) }
+        ensures reached { (pauses : ℕ) × (result ≡ moment_after self.now pauses) }
+    {
         let pauses = self.pauses.load(Ordering::SeqCst);
         let passed = pauses.saturating_mul(self.step);
-        let moment = Moment::nearest(self.first.seconds().saturating_add(passed));
-        moment.min(self.last)
+        let reached = self.first.seconds().saturating_add(passed);
+        Moment::nearest(reached.min(self.last.seconds()))
     }
 
     fn pause(&self) {
@@ -83,6 +88,7 @@ pub struct SystemClock<R> {
 }
 
 impl<R: time::Clock> SystemClock<R> {
+    /// The system's clock, by that runtime.
     pub fn new(rt: R) -> SystemClock<R> {
         SystemClock { rt }
     }

@@ -1,5 +1,5 @@
 //! Links: what is read from and written to at once, as a connection.
-ghost use Rattle.std.specs.Prelude.{◌≡◌, Contains, IsErr, OnErr, Some};
+ghost use Rattle.std.specs.Prelude.{◌≡◌, Contains, IfOk, IsErr, OnErr, Some, length, min};
 ghost use Rattle.std.specs.Io.{ReadsAtMost};
 ghost use Rattle.std.specs.Io.KnownBytes.{Keeps, ReadConsumes};
 ghost use Rattle.ifmap_io.specs.Causes.{HasCause};
@@ -19,8 +19,9 @@ pub trait Link: Source + Sink + Drop {
     ghost incoming_is: { (link : Self) → Self.incoming link ≡ record { bytes = Self.left link; faults = Self.Source.faults link } };
 }
 
-/// A link over bytes in memory. It tells what it has left and what it holds. Its writes fail too
-/// where they find no memory.
+/// A link over bytes in memory. It tells what it has left and what it holds. A read gives as many
+/// bytes as fit. A write fails too where it finds no memory, and where it fails nothing of it is
+/// written.
 #[derive(Drop)]
 pub struct MemoryLink {
     bytes: Vec<u8>,
@@ -78,6 +79,7 @@ impl Source for MemoryLink {
     fn read(&mut self, room: &mut [u8]) -> Result<usize, Failed>
         ensures bound { ReadsAtMost result room.new }
         ensures bytes { ReadConsumes (Some self.old.left) (Some self.new.left) result room.new }
+        ensures fills { IfOk result (λ count. count ≡ min (length self.old.left) (length room.new)) }
         ensures cause { HasCause self.old.read_faults self.new.read_faults result }
         ensures listed { FailsAsListed self.old.fails self.old.calls result }
         ensures rest { self.new ≡ record { left = self.new.left; held = self.old.held; fails = self.old.fails; calls = one_more self.old.calls; read_faults = faults_after result self.old.read_faults; write_faults = self.old.write_faults } }

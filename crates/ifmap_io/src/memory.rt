@@ -1,5 +1,5 @@
 //! A source and a sink in memory, which fail at the calls that are listed.
-ghost use Rattle.std.specs.Prelude.{◌≡◌, ◌+◌, ◌-◌, ◌^◌, ◌<◌, ◌≤◌, ◌↔◌, ◌++◌, [], Contains, IsErr, IsTrue, OnErr, Some, drop, length, min, take};
+ghost use Rattle.std.specs.Prelude.{◌≡◌, ◌+◌, ◌-◌, ◌^◌, ◌<◌, ◌≤◌, ◌↔◌, ◌++◌, [], Contains, IfOk, IsErr, IsTrue, OnErr, Some, drop, length, min, take};
 ghost use Rattle.std.specs.Io.{ReadsAtMost};
 ghost use Rattle.std.specs.Io.KnownBytes.{Keeps, ReadConsumes};
 ghost use Rattle.ifmap_io.specs.Causes.{HasCause, Rose};
@@ -9,7 +9,7 @@ ghost use Rattle.ifmap_io.specs.Written.{WritesAll};
 use crate::ends::{Failed, Sink, Source};
 use std::marker::Model;
 
-/// A source over bytes in memory. It tells what it has left.
+/// A source over bytes in memory. It tells what it has left. A read gives as many bytes as fit.
 #[derive(Drop)]
 pub struct MemorySource {
     bytes: Vec<u8>,
@@ -53,6 +53,7 @@ impl Source for MemorySource {
     fn read(&mut self, room: &mut [u8]) -> Result<usize, Failed>
         ensures bound { ReadsAtMost result room.new }
         ensures bytes { ReadConsumes (Some self.old.left) (Some self.new.left) result room.new }
+        ensures fills { IfOk result (λ count. count ≡ min (length self.old.left) (length room.new)) }
         ensures cause { HasCause self.old.faults self.new.faults result }
         ensures listed { FailsAsListed self.old.fails self.old.calls result }
         ensures rest { self.new ≡ record { left = self.new.left; fails = self.old.fails; calls = one_more self.old.calls; faults = faults_after result self.old.faults } }
@@ -62,7 +63,8 @@ impl Source for MemorySource {
     }
 }
 
-/// A sink over a vector. It tells what it holds, and fails too where it finds no memory.
+/// A sink over a vector. It tells what it holds. A write fails too where it finds no memory, and
+/// where it fails nothing of it is written.
 #[derive(Drop)]
 pub struct MemorySink {
     held: Vec<u8>,
@@ -154,6 +156,7 @@ pub(crate) fn give(bytes: &[u8], taken: &mut usize, room: &mut [u8]) -> usize
     requires { taken.old ≤ length bytes.now }
     ensures within { taken.new ≤ length bytes.now }
     ensures bound { result ≤ length room.new }
+    ensures fills { result ≡ min (length bytes.now - taken.old) (length room.new) }
     ensures moved { drop taken.old bytes.now ≡ take result room.new ++ drop taken.new bytes.now }
     ensures end { result ≡ 0 → 0 < length room.new → drop taken.new bytes.now ≡ [] }
 {

@@ -1,8 +1,10 @@
 //! The adapters over the system's TCP sockets. They tell nothing, and count each error.
 ghost use Rattle.std.specs.Prelude.{◌≡◌, IfOk, IsSome, None};
+ghost use Rattle.std.specs.Io.{ReadsAtMost};
 ghost use Rattle.ifmap_io.specs.Causes.{HasCause};
 ghost use Rattle.ifmap_io.specs.Doors.{Accepts};
 ghost use Rattle.ifmap_io.specs.Links.{seen};
+ghost use Rattle.ifmap_io.specs.Memory.{faults_after};
 
 use crate::doors::Door;
 use crate::ends::{Failed, Sink, Source};
@@ -48,7 +50,11 @@ impl Source for TcpLink {
 
     ghost outgoing = { λ l. record { bytes = None; faults = l.write_faults } };
 
-    fn read(&mut self, room: &mut [u8]) -> Result<usize, Failed> {
+    fn read(&mut self, room: &mut [u8]) -> Result<usize, Failed>
+        ensures bound { ReadsAtMost result room.new }
+        ensures cause { HasCause self.old.read_faults self.new.read_faults result }
+        ensures counted { self.new ≡ record { read_faults = faults_after result self.old.read_faults; write_faults = self.old.write_faults } }
+    {
         counted(self.stream.read(room), &mut self.read_faults)
     }
 }
@@ -60,11 +66,17 @@ impl Sink for TcpLink {
 
     ghost incoming = { λ l. record { bytes = None; faults = l.read_faults } };
 
-    fn write_all(&mut self, bytes: &[u8]) -> Result<(), Failed> {
+    fn write_all(&mut self, bytes: &[u8]) -> Result<(), Failed>
+        ensures cause { HasCause self.old.write_faults self.new.write_faults result }
+        ensures counted { self.new ≡ record { read_faults = self.old.read_faults; write_faults = faults_after result self.old.write_faults } }
+    {
         counted(self.stream.write_all(bytes), &mut self.write_faults)
     }
 
-    fn flush(&mut self) -> Result<(), Failed> {
+    fn flush(&mut self) -> Result<(), Failed>
+        ensures cause { HasCause self.old.write_faults self.new.write_faults result }
+        ensures counted { self.new ≡ record { read_faults = self.old.read_faults; write_faults = faults_after result self.old.write_faults } }
+    {
         counted(self.stream.flush(), &mut self.write_faults)
     }
 }
@@ -115,6 +127,7 @@ impl<'a> Door for TcpDoor<'a> {
         ensures links { Accepts (seen ⟦<TcpLink as Source>⟧.left ⟦<TcpLink as Sink>⟧.held ⟦<TcpLink as Source>⟧.faults ⟦<TcpLink as Sink>⟧.faults) None None result }
         ensures some { IfOk result IsSome }
         ensures cause { HasCause self.old self.new result }
+        ensures counted { self.new ≡ faults_after result self.old }
     {
         let (stream, _) = counted(self.listener.accept(), &mut self.faults)?;
         Ok(Some(TcpLink::new(stream)))

@@ -55,7 +55,7 @@ impl<K: Ord> Pool<K> {
         }
     }
 
-    /// The number of the key, if it is held.
+    /// The number of the key, if it is held. It takes no memory.
     pub fn number_of(&self, key: &K) -> Option<u64>
         ensures found { IfSome result (λ number. Names K.cmp self.now number key.now) }
         ensures absent { IfNone result (IsAbsent K.cmp self.now key.now) }
@@ -68,7 +68,7 @@ impl<K: Ord> Pool<K> {
         }
     }
 
-    /// The key of the number, if it is live.
+    /// The key of the number, if it is live. It takes no memory.
     pub fn key_of(&self, number: u64) -> Option<&K>
         ensures key { option_copied result ≡ key_at self.now number }
         ensures held { IsSome result ↔ (0 < holds_at self.now number) }
@@ -79,7 +79,8 @@ impl<K: Ord> Pool<K> {
         }
     }
 
-    /// Makes room for `n` new keys.
+    /// Makes room for `n` new keys. The only error is want of memory, which does not come where there
+    /// is that room already, and which leaves the keys as before and no less room.
     pub fn reserve(&mut self, n: u64) -> Result<(), NoMemory>
         ensures room { OnOk result (n ≤ self.new.spare) }
         ensures live { self.new.live ≡ self.old.live }
@@ -92,7 +93,8 @@ impl<K: Ord> Pool<K> {
     }
 
     /// Holds the key once more, and gives its number. A key that is not held yet moves in; of one that
-    /// is, the pool keeps the key that it has. It takes no memory.
+    /// is, the pool keeps the key that it has. It takes no memory, and needs room for the key, or that
+    /// it is held, fewer than 2^64 - 1 times.
     pub fn hold(&mut self, key: K) -> u64
     where
         K: Drop,
@@ -119,7 +121,8 @@ impl<K: Ord> Pool<K> {
         }
     }
 
-    /// Lets go of one hold. With the last hold the number is free, and its key is dropped.
+    /// Lets go of one hold. With the last hold the number is free, and its key is dropped. It takes no
+    /// memory, and needs that the number is live.
     pub fn release(&mut self, number: u64)
     where
         K: Drop,
