@@ -35,6 +35,12 @@ module _ (bytes : List ℕ) (depth : ℕ) where
   stop (Err (TooDeep at)) h = tt
   stop (Err NoMemory) h = tt
 
+  pub shallow : (a : Result Reading ReadError) → IsRead bytes depth a → OnUnreadable a (λ at. (place : ℕ) → Deep bytes depth place → ⊥)
+  shallow (Ok r) h = tt
+  shallow (Err (Unreadable at)) h = h.shallow
+  shallow (Err (TooDeep at)) h = tt
+  shallow (Err NoMemory) h = tt
+
   pub unreadable_within : (a : Result Reading ReadError) → IsRead bytes depth a → OnUnreadable a (λ at. at ≤ length bytes)
   unreadable_within (Ok r) h = tt
   unreadable_within (Err (Unreadable at)) h = h.within

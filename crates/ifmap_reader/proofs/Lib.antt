@@ -2,6 +2,7 @@ pub mod Answering
 pub mod Attributing
 pub mod Binding
 pub mod Contents
+pub mod Fronts
 pub mod Goings
 pub mod Items
 pub mod Lasts

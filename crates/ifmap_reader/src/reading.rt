@@ -25,6 +25,7 @@ pub fn read(alloc: Global, bytes: &[u8], depth: u32) -> Result<Reading, ReadErro
     ensures unreadable { OnUnreadable result (λ at. (r : Reading) → Spells bytes.now r → ⊥) }
     ensures too_deep { OnTooDeep result (λ at. (r : Reading) → Spells bytes.now r → depth < nesting r.root) }
     ensures stop { OnUnreadable result (λ at. Stop bytes.now at) }
+    ensures shallow { OnUnreadable result (λ at. (place : ℕ) → Deep bytes.now depth place → ⊥) }
     ensures deep { OnTooDeep result (λ at. Deep bytes.now depth at) }
     ensures unreadable_within { OnUnreadable result (λ at. at ≤ length bytes.now) }
     ensures too_deep_within { OnTooDeep result (λ at. at ≤ length bytes.now) }

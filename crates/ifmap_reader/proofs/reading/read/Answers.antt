@@ -13,6 +13,9 @@ returns-clause-too_deep c = answering.too_deep c.args.bytes.now c.args.depth c.t
 pub returns-clause-stop : goal.returns-clause-stop
 returns-clause-stop c = answering.stop c.args.bytes.now c.args.depth c.tokens_read.result c.tokens_read.ensures
 
+pub returns-clause-shallow : goal.returns-clause-shallow
+returns-clause-shallow c = answering.shallow c.args.bytes.now c.args.depth c.tokens_read.result c.tokens_read.ensures
+
 pub returns-clause-deep : goal.returns-clause-deep
 returns-clause-deep c = answering.deep c.args.bytes.now c.args.depth c.tokens_read.result c.tokens_read.ensures
 
