@@ -4,6 +4,9 @@ use Rattle.ifmap_reader.proofs.reading.read.Goals as goal
 pub returns-clause-found : goal.returns-clause-found
 returns-clause-found c = answering.found c.args.bytes.now c.args.depth c.tokens_read.result c.tokens_read.ensures
 
+pub returns-clause-fit : goal.returns-clause-fit
+returns-clause-fit c = answering.fit c.args.bytes.now c.args.depth c.tokens_read.result c.tokens_read.ensures
+
 pub returns-clause-unreadable : goal.returns-clause-unreadable
 returns-clause-unreadable c = answering.unreadable c.args.bytes.now c.args.depth c.tokens_read.result c.tokens_read.ensures
 
