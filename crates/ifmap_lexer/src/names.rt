@@ -114,8 +114,16 @@ fn is_first(character: char) -> bool
     )
 }
 
-/// Whether the character may stand in a name part.
+/// Whether the character may stand in a name part. Most are small letters.
+#[inline(always)]
 fn is_inner(character: char) -> bool
+    ensures { result ≡ is_name_character character }
+{
+    matches!(character as u32, 0x61..=0x7A) || is_any_inner(character)
+}
+
+#[inline(never)]
+fn is_any_inner(character: char) -> bool
     ensures { result ≡ is_name_character character }
 {
     is_first(character)
