@@ -2,6 +2,7 @@ pub mod AssignmentLaws
 pub mod Basics
 pub mod CharacterLaws
 pub mod ExpansionLaws
+pub mod KindLaws
 pub mod NameLaws
 pub mod NumberLaws
 pub mod QuoteLaws

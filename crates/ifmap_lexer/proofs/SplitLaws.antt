@@ -8,8 +8,8 @@ use Rattle.std.proofs.lemmas.List.{take-append-drop}
 use Rattle.std.proofs.lemmas.Str.{IsUtf8-drop, IsCharBoundary-after_ascii}
 use Rattle.std.proofs.Math.Seq.{drop-append_seam, get_or-append_seam}
 use Rattle.ifmap_elem.specs.Chars.{AllAre}
-use Rattle.ifmap_elem.proofs.Cuts.{Stops, is_other}
-use Rattle.ifmap_lexer.specs.Cutting.{Cuts, CutsAt, is_but}
+use Rattle.ifmap_elem.proofs.Cuts.{is_other}
+use Rattle.ifmap_lexer.specs.Cutting.{Cuts, CutsAt, is_but, Stops}
 
 module _ (p : ℕ → Bool) where
   front_one : (b : ℕ) (bs : List ℕ) (t : Bool) → p b ≡ t → AllAre p (take (prefix_len p bs) bs) → AllAre p (take (cond t (1 + prefix_len p bs) 0) (b ∷ bs))

@@ -13,11 +13,11 @@ use Rattle.ifmap_elem.specs.declared.tokens.Qualified.{Qualified}
 use Rattle.ifmap_elem.specs.declared.tokens.Tag.{Tag}
 use Rattle.ifmap_elem.specs.declared.tokens.Token.{Token}
 use Rattle.ifmap_elem.specs.declared.tokens.Token.TheVariants.{Declaration, Comment, Start, Empty, End, Section, Text}
-use Rattle.ifmap_elem.proofs.Cuts.{Stops, cut, dash_cut, bracket_cut, is_number}
+use Rattle.ifmap_elem.proofs.Cuts.{cut, dash_cut, bracket_cut, is_number}
 use Rattle.ifmap_elem.proofs.NameBytes.{name_cut, name_stops_at_space}
-use Rattle.ifmap_elem.proofs.OneToken.{kind_at, kind_of, kind_is, one_tag, text_stops, declaration_no_end}
-use Rattle.ifmap_lexer.specs.Cutting.{Cuts, CutsWord, is_but}
-use Rattle.ifmap_lexer.specs.Kinds.{Stands, kind_number}
+use Rattle.ifmap_elem.proofs.OneToken.{one_tag, text_stops, declaration_no_end}
+use Rattle.ifmap_lexer.specs.Cutting.{Cuts, CutsWord, is_but, Stops}
+use Rattle.ifmap_lexer.specs.Kinds.{Stands, kind_at, kind_of}
 use Rattle.ifmap_lexer.specs.Tags.{ClosesTag}
 use Rattle.ifmap_lexer.specs.Refusing.{Refuses}
 use Rattle.ifmap_lexer.specs.declared.errors.LexError.{LexError}
@@ -26,6 +26,7 @@ use Rattle.ifmap_lexer.specs.declared.kinds.Kind.{Kind}
 use Rattle.ifmap_lexer.specs.declared.kinds.Kind.TheVariants as kinds
 use Rattle.ifmap_lexer.proofs.AssignmentLaws.{SomeName, SomeTag, closes_ends}
 use Rattle.ifmap_lexer.proofs.Basics.{refuses_by}
+use Rattle.ifmap_lexer.proofs.KindLaws.{kind_is}
 use Rattle.ifmap_lexer.proofs.NameLaws.{NameAt}
 
 abbrev pub SomeToken : List ℕ → Type 0
@@ -36,53 +37,53 @@ SomeMeaning written = (text : List ℕ) × IsText written text
 
 -- by kinds
 
-pub of_kind : (kind : Kind) (bytes : List ℕ) → kind_number kind ≡ kind_at bytes → SomeToken bytes → Stands kind bytes
+pub of_kind : (kind : Kind) (bytes : List ℕ) → kind ≡ kind_at bytes → SomeToken bytes → Stands kind bytes
 of_kind kind bytes e s = (s.0, s.1, s.2, sym (kind_is bytes s.0 s.1 s.2) ∙ sym e)
 
-pub of_no_kind : (bytes : List ℕ) → 0 ≡ kind_at bytes → SomeToken bytes → ⊥
+pub of_no_kind : (bytes : List ℕ) → kinds.Nothing ≡ kind_at bytes → SomeToken bytes → ⊥
 of_no_kind bytes e s = none s.0 (sym (kind_is bytes s.0 s.1 s.2) ∙ sym e)
   where
-    none : (t : Token) → kind_of t ≡ 0 → ⊥
-    none Declaration h = omega arith
-    none Comment h = omega arith
-    none (Start tag) h = omega arith
-    none (Empty tag) h = omega arith
-    none (End name) h = omega arith
-    none (Section text) h = omega arith
-    none (Text blank text) h = omega arith
+    none : (t : Token) → kind_of t ≡ kinds.Nothing → ⊥
+    none Declaration h = cc
+    none Comment h = cc
+    none (Start tag) h = cc
+    none (Empty tag) h = cc
+    none (End name) h = cc
+    none (Section text) h = cc
+    none (Text blank text) h = cc
 
-pub kind_refused : {X : Type 0} (kind : Kind) (bytes : List ℕ) (r : Result X LexError) → kind_number kind ≡ kind_at bytes → IfErr r (λ e. Refuses e (Stands kind bytes)) → IfErr r (λ e. Refuses e (SomeToken bytes))
+pub kind_refused : {X : Type 0} (kind : Kind) (bytes : List ℕ) (r : Result X LexError) → kind ≡ kind_at bytes → IfErr r (λ e. Refuses e (Stands kind bytes)) → IfErr r (λ e. Refuses e (SomeToken bytes))
 kind_refused kind bytes (Ok x) e h = tt
 kind_refused kind bytes (Err d) e h = refuses_by d (Stands kind bytes) (SomeToken bytes) (of_kind kind bytes e) h
 
-declaration_by : (bytes : List ℕ) (t : Token) (rest : List ℕ) → TakesToken bytes t rest → kind_of t ≡ 2 → TakesDeclaration bytes rest
+declaration_by : (bytes : List ℕ) (t : Token) (rest : List ℕ) → TakesToken bytes t rest → kind_of t ≡ kinds.Declaration → TakesDeclaration bytes rest
 declaration_by bytes Declaration rest l e = l
-declaration_by bytes t rest l e = absurd (omega arith)
+declaration_by bytes t rest l e = cc
 
-comment_by : (bytes : List ℕ) (t : Token) (rest : List ℕ) → TakesToken bytes t rest → kind_of t ≡ 5 → TakesToken bytes Comment rest
+comment_by : (bytes : List ℕ) (t : Token) (rest : List ℕ) → TakesToken bytes t rest → kind_of t ≡ kinds.Comment → TakesToken bytes Comment rest
 comment_by bytes Comment rest l e = l
-comment_by bytes t rest l e = absurd (omega arith)
+comment_by bytes t rest l e = cc
 
-section_by : (bytes : List ℕ) (t : Token) (rest : List ℕ) → TakesToken bytes t rest → kind_of t ≡ 6 → (text : List ℕ) × TakesToken bytes (Section text) rest
+section_by : (bytes : List ℕ) (t : Token) (rest : List ℕ) → TakesToken bytes t rest → kind_of t ≡ kinds.Section → (text : List ℕ) × TakesToken bytes (Section text) rest
 section_by bytes (Section text) rest l e = (text, l)
-section_by bytes t rest l e = absurd (omega arith)
+section_by bytes t rest l e = cc
 
-end_by : (bytes : List ℕ) (t : Token) (rest : List ℕ) → TakesToken bytes t rest → kind_of t ≡ 3 → (name : Qualified) × TakesEnd bytes name rest
+end_by : (bytes : List ℕ) (t : Token) (rest : List ℕ) → TakesToken bytes t rest → kind_of t ≡ kinds.End → (name : Qualified) × TakesEnd bytes name rest
 end_by bytes (End name) rest l e = (name, l)
-end_by bytes t rest l e = absurd (omega arith)
+end_by bytes t rest l e = cc
 
-text_by : (bytes : List ℕ) (t : Token) (rest : List ℕ) → TakesToken bytes t rest → kind_of t ≡ 1 → (blank : Bool) × (text : List ℕ) × TakesText bytes blank text rest
+text_by : (bytes : List ℕ) (t : Token) (rest : List ℕ) → TakesToken bytes t rest → kind_of t ≡ kinds.Text → (blank : Bool) × (text : List ℕ) × TakesText bytes blank text rest
 text_by bytes (Text blank text) rest l e = (blank, text, l)
-text_by bytes t rest l e = absurd (omega arith)
+text_by bytes t rest l e = cc
 
 -- how a tag's bytes end
 abbrev pub EndsAs : List ℕ → Type 0
 EndsAs bytes = (tag : Tag) × (end : List ℕ) × TakesTag bytes tag end × ClosesTag end × (((rest : List ℕ) → end ≡ codes ">" ++ rest → ⊥) → ((rest : List ℕ) → end ≡ codes "/>" ++ rest → ⊥) → ⊥)
 
-tag_by : (bytes : List ℕ) (t : Token) (rest : List ℕ) → TakesToken bytes t rest → kind_of t ≡ 4 → EndsAs bytes
+tag_by : (bytes : List ℕ) (t : Token) (rest : List ℕ) → TakesToken bytes t rest → kind_of t ≡ kinds.Tag → EndsAs bytes
 tag_by bytes (Start tag) rest l e = (tag, codes ">" ++ rest, l, refl, (λ one two. one rest refl))
 tag_by bytes (Empty tag) rest l e = (tag, codes "/>" ++ rest, l, refl, (λ one two. two rest refl))
-tag_by bytes t rest l e = absurd (omega arith)
+tag_by bytes t rest l e = cc
 
 -- the declaration
 

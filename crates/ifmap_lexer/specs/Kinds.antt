@@ -1,21 +1,36 @@
 -- Which kinds of tokens their first bytes tell apart.
-use Rattle.std.specs.Prelude.{◌≡◌, ℕ, List}
-use Rattle.ifmap_elem.specs.declared.tokens.Token.{Token}
+use Rattle.std.specs.Prelude.{◌≡◌, ℕ, ◌==◌, if◌then◌else◌, List, [], ◌∷◌}
 use Rattle.ifmap_elem.specs.Tokens.{TakesToken}
-use Rattle.ifmap_elem.proofs.OneToken.{kind_of}
+use Rattle.ifmap_elem.specs.declared.tokens.Token.{Token}
+use Rattle.ifmap_elem.specs.declared.tokens.Token.TheVariants as tokens
 use Rattle.ifmap_lexer.specs.declared.kinds.Kind.{Kind}
 use Rattle.ifmap_lexer.specs.declared.kinds.Kind.TheVariants.{Nothing, Text, Declaration, End, Tag, Comment, Section}
 
--- the number of a kind, 0 where there is none
-abbrev pub kind_number : Kind → ℕ
-kind_number Nothing = 0
-kind_number Text = 1
-kind_number Declaration = 2
-kind_number End = 3
-kind_number Tag = 4
-kind_number Comment = 5
-kind_number Section = 6
+-- the kind of a token
+abbrev pub kind_of : Token → Kind
+kind_of tokens.Declaration = Declaration
+kind_of tokens.Comment = Comment
+kind_of (tokens.Start tag) = Tag
+kind_of (tokens.Empty tag) = Tag
+kind_of (tokens.End name) = End
+kind_of (tokens.Section text) = Section
+kind_of (tokens.Text blank text) = Text
+
+-- the kind that begins with `<!` and then with these bytes
+abbrev pub kind_of_section : List ℕ → Kind
+kind_of_section [] = Nothing
+kind_of_section (b ∷ bs) = if b == 0x2D then Comment else (if b == 0x5B then Section else Nothing)
+
+-- the kind that begins with `<` and then with these bytes
+abbrev pub kind_of_markup : List ℕ → Kind
+kind_of_markup [] = Nothing
+kind_of_markup (b ∷ bs) = if b == 0x3F then Declaration else (if b == 0x2F then End else (if b == 0x21 then kind_of_section bs else Tag))
+
+-- the kind that begins with these bytes
+abbrev pub kind_at : List ℕ → Kind
+kind_at [] = Nothing
+kind_at (b ∷ bs) = if b == 0x3C then kind_of_markup bs else Text
 
 -- some token of the kind stands at the front
 abbrev pub Stands : Kind → List ℕ → Type 0
-Stands kind bytes = (t : Token) × (rest : List ℕ) × TakesToken bytes t rest × (kind_of t ≡ kind_number kind)
+Stands kind bytes = (t : Token) × (rest : List ℕ) × TakesToken bytes t rest × (kind_of t ≡ kind)

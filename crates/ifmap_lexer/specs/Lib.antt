@@ -1,6 +1,7 @@
 pub mod Common
 pub mod Cutting
 pub mod Kinds
+pub mod Names
 pub mod Numbers
 pub mod Refusing
 pub mod Runs

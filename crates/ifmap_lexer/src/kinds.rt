@@ -1,7 +1,6 @@
 //! Which kind of token bytes can begin.
 ghost use Rattle.std.specs.Prelude.{◌≡◌};
-ghost use Rattle.ifmap_elem.proofs.OneToken.{kind_at, second_kind, third_kind};
-ghost use Rattle.ifmap_lexer.specs.Kinds.{kind_number};
+ghost use Rattle.ifmap_lexer.specs.Kinds.{kind_at, kind_of_markup, kind_of_section};
 
 /// The kinds of tokens that their first bytes tell apart.
 #[derive(Clone, Copy)]
@@ -18,7 +17,7 @@ pub(crate) enum Kind {
 
 /// The kind of any token that stands at the front.
 pub(crate) fn kind_of(bytes: &[u8]) -> Kind
-    ensures { kind_number result ≡ kind_at bytes.now }
+    ensures { result ≡ kind_at bytes.now }
 {
     match bytes {
         [b'<', rest @ ..] => kind_of_markup(rest),
@@ -29,7 +28,7 @@ pub(crate) fn kind_of(bytes: &[u8]) -> Kind
 
 /// The kind by what is behind a `<`.
 fn kind_of_markup(bytes: &[u8]) -> Kind
-    ensures { kind_number result ≡ second_kind bytes.now }
+    ensures { result ≡ kind_of_markup bytes.now }
 {
     match bytes {
         [b'?', ..] => Kind::Declaration,
@@ -42,7 +41,7 @@ fn kind_of_markup(bytes: &[u8]) -> Kind
 
 /// The kind by what is behind a `<!`.
 fn kind_of_section(bytes: &[u8]) -> Kind
-    ensures { kind_number result ≡ third_kind bytes.now }
+    ensures { result ≡ kind_of_section bytes.now }
 {
     match bytes {
         [b'-', ..] => Kind::Comment,

@@ -3,9 +3,8 @@ ghost use Rattle.std.specs.Prelude.{◌≡◌, ◌++◌, ◌↔◌, ℕ, List, I
 ghost use Rattle.std.specs.List.{prefix_len};
 ghost use Rattle.ifmap_elem.specs.declared.tokens.Qualified.{Qualified};
 ghost use Rattle.ifmap_elem.specs.Names.{IsNamePart, IsQualified, is_name_start, is_name_character, name_bytes};
-ghost use Rattle.ifmap_elem.proofs.Cuts.{Stops};
-ghost use Rattle.ifmap_elem.proofs.NameBytes.{is_name_byte};
-ghost use Rattle.ifmap_lexer.specs.Cutting.{Cuts};
+ghost use Rattle.ifmap_lexer.specs.Cutting.{Cuts, Stops};
+ghost use Rattle.ifmap_lexer.specs.Names.{is_name_byte};
 ghost use Rattle.ifmap_lexer.specs.Refusing.{Refuses};
 
 use crate::errors::LexError;
@@ -114,8 +113,16 @@ fn is_first(character: char) -> bool
     )
 }
 
-/// Whether the character may stand in a name part.
+/// Whether the character may stand in a name part. Most are small letters.
+#[inline(always)]
 fn is_inner(character: char) -> bool
+    ensures { result ≡ is_name_character character }
+{
+    matches!(character as u32, 0x61..=0x7A) || is_any_inner(character)
+}
+
+#[inline(never)]
+fn is_any_inner(character: char) -> bool
     ensures { result ≡ is_name_character character }
 {
     is_first(character)

@@ -12,6 +12,7 @@ use Rattle.ifmap_elem.specs.Spells.{Spells}
 use Rattle.ifmap_elem.proofs.CanonicalSpells.{canonical_spelled}
 use Rattle.ifmap_elem.proofs.FitLaws.{nesting_arranged}
 use Rattle.ifmap_elem.proofs.OneReading.{one_reading}
+use Rattle.ifmap_reader.proofs.FitElements.{spelled_fits}
 use Rattle.ifmap_reader.specs.declared.errors.ReadError.{ReadError}
 use Rattle.ifmap_reader.specs.declared.errors.ReadError.TheVariants.{Unreadable, TooDeep, NoMemory}
 use Rattle.ifmap_reader.specs.Reads.{GivesRoot, IsRead, OnTooDeep, OnUnreadable}
@@ -22,6 +23,12 @@ module _ (bytes : List ℕ) (depth : ℕ) where
   found (Err (Unreadable at)) h = tt
   found (Err (TooDeep at)) h = tt
   found (Err NoMemory) h = tt
+
+  pub fit : (a : Result Reading ReadError) → IsRead bytes depth a → IfOk a (λ r. IsFit r.root)
+  fit (Ok r) h = spelled_fits bytes r h.0
+  fit (Err (Unreadable at)) h = tt
+  fit (Err (TooDeep at)) h = tt
+  fit (Err NoMemory) h = tt
 
   pub unreadable : (a : Result Reading ReadError) → IsRead bytes depth a → OnUnreadable a (λ at. (r : Reading) → Spells bytes r → ⊥)
   unreadable (Ok r) h = tt
@@ -34,6 +41,12 @@ module _ (bytes : List ℕ) (depth : ℕ) where
   stop (Err (Unreadable at)) h = h.stop
   stop (Err (TooDeep at)) h = tt
   stop (Err NoMemory) h = tt
+
+  pub shallow : (a : Result Reading ReadError) → IsRead bytes depth a → OnUnreadable a (λ at. (place : ℕ) → Deep bytes depth place → ⊥)
+  shallow (Ok r) h = tt
+  shallow (Err (Unreadable at)) h = h.shallow
+  shallow (Err (TooDeep at)) h = tt
+  shallow (Err NoMemory) h = tt
 
   pub unreadable_within : (a : Result Reading ReadError) → IsRead bytes depth a → OnUnreadable a (λ at. at ≤ length bytes)
   unreadable_within (Ok r) h = tt

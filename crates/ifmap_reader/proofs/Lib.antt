@@ -1,7 +1,11 @@
 pub mod Answering
 pub mod Attributing
 pub mod Binding
+pub mod CharacterRuns
 pub mod Contents
+pub mod FitElements
+pub mod FitTokens
+pub mod Fronts
 pub mod Goings
 pub mod Items
 pub mod Lasts

@@ -23,10 +23,7 @@ use Rattle.ifmap_reader.specs.Reads.{IsUnreadable, IsTooDeep, IsRead, lex_error,
 use Rattle.ifmap_reader.proofs.Goings.{no_tokens, no_tokens_start, behind_ends}
 use Rattle.ifmap_reader.proofs.Levels.{goes_deep}
 use Rattle.ifmap_reader.proofs.Ways.{some_way}
-
--- each tag so far opened a level up to that depth
-abbrev pub Shallow : ℕ → List Token → Type 0
-Shallow depth ts = (before after : List Token) (t : Token) → ts ≡ before ++ (t ∷ after) → Opens t → open_after before < depth
+use Rattle.ifmap_reader.proofs.Fronts.{Shallow, unreadable}
 
 -- where a reader is: the tokens so far, what they make of any document, and what any spelling goes on with
 pub record At (bytes : List ℕ) (depth : ℕ) (w : Where) (rest : List ℕ) : Type 0 where
@@ -117,19 +114,20 @@ module _ (bytes : List ℕ) (depth : ℕ) (w : Where) (rest : List ℕ) (at : At
     begins_so_far : BeginsDocument at.so_far
     begins_so_far = let s = some_way w in record { more = s.0; reading = s.1.0; document = (at.goes s.0 s.1.0).1 s.1.1 }
 
-    pub step_refused : (place : ℕ) → place ≡ offset bytes rest → place ≤ length bytes → ((ts : List Token) (r : Reading) → GoesOn w (t ∷ ts) r → ⊥) → IsUnreadable bytes place
-    step_refused place is within refused = record {
-      none = λ r s. let x = spelled r s in refused x.0 r x.1;
-      stop = record {
-        tokens = at.so_far;
-        rest = rest;
-        reaches = record { lexed = at.lexed; allowed = begins_so_far };
-        no_further = λ u after h b.
-            refused b.more b.reading ((goes_next b.more b.reading).0 (subst (λ (v : Token). IsDocument ((at.so_far ++ v ∷ []) ++ b.more) b.reading) (only u after h).0 b.document));
-        at_is = is;
-      };
-      within = within;
-    }
+    pub step_refused : (place : ℕ) → place ≡ offset bytes rest → place ≤ length bytes → ((ts : List Token) (r : Reading) → GoesOn w (t ∷ ts) r → ⊥) → IsUnreadable bytes depth place
+    step_refused place is within refused =
+        unreadable bytes depth place
+        (record {
+          tokens = at.so_far;
+          rest = rest;
+          reaches = record { lexed = at.lexed; allowed = begins_so_far };
+          no_further = λ u after h b.
+              refused b.more b.reading ((goes_next b.more b.reading).0 (subst (λ (v : Token). IsDocument ((at.so_far ++ v ∷ []) ++ b.more) b.reading) (only u after h).0 b.document));
+          at_is = is;
+        })
+        at.shallow
+        (λ r s. let x = spelled r s in refused x.0 r x.1)
+        within
 
     open_fits : open_in w ≤ depth
     open_fits = let f = at.fits in fitting w f
@@ -164,12 +162,13 @@ module _ (bytes : List ℕ) (depth : ℕ) (w : Where) (rest : List ℕ) (at : At
   begins : BeginsDocument at.so_far
   begins = let s = some_way w in record { more = s.0; reading = s.1.0; document = (at.goes s.0 s.1.0).1 s.1.1 }
 
-  pub not_lexed : rest ≢ [] → ((t : Token) (after : List ℕ) → TakesToken rest t after → ⊥) → (place : ℕ) → place ≡ offset bytes rest → place ≤ length bytes → IsUnreadable bytes place
-  not_lexed some none place is within = record {
-    none = λ r s. none_ahead TakesToken (without_mark bytes) at.so_far rest [] some none at.ahead s.tokens s.lexed;
-    stop = record { tokens = at.so_far; rest = rest; reaches = record { lexed = at.lexed; allowed = begins }; no_further = λ t after h b. none t after h; at_is = is };
-    within = within;
-  }
+  pub not_lexed : rest ≢ [] → ((t : Token) (after : List ℕ) → TakesToken rest t after → ⊥) → (place : ℕ) → place ≡ offset bytes rest → place ≤ length bytes → IsUnreadable bytes depth place
+  not_lexed some none place is within =
+      unreadable bytes depth place
+      (record { tokens = at.so_far; rest = rest; reaches = record { lexed = at.lexed; allowed = begins }; no_further = λ t after h b. none t after h; at_is = is })
+      at.shallow
+      (λ r s. none_ahead TakesToken (without_mark bytes) at.so_far rest [] some none at.ahead s.tokens s.lexed)
+      within
 
   -- at the end of the input
   module _ (end : rest ≡ []) where
@@ -183,12 +182,13 @@ module _ (bytes : List ℕ) (depth : ℕ) (w : Where) (rest : List ℕ) (at : At
         let x = (at.goes a.0 r).0 (subst (λ (us : List Token). IsDocument us r) a.1 s.document) in
         subst (λ (us : List Token). GoesOn w us r) (no_more a.0 a.2) x
 
-    pub ended_early : ((r : Reading) → GoesOn w [] r → ⊥) → (place : ℕ) → place ≡ offset bytes rest → place ≤ length bytes → IsUnreadable bytes place
-    ended_early none place is within = record {
-      none = λ r s. none r (spelled_so_far r s);
-      stop = record { tokens = at.so_far; rest = rest; reaches = record { lexed = at.lexed; allowed = begins }; no_further = λ t after h b. no_token rest t after end h; at_is = is };
-      within = within;
-    }
+    pub ended_early : ((r : Reading) → GoesOn w [] r → ⊥) → (place : ℕ) → place ≡ offset bytes rest → place ≤ length bytes → IsUnreadable bytes depth place
+    ended_early none place is within =
+        unreadable bytes depth place
+        (record { tokens = at.so_far; rest = rest; reaches = record { lexed = at.lexed; allowed = begins }; no_further = λ t after h b. no_token rest t after end h; at_is = is })
+        at.shallow
+        (λ r s. none r (spelled_so_far r s))
+        within
 
     pub whole : (r : Reading) → GoesOn w [] r → Spells bytes r
     whole r x = record {

@@ -35,10 +35,11 @@ GivesRoot (Err (Unreadable at)) e = ⊥
 GivesRoot (Err (TooDeep at)) e = ⊥
 GivesRoot (Err NoMemory) e = Unit {0}
 
--- no element is spelled, and this is where the bytes stop to be the beginning of a document
-pub record IsUnreadable (bytes : List ℕ) (at : ℕ) : Type 0 where
+-- no element is spelled, this is where the bytes stop to be the beginning of a document, and no tag opens a level too many
+pub record IsUnreadable (bytes : List ℕ) (depth at : ℕ) : Type 0 where
   pub none : (r : Reading) → Spells bytes r → ⊥
   pub stop : Stop bytes at
+  pub shallow : (place : ℕ) → Deep bytes depth place → ⊥
   pub within : at ≤ length bytes
 
 -- what is spelled nests too deep, and this is the first tag that does
@@ -50,7 +51,7 @@ pub record IsTooDeep (bytes : List ℕ) (depth at : ℕ) : Type 0 where
 -- the answer to the bytes
 abbrev pub IsRead : List ℕ → ℕ → Result Reading ReadError → Type 0
 IsRead bytes depth (Ok r) = Spells bytes r × (nesting r.root ≤ depth)
-IsRead bytes depth (Err (Unreadable at)) = IsUnreadable bytes at
+IsRead bytes depth (Err (Unreadable at)) = IsUnreadable bytes depth at
 IsRead bytes depth (Err (TooDeep at)) = IsTooDeep bytes depth at
 IsRead bytes depth (Err NoMemory) = Unit {0}
 

@@ -7,6 +7,7 @@ mod bindings;
 mod differing;
 pub mod errors;
 mod frames;
+pub mod laws;
 mod opening;
 pub mod reading;
 pub mod scoping;

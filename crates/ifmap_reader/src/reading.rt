@@ -22,9 +22,11 @@ const BYTE_ORDER_MARK: &[u8] = b"\xEF\xBB\xBF";
 /// `depth` levels deep. The bytes are read once, front to back.
 pub fn read(alloc: Global, bytes: &[u8], depth: u32) -> Result<Reading, ReadError>
     ensures found { IfOk result (λ r. Spells bytes.now r × (nesting r.root ≤ depth)) }
+    ensures fit { IfOk result (λ r. IsFit r.root) }
     ensures unreadable { OnUnreadable result (λ at. (r : Reading) → Spells bytes.now r → ⊥) }
     ensures too_deep { OnTooDeep result (λ at. (r : Reading) → Spells bytes.now r → depth < nesting r.root) }
     ensures stop { OnUnreadable result (λ at. Stop bytes.now at) }
+    ensures shallow { OnUnreadable result (λ at. (place : ℕ) → Deep bytes.now depth place → ⊥) }
     ensures deep { OnTooDeep result (λ at. Deep bytes.now depth at) }
     ensures unreadable_within { OnUnreadable result (λ at. at ≤ length bytes.now) }
     ensures too_deep_within { OnTooDeep result (λ at. at ≤ length bytes.now) }

@@ -4,6 +4,9 @@ use Rattle.ifmap_reader.proofs.reading.read.Goals as goal
 pub returns-clause-found : goal.returns-clause-found
 returns-clause-found c = answering.found c.args.bytes.now c.args.depth c.tokens_read.result c.tokens_read.ensures
 
+pub returns-clause-fit : goal.returns-clause-fit
+returns-clause-fit c = answering.fit c.args.bytes.now c.args.depth c.tokens_read.result c.tokens_read.ensures
+
 pub returns-clause-unreadable : goal.returns-clause-unreadable
 returns-clause-unreadable c = answering.unreadable c.args.bytes.now c.args.depth c.tokens_read.result c.tokens_read.ensures
 
@@ -12,6 +15,9 @@ returns-clause-too_deep c = answering.too_deep c.args.bytes.now c.args.depth c.t
 
 pub returns-clause-stop : goal.returns-clause-stop
 returns-clause-stop c = answering.stop c.args.bytes.now c.args.depth c.tokens_read.result c.tokens_read.ensures
+
+pub returns-clause-shallow : goal.returns-clause-shallow
+returns-clause-shallow c = answering.shallow c.args.bytes.now c.args.depth c.tokens_read.result c.tokens_read.ensures
 
 pub returns-clause-deep : goal.returns-clause-deep
 returns-clause-deep c = answering.deep c.args.bytes.now c.args.depth c.tokens_read.result c.tokens_read.ensures

@@ -1,0 +1,285 @@
+-- The element that fit tokens mean is fit.
+use Rattle.std.proofs.Common.{◌≡◌, ◌≢◌, ℕ, Bool, true, false, List, [], ◌∷◌, map, refl, ap, sym, ◌∙◌, subst, inl, inr}
+use Rattle.std.specs.Prelude.{◌&&◌, if◌then◌else◌, codes, filter, Option, Some, None, IfSome, is_none}
+use Rattle.std.specs.List.{AllByRecursion, cons_option, filter_map, flat_map, list_all, list_any}
+use Rattle.std.specs.Str.{bytes_eq}
+use Rattle.std.proofs.lemmas.Bool.{and_from, cases_Bool}
+use Rattle.ifmap_elem.specs.Chars.{IsCharacters, IsSpace, is_character, is_space}
+use Rattle.ifmap_elem.specs.Document.{Content, Nothing, Remark, Words, Verbatim, Leaf, Branch, tokens_of, Item, Inner, Run, child_of, heading, is_inner, is_kept, joined, kept, put_before, IsElement, IsRoot, Means}
+use Rattle.ifmap_elem.specs.Fit.{IsNamespace, IsFitAttribute, HasCharacters, IsNotBlank, AreApart, is_element, AreFitChildren, IsFitAlone, IsFit}
+use Rattle.ifmap_elem.specs.Names.{IsNamePart}
+use Rattle.ifmap_elem.specs.Scopes.{Scope, Binding, IsBinding, IsAttribute, AreAttributes, attribute_space, binding_of, bindings, bound, root_scope, scope_within, xml_space, xmlns_space}
+use Rattle.ifmap_elem.specs.Spells.{Spells, without_mark}
+use Rattle.ifmap_elem.specs.declared.elements.Attribute.{Attribute}
+use Rattle.ifmap_elem.specs.declared.elements.Child.{Child, out-Child}
+use Rattle.ifmap_elem.specs.declared.elements.Child.TheOpen.{Child-F}
+use Rattle.ifmap_elem.specs.declared.elements.Element.{Element}
+use Rattle.ifmap_elem.specs.declared.elements.Name.{Name}
+use Rattle.ifmap_elem.specs.declared.readings.Declared.{Declared}
+use Rattle.ifmap_elem.specs.declared.readings.Reading.{Reading}
+use Rattle.ifmap_elem.specs.declared.tokens.Assignment.{Assignment}
+use Rattle.ifmap_elem.specs.declared.tokens.Tag.{Tag}
+use Rattle.ifmap_elem.specs.declared.tokens.Token.TheVariants.{End}
+use Rattle.ifmap_elem.proofs.FitLaws.{all_both, both_all, elements_in, elements_of_child, elements_text, fit_whole, out_element, out_text}
+use Rattle.ifmap_elem.proofs.NamespaceLaws.{eq_tells, eq_itself}
+use Rattle.ifmap_elem.proofs.PrintedParts.{all_of_test, ascii_encoded, is_ascii}
+use Rattle.ifmap_reader.proofs.CharacterRuns.{characters_both, no_characters}
+use Rattle.ifmap_reader.proofs.FitTokens.{IsFitAssignment, IsFitTag, IsFitToken, tokens_fit}
+
+-- scopes
+
+record IsFitBinding (b : Binding) : Type 0 where
+  space : IsNamespace b.space
+  some : b.prefix ≢ [] → b.space ≢ []
+
+abbrev IsFitScope : Scope → Type 0
+IsFitScope scope = AllByRecursion IsFitBinding scope
+
+-- a test that tells two texts apart
+told_apart : (x y : List ℕ) → bytes_eq x y ≡ false → x ≢ y
+told_apart x y h e = let wrong : bytes_eq x y ≡ true = subst (λ (z : List ℕ). bytes_eq x z ≡ true) e (eq_itself x) in cc
+
+no_namespace : IsNamespace []
+no_namespace = record { characters = no_characters; not_reserved = told_apart [] xmlns_space refl }
+
+root_fits : IsFitScope root_scope
+root_fits = (
+  record {
+    space = record { characters = (xml_space, ascii_encoded xml_space (all_of_test is_ascii xml_space refl), all_of_test is_character xml_space refl); not_reserved = told_apart xml_space xmlns_space refl };
+    some = λ e. told_apart xml_space [] refl;
+  },
+  (record { space = no_namespace; some = λ some. absurd (some refl) }, tt),
+)
+
+bound_characters : (a : Assignment) → IsCharacters a.value → IfSome (binding_of a) (λ b. IsCharacters b.space)
+bound_characters a i = elim (cases_Bool (bytes_eq a.name.prefix (codes "xmlns"))) [
+  | inl e ↦ rw e i
+  | inr e ↦ elim (cases_Bool (bytes_eq a.name.prefix [] && bytes_eq a.name.local (codes "xmlns"))) [
+    | inl f ↦ rw (e, f) i
+    | inr f ↦ rw (e, f) tt
+  ]
+]
+
+one_more : (o : Option Binding) (bs : List Binding) → IfSome o (λ b. IsCharacters b.space) → AllByRecursion IsBinding (cons_option o bs) → (AllByRecursion IsBinding bs → IsFitScope bs)
+    → IsFitScope (cons_option o bs)
+one_more None bs i h rest = rest h
+one_more (Some b) bs i h rest = (record { space = record { characters = i; not_reserved = h.0.no_xmlns_space }; some = h.0.some_space }, rest h.1)
+
+bindings_fit : (assignments : List Assignment) → AllByRecursion IsFitAssignment assignments → AllByRecursion IsBinding (filter_map binding_of assignments) → IsFitScope (filter_map binding_of assignments)
+bindings_fit [] f g = tt
+bindings_fit (a ∷ as') f g = one_more (binding_of a) (filter_map binding_of as') (bound_characters a f.0.value) g (bindings_fit as' f.1)
+
+within_fits : (outer : Scope) (tag : Tag) → IsFitScope outer → IsFitTag tag → AllByRecursion IsBinding (bindings tag) → IsFitScope (scope_within outer tag)
+within_fits outer tag f t binds = both_all IsFitBinding (bindings tag) outer (bindings_fit tag.assignments t.assignments binds) f
+
+bound_fits : (scope : Scope) → IsFitScope scope → (prefix space : List ℕ) → bound scope prefix ≡ Some space → IsNamespace space × (prefix ≢ [] → space ≢ [])
+bound_fits [] f prefix space e = cc
+bound_fits (b ∷ bs) f prefix space e = elim (cases_Bool (bytes_eq b.prefix prefix)) [
+  | inl h ↦
+      let found : Some b.space ≡ Some space = rw h at e in
+      let same : b.space ≡ space = cc in
+      (subst IsNamespace same f.0.space, λ some none. f.0.some (λ p. some (sym (eq_tells b.prefix prefix h) ∙ p)) (same ∙ none))
+  | inr h ↦ bound_fits bs f.1 prefix space (rw h at e)
+]
+
+-- attributes
+
+space_fits : (scope : Scope) → IsFitScope scope → (prefix space : List ℕ) → attribute_space scope prefix ≡ Some space → IsNamespace space × (prefix ≢ [] → space ≢ [])
+space_fits scope f [] space e = let none : [] ≡ space = cc in (subst IsNamespace none no_namespace, λ some. absurd (some refl))
+space_fits scope f (b ∷ bs) space e = bound_fits scope f (b ∷ bs) space e
+
+-- `xmlns` without a prefix binds
+abbrev bound_by : List ℕ → List ℕ → List ℕ → Option Binding
+bound_by value prefix local =
+    if bytes_eq prefix (codes "xmlns") then Some (record { prefix = local; space = value })
+    else (if bytes_eq prefix [] && bytes_eq local (codes "xmlns") then Some (record { prefix = []; space = value }) else None)
+
+declares : (a : Assignment) → a.name.prefix ≡ [] → a.name.local ≡ codes "xmlns" → is_none (binding_of a) ≡ false
+declares a p l = λ i. is_none (bound_by a.value (p i) (l i))
+
+attribute_fits : (scope : Scope) (a : Assignment) (t : Attribute) → IsFitScope scope → IsFitAssignment a → is_none (binding_of a) ≡ true → IsAttribute scope a t → IsFitAttribute t
+attribute_fits scope a t f fit plain is =
+    let space = space_fits scope f a.name.prefix t.name.space is.space_is in
+    record {
+      name = record { space = space.0; local = subst IsNamePart (sym is.local_is) fit.name.local_is };
+      no_declaration = λ e. none_prefixed (ap (λ (n : Name). n.space) e) (sym is.local_is ∙ ap (λ (n : Name). n.local) e) space.1;
+      value = subst IsCharacters (sym is.value_is) fit.value;
+    }
+  where
+    none_prefixed : t.name.space ≡ [] → a.name.local ≡ codes "xmlns" → (a.name.prefix ≢ [] → t.name.space ≢ []) → ⊥
+    none_prefixed none local some = some (λ p. let wrong : true ≡ false = sym plain ∙ declares a p local in cc) none
+
+abbrev AreFit : Scope → List Assignment → Type 0
+AreFit scope plain = (ts : List Attribute) → AreAttributes scope plain ts → AllByRecursion IsFitAttribute ts
+
+one_fits : (scope : Scope) (a : Assignment) (plain : List Assignment) → ((t : Attribute) → IsAttribute scope a t → IsFitAttribute t) → AreFit scope plain → AreFit scope (a ∷ plain)
+one_fits scope a plain first others [] h = absurd h
+one_fits scope a plain first others (t ∷ ts) h = (first t h.0, others ts h.1)
+
+attributes_fit : (scope : Scope) → IsFitScope scope → (assignments : List Assignment) → AllByRecursion IsFitAssignment assignments → AreFit scope (filter (λ a. is_none (binding_of a)) assignments)
+attributes_fit scope f [] g [] h = tt
+attributes_fit scope f [] g (t ∷ ts) h = absurd h
+attributes_fit scope f (a ∷ as') g ts h = elim (cases_Bool (is_none (binding_of a))) [
+  | inl e ↦ one_fits scope a (filter (λ b. is_none (binding_of b)) as') (λ t is. attribute_fits scope a t f g.0 e is) (attributes_fit scope f as' g.1) ts (rw e at h)
+  | inr e ↦ attributes_fit scope f as' g.1 ts (rw e at h)
+]
+
+-- children
+
+abbrev IsFitItem : Item → Type 0
+IsFitItem (Inner e declared) = IsFit e
+IsFitItem (Run text) = IsCharacters text
+
+abbrev item_child : Item → Child-F Child Element
+item_child (Inner e declared) = Child-F.Element e
+item_child (Run text) = Child-F.Text text
+
+opened : (items : List Item) → map out-Child (map child_of items) ≡ map item_child items
+opened [] = refl
+opened (Inner e d ∷ items) = λ i. out_element e i ∷ opened items i
+opened (Run t ∷ items) = λ i. out_text t i ∷ opened items i
+
+-- texts beside each other are joined
+
+put_fits : (text : List ℕ) (items : List Item) → IsCharacters text → AllByRecursion IsFitItem items → AllByRecursion IsFitItem (put_before text items)
+put_fits text [] i f = (i, tt)
+put_fits text (Inner e d ∷ items) i f = (i, f)
+put_fits text (Run more ∷ items) i f = (characters_both text more i f.0, f.1)
+
+joined_fits : (items : List Item) → AllByRecursion IsFitItem items → AllByRecursion IsFitItem (joined items)
+joined_fits [] f = tt
+joined_fits (Inner e d ∷ items) f = (f.0, joined_fits items f.1)
+joined_fits (Run t ∷ items) f = put_fits t (joined items) f.0 (joined_fits items f.1)
+
+put_apart : (text : List ℕ) (items : List Item) → AreApart (map item_child items) → AreApart (map item_child (put_before text items))
+put_apart text [] a = tt
+put_apart text (Inner e d ∷ items) a = a
+put_apart text (Run more ∷ []) a = tt
+put_apart text (Run more ∷ (Inner e d ∷ items)) a = a
+put_apart text (Run more ∷ (Run another ∷ items)) a = absurd a
+
+joined_apart : (items : List Item) → AreApart (map item_child (joined items))
+joined_apart [] = tt
+joined_apart (Inner e d ∷ items) = joined_apart items
+joined_apart (Run t ∷ items) = put_apart t (joined items) (joined_apart items)
+
+put_inner : (text : List ℕ) (items : List Item) → list_any is_inner (put_before text items) ≡ list_any is_inner items
+put_inner text [] = refl
+put_inner text (Inner e d ∷ items) = refl
+put_inner text (Run more ∷ items) = refl
+
+joined_inner : (items : List Item) → list_any is_inner (joined items) ≡ list_any is_inner items
+joined_inner [] = refl
+joined_inner (Inner e d ∷ items) = refl
+joined_inner (Run t ∷ items) = put_inner t (joined items) ∙ joined_inner items
+
+-- of these some are kept
+
+module _ (beside : Bool) where
+  abbrev left : List Item → List Item
+  left items = filter (is_kept beside) items
+
+  left_fits : (items : List Item) → AllByRecursion IsFitItem items → AllByRecursion IsFitItem (left items)
+  left_fits [] f = tt
+  left_fits (item ∷ items) f = elim (cases_Bool (is_kept beside item)) [
+    | inl e ↦ rw e (f.0, left_fits items f.1)
+    | inr e ↦ rw e (left_fits items f.1)
+  ]
+
+  left_apart : (items : List Item) → AreApart (map item_child items) → AreApart (map item_child (left items))
+  left_apart [] a = tt
+  left_apart (Inner e d ∷ items) a = left_apart items a
+  left_apart (Run t ∷ []) a = elim (cases_Bool (is_kept beside (Run t))) [ inl k ↦ rw k tt | inr k ↦ rw k tt ]
+  left_apart (Run t ∷ (Inner e d ∷ items)) a = elim (cases_Bool (is_kept beside (Run t))) [ inl k ↦ rw k (left_apart items a) | inr k ↦ rw k (left_apart items a) ]
+  left_apart (Run t ∷ (Run u ∷ items)) a = absurd a
+
+  left_inner : (items : List Item) → list_any is_element (map item_child (left items)) ≡ list_any is_inner items
+  left_inner [] = refl
+  left_inner (Inner e d ∷ items) = refl
+  left_inner (Run t ∷ items) = elim (cases_Bool (is_kept beside (Run t))) [ inl k ↦ rw k (left_inner items) | inr k ↦ rw k (left_inner items) ]
+
+some_kept : (beside : Bool) (text : List ℕ) → is_kept beside (Run text) ≡ true → text ≢ []
+some_kept true [] k e = cc
+some_kept false [] k e = cc
+some_kept beside (b ∷ bs) k e = cc
+
+of_each : (bs : List ℕ) → IsSpace bs → list_all is_space bs ≡ true
+of_each [] f = refl
+of_each (b ∷ bs) f = and_from (is_space b) (list_all is_space bs) f.0 (of_each bs f.1)
+
+left_texts : (beside : Bool) (items : List Item) → AllByRecursion IsFitItem items → AllByRecursion HasCharacters (map item_child (filter (is_kept beside) items))
+left_texts beside [] f = tt
+left_texts beside (Inner e d ∷ items) f = (tt, left_texts beside items f.1)
+left_texts beside (Run t ∷ items) f = elim (cases_Bool (is_kept beside (Run t))) [
+  | inl k ↦ rw k ((some_kept beside t k, f.0), left_texts beside items f.1)
+  | inr k ↦ rw k (left_texts beside items f.1)
+]
+
+left_not_blank : (items : List Item) → AllByRecursion IsNotBlank (map item_child (filter (is_kept true) items))
+left_not_blank [] = tt
+left_not_blank (Inner e d ∷ items) = (tt, left_not_blank items)
+left_not_blank (Run t ∷ items) = elim (cases_Bool (list_all is_space t)) [
+  | inl k ↦ rw k (left_not_blank items)
+  | inr k ↦ rw k ((λ blank. let wrong : true ≡ false = sym (of_each t blank) ∙ k in cc), left_not_blank items)
+]
+
+children_fit : (items : List Item) → AllByRecursion IsFitItem items → AreFitChildren (map item_child (kept items))
+children_fit items f = record {
+  texts = left_texts (list_any is_inner items) (joined items) (joined_fits items f);
+  apart = left_apart (list_any is_inner items) (joined items) (joined_apart items);
+  beside = λ any.
+      let inner : list_any is_inner items ≡ true = sym (left_inner (list_any is_inner items) (joined items) ∙ joined_inner items) ∙ any in
+      subst (λ (b : Bool). AllByRecursion IsNotBlank (map item_child (filter (is_kept b) (joined items)))) (sym inner) (left_not_blank (joined items));
+}
+
+inner_fit : (items : List Item) → AllByRecursion IsFitItem items → AllByRecursion IsFitAlone (flat_map elements_of_child (map child_of items))
+inner_fit [] f = tt
+inner_fit (Inner e d ∷ items) f = both_all IsFitAlone _ _ (subst (AllByRecursion IsFitAlone) (sym (elements_in e)) f.0) (inner_fit items f.1)
+inner_fit (Run t ∷ items) f = both_all IsFitAlone _ _ (subst (AllByRecursion IsFitAlone) (sym (elements_text t)) tt) (inner_fit items f.1)
+
+-- elements
+
+element_fits : (outer : Scope) (tag : Tag) (items : List Item) (e : Element) (declared : List Declared) → IsFitScope outer → IsFitTag tag → AllByRecursion IsFitItem items
+    → IsElement outer tag items e declared → IsFit e
+element_fits outer tag items e declared f t i is =
+    let within = within_fits outer tag f t is.named.binds in
+    let children : AreFitChildren (map out-Child (map child_of (kept items))) = subst AreFitChildren (sym (opened (kept items))) (children_fit items i) in
+    let inner = inner_fit (kept items) (left_fits (list_any is_inner items) (joined items) (joined_fits items i)) in
+    fit_whole e
+    (record {
+      name = record { space = (bound_fits (scope_within outer tag) within tag.name.prefix e.name.space is.named.space_is).0; local = subst IsNamePart (sym is.named.local_is) t.name.local_is };
+      attributes = attributes_fit (scope_within outer tag) within tag.assignments t.assignments e.attributes is.named.attributes_are;
+      names_differ = is.named.names_differ;
+      children = subst (λ (cs : List Child). AreFitChildren (map out-Child cs)) (sym is.children_are) children;
+    })
+    (subst (λ (cs : List Child). AllByRecursion IsFitAlone (flat_map elements_of_child cs)) (sym is.children_are) inner)
+
+means_fit : (scope : Scope) (c : Content) (items : List Item) → IsFitScope scope → AllByRecursion IsFitToken (tokens_of c) → Means scope c items → AllByRecursion IsFitItem items
+means_fit scope Nothing items f t m = subst (AllByRecursion IsFitItem) (sym m) tt
+means_fit scope (Remark after) items f t m = means_fit scope after items f t.1 m
+means_fit scope (Words blank text after) items f t m = subst (AllByRecursion IsFitItem) (sym m.1) (t.0, means_fit scope after m.0 f t.1 m.2)
+means_fit scope (Verbatim text after) items f t m = subst (AllByRecursion IsFitItem) (sym m.1) (t.0, means_fit scope after m.0 f t.1 m.2)
+means_fit scope (Leaf tag after) items f t m =
+    subst (AllByRecursion IsFitItem) (sym m.3) (element_fits scope tag [] m.0 m.1 f t.0 tt m.4, means_fit scope after m.2 f t.1 m.5)
+means_fit scope (Branch tag inside after) items f t m =
+    let parts = all_both IsFitToken (tokens_of inside) (End tag.name ∷ tokens_of after) t.1 in
+    let inner = means_fit (scope_within scope tag) inside m.0 (within_fits scope tag f t.0 m.6.named.binds) parts.0 m.5 in
+    subst (AllByRecursion IsFitItem) (sym m.4) (element_fits scope tag m.0 m.1 m.2 f t.0 inner m.6, means_fit scope after m.3 f parts.1.1 m.7)
+
+rooted_fits : (c : Content) (r : Reading) → AllByRecursion IsFitToken (tokens_of c) → IsRoot c r → IsFit r.root
+rooted_fits Nothing r t m = absurd m
+rooted_fits (Remark after) r t m = rooted_fits after r t.1 m
+rooted_fits (Words blank text after) r t m = rooted_fits after r t.1 m.1
+rooted_fits (Verbatim text after) r t m = absurd m
+rooted_fits (Leaf tag after) r t m = element_fits root_scope tag [] r.root r.declared root_fits t.0 tt m.0
+rooted_fits (Branch tag inside after) r t m =
+    let parts = all_both IsFitToken (tokens_of inside) (End tag.name ∷ tokens_of after) t.1 in
+    let inner = means_fit (scope_within root_scope tag) inside m.0 (within_fits root_scope tag root_fits t.0 m.2.named.binds) parts.0 m.1 in
+    element_fits root_scope tag m.0 r.root r.declared root_fits t.0 inner m.2
+
+-- what bytes spell is fit
+pub spelled_fits : (bytes : List ℕ) (r : Reading) → Spells bytes r → IsFit r.root
+spelled_fits bytes r s =
+    let tokens = tokens_fit (without_mark bytes) s.tokens [] s.lexed in
+    let here = subst (AllByRecursion IsFitToken) s.document.tokens_are tokens in
+    rooted_fits s.document.content r (all_both IsFitToken (heading s.document.declared) (tokens_of s.document.content) here).1 s.document.rooted

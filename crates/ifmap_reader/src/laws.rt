@@ -1,0 +1,22 @@
+//! Laws on what bytes spell and on the places at which they are refused: functions that do nothing,
+//! whose contracts are the laws.
+ghost use Rattle.std.specs.Prelude.{◌≡◌, ℕ, List};
+ghost use Rattle.ifmap_elem.specs.declared.readings.Reading.{Reading};
+ghost use Rattle.ifmap_elem.specs.Fit.{IsFit};
+ghost use Rattle.ifmap_elem.specs.Places.{Deep, Stop};
+ghost use Rattle.ifmap_elem.specs.Spells.{Spells};
+
+/// A list of bytes stops at one place to be the beginning of a document.
+pub fn bytes_stop_at_one_place()
+    ensures { (bytes : List ℕ) (one other : ℕ) → Stop bytes one → Stop bytes other → one ≡ other }
+{}
+
+/// A list of bytes has at most one first tag that opens a level too many.
+pub fn bytes_nest_too_deep_at_one_place()
+    ensures { (bytes : List ℕ) (depth one other : ℕ) → Deep bytes depth one → Deep bytes depth other → one ≡ other }
+{}
+
+/// What bytes spell is an element that a document can have.
+pub fn what_bytes_spell_fits()
+    ensures { (bytes : List ℕ) (reading : Reading) → Spells bytes reading → IsFit reading.root }
+{}
