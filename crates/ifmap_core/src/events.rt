@@ -6,27 +6,30 @@ use ifmap_msg::{Reply, Request};
 /// What is asked of the machine.
 #[derive(Debug, Drop)]
 pub enum Ask {
+    /// A request of the event's client.
     Request(Request),
 }
 
 /// One event: a request with all that its answer depends on beside the state.
 #[derive(Debug, Drop)]
 pub struct Event {
-    /// When the request came.
+    /// When the request came. Where the state's moment is later, that one stands.
     pub moment: Moment,
     /// Who asks.
     pub client: ClientName,
     /// A word of 128 random bits, for a session id.
     pub random: u128,
-    /// Whether a poll that was held is asked again.
+    /// Whether a poll that was held is asked again. No answer depends on it yet.
     pub again: bool,
-    /// The length of the body that the request came in, in bytes.
+    /// The length of the body that the request came in, in bytes. No answer depends on it yet.
     pub bytes: u32,
+    /// What is asked.
     pub ask: Ask,
 }
 
 /// The answer to an event.
 #[derive(Debug, Drop)]
 pub enum Answer {
+    /// What is sent to the client, also where it is a refusal.
     Reply(Reply),
 }

@@ -26,7 +26,8 @@ use std::sync::ledger::Ledger;
 /// How many sessions may live at a time.
 pub const MOST_SESSIONS: usize = 10_000;
 
-/// The machine. Contracts see its state.
+/// The machine. Contracts see its state: the moment, `ttl`, the counter of serials, the graph and the
+/// live sessions.
 #[derive(Drop)]
 pub struct Core {
     ttl: u32,
@@ -48,7 +49,8 @@ impl Model for Core {
 }
 
 impl Core {
-    /// A machine in its opening state. `ttl` is in seconds.
+    /// A machine in its opening state: moment 0, an empty graph and no session. `ttl` is after how
+    /// many seconds without a request a session is to expire. It takes no memory.
     pub fn new(alloc: Global, ttl: u32) -> Core
         requires { 1 ≤ ttl }
         ensures { result ≡ opening ttl }
@@ -62,8 +64,9 @@ impl Core {
     }
 
     /// Answers an event. The answer and the state after it are those of `step`; the one error is
-    /// want of memory, which leaves the state as it was. A refusal takes the event's moment in and
-    /// changes nothing else. No link is looked at. No session expires yet, so `ttl` changes nothing.
+    /// want of memory, also told of a search whose result would have 2^64 bytes or more; it leaves the
+    /// state as it was. A refusal takes the event's moment in and changes nothing else. No link is
+    /// looked at. No session expires yet, so `ttl` changes nothing.
     pub fn step<L: Ledger>(
         &mut self,
         alloc: Global,

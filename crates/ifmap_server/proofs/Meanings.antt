@@ -1,10 +1,10 @@
 -- What a body means: of each form, a body is spelled by one request at most, and is read as that.
-use Rattle.std.proofs.Common.{◌≡◌, ◌≢◌, ◌⊎◌, ℕ, ◌+◌, ◌*◌, ◌/◌, ◌%◌, ◌^◌, ◌<◌, List, [], ◌∷◌, ◌++◌, length, get_or, take, drop, Bool, true, false, ◌&&◌, if◌then◌else◌, Option, Some, None, inl, inr, arith, refl, sym, ap, subst, ◌∙◌}
+use Rattle.std.proofs.Common.{◌≡◌, ◌≢◌, ℕ, ◌+◌, ◌*◌, ◌/◌, ◌%◌, ◌^◌, ◌<◌, List, [], ◌∷◌, ◌++◌, length, get_or, take, drop, Bool, true, false, if◌then◌else◌, Option, Some, None, inl, inr, arith, refl, sym, ap, subst, ◌∙◌}
 use Rattle.std.proofs.lemmas.Bool.{cases_Bool, and_parts}
 use Rattle.std.proofs.lemmas.Bool.Decides.{nat_tests}
-use Rattle.std.proofs.lemmas.List.{append_assoc, take-append-drop, take_at, drop_at}
+use Rattle.std.proofs.lemmas.List.{take-append-drop, take_at, drop_at}
 use Rattle.std.proofs.lemmas.Slice.Eq.{bytes_eq-Decides}
-use Rattle.std.specs.List.{AllByRecursion, list_all}
+use Rattle.std.specs.List.{list_all}
 use Rattle.std.specs.Char.{digit_char}
 use Rattle.std.specs.Prelude.{◌==◌, codes, option_and_then, option_map}
 use Rattle.std.specs.Str.{bytes_eq}
@@ -16,7 +16,7 @@ use Rattle.ifmap_msg.specs.declared.requests.Request.TheVariants as request
 use Rattle.ifmap_server.specs.Bodies.{Means, before_id, behind_id, end_parts, end_session_body, ending, ending_by, first_of, meaning, new_session_body}
 use Rattle.ifmap_server.specs.Ids.{is_id, is_id_byte}
 use Rattle.ifmap_server.specs.Parts.{Fixed, behind, cut, part_before, parts_from, parts_in}
-use Rattle.ifmap_server.specs.Publications.{Publication, IsPublication, Inquiry, IsInquiry, IsAddress, address_at, address_in, cardinality_in, cardinality_text, digit_number, is_local, is_local_byte, is_value, is_value_byte, operations_of, pair_at, publish_body, publish_fixed, publish_of, publish_parts, publish_start, publishing, publishing_by, search_body, search_fixed, search_of, search_parts, search_start, searching, searching_by}
+use Rattle.ifmap_server.specs.Publications.{Publication, IsPublication, Inquiry, IsInquiry, IsAddress, address_at, address_in, cardinality_in, cardinality_text, digit_number, is_local, is_local_byte, is_value, is_value_byte, pair_at, publish_body, publish_fixed, publish_of, publish_parts, publish_start, publishing, publishing_by, search_body, search_fixed, search_of, search_parts, search_start, searching, searching_by}
 use Rattle.ifmap_server.proofs.PartLaws.{cut_found}
 use Rattle.ifmap_server.proofs.RequestLaws.{address_found, are_fit, end_some, fit_parts, publish_some, search_some}
 use Rattle.ifmap_server.proofs.Splits.{Without, without_from}

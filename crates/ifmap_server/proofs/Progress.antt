@@ -82,10 +82,10 @@ module _ (left_old left left_new held_old held held_new : Option (List ℕ)) (no
 -- ---- what the source had left in all
 
 -- at its end it had what was taken
-all_taken : (left_old left : Option (List ℕ)) (taken : List ℕ) (P : List ℕ → Type 0) → Consumes left_old left taken → IsAtEnd left → P taken → IfSome left_old P
-all_taken None left taken P consumed end h = tt
-all_taken (Some bytes) None taken P consumed end h = absurd consumed
-all_taken (Some bytes) (Some rest) taken P consumed end h = subst P (sym (consumed ∙ ap (λ (x : List ℕ). taken ++ x) end ∙ append-nil taken)) h
+all_taken : (left_old left : Option (List ℕ)) (taken : List ℕ) → Consumes left_old left taken → IsAtEnd left → IfSome left_old (λ bytes. taken ≡ bytes)
+all_taken None left taken consumed end = tt
+all_taken (Some bytes) None taken consumed end = absurd consumed
+all_taken (Some bytes) (Some rest) taken consumed end = sym (consumed ∙ ap (λ (x : List ℕ). taken ++ x) end ∙ append-nil taken)
 
 -- before its end it had what was taken and what is left
 taken_and_rest : (left_old left : Option (List ℕ)) (taken : List ℕ) (P : List ℕ → Type 0) → Consumes left_old left taken → IfSome left (λ rest. P (taken ++ rest)) → IfSome left_old P
@@ -138,11 +138,14 @@ module _ (left_old left left_new held_old held held_new : Option (List ℕ)) (no
   pub over : IsOver left left_new held held_new now → AnswersAll left_old left_new held_old held_new
   over o =
       let got = o.takes.got in
-      let script : IsScript (p.taken ++ got) (p.done ++ []) None = p.framed got [] None (sym o.takes.grown) in (
+      let taken = p.taken ++ got in
+      let consumed = took_more got o.takes.consumed in
+      let script : IsScript taken (p.done ++ []) None = p.framed got [] None (sym o.takes.grown) in (
+        taken,
+        consumed,
+        all_taken left_old left_new taken consumed o.end,
         o.end,
-        all_taken left_old left_new (p.taken ++ got) (λ bytes. (frames : List Frame) × IsScript bytes frames None × Appends held_old held_new (answers frames))
-            (took_more got o.takes.consumed) o.end
-            (p.done ++ [], script, subst (Appends held_old held_new) (sym same_done) (wrote_kept o.kept)),
+        (p.done ++ [], script, subst (Appends held_old held_new) (sym same_done) (wrote_kept o.kept)),
       )
 
   pub unread : IsUnread left left_new held held_new now → AnswersTaken left_old left_new held_old held_new

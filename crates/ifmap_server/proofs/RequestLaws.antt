@@ -1,11 +1,11 @@
 -- From the parts of a body to its request.
-use Rattle.std.proofs.Common.{◌≡◌, ℕ, ◌<◌, List, [], ◌∷◌, Bool, true, false, ◌&&◌, if◌then◌else◌, Option, Some, None, refl, sym, ap, ◌∙◌}
+use Rattle.std.proofs.Common.{◌≡◌, ℕ, ◌<◌, List, [], ◌∷◌, Bool, true, false, ◌&&◌, if◌then◌else◌, Option, Some, None, sym, ap, ◌∙◌}
 use Rattle.std.proofs.lemmas.Bool.{and_parts}
 use Rattle.std.proofs.lemmas.Bool.Decides.{nat_tests}
 use Rattle.std.proofs.lemmas.Str.Ascii.{IsAscii-nil, IsAscii-cons}
 use Rattle.std.proofs.Common.{arith}
 use Rattle.std.specs.List.{list_all}
-use Rattle.std.specs.Prelude.{get_or, length, nat_le, option_and_then}
+use Rattle.std.specs.Prelude.{length, nat_le, option_and_then}
 use Rattle.std.specs.Str.{IsAscii, bytes_eq}
 use Rattle.ifmap_ident.specs.MacAddresses.{address_text}
 use Rattle.ifmap_meta.specs.declared.metadata.Cardinality.{Cardinality}

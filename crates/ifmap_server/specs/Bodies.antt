@@ -5,7 +5,7 @@ use Rattle.std.specs.Str.{bytes_eq}
 use Rattle.ifmap_msg.specs.declared.requests.Request.{Request}
 use Rattle.ifmap_msg.specs.declared.requests.Request.TheVariants.{NewSession, EndSession, Publish, Search}
 use Rattle.ifmap_server.specs.Ids.{is_id}
-use Rattle.ifmap_server.specs.Parts.{Fixed, parts_in}
+use Rattle.ifmap_server.specs.Parts.{parts_in}
 use Rattle.ifmap_server.specs.Publications.{Publication, IsPublication, operations_of, publish_body, publishing, Inquiry, IsInquiry, search_body, search_of, searching}
 
 abbrev pub new_session_body : List ℕ

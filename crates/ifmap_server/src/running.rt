@@ -18,9 +18,14 @@ use std::sync::ledger::{Blank, Ledger};
 
 const USAGE_LINE: &str = "usage: mapd replay | drill KEY COUNT | serve ADDRESS WORKERS\n";
 
-/// All that the program does with its words. The status is 0 where the script was read to its end,
-/// 2 for words of no form, 3 at the first frame that is at fault, 4 where a read failed, 5 where a
-/// write failed, and 6 for want of memory.
+/// All that the program does with its words, its own name left out: it answers the frames of the
+/// source for the word `replay`, and else writes the usage line.
+///
+/// The status is 0 where the script was read to its end, 2 for words of no form, 3 at the first frame
+/// that is at fault, whose offset in bytes is then written, 4 where a read failed, 5 where a write
+/// failed, and 6 for want of memory. A frame is at fault where it is not of the form, its body is
+/// longer than 10,000,000 bytes, the source ends within it, or it would end past 2^32 bytes. At 4 all
+/// whole frames that were taken are answered; at 5 and 6 a prefix of the output was written.
 pub fn run<S: Source, K: Sink>(alloc: Global, words: &[String], source: &mut S, sink: &mut K) -> u8
     ensures status { (result ≡ USAGE) ⊎ IsReplayStatus result }
 
@@ -63,7 +68,7 @@ fn refuse_words<K: Sink>(sink: &mut K) -> u8
 }
 
 /// Answers the frames of the source in the sink, each before the next is read, by a machine that
-/// begins with no session. The status is that of [`run`], which is never 2 here.
+/// begins with no session. The status and its limits are those of [`run`]; it is never 2.
 pub fn replay<S: Source, K: Sink>(alloc: Global, source: &mut S, sink: &mut K) -> u8
     ensures status { IsReplayStatus result }
     ensures done { result ≡ DONE → AnswersAll (S.left source.old) (S.left source.new) (K.held sink.old) (K.held sink.new) }

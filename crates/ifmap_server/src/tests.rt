@@ -1,4 +1,6 @@
+use crate::bodies::request_of;
 use crate::*;
+use ifmap_elem::{Attribute, Child, Element, Many, Name, Text, canonical};
 use ifmap_io::{MemorySink, MemorySource};
 use std::alloc::Global;
 use std::process::Abort;
@@ -18,6 +20,23 @@ const FOUND: &str =
 
 const PUBLISH: &str =
     "<n1:Envelope xmlns:n1=\"http://www.w3.org/2003/05/soap-envelope\" xmlns:n2=\"http://www.trustedcomputinggroup.org/2010/IFMAP/2\" xmlns:n3=\"http://www.trustedcomputinggroup.org/2010/IFMAP-METADATA/2\"><n1:Body><n2:publish session-id=\"1-00000000-0000-0000-0000-000000000001\"><update><mac-address value=\"00:00:5e:00:53:01\"/><metadata><n3:role ifmap-cardinality=\"multiValue\"><name>r</name></n3:role></metadata></update></n2:publish></n1:Body></n1:Envelope>";
+
+const NEW_SESSION: &str =
+    "<n1:Envelope xmlns:n1=\"http://www.w3.org/2003/05/soap-envelope\" xmlns:n2=\"http://www.trustedcomputinggroup.org/2010/IFMAP/2\"><n1:Body><n2:newSession/></n1:Body></n1:Envelope>";
+
+const END_SESSION: &str =
+    "<n1:Envelope xmlns:n1=\"http://www.w3.org/2003/05/soap-envelope\" xmlns:n2=\"http://www.trustedcomputinggroup.org/2010/IFMAP/2\"><n1:Body><n2:endSession session-id=\"1-00000000-0000-0000-0000-000000000001\"/></n1:Body></n1:Envelope>";
+
+const SEARCH: &str =
+    "<n1:Envelope xmlns:n1=\"http://www.w3.org/2003/05/soap-envelope\" xmlns:n2=\"http://www.trustedcomputinggroup.org/2010/IFMAP/2\"><n1:Body><n2:search session-id=\"1-00000000-0000-0000-0000-000000000001\"><mac-address value=\"00:00:5e:00:53:01\"/></n2:search></n1:Body></n1:Envelope>";
+
+const SOAP: &str = "http://www.w3.org/2003/05/soap-envelope";
+
+const IFMAP: &str = "http://www.trustedcomputinggroup.org/2010/IFMAP/2";
+
+const METADATA: &str = "http://www.trustedcomputinggroup.org/2010/IFMAP-METADATA/2";
+
+const ID: &str = "1-00000000-0000-0000-0000-000000000001";
 
 // A replay over memory, with the reads and the writes that are to fail: its status, and what is held.
 fn replayed(
@@ -86,6 +105,105 @@ fn bodies_beside_the_forms_mean_nothing(rt: HostRuntime) -> Result<(), Fail> {
         expect_unreadable(&rt, text, other)?;
     }
     Ok(())
+}
+
+fn text(alloc: Global, text: &str) -> Result<Text, Fail> {
+    Ok(Text(String::from_str(alloc, text)?))
+}
+
+fn name(alloc: Global, space: &str, local: &str) -> Result<Name, Fail> {
+    Ok(Name {
+        space: text(alloc, space)?,
+        local: text(alloc, local)?,
+    })
+}
+
+// The one attribute of an element, in no namespace.
+fn attribute(alloc: Global, local: &str, value: &str) -> Result<Vec<Attribute>, Fail> {
+    let name = name(alloc, "", local)?;
+    let value = text(alloc, value)?;
+    Ok(Vec::from_array(alloc, [Attribute { name, value }])?)
+}
+
+// The one child of an element.
+fn child(alloc: Global, child: Element) -> Result<Vec<Child>, Fail> {
+    Ok(Vec::from_array(alloc, [Child::Element(child)])?)
+}
+
+fn element(
+    alloc: Global,
+    space: &str,
+    local: &str,
+    attributes: Vec<Attribute>,
+    children: Vec<Child>,
+) -> Result<Element, Fail> {
+    Ok(Element {
+        name: name(alloc, space, local)?,
+        attributes: Many(attributes),
+        children: Many(children),
+    })
+}
+
+fn address(alloc: Global) -> Result<Element, Fail> {
+    let value = attribute(alloc, "value", "00:00:5e:00:53:01")?;
+    element(alloc, "", "mac-address", value, Vec::new(alloc))
+}
+
+fn role(alloc: Global) -> Result<Element, Fail> {
+    let text = Vec::from_array(alloc, [Child::Text(text(alloc, "r")?)])?;
+    let name = element(alloc, "", "name", Vec::new(alloc), text)?;
+    let cardinality = attribute(alloc, "ifmap-cardinality", "multiValue")?;
+    element(alloc, METADATA, "role", cardinality, child(alloc, name)?)
+}
+
+fn update(alloc: Global) -> Result<Element, Fail> {
+    let role = child(alloc, role(alloc)?)?;
+    let metadata = element(alloc, "", "metadata", Vec::new(alloc), role)?;
+    let address = address(alloc)?;
+    let children = Vec::from_array(alloc, [Child::Element(address), Child::Element(metadata)])?;
+    element(alloc, "", "update", Vec::new(alloc), children)
+}
+
+// A request in the session, with what it holds.
+fn in_session(alloc: Global, local: &str, children: Vec<Child>) -> Result<Element, Fail> {
+    let session = attribute(alloc, "session-id", ID)?;
+    element(alloc, IFMAP, local, session, children)
+}
+
+fn envelope(alloc: Global, request: Element) -> Result<Element, Fail> {
+    let request = child(alloc, request)?;
+    let body = element(alloc, SOAP, "Body", Vec::new(alloc), request)?;
+    element(
+        alloc,
+        SOAP,
+        "Envelope",
+        Vec::new(alloc),
+        child(alloc, body)?,
+    )
+}
+
+// The body is the canonical bytes of the request's envelope, and means a request.
+fn expect_body(rt: &(impl Abort + AllocGlobal), request: Element, body: &str) -> Result<(), Fail> {
+    let alloc = rt.alloc();
+    let envelope = envelope(alloc, request)?;
+    let bytes = canonical(alloc, &envelope)?;
+    assert_eq!(rt; bytes.0.as_slice(), body.as_bytes());
+    let request = request_of(alloc, bytes.0.as_slice())?;
+    assert!(rt; request.is_some(), "{body}");
+    Ok(())
+}
+
+#[test]
+fn bodies_are_the_canonical_bytes_of_their_envelopes(rt: HostRuntime) -> Result<(), Fail> {
+    let alloc = rt.alloc();
+    let new_session = element(alloc, IFMAP, "newSession", Vec::new(alloc), Vec::new(alloc))?;
+    expect_body(&rt, new_session, NEW_SESSION)?;
+    let end_session = in_session(alloc, "endSession", Vec::new(alloc))?;
+    expect_body(&rt, end_session, END_SESSION)?;
+    let publish = in_session(alloc, "publish", child(alloc, update(alloc)?)?)?;
+    expect_body(&rt, publish, PUBLISH)?;
+    let search = in_session(alloc, "search", child(alloc, address(alloc)?)?)?;
+    expect_body(&rt, search, SEARCH)
 }
 
 #[test]

@@ -11,7 +11,7 @@ pub enum Form {
     Wrong,
 }
 
-/// The form of the words.
+/// The form of the words, the program's name left out. It takes no memory.
 pub fn form_of(words: &[String]) -> Form
     ensures replay { (result ≡ Form.Replay) ↔ IsReplay (map string_bytes words.now) }
 {

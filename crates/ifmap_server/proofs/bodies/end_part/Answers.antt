@@ -1,5 +1,5 @@
 -- Part by part, up to the first that is not there.
-use Rattle.std.proofs.Common.{[], ◌∷◌, None, Some, drop, get_or, sym, ◌∙◌}
+use Rattle.std.proofs.Common.{[], ◌∷◌, drop, sym, ◌∙◌}
 use Rattle.ifmap_server.specs.Bodies.{before_id, behind_id}
 use Rattle.ifmap_server.proofs.PartLaws.{no_more, no_part, no_start, one_part, some_more, started}
 use Rattle.ifmap_server.proofs.bodies.end_part.Goals as goal

@@ -1,4 +1,3 @@
-use Rattle.std.proofs.Common.{◌∙◌}
 use Rattle.ifmap_server.proofs.PartLaws.{cut_nowhere, cut_there}
 use Rattle.ifmap_server.proofs.parts.cut.Goals as goal
 

@@ -1,5 +1,5 @@
 -- Part by part, up to the first that is not there.
-use Rattle.std.proofs.Common.{[], ◌∷◌, None, Some, drop, get_or, sym, ◌∙◌}
+use Rattle.std.proofs.Common.{drop, sym, ◌∙◌}
 use Rattle.std.specs.Prelude.{codes}
 use Rattle.ifmap_server.specs.Publications.{publish_fixed, publish_start}
 use Rattle.ifmap_server.proofs.PartLaws.{no_more, no_part, no_start, one_part, some_more, started}

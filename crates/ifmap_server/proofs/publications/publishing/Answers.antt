@@ -1,7 +1,7 @@
 use Rattle.std.proofs.Common.{sym, ap, ◌∙◌}
 use Rattle.std.specs.Prelude.{option_and_then}
 use Rattle.ifmap_server.specs.Publications.{publishing_by}
-use Rattle.ifmap_server.proofs.RequestLaws.{fit_parts, id_is_ascii, local_is_ascii, publish_no_address, publish_no_cardinality, publish_some, publish_unfit, value_is_ascii}
+use Rattle.ifmap_server.proofs.RequestLaws.{fit_parts, id_is_ascii, local_is_ascii, publish_no_address, publish_no_cardinality, publish_unfit, value_is_ascii}
 use Rattle.ifmap_server.proofs.publications.publishing.Goals as goal
 
 pub returns-in_default : goal.returns-in_default
