@@ -1,19 +1,8 @@
 #!/bin/sh
 # Times the graph: attachments on different addresses, put in in no order.
 # Run from anywhere: sh bench/graph.sh. It needs `rt`, and builds in a new folder under TMPDIR.
-set -e
-top=$(cd "$(dirname "$0")/.." && pwd)
-work=$(mktemp -d "${TMPDIR:-/tmp}/graph-bench.XXXXXX")
-trap 'rm -rf "$work"' EXIT
-mkdir -p "$work/crates/graph_bench/src"
-cp "$top/crates.txt" "$work/crates.txt"
-echo 'graph_bench: ifmap_elem ifmap_graph ifmap_ident ifmap_meta' >> "$work/crates.txt"
-for crate in "$top"/crates/*; do
-    mkdir -p "$work/crates/$(basename "$crate")"
-    for part in src specs proofs; do
-        if [ -d "$crate/$part" ]; then cp -r "$crate/$part" "$work/crates/$(basename "$crate")/"; fi
-    done
-done
+. "$(dirname "$0")/common.sh"
+prepare graph_bench 'ifmap_elem ifmap_graph ifmap_ident ifmap_meta'
 cat > "$work/crates/graph_bench/src/main.rt" <<'RATTLE'
 //! Attaches metadata to addresses in no order, looks each up, and ends a session.
 #![tactic(auto)]
@@ -29,33 +18,19 @@ use std::time::Instant;
 
 const META: &str = "http://www.trustedcomputinggroup.org/2010/IFMAP-METADATA/2";
 
-fn text(alloc: Global, words: &str) -> Result<Text, AllocError> {
-    Ok(Text(String::from_str(alloc, words)?))
-}
-
-fn name(alloc: Global, space: &str, local: &str) -> Result<Name, AllocError> {
-    let space = text(alloc, space)?;
-    let local = text(alloc, local)?;
-    Ok(Name { space, local })
-}
-
 fn attribute(alloc: Global, local: &str, value: &str) -> Result<Attribute, AllocError> {
-    let name = name(alloc, "", local)?;
-    let value = text(alloc, value)?;
-    Ok(Attribute { name, value })
+    let value = Text::from_str(alloc, value)?;
+    Attribute::bare(alloc, local, value)
 }
 
 fn leaf(alloc: Global, words: &str) -> Result<Child, AllocError> {
-    let name = name(alloc, "", "name")?;
     let mut members = Vec::new(alloc);
-    members.push(Child::Text(text(alloc, words)?))?;
-    let attributes = Many(Vec::new(alloc));
-    let children = Many(members);
-    Ok(Child::Element(Element { name, attributes, children }))
+    members.push(Child::Text(Text::from_str(alloc, words)?))?;
+    Ok(Child::Element(Element::bare(alloc, "name", Vec::new(alloc), members)?))
 }
 
 fn role(alloc: Global) -> Result<Element, AllocError> {
-    let name = name(alloc, META, "role")?;
+    let name = Name::new(alloc, META, "role")?;
     let mut attributes = Vec::new(alloc);
     attributes.push(attribute(alloc, "ifmap-cardinality", "multiValue")?)?;
     attributes.push(attribute(alloc, "ifmap-publisher-id", "pdp-17")?)?;
@@ -69,13 +44,13 @@ fn role(alloc: Global) -> Result<Element, AllocError> {
 
 fn item(alloc: Global, number: u32) -> Result<Item, AllocError> {
     let [a, b, c, d] = number.wrapping_mul(2_654_435_761).to_be_bytes();
-    let domain = text(alloc, "")?;
+    let domain = Text(String::new(alloc));
     Ok(Item::One(Identifier::MacAddress { value: [0, 2, a, b, c, d], domain }))
 }
 
 fn row(alloc: Global, number: u32) -> Result<Row, AllocError> {
     let element = role(alloc)?;
-    let publisher = ClientName::new(text(alloc, "pdp-17")?).ok_or(AllocError)?;
+    let publisher = ClientName::new(Text::from_str(alloc, "pdp-17")?).ok_or(AllocError)?;
     let life = Life::Session(u64::from(number % 2));
     Row::new(alloc, item(alloc, number)?, Stored { element, publisher, life })
 }

@@ -2,19 +2,8 @@
 # Times the printer of ifmap_elem against copies of what it prints, in turn, and takes the least of
 # a hundred times of each.
 # Run from anywhere: sh bench/printer.sh. It needs `rt`, and builds in a new folder under TMPDIR.
-set -e
-top=$(cd "$(dirname "$0")/.." && pwd)
-work=$(mktemp -d "${TMPDIR:-/tmp}/printer-bench.XXXXXX")
-trap 'rm -rf "$work"' EXIT
-mkdir -p "$work/crates/printer_bench/src"
-cp "$top/crates.txt" "$work/crates.txt"
-echo 'printer_bench: ifmap_elem' >> "$work/crates.txt"
-for crate in "$top"/crates/*; do
-    mkdir -p "$work/crates/$(basename "$crate")"
-    for part in src specs proofs; do
-        if [ -d "$crate/$part" ]; then cp -r "$crate/$part" "$work/crates/$(basename "$crate")/"; fi
-    done
-done
+. "$(dirname "$0")/common.sh"
+prepare printer_bench 'ifmap_elem'
 cat > "$work/crates/printer_bench/src/main.rt" <<'RATTLE'
 //! Prints elements of about one megabyte, and copies the bytes.
 #![tactic(auto)]
@@ -27,33 +16,22 @@ use std::time::Instant;
 
 const META: &str = "http://www.trustedcomputinggroup.org/2010/IFMAP-METADATA/2";
 
-fn text(alloc: Global, words: &str) -> Result<Text, AllocError> {
-    Ok(Text(String::from_str(alloc, words)?))
-}
-
-fn name(alloc: Global, space: &str, local: &str) -> Result<Name, AllocError> {
-    let space = text(alloc, space)?;
-    let local = text(alloc, local)?;
-    Ok(Name { space, local })
-}
-
 fn attribute(alloc: Global, local: &str, value: &str) -> Result<Attribute, AllocError> {
-    let name = name(alloc, "", local)?;
-    let value = text(alloc, value)?;
-    Ok(Attribute { name, value })
+    let value = Text::from_str(alloc, value)?;
+    Attribute::bare(alloc, local, value)
 }
 
 fn leaf(alloc: Global, space: &str, local: &str, words: &str) -> Result<Element, AllocError> {
-    let name = name(alloc, space, local)?;
+    let name = Name::new(alloc, space, local)?;
     let attributes = Many(Vec::new(alloc));
     let mut members = Vec::new(alloc);
-    members.push(Child::Text(text(alloc, words)?))?;
+    members.push(Child::Text(Text::from_str(alloc, words)?))?;
     let children = Many(members);
     Ok(Element { name, attributes, children })
 }
 
 fn metadata(alloc: Global) -> Result<Element, AllocError> {
-    let name = name(alloc, META, "event")?;
+    let name = Name::new(alloc, META, "event")?;
     let mut attributes = Vec::new(alloc);
     attributes.push(attribute(alloc, "ifmap-cardinality", "multiValue")?)?;
     attributes.push(attribute(alloc, "ifmap-publisher-id", "pdp-17")?)?;
@@ -68,7 +46,7 @@ fn metadata(alloc: Global) -> Result<Element, AllocError> {
 }
 
 fn thousand(alloc: Global) -> Result<Element, AllocError> {
-    let name = name(alloc, "http://www.trustedcomputinggroup.org/2010/IFMAP/2", "response")?;
+    let name = Name::new(alloc, "http://www.trustedcomputinggroup.org/2010/IFMAP/2", "response")?;
     let attributes = Many(Vec::new(alloc));
     let mut members = Vec::new(alloc);
     for _ in 0..1000 {
@@ -87,7 +65,7 @@ fn long_text(alloc: Global) -> Result<Element, AllocError> {
 }
 
 fn spaces(alloc: Global) -> Result<Element, AllocError> {
-    let name = name(alloc, "", "a")?;
+    let name = Name::new(alloc, "", "a")?;
     let attributes = Many(Vec::new(alloc));
     let mut members = Vec::new(alloc);
     for i in 0..10000 {

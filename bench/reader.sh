@@ -4,20 +4,10 @@
 # for an error or for more than forty seconds.
 # Run from anywhere: sh bench/reader.sh [ROUNDS]. It needs `rt`, `xmllint` and `python3`, and builds
 # in a new folder under TMPDIR.
-set -e
+. "$(dirname "$0")/common.sh"
 rounds=${1:-5}
-top=$(cd "$(dirname "$0")/.." && pwd)
-work=$(mktemp -d "${TMPDIR:-/tmp}/reader-bench.XXXXXX")
-trap 'rm -rf "$work"' EXIT
-mkdir -p "$work/documents" "$work/crates/reader_bench/src"
-cp "$top/crates.txt" "$work/crates.txt"
-echo 'reader_bench: ifmap_elem ifmap_reader' >> "$work/crates.txt"
-for crate in "$top"/crates/*; do
-    mkdir -p "$work/crates/$(basename "$crate")"
-    for part in src specs proofs; do
-        if [ -d "$crate/$part" ]; then cp -r "$crate/$part" "$work/crates/$(basename "$crate")/"; fi
-    done
-done
+prepare reader_bench 'ifmap_elem ifmap_reader'
+mkdir "$work/documents"
 cat > "$work/crates/reader_bench/src/main.rt" <<'RATTLE'
 //! Reads a document, and prints the least of three times in microseconds: of reading it, and of
 //! reading it and letting it go.

@@ -254,6 +254,6 @@ fn attach_all(graph: &mut Graph, rows: Vec<Row>)
 fn refusal(alloc: Global, code: Code) -> Result<Answer, AllocError>
     ensures { IfOk result (λ answer. answer ≡ refused code) }
 {
-    let note = Text(String::from_str(alloc, code.name())?);
+    let note = Text::from_str(alloc, code.name())?;
     Ok(Answer::Reply(Reply::Error { code, note }))
 }

@@ -30,7 +30,7 @@ attributes_total =
 pub same_texts : (xs ys : List ℕ) → slice_cmp nat_cmp xs ys ≡ Equal → xs ≡ ys
 same_texts xs ys e = (bytes_eq-Decides xs ys).0 (texts_ties xs ys ∙ ap is_eq e)
 
-both_equal : (o p : Ordering) → ordering_then o p ≡ Equal → (o ≡ Equal) × (p ≡ Equal)
+pub both_equal : (o p : Ordering) → ordering_then o p ≡ Equal → (o ≡ Equal) × (p ≡ Equal)
 both_equal Less p e = cc
 both_equal Equal p e = (refl, e)
 both_equal Greater p e = cc
@@ -131,7 +131,7 @@ not_greater Greater Equal e f = cc
 not_greater Greater Greater e f = cc
 
 -- a permutation of the attributes that rises
-rising_is_sorted : (xs ys : List Attribute) → IsPermutation xs ys → ((k : ℕ) (d : Attribute) → suc k < length ys → is_lt (attribute_order (get_or ys (suc k) d) (get_or ys k d)) ≡ false) → ys ≡ sorted xs
+pub rising_is_sorted : (xs ys : List Attribute) → IsPermutation xs ys → ((k : ℕ) (d : Attribute) → suc k < length ys → is_lt (attribute_order (get_or ys (suc k) d) (get_or ys k d)) ≡ false) → ys ≡ sorted xs
 rising_is_sorted xs ys p up =
     in_order_is attribute_order attribute_ranks attribute_eq eq_itself eq_tells xs ys p
     (λ k d l. not_greater (attribute_order (get_or ys k d) (get_or ys (suc k) d)) (attribute_order (get_or ys (suc k) d) (get_or ys k d)) (attributes_total.antisymm (get_or ys k d) (get_or ys (suc k) d)) (up k d l))

@@ -3,6 +3,7 @@
 //! the list of every public type of the crates above.
 #![tactic(auto)]
 
+pub mod building;
 pub mod comparing;
 pub mod copying;
 pub mod elements;

@@ -5,18 +5,8 @@ use std::test::Fail;
 
 const XML: &str = "http://www.w3.org/XML/1998/namespace";
 
-fn text(alloc: Global, words: &str) -> Result<Text, AllocError> {
-    Ok(Text(String::from_str(alloc, words)?))
-}
-
-fn name(alloc: Global, space: &str, local: &str) -> Result<Name, AllocError> {
-    let space = text(alloc, space)?;
-    let local = text(alloc, local)?;
-    Ok(Name { space, local })
-}
-
 fn empty(alloc: Global, space: &str, local: &str) -> Result<Element, AllocError> {
-    let name = name(alloc, space, local)?;
+    let name = Name::new(alloc, space, local)?;
     let attributes = Many(Vec::new(alloc));
     let children = Many(Vec::new(alloc));
     Ok(Element {
@@ -39,8 +29,8 @@ fn with_attribute(
         mut attributes,
         children,
     } = element;
-    let name = name(alloc, space, local)?;
-    let value = text(alloc, value)?;
+    let name = Name::new(alloc, space, local)?;
+    let value = Text::from_str(alloc, value)?;
     attributes.0.push(Attribute { name, value })?;
     Ok(Element {
         name: own,
@@ -67,7 +57,7 @@ fn with_child(element: Element, child: Child) -> Result<Element, AllocError> {
 }
 
 fn with_text(alloc: Global, element: Element, words: &str) -> Result<Element, AllocError> {
-    let child = Child::Text(text(alloc, words)?);
+    let child = Child::Text(Text::from_str(alloc, words)?);
     with_child(element, child)
 }
 
@@ -94,6 +84,19 @@ fn spaces_in_attributes(alloc: Global) -> Result<Element, AllocError> {
     with_child(a, Child::Element(c))
 }
 
+/// An element that is in no namespace, nor is its attribute.
+fn no_space(alloc: Global) -> Result<Element, AllocError> {
+    let value = Text::from_str(alloc, "1")?;
+    let attribute = Attribute::bare(alloc, "x", value)?;
+    let text = Child::Text(Text::from_str(alloc, "t")?);
+    Element::bare(
+        alloc,
+        "a",
+        vec![in alloc; attribute]?,
+        vec![in alloc; text]?,
+    )
+}
+
 /// Each escape, and what has none, in text, in a value and in a namespace.
 fn escapes(alloc: Global) -> Result<Element, AllocError> {
     let a = empty(alloc, "a&<>\"'\t\n\r", "a")?;
@@ -111,8 +114,9 @@ fn escapes(alloc: Global) -> Result<Element, AllocError> {
 #[test]
 fn elements_print_as_written_by_hand(rt: HostRuntime) -> Result<(), Fail> {
     let alloc = rt.alloc();
-    let cases: [(Element, &str); 4] = [
+    let cases: [(Element, &str); 5] = [
         (empty(alloc, "", "a")?, "<a/>"),
+        (no_space(alloc)?, "<a x=\"1\">t</a>"),
         (
             two_spaces(alloc)?,
             "<n1:a xmlns:n1=\"u\" xmlns:n2=\"v\" x=\"1\" y=\"2\"><n2:b/></n1:a>",
@@ -138,8 +142,8 @@ fn given_namespaces_are_declared_behind_the_own_ones(rt: HostRuntime) -> Result<
     let alloc = rt.alloc();
     let element = two_spaces(alloc)?;
     let mut spaces = Vec::new(alloc);
-    spaces.push(text(alloc, "m")?)?;
-    spaces.push(text(alloc, "u")?)?;
+    spaces.push(Text::from_str(alloc, "m")?)?;
+    spaces.push(Text::from_str(alloc, "u")?)?;
     let printed = written(alloc, &element, &Many(spaces))?;
     let bytes =
         b"<n1:a xmlns:n1=\"u\" xmlns:n2=\"v\" xmlns:f1=\"m\" xmlns:f2=\"u\" x=\"1\" y=\"2\"><n2:b/></n1:a>";

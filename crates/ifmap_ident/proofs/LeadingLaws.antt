@@ -7,6 +7,7 @@ use Rattle.std.specs.Cmp.Lexicographic.{slice_cmp}
 use Rattle.std.specs.Ordering.{is_eq, nat_cmp, ordering_then}
 use Rattle.std.specs.declared.cmp.Ordering.{Ordering}
 use Rattle.std.specs.declared.cmp.Ordering.TheVariants.{Less, Equal, Greater}
+use Rattle.ifmap_elem.proofs.Attributes.{both_equal}
 use Rattle.ifmap_ident.specs.Leading.{Leads}
 use Rattle.ifmap_ident.proofs.Ties.{itself}
 
@@ -83,11 +84,6 @@ parted_alike (b ∷ bs) (c ∷ cs) s t h e =
     let rest = parted_alike bs cs s t (h first) others in
     ((λ i. first i ∷ rest.0 i), rest.1)
 
-tied_first : (o r : Ordering) → ordering_then o r ≡ Equal → o ≡ Equal
-tied_first Less r e = cc
-tied_first Equal r e = refl
-tied_first Greater r e = cc
-
 -- and they compare alike there
 pub leads_alike : {o : Ordering} {p q : List ℕ} → (s t : List ℕ) → Leads o p q → p ++ s ≡ q ++ t → o ≡ Equal
-leads_alike {o} {p} {q} s t f e = tied_first o (slice_cmp nat_cmp s t) (sym (f.compares s t) ∙ itself (p ++ s) (q ++ t) e)
+leads_alike {o} {p} {q} s t f e = (both_equal o (slice_cmp nat_cmp s t) (sym (f.compares s t) ∙ itself (p ++ s) (q ++ t) e)).0

@@ -6,45 +6,46 @@ use Rattle.ifmap_elem.specs.declared.elements.Attribute.{Attribute}
 use Rattle.ifmap_elem.specs.declared.elements.Child.{Child}
 use Rattle.ifmap_elem.specs.declared.elements.Element.{Element}
 use Rattle.ifmap_elem.specs.Arranged.{child_arranged, element_arranged, sorted}
+use Rattle.ifmap_elem.specs.Building.{bare_attribute, bare_element, bare_name}
 use Rattle.ifmap_elem.specs.Canonical.{attribute_bytes, canonical_bytes, root_bytes, tagged}
 use Rattle.ifmap_elem.specs.Escapes.{value_bytes}
 use Rattle.ifmap_elem.specs.Folds.{at_element}
 use Rattle.ifmap_elem.specs.Namespaces.{child_spaces, declared_among, element_spaces, is_declared, name_prefixes, namespaces, once_each, prefix_rows}
 use Rattle.ifmap_ident.specs.MacAddresses.{address_text}
 use Rattle.ifmap_ident.specs.declared.identifiers.Identifier.TheVariants.{MacAddress}
-use Rattle.ifmap_ident.specs.Identifiers.{domain_attributes, identifier_bytes, plain_attribute, plain_name}
+use Rattle.ifmap_ident.specs.Identifiers.{domain_attributes, identifier_bytes}
 use Rattle.ifmap_ident.specs.Written.{domain_bytes, mac_address_bytes}
 use Rattle.ifmap_ident.proofs.MacAddressLaws.{AreBytes, address_length, are_bytes, plain_address}
 
 -- an attribute by its local name and its value, and how it is printed
-abbrev plain : List ℕ × List ℕ → Attribute
-plain row = plain_attribute row.0 row.1
+abbrev bare : List ℕ × List ℕ → Attribute
+bare row = bare_attribute row.0 row.1
 
 abbrev row_bytes : List ℕ × List ℕ → List ℕ
 row_bytes row = codes " " ++ (row.0 ++ (codes "=\"" ++ (value_bytes row.1 ++ codes "\"")))
 
 -- an element with these attributes
 abbrev element_of : List ℕ → List Attribute → Element
-element_of local attributes = record { name = plain_name local; attributes = attributes; children = [] }
+element_of local attributes = bare_element local attributes []
 
-no_space : (rows : List (List ℕ × List ℕ)) → filter is_declared (map (λ a. a.name.space) (map plain rows) ++ []) ≡ []
+no_space : (rows : List (List ℕ × List ℕ)) → filter is_declared (map (λ a. a.name.space) (map bare rows) ++ []) ≡ []
 no_space [] = refl
 no_space (row ∷ rows) = no_space rows
 
-no_namespaces : (local : List ℕ) (rows : List (List ℕ × List ℕ)) → namespaces (element_of local (map plain rows)) ≡ []
+no_namespaces : (local : List ℕ) (rows : List (List ℕ × List ℕ)) → namespaces (element_of local (map bare rows)) ≡ []
 no_namespaces local rows =
-    ap declared_among (at_element (List (List ℕ)) (List (List ℕ)) child_spaces element_spaces (element_of local (map plain rows))) ∙ ap once_each (no_space rows)
+    ap declared_among (at_element (List (List ℕ)) (List (List ℕ)) child_spaces element_spaces (element_of local (map bare rows))) ∙ ap once_each (no_space rows)
 
-rows_are : (rows : List (List ℕ × List ℕ)) → flat_map (attribute_bytes (name_prefixes [])) (map plain rows) ≡ flat_map row_bytes rows
+rows_are : (rows : List (List ℕ × List ℕ)) → flat_map (attribute_bytes (name_prefixes [])) (map bare rows) ≡ flat_map row_bytes rows
 rows_are [] = refl
 rows_are (row ∷ rows) = ap (λ rest. row_bytes row ++ rest) (rows_are rows)
 
 -- such an element prints as a tag with its attributes in order
-printed : (local : List ℕ) (attributes : List Attribute) (rows : List (List ℕ × List ℕ)) → sorted attributes ≡ map plain rows
+printed : (local : List ℕ) (attributes : List Attribute) (rows : List (List ℕ × List ℕ)) → sorted attributes ≡ map bare rows
     → canonical_bytes (element_of local attributes) ≡ codes "<" ++ (local ++ (flat_map row_bytes rows ++ codes "/>"))
 printed local attributes rows e =
     ap (root_bytes []) (at_element Child Element child_arranged element_arranged (element_of local attributes) ∙ ap (element_of local) e)
-    ∙ ap (λ spaces. tagged (name_prefixes spaces) (prefix_rows (codes "n") 1 spaces ++ []) (plain_name local) (map plain rows) []) (no_namespaces local rows)
+    ∙ ap (λ spaces. tagged (name_prefixes spaces) (prefix_rows (codes "n") 1 spaces ++ []) (bare_name local) (map bare rows) []) (no_namespaces local rows)
     ∙ ap (λ text. codes "<" ++ (local ++ (text ++ codes "/>"))) (rows_are rows)
 
 -- what closes the last attribute's value and the tag
@@ -55,12 +56,12 @@ closing text = ap (λ t. t ++ codes "/>") (append-nil (text ++ codes "\"")) ∙ 
 value_end : (v : List ℕ) → AreBytes v → (row_bytes (codes "value", address_text v) ++ []) ++ codes "/>" ≡ codes " value=\"" ++ (address_text v ++ codes "\"/>")
 value_end v h = ap (λ t. codes " value=\"" ++ t) (closing (value_bytes (address_text v)) ∙ ap (λ t. t ++ codes "\"/>") (plain_address v h))
 
-mac_address_element : (v d : List ℕ) → AreBytes v → canonical_bytes (element_of (codes "mac-address") (domain_attributes d ++ (plain_attribute (codes "value") (address_text v) ∷ []))) ≡ mac_address_bytes v d
+mac_address_element : (v d : List ℕ) → AreBytes v → canonical_bytes (element_of (codes "mac-address") (domain_attributes d ++ (bare_attribute (codes "value") (address_text v) ∷ []))) ≡ mac_address_bytes v d
 mac_address_element v [] h =
-    printed (codes "mac-address") (plain_attribute (codes "value") (address_text v) ∷ []) ((codes "value", address_text v) ∷ []) refl
+    printed (codes "mac-address") (bare_attribute (codes "value") (address_text v) ∷ []) ((codes "value", address_text v) ∷ []) refl
     ∙ ap (λ t. codes "<mac-address" ++ t) (value_end v h)
 mac_address_element v (b ∷ d) h =
-    printed (codes "mac-address") (plain_attribute (codes "administrative-domain") (b ∷ d) ∷ (plain_attribute (codes "value") (address_text v) ∷ []))
+    printed (codes "mac-address") (bare_attribute (codes "administrative-domain") (b ∷ d) ∷ (bare_attribute (codes "value") (address_text v) ∷ []))
     ((codes "administrative-domain", b ∷ d) ∷ ((codes "value", address_text v) ∷ [])) refl
     ∙ ap (λ t. codes "<mac-address" ++ t) (append_assoc (domain_bytes (b ∷ d)) (row_bytes (codes "value", address_text v) ++ []) (codes "/>") ∙ ap (λ t. domain_bytes (b ∷ d) ++ t) (value_end v h))
 

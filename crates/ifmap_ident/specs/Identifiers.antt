@@ -5,29 +5,21 @@ use Rattle.std.specs.Ordering.{nat_cmp, on}
 use Rattle.std.specs.declared.cmp.Ordering.{Ordering}
 use Rattle.ifmap_elem.specs.declared.elements.Attribute.{Attribute}
 use Rattle.ifmap_elem.specs.declared.elements.Element.{Element}
-use Rattle.ifmap_elem.specs.declared.elements.Name.{Name}
+use Rattle.ifmap_elem.specs.Building.{bare_attribute, bare_element}
 use Rattle.ifmap_elem.specs.Canonical.{canonical_bytes}
 use Rattle.ifmap_ident.specs.declared.identifiers.Identifier.{Identifier}
 use Rattle.ifmap_ident.specs.declared.identifiers.Identifier.TheVariants.{MacAddress}
 use Rattle.ifmap_ident.specs.MacAddresses.{address_text}
 
--- a name in no namespace
-abbrev pub plain_name : List ℕ → Name
-plain_name local = record { space = []; local = local }
-
--- an attribute of such a name
-abbrev pub plain_attribute : List ℕ → List ℕ → Attribute
-plain_attribute local value = record { name = plain_name local; value = value }
-
 -- the attribute of an administrative domain; none of the empty one
 abbrev pub domain_attributes : List ℕ → List Attribute
 domain_attributes [] = []
-domain_attributes (b ∷ bs) = plain_attribute (codes "administrative-domain") (b ∷ bs) ∷ []
+domain_attributes (b ∷ bs) = bare_attribute (codes "administrative-domain") (b ∷ bs) ∷ []
 
 -- an identifier as an element
 abbrev pub identifier_element : Identifier → Element
 identifier_element (MacAddress value domain) =
-    record { name = plain_name (codes "mac-address"); attributes = domain_attributes domain ++ (plain_attribute (codes "value") (address_text value) ∷ []); children = [] }
+    bare_element (codes "mac-address") (domain_attributes domain ++ bare_attribute (codes "value") (address_text value) ∷ []) []
 
 -- the canonical bytes of an identifier
 unfoldable pub identifier_bytes : Identifier → List ℕ

@@ -4,7 +4,6 @@ ghost use Rattle.ifmap_ident.specs.Identifiers.{domain_attributes};
 ghost use Rattle.ifmap_ident.specs.Leading.{Leads};
 ghost use Rattle.ifmap_ident.specs.Written.{domain_bytes};
 
-use crate::plain::plain_attribute;
 use crate::values::{value_len, value_order};
 use ifmap_elem::{Attribute, Copied, Text};
 use std::alloc::{AllocError as NoMemory, Global};
@@ -19,7 +18,7 @@ pub(crate) fn domain_attributes(alloc: Global, domain: &Text) -> Result<Vec<Attr
         return Ok(attributes);
     }
     let value = domain.copy(alloc)?;
-    attributes.push(plain_attribute(alloc, "administrative-domain", value)?)?;
+    attributes.push(Attribute::bare(alloc, "administrative-domain", value)?)?;
     Ok(attributes)
 }
 

@@ -10,8 +10,7 @@ use crate::domains::domain_attributes;
 use crate::mac_addresses::{
     address_text, mac_address_len, mac_address_order, mac_addresses_are_one,
 };
-use crate::plain::{plain_attribute, plain_element};
-use ifmap_elem::{Copied, Element, Equals, Text};
+use ifmap_elem::{Attribute, Copied, Element, Equals, Text};
 use std::alloc::{AllocError as NoMemory, Global};
 use std::cmp::Ordering;
 
@@ -32,8 +31,8 @@ impl Identifier {
             Identifier::MacAddress { value, domain } => {
                 let mut attributes = domain_attributes(alloc, domain)?;
                 let text = address_text(alloc, value)?;
-                attributes.push(plain_attribute(alloc, "value", text)?)?;
-                plain_element(alloc, "mac-address", attributes)
+                attributes.push(Attribute::bare(alloc, "value", text)?)?;
+                Element::bare(alloc, "mac-address", attributes, Vec::new(alloc))
             }
         }
     }

@@ -8,7 +8,6 @@ mod domains;
 pub mod identifiers;
 pub mod items;
 mod mac_addresses;
-mod plain;
 mod values;
 
 pub use codes::Code;

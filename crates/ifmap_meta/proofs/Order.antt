@@ -1,37 +1,24 @@
 -- Attributes in order.
-use Rattle.std.proofs.Common.{◌≡◌, ℕ, ◌+◌, suc, List, Bool, false, cond, ◌&&◌, [], ◌∷◌, refl, ap, sym, ◌∙◌, subst, arith, inl, inr, get_or, add-one}
+use Rattle.std.proofs.Common.{◌≡◌, ℕ, ◌+◌, List, Bool, false, cond, ◌&&◌, [], ◌∷◌, refl, ap, sym, ◌∙◌, subst, arith, inl, inr, get_or, add-one}
 use Rattle.std.proofs.lemmas.Bool.{cases_Bool}
 use Rattle.std.proofs.lemmas.List.Sums.{length-filter, sum_by-cons}
 use Rattle.std.proofs.lemmas.List.Sorted.{IsPermutation-refl, ranks_by, sum_by-IsPermutation}
 use Rattle.std.proofs.lemmas.List.Kept.{IsSortedBy-filter}
 use Rattle.std.specs.List.{filter}
 use Rattle.std.specs.List.Sorted.{IsPermutation, IsSorted}
-use Rattle.std.specs.Ordering.{is_gt, is_lt, ordering_reverse}
+use Rattle.std.specs.Ordering.{is_lt}
 use Rattle.std.specs.Prelude.{count_by}
-use Rattle.std.specs.declared.cmp.Ordering.{Ordering}
-use Rattle.std.specs.declared.cmp.Ordering.TheVariants.{Less, Equal, Greater}
 use Rattle.ifmap_elem.specs.Arranged.{attribute_order, sorted}
 use Rattle.ifmap_elem.specs.Occurrences.{attribute_eq}
 use Rattle.ifmap_elem.specs.declared.elements.Attribute.{Attribute}
-use Rattle.ifmap_elem.proofs.Attributes.{attribute_ranks, attributes_total, eq_itself, eq_tells, sorted_permutation, sorted_rises}
-use Rattle.ifmap_elem.proofs.Orders.{in_order_is, in_order_same}
+use Rattle.ifmap_elem.proofs.Attributes.{attribute_ranks, attributes_total, eq_itself, eq_tells, rising_is_sorted, sorted_permutation, sorted_rises}
+use Rattle.ifmap_elem.proofs.Orders.{in_order_same}
 
-not_greater : (p q : Ordering) → p ≡ ordering_reverse q → is_lt q ≡ false → is_gt p ≡ false
-not_greater Less q e f = refl
-not_greater Equal q e f = refl
-not_greater Greater Less e f = cc
-not_greater Greater Equal e f = cc
-not_greater Greater Greater e f = cc
-
--- a permutation of the attributes that rises
-pub rising_is_sorted : (xs ys : List Attribute) → IsPermutation xs ys → IsSorted attribute_order ys → ys ≡ sorted xs
-rising_is_sorted xs ys p up =
-    in_order_is attribute_order attribute_ranks attribute_eq eq_itself eq_tells xs ys p
-    (λ k d l.
-    let here : Attribute = get_or ys k d in
-    let next : Attribute = get_or ys (suc k) d in
-    let step : is_lt (attribute_order next here) ≡ false = subst (λ (n : ℕ). is_lt (attribute_order (get_or ys n d) here) ≡ false) (add-one k) (up k d (omega arith) (omega arith)) in
-    not_greater (attribute_order here next) (attribute_order next here) (attributes_total.antisymm here next) step)
+-- a permutation of the attributes as a sort leaves it
+pub sorted_out : (xs ys : List Attribute) → IsPermutation xs ys → IsSorted attribute_order ys → ys ≡ sorted xs
+sorted_out xs ys p up =
+    rising_is_sorted xs ys p
+    (λ k d l. subst (λ (n : ℕ). is_lt (attribute_order (get_or ys n d) (get_or ys k d)) ≡ false) (add-one k) (up k d (omega arith) (omega arith)))
 
 count_filter : {X : Type 0} (q p : X → Bool) (xs : List X) → count_by q (filter p xs) ≡ count_by (λ x. p x && q x) xs
 count_filter q p [] = refl
@@ -59,5 +46,5 @@ sorted_filter p xs ys h =
 pub filter_sorted : (p : Attribute → Bool) (xs : List Attribute) → filter p (sorted xs) ≡ sorted (filter p xs)
 filter_sorted p xs =
     let kept = filter p (sorted xs) in
-    rising_is_sorted kept kept (IsPermutation-refl kept) (IsSortedBy-filter (λ a b. is_lt (attribute_order a b)) (ranks_by attributes_total (λ (a : Attribute). a)) p (sorted xs) (sorted_rises xs))
+    sorted_out kept kept (IsPermutation-refl kept) (IsSortedBy-filter (λ a b. is_lt (attribute_order a b)) (ranks_by attributes_total (λ (a : Attribute). a)) p (sorted xs) (sorted_rises xs))
     ∙ sym (sorted_filter p xs (sorted xs) (sorted_permutation xs))

@@ -1,4 +1,3 @@
-pub mod Attributes
 pub mod Cardinality
 pub mod ClientNames
 pub mod Keys

@@ -3,14 +3,14 @@
 use Rattle.std.specs.Prelude.{ℕ, List, [], ◌∷◌, ◌++◌, Bool, not, ◌||◌, codes}
 use Rattle.std.specs.List.{filter}
 use Rattle.ifmap_elem.specs.Arranged.{sorted}
+use Rattle.ifmap_elem.specs.Building.{bare_attribute, is_bare}
 use Rattle.ifmap_elem.specs.declared.elements.Attribute.{Attribute}
 use Rattle.ifmap_elem.specs.declared.elements.Element.{Element}
 use Rattle.ifmap_io.specs.Calendar.{moment_text}
-use Rattle.ifmap_meta.specs.Attributes.{is_plainly, plain_attribute}
 
 -- the attribute is for the server to set
 abbrev pub is_stamp : Attribute → Bool
-is_stamp a = is_plainly (codes "ifmap-publisher-id") a || is_plainly (codes "ifmap-timestamp") a
+is_stamp a = is_bare (codes "ifmap-publisher-id") a.name || is_bare (codes "ifmap-timestamp") a.name
 
 -- the attributes that are not
 abbrev pub without_stamps : List Attribute → List Attribute
@@ -23,7 +23,7 @@ content_of e = record { name = e.name; attributes = without_stamps e.attributes;
 -- what the server sets: the publisher, and the moment of publishing
 abbrev pub stamps : List ℕ → ℕ → List Attribute
 stamps publisher moment =
-    plain_attribute (codes "ifmap-publisher-id") publisher ∷ plain_attribute (codes "ifmap-timestamp") (moment_text moment) ∷ []
+    bare_attribute (codes "ifmap-publisher-id") publisher ∷ bare_attribute (codes "ifmap-timestamp") (moment_text moment) ∷ []
 
 -- these attributes and the stamps, in order
 abbrev pub with_stamps : List ℕ → ℕ → List Attribute → List Attribute

@@ -6,7 +6,7 @@ ghost use Rattle.ifmap_meta.specs.Keys.{content_bytes, same_type};
 ghost use Rattle.ifmap_meta.specs.Stamps.{content_of, is_stamp, with_stamps, without_stamps};
 ghost use Rattle.ifmap_meta.specs.Stored.{stored_as};
 
-use crate::attributes::{is_plainly, plain_attribute, put_in_order};
+use crate::attributes::put_in_order;
 use crate::clients::ClientName;
 use crate::metadata::Metadata;
 use ifmap_elem::{Attribute, Copied, Element, Equals, Many, Text, canonical};
@@ -108,13 +108,13 @@ pub fn same_type(a: &Element, b: &Element) -> bool
 fn is_single_value(attribute: &Attribute) -> bool
     ensures { result ≡ is_single_value attribute.now }
 {
-    is_plainly(attribute, "ifmap-cardinality") && attribute.value.0.as_str() == "singleValue"
+    attribute.name.is_bare("ifmap-cardinality") && attribute.value.0.as_str() == "singleValue"
 }
 
 fn is_stamp(attribute: &Attribute) -> bool
     ensures { result ≡ is_stamp attribute.now }
 {
-    is_plainly(attribute, "ifmap-publisher-id") || is_plainly(attribute, "ifmap-timestamp")
+    attribute.name.is_bare("ifmap-publisher-id") || attribute.name.is_bare("ifmap-timestamp")
 }
 
 fn without_stamps(alloc: Global, attributes: &Many<Attribute>) -> Result<Many<Attribute>, NoMemory>
@@ -140,8 +140,8 @@ fn with_stamps(
     let publisher = publisher.text().copy(alloc)?;
     let moment = moment_text(alloc, moment)?;
     let mut made = attributes.0;
-    made.push(plain_attribute(alloc, "ifmap-publisher-id", publisher)?)?;
-    made.push(plain_attribute(alloc, "ifmap-timestamp", moment)?)?;
+    made.push(Attribute::bare(alloc, "ifmap-publisher-id", publisher)?)?;
+    made.push(Attribute::bare(alloc, "ifmap-timestamp", moment)?)?;
     put_in_order(&mut made);
     Ok(Many(made))
 }
@@ -151,5 +151,5 @@ fn moment_text(alloc: Global, moment: Moment) -> Result<Text, NoMemory>
 {
     let bytes = moment.text();
     let text = std::str::from_utf8(&bytes).unwrap();
-    Ok(Text(String::from_str(alloc, text)?))
+    Text::from_str(alloc, text)
 }

@@ -1,7 +1,6 @@
 //! Requests and replies as values, and a reply as the element that is sent for it.
 #![tactic(auto)]
 
-pub mod building;
 pub mod replies;
 pub mod requests;
 pub mod results;

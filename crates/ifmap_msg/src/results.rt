@@ -1,12 +1,11 @@
 //! A reply as an element.
 ghost use Rattle.std.specs.Prelude.{◌≡◌, [], IfOk};
-ghost use Rattle.ifmap_msg.specs.Building.{plain_element};
-ghost use Rattle.ifmap_msg.specs.Replies.{enveloped, error_result, new_session_result, reply_element, result_element, search_result};
+ghost use Rattle.ifmap_elem.specs.Building.{bare_element};
+ghost use Rattle.ifmap_msg.specs.Replies.{around, enveloped, error_result, new_session_result, reply_element, result_element, search_result};
 
-use crate::building::{around, plain_attribute, plain_element, text_of};
 use crate::replies::{Entry, Reply};
 use crate::runs::runs_of;
-use ifmap_elem::{Child, Element, Many, Text};
+use ifmap_elem::{Attribute, Child, Element, Many, Name, Text};
 use std::alloc::{AllocError as NoMemory, Global};
 
 const ENVELOPE_SPACE: &str = "http://www.w3.org/2003/05/soap-envelope";
@@ -29,6 +28,22 @@ fn enveloped(alloc: Global, inner: Element) -> Result<Element, NoMemory>
     around(alloc, ENVELOPE_SPACE, "Envelope", body)
 }
 
+/// An element of a namespace that holds one other and nothing else.
+pub(crate) fn around(
+    alloc: Global,
+    space: &str,
+    local: &str,
+    inner: Element,
+) -> Result<Element, NoMemory>
+    ensures { IfOk result (λ element. element ≡ around space.now local.now inner) }
+{
+    Ok(Element {
+        name: Name::new(alloc, space, local)?,
+        attributes: Many(Vec::new(alloc)),
+        children: Many(vec![in alloc; Child::Element(inner)]?),
+    })
+}
+
 fn result_of(alloc: Global, reply: Reply) -> Result<Element, NoMemory>
     ensures { IfOk result (λ element. element ≡ result_element reply) }
 {
@@ -42,21 +57,21 @@ fn result_of(alloc: Global, reply: Reply) -> Result<Element, NoMemory>
 }
 
 fn empty_result(alloc: Global, local: &str) -> Result<Element, NoMemory>
-    ensures { IfOk result (λ element. element ≡ plain_element local.now [] []) }
+    ensures { IfOk result (λ element. element ≡ bare_element local.now [] []) }
 {
-    plain_element(alloc, local, Vec::new(alloc), Vec::new(alloc))
+    Element::bare(alloc, local, Vec::new(alloc), Vec::new(alloc))
 }
 
 fn new_session_result(alloc: Global, session: Text, publisher: Text) -> Result<Element, NoMemory>
     ensures { IfOk result (λ element. element ≡ new_session_result session publisher) }
 {
-    let limit = text_of(alloc, "5000000")?;
+    let limit = Text::from_str(alloc, "5000000")?;
     let attributes = vec![in alloc;
-        plain_attribute(alloc, "ifmap-publisher-id", publisher)?,
-        plain_attribute(alloc, "max-poll-result-size", limit)?,
-        plain_attribute(alloc, "session-id", session)?,
+        Attribute::bare(alloc, "ifmap-publisher-id", publisher)?,
+        Attribute::bare(alloc, "max-poll-result-size", limit)?,
+        Attribute::bare(alloc, "session-id", session)?,
     ]?;
-    plain_element(alloc, "newSessionResult", attributes, Vec::new(alloc))
+    Element::bare(alloc, "newSessionResult", attributes, Vec::new(alloc))
 }
 
 fn search_result(alloc: Global, entries: Many<Entry>) -> Result<Element, NoMemory>
@@ -67,16 +82,16 @@ fn search_result(alloc: Global, entries: Many<Entry>) -> Result<Element, NoMemor
     while let Some(run) = runs.pop() {
         items.push(Child::Element(run.into_element(alloc)?))?;
     }
-    plain_element(alloc, "searchResult", Vec::new(alloc), items)
+    Element::bare(alloc, "searchResult", Vec::new(alloc), items)
 }
 
 fn error_result(alloc: Global, name: &str, note: Text) -> Result<Element, NoMemory>
     ensures { IfOk result (λ element. element ≡ error_result name.now note) }
 {
     let text = vec![in alloc; Child::Text(note)]?;
-    let string = plain_element(alloc, "errorString", Vec::new(alloc), text)?;
-    let code = plain_attribute(alloc, "errorCode", text_of(alloc, name)?)?;
+    let string = Element::bare(alloc, "errorString", Vec::new(alloc), text)?;
+    let code = Attribute::bare(alloc, "errorCode", Text::from_str(alloc, name)?)?;
     let attributes = vec![in alloc; code]?;
     let children = vec![in alloc; Child::Element(string)]?;
-    plain_element(alloc, "errorResult", attributes, children)
+    Element::bare(alloc, "errorResult", attributes, children)
 }

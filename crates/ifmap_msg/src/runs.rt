@@ -5,7 +5,6 @@ ghost use Rattle.ifmap_ident.specs.Items.{identifiers_of, same_item};
 ghost use Rattle.ifmap_msg.specs.Replies.{as_children, item_element};
 ghost use Rattle.ifmap_msg.specs.Runs.{before, runs_of};
 
-use crate::building::plain_element;
 use crate::replies::Entry;
 use ifmap_elem::{Child, Element};
 use ifmap_ident::Item;
@@ -65,10 +64,10 @@ impl Run {
     {
         let Run { item, backwards } = self;
         let found = forwards(alloc, backwards)?;
-        let metadata = plain_element(alloc, "metadata", Vec::new(alloc), found)?;
+        let metadata = Element::bare(alloc, "metadata", Vec::new(alloc), found)?;
         let mut children = identifiers_in(alloc, &item)?;
         children.push(Child::Element(metadata))?;
-        plain_element(alloc, "resultItem", Vec::new(alloc), children)
+        Element::bare(alloc, "resultItem", Vec::new(alloc), children)
     }
 }
 

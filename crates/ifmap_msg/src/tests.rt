@@ -1,3 +1,4 @@
+use crate::results::around;
 use crate::*;
 use ifmap_elem::{Child, Copied, Element, Many, Name, Text, canonical};
 use ifmap_ident::{Code, Identifier, Item};
@@ -14,10 +15,6 @@ const METADATA_START: &str =
 
 const END: &str = "</n2:response></n1:Body></n1:Envelope>";
 
-fn text(alloc: Global, text: &str) -> Result<Text, Fail> {
-    Ok(building::text_of(alloc, text)?)
-}
-
 fn mac(alloc: Global, last: u8) -> Identifier {
     Identifier::MacAddress {
         value: [0, 0, 0x5e, 0, 0x53, last],
@@ -27,10 +24,10 @@ fn mac(alloc: Global, last: u8) -> Identifier {
 
 // An entry whose element is that of the standard's role, with one name.
 fn entry(alloc: Global, item: Item, role: &str) -> Result<Entry, Fail> {
-    let text = vec![in alloc; Child::Text(text(alloc, role)?)]?;
-    let name = building::plain_element(alloc, "name", Vec::new(alloc), text)?;
+    let text = vec![in alloc; Child::Text(Text::from_str(alloc, role)?)]?;
+    let name = Element::bare(alloc, "name", Vec::new(alloc), text)?;
     let space = "http://www.trustedcomputinggroup.org/2010/IFMAP-METADATA/2";
-    let element = building::around(alloc, space, "role", name)?;
+    let element = around(alloc, space, "role", name)?;
     Ok(Entry { item, element })
 }
 
@@ -51,8 +48,8 @@ fn expect_reply(
 #[test]
 fn replies_are_written_as_in_the_standard(rt: HostRuntime) -> Result<(), Fail> {
     let alloc = rt.alloc();
-    let session = text(alloc, "1-00000000-0000-0000-0000-000000000001")?;
-    let publisher = text(alloc, "c1")?;
+    let session = Text::from_str(alloc, "1-00000000-0000-0000-0000-000000000001")?;
+    let publisher = Text::from_str(alloc, "c1")?;
     expect_reply(
         &rt,
         Reply::NewSession { session, publisher },
@@ -71,7 +68,7 @@ fn replies_are_written_as_in_the_standard(rt: HostRuntime) -> Result<(), Fail> {
         &rt,
         Reply::Error {
             code: Code::SearchResultsTooBig,
-            note: text(alloc, "197 of 100")?,
+            note: Text::from_str(alloc, "197 of 100")?,
         },
         START,
         "<errorResult errorCode=\"SearchResultsTooBig\"><errorString>197 of 100</errorString></errorResult>",
@@ -98,12 +95,8 @@ fn entries_on_one_item_stand_together(rt: HostRuntime) -> Result<(), Fail> {
 #[test]
 fn requests_are_copied(rt: HostRuntime) -> Result<(), Fail> {
     let alloc = rt.alloc();
-    let name = Name {
-        space: text(alloc, "m")?,
-        local: text(alloc, "role")?,
-    };
     let element = Element {
-        name,
+        name: Name::new(alloc, "m", "role")?,
         attributes: Many(Vec::new(alloc)),
         children: Many(Vec::new(alloc)),
     };
@@ -117,7 +110,7 @@ fn requests_are_copied(rt: HostRuntime) -> Result<(), Fail> {
         forever: true,
     };
     let publish = Request::Publish {
-        session: text(alloc, "1-a")?,
+        session: Text::from_str(alloc, "1-a")?,
         ops: Many(vec![in alloc; update]?),
     };
     let Request::Publish { session, ops } = publish.copy(alloc)? else {
@@ -126,7 +119,7 @@ fn requests_are_copied(rt: HostRuntime) -> Result<(), Fail> {
     assert_eq!(rt; session.0.as_str(), "1-a");
     assert_eq!(rt; ops.0.len(), 1);
     let search = Request::Search {
-        session: text(alloc, "1-a")?,
+        session: Text::from_str(alloc, "1-a")?,
         search: Search {
             start: mac(alloc, 1),
             max_size: 7,

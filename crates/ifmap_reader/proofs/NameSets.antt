@@ -2,9 +2,7 @@
 use Rattle.std.proofs.Common.{◌≡◌, ◌≢◌, ℕ, ◌+◌, ◌<◌, ◌≤◌, Bool, true, false, not, cond, ◌||◌, List, [], ◌∷◌, ◌++◌, take, drop, length, get_or, refl, ap, sym, ◌∙◌, subst, inl, inr, Bor}
 use Rattle.std.specs.List.{list_any}
 use Rattle.std.specs.Cmp.{IsTotalOrder, Equal-is, eq_by_cmp_equiv}
-use Rattle.std.specs.Ordering.{is_eq, ordering_then}
-use Rattle.std.specs.declared.cmp.Ordering.{Ordering}
-use Rattle.std.specs.declared.cmp.Ordering.TheVariants.{Less, Equal, Greater}
+use Rattle.std.specs.Ordering.{is_eq}
 use Rattle.std.proofs.lemmas.Bool.{cases_Bool}
 use Rattle.std.proofs.lemmas.Cmp.{nat_list_cmp_total, then_total, on_total}
 use Rattle.std.proofs.lemmas.List.{map-append, take_more, take_all, take-append-drop}
@@ -13,7 +11,7 @@ use Rattle.ifmap_elem.specs.Arranged.{name_order}
 use Rattle.ifmap_elem.specs.Scopes.{AllDiffer}
 use Rattle.ifmap_elem.specs.declared.elements.Attribute.{Attribute}
 use Rattle.ifmap_elem.specs.declared.elements.Name.{Name}
-use Rattle.ifmap_elem.proofs.Attributes.{same_texts}
+use Rattle.ifmap_elem.proofs.Attributes.{both_equal, same_texts}
 use Rattle.ifmap_reader.proofs.Binding.{all_last, all_middle}
 use Rattle.ifmap_reader.proofs.NameLaws.{names, dropped}
 
@@ -22,11 +20,6 @@ names_total = then_total (on_total (λ (n : Name). n.space) nat_list_cmp_total) 
 
 abbrev pub same : Name → Name → Bool
 same m n = is_eq (name_order m n)
-
-both_equal : (o p : Ordering) → ordering_then o p ≡ Equal → (o ≡ Equal) × (p ≡ Equal)
-both_equal Less p e = cc
-both_equal Equal p e = (refl, e)
-both_equal Greater p e = cc
 
 same_tells : (m n : Name) → same m n ≡ true → m ≡ n
 same_tells m n e =

@@ -4,10 +4,10 @@ use Rattle.std.specs.List.{AllByRecursion, list_all}
 use Rattle.std.specs.Str.{bytes_eq}
 use Rattle.ifmap_elem.specs.declared.elements.Child.TheVariants as child
 use Rattle.ifmap_elem.specs.declared.elements.Element.{Element}
+use Rattle.ifmap_elem.specs.Building.{bare_attribute, bare_element}
 use Rattle.ifmap_ident.specs.declared.identifiers.Identifier.TheVariants.{MacAddress}
 use Rattle.ifmap_ident.specs.declared.items.Item.TheVariants.{One}
 use Rattle.ifmap_ident.specs.MacAddresses.{address_text}
-use Rattle.ifmap_ident.specs.Identifiers.{plain_attribute}
 use Rattle.ifmap_meta.specs.declared.metadata.Cardinality.{Cardinality}
 use Rattle.ifmap_meta.specs.declared.metadata.Cardinality.TheVariants.{Single, Multi}
 use Rattle.ifmap_meta.specs.declared.metadata.Metadata.{Metadata}
@@ -16,7 +16,6 @@ use Rattle.ifmap_msg.specs.declared.requests.PublishOp.TheVariants.{Update}
 use Rattle.ifmap_msg.specs.declared.requests.Request.{Request}
 use Rattle.ifmap_msg.specs.declared.requests.Request.TheVariants as request
 use Rattle.ifmap_msg.specs.declared.requests.Search.{Search}
-use Rattle.ifmap_msg.specs.Building.{plain_element}
 use Rattle.ifmap_server.specs.Ids.{is_id}
 use Rattle.ifmap_server.specs.Parts.{Fixed, parts_in}
 
@@ -70,8 +69,8 @@ abbrev pub published_element : List ℕ → Cardinality → List ℕ → Element
 published_element local cardinality value =
     record {
       name = record { space = metadata_space; local = local };
-      attributes = plain_attribute (codes "ifmap-cardinality") (cardinality_text cardinality) ∷ [];
-      children = child.Element (plain_element (codes "name") [] (child.Text value ∷ [])) ∷ [];
+      attributes = bare_attribute (codes "ifmap-cardinality") (cardinality_text cardinality) ∷ [];
+      children = child.Element (bare_element (codes "name") [] (child.Text value ∷ [])) ∷ [];
     }
 
 -- one update of a MAC address, for as long as the session lives

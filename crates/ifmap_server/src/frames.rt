@@ -46,7 +46,7 @@ pub fn header_of(alloc: Global, line: &[u8]) -> Result<Option<Header>, AllocErro
     let Some(size) = size_of(words.size) else {
         return Ok(None);
     };
-    let Some(client) = ClientName::new(Text(String::from_str(alloc, words.client)?)) else {
+    let Some(client) = ClientName::new(Text::from_str(alloc, words.client)?) else {
         return Ok(None);
     };
     Ok(Some(Header {

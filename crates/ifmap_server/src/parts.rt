@@ -43,5 +43,5 @@ pub fn text_of(alloc: Global, part: &[u8]) -> Result<Text, AllocError>
     ensures { IfOk result (λ text. text ≡ part.now) }
 {
     let text = std::str::from_utf8(part).unwrap();
-    Ok(Text(String::from_str(alloc, text)?))
+    Text::from_str(alloc, text)
 }

@@ -11,10 +11,9 @@ ghost use Rattle.ifmap_server.specs.Publications.{address_in, cardinality_in, ca
 
 use crate::ids::is_id;
 use crate::parts::{behind, part_before, text_of};
-use ifmap_elem::{Child, Element, Many, Name, Text};
+use ifmap_elem::{Attribute, Child, Element, Many, Name, Text};
 use ifmap_ident::{Identifier, Item};
 use ifmap_meta::{Cardinality, Metadata};
-use ifmap_msg::building::{self, plain_attribute, plain_element};
 use ifmap_msg::{PublishOp, Request, Search};
 use std::alloc::{AllocError, Global};
 
@@ -151,11 +150,11 @@ fn published_element(
 ) -> Result<Element, AllocError>
     ensures { IfOk result (λ element. element ≡ published_element local cardinality value) }
 {
-    let cardinality = building::text_of(alloc, cardinality_text(cardinality))?;
-    let attribute = plain_attribute(alloc, "ifmap-cardinality", cardinality)?;
+    let cardinality = Text::from_str(alloc, cardinality_text(cardinality))?;
+    let attribute = Attribute::bare(alloc, "ifmap-cardinality", cardinality)?;
     let text = vec![in alloc; Child::Text(value)]?;
-    let child = plain_element(alloc, "name", Vec::new(alloc), text)?;
-    let space = building::text_of(alloc, METADATA_SPACE)?;
+    let child = Element::bare(alloc, "name", Vec::new(alloc), text)?;
+    let space = Text::from_str(alloc, METADATA_SPACE)?;
     Ok(Element {
         name: Name { space, local },
         attributes: Many(vec![in alloc; attribute]?),

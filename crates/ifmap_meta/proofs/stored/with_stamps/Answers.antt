@@ -1,7 +1,7 @@
 use Rattle.std.proofs.Common.{◌≡◌, List, [], ◌∷◌, ◌++◌, codes, ap, ◌∙◌, append_assoc}
 use Rattle.ifmap_elem.specs.Arranged.{sorted}
 use Rattle.ifmap_elem.specs.declared.elements.Attribute.{Attribute}
-use Rattle.ifmap_meta.specs.Attributes.{plain_attribute}
+use Rattle.ifmap_elem.specs.Building.{bare_attribute}
 use Rattle.ifmap_meta.proofs.stored.with_stamps.Goals as goal
 
 -- two more attributes, and then all in order
@@ -11,5 +11,5 @@ in_order_with attributes start more all made b c p q e f g h i j = rw (h, g, f, 
 pub returns : goal.returns
 returns c =
     in_order_with _ _ _ _ _ _ _ _ _ c.attributes.view_is c.in_ok-push.ensures.items c.in_ok-push-2.ensures.items c.put_in_order.ensures
-    (c.in_ok-plain_attribute.ensures ∙ ap (plain_attribute (codes "ifmap-publisher-id")) (c.in_ok-publisher.ensures ∙ c.text.ensures.text))
-    (c.in_ok-plain_attribute-2.ensures ∙ ap (plain_attribute (codes "ifmap-timestamp")) c.in_ok-moment.ensures)
+    (c.in_ok-bare.ensures ∙ ap (bare_attribute (codes "ifmap-publisher-id")) (c.in_ok-publisher.ensures ∙ c.text.ensures.text))
+    (c.in_ok-bare-2.ensures ∙ ap (bare_attribute (codes "ifmap-timestamp")) c.in_ok-moment.ensures)

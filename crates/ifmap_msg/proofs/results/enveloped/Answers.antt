@@ -1,8 +1,7 @@
 use Rattle.std.proofs.Common.{ap, ◌∙◌}
 use Rattle.std.proofs.lemmas.Result.{IfOk-weaker}
 use Rattle.std.specs.Prelude.{codes}
-use Rattle.ifmap_msg.specs.Building.{around}
-use Rattle.ifmap_msg.specs.Replies.{envelope_space}
+use Rattle.ifmap_msg.specs.Replies.{around, envelope_space}
 use Rattle.ifmap_msg.proofs.results.enveloped.Goals as goal
 
 pub returns : goal.returns

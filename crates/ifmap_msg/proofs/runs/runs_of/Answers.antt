@@ -1,4 +1,4 @@
-use Rattle.std.proofs.Common.{[], ◌∷◌, sym, ap, ◌∙◌}
+use Rattle.std.proofs.Common.{sym, ap, ◌∙◌}
 use Rattle.std.specs.Prelude.{reverse}
 use Rattle.ifmap_msg.proofs.Gathering.{onto, onto_last, onto_none}
 use Rattle.ifmap_msg.proofs.runs.runs_of.Goals as goal

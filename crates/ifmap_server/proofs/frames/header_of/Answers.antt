@@ -29,4 +29,4 @@ pub returns-in_default-new-clause-none : goal.returns-in_default-new-clause-none
 returns-in_default-new-clause-none c = λ h is.
     let w = c.in-Some.words in
     let same = (header_shares c.args.line.now w.moment.now w.client.now w.random.now w.size.now c.in-Some.ensures h is).client in
-    false≢true (c.in_default-new.ensures.some.1 (subst (λ (name : List ℕ). IsClientName name) (sym (c.in_ok-from_str.ensures.ok ∙ same)) is.client))
+    false≢true (c.in_default-new.ensures.some.1 (subst (λ (name : List ℕ). IsClientName name) (sym (c.in_ok-from_str.ensures ∙ same)) is.client))
