@@ -1,18 +1,29 @@
 -- Bytes that stand for themselves.
-use Rattle.std.proofs.Common.{◌≡◌, ℕ, ◌+◌, List, ◌++◌, take, drop, ap, sym, ◌∙◌, subst, arith}
-use Rattle.std.proofs.lemmas.List.{take-append-drop, take-take, drop-take}
-use Rattle.std.proofs.lemmas.List.Concat.{flat_map-append}
+use Rattle.std.proofs.Common.{◌≡◌, ℕ, suc, ◌+◌, ◌%◌, ◌^◌, ◌≤◌, Bool, true, false, cond, ◌==◌, List, [], ◌∷◌, ◌++◌, length, map, replicate, w8, refl, sym, ◌∙◌, arith}
+use Rattle.std.proofs.lemmas.Bool.{eqb-true}
+use Rattle.std.proofs.lemmas.Simd.{bitmask_splat, length-chunk, none_from_empty_mask}
+use Rattle.std.specs.Bool.{OnTrue}
+use lib.Lanes.{chunk, mask_l, top, zip2}
 use Rattle.ifmap_elem.specs.declared.escaping.Place.{Place}
-use Rattle.ifmap_elem.specs.Escapes.{escaped, escaped_byte}
+use Rattle.ifmap_elem.specs.Escapes.{ArePlain, Lacks, escaped}
 
-take-add : (a b : ℕ) (bytes : List ℕ) → take (a + b) bytes ≡ take a bytes ++ take b (drop a bytes)
-take-add a b bytes =
-    sym (take-append-drop a (take (a + b) bytes))
-    ∙ (λ i. take-take a (a + b) bytes (omega arith) i ++ drop-take a b bytes i)
+on_true : (b : Bool) (P : Type 0) → (b ≡ true → P) → OnTrue b P
+on_true true P f = f refl
+on_true false P f = tt
 
--- a front that stands for itself, and then another
-pub plain_both : (place : Place) (bytes behind : List ℕ) (a b : ℕ) → escaped place (take a bytes) ≡ take a bytes → behind ≡ drop a bytes → escaped place (take b behind) ≡ take b behind
-    → escaped place (take (a + b) bytes) ≡ take (a + b) bytes
-plain_both place bytes behind a b p is q =
-    let r : escaped place (take b (drop a bytes)) ≡ take b (drop a bytes) = subst (λ l. escaped place (take b l) ≡ take b l) is q in
-    ap (escaped place) (take-add a b bytes) ∙ flat_map-append (escaped_byte place) (take a bytes) (take b (drop a bytes)) ∙ (λ i. p i ++ r i) ∙ sym (take-add a b bytes)
+escaped_plain : (place : Place) (bytes : List ℕ) → ArePlain place bytes 0 (length bytes) → escaped place bytes ≡ bytes
+escaped_plain place [] h = λ i. []
+escaped_plain place (b ∷ bytes) h =
+    let first = h 0 (omega arith) (omega arith) in
+    let rest = escaped_plain place bytes (λ k p q. h (suc k) (omega arith) (omega arith)) in
+    λ i. first i ++ rest i
+
+pub plain_is_escaped : (found : Bool) (place : Place) (bytes : List ℕ) → OnTrue found (ArePlain place bytes 0 (length bytes)) → OnTrue found (escaped place bytes ≡ bytes)
+plain_is_escaped true place bytes h = escaped_plain place bytes h
+plain_is_escaped false place bytes h = tt
+
+-- where no lane of n bytes is equal to a byte, none of the bytes is
+pub lacks_from_lanes : (bytes : List ℕ) (at n byte : ℕ) → at + n ≤ length bytes → n ≤ 64
+    → OnTrue (mask_l (map (top 7) (zip2 (λ a b. cond (a == b) 255 0) (chunk at n bytes) (replicate n byte))) % 2 ^ 64 == 0) (Lacks bytes at (at + n) byte)
+lacks_from_lanes bytes at n byte room few =
+    on_true _ _ (λ e. none_from_empty_mask (λ b. b == byte) bytes at n 0 room (sym (bitmask_splat w8 ◌==◌ (chunk at n bytes) n byte (length-chunk at n bytes room) few) ∙ eqb-true _ 0 e))

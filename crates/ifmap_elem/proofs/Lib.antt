@@ -4,11 +4,13 @@ pub mod CanonicalSpells
 pub mod Cuts
 pub mod FitLaws
 pub mod EscapeLaws
+pub mod Fronting
 pub mod NameBytes
 pub mod NamespaceLaws
 pub mod OneReading
 pub mod OneToken
 pub mod Orders
+pub mod PieceLaws
 pub mod PrintedElements
 pub mod PrintedLaws
 pub mod PrintedParts

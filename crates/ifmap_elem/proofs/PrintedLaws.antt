@@ -1,6 +1,6 @@
 -- What an element is printed as, piece by piece.
-use Rattle.std.proofs.Common.{◌≡◌, ◌≢◌, ℕ, ◌+◌, ◌<◌, ◌≤◌, List, [], ◌∷◌, ◌++◌, map, take, length, get_or, refl, ap, sym, ◌∙◌, Bor, append_assoc, arith}
-use Rattle.std.proofs.lemmas.List.{take_more, take_all, length-take-le, append-nil}
+use Rattle.std.proofs.Common.{◌≡◌, ◌≢◌, ℕ, ◌+◌, ◌<◌, List, [], ◌∷◌, ◌++◌, map, take, length, get_or, refl, ap, sym, ◌∙◌, Bor, append_assoc, arith}
+use Rattle.std.proofs.lemmas.List.{take_more, length-take-le, append-nil}
 use Rattle.std.proofs.lemmas.List.Concat.{flat_map-append}
 use Rattle.std.specs.Prelude.{codes}
 use Rattle.std.specs.List.{flat_map, concat}
@@ -27,7 +27,7 @@ map_map f g [] = refl
 map_map f g (x ∷ xs) = ap (λ l. f (g x) ∷ l) (map_map f g xs)
 
 -- what some writes in a row have written
-two_written : (a b c x y : List ℕ) → b ≡ a ++ x → c ≡ b ++ y → c ≡ a ++ (x ++ y)
+pub two_written : (a b c x y : List ℕ) → b ≡ a ++ x → c ≡ b ++ y → c ≡ a ++ (x ++ y)
 two_written a b c x y p q = q ∙ ap (λ l. l ++ y) p ∙ append_assoc a x y
 
 pub content_written : (g : Child → List ℕ) (children : List Child) (name a b c d e f : List ℕ) → length children ≢ 0 → b ≡ a ++ codes ">" → c ≡ b ++ flat_map g children
@@ -38,21 +38,12 @@ content_written g (child ∷ others) name a b c d e f some p q r s t =
     (two_written b c f (flat_map g (child ∷ others)) _ q (two_written c d f (codes "</") _ r (two_written d e f name (codes ">") s t)))
     ∙ ap (λ l. a ++ (codes ">" ++ (l ++ (codes "</" ++ (name ++ codes ">"))))) (sym (concat_map g (child ∷ others)))
 
-element_is : (prefixes : Rows) (e : Element) → element_bytes prefixes (arranged e)
+pub element_is : (prefixes : Rows) (e : Element) → element_bytes prefixes (arranged e)
     ≡ tagged prefixes [] e.name (sorted e.attributes) (map (λ c. child_bytes prefixes (arranged_child c)) e.children)
 element_is prefixes e =
     ap (element_bytes prefixes) (arranged_is e)
     ∙ at_element (List ℕ) (List ℕ) (child_piece prefixes) (element_piece prefixes) (record { name = e.name; attributes = sorted e.attributes; children = map arranged_child e.children })
     ∙ ap (tagged prefixes [] e.name (sorted e.attributes)) (map_map (child_bytes prefixes) arranged_child e.children)
-
-pub element_written : (prefixes : Rows) (element : Element) (name a b c d e : List ℕ) → name ≡ printed_name prefixes element.name → b ≡ a ++ codes "<" → c ≡ b ++ name
-    → d ≡ c ++ flat_map (attribute_bytes prefixes) (sorted element.attributes)
-    → e ≡ d ++ content_bytes name (map (λ c. child_bytes prefixes (arranged_child c)) element.children)
-    → e ≡ a ++ element_bytes prefixes (arranged element)
-element_written prefixes element name a b c d e named p q r s =
-    two_written a b e (codes "<") _ p (two_written b c e name _ q (two_written c d e _ _ r s))
-    ∙ ap (λ n. a ++ (codes "<" ++ (n ++ (flat_map (attribute_bytes prefixes) (sorted element.attributes) ++ content_bytes n (map (λ c. child_bytes prefixes (arranged_child c)) element.children))))) named
-    ∙ ap (λ l. a ++ l) (sym (element_is prefixes element))
 
 abbrev rooted : Rows → Rows → Element → List ℕ
 rooted prefixes declared e = tagged prefixes declared e.name e.attributes (map (child_bytes prefixes) e.children)
@@ -62,7 +53,7 @@ root_is : (prefixes declared : Rows) (e : Element)
 root_is prefixes declared e =
     ap (rooted prefixes declared) (arranged_is e) ∙ ap (tagged prefixes declared e.name (sorted e.attributes)) (map_map (child_bytes prefixes) arranged_child e.children)
 
-root_printed : (element : Element) (given spaces : List (List ℕ)) (a b c d e f : List ℕ) → spaces ≡ namespaces (arranged element)
+pub root_printed : (element : Element) (given spaces : List (List ℕ)) (a b c d e f : List ℕ) → spaces ≡ namespaces (arranged element)
     → a ≡ codes "<" → b ≡ a ++ printed_name (name_prefixes spaces) element.name
     → c ≡ b ++ flat_map declaration_bytes (prefix_rows (codes "n") 1 spaces) → d ≡ c ++ flat_map declaration_bytes (prefix_rows (codes "f") 1 given)
     → e ≡ d ++ flat_map (attribute_bytes (name_prefixes spaces)) (sorted element.attributes)
@@ -85,16 +76,6 @@ root_printed element given spaces a b c d e f are p q r s t u =
         flat_map (attribute_bytes (name_prefixes spaces)) (sorted element.attributes)
         ++ content_bytes (printed_name (name_prefixes spaces) element.name) (map (λ c. child_bytes (name_prefixes spaces) (arranged_child c)) element.children)
 
-pub root_written : (element : Element) (given spaces : List (List ℕ)) (name a b c d e f : List ℕ) → spaces ≡ namespaces (arranged element)
-    → name ≡ printed_name (name_prefixes spaces) element.name → a ≡ codes "<" → b ≡ a ++ name
-    → c ≡ b ++ flat_map declaration_bytes (prefix_rows (codes "n") 1 spaces) → d ≡ c ++ flat_map declaration_bytes (prefix_rows (codes "f") 1 given)
-    → e ≡ d ++ flat_map (attribute_bytes (name_prefixes spaces)) (sorted element.attributes)
-    → f ≡ e ++ content_bytes name (map (λ c. child_bytes (name_prefixes spaces) (arranged_child c)) element.children)
-    → f ≡ written_bytes element given
-root_written element given spaces name a b c d e f are named p q r s t u =
-    root_printed element given spaces a b c d e f are p (q ∙ ap (λ n. a ++ n) named) r s t
-    (u ∙ ap (λ n. e ++ content_bytes n (map (λ c. child_bytes (name_prefixes spaces) (arranged_child c)) element.children)) named)
-
 -- one more declaration
 pub declarations_more : (letter : List ℕ) (xs : List (List ℕ)) (i : ℕ) (x : List ℕ) → i < length xs → x ≡ get_or xs i x
     → flat_map declaration_bytes (prefix_rows letter 1 (take (i + 1) xs)) ≡ flat_map declaration_bytes (prefix_rows letter 1 (take i xs)) ++ declaration_bytes (x, letter ++ decimal (i + 1))
@@ -107,16 +88,10 @@ declarations_more letter xs i x l is =
     ∙ ap (λ s. flat_map declaration_bytes (prefix_rows letter 1 (take i xs)) ++ s)
     (append-nil (declaration_bytes (get_or xs i x, letter ++ decimal (1 + length (take i xs)))) ∙ (λ j. declaration_bytes (back j, letter ++ decimal (long j))))
 
-referred_attributes : (prefixes : Rows) (rs : List (Bor Attribute))
+pub referred_attributes : (prefixes : Rows) (rs : List (Bor Attribute))
     → flat_map (λ (r : Bor Attribute). attribute_bytes prefixes r.now) rs ≡ flat_map (attribute_bytes prefixes) (map (λ (r : Bor Attribute). r.now) rs)
 referred_attributes prefixes [] = refl
 referred_attributes prefixes (r ∷ rs) = ap (λ l. attribute_bytes prefixes r.now ++ l) (referred_attributes prefixes rs)
-
-pub attributes_written : (prefixes : Rows) (rs ss : List (Bor Attribute)) (attributes : List Attribute) (i : ℕ) (a b : List ℕ) → length rs ≤ i → rs ≡ ss
-    → map (λ (r : Bor Attribute). r.now) ss ≡ attributes → b ≡ a ++ flat_map (λ (r : Bor Attribute). attribute_bytes prefixes r.now) (take i rs)
-    → b ≡ a ++ flat_map (attribute_bytes prefixes) attributes
-attributes_written prefixes rs ss attributes i a b l e f is =
-    is ∙ ap (λ x. a ++ x) (ap (flat_map (λ (r : Bor Attribute). attribute_bytes prefixes r.now)) (take_all i rs l ∙ e) ∙ referred_attributes prefixes ss ∙ ap (flat_map (attribute_bytes prefixes)) f)
 
 pub declared_more : (letter : List ℕ) (xs : List (List ℕ)) (i : ℕ) (x prefix a b c : List ℕ) → i < length xs → x ≡ get_or xs i x → prefix ≡ letter ++ decimal (i + 1)
     → b ≡ a ++ flat_map declaration_bytes (prefix_rows letter 1 (take i xs)) → c ≡ b ++ declaration_bytes (x, prefix)

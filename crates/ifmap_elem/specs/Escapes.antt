@@ -1,5 +1,5 @@
 -- How text and the values of attributes are written in canonical bytes (XML 1.0, section 2.4).
-use Rattle.std.specs.Prelude.{ℕ, List, [], ◌∷◌, cond, ◌==◌, codes}
+use Rattle.std.specs.Prelude.{◌≡◌, ℕ, ◌<◌, ◌≤◌, false, List, [], ◌∷◌, cond, ◌==◌, codes, get_or}
 use Rattle.std.specs.List.{flat_map}
 use Rattle.ifmap_elem.specs.declared.escaping.Place.{Place}
 use Rattle.ifmap_elem.specs.declared.escaping.Place.TheVariants.{Content, Value}
@@ -29,3 +29,11 @@ escaped_byte Value b = value_byte b
 -- bytes as they are written in their place
 abbrev pub escaped : Place → List ℕ → List ℕ
 escaped place bytes = flat_map (escaped_byte place) bytes
+
+-- each byte from one place up to another stands for itself
+abbrev pub ArePlain : Place → List ℕ → ℕ → ℕ → Type 0
+ArePlain place bytes from to = (k : ℕ) → from ≤ k → k < to → escaped_byte place (get_or bytes k 0) ≡ get_or bytes k 0 ∷ []
+
+-- a byte is none of those from one place up to another
+abbrev pub Lacks : List ℕ → ℕ → ℕ → ℕ → Type 0
+Lacks bytes from to byte = (k : ℕ) → from ≤ k → k < to → (get_or bytes k 0 == byte) ≡ false

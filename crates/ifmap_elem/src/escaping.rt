@@ -1,9 +1,10 @@
 //! Text and the values of attributes as they stand in canonical bytes.
-ghost use Rattle.std.specs.Prelude.{◌≡◌, ◌++◌, ◌∷◌, [], ◌≤◌, ◌-◌, take, length, OnOk, IfOk, MatchOption};
-ghost use Rattle.std.specs.Bool.{OnFalse};
-ghost use Rattle.ifmap_elem.specs.Escapes.{escaped_byte, escaped, text_bytes, value_bytes};
+ghost use Rattle.std.specs.Prelude.{◌≡◌, ◌++◌, ◌+◌, ◌∷◌, [], ◌≤◌, length, OnOk, MatchOption};
+ghost use Rattle.std.specs.Bool.{OnTrue};
+ghost use Rattle.ifmap_elem.specs.Escapes.{escaped_byte, escaped, ArePlain, Lacks};
 
 use std::alloc::AllocError as NoMemory;
+use std::simd::prelude::*;
 
 /// Where characters stand that are written.
 #[derive(Clone, Copy)]
@@ -15,122 +16,138 @@ pub(crate) enum Place {
 }
 
 /// Appends bytes as they are written in their place.
+#[inline(always)]
 pub(crate) fn write_escaped(place: Place, bytes: &[u8], out: &mut Vec<u8>) -> Result<(), NoMemory>
+    ensures { OnOk result (out.new.items ≡ out.old.items ++ escaped place bytes.now) }
+{
+    if bytes.len() <= RUN && is_plain(place, bytes) {
+        return out.extend_from_slice(bytes);
+    }
+    write_runs(place, bytes, out)
+}
+
+/// How many bytes are looked at before they are copied.
+const RUN: usize = 256;
+
+#[inline(never)]
+fn write_runs(place: Place, bytes: &[u8], out: &mut Vec<u8>) -> Result<(), NoMemory>
     ensures { OnOk result (out.new.items ≡ out.old.items ++ escaped place bytes.now) }
 {
     let mut rest = bytes;
     while !rest.is_empty() {
-        let (plain, behind) = rest.split_at(plain_len(place, rest));
-        out.extend_from_slice(plain)?;
-        rest = write_first(place, behind, out)?;
+        let (run, behind) = rest.split_at(rest.len().min(RUN));
+        write_run(place, run, out)?;
+        rest = behind;
     }
     Ok(())
 }
 
-/// Appends the first byte, where there is one, and gives the others.
-fn write_first<'a>(place: Place, bytes: &'a [u8], out: &mut Vec<u8>) -> Result<&'a [u8], NoMemory>
-    ensures written { IfOk result (λ rest. out.new.items ++ escaped place rest.now ≡ out.old.items ++ escaped place bytes.now) }
-    ensures shorter { IfOk result (λ rest. length rest.now ≤ length bytes.now - 1) }
+fn write_run(place: Place, bytes: &[u8], out: &mut Vec<u8>) -> Result<(), NoMemory>
+    ensures { OnOk result (out.new.items ≡ out.old.items ++ escaped place bytes.now) }
 {
-    let Some((first, rest)) = bytes.split_first() else {
-        return Ok(bytes);
-    };
-    match escape(place, *first) {
+    if is_plain(place, bytes) {
+        return out.extend_from_slice(bytes);
+    }
+    write_each(place, bytes, out)
+}
+
+fn write_each(place: Place, bytes: &[u8], out: &mut Vec<u8>) -> Result<(), NoMemory>
+    ensures { OnOk result (out.new.items ≡ out.old.items ++ escaped place bytes.now) }
+{
+    for byte in bytes {
+        write_byte(place, *byte, out)?;
+    }
+    Ok(())
+}
+
+fn write_byte(place: Place, byte: u8, out: &mut Vec<u8>) -> Result<(), NoMemory>
+    ensures { OnOk result (out.new.items ≡ out.old.items ++ escaped_byte place byte) }
+{
+    match escape(place, byte) {
         Some(reference) => out.extend_from_slice(reference)?,
-        None => out.push(*first)?,
+        None => out.push(byte)?,
     }
-    Ok(rest)
+    Ok(())
 }
 
-/// How many bytes are looked at together, without a branch for each.
-const BLOCK: usize = 256;
-
-/// How many bytes at the front stand for themselves.
-fn plain_len(place: Place, bytes: &[u8]) -> usize
-    ensures bound { result ≤ length bytes.now }
-    ensures plain { escaped place (take result bytes.now) ≡ take result bytes.now }
+/// Whether each byte stands for itself.
+#[inline(always)]
+fn is_plain(place: Place, bytes: &[u8]) -> bool
+    ensures { OnTrue result (escaped place bytes.now ≡ bytes.now) }
 {
-    let (blocks, behind) = bytes.split_at(plain_blocks(place, bytes));
-    blocks.len() + plain_tail(place, behind)
-}
-
-/// How many bytes behind whole blocks stand for themselves.
-fn plain_tail(place: Place, bytes: &[u8]) -> usize
-    ensures bound { result ≤ length bytes.now }
-    ensures plain { escaped place (take result bytes.now) ≡ take result bytes.now }
-{
-    if bytes.len() < BLOCK && !has_reference(place, bytes) {
-        return bytes.len();
+    if bytes.len() < BLOCK {
+        is_plain_each(place, bytes)
+    } else {
+        is_plain_in_blocks(place, bytes)
     }
-    plain_front(place, bytes)
 }
 
-/// The length of some whole blocks at the front that stand for themselves.
-fn plain_blocks(place: Place, bytes: &[u8]) -> usize
-    ensures bound { result ≤ length bytes.now }
-    ensures plain { escaped place (take result bytes.now) ≡ take result bytes.now }
+#[inline(always)]
+fn is_plain_each(place: Place, bytes: &[u8]) -> bool
+    ensures { OnTrue result (ArePlain place bytes.now 0 (length bytes.now)) }
 {
-    let mut len = 0;
-    while bytes.len() - len >= BLOCK {
-        if has_reference(place, &bytes[len..len + BLOCK]) {
-            return len;
-        }
-        len += BLOCK;
-    }
-    len
-}
-
-fn plain_front(place: Place, bytes: &[u8]) -> usize
-    ensures bound { result ≤ length bytes.now }
-    ensures plain { escaped place (take result bytes.now) ≡ take result bytes.now }
-{
-    for (i, byte) in bytes.iter().enumerate() {
-        if escape(place, *byte).is_some() {
-            return i;
+    for byte in bytes {
+        if !is_plain_byte(place, *byte) {
+            return false;
         }
     }
-    bytes.len()
+    true
 }
 
-/// Whether some byte is written as a reference.
-fn has_reference(place: Place, bytes: &[u8]) -> bool
-    ensures { OnFalse result (escaped place bytes.now ≡ bytes.now) }
+#[inline(always)]
+fn is_plain_byte(place: Place, byte: u8) -> bool
+    ensures { OnTrue result (escaped_byte place byte ≡ byte ∷ []) }
 {
     match place {
-        Place::Content => has_reference_in_content(bytes),
-        Place::Value => has_reference_in_value(bytes),
+        Place::Content => !matches!(byte, b'&' | b'<' | b'>' | b'\r'),
+        Place::Value => !matches!(byte, b'&' | b'<' | b'"' | b'\t' | b'\n' | b'\r'),
     }
 }
 
-// It is not inlined, since it becomes vector code where its length is not known.
-#[inline(never)]
-fn has_reference_in_content(bytes: &[u8]) -> bool
-    ensures { OnFalse result (text_bytes bytes.now ≡ bytes.now) }
+/// How many bytes are looked at together.
+const BLOCK: usize = 16;
+
+/// The last block may overlap the one before.
+#[inline(always)]
+fn is_plain_in_blocks(place: Place, bytes: &[u8]) -> bool
+    requires { BLOCK ≤ length bytes.now }
+    ensures { OnTrue result (ArePlain place bytes.now 0 (length bytes.now)) }
 {
-    let mut found = false;
-    for byte in bytes {
-        let b = *byte;
-        found |= (b == b'&') | (b == b'<') | (b == b'>') | (b == b'\r');
+    let mut at = 0;
+    while bytes.len() - at > BLOCK {
+        if !is_plain_block(place, bytes, at) {
+            return false;
+        }
+        at += BLOCK;
     }
-    found
+    is_plain_block(place, bytes, bytes.len() - BLOCK)
 }
 
-// As above.
-#[inline(never)]
-fn has_reference_in_value(bytes: &[u8]) -> bool
-    ensures { OnFalse result (value_bytes bytes.now ≡ bytes.now) }
+#[inline(always)]
+fn is_plain_block(place: Place, bytes: &[u8], at: usize) -> bool
+    requires { at + BLOCK ≤ length bytes.now }
+    ensures { OnTrue result (ArePlain place bytes.now at (at + BLOCK)) }
 {
-    let mut found = false;
-    for byte in bytes {
-        let b = *byte;
-        found |= (b == b'&')
-            | (b == b'<')
-            | (b == b'"')
-            | (b == b'\t')
-            | (b == b'\n')
-            | (b == b'\r');
+    let lacks_common = lacks(bytes, at, b'&') & lacks(bytes, at, b'<') & lacks(bytes, at, b'\r');
+    match place {
+        Place::Content => lacks_common & lacks(bytes, at, b'>'),
+        Place::Value => {
+            lacks_common
+                & lacks(bytes, at, b'"')
+                & lacks(bytes, at, b'\t')
+                & lacks(bytes, at, b'\n')
+        }
     }
-    found
+}
+
+/// Whether a byte is none of a block.
+#[inline(always)]
+fn lacks(bytes: &[u8], at: usize, byte: u8) -> bool
+    requires { at + BLOCK ≤ length bytes.now }
+    ensures { OnTrue result (Lacks bytes.now at (at + BLOCK) byte) }
+{
+    let block = u8x16::from_slice(&bytes[at..]);
+    block.simd_eq(u8x16::splat(byte)).to_bitmask() == 0
 }
 
 /// The reference that a byte is written as, where it does not stand for itself.

@@ -1,17 +1,13 @@
 //! The prefixes of an element's namespaces, numbered by first occurrence.
-ghost use Rattle.std.specs.Prelude.{◌≡◌, ◌≢◌, ◌↔◌, ◌∷◌, [], ◌++◌, map, IfOk, OnOk, IsTrue, is_some};
+ghost use Rattle.std.specs.Prelude.{◌≡◌, ◌≢◌, ◌↔◌, ◌∷◌, [], ◌++◌, None, IfOk, OnOk, IsTrue, is_some};
 ghost use Rattle.std.specs.Fmt.{decimal};
-ghost use Rattle.std.specs.List.{flat_map};
 ghost use Rattle.std.specs.Map.{lookup};
 ghost use Rattle.std.specs.Option.{option_copied};
 ghost use Rattle.std.specs.Str.{bytes_eq};
-ghost use Rattle.ifmap_elem.specs.Arranged.{arranged, arranged_child, sorted};
-ghost use Rattle.ifmap_elem.specs.Namespaces.{namespaces, spaces_of, spaces_of_child, name_prefixes, AddsSpaces};
+ghost use Rattle.ifmap_elem.specs.Namespaces.{name_prefixes, AddsSpaces};
+ghost use Rattle.ifmap_elem.specs.Pieces.{IsFront, IsNumbered};
 
 use crate::copying::Copied;
-use crate::elements::{Attribute, Child, Element};
-use crate::lists::Many;
-use crate::sorting::{are_sorted, sorted_attributes};
 use crate::texts::Text;
 use std::alloc::{AllocError as NoMemory, Global};
 use std::collections::BTreeMap;
@@ -43,7 +39,7 @@ impl Model for Prefixes {
 }
 
 impl Prefixes {
-    fn new(alloc: Global) -> Result<Prefixes, NoMemory>
+    pub(crate) fn new(alloc: Global) -> Result<Prefixes, NoMemory>
         ensures { IfOk result (λ prefixes. prefixes ≡ []) }
     {
         let mut labels = BTreeMap::new(alloc);
@@ -73,13 +69,17 @@ impl Prefixes {
 
     /// The namespaces, in the order of their numbers.
     pub(crate) fn spaces(&self) -> &[Text]
-        ensures { result.now ≡ self.now }
+        ensures all { result.now ≡ self.now }
+        ensures bare { lookup (bytes_eq []) (name_prefixes self.now) ≡ None }
     {
         &self.order
     }
 
-    fn add(&mut self, alloc: Global, space: &Text) -> Result<(), NoMemory>
-        ensures { OnOk result (AddsSpaces self.old (space.now ∷ []) self.new) }
+    /// Numbers a namespace, unless it has a prefix or is the lack of one.
+    pub(crate) fn add(&mut self, alloc: Global, space: &Text) -> Result<(), NoMemory>
+        ensures added { OnOk result (AddsSpaces self.old (space.now ∷ []) self.new) }
+        ensures behind { OnOk result (IsFront self.old self.new) }
+        ensures numbered { OnOk result (IsNumbered self.new space.now) }
     {
         if is_none(space) || self.knows(space) {
             return Ok(());
@@ -121,77 +121,4 @@ fn is_none(space: &Text) -> bool
     ensures { IsTrue result ↔ (space.now ≡ []) }
 {
     space.0.as_bytes().is_empty()
-}
-
-/// The prefixes of an element's namespaces, by their first occurrence.
-pub(crate) fn prefixes_of(alloc: Global, element: &Element) -> Result<Prefixes, NoMemory>
-    ensures { IfOk result (λ prefixes. prefixes ≡ namespaces (arranged element.now)) }
-{
-    let mut prefixes = Prefixes::new(alloc)?;
-    add_element(alloc, &mut prefixes, element)?;
-    Ok(prefixes)
-}
-
-#[cycle(numbering)]
-fn add_element(alloc: Global, prefixes: &mut Prefixes, element: &Element) -> Result<(), NoMemory>
-    ensures { OnOk result (AddsSpaces prefixes.old (spaces_of (arranged element.now)) prefixes.new) }
-{
-    prefixes.add(alloc, &element.name.space)?;
-    add_attributes(alloc, prefixes, &element.attributes)?;
-    add_children(alloc, prefixes, &element.children)?;
-    Ok(())
-}
-
-#[cycle(numbering)]
-fn add_children(
-    alloc: Global,
-    prefixes: &mut Prefixes,
-    children: &Many<Child>,
-) -> Result<(), NoMemory>
-    ensures { OnOk result (AddsSpaces prefixes.old (flat_map (λ c. spaces_of_child (arranged_child c)) children.now) prefixes.new) }
-{
-    for child in &children.0 {
-        add_child(alloc, prefixes, child)?;
-    }
-    Ok(())
-}
-
-#[cycle(numbering)]
-fn add_child(alloc: Global, prefixes: &mut Prefixes, child: &Child) -> Result<(), NoMemory>
-    ensures { OnOk result (AddsSpaces prefixes.old (spaces_of_child (arranged_child child.now)) prefixes.new) }
-{
-    match child {
-        Child::Element(element) => add_element(alloc, prefixes, element),
-        Child::Text(_) => Ok(()),
-    }
-}
-
-fn add_attributes(
-    alloc: Global,
-    prefixes: &mut Prefixes,
-    attributes: &Many<Attribute>,
-) -> Result<(), NoMemory>
-    ensures { OnOk result (AddsSpaces prefixes.old (map (λ a. a.name.space) (sorted attributes.now)) prefixes.new) }
-{
-    if are_sorted(&attributes.0) {
-        return add_each(alloc, prefixes, &attributes.0);
-    }
-    let order = sorted_attributes(alloc, attributes)?;
-    for attribute in &order {
-        prefixes.add(alloc, &attribute.name.space)?;
-    }
-    Ok(())
-}
-
-fn add_each(
-    alloc: Global,
-    prefixes: &mut Prefixes,
-    attributes: &[Attribute],
-) -> Result<(), NoMemory>
-    ensures { OnOk result (AddsSpaces prefixes.old (map (λ a. a.name.space) attributes.now) prefixes.new) }
-{
-    for attribute in attributes {
-        prefixes.add(alloc, &attribute.name.space)?;
-    }
-    Ok(())
 }

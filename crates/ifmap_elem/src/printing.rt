@@ -1,17 +1,18 @@
 //! Printing: the canonical bytes of an element.
-ghost use Rattle.std.specs.Prelude.{◌≡◌, ◌++◌, ◌+◌, ◌∷◌, [], map, codes, IfOk, OnOk, length};
+ghost use Rattle.std.specs.Prelude.{◌≡◌, ◌++◌, ◌+◌, ◌∷◌, [], map, IfOk, OnOk};
 ghost use Rattle.std.specs.List.{AllByRecursion, flat_map};
 ghost use Rattle.std.specs.Option.{option_copied};
 ghost use Rattle.ifmap_elem.specs.Arranged.{arranged, arranged_child, sorted};
 ghost use Rattle.ifmap_elem.specs.Fit.{IsDeclarable, IsFit};
-ghost use Rattle.ifmap_elem.specs.Namespaces.{name_prefixes, prefix_rows};
+ghost use Rattle.ifmap_elem.specs.Namespaces.{prefix_rows, spaces_of, spaces_of_child};
+ghost use Rattle.ifmap_elem.specs.Pieces.{Adds, IsNumbered};
 ghost use Rattle.ifmap_elem.specs.Spells.{SpelledBy};
-ghost use Rattle.ifmap_elem.specs.Canonical.{AreHeld, canonical_bytes, written_bytes, root_bytes, element_bytes, child_bytes, after_prefix, attribute_bytes, declaration_bytes, content_bytes};
+ghost use Rattle.ifmap_elem.specs.Canonical.{AreHeld, canonical_bytes, written_bytes, printed_name, element_bytes, child_bytes, after_prefix, attribute_bytes, declaration_bytes, content_bytes};
 
-use crate::elements::{Attribute, Child, Element};
+use crate::elements::{Attribute, Child, Element, Name};
 use crate::escaping::{Place, write_escaped};
 use crate::lists::Many;
-use crate::numbering::{Prefixes, numbered_prefix, prefixes_of};
+use crate::numbering::{Prefixes, numbered_prefix};
 use crate::sorting::{are_sorted, sorted_attributes};
 use crate::texts::Text;
 use std::alloc::{AllocError as NoMemory, Global};
@@ -38,70 +39,58 @@ fn printed(alloc: Global, element: &Element, spaces: &[Text]) -> Result<Many<u8>
     ensures bytes { IfOk result (λ bytes. bytes ≡ written_bytes element.now spaces.now) }
     ensures held { IfOk result AreHeld }
 {
-    let prefixes = prefixes_of(alloc, element)?;
-    let mut out = Vec::new(alloc);
-    let prefix = prefixes.of_space(&element.name.space);
-    out.extend_from_slice(b"<")?;
-    write_name(prefix, &element.name.local, &mut out)?;
-    write_declarations(alloc, "n", prefixes.spaces(), &mut out)?;
-    write_declarations(alloc, "f", spaces, &mut out)?;
-    write_attributes(alloc, &prefixes, &element.attributes, &mut out)?;
-    write_content(
-        alloc,
-        &prefixes,
-        prefix,
-        &element.name.local,
-        &element.children,
-        &mut out,
-    )?;
-    Ok(Many(out))
+    let mut prefixes = Prefixes::new(alloc)?;
+    let name = &element.name;
+    prefixes.add(alloc, &name.space)?;
+    let mut inside = Vec::new(alloc);
+    write_attributes(alloc, &mut prefixes, &element.attributes, &mut inside)?;
+    write_content(alloc, &mut prefixes, name, &element.children, &mut inside)?;
+    let mut head = Vec::new(alloc);
+    head.extend_from_slice(b"<")?;
+    write_name(prefixes.of_space(&name.space), &name.local, &mut head)?;
+    write_declarations(alloc, "n", prefixes.spaces(), &mut head)?;
+    write_declarations(alloc, "f", spaces, &mut head)?;
+    drop(inside.splice(0..0, head)?);
+    Ok(Many(inside))
 }
 
 #[cycle(printing)]
 fn write_element(
     alloc: Global,
-    prefixes: &Prefixes,
+    prefixes: &mut Prefixes,
     element: &Element,
     out: &mut Vec<u8>,
 ) -> Result<(), NoMemory>
-    ensures { OnOk result (out.new.items ≡ out.old.items ++ element_bytes (name_prefixes prefixes.now) (arranged element.now)) }
+    ensures { OnOk result (Adds prefixes.old (spaces_of (arranged element.now)) prefixes.new (λ rows. element_bytes rows (arranged element.now)) out.old.items out.new.items) }
 {
-    let prefix = prefixes.of_space(&element.name.space);
     out.extend_from_slice(b"<")?;
-    write_name(prefix, &element.name.local, out)?;
+    write_new_name(alloc, prefixes, &element.name, out)?;
     write_attributes(alloc, prefixes, &element.attributes, out)?;
-    write_content(
-        alloc,
-        prefixes,
-        prefix,
-        &element.name.local,
-        &element.children,
-        out,
-    )?;
+    write_content(alloc, prefixes, &element.name, &element.children, out)?;
     Ok(())
 }
 
-/// What follows the attributes.
+/// What follows the attributes of an element of this name, whose namespace is numbered.
 #[cycle(printing)]
 fn write_content(
     alloc: Global,
-    prefixes: &Prefixes,
-    prefix: Option<&Text>,
-    local: &Text,
+    prefixes: &mut Prefixes,
+    name: &Name,
     children: &Many<Child>,
     out: &mut Vec<u8>,
 ) -> Result<(), NoMemory>
-    ensures { OnOk result (out.new.items ≡ out.old.items ++ content_bytes (after_prefix (option_copied prefix.entry) local.now) (map (λ c. child_bytes (name_prefixes prefixes.now) (arranged_child c)) children.now)) }
+    ensures { OnOk result (IsNumbered prefixes.old name.now.space → Adds prefixes.old (flat_map (λ c. spaces_of_child (arranged_child c)) children.now) prefixes.new (λ rows. content_bytes (printed_name rows name.now) (map (λ c. child_bytes rows (arranged_child c)) children.now)) out.old.items out.new.items) }
 {
     if children.0.is_empty() {
-        return out.extend_from_slice(b"/>");
+        out.extend_from_slice(b"/>")?;
+        return Ok(());
     }
     out.extend_from_slice(b">")?;
     for child in &children.0 {
         write_child(alloc, prefixes, child, out)?;
     }
     out.extend_from_slice(b"</")?;
-    write_name(prefix, local, out)?;
+    write_name(prefixes.of_space(&name.space), &name.local, out)?;
     out.extend_from_slice(b">")?;
     Ok(())
 }
@@ -109,69 +98,91 @@ fn write_content(
 #[cycle(printing)]
 fn write_child(
     alloc: Global,
-    prefixes: &Prefixes,
+    prefixes: &mut Prefixes,
     child: &Child,
     out: &mut Vec<u8>,
 ) -> Result<(), NoMemory>
-    ensures { OnOk result (out.new.items ≡ out.old.items ++ child_bytes (name_prefixes prefixes.now) (arranged_child child.now)) }
+    ensures { OnOk result (Adds prefixes.old (spaces_of_child (arranged_child child.now)) prefixes.new (λ rows. child_bytes rows (arranged_child child.now)) out.old.items out.new.items) }
 {
     match child {
-        Child::Element(element) => write_element(alloc, prefixes, element, out),
-        Child::Text(text) => write_escaped(Place::Content, text.0.as_bytes(), out),
+        Child::Element(element) => {
+            write_element(alloc, prefixes, element, out)?;
+            Ok(())
+        }
+        Child::Text(text) => {
+            write_escaped(Place::Content, text.0.as_bytes(), out)?;
+            Ok(())
+        }
     }
 }
 
 fn write_attributes(
     alloc: Global,
-    prefixes: &Prefixes,
+    prefixes: &mut Prefixes,
     attributes: &Many<Attribute>,
     out: &mut Vec<u8>,
 ) -> Result<(), NoMemory>
-    ensures { OnOk result (out.new.items ≡ out.old.items ++ flat_map (attribute_bytes (name_prefixes prefixes.now)) (sorted attributes.now)) }
+    ensures { OnOk result (Adds prefixes.old (map (λ a. a.name.space) (sorted attributes.now)) prefixes.new (λ rows. flat_map (attribute_bytes rows) (sorted attributes.now)) out.old.items out.new.items) }
 {
     if are_sorted(&attributes.0) {
-        return write_each(prefixes, &attributes.0, out);
+        return write_each(alloc, prefixes, &attributes.0, out);
     }
     let order = sorted_attributes(alloc, attributes)?;
     for attribute in &order {
-        write_attribute(prefixes, *attribute, out)?;
+        write_attribute(alloc, prefixes, *attribute, out)?;
     }
     Ok(())
 }
 
 /// Writes attributes in the order in which they stand.
 fn write_each(
-    prefixes: &Prefixes,
+    alloc: Global,
+    prefixes: &mut Prefixes,
     attributes: &[Attribute],
     out: &mut Vec<u8>,
 ) -> Result<(), NoMemory>
-    ensures { OnOk result (out.new.items ≡ out.old.items ++ flat_map (attribute_bytes (name_prefixes prefixes.now)) attributes.now) }
+    ensures { OnOk result (Adds prefixes.old (map (λ a. a.name.space) attributes.now) prefixes.new (λ rows. flat_map (attribute_bytes rows) attributes.now) out.old.items out.new.items) }
 {
     for attribute in attributes {
-        write_attribute(prefixes, attribute, out)?;
+        write_attribute(alloc, prefixes, attribute, out)?;
     }
     Ok(())
 }
 
+#[inline(always)]
 fn write_attribute(
-    prefixes: &Prefixes,
+    alloc: Global,
+    prefixes: &mut Prefixes,
     attribute: &Attribute,
     out: &mut Vec<u8>,
 ) -> Result<(), NoMemory>
-    ensures { OnOk result (out.new.items ≡ out.old.items ++ attribute_bytes (name_prefixes prefixes.now) attribute.now) }
+    ensures { OnOk result (Adds prefixes.old (attribute.now.name.space ∷ []) prefixes.new (λ rows. attribute_bytes rows attribute.now) out.old.items out.new.items) }
 {
     out.extend_from_slice(b" ")?;
-    write_name(
-        prefixes.of_space(&attribute.name.space),
-        &attribute.name.local,
-        out,
-    )?;
+    write_new_name(alloc, prefixes, &attribute.name, out)?;
     out.extend_from_slice(b"=\"")?;
     write_escaped(Place::Value, attribute.value.0.as_bytes(), out)?;
     out.extend_from_slice(b"\"")?;
     Ok(())
 }
 
+/// Writes a name whose namespace is numbered if it is new.
+#[inline(always)]
+fn write_new_name(
+    alloc: Global,
+    prefixes: &mut Prefixes,
+    name: &Name,
+    out: &mut Vec<u8>,
+) -> Result<(), NoMemory>
+    ensures added { OnOk result (Adds prefixes.old (name.now.space ∷ []) prefixes.new (λ rows. printed_name rows name.now) out.old.items out.new.items) }
+    ensures numbered { OnOk result (IsNumbered prefixes.new name.now.space) }
+{
+    prefixes.add(alloc, &name.space)?;
+    write_name(prefixes.of_space(&name.space), &name.local, out)?;
+    Ok(())
+}
+
+#[inline(always)]
 fn write_name(prefix: Option<&Text>, local: &Text, out: &mut Vec<u8>) -> Result<(), NoMemory>
     ensures { OnOk result (out.new.items ≡ out.old.items ++ after_prefix (option_copied prefix.entry) local.now) }
 {

@@ -1,27 +1,42 @@
-use Rattle.std.proofs.Common.{◌≡◌, ◌++◌, ap, length, ◌∙◌, arith, eq-eqb, vec_len}
+use Rattle.std.proofs.Common.{◌≡◌, ◌∙◌, ap, subst, List, length, get_or, arith, eq-eqb, vec_len}
 use Rattle.std.proofs.lemmas.List.{take_all}
 use Rattle.std.specs.List.{flat_map}
-use Rattle.std.specs.Option.{option_copied}
+use Rattle.ifmap_elem.specs.declared.elements.Child.{Child}
 use Rattle.ifmap_elem.specs.Arranged.{arranged_child}
-use Rattle.ifmap_elem.specs.Canonical.{child_bytes, after_prefix}
-use Rattle.ifmap_elem.specs.Namespaces.{name_prefixes}
-use Rattle.ifmap_elem.proofs.PrintedLaws.{content_written, element_written}
+use Rattle.ifmap_elem.specs.Canonical.{child_bytes}
+use Rattle.ifmap_elem.specs.Namespaces.{spaces_of_child}
+use Rattle.ifmap_elem.specs.Pieces.{Adds}
+use Rattle.ifmap_elem.proofs.PieceLaws.{numbered_later, pieces_next, piece_content, piece_element}
 use Rattle.ifmap_elem.proofs.printing.+printing.Goals as goal
 
+pub write_content-loop-child-preserved : goal.write_content-loop-child-preserved
+write_content-loop-child-preserved t c =
+    pieces_next (λ x. spaces_of_child (arranged_child x)) (λ rows x. child_bytes rows (arranged_child x)) c.args.children.now c.loop-child.child-index c.child-item.result
+    c.args.prefixes.now c.loop-child.prefixes c.write_child.new.prefixes c.extend_from_slice-2.new.self.items c.loop-child.out.items c.write_child.new.out.items
+    (omega (arith, c.loop-child-test.true, ap length c.deref-child-items.ensures.value, ap length c.children.view_is))
+    (c.child-item.is ∙ ap (λ (l : List Child). get_or l c.loop-child.child-index c.child-item.result) (c.deref-child-items.ensures.value ∙ c.children.view_is))
+    c.loop-child.invariant c.in_ok-write_child.ensures
+
 pub write_content-returns : goal.write_content-returns
-write_content-returns t c =
-    content_written (λ x. child_bytes (name_prefixes c.args.prefixes.now) (arranged_child x)) c.args.children.now (after_prefix (option_copied c.args.prefix) c.args.local.now)
-    c.args.out.now.items c.extend_from_slice-2.new.self.items c.loop-child.out.items _ _ _
+write_content-returns t c = λ numbered.
+    piece_content (λ x. spaces_of_child (arranged_child x)) (λ rows x. child_bytes rows (arranged_child x)) c.args.children.now c.args.name.now _
+    c.args.prefixes.now c.loop-child.prefixes c.args.out.now.items c.extend_from_slice-2.new.self.items c.loop-child.out.items
+    c.extend_from_slice-3.new.self.items c.write_name.new.out.items c.extend_from_slice-4.new.self.items
     (λ e.
     let h : vec_len c.children.inside.0 ≡ 0 = omega (arith, e, c.children.inside.0.ok.0, ap length c.children.view_is) in
     let k = eq-eqb (vec_len c.children.inside.0) 0 h in cc)
-    c.in_ok-extend_from_slice.ensures.items
-    (c.loop-child.invariant ∙ ap (λ l. c.extend_from_slice-2.new.self.items ++ flat_map (λ x. child_bytes (name_prefixes c.args.prefixes.now) (arranged_child x)) l)
-    (take_all c.loop-child.child-index c.args.children.now (omega (arith, c.loop-child-test.false, ap length c.deref-child-items.ensures.value, ap length c.children.view_is))))
-    c.in_ok-extend_from_slice-2.ensures.items c.in_ok-write_name.ensures c.in_ok-extend_from_slice-3.ensures.items
+    c.in_ok-extend_from_slice-2.ensures.items
+    (subst (λ (l : List Child). Adds c.args.prefixes.now (flat_map (λ x. spaces_of_child (arranged_child x)) l) c.loop-child.prefixes
+    (λ rows. flat_map (λ x. child_bytes rows (arranged_child x)) l) c.extend_from_slice-2.new.self.items c.loop-child.out.items)
+    (take_all c.loop-child.child-index c.args.children.now (omega (arith, c.loop-child-test.false, ap length c.deref-child-items.ensures.value, ap length c.children.view_is)))
+    c.loop-child.invariant)
+    c.in_ok-extend_from_slice-3.ensures.items (numbered_later c.args.prefixes.now c.loop-child.prefixes c.args.name.now.space c.loop-child.invariant.behind numbered)
+    c.of_space.ensures c.in_ok-write_name.ensures c.in_ok-extend_from_slice-4.ensures.items
 
 pub write_element-returns : goal.write_element-returns
 write_element-returns t c =
-    element_written (name_prefixes c.args.prefixes.now) c.args.element.now _ c.args.out.now.items _ _ _ _
-    (ap (λ p. after_prefix p c.args.element.now.name.local) c.of_space-prefix.ensures) c.in_ok-extend_from_slice.ensures.items
-    c.in_ok-write_name.ensures c.in_ok-write_attributes.ensures c.in_ok-write_content.ensures
+    piece_element c.args.element.now c.args.prefixes.now c.write_new_name.new.prefixes c.write_attributes.new.prefixes c.write_content.new.prefixes
+    c.args.out.now.items c.extend_from_slice.new.self.items c.write_new_name.new.out.items c.write_attributes.new.out.items c.write_content.new.out.items
+    c.in_ok-extend_from_slice.ensures.items c.in_ok-write_new_name.ensures.added c.in_ok-write_attributes.ensures
+    (c.in_ok-write_content.ensures
+    (numbered_later c.write_new_name.new.prefixes c.write_attributes.new.prefixes c.args.element.now.name.space c.in_ok-write_attributes.ensures.behind c.in_ok-write_new_name.ensures.numbered))

@@ -1,6 +1,6 @@
 use Rattle.std.proofs.Common.{◌≡◌, ◌++◌, length}
 use Rattle.ifmap_elem.specs.Escapes.{escaped}
-use Rattle.ifmap_elem.proofs.escaping.write_escaped.Given as goal
+use Rattle.ifmap_elem.proofs.escaping.write_runs.Given as goal
 
 abbrev pub invariant-loop-rest : goal.invariant-loop-rest
 invariant-loop-rest l = l.out.items ++ escaped l.place l.rest ≡ l.initial.out.items ++ escaped l.place l.bytes
