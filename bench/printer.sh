@@ -1,6 +1,7 @@
 #!/bin/sh
 # Times the printer of ifmap_elem against copies of what it prints, in turn, and takes the least of
-# a hundred times of each.
+# a hundred times of each. The lists of the elements take no more room than what they hold, as those
+# of copies do.
 # Run from anywhere: sh bench/printer.sh. It needs `rt`, and builds in a new folder under TMPDIR.
 . "$(dirname "$0")/common.sh"
 prepare printer_bench 'ifmap_elem'
@@ -24,7 +25,7 @@ fn attribute(alloc: Global, local: &str, value: &str) -> Result<Attribute, Alloc
 fn leaf(alloc: Global, space: &str, local: &str, words: &str) -> Result<Element, AllocError> {
     let name = Name::new(alloc, space, local)?;
     let attributes = Many(Vec::new(alloc));
-    let mut members = Vec::new(alloc);
+    let mut members = Vec::with_capacity(alloc, 1)?;
     members.push(Child::Text(Text::from_str(alloc, words)?))?;
     let children = Many(members);
     Ok(Element { name, attributes, children })
@@ -32,11 +33,11 @@ fn leaf(alloc: Global, space: &str, local: &str, words: &str) -> Result<Element,
 
 fn metadata(alloc: Global) -> Result<Element, AllocError> {
     let name = Name::new(alloc, META, "event")?;
-    let mut attributes = Vec::new(alloc);
+    let mut attributes = Vec::with_capacity(alloc, 3)?;
     attributes.push(attribute(alloc, "ifmap-cardinality", "multiValue")?)?;
     attributes.push(attribute(alloc, "ifmap-publisher-id", "pdp-17")?)?;
     attributes.push(attribute(alloc, "ifmap-timestamp", "2026-11-27T01:23:45Z")?)?;
-    let mut members = Vec::new(alloc);
+    let mut members = Vec::with_capacity(alloc, 10)?;
     for local in ["name", "discovered-time", "discoverer-id", "magnitude", "confidence", "significance", "type", "other-type-definition", "information", "vulnerability-uri"] {
         members.push(Child::Element(leaf(alloc, "", local, "some words that a sensor wrote, of sixty bytes or about that")?))?;
     }
@@ -48,7 +49,7 @@ fn metadata(alloc: Global) -> Result<Element, AllocError> {
 fn thousand(alloc: Global) -> Result<Element, AllocError> {
     let name = Name::new(alloc, "http://www.trustedcomputinggroup.org/2010/IFMAP/2", "response")?;
     let attributes = Many(Vec::new(alloc));
-    let mut members = Vec::new(alloc);
+    let mut members = Vec::with_capacity(alloc, 1000)?;
     for _ in 0..1000 {
         members.push(Child::Element(metadata(alloc)?))?;
     }

@@ -43,8 +43,8 @@ impl Prefixes {
         ensures { IfOk result (λ prefixes. prefixes ≡ []) }
     {
         let mut labels = BTreeMap::new(alloc);
-        let space = text(alloc, XML_SPACE)?;
-        let label = text(alloc, "xml")?;
+        let space = Text::from_str(alloc, XML_SPACE)?;
+        let label = Text::from_str(alloc, "xml")?;
         labels.insert(space, label)?;
         let order = Vec::new(alloc);
         Ok(Prefixes { order, labels })
@@ -101,12 +101,6 @@ impl Prefixes {
         self.order.push_reserved(listed);
         Ok(())
     }
-}
-
-fn text(alloc: Global, words: &str) -> Result<Text, NoMemory>
-    ensures { IfOk result (λ made. made ≡ words.now) }
-{
-    Ok(Text(String::from_str(alloc, words)?))
 }
 
 /// The prefix of this letter and number.

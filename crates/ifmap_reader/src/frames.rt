@@ -141,10 +141,15 @@ fn is_blank(text: &[u8]) -> bool
     text.iter().all(|b| *b == b' ' || *b == b'\t' || *b == b'\r' || *b == b'\n')
 }
 
+/// Puts a child behind the others. The first takes room for itself alone, since most elements hold
+/// one text and nothing else.
 fn with_child(children: Many<Child>, child: Child) -> Result<Many<Child>, NoMemory>
     ensures { IfOk result (λ made. made ≡ children ++ child ∷ []) }
 {
     let Many(mut members) = children;
+    if members.is_empty() {
+        members.reserve_exact(1)?;
+    }
     members.push(child)?;
     Ok(Many(members))
 }
