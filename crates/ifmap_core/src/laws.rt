@@ -1,5 +1,5 @@
 //! Laws of the machine, over all its histories.
-ghost use Rattle.std.specs.Prelude.{◌≡◌, ◌≢◌, ◌≤◌, ℕ, All, AllPairs, length};
+ghost use Rattle.std.specs.Prelude.{◌≢◌, ◌≤◌, ℕ, All, AllPairs, length};
 ghost use Rattle.ifmap_core.specs.Legal.{AreNumberedAfter, History, Legal, begun_ids, live_clients, state_after};
 ghost use Rattle.ifmap_core.specs.Lives.{AllLive};
 ghost use Rattle.ifmap_core.specs.State.{opening};

@@ -4,8 +4,8 @@ ghost use Rattle.std.specs.Bool.{OnFalse};
 ghost use Rattle.ifmap_core.specs.Apply.{apply};
 ghost use Rattle.ifmap_core.specs.Causes.{AsksForNoneLeft, FindsTooMuch, IsRefusal, NamesAnothersSession, NamesNoSession};
 ghost use Rattle.ifmap_core.specs.Rows.{attached_all};
-ghost use Rattle.ifmap_core.specs.State.{State, advanced, opening, session_of_client, session_with_id, session_with_serial};
-ghost use Rattle.ifmap_core.specs.Step.{end_session, ended, ended_session, in_session, is_full, new_session, publish, refused, search_answer, step, step_ask};
+ghost use Rattle.ifmap_core.specs.State.{State, advanced, opening, session_with_id};
+ghost use Rattle.ifmap_core.specs.Step.{end_session, in_session, is_full, new_session, publish, refused, search_answer, step, step_ask};
 ghost use Rattle.ifmap_ident.specs.declared.codes.Code.{Code};
 
 use crate::events::{Answer, Ask, Event};

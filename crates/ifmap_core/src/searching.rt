@@ -1,5 +1,5 @@
 //! What a search is answered.
-ghost use Rattle.std.specs.Prelude.{◌≡◌, ◌<◌, ◌^◌, IfOk, map, sum_by};
+ghost use Rattle.std.specs.Prelude.{◌≡◌, ◌<◌, ◌^◌, IfOk, map};
 ghost use Rattle.ifmap_core.specs.Fresh.{entry_of, limit_note, size_of};
 ghost use Rattle.ifmap_core.specs.Step.{search_answer};
 

@@ -5,7 +5,7 @@ use Rattle.std.proofs.lemmas.Simd.{bitmask_splat, length-chunk, none_from_empty_
 use Rattle.std.specs.Bool.{OnTrue}
 use lib.Lanes.{chunk, mask_l, top, zip2}
 use Rattle.ifmap_elem.specs.declared.escaping.Place.{Place}
-use Rattle.ifmap_elem.specs.Escapes.{ArePlain, Lacks, escaped}
+use Rattle.ifmap_elem.specs.Escapes.{ArePlain, LacksByte, escaped}
 
 on_true : (b : Bool) (P : Type 0) → (b ≡ true → P) → OnTrue b P
 on_true true P f = f refl
@@ -24,6 +24,6 @@ plain_is_escaped false place bytes h = tt
 
 -- where no lane of n bytes is equal to a byte, none of the bytes is
 pub lacks_from_lanes : (bytes : List ℕ) (at n byte : ℕ) → at + n ≤ length bytes → n ≤ 64
-    → OnTrue (mask_l (map (top 7) (zip2 (λ a b. cond (a == b) 255 0) (chunk at n bytes) (replicate n byte))) % 2 ^ 64 == 0) (Lacks bytes at (at + n) byte)
+    → OnTrue (mask_l (map (top 7) (zip2 (λ a b. cond (a == b) 255 0) (chunk at n bytes) (replicate n byte))) % 2 ^ 64 == 0) (LacksByte bytes at (at + n) byte)
 lacks_from_lanes bytes at n byte room few =
     on_true _ _ (λ e. none_from_empty_mask (λ b. b == byte) bytes at n 0 room (sym (bitmask_splat w8 ◌==◌ (chunk at n bytes) n byte (length-chunk at n bytes room) few) ∙ eqb-true _ 0 e))

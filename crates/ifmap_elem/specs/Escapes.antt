@@ -35,5 +35,5 @@ abbrev pub ArePlain : Place → List ℕ → ℕ → ℕ → Type 0
 ArePlain place bytes from to = (k : ℕ) → from ≤ k → k < to → escaped_byte place (get_or bytes k 0) ≡ get_or bytes k 0 ∷ []
 
 -- a byte is none of those from one place up to another
-abbrev pub Lacks : List ℕ → ℕ → ℕ → ℕ → Type 0
-Lacks bytes from to byte = (k : ℕ) → from ≤ k → k < to → (get_or bytes k 0 == byte) ≡ false
+abbrev pub LacksByte : List ℕ → ℕ → ℕ → ℕ → Type 0
+LacksByte bytes from to byte = (k : ℕ) → from ≤ k → k < to → (get_or bytes k 0 == byte) ≡ false

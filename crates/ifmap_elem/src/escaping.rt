@@ -1,7 +1,7 @@
 //! Text and the values of attributes as they stand in canonical bytes.
 ghost use Rattle.std.specs.Prelude.{◌≡◌, ◌++◌, ◌+◌, ◌∷◌, [], ◌≤◌, length, OnOk, MatchOption};
 ghost use Rattle.std.specs.Bool.{OnTrue};
-ghost use Rattle.ifmap_elem.specs.Escapes.{escaped_byte, escaped, ArePlain, Lacks};
+ghost use Rattle.ifmap_elem.specs.Escapes.{escaped_byte, escaped, ArePlain, LacksByte};
 
 use std::alloc::AllocError as NoMemory;
 use std::simd::prelude::*;
@@ -20,10 +20,10 @@ pub(crate) enum Place {
 pub(crate) fn write_escaped(place: Place, bytes: &[u8], out: &mut Vec<u8>) -> Result<(), NoMemory>
     ensures { OnOk result (out.new.items ≡ out.old.items ++ escaped place bytes.now) }
 {
-    if bytes.len() <= RUN && is_plain(place, bytes) {
-        return out.extend_from_slice(bytes);
+    if bytes.len() > RUN {
+        return write_runs(place, bytes, out);
     }
-    write_runs(place, bytes, out)
+    write_run(place, bytes, out)
 }
 
 /// How many bytes are looked at before they are copied.
@@ -42,6 +42,7 @@ fn write_runs(place: Place, bytes: &[u8], out: &mut Vec<u8>) -> Result<(), NoMem
     Ok(())
 }
 
+#[inline(always)]
 fn write_run(place: Place, bytes: &[u8], out: &mut Vec<u8>) -> Result<(), NoMemory>
     ensures { OnOk result (out.new.items ≡ out.old.items ++ escaped place bytes.now) }
 {
@@ -51,6 +52,7 @@ fn write_run(place: Place, bytes: &[u8], out: &mut Vec<u8>) -> Result<(), NoMemo
     write_each(place, bytes, out)
 }
 
+#[inline(never)]
 fn write_each(place: Place, bytes: &[u8], out: &mut Vec<u8>) -> Result<(), NoMemory>
     ensures { OnOk result (out.new.items ≡ out.old.items ++ escaped place bytes.now) }
 {
@@ -107,7 +109,7 @@ fn is_plain_byte(place: Place, byte: u8) -> bool
 /// How many bytes are looked at together.
 const BLOCK: usize = 16;
 
-/// The last block may overlap the one before.
+/// As `is_plain`, for one block at least. The last block may overlap the one before.
 #[inline(always)]
 fn is_plain_in_blocks(place: Place, bytes: &[u8]) -> bool
     requires { BLOCK ≤ length bytes.now }
@@ -144,7 +146,7 @@ fn is_plain_block(place: Place, bytes: &[u8], at: usize) -> bool
 #[inline(always)]
 fn lacks(bytes: &[u8], at: usize, byte: u8) -> bool
     requires { at + BLOCK ≤ length bytes.now }
-    ensures { OnTrue result (Lacks bytes.now at (at + BLOCK) byte) }
+    ensures { OnTrue result (LacksByte bytes.now at (at + BLOCK) byte) }
 {
     let block = u8x16::from_slice(&bytes[at..]);
     block.simd_eq(u8x16::splat(byte)).to_bitmask() == 0

@@ -70,7 +70,7 @@ impl Prefixes {
     /// The namespaces, in the order of their numbers.
     pub(crate) fn spaces(&self) -> &[Text]
         ensures all { result.now ≡ self.now }
-        ensures bare { lookup (bytes_eq []) (name_prefixes self.now) ≡ None }
+        ensures none_bare { lookup (bytes_eq []) (name_prefixes self.now) ≡ None }
     {
         &self.order
     }

@@ -3,7 +3,7 @@ ghost use Rattle.std.specs.Prelude.{◌≡◌, ℕ, List};
 ghost use Rattle.std.specs.List.Sorted.{IsPermutation, IsSorted};
 ghost use Rattle.ifmap_elem.specs.declared.elements.Attribute.{Attribute};
 ghost use Rattle.ifmap_elem.specs.declared.elements.Element.{Element};
-ghost use Rattle.ifmap_elem.specs.Arranged.{IsSame, arranged, attribute_order, sorted};
+ghost use Rattle.ifmap_elem.specs.Arranged.{IsSame, attribute_order, sorted};
 ghost use Rattle.ifmap_elem.specs.Canonical.{canonical_bytes, written_bytes};
 
 /// The attributes in order are the attributes, and they rise.

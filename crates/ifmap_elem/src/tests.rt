@@ -164,3 +164,14 @@ fn the_order_of_attributes_is_not_compared(rt: HostRuntime) -> Result<(), Fail> 
     assert!(rt; same(&one, &other));
     Ok(())
 }
+
+#[test]
+fn a_bare_name_is_in_no_namespace(rt: HostRuntime) -> Result<(), Fail> {
+    let alloc = rt.alloc();
+    let bare = Name::bare(alloc, "a")?;
+    let other = Name::new(alloc, "u", "a")?;
+    assert!(rt; bare.is_bare("a"));
+    assert!(rt; !bare.is_bare("b"));
+    assert!(rt; !other.is_bare("a"));
+    Ok(())
+}

@@ -1,5 +1,4 @@
 //! Attachments.
-ghost use Rattle.std.specs.Prelude.{◌≡◌, IfOk};
 
 use ifmap_elem::Copied;
 use ifmap_ident::Item;

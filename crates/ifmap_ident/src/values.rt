@@ -42,7 +42,7 @@ pub(crate) fn value_len(bytes: &[u8]) -> u64
 }
 
 /// What is written for a byte of a value; at its end, the closing quote.
-// The printer copies runs of plain bytes whole: it has a reference, and no piece for each byte.
+// The printer has references only for bytes that need one; here each byte needs what is written for it.
 fn written_byte<'a>(byte: Option<&'a u8>) -> &'a [u8]
     ensures { result.now ≡ written_byte (option_copied byte.entry) }
 {

@@ -1,5 +1,5 @@
 //! The adapters over the system's readers and writers. They tell no bytes, and count each error. Each
-//! call does to its reader or writer what one call of it says.
+//! call makes one call of its reader or writer, and promises what that one promises.
 ghost use Rattle.std.specs.Prelude.{◌≡◌, ◌≤◌, IsErr, MatchResult, None, OnErr, OnOk};
 ghost use Rattle.std.specs.Io.{ReadsAtMost};
 ghost use Rattle.std.specs.Io.KnownBytes.{Appends, Keeps, ReadConsumes};

@@ -1,5 +1,5 @@
 //! The XML declaration.
-ghost use Rattle.std.specs.Prelude.{◌≡◌, ◌↔◌, ℕ, List, codes, IfNone, IfSome, IsTrue};
+ghost use Rattle.std.specs.Prelude.{◌↔◌, ℕ, List, codes, IfNone, IfSome, IsTrue};
 ghost use Rattle.ifmap_elem.specs.Tokens.{TakesDeclaration};
 ghost use Rattle.ifmap_lexer.specs.Settings.{IsEncoding, IsVersion, IsYesOrNo, SetsTo, StartsNoSpace, TakesWhereSet};
 ghost use Rattle.ifmap_elem.specs.Tokens.{TakesSetting};

@@ -16,7 +16,7 @@ pub(crate) enum Kind {
 }
 
 /// The kind of any token that stands at the front.
-pub(crate) fn kind_of(bytes: &[u8]) -> Kind
+pub(crate) fn kind_at(bytes: &[u8]) -> Kind
     ensures { result ≡ kind_at bytes.now }
 {
     match bytes {

@@ -1,5 +1,5 @@
 //! Tags.
-ghost use Rattle.std.specs.Prelude.{◌≡◌, ◌<◌, ◌↔◌, ℕ, List, IfErr, IfOk, IsTrue, length};
+ghost use Rattle.std.specs.Prelude.{◌<◌, ◌↔◌, ℕ, List, IfErr, IfOk, IsTrue, length};
 ghost use Rattle.ifmap_elem.specs.Chars.{AllAre, IsCharacters};
 ghost use Rattle.ifmap_elem.specs.Tokens.{TakesAssignment, TakesTag};
 ghost use Rattle.ifmap_elem.specs.Values.{IsValue};

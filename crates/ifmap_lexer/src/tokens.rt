@@ -1,8 +1,8 @@
 //! Each kind of token by itself.
-ghost use Rattle.std.specs.Prelude.{◌≡◌, List, ℕ, IfErr, IfOk, IfSome, IfNone};
+ghost use Rattle.std.specs.Prelude.{◌≡◌, List, ℕ, IfErr, IfOk};
 ghost use Rattle.std.specs.List.{list_all};
 ghost use Rattle.ifmap_elem.specs.Chars.{is_space};
-ghost use Rattle.ifmap_elem.specs.Tokens.{TakesToken, TakesText};
+ghost use Rattle.ifmap_elem.specs.Tokens.{TakesToken};
 ghost use Rattle.ifmap_elem.specs.declared.tokens.Token.{Token};
 ghost use Rattle.ifmap_lexer.specs.Kinds.{Stands};
 ghost use Rattle.ifmap_lexer.specs.Refusing.{Refuses};
@@ -10,7 +10,7 @@ ghost use Rattle.ifmap_lexer.specs.Refusing.{Refuses};
 use crate::characters::characters;
 use crate::declaration::behind_declaration;
 use crate::errors::LexError;
-use crate::kinds::{Kind, kind_of};
+use crate::kinds::{Kind, kind_at};
 use crate::names::name_of;
 use crate::splitting::{behind_word, has_word, is_white, split_byte, split_space, split_word};
 use crate::tags::tag_of;
@@ -23,7 +23,7 @@ pub(crate) fn first_token(alloc: Global, bytes: &[u8]) -> Result<(Token, &[u8]),
     ensures found { IfOk result (λ f. TakesToken bytes.now f.0 f.1.now) }
     ensures refused { IfErr result (λ e. Refuses e ((t : Token) × (rest : List ℕ) × TakesToken bytes.now t rest)) }
 {
-    match kind_of(bytes) {
+    match kind_at(bytes) {
         Kind::Nothing => Err(LexError::Malformed),
         Kind::Text => text(alloc, bytes),
         Kind::Declaration => declaration(bytes),

@@ -1,7 +1,7 @@
 //! Written text and written values as what they mean.
 ghost use Rattle.std.specs.Prelude.{◌≡◌, ◌<◌, ◌++◌, [], ◌∷◌, ◌≤◌, ℕ, List, IfErr, IfOk, OnOk, length, map, string_bytes};
-ghost use Rattle.ifmap_elem.specs.Chars.{AllAre, IsCharacters};
-ghost use Rattle.ifmap_elem.specs.Values.{Expands, IsValue, Plain, as_space, line_ends};
+ghost use Rattle.ifmap_elem.specs.Chars.{AllAre};
+ghost use Rattle.ifmap_elem.specs.Values.{Expands, Plain, as_space, line_ends};
 ghost use Rattle.ifmap_lexer.specs.Cutting.{is_but};
 ghost use Rattle.ifmap_lexer.specs.Refusing.{Refuses};
 ghost use Rattle.ifmap_lexer.specs.Runs.{break_in, line_in, part_in};

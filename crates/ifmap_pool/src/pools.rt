@@ -93,8 +93,8 @@ impl<K: Ord> Pool<K> {
     }
 
     /// Holds the key once more, and gives its number. A key that is not held yet moves in; of one that
-    /// is, the pool keeps the key that it has. It takes no memory, and needs room for the key, or that
-    /// it is held, fewer than 2^64 - 1 times.
+    /// is, the pool keeps the key that it has. It takes no memory. It needs room for a key that is not
+    /// held; one that is must be held fewer than 2^64 - 1 times.
     pub fn hold(&mut self, key: K) -> u64
     where
         K: Drop,

@@ -15,11 +15,11 @@ use Rattle.ifmap_elem.proofs.OneReading.{one_reading}
 use Rattle.ifmap_reader.proofs.FitElements.{spelled_fits}
 use Rattle.ifmap_reader.specs.declared.errors.ReadError.{ReadError}
 use Rattle.ifmap_reader.specs.declared.errors.ReadError.TheVariants.{Unreadable, TooDeep, NoMemory}
-use Rattle.ifmap_reader.specs.Reads.{GivesRoot, IsRead, OnTooDeep, OnUnreadable}
+use Rattle.ifmap_reader.specs.Reads.{GivesRoot, IsRead, OnTooDeep, OnUnreadable, UnlessDeep}
 
 module _ (bytes : List ℕ) (depth : ℕ) where
   pub found : (a : Result Reading ReadError) → IsRead bytes depth a → IfOk a (λ r. Spells bytes r × (nesting r.root ≤ depth))
-  found (Ok r) h = h
+  found (Ok r) h = (h.0, h.1)
   found (Err (Unreadable at)) h = tt
   found (Err (TooDeep at)) h = tt
   found (Err NoMemory) h = tt
@@ -42,8 +42,8 @@ module _ (bytes : List ℕ) (depth : ℕ) where
   stop (Err (TooDeep at)) h = tt
   stop (Err NoMemory) h = tt
 
-  pub shallow : (a : Result Reading ReadError) → IsRead bytes depth a → OnUnreadable a (λ at. (place : ℕ) → Deep bytes depth place → ⊥)
-  shallow (Ok r) h = tt
+  pub shallow : (a : Result Reading ReadError) → IsRead bytes depth a → UnlessDeep a ((place : ℕ) → Deep bytes depth place → ⊥)
+  shallow (Ok r) h = h.2
   shallow (Err (Unreadable at)) h = h.shallow
   shallow (Err (TooDeep at)) h = tt
   shallow (Err NoMemory) h = tt

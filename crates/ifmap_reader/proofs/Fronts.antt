@@ -42,7 +42,7 @@ begins_front ts u us b = record {
 
 module _ (bytes : List ℕ) where
   -- where shallow tokens stop, no tag opens a level too many
-  not_deep : (depth at place : ℕ) (s : Stop bytes at) → Shallow depth s.tokens → Deep bytes depth place → ⊥
+  pub not_deep : (depth at place : ℕ) (s : Stop bytes at) → Shallow depth s.tokens → Deep bytes depth place → ⊥
   not_deep depth at place s shallow d =
       elim (one_front (without_mark bytes) s.tokens (d.tokens ++ d.tag ∷ []) s.rest d.behind s.reaches.lexed (to_last TakesToken (without_mark bytes) d.tokens d.rest d.tag d.behind d.lexed d.taken)) [
         | inl h ↦ beyond h.0 h.1 h.2

@@ -7,7 +7,7 @@ use Rattle.ifmap_sequences.specs.Items.{To, to_last, IsOnly, Ahead, ahead_at_sta
 use Rattle.ifmap_elem.specs.declared.readings.Reading.{Reading}
 use Rattle.ifmap_elem.specs.declared.tokens.Token.{Token}
 use Rattle.ifmap_elem.specs.Document.{IsDocument}
-use Rattle.ifmap_elem.specs.Places.{BeginsDocument, Opens, is_start, is_end, open_after, offset}
+use Rattle.ifmap_elem.specs.Places.{BeginsDocument, Deep, Opens, Stop, is_start, is_end, open_after, offset}
 use Rattle.ifmap_elem.specs.Spells.{Spells, without_mark}
 use Rattle.ifmap_elem.specs.Tokens.{TakesToken}
 use Rattle.ifmap_elem.proofs.OneToken.{no_token}
@@ -23,7 +23,7 @@ use Rattle.ifmap_reader.specs.Reads.{IsUnreadable, IsTooDeep, IsRead, lex_error,
 use Rattle.ifmap_reader.proofs.Goings.{no_tokens, no_tokens_start, behind_ends}
 use Rattle.ifmap_reader.proofs.Levels.{goes_deep}
 use Rattle.ifmap_reader.proofs.Ways.{some_way}
-use Rattle.ifmap_reader.proofs.Fronts.{Shallow, unreadable}
+use Rattle.ifmap_reader.proofs.Fronts.{Shallow, not_deep, unreadable}
 
 -- where a reader is: the tokens so far, what they make of any document, and what any spelling goes on with
 pub record At (bytes : List ℕ) (depth : ℕ) (w : Where) (rest : List ℕ) : Type 0 where
@@ -182,13 +182,14 @@ module _ (bytes : List ℕ) (depth : ℕ) (w : Where) (rest : List ℕ) (at : At
         let x = (at.goes a.0 r).0 (subst (λ (us : List Token). IsDocument us r) a.1 s.document) in
         subst (λ (us : List Token). GoesOn w us r) (no_more a.0 a.2) x
 
+    abbrev stopped : (place : ℕ) → place ≡ offset bytes rest → Stop bytes place
+    stopped place is = record { tokens = at.so_far; rest = rest; reaches = record { lexed = at.lexed; allowed = begins }; no_further = λ t after h b. no_token rest t after end h; at_is = is }
+
     pub ended_early : ((r : Reading) → GoesOn w [] r → ⊥) → (place : ℕ) → place ≡ offset bytes rest → place ≤ length bytes → IsUnreadable bytes depth place
-    ended_early none place is within =
-        unreadable bytes depth place
-        (record { tokens = at.so_far; rest = rest; reaches = record { lexed = at.lexed; allowed = begins }; no_further = λ t after h b. no_token rest t after end h; at_is = is })
-        at.shallow
-        (λ r s. none r (spelled_so_far r s))
-        within
+    ended_early none place is within = unreadable bytes depth place (stopped place is) at.shallow (λ r s. none r (spelled_so_far r s)) within
+
+    pub none_deep : (end_at place : ℕ) → end_at ≡ offset bytes rest → Deep bytes depth place → ⊥
+    none_deep end_at place is d = not_deep bytes depth end_at place (stopped end_at is) at.shallow d
 
     pub whole : (r : Reading) → GoesOn w [] r → Spells bytes r
     whole r x = record {
@@ -263,4 +264,4 @@ end_read bytes depth s place result at within end made = subst (λ (a : Result R
     by : (s : Standing) → At bytes depth (where_is s) (drop place bytes) → IsRead bytes depth (read_at_end s place)
     by standing.Start a = ended_early bytes depth AtStart (drop place bytes) a none_left no_tokens_start place (here AtStart a) within
     by (standing.Open frames) a = ended_early bytes depth (Among (reverse frames)) (drop place bytes) a none_left (no_tokens (reverse frames)) place (here (Among (reverse frames)) a) within
-    by (standing.Done r) a = (whole bytes depth (Behind r) (drop place bytes) a none_left r (behind_ends r), a.fits)
+    by (standing.Done r) a = (whole bytes depth (Behind r) (drop place bytes) a none_left r (behind_ends r), a.fits, λ deep d. none_deep bytes depth (Behind r) (drop place bytes) a none_left place deep (here (Behind r) a) d)

@@ -28,6 +28,13 @@ OnTooDeep (Err (Unreadable at)) P = Unit {0}
 OnTooDeep (Err (TooDeep at)) P = P at
 OnTooDeep (Err NoMemory) P = Unit {0}
 
+-- unless elements nest too deep, or memory ran out
+abbrev pub UnlessDeep : Result Reading ReadError → Type 0 → Type 0
+UnlessDeep (Ok r) P = P
+UnlessDeep (Err (Unreadable at)) P = P
+UnlessDeep (Err (TooDeep at)) P = Unit {0}
+UnlessDeep (Err NoMemory) P = Unit {0}
+
 -- an element like this is the root, or memory ran out
 abbrev pub GivesRoot : Result Reading ReadError → Element → Type 0
 GivesRoot (Ok r) e = r.root ≡ e
@@ -50,7 +57,7 @@ pub record IsTooDeep (bytes : List ℕ) (depth at : ℕ) : Type 0 where
 
 -- the answer to the bytes
 abbrev pub IsRead : List ℕ → ℕ → Result Reading ReadError → Type 0
-IsRead bytes depth (Ok r) = Spells bytes r × (nesting r.root ≤ depth)
+IsRead bytes depth (Ok r) = Spells bytes r × (nesting r.root ≤ depth) × ((place : ℕ) → Deep bytes depth place → ⊥)
 IsRead bytes depth (Err (Unreadable at)) = IsUnreadable bytes depth at
 IsRead bytes depth (Err (TooDeep at)) = IsTooDeep bytes depth at
 IsRead bytes depth (Err NoMemory) = Unit {0}

@@ -1,7 +1,7 @@
 //! The bindings of prefixes that one tag makes.
-ghost use Rattle.std.specs.Prelude.{◌≡◌, ◌↔◌, ◌∷◌, [], ◌++◌, codes, IfOk, IsTrue, None};
+ghost use Rattle.std.specs.Prelude.{◌≡◌, ◌↔◌, ◌∷◌, [], ◌++◌, IfOk, IsTrue, None};
 ghost use Rattle.std.specs.Option.{option_copied};
-ghost use Rattle.ifmap_elem.specs.Scopes.{Binding, IsBinding, binding_of, bound, xml_space, xmlns_space};
+ghost use Rattle.ifmap_elem.specs.Scopes.{Binding, IsBinding, binding_of, bound};
 ghost use Rattle.ifmap_elem.specs.Document.{declared_here};
 ghost use Rattle.ifmap_reader.specs.Opening.{Binds, IsBound, told};
 

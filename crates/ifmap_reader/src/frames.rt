@@ -1,5 +1,5 @@
 //! The elements that are open.
-ghost use Rattle.std.specs.Prelude.{◌≡◌, ◌↔◌, ◌∷◌, [], ◌++◌, length, map, IfOk, IsTrue};
+ghost use Rattle.std.specs.Prelude.{◌≡◌, ◌↔◌, ◌∷◌, [], ◌++◌, map, IfOk, IsTrue};
 ghost use Rattle.std.specs.List.{list_all};
 ghost use Rattle.ifmap_elem.specs.Chars.{is_space};
 ghost use Rattle.ifmap_elem.specs.Document.{from_above};

@@ -6,7 +6,7 @@ ghost use Rattle.ifmap_elem.specs.Fit.{IsFit};
 ghost use Rattle.ifmap_elem.specs.Places.{Deep, Stop};
 ghost use Rattle.ifmap_elem.specs.Spells.{Spells};
 
-/// A list of bytes stops at one place to be the beginning of a document.
+/// There is at most one place where bytes cease to begin a document.
 pub fn bytes_stop_at_one_place()
     ensures { (bytes : List ℕ) (one other : ℕ) → Stop bytes one → Stop bytes other → one ≡ other }
 {}

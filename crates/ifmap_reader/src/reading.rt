@@ -8,7 +8,7 @@ ghost use Rattle.ifmap_elem.specs.Fit.{IsFit};
 ghost use Rattle.ifmap_elem.specs.Nesting.{nesting};
 ghost use Rattle.ifmap_elem.specs.Places.{Deep, Stop};
 ghost use Rattle.ifmap_elem.specs.Spells.{Spells, without_mark};
-ghost use Rattle.ifmap_reader.specs.Reads.{GivesRoot, IsRead, OnTooDeep, OnUnreadable, lex_error, read_at_end, step_error};
+ghost use Rattle.ifmap_reader.specs.Reads.{GivesRoot, IsRead, lex_error, OnTooDeep, OnUnreadable, read_at_end, step_error, UnlessDeep};
 
 use crate::errors::{ReadError, Refusal};
 use crate::standing::{Standing, step};
@@ -26,7 +26,7 @@ pub fn read(alloc: Global, bytes: &[u8], depth: u32) -> Result<Reading, ReadErro
     ensures unreadable { OnUnreadable result (λ at. (r : Reading) → Spells bytes.now r → ⊥) }
     ensures too_deep { OnTooDeep result (λ at. (r : Reading) → Spells bytes.now r → depth < nesting r.root) }
     ensures stop { OnUnreadable result (λ at. Stop bytes.now at) }
-    ensures shallow { OnUnreadable result (λ at. (place : ℕ) → Deep bytes.now depth place → ⊥) }
+    ensures shallow { UnlessDeep result ((place : ℕ) → Deep bytes.now depth place → ⊥) }
     ensures deep { OnTooDeep result (λ at. Deep bytes.now depth at) }
     ensures unreadable_within { OnUnreadable result (λ at. at ≤ length bytes.now) }
     ensures too_deep_within { OnTooDeep result (λ at. at ≤ length bytes.now) }

@@ -1,10 +1,9 @@
 //! Replays: the frames of a source, answered one after another.
-ghost use Rattle.std.specs.Prelude.{◌≡◌, ◌≢◌, ℕ, ◌+◌, ◌≤◌, List, [], ◌++◌, length, IfErr, IfOk, IfSome, None, OnErr, OnOk, Some};
+ghost use Rattle.std.specs.Prelude.{◌≡◌, ◌≢◌, ◌+◌, ◌≤◌, [], ◌++◌, length, IfErr, IfOk, IfSome, None, OnErr, OnOk, Some};
 ghost use Rattle.std.specs.Io.KnownBytes.{Appends, IsAtEnd, Keeps};
 ghost use Rattle.ifmap_io.specs.Causes.{HasCause, Rose};
 ghost use Rattle.ifmap_io.specs.Written.{WritesAll};
 ghost use Rattle.ifmap_server.specs.declared.frames.Header.{Header};
-ghost use Rattle.ifmap_server.specs.Frames.{IsHeader};
 ghost use Rattle.ifmap_server.specs.Output.{AppendsPrefix, answered, fault_line};
 ghost use Rattle.ifmap_server.specs.Pending.{Takes};
 ghost use Rattle.ifmap_server.specs.Replayed.{AnswersAll, AnswersPart, AnswersTaken, AnswersUpToFault};

@@ -107,22 +107,10 @@ fn bodies_beside_the_forms_mean_nothing(rt: HostRuntime) -> Result<(), Fail> {
     Ok(())
 }
 
-fn text(alloc: Global, text: &str) -> Result<Text, Fail> {
-    Ok(Text(String::from_str(alloc, text)?))
-}
-
-fn name(alloc: Global, space: &str, local: &str) -> Result<Name, Fail> {
-    Ok(Name {
-        space: text(alloc, space)?,
-        local: text(alloc, local)?,
-    })
-}
-
 // The one attribute of an element, in no namespace.
 fn attribute(alloc: Global, local: &str, value: &str) -> Result<Vec<Attribute>, Fail> {
-    let name = name(alloc, "", local)?;
-    let value = text(alloc, value)?;
-    Ok(Vec::from_array(alloc, [Attribute { name, value }])?)
+    let value = Text::from_str(alloc, value)?;
+    Ok(Vec::from_array(alloc, [Attribute::bare(alloc, local, value)?])?)
 }
 
 // The one child of an element.
@@ -138,7 +126,7 @@ fn element(
     children: Vec<Child>,
 ) -> Result<Element, Fail> {
     Ok(Element {
-        name: name(alloc, space, local)?,
+        name: Name::new(alloc, space, local)?,
         attributes: Many(attributes),
         children: Many(children),
     })
@@ -150,7 +138,7 @@ fn address(alloc: Global) -> Result<Element, Fail> {
 }
 
 fn role(alloc: Global) -> Result<Element, Fail> {
-    let text = Vec::from_array(alloc, [Child::Text(text(alloc, "r")?)])?;
+    let text = Vec::from_array(alloc, [Child::Text(Text::from_str(alloc, "r")?)])?;
     let name = element(alloc, "", "name", Vec::new(alloc), text)?;
     let cardinality = attribute(alloc, "ifmap-cardinality", "multiValue")?;
     element(alloc, METADATA, "role", cardinality, child(alloc, name)?)

@@ -14,5 +14,5 @@ returns-clause-bytes c =
     c.in_ok-prefixes.ensures c.in_ok-add.ensures.added c.new-inside.ensures.items c.in_ok-write_attributes.ensures
     (c.in_ok-write_content.ensures
     (numbered_later c.add.new.self c.write_attributes.new.prefixes c.args.element.now.name.space c.in_ok-write_attributes.ensures.behind c.in_ok-add.ensures.numbered))
-    c.spaces.ensures.bare c.of_space.ensures c.spaces.ensures.all refl c.new-head.ensures.items c.in_ok-extend_from_slice.ensures.items
+    c.spaces.ensures.none_bare c.of_space.ensures c.spaces.ensures.all refl c.new-head.ensures.items c.in_ok-extend_from_slice.ensures.items
     c.in_ok-write_name.ensures c.in_ok-write_declarations.ensures c.in_ok-write_declarations-2.ensures (put.4 ∙ ap (λ l. l ++ c.write_content.new.out.items) front)
