@@ -14,7 +14,7 @@ use Rattle.std.specs.declared.cmp.Ordering.{Ordering}
 use Rattle.std.specs.declared.cmp.Ordering.TheVariants.{Less, Equal, Greater}
 use Rattle.ifmap_elem.specs.declared.elements.Attribute.{Attribute}
 use Rattle.ifmap_elem.specs.Arranged.{attribute_order, name_order, sorted}
-use Rattle.ifmap_elem.specs.Occurrences.{attribute_eq, occurrences_of}
+use Rattle.ifmap_elem.specs.printer.Occurrences.{attribute_eq, occurrences_of}
 use Rattle.std.specs.List.Sorted.{IsPermutation, IsSorted}
 use Rattle.std.proofs.lemmas.List.Sorted.{IsPermutation-map, IsPermutation-refl}
 use Rattle.std.proofs.lemmas.List.{get_or-map, length-map}

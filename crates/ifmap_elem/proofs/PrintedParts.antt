@@ -8,7 +8,7 @@ use Rattle.std.proofs.lemmas.List.{append-nil}
 use Rattle.std.proofs.lemmas.List.Concat.{flat_map-append}
 use Rattle.std.proofs.lemmas.List.Elements.{recursion_from_All, All-from_get_or}
 use Rattle.std.proofs.lemmas.Str.{encode_ascii, encodes-append, inside_one}
-use Rattle.ifmap_sequences.specs.Items.{To}
+use Rattle.ifmap_lemmas.specs.Items.{To}
 use Rattle.ifmap_elem.specs.Chars.{AllAre, IsCharacters, is_character}
 use Rattle.ifmap_elem.specs.Escapes.{text_byte, value_byte, text_bytes, value_bytes}
 use Rattle.ifmap_elem.specs.Tokens.{Lacks}

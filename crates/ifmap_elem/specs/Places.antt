@@ -1,6 +1,6 @@
 -- Where a list of bytes stops to be the beginning of a document, and where it nests too deep.
 use Rattle.std.specs.Prelude.{◌≡◌, ℕ, ◌-◌, ◌<◌, Bool, true, false, List, [], ◌∷◌, ◌++◌, length, count_by}
-use Rattle.ifmap_sequences.specs.Items.{To}
+use Rattle.ifmap_lemmas.specs.Items.{To}
 use Rattle.ifmap_elem.specs.declared.readings.Reading.{Reading}
 use Rattle.ifmap_elem.specs.Document.{IsDocument}
 use Rattle.ifmap_elem.specs.Spells.{without_mark}

@@ -3,7 +3,7 @@ ghost use Rattle.std.specs.Prelude.{◌≡◌, ◌↔◌, IsTrue, map};
 ghost use Rattle.ifmap_elem.specs.Arranged.{IsSame, arranged, arranged_child, sorted};
 ghost use Rattle.ifmap_elem.specs.Canonical.{AreHeld, canonical_bytes};
 ghost use Rattle.ifmap_elem.specs.Fit.{IsFit};
-ghost use Rattle.ifmap_elem.specs.Occurrences.{occurrences_of};
+ghost use Rattle.ifmap_elem.specs.printer.Occurrences.{occurrences_of};
 
 use crate::elements::{Attribute, Child, Element};
 use crate::equality::Equals;

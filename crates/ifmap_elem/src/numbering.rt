@@ -5,7 +5,7 @@ ghost use Rattle.std.specs.Map.{lookup};
 ghost use Rattle.std.specs.Option.{option_copied};
 ghost use Rattle.std.specs.Str.{bytes_eq};
 ghost use Rattle.ifmap_elem.specs.Namespaces.{name_prefixes, AddsSpaces};
-ghost use Rattle.ifmap_elem.specs.Pieces.{IsFront, IsNumbered};
+ghost use Rattle.ifmap_elem.specs.printer.Pieces.{IsFront, IsNumbered};
 
 use crate::copying::Copied;
 use crate::texts::Text;

@@ -5,7 +5,7 @@ ghost use Rattle.std.specs.Option.{option_copied};
 ghost use Rattle.ifmap_elem.specs.Arranged.{arranged, arranged_child, sorted};
 ghost use Rattle.ifmap_elem.specs.Fit.{IsDeclarable, IsFit};
 ghost use Rattle.ifmap_elem.specs.Namespaces.{prefix_rows, spaces_of, spaces_of_child};
-ghost use Rattle.ifmap_elem.specs.Pieces.{Adds, IsNumbered};
+ghost use Rattle.ifmap_elem.specs.printer.Pieces.{Adds, IsNumbered};
 ghost use Rattle.ifmap_elem.specs.Spells.{SpelledBy};
 ghost use Rattle.ifmap_elem.specs.Canonical.{AreHeld, canonical_bytes, written_bytes, printed_name, element_bytes, child_bytes, after_prefix, attribute_bytes, declaration_bytes, content_bytes};
 

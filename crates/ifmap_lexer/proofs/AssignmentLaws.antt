@@ -2,7 +2,7 @@
 use Rattle.std.proofs.Common.{◌≡◌, ◌≢◌, ℕ, ◌<◌, Bool, true, false, List, [], ◌∷◌, ◌++◌, length, refl, ap, sym, ◌∙◌, subst, arith, length-append, inl, inr}
 use Rattle.std.specs.Prelude.{◌==◌}
 use Rattle.std.proofs.lemmas.Bool.{or_cases}
-use Rattle.ifmap_sequences.specs.Items.{To, to_last}
+use Rattle.ifmap_lemmas.specs.Items.{To, to_last}
 use Rattle.ifmap_elem.specs.Chars.{AllAre, IsCharacters, is_space}
 use Rattle.ifmap_elem.specs.Names.{IsQualified, name_bytes}
 use Rattle.ifmap_elem.specs.Tokens.{TakesAssignment, TakesQuoted, TakesTag}

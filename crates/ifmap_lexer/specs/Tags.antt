@@ -1,6 +1,6 @@
 -- The assignments of a tag, up to its end.
 use Rattle.std.specs.Prelude.{◌≡◌, ℕ, true, ◌==◌, ◌||◌, List, [], ◌∷◌, ◌++◌}
-use Rattle.ifmap_sequences.specs.Items.{To}
+use Rattle.ifmap_lemmas.specs.Items.{To}
 use Rattle.ifmap_elem.specs.Chars.{IsSpace}
 use Rattle.ifmap_elem.specs.declared.tokens.Assignment.{Assignment}
 use Rattle.ifmap_elem.specs.Tokens.{TakesAssignment}

@@ -9,7 +9,7 @@ use Rattle.std.specs.List.Sorted.{IsPermutation, IsSorted}
 use Rattle.std.specs.Ordering.{is_lt}
 use Rattle.std.specs.Prelude.{count_by}
 use Rattle.ifmap_elem.specs.Arranged.{attribute_order, sorted}
-use Rattle.ifmap_elem.specs.Occurrences.{attribute_eq}
+use Rattle.ifmap_elem.specs.printer.Occurrences.{attribute_eq}
 use Rattle.ifmap_elem.specs.declared.elements.Attribute.{Attribute}
 use Rattle.ifmap_elem.proofs.Attributes.{attribute_ranks, attributes_total, eq_itself, eq_tells, rising_is_sorted, sorted_permutation, sorted_rises}
 use Rattle.ifmap_elem.proofs.Orders.{in_order_same}

@@ -10,7 +10,7 @@ use Rattle.std.proofs.lemmas.Bool.Decides.{nat_tests}
 use Rattle.std.proofs.lemmas.List.{append-nil, map-append}
 use Rattle.std.proofs.lemmas.List.Elements.{recursion_from_All, All-from_get_or}
 use Rattle.std.proofs.lemmas.Str.{encode_ascii, encode_same, encodes-append, inside_one}
-use Rattle.ifmap_sequences.specs.Items.{To}
+use Rattle.ifmap_lemmas.specs.Items.{To}
 use Rattle.ifmap_elem.specs.Chars.{AllAre, IsCharacters, is_character}
 use Rattle.ifmap_elem.specs.Values.{Part, Plain, Reference, TakesPart, EndsRun, Expands, IsText, IsValue, as_space, begins_with, line_ends, numbered, referred, text_part, value_part}
 use Rattle.ifmap_elem.proofs.Cuts.{Stops, all_append, cut, is_number, is_other}

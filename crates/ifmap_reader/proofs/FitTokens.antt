@@ -1,7 +1,7 @@
 -- Tokens that stand in bytes: their names have name parts, and their texts and values are characters.
 use Rattle.std.proofs.Common.{ℕ, List, [], ◌∷◌, ◌++◌, sym, subst}
 use Rattle.std.specs.List.{AllByRecursion}
-use Rattle.ifmap_sequences.specs.Items.{To}
+use Rattle.ifmap_lemmas.specs.Items.{To}
 use Rattle.ifmap_elem.specs.Chars.{IsCharacters}
 use Rattle.ifmap_elem.specs.Names.{IsQualified}
 use Rattle.ifmap_elem.specs.Tokens.{TakesAssignment, TakesTag, TakesToken}

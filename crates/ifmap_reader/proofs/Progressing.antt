@@ -3,7 +3,7 @@ use Rattle.std.proofs.Common.{◌≡◌, ◌≢◌, ℕ, ◌+◌, ◌-◌, ◌<�
 use Rattle.std.specs.Prelude.{◌↔◌, count_by, Err, Result}
 use Rattle.std.proofs.lemmas.List.{append-nil, take_all}
 use Rattle.std.proofs.lemmas.List.Sums.{sum_by-append, sum_by-cons}
-use Rattle.ifmap_sequences.specs.Items.{To, to_last, IsOnly, Ahead, ahead_at_start, ahead_next, none_ahead}
+use Rattle.ifmap_lemmas.specs.Items.{To, to_last, IsOnly, Ahead, ahead_at_start, ahead_next, none_ahead}
 use Rattle.ifmap_elem.specs.declared.readings.Reading.{Reading}
 use Rattle.ifmap_elem.specs.declared.tokens.Token.{Token}
 use Rattle.ifmap_elem.specs.Document.{IsDocument}

@@ -5,7 +5,7 @@ use Rattle.ifmap_elem.specs.declared.elements.Child.{Child}
 use Rattle.ifmap_elem.specs.Arranged.{arranged_child}
 use Rattle.ifmap_elem.specs.Canonical.{child_bytes}
 use Rattle.ifmap_elem.specs.Namespaces.{spaces_of_child}
-use Rattle.ifmap_elem.specs.Pieces.{Adds}
+use Rattle.ifmap_elem.specs.printer.Pieces.{Adds}
 use Rattle.ifmap_elem.proofs.PieceLaws.{numbered_later, pieces_next, piece_content, piece_element}
 use Rattle.ifmap_elem.proofs.printing.+printing.Goals as goal
 

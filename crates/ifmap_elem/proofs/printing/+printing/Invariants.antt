@@ -3,7 +3,7 @@ use Rattle.std.specs.List.{flat_map}
 use Rattle.ifmap_elem.specs.Arranged.{arranged_child}
 use Rattle.ifmap_elem.specs.Canonical.{child_bytes}
 use Rattle.ifmap_elem.specs.Namespaces.{spaces_of_child}
-use Rattle.ifmap_elem.specs.Pieces.{Adds}
+use Rattle.ifmap_elem.specs.printer.Pieces.{Adds}
 use Rattle.ifmap_elem.proofs.printing.+printing.Given as goal
 
 abbrev pub invariant-write_content-loop-child : goal.invariant-write_content-loop-child

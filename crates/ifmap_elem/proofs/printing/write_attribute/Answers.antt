@@ -2,7 +2,7 @@ use Rattle.std.proofs.Common.{◌∷◌, [], ◌++◌, subst, ap, ◌∙◌}
 use Rattle.ifmap_elem.specs.declared.elements.Name.{Name}
 use Rattle.ifmap_elem.specs.Canonical.{printed_name}
 use Rattle.ifmap_elem.specs.Escapes.{value_bytes}
-use Rattle.ifmap_elem.specs.Pieces.{Adds}
+use Rattle.ifmap_elem.specs.printer.Pieces.{Adds}
 use Rattle.ifmap_elem.proofs.PieceLaws.{piece_attribute}
 use Rattle.ifmap_elem.proofs.printing.write_attribute.Goals as goal
 

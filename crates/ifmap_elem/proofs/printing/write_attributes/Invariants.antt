@@ -2,7 +2,7 @@ use Rattle.std.proofs.Common.{◌∷◌, [], take, Bor}
 use Rattle.std.specs.List.{flat_map}
 use Rattle.ifmap_elem.specs.declared.elements.Attribute.{Attribute}
 use Rattle.ifmap_elem.specs.Canonical.{attribute_bytes}
-use Rattle.ifmap_elem.specs.Pieces.{Adds}
+use Rattle.ifmap_elem.specs.printer.Pieces.{Adds}
 use Rattle.ifmap_elem.proofs.printing.write_attributes.Given as goal
 
 abbrev pub invariant-loop-attribute : goal.invariant-loop-attribute

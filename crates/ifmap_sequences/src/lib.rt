@@ -1,2 +1,0 @@
-//! General definitions and laws on sequences, for readers that take one item after another.
-#![tactic(auto)]
