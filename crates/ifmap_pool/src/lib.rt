@@ -6,7 +6,5 @@
 
 mod places;
 mod pools;
-#[cfg(test)]
-mod tests;
 
 pub use pools::Pool;

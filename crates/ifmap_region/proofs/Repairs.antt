@@ -8,7 +8,7 @@ use Rattle.std.proofs.lemmas.List.Sums.{sum_by-cons}
 use Rattle.std.specs.List.{IsDistinct}
 use Rattle.std.specs.HashSet.{HashSet}
 use Rattle.ifmap_region.specs.declared.flips.Flip.{Flip}
-use Rattle.ifmap_region.specs.Bounds.{IsWithin}
+use Rattle.ifmap_region.specs.Bounds.{IsWithin, within_wider, within_heavier, within_more, within_both}
 use Rattle.ifmap_region.specs.Flips.{IsFlipped, WithRemoved, Mid, Old}
 use Rattle.ifmap_region.specs.Hiding.{hides, unhidden}
 use Rattle.ifmap_region.specs.Links.{Linked, IsSymmetric}
@@ -17,73 +17,22 @@ use Rattle.ifmap_region.specs.Near.{at_flip, touched, beside, NearOneWay, NearFl
 use Rattle.ifmap_region.specs.Walks.{AreDepths}
 use Rattle.ifmap_region.proofs.Depths.{depth_along, depths_along}
 use Rattle.ifmap_region.proofs.FlipLists.{flipped_back}
-use Rattle.ifmap_region.proofs.Ready.{distinct_cons}
-use Rattle.ifmap_region.proofs.Sums.{sum_within}
-use Rattle.ifmap_region.proofs.Waits.{contains_one}
+use Rattle.ifmap_region.specs.General.{both}
 
--- whether a number is in a list can be told
-pub member_or_not : (xs : List ℕ) (x : ℕ) → Contains xs x ⊎ (Contains xs x → ⊥)
-member_or_not [] x = inr (λ h. omega (arith, h.1))
-member_or_not (y ∷ ys) x = elim (cases_eq y x) [
-  | inl at ↦ inl (0, omega arith, at)
-  | inr apart ↦ elim (member_or_not ys x) [
-    | inl h ↦ inl (Contains-append_right (y ∷ []) ys x h)
-    | inr out ↦ inr (λ h. elim (Contains-append_cases (y ∷ []) ys x h) [ inl one ↦ apart (contains_one y x one) | inr later ↦ out later ])
-  ]
-]
-
--- two lists of distinct numbers are both in a third
-pub both : (Among : ℕ → Type 0) (xs ys : List ℕ) → IsDistinct nat_eq xs → All Among xs → All Among ys
-    → (zs : List ℕ) × IsDistinct nat_eq zs × All Among zs × ((x : ℕ) → Contains xs x → Contains zs x) × ((y : ℕ) → Contains ys y → Contains zs y)
-both Among xs [] d a b = (xs, d, a, λ x h. h, λ y h. absurd (omega (arith, h.1)))
-both Among xs (y ∷ ys) d a b =
-    let rest = both Among xs ys d a (λ k e lt. b (suc k) e (omega (arith, lt))) in
-    elim (member_or_not rest.0 y) [
-      | inl there ↦ (
-        rest.0,
-        rest.1,
-        rest.2,
-        rest.3,
-        λ z h. elim (Contains-append_cases (y ∷ []) ys z h) [
-          | inl one ↦ subst (λ (x : ℕ). Contains rest.0 x) (contains_one y z one) there
-          | inr later ↦ rest.4 z later
-        ],
-      )
-      | inr out ↦ (
-        y ∷ rest.0,
-        distinct_cons y rest.0 (λ k e lt at. out (subst (λ (x : ℕ). Contains rest.0 x) (sym at) (Contains-get_or rest.0 k e lt))) rest.1,
-        All-cons Among y rest.0 (b 0 y (omega arith)) rest.2,
-        λ x h. Contains-append_right (y ∷ []) rest.0 x (rest.3 x h),
-        λ z h. elim (Contains-append_cases (y ∷ []) ys z h) [
-          | inl one ↦ (0, omega arith, contains_one y z one)
-          | inr later ↦ Contains-append_right (y ∷ []) rest.0 z (rest.4 z later)
-        ],
-      )
-    ]
-
-sum_more : (count : ℕ → ℕ) (xs : List ℕ) → sum_by count xs ≤ sum_by (λ v. 1 + count v) xs
-sum_more count [] = omega arith
-sum_more count (x ∷ xs) = omega (arith, sum_more count xs, sum_by-cons count x xs, sum_by-cons (λ (v : ℕ). 1 + count v) x xs)
-
--- two bounds, one after the other
+-- the bounds of a cut and of growth, over one set
 pub spent_both : (count : ℕ → ℕ) (Among First Second : ℕ → Type 0) (before mid after : ℕ)
     → ((v : ℕ) → First v → Among v) → ((v : ℕ) → Second v → Among v)
     → IsWithin count First 4 before mid → IsWithin count Second 1 mid after → IsWithin (λ v. 1 + count v) Among 5 before after
 spent_both count Among First Second before mid after f g a b =
-    let u = both Among a.numbers b.numbers a.distinct (All-weaker First Among f a.numbers a.among) (All-weaker Second Among g b.numbers b.among) in
-    let s = sum_within count a.numbers u.0 a.distinct u.3 in
-    let t = sum_within count b.numbers u.0 b.distinct u.4 in
-    record { numbers = u.0; distinct = u.1; among = u.2; bound = omega (arith, a.bound, b.bound, s, t, sum_more count u.0) }
+    within_heavier count (λ v. 1 + count v) Among 5 before after (λ v. omega arith)
+    (within_both count Among 4 1 before mid after (within_wider count First Among 4 before mid f a) (within_wider count Second Among 1 mid after g b))
 
--- one bound
+-- the bound of a cut alone
 pub spent_first : (count : ℕ → ℕ) (Among First : ℕ → Type 0) (before after : ℕ) → ((v : ℕ) → First v → Among v)
     → IsWithin count First 4 before after → IsWithin (λ v. 1 + count v) Among 5 before after
-spent_first count Among First before after f a = record {
-  numbers = a.numbers;
-  distinct = a.distinct;
-  among = All-weaker First Among f a.numbers a.among;
-  bound = omega (arith, a.bound, sum_more count a.numbers);
-}
+spent_first count Among First before after f a =
+    within_heavier count (λ v. 1 + count v) Among 5 before after (λ v. omega arith)
+    (within_more count Among 4 5 before after (omega arith) (within_wider count First Among 4 before after f a))
 
 -- the links of a graph where the added ones are hidden are those that both graphs have
 module _ {S : Type 0} (count : ℕ → ℕ) (link : ℕ → ℕ → Option ℕ) (flips : List Flip) (hidden : HashSet (ℕ × ℕ) S)

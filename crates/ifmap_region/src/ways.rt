@@ -62,7 +62,7 @@ pub(crate) fn exchange(
 )
     requires { HasRoom patch.old.entries rows.old.entries }
     ensures makes { Makes patch.old.entries rows.old.entries rows.new.entries }
-    ensures taken { patch.new.entries ≡ taken_from rows.old.entries patch.old.entries }
+    ensures taken { patch.new.entries ≡ taken_from (mark_of rows.old.entries) patch.old.entries }
 {
     for i in 0..patch.len() {
         exchange_at(rows, patch, i);

@@ -2,12 +2,12 @@ use Rattle.ifmap_region.specs.Links.{Linked}
 use Rattle.ifmap_region.specs.Marks.{mark_of, over}
 use Rattle.ifmap_region.proofs.Depths.{depths_same}
 use Rattle.ifmap_region.proofs.Patches.{over_differing}
-use Rattle.ifmap_region.proofs.Regrow.{spent_nothing}
+use Rattle.ifmap_region.specs.Bounds.{within_nothing}
 use Rattle.ifmap_region.proofs.Repairs.{mid_there, mid_back, before_cut, after_cut, near_cut, near_grown, spent_both, spent_first}
 use Rattle.ifmap_region.proofs.repairing.repair.Goals as goal
 
 pub returns-in_err-hidden-clause-steps : goal.returns-in_err-hidden-clause-steps
-returns-in_err-hidden-clause-steps g c d = spent_nothing _ _ _ _
+returns-in_err-hidden-clause-steps g c d = within_nothing _ _ _ _
 
 pub returns-in_err-rows-clause-steps : goal.returns-in_err-rows-clause-steps
 returns-in_err-rows-clause-steps g c d =

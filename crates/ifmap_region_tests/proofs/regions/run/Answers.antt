@@ -1,8 +1,8 @@
 use Rattle.std.proofs.Common.{true, List, sym, subst, ◌∙◌}
 use Rattle.ifmap_region.specs.declared.flips.Flip.{Flip}
 use Rattle.ifmap_region.specs.Flips.{IsFlipped}
-use Rattle.ifmap_region.proofs.PairLinks.{pairs_symmetric}
-use Rattle.ifmap_region.proofs.tests.run.Goals as goal
+use Rattle.ifmap_region_tests.proofs.PairLinks.{pairs_symmetric}
+use Rattle.ifmap_region_tests.proofs.regions.run.Goals as goal
 
 pub repair-requires-clause-symmetric : goal.repair-requires-clause-symmetric
 repair-requires-clause-symmetric g c = pairs_symmetric _ c.args.case.now.new.links.items

@@ -1,11 +1,11 @@
 //! Small graphs, whose depths a plain breadth-first search gives.
 ghost use Rattle.std.specs.Prelude.{◌≡◌, ℕ, ◌<◌, true, false, nat_le, vec_len};
 ghost use Rattle.ifmap_region.specs.Flips.{IsFlipped};
-ghost use Rattle.ifmap_region.specs.Grid.{beside, is_corner, grid_link};
+ghost use Rattle.ifmap_region_tests.specs.Grid.{beside, is_corner, grid_link};
 ghost use Rattle.ifmap_region.specs.Links.{Linked};
-ghost use Rattle.ifmap_region.specs.Pairs.{far_end_of, far_end_at};
+ghost use Rattle.ifmap_region_tests.specs.Pairs.{far_end_of, far_end_at};
 
-use super::*;
+use ifmap_region::{Flip, LinkSource, Region, build, repair};
 use ifmap_steps::Steps;
 use std::alloc::{AllocError as NoMemory, Global};
 use std::cell::Cell;

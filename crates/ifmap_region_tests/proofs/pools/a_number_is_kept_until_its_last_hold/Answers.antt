@@ -4,7 +4,7 @@ use Rattle.std.specs.Prelude.{option_map, unwrap_or}
 use Rattle.std.specs.Ordering.{nat_cmp}
 use Rattle.std.specs.FinMap.{get, get-empty}
 use Rattle.ifmap_pool.specs.Holdings.{entry_at, holds_at}
-use Rattle.ifmap_pool.proofs.tests.a_number_is_kept_until_its_last_hold.Goals as goal
+use Rattle.ifmap_region_tests.proofs.pools.a_number_is_kept_until_its_last_hold.Goals as goal
 
 pub hold-first-requires-clause-few : goal.hold-first-requires-clause-few
 hold-first-requires-clause-few g c number names =

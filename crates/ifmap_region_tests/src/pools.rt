@@ -1,7 +1,8 @@
+//! Pools, beside a plain map.
 ghost use Rattle.std.specs.Prelude.{ℕ, ◌≤◌};
 ghost use Rattle.ifmap_pool.specs.Holdings.{holds_at};
 
-use crate::Pool;
+use ifmap_pool::Pool;
 use std::alloc::{AllocError, Global};
 use std::collections::BTreeMap;
 use std::process::Abort;

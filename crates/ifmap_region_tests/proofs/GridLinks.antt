@@ -4,7 +4,7 @@ use Rattle.std.specs.Prelude.{nat_lt, ◌==◌, if◌then◌else◌}
 use Rattle.std.proofs.lemmas.Option.{same_Some, none-some, cond_some}
 use Rattle.std.proofs.lemmas.Bool.{ltb-true, lt-ltb, and_parts, and_from}
 use Rattle.ifmap_region.specs.Links.{Linked, IsSymmetric}
-use Rattle.ifmap_region.specs.Grid.{beside, is_corner, uncut, grid_link}
+use Rattle.ifmap_region_tests.specs.Grid.{beside, is_corner, uncut, grid_link}
 
 beside_back : (v w i : ℕ) → beside v i ≡ Some w → (j : ℕ) × (j < 4) × (beside w j ≡ Some v)
 beside_back v w zero e =

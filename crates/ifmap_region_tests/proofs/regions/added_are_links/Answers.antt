@@ -3,10 +3,10 @@ use Rattle.std.proofs.lemmas.List.{take_more}
 use Rattle.ifmap_region.specs.declared.flips.Flip.{Flip}
 use Rattle.ifmap_region.specs.Flips.{IsFlipped}
 use Rattle.ifmap_region.specs.Links.{Linked}
-use Rattle.ifmap_region.specs.Pairs.{far_end_at}
-use Rattle.ifmap_region.proofs.FlipLists.{flipped_cases}
-use Rattle.ifmap_region.proofs.tests.added_are_links.Goals as goal
-use Rattle.ifmap_region.proofs.tests.added_are_links.Goals.{then-flip+else-not-has_link+else-not-has_link-2, else-flip}
+use Rattle.ifmap_region_tests.specs.Pairs.{far_end_at}
+use Rattle.ifmap_region_tests.proofs.FlipLists.{flipped_cases}
+use Rattle.ifmap_region_tests.proofs.regions.added_are_links.Goals as goal
+use Rattle.ifmap_region_tests.proofs.regions.added_are_links.Goals.{then-flip+else-not-has_link+else-not-has_link-2, else-flip}
 
 pub loop-flip-preserved : goal.loop-flip-preserved
 loop-flip-preserved c v w h =

@@ -4,7 +4,7 @@ use Rattle.std.specs.Prelude.{slice_get, option_and_then, if◌then◌else◌}
 use Rattle.std.proofs.lemmas.Option.{same_Some, none-some}
 use Rattle.std.proofs.lemmas.Bool.{eqb-true, eq-eqb}
 use Rattle.ifmap_region.specs.Links.{Linked, IsSymmetric}
-use Rattle.ifmap_region.specs.Pairs.{far_end_of, far_end_at}
+use Rattle.ifmap_region_tests.specs.Pairs.{far_end_of, far_end_at}
 
 far_back : (link : ℕ × ℕ) (v w : ℕ) → far_end_of link v ≡ Some w → far_end_of link w ≡ Some v
 far_back link v w e = by (nat_eq link.0 v) refl e
