@@ -6,5 +6,6 @@
 
 mod places;
 mod pools;
+mod slots;
 
 pub use pools::Pool;
