@@ -3,6 +3,7 @@ pub mod Depths
 pub mod Exchange
 pub mod FlipLists
 pub mod Lost
+pub mod Missing
 pub mod Offering
 pub mod Overs
 pub mod Patches

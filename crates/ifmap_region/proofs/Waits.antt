@@ -1,5 +1,5 @@
 -- Lists that rise by level, and lists of entries at a level.
-use Rattle.std.proofs.Common.{◌≡◌, ◌≢◌, ℕ, zero, suc, ◌+◌, ◌<◌, ◌≤◌, List, [], ◌∷◌, ◌++◌, length, get_or, drop, All, Contains, ◌⊎◌, inl, inr, refl, sym, ap, subst, ◌∙◌, arith, length-drop, get_or-drop}
+use Rattle.std.proofs.Common.{◌≡◌, ◌≢◌, ℕ, ◌+◌, ◌<◌, ◌≤◌, List, [], ◌∷◌, ◌++◌, length, get_or, drop, All, Contains, ◌⊎◌, inl, inr, refl, sym, ap, subst, ◌∙◌, arith, length-drop, get_or-drop}
 use Rattle.std.proofs.lemmas.List.{get_or_default, get_or-map, length-map}
 use Rattle.std.proofs.lemmas.List.Elements.{Contains-append_left, Contains-append_right, Contains-append_cases, Contains-push, Contains-push_cases, Contains-get_or, All-contains}
 use Rattle.std.specs.List.Sorted.{IsNonDecreasingBy}
@@ -94,4 +94,3 @@ comes_out floor level seeds rest next now none le side empty m = record {
         inl (p.0 ∙ sym at, m.kept s.1 p.1)
   ];
 }
-

@@ -1,5 +1,5 @@
 -- Ways back: how rows of a region change when patches are made room for, made, taken back and swept.
-use Rattle.std.specs.Prelude.{◌≡◌, ℕ, Option, Some, None, List, map, is_some, IsSome, nat_eq, slice_get, ◌⊎◌}
+use Rattle.std.specs.Prelude.{◌≡◌, ℕ, Option, Some, None, List, map, is_some, is_none, IsSome, count_by, nat_eq, slice_get, ◌⊎◌}
 use Rattle.std.specs.Map.{update}
 use Rattle.indexmap.specs.IndexMap.{insert_entry}
 use Rattle.ifmap_region.specs.Marks.{row_of, mark_of, over}
@@ -7,6 +7,10 @@ use Rattle.ifmap_region.specs.Marks.{row_of, mark_of, over}
 -- each number of the patch has a row
 abbrev pub HasRoom : List (ℕ × Option ℕ) → List (ℕ × Option ℕ) → Type 0
 HasRoom patch rows = (v : ℕ) → IsSome (row_of patch v) → IsSome (row_of rows v)
+
+-- how many numbers of the patch have no row
+abbrev pub missing : List (ℕ × Option ℕ) → List (ℕ × Option ℕ) → ℕ
+missing rows patch = count_by (λ e. is_none (row_of rows e.0)) patch
 
 -- numbers of the patch that had no row may have one without a mark; all other rows stay
 abbrev pub OnlyRoom : List (ℕ × Option ℕ) → List (ℕ × Option ℕ) → List (ℕ × Option ℕ) → Type 0
