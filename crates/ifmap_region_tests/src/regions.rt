@@ -166,6 +166,75 @@ fn run<L: Ledger>(alloc: Global, case: &Case, blank: Blank) -> Result<bool, NoMe
     Ok(held && has_marks(&region, &case.after) && region.marks.len() == case.after.len())
 }
 
+/// The way back of two changes that were made while a third had its rows: whether the marks are at
+/// each moment those of the number of changes that stand.
+fn go_back<L: Ledger>(alloc: Global, blank: Blank) -> Result<bool, NoMemory>
+    requires name { blank.name ≡ L.name }
+    requires parts { blank.parts ≡ L.parts }
+    requires some { 0 < blank.parts }
+{
+    let mut steps: Steps<L> = Steps::from_blank(blank);
+    let graphs = [
+        Pairs {
+            links: vec![in alloc; (0, 1), (1, 2)]?,
+        },
+        Pairs {
+            links: vec![in alloc; (1, 2), (0, 3)]?,
+        },
+        Pairs {
+            links: vec![in alloc; (0, 2), (0, 3)]?,
+        },
+        Pairs {
+            links: vec![in alloc; (0, 1), (3, 4)]?,
+        },
+    ];
+    let marks: [&[(u64, u32)]; 3] = [
+        &[(0, 0), (1, 1), (2, 2)],
+        &[(0, 0), (3, 1)],
+        &[(0, 0), (2, 1), (3, 1)],
+    ];
+    let first = [removed(0, 1), added(0, 3)];
+    let second = [removed(1, 2), added(0, 2)];
+    let third = [removed(0, 2), removed(0, 3), added(0, 1), added(3, 4)];
+    let mut region = build(alloc, 0, 9, &graphs[0], &mut steps)?;
+    let mut same = has_marks(&region, marks[0]);
+    if !added_are_links(&graphs[1], &first)
+        || !added_are_links(&graphs[2], &second)
+        || !added_are_links(&graphs[3], &third)
+    {
+        return Ok(false);
+    }
+    let patch = repair(alloc, &region, &graphs[1], &first, &mut steps)?;
+    region.reserve(&patch)?;
+    let first_undo = region.commit_kept(patch);
+    same = same && has_marks(&region, marks[1]);
+    let patch = repair(alloc, &region, &graphs[2], &second, &mut steps)?;
+    region.reserve(&patch)?;
+    let second_undo = region.commit_kept(patch);
+    same = same && has_marks(&region, marks[2]);
+    let third_patch = repair(alloc, &region, &graphs[3], &third, &mut steps)?;
+    region.reserve(&third_patch)?;
+    same = same && has_marks(&region, marks[2]);
+    let second_patch = region.undo(second_undo);
+    same = same && has_marks(&region, marks[1]);
+    let first_patch = region.undo(first_undo);
+    same = same && has_marks(&region, marks[0]);
+    region.forget(first_patch);
+    region.forget(third_patch);
+    region.forget(second_patch);
+    Ok(same && has_marks(&region, marks[0]) && region.marks.len() == marks[0].len())
+}
+
+fn goes_back(alloc: Global) -> Result<bool, NoMemory> {
+    go_back::<Brand>(alloc, Blank::new(1))
+}
+
+#[test]
+fn two_changes_are_taken_back_while_a_third_has_its_rows(rt: HostRuntime) -> Result<(), Fail> {
+    assert!(rt; goes_back(rt.alloc())?);
+    Ok(())
+}
+
 fn holds(alloc: Global, case: &Case) -> Result<bool, NoMemory> {
     run::<Brand>(alloc, case, Blank::new(1))
 }
