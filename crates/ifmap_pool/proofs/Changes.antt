@@ -1,121 +1,130 @@
--- What a write, an insert and a removal make of a pool's fields and of what contracts see.
-use Rattle.std.proofs.Common.{◌≡◌, ◌⊎◌, ℕ, ◌+◌, ◌-◌, ◌<◌, ◌≤◌, List, length, get_or, Option, Some, None, Err, min, cond, Ordering, sym, ap, subst, ◌∙◌, inl, inr, arith}
-use Rattle.std.proofs.lemmas.List.Sums.{sum_by-set}
-use Rattle.std.specs.Prelude.{is_some, option_map}
+-- What a write, an insert and a removal make of a pool's lists and of what contracts see.
+use Rattle.std.proofs.Common.{◌≡◌, ◌≢◌, ◌⊎◌, ℕ, ◌+◌, ◌-◌, ◌<◌, ◌≤◌, List, length, get_or, set, Option, Some, None, Err, Ordering, is_some, sym, ap, subst, ◌∙◌, inl, inr, arith}
+use Rattle.std.proofs.lemmas.List.{length-set, get_or-set_other}
+use Rattle.std.proofs.lemmas.List.Sums.{count_by-le-length}
+use Rattle.std.proofs.lemmas.Option.{none-some}
+use Rattle.std.specs.Prelude.{option_map}
 use Rattle.std.specs.List as lists
 use Rattle.std.specs.Cmp.{IsTotalOrder}
 use Rattle.std.specs.FinMap as map
-use Rattle.slab.specs.Slab.{Slab, get, slab_len, with_value, Updates}
-use Rattle.slab.proofs.SlabLemmas.{ContainsKey-within, Updates-with_value}
-use Rattle.ifmap_pool.specs.Holdings.{Holdings, IsPresent, Takes, Frees, OneToOne}
-use Rattle.ifmap_pool.specs.Index.{IsPlace, IsIndexed, entry_of, live_of}
-use Rattle.ifmap_pool.specs.declared.places.Held.{Held}
+use Rattle.ifmap_pool.specs.Holdings.{Holdings, IsPresent, IsPool, Takes, Frees}
+use Rattle.ifmap_pool.specs.Index.{slot_at, slot_count, Writes, AreFree, IsPlace, IsKept, entry_of, live_of}
+use Rattle.ifmap_pool.specs.declared.slots.Held.{Held}
 use Rattle.ifmap_pool.proofs.Live.{live_of-set, live_of-removed}
 use Rattle.ifmap_pool.proofs.Kept.{IsSome-from, IsIndexed-written, IsIndexed-inserted, IsIndexed-removed}
-use Rattle.ifmap_pool.proofs.Named.{same_holdings, entry_is, numbers_apart, absent_at}
-
--- a pool's fields: its slots, the list of its numbers, how long that is, and how long it may be with no memory
-pub record Fields (K : Type 0) : Type 0 where
-  pub slots : Slab (Held K)
-  pub items : List ℕ
-  pub len : ℕ
-  pub room : ℕ
+use Rattle.ifmap_pool.proofs.Named.{same_holdings, entry_is, is_pool, absent_at}
+use Rattle.ifmap_pool.proofs.Emptiness.{one_of, slot_within, written, count_written}
 
 module _ {K : Type 0} where
-  abbrev pub seen : Fields K → Holdings K
-  seen f = record { live = live_of f.slots.slots; spare = min f.slots.capacity f.room - f.len }
+  -- what contracts see
+  abbrev pub seen : List (Option (Held K)) → ℕ → ℕ → Holdings K
+  seen slots len limit = record { live = live_of slots; spare = limit - len; limit = limit }
 
-  abbrev pub IsKept : (K → K → Ordering) → Fields K → Type 0
-  IsKept cmp f = IsIndexed cmp (get f.slots) f.items × (slab_len f.slots ≡ f.len) × (f.len ≤ f.slots.capacity) × (f.len ≤ f.room)
+  -- a write over a slot that is not empty leaves which slots are
+  free_written : (slots : List (Option (Held K))) (free : List ℕ) (number : ℕ) (old value : Held K) → slot_at slots number ≡ Some old
+      → AreFree slots free → AreFree (set slots number (Some value)) free
+  free_written slots free number old value was f =
+      let inside = slot_within slots number (IsSome-from _ old was) in
+      let all = count_written slots number (Some value) inside in
+      let had = ap one_of was in
+      record {
+        apart = f.apart;
+        within = λ i lt. let within = f.within i lt in omega (arith, within, length-set slots number (Some value));
+        empty = λ i lt.
+            let apart : get_or free i 0 ≢ number = λ e. none-some old (sym (f.empty i lt) ∙ ap (slot_at slots) e ∙ was) in
+            get_or-set_other slots number (get_or free i 0) (Some value) None apart ∙ f.empty i lt;
+        counted = omega (arith, f.counted, all, had, length-set slots number (Some value));
+      }
 
-  abbrev counted_once : Option (Held K) → ℕ
-  counted_once o = cond (is_some o) 1 0
+  module _ {cmp : K → K → Ordering} (total : IsTotalOrder cmp) (slots : List (Option (Held K))) (free order : List ℕ) (len limit : ℕ)
+      (kept : IsKept cmp slots free order len limit) (pool : Holdings K) (is : seen slots len limit ≡ pool) where
+    pub live_is : pool.live ≡ live_of slots
+    live_is = sym (ap (λ (p : Holdings K). p.live) is)
 
-  -- a value written over a value leaves the count of values
-  pub slab_len-with_value : (s : Slab (Held K)) (number : ℕ) (old value : Held K) → get s number ≡ Some old → slab_len (with_value s number value) ≡ slab_len s
-  slab_len-with_value s number old value is =
-      let within = ContainsKey-within s number (IsSome-from _ old is) in
-      let counted = sum_by-set counted_once s.slots number (Some value) None within in
-      let had = ap counted_once is in
-      omega (arith, counted, had)
+    pub spare_is : limit - len ≡ pool.spare
+    spare_is = ap (λ (p : Holdings K). p.spare) is
 
-  module _ {cmp : K → K → Ordering} (total : IsTotalOrder cmp) (f : Fields K) (kept : IsKept cmp f) (pool : Holdings K) (is : seen f ≡ pool) where
-    pub apart_now : OneToOne cmp pool
-    apart_now = numbers_apart f.slots.slots pool (sym (ap (λ (p : Holdings K). p.live) is)) total f.items kept.0
+    pub limit_is : limit ≡ pool.limit
+    limit_is = ap (λ (p : Holdings K). p.limit) is
+
+    -- there are no more numbers than there is room for
+    pub len_within : len ≤ limit
+    len_within = let most = count_by-le-length is_some slots in omega (arith, most, kept.counted, kept.within)
+
+    pub whole_now : IsPool cmp pool
+    whole_now = is_pool slots pool live_is total order kept.indexed (omega (arith, kept.within, limit_is))
 
     -- where a key is missed there is room for it
-    pub room_for_new : (key : K) (place : ℕ) → IsPlace cmp (get f.slots) f.items key (Err place) → (0 < pool.spare) ⊎ IsPresent cmp pool key → 0 < pool.spare
-    room_for_new key place missing (inl some) = some
+    pub room_for_new : (key : K) (place : ℕ) → IsPlace cmp (slot_at slots) order key (Err place) → (0 < pool.spare) ⊎ IsPresent cmp pool key → slot_count slots < limit
+    room_for_new key place missing (inl some) = omega (arith, some, spare_is, kept.counted)
     room_for_new key place missing (inr present) =
-        absurd (absent_at f.slots.slots pool (sym (ap (λ (p : Holdings K). p.live) is)) total f.items kept.0 key place missing present.0 present.1)
-
-    pub room_is : min f.slots.capacity f.room - f.len ≡ pool.spare
-    room_is = ap (λ (p : Holdings K). p.spare) is
+        absurd (absent_at slots pool live_is total order kept.indexed key place missing present.0 present.1)
 
     -- the count of a number is written
-    module _ (number : ℕ) (old value : Held K) (was : get f.slots number ≡ Some old) (same : value.key ≡ old.key) (held : 0 < value.holds)
-        (slots : Slab (Held K)) (wrote : slots ≡ with_value f.slots number value) where
-      abbrev pub after_write : Fields K
-      after_write = record f { slots = slots }
+    module _ (number : ℕ) (old value : Held K) (was : slot_at slots number ≡ Some old) (same : value.key ≡ old.key) (held : 0 < value.holds)
+        (after : List (Option (Held K))) (wrote : after ≡ set slots number (Some value)) where
+      pub is_written : Writes slots after number (Some value)
+      is_written = subst (λ (s : List (Option (Held K))). Writes slots s number (Some value)) (sym wrote)
+          (written slots number (Some value) (slot_within slots number (IsSome-from _ old was)))
 
-      pub written : Updates f.slots slots number (Some value)
-      written = subst (λ (s : Slab (Held K)). Updates f.slots s number (Some value)) (sym wrote) (Updates-with_value f.slots number value (IsSome-from _ old was))
+      pub kept_write : IsKept cmp after free order len limit
+      kept_write = record {
+        indexed = IsIndexed-written total (slot_at slots) (slot_at after) order kept.indexed number old value was is_written.changed same held is_written.others;
+        free_slots = subst (λ (s : List (Option (Held K))). AreFree s free) (sym wrote) (free_written slots free number old value was kept.free_slots);
+        counted =
+            let all = count_written slots number (Some value) (slot_within slots number (IsSome-from _ old was)) in
+            let had = ap one_of was in
+            omega (arith, kept.counted, all, had, ap slot_count wrote);
+        within = omega (arith, kept.within, ap length wrote, length-set slots number (Some value));
+      }
 
-      pub kept_write : IsKept cmp after_write
-      kept_write = (
-        IsIndexed-written total (get f.slots) (get slots) f.items kept.0 number old value was written.changed same held written.others,
-        ap slab_len wrote ∙ slab_len-with_value f.slots number old value was ∙ kept.1,
-        subst (λ (s : Slab (Held K)). f.len ≤ s.capacity) (sym wrote) kept.2,
-        kept.3,
-      )
-
-      pub seen_write : seen after_write ≡ record pool { live = map.insert pool.live number (value.key, value.holds) }
+      pub seen_write : seen after len limit ≡ record pool { live = map.insert pool.live number (value.key, value.holds) }
       seen_write = same_holdings _ _
-          (live_of-set f.slots.slots slots.slots number value written.changed written.others ∙ ap (λ (p : Holdings K). map.insert p.live number (value.key, value.holds)) is)
-          (ap (λ (s : Slab (Held K)). min s.capacity f.room - f.len) wrote ∙ ap (λ (p : Holdings K). p.spare) is)
+          (live_of-set slots after number value is_written.changed is_written.others ∙ ap (λ (p : Holdings K). map.insert p.live number (value.key, value.holds)) is)
+          spare_is limit_is
 
     -- a free number is taken
-    module _ (number place : ℕ) (value : Held K) (free : get f.slots number ≡ None) (once : value.holds ≡ 1)
-        (room : 0 < pool.spare) (found : IsPlace cmp (get f.slots) f.items value.key (Err place)) (after : Fields K)
-        (updates : Updates f.slots after.slots number (Some value)) (counted : slab_len after.slots ≡ slab_len f.slots + 1) (capacity : after.slots.capacity ≡ f.slots.capacity)
-        (items : after.items ≡ lists.insert f.items place number) (len : after.len ≡ f.len + 1) (roomy : after.room ≡ f.room) where
-      spare_is : min f.slots.capacity f.room - f.len ≡ pool.spare
-      spare_is = ap (λ (p : Holdings K). p.spare) is
+    module _ (number place : ℕ) (value : Held K) (vacant : slot_at slots number ≡ None) (once : value.holds ≡ 1)
+        (room : slot_count slots < limit) (found : IsPlace cmp (slot_at slots) order value.key (Err place))
+        (after : List (Option (Held K))) (rest items : List ℕ) (longer : ℕ)
+        (writes : Writes slots after number (Some value)) (are_free : AreFree after rest) (counted : slot_count after ≡ slot_count slots + 1)
+        (inside : length after ≤ limit) (listed : items ≡ lists.insert order place number) (long : longer ≡ len + 1) where
+      pub kept_take : IsKept cmp after rest items longer limit
+      kept_take = record {
+        indexed = rw listed
+            (IsIndexed-inserted total (slot_at slots) (slot_at after) order kept.indexed number place value vacant writes.changed (omega (arith, once)) writes.others
+            found.0 found.1 found.2);
+        free_slots = are_free;
+        counted = omega (arith, kept.counted, counted, long);
+        within = inside;
+      }
 
-      pub kept_take : IsKept cmp after
-      kept_take = (
-        subst (IsIndexed cmp (get after.slots)) (sym items) (IsIndexed-inserted total (get f.slots) (get after.slots) f.items kept.0 number place value free updates.changed (omega arith) updates.others found.0 found.1 found.2),
-        omega (arith, kept.1),
-        omega (arith, spare_is, kept.2),
-        omega (arith, spare_is, kept.3),
-      )
-
-      pub seen_take : Takes pool (seen after) number value.key
+      pub seen_take : Takes pool (seen after longer limit) number value.key
       seen_take = record {
-        free = entry_is f.slots.slots pool (sym (ap (λ (p : Holdings K). p.live) is)) number ∙ ap (option_map entry_of) free;
-        live = live_of-set f.slots.slots after.slots.slots number value updates.changed updates.others
+        free = entry_is slots pool live_is number ∙ ap (option_map entry_of) vacant;
+        live = live_of-set slots after number value writes.changed writes.others
             ∙ ap (λ (p : Holdings K). map.insert p.live number (value.key, value.holds)) is
             ∙ ap (λ n. map.insert pool.live number (value.key, n)) once;
-        spare = omega (arith, spare_is);
+        spare = omega (arith, spare_is, long, room, kept.counted);
+        limit = limit_is;
       }
 
     -- a number is freed
-    module _ (number place : ℕ) (within : place < length f.items) (stood : get_or f.items place 0 ≡ number) (after : Fields K)
-        (updates : Updates f.slots after.slots number None) (counted : slab_len after.slots + 1 ≡ slab_len f.slots) (capacity : after.slots.capacity ≡ f.slots.capacity)
-        (items : after.items ≡ lists.remove f.items place) (len : after.len + 1 ≡ f.len) (roomy : after.room ≡ f.room) where
-      left_is : min f.slots.capacity f.room - f.len ≡ pool.spare
-      left_is = ap (λ (p : Holdings K). p.spare) is
+    module _ (number place : ℕ) (here : place < length order) (stood : get_or order place 0 ≡ number)
+        (after : List (Option (Held K))) (rest items : List ℕ) (shorter : ℕ)
+        (writes : Writes slots after number None) (are_free : AreFree after rest) (counted : slot_count after + 1 ≡ slot_count slots)
+        (same : length after ≡ length slots) (listed : items ≡ lists.remove order place) (short : shorter + 1 ≡ len) (room : len ≤ limit) where
+      pub kept_free : IsKept cmp after rest items shorter limit
+      kept_free = record {
+        indexed = rw listed (IsIndexed-removed total (slot_at slots) (slot_at after) order kept.indexed number place here stood writes.changed writes.others);
+        free_slots = are_free;
+        counted = omega (arith, kept.counted, counted, short);
+        within = omega (arith, kept.within, same);
+      }
 
-      pub kept_free : IsKept cmp after
-      kept_free = (
-        subst (IsIndexed cmp (get after.slots)) (sym items) (IsIndexed-removed total (get f.slots) (get after.slots) f.items kept.0 number place within stood updates.changed updates.others),
-        omega (arith, kept.1),
-        omega (arith, kept.2),
-        omega (arith, kept.3),
-      )
-
-      pub seen_free : Frees pool (seen after) number
+      pub seen_free : Frees pool (seen after shorter limit) number
       seen_free = record {
-        live = live_of-removed f.slots.slots after.slots.slots number updates.changed updates.others ∙ ap (λ (p : Holdings K). map.remove p.live number) is;
-        spare = omega (arith, left_is, kept.2, kept.3);
+        live = live_of-removed slots after number writes.changed writes.others ∙ ap (λ (p : Holdings K). map.remove p.live number) is;
+        spare = omega (arith, spare_is, short, room);
+        limit = limit_is;
       }

@@ -9,7 +9,7 @@ use Rattle.std.specs.List.{insert, remove}
 use Rattle.std.specs.Cmp.{IsTotalOrder}
 use Rattle.std.specs.declared.cmp.Ordering.TheVariants.{Equal}
 use Rattle.ifmap_pool.specs.Index.{AllBelow, AllAbove, IsPlace, IsIndexed}
-use Rattle.ifmap_pool.specs.declared.places.Held.{Held}
+use Rattle.ifmap_pool.specs.declared.slots.Held.{Held}
 use Rattle.ifmap_pool.proofs.Search.{Less-from_greater}
 
 pub IsSome-from : {A : Type 0} (o : Option A) (x : A) → o ≡ Some x → IsSome o
@@ -42,7 +42,7 @@ moved order place number k within k_in =
           back = λ h. absurd (omega arith);
           is = get_or-insert_below order place number 0 k before within;
         })
-        | inr behind ↦
+        | inr past ↦
             let next : k ≡ (k - 1) + 1 = omega arith in
             let above = get_or-insert_above order place number 0 (k - 1) (omega arith) within in
             inl (record {
@@ -74,12 +74,12 @@ closed order place k within k_in =
         back = λ h. absurd (omega arith);
         is = get_or-remove_below order place 0 k before within;
       }
-      | inr behind ↦ record {
+      | inr past ↦ record {
         from = k + 1;
         within = omega arith;
         front = λ h. absurd (omega arith);
         back = λ _. omega arith;
-        is = get_or-remove_above order place 0 k behind within;
+        is = get_or-remove_above order place 0 k past within;
       }
     ]
 
@@ -93,7 +93,7 @@ module _ {K : Type 0} {cmp : K → K → Ordering} (total : IsTotalOrder cmp) wh
           | inl same ↦ same
           | inr differs ↦ elim (cases_lt i j) [
             | inl before ↦ let less = indexed.rising i j a b before j_in at_i at_j in absurd (cc)
-            | inr behind ↦
+            | inr past ↦
                 let less = indexed.rising j i b a (omega arith) i_in at_j at_i in
                 let back = tied_back total a.key b.key e in
                 absurd (cc)
@@ -115,7 +115,7 @@ module _ {K : Type 0} {cmp : K → K → Ordering} (total : IsTotalOrder cmp) wh
         let here : slot (get_or order listed.0 0) ≡ Some held = ap slot listed.2 ∙ is in
         elim (cases_lt listed.0 place) [
           | inl front ↦ let less = missing.1 listed.0 held front here in cc
-          | inr behind ↦ let greater = missing.2 listed.0 held behind listed.1 here in cc
+          | inr past ↦ let greater = missing.2 listed.0 held past listed.1 here in cc
         ]
 
     -- the value at the place that the search finds
@@ -197,7 +197,7 @@ module _ {K : Type 0} {cmp : K → K → Ordering} (total : IsTotalOrder cmp) wh
               let there = indexed.listed n (subst (λ (o : Option (Held K)). IsSome o) (others n differs) some) in
               elim (cases_lt there.0 place) [
                 | inl before ↦ (there.0, omega (arith, length-insert order place number within, there.1), get_or-insert_below order place number 0 there.0 before within ∙ there.2)
-                | inr behind ↦ (there.0 + 1, omega (arith, length-insert order place number within, there.1), get_or-insert_above order place number 0 there.0 behind within ∙ there.2)
+                | inr past ↦ (there.0 + 1, omega (arith, length-insert order place number within, there.1), get_or-insert_above order place number 0 there.0 past within ∙ there.2)
               ]
         ];
         held = λ n entry at_n. elim (cases_eq n number) [
@@ -209,8 +209,8 @@ module _ {K : Type 0} {cmp : K → K → Ordering} (total : IsTotalOrder cmp) wh
       in_order : (i j : ℕ) (first : Moved order place number i) (second : Moved order place number j) → i < j → first.from < second.from
       in_order i j first second before =
           elim (cases_lt i place) [
-            | inl front ↦ elim (cases_lt j place) [ inl also ↦ omega arith | inr behind ↦ omega arith ]
-            | inr behind ↦ omega arith
+            | inl front ↦ elim (cases_lt j place) [ inl also ↦ omega arith | inr past ↦ omega arith ]
+            | inr past ↦ omega arith
           ]
 
       kept : (k : ℕ) → k < length order → new (get_or order k 0) ≡ slot (get_or order k 0)
@@ -246,7 +246,7 @@ module _ {K : Type 0} {cmp : K → K → Ordering} (total : IsTotalOrder cmp) wh
             let elsewhere : before.0 ≢ place = λ same. differs (sym before.2 ∙ ap (λ i. get_or order i 0) same ∙ stood) in
             elim (cases_lt before.0 place) [
               | inl front ↦ (before.0, omega (arith, length-remove order place within, before.1), get_or-remove_below order place 0 before.0 front within ∙ before.2)
-              | inr behind ↦
+              | inr past ↦
                   let next : (before.0 - 1) + 1 ≡ before.0 = omega arith in
                   (before.0 - 1, omega (arith, length-remove order place within, before.1), get_or-remove_above order place 0 (before.0 - 1) (omega arith) within ∙ ap (λ i. get_or order i 0) next ∙ before.2)
             ];
@@ -258,8 +258,8 @@ module _ {K : Type 0} {cmp : K → K → Ordering} (total : IsTotalOrder cmp) wh
       in_order : (i j : ℕ) (first : Closed order place i) (second : Closed order place j) → i < j → first.from < second.from
       in_order i j first second before =
           elim (cases_lt i place) [
-            | inl front ↦ elim (cases_lt j place) [ inl also ↦ omega arith | inr behind ↦ omega arith ]
-            | inr behind ↦ omega arith
+            | inl front ↦ elim (cases_lt j place) [ inl also ↦ omega arith | inr past ↦ omega arith ]
+            | inr past ↦ omega arith
           ]
 
       kept : (k : ℕ) (s : Closed order place k) → new (get_or order s.from 0) ≡ slot (get_or order s.from 0)
@@ -267,7 +267,7 @@ module _ {K : Type 0} {cmp : K → K → Ordering} (total : IsTotalOrder cmp) wh
           let there = some_from _ (indexed.live s.from s.within) in
           let here : slot (get_or order place 0) ≡ Some there.0 = ap slot (stood ∙ sym same) ∙ there.1 in
           let one : s.from ≡ place = one_place slot order indexed s.from place there.0 there.0 s.within within there.1 here (tied_itself total there.0.key) in
-          absurd (elim (cases_lt k place) [ inl front ↦ omega arith | inr behind ↦ omega arith ]))
+          absurd (elim (cases_lt k place) [ inl front ↦ omega arith | inr past ↦ omega arith ]))
 
       was_at : (k : ℕ) (a : Held K) (s : Closed order place k) → new (get_or (remove order place) k 0) ≡ Some a → slot (get_or order s.from 0) ≡ Some a
       was_at k a s at_k = sym (kept k s) ∙ sym (ap new s.is) ∙ at_k

@@ -1,5 +1,8 @@
-pub mod Live
-pub mod Kept
-pub mod Search
-pub mod Named
 pub mod Changes
+pub mod Emptiness
+pub mod Holds
+pub mod Kept
+pub mod Live
+pub mod Named
+pub mod Releases
+pub mod Search

@@ -6,15 +6,14 @@ use Rattle.std.specs.Prelude.{option_map}
 use Rattle.std.specs.Ordering.{nat_cmp, eq_by_cmp}
 use Rattle.std.specs.Cmp.{nat_cmp_total, unsigned_tied}
 use Rattle.std.specs.FinMap.{find, get, empty, insert, remove, get-from_entries, get-insert, get-remove, same_map, nat_cmp-IsAntisymmetric}
-use Rattle.slab.specs.Slab.{entries_from}
-use Rattle.ifmap_pool.specs.Index.{entry_of, live_of}
-use Rattle.ifmap_pool.specs.declared.places.Held.{Held}
+use Rattle.ifmap_pool.specs.Index.{entries_from, entry_of, live_of}
+use Rattle.ifmap_pool.specs.declared.slots.Held.{Held}
 
 -- two numbers tie where they are one
-tied : (q : ℕ) → eq_by_cmp nat_cmp q q ≡ true
+pub tied : (q : ℕ) → eq_by_cmp nat_cmp q q ≡ true
 tied q = unsigned_tied q q ∙ grind (arith, nat_tests)
 
-apart : (q k : ℕ) → q ≢ k → eq_by_cmp nat_cmp q k ≡ false
+pub apart : (q k : ℕ) → q ≢ k → eq_by_cmp nat_cmp q k ≡ false
 apart q k ne = unsigned_tied q k ∙ grind (arith, nat_tests)
 
 module _ {K : Type 0} where

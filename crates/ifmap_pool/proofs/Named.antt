@@ -1,20 +1,21 @@
 -- What contracts see of a pool, against its slots and its list of numbers.
-use Rattle.std.proofs.Common.{◌≡◌, ℕ, List, get_or, Option, Some, None, Ok, Err, Ordering, refl, sym, ap, ◌∙◌}
+use Rattle.std.proofs.Common.{◌≡◌, ℕ, ◌<◌, ◌≤◌, List, length, arith, get_or, Option, Some, None, Ok, Err, Ordering, refl, sym, ap, ◌∙◌}
 use Rattle.std.proofs.lemmas.Cmp.{tied_back}
 use Rattle.std.proofs.lemmas.Option.{same_Some}
-use Rattle.std.specs.Prelude.{IsSome, option_map, unwrap_or}
+use Rattle.std.specs.Prelude.{IsSome, is_some, option_map, unwrap_or}
 use Rattle.std.specs.Cmp.{IsTotalOrder}
 use Rattle.std.specs.FinMap.{get}
 use Rattle.std.specs.declared.cmp.Ordering.TheVariants.{Equal}
-use Rattle.ifmap_pool.specs.Holdings.{Holdings, entry_at, key_at, holds_at, Names, IsAbsent, OneToOne}
+use Rattle.ifmap_pool.specs.Holdings.{Holdings, entry_at, key_at, holds_at, Names, IsAbsent, OneToOne, IsPool}
 use Rattle.ifmap_pool.specs.Index.{IsPlace, IsIndexed, entry_of, live_of}
-use Rattle.ifmap_pool.specs.declared.places.Held.{Held}
+use Rattle.ifmap_pool.specs.declared.slots.Held.{Held}
 use Rattle.ifmap_pool.proofs.Live.{get-live_of}
-use Rattle.ifmap_pool.proofs.Kept.{some_from, one_number, none_missed}
+use Rattle.ifmap_pool.proofs.Kept.{IsSome-from, some_from, one_number, none_missed}
+use Rattle.ifmap_pool.proofs.Emptiness.{slot_within}
 
 module _ {K : Type 0} where
-  pub same_holdings : (a b : Holdings K) → a.live ≡ b.live → a.spare ≡ b.spare → a ≡ b
-  same_holdings a b p q = λ i. record { live = p i; spare = q i }
+  pub same_holdings : (a b : Holdings K) → a.live ≡ b.live → a.spare ≡ b.spare → a.limit ≡ b.limit → a ≡ b
+  same_holdings a b p q r = λ i. record { live = p i; spare = q i; limit = r i }
 
   entry_some : (o : Option (Held K)) (entry : K × ℕ) → option_map entry_of o ≡ Some entry → (held : Held K) × (o ≡ Some held) × (entry_of held ≡ entry)
   entry_some None entry e = absurd (cc)
@@ -75,6 +76,21 @@ module _ {K : Type 0} where
           let b = slot_from_names cmp second key other in
           one_number total (λ n. get_or slots n None) order indexed first second a.0 b.0 a.1 b.1 (total.congr _ _ b.0.key a.2 ∙ tied_back total _ _ b.2)
 
+      -- each number is below a limit that the slots do not pass, and is held
+      pub is_pool : length slots ≤ pool.limit → IsPool cmp pool
+      is_pool within = record {
+        one_to_one = numbers_apart;
+        below = λ number live.
+            let there = slot_from_live number live in
+            let inside : number < length slots = slot_within slots number (IsSome-from _ there.0 there.1) in
+            omega (arith, inside, within);
+        held = λ number live.
+            let there = slot_from_live number live in
+            let some = indexed.held number there.0 there.1 in
+            let counted = holds_from_slot number there.0 there.1 in
+            omega (arith, some, counted);
+      }
+
       -- what a search tells
       pub named_at : (key : K) (place : ℕ) → IsPlace cmp (λ n. get_or slots n None) order key (Ok place) → Names cmp pool (get_or order place 0) key
       named_at key place found =
@@ -85,3 +101,20 @@ module _ {K : Type 0} where
       absent_at key place missing number names =
           let there = slot_from_names cmp number key names in
           none_missed total (λ n. get_or slots n None) order indexed key place missing number there.0 there.1 there.2
+
+-- what holds of a pool holds of one with the same numbers and a limit that is no lower
+pub pool_kept : {K : Type 0} (cmp : K → K → Ordering) (old new : Holdings K) → new.live ≡ old.live → old.limit ≤ new.limit → IsPool cmp old → IsPool cmp new
+pool_kept {K} cmp old new same le whole = record {
+  one_to_one = λ first second key one other. whole.one_to_one first second key (back first key one) (back second key other);
+  below = λ number live. let inside = whole.below number (ap is_some (sym (entry number)) ∙ live) in omega (arith, inside, le);
+  held = λ number live.
+      let some = whole.held number (ap is_some (sym (entry number)) ∙ live) in
+      let counted = ap (λ (o : Option (K × ℕ)). unwrap_or (option_map (λ x. x.1) o) 0) (entry number) in
+      omega (arith, some, counted);
+}
+  where
+    entry : (number : ℕ) → entry_at new number ≡ entry_at old number
+    entry number = ap (λ m. get m number) same
+
+    back : (number : ℕ) (key : K) → Names cmp new number key → Names cmp old number key
+    back number key names = (names.0, sym (entry number) ∙ names.1, names.2)

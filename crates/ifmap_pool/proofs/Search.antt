@@ -6,7 +6,7 @@ use Rattle.std.specs.Ordering.{ordering_reverse}
 use Rattle.std.specs.Cmp.{IsTotalOrder}
 use Rattle.std.specs.declared.cmp.Ordering.TheVariants.{Less, Greater}
 use Rattle.ifmap_pool.specs.Index.{AllBelow, AllAbove, IsIndexed}
-use Rattle.ifmap_pool.specs.declared.places.Held.{Held}
+use Rattle.ifmap_pool.specs.declared.slots.Held.{Held}
 
 module _ {K : Type 0} {cmp : K → K → Ordering} (total : IsTotalOrder cmp) where
   -- what is less one way is greater the other
@@ -27,7 +27,7 @@ module _ {K : Type 0} {cmp : K → K → Ordering} (total : IsTotalOrder cmp) wh
           | inr differs ↦ total.trans _ _ _ (indexed.rising k middle held found (omega arith) within at_k is) less
         ]
 
-    -- the key at the middle is above: so is each behind it
+    -- the key at the middle is above: so is each past it
     pub AllAbove-next : slot (get_or order middle 0) ≡ Some found → cmp found.key key ≡ Greater → AllAbove cmp slot order key middle
     AllAbove-next is greater k held from within at_k =
         elim (cases_eq k middle) [

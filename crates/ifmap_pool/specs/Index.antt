@@ -1,13 +1,27 @@
--- How a pool keeps its keys: slots by number, and the live numbers in the order of their keys. No public clause cites this module.
-use Rattle.std.specs.Prelude.{◌≡◌, ℕ, ◌<◌, ◌≤◌, List, map, length, Option, Some, IsSome, slice_index_or, Result, Ok, Err}
+-- How a pool keeps its keys: slots by number, the numbers of the empty ones, and the live numbers in the order of
+-- their keys. No public clause cites this module.
+use Rattle.std.specs.Prelude.{◌≡◌, ◌≢◌, ℕ, ◌+◌, ◌<◌, ◌≤◌, List, [], ◌∷◌, map, length, Option, Some, None, is_some, IsSome, slice_index_or, Result, Ok, Err, count_by}
 use Rattle.std.specs.Ordering.{nat_cmp}
 use Rattle.std.specs.declared.cmp.Ordering.{Ordering}
 use Rattle.std.specs.declared.cmp.Ordering.TheVariants.{Less, Equal, Greater}
 use Rattle.std.specs.FinMap.{FinMap, from_entries}
-use Rattle.slab.specs.Slab.{entries_from}
-use Rattle.ifmap_pool.specs.declared.places.Held.{Held}
+use Rattle.ifmap_pool.specs.declared.slots.Held.{Held}
 
 module _ {K : Type 0} where
+  -- the key of a number, with its count; none where the number is free
+  abbrev pub slot_at : List (Option (Held K)) → ℕ → Option (Held K)
+  slot_at slots number = slice_index_or slots number None
+
+  -- how many slots are not empty
+  abbrev pub slot_count : List (Option (Held K)) → ℕ
+  slot_count slots = count_by is_some slots
+
+  -- the keys with their counts, each under its number, where the first slot has this number
+  abbrev pub entries_from : ℕ → List (Option (Held K)) → List (ℕ × Held K)
+  entries_from number [] = []
+  entries_from number (None ∷ rest) = entries_from (number + 1) rest
+  entries_from number (Some held ∷ rest) = (number, held) ∷ entries_from (number + 1) rest
+
   -- a key with its count, as contracts see it
   abbrev pub entry_of : Held K → K × ℕ
   entry_of held = (held.key, held.holds)
@@ -15,6 +29,18 @@ module _ {K : Type 0} where
   -- the live numbers with their entries, of the slots
   unfoldable pub live_of : List (Option (Held K)) → FinMap nat_cmp (K × ℕ)
   live_of slots = from_entries (map (λ e. (e.0, entry_of e.1)) (entries_from 0 slots))
+
+  -- one slot is written, and no other
+  pub record Writes (old new : List (Option (Held K))) (number : ℕ) (slot : Option (Held K)) : Type 0 where
+    pub changed : slot_at new number ≡ slot
+    pub others : (other : ℕ) → other ≢ number → slot_at new other ≡ slot_at old other
+
+  -- the list has the numbers of the empty slots, each once
+  pub record AreFree (slots : List (Option (Held K))) (free : List ℕ) : Type 0 where
+    pub apart : (i j : ℕ) → i < j → j < length free → slice_index_or free i 0 ≢ slice_index_or free j 0
+    pub within : (i : ℕ) → i < length free → slice_index_or free i 0 < length slots
+    pub empty : (i : ℕ) → i < length free → slot_at slots (slice_index_or free i 0) ≡ None
+    pub counted : slot_count slots + length free ≡ length slots
 
 module _ {K : Type 0} (cmp : K → K → Ordering) (slot : ℕ → Option (Held K)) (order : List ℕ) where
   -- each key in front of this place is below the key
@@ -37,3 +63,10 @@ module _ {K : Type 0} (cmp : K → K → Ordering) (slot : ℕ → Option (Held 
     pub live : (i : ℕ) → i < length order → IsSome (slot (slice_index_or order i 0))
     pub listed : (number : ℕ) → IsSome (slot number) → (i : ℕ) × (i < length order) × (slice_index_or order i 0 ≡ number)
     pub held : (number : ℕ) (value : Held K) → slot number ≡ Some value → 0 < value.holds
+
+-- what holds of a pool's lists, of the length of its order, and of how many keys there is room for
+pub record IsKept {K : Type 0} (cmp : K → K → Ordering) (slots : List (Option (Held K))) (free order : List ℕ) (len limit : ℕ) : Type 0 where
+  pub indexed : IsIndexed cmp (slot_at slots) order
+  pub free_slots : AreFree slots free
+  pub counted : slot_count slots ≡ len
+  pub within : length slots ≤ limit

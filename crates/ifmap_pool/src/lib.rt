@@ -6,7 +6,6 @@
 
 mod places;
 mod pools;
-#[cfg(test)]
-mod tests;
+mod slots;
 
 pub use pools::Pool;

@@ -1,9 +1,9 @@
 -- What one number that is looked at changes, with the steps that it takes.
-use Rattle.std.proofs.Common.{◌≡◌, ◌≢◌, ℕ, suc, ◌+◌, ◌*◌, ◌<◌, ◌≤◌, Bool, true, false, Option, Some, None, List, [], ◌∷◌, ◌++◌, Contains, sum_by, nat_eq, is_some, ◌⊎◌, inl, inr, refl, sym, ap, subst, ◌∙◌, arith, true≢false}
+use Rattle.std.proofs.Common.{◌≡◌, ◌≢◌, ℕ, suc, ◌+◌, ◌*◌, ◌<◌, ◌≤◌, Bool, true, false, Option, Some, None, List, [], ◌∷◌, ◌++◌, Contains, sum_by, is_some, ◌⊎◌, inl, inr, refl, sym, ap, subst, ◌∙◌, arith, true≢false}
 use Rattle.std.specs.Prelude.{IsSome}
 use Rattle.std.proofs.lemmas.Option.{same_Some, none-some}
-use Rattle.std.proofs.lemmas.Bool.{cases_eq, ne_eqb}
-use Rattle.std.proofs.lemmas.List.Elements.{Contains-append_left, Contains-append_right, Contains-push, Contains-push_cases, All-weaker, All-cons, All-nil, All-push, All-from_recursion, recursion_from_All}
+use Rattle.std.proofs.lemmas.Bool.{cases_eq}
+use Rattle.std.proofs.lemmas.List.Elements.{Contains-append_left, Contains-append_right, Contains-push, Contains-push_cases, All-weaker, All-cons, All-nil}
 use Rattle.std.proofs.lemmas.List.Sums.{sum_by-cons, sum_by_push}
 use Rattle.std.specs.List.{IsDistinct}
 use Rattle.ifmap_region.specs.declared.flips.Flip.{Flip}
@@ -19,8 +19,8 @@ use Rattle.ifmap_region.proofs.FlipLists.{flipped_back}
 use Rattle.ifmap_region.specs.Spreading.{waiting}
 use Rattle.ifmap_region.specs.Losing.{Follows, AreGone, IsLookedAt, IsBeforeCut, IsCutting}
 use Rattle.ifmap_region.proofs.Lost.{losing_passed, losing_held, losing_gone, moved_here}
-use Rattle.ifmap_region.proofs.Ready.{waiting_out, waiting_in, waiting_first, distinct_cons}
-use Rattle.ifmap_region.proofs.Sums.{sum_within}
+use Rattle.ifmap_region.proofs.Ready.{waiting_out, waiting_in, waiting_first}
+use Rattle.ifmap_region.specs.General.{distinct_cons, distinct_push, sum_within}
 
 pub some_row : (o : Option (Option ℕ)) → IsSome o → (r : Option ℕ) × (o ≡ Some r)
 some_row None h = absurd (true≢false (sym h))
@@ -28,15 +28,6 @@ some_row (Some r) h = (r, refl)
 
 pub is_some_row : (o : Option (Option ℕ)) (r : Option ℕ) → o ≡ Some r → IsSome o
 is_some_row o r e = ap is_some e
-
-pub distinct_push : (xs : List ℕ) (x : ℕ) → ((y : ℕ) → Contains xs y → y ≢ x) → IsDistinct nat_eq xs → IsDistinct nat_eq (xs ++ x ∷ [])
-unfolding IsDistinct
-distinct_push [] x apart d = (tt, tt)
-distinct_push (y ∷ ys) x apart d = (
-  recursion_from_All (λ (z : ℕ). nat_eq y z ≡ false) (ys ++ x ∷ [])
-      (All-push (λ (z : ℕ). nat_eq y z ≡ false) ys x (All-from_recursion (λ (z : ℕ). nat_eq y z ≡ false) ys d.0) (ne_eqb y x (apart y (0, omega arith, refl)))),
-  distinct_push ys x (λ z h. apart z (Contains-append_right (y ∷ []) ys z h)) d.1,
-)
 
 module _ (count : ℕ → ℕ) (rows rows' : List (ℕ × Option ℕ)) (gone : List ℕ) (v : ℕ)
     (unrowed : row_of rows v ≡ None) (others : (q : ℕ) → q ≢ v → row_of rows' q ≡ row_of rows q) where

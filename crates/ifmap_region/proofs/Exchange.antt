@@ -13,7 +13,7 @@ use Rattle.ifmap_region.specs.Ways.{HasRoom, OnlyRoom, Makes, Sweeps, Exchanges,
 use Rattle.std.specs.Option.{option_map}
 use Rattle.ifmap_region.proofs.Overs.{row_here, row_apart}
 use Rattle.ifmap_region.proofs.Patches.{row_place}
-use Rattle.ifmap_region.proofs.Sums.{distinct_head, distinct_tail}
+use Rattle.ifmap_region.specs.General.{distinct_head, distinct_tail}
 
 -- the first row, where there is one, else the second
 abbrev pub first_row : Option (Option ℕ) → Option (Option ℕ) → Option (Option ℕ)
@@ -52,12 +52,12 @@ insert_at (x ∷ xs) ys n r w fresh = by (nat_eq n x.0) refl (insert_at xs ys n 
         ap (λ (b : Bool). cond b ((x.0, w) ∷ (xs ++ (n, r) ∷ ys)) (x ∷ insert_entry nat_eq (xs ++ (n, r) ∷ ys) n w)) t
         ∙ ap (λ (l : List (ℕ × Option ℕ)). x ∷ l) (rest (sym (ap (λ (b : Bool). cond b (Some x.1) (row_of xs n)) t) ∙ fresh))
 
-rowed_taken : (rows xs : List (ℕ × Option ℕ)) (v : ℕ) → is_some (row_of (taken_from rows xs) v) ≡ is_some (row_of xs v)
+rowed_taken : (rows xs : List (ℕ × Option ℕ)) (v : ℕ) → is_some (row_of (taken_from (mark_of rows) xs) v) ≡ is_some (row_of xs v)
 rowed_taken rows [] v = refl
 rowed_taken rows (x ∷ xs) v = by (nat_eq v x.0) (rowed_taken rows xs v)
   where
-    by : (t : Bool) → is_some (row_of (taken_from rows xs) v) ≡ is_some (row_of xs v)
-        → is_some (cond t (Some (mark_of rows x.0)) (row_of (taken_from rows xs) v)) ≡ is_some (cond t (Some x.1) (row_of xs v))
+    by : (t : Bool) → is_some (row_of (taken_from (mark_of rows) xs) v) ≡ is_some (row_of xs v)
+        → is_some (cond t (Some (mark_of rows x.0)) (row_of (taken_from (mark_of rows) xs) v)) ≡ is_some (cond t (Some x.1) (row_of xs v))
     by true rest = refl
     by false rest = rest
 
@@ -79,13 +79,13 @@ slice_at (x ∷ xs) ys e (suc i) l = slice_at xs ys e i (omega (arith, l))
 
 module _ (rows es now patch : List (ℕ × Option ℕ)) (i : ℕ) (distinct : IsDistinct nat_eq (keys_of es))
     (inv_rows : (v : ℕ) → row_of now v ≡ first_row (row_of (take i es) v) (row_of rows v))
-    (inv_patch : patch ≡ taken_from rows (take i es) ++ drop i es) where
+    (inv_patch : patch ≡ taken_from (mark_of rows) (take i es) ++ drop i es) where
   pub room_now : HasRoom es rows → HasRoom patch now
   room_now room v h = by (row_of (take i es) v) (row_of (drop i es) v) refl refl
     where
       some : is_some (first_row (row_of (take i es) v) (row_of (drop i es) v)) ≡ true
-      some = sym (rowed_first (row_of (taken_from rows (take i es)) v) (row_of (drop i es) v) (row_of (take i es) v) (rowed_taken rows (take i es) v))
-          ∙ sym (ap is_some (row_append (taken_from rows (take i es)) (drop i es) v)) ∙ ap (λ (l : List (ℕ × Option ℕ)). is_some (row_of l v)) (sym inv_patch) ∙ h
+      some = sym (rowed_first (row_of (taken_from (mark_of rows) (take i es)) v) (row_of (drop i es) v) (row_of (take i es) v) (rowed_taken rows (take i es) v))
+          ∙ sym (ap is_some (row_append (taken_from (mark_of rows) (take i es)) (drop i es) v)) ∙ ap (λ (l : List (ℕ × Option ℕ)). is_some (row_of l v)) (sym inv_patch) ∙ h
 
       in_all : is_some (row_of es v) ≡ true
       in_all = ap (λ (l : List (ℕ × Option ℕ)). is_some (row_of l v)) (sym (take-append-drop i es)) ∙ ap is_some (row_append (take i es) (drop i es) v) ∙ some
@@ -101,15 +101,15 @@ module _ (rows es now patch : List (ℕ × Option ℕ)) (i : ℕ) (distinct : Is
     parts : es ≡ take i es ++ get_or es i (0, None) ∷ drop (i + 1) es
     parts = sym (take-append-drop i es) ∙ ap (λ (l : List (ℕ × Option ℕ)). take i es ++ l) (drop_more es i (0, None) lt)
 
-    patch_is : patch ≡ taken_from rows (take i es) ++ get_or es i (0, None) ∷ drop (i + 1) es
-    patch_is = inv_patch ∙ ap (λ (l : List (ℕ × Option ℕ)). taken_from rows (take i es) ++ l) (drop_more es i (0, None) lt)
+    patch_is : patch ≡ taken_from (mark_of rows) (take i es) ++ get_or es i (0, None) ∷ drop (i + 1) es
+    patch_is = inv_patch ∙ ap (λ (l : List (ℕ × Option ℕ)). taken_from (mark_of rows) (take i es) ++ l) (drop_more es i (0, None) lt)
 
     fresh : row_of (take i es) (get_or es i (0, None)).0 ≡ None
     fresh = fresh_at (take i es) (drop (i + 1) es) (get_or es i (0, None)).0 (get_or es i (0, None)).1 (subst (λ (l : List (ℕ × Option ℕ)). IsDistinct nat_eq (keys_of l)) parts distinct)
 
     at_place : slice_get patch i ≡ Some (get_or es i (0, None))
     at_place = ap (λ (l : List (ℕ × Option ℕ)). slice_get l i) patch_is
-        ∙ slice_at (taken_from rows (take i es)) (drop (i + 1) es) (get_or es i (0, None)) i
+        ∙ slice_at (taken_from (mark_of rows) (take i es)) (drop (i + 1) es) (get_or es i (0, None)) i
         (length-map {B = ℕ × Option ℕ} (take i es) (λ (x : ℕ × Option ℕ). (x.0, mark_of rows x.0)) ∙ length_front)
       where
         length_front : length (take i es) ≡ i
@@ -140,15 +140,15 @@ module _ (rows es now patch : List (ℕ × Option ℕ)) (i : ℕ) (distinct : Is
           ∙ drop_none (row_of (take i es) v) (row_of rows v))
     ]
 
-    pub patch_next : patch' ≡ taken_from rows (take (i + 1) es) ++ drop (i + 1) es
+    pub patch_next : patch' ≡ taken_from (mark_of rows) (take (i + 1) es) ++ drop (i + 1) es
     patch_next =
         done.1 ∙ ap (λ (l : List (ℕ × Option ℕ)). insert_entry nat_eq l (get_or es i (0, None)).0 (mark_of now (get_or es i (0, None)).0)) patch_is
-        ∙ insert_at (taken_from rows (take i es)) (drop (i + 1) es) (get_or es i (0, None)).0 (get_or es i (0, None)).1 (mark_of now (get_or es i (0, None)).0)
-        (none_from (row_of (taken_from rows (take i es)) (get_or es i (0, None)).0) (rowed_taken rows (take i es) (get_or es i (0, None)).0 ∙ ap is_some fresh))
-        ∙ ap (λ (m : Option ℕ). taken_from rows (take i es) ++ ((get_or es i (0, None)).0, m) ∷ drop (i + 1) es) mark_is
-        ∙ sym (ap (λ (l : List (ℕ × Option ℕ)). taken_from rows l ++ drop (i + 1) es) (take_more es i (0, None) lt)
+        ∙ insert_at (taken_from (mark_of rows) (take i es)) (drop (i + 1) es) (get_or es i (0, None)).0 (get_or es i (0, None)).1 (mark_of now (get_or es i (0, None)).0)
+        (none_from (row_of (taken_from (mark_of rows) (take i es)) (get_or es i (0, None)).0) (rowed_taken rows (take i es) (get_or es i (0, None)).0 ∙ ap is_some fresh))
+        ∙ ap (λ (m : Option ℕ). taken_from (mark_of rows) (take i es) ++ ((get_or es i (0, None)).0, m) ∷ drop (i + 1) es) mark_is
+        ∙ sym (ap (λ (l : List (ℕ × Option ℕ)). taken_from (mark_of rows) l ++ drop (i + 1) es) (take_more es i (0, None) lt)
         ∙ ap (λ (l : List (ℕ × Option ℕ)). l ++ drop (i + 1) es) (map_push (λ (x : ℕ × Option ℕ). (x.0, mark_of rows x.0)) (take i es) (get_or es i (0, None)))
-        ∙ append_assoc (taken_from rows (take i es)) (((get_or es i (0, None)).0, mark_of rows (get_or es i (0, None)).0) ∷ []) (drop (i + 1) es))
+        ∙ append_assoc (taken_from (mark_of rows) (take i es)) (((get_or es i (0, None)).0, mark_of rows (get_or es i (0, None)).0) ∷ []) (drop (i + 1) es))
       where
         mark_is : mark_of now (get_or es i (0, None)).0 ≡ mark_of rows (get_or es i (0, None)).0
         mark_is = ap (λ (o : Option (Option ℕ)). unwrap_or o None) (inv_rows (get_or es i (0, None)).0 ∙ ap (λ (o : Option (Option ℕ)). first_row o (row_of rows (get_or es i (0, None)).0)) fresh)
@@ -167,10 +167,10 @@ module _ (rows es now patch : List (ℕ × Option ℕ)) (i : ℕ) (distinct : Is
       rowed v None f = ap is_some (row v ∙ ap (λ (o : Option (Option ℕ)). first_row o (row_of rows v)) f)
       rowed v (Some r) f = ap is_some (row v ∙ ap (λ (o : Option (Option ℕ)). first_row o (row_of rows v)) f) ∙ sym (room v (ap is_some f))
 
-  pub taken_all : length es ≤ i → patch ≡ taken_from rows es
+  pub taken_all : length es ≤ i → patch ≡ taken_from (mark_of rows) es
   taken_all le =
-      inv_patch ∙ ap (λ (l : List (ℕ × Option ℕ)). taken_from rows l ++ drop i es) (take_all i es le)
-      ∙ ap (λ (l : List (ℕ × Option ℕ)). taken_from rows es ++ l) (drop_all i es le) ∙ append-nil (taken_from rows es)
+      inv_patch ∙ ap (λ (l : List (ℕ × Option ℕ)). taken_from (mark_of rows) l ++ drop i es) (take_all i es le)
+      ∙ ap (λ (l : List (ℕ × Option ℕ)). taken_from (mark_of rows) es ++ l) (drop_all i es le) ∙ append-nil (taken_from (mark_of rows) es)
 
 -- a place below i + 1 is below i, or has what stands at i
 pub place_cases : (es : List (ℕ × Option ℕ)) (n : ℕ) (s : Option ℕ) (i : ℕ) → slice_get es i ≡ Some (n, s)
@@ -267,38 +267,38 @@ swept_all patch old rows i within each out = record { each = each; out = λ v h 
     by v None e h bare = absurd (true≢false (sym h))
     by v (Some r) e h bare = let p = row_place patch v r e in out p.0 v r (within p.0 v r p.1) p.1 bare
 
--- what was taken has the numbers of the patch, with the marks that were there
-row_taken : (rows patch : List (ℕ × Option ℕ)) (v : ℕ) → row_of (taken_from rows patch) v ≡ option_map (λ _. mark_of rows v) (row_of patch v)
-row_taken rows [] v = refl
-row_taken rows (x ∷ xs) v = by (nat_eq v x.0) refl (row_taken rows xs v)
+-- what was taken has the numbers of the patch, with the marks that they had
+row_taken : (mark : ℕ → Option ℕ) (patch : List (ℕ × Option ℕ)) (v : ℕ) → row_of (taken_from mark patch) v ≡ option_map (λ _. mark v) (row_of patch v)
+row_taken mark [] v = refl
+row_taken mark (x ∷ xs) v = by (nat_eq v x.0) refl (row_taken mark xs v)
   where
-    by : (t : Bool) → nat_eq v x.0 ≡ t → row_of (taken_from rows xs) v ≡ option_map (λ _. mark_of rows v) (row_of xs v)
-        → cond t (Some (mark_of rows x.0)) (row_of (taken_from rows xs) v) ≡ option_map (λ _. mark_of rows v) (cond t (Some x.1) (row_of xs v))
-    by true e rest = ap (λ (n : ℕ). Some (mark_of rows n)) (sym (eqb-true v x.0 e))
+    by : (t : Bool) → nat_eq v x.0 ≡ t → row_of (taken_from mark xs) v ≡ option_map (λ _. mark v) (row_of xs v)
+        → cond t (Some (mark x.0)) (row_of (taken_from mark xs) v) ≡ option_map (λ _. mark v) (cond t (Some x.1) (row_of xs v))
+    by true e rest = ap (λ (n : ℕ). Some (mark n)) (sym (eqb-true v x.0 e))
     by false e rest = rest
 
 -- the marks before come back, and the patch with them
-module _ (undo patch before after new : List (ℕ × Option ℕ)) (way : IsWayBack undo patch before after) (v : ℕ) where
-  undo_row : row_of undo v ≡ option_map (λ _. mark_of before v) (row_of patch v)
+module _ (undo patch : List (ℕ × Option ℕ)) (before after : ℕ → Option ℕ) (way : IsWayBack undo patch before after) (v : ℕ) where
+  undo_row : row_of undo v ≡ option_map (λ _. before v) (row_of patch v)
   undo_row = ap (λ (l : List (ℕ × Option ℕ)). row_of l v) way.taken ∙ row_taken before patch v
 
-  pub marks_back : Makes undo after new → mark_of new v ≡ mark_of before v
-  marks_back made = made.marks v ∙ by (row_of patch v) refl
+  pub marks_back : over undo after v ≡ before v
+  marks_back = by (row_of patch v) refl
     where
-      by : (o : Option (Option ℕ)) → row_of patch v ≡ o → over undo (mark_of after) v ≡ mark_of before v
+      by : (o : Option (Option ℕ)) → row_of patch v ≡ o → over undo after v ≡ before v
       by None e =
-          ap (λ (o : Option (Option ℕ)). unwrap_or o (mark_of after v)) (undo_row ∙ ap (option_map (λ _. mark_of before v)) e)
-          ∙ way.made.marks v ∙ ap (λ (o : Option (Option ℕ)). unwrap_or o (mark_of before v)) e
-      by (Some r) e = ap (λ (o : Option (Option ℕ)). unwrap_or o (mark_of after v)) (undo_row ∙ ap (option_map (λ _. mark_of before v)) e)
+          ap (λ (o : Option (Option ℕ)). unwrap_or o (after v)) (undo_row ∙ ap (option_map (λ _. before v)) e)
+          ∙ way.made v ∙ ap (λ (o : Option (Option ℕ)). unwrap_or o (before v)) e
+      by (Some r) e = ap (λ (o : Option (Option ℕ)). unwrap_or o (after v)) (undo_row ∙ ap (option_map (λ _. before v)) e)
 
   pub patch_back : row_of (taken_from after undo) v ≡ row_of patch v
   patch_back = row_taken after undo v ∙ by (row_of patch v) refl
     where
-      by : (o : Option (Option ℕ)) → row_of patch v ≡ o → option_map (λ _. mark_of after v) (row_of undo v) ≡ row_of patch v
-      by None e = ap (option_map (λ _. mark_of after v)) (undo_row ∙ ap (option_map (λ _. mark_of before v)) e) ∙ sym e
+      by : (o : Option (Option ℕ)) → row_of patch v ≡ o → option_map (λ _. after v) (row_of undo v) ≡ row_of patch v
+      by None e = ap (option_map (λ _. after v)) (undo_row ∙ ap (option_map (λ _. before v)) e) ∙ sym e
       by (Some r) e =
-          ap (option_map (λ _. mark_of after v)) (undo_row ∙ ap (option_map (λ _. mark_of before v)) e)
-          ∙ ap Some (way.made.marks v ∙ ap (λ (o : Option (Option ℕ)). unwrap_or o (mark_of before v)) e) ∙ sym e
+          ap (option_map (λ _. after v)) (undo_row ∙ ap (option_map (λ _. before v)) e)
+          ∙ ap Some (way.made v ∙ ap (λ (o : Option (Option ℕ)). unwrap_or o (before v)) e) ∙ sym e
 
 -- a sweep leaves the marks
 pub marks_swept : (patch old new : List (ℕ × Option ℕ)) → Sweeps patch old new → (v : ℕ) → mark_of new v ≡ mark_of old v
@@ -315,7 +315,7 @@ marks_roomed patch old new s v = elim (s v) [
 ]
 
 -- a change and a sweep of its numbers
-module _ (patch old mid new : List (ℕ × Option ℕ)) (made : Makes patch old mid) (swept : Sweeps (taken_from old patch) mid new) (v : ℕ) where
+module _ (patch old mid new : List (ℕ × Option ℕ)) (made : Makes patch old mid) (swept : Sweeps (taken_from (mark_of old) patch) mid new) (v : ℕ) where
   pub commit_swept : IsSome (row_of patch v) → row_of new v ≡ Some None → ⊥
   commit_swept h e = elim (swept.each v) [
     | inl same ↦ none-some None (sym (swept.out v (rowed_taken old patch v ∙ h) (sym same ∙ e)) ∙ e)
@@ -329,6 +329,6 @@ module _ (patch old mid new : List (ℕ × Option ℕ)) (made : Makes patch old 
   ]
 
 -- the numbers that were exchanged still have rows
-pub room_taken : (patch old new taken : List (ℕ × Option ℕ)) → HasRoom patch old → Makes patch old new → taken ≡ taken_from old patch → HasRoom taken new
+pub room_taken : (patch old new taken : List (ℕ × Option ℕ)) → HasRoom patch old → Makes patch old new → taken ≡ taken_from (mark_of old) patch → HasRoom taken new
 room_taken patch old new taken room made is v h =
     made.rows v ∙ room v (sym (rowed_taken old patch v) ∙ ap (λ (l : List (ℕ × Option ℕ)). is_some (row_of l v)) (sym is) ∙ h)

@@ -52,6 +52,19 @@ pub hides_here : {S : Type 0} (old new : HashSet (ℕ × ℕ) S) (a b v w : ℕ)
 hides_here old new a b v w put e f =
     put (v, w) ∙ ap (λ (t : Bool). cond t true (hides old v w)) (and_from (nat_eq a v) (nat_eq b w) (eq-eqb a v e) (eq-eqb b w f))
 
+-- where each pair was there both ways round, it is after one that is put in both ways round
+pub turned_both : {S : Type 0} (old mid new : HashSet (ℕ × ℕ) S) (a b : ℕ)
+    → ((q : ℕ × ℕ) → contains same_pair mid q ≡ cond (same_pair (a, b) q) true (contains same_pair old q))
+    → ((q : ℕ × ℕ) → contains same_pair new q ≡ cond (same_pair (b, a) q) true (contains same_pair mid q))
+    → ((v w : ℕ) → hides old v w ≡ true → hides old w v ≡ true) → (v w : ℕ) → hides new v w ≡ true → hides new w v ≡ true
+turned_both old mid new a b first second turned v w h = elim (hides_cases mid new b a v w second h) [
+  | inl before ↦ elim (hides_cases old mid a b v w first before) [
+    | inl long_before ↦ hides_kept mid new b a w v second (hides_kept old mid a b w v first (turned v w long_before))
+    | inr e ↦ hides_here mid new b a w v second e.1 e.0
+  ]
+  | inr e ↦ hides_kept mid new b a w v second (hides_here old mid a b w v first e.1 e.0)
+]
+
 -- one seed is offered: the level that a number gives another
 module _ (Gives : ℕ → ℕ → ℕ → Type 0) (x y : ℕ) (level : Option ℕ) (before after : List (ℕ × ℕ))
     (offered : MatchOption level (after ≡ before) (λ k. after ≡ before ++ (k, y) ∷ []))

@@ -2,14 +2,12 @@ pub mod Cuts
 pub mod Depths
 pub mod Exchange
 pub mod FlipLists
-pub mod GridLinks
 pub mod Lost
+pub mod Missing
 pub mod Offering
 pub mod Overs
-pub mod PairLinks
 pub mod Patches
 pub mod Ready
 pub mod Regrow
 pub mod Repairs
-pub mod Sums
 pub mod Waits

@@ -1,6 +1,6 @@
 -- Rows that differ from the marks below, and rows by their places.
 use Rattle.std.proofs.Common.{◌≡◌, ◌≢◌, ℕ, suc, ◌+◌, ◌<◌, ◌≤◌, Bool, true, false, Option, Some, None, List, [], ◌∷◌, length, nat_eq, cond, ◌⊎◌, inl, inr, refl, sym, ap, ◌∙◌, arith, unwrap_or}
-use Rattle.std.specs.Prelude.{slice_get}
+use Rattle.std.specs.Prelude.{slice_get, IfSome}
 use Rattle.std.specs.Map.{update}
 use Rattle.std.proofs.lemmas.Option.{same_Some, none-some, slice_get_within}
 use Rattle.std.proofs.lemmas.Bool.{cases_eq, cases_lt, eqb-true}
@@ -91,3 +91,8 @@ over_differing rows base changed only each v = by (row_of rows v) (row_of change
       | inl same ↦ at changed None f ∙ sym same ∙ sym (at rows (Some r) e)
       | inr differs ↦ absurd (none-some r (sym f ∙ each v r e differs))
     ]
+
+-- where a number has a row, it stands at some place
+pub row_found : (rows : List (ℕ × Option ℕ)) (v : ℕ) (o : Option (Option ℕ)) → o ≡ row_of rows v → IfSome o (λ mark. (i : ℕ) × (slice_get rows i ≡ Some (v, mark)))
+row_found rows v None e = tt
+row_found rows v (Some r) e = row_place rows v r (sym e)

@@ -1,8 +1,8 @@
 -- What one number that is looked at changes while marks fall.
-use Rattle.std.proofs.Common.{◌≡◌, ◌≢◌, ℕ, suc, ◌+◌, ◌<◌, ◌≤◌, Bool, false, Option, Some, None, List, [], ◌∷◌, Contains, All, nat_eq, ◌⊎◌, inl, inr, refl, sym, ap, subst, ◌∙◌, arith}
+use Rattle.std.proofs.Common.{◌≡◌, ◌≢◌, ℕ, suc, ◌+◌, ◌<◌, ◌≤◌, Bool, false, Option, Some, None, List, [], ◌∷◌, Contains, ◌⊎◌, inl, inr, refl, sym, ap, subst, ◌∙◌, arith}
 use Rattle.std.proofs.lemmas.Option.{same_Some, none-some}
-use Rattle.std.proofs.lemmas.Bool.{cases_eq, ne_eqb}
-use Rattle.std.proofs.lemmas.List.Elements.{Contains-append_right, Contains-append_cases, All-weaker, All-cons, All-nil, recursion_from_All}
+use Rattle.std.proofs.lemmas.Bool.{cases_eq}
+use Rattle.std.proofs.lemmas.List.Elements.{Contains-append_right, Contains-append_cases, All-weaker, All-cons, All-nil}
 use Rattle.std.proofs.lemmas.List.Sums.{sum_by-cons}
 use Rattle.std.specs.List.{IsDistinct}
 use Rattle.ifmap_region.specs.Bounds.{IsWithin}
@@ -11,7 +11,7 @@ use Rattle.ifmap_region.specs.Walks.{Walk, begins, goes_on, AreDepths, IsReached
 use Rattle.ifmap_region.specs.Waiting.{Waiting, ComesOut}
 use Rattle.ifmap_region.proofs.Depths.{depths_from}
 use Rattle.ifmap_region.specs.Spreading.{Offers, waiting, IsBound, IsReady, Improves, IsSet, IsCharged}
-use Rattle.ifmap_region.proofs.Waits.{contains_one}
+use Rattle.ifmap_region.specs.General.{contains_one, distinct_cons}
 
 -- what waits is the first number of the level, or waits without it
 pub waiting_out : (level n : ℕ) (rest : List ℕ) (entries : List (ℕ × ℕ)) (k x : ℕ) → waiting level (n ∷ rest) entries k x
@@ -29,12 +29,6 @@ waiting_in level n rest entries k x w = elim w [ inl p ↦ inl (p.0, Contains-ap
 
 pub waiting_first : (level n : ℕ) (rest : List ℕ) (entries : List (ℕ × ℕ)) → waiting level (n ∷ rest) entries level n
 waiting_first level n rest entries = inl (refl, (0, omega arith, refl))
-
--- a distinct list with one number more
-pub distinct_cons : (x : ℕ) (xs : List ℕ) → All (λ y. x ≢ y) xs → IsDistinct nat_eq xs → IsDistinct nat_eq (x ∷ xs)
-unfolding IsDistinct
-distinct_cons x xs apart d =
-    (recursion_from_All (λ (y : ℕ). nat_eq x y ≡ false) xs (All-weaker (λ (y : ℕ). x ≢ y) (λ (y : ℕ). nat_eq x y ≡ false) (λ y ne. ne_eqb x y ne) xs apart), d)
 
 module _ (links : ℕ → ℕ → Type 0) (terminal : ℕ → Bool) (start top : ℕ) where
   -- a number whose mark is low enough is passed over

@@ -1,10 +1,9 @@
 -- What is found again after a cut, and what is found by added links.
-use Rattle.std.proofs.Common.{◌≡◌, ℕ, suc, ◌+◌, ◌*◌, ◌<◌, ◌≤◌, Bool, true, false, Option, Some, None, List, [], ◌∷◌, ◌++◌, Contains, sum_by, is_some, ◌⊎◌, inl, inr, refl, sym, ap, subst, ◌∙◌, arith, true≢false}
+use Rattle.std.proofs.Common.{◌≡◌, ℕ, suc, ◌+◌, ◌<◌, ◌≤◌, Bool, true, false, Option, Some, None, List, [], ◌∷◌, ◌++◌, Contains, sum_by, is_some, ◌⊎◌, inl, inr, refl, sym, ap, subst, ◌∙◌, arith, true≢false}
 use Rattle.std.specs.Prelude.{MatchOption, IfSome, IsSome}
 use Rattle.std.proofs.lemmas.Option.{same_Some, none-some}
 use Rattle.std.proofs.lemmas.Bool.{cases_eq, cases_lt, true≢false}
-use Rattle.std.proofs.lemmas.List.Elements.{Contains-append_left, Contains-append_right, Contains-append_cases, Contains-push, Contains-push_cases, All-weaker, All-contains, All-nil}
-use Rattle.std.specs.List.{IsDistinct}
+use Rattle.std.proofs.lemmas.List.Elements.{Contains-append_left, Contains-append_right, Contains-append_cases, Contains-push, Contains-push_cases, All-weaker, All-contains}
 use Rattle.ifmap_region.specs.declared.flips.Flip.{Flip}
 use Rattle.ifmap_region.specs.Bounds.{IsWithin}
 use Rattle.ifmap_region.specs.Flips.{Joins, IsFlipped, WithRemoved, Mid}
@@ -17,8 +16,7 @@ use Rattle.ifmap_region.specs.Walks.{Walk, goes_on, AreDepths, Expands}
 use Rattle.ifmap_region.proofs.Depths.{marked, marked_start, closed_from, sound_from, walk_along, no_walk}
 use Rattle.ifmap_region.proofs.Lost.{ready_left, over_unrowed, over_rowed}
 use Rattle.ifmap_region.proofs.Cuts.{some_row}
-use Rattle.ifmap_region.proofs.Sums.{sum_within}
-use Rattle.ifmap_region.proofs.Waits.{contains_one}
+use Rattle.ifmap_region.specs.General.{contains_one, sum_within}
 
 -- seeds of one number more that is gone
 module _ (links : ℕ → ℕ → Type 0) (terminal : ℕ → Bool) (top : ℕ) (mark : ℕ → Option ℕ) (gone : List ℕ) (v : ℕ) (seeds after : List (ℕ × ℕ)) where
@@ -110,16 +108,6 @@ module _ (links : ℕ → ℕ → Type 0) (terminal : ℕ → Bool) (count : ℕ
             (λ x h. let r = some_row (row_of rows x) h in (c.losing.looked x r.0 r.1).4) c.charged.numbers c.charged.among;
         bound = omega (arith, le, c.charged.bound, lost);
       }
-
--- more times of the same sum
-pub spent_times : (weight : ℕ → ℕ) (Among : ℕ → Type 0) (times more before after : ℕ) → times ≡ 2 → more ≡ 4 → IsWithin weight Among times before after → IsWithin weight Among more before after
-spent_times weight Among times more before after e f s = record {
-  numbers = s.numbers;
-  distinct = s.distinct;
-  among = s.among;
-  bound = let b : after ≤ before + 2 * sum_by weight s.numbers = subst (λ (n : ℕ). after ≤ before + n * sum_by weight s.numbers) e s.bound in
-      subst (λ (n : ℕ). after ≤ before + n * sum_by weight s.numbers) (sym f) (omega (arith, b));
-}
 
 -- whether some flip joins two numbers can be told
 pub flipped_or_not : (flips : List Flip) (added : Bool) (v w : ℕ) → IsFlipped flips added v w ⊎ (IsFlipped flips added v w → ⊥)
@@ -244,8 +232,3 @@ lesser_only P a b r one p q = elim one [
   | inl e ↦ subst (λ (o : Option ℕ). IfSome o P) (sym e) p
   | inr e ↦ subst (λ (o : Option ℕ). IfSome o P) (sym e) q
 ]
-
--- no step was taken
-pub spent_nothing : (weight : ℕ → ℕ) (Among : ℕ → Type 0) (times before : ℕ) → IsWithin weight Among times before before
-unfolding IsDistinct
-spent_nothing weight Among times before = record { numbers = []; distinct = tt; among = All-nil Among; bound = omega arith }

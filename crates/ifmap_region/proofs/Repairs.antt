@@ -1,145 +1,153 @@
 -- A repair is a cut and then growth.
-use Rattle.std.proofs.Common.{◌≡◌, ℕ, suc, ◌+◌, ◌≤◌, Bool, true, false, Option, Some, None, List, [], ◌∷◌, Contains, All, sum_by, nat_eq, ◌⊎◌, inl, inr, refl, sym, ap, subst, ◌∙◌, arith, true≢false}
+use Rattle.std.proofs.Common.{◌≡◌, ℕ, zero, suc, ◌+◌, ◌≤◌, Bool, true, false, Option, Some, None, List, inl, inr, refl, sym, ap, ◌∙◌, arith, true≢false}
 use Rattle.std.specs.Prelude.{if◌then◌else◌}
 use Rattle.std.proofs.lemmas.Option.{same_Some, none-some}
-use Rattle.std.proofs.lemmas.Bool.{cases_eq}
-use Rattle.std.proofs.lemmas.List.Elements.{Contains-append_right, Contains-append_cases, Contains-get_or, All-weaker, All-cons}
-use Rattle.std.proofs.lemmas.List.Sums.{sum_by-cons}
-use Rattle.std.specs.List.{IsDistinct}
+use Rattle.std.proofs.lemmas.Bool.{cases_lt}
 use Rattle.std.specs.HashSet.{HashSet}
 use Rattle.ifmap_region.specs.declared.flips.Flip.{Flip}
-use Rattle.ifmap_region.specs.Bounds.{IsWithin}
+use Rattle.ifmap_region.specs.Bounds.{IsWithin, within_wider, within_heavier, within_more, within_both}
 use Rattle.ifmap_region.specs.Flips.{IsFlipped, WithRemoved, Mid, Old}
 use Rattle.ifmap_region.specs.Hiding.{hides, unhidden}
 use Rattle.ifmap_region.specs.Links.{Linked, IsSymmetric}
 use Rattle.ifmap_region.specs.Losing.{IsBeforeCut}
 use Rattle.ifmap_region.specs.Near.{at_flip, touched, beside, NearOneWay, NearFlips, SameDepth}
-use Rattle.ifmap_region.specs.Walks.{AreDepths}
-use Rattle.ifmap_region.proofs.Depths.{depth_along, depths_along}
-use Rattle.ifmap_region.proofs.FlipLists.{flipped_back}
-use Rattle.ifmap_region.proofs.Ready.{distinct_cons}
-use Rattle.ifmap_region.proofs.Sums.{sum_within}
-use Rattle.ifmap_region.proofs.Waits.{contains_one}
+use Rattle.ifmap_region.specs.Walks.{Walk, begins, goes_on, HasDepth, AreDepths}
+use Rattle.ifmap_region.proofs.Depths.{marked, walk_along}
 
--- whether a number is in a list can be told
-pub member_or_not : (xs : List ℕ) (x : ℕ) → Contains xs x ⊎ (Contains xs x → ⊥)
-member_or_not [] x = inr (λ h. omega (arith, h.1))
-member_or_not (y ∷ ys) x = elim (cases_eq y x) [
-  | inl at ↦ inl (0, omega arith, at)
-  | inr apart ↦ elim (member_or_not ys x) [
-    | inl h ↦ inl (Contains-append_right (y ∷ []) ys x h)
-    | inr out ↦ inr (λ h. elim (Contains-append_cases (y ∷ []) ys x h) [ inl one ↦ apart (contains_one y x one) | inr later ↦ out later ])
-  ]
-]
-
--- two lists of distinct numbers are both in a third
-pub both : (Among : ℕ → Type 0) (xs ys : List ℕ) → IsDistinct nat_eq xs → All Among xs → All Among ys
-    → (zs : List ℕ) × IsDistinct nat_eq zs × All Among zs × ((x : ℕ) → Contains xs x → Contains zs x) × ((y : ℕ) → Contains ys y → Contains zs y)
-both Among xs [] d a b = (xs, d, a, λ x h. h, λ y h. absurd (omega (arith, h.1)))
-both Among xs (y ∷ ys) d a b =
-    let rest = both Among xs ys d a (λ k e lt. b (suc k) e (omega (arith, lt))) in
-    elim (member_or_not rest.0 y) [
-      | inl there ↦ (
-        rest.0,
-        rest.1,
-        rest.2,
-        rest.3,
-        λ z h. elim (Contains-append_cases (y ∷ []) ys z h) [
-          | inl one ↦ subst (λ (x : ℕ). Contains rest.0 x) (contains_one y z one) there
-          | inr later ↦ rest.4 z later
-        ],
-      )
-      | inr out ↦ (
-        y ∷ rest.0,
-        distinct_cons y rest.0 (λ k e lt at. out (subst (λ (x : ℕ). Contains rest.0 x) (sym at) (Contains-get_or rest.0 k e lt))) rest.1,
-        All-cons Among y rest.0 (b 0 y (omega arith)) rest.2,
-        λ x h. Contains-append_right (y ∷ []) rest.0 x (rest.3 x h),
-        λ z h. elim (Contains-append_cases (y ∷ []) ys z h) [
-          | inl one ↦ (0, omega arith, contains_one y z one)
-          | inr later ↦ Contains-append_right (y ∷ []) rest.0 z (rest.4 z later)
-        ],
-      )
-    ]
-
-sum_more : (count : ℕ → ℕ) (xs : List ℕ) → sum_by count xs ≤ sum_by (λ v. 1 + count v) xs
-sum_more count [] = omega arith
-sum_more count (x ∷ xs) = omega (arith, sum_more count xs, sum_by-cons count x xs, sum_by-cons (λ (v : ℕ). 1 + count v) x xs)
-
--- two bounds, one after the other
+-- the bounds of a cut and of growth, over one set
 pub spent_both : (count : ℕ → ℕ) (Among First Second : ℕ → Type 0) (before mid after : ℕ)
     → ((v : ℕ) → First v → Among v) → ((v : ℕ) → Second v → Among v)
     → IsWithin count First 4 before mid → IsWithin count Second 1 mid after → IsWithin (λ v. 1 + count v) Among 5 before after
 spent_both count Among First Second before mid after f g a b =
-    let u = both Among a.numbers b.numbers a.distinct (All-weaker First Among f a.numbers a.among) (All-weaker Second Among g b.numbers b.among) in
-    let s = sum_within count a.numbers u.0 a.distinct u.3 in
-    let t = sum_within count b.numbers u.0 b.distinct u.4 in
-    record { numbers = u.0; distinct = u.1; among = u.2; bound = omega (arith, a.bound, b.bound, s, t, sum_more count u.0) }
+    within_heavier count (λ v. 1 + count v) Among 5 before after (λ v. omega arith)
+    (within_both count Among 4 1 before mid after (within_wider count First Among 4 before mid f a) (within_wider count Second Among 1 mid after g b))
 
--- one bound
+-- the bound of a cut alone
 pub spent_first : (count : ℕ → ℕ) (Among First : ℕ → Type 0) (before after : ℕ) → ((v : ℕ) → First v → Among v)
     → IsWithin count First 4 before after → IsWithin (λ v. 1 + count v) Among 5 before after
-spent_first count Among First before after f a = record {
-  numbers = a.numbers;
-  distinct = a.distinct;
-  among = All-weaker First Among f a.numbers a.among;
-  bound = omega (arith, a.bound, sum_more count a.numbers);
-}
+spent_first count Among First before after f a =
+    within_heavier count (λ v. 1 + count v) Among 5 before after (λ v. omega arith)
+    (within_more count Among 4 5 before after (omega arith) (within_wider count First Among 4 before after f a))
 
--- the links of a graph where the added ones are hidden are those that both graphs have
-module _ {S : Type 0} (count : ℕ → ℕ) (link : ℕ → ℕ → Option ℕ) (flips : List Flip) (hidden : HashSet (ℕ × ℕ) S)
-    (only : (v w : ℕ) → hides hidden v w ≡ true → IsFlipped flips true v w) (each : (v w : ℕ) → IsFlipped flips true v w → hides hidden v w ≡ true) where
-  abbrev pub shown : ℕ → ℕ → Option ℕ
-  shown v i = unhidden hidden v (link v i)
+-- links that a walk meets only from numbers without marks do not matter
+module _ (fewer links : ℕ → ℕ → Type 0) (terminal : ℕ → Bool) (start top : ℕ) (m : ℕ → Option ℕ)
+    (within : (u v : ℕ) → fewer u v → links u v)
+    (reached : (k v : ℕ) → k ≤ top → Walk fewer terminal start k v → (j : ℕ) × (m v ≡ Some j))
+    (met : (u v j : ℕ) → m u ≡ Some j → links u v → fewer u v) where
+  walk_met : (k v : ℕ) → k ≤ top → Walk links terminal start k v → Walk fewer terminal start k v
+  walk_met zero v le (begins e) = begins e
+  walk_met (suc k) v le (goes_on {u = u} w t l) =
+      let shorter = walk_met k u (omega (arith, le)) w in
+      let mark = reached k u (omega (arith, le)) shorter in
+      goes_on shorter t (met u v mark.0 mark.1 l)
 
-  pub mid_there : (v w : ℕ) → Linked count (λ v i. unhidden hidden v (link v i)) v w → Mid (Linked count link) flips v w
-  mid_there v w l = by (link v l.0) refl l.2
+  pub depth_met : (v k : ℕ) → HasDepth links terminal start top v k → HasDepth fewer terminal start top v k
+  depth_met v k h = record {
+    within = h.within;
+    walk = walk_met k v h.within h.walk;
+    least = λ j w. h.least j (walk_along fewer links terminal start within j v w);
+  }
+
+  pub depth_more : (v k : ℕ) → HasDepth fewer terminal start top v k → HasDepth links terminal start top v k
+  depth_more v k h = record {
+    within = h.within;
+    walk = walk_along fewer links terminal start within k v h.walk;
+    least = λ j w. elim (cases_lt j k) [
+      | inl lt ↦ h.least j (walk_met j v (omega (arith, lt, h.within)) w)
+      | inr ge ↦ ge
+    ];
+  }
+
+-- the links of a graph where some of the added ones are hidden: of those that are not, no end has a mark
+module _ {S : Type 0} (count : ℕ → ℕ) (link : ℕ → ℕ → Option ℕ) (hidden : HashSet (ℕ × ℕ) S) where
+  shown_parts : (v w : ℕ) → Linked count (λ v i. unhidden hidden v (link v i)) v w → Linked count link v w × (hides hidden v w ≡ false)
+  shown_parts v w l = by (link v l.0) refl l.2
     where
-      test : (x : ℕ) (t : Bool) → hides hidden v x ≡ t → link v l.0 ≡ Some x → (if t then None else Some x) ≡ Some w → Mid (Linked count link) flips v w
+      test : (x : ℕ) (t : Bool) → hides hidden v x ≡ t → link v l.0 ≡ Some x → (if t then None else Some x) ≡ Some w
+          → Linked count link v w × (hides hidden v w ≡ false)
       test x true e here f = absurd (none-some w f)
-      test x false e here f =
-          let same = same_Some x w f in
-          ((l.0, l.1, here ∙ f), λ flip. true≢false (sym (each v w flip) ∙ ap (hides hidden v) (sym same) ∙ e))
+      test x false e here f = let same = same_Some x w f in ((l.0, l.1, here ∙ f), ap (hides hidden v) (sym same) ∙ e)
 
-      by : (o : Option ℕ) → link v l.0 ≡ o → unhidden hidden v o ≡ Some w → Mid (Linked count link) flips v w
+      by : (o : Option ℕ) → link v l.0 ≡ o → unhidden hidden v o ≡ Some w → Linked count link v w × (hides hidden v w ≡ false)
       by None e f = absurd (none-some w f)
       by (Some x) e f = test x (hides hidden v x) refl e f
 
-  pub mid_back : (v w : ℕ) → Mid (Linked count link) flips v w → Linked count (λ v i. unhidden hidden v (link v i)) v w
-  mid_back v w m = (m.0.0, m.0.1, ap (unhidden hidden v) m.0.2 ∙ by (hides hidden v w) refl)
-    where
-      by : (t : Bool) → hides hidden v w ≡ t → (if t then None else Some w) ≡ Some w
-      by true e = absurd (m.1 (only v w e))
-      by false e = refl
+  shown_made : (v w : ℕ) → Linked count link v w → hides hidden v w ≡ false → Linked count (λ v i. unhidden hidden v (link v i)) v w
+  shown_made v w l e = (l.0, l.1, ap (unhidden hidden v) l.2 ∙ ap (λ (t : Bool). if t then None else Some w) e)
 
--- the cut of a repair
-module _ (new mid : ℕ → ℕ → Type 0) (terminal : ℕ → Bool) (flips : List Flip) (start top : ℕ)
-    (there : (v w : ℕ) → mid v w → Mid new flips v w) (back : (v w : ℕ) → Mid new flips v w → mid v w) where
-  old_there : (v w : ℕ) → WithRemoved mid flips v w → Old new flips v w
-  old_there v w l = elim l [ inl m ↦ inl (there v w m) | inr f ↦ inr f ]
+  module _ (terminal : ℕ → Bool) (flips : List Flip) (start top : ℕ) (m : ℕ → Option ℕ)
+      (only : (v w : ℕ) → hides hidden v w ≡ true → IsFlipped flips true v w)
+      (each : (v w k : ℕ) → IsFlipped flips true v w → m v ≡ Some k → hides hidden v w ≡ true)
+      (turned : (v w : ℕ) → hides hidden v w ≡ true → hides hidden w v ≡ true) where
+    abbrev pub shown : ℕ → ℕ → Type 0
+    shown = Linked count (λ v i. unhidden hidden v (link v i))
 
-  old_back : (v w : ℕ) → Old new flips v w → WithRemoved mid flips v w
-  old_back v w l = elim l [ inl m ↦ inl (back v w m) | inr f ↦ inr f ]
+    shown_back : (v w : ℕ) → Mid (Linked count link) flips v w → shown v w
+    shown_back v w l = shown_made v w l.0 (by (hides hidden v w) refl)
+      where
+        by : (t : Bool) → hides hidden v w ≡ t → hides hidden v w ≡ false
+        by true e = absurd (l.1 (only v w e))
+        by false e = e
 
-  pub before_cut : (m : ℕ → Option ℕ) → IsSymmetric new → AreDepths (Old new flips) terminal start top m → IsBeforeCut mid terminal flips start top m
-  before_cut m symmetric depths = record {
-    symmetric = λ v w l. let k = there v w l in back w v (symmetric v w k.0, λ f. k.1 (flipped_back flips true w v f));
-    depths = depths_along (Old new flips) (WithRemoved mid flips) terminal start top old_back old_there m depths;
-  }
+    shown_met : (v w k : ℕ) → m v ≡ Some k → shown v w → Mid (Linked count link) flips v w
+    shown_met v w k e l = let p = shown_parts v w l in (p.0, λ f. true≢false (sym (each v w k f e) ∙ p.1))
 
-  pub after_cut : (m : ℕ → Option ℕ) → AreDepths mid terminal start top m → AreDepths (Mid new flips) terminal start top m
-  after_cut m depths = depths_along mid (Mid new flips) terminal start top there back m depths
+    shown_symmetric : IsSymmetric (Linked count link) → IsSymmetric shown
+    shown_symmetric symmetric v w l = let p = shown_parts v w l in shown_made w v (symmetric v w p.0) (by (hides hidden w v) refl p.1)
+      where
+        by : (t : Bool) → hides hidden w v ≡ t → hides hidden v w ≡ false → hides hidden w v ≡ false
+        by true e f = absurd (true≢false (sym (turned w v e) ∙ f))
+        by false e f = e
 
-  same_cut : (v : ℕ) → SameDepth (Old new flips) (Mid new flips) terminal start top v → SameDepth (WithRemoved mid flips) mid terminal start top v
-  same_cut v same k = (
-    λ h. depth_along (Mid new flips) mid terminal start top back there v k ((same k).0 (depth_along (WithRemoved mid flips) (Old new flips) terminal start top old_there old_back v k h)),
-    λ h. depth_along (Old new flips) (WithRemoved mid flips) terminal start top old_back old_there v k ((same k).1 (depth_along mid (Mid new flips) terminal start top there back v k h)),
-  )
+    module _ (depths : AreDepths (Old (Linked count link) flips) terminal start top m) where
+      old_reached : (k v : ℕ) → k ≤ top → Walk (Old (Linked count link) flips) terminal start k v → (j : ℕ) × (m v ≡ Some j)
+      old_reached k v le w = let f = marked (Old (Linked count link) flips) terminal start top m depths v k le w in (f.0, f.1)
 
-  pub near_cut : (v : ℕ) → NearOneWay flips false (WithRemoved mid flips) mid terminal start top v → NearFlips new flips terminal start top v
-  near_cut v (at_flip e) = at_flip (inr e)
-  near_cut v (touched t) = touched (λ same. t (same_cut v same.0))
-  near_cut v (beside {u = u} t l) = beside (λ same. t (same_cut u same.0)) (elim l [ inl o ↦ inl (old_there u v o) | inr m ↦ inr (there u v m).0 ])
+      mid_reached : (k v : ℕ) → k ≤ top → Walk (Mid (Linked count link) flips) terminal start k v → (j : ℕ) × (m v ≡ Some j)
+      mid_reached k v le w =
+          old_reached k v le (walk_along (Mid (Linked count link) flips) (Old (Linked count link) flips) terminal start (λ x y l. inl l) k v w)
 
+      old_back : (v w : ℕ) → Old (Linked count link) flips v w → WithRemoved shown flips v w
+      old_back v w l = elim l [ inl mid ↦ inl (shown_back v w mid) | inr f ↦ inr f ]
+
+      old_met : (v w k : ℕ) → m v ≡ Some k → WithRemoved shown flips v w → Old (Linked count link) flips v w
+      old_met v w k e l = elim l [ inl mid ↦ inl (shown_met v w k e mid) | inr f ↦ inr f ]
+
+      old_there : (v k : ℕ) → HasDepth (WithRemoved shown flips) terminal start top v k → HasDepth (Old (Linked count link) flips) terminal start top v k
+      old_there = depth_met (Old (Linked count link) flips) (WithRemoved shown flips) terminal start top m old_back old_reached old_met
+
+      old_again : (v k : ℕ) → HasDepth (Old (Linked count link) flips) terminal start top v k → HasDepth (WithRemoved shown flips) terminal start top v k
+      old_again = depth_more (Old (Linked count link) flips) (WithRemoved shown flips) terminal start top m old_back old_reached old_met
+
+      mid_there : (v k : ℕ) → HasDepth shown terminal start top v k → HasDepth (Mid (Linked count link) flips) terminal start top v k
+      mid_there = depth_met (Mid (Linked count link) flips) shown terminal start top m shown_back mid_reached shown_met
+
+      mid_again : (v k : ℕ) → HasDepth (Mid (Linked count link) flips) terminal start top v k → HasDepth shown terminal start top v k
+      mid_again = depth_more (Mid (Linked count link) flips) shown terminal start top m shown_back mid_reached shown_met
+
+      pub before_cut : IsSymmetric (Linked count link) → IsBeforeCut shown terminal flips start top m
+      before_cut symmetric = record {
+        symmetric = shown_symmetric symmetric;
+        depths = λ v k. (λ e. old_again v k ((depths v k).0 e), λ h. (depths v k).1 (old_there v k h));
+      }
+
+      pub after_cut : (n : ℕ → Option ℕ) → AreDepths shown terminal start top n → AreDepths (Mid (Linked count link) flips) terminal start top n
+      after_cut n cut v k = (λ e. mid_there v k ((cut v k).0 e), λ h. (cut v k).1 (mid_again v k h))
+
+      same_cut : (v : ℕ) → SameDepth (Old (Linked count link) flips) (Mid (Linked count link) flips) terminal start top v
+          → SameDepth (WithRemoved shown flips) shown terminal start top v
+      same_cut v same k = (λ h. mid_again v k ((same k).0 (old_there v k h)), λ h. old_again v k ((same k).1 (mid_there v k h)))
+
+      pub near_cut : (v : ℕ) → NearOneWay flips false (WithRemoved shown flips) shown terminal start top v → NearFlips (Linked count link) flips terminal start top v
+      near_cut v (at_flip e) = at_flip (inr e)
+      near_cut v (touched t) = touched (λ same. t (same_cut v same.0))
+      near_cut v (beside {u = u} t l) = beside (λ same. t (same_cut u same.0)) (elim l [
+        | inl o ↦ elim o [ inl mid ↦ inr (shown_parts u v mid).0 | inr f ↦ inl (inr f) ]
+        | inr mid ↦ inr (shown_parts u v mid).0
+      ])
+
+-- the growth of a repair
+module _ (new : ℕ → ℕ → Type 0) (terminal : ℕ → Bool) (flips : List Flip) (start top : ℕ) where
   pub near_grown : (v : ℕ) → NearOneWay flips true (Mid new flips) new terminal start top v → NearFlips new flips terminal start top v
   near_grown v (at_flip e) = at_flip (inl e)
   near_grown v (touched t) = touched (λ same. t same.1)

@@ -1,17 +1,10 @@
 -- Lists that rise by level, and lists of entries at a level.
-use Rattle.std.proofs.Common.{◌≡◌, ◌≢◌, ℕ, zero, suc, ◌+◌, ◌<◌, ◌≤◌, List, [], ◌∷◌, ◌++◌, length, get_or, drop, All, Contains, ◌⊎◌, inl, inr, refl, sym, ap, subst, ◌∙◌, arith, length-drop, get_or-drop}
+use Rattle.std.proofs.Common.{◌≡◌, ◌≢◌, ℕ, ◌+◌, ◌<◌, ◌≤◌, List, [], ◌∷◌, ◌++◌, length, get_or, drop, All, Contains, ◌⊎◌, inl, inr, refl, sym, ap, subst, ◌∙◌, arith, length-drop, get_or-drop}
 use Rattle.std.proofs.lemmas.List.{get_or_default, get_or-map, length-map}
 use Rattle.std.proofs.lemmas.List.Elements.{Contains-append_left, Contains-append_right, Contains-append_cases, Contains-push, Contains-push_cases, Contains-get_or, All-contains}
 use Rattle.std.specs.List.Sorted.{IsNonDecreasingBy}
 use Rattle.ifmap_region.specs.Waiting.{at_level, Moves, ComesOut}
-
--- the one member of a list of one
-pub contains_one : {X : Type 0} (x y : X) → Contains (x ∷ []) y → x ≡ y
-contains_one x y h = by h.0 h.1 h.2
-  where
-    by : (k : ℕ) → k < 1 → get_or (x ∷ []) k y ≡ y → x ≡ y
-    by zero lt e = e
-    by (suc k) lt e = absurd (omega (arith, lt))
+use Rattle.ifmap_region.specs.General.{contains_one, no_member}
 
 -- what is left from a place on is no lower than what stands there
 pub first_least : (xs : List (ℕ × ℕ)) (i : ℕ) → IsNonDecreasingBy (λ p. p.0) xs → i < length xs → (e : ℕ × ℕ) → e ≡ get_or xs i e
@@ -69,9 +62,6 @@ below_first xs i lt e is floor all =
     let same : (get_or (drop i xs) 0 e).0 ≡ e.0 = ap (λ (p : ℕ × ℕ). p.0) (get_or-drop i xs 0 e ∙ ap (λ (n : ℕ). get_or xs n e) (omega arith) ∙ sym is) in
     omega (arith, at_first, same)
 
-pub no_member : {X : Type 0} (xs : List X) (x : X) → xs ≡ [] → Contains xs x → ⊥
-no_member xs x e h = omega (arith, h.1, ap length e)
-
 pub contains_at : (k : ℕ) (ns : List ℕ) (s : ℕ × ℕ) → Contains (at_level k ns) s → (s.0 ≡ k) × Contains ns s.1
 contains_at k ns s h =
     let lt : h.0 < length ns = omega (arith, h.1, length-map {B = ℕ × ℕ} ns (λ (n : ℕ). (k, n))) in
@@ -104,6 +94,3 @@ comes_out floor level seeds rest next now none le side empty m = record {
         inl (p.0 ∙ sym at, m.kept s.1 p.1)
   ];
 }
-
-pub left_of_rest : {X : Type 0} (old rest : List X) (x : X) → old ≡ x ∷ rest → (y : X) → Contains rest y → Contains old y
-left_of_rest old rest x e y h = subst (λ (l : List _). Contains l y) (sym e) (Contains-append_right (x ∷ []) rest y h)

@@ -1,12 +1,11 @@
 pub mod Bounds
 pub mod Flips
-pub mod Grid
+pub mod General
 pub mod Hiding
 pub mod Links
 pub mod Losing
 pub mod Marks
 pub mod Near
-pub mod Pairs
 pub mod Seeds
 pub mod Spreading
 pub mod Waiting

@@ -6,5 +6,5 @@ abbrev pub Linked : (ℕ → ℕ) → (ℕ → ℕ → Option ℕ) → ℕ → �
 Linked count link v w = (i : ℕ) × (i < count v) × (link v i ≡ Some w)
 
 -- each link is one of both its ends
-abbrev pub IsSymmetric : (ℕ → ℕ → Type 0) → Type 0
-IsSymmetric links = (v w : ℕ) → links v w → links w v
+abbrev pub IsSymmetric : {X : Type 0} → (X → X → Type 0) → Type 0
+IsSymmetric {X} links = (v w : X) → links v w → links w v

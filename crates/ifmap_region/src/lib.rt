@@ -14,8 +14,6 @@ mod repairing;
 mod rows;
 mod seeds;
 mod spread;
-#[cfg(test)]
-mod tests;
 mod ways;
 
 pub use flips::Flip;

@@ -1,12 +1,15 @@
 //! The links that two graphs share.
-ghost use Rattle.std.specs.Prelude.{◌≡◌, ℕ, true, IfOk, OnOk, Contains};
+ghost use Rattle.std.specs.Prelude.{◌≡◌, ℕ, Some, true, false, IfOk, OnOk, Contains};
 ghost use Rattle.std.specs.HashSet.{contains};
-ghost use Rattle.ifmap_region.specs.Flips.{IsFlipped};
+ghost use Rattle.ifmap_region.specs.Flips.{Joins, IsFlipped};
 ghost use Rattle.ifmap_region.specs.Hiding.{hides, same_pair, unhidden};
+ghost use Rattle.ifmap_region.specs.Marks.{mark_of};
 
 use crate::flips::Flip;
 use crate::link_source::LinkSource;
+use crate::rows::mark_in;
 use ifmap_steps::Steps;
+use indexmap::IndexMap;
 use std::alloc::{AllocError as NoMemory, Global};
 use std::collections::HashSet;
 use std::sync::ledger::Ledger;
@@ -18,16 +21,32 @@ pub(crate) struct Mid<'a, G> {
     pub(crate) hidden: HashSet<(u64, u64)>,
 }
 
-/// The pairs of ends of the added links, both ways round.
-pub(crate) fn added_pairs(alloc: Global, flips: &[Flip]) -> Result<HashSet<(u64, u64)>, NoMemory>
+// Whether the flip is an added link that may be met from a number with a mark.
+fn is_near(marks: &IndexMap<u64, Option<u32>>, flip: &Flip) -> bool
+    ensures added { result ≡ true → flip.now.added ≡ true }
+    ensures far { result ≡ false → flip.now.added ≡ true → (v w k : ℕ) → Joins flip.now v w
+        → mark_of marks.now.entries v ≡ Some k → ⊥ }
+{
+    flip.added && (mark_in(marks, flip.a).is_some() || mark_in(marks, flip.b).is_some())
+}
+
+// The pairs of ends of the added links that have an end with a mark, both ways round. No walk meets
+// the others before their ends are marked, so they need not be hidden, and cost no memory.
+pub(crate) fn near_pairs(
+    alloc: Global,
+    marks: &IndexMap<u64, Option<u32>>,
+    flips: &[Flip],
+) -> Result<HashSet<(u64, u64)>, NoMemory>
     ensures only { IfOk result (λ pairs. (v w : ℕ) → hides pairs v w ≡ true
         → IsFlipped flips.now true v w) }
-    ensures each { IfOk result (λ pairs. (v w : ℕ) → IsFlipped flips.now true v w
-        → hides pairs v w ≡ true) }
+    ensures each { IfOk result (λ pairs. (v w k : ℕ) → IsFlipped flips.now true v w
+        → mark_of marks.now.entries v ≡ Some k → hides pairs v w ≡ true) }
+    ensures turned { IfOk result (λ pairs. (v w : ℕ) → hides pairs v w ≡ true
+        → hides pairs w v ≡ true) }
 {
     let mut pairs = HashSet::new(alloc);
     for flip in flips {
-        if flip.added {
+        if is_near(marks, flip) {
             pairs.insert((flip.a, flip.b))?;
             pairs.insert((flip.b, flip.a))?;
         }

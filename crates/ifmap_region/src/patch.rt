@@ -1,5 +1,7 @@
 //! Changes of marks that wait to be made, and the ways back.
-ghost use Rattle.std.specs.Prelude.{◌≡◌, ◌≢◌, ℕ, Option, Some, true, false, ◌↔◌, IsTrue, IfOk, length, slice_get};
+ghost use Rattle.std.specs.Prelude.{◌≡◌, ◌≢◌, ℕ, Option, Some, true, false, ◌↔◌, IsTrue, IfOk, IfSome, length, slice_get, nat_eq};
+ghost use Rattle.std.specs.List.{IsDistinct};
+ghost use Rattle.std.specs.Map.{keys_of};
 ghost use Rattle.ifmap_region.specs.Marks.{mark_of, row_of};
 
 use crate::rows::{mark_in, put};
@@ -23,9 +25,10 @@ impl Model for Patch {
 }
 
 impl Patch {
-    /// How many numbers lose their mark or get another.
+    /// How many numbers lose their mark or get another; each stands once.
     pub fn len(&self) -> usize
-        ensures { result ≡ length self.now }
+        ensures len { result ≡ length self.now }
+        ensures once { IsDistinct nat_eq (keys_of self.now) }
     {
         self.rows.len()
     }
@@ -39,7 +42,8 @@ impl Patch {
 
     /// The number at a place, with its new mark; `None` past the end.
     pub fn at(&self, i: usize) -> Option<(u64, Option<u32>)>
-        ensures { result ≡ slice_get self.now i }
+        ensures at { result ≡ slice_get self.now i }
+        ensures row { IfSome result (λ entry. row_of self.now entry.0 ≡ Some entry.1) }
     {
         match self.rows.get_index(i) {
             Some((number, row)) => Some((*number, *row)),
@@ -49,7 +53,8 @@ impl Patch {
 
     /// The new mark of a number, where the patch has one for it.
     pub fn row(&self, number: u64) -> Option<Option<u32>>
-        ensures { result ≡ row_of self.now number }
+        ensures row { result ≡ row_of self.now number }
+        ensures at { IfSome result (λ mark. (i : ℕ) × (slice_get self.now i ≡ Some (number, mark))) }
     {
         self.rows.get(&number).copied()
     }

@@ -114,7 +114,7 @@ impl Region {
         ensures start { self.new.start ≡ self.old.start }
         ensures max_depth { self.new.max_depth ≡ self.old.max_depth }
         ensures makes { Makes patch self.old.marks.entries self.new.marks.entries }
-        ensures undo { result ≡ taken_from self.old.marks.entries patch }
+        ensures undo { result ≡ taken_from (mark_of self.old.marks.entries) patch }
         ensures room { HasRoom result self.new.marks.entries }
     {
         let mut rows = patch.rows;
@@ -129,16 +129,17 @@ impl Region {
         ensures start { self.new.start ≡ self.old.start }
         ensures max_depth { self.new.max_depth ≡ self.old.max_depth }
         ensures makes { Makes undo self.old.marks.entries self.new.marks.entries }
-        ensures taken { result ≡ taken_from self.old.marks.entries undo }
+        ensures taken { result ≡ taken_from (mark_of self.old.marks.entries) undo }
         ensures room { HasRoom result self.new.marks.entries }
 
-        // Where the marks are those that `commit_kept` left, they are again those before it.
-        ensures back { (patch before : List (ℕ × Option ℕ))
-            → IsWayBack undo patch before self.old.marks.entries → (v : ℕ)
-            → mark_of self.new.marks.entries v ≡ mark_of before v }
-        ensures patch { (patch before : List (ℕ × Option ℕ))
-            → IsWayBack undo patch before self.old.marks.entries → (v : ℕ)
-            → row_of result v ≡ row_of patch v }
+        // Where the marks are those that `commit_kept` left, they are again those before it, whatever
+        // rows later patches have by then.
+        ensures back { (patch : List (ℕ × Option ℕ)) (before : ℕ → Option ℕ)
+            → IsWayBack undo patch before (mark_of self.old.marks.entries)
+            → (v : ℕ) → mark_of self.new.marks.entries v ≡ before v }
+        ensures patch { (patch : List (ℕ × Option ℕ)) (before : ℕ → Option ℕ)
+            → IsWayBack undo patch before (mark_of self.old.marks.entries)
+            → (v : ℕ) → row_of result v ≡ row_of patch v }
     {
         let mut rows = undo.rows;
         exchange(&mut self.marks, &mut rows);

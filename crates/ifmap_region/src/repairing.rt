@@ -11,7 +11,7 @@ use crate::cut::cut;
 use crate::flips::Flip;
 use crate::grow::grow;
 use crate::link_source::LinkSource;
-use crate::mid::{Mid, added_pairs};
+use crate::mid::{Mid, near_pairs};
 use crate::patch::{Patch, differing};
 use crate::region::Region;
 use ifmap_steps::Steps;
@@ -57,7 +57,7 @@ pub fn repair<G: LinkSource, L: Ledger>(
         5 steps.old steps.new }
 {
     let top = region.max_depth;
-    let hidden = added_pairs(alloc, flips)?;
+    let hidden = near_pairs(alloc, &region.marks, flips)?;
     let mid = Mid { graph, hidden };
     let mut rows = cut(alloc, &region.marks, top, &mid, flips, steps)?;
     grow(alloc, &region.marks, &mut rows, top, graph, flips, steps)?;

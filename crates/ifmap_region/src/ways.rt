@@ -3,7 +3,7 @@ ghost use Rattle.std.specs.Prelude.{◌≡◌, ℕ, ◌+◌, ◌<◌, ◌≤◌,
 ghost use Rattle.std.specs.Map.{update};
 ghost use Rattle.indexmap.specs.IndexMap.{spare, insert_entry};
 ghost use Rattle.ifmap_region.specs.Marks.{row_of, mark_of};
-ghost use Rattle.ifmap_region.specs.Ways.{HasRoom, OnlyRoom, Makes, Sweeps, Exchanges, taken_from};
+ghost use Rattle.ifmap_region.specs.Ways.{HasRoom, missing, OnlyRoom, Makes, Sweeps, Exchanges, taken_from};
 
 use crate::rows::{has_row, mark_in};
 use indexmap::IndexMap;
@@ -34,6 +34,21 @@ fn is_bare(rows: &IndexMap<u64, Option<u32>>, number: u64) -> bool
     }
 }
 
+// How many numbers of `patch` have no row.
+fn count_missing(rows: &IndexMap<u64, Option<u32>>, patch: &IndexMap<u64, Option<u32>>) -> usize
+    ensures { result ≡ missing rows.now.entries patch.now.entries }
+{
+    let mut count: usize = 0;
+    for i in 0..patch.len() {
+        if let Some((number, _)) = patch.get_index(i) {
+            if !has_row(rows, *number) {
+                count += 1;
+            }
+        }
+    }
+    count
+}
+
 /// Makes room for the numbers of `patch`: each that has no row gets one without a mark.
 pub(crate) fn make_room(
     rows: &mut IndexMap<u64, Option<u32>>,
@@ -43,9 +58,8 @@ pub(crate) fn make_room(
     ensures only { OnOk result (OnlyRoom patch.now.entries rows.old.entries rows.new.entries) }
     ensures err { OnErr result (rows.new.entries ≡ rows.old.entries) }
 {
-    let count = patch.len();
-    rows.reserve(count)?;
-    for i in 0..count {
+    rows.reserve(count_missing(rows, patch))?;
+    for i in 0..patch.len() {
         if let Some((number, _)) = patch.get_index(i) {
             if !has_row(rows, *number) {
                 put_within(rows, *number, None);
@@ -62,7 +76,7 @@ pub(crate) fn exchange(
 )
     requires { HasRoom patch.old.entries rows.old.entries }
     ensures makes { Makes patch.old.entries rows.old.entries rows.new.entries }
-    ensures taken { patch.new.entries ≡ taken_from rows.old.entries patch.old.entries }
+    ensures taken { patch.new.entries ≡ taken_from (mark_of rows.old.entries) patch.old.entries }
 {
     for i in 0..patch.len() {
         exchange_at(rows, patch, i);

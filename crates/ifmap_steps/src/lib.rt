@@ -46,24 +46,3 @@ impl<L: Ledger> Steps<L> {
         self.book.add(&mut self.share, 1);
     }
 }
-
-#[cfg(test)]
-mod tests {
-    use super::*;
-    use std::marker::Brand;
-
-    fn ticked_twice<L: Ledger>(blank: Blank)
-        requires name { blank.name ≡ L.name }
-        requires parts { blank.parts ≡ L.parts }
-        requires some { 0 < blank.parts }
-    {
-        let mut steps: Steps<L> = Steps::from_blank(blank);
-        steps.tick();
-        steps.tick();
-    }
-
-    #[test]
-    fn a_counter_begins_from_a_blank() {
-        ticked_twice::<Brand>(Blank::new(1));
-    }
-}

@@ -1,10 +1,11 @@
-use Rattle.std.proofs.Common.{refl}
-use Rattle.ifmap_region.proofs.Regrow.{ready_again, spent_cut, spent_reseed, spent_times}
+use Rattle.std.proofs.Common.{arith}
+use Rattle.ifmap_region.proofs.Regrow.{ready_again, spent_cut, spent_reseed}
+use Rattle.ifmap_region.specs.Bounds.{within_more}
 use Rattle.ifmap_region.proofs.cut.cut.Goals as goal
 
 pub returns-in_err-gone-clause-steps : goal.returns-in_err-gone-clause-steps
 returns-in_err-gone-clause-steps g c start b =
-    spent_times _ _ 2 4 _ _ refl refl (c.lose.ensures.spent c.args.flips.now start b (rw c.new-rows.ensures.empty at c.in_ok-seeds.ensures))
+    within_more _ _ 2 4 _ _ (omega arith) (c.lose.ensures.spent c.args.flips.now start b (rw c.new-rows.ensures.empty at c.in_ok-seeds.ensures))
 
 pub returns-in_err-found-clause-steps : goal.returns-in_err-found-clause-steps
 returns-in_err-found-clause-steps g c start b =

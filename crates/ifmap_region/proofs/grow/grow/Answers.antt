@@ -1,9 +1,10 @@
 use Rattle.std.proofs.lemmas.Result.{on_ok_weaker}
-use Rattle.ifmap_region.proofs.Regrow.{ready_grown, spent_grown, spent_nothing}
+use Rattle.ifmap_region.proofs.Regrow.{ready_grown, spent_grown}
+use Rattle.ifmap_region.specs.Bounds.{within_nothing}
 use Rattle.ifmap_region.proofs.grow.grow.Goals as goal
 
 pub returns-in_err-seeds-clause-steps : goal.returns-in_err-seeds-clause-steps
-returns-in_err-seeds-clause-steps g c start d = spent_nothing _ _ _ _
+returns-in_err-seeds-clause-steps g c start d = within_nothing _ _ _ _
 
 pub returns-clause-depths : goal.returns-clause-depths
 returns-clause-depths g c = on_ok_weaker c.spread.result

@@ -1,8 +1,8 @@
 use Rattle.std.proofs.Common.{arith}
 use Rattle.ifmap_region.specs.Waiting.{ComesOut}
-use Rattle.ifmap_region.proofs.Waits.{no_member}
 use Rattle.ifmap_region.proofs.Cuts.{spent_now, cutting_begun, cutting_same, cutting_out, cutting_done}
 use Rattle.ifmap_region.proofs.lose.lose.Goals as goal
+use Rattle.ifmap_region.specs.General.{no_member}
 
 pub loop-levels-init : goal.loop-levels-init
 loop-levels-init g c flips start b s =

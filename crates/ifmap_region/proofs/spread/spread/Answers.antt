@@ -1,8 +1,8 @@
 use Rattle.std.proofs.Common.{Contains, arith}
 use Rattle.ifmap_region.specs.Waiting.{ComesOut}
-use Rattle.ifmap_region.proofs.Waits.{no_member}
 use Rattle.ifmap_region.proofs.Ready.{ready_same, ready_out, ready_done, depths_ready, charged_start, charged_later, spent_from}
 use Rattle.ifmap_region.proofs.spread.spread.Goals as goal
+use Rattle.ifmap_region.specs.General.{no_member}
 
 pub loop-levels-init : goal.loop-levels-init
 loop-levels-init g c = record {

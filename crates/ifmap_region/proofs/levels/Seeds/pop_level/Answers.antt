@@ -1,6 +1,7 @@
 use Rattle.std.proofs.Common.{ℕ, ◌≤◌}
-use Rattle.ifmap_region.proofs.Waits.{moves_more, all_left, left_of_rest}
+use Rattle.ifmap_region.proofs.Waits.{moves_more, all_left}
 use Rattle.ifmap_region.proofs.levels.Seeds.pop_level.Goals as goal
+use Rattle.ifmap_region.specs.General.{left_of_rest}
 
 pub loop-number-preserved : goal.loop-number-preserved
 loop-number-preserved c = rw c.in_ok-push.ensures.items (moves_more _ _ _ _ _ _ _ c.in-Some.ensures.some c.loop-number.invariant)

@@ -1,0 +1,109 @@
+#!/bin/sh
+# Times regions: ten thousand added links away from a region, a dense graph, and room for a patch that a
+# region has already. The program's links are not proved to be symmetric, so `rt try` runs it.
+# Run from anywhere: sh bench/region.sh. It needs `rt`, and builds in a new folder under TMPDIR.
+. "$(dirname "$0")/common.sh"
+prepare region_bench 'ifmap_region ifmap_steps'
+cat > "$work/crates/region_bench/src/main.rt" <<'RATTLE'
+//! Builds and repairs regions of graphs that are given by a rule.
+#![tactic(auto)]
+
+ghost use Rattle.std.specs.Prelude.{◌≡◌, ◌<◌, ℕ, Option, Bool};
+
+use ifmap_region::{Flip, LinkSource, Region, build, repair};
+use ifmap_steps::Steps;
+use std::alloc::{AllocError, Global};
+use std::io;
+use std::marker::Brand;
+use std::rt::Runtime;
+use std::sync::ledger::{Blank, Ledger};
+use std::time::Instant;
+
+/// Layers of `width` numbers, each linked with all of the layer before and of the one after.
+#[derive(Drop)]
+struct Layers {
+    width: u64,
+    layers: u64,
+}
+
+impl LinkSource for Layers {
+    ghost count = { λ _ _. 0 };
+
+    ghost link = { λ _ _ _. None };
+
+    ghost terminal = { λ _ _. false };
+
+    fn count(&self, number: u64) -> u64 {
+        if number >= self.width.wrapping_mul(self.layers) {
+            1
+        } else {
+            self.width.wrapping_mul(2)
+        }
+    }
+
+    fn at<L: Ledger>(&self, number: u64, i: u64, steps: &mut Steps<L>) -> Option<u64> {
+        steps.tick();
+        let all = self.width.wrapping_mul(self.layers);
+        if number >= all {
+            return Some(number ^ 1);
+        }
+        let layer = number / self.width.max(1);
+        if i < self.width {
+            if layer == 0 { None } else { Some(layer.wrapping_sub(1).wrapping_mul(self.width).wrapping_add(i)) }
+        } else if layer.wrapping_add(1) < self.layers {
+            Some(layer.wrapping_mul(self.width).wrapping_add(i))
+        } else {
+            None
+        }
+    }
+
+    fn is_terminal(&self, _number: u64) -> bool {
+        false
+    }
+}
+
+fn time_region<R: Runtime, L: Ledger>(rt: &R, alloc: Global, width: u64, layers: u64, blank: Blank) -> io::Result<()> {
+    let mut steps: Steps<L> = Steps::from_blank(blank);
+    let graph = Layers { width, layers };
+    let mut built = u128::MAX;
+    for _ in 0..5 {
+        let start = Instant::now(rt)?;
+        let region = build(alloc, 0, 1_000_000, &graph, &mut steps).map_err(io::Error::from)?;
+        built = built.min(start.elapsed(rt)?.as_micros());
+        if region.marks.len() == 0 {
+            return Ok(());
+        }
+    }
+    let mut region = build(alloc, 0, 1_000_000, &graph, &mut steps).map_err(io::Error::from)?;
+    let mut flips = Vec::new(alloc);
+    let far = width.wrapping_mul(layers).wrapping_add(2) / 2 * 2;
+    for i in 0u64..10_000 {
+        let a = far.wrapping_add(i.wrapping_mul(2));
+        flips.push(Flip { a, b: a ^ 1, added: true }).map_err(io::Error::from)?;
+    }
+    let mut repaired = u128::MAX;
+    for _ in 0..5 {
+        let start = Instant::now(rt)?;
+        let patch = repair(alloc, &region, &graph, flips.as_slice(), &mut steps).map_err(io::Error::from)?;
+        repaired = repaired.min(start.elapsed(rt)?.as_micros());
+        region.reserve(&patch).map_err(io::Error::from)?;
+        region.commit(patch);
+    }
+    rt.println(format_args!("{layers} layers of {width}: built in {built} us; 10000 links that come elsewhere repaired in {repaired} us"))
+}
+
+fn time_one<R: Runtime>(rt: &R, alloc: Global, width: u64, layers: u64) -> io::Result<()> {
+    time_region::<R, Brand>(rt, alloc, width, layers, Blank::new(1))
+}
+
+fn main(rt: HostRuntime) -> io::Result<()> {
+    let alloc = rt.alloc();
+    time_one(&rt, alloc, 1, 100)?;
+    time_one(&rt, alloc, 1, 100_000)?;
+    time_one(&rt, alloc, 100, 100)?;
+    time_one(&rt, alloc, 1000, 3)?;
+    Ok(())
+}
+RATTLE
+cd "$work/crates/region_bench"
+rt try

@@ -1,4 +1,0 @@
-use Rattle.ifmap_region.proofs.tests.corner_cut.Given as goal
-
-abbrev pub ghosts-cut_corner : goal.ghosts-cut_corner
-ghosts-cut_corner a = record { name = a.blank.name; parts = a.blank.parts }

@@ -1,0 +1,2 @@
+pub mod GridLinks
+pub mod PairLinks

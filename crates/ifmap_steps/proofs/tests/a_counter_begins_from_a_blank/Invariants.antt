@@ -1,4 +1,0 @@
-use Rattle.ifmap_steps.proofs.tests.a_counter_begins_from_a_blank.Given as goal
-
-abbrev pub ghosts-ticked_twice : goal.ghosts-ticked_twice
-ghosts-ticked_twice a = record { name = a.blank.name; parts = a.blank.parts }
