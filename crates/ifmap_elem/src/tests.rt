@@ -85,7 +85,7 @@ fn spaces_in_attributes(alloc: Global) -> Result<Element, AllocError> {
 }
 
 /// An element that is in no namespace, nor is its attribute.
-fn no_space(alloc: Global) -> Result<Element, AllocError> {
+fn no_white(alloc: Global) -> Result<Element, AllocError> {
     let value = Text::from_str(alloc, "1")?;
     let attribute = Attribute::bare(alloc, "x", value)?;
     let text = Child::Text(Text::from_str(alloc, "t")?);
@@ -116,7 +116,7 @@ fn elements_print_as_written_by_hand(rt: HostRuntime) -> Result<(), Fail> {
     let alloc = rt.alloc();
     let cases: [(Element, &str); 5] = [
         (empty(alloc, "", "a")?, "<a/>"),
-        (no_space(alloc)?, "<a x=\"1\">t</a>"),
+        (no_white(alloc)?, "<a x=\"1\">t</a>"),
         (
             two_spaces(alloc)?,
             "<n1:a xmlns:n1=\"u\" xmlns:n2=\"v\" x=\"1\" y=\"2\"><n2:b/></n1:a>",

@@ -7,7 +7,7 @@ use Rattle.ifmap_elem.specs.declared.readings.Reading.{Reading}
 use Rattle.ifmap_elem.specs.declared.tokens.Token.{Token}
 use Rattle.ifmap_elem.specs.Document.{IsDocument}
 use Rattle.ifmap_elem.specs.Places.{BeginsDocument, Deep, Opens, Stop, offset, open_after}
-use Rattle.ifmap_elem.specs.Spells.{Spells, without_mark}
+use Rattle.ifmap_elem.specs.Spells.{Spells, without_byte_order_mark}
 use Rattle.ifmap_elem.specs.Tokens.{TakesToken}
 use Rattle.ifmap_elem.proofs.OneToken.{one_token}
 use Rattle.ifmap_reader.specs.Reads.{IsUnreadable}
@@ -44,7 +44,7 @@ module _ (bytes : List ℕ) where
   -- where shallow tokens stop, no tag opens a level too many
   pub not_deep : (depth at place : ℕ) (s : Stop bytes at) → Shallow depth s.tokens → Deep bytes depth place → ⊥
   not_deep depth at place s shallow d =
-      elim (one_front (without_mark bytes) s.tokens (d.tokens ++ d.tag ∷ []) s.rest d.behind s.reaches.lexed (to_last TakesToken (without_mark bytes) d.tokens d.rest d.tag d.behind d.lexed d.taken)) [
+      elim (one_front (without_byte_order_mark bytes) s.tokens (d.tokens ++ d.tag ∷ []) s.rest d.behind s.reaches.lexed (to_last TakesToken (without_byte_order_mark bytes) d.tokens d.rest d.tag d.behind d.lexed d.taken)) [
         | inl h ↦ beyond h.0 h.1 h.2
         | inr h ↦ among h.0 (h.1 ∙ append_assoc d.tokens (d.tag ∷ []) h.0)
       ]
@@ -68,7 +68,7 @@ module _ (bytes : List ℕ) where
 
   pub one_stop : (a b : ℕ) → Stop bytes a → Stop bytes b → a ≡ b
   one_stop a b s t =
-      elim (one_front (without_mark bytes) s.tokens t.tokens s.rest t.rest s.reaches.lexed t.reaches.lexed) [
+      elim (one_front (without_byte_order_mark bytes) s.tokens t.tokens s.rest t.rest s.reaches.lexed t.reaches.lexed) [
         | inl h ↦ stops_here a b s t h
         | inr h ↦ sym (stops_here b a t s h)
       ]
@@ -86,7 +86,7 @@ module _ (bytes : List ℕ) where
 
   pub one_deep : (depth a b : ℕ) → Deep bytes depth a → Deep bytes depth b → a ≡ b
   one_deep depth a b d e =
-      elim (one_front (without_mark bytes) d.tokens e.tokens d.rest e.rest d.lexed e.lexed) [
+      elim (one_front (without_byte_order_mark bytes) d.tokens e.tokens d.rest e.rest d.lexed e.lexed) [
         | inl h ↦ deep_here depth a b d e h
         | inr h ↦ sym (deep_here depth b a e d h)
       ]
