@@ -38,7 +38,7 @@ value_meant written text e s = (s.0, subst (λ (x : List ℕ). IsValue x s.0) (s
 
 module _ (bytes white inner : List ℕ) (c : Cuts is_white bytes white inner) where
   parted : (a : Assignment) (r : List ℕ) (t : TakesAssignment bytes a r) → (white ≡ t.white) × (inner ≡ name_bytes a.name ++ t.after)
-  parted a r t = cut is_white space t.white inner (name_bytes a.name ++ t.after) c.passes t.is_white c.stops (white_stops_at_name a.name t.after t.is_name) (sym c.bytes_are ∙ t.bytes_are)
+  parted a r t = cut is_white white t.white inner (name_bytes a.name ++ t.after) c.passes t.is_white c.stops (white_stops_at_name a.name t.after t.is_name) (sym c.bytes_are ∙ t.bytes_are)
 
   pub no_white : white ≡ [] → SomeAssignment bytes → ⊥
   no_white e s = s.2.some_white (sym (parted s.0 s.1 s.2).0 ∙ e)
@@ -140,7 +140,7 @@ module _ (rest : List ℕ) (open_still : IsAtEnd rest → ⊥) where
 
 pub goes_on_end : (bytes : List ℕ) (made : List Assignment) (rest white end : List ℕ) → GoesOn bytes made rest → IsAtEnd rest → Cuts is_white rest white end → TakesAssignments bytes made end
 goes_on_end bytes made rest white end g at c =
-    let both = cut is_white space at.0 end at.1 c.passes at.3 c.stops (closes_stops at.1 at.4) (sym c.bytes_are ∙ at.2) in
+    let both = cut is_white white at.0 end at.1 c.passes at.3 c.stops (closes_stops at.1 at.4) (sym c.bytes_are ∙ at.2) in
     record {
       white = white;
       assigned = subst (To TakesAssignment bytes made) c.bytes_are g.so_far;
@@ -151,7 +151,7 @@ goes_on_end bytes made rest white end g at c =
 pub tells_end : (bytes white end : List ℕ) (b : Bool) → Cuts is_white bytes white end → (b ≡ true → ClosesTag end) × (ClosesTag end → b ≡ true) → (b ≡ true → IsAtEnd bytes) × (IsAtEnd bytes → b ≡ true)
 tells_end bytes white end b c t = (
   (λ h. (white, end, c.bytes_are, c.passes, t.0 h)),
-  (λ at. t.1 (subst ClosesTag (sym (cut is_white space at.0 end at.1 c.passes at.3 c.stops (closes_stops at.1 at.4) (sym c.bytes_are ∙ at.2)).1) at.4)),
+  (λ at. t.1 (subst ClosesTag (sym (cut is_white white at.0 end at.1 c.passes at.3 c.stops (closes_stops at.1 at.4) (sym c.bytes_are ∙ at.2)).1) at.4)),
 )
 
 -- tags

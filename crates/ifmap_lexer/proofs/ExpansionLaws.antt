@@ -43,10 +43,10 @@ module _ (place : Place) where
     text_is = ap (λ y. part_in place (Plain (b ∷ bs)) ++ y) x.text_is;
   }
 
-  reference_found : (name later u : List ℕ) (c : ℕ) → AllAre (is_but 0x3B) name → referred name ≡ Some c → Means later u → Means (0x26 ∷ (name ++ (0x3B ∷ later))) (encode_utf8 c ++ u)
-  reference_found name later u c f e x = subst (λ (y : List ℕ). Means (0x26 ∷ (name ++ (0x3B ∷ later))) (y ++ u)) (character_in place c) (record {
+  reference_found : (name beyond u : List ℕ) (c : ℕ) → AllAre (is_but 0x3B) name → referred name ≡ Some c → Means beyond u → Means (0x26 ∷ (name ++ (0x3B ∷ beyond))) (encode_utf8 c ++ u)
+  reference_found name beyond u c f e x = subst (λ (y : List ℕ). Means (0x26 ∷ (name ++ (0x3B ∷ beyond))) (y ++ u)) (character_in place c) (record {
     parts = Reference c ∷ x.parts;
-    taken = (later, (name, refl, f, e), x.taken);
+    taken = (beyond, (name, refl, f, e), x.taken);
     text_is = ap (λ y. part_in place (Reference c) ++ y) x.text_is;
   })
 
@@ -61,23 +61,23 @@ module _ (place : Place) where
           (flat_map (part_in place) ps, record { parts = ps; taken = subst (λ (m : List ℕ). To TakesPart m ps []) (sym both.1) l.2; text_is = refl })
 
   abbrev Refers : List ℕ → List ℕ → Type 0
-  Refers name after = (c : ℕ) × (referred name ≡ Some c) × ((u : List ℕ) × Means later u)
+  Refers name beyond = (c : ℕ) × (referred name ≡ Some c) × ((u : List ℕ) × Means beyond u)
 
-  reference_ahead : (name later : List ℕ) → AllAre (is_but 0x3B) name → (t : List ℕ) → Means (0x26 ∷ (name ++ (0x3B ∷ later))) t → Refers name later
-  reference_ahead name later f t x = first x.parts x.taken
+  reference_ahead : (name beyond : List ℕ) → AllAre (is_but 0x3B) name → (t : List ℕ) → Means (0x26 ∷ (name ++ (0x3B ∷ beyond))) t → Refers name beyond
+  reference_ahead name beyond f t x = first x.parts x.taken
     where
-      refers : (p : Part) (ps : List Part) (mid : List ℕ) → TakesPart (0x26 ∷ (name ++ (0x3B ∷ later))) p mid → To TakesPart mid ps [] → Refers name later
-      refers (Plain run) ps mid l m = absurd (no_run run mid (name ++ (0x3B ∷ later)) l.1 l.2 l.0)
+      refers : (p : Part) (ps : List Part) (mid : List ℕ) → TakesPart (0x26 ∷ (name ++ (0x3B ∷ beyond))) p mid → To TakesPart mid ps [] → Refers name beyond
+      refers (Plain run) ps mid l m = absurd (no_run run mid (name ++ (0x3B ∷ beyond)) l.1 l.2 l.0)
       refers (Reference c) ps mid l m =
-          let e : 0x26 ∷ (name ++ (0x3B ∷ later)) ≡ 0x26 ∷ (l.0 ++ (0x3B ∷ mid)) = l.1 in
-          let tail : name ++ (0x3B ∷ later) ≡ l.0 ++ (0x3B ∷ mid) = cc in
-          let both = cut (is_but 0x3B) name l.0 (0x3B ∷ later) (0x3B ∷ mid) f l.2 refl refl tail in
-          let after : 0x3B ∷ later ≡ 0x3B ∷ mid = both.1 in
-          let same : mid ≡ after = cc in
+          let e : 0x26 ∷ (name ++ (0x3B ∷ beyond)) ≡ 0x26 ∷ (l.0 ++ (0x3B ∷ mid)) = l.1 in
+          let tail : name ++ (0x3B ∷ beyond) ≡ l.0 ++ (0x3B ∷ mid) = cc in
+          let both = cut (is_but 0x3B) name l.0 (0x3B ∷ beyond) (0x3B ∷ mid) f l.2 refl refl tail in
+          let after : 0x3B ∷ beyond ≡ 0x3B ∷ mid = both.1 in
+          let same : mid ≡ beyond = cc in
           (c, ap referred both.0 ∙ l.3, (flat_map (part_in place) ps, record { parts = ps; taken = subst (λ (b : List ℕ). To TakesPart b ps []) same m; text_is = refl }))
 
-      first : (parts : List Part) → To TakesPart (0x26 ∷ (name ++ (0x3B ∷ later))) parts [] → Refers name later
-      first [] l = absurd (no_cons 0x26 (name ++ (0x3B ∷ later)) l)
+      first : (parts : List Part) → To TakesPart (0x26 ∷ (name ++ (0x3B ∷ beyond))) parts [] → Refers name beyond
+      first [] l = absurd (no_cons 0x26 (name ++ (0x3B ∷ beyond)) l)
       first (p ∷ ps) l = refers p ps l.0 l.1 l.2
 
   no_reference : (after : List ℕ) → AllAre (is_but 0x3B) after → (t : List ℕ) → Means (0x26 ∷ after) t → ⊥
@@ -123,11 +123,11 @@ module _ (place : Place) where
     pub along_unended : AllAre (is_but 0x3B) after → (t : List ℕ) × Means written t → ⊥
     along_unended f s = let r = reference_left s.0 s.1 in no_reference after f r.0 r.1
 
-    module _ (name later : List ℕ) (d : CutsAt 0x3B after name later) where
-      referred_left : (t : List ℕ) → Means written t → Refers name later
+    module _ (name beyond : List ℕ) (d : CutsAt 0x3B after name beyond) where
+      referred_left : (t : List ℕ) → Means written t → Refers name beyond
       referred_left t x =
           let r = reference_left t x in
-          reference_ahead name later d.passes r.0 (subst (λ (b : List ℕ). Means (0x26 ∷ b) r.0) d.bytes_are r.1)
+          reference_ahead name beyond d.passes r.0 (subst (λ (b : List ℕ). Means (0x26 ∷ b) r.0) d.bytes_are r.1)
 
       pub along_unknown : referred name ≡ None → (t : List ℕ) × Means written t → ⊥
       along_unknown e s =
@@ -135,11 +135,11 @@ module _ (place : Place) where
           let wrong : ◌≡◌ {A = Option ℕ} None (Some r.0) = sym e ∙ r.1 in
           cc
 
-      pub along_next : (new : List ℕ) (ch : ℕ) → referred name ≡ Some ch → new ≡ (made ++ part_in place (Plain run)) ++ encode_utf8 ch → Along written new later
+      pub along_next : (new : List ℕ) (ch : ℕ) → referred name ≡ Some ch → new ≡ (made ++ part_in place (Plain run)) ++ encode_utf8 ch → Along written new beyond
       along_next new ch e is = record {
         found = λ u x.
-            let whole : rest ≡ run ++ (0x26 ∷ (name ++ (0x3B ∷ later))) = c.bytes_are ∙ ap (λ b. run ++ (0x26 ∷ b)) d.bytes_are in
-            let m = run_found run (0x26 ∷ (name ++ (0x3B ∷ later))) (encode_utf8 ch ++ u) c.passes refl (reference_found name later u ch d.passes e x) in
+            let whole : rest ≡ run ++ (0x26 ∷ (name ++ (0x3B ∷ beyond))) = c.bytes_are ∙ ap (λ b. run ++ (0x26 ∷ b)) d.bytes_are in
+            let m = run_found run (0x26 ∷ (name ++ (0x3B ∷ beyond))) (encode_utf8 ch ++ u) c.passes refl (reference_found name beyond u ch d.passes e x) in
             let all = along.found (part_in place (Plain run) ++ (encode_utf8 ch ++ u)) (subst (λ (b : List ℕ). Means b (part_in place (Plain run) ++ (encode_utf8 ch ++ u))) (sym whole) m) in
             let joined : made ++ (part_in place (Plain run) ++ (encode_utf8 ch ++ u)) ≡ new ++ u
             = sym (ap (λ x. x ++ u) is ∙ append_assoc (made ++ part_in place (Plain run)) (encode_utf8 ch) u ∙ append_assoc made (part_in place (Plain run)) (encode_utf8 ch ++ u)) in

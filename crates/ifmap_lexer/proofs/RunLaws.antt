@@ -39,12 +39,12 @@ lines_none : (xs : List ℕ) → AllAre (is_but 13) xs → line_ends xs ≡ xs
 lines_none [] f = refl
 lines_none (b ∷ bs) f = rw (not-true (b == 0xD) f.0) (ap (λ x. b ∷ x) (lines_none bs f.1))
 
-pub break_step : (place : Place) (rest line after later : List ℕ) → CutsAt 13 rest line after → line_ends (0xD ∷ after) ≡ 0xA ∷ line_ends later
-    → part_in place (Plain rest) ≡ line_in place line ++ (break_in place ∷ part_in place (Plain later))
-break_step CharacterData rest line after later c e = ap line_ends c.bytes_are ∙ lines_front line (0xD ∷ after) c.passes ∙ ap (λ x. line ++ x) e
-break_step AttributeValue rest line after later c e =
+pub break_step : (place : Place) (rest line after beyond : List ℕ) → CutsAt 13 rest line after → line_ends (0xD ∷ after) ≡ 0xA ∷ line_ends beyond
+    → part_in place (Plain rest) ≡ line_in place line ++ (break_in place ∷ part_in place (Plain beyond))
+break_step CharacterData rest line after beyond c e = ap line_ends c.bytes_are ∙ lines_front line (0xD ∷ after) c.passes ∙ ap (λ x. line ++ x) e
+break_step AttributeValue rest line after beyond c e =
     ap (λ x. map as_space (line_ends x)) c.bytes_are ∙ ap (map as_space) (lines_front line (0xD ∷ after) c.passes ∙ ap (λ x. line ++ x) e)
-    ∙ map-append as_space line (0xA ∷ line_ends later)
+    ∙ map-append as_space line (0xA ∷ line_ends beyond)
 
 pub break_end : (place : Place) (rest : List ℕ) → AllAre (is_but 13) rest → part_in place (Plain rest) ≡ line_in place rest
 break_end CharacterData rest f = lines_none rest f
@@ -55,9 +55,9 @@ no_newline [] h = refl
 no_newline (b ∷ bs) h = is_other b 10 (λ e. h bs (ap (λ n. n ∷ bs) e))
 
 -- what is appended in turn
-pub two_more : (start old first rest later a d : List ℕ) → old ++ rest ≡ start → first ≡ old ++ a → later ≡ first ++ d → (later : List ℕ) → rest ≡ a ++ (d ++ later) → later ++ later ≡ start
-two_more start old first rest later a d inv p q later r =
-    ap (λ x. x ++ later) (q ∙ ap (λ x. x ++ d) p) ∙ append_assoc (old ++ a) d later ∙ append_assoc old a (d ++ later) ∙ ap (λ x. old ++ x) (sym r) ∙ inv
+pub two_more : (start old first rest later a d : List ℕ) → old ++ rest ≡ start → first ≡ old ++ a → later ≡ first ++ d → (beyond : List ℕ) → rest ≡ a ++ (d ++ beyond) → later ++ beyond ≡ start
+two_more start old first rest later a d inv p q beyond r =
+    ap (λ x. x ++ beyond) (q ∙ ap (λ x. x ++ d) p) ∙ append_assoc (old ++ a) d beyond ∙ append_assoc old a (d ++ beyond) ∙ ap (λ x. old ++ x) (sym r) ∙ inv
 
 pub last_str : {T E : Type 0} (r : Result T E) (start old rest later a : List ℕ) → old ++ rest ≡ start → later ≡ (if is_ok r then old ++ a else old) → rest ≡ a → OnOk r (later ≡ start)
 last_str (Ok x) start old rest later a inv p e = p ∙ ap (λ x. old ++ x) (sym e) ∙ inv

@@ -21,7 +21,7 @@ stops_at (b ∷ bs) after h = h
 module _ (name : List ℕ) (starts : StartsNotWhite name) where
   module _ (bytes white inner : List ℕ) (c : Cuts is_white bytes white inner) where
     parted : (w r : List ℕ) (t : SetsTo name bytes w r) → (white ≡ t.white) × (inner ≡ name ++ t.after)
-    parted w r t = cut is_white space t.white inner (name ++ t.after) c.passes t.is_white c.stops (stops_at name t.after starts) (sym c.bytes_are ∙ t.bytes_are)
+    parted w r t = cut is_white white t.white inner (name ++ t.after) c.passes t.is_white c.stops (stops_at name t.after starts) (sym c.bytes_are ∙ t.bytes_are)
 
     pub not_spaced : white ≡ [] → (w r : List ℕ) → SetsTo name bytes w r → ⊥
     not_spaced e w r t = t.some_white (sym (parted w r t).0 ∙ e)
@@ -94,13 +94,13 @@ from_encoding w e = sym (all_lowered w) ∙ ap (map to_ascii_lowercase) e
 heads : (s t x y : List ℕ) → IsWhite s → IsWhite t → Stops is_white x → Stops is_white y → s ++ x ≡ t ++ y → x ≡ y
 heads s t x y f g stop also e = (cut is_white s t x y f g stop also e).1
 
-encoding_is_no_end : (bytes r white rest : List ℕ) → TakesSetting (codes "encoding") IsEncoding bytes r → IsWhite space → bytes ≡ white ++ (codes "?>" ++ rest) → ⊥
+encoding_is_no_end : (bytes r white rest : List ℕ) → TakesSetting (codes "encoding") IsEncoding bytes r → IsWhite white → bytes ≡ white ++ (codes "?>" ++ rest) → ⊥
 encoding_is_no_end bytes r white rest t f e =
     let both : codes "encoding" ++ t.after ≡ codes "?>" ++ rest = heads t.white white (codes "encoding" ++ t.after) (codes "?>" ++ rest) t.is_white f refl refl (sym t.bytes_are ∙ e) in
     let wrong : ◌≡◌ {A = ℕ} 101 63 = cc in
     absurd (omega arith)
 
-standalone_is_no_end : (bytes r white rest : List ℕ) → TakesSetting (codes "standalone") IsYesOrNo bytes r → IsWhite space → bytes ≡ white ++ (codes "?>" ++ rest) → ⊥
+standalone_is_no_end : (bytes r white rest : List ℕ) → TakesSetting (codes "standalone") IsYesOrNo bytes r → IsWhite white → bytes ≡ white ++ (codes "?>" ++ rest) → ⊥
 standalone_is_no_end bytes r white rest t f e =
     let both : codes "standalone" ++ t.after ≡ codes "?>" ++ rest = heads t.white white (codes "standalone" ++ t.after) (codes "?>" ++ rest) t.is_white f refl refl (sym t.bytes_are ∙ e) in
     let wrong : ◌≡◌ {A = ℕ} 115 63 = cc in

@@ -36,8 +36,8 @@ module _ (p : ℕ → Bool) where
   }
 
 -- after an ASCII byte of a text stands a text
-pub behind_is_utf8 : (c : ℕ) (text front after : List ℕ) → c < 128 → text ≡ front ++ (c ∷ after) → IsUtf8 text → IsUtf8 after
-behind_is_utf8 c text front after small e u =
+pub after_is_utf8 : (c : ℕ) (text front after : List ℕ) → c < 128 → text ≡ front ++ (c ∷ after) → IsUtf8 text → IsUtf8 after
+after_is_utf8 c text front after small e u =
     let n = length front in
     let here : get_or text n 0 ≡ c = ap (λ x. get_or x n 0) e ∙ get_or-append_seam front c after 0 in
     let inside : n < length text = omega (arith, ap length e, length-append front (c ∷ after)) in

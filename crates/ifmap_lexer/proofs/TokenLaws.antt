@@ -167,7 +167,7 @@ module _ (bytes inner : List ℕ) (e : bytes ≡ codes "</" ++ inner) where
         let o = end_by bytes s.0 s.1 s.2 s.3 in
         let t = o.1 in
         let both = name_cut name o.0 after (t.white ++ (codes ">" ++ s.1)) n.0 t.is_name n.2 (name_stops_at_white t.white (codes ">" ++ s.1) t.is_white refl) (sym n.1 ∙ end_inner o.0 s.1 t) in
-        none s.1 (cut is_white space t.white end (codes ">" ++ s.1) c.passes t.is_white c.stops refl (sym c.bytes_are ∙ both.1)).1
+        none s.1 (cut is_white white t.white end (codes ">" ++ s.1) c.passes t.is_white c.stops refl (sym c.bytes_are ∙ both.1)).1
 
     pub end_found : (rest : List ℕ) → end ≡ codes ">" ++ rest → TakesEnd bytes name rest
     end_found rest is = record {

@@ -14,7 +14,7 @@ pub record SetsTo (name bytes written rest : List ℕ) : Type 0 where
   pub white : List ℕ
   pub after : List ℕ
   pub bytes_are : bytes ≡ white ++ (name ++ after)
-  pub is_white : IsWhite space
+  pub is_white : IsWhite white
   pub some_white : white ≢ []
   pub given : TakesQuoted after written rest
 

@@ -14,9 +14,9 @@ ClosesTag (b ∷ bs) = (b == 0x3E || b == 0x2F) ≡ true
 pub record TakesAssignments (bytes : List ℕ) (assignments : List Assignment) (end : List ℕ) : Type 0 where
   pub white : List ℕ
   pub assigned : To TakesAssignment bytes assignments (white ++ end)
-  pub is_white : IsWhite space
+  pub is_white : IsWhite white
   pub closes : ClosesTag end
 
 -- white space, and then a tag's end
 abbrev pub IsAtEnd : List ℕ → Type 0
-IsAtEnd bytes = (white : List ℕ) × (end : List ℕ) × (bytes ≡ white ++ end) × IsWhite space × ClosesTag end
+IsAtEnd bytes = (white : List ℕ) × (end : List ℕ) × (bytes ≡ white ++ end) × IsWhite white × ClosesTag end

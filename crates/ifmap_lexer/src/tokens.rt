@@ -123,7 +123,13 @@ fn text(alloc: Global, bytes: &[u8]) -> Result<(Token, &[u8]), LexError>
         return Err(LexError::Malformed);
     };
     let meant = meaning(alloc, Place::CharacterData, written)?;
-    Ok((Token::Text(is_blank(own), meant), rest))
+    Ok((
+        Token::Characters {
+            blank: is_blank(own),
+            text: meant,
+        },
+        rest,
+    ))
 }
 
 fn is_blank(bytes: &[u8]) -> bool

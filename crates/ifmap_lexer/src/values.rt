@@ -30,14 +30,14 @@ pub(crate) fn meaning(alloc: Global, place: Place, written: &str) -> Result<Text
     let mut rest = written;
     while let Some((run, after)) = split_char('&', rest) {
         push_run(place, run, &mut text)?;
-        let Some((name, later)) = split_char(';', after) else {
+        let Some((name, next)) = split_char(';', after) else {
             return Err(LexError::Malformed);
         };
         let Some(character) = character_named(name.as_bytes()) else {
             return Err(LexError::Malformed);
         };
         text.push(character)?;
-        rest = later;
+        rest = next;
     }
     push_run(place, rest, &mut text)?;
     Ok(Text(text))

@@ -1,5 +1,5 @@
 use Rattle.ifmap_lexer.proofs.QuoteLaws.{no_sign, no_quote, quoted_found, unclosed, map_some, map_none}
-use Rattle.ifmap_lexer.proofs.quoting.quoted.Goals as goal
+use Rattle.ifmap_lexer.proofs.quoting.quoted_value.Goals as goal
 
 pub returns-in_default-clause-none : goal.returns-in_default-clause-none
 returns-in_default-clause-none c = no_sign c.args.bytes.now c.split_white.result.0.now c.split_white.result.1.now c.split_white.ensures c.in_default.ensures.none
