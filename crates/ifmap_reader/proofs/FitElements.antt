@@ -6,7 +6,8 @@ use Rattle.std.specs.Str.{bytes_eq}
 use Rattle.std.proofs.lemmas.Bool.{and_from, cases_Bool}
 use Rattle.ifmap_elem.specs.Chars.{IsCharacters, IsWhite, is_character, is_white}
 use Rattle.ifmap_elem.specs.Document as piece
-use Rattle.ifmap_elem.specs.Document.{Pieces, Nothing, tokens_of, Item, Inner, Run, child_of, heading, is_inner, is_child, joined, children_among, put_before, IsElement, IsRoot, AreItems}
+use Rattle.ifmap_elem.specs.Document.{Pieces, Nothing, tokens_of, Item, Inner, Run, child_of, heading, is_inner, is_child, joined, children_among, put_before, IsElement, AreItems}
+use Rattle.ifmap_elem.specs.Roots.{BeginsWithRoot, root_begins}
 use Rattle.ifmap_elem.specs.Fit.{IsNamespace, IsFitAttribute, HasCharacters, IsNotBlank, AreApart, is_element, AreFitChildren, IsFitAlone, IsFit}
 use Rattle.ifmap_elem.specs.Names.{IsNamePart}
 use Rattle.ifmap_elem.specs.Scopes.{Scope, Binding, IsBinding, IsAttribute, AreAttributes, attribute_space, binding_of, bindings, bound, root_scope, scope_within, xml_space, xmlns_space}
@@ -267,7 +268,7 @@ means_fit scope (piece.Start tag inside after) items f t m =
     let inner = means_fit (scope_within scope tag) inside m.0 (within_fits scope tag f t.0 m.6.named.binds) parts.0 m.5 in
     subst (AllByRecursion IsFitItem) (sym m.4) (element_fits scope tag m.0 m.1 m.2 f t.0 inner m.6, means_fit scope after m.3 f parts.1.1 m.7)
 
-rooted_fits : (c : Pieces) (r : Reading) → AllByRecursion IsFitToken (tokens_of c) → IsRoot c r → IsFit r.root
+rooted_fits : (c : Pieces) (r : Reading) → AllByRecursion IsFitToken (tokens_of c) → BeginsWithRoot c r → IsFit r.root
 rooted_fits Nothing r t m = absurd m
 rooted_fits (piece.Comment after) r t m = rooted_fits after r t.1 m
 rooted_fits (piece.Characters blank text after) r t m = rooted_fits after r t.1 m.1
@@ -283,4 +284,4 @@ pub spelled_fits : (bytes : List ℕ) (r : Reading) → Spells bytes r → IsFit
 spelled_fits bytes r s =
     let tokens = tokens_fit (without_byte_order_mark bytes) s.tokens [] s.lexed in
     let here = subst (AllByRecursion IsFitToken) s.document.tokens_are tokens in
-    rooted_fits s.document.pieces r (all_both IsFitToken (heading s.document.declared) (tokens_of s.document.pieces) here).1 s.document.rooted
+    rooted_fits s.document.pieces r (all_both IsFitToken (heading s.document.declared) (tokens_of s.document.pieces) here).1 (root_begins s.document.pieces r s.document.rooted)

@@ -44,7 +44,7 @@ module _ (bytes : List ℕ) where
   -- where shallow tokens stop, no tag opens a level too many
   pub not_deep : (depth at place : ℕ) (s : Stop bytes at) → Shallow depth s.tokens → Deep bytes depth place → ⊥
   not_deep depth at place s shallow d =
-      elim (one_front (without_byte_order_mark bytes) s.tokens (d.tokens ++ d.tag ∷ []) s.rest d.behind s.reaches.lexed (to_last TakesToken (without_byte_order_mark bytes) d.tokens d.rest d.tag d.behind d.lexed d.taken)) [
+      elim (one_front (without_byte_order_mark bytes) s.tokens (d.tokens ++ d.tag ∷ []) s.rest d.after s.reaches.lexed (to_last TakesToken (without_byte_order_mark bytes) d.tokens d.rest d.tag d.after d.lexed d.taken)) [
         | inl h ↦ beyond h.0 h.1 h.2
         | inr h ↦ among h.0 (h.1 ∙ append_assoc d.tokens (d.tag ∷ []) h.0)
       ]
@@ -52,7 +52,7 @@ module _ (bytes : List ℕ) where
       among : (after : List Token) → s.tokens ≡ d.tokens ++ (d.tag ∷ after) → ⊥
       among after e = let inside = shallow d.tokens after d.tag e d.opens in let level = d.level_is in omega (arith, inside, level)
 
-      beyond : (more : List Token) → d.tokens ++ d.tag ∷ [] ≡ s.tokens ++ more → To TakesToken s.rest more d.behind → ⊥
+      beyond : (more : List Token) → d.tokens ++ d.tag ∷ [] ≡ s.tokens ++ more → To TakesToken s.rest more d.after → ⊥
       beyond [] e l = among [] (sym (e ∙ append-nil s.tokens))
       beyond (u ∷ us) e l = s.no_further u l.0 l.1 (begins_front s.tokens u us (subst BeginsDocument e d.allowed))
 
@@ -79,7 +79,7 @@ module _ (bytes : List ℕ) where
       by : (more : List Token) → e.tokens ≡ d.tokens ++ more → To TakesToken d.rest more e.rest → a ≡ b
       by [] is l = d.at_is ∙ ap (offset bytes) l ∙ sym e.at_is
       by (u ∷ us) is l =
-          let same : d.tag ≡ u = (one_token d.rest d.tag u d.behind l.0 d.taken l.1).0 in
+          let same : d.tag ≡ u = (one_token d.rest d.tag u d.after l.0 d.taken l.1).0 in
           let inside = e.first d.tokens us u is (subst Opens same d.opens) in
           let level = d.level_is in
           absurd (omega (arith, inside, level))

@@ -13,6 +13,7 @@ use Rattle.ifmap_elem.specs.declared.tokens.Token.TheVariants.{Declaration, Comm
 use Rattle.ifmap_elem.specs.Scopes.{Scope, root_scope, bindings, NamesElement}
 use Rattle.ifmap_elem.specs.Document as piece
 use Rattle.ifmap_elem.specs.Document.{Pieces, Nothing, tokens_of, IsElement, AreItems, IsMargin, IsRoot, heading}
+use Rattle.ifmap_elem.specs.Roots.{BeginsWithRoot, root_begins, begins_root}
 use Rattle.ifmap_reader.specs.declared.frames.Frame.{Frame}
 use Rattle.ifmap_reader.specs.Frames.{Closes, scope_of, with_inner, with_words, written_name}
 use Rattle.ifmap_reader.specs.Opening.{Opened}
@@ -50,7 +51,7 @@ inner_other_end f [] name other ts r = no_other_end _ f ts _ name other
 inner_other_end f (g ∷ gs) name other ts r = no_other_end _ f ts _ name other
 
 -- at the root
-root_comment_off : (c : Pieces) (ts : List Token) (r : Reading) → Comment ∷ ts ≡ tokens_of c → IsRoot c r → BeginsRoot ts r
+root_comment_off : (c : Pieces) (ts : List Token) (r : Reading) → Comment ∷ ts ≡ tokens_of c → BeginsWithRoot c r → BeginsRoot ts r
 root_comment_off (piece.Comment after) ts r is h = record { pieces = after; tokens_are = cc; rooted = h }
 root_comment_off Nothing ts r is h = absurd h
 root_comment_off (piece.Characters blank text after) ts r is h = cc
@@ -64,7 +65,7 @@ root_comment ts r = (
   λ x. record { pieces = piece.Comment x.pieces; tokens_are = ap (λ us. Comment ∷ us) x.tokens_are; rooted = x.rooted },
 )
 
-root_blank_off : (text : List ℕ) (c : Pieces) (ts : List Token) (r : Reading) → Characters true text ∷ ts ≡ tokens_of c → IsRoot c r → BeginsRoot ts r
+root_blank_off : (text : List ℕ) (c : Pieces) (ts : List Token) (r : Reading) → Characters true text ∷ ts ≡ tokens_of c → BeginsWithRoot c r → BeginsRoot ts r
 root_blank_off text (piece.Characters blank more after) ts r is h = record { pieces = after; tokens_are = cc; rooted = h.1 }
 root_blank_off text Nothing ts r is h = absurd h
 root_blank_off text (piece.Comment after) ts r is h = cc
@@ -88,7 +89,7 @@ IsInner (End name) = Unit {0}
 IsInner (Section text) = Unit {0}
 IsInner (Characters blank text) = blank ≡ false
 
-no_root_off : (c : Pieces) (t : Token) (ts : List Token) (r : Reading) → IsInner t → t ∷ ts ≡ tokens_of c → IsRoot c r → ⊥
+no_root_off : (c : Pieces) (t : Token) (ts : List Token) (r : Reading) → IsInner t → t ∷ ts ≡ tokens_of c → BeginsWithRoot c r → ⊥
 no_root_off Nothing t ts r i is h = h
 no_root_off (piece.Comment after) t ts r i is h = let e : t ≡ Comment = cc in subst IsInner e i
 no_root_off (piece.Characters blank text after) t ts r i is h =
@@ -103,7 +104,7 @@ pub no_root : (t : Token) → IsInner t → (ts : List Token) (r : Reading) → 
 no_root t i ts r x = no_root_off x.pieces t ts r i x.tokens_are x.rooted
 
 module _ (tag : Tag) (new : Frame) (o : Opened root_scope tag new) where
-  root_start_off : (c : Pieces) (ts : List Token) (r : Reading) → Start tag ∷ ts ≡ tokens_of c → IsRoot c r → Closing new [] ts r
+  root_start_off : (c : Pieces) (ts : List Token) (r : Reading) → Start tag ∷ ts ≡ tokens_of c → BeginsWithRoot c r → Closing new [] ts r
   root_start_off (piece.Start other inside after) ts r is h =
       let same : other ≡ tag = cc in
       let tail : ts ≡ tokens_of inside ++ (End other.name ∷ tokens_of after) = cc in
@@ -143,7 +144,7 @@ module _ (tag : Tag) (new : Frame) (o : Opened root_scope tag new) where
   root_start ts r = (λ x. root_start_off x.pieces ts r x.tokens_are x.rooted, root_start_on ts r)
 
   module _ (e : Element) (d : List Declared) (k : Closes new [] e d) where
-    root_empty_off : (c : Pieces) (ts : List Token) (r : Reading) → Empty tag ∷ ts ≡ tokens_of c → IsRoot c r → EndsDocument (record { root = e; declared = d }) ts r
+    root_empty_off : (c : Pieces) (ts : List Token) (r : Reading) → Empty tag ∷ ts ≡ tokens_of c → BeginsWithRoot c r → EndsDocument (record { root = e; declared = d }) ts r
     root_empty_off (piece.Empty other after) ts r is h =
         let same : other ≡ tag = cc in
         let made = opened_closes root_scope tag new o [] r.root r.declared (subst (λ (u : Tag). IsElement root_scope u [] r.root r.declared) same h.0) in
@@ -170,7 +171,7 @@ module _ (tag : Tag) (new : Frame) (o : Opened root_scope tag new) where
 abbrev pub NoName : Scope → Tag → Type 0
 NoName scope tag = (name : Name) (attributes : List Attribute) → NamesElement scope tag name attributes → ⊥
 
-root_named : (tag : Tag) → NoName root_scope tag → (c : Pieces) (ts : List Token) (r : Reading) → (Start tag ∷ ts ≡ tokens_of c) ⊎ (Empty tag ∷ ts ≡ tokens_of c) → IsRoot c r → ⊥
+root_named : (tag : Tag) → NoName root_scope tag → (c : Pieces) (ts : List Token) (r : Reading) → (Start tag ∷ ts ≡ tokens_of c) ⊎ (Empty tag ∷ ts ≡ tokens_of c) → BeginsWithRoot c r → ⊥
 root_named tag none Nothing ts r is h = h
 root_named tag none (piece.Comment after) ts r is h = elim is [ inl k ↦ cc | inr k ↦ cc ]
 root_named tag none (piece.Characters blank text after) ts r is h = elim is [ inl k ↦ cc | inr k ↦ cc ]
@@ -239,13 +240,13 @@ not_heading (piece.Empty tag after) ts e = cc
 not_heading (piece.Start tag inside after) ts e = cc
 
 declaration_off : (declared : Bool) (c : Pieces) (ts : List Token) (r : Reading) → Declaration ∷ ts ≡ heading declared ++ tokens_of c → IsRoot c r → BeginsRoot ts r
-declaration_off true c ts r is h = record { pieces = c; tokens_are = cc; rooted = h }
+declaration_off true c ts r is h = record { pieces = c; tokens_are = cc; rooted = root_begins c r h }
 declaration_off false c ts r is h = absurd (not_heading c ts is)
 
 pub start_declaration : Follows AtStart Declaration (Among [])
 start_declaration ts r = (
   λ x. declaration_off x.declared x.pieces ts r x.tokens_are x.rooted,
-  λ x. record { declared = true; pieces = x.pieces; tokens_are = ap (λ us. Declaration ∷ us) x.tokens_are; rooted = x.rooted },
+  λ x. record { declared = true; pieces = x.pieces; tokens_are = ap (λ us. Declaration ∷ us) x.tokens_are; rooted = begins_root x.pieces r x.rooted },
 )
 
 abbrev pub IsOther : Token → Type 0
@@ -253,17 +254,17 @@ IsOther t = t ≡ Declaration → ⊥
 
 other_off : (t : Token) → IsOther t → (declared : Bool) (c : Pieces) (ts : List Token) (r : Reading) → t ∷ ts ≡ heading declared ++ tokens_of c → IsRoot c r → BeginsRoot (t ∷ ts) r
 other_off t other true c ts r is h = let e : t ≡ Declaration = cc in absurd (other e)
-other_off t other false c ts r is h = record { pieces = c; tokens_are = is; rooted = h }
+other_off t other false c ts r is h = record { pieces = c; tokens_are = is; rooted = root_begins c r h }
 
 -- but for a declaration the start is before the root
 pub start_other : (t : Token) → IsOther t → (ts : List Token) (r : Reading) → GoesOn AtStart (t ∷ ts) r ↔ GoesOn (Among []) (t ∷ ts) r
 start_other t other ts r = (
   λ x. other_off t other x.declared x.pieces ts r x.tokens_are x.rooted,
-  λ x. record { declared = false; pieces = x.pieces; tokens_are = x.tokens_are; rooted = x.rooted },
+  λ x. record { declared = false; pieces = x.pieces; tokens_are = x.tokens_are; rooted = begins_root x.pieces r x.rooted },
 )
 
 -- without a token nothing goes on but behind the root
-empty_root : (c : Pieces) (r : Reading) → [] ≡ tokens_of c → IsRoot c r → ⊥
+empty_root : (c : Pieces) (r : Reading) → [] ≡ tokens_of c → BeginsWithRoot c r → ⊥
 empty_root Nothing r is h = h
 empty_root (piece.Comment after) r is h = cc
 empty_root (piece.Characters blank text after) r is h = cc
@@ -273,7 +274,7 @@ empty_root (piece.Start tag inside after) r is h = cc
 
 empty_document : (declared : Bool) (c : Pieces) (r : Reading) → [] ≡ heading declared ++ tokens_of c → IsRoot c r → ⊥
 empty_document true c r is h = cc
-empty_document false c r is h = empty_root c r is h
+empty_document false c r is h = empty_root c r is (root_begins c r h)
 
 pub no_tokens_start : (r : Reading) → GoesOn AtStart [] r → ⊥
 no_tokens_start r x = empty_document x.declared x.pieces r x.tokens_are x.rooted

@@ -147,7 +147,7 @@ module _ (bytes : List ℕ) (depth : ℕ) (w : Where) (rest : List ℕ) (at : At
             tokens = at.so_far;
             tag = t;
             rest = rest;
-            behind = behind;
+            after = behind;
             lexed = at.lexed;
             taken = takes;
             allowed = record { more = s.0; reading = s.1.0; document = (goes_next s.0 s.1.0).1 ((p.follows s.0 s.1.0).1 s.1.1) };

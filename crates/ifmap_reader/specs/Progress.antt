@@ -1,6 +1,7 @@
 -- How a document goes on from where a reader stands, and what one more token makes of that.
 use Rattle.std.specs.Prelude.{◌≡◌, ◌↔◌, ℕ, ◌+◌, ◌<◌, ◌≤◌, Bool, true, false, cond, ◌⊎◌, List, [], ◌∷◌, ◌++◌, length, reverse, Result, Ok, Err}
-use Rattle.ifmap_elem.specs.Document.{Pieces, tokens_of, Item, AreItems, IsMargin, IsRoot, IsDocument}
+use Rattle.ifmap_elem.specs.Document.{Pieces, tokens_of, Item, AreItems, IsMargin, IsDocument}
+use Rattle.ifmap_elem.specs.Roots.{BeginsWithRoot}
 use Rattle.ifmap_elem.specs.Nesting.{nesting}
 use Rattle.ifmap_elem.specs.Places.{is_start, is_end, Opens}
 use Rattle.ifmap_elem.specs.Scopes.{Scope}
@@ -56,7 +57,7 @@ Closing f (g ∷ gs) ts r = Ends (scope_of (f ∷ (g ∷ gs))) f ts (λ e declar
 pub record BeginsRoot (ts : List Token) (r : Reading) : Type 0 where
   pub pieces : Pieces
   pub tokens_are : ts ≡ tokens_of pieces
-  pub rooted : IsRoot pieces r
+  pub rooted : BeginsWithRoot pieces r
 
 -- the tokens go on from there to a document that means this
 abbrev pub GoesOn : Where → List Token → Reading → Type 0

@@ -52,7 +52,10 @@ fn behind_root(depth: u32, reading: Reading, token: Token) -> Result<Standing, R
 fn is_margin(token: &Token) -> bool
     ensures { result ≡ is_margin token.now }
 {
-    matches!(token, Token::Comment | Token::Characters { blank: true, .. })
+    matches!(
+        token,
+        Token::Comment | Token::Characters { blank: true, .. }
+    )
 }
 
 fn continued(
