@@ -13,7 +13,7 @@ use Rattle.ifmap_elem.specs.declared.tokens.Token.TheVariants.{Declaration, Comm
 use Rattle.ifmap_elem.specs.Scopes.{Scope, root_scope, bindings, NamesElement}
 use Rattle.ifmap_elem.specs.Document as piece
 use Rattle.ifmap_elem.specs.Document.{Pieces, Nothing, tokens_of, IsElement, AreItems, IsMargin, IsRoot, heading}
-use Rattle.ifmap_elem.specs.Roots.{BeginsWithRoot, root_begins, begins_root}
+use Rattle.ifmap_elem.specs.laws.Roots.{BeginsWithRoot, root_begins, begins_root}
 use Rattle.ifmap_reader.specs.declared.frames.Frame.{Frame}
 use Rattle.ifmap_reader.specs.Frames.{Closes, scope_of, with_inner, with_words, written_name}
 use Rattle.ifmap_reader.specs.Opening.{Opened}

@@ -10,7 +10,7 @@ use Rattle.ifmap_elem.specs.declared.tokens.Token.TheVariants.{Empty, End}
 use Rattle.ifmap_elem.specs.Scopes.{root_scope}
 use Rattle.ifmap_elem.specs.Document as piece
 use Rattle.ifmap_elem.specs.Document.{Nothing, IsElement}
-use Rattle.ifmap_elem.specs.Roots.{begins_root}
+use Rattle.ifmap_elem.specs.laws.Roots.{begins_root}
 use Rattle.ifmap_reader.specs.declared.frames.Frame.{Frame}
 use Rattle.ifmap_reader.specs.Frames.{Closes, with_inner, written_name}
 use Rattle.ifmap_reader.specs.Progress.{Where, AtStart, Among, Behind, Closing, GoesOn}

@@ -1,7 +1,7 @@
 -- How a document goes on from where a reader stands, and what one more token makes of that.
 use Rattle.std.specs.Prelude.{◌≡◌, ◌↔◌, ℕ, ◌+◌, ◌<◌, ◌≤◌, Bool, true, false, cond, ◌⊎◌, List, [], ◌∷◌, ◌++◌, length, reverse, Result, Ok, Err}
 use Rattle.ifmap_elem.specs.Document.{Pieces, tokens_of, Item, AreItems, IsMargin, IsDocument}
-use Rattle.ifmap_elem.specs.Roots.{BeginsWithRoot}
+use Rattle.ifmap_elem.specs.laws.Roots.{BeginsWithRoot}
 use Rattle.ifmap_elem.specs.Nesting.{nesting}
 use Rattle.ifmap_elem.specs.Places.{is_start, is_end, Opens}
 use Rattle.ifmap_elem.specs.Scopes.{Scope}
