@@ -9,7 +9,7 @@ use Rattle.ifmap_elem.specs.laws.OneReading.{one_attribute}
 use Rattle.ifmap_reader.proofs.Lasts.{last_first}
 use Rattle.ifmap_reader.specs.declared.errors.Refusal.{Refusal}
 use Rattle.ifmap_reader.specs.declared.errors.Refusal.TheVariants.{NotAllowed, TooDeep, NoMemory}
-use Rattle.ifmap_reader.specs.Opening.{IsGiven, ArePlain, told}
+use Rattle.ifmap_reader.specs.AllowedTags.{IsGiven, ArePlain, told}
 
 abbrev pub plain : List Assignment → List Assignment
 plain assignments = filter (λ a. is_none (binding_of a)) assignments

@@ -12,13 +12,13 @@ use Rattle.ifmap_elem.specs.declared.elements.Name.{Name}
 use Rattle.ifmap_elem.specs.Scopes.{Scope, bindings, NamesElement}
 use Rattle.ifmap_elem.specs.Document as piece
 use Rattle.ifmap_elem.specs.Document.{Pieces, Nothing, tokens_of, Item, Inner, Run, IsElement, AreItems}
-use Rattle.ifmap_reader.specs.declared.frames.Frame.{Frame}
-use Rattle.ifmap_reader.specs.Frames.{Closes, with_inner, with_words, written_name}
-use Rattle.ifmap_reader.specs.Opening.{Opened}
-use Rattle.ifmap_reader.specs.Progress.{Ends, IsWords}
+use Rattle.ifmap_reader.specs.declared.open_elements.OpenElement.{OpenElement}
+use Rattle.ifmap_reader.specs.OpenElements.{Closes, with_inner, with_characters, written_name}
+use Rattle.ifmap_reader.specs.AllowedTags.{OpensElement}
+use Rattle.ifmap_reader.specs.Progress.{Ends, IsCharacterData}
 use Rattle.ifmap_reader.proofs.Items.{words_close, close_words, inner_closes, closes_inner, opened_closes, closes_opened}
 
-module _ (scope : Scope) (f : Frame) (ts : List Token) (Then : Element → List Declared → List Token → Type 0) where
+module _ (scope : Scope) (f : OpenElement) (ts : List Token) (Then : Element → List Declared → List Token → Type 0) where
   -- a comment
   comment_off : (c : Pieces) (behind : List Token) (items : List Item) (e : Element) (d : List Declared) → Comment ∷ ts ≡ tokens_of c ++ (End (written_name f) ∷ behind)
       → AreItems scope c items → Closes f items e d → Then e d behind → Ends scope f ts Then
@@ -37,9 +37,9 @@ module _ (scope : Scope) (f : Frame) (ts : List Token) (Then : Element → List 
   )
 
   -- a text
-  words_off : (t : Token) (blank : Bool) (text : List ℕ) → IsWords blank text t → (c : Pieces) (behind : List Token) (items : List Item) (e : Element) (d : List Declared)
+  words_off : (t : Token) (blank : Bool) (text : List ℕ) → IsCharacterData blank text t → (c : Pieces) (behind : List Token) (items : List Item) (e : Element) (d : List Declared)
       → t ∷ ts ≡ tokens_of c ++ (End (written_name f) ∷ behind)
-      → AreItems scope c items → Closes f items e d → Then e d behind → Ends scope (with_words f text) ts Then
+      → AreItems scope c items → Closes f items e d → Then e d behind → Ends scope (with_characters f text) ts Then
   words_off t blank text w Nothing behind items e d is m c th = elim w [ inl k ↦ cc | inr k ↦ let h = k.1 in cc ]
   words_off t blank text w (piece.Comment after) behind items e d is m c th = elim w [ inl k ↦ cc | inr k ↦ let h = k.1 in cc ]
   words_off t blank text w (piece.Characters b more after) behind items e d is m c th =
@@ -71,7 +71,7 @@ module _ (scope : Scope) (f : Frame) (ts : List Token) (Then : Element → List 
   words_off t blank text w (piece.Empty tag after) behind items e d is m c th = elim w [ inl k ↦ cc | inr k ↦ let h = k.1 in cc ]
   words_off t blank text w (piece.Start tag inside after) behind items e d is m c th = elim w [ inl k ↦ cc | inr k ↦ let h = k.1 in cc ]
 
-  words_on : (t : Token) (blank : Bool) (text : List ℕ) → IsWords blank text t → Ends scope (with_words f text) ts Then → Ends scope f (t ∷ ts) Then
+  words_on : (t : Token) (blank : Bool) (text : List ℕ) → IsCharacterData blank text t → Ends scope (with_characters f text) ts Then → Ends scope f (t ∷ ts) Then
   words_on t blank text w x = elim w [
     | inl k ↦ record {
       inside = piece.Characters blank text x.inside;
@@ -97,7 +97,7 @@ module _ (scope : Scope) (f : Frame) (ts : List Token) (Then : Element → List 
     }
   ]
 
-  pub ends_words : (t : Token) (blank : Bool) (text : List ℕ) → IsWords blank text t → Ends scope f (t ∷ ts) Then ↔ Ends scope (with_words f text) ts Then
+  pub ends_words : (t : Token) (blank : Bool) (text : List ℕ) → IsCharacterData blank text t → Ends scope f (t ∷ ts) Then ↔ Ends scope (with_characters f text) ts Then
   ends_words t blank text w = (λ x. words_off t blank text w x.inside x.behind x.items x.element x.declared x.tokens_are x.means x.closes x.goes_on, words_on t blank text w)
 
   -- a declaration
@@ -139,7 +139,7 @@ module _ (scope : Scope) (f : Frame) (ts : List Token) (Then : Element → List 
   )
 
   -- a tag
-  module _ (tag : Tag) (new : Frame) (o : Opened scope tag new) where
+  module _ (tag : Tag) (new : OpenElement) (o : OpensElement scope tag new) where
     empty_off : (c : Pieces) (behind : List Token) (items : List Item) (e : Element) (d : List Declared) → Empty tag ∷ ts ≡ tokens_of c ++ (End (written_name f) ∷ behind)
         → AreItems scope c items → Closes f items e d → Then e d behind → (inner : Element) (below : List Declared) → Closes new [] inner below → Ends scope (with_inner f inner below) ts Then
     empty_off (piece.Empty other after) behind items e d is m c t inner below k =
@@ -243,7 +243,7 @@ module _ (scope : Scope) (f : Frame) (ts : List Token) (Then : Element → List 
     ends_start = (λ x. branch_off x.inside x.behind x.items x.element x.declared x.tokens_are x.means x.closes x.goes_on, branch_on)
 
 -- a tag that is not allowed
-module _ (scope : Scope) (f : Frame) (ts : List Token) (Then : Element → List Declared → List Token → Type 0) (tag : Tag) (none : (name : Name) (attributes : List Attribute) → NamesElement scope tag name attributes → ⊥) where
+module _ (scope : Scope) (f : OpenElement) (ts : List Token) (Then : Element → List Declared → List Token → Type 0) (tag : Tag) (none : (name : Name) (attributes : List Attribute) → NamesElement scope tag name attributes → ⊥) where
   start_off : (c : Pieces) (behind : List Token) (items : List Item) → Start tag ∷ ts ≡ tokens_of c ++ (End (written_name f) ∷ behind) → AreItems scope c items → ⊥
   start_off (piece.Start other inside after) behind items is m =
       let same : other ≡ tag = cc in
