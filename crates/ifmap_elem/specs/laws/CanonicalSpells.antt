@@ -16,7 +16,7 @@ use Rattle.ifmap_elem.specs.Document.{tokens_of}
 use Rattle.ifmap_elem.specs.Fit.{IsFit, IsFitAlone, IsFitAttribute, IsNamespace, IsDeclarable}
 use Rattle.ifmap_elem.specs.Namespaces.{spaces_of, spaces_of_child, child_spaces, element_spaces, namespaces, name_prefixes}
 use Rattle.ifmap_elem.specs.Scopes.{Scope, IsBinding, root_scope}
-use Rattle.ifmap_elem.specs.Spells.{Spells, SpelledBy, without_mark}
+use Rattle.ifmap_elem.specs.Spells.{Spells, SpelledBy, without_byte_order_mark}
 use Rattle.ifmap_elem.specs.Tokens.{TakesToken}
 use Rattle.ifmap_elem.specs.laws.FitLaws.{elements_of_child, elements_in, fit_parts, fit_arranged}
 use Rattle.ifmap_lemmas.specs.Members.{all_both, both_all}
@@ -94,14 +94,14 @@ root_taken e given fit can small few =
     (both_differ 0x6E 0x66 1 1 (namespaces e) given (λ q. absurd (omega arith)) (prefixes_differ 0x6E n_letter 1 (namespaces e) (omega arith)) (prefixes_differ 0x66 f_letter 1 given (omega arith)))
     r.0 (fits_in prefixes scope e.attributes parts.0.attributes s.0) (children_taken prefixes scope e.children parts.1 parts.0.children.texts s.1)
 
-taken_spells : (e : Element) (bytes : List ℕ) → without_mark bytes ≡ bytes → ElementTaken root_scope bytes e → SpelledBy bytes e
+taken_spells : (e : Element) (bytes : List ℕ) → without_byte_order_mark bytes ≡ bytes → ElementTaken root_scope bytes e → SpelledBy bytes e
 taken_spells e bytes marked t = (
   record { root = e; declared = t.declared },
   refl,
   record {
-    tokens = tokens_of t.content;
-    lexed = subst (λ (b : List ℕ). To TakesToken b (tokens_of t.content) []) (append-nil bytes ∙ sym marked) (t.lexed []);
-    document = record { declared = false; content = t.content; tokens_are = refl; rooted = one_is_root t.content e t.declared t.one };
+    tokens = tokens_of t.pieces;
+    lexed = subst (λ (b : List ℕ). To TakesToken b (tokens_of t.pieces) []) (append-nil bytes ∙ sym marked) (t.lexed []);
+    document = record { declared = false; pieces = t.pieces; tokens_are = refl; rooted = one_is_root t.pieces e t.declared t.one };
   },
 )
 

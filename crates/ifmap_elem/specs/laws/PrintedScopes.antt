@@ -211,8 +211,8 @@ module _ (all : Texts) (more : Scope) (outer : IsOutermost more) (small : length
   outermost : IsOutermost its_scope
   outermost = rows_outermost 0x6E 1 (declared_among all) more n_letter outer
 
-  no_space : (s : List ℕ) → s ≡ [] → Resolves its_prefixes its_scope s
-  no_space s is =
+  no_white : (s : List ℕ) → s ≡ [] → Resolves its_prefixes its_scope s
+  no_white s is =
       let out : is_declared s ≡ false = ap is_declared is in
       let none : among s (declared_among all) ≡ false = among_once s (filter is_declared all) ∙ among_dropped is_declared s all out in
       let rows : lookup (bytes_eq s) (rows_of 0x6E 1 (declared_among all)) ≡ None = has_none _ (is_some-prefix_rows (codes "n") 1 s (declared_among all) ∙ none) in
@@ -234,7 +234,7 @@ module _ (all : Texts) (more : Scope) (outer : IsOutermost more) (small : length
 
   resolved : (s : List ℕ) → among s all ≡ true → Resolves its_prefixes its_scope s
   resolved s here = elim (cases_Bool (bytes_eq s [])) [
-    | inl e ↦ no_space s (eq_tells s [] e)
+    | inl e ↦ no_white s (eq_tells s [] e)
     | inr e ↦ elim (cases_Bool (bytes_eq s xml_space)) [
       | inl f ↦ the_xml_space s f
       | inr f ↦ let out : is_declared s ≡ true = rw (e, f) refl in numbered s out f here
