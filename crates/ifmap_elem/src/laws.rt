@@ -5,7 +5,7 @@ ghost use Rattle.ifmap_elem.specs.declared.readings.Reading.{Reading};
 ghost use Rattle.ifmap_elem.specs.Spells.{Spells};
 ghost use Rattle.ifmap_elem.specs.declared.elements.Element.{Element};
 ghost use Rattle.ifmap_elem.specs.declared.tokens.Token.{Token};
-ghost use Rattle.ifmap_elem.specs.Arranged.{IsSame, arranged};
+ghost use Rattle.ifmap_elem.specs.Arranged.{IsSame, arrange};
 ghost use Rattle.ifmap_elem.specs.Canonical.{canonical_bytes, canonical_reading, written_bytes, written_reading};
 ghost use Rattle.ifmap_elem.specs.Fit.{IsDeclarable, IsFit};
 ghost use Rattle.ifmap_elem.specs.Nesting.{nesting};
@@ -26,7 +26,7 @@ pub fn bytes_spell_one_element()
 /// the root, and nothing else.
 pub fn canonical_bytes_spell_the_element()
     ensures spelled { (element : Element) → IsFit element → Spells (canonical_bytes element) (canonical_reading element) }
-    ensures nesting { (element : Element) → nesting (arranged element) ≡ nesting element }
+    ensures nesting { (element : Element) → nesting (arrange element) ≡ nesting element }
 {}
 
 /// So do the bytes with declarations of given namespaces, which also declare their prefixes `f1`,
