@@ -10,48 +10,11 @@ use Rattle.std.specs.List.{AllByRecursion, AllWithin, IsDistinct, filter, insert
 use Rattle.std.specs.List.Sorted.{IsBinarySearchResult, IsPartitionPoint, IsSearchInRange, IsSortedBy, IsStrictlySortedBy}
 use Rattle.std.specs.Ordering.{is_gt, is_lt, ordering_reverse}
 use Rattle.std.specs.declared.cmp.Ordering.TheVariants.{Less, Equal, Greater}
+use Rattle.ifmap_lemmas.specs.Filters.{all_around, all_at, all_filter, all_weaker, filter_all, filter_none, filter_passes}
 use Rattle.ifmap_graph.specs.Placing.{put}
 
 module _ {X : Type 0} where
-  pub all_weaker : (P Q : X → Type 0) → ((x : X) → P x → Q x) → (xs : List X) → AllByRecursion P xs → AllByRecursion Q xs
-  all_weaker P Q f [] h = tt
-  all_weaker P Q f (x ∷ xs) h = (f x h.0, all_weaker P Q f xs h.1)
-
-  pub all_filter : (P : X → Type 0) (p : X → Bool) (xs : List X) → AllByRecursion P xs → AllByRecursion P (filter p xs)
-  all_filter P p [] h = tt
-  all_filter P p (x ∷ xs) h =
-      elim (p x) as (λ b. AllByRecursion P (cond b (x ∷ filter p xs) (filter p xs))) [ true ↦ (h.0, all_filter P p xs h.1) | false ↦ all_filter P p xs h.1 ]
-
-  pub all_around : (P : X → Type 0) (xs : List X) (y : X) (zs : List X) → AllByRecursion P xs → P y → AllByRecursion P zs → AllByRecursion P (xs ++ y ∷ zs)
-  all_around P [] y zs h k l = (k, l)
-  all_around P (x ∷ xs) y zs h k l = (h.0, all_around P xs y zs h.1 k l)
-
-  pub all_at : (P : X → Type 0) (xs : List X) (i : ℕ) (d : X) → AllByRecursion P xs → i < length xs → P (get_or xs i d)
-  all_at P xs i d h lt = All-from_recursion P xs h i d lt
-
-  -- what a filter leaves passes
-  pub filter_passes : (p : X → Bool) (xs : List X) → AllByRecursion (λ x. p x ≡ true) (filter p xs)
-  filter_passes p [] = tt
-  filter_passes p (x ∷ xs) =
-      elim (cases_Bool (p x)) [ inl hit ↦ rw hit (hit, filter_passes p xs) | inr miss ↦ rw miss (filter_passes p xs) ]
-
-  pub filter_all : (p : X → Bool) (xs : List X) → AllByRecursion (λ x. p x ≡ true) xs → filter p xs ≡ xs
-  filter_all p [] h = refl
-  filter_all p (x ∷ xs) h = rw h.0 (ap (λ t. x ∷ t) (filter_all p xs h.1))
-
-  pub filter_none : (p : X → Bool) (xs : List X) → AllByRecursion (λ x. p x ≡ false) xs → filter p xs ≡ []
-  filter_none p [] h = refl
-  filter_none p (x ∷ xs) h = rw h.0 (filter_none p xs h.1)
-
-  pub distinct_filter : (E : X → X → Bool) (p : X → Bool) (xs : List X) → IsDistinct E xs → IsDistinct E (filter p xs)
-  unfolding IsDistinct
-  distinct_filter E p [] h = tt
-  distinct_filter E p (x ∷ xs) h =
-      elim (p x) as (λ b. IsDistinct E (cond b (x ∷ filter p xs) (filter p xs))) [
-        | true ↦ (all_filter (λ y. E x y ≡ false) p xs h.0, distinct_filter E p xs h.1)
-        | false ↦ distinct_filter E p xs h.1
-      ]
-
+  -- where the members that pass stand first
   filter_front : (p : X → Bool) (xs : List X) (n : ℕ) → n ≤ length xs → AllWithin (λ y. p y ≡ true) xs 0 n → AllWithin (λ y. p y ≡ false) xs n (length xs) → take n xs ≡ filter p xs
   filter_front p [] zero le within after = refl
   filter_front p [] (suc n) le within after = refl

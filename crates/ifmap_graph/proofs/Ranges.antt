@@ -17,7 +17,8 @@ use Rattle.ifmap_graph.specs.Attachments.{attachment_order, same_key}
 use Rattle.ifmap_graph.specs.Graph.{IsGraph, on_item, without_key}
 use Rattle.ifmap_graph.specs.Places.{IsRangeOn}
 use Rattle.ifmap_graph.proofs.Keys.{items_equiv, items_tied, items_total, keys_equiv}
-use Rattle.ifmap_graph.proofs.Placing.{filter_all, filter_range, is_less, remove_one}
+use Rattle.ifmap_lemmas.specs.Filters.{filter_all}
+use Rattle.ifmap_graph.proofs.Placing.{filter_range, is_less, remove_one}
 
 -- by what comes first in an order of two parts
 not_greater : (r s : Ordering) → ordering_then r s ≡ Less → (r ≡ Less) ⊎ (r ≡ Equal)

@@ -19,7 +19,7 @@ use Rattle.ifmap_elem.proofs.ArrangedLaws.{arranged_is}
 use Rattle.ifmap_elem.proofs.Attributes.{one_order, sorted_permutation}
 use Rattle.ifmap_meta.specs.Cardinality.{is_single, is_single_value}
 use Rattle.ifmap_meta.specs.Keys.{content_bytes}
-use Rattle.ifmap_meta.specs.Stamps.{content_of, is_stamp, stamped, stamps, with_stamps, without_stamps}
+use Rattle.ifmap_meta.specs.Stamps.{content_of, is_stamp, stamp, stamps, with_stamps, without_stamps}
 use Rattle.ifmap_meta.proofs.Order.{filter_sorted}
 
 abbrev is_content : Attribute → Bool
@@ -47,13 +47,13 @@ same_content publisher moment xs =
     let all = without_stamps xs ++ stamps publisher moment in
     ap sorted (filter_sorted is_content all ∙ ap sorted (stamps_go publisher moment xs)) ∙ sorted_again (without_stamps xs)
 
-arranged_content : (publisher : List ℕ) (moment : ℕ) (e : Element) → arranged (content_of (stamped publisher moment e)) ≡ arranged (content_of e)
+arranged_content : (publisher : List ℕ) (moment : ℕ) (e : Element) → arranged (content_of (stamp publisher moment e)) ≡ arranged (content_of e)
 arranged_content publisher moment e =
-    arranged_is (content_of (stamped publisher moment e))
+    arranged_is (content_of (stamp publisher moment e))
     ∙ ap (λ attributes. record { name = e.name; attributes = attributes; children = map arranged_child e.children }) (same_content publisher moment e.attributes)
     ∙ sym (arranged_is (content_of e))
 
-pub content_stays : (publisher : List ℕ) (moment : ℕ) (e : Element) → content_bytes (stamped publisher moment e) ≡ content_bytes e
+pub content_stays : (publisher : List ℕ) (moment : ℕ) (e : Element) → content_bytes (stamp publisher moment e) ≡ content_bytes e
 unfolding content_bytes
 content_stays publisher moment e = ap (root_bytes (prefix_rows (codes "f") 1 [])) (arranged_content publisher moment e)
 
@@ -69,7 +69,7 @@ is_content_too a e =
     let second : bytes_eq a.name.local (codes "ifmap-timestamp") ≡ false = rw l refl in
     rw (first, second) (never_both (bytes_eq a.name.space []))
 
-pub cardinality_stays : (publisher : List ℕ) (moment : ℕ) (e : Element) → is_single (stamped publisher moment e) ≡ is_single e
+pub cardinality_stays : (publisher : List ℕ) (moment : ℕ) (e : Element) → is_single (stamp publisher moment e) ≡ is_single e
 cardinality_stays publisher moment e =
     let content = without_stamps e.attributes in
     let all = content ++ stamps publisher moment in
@@ -86,7 +86,7 @@ no_stamps (x ∷ xs) = elim (cases_Bool (is_stamp x)) [
   | inr e ↦ rw (e, e) (no_stamps xs)
 ]
 
-pub stamps_stay : (publisher : List ℕ) (moment : ℕ) (e : Element) → filter is_stamp (stamped publisher moment e).attributes ≡ stamps publisher moment
+pub stamps_stay : (publisher : List ℕ) (moment : ℕ) (e : Element) → filter is_stamp (stamp publisher moment e).attributes ≡ stamps publisher moment
 stamps_stay publisher moment e =
     let content = without_stamps e.attributes in
     filter_sorted is_stamp (content ++ stamps publisher moment)

@@ -30,5 +30,5 @@ abbrev pub with_stamps : List ℕ → ℕ → List Attribute → List Attribute
 with_stamps publisher moment attributes = sorted (attributes ++ stamps publisher moment)
 
 -- an element as this publisher's at that moment, whatever it says of that itself
-abbrev pub stamped : List ℕ → ℕ → Element → Element
-stamped publisher moment e = record { name = e.name; attributes = with_stamps publisher moment (without_stamps e.attributes); children = e.children }
+abbrev pub stamp : List ℕ → ℕ → Element → Element
+stamp publisher moment e = record { name = e.name; attributes = with_stamps publisher moment (without_stamps e.attributes); children = e.children }
