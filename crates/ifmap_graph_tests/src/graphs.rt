@@ -129,12 +129,24 @@ fn a_new_element_takes_the_place_of_one_with_its_key(rt: HostRuntime) -> Result<
     ];
     let mut graph = Graph::new(alloc);
     publish(alloc, &mut graph, &all[..3])?;
-    assert_eq!(rt; names_and_moments(alloc, &graph, FIRST)?.as_str(), "many3one2");
+    assert_eq!(rt;
+        names_and_moments(alloc, &graph, FIRST)?.as_str(),
+        "many3one2"
+    );
     publish(alloc, &mut graph, &all[3..5])?;
-    assert_eq!(rt; names_and_moments(alloc, &graph, FIRST)?.as_str(), "many3many5one4");
+    assert_eq!(rt;
+        names_and_moments(alloc, &graph, FIRST)?.as_str(),
+        "many3many5one4"
+    );
     publish(alloc, &mut graph, &all[5..])?;
-    assert_eq!(rt; names_and_moments(alloc, &graph, FIRST)?.as_str(), "many6many5one4");
-    assert_eq!(rt; names_and_moments(alloc, &graph, SECOND)?.as_str(), "many1one7");
+    assert_eq!(rt;
+        names_and_moments(alloc, &graph, FIRST)?.as_str(),
+        "many6many5one4"
+    );
+    assert_eq!(rt;
+        names_and_moments(alloc, &graph, SECOND)?.as_str(),
+        "many1one7"
+    );
     Ok(())
 }
 
@@ -150,10 +162,19 @@ fn an_ended_session_takes_what_it_published(rt: HostRuntime) -> Result<(), Fail>
     ];
     let mut graph = Graph::new(alloc);
     publish(alloc, &mut graph, &all)?;
-    assert_eq!(rt; names_and_moments(alloc, &graph, FIRST)?.as_str(), "many1many2one3");
-    assert_eq!(rt; names_and_moments(alloc, &graph, Place::Link)?.as_str(), "many5one4");
+    assert_eq!(rt;
+        names_and_moments(alloc, &graph, FIRST)?.as_str(),
+        "many1many2one3"
+    );
+    assert_eq!(rt;
+        names_and_moments(alloc, &graph, Place::Link)?.as_str(),
+        "many5one4"
+    );
     graph.retract_session(1);
-    assert_eq!(rt; names_and_moments(alloc, &graph, FIRST)?.as_str(), "many2one3");
+    assert_eq!(rt;
+        names_and_moments(alloc, &graph, FIRST)?.as_str(),
+        "many2one3"
+    );
     // 40 bytes for each identifier, and 107 for this element.
     assert_eq!(rt; size_at(alloc, &graph, Place::Link)?, 187);
     Ok(())

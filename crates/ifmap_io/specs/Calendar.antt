@@ -80,7 +80,14 @@ months_to year day = last_within (days_before_month year) day 11
 -- the date of a day of a year, which is counted from 0, and the time of a second of a day
 abbrev pub civil_in_year : ℕ → ℕ → ℕ → Civil
 civil_in_year year day second =
-    record { year = year; month = months_to year day + 1; day = day - days_before_month year (months_to year day) + 1; hour = second / 3600; minute = second % 3600 / 60; second = second % 60 }
+    record {
+      year = year;
+      month = months_to year day + 1;
+      day = day - days_before_month year (months_to year day) + 1;
+      hour = second / 3600;
+      minute = second % 3600 / 60;
+      second = second % 60;
+    }
 
 -- the date and the time of a second, which is counted from 1970-01-01T00:00:00Z
 unfoldable pub civil_of : ℕ → Civil
