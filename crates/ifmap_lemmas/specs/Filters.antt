@@ -1,9 +1,10 @@
 -- What holds of all members of a list, and what a filter makes of it.
-use Rattle.std.specs.Prelude.{◌≡◌, ℕ, ◌<◌, Bool, true, false, List, [], ◌∷◌, ◌++◌, length}
+use Rattle.std.specs.Prelude.{◌≡◌, ℕ, ◌+◌, ◌<◌, Bool, true, false, ◌&&◌, List, [], ◌∷◌, ◌++◌, count_by, length}
 use Rattle.std.specs.List.{AllByRecursion, IsDistinct, filter}
-use Rattle.std.proofs.Common.{ap, cond, get_or, inl, inr, refl, subst, sym, ◌∙◌}
+use Rattle.std.proofs.Common.{ap, arith, cond, get_or, inl, inr, refl, subst, sym, ◌∙◌}
 use Rattle.std.proofs.lemmas.Bool.{cases_Bool}
 use Rattle.std.proofs.lemmas.List.Elements.{All-from_recursion}
+use Rattle.std.proofs.lemmas.List.Sums.{sum_by-cons}
 
 module _ {X : Type 0} where
   pub all_weaker : (P Q : X → Type 0) → ((x : X) → P x → Q x) → (xs : List X) → AllByRecursion P xs → AllByRecursion Q xs
@@ -55,3 +56,27 @@ module _ {X : Type 0} where
         | true ↦ (all_filter (λ y. E x y ≡ false) p xs h.0, distinct_filter E p xs h.1)
         | false ↦ distinct_filter E p xs h.1
       ]
+
+  -- what passes a test passes it again
+  pub filter_again : (p : X → Bool) (xs : List X) → filter p (filter p xs) ≡ filter p xs
+  filter_again p [] = refl
+  filter_again p (x ∷ xs) = elim (cases_Bool (p x)) [
+    | inl e ↦ rw (e, e) (ap (λ ys. x ∷ ys) (filter_again p xs))
+    | inr e ↦ rw e (filter_again p xs)
+  ]
+
+  -- how many that pass one test pass another
+  pub count_filter : (q p : X → Bool) (xs : List X) → count_by q (filter p xs) ≡ count_by (λ x. p x && q x) xs
+  count_filter q p [] = refl
+  count_filter q p (x ∷ xs) = elim (cases_Bool (p x)) [
+    | inl e ↦
+        let passing : filter p (x ∷ xs) ≡ x ∷ filter p xs = rw e refl in
+        let one : cond {A = ℕ} (p x && q x) 1 0 ≡ cond (q x) 1 0 = rw e refl in
+        ap (count_by q) passing ∙ sum_by-cons (λ y. cond (q y) 1 0) x (filter p xs) ∙ ap (λ n. cond (q x) 1 0 + n) (count_filter q p xs)
+        ∙ ap (λ n. n + count_by (λ y. p y && q y) xs) (sym one) ∙ sym (sum_by-cons (λ y. cond (p y && q y) 1 0) x xs)
+    | inr e ↦
+        let gone : filter p (x ∷ xs) ≡ filter p xs = rw e refl in
+        let none : cond {A = ℕ} (p x && q x) 1 0 ≡ 0 = rw e refl in
+        let added : count_by (λ y. p y && q y) xs ≡ cond (p x && q x) 1 0 + count_by (λ y. p y && q y) xs = omega (arith, none) in
+        ap (count_by q) gone ∙ count_filter q p xs ∙ added ∙ sym (sum_by-cons (λ y. cond (p y && q y) 1 0) x xs)
+  ]
