@@ -27,7 +27,8 @@ pub graph_without_key : (a : Attachment) (graph : List Attachment) → IsGraph g
 graph_without_key a graph g = graph_filter (λ b. not (same_key a b)) graph g
 
 -- what is put in keeps a graph, where nothing has its key
-pub graph_put : (a : Attachment) (graph : List Attachment) → IsGraph graph → AllByRecursion (λ b. same_key a b ≡ false) graph → IsGraph (put attachment_order a graph)
+pub graph_put : (a : Attachment) (graph : List Attachment) → IsGraph graph → AllByRecursion (λ b. same_key a b ≡ false) graph
+    → IsGraph (put attachment_order a graph)
 graph_put a graph g differ = record {
   rising = put_sorted Attachment attachment_order attachments_total a graph g.rising;
   keys = put_distinct Attachment attachment_order attachments_total same_key keys_equiv a graph g.rising g.keys differ;
@@ -36,12 +37,14 @@ graph_put a graph g differ = record {
 pub graph_attached : (graph : List Attachment) (a : Attachment) → IsGraph graph → IsGraph (attach graph a)
 graph_attached graph a g =
     graph_put a (without_key a graph) (graph_without_key a graph g)
-    (all_weaker (λ b. not (same_key a b) ≡ true) (λ b. same_key a b ≡ false) (λ b h. not-true (same_key a b) h) _ (filter_passes (λ b. not (same_key a b)) graph))
+    (all_weaker (λ b. not (same_key a b) ≡ true) (λ b. same_key a b ≡ false)
+    (λ b h. not-true (same_key a b) h) _ (filter_passes (λ b. not (same_key a b)) graph))
 
 pub graph_retracted : (serial : ℕ) (graph : List Attachment) → IsGraph graph → IsGraph (retract serial graph)
 graph_retracted serial graph g = graph_filter (λ a. not (ends_with serial a.stored.life)) graph g
 
 -- where the search for a place ends
-pub place_found : (a : Attachment) (graph : List Attachment) (r : Result ℕ ℕ) → IsStrictlySortedBy attachment_order graph → IsSearchInRange r (length graph) → IsBinarySearchResult (λ b. attachment_order b a) graph r → IsPlaceFor a graph r
+pub place_found : (a : Attachment) (graph : List Attachment) (r : Result ℕ ℕ) → IsStrictlySortedBy attachment_order graph
+    → IsSearchInRange r (length graph) → IsBinarySearchResult (λ b. attachment_order b a) graph r → IsPlaceFor a graph r
 place_found a graph (Ok i) up within is = found_is_put Attachment attachment_order attachments_total a graph i up within is
 place_found a graph (Err i) up within is = gap_is_put Attachment attachment_order attachments_total a graph i up within is

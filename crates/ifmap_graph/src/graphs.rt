@@ -28,7 +28,10 @@ impl Model for Graph {
 
     ghost coded = { Prim.hlevel (codes, the_attachment.the_row.coded) };
 
-    ghost view = { λ graph. record { attachments = graph.attachments.items; room = vec_capacity graph.attachments - vec_len graph.attachments } };
+    ghost view = { λ graph. record {
+      attachments = graph.attachments.items;
+      room = vec_capacity graph.attachments - vec_len graph.attachments;
+    } };
 
     ghost invariant = { λ graph. IsGraph graph.attachments.items };
 }

@@ -15,6 +15,7 @@ use Rattle.ifmap_elem.specs.Canonical.{root_bytes}
 use Rattle.ifmap_elem.specs.Namespaces.{prefix_rows}
 use Rattle.ifmap_elem.specs.declared.elements.Attribute.{Attribute}
 use Rattle.ifmap_elem.specs.declared.elements.Element.{Element}
+use Rattle.ifmap_lemmas.specs.Filters.{filter_again}
 use Rattle.ifmap_elem.proofs.ArrangedLaws.{arranged_is}
 use Rattle.ifmap_elem.proofs.Attributes.{one_order, sorted_permutation}
 use Rattle.ifmap_meta.specs.Cardinality.{is_single, is_single_value}
@@ -28,29 +29,25 @@ is_content a = not (is_stamp a)
 sorted_again : (xs : List Attribute) → sorted (sorted xs) ≡ sorted xs
 sorted_again xs = sym (one_order xs (sorted xs) (sorted_permutation xs))
 
--- what passes a test passes it again
-filter_again : {X : Type 0} (p : X → Bool) (xs : List X) → filter p (filter p xs) ≡ filter p xs
-filter_again p [] = refl
-filter_again p (x ∷ xs) = elim (cases_Bool (p x)) [
-  | inl e ↦ rw (e, e) (ap (λ ys. x ∷ ys) (filter_again p xs))
-  | inr e ↦ rw e (filter_again p xs)
-]
-
-stamps_go : (publisher : List ℕ) (moment : ℕ) (xs : List Attribute) → without_stamps (without_stamps xs ++ stamps publisher moment) ≡ without_stamps xs
+stamps_go : (publisher : List ℕ) (moment : ℕ) (xs : List Attribute)
+    → without_stamps (without_stamps xs ++ stamps publisher moment) ≡ without_stamps xs
 stamps_go publisher moment xs =
     filter-append is_content (without_stamps xs) (stamps publisher moment)
     ∙ append-nil (without_stamps (without_stamps xs))
     ∙ filter_again is_content xs
 
-same_content : (publisher : List ℕ) (moment : ℕ) (xs : List Attribute) → sorted (without_stamps (with_stamps publisher moment (without_stamps xs))) ≡ sorted (without_stamps xs)
+same_content : (publisher : List ℕ) (moment : ℕ) (xs : List Attribute)
+    → sorted (without_stamps (with_stamps publisher moment (without_stamps xs))) ≡ sorted (without_stamps xs)
 same_content publisher moment xs =
     let all = without_stamps xs ++ stamps publisher moment in
     ap sorted (filter_sorted is_content all ∙ ap sorted (stamps_go publisher moment xs)) ∙ sorted_again (without_stamps xs)
 
-arranged_content : (publisher : List ℕ) (moment : ℕ) (e : Element) → arranged (content_of (stamp publisher moment e)) ≡ arranged (content_of e)
+arranged_content : (publisher : List ℕ) (moment : ℕ) (e : Element)
+    → arranged (content_of (stamp publisher moment e)) ≡ arranged (content_of e)
 arranged_content publisher moment e =
     arranged_is (content_of (stamp publisher moment e))
-    ∙ ap (λ attributes. record { name = e.name; attributes = attributes; children = map arranged_child e.children }) (same_content publisher moment e.attributes)
+    ∙ ap (λ attributes. record { name = e.name; attributes = attributes; children = map arranged_child e.children })
+    (same_content publisher moment e.attributes)
     ∙ sym (arranged_is (content_of e))
 
 pub content_stays : (publisher : List ℕ) (moment : ℕ) (e : Element) → content_bytes (stamp publisher moment e) ≡ content_bytes e
@@ -86,8 +83,10 @@ no_stamps (x ∷ xs) = elim (cases_Bool (is_stamp x)) [
   | inr e ↦ rw (e, e) (no_stamps xs)
 ]
 
-pub stamps_stay : (publisher : List ℕ) (moment : ℕ) (e : Element) → filter is_stamp (stamp publisher moment e).attributes ≡ stamps publisher moment
+pub stamps_stay : (publisher : List ℕ) (moment : ℕ) (e : Element)
+    → filter is_stamp (stamp publisher moment e).attributes ≡ stamps publisher moment
 stamps_stay publisher moment e =
     let content = without_stamps e.attributes in
     filter_sorted is_stamp (content ++ stamps publisher moment)
-    ∙ ap sorted (filter-append is_stamp content (stamps publisher moment) ∙ ap (λ xs. xs ++ stamps publisher moment) (no_stamps e.attributes))
+    ∙ ap sorted (filter-append is_stamp content (stamps publisher moment) ∙ ap
+    (λ xs. xs ++ stamps publisher moment) (no_stamps e.attributes))

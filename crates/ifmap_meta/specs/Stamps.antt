@@ -31,4 +31,8 @@ with_stamps publisher moment attributes = sorted (attributes ++ stamps publisher
 
 -- an element as this publisher's at that moment, whatever it says of that itself
 abbrev pub stamp : List ℕ → ℕ → Element → Element
-stamp publisher moment e = record { name = e.name; attributes = with_stamps publisher moment (without_stamps e.attributes); children = e.children }
+stamp publisher moment e = record {
+  name = e.name;
+  attributes = with_stamps publisher moment (without_stamps e.attributes);
+  children = e.children;
+}

@@ -5,8 +5,10 @@ use Rattle.ifmap_elem.specs.Building.{bare_attribute}
 use Rattle.ifmap_meta.proofs.stored.with_stamps.Goals as goal
 
 -- two more attributes, and then all in order
-in_order_with : (attributes start more all made : List Attribute) (a b p q : Attribute) → start ≡ attributes → more ≡ start ++ a ∷ [] → all ≡ more ++ b ∷ [] → made ≡ sorted all → a ≡ p → b ≡ q → made ≡ sorted (attributes ++ p ∷ q ∷ [])
-in_order_with attributes start more all made b c p q e f g h i j = rw (h, g, f, e, i, j) (ap sorted (append_assoc attributes (p ∷ []) (q ∷ [])))
+in_order_with : (attributes start more all made : List Attribute) (a b p q : Attribute) → start ≡ attributes → more ≡ start ++ a ∷ []
+    → all ≡ more ++ b ∷ [] → made ≡ sorted all → a ≡ p → b ≡ q → made ≡ sorted (attributes ++ p ∷ q ∷ [])
+in_order_with attributes start more all made b c p q e f g h i j =
+    rw (h, g, f, e, i, j) (ap sorted (append_assoc attributes (p ∷ []) (q ∷ [])))
 
 pub returns : goal.returns
 returns c =
