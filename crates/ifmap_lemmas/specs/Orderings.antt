@@ -65,3 +65,8 @@ pub first_of_less : (r s : Ordering) → ordering_then r s ≡ Less → (r ≡ L
 first_of_less Less s e = inl refl
 first_of_less Equal s e = inr refl
 first_of_less Greater s e = cc
+
+pub both_equal : (o p : Ordering) → ordering_then o p ≡ Equal → (o ≡ Equal) × (p ≡ Equal)
+both_equal Less p e = cc
+both_equal Equal p e = (refl, e)
+both_equal Greater p e = cc

@@ -10,9 +10,10 @@ use Rattle.ifmap_elem.specs.Values.{IsValue}
 use Rattle.ifmap_elem.specs.declared.tokens.Assignment.{Assignment}
 use Rattle.ifmap_elem.specs.declared.tokens.Qualified.{Qualified}
 use Rattle.ifmap_elem.specs.declared.tokens.Tag.{Tag}
-use Rattle.ifmap_elem.proofs.Cuts.{cut, is_number}
-use Rattle.ifmap_elem.proofs.NameBytes.{name_cut, space_stops_at_name}
-use Rattle.ifmap_elem.proofs.OneToken.{EndsTag, one_assignment, one_quoted, quoted_stops, assigned_stops}
+use Rattle.ifmap_lemmas.specs.Cuts.{cut}
+use Rattle.ifmap_lemmas.specs.Numbers.{is_number}
+use Rattle.ifmap_elem.specs.laws.NameBytes.{name_cut, space_stops_at_name}
+use Rattle.ifmap_elem.specs.laws.OneToken.{EndsTag, one_assignment, one_quoted, quoted_stops, assigned_stops}
 use Rattle.ifmap_lexer.specs.Cutting.{Cuts, is_but, Stops}
 use Rattle.ifmap_lexer.specs.Names.{is_name_byte}
 use Rattle.ifmap_lexer.specs.Tags.{ClosesTag, IsAtEnd, TakesAssignments}

@@ -6,8 +6,8 @@ use Rattle.std.proofs.lemmas.List.{append-nil}
 use Rattle.ifmap_lemmas.specs.Items.{To}
 use Rattle.ifmap_elem.specs.Chars.{AllAre}
 use Rattle.ifmap_elem.specs.Values.{Part, Plain, Reference, TakesPart, EndsRun, Expands, referred}
-use Rattle.ifmap_elem.proofs.Cuts.{cut}
-use Rattle.ifmap_elem.proofs.OneToken.{one_part}
+use Rattle.ifmap_lemmas.specs.Cuts.{cut}
+use Rattle.ifmap_elem.specs.laws.OneToken.{one_part}
 use Rattle.ifmap_lexer.specs.Cutting.{CutsAt, is_but}
 use Rattle.ifmap_lexer.specs.Runs.{part_in}
 use Rattle.ifmap_lexer.specs.declared.values.Place.{Place}

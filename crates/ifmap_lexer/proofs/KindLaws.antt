@@ -5,7 +5,7 @@ use Rattle.std.proofs.lemmas.Bool.{cases_Bool}
 use Rattle.ifmap_elem.specs.Tokens.{TakesToken}
 use Rattle.ifmap_elem.specs.declared.tokens.Token.{Token}
 use Rattle.ifmap_elem.specs.declared.tokens.Token.TheVariants.{Declaration, Comment, Start, Empty, End, Section, Text}
-use Rattle.ifmap_elem.proofs.OneToken as numbers
+use Rattle.ifmap_elem.specs.laws.OneToken as numbers
 use Rattle.ifmap_lexer.specs.Kinds.{kind_at, kind_of, kind_of_markup, kind_of_section}
 use Rattle.ifmap_lexer.specs.declared.kinds.Kind.{Kind}
 use Rattle.ifmap_lexer.specs.declared.kinds.Kind.TheVariants as kinds

@@ -10,8 +10,10 @@ use Rattle.std.proofs.lemmas.Str.{encode_same, encodes-chars, chars_from_encodes
 use Rattle.ifmap_elem.specs.Chars.{AllAre}
 use Rattle.ifmap_elem.specs.declared.tokens.Qualified.{Qualified}
 use Rattle.ifmap_elem.specs.Names.{IsNamePart, IsQualified, is_name_start, is_name_character, name_bytes, prefixed}
-use Rattle.ifmap_elem.proofs.Cuts.{cut, all_weaker, is_other}
-use Rattle.ifmap_elem.proofs.NameBytes.{is_part_byte, name_are_bytes, part_bytes, part_is_some}
+use Rattle.ifmap_lemmas.specs.Cuts.{cut}
+use Rattle.ifmap_lemmas.specs.Members.{all_weaker}
+use Rattle.ifmap_lemmas.specs.Numbers.{is_other}
+use Rattle.ifmap_elem.specs.laws.NameBytes.{is_part_byte, name_are_bytes, part_bytes, part_is_some}
 use Rattle.ifmap_lexer.specs.Cutting.{Cuts, CutsAt, is_but, Stops}
 use Rattle.ifmap_lexer.specs.Names.{is_name_byte}
 use Rattle.ifmap_lexer.proofs.Basics.{each, of_each, all_back}

@@ -4,8 +4,8 @@ use Rattle.std.specs.Prelude.{◌==◌, ◌||◌, Option, Some, None, IfSome, If
 use Rattle.std.proofs.lemmas.Bool.Decides.{nat_tests}
 use Rattle.ifmap_elem.specs.Chars.{AllAre, is_space}
 use Rattle.ifmap_elem.specs.Tokens.{TakesQuoted}
-use Rattle.ifmap_elem.proofs.Cuts.{cut}
-use Rattle.ifmap_elem.proofs.OneToken.{quote_is_no_space}
+use Rattle.ifmap_lemmas.specs.Cuts.{cut}
+use Rattle.ifmap_elem.specs.laws.OneToken.{quote_is_no_space}
 use Rattle.ifmap_lexer.specs.Cutting.{Cuts, CutsAt, is_but}
 use Rattle.ifmap_lexer.proofs.Basics.{all_back}
 

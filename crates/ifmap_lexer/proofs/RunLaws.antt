@@ -5,7 +5,7 @@ use Rattle.std.proofs.lemmas.Bool.{not-true}
 use Rattle.std.proofs.lemmas.List.{map-append}
 use Rattle.ifmap_elem.specs.Chars.{AllAre}
 use Rattle.ifmap_elem.specs.Values.{Plain, as_space, line_ends, begins_with}
-use Rattle.ifmap_elem.proofs.Cuts.{is_other}
+use Rattle.ifmap_lemmas.specs.Numbers.{is_other}
 use Rattle.ifmap_lexer.specs.Cutting.{CutsAt, is_but}
 use Rattle.ifmap_lexer.specs.Runs.{break_in, line_in, part_in}
 use Rattle.ifmap_lexer.specs.declared.values.Place.{Place}

@@ -5,8 +5,8 @@ use Rattle.std.specs.Char.{to_ascii_uppercase, to_ascii_lowercase}
 use Rattle.std.proofs.lemmas.Bool.Decides.{nat_tests}
 use Rattle.ifmap_elem.specs.Chars.{IsSpace, is_space}
 use Rattle.ifmap_elem.specs.Tokens.{TakesQuoted, TakesSetting, TakesOptional, TakesDeclaration}
-use Rattle.ifmap_elem.proofs.Cuts.{cut}
-use Rattle.ifmap_elem.proofs.OneToken.{one_quoted}
+use Rattle.ifmap_lemmas.specs.Cuts.{cut}
+use Rattle.ifmap_elem.specs.laws.OneToken.{one_quoted}
 use Rattle.ifmap_lexer.specs.Cutting.{Cuts, Stops}
 use Rattle.ifmap_lexer.specs.Settings.{IsEncoding, IsVersion, IsYesOrNo, SetsTo, StartsNoSpace, TakesWhereSet}
 

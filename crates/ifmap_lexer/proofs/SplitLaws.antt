@@ -8,7 +8,7 @@ use Rattle.std.proofs.lemmas.List.{take-append-drop}
 use Rattle.std.proofs.lemmas.Str.{IsUtf8-drop, IsCharBoundary-after_ascii}
 use Rattle.std.proofs.Math.Seq.{drop-append_seam, get_or-append_seam}
 use Rattle.ifmap_elem.specs.Chars.{AllAre}
-use Rattle.ifmap_elem.proofs.Cuts.{is_other}
+use Rattle.ifmap_lemmas.specs.Numbers.{is_other}
 use Rattle.ifmap_lexer.specs.Cutting.{Cuts, CutsAt, is_but, Stops}
 
 module _ (p : ℕ → Bool) where

@@ -10,7 +10,7 @@ use Rattle.memchr.specs.Find.{OccursAt, NoneBefore, Passes, is_byte}
 use Rattle.memchr.proofs.lemmas.MatchLemmas.{OccursAt-part, OccursAt-from_part}
 use Rattle.ifmap_elem.specs.Chars.{AllAre}
 use Rattle.ifmap_elem.specs.Tokens.{Lacks}
-use Rattle.ifmap_elem.proofs.Cuts.{is_number}
+use Rattle.ifmap_lemmas.specs.Numbers.{is_number}
 use Rattle.ifmap_lexer.specs.Cutting.{CutsWord, CutsAt, is_but}
 
 fits : (w xs : List ℕ) → w ≡ take (length w) xs → 0 + length w ≤ length xs

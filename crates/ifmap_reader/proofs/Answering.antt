@@ -9,9 +9,9 @@ use Rattle.ifmap_elem.specs.Fit.{IsFit}
 use Rattle.ifmap_elem.specs.Nesting.{nesting}
 use Rattle.ifmap_elem.specs.Places.{Deep, Stop}
 use Rattle.ifmap_elem.specs.Spells.{Spells}
-use Rattle.ifmap_elem.proofs.CanonicalSpells.{canonical_spelled}
-use Rattle.ifmap_elem.proofs.FitLaws.{nesting_arranged}
-use Rattle.ifmap_elem.proofs.OneReading.{one_reading}
+use Rattle.ifmap_elem.specs.laws.CanonicalSpells.{canonical_spelled}
+use Rattle.ifmap_elem.specs.laws.FitLaws.{nesting_arranged}
+use Rattle.ifmap_elem.specs.laws.OneReading.{one_reading}
 use Rattle.ifmap_reader.proofs.FitElements.{spelled_fits}
 use Rattle.ifmap_reader.specs.declared.errors.ReadError.{ReadError}
 use Rattle.ifmap_reader.specs.declared.errors.ReadError.TheVariants.{Unreadable, TooDeep, NoMemory}

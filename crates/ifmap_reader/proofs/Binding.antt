@@ -11,7 +11,7 @@ use Rattle.ifmap_elem.specs.declared.readings.Declared.{Declared}
 use Rattle.ifmap_elem.specs.declared.tokens.Assignment.{Assignment}
 use Rattle.ifmap_elem.specs.Document.{declared_here}
 use Rattle.ifmap_elem.specs.Scopes.{Binding, IsBinding, AllDiffer, binding_of, bound, xml_space, xmlns_space}
-use Rattle.ifmap_elem.proofs.NamespaceLaws.{eq_tells, eq_itself}
+use Rattle.ifmap_lemmas.specs.Texts.{eq_tells, eq_itself}
 use Rattle.ifmap_reader.specs.declared.errors.Refusal.{Refusal}
 use Rattle.ifmap_reader.specs.declared.errors.Refusal.TheVariants.{NotAllowed, TooDeep, NoMemory}
 use Rattle.ifmap_reader.specs.Opening.{Binds, IsBound, MayBind}

@@ -9,7 +9,7 @@ use Rattle.ifmap_elem.specs.Document.{IsDocument}
 use Rattle.ifmap_elem.specs.Places.{BeginsDocument, Deep, Opens, Stop, offset, open_after}
 use Rattle.ifmap_elem.specs.Spells.{Spells, without_mark}
 use Rattle.ifmap_elem.specs.Tokens.{TakesToken}
-use Rattle.ifmap_elem.proofs.OneToken.{one_token}
+use Rattle.ifmap_elem.specs.laws.OneToken.{one_token}
 use Rattle.ifmap_reader.specs.Reads.{IsUnreadable}
 
 -- each tag so far opened a level up to that depth

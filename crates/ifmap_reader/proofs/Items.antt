@@ -10,8 +10,8 @@ use Rattle.ifmap_elem.specs.declared.readings.Declared.{Declared}
 use Rattle.ifmap_elem.specs.declared.tokens.Tag.{Tag}
 use Rattle.ifmap_elem.specs.Scopes.{Scope, bindings, NamesElement}
 use Rattle.ifmap_elem.specs.Document.{Item, Inner, Run, is_inner, put_before, joined, is_kept, kept, child_of, declared_here, declared_below, from_above, IsElement}
-use Rattle.ifmap_elem.proofs.Cuts.{is_other}
-use Rattle.ifmap_elem.proofs.OneReading.{one_name}
+use Rattle.ifmap_lemmas.specs.Numbers.{is_other}
+use Rattle.ifmap_elem.specs.laws.OneReading.{one_name}
 use Rattle.ifmap_reader.specs.declared.frames.Frame.{Frame}
 use Rattle.ifmap_reader.specs.Frames.{Closes, has_children, kept_behind, kept_text, text_behind, with_inner, with_words}
 use Rattle.ifmap_reader.specs.Opening.{Opened}

@@ -10,7 +10,7 @@ use Rattle.ifmap_elem.specs.Document.{IsDocument}
 use Rattle.ifmap_elem.specs.Places.{BeginsDocument, Deep, Opens, Stop, is_start, is_end, open_after, offset}
 use Rattle.ifmap_elem.specs.Spells.{Spells, without_mark}
 use Rattle.ifmap_elem.specs.Tokens.{TakesToken}
-use Rattle.ifmap_elem.proofs.OneToken.{no_token}
+use Rattle.ifmap_elem.specs.laws.OneToken.{no_token}
 use Rattle.ifmap_lexer.specs.declared.errors.LexError.{LexError}
 use Rattle.ifmap_lexer.specs.declared.errors.LexError.TheVariants as lexing
 use Rattle.ifmap_reader.specs.declared.errors.ReadError.{ReadError}

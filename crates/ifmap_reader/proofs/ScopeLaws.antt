@@ -14,7 +14,7 @@ use Rattle.std.proofs.lemmas.List.Elements.{filter-append}
 use Rattle.std.proofs.lemmas.Map.Keys.{sorted_head, sorted_tail}
 use Rattle.ifmap_elem.specs.declared.readings.Declared.{Declared}
 use Rattle.ifmap_elem.specs.Scopes.{Scope, Binding, AllDiffer}
-use Rattle.ifmap_elem.proofs.NamespaceLaws.{eq_tells, eq_itself}
+use Rattle.ifmap_lemmas.specs.Texts.{eq_tells, eq_itself}
 use Rattle.ifmap_reader.specs.InScope.{declared_at, is_listed, listed}
 use Rattle.ifmap_reader.specs.Rows.{row_binding}
 

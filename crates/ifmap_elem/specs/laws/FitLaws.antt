@@ -1,5 +1,5 @@
 -- What fits in an element fits, level by level, and an element that fits does so with its attributes in order.
-use Rattle.std.proofs.Common.{◌≡◌, ◌≢◌, ℕ, suc, List, [], ◌∷◌, ◌++◌, map, refl, ap, sym, ◌∙◌, subst, inl, inr}
+use Rattle.std.proofs.Common.{◌≡◌, ◌≢◌, ℕ, suc, List, [], ◌∷◌, map, refl, ap, sym, ◌∙◌, subst, inl, inr}
 use Rattle.std.specs.List.{AllByRecursion, flat_map, list_any}
 use Rattle.std.specs.Ordering.{is_gt}
 use Rattle.std.proofs.lemmas.Bool.{cases_Bool}
@@ -7,7 +7,7 @@ use Rattle.std.proofs.lemmas.List.Folds.{flat_map-map}
 use Rattle.ifmap_elem.specs.Folds.{at_element, at_child_element, at_child_text, Each, by_children, each_child}
 use Rattle.ifmap_elem.specs.Arranged.{arranged, arranged_child, attribute_order, sorted}
 use Rattle.ifmap_elem.specs.Nesting.{nesting, child_nesting, greatest, child_levels, element_levels}
-use Rattle.ifmap_elem.specs.Order.{placed}
+use Rattle.ifmap_lemmas.specs.Sorting.{placed}
 use Rattle.ifmap_elem.specs.Scopes.{AllDiffer}
 use Rattle.ifmap_elem.specs.Fit.{IsFit, IsFitAlone, IsFitAttribute, AreFitChildren, HasCharacters, IsNotBlank, AreApart, is_element, elements_of, child_with_elements, element_with_elements}
 use Rattle.ifmap_elem.specs.declared.elements.Attribute.{Attribute}
@@ -16,7 +16,8 @@ use Rattle.ifmap_elem.specs.declared.elements.Child as the
 use Rattle.ifmap_elem.specs.declared.elements.Child.TheVariants.{rolls-Element, rolls-Text}
 use Rattle.ifmap_elem.specs.declared.elements.Child.TheOpen.{Child-F}
 use Rattle.ifmap_elem.specs.declared.elements.Element.{Element, fold-Element}
-use Rattle.ifmap_elem.proofs.ArrangedLaws.{arranged_is, arranged_in, arranged_text}
+use Rattle.ifmap_elem.specs.laws.ArrangedLaws.{arranged_is, arranged_in, arranged_text}
+use Rattle.ifmap_lemmas.specs.Members.{all_both, both_all, all_of_map, map_of_all}
 
 pub out_element : (e : Element) → out-Child (the.Element e) ≡ Child-F.Element e
 out_element e = ap out-Child (sym (rolls-Element e)) ∙ out-roll-Child (Child-F.Element e)
@@ -75,22 +76,6 @@ pub fit_whole : (e : Element) → IsFitAlone e → AllByRecursion IsFitAlone (fl
 fit_whole e alone inside = let h : AllByRecursion IsFitAlone (e ∷ flat_map elements_of_child e.children) = (alone, inside) in subst (AllByRecursion IsFitAlone) (sym (elements_is e)) h
 
 -- what holds of all in two lists
-
-pub all_both : {X : Type 0} (P : X → Type 0) (xs ys : List X) → AllByRecursion P (xs ++ ys) → AllByRecursion P xs × AllByRecursion P ys
-all_both P [] ys f = (tt, f)
-all_both P (x ∷ xs) ys f = let rest = all_both P xs ys f.1 in ((f.0, rest.0), rest.1)
-
-pub both_all : {X : Type 0} (P : X → Type 0) (xs ys : List X) → AllByRecursion P xs → AllByRecursion P ys → AllByRecursion P (xs ++ ys)
-both_all P [] ys f g = g
-both_all P (x ∷ xs) ys f g = (f.0, both_all P xs ys f.1 g)
-
-pub all_of_map : {X Y : Type 0} (P : Y → Type 0) (f : X → Y) (xs : List X) → AllByRecursion P (map f xs) → AllByRecursion (λ x. P (f x)) xs
-all_of_map P f [] h = tt
-all_of_map P f (x ∷ xs) h = (h.0, all_of_map P f xs h.1)
-
-pub map_of_all : {X Y : Type 0} (P : Y → Type 0) (f : X → Y) (xs : List X) → AllByRecursion (λ x. P (f x)) xs → AllByRecursion P (map f xs)
-map_of_all P f [] h = tt
-map_of_all P f (x ∷ xs) h = (h.0, map_of_all P f xs h.1)
 
 -- attributes in order
 

@@ -18,11 +18,12 @@ use Rattle.ifmap_elem.specs.Namespaces.{spaces_of, spaces_of_child, child_spaces
 use Rattle.ifmap_elem.specs.Scopes.{Scope, IsBinding, root_scope}
 use Rattle.ifmap_elem.specs.Spells.{Spells, SpelledBy, without_mark}
 use Rattle.ifmap_elem.specs.Tokens.{TakesToken}
-use Rattle.ifmap_elem.proofs.FitLaws.{elements_of_child, elements_in, fit_parts, fit_arranged, all_both, both_all}
-use Rattle.ifmap_elem.proofs.OneReading.{one_reading}
-use Rattle.ifmap_elem.proofs.PrintedTags.{Rows, row_binding, Resolves, FitRow}
-use Rattle.ifmap_elem.proofs.PrintedScopes.{n_letter, f_letter, rows_of, scope_of, root_outermost, rows_outermost, all_resolved, are_declared, rows_fit, rows_are_bindings, prefixes_differ, both_differ, length-rows}
-use Rattle.ifmap_elem.proofs.PrintedElements.{ElementTaken, tagged_taken, children_taken, fits_in, spaces_is, one_is_root}
+use Rattle.ifmap_elem.specs.laws.FitLaws.{elements_of_child, elements_in, fit_parts, fit_arranged}
+use Rattle.ifmap_lemmas.specs.Members.{all_both, both_all}
+use Rattle.ifmap_elem.specs.laws.OneReading.{one_reading}
+use Rattle.ifmap_elem.specs.laws.PrintedTags.{Rows, row_binding, Resolves, FitRow}
+use Rattle.ifmap_elem.specs.laws.PrintedScopes.{n_letter, f_letter, rows_of, scope_of, root_outermost, rows_outermost, all_resolved, are_declared, rows_fit, rows_are_bindings, prefixes_differ, both_differ, length-rows}
+use Rattle.ifmap_elem.specs.laws.PrintedElements.{ElementTaken, tagged_taken, children_taken, fits_in, spaces_is, one_is_root}
 
 -- all namespaces of an element that fits can be declared
 

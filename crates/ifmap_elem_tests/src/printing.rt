@@ -1,11 +1,11 @@
 //! Printings whose bytes were written by hand.
-use crate::{Attribute, Child, Element, Many, Name, Text, canonical, same, written};
-use std::alloc::{AllocError, Global};
+use ifmap_elem::{Attribute, Child, Element, Many, Name, Text, canonical, same, written};
+use std::alloc::{AllocError as NoMemory, Global};
 use std::test::Fail;
 
 const XML: &str = "http://www.w3.org/XML/1998/namespace";
 
-fn empty(alloc: Global, space: &str, local: &str) -> Result<Element, AllocError> {
+fn empty(alloc: Global, space: &str, local: &str) -> Result<Element, NoMemory> {
     let name = Name::new(alloc, space, local)?;
     let attributes = Many(Vec::new(alloc));
     let children = Many(Vec::new(alloc));
@@ -23,7 +23,7 @@ fn with_attribute(
     space: &str,
     local: &str,
     value: &str,
-) -> Result<Element, AllocError> {
+) -> Result<Element, NoMemory> {
     let Element {
         name: own,
         mut attributes,
@@ -40,7 +40,7 @@ fn with_attribute(
 }
 
 /// The element with a child behind its others.
-fn with_child(element: Element, child: Child) -> Result<Element, AllocError> {
+fn with_child(element: Element, child: Child) -> Result<Element, NoMemory> {
     let Element {
         name,
         attributes,
@@ -56,13 +56,13 @@ fn with_child(element: Element, child: Child) -> Result<Element, AllocError> {
     })
 }
 
-fn with_text(alloc: Global, element: Element, words: &str) -> Result<Element, AllocError> {
+fn with_text(alloc: Global, element: Element, words: &str) -> Result<Element, NoMemory> {
     let child = Child::Text(Text::from_str(alloc, words)?);
     with_child(element, child)
 }
 
 /// `{u}a` with two attributes and a child in another namespace.
-fn two_spaces(alloc: Global) -> Result<Element, AllocError> {
+fn two_spaces(alloc: Global) -> Result<Element, NoMemory> {
     let a = empty(alloc, "u", "a")?;
     let a = with_attribute(alloc, a, "", "y", "2")?;
     let a = with_attribute(alloc, a, "", "x", "1")?;
@@ -71,7 +71,7 @@ fn two_spaces(alloc: Global) -> Result<Element, AllocError> {
 }
 
 /// An element that first meets namespaces in attributes, one of them again in a child.
-fn spaces_in_attributes(alloc: Global) -> Result<Element, AllocError> {
+fn spaces_in_attributes(alloc: Global) -> Result<Element, NoMemory> {
     let a = empty(alloc, "", "a")?;
     let a = with_attribute(alloc, a, "v", "b", "3")?;
     let a = with_attribute(alloc, a, XML, "lang", "en")?;
@@ -85,7 +85,7 @@ fn spaces_in_attributes(alloc: Global) -> Result<Element, AllocError> {
 }
 
 /// An element that is in no namespace, nor is its attribute.
-fn no_space(alloc: Global) -> Result<Element, AllocError> {
+fn no_space(alloc: Global) -> Result<Element, NoMemory> {
     let value = Text::from_str(alloc, "1")?;
     let attribute = Attribute::bare(alloc, "x", value)?;
     let text = Child::Text(Text::from_str(alloc, "t")?);
@@ -98,7 +98,7 @@ fn no_space(alloc: Global) -> Result<Element, AllocError> {
 }
 
 /// Each escape, and what has none, in text, in a value and in a namespace.
-fn escapes(alloc: Global) -> Result<Element, AllocError> {
+fn escapes(alloc: Global) -> Result<Element, NoMemory> {
     let a = empty(alloc, "a&<>\"'\t\n\r", "a")?;
     let a = with_attribute(alloc, a, "", "x", "&<>\"'\t\n\r\u{e9}")?;
     let b = empty(alloc, "", "b")?;

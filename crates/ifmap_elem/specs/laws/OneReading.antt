@@ -1,7 +1,7 @@
 -- A list of bytes spells at most one element, with one list of declarations.
 use Rattle.std.proofs.Common.{◌≡◌, ℕ, Bool, true, false, List, [], ◌∷◌, ◌++◌, refl, ap, sym, ◌∙◌, subst, append_assoc}
 use Rattle.std.specs.Prelude.{Some}
-use Rattle.ifmap_lemmas.specs.Items.{To}
+use Rattle.ifmap_lemmas.specs.Items.{To, one_list}
 use Rattle.ifmap_elem.specs.declared.elements.Attribute.{Attribute}
 use Rattle.ifmap_elem.specs.declared.elements.Name.{Name}
 use Rattle.ifmap_elem.specs.declared.elements.Element.{Element}
@@ -15,8 +15,7 @@ use Rattle.ifmap_elem.specs.Tokens.{TakesToken}
 use Rattle.ifmap_elem.specs.Scopes.{Scope, root_scope, scope_within, plain_assignments, IsAttribute, AreAttributes, NamesElement}
 use Rattle.ifmap_elem.specs.Document.{Content, Nothing, Remark, Words, Verbatim, Leaf, Branch, tokens_of, Item, Inner, Run, IsElement, Means, IsRoot, heading, IsDocument}
 use Rattle.ifmap_elem.specs.Spells.{Spells, without_mark}
-use Rattle.ifmap_elem.proofs.Cuts.{one_list}
-use Rattle.ifmap_elem.proofs.OneToken.{one_token, no_token}
+use Rattle.ifmap_elem.specs.laws.OneToken.{one_token, no_token}
 
 abbrev pub is_end_tag : Token → Bool
 is_end_tag Declaration = false

@@ -7,9 +7,9 @@ use Rattle.std.proofs.lemmas.Bool.{cases_Bool, and_parts}
 use Rattle.std.proofs.lemmas.Cmp.{nat_list_cmp_total, then_total, on_total, upto}
 use Rattle.std.proofs.lemmas.Slice.Eq.{bytes_eq-Decides}
 use Rattle.std.specs.Cmp.{IsTotalOrder}
-use Rattle.std.specs.Cmp.Lexicographic.{slice_cmp, texts_ties}
+use Rattle.std.specs.Cmp.Lexicographic.{slice_cmp}
 use Rattle.std.specs.Str.{bytes_eq}
-use Rattle.std.specs.Ordering.{is_gt, is_lt, is_le, is_eq, is_some_and, partial_le, partial_ordering_then, ordering_then, ordering_reverse, nat_cmp}
+use Rattle.std.specs.Ordering.{is_gt, is_lt, is_le, is_some_and, partial_le, partial_ordering_then, ordering_then, ordering_reverse, nat_cmp}
 use Rattle.std.specs.declared.cmp.Ordering.{Ordering}
 use Rattle.std.specs.declared.cmp.Ordering.TheVariants.{Less, Equal, Greater}
 use Rattle.ifmap_elem.specs.declared.elements.Attribute.{Attribute}
@@ -18,7 +18,9 @@ use Rattle.ifmap_elem.specs.printer.Occurrences.{attribute_eq, occurrences_of}
 use Rattle.std.specs.List.Sorted.{IsPermutation, IsSorted}
 use Rattle.std.proofs.lemmas.List.Sorted.{IsPermutation-map, IsPermutation-refl}
 use Rattle.std.proofs.lemmas.List.{get_or-map, length-map}
-use Rattle.ifmap_elem.proofs.Orders.{Ranks, in_order_same, in_order_is, in_order-rises, in_order-permutation, IsPermutation-in_order, length-in_order, count-in_order}
+use Rattle.ifmap_lemmas.specs.Sorting.{Ranks, in_order_same, in_order_is, in_order-rises, in_order-permutation, IsPermutation-in_order, length-in_order, count-in_order}
+use Rattle.ifmap_lemmas.specs.Texts.{same_texts}
+use Rattle.ifmap_lemmas.specs.Orderings.{both_equal}
 
 texts_total : IsTotalOrder (slice_cmp nat_cmp)
 texts_total = nat_list_cmp_total
@@ -26,14 +28,6 @@ texts_total = nat_list_cmp_total
 pub attributes_total : IsTotalOrder attribute_order
 attributes_total =
     then_total (then_total (on_total (λ (a : Attribute). a.name.space) texts_total) (on_total (λ (a : Attribute). a.name.local) texts_total)) (on_total (λ (a : Attribute). a.value) texts_total)
-
-pub same_texts : (xs ys : List ℕ) → slice_cmp nat_cmp xs ys ≡ Equal → xs ≡ ys
-same_texts xs ys e = (bytes_eq-Decides xs ys).0 (texts_ties xs ys ∙ ap is_eq e)
-
-pub both_equal : (o p : Ordering) → ordering_then o p ≡ Equal → (o ≡ Equal) × (p ≡ Equal)
-both_equal Less p e = cc
-both_equal Equal p e = (refl, e)
-both_equal Greater p e = cc
 
 pub attributes_tied : (a b : Attribute) → attribute_order a b ≡ Equal → a ≡ b
 attributes_tied a b e =

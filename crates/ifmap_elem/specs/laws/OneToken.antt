@@ -5,7 +5,7 @@ use Rattle.std.specs.Char.{to_ascii_uppercase}
 use Rattle.std.specs.List.{flat_map, list_all}
 use Rattle.std.proofs.lemmas.Bool.{not-true, or_cases, and_parts}
 use Rattle.std.proofs.lemmas.Bool.Decides.{nat_tests}
-use Rattle.ifmap_lemmas.specs.Items.{To}
+use Rattle.ifmap_lemmas.specs.Items.{To, one_list}
 use Rattle.ifmap_elem.specs.Chars.{AllAre, IsSpace, is_space}
 use Rattle.ifmap_elem.specs.declared.tokens.Qualified.{Qualified}
 use Rattle.ifmap_elem.specs.Names.{IsQualified, name_bytes}
@@ -15,8 +15,11 @@ use Rattle.ifmap_elem.specs.declared.tokens.Tag.{Tag}
 use Rattle.ifmap_elem.specs.declared.tokens.Token.{Token}
 use Rattle.ifmap_elem.specs.declared.tokens.Token.TheVariants.{Declaration, Comment, Start, Empty, End, Section, Text}
 use Rattle.ifmap_elem.specs.Tokens.{TakesQuoted, TakesAssignment, TakesTag, TakesSetting, TakesOptional, TakesDeclaration, TakesEnd, EndsText, TakesText, TakesToken}
-use Rattle.ifmap_elem.proofs.Cuts.{Stops, all_append, cut, is_number, dash_cut, bracket_cut, one_list}
-use Rattle.ifmap_elem.proofs.NameBytes.{is_name_byte, name_are_bytes, name_is_some, name_cut, no_name_byte, space_is_no_name, space_stops_at_name, name_stops_at_space}
+use Rattle.ifmap_lemmas.specs.Cuts.{Stops, cut}
+use Rattle.ifmap_lemmas.specs.Members.{all_append}
+use Rattle.ifmap_lemmas.specs.Numbers.{is_number}
+use Rattle.ifmap_elem.specs.laws.Delimiters.{dash_cut, bracket_cut}
+use Rattle.ifmap_elem.specs.laws.NameBytes.{is_name_byte, name_are_bytes, name_is_some, name_cut, no_name_byte, space_is_no_name, space_stops_at_name, name_stops_at_space}
 
 -- one part
 

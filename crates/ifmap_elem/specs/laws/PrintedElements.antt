@@ -23,10 +23,11 @@ use Rattle.ifmap_elem.specs.Escapes.{text_bytes}
 use Rattle.ifmap_elem.specs.Fit.{IsFit, IsFitAlone, IsFitAttribute, AreFitChildren, HasCharacters, IsNotBlank, AreApart, is_element}
 use Rattle.ifmap_elem.specs.Namespaces.{spaces_of, spaces_of_child, child_spaces, element_spaces}
 use Rattle.ifmap_elem.specs.Canonical.{printed_name, declaration_bytes, attribute_bytes, content_bytes, tagged, child_piece, element_piece, child_bytes, element_bytes}
-use Rattle.ifmap_elem.proofs.Cuts.{is_other}
-use Rattle.ifmap_elem.proofs.PrintedParts.{all_of_test}
-use Rattle.ifmap_elem.proofs.PrintedTags.{Rows, row_binding, tag_of, qualified, Resolves, FitsIn, FitRow, to_both, tag_taken, end_taken, text_taken, bindings_are, names_element}
-use Rattle.ifmap_elem.proofs.FitLaws.{out_element, out_text, elements_of_child, elements_in, fit_parts, all_both}
+use Rattle.ifmap_lemmas.specs.Numbers.{is_other}
+use Rattle.ifmap_lemmas.specs.Members.{all_of_test, all_both}
+use Rattle.ifmap_elem.specs.laws.PrintedTags.{Rows, row_binding, tag_of, qualified, Resolves, FitsIn, FitRow, to_both, tag_taken, end_taken, text_taken, bindings_are, names_element}
+use Rattle.ifmap_elem.specs.laws.FitLaws.{out_element, out_text, elements_of_child, elements_in, fit_parts}
+use Rattle.ifmap_lemmas.specs.Lists.{concat_map}
 
 -- contents after one another
 
@@ -202,10 +203,6 @@ pub record ElementTaken (outer : Scope) (bytes : List ℕ) (e : Element) : Type 
   pub one : IsOne outer content e declared
   pub begins : (rest : List ℕ) → EndsText (bytes ++ rest)
 
-concat_map : {X : Type 0} (f : X → List ℕ) (xs : List X) → concat (map f xs) ≡ flat_map f xs
-concat_map f [] = refl
-concat_map f (x ∷ xs) = ap (λ ys. f x ++ ys) (concat_map f xs)
-
 tag_seam : (n d a c rest : List ℕ) → (codes "<" ++ (n ++ (d ++ (a ++ c)))) ++ rest ≡ codes "<" ++ (n ++ (d ++ (a ++ (c ++ rest))))
 tag_seam n d a c rest = simp append_assoc
 
@@ -291,7 +288,7 @@ module _ (prefixes declared : Rows) (outer : Scope) (e : Element) (fit : IsFitAl
 
 -- all in an element
 
-abbrev space_of : Attribute → List ℕ
+abbrev pub space_of : Attribute → List ℕ
 space_of a = a.name.space
 
 pub spaces_is : (e : Element) → spaces_of e ≡ e.name.space ∷ (map space_of e.attributes ++ flat_map spaces_of_child e.children)

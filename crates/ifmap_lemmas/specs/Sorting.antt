@@ -7,7 +7,16 @@ use Rattle.std.specs.Prelude.{count_by}
 use Rattle.std.specs.List.Sorted.{IsPermutation}
 use Rattle.std.specs.Ordering.{is_gt}
 use Rattle.std.specs.declared.cmp.Ordering.{Ordering}
-use Rattle.ifmap_elem.specs.Order.{placed, in_order}
+
+-- a list in order with one more member, before the first member that is not smaller
+abbrev pub placed : {X : Type 0} → (X → X → Ordering) → X → List X → List X
+placed cmp x [] = x ∷ []
+placed cmp x (y ∷ ys) = cond (is_gt (cmp x y)) (y ∷ placed cmp x ys) (x ∷ (y ∷ ys))
+
+-- the members of a list in rising order
+abbrev pub in_order : {X : Type 0} → (X → X → Ordering) → List X → List X
+in_order cmp [] = []
+in_order cmp (x ∷ xs) = placed cmp x (in_order cmp xs)
 
 -- a test that says which of two members is the greater
 pub record Ranks {X : Type 0} (gt : X → X → Bool) : Type 0 where

@@ -15,6 +15,7 @@ use Rattle.std.specs.Cmp.Lexicographic.{slice_cmp, texts_ties}
 use Rattle.std.proofs.lemmas.Cmp.{nat_list_eq_equiv}
 use Rattle.ifmap_elem.specs.Namespaces.{once_each, is_declared, declared_among, AddsSpaces, prefix_rows, name_prefixes}
 use Rattle.ifmap_elem.specs.Scopes.{xml_space}
+use Rattle.ifmap_lemmas.specs.Texts.{eq_tells, eq_itself}
 
 abbrev pub Texts : Type 0
 Texts = List (List ℕ)
@@ -24,12 +25,6 @@ among s xs = list_any (bytes_eq s) xs
 
 abbrev pub others : List ℕ → Texts → Texts
 others x xs = filter (λ y. not (bytes_eq y x)) xs
-
-pub eq_tells : (x y : List ℕ) → bytes_eq x y ≡ true → x ≡ y
-eq_tells x y = (bytes_eq-Decides x y).0
-
-pub eq_itself : (x : List ℕ) → bytes_eq x x ≡ true
-eq_itself x = (bytes_eq-Decides x x).1 refl
 
 apart : (x y : List ℕ) → bytes_eq x y ≡ false → bytes_eq y x ≡ false
 apart x y e = false_from_ne_true (bytes_eq y x) (λ h. let k : bytes_eq x y ≡ true = (bytes_eq-Decides x y).1 (sym (eq_tells y x h)) in cc)

@@ -9,7 +9,9 @@ use Rattle.std.proofs.lemmas.Str.{inside_one, length-encode, len_utf8_bounds}
 use Rattle.ifmap_elem.specs.Chars.{AllAre, IsSpace, is_space}
 use Rattle.ifmap_elem.specs.declared.tokens.Qualified.{Qualified}
 use Rattle.ifmap_elem.specs.Names.{is_name_start, is_name_character, IsNamePart, IsQualified, name_bytes, prefixed}
-use Rattle.ifmap_elem.proofs.Cuts.{Stops, all_append, all_weaker, cut, front_stops, is_other}
+use Rattle.ifmap_lemmas.specs.Cuts.{Stops, cut, front_stops}
+use Rattle.ifmap_lemmas.specs.Members.{all_append, all_weaker}
+use Rattle.ifmap_lemmas.specs.Numbers.{is_other}
 
 -- a byte that a name part may have
 abbrev pub is_part_byte : ℕ → Bool

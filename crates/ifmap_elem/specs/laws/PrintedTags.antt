@@ -21,7 +21,9 @@ use Rattle.ifmap_elem.specs.Tokens.{TakesAssignment, TakesTag, TakesEnd, TakesTe
 use Rattle.ifmap_elem.specs.Escapes.{text_bytes, value_bytes}
 use Rattle.ifmap_elem.specs.Fit.{IsFitName, IsFitAttribute}
 use Rattle.ifmap_elem.specs.Canonical.{after_prefix, printed_name, declaration_bytes, attribute_bytes}
-use Rattle.ifmap_elem.proofs.PrintedParts.{all_of_test, is_ascii, ascii_encoded, text_means, value_means, text_characters, value_characters, text_some, text_no_tag, value_no_tag, value_no_quote, text_no_section_end}
+use Rattle.ifmap_lemmas.specs.Members.{all_of_test}
+use Rattle.ifmap_lemmas.specs.Texts.{is_ascii, ascii_encoded}
+use Rattle.ifmap_elem.specs.laws.PrintedParts.{text_means, value_means, text_characters, value_characters, text_some, text_no_tag, value_no_tag, value_no_quote, text_no_section_end}
 
 abbrev pub Rows : Type 0
 Rows = List (List ℕ × List ℕ)

@@ -19,10 +19,11 @@ use Rattle.ifmap_elem.specs.Scopes.{Scope, AllDiffer, IsBinding, bound, root_sco
 use Rattle.ifmap_elem.specs.Fit.{IsNamespace, IsDeclarable}
 use Rattle.ifmap_elem.specs.Canonical.{after_prefix}
 use Rattle.ifmap_elem.specs.Namespaces.{once_each, is_declared, declared_among, prefix_rows, name_prefixes}
-use Rattle.ifmap_elem.proofs.NameBytes.{part_is_some}
-use Rattle.ifmap_elem.proofs.NamespaceLaws.{among, eq_tells, eq_itself, among-others, is_some-prefix_rows}
-use Rattle.ifmap_elem.proofs.PrintedParts.{all_of_test, is_ascii}
-use Rattle.ifmap_elem.proofs.PrintedTags.{Rows, prefix_or, row_binding, Resolves, FitRow, ascii_part}
+use Rattle.ifmap_elem.specs.laws.NameBytes.{part_is_some}
+use Rattle.ifmap_elem.specs.laws.NamespaceLaws.{among, among-others, is_some-prefix_rows}
+use Rattle.ifmap_lemmas.specs.Texts.{eq_tells, eq_itself, is_ascii}
+use Rattle.ifmap_lemmas.specs.Members.{all_of_test}
+use Rattle.ifmap_elem.specs.laws.PrintedTags.{Rows, prefix_or, row_binding, Resolves, FitRow, ascii_part}
 
 abbrev Texts : Type 0
 Texts = List (List ℕ)

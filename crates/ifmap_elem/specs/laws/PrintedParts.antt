@@ -2,7 +2,7 @@
 use Rattle.std.proofs.Common.{◌≡◌, ◌≢◌, ℕ, ◌<◌, ◌≤◌, Bool, true, false, not, cond, ◌||◌, List, [], ◌∷◌, ◌++◌, map, length, get_or, refl, ap, sym, ◌∙◌, subst, arith, inl, inr, append_assoc}
 use Rattle.std.specs.Prelude.{◌==◌, ◌&&◌, codes, encode_utf8, encode_utf8_all, Some, nat_le}
 use Rattle.std.specs.List.{flat_map, list_all, starts_with}
-use Rattle.std.proofs.lemmas.Bool.{and_parts, cases_Bool, cases_lt, not-true, or_cases}
+use Rattle.std.proofs.lemmas.Bool.{cases_Bool, cases_lt, not-true, or_cases}
 use Rattle.std.proofs.lemmas.Bool.Decides.{nat_tests}
 use Rattle.std.proofs.lemmas.List.{append-nil}
 use Rattle.std.proofs.lemmas.List.Concat.{flat_map-append}
@@ -13,21 +13,9 @@ use Rattle.ifmap_elem.specs.Chars.{AllAre, IsCharacters, is_character}
 use Rattle.ifmap_elem.specs.Escapes.{text_byte, value_byte, text_bytes, value_bytes}
 use Rattle.ifmap_elem.specs.Tokens.{Lacks}
 use Rattle.ifmap_elem.specs.Values.{Part, Plain, Reference, TakesPart, EndsRun, Expands, referred, IsText, IsValue, text_part, value_part, line_ends, as_space}
-use Rattle.ifmap_elem.proofs.Cuts.{all_append, is_number, is_other}
-
-pub all_of_test : (p : ℕ → Bool) (xs : List ℕ) → list_all p xs ≡ true → AllAre p xs
-all_of_test p [] h = tt
-all_of_test p (x ∷ xs) h = let parts = and_parts (p x) (list_all p xs) h in (parts.0, all_of_test p xs parts.1)
-
-abbrev pub is_ascii : ℕ → Bool
-is_ascii b = not (nat_le 128 b)
-
-pub ascii_encoded : (xs : List ℕ) → AllAre is_ascii xs → encode_utf8_all xs ≡ xs
-ascii_encoded [] f = refl
-ascii_encoded (b ∷ bs) f = (λ i. encode_ascii b (low b f.0) i ++ ascii_encoded bs f.1 i)
-  where
-    low : (b : ℕ) → is_ascii b ≡ true → b < 128
-    low b h = let g : nat_le 128 b ≡ false = not-true (nat_le 128 b) h in grind (arith, nat_tests)
+use Rattle.ifmap_lemmas.specs.Members.{all_append, all_of_test}
+use Rattle.ifmap_lemmas.specs.Numbers.{is_number, is_other}
+use Rattle.ifmap_lemmas.specs.Texts.{is_ascii, ascii_encoded}
 
 -- a way to write bytes: the marked ones by a name between `&` and `;`, and the others as they are
 pub record Writes (marked : ℕ → Bool) (name_of : ℕ → List ℕ) (write : ℕ → List ℕ) : Type 0 where

@@ -1,0 +1,13 @@
+pub mod ArrangedLaws
+pub mod AttributeOrder
+pub mod CanonicalSpells
+pub mod Delimiters
+pub mod FitLaws
+pub mod NameBytes
+pub mod NamespaceLaws
+pub mod OneReading
+pub mod OneToken
+pub mod PrintedElements
+pub mod PrintedParts
+pub mod PrintedScopes
+pub mod PrintedTags
