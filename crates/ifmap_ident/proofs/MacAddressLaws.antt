@@ -43,8 +43,8 @@ digit_order : (m n : ℕ) → nat_cmp (digit_char m) (digit_char n) ≡ nat_cmp 
 digit_order m n = nat_cmp-rising digit_char m n (digit_rises m n) (digit_rises n m)
 
 -- bytes are ordered by their upper half, and then by their lower
-halves : (b c : ℕ) → ordering_then (nat_cmp (b / 16) (c / 16)) (nat_cmp (b % 16) (c % 16)) ≡ nat_cmp b c
-halves b c =
+nat_cmp-halves : (b c : ℕ) → ordering_then (nat_cmp (b / 16) (c / 16)) (nat_cmp (b % 16) (c % 16)) ≡ nat_cmp b c
+nat_cmp-halves b c =
     nat_cmp_is b c (ordering_then (nat_cmp (b / 16) (c / 16)) (nat_cmp (b % 16) (c % 16)))
     (by (nat_cmp (b / 16) (c / 16)) (nat_cmp (b % 16) (c % 16)) (ranked (b / 16) (c / 16) (nat_cmp (b / 16) (c / 16)) refl)
     (ranked (b % 16) (c % 16) (nat_cmp (b % 16) (c % 16)) refl))
@@ -61,7 +61,7 @@ halves b c =
 pair_leads : (b c : ℕ) → Leads (nat_cmp b c) (hex_pair b) (hex_pair c)
 pair_leads b c =
     subst (λ o. Leads o (hex_pair b) (hex_pair c)) ((λ i. ordering_then (digit_order (b / 16) (c / 16) i) (digit_order (b % 16) (c % 16) i))
-    ∙ halves b c)
+    ∙ nat_cmp-halves b c)
     (leads_both (leads_one (digit_char (b / 16)) (digit_char (c / 16))) (leads_one (digit_char (b % 16)) (digit_char (c % 16))))
 
 -- addresses of one length are ordered as their texts are

@@ -88,30 +88,30 @@ piece_leads o r = leads_parted (written_byte o) (written_byte r) (parted_pieces 
 
 -- ---- each piece is written for one byte
 
-fourth : List ℕ → ℕ
-fourth [] = 0
-fourth (b ∷ bs) = b
+first_of : List ℕ → ℕ
+first_of [] = 0
+first_of (b ∷ bs) = b
 
 -- what a piece is written for
-unwritten : List ℕ → Option ℕ
-unwritten [] = None
-unwritten (b ∷ []) = cond (nat_eq b 34) None (Some b)
-unwritten (b ∷ (c ∷ [])) = None
-unwritten (b ∷ (c ∷ (d ∷ e))) =
+byte_of_piece : List ℕ → Option ℕ
+byte_of_piece [] = None
+byte_of_piece (b ∷ []) = cond (nat_eq b 34) None (Some b)
+byte_of_piece (b ∷ (c ∷ [])) = None
+byte_of_piece (b ∷ (c ∷ (d ∷ e))) =
     Some (cond (nat_eq c 97) 38 (cond (nat_eq c 108) 60 (cond (nat_eq c 113) 34
-    (cond (nat_eq d 57) 9 (cond (nat_eq (fourth e) 48) 10 13)))))
+    (cond (nat_eq d 57) 9 (cond (nat_eq (first_of e) 48) 10 13)))))
 
-written_once : (o : Option ℕ) → unwritten (written_byte o) ≡ o
-unfolding unwritten fourth
-written_once None = refl
-written_once (Some b) =
-    each_byte (λ n. unwritten (value_byte n) ≡ Some n) refl refl refl refl refl refl
-    (λ n p. ap unwritten p.written ∙ ap (λ t. cond t None (Some n)) p.no_quote) b
+byte_of_piece-written_byte : (o : Option ℕ) → byte_of_piece (written_byte o) ≡ o
+unfolding byte_of_piece first_of
+byte_of_piece-written_byte None = refl
+byte_of_piece-written_byte (Some b) =
+    each_byte (λ n. byte_of_piece (value_byte n) ≡ Some n) refl refl refl refl refl refl
+    (λ n p. ap byte_of_piece p.written ∙ ap (λ t. cond t None (Some n)) p.no_quote) b
 
 pieces_differ : (o r : Option ℕ) → (o ≡ r → ⊥) → is_eq (slice_cmp nat_cmp (written_byte o) (written_byte r)) ≡ false
 pieces_differ o r n = elim (cases_Bool (is_eq (slice_cmp nat_cmp (written_byte o) (written_byte r)))) [
-  | inl e ↦ absurd (n (sym (written_once o) ∙ ap unwritten (exact_bytes _ _
-      ((Equal-is (slice_cmp nat_cmp (written_byte o) (written_byte r))).0 e)) ∙ written_once r))
+  | inl e ↦ absurd (n (sym (byte_of_piece-written_byte o) ∙ ap byte_of_piece (exact_bytes _ _
+      ((Equal-is (slice_cmp nat_cmp (written_byte o) (written_byte r))).0 e)) ∙ byte_of_piece-written_byte r))
   | inr e ↦ e
 ]
 
@@ -169,7 +169,7 @@ piece_alike one other s t e =
     (λ p. p ++ t) (first_piece other) ∙ append_assoc (written_byte r) (after_first other) t in
     let both = parted_alike (written_byte o) (written_byte r) (after_first one ++ s) (after_first other ++ t)
     (parted_pieces (written_byte o) (written_byte r) (is_piece o) (is_piece r)) split in
-    (sym (written_once o) ∙ ap unwritten both.0 ∙ written_once r, both.1)
+    (sym (byte_of_piece-written_byte o) ∙ ap byte_of_piece both.0 ∙ byte_of_piece-written_byte r, both.1)
 
 pub value_alike : (one other s t : List ℕ) → closed_value one ++ s ≡ closed_value other ++ t → (one ≡ other) × (s ≡ t)
 unfolding after_first

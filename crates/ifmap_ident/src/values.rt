@@ -6,6 +6,7 @@ ghost use Rattle.ifmap_elem.specs.Escapes.{value_bytes};
 ghost use Rattle.ifmap_ident.specs.Leading.{Leads};
 ghost use Rattle.ifmap_ident.specs.Written.{closed_value, written_byte};
 
+use ifmap_elem::value_reference;
 use std::cmp::Ordering;
 use std::slice;
 
@@ -42,18 +43,12 @@ pub(crate) fn value_len(bytes: &[u8]) -> u64
     len
 }
 
-// What is written for a byte of a value; at its end, the closing quote. The printer has references only for bytes that need one; here each byte needs what is written for it.
+// What is written for a byte of a value; at its end, the closing quote.
 fn written_byte<'a>(byte: Option<&'a u8>) -> &'a [u8]
     ensures { result.now ≡ written_byte (option_copied byte.entry) }
 {
     match byte {
         None => b"\"",
-        Some(b'&') => b"&amp;",
-        Some(b'<') => b"&lt;",
-        Some(b'"') => b"&quot;",
-        Some(b'\t') => b"&#9;",
-        Some(b'\n') => b"&#10;",
-        Some(b'\r') => b"&#13;",
-        Some(plain) => slice::from_ref(plain),
+        Some(byte) => value_reference(*byte).unwrap_or(slice::from_ref(byte)),
     }
 }

@@ -1,4 +1,7 @@
 -- The calendar of specs/ beside the one that the library `jiff` computes.
+-- First the lengths of months and years of both, and so the days before a date (`days_before`). Then a second
+-- has one date and time (`same_civil`), since later dates have more days before them. Last, what the library
+-- shows for a second is its date and time (`shows`).
 use Rattle.std.proofs.Common.{inl, inr, ◌≡◌, ℕ, zero, suc, ◌+◌, ◌-◌, ◌*◌, ◌<◌, ◌≤◌, List, [], ◌∷◌, take, get_or, refl, sym, ◌∙◌, subst, arith, nat_lt, ℤ, pos, negsuc, ◌+ℤ◌, ◌*ℤ◌, ◌≤ℤ◌, unsigned_abs, cond}
 use Rattle.std.specs.Prelude.{sum}
 use Rattle.std.proofs.lemmas.Bool.{cases_order}
@@ -135,11 +138,11 @@ same_time d h m s d₂ h₂ m₂ s₂ a b c a₂ b₂ c₂ e =
 days_before_civil : (c : Civil) → IsCivil c → day_count (pos c.year) c.month c.day ≡ day_number c + 4371953
 days_before_civil c h = days_before c.year c.month c.day h.year.0 h.month.0 h.month.1 h.day.0
 
-abbrev pub made : ℕ → ℕ → ℕ → ℕ → ℕ → ℕ → Civil
-made y m d h n s = record { year = y; month = m; day = d; hour = h; minute = n; second = s }
+abbrev pub civil_from : ℕ → ℕ → ℕ → ℕ → ℕ → ℕ → Civil
+civil_from y m d h n s = record { year = y; month = m; day = d; hour = h; minute = n; second = s }
 
 pub same_parts : (y m d h n s y₂ m₂ d₂ h₂ n₂ s₂ : ℕ) → y ≡ y₂ → m ≡ m₂ → d ≡ d₂ → h ≡ h₂ → n ≡ n₂ → s ≡ s₂
-    → made y m d h n s ≡ made y₂ m₂ d₂ h₂ n₂ s₂
+    → civil_from y m d h n s ≡ civil_from y₂ m₂ d₂ h₂ n₂ s₂
 same_parts y m d h n s y₂ m₂ d₂ h₂ n₂ s₂ a b c e f g = rw (a, b, c, e, f, g)
 
 -- a second has one date and time
@@ -167,7 +170,7 @@ from_1970 y m d h low = by_lt_z y (pos 1970)
 
 -- so the library's date is one of the calendar of specs/
 shown_date : (y : ℤ) (m d h n s : ℕ) → IsCivilDate y m d → h < 24 → n < 60 → s < 60 → 4371953 ≤ day_count y m d
-    → IsCivil (made (unsigned_abs y) m d h n s) × (day_count y m d ≡ day_number (made (unsigned_abs y) m d h n s) + 4371953)
+    → IsCivil (civil_from (unsigned_abs y) m d h n s) × (day_count y m d ≡ day_number (civil_from (unsigned_abs y) m d h n s) + 4371953)
 shown_date (pos y) m d h n s date a b c low =
     let year : 1970 ≤ y = omega (arith, signed_arith, from_1970 (pos y) m d date low) in
     let last : y ≤ 9999 = omega (arith, signed_arith, date.0.1) in
@@ -178,8 +181,8 @@ shown_date (pos y) m d h n s date a b c low =
 shown_date (negsuc y) m d h n s date a b c low =
     absurd (omega (arith, signed_arith, from_1970 (negsuc y) m d date low))
 
-abbrev pub shown : DateTime → Civil
-shown dt = record {
+abbrev pub civil_seen_by : DateTime → Civil
+civil_seen_by dt = record {
   year = unsigned_abs dt.date.year;
   month = dt.date.month;
   day = dt.date.day;
@@ -189,7 +192,8 @@ shown dt = record {
 }
 
 -- what the library shows for a second is its date and time
-pub shows : (dt : DateTime) (s : ℕ) → civil_nanos dt ≡ pos (s * 1000000000) → IsCivil (shown dt) × (second_number (shown dt) ≡ s)
+pub shows : (dt : DateTime) (s : ℕ) → civil_nanos dt ≡ pos (s * 1000000000)
+    → IsCivil (civil_seen_by dt) × (second_number (civil_seen_by dt) ≡ s)
 unfolding civil_nanos
 shows dt s e =
     let t = from_nanos dt.date.year dt.date.month dt.date.day (time_seconds dt.time) dt.time.subsec_nanosecond s

@@ -5,7 +5,7 @@ use Rattle.std.proofs.lemmas.Bool.{cases_Bool, cases_order}
 use Rattle.std.proofs.lemmas.List.Sums.{sum_by-cons}
 use Rattle.std.proofs.lemmas.Bool.Decides.{nat_tests}
 use Rattle.ifmap_io.specs.Calendar.{months, days_of_years, Civil, IsCivil, second_number, last_within, years_to, days_before_month, months_to, civil_in_year, civil_of}
-use Rattle.ifmap_io.proofs.CivilFacts.{made, same_parts, sum_of_year}
+use Rattle.ifmap_io.proofs.CivilFacts.{civil_from, same_parts, sum_of_year}
 
 module _ (f : ℕ → ℕ) where
   -- the number at which f is d at most, and beyond which it is greater
@@ -84,7 +84,7 @@ by_year day second years e = rw e refl
 
 by_month : (year day second month : ℕ) → months_to year day ≡ month
     → civil_in_year year day second
-    ≡ made year (month + 1) (day - days_before_month year month + 1) (second / 3600) (second % 3600 / 60) (second % 60)
+    ≡ civil_from year (month + 1) (day - days_before_month year month + 1) (second / 3600) (second % 3600 / 60) (second % 60)
 by_month year day second month e = rw e refl
 
 -- the day of a year is one of a month of it
@@ -105,10 +105,10 @@ within_year : (year month day : ℕ) → month < 12 → day < get_or (months yea
     → days_before_month year month + day < sum (months year)
 within_year year month day h d = omega (arith, next_month year month h, months_rise year (suc month) 12 (omega arith), whole_year year)
 
--- of the parts, with the year counted from 1970, and the month and the day from 0
+-- of the parts, with the year minus-plus from 1970, and the month and the day from 0
 parts_are : (years month day h m s : ℕ) → month < 12 → day < get_or (months (1970 + years)) month 0 → h < 24 → m < 60 → s < 60
     → civil_of ((days_of_years years + (days_before_month (1970 + years) month + day)) * 86400 + h * 3600 + m * 60 + s)
-    ≡ made (1970 + years) (month + 1) (day + 1) h m s
+    ≡ civil_from (1970 + years) (month + 1) (day + 1) h m s
 parts_are years month day h m s small short a b c =
     let year = 1970 + years in
     let rest = days_before_month year month + day in
@@ -121,14 +121,14 @@ parts_are years month day h m s small short a b c =
     ∙ same_parts year (month + 1) (rest - days_before_month year month + 1) (second / 3600) (second % 3600 / 60) (second % 60)
     year (month + 1) (day + 1) h m s refl refl (omega arith) (omega arith) (omega arith) (omega arith)
 
--- the year, the month and the day, which are counted from 1970 and from 1, are those of the parts
-counted : (a b : ℕ) → b ≤ a → b + (a - b) ≡ a
-counted a b h = omega arith
+-- the year, the month and the day, which are minus-plus from 1970 and from 1, are those of the parts
+minus-plus : (a b : ℕ) → b ≤ a → b + (a - b) ≡ a
+minus-plus a b h = omega arith
 
 -- a date and a time are those of their second
 pub civil_of_is : (c : Civil) → IsCivil c → civil_of (second_number c) ≡ c
 civil_of_is c g =
-    let year = counted c.year 1970 g.year.0 in
+    let year = minus-plus c.year 1970 g.year.0 in
     let short : c.day - 1 < get_or (months (1970 + (c.year - 1970))) (c.month - 1) 0 =
     rw year (omega (arith, g.day.0, g.day.1)) in
     let h = parts_are (c.year - 1970) (c.month - 1) (c.day - 1) c.hour c.minute c.second (omega (arith, g.month.0, g.month.1)) short g.hour

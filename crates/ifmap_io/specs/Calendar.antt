@@ -1,5 +1,6 @@
 -- The Gregorian calendar and the clock in UTC, for the years 1970 to 9999: the date and the time of day
 -- of a second counted from 1970-01-01T00:00:00Z (RFC 3339; ISO 8601; no leap seconds), and its text.
+use Rattle.std.specs.Str.{byte}
 use Rattle.std.specs.Prelude.{ℕ, zero, suc, ◌+◌, ◌-◌, ◌*◌, ◌/◌, ◌%◌, ◌<◌, ◌≤◌, nat_le, Bool, not, ◌&&◌, ◌||◌, ◌==◌, if◌then◌else◌, List, [], ◌∷◌, ◌++◌, sum, take, slice_index, codes}
 
 -- each fourth year is a leap year, but of those that end a century only each fourth
@@ -44,7 +45,7 @@ second_number c = day_number c * 86400 + c.hour * 3600 + c.minute * 60 + c.secon
 
 -- the last decimal digit, in ASCII
 abbrev pub digit : ℕ → ℕ
-digit n = 48 + n % 10
+digit n = byte "0" + n % 10
 
 -- the last two decimal digits
 abbrev pub two_digits : ℕ → List ℕ
