@@ -4,7 +4,7 @@ use Rattle.std.proofs.lemmas.List.{take_more, length-take-le, append-nil}
 use Rattle.std.proofs.lemmas.List.Concat.{flat_map-append}
 use Rattle.std.specs.Prelude.{codes}
 use Rattle.std.specs.List.{flat_map}
-use Rattle.std.specs.Fmt.{decimal}
+use Rattle.ifmap_lemmas.specs.Numerals.{numeral}
 use Rattle.ifmap_elem.specs.Folds.{at_element}
 use Rattle.ifmap_elem.specs.Arranged.{arranged, arranged_child, sorted}
 use Rattle.ifmap_elem.specs.Namespaces.{namespaces, prefix_rows, name_prefixes}
@@ -72,22 +72,22 @@ root_printed element given spaces a b c d e f are p q r s t u =
 
 -- one more declaration
 pub declarations_more : (letter : List ℕ) (xs : List (List ℕ)) (i : ℕ) (x : List ℕ) → i < length xs → x ≡ get_or xs i x
-    → flat_map declaration_bytes (prefix_rows letter 1 (take (i + 1) xs)) ≡ flat_map declaration_bytes (prefix_rows letter 1 (take i xs)) ++ declaration_bytes (x, letter ++ decimal (i + 1))
+    → flat_map declaration_bytes (prefix_rows letter 1 (take (i + 1) xs)) ≡ flat_map declaration_bytes (prefix_rows letter 1 (take i xs)) ++ declaration_bytes (x, letter ++ numeral (i + 1))
 declarations_more letter xs i x l is =
     let long : 1 + length (take i xs) ≡ i + 1 = omega (arith, length-take-le i xs (omega arith)) in
     let back : get_or xs i x ≡ x = sym is in
     ap (λ s. flat_map declaration_bytes (prefix_rows letter 1 s)) (take_more xs i x l)
     ∙ ap (flat_map declaration_bytes) (prefix_rows-push letter 1 (take i xs) (get_or xs i x))
-    ∙ flat_map-append declaration_bytes (prefix_rows letter 1 (take i xs)) ((get_or xs i x, letter ++ decimal (1 + length (take i xs))) ∷ [])
+    ∙ flat_map-append declaration_bytes (prefix_rows letter 1 (take i xs)) ((get_or xs i x, letter ++ numeral (1 + length (take i xs))) ∷ [])
     ∙ ap (λ s. flat_map declaration_bytes (prefix_rows letter 1 (take i xs)) ++ s)
-    (append-nil (declaration_bytes (get_or xs i x, letter ++ decimal (1 + length (take i xs)))) ∙ (λ j. declaration_bytes (back j, letter ++ decimal (long j))))
+    (append-nil (declaration_bytes (get_or xs i x, letter ++ numeral (1 + length (take i xs)))) ∙ (λ j. declaration_bytes (back j, letter ++ numeral (long j))))
 
 pub referred_attributes : (prefixes : Rows) (rs : List (Bor Attribute))
     → flat_map (λ (r : Bor Attribute). attribute_bytes prefixes r.now) rs ≡ flat_map (attribute_bytes prefixes) (map (λ (r : Bor Attribute). r.now) rs)
 referred_attributes prefixes [] = refl
 referred_attributes prefixes (r ∷ rs) = ap (λ l. attribute_bytes prefixes r.now ++ l) (referred_attributes prefixes rs)
 
-pub declared_more : (letter : List ℕ) (xs : List (List ℕ)) (i : ℕ) (x prefix a b c : List ℕ) → i < length xs → x ≡ get_or xs i x → prefix ≡ letter ++ decimal (i + 1)
+pub declared_more : (letter : List ℕ) (xs : List (List ℕ)) (i : ℕ) (x prefix a b c : List ℕ) → i < length xs → x ≡ get_or xs i x → prefix ≡ letter ++ numeral (i + 1)
     → b ≡ a ++ flat_map declaration_bytes (prefix_rows letter 1 (take i xs)) → c ≡ b ++ declaration_bytes (x, prefix)
     → c ≡ a ++ flat_map declaration_bytes (prefix_rows letter 1 (take (i + 1) xs))
 declared_more letter xs i x prefix a b c l is named was now =

@@ -1,5 +1,5 @@
 -- The one canonical byte list of an element.
-use Rattle.std.specs.Prelude.{ℕ, ◌<◌, ◌^◌, length, List, [], ◌∷◌, ◌++◌, map, codes, Option, None, Some}
+use Rattle.std.specs.Prelude.{ℕ, List, [], ◌∷◌, ◌++◌, map, codes, Option, None, Some}
 use Rattle.std.specs.List.{concat, flat_map}
 use Rattle.std.specs.Map.{lookup}
 use Rattle.std.specs.Str.{bytes_eq}
@@ -8,6 +8,8 @@ use Rattle.ifmap_elem.specs.declared.elements.Attribute.{Attribute}
 use Rattle.ifmap_elem.specs.declared.elements.Child.{Child, fold-Child}
 use Rattle.ifmap_elem.specs.declared.elements.Element.{Element, fold-Element}
 use Rattle.ifmap_elem.specs.declared.elements.Child.TheOpen.{Child-F, Element-F}
+use Rattle.ifmap_elem.specs.declared.readings.Declared.{Declared}
+use Rattle.ifmap_elem.specs.declared.readings.Reading.{Reading}
 use Rattle.ifmap_elem.specs.Arranged.{arranged}
 use Rattle.ifmap_elem.specs.Escapes.{text_bytes, value_bytes}
 use Rattle.ifmap_elem.specs.Namespaces.{namespaces, prefix_rows, name_prefixes}
@@ -68,6 +70,16 @@ written_bytes e spaces = root_bytes (prefix_rows (codes "f") 1 spaces) (arranged
 abbrev pub canonical_bytes : Element → List ℕ
 canonical_bytes e = written_bytes e []
 
--- bytes that a machine can hold, in which fewer namespaces are numbered than there are numbers with 64 digits
-abbrev pub AreHeld : List ℕ → Type 0
-AreHeld bytes = length bytes < 2 ^ 64
+-- the declarations that a root carries for prefixes, as they are read
+abbrev pub root_declarations : List (List ℕ × List ℕ) → List Declared
+root_declarations rows = map (λ row. record { path = []; prefix = row.1; space = row.0 }) rows
+
+-- what these bytes mean where they are read: the element arranged, and the declarations of its root
+abbrev pub written_reading : Element → List (List ℕ) → Reading
+written_reading e spaces =
+    let rows = prefix_rows (codes "n") 1 (namespaces (arranged e)) ++ prefix_rows (codes "f") 1 spaces in
+    record { root = arranged e; declared = root_declarations rows }
+
+-- what the canonical bytes mean
+abbrev pub canonical_reading : Element → Reading
+canonical_reading e = written_reading e []

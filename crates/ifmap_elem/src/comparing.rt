@@ -1,7 +1,7 @@
 //! Whether two elements are the same but for the order of their attributes.
 ghost use Rattle.std.specs.Prelude.{◌≡◌, ◌↔◌, IsTrue, map};
 ghost use Rattle.ifmap_elem.specs.Arranged.{IsSame, arranged, arranged_child, sorted};
-ghost use Rattle.ifmap_elem.specs.Canonical.{AreHeld, canonical_bytes};
+ghost use Rattle.ifmap_elem.specs.Canonical.{canonical_bytes};
 ghost use Rattle.ifmap_elem.specs.Fit.{IsFit};
 ghost use Rattle.ifmap_elem.specs.printer.Occurrences.{occurrences_of};
 
@@ -14,7 +14,7 @@ use crate::lists::Many;
 /// elements, in time that grows with the square of their number in one element.
 pub fn same(a: &Element, b: &Element) -> bool
     ensures same { IsTrue result ↔ IsSame a.now b.now }
-    ensures canonical { IsFit a.now → IsFit b.now → AreHeld (canonical_bytes a.now) → (IsTrue result ↔ (canonical_bytes a.now ≡ canonical_bytes b.now)) }
+    ensures canonical { IsFit a.now → IsFit b.now → (IsTrue result ↔ (canonical_bytes a.now ≡ canonical_bytes b.now)) }
 {
     same_element(a, b)
 }

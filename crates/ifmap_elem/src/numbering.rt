@@ -1,6 +1,6 @@
 //! The prefixes of an element's namespaces, numbered by first occurrence.
 ghost use Rattle.std.specs.Prelude.{◌≡◌, ◌≢◌, ◌↔◌, ◌∷◌, [], ◌++◌, None, IfOk, OnOk, IsTrue, is_some};
-ghost use Rattle.std.specs.Fmt.{decimal};
+ghost use Rattle.ifmap_lemmas.specs.Numerals.{numeral};
 ghost use Rattle.std.specs.Map.{lookup};
 ghost use Rattle.std.specs.Option.{option_copied};
 ghost use Rattle.std.specs.Str.{bytes_eq};
@@ -105,7 +105,7 @@ impl Prefixes {
 
 /// The prefix of this letter and number.
 pub(crate) fn numbered_prefix(alloc: Global, letter: &str, number: usize) -> Result<Text, NoMemory>
-    ensures { IfOk result (λ made. made ≡ letter.now ++ decimal number) }
+    ensures { IfOk result (λ made. made ≡ letter.now ++ numeral number) }
 {
     Ok(Text(format!(in alloc; "{letter}{number}")?))
 }

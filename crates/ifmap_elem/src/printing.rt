@@ -6,8 +6,8 @@ ghost use Rattle.ifmap_elem.specs.Arranged.{arranged, arranged_child, sorted};
 ghost use Rattle.ifmap_elem.specs.Fit.{IsDeclarable, IsFit};
 ghost use Rattle.ifmap_elem.specs.Namespaces.{prefix_rows, spaces_of, spaces_of_child};
 ghost use Rattle.ifmap_elem.specs.printer.Pieces.{Adds, IsNumbered};
-ghost use Rattle.ifmap_elem.specs.Spells.{SpelledBy};
-ghost use Rattle.ifmap_elem.specs.Canonical.{AreHeld, canonical_bytes, written_bytes, printed_name, element_bytes, child_bytes, after_prefix, attribute_bytes, declaration_bytes, content_bytes};
+ghost use Rattle.ifmap_elem.specs.Spells.{Spells};
+ghost use Rattle.ifmap_elem.specs.Canonical.{canonical_bytes, canonical_reading, written_bytes, written_reading, printed_name, element_bytes, child_bytes, after_prefix, attribute_bytes, declaration_bytes, content_bytes};
 
 use crate::elements::{Attribute, Child, Element, Name};
 use crate::escaping::{Place, write_escaped};
@@ -21,23 +21,22 @@ use std::alloc::{AllocError as NoMemory, Global};
 /// sent. The one error is want of memory.
 pub fn canonical(alloc: Global, element: &Element) -> Result<Many<u8>, NoMemory>
     ensures bytes { IfOk result (λ bytes. bytes ≡ canonical_bytes element.now) }
-    ensures spelled { IsFit element.now → IfOk result (λ bytes. SpelledBy bytes (arranged element.now)) }
+    ensures spelled { IsFit element.now → IfOk result (λ bytes. Spells bytes (canonical_reading element.now)) }
 {
-    printed(alloc, element, &[])
+    print_root(alloc, element, &[])
 }
 
 /// The canonical bytes with declarations of the prefixes `f1`, `f2` and so on for these namespaces
 /// at the root, behind the element's own. The one error is want of memory.
 pub fn written(alloc: Global, element: &Element, spaces: &Many<Text>) -> Result<Many<u8>, NoMemory>
     ensures bytes { IfOk result (λ bytes. bytes ≡ written_bytes element.now spaces.now) }
-    ensures spelled { IsFit element.now → AllByRecursion IsDeclarable spaces.now → IfOk result (λ bytes. SpelledBy bytes (arranged element.now)) }
+    ensures spelled { IsFit element.now → AllByRecursion IsDeclarable spaces.now → IfOk result (λ bytes. Spells bytes (written_reading element.now spaces.now)) }
 {
-    printed(alloc, element, &spaces.0)
+    print_root(alloc, element, &spaces.0)
 }
 
-fn printed(alloc: Global, element: &Element, spaces: &[Text]) -> Result<Many<u8>, NoMemory>
-    ensures bytes { IfOk result (λ bytes. bytes ≡ written_bytes element.now spaces.now) }
-    ensures held { IfOk result AreHeld }
+fn print_root(alloc: Global, element: &Element, spaces: &[Text]) -> Result<Many<u8>, NoMemory>
+    ensures { IfOk result (λ bytes. bytes ≡ written_bytes element.now spaces.now) }
 {
     let mut prefixes = Prefixes::new(alloc)?;
     let name = &element.name;

@@ -7,7 +7,7 @@ use Rattle.ifmap_elem.specs.declared.elements.Element.{Element}
 use Rattle.ifmap_elem.specs.declared.readings.Declared.{Declared}
 use Rattle.ifmap_elem.specs.declared.readings.Reading.{Reading}
 use Rattle.ifmap_elem.specs.declared.tokens.Token.{Token}
-use Rattle.ifmap_elem.specs.Document.{Item, Run, is_kept, child_of}
+use Rattle.ifmap_elem.specs.Document.{Item, Run, is_child, child_of}
 use Rattle.ifmap_elem.specs.Folds.{at_element, at_child_element, at_child_text}
 use Rattle.ifmap_elem.specs.Nesting.{greatest, nesting, child_nesting, child_levels, element_levels}
 use Rattle.ifmap_reader.specs.declared.frames.Frame.{Frame}
@@ -47,7 +47,7 @@ children_deep f items e d c =
 pub closed_nests : (f : Frame) (e : Element) (d : List Declared) → Closes f [] e d → nesting e ≡ suc (deepest f.children)
 closed_nests f e d c =
     let h = children_deep f [] e d c in
-    let t : deepest (map child_of (kept_behind f [])) ≡ 0 = one_text (is_kept (has_children f || false) (Run f.text)) f.text in
+    let t : deepest (map child_of (kept_behind f [])) ≡ 0 = one_text (is_child (has_children f || false) (Run f.text)) f.text in
     omega (arith, h, t)
 
 one_child : (b : Bool) (t : List ℕ) → deepest (cond b (the.Text t ∷ []) []) ≡ 0

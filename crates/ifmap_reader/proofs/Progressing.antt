@@ -8,7 +8,7 @@ use Rattle.ifmap_elem.specs.declared.readings.Reading.{Reading}
 use Rattle.ifmap_elem.specs.declared.tokens.Token.{Token}
 use Rattle.ifmap_elem.specs.Document.{IsDocument}
 use Rattle.ifmap_elem.specs.Places.{BeginsDocument, Deep, Opens, Stop, is_start, is_end, open_after, offset}
-use Rattle.ifmap_elem.specs.Spells.{Spells, without_mark}
+use Rattle.ifmap_elem.specs.Spells.{Spells, without_byte_order_mark}
 use Rattle.ifmap_elem.specs.Tokens.{TakesToken}
 use Rattle.ifmap_elem.specs.laws.OneToken.{no_token}
 use Rattle.ifmap_lexer.specs.declared.errors.LexError.{LexError}
@@ -28,9 +28,9 @@ use Rattle.ifmap_reader.proofs.Fronts.{Shallow, not_deep, unreadable}
 -- where a reader is: the tokens so far, what they make of any document, and what any spelling goes on with
 pub record At (bytes : List ℕ) (depth : ℕ) (w : Where) (rest : List ℕ) : Type 0 where
   pub so_far : List Token
-  pub lexed : To TakesToken (without_mark bytes) so_far rest
+  pub lexed : To TakesToken (without_byte_order_mark bytes) so_far rest
   pub goes : (ts : List Token) (r : Reading) → (IsDocument (so_far ++ ts) r ↔ GoesOn w ts r)
-  pub ahead : Ahead TakesToken (without_mark bytes) so_far rest []
+  pub ahead : Ahead TakesToken (without_byte_order_mark bytes) so_far rest []
   pub fits : so_deep w ≤ depth
   pub level : count_by is_start so_far ≡ open_in w + count_by is_end so_far
   pub shallow : Shallow depth so_far
@@ -39,12 +39,12 @@ no_split : (before after : List Token) (t : Token) → [] ≡ before ++ (t ∷ a
 no_split [] after t e = cc
 no_split (b ∷ bs) after t e = cc
 
-pub at_start : (bytes : List ℕ) (depth : ℕ) (rest : List ℕ) → rest ≡ without_mark bytes → At bytes depth AtStart rest
+pub at_start : (bytes : List ℕ) (depth : ℕ) (rest : List ℕ) → rest ≡ without_byte_order_mark bytes → At bytes depth AtStart rest
 at_start bytes depth rest is = record {
   so_far = [];
   lexed = sym is;
   goes = λ ts r. (λ x. x, λ x. x);
-  ahead = subst (λ (b : List ℕ). Ahead TakesToken (without_mark bytes) [] b []) (sym is) (ahead_at_start TakesToken (without_mark bytes) []);
+  ahead = subst (λ (b : List ℕ). Ahead TakesToken (without_byte_order_mark bytes) [] b []) (sym is) (ahead_at_start TakesToken (without_byte_order_mark bytes) []);
   fits = omega arith;
   level = omega arith;
   shallow = λ before after t e o. absurd (no_split before after t e);
@@ -89,9 +89,9 @@ module _ (bytes : List ℕ) (depth : ℕ) (w : Where) (rest : List ℕ) (at : At
     pub at_next : (new : Where) → Leads depth w t new → At bytes depth new behind
     at_next new l = record {
       so_far = at.so_far ++ t ∷ [];
-      lexed = to_last TakesToken (without_mark bytes) at.so_far rest t behind at.lexed takes;
+      lexed = to_last TakesToken (without_byte_order_mark bytes) at.so_far rest t behind at.lexed takes;
       goes = λ ts r. let g = goes_next ts r in let f = l.follows ts r in (λ x. f.0 (g.0 x), λ x. g.1 (f.1 x));
-      ahead = ahead_next TakesToken (without_mark bytes) at.so_far rest t behind [] some is_only at.ahead;
+      ahead = ahead_next TakesToken (without_byte_order_mark bytes) at.so_far rest t behind [] some is_only at.ahead;
       fits = l.fits at.fits;
       level = let a = counted is_start t in let b = counted is_end t in let c = l.counts in let d = at.level in omega (arith, a, b, c, d);
       shallow = λ before after u e o. elim (split_last at.so_far before after t u e) [
@@ -147,7 +147,7 @@ module _ (bytes : List ℕ) (depth : ℕ) (w : Where) (rest : List ℕ) (at : At
             tokens = at.so_far;
             tag = t;
             rest = rest;
-            behind = behind;
+            after = behind;
             lexed = at.lexed;
             taken = takes;
             allowed = record { more = s.0; reading = s.1.0; document = (goes_next s.0 s.1.0).1 ((p.follows s.0 s.1.0).1 s.1.1) };
@@ -167,7 +167,7 @@ module _ (bytes : List ℕ) (depth : ℕ) (w : Where) (rest : List ℕ) (at : At
       unreadable bytes depth place
       (record { tokens = at.so_far; rest = rest; reaches = record { lexed = at.lexed; allowed = begins }; no_further = λ t after h b. none t after h; at_is = is })
       at.shallow
-      (λ r s. none_ahead TakesToken (without_mark bytes) at.so_far rest [] some none at.ahead s.tokens s.lexed)
+      (λ r s. none_ahead TakesToken (without_byte_order_mark bytes) at.so_far rest [] some none at.ahead s.tokens s.lexed)
       within
 
   -- at the end of the input
@@ -194,7 +194,7 @@ module _ (bytes : List ℕ) (depth : ℕ) (w : Where) (rest : List ℕ) (at : At
     pub whole : (r : Reading) → GoesOn w [] r → Spells bytes r
     whole r x = record {
       tokens = at.so_far;
-      lexed = subst (λ (b : List ℕ). To TakesToken (without_mark bytes) at.so_far b) end at.lexed;
+      lexed = subst (λ (b : List ℕ). To TakesToken (without_byte_order_mark bytes) at.so_far b) end at.lexed;
       document = subst (λ (us : List Token). IsDocument us r) (append-nil at.so_far) ((at.goes [] r).1 x);
     }
 

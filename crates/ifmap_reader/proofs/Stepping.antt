@@ -8,7 +8,7 @@ use Rattle.ifmap_elem.specs.declared.readings.Reading.{Reading}
 use Rattle.ifmap_elem.specs.declared.tokens.Qualified.{Qualified}
 use Rattle.ifmap_elem.specs.declared.tokens.Tag.{Tag}
 use Rattle.ifmap_elem.specs.declared.tokens.Token.{Token}
-use Rattle.ifmap_elem.specs.declared.tokens.Token.TheVariants.{Declaration, Comment, Start, Empty, End, Section, Text}
+use Rattle.ifmap_elem.specs.declared.tokens.Token.TheVariants.{Declaration, Comment, Start, Empty, End, Section, Characters}
 use Rattle.ifmap_elem.specs.Places.{is_start, is_end, Opens}
 use Rattle.ifmap_reader.specs.declared.errors.Refusal.{Refusal}
 use Rattle.ifmap_reader.specs.declared.errors.Refusal.TheVariants.{NotAllowed, TooDeep, NoMemory}
@@ -43,7 +43,7 @@ declaration_leads depth = still depth AtStart Declaration (Among []) start_decla
 words_lead : (depth : ℕ) (f : Frame) (fs : List Frame) (t : Token) (blank : Bool) (text : List ℕ) → IsWords blank text t → Leads depth (Among (f ∷ fs)) t (Among (with_words f text ∷ fs))
 words_lead depth f fs t blank text w = elim w [
   | inl e ↦ subst (λ (u : Token). Leads depth (Among (f ∷ fs)) u (Among (with_words f text ∷ fs))) (sym e)
-      (still depth (Among (f ∷ fs)) (Text blank text) (Among (with_words f text ∷ fs)) (inner_words f fs (Text blank text) blank text (inl refl)) refl refl refl refl (λ o. o))
+      (still depth (Among (f ∷ fs)) (Characters blank text) (Among (with_words f text ∷ fs)) (inner_words f fs (Characters blank text) blank text (inl refl)) refl refl refl refl (λ o. o))
   | inr e ↦ subst (λ (u : Token). Leads depth (Among (f ∷ fs)) u (Among (with_words f text ∷ fs))) (sym e.1)
       (still depth (Among (f ∷ fs)) (Section text) (Among (with_words f text ∷ fs)) (inner_words f fs (Section text) blank text (inr (e.0, refl))) refl refl refl refl (λ o. o))
 ]
@@ -60,8 +60,8 @@ blank_step depth old new t blank text w none left b =
     subst (λ (fs : List Frame). Leads depth (Among (reverse fs)) t (Among (reverse new))) (sym none)
     (subst (λ (fs : List Frame). Leads depth (Among []) t (Among (reverse fs))) (sym left)
     (elim w [
-      | inl e ↦ subst (λ (u : Token). Leads depth (Among []) u (Among [])) (sym (e ∙ ap (λ c. Text c text) b))
-          (still depth (Among []) (Text true text) (Among []) (root_blank text) refl refl refl refl (λ o. o))
+      | inl e ↦ subst (λ (u : Token). Leads depth (Among []) u (Among [])) (sym (e ∙ ap (λ c. Characters c text) b))
+          (still depth (Among []) (Characters true text) (Among []) (root_blank text) refl refl refl refl (λ o. o))
       | inr e ↦ let h : blank ≡ false = e.0 in cc
     ]))
 
@@ -179,13 +179,13 @@ empty_refused depth fs tag NoMemory h = tt
 -- behind the root
 pub margin_leads : (depth : ℕ) (root : Reading) (t : Token) → is_margin t ≡ true → Leads depth (Behind root) t (Behind root)
 margin_leads depth root Comment m = still depth (Behind root) Comment (Behind root) (behind_comment root) refl refl refl refl (λ o. o)
-margin_leads depth root (Text true text) m = still depth (Behind root) (Text true text) (Behind root) (behind_blank root text) refl refl refl refl (λ o. o)
+margin_leads depth root (Characters true text) m = still depth (Behind root) (Characters true text) (Behind root) (behind_blank root text) refl refl refl refl (λ o. o)
 margin_leads depth root Declaration m = cc
 margin_leads depth root (Start tag) m = cc
 margin_leads depth root (Empty tag) m = cc
 margin_leads depth root (End name) m = cc
 margin_leads depth root (Section text) m = cc
-margin_leads depth root (Text false text) m = cc
+margin_leads depth root (Characters false text) m = cc
 
 pub no_margin : (root : Reading) (t : Token) → is_margin t ≡ false → (ts : List Token) (r : Reading) → GoesOn (Behind root) (t ∷ ts) r → ⊥
 no_margin root Declaration m = no_behind root Declaration tt
@@ -194,8 +194,8 @@ no_margin root (Start tag) m = λ ts r. (no_second_root root tag ts r).0
 no_margin root (Empty tag) m = λ ts r. (no_second_root root tag ts r).1
 no_margin root (End name) m = no_behind root (End name) tt
 no_margin root (Section text) m = no_behind root (Section text) tt
-no_margin root (Text true text) m = cc
-no_margin root (Text false text) m = no_behind root (Text false text) refl
+no_margin root (Characters true text) m = cc
+no_margin root (Characters false text) m = no_behind root (Characters false text) refl
 
 -- but for a declaration the start is before the root
 module _ (depth : ℕ) (t : Token) (other : IsOther t) where

@@ -8,7 +8,9 @@ use Rattle.ifmap_elem.specs.declared.tokens.Tag.{Tag}
 use Rattle.ifmap_elem.specs.declared.tokens.Token.{Token}
 use Rattle.ifmap_elem.specs.declared.tokens.Token.TheVariants.{Empty, End}
 use Rattle.ifmap_elem.specs.Scopes.{root_scope}
-use Rattle.ifmap_elem.specs.Document.{Nothing, Leaf, IsElement}
+use Rattle.ifmap_elem.specs.Document as piece
+use Rattle.ifmap_elem.specs.Document.{Nothing, IsElement}
+use Rattle.ifmap_elem.specs.Roots.{begins_root}
 use Rattle.ifmap_reader.specs.declared.frames.Frame.{Frame}
 use Rattle.ifmap_reader.specs.Frames.{Closes, with_inner, written_name}
 use Rattle.ifmap_reader.specs.Progress.{Where, AtStart, Among, Behind, Closing, GoesOn}
@@ -60,7 +62,7 @@ some_closing f (g ∷ gs) =
     )
 
 pub some_way : (w : Where) → SomeWay w
-some_way AtStart = (Empty some_tag ∷ [], (some_reading, record { declared = false; content = Leaf some_tag Nothing; tokens_are = refl; rooted = (some_element, tt) }))
-some_way (Among []) = (Empty some_tag ∷ [], (some_reading, record { content = Leaf some_tag Nothing; tokens_are = refl; rooted = (some_element, tt) }))
+some_way AtStart = (Empty some_tag ∷ [], (some_reading, record { declared = false; pieces = piece.Empty some_tag Nothing; tokens_are = refl; rooted = begins_root (piece.Empty some_tag Nothing) some_reading (some_element, tt) }))
+some_way (Among []) = (Empty some_tag ∷ [], (some_reading, record { pieces = piece.Empty some_tag Nothing; tokens_are = refl; rooted = (some_element, tt) }))
 some_way (Among (f ∷ fs)) = some_closing f fs
 some_way (Behind root) = ([], (root, record { after = Nothing; tokens_are = refl; margin = tt; same = refl }))

@@ -1,7 +1,7 @@
 -- Elements that are open, by what they are once they end.
 use Rattle.std.specs.Prelude.{◌≡◌, ℕ, Bool, true, not, ◌==◌, ◌||◌, if◌then◌else◌, List, [], ◌∷◌, ◌++◌, length, map, filter}
 use Rattle.std.specs.List.{list_any}
-use Rattle.ifmap_elem.specs.Document.{Item, Run, is_inner, put_before, joined, is_kept, child_of, declared_here, declared_below, from_above}
+use Rattle.ifmap_elem.specs.Document.{Item, Run, is_inner, put_before, joined, is_child, child_of, declared_here, declared_below, from_above}
 use Rattle.ifmap_elem.specs.Scopes.{Scope, root_scope}
 use Rattle.ifmap_elem.specs.declared.elements.Child.{Child}
 use Rattle.ifmap_elem.specs.declared.elements.Child as the
@@ -23,9 +23,9 @@ scope_of (f ∷ fs) = f.bindings ++ scope_of fs
 abbrev pub has_children : Frame → Bool
 has_children f = not (length f.children == 0)
 
--- a text is kept as a child
+-- a text is children_among as a child
 abbrev pub kept_text : Bool → List ℕ → Bool
-kept_text beside text = is_kept beside (Run text)
+kept_text beside text = is_child beside (Run text)
 
 -- the text as a child, where it is one
 abbrev pub text_behind : Bool → List ℕ → List Child
@@ -33,7 +33,7 @@ text_behind beside text = if kept_text beside text then the.Text text ∷ [] els
 
 -- of its text and what is still to come, the items that are children
 abbrev pub kept_behind : Frame → List Item → List Item
-kept_behind f items = filter (is_kept (has_children f || list_any is_inner items)) (put_before f.text (joined items))
+kept_behind f items = filter (is_child (has_children f || list_any is_inner items)) (put_before f.text (joined items))
 
 -- the element, and the declarations in it, that it is once these items have come
 pub record Closes (f : Frame) (items : List Item) (e : Element) (declared : List Declared) : Type 0 where

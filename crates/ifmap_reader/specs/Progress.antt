@@ -1,6 +1,7 @@
 -- How a document goes on from where a reader stands, and what one more token makes of that.
 use Rattle.std.specs.Prelude.{◌≡◌, ◌↔◌, ℕ, ◌+◌, ◌<◌, ◌≤◌, Bool, true, false, cond, ◌⊎◌, List, [], ◌∷◌, ◌++◌, length, reverse, Result, Ok, Err}
-use Rattle.ifmap_elem.specs.Document.{Content, tokens_of, Item, Means, IsMargin, IsRoot, IsDocument}
+use Rattle.ifmap_elem.specs.Document.{Pieces, tokens_of, Item, AreItems, IsMargin, IsDocument}
+use Rattle.ifmap_elem.specs.Roots.{BeginsWithRoot}
 use Rattle.ifmap_elem.specs.Nesting.{nesting}
 use Rattle.ifmap_elem.specs.Places.{is_start, is_end, Opens}
 use Rattle.ifmap_elem.specs.Scopes.{Scope}
@@ -8,7 +9,7 @@ use Rattle.ifmap_elem.specs.declared.elements.Element.{Element}
 use Rattle.ifmap_elem.specs.declared.readings.Declared.{Declared}
 use Rattle.ifmap_elem.specs.declared.readings.Reading.{Reading}
 use Rattle.ifmap_elem.specs.declared.tokens.Token.{Token}
-use Rattle.ifmap_elem.specs.declared.tokens.Token.TheVariants.{Declaration, Comment, Start, Empty, End, Section, Text}
+use Rattle.ifmap_elem.specs.declared.tokens.Token.TheVariants.{Declaration, Comment, Start, Empty, End, Section, Characters}
 use Rattle.ifmap_reader.specs.Depths.{levels}
 use Rattle.ifmap_reader.specs.Frames.{Closes, scope_of, with_inner, written_name}
 use Rattle.ifmap_reader.specs.declared.errors.Refusal.{Refusal}
@@ -28,21 +29,21 @@ where_is standing.Start = AtStart
 where_is (standing.Open frames) = Among (reverse frames)
 where_is (standing.Done r) = Behind r
 
--- the tokens are the rest of an open element's content, its end tag, and what Then says of the element that ended
+-- the tokens are the rest of an open element's pieces, its end tag, and what Then says of the element that ended
 pub record Ends (scope : Scope) (f : Frame) (ts : List Token) (Then : Element → List Declared → List Token → Type 0) : Type 0 where
-  pub inside : Content
+  pub inside : Pieces
   pub behind : List Token
   pub items : List Item
   pub element : Element
   pub declared : List Declared
   pub tokens_are : ts ≡ tokens_of inside ++ (End (written_name f) ∷ behind)
-  pub means : Means scope inside items
+  pub means : AreItems scope inside items
   pub closes : Closes f items element declared
   pub goes_on : Then element declared behind
 
 -- the tokens end a document behind this root
 pub record EndsDocument (root : Reading) (ts : List Token) (r : Reading) : Type 0 where
-  pub after : Content
+  pub after : Pieces
   pub tokens_are : ts ≡ tokens_of after
   pub margin : IsMargin after
   pub same : root ≡ r
@@ -54,9 +55,9 @@ Closing f (g ∷ gs) ts r = Ends (scope_of (f ∷ (g ∷ gs))) f ts (λ e declar
 
 -- the tokens are a document from before its root on
 pub record BeginsRoot (ts : List Token) (r : Reading) : Type 0 where
-  pub content : Content
-  pub tokens_are : ts ≡ tokens_of content
-  pub rooted : IsRoot content r
+  pub pieces : Pieces
+  pub tokens_are : ts ≡ tokens_of pieces
+  pub rooted : BeginsWithRoot pieces r
 
 -- the tokens go on from there to a document that means this
 abbrev pub GoesOn : Where → List Token → Reading → Type 0
@@ -76,7 +77,7 @@ adopted (g ∷ gs) e declared = Among (with_inner g e declared ∷ gs)
 
 -- a token of text that means this, with its own bytes white space alone or not
 abbrev pub IsWords : Bool → List ℕ → Token → Type 0
-IsWords blank text t = (t ≡ Text blank text) ⊎ ((blank ≡ false) × (t ≡ Section text))
+IsWords blank text t = (t ≡ Characters blank text) ⊎ ((blank ≡ false) × (t ≡ Section text))
 
 -- the token may stand beside the root: a comment, or white space alone in its own bytes
 abbrev pub is_margin : Token → Bool
@@ -86,7 +87,7 @@ is_margin (Start tag) = false
 is_margin (Empty tag) = false
 is_margin (End name) = false
 is_margin (Section text) = false
-is_margin (Text blank text) = blank
+is_margin (Characters blank text) = blank
 
 -- how many elements are open
 abbrev pub open_in : Where → ℕ

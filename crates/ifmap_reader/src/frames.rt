@@ -1,7 +1,7 @@
 //! The elements that are open.
 ghost use Rattle.std.specs.Prelude.{◌≡◌, ◌↔◌, ◌∷◌, [], ◌++◌, map, IfOk, IsTrue};
 ghost use Rattle.std.specs.List.{list_all};
-ghost use Rattle.ifmap_elem.specs.Chars.{is_space};
+ghost use Rattle.ifmap_elem.specs.Chars.{is_white};
 ghost use Rattle.ifmap_elem.specs.Document.{from_above};
 ghost use Rattle.ifmap_reader.specs.Frames.{Closes, kept_text, text_behind, with_inner, with_words, written_name};
 
@@ -136,7 +136,7 @@ fn is_kept_text(beside: bool, text: &[u8]) -> bool
 
 /// Whether a text is white space alone.
 fn is_blank(text: &[u8]) -> bool
-    ensures { result ≡ list_all is_space text.now }
+    ensures { result ≡ list_all is_white text.now }
 {
     text.iter().all(|b| *b == b' ' || *b == b'\t' || *b == b'\r' || *b == b'\n')
 }

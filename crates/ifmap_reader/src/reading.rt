@@ -7,7 +7,7 @@ ghost use Rattle.ifmap_elem.specs.Canonical.{AreHeld, canonical_bytes};
 ghost use Rattle.ifmap_elem.specs.Fit.{IsFit};
 ghost use Rattle.ifmap_elem.specs.Nesting.{nesting};
 ghost use Rattle.ifmap_elem.specs.Places.{Deep, Stop};
-ghost use Rattle.ifmap_elem.specs.Spells.{Spells, without_mark};
+ghost use Rattle.ifmap_elem.specs.Spells.{Spells, without_byte_order_mark};
 ghost use Rattle.ifmap_reader.specs.Reads.{GivesRoot, IsRead, lex_error, OnTooDeep, OnUnreadable, read_at_end, step_error, UnlessDeep};
 
 use crate::errors::{ReadError, Refusal};
@@ -66,7 +66,7 @@ fn at_end(standing: Standing, at: usize) -> Result<Reading, ReadError>
 
 /// How many bytes a byte order mark takes.
 fn mark_length(bytes: &[u8]) -> usize
-    ensures behind { drop result bytes.now ≡ without_mark bytes.now }
+    ensures behind { drop result bytes.now ≡ without_byte_order_mark bytes.now }
     ensures within { result ≤ length bytes.now }
 {
     if bytes.starts_with(BYTE_ORDER_MARK) {

@@ -52,7 +52,10 @@ fn behind_root(depth: u32, reading: Reading, token: Token) -> Result<Standing, R
 fn is_margin(token: &Token) -> bool
     ensures { result ≡ is_margin token.now }
 {
-    matches!(token, Token::Comment | Token::Text(true, _))
+    matches!(
+        token,
+        Token::Comment | Token::Characters { blank: true, .. }
+    )
 }
 
 fn continued(
@@ -70,7 +73,7 @@ fn continued(
         Token::Empty(tag) => emptied(alloc, depth, frames, tag),
         Token::End(name) => ended(alloc, frames, name),
         Token::Section(text) => worded(frames, false, text),
-        Token::Text(blank, text) => worded(frames, blank, text),
+        Token::Characters { blank, text } => worded(frames, blank, text),
     }
 }
 

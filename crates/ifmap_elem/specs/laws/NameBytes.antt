@@ -6,7 +6,7 @@ use Rattle.std.proofs.lemmas.Bool.{cases_lt}
 use Rattle.std.proofs.lemmas.List.{append-nil}
 use Rattle.std.proofs.lemmas.List.Elements.{recursion_from_All, All-from_get_or}
 use Rattle.std.proofs.lemmas.Str.{inside_one, length-encode, len_utf8_bounds}
-use Rattle.ifmap_elem.specs.Chars.{AllAre, IsSpace, is_space}
+use Rattle.ifmap_elem.specs.Chars.{AllAre, IsWhite, is_white}
 use Rattle.ifmap_elem.specs.declared.tokens.Qualified.{Qualified}
 use Rattle.ifmap_elem.specs.Names.{is_name_start, is_name_character, IsNamePart, IsQualified, name_bytes, prefixed}
 use Rattle.ifmap_lemmas.specs.Cuts.{Stops, cut, front_stops}
@@ -109,20 +109,20 @@ name_cut q u r s i j stop also e =
 pub no_name_byte : (b n : ℕ) → is_name_byte n ≡ false → is_name_byte b ≡ true → (b == n) ≡ false
 no_name_byte b n not h = is_other b n (λ e. let wrong : false ≡ true = sym not ∙ subst (λ (m : ℕ). is_name_byte m ≡ true) e h in cc)
 
-pub name_is_no_space : (b : ℕ) → is_name_byte b ≡ true → is_space b ≡ false
-name_is_no_space b h = rw (no_name_byte b 0x20 refl h, no_name_byte b 0x9 refl h, no_name_byte b 0xD refl h, no_name_byte b 0xA refl h) refl
+pub name_is_not_white : (b : ℕ) → is_name_byte b ≡ true → is_white b ≡ false
+name_is_not_white b h = rw (no_name_byte b 0x20 refl h, no_name_byte b 0x9 refl h, no_name_byte b 0xD refl h, no_name_byte b 0xA refl h) refl
 
-pub space_is_no_name : (b : ℕ) → is_space b ≡ true → is_name_byte b ≡ false
-space_is_no_name b h = by_test (is_name_byte b) refl
+pub white_is_no_name : (b : ℕ) → is_white b ≡ true → is_name_byte b ≡ false
+white_is_no_name b h = by_test (is_name_byte b) refl
   where
     by_test : (t : Bool) → is_name_byte b ≡ t → is_name_byte b ≡ false
     by_test false e = e
-    by_test true e = let wrong : true ≡ false = sym h ∙ name_is_no_space b e in cc
+    by_test true e = let wrong : true ≡ false = sym h ∙ name_is_not_white b e in cc
 
 -- white space stands before no name, and a name behind none
-pub space_stops_at_name : (q : Qualified) (r : List ℕ) → IsQualified q → Stops is_space (name_bytes q ++ r)
-space_stops_at_name q r i = front_stops is_name_byte is_space name_is_no_space (name_bytes q) r (name_is_some q i) (name_are_bytes q i)
+pub white_stops_at_name : (q : Qualified) (r : List ℕ) → IsQualified q → Stops is_white (name_bytes q ++ r)
+white_stops_at_name q r i = front_stops is_name_byte is_white name_is_not_white (name_bytes q) r (name_is_some q i) (name_are_bytes q i)
 
-pub name_stops_at_space : (space r : List ℕ) → IsSpace space → Stops is_name_byte r → Stops is_name_byte (space ++ r)
-name_stops_at_space [] r f stop = stop
-name_stops_at_space (b ∷ bs) r f stop = space_is_no_name b f.0
+pub name_stops_at_white : (white r : List ℕ) → IsWhite white → Stops is_name_byte r → Stops is_name_byte (white ++ r)
+name_stops_at_white [] r f stop = stop
+name_stops_at_white (b ∷ bs) r f stop = white_is_no_name b f.0

@@ -10,11 +10,13 @@ use Rattle.ifmap_elem.specs.declared.readings.Reading.{Reading}
 use Rattle.ifmap_elem.specs.declared.tokens.Assignment.{Assignment}
 use Rattle.ifmap_elem.specs.declared.tokens.Tag.{Tag}
 use Rattle.ifmap_elem.specs.declared.tokens.Token.{Token}
-use Rattle.ifmap_elem.specs.declared.tokens.Token.TheVariants.{Declaration, Comment, Start, Empty, End, Section, Text}
+use Rattle.ifmap_elem.specs.declared.tokens.Token.TheVariants.{Declaration, Comment, Start, Empty, End, Section, Characters}
 use Rattle.ifmap_elem.specs.Tokens.{TakesToken}
 use Rattle.ifmap_elem.specs.Scopes.{Scope, root_scope, scope_within, plain_assignments, IsAttribute, AreAttributes, NamesElement}
-use Rattle.ifmap_elem.specs.Document.{Content, Nothing, Remark, Words, Verbatim, Leaf, Branch, tokens_of, Item, Inner, Run, IsElement, Means, IsRoot, heading, IsDocument}
-use Rattle.ifmap_elem.specs.Spells.{Spells, without_mark}
+use Rattle.ifmap_elem.specs.Document as piece
+use Rattle.ifmap_elem.specs.Document.{Pieces, Nothing, tokens_of, Item, Inner, Run, IsElement, AreItems, heading, IsDocument}
+use Rattle.ifmap_elem.specs.Roots.{BeginsWithRoot, root_begins}
+use Rattle.ifmap_elem.specs.Spells.{Spells, without_byte_order_mark}
 use Rattle.ifmap_elem.specs.laws.OneToken.{one_token, no_token}
 
 abbrev pub is_end_tag : Token → Bool
@@ -24,52 +26,52 @@ is_end_tag (Start tag) = false
 is_end_tag (Empty tag) = false
 is_end_tag (End name) = true
 is_end_tag (Section text) = false
-is_end_tag (Text blank text) = false
+is_end_tag (Characters blank text) = false
 
--- content has ended here: an end tag stands here, or nothing
+-- pieces has ended here: an end tag stands here, or nothing
 abbrev pub Closes : List Token → Type 0
 Closes [] = Unit {0}
 Closes (t ∷ ts) = is_end_tag t ≡ true
 
-nothing_is : (d : Content) (r s : List Token) → Closes r → r ≡ tokens_of d ++ s → (Nothing ≡ d) × (r ≡ s)
+nothing_is : (d : Pieces) (r s : List Token) → Closes r → r ≡ tokens_of d ++ s → (Nothing ≡ d) × (r ≡ s)
 nothing_is Nothing r s h e = (refl, e)
-nothing_is (Remark after) r s h e = let wrong : false ≡ true = subst Closes e h in cc
-nothing_is (Words blank text after) r s h e = let wrong : false ≡ true = subst Closes e h in cc
-nothing_is (Verbatim text after) r s h e = let wrong : false ≡ true = subst Closes e h in cc
-nothing_is (Leaf tag after) r s h e = let wrong : false ≡ true = subst Closes e h in cc
-nothing_is (Branch tag inside after) r s h e = let wrong : false ≡ true = subst Closes e h in cc
+nothing_is (piece.Comment after) r s h e = let wrong : false ≡ true = subst Closes e h in cc
+nothing_is (piece.Characters blank text after) r s h e = let wrong : false ≡ true = subst Closes e h in cc
+nothing_is (piece.Section text after) r s h e = let wrong : false ≡ true = subst Closes e h in cc
+nothing_is (piece.Empty tag after) r s h e = let wrong : false ≡ true = subst Closes e h in cc
+nothing_is (piece.Start tag inside after) r s h e = let wrong : false ≡ true = subst Closes e h in cc
 
-branch_seam : (tag : Tag) (inside after : Content) (r : List Token) → tokens_of (Branch tag inside after) ++ r ≡ Start tag ∷ (tokens_of inside ++ (End tag.name ∷ (tokens_of after ++ r)))
+branch_seam : (tag : Tag) (inside after : Pieces) (r : List Token) → tokens_of (piece.Start tag inside after) ++ r ≡ Start tag ∷ (tokens_of inside ++ (End tag.name ∷ (tokens_of after ++ r)))
 branch_seam tag inside after r = ap (λ ts. Start tag ∷ ts) (append_assoc (tokens_of inside) (End tag.name ∷ tokens_of after) r)
 
--- tokens are those of one content
-pub one_content : (c d : Content) (r s : List Token) → Closes r → Closes s → tokens_of c ++ r ≡ tokens_of d ++ s → (c ≡ d) × (r ≡ s)
+-- tokens are those of one pieces
+pub one_content : (c d : Pieces) (r s : List Token) → Closes r → Closes s → tokens_of c ++ r ≡ tokens_of d ++ s → (c ≡ d) × (r ≡ s)
 one_content Nothing d r s h k e = nothing_is d r s h e
 one_content c Nothing r s h k e = let both = nothing_is c s r k (sym e) in (sym both.0, sym both.1)
-one_content (Remark a) (Remark b) r s h k e =
+one_content (piece.Comment a) (piece.Comment b) r s h k e =
     let tail : tokens_of a ++ r ≡ tokens_of b ++ s = cc in
     let both = one_content a b r s h k tail in
-    (ap Remark both.0, both.1)
-one_content (Words x t a) (Words y u b) r s h k e =
+    (ap piece.Comment both.0, both.1)
+one_content (piece.Characters x t a) (piece.Characters y u b) r s h k e =
     let tail : tokens_of a ++ r ≡ tokens_of b ++ s = cc in
     let flag : x ≡ y = cc in
     let text : t ≡ u = cc in
     let both = one_content a b r s h k tail in
     let after : a ≡ b = both.0 in
     (cc, both.1)
-one_content (Verbatim t a) (Verbatim u b) r s h k e =
+one_content (piece.Section t a) (piece.Section u b) r s h k e =
     let tail : tokens_of a ++ r ≡ tokens_of b ++ s = cc in
     let text : t ≡ u = cc in
     let both = one_content a b r s h k tail in
     let after : a ≡ b = both.0 in
     (cc, both.1)
-one_content (Leaf t a) (Leaf u b) r s h k e =
+one_content (piece.Empty t a) (piece.Empty u b) r s h k e =
     let tail : tokens_of a ++ r ≡ tokens_of b ++ s = cc in
     let tag : t ≡ u = cc in
     let both = one_content a b r s h k tail in
     let after : a ≡ b = both.0 in
     (cc, both.1)
-one_content (Branch t i a) (Branch u j b) r s h k e =
+one_content (piece.Start t i a) (piece.Start u j b) r s h k e =
     let f : Start t ∷ (tokens_of i ++ (End t.name ∷ (tokens_of a ++ r))) ≡ Start u ∷ (tokens_of j ++ (End u.name ∷ (tokens_of b ++ s)))
     = sym (branch_seam t i a r) ∙ e ∙ branch_seam u j b s in
     let tag : t ≡ u = cc in
@@ -125,14 +127,14 @@ inner_items outer tag i j e f d c x y k l inner after p q r s =
     let declared : d ≡ c = both.1 in
     cc
 
-pub one_meaning : (scope : Scope) (c : Content) (i j : List Item) → Means scope c i → Means scope c j → i ≡ j
+pub one_meaning : (scope : Scope) (c : Pieces) (i j : List Item) → AreItems scope c i → AreItems scope c j → i ≡ j
 one_meaning scope Nothing i j l m = l ∙ sym m
-one_meaning scope (Remark after) i j l m = one_meaning scope after i j l m
-one_meaning scope (Words blank text after) i j l m = l.1 ∙ ap (λ items. Run text ∷ items) (one_meaning scope after l.0 m.0 l.2 m.2) ∙ sym m.1
-one_meaning scope (Verbatim text after) i j l m = l.1 ∙ ap (λ items. Run text ∷ items) (one_meaning scope after l.0 m.0 l.2 m.2) ∙ sym m.1
-one_meaning scope (Leaf tag after) i j l m =
+one_meaning scope (piece.Comment after) i j l m = one_meaning scope after i j l m
+one_meaning scope (piece.Characters blank text after) i j l m = l.1 ∙ ap (λ items. Run text ∷ items) (one_meaning scope after l.0 m.0 l.2 m.2) ∙ sym m.1
+one_meaning scope (piece.Section text after) i j l m = l.1 ∙ ap (λ items. Run text ∷ items) (one_meaning scope after l.0 m.0 l.2 m.2) ∙ sym m.1
+one_meaning scope (piece.Empty tag after) i j l m =
     inner_items scope tag [] [] l.0 m.0 l.1 m.1 l.2 m.2 i j refl (one_meaning scope after l.2 m.2 l.5 m.5) l.3 m.3 l.4 m.4
-one_meaning scope (Branch tag inside after) i j l m =
+one_meaning scope (piece.Start tag inside after) i j l m =
     inner_items scope tag l.0 m.0 l.1 m.1 l.2 m.2 l.3 m.3 i j (one_meaning (scope_within scope tag) inside l.0 m.0 l.5 m.5) (one_meaning scope after l.3 m.3 l.7 m.7) l.4 m.4 l.6 m.6
 
 same_reading : (tag : Tag) (items : List Item) (r s : Reading) → IsElement root_scope tag items r.root r.declared → IsElement root_scope tag items s.root s.declared → r ≡ s
@@ -140,26 +142,26 @@ same_reading tag items r s l m =
     let both = one_element root_scope tag items r.root s.root r.declared s.declared l m in
     λ i. record { root = both.0 i; declared = both.1 i }
 
-pub one_root : (c : Content) (r s : Reading) → IsRoot c r → IsRoot c s → r ≡ s
+pub one_root : (c : Pieces) (r s : Reading) → BeginsWithRoot c r → BeginsWithRoot c s → r ≡ s
 one_root Nothing r s l m = absurd l
-one_root (Remark after) r s l m = one_root after r s l m
-one_root (Words blank text after) r s l m = one_root after r s l.1 m.1
-one_root (Verbatim text after) r s l m = absurd l
-one_root (Leaf tag after) r s l m = same_reading tag [] r s l.0 m.0
-one_root (Branch tag inside after) r s l m =
+one_root (piece.Comment after) r s l m = one_root after r s l m
+one_root (piece.Characters blank text after) r s l m = one_root after r s l.1 m.1
+one_root (piece.Section text after) r s l m = absurd l
+one_root (piece.Empty tag after) r s l m = same_reading tag [] r s l.0 m.0
+one_root (piece.Start tag inside after) r s l m =
     let inner = one_meaning (scope_within root_scope tag) inside l.0 m.0 l.1 m.1 in
     same_reading tag m.0 r s (subst (λ (items : List Item). IsElement root_scope tag items r.root r.declared) inner l.2) m.2
 
--- no content begins with a declaration
-no_declaration : (c : Content) (ts : List Token) → Declaration ∷ ts ≡ tokens_of c → ⊥
+-- no pieces begins with a declaration
+no_declaration : (c : Pieces) (ts : List Token) → Declaration ∷ ts ≡ tokens_of c → ⊥
 no_declaration Nothing ts e = cc
-no_declaration (Remark after) ts e = cc
-no_declaration (Words blank text after) ts e = cc
-no_declaration (Verbatim text after) ts e = cc
-no_declaration (Leaf tag after) ts e = cc
-no_declaration (Branch tag inside after) ts e = cc
+no_declaration (piece.Comment after) ts e = cc
+no_declaration (piece.Characters blank text after) ts e = cc
+no_declaration (piece.Section text after) ts e = cc
+no_declaration (piece.Empty tag after) ts e = cc
+no_declaration (piece.Start tag inside after) ts e = cc
 
-one_heading : (a b : Bool) (c d : Content) → heading a ++ tokens_of c ≡ heading b ++ tokens_of d → tokens_of c ≡ tokens_of d
+one_heading : (a b : Bool) (c d : Pieces) → heading a ++ tokens_of c ≡ heading b ++ tokens_of d → tokens_of c ≡ tokens_of d
 one_heading true true c d e = cc
 one_heading true false c d e = absurd (no_declaration d (tokens_of c) e)
 one_heading false true c d e = absurd (no_declaration c (tokens_of d) (sym e))
@@ -167,9 +169,9 @@ one_heading false false c d e = e
 
 pub one_document : (ts : List Token) (r s : Reading) → IsDocument ts r → IsDocument ts s → r ≡ s
 one_document ts r s l m =
-    let tokens = one_heading l.declared m.declared l.content m.content (sym l.tokens_are ∙ m.tokens_are) in
-    let content = (one_content l.content m.content [] [] tt tt (ap (λ us. us ++ []) tokens)).0 in
-    one_root m.content r s (subst (λ (c : Content). IsRoot c r) content l.rooted) m.rooted
+    let tokens = one_heading l.declared m.declared l.pieces m.pieces (sym l.tokens_are ∙ m.tokens_are) in
+    let pieces = (one_content l.pieces m.pieces [] [] tt tt (ap (λ us. us ++ []) tokens)).0 in
+    one_root m.pieces r s (subst (λ (c : Pieces). BeginsWithRoot c r) pieces (root_begins l.pieces r l.rooted)) (root_begins m.pieces s m.rooted)
 
 pub one_lexing : (bytes : List ℕ) (ts us : List Token) → To TakesToken bytes ts [] → To TakesToken bytes us [] → ts ≡ us
 one_lexing bytes ts us l m =
@@ -177,5 +179,5 @@ one_lexing bytes ts us l m =
 
 pub one_reading : (bytes : List ℕ) (r s : Reading) → Spells bytes r → Spells bytes s → r ≡ s
 one_reading bytes r s l m =
-    let tokens = one_lexing (without_mark bytes) l.tokens m.tokens l.lexed m.lexed in
+    let tokens = one_lexing (without_byte_order_mark bytes) l.tokens m.tokens l.lexed m.lexed in
     one_document m.tokens r s (subst (λ (ts : List Token). IsDocument ts r) tokens l.document) m.document

@@ -6,20 +6,20 @@ use Rattle.std.specs.List.{flat_map, list_all}
 use Rattle.std.proofs.lemmas.Bool.{not-true, or_cases, and_parts}
 use Rattle.std.proofs.lemmas.Bool.Decides.{nat_tests}
 use Rattle.ifmap_lemmas.specs.Items.{To, one_list}
-use Rattle.ifmap_elem.specs.Chars.{AllAre, IsSpace, is_space}
+use Rattle.ifmap_elem.specs.Chars.{AllAre, IsWhite, is_white}
 use Rattle.ifmap_elem.specs.declared.tokens.Qualified.{Qualified}
 use Rattle.ifmap_elem.specs.Names.{IsQualified, name_bytes}
 use Rattle.ifmap_elem.specs.Values.{Part, Plain, Reference, TakesPart, EndsRun, Expands, referred, IsText, IsValue, text_part, value_part, line_ends}
 use Rattle.ifmap_elem.specs.declared.tokens.Assignment.{Assignment}
 use Rattle.ifmap_elem.specs.declared.tokens.Tag.{Tag}
 use Rattle.ifmap_elem.specs.declared.tokens.Token.{Token}
-use Rattle.ifmap_elem.specs.declared.tokens.Token.TheVariants.{Declaration, Comment, Start, Empty, End, Section, Text}
+use Rattle.ifmap_elem.specs.declared.tokens.Token.TheVariants.{Declaration, Comment, Start, Empty, End, Section, Characters}
 use Rattle.ifmap_elem.specs.Tokens.{TakesQuoted, TakesAssignment, TakesTag, TakesSetting, TakesOptional, TakesDeclaration, TakesEnd, EndsText, TakesText, TakesToken}
 use Rattle.ifmap_lemmas.specs.Cuts.{Stops, cut}
 use Rattle.ifmap_lemmas.specs.Members.{all_append}
 use Rattle.ifmap_lemmas.specs.Numbers.{is_number}
 use Rattle.ifmap_elem.specs.laws.Delimiters.{dash_cut, bracket_cut}
-use Rattle.ifmap_elem.specs.laws.NameBytes.{is_name_byte, name_are_bytes, name_is_some, name_cut, no_name_byte, space_is_no_name, space_stops_at_name, name_stops_at_space}
+use Rattle.ifmap_elem.specs.laws.NameBytes.{is_name_byte, name_are_bytes, name_is_some, name_cut, no_name_byte, white_is_no_name, white_stops_at_name, name_stops_at_white}
 
 -- one part
 
@@ -65,11 +65,11 @@ one_expansion adds bytes v w l m =
 
 -- one quoted value, and one assignment
 
-pub quote_is_no_space : (q : ℕ) → (q == 0x22 || q == 0x27) ≡ true → is_space q ≡ false
-quote_is_no_space q h =
+pub quote_is_not_white : (q : ℕ) → (q == 0x22 || q == 0x27) ≡ true → is_white q ≡ false
+quote_is_not_white q h =
     elim (or_cases (q == 0x22) (q == 0x27) h) [
-      | inl e ↦ subst (λ (n : ℕ). is_space n ≡ false) (sym (is_number q 0x22 e)) refl
-      | inr e ↦ subst (λ (n : ℕ). is_space n ≡ false) (sym (is_number q 0x27 e)) refl
+      | inl e ↦ subst (λ (n : ℕ). is_white n ≡ false) (sym (is_number q 0x22 e)) refl
+      | inr e ↦ subst (λ (n : ℕ). is_white n ≡ false) (sym (is_number q 0x27 e)) refl
     ]
 
 itself : (q : ℕ) → not (q == q) ≡ false
@@ -77,12 +77,12 @@ itself q = let same : (q == q) ≡ true = grind (arith, nat_tests) in rw same re
 
 pub one_quoted : (bytes v w r s : List ℕ) → TakesQuoted bytes v r → TakesQuoted bytes w s → (v ≡ w) × (r ≡ s)
 one_quoted bytes v w r s l m =
-    let first = cut is_space l.before m.before (0x3D ∷ (l.after ++ (l.quote ∷ (v ++ (l.quote ∷ r))))) (0x3D ∷ (m.after ++ (m.quote ∷ (w ++ (m.quote ∷ s)))))
-    l.space_before m.space_before refl refl (sym l.bytes_are ∙ m.bytes_are) in
+    let first = cut is_white l.before m.before (0x3D ∷ (l.after ++ (l.quote ∷ (v ++ (l.quote ∷ r))))) (0x3D ∷ (m.after ++ (m.quote ∷ (w ++ (m.quote ∷ s)))))
+    l.white_before m.white_before refl refl (sym l.bytes_are ∙ m.bytes_are) in
     let equals : 0x3D ∷ (l.after ++ (l.quote ∷ (v ++ (l.quote ∷ r)))) ≡ 0x3D ∷ (m.after ++ (m.quote ∷ (w ++ (m.quote ∷ s)))) = first.1 in
     let behind : l.after ++ (l.quote ∷ (v ++ (l.quote ∷ r))) ≡ m.after ++ (m.quote ∷ (w ++ (m.quote ∷ s))) = cc in
-    let second = cut is_space l.after m.after (l.quote ∷ (v ++ (l.quote ∷ r))) (m.quote ∷ (w ++ (m.quote ∷ s)))
-    l.space_after m.space_after (quote_is_no_space l.quote l.is_quote) (quote_is_no_space m.quote m.is_quote) behind in
+    let second = cut is_white l.after m.after (l.quote ∷ (v ++ (l.quote ∷ r))) (m.quote ∷ (w ++ (m.quote ∷ s)))
+    l.white_after m.white_after (quote_is_not_white l.quote l.is_quote) (quote_is_not_white m.quote m.is_quote) behind in
     let quoted : l.quote ∷ (v ++ (l.quote ∷ r)) ≡ m.quote ∷ (w ++ (m.quote ∷ s)) = second.1 in
     let quote : l.quote ≡ m.quote = cc in
     let inside : v ++ (l.quote ∷ r) ≡ w ++ (m.quote ∷ s) = cc in
@@ -94,24 +94,24 @@ one_quoted bytes v w r s l m =
 
 -- what stands behind a name in a tag
 pub quoted_stops : (bytes v r : List ℕ) → TakesQuoted bytes v r → Stops is_name_byte bytes
-quoted_stops bytes v r t = subst (Stops is_name_byte) (sym t.bytes_are) (name_stops_at_space t.before _ t.space_before refl)
+quoted_stops bytes v r t = subst (Stops is_name_byte) (sym t.bytes_are) (name_stops_at_white t.before _ t.white_before refl)
 
 pub one_assignment : (bytes : List ℕ) (a b : Assignment) (r s : List ℕ) → TakesAssignment bytes a r → TakesAssignment bytes b s → (a ≡ b) × (r ≡ s)
 one_assignment bytes a b r s l m =
-    let first = cut is_space l.space m.space (name_bytes a.name ++ l.behind) (name_bytes b.name ++ m.behind) l.is_space m.is_space
-    (space_stops_at_name a.name l.behind l.is_name) (space_stops_at_name b.name m.behind m.is_name) (sym l.bytes_are ∙ m.bytes_are) in
-    let second = name_cut a.name b.name l.behind m.behind l.is_name m.is_name (quoted_stops l.behind l.written r l.given) (quoted_stops m.behind m.written s m.given) first.1 in
-    let third = one_quoted m.behind l.written m.written r s (subst (λ (x : List ℕ). TakesQuoted x l.written r) second.1 l.given) m.given in
+    let first = cut is_white l.white m.white (name_bytes a.name ++ l.after) (name_bytes b.name ++ m.after) l.is_white m.is_white
+    (white_stops_at_name a.name l.after l.is_name) (white_stops_at_name b.name m.after m.is_name) (sym l.bytes_are ∙ m.bytes_are) in
+    let second = name_cut a.name b.name l.after m.after l.is_name m.is_name (quoted_stops l.after l.written r l.given) (quoted_stops m.after m.written s m.given) first.1 in
+    let third = one_quoted m.after l.written m.written r s (subst (λ (x : List ℕ). TakesQuoted x l.written r) second.1 l.given) m.given in
     let value = one_expansion value_part m.written a.value b.value (subst (λ (x : List ℕ). IsValue x a.value) third.0 l.means) m.means in
     (λ k. record { name = second.0 k; value = value k }, third.1)
 
 -- how a tag ends: with a byte that is neither white space nor a name's
 abbrev pub EndsTag : List ℕ → Type 0
 EndsTag [] = ⊥
-EndsTag (b ∷ bs) = (is_space b ≡ false) × (is_name_byte b ≡ false)
+EndsTag (b ∷ bs) = (is_white b ≡ false) × (is_name_byte b ≡ false)
 
 abbrev pub IsTagEnd : List ℕ → Type 0
-IsTagEnd bytes = (space : List ℕ) × (end : List ℕ) × (bytes ≡ space ++ end) × IsSpace space × EndsTag end
+IsTagEnd bytes = (white : List ℕ) × (end : List ℕ) × (bytes ≡ white ++ end) × IsWhite white × EndsTag end
 
 no_name_ends : (end : List ℕ) (q : Qualified) (r : List ℕ) → IsQualified q → EndsTag end → end ≡ name_bytes q ++ r → ⊥
 no_name_ends end q r i ends e = no_end (name_bytes q) (name_is_some q i) (name_are_bytes q i) end ends e
@@ -123,9 +123,9 @@ no_name_ends end q r i ends e = no_end (name_bytes q) (name_is_some q i) (name_a
         let head : b ≡ c = cc in
         let wrong : true ≡ false = sym f.0 ∙ subst (λ (n : ℕ). is_name_byte n ≡ false) head ends.1 in cc
 
-stops_space : (end : List ℕ) → EndsTag end → Stops is_space end
-stops_space [] ends = absurd ends
-stops_space (b ∷ bs) ends = ends.0
+stops_white : (end : List ℕ) → EndsTag end → Stops is_white end
+stops_white [] ends = absurd ends
+stops_white (b ∷ bs) ends = ends.0
 
 stops_name : (end : List ℕ) → EndsTag end → Stops is_name_byte end
 stops_name [] ends = absurd ends
@@ -133,28 +133,28 @@ stops_name (b ∷ bs) ends = ends.1
 
 pub no_assignment : (end : List ℕ) (a : Assignment) (rest : List ℕ) → IsTagEnd end → TakesAssignment end a rest → ⊥
 no_assignment bytes a rest i t =
-    let both = cut is_space i.0 t.space i.1 (name_bytes a.name ++ t.behind) i.3 t.is_space (stops_space i.1 i.4) (space_stops_at_name a.name t.behind t.is_name) (sym i.2 ∙ t.bytes_are) in
-    no_name_ends i.1 a.name t.behind t.is_name i.4 both.1
+    let both = cut is_white i.0 t.white i.1 (name_bytes a.name ++ t.after) i.3 t.is_white (stops_white i.1 i.4) (white_stops_at_name a.name t.after t.is_name) (sym i.2 ∙ t.bytes_are) in
+    no_name_ends i.1 a.name t.after t.is_name i.4 both.1
 
 -- what stands behind a tag's name is no byte of a name
-pub assigned_stops : (bytes : List ℕ) (as' : List Assignment) (space end : List ℕ) → IsSpace space → EndsTag end → To TakesAssignment bytes as' (space ++ end) → Stops is_name_byte bytes
-assigned_stops bytes [] space end f ends l = subst (Stops is_name_byte) (sym l) (name_stops_at_space space end f (stops_name end ends))
-assigned_stops bytes (a ∷ as') space end f ends l = subst (Stops is_name_byte) (sym l.1.bytes_are) (some_space l.1.space l.1.some_space l.1.is_space)
+pub assigned_stops : (bytes : List ℕ) (as' : List Assignment) (white end : List ℕ) → IsWhite white → EndsTag end → To TakesAssignment bytes as' (white ++ end) → Stops is_name_byte bytes
+assigned_stops bytes [] white end f ends l = subst (Stops is_name_byte) (sym l) (name_stops_at_white white end f (stops_name end ends))
+assigned_stops bytes (a ∷ as') white end f ends l = subst (Stops is_name_byte) (sym l.1.bytes_are) (some_white l.1.white l.1.some_white l.1.is_white)
   where
-    some_space : (xs : List ℕ) → xs ≢ [] → IsSpace xs → Stops is_name_byte (xs ++ (name_bytes a.name ++ l.1.behind))
-    some_space [] some g = absurd (some refl)
-    some_space (x ∷ xs) some g = space_is_no_name x g.0
+    some_white : (xs : List ℕ) → xs ≢ [] → IsWhite xs → Stops is_name_byte (xs ++ (name_bytes a.name ++ l.1.after))
+    some_white [] some g = absurd (some refl)
+    some_white (x ∷ xs) some g = white_is_no_name x g.0
 
 pub one_tag : (bytes : List ℕ) (a b : Tag) (end after : List ℕ) → EndsTag end → EndsTag after → TakesTag bytes a end → TakesTag bytes b after → (a ≡ b) × (end ≡ after)
 one_tag bytes a b end after ends also l m =
-    let e : 0x3C ∷ (name_bytes a.name ++ l.behind) ≡ 0x3C ∷ (name_bytes b.name ++ m.behind) = sym l.bytes_are ∙ m.bytes_are in
-    let named : name_bytes a.name ++ l.behind ≡ name_bytes b.name ++ m.behind = cc in
-    let first = name_cut a.name b.name l.behind m.behind l.is_name m.is_name
-    (assigned_stops l.behind a.assignments l.space end l.is_space ends l.assigned) (assigned_stops m.behind b.assignments m.space after m.is_space also m.assigned) named in
-    let second = one_list TakesAssignment IsTagEnd no_assignment one_assignment m.behind a.assignments b.assignments (l.space ++ end) (m.space ++ after)
-    (l.space, end, refl, l.is_space, ends) (m.space, after, refl, m.is_space, also)
-    (subst (λ (x : List ℕ). To TakesAssignment x a.assignments (l.space ++ end)) first.1 l.assigned) m.assigned in
-    let third = cut is_space l.space m.space end after l.is_space m.is_space (stops_space end ends) (stops_space after also) second.1 in
+    let e : 0x3C ∷ (name_bytes a.name ++ l.after) ≡ 0x3C ∷ (name_bytes b.name ++ m.after) = sym l.bytes_are ∙ m.bytes_are in
+    let named : name_bytes a.name ++ l.after ≡ name_bytes b.name ++ m.after = cc in
+    let first = name_cut a.name b.name l.after m.after l.is_name m.is_name
+    (assigned_stops l.after a.assignments l.white end l.is_white ends l.assigned) (assigned_stops m.after b.assignments m.white after m.is_white also m.assigned) named in
+    let second = one_list TakesAssignment IsTagEnd no_assignment one_assignment m.after a.assignments b.assignments (l.white ++ end) (m.white ++ after)
+    (l.white, end, refl, l.is_white, ends) (m.white, after, refl, m.is_white, also)
+    (subst (λ (x : List ℕ). To TakesAssignment x a.assignments (l.white ++ end)) first.1 l.assigned) m.assigned in
+    let third = cut is_white l.white m.white end after l.is_white m.is_white (stops_white end ends) (stops_white after also) second.1 in
     (λ k. record { name = first.0 k; assignments = second.0 k }, third.1)
 
 -- the declaration has no `>` but its last byte
@@ -166,13 +166,13 @@ no_end b = not (b == 0x3E)
 abbrev pub TakesNoEnd : List ℕ → List ℕ → Type 0
 TakesNoEnd bytes rest = (front : List ℕ) × (bytes ≡ front ++ rest) × AllAre no_end front
 
-space_no_end : (a : List ℕ) → IsSpace a → AllAre no_end a
-space_no_end [] f = tt
-space_no_end (b ∷ bs) f = (by_test (b == 0x3E) refl, space_no_end bs f.1)
+white_no_end : (a : List ℕ) → IsWhite a → AllAre no_end a
+white_no_end [] f = tt
+white_no_end (b ∷ bs) f = (by_test (b == 0x3E) refl, white_no_end bs f.1)
   where
     by_test : (t : Bool) → (b == 0x3E) ≡ t → not (b == 0x3E) ≡ true
     by_test false e = ap not e
-    by_test true e = let wrong : true ≡ false = sym f.0 ∙ subst (λ (n : ℕ). is_space n ≡ false) (sym (is_number b 0x3E e)) refl in cc
+    by_test true e = let wrong : true ≡ false = sym f.0 ∙ subst (λ (n : ℕ). is_white n ≡ false) (sym (is_number b 0x3E e)) refl in cc
 
 quote_no_end : (q : ℕ) → (q == 0x22 || q == 0x27) ≡ true → no_end q ≡ true
 quote_no_end q h =
@@ -188,17 +188,17 @@ quoted_no_end : (bytes v rest : List ℕ) → AllAre no_end v → TakesQuoted by
 quoted_no_end bytes v rest f t =
     let q : AllAre no_end (t.quote ∷ []) = (quote_no_end t.quote t.is_quote, tt) in
     let value = all_append no_end v (t.quote ∷ []) f q in
-    let behind = all_append no_end t.after (t.quote ∷ (v ++ (t.quote ∷ []))) (space_no_end t.after t.space_after) (q.0, value) in
-    let all = all_append no_end t.before (0x3D ∷ (t.after ++ (t.quote ∷ (v ++ (t.quote ∷ []))))) (space_no_end t.before t.space_before) (refl, behind) in
+    let behind = all_append no_end t.after (t.quote ∷ (v ++ (t.quote ∷ []))) (white_no_end t.after t.white_after) (q.0, value) in
+    let all = all_append no_end t.before (0x3D ∷ (t.after ++ (t.quote ∷ (v ++ (t.quote ∷ []))))) (white_no_end t.before t.white_before) (refl, behind) in
     (t.before ++ (0x3D ∷ (t.after ++ (t.quote ∷ (v ++ (t.quote ∷ []))))), t.bytes_are ∙ seam t.before t.after v rest t.quote, all)
 
 module _ (name : List ℕ) (Allows : List ℕ → Type 0) (plain : AllAre no_end name) (values : (v : List ℕ) → Allows v → AllAre no_end v) where
   setting_no_end : (bytes rest : List ℕ) → TakesSetting name Allows bytes rest → TakesNoEnd bytes rest
   setting_no_end bytes rest t =
-      let q = quoted_no_end t.behind t.written rest (values t.written t.allowed) t.given in (
-        t.space ++ (name ++ q.0),
-        t.bytes_are ∙ ap (λ x. t.space ++ (name ++ x)) q.1 ∙ simp append_assoc,
-        all_append no_end t.space (name ++ q.0) (space_no_end t.space t.is_space) (all_append no_end name q.0 plain q.2),
+      let q = quoted_no_end t.after t.written rest (values t.written t.allowed) t.given in (
+        t.white ++ (name ++ q.0),
+        t.bytes_are ∙ ap (λ x. t.white ++ (name ++ x)) q.1 ∙ simp append_assoc,
+        all_append no_end t.white (name ++ q.0) (white_no_end t.white t.is_white) (all_append no_end name q.0 plain q.2),
       )
 
   optional_no_end : (bytes rest : List ℕ) → TakesOptional name Allows bytes rest → TakesNoEnd bytes rest
@@ -233,8 +233,8 @@ declaration_no_end bytes rest t =
     (λ v e. subst (AllAre no_end) (sym e) (each (codes "1.0") refl)) t.first t.second t.version in
     let third = optional_no_end (codes "encoding") (λ v. map to_ascii_uppercase v ≡ codes "UTF-8") (each (codes "encoding") refl)
     (λ v e. raised_no_end v (codes "UTF-8") e (each (codes "UTF-8") refl)) t.second t.third t.encoding in
-    let fourth = optional_no_end (codes "standalone") (λ v. (v ≡ codes "yes") ⊎ (v ≡ codes "no")) (each (codes "standalone") refl) yes_or_no t.third (t.space ++ (codes "?>" ++ rest)) t.standalone in
-    let last : TakesNoEnd (t.space ++ (codes "?>" ++ rest)) (0x3E ∷ rest) = (t.space ++ codes "?", sym (append_assoc t.space (codes "?") (0x3E ∷ rest)), all_append no_end t.space (codes "?") (space_no_end t.space t.is_space) (refl, tt)) in
+    let fourth = optional_no_end (codes "standalone") (λ v. (v ≡ codes "yes") ⊎ (v ≡ codes "no")) (each (codes "standalone") refl) yes_or_no t.third (t.white ++ (codes "?>" ++ rest)) t.standalone in
+    let last : TakesNoEnd (t.white ++ (codes "?>" ++ rest)) (0x3E ∷ rest) = (t.white ++ codes "?", sym (append_assoc t.white (codes "?") (0x3E ∷ rest)), all_append no_end t.white (codes "?") (white_no_end t.white t.is_white) (refl, tt)) in
     joined_no_end bytes t.first _ first (joined_no_end t.first t.second _ second (joined_no_end t.second t.third _ third (joined_no_end t.third _ _ fourth last)))
   where
     yes_or_no : (v : List ℕ) → (v ≡ codes "yes") ⊎ (v ≡ codes "no") → AllAre no_end v
@@ -272,14 +272,14 @@ kind_of (Start tag) = 4
 kind_of (Empty tag) = 4
 kind_of (End name) = 3
 kind_of (Section text) = 6
-kind_of (Text blank text) = 1
+kind_of (Characters blank text) = 1
 
 name_kind : (name r : List ℕ) → name ≢ [] → AllAre is_name_byte name → second_kind (name ++ r) ≡ 4
 name_kind [] r some f = absurd (some refl)
 name_kind (b ∷ bs) r some f = rw (no_name_byte b 0x3F refl f.0, no_name_byte b 0x2F refl f.0, no_name_byte b 0x21 refl f.0) refl
 
 tag_kind : (bytes : List ℕ) (tag : Tag) (end : List ℕ) → TakesTag bytes tag end → kind_at bytes ≡ 4
-tag_kind bytes tag end t = ap kind_at t.bytes_are ∙ name_kind (name_bytes tag.name) t.behind (name_is_some tag.name t.is_name) (name_are_bytes tag.name t.is_name)
+tag_kind bytes tag end t = ap kind_at t.bytes_are ∙ name_kind (name_bytes tag.name) t.after (name_is_some tag.name t.is_name) (name_are_bytes tag.name t.is_name)
 
 text_kind : (own r : List ℕ) → own ≢ [] → AllAre (λ b. not (b == 0x3C)) own → kind_at (own ++ r) ≡ 1
 text_kind [] r some f = absurd (some refl)
@@ -292,7 +292,7 @@ kind_is bytes (Start tag) rest t = tag_kind bytes tag _ t
 kind_is bytes (Empty tag) rest t = tag_kind bytes tag _ t
 kind_is bytes (End name) rest t = ap kind_at t.bytes_are
 kind_is bytes (Section text) rest t = ap kind_at t.1.bytes_are
-kind_is bytes (Text blank text) rest t = ap kind_at t.bytes_are ∙ text_kind t.own rest t.some t.no_tag
+kind_is bytes (Characters blank text) rest t = ap kind_at t.bytes_are ∙ text_kind t.own rest t.some t.no_tag
 
 -- one token of each kind
 
@@ -312,11 +312,11 @@ one_section bytes t u r s l m =
 
 one_end : (bytes : List ℕ) (q u : Qualified) (r s : List ℕ) → TakesEnd bytes q r → TakesEnd bytes u s → (q ≡ u) × (r ≡ s)
 one_end bytes q u r s l m =
-    let e : codes "</" ++ (name_bytes q ++ (l.space ++ (codes ">" ++ r))) ≡ codes "</" ++ (name_bytes u ++ (m.space ++ (codes ">" ++ s))) = sym l.bytes_are ∙ m.bytes_are in
-    let inside : name_bytes q ++ (l.space ++ (codes ">" ++ r)) ≡ name_bytes u ++ (m.space ++ (codes ">" ++ s)) = cc in
-    let first = name_cut q u (l.space ++ (codes ">" ++ r)) (m.space ++ (codes ">" ++ s)) l.is_name m.is_name
-    (name_stops_at_space l.space (codes ">" ++ r) l.is_space refl) (name_stops_at_space m.space (codes ">" ++ s) m.is_space refl) inside in
-    let second = cut is_space l.space m.space (codes ">" ++ r) (codes ">" ++ s) l.is_space m.is_space refl refl first.1 in
+    let e : codes "</" ++ (name_bytes q ++ (l.white ++ (codes ">" ++ r))) ≡ codes "</" ++ (name_bytes u ++ (m.white ++ (codes ">" ++ s))) = sym l.bytes_are ∙ m.bytes_are in
+    let inside : name_bytes q ++ (l.white ++ (codes ">" ++ r)) ≡ name_bytes u ++ (m.white ++ (codes ">" ++ s)) = cc in
+    let first = name_cut q u (l.white ++ (codes ">" ++ r)) (m.white ++ (codes ">" ++ s)) l.is_name m.is_name
+    (name_stops_at_white l.white (codes ">" ++ r) l.is_white refl) (name_stops_at_white m.white (codes ">" ++ s) m.is_white refl) inside in
+    let second = cut is_white l.white m.white (codes ">" ++ r) (codes ">" ++ s) l.is_white m.is_white refl refl first.1 in
     let end : codes ">" ++ r ≡ codes ">" ++ s = second.1 in
     (first.0, cc)
 
@@ -324,10 +324,10 @@ pub text_stops : (rest : List ℕ) → EndsText rest → Stops (λ b. not (b == 
 text_stops [] e = tt
 text_stops (b ∷ bs) e = subst (λ (n : ℕ). not (n == 0x3C) ≡ false) (sym e) refl
 
-one_text : (bytes : List ℕ) (a b : Bool) (t u r s : List ℕ) → TakesText bytes a t r → TakesText bytes b u s → (Text a t ≡ Text b u) × (r ≡ s)
+one_text : (bytes : List ℕ) (a b : Bool) (t u r s : List ℕ) → TakesText bytes a t r → TakesText bytes b u s → (Characters a t ≡ Characters b u) × (r ≡ s)
 one_text bytes a b t u r s l m =
     let both = cut (λ b. not (b == 0x3C)) l.own m.own r s l.no_tag m.no_tag (text_stops r l.ends) (text_stops s m.ends) (sym l.bytes_are ∙ m.bytes_are) in
-    let blank : a ≡ b = l.blank_is ∙ ap (list_all is_space) both.0 ∙ sym m.blank_is in
+    let blank : a ≡ b = l.blank_is ∙ ap (list_all is_white) both.0 ∙ sym m.blank_is in
     let text : t ≡ u = one_expansion text_part m.own t u (subst (λ (x : List ℕ). IsText x t) both.0 l.means) m.means in
     (cc, both.1)
 
@@ -358,7 +358,7 @@ one_token bytes (Empty a) (Start b) r s l m =
     absurd (omega arith)
 one_token bytes (End q) (End u) r s l m = let both = one_end bytes q u r s l m in (ap End both.0, both.1)
 one_token bytes (Section t) (Section u) r s l m = let both = one_section bytes t u r s l m in (ap Section both.0, both.1)
-one_token bytes (Text a t) (Text b u) r s l m = one_text bytes a b t u r s l m
+one_token bytes (Characters a t) (Characters b u) r s l m = one_text bytes a b t u r s l m
 one_token bytes t u r s l m = let wrong = other_kinds bytes t u r s l m in absurd (omega arith)
 
 pub no_token : (end : List ℕ) (t : Token) (rest : List ℕ) → end ≡ [] → TakesToken end t rest → ⊥
@@ -371,4 +371,4 @@ no_token end t rest none l = some_kind t (sym (ap kind_at none) ∙ kind_is end 
     some_kind (Empty tag) e = omega arith
     some_kind (End name) e = omega arith
     some_kind (Section text) e = omega arith
-    some_kind (Text blank text) e = omega arith
+    some_kind (Characters blank text) e = omega arith

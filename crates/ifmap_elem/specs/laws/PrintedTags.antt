@@ -14,7 +14,7 @@ use Rattle.ifmap_elem.specs.declared.elements.Attribute.{Attribute}
 use Rattle.ifmap_elem.specs.declared.tokens.Assignment.{Assignment}
 use Rattle.ifmap_elem.specs.declared.tokens.Qualified.{Qualified}
 use Rattle.ifmap_elem.specs.declared.tokens.Tag.{Tag}
-use Rattle.ifmap_elem.specs.Chars.{AllAre, IsCharacters, is_space}
+use Rattle.ifmap_elem.specs.Chars.{AllAre, IsCharacters, is_white}
 use Rattle.ifmap_elem.specs.Names.{IsNamePart, IsQualified, is_name_start, is_name_character, name_bytes, prefixed}
 use Rattle.ifmap_elem.specs.Scopes.{Binding, Scope, AllDiffer, bound, binding_of, bindings, plain_assignments, scope_within, attribute_space, IsBinding, AreAttributes, NamesElement}
 use Rattle.ifmap_elem.specs.Tokens.{TakesAssignment, TakesTag, TakesEnd, TakesText, EndsText}
@@ -81,16 +81,16 @@ xmlns_part = ascii_part 0x78 (codes "mlns") refl (all_of_test is_name_character 
 assignment_taken : (q : Qualified) (value rest : List ℕ) → IsQualified q → IsCharacters value
     → TakesAssignment ((codes " " ++ (name_bytes q ++ (codes "=\"" ++ (value_bytes value ++ codes "\"")))) ++ rest) (record { name = q; value = value }) rest
 assignment_taken q value rest i f = record {
-  space = codes " ";
-  behind = codes "=\"" ++ (value_bytes value ++ (codes "\"" ++ rest));
+  white = codes " ";
+  after = codes "=\"" ++ (value_bytes value ++ (codes "\"" ++ rest));
   written = value_bytes value;
   bytes_are =
       ap (λ l. codes " " ++ l)
       (append_assoc (name_bytes q) (codes "=\"" ++ (value_bytes value ++ codes "\"")) rest ∙ ap (λ l. name_bytes q ++ (codes "=\"" ++ l)) (append_assoc (value_bytes value) (codes "\"") rest));
-  is_space = (refl, tt);
-  some_space = λ e. cc;
+  is_white = (refl, tt);
+  some_white = λ e. cc;
   is_name = i;
-  given = record { before = []; after = []; quote = 0x22; bytes_are = refl; space_before = tt; space_after = tt; is_quote = refl; unquoted = value_no_quote value };
+  given = record { before = []; after = []; quote = 0x22; bytes_are = refl; white_before = tt; white_after = tt; is_quote = refl; unquoted = value_no_quote value };
   characters = value_characters value f;
   no_tag = value_no_tag value;
   means = value_means value;
@@ -125,8 +125,8 @@ pub tag_taken : (prefixes declared : Rows) (scope : Scope) (name : Name) (attrib
     → AllByRecursion FitRow declared → AllByRecursion (FitsIn prefixes scope) attributes
     → TakesTag (codes "<" ++ (printed_name prefixes name ++ (flat_map declaration_bytes declared ++ (flat_map (attribute_bytes prefixes) attributes ++ end)))) (tag_of prefixes declared name attributes) end
 tag_taken prefixes declared scope name attributes end f r rows fits = record {
-  behind = flat_map declaration_bytes declared ++ (flat_map (attribute_bytes prefixes) attributes ++ end);
-  space = [];
+  after = flat_map declaration_bytes declared ++ (flat_map (attribute_bytes prefixes) attributes ++ end);
+  white = [];
   bytes_are = ap (λ l. codes "<" ++ (l ++ (flat_map declaration_bytes declared ++ (flat_map (attribute_bytes prefixes) attributes ++ end)))) (r.printed name.local);
   is_name = is_qualified prefixes scope name f r;
   assigned =
@@ -134,19 +134,19 @@ tag_taken prefixes declared scope name attributes end f r rows fits = record {
       (flat_map (attribute_bytes prefixes) attributes ++ end) (map (attribute_assignment prefixes) attributes) end
       (all_taken declaration_bytes declaration_assignment FitRow declaration_taken declared (flat_map (attribute_bytes prefixes) attributes ++ end) rows)
       (all_taken (attribute_bytes prefixes) (attribute_assignment prefixes) (FitsIn prefixes scope) (attribute_taken prefixes scope) attributes end fits);
-  is_space = tt;
+  is_white = tt;
 }
 
 pub end_taken : (prefixes : Rows) (scope : Scope) (name : Name) (rest : List ℕ) → IsFitName name → Resolves prefixes scope name.space
     → TakesEnd (codes "</" ++ (printed_name prefixes name ++ (codes ">" ++ rest))) (qualified prefixes name) rest
 end_taken prefixes scope name rest f r = record {
-  space = [];
+  white = [];
   bytes_are = ap (λ l. codes "</" ++ (l ++ (codes ">" ++ rest))) (r.printed name.local);
   is_name = is_qualified prefixes scope name f r;
-  is_space = tt;
+  is_white = tt;
 }
 
-pub text_taken : (text rest : List ℕ) → text ≢ [] → IsCharacters text → EndsText rest → TakesText (text_bytes text ++ rest) (list_all is_space (text_bytes text)) text rest
+pub text_taken : (text rest : List ℕ) → text ≢ [] → IsCharacters text → EndsText rest → TakesText (text_bytes text ++ rest) (list_all is_white (text_bytes text)) text rest
 text_taken text rest some f ends = record {
   own = text_bytes text;
   bytes_are = refl;

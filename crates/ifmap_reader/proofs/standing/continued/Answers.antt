@@ -19,5 +19,5 @@ returns-in-End c = subst (λ (t : Token). Steps c.args.depth (Among (reverse c.a
 pub returns-in-Section : goal.returns-in-Section
 returns-in-Section c = c.worded.ensures c.args.depth c.args.token (inr (refl, c.in-Section.is))
 
-pub returns-in-Text : goal.returns-in-Text
-returns-in-Text c = c.worded-in-Text.ensures c.args.depth c.args.token (inl c.in-Text.is)
+pub returns-in-Characters : goal.returns-in-Characters
+returns-in-Characters c = c.worded-in-Characters.ensures c.args.depth c.args.token (inl c.in-Characters.is)

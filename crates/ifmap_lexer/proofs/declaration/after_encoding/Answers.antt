@@ -2,7 +2,7 @@ use Rattle.std.proofs.Common.{codes, refl, inl, inr}
 use Rattle.ifmap_lexer.specs.Settings.{IsEncoding}
 use Rattle.ifmap_lexer.proofs.Basics.{is_not}
 use Rattle.ifmap_lexer.proofs.SettingLaws.{taken_with, not_allowed, not_set, encoding_from, from_encoding}
-use Rattle.ifmap_lexer.proofs.declaration.behind_encoding.Goals as goal
+use Rattle.ifmap_lexer.proofs.declaration.after_encoding.Goals as goal
 
 pub returns-in_default : goal.returns-in_default
 returns-in_default c = inr (refl, not_set (codes "encoding") refl IsEncoding c.args.bytes.now c.in_default.ensures.none)

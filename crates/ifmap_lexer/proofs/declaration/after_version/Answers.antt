@@ -2,7 +2,7 @@ use Rattle.std.proofs.Common.{codes, refl, sym, ◌∙◌}
 use Rattle.std.proofs.lemmas.Slice.Eq.{bytes_eq-Decides}
 use Rattle.ifmap_lexer.specs.Settings.{IsVersion}
 use Rattle.ifmap_lexer.proofs.SettingLaws.{not_allowed, not_set, is_false}
-use Rattle.ifmap_lexer.proofs.declaration.behind_version.Goals as goal
+use Rattle.ifmap_lexer.proofs.declaration.after_version.Goals as goal
 
 pub returns-in_default-clause-none : goal.returns-in_default-clause-none
 returns-in_default-clause-none c = not_set (codes "version") refl IsVersion c.args.bytes.now c.in_default.ensures.none

@@ -2,7 +2,7 @@ use Rattle.std.proofs.Common.{codes, refl, inl, inr}
 use Rattle.ifmap_lexer.specs.Settings.{IsYesOrNo}
 use Rattle.ifmap_lexer.proofs.Basics.{is_not}
 use Rattle.ifmap_lexer.proofs.SettingLaws.{taken_with, not_allowed, not_set}
-use Rattle.ifmap_lexer.proofs.declaration.behind_standalone.Goals as goal
+use Rattle.ifmap_lexer.proofs.declaration.after_standalone.Goals as goal
 
 pub returns-in_default : goal.returns-in_default
 returns-in_default c = inr (refl, not_set (codes "standalone") refl IsYesOrNo c.args.bytes.now c.in_default.ensures.none)
