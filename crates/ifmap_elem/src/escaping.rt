@@ -1,7 +1,7 @@
 //! Text and the values of attributes as they stand in canonical bytes.
 ghost use Rattle.std.specs.Prelude.{◌≡◌, ◌++◌, ◌+◌, ◌∷◌, [], ◌≤◌, length, OnOk, MatchOption};
 ghost use Rattle.std.specs.Bool.{OnTrue};
-ghost use Rattle.ifmap_elem.specs.Escapes.{escape_byte, escape_bytes, ArePlain, LacksByte};
+ghost use Rattle.ifmap_elem.specs.Escapes.{escape_byte, escape_bytes, value_byte, ArePlain, LacksByte};
 
 use std::alloc::AllocError as NoMemory;
 use std::simd::prelude::*;
@@ -152,9 +152,19 @@ fn lacks(bytes: &[u8], at: usize, byte: u8) -> bool
     block.simd_eq(u8x16::splat(byte)).to_bitmask() == 0
 }
 
+/// The reference that a byte of an attribute's value is written as in canonical bytes; `None` where it
+/// stands for itself.
+pub fn value_reference(byte: u8) -> Option<&'static [u8]>
+    ensures { MatchOption result (value_byte byte ≡ byte ∷ [])
+        (λ reference. reference.now ≡ value_byte byte) }
+{
+    escape(Place::Value, byte)
+}
+
 // The reference that a byte is written as, where it does not stand for itself.
 fn escape(place: Place, byte: u8) -> Option<&'static [u8]>
-    ensures { MatchOption result (escape_byte place byte ≡ byte ∷ []) (λ reference. reference.now ≡ escape_byte place byte) }
+    ensures { MatchOption result (escape_byte place byte ≡ byte ∷ [])
+        (λ reference. reference.now ≡ escape_byte place byte) }
 {
     match (place, byte) {
         (_, b'&') => Some(b"&amp;"),
