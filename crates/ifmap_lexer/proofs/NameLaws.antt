@@ -1,19 +1,22 @@
 -- Names that are read are those that stand there.
-use Rattle.std.proofs.Common.{◌≡◌, ◌≢◌, ℕ, ◌≤◌, Bool, true, false, List, [], ◌∷◌, ◌++◌, length, refl, ap, sym, ◌∙◌, subst, arith, inl, inr}
-use Rattle.std.specs.Prelude.{encode_utf8, encode_utf8_all, IsTrue, ◌↔◌, IsUtf8}
+use Rattle.std.proofs.Common.{◌≡◌, ◌≢◌, ℕ, ◌<◌, ◌≤◌, Bool, true, false, List, [], ◌∷◌, ◌++◌, length, refl, ap, sym, ◌∙◌, subst, arith, inl, inr}
+use Rattle.std.specs.Prelude.{encode_utf8, encode_utf8_all, IsTrue, ◌↔◌, ◌&&◌, IsUtf8, nat_lt}
 use Rattle.std.specs.Str.{chars, all_scalars}
+use Rattle.std.specs.Bool.{OnTrue}
 use Rattle.std.specs.List.{list_all}
 use Rattle.std.proofs.Math.Utf8.{scalar, low_scalar}
-use Rattle.std.proofs.lemmas.Bool.{cases_lt, and_from}
+use Rattle.std.proofs.lemmas.Bool.{cases_lt, and_from, and_parts}
 use Rattle.std.proofs.lemmas.Bool.Decides.{nat_tests}
-use Rattle.std.proofs.lemmas.Str.{encode_same, encodes-chars, chars_from_encodes, IsUtf8-past_char}
+use Rattle.std.proofs.lemmas.Str.{encode_ascii, encode_same, encodes-chars, chars_from_encodes, IsUtf8-past_char}
 use Rattle.ifmap_elem.specs.Chars.{AllAre}
 use Rattle.ifmap_elem.specs.declared.tokens.Qualified.{Qualified}
 use Rattle.ifmap_elem.specs.Names.{IsNamePart, IsQualified, is_name_start, is_name_character, name_bytes, prefixed}
-use Rattle.ifmap_elem.proofs.Cuts.{cut, all_weaker, is_other}
-use Rattle.ifmap_elem.proofs.NameBytes.{is_part_byte, name_are_bytes, part_bytes, part_is_some}
+use Rattle.ifmap_lemmas.specs.Cuts.{cut}
+use Rattle.ifmap_lemmas.specs.Members.{all_weaker}
+use Rattle.ifmap_lemmas.specs.Numbers.{is_other}
+use Rattle.ifmap_elem.specs.laws.NameBytes.{is_part_byte, name_are_bytes, part_bytes, part_is_some}
 use Rattle.ifmap_lexer.specs.Cutting.{Cuts, CutsAt, is_but, Stops}
-use Rattle.ifmap_lexer.specs.Names.{is_name_byte}
+use Rattle.ifmap_lexer.specs.Names.{is_name_byte, stands_in_ascii, starts_in_ascii}
 use Rattle.ifmap_lexer.proofs.Basics.{each, of_each, all_back}
 
 high_start : (c : ℕ) → 55296 ≤ c → is_name_start c ≡ true → scalar c ≡ true
@@ -34,6 +37,30 @@ inner_are_scalars (c ∷ cs) f = and_from (scalar c) (all_scalars cs) (inner_is_
 
 pub part_is_utf8 : (bytes : List ℕ) → IsNamePart bytes → IsUtf8 bytes
 part_is_utf8 bytes p = (p.first ∷ p.others, (and_from (scalar p.first) (all_scalars p.others) (start_is_scalar p.first p.begins) (inner_are_scalars p.others p.goes_on), p.bytes_are))
+
+-- parts of ASCII
+
+low : (b : ℕ) → nat_lt b 128 ≡ true → b < 128
+low b h = grind (arith, nat_tests)
+
+ascii_all : (bs : List ℕ) → list_all stands_in_ascii bs ≡ true → AllAre is_name_character bs × (encode_utf8_all bs ≡ bs)
+ascii_all [] h = (tt, refl)
+ascii_all (b ∷ bs) h =
+    let parts = and_parts (stands_in_ascii b) (list_all stands_in_ascii bs) h in
+    let both = and_parts (nat_lt b 128) (is_name_character b) parts.0 in
+    let others = ascii_all bs parts.1 in
+    ((both.1, others.0), (λ i. encode_ascii b (low b both.0) i ++ others.1 i))
+
+ascii_part : (b : ℕ) (bs : List ℕ) → (starts_in_ascii b && list_all stands_in_ascii bs) ≡ true → IsNamePart (b ∷ bs)
+ascii_part b bs h =
+    let parts = and_parts (starts_in_ascii b) (list_all stands_in_ascii bs) h in
+    let both = and_parts (nat_lt b 128) (is_name_start b) parts.0 in
+    let others = ascii_all bs parts.1 in
+    record { first = b; others = bs; bytes_are = (λ i. encode_ascii b (low b both.0) i ++ others.1 i); begins = both.1; goes_on = others.0 }
+
+pub ascii_tells : (bytes : List ℕ) (b : ℕ) (bs : List ℕ) (r : Bool) → bytes ≡ b ∷ bs → r ≡ (starts_in_ascii b && list_all stands_in_ascii bs) → OnTrue r (IsNamePart bytes)
+ascii_tells bytes b bs true is told = subst IsNamePart (sym is) (ascii_part b bs (sym told))
+ascii_tells bytes b bs false is told = tt
 
 -- the first character and the others
 
@@ -86,17 +113,17 @@ unprefixed_found bytes l q e f = (record { prefix_is = inl e; local_is = subst I
 local_bytes : (q : Qualified) → q.prefix ≡ [] → name_bytes q ≡ q.local
 local_bytes q e = ap (λ x. prefixed x q.local) e
 
-pub prefixed_parts : (bytes front behind : List ℕ) → CutsAt 58 bytes front behind → (q : Qualified) → IsQualified q → name_bytes q ≡ bytes → IsNamePart front × IsNamePart behind
-prefixed_parts bytes front behind c q i e =
+pub prefixed_parts : (bytes front after : List ℕ) → CutsAt 58 bytes front after → (q : Qualified) → IsQualified q → name_bytes q ≡ bytes → IsNamePart front × IsNamePart after
+prefixed_parts bytes front after c q i e =
     elim i.prefix_is [
       | inl none ↦
-          let all : AllAre is_part_byte (front ++ (58 ∷ behind)) = subst (AllAre is_part_byte) (sym (local_bytes q none) ∙ e ∙ c.bytes_are) (part_bytes q.local i.local_is) in
-          let wrong : false ≡ true = (all_back is_part_byte front (58 ∷ behind) all).0 in cc
+          let all : AllAre is_part_byte (front ++ (58 ∷ after)) = subst (AllAre is_part_byte) (sym (local_bytes q none) ∙ e ∙ c.bytes_are) (part_bytes q.local i.local_is) in
+          let wrong : false ≡ true = (all_back is_part_byte front (58 ∷ after) all).0 in cc
       | inr part ↦
-          let both = cut (is_but 58) q.prefix front (58 ∷ q.local) (58 ∷ behind) (all_weaker is_part_byte (is_but 58) no_colon q.prefix (part_bytes q.prefix part)) c.passes refl refl
+          let both = cut (is_but 58) q.prefix front (58 ∷ q.local) (58 ∷ after) (all_weaker is_part_byte (is_but 58) no_colon q.prefix (part_bytes q.prefix part)) c.passes refl refl
           (sym (prefixed_some q.prefix q.local (part_is_some q.prefix part)) ∙ e ∙ c.bytes_are) in
-          let tail : 58 ∷ q.local ≡ 58 ∷ behind = both.1 in
-          let local : q.local ≡ behind = cc in
+          let tail : 58 ∷ q.local ≡ 58 ∷ after = both.1 in
+          let local : q.local ≡ after = cc in
           (subst IsNamePart both.0 part, subst IsNamePart local i.local_is)
     ]
 
@@ -118,7 +145,7 @@ pub name_found : (bytes run rest : List ℕ) (name : Qualified) → Cuts is_name
 name_found bytes run rest name c f = (f.0, c.bytes_are ∙ ap (λ x. x ++ rest) (sym f.1), c.stops)
 
 pub name_run : (bytes run rest : List ℕ) → Cuts is_name_byte bytes run rest
-    → ((name : Qualified) × (after : List ℕ) × IsQualified name × (bytes ≡ name_bytes name ++ after) × Stops is_name_byte after) → (name : Qualified) × IsQualified name × (name_bytes name ≡ run)
+    → ((name : Qualified) × (later : List ℕ) × IsQualified name × (bytes ≡ name_bytes name ++ later) × Stops is_name_byte later) → (name : Qualified) × IsQualified name × (name_bytes name ≡ run)
 name_run bytes run rest c s =
     let both = cut is_name_byte run (name_bytes s.0) rest s.1 c.passes (name_are_bytes s.0 s.2) c.stops s.4 (sym c.bytes_are ∙ s.3) in
     (s.0, s.2, sym both.0)

@@ -4,7 +4,9 @@ ghost use Rattle.ifmap_elem.specs.Chars.{AllAre};
 ghost use Rattle.ifmap_elem.specs.Values.{Expands, Plain, as_space, line_ends};
 ghost use Rattle.ifmap_lexer.specs.Cutting.{is_but};
 ghost use Rattle.ifmap_lexer.specs.Refusing.{Refuses};
-ghost use Rattle.ifmap_lexer.specs.Runs.{break_in, line_in, part_in};
+ghost use Rattle.std.specs.Bool.{OnTrue};
+ghost use Rattle.ifmap_lexer.specs.Runs.{break_in, line_in, part_in, stands_for_itself};
+ghost use Rattle.ifmap_lexer.specs.declared.values.Place.TheVariants.{AttributeValue, CharacterData};
 
 use crate::errors::LexError;
 use crate::references::character_named;
@@ -16,28 +18,75 @@ use std::alloc::{AllocError, Global};
 #[derive(Clone, Copy)]
 pub(crate) enum Place {
     /// Between tags.
-    Content,
+    CharacterData,
     /// In the value of an attribute.
-    Value,
+    AttributeValue,
 }
 
 /// What the written characters mean.
+#[tactic(auto, using(crate::proofs::PlainLaws::plain_means))]
 pub(crate) fn meaning(alloc: Global, place: Place, written: &str) -> Result<Text, LexError>
+    ensures found { IfOk result (λ text. Expands (part_in place) written.now text) }
+    ensures refused { IfErr result (λ e. Refuses e ((text : List ℕ) × Expands (part_in place) written.now text)) }
+{
+    if are_plain(place, written.as_bytes()) {
+        return Ok(Text(String::from_str(alloc, written)?));
+    }
+    expansion_of(alloc, place, written)
+}
+
+/// Whether the bytes mean themselves, as those of most texts and values do.
+fn are_plain(place: Place, bytes: &[u8]) -> bool
+    ensures { OnTrue result (AllAre (stands_for_itself place) bytes.now) }
+{
+    match place {
+        Place::CharacterData => are_plain_in_text(bytes),
+        Place::AttributeValue => are_plain_in_value(bytes),
+    }
+}
+
+// Without a branch for each byte it becomes vector code.
+#[tactic(auto, using(crate::proofs::CharacterLaws::all_more))]
+fn are_plain_in_text(bytes: &[u8]) -> bool
+    ensures { OnTrue result (AllAre (stands_for_itself CharacterData) bytes.now) }
+{
+    let mut marked = false;
+    for byte in bytes {
+        let b = *byte;
+        marked |= (b == b'&') | (b == b'\r');
+    }
+    !marked
+}
+
+#[tactic(auto, using(crate::proofs::CharacterLaws::all_more))]
+fn are_plain_in_value(bytes: &[u8]) -> bool
+    ensures { OnTrue result (AllAre (stands_for_itself AttributeValue) bytes.now) }
+{
+    let mut marked = false;
+    for byte in bytes {
+        let b = *byte;
+        marked |= (b == b'&') | (b == b'\r') | (b == b'\n') | (b == b'\t');
+    }
+    !marked
+}
+
+/// What the written characters mean, with their references and line ends replaced.
+fn expansion_of(alloc: Global, place: Place, written: &str) -> Result<Text, LexError>
     ensures found { IfOk result (λ text. Expands (part_in place) written.now text) }
     ensures refused { IfErr result (λ e. Refuses e ((text : List ℕ) × Expands (part_in place) written.now text)) }
 {
     let mut text = String::with_capacity(alloc, written.len())?;
     let mut rest = written;
-    while let Some((run, behind)) = split_char('&', rest) {
+    while let Some((run, after)) = split_char('&', rest) {
         push_run(place, run, &mut text)?;
-        let Some((name, after)) = split_char(';', behind) else {
+        let Some((name, next)) = split_char(';', after) else {
             return Err(LexError::Malformed);
         };
         let Some(character) = character_named(name.as_bytes()) else {
             return Err(LexError::Malformed);
         };
         text.push(character)?;
-        rest = after;
+        rest = next;
     }
     push_run(place, rest, &mut text)?;
     Ok(Text(text))
@@ -48,7 +97,7 @@ pub(crate) fn plain_meaning(alloc: Global, written: &str) -> Result<Text, AllocE
     ensures { IfOk result (λ text. text ≡ line_ends written.now) }
 {
     let mut text = String::with_capacity(alloc, written.len())?;
-    push_run(Place::Content, written, &mut text)?;
+    push_run(Place::CharacterData, written, &mut text)?;
     Ok(Text(text))
 }
 
@@ -57,16 +106,16 @@ fn push_run(place: Place, run: &str, text: &mut String) -> Result<(), AllocError
     ensures { OnOk result (string_bytes text.new ≡ string_bytes text.old ++ part_in place (Plain run.now)) }
 {
     let mut rest = run;
-    while let Some((line, behind)) = split_char('\r', rest) {
+    while let Some((line, after)) = split_char('\r', rest) {
         push_line(place, line, text)?;
         push_break(place, text)?;
-        rest = behind_newline(behind);
+        rest = after_newline(after);
     }
     push_line(place, rest, text)
 }
 
-/// What is behind a carriage return and the line feed that belongs to it.
-fn behind_newline(text: &str) -> &str
+/// What is after a carriage return and the line feed that belongs to it.
+fn after_newline(text: &str) -> &str
     ensures line { line_ends (0xD ∷ text.now) ≡ 0xA ∷ line_ends result.now }
     ensures shorter { length result.now ≤ length text.now }
 {
@@ -80,8 +129,8 @@ fn push_break(place: Place, text: &mut String) -> Result<(), AllocError>
     ensures { OnOk result (string_bytes text.new ≡ string_bytes text.old ++ (break_in place ∷ [])) }
 {
     match place {
-        Place::Content => text.push('\n'),
-        Place::Value => text.push(' '),
+        Place::CharacterData => text.push('\n'),
+        Place::AttributeValue => text.push(' '),
     }
 }
 
@@ -89,8 +138,8 @@ fn push_line(place: Place, line: &str, text: &mut String) -> Result<(), AllocErr
     ensures { OnOk result (string_bytes text.new ≡ string_bytes text.old ++ line_in place line.now) }
 {
     match place {
-        Place::Content => text.push_str(line),
-        Place::Value => push_spaced(line, text),
+        Place::CharacterData => text.push_str(line),
+        Place::AttributeValue => push_spaced(line, text),
     }
 }
 
@@ -99,10 +148,10 @@ fn push_spaced(line: &str, text: &mut String) -> Result<(), AllocError>
     ensures { OnOk result (string_bytes text.new ≡ string_bytes text.old ++ map as_space line.now) }
 {
     let mut rest = line;
-    while let Some((front, behind)) = split_char('\n', rest) {
+    while let Some((front, after)) = split_char('\n', rest) {
         push_untabbed(front, text)?;
         text.push(' ')?;
-        rest = behind;
+        rest = after;
     }
     push_untabbed(rest, text)
 }
@@ -113,10 +162,10 @@ fn push_untabbed(line: &str, text: &mut String) -> Result<(), AllocError>
     ensures { OnOk result (string_bytes text.new ≡ string_bytes text.old ++ map as_space line.now) }
 {
     let mut rest = line;
-    while let Some((front, behind)) = split_char('\t', rest) {
+    while let Some((front, after)) = split_char('\t', rest) {
         text.push_str(front)?;
         text.push(' ')?;
-        rest = behind;
+        rest = after;
     }
     text.push_str(rest)
 }

@@ -1,0 +1,249 @@
+//! What no clause says.
+use ifmap_io::{
+    Clock, Door, Failed, Link, MemoryClock, MemoryDoor, MemoryLink, MemorySink, MemorySource,
+    Moment, Sink, Source, StdSink, StdSource, SystemClock, TcpDoor, TcpLink,
+};
+use std::collections::VecDeque;
+use std::fs::File;
+use std::io::Write;
+use std::net::{Shutdown, TcpListener, TcpStream};
+use std::test::Fail;
+use std::thread;
+use std::thread::Threads;
+
+// As `date -u` prints them.
+#[test]
+fn moments_print_as_their_dates(rt: HostRuntime) -> Result<(), Fail> {
+    let dates: [(u64, &str); 15] = [
+        (0, "1970-01-01T00:00:00Z"),
+        (951782399, "2000-02-28T23:59:59Z"),
+        (951782400, "2000-02-29T00:00:00Z"),
+        (951868799, "2000-02-29T23:59:59Z"),
+        (951868800, "2000-03-01T00:00:00Z"),
+        (1000000000, "2001-09-09T01:46:40Z"),
+        (1614556799, "2021-02-28T23:59:59Z"),
+        (1709164800, "2024-02-29T00:00:00Z"),
+        (4102444799, "2099-12-31T23:59:59Z"),
+        (4102444800, "2100-01-01T00:00:00Z"),
+        (4107542399, "2100-02-28T23:59:59Z"),
+        (4107542400, "2100-03-01T00:00:00Z"),
+        (13574563199, "2400-02-28T23:59:59Z"),
+        (13574563200, "2400-02-29T00:00:00Z"),
+        (253402300799, "9999-12-31T23:59:59Z"),
+    ];
+    for (seconds, text) in dates {
+        let moment = Moment::new(seconds).expect(&rt, "a moment");
+        assert_eq!(rt; moment.seconds(), seconds);
+        assert!(rt; moment.text().as_slice() == text.as_bytes(), "at {seconds}");
+    }
+    assert!(rt; Moment::new(253402300800).is_none());
+    Ok(())
+}
+
+#[test]
+fn a_listed_call_fails_and_takes_and_writes_nothing(rt: HostRuntime) -> Result<(), Fail> {
+    let alloc = rt.alloc();
+    let mut source = MemorySource::new(b"abcde".to_vec(alloc)?, [1].to_vec(alloc)?);
+    let mut room = [0; 3];
+    let mut answers = [Ok(0); 4];
+    for answer in answers.iter_mut() {
+        *answer = source.read(&mut room);
+    }
+    assert_eq!(rt; answers, [Ok(3), Err(Failed), Ok(2), Ok(0)]);
+    assert_eq!(rt; room, *b"dec");
+    let mut sink = MemorySink::new(b"a".to_vec(alloc)?, [1, 2].to_vec(alloc)?);
+    let answers = [
+        sink.write_all(b"bc"),
+        sink.flush(),
+        sink.write_all(b"d"),
+        sink.flush(),
+        sink.write_all(b"e"),
+    ];
+    assert_eq!(rt; answers, [Ok(()), Err(Failed), Err(Failed), Ok(()), Ok(())]);
+    assert!(rt; sink.held() == b"abce".as_slice());
+    Ok(())
+}
+
+fn link_of(rt: &HostRuntime, left: &[u8], fails: &[u64]) -> Result<MemoryLink, Fail> {
+    let alloc = rt.alloc();
+    Ok(MemoryLink::new(left.to_vec(alloc)?, Vec::new(alloc), fails.to_vec(alloc)?))
+}
+
+#[test]
+fn a_link_counts_its_reads_and_writes_together(rt: HostRuntime) -> Result<(), Fail> {
+    let mut link = link_of(&rt, b"abc", &[1, 2])?;
+    let mut room = [0; 2];
+    let first = link.read(&mut room);
+    let write = link.write_all(b"x");
+    let second = link.read(&mut room);
+    assert_eq!(rt; (first, write, second), (Ok(2), Err(Failed), Err(Failed)));
+    let writes = [link.write_all(b"y"), link.flush()];
+    assert_eq!(rt; writes, [Ok(()), Ok(())]);
+    assert_eq!(rt; link.read(&mut room), Ok(1));
+    assert!(rt; link.held() == b"y".as_slice());
+    Ok(())
+}
+
+// Writes what the link says back to it, until its end or a fault.
+fn echo<L: Link>(link: &mut L) {
+    for _ in 0..u64::MAX {
+        let mut room = [0; 4];
+        let Ok(count) = link.read(&mut room) else {
+            return;
+        };
+        if count == 0 || link.write_all(&room[..count]).is_err() {
+            return;
+        }
+    }
+}
+
+// Serves the door's links until none is left, or the door fails.
+fn serve<D: Door, C: Clock>(door: &mut D, clock: &C) -> bool {
+    for _ in 0..u64::MAX {
+        match door.accept() {
+            Ok(Some(mut link)) => {
+                echo(&mut link);
+                door.ended(link);
+                clock.pause();
+            }
+            Ok(None) => return true,
+            Err(Failed) => return false,
+        }
+    }
+    false
+}
+
+#[test]
+fn a_door_hands_out_its_links_and_takes_them_back(rt: HostRuntime) -> Result<(), Fail> {
+    let alloc = rt.alloc();
+    let mut links = VecDeque::new(alloc);
+    links.push_back(link_of(&rt, b"first", &[])?)?;
+    links.push_back(link_of(&rt, b"second", &[])?)?;
+    let mut door = MemoryDoor::new(alloc, links, [1].to_vec(alloc)?)?;
+    let Some(moment) = Moment::new(5) else {
+        return Ok(());
+    };
+    let clock = MemoryClock::new(moment, 1, moment);
+    assert!(rt; !serve(&mut door, &clock));
+    assert_eq!(rt; door.back().len(), 1);
+    assert!(rt; serve(&mut door, &clock));
+    assert_eq!(rt; door.back().len(), 2);
+    assert!(rt; door.back()[0].held() == b"first".as_slice());
+    assert!(rt; door.back()[1].held() == b"second".as_slice());
+    door.ended(link_of(&rt, b"", &[])?);
+    assert_eq!(rt; door.back().len(), 2);
+    Ok(())
+}
+
+#[test]
+fn clocks_go_on(rt: HostRuntime) -> Result<(), Fail> {
+    let (Some(first), Some(last)) = (Moment::new(10), Moment::new(15)) else {
+        return Ok(());
+    };
+    let clock = MemoryClock::new(first, 2, last);
+    for seconds in [10, 12, 14, 15, 15] {
+        assert_eq!(rt; clock.now().seconds(), seconds);
+        clock.pause();
+    }
+    // The system's, after the year 2020.
+    let clock = SystemClock::new(&rt);
+    let before = clock.now();
+    clock.pause();
+    assert!(rt; before.seconds() > 1_577_836_800);
+    assert!(rt; before <= clock.now());
+    Ok(())
+}
+
+#[test]
+fn a_file_is_a_sink_and_then_a_source(rt: HostRuntime) -> Result<(), Fail> {
+    let mut sink = StdSink::new(File::create(&rt, "bytes")?);
+    assert_eq!(rt; sink.write_all(b"on disk"), Ok(()));
+    assert_eq!(rt; sink.flush(), Ok(()));
+    drop(sink);
+    let mut source = StdSource::new(File::open(&rt, "bytes")?);
+    let mut room = [0; 16];
+    assert_eq!(rt; source.read(&mut room), Ok(7));
+    assert!(rt; room[..7] == b"on disk"[..]);
+    assert_eq!(rt; source.read(&mut room), Ok(0));
+    // The file is open for reading alone.
+    let mut closed = StdSink::new(File::open(&rt, "bytes")?);
+    assert_eq!(rt; closed.write_all(b"no"), Err(Failed));
+    Ok(())
+}
+
+#[test]
+fn a_socket_is_a_link_of_a_door(rt: HostRuntime) -> Result<(), Fail> {
+    let listener = TcpListener::bind(&rt, "127.0.0.1:0")?;
+    let mut client = TcpLink::new(TcpStream::connect(&rt, listener.local_addr()?)?);
+    let mut door = TcpDoor::new(&listener);
+    let Ok(Some(mut server)) = door.accept() else {
+        panic!(rt; "no link");
+    };
+    let mut room = [0; 16];
+    assert_eq!(rt; client.write_all(b"ping"), Ok(()));
+    assert_eq!(rt; client.flush(), Ok(()));
+    assert_eq!(rt; server.read(&mut room), Ok(4));
+    assert!(rt; room[..4] == b"ping"[..]);
+    door.ended(server);
+    assert_eq!(rt; client.read(&mut room), Ok(0));
+    listener.set_nonblocking(true)?;
+    assert!(rt; door.accept().is_err());
+    Ok(())
+}
+
+// Serves each door in a thread of its own, over one clock.
+fn serve_all<R: Threads + Sync, D: Door + Send, C: Clock + Sync>(
+    rt: &R,
+    doors: &mut [D],
+    clock: &C,
+) {
+    let count = doors.len().max(1);
+    thread::for_each_mut(
+        rt,
+        doors,
+        count,
+        &|_, door| {
+            serve(door, clock);
+        },
+    );
+}
+
+#[test]
+fn doors_and_links_cross_threads(rt: HostRuntime) -> Result<(), Fail> {
+    let alloc = rt.alloc();
+    let mut doors = Vec::new(alloc);
+    for text in [b"one", b"two"] {
+        let mut links = VecDeque::new(alloc);
+        links.push_back(link_of(&rt, text, &[])?)?;
+        doors.push(MemoryDoor::new(alloc, links, Vec::new(alloc))?)?;
+    }
+    let (Some(first), Some(last)) = (Moment::new(0), Moment::new(9)) else {
+        return Ok(());
+    };
+    let clock = MemoryClock::new(first, 1, last);
+    serve_all(&rt, &mut doors, &clock);
+    assert_eq!(rt; clock.now().seconds(), 2);
+    for door in &doors {
+        assert_eq!(rt; door.back().len(), 1);
+        assert_eq!(rt; door.back()[0].held().len(), 3);
+    }
+    Ok(())
+}
+
+#[test]
+fn sockets_are_served_in_threads(rt: HostRuntime) -> Result<(), Fail> {
+    let listener = TcpListener::bind(&rt, "127.0.0.1:0")?;
+    let stream = TcpStream::connect(&rt, listener.local_addr()?)?;
+    let mut room = [0; 16];
+    (&stream).write_all(b"ping")?;
+    stream.shutdown(Shutdown::Write)?;
+    // So that a door fails, and ends its thread, where no connection waits.
+    listener.set_nonblocking(true)?;
+    let mut doors = [TcpDoor::new(&listener), TcpDoor::new(&listener)];
+    serve_all(&rt, &mut doors, &SystemClock::new(&rt));
+    let mut client = TcpLink::new(stream);
+    assert_eq!(rt; client.read(&mut room), Ok(4));
+    assert!(rt; room[..4] == b"ping"[..]);
+    assert_eq!(rt; client.read(&mut room), Ok(0));
+    Ok(())
+}
