@@ -1,4 +1,4 @@
--- The rows that a publish attaches, before they are attached.
+-- The attachments that a publish attaches, before they are attached.
 use Rattle.std.specs.Prelude.{Bool, List, [], ◌∷◌, flat_map, map}
 use Rattle.ifmap_core.specs.declared.publishing.Author.{Author}
 use Rattle.ifmap_core.specs.Apply.{Authorship, attachment_of}
@@ -14,16 +14,16 @@ abbrev pub authorship : Author → Authorship
 authorship author = record { client = author.client.now; serial = author.serial; moment = author.moment }
 
 -- one for each element
-abbrev pub rows_of_update : Authorship → Item → Bool → List Metadata → List Attachment
-rows_of_update by item forever elements = map (attachment_of by item forever) elements
+abbrev pub attachments_of_update : Authorship → Item → Bool → List Metadata → List Attachment
+attachments_of_update by item forever elements = map (attachment_of by item forever) elements
 
-abbrev pub rows_of_op : Authorship → PublishOp → List Attachment
-rows_of_op by (Update item elements forever) = rows_of_update by item forever elements
+abbrev pub attachments_of_op : Authorship → PublishOp → List Attachment
+attachments_of_op by (Update item elements forever) = attachments_of_update by item forever elements
 
-abbrev pub rows_of : Authorship → List PublishOp → List Attachment
-rows_of by ops = flat_map (rows_of_op by) ops
+abbrev pub attachments_of : Authorship → List PublishOp → List Attachment
+attachments_of by ops = flat_map (attachments_of_op by) ops
 
 -- all of them attached, from left to right
-abbrev pub attached_all : List Attachment → List Attachment → List Attachment
-attached_all graph [] = graph
-attached_all graph (row ∷ rows) = attached_all (attach graph row) rows
+abbrev pub attach_all : List Attachment → List Attachment → List Attachment
+attach_all graph [] = graph
+attach_all graph (attachment ∷ attachments) = attach_all (attach graph attachment) attachments

@@ -1,6 +1,6 @@
 use Rattle.std.proofs.Common.{◌≡◌, ◌++◌, length, reverse}
 use Rattle.ifmap_msg.specs.Replies.{as_children}
-use Rattle.ifmap_msg.proofs.runs.forwards.Given as goal
+use Rattle.ifmap_msg.proofs.runs.forward_children.Given as goal
 
 -- the children so far, and those to come, are all
 abbrev pub invariant-loop-element : goal.invariant-loop-element

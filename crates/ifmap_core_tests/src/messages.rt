@@ -1,8 +1,9 @@
-use crate::results::around;
-use crate::*;
-use ifmap_elem::{Child, Copied, Element, Many, Name, Text, canonical};
-use ifmap_ident::{Code, Identifier, Item};
+//! Replies as they are sent, and copies of requests.
+use crate::roles::{mac_address, role};
+use ifmap_elem::{Copied, Element, Many, Name, Text, canonical};
+use ifmap_ident::{Code, Item};
 use ifmap_meta::{Cardinality, Metadata};
+use ifmap_msg::{Entry, PublishOp, Reply, Request, Search, element_of};
 use std::alloc::Global;
 use std::process::Abort;
 use std::test::Fail;
@@ -15,19 +16,9 @@ const METADATA_START: &str =
 
 const END: &str = "</n2:response></n1:Body></n1:Envelope>";
 
-fn mac(alloc: Global, last: u8) -> Identifier {
-    Identifier::MacAddress {
-        value: [0, 0, 0x5e, 0, 0x53, last],
-        domain: Text(String::new(alloc)),
-    }
-}
-
-// An entry whose element is that of the standard's role, with one name.
-fn entry(alloc: Global, item: Item, role: &str) -> Result<Entry, Fail> {
-    let text = vec![in alloc; Child::Text(Text::from_str(alloc, role)?)]?;
-    let name = Element::bare(alloc, "name", Vec::new(alloc), text)?;
-    let space = "http://www.trustedcomputinggroup.org/2010/IFMAP-METADATA/2";
-    let element = around(alloc, space, "role", name)?;
+// An entry whose element is the standard's role, with one name.
+fn entry(alloc: Global, item: Item, name: &str) -> Result<Entry, Fail> {
+    let element = role(alloc, Vec::new(alloc), name)?;
     Ok(Entry { item, element })
 }
 
@@ -79,10 +70,14 @@ fn replies_are_written_as_in_the_standard(rt: HostRuntime) -> Result<(), Fail> {
 fn entries_on_one_item_stand_together(rt: HostRuntime) -> Result<(), Fail> {
     let alloc = rt.alloc();
     let entries = vec![in alloc;
-        entry(alloc, Item::One(mac(alloc, 1)), "r")?,
-        entry(alloc, Item::One(mac(alloc, 1)), "s")?,
-        entry(alloc, Item::Pair(mac(alloc, 1), mac(alloc, 2)), "t")?,
-        entry(alloc, Item::One(mac(alloc, 1)), "u")?,
+        entry(alloc, Item::One(mac_address(alloc, 1)), "r")?,
+        entry(alloc, Item::One(mac_address(alloc, 1)), "s")?,
+        entry(
+            alloc,
+            Item::Pair(mac_address(alloc, 1), mac_address(alloc, 2)),
+            "t"
+        )?,
+        entry(alloc, Item::One(mac_address(alloc, 1)), "u")?,
     ]?;
     expect_reply(
         &rt,
@@ -105,7 +100,7 @@ fn requests_are_copied(rt: HostRuntime) -> Result<(), Fail> {
         cardinality: Cardinality::Multi,
     };
     let update = PublishOp::Update {
-        item: Item::One(mac(alloc, 1)),
+        item: Item::One(mac_address(alloc, 1)),
         elements: Many(vec![in alloc; metadata]?),
         forever: true,
     };
@@ -121,7 +116,7 @@ fn requests_are_copied(rt: HostRuntime) -> Result<(), Fail> {
     let search = Request::Search {
         session: Text::from_str(alloc, "1-a")?,
         search: Search {
-            start: mac(alloc, 1),
+            start: mac_address(alloc, 1),
             max_size: 7,
         },
     };
