@@ -1,7 +1,7 @@
--- Attaching rows one after another is applying the operations.
+-- Attaching attachments one after another is applying the operations.
 use Rattle.std.proofs.Common.{◌≡◌, refl, ◌∙◌, ap, Bool, List, [], ◌∷◌, ◌++◌}
 use Rattle.ifmap_core.specs.Apply.{Authorship, apply, apply_op, attachment_of, update}
-use Rattle.ifmap_core.specs.Rows.{attached_all, rows_of, rows_of_op, rows_of_update}
+use Rattle.ifmap_core.specs.Attachments.{attach_all, attachments_of, attachments_of_op, attachments_of_update}
 use Rattle.ifmap_graph.specs.declared.attachments.Attachment.{Attachment}
 use Rattle.ifmap_graph.specs.Graph.{attach}
 use Rattle.ifmap_ident.specs.declared.items.Item.{Item}
@@ -9,20 +9,25 @@ use Rattle.ifmap_meta.specs.declared.metadata.Metadata.{Metadata}
 use Rattle.ifmap_msg.specs.declared.requests.PublishOp.{PublishOp}
 use Rattle.ifmap_msg.specs.declared.requests.PublishOp.TheVariants.{Update}
 
-attached_append : (graph : List Attachment) (front rest : List Attachment) → attached_all graph (front ++ rest) ≡ attached_all (attached_all graph front) rest
+attached_append : (graph : List Attachment) (front rest : List Attachment)
+    → attach_all graph (front ++ rest) ≡ attach_all (attach_all graph front) rest
 attached_append graph [] rest = refl
-attached_append graph (row ∷ front) rest = attached_append (attach graph row) front rest
+attached_append graph (attachment ∷ front) rest = attached_append (attach graph attachment) front rest
 
-update_rows : (by : Authorship) (item : Item) (forever : Bool) (elements : List Metadata) (graph : List Attachment) → attached_all graph (rows_of_update by item forever elements) ≡ update graph by item forever elements
-update_rows by item forever [] graph = refl
-update_rows by item forever (m ∷ elements) graph = update_rows by item forever elements (attach graph (attachment_of by item forever m))
+update_attachments : (by : Authorship) (item : Item) (forever : Bool) (elements : List Metadata) (graph : List Attachment)
+    → attach_all graph (attachments_of_update by item forever elements) ≡ update graph by item forever elements
+update_attachments by item forever [] graph = refl
+update_attachments by item forever (m ∷ elements) graph = update_attachments by item forever elements
+    (attach graph (attachment_of by item forever m))
 
-op_rows : (by : Authorship) (op : PublishOp) (graph : List Attachment) → attached_all graph (rows_of_op by op) ≡ apply_op graph by op
-op_rows by (Update item elements forever) graph = update_rows by item forever elements graph
+op_attachments : (by : Authorship) (op : PublishOp) (graph : List Attachment)
+    → attach_all graph (attachments_of_op by op) ≡ apply_op graph by op
+op_attachments by (Update item elements forever) graph = update_attachments by item forever elements graph
 
-pub apply_rows : (by : Authorship) (ops : List PublishOp) (graph : List Attachment) → attached_all graph (rows_of by ops) ≡ apply graph by ops
-apply_rows by [] graph = refl
-apply_rows by (op ∷ ops) graph =
-    attached_append graph (rows_of_op by op) (rows_of by ops)
-    ∙ ap (λ g. attached_all g (rows_of by ops)) (op_rows by op graph)
-    ∙ apply_rows by ops (apply_op graph by op)
+pub apply_attachments : (by : Authorship) (ops : List PublishOp) (graph : List Attachment)
+    → attach_all graph (attachments_of by ops) ≡ apply graph by ops
+apply_attachments by [] graph = refl
+apply_attachments by (op ∷ ops) graph =
+    attached_append graph (attachments_of_op by op) (attachments_of by ops)
+    ∙ ap (λ g. attach_all g (attachments_of by ops)) (op_attachments by op graph)
+    ∙ apply_attachments by ops (apply_op graph by op)

@@ -55,7 +55,8 @@ pub filter_same : {X : Type 0} (p q : X → Bool) → ((x : X) → p x ≡ q x) 
 filter_same p q e [] = refl
 filter_same p q e (x ∷ xs) = rw (e x, filter_same p q e xs) refl
 
-pub find_insert : {X : Type 0} (q : X → Bool) (xs : List X) (i : ℕ) (y : X) → (q y ≡ true → find q xs ≡ None) → find q (insert xs i y) ≡ cond (q y) (Some y) (find q xs)
+pub find_insert : {X : Type 0} (q : X → Bool) (xs : List X) (i : ℕ) (y : X) → (q y ≡ true → find q xs ≡ None)
+    → find q (insert xs i y) ≡ cond (q y) (Some y) (find q xs)
 find_insert q [] zero y h = refl
 find_insert q [] (suc i) y h = refl
 find_insert q (x ∷ xs) zero y h = refl
@@ -65,7 +66,8 @@ find_insert q (x ∷ xs) (suc i) y h =
       | inr miss ↦ rw miss (find_insert q xs i y (λ is. rw miss at (h is)))
     ]
 
-module _ (X K : Type 0) (key : X → K) (C : K → K → Ordering) (o : IsTotalOrder C) (E : K → K → Bool) (same : (x y : K) → E x y ≡ is_eq (C x y)) where
+module _ (X K : Type 0) (key : X → K) (C : K → K → Ordering) (o : IsTotalOrder C) (E : K → K → Bool) (same : (x y : K)
+    → E x y ≡ is_eq (C x y)) where
   flipped : (a b : K) → C a b ≡ Less → C b a ≡ Greater
   flipped a b e = o.antisymm b a ∙ ap ordering_reverse e
 
@@ -79,34 +81,42 @@ module _ (X K : Type 0) (key : X → K) (C : K → K → Ordering) (o : IsTotalO
   differs_back a b e = same a b ∙ ap is_eq e
 
   -- those after an element that is the one looked for are not
-  later_differ : (x : X) (xs : List X) (k : K) → C (key x) k ≡ Equal → AllByRecursion (λ z. on key C x z ≡ Less) xs → AllByRecursion (λ z. E (key z) k ≡ false) xs
+  later_differ : (x : X) (xs : List X) (k : K) → C (key x) k ≡ Equal → AllByRecursion (λ z. on key C x z ≡ Less) xs → AllByRecursion
+      (λ z. E (key z) k ≡ false) xs
   later_differ x xs k e =
-      all_weaker (λ z. on key C x z ≡ Less) (λ z. E (key z) k ≡ false) (λ z l. differs_back (key z) k (flipped k (key z) (sym (o.congr (key x) k (key z) e) ∙ l))) xs
+      all_weaker (λ z. on key C x z ≡ Less) (λ z. E (key z) k ≡ false)
+      (λ z l. differs_back (key z) k (flipped k (key z) (sym (o.congr (key x) k (key z) e) ∙ l))) xs
 
   -- one before it is not
   earlier_differs : (x z : X) (k : K) → C (key z) k ≡ Equal → C (key x) (key z) ≡ Less → E (key x) k ≡ false
   earlier_differs x z k e l = differs (key x) k (sym (alike_right o (key z) k (key x) e) ∙ l)
 
-  pub others : (xs : List X) (i : ℕ) (k : K) → IsStrictlySortedBy (on key C) xs → i < length xs → ((d : X) → C (key (get_or xs i d)) k ≡ Equal) → remove xs i ≡ filter (λ y. not (E (key y) k)) xs
+  pub others : (xs : List X) (i : ℕ) (k : K) → IsStrictlySortedBy (on key C) xs → i < length xs
+      → ((d : X) → C (key (get_or xs i d)) k ≡ Equal) → remove xs i ≡ filter (λ y. not (E (key y) k)) xs
   unfolding IsStrictlySortedBy
   others [] i k up lt e = absurd (omega arith)
   others (x ∷ xs) zero k up lt e =
       let here : E (key x) k ≡ true = same (key x) k ∙ ap is_eq (e x) in
-      rw here (sym (filter_all (λ y. not (E (key y) k)) xs (all_weaker (λ z. E (key z) k ≡ false) (λ z. not (E (key z) k) ≡ true) (λ z n. ap not n) xs (later_differ x xs k (e x) up.0))))
+      rw here (sym (filter_all (λ y. not (E (key y) k)) xs (all_weaker (λ z. E (key z) k ≡ false) (λ z. not (E (key z) k) ≡ true)
+      (λ z n. ap not n) xs (later_differ x xs k (e x) up.0))))
   others (x ∷ xs) (suc i) k up lt e =
-      let no : E (key x) k ≡ false = earlier_differs x (get_or xs i x) k (e x) (all_at (λ z. on key C x z ≡ Less) xs i x up.0 (omega arith)) in
+      let no : E (key x) k ≡ false = earlier_differs x (get_or xs i x) k (e x) (all_at
+      (λ z. on key C x z ≡ Less) xs i x up.0 (omega arith)) in
       rw no (ap (λ t. x ∷ t) (others xs i k up.1 (omega arith) e))
 
-  pub the_one : (xs : List X) (i : ℕ) (k : K) → IsStrictlySortedBy (on key C) xs → i < length xs → ((d : X) → C (key (get_or xs i d)) k ≡ Equal) → (d : X) → find (λ y. E (key y) k) xs ≡ Some (get_or xs i d)
+  pub the_one : (xs : List X) (i : ℕ) (k : K) → IsStrictlySortedBy (on key C) xs → i < length xs
+      → ((d : X) → C (key (get_or xs i d)) k ≡ Equal) → (d : X) → find (λ y. E (key y) k) xs ≡ Some (get_or xs i d)
   unfolding IsStrictlySortedBy
   the_one [] i k up lt e d = absurd (omega arith)
   the_one (x ∷ xs) zero k up lt e d =
       let here : E (key x) k ≡ true = same (key x) k ∙ ap is_eq (e x) in rw here refl
   the_one (x ∷ xs) (suc i) k up lt e d =
-      let no : E (key x) k ≡ false = earlier_differs x (get_or xs i x) k (e x) (all_at (λ z. on key C x z ≡ Less) xs i x up.0 (omega arith)) in
+      let no : E (key x) k ≡ false = earlier_differs x (get_or xs i x) k (e x) (all_at
+      (λ z. on key C x z ≡ Less) xs i x up.0 (omega arith)) in
       rw no (the_one xs i k up.1 (omega arith) e d)
 
-  pub no_one : (xs : List X) (i : ℕ) (k : K) → IsPartitionPoint (λ y. C (key y) k ≡ Less) (λ y. C (key y) k ≡ Greater) xs i → find (λ y. E (key y) k) xs ≡ None
+  pub no_one : (xs : List X) (i : ℕ) (k : K) → IsPartitionPoint (λ y. C (key y) k ≡ Less) (λ y. C (key y) k ≡ Greater) xs i → find
+      (λ y. E (key y) k) xs ≡ None
   no_one xs i k p =
       let each : All (λ y. E (key y) k ≡ false) xs = λ j d h. elim (cases_lt j i) [
         | inl below ↦ differs (key (get_or xs j d)) k (p.0 j d (omega arith) below)
@@ -114,31 +124,42 @@ module _ (X K : Type 0) (key : X → K) (C : K → K → Ordering) (o : IsTotalO
       ] in
       find_none (λ y. E (key y) k) xs (recursion_from_All (λ y. E (key y) k ≡ false) xs each)
 
-  rises_next : (xs : List X) → IsStrictlySortedBy (on key C) xs → (j : ℕ) (d : X) → suc j < length xs → is_lt (C (key (get_or xs (suc j) d)) (key (get_or xs j d))) ≡ false
+  rises_next : (xs : List X) → IsStrictlySortedBy (on key C) xs → (j : ℕ) (d : X) → suc j < length xs
+      → is_lt (C (key (get_or xs (suc j) d)) (key (get_or xs j d))) ≡ false
   unfolding IsStrictlySortedBy
   rises_next [] up j d lt = absurd (omega arith)
-  rises_next (x ∷ xs) up zero d lt = ap is_lt (flipped (key x) (key (get_or xs 0 d)) (all_at (λ z. on key C x z ≡ Less) xs 0 d up.0 (omega arith)))
+  rises_next (x ∷ xs) up zero d lt = ap is_lt (flipped (key x) (key (get_or xs 0 d)) (all_at
+      (λ z. on key C x z ≡ Less) xs 0 d up.0 (omega arith)))
   rises_next (x ∷ xs) up (suc j) d lt = rises_next xs up.1 j d (omega arith)
 
   rises : (xs : List X) → IsStrictlySortedBy (on key C) xs → IsSortedBy (λ a b. is_lt (C (key a) (key b))) xs
   rises xs up j d low lt = rw (add-one j) (rises_next xs up j d (omega arith))
 
   -- where a search by halving ends
-  pub placed : (xs : List X) (k : K) (r : Result ℕ ℕ) → IsStrictlySortedBy (on key C) xs → IsSearchInRange r (length xs) → IsBinarySearchResult (λ y. C (key y) k) xs r → IsPlaceOf (λ y. E (key y) k) xs r
+  pub placed : (xs : List X) (k : K) (r : Result ℕ ℕ) → IsStrictlySortedBy (on key C) xs → IsSearchInRange r (length xs)
+      → IsBinarySearchResult (λ y. C (key y) k) xs r → IsPlaceOf (λ y. E (key y) k) xs r
   placed xs k (Ok i) up within is = (within, the_one xs i k up within is, others xs i k up within is)
   placed xs k (Err i) up within is = (within, no_one xs i k (is (searchable_from_sorted o key xs k (rises xs up))))
 
   -- a list stays in order where an element goes in at the place that a search found
-  pub inserted : (xs : List X) (i : ℕ) (y : X) → IsStrictlySortedBy (on key C) xs → i ≤ length xs → IsPartitionPoint (λ z. C (key z) (key y) ≡ Less) (λ z. C (key z) (key y) ≡ Greater) xs i → IsStrictlySortedBy (on key C) (insert xs i y)
+  pub inserted : (xs : List X) (i : ℕ) (y : X) → IsStrictlySortedBy (on key C) xs → i ≤ length xs → IsPartitionPoint
+      (λ z. C (key z) (key y) ≡ Less) (λ z. C (key z) (key y) ≡ Greater) xs i → IsStrictlySortedBy (on key C) (insert xs i y)
   unfolding IsStrictlySortedBy
   inserted [] zero y up le p = (tt, tt)
   inserted [] (suc i) y up le p = (tt, tt)
-  inserted (x ∷ xs) zero y up le p =
-      (recursion_from_All (λ z. on key C y z ≡ Less) (x ∷ xs) (λ j d h. flipped_back (key (get_or (x ∷ xs) j d)) (key y) (p.1 j d (omega arith) h)), up)
+  inserted (x ∷ xs) zero y up le p = (
+    recursion_from_All (λ z. on key C y z ≡ Less) (x ∷ xs) (λ j d h.
+        flipped_back (key (get_or (x ∷ xs) j d)) (key y) (p.1 j d (omega arith) h)),
+    up,
+  )
   inserted (x ∷ xs) (suc i) y up le p = (
     all_insert (λ z. on key C x z ≡ Less) xs i y up.0 (p.0 0 x (omega arith) (omega arith)),
-    inserted xs i y up.1 (omega arith) ((λ j d low h. p.0 (suc j) d (omega arith) (omega arith)), (λ j d low h. p.1 (suc j) d (omega arith) (omega arith))),
+    inserted xs i y up.1 (omega arith) (
+      (λ j d low h. p.0 (suc j) d (omega arith) (omega arith)),
+      (λ j d low h. p.1 (suc j) d (omega arith) (omega arith)),
+    ),
   )
 
-  pub place_for : (xs : List X) (i : ℕ) (y : X) → IsStrictlySortedBy (on key C) xs → i ≤ length xs → IsBinarySearchResult (λ z. C (key z) (key y)) xs (Err i) → IsStrictlySortedBy (on key C) (insert xs i y)
+  pub place_for : (xs : List X) (i : ℕ) (y : X) → IsStrictlySortedBy (on key C) xs → i ≤ length xs → IsBinarySearchResult
+      (λ z. C (key z) (key y)) xs (Err i) → IsStrictlySortedBy (on key C) (insert xs i y)
   place_for xs i y up within is = inserted xs i y up within (is (searchable_from_sorted o key xs (key y) (rises xs up)))

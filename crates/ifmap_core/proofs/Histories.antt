@@ -15,12 +15,12 @@ use Rattle.ifmap_core.specs.declared.events.Ask.TheVariants.{Request}
 use Rattle.ifmap_core.specs.declared.events.Event.{Event}
 use Rattle.ifmap_core.specs.declared.sessions.Session.{Session}
 use Rattle.ifmap_core.specs.Apply.{Authorship, apply, apply_op, attachment_of, life_of, update}
-use Rattle.ifmap_core.specs.Fresh.{found, size_of}
-use Rattle.ifmap_core.specs.Legal.{AreNumberedAfter, History, LegalFrom, begun_by, begun_ids, live_clients, state_after}
+use Rattle.ifmap_core.specs.Fresh.{found_attachments, size_of}
+use Rattle.ifmap_core.specs.Legal.{AreNumberedAfter, History, LegalFrom, ids_given_by, ids_given, live_clients, state_after}
 use Rattle.ifmap_core.specs.Lives.{AllLive, IsLifeFor}
 use Rattle.ifmap_core.specs.SessionIds.{session_id}
-use Rattle.ifmap_core.specs.State.{State, advanced, is_text, opening, session_of_client, session_with_id, session_with_serial, without_sessions}
-use Rattle.ifmap_core.specs.Step.{begun, end_session, ended, ended_session, in_session, is_full, most_sessions, publish, search_answer, step, step_ask}
+use Rattle.ifmap_core.specs.State.{State, advance, is_text, opening, session_of_client, session_with_id, session_with_serial, without_sessions}
+use Rattle.ifmap_core.specs.Step.{begin_session, end_session, end_sessions, end_former, in_session, is_full, most_sessions, publish, search_answer, step, step_ask}
 use Rattle.ifmap_core.specs.Table.{serial_order}
 use Rattle.ifmap_core.proofs.Graphs.{all_attached, all_retracted}
 use Rattle.ifmap_core.proofs.Halving.{all_found, all_push, find_none}
@@ -39,36 +39,49 @@ use Rattle.ifmap_msg.specs.declared.requests.Request.TheVariants as the_request
 use Rattle.ifmap_msg.specs.declared.requests.Search.{Search}
 
 -- the serials
-begun_next : (state : State) (event : Event) (o : Option Session) (rest : List (ℕ × List ℕ)) → AreNumberedAfter (begun event.client event.random (ended_session o state)).counter rest → AreNumberedAfter (state.counter + 1) rest
+begun_next : (state : State) (event : Event) (o : Option Session) (rest : List (ℕ × List ℕ))
+    → AreNumberedAfter (begin_session event.client event.random (end_former o state)).counter rest
+    → AreNumberedAfter (state.counter + 1) rest
 begun_next state event None rest h = h
 begun_next state event (Some s) rest h = h
 
 -- a request in a session begins none
-in_session_counts : (state : State) (event : Event) (accept : Session → State × Answer) (o : Option Session) (rest : List (ℕ × List ℕ)) → ((s : Session) → AreNumberedAfter (accept s).0.counter rest → AreNumberedAfter state.counter (begun_by event (accept s).1 ++ rest)) → AreNumberedAfter (in_session state event.client o accept).0.counter rest → AreNumberedAfter state.counter (begun_by event (in_session state event.client o accept).1 ++ rest)
+in_session_counts : (state : State) (event : Event) (accept : Session → State × Answer) (o : Option Session) (rest : List (ℕ × List ℕ))
+    → ((s : Session) → AreNumberedAfter (accept s).0.counter rest
+    → AreNumberedAfter state.counter (ids_given_by event (accept s).1 ++ rest))
+    → AreNumberedAfter (in_session state event.client o accept).0.counter rest
+    → AreNumberedAfter state.counter (ids_given_by event (in_session state event.client o accept).1 ++ rest)
 in_session_counts state event accept None rest f h = h
 in_session_counts state event accept (Some s) rest f h =
     elim (cases_Bool (is_text s.client event.client)) [ inl hit ↦ rw hit (f s (rw hit at h)) | inr miss ↦ rw miss (rw miss at h) ]
 
-search_begins_none : (state : State) (event : Event) (search : Search) (rest : List (ℕ × List ℕ)) → AreNumberedAfter state.counter rest → AreNumberedAfter state.counter (begun_by event (search_answer state.graph search) ++ rest)
+search_begins_none : (state : State) (event : Event) (search : Search) (rest : List (ℕ × List ℕ)) → AreNumberedAfter state.counter rest
+    → AreNumberedAfter state.counter (ids_given_by event (search_answer state.graph search) ++ rest)
 search_begins_none state event search rest h =
-    elim (cases_Bool (nat_lt search.max_size (size_of (found state.graph search)))) [ inl hit ↦ rw hit h | inr miss ↦ rw miss h ]
+    elim (cases_Bool (nat_lt search.max_size (size_of (found_attachments state.graph search))))
+    [ inl hit ↦ rw hit h | inr miss ↦ rw miss h ]
 
-step_counts : (state : State) (event : Event) (ask : Ask) (rest : List (ℕ × List ℕ)) → AreNumberedAfter (step_ask state event ask).0.counter rest → AreNumberedAfter state.counter (begun_by event (step_ask state event ask).1 ++ rest)
+step_counts : (state : State) (event : Event) (ask : Ask) (rest : List (ℕ × List ℕ))
+    → AreNumberedAfter (step_ask state event ask).0.counter rest
+    → AreNumberedAfter state.counter (ids_given_by event (step_ask state event ask).1 ++ rest)
 step_counts state event (Request the_request.NewSession) rest h =
     elim (cases_Bool (is_full state event.client)) [
       | inl hit ↦ rw hit (rw hit at h)
       | inr miss ↦ rw miss (refl, begun_next state event (session_of_client event.client state.sessions) rest (rw miss at h))
     ]
-step_counts state event (Request (the_request.EndSession id)) rest h = in_session_counts state event (end_session state) (session_with_id id state.sessions) rest (λ s k. k) h
-step_counts state event (Request (the_request.Publish id ops)) rest h = in_session_counts state event (publish state ops) (session_with_id id state.sessions) rest (λ s k. k) h
+step_counts state event (Request (the_request.EndSession id)) rest h =
+    in_session_counts state event (end_session state) (session_with_id id state.sessions) rest (λ s k. k) h
+step_counts state event (Request (the_request.Publish id ops)) rest h =
+    in_session_counts state event (publish state ops) (session_with_id id state.sessions) rest (λ s k. k) h
 step_counts state event (Request (the_request.Search id search)) rest h =
-    in_session_counts state event (λ s. (state, search_answer state.graph search)) (session_with_id id state.sessions) rest (λ s k. search_begins_none state event search rest k) h
+    in_session_counts state event (λ s. (state, search_answer state.graph search)) (session_with_id id state.sessions) rest
+    (λ s k. search_begins_none state event search rest k) h
 
-pub numbered_from : (state : State) (history : History) → LegalFrom state history → AreNumberedAfter state.counter (begun_ids history)
+pub numbered_from : (state : State) (history : History) → LegalFrom state history → AreNumberedAfter state.counter (ids_given history)
 numbered_from state [] legal = tt
 numbered_from state (e ∷ history) legal =
-    subst (λ answer. AreNumberedAfter state.counter (begun_by e.0 answer ++ begun_ids history)) (sym legal.0)
-    (step_counts (advanced e.0.moment state) e.0 e.0.ask (begun_ids history) (numbered_from (step state e.0).0 history legal.1))
+    subst (λ answer. AreNumberedAfter state.counter (ids_given_by e.0 answer ++ ids_given history)) (sym legal.0)
+    (step_counts (advance e.0.moment state) e.0 e.0.ask (ids_given history) (numbered_from (step state e.0).0 history legal.1))
 
 -- what holds of the sessions in every state
 record IsWhole (state : State) : Type 0 where
@@ -81,7 +94,7 @@ opening_whole : (ttl : ℕ) → IsWhole (opening ttl)
 unfolding IsStrictlySortedBy IsDistinct
 opening_whole ttl = record { rising = tt; counted = tt; apart = tt; most = omega arith }
 
-advanced_whole : (moment : ℕ) (state : State) → IsWhole state → IsWhole (advanced moment state)
+advanced_whole : (moment : ℕ) (state : State) → IsWhole state → IsWhole (advance moment state)
 advanced_whole moment state w = record { rising = w.rising; counted = w.counted; apart = w.apart; most = w.most }
 
 -- the sessions but the one of a serial
@@ -90,21 +103,24 @@ remaining serial s = not (list_any (λ n. n == s.serial) (serial ∷ []))
 
 shorter : {X : Type 0} (p : X → Bool) (xs : List X) → length (filter p xs) ≤ length xs
 shorter p [] = omega arith
-shorter p (x ∷ xs) = let rest = shorter p xs in elim (cases_Bool (p x)) [ inl hit ↦ rw hit (omega (arith, rest)) | inr miss ↦ rw miss (omega (arith, rest)) ]
+shorter p (x ∷ xs) = let rest = shorter p xs in elim (cases_Bool (p x))
+    [ inl hit ↦ rw hit (omega (arith, rest)) | inr miss ↦ rw miss (omega (arith, rest)) ]
 
 -- one at least goes, where what a search finds does not pass
 one_less : {X : Type 0} (q p : X → Bool) (xs : List X) (x : X) → find q xs ≡ Some x → p x ≡ false → length (filter p xs) < length xs
 one_less q p [] x e out = cc
 one_less q p (y ∷ ys) x e out =
     elim (cases_Bool (q y)) [
-      | inl hit ↦ let same : y ≡ x = cc (rw hit at e) in let gone : p y ≡ false = subst (λ z. p z ≡ false) (sym same) out in let rest = shorter p ys in rw gone (omega (arith, rest))
+      | inl hit ↦ let same : y ≡ x = cc (rw hit at e) in let gone : p y ≡ false = subst (λ z. p z ≡ false) (sym same) out in let rest =
+          shorter p ys in rw gone (omega (arith, rest))
       | inr miss ↦
           let rest = one_less q p ys x (rw miss at e) out in
           elim (cases_Bool (p y)) [ inl stays ↦ rw stays (omega (arith, rest)) | inr goes ↦ rw goes (omega (arith, rest)) ]
     ]
 
 -- what a search finds among those that a filter leaves, where whatever it looks for stays
-find_kept : {X : Type 0} (q p : X → Bool) → ((x : X) → q x ≡ true → p x ≡ true) → (xs : List X) (x : X) → find q xs ≡ Some x → find q (filter p xs) ≡ Some x
+find_kept : {X : Type 0} (q p : X → Bool) → ((x : X) → q x ≡ true → p x ≡ true) → (xs : List X) (x : X) → find q xs ≡ Some x
+    → find q (filter p xs) ≡ Some x
 find_kept q p f [] x e = cc
 find_kept q p f (y ∷ ys) x e =
     elim (cases_Bool (q y)) [
@@ -115,7 +131,8 @@ find_kept q p f (y ∷ ys) x e =
     ]
 
 -- a session found by any test is found by its serial
-found_by_serial : (q : Session → Bool) (sessions : List Session) (s : Session) → IsStrictlySortedBy serial_order sessions → find q sessions ≡ Some s → session_with_serial s.serial sessions ≡ Some s
+found_by_serial : (q : Session → Bool) (sessions : List Session) (s : Session) → IsStrictlySortedBy serial_order sessions
+    → find q sessions ≡ Some s → session_with_serial s.serial sessions ≡ Some s
 unfolding IsStrictlySortedBy
 found_by_serial q [] s up e = cc
 found_by_serial q (x ∷ xs) s up e =
@@ -130,7 +147,7 @@ found_by_serial q (x ∷ xs) s up e =
           rw other (found_by_serial q xs s up.1 there)
     ]
 
-ended_whole : (serial : ℕ) (state : State) → IsWhole state → IsWhole (ended (serial ∷ []) state)
+ended_whole : (serial : ℕ) (state : State) → IsWhole state → IsWhole (end_sessions (serial ∷ []) state)
 ended_whole serial state w = record {
   rising = IsStrictlySortedBy-filter serial_order (remaining serial) state.sessions w.rising;
   counted = all_filter (λ (s : Session). s.serial ≤ state.counter) (remaining serial) state.sessions w.counted;
@@ -139,27 +156,34 @@ ended_whole serial state w = record {
 }
 
 -- a session more
-begun_whole : (client : List ℕ) (random : ℕ) (state : State) → IsWhole state → session_of_client client state.sessions ≡ None → length state.sessions < most_sessions → IsWhole (begun client random state)
+begun_whole : (client : List ℕ) (random : ℕ) (state : State) → IsWhole state → session_of_client client state.sessions ≡ None
+    → length state.sessions < most_sessions → IsWhole (begin_session client random state)
 begun_whole client random state w none room =
     let s : Session = record { serial = state.counter + 1; id = session_id (state.counter + 1) random; client = client } in
     record {
       rising = sorted_push state.counter state.sessions s w.rising w.counted (omega arith);
       counted = all_push (λ (t : Session). t.serial ≤ state.counter + 1) state.sessions s
-          (all_weaker (λ (t : Session). t.serial ≤ state.counter) (λ (t : Session). t.serial ≤ state.counter + 1) (λ t h. omega (arith, h)) state.sessions w.counted) (omega arith);
+          (all_weaker (λ (t : Session). t.serial ≤ state.counter) (λ (t : Session). t.serial ≤ state.counter + 1)
+          (λ t h. omega (arith, h)) state.sessions w.counted) (omega arith);
       apart = distinct_push (λ (t : Session). t.client) state.sessions s w.apart none;
       most = let long = length-append state.sessions (s ∷ []) in omega (arith, long, room);
     }
 
 -- the client's session goes, and none of its remains
-removed : (sessions : List Session) (c : List ℕ) (s : Session) → IsDistinct is_text (map (λ (t : Session). t.client) sessions) → session_of_client c sessions ≡ Some s → session_of_client c (without_sessions (s.serial ∷ []) sessions) ≡ None
+removed : (sessions : List Session) (c : List ℕ) (s : Session) → IsDistinct is_text (map (λ (t : Session). t.client) sessions)
+    → session_of_client c sessions ≡ Some s → session_of_client c (without_sessions (s.serial ∷ []) sessions) ≡ None
 unfolding IsDistinct
 removed [] c s apart e = refl
 removed (x ∷ xs) c s apart e =
     elim (cases_Bool (is_text x.client c)) [
       | inl hit ↦
           let same : x ≡ s = cc (rw hit at e) in
-          let goes : remaining s.serial x ≡ false = not_from_true (list_any (λ n. n == x.serial) (s.serial ∷ [])) (or_left (s.serial == x.serial) false (eq-eqb s.serial x.serial (sym (ap (λ (t : Session). t.serial) same)))) in
-          rw goes (find_none (λ (t : Session). is_text t.client c) (filter (remaining s.serial) xs) (all_filter (λ (t : Session). is_text t.client c ≡ false) (remaining s.serial) xs (rest_differ (λ (t : Session). t.client) x c xs apart.0 hit)))
+          let goes : remaining s.serial x ≡ false = not_from_true (list_any
+          (λ n. n == x.serial) (s.serial ∷ [])) (or_left (s.serial == x.serial) false
+          (eq-eqb s.serial x.serial (sym (ap (λ (t : Session). t.serial) same)))) in
+          rw goes (find_none (λ (t : Session). is_text t.client c) (filter (remaining s.serial) xs) (all_filter
+          (λ (t : Session). is_text t.client c ≡ false) (remaining s.serial) xs (rest_differ
+          (λ (t : Session). t.client) x c xs apart.0 hit)))
       | inr miss ↦
           elim (cases_Bool (remaining s.serial x)) [
             | inl stays ↦ rw (stays, miss) (removed xs c s apart.1 (rw miss at e))
@@ -168,24 +192,31 @@ removed (x ∷ xs) c s apart e =
     ]
 
 goes_itself : (s : Session) → remaining s.serial s ≡ false
-goes_itself s = not_from_true (list_any (λ n. n == s.serial) (s.serial ∷ [])) (or_left (s.serial == s.serial) false (eq-eqb s.serial s.serial refl))
+goes_itself s = not_from_true (list_any (λ n. n == s.serial) (s.serial ∷ []))
+    (or_left (s.serial == s.serial) false (eq-eqb s.serial s.serial refl))
 
 -- where there is no room, the client has a session
-has_room : (state : State) (client : List ℕ) → is_full state client ≡ false → session_of_client client state.sessions ≡ None → length state.sessions < most_sessions
+has_room : (state : State) (client : List ℕ) → is_full state client ≡ false → session_of_client client state.sessions ≡ None
+    → length state.sessions < most_sessions
 has_room state client free none =
-    let parts = or_parts (nat_le most_sessions (length state.sessions) && is_none (session_of_client client state.sessions)) (state.counter == 2 ^ 64 - 1) free in
+    let parts = or_parts (nat_le most_sessions (length state.sessions) && is_none (session_of_client client state.sessions))
+    (state.counter == 2 ^ 64 - 1) free in
     elim (and_cases (nat_le most_sessions (length state.sessions)) (is_none (session_of_client client state.sessions)) parts.0) [
       | inl low ↦ grind (arith, nat_tests, low)
-      | inr some ↦ let bad : is_none (session_of_client client state.sessions) ≡ true = rw none refl in absurd (both_ways (is_none (session_of_client client state.sessions)) some bad)
+      | inr some ↦ let bad : is_none (session_of_client client state.sessions) ≡ true = rw none refl in
+          absurd (both_ways (is_none (session_of_client client state.sessions)) some bad)
     ]
 
-new_whole : (state : State) (client : List ℕ) (random : ℕ) (o : Option Session) → IsWhole state → is_full state client ≡ false → session_of_client client state.sessions ≡ o → IsWhole (begun client random (ended_session o state))
+new_whole : (state : State) (client : List ℕ) (random : ℕ) (o : Option Session) → IsWhole state → is_full state client ≡ false
+    → session_of_client client state.sessions ≡ o → IsWhole (begin_session client random (end_former o state))
 new_whole state client random None w free e = begun_whole client random state w e (has_room state client free e)
 new_whole state client random (Some s) w free e =
     let less = one_less (λ (t : Session). is_text t.client client) (remaining s.serial) state.sessions s e (goes_itself s) in
-    begun_whole client random (ended (s.serial ∷ []) state) (ended_whole s.serial state w) (removed state.sessions client s w.apart e) (omega (arith, less, w.most))
+    begun_whole client random (end_sessions (s.serial ∷ []) state) (ended_whole s.serial state w)
+    (removed state.sessions client s w.apart e) (omega (arith, less, w.most))
 
-in_session_whole : (state : State) (client : List ℕ) (accept : Session → State × Answer) (o : Option Session) → ((s : Session) → o ≡ Some s → IsWhole (accept s).0) → IsWhole state → IsWhole (in_session state client o accept).0
+in_session_whole : (state : State) (client : List ℕ) (accept : Session → State × Answer) (o : Option Session)
+    → ((s : Session) → o ≡ Some s → IsWhole (accept s).0) → IsWhole state → IsWhole (in_session state client o accept).0
 in_session_whole state client accept None f w = w
 in_session_whole state client accept (Some s) f w =
     elim (cases_Bool (is_text s.client client)) [ inl hit ↦ rw hit (f s refl) | inr miss ↦ rw miss w ]
@@ -199,24 +230,29 @@ step_whole state event (Request the_request.NewSession) w =
 step_whole state event (Request (the_request.EndSession id)) w =
     in_session_whole state event.client (end_session state) (session_with_id id state.sessions) (λ s e. ended_whole s.serial state w) w
 step_whole state event (Request (the_request.Publish id ops)) w =
-    in_session_whole state event.client (publish state ops) (session_with_id id state.sessions) (λ s e. record { rising = w.rising; counted = w.counted; apart = w.apart; most = w.most }) w
+    in_session_whole state event.client (publish state ops) (session_with_id id state.sessions)
+    (λ s e. record { rising = w.rising; counted = w.counted; apart = w.apart; most = w.most }) w
 step_whole state event (Request (the_request.Search id search)) w =
     in_session_whole state event.client (λ s. (state, search_answer state.graph search)) (session_with_id id state.sessions) (λ s e. w) w
 
 after_whole : (state : State) (history : History) → IsWhole state → IsWhole (state_after state history)
 after_whole state [] w = w
-after_whole state (e ∷ history) w = after_whole (step state e.0).0 history (step_whole (advanced e.0.moment state) e.0 e.0.ask (advanced_whole e.0.moment state w))
+after_whole state (e ∷ history) w = after_whole (step state e.0).0 history
+    (step_whole (advance e.0.moment state) e.0 e.0.ask (advanced_whole e.0.moment state w))
 
 whole_after : (ttl : ℕ) (history : History) → IsWhole (state_after (opening ttl) history)
 whole_after ttl history = after_whole (opening ttl) history (opening_whole ttl)
 
 pub clients_apart : (ttl : ℕ) (history : History) → AllPairs (λ one other. one ≢ other) (live_clients (state_after (opening ttl) history))
 clients_apart ttl history =
-    AllPairs-from_IsDistinct (λ a b. (text_is a b, text_same a b)) (live_clients (state_after (opening ttl) history)) (whole_after ttl history).apart
+    AllPairs-from_IsDistinct (λ a b. (text_is a b, text_same a b)) (live_clients (state_after (opening ttl) history))
+    (whole_after ttl history).apart
 
-pub serials_counted : (ttl : ℕ) (history : History) → All (λ (s : Session). s.serial ≤ (state_after (opening ttl) history).counter) (state_after (opening ttl) history).sessions
+pub serials_counted : (ttl : ℕ) (history : History) → All (λ (s : Session). s.serial ≤ (state_after (opening ttl) history).counter)
+    (state_after (opening ttl) history).sessions
 serials_counted ttl history =
-    All-from_recursion (λ (s : Session). s.serial ≤ (state_after (opening ttl) history).counter) (state_after (opening ttl) history).sessions (whole_after ttl history).counted
+    All-from_recursion (λ (s : Session). s.serial ≤ (state_after (opening ttl) history).counter)
+    (state_after (opening ttl) history).sessions (whole_after ttl history).counted
 
 pub few_sessions : (ttl : ℕ) (history : History) → length (state_after (opening ttl) history).sessions ≤ most_sessions
 few_sessions ttl history = (whole_after ttl history).most
@@ -230,12 +266,14 @@ record IsSound (state : State) : Type 0 where
 other_stays : (serial n : ℕ) (s : Session) → (n == serial) ≡ false → (s.serial == n) ≡ true → remaining serial s ≡ true
 other_stays serial n s other is = grind (arith, nat_tests, other, is)
 
-life_stays : (serial : ℕ) (sessions : List Session) (publisher : List ℕ) (life : Life) → ends_with serial life ≡ false → IsLifeFor sessions publisher life → IsLifeFor (without_sessions (serial ∷ []) sessions) publisher life
+life_stays : (serial : ℕ) (sessions : List Session) (publisher : List ℕ) (life : Life) → ends_with serial life ≡ false
+    → IsLifeFor sessions publisher life → IsLifeFor (without_sessions (serial ∷ []) sessions) publisher life
 life_stays serial sessions publisher (the_life.Session n) other h =
     (h.0, find_kept (λ (s : Session). s.serial == n) (remaining serial) (λ s. other_stays serial n s other) sessions h.0 h.1, h.2)
 life_stays serial sessions publisher the_life.Forever other h = tt
 
-life_goes_on : (sessions : List Session) (s : Session) (publisher : List ℕ) (life : Life) → IsLifeFor sessions publisher life → IsLifeFor (sessions ++ s ∷ []) publisher life
+life_goes_on : (sessions : List Session) (s : Session) (publisher : List ℕ) (life : Life) → IsLifeFor sessions publisher life
+    → IsLifeFor (sessions ++ s ∷ []) publisher life
 life_goes_on sessions s publisher (the_life.Session n) h =
     (h.0, find-append (λ (t : Session). t.serial == n) sessions (s ∷ []) ∙ rw h.1 refl, h.2)
 life_goes_on sessions s publisher the_life.Forever h = tt
@@ -243,55 +281,69 @@ life_goes_on sessions s publisher the_life.Forever h = tt
 IsAuthor : List Session → Authorship → Type 0
 IsAuthor sessions by = (s : Session) × (session_with_serial by.serial sessions ≡ Some s) × (s.client ≡ by.client)
 
-its_life : (sessions : List Session) (by : Authorship) (forever : Bool) → IsAuthor sessions by → IsLifeFor sessions by.client (life_of by.serial forever)
+its_life : (sessions : List Session) (by : Authorship) (forever : Bool) → IsAuthor sessions by
+    → IsLifeFor sessions by.client (life_of by.serial forever)
 unfolding IsAuthor
 its_life sessions by true h = tt
 its_life sessions by false h = h
 
 -- graphs stay graphs
-module _ (attached_graph : (graph : List Attachment) (a : Attachment) → IsGraph graph → IsGraph (attach graph a)) (retracted_graph : (serial : ℕ) (graph : List Attachment) → IsGraph graph → IsGraph (retract serial graph)) where
-  ended_sound : (serial : ℕ) (state : State) → IsSound state → IsSound (ended (serial ∷ []) state)
+module _ (attached_graph : (graph : List Attachment) (a : Attachment) → IsGraph graph
+    → IsGraph (attach graph a)) (retracted_graph : (serial : ℕ) (graph : List Attachment) → IsGraph graph
+    → IsGraph (retract serial graph)) where
+  ended_sound : (serial : ℕ) (state : State) → IsSound state → IsSound (end_sessions (serial ∷ []) state)
   ended_sound serial state w = record {
     graph = retracted_graph serial state.graph w.graph;
-    lives = all_retracted serial (λ (a : Attachment). IsLifeFor state.sessions a.stored.publisher a.stored.life) (λ (a : Attachment). IsLifeFor (without_sessions (serial ∷ []) state.sessions) a.stored.publisher a.stored.life)
+    lives = all_retracted serial (λ (a : Attachment). IsLifeFor state.sessions a.stored.publisher a.stored.life)
+        (λ (a : Attachment). IsLifeFor (without_sessions (serial ∷ []) state.sessions) a.stored.publisher a.stored.life)
         (λ a other h. life_stays serial state.sessions a.stored.publisher a.stored.life other h) state.graph w.lives;
   }
 
-  begun_sound : (client : List ℕ) (random : ℕ) (state : State) → IsSound state → IsSound (begun client random state)
+  begun_sound : (client : List ℕ) (random : ℕ) (state : State) → IsSound state → IsSound (begin_session client random state)
   begun_sound client random state w =
       let s : Session = record { serial = state.counter + 1; id = session_id (state.counter + 1) random; client = client } in
       record {
         graph = w.graph;
-        lives = all_weaker (λ (a : Attachment). IsLifeFor state.sessions a.stored.publisher a.stored.life) (λ (a : Attachment). IsLifeFor (state.sessions ++ s ∷ []) a.stored.publisher a.stored.life)
+        lives = all_weaker (λ (a : Attachment). IsLifeFor state.sessions a.stored.publisher a.stored.life)
+            (λ (a : Attachment). IsLifeFor (state.sessions ++ s ∷ []) a.stored.publisher a.stored.life)
             (λ a h. life_goes_on state.sessions s a.stored.publisher a.stored.life h) state.graph w.lives;
       }
 
-  new_sound : (state : State) (client : List ℕ) (random : ℕ) (o : Option Session) → IsSound state → IsSound (begun client random (ended_session o state))
+  new_sound : (state : State) (client : List ℕ) (random : ℕ) (o : Option Session) → IsSound state
+      → IsSound (begin_session client random (end_former o state))
   new_sound state client random None w = begun_sound client random state w
-  new_sound state client random (Some s) w = begun_sound client random (ended (s.serial ∷ []) state) (ended_sound s.serial state w)
+  new_sound state client random (Some s) w = begun_sound client random (end_sessions (s.serial ∷ []) state) (ended_sound s.serial state w)
 
-  update_sound : (state : State) (by : Authorship) (item : Item) (forever : Bool) → IsAuthor state.sessions by → (elements : List Metadata) (graph : List Attachment) → IsSound (record state { graph = graph }) → IsSound (record state { graph = update graph by item forever elements })
+  update_sound : (state : State) (by : Authorship) (item : Item) (forever : Bool) → IsAuthor state.sessions by
+      → (elements : List Metadata) (graph : List Attachment) → IsSound (record state { graph = graph })
+      → IsSound (record state { graph = update graph by item forever elements })
   update_sound state by item forever h [] graph w = w
   update_sound state by item forever h (m ∷ elements) graph w =
       let a : Attachment = attachment_of by item forever m in
       update_sound state by item forever h elements (attach graph a) (record {
         graph = attached_graph graph a w.graph;
-        lives = all_attached (λ (b : Attachment). IsLifeFor state.sessions b.stored.publisher b.stored.life) graph a w.lives (its_life state.sessions by forever h);
+        lives = all_attached (λ (b : Attachment). IsLifeFor state.sessions b.stored.publisher b.stored.life) graph a w.lives
+            (its_life state.sessions by forever h);
       })
 
-  op_sound : (state : State) (by : Authorship) → IsAuthor state.sessions by → (op : PublishOp) (graph : List Attachment) → IsSound (record state { graph = graph }) → IsSound (record state { graph = apply_op graph by op })
+  op_sound : (state : State) (by : Authorship) → IsAuthor state.sessions by → (op : PublishOp) (graph : List Attachment)
+      → IsSound (record state { graph = graph }) → IsSound (record state { graph = apply_op graph by op })
   op_sound state by h (Update item elements forever) graph w = update_sound state by item forever h elements graph w
 
-  apply_sound : (state : State) (by : Authorship) → IsAuthor state.sessions by → (ops : List PublishOp) (graph : List Attachment) → IsSound (record state { graph = graph }) → IsSound (record state { graph = apply graph by ops })
+  apply_sound : (state : State) (by : Authorship) → IsAuthor state.sessions by → (ops : List PublishOp) (graph : List Attachment)
+      → IsSound (record state { graph = graph }) → IsSound (record state { graph = apply graph by ops })
   apply_sound state by h [] graph w = w
   apply_sound state by h (op ∷ ops) graph w = apply_sound state by h ops (apply_op graph by op) (op_sound state by h op graph w)
 
-  publish_sound : (state : State) (ops : List PublishOp) (q : Session → Bool) (s : Session) → IsWhole state → IsSound state → find q state.sessions ≡ Some s → IsSound (publish state ops s).0
+  publish_sound : (state : State) (ops : List PublishOp) (q : Session → Bool) (s : Session) → IsWhole state → IsSound state
+      → find q state.sessions ≡ Some s → IsSound (publish state ops s).0
   unfolding IsAuthor
   publish_sound state ops q s whole w e =
-      apply_sound state (record { client = s.client; serial = s.serial; moment = state.moment }) (s, found_by_serial q state.sessions s whole.rising e, refl) ops state.graph w
+      apply_sound state (record { client = s.client; serial = s.serial; moment = state.moment })
+      (s, found_by_serial q state.sessions s whole.rising e, refl) ops state.graph w
 
-  in_session_sound : (state : State) (client : List ℕ) (accept : Session → State × Answer) (o : Option Session) → ((s : Session) → o ≡ Some s → IsSound (accept s).0) → IsSound state → IsSound (in_session state client o accept).0
+  in_session_sound : (state : State) (client : List ℕ) (accept : Session → State × Answer) (o : Option Session)
+      → ((s : Session) → o ≡ Some s → IsSound (accept s).0) → IsSound state → IsSound (in_session state client o accept).0
   in_session_sound state client accept None f w = w
   in_session_sound state client accept (Some s) f w =
       elim (cases_Bool (is_text s.client client)) [ inl hit ↦ rw hit (f s refl) | inr miss ↦ rw miss w ]
@@ -305,15 +357,17 @@ module _ (attached_graph : (graph : List Attachment) (a : Attachment) → IsGrap
   step_sound state event (Request (the_request.EndSession id)) whole w =
       in_session_sound state event.client (end_session state) (session_with_id id state.sessions) (λ s e. ended_sound s.serial state w) w
   step_sound state event (Request (the_request.Publish id ops)) whole w =
-      in_session_sound state event.client (publish state ops) (session_with_id id state.sessions) (λ s e. publish_sound state ops (λ (t : Session). is_text t.id id) s whole w e) w
+      in_session_sound state event.client (publish state ops) (session_with_id id state.sessions)
+      (λ s e. publish_sound state ops (λ (t : Session). is_text t.id id) s whole w e) w
   step_sound state event (Request (the_request.Search id search)) whole w =
       in_session_sound state event.client (λ s. (state, search_answer state.graph search)) (session_with_id id state.sessions) (λ s e. w) w
 
   after_sound : (state : State) (history : History) → IsWhole state → IsSound state → IsSound (state_after state history)
   after_sound state [] whole w = w
   after_sound state (e ∷ history) whole w =
-      after_sound (step state e.0).0 history (step_whole (advanced e.0.moment state) e.0 e.0.ask (advanced_whole e.0.moment state whole))
-      (step_sound (advanced e.0.moment state) e.0 e.0.ask (advanced_whole e.0.moment state whole) (record { graph = w.graph; lives = w.lives }))
+      after_sound (step state e.0).0 history (step_whole (advance e.0.moment state) e.0 e.0.ask (advanced_whole e.0.moment state whole))
+      (step_sound (advance e.0.moment state) e.0 e.0.ask (advanced_whole e.0.moment state whole)
+      (record { graph = w.graph; lives = w.lives }))
 
   sound_after : (empty : IsGraph []) (ttl : ℕ) (history : History) → IsSound (state_after (opening ttl) history)
   sound_after empty ttl history = after_sound (opening ttl) history (opening_whole ttl) (record { graph = empty; lives = tt })
@@ -323,4 +377,5 @@ module _ (attached_graph : (graph : List Attachment) (a : Attachment) → IsGrap
 
   pub all_live : (empty : IsGraph []) (ttl : ℕ) (history : History) → AllLive (state_after (opening ttl) history)
   all_live empty ttl history =
-      All-from_recursion (λ (a : Attachment). IsLifeFor (state_after (opening ttl) history).sessions a.stored.publisher a.stored.life) (state_after (opening ttl) history).graph (sound_after empty ttl history).lives
+      All-from_recursion (λ (a : Attachment). IsLifeFor (state_after (opening ttl) history).sessions a.stored.publisher a.stored.life)
+      (state_after (opening ttl) history).graph (sound_after empty ttl history).lives

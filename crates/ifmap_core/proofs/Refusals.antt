@@ -1,4 +1,4 @@
--- When the rows of the step refuse, and with which code.
+-- When the cases of the step refuse, and with which code.
 use Rattle.std.proofs.Common.{◌≡◌, ◌≢◌, ◌↔◌, refl, sym, ◌∙◌, ap, ℕ, ◌-◌, ◌^◌, ◌<◌, ◌≤◌, ◌==◌, ◌&&◌, true, List, length, Option, None, Some, inl, inr, ◌⊎◌, nat_le, nat_lt, is_none, arith}
 use Rattle.std.proofs.lemmas.Bool.{and_from, and_parts, both_ways, cases_Bool, eq-eqb, eqb-true, or_cases, or_left, or_right}
 use Rattle.std.proofs.lemmas.Bool.Decides.{nat_tests}
@@ -8,8 +8,8 @@ use Rattle.ifmap_core.specs.declared.events.Ask.TheVariants.{Request}
 use Rattle.ifmap_core.specs.declared.events.Event.{Event}
 use Rattle.ifmap_core.specs.declared.sessions.Session.{Session}
 use Rattle.ifmap_core.specs.Causes.{AsksForNoneLeft, FindsTooMuch, IsRefusal, NamesAnothersSession, NamesNoSession}
-use Rattle.ifmap_core.specs.Fresh.{found, size_of}
-use Rattle.ifmap_core.specs.State.{State, advanced, is_text, session_of_client, session_with_id}
+use Rattle.ifmap_core.specs.Fresh.{found_attachments, size_of}
+use Rattle.ifmap_core.specs.State.{State, advance, is_text, session_of_client, session_with_id}
 use Rattle.ifmap_core.specs.Step.{end_session, in_session, is_full, most_sessions, new_session, publish, search_answer, step_ask}
 use Rattle.ifmap_core.proofs.Kept.{text_is, text_same}
 use Rattle.ifmap_graph.specs.declared.attachments.Attachment.{Attachment}
@@ -19,27 +19,35 @@ use Rattle.ifmap_msg.specs.declared.requests.Request.TheVariants as the_request
 use Rattle.ifmap_msg.specs.declared.requests.Search.{Search}
 
 -- what a search is answered refuses for size alone
-search_refuses : (graph : List Attachment) (search : Search) (code : Code) → IsRefusal code (search_answer graph search) → (SearchResultsTooBig ≡ code) × (search.max_size < size_of (found graph search))
+search_refuses : (graph : List Attachment) (search : Search) (code : Code) → IsRefusal code (search_answer graph search)
+    → (SearchResultsTooBig ≡ code) × (search.max_size < size_of (found_attachments graph search))
 search_refuses graph search code h =
-    elim (cases_Bool (nat_lt search.max_size (size_of (found graph search)))) [
+    elim (cases_Bool (nat_lt search.max_size (size_of (found_attachments graph search)))) [
       | inl hit ↦ (rw hit at h, grind (arith, nat_tests, hit))
       | inr miss ↦ absurd (rw miss at h)
     ]
 
-search_refused : (graph : List Attachment) (search : Search) → search.max_size < size_of (found graph search) → IsRefusal SearchResultsTooBig (search_answer graph search)
+search_refused : (graph : List Attachment) (search : Search) → search.max_size < size_of (found_attachments graph search)
+    → IsRefusal SearchResultsTooBig (search_answer graph search)
 search_refused graph search large =
-    let hit : nat_lt search.max_size (size_of (found graph search)) ≡ true = grind (arith, nat_tests, large) in rw hit refl
+    let hit : nat_lt search.max_size (size_of (found_attachments graph search)) ≡ true = grind (arith, nat_tests, large) in rw hit refl
 
 -- a request in a session, where what is accepted is not refused with the code in question
 module _ (state : State) (client : List ℕ) (accept : Session → State × Answer) where
-  missing : (o : Option Session) → ((s : Session) → IsRefusal InvalidSessionID (accept s).1 → ⊥) → IsRefusal InvalidSessionID (in_session state client o accept).1 ↔ (Some o ≡ Some None)
+  missing : (o : Option Session) → ((s : Session) → IsRefusal InvalidSessionID (accept s).1 → ⊥)
+      → IsRefusal InvalidSessionID (in_session state client o accept).1 ↔ (Some o ≡ Some None)
   missing None f = ((λ h. refl), (λ e. refl))
   missing (Some s) f = (
-    (λ h. elim (cases_Bool (is_text s.client client)) [ inl hit ↦ absurd (f s (rw hit at h)) | inr miss ↦ let bad : AccessDenied ≡ InvalidSessionID = rw miss at h in cc ]),
+    (λ h. elim (cases_Bool (is_text s.client client)) [
+      | inl hit ↦ absurd (f s (rw hit at h))
+      | inr miss ↦ let bad : AccessDenied
+          ≡ InvalidSessionID = rw miss at h in cc
+    ]),
     (λ e. cc),
   )
 
-  denied : (o : Option Session) → ((s : Session) → IsRefusal AccessDenied (accept s).1 → ⊥) → IsRefusal AccessDenied (in_session state client o accept).1 ↔ ((s : Session) × (Some o ≡ Some (Some s)) × (s.client ≢ client))
+  denied : (o : Option Session) → ((s : Session) → IsRefusal AccessDenied (accept s).1 → ⊥)
+      → IsRefusal AccessDenied (in_session state client o accept).1 ↔ ((s : Session) × (Some o ≡ Some (Some s)) × (s.client ≢ client))
   denied None f = ((λ h. let bad : InvalidSessionID ≡ AccessDenied = h in cc), (λ h. let bad = h.1 in cc))
   denied (Some s) f = (
     (λ h. elim (cases_Bool (is_text s.client client)) [
@@ -54,17 +62,21 @@ module _ (state : State) (client : List ℕ) (accept : Session → State × Answ
         ]),
   )
 
-  other : (o : Option Session) (code : Code) → (InvalidSessionID ≡ code → ⊥) → (AccessDenied ≡ code → ⊥) → ((s : Session) → IsRefusal code (accept s).1 → ⊥) → IsRefusal code (in_session state client o accept).1 → ⊥
+  other : (o : Option Session) (code : Code) → (InvalidSessionID ≡ code → ⊥) → (AccessDenied ≡ code → ⊥)
+      → ((s : Session) → IsRefusal code (accept s).1 → ⊥) → IsRefusal code (in_session state client o accept).1 → ⊥
   other None code a b f h = a h
   other (Some s) code a b f h = elim (cases_Bool (is_text s.client client)) [ inl hit ↦ f s (rw hit at h) | inr miss ↦ b (rw miss at h) ]
 
   -- a refusal leaves the state
-  leaves : (o : Option Session) (code : Code) → ((s : Session) → IsRefusal code (accept s).1 → (accept s).0 ≡ state) → IsRefusal code (in_session state client o accept).1 → (in_session state client o accept).0 ≡ state
+  leaves : (o : Option Session) (code : Code) → ((s : Session) → IsRefusal code (accept s).1 → (accept s).0 ≡ state)
+      → IsRefusal code (in_session state client o accept).1 → (in_session state client o accept).0 ≡ state
   leaves None code f h = refl
   leaves (Some s) code f h = elim (cases_Bool (is_text s.client client)) [ inl hit ↦ rw hit (f s (rw hit at h)) | inr miss ↦ rw miss refl ]
 
 -- a search in a session
-too_much : (state : State) (client : List ℕ) (o : Option Session) (search : Search) → IsRefusal SearchResultsTooBig (in_session state client o (λ s. (state, search_answer state.graph search))).1 ↔ (((s : Session) × (o ≡ Some s) × (s.client ≡ client)) × (search.max_size < size_of (found state.graph search)))
+too_much : (state : State) (client : List ℕ) (o : Option Session) (search : Search)
+    → IsRefusal SearchResultsTooBig (in_session state client o (λ s. (state, search_answer state.graph search))).1
+    ↔ (((s : Session) × (o ≡ Some s) × (s.client ≡ client)) × (search.max_size < size_of (found_attachments state.graph search)))
 too_much state client None search = ((λ h. let bad : InvalidSessionID ≡ SearchResultsTooBig = h in cc), (λ h. let bad = h.0.1 in cc))
 too_much state client (Some s) search = (
   (λ h. elim (cases_Bool (is_text s.client client)) [
@@ -86,99 +98,132 @@ is_none_of : (o : Option Session) → o ≡ None → is_none o ≡ true
 is_none_of None e = refl
 is_none_of (Some s) e = cc
 
-full_means : (state : State) (client : List ℕ) → is_full state client ≡ true → ((most_sessions ≤ length state.sessions) × (session_of_client client state.sessions ≡ None)) ⊎ (state.counter ≡ 2 ^ 64 - 1)
+full_means : (state : State) (client : List ℕ) → is_full state client ≡ true
+    → ((most_sessions ≤ length state.sessions) × (session_of_client client state.sessions ≡ None)) ⊎ (state.counter ≡ 2 ^ 64 - 1)
 full_means state client e =
-    elim (or_cases (nat_le most_sessions (length state.sessions) && is_none (session_of_client client state.sessions)) (state.counter == 2 ^ 64 - 1) e) [
+    elim (or_cases (nat_le most_sessions (length state.sessions) && is_none (session_of_client client state.sessions))
+    (state.counter == 2 ^ 64 - 1) e) [
       | inl all ↦
           let both = and_parts (nat_le most_sessions (length state.sessions)) (is_none (session_of_client client state.sessions)) all in
           inl (grind (arith, nat_tests, both.0), none_is (session_of_client client state.sessions) both.1)
       | inr last ↦ inr (eqb-true state.counter (2 ^ 64 - 1) last)
     ]
 
-full_where : (state : State) (client : List ℕ) → ((most_sessions ≤ length state.sessions) × (session_of_client client state.sessions ≡ None)) ⊎ (state.counter ≡ 2 ^ 64 - 1) → is_full state client ≡ true
+full_where : (state : State) (client : List ℕ) → ((most_sessions ≤ length state.sessions)
+    × (session_of_client client state.sessions ≡ None)) ⊎ (state.counter ≡ 2 ^ 64 - 1) → is_full state client ≡ true
 full_where state client (inl all) =
-    or_left (nat_le most_sessions (length state.sessions) && is_none (session_of_client client state.sessions)) (state.counter == 2 ^ 64 - 1)
-    (and_from (nat_le most_sessions (length state.sessions)) (is_none (session_of_client client state.sessions)) (grind (arith, nat_tests, all.0)) (is_none_of (session_of_client client state.sessions) all.1))
+    or_left (nat_le most_sessions (length state.sessions) && is_none (session_of_client client state.sessions))
+    (state.counter == 2 ^ 64 - 1)
+    (and_from (nat_le most_sessions (length state.sessions)) (is_none (session_of_client client state.sessions))
+    (grind (arith, nat_tests, all.0)) (is_none_of (session_of_client client state.sessions) all.1))
 full_where state client (inr last) =
-    or_right (nat_le most_sessions (length state.sessions) && is_none (session_of_client client state.sessions)) (state.counter == 2 ^ 64 - 1) (eq-eqb state.counter (2 ^ 64 - 1) last)
+    or_right (nat_le most_sessions (length state.sessions) && is_none (session_of_client client state.sessions))
+    (state.counter == 2 ^ 64 - 1) (eq-eqb state.counter (2 ^ 64 - 1) last)
 
-new_refuses : (state : State) (client : List ℕ) (random : ℕ) (code : Code) → IsRefusal code (new_session state client random).1 → (SystemError ≡ code) × (is_full state client ≡ true)
+new_refuses : (state : State) (client : List ℕ) (random : ℕ) (code : Code) → IsRefusal code (new_session state client random).1
+    → (SystemError ≡ code) × (is_full state client ≡ true)
 new_refuses state client random code h =
     elim (cases_Bool (is_full state client)) [ inl hit ↦ (rw hit at h, hit) | inr miss ↦ absurd (rw miss at h) ]
 
-none_left : (state : State) (client : List ℕ) (random : ℕ) → IsRefusal SystemError (new_session state client random).1 ↔ (((most_sessions ≤ length state.sessions) × (session_of_client client state.sessions ≡ None)) ⊎ (state.counter ≡ 2 ^ 64 - 1))
+none_left : (state : State) (client : List ℕ) (random : ℕ) → IsRefusal SystemError (new_session state client random).1
+    ↔ (((most_sessions ≤ length state.sessions) × (session_of_client client state.sessions ≡ None)) ⊎ (state.counter ≡ 2 ^ 64 - 1))
 none_left state client random = (
   (λ h. full_means state client (new_refuses state client random SystemError h).1),
   (λ h. rw (full_where state client h) refl),
 )
 
-new_leaves : (state : State) (client : List ℕ) (random : ℕ) (code : Code) → IsRefusal code (new_session state client random).1 → (new_session state client random).0 ≡ state
+new_leaves : (state : State) (client : List ℕ) (random : ℕ) (code : Code) → IsRefusal code (new_session state client random).1
+    → (new_session state client random).0 ≡ state
 new_leaves state client random code h = rw ((new_refuses state client random code h).1) refl
 
 -- neither cause looks at the moment
-pub invalid_session : (state : State) (event : Event) (ask : Ask) → IsRefusal InvalidSessionID (step_ask (advanced event.moment state) event ask).1 ↔ NamesNoSession state ask
+pub invalid_session : (state : State) (event : Event) (ask : Ask)
+    → IsRefusal InvalidSessionID (step_ask (advance event.moment state) event ask).1 ↔ NamesNoSession state ask
 invalid_session state event (Request the_request.NewSession) = (
-  (λ h. let bad : SystemError ≡ InvalidSessionID = (new_refuses (advanced event.moment state) event.client event.random InvalidSessionID h).0 in cc),
+  (λ h. let bad : SystemError ≡ InvalidSessionID = (new_refuses (advance event.moment state) event.client event.random InvalidSessionID
+      h).0 in cc),
   (λ e. cc),
 )
 invalid_session state event (Request (the_request.EndSession id)) =
-    missing (advanced event.moment state) event.client (end_session (advanced event.moment state)) (session_with_id id state.sessions) (λ s h. h)
+    missing (advance event.moment state) event.client (end_session (advance event.moment state)) (session_with_id id state.sessions)
+    (λ s h. h)
 invalid_session state event (Request (the_request.Publish id ops)) =
-    missing (advanced event.moment state) event.client (publish (advanced event.moment state) ops) (session_with_id id state.sessions) (λ s h. h)
+    missing (advance event.moment state) event.client (publish (advance event.moment state) ops) (session_with_id id state.sessions)
+    (λ s h. h)
 invalid_session state event (Request (the_request.Search id search)) =
-    missing (advanced event.moment state) event.client (λ s. (advanced event.moment state, search_answer state.graph search)) (session_with_id id state.sessions)
+    missing (advance event.moment state) event.client (λ s. (advance event.moment state, search_answer state.graph search))
+    (session_with_id id state.sessions)
     (λ s h. let bad : SearchResultsTooBig ≡ InvalidSessionID = (search_refuses state.graph search InvalidSessionID h).0 in cc)
 
-pub access_denied : (state : State) (event : Event) (ask : Ask) → IsRefusal AccessDenied (step_ask (advanced event.moment state) event ask).1 ↔ NamesAnothersSession state event.client ask
+pub access_denied : (state : State) (event : Event) (ask : Ask) → IsRefusal AccessDenied (step_ask (advance event.moment state) event ask).1
+    ↔ NamesAnothersSession state event.client ask
 access_denied state event (Request the_request.NewSession) = (
-  (λ h. let bad : SystemError ≡ AccessDenied = (new_refuses (advanced event.moment state) event.client event.random AccessDenied h).0 in cc),
+  (λ h. let bad : SystemError ≡ AccessDenied = (new_refuses (advance event.moment state) event.client event.random AccessDenied h).0 in cc),
   (λ h. let bad = h.1 in cc),
 )
 access_denied state event (Request (the_request.EndSession id)) =
-    denied (advanced event.moment state) event.client (end_session (advanced event.moment state)) (session_with_id id state.sessions) (λ s h. h)
+    denied (advance event.moment state) event.client (end_session (advance event.moment state)) (session_with_id id state.sessions)
+    (λ s h. h)
 access_denied state event (Request (the_request.Publish id ops)) =
-    denied (advanced event.moment state) event.client (publish (advanced event.moment state) ops) (session_with_id id state.sessions) (λ s h. h)
+    denied (advance event.moment state) event.client (publish (advance event.moment state) ops) (session_with_id id state.sessions)
+    (λ s h. h)
 access_denied state event (Request (the_request.Search id search)) =
-    denied (advanced event.moment state) event.client (λ s. (advanced event.moment state, search_answer state.graph search)) (session_with_id id state.sessions)
+    denied (advance event.moment state) event.client (λ s. (advance event.moment state, search_answer state.graph search))
+    (session_with_id id state.sessions)
     (λ s h. let bad : SearchResultsTooBig ≡ AccessDenied = (search_refuses state.graph search AccessDenied h).0 in cc)
 
-pub system_error : (state : State) (event : Event) (ask : Ask) → IsRefusal SystemError (step_ask (advanced event.moment state) event ask).1 ↔ AsksForNoneLeft state event.client ask
-system_error state event (Request the_request.NewSession) = none_left (advanced event.moment state) event.client event.random
+pub system_error : (state : State) (event : Event) (ask : Ask) → IsRefusal SystemError (step_ask (advance event.moment state) event ask).1
+    ↔ AsksForNoneLeft state event.client ask
+system_error state event (Request the_request.NewSession) = none_left (advance event.moment state) event.client event.random
 system_error state event (Request (the_request.EndSession id)) = (
-  other (advanced event.moment state) event.client (end_session (advanced event.moment state)) (session_with_id id state.sessions) SystemError (λ e. cc) (λ e. cc) (λ s h. h),
+  other (advance event.moment state) event.client (end_session (advance event.moment state)) (session_with_id id state.sessions) SystemError
+      (λ e. cc) (λ e. cc) (λ s h. h),
   (λ h. absurd h),
 )
 system_error state event (Request (the_request.Publish id ops)) = (
-  other (advanced event.moment state) event.client (publish (advanced event.moment state) ops) (session_with_id id state.sessions) SystemError (λ e. cc) (λ e. cc) (λ s h. h),
+  other (advance event.moment state) event.client (publish (advance event.moment state) ops) (session_with_id id state.sessions) SystemError
+      (λ e. cc) (λ e. cc) (λ s h. h),
   (λ h. absurd h),
 )
 system_error state event (Request (the_request.Search id search)) = (
-  other (advanced event.moment state) event.client (λ s. (advanced event.moment state, search_answer state.graph search)) (session_with_id id state.sessions) SystemError (λ e. cc) (λ e. cc)
+  other (advance event.moment state) event.client (λ s. (advance event.moment state, search_answer state.graph search))
+      (session_with_id id state.sessions) SystemError (λ e. cc) (λ e. cc)
       (λ s h. let bad : SearchResultsTooBig ≡ SystemError = (search_refuses state.graph search SystemError h).0 in cc),
   (λ h. absurd h),
 )
 
-pub too_big : (state : State) (event : Event) (ask : Ask) → IsRefusal SearchResultsTooBig (step_ask (advanced event.moment state) event ask).1 ↔ FindsTooMuch state event.client ask
+pub too_big : (state : State) (event : Event) (ask : Ask) → IsRefusal SearchResultsTooBig
+    (step_ask (advance event.moment state) event ask).1 ↔ FindsTooMuch state event.client ask
 too_big state event (Request the_request.NewSession) = (
-  (λ h. let bad : SystemError ≡ SearchResultsTooBig = (new_refuses (advanced event.moment state) event.client event.random SearchResultsTooBig h).0 in cc),
+  (λ h. let bad : SystemError ≡ SearchResultsTooBig = (new_refuses (advance event.moment state) event.client event.random
+      SearchResultsTooBig h).0 in cc),
   (λ h. absurd h),
 )
 too_big state event (Request (the_request.EndSession id)) = (
-  other (advanced event.moment state) event.client (end_session (advanced event.moment state)) (session_with_id id state.sessions) SearchResultsTooBig (λ e. cc) (λ e. cc) (λ s h. h),
+  other (advance event.moment state) event.client (end_session (advance event.moment state)) (session_with_id id state.sessions)
+      SearchResultsTooBig (λ e. cc) (λ e. cc) (λ s h. h),
   (λ h. absurd h),
 )
 too_big state event (Request (the_request.Publish id ops)) = (
-  other (advanced event.moment state) event.client (publish (advanced event.moment state) ops) (session_with_id id state.sessions) SearchResultsTooBig (λ e. cc) (λ e. cc) (λ s h. h),
+  other (advance event.moment state) event.client (publish (advance event.moment state) ops) (session_with_id id state.sessions)
+      SearchResultsTooBig (λ e. cc) (λ e. cc) (λ s h. h),
   (λ h. absurd h),
 )
-too_big state event (Request (the_request.Search id search)) = too_much (advanced event.moment state) event.client (session_with_id id state.sessions) search
+too_big state event (Request (the_request.Search id search)) = too_much (advance event.moment state) event.client
+    (session_with_id id state.sessions) search
 
 -- a refusal takes in the moment, and changes nothing else
-pub refusal_leaves : (state : State) (event : Event) (code : Code) (ask : Ask) → IsRefusal code (step_ask (advanced event.moment state) event ask).1 → (step_ask (advanced event.moment state) event ask).0 ≡ advanced event.moment state
-refusal_leaves state event code (Request the_request.NewSession) h = new_leaves (advanced event.moment state) event.client event.random code h
+pub refusal_leaves : (state : State) (event : Event) (code : Code) (ask : Ask)
+    → IsRefusal code (step_ask (advance event.moment state) event ask).1
+    → (step_ask (advance event.moment state) event ask).0 ≡ advance event.moment state
+refusal_leaves state event code (Request the_request.NewSession) h =
+    new_leaves (advance event.moment state) event.client event.random code h
 refusal_leaves state event code (Request (the_request.EndSession id)) h =
-    leaves (advanced event.moment state) event.client (end_session (advanced event.moment state)) (session_with_id id state.sessions) code (λ s k. absurd k) h
+    leaves (advance event.moment state) event.client (end_session (advance event.moment state)) (session_with_id id state.sessions) code
+    (λ s k. absurd k) h
 refusal_leaves state event code (Request (the_request.Publish id ops)) h =
-    leaves (advanced event.moment state) event.client (publish (advanced event.moment state) ops) (session_with_id id state.sessions) code (λ s k. absurd k) h
+    leaves (advance event.moment state) event.client (publish (advance event.moment state) ops) (session_with_id id state.sessions) code
+    (λ s k. absurd k) h
 refusal_leaves state event code (Request (the_request.Search id search)) h =
-    leaves (advanced event.moment state) event.client (λ s. (advanced event.moment state, search_answer state.graph search)) (session_with_id id state.sessions) code (λ s k. refl) h
+    leaves (advance event.moment state) event.client (λ s. (advance event.moment state, search_answer state.graph search))
+    (session_with_id id state.sessions) code (λ s k. refl) h

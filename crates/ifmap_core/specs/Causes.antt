@@ -5,7 +5,7 @@ use Rattle.ifmap_core.specs.declared.events.Answer.TheVariants as the_answer
 use Rattle.ifmap_core.specs.declared.events.Ask.{Ask}
 use Rattle.ifmap_core.specs.declared.events.Ask.TheVariants.{Request}
 use Rattle.ifmap_core.specs.declared.sessions.Session.{Session}
-use Rattle.ifmap_core.specs.Fresh.{found, size_of}
+use Rattle.ifmap_core.specs.Fresh.{found_attachments, size_of}
 use Rattle.ifmap_core.specs.State.{State, session_of_client, session_with_id}
 use Rattle.ifmap_core.specs.Step.{most_sessions}
 use Rattle.ifmap_ident.specs.declared.codes.Code.{Code}
@@ -49,4 +49,5 @@ FindsTooMuch state client (Request the_request.NewSession) = ⊥
 FindsTooMuch state client (Request (the_request.EndSession id)) = ⊥
 FindsTooMuch state client (Request (the_request.Publish id ops)) = ⊥
 FindsTooMuch state client (Request (the_request.Search id search)) =
-    ((s : Session) × (session_with_id id state.sessions ≡ Some s) × (s.client ≡ client)) × (search.max_size < size_of (found state.graph search))
+    ((s : Session) × (session_with_id id state.sessions ≡ Some s) × (s.client ≡ client))
+    × (search.max_size < size_of (found_attachments state.graph search))

@@ -20,8 +20,8 @@ is_found_on search (One identifier) = is_reached search identifier
 is_found_on search (Pair a b) = false
 
 -- the attachments that are found, in the order of the graph
-abbrev pub found : List Attachment → Search → List Attachment
-found graph search = filter (λ (a : Attachment). is_found_on search a.item) graph
+abbrev pub found_attachments : List Attachment → Search → List Attachment
+found_attachments graph search = filter (λ (a : Attachment). is_found_on search a.item) graph
 
 -- an attachment in a result: its item and the stored element
 abbrev pub entry_of : Attachment → Entry
@@ -29,7 +29,7 @@ entry_of a = record { item = a.item; element = a.stored.element }
 
 -- the result of a search
 abbrev pub fresh : List Attachment → Search → List Entry
-fresh graph search = map entry_of (found graph search)
+fresh graph search = map entry_of (found_attachments graph search)
 
 -- the size of a result: the canonical bytes of identifiers and elements, without the tags around them
 abbrev pub size_of : List Attachment → ℕ

@@ -28,22 +28,22 @@ state_after state [] = state
 state_after state (e ∷ history) = state_after (step state e.0).0 history
 
 -- the id that an answer gives to a new session, with the event's random word
-abbrev pub begun_by : Event → Answer → List (ℕ × List ℕ)
-begun_by event (the_answer.Reply (NewSession id publisher)) = (event.random, id) ∷ []
-begun_by event (the_answer.Reply Ended) = []
-begun_by event (the_answer.Reply Published) = []
-begun_by event (the_answer.Reply (Found entries)) = []
-begun_by event (the_answer.Reply (Error code note)) = []
+abbrev pub ids_given_by : Event → Answer → List (ℕ × List ℕ)
+ids_given_by event (the_answer.Reply (NewSession id publisher)) = (event.random, id) ∷ []
+ids_given_by event (the_answer.Reply Ended) = []
+ids_given_by event (the_answer.Reply Published) = []
+ids_given_by event (the_answer.Reply (Found entries)) = []
+ids_given_by event (the_answer.Reply (Error code note)) = []
 
 -- all such ids of a history, in order
-abbrev pub begun_ids : History → List (ℕ × List ℕ)
-begun_ids [] = []
-begun_ids (e ∷ history) = begun_by e.0 e.1 ++ begun_ids history
+abbrev pub ids_given : History → List (ℕ × List ℕ)
+ids_given [] = []
+ids_given (e ∷ history) = ids_given_by e.0 e.1 ++ ids_given history
 
 -- the ids have the serials after n, one after another
 abbrev pub AreNumberedAfter : ℕ → List (ℕ × List ℕ) → Type 0
 AreNumberedAfter n [] = Unit {0}
-AreNumberedAfter n (b ∷ begun) = (b.1 ≡ session_id (n + 1) b.0) × AreNumberedAfter (n + 1) begun
+AreNumberedAfter n (b ∷ ids) = (b.1 ≡ session_id (n + 1) b.0) × AreNumberedAfter (n + 1) ids
 
 -- the clients of the live sessions, in the order of the sessions
 abbrev pub live_clients : State → List (List ℕ)

@@ -1,10 +1,10 @@
 pub mod Apply
+pub mod Attachments
 pub mod Causes
 pub mod Fresh
 pub mod Legal
 pub mod Lives
 pub mod Retract
-pub mod Rows
 pub mod SessionIds
 pub mod State
 pub mod Step

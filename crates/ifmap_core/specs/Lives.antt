@@ -9,7 +9,8 @@ use Rattle.ifmap_core.specs.State.{State, session_with_serial}
 
 -- what is to stay as long as a session belongs to a live one, of the client that published it
 abbrev pub IsLifeFor : List Session → List ℕ → Life → Type 0
-IsLifeFor sessions publisher (the_life.Session serial) = (s : Session) × (session_with_serial serial sessions ≡ Some s) × (s.client ≡ publisher)
+IsLifeFor sessions publisher (the_life.Session serial) = (s : Session) × (session_with_serial serial sessions ≡ Some s)
+    × (s.client ≡ publisher)
 IsLifeFor sessions publisher the_life.Forever = Unit {0}
 
 -- each attachment has such a life

@@ -4,6 +4,6 @@ use Rattle.ifmap_graph.specs.declared.attachments.Attachment.{Attachment}
 use Rattle.ifmap_graph.specs.Graph.{retract}
 
 -- the graph without what was to stay as long as one of these sessions
-abbrev pub retracted : List ℕ → List Attachment → List Attachment
-retracted [] graph = graph
-retracted (serial ∷ serials) graph = retracted serials (retract serial graph)
+abbrev pub retract_sessions : List ℕ → List Attachment → List Attachment
+retract_sessions [] graph = graph
+retract_sessions (serial ∷ serials) graph = retract_sessions serials (retract serial graph)

@@ -22,8 +22,8 @@ abbrev pub opening : ℕ → State
 opening ttl = record { moment = 0; ttl = ttl; counter = 0; graph = []; sessions = [] }
 
 -- the state at that moment, or at its own where that is later
-abbrev pub advanced : ℕ → State → State
-advanced moment state = record state { moment = max state.moment moment }
+abbrev pub advance : ℕ → State → State
+advance moment state = record state { moment = max state.moment moment }
 
 -- whether two texts are one
 abbrev pub is_text : List ℕ → List ℕ → Bool

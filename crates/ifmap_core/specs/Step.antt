@@ -7,10 +7,10 @@ use Rattle.ifmap_core.specs.declared.events.Ask.TheVariants.{Request}
 use Rattle.ifmap_core.specs.declared.events.Event.{Event}
 use Rattle.ifmap_core.specs.declared.sessions.Session.{Session}
 use Rattle.ifmap_core.specs.Apply.{apply}
-use Rattle.ifmap_core.specs.Fresh.{found, fresh, limit_note, size_of}
-use Rattle.ifmap_core.specs.Retract.{retracted}
+use Rattle.ifmap_core.specs.Fresh.{found_attachments, fresh, limit_note, size_of}
+use Rattle.ifmap_core.specs.Retract.{retract_sessions}
 use Rattle.ifmap_core.specs.SessionIds.{session_id}
-use Rattle.ifmap_core.specs.State.{State, advanced, is_text, session_of_client, session_with_id, without_sessions}
+use Rattle.ifmap_core.specs.State.{State, advance, is_text, session_of_client, session_with_id, without_sessions}
 use Rattle.ifmap_graph.specs.declared.attachments.Attachment.{Attachment}
 use Rattle.ifmap_ident.specs.declared.codes.Code.{Code}
 use Rattle.ifmap_ident.specs.declared.codes.Code.TheVariants.{AccessDenied, InvalidSessionID, SearchResultsTooBig, SystemError}
@@ -25,22 +25,22 @@ abbrev pub most_sessions : ℕ
 most_sessions = 10000
 
 -- a refusal with a note
-abbrev pub refused_as : Code → List ℕ → Answer
-refused_as code note = the_answer.Reply (the_reply.Error code note)
+abbrev pub refusal_with : Code → List ℕ → Answer
+refusal_with code note = the_answer.Reply (the_reply.Error code note)
 
 -- a refusal whose note is the code's name
-abbrev pub refused : Code → Answer
-refused code = refused_as code (code_name code)
+abbrev pub refusal : Code → Answer
+refusal code = refusal_with code (code_name code)
 
 -- the state after the end of these sessions, and of what was to stay as long as they
-abbrev pub ended : List ℕ → State → State
-ended serials state =
-    record state { graph = retracted serials state.graph; sessions = without_sessions serials state.sessions }
+abbrev pub end_sessions : List ℕ → State → State
+end_sessions serials state =
+    record state { graph = retract_sessions serials state.graph; sessions = without_sessions serials state.sessions }
 
 -- the state after the end of the client's session, if there is one
-abbrev pub ended_session : Option Session → State → State
-ended_session None state = state
-ended_session (Some s) state = ended (s.serial ∷ []) state
+abbrev pub end_former : Option Session → State → State
+end_former None state = state
+end_former (Some s) state = end_sessions (s.serial ∷ []) state
 
 -- whether the client can be given no session: all are taken and it has none, or the serials are used up
 abbrev pub is_full : State → List ℕ → Bool
@@ -48,41 +48,50 @@ is_full state client =
     (nat_le most_sessions (length state.sessions) && is_none (session_of_client client state.sessions)) || (state.counter == 2 ^ 64 - 1)
 
 -- the state with one more session
-abbrev pub begun : List ℕ → ℕ → State → State
-begun client random state =
+abbrev pub begin_session : List ℕ → ℕ → State → State
+begin_session client random state =
     let serial = state.counter + 1 in
-    record state { counter = serial; sessions = state.sessions ++ record { serial = serial; id = session_id serial random; client = client } ∷ [] }
+    record state {
+      counter = serial;
+      sessions = state.sessions ++ record { serial = serial; id = session_id serial random; client = client }
+          ∷ [];
+    }
 
 -- a new session takes the place of the one that the client has
 abbrev pub new_session : State → List ℕ → ℕ → State × Answer
 new_session state client random =
     if is_full state client
-    then (state, refused SystemError)
-    else (begun client random (ended_session (session_of_client client state.sessions) state), the_answer.Reply (the_reply.NewSession (session_id (state.counter + 1) random) client))
+    then (state, refusal SystemError)
+    else (
+      begin_session client random (end_former (session_of_client client state.sessions) state),
+      the_answer.Reply (the_reply.NewSession (session_id (state.counter + 1) random) client),
+    )
 
 -- a request in the session that it names: refused where none is live, or where it is another client's
 abbrev pub in_session : State → List ℕ → Option Session → (Session → State × Answer) → State × Answer
-in_session state client None accept = (state, refused InvalidSessionID)
-in_session state client (Some s) accept = if is_text s.client client then accept s else (state, refused AccessDenied)
+in_session state client None accept = (state, refusal InvalidSessionID)
+in_session state client (Some s) accept = if is_text s.client client then accept s else (state, refusal AccessDenied)
 
 -- the client ends a session of its own
 abbrev pub end_session : State → Session → State × Answer
-end_session state s = (ended (s.serial ∷ []) state, the_answer.Reply the_reply.Ended)
+end_session state s = (end_sessions (s.serial ∷ []) state, the_answer.Reply the_reply.Ended)
 
 -- the client publishes in a session of its own, at the state's moment
 abbrev pub publish : State → List PublishOp → Session → State × Answer
-publish state ops s =
-    (record state { graph = apply state.graph (record { client = s.client; serial = s.serial; moment = state.moment }) ops }, the_answer.Reply the_reply.Published)
+publish state ops s = (
+  record state { graph = apply state.graph (record { client = s.client; serial = s.serial; moment = state.moment }) ops },
+  the_answer.Reply the_reply.Published,
+)
 
 -- what a search is answered: refused where the size of what it finds is greater than its limit
 abbrev pub search_answer : List Attachment → Search → Answer
 search_answer graph search =
-    let size = size_of (found graph search) in
+    let size = size_of (found_attachments graph search) in
     if nat_lt search.max_size size
-    then refused_as SearchResultsTooBig (limit_note size search.max_size)
+    then refusal_with SearchResultsTooBig (limit_note size search.max_size)
     else the_answer.Reply (the_reply.Found (fresh graph search))
 
--- the row of each request
+-- the case of each request
 abbrev pub step_ask : State → Event → Ask → State × Answer
 step_ask state event (Request the_request.NewSession) = new_session state event.client event.random
 step_ask state event (Request (the_request.EndSession id)) =
@@ -94,4 +103,4 @@ step_ask state event (Request (the_request.Search id search)) =
 
 -- the state after an event, and its answer: the moment is taken in before all else
 abbrev pub step : State → Event → State × Answer
-step state event = step_ask (advanced event.moment state) event event.ask
+step state event = step_ask (advance event.moment state) event event.ask

@@ -8,6 +8,7 @@ use Rattle.std.specs.Ordering.{nat_cmp, on}
 use Rattle.std.specs.declared.cmp.Ordering.{Ordering}
 use Rattle.ifmap_core.specs.declared.sessions.Holder.{Holder}
 use Rattle.ifmap_core.specs.declared.sessions.Session.{Session}
+use Rattle.ifmap_core.specs.SessionIds.{hyphen}
 use Rattle.ifmap_core.specs.State.{is_text, session_of_client}
 
 -- the counter, the live sessions in the order of their serials, and for how many more there is room
@@ -18,7 +19,7 @@ pub record Table : Type 0 where
 
 -- the serial in decimal and a hyphen stand first
 abbrev pub BeginsWithSerial : ℕ → List ℕ → Type 0
-BeginsWithSerial serial id = (rest : List ℕ) × (id ≡ decimal serial ++ 45 ∷ rest)
+BeginsWithSerial serial id = (rest : List ℕ) × (id ≡ decimal serial ++ hyphen ∷ rest)
 
 -- sessions by their serials, and holders by their clients' names
 abbrev pub serial_order : Session → Session → Ordering
@@ -43,7 +44,8 @@ pub record IsKept (counter : ℕ) (live : List Session) (holders : List Holder) 
   pub apart : IsDistinct is_text (map (λ (s : Session). s.client) live)
   -- and leads to it
   pub ordered : IsStrictlySortedBy client_order holders
-  pub indexed : (client : List ℕ) → option_map (λ (h : Holder). h.serial) (holder_of client holders) ≡ option_map (λ (s : Session). s.serial) (session_of_client client live)
+  pub indexed : (client : List ℕ) → option_map (λ (h : Holder). h.serial) (holder_of client holders) ≡ option_map
+      (λ (s : Session). s.serial) (session_of_client client live)
 
 -- where a search in a list ends: at the one element that passes, or nowhere
 abbrev pub IsPlaceOf : {X : Type 0} → (X → Bool) → List X → Result ℕ ℕ → Type 0
@@ -54,4 +56,5 @@ IsPlaceOf {X} test xs result =
 
 -- a client that has no entry may have one at that place
 abbrev pub IsPlaceFor : List ℕ → List Holder → ℕ → Type 0
-IsPlaceFor client holders i = (serial : ℕ) → IsStrictlySortedBy client_order (insert holders i (record { client = client; serial = serial }))
+IsPlaceFor client holders i = (serial : ℕ) → IsStrictlySortedBy client_order
+    (insert holders i (record { client = client; serial = serial }))

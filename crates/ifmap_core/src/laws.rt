@@ -1,6 +1,6 @@
 //! Laws of the machine, over all its histories.
 ghost use Rattle.std.specs.Prelude.{◌≢◌, ◌≤◌, ℕ, All, AllPairs, length};
-ghost use Rattle.ifmap_core.specs.Legal.{AreNumberedAfter, History, Legal, begun_ids, live_clients, state_after};
+ghost use Rattle.ifmap_core.specs.Legal.{AreNumberedAfter, History, Legal, ids_given, live_clients, state_after};
 ghost use Rattle.ifmap_core.specs.Lives.{AllLive};
 ghost use Rattle.ifmap_core.specs.State.{opening};
 ghost use Rattle.ifmap_core.specs.Step.{most_sessions};
@@ -12,17 +12,24 @@ use ifmap_graph::laws::graphs_stay_graphs;
 /// it, and so after each event of a longer one, no two live sessions have one client, no live
 /// session has a serial above the counter, and at most 10,000 sessions live.
 pub fn sessions_are_numbered_and_apart()
-    ensures numbered { (ttl : ℕ) (history : History) → Legal ttl history → AreNumberedAfter 0 (begun_ids history) }
-    ensures apart { (ttl : ℕ) (history : History) → Legal ttl history → AllPairs (λ one other. one ≢ other) (live_clients (state_after (opening ttl) history)) }
-    ensures counted { (ttl : ℕ) (history : History) → Legal ttl history → All (λ s. s.serial ≤ (state_after (opening ttl) history).counter) (state_after (opening ttl) history).sessions }
-    ensures most { (ttl : ℕ) (history : History) → Legal ttl history → length (state_after (opening ttl) history).sessions ≤ most_sessions }
+    ensures numbered { (ttl : ℕ) (history : History) → Legal ttl history
+        → AreNumberedAfter 0 (ids_given history) }
+    ensures apart { (ttl : ℕ) (history : History) → Legal ttl history → AllPairs
+        (λ one other. one ≢ other) (live_clients (state_after (opening ttl) history)) }
+    ensures counted { (ttl : ℕ) (history : History) → Legal ttl history → All
+        (λ s. s.serial ≤ (state_after (opening ttl) history).counter)
+        (state_after (opening ttl) history).sessions }
+    ensures most { (ttl : ℕ) (history : History) → Legal ttl history
+        → length (state_after (opening ttl) history).sessions ≤ most_sessions }
 {}
 
 /// After every legal history the graph rises strictly and its keys are distinct, and what is to stay
 /// as long as a session belongs to a live session of the client that published it.
 pub fn attachments_are_apart_and_live()
-    ensures graph { (ttl : ℕ) (history : History) → Legal ttl history → IsGraph (state_after (opening ttl) history).graph }
-    ensures lives { (ttl : ℕ) (history : History) → Legal ttl history → AllLive (state_after (opening ttl) history) }
+    ensures graph { (ttl : ℕ) (history : History) → Legal ttl history
+        → IsGraph (state_after (opening ttl) history).graph }
+    ensures lives { (ttl : ℕ) (history : History) → Legal ttl history
+        → AllLive (state_after (opening ttl) history) }
 {
     graphs_stay_graphs();
 }

@@ -12,6 +12,3 @@ mod sessions;
 pub use events::{Answer, Ask, Event};
 pub use machine::Core;
 pub use sessions::Session;
-
-#[cfg(test)]
-mod tests;

@@ -3,9 +3,9 @@ ghost use Rattle.std.specs.Prelude.{◌≡◌, ◌-◌, ◌^◌, ◌<◌, ◌≤
 ghost use Rattle.std.specs.Bool.{OnFalse};
 ghost use Rattle.ifmap_core.specs.Apply.{apply};
 ghost use Rattle.ifmap_core.specs.Causes.{AsksForNoneLeft, FindsTooMuch, IsRefusal, NamesAnothersSession, NamesNoSession};
-ghost use Rattle.ifmap_core.specs.Rows.{attached_all};
-ghost use Rattle.ifmap_core.specs.State.{State, advanced, opening, session_with_id};
-ghost use Rattle.ifmap_core.specs.Step.{end_session, in_session, is_full, new_session, publish, refused, search_answer, step, step_ask};
+ghost use Rattle.ifmap_core.specs.Attachments.{attach_all};
+ghost use Rattle.ifmap_core.specs.State.{State, advance, opening, session_with_id};
+ghost use Rattle.ifmap_core.specs.Step.{end_session, in_session, is_full, new_session, publish, refusal, search_answer, step, step_ask};
 ghost use Rattle.ifmap_ident.specs.declared.codes.Code.{Code};
 
 use crate::events::{Answer, Ask, Event};
@@ -19,7 +19,7 @@ use ifmap_io::Moment;
 use ifmap_meta::ClientName;
 use ifmap_msg::{PublishOp, Reply, Request, Search};
 use ifmap_steps::Steps;
-use std::alloc::{AllocError, Global};
+use std::alloc::{AllocError as NoMemory, Global};
 use std::marker::Model;
 use std::sync::ledger::Ledger;
 
@@ -45,7 +45,13 @@ impl Model for Core {
 
     ghost coded = { Prim.hlevel (codes, the_attachment.the_row.coded) };
 
-    ghost view = { λ core. record { moment = core.moment; ttl = core.ttl; counter = core.sessions.counter; graph = core.graph.attachments; sessions = core.sessions.live } };
+    ghost view = { λ core. record {
+      moment = core.moment;
+      ttl = core.ttl;
+      counter = core.sessions.counter;
+      graph = core.graph.attachments;
+      sessions = core.sessions.live;
+    } };
 }
 
 impl Core {
@@ -72,17 +78,23 @@ impl Core {
         alloc: Global,
         event: &Event,
         steps: &mut Steps<L>,
-    ) -> Result<Answer, AllocError>
+    ) -> Result<Answer, NoMemory>
         ensures answer { IfOk result (λ answer. (self.new, answer) ≡ step self.old event.now) }
         ensures err { OnErr result (self.new ≡ self.old) }
-        ensures refusal { IfOk result (λ answer. (code : Code) → IsRefusal code answer → self.new ≡ advanced event.now.moment self.old) }
+        ensures refusal { IfOk result (λ answer. (code : Code) → IsRefusal code answer
+            → self.new ≡ advance event.now.moment self.old) }
         ensures cost { steps.new ≡ steps.old }
 
         // Each refusal comes exactly where its cause stands.
-        ensures invalid_session { IfOk result (λ answer. IsRefusal Code.InvalidSessionID answer ↔ NamesNoSession self.old event.now.ask) }
-        ensures access_denied { IfOk result (λ answer. IsRefusal Code.AccessDenied answer ↔ NamesAnothersSession self.old event.now.client event.now.ask) }
-        ensures system_error { IfOk result (λ answer. IsRefusal Code.SystemError answer ↔ AsksForNoneLeft self.old event.now.client event.now.ask) }
-        ensures too_big { IfOk result (λ answer. IsRefusal Code.SearchResultsTooBig answer ↔ FindsTooMuch self.old event.now.client event.now.ask) }
+        ensures invalid_session { IfOk result
+            (λ answer. IsRefusal Code.InvalidSessionID answer
+            ↔ NamesNoSession self.old event.now.ask) }
+        ensures access_denied { IfOk result (λ answer. IsRefusal Code.AccessDenied answer
+            ↔ NamesAnothersSession self.old event.now.client event.now.ask) }
+        ensures system_error { IfOk result (λ answer. IsRefusal Code.SystemError answer
+            ↔ AsksForNoneLeft self.old event.now.client event.now.ask) }
+        ensures too_big { IfOk result (λ answer. IsRefusal Code.SearchResultsTooBig answer
+            ↔ FindsTooMuch self.old event.now.client event.now.ask) }
     {
         let before = self.moment;
         self.moment = before.max(event.moment);
@@ -95,9 +107,10 @@ impl Core {
         }
     }
 
-    // The row of the request, once the event's moment was taken in.
-    fn answer(&mut self, alloc: Global, event: &Event) -> Result<Answer, AllocError>
-        ensures answer { IfOk result (λ answer. (self.new, answer) ≡ step_ask self.old event.now event.now.ask) }
+    // The case of the request, once the event's moment was taken in.
+    fn answer(&mut self, alloc: Global, event: &Event) -> Result<Answer, NoMemory>
+        ensures answer { IfOk result (λ answer. (self.new, answer)
+            ≡ step_ask self.old event.now event.now.ask) }
         ensures err { OnErr result (self.new ≡ self.old) }
     {
         let client = &event.client;
@@ -120,8 +133,9 @@ impl Core {
         alloc: Global,
         client: &ClientName,
         random: u128,
-    ) -> Result<Answer, AllocError>
-        ensures answer { IfOk result (λ answer. (self.new, answer) ≡ new_session self.old client.now random) }
+    ) -> Result<Answer, NoMemory>
+        ensures answer { IfOk result (λ answer. (self.new, answer)
+            ≡ new_session self.old client.now random) }
         ensures err { OnErr result (self.new ≡ self.old) }
     {
         if self.is_full(client) {
@@ -154,11 +168,13 @@ impl Core {
         alloc: Global,
         id: &Text,
         client: &ClientName,
-    ) -> Result<Answer, AllocError>
-        ensures answer { IfOk result (λ answer. (self.new, answer) ≡ in_session self.old client.now (session_with_id id.now self.old.sessions) (end_session self.old)) }
+    ) -> Result<Answer, NoMemory>
+        ensures answer { IfOk result (λ answer. (self.new, answer)
+            ≡ in_session self.old client.now (session_with_id id.now self.old.sessions)
+            (end_session self.old)) }
         ensures err { OnErr result (self.new ≡ self.old) }
     {
-        match self.owned(id, client) {
+        match self.own_serial(id, client) {
             Ok(serial) => {
                 self.sessions.end(serial);
                 self.graph.retract_session(serial);
@@ -174,11 +190,13 @@ impl Core {
         id: &Text,
         ops: &Many<PublishOp>,
         client: &ClientName,
-    ) -> Result<Answer, AllocError>
-        ensures answer { IfOk result (λ answer. (self.new, answer) ≡ in_session self.old client.now (session_with_id id.now self.old.sessions) (publish self.old ops.now)) }
+    ) -> Result<Answer, NoMemory>
+        ensures answer { IfOk result (λ answer. (self.new, answer)
+            ≡ in_session self.old client.now (session_with_id id.now self.old.sessions)
+            (publish self.old ops.now)) }
         ensures err { OnErr result (self.new ≡ self.old) }
     {
-        match self.owned(id, client) {
+        match self.own_serial(id, client) {
             Ok(serial) => {
                 self.apply(alloc, ops, client, serial)?;
                 Ok(Answer::Reply(Reply::Published))
@@ -194,8 +212,11 @@ impl Core {
         ops: &Many<PublishOp>,
         client: &ClientName,
         serial: u64,
-    ) -> Result<(), AllocError>
-        ensures ok { OnOk result (self.new ≡ record self.old { graph = apply self.old.graph (record { client = client.now; serial = serial; moment = self.old.moment }) ops.now }) }
+    ) -> Result<(), NoMemory>
+        ensures ok { OnOk result (self.new ≡ record self.old {
+          graph = apply self.old.graph (record
+              { client = client.now; serial = serial; moment = self.old.moment }) ops.now;
+        }) }
         ensures err { OnErr result (self.new ≡ self.old) }
     {
         let author = Author {
@@ -203,9 +224,9 @@ impl Core {
             serial,
             moment: self.moment,
         };
-        let rows = author.rows_of(alloc, ops)?;
-        self.graph.reserve(rows.len())?;
-        attach_all(&mut self.graph, rows);
+        let attachments = author.attachments_of(alloc, ops)?;
+        self.graph.reserve(attachments.len())?;
+        attach_all(&mut self.graph, attachments);
         Ok(())
     }
 
@@ -215,19 +236,24 @@ impl Core {
         id: &Text,
         search: &Search,
         client: &ClientName,
-    ) -> Result<Answer, AllocError>
-        ensures { IfOk result (λ answer. (self.now, answer) ≡ in_session self.now client.now (session_with_id id.now self.now.sessions) (λ s. (self.now, search_answer self.now.graph search.now))) }
+    ) -> Result<Answer, NoMemory>
+        ensures { IfOk result (λ answer. (self.now, answer)
+            ≡ in_session self.now client.now (session_with_id id.now self.now.sessions)
+            (λ s. (self.now, search_answer self.now.graph search.now))) }
     {
-        match self.owned(id, client) {
+        match self.own_serial(id, client) {
             Ok(_) => search_answer(alloc, &self.graph, search),
             Err(code) => refusal(alloc, code),
         }
     }
 
     // The serial of the live session with that id, where it is the client's.
-    fn owned(&self, id: &Text, client: &ClientName) -> Result<u64, Code>
-        ensures own { IfOk result (λ serial. (s : Session) × (s.serial ≡ serial) × (session_with_id id.now self.now.sessions ≡ Some s) × (s.client ≡ client.now)) }
-        ensures refusal { IfErr result (λ code. (accept : Session → State × Answer) → in_session self.now client.now (session_with_id id.now self.now.sessions) accept ≡ (self.now, refused code)) }
+    fn own_serial(&self, id: &Text, client: &ClientName) -> Result<u64, Code>
+        ensures own { IfOk result (λ serial. (s : Session) × (s.serial ≡ serial)
+            × (session_with_id id.now self.now.sessions ≡ Some s) × (s.client ≡ client.now)) }
+        ensures refusal { IfErr result (λ code. (accept : Session → State × Answer)
+            → in_session self.now client.now (session_with_id id.now self.now.sessions) accept
+            ≡ (self.now, refusal code)) }
     {
         let Some(session) = self.sessions.with_id(id) else {
             return Err(Code::InvalidSessionID);
@@ -240,19 +266,19 @@ impl Core {
     }
 }
 
-// Attaches the rows in order. It takes no memory.
-fn attach_all(graph: &mut Graph, rows: Vec<KeptAttachment>)
-    requires { vec_len rows ≤ graph.old.room }
-    ensures { graph.new.attachments ≡ attached_all graph.old.attachments rows.items }
+// Attaches the attachments in order. It takes no memory.
+fn attach_all(graph: &mut Graph, attachments: Vec<KeptAttachment>)
+    requires { vec_len attachments ≤ graph.old.room }
+    ensures { graph.new.attachments ≡ attach_all graph.old.attachments attachments.items }
 {
-    for row in rows {
-        graph.attach(row);
+    for attachment in attachments {
+        graph.attach(attachment);
     }
 }
 
 // A refusal whose note is the code's name.
-fn refusal(alloc: Global, code: Code) -> Result<Answer, AllocError>
-    ensures { IfOk result (λ answer. answer ≡ refused code) }
+fn refusal(alloc: Global, code: Code) -> Result<Answer, NoMemory>
+    ensures { IfOk result (λ answer. answer ≡ refusal code) }
 {
     let note = Text::from_str(alloc, code.name())?;
     Ok(Answer::Reply(Reply::Error { code, note }))

@@ -1,7 +1,7 @@
-//! The rows that a publish attaches.
+//! The attachments that a publish attaches.
 ghost use Rattle.std.specs.Prelude.{◌≡◌, ◌++◌, IfOk, OnOk};
 ghost use Rattle.ifmap_core.specs.Apply.{attachment_of, life_of};
-ghost use Rattle.ifmap_core.specs.Rows.{authorship, rows_of, rows_of_op, rows_of_update};
+ghost use Rattle.ifmap_core.specs.Attachments.{authorship, attachments_of, attachments_of_op, attachments_of_update};
 
 use ifmap_elem::{Copied, Many};
 use ifmap_graph::KeptAttachment;
@@ -9,7 +9,7 @@ use ifmap_ident::Item;
 use ifmap_io::Moment;
 use ifmap_meta::{ClientName, Life, Metadata};
 use ifmap_msg::PublishOp;
-use std::alloc::{AllocError, Global};
+use std::alloc::{AllocError as NoMemory, Global};
 
 /// Who publishes, in the session of which serial, and at which moment.
 #[derive(Clone, Copy)]
@@ -20,36 +20,38 @@ pub struct Author<'a> {
 }
 
 impl<'a> Author<'a> {
-    /// The rows that the operations attach, in order. All the memory of a publish is taken here.
-    pub fn rows_of(
+    /// The attachments that the operations attach, in order. All the memory of a publish is taken here.
+    pub fn attachments_of(
         &self,
         alloc: Global,
         ops: &Many<PublishOp>,
-    ) -> Result<Vec<KeptAttachment>, AllocError>
-        ensures { IfOk result (λ rows. rows.items ≡ rows_of (authorship self.now) ops.now) }
+    ) -> Result<Vec<KeptAttachment>, NoMemory>
+        ensures { IfOk result (λ attachments. attachments.items
+            ≡ attachments_of (authorship self.now) ops.now) }
     {
-        let mut rows = Vec::new(alloc);
+        let mut attachments = Vec::new(alloc);
         for op in &ops.0 {
-            self.add_rows(alloc, op, &mut rows)?;
+            self.add_attachments(alloc, op, &mut attachments)?;
         }
-        Ok(rows)
+        Ok(attachments)
     }
 
-    // The rows of one operation go behind the others.
-    fn add_rows(
+    // The attachments of one operation go after the others.
+    fn add_attachments(
         &self,
         alloc: Global,
         op: &PublishOp,
-        rows: &mut Vec<KeptAttachment>,
-    ) -> Result<(), AllocError>
-        ensures { OnOk result (rows.new.items ≡ rows.old.items ++ rows_of_op (authorship self.now) op.now) }
+        attachments: &mut Vec<KeptAttachment>,
+    ) -> Result<(), NoMemory>
+        ensures { OnOk result (attachments.new.items
+            ≡ attachments.old.items ++ attachments_of_op (authorship self.now) op.now) }
     {
         match op {
             PublishOp::Update {
                 item,
                 elements,
                 forever,
-            } => self.add_update(alloc, item, elements, *forever, rows),
+            } => self.add_update(alloc, item, elements, *forever, attachments),
         }
     }
 
@@ -59,25 +61,29 @@ impl<'a> Author<'a> {
         item: &Item,
         elements: &Many<Metadata>,
         forever: bool,
-        rows: &mut Vec<KeptAttachment>,
-    ) -> Result<(), AllocError>
-        ensures { OnOk result (rows.new.items ≡ rows.old.items ++ rows_of_update (authorship self.now) item.now forever elements.now) }
+        attachments: &mut Vec<KeptAttachment>,
+    ) -> Result<(), NoMemory>
+        ensures { OnOk result (attachments.new.items
+            ≡ attachments.old.items ++ attachments_of_update (authorship self.now) item.now forever
+            elements.now) }
     {
         for metadata in &elements.0 {
-            rows.push(self.row(alloc, item, metadata, forever)?)?;
+            attachments.push(self.attachment_of(alloc, item, metadata, forever)?)?;
         }
         Ok(())
     }
 
     // One element as it is attached.
-    fn row(
+    fn attachment_of(
         &self,
         alloc: Global,
         item: &Item,
         metadata: &Metadata,
         forever: bool,
-    ) -> Result<KeptAttachment, AllocError>
-        ensures { IfOk result (λ row. row ≡ attachment_of (authorship self.now) item.now forever metadata.now) }
+    ) -> Result<KeptAttachment, NoMemory>
+        ensures { IfOk result (λ attachment. attachment
+            ≡ attachment_of (authorship self.now) item.now forever
+            metadata.now) }
     {
         let life = self.life(forever);
         let stored = metadata.stamp(alloc, self.client, self.moment, life)?;

@@ -8,15 +8,15 @@ use ifmap_elem::{Copied, Many, Text};
 use ifmap_graph::{Graph, KeptAttachment};
 use ifmap_ident::{Code, Item};
 use ifmap_msg::{Entry, Reply, Search};
-use std::alloc::{AllocError, Global};
+use std::alloc::{AllocError as NoMemory, Global};
 
 /// What the search finds in the graph, or the refusal where its size is greater than the limit.
-pub fn search_answer(alloc: Global, graph: &Graph, search: &Search) -> Result<Answer, AllocError>
+pub fn search_answer(alloc: Global, graph: &Graph, search: &Search) -> Result<Answer, NoMemory>
     ensures { IfOk result (λ answer. answer ≡ search_answer graph.now.attachments search.now) }
 {
     let start = Item::One(search.start.copy(alloc)?);
-    let rows = graph.attachments_on(&start);
-    let size = size_of(rows)?;
+    let attachments = graph.attachments_on(&start);
+    let size = size_of(attachments)?;
     if search.max_size < size {
         let note = limit_note(alloc, size, search.max_size)?;
         return Ok(Answer::Reply(Reply::Error {
@@ -24,41 +24,41 @@ pub fn search_answer(alloc: Global, graph: &Graph, search: &Search) -> Result<An
             note,
         }));
     }
-    let entries = entries_of(alloc, rows)?;
+    let entries = entries_of(alloc, attachments)?;
     Ok(Answer::Reply(Reply::Found(entries)))
 }
 
 // The size of a result. A sum of 2^64 or more is told as want of memory.
-fn size_of(rows: &[KeptAttachment]) -> Result<u64, AllocError>
-    ensures { IfOk result (λ size. size ≡ size_of rows.now) }
+fn size_of(attachments: &[KeptAttachment]) -> Result<u64, NoMemory>
+    ensures { IfOk result (λ size. size ≡ size_of attachments.now) }
 {
     let mut size = 0u64;
-    for row in rows {
-        size = size.checked_add(row.size()).ok_or(AllocError)?;
+    for attachment in attachments {
+        size = size.checked_add(attachment.size()).ok_or(NoMemory)?;
     }
     Ok(size)
 }
 
-fn entries_of(alloc: Global, rows: &[KeptAttachment]) -> Result<Many<Entry>, AllocError>
-    ensures { IfOk result (λ entries. entries ≡ map entry_of rows.now) }
+fn entries_of(alloc: Global, attachments: &[KeptAttachment]) -> Result<Many<Entry>, NoMemory>
+    ensures { IfOk result (λ entries. entries ≡ map entry_of attachments.now) }
 {
-    let mut entries = Vec::with_capacity(alloc, rows.len())?;
-    for row in rows {
-        entries.push(entry_of(alloc, row)?)?;
+    let mut entries = Vec::with_capacity(alloc, attachments.len())?;
+    for attachment in attachments {
+        entries.push(entry_of(alloc, attachment)?)?;
     }
     Ok(Many(entries))
 }
 
-fn entry_of(alloc: Global, row: &KeptAttachment) -> Result<Entry, AllocError>
-    ensures { IfOk result (λ entry. entry ≡ entry_of row.now) }
+fn entry_of(alloc: Global, attachment: &KeptAttachment) -> Result<Entry, NoMemory>
+    ensures { IfOk result (λ entry. entry ≡ entry_of attachment.now) }
 {
     Ok(Entry {
-        item: row.item().copy(alloc)?,
-        element: row.stored().element.copy(alloc)?,
+        item: attachment.item().copy(alloc)?,
+        element: attachment.stored().element.copy(alloc)?,
     })
 }
 
-fn limit_note(alloc: Global, size: u64, limit: u64) -> Result<Text, AllocError>
+fn limit_note(alloc: Global, size: u64, limit: u64) -> Result<Text, NoMemory>
     ensures { IfOk result (λ note. note ≡ limit_note size limit) }
 {
     Ok(Text(format!(in alloc; "{size} of {limit}")?))

@@ -9,7 +9,7 @@ ghost use Rattle.ifmap_core.specs.State.{is_text, session_of_client, session_wit
 
 use ifmap_elem::{Copied, Equals, Text};
 use ifmap_meta::ClientName;
-use std::alloc::{AllocError, Global};
+use std::alloc::{AllocError as NoMemory, Global};
 use std::marker::Model;
 use uuid::Uuid;
 
@@ -55,7 +55,12 @@ impl Model for Sessions {
 
     ghost Value = { Table };
 
-    ghost view = { λ s. record { counter = s.counter; live = s.live.items; room = min (vec_capacity s.live - vec_len s.live) (vec_capacity s.holders - vec_len s.holders) } };
+    ghost view = { λ s. record {
+      counter = s.counter;
+      live = s.live.items;
+      room = min (vec_capacity s.live - vec_len s.live)
+          (vec_capacity s.holders - vec_len s.holders);
+    } };
 
     ghost invariant = { λ s. IsKept s.counter s.live.items s.holders.items };
 }
@@ -115,9 +120,10 @@ impl Sessions {
         alloc: Global,
         client: &ClientName,
         random: u128,
-    ) -> Result<Opening, AllocError>
+    ) -> Result<Opening, NoMemory>
         requires { self.old.counter < 2 ^ 64 - 1 }
-        ensures id { IfOk result (λ opening. opening.id ≡ session_id (self.old.counter + 1) random) }
+        ensures id { IfOk result (λ opening. opening.id
+            ≡ session_id (self.old.counter + 1) random) }
         ensures client { IfOk result (λ opening. opening.client ≡ client.now) }
         ensures room { OnOk result (1 ≤ self.new.room) }
         ensures counter { self.new.counter ≡ self.old.counter }
@@ -140,7 +146,9 @@ impl Sessions {
         requires id { (random : ℕ) × (opening.id ≡ session_id (self.old.counter + 1) random) }
         requires none { session_of_client opening.client self.old.live ≡ None }
         ensures counter { self.new.counter ≡ self.old.counter + 1 }
-        ensures live { self.new.live ≡ self.old.live ++ record { serial = self.old.counter + 1; id = opening.id; client = opening.client } ∷ [] }
+        ensures live { self.new.live ≡ self.old.live
+            ++ record { serial = self.old.counter + 1; id = opening.id; client = opening.client } ∷
+            [] }
     {
         let Opening { id, client, holder } = opening;
         let serial = self.counter + 1;
@@ -163,7 +171,9 @@ impl Sessions {
         requires { IsSome (session_with_serial serial self.old.live) }
         ensures counter { self.new.counter ≡ self.old.counter }
         ensures live { self.new.live ≡ without_sessions (serial ∷ []) self.old.live }
-        ensures gone { (client : List ℕ) → option_map (λ s. s.serial) (session_of_client client self.old.live) ≡ Some serial → session_of_client client self.new.live ≡ None }
+        ensures gone { (client : List ℕ) → option_map
+            (λ s. s.serial) (session_of_client client self.old.live) ≡ Some serial
+            → session_of_client client self.new.live ≡ None }
         ensures room { self.new.room ≡ self.old.room + 1 }
     {
         let place = place_of_serial(&self.live, serial).unwrap();
@@ -201,14 +211,15 @@ fn place_of_client(holders: &[Holder], client: &ClientName) -> Result<usize, usi
 
 // The number before the first hyphen, if the text begins with one.
 fn serial_of(id: &str) -> Option<u64>
-    ensures { (serial : ℕ) (rest : List ℕ) → serial < 2 ^ 64 → id.now ≡ decimal serial ++ 45 ∷ rest → result ≡ Some serial }
+    ensures { (serial : ℕ) (rest : List ℕ) → serial < 2 ^ 64 → id.now ≡ decimal serial ++ 45 ∷ rest
+        → result ≡ Some serial }
 {
     let (digits, _) = id.split_once('-')?;
     digits.parse::<u64>().ok()
 }
 
 // The id of the session with that serial.
-fn new_id(alloc: Global, serial: u64, random: u128) -> Result<Text, AllocError>
+fn new_id(alloc: Global, serial: u64, random: u128) -> Result<Text, NoMemory>
     ensures { IfOk result (λ id. id ≡ session_id serial random) }
 {
     let mut room = Uuid::encode_buffer();

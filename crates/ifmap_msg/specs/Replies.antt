@@ -63,13 +63,13 @@ abbrev pub around : List ℕ → List ℕ → Element → Element
 around space local inner = record { name = record { space = space; local = local }; attributes = []; children = child.Element inner ∷ [] }
 
 -- the envelope of a result
-abbrev pub enveloped : Element → Element
-enveloped result =
+abbrev pub in_envelope : Element → Element
+in_envelope result =
     around envelope_space (codes "Envelope") (around envelope_space (codes "Body") (around ifmap_space (codes "response") result))
 
 -- the whole envelope of a reply
 abbrev pub reply_element : Reply → Element
-reply_element reply = enveloped (result_element reply)
+reply_element reply = in_envelope (result_element reply)
 
 -- a reply as it is sent
 unfoldable pub reply_bytes : Reply → List ℕ

@@ -5,7 +5,7 @@ use Rattle.ifmap_ident.specs.declared.items.Item.{Item}
 use Rattle.ifmap_ident.specs.Items.{same_item}
 use Rattle.ifmap_msg.specs.declared.replies.Entry.{Entry}
 
--- an entry joins the run behind it where it is on the same item, and is a run of its own where it is not
+-- an entry joins the run after it where it is on the same item, and is a run of its own where it is not
 abbrev pub before : Entry → List (Item × List Element) → List (Item × List Element)
 before entry [] = (entry.item, entry.element ∷ []) ∷ []
 before entry (run ∷ runs) =

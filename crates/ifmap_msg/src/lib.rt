@@ -9,6 +9,3 @@ mod runs;
 pub use replies::{Entry, Reply};
 pub use requests::{PublishOp, Request, Search};
 pub use results::element_of;
-
-#[cfg(test)]
-mod tests;

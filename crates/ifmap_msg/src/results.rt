@@ -1,7 +1,7 @@
 //! A reply as an element.
 ghost use Rattle.std.specs.Prelude.{◌≡◌, [], IfOk};
 ghost use Rattle.ifmap_elem.specs.Building.{bare_element};
-ghost use Rattle.ifmap_msg.specs.Replies.{around, enveloped, error_result, new_session_result, reply_element, result_element, search_result};
+ghost use Rattle.ifmap_msg.specs.Replies.{around, in_envelope, error_result, new_session_result, reply_element, result_element, search_result};
 
 use crate::replies::{Entry, Reply};
 use crate::runs::runs_of;
@@ -17,24 +17,19 @@ pub fn element_of(alloc: Global, reply: Reply) -> Result<Element, NoMemory>
     ensures { IfOk result (λ element. element ≡ reply_element reply) }
 {
     let result = result_of(alloc, reply)?;
-    enveloped(alloc, result)
+    in_envelope(alloc, result)
 }
 
-fn enveloped(alloc: Global, inner: Element) -> Result<Element, NoMemory>
-    ensures { IfOk result (λ element. element ≡ enveloped inner) }
+fn in_envelope(alloc: Global, inner: Element) -> Result<Element, NoMemory>
+    ensures { IfOk result (λ element. element ≡ in_envelope inner) }
 {
     let response = around(alloc, IFMAP_SPACE, "response", inner)?;
     let body = around(alloc, ENVELOPE_SPACE, "Body", response)?;
     around(alloc, ENVELOPE_SPACE, "Envelope", body)
 }
 
-/// An element of a namespace that holds one other and nothing else.
-pub(crate) fn around(
-    alloc: Global,
-    space: &str,
-    local: &str,
-    inner: Element,
-) -> Result<Element, NoMemory>
+// An element of a namespace that holds one other and nothing else.
+fn around(alloc: Global, space: &str, local: &str, inner: Element) -> Result<Element, NoMemory>
     ensures { IfOk result (λ element. element ≡ around space.now local.now inner) }
 {
     Ok(Element {

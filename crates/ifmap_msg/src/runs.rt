@@ -63,7 +63,7 @@ impl Run {
         ensures { IfOk result (λ element. element ≡ item_element self) }
     {
         let Run { item, backwards } = self;
-        let found = forwards(alloc, backwards)?;
+        let found = forward_children(alloc, backwards)?;
         let metadata = Element::bare(alloc, "metadata", Vec::new(alloc), found)?;
         let mut children = identifiers_in(alloc, &item)?;
         children.push(Child::Element(metadata))?;
@@ -83,7 +83,7 @@ pub fn runs_of(alloc: Global, entries: Vec<Entry>) -> Result<Vec<Run>, NoMemory>
     Ok(runs)
 }
 
-// Puts an entry before the runs of those behind it.
+// Puts an entry before the runs of those after it.
 fn take_in(alloc: Global, runs: &mut Vec<Run>, entry: Entry) -> Result<(), NoMemory>
     ensures { OnOk result (reverse runs.new.items ≡ before entry (reverse runs.old.items)) }
 {
@@ -101,7 +101,7 @@ fn take_in(alloc: Global, runs: &mut Vec<Run>, entry: Entry) -> Result<(), NoMem
 }
 
 // The elements in the other order, as children.
-fn forwards(alloc: Global, backwards: Vec<Element>) -> Result<Vec<Child>, NoMemory>
+fn forward_children(alloc: Global, backwards: Vec<Element>) -> Result<Vec<Child>, NoMemory>
     ensures { IfOk result (λ children. children.items ≡ as_children (reverse backwards.items)) }
 {
     let mut rest = backwards;
@@ -113,7 +113,8 @@ fn forwards(alloc: Global, backwards: Vec<Element>) -> Result<Vec<Child>, NoMemo
 }
 
 fn identifiers_in(alloc: Global, item: &Item) -> Result<Vec<Child>, NoMemory>
-    ensures { IfOk result (λ children. children.items ≡ as_children (map identifier_element (identifiers_of item.now))) }
+    ensures { IfOk result (λ children. children.items
+        ≡ as_children (map identifier_element (identifiers_of item.now))) }
 {
     match item {
         Item::One(identifier) => Ok(vec![in alloc; Child::Element(identifier.element(alloc)?)]?),

@@ -20,45 +20,52 @@ use Rattle.uuid.proofs.OrderLemmas.{from_be_bytes-to_be_bytes_16}
 use Rattle.uuid.proofs.TextLemmas.{by_index_ascii, nibble_small, hex_digit_ascii}
 use Rattle.std.proofs.Common.{inl}
 use Rattle.ifmap_meta.specs.ClientNames.{is_client_byte}
-use Rattle.ifmap_server.specs.declared.frames.Header.{Header}
+use Rattle.ifmap_server.specs.declared.headers.Header.{Header}
 use Rattle.ifmap_server.specs.Frames.{IsHeader, word_text}
 use Rattle.ifmap_server.specs.Lines.{AreWords, HasNoSpace, words_line}
-use Rattle.ifmap_server.proofs.Splits.{without_from, without_at, before, behind, before_at, behind_at}
-use Rattle.ifmap_server.proofs.Headers.{line_text, line_of, joined_right, decimal_without, word_without, word_parses, client_without}
+use Rattle.ifmap_server.proofs.Splits.{without_from, without_at, before, after, before_at, after_at}
+use Rattle.ifmap_server.proofs.HeaderLines.{line_text, line_of, joined_right, decimal_without, word_without, word_parses, client_without}
 
 -- ---- a line as words
 
 pub cut_one : (t a b m x : List ℕ) → t ≡ a ++ 32 ∷ b → HasNoSpace a → t ≡ m ++ 32 ∷ x → HasNoSpace m → (a ≡ m) × (b ≡ x)
 cut_one t a b m x e na f nm = (
   sym (before_at 32 a b (without_from 32 a na)) ∙ ap (before 32) (sym e ∙ f) ∙ before_at 32 m x (without_from 32 m nm),
-  sym (behind_at 32 a b (without_from 32 a na)) ∙ ap (behind 32) (sym e ∙ f) ∙ behind_at 32 m x (without_from 32 m nm),
+  sym (after_at 32 a b (without_from 32 a na)) ∙ ap (after 32) (sym e ∙ f) ∙ after_at 32 m x (without_from 32 m nm),
 )
 
 no_cut : (t m x : List ℕ) → HasNoSpace t → t ≡ m ++ 32 ∷ x → ⊥
 no_cut t m x none e =
     none (length m) (omega (arith, ap length e, length-append m (32 ∷ x)))
-    (ap (λ (l : List ℕ). get_or l (length m) 0) e ∙ ap (λ (n : ℕ). get_or (m ++ 32 ∷ x) n 0) (omega arith) ∙ get_or-append-add m (32 ∷ x) 0 0)
+    (ap (λ (l : List ℕ). get_or l (length m) 0) e ∙ ap (λ (n : ℕ). get_or (m ++ 32 ∷ x) n 0) (omega arith)
+    ∙ get_or-append-add m (32 ∷ x) 0 0)
 
-words_behind : (line words m c r s : List ℕ) → line ≡ 64 ∷ words → AreWords line m c r s → words ≡ m ++ 32 ∷ (c ++ 32 ∷ (r ++ 32 ∷ s))
-words_behind line words m c r s e w = ap (drop 1) (sym e ∙ w.text ∙ joined_right m c r s)
+words_after : (line words m c r s : List ℕ) → line ≡ 64 ∷ words → AreWords line m c r s → words ≡ m ++ 32 ∷ (c ++ 32 ∷ (r ++ 32 ∷ s))
+words_after line words m c r s e w = ap (drop 1) (sym e ∙ w.text ∙ joined_right m c r s)
 
 pub no_sign : (line : List ℕ) → ((rest : List ℕ) → line ≢ 64 ∷ rest) → (m c r s : List ℕ) → AreWords line m c r s → ⊥
 no_sign line none m c r s w = none (m ++ 32 ∷ (c ++ 32 ∷ (r ++ 32 ∷ s))) (w.text ∙ joined_right m c r s)
 
 pub no_first : (line words : List ℕ) → line ≡ 64 ∷ words → HasNoSpace words → (m c r s : List ℕ) → AreWords line m c r s → ⊥
-no_first line words e none m c r s w = no_cut words m (c ++ 32 ∷ (r ++ 32 ∷ s)) none (words_behind line words m c r s e w)
+no_first line words e none m c r s w = no_cut words m (c ++ 32 ∷ (r ++ 32 ∷ s)) none (words_after line words m c r s e w)
 
-pub no_second : (line words a rest : List ℕ) → line ≡ 64 ∷ words → (words ≡ a ++ 32 ∷ rest) × HasNoSpace a → HasNoSpace rest → (m c r s : List ℕ) → AreWords line m c r s → ⊥
+pub no_second : (line words a rest : List ℕ) → line ≡ 64 ∷ words → (words ≡ a ++ 32 ∷ rest) × HasNoSpace a → HasNoSpace rest
+    → (m c r s : List ℕ) → AreWords line m c r s → ⊥
 no_second line words a rest e f none m c r s w =
-    no_cut rest c (r ++ 32 ∷ s) none (cut_one words a rest m (c ++ 32 ∷ (r ++ 32 ∷ s)) f.0 f.1 (words_behind line words m c r s e w) w.moment).1
+    no_cut rest c (r ++ 32 ∷ s) none (cut_one words a rest m (c ++ 32 ∷ (r ++ 32 ∷ s)) f.0 f.1 (words_after line words m c r s e w)
+    w.moment).1
 
-pub no_third : (line words a rest b more : List ℕ) → line ≡ 64 ∷ words → (words ≡ a ++ 32 ∷ rest) × HasNoSpace a → (rest ≡ b ++ 32 ∷ more) × HasNoSpace b → HasNoSpace more → (m c r s : List ℕ) → AreWords line m c r s → ⊥
+pub no_third : (line words a rest b more : List ℕ) → line ≡ 64 ∷ words → (words ≡ a ++ 32 ∷ rest) × HasNoSpace a
+    → (rest ≡ b ++ 32 ∷ more) × HasNoSpace b → HasNoSpace more → (m c r s : List ℕ) → AreWords line m c r s → ⊥
 no_third line words a rest b more e f g none m c r s w =
-    no_cut more r s none (cut_one rest b more c (r ++ 32 ∷ s) g.0 g.1 (cut_one words a rest m (c ++ 32 ∷ (r ++ 32 ∷ s)) f.0 f.1 (words_behind line words m c r s e w) w.moment).1 w.client).1
+    no_cut more r s none (cut_one rest b more c (r ++ 32 ∷ s) g.0 g.1
+    (cut_one words a rest m (c ++ 32 ∷ (r ++ 32 ∷ s)) f.0 f.1 (words_after line words m c r s e w) w.moment).1 w.client).1
 
-pub are_words : (line words a rest b more d s : List ℕ) → line ≡ 64 ∷ words → (words ≡ a ++ 32 ∷ rest) × HasNoSpace a → (rest ≡ b ++ 32 ∷ more) × HasNoSpace b → (more ≡ d ++ 32 ∷ s) × HasNoSpace d → AreWords line a b d s
+pub are_words : (line words a rest b more d s : List ℕ) → line ≡ 64 ∷ words → (words ≡ a ++ 32 ∷ rest) × HasNoSpace a
+    → (rest ≡ b ++ 32 ∷ more) × HasNoSpace b → (more ≡ d ++ 32 ∷ s) × HasNoSpace d → AreWords line a b d s
 are_words line words a rest b more d s e f g h = record {
-  text = e ∙ ap (λ (l : List ℕ). 64 ∷ l) (f.0 ∙ ap (λ (l : List ℕ). a ++ 32 ∷ l) (g.0 ∙ ap (λ (l : List ℕ). b ++ 32 ∷ l) h.0)) ∙ sym (joined_right a b d s);
+  text = e ∙ ap (λ (l : List ℕ). 64 ∷ l) (f.0 ∙ ap (λ (l : List ℕ). a ++ 32 ∷ l) (g.0 ∙ ap (λ (l : List ℕ). b ++ 32 ∷ l) h.0))
+      ∙ sym (joined_right a b d s);
   moment = f.1;
   client = g.1;
   random = h.1;
@@ -81,7 +88,8 @@ words_one line a b d s m c r z v w =
 
 -- ---- a header's line
 
-pub header_words : (line : List ℕ) (h : Header) → IsHeader line h → AreWords line (decimal h.moment) h.client (word_text h.random) (decimal h.size)
+pub header_words : (line : List ℕ) (h : Header) → IsHeader line h
+    → AreWords line (decimal h.moment) h.client (word_text h.random) (decimal h.size)
 header_words line h is = record {
   text = line_of line h is;
   moment = without_at 32 (decimal h.moment) (decimal_without 32 h.moment (λ r. omega arith) (let m = is.moment in omega arith));
@@ -90,19 +98,22 @@ header_words line h is = record {
 }
 
 word_ascii : (n : ℕ) → IsAscii (word_text n)
-word_ascii n = by_index_ascii 32 (λ j. hex_digit lower (nibble (to_be_bytes w128 n) j)) (λ k within. hex_digit_ascii lower (nibble (to_be_bytes w128 n) k) (inl refl) (nibble_small (to_be_bytes w128 n) k))
+word_ascii n = by_index_ascii 32 (λ j. hex_digit lower (nibble (to_be_bytes w128 n) j))
+    (λ k within. hex_digit_ascii lower (nibble (to_be_bytes w128 n) k) (inl refl) (nibble_small (to_be_bytes w128 n) k))
 
 byte_ascii : (b : ℕ) → is_client_byte b ≡ true → b < 128
 byte_ascii b is = grind (arith, nat_tests)
 
 client_ascii : (xs : List ℕ) → IsTrue (list_all is_client_byte xs) → IsAscii xs
 client_ascii [] all = IsAscii-nil
-client_ascii (b ∷ bs) all = let p = and_parts (is_client_byte b) (list_all is_client_byte bs) all in IsAscii-cons b bs (byte_ascii b p.0) (client_ascii bs p.1)
+client_ascii (b ∷ bs) all = let p = and_parts (is_client_byte b) (list_all is_client_byte bs) all in
+    IsAscii-cons b bs (byte_ascii b p.0) (client_ascii bs p.1)
 
 joined_ascii : (m c r s : List ℕ) → IsAscii m → IsAscii c → IsAscii r → IsAscii s → IsAscii (words_line m c r s)
 joined_ascii m c r s am ac ar as_ =
     IsAscii-append (64 ∷ m ++ 32 ∷ c ++ 32 ∷ r) (32 ∷ s)
-    (IsAscii-append (64 ∷ m ++ 32 ∷ c) (32 ∷ r) (IsAscii-append (64 ∷ m) (32 ∷ c) (IsAscii-cons 64 m (omega arith) am) (IsAscii-cons 32 c (omega arith) ac)) (IsAscii-cons 32 r (omega arith) ar))
+    (IsAscii-append (64 ∷ m ++ 32 ∷ c) (32 ∷ r) (IsAscii-append (64 ∷ m) (32 ∷ c) (IsAscii-cons 64 m (omega arith) am)
+    (IsAscii-cons 32 c (omega arith) ac)) (IsAscii-cons 32 r (omega arith) ar))
     (IsAscii-cons 32 s (omega arith) as_)
 
 pub header_utf8 : (line : List ℕ) (h : Header) → IsHeader line h → IsUtf8 line
@@ -111,7 +122,8 @@ header_utf8 line h is =
     let s = is.size in
     subst (λ (l : List ℕ). IsUtf8 l) (sym (line_of line h is))
     (IsUtf8-from_ascii (line_text h) (joined_ascii (decimal h.moment) h.client (word_text h.random) (decimal h.size)
-    (IsAscii-decimal h.moment (omega arith)) (client_ascii h.client is.client.2) (word_ascii h.random) (IsAscii-decimal h.size (omega arith))))
+    (IsAscii-decimal h.moment (omega arith)) (client_ascii h.client is.client.2) (word_ascii h.random)
+    (IsAscii-decimal h.size (omega arith))))
 
 -- ---- numbers
 
@@ -120,18 +132,22 @@ differs a b r e f same = both_ways r f (e ∙ (bytes_eq-Decides a b).1 same)
 
 pub number_told : (limit n : ℕ) (text : List ℕ) (r : Option ℕ) → limit < 2 ^ 64 → n < 2 ^ 64 → text ≡ decimal n → SomeIff r (n ≤ limit) n
     → MatchOption r ((k : ℕ) → k ≤ limit → text ≢ decimal k) (λ k. (k ≤ limit) × (text ≡ decimal k))
-number_told limit n text None low small e s = λ k within f. s (let same = decimal_injective n k small (omega arith) (sym e ∙ f) in omega arith)
+number_told limit n text None low small e s = λ k within f. s (let same = decimal_injective n k small (omega arith) (sym e ∙ f) in
+    omega arith)
 number_told limit n text (Some k) low small e s = (let a = s.0 in let b = s.1 in omega arith, e ∙ ap decimal (sym s.1))
 
-pub number_beyond : (limit n : ℕ) (text : List ℕ) → limit < 2 ^ 64 → n < 2 ^ 64 → text ≡ decimal n → limit < n → (k : ℕ) → k ≤ limit → text ≢ decimal k
-number_beyond limit n text low small e over k within f = let same = decimal_injective n k small (omega arith) (sym e ∙ f) in absurd (omega arith)
+pub number_beyond : (limit n : ℕ) (text : List ℕ) → limit < 2 ^ 64 → n < 2 ^ 64 → text ≡ decimal n → limit < n → (k : ℕ) → k ≤ limit
+    → text ≢ decimal k
+number_beyond limit n text low small e over k within f = let same = decimal_injective n k small (omega arith) (sym e ∙ f) in
+    absurd (omega arith)
 
 pub parses : {E : Type 0} (n : ℕ) (text : List ℕ) (r : Result ℕ E) → ParsesUnsigned 64 10 text r → n < 2 ^ 64 → text ≡ decimal n → r ≡ Ok n
 parses n text r p small e = parse-decimal 64 n text r small small e p
 
 -- ---- random words
 
-pub word_parsed : {E : Type 0} (n : ℕ) (text : List ℕ) (r : Result (List ℕ) E) → (IsOk r ↔ ((x : List ℕ) × (parsed text ≡ Some x))) → IfOk r (λ x. Some x ≡ parsed text) → text ≡ word_text n → r ≡ Ok (to_be_bytes w128 n)
+pub word_parsed : {E : Type 0} (n : ℕ) (text : List ℕ) (r : Result (List ℕ) E) → (IsOk r ↔ ((x : List ℕ) × (parsed text ≡ Some x))) → IfOk r
+    (λ x. Some x ≡ parsed text) → text ≡ word_text n → r ≡ Ok (to_be_bytes w128 n)
 word_parsed n text r ok bytes e = parse_gives r text (to_be_bytes w128 n) ok bytes (word_parses n ∙ ap parsed (sym e))
 
 pub word_back : (n : ℕ) → n < 2 ^ 128 → from_be_bytes w128 (to_be_bytes w128 n) ≡ n
@@ -139,5 +155,7 @@ word_back n small = from_be_bytes-to_be_bytes_16 n small
 
 -- ---- the words of a line that is a header
 
-pub header_shares : (line a b d s : List ℕ) → AreWords line a b d s → (h : Header) → IsHeader line h → SameWords a b d s (decimal h.moment) h.client (word_text h.random) (decimal h.size)
-header_shares line a b d s w h is = words_one line a b d s (decimal h.moment) h.client (word_text h.random) (decimal h.size) w (header_words line h is)
+pub header_shares : (line a b d s : List ℕ) → AreWords line a b d s → (h : Header) → IsHeader line h
+    → SameWords a b d s (decimal h.moment) h.client (word_text h.random) (decimal h.size)
+header_shares line a b d s w h is = words_one line a b d s (decimal h.moment) h.client (word_text h.random) (decimal h.size) w
+    (header_words line h is)

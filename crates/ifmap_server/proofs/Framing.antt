@@ -1,25 +1,30 @@
 -- From the first line of what is pending to the frame that begins there, or to none.
-use Rattle.std.proofs.Common.{◌≡◌, ◌≢◌, ℕ, suc, ◌+◌, ◌-◌, ◌<◌, ◌≤◌, List, [], ◌∷◌, ◌++◌, length, length-append, get_or, take, drop, Option, None, Some, IfSome, inl, inr, arith, append-nil, refl, sym, ap, subst, ◌∙◌, add-one, take-append-drop}
+-- Where a frame begins, the line that is there is that of its header (`line_place`, `its_header`), so it ends where the
+-- header says. From this: no frame begins where no line is, where the line is no header, where the frame is too long or cut;
+-- a whole one does where its bytes are there (`whole`). At the end: what is told of a fault, and which reads are due.
+use Rattle.std.proofs.Common.{◌≡◌, ◌≢◌, ℕ, suc, ◌+◌, ◌-◌, ◌<◌, ◌≤◌, List, [], ◌∷◌, ◌++◌, length, length-append, get_or, take, drop, replicate, Option, None, Some, IfSome, inl, inr, arith, append-nil, append_assoc, refl, sym, ap, subst, ◌∙◌, add-one, take-append-drop}
 use Rattle.std.proofs.lemmas.Bool.{cases_lt}
 use Rattle.std.proofs.lemmas.List.{get_or_append_left, take-append-le}
-use Rattle.std.proofs.lemmas.List.{length-drop, length-take-le}
+use Rattle.std.proofs.lemmas.List.{drop_all, length-drop, length-replicate, length-take-le}
 use Rattle.std.proofs.Math.Seq.{drop-cons, drop-drop, get_or-append_seam, take-append_seam}
 use Rattle.std.specs.Io.KnownBytes.{IsAtEnd}
 use Rattle.std.specs.Prelude.{slice_range}
-use Rattle.ifmap_server.specs.declared.frames.Header.{Header}
+use Rattle.ifmap_server.specs.declared.headers.Header.{Header}
 use Rattle.ifmap_server.specs.declared.replaying.Framed.{Framed}
-use Rattle.ifmap_server.specs.Frames.{Frame, IsHeader}
-use Rattle.ifmap_server.specs.Pending.{HasNoLine, IsLineEnd, Takes}
+use Rattle.ifmap_server.specs.Frames.{Frame, IsHeader, frame_text}
+use Rattle.ifmap_server.specs.Awaited.{AwaitsBody, AwaitsLine, HasNoLine, IsAwaited}
+use Rattle.ifmap_server.specs.Pending.{IsLineEnd, Takes}
 use Rattle.ifmap_server.specs.Script.{Begins, longest_script}
 use Rattle.ifmap_server.specs.Turns.{BeginsNone, IsFramed, frame_within}
-use Rattle.ifmap_server.proofs.Headers.{header_of_line_one, line_of, line_text}
-use Rattle.ifmap_server.proofs.Scripts.{BeginsWith, begins_line, frame_length, header_of_frame, line_begins}
+use Rattle.ifmap_server.proofs.HeaderLines.{header_of_line_one, line_of, line_text}
+use Rattle.ifmap_server.proofs.Scripts.{BeginsWith, begins_line, begins_one, frame_length, header_of_frame, line_begins}
 
 -- the newline of a frame's header, in the bytes that it begins
 newline_at : (line bytes : List ℕ) (f : Frame) (rest : List ℕ) → BeginsWith line bytes f rest → get_or bytes (length line) 0 ≡ 10
 newline_at line bytes f rest w = ap (λ (b : List ℕ). get_or b (length line) 0) w.text ∙ get_or-append_seam line 10 (f.body ++ rest) 0
 
-newline_within : (line bytes : List ℕ) (f : Frame) (rest : List ℕ) → BeginsWith line bytes f rest → length line + 1 + (length f.body + length rest) ≡ length bytes
+newline_within : (line bytes : List ℕ) (f : Frame) (rest : List ℕ) → BeginsWith line bytes f rest
+    → length line + 1 + (length f.body + length rest) ≡ length bytes
 newline_within line bytes f rest w =
     let e = ap length w.text in
     omega (arith, length-append line (10 ∷ (f.body ++ rest)), length-append f.body rest)
@@ -34,13 +39,14 @@ no_line_none offset bytes none f rest b =
 
 -- ---- the line that is there is that of the frame
 
-line_place : (bytes more line : List ℕ) (place : ℕ) (f : Frame) (rest : List ℕ) → IsLineEnd bytes place → BeginsWith line (bytes ++ more) f rest → place ≡ length line
+line_place : (bytes more line : List ℕ) (place : ℕ) (f : Frame) (rest : List ℕ) → IsLineEnd bytes place
+    → BeginsWith line (bytes ++ more) f rest → place ≡ length line
 line_place bytes more line place f rest is w =
     elim (cases_lt place (length line)) [
       | inl early ↦
           absurd (w.no_newline place early
           (sym (get_or_append_left line (10 ∷ (f.body ++ rest)) 0 place early) ∙ ap (λ (b : List ℕ). get_or b place 0) (sym w.text)
-          ∙ get_or_append_left bytes more 0 place is.within ∙ is.newline))
+          ∙ get_or_append_left bytes more 0 place is.within ∙ is.there))
       | inr late ↦
           elim (cases_lt (length line) place) [
             | inl before ↦
@@ -51,28 +57,34 @@ line_place bytes more line place f rest is w =
           ]
     ]
 
-line_taken : (bytes more line : List ℕ) (place : ℕ) (f : Frame) (rest : List ℕ) → IsLineEnd bytes place → BeginsWith line (bytes ++ more) f rest → line ≡ take place bytes
+line_taken : (bytes more line : List ℕ) (place : ℕ) (f : Frame) (rest : List ℕ) → IsLineEnd bytes place
+    → BeginsWith line (bytes ++ more) f rest → line ≡ take place bytes
 line_taken bytes more line place f rest is w =
     let within = is.within in
     sym (take-append_seam line (10 ∷ (f.body ++ rest))) ∙ ap (take (length line)) (sym w.text)
-    ∙ ap (λ (n : ℕ). take n (bytes ++ more)) (sym (line_place bytes more line place f rest is w)) ∙ take-append-le place bytes more (omega arith)
+    ∙ ap (λ (n : ℕ). take n (bytes ++ more)) (sym (line_place bytes more line place f rest is w))
+    ∙ take-append-le place bytes more (omega arith)
 
-its_header : (offset : ℕ) (bytes more : List ℕ) (place : ℕ) (f : Frame) (rest : List ℕ) → IsLineEnd bytes place → Begins offset (bytes ++ more) f rest → IsHeader (take place bytes) (header_of_frame f)
+its_header : (offset : ℕ) (bytes more : List ℕ) (place : ℕ) (f : Frame) (rest : List ℕ) → IsLineEnd bytes place
+    → Begins offset (bytes ++ more) f rest → IsHeader (take place bytes) (header_of_frame f)
 its_header offset bytes more place f rest is b =
     let l = begins_line offset (bytes ++ more) f rest b in
     subst (λ (line : List ℕ). IsHeader line (header_of_frame f)) (line_taken bytes more l.0 place f rest is l.1) l.1.header
 
 -- where the line is no header, no frame begins, whatever follows
-pub no_header_none : (offset : ℕ) (bytes more : List ℕ) (place : ℕ) → IsLineEnd bytes place → ((h : Header) → IsHeader (take place bytes) h → ⊥) → BeginsNone offset (bytes ++ more)
+pub no_header_none : (offset : ℕ) (bytes more : List ℕ) (place : ℕ) → IsLineEnd bytes place
+    → ((h : Header) → IsHeader (take place bytes) h → ⊥) → BeginsNone offset (bytes ++ more)
 no_header_none offset bytes more place is none f rest b = none (header_of_frame f) (its_header offset bytes more place f rest is b)
 
 -- a frame that begins with this header ends where the header says
-pub ends_there : (offset : ℕ) (bytes more : List ℕ) (place : ℕ) (h : Header) (f : Frame) (rest : List ℕ) → IsLineEnd bytes place → IsHeader (take place bytes) h → Begins offset (bytes ++ more) f rest
+pub ends_there : (offset : ℕ) (bytes more : List ℕ) (place : ℕ) (h : Header) (f : Frame) (rest : List ℕ) → IsLineEnd bytes place
+    → IsHeader (take place bytes) h → Begins offset (bytes ++ more) f rest
     → (offset + (place + 1 + h.size) ≤ longest_script) × (place + 1 + h.size ≤ length (bytes ++ more))
 ends_there offset bytes more place h f rest is header b =
     let l = begins_line offset (bytes ++ more) f rest b in
     let its = its_header offset bytes more place f rest is b in
-    let same : h ≡ header_of_frame f = sym (header_of_line_one (take place bytes) h header) ∙ header_of_line_one (take place bytes) (header_of_frame f) its in
+    let same : h ≡ header_of_frame f = sym (header_of_line_one (take place bytes) h header)
+    ∙ header_of_line_one (take place bytes) (header_of_frame f) its in
     let size : h.size ≡ length f.body = ap (λ (x : Header). x.size) same in
     let at = line_place bytes more l.0 place f rest is l.1 in
     let long = l.1.size in
@@ -80,13 +92,17 @@ ends_there offset bytes more place h f rest is header b =
     let within = newline_within l.0 (bytes ++ more) f rest l.1 in
     (omega arith, omega arith)
 
-pub too_long_none : (offset : ℕ) (bytes more : List ℕ) (place : ℕ) (h : Header) → IsLineEnd bytes place → IsHeader (take place bytes) h → longest_script < offset + (place + 1 + h.size) → BeginsNone offset (bytes ++ more)
-too_long_none offset bytes more place h is header long f rest b = let e = ends_there offset bytes more place h f rest is header b in omega arith
+pub too_long_none : (offset : ℕ) (bytes more : List ℕ) (place : ℕ) (h : Header) → IsLineEnd bytes place → IsHeader (take place bytes) h
+    → longest_script < offset + (place + 1 + h.size) → BeginsNone offset (bytes ++ more)
+too_long_none offset bytes more place h is header long f rest b = let e = ends_there offset bytes more place h f rest is header b in
+    omega arith
 
-pub too_short_none : (offset : ℕ) (bytes more : List ℕ) (place : ℕ) (h : Header) → IsLineEnd bytes place → IsHeader (take place bytes) h → length (bytes ++ more) < place + 1 + h.size → BeginsNone offset (bytes ++ more)
-too_short_none offset bytes more place h is header short f rest b = let e = ends_there offset bytes more place h f rest is header b in omega arith
+pub too_short_none : (offset : ℕ) (bytes more : List ℕ) (place : ℕ) (h : Header) → IsLineEnd bytes place → IsHeader (take place bytes) h
+    → length (bytes ++ more) < place + 1 + h.size → BeginsNone offset (bytes ++ more)
+too_short_none offset bytes more place h is header short f rest b = let e = ends_there offset bytes more place h f rest is header b in
+    omega arith
 
--- ---- more bytes behind a line
+-- ---- more bytes after a line
 
 pub line_more : (bytes more : List ℕ) (place : ℕ) → IsLineEnd bytes place → IsLineEnd (bytes ++ more) place
 line_more bytes more place is =
@@ -94,22 +110,26 @@ line_more bytes more place is =
     record {
       early = is.early;
       within = omega (arith, length-append bytes more);
-      newline = get_or_append_left bytes more 0 place within ∙ is.newline;
+      there = get_or_append_left bytes more 0 place within ∙ is.there;
       first = λ k before e. is.first k before (sym (get_or_append_left bytes more 0 k (omega arith)) ∙ e);
     }
 
 -- ---- the frame
 
-cut_at : (bytes : List ℕ) (place : ℕ) → place < length bytes → get_or bytes place 0 ≡ 10 → bytes ≡ take place bytes ++ 10 ∷ drop (place + 1) bytes
+cut_at : (bytes : List ℕ) (place : ℕ) → place < length bytes → get_or bytes place 0 ≡ 10
+    → bytes ≡ take place bytes ++ 10 ∷ drop (place + 1) bytes
 cut_at bytes place within is =
-    rw add-one (sym (take-append-drop place bytes) ∙ ap (λ (b : List ℕ). take place bytes ++ b) (drop-cons bytes place 0 within ∙ ap (λ (c : ℕ). c ∷ drop (suc place) bytes) is))
+    rw add-one (sym (take-append-drop place bytes) ∙ ap (λ (b : List ℕ). take place bytes ++ b) (drop-cons bytes place 0 within ∙ ap
+    (λ (c : ℕ). c ∷ drop (suc place) bytes) is))
 
 cut_body : (bytes : List ℕ) (start end : ℕ) → start ≤ end → drop start bytes ≡ slice_range bytes start end ++ drop end bytes
 cut_body bytes start end order =
     let e : start + (end - start) ≡ end = omega arith in
-    sym (take-append-drop (end - start) (drop start bytes)) ∙ ap (λ (b : List ℕ). take (end - start) (drop start bytes) ++ b) (drop-drop (end - start) start bytes ∙ ap (λ (n : ℕ). drop n bytes) e)
+    sym (take-append-drop (end - start) (drop start bytes)) ∙ ap
+    (λ (b : List ℕ). take (end - start) (drop start bytes) ++ b) (drop-drop (end - start) start bytes ∙ ap (λ (n : ℕ). drop n bytes) e)
 
-pub framed : (offset : ℕ) (bytes : List ℕ) (place : ℕ) (there : Framed) → IsLineEnd bytes place → IsHeader (take place bytes) there.header → there.start ≡ place + 1 → there.end ≡ there.start + there.header.size
+pub framed : (offset : ℕ) (bytes : List ℕ) (place : ℕ) (there : Framed) → IsLineEnd bytes place → IsHeader (take place bytes) there.header
+    → there.start ≡ place + 1 → there.end ≡ there.start + there.header.size
     → there.end ≤ length bytes → offset + there.end ≤ longest_script → IsFramed offset bytes there
 framed offset bytes place there is header start end within ends =
     let h = there.header in
@@ -119,9 +139,12 @@ framed offset bytes place there is header start end within ends =
     let left = length-drop there.start bytes in
     let size : length body ≡ h.size = length-take-le (there.end - there.start) (drop there.start bytes) (omega arith) ∙ omega arith in
     let text : bytes ≡ take place bytes ++ 10 ∷ (body ++ drop there.end bytes) =
-    cut_at bytes place early is.newline ∙ ap (λ (b : List ℕ). take place bytes ++ 10 ∷ b) (ap (λ (n : ℕ). drop n bytes) (sym start) ∙ cut_body bytes there.start there.end (omega arith)) in
-    let same : header_of_frame (frame_within there bytes) ≡ h = ap (λ (n : ℕ). record { moment = h.moment; client = h.client; random = h.random; size = n }) size in
-    let line : length (line_text (header_of_frame (frame_within there bytes))) ≡ place = ap (λ (x : Header). length (line_text x)) same ∙ ap length (sym (line_of (take place bytes) h header)) ∙ long in
+    cut_at bytes place early is.there ∙ ap (λ (b : List ℕ). take place bytes ++ 10 ∷ b) (ap
+    (λ (n : ℕ). drop n bytes) (sym start) ∙ cut_body bytes there.start there.end (omega arith)) in
+    let same : header_of_frame (frame_within there bytes) ≡ h =
+    ap (λ (n : ℕ). record { moment = h.moment; client = h.client; random = h.random; size = n }) size in
+    let line : length (line_text (header_of_frame (frame_within there bytes))) ≡ place =
+    ap (λ (x : Header). length (line_text x)) same ∙ ap length (sym (line_of (take place bytes) h header)) ∙ long in
     let whole = frame_length (frame_within there bytes) in
     record {
       begins = line_begins offset bytes (take place bytes) body (drop there.end bytes) h text header size (omega arith);
@@ -141,28 +164,37 @@ some_byte : (a b : List ℕ) → a ≢ [] → a ++ b ≢ []
 some_byte [] b h e = h refl
 some_byte (x ∷ a) b h e = cc
 
-pub line_fault : (offset : ℕ) (left : Option (List ℕ)) (pending : List ℕ) → IfSome left (λ rest. (pending ≢ []) × HasNoLine (pending ++ rest)) → IfSome left (λ rest. (pending ++ rest ≢ []) × BeginsNone offset (pending ++ rest))
+pub line_fault : (offset : ℕ) (left : Option (List ℕ)) (pending : List ℕ) → IfSome left
+    (λ rest. (pending ≢ []) × HasNoLine (pending ++ rest)) → IfSome left
+    (λ rest. (pending ++ rest ≢ []) × BeginsNone offset (pending ++ rest))
 line_fault offset None pending h = tt
 line_fault offset (Some rest) pending h = (some_byte pending rest h.0, no_line_none offset (pending ++ rest) h.1)
 
-pub header_fault : (offset : ℕ) (left : Option (List ℕ)) (pending : List ℕ) (place : ℕ) → IsLineEnd pending place → ((h : Header) → IsHeader (take place pending) h → ⊥) → IfSome left (λ rest. (pending ++ rest ≢ []) × BeginsNone offset (pending ++ rest))
+pub header_fault : (offset : ℕ) (left : Option (List ℕ)) (pending : List ℕ) (place : ℕ) → IsLineEnd pending place
+    → ((h : Header) → IsHeader (take place pending) h → ⊥) → IfSome left
+    (λ rest. (pending ++ rest ≢ []) × BeginsNone offset (pending ++ rest))
 header_fault offset None pending place is none = tt
 header_fault offset (Some rest) pending place is none =
     let within = is.within in
     (not_empty_left pending rest (omega arith), no_header_none offset pending rest place is none)
 
-pub long_fault : (offset : ℕ) (left : Option (List ℕ)) (pending : List ℕ) (place : ℕ) (h : Header) → IsLineEnd pending place → IsHeader (take place pending) h → longest_script < offset + (place + 1 + h.size) → IfSome left (λ rest. (pending ++ rest ≢ []) × BeginsNone offset (pending ++ rest))
+pub long_fault : (offset : ℕ) (left : Option (List ℕ)) (pending : List ℕ) (place : ℕ) (h : Header) → IsLineEnd pending place
+    → IsHeader (take place pending) h → longest_script < offset + (place + 1 + h.size) → IfSome left
+    (λ rest. (pending ++ rest ≢ []) × BeginsNone offset (pending ++ rest))
 long_fault offset None pending place h is header long = tt
 long_fault offset (Some rest) pending place h is header long =
     let within = is.within in
     (not_empty_left pending rest (omega arith), too_long_none offset pending rest place h is header long)
 
-module _ (offset : ℕ) (left_old left : Option (List ℕ)) (mid new : List ℕ) (place : ℕ) (h : Header) (took : Takes left_old left mid new) (is : IsLineEnd mid place) (header : IsHeader (take place mid) h) where
+module _ (offset : ℕ) (left_old left : Option (List ℕ)) (mid new : List ℕ) (place : ℕ) (h : Header) (took : Takes left_old left mid new)
+    (is : IsLineEnd mid place) (header : IsHeader (take place mid) h) where
   pub short_none : length new < place + 1 + h.size → BeginsNone offset new
   short_none short =
-      subst (BeginsNone offset) (sym took.grown) (too_short_none offset mid took.got place h is header (let e = ap length took.grown in omega arith))
+      subst (BeginsNone offset) (sym took.grown) (too_short_none offset mid took.got place h is header (let e = ap length took.grown in
+      omega arith))
 
-  pub cut_fault : (at_end : Option (List ℕ)) → IsAtEnd at_end → length new < place + 1 + h.size → IfSome at_end (λ rest. (new ++ rest ≢ []) × BeginsNone offset (new ++ rest))
+  pub cut_fault : (at_end : Option (List ℕ)) → IsAtEnd at_end → length new < place + 1 + h.size → IfSome at_end
+      (λ rest. (new ++ rest ≢ []) × BeginsNone offset (new ++ rest))
   cut_fault None end short = tt
   cut_fault (Some rest) end short =
       let within = is.within in
@@ -171,9 +203,57 @@ module _ (offset : ℕ) (left_old left : Option (List ℕ)) (mid new : List ℕ)
       let m = length-append mid took.got in
       (not_empty_left new rest (omega arith), subst (BeginsNone offset) (sym same) (short_none short))
 
-  pub whole : place + 1 + h.size ≤ length new → offset + (place + 1 + h.size) ≤ longest_script → IsFramed offset new (record { header = h; start = place + 1; end = place + 1 + h.size })
+  pub whole : place + 1 + h.size ≤ length new → offset + (place + 1 + h.size) ≤ longest_script
+      → IsFramed offset new (record { header = h; start = place + 1; end = place + 1 + h.size })
   whole within ends =
       let early = is.within in
       let line : IsLineEnd new place = subst (λ (b : List ℕ). IsLineEnd b place) (sym took.grown) (line_more mid took.got place is) in
-      let front : take place mid ≡ take place new = sym (take-append-le place mid took.got (omega arith)) ∙ ap (take place) (sym took.grown) in
-      framed offset new place (record { header = h; start = place + 1; end = place + 1 + h.size }) line (subst (λ (b : List ℕ). IsHeader b h) front header) refl refl within ends
+      let front : take place mid ≡ take place new = sym (take-append-le place mid took.got (omega arith))
+      ∙ ap (take place) (sym took.grown) in
+      framed offset new place (record { header = h; start = place + 1; end = place + 1 + h.size }) line (subst
+      (λ (b : List ℕ). IsHeader b h) front header) refl refl within ends
+
+-- ---- a read that is due
+
+-- the body goes on with as many bytes as are missing
+module _ (offset : ℕ) (left_old left : Option (List ℕ)) (mid new : List ℕ) (place : ℕ) (h : Header) (took : Takes left_old left mid new)
+    (is : IsLineEnd mid place) (header : IsHeader (take place mid) h) where
+  missing : List ℕ
+  missing = replicate (place + 1 + h.size - length new) 0
+
+  missing_length : length missing ≡ place + 1 + h.size - length new
+  unfolding missing
+  missing_length = length-replicate (place + 1 + h.size - length new) 0
+
+  pub short_awaits : length new < place + 1 + h.size → offset + (place + 1 + h.size) ≤ longest_script → AwaitsBody offset new
+  short_awaits short ends =
+      let m = missing_length in
+      let all = length-append new missing in
+      let more : Takes None None mid (new ++ missing) = record {
+        got = took.got ++ missing;
+        consumed = tt;
+        grown = ap (λ (b : List ℕ). b ++ missing) took.grown ∙ append_assoc mid took.got missing;
+      } in
+      let w = whole offset None None mid (new ++ missing) place h more is header (omega arith) ends in
+      record {
+        frame = frame_within (record { header = h; start = place + 1; end = place + 1 + h.size }) (new ++ missing);
+        more = missing;
+        some = λ e. let l : length missing ≡ 0 = ap length e in omega arith;
+        begins = subst (Begins offset (new ++ missing) _) (drop_all (place + 1 + h.size) (new ++ missing) (omega arith)) w.begins;
+      }
+
+nil_right : (a b : List ℕ) → a ++ b ≡ [] → b ≡ []
+nil_right [] b e = e
+nil_right (x ∷ a) b e = cc
+
+-- where a read is due, no frame begins yet
+pub awaited_none : (offset : ℕ) (bytes : List ℕ) → IsAwaited offset bytes → BeginsNone offset bytes
+awaited_none offset bytes (inl line) = no_line_none offset bytes line.none
+awaited_none offset bytes (inr body) = λ f rest b.
+    let on : Begins offset (bytes ++ body.more) f (rest ++ body.more) = record {
+      fits = b.fits;
+      text = ap (λ (x : List ℕ). x ++ body.more) b.text ∙ append_assoc (frame_text f) rest body.more;
+      ends = b.ends;
+    } in
+    let same = begins_one offset (bytes ++ body.more) f body.frame (rest ++ body.more) [] on body.begins in
+    body.some (nil_right rest body.more same.1)

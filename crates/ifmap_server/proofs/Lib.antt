@@ -1,13 +1,14 @@
 pub mod Cuts
-pub mod Errors
+pub mod Endings
 pub mod Forms
 pub mod Framing
-pub mod Headers
+pub mod HeaderLines
 pub mod Meanings
 pub mod PartLaws
+pub mod Pieces
 pub mod Progress
 pub mod RequestLaws
+pub mod SameErrors
 pub mod Scripts
-pub mod Sending
 pub mod Splits
 pub mod Taking

@@ -21,22 +21,22 @@ pub without_append : (c : ℕ) (xs ys : List ℕ) → Without c xs → Without c
 without_append c [] ys w v = v
 without_append c (x ∷ xs) ys w v = (w.0, without_append c xs ys w.1 v)
 
--- what stands before the first c, and what stands behind it
+-- what stands before the first c, and what stands after it
 abbrev pub before : ℕ → List ℕ → List ℕ
 before c [] = []
 before c (x ∷ xs) = cond (eqb x c) [] (x ∷ before c xs)
 
-abbrev pub behind : ℕ → List ℕ → List ℕ
-behind c [] = []
-behind c (x ∷ xs) = cond (eqb x c) xs (behind c xs)
+abbrev pub after : ℕ → List ℕ → List ℕ
+after c [] = []
+after c (x ∷ xs) = cond (eqb x c) xs (after c xs)
 
 pub before_at : (c : ℕ) (xs ys : List ℕ) → Without c xs → before c (xs ++ c ∷ ys) ≡ xs
 before_at c [] ys w = rw (eq-eqb c c refl) refl
 before_at c (x ∷ xs) ys w = rw (ne_eqb x c w.0) (ap (λ (l : List ℕ). x ∷ l) (before_at c xs ys w.1))
 
-pub behind_at : (c : ℕ) (xs ys : List ℕ) → Without c xs → behind c (xs ++ c ∷ ys) ≡ ys
-behind_at c [] ys w = rw (eq-eqb c c refl) refl
-behind_at c (x ∷ xs) ys w = rw (ne_eqb x c w.0) (behind_at c xs ys w.1)
+pub after_at : (c : ℕ) (xs ys : List ℕ) → Without c xs → after c (xs ++ c ∷ ys) ≡ ys
+after_at c [] ys w = rw (eq-eqb c c refl) refl
+after_at c (x ∷ xs) ys w = rw (ne_eqb x c w.0) (after_at c xs ys w.1)
 
 -- lists whose fronts are as long are cut alike
 pub same_cut : (a b x y : List ℕ) → length a ≡ length b → a ++ x ≡ b ++ y → (a ≡ b) × (x ≡ y)
@@ -44,8 +44,9 @@ same_cut a b x y same e =
     let front : a ≡ b = sym (take_at a x (length a) refl) ∙ ap (take (length a)) e ∙ take_at b y (length a) (sym same) in
     (front, sym (drop_at a x (length a) refl) ∙ ap (drop (length a)) e ∙ drop_at b y (length a) (sym same))
 
--- the first c behind a text without c is the one that follows it
-pub first_is : (c : ℕ) (xs ys : List ℕ) (k : ℕ) → Without c xs → get_or (xs ++ c ∷ ys) k 0 ≡ c → ((j : ℕ) → j < k → get_or (xs ++ c ∷ ys) j 0 ≢ c) → k < length (xs ++ c ∷ ys) → k ≡ length xs
+-- the first c after a text without c is the one that follows it
+pub first_is : (c : ℕ) (xs ys : List ℕ) (k : ℕ) → Without c xs → get_or (xs ++ c ∷ ys) k 0 ≡ c
+    → ((j : ℕ) → j < k → get_or (xs ++ c ∷ ys) j 0 ≢ c) → k < length (xs ++ c ∷ ys) → k ≡ length xs
 first_is c [] ys zero w at first within = refl
 first_is c [] ys (suc k) w at first within = absurd (first 0 (omega arith) refl)
 first_is c (x ∷ xs) ys zero w at first within = absurd (w.0 at)
@@ -53,4 +54,5 @@ first_is c (x ∷ xs) ys (suc k) w at first within = ap suc (first_is c xs ys k 
 
 -- a text is cut at a place
 pub cut_at : (bs : List ℕ) (k c : ℕ) → k < length bs → get_or bs k 0 ≡ c → bs ≡ take k bs ++ c ∷ drop (k + 1) bs
-cut_at bs k c within at = sym (take-append-drop k bs) ∙ ap (λ (l : List ℕ). take k bs ++ l) (drop_more bs k 0 within ∙ ap (λ (b : ℕ). b ∷ drop (k + 1) bs) at)
+cut_at bs k c within at = sym (take-append-drop k bs) ∙ ap (λ (l : List ℕ). take k bs ++ l) (drop_more bs k 0 within ∙ ap
+    (λ (b : ℕ). b ∷ drop (k + 1) bs) at)

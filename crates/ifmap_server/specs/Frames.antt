@@ -4,7 +4,8 @@ use Rattle.std.specs.Fmt.{decimal}
 use Rattle.std.specs.Int.{to_be_bytes, w128}
 use Rattle.uuid.specs.Text.{lower, simple_text}
 use Rattle.ifmap_meta.specs.ClientNames.{IsClientName}
-use Rattle.ifmap_server.specs.declared.frames.Header.{Header}
+use Rattle.ifmap_server.specs.declared.headers.Header.{Header}
+use Rattle.ifmap_server.specs.Characters.{at_sign, blank, newline}
 
 -- a request as it came: when, from whom, with which random word, and its bytes
 pub record Frame : Type 0 where
@@ -20,6 +21,10 @@ pub record IsFrame (f : Frame) : Type 0 where
   pub random : f.random < 2 ^ 128
   pub body : length f.body ≤ 10000000
 
+-- how many bytes a header has at most, with its newline
+abbrev pub longest_header : ℕ
+longest_header = 97
+
 -- a word of 128 bits as 32 hexadecimal digits in lower case
 abbrev pub word_text : ℕ → List ℕ
 word_text random = simple_text lower (to_be_bytes w128 random)
@@ -27,7 +32,7 @@ word_text random = simple_text lower (to_be_bytes w128 random)
 -- `@`, the moment, the client, the random word and the length of the body, with single spaces between them, and a newline
 abbrev pub header_text : ℕ → List ℕ → ℕ → ℕ → List ℕ
 header_text moment client random size =
-    64 ∷ decimal moment ++ 32 ∷ client ++ 32 ∷ word_text random ++ 32 ∷ decimal size ++ 10 ∷ []
+    at_sign ∷ decimal moment ++ blank ∷ client ++ blank ∷ word_text random ++ blank ∷ decimal size ++ newline ∷ []
 
 -- the header, and then the body
 abbrev pub frame_text : Frame → List ℕ
@@ -35,7 +40,7 @@ frame_text f = header_text f.moment f.client f.random (length f.body) ++ f.body
 
 -- a line without its newline is this header, of a frame that keeps to the limits
 pub record IsHeader (line : List ℕ) (h : Header) : Type 0 where
-  pub text : line ++ 10 ∷ [] ≡ header_text h.moment h.client h.random h.size
+  pub text : line ++ newline ∷ [] ≡ header_text h.moment h.client h.random h.size
   pub moment : h.moment ≤ 253402300799
   pub client : IsClientName h.client
   pub random : h.random < 2 ^ 128

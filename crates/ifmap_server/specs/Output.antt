@@ -25,20 +25,20 @@ event_of f request =
 
 -- `=`, the length of the reply, a newline and the reply
 abbrev pub answer_text : Answer → List ℕ
-answer_text (Reply reply) = 61 ∷ decimal (length (reply_bytes reply)) ++ 10 ∷ reply_bytes reply
+answer_text (Reply reply) = codes "=" ++ decimal (length (reply_bytes reply)) ++ codes "\n" ++ reply_bytes reply
 
 -- the state after a frame that asks this, if anything, and what is written for it
-abbrev pub answered_as : State → Frame → Option Request → State × List ℕ
-answered_as state f None = (state, codes "unreadable\n")
-answered_as state f (Some request) = ((step state (event_of f request)).0, answer_text (step state (event_of f request)).1)
+abbrev pub step_request : State → Frame → Option Request → State × List ℕ
+step_request state f None = (state, codes "unreadable\n")
+step_request state f (Some request) = ((step state (event_of f request)).0, answer_text (step state (event_of f request)).1)
 
-abbrev pub answered : State → Frame → State × List ℕ
-answered state f = answered_as state f (meaning f.body)
+abbrev pub step_frame : State → Frame → State × List ℕ
+step_frame state f = step_request state f (meaning f.body)
 
 -- what is written for frames, one after another, from a state on
 abbrev pub answers_from : State → List Frame → List ℕ
 answers_from state [] = []
-answers_from state (f ∷ frames) = (answered state f).1 ++ answers_from (answered state f).0 frames
+answers_from state (f ∷ frames) = (step_frame state f).1 ++ answers_from (step_frame state f).0 frames
 
 abbrev pub answers : List Frame → List ℕ
 answers frames = answers_from (opening session_seconds) frames
@@ -46,7 +46,7 @@ answers frames = answers_from (opening session_seconds) frames
 -- `!`, the offset of the first fault and a newline, where there is a fault
 abbrev pub fault_line : Option ℕ → List ℕ
 fault_line None = []
-fault_line (Some place) = 33 ∷ decimal place ++ 10 ∷ []
+fault_line (Some place) = codes "!" ++ decimal place ++ codes "\n"
 
 -- all that is written for the bytes of a script
 abbrev pub IsOutput : List ℕ → List ℕ → Type 0

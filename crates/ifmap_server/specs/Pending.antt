@@ -1,6 +1,8 @@
 -- What was taken from a source and is not used yet. No public clause cites this file.
 use Rattle.std.specs.Prelude.{◌≡◌, ◌≢◌, ℕ, ◌<◌, List, ◌++◌, length, slice_index, Option}
 use Rattle.std.specs.Io.KnownBytes.{Consumes}
+use Rattle.ifmap_server.specs.Characters.{newline}
+use Rattle.ifmap_server.specs.Frames.{longest_header}
 
 -- what is pending grew by what was taken from the source
 pub record Takes (left_old left_new : Option (List ℕ)) (old new : List ℕ) : Type 0 where
@@ -8,17 +10,9 @@ pub record Takes (left_old left_new : Option (List ℕ)) (old new : List ℕ) : 
   pub consumed : Consumes left_old left_new got
   pub grown : new ≡ old ++ got
 
--- how many bytes a header has at most, with its newline
-abbrev pub longest_header : ℕ
-longest_header = 97
-
 -- the first newline stands at this place, where that of a header can
 pub record IsLineEnd (bytes : List ℕ) (place : ℕ) : Type 0 where
   pub early : place < longest_header
   pub within : place < length bytes
-  pub newline : slice_index bytes place ≡ 10
-  pub first : (k : ℕ) → k < place → slice_index bytes k ≢ 10
-
--- no newline stands where that of a header can
-abbrev pub HasNoLine : List ℕ → Type 0
-HasNoLine bytes = (k : ℕ) → k < longest_header → k < length bytes → slice_index bytes k ≢ 10
+  pub there : slice_index bytes place ≡ newline
+  pub first : (k : ℕ) → k < place → slice_index bytes k ≢ newline

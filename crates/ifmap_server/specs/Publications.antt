@@ -80,10 +80,11 @@ one_update address metadata = Update (One (MacAddress address [])) (metadata ∷
 abbrev pub operations_of : Publication → List PublishOp
 operations_of p = one_update p.address (record { element = published_element p.local p.cardinality p.value; cardinality = p.cardinality })
 
--- what stands before the id in a body that publishes, and behind its parts
+-- what stands before the id in a body that publishes, and after its parts
 abbrev pub publish_start : List ℕ
 publish_start =
-    codes "<n1:Envelope xmlns:n1=\"http://www.w3.org/2003/05/soap-envelope\" xmlns:n2=\"http://www.trustedcomputinggroup.org/2010/IFMAP/2\" xmlns:n3=\"http://www.trustedcomputinggroup.org/2010/IFMAP-METADATA/2\"><n1:Body><n2:publish session-id=\""
+    codes
+    "<n1:Envelope xmlns:n1=\"http://www.w3.org/2003/05/soap-envelope\" xmlns:n2=\"http://www.trustedcomputinggroup.org/2010/IFMAP/2\" xmlns:n3=\"http://www.trustedcomputinggroup.org/2010/IFMAP-METADATA/2\"><n1:Body><n2:publish session-id=\""
 
 abbrev pub publish_body : Publication → List ℕ
 publish_body p =
@@ -111,12 +112,13 @@ pub record IsInquiry (q : Inquiry) : Type 0 where
   pub address : IsAddress q.address
 
 -- the size is limited to the 100,000 bytes that hold where a search names no limit
-abbrev pub search_of : Inquiry → Search
-search_of q = record { start = MacAddress q.address []; max_size = 100000 }
+abbrev pub search_from : Inquiry → Search
+search_from q = record { start = MacAddress q.address []; max_size = 100000 }
 
 abbrev pub search_start : List ℕ
 search_start =
-    codes "<n1:Envelope xmlns:n1=\"http://www.w3.org/2003/05/soap-envelope\" xmlns:n2=\"http://www.trustedcomputinggroup.org/2010/IFMAP/2\"><n1:Body><n2:search session-id=\""
+    codes
+    "<n1:Envelope xmlns:n1=\"http://www.w3.org/2003/05/soap-envelope\" xmlns:n2=\"http://www.trustedcomputinggroup.org/2010/IFMAP/2\"><n1:Body><n2:search session-id=\""
 
 abbrev pub search_body : Inquiry → List ℕ
 search_body q =
@@ -143,16 +145,18 @@ cardinality_in text =
     if bytes_eq text (codes "singleValue") then Some Single
     else (if bytes_eq text (codes "multiValue") then Some Multi else None)
 
-abbrev pub publish_of : Publication → Request
-publish_of p = request.Publish p.session (operations_of p)
+abbrev pub publish_request : Publication → Request
+publish_request p = request.Publish p.session (operations_of p)
 
 -- the request of a body that publishes, by the parts that it has
-abbrev pub publishing_by : List (List ℕ) → Option Request
-publishing_by (session ∷ address ∷ local ∷ cardinality ∷ value ∷ closing ∷ []) =
+abbrev pub publish_by : List (List ℕ) → Option Request
+publish_by (session ∷ address ∷ local ∷ cardinality ∷ value ∷ closing ∷ []) =
     if (is_id session && is_local local && is_value value) && bytes_eq closing local
-    then option_and_then (λ a. option_and_then (λ c. Some (publish_of (record { session = session; address = a; local = local; cardinality = c; value = value }))) (cardinality_in cardinality)) (address_in address)
+    then option_and_then (λ a. option_and_then (λ c. Some (publish_request
+    (record { session = session; address = a; local = local; cardinality = c; value = value }))) (cardinality_in cardinality))
+    (address_in address)
     else None
-publishing_by parts = None
+publish_by parts = None
 
 abbrev pub publish_fixed : List Fixed
 publish_fixed =
@@ -167,16 +171,16 @@ publish_fixed =
 abbrev pub publish_parts : List ℕ → Option (List (List ℕ))
 publish_parts body = parts_in publish_start publish_fixed body
 
-abbrev pub publishing : List ℕ → Option Request
-publishing body = option_and_then publishing_by (publish_parts body)
+abbrev pub publish_of : List ℕ → Option Request
+publish_of body = option_and_then publish_by (publish_parts body)
 
 -- the request of a body that searches, by the parts that it has
-abbrev pub searching_by : List (List ℕ) → Option Request
-searching_by (session ∷ address ∷ []) =
+abbrev pub search_by : List (List ℕ) → Option Request
+search_by (session ∷ address ∷ []) =
     if is_id session
-    then option_and_then (λ a. Some (request.Search session (search_of (record { session = session; address = a })))) (address_in address)
+    then option_and_then (λ a. Some (request.Search session (search_from (record { session = session; address = a })))) (address_in address)
     else None
-searching_by parts = None
+search_by parts = None
 
 abbrev pub search_fixed : List Fixed
 search_fixed = (34, codes "><mac-address value=\"") ∷ (34, codes "/></n2:search></n1:Body></n1:Envelope>") ∷ []
@@ -184,5 +188,5 @@ search_fixed = (34, codes "><mac-address value=\"") ∷ (34, codes "/></n2:searc
 abbrev pub search_parts : List ℕ → Option (List (List ℕ))
 search_parts body = parts_in search_start search_fixed body
 
-abbrev pub searching : List ℕ → Option Request
-searching body = option_and_then searching_by (search_parts body)
+abbrev pub search_of : List ℕ → Option Request
+search_of body = option_and_then search_by (search_parts body)

@@ -1,30 +1,50 @@
--- What a replay does to its source and its sink, by how it ends. `left` is what the source had left and has left,
--- `held` what the sink held and holds, each where it is told.
-use Rattle.std.specs.Prelude.{◌≡◌, ℕ, List, ◌++◌, Option, None, Some, IfSome}
+-- What a replay does to its source and its sink, by how it ends.
+use Rattle.std.specs.Prelude.{◌≡◌, ℕ, List, ◌++◌, drop, Option, None, Some, IfSome, Result, Ok, Err}
 use Rattle.std.specs.Io.KnownBytes.{Appends, Consumes, IsAtEnd}
+use Rattle.ifmap_server.specs.declared.errors.ReplayError.{ReplayError}
+use Rattle.ifmap_server.specs.declared.errors.ReplayError.TheVariants.{FrameFault, NoMemory, ReadFault, WriteFault}
+use Rattle.ifmap_server.specs.Awaited.{IsAwaited}
 use Rattle.ifmap_server.specs.Frames.{Frame}
 use Rattle.ifmap_server.specs.Output.{AppendsPrefix, IsOutput, answers, fault_line}
 use Rattle.ifmap_server.specs.Script.{IsScript}
+use Rattle.ifmap_server.specs.Statuses.{status_of}
+use Rattle.ifmap_server.specs.Ends.{ReadFailed, Ends, WriteFailed}
 
 -- all that the source had left was taken, so that it is at its end, and these bytes are whole frames, which were answered
-abbrev pub AnswersAll : (left_old left_new held_old held_new : Option (List ℕ)) → Type 0
-AnswersAll left_old left_new held_old held_new =
-    (taken : List ℕ) × Consumes left_old left_new taken × IfSome left_old (λ bytes. taken ≡ bytes) × IsAtEnd left_new
-    × ((frames : List Frame) × IsScript taken frames None × Appends held_old held_new (answers frames))
+abbrev pub AnswersAll : (before after : Ends) → Type 0
+AnswersAll before after =
+    (taken : List ℕ) × Consumes before.left after.left taken × IfSome before.left (λ bytes. taken ≡ bytes) × IsAtEnd after.left
+    × ((frames : List Frame) × IsScript taken frames None × Appends before.held after.held (answers frames))
 
 -- the frames before the first fault were answered, and its offset was told
-abbrev pub AnswersUpToFault : (left_old held_old held_new : Option (List ℕ)) → Type 0
-AnswersUpToFault left_old held_old held_new =
-    IfSome left_old (λ bytes. (frames : List Frame) × (place : ℕ) × IsScript bytes frames (Some place)
-    × Appends held_old held_new (answers frames ++ fault_line (Some place)))
+abbrev pub AnswersUpToFault : (before after : Ends) → Type 0
+AnswersUpToFault before after =
+    IfSome before.left (λ bytes. (frames : List Frame) × (place : ℕ) × IsScript bytes frames (Some place)
+    × Appends before.held after.held (answers frames ++ fault_line (Some place)))
 
--- the frames in what was taken were answered
-abbrev pub AnswersTaken : (left_old left_new held_old held_new : Option (List ℕ)) → Type 0
-AnswersTaken left_old left_new held_old held_new =
-    (taken : List ℕ) × Consumes left_old left_new taken
-    × ((frames : List Frame) × (fault : Option ℕ) × IsScript taken frames fault × Appends held_old held_new (answers frames))
+-- the frames in what was taken were answered, and where it goes on after them, a read was due there: no frame whose
+-- header's line was taken is at fault
+abbrev pub AnswersTaken : (before after : Ends) → Type 0
+AnswersTaken before after =
+    (taken : List ℕ) × Consumes before.left after.left taken
+    × ((frames : List Frame) × (fault : Option ℕ) × IsScript taken frames fault
+    × IfSome fault (λ place. IsAwaited place (drop place taken)) × Appends before.held after.held (answers frames))
 
 -- a prefix of the output was written
-abbrev pub AnswersPart : (left_old held_old held_new : Option (List ℕ)) → Type 0
-AnswersPart left_old held_old held_new =
-    IfSome left_old (λ bytes. (text : List ℕ) × IsOutput bytes text × AppendsPrefix held_old held_new text)
+abbrev pub AnswersPart : (before after : Ends) → Type 0
+AnswersPart before after =
+    IfSome before.left (λ bytes. (text : List ℕ) × IsOutput bytes text × AppendsPrefix before.held after.held text)
+
+-- what a replay promises, by how it ends; a fault of the source or the sink is told only where it has counted one
+abbrev pub Promises : Result (Unit {0}) ReplayError → (before after : Ends) → Type 0
+Promises (Ok _) before after = AnswersAll before after
+Promises (Err FrameFault) before after = AnswersUpToFault before after
+Promises (Err ReadFault) before after = AnswersTaken before after × ReadFailed before after
+Promises (Err WriteFault) before after = AnswersPart before after × WriteFailed before after
+Promises (Err NoMemory) before after = AnswersPart before after
+
+-- the status tells how the replay ended
+pub record Replays (status : ℕ) (before after : Ends) : Type 0 where
+  pub ended : Result (Unit {0}) ReplayError
+  pub told : status ≡ status_of ended
+  pub promise : Promises ended before after

@@ -1,15 +1,11 @@
 -- The statuses that a replay ends with.
-use Rattle.std.specs.Prelude.{◌≡◌, ℕ}
-use Rattle.ifmap_server.specs.declared.endings.ReplayEnd.{ReplayEnd}
-use Rattle.ifmap_server.specs.declared.endings.ReplayEnd.TheVariants.{Done, FrameFault, NoMemory, ReadFault, WriteFault}
+use Rattle.std.specs.Prelude.{ℕ, Result, Ok, Err}
+use Rattle.ifmap_server.specs.declared.errors.ReplayError.{ReplayError}
+use Rattle.ifmap_server.specs.declared.errors.ReplayError.TheVariants.{FrameFault, NoMemory, ReadFault, WriteFault}
 
-abbrev pub status_of : ReplayEnd → ℕ
-status_of Done = 0
-status_of FrameFault = 3
-status_of ReadFault = 4
-status_of WriteFault = 5
-status_of NoMemory = 6
-
--- a status that tells how a replay ended: 0, 3, 4, 5 or 6
-abbrev pub IsReplayStatus : ℕ → Type 0
-IsReplayStatus n = (ending : ReplayEnd) × (n ≡ status_of ending)
+abbrev pub status_of : Result (Unit {0}) ReplayError → ℕ
+status_of (Ok _) = 0
+status_of (Err FrameFault) = 3
+status_of (Err ReadFault) = 4
+status_of (Err WriteFault) = 5
+status_of (Err NoMemory) = 6

@@ -1,14 +1,19 @@
--- One turn of a replay: a frame is taken and answered, or the replay ends. `left` is what the source had left and has
--- left, `held` what the sink held and holds, each where it is told. No public clause cites this file.
-use Rattle.std.specs.Prelude.{◌≡◌, ◌≢◌, ℕ, ◌+◌, ◌≤◌, List, [], ◌++◌, drop, length, slice_range, Option, IfSome}
+-- One turn of a replay: a frame is taken and answered, or the replay ends. No public clause cites this file.
+use Rattle.std.specs.Prelude.{◌≡◌, ◌≢◌, ℕ, ◌+◌, ◌≤◌, List, [], ◌++◌, drop, length, slice_range, IfSome, Result, Ok, Err}
 use Rattle.std.specs.Io.KnownBytes.{Appends, IsAtEnd, Keeps}
 use Rattle.ifmap_core.specs.State.{State, opening}
-use Rattle.ifmap_server.specs.declared.frames.Header.{Header}
+use Rattle.ifmap_server.specs.declared.errors.ReplayError.{ReplayError}
+use Rattle.ifmap_server.specs.declared.errors.ReplayError.TheVariants.{FrameFault, NoMemory, ReadFault, WriteFault}
+use Rattle.ifmap_server.specs.declared.headers.Header.{Header}
 use Rattle.ifmap_server.specs.declared.replaying.Framed.{Framed}
+use Rattle.ifmap_server.specs.declared.replaying.Turn.{Turn}
+use Rattle.ifmap_server.specs.declared.replaying.Turn.TheVariants.{Answered, Ended}
+use Rattle.ifmap_server.specs.Awaited.{IsAwaited}
 use Rattle.ifmap_server.specs.Frames.{Frame, frame_text}
-use Rattle.ifmap_server.specs.Output.{AppendsPrefix, answered, session_seconds}
+use Rattle.ifmap_server.specs.Output.{AppendsPrefix, step_frame, session_seconds}
 use Rattle.ifmap_server.specs.Pending.{Takes}
 use Rattle.ifmap_server.specs.Script.{Begins}
+use Rattle.ifmap_server.specs.Ends.{ReadFailed, Ends, WriteFailed}
 
 -- a replay: the state of the machine, what is pending, and the offset of the next frame
 pub record Replaying : Type 0 where
@@ -39,42 +44,53 @@ pub record IsFramed (offset : ℕ) (pending : List ℕ) (framed : Framed) : Type
 abbrev pub BeginsNone : ℕ → List ℕ → Type 0
 BeginsNone offset bytes = (f : Frame) (rest : List ℕ) → Begins offset bytes f rest → ⊥
 
-module _ (left_old left_new held_old held_new : Option (List ℕ)) (old : Replaying) where
+module _ (before after : Ends) (old : Replaying) where
   -- a frame was taken and answered
   pub record Answers (new : Replaying) : Type 0 where
     pub frame : Frame
     pub taken : List ℕ
-    pub takes : Takes left_old left_new old.pending taken
+    pub takes : Takes before.left after.left old.pending taken
     pub begins : Begins old.offset taken frame new.pending
-    pub state : new.state ≡ (answered old.state frame).0
+    pub state : new.state ≡ (step_frame old.state frame).0
     pub offset : new.offset ≡ old.offset + length (frame_text frame)
-    pub wrote : Appends held_old held_new (answered old.state frame).1
+    pub wrote : Appends before.held after.held (step_frame old.state frame).1
 
   -- nothing was pending, and the source is at its end
   pub record IsOver : Type 0 where
-    pub takes : Takes left_old left_new old.pending []
-    pub end : IsAtEnd left_new
-    pub kept : Keeps held_old held_new
+    pub takes : Takes before.left after.left old.pending []
+    pub end : IsAtEnd after.left
+    pub kept : Keeps before.held after.held
 
   -- no frame begins, whatever the source has left
   pub record IsFaulty : Type 0 where
     pub taken : List ℕ
-    pub takes : Takes left_old left_new old.pending taken
-    pub fault : IfSome left_new (λ rest. (taken ++ rest ≢ []) × BeginsNone old.offset (taken ++ rest))
-    pub kept : Keeps held_old held_new
+    pub takes : Takes before.left after.left old.pending taken
+    pub fault : IfSome after.left (λ rest. (taken ++ rest ≢ []) × BeginsNone old.offset (taken ++ rest))
+    pub kept : Keeps before.held after.held
 
-  -- a read failed, and what was taken is not a whole frame
+  -- a read failed that was due
   pub record IsUnread : Type 0 where
     pub taken : List ℕ
-    pub takes : Takes left_old left_new old.pending taken
-    pub short : BeginsNone old.offset taken
-    pub kept : Keeps held_old held_new
+    pub takes : Takes before.left after.left old.pending taken
+    pub awaited : IsAwaited old.offset taken
+    pub kept : Keeps before.held after.held
+    pub cause : ReadFailed before after
 
   -- a write failed in the answer to a frame
   pub record IsUnwritten : Type 0 where
     pub frame : Frame
     pub taken : List ℕ
     pub rest : List ℕ
-    pub takes : Takes left_old left_new old.pending taken
+    pub takes : Takes before.left after.left old.pending taken
     pub begins : Begins old.offset taken frame rest
-    pub wrote : AppendsPrefix held_old held_new (answered old.state frame).1
+    pub wrote : AppendsPrefix before.held after.held (step_frame old.state frame).1
+    pub cause : WriteFailed before after
+
+-- what a turn did; a fault leaves the offset of the frame
+abbrev pub Turns : Result Turn ReplayError → (before after : Ends) → (old new : Replaying) → Type 0
+Turns (Ok Answered) before after old new = Answers before after old new
+Turns (Ok Ended) before after old new = IsOver before after old
+Turns (Err FrameFault) before after old new = IsFaulty before after old × (new.offset ≡ old.offset)
+Turns (Err ReadFault) before after old new = IsUnread before after old
+Turns (Err WriteFault) before after old new = IsUnwritten before after old
+Turns (Err NoMemory) before after old new = Keeps before.held after.held

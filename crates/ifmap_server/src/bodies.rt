@@ -1,11 +1,11 @@
 //! The bodies that are requests so far, each in one spelling. Every other spelling of them means
 //! nothing.
 ghost use Rattle.std.specs.Prelude.{◌≡◌, ◌∷◌, [], IfOk, MatchOption, None, Some};
-ghost use Rattle.ifmap_server.specs.Bodies.{end_parts, ending, meaning};
+ghost use Rattle.ifmap_server.specs.Bodies.{end_parts, end_of_session_of, meaning};
 
 use crate::ids::is_id;
-use crate::parts::{behind, part_before, text_of};
-use crate::publications::{publishing, searching};
+use crate::parts::{after_fixed, part_before, text_of};
+use crate::publications::{publish_of, search_of};
 use ifmap_msg::Request;
 use std::alloc::{AllocError, Global};
 
@@ -15,7 +15,7 @@ const NEW_SESSION: &str =
 const BEFORE_ID: &str =
     "<n1:Envelope xmlns:n1=\"http://www.w3.org/2003/05/soap-envelope\" xmlns:n2=\"http://www.trustedcomputinggroup.org/2010/IFMAP/2\"><n1:Body><n2:endSession session-id=\"";
 
-const BEHIND_ID: &str = "/></n1:Body></n1:Envelope>";
+const AFTER_ID: &str = "/></n1:Body></n1:Envelope>";
 
 /// The request that a body means, if it means one.
 pub fn request_of(alloc: Global, body: &[u8]) -> Result<Option<Request>, AllocError>
@@ -24,18 +24,18 @@ pub fn request_of(alloc: Global, body: &[u8]) -> Result<Option<Request>, AllocEr
     if body == NEW_SESSION.as_bytes() {
         return Ok(Some(Request::NewSession));
     }
-    if let Some(request) = ending(alloc, body)? {
+    if let Some(request) = end_of_session_of(alloc, body)? {
         return Ok(Some(request));
     }
-    if let Some(request) = searching(alloc, body)? {
+    if let Some(request) = search_of(alloc, body)? {
         return Ok(Some(request));
     }
-    publishing(alloc, body)
+    publish_of(alloc, body)
 }
 
 // The end of a session.
-fn ending(alloc: Global, body: &[u8]) -> Result<Option<Request>, AllocError>
-    ensures { IfOk result (λ request. request ≡ ending body.now) }
+fn end_of_session_of(alloc: Global, body: &[u8]) -> Result<Option<Request>, AllocError>
+    ensures { IfOk result (λ request. request ≡ end_of_session_of body.now) }
 {
     let Some(session) = end_part(body) else {
         return Ok(None);
@@ -49,10 +49,11 @@ fn ending(alloc: Global, body: &[u8]) -> Result<Option<Request>, AllocError>
 
 // What stands in the place of the id of a session that is to end.
 fn end_part(body: &[u8]) -> Option<&[u8]>
-    ensures { MatchOption result (end_parts body.now ≡ None) (λ id. end_parts body.now ≡ Some (id.now ∷ [])) }
+    ensures { MatchOption result (end_parts body.now ≡ None)
+        (λ id. end_parts body.now ≡ Some (id.now ∷ [])) }
 {
-    let rest = behind(body, BEFORE_ID)?;
-    let (session, rest) = part_before(rest, b'"', BEHIND_ID)?;
+    let rest = after_fixed(body, BEFORE_ID)?;
+    let (session, rest) = part_before(rest, b'"', AFTER_ID)?;
     if !rest.is_empty() {
         return None;
     }

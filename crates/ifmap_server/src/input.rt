@@ -3,10 +3,11 @@ ghost use Rattle.std.specs.Prelude.{◌≡◌, ◌≢◌, ◌+◌, ◌<◌, ◌�
 ghost use Rattle.std.specs.Bool.{OnFalse, OnTrue};
 ghost use Rattle.std.specs.Io.KnownBytes.{IsAtEnd};
 ghost use Rattle.ifmap_io.specs.Causes.{Rose};
-ghost use Rattle.ifmap_server.specs.Pending.{HasNoLine, IsLineEnd, Takes};
+ghost use Rattle.ifmap_server.specs.Awaited.{AwaitsLine, HasNoLine};
+ghost use Rattle.ifmap_server.specs.Pending.{IsLineEnd, Takes};
 
-use crate::endings::ReplayEnd;
-use crate::frames::LONGEST_HEADER;
+use crate::errors::ReplayError;
+use crate::headers::LONGEST_HEADER;
 use ifmap_io::Source;
 use std::alloc::{AllocError, Global};
 use std::marker::Model;
@@ -59,21 +60,27 @@ impl Input {
     }
 
     /// Takes more from the source; false at its end.
-    pub fn fill<S: Source>(&mut self, source: &mut S) -> Result<bool, ReplayEnd>
-        ensures taken { OnOk result (Takes (S.left source.old) (S.left source.new) self.old self.new) }
+    pub fn fill<S: Source>(&mut self, source: &mut S) -> Result<bool, ReplayError>
+        ensures taken { OnOk result (Takes (S.left source.old) (S.left source.new) self.old
+            self.new) }
         ensures more { IfOk result (λ more. OnTrue more (length self.old < length self.new)) }
-        ensures end { IfOk result (λ more. OnFalse more (IsAtEnd (S.left source.new) × (self.new ≡ self.old))) }
-        ensures fault { result ≡ Err ReplayEnd.ReadFault → Rose (S.faults source.old) (S.faults source.new) }
-        ensures kept { result ≡ Err ReplayEnd.ReadFault → Takes (S.left source.old) (S.left source.new) self.old self.new × (self.new ≡ self.old) }
-        ensures cause { IfErr result (λ e. (e ≡ ReplayEnd.ReadFault) ⊎ (e ≡ ReplayEnd.NoMemory)) }
+        ensures end { IfOk result (λ more.
+            OnFalse more (IsAtEnd (S.left source.new) × (self.new ≡ self.old))) }
+        ensures fault { result ≡ Err ReplayError.ReadFault
+            → Rose (S.faults source.old) (S.faults source.new) }
+        ensures kept { result ≡ Err ReplayError.ReadFault →
+            Takes (S.left source.old) (S.left source.new) self.old self.new
+            × (self.new ≡ self.old) }
+        ensures cause { IfErr result (λ e. (e ≡ ReplayError.ReadFault)
+            ⊎ (e ≡ ReplayError.NoMemory)) }
         ensures later { S.faults source.old ≤ S.faults source.new }
     {
         self.compact();
         let Ok(count) = source.read(&mut self.chunk) else {
-            return Err(ReplayEnd::ReadFault);
+            return Err(ReplayError::ReadFault);
         };
         if self.taken.extend_from_slice(&self.chunk[..count]).is_err() {
-            return Err(ReplayEnd::NoMemory);
+            return Err(ReplayError::NoMemory);
         }
         Ok(count > 0)
     }
@@ -88,18 +95,22 @@ impl Input {
         }
     }
 
-    #[tactic(auto, using(crate::proofs::Taking::takes_nothing, crate::proofs::Taking::takes_more, crate::proofs::Taking::rose_since))]
     /// Waits for a header's line, and answers the place of its newline; `None` where the source ends
     /// and nothing is pending.
-    pub fn await_line<S: Source>(&mut self, source: &mut S) -> Result<Option<usize>, ReplayEnd>
-        ensures taken { OnOk result (Takes (S.left source.old) (S.left source.new) self.old self.new) }
+    #[tactic(auto, using(crate::proofs::Taking::takes_nothing, crate::proofs::Taking::takes_more, crate::proofs::Taking::rose_since))]
+    pub fn await_line<S: Source>(&mut self, source: &mut S) -> Result<Option<usize>, ReplayError>
+        ensures taken { OnOk result (Takes (S.left source.old) (S.left source.new) self.old
+            self.new) }
         ensures line { IfOk result (λ found. IfSome found (λ place. IsLineEnd self.new place)) }
         ensures end { result ≡ Ok None → IsAtEnd (S.left source.new) × (self.new ≡ []) }
-        ensures fault { result ≡ Err ReplayEnd.FrameFault → Takes (S.left source.old) (S.left source.new) self.old self.new
+        ensures fault { result ≡ Err ReplayError.FrameFault →
+            Takes (S.left source.old) (S.left source.new) self.old self.new
             × IfSome (S.left source.new) (λ rest. (self.new ≢ []) × HasNoLine (self.new ++ rest)) }
-        ensures read { result ≡ Err ReplayEnd.ReadFault → Takes (S.left source.old) (S.left source.new) self.old self.new × HasNoLine self.new }
-        ensures rose { result ≡ Err ReplayEnd.ReadFault → Rose (S.faults source.old) (S.faults source.new) }
-        ensures cause { result ≢ Err ReplayEnd.Done × (result ≢ Err ReplayEnd.WriteFault) }
+        ensures read { result ≡ Err ReplayError.ReadFault →
+            Takes (S.left source.old) (S.left source.new) self.old self.new × AwaitsLine self.new }
+        ensures rose { result ≡ Err ReplayError.ReadFault
+            → Rose (S.faults source.old) (S.faults source.new) }
+        ensures cause { result ≢ Err ReplayError.WriteFault }
         ensures later { S.faults source.old ≤ S.faults source.new }
     {
         'line: loop {
@@ -107,31 +118,37 @@ impl Input {
                 return Ok(Some(place));
             }
             if self.pending().len() >= LONGEST_HEADER {
-                return Err(ReplayEnd::FrameFault);
+                return Err(ReplayError::FrameFault);
             }
             if !self.fill(source)? {
                 return if self.pending().is_empty() {
                     Ok(None)
                 } else {
-                    Err(ReplayEnd::FrameFault)
+                    Err(ReplayError::FrameFault)
                 };
             }
         }
     }
 
-    #[tactic(auto, using(crate::proofs::Taking::takes_nothing, crate::proofs::Taking::takes_more, crate::proofs::Taking::rose_since))]
     /// Waits until that many bytes are pending; false where the source ends before.
+    #[tactic(auto, using(crate::proofs::Taking::takes_nothing, crate::proofs::Taking::takes_more, crate::proofs::Taking::rose_since))]
     pub fn await_bytes<S: Source>(
         &mut self,
         source: &mut S,
         count: usize,
-    ) -> Result<bool, ReplayEnd>
-        ensures taken { OnOk result (Takes (S.left source.old) (S.left source.new) self.old self.new) }
+    ) -> Result<bool, ReplayError>
+        ensures taken { OnOk result (Takes (S.left source.old) (S.left source.new) self.old
+            self.new) }
         ensures enough { IfOk result (λ enough. OnTrue enough (count ≤ length self.new)) }
-        ensures end { IfOk result (λ enough. OnFalse enough (IsAtEnd (S.left source.new) × (length self.new < count))) }
-        ensures read { result ≡ Err ReplayEnd.ReadFault → Takes (S.left source.old) (S.left source.new) self.old self.new × (length self.new < count) }
-        ensures rose { result ≡ Err ReplayEnd.ReadFault → Rose (S.faults source.old) (S.faults source.new) }
-        ensures cause { IfErr result (λ e. (e ≡ ReplayEnd.ReadFault) ⊎ (e ≡ ReplayEnd.NoMemory)) }
+        ensures end { IfOk result (λ enough.
+            OnFalse enough (IsAtEnd (S.left source.new) × (length self.new < count))) }
+        ensures read { result ≡ Err ReplayError.ReadFault →
+            Takes (S.left source.old) (S.left source.new) self.old self.new
+            × (length self.new < count) }
+        ensures rose { result ≡ Err ReplayError.ReadFault
+            → Rose (S.faults source.old) (S.faults source.new) }
+        ensures cause { IfErr result (λ e. (e ≡ ReplayError.ReadFault)
+            ⊎ (e ≡ ReplayError.NoMemory)) }
         ensures later { S.faults source.old ≤ S.faults source.new }
     {
         'bytes: while self.pending().len() < count {

@@ -3,8 +3,8 @@
 #![tactic(auto)]
 
 mod bodies;
-mod endings;
-mod frames;
+mod errors;
+mod headers;
 mod ids;
 mod input;
 mod laws;
@@ -13,12 +13,10 @@ mod publications;
 mod replaying;
 mod replies;
 mod running;
+mod sending;
 pub mod statuses;
 mod words;
 
 pub use laws::{bodies_mean_one_request, bytes_are_one_script};
 pub use running::{replay, run};
 pub use words::{Form, form_of};
-
-#[cfg(test)]
-mod tests;

@@ -1,37 +1,42 @@
 //! Texts that are fixed but for some parts.
 ghost use Rattle.std.specs.Prelude.{◌≡◌, ◌≢◌, ◌<◌, ℕ, length, slice_index, IfNone, IfOk, IfSome, MatchOption, None, Some};
 ghost use Rattle.std.specs.Str.{IsAscii};
-ghost use Rattle.ifmap_server.specs.Parts.{behind, cut, part_before};
+ghost use Rattle.ifmap_server.specs.Parts.{after_fixed, cut, part_before};
 
 use ifmap_elem::Text;
 use std::alloc::{AllocError, Global};
 
-/// The part up to the byte that ends it, and what stands behind the fixed text that follows.
+/// The part up to the byte that ends it, and what stands after the fixed text that follows.
 pub fn part_before<'a>(text: &'a [u8], end: u8, fixed: &str) -> Option<(&'a [u8], &'a [u8])>
-    ensures { MatchOption result (part_before (end, fixed.now) text.now ≡ None) (λ cut. part_before (end, fixed.now) text.now ≡ Some (cut.0.now, cut.1.now)) }
+    ensures { MatchOption result (part_before (end, fixed.now) text.now ≡ None)
+        (λ cut. part_before (end, fixed.now) text.now ≡ Some (cut.0.now, cut.1.now)) }
 {
     let (part, after) = cut(text, end)?;
-    Some((part, behind(after, fixed)?))
+    Some((part, after_fixed(after, fixed)?))
 }
 
-// The text before the first of a byte, and the text behind it.
+// The text before the first of a byte, and the text after it.
 fn cut(text: &[u8], end: u8) -> Option<(&[u8], &[u8])>
-    ensures { MatchOption result (cut end text.now ≡ None) (λ halves. cut end text.now ≡ Some (halves.0.now, halves.1.now)) }
+    ensures { MatchOption result (cut end text.now ≡ None)
+        (λ halves. cut end text.now ≡ Some (halves.0.now, halves.1.now)) }
 {
     let place = place_of(text, end)?;
     Some((&text[..place], &text[place + 1..]))
 }
 
 fn place_of(text: &[u8], end: u8) -> Option<usize>
-    ensures found { IfSome result (λ place. (place < length text.now) × (slice_index text.now place ≡ end) × ((k : ℕ) → k < place → slice_index text.now k ≢ end)) }
+    ensures found { IfSome result (λ place. (place < length text.now)
+        × (slice_index text.now place ≡ end) × ((k : ℕ) → k < place
+        → slice_index text.now k ≢ end)) }
     ensures none { IfNone result ((k : ℕ) → k < length text.now → slice_index text.now k ≢ end) }
 {
     text.iter().position(|b| *b == end)
 }
 
 /// What follows a fixed text.
-pub fn behind<'a>(text: &'a [u8], fixed: &str) -> Option<&'a [u8]>
-    ensures { MatchOption result (behind fixed.now text.now ≡ None) (λ rest. behind fixed.now text.now ≡ Some rest.now) }
+pub fn after_fixed<'a>(text: &'a [u8], fixed: &str) -> Option<&'a [u8]>
+    ensures { MatchOption result (after_fixed fixed.now text.now ≡ None)
+        (λ rest. after_fixed fixed.now text.now ≡ Some rest.now) }
 {
     text.strip_prefix(fixed.as_bytes())
 }

@@ -7,10 +7,10 @@ ghost use Rattle.std.specs.Str.{bytes_eq};
 ghost use Rattle.ifmap_ident.specs.MacAddresses.{address_text};
 ghost use Rattle.ifmap_ident.specs.declared.identifiers.Identifier.TheVariants.{MacAddress};
 ghost use Rattle.ifmap_server.specs.Ids.{is_id};
-ghost use Rattle.ifmap_server.specs.Publications.{address_in, cardinality_in, cardinality_text, digit_number, is_local, is_local_byte, is_lower, is_value, is_value_byte, one_update, pair_at, published_element, publish_parts, publishing, search_parts, searching};
+ghost use Rattle.ifmap_server.specs.Publications.{address_in, cardinality_in, cardinality_text, digit_number, is_local, is_local_byte, is_lower, is_value, is_value_byte, one_update, pair_at, published_element, publish_parts, publish_of, search_parts, search_of};
 
 use crate::ids::is_id;
-use crate::parts::{behind, part_before, text_of};
+use crate::parts::{after_fixed, part_before, text_of};
 use ifmap_elem::{Attribute, Child, Element, Many, Name, Text};
 use ifmap_ident::{Identifier, Item};
 use ifmap_meta::{Cardinality, Metadata};
@@ -45,9 +45,10 @@ struct PublishParts<'a> {
 
 fn publish_parts(body: &[u8]) -> Option<PublishParts<'_>>
     ensures { MatchOption result (publish_parts body.now ≡ None)
-        (λ p. publish_parts body.now ≡ Some (p.session.now ∷ p.address.now ∷ p.local.now ∷ p.cardinality.now ∷ p.value.now ∷ p.closing.now ∷ [])) }
+        (λ p. publish_parts body.now ≡ Some (p.session.now ∷ p.address.now ∷ p.local.now
+        ∷ p.cardinality.now ∷ p.value.now ∷ p.closing.now ∷ [])) }
 {
-    let rest = behind(body, PUBLISH_START)?;
+    let rest = after_fixed(body, PUBLISH_START)?;
     let (session, rest) = part_before(rest, b'"', "><update><mac-address value=\"")?;
     let (address, rest) = part_before(rest, b'"', "/><metadata><n3:")?;
     let (local, rest) = part_before(rest, b' ', "ifmap-cardinality=\"")?;
@@ -68,8 +69,8 @@ fn publish_parts(body: &[u8]) -> Option<PublishParts<'_>>
 }
 
 /// The publish that a body means, if it means one.
-pub fn publishing(alloc: Global, body: &[u8]) -> Result<Option<Request>, AllocError>
-    ensures { IfOk result (λ request. request ≡ publishing body.now) }
+pub fn publish_of(alloc: Global, body: &[u8]) -> Result<Option<Request>, AllocError>
+    ensures { IfOk result (λ request. request ≡ publish_of body.now) }
 {
     let Some(parts) = publish_parts(body) else {
         return Ok(None);
@@ -103,7 +104,7 @@ fn search_parts(body: &[u8]) -> Option<(&[u8], &[u8])>
     ensures { MatchOption result (search_parts body.now ≡ None)
         (λ p. search_parts body.now ≡ Some (p.0.now ∷ p.1.now ∷ [])) }
 {
-    let rest = behind(body, SEARCH_START)?;
+    let rest = after_fixed(body, SEARCH_START)?;
     let (session, rest) = part_before(rest, b'"', "><mac-address value=\"")?;
     let (address, rest) = part_before(rest, b'"', SEARCH_END)?;
     if !rest.is_empty() {
@@ -113,8 +114,8 @@ fn search_parts(body: &[u8]) -> Option<(&[u8], &[u8])>
 }
 
 /// The search that a body means, if it means one.
-pub fn searching(alloc: Global, body: &[u8]) -> Result<Option<Request>, AllocError>
-    ensures { IfOk result (λ request. request ≡ searching body.now) }
+pub fn search_of(alloc: Global, body: &[u8]) -> Result<Option<Request>, AllocError>
+    ensures { IfOk result (λ request. request ≡ search_of body.now) }
 {
     let Some((session, address)) = search_parts(body) else {
         return Ok(None);
@@ -134,7 +135,8 @@ pub fn searching(alloc: Global, body: &[u8]) -> Result<Option<Request>, AllocErr
 }
 
 fn are_fit(parts: &PublishParts<'_>) -> bool
-    ensures { result ≡ ((is_id parts.now.session.now && is_local parts.now.local.now && is_value parts.now.value.now) && bytes_eq parts.now.closing.now parts.now.local.now) }
+    ensures { result ≡ ((is_id parts.now.session.now && is_local parts.now.local.now && is_value
+        parts.now.value.now) && bytes_eq parts.now.closing.now parts.now.local.now) }
 {
     is_id(parts.session)
         && is_local(parts.local)

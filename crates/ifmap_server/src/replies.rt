@@ -1,38 +1,74 @@
-//! Replies as they are written.
-ghost use Rattle.std.specs.Prelude.{◌≡◌, ◌∷◌, ◌++◌, IfOk, OnOk, length};
-ghost use Rattle.std.specs.Fmt.{decimal};
+//! Answers as they are sent.
+ghost use Rattle.std.specs.Prelude.{◌≡◌, ◌++◌, codes, IfErr, IfOk};
+ghost use Rattle.ifmap_io.specs.Causes.{HasCause};
+ghost use Rattle.ifmap_io.specs.Written.{WritesAll};
 ghost use Rattle.ifmap_msg.specs.Replies.{reply_bytes};
 ghost use Rattle.ifmap_server.specs.Output.{answer_text};
 
+use crate::errors::ReplayError;
+use crate::sending::{hand_on, write};
 use ifmap_core::Answer;
 use ifmap_elem::{Many, canonical};
+use ifmap_io::Sink;
 use ifmap_msg::{Reply, element_of};
-use itoa::Buffer;
-use std::alloc::{AllocError, Global};
+use std::alloc::{AllocError as NoMemory, Global};
+use std::marker::Model;
 
-/// Appends an answer: `=`, the length of the reply, a newline and the reply.
-pub fn write_answer(alloc: Global, answer: Answer, out: &mut Vec<u8>) -> Result<(), AllocError>
-    ensures { OnOk result (out.new.items ≡ out.old.items ++ answer_text answer) }
-{
-    let Answer::Reply(reply) = answer;
-    let bytes = reply_bytes(alloc, reply)?;
-    write_sized(&bytes.0, out)
+/// The text of an answer: its first line, and the reply, which stays where it was printed. Contracts
+/// see all of it.
+#[derive(Drop)]
+pub struct AnswerText {
+    line: String,
+    reply: Many<u8>,
+}
+
+impl Model for AnswerText {
+    ghost use Rattle.std.specs.Prelude.{ℕ, ◌++◌, List, string_bytes};
+
+    ghost Value = { List ℕ };
+
+    ghost view = { λ text. string_bytes text.line ++ text.reply };
+}
+
+impl AnswerText {
+    /// What is written for a body that means no request.
+    pub fn unreadable(alloc: Global) -> Result<AnswerText, NoMemory>
+        ensures { IfOk result (λ text. text ≡ codes "unreadable\n") }
+    {
+        let line = String::from_str(alloc, "unreadable\n")?;
+        Ok(AnswerText {
+            line,
+            reply: Many(Vec::new(alloc)),
+        })
+    }
+
+    /// `=`, the length of the reply, a newline and the reply.
+    pub fn new(alloc: Global, answer: Answer) -> Result<AnswerText, NoMemory>
+        ensures { IfOk result (λ text. text ≡ answer_text answer) }
+    {
+        let Answer::Reply(reply) = answer;
+        let reply = reply_bytes(alloc, reply)?;
+        let length = reply.0.len();
+        let line = format!(in alloc; "={length}\n")?;
+        Ok(AnswerText { line, reply })
+    }
+
+    /// Writes the text, and hands it on.
+    pub fn send<K: Sink>(&self, sink: &mut K) -> Result<(), ReplayError>
+        ensures bytes { WritesAll (K.held sink.old) (K.held sink.new) result self.now }
+        ensures cause { IfErr result (λ e. e ≡ ReplayError.WriteFault) }
+        ensures fault { HasCause (K.faults sink.old) (K.faults sink.new) result }
+    {
+        write(sink, self.line.as_bytes())?;
+        write(sink, self.reply.0.as_slice())?;
+        hand_on(sink)
+    }
 }
 
 // A reply as it is sent.
-fn reply_bytes(alloc: Global, reply: Reply) -> Result<Many<u8>, AllocError>
+fn reply_bytes(alloc: Global, reply: Reply) -> Result<Many<u8>, NoMemory>
     ensures { IfOk result (λ bytes. bytes ≡ reply_bytes reply) }
 {
     let element = element_of(alloc, reply)?;
     canonical(alloc, &element)
-}
-
-// Appends `=`, the number of the bytes, a newline and the bytes.
-fn write_sized(bytes: &[u8], out: &mut Vec<u8>) -> Result<(), AllocError>
-    ensures { OnOk result (out.new.items ≡ out.old.items ++ (61 ∷ decimal (length bytes.now) ++ 10 ∷ bytes.now)) }
-{
-    out.extend_from_slice(b"=")?;
-    out.extend_from_slice(Buffer::new().format(bytes.len()).as_bytes())?;
-    out.extend_from_slice(b"\n")?;
-    out.extend_from_slice(bytes)
 }

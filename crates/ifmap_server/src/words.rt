@@ -20,24 +20,3 @@ pub fn form_of(words: &[String]) -> Form
         _ => Form::Wrong,
     }
 }
-
-#[cfg(test)]
-mod tests {
-    use super::*;
-    use std::test::Fail;
-
-    #[test]
-    fn the_one_word_replay_is_a_form(rt: HostRuntime) -> Result<(), Fail> {
-        let alloc = rt.alloc();
-        let mut words = Vec::new(alloc);
-        assert_eq!(rt; form_of(&words), Form::Wrong);
-        words.push(String::from_str(alloc, "replay")?)?;
-        assert_eq!(rt; form_of(&words), Form::Replay);
-        words.push(String::from_str(alloc, "replay")?)?;
-        assert_eq!(rt; form_of(&words), Form::Wrong);
-        words.clear();
-        words.push(String::from_str(alloc, "Replay")?)?;
-        assert_eq!(rt; form_of(&words), Form::Wrong);
-        Ok(())
-    }
-}

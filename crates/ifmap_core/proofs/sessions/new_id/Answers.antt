@@ -6,4 +6,5 @@ use Rattle.ifmap_core.proofs.sessions.new_id.Goals as goal
 pub returns : goal.returns
 returns c =
     c.in_ok-format.ensures.ok
-    ∙ ap (λ t. decimal c.args.serial ++ 45 ∷ t) (c.encode_lower-word.ensures.text ∙ ap (hyphenated_text lower) (c.hyphenated.ensures ∙ c.from_u128.ensures))
+    ∙ ap (λ t. decimal c.args.serial ++ 45 ∷ t) (c.encode_lower-word.ensures.text
+    ∙ ap (hyphenated_text lower) (c.hyphenated.ensures ∙ c.from_u128.ensures))

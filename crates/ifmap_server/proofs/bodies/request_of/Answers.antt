@@ -6,9 +6,9 @@ use Rattle.ifmap_server.proofs.bodies.request_of.Goals as goal
 
 pub returns : goal.returns
 returns c =
-    IfOk-weaker c.publishing.result _ _
+    IfOk-weaker c.publish_of.result _ _
     (λ r h. h ∙ sym (meaning_last c.args.body.now
     (ap (bytes_eq c.args.body.now) (sym c.as_bytes.ensures.value) ∙ sym c.eq.ensures ∙ c.if-eq.false)
     (sym c.in_ok-request.ensures ∙ c.in_default.is)
     (sym c.in_ok-request-2.ensures ∙ c.in_default-2.is)))
-    c.publishing.ensures
+    c.publish_of.ensures

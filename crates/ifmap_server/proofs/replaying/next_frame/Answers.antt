@@ -1,8 +1,8 @@
 -- A line and a header lead to the frame, or to the reason why none begins.
-use Rattle.std.proofs.Common.{arith}
+use Rattle.std.proofs.Common.{arith, inl, inr}
 use Rattle.std.proofs.lemmas.Result.{err_from_is_err_and}
-use Rattle.ifmap_server.proofs.Errors.{err_again}
-use Rattle.ifmap_server.proofs.Framing.{cut_fault, header_fault, line_fault, long_fault, no_line_none, short_none, whole}
+use Rattle.ifmap_server.proofs.SameErrors.{err_again}
+use Rattle.ifmap_server.proofs.Framing.{cut_fault, header_fault, line_fault, long_fault, short_awaits, whole}
 use Rattle.ifmap_server.proofs.Taking.{takes_more}
 use Rattle.ifmap_server.proofs.replaying.next_frame.Goals as goal
 use Rattle.ifmap_server.proofs.replaying.next_frame.Goals.{then-end-offset-via-then-end-offset, then-end-offset-via-else-end-offset+in_ok-await_bytes+then-not-branch}
@@ -15,13 +15,14 @@ returns-in_err-line-clause-fault g c =
 pub returns-in_err-line-clause-read : goal.returns-in_err-line-clause-read
 returns-in_err-line-clause-read g c =
     let p = err_from_is_err_and c.from_residual.result c.from_residual.ensures.1 in
-    rw (p.1, p.2) (λ e. let f = c.in_err-line.ensures.read (err_again _ _ e) in (f.0, no_line_none _ _ f.1))
+    rw (p.1, p.2) (λ e. let f = c.in_err-line.ensures.read (err_again _ _ e) in (f.0, inl f.1))
 
 pub returns-in_default-2-clause-fault : goal.returns-in_default-2-clause-fault
 returns-in_default-2-clause-fault g c =
     λ e. (
       c.in_ok-line.ensures.taken,
-      header_fault _ _ _ c.in-Some.line (rw c.in-Some.is at c.in_ok-line.ensures.line) (rw (c.in_default-2.is, c.pending.ensures) at c.in_ok-header.ensures.none),
+      header_fault _ _ _ c.in-Some.line (rw c.in-Some.is at c.in_ok-line.ensures.line)
+          (rw (c.in_default-2.is, c.pending.ensures) at c.in_ok-header.ensures.none),
     )
 
 pub returns-in_err-await_bytes-clause-read : goal.returns-in_err-await_bytes-clause-read
@@ -31,7 +32,10 @@ returns-in_err-await_bytes-clause-read g c =
     let f = c.in_err-await_bytes.ensures.read (err_again _ _ e) in
     let header = rw c.in-Some-2.is at c.in_ok-header.ensures.found in (
       takes_more _ _ _ _ _ _ c.in_ok-line.ensures.taken f.0,
-      short_none _ _ _ _ _ c.in-Some.line c.in-Some-2.header f.0 (rw c.in-Some.is at c.in_ok-line.ensures.line) (rw c.pending.ensures at header) f.1,
+      (let offset = c.requires in
+          let ends = c.if-end-offset.false in
+          inr (short_awaits _ _ _ _ _ c.in-Some.line c.in-Some-2.header f.0 (rw c.in-Some.is at c.in_ok-line.ensures.line)
+          (rw c.pending.ensures at header) f.1 (omega arith))),
     ))
 
 pub returns-then-end-offset-clause-fault : goal.returns-then-end-offset-clause-fault
@@ -43,18 +47,22 @@ returns-then-end-offset-clause-fault g c =
           let over = w.if-end-offset.true in
           rw (w.input-is, w.source-is) (λ e. (
             c.in_ok-line.ensures.taken,
-            long_fault _ _ _ c.in-Some.line c.in-Some-2.header (rw c.in-Some.is at c.in_ok-line.ensures.line) (rw c.pending.ensures at header) (omega arith),
+            long_fault _ _ _ c.in-Some.line c.in-Some-2.header (rw c.in-Some.is at c.in_ok-line.ensures.line)
+                (rw c.pending.ensures at header) (omega arith),
           ))
       | then-end-offset-via-else-end-offset+in_ok-await_bytes+then-not-branch w ↦
           let end = rw w.if-not-branch.true at w.in_ok-await_bytes.ensures.end in
           rw (w.input-is, w.source-is) (λ e. (
             takes_more _ _ _ _ _ _ c.in_ok-line.ensures.taken w.in_ok-await_bytes.ensures.taken,
-            cut_fault _ _ _ _ _ c.in-Some.line c.in-Some-2.header w.in_ok-await_bytes.ensures.taken (rw c.in-Some.is at c.in_ok-line.ensures.line) (rw c.pending.ensures at header) _ end.0 end.1,
+            cut_fault _ _ _ _ _ c.in-Some.line c.in-Some-2.header w.in_ok-await_bytes.ensures.taken
+                (rw c.in-Some.is at c.in_ok-line.ensures.line) (rw c.pending.ensures at header) _ end.0 end.1,
           ))
     ]
 
 pub returns-clause-frame : goal.returns-clause-frame
 returns-clause-frame g c =
     let header = rw c.in-Some-2.is at c.in_ok-header.ensures.found in
-    whole _ _ _ _ _ c.in-Some.line c.in-Some-2.header c.in_ok-await_bytes.ensures.taken (rw c.in-Some.is at c.in_ok-line.ensures.line) (rw c.pending.ensures at header)
-    (rw c.if-not-branch.false at c.in_ok-await_bytes.ensures.enough) (let offset = c.requires in let ends = c.if-end-offset.false in omega arith)
+    whole _ _ _ _ _ c.in-Some.line c.in-Some-2.header c.in_ok-await_bytes.ensures.taken (rw c.in-Some.is at c.in_ok-line.ensures.line)
+    (rw c.pending.ensures at header)
+    (rw c.if-not-branch.false at c.in_ok-await_bytes.ensures.enough) (let offset = c.requires in let ends = c.if-end-offset.false in
+    omega arith)

@@ -1,9 +1,14 @@
--- The status tells how the run of the replay ended; with no memory for its start, nothing was done.
+-- The status tells how the replay ended; with no memory for its start, nothing was done.
+use Rattle.std.proofs.Common.{Err, refl}
+use Rattle.ifmap_server.specs.declared.errors.ReplayError.TheVariants.{NoMemory}
+use Rattle.ifmap_server.specs.Ends.{ends}
 use Rattle.ifmap_server.proofs.Progress.{nothing_done}
 use Rattle.ifmap_server.proofs.running.replay_from.Goals as goal
 
-pub returns-in_default-clause-memory : goal.returns-in_default-clause-memory
-returns-in_default-clause-memory g c = λ e. nothing_done _ _
+pub returns-in_default : goal.returns-in_default
+returns-in_default g c =
+    let before = ends (g.S.Source.left c.args.source.now) (g.S.Source.faults c.args.source.now) (g.K.Sink.held c.args.sink.now) (g.K.Sink.faults c.args.sink.now) in
+    record { ended = Err NoMemory; told = refl; promise = nothing_done before }
 
-pub returns-clause-status : goal.returns-clause-status
-returns-clause-status g c = (c.run.result, c.status.ensures)
+pub returns : goal.returns
+returns g c = record { ended = c.run.result; told = c.status_of.ensures; promise = c.run.ensures }

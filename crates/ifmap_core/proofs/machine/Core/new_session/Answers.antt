@@ -4,7 +4,8 @@ use Rattle.ifmap_core.proofs.machine.Core.new_session.Goals as goal
 use Rattle.ifmap_core.proofs.machine.Core.new_session.Goals.{in-Some, in_default}
 
 pub end-requires : goal.end-requires
-end-requires c = rw c.prepare.ensures.live (held_is_live c.self.inside.sessions.live c.args.client.now c.in-Some.former (sym c.of_client-held.ensures ∙ c.in-Some.is))
+end-requires c = rw c.prepare.ensures.live (held_is_live c.self.inside.sessions.live c.args.client.now c.in-Some.former
+    (sym c.of_client-held.ensures ∙ c.in-Some.is))
 
 pub open-requires-clause-id : goal.open-requires-clause-id
 open-requires-clause-id c = (

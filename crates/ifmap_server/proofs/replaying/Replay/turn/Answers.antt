@@ -1,53 +1,52 @@
 -- A frame that was taken is answered, or the turn tells how the replay ends.
-use Rattle.std.proofs.Common.{◌≡◌, ◌∙◌, ◌+◌, ℕ, sym, ap, subst, drop}
-use Rattle.std.proofs.KnownBytes.{Keeps-refl}
+use Rattle.std.proofs.Common.{◌≡◌, ◌∙◌, ◌+◌, ℕ, Err, refl, sym, ap, subst, drop}
 use Rattle.std.proofs.lemmas.Result.{err_from_is_err_and}
 use Rattle.std.specs.Io.KnownBytes.{Appends}
-use Rattle.ifmap_server.specs.Output.{AppendsPrefix, answered}
+use Rattle.ifmap_server.specs.declared.errors.ReplayError.TheVariants.{WriteFault}
+use Rattle.ifmap_server.specs.Output.{AppendsPrefix, step_frame}
 use Rattle.ifmap_server.specs.Script.{Begins}
 use Rattle.ifmap_server.specs.Turns.{IsFramed, frame_within}
-use Rattle.ifmap_server.proofs.Errors.{err_again}
+use Rattle.ifmap_server.proofs.Endings.{untaken}
 use Rattle.ifmap_server.proofs.replaying.Replay.turn.Goals as goal
 
-pub returns-in_err-framed-clause-faulty : goal.returns-in_err-framed-clause-faulty
-returns-in_err-framed-clause-faulty g c =
+pub returns-in_err-framed-clause-turn : goal.returns-in_err-framed-clause-turn
+returns-in_err-framed-clause-turn g c =
     let p = err_from_is_err_and c.from_residual.result c.from_residual.ensures.1 in
-    rw (p.1, p.2, ← c.self.view_is) (λ e.
-    let f = c.in_err-framed.ensures.fault (err_again _ _ e) in
-    record { taken = c.next_frame.new.input; takes = f.0; fault = f.1; kept = Keeps-refl _ })
+    let replay = c.self.inside in
+    rw (p.1, p.2, ← c.self.view_is)
+    (untaken c.in_err-framed.field-0.0 (g.S.Source.left c.args.source.now) (g.S.Source.left c.next_frame.new.source)
+    (g.K.Sink.held c.args.sink.now) (g.S.Source.faults c.args.source.now) (g.S.Source.faults c.next_frame.new.source)
+    (g.K.Sink.faults c.args.sink.now)
+    (record { state = replay.core; pending = replay.input; offset = replay.offset })
+    (record { state = replay.core; pending = c.next_frame.new.input; offset = replay.offset })
+    (λ e. c.in_err-framed.ensures.fault (ap Err e)) (λ e. c.in_err-framed.ensures.read (ap Err e))
+    (λ e. c.in_err-framed.ensures.rose (ap Err e)) (λ e. c.in_err-framed.ensures.cause (ap Err e)) refl)
 
-pub returns-in_err-framed-clause-unread : goal.returns-in_err-framed-clause-unread
-returns-in_err-framed-clause-unread g c =
-    let p = err_from_is_err_and c.from_residual.result c.from_residual.ensures.1 in
-    rw (p.1, p.2, ← c.self.view_is) (λ e.
-    let f = c.in_err-framed.ensures.read (err_again _ _ e) in
-    record { taken = c.next_frame.new.input; takes = f.0; short = f.1; kept = Keeps-refl _ })
-
-pub returns-in_err-send-clause-unwritten : goal.returns-in_err-send-clause-unwritten
-returns-in_err-send-clause-unwritten g c =
+pub returns-in_err-send-clause-turn : goal.returns-in_err-send-clause-turn
+returns-in_err-send-clause-turn g c =
+    let p = err_from_is_err_and c.from_residual-in_err-send.result c.from_residual-in_err-send.ensures.1 in
+    let fault : c.in_err-send.field-0.0 ≡ WriteFault = c.in_err-send.ensures.cause in
     let framed = c.in-Some.framed in
     let pending = c.next_frame.new.input in
     let is : IsFramed c.self.inside.offset pending framed = rw c.in-Some.is at c.in_ok-framed.ensures.frame in
-    let text = rw c.pending.ensures at c.in_ok-answer_frame.ensures.text in
-    let written : c.as_slice.result.now ≡ (answered c.self.inside.core (frame_within framed pending)).1 = c.as_slice.ensures.value ∙ text in
-    let wrote = c.in_err-send.ensures.bytes in
-    rw (← c.self.view_is) (λ e. record {
+    let text = rw c.pending.ensures at c.in_ok-text.ensures.text in
+    rw (p.1, p.2, fault, ← c.self.view_is) (record {
       frame = frame_within framed pending;
       taken = pending;
       rest = drop framed.end pending;
       takes = c.in_ok-framed.ensures.taken;
       begins = is.begins;
-      wrote = subst (AppendsPrefix (g.K.Sink.held c.args.sink.now) (g.K.Sink.held c.send.new.sink)) written wrote;
+      wrote = subst (AppendsPrefix (g.K.Sink.held c.args.sink.now) (g.K.Sink.held c.send.new.sink)) text c.in_err-send.ensures.bytes;
+      cause = c.in_err-send.ensures.fault.failed;
     })
 
-pub returns-clause-answered : goal.returns-clause-answered
-returns-clause-answered g c =
+pub returns-clause-turn : goal.returns-clause-turn
+returns-clause-turn g c =
     let framed = c.in-Some.framed in
     let pending = c.next_frame.new.input in
     let is : IsFramed c.self.inside.offset pending framed = rw c.in-Some.is at c.in_ok-framed.ensures.frame in
-    let text = rw c.pending.ensures at c.in_ok-answer_frame.ensures.text in
-    let state = rw c.pending.ensures at c.in_ok-answer_frame.ensures.state in
-    let written : c.as_slice.result.now ≡ (answered c.self.inside.core (frame_within framed pending)).1 = c.as_slice.ensures.value ∙ text in
+    let text = rw c.pending.ensures at c.in_ok-text.ensures.text in
+    let state = rw c.pending.ensures at c.in_ok-text.ensures.state in
     rw (← c.self.view_is) (record {
       frame = frame_within framed pending;
       taken = pending;
@@ -55,5 +54,5 @@ returns-clause-answered g c =
       begins = subst (Begins c.self.inside.offset pending (frame_within framed pending)) (sym c.advance.ensures) is.begins;
       state = state;
       offset = ap (λ (n : ℕ). c.self.inside.offset + n) is.end;
-      wrote = subst (Appends (g.K.Sink.held c.args.sink.now) (g.K.Sink.held c.send.new.sink)) written c.in_ok-send.ensures.bytes;
+      wrote = subst (Appends (g.K.Sink.held c.args.sink.now) (g.K.Sink.held c.send.new.sink)) text c.in_ok-send.ensures.bytes;
     })

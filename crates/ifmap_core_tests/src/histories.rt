@@ -1,0 +1,393 @@
+//! Histories of the machine: events one after another, and what each is answered.
+ghost use Rattle.std.specs.Prelude.{◌≡◌, ◌<◌};
+
+use crate::roles::{mac_address, role};
+use ifmap_core::{Answer, Ask, Core, Event};
+use ifmap_elem::{Attribute, Child, Element, Many, Text};
+use ifmap_ident::Item;
+use ifmap_io::Moment;
+use ifmap_meta::{Cardinality, ClientName, Metadata};
+use ifmap_msg::{Entry, PublishOp, Reply, Request, Search};
+use ifmap_steps::Steps;
+use std::alloc::Global;
+use std::marker::Brand;
+use std::process::Abort;
+use std::sync::ledger::{Blank, Ledger};
+use std::test::Fail;
+
+const FIRST: &str = "1-00000000-0000-0000-0000-000000000001";
+
+const SECOND: &str = "2-00000000-0000-0000-0000-000000000005";
+
+const THIRD: &str = "3-00000000-0000-0000-0000-00000000000e";
+
+const MISSING: &str = "InvalidSessionID: InvalidSessionID";
+
+const FULL: &str = "SystemError: SystemError";
+
+/// What a client asks; the text is the id of its session.
+#[derive(Clone, Copy)]
+enum Asks {
+    New,
+    End(&'static str),
+    /// The role of that name, on the first address.
+    Publish(&'static str, &'static str, Cardinality),
+    PublishForever(&'static str, &'static str),
+    /// What is on the first address, up to that size.
+    Search(&'static str, u64),
+}
+
+/// An event, with its random word, and the answer in words.
+type Turn = (u64, &'static str, u128, Asks, &'static str);
+
+fn publish(alloc: Global, id: &str, update: PublishOp) -> Result<Request, Fail> {
+    Ok(Request::Publish {
+        session: Text::from_str(alloc, id)?,
+        ops: Many(Vec::from_array(alloc, [update])?),
+    })
+}
+
+fn update(
+    alloc: Global,
+    name: &str,
+    cardinality: Cardinality,
+    forever: bool,
+) -> Result<PublishOp, Fail> {
+    let value = match cardinality {
+        Cardinality::Single => "singleValue",
+        Cardinality::Multi => "multiValue",
+    };
+    let value = Text::from_str(alloc, value)?;
+    let attribute = Attribute::bare(alloc, "ifmap-cardinality", value)?;
+    let attributes = Vec::from_array(alloc, [attribute])?;
+    let metadata = Metadata {
+        element: role(alloc, attributes, name)?,
+        cardinality,
+    };
+    Ok(PublishOp::Update {
+        item: Item::One(mac_address(alloc, 1)),
+        elements: Many(Vec::from_array(alloc, [metadata])?),
+        forever,
+    })
+}
+
+fn request(alloc: Global, asks: Asks) -> Result<Request, Fail> {
+    match asks {
+        Asks::New => Ok(Request::NewSession),
+        Asks::End(id) => Ok(Request::EndSession {
+            session: Text::from_str(alloc, id)?,
+        }),
+        Asks::Publish(id, name, cardinality) => {
+            publish(alloc, id, update(alloc, name, cardinality, false)?)
+        }
+        Asks::PublishForever(id, name) => {
+            publish(alloc, id, update(alloc, name, Cardinality::Multi, true)?)
+        }
+        Asks::Search(id, max_size) => Ok(Request::Search {
+            session: Text::from_str(alloc, id)?,
+            search: Search {
+                start: mac_address(alloc, 1),
+                max_size,
+            },
+        }),
+    }
+}
+
+// The text of an element that holds text alone.
+fn text_of(element: &Element) -> &str {
+    let children = &element.children;
+    match children.0.first() {
+        Some(Child::Text(text)) => text.0.as_str(),
+        _ => "no text",
+    }
+}
+
+// The name of a role.
+fn name_of(element: &Element) -> &str {
+    let children = &element.children;
+    match children.0.first() {
+        Some(Child::Element(name)) => text_of(name),
+        _ => "no element",
+    }
+}
+
+// The attributes' values and the name of each role.
+fn roles_of(alloc: Global, entries: &Many<Entry>) -> Result<String, Fail> {
+    let mut words = String::new(alloc);
+    for entry in &entries.0 {
+        for attribute in &entry.element.attributes.0 {
+            words.push_str(attribute.value.0.as_str())?;
+            words.push(' ')?;
+        }
+        words.push_str(name_of(&entry.element))?;
+        words.push(';')?;
+    }
+    Ok(words)
+}
+
+fn words_of(alloc: Global, answer: &Answer) -> Result<String, Fail> {
+    let words = match answer {
+        Answer::Reply(Reply::NewSession { session, publisher }) => {
+            format!(in alloc; "{} of {}", session.0, publisher.0)?
+        }
+        Answer::Reply(Reply::Ended) => String::from_str(alloc, "ended")?,
+        Answer::Reply(Reply::Published) => String::from_str(alloc, "published")?,
+        Answer::Reply(Reply::Found(entries)) => roles_of(alloc, entries)?,
+        Answer::Reply(Reply::Error { code, note }) => {
+            format!(in alloc; "{}: {}", code.name(), note.0)?
+        }
+    };
+    Ok(words)
+}
+
+fn event_of(rt: &(impl Abort + AllocGlobal), turn: &Turn) -> Result<Event, Fail> {
+    let alloc = rt.alloc();
+    let (moment, client, random, asks, _) = *turn;
+    Ok(Event {
+        moment: Moment::new(moment).expect(rt, "a moment"),
+        client: ClientName::new(Text::from_str(alloc, client)?).expect(rt, "a name"),
+        random,
+        again: false,
+        bytes: 174,
+        ask: Ask::Request(request(alloc, asks)?),
+    })
+}
+
+// A crowd of clients c0, c1 .. begins a session each, and then the turns are taken.
+fn expect_history(rt: &(impl Abort + AllocGlobal), crowd: u64, turns: &[Turn]) -> Result<(), Fail> {
+    expect_history_from::<Brand>(rt, Blank::new(1), crowd, turns)
+}
+
+fn expect_history_from<L: Ledger>(
+    rt: &(impl Abort + AllocGlobal),
+    blank: Blank,
+    crowd: u64,
+    turns: &[Turn],
+) -> Result<(), Fail>
+    requires name { blank.name ≡ L.name }
+    requires parts { blank.parts ≡ L.parts }
+    requires some { 0 < blank.parts }
+{
+    let alloc = rt.alloc();
+    let mut steps: Steps<L> = Steps::from_blank(blank);
+    let mut core = Core::new(alloc, 180);
+    for i in 0..crowd {
+        let mut event = event_of(rt, &(1_000_000_000, "c", 0, Asks::New, ""))?;
+        let name = format!(in alloc; "c{i}")?;
+        event.client = ClientName::new(Text(name)).expect(rt, "a name");
+        let answer = core.step(alloc, &event, &mut steps)?;
+        let words = words_of(alloc, &answer)?;
+        assert!(rt;
+            words.ends_with(event.client.text().0.as_str()),
+            "at {i}: {words}"
+        );
+    }
+    for turn in turns {
+        let event = event_of(rt, turn)?;
+        let answer = core.step(alloc, &event, &mut steps)?;
+        let words = words_of(alloc, &answer)?;
+        assert_eq!(rt; words.as_str(), turn.4, "at {}", turn.2);
+    }
+    Ok(())
+}
+
+#[test]
+fn a_session_is_answered_by_its_id_to_its_client_alone(rt: HostRuntime) -> Result<(), Fail> {
+    let at = 1_000_000_000;
+    let first = "2-12345678-9abc-def0-fedc-ba9876543210";
+    let word = 0x123456789abcdef0fedcba9876543210;
+    let turns: [Turn; 14] = [
+        (
+            at,
+            "c1",
+            1,
+            Asks::New,
+            "1-00000000-0000-0000-0000-000000000001 of c1",
+        ),
+        (at, "c1", 2, Asks::End(FIRST), "ended"),
+        (at, "c1", 3, Asks::End(FIRST), MISSING),
+        (
+            at,
+            "c1",
+            word,
+            Asks::New,
+            "2-12345678-9abc-def0-fedc-ba9876543210 of c1",
+        ),
+        (at, "c2", 5, Asks::End(first), "AccessDenied: AccessDenied"),
+        (
+            at,
+            "c2",
+            6,
+            Asks::New,
+            "3-00000000-0000-0000-0000-000000000006 of c2",
+        ),
+        (
+            at,
+            "c1",
+            7,
+            Asks::New,
+            "4-00000000-0000-0000-0000-000000000007 of c1",
+        ),
+        (at, "c1", 8, Asks::End(first), MISSING),
+        (
+            at,
+            "c1",
+            9,
+            Asks::End("4-00000000-0000-0000-0000-000000000006"),
+            MISSING,
+        ),
+        (
+            at,
+            "c1",
+            10,
+            Asks::End("+4-00000000-0000-0000-0000-000000000007"),
+            MISSING,
+        ),
+        (
+            at,
+            "c1",
+            11,
+            Asks::End("04-00000000-0000-0000-0000-000000000007"),
+            MISSING,
+        ),
+        (at, "c1", 12, Asks::End(""), MISSING),
+        (
+            at,
+            "c1",
+            13,
+            Asks::End("4-00000000-0000-0000-0000-000000000007"),
+            "ended",
+        ),
+        (
+            at,
+            "c2",
+            14,
+            Asks::End("3-00000000-0000-0000-0000-000000000006"),
+            "ended",
+        ),
+    ];
+    expect_history(&rt, 0, &turns)
+}
+
+#[test]
+fn at_10000_sessions_only_a_client_that_has_one_gets_another(rt: HostRuntime) -> Result<(), Fail> {
+    let at = 1_000_000_000;
+    let turns: [Turn; 6] = [
+        (at, "late", 1, Asks::New, FULL),
+        (
+            at,
+            "c7",
+            2,
+            Asks::New,
+            "10001-00000000-0000-0000-0000-000000000002 of c7",
+        ),
+        (at, "late", 3, Asks::New, FULL),
+        (
+            at,
+            "c9",
+            4,
+            Asks::End("10-00000000-0000-0000-0000-000000000000"),
+            "ended",
+        ),
+        (
+            at,
+            "late",
+            5,
+            Asks::New,
+            "10002-00000000-0000-0000-0000-000000000005 of late",
+        ),
+        (at, "c9", 6, Asks::New, FULL),
+    ];
+    expect_history(&rt, 10_000, &turns)
+}
+
+#[test]
+fn metadata_is_found_until_it_is_replaced_or_its_session_ends(rt: HostRuntime) -> Result<(), Fail> {
+    let at = 1_000_000_000;
+    let early = 900_000_000;
+    let multi = Cardinality::Multi;
+    let single = Cardinality::Single;
+    let r = "multiValue c1 2001-09-09T01:46:40Z r;";
+    let u = "multiValue c2 2001-09-09T01:46:41Z u;";
+    let r_and_s = "multiValue c1 2001-09-09T01:46:40Z r;singleValue c2 2001-09-09T01:46:40Z s;";
+    let r_u_and_t =
+        "multiValue c1 2001-09-09T01:46:40Z r;multiValue c2 2001-09-09T01:46:41Z u;singleValue c1 2001-09-09T01:46:41Z t;";
+    let turns: [Turn; 18] = [
+        (
+            at,
+            "c1",
+            1,
+            Asks::New,
+            "1-00000000-0000-0000-0000-000000000001 of c1",
+        ),
+        (at, "c1", 2, Asks::Publish(FIRST, "r", multi), "published"),
+        (at, "c1", 3, Asks::Search(FIRST, 237), r),
+        (
+            at,
+            "c1",
+            4,
+            Asks::Search(FIRST, 236),
+            "SearchResultsTooBig: 237 of 236",
+        ),
+        // An earlier moment changes nothing.
+        (
+            early,
+            "c2",
+            5,
+            Asks::New,
+            "2-00000000-0000-0000-0000-000000000005 of c2",
+        ),
+        (
+            early,
+            "c2",
+            6,
+            Asks::Publish(SECOND, "s", single),
+            "published",
+        ),
+        (early, "c2", 7, Asks::Search(SECOND, 1000), r_and_s),
+        // A refusal takes the moment in.
+        (
+            at + 1,
+            "c2",
+            8,
+            Asks::Publish(FIRST, "x", multi),
+            "AccessDenied: AccessDenied",
+        ),
+        (
+            early,
+            "c1",
+            9,
+            Asks::Publish(FIRST, "t", single),
+            "published",
+        ),
+        (
+            early,
+            "c2",
+            10,
+            Asks::PublishForever(SECOND, "u"),
+            "published",
+        ),
+        (early, "c2", 11, Asks::Search(SECOND, 1000), r_u_and_t),
+        (early, "c1", 12, Asks::End(FIRST), "ended"),
+        (early, "c2", 13, Asks::Search(SECOND, 1000), u),
+        (
+            early,
+            "c2",
+            14,
+            Asks::Publish(SECOND, "v", multi),
+            "published",
+        ),
+        // A new session ends the former one.
+        (
+            early,
+            "c2",
+            14,
+            Asks::New,
+            "3-00000000-0000-0000-0000-00000000000e of c2",
+        ),
+        (early, "c2", 15, Asks::Search(THIRD, 1000), u),
+        (early, "c2", 16, Asks::Search(SECOND, 1000), MISSING),
+        (early, "c2", 17, Asks::Publish(SECOND, "w", multi), MISSING),
+    ];
+    expect_history(&rt, 0, &turns)
+}

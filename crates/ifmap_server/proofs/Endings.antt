@@ -1,0 +1,61 @@
+-- How a turn ends, and how it ends the replay.
+use Rattle.std.proofs.Common.{◌≡◌, ◌≢◌, ℕ, ◌≤◌, List, [], ◌++◌, Option, Some, IfSome, Err, refl, subst, arith}
+use Rattle.std.proofs.KnownBytes.{Keeps-refl}
+use Rattle.std.specs.Io.KnownBytes.{Appends, Keeps}
+use Rattle.ifmap_io.specs.Causes.{Rose}
+use Rattle.ifmap_server.specs.declared.errors.ReplayError.{ReplayError}
+use Rattle.ifmap_server.specs.declared.errors.ReplayError.TheVariants.{FrameFault, NoMemory, ReadFault, WriteFault}
+use Rattle.ifmap_server.specs.Awaited.{IsAwaited}
+use Rattle.ifmap_server.specs.Output.{AppendsPrefix, fault_line}
+use Rattle.ifmap_server.specs.Pending.{Takes}
+use Rattle.ifmap_server.specs.Replayed.{Promises}
+use Rattle.ifmap_server.specs.Ends.{IsLater, Ends, ends}
+use Rattle.ifmap_server.specs.Turns.{BeginsNone, Replaying, Turns}
+use Rattle.ifmap_server.proofs.Pieces.{keeps_prefix}
+use Rattle.ifmap_server.proofs.Progress.{Progress, fault_part, fault_told, part, unread, unwritten}
+use Rattle.ifmap_server.proofs.Taking.{rose_since}
+
+-- no frame was taken: the turn ends as the taking did
+pub untaken : (e : ReplayError) (left_old left_new held : Option (List ℕ)) (reads_old reads_new writes : ℕ) (old new : Replaying)
+    → (e ≡ FrameFault → Takes left_old left_new old.pending new.pending
+    × IfSome left_new (λ rest. (new.pending ++ rest ≢ []) × BeginsNone old.offset (new.pending ++ rest)))
+    → (e ≡ ReadFault → Takes left_old left_new old.pending new.pending × IsAwaited old.offset new.pending)
+    → (e ≡ ReadFault → Rose reads_old reads_new)
+    → e ≢ WriteFault → new.offset ≡ old.offset
+    → Turns (Err e) (ends left_old reads_old held writes) (ends left_new reads_new held writes) old new
+untaken FrameFault left_old left_new held reads_old reads_new writes old new fault read rose not same =
+    (record { taken = new.pending; takes = (fault refl).0; fault = (fault refl).1; kept = Keeps-refl held }, same)
+untaken ReadFault left_old left_new held reads_old reads_new writes old new fault read rose not same =
+    record { taken = new.pending; takes = (read refl).0; awaited = (read refl).1; kept = Keeps-refl held; cause = rose refl }
+untaken WriteFault left_old left_new held reads_old reads_new writes old new fault read rose not same = absurd (not refl)
+untaken NoMemory left_old left_new held reads_old reads_new writes old new fault read rose not same = Keeps-refl held
+
+module _ (before mid after : Ends) (now new : Replaying) (p : Progress before mid now) where
+  -- any error but that of a frame ends the replay
+  pub error_ends : (e : ReplayError) → e ≢ FrameFault → Turns (Err e) mid after now new → Promises (Err e) before after
+  error_ends FrameFault not t = absurd (not refl)
+  error_ends ReadFault not t =
+      (unread before mid after now p t, rose_since before.read_faults mid.read_faults after.read_faults p.later.read t.cause)
+  error_ends WriteFault not t =
+      (unwritten before mid after now p t, rose_since before.write_faults mid.write_faults after.write_faults p.later.write t.cause)
+  error_ends NoMemory not t = part before mid after now p t
+
+  -- a frame is at fault, and its offset is told
+  pub fault_ends : (last : Ends) (e : ReplayError) → Turns (Err FrameFault) mid after now new → IsLater mid after
+      → (e ≡ FrameFault → Appends after.held last.held (fault_line (Some new.offset)))
+      → (e ≡ WriteFault → AppendsPrefix after.held last.held (fault_line (Some new.offset)))
+      → (e ≡ NoMemory → Keeps after.held last.held) → e ≢ ReadFault
+      → (e ≡ WriteFault → Rose after.write_faults last.write_faults) → Promises (Err e) before last
+  fault_ends last FrameFault t later told part_told kept not rose =
+      fault_told before mid after now p last t.0
+      (subst (λ (n : ℕ). Appends after.held last.held (fault_line (Some n))) t.1 (told refl))
+  fault_ends last ReadFault t later told part_told kept not rose = absurd (not refl)
+  fault_ends last WriteFault t later told part_told kept not rose =
+      let first = p.later.write in
+      let second = later.write in (
+        fault_part before mid after now p last t.0
+            (subst (λ (n : ℕ). AppendsPrefix after.held last.held (fault_line (Some n))) t.1 (part_told refl)),
+        rose_since before.write_faults after.write_faults last.write_faults (omega arith) (rose refl),
+      )
+  fault_ends last NoMemory t later told part_told kept not rose =
+      fault_part before mid after now p last t.0 (keeps_prefix after.held last.held (fault_line (Some now.offset)) (kept refl))

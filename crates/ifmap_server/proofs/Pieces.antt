@@ -1,0 +1,56 @@
+-- What is written and then handed on.
+use Rattle.std.proofs.Common.{◌≡◌, ℕ, ◌+◌, List, [], ◌++◌, length, take, None, Some, refl, sym, ap, subst, ◌∙◌, append-nil, min, arith}
+use Rattle.std.specs.Prelude.{Option, Result, Ok, Err}
+use Rattle.std.proofs.KnownBytes.{Appends-nil, Appends-trans}
+use Rattle.std.proofs.Math.Seq.{take-append-add, take-length}
+use Rattle.std.proofs.lemmas.List.{take-append-le, take_min}
+use Rattle.std.specs.Io.KnownBytes.{Appends, Keeps}
+use Rattle.ifmap_io.specs.Written.{WritesAll}
+use Rattle.ifmap_server.specs.Output.{AppendsPrefix}
+
+pub appends_kept : (a b c : Option (List ℕ)) (bytes : List ℕ) → Appends a b bytes → Keeps b c → Appends a c bytes
+appends_kept None b c bytes p q = tt
+appends_kept (Some x) None c bytes p q = absurd p
+appends_kept (Some x) (Some y) None bytes p q = absurd q
+appends_kept (Some x) (Some y) (Some z) bytes p q = q ∙ p
+
+-- all of a text is a prefix of it
+pub appends_whole : (a b : Option (List ℕ)) (bytes : List ℕ) → Appends a b bytes → (n : ℕ) × Appends a b (take n bytes)
+appends_whole a b bytes p = (length bytes, subst (Appends a b) (sym (take-length bytes)) p)
+
+prefix_of : (a b c : List ℕ) (n : ℕ) → (m : ℕ) × (take m (a ++ (b ++ c)) ≡ a ++ take n b)
+prefix_of a b c n = (
+  length a + min n (length b),
+  take-append-add a (b ++ c) (min n (length b))
+      ∙ ap (λ (x : List ℕ). a ++ x) (take-append-le (min n (length b)) b c (omega arith) ∙ take_min n b),
+)
+
+pub appends_prefix : (old mid new : Option (List ℕ)) (a b c text : List ℕ) → text ≡ a ++ (b ++ c) → Appends old mid a
+    → AppendsPrefix mid new b
+    → AppendsPrefix old new text
+appends_prefix old mid new a b c text is first second =
+    let p = prefix_of a b c second.0 in
+    (p.0, subst (Appends old new) (sym p.1 ∙ ap (take p.0) (sym is)) (Appends-trans old mid new a (take second.0 b) first second.1))
+
+pub keeps_prefix : (old new : Option (List ℕ)) (text : List ℕ) → Keeps old new → AppendsPrefix old new text
+keeps_prefix old new text kept = (0, appends_kept old old new [] (Appends-nil old) kept)
+
+-- a text that is sent in two pieces
+pub first_prefix : (old new : Option (List ℕ)) (a b : List ℕ) → AppendsPrefix old new a → AppendsPrefix old new (a ++ b)
+first_prefix old new a b first = appends_prefix old old new [] a b (a ++ b) refl (Appends-nil old) first
+
+pub second_prefix : (old mid new : Option (List ℕ)) (a b : List ℕ) → Appends old mid a → AppendsPrefix mid new b
+    → AppendsPrefix old new (a ++ b)
+second_prefix old mid new a b first second =
+    appends_prefix old mid new a b [] (a ++ b) (ap (λ (x : List ℕ). a ++ x) (sym (append-nil b))) first second
+
+pub both_whole : (old mid new last : Option (List ℕ)) (a b : List ℕ) → Appends old mid a → Appends mid new b → Keeps new last
+    → Appends old last (a ++ b)
+both_whole old mid new last a b first second kept =
+    appends_kept old new last (a ++ b) (Appends-trans old mid new a b first second) kept
+
+pub sent : {T E : Type 0} (result : Result T E) (old mid new last : Option (List ℕ)) (a b : List ℕ)
+    → Appends old mid a → Appends mid new b → Keeps new last → WritesAll old last result (a ++ b)
+sent (Ok x) old mid new last a b first second kept = both_whole old mid new last a b first second kept
+sent (Err e) old mid new last a b first second kept =
+    appends_whole old last (a ++ b) (both_whole old mid new last a b first second kept)

@@ -1,0 +1,33 @@
+//! Scripts and what is written for them.
+
+/// A session begins and ends, and is asked to end again.
+pub const THREE_FRAMES: &str =
+    "@1000000000 c1 00000000000000000000000000000001 174\n<n1:Envelope xmlns:n1=\"http://www.w3.org/2003/05/soap-envelope\" xmlns:n2=\"http://www.trustedcomputinggroup.org/2010/IFMAP/2\"><n1:Body><n2:newSession/></n1:Body></n1:Envelope>@1000000001 c1 00000000000000000000000000000002 226\n<n1:Envelope xmlns:n1=\"http://www.w3.org/2003/05/soap-envelope\" xmlns:n2=\"http://www.trustedcomputinggroup.org/2010/IFMAP/2\"><n1:Body><n2:endSession session-id=\"1-00000000-0000-0000-0000-000000000001\"/></n1:Body></n1:Envelope>@1000000002 c1 00000000000000000000000000000003 226\n<n1:Envelope xmlns:n1=\"http://www.w3.org/2003/05/soap-envelope\" xmlns:n2=\"http://www.trustedcomputinggroup.org/2010/IFMAP/2\"><n1:Body><n2:endSession session-id=\"1-00000000-0000-0000-0000-000000000001\"/></n1:Body></n1:Envelope>";
+
+/// What is written for them.
+pub const THREE_ANSWERS: &str =
+    "=311\n<n1:Envelope xmlns:n1=\"http://www.w3.org/2003/05/soap-envelope\" xmlns:n2=\"http://www.trustedcomputinggroup.org/2010/IFMAP/2\"><n1:Body><n2:response><newSessionResult ifmap-publisher-id=\"c1\" max-poll-result-size=\"5000000\" session-id=\"1-00000000-0000-0000-0000-000000000001\"/></n2:response></n1:Body></n1:Envelope>=204\n<n1:Envelope xmlns:n1=\"http://www.w3.org/2003/05/soap-envelope\" xmlns:n2=\"http://www.trustedcomputinggroup.org/2010/IFMAP/2\"><n1:Body><n2:response><endSessionResult/></n2:response></n1:Body></n1:Envelope>=284\n<n1:Envelope xmlns:n1=\"http://www.w3.org/2003/05/soap-envelope\" xmlns:n2=\"http://www.trustedcomputinggroup.org/2010/IFMAP/2\"><n1:Body><n2:response><errorResult errorCode=\"InvalidSessionID\"><errorString>InvalidSessionID</errorString></errorResult></n2:response></n1:Body></n1:Envelope>";
+
+/// A session begins, publishes a role on an address, and searches that address.
+pub const PUBLISH_AND_FIND: &str =
+    "@1000000000 c1 00000000000000000000000000000001 174\n<n1:Envelope xmlns:n1=\"http://www.w3.org/2003/05/soap-envelope\" xmlns:n2=\"http://www.trustedcomputinggroup.org/2010/IFMAP/2\"><n1:Body><n2:newSession/></n1:Body></n1:Envelope>@1000000000 c1 00000000000000000000000000000002 447\n<n1:Envelope xmlns:n1=\"http://www.w3.org/2003/05/soap-envelope\" xmlns:n2=\"http://www.trustedcomputinggroup.org/2010/IFMAP/2\" xmlns:n3=\"http://www.trustedcomputinggroup.org/2010/IFMAP-METADATA/2\"><n1:Body><n2:publish session-id=\"1-00000000-0000-0000-0000-000000000001\"><update><mac-address value=\"00:00:5e:00:53:01\"/><metadata><n3:role ifmap-cardinality=\"multiValue\"><name>r</name></n3:role></metadata></update></n2:publish></n1:Body></n1:Envelope>@1000000000 c1 00000000000000000000000000000003 273\n<n1:Envelope xmlns:n1=\"http://www.w3.org/2003/05/soap-envelope\" xmlns:n2=\"http://www.trustedcomputinggroup.org/2010/IFMAP/2\"><n1:Body><n2:search session-id=\"1-00000000-0000-0000-0000-000000000001\"><mac-address value=\"00:00:5e:00:53:01\"/></n2:search></n1:Body></n1:Envelope>";
+
+/// What is written for them.
+pub const FOUND: &str =
+    "=311\n<n1:Envelope xmlns:n1=\"http://www.w3.org/2003/05/soap-envelope\" xmlns:n2=\"http://www.trustedcomputinggroup.org/2010/IFMAP/2\"><n1:Body><n2:response><newSessionResult ifmap-publisher-id=\"c1\" max-poll-result-size=\"5000000\" session-id=\"1-00000000-0000-0000-0000-000000000001\"/></n2:response></n1:Body></n1:Envelope>=203\n<n1:Envelope xmlns:n1=\"http://www.w3.org/2003/05/soap-envelope\" xmlns:n2=\"http://www.trustedcomputinggroup.org/2010/IFMAP/2\"><n1:Body><n2:response><publishReceived/></n2:response></n1:Body></n1:Envelope>=497\n<n1:Envelope xmlns:n1=\"http://www.w3.org/2003/05/soap-envelope\" xmlns:n2=\"http://www.trustedcomputinggroup.org/2010/IFMAP/2\" xmlns:n3=\"http://www.trustedcomputinggroup.org/2010/IFMAP-METADATA/2\"><n1:Body><n2:response><searchResult><resultItem><mac-address value=\"00:00:5e:00:53:01\"/><metadata><n3:role ifmap-cardinality=\"multiValue\" ifmap-publisher-id=\"c1\" ifmap-timestamp=\"2001-09-09T01:46:40Z\"><name>r</name></n3:role></metadata></resultItem></searchResult></n2:response></n1:Body></n1:Envelope>";
+
+/// The body that begins a session.
+pub const NEW_SESSION: &str =
+    "<n1:Envelope xmlns:n1=\"http://www.w3.org/2003/05/soap-envelope\" xmlns:n2=\"http://www.trustedcomputinggroup.org/2010/IFMAP/2\"><n1:Body><n2:newSession/></n1:Body></n1:Envelope>";
+
+/// The body that ends one.
+pub const END_SESSION: &str =
+    "<n1:Envelope xmlns:n1=\"http://www.w3.org/2003/05/soap-envelope\" xmlns:n2=\"http://www.trustedcomputinggroup.org/2010/IFMAP/2\"><n1:Body><n2:endSession session-id=\"1-00000000-0000-0000-0000-000000000001\"/></n1:Body></n1:Envelope>";
+
+/// The body that publishes the role.
+pub const PUBLISH: &str =
+    "<n1:Envelope xmlns:n1=\"http://www.w3.org/2003/05/soap-envelope\" xmlns:n2=\"http://www.trustedcomputinggroup.org/2010/IFMAP/2\" xmlns:n3=\"http://www.trustedcomputinggroup.org/2010/IFMAP-METADATA/2\"><n1:Body><n2:publish session-id=\"1-00000000-0000-0000-0000-000000000001\"><update><mac-address value=\"00:00:5e:00:53:01\"/><metadata><n3:role ifmap-cardinality=\"multiValue\"><name>r</name></n3:role></metadata></update></n2:publish></n1:Body></n1:Envelope>";
+
+/// The body that searches.
+pub const SEARCH: &str =
+    "<n1:Envelope xmlns:n1=\"http://www.w3.org/2003/05/soap-envelope\" xmlns:n2=\"http://www.trustedcomputinggroup.org/2010/IFMAP/2\"><n1:Body><n2:search session-id=\"1-00000000-0000-0000-0000-000000000001\"><mac-address value=\"00:00:5e:00:53:01\"/></n2:search></n1:Body></n1:Envelope>";
