@@ -18,7 +18,7 @@ use Rattle.ifmap_reader.specs.declared.errors.Refusal.{Refusal}
 use Rattle.ifmap_reader.specs.declared.errors.Refusal.TheVariants as refusals
 use Rattle.ifmap_reader.specs.declared.standing.Standing.{Standing}
 use Rattle.ifmap_reader.specs.declared.standing.Standing.TheVariants as standing
-use Rattle.ifmap_reader.specs.Progress.{Where, AtStart, Within, AfterRoot, GoesOn, Leads, Passes, TokenAnswer, open_in, so_deep, one_if, where_is}
+use Rattle.ifmap_reader.specs.Progress.{Where, AtStart, Within, AfterRoot, GoesOn, IsLinked, Leads, Passes, TokenAnswer, open_in, so_deep, one_if, where_is}
 use Rattle.ifmap_reader.specs.Reads.{IsUnreadable, IsTooDeep, IsRead, lex_error, refusal_error, read_at_end}
 use Rattle.ifmap_reader.proofs.Goings.{no_tokens, no_tokens_start, after_root_ends}
 use Rattle.ifmap_reader.proofs.Levels.{goes_deep}
@@ -34,6 +34,7 @@ pub record At (bytes : List ℕ) (depth : ℕ) (w : Where) (rest : List ℕ) : T
   pub fits : so_deep w ≤ depth
   pub level : count_by is_start so_far ≡ open_in w + count_by is_end so_far
   pub shallow : Shallow depth so_far
+  pub linked : IsLinked w
 
 no_split : (before after : List Token) (t : Token) → [] ≡ before ++ (t ∷ after) → ⊥
 no_split [] after t e = cc
@@ -48,6 +49,7 @@ at_start bytes depth rest is = record {
   fits = omega arith;
   level = omega arith;
   shallow = λ before after t e o. absurd (no_split before after t e);
+  linked = tt;
 }
 
 -- a place in a list with one more at the end is in the list or at the end
@@ -93,6 +95,7 @@ module _ (bytes : List ℕ) (depth : ℕ) (w : Where) (rest : List ℕ) (at : At
       goes = λ ts r. let g = goes_next ts r in let f = l.follows ts r in (λ x. f.0 (g.0 x), λ x. g.1 (f.1 x));
       ahead = ahead_next TakesToken (without_byte_order_mark bytes) at.so_far rest t behind [] some is_only at.ahead;
       fits = l.fits at.fits;
+      linked = l.linked at.linked;
       level = let a = counted is_start t in let b = counted is_end t in let c = l.counts in let d = at.level in omega (arith, a, b, c, d);
       shallow = λ before after u e o. elim (split_last at.so_far before after t u e) [
         | inl h ↦ at.shallow before h.0 u h.1 o

@@ -15,37 +15,38 @@ use Rattle.ifmap_reader.specs.declared.errors.Refusal.TheVariants.{NotAllowed, T
 use Rattle.ifmap_reader.specs.declared.open_elements.OpenElement.{OpenElement}
 use Rattle.ifmap_reader.specs.declared.standing.Standing.{Standing}
 use Rattle.ifmap_reader.specs.Depths.{levels}
-use Rattle.ifmap_reader.specs.OpenElements.{Closes, scope_of, with_characters, written_name}
+use Rattle.ifmap_reader.specs.OpenElements.{AreLinked, Closes, Reaches, scope_of, with_characters, written_name}
 use Rattle.ifmap_reader.specs.AllowedTags.{OpensElement, TagAnswer}
-use Rattle.ifmap_reader.specs.Progress.{Where, AtStart, Within, AfterRoot, GoesOn, Follows, IsCharacterData, is_margin, Leads, Passes, TokenAnswer, after_element, open_in, so_deep, one_if, where_is}
+use Rattle.ifmap_reader.specs.Progress.{Where, AtStart, Within, AfterRoot, GoesOn, Follows, IsCharacterData, IsLinked, is_margin, Leads, Passes, TokenAnswer, after_element, open_in, so_deep, one_if, where_is}
 use Rattle.ifmap_reader.proofs.Goings.{inner_comment, inner_words, inner_start, inner_empty, inner_end, inner_declaration, inner_other_end, root_comment, root_blank, IsInner, no_root, root_start, root_empty, no_start, no_empty, after_root_comment, after_root_blank, nothing_after_root, no_second_root, start_declaration, IsOther, start_other}
 use Rattle.ifmap_reader.proofs.Lasts.{last_first}
 use Rattle.ifmap_reader.proofs.Levels.{deepest, after_element_fits, after_element_deep}
 
 -- a token that opens and ends nothing
 still : (depth : ℕ) (old : Where) (t : Token) (new : Where) → Follows old t new → so_deep old ≡ so_deep new → open_in old ≡ open_in new → is_start t ≡ false → is_end t ≡ false → (Opens t → ⊥)
-    → Leads depth old t new
-still depth old t new follows deep count starts ends opens = record {
+    → (IsLinked old → IsLinked new) → Leads depth old t new
+still depth old t new follows deep count starts ends opens linked = record {
   follows = follows;
   fits = λ h. omega (arith, deep, h);
   counts = (λ i. count i + one_if (starts i)) ∙ ap (λ (b : Bool). open_in new + one_if b) (sym ends);
   within = λ o. absurd (opens o);
+  linked = linked;
 }
 
 pub comment_leads : (depth : ℕ) (fs : List OpenElement) → Leads depth (Within fs) Comment (Within fs)
-comment_leads depth [] = still depth (Within []) Comment (Within []) root_comment refl refl refl refl (λ o. o)
-comment_leads depth (f ∷ fs) = still depth (Within (f ∷ fs)) Comment (Within (f ∷ fs)) (inner_comment f fs) refl refl refl refl (λ o. o)
+comment_leads depth [] = still depth (Within []) Comment (Within []) root_comment refl refl refl refl (λ o. o) (λ l. l)
+comment_leads depth (f ∷ fs) = still depth (Within (f ∷ fs)) Comment (Within (f ∷ fs)) (inner_comment f fs) refl refl refl refl (λ o. o) (λ l. l)
 
 pub declaration_leads : (depth : ℕ) → Leads depth AtStart Declaration (Within [])
-declaration_leads depth = still depth AtStart Declaration (Within []) start_declaration refl refl refl refl (λ o. o)
+declaration_leads depth = still depth AtStart Declaration (Within []) start_declaration refl refl refl refl (λ o. o) (λ l. l)
 
 -- texts
 words_lead : (depth : ℕ) (f : OpenElement) (fs : List OpenElement) (t : Token) (blank : Bool) (text : List ℕ) → IsCharacterData blank text t → Leads depth (Within (f ∷ fs)) t (Within (with_characters f text ∷ fs))
 words_lead depth f fs t blank text w = elim w [
   | inl e ↦ subst (λ (u : Token). Leads depth (Within (f ∷ fs)) u (Within (with_characters f text ∷ fs))) (sym e)
-      (still depth (Within (f ∷ fs)) (Characters blank text) (Within (with_characters f text ∷ fs)) (inner_words f fs (Characters blank text) blank text (inl refl)) refl refl refl refl (λ o. o))
+      (still depth (Within (f ∷ fs)) (Characters blank text) (Within (with_characters f text ∷ fs)) (inner_words f fs (Characters blank text) blank text (inl refl)) refl refl refl refl (λ o. o) (λ l. l))
   | inr e ↦ subst (λ (u : Token). Leads depth (Within (f ∷ fs)) u (Within (with_characters f text ∷ fs))) (sym e.1)
-      (still depth (Within (f ∷ fs)) (Section text) (Within (with_characters f text ∷ fs)) (inner_words f fs (Section text) blank text (inr (e.0, refl))) refl refl refl refl (λ o. o))
+      (still depth (Within (f ∷ fs)) (Section text) (Within (with_characters f text ∷ fs)) (inner_words f fs (Section text) blank text (inr (e.0, refl))) refl refl refl refl (λ o. o) (λ l. l))
 ]
 
 pub words_step : (depth : ℕ) (old mid new : List OpenElement) (f g : OpenElement) (t : Token) (blank : Bool) (text : List ℕ) → IsCharacterData blank text t → old ≡ mid ++ f ∷ [] → new ≡ mid ++ g ∷ [] → g ≡ with_characters f text
@@ -61,7 +62,7 @@ blank_step depth old new t blank text w none left b =
     (subst (λ (fs : List OpenElement). Leads depth (Within []) t (Within (reverse fs))) (sym left)
     (elim w [
       | inl e ↦ subst (λ (u : Token). Leads depth (Within []) u (Within [])) (sym (e ∙ ap (λ c. Characters c text) b))
-          (still depth (Within []) (Characters true text) (Within []) (root_blank text) refl refl refl refl (λ o. o))
+          (still depth (Within []) (Characters true text) (Within []) (root_blank text) refl refl refl refl (λ o. o) (λ l. l))
       | inr e ↦ let h : blank ≡ false = e.0 in cc
     ]))
 
@@ -84,24 +85,30 @@ none_deep cs e = ap deepest e
 new_levels : (scope : _) (tag : Tag) (new : OpenElement) (fs : List OpenElement) → OpensElement scope tag new → levels (new ∷ fs) ≡ max (length fs + 1) (levels fs)
 new_levels scope tag new fs o = let h = none_deep new.children o.no_children in omega (arith, h)
 
-start_leads : (depth : ℕ) (fs : List OpenElement) (tag : Tag) (new : OpenElement) → OpensElement (scope_of fs) tag new → length fs < depth → Leads depth (Within fs) (Start tag) (Within (new ∷ fs))
-start_leads depth fs tag new o l = record {
+start_leads : (depth : ℕ) (fs : List OpenElement) (tag : Tag) (new : OpenElement) → OpensElement (scope_of fs) tag new → Reaches new.bindings new.declaring fs → length fs < depth → Leads depth (Within fs) (Start tag) (Within (new ∷ fs))
+start_leads depth fs tag new o reaches l = record {
   follows = tag_follows fs tag new o;
   fits = λ h. let k = new_levels (scope_of fs) tag new fs o in omega (arith, h, k, l);
   counts = omega arith;
   within = λ _. l;
+  linked = λ h. (reaches, h);
 }
 
-open_adopted : (fs : List OpenElement) (e : Element) (d : List Declared) → open_in (after_element fs e d) ≡ length fs
-open_adopted [] e d = refl
-open_adopted (f ∷ fs) e d = refl
+linked_after : (fs : List OpenElement) (e : Element) (d : List Declared) → AreLinked fs → IsLinked (after_element fs e d)
+linked_after [] e d h = tt
+linked_after (f ∷ fs) e d h = h
+
+open_after_element : (fs : List OpenElement) (e : Element) (d : List Declared) → open_in (after_element fs e d) ≡ length fs
+open_after_element [] e d = refl
+open_after_element (f ∷ fs) e d = refl
 
 empty_leads : (depth : ℕ) (fs : List OpenElement) (tag : Tag) (new : OpenElement) → OpensElement (scope_of fs) tag new → (e : Element) (d : List Declared) → Closes new [] e d → length fs < depth → Leads depth (Within fs) (Empty tag) (after_element fs e d)
 empty_leads depth fs tag new o e d k l = record {
   follows = empty_follows fs tag new o e d k;
   fits = λ h. after_element_fits depth new fs e d k (let n = new_levels (scope_of fs) tag new fs o in omega (arith, h, n, l));
-  counts = let h = open_adopted fs e d in omega (arith, h);
+  counts = let h = open_after_element fs e d in omega (arith, h);
   within = λ _. l;
+  linked = linked_after fs e d;
 }
 
 start_passes : (depth : ℕ) (fs : List OpenElement) (tag : Tag) (new : OpenElement) → OpensElement (scope_of fs) tag new → depth ≤ length fs → Passes depth (Within fs) (Start tag)
@@ -114,10 +121,10 @@ start_passes depth fs tag new o l = record {
 }
 
 -- of the code's list, whose last is the innermost
-pub start_step : (depth : ℕ) (old new : List OpenElement) (tag : Tag) (f : OpenElement) → OpensElement (scope_of (reverse old)) tag f → length old < depth → new ≡ old ++ f ∷ [] → Leads depth (Within (reverse old)) (Start tag) (Within (reverse new))
-start_step depth old new tag f o l is =
+pub start_step : (depth : ℕ) (old new : List OpenElement) (tag : Tag) (f : OpenElement) → OpensElement (scope_of (reverse old)) tag f → Reaches f.bindings f.declaring (reverse old) → length old < depth → new ≡ old ++ f ∷ [] → Leads depth (Within (reverse old)) (Start tag) (Within (reverse new))
+start_step depth old new tag f o reaches l is =
     subst (λ (fs : List OpenElement). Leads depth (Within (reverse old)) (Start tag) (Within fs)) (sym (last_first new old f is))
-    (start_leads depth (reverse old) tag f o (let h = length-reverse old in omega (arith, h, l)))
+    (start_leads depth (reverse old) tag f o reaches (let h = length-reverse old in omega (arith, h, l)))
 
 pub start_too_deep : (depth : ℕ) (old : List OpenElement) (tag : Tag) (f : OpenElement) → OpensElement (scope_of (reverse old)) tag f → depth ≤ length old → Passes depth (Within (reverse old)) (Start tag)
 start_too_deep depth old tag f o l = start_passes depth (reverse old) tag f o (let h = length-reverse old in omega (arith, h, l))
@@ -145,8 +152,9 @@ end_leads : (depth : ℕ) (f : OpenElement) (fs : List OpenElement) (name : Qual
 end_leads depth f fs name e d is c = record {
   follows = inner_end f fs name e d is c;
   fits = after_element_fits depth f fs e d c;
-  counts = let h = open_adopted fs e d in omega (arith, h);
+  counts = let h = open_after_element fs e d in omega (arith, h);
   within = λ o. absurd o;
+  linked = λ h. linked_after fs e d h.1;
 }
 
 pub end_step : (depth : ℕ) (old mid : List OpenElement) (f : OpenElement) (name : Qualified) (e : Element) (d : List Declared) (new : Where) → old ≡ mid ++ f ∷ [] → name ≡ written_name f → Closes f [] e d → new ≡ after_element (reverse mid) e d
@@ -166,20 +174,20 @@ declaration_refused [] ts r x = no_root Declaration tt ts r x
 declaration_refused (f ∷ fs) ts r x = inner_declaration f fs ts r x
 
 -- a refusal by a tag's names
-pub start_refused : (depth : ℕ) (fs : List OpenElement) (tag : Tag) (error : Refusal) → TagAnswer (scope_of fs) tag (Err error) → TokenAnswer depth (Within fs) (Start tag) (Err error)
+pub start_refused : (depth : ℕ) (fs : List OpenElement) (tag : Tag) (error : Refusal) → TagAnswer fs tag (Err error) → TokenAnswer depth (Within fs) (Start tag) (Err error)
 start_refused depth fs tag NotAllowed h = no_start fs tag h
 start_refused depth fs tag TooDeep h = absurd h
 start_refused depth fs tag NoMemory h = tt
 
-pub empty_refused : (depth : ℕ) (fs : List OpenElement) (tag : Tag) (error : Refusal) → TagAnswer (scope_of fs) tag (Err error) → TokenAnswer depth (Within fs) (Empty tag) (Err error)
+pub empty_refused : (depth : ℕ) (fs : List OpenElement) (tag : Tag) (error : Refusal) → TagAnswer fs tag (Err error) → TokenAnswer depth (Within fs) (Empty tag) (Err error)
 empty_refused depth fs tag NotAllowed h = no_empty fs tag h
 empty_refused depth fs tag TooDeep h = absurd h
 empty_refused depth fs tag NoMemory h = tt
 
 -- behind the root
 pub margin_leads : (depth : ℕ) (root : Reading) (t : Token) → is_margin t ≡ true → Leads depth (AfterRoot root) t (AfterRoot root)
-margin_leads depth root Comment m = still depth (AfterRoot root) Comment (AfterRoot root) (after_root_comment root) refl refl refl refl (λ o. o)
-margin_leads depth root (Characters true text) m = still depth (AfterRoot root) (Characters true text) (AfterRoot root) (after_root_blank root text) refl refl refl refl (λ o. o)
+margin_leads depth root Comment m = still depth (AfterRoot root) Comment (AfterRoot root) (after_root_comment root) refl refl refl refl (λ o. o) (λ l. l)
+margin_leads depth root (Characters true text) m = still depth (AfterRoot root) (Characters true text) (AfterRoot root) (after_root_blank root text) refl refl refl refl (λ o. o) (λ l. l)
 margin_leads depth root Declaration m = cc
 margin_leads depth root (Start tag) m = cc
 margin_leads depth root (Empty tag) m = cc
@@ -205,6 +213,7 @@ module _ (depth : ℕ) (t : Token) (other : IsOther t) where
     fits = l.fits;
     counts = l.counts;
     within = l.within;
+    linked = λ _. l.linked tt;
   }
 
   start_steps : (result : Result Standing Refusal) → TokenAnswer depth (Within []) t result → TokenAnswer depth AtStart t result

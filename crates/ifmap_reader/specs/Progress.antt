@@ -11,7 +11,7 @@ use Rattle.ifmap_elem.specs.declared.readings.Reading.{Reading}
 use Rattle.ifmap_elem.specs.declared.tokens.Token.{Token}
 use Rattle.ifmap_elem.specs.declared.tokens.Token.TheVariants.{Declaration, Comment, Start, Empty, End, Section, Characters}
 use Rattle.ifmap_reader.specs.Depths.{levels}
-use Rattle.ifmap_reader.specs.OpenElements.{Closes, scope_of, with_inner, written_name}
+use Rattle.ifmap_reader.specs.OpenElements.{AreLinked, Closes, scope_of, with_inner, written_name}
 use Rattle.ifmap_reader.specs.declared.errors.Refusal.{Refusal}
 use Rattle.ifmap_reader.specs.declared.errors.Refusal.TheVariants.{NotAllowed, TooDeep, NoMemory}
 use Rattle.ifmap_reader.specs.declared.open_elements.OpenElement.{OpenElement}
@@ -105,12 +105,19 @@ so_deep (AfterRoot root) = nesting root.root
 abbrev pub one_if : Bool → ℕ
 one_if b = cond b 1 0
 
+-- what is open there is linked
+abbrev pub IsLinked : Where → Type 0
+IsLinked AtStart = Unit {0}
+IsLinked (Within open_elements) = AreLinked open_elements
+IsLinked (AfterRoot root) = Unit {0}
+
 -- the token leads from there to here, within that many levels
 pub record Leads (depth : ℕ) (old : Where) (t : Token) (new : Where) : Type 0 where
   pub follows : Follows old t new
   pub fits : so_deep old ≤ depth → so_deep new ≤ depth
   pub counts : open_in old + one_if (is_start t) ≡ open_in new + one_if (is_end t)
   pub within : Opens t → open_in old < depth
+  pub linked : IsLinked old → IsLinked new
 
 -- the token is a tag that is allowed but opens a level more than that many
 pub record Passes (depth : ℕ) (old : Where) (t : Token) : Type 0 where

@@ -1,7 +1,7 @@
 //! Whether a tag is allowed, and the element that it opens.
 ghost use Rattle.std.specs.Prelude.{◌≡◌, ◌++◌, reverse, filter, is_none, IfOk};
 ghost use Rattle.ifmap_elem.specs.Scopes.{binding_of, bound, root_scope};
-ghost use Rattle.ifmap_reader.specs.OpenElements.{scope_of};
+ghost use Rattle.ifmap_reader.specs.OpenElements.{AreLinked, Reaches, scope_of};
 ghost use Rattle.ifmap_reader.specs.AllowedTags.{ArePlain, IsGiven, TagAnswer};
 
 use crate::bindings::{Bindings, XML, XML_SPACE, bindings_of, bound_prefix};
@@ -18,7 +18,8 @@ pub(crate) fn open_element(
     open_elements: &[OpenElement],
     tag: Tag,
 ) -> Result<OpenElement, Refusal>
-    ensures { TagAnswer (scope_of (reverse open_elements.now)) tag result }
+    requires { AreLinked (reverse open_elements.now) }
+    ensures { TagAnswer (reverse open_elements.now) tag result }
 {
     let Tag { name, assignments } = tag;
     let bindings = bindings_of(alloc, &assignments.0)?;
@@ -29,6 +30,7 @@ pub(crate) fn open_element(
     if !have_other_names(alloc, &attributes.0)? {
         return Err(Refusal::NotAllowed);
     }
+    let declaring = innermost_declaring(&bindings, open_elements);
     Ok(OpenElement {
         prefix: name.prefix,
         name: Name {
@@ -37,10 +39,27 @@ pub(crate) fn open_element(
         },
         attributes,
         bindings,
+        declaring,
         children: Many(Vec::new(alloc)),
         text: Text(String::new(alloc)),
         below: Many(Vec::new(alloc)),
     })
+}
+
+/// How many open elements stand up to the innermost that binds a prefix, where one with these bindings
+/// is opened within those.
+fn innermost_declaring(bindings: &Bindings, open_elements: &[OpenElement]) -> usize
+    requires { AreLinked (reverse open_elements.now) }
+    ensures { Reaches bindings.now result (reverse open_elements.now) }
+{
+    let count = open_elements.len();
+    if !bindings.is_empty() {
+        return count + 1;
+    }
+    if count == 0 {
+        return 0;
+    }
+    open_elements[count - 1].declaring
 }
 
 /// What a prefix is bound to within a tag with these bindings.
@@ -50,6 +69,7 @@ fn space_of(
     open_elements: &[OpenElement],
     prefix: &Text,
 ) -> Result<Option<Text>, NoMemory>
+    requires { AreLinked (reverse open_elements.now) }
     ensures { IfOk result (λ space. space ≡ bound (bindings.now ++ scope_of (reverse open_elements.now)) prefix.now) }
 {
     if let Some(space) = bindings.space_of(prefix) {
@@ -57,10 +77,15 @@ fn space_of(
     }
     let mut outer = open_elements.len();
     while outer > 0 {
-        outer -= 1;
-        if let Some(space) = open_elements[outer].bindings.space_of(prefix) {
+        let element = &open_elements[outer - 1];
+        if element.declaring < outer {
+            outer = element.declaring;
+            continue;
+        }
+        if let Some(space) = element.bindings.space_of(prefix) {
             return Ok(Some(space.copy(alloc)?));
         }
+        outer -= 1;
     }
     root_space_of(alloc, prefix)
 }
@@ -85,6 +110,7 @@ fn attributes_of(
     open_elements: &[OpenElement],
     assignments: Many<Assignment>,
 ) -> Result<Many<Attribute>, Refusal>
+    requires { AreLinked (reverse open_elements.now) }
     ensures { ArePlain (bindings.now ++ scope_of (reverse open_elements.now)) (filter (λ a. is_none (binding_of a)) assignments) result }
 {
     let Many(mut left) = assignments;
@@ -106,6 +132,7 @@ fn attribute_of(
     open_elements: &[OpenElement],
     assignment: Assignment,
 ) -> Result<Attribute, Refusal>
+    requires { AreLinked (reverse open_elements.now) }
     ensures { IsGiven (bindings.now ++ scope_of (reverse open_elements.now)) assignment result }
 {
     let Assignment { name, value } = assignment;

@@ -1,5 +1,6 @@
 //! The bindings of prefixes that one tag makes.
 ghost use Rattle.std.specs.Prelude.{◌≡◌, ◌↔◌, ◌∷◌, [], ◌++◌, IfOk, IsTrue, None};
+ghost use Rattle.std.specs.Bool.{OnTrue};
 ghost use Rattle.std.specs.Option.{option_copied};
 ghost use Rattle.ifmap_elem.specs.Scopes.{Binding, IsBinding, binding_of, bound};
 ghost use Rattle.ifmap_elem.specs.Document.{declared_here};
@@ -52,6 +53,13 @@ impl Bindings {
             rows: Vec::new(alloc),
             spaces: BTreeMap::new(alloc),
         }
+    }
+
+    /// Whether the tag binds no prefix.
+    pub(crate) fn is_empty(&self) -> bool
+        ensures { OnTrue result (self.now ≡ []) }
+    {
+        self.rows.is_empty()
     }
 
     /// What the tag binds a prefix to.

@@ -18,6 +18,9 @@ pub(crate) struct OpenElement {
     pub name: Name,
     pub attributes: Many<Attribute>,
     pub bindings: Bindings,
+    /// How many of the open elements, from the root on, stand up to the innermost that binds a prefix,
+    /// this one among them: what binds in it is bound by these.
+    pub declaring: usize,
     /// The children that are kept, up to the last element among them.
     pub children: Many<Child>,
     /// The text behind these.
@@ -38,9 +41,9 @@ impl OpenElement {
     pub(crate) fn with_characters(self, words: Text) -> Result<OpenElement, NoMemory>
         ensures { IfOk result (λ made. made ≡ with_characters self words) }
     {
-        let mut frame = self;
-        frame.text = joined(frame.text, words)?;
-        Ok(frame)
+        let mut element = self;
+        element.text = joined(element.text, words)?;
+        Ok(element)
     }
 
     /// With an element as one more child, and the declarations in it.
@@ -57,6 +60,7 @@ impl OpenElement {
             name,
             attributes,
             bindings,
+            declaring,
             children,
             text,
             below,
@@ -70,6 +74,7 @@ impl OpenElement {
             name,
             attributes,
             bindings,
+            declaring,
             children,
             text,
             below,
@@ -85,6 +90,7 @@ impl OpenElement {
             name,
             attributes,
             bindings,
+            declaring: _,
             children,
             text,
             below,

@@ -1,6 +1,7 @@
 //! Where a reader stands, and what one more token makes of it.
 ghost use Rattle.std.specs.Prelude.{◌≡◌, ℕ, reverse, IfOk};
-ghost use Rattle.ifmap_reader.specs.Progress.{Within, AfterRoot, IsCharacterData, TokenAnswer, after_element, is_margin, where_is};
+ghost use Rattle.ifmap_reader.specs.OpenElements.{AreLinked};
+ghost use Rattle.ifmap_reader.specs.Progress.{Within, AfterRoot, IsCharacterData, IsLinked, TokenAnswer, after_element, is_margin, where_is};
 ghost use Rattle.ifmap_elem.specs.declared.tokens.Token.{Token};
 
 use crate::allowed_tags::open_element;
@@ -27,6 +28,7 @@ pub(crate) fn take_token(
     standing: Standing,
     token: Token,
 ) -> Result<Standing, Refusal>
+    requires { IsLinked (where_is standing) }
     ensures { TokenAnswer depth (where_is standing) token result }
 {
     match standing {
@@ -64,6 +66,7 @@ fn take_inside(
     open_elements: Many<OpenElement>,
     token: Token,
 ) -> Result<Standing, Refusal>
+    requires { AreLinked (reverse open_elements) }
     ensures { TokenAnswer depth (Within (reverse open_elements)) token result }
 {
     match token {
@@ -82,13 +85,13 @@ fn take_text(open_elements: Many<OpenElement>, blank: bool, text: Text) -> Resul
     ensures { (depth : ℕ) → (t : Token) → IsCharacterData blank text t → TokenAnswer depth (Within (reverse open_elements)) t result }
 {
     let Many(mut open_elements) = open_elements;
-    let Some(frame) = open_elements.pop() else {
+    let Some(innermost) = open_elements.pop() else {
         if blank {
             return Ok(Standing::Open(Many(open_elements)));
         }
         return Err(Refusal::NotAllowed);
     };
-    open_elements.push(frame.with_characters(text)?)?;
+    open_elements.push(innermost.with_characters(text)?)?;
     Ok(Standing::Open(Many(open_elements)))
 }
 
@@ -98,14 +101,15 @@ fn take_start(
     open_elements: Many<OpenElement>,
     tag: Tag,
 ) -> Result<Standing, Refusal>
+    requires { AreLinked (reverse open_elements) }
     ensures { TokenAnswer depth (Within (reverse open_elements)) (Token.Start tag) result }
 {
     let Many(mut open_elements) = open_elements;
-    let frame = open_element(alloc, &open_elements, tag)?;
+    let inner = open_element(alloc, &open_elements, tag)?;
     if open_elements.len() >= depth as usize {
         return Err(Refusal::TooDeep);
     }
-    open_elements.push(frame)?;
+    open_elements.push(inner)?;
     Ok(Standing::Open(Many(open_elements)))
 }
 
@@ -115,14 +119,15 @@ fn take_empty(
     open_elements: Many<OpenElement>,
     tag: Tag,
 ) -> Result<Standing, Refusal>
+    requires { AreLinked (reverse open_elements) }
     ensures { TokenAnswer depth (Within (reverse open_elements)) (Token.Empty tag) result }
 {
     let Many(open_elements) = open_elements;
-    let frame = open_element(alloc, &open_elements, tag)?;
+    let inner = open_element(alloc, &open_elements, tag)?;
     if open_elements.len() >= depth as usize {
         return Err(Refusal::TooDeep);
     }
-    let (element, declared) = frame.close()?;
+    let (element, declared) = inner.close()?;
     Ok(with_element(alloc, open_elements, element, declared)?)
 }
 
@@ -134,13 +139,13 @@ fn take_end(
     ensures { (depth : ℕ) → TokenAnswer depth (Within (reverse open_elements)) (Token.End name) result }
 {
     let Many(mut open_elements) = open_elements;
-    let Some(frame) = open_elements.pop() else {
+    let Some(innermost) = open_elements.pop() else {
         return Err(Refusal::NotAllowed);
     };
-    if !frame.is_named(&name) {
+    if !innermost.is_named(&name) {
         return Err(Refusal::NotAllowed);
     }
-    let (element, declared) = frame.close()?;
+    let (element, declared) = innermost.close()?;
     Ok(with_element(alloc, open_elements, element, declared)?)
 }
 

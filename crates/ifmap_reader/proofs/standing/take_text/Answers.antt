@@ -16,5 +16,5 @@ returns-in_default c = λ depth t w.
 
 pub returns : goal.returns
 returns c = λ depth t w.
-    words_step depth c.args.open_elements c.pop.new.self.items c.push.new.self.items c.in-Some.frame c.in_ok-with_characters.field-0 t c.args.blank c.args.text w
+    words_step depth c.args.open_elements c.pop.new.self.items c.push.new.self.items c.in-Some.innermost c.in_ok-with_characters.field-0 t c.args.blank c.args.text w
     (sym c.open_elements.view_is ∙ c.in-Some.ensures.items) c.in_ok-push.ensures.items c.in_ok-with_characters.ensures
