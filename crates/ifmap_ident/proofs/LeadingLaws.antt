@@ -6,7 +6,7 @@ use Rattle.std.specs.Cmp.{nat_cmp_total, tied_itself}
 use Rattle.std.specs.Cmp.Lexicographic.{slice_cmp}
 use Rattle.std.specs.Ordering.{is_eq, nat_cmp, ordering_then}
 use Rattle.std.specs.declared.cmp.Ordering.{Ordering}
-use Rattle.std.specs.declared.cmp.Ordering.TheVariants.{Less, Equal, Greater}
+use Rattle.std.specs.declared.cmp.Ordering.TheVariants.{Equal}
 use Rattle.ifmap_ident.specs.Leading.{Leads}
 use Rattle.ifmap_lemmas.specs.Orderings.{both_equal, then_decided, then_equal, then_then, then_where_equal}
 use Rattle.ifmap_lemmas.specs.Texts.{slice_cmp-same}

@@ -1,5 +1,5 @@
 -- The order of identifiers by their canonical bytes, from the orders of their parts; and that these bytes tell the parts.
-use Rattle.std.proofs.Common.{Bool, IsTrue, ◌↔◌, get_or, ◌≡◌, ℕ, ◌<◌, List, [], ◌∷◌, ◌++◌, codes, drop, length, ap, sym, ◌∙◌, append_assoc, arith}
+use Rattle.std.proofs.Common.{Bool, IsTrue, ◌↔◌, get_or, ◌≡◌, ℕ, ◌<◌, List, ◌++◌, codes, drop, length, ap, sym, ◌∙◌, append_assoc, arith}
 use Rattle.std.proofs.lemmas.Map.Lookups.{exact_bytes}
 use Rattle.std.specs.Cmp.Lexicographic.{slice_cmp}
 use Rattle.std.specs.Ordering.{nat_cmp, ordering_then}

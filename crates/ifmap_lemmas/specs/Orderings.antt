@@ -1,5 +1,5 @@
 -- Answers of comparisons: what a test of one says, and one after another.
-use Rattle.std.specs.Prelude.{◌≡◌, Bool, true, false}
+use Rattle.std.specs.Prelude.{◌≡◌, true, false}
 use Rattle.std.specs.Ordering.{is_eq, is_gt, is_le, is_lt, ordering_then}
 use Rattle.std.specs.declared.cmp.Ordering.{Ordering}
 use Rattle.std.specs.declared.cmp.Ordering.TheVariants.{Less, Equal, Greater}

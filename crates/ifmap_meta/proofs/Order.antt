@@ -1,13 +1,11 @@
 -- Attributes in order.
-use Rattle.std.proofs.Common.{◌≡◌, ℕ, ◌+◌, List, Bool, false, cond, ◌&&◌, [], ◌∷◌, refl, ap, sym, ◌∙◌, subst, arith, inl, inr, get_or, add-one}
-use Rattle.std.proofs.lemmas.Bool.{cases_Bool}
-use Rattle.std.proofs.lemmas.List.Sums.{length-filter, sum_by-cons}
+use Rattle.std.proofs.Common.{◌≡◌, ℕ, List, Bool, false, cond, ◌&&◌, sym, ◌∙◌, subst, arith, get_or, add-one}
+use Rattle.std.proofs.lemmas.List.Sums.{length-filter}
 use Rattle.std.proofs.lemmas.List.Sorted.{IsPermutation-refl, ranks_by, sum_by-IsPermutation}
 use Rattle.std.proofs.lemmas.List.Kept.{IsSortedBy-filter}
 use Rattle.std.specs.List.{filter}
 use Rattle.std.specs.List.Sorted.{IsPermutation, IsSorted}
 use Rattle.std.specs.Ordering.{is_lt}
-use Rattle.std.specs.Prelude.{count_by}
 use Rattle.ifmap_elem.specs.Arranged.{attribute_order, sort_attributes}
 use Rattle.ifmap_elem.specs.printer.Occurrences.{attribute_eq}
 use Rattle.ifmap_elem.specs.declared.elements.Attribute.{Attribute}
