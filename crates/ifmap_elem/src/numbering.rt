@@ -4,8 +4,8 @@ ghost use Rattle.ifmap_lemmas.specs.Numerals.{numeral};
 ghost use Rattle.std.specs.Map.{lookup};
 ghost use Rattle.std.specs.Option.{option_copied};
 ghost use Rattle.std.specs.Str.{bytes_eq};
-ghost use Rattle.ifmap_elem.specs.Namespaces.{name_prefixes, AddsSpaces};
-ghost use Rattle.ifmap_elem.specs.printer.Pieces.{IsFront, IsNumbered};
+ghost use Rattle.ifmap_elem.specs.Namespaces.{name_prefixes};
+ghost use Rattle.ifmap_elem.specs.printer.Pieces.{AddsSpaces, IsFront, IsNumbered};
 
 use crate::copying::Copied;
 use crate::texts::Text;
