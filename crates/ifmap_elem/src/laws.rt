@@ -19,7 +19,8 @@ pub fn one_token_stands_at_the_front()
 
 /// A list of bytes spells at most one element, with one list of declarations.
 pub fn bytes_spell_one_element()
-    ensures { (bytes : List ℕ) (one other : Reading) → Spells bytes one → Spells bytes other → one ≡ other }
+    ensures { (bytes : List ℕ) (one other : Reading) →
+        Spells bytes one → Spells bytes other → one ≡ other }
 {}
 
 /// The canonical bytes of an element that fits spell the element with its attributes in order, which

@@ -35,7 +35,10 @@ impl Model for Prefixes {
 
     ghost view = { λ p. p.order.items };
 
-    ghost invariant = { λ p. ((space : List ℕ) → get (slice_cmp nat_cmp) p.labels space ≡ lookup (bytes_eq space) (name_prefixes p.order.items)) × (lookup (bytes_eq []) (name_prefixes p.order.items) ≡ None) };
+    ghost invariant = { λ p.
+        ((space : List ℕ) → get (slice_cmp nat_cmp) p.labels space ≡
+        lookup (bytes_eq space) (name_prefixes p.order.items))
+        × (lookup (bytes_eq []) (name_prefixes p.order.items) ≡ None) };
 }
 
 impl Prefixes {

@@ -63,7 +63,8 @@ fn write_element(
     element: &Element,
     out: &mut Vec<u8>,
 ) -> Result<(), NoMemory>
-    ensures { OnOk result (AddsElement element.now prefixes.old prefixes.new out.old.items out.new.items) }
+    ensures { OnOk result (
+        AddsElement element.now prefixes.old prefixes.new out.old.items out.new.items) }
 {
     out.extend_from_slice(b"<")?;
     write_new_name(alloc, prefixes, &element.name, out)?;
@@ -105,7 +106,8 @@ fn write_child(
     child: &Child,
     out: &mut Vec<u8>,
 ) -> Result<(), NoMemory>
-    ensures { OnOk result (AddsChild child.now prefixes.old prefixes.new out.old.items out.new.items) }
+    ensures { OnOk result (
+        AddsChild child.now prefixes.old prefixes.new out.old.items out.new.items) }
 {
     match child {
         Child::Element(element) => {
@@ -126,7 +128,8 @@ fn write_attributes(
     out: &mut Vec<u8>,
 ) -> Result<(), NoMemory>
     ensures { OnOk result (
-        AddsAttributes (sort_attributes attributes.now) prefixes.old prefixes.new out.old.items out.new.items) }
+        AddsAttributes (sort_attributes attributes.now) prefixes.old prefixes.new
+        out.old.items out.new.items) }
 {
     if are_sorted(&attributes.0) {
         return write_each(alloc, prefixes, &attributes.0, out);
@@ -145,7 +148,8 @@ fn write_each(
     attributes: &[Attribute],
     out: &mut Vec<u8>,
 ) -> Result<(), NoMemory>
-    ensures { OnOk result (AddsAttributes attributes.now prefixes.old prefixes.new out.old.items out.new.items) }
+    ensures { OnOk result (
+        AddsAttributes attributes.now prefixes.old prefixes.new out.old.items out.new.items) }
 {
     for attribute in attributes {
         write_attribute(alloc, prefixes, attribute, out)?;
@@ -160,7 +164,8 @@ fn write_attribute(
     attribute: &Attribute,
     out: &mut Vec<u8>,
 ) -> Result<(), NoMemory>
-    ensures { OnOk result (AddsAttribute attribute.now prefixes.old prefixes.new out.old.items out.new.items) }
+    ensures { OnOk result (
+        AddsAttribute attribute.now prefixes.old prefixes.new out.old.items out.new.items) }
 {
     out.extend_from_slice(b" ")?;
     write_new_name(alloc, prefixes, &attribute.name, out)?;
@@ -178,7 +183,8 @@ fn write_new_name(
     name: &Name,
     out: &mut Vec<u8>,
 ) -> Result<(), NoMemory>
-    ensures added { OnOk result (AddsName name.now prefixes.old prefixes.new out.old.items out.new.items) }
+    ensures added { OnOk result (
+        AddsName name.now prefixes.old prefixes.new out.old.items out.new.items) }
     ensures numbered { OnOk result (IsNumbered prefixes.new name.now.space) }
 {
     prefixes.add(alloc, &name.space)?;
@@ -217,7 +223,8 @@ fn write_declarations(
 }
 
 fn write_declaration(prefix: &Text, space: &Text, out: &mut Vec<u8>) -> Result<(), NoMemory>
-    ensures { OnOk result (out.new.items ≡ out.old.items ++ declaration_bytes (space.now, prefix.now)) }
+    ensures { OnOk result (out.new.items ≡ out.old.items ++
+        declaration_bytes (space.now, prefix.now)) }
 {
     out.extend_from_slice(b" xmlns:")?;
     out.extend_from_slice(prefix.0.as_bytes())?;
