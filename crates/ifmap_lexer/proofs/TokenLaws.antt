@@ -1,4 +1,6 @@
 -- Tokens that are read are those that stand there.
+-- A module for each kind of token, with the steps of its function as parameters: what is found is a token, and a refusal of a step is one
+-- of the whole (`no_..`). At the end, what every token takes is not empty, so that a reader goes on.
 use Rattle.std.proofs.Common.{◌≡◌, ◌≢◌, ℕ, ◌+◌, ◌-◌, ◌≤◌, Bool, true, false, not, List, [], ◌∷◌, ◌++◌, length, drop, refl, ap, sym, ◌∙◌, subst, arith, append_assoc, length-append}
 use Rattle.std.specs.Prelude.{◌==◌, codes, Result, Ok, Err, IfErr}
 use Rattle.std.specs.List.{list_all}

@@ -4,7 +4,7 @@ ghost use Rattle.ifmap_elem.specs.Tokens.{TakesQuoted};
 
 use crate::splitting::{after_word, split_round_byte, split_white};
 
-/// The value after an equals sign, as it is written between its quotes, and what is left.
+// The value after an equals sign, as it is written between its quotes, and what is left.
 pub(crate) fn quoted_value(bytes: &[u8]) -> Option<(&[u8], &[u8])>
     ensures found { IfSome result (λ f. TakesQuoted bytes.now f.0.now f.1.now) }
     ensures none { IfNone result ((written : List ℕ) (rest : List ℕ) → TakesQuoted bytes.now written rest → ⊥) }
@@ -20,7 +20,7 @@ pub(crate) fn quoted_value(bytes: &[u8]) -> Option<(&[u8], &[u8])>
     split_round_byte(quote, inside)
 }
 
-/// The quote at the front, single or double, and what is left.
+// The quote at the front, single or double, and what is left.
 fn quote_at(bytes: &[u8]) -> Option<(u8, &[u8])>
     ensures found { IfSome result (λ f. (bytes.now ≡ f.0 ∷ f.1.now) × ((f.0 == 0x22 || f.0 == 0x27) ≡ true)) }
     ensures none { IfNone result ((quote : ℕ) (rest : List ℕ) → (quote == 0x22 || quote == 0x27) ≡ true → bytes.now ≡ quote ∷ rest → ⊥) }

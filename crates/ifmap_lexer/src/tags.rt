@@ -19,7 +19,7 @@ use ifmap_elem::tokens::{Assignment, Tag};
 use ifmap_elem::{Many, Text};
 use std::alloc::Global;
 
-/// The tag at the front, and how it ends.
+// The tag at the front, and how it ends.
 pub(crate) fn tag_of(alloc: Global, bytes: &[u8]) -> Result<(Tag, &[u8]), LexError>
     ensures found { IfOk result (λ f. TakesTag bytes.now f.0 f.1.now × ClosesTag f.1.now) }
     ensures refused { IfErr result (λ e. Refuses e ((tag : Tag) × (end : List ℕ) × TakesTag bytes.now tag end × ClosesTag end)) }
@@ -32,7 +32,7 @@ pub(crate) fn tag_of(alloc: Global, bytes: &[u8]) -> Result<(Tag, &[u8]), LexErr
     Ok((Tag { name, assignments }, end))
 }
 
-/// The assignments up to the end of a tag, and that end.
+// The assignments up to the end of a tag, and that end.
 fn assignments_of(alloc: Global, bytes: &[u8]) -> Result<(Many<Assignment>, &[u8]), LexError>
     ensures found { IfOk result (λ f. TakesAssignments bytes.now f.0 f.1.now) }
     ensures refused { IfErr result (λ e. Refuses e ((assignments : List Assignment) × (end : List ℕ) × TakesAssignments bytes.now assignments end)) }
@@ -48,7 +48,7 @@ fn assignments_of(alloc: Global, bytes: &[u8]) -> Result<(Many<Assignment>, &[u8
     Ok((Many(made), end))
 }
 
-/// Whether white space stands here, or none, and then a tag's end.
+// Whether white space stands here, or none, and then a tag's end.
 fn is_at_end(bytes: &[u8]) -> bool
     ensures { IsTrue result ↔ IsAtEnd bytes.now }
 {
@@ -65,7 +65,7 @@ fn closes(bytes: &[u8]) -> bool
     }
 }
 
-/// White space and the assignment after it, and what is left.
+// White space and the assignment after it, and what is left.
 fn assignment_of(alloc: Global, bytes: &[u8]) -> Result<(Assignment, &[u8]), LexError>
     ensures found { IfOk result (λ f. TakesAssignment bytes.now f.0 f.1.now) }
     ensures refused { IfErr result (λ e. Refuses e ((a : Assignment) × (rest : List ℕ) × TakesAssignment bytes.now a rest)) }
@@ -83,7 +83,7 @@ fn assignment_of(alloc: Global, bytes: &[u8]) -> Result<(Assignment, &[u8]), Lex
     Ok((Assignment { name, value }, rest))
 }
 
-/// What the written value means.
+// What the written value means.
 fn value_of(alloc: Global, written: &[u8]) -> Result<Text, LexError>
     ensures found { IfOk result (λ value. IsCharacters written.now × AllAre (is_but 0x3C) written.now × IsValue written.now value) }
     ensures refused { IfErr result (λ e. Refuses e ((value : List ℕ) × IsCharacters written.now × AllAre (is_but 0x3C) written.now × IsValue written.now value)) }

@@ -20,7 +20,7 @@ use crate::values::{Place, meaning, plain_meaning};
 use ifmap_elem::tokens::Token;
 use std::alloc::Global;
 
-/// The token at the front, and what is left.
+// The token at the front, and what is left.
 pub(crate) fn first_token(alloc: Global, bytes: &[u8]) -> Result<(Token, &[u8]), LexError>
     ensures found { IfOk result (λ f. TakesToken bytes.now f.0 f.1.now) }
     ensures refused { IfErr result (λ e. Refuses e ((t : Token) × (rest : List ℕ) × TakesToken bytes.now t rest)) }

@@ -1,4 +1,7 @@
 -- How a document goes on behind each token.
+-- For each place and token: what goes on after the token goes on before it with the token in front, and the other way (`Follows`), or
+-- nothing does. Within an element this is `Contents`; here come the places before the root, after it and at the start, by the cases of
+-- the first piece.
 use Rattle.std.proofs.Common.{◌≡◌, ℕ, Bool, true, false, List, [], ◌∷◌, ◌++◌, refl, ap, sym, ◌∙◌, subst, ◌⊎◌, inl, inr}
 use Rattle.std.specs.Prelude.{◌↔◌}
 use Rattle.ifmap_elem.specs.declared.elements.Attribute.{Attribute}

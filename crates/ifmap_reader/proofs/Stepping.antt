@@ -1,4 +1,7 @@
 -- What one more token makes of where a reader stands.
+-- For each place and token one lemma that the token leads to the new place (`Leads`), and one that it is refused. What documents it goes
+-- on to comes from `Goings`; levels, counts and links are sums. The lemmas that end in `_step` say the same of the code's list of open
+-- elements, whose last is the innermost.
 use Rattle.std.proofs.Common.{◌≡◌, ℕ, ◌+◌, ◌<◌, ◌≤◌, Bool, true, false, max, List, [], ◌∷◌, ◌++◌, length, reverse, refl, ap, sym, ◌∙◌, subst, arith, inl, inr}
 use Rattle.std.specs.Prelude.{Ok, Err, Result}
 use Rattle.std.proofs.lemmas.List.{length-reverse}

@@ -12,7 +12,7 @@ use ifmap_elem::tokens::{Assignment, Tag};
 use ifmap_elem::{Attribute, Copied, Many, Name, Text};
 use std::alloc::{AllocError as NoMemory, Global};
 
-/// The element that a tag opens within the open elements, the innermost last.
+// The element that a tag opens within the open elements, the innermost last.
 pub(crate) fn open_element(
     alloc: Global,
     open_elements: &[OpenElement],
@@ -46,8 +46,8 @@ pub(crate) fn open_element(
     })
 }
 
-/// How many open elements stand up to the innermost that binds a prefix, where one with these bindings
-/// is opened within those.
+// How many open elements stand up to the innermost that binds a prefix, where one with these bindings
+// is opened within those.
 fn innermost_declaring(bindings: &Bindings, open_elements: &[OpenElement]) -> usize
     requires { AreLinked (reverse open_elements.now) }
     ensures { Reaches bindings.now result (reverse open_elements.now) }
@@ -62,7 +62,7 @@ fn innermost_declaring(bindings: &Bindings, open_elements: &[OpenElement]) -> us
     open_elements[count - 1].declaring
 }
 
-/// What a prefix is bound to within a tag with these bindings.
+// What a prefix is bound to within a tag with these bindings.
 fn space_of(
     alloc: Global,
     bindings: &Bindings,
@@ -90,7 +90,7 @@ fn space_of(
     root_space_of(alloc, prefix)
 }
 
-/// What a prefix is bound to where no tag binds it.
+// What a prefix is bound to where no tag binds it.
 fn root_space_of(alloc: Global, prefix: &Text) -> Result<Option<Text>, NoMemory>
     ensures { IfOk result (λ space. space ≡ bound root_scope prefix.now) }
 {
@@ -103,7 +103,7 @@ fn root_space_of(alloc: Global, prefix: &Text) -> Result<Option<Text>, NoMemory>
     Ok(None)
 }
 
-/// The attributes that the assignments of a tag give.
+// The attributes that the assignments of a tag give.
 fn attributes_of(
     alloc: Global,
     bindings: &Bindings,
@@ -125,7 +125,7 @@ fn attributes_of(
     Ok(Many(made))
 }
 
-/// The attribute that an assignment gives.
+// The attribute that an assignment gives.
 fn attribute_of(
     alloc: Global,
     bindings: &Bindings,

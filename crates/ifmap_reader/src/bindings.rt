@@ -21,8 +21,8 @@ pub(crate) const XML: &str = "xml";
 
 const XMLNS_SPACE: &str = "http://www.w3.org/2000/xmlns/";
 
-/// The bindings that a tag makes, in order, which contracts see as a list; and what each prefix is
-/// bound to.
+// The bindings that a tag makes, in order, which contracts see as a list; and what each prefix is
+// bound to.
 #[derive(Drop)]
 pub(crate) struct Bindings {
     rows: Vec<Declared>,
@@ -55,21 +55,21 @@ impl Bindings {
         }
     }
 
-    /// Whether the tag binds no prefix.
+    // Whether the tag binds no prefix.
     pub(crate) fn is_empty(&self) -> bool
         ensures { OnTrue result (self.now ≡ []) }
     {
         self.rows.is_empty()
     }
 
-    /// What the tag binds a prefix to.
+    // What the tag binds a prefix to.
     pub(crate) fn space_of(&self, prefix: &Text) -> Option<&Text>
         ensures { option_copied result ≡ bound self.now prefix.now }
     {
         self.spaces.get(prefix)
     }
 
-    /// With one binding more, of a prefix that has none.
+    // With one binding more, of a prefix that has none.
     fn with(self, alloc: Global, prefix: Text, space: Text) -> Result<Bindings, NoMemory>
         requires { bound self prefix ≡ None }
         ensures { IfOk result (λ made. made ≡ self ++ record { prefix = prefix; space = space } ∷ []) }
@@ -88,7 +88,7 @@ impl Bindings {
         Ok(Bindings { rows, spaces })
     }
 
-    /// The bindings as declarations at the tag's own element.
+    // The bindings as declarations at the tag's own element.
     pub(crate) fn into_declared(self) -> Many<Declared>
         ensures { result ≡ declared_here self }
     {
@@ -96,7 +96,7 @@ impl Bindings {
         Many(rows)
     }
 
-    /// With the binding that an assignment makes, if it makes one.
+    // With the binding that an assignment makes, if it makes one.
     fn with_assignment(self, alloc: Global, assignment: &Assignment) -> Result<Bindings, Refusal>
         ensures { Binds self (binding_of assignment.now) result }
     {
@@ -116,8 +116,8 @@ impl Bindings {
     }
 }
 
-/// The prefix that an assignment binds, which is empty for the default; none where the assignment
-/// gives an attribute.
+// The prefix that an assignment binds, which is empty for the default; none where the assignment
+// gives an attribute.
 pub(crate) fn bound_prefix(assignment: &Assignment) -> Option<&str>
     ensures { binding_of assignment.now ≡ told result assignment.now.value }
 {
@@ -158,7 +158,7 @@ fn is_word(text: &str, word: &str) -> bool
     text == word
 }
 
-/// The bindings that the assignments of a tag make.
+// The bindings that the assignments of a tag make.
 pub(crate) fn bindings_of(alloc: Global, assignments: &[Assignment]) -> Result<Bindings, Refusal>
     ensures { IsBound assignments.now result }
 {

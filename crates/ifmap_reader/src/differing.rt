@@ -7,7 +7,7 @@ use ifmap_elem::{Attribute, Equals, Name};
 use std::alloc::{AllocError as NoMemory, Global};
 use std::collections::BTreeSet;
 
-/// So many attributes are compared each to each, which takes no memory.
+// So many attributes are compared each to each, which takes no memory.
 const FEW: usize = 8;
 
 pub(crate) fn have_other_names(alloc: Global, attributes: &[Attribute]) -> Result<bool, NoMemory>

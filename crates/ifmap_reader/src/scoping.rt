@@ -43,7 +43,7 @@ pub fn scope_at(alloc: Global, reading: &Reading, path: &[u32]) -> Result<Scope,
     Ok(Scope { bindings })
 }
 
-/// What each listed prefix is bound to: a declaration further in takes the place of one round it.
+// What each listed prefix is bound to: a declaration further in takes the place of one round it.
 fn spaces_at(
     alloc: Global,
     declared: &[Declared],
@@ -63,7 +63,7 @@ fn spaces_at(
     Ok(spaces)
 }
 
-/// Whether a declaration stands at or round the element with this path, and is of a listed prefix.
+// Whether a declaration stands at or round the element with this path, and is of a listed prefix.
 fn is_listed_at(declaration: &Declared, path: &[u32]) -> bool
     ensures { result ≡ (starts_with ◌==◌ path.now declaration.now.path && is_listed declaration.now.prefix) }
 {

@@ -13,15 +13,15 @@ use std::alloc::{AllocError as NoMemory, Global};
 
 #[derive(Drop)]
 pub(crate) enum Standing {
-    /// At the start, where a declaration may stand.
+    // At the start, where a declaration may stand.
     Start,
-    /// Within the elements that are open, the innermost last; before the root where none is.
+    // Within the elements that are open, the innermost last; before the root where none is.
     Open(Many<OpenElement>),
-    /// After the root.
+    // After the root.
     Done(Reading),
 }
 
-/// Where the reader stands behind one more token.
+// Where the reader stands behind one more token.
 pub(crate) fn take_token(
     alloc: Global,
     depth: u32,
@@ -50,7 +50,7 @@ fn take_after_root(depth: u32, reading: Reading, token: Token) -> Result<Standin
     Ok(Standing::Done(reading))
 }
 
-/// Whether a token may stand beside the root.
+// Whether a token may stand beside the root.
 fn is_margin(token: &Token) -> bool
     ensures { result ≡ is_margin token.now }
 {
@@ -80,7 +80,7 @@ fn take_inside(
     }
 }
 
-/// After a text. Outside the root it may be white space alone in its own bytes.
+// After a text. Outside the root it may be white space alone in its own bytes.
 fn take_text(open_elements: Many<OpenElement>, blank: bool, text: Text) -> Result<Standing, Refusal>
     ensures { (depth : ℕ) → (t : Token) → IsCharacterData blank text t → TokenAnswer depth (Within (reverse open_elements)) t result }
 {
@@ -149,7 +149,7 @@ fn take_end(
     Ok(with_element(alloc, open_elements, element, declared)?)
 }
 
-/// After an element that ended: it is a child of the innermost that is still open, or the root.
+// After an element that ended: it is a child of the innermost that is still open, or the root.
 fn with_element(
     alloc: Global,
     open_elements: Vec<OpenElement>,
