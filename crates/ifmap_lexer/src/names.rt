@@ -3,6 +3,7 @@ ghost use Rattle.std.specs.Prelude.{◌≡◌, ◌&&◌, ◌++◌, ◌↔◌, �
 ghost use Rattle.std.specs.List.{list_all, prefix_len};
 ghost use Rattle.ifmap_elem.specs.declared.tokens.Qualified.{Qualified};
 ghost use Rattle.ifmap_elem.specs.Names.{IsNamePart, IsQualified, is_name_start, is_name_character, name_bytes};
+ghost use Rattle.ifmap_lexer.specs.There.{NameAt, SomeName, Written};
 ghost use Rattle.ifmap_lexer.specs.Cutting.{Cuts, Stops};
 ghost use Rattle.std.specs.Bool.{OnTrue};
 ghost use Rattle.ifmap_lexer.specs.Names.{is_name_byte, stands_in_ascii, starts_in_ascii};
@@ -16,8 +17,8 @@ use std::alloc::Global;
 
 // The qualified name at the front, and what is left.
 pub(crate) fn name_of(alloc: Global, bytes: &[u8]) -> Result<(Qualified, &[u8]), LexError>
-    ensures found { IfOk result (λ f. IsQualified f.0 × (bytes.now ≡ name_bytes f.0 ++ f.1.now) × Stops is_name_byte f.1.now) }
-    ensures refused { IfErr result (λ e. Refuses e ((name : Qualified) × (rest : List ℕ) × IsQualified name × (bytes.now ≡ name_bytes name ++ rest) × Stops is_name_byte rest)) }
+    ensures found { IfOk result (λ f. NameAt bytes.now f.0 f.1.now) }
+    ensures refused { IfErr result (λ e. Refuses e (SomeName bytes.now)) }
 {
     let (run, rest) = split_name(bytes);
     let name = qualified_name(alloc, run)?;
@@ -46,7 +47,7 @@ fn may_be_named(byte: u8) -> bool
 // The name that is written so.
 fn qualified_name(alloc: Global, bytes: &[u8]) -> Result<Qualified, LexError>
     ensures found { IfOk result (λ name. IsQualified name × (name_bytes name ≡ bytes.now)) }
-    ensures refused { IfErr result (λ e. Refuses e ((name : Qualified) × IsQualified name × (name_bytes name ≡ bytes.now))) }
+    ensures refused { IfErr result (λ e. Refuses e (Written bytes.now)) }
 {
     match split_round_byte(b':', bytes) {
         Some((prefix, local)) => {

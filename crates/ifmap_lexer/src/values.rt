@@ -2,10 +2,11 @@
 ghost use Rattle.std.specs.Prelude.{◌≡◌, ◌<◌, ◌++◌, [], ◌∷◌, ◌≤◌, ℕ, List, IfErr, IfOk, OnOk, length, map, string_bytes};
 ghost use Rattle.ifmap_elem.specs.Chars.{AllAre};
 ghost use Rattle.ifmap_elem.specs.Values.{Expands, Plain, as_space, line_ends};
+ghost use Rattle.ifmap_lexer.specs.There.{SomeExpansion};
 ghost use Rattle.ifmap_lexer.specs.Cutting.{is_but};
 ghost use Rattle.ifmap_lexer.specs.Refusing.{Refuses};
 ghost use Rattle.std.specs.Bool.{OnTrue};
-ghost use Rattle.ifmap_lexer.specs.Runs.{break_in, line_in, part_in, stands_for_itself};
+ghost use Rattle.ifmap_lexer.specs.Runs.{break_in, line_in, part_in, run_in, stands_for_itself};
 ghost use Rattle.ifmap_lexer.specs.declared.values.Place.TheVariants.{AttributeValue, CharacterData};
 
 use crate::errors::LexError;
@@ -27,7 +28,7 @@ pub(crate) enum Place {
 #[tactic(auto, using(crate::proofs::PlainLaws::plain_means))]
 pub(crate) fn meaning(alloc: Global, place: Place, written: &str) -> Result<Text, LexError>
     ensures found { IfOk result (λ text. Expands (part_in place) written.now text) }
-    ensures refused { IfErr result (λ e. Refuses e ((text : List ℕ) × Expands (part_in place) written.now text)) }
+    ensures refused { IfErr result (λ e. Refuses e (SomeExpansion place written.now)) }
 {
     if are_plain(place, written.as_bytes()) {
         return Ok(Text(String::from_str(alloc, written)?));
@@ -73,7 +74,7 @@ fn are_plain_in_value(bytes: &[u8]) -> bool
 // What the written characters mean, with their references and line ends replaced.
 fn expansion_of(alloc: Global, place: Place, written: &str) -> Result<Text, LexError>
     ensures found { IfOk result (λ text. Expands (part_in place) written.now text) }
-    ensures refused { IfErr result (λ e. Refuses e ((text : List ℕ) × Expands (part_in place) written.now text)) }
+    ensures refused { IfErr result (λ e. Refuses e (SomeExpansion place written.now)) }
 {
     let mut text = String::with_capacity(alloc, written.len())?;
     let mut rest = written;
@@ -103,7 +104,7 @@ pub(crate) fn plain_meaning(alloc: Global, written: &str) -> Result<Text, AllocE
 
 // Appends what a run without references means.
 fn push_run(place: Place, run: &str, text: &mut String) -> Result<(), AllocError>
-    ensures { OnOk result (string_bytes text.new ≡ string_bytes text.old ++ part_in place (Plain run.now)) }
+    ensures { OnOk result (string_bytes text.new ≡ string_bytes text.old ++ run_in place run.now) }
 {
     let mut rest = run;
     while let Some((line, after)) = split_char('\r', rest) {
@@ -134,12 +135,12 @@ fn push_break(place: Place, text: &mut String) -> Result<(), AllocError>
     }
 }
 
-fn push_line(place: Place, line: &str, text: &mut String) -> Result<(), AllocError>
-    ensures { OnOk result (string_bytes text.new ≡ string_bytes text.old ++ line_in place line.now) }
+fn push_line(place: Place, line: &str, out: &mut String) -> Result<(), AllocError>
+    ensures { OnOk result (string_bytes out.new ≡ string_bytes out.old ++ line_in place line.now) }
 {
     match place {
-        Place::CharacterData => text.push_str(line),
-        Place::AttributeValue => push_spaced(line, text),
+        Place::CharacterData => out.push_str(line),
+        Place::AttributeValue => push_spaced(line, out),
     }
 }
 

@@ -187,7 +187,7 @@ empty_refused depth fs tag NotAllowed h = no_empty fs tag h
 empty_refused depth fs tag TooDeep h = absurd h
 empty_refused depth fs tag NoMemory h = tt
 
--- behind the root
+-- after the root
 pub margin_leads : (depth : ℕ) (root : Reading) (t : Token) → is_margin t ≡ true → Leads depth (AfterRoot root) t (AfterRoot root)
 margin_leads depth root Comment m = still depth (AfterRoot root) Comment (AfterRoot root) (after_root_comment root) refl refl refl refl (λ o. o) (λ l. l)
 margin_leads depth root (Characters true text) m = still depth (AfterRoot root) (Characters true text) (AfterRoot root) (after_root_blank root text) refl refl refl refl (λ o. o) (λ l. l)

@@ -1,8 +1,8 @@
 //! Whether a tag is allowed, and the element that it opens.
-ghost use Rattle.std.specs.Prelude.{◌≡◌, ◌++◌, reverse, filter, is_none, IfOk};
-ghost use Rattle.ifmap_elem.specs.Scopes.{binding_of, bound, root_scope};
-ghost use Rattle.ifmap_reader.specs.OpenElements.{AreLinked, Reaches, scope_of};
-ghost use Rattle.ifmap_reader.specs.AllowedTags.{ArePlain, IsGiven, TagAnswer};
+ghost use Rattle.std.specs.Prelude.{◌≡◌, reverse, IfOk};
+ghost use Rattle.ifmap_elem.specs.Scopes.{bound, root_scope};
+ghost use Rattle.ifmap_reader.specs.OpenElements.{AreLinked, Reaches};
+ghost use Rattle.ifmap_reader.specs.AllowedTags.{ArePlain, IsGiven, TagAnswer, plain, scope_inside};
 
 use crate::bindings::{Bindings, XML, XML_SPACE, bindings_of, bound_prefix};
 use crate::differing::have_other_names;
@@ -70,7 +70,7 @@ fn space_of(
     prefix: &Text,
 ) -> Result<Option<Text>, NoMemory>
     requires { AreLinked (reverse open_elements.now) }
-    ensures { IfOk result (λ space. space ≡ bound (bindings.now ++ scope_of (reverse open_elements.now)) prefix.now) }
+    ensures { IfOk result (λ space. space ≡ bound (scope_inside bindings.now open_elements.now) prefix.now) }
 {
     if let Some(space) = bindings.space_of(prefix) {
         return Ok(Some(space.copy(alloc)?));
@@ -111,7 +111,7 @@ fn attributes_of(
     assignments: Many<Assignment>,
 ) -> Result<Many<Attribute>, Refusal>
     requires { AreLinked (reverse open_elements.now) }
-    ensures { ArePlain (bindings.now ++ scope_of (reverse open_elements.now)) (filter (λ a. is_none (binding_of a)) assignments) result }
+    ensures { ArePlain (scope_inside bindings.now open_elements.now) (plain assignments) result }
 {
     let Many(mut left) = assignments;
     let mut made = Vec::with_capacity(alloc, left.len())?;
@@ -133,7 +133,7 @@ fn attribute_of(
     assignment: Assignment,
 ) -> Result<Attribute, Refusal>
     requires { AreLinked (reverse open_elements.now) }
-    ensures { IsGiven (bindings.now ++ scope_of (reverse open_elements.now)) assignment result }
+    ensures { IsGiven (scope_inside bindings.now open_elements.now) assignment result }
 {
     let Assignment { name, value } = assignment;
     let local = name.local;

@@ -30,19 +30,19 @@ pub(crate) struct Bindings {
 }
 
 impl Model for Bindings {
-    ghost use Rattle.std.specs.Prelude.{◌≡◌, List, ℕ, map};
+    ghost use Rattle.std.specs.Prelude.{List, map};
     ghost use Rattle.std.specs.Ordering.{nat_cmp};
     ghost use Rattle.std.specs.Cmp.Lexicographic.{slice_cmp};
     ghost use Rattle.std.specs.BTreeMap.{get};
-    ghost use Rattle.ifmap_elem.specs.Scopes.{Binding, bound};
-    ghost use Rattle.ifmap_elem.specs.Document.{declared_here};
+    ghost use Rattle.ifmap_elem.specs.Scopes.{Binding};
     ghost use Rattle.ifmap_elem.specs.InScope.{binding_told};
+    ghost use Rattle.ifmap_reader.specs.Indexes.{AreIndexed};
 
     ghost Value = { List Binding };
 
     ghost view = { λ b. map binding_told b.rows.items };
 
-    ghost invariant = { λ b. (b.rows.items ≡ declared_here (map binding_told b.rows.items)) × ((prefix : List ℕ) → get (slice_cmp nat_cmp) b.spaces prefix ≡ bound (map binding_told b.rows.items) prefix) };
+    ghost invariant = { λ b. AreIndexed b.rows.items (get (slice_cmp nat_cmp) b.spaces) };
 }
 
 impl Bindings {
@@ -72,7 +72,7 @@ impl Bindings {
     // With one binding more, of a prefix that has none.
     fn with(self, alloc: Global, prefix: Text, space: Text) -> Result<Bindings, NoMemory>
         requires { bound self prefix ≡ None }
-        ensures { IfOk result (λ made. made ≡ self ++ record { prefix = prefix; space = space } ∷ []) }
+        ensures { IfOk result (λ b. b ≡ self ++ record { prefix = prefix; space = space } ∷ []) }
     {
         let Bindings {
             mut rows,

@@ -23,7 +23,7 @@ pub(crate) struct OpenElement {
     pub declaring: usize,
     // The children that are kept, up to the last element among them.
     pub children: Many<Child>,
-    // The text behind these.
+    // The text after these.
     pub text: Text,
     // The declarations in the children, with their paths from this element on.
     pub below: Many<Declared>,
@@ -37,7 +37,7 @@ impl OpenElement {
         self.prefix.equals(&name.prefix) && self.name.local.equals(&name.local)
     }
 
-    // With more text behind its children.
+    // With more text after its children.
     pub(crate) fn with_characters(self, words: Text) -> Result<OpenElement, NoMemory>
         ensures { IfOk result (λ made. made ≡ with_characters self words) }
     {
@@ -118,7 +118,7 @@ fn joined(text: Text, more: Text) -> Result<Text, NoMemory>
     Ok(Text(bytes))
 }
 
-// With a text behind them, where it is kept.
+// With a text after them, where it is kept.
 fn with_text(children: Many<Child>, beside: bool, text: Text) -> Result<Many<Child>, NoMemory>
     ensures { IfOk result (λ made. made ≡ children ++ text_child beside text) }
 {
@@ -147,7 +147,7 @@ fn is_blank(text: &[u8]) -> bool
     text.iter().all(|b| *b == b' ' || *b == b'\t' || *b == b'\r' || *b == b'\n')
 }
 
-// Puts a child behind the others. The first takes room for itself alone, since most elements hold
+// Puts a child after the others. The first takes room for itself alone, since most elements hold
 // one text and nothing else.
 fn with_child(children: Many<Child>, child: Child) -> Result<Many<Child>, NoMemory>
     ensures { IfOk result (λ made. made ≡ children ++ child ∷ []) }

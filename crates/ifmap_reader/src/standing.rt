@@ -1,7 +1,7 @@
 //! Where a reader stands, and what one more token makes of it.
-ghost use Rattle.std.specs.Prelude.{◌≡◌, ℕ, reverse, IfOk};
+ghost use Rattle.std.specs.Prelude.{◌≡◌, reverse, IfOk};
 ghost use Rattle.ifmap_reader.specs.OpenElements.{AreLinked};
-ghost use Rattle.ifmap_reader.specs.Progress.{Within, AfterRoot, IsCharacterData, IsLinked, TokenAnswer, after_element, is_margin, where_is};
+ghost use Rattle.ifmap_reader.specs.Progress.{AfterRoot, EndAnswer, IsAfterElement, IsLinked, TextAnswer, TokenAnswer, Within, is_margin, where_is};
 ghost use Rattle.ifmap_elem.specs.declared.tokens.Token.{Token};
 
 use crate::allowed_tags::open_element;
@@ -21,7 +21,7 @@ pub(crate) enum Standing {
     Done(Reading),
 }
 
-// Where the reader stands behind one more token.
+// Where the reader stands after one more token.
 pub(crate) fn take_token(
     alloc: Global,
     depth: u32,
@@ -82,7 +82,7 @@ fn take_inside(
 
 // After a text. Outside the root it may be white space alone in its own bytes.
 fn take_text(open_elements: Many<OpenElement>, blank: bool, text: Text) -> Result<Standing, Refusal>
-    ensures { (depth : ℕ) → (t : Token) → IsCharacterData blank text t → TokenAnswer depth (Within (reverse open_elements)) t result }
+    ensures { TextAnswer open_elements blank text result }
 {
     let Many(mut open_elements) = open_elements;
     let Some(innermost) = open_elements.pop() else {
@@ -136,7 +136,7 @@ fn take_end(
     open_elements: Many<OpenElement>,
     name: Qualified,
 ) -> Result<Standing, Refusal>
-    ensures { (depth : ℕ) → TokenAnswer depth (Within (reverse open_elements)) (Token.End name) result }
+    ensures { EndAnswer open_elements name result }
 {
     let Many(mut open_elements) = open_elements;
     let Some(innermost) = open_elements.pop() else {
@@ -156,7 +156,7 @@ fn with_element(
     element: Element,
     declared: Many<Declared>,
 ) -> Result<Standing, NoMemory>
-    ensures { IfOk result (λ new. where_is new ≡ after_element (reverse open_elements.items) element declared) }
+    ensures { IfOk result (λ new. IsAfterElement open_elements.items element declared new) }
 {
     let mut open_elements = open_elements;
     let Some(parent) = open_elements.pop() else {
