@@ -11,3 +11,6 @@ pub mod PrintedElements
 pub mod PrintedParts
 pub mod PrintedScopes
 pub mod PrintedTags
+pub mod Resolving
+pub mod Roots
+pub mod ScopeLaws

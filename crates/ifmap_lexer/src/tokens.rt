@@ -4,6 +4,7 @@ ghost use Rattle.std.specs.List.{list_all};
 ghost use Rattle.ifmap_elem.specs.Chars.{is_white};
 ghost use Rattle.ifmap_elem.specs.Tokens.{TakesToken};
 ghost use Rattle.ifmap_elem.specs.declared.tokens.Token.{Token};
+ghost use Rattle.ifmap_lexer.specs.There.{SomeToken};
 ghost use Rattle.ifmap_lexer.specs.Kinds.{Stands};
 ghost use Rattle.ifmap_lexer.specs.Refusing.{Refuses};
 
@@ -12,16 +13,18 @@ use crate::declaration::after_declaration;
 use crate::errors::LexError;
 use crate::kinds::{Kind, kind_at};
 use crate::names::name_of;
-use crate::splitting::{after_word, has_word, is_white, split_byte, split_white, split_word};
+use crate::splitting::{
+    after_word, has_section_end, is_white, split_byte, split_white, split_word,
+};
 use crate::tags::tag_of;
 use crate::values::{Place, meaning, plain_meaning};
 use ifmap_elem::tokens::Token;
 use std::alloc::Global;
 
-/// The token at the front, and what is left.
+// The token at the front, and what is left.
 pub(crate) fn first_token(alloc: Global, bytes: &[u8]) -> Result<(Token, &[u8]), LexError>
     ensures found { IfOk result (λ f. TakesToken bytes.now f.0 f.1.now) }
-    ensures refused { IfErr result (λ e. Refuses e ((t : Token) × (rest : List ℕ) × TakesToken bytes.now t rest)) }
+    ensures refused { IfErr result (λ e. Refuses e (SomeToken bytes.now)) }
 {
     match kind_at(bytes) {
         Kind::Nothing => Err(LexError::Malformed),
@@ -116,7 +119,7 @@ fn text(alloc: Global, bytes: &[u8]) -> Result<(Token, &[u8]), LexError>
     if own.is_empty() {
         return Err(LexError::Malformed);
     }
-    if has_word(b"]]>", own) {
+    if has_section_end(own) {
         return Err(LexError::Malformed);
     }
     let Some(written) = characters(own) else {

@@ -1,4 +1,6 @@
 -- The element that fit tokens mean is fit.
+-- First what scopes bind (`bound_fits`), then the attributes that a tag gives, then the children among items, and last an induction over
+-- pieces: what the tokens of a document give (`FitTokens`) makes each element in it one that fits.
 use Rattle.std.proofs.Common.{◌≡◌, ◌≢◌, ℕ, Bool, true, false, List, [], ◌∷◌, map, refl, ap, sym, ◌∙◌, subst, inl, inr}
 use Rattle.std.specs.Prelude.{◌&&◌, if◌then◌else◌, codes, filter, Option, Some, None, IfSome, is_none}
 use Rattle.std.specs.List.{AllByRecursion, cons_option, filter_map, flat_map, list_all, list_any}
@@ -7,7 +9,7 @@ use Rattle.std.proofs.lemmas.Bool.{and_from, cases_Bool}
 use Rattle.ifmap_elem.specs.Chars.{IsCharacters, IsWhite, is_character, is_white}
 use Rattle.ifmap_elem.specs.Document as piece
 use Rattle.ifmap_elem.specs.Document.{Pieces, Nothing, tokens_of, Item, Inner, Run, child_of, heading, is_inner, is_child, joined, children_among, put_before, IsElement, AreItems}
-use Rattle.ifmap_elem.specs.Roots.{BeginsWithRoot, root_begins}
+use Rattle.ifmap_elem.specs.laws.Roots.{BeginsWithRoot, root_begins}
 use Rattle.ifmap_elem.specs.Fit.{IsNamespace, IsFitAttribute, HasCharacters, IsNotBlank, AreApart, is_element, AreFitChildren, IsFitAlone, IsFit}
 use Rattle.ifmap_elem.specs.Names.{IsNamePart}
 use Rattle.ifmap_elem.specs.Scopes.{Scope, Binding, IsBinding, IsAttribute, AreAttributes, attribute_space, binding_of, bindings, bound, root_scope, scope_within, xml_space, xmlns_space}

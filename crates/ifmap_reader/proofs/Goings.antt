@@ -1,4 +1,7 @@
--- How a document goes on behind each token.
+-- How a document goes on after each token.
+-- For each place and token: what goes on after the token goes on before it with the token in front, and the other way (`Follows`), or
+-- nothing does. Within an element this is `Contents`; here come the places before the root, after it and at the start, by the cases of
+-- the first piece.
 use Rattle.std.proofs.Common.{◌≡◌, ℕ, Bool, true, false, List, [], ◌∷◌, ◌++◌, refl, ap, sym, ◌∙◌, subst, ◌⊎◌, inl, inr}
 use Rattle.std.specs.Prelude.{◌↔◌}
 use Rattle.ifmap_elem.specs.declared.elements.Attribute.{Attribute}
@@ -13,40 +16,40 @@ use Rattle.ifmap_elem.specs.declared.tokens.Token.TheVariants.{Declaration, Comm
 use Rattle.ifmap_elem.specs.Scopes.{Scope, root_scope, bindings, NamesElement}
 use Rattle.ifmap_elem.specs.Document as piece
 use Rattle.ifmap_elem.specs.Document.{Pieces, Nothing, tokens_of, IsElement, AreItems, IsMargin, IsRoot, heading}
-use Rattle.ifmap_elem.specs.Roots.{BeginsWithRoot, root_begins, begins_root}
-use Rattle.ifmap_reader.specs.declared.frames.Frame.{Frame}
-use Rattle.ifmap_reader.specs.Frames.{Closes, scope_of, with_inner, with_words, written_name}
-use Rattle.ifmap_reader.specs.Opening.{Opened}
-use Rattle.ifmap_reader.specs.Progress.{AtStart, Among, Behind, EndsDocument, BeginsRoot, Closing, GoesOn, Follows, IsWords, adopted}
+use Rattle.ifmap_elem.specs.laws.Roots.{BeginsWithRoot, root_begins, begins_root}
+use Rattle.ifmap_reader.specs.declared.open_elements.OpenElement.{OpenElement}
+use Rattle.ifmap_reader.specs.OpenElements.{Closes, scope_of, with_inner, with_characters, written_name}
+use Rattle.ifmap_reader.specs.AllowedTags.{OpensElement}
+use Rattle.ifmap_reader.specs.Progress.{AtStart, Within, AfterRoot, EndsDocument, BeginsRoot, Closing, GoesOn, Follows, IsCharacterData, after_element}
 use Rattle.ifmap_reader.proofs.Items.{opened_closes, closes_opened}
 use Rattle.ifmap_reader.proofs.Contents.{ends_comment, ends_words, no_declaration, no_other_end, ends_here, ends_empty, ends_start, start_named, empty_named}
 
 -- within an element
-pub inner_comment : (f : Frame) (fs : List Frame) → Follows (Among (f ∷ fs)) Comment (Among (f ∷ fs))
+pub inner_comment : (f : OpenElement) (fs : List OpenElement) → Follows (Within (f ∷ fs)) Comment (Within (f ∷ fs))
 inner_comment f [] ts r = ends_comment _ f ts _
 inner_comment f (g ∷ gs) ts r = ends_comment _ f ts _
 
-pub inner_words : (f : Frame) (fs : List Frame) (t : Token) (blank : Bool) (text : List ℕ) → IsWords blank text t → Follows (Among (f ∷ fs)) t (Among (with_words f text ∷ fs))
+pub inner_words : (f : OpenElement) (fs : List OpenElement) (t : Token) (blank : Bool) (text : List ℕ) → IsCharacterData blank text t → Follows (Within (f ∷ fs)) t (Within (with_characters f text ∷ fs))
 inner_words f [] t blank text w ts r = ends_words _ f ts _ t blank text w
 inner_words f (g ∷ gs) t blank text w ts r = ends_words _ f ts _ t blank text w
 
-pub inner_start : (f : Frame) (fs : List Frame) (tag : Tag) (new : Frame) → Opened (scope_of (f ∷ fs)) tag new → Follows (Among (f ∷ fs)) (Start tag) (Among (new ∷ (f ∷ fs)))
+pub inner_start : (f : OpenElement) (fs : List OpenElement) (tag : Tag) (new : OpenElement) → OpensElement (scope_of (f ∷ fs)) tag new → Follows (Within (f ∷ fs)) (Start tag) (Within (new ∷ (f ∷ fs)))
 inner_start f [] tag new o ts r = ends_start _ f ts _ tag new o
 inner_start f (g ∷ gs) tag new o ts r = ends_start _ f ts _ tag new o
 
-pub inner_empty : (f : Frame) (fs : List Frame) (tag : Tag) (new : Frame) → Opened (scope_of (f ∷ fs)) tag new → (e : Element) (d : List Declared) → Closes new [] e d → Follows (Among (f ∷ fs)) (Empty tag) (Among (with_inner f e d ∷ fs))
+pub inner_empty : (f : OpenElement) (fs : List OpenElement) (tag : Tag) (new : OpenElement) → OpensElement (scope_of (f ∷ fs)) tag new → (e : Element) (d : List Declared) → Closes new [] e d → Follows (Within (f ∷ fs)) (Empty tag) (Within (with_inner f e d ∷ fs))
 inner_empty f [] tag new o e d k ts r = ends_empty _ f ts _ tag new o e d k
 inner_empty f (g ∷ gs) tag new o e d k ts r = ends_empty _ f ts _ tag new o e d k
 
-pub inner_end : (f : Frame) (fs : List Frame) (name : Qualified) (e : Element) (d : List Declared) → name ≡ written_name f → Closes f [] e d → Follows (Among (f ∷ fs)) (End name) (adopted fs e d)
+pub inner_end : (f : OpenElement) (fs : List OpenElement) (name : Qualified) (e : Element) (d : List Declared) → name ≡ written_name f → Closes f [] e d → Follows (Within (f ∷ fs)) (End name) (after_element fs e d)
 inner_end f [] name e d is c ts r = ends_here _ f ts _ name e d is c
 inner_end f (g ∷ gs) name e d is c ts r = ends_here _ f ts _ name e d is c
 
-pub inner_declaration : (f : Frame) (fs : List Frame) (ts : List Token) (r : Reading) → GoesOn (Among (f ∷ fs)) (Declaration ∷ ts) r → ⊥
+pub inner_declaration : (f : OpenElement) (fs : List OpenElement) (ts : List Token) (r : Reading) → GoesOn (Within (f ∷ fs)) (Declaration ∷ ts) r → ⊥
 inner_declaration f [] ts r = no_declaration _ f ts _
 inner_declaration f (g ∷ gs) ts r = no_declaration _ f ts _
 
-pub inner_other_end : (f : Frame) (fs : List Frame) (name : Qualified) → (name ≡ written_name f → ⊥) → (ts : List Token) (r : Reading) → GoesOn (Among (f ∷ fs)) (End name ∷ ts) r → ⊥
+pub inner_other_end : (f : OpenElement) (fs : List OpenElement) (name : Qualified) → (name ≡ written_name f → ⊥) → (ts : List Token) (r : Reading) → GoesOn (Within (f ∷ fs)) (End name ∷ ts) r → ⊥
 inner_other_end f [] name other ts r = no_other_end _ f ts _ name other
 inner_other_end f (g ∷ gs) name other ts r = no_other_end _ f ts _ name other
 
@@ -59,7 +62,7 @@ root_comment_off (piece.Section text after) ts r is h = absurd h
 root_comment_off (piece.Empty tag after) ts r is h = cc
 root_comment_off (piece.Start tag inside after) ts r is h = cc
 
-pub root_comment : Follows (Among []) Comment (Among [])
+pub root_comment : Follows (Within []) Comment (Within [])
 root_comment ts r = (
   λ x. root_comment_off x.pieces ts r x.tokens_are x.rooted,
   λ x. record { pieces = piece.Comment x.pieces; tokens_are = ap (λ us. Comment ∷ us) x.tokens_are; rooted = x.rooted },
@@ -73,7 +76,7 @@ root_blank_off text (piece.Section more after) ts r is h = absurd h
 root_blank_off text (piece.Empty tag after) ts r is h = cc
 root_blank_off text (piece.Start tag inside after) ts r is h = cc
 
-pub root_blank : (text : List ℕ) → Follows (Among []) (Characters true text) (Among [])
+pub root_blank : (text : List ℕ) → Follows (Within []) (Characters true text) (Within [])
 root_blank text ts r = (
   λ x. root_blank_off text x.pieces ts r x.tokens_are x.rooted,
   λ x. record { pieces = piece.Characters true text x.pieces; tokens_are = ap (λ us. Characters true text ∷ us) x.tokens_are; rooted = (refl, x.rooted) },
@@ -100,17 +103,17 @@ no_root_off (piece.Section text after) t ts r i is h = h
 no_root_off (piece.Empty tag after) t ts r i is h = let e : t ≡ Empty tag = cc in subst IsInner e i
 no_root_off (piece.Start tag inside after) t ts r i is h = let e : t ≡ Start tag = cc in subst IsInner e i
 
-pub no_root : (t : Token) → IsInner t → (ts : List Token) (r : Reading) → GoesOn (Among []) (t ∷ ts) r → ⊥
+pub no_root : (t : Token) → IsInner t → (ts : List Token) (r : Reading) → GoesOn (Within []) (t ∷ ts) r → ⊥
 no_root t i ts r x = no_root_off x.pieces t ts r i x.tokens_are x.rooted
 
-module _ (tag : Tag) (new : Frame) (o : Opened root_scope tag new) where
+module _ (tag : Tag) (new : OpenElement) (o : OpensElement root_scope tag new) where
   root_start_off : (c : Pieces) (ts : List Token) (r : Reading) → Start tag ∷ ts ≡ tokens_of c → BeginsWithRoot c r → Closing new [] ts r
   root_start_off (piece.Start other inside after) ts r is h =
       let same : other ≡ tag = cc in
       let tail : ts ≡ tokens_of inside ++ (End other.name ∷ tokens_of after) = cc in
       record {
         inside = inside;
-        behind = tokens_of after;
+        rest = tokens_of after;
         items = h.0;
         element = r.root;
         declared = r.declared;
@@ -140,7 +143,7 @@ module _ (tag : Tag) (new : Frame) (o : Opened root_scope tag new) where
         );
       }
 
-  pub root_start : Follows (Among []) (Start tag) (Among (new ∷ []))
+  pub root_start : Follows (Within []) (Start tag) (Within (new ∷ []))
   root_start ts r = (λ x. root_start_off x.pieces ts r x.tokens_are x.rooted, root_start_on ts r)
 
   module _ (e : Element) (d : List Declared) (k : Closes new [] e d) where
@@ -157,7 +160,7 @@ module _ (tag : Tag) (new : Frame) (o : Opened root_scope tag new) where
     root_empty_off (piece.Section text after) ts r is h = absurd h
     root_empty_off (piece.Start other inside after) ts r is h = cc
 
-    pub root_empty : Follows (Among []) (Empty tag) (Behind (record { root = e; declared = d }))
+    pub root_empty : Follows (Within []) (Empty tag) (AfterRoot (record { root = e; declared = d }))
     root_empty ts r = (
       λ x. root_empty_off x.pieces ts r x.tokens_are x.rooted,
       λ y. record {
@@ -183,17 +186,17 @@ root_named tag none (piece.Start other inside after) ts r is h =
     let same : other ≡ tag = elim is [ inl k ↦ cc | inr k ↦ cc ] in
     none r.root.name r.root.attributes (subst (λ (u : Tag). NamesElement root_scope u r.root.name r.root.attributes) same h.2.named)
 
-pub no_start : (fs : List Frame) (tag : Tag) → NoName (scope_of fs) tag → (ts : List Token) (r : Reading) → GoesOn (Among fs) (Start tag ∷ ts) r → ⊥
+pub no_start : (fs : List OpenElement) (tag : Tag) → NoName (scope_of fs) tag → (ts : List Token) (r : Reading) → GoesOn (Within fs) (Start tag ∷ ts) r → ⊥
 no_start [] tag none ts r x = root_named tag none x.pieces ts r (inl x.tokens_are) x.rooted
 no_start (f ∷ []) tag none ts r x = start_named _ f ts _ tag none x
 no_start (f ∷ (g ∷ gs)) tag none ts r x = start_named _ f ts _ tag none x
 
-pub no_empty : (fs : List Frame) (tag : Tag) → NoName (scope_of fs) tag → (ts : List Token) (r : Reading) → GoesOn (Among fs) (Empty tag ∷ ts) r → ⊥
+pub no_empty : (fs : List OpenElement) (tag : Tag) → NoName (scope_of fs) tag → (ts : List Token) (r : Reading) → GoesOn (Within fs) (Empty tag ∷ ts) r → ⊥
 no_empty [] tag none ts r x = root_named tag none x.pieces ts r (inr x.tokens_are) x.rooted
 no_empty (f ∷ []) tag none ts r x = empty_named _ f ts _ tag none x
 no_empty (f ∷ (g ∷ gs)) tag none ts r x = empty_named _ f ts _ tag none x
 
--- behind the root
+-- after the root
 margin_off : (root : Reading) (t : Token) (c : Pieces) (ts : List Token) (r : Reading) → t ∷ ts ≡ tokens_of c → IsMargin c → root ≡ r → EndsDocument root ts r × (IsInner t → ⊥)
 margin_off root t (piece.Comment after) ts r is h s = let e : t ≡ Comment = cc in (record { after = after; tokens_are = cc; margin = h; same = s }, λ i. subst IsInner e i)
 margin_off root t (piece.Characters blank text after) ts r is h s =
@@ -204,20 +207,20 @@ margin_off root t (piece.Section text after) ts r is h s = absurd h
 margin_off root t (piece.Empty tag after) ts r is h s = absurd h
 margin_off root t (piece.Start tag inside after) ts r is h s = absurd h
 
-pub behind_comment : (root : Reading) → Follows (Behind root) Comment (Behind root)
-behind_comment root ts r = (
+pub after_root_comment : (root : Reading) → Follows (AfterRoot root) Comment (AfterRoot root)
+after_root_comment root ts r = (
   λ x. (margin_off root Comment x.after ts r x.tokens_are x.margin x.same).0,
   λ x. record { after = piece.Comment x.after; tokens_are = ap (λ us. Comment ∷ us) x.tokens_are; margin = x.margin; same = x.same },
 )
 
-pub behind_blank : (root : Reading) (text : List ℕ) → Follows (Behind root) (Characters true text) (Behind root)
-behind_blank root text ts r = (
+pub after_root_blank : (root : Reading) (text : List ℕ) → Follows (AfterRoot root) (Characters true text) (AfterRoot root)
+after_root_blank root text ts r = (
   λ x. (margin_off root (Characters true text) x.after ts r x.tokens_are x.margin x.same).0,
   λ x. record { after = piece.Characters true text x.after; tokens_are = ap (λ us. Characters true text ∷ us) x.tokens_are; margin = (refl, x.margin); same = x.same },
 )
 
-pub no_behind : (root : Reading) (t : Token) → IsInner t → (ts : List Token) (r : Reading) → GoesOn (Behind root) (t ∷ ts) r → ⊥
-no_behind root t i ts r x = (margin_off root t x.after ts r x.tokens_are x.margin x.same).1 i
+pub nothing_after_root : (root : Reading) (t : Token) → IsInner t → (ts : List Token) (r : Reading) → GoesOn (AfterRoot root) (t ∷ ts) r → ⊥
+nothing_after_root root t i ts r x = (margin_off root t x.after ts r x.tokens_are x.margin x.same).1 i
 
 no_tag : (tag : Tag) (c : Pieces) (ts : List Token) → (Start tag ∷ ts ≡ tokens_of c) ⊎ (Empty tag ∷ ts ≡ tokens_of c) → IsMargin c → ⊥
 no_tag tag Nothing ts is h = elim is [ inl k ↦ cc | inr k ↦ cc ]
@@ -227,7 +230,7 @@ no_tag tag (piece.Section text after) ts is h = h
 no_tag tag (piece.Empty other after) ts is h = h
 no_tag tag (piece.Start other inside after) ts is h = h
 
-pub no_second_root : (root : Reading) (tag : Tag) (ts : List Token) (r : Reading) → ((GoesOn (Behind root) (Start tag ∷ ts) r → ⊥) × (GoesOn (Behind root) (Empty tag ∷ ts) r → ⊥))
+pub no_second_root : (root : Reading) (tag : Tag) (ts : List Token) (r : Reading) → ((GoesOn (AfterRoot root) (Start tag ∷ ts) r → ⊥) × (GoesOn (AfterRoot root) (Empty tag ∷ ts) r → ⊥))
 no_second_root root tag ts r = (λ x. no_tag tag x.after ts (inl x.tokens_are) x.margin, λ x. no_tag tag x.after ts (inr x.tokens_are) x.margin)
 
 -- at the start
@@ -243,7 +246,7 @@ declaration_off : (declared : Bool) (c : Pieces) (ts : List Token) (r : Reading)
 declaration_off true c ts r is h = record { pieces = c; tokens_are = cc; rooted = root_begins c r h }
 declaration_off false c ts r is h = absurd (not_heading c ts is)
 
-pub start_declaration : Follows AtStart Declaration (Among [])
+pub start_declaration : Follows AtStart Declaration (Within [])
 start_declaration ts r = (
   λ x. declaration_off x.declared x.pieces ts r x.tokens_are x.rooted,
   λ x. record { declared = true; pieces = x.pieces; tokens_are = ap (λ us. Declaration ∷ us) x.tokens_are; rooted = begins_root x.pieces r x.rooted },
@@ -257,13 +260,13 @@ other_off t other true c ts r is h = let e : t ≡ Declaration = cc in absurd (o
 other_off t other false c ts r is h = record { pieces = c; tokens_are = is; rooted = root_begins c r h }
 
 -- but for a declaration the start is before the root
-pub start_other : (t : Token) → IsOther t → (ts : List Token) (r : Reading) → GoesOn AtStart (t ∷ ts) r ↔ GoesOn (Among []) (t ∷ ts) r
+pub start_other : (t : Token) → IsOther t → (ts : List Token) (r : Reading) → GoesOn AtStart (t ∷ ts) r ↔ GoesOn (Within []) (t ∷ ts) r
 start_other t other ts r = (
   λ x. other_off t other x.declared x.pieces ts r x.tokens_are x.rooted,
   λ x. record { declared = false; pieces = x.pieces; tokens_are = x.tokens_are; rooted = begins_root x.pieces r x.rooted },
 )
 
--- without a token nothing goes on but behind the root
+-- without a token nothing goes on but after the root
 empty_root : (c : Pieces) (r : Reading) → [] ≡ tokens_of c → BeginsWithRoot c r → ⊥
 empty_root Nothing r is h = h
 empty_root (piece.Comment after) r is h = cc
@@ -283,10 +286,10 @@ some_tokens : (ts us : List Token) (t : Token) → [] ≡ ts ++ (t ∷ us) → �
 some_tokens [] us t e = cc
 some_tokens (x ∷ xs) us t e = cc
 
-pub no_tokens : (fs : List Frame) (r : Reading) → GoesOn (Among fs) [] r → ⊥
+pub no_tokens : (fs : List OpenElement) (r : Reading) → GoesOn (Within fs) [] r → ⊥
 no_tokens [] r x = empty_root x.pieces r x.tokens_are x.rooted
-no_tokens (f ∷ []) r x = some_tokens (tokens_of x.inside) x.behind (End (written_name f)) x.tokens_are
-no_tokens (f ∷ (g ∷ gs)) r x = some_tokens (tokens_of x.inside) x.behind (End (written_name f)) x.tokens_are
+no_tokens (f ∷ []) r x = some_tokens (tokens_of x.inside) x.rest (End (written_name f)) x.tokens_are
+no_tokens (f ∷ (g ∷ gs)) r x = some_tokens (tokens_of x.inside) x.rest (End (written_name f)) x.tokens_are
 
-pub behind_ends : (root : Reading) → GoesOn (Behind root) [] root
-behind_ends root = record { after = Nothing; tokens_are = refl; margin = tt; same = refl }
+pub after_root_ends : (root : Reading) → GoesOn (AfterRoot root) [] root
+after_root_ends root = record { after = Nothing; tokens_are = refl; margin = tt; same = refl }

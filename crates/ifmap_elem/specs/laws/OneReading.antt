@@ -15,7 +15,7 @@ use Rattle.ifmap_elem.specs.Tokens.{TakesToken}
 use Rattle.ifmap_elem.specs.Scopes.{Scope, root_scope, scope_within, plain_assignments, IsAttribute, AreAttributes, NamesElement}
 use Rattle.ifmap_elem.specs.Document as piece
 use Rattle.ifmap_elem.specs.Document.{Pieces, Nothing, tokens_of, Item, Inner, Run, IsElement, AreItems, heading, IsDocument}
-use Rattle.ifmap_elem.specs.Roots.{BeginsWithRoot, root_begins}
+use Rattle.ifmap_elem.specs.laws.Roots.{BeginsWithRoot, root_begins}
 use Rattle.ifmap_elem.specs.Spells.{Spells, without_byte_order_mark}
 use Rattle.ifmap_elem.specs.laws.OneToken.{one_token, no_token}
 
@@ -161,7 +161,7 @@ no_declaration (piece.Section text after) ts e = cc
 no_declaration (piece.Empty tag after) ts e = cc
 no_declaration (piece.Start tag inside after) ts e = cc
 
-one_heading : (a b : Bool) (c d : Pieces) → heading a ++ tokens_of c ≡ heading b ++ tokens_of d → tokens_of c ≡ tokens_of d
+pub one_heading : (a b : Bool) (c d : Pieces) → heading a ++ tokens_of c ≡ heading b ++ tokens_of d → tokens_of c ≡ tokens_of d
 one_heading true true c d e = cc
 one_heading true false c d e = absurd (no_declaration d (tokens_of c) e)
 one_heading false true c d e = absurd (no_declaration c (tokens_of d) (sym e))

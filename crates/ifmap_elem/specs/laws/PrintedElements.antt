@@ -21,7 +21,7 @@ use Rattle.ifmap_elem.specs.Scopes.{Scope, AllDiffer, IsBinding, root_scope, sco
 use Rattle.ifmap_elem.specs.Tokens.{TakesToken, TakesTag, TakesText, EndsText}
 use Rattle.ifmap_elem.specs.Document as piece
 use Rattle.ifmap_elem.specs.Document.{Pieces, Nothing, tokens_of, Item, Inner, Run, is_inner, joined, put_before, is_child, children_among, child_of, declared_here, declared_below, from_above, IsElement, AreItems, IsRoot, chained}
-use Rattle.ifmap_elem.specs.Roots.{chained_nothing}
+use Rattle.ifmap_elem.specs.laws.Roots.{chained_nothing}
 use Rattle.ifmap_elem.specs.Escapes.{text_bytes}
 use Rattle.ifmap_elem.specs.Fit.{IsFit, IsFitAlone, IsFitAttribute, AreFitChildren, HasCharacters, IsNotBlank, AreApart, is_element}
 use Rattle.ifmap_elem.specs.Namespaces.{spaces_of, spaces_of_child, child_spaces, element_spaces}
