@@ -9,10 +9,7 @@ use Rattle.ifmap_elem.specs.laws.OneReading.{one_attribute}
 use Rattle.ifmap_reader.proofs.Lasts.{last_first}
 use Rattle.ifmap_reader.specs.declared.errors.Refusal.{Refusal}
 use Rattle.ifmap_reader.specs.declared.errors.Refusal.TheVariants.{NotAllowed, TooDeep, NoMemory}
-use Rattle.ifmap_reader.specs.AllowedTags.{IsGiven, ArePlain, told}
-
-abbrev pub plain : List Assignment → List Assignment
-plain assignments = filter (λ a. is_none (binding_of a)) assignments
+use Rattle.ifmap_reader.specs.AllowedTags.{IsGiven, ArePlain, plain, told}
 
 -- what the attributes so far and those of the assignments that are left are for all of them
 pub record Attributing (scope : Scope) (all : List Assignment) (made : List Attribute) (left : List Assignment) : Type 0 where

@@ -1,4 +1,6 @@
 -- Characters that a document can have: beside each other, cut before an ASCII byte, and as line ends, white space and references mean them.
+-- Over characters and not over bytes: line ends and white space of a character's bytes, a cut before an ASCII byte, and then runs and
+-- references, so that what written characters mean is characters again.
 use Rattle.std.proofs.Common.{◌≡◌, ℕ, ◌<◌, ◌≤◌, Bool, true, false, not, ◌||◌, List, [], ◌∷◌, ◌++◌, map, length, get_or, refl, ap, sym, ◌∙◌, subst, arith, append_assoc, drop, inl, inr}
 use Rattle.std.specs.Prelude.{◌==◌, ◌&&◌, if◌then◌else◌, codes, encode_utf8, encode_utf8_all, Option, Some, None, nat_le}
 use Rattle.std.specs.Char.{is_digit}

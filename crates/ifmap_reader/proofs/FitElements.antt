@@ -1,4 +1,6 @@
 -- The element that fit tokens mean is fit.
+-- First what scopes bind (`bound_fits`), then the attributes that a tag gives, then the children among items, and last an induction over
+-- pieces: what the tokens of a document give (`FitTokens`) makes each element in it one that fits.
 use Rattle.std.proofs.Common.{◌≡◌, ◌≢◌, ℕ, Bool, true, false, List, [], ◌∷◌, map, refl, ap, sym, ◌∙◌, subst, inl, inr}
 use Rattle.std.specs.Prelude.{◌&&◌, if◌then◌else◌, codes, filter, Option, Some, None, IfSome, is_none}
 use Rattle.std.specs.List.{AllByRecursion, cons_option, filter_map, flat_map, list_all, list_any}

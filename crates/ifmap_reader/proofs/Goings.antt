@@ -1,4 +1,7 @@
--- How a document goes on behind each token.
+-- How a document goes on after each token.
+-- For each place and token: what goes on after the token goes on before it with the token in front, and the other way (`Follows`), or
+-- nothing does. Within an element this is `Contents`; here come the places before the root, after it and at the start, by the cases of
+-- the first piece.
 use Rattle.std.proofs.Common.{◌≡◌, ℕ, Bool, true, false, List, [], ◌∷◌, ◌++◌, refl, ap, sym, ◌∙◌, subst, ◌⊎◌, inl, inr}
 use Rattle.std.specs.Prelude.{◌↔◌}
 use Rattle.ifmap_elem.specs.declared.elements.Attribute.{Attribute}
@@ -110,7 +113,7 @@ module _ (tag : Tag) (new : OpenElement) (o : OpensElement root_scope tag new) w
       let tail : ts ≡ tokens_of inside ++ (End other.name ∷ tokens_of after) = cc in
       record {
         inside = inside;
-        behind = tokens_of after;
+        rest = tokens_of after;
         items = h.0;
         element = r.root;
         declared = r.declared;
@@ -193,7 +196,7 @@ no_empty [] tag none ts r x = root_named tag none x.pieces ts r (inr x.tokens_ar
 no_empty (f ∷ []) tag none ts r x = empty_named _ f ts _ tag none x
 no_empty (f ∷ (g ∷ gs)) tag none ts r x = empty_named _ f ts _ tag none x
 
--- behind the root
+-- after the root
 margin_off : (root : Reading) (t : Token) (c : Pieces) (ts : List Token) (r : Reading) → t ∷ ts ≡ tokens_of c → IsMargin c → root ≡ r → EndsDocument root ts r × (IsInner t → ⊥)
 margin_off root t (piece.Comment after) ts r is h s = let e : t ≡ Comment = cc in (record { after = after; tokens_are = cc; margin = h; same = s }, λ i. subst IsInner e i)
 margin_off root t (piece.Characters blank text after) ts r is h s =
@@ -263,7 +266,7 @@ start_other t other ts r = (
   λ x. record { declared = false; pieces = x.pieces; tokens_are = x.tokens_are; rooted = begins_root x.pieces r x.rooted },
 )
 
--- without a token nothing goes on but behind the root
+-- without a token nothing goes on but after the root
 empty_root : (c : Pieces) (r : Reading) → [] ≡ tokens_of c → BeginsWithRoot c r → ⊥
 empty_root Nothing r is h = h
 empty_root (piece.Comment after) r is h = cc
@@ -285,8 +288,8 @@ some_tokens (x ∷ xs) us t e = cc
 
 pub no_tokens : (fs : List OpenElement) (r : Reading) → GoesOn (Within fs) [] r → ⊥
 no_tokens [] r x = empty_root x.pieces r x.tokens_are x.rooted
-no_tokens (f ∷ []) r x = some_tokens (tokens_of x.inside) x.behind (End (written_name f)) x.tokens_are
-no_tokens (f ∷ (g ∷ gs)) r x = some_tokens (tokens_of x.inside) x.behind (End (written_name f)) x.tokens_are
+no_tokens (f ∷ []) r x = some_tokens (tokens_of x.inside) x.rest (End (written_name f)) x.tokens_are
+no_tokens (f ∷ (g ∷ gs)) r x = some_tokens (tokens_of x.inside) x.rest (End (written_name f)) x.tokens_are
 
 pub after_root_ends : (root : Reading) → GoesOn (AfterRoot root) [] root
 after_root_ends root = record { after = Nothing; tokens_are = refl; margin = tt; same = refl }

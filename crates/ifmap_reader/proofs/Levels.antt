@@ -62,7 +62,7 @@ inner_deep g e d =
     let l = element_nests e in
     omega (arith, h, k, t, l)
 
--- behind an element that ended nothing is deeper than before
+-- after an element that ended nothing is deeper than before
 pub after_element_fits : (n : ℕ) (f : OpenElement) (fs : List OpenElement) (e : Element) (d : List Declared) → Closes f [] e d → levels (f ∷ fs) ≤ n → so_deep (after_element fs e d) ≤ n
 after_element_fits n f [] e d c fits = let h = closed_nests f e d c in omega (arith, h, fits)
 after_element_fits n f (g ∷ gs) e d c fits =
@@ -86,7 +86,7 @@ closing_deep f [] ts r x =
 closing_deep f (g ∷ gs) ts r x =
     let h = children_deep f x.items x.element x.declared x.closes in
     let k = inner_deep g x.element x.declared in
-    let l = closing_deep (with_inner g x.element x.declared) gs x.behind r x.goes_on in
+    let l = closing_deep (with_inner g x.element x.declared) gs x.rest r x.goes_on in
     omega (arith, h, k, l)
 
 -- what goes on nests at least as deep as what has been read

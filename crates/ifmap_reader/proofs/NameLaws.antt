@@ -63,7 +63,7 @@ onwards_end (t ∷ ts) (suc i) l = onwards_end ts i (omega arith)
 pub onwards_all : (ts : List Attribute) (i : ℕ) → length ts ≤ i → Onwards ts i → AllDiffer (names ts)
 onwards_all ts i l at = at.1 (onwards_end ts i l)
 
--- the slice behind an index
+-- the slice after an index
 pub behind_is : (ts : List Attribute) (n : ℕ) → take (length ts - n) (drop n ts) ≡ drop n ts
 behind_is ts n = take_all (length ts - n) (drop n ts) (omega (arith, length-drop n ts))
 

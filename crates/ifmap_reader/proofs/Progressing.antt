@@ -1,4 +1,7 @@
 -- How far a reader has come.
+-- `At` says where a reader is: which tokens it has taken, that any document is those and what goes on from there, and that any spelling
+-- goes on with what is left. It holds at the start (`at_start`), and one more token keeps it (`at_next`). From it follow the answers:
+-- where a token is refused, opens a level too many or is none, and at the end of the input; the last module says so of the code's offset.
 use Rattle.std.proofs.Common.{◌≡◌, ◌≢◌, ℕ, ◌+◌, ◌-◌, ◌<◌, ◌≤◌, Bool, List, [], ◌∷◌, ◌++◌, length, reverse, drop, take, refl, ap, sym, ◌∙◌, subst, append_assoc, arith, length-drop, drop-drop, ◌⊎◌, inl, inr, cond}
 use Rattle.std.specs.Prelude.{◌↔◌, count_by, Err, Result}
 use Rattle.std.proofs.lemmas.List.{append-nil, take_all}

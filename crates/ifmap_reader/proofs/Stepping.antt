@@ -1,4 +1,7 @@
 -- What one more token makes of where a reader stands.
+-- For each place and token one lemma that the token leads to the new place (`Leads`), and one that it is refused. What documents it goes
+-- on to comes from `Goings`; levels, counts and links are sums. The lemmas that end in `_step` say the same of the code's list of open
+-- elements, whose last is the innermost.
 use Rattle.std.proofs.Common.{◌≡◌, ℕ, ◌+◌, ◌<◌, ◌≤◌, Bool, true, false, max, List, [], ◌∷◌, ◌++◌, length, reverse, refl, ap, sym, ◌∙◌, subst, arith, inl, inr}
 use Rattle.std.specs.Prelude.{Ok, Err, Result}
 use Rattle.std.proofs.lemmas.List.{length-reverse}
@@ -184,7 +187,7 @@ empty_refused depth fs tag NotAllowed h = no_empty fs tag h
 empty_refused depth fs tag TooDeep h = absurd h
 empty_refused depth fs tag NoMemory h = tt
 
--- behind the root
+-- after the root
 pub margin_leads : (depth : ℕ) (root : Reading) (t : Token) → is_margin t ≡ true → Leads depth (AfterRoot root) t (AfterRoot root)
 margin_leads depth root Comment m = still depth (AfterRoot root) Comment (AfterRoot root) (after_root_comment root) refl refl refl refl (λ o. o) (λ l. l)
 margin_leads depth root (Characters true text) m = still depth (AfterRoot root) (Characters true text) (AfterRoot root) (after_root_blank root text) refl refl refl refl (λ o. o) (λ l. l)

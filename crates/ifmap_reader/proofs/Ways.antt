@@ -40,7 +40,7 @@ some_closing f [] =
         record { root = end.0; declared = end.1.0 },
         record {
           inside = Nothing;
-          behind = [];
+          rest = [];
           items = [];
           element = end.0;
           declared = end.1.0;
@@ -57,7 +57,7 @@ some_closing f (g ∷ gs) =
       End (written_name f) ∷ outer.0,
       (
         outer.1.0,
-        record { inside = Nothing; behind = outer.0; items = []; element = end.0; declared = end.1.0; tokens_are = refl; means = refl; closes = end.1.1; goes_on = outer.1.1 },
+        record { inside = Nothing; rest = outer.0; items = []; element = end.0; declared = end.1.0; tokens_are = refl; means = refl; closes = end.1.1; goes_on = outer.1.1 },
       ),
     )
 

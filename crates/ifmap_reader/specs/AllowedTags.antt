@@ -1,5 +1,5 @@
 -- What a tag opens.
-use Rattle.std.specs.Prelude.{◌≡◌, ℕ, List, [], ◌∷◌, ◌++◌, map, Option, Some, None, Result, Ok, Err}
+use Rattle.std.specs.Prelude.{◌≡◌, ◌≢◌, ℕ, List, [], ◌∷◌, ◌++◌, filter, is_none, map, reverse, Option, Some, None, Result, Ok, Err}
 use Rattle.std.proofs.Common.{Bor}
 use Rattle.std.specs.List.{AllByRecursion, filter_map}
 use Rattle.ifmap_elem.specs.Scopes.{Scope, Binding, IsBinding, AllDiffer, IsAttribute, AreAttributes, NamesElement, binding_of, bindings, bound}
@@ -67,3 +67,15 @@ TagAnswer outer tag (Ok f) = OpensElement (scope_of outer) tag f × Reaches f.bi
 TagAnswer outer tag (Err NotAllowed) = (name : Name) (attributes : List Attribute) → NamesElement (scope_of outer) tag name attributes → ⊥
 TagAnswer outer tag (Err TooDeep) = ⊥
 TagAnswer outer tag (Err NoMemory) = Unit {0}
+
+-- what is bound within a tag with these bindings, in some open elements, the innermost last
+abbrev pub scope_inside : List Binding → List OpenElement → Scope
+scope_inside bindings open_elements = bindings ++ scope_of (reverse open_elements)
+
+-- the assignments that bind no prefix
+abbrev pub plain : List Assignment → List Assignment
+plain assignments = filter (λ a. is_none (binding_of a)) assignments
+
+-- no attribute has the name
+abbrev pub LacksName : Name → List Attribute → Type 0
+LacksName name attributes = AllByRecursion (λ n. name ≢ n) (map (λ t. t.name) attributes)

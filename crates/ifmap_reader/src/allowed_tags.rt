@@ -1,8 +1,8 @@
 //! Whether a tag is allowed, and the element that it opens.
-ghost use Rattle.std.specs.Prelude.{◌≡◌, ◌++◌, reverse, filter, is_none, IfOk};
-ghost use Rattle.ifmap_elem.specs.Scopes.{binding_of, bound, root_scope};
-ghost use Rattle.ifmap_reader.specs.OpenElements.{AreLinked, Reaches, scope_of};
-ghost use Rattle.ifmap_reader.specs.AllowedTags.{ArePlain, IsGiven, TagAnswer};
+ghost use Rattle.std.specs.Prelude.{◌≡◌, reverse, IfOk};
+ghost use Rattle.ifmap_elem.specs.Scopes.{bound, root_scope};
+ghost use Rattle.ifmap_reader.specs.OpenElements.{AreLinked, Reaches};
+ghost use Rattle.ifmap_reader.specs.AllowedTags.{ArePlain, IsGiven, TagAnswer, plain, scope_inside};
 
 use crate::bindings::{Bindings, XML, XML_SPACE, bindings_of, bound_prefix};
 use crate::differing::have_other_names;
@@ -12,7 +12,7 @@ use ifmap_elem::tokens::{Assignment, Tag};
 use ifmap_elem::{Attribute, Copied, Many, Name, Text};
 use std::alloc::{AllocError as NoMemory, Global};
 
-/// The element that a tag opens within the open elements, the innermost last.
+// The element that a tag opens within the open elements, the innermost last.
 pub(crate) fn open_element(
     alloc: Global,
     open_elements: &[OpenElement],
@@ -46,8 +46,8 @@ pub(crate) fn open_element(
     })
 }
 
-/// How many open elements stand up to the innermost that binds a prefix, where one with these bindings
-/// is opened within those.
+// How many open elements stand up to the innermost that binds a prefix, where one with these bindings
+// is opened within those.
 fn innermost_declaring(bindings: &Bindings, open_elements: &[OpenElement]) -> usize
     requires { AreLinked (reverse open_elements.now) }
     ensures { Reaches bindings.now result (reverse open_elements.now) }
@@ -62,7 +62,7 @@ fn innermost_declaring(bindings: &Bindings, open_elements: &[OpenElement]) -> us
     open_elements[count - 1].declaring
 }
 
-/// What a prefix is bound to within a tag with these bindings.
+// What a prefix is bound to within a tag with these bindings.
 fn space_of(
     alloc: Global,
     bindings: &Bindings,
@@ -70,7 +70,7 @@ fn space_of(
     prefix: &Text,
 ) -> Result<Option<Text>, NoMemory>
     requires { AreLinked (reverse open_elements.now) }
-    ensures { IfOk result (λ space. space ≡ bound (bindings.now ++ scope_of (reverse open_elements.now)) prefix.now) }
+    ensures { IfOk result (λ space. space ≡ bound (scope_inside bindings.now open_elements.now) prefix.now) }
 {
     if let Some(space) = bindings.space_of(prefix) {
         return Ok(Some(space.copy(alloc)?));
@@ -90,7 +90,7 @@ fn space_of(
     root_space_of(alloc, prefix)
 }
 
-/// What a prefix is bound to where no tag binds it.
+// What a prefix is bound to where no tag binds it.
 fn root_space_of(alloc: Global, prefix: &Text) -> Result<Option<Text>, NoMemory>
     ensures { IfOk result (λ space. space ≡ bound root_scope prefix.now) }
 {
@@ -103,7 +103,7 @@ fn root_space_of(alloc: Global, prefix: &Text) -> Result<Option<Text>, NoMemory>
     Ok(None)
 }
 
-/// The attributes that the assignments of a tag give.
+// The attributes that the assignments of a tag give.
 fn attributes_of(
     alloc: Global,
     bindings: &Bindings,
@@ -111,7 +111,7 @@ fn attributes_of(
     assignments: Many<Assignment>,
 ) -> Result<Many<Attribute>, Refusal>
     requires { AreLinked (reverse open_elements.now) }
-    ensures { ArePlain (bindings.now ++ scope_of (reverse open_elements.now)) (filter (λ a. is_none (binding_of a)) assignments) result }
+    ensures { ArePlain (scope_inside bindings.now open_elements.now) (plain assignments) result }
 {
     let Many(mut left) = assignments;
     let mut made = Vec::with_capacity(alloc, left.len())?;
@@ -125,7 +125,7 @@ fn attributes_of(
     Ok(Many(made))
 }
 
-/// The attribute that an assignment gives.
+// The attribute that an assignment gives.
 fn attribute_of(
     alloc: Global,
     bindings: &Bindings,
@@ -133,7 +133,7 @@ fn attribute_of(
     assignment: Assignment,
 ) -> Result<Attribute, Refusal>
     requires { AreLinked (reverse open_elements.now) }
-    ensures { IsGiven (bindings.now ++ scope_of (reverse open_elements.now)) assignment result }
+    ensures { IsGiven (scope_inside bindings.now open_elements.now) assignment result }
 {
     let Assignment { name, value } = assignment;
     let local = name.local;

@@ -10,34 +10,34 @@ use ifmap_elem::tokens::Qualified;
 use ifmap_elem::{Attribute, Child, Declared, Element, Equals, Many, Name, Text};
 use std::alloc::{AllocError as NoMemory, Global};
 
-/// An element that is open.
+// An element that is open.
 #[derive(Drop)]
 pub(crate) struct OpenElement {
-    /// The prefix of its name, as it is written.
+    // The prefix of its name, as it is written.
     pub prefix: Text,
     pub name: Name,
     pub attributes: Many<Attribute>,
     pub bindings: Bindings,
-    /// How many of the open elements, from the root on, stand up to the innermost that binds a prefix,
-    /// this one among them: what binds in it is bound by these.
+    // How many of the open elements, from the root on, stand up to the innermost that binds a prefix,
+    // this one among them: what binds in it is bound by these.
     pub declaring: usize,
-    /// The children that are kept, up to the last element among them.
+    // The children that are kept, up to the last element among them.
     pub children: Many<Child>,
-    /// The text behind these.
+    // The text after these.
     pub text: Text,
-    /// The declarations in the children, with their paths from this element on.
+    // The declarations in the children, with their paths from this element on.
     pub below: Many<Declared>,
 }
 
 impl OpenElement {
-    /// Whether an end tag of this name ends the element.
+    // Whether an end tag of this name ends the element.
     pub(crate) fn is_named(&self, name: &Qualified) -> bool
         ensures { IsTrue result ↔ (name.now ≡ written_name self.now) }
     {
         self.prefix.equals(&name.prefix) && self.name.local.equals(&name.local)
     }
 
-    /// With more text behind its children.
+    // With more text after its children.
     pub(crate) fn with_characters(self, words: Text) -> Result<OpenElement, NoMemory>
         ensures { IfOk result (λ made. made ≡ with_characters self words) }
     {
@@ -46,7 +46,7 @@ impl OpenElement {
         Ok(element)
     }
 
-    /// With an element as one more child, and the declarations in it.
+    // With an element as one more child, and the declarations in it.
     pub(crate) fn with_inner(
         self,
         alloc: Global,
@@ -81,7 +81,7 @@ impl OpenElement {
         })
     }
 
-    /// The element, at its end, and the declarations in it.
+    // The element, at its end, and the declarations in it.
     pub(crate) fn close(self) -> Result<(Element, Many<Declared>), NoMemory>
         ensures { IfOk result (λ closed. Closes self [] closed.0 closed.1) }
     {
@@ -118,7 +118,7 @@ fn joined(text: Text, more: Text) -> Result<Text, NoMemory>
     Ok(Text(bytes))
 }
 
-/// With a text behind them, where it is kept.
+// With a text after them, where it is kept.
 fn with_text(children: Many<Child>, beside: bool, text: Text) -> Result<Many<Child>, NoMemory>
     ensures { IfOk result (λ made. made ≡ children ++ text_child beside text) }
 {
@@ -129,7 +129,7 @@ fn with_text(children: Many<Child>, beside: bool, text: Text) -> Result<Many<Chi
     Ok(made)
 }
 
-/// Whether a text is a child: beside an element it is none where it is white space alone.
+// Whether a text is a child: beside an element it is none where it is white space alone.
 fn is_kept_text(beside: bool, text: &[u8]) -> bool
     ensures { result ≡ is_child_text beside text.now }
 {
@@ -140,15 +140,15 @@ fn is_kept_text(beside: bool, text: &[u8]) -> bool
     }
 }
 
-/// Whether a text is white space alone.
+// Whether a text is white space alone.
 fn is_blank(text: &[u8]) -> bool
     ensures { result ≡ list_all is_white text.now }
 {
     text.iter().all(|b| *b == b' ' || *b == b'\t' || *b == b'\r' || *b == b'\n')
 }
 
-/// Puts a child behind the others. The first takes room for itself alone, since most elements hold
-/// one text and nothing else.
+// Puts a child after the others. The first takes room for itself alone, since most elements hold
+// one text and nothing else.
 fn with_child(children: Many<Child>, child: Child) -> Result<Many<Child>, NoMemory>
     ensures { IfOk result (λ made. made ≡ children ++ child ∷ []) }
 {
@@ -169,7 +169,7 @@ fn appended(declared: Many<Declared>, more: Many<Declared>) -> Result<Many<Decla
     Ok(Many(members))
 }
 
-/// With the declarations in the child at this index.
+// With the declarations in the child at this index.
 fn with_below(
     below: Many<Declared>,
     index: usize,
@@ -185,7 +185,7 @@ fn with_below(
     Ok(Many(members))
 }
 
-/// A declaration as the parent sees it. An index beyond 32 bits is more than memory holds.
+// A declaration as the parent sees it. An index beyond 32 bits is more than memory holds.
 fn raised(index: usize, row: Declared) -> Result<Declared, NoMemory>
     ensures { IfOk result (λ made. made ≡ from_above index row) }
 {

@@ -1,7 +1,7 @@
 //! Where a reader stands, and what one more token makes of it.
-ghost use Rattle.std.specs.Prelude.{◌≡◌, ℕ, reverse, IfOk};
+ghost use Rattle.std.specs.Prelude.{◌≡◌, reverse, IfOk};
 ghost use Rattle.ifmap_reader.specs.OpenElements.{AreLinked};
-ghost use Rattle.ifmap_reader.specs.Progress.{Within, AfterRoot, IsCharacterData, IsLinked, TokenAnswer, after_element, is_margin, where_is};
+ghost use Rattle.ifmap_reader.specs.Progress.{AfterRoot, EndAnswer, IsAfterElement, IsLinked, TextAnswer, TokenAnswer, Within, is_margin, where_is};
 ghost use Rattle.ifmap_elem.specs.declared.tokens.Token.{Token};
 
 use crate::allowed_tags::open_element;
@@ -13,15 +13,15 @@ use std::alloc::{AllocError as NoMemory, Global};
 
 #[derive(Drop)]
 pub(crate) enum Standing {
-    /// At the start, where a declaration may stand.
+    // At the start, where a declaration may stand.
     Start,
-    /// Within the elements that are open, the innermost last; before the root where none is.
+    // Within the elements that are open, the innermost last; before the root where none is.
     Open(Many<OpenElement>),
-    /// After the root.
+    // After the root.
     Done(Reading),
 }
 
-/// Where the reader stands behind one more token.
+// Where the reader stands after one more token.
 pub(crate) fn take_token(
     alloc: Global,
     depth: u32,
@@ -50,7 +50,7 @@ fn take_after_root(depth: u32, reading: Reading, token: Token) -> Result<Standin
     Ok(Standing::Done(reading))
 }
 
-/// Whether a token may stand beside the root.
+// Whether a token may stand beside the root.
 fn is_margin(token: &Token) -> bool
     ensures { result ≡ is_margin token.now }
 {
@@ -80,9 +80,9 @@ fn take_inside(
     }
 }
 
-/// After a text. Outside the root it may be white space alone in its own bytes.
+// After a text. Outside the root it may be white space alone in its own bytes.
 fn take_text(open_elements: Many<OpenElement>, blank: bool, text: Text) -> Result<Standing, Refusal>
-    ensures { (depth : ℕ) → (t : Token) → IsCharacterData blank text t → TokenAnswer depth (Within (reverse open_elements)) t result }
+    ensures { TextAnswer open_elements blank text result }
 {
     let Many(mut open_elements) = open_elements;
     let Some(innermost) = open_elements.pop() else {
@@ -136,7 +136,7 @@ fn take_end(
     open_elements: Many<OpenElement>,
     name: Qualified,
 ) -> Result<Standing, Refusal>
-    ensures { (depth : ℕ) → TokenAnswer depth (Within (reverse open_elements)) (Token.End name) result }
+    ensures { EndAnswer open_elements name result }
 {
     let Many(mut open_elements) = open_elements;
     let Some(innermost) = open_elements.pop() else {
@@ -149,14 +149,14 @@ fn take_end(
     Ok(with_element(alloc, open_elements, element, declared)?)
 }
 
-/// After an element that ended: it is a child of the innermost that is still open, or the root.
+// After an element that ended: it is a child of the innermost that is still open, or the root.
 fn with_element(
     alloc: Global,
     open_elements: Vec<OpenElement>,
     element: Element,
     declared: Many<Declared>,
 ) -> Result<Standing, NoMemory>
-    ensures { IfOk result (λ new. where_is new ≡ after_element (reverse open_elements.items) element declared) }
+    ensures { IfOk result (λ new. IsAfterElement open_elements.items element declared new) }
 {
     let mut open_elements = open_elements;
     let Some(parent) = open_elements.pop() else {

@@ -1,7 +1,8 @@
 use Rattle.std.proofs.Common.{◌++◌, reverse}
 use Rattle.std.proofs.lemmas.Result.{err_from_is_err_and}
 use Rattle.ifmap_reader.specs.OpenElements.{scope_of}
-use Rattle.ifmap_reader.proofs.Attributing.{attributing_first, attribute_added, binding_left, attribute_refused, all_given, plain, told_some, told_none}
+use Rattle.ifmap_reader.proofs.Attributing.{attributing_first, attribute_added, binding_left, attribute_refused, all_given, told_some, told_none}
+use Rattle.ifmap_reader.specs.AllowedTags.{plain}
 use Rattle.ifmap_reader.proofs.Lasts.{none_was}
 use Rattle.ifmap_reader.proofs.allowed_tags.attributes_of.Goals as goal
 

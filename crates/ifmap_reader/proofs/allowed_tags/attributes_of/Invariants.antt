@@ -1,6 +1,7 @@
 use Rattle.std.proofs.Common.{◌++◌, reverse, vec_len}
 use Rattle.ifmap_reader.specs.OpenElements.{scope_of}
-use Rattle.ifmap_reader.proofs.Attributing.{Attributing, plain}
+use Rattle.ifmap_reader.proofs.Attributing.{Attributing}
+use Rattle.ifmap_reader.specs.AllowedTags.{plain}
 use Rattle.ifmap_reader.proofs.allowed_tags.attributes_of.Given as goal
 
 abbrev pub invariant-loop-assignment : goal.invariant-loop-assignment
