@@ -10,5 +10,6 @@ mod QuoteLaws
 pub mod RunLaws
 pub mod SettingLaws
 pub mod SplitLaws
+pub mod Tables
 pub mod TokenLaws
 pub mod WordLaws

@@ -38,10 +38,33 @@ fn name_len(bytes: &[u8]) -> usize
     bytes.iter().take_while(|byte| may_be_named(**byte)).count()
 }
 
+// Each byte that a name may have at its own place, `~` for one of a character beyond ASCII, and a comma
+// for any other.
+static NAME_BYTES: [u8; 256] = *b"\
+    ,,,,,,,,,,,,,,,,,,,,,,,,,,,,,,,,\
+    ,,,,,,,,,,,,,-.,0123456789:,,,,,\
+    ,ABCDEFGHIJKLMNOPQRSTUVWXYZ,,,,_\
+    ,abcdefghijklmnopqrstuvwxyz,,,,,\
+    ~~~~~~~~~~~~~~~~~~~~~~~~~~~~~~~~\
+    ~~~~~~~~~~~~~~~~~~~~~~~~~~~~~~~~\
+    ~~~~~~~~~~~~~~~~~~~~~~~~~~~~~~~~\
+    ~~~~~~~~~~~~~~~~~~~~~~~~~~~~~~~~";
+
+// Each byte that stands for a character of a name part, and a comma for any other.
+static PART_BYTES: [u8; 256] = *b"\
+    ,,,,,,,,,,,,,,,,,,,,,,,,,,,,,,,,\
+    ,,,,,,,,,,,,,-.,0123456789,,,,,,\
+    ,ABCDEFGHIJKLMNOPQRSTUVWXYZ,,,,_\
+    ,abcdefghijklmnopqrstuvwxyz,,,,,\
+    ,,,,,,,,,,,,,,,,,,,,,,,,,,,,,,,,\
+    ,,,,,,,,,,,,,,,,,,,,,,,,,,,,,,,,\
+    ,,,,,,,,,,,,,,,,,,,,,,,,,,,,,,,,\
+    ,,,,,,,,,,,,,,,,,,,,,,,,,,,,,,,,";
+
 fn may_be_named(byte: u8) -> bool
     ensures { result ≡ is_name_byte byte }
 {
-    byte == b':' || byte >= 128 || is_inner(byte as char)
+    NAME_BYTES[byte as usize] != b','
 }
 
 // The name that is written so.
@@ -114,7 +137,7 @@ fn is_ascii_first(byte: u8) -> bool
 fn is_ascii_inner(byte: u8) -> bool
     ensures { result ≡ stands_in_ascii byte }
 {
-    byte < 128 && is_inner(byte as char)
+    PART_BYTES[byte as usize] != b','
 }
 
 fn is_name_part(text: &str) -> bool
