@@ -10,9 +10,9 @@ use Rattle.ifmap_elem.specs.declared.elements.Element.{Element, fold-Element}
 use Rattle.ifmap_elem.specs.declared.elements.Child.TheOpen.{Child-F, Element-F}
 use Rattle.ifmap_elem.specs.declared.readings.Declared.{Declared}
 use Rattle.ifmap_elem.specs.declared.readings.Reading.{Reading}
-use Rattle.ifmap_elem.specs.Arranged.{arranged}
+use Rattle.ifmap_elem.specs.Arranged.{arrange}
 use Rattle.ifmap_elem.specs.Escapes.{text_bytes, value_bytes}
-use Rattle.ifmap_elem.specs.Namespaces.{namespaces, prefix_rows, name_prefixes}
+use Rattle.ifmap_elem.specs.Namespaces.{namespaces, numbered_prefixes, name_prefixes}
 
 -- a local name behind the prefix, if there is one
 abbrev pub after_prefix : Option (List ℕ) → List ℕ → List ℕ
@@ -31,15 +31,15 @@ abbrev pub attribute_bytes : List (List ℕ × List ℕ) → Attribute → List 
 attribute_bytes prefixes a = codes " " ++ (printed_name prefixes a.name ++ (codes "=\"" ++ (value_bytes a.value ++ codes "\"")))
 
 -- what follows the attributes: `/>`, or the children as they are printed and an end tag
-abbrev pub content_bytes : List ℕ → List (List ℕ) → List ℕ
-content_bytes name [] = codes "/>"
-content_bytes name (first ∷ others) = codes ">" ++ (concat (first ∷ others) ++ (codes "</" ++ (name ++ codes ">")))
+abbrev pub after_attributes_bytes : List ℕ → List (List ℕ) → List ℕ
+after_attributes_bytes name [] = codes "/>"
+after_attributes_bytes name (first ∷ others) = codes ">" ++ (concat (first ∷ others) ++ (codes "</" ++ (name ++ codes ">")))
 
 -- an element of this name and these attributes, with these declarations, whose children are printed already
-abbrev pub tagged : List (List ℕ × List ℕ) → List (List ℕ × List ℕ) → Name → List Attribute → List (List ℕ) → List ℕ
-tagged prefixes declared name attributes children =
+abbrev pub element_of_parts : List (List ℕ × List ℕ) → List (List ℕ × List ℕ) → Name → List Attribute → List (List ℕ) → List ℕ
+element_of_parts prefixes declared name attributes children =
     let written = printed_name prefixes name in
-    codes "<" ++ (written ++ (flat_map declaration_bytes declared ++ (flat_map (attribute_bytes prefixes) attributes ++ content_bytes written children)))
+    codes "<" ++ (written ++ (flat_map declaration_bytes declared ++ (flat_map (attribute_bytes prefixes) attributes ++ after_attributes_bytes written children)))
 
 module _ (prefixes : List (List ℕ × List ℕ)) where
   abbrev pub child_piece : Child-F (List ℕ) (List ℕ) → List ℕ
@@ -48,7 +48,7 @@ module _ (prefixes : List (List ℕ × List ℕ)) where
 
   -- of an element below the root, which carries no declarations
   abbrev pub element_piece : Element-F (List ℕ) (List ℕ) → List ℕ
-  element_piece e = tagged prefixes [] e.name e.attributes e.children
+  element_piece e = element_of_parts prefixes [] e.name e.attributes e.children
 
   abbrev pub child_bytes : Child → List ℕ
   child_bytes = fold-Child (List ℕ) (List ℕ) child_piece element_piece
@@ -60,11 +60,11 @@ module _ (prefixes : List (List ℕ × List ℕ)) where
 abbrev pub root_bytes : List (List ℕ × List ℕ) → Element → List ℕ
 root_bytes given e =
     let spaces = namespaces e in
-    tagged (name_prefixes spaces) (prefix_rows (codes "n") 1 spaces ++ given) e.name e.attributes (map (child_bytes (name_prefixes spaces)) e.children)
+    element_of_parts (name_prefixes spaces) (numbered_prefixes (codes "n") 1 spaces ++ given) e.name e.attributes (map (child_bytes (name_prefixes spaces)) e.children)
 
 -- the canonical bytes, with ` xmlns:f1=".."`, ` xmlns:f2=".."` and so on for the given namespaces behind the declarations
 abbrev pub written_bytes : Element → List (List ℕ) → List ℕ
-written_bytes e spaces = root_bytes (prefix_rows (codes "f") 1 spaces) (arranged e)
+written_bytes e spaces = root_bytes (numbered_prefixes (codes "f") 1 spaces) (arrange e)
 
 -- the canonical bytes
 abbrev pub canonical_bytes : Element → List ℕ
@@ -77,8 +77,8 @@ root_declarations rows = map (λ row. record { path = []; prefix = row.1; space 
 -- what these bytes mean where they are read: the element arranged, and the declarations of its root
 abbrev pub written_reading : Element → List (List ℕ) → Reading
 written_reading e spaces =
-    let rows = prefix_rows (codes "n") 1 (namespaces (arranged e)) ++ prefix_rows (codes "f") 1 spaces in
-    record { root = arranged e; declared = root_declarations rows }
+    let rows = numbered_prefixes (codes "n") 1 (namespaces (arrange e)) ++ numbered_prefixes (codes "f") 1 spaces in
+    record { root = arrange e; declared = root_declarations rows }
 
 -- what the canonical bytes mean
 abbrev pub canonical_reading : Element → Reading

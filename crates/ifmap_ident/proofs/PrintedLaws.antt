@@ -5,7 +5,7 @@ use Rattle.std.specs.List.{filter, flat_map}
 use Rattle.ifmap_elem.specs.declared.elements.Attribute.{Attribute}
 use Rattle.ifmap_elem.specs.declared.elements.Child.{Child}
 use Rattle.ifmap_elem.specs.declared.elements.Element.{Element}
-use Rattle.ifmap_elem.specs.Arranged.{child_arranged, element_arranged, sorted}
+use Rattle.ifmap_elem.specs.Arranged.{child_arranged, element_arranged, sort_attributes}
 use Rattle.ifmap_elem.specs.Building.{bare_attribute, bare_element, bare_name}
 use Rattle.ifmap_elem.specs.Canonical.{attribute_bytes, canonical_bytes, root_bytes, tagged}
 use Rattle.ifmap_elem.specs.Escapes.{value_bytes}
@@ -43,7 +43,8 @@ parts_are [] = refl
 parts_are (part ∷ parts) = ap (λ rest. part_bytes part ++ rest) (parts_are parts)
 
 -- such an element prints as a tag with its attributes in order
-tag_of : (local : List ℕ) (attributes : List Attribute) (parts : List (List ℕ × List ℕ)) → sorted attributes ≡ map attribute_of parts
+tag_of : (local : List ℕ) (attributes : List Attribute) (parts : List (List ℕ × List ℕ))
+    → sort_attributes attributes ≡ map attribute_of parts
     → canonical_bytes (element_of local attributes) ≡ codes "<" ++ (local ++ (flat_map part_bytes parts ++ codes "/>"))
 tag_of local attributes parts e =
     ap (root_bytes []) (at_element Child Element child_arranged element_arranged (element_of local attributes) ∙ ap (element_of local) e)

@@ -10,7 +10,7 @@ use Rattle.std.proofs.lemmas.Map.Views.{any-filter_same}
 use Rattle.std.proofs.lemmas.Slice.Eq.{bytes_eq-Decides}
 use Rattle.std.specs.List.{filter, list_any}
 use Rattle.std.specs.Str.{bytes_eq}
-use Rattle.ifmap_elem.specs.Arranged.{arranged, arranged_child, sorted}
+use Rattle.ifmap_elem.specs.Arranged.{arrange, arrange_child, sort_attributes}
 use Rattle.ifmap_elem.specs.Canonical.{root_bytes}
 use Rattle.ifmap_elem.specs.Namespaces.{prefix_rows}
 use Rattle.ifmap_elem.specs.declared.elements.Attribute.{Attribute}
@@ -26,8 +26,8 @@ use Rattle.ifmap_meta.proofs.Order.{filter_sorted}
 abbrev is_content : Attribute → Bool
 is_content a = not (is_stamp a)
 
-sorted_again : (xs : List Attribute) → sorted (sorted xs) ≡ sorted xs
-sorted_again xs = sym (one_order xs (sorted xs) (sorted_permutation xs))
+sorted_again : (xs : List Attribute) → sort_attributes (sort_attributes xs) ≡ sort_attributes xs
+sorted_again xs = sym (one_order xs (sort_attributes xs) (sorted_permutation xs))
 
 stamps_go : (publisher : List ℕ) (moment : ℕ) (xs : List Attribute)
     → without_stamps (without_stamps xs ++ stamps publisher moment) ≡ without_stamps xs
@@ -37,16 +37,17 @@ stamps_go publisher moment xs =
     ∙ filter_again is_content xs
 
 same_content : (publisher : List ℕ) (moment : ℕ) (xs : List Attribute)
-    → sorted (without_stamps (with_stamps publisher moment (without_stamps xs))) ≡ sorted (without_stamps xs)
+    → sort_attributes (without_stamps (with_stamps publisher moment (without_stamps xs))) ≡ sort_attributes (without_stamps xs)
 same_content publisher moment xs =
     let all = without_stamps xs ++ stamps publisher moment in
-    ap sorted (filter_sorted is_content all ∙ ap sorted (stamps_go publisher moment xs)) ∙ sorted_again (without_stamps xs)
+    ap sort_attributes (filter_sorted is_content all ∙ ap sort_attributes (stamps_go publisher moment xs))
+    ∙ sorted_again (without_stamps xs)
 
 arranged_content : (publisher : List ℕ) (moment : ℕ) (e : Element)
-    → arranged (content_of (stamp publisher moment e)) ≡ arranged (content_of e)
+    → arrange (content_of (stamp publisher moment e)) ≡ arrange (content_of e)
 arranged_content publisher moment e =
     arranged_is (content_of (stamp publisher moment e))
-    ∙ ap (λ attributes. record { name = e.name; attributes = attributes; children = map arranged_child e.children })
+    ∙ ap (λ attributes. record { name = e.name; attributes = attributes; children = map arrange_child e.children })
     (same_content publisher moment e.attributes)
     ∙ sym (arranged_is (content_of e))
 
@@ -70,7 +71,7 @@ pub cardinality_stays : (publisher : List ℕ) (moment : ℕ) (e : Element) → 
 cardinality_stays publisher moment e =
     let content = without_stamps e.attributes in
     let all = content ++ stamps publisher moment in
-    sym (list_any-IsPermutation is_single_value all (sorted all) (sorted_permutation all))
+    sym (list_any-IsPermutation is_single_value all (sort_attributes all) (sorted_permutation all))
     ∙ list_any-append is_single_value content (stamps publisher moment)
     ∙ or-false (list_any is_single_value content)
     ∙ any-filter_same is_single_value is_content true is_content_too e.attributes
@@ -88,5 +89,5 @@ pub stamps_stay : (publisher : List ℕ) (moment : ℕ) (e : Element)
 stamps_stay publisher moment e =
     let content = without_stamps e.attributes in
     filter_sorted is_stamp (content ++ stamps publisher moment)
-    ∙ ap sorted (filter-append is_stamp content (stamps publisher moment) ∙ ap
+    ∙ ap sort_attributes (filter-append is_stamp content (stamps publisher moment) ∙ ap
     (λ xs. xs ++ stamps publisher moment) (no_stamps e.attributes))

@@ -3,8 +3,8 @@ use Rattle.std.proofs.Common.{◌≡◌, ℕ, ◌<◌, ◌≤◌, List, length, 
 use Rattle.std.specs.Prelude.{Ok, Err, Result, IfOk}
 use Rattle.ifmap_elem.specs.declared.elements.Element.{Element}
 use Rattle.ifmap_elem.specs.declared.readings.Reading.{Reading}
-use Rattle.ifmap_elem.specs.Arranged.{arranged}
-use Rattle.ifmap_elem.specs.Canonical.{AreHeld, canonical_bytes}
+use Rattle.ifmap_elem.specs.Arranged.{arrange}
+use Rattle.ifmap_elem.specs.Canonical.{canonical_bytes, canonical_reading}
 use Rattle.ifmap_elem.specs.Fit.{IsFit}
 use Rattle.ifmap_elem.specs.Nesting.{nesting}
 use Rattle.ifmap_elem.specs.Places.{Deep, Stop}
@@ -79,9 +79,7 @@ module _ (bytes : List ℕ) (depth : ℕ) where
   gives (Err NoMemory) h r spells fits = tt
 
   -- canonical bytes are read back
-  pub canonical : (a : Result Reading ReadError) → IsRead bytes depth a → (element : Element) → IsFit element → nesting element ≤ depth → bytes ≡ canonical_bytes element → AreHeld bytes → GivesRoot a (arranged element)
-  canonical a h element fit fits is held =
-      let s = canonical_spelled element fit (subst AreHeld is held) in
-      let spells : Spells bytes s.0 = subst (λ (b : List ℕ). Spells b s.0) (sym is) s.2 in
-      let deep = ap nesting s.1 ∙ nesting_arranged element in
-      subst (λ (e : Element). GivesRoot a e) s.1 (gives a h s.0 spells (omega (arith, deep, fits)))
+  pub canonical : (a : Result Reading ReadError) → IsRead bytes depth a → (element : Element) → IsFit element → nesting element ≤ depth → bytes ≡ canonical_bytes element → GivesRoot a (arrange element)
+  canonical a h element fit fits is =
+      let spells : Spells bytes (canonical_reading element) = subst (λ (b : List ℕ). Spells b (canonical_reading element)) (sym is) (canonical_spelled element fit) in
+      gives a h (canonical_reading element) spells (omega (arith, nesting_arranged element, fits))

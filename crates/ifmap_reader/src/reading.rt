@@ -2,8 +2,8 @@
 ghost use Rattle.std.specs.Prelude.{◌≡◌, ◌<◌, ◌≤◌, ℕ, drop, length, IfOk};
 ghost use Rattle.ifmap_elem.specs.declared.elements.Element.{Element};
 ghost use Rattle.ifmap_elem.specs.declared.readings.Reading.{Reading};
-ghost use Rattle.ifmap_elem.specs.Arranged.{arranged};
-ghost use Rattle.ifmap_elem.specs.Canonical.{AreHeld, canonical_bytes};
+ghost use Rattle.ifmap_elem.specs.Arranged.{arrange};
+ghost use Rattle.ifmap_elem.specs.Canonical.{canonical_bytes};
 ghost use Rattle.ifmap_elem.specs.Fit.{IsFit};
 ghost use Rattle.ifmap_elem.specs.Nesting.{nesting};
 ghost use Rattle.ifmap_elem.specs.Places.{Deep, Stop};
@@ -30,7 +30,7 @@ pub fn read(alloc: Global, bytes: &[u8], depth: u32) -> Result<Reading, ReadErro
     ensures deep { OnTooDeep result (λ at. Deep bytes.now depth at) }
     ensures unreadable_within { OnUnreadable result (λ at. at ≤ length bytes.now) }
     ensures too_deep_within { OnTooDeep result (λ at. at ≤ length bytes.now) }
-    ensures canonical { (element : Element) → IsFit element → nesting element ≤ depth → bytes.now ≡ canonical_bytes element → AreHeld bytes.now → GivesRoot result (arranged element) }
+    ensures canonical { (element : Element) → IsFit element → nesting element ≤ depth → bytes.now ≡ canonical_bytes element → GivesRoot result (arrange element) }
 {
     tokens_read(alloc, bytes, depth)
 }

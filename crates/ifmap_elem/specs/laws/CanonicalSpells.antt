@@ -12,7 +12,7 @@ use Rattle.ifmap_elem.specs.declared.readings.Declared.{Declared}
 use Rattle.ifmap_elem.specs.declared.readings.Reading.{Reading}
 use Rattle.std.proofs.lemmas.Simd.{map-map}
 use Rattle.ifmap_elem.specs.Folds.{at_child_element, at_child_text, Each, by_children}
-use Rattle.ifmap_elem.specs.Arranged.{arranged, IsSame}
+use Rattle.ifmap_elem.specs.Arranged.{arrange, IsSame}
 use Rattle.ifmap_elem.specs.Canonical.{root_bytes, written_bytes, canonical_bytes, root_declarations, written_reading, canonical_reading}
 use Rattle.ifmap_elem.specs.Document.{tokens_of, declared_here}
 use Rattle.ifmap_elem.specs.Fit.{IsFit, IsFitAlone, IsFitAttribute, IsNamespace, IsDeclarable}
@@ -114,7 +114,7 @@ root_spelled e given fit can =
     (taken_spells e (root_bytes (rows_of 0x66 1 given) e) (declared_here (map row_binding (its_rows e given))) refl (root_taken e given fit can))
 
 pub written_spelled : (e : Element) (given : Texts) → IsFit e → AllByRecursion IsDeclarable given → Spells (written_bytes e given) (written_reading e given)
-written_spelled e given fit can = root_spelled (arranged e) given (fit_arranged e fit) can
+written_spelled e given fit can = root_spelled (arrange e) given (fit_arranged e fit) can
 
 pub canonical_spelled : (e : Element) → IsFit e → Spells (canonical_bytes e) (canonical_reading e)
 canonical_spelled e fit = written_spelled e [] fit tt

@@ -13,7 +13,8 @@ use Rattle.ifmap_lemmas.specs.Numerals.{numeral}
 use Rattle.std.specs.Ordering.{nat_cmp, is_eq}
 use Rattle.std.specs.Cmp.Lexicographic.{slice_cmp, texts_ties}
 use Rattle.std.proofs.lemmas.Cmp.{nat_list_eq_equiv}
-use Rattle.ifmap_elem.specs.Namespaces.{once_each, is_declared, declared_among, AddsSpaces, prefix_rows, name_prefixes}
+use Rattle.ifmap_elem.specs.Namespaces.{once_each, is_declared, declared_among, numbered_prefixes, name_prefixes}
+use Rattle.ifmap_elem.specs.printer.Pieces.{AddsSpaces}
 use Rattle.ifmap_elem.specs.Scopes.{xml_space}
 use Rattle.ifmap_lemmas.specs.Texts.{eq_tells, eq_itself}
 
@@ -86,7 +87,7 @@ adds_new xs s d new seen e =
     let k : among s (declared_among seen) ≡ false = ap (among s) (sym e) ∙ new in
     ap (λ l. l ++ s ∷ []) e ∙ sym (declared_among-push seen s d ∙ (rw k refl))
 
-pub is_some-prefix_rows : (letter : List ℕ) (n : ℕ) (s : List ℕ) (xs : Texts) → is_some (lookup (bytes_eq s) (prefix_rows letter n xs)) ≡ among s xs
+pub is_some-prefix_rows : (letter : List ℕ) (n : ℕ) (s : List ℕ) (xs : Texts) → is_some (lookup (bytes_eq s) (numbered_prefixes letter n xs)) ≡ among s xs
 is_some-prefix_rows letter n s [] = refl
 is_some-prefix_rows letter n s (x ∷ xs) = elim (cases_Bool (bytes_eq s x)) [
   | inl e ↦ rw e refl
@@ -120,11 +121,11 @@ adds_unprefixed xs ys s some none is =
         let off : bytes_eq s xml_space ≡ false = false_from_ne_true (bytes_eq s xml_space) (λ e. let h : true ≡ false = rw e at none in cc) in
         (off, sym (is_some-prefix_rows (codes "n") 1 s xs) ∙ (rw off at none))
 
-pub prefix_rows-push : (letter : List ℕ) (n : ℕ) (xs : Texts) (s : List ℕ) → prefix_rows letter n (xs ++ s ∷ []) ≡ prefix_rows letter n xs ++ (s, letter ++ numeral (n + length xs)) ∷ []
+pub prefix_rows-push : (letter : List ℕ) (n : ℕ) (xs : Texts) (s : List ℕ) → numbered_prefixes letter n (xs ++ s ∷ []) ≡ numbered_prefixes letter n xs ++ (s, letter ++ numeral (n + length xs)) ∷ []
 prefix_rows-push letter n [] s = let e : n ≡ n + length {A = List ℕ} [] = omega arith in ap (λ (k : ℕ). (s, letter ++ numeral k) ∷ []) e
 prefix_rows-push letter n (x ∷ xs) s =
     let e : n + 1 + length xs ≡ n + suc (length xs) = omega arith in
-    ap (λ l. (x, letter ++ numeral n) ∷ l) (prefix_rows-push letter (n + 1) xs s ∙ ap (λ (k : ℕ). prefix_rows letter (n + 1) xs ++ (s, letter ++ numeral k) ∷ []) e)
+    ap (λ l. (x, letter ++ numeral n) ∷ l) (prefix_rows-push letter (n + 1) xs s ∙ ap (λ (k : ℕ). numbered_prefixes letter (n + 1) xs ++ (s, letter ++ numeral k) ∷ []) e)
 
 abbrev Rows : Type 0
 Rows = List (List ℕ × List ℕ)

@@ -25,7 +25,7 @@ use Rattle.ifmap_elem.specs.Roots.{chained_nothing}
 use Rattle.ifmap_elem.specs.Escapes.{text_bytes}
 use Rattle.ifmap_elem.specs.Fit.{IsFit, IsFitAlone, IsFitAttribute, AreFitChildren, HasCharacters, IsNotBlank, AreApart, is_element}
 use Rattle.ifmap_elem.specs.Namespaces.{spaces_of, spaces_of_child, child_spaces, element_spaces}
-use Rattle.ifmap_elem.specs.Canonical.{printed_name, declaration_bytes, attribute_bytes, content_bytes, tagged, child_piece, element_piece, child_bytes, element_bytes}
+use Rattle.ifmap_elem.specs.Canonical.{printed_name, declaration_bytes, attribute_bytes, after_attributes_bytes, element_of_parts, child_piece, element_piece, child_bytes, element_bytes}
 use Rattle.ifmap_lemmas.specs.Numbers.{is_other}
 use Rattle.ifmap_lemmas.specs.Members.{all_of_test, all_both}
 use Rattle.ifmap_elem.specs.laws.PrintedTags.{Rows, row_binding, tag_of, qualified, Resolves, FitsIn, FitRow, to_both, tag_taken, end_taken, text_taken, bindings_are, names_element}
@@ -248,7 +248,7 @@ module _ (prefixes declared : Rows) (outer : Scope) (e : Element) (fit : IsFitAl
   }
 
   abbrev its_bytes : List Child → List ℕ
-  its_bytes cs = tagged prefixes declared e.name e.attributes (map (child_bytes prefixes) cs)
+  its_bytes cs = element_of_parts prefixes declared e.name e.attributes (map (child_bytes prefixes) cs)
 
   taken_by : (cs : List Child) → cs ≡ e.children → Each (ChildTaken prefixes within_it) cs → ElementTaken outer (its_bytes cs) e (declared_here (map row_binding declared))
   taken_by [] is each = record {
@@ -292,7 +292,7 @@ module _ (prefixes declared : Rows) (outer : Scope) (e : Element) (fit : IsFitAl
 
       seam : (rest : List ℕ) → its_bytes (c ∷ cs) ++ rest ≡ its_start (codes ">" ++ (flat_map (child_bytes prefixes) (c ∷ cs) ++ (codes "</" ++ (printed_name prefixes e.name ++ (codes ">" ++ rest)))))
       seam rest =
-          tag_seam (printed_name prefixes e.name) (flat_map declaration_bytes declared) (flat_map (attribute_bytes prefixes) e.attributes) (content_bytes (printed_name prefixes e.name) (map (child_bytes prefixes) (c ∷ cs))) rest
+          tag_seam (printed_name prefixes e.name) (flat_map declaration_bytes declared) (flat_map (attribute_bytes prefixes) e.attributes) (after_attributes_bytes (printed_name prefixes e.name) (map (child_bytes prefixes) (c ∷ cs))) rest
           ∙ ap its_start (content_seam (concat (map (child_bytes prefixes) (c ∷ cs))) (printed_name prefixes e.name) rest
           ∙ ap (λ f. codes ">" ++ (f ++ (codes "</" ++ (printed_name prefixes e.name ++ (codes ">" ++ rest))))) (concat_map (child_bytes prefixes) (c ∷ cs)))
 

@@ -17,7 +17,7 @@ use Rattle.ifmap_elem.specs.Names.{IsNamePart, is_name_start, is_name_character,
 use Rattle.ifmap_elem.specs.Scopes.{Scope, AllDiffer, IsBinding, bound, root_scope, xml_space}
 use Rattle.ifmap_elem.specs.Fit.{IsNamespace, IsDeclarable}
 use Rattle.ifmap_elem.specs.Canonical.{after_prefix}
-use Rattle.ifmap_elem.specs.Namespaces.{once_each, is_declared, declared_among, prefix_rows, name_prefixes}
+use Rattle.ifmap_elem.specs.Namespaces.{once_each, is_declared, declared_among, numbered_prefixes, name_prefixes}
 use Rattle.ifmap_elem.specs.laws.NameBytes.{part_is_some}
 use Rattle.ifmap_elem.specs.laws.NamespaceLaws.{among, among-others, is_some-prefix_rows}
 use Rattle.ifmap_lemmas.specs.Texts.{eq_tells, eq_itself, is_ascii}
@@ -81,7 +81,7 @@ label_some letter n e = cc
 -- what the rows bind
 
 abbrev pub rows_of : ℕ → ℕ → Texts → Rows
-rows_of letter n xs = prefix_rows (letter ∷ []) n xs
+rows_of letter n xs = numbered_prefixes (letter ∷ []) n xs
 
 abbrev pub scope_of : ℕ → ℕ → Texts → Scope → Scope
 scope_of letter n xs more = map row_binding (rows_of letter n xs) ++ more
