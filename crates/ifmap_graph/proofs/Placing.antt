@@ -1,8 +1,7 @@
 -- Putting in, taking out and finding, in lists that rise strictly.
-use Rattle.std.proofs.Common.{◌≡◌, refl, sym, ◌∙◌, ap, subst, ℕ, suc, zero, ◌+◌, ◌<◌, ◌≤◌, Bool, true, false, not, cond, List, [], ◌∷◌, ◌++◌, length, get_or, take, drop, Ordering, inl, inr, arith, Ok, Err, add-one, set}
-use Rattle.std.proofs.lemmas.Bool.{cases_Bool}
+use Rattle.std.proofs.Common.{◌≡◌, refl, sym, ◌∙◌, ap, subst, ℕ, suc, zero, ◌+◌, ◌<◌, ◌≤◌, Bool, true, false, not, List, [], ◌∷◌, ◌++◌, length, get_or, take, drop, Ordering, arith, Ok, Err, add-one, set}
 use Rattle.std.proofs.lemmas.Cmp.{alike_right}
-use Rattle.std.proofs.lemmas.List.Elements.{All-from_recursion, recursion_from_All}
+use Rattle.std.proofs.lemmas.List.Elements.{recursion_from_All}
 use Rattle.std.proofs.lemmas.List.Kept.{IsStrictlySortedBy-filter}
 use Rattle.std.proofs.lemmas.List.Sorted.{searchable_from_sorted}
 use Rattle.std.specs.Cmp.{IsEquivalence, IsTotalOrder}
@@ -56,20 +55,21 @@ module _ (X : Type 0) (E : X → X → Bool) (e : IsEquivalence E) where
       rw other (ap (λ t. x ∷ t) (remove_one a xs i apart.1 (omega arith) is))
 
 module _ (X : Type 0) (C : X → X → Ordering) (o : IsTotalOrder C) where
-  flipped : (a b : X) → C a b ≡ Less → C b a ≡ Greater
-  flipped a b e = o.antisymm b a ∙ ap ordering_reverse e
+  greater_of_less : (a b : X) → C a b ≡ Less → C b a ≡ Greater
+  greater_of_less a b e = o.antisymm b a ∙ ap ordering_reverse e
 
-  flipped_back : (a b : X) → C a b ≡ Greater → C b a ≡ Less
-  flipped_back a b e = o.antisymm b a ∙ ap ordering_reverse e
+  less_of_greater : (a b : X) → C a b ≡ Greater → C b a ≡ Less
+  less_of_greater a b e = o.antisymm b a ∙ ap ordering_reverse e
 
   -- all that follow one that is not less are greater
   greater_next : (a x : X) (xs : List X) → C x a ≡ Greater → AllByRecursion (λ y. C x y ≡ Less) xs
       → AllByRecursion (λ y. C y a ≡ Greater) xs
   greater_next a x xs h up = all_weaker (λ y. C x y ≡ Less) (λ y. C y a ≡ Greater)
-      (λ y l. flipped a y (o.trans a x y (flipped_back x a h) l)) xs up
+      (λ y l. greater_of_less a y (o.trans a x y (less_of_greater x a h) l)) xs up
 
   greater_after : (a x : X) (xs : List X) → C x a ≡ Equal → AllByRecursion (λ y. C x y ≡ Less) xs → AllByRecursion (λ y. C y a ≡ Greater) xs
-  greater_after a x xs h up = all_weaker (λ y. C x y ≡ Less) (λ y. C y a ≡ Greater) (λ y l. flipped a y (sym (o.congr x a y h) ∙ l)) xs up
+  greater_after a x xs h up = all_weaker (λ y. C x y ≡ Less) (λ y. C y a ≡ Greater)
+      (λ y l. greater_of_less a y (sym (o.congr x a y h) ∙ l)) xs up
 
   -- where all are greater, it goes in front
   put_front : (a : X) (xs : List X) → AllByRecursion (λ y. C y a ≡ Greater) xs → put C a xs ≡ a ∷ xs
@@ -113,7 +113,7 @@ module _ (X : Type 0) (C : X → X → Ordering) (o : IsTotalOrder C) where
       → is_lt (C (get_or xs (suc j) d) (get_or xs j d)) ≡ false
   unfolding IsStrictlySortedBy
   rises_next [] up j d lt = absurd (omega arith)
-  rises_next (x ∷ xs) up zero d lt = ap is_lt (flipped x (get_or xs 0 d) (all_at (λ z. C x z ≡ Less) xs 0 d up.0 (omega arith)))
+  rises_next (x ∷ xs) up zero d lt = ap is_lt (greater_of_less x (get_or xs 0 d) (all_at (λ z. C x z ≡ Less) xs 0 d up.0 (omega arith)))
   rises_next (x ∷ xs) up (suc j) d lt = rises_next xs up.1 j d (omega arith)
 
   rises : (xs : List X) → IsStrictlySortedBy C xs → IsSortedBy (λ a b. is_lt (C a b)) xs
@@ -144,7 +144,7 @@ module _ (X : Type 0) (C : X → X → Ordering) (o : IsTotalOrder C) where
       (IsStrictlySortedBy-filter C (λ y. is_lt (C y a)) xs up) (IsStrictlySortedBy-filter C (λ y. is_gt (C y a)) xs up)
       (all_weaker (λ y. is_lt (C y a) ≡ true) (λ y. C y a ≡ Less) (λ y h. is_less (C y a) h) _ (filter_passes (λ y. is_lt (C y a)) xs))
       (all_weaker (λ y. is_gt (C y a) ≡ true) (λ y. C a y ≡ Less)
-      (λ y h. flipped_back y a (is_greater (C y a) h)) _ (filter_passes (λ y. is_gt (C y a)) xs))
+      (λ y h. less_of_greater y a (is_greater (C y a) h)) _ (filter_passes (λ y. is_gt (C y a)) xs))
 
   module _ (E : X → X → Bool) (e : IsEquivalence E) (a : X) where
     -- with the first member less than, equal to or greater than the one that is put in

@@ -1,5 +1,5 @@
 -- The attachments on an item stand side by side.
-use Rattle.std.proofs.Common.{◌≡◌, ◌⊎◌, refl, sym, ◌∙◌, ap, subst, ℕ, ◌+◌, ◌-◌, ◌<◌, ◌≤◌, Bool, true, false, not, ◌&&◌, List, [], ◌∷◌, length, get_or, take, drop, Ordering, inl, inr, arith}
+use Rattle.std.proofs.Common.{◌≡◌, ◌⊎◌, refl, sym, ◌∙◌, ap, subst, ℕ, ◌+◌, ◌-◌, ◌<◌, ◌≤◌, Bool, true, false, not, List, [], ◌∷◌, length, get_or, take, drop, Ordering, inl, inr, arith}
 use Rattle.std.proofs.Math.Bool.{and-false}
 use Rattle.std.proofs.lemmas.Bool.{cases_lt, cases_eq}
 use Rattle.std.proofs.lemmas.Cmp.{alike_right}
@@ -8,7 +8,7 @@ use Rattle.std.proofs.lemmas.List.Elements.{AllWithin-more, recursion_from_All}
 use Rattle.std.proofs.lemmas.Map.Keys.{Less-from_sorted}
 use Rattle.std.specs.List.{AllWithin, remove}
 use Rattle.std.specs.List.Sorted.{IsPartitionPoint, IsPartitionedBy, IsStrictlySortedBy}
-use Rattle.std.specs.Ordering.{is_eq, is_le, is_lt, ordering_then}
+use Rattle.std.specs.Ordering.{is_le, is_lt}
 use Rattle.std.specs.declared.cmp.Ordering.TheVariants.{Less, Equal, Greater}
 use Rattle.ifmap_ident.specs.declared.items.Item.{Item}
 use Rattle.ifmap_ident.specs.Items.{item_order, same_item}
@@ -28,20 +28,20 @@ down_lt : (a b x : Item) → (item_order a b ≡ Less) ⊎ (item_order a b ≡ E
 down_lt a b x (inl less) h = ap is_lt (items_total.trans a b x less (is_less (item_order b x) h))
 down_lt a b x (inr same) h = ap is_lt (items_total.congr a b x same) ∙ h
 
-le_by : (a b x : Item) (r : Ordering) → item_order b x ≡ r → item_order a b ≡ Less → is_le r ≡ true → is_le (item_order a x) ≡ true
-le_by a b x Less is less h = ap is_le (items_total.trans a b x less is)
-le_by a b x Equal is less h = ap is_le (sym (alike_right items_total b x a is) ∙ less)
-le_by a b x Greater is less h = cc
+le_of : (a b x : Item) (r : Ordering) → item_order b x ≡ r → item_order a b ≡ Less → is_le r ≡ true → is_le (item_order a x) ≡ true
+le_of a b x Less is less h = ap is_le (items_total.trans a b x less is)
+le_of a b x Equal is less h = ap is_le (sym (alike_right items_total b x a is) ∙ less)
+le_of a b x Greater is less h = cc
 
 down_le : (a b x : Item) → (item_order a b ≡ Less) ⊎ (item_order a b ≡ Equal) → is_le (item_order b x) ≡ true
     → is_le (item_order a x) ≡ true
-down_le a b x (inl less) h = le_by a b x (item_order b x) refl less h
+down_le a b x (inl less) h = le_of a b x (item_order b x) refl less h
 down_le a b x (inr same) h = ap is_le (items_total.congr a b x same) ∙ h
 
 module _ (item : Item) (graph : List Attachment) (up : IsStrictlySortedBy attachment_order graph) where
-  partitioned : (p : Ordering → Bool) → ((a b : Item) → (item_order a b ≡ Less) ⊎ (item_order a b ≡ Equal) → p (item_order b item) ≡ true
+  partitioned_by : (p : Ordering → Bool) → ((a b : Item) → (item_order a b ≡ Less) ⊎ (item_order a b ≡ Equal) → p (item_order b item) ≡ true
       → p (item_order a item) ≡ true) → IsPartitionedBy (λ (a : Attachment). p (item_order a.item item)) graph
-  partitioned p down i j d le lt h =
+  partitioned_by p down i j d le lt h =
       elim (cases_eq i j) [
         | inl same ↦ rw same h
         | inr differ ↦ down (get_or graph i d).item (get_or graph j d).item
@@ -49,10 +49,10 @@ module _ (item : Item) (graph : List Attachment) (up : IsStrictlySortedBy attach
       ]
 
   pub partitioned_lt : IsPartitionedBy (λ (a : Attachment). is_lt (item_order a.item item)) graph
-  partitioned_lt = partitioned is_lt (λ a b h e. down_lt a b item h e)
+  partitioned_lt = partitioned_by is_lt (λ a b h e. down_lt a b item h e)
 
   pub partitioned_le : IsPartitionedBy (λ (a : Attachment). is_le (item_order a.item item)) graph
-  partitioned_le = partitioned is_le (λ a b h e. down_le a b item h e)
+  partitioned_le = partitioned_by is_le (λ a b h e. down_le a b item h e)
 
 module _ (item : Item) where
   -- those that pass a test of how their items compare are the first n
