@@ -43,7 +43,8 @@ parts_are [] = refl
 parts_are (part ∷ parts) = ap (λ rest. part_bytes part ++ rest) (parts_are parts)
 
 -- such an element prints as a tag with its attributes in order
-tag_of : (local : List ℕ) (attributes : List Attribute) (parts : List (List ℕ × List ℕ)) → sort_attributes attributes ≡ map attribute_of parts
+tag_of : (local : List ℕ) (attributes : List Attribute) (parts : List (List ℕ × List ℕ))
+    → sort_attributes attributes ≡ map attribute_of parts
     → canonical_bytes (element_of local attributes) ≡ codes "<" ++ (local ++ (flat_map part_bytes parts ++ codes "/>"))
 tag_of local attributes parts e =
     ap (root_bytes []) (at_element Child Element arrange_child_of arrange_element_of (element_of local attributes) ∙ ap (element_of local) e)

@@ -21,7 +21,8 @@ sorted-by_sort xs ys p up =
     (up k d (omega arith) (omega arith)))
 
 -- what passes a test among permuted attributes has one order
-sorted_filter : (p : Attribute → Bool) (xs ys : List Attribute) → IsPermutation xs ys → sort_attributes (filter p xs) ≡ sort_attributes (filter p ys)
+sorted_filter : (p : Attribute → Bool) (xs ys : List Attribute) → IsPermutation xs ys
+    → sort_attributes (filter p xs) ≡ sort_attributes (filter p ys)
 sorted_filter p xs ys h =
     in_order_same attribute_order attribute_ranks attribute_eq eq_itself eq_tells (filter p xs) (filter p ys)
     (omega (arith, length-filter p xs, length-filter p ys, sum_by-IsPermutation (λ x. cond (p x) 1 0) xs ys h))

@@ -40,7 +40,8 @@ same_content : (publisher : List ℕ) (moment : ℕ) (xs : List Attribute)
     → sort_attributes (without_stamps (with_stamps publisher moment (without_stamps xs))) ≡ sort_attributes (without_stamps xs)
 same_content publisher moment xs =
     let all = without_stamps xs ++ stamps publisher moment in
-    ap sort_attributes (filter_sorted is_content all ∙ ap sort_attributes (stamps_go publisher moment xs)) ∙ sorted_again (without_stamps xs)
+    ap sort_attributes (filter_sorted is_content all ∙ ap sort_attributes (stamps_go publisher moment xs))
+    ∙ sorted_again (without_stamps xs)
 
 arranged_content : (publisher : List ℕ) (moment : ℕ) (e : Element)
     → arrange (content_of (stamp publisher moment e)) ≡ arrange (content_of e)
