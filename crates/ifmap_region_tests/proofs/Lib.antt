@@ -1,2 +1,3 @@
+pub mod FlipLists
 pub mod GridLinks
 pub mod PairLinks
