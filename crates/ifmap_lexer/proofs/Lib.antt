@@ -5,7 +5,6 @@ pub mod ExpansionLaws
 pub mod KindLaws
 pub mod NameLaws
 pub mod NumberLaws
-pub mod PlainLaws
 mod QuoteLaws
 pub mod RunLaws
 pub mod SettingLaws

@@ -183,15 +183,12 @@ fn is_first(character: char) -> bool
     )
 }
 
-// Whether the character may stand in a name part. Most are letters, hyphens and digits of ASCII.
+// Whether the character may stand in a name part. Most are small letters.
 #[inline(always)]
 fn is_inner(character: char) -> bool
     ensures { result ≡ is_name_character character }
 {
-    matches!(
-        character as u32,
-        0x61..=0x7A | 0x2D | 0x30..=0x39 | 0x41..=0x5A
-    ) || is_any_inner(character)
+    matches!(character as u32, 0x61..=0x7A) || is_any_inner(character)
 }
 
 #[inline(never)]

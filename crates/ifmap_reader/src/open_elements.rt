@@ -42,7 +42,7 @@ impl OpenElement {
         ensures { IfOk result (λ made. made ≡ with_characters self words) }
     {
         let mut element = self;
-        element.text = joined(element.text, words)?;
+        element.text = join(element.text, words)?;
         Ok(element)
     }
 
@@ -97,7 +97,7 @@ impl OpenElement {
         } = self;
         let beside = !children.0.is_empty();
         let children = with_text(children, beside, text)?;
-        let declared = appended(bindings.into_declared(), below)?;
+        let declared = append(bindings.into_declared(), below)?;
         let element = Element {
             name,
             attributes,
@@ -107,7 +107,7 @@ impl OpenElement {
     }
 }
 
-fn joined(text: Text, more: Text) -> Result<Text, NoMemory>
+fn join(text: Text, more: Text) -> Result<Text, NoMemory>
     ensures { IfOk result (λ made. made ≡ text ++ more) }
 {
     if text.0.as_bytes().is_empty() {
@@ -160,7 +160,7 @@ fn with_child(children: Many<Child>, child: Child) -> Result<Many<Child>, NoMemo
     Ok(Many(members))
 }
 
-fn appended(declared: Many<Declared>, more: Many<Declared>) -> Result<Many<Declared>, NoMemory>
+fn append(declared: Many<Declared>, more: Many<Declared>) -> Result<Many<Declared>, NoMemory>
     ensures { IfOk result (λ made. made ≡ declared ++ more) }
 {
     let Many(mut members) = declared;
@@ -180,13 +180,13 @@ fn with_below(
     let Many(mut members) = below;
     let Many(inner) = declared;
     for row in inner {
-        members.push(raised(index, row)?)?;
+        members.push(raise(index, row)?)?;
     }
     Ok(Many(members))
 }
 
 // A declaration as the parent sees it. An index beyond 32 bits is more than memory holds.
-fn raised(index: usize, row: Declared) -> Result<Declared, NoMemory>
+fn raise(index: usize, row: Declared) -> Result<Declared, NoMemory>
     ensures { IfOk result (λ made. made ≡ from_above index row) }
 {
     let Declared {
