@@ -1,5 +1,5 @@
 -- Decisions, which never run: that something holds, or that it does not.
-use Rattle.std.specs.Prelude.{◌≡◌, ◌⊎◌, ◌<◌, ℕ, zero, suc, Bool, true, false, List, [], ◌∷◌, ◌++◌, refl}
+use Rattle.std.specs.Prelude.{◌≡◌, ◌⊎◌, ◌<◌, ℕ, zero, suc, Bool, true, false, List, [], ◌∷◌, ◌++◌, length, refl}
 use Rattle.std.specs.Bool.{Decides}
 use Rattle.std.specs.List.{AllByRecursion}
 use Rattle.std.proofs.Common.{arith, inl, inr, subst}
@@ -78,3 +78,12 @@ first_or_none P one (suc n) = elim (first_or_none P one n) [
     | inr fails ↦ inr (λ k l p. elim (cases_lt k n) [ inl below ↦ none k below p | inr above ↦ fails (subst P (let e : k ≡ n = omega (arith, l, above) in e) p) ])
   ]
 ]
+
+-- what holds of a list where it holds of all shorter ones holds of every list
+module _ {X : Type 0} (P : List X → Type 0) (one : (xs : List X) → ((ys : List X) → length ys < length xs → P ys) → P xs) where
+  below_length : (n : ℕ) (xs : List X) → length xs < n → P xs
+  below_length zero xs l = absurd (omega (arith, l))
+  below_length (suc n) xs l = one xs (λ ys m. below_length n ys (omega (arith, l, m)))
+
+  pub by_length : (xs : List X) → P xs
+  by_length xs = below_length (suc (length xs)) xs (omega arith)

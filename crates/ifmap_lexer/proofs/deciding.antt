@@ -1,3 +1,5 @@
 pub mod Runs
 pub mod Names
 pub mod Values
+pub mod Tags
+pub mod Declarations

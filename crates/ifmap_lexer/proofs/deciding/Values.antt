@@ -2,7 +2,7 @@
 use Rattle.std.proofs.Common.{◌≡◌, ◌≢◌, ℕ, zero, suc, ◌<◌, ◌≤◌, Bool, true, false, ◌||◌, List, [], ◌∷◌, ◌++◌, length, refl, ap, sym, ◌∙◌, subst, arith, length-append, ◌⊎◌, inl, inr}
 use Rattle.std.specs.Prelude.{◌==◌, codes, Option, Some, None}
 use Rattle.std.proofs.lemmas.Bool.{cases_Bool}
-use Rattle.ifmap_lemmas.specs.Deciding.{Decided, begins_or_not}
+use Rattle.ifmap_lemmas.specs.Deciding.{Decided, begins_or_not, by_length}
 use Rattle.ifmap_elem.specs.Chars.{AllAre, is_space}
 use Rattle.ifmap_elem.specs.Tokens.{TakesQuoted}
 use Rattle.ifmap_elem.specs.Values.{Expands, Plain, referred}
@@ -53,19 +53,17 @@ module _ (place : Place) (written : List ℕ) where
   shorter : (rest run behind name after : List ℕ) → CutsAt 0x26 rest run behind → CutsAt 0x3B behind name after → length after < length rest
   shorter rest run behind name after c d = omega (arith, ap length c.bytes_are, length-append run (0x26 ∷ behind), ap length d.bytes_are, length-append name (0x3B ∷ after))
 
-  expansion_from : (fuel : ℕ) (made rest : List ℕ) → length rest ≤ fuel → Along place written made rest → Decided SomeExpansion
-  expansion_from fuel made rest within along = elim (cut_or_none 0x26 rest) [
+  abbrev FromThere : List ℕ → Type 0
+  FromThere rest = (made : List ℕ) → Along place written made rest → Decided SomeExpansion
+
+  expansion_from : (rest : List ℕ) → ((after : List ℕ) → length after < length rest → FromThere after) → FromThere rest
+  expansion_from rest others made along = elim (cut_or_none 0x26 rest) [
     | inr plain ↦ inl (_, along_end place written made rest _ along plain refl)
     | inl c ↦ elim (cut_or_none 0x3B c.1) [
       | inr unended ↦ inr (along_unended place written made rest c.0 c.1 along c.2 unended)
-      | inl d ↦ go_on fuel c.0 c.1 d.0 d.1 c.2 d.2 within
+      | inl d ↦ reference_or_none made rest c.0 c.1 along c.2 d.0 d.1 d.2 (λ new. others d.1 (shorter rest c.0 c.1 d.0 d.1 c.2 d.2) new) (referred d.0) refl
     ]
   ]
-    where
-      go_on : (fuel : ℕ) (run behind name after : List ℕ) → CutsAt 0x26 rest run behind → CutsAt 0x3B behind name after → length rest ≤ fuel → Decided SomeExpansion
-      go_on zero run behind name after c d within = absurd (let l = shorter rest run behind name after c d in omega (arith, l, within))
-      go_on (suc fuel) run behind name after c d within =
-          reference_or_none made rest run behind along c name after d (λ new a. expansion_from fuel new after (let l = shorter rest run behind name after c d in omega (arith, l, within)) a) (referred name) refl
 
   pub expansion_or_none : Decided SomeExpansion
-  expansion_or_none = expansion_from (length written) [] written (omega arith) (along_start place written [] refl)
+  expansion_or_none = by_length FromThere expansion_from written [] (along_start place written [] refl)
