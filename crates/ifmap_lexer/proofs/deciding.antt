@@ -3,3 +3,4 @@ pub mod Names
 pub mod Values
 pub mod Tags
 pub mod Declarations
+pub mod Tokens

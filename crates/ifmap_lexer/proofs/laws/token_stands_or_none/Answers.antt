@@ -1,6 +1,5 @@
-use Rattle.ifmap_lexer.proofs.deciding.Tags.{tag_or_none}
-use Rattle.ifmap_lexer.proofs.deciding.Declarations.{declaration_or_none}
+use Rattle.ifmap_lexer.proofs.deciding.Tokens.{token_or_none}
 use Rattle.ifmap_lexer.proofs.laws.token_stands_or_none.Goals as goal
 
 pub returns : goal.returns
-returns c = ?
+returns c = token_or_none
