@@ -112,8 +112,5 @@ by_first kinds.Tag bytes e = by_kind kinds.Tag bytes e (tag_stands bytes)
 by_first kinds.Comment bytes e = by_kind kinds.Comment bytes e (comment_stands bytes)
 by_first kinds.Section bytes e = by_kind kinds.Section bytes e (section_stands bytes)
 
-pub token_or_none : (bytes : List ℕ) → SomeToken bytes ⊎ ((t : Token) (rest : List ℕ) → TakesToken bytes t rest → ⊥)
-token_or_none bytes = elim (by_first (kind_at bytes) bytes refl) [
-  | inl t ↦ inl t
-  | inr none ↦ inr (λ t rest l. none (t, rest, l))
-]
+pub token_or_none : (bytes : List ℕ) → Decided (SomeToken bytes)
+token_or_none bytes = by_first (kind_at bytes) bytes refl
