@@ -1,5 +1,5 @@
 -- Decisions, which never run: that something holds, or that it does not.
-use Rattle.std.specs.Prelude.{◌≡◌, ◌⊎◌, ◌<◌, ℕ, zero, suc, Bool, true, false, List, [], ◌∷◌, ◌++◌, length, refl}
+use Rattle.std.specs.Prelude.{◌≡◌, ◌⊎◌, ◌↔◌, ◌<◌, ℕ, zero, suc, Bool, true, false, List, [], ◌∷◌, ◌++◌, length, Option, Some, None, refl}
 use Rattle.std.specs.Bool.{Decides}
 use Rattle.std.specs.List.{AllByRecursion}
 use Rattle.std.proofs.Common.{arith, inl, inr, subst}
@@ -36,6 +36,14 @@ decided_either (inr fails) (inr none) = inr (λ one. elim one [ inl p ↦ fails 
 pub decided_not : {P : Type 0} → Decided P → Decided (P → ⊥)
 decided_not (inl p) = inr (λ fails. fails p)
 decided_not (inr fails) = inl fails
+
+pub decided_leads : {P Q : Type 0} → Decided P → Decided Q → Decided (P → Q)
+decided_leads p (inl q) = inl (λ p. q)
+decided_leads (inl p) (inr none) = inr (λ leads. none (leads p))
+decided_leads (inr fails) (inr none) = inl (λ p. absurd (fails p))
+
+pub decided_same : {P Q : Type 0} → Decided P → Decided Q → Decided (P ↔ Q)
+decided_same p q = decided_both (decided_leads p q) (decided_leads q p)
 
 -- whether each member does, where it is decided of one
 pub decided_each : {X : Type 0} (P : X → Type 0) → ((x : X) → Decided (P x)) → (xs : List X) → Decided (AllByRecursion P xs)
@@ -87,3 +95,16 @@ module _ {X : Type 0} (P : List X → Type 0) (one : (xs : List X) → ((ys : Li
 
   pub by_length : (xs : List X) → P xs
   by_length xs = below_length (suc (length xs)) xs (omega arith)
+
+-- an option has a value, or none
+pub value_or_none : {X : Type 0} (o : Option X) → ((x : X) × (o ≡ Some x)) ⊎ (o ≡ None)
+value_or_none (Some x) = inl (x, refl)
+value_or_none None = inr refl
+
+-- a list has a last member, or none
+pub last_or_none : {X : Type 0} (xs : List X) → ((front : List X) × (x : X) × (xs ≡ front ++ x ∷ [])) ⊎ (xs ≡ [])
+last_or_none [] = inr refl
+last_or_none (x ∷ xs) = elim (last_or_none xs) [
+  | inl l ↦ inl (x ∷ l.0, l.1, (λ i. x ∷ l.2 i))
+  | inr e ↦ inl ([], x, (λ i. x ∷ e i))
+]
