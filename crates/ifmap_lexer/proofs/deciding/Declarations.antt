@@ -1,5 +1,5 @@
 -- Whether a declaration stands at the front of bytes.
-use Rattle.std.proofs.Common.{◌≡◌, ◌≢◌, ℕ, List, [], ◌∷◌, ◌++◌, map, refl, arith, ◌⊎◌, inl, inr}
+use Rattle.std.proofs.Common.{ℕ, List, [], ◌∷◌, map, refl, inl, inr}
 use Rattle.std.specs.Prelude.{codes}
 use Rattle.std.specs.Char.{to_ascii_uppercase}
 use Rattle.ifmap_lemmas.specs.Deciding.{Decided, begins_or_not, decided_either, same_or_not}

@@ -1,13 +1,12 @@
 -- Whether a name stands at the front of bytes.
-use Rattle.std.proofs.Common.{◌≡◌, ◌≢◌, ℕ, Bool, true, false, List, [], ◌∷◌, ◌++◌, refl, ap, sym, ◌∙◌, subst, arith, ◌⊎◌, inl, inr}
+use Rattle.std.proofs.Common.{◌≡◌, ℕ, true, List, [], ◌∷◌, refl, ap, sym, ◌∙◌, subst, inl, inr}
 use Rattle.std.specs.Prelude.{encode_utf8_all}
 use Rattle.std.specs.Str.{chars}
-use Rattle.std.proofs.lemmas.Str.{encodes-chars, chars_from_encodes}
+use Rattle.std.proofs.lemmas.Str.{chars_from_encodes}
 use Rattle.ifmap_lemmas.specs.Deciding.{Decided, decided_both, decided_by, decided_test, same_or_not}
 use Rattle.ifmap_elem.specs.Chars.{AllAre}
 use Rattle.ifmap_elem.specs.declared.tokens.Qualified.{Qualified}
-use Rattle.ifmap_elem.specs.Names.{IsNamePart, IsQualified, is_name_start, is_name_character, name_bytes}
-use Rattle.ifmap_lexer.specs.Cutting.{Cuts, CutsAt, is_but}
+use Rattle.ifmap_elem.specs.Names.{IsNamePart, is_name_start, is_name_character}
 use Rattle.ifmap_lexer.specs.Names.{is_name_byte}
 use Rattle.ifmap_lexer.proofs.AssignmentLaws.{SomeName}
 use Rattle.ifmap_lexer.proofs.NameLaws.{part_is_utf8, Written, prefixed_found, unprefixed_found, prefixed_parts, unprefixed_part, name_found, name_run}

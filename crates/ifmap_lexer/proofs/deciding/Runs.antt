@@ -1,18 +1,18 @@
 -- Every list of bytes can be cut; whether a word is in it, and whether it is characters, is decided.
-use Rattle.std.proofs.Common.{◌≡◌, ◌≢◌, ℕ, ◌+◌, ◌<◌, ◌≤◌, Bool, true, false, not, List, [], ◌∷◌, ◌++◌, length, take, drop, refl, ap, sym, ◌∙◌, subst, arith, ◌⊎◌, inl, inr}
+use Rattle.std.proofs.Common.{◌≡◌, ℕ, ◌+◌, ◌<◌, Bool, true, false, not, List, [], ◌∷◌, ◌++◌, length, take, drop, refl, ap, sym, ◌∙◌, subst, arith, ◌⊎◌, inl, inr}
 use Rattle.std.specs.Prelude.{◌==◌, encode_utf8_all}
 use Rattle.std.specs.List.{prefix_len, starts_with}
 use Rattle.std.specs.Str.{chars}
 use Rattle.std.proofs.lemmas.Bool.{cases_lt, cases_Bool}
 use Rattle.std.proofs.lemmas.List.{append-nil}
 use Rattle.std.proofs.lemmas.Str.{encodes-chars, chars_from_encodes}
-use Rattle.memchr.specs.Find.{OccursAt, NoneBefore}
+use Rattle.memchr.specs.Find.{OccursAt}
 use Rattle.memchr.proofs.lemmas.MatchLemmas.{OccursAt-part, OccursAt-from_part}
 use Rattle.ifmap_lemmas.specs.Deciding.{Decided, decided_both, decided_each, decided_test, decided_untrue, first_or_none, same_or_not}
 use Rattle.ifmap_elem.specs.Chars.{AllAre, IsCharacters, is_character}
 use Rattle.ifmap_elem.specs.Tokens.{Lacks}
 use Rattle.ifmap_elem.proofs.Cuts.{is_number}
-use Rattle.ifmap_lexer.specs.Cutting.{Cuts, CutsAt, CutsWord, is_but, Stops}
+use Rattle.ifmap_lexer.specs.Cutting.{Cuts, CutsAt, CutsWord, is_but}
 use Rattle.ifmap_lexer.proofs.CharacterLaws.{characters_are_utf8}
 use Rattle.ifmap_lexer.proofs.SplitLaws.{cuts_at_len}
 use Rattle.ifmap_lexer.proofs.WordLaws.{lacks_from, word_found}

@@ -1,5 +1,5 @@
 -- Whether an assignment, assignments up to the end of a tag, and a tag stand at the front of bytes.
-use Rattle.std.proofs.Common.{◌≡◌, ◌≢◌, ℕ, ◌<◌, Bool, true, false, List, [], ◌∷◌, ◌++◌, length, refl, ap, sym, ◌∙◌, subst, arith, length-append, inl, inr}
+use Rattle.std.proofs.Common.{◌≡◌, ℕ, ◌<◌, true, false, List, [], ◌∷◌, ◌++◌, length, refl, ap, arith, length-append, inl, inr}
 use Rattle.std.specs.Prelude.{◌==◌, ◌||◌}
 use Rattle.ifmap_lemmas.specs.Deciding.{Decided, begins_or_not, by_length, decided_both, decided_by, decided_test}
 use Rattle.ifmap_elem.specs.Chars.{AllAre, IsCharacters, is_space}
@@ -10,7 +10,7 @@ use Rattle.ifmap_elem.specs.declared.tokens.Assignment.{Assignment}
 use Rattle.ifmap_lexer.specs.Cutting.{Cuts, is_but}
 use Rattle.ifmap_lexer.specs.Tags.{ClosesTag, IsAtEnd}
 use Rattle.ifmap_lexer.specs.declared.values.Place.TheVariants.{Value}
-use Rattle.ifmap_lexer.proofs.AssignmentLaws.{SomeAssignment, SomeAssignments, SomeGiven, SomeName, SomeTag, no_space, some_name, no_value, some_value, assignment_found, goes_on_start, goes_on_next, some_first, tells_end, tag_name, tag_assignments, tag_found}
+use Rattle.ifmap_lexer.proofs.AssignmentLaws.{SomeAssignment, SomeAssignments, SomeGiven, SomeTag, no_space, some_name, no_value, some_value, assignment_found, goes_on_start, goes_on_next, some_first, tells_end, tag_name, tag_assignments, tag_found}
 use Rattle.ifmap_lexer.proofs.deciding.Names.{name_or_none}
 use Rattle.ifmap_lexer.proofs.deciding.Runs.{are_or_not, characters_or_not, cut_of}
 use Rattle.ifmap_lexer.proofs.deciding.Values.{expansion_or_none, quoted_or_none}

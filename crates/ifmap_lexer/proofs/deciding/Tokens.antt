@@ -1,12 +1,10 @@
 -- Whether a token stands at the front of bytes, by its kind.
-use Rattle.std.proofs.Common.{◌≡◌, ◌≢◌, ℕ, ◌<◌, Bool, true, false, List, [], ◌∷◌, ◌++◌, refl, ap, sym, ◌∙◌, arith, ◌⊎◌, inl, inr}
+use Rattle.std.proofs.Common.{◌≡◌, ℕ, List, [], ◌∷◌, refl, arith, ◌⊎◌, inl, inr}
 use Rattle.std.specs.Prelude.{codes}
 use Rattle.std.specs.List.{list_all}
 use Rattle.ifmap_lemmas.specs.Deciding.{Decided, begins_or_not}
-use Rattle.ifmap_elem.specs.Chars.{IsCharacters, is_space}
+use Rattle.ifmap_elem.specs.Chars.{is_space}
 use Rattle.ifmap_elem.specs.Values.{line_ends}
-use Rattle.ifmap_elem.specs.Tokens.{Lacks, TakesToken}
-use Rattle.ifmap_elem.specs.declared.tokens.Token.{Token}
 use Rattle.ifmap_elem.specs.declared.tokens.Token.TheVariants.{Declaration, Comment, Start, Empty, End, Section, Text}
 use Rattle.ifmap_lexer.specs.Cutting.{Cuts, is_but}
 use Rattle.ifmap_lexer.specs.Kinds.{Stands, kind_at}

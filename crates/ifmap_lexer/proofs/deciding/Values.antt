@@ -1,17 +1,17 @@
 -- Whether a quoted value stands at the front of bytes, and whether written characters mean a text or a value.
-use Rattle.std.proofs.Common.{◌≡◌, ◌≢◌, ℕ, zero, suc, ◌<◌, ◌≤◌, Bool, true, false, ◌||◌, List, [], ◌∷◌, ◌++◌, length, refl, ap, sym, ◌∙◌, subst, arith, length-append, ◌⊎◌, inl, inr}
-use Rattle.std.specs.Prelude.{◌==◌, codes, Option, Some, None}
+use Rattle.std.proofs.Common.{◌≡◌, ℕ, ◌<◌, ◌||◌, List, [], ◌∷◌, length, refl, ap, arith, length-append, inl, inr}
+use Rattle.std.specs.Prelude.{◌==◌, Option, Some, None}
 use Rattle.std.proofs.lemmas.Bool.{cases_Bool}
 use Rattle.ifmap_lemmas.specs.Deciding.{Decided, begins_or_not, by_length}
-use Rattle.ifmap_elem.specs.Chars.{AllAre, is_space}
+use Rattle.ifmap_elem.specs.Chars.{is_space}
 use Rattle.ifmap_elem.specs.Tokens.{TakesQuoted}
-use Rattle.ifmap_elem.specs.Values.{Expands, Plain, referred}
-use Rattle.ifmap_lexer.specs.Cutting.{Cuts, CutsAt, is_but}
+use Rattle.ifmap_elem.specs.Values.{Expands, referred}
+use Rattle.ifmap_lexer.specs.Cutting.{Cuts, CutsAt}
 use Rattle.ifmap_lexer.specs.Runs.{part_in}
 use Rattle.ifmap_lexer.specs.declared.values.Place.{Place}
 use Rattle.ifmap_lexer.proofs.ExpansionLaws.{Along, along_start, along_unended, along_unknown, along_next, along_end}
 use Rattle.ifmap_lexer.proofs.QuoteLaws.{no_quote_at, no_sign, no_quote, unclosed, quoted_found}
-use Rattle.ifmap_lexer.proofs.deciding.Runs.{SomeCut, cut_of, cut_or_none}
+use Rattle.ifmap_lexer.proofs.deciding.Runs.{cut_of, cut_or_none}
 
 abbrev pub SomeQuoted : List ℕ → Type 0
 SomeQuoted bytes = (written : List ℕ) × (rest : List ℕ) × TakesQuoted bytes written rest
