@@ -20,10 +20,13 @@ use Rattle.ifmap_elem.specs.declared.elements.Attribute.{Attribute}
 use Rattle.ifmap_elem.specs.declared.elements.Child.{Child}
 use Rattle.ifmap_elem.specs.declared.elements.Child as the
 use Rattle.ifmap_elem.specs.declared.elements.Element.{Element}
-use Rattle.ifmap_elem.proofs.ArrangedLaws.{arranged_in, arranged_text}
-use Rattle.ifmap_elem.proofs.NamespaceLaws.{adds_none, adds_both, eq_itself}
+use Rattle.ifmap_elem.specs.laws.ArrangedLaws.{arranged_in, arranged_text}
+use Rattle.ifmap_elem.specs.laws.NamespaceLaws.{adds_none, adds_both}
+use Rattle.ifmap_lemmas.specs.Texts.{eq_itself}
 use Rattle.ifmap_elem.proofs.PrintedLaws.{two_written, content_written, element_is, root_printed, referred_attributes}
-use Rattle.ifmap_elem.proofs.SpaceLaws.{space_of, spaces_arranged, adds_element, referred_spaces}
+use Rattle.ifmap_elem.proofs.SpaceLaws.{spaces_arranged, adds_element, referred_spaces}
+use Rattle.ifmap_elem.specs.laws.PrintedElements.{space_of}
+use Rattle.std.proofs.lemmas.List.Concat.{flat_map_single}
 
 abbrev Spaces : Type 0
 Spaces = List (List ℕ)
@@ -134,17 +137,13 @@ pieces_next f g xs i x a b c s t u l is h k =
     (flat_map-next f xs i x l is) (λ rows. flat_map-next (g rows) xs i x l is)
     (adds_two a b c (flat_map f (take i xs)) (f x) (λ rows. flat_map (g rows) (take i xs)) (λ rows. g rows x) s t u h k)
 
-map_flat : {X Y : Type 0} (f : X → Y) (xs : List X) → flat_map (λ x. f x ∷ []) xs ≡ map f xs
-map_flat f [] = refl
-map_flat f (x ∷ xs) = ap (λ l. f x ∷ l) (map_flat f xs)
-
 -- all pieces, each of one namespace
 pub pieces_all : {X : Type 0} (f : X → List ℕ) (g : Rows → X → List ℕ) (xs ys : List X) (i : ℕ) (a b : Spaces) (s t : List ℕ) → length xs ≤ i → xs ≡ ys
     → Adds a (flat_map (λ x. f x ∷ []) (take i xs)) b (λ rows. flat_map (g rows) (take i xs)) s t → Adds a (map f ys) b (λ rows. flat_map (g rows) ys) s t
 pieces_all f g xs ys i a b s t l e h =
     let all = take_all i xs l ∙ e in
     adds_as a b (flat_map (λ x. f x ∷ []) (take i xs)) (map f ys) (λ rows. flat_map (g rows) (take i xs)) (λ rows. flat_map (g rows) ys) s t
-    (ap (flat_map (λ x. f x ∷ [])) all ∙ map_flat f ys) (λ rows. ap (flat_map (g rows)) all) h
+    (ap (flat_map (λ x. f x ∷ [])) all ∙ flat_map_single f ys) (λ rows. ap (flat_map (g rows)) all) h
 
 pub pieces_referred : (rs ss : List (Bor Attribute)) (attributes : List Attribute) (i : ℕ) (a b : Spaces) (s t : List ℕ) → length rs ≤ i → rs ≡ ss → map (λ (r : Bor Attribute). r.now) ss ≡ attributes
     → Adds a (flat_map (λ (r : Bor Attribute). r.now.name.space ∷ []) (take i rs)) b (λ rows. flat_map (λ (r : Bor Attribute). attribute_bytes rows r.now) (take i rs)) s t

@@ -3,7 +3,7 @@ use Rattle.std.proofs.Common.{◌≡◌, ◌≢◌, ℕ, ◌+◌, ◌<◌, List,
 use Rattle.std.proofs.lemmas.List.{take_more, length-take-le, append-nil}
 use Rattle.std.proofs.lemmas.List.Concat.{flat_map-append}
 use Rattle.std.specs.Prelude.{codes}
-use Rattle.std.specs.List.{flat_map, concat}
+use Rattle.std.specs.List.{flat_map}
 use Rattle.std.specs.Fmt.{decimal}
 use Rattle.ifmap_elem.specs.Folds.{at_element}
 use Rattle.ifmap_elem.specs.Arranged.{arranged, arranged_child, sorted}
@@ -12,19 +12,13 @@ use Rattle.ifmap_elem.specs.Canonical.{printed_name, declaration_bytes, attribut
 use Rattle.ifmap_elem.specs.declared.elements.Attribute.{Attribute}
 use Rattle.ifmap_elem.specs.declared.elements.Child.{Child}
 use Rattle.ifmap_elem.specs.declared.elements.Element.{Element}
-use Rattle.ifmap_elem.proofs.ArrangedLaws.{arranged_is}
-use Rattle.ifmap_elem.proofs.NamespaceLaws.{prefix_rows-push}
+use Rattle.ifmap_elem.specs.laws.ArrangedLaws.{arranged_is}
+use Rattle.ifmap_elem.specs.laws.NamespaceLaws.{prefix_rows-push}
+use Rattle.std.proofs.lemmas.Simd.{map-map}
+use Rattle.ifmap_lemmas.specs.Lists.{concat_map}
 
 abbrev Rows : Type 0
 Rows = List (List ℕ × List ℕ)
-
-concat_map : {X : Type 0} (f : X → List ℕ) (xs : List X) → concat (map f xs) ≡ flat_map f xs
-concat_map f [] = refl
-concat_map f (x ∷ xs) = ap (λ ys. f x ++ ys) (concat_map f xs)
-
-map_map : {X Y Z : Type 0} (f : Y → Z) (g : X → Y) (xs : List X) → map f (map g xs) ≡ map (λ x. f (g x)) xs
-map_map f g [] = refl
-map_map f g (x ∷ xs) = ap (λ l. f (g x) ∷ l) (map_map f g xs)
 
 -- what some writes in a row have written
 pub two_written : (a b c x y : List ℕ) → b ≡ a ++ x → c ≡ b ++ y → c ≡ a ++ (x ++ y)
@@ -43,7 +37,7 @@ pub element_is : (prefixes : Rows) (e : Element) → element_bytes prefixes (arr
 element_is prefixes e =
     ap (element_bytes prefixes) (arranged_is e)
     ∙ at_element (List ℕ) (List ℕ) (child_piece prefixes) (element_piece prefixes) (record { name = e.name; attributes = sorted e.attributes; children = map arranged_child e.children })
-    ∙ ap (tagged prefixes [] e.name (sorted e.attributes)) (map_map (child_bytes prefixes) arranged_child e.children)
+    ∙ ap (tagged prefixes [] e.name (sorted e.attributes)) (map-map (child_bytes prefixes) arranged_child e.children)
 
 abbrev rooted : Rows → Rows → Element → List ℕ
 rooted prefixes declared e = tagged prefixes declared e.name e.attributes (map (child_bytes prefixes) e.children)
@@ -51,7 +45,7 @@ rooted prefixes declared e = tagged prefixes declared e.name e.attributes (map (
 root_is : (prefixes declared : Rows) (e : Element)
     → rooted prefixes declared (arranged e) ≡ tagged prefixes declared e.name (sorted e.attributes) (map (λ c. child_bytes prefixes (arranged_child c)) e.children)
 root_is prefixes declared e =
-    ap (rooted prefixes declared) (arranged_is e) ∙ ap (tagged prefixes declared e.name (sorted e.attributes)) (map_map (child_bytes prefixes) arranged_child e.children)
+    ap (rooted prefixes declared) (arranged_is e) ∙ ap (tagged prefixes declared e.name (sorted e.attributes)) (map-map (child_bytes prefixes) arranged_child e.children)
 
 pub root_printed : (element : Element) (given spaces : List (List ℕ)) (a b c d e f : List ℕ) → spaces ≡ namespaces (arranged element)
     → a ≡ codes "<" → b ≡ a ++ printed_name (name_prefixes spaces) element.name

@@ -2,21 +2,13 @@
 use Rattle.std.proofs.Common.{◌≡◌, ℕ, List, [], ◌∷◌, ◌++◌, map, refl, ap, sym, ◌∙◌, subst, Bor}
 use Rattle.std.proofs.lemmas.List.Folds.{flat_map-map}
 use Rattle.std.specs.List.{flat_map}
-use Rattle.ifmap_elem.specs.Folds.{at_element}
 use Rattle.ifmap_elem.specs.Arranged.{arranged, arranged_child, sorted}
-use Rattle.ifmap_elem.specs.Namespaces.{spaces_of, spaces_of_child, child_spaces, element_spaces, AddsSpaces}
+use Rattle.ifmap_elem.specs.Namespaces.{spaces_of, spaces_of_child, AddsSpaces}
 use Rattle.ifmap_elem.specs.declared.elements.Attribute.{Attribute}
 use Rattle.ifmap_elem.specs.declared.elements.Element.{Element}
-use Rattle.ifmap_elem.proofs.ArrangedLaws.{arranged_is}
-use Rattle.ifmap_elem.proofs.NamespaceLaws.{adds_both}
-
-abbrev pub space_of : Attribute → List ℕ
-space_of a = a.name.space
-
-spaces_is : (e : Element) → spaces_of e ≡ e.name.space ∷ (map space_of e.attributes ++ flat_map spaces_of_child e.children)
-spaces_is e =
-    at_element (List (List ℕ)) (List (List ℕ)) child_spaces element_spaces e
-    ∙ ap (λ l. e.name.space ∷ (map space_of e.attributes ++ l)) (flat_map-map (λ (s : List (List ℕ)). s) spaces_of_child e.children)
+use Rattle.ifmap_elem.specs.laws.ArrangedLaws.{arranged_is}
+use Rattle.ifmap_elem.specs.laws.NamespaceLaws.{adds_both}
+use Rattle.ifmap_elem.specs.laws.PrintedElements.{space_of, spaces_is}
 
 pub spaces_arranged : (e : Element) → spaces_of (arranged e) ≡ e.name.space ∷ (map space_of (sorted e.attributes) ++ flat_map (λ c. spaces_of_child (arranged_child c)) e.children)
 spaces_arranged e =

@@ -9,7 +9,7 @@ use Rattle.ifmap_elem.specs.declared.elements.Child.{Child, fold-Child}
 use Rattle.ifmap_elem.specs.declared.elements.Child as the
 use Rattle.ifmap_elem.specs.declared.elements.Element.{Element, fold-Element}
 use Rattle.ifmap_elem.specs.declared.elements.Child.TheOpen.{Child-F, Element-F}
-use Rattle.ifmap_elem.specs.Order.{in_order}
+use Rattle.ifmap_lemmas.specs.Sorting.{in_order}
 
 -- by the bytes of the namespace, then by those of the local name; no namespace comes first
 abbrev pub name_order : Name → Name → Ordering

@@ -3,22 +3,61 @@ use Rattle.std.specs.Prelude.{◌≡◌, ℕ, Bool, true, ◌==◌, ◌||◌, Li
 use Rattle.std.specs.Int.{is_in_range}
 use Rattle.std.specs.List.{AllByRecursion}
 
+-- characters that have a name here, by their codes
+abbrev pub tab : ℕ
+tab = 0x9
+
+abbrev pub line_feed : ℕ
+line_feed = 0xA
+
+abbrev pub carriage_return : ℕ
+carriage_return = 0xD
+
+abbrev pub space_character : ℕ
+space_character = 0x20
+
+abbrev pub ampersand : ℕ
+ampersand = 0x26
+
+abbrev pub semicolon : ℕ
+semicolon = 0x3B
+
+abbrev pub colon : ℕ
+colon = 0x3A
+
+abbrev pub less_than : ℕ
+less_than = 0x3C
+
+abbrev pub greater_than : ℕ
+greater_than = 0x3E
+
+abbrev pub equals_sign : ℕ
+equals_sign = 0x3D
+
+abbrev pub double_quote : ℕ
+double_quote = 0x22
+
+abbrev pub single_quote : ℕ
+single_quote = 0x27
+
 -- each number of the list passes the test
 abbrev pub AllAre : (ℕ → Bool) → List ℕ → Type 0
 AllAre p ns = AllByRecursion (λ n. p n ≡ true) ns
 
 -- a character that a document can have, by its code
 abbrev pub is_character : ℕ → Bool
-is_character c = c == 0x9 || c == 0xA || c == 0xD || is_in_range 0x20 0xD7FF c || is_in_range 0xE000 0xFFFD c || is_in_range 0x1_0000 0x10_FFFF c
+is_character c =
+    c == tab || c == line_feed || c == carriage_return || is_in_range 0x20 0xD7FF c || is_in_range 0xE000 0xFFFD c
+    || is_in_range 0x1_0000 0x10_FFFF c
 
 -- the bytes are such characters, in UTF-8
 abbrev pub IsCharacters : List ℕ → Type 0
 IsCharacters bytes = (characters : List ℕ) × (encode_utf8_all characters ≡ bytes) × AllAre is_character characters
 
 -- white space
-abbrev pub is_space : ℕ → Bool
-is_space b = b == 0x20 || b == 0x9 || b == 0xD || b == 0xA
+abbrev pub is_white : ℕ → Bool
+is_white b = b == space_character || b == tab || b == carriage_return || b == line_feed
 
 -- the bytes are white space alone, or there are none
-abbrev pub IsSpace : List ℕ → Type 0
-IsSpace bytes = AllAre is_space bytes
+abbrev pub IsWhite : List ℕ → Type 0
+IsWhite bytes = AllAre is_white bytes

@@ -5,31 +5,41 @@ use Rattle.ifmap_elem.specs.declared.elements.Child as the
 use Rattle.ifmap_elem.specs.declared.elements.Element.{Element}
 use Rattle.ifmap_elem.specs.declared.readings.Declared.{Declared}
 use Rattle.ifmap_elem.specs.declared.readings.Reading.{Reading}
-use Rattle.ifmap_elem.specs.Chars.{is_space}
+use Rattle.ifmap_elem.specs.Chars.{is_white}
 use Rattle.ifmap_elem.specs.Scopes.{Scope, Binding, root_scope, scope_within, bindings, NamesElement}
 use Rattle.ifmap_elem.specs.declared.tokens.Tag.{Tag}
 use Rattle.ifmap_elem.specs.declared.tokens.Token.{Token}
-use Rattle.ifmap_elem.specs.declared.tokens.Token.TheVariants.{Declaration, Comment, Start, Empty, End, Section, Text}
+use Rattle.ifmap_elem.specs.declared.tokens.Token.TheVariants as token
 
--- what stands between two tags, from its first piece on: each constructor is a piece, and then what comes after it
-pub data Content : Type 0 where
-  Nothing : Content
-  Remark : Content → Content
-  Words : Bool → List ℕ → Content → Content
-  Verbatim : List ℕ → Content → Content
-  Leaf : Tag → Content → Content
-  Branch : Tag → Content → Content → Content
+-- what stands between two tags, piece by piece: a comment, characters, a section, an empty element, or a start tag with what stands
+-- in its element; each constructor ends with the pieces after it
+pub data Pieces : Type 0 where
+  Nothing : Pieces
+  Comment : Pieces → Pieces
+  Characters : Bool → List ℕ → Pieces → Pieces
+  Section : List ℕ → Pieces → Pieces
+  Empty : Tag → Pieces → Pieces
+  Start : Tag → Pieces → Pieces → Pieces
 
--- its tokens: an element is an empty tag, or a start tag, its content and an end tag of the same name
-abbrev pub tokens_of : Content → List Token
+-- its tokens: the element of a start tag ends with an end tag of the same name
+abbrev pub tokens_of : Pieces → List Token
 tokens_of Nothing = []
-tokens_of (Remark after) = Comment ∷ tokens_of after
-tokens_of (Words blank text after) = Text blank text ∷ tokens_of after
-tokens_of (Verbatim text after) = Section text ∷ tokens_of after
-tokens_of (Leaf tag after) = Empty tag ∷ tokens_of after
-tokens_of (Branch tag inside after) = Start tag ∷ (tokens_of inside ++ (End tag.name ∷ tokens_of after))
+tokens_of (Comment after) = token.Comment ∷ tokens_of after
+tokens_of (Characters blank text after) = token.Characters blank text ∷ tokens_of after
+tokens_of (Section text after) = token.Section text ∷ tokens_of after
+tokens_of (Empty tag after) = token.Empty tag ∷ tokens_of after
+tokens_of (Start tag inside after) = token.Start tag ∷ (tokens_of inside ++ (token.End tag.name ∷ tokens_of after))
 
--- a piece of content by what it means: a child element with the declarations in it, their paths from it on, or text
+-- pieces, and others after them
+abbrev pub chained : Pieces → Pieces → Pieces
+chained Nothing others = others
+chained (Comment after) others = Comment (chained after others)
+chained (Characters blank text after) others = Characters blank text (chained after others)
+chained (Section text after) others = Section text (chained after others)
+chained (Empty tag after) others = Empty tag (chained after others)
+chained (Start tag inside after) others = Start tag inside (chained after others)
+
+-- a piece by what it means: a child element with the declarations in it, their paths from it on, or text
 pub data Item : Type 0 where
   Inner : Element → List Declared → Item
   Run : List ℕ → Item
@@ -50,13 +60,13 @@ joined (Run text ∷ items) = put_before text (joined items)
 joined (Inner e declared ∷ items) = Inner e declared ∷ joined items
 
 -- white space alone is no child beside an element, and an empty text is none anywhere
-abbrev pub is_kept : Bool → Item → Bool
-is_kept beside (Inner e declared) = true
-is_kept beside (Run text) = if beside then not (list_all is_space text) else not (length text == 0)
+abbrev pub is_child : Bool → Item → Bool
+is_child beside (Inner e declared) = true
+is_child beside (Run text) = if beside then not (list_all is_white text) else not (length text == 0)
 
 -- the items that are children
-abbrev pub kept : List Item → List Item
-kept items = filter (is_kept (list_any is_inner items)) (joined items)
+abbrev pub children_among : List Item → List Item
+children_among items = filter (is_child (list_any is_inner items)) (joined items)
 
 abbrev pub child_of : Item → the.Child
 child_of (Inner e declared) = the.Element e
@@ -79,48 +89,49 @@ declared_below index (Run text ∷ items) = declared_below (index + 1) items
 -- the element of an allowed tag over these items, with the declarations in it
 pub record IsElement (outer : Scope) (tag : Tag) (items : List Item) (e : Element) (declared : List Declared) : Type 0 where
   pub named : NamesElement outer tag e.name e.attributes
-  pub children_are : e.children ≡ map child_of (kept items)
-  pub declared_are : declared ≡ declared_here (bindings tag) ++ declared_below 0 (kept items)
+  pub children_are : e.children ≡ map child_of (children_among items)
+  pub declared_are : declared ≡ declared_here (bindings tag) ++ declared_below 0 (children_among items)
 
--- the content means these items
-abbrev pub Means : Scope → Content → List Item → Type 0
-Means scope Nothing items = items ≡ []
-Means scope (Remark after) items = Means scope after items
-Means scope (Words blank text after) items = (others : List Item) × (items ≡ Run text ∷ others) × Means scope after others
-Means scope (Verbatim text after) items = (others : List Item) × (items ≡ Run text ∷ others) × Means scope after others
-Means scope (Leaf tag after) items =
-    (e : Element) × (declared : List Declared) × (others : List Item) × (items ≡ Inner e declared ∷ others) × IsElement scope tag [] e declared × Means scope after others
-Means scope (Branch tag inside after) items =
+-- the pieces mean these items
+abbrev pub AreItems : Scope → Pieces → List Item → Type 0
+AreItems scope Nothing items = items ≡ []
+AreItems scope (Comment after) items = AreItems scope after items
+AreItems scope (Characters blank text after) items = (others : List Item) × (items ≡ Run text ∷ others) × AreItems scope after others
+AreItems scope (Section text after) items = (others : List Item) × (items ≡ Run text ∷ others) × AreItems scope after others
+AreItems scope (Empty tag after) items =
+    (e : Element) × (declared : List Declared) × (others : List Item) × (items ≡ Inner e declared ∷ others)
+    × IsElement scope tag [] e declared × AreItems scope after others
+AreItems scope (Start tag inside after) items =
     (inner : List Item) × (e : Element) × (declared : List Declared) × (others : List Item) × (items ≡ Inner e declared ∷ others)
-    × Means (scope_within scope tag) inside inner × IsElement scope tag inner e declared × Means scope after others
+    × AreItems (scope_within scope tag) inside inner × IsElement scope tag inner e declared × AreItems scope after others
 
 -- comments and white space alone, in their own bytes
-abbrev pub IsMargin : Content → Type 0
+abbrev pub IsMargin : Pieces → Type 0
 IsMargin Nothing = Unit {0}
-IsMargin (Remark after) = IsMargin after
-IsMargin (Words blank text after) = (blank ≡ true) × IsMargin after
-IsMargin (Verbatim text after) = ⊥
-IsMargin (Leaf tag after) = ⊥
-IsMargin (Branch tag inside after) = ⊥
+IsMargin (Comment after) = IsMargin after
+IsMargin (Characters blank text after) = (blank ≡ true) × IsMargin after
+IsMargin (Section text after) = ⊥
+IsMargin (Empty tag after) = ⊥
+IsMargin (Start tag inside after) = ⊥
 
 -- one element that means this, between margins
-abbrev pub IsRoot : Content → Reading → Type 0
-IsRoot Nothing r = ⊥
-IsRoot (Remark after) r = IsRoot after r
-IsRoot (Words blank text after) r = (blank ≡ true) × IsRoot after r
-IsRoot (Verbatim text after) r = ⊥
-IsRoot (Leaf tag after) r = IsElement root_scope tag [] r.root r.declared × IsMargin after
-IsRoot (Branch tag inside after) r =
-    (inner : List Item) × Means (scope_within root_scope tag) inside inner × IsElement root_scope tag inner r.root r.declared × IsMargin after
+pub record IsRoot (pieces : Pieces) (r : Reading) : Type 0 where
+  pub before : Pieces
+  pub element : Pieces
+  pub after : Pieces
+  pub pieces_are : pieces ≡ chained before (chained element after)
+  pub margin_before : IsMargin before
+  pub means : AreItems root_scope element (Inner r.root r.declared ∷ [])
+  pub margin_after : IsMargin after
 
 -- a declaration, or none
 abbrev pub heading : Bool → List Token
-heading true = Declaration ∷ []
+heading true = token.Declaration ∷ []
 heading false = []
 
 -- the tokens are a document that means this
 pub record IsDocument (ts : List Token) (r : Reading) : Type 0 where
   pub declared : Bool
-  pub content : Content
-  pub tokens_are : ts ≡ heading declared ++ tokens_of content
-  pub rooted : IsRoot content r
+  pub pieces : Pieces
+  pub tokens_are : ts ≡ heading declared ++ tokens_of pieces
+  pub rooted : IsRoot pieces r

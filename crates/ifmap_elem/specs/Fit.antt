@@ -1,7 +1,7 @@
 -- Elements that a document can have (XML 1.0, fifth edition, and Namespaces in XML 1.0, with the profile of texts that this crate reads).
 use Rattle.std.specs.Prelude.{◌≢◌, ℕ, List, [], ◌∷◌, map, codes, Bool, true, false, IsTrue}
 use Rattle.std.specs.List.{AllByRecursion, flat_map, list_any}
-use Rattle.ifmap_elem.specs.Chars.{IsCharacters, IsSpace}
+use Rattle.ifmap_elem.specs.Chars.{IsCharacters, IsWhite}
 use Rattle.ifmap_elem.specs.Names.{IsNamePart}
 use Rattle.ifmap_elem.specs.Namespaces.{is_declared}
 use Rattle.ifmap_elem.specs.Scopes.{AllDiffer, xmlns_space}
@@ -40,7 +40,7 @@ HasCharacters (Child-F.Text text) = (text ≢ []) × IsCharacters text
 -- a text is not white space alone
 abbrev pub IsNotBlank : Child-F Child Element → Type 0
 IsNotBlank (Child-F.Element e) = Unit {0}
-IsNotBlank (Child-F.Text text) = IsSpace text → ⊥
+IsNotBlank (Child-F.Text text) = IsWhite text → ⊥
 
 -- no two texts stand side by side
 abbrev pub AreApart : List (Child-F Child Element) → Type 0

@@ -12,14 +12,14 @@ use Rattle.ifmap_elem.specs.Tokens.{TakesToken}
 abbrev pub byte_order_mark : List ℕ
 byte_order_mark = 0xEF ∷ (0xBB ∷ (0xBF ∷ []))
 
--- the bytes behind a byte order mark, or all of them
-abbrev pub without_mark : List ℕ → List ℕ
-without_mark bytes = if starts_with ◌==◌ bytes byte_order_mark then drop 3 bytes else bytes
+-- the bytes after a byte order mark, or all of them
+abbrev pub without_byte_order_mark : List ℕ → List ℕ
+without_byte_order_mark bytes = if starts_with ◌==◌ bytes byte_order_mark then drop 3 bytes else bytes
 
 -- the bytes are tokens, and the tokens are a document that means this
 pub record Spells (bytes : List ℕ) (r : Reading) : Type 0 where
   pub tokens : List Token
-  pub lexed : To TakesToken (without_mark bytes) tokens []
+  pub lexed : To TakesToken (without_byte_order_mark bytes) tokens []
   pub document : IsDocument tokens r
 
 -- the bytes spell this element, with some declarations

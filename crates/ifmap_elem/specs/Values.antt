@@ -5,21 +5,21 @@ use Rattle.std.specs.List.{flat_map, list_all, starts_with}
 use Rattle.std.specs.Str.{bytes_eq}
 use Rattle.std.specs.Str.Parse.{digits_value}
 use Rattle.ifmap_lemmas.specs.Items.{To}
-use Rattle.ifmap_elem.specs.Chars.{AllAre, is_character}
+use Rattle.ifmap_elem.specs.Chars.{AllAre, ampersand, carriage_return, double_quote, greater_than, is_character, less_than, line_feed, semicolon, single_quote, space_character, tab}
 
 -- whether the bytes begin with this one
 abbrev pub begins_with : ℕ → List ℕ → Bool
 begins_with b [] = false
 begins_with b (c ∷ cs) = c == b
 
--- the line ends as one A each: a D before an A goes, and any other D is an A
+-- each line end as one line feed: a carriage return before a line feed goes, and any other is a line feed
 abbrev pub line_ends : List ℕ → List ℕ
 line_ends [] = []
-line_ends (b ∷ bs) = if b == 0xD then (if begins_with 0xA bs then line_ends bs else 0xA ∷ line_ends bs) else b ∷ line_ends bs
+line_ends (b ∷ bs) = if b == carriage_return then (if begins_with line_feed bs then line_ends bs else line_feed ∷ line_ends bs) else b ∷ line_ends bs
 
 -- white space within a written attribute value is a space
 abbrev pub as_space : ℕ → ℕ
-as_space b = if b == 0x9 || b == 0xA then 0x20 else b
+as_space b = if b == tab || b == line_feed then space_character else b
 
 -- the character with that number, where these digits are some and the number is a character's
 abbrev pub numbered : ℕ → List ℕ → Option ℕ
@@ -29,11 +29,11 @@ numbered base digits =
 -- the character that a reference stands for, by what is between its `&` and its `;`
 abbrev pub referred : List ℕ → Option ℕ
 referred name =
-    if bytes_eq name (codes "amp") then Some 0x26
-    else (if bytes_eq name (codes "lt") then Some 0x3C
-    else (if bytes_eq name (codes "gt") then Some 0x3E
-    else (if bytes_eq name (codes "quot") then Some 0x22
-    else (if bytes_eq name (codes "apos") then Some 0x27
+    if bytes_eq name (codes "amp") then Some ampersand
+    else (if bytes_eq name (codes "lt") then Some less_than
+    else (if bytes_eq name (codes "gt") then Some greater_than
+    else (if bytes_eq name (codes "quot") then Some double_quote
+    else (if bytes_eq name (codes "apos") then Some single_quote
     else (if starts_with ◌==◌ name (codes "#x") then numbered 16 (drop 2 name)
     else (if starts_with ◌==◌ name (codes "#") then numbered 10 (drop 1 name)
     else None))))))
@@ -46,14 +46,14 @@ pub data Part : Type 0 where
 -- a run goes on up to the next reference or the end
 abbrev pub EndsRun : List ℕ → Type 0
 EndsRun [] = Unit {0}
-EndsRun (b ∷ bs) = b ≡ 0x26
+EndsRun (b ∷ bs) = b ≡ ampersand
 
 -- a part stands at the front: a run without `&`, or `&`, what names a character, and `;`
 abbrev pub TakesPart : List ℕ → Part → List ℕ → Type 0
-TakesPart bytes (Plain run) rest = (bytes ≡ run ++ rest) × (run ≢ []) × AllAre (λ b. not (b == 0x26)) run × EndsRun rest
-TakesPart bytes (Reference c) rest = (name : List ℕ) × (bytes ≡ 0x26 ∷ (name ++ (0x3B ∷ rest))) × AllAre (λ b. not (b == 0x3B)) name × (referred name ≡ Some c)
+TakesPart bytes (Plain run) rest = (bytes ≡ run ++ rest) × (run ≢ []) × AllAre (λ b. not (b == ampersand)) run × EndsRun rest
+TakesPart bytes (Reference c) rest = (name : List ℕ) × (bytes ≡ ampersand ∷ (name ++ (semicolon ∷ rest))) × AllAre (λ b. not (b == semicolon)) name × (referred name ≡ Some c)
 
--- what a part adds to a text: a run with its line ends as A, or the character
+-- what a part adds to a text: a run with its line ends as line feeds, or the character
 abbrev pub text_part : Part → List ℕ
 text_part (Plain run) = line_ends run
 text_part (Reference c) = encode_utf8 c

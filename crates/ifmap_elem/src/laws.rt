@@ -10,6 +10,7 @@ ghost use Rattle.ifmap_elem.specs.Canonical.{AreHeld, canonical_bytes, written_b
 ghost use Rattle.ifmap_elem.specs.Fit.{IsDeclarable, IsFit};
 ghost use Rattle.ifmap_elem.specs.Nesting.{nesting};
 ghost use Rattle.ifmap_elem.specs.Tokens.{TakesToken};
+ghost use Rattle.ifmap_elem.specs.InScope.{ResolvesAsDeclared};
 
 /// At most one token stands at the front of bytes, and it takes the same bytes.
 pub fn one_token_stands_at_the_front()
@@ -37,4 +38,10 @@ pub fn written_bytes_spell_the_element()
 /// of attributes.
 pub fn canonical_bytes_tell_elements_apart()
     ensures { (one other : Element) → IsFit one → IsFit other → AreHeld (canonical_bytes one) → ((canonical_bytes one ≡ canonical_bytes other) ↔ IsSame one other) }
+{}
+
+/// Where bytes spell a reading and a path names an element in it, the declarations that were read bind
+/// each listed prefix there to what that element's own scope binds it to.
+pub fn declarations_tell_the_scopes()
+    ensures { (bytes : List ℕ) (r : Reading) → Spells bytes r → ResolvesAsDeclared bytes r }
 {}

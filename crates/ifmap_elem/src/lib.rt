@@ -27,6 +27,3 @@ pub use lists::Many;
 pub use printing::{canonical, written};
 pub use readings::{Declared, Reading};
 pub use texts::Text;
-
-#[cfg(test)]
-mod tests;

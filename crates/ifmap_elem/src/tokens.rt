@@ -24,8 +24,8 @@ pub struct Tag {
     pub assignments: Many<Assignment>,
 }
 
-/// A token by what it means. A text is told by whether its own bytes are white space alone, and by
-/// what it means.
+/// A token by what it means. Of characters it is told whether their own bytes are white space alone,
+/// and the text that they mean.
 #[derive(Debug, Drop)]
 pub enum Token {
     Declaration,
@@ -34,5 +34,5 @@ pub enum Token {
     Empty(Tag),
     End(Qualified),
     Section(Text),
-    Text(bool, Text),
+    Characters { blank: bool, text: Text },
 }

@@ -7,7 +7,7 @@ use Rattle.std.specs.Cmp.Lexicographic.{slice_cmp}
 use Rattle.std.specs.Ordering.{is_eq, nat_cmp, ordering_then}
 use Rattle.std.specs.declared.cmp.Ordering.{Ordering}
 use Rattle.std.specs.declared.cmp.Ordering.TheVariants.{Less, Equal, Greater}
-use Rattle.ifmap_elem.proofs.Attributes.{both_equal}
+use Rattle.ifmap_lemmas.specs.Orderings.{both_equal}
 use Rattle.ifmap_ident.specs.Leading.{Leads}
 use Rattle.ifmap_ident.proofs.Ties.{itself}
 

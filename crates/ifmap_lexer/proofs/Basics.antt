@@ -4,7 +4,7 @@ use Rattle.std.specs.Prelude.{Option, Some, None, MatchOption, IfSome, IfNone, n
 use Rattle.std.specs.List.{list_all}
 use Rattle.std.proofs.lemmas.Bool.{and_from, and_parts}
 use Rattle.ifmap_elem.specs.Chars.{AllAre}
-use Rattle.ifmap_elem.proofs.Cuts.{is_number}
+use Rattle.ifmap_lemmas.specs.Numbers.{is_number}
 use Rattle.ifmap_lexer.specs.declared.errors.LexError.{LexError}
 use Rattle.ifmap_lexer.specs.declared.errors.LexError.TheVariants.{Malformed, NoMemory}
 use Rattle.ifmap_lexer.specs.Refusing.{Refuses}

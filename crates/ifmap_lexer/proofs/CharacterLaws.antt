@@ -9,7 +9,7 @@ use Rattle.std.proofs.lemmas.Bool.Decides.{nat_tests}
 use Rattle.std.proofs.lemmas.Str.{encode_ascii, encodes-chars, chars_from_encodes}
 use Rattle.std.proofs.lemmas.List.{take_more}
 use Rattle.ifmap_elem.specs.Chars.{AllAre, IsCharacters, is_character}
-use Rattle.ifmap_elem.proofs.Cuts.{all_append}
+use Rattle.ifmap_lemmas.specs.Members.{all_append}
 use Rattle.ifmap_lexer.specs.Common.{is_common}
 use Rattle.ifmap_lexer.proofs.Basics.{each, of_each, all_front, all_back}
 

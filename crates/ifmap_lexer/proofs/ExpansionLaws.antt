@@ -6,20 +6,20 @@ use Rattle.std.proofs.lemmas.List.{append-nil}
 use Rattle.ifmap_lemmas.specs.Items.{To}
 use Rattle.ifmap_elem.specs.Chars.{AllAre}
 use Rattle.ifmap_elem.specs.Values.{Part, Plain, Reference, TakesPart, EndsRun, Expands, referred}
-use Rattle.ifmap_elem.proofs.Cuts.{cut}
-use Rattle.ifmap_elem.proofs.OneToken.{one_part}
+use Rattle.ifmap_lemmas.specs.Cuts.{cut}
+use Rattle.ifmap_elem.specs.laws.OneToken.{one_part}
 use Rattle.ifmap_lexer.specs.Cutting.{CutsAt, is_but}
 use Rattle.ifmap_lexer.specs.Runs.{part_in}
 use Rattle.ifmap_lexer.specs.declared.values.Place.{Place}
-use Rattle.ifmap_lexer.specs.declared.values.Place.TheVariants.{Content, Value}
+use Rattle.ifmap_lexer.specs.declared.values.Place.TheVariants.{AttributeValue, CharacterData}
 
 empty_run : (place : Place) → part_in place (Plain []) ≡ []
-empty_run Content = refl
-empty_run Value = refl
+empty_run CharacterData = refl
+empty_run AttributeValue = refl
 
 character_in : (place : Place) (c : ℕ) → part_in place (Reference c) ≡ encode_utf8 c
-character_in Content c = refl
-character_in Value c = refl
+character_in CharacterData c = refl
+character_in AttributeValue c = refl
 
 no_cons : (b : ℕ) (bs : List ℕ) → b ∷ bs ≡ [] → ⊥
 no_cons b bs e = cc
@@ -35,53 +35,53 @@ module _ (place : Place) where
   abbrev Means : List ℕ → List ℕ → Type 0
   Means written text = Expands (part_in place) written text
 
-  run_found : (run behind u : List ℕ) → AllAre (is_but 0x26) run → EndsRun behind → Means behind u → Means (run ++ behind) (part_in place (Plain run) ++ u)
-  run_found [] behind u f ends x = subst (Means behind) (sym (ap (λ y. y ++ u) (empty_run place))) x
-  run_found (b ∷ bs) behind u f ends x = record {
+  run_found : (run after u : List ℕ) → AllAre (is_but 0x26) run → EndsRun after → Means after u → Means (run ++ after) (part_in place (Plain run) ++ u)
+  run_found [] after u f ends x = subst (Means after) (sym (ap (λ y. y ++ u) (empty_run place))) x
+  run_found (b ∷ bs) after u f ends x = record {
     parts = Plain (b ∷ bs) ∷ x.parts;
-    taken = (behind, (refl, no_cons b bs, f, ends), x.taken);
+    taken = (after, (refl, no_cons b bs, f, ends), x.taken);
     text_is = ap (λ y. part_in place (Plain (b ∷ bs)) ++ y) x.text_is;
   }
 
-  reference_found : (name after u : List ℕ) (c : ℕ) → AllAre (is_but 0x3B) name → referred name ≡ Some c → Means after u → Means (0x26 ∷ (name ++ (0x3B ∷ after))) (encode_utf8 c ++ u)
-  reference_found name after u c f e x = subst (λ (y : List ℕ). Means (0x26 ∷ (name ++ (0x3B ∷ after))) (y ++ u)) (character_in place c) (record {
+  reference_found : (name beyond u : List ℕ) (c : ℕ) → AllAre (is_but 0x3B) name → referred name ≡ Some c → Means beyond u → Means (0x26 ∷ (name ++ (0x3B ∷ beyond))) (encode_utf8 c ++ u)
+  reference_found name beyond u c f e x = subst (λ (y : List ℕ). Means (0x26 ∷ (name ++ (0x3B ∷ beyond))) (y ++ u)) (character_in place c) (record {
     parts = Reference c ∷ x.parts;
-    taken = (after, (name, refl, f, e), x.taken);
+    taken = (beyond, (name, refl, f, e), x.taken);
     text_is = ap (λ y. part_in place (Reference c) ++ y) x.text_is;
   })
 
-  run_ahead : (run behind : List ℕ) → AllAre (is_but 0x26) run → EndsRun behind → (t : List ℕ) → Means (run ++ behind) t → (u : List ℕ) × Means behind u
-  run_ahead [] behind f ends t x = (t, x)
-  run_ahead (b ∷ bs) behind f ends t x = first x.parts x.taken
+  run_ahead : (run after : List ℕ) → AllAre (is_but 0x26) run → EndsRun after → (t : List ℕ) → Means (run ++ after) t → (u : List ℕ) × Means after u
+  run_ahead [] after f ends t x = (t, x)
+  run_ahead (b ∷ bs) after f ends t x = first x.parts x.taken
     where
-      first : (parts : List Part) → To TakesPart ((b ∷ bs) ++ behind) parts [] → (u : List ℕ) × Means behind u
-      first [] l = absurd (no_cons b (bs ++ behind) l)
+      first : (parts : List Part) → To TakesPart ((b ∷ bs) ++ after) parts [] → (u : List ℕ) × Means after u
+      first [] l = absurd (no_cons b (bs ++ after) l)
       first (p ∷ ps) l =
-          let both = one_part ((b ∷ bs) ++ behind) (Plain (b ∷ bs)) p behind l.0 (refl, no_cons b bs, f, ends) l.1 in
+          let both = one_part ((b ∷ bs) ++ after) (Plain (b ∷ bs)) p after l.0 (refl, no_cons b bs, f, ends) l.1 in
           (flat_map (part_in place) ps, record { parts = ps; taken = subst (λ (m : List ℕ). To TakesPart m ps []) (sym both.1) l.2; text_is = refl })
 
   abbrev Refers : List ℕ → List ℕ → Type 0
-  Refers name after = (c : ℕ) × (referred name ≡ Some c) × ((u : List ℕ) × Means after u)
+  Refers name beyond = (c : ℕ) × (referred name ≡ Some c) × ((u : List ℕ) × Means beyond u)
 
-  reference_ahead : (name after : List ℕ) → AllAre (is_but 0x3B) name → (t : List ℕ) → Means (0x26 ∷ (name ++ (0x3B ∷ after))) t → Refers name after
-  reference_ahead name after f t x = first x.parts x.taken
+  reference_ahead : (name beyond : List ℕ) → AllAre (is_but 0x3B) name → (t : List ℕ) → Means (0x26 ∷ (name ++ (0x3B ∷ beyond))) t → Refers name beyond
+  reference_ahead name beyond f t x = first x.parts x.taken
     where
-      refers : (p : Part) (ps : List Part) (mid : List ℕ) → TakesPart (0x26 ∷ (name ++ (0x3B ∷ after))) p mid → To TakesPart mid ps [] → Refers name after
-      refers (Plain run) ps mid l m = absurd (no_run run mid (name ++ (0x3B ∷ after)) l.1 l.2 l.0)
+      refers : (p : Part) (ps : List Part) (mid : List ℕ) → TakesPart (0x26 ∷ (name ++ (0x3B ∷ beyond))) p mid → To TakesPart mid ps [] → Refers name beyond
+      refers (Plain run) ps mid l m = absurd (no_run run mid (name ++ (0x3B ∷ beyond)) l.1 l.2 l.0)
       refers (Reference c) ps mid l m =
-          let e : 0x26 ∷ (name ++ (0x3B ∷ after)) ≡ 0x26 ∷ (l.0 ++ (0x3B ∷ mid)) = l.1 in
-          let tail : name ++ (0x3B ∷ after) ≡ l.0 ++ (0x3B ∷ mid) = cc in
-          let both = cut (is_but 0x3B) name l.0 (0x3B ∷ after) (0x3B ∷ mid) f l.2 refl refl tail in
-          let behind : 0x3B ∷ after ≡ 0x3B ∷ mid = both.1 in
-          let same : mid ≡ after = cc in
+          let e : 0x26 ∷ (name ++ (0x3B ∷ beyond)) ≡ 0x26 ∷ (l.0 ++ (0x3B ∷ mid)) = l.1 in
+          let tail : name ++ (0x3B ∷ beyond) ≡ l.0 ++ (0x3B ∷ mid) = cc in
+          let both = cut (is_but 0x3B) name l.0 (0x3B ∷ beyond) (0x3B ∷ mid) f l.2 refl refl tail in
+          let after : 0x3B ∷ beyond ≡ 0x3B ∷ mid = both.1 in
+          let same : mid ≡ beyond = cc in
           (c, ap referred both.0 ∙ l.3, (flat_map (part_in place) ps, record { parts = ps; taken = subst (λ (b : List ℕ). To TakesPart b ps []) same m; text_is = refl }))
 
-      first : (parts : List Part) → To TakesPart (0x26 ∷ (name ++ (0x3B ∷ after))) parts [] → Refers name after
-      first [] l = absurd (no_cons 0x26 (name ++ (0x3B ∷ after)) l)
+      first : (parts : List Part) → To TakesPart (0x26 ∷ (name ++ (0x3B ∷ beyond))) parts [] → Refers name beyond
+      first [] l = absurd (no_cons 0x26 (name ++ (0x3B ∷ beyond)) l)
       first (p ∷ ps) l = refers p ps l.0 l.1 l.2
 
-  no_reference : (behind : List ℕ) → AllAre (is_but 0x3B) behind → (t : List ℕ) → Means (0x26 ∷ behind) t → ⊥
-  no_reference behind f t x = first x.parts x.taken
+  no_reference : (after : List ℕ) → AllAre (is_but 0x3B) after → (t : List ℕ) → Means (0x26 ∷ after) t → ⊥
+  no_reference after f t x = first x.parts x.taken
     where
       inside : (name rest : List ℕ) (bs : List ℕ) → AllAre (is_but 0x3B) bs → bs ≡ name ++ (0x3B ∷ rest) → ⊥
       inside [] rest [] g e = cc
@@ -92,15 +92,15 @@ module _ (place : Place) where
       inside (n ∷ ns) rest [] g e = cc
       inside (n ∷ ns) rest (b ∷ bs) g e = let tail : bs ≡ ns ++ (0x3B ∷ rest) = cc in inside ns rest bs g.1 tail
 
-      refers : (p : Part) (mid : List ℕ) → TakesPart (0x26 ∷ behind) p mid → ⊥
-      refers (Plain run) mid l = no_run run mid behind l.1 l.2 l.0
+      refers : (p : Part) (mid : List ℕ) → TakesPart (0x26 ∷ after) p mid → ⊥
+      refers (Plain run) mid l = no_run run mid after l.1 l.2 l.0
       refers (Reference c) mid l =
-          let e : 0x26 ∷ behind ≡ 0x26 ∷ (l.0 ++ (0x3B ∷ mid)) = l.1 in
-          let tail : behind ≡ l.0 ++ (0x3B ∷ mid) = cc in
-          inside l.0 mid behind f tail
+          let e : 0x26 ∷ after ≡ 0x26 ∷ (l.0 ++ (0x3B ∷ mid)) = l.1 in
+          let tail : after ≡ l.0 ++ (0x3B ∷ mid) = cc in
+          inside l.0 mid after f tail
 
-      first : (parts : List Part) → To TakesPart (0x26 ∷ behind) parts [] → ⊥
-      first [] l = no_cons 0x26 behind l
+      first : (parts : List Part) → To TakesPart (0x26 ∷ after) parts [] → ⊥
+      first [] l = no_cons 0x26 after l
       first (p ∷ ps) l = refers p l.0 l.1
 
   -- how a reading goes on: what is left means what is missing
@@ -114,20 +114,20 @@ module _ (place : Place) where
     ahead = λ t x. (t, x);
   }
 
-  module _ (written made rest run behind : List ℕ) (along : Along written made rest) (c : CutsAt 0x26 rest run behind) where
-    reference_left : (t : List ℕ) → Means written t → (u : List ℕ) × Means (0x26 ∷ behind) u
+  module _ (written made rest run after : List ℕ) (along : Along written made rest) (c : CutsAt 0x26 rest run after) where
+    reference_left : (t : List ℕ) → Means written t → (u : List ℕ) × Means (0x26 ∷ after) u
     reference_left t x =
         let a = along.ahead t x in
-        run_ahead run (0x26 ∷ behind) c.passes refl a.0 (subst (λ (b : List ℕ). Means b a.0) c.bytes_are a.1)
+        run_ahead run (0x26 ∷ after) c.passes refl a.0 (subst (λ (b : List ℕ). Means b a.0) c.bytes_are a.1)
 
-    pub along_unended : AllAre (is_but 0x3B) behind → (t : List ℕ) × Means written t → ⊥
-    along_unended f s = let r = reference_left s.0 s.1 in no_reference behind f r.0 r.1
+    pub along_unended : AllAre (is_but 0x3B) after → (t : List ℕ) × Means written t → ⊥
+    along_unended f s = let r = reference_left s.0 s.1 in no_reference after f r.0 r.1
 
-    module _ (name after : List ℕ) (d : CutsAt 0x3B behind name after) where
-      referred_left : (t : List ℕ) → Means written t → Refers name after
+    module _ (name beyond : List ℕ) (d : CutsAt 0x3B after name beyond) where
+      referred_left : (t : List ℕ) → Means written t → Refers name beyond
       referred_left t x =
           let r = reference_left t x in
-          reference_ahead name after d.passes r.0 (subst (λ (b : List ℕ). Means (0x26 ∷ b) r.0) d.bytes_are r.1)
+          reference_ahead name beyond d.passes r.0 (subst (λ (b : List ℕ). Means (0x26 ∷ b) r.0) d.bytes_are r.1)
 
       pub along_unknown : referred name ≡ None → (t : List ℕ) × Means written t → ⊥
       along_unknown e s =
@@ -135,11 +135,11 @@ module _ (place : Place) where
           let wrong : ◌≡◌ {A = Option ℕ} None (Some r.0) = sym e ∙ r.1 in
           cc
 
-      pub along_next : (new : List ℕ) (ch : ℕ) → referred name ≡ Some ch → new ≡ (made ++ part_in place (Plain run)) ++ encode_utf8 ch → Along written new after
+      pub along_next : (new : List ℕ) (ch : ℕ) → referred name ≡ Some ch → new ≡ (made ++ part_in place (Plain run)) ++ encode_utf8 ch → Along written new beyond
       along_next new ch e is = record {
         found = λ u x.
-            let whole : rest ≡ run ++ (0x26 ∷ (name ++ (0x3B ∷ after))) = c.bytes_are ∙ ap (λ b. run ++ (0x26 ∷ b)) d.bytes_are in
-            let m = run_found run (0x26 ∷ (name ++ (0x3B ∷ after))) (encode_utf8 ch ++ u) c.passes refl (reference_found name after u ch d.passes e x) in
+            let whole : rest ≡ run ++ (0x26 ∷ (name ++ (0x3B ∷ beyond))) = c.bytes_are ∙ ap (λ b. run ++ (0x26 ∷ b)) d.bytes_are in
+            let m = run_found run (0x26 ∷ (name ++ (0x3B ∷ beyond))) (encode_utf8 ch ++ u) c.passes refl (reference_found name beyond u ch d.passes e x) in
             let all = along.found (part_in place (Plain run) ++ (encode_utf8 ch ++ u)) (subst (λ (b : List ℕ). Means b (part_in place (Plain run) ++ (encode_utf8 ch ++ u))) (sym whole) m) in
             let joined : made ++ (part_in place (Plain run) ++ (encode_utf8 ch ++ u)) ≡ new ++ u
             = sym (ap (λ x. x ++ u) is ∙ append_assoc (made ++ part_in place (Plain run)) (encode_utf8 ch) u ∙ append_assoc made (part_in place (Plain run)) (encode_utf8 ch ++ u)) in

@@ -4,8 +4,8 @@ use Rattle.std.specs.Prelude.{◌==◌, if◌then◌else◌}
 use Rattle.std.proofs.lemmas.Bool.{cases_Bool}
 use Rattle.ifmap_elem.specs.Tokens.{TakesToken}
 use Rattle.ifmap_elem.specs.declared.tokens.Token.{Token}
-use Rattle.ifmap_elem.specs.declared.tokens.Token.TheVariants.{Declaration, Comment, Start, Empty, End, Section, Text}
-use Rattle.ifmap_elem.proofs.OneToken as numbers
+use Rattle.ifmap_elem.specs.declared.tokens.Token.TheVariants.{Declaration, Comment, Start, Empty, End, Section, Characters}
+use Rattle.ifmap_elem.specs.laws.OneToken as numbers
 use Rattle.ifmap_lexer.specs.Kinds.{kind_at, kind_of, kind_of_markup, kind_of_section}
 use Rattle.ifmap_lexer.specs.declared.kinds.Kind.{Kind}
 use Rattle.ifmap_lexer.specs.declared.kinds.Kind.TheVariants as kinds
@@ -44,7 +44,7 @@ token_numbered (Start tag) = refl
 token_numbered (Empty tag) = refl
 token_numbered (End name) = refl
 token_numbered (Section text) = refl
-token_numbered (Text blank text) = refl
+token_numbered (Characters blank text) = refl
 
 pub kind_is : (bytes : List ℕ) (t : Token) (rest : List ℕ) → TakesToken bytes t rest → kind_at bytes ≡ kind_of t
 kind_is bytes t rest l = sym (bytes_numbered bytes) ∙ ap numbered (numbers.kind_is bytes t rest l) ∙ token_numbered t

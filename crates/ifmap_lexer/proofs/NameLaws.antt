@@ -10,8 +10,10 @@ use Rattle.std.proofs.lemmas.Str.{encode_same, encodes-chars, chars_from_encodes
 use Rattle.ifmap_elem.specs.Chars.{AllAre}
 use Rattle.ifmap_elem.specs.declared.tokens.Qualified.{Qualified}
 use Rattle.ifmap_elem.specs.Names.{IsNamePart, IsQualified, is_name_start, is_name_character, name_bytes, prefixed}
-use Rattle.ifmap_elem.proofs.Cuts.{cut, all_weaker, is_other}
-use Rattle.ifmap_elem.proofs.NameBytes.{is_part_byte, name_are_bytes, part_bytes, part_is_some}
+use Rattle.ifmap_lemmas.specs.Cuts.{cut}
+use Rattle.ifmap_lemmas.specs.Members.{all_weaker}
+use Rattle.ifmap_lemmas.specs.Numbers.{is_other}
+use Rattle.ifmap_elem.specs.laws.NameBytes.{is_part_byte, name_are_bytes, part_bytes, part_is_some}
 use Rattle.ifmap_lexer.specs.Cutting.{Cuts, CutsAt, is_but, Stops}
 use Rattle.ifmap_lexer.specs.Names.{is_name_byte}
 use Rattle.ifmap_lexer.proofs.Basics.{each, of_each, all_back}
@@ -86,17 +88,17 @@ unprefixed_found bytes l q e f = (record { prefix_is = inl e; local_is = subst I
 local_bytes : (q : Qualified) → q.prefix ≡ [] → name_bytes q ≡ q.local
 local_bytes q e = ap (λ x. prefixed x q.local) e
 
-pub prefixed_parts : (bytes front behind : List ℕ) → CutsAt 58 bytes front behind → (q : Qualified) → IsQualified q → name_bytes q ≡ bytes → IsNamePart front × IsNamePart behind
-prefixed_parts bytes front behind c q i e =
+pub prefixed_parts : (bytes front after : List ℕ) → CutsAt 58 bytes front after → (q : Qualified) → IsQualified q → name_bytes q ≡ bytes → IsNamePart front × IsNamePart after
+prefixed_parts bytes front after c q i e =
     elim i.prefix_is [
       | inl none ↦
-          let all : AllAre is_part_byte (front ++ (58 ∷ behind)) = subst (AllAre is_part_byte) (sym (local_bytes q none) ∙ e ∙ c.bytes_are) (part_bytes q.local i.local_is) in
-          let wrong : false ≡ true = (all_back is_part_byte front (58 ∷ behind) all).0 in cc
+          let all : AllAre is_part_byte (front ++ (58 ∷ after)) = subst (AllAre is_part_byte) (sym (local_bytes q none) ∙ e ∙ c.bytes_are) (part_bytes q.local i.local_is) in
+          let wrong : false ≡ true = (all_back is_part_byte front (58 ∷ after) all).0 in cc
       | inr part ↦
-          let both = cut (is_but 58) q.prefix front (58 ∷ q.local) (58 ∷ behind) (all_weaker is_part_byte (is_but 58) no_colon q.prefix (part_bytes q.prefix part)) c.passes refl refl
+          let both = cut (is_but 58) q.prefix front (58 ∷ q.local) (58 ∷ after) (all_weaker is_part_byte (is_but 58) no_colon q.prefix (part_bytes q.prefix part)) c.passes refl refl
           (sym (prefixed_some q.prefix q.local (part_is_some q.prefix part)) ∙ e ∙ c.bytes_are) in
-          let tail : 58 ∷ q.local ≡ 58 ∷ behind = both.1 in
-          let local : q.local ≡ behind = cc in
+          let tail : 58 ∷ q.local ≡ 58 ∷ after = both.1 in
+          let local : q.local ≡ after = cc in
           (subst IsNamePart both.0 part, subst IsNamePart local i.local_is)
     ]
 
@@ -118,7 +120,7 @@ pub name_found : (bytes run rest : List ℕ) (name : Qualified) → Cuts is_name
 name_found bytes run rest name c f = (f.0, c.bytes_are ∙ ap (λ x. x ++ rest) (sym f.1), c.stops)
 
 pub name_run : (bytes run rest : List ℕ) → Cuts is_name_byte bytes run rest
-    → ((name : Qualified) × (after : List ℕ) × IsQualified name × (bytes ≡ name_bytes name ++ after) × Stops is_name_byte after) → (name : Qualified) × IsQualified name × (name_bytes name ≡ run)
+    → ((name : Qualified) × (later : List ℕ) × IsQualified name × (bytes ≡ name_bytes name ++ later) × Stops is_name_byte later) → (name : Qualified) × IsQualified name × (name_bytes name ≡ run)
 name_run bytes run rest c s =
     let both = cut is_name_byte run (name_bytes s.0) rest s.1 c.passes (name_are_bytes s.0 s.2) c.stops s.4 (sym c.bytes_are ∙ s.3) in
     (s.0, s.2, sym both.0)

@@ -2,10 +2,10 @@
 use Rattle.std.proofs.Common.{◌≡◌, ℕ, true, false, List, ◌∷◌, ◌++◌, refl, ap, sym, ◌∙◌, subst, arith}
 use Rattle.std.specs.Prelude.{◌==◌, ◌||◌, Option, Some, None, IfSome, IfNone}
 use Rattle.std.proofs.lemmas.Bool.Decides.{nat_tests}
-use Rattle.ifmap_elem.specs.Chars.{AllAre, is_space}
+use Rattle.ifmap_elem.specs.Chars.{AllAre, is_white}
 use Rattle.ifmap_elem.specs.Tokens.{TakesQuoted}
-use Rattle.ifmap_elem.proofs.Cuts.{cut}
-use Rattle.ifmap_elem.proofs.OneToken.{quote_is_no_space}
+use Rattle.ifmap_lemmas.specs.Cuts.{cut}
+use Rattle.ifmap_elem.specs.laws.OneToken.{quote_is_not_white}
 use Rattle.ifmap_lexer.specs.Cutting.{Cuts, CutsAt, is_but}
 use Rattle.ifmap_lexer.proofs.Basics.{all_back}
 
@@ -21,10 +21,10 @@ itself : (q : ℕ) → is_but q q ≡ false
 itself q = let same : (q == q) ≡ true = grind (arith, nat_tests) in rw same refl
 
 -- a byte that stands inside is not lacked
-pub not_lacked : (q : ℕ) (bytes front behind : List ℕ) → bytes ≡ front ++ (q ∷ behind) → AllAre (is_but q) bytes → ⊥
-not_lacked q bytes front behind e f =
-    let all : AllAre (is_but q) (front ++ (q ∷ behind)) = subst (AllAre (is_but q)) e f in
-    let wrong : true ≡ false = sym (all_back (is_but q) front (q ∷ behind) all).0 ∙ itself q in
+pub not_lacked : (q : ℕ) (bytes front after : List ℕ) → bytes ≡ front ++ (q ∷ after) → AllAre (is_but q) bytes → ⊥
+not_lacked q bytes front after e f =
+    let all : AllAre (is_but q) (front ++ (q ∷ after)) = subst (AllAre (is_but q)) e f in
+    let wrong : true ≡ false = sym (all_back (is_but q) front (q ∷ after) all).0 ∙ itself q in
     cc
 
 abbrev IsQuote : ℕ → Type 0
@@ -37,19 +37,19 @@ no_quote_at b bs bytes e h q r g d =
     let wrong : true ≡ false = sym (subst IsQuote same g) ∙ h in
     cc
 
-module _ (bytes before sign : List ℕ) (c : Cuts is_space bytes before sign) where
+module _ (bytes before sign : List ℕ) (c : Cuts is_white bytes before sign) where
   sign_is : (w r : List ℕ) (t : TakesQuoted bytes w r) → sign ≡ 0x3D ∷ (t.after ++ (t.quote ∷ (w ++ (t.quote ∷ r))))
-  sign_is w r t = (cut is_space before t.before sign (0x3D ∷ (t.after ++ (t.quote ∷ (w ++ (t.quote ∷ r))))) c.passes t.space_before c.stops refl (sym c.bytes_are ∙ t.bytes_are)).1
+  sign_is w r t = (cut is_white before t.before sign (0x3D ∷ (t.after ++ (t.quote ∷ (w ++ (t.quote ∷ r))))) c.passes t.white_before c.stops refl (sym c.bytes_are ∙ t.bytes_are)).1
 
   pub no_sign : ((rest : List ℕ) → sign ≡ 0x3D ∷ rest → ⊥) → (w r : List ℕ) → TakesQuoted bytes w r → ⊥
   no_sign none w r t = none (t.after ++ (t.quote ∷ (w ++ (t.quote ∷ r)))) (sign_is w r t)
 
-  module _ (behind after value : List ℕ) (e : sign ≡ 0x3D ∷ behind) (d : Cuts is_space behind after value) where
+  module _ (after later value : List ℕ) (e : sign ≡ 0x3D ∷ after) (d : Cuts is_white after later value) where
     value_is : (w r : List ℕ) (t : TakesQuoted bytes w r) → value ≡ t.quote ∷ (w ++ (t.quote ∷ r))
     value_is w r t =
-        let s : 0x3D ∷ behind ≡ 0x3D ∷ (t.after ++ (t.quote ∷ (w ++ (t.quote ∷ r)))) = sym e ∙ sign_is w r t in
-        let tail : behind ≡ t.after ++ (t.quote ∷ (w ++ (t.quote ∷ r))) = cc in
-        (cut is_space after t.after value (t.quote ∷ (w ++ (t.quote ∷ r))) d.passes t.space_after d.stops (quote_is_no_space t.quote t.is_quote) (sym d.bytes_are ∙ tail)).1
+        let s : 0x3D ∷ after ≡ 0x3D ∷ (t.after ++ (t.quote ∷ (w ++ (t.quote ∷ r)))) = sym e ∙ sign_is w r t in
+        let tail : after ≡ t.after ++ (t.quote ∷ (w ++ (t.quote ∷ r))) = cc in
+        (cut is_white later t.after value (t.quote ∷ (w ++ (t.quote ∷ r))) d.passes t.white_after d.stops (quote_is_not_white t.quote t.is_quote) (sym d.bytes_are ∙ tail)).1
 
     pub no_quote : ((quote : ℕ) (rest : List ℕ) → (quote == 0x22 || quote == 0x27) ≡ true → value ≡ quote ∷ rest → ⊥) → (w r : List ℕ) → TakesQuoted bytes w r → ⊥
     no_quote none w r t = none t.quote (w ++ (t.quote ∷ r)) t.is_quote (value_is w r t)
@@ -68,11 +68,11 @@ module _ (bytes before sign : List ℕ) (c : Cuts is_space bytes before sign) wh
       pub quoted_found : (w r : List ℕ) → CutsAt quote inside w r → TakesQuoted bytes w r
       quoted_found w r k = record {
         before = before;
-        after = after;
+        after = later;
         quote = quote;
-        bytes_are = c.bytes_are ∙ ap (λ x. before ++ x) (e ∙ ap (λ x. 0x3D ∷ x) (d.bytes_are ∙ ap (λ x. after ++ x) (is ∙ ap (λ x. quote ∷ x) k.bytes_are)));
-        space_before = c.passes;
-        space_after = d.passes;
+        bytes_are = c.bytes_are ∙ ap (λ x. before ++ x) (e ∙ ap (λ x. 0x3D ∷ x) (d.bytes_are ∙ ap (λ x. later ++ x) (is ∙ ap (λ x. quote ∷ x) k.bytes_are)));
+        white_before = c.passes;
+        white_after = d.passes;
         is_quote = q;
         unquoted = k.passes;
       }

@@ -8,7 +8,7 @@ use Rattle.std.proofs.lemmas.List.{take-append-drop}
 use Rattle.std.proofs.lemmas.Str.{IsUtf8-drop, IsCharBoundary-after_ascii}
 use Rattle.std.proofs.Math.Seq.{drop-append_seam, get_or-append_seam}
 use Rattle.ifmap_elem.specs.Chars.{AllAre}
-use Rattle.ifmap_elem.proofs.Cuts.{is_other}
+use Rattle.ifmap_lemmas.specs.Numbers.{is_other}
 use Rattle.ifmap_lexer.specs.Cutting.{Cuts, CutsAt, is_but, Stops}
 
 module _ (p : ℕ → Bool) where
@@ -35,14 +35,14 @@ module _ (p : ℕ → Bool) where
     stops = subst (Stops p) (sym (r ∙ ap (λ m. drop m bytes) is)) (rest_stops bytes);
   }
 
--- behind an ASCII byte of a text stands a text
-pub behind_is_utf8 : (c : ℕ) (text front behind : List ℕ) → c < 128 → text ≡ front ++ (c ∷ behind) → IsUtf8 text → IsUtf8 behind
-behind_is_utf8 c text front behind small e u =
+-- after an ASCII byte of a text stands a text
+pub after_is_utf8 : (c : ℕ) (text front after : List ℕ) → c < 128 → text ≡ front ++ (c ∷ after) → IsUtf8 text → IsUtf8 after
+after_is_utf8 c text front after small e u =
     let n = length front in
-    let here : get_or text n 0 ≡ c = ap (λ x. get_or x n 0) e ∙ get_or-append_seam front c behind 0 in
-    let inside : n < length text = omega (arith, ap length e, length-append front (c ∷ behind)) in
-    let rest : drop (n + 1) text ≡ behind
-    = ap (drop (n + 1)) (e ∙ sym (append_assoc front (c ∷ []) behind)) ∙ ap (λ k. drop k ((front ++ (c ∷ [])) ++ behind)) (sym (length-append front (c ∷ []))) ∙ drop-append_seam (front ++ (c ∷ [])) behind in
+    let here : get_or text n 0 ≡ c = ap (λ x. get_or x n 0) e ∙ get_or-append_seam front c after 0 in
+    let inside : n < length text = omega (arith, ap length e, length-append front (c ∷ after)) in
+    let rest : drop (n + 1) text ≡ after
+    = ap (drop (n + 1)) (e ∙ sym (append_assoc front (c ∷ []) after)) ∙ ap (λ k. drop k ((front ++ (c ∷ [])) ++ after)) (sym (length-append front (c ∷ []))) ∙ drop-append_seam (front ++ (c ∷ [])) after in
     subst IsUtf8 rest (IsUtf8-drop text (n + 1) u (IsCharBoundary-after_ascii text n u inside (omega arith)))
 
 -- an option by whether it is some

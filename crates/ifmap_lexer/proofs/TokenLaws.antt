@@ -4,7 +4,7 @@ use Rattle.std.specs.Prelude.{◌==◌, codes, Result, Ok, Err, IfErr}
 use Rattle.std.specs.List.{list_all}
 use Rattle.std.proofs.Math.Seq.{drop-append_seam}
 use Rattle.ifmap_lemmas.specs.Items.{To}
-use Rattle.ifmap_elem.specs.Chars.{IsCharacters, is_space}
+use Rattle.ifmap_elem.specs.Chars.{IsCharacters, is_white}
 use Rattle.ifmap_elem.specs.Names.{name_bytes}
 use Rattle.ifmap_elem.specs.Values.{IsText, line_ends}
 use Rattle.ifmap_elem.specs.Tokens.{Lacks, TakesDeclaration, TakesEnd, TakesTag, TakesText, TakesToken, TakesAssignment, EndsText}
@@ -12,10 +12,12 @@ use Rattle.ifmap_elem.specs.declared.tokens.Assignment.{Assignment}
 use Rattle.ifmap_elem.specs.declared.tokens.Qualified.{Qualified}
 use Rattle.ifmap_elem.specs.declared.tokens.Tag.{Tag}
 use Rattle.ifmap_elem.specs.declared.tokens.Token.{Token}
-use Rattle.ifmap_elem.specs.declared.tokens.Token.TheVariants.{Declaration, Comment, Start, Empty, End, Section, Text}
-use Rattle.ifmap_elem.proofs.Cuts.{cut, dash_cut, bracket_cut, is_number}
-use Rattle.ifmap_elem.proofs.NameBytes.{name_cut, name_stops_at_space}
-use Rattle.ifmap_elem.proofs.OneToken.{one_tag, text_stops, declaration_no_end}
+use Rattle.ifmap_elem.specs.declared.tokens.Token.TheVariants.{Declaration, Comment, Start, Empty, End, Section, Characters}
+use Rattle.ifmap_lemmas.specs.Cuts.{cut}
+use Rattle.ifmap_elem.specs.laws.Delimiters.{dash_cut, bracket_cut}
+use Rattle.ifmap_lemmas.specs.Numbers.{is_number}
+use Rattle.ifmap_elem.specs.laws.NameBytes.{name_cut, name_stops_at_white}
+use Rattle.ifmap_elem.specs.laws.OneToken.{one_tag, text_stops, declaration_no_end}
 use Rattle.ifmap_lexer.specs.Cutting.{Cuts, CutsWord, is_but, Stops}
 use Rattle.ifmap_lexer.specs.Kinds.{Stands, kind_at, kind_of}
 use Rattle.ifmap_lexer.specs.Tags.{ClosesTag}
@@ -50,7 +52,7 @@ of_no_kind bytes e s = none s.0 (sym (kind_is bytes s.0 s.1 s.2) ∙ sym e)
     none (Empty tag) h = cc
     none (End name) h = cc
     none (Section text) h = cc
-    none (Text blank text) h = cc
+    none (Characters blank text) h = cc
 
 pub kind_refused : {X : Type 0} (kind : Kind) (bytes : List ℕ) (r : Result X LexError) → kind ≡ kind_at bytes → IfErr r (λ e. Refuses e (Stands kind bytes)) → IfErr r (λ e. Refuses e (SomeToken bytes))
 kind_refused kind bytes (Ok x) e h = tt
@@ -73,7 +75,7 @@ end_by bytes (End name) rest l e = (name, l)
 end_by bytes t rest l e = cc
 
 text_by : (bytes : List ℕ) (t : Token) (rest : List ℕ) → TakesToken bytes t rest → kind_of t ≡ kinds.Text → (blank : Bool) × (text : List ℕ) × TakesText bytes blank text rest
-text_by bytes (Text blank text) rest l e = (blank, text, l)
+text_by bytes (Characters blank text) rest l e = (blank, text, l)
 text_by bytes t rest l e = cc
 
 -- how a tag's bytes end
@@ -138,8 +140,8 @@ module _ (bytes inner : List ℕ) (e : bytes ≡ codes "<![CDATA[" ++ inner) whe
       cc
 
   module _ (content rest : List ℕ) (c : CutsWord (codes "]]>") inner content rest) where
-    section_cut : (text after : List ℕ) (t : TakesToken bytes (Section text) after) → (content ≡ t.0) × (rest ≡ after)
-    section_cut text after t = bracket_cut content t.0 rest after c.front_lacks t.2 (sym c.bytes_are ∙ section_inner text after t)
+    section_cut : (text later : List ℕ) (t : TakesToken bytes (Section text) later) → (content ≡ t.0) × (rest ≡ later)
+    section_cut text later t = bracket_cut content t.0 rest later c.front_lacks t.2 (sym c.bytes_are ∙ section_inner text later t)
 
     pub no_section_characters : (IsCharacters content → ⊥) → Stands kinds.Section bytes → ⊥
     no_section_characters none s = let t = section_by bytes s.0 s.1 s.2 s.3 in none (subst IsCharacters (sym (section_cut t.0 s.1 t.1).0) t.1.1.characters)
@@ -150,31 +152,31 @@ module _ (bytes inner : List ℕ) (e : bytes ≡ codes "<![CDATA[" ++ inner) whe
 -- end tags
 
 pub no_opening_end : (bytes : List ℕ) → ((rest : List ℕ) → bytes ≡ codes "</" ++ rest → ⊥) → Stands kinds.End bytes → ⊥
-no_opening_end bytes none s = let t = end_by bytes s.0 s.1 s.2 s.3 in none (name_bytes t.0 ++ (t.1.space ++ (codes ">" ++ s.1))) t.1.bytes_are
+no_opening_end bytes none s = let t = end_by bytes s.0 s.1 s.2 s.3 in none (name_bytes t.0 ++ (t.1.white ++ (codes ">" ++ s.1))) t.1.bytes_are
 
 module _ (bytes inner : List ℕ) (e : bytes ≡ codes "</" ++ inner) where
-  end_inner : (name : Qualified) (rest : List ℕ) (t : TakesEnd bytes name rest) → inner ≡ name_bytes name ++ (t.space ++ (codes ">" ++ rest))
-  end_inner name rest t = let both : codes "</" ++ inner ≡ codes "</" ++ (name_bytes name ++ (t.space ++ (codes ">" ++ rest))) = sym e ∙ t.bytes_are in cc
+  end_inner : (name : Qualified) (rest : List ℕ) (t : TakesEnd bytes name rest) → inner ≡ name_bytes name ++ (t.white ++ (codes ">" ++ rest))
+  end_inner name rest t = let both : codes "</" ++ inner ≡ codes "</" ++ (name_bytes name ++ (t.white ++ (codes ">" ++ rest))) = sym e ∙ t.bytes_are in cc
 
   pub end_name : Stands kinds.End bytes → SomeName inner
   end_name s =
       let t = end_by bytes s.0 s.1 s.2 s.3 in
-      (t.0, t.1.space ++ (codes ">" ++ s.1), t.1.is_name, end_inner t.0 s.1 t.1, name_stops_at_space t.1.space (codes ">" ++ s.1) t.1.is_space refl)
+      (t.0, t.1.white ++ (codes ">" ++ s.1), t.1.is_name, end_inner t.0 s.1 t.1, name_stops_at_white t.1.white (codes ">" ++ s.1) t.1.is_white refl)
 
-  module _ (name : Qualified) (behind space end : List ℕ) (n : NameAt inner name behind) (c : Cuts is_space behind space end) where
+  module _ (name : Qualified) (after white end : List ℕ) (n : NameAt inner name after) (c : Cuts is_white after white end) where
     pub no_end_end : ((rest : List ℕ) → end ≡ codes ">" ++ rest → ⊥) → Stands kinds.End bytes → ⊥
     no_end_end none s =
         let o = end_by bytes s.0 s.1 s.2 s.3 in
         let t = o.1 in
-        let both = name_cut name o.0 behind (t.space ++ (codes ">" ++ s.1)) n.0 t.is_name n.2 (name_stops_at_space t.space (codes ">" ++ s.1) t.is_space refl) (sym n.1 ∙ end_inner o.0 s.1 t) in
-        none s.1 (cut is_space space t.space end (codes ">" ++ s.1) c.passes t.is_space c.stops refl (sym c.bytes_are ∙ both.1)).1
+        let both = name_cut name o.0 after (t.white ++ (codes ">" ++ s.1)) n.0 t.is_name n.2 (name_stops_at_white t.white (codes ">" ++ s.1) t.is_white refl) (sym n.1 ∙ end_inner o.0 s.1 t) in
+        none s.1 (cut is_white white t.white end (codes ">" ++ s.1) c.passes t.is_white c.stops refl (sym c.bytes_are ∙ both.1)).1
 
     pub end_found : (rest : List ℕ) → end ≡ codes ">" ++ rest → TakesEnd bytes name rest
     end_found rest is = record {
-      space = space;
-      bytes_are = e ∙ ap (λ x. codes "</" ++ x) (n.1 ∙ ap (λ x. name_bytes name ++ x) (c.bytes_are ∙ ap (λ x. space ++ x) is));
+      white = white;
+      bytes_are = e ∙ ap (λ x. codes "</" ++ x) (n.1 ∙ ap (λ x. name_bytes name ++ x) (c.bytes_are ∙ ap (λ x. white ++ x) is));
       is_name = n.0;
-      is_space = c.passes;
+      is_white = c.passes;
     }
 
 -- start tags and empty tags
@@ -206,8 +208,8 @@ ends_text (b ∷ bs) s = by_test (b == 0x3C) refl
     by_test false e = let wrong : true ≡ false = sym (ap not e) ∙ s in cc
 
 module _ (bytes own rest : List ℕ) (c : Cuts (is_but 0x3C) bytes own rest) where
-  text_cut : (blank : Bool) (text after : List ℕ) (t : TakesText bytes blank text after) → own ≡ t.own
-  text_cut blank text after t = (cut (is_but 0x3C) own t.own rest after c.passes t.no_tag c.stops (text_stops after t.ends) (sym c.bytes_are ∙ t.bytes_are)).0
+  text_cut : (blank : Bool) (text later : List ℕ) (t : TakesText bytes blank text later) → own ≡ t.own
+  text_cut blank text later t = (cut (is_but 0x3C) own t.own rest later c.passes t.no_tag c.stops (text_stops later t.ends) (sym c.bytes_are ∙ t.bytes_are)).0
 
   pub no_own : own ≡ [] → Stands kinds.Text bytes → ⊥
   no_own e s = let t = (text_by bytes s.0 s.1 s.2 s.3) in t.2.some (sym (text_cut t.0 t.1 s.1 t.2) ∙ e)
@@ -224,7 +226,7 @@ module _ (bytes own rest : List ℕ) (c : Cuts (is_but 0x3C) bytes own rest) whe
   pub some_text_of : (written : List ℕ) → written ≡ own → Stands kinds.Text bytes → SomeMeaning written
   some_text_of written e s = subst SomeMeaning (sym e) (some_text s)
 
-  pub text_found : own ≢ [] → Lacks (codes "]]>") own → IsCharacters own → (blank : Bool) → blank ≡ list_all is_space own → (text : List ℕ) → IsText own text → TakesText bytes blank text rest
+  pub text_found : own ≢ [] → Lacks (codes "]]>") own → IsCharacters own → (blank : Bool) → blank ≡ list_all is_white own → (text : List ℕ) → IsText own text → TakesText bytes blank text rest
   text_found some lacks f blank b text m = record {
     own = own;
     bytes_are = c.bytes_are;
@@ -251,8 +253,8 @@ shorter (x ∷ xs) rest bytes e some =
 
 tag_front : (bytes : List ℕ) (tag : Tag) (end : List ℕ) → TakesTag bytes tag end → (front : List ℕ) × (bytes ≡ front ++ end) × (front ≢ [])
 tag_front bytes tag end t =
-    let f = items_front t.behind tag.assignments (t.space ++ end) t.assigned in (
-      0x3C ∷ (name_bytes tag.name ++ (f.0 ++ t.space)),
+    let f = items_front t.after tag.assignments (t.white ++ end) t.assigned in (
+      0x3C ∷ (name_bytes tag.name ++ (f.0 ++ t.white)),
       t.bytes_are ∙ ap (λ x. 0x3C ∷ (name_bytes tag.name ++ x)) f.1 ∙ simp append_assoc,
       (λ e. cc),
     )
@@ -263,9 +265,9 @@ tag_front bytes tag end t =
         let f = items_front l.0 xs rest l.2 in
         let q = l.1.given in
         let quoted : List ℕ = q.before ++ (0x3D ∷ (q.after ++ (q.quote ∷ (l.1.written ++ (q.quote ∷ []))))) in (
-          l.1.space ++ (name_bytes x.name ++ (quoted ++ f.0)),
-          l.1.bytes_are ∙ ap (λ b. l.1.space ++ (name_bytes x.name ++ b)) q.bytes_are
-              ∙ ap (λ b. l.1.space ++ (name_bytes x.name ++ (q.before ++ (0x3D ∷ (q.after ++ (q.quote ∷ (l.1.written ++ (q.quote ∷ b)))))))) f.1 ∙ simp append_assoc,
+          l.1.white ++ (name_bytes x.name ++ (quoted ++ f.0)),
+          l.1.bytes_are ∙ ap (λ b. l.1.white ++ (name_bytes x.name ++ b)) q.bytes_are
+              ∙ ap (λ b. l.1.white ++ (name_bytes x.name ++ (q.before ++ (0x3D ∷ (q.after ++ (q.quote ∷ (l.1.written ++ (q.quote ∷ b)))))))) f.1 ∙ simp append_assoc,
         )
 
 pub token_front : (bytes : List ℕ) (t : Token) (rest : List ℕ) → TakesToken bytes t rest → (front : List ℕ) × (bytes ≡ front ++ rest) × (front ≢ [])
@@ -291,9 +293,9 @@ token_front bytes (Empty tag) rest t =
     some_more : (xs ys : List ℕ) → xs ≢ [] → xs ++ ys ≢ []
     some_more [] ys some e = some refl
     some_more (x ∷ xs) ys some e = cc
-token_front bytes (End name) rest t = (codes "</" ++ (name_bytes name ++ (t.space ++ codes ">")), t.bytes_are ∙ simp append_assoc, (λ e. cc))
+token_front bytes (End name) rest t = (codes "</" ++ (name_bytes name ++ (t.white ++ codes ">")), t.bytes_are ∙ simp append_assoc, (λ e. cc))
 token_front bytes (Section text) rest t = (codes "<![CDATA[" ++ (t.0 ++ codes "]]>"), t.1.bytes_are ∙ simp append_assoc, (λ e. cc))
-token_front bytes (Text blank text) rest t = (t.own, t.bytes_are, t.some)
+token_front bytes (Characters blank text) rest t = (t.own, t.bytes_are, t.some)
 
 pub token_length : (bytes : List ℕ) (t : Token) (rest : List ℕ) → TakesToken bytes t rest
     → (1 ≤ length bytes - length rest) × (length bytes - length rest ≤ length bytes) × (drop (length bytes - length rest) bytes ≡ rest)

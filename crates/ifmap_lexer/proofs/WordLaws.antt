@@ -10,7 +10,7 @@ use Rattle.memchr.specs.Find.{OccursAt, NoneBefore, Passes, is_byte}
 use Rattle.memchr.proofs.lemmas.MatchLemmas.{OccursAt-part, OccursAt-from_part}
 use Rattle.ifmap_elem.specs.Chars.{AllAre}
 use Rattle.ifmap_elem.specs.Tokens.{Lacks}
-use Rattle.ifmap_elem.proofs.Cuts.{is_number}
+use Rattle.ifmap_lemmas.specs.Numbers.{is_number}
 use Rattle.ifmap_lexer.specs.Cutting.{CutsWord, CutsAt, is_but}
 
 fits : (w xs : List ℕ) → w ≡ take (length w) xs → 0 + length w ≤ length xs
@@ -42,22 +42,22 @@ occurs_whole w whole xs ys j e o = record {
 joined : (a w b : List ℕ) (m : ℕ) → a ++ (w ++ b) ≡ (a ++ take m w) ++ (drop m w ++ b)
 joined a w b m = ap (λ x. a ++ (x ++ b)) (sym (take-append-drop m w)) ∙ simp append_assoc
 
-pub word_found : (w bytes front behind : List ℕ) (k : ℕ) → 0 < length w → NoneBefore (OccursAt bytes w) 0 (length bytes + 1) k → OccursAt bytes w k → front ≡ take k bytes → behind ≡ drop (length w) (drop k bytes) → CutsWord w bytes front behind
-word_found w bytes front behind k some first o f b =
-    let tail : drop k bytes ≡ w ++ behind = sym (take-append-drop (length w) (drop k bytes)) ∙ (λ i. OccursAt-part bytes w k o i ++ sym b i) in
-    let whole : bytes ≡ front ++ (w ++ behind) = sym (take-append-drop k bytes) ∙ (λ i. sym f i ++ tail i) in
+pub word_found : (w bytes front after : List ℕ) (k : ℕ) → 0 < length w → NoneBefore (OccursAt bytes w) 0 (length bytes + 1) k → OccursAt bytes w k → front ≡ take k bytes → after ≡ drop (length w) (drop k bytes) → CutsWord w bytes front after
+word_found w bytes front after k some first o f b =
+    let tail : drop k bytes ≡ w ++ after = sym (take-append-drop (length w) (drop k bytes)) ∙ (λ i. OccursAt-part bytes w k o i ++ sym b i) in
+    let whole : bytes ≡ front ++ (w ++ after) = sym (take-append-drop k bytes) ∙ (λ i. sym f i ++ tail i) in
     let m = length w - 1 in
-    let cut : bytes ≡ (front ++ take m w) ++ (drop m w ++ behind) = whole ∙ joined front w behind m in
+    let cut : bytes ≡ (front ++ take m w) ++ (drop m w ++ after) = whole ∙ joined front w after m in
     record {
       bytes_are = whole;
       lacks = lacks_from w (front ++ take m w) (λ j inside.
-          first.before j (omega arith) (omega (arith, inside.fits, length-append front (take m w), length-take m w, ap length f, length-take k bytes)) (occurs_whole w bytes (front ++ take m w) (drop m w ++ behind) j cut inside));
-      front_lacks = lacks_from w front (λ j inside. first.before j (omega arith) (omega (arith, inside.fits, ap length f, length-take k bytes)) (occurs_whole w bytes front (w ++ behind) j whole inside));
+          first.before j (omega arith) (omega (arith, inside.fits, length-append front (take m w), length-take m w, ap length f, length-take k bytes)) (occurs_whole w bytes (front ++ take m w) (drop m w ++ after) j cut inside));
+      front_lacks = lacks_from w front (λ j inside. first.before j (omega arith) (omega (arith, inside.fits, ap length f, length-take k bytes)) (occurs_whole w bytes front (w ++ after) j whole inside));
     }
 
 -- a byte's first place
-pub byte_found : (c : ℕ) (bytes front behind : List ℕ) (k : ℕ) → NoneBefore (Passes (is_byte c) bytes) 0 (length bytes) k → Passes (is_byte c) bytes k → front ≡ take k bytes → behind ≡ drop 1 (drop k bytes) → CutsAt c bytes front behind
-byte_found c bytes front behind k first here f b = record {
+pub byte_found : (c : ℕ) (bytes front after : List ℕ) (k : ℕ) → NoneBefore (Passes (is_byte c) bytes) 0 (length bytes) k → Passes (is_byte c) bytes k → front ≡ take k bytes → after ≡ drop 1 (drop k bytes) → CutsAt c bytes front after
+byte_found c bytes front after k first here f b = record {
   bytes_are = split bytes k first.high here ∙ (λ i. sym f i ++ (c ∷ sym b i));
   passes = subst (AllAre (is_but c)) (sym f) (before bytes k (λ j l. first.before j (omega arith) l));
 }
@@ -81,14 +81,14 @@ byte_found c bytes front behind k first here f b = record {
     before (x ∷ xs) (suc n) none = (by_test x (nat_eq x c) refl (none 0 (omega arith)), before xs n (λ j l. none (suc j) (omega arith)))
 
 -- a word that stands inside is not lacked
-pub word_not_lacked : (w bytes front behind : List ℕ) → 0 < length w → bytes ≡ front ++ (w ++ behind) → Lacks w bytes → ⊥
-word_not_lacked [] bytes front behind some e l = absurd (omega arith)
-word_not_lacked (x ∷ xs) bytes front behind some e l = at_seam front (subst (Lacks (x ∷ xs)) e l)
+pub word_not_lacked : (w bytes front after : List ℕ) → 0 < length w → bytes ≡ front ++ (w ++ after) → Lacks w bytes → ⊥
+word_not_lacked [] bytes front after some e l = absurd (omega arith)
+word_not_lacked (x ∷ xs) bytes front after some e l = at_seam front (subst (Lacks (x ∷ xs)) e l)
   where
-    at_seam : (front : List ℕ) → Lacks (x ∷ xs) (front ++ ((x ∷ xs) ++ behind)) → ⊥
+    at_seam : (front : List ℕ) → Lacks (x ∷ xs) (front ++ ((x ∷ xs) ++ after)) → ⊥
     at_seam [] l =
-        let same : take (length (x ∷ xs)) ((x ∷ xs) ++ behind) ≡ x ∷ xs = take-append_seam (x ∷ xs) behind in
-        let test : starts_with ◌==◌ ((x ∷ xs) ++ behind) (x ∷ xs) ≡ true = (bytes_eq-Decides (x ∷ xs) (take (length (x ∷ xs)) ((x ∷ xs) ++ behind))).1 (sym same) in
+        let same : take (length (x ∷ xs)) ((x ∷ xs) ++ after) ≡ x ∷ xs = take-append_seam (x ∷ xs) after in
+        let test : starts_with ◌==◌ ((x ∷ xs) ++ after) (x ∷ xs) ≡ true = (bytes_eq-Decides (x ∷ xs) (take (length (x ∷ xs)) ((x ∷ xs) ++ after))).1 (sym same) in
         let wrong : true ≡ false = sym test ∙ l.0 in
         cc
     at_seam (y ∷ ys) l = at_seam ys l.1

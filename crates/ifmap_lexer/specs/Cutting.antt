@@ -18,13 +18,13 @@ pub record Cuts (p : ℕ → Bool) (bytes front rest : List ℕ) : Type 0 where
 abbrev pub is_but : ℕ → ℕ → Bool
 is_but byte b = not (b == byte)
 
--- the bytes up to the first such byte, and those behind it
-pub record CutsAt (byte : ℕ) (bytes front behind : List ℕ) : Type 0 where
-  pub bytes_are : bytes ≡ front ++ (byte ∷ behind)
+-- the bytes up to the first such byte, and those after it
+pub record CutsAt (byte : ℕ) (bytes front after : List ℕ) : Type 0 where
+  pub bytes_are : bytes ≡ front ++ (byte ∷ after)
   pub passes : AllAre (is_but byte) front
 
--- the bytes up to the first place of a word, and those behind it
-pub record CutsWord (word bytes front behind : List ℕ) : Type 0 where
-  pub bytes_are : bytes ≡ front ++ (word ++ behind)
+-- the bytes up to the first place of a word, and those after it
+pub record CutsWord (word bytes front after : List ℕ) : Type 0 where
+  pub bytes_are : bytes ≡ front ++ (word ++ after)
   pub lacks : Lacks word (front ++ take (length word - 1) word)
   pub front_lacks : Lacks word front

@@ -14,7 +14,7 @@ kind_of (tokens.Start tag) = Tag
 kind_of (tokens.Empty tag) = Tag
 kind_of (tokens.End name) = End
 kind_of (tokens.Section text) = Section
-kind_of (tokens.Text blank text) = Text
+kind_of (tokens.Characters blank text) = Text
 
 -- the kind that begins with `<!` and then with these bytes
 abbrev pub kind_of_section : List ℕ → Kind

@@ -2,19 +2,19 @@
 use Rattle.std.specs.Prelude.{ℕ, List, map}
 use Rattle.ifmap_elem.specs.Values.{Part, text_part, value_part, as_space}
 use Rattle.ifmap_lexer.specs.declared.values.Place.{Place}
-use Rattle.ifmap_lexer.specs.declared.values.Place.TheVariants.{Content, Value}
+use Rattle.ifmap_lexer.specs.declared.values.Place.TheVariants.{AttributeValue, CharacterData}
 
 -- what a part adds in its place
 abbrev pub part_in : Place → Part → List ℕ
-part_in Content part = text_part part
-part_in Value part = value_part part
+part_in CharacterData part = text_part part
+part_in AttributeValue part = value_part part
 
 -- what a line adds in its place
 abbrev pub line_in : Place → List ℕ → List ℕ
-line_in Content line = line
-line_in Value line = map as_space line
+line_in CharacterData line = line
+line_in AttributeValue line = map as_space line
 
 -- what the end of a line adds in its place
 abbrev pub break_in : Place → ℕ
-break_in Content = 0xA
-break_in Value = 0x20
+break_in CharacterData = 0xA
+break_in AttributeValue = 0x20

@@ -1,22 +1,22 @@
 -- The settings of the XML declaration (XML 1.0, section 2.8).
 use Rattle.std.specs.Prelude.{◌≡◌, ◌≢◌, ◌⊎◌, ℕ, false, List, [], ◌∷◌, ◌++◌, codes, map}
 use Rattle.std.specs.Char.{to_ascii_uppercase}
-use Rattle.ifmap_elem.specs.Chars.{IsSpace, is_space}
+use Rattle.ifmap_elem.specs.Chars.{IsWhite, is_white}
 use Rattle.ifmap_elem.specs.Tokens.{TakesQuoted, TakesSetting}
 
 -- the name does not begin with white space
-abbrev pub StartsNoSpace : List ℕ → Type 0
-StartsNoSpace [] = ⊥
-StartsNoSpace (b ∷ bs) = is_space b ≡ false
+abbrev pub StartsNotWhite : List ℕ → Type 0
+StartsNotWhite [] = ⊥
+StartsNotWhite (b ∷ bs) = is_white b ≡ false
 
 -- white space, this name and a value
 pub record SetsTo (name bytes written rest : List ℕ) : Type 0 where
-  pub space : List ℕ
-  pub behind : List ℕ
-  pub bytes_are : bytes ≡ space ++ (name ++ behind)
-  pub is_space : IsSpace space
-  pub some_space : space ≢ []
-  pub given : TakesQuoted behind written rest
+  pub white : List ℕ
+  pub after : List ℕ
+  pub bytes_are : bytes ≡ white ++ (name ++ after)
+  pub is_white : IsWhite white
+  pub some_white : white ≢ []
+  pub given : TakesQuoted after written rest
 
 -- the setting is taken where it stands, and else nothing is
 abbrev pub TakesWhereSet : List ℕ → (List ℕ → Type 0) → List ℕ → List ℕ → Type 0

@@ -1,7 +1,7 @@
 -- The assignments of a tag, up to its end.
 use Rattle.std.specs.Prelude.{◌≡◌, ℕ, true, ◌==◌, ◌||◌, List, [], ◌∷◌, ◌++◌}
 use Rattle.ifmap_lemmas.specs.Items.{To}
-use Rattle.ifmap_elem.specs.Chars.{IsSpace}
+use Rattle.ifmap_elem.specs.Chars.{IsWhite}
 use Rattle.ifmap_elem.specs.declared.tokens.Assignment.{Assignment}
 use Rattle.ifmap_elem.specs.Tokens.{TakesAssignment}
 
@@ -12,11 +12,11 @@ ClosesTag (b ∷ bs) = (b == 0x3E || b == 0x2F) ≡ true
 
 -- assignments and white space, up to a tag's end
 pub record TakesAssignments (bytes : List ℕ) (assignments : List Assignment) (end : List ℕ) : Type 0 where
-  pub space : List ℕ
-  pub assigned : To TakesAssignment bytes assignments (space ++ end)
-  pub is_space : IsSpace space
+  pub white : List ℕ
+  pub assigned : To TakesAssignment bytes assignments (white ++ end)
+  pub is_white : IsWhite white
   pub closes : ClosesTag end
 
 -- white space, and then a tag's end
 abbrev pub IsAtEnd : List ℕ → Type 0
-IsAtEnd bytes = (space : List ℕ) × (end : List ℕ) × (bytes ≡ space ++ end) × IsSpace space × ClosesTag end
+IsAtEnd bytes = (white : List ℕ) × (end : List ℕ) × (bytes ≡ white ++ end) × IsWhite white × ClosesTag end

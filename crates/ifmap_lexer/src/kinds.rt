@@ -26,7 +26,7 @@ pub(crate) fn kind_at(bytes: &[u8]) -> Kind
     }
 }
 
-/// The kind by what is behind a `<`.
+/// The kind by what is after a `<`.
 fn kind_of_markup(bytes: &[u8]) -> Kind
     ensures { result ≡ kind_of_markup bytes.now }
 {
@@ -39,7 +39,7 @@ fn kind_of_markup(bytes: &[u8]) -> Kind
     }
 }
 
-/// The kind by what is behind a `<!`.
+/// The kind by what is after a `<!`.
 fn kind_of_section(bytes: &[u8]) -> Kind
     ensures { result ≡ kind_of_section bytes.now }
 {

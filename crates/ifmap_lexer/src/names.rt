@@ -19,7 +19,7 @@ pub(crate) fn name_of(alloc: Global, bytes: &[u8]) -> Result<(Qualified, &[u8]),
     ensures refused { IfErr result (λ e. Refuses e ((name : Qualified) × (rest : List ℕ) × IsQualified name × (bytes.now ≡ name_bytes name ++ rest) × Stops is_name_byte rest)) }
 {
     let (run, rest) = split_name(bytes);
-    let name = qualified(alloc, run)?;
+    let name = qualified_name(alloc, run)?;
     Ok((name, rest))
 }
 
@@ -43,7 +43,7 @@ fn may_be_named(byte: u8) -> bool
 }
 
 /// The name that is written so.
-fn qualified(alloc: Global, bytes: &[u8]) -> Result<Qualified, LexError>
+fn qualified_name(alloc: Global, bytes: &[u8]) -> Result<Qualified, LexError>
     ensures found { IfOk result (λ name. IsQualified name × (name_bytes name ≡ bytes.now)) }
     ensures refused { IfErr result (λ e. Refuses e ((name : Qualified) × IsQualified name × (name_bytes name ≡ bytes.now))) }
 {

@@ -2,18 +2,18 @@
 ghost use Rattle.std.specs.Prelude.{◌≡◌, ℕ, List, ◌∷◌, ◌==◌, ◌||◌, true, IfNone, IfSome};
 ghost use Rattle.ifmap_elem.specs.Tokens.{TakesQuoted};
 
-use crate::splitting::{behind_word, split_round_byte, split_space};
+use crate::splitting::{after_word, split_round_byte, split_white};
 
-/// The value behind an equals sign, as it is written between its quotes, and what is left.
-pub(crate) fn quoted(bytes: &[u8]) -> Option<(&[u8], &[u8])>
+/// The value after an equals sign, as it is written between its quotes, and what is left.
+pub(crate) fn quoted_value(bytes: &[u8]) -> Option<(&[u8], &[u8])>
     ensures found { IfSome result (λ f. TakesQuoted bytes.now f.0.now f.1.now) }
     ensures none { IfNone result ((written : List ℕ) (rest : List ℕ) → TakesQuoted bytes.now written rest → ⊥) }
 {
-    let (_before, sign) = split_space(bytes);
-    let Some(behind) = behind_word(b"=", sign) else {
+    let (_before, sign) = split_white(bytes);
+    let Some(after) = after_word(b"=", sign) else {
         return None;
     };
-    let (_after, value) = split_space(behind);
+    let (_after, value) = split_white(after);
     let Some((quote, inside)) = quote_at(value) else {
         return None;
     };

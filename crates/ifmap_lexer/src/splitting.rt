@@ -2,27 +2,27 @@
 ghost use Rattle.std.specs.Prelude.{◌≡◌, ◌<◌, ◌≤◌, ◌+◌, ◌++◌, ℕ, List, IfNone, IfSome, length, take, drop};
 ghost use Rattle.std.specs.Bool.{OnFalse, OnTrue};
 ghost use Rattle.std.specs.List.{prefix_len};
-ghost use Rattle.ifmap_elem.specs.Chars.{AllAre, is_space};
+ghost use Rattle.ifmap_elem.specs.Chars.{AllAre, is_white};
 ghost use Rattle.ifmap_elem.specs.Tokens.{Lacks};
 ghost use Rattle.ifmap_lexer.specs.Cutting.{Cuts, CutsAt, CutsWord, is_but};
 
 use memchr::{memchr, memmem};
 
 /// The white space at the front, and what is left.
-pub(crate) fn split_space(bytes: &[u8]) -> (&[u8], &[u8])
-    ensures { Cuts is_space bytes.now result.0.now result.1.now }
+pub(crate) fn split_white(bytes: &[u8]) -> (&[u8], &[u8])
+    ensures { Cuts is_white bytes.now result.0.now result.1.now }
 {
-    bytes.split_at(space_len(bytes))
+    bytes.split_at(white_len(bytes))
 }
 
-fn space_len(bytes: &[u8]) -> usize
-    ensures { result ≡ prefix_len is_space bytes.now }
+fn white_len(bytes: &[u8]) -> usize
+    ensures { result ≡ prefix_len is_white bytes.now }
 {
     bytes.iter().take_while(|byte| is_white(**byte)).count()
 }
 
 pub(crate) fn is_white(byte: u8) -> bool
-    ensures { result ≡ is_space byte }
+    ensures { result ≡ is_white byte }
 {
     byte == b' ' || byte == b'\t' || byte == b'\r' || byte == b'\n'
 }
@@ -37,7 +37,7 @@ pub(crate) fn split_byte(byte: u8, bytes: &[u8]) -> (&[u8], &[u8])
     }
 }
 
-/// The text before the first such ASCII character, and that behind it.
+/// The text before the first such ASCII character, and that after it.
 pub(crate) fn split_char(character: char, text: &str) -> Option<(&str, &str)>
     requires { character < 128 }
     ensures found { IfSome result (λ s. CutsAt character text.now s.0.now s.1.now) }
@@ -46,15 +46,15 @@ pub(crate) fn split_char(character: char, text: &str) -> Option<(&str, &str)>
     text.split_once(character)
 }
 
-/// What is behind the word, where the bytes begin with it.
-pub(crate) fn behind_word<'a>(word: &[u8], bytes: &'a [u8]) -> Option<&'a [u8]>
+/// What is after the word, where the bytes begin with it.
+pub(crate) fn after_word<'a>(word: &[u8], bytes: &'a [u8]) -> Option<&'a [u8]>
     ensures found { IfSome result (λ rest. bytes.now ≡ word.now ++ rest.now) }
     ensures none { IfNone result ((rest : List ℕ) → bytes.now ≡ word.now ++ rest → ⊥) }
 {
     bytes.strip_prefix(word)
 }
 
-/// The bytes before the first place of the word, and those behind it.
+/// The bytes before the first place of the word, and those after it.
 pub(crate) fn split_word<'a>(word: &[u8], bytes: &'a [u8]) -> Option<(&'a [u8], &'a [u8])>
     requires { 0 < length word.now }
     ensures found { IfSome result (λ s. CutsWord word.now bytes.now s.0.now s.1.now) }
@@ -66,7 +66,7 @@ pub(crate) fn split_word<'a>(word: &[u8], bytes: &'a [u8]) -> Option<(&'a [u8], 
     }
 }
 
-/// The bytes before the first such byte, and those behind it.
+/// The bytes before the first such byte, and those after it.
 pub(crate) fn split_round_byte(byte: u8, bytes: &[u8]) -> Option<(&[u8], &[u8])>
     ensures found { IfSome result (λ s. CutsAt byte bytes.now s.0.now s.1.now) }
     ensures none { IfNone result (AllAre (is_but byte) bytes.now) }
@@ -94,13 +94,13 @@ pub(crate) fn has_word(word: &[u8], bytes: &[u8]) -> bool
     split_word(word, bytes).is_some()
 }
 
-/// The bytes before a place, and those behind as many from there on.
+/// The bytes before a place, and those after as many from there on.
 fn split_round(place: usize, len: usize, bytes: &[u8]) -> (&[u8], &[u8])
     requires { place + len ≤ length bytes.now }
     ensures front { result.0.now ≡ take place bytes.now }
-    ensures behind { result.1.now ≡ drop len (drop place bytes.now) }
+    ensures after { result.1.now ≡ drop len (drop place bytes.now) }
 {
     let (front, rest) = bytes.split_at(place);
-    let (_between, behind) = rest.split_at(len);
-    (front, behind)
+    let (_between, after) = rest.split_at(len);
+    (front, after)
 }

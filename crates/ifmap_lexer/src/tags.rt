@@ -12,8 +12,8 @@ ghost use Rattle.ifmap_lexer.specs.Tags.{ClosesTag, IsAtEnd, TakesAssignments};
 use crate::characters::characters;
 use crate::errors::LexError;
 use crate::names::name_of;
-use crate::quoting::quoted;
-use crate::splitting::{behind_word, has_byte, split_space};
+use crate::quoting::quoted_value;
+use crate::splitting::{after_word, has_byte, split_white};
 use crate::values::{Place, meaning};
 use ifmap_elem::tokens::{Assignment, Tag};
 use ifmap_elem::{Many, Text};
@@ -24,11 +24,11 @@ pub(crate) fn tag_of(alloc: Global, bytes: &[u8]) -> Result<(Tag, &[u8]), LexErr
     ensures found { IfOk result (λ f. TakesTag bytes.now f.0 f.1.now × ClosesTag f.1.now) }
     ensures refused { IfErr result (λ e. Refuses e ((tag : Tag) × (end : List ℕ) × TakesTag bytes.now tag end × ClosesTag end)) }
 {
-    let Some(inner) = behind_word(b"<", bytes) else {
+    let Some(inner) = after_word(b"<", bytes) else {
         return Err(LexError::Malformed);
     };
-    let (name, behind) = name_of(alloc, inner)?;
-    let (assignments, end) = assignments_of(alloc, behind)?;
+    let (name, after) = name_of(alloc, inner)?;
+    let (assignments, end) = assignments_of(alloc, after)?;
     Ok((Tag { name, assignments }, end))
 }
 
@@ -40,11 +40,11 @@ fn assignments_of(alloc: Global, bytes: &[u8]) -> Result<(Many<Assignment>, &[u8
     let mut made = Vec::new(alloc);
     let mut rest = bytes;
     'all: while !is_at_end(rest) {
-        let (assignment, behind) = assignment_of(alloc, rest)?;
+        let (assignment, after) = assignment_of(alloc, rest)?;
         made.push(assignment)?;
-        rest = behind;
+        rest = after;
     }
-    let (_space, end) = split_space(rest);
+    let (_white, end) = split_white(rest);
     Ok((Many(made), end))
 }
 
@@ -52,7 +52,7 @@ fn assignments_of(alloc: Global, bytes: &[u8]) -> Result<(Many<Assignment>, &[u8
 fn is_at_end(bytes: &[u8]) -> bool
     ensures { IsTrue result ↔ IsAtEnd bytes.now }
 {
-    let (_space, end) = split_space(bytes);
+    let (_white, end) = split_white(bytes);
     closes(end)
 }
 
@@ -65,18 +65,18 @@ fn closes(bytes: &[u8]) -> bool
     }
 }
 
-/// White space and the assignment behind it, and what is left.
+/// White space and the assignment after it, and what is left.
 fn assignment_of(alloc: Global, bytes: &[u8]) -> Result<(Assignment, &[u8]), LexError>
     ensures found { IfOk result (λ f. TakesAssignment bytes.now f.0 f.1.now) }
     ensures refused { IfErr result (λ e. Refuses e ((a : Assignment) × (rest : List ℕ) × TakesAssignment bytes.now a rest)) }
     ensures shorter { IfOk result (λ f. length f.1.now < length bytes.now) }
 {
-    let (space, inner) = split_space(bytes);
-    if space.is_empty() {
+    let (white, inner) = split_white(bytes);
+    if white.is_empty() {
         return Err(LexError::Malformed);
     }
-    let (name, behind) = name_of(alloc, inner)?;
-    let Some((written, rest)) = quoted(behind) else {
+    let (name, after) = name_of(alloc, inner)?;
+    let Some((written, rest)) = quoted_value(after) else {
         return Err(LexError::Malformed);
     };
     let value = value_of(alloc, written)?;
@@ -94,5 +94,5 @@ fn value_of(alloc: Global, written: &[u8]) -> Result<Text, LexError>
     let Some(text) = characters(written) else {
         return Err(LexError::Malformed);
     };
-    meaning(alloc, Place::Value, text)
+    meaning(alloc, Place::AttributeValue, text)
 }

@@ -36,7 +36,7 @@ fn push_token(token: &Token, out: &mut String) -> Result<(), AllocError> {
             out.push_str("section ")?;
             out.push_str(text.0.as_str())
         }
-        Token::Text(blank, text) => {
+        Token::Characters { blank, text } => {
             out.push_str(if *blank { "blank " } else { "text " })?;
             out.push_str(text.0.as_str())
         }

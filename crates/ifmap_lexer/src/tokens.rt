@@ -1,18 +1,18 @@
 //! Each kind of token by itself.
 ghost use Rattle.std.specs.Prelude.{◌≡◌, List, ℕ, IfErr, IfOk};
 ghost use Rattle.std.specs.List.{list_all};
-ghost use Rattle.ifmap_elem.specs.Chars.{is_space};
+ghost use Rattle.ifmap_elem.specs.Chars.{is_white};
 ghost use Rattle.ifmap_elem.specs.Tokens.{TakesToken};
 ghost use Rattle.ifmap_elem.specs.declared.tokens.Token.{Token};
 ghost use Rattle.ifmap_lexer.specs.Kinds.{Stands};
 ghost use Rattle.ifmap_lexer.specs.Refusing.{Refuses};
 
 use crate::characters::characters;
-use crate::declaration::behind_declaration;
+use crate::declaration::after_declaration;
 use crate::errors::LexError;
 use crate::kinds::{Kind, kind_at};
 use crate::names::name_of;
-use crate::splitting::{behind_word, has_word, is_white, split_byte, split_space, split_word};
+use crate::splitting::{after_word, has_word, is_white, split_byte, split_white, split_word};
 use crate::tags::tag_of;
 use crate::values::{Place, meaning, plain_meaning};
 use ifmap_elem::tokens::Token;
@@ -38,7 +38,7 @@ fn declaration(bytes: &[u8]) -> Result<(Token, &[u8]), LexError>
     ensures found { IfOk result (λ f. TakesToken bytes.now f.0 f.1.now) }
     ensures refused { IfErr result (λ e. Refuses e (Stands Kind.Declaration bytes.now)) }
 {
-    match behind_declaration(bytes) {
+    match after_declaration(bytes) {
         Some(rest) => Ok((Token::Declaration, rest)),
         None => Err(LexError::Malformed),
     }
@@ -48,13 +48,13 @@ fn comment(bytes: &[u8]) -> Result<(Token, &[u8]), LexError>
     ensures found { IfOk result (λ f. TakesToken bytes.now f.0 f.1.now) }
     ensures refused { IfErr result (λ e. Refuses e (Stands Kind.Comment bytes.now)) }
 {
-    let Some(inner) = behind_word(b"<!--", bytes) else {
+    let Some(inner) = after_word(b"<!--", bytes) else {
         return Err(LexError::Malformed);
     };
     let Some((content, end)) = split_word(b"--", inner) else {
         return Err(LexError::Malformed);
     };
-    let Some(rest) = behind_word(b">", end) else {
+    let Some(rest) = after_word(b">", end) else {
         return Err(LexError::Malformed);
     };
     match characters(content) {
@@ -67,7 +67,7 @@ fn section(alloc: Global, bytes: &[u8]) -> Result<(Token, &[u8]), LexError>
     ensures found { IfOk result (λ f. TakesToken bytes.now f.0 f.1.now) }
     ensures refused { IfErr result (λ e. Refuses e (Stands Kind.Section bytes.now)) }
 {
-    let Some(inner) = behind_word(b"<![CDATA[", bytes) else {
+    let Some(inner) = after_word(b"<![CDATA[", bytes) else {
         return Err(LexError::Malformed);
     };
     let Some((content, rest)) = split_word(b"]]>", inner) else {
@@ -83,12 +83,12 @@ fn end_tag(alloc: Global, bytes: &[u8]) -> Result<(Token, &[u8]), LexError>
     ensures found { IfOk result (λ f. TakesToken bytes.now f.0 f.1.now) }
     ensures refused { IfErr result (λ e. Refuses e (Stands Kind.End bytes.now)) }
 {
-    let Some(inner) = behind_word(b"</", bytes) else {
+    let Some(inner) = after_word(b"</", bytes) else {
         return Err(LexError::Malformed);
     };
-    let (name, behind) = name_of(alloc, inner)?;
-    let (_space, end) = split_space(behind);
-    match behind_word(b">", end) {
+    let (name, after) = name_of(alloc, inner)?;
+    let (_white, end) = split_white(after);
+    match after_word(b">", end) {
         Some(rest) => Ok((Token::End(name), rest)),
         None => Err(LexError::Malformed),
     }
@@ -99,10 +99,10 @@ fn tag(alloc: Global, bytes: &[u8]) -> Result<(Token, &[u8]), LexError>
     ensures refused { IfErr result (λ e. Refuses e (Stands Kind.Tag bytes.now)) }
 {
     let (tag, end) = tag_of(alloc, bytes)?;
-    if let Some(rest) = behind_word(b">", end) {
+    if let Some(rest) = after_word(b">", end) {
         return Ok((Token::Start(tag), rest));
     }
-    match behind_word(b"/>", end) {
+    match after_word(b"/>", end) {
         Some(rest) => Ok((Token::Empty(tag), rest)),
         None => Err(LexError::Malformed),
     }
@@ -122,12 +122,18 @@ fn text(alloc: Global, bytes: &[u8]) -> Result<(Token, &[u8]), LexError>
     let Some(written) = characters(own) else {
         return Err(LexError::Malformed);
     };
-    let meant = meaning(alloc, Place::Content, written)?;
-    Ok((Token::Text(is_blank(own), meant), rest))
+    let meant = meaning(alloc, Place::CharacterData, written)?;
+    Ok((
+        Token::Characters {
+            blank: is_blank(own),
+            text: meant,
+        },
+        rest,
+    ))
 }
 
 fn is_blank(bytes: &[u8]) -> bool
-    ensures { result ≡ list_all is_space bytes.now }
+    ensures { result ≡ list_all is_white bytes.now }
 {
     bytes.iter().all(|byte| is_white(*byte))
 }

@@ -16,9 +16,9 @@ use std::alloc::{AllocError, Global};
 #[derive(Clone, Copy)]
 pub(crate) enum Place {
     /// Between tags.
-    Content,
+    CharacterData,
     /// In the value of an attribute.
-    Value,
+    AttributeValue,
 }
 
 /// What the written characters mean.
@@ -28,16 +28,16 @@ pub(crate) fn meaning(alloc: Global, place: Place, written: &str) -> Result<Text
 {
     let mut text = String::with_capacity(alloc, written.len())?;
     let mut rest = written;
-    while let Some((run, behind)) = split_char('&', rest) {
+    while let Some((run, after)) = split_char('&', rest) {
         push_run(place, run, &mut text)?;
-        let Some((name, after)) = split_char(';', behind) else {
+        let Some((name, next)) = split_char(';', after) else {
             return Err(LexError::Malformed);
         };
         let Some(character) = character_named(name.as_bytes()) else {
             return Err(LexError::Malformed);
         };
         text.push(character)?;
-        rest = after;
+        rest = next;
     }
     push_run(place, rest, &mut text)?;
     Ok(Text(text))
@@ -48,7 +48,7 @@ pub(crate) fn plain_meaning(alloc: Global, written: &str) -> Result<Text, AllocE
     ensures { IfOk result (λ text. text ≡ line_ends written.now) }
 {
     let mut text = String::with_capacity(alloc, written.len())?;
-    push_run(Place::Content, written, &mut text)?;
+    push_run(Place::CharacterData, written, &mut text)?;
     Ok(Text(text))
 }
 
@@ -57,16 +57,16 @@ fn push_run(place: Place, run: &str, text: &mut String) -> Result<(), AllocError
     ensures { OnOk result (string_bytes text.new ≡ string_bytes text.old ++ part_in place (Plain run.now)) }
 {
     let mut rest = run;
-    while let Some((line, behind)) = split_char('\r', rest) {
+    while let Some((line, after)) = split_char('\r', rest) {
         push_line(place, line, text)?;
         push_break(place, text)?;
-        rest = behind_newline(behind);
+        rest = after_newline(after);
     }
     push_line(place, rest, text)
 }
 
-/// What is behind a carriage return and the line feed that belongs to it.
-fn behind_newline(text: &str) -> &str
+/// What is after a carriage return and the line feed that belongs to it.
+fn after_newline(text: &str) -> &str
     ensures line { line_ends (0xD ∷ text.now) ≡ 0xA ∷ line_ends result.now }
     ensures shorter { length result.now ≤ length text.now }
 {
@@ -80,8 +80,8 @@ fn push_break(place: Place, text: &mut String) -> Result<(), AllocError>
     ensures { OnOk result (string_bytes text.new ≡ string_bytes text.old ++ (break_in place ∷ [])) }
 {
     match place {
-        Place::Content => text.push('\n'),
-        Place::Value => text.push(' '),
+        Place::CharacterData => text.push('\n'),
+        Place::AttributeValue => text.push(' '),
     }
 }
 
@@ -89,8 +89,8 @@ fn push_line(place: Place, line: &str, text: &mut String) -> Result<(), AllocErr
     ensures { OnOk result (string_bytes text.new ≡ string_bytes text.old ++ line_in place line.now) }
 {
     match place {
-        Place::Content => text.push_str(line),
-        Place::Value => push_spaced(line, text),
+        Place::CharacterData => text.push_str(line),
+        Place::AttributeValue => push_spaced(line, text),
     }
 }
 
@@ -99,10 +99,10 @@ fn push_spaced(line: &str, text: &mut String) -> Result<(), AllocError>
     ensures { OnOk result (string_bytes text.new ≡ string_bytes text.old ++ map as_space line.now) }
 {
     let mut rest = line;
-    while let Some((front, behind)) = split_char('\n', rest) {
+    while let Some((front, after)) = split_char('\n', rest) {
         push_untabbed(front, text)?;
         text.push(' ')?;
-        rest = behind;
+        rest = after;
     }
     push_untabbed(rest, text)
 }
@@ -113,10 +113,10 @@ fn push_untabbed(line: &str, text: &mut String) -> Result<(), AllocError>
     ensures { OnOk result (string_bytes text.new ≡ string_bytes text.old ++ map as_space line.now) }
 {
     let mut rest = line;
-    while let Some((front, behind)) = split_char('\t', rest) {
+    while let Some((front, after)) = split_char('\t', rest) {
         text.push_str(front)?;
         text.push(' ')?;
-        rest = behind;
+        rest = after;
     }
     text.push_str(rest)
 }

@@ -11,8 +11,8 @@ use Rattle.std.specs.Prelude.{count_by}
 use Rattle.ifmap_elem.specs.Arranged.{attribute_order, sorted}
 use Rattle.ifmap_elem.specs.printer.Occurrences.{attribute_eq}
 use Rattle.ifmap_elem.specs.declared.elements.Attribute.{Attribute}
-use Rattle.ifmap_elem.proofs.Attributes.{attribute_ranks, attributes_total, eq_itself, eq_tells, rising_is_sorted, sorted_permutation, sorted_rises}
-use Rattle.ifmap_elem.proofs.Orders.{in_order_same}
+use Rattle.ifmap_elem.specs.laws.AttributeOrder.{attribute_ranks, attributes_total, eq_itself, eq_tells, rising_is_sorted, sorted_permutation, sorted_rises}
+use Rattle.ifmap_lemmas.specs.Sorting.{in_order_same}
 
 -- a permutation of the attributes as a sort leaves it
 pub sorted_out : (xs ys : List Attribute) → IsPermutation xs ys → IsSorted attribute_order ys → ys ≡ sorted xs

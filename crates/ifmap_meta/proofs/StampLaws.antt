@@ -15,8 +15,8 @@ use Rattle.ifmap_elem.specs.Canonical.{root_bytes}
 use Rattle.ifmap_elem.specs.Namespaces.{prefix_rows}
 use Rattle.ifmap_elem.specs.declared.elements.Attribute.{Attribute}
 use Rattle.ifmap_elem.specs.declared.elements.Element.{Element}
-use Rattle.ifmap_elem.proofs.ArrangedLaws.{arranged_is}
-use Rattle.ifmap_elem.proofs.Attributes.{one_order, sorted_permutation}
+use Rattle.ifmap_elem.specs.laws.ArrangedLaws.{arranged_is}
+use Rattle.ifmap_elem.specs.laws.AttributeOrder.{one_order, sorted_permutation}
 use Rattle.ifmap_meta.specs.Cardinality.{is_single, is_single_value}
 use Rattle.ifmap_meta.specs.Keys.{content_bytes}
 use Rattle.ifmap_meta.specs.Stamps.{content_of, is_stamp, stamped, stamps, with_stamps, without_stamps}

@@ -5,11 +5,11 @@ use Rattle.std.proofs.lemmas.List.{append-nil, reverse-reverse}
 use Rattle.ifmap_elem.specs.declared.elements.Attribute.{Attribute}
 use Rattle.ifmap_elem.specs.declared.tokens.Assignment.{Assignment}
 use Rattle.ifmap_elem.specs.Scopes.{Scope, Binding, IsAttribute, AreAttributes, binding_of}
-use Rattle.ifmap_elem.proofs.OneReading.{one_attribute}
+use Rattle.ifmap_elem.specs.laws.OneReading.{one_attribute}
 use Rattle.ifmap_reader.proofs.Lasts.{last_first}
 use Rattle.ifmap_reader.specs.declared.errors.Refusal.{Refusal}
 use Rattle.ifmap_reader.specs.declared.errors.Refusal.TheVariants.{NotAllowed, TooDeep, NoMemory}
-use Rattle.ifmap_reader.specs.Opening.{IsGiven, ArePlain, told}
+use Rattle.ifmap_reader.specs.AllowedTags.{IsGiven, ArePlain, told}
 
 abbrev pub plain : List Assignment → List Assignment
 plain assignments = filter (λ a. is_none (binding_of a)) assignments

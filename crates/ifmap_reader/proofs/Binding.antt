@@ -11,12 +11,12 @@ use Rattle.ifmap_elem.specs.declared.readings.Declared.{Declared}
 use Rattle.ifmap_elem.specs.declared.tokens.Assignment.{Assignment}
 use Rattle.ifmap_elem.specs.Document.{declared_here}
 use Rattle.ifmap_elem.specs.Scopes.{Binding, IsBinding, AllDiffer, binding_of, bound, xml_space, xmlns_space}
-use Rattle.ifmap_elem.proofs.NamespaceLaws.{eq_tells, eq_itself}
+use Rattle.ifmap_lemmas.specs.Texts.{eq_tells, eq_itself}
 use Rattle.ifmap_reader.specs.declared.errors.Refusal.{Refusal}
 use Rattle.ifmap_reader.specs.declared.errors.Refusal.TheVariants.{NotAllowed, TooDeep, NoMemory}
-use Rattle.ifmap_reader.specs.Opening.{Binds, IsBound, MayBind}
-use Rattle.ifmap_reader.specs.Rows.{row_binding}
-use Rattle.ifmap_reader.proofs.Lookups.{bound_outer}
+use Rattle.ifmap_reader.specs.AllowedTags.{Binds, IsBound, MayBind}
+use Rattle.ifmap_elem.specs.InScope.{binding_told}
+use Rattle.ifmap_elem.specs.laws.ScopeLaws.{bound_outer}
 
 bound_other : (bs : List Binding) (b : Binding) (q : List ℕ) → bytes_eq b.prefix q ≡ false → bound (bs ++ b ∷ []) q ≡ bound bs q
 bound_other [] b q e = rw e refl
@@ -31,20 +31,20 @@ bound_last bs b q none = elim (cases_Bool (bytes_eq b.prefix q)) [
 ]
 
 -- the table of prefixes, and the rows, with one more
-pub spaces_more : (old new : List ℕ → Option (List ℕ)) (rows after : List Declared) (row : Declared) (key space : List ℕ) → ((q : List ℕ) → old q ≡ bound (map row_binding rows) q)
-    → ((q : List ℕ) → new q ≡ cond (is_eq (slice_cmp nat_cmp key q)) (Some space) (old q)) → key ≡ row.prefix → space ≡ row.space → after ≡ rows ++ row ∷ [] → bound (map row_binding rows) row.prefix ≡ None
-    → (q : List ℕ) → new q ≡ bound (map row_binding after) q
+pub spaces_more : (old new : List ℕ → Option (List ℕ)) (rows after : List Declared) (row : Declared) (key space : List ℕ) → ((q : List ℕ) → old q ≡ bound (map binding_told rows) q)
+    → ((q : List ℕ) → new q ≡ cond (is_eq (slice_cmp nat_cmp key q)) (Some space) (old q)) → key ≡ row.prefix → space ≡ row.space → after ≡ rows ++ row ∷ [] → bound (map binding_told rows) row.prefix ≡ None
+    → (q : List ℕ) → new q ≡ bound (map binding_told after) q
 spaces_more old new rows after row key space was now k s more none q =
-    now q ∙ (λ i. cond (is_eq (slice_cmp nat_cmp (k i) q)) (Some (s i)) (was q i)) ∙ ap (λ b. cond b (Some row.space) (bound (map row_binding rows) q)) (sym (texts_ties row.prefix q))
-    ∙ sym (bound_last (map row_binding rows) (row_binding row) q none) ∙ ap (λ bs. bound bs q) (sym (ap (map row_binding) more ∙ map-append row_binding rows (row ∷ [])))
+    now q ∙ (λ i. cond (is_eq (slice_cmp nat_cmp (k i) q)) (Some (s i)) (was q i)) ∙ ap (λ b. cond b (Some row.space) (bound (map binding_told rows) q)) (sym (texts_ties row.prefix q))
+    ∙ sym (bound_last (map binding_told rows) (binding_told row) q none) ∙ ap (λ bs. bound bs q) (sym (ap (map binding_told) more ∙ map-append binding_told rows (row ∷ [])))
 
-pub rows_more : (rows after : List Declared) (path prefix space : List ℕ) → rows ≡ declared_here (map row_binding rows) → after ≡ rows ++ record { path = path; prefix = prefix; space = space } ∷ [] → path ≡ []
-    → after ≡ declared_here (map row_binding after)
+pub rows_more : (rows after : List Declared) (path prefix space : List ℕ) → rows ≡ declared_here (map binding_told rows) → after ≡ rows ++ record { path = path; prefix = prefix; space = space } ∷ [] → path ≡ []
+    → after ≡ declared_here (map binding_told after)
 rows_more rows after path prefix space was more none =
     let made : after ≡ rows ++ record { path = []; prefix = prefix; space = space } ∷ [] = more ∙ ap (λ (p : List ℕ). rows ++ record { path = p; prefix = prefix; space = space } ∷ []) none in
     made ∙ ap (λ ds. ds ++ record { path = []; prefix = prefix; space = space } ∷ []) was
-    ∙ sym (ap declared_here (ap (map row_binding) made ∙ map-append row_binding rows (record { path = []; prefix = prefix; space = space } ∷ []))
-    ∙ map-append (λ (b : Binding). let d : Declared = record { path = []; prefix = b.prefix; space = b.space } in d) (map row_binding rows) (record { prefix = prefix; space = space } ∷ []))
+    ∙ sym (ap declared_here (ap (map binding_told) made ∙ map-append binding_told rows (record { path = []; prefix = prefix; space = space } ∷ []))
+    ∙ map-append (λ (b : Binding). let d : Declared = record { path = []; prefix = b.prefix; space = b.space } in d) (map binding_told rows) (record { prefix = prefix; space = space } ∷ []))
 
 abbrev prefix_of : Binding → List ℕ
 prefix_of b = b.prefix

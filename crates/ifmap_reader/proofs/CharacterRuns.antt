@@ -13,7 +13,9 @@ use Rattle.std.proofs.lemmas.Str.{encode_ascii, encode_same, encodes-append, ins
 use Rattle.ifmap_lemmas.specs.Items.{To}
 use Rattle.ifmap_elem.specs.Chars.{AllAre, IsCharacters, is_character}
 use Rattle.ifmap_elem.specs.Values.{Part, Plain, Reference, TakesPart, EndsRun, Expands, IsText, IsValue, as_space, begins_with, line_ends, numbered, referred, text_part, value_part}
-use Rattle.ifmap_elem.proofs.Cuts.{Stops, all_append, cut, is_number, is_other}
+use Rattle.ifmap_lemmas.specs.Cuts.{Stops, cut}
+use Rattle.ifmap_lemmas.specs.Members.{all_append}
+use Rattle.ifmap_lemmas.specs.Numbers.{is_number, is_other}
 
 -- a test that all bytes beyond ASCII pass is passed by all bytes of a character that passes
 pub character_passes : (p : ℕ → Bool) → ((b : ℕ) → 128 ≤ b → p b ≡ true) → (c : ℕ) → p c ≡ true → AllAre p (encode_utf8 c)

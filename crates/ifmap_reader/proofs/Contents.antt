@@ -6,42 +6,43 @@ use Rattle.ifmap_elem.specs.declared.readings.Declared.{Declared}
 use Rattle.ifmap_elem.specs.declared.tokens.Qualified.{Qualified}
 use Rattle.ifmap_elem.specs.declared.tokens.Tag.{Tag}
 use Rattle.ifmap_elem.specs.declared.tokens.Token.{Token}
-use Rattle.ifmap_elem.specs.declared.tokens.Token.TheVariants.{Declaration, Comment, Start, Empty, End, Section, Text}
+use Rattle.ifmap_elem.specs.declared.tokens.Token.TheVariants.{Declaration, Comment, Start, Empty, End, Section, Characters}
 use Rattle.ifmap_elem.specs.declared.elements.Attribute.{Attribute}
 use Rattle.ifmap_elem.specs.declared.elements.Name.{Name}
 use Rattle.ifmap_elem.specs.Scopes.{Scope, bindings, NamesElement}
-use Rattle.ifmap_elem.specs.Document.{Content, Nothing, Remark, Words, Verbatim, Leaf, Branch, tokens_of, Item, Inner, Run, IsElement, Means}
-use Rattle.ifmap_reader.specs.declared.frames.Frame.{Frame}
-use Rattle.ifmap_reader.specs.Frames.{Closes, with_inner, with_words, written_name}
-use Rattle.ifmap_reader.specs.Opening.{Opened}
-use Rattle.ifmap_reader.specs.Progress.{Ends, IsWords}
+use Rattle.ifmap_elem.specs.Document as piece
+use Rattle.ifmap_elem.specs.Document.{Pieces, Nothing, tokens_of, Item, Inner, Run, IsElement, AreItems}
+use Rattle.ifmap_reader.specs.declared.open_elements.OpenElement.{OpenElement}
+use Rattle.ifmap_reader.specs.OpenElements.{Closes, with_inner, with_characters, written_name}
+use Rattle.ifmap_reader.specs.AllowedTags.{OpensElement}
+use Rattle.ifmap_reader.specs.Progress.{Ends, IsCharacterData}
 use Rattle.ifmap_reader.proofs.Items.{words_close, close_words, inner_closes, closes_inner, opened_closes, closes_opened}
 
-module _ (scope : Scope) (f : Frame) (ts : List Token) (Then : Element → List Declared → List Token → Type 0) where
+module _ (scope : Scope) (f : OpenElement) (ts : List Token) (Then : Element → List Declared → List Token → Type 0) where
   -- a comment
-  comment_off : (c : Content) (behind : List Token) (items : List Item) (e : Element) (d : List Declared) → Comment ∷ ts ≡ tokens_of c ++ (End (written_name f) ∷ behind)
-      → Means scope c items → Closes f items e d → Then e d behind → Ends scope f ts Then
-  comment_off (Remark after) behind items e d is m c t =
+  comment_off : (c : Pieces) (behind : List Token) (items : List Item) (e : Element) (d : List Declared) → Comment ∷ ts ≡ tokens_of c ++ (End (written_name f) ∷ behind)
+      → AreItems scope c items → Closes f items e d → Then e d behind → Ends scope f ts Then
+  comment_off (piece.Comment after) behind items e d is m c t =
       record { inside = after; behind = behind; items = items; element = e; declared = d; tokens_are = cc; means = m; closes = c; goes_on = t }
   comment_off Nothing behind items e d is m c t = cc
-  comment_off (Words blank text after) behind items e d is m c t = cc
-  comment_off (Verbatim text after) behind items e d is m c t = cc
-  comment_off (Leaf tag after) behind items e d is m c t = cc
-  comment_off (Branch tag inside after) behind items e d is m c t = cc
+  comment_off (piece.Characters blank text after) behind items e d is m c t = cc
+  comment_off (piece.Section text after) behind items e d is m c t = cc
+  comment_off (piece.Empty tag after) behind items e d is m c t = cc
+  comment_off (piece.Start tag inside after) behind items e d is m c t = cc
 
   pub ends_comment : Ends scope f (Comment ∷ ts) Then ↔ Ends scope f ts Then
   ends_comment = (
     λ x. comment_off x.inside x.behind x.items x.element x.declared x.tokens_are x.means x.closes x.goes_on,
-    λ x. record { inside = Remark x.inside; behind = x.behind; items = x.items; element = x.element; declared = x.declared; tokens_are = ap (λ us. Comment ∷ us) x.tokens_are; means = x.means; closes = x.closes; goes_on = x.goes_on },
+    λ x. record { inside = piece.Comment x.inside; behind = x.behind; items = x.items; element = x.element; declared = x.declared; tokens_are = ap (λ us. Comment ∷ us) x.tokens_are; means = x.means; closes = x.closes; goes_on = x.goes_on },
   )
 
   -- a text
-  words_off : (t : Token) (blank : Bool) (text : List ℕ) → IsWords blank text t → (c : Content) (behind : List Token) (items : List Item) (e : Element) (d : List Declared)
+  words_off : (t : Token) (blank : Bool) (text : List ℕ) → IsCharacterData blank text t → (c : Pieces) (behind : List Token) (items : List Item) (e : Element) (d : List Declared)
       → t ∷ ts ≡ tokens_of c ++ (End (written_name f) ∷ behind)
-      → Means scope c items → Closes f items e d → Then e d behind → Ends scope (with_words f text) ts Then
+      → AreItems scope c items → Closes f items e d → Then e d behind → Ends scope (with_characters f text) ts Then
   words_off t blank text w Nothing behind items e d is m c th = elim w [ inl k ↦ cc | inr k ↦ let h = k.1 in cc ]
-  words_off t blank text w (Remark after) behind items e d is m c th = elim w [ inl k ↦ cc | inr k ↦ let h = k.1 in cc ]
-  words_off t blank text w (Words b more after) behind items e d is m c th =
+  words_off t blank text w (piece.Comment after) behind items e d is m c th = elim w [ inl k ↦ cc | inr k ↦ let h = k.1 in cc ]
+  words_off t blank text w (piece.Characters b more after) behind items e d is m c th =
       let same : text ≡ more = elim w [ inl k ↦ cc | inr k ↦ let h = k.1 in cc ] in
       record {
         inside = after;
@@ -54,7 +55,7 @@ module _ (scope : Scope) (f : Frame) (ts : List Token) (Then : Element → List 
         closes = words_close f text m.0 e d (subst (λ (is : List Item). Closes f is e d) (m.1 ∙ ap (λ (u : List ℕ). Run u ∷ m.0) (sym same)) c);
         goes_on = th;
       }
-  words_off t blank text w (Verbatim more after) behind items e d is m c th =
+  words_off t blank text w (piece.Section more after) behind items e d is m c th =
       let same : text ≡ more = elim w [ inl k ↦ cc | inr k ↦ let h = k.1 in cc ] in
       record {
         inside = after;
@@ -67,24 +68,24 @@ module _ (scope : Scope) (f : Frame) (ts : List Token) (Then : Element → List 
         closes = words_close f text m.0 e d (subst (λ (is : List Item). Closes f is e d) (m.1 ∙ ap (λ (u : List ℕ). Run u ∷ m.0) (sym same)) c);
         goes_on = th;
       }
-  words_off t blank text w (Leaf tag after) behind items e d is m c th = elim w [ inl k ↦ cc | inr k ↦ let h = k.1 in cc ]
-  words_off t blank text w (Branch tag inside after) behind items e d is m c th = elim w [ inl k ↦ cc | inr k ↦ let h = k.1 in cc ]
+  words_off t blank text w (piece.Empty tag after) behind items e d is m c th = elim w [ inl k ↦ cc | inr k ↦ let h = k.1 in cc ]
+  words_off t blank text w (piece.Start tag inside after) behind items e d is m c th = elim w [ inl k ↦ cc | inr k ↦ let h = k.1 in cc ]
 
-  words_on : (t : Token) (blank : Bool) (text : List ℕ) → IsWords blank text t → Ends scope (with_words f text) ts Then → Ends scope f (t ∷ ts) Then
+  words_on : (t : Token) (blank : Bool) (text : List ℕ) → IsCharacterData blank text t → Ends scope (with_characters f text) ts Then → Ends scope f (t ∷ ts) Then
   words_on t blank text w x = elim w [
     | inl k ↦ record {
-      inside = Words blank text x.inside;
+      inside = piece.Characters blank text x.inside;
       behind = x.behind;
       items = Run text ∷ x.items;
       element = x.element;
       declared = x.declared;
-      tokens_are = ap (λ (u : Token). u ∷ ts) k ∙ ap (λ us. Text blank text ∷ us) x.tokens_are;
+      tokens_are = ap (λ (u : Token). u ∷ ts) k ∙ ap (λ us. Characters blank text ∷ us) x.tokens_are;
       means = (x.items, refl, x.means);
       closes = close_words f text x.items x.element x.declared x.closes;
       goes_on = x.goes_on;
     }
     | inr k ↦ record {
-      inside = Verbatim text x.inside;
+      inside = piece.Section text x.inside;
       behind = x.behind;
       items = Run text ∷ x.items;
       element = x.element;
@@ -96,32 +97,32 @@ module _ (scope : Scope) (f : Frame) (ts : List Token) (Then : Element → List 
     }
   ]
 
-  pub ends_words : (t : Token) (blank : Bool) (text : List ℕ) → IsWords blank text t → Ends scope f (t ∷ ts) Then ↔ Ends scope (with_words f text) ts Then
+  pub ends_words : (t : Token) (blank : Bool) (text : List ℕ) → IsCharacterData blank text t → Ends scope f (t ∷ ts) Then ↔ Ends scope (with_characters f text) ts Then
   ends_words t blank text w = (λ x. words_off t blank text w x.inside x.behind x.items x.element x.declared x.tokens_are x.means x.closes x.goes_on, words_on t blank text w)
 
   -- a declaration
-  declaration_off : (c : Content) (behind : List Token) → Declaration ∷ ts ≡ tokens_of c ++ (End (written_name f) ∷ behind) → ⊥
-  declaration_off (Remark after) behind is = cc
+  declaration_off : (c : Pieces) (behind : List Token) → Declaration ∷ ts ≡ tokens_of c ++ (End (written_name f) ∷ behind) → ⊥
+  declaration_off (piece.Comment after) behind is = cc
   declaration_off Nothing behind is = cc
-  declaration_off (Words blank text after) behind is = cc
-  declaration_off (Verbatim text after) behind is = cc
-  declaration_off (Leaf tag after) behind is = cc
-  declaration_off (Branch tag inside after) behind is = cc
+  declaration_off (piece.Characters blank text after) behind is = cc
+  declaration_off (piece.Section text after) behind is = cc
+  declaration_off (piece.Empty tag after) behind is = cc
+  declaration_off (piece.Start tag inside after) behind is = cc
 
   pub no_declaration : Ends scope f (Declaration ∷ ts) Then → ⊥
   no_declaration x = declaration_off x.inside x.behind x.tokens_are
 
   -- an end tag
-  end_off : (name : Qualified) (c : Content) (behind : List Token) (items : List Item) (e : Element) (d : List Declared) → End name ∷ ts ≡ tokens_of c ++ (End (written_name f) ∷ behind)
-      → Means scope c items → Closes f items e d → Then e d behind → (name ≡ written_name f) × Closes f [] e d × Then e d ts
+  end_off : (name : Qualified) (c : Pieces) (behind : List Token) (items : List Item) (e : Element) (d : List Declared) → End name ∷ ts ≡ tokens_of c ++ (End (written_name f) ∷ behind)
+      → AreItems scope c items → Closes f items e d → Then e d behind → (name ≡ written_name f) × Closes f [] e d × Then e d ts
   end_off name Nothing behind items e d is m c t =
       let same : ts ≡ behind = cc in
       (cc, subst (λ (is : List Item). Closes f is e d) m c, subst (λ (us : List Token). Then e d us) (sym same) t)
-  end_off name (Remark after) behind items e d is m c t = cc
-  end_off name (Words blank text after) behind items e d is m c t = cc
-  end_off name (Verbatim text after) behind items e d is m c t = cc
-  end_off name (Leaf tag after) behind items e d is m c t = cc
-  end_off name (Branch tag inside after) behind items e d is m c t = cc
+  end_off name (piece.Comment after) behind items e d is m c t = cc
+  end_off name (piece.Characters blank text after) behind items e d is m c t = cc
+  end_off name (piece.Section text after) behind items e d is m c t = cc
+  end_off name (piece.Empty tag after) behind items e d is m c t = cc
+  end_off name (piece.Start tag inside after) behind items e d is m c t = cc
 
   -- the end tag of another name
   pub no_other_end : (name : Qualified) → (name ≡ written_name f → ⊥) → Ends scope f (End name ∷ ts) Then → ⊥
@@ -138,10 +139,10 @@ module _ (scope : Scope) (f : Frame) (ts : List Token) (Then : Element → List 
   )
 
   -- a tag
-  module _ (tag : Tag) (new : Frame) (o : Opened scope tag new) where
-    empty_off : (c : Content) (behind : List Token) (items : List Item) (e : Element) (d : List Declared) → Empty tag ∷ ts ≡ tokens_of c ++ (End (written_name f) ∷ behind)
-        → Means scope c items → Closes f items e d → Then e d behind → (inner : Element) (below : List Declared) → Closes new [] inner below → Ends scope (with_inner f inner below) ts Then
-    empty_off (Leaf other after) behind items e d is m c t inner below k =
+  module _ (tag : Tag) (new : OpenElement) (o : OpensElement scope tag new) where
+    empty_off : (c : Pieces) (behind : List Token) (items : List Item) (e : Element) (d : List Declared) → Empty tag ∷ ts ≡ tokens_of c ++ (End (written_name f) ∷ behind)
+        → AreItems scope c items → Closes f items e d → Then e d behind → (inner : Element) (below : List Declared) → Closes new [] inner below → Ends scope (with_inner f inner below) ts Then
+    empty_off (piece.Empty other after) behind items e d is m c t inner below k =
         let same : other ≡ tag = cc in
         let made : IsElement scope tag [] m.0 m.1 = subst (λ (u : Tag). IsElement scope u [] m.0 m.1) same m.4 in
         let h = opened_closes scope tag new o [] m.0 m.1 made in
@@ -158,16 +159,16 @@ module _ (scope : Scope) (f : Frame) (ts : List Token) (Then : Element → List 
           goes_on = t;
         }
     empty_off Nothing behind items e d is m c t inner below k = cc
-    empty_off (Remark after) behind items e d is m c t inner below k = cc
-    empty_off (Words blank text after) behind items e d is m c t inner below k = cc
-    empty_off (Verbatim text after) behind items e d is m c t inner below k = cc
-    empty_off (Branch other inside after) behind items e d is m c t inner below k = cc
+    empty_off (piece.Comment after) behind items e d is m c t inner below k = cc
+    empty_off (piece.Characters blank text after) behind items e d is m c t inner below k = cc
+    empty_off (piece.Section text after) behind items e d is m c t inner below k = cc
+    empty_off (piece.Start other inside after) behind items e d is m c t inner below k = cc
 
     pub ends_empty : (inner : Element) (below : List Declared) → Closes new [] inner below → Ends scope f (Empty tag ∷ ts) Then ↔ Ends scope (with_inner f inner below) ts Then
     ends_empty inner below k = (
       λ x. empty_off x.inside x.behind x.items x.element x.declared x.tokens_are x.means x.closes x.goes_on inner below k,
       λ x. record {
-        inside = Leaf tag x.inside;
+        inside = piece.Empty tag x.inside;
         behind = x.behind;
         items = Inner inner below ∷ x.items;
         element = x.element;
@@ -179,9 +180,9 @@ module _ (scope : Scope) (f : Frame) (ts : List Token) (Then : Element → List 
       },
     )
 
-    branch_off : (c : Content) (behind : List Token) (items : List Item) (e : Element) (d : List Declared) → Start tag ∷ ts ≡ tokens_of c ++ (End (written_name f) ∷ behind)
-        → Means scope c items → Closes f items e d → Then e d behind → Ends (new.bindings ++ scope) new ts (λ inner below rest. Ends scope (with_inner f inner below) rest Then)
-    branch_off (Branch other inside after) behind items e d is m c t =
+    branch_off : (c : Pieces) (behind : List Token) (items : List Item) (e : Element) (d : List Declared) → Start tag ∷ ts ≡ tokens_of c ++ (End (written_name f) ∷ behind)
+        → AreItems scope c items → Closes f items e d → Then e d behind → Ends (new.bindings ++ scope) new ts (λ inner below rest. Ends scope (with_inner f inner below) rest Then)
+    branch_off (piece.Start other inside after) behind items e d is m c t =
         let same : other ≡ tag = cc in
         let tail : ts ≡ (tokens_of inside ++ (End other.name ∷ tokens_of after)) ++ (End (written_name f) ∷ behind) = cc in
         record {
@@ -192,7 +193,7 @@ module _ (scope : Scope) (f : Frame) (ts : List Token) (Then : Element → List 
           declared = m.2;
           tokens_are = tail ∙ append_assoc (tokens_of inside) (End other.name ∷ tokens_of after) (End (written_name f) ∷ behind)
               ∙ ap (λ (n : Qualified). tokens_of inside ++ (End n ∷ (tokens_of after ++ (End (written_name f) ∷ behind)))) (ap (λ (u : Tag). u.name) same ∙ o.name_is);
-          means = subst (λ (s : Scope). Means s inside m.0) (ap (λ (u : Tag). bindings u ++ scope) same ∙ ap (λ bs. bs ++ scope) (sym o.bindings_are)) m.5;
+          means = subst (λ (s : Scope). AreItems s inside m.0) (ap (λ (u : Tag). bindings u ++ scope) same ∙ ap (λ bs. bs ++ scope) (sym o.bindings_are)) m.5;
           closes = opened_closes scope tag new o m.0 m.1 m.2 (subst (λ (u : Tag). IsElement scope u m.0 m.1 m.2) same m.6);
           goes_on = record {
             inside = after;
@@ -207,16 +208,16 @@ module _ (scope : Scope) (f : Frame) (ts : List Token) (Then : Element → List 
           };
         }
     branch_off Nothing behind items e d is m c t = cc
-    branch_off (Remark after) behind items e d is m c t = cc
-    branch_off (Words blank text after) behind items e d is m c t = cc
-    branch_off (Verbatim text after) behind items e d is m c t = cc
-    branch_off (Leaf other after) behind items e d is m c t = cc
+    branch_off (piece.Comment after) behind items e d is m c t = cc
+    branch_off (piece.Characters blank text after) behind items e d is m c t = cc
+    branch_off (piece.Section text after) behind items e d is m c t = cc
+    branch_off (piece.Empty other after) behind items e d is m c t = cc
 
     branch_on : Ends (new.bindings ++ scope) new ts (λ inner below rest. Ends scope (with_inner f inner below) rest Then) → Ends scope f (Start tag ∷ ts) Then
     branch_on x =
         let y = x.goes_on in
         record {
-          inside = Branch tag x.inside y.inside;
+          inside = piece.Start tag x.inside y.inside;
           behind = y.behind;
           items = Inner x.element x.declared ∷ y.items;
           element = y.element;
@@ -230,7 +231,7 @@ module _ (scope : Scope) (f : Frame) (ts : List Token) (Then : Element → List 
             x.declared,
             y.items,
             refl,
-            subst (λ (s : Scope). Means s x.inside x.items) (ap (λ bs. bs ++ scope) o.bindings_are) x.means,
+            subst (λ (s : Scope). AreItems s x.inside x.items) (ap (λ bs. bs ++ scope) o.bindings_are) x.means,
             closes_opened scope tag new o x.items x.element x.declared x.closes,
             y.means,
           );
@@ -242,29 +243,29 @@ module _ (scope : Scope) (f : Frame) (ts : List Token) (Then : Element → List 
     ends_start = (λ x. branch_off x.inside x.behind x.items x.element x.declared x.tokens_are x.means x.closes x.goes_on, branch_on)
 
 -- a tag that is not allowed
-module _ (scope : Scope) (f : Frame) (ts : List Token) (Then : Element → List Declared → List Token → Type 0) (tag : Tag) (none : (name : Name) (attributes : List Attribute) → NamesElement scope tag name attributes → ⊥) where
-  start_off : (c : Content) (behind : List Token) (items : List Item) → Start tag ∷ ts ≡ tokens_of c ++ (End (written_name f) ∷ behind) → Means scope c items → ⊥
-  start_off (Branch other inside after) behind items is m =
+module _ (scope : Scope) (f : OpenElement) (ts : List Token) (Then : Element → List Declared → List Token → Type 0) (tag : Tag) (none : (name : Name) (attributes : List Attribute) → NamesElement scope tag name attributes → ⊥) where
+  start_off : (c : Pieces) (behind : List Token) (items : List Item) → Start tag ∷ ts ≡ tokens_of c ++ (End (written_name f) ∷ behind) → AreItems scope c items → ⊥
+  start_off (piece.Start other inside after) behind items is m =
       let same : other ≡ tag = cc in
       none m.1.name m.1.attributes (subst (λ (u : Tag). NamesElement scope u m.1.name m.1.attributes) same m.6.named)
   start_off Nothing behind items is m = cc
-  start_off (Remark after) behind items is m = cc
-  start_off (Words blank text after) behind items is m = cc
-  start_off (Verbatim text after) behind items is m = cc
-  start_off (Leaf other after) behind items is m = cc
+  start_off (piece.Comment after) behind items is m = cc
+  start_off (piece.Characters blank text after) behind items is m = cc
+  start_off (piece.Section text after) behind items is m = cc
+  start_off (piece.Empty other after) behind items is m = cc
 
   pub start_named : Ends scope f (Start tag ∷ ts) Then → ⊥
   start_named x = start_off x.inside x.behind x.items x.tokens_are x.means
 
-  leaf_off : (c : Content) (behind : List Token) (items : List Item) → Empty tag ∷ ts ≡ tokens_of c ++ (End (written_name f) ∷ behind) → Means scope c items → ⊥
-  leaf_off (Leaf other after) behind items is m =
+  leaf_off : (c : Pieces) (behind : List Token) (items : List Item) → Empty tag ∷ ts ≡ tokens_of c ++ (End (written_name f) ∷ behind) → AreItems scope c items → ⊥
+  leaf_off (piece.Empty other after) behind items is m =
       let same : other ≡ tag = cc in
       none m.0.name m.0.attributes (subst (λ (u : Tag). NamesElement scope u m.0.name m.0.attributes) same m.4.named)
   leaf_off Nothing behind items is m = cc
-  leaf_off (Remark after) behind items is m = cc
-  leaf_off (Words blank text after) behind items is m = cc
-  leaf_off (Verbatim text after) behind items is m = cc
-  leaf_off (Branch other inside after) behind items is m = cc
+  leaf_off (piece.Comment after) behind items is m = cc
+  leaf_off (piece.Characters blank text after) behind items is m = cc
+  leaf_off (piece.Section text after) behind items is m = cc
+  leaf_off (piece.Start other inside after) behind items is m = cc
 
   pub empty_named : Ends scope f (Empty tag ∷ ts) Then → ⊥
   empty_named x = leaf_off x.inside x.behind x.items x.tokens_are x.means

@@ -4,12 +4,14 @@ use Rattle.std.specs.Prelude.{◌&&◌, if◌then◌else◌, codes, filter, Opti
 use Rattle.std.specs.List.{AllByRecursion, cons_option, filter_map, flat_map, list_all, list_any}
 use Rattle.std.specs.Str.{bytes_eq}
 use Rattle.std.proofs.lemmas.Bool.{and_from, cases_Bool}
-use Rattle.ifmap_elem.specs.Chars.{IsCharacters, IsSpace, is_character, is_space}
-use Rattle.ifmap_elem.specs.Document.{Content, Nothing, Remark, Words, Verbatim, Leaf, Branch, tokens_of, Item, Inner, Run, child_of, heading, is_inner, is_kept, joined, kept, put_before, IsElement, IsRoot, Means}
+use Rattle.ifmap_elem.specs.Chars.{IsCharacters, IsWhite, is_character, is_white}
+use Rattle.ifmap_elem.specs.Document as piece
+use Rattle.ifmap_elem.specs.Document.{Pieces, Nothing, tokens_of, Item, Inner, Run, child_of, heading, is_inner, is_child, joined, children_among, put_before, IsElement, AreItems}
+use Rattle.ifmap_elem.specs.laws.Roots.{BeginsWithRoot, root_begins}
 use Rattle.ifmap_elem.specs.Fit.{IsNamespace, IsFitAttribute, HasCharacters, IsNotBlank, AreApart, is_element, AreFitChildren, IsFitAlone, IsFit}
 use Rattle.ifmap_elem.specs.Names.{IsNamePart}
 use Rattle.ifmap_elem.specs.Scopes.{Scope, Binding, IsBinding, IsAttribute, AreAttributes, attribute_space, binding_of, bindings, bound, root_scope, scope_within, xml_space, xmlns_space}
-use Rattle.ifmap_elem.specs.Spells.{Spells, without_mark}
+use Rattle.ifmap_elem.specs.Spells.{Spells, without_byte_order_mark}
 use Rattle.ifmap_elem.specs.declared.elements.Attribute.{Attribute}
 use Rattle.ifmap_elem.specs.declared.elements.Child.{Child, out-Child}
 use Rattle.ifmap_elem.specs.declared.elements.Child.TheOpen.{Child-F}
@@ -20,9 +22,9 @@ use Rattle.ifmap_elem.specs.declared.readings.Reading.{Reading}
 use Rattle.ifmap_elem.specs.declared.tokens.Assignment.{Assignment}
 use Rattle.ifmap_elem.specs.declared.tokens.Tag.{Tag}
 use Rattle.ifmap_elem.specs.declared.tokens.Token.TheVariants.{End}
-use Rattle.ifmap_elem.proofs.FitLaws.{all_both, both_all, elements_in, elements_of_child, elements_text, fit_whole, out_element, out_text}
-use Rattle.ifmap_elem.proofs.NamespaceLaws.{eq_tells, eq_itself}
-use Rattle.ifmap_elem.proofs.PrintedParts.{all_of_test, ascii_encoded, is_ascii}
+use Rattle.ifmap_lemmas.specs.Members.{all_both, both_all, all_of_test}
+use Rattle.ifmap_elem.specs.laws.FitLaws.{elements_in, elements_of_child, elements_text, fit_whole, out_element, out_text}
+use Rattle.ifmap_lemmas.specs.Texts.{eq_tells, eq_itself, ascii_encoded, is_ascii}
 use Rattle.ifmap_reader.proofs.CharacterRuns.{characters_both, no_characters}
 use Rattle.ifmap_reader.proofs.FitTokens.{IsFitAssignment, IsFitTag, IsFitToken, tokens_fit}
 
@@ -173,15 +175,15 @@ joined_inner [] = refl
 joined_inner (Inner e d ∷ items) = refl
 joined_inner (Run t ∷ items) = put_inner t (joined items) ∙ joined_inner items
 
--- of these some are kept
+-- of these some are children_among
 
 module _ (beside : Bool) where
   abbrev left : List Item → List Item
-  left items = filter (is_kept beside) items
+  left items = filter (is_child beside) items
 
   left_fits : (items : List Item) → AllByRecursion IsFitItem items → AllByRecursion IsFitItem (left items)
   left_fits [] f = tt
-  left_fits (item ∷ items) f = elim (cases_Bool (is_kept beside item)) [
+  left_fits (item ∷ items) f = elim (cases_Bool (is_child beside item)) [
     | inl e ↦ rw e (f.0, left_fits items f.1)
     | inr e ↦ rw e (left_fits items f.1)
   ]
@@ -189,47 +191,47 @@ module _ (beside : Bool) where
   left_apart : (items : List Item) → AreApart (map item_child items) → AreApart (map item_child (left items))
   left_apart [] a = tt
   left_apart (Inner e d ∷ items) a = left_apart items a
-  left_apart (Run t ∷ []) a = elim (cases_Bool (is_kept beside (Run t))) [ inl k ↦ rw k tt | inr k ↦ rw k tt ]
-  left_apart (Run t ∷ (Inner e d ∷ items)) a = elim (cases_Bool (is_kept beside (Run t))) [ inl k ↦ rw k (left_apart items a) | inr k ↦ rw k (left_apart items a) ]
+  left_apart (Run t ∷ []) a = elim (cases_Bool (is_child beside (Run t))) [ inl k ↦ rw k tt | inr k ↦ rw k tt ]
+  left_apart (Run t ∷ (Inner e d ∷ items)) a = elim (cases_Bool (is_child beside (Run t))) [ inl k ↦ rw k (left_apart items a) | inr k ↦ rw k (left_apart items a) ]
   left_apart (Run t ∷ (Run u ∷ items)) a = absurd a
 
   left_inner : (items : List Item) → list_any is_element (map item_child (left items)) ≡ list_any is_inner items
   left_inner [] = refl
   left_inner (Inner e d ∷ items) = refl
-  left_inner (Run t ∷ items) = elim (cases_Bool (is_kept beside (Run t))) [ inl k ↦ rw k (left_inner items) | inr k ↦ rw k (left_inner items) ]
+  left_inner (Run t ∷ items) = elim (cases_Bool (is_child beside (Run t))) [ inl k ↦ rw k (left_inner items) | inr k ↦ rw k (left_inner items) ]
 
-some_kept : (beside : Bool) (text : List ℕ) → is_kept beside (Run text) ≡ true → text ≢ []
+some_kept : (beside : Bool) (text : List ℕ) → is_child beside (Run text) ≡ true → text ≢ []
 some_kept true [] k e = cc
 some_kept false [] k e = cc
 some_kept beside (b ∷ bs) k e = cc
 
-of_each : (bs : List ℕ) → IsSpace bs → list_all is_space bs ≡ true
+of_each : (bs : List ℕ) → IsWhite bs → list_all is_white bs ≡ true
 of_each [] f = refl
-of_each (b ∷ bs) f = and_from (is_space b) (list_all is_space bs) f.0 (of_each bs f.1)
+of_each (b ∷ bs) f = and_from (is_white b) (list_all is_white bs) f.0 (of_each bs f.1)
 
-left_texts : (beside : Bool) (items : List Item) → AllByRecursion IsFitItem items → AllByRecursion HasCharacters (map item_child (filter (is_kept beside) items))
+left_texts : (beside : Bool) (items : List Item) → AllByRecursion IsFitItem items → AllByRecursion HasCharacters (map item_child (filter (is_child beside) items))
 left_texts beside [] f = tt
 left_texts beside (Inner e d ∷ items) f = (tt, left_texts beside items f.1)
-left_texts beside (Run t ∷ items) f = elim (cases_Bool (is_kept beside (Run t))) [
+left_texts beside (Run t ∷ items) f = elim (cases_Bool (is_child beside (Run t))) [
   | inl k ↦ rw k ((some_kept beside t k, f.0), left_texts beside items f.1)
   | inr k ↦ rw k (left_texts beside items f.1)
 ]
 
-left_not_blank : (items : List Item) → AllByRecursion IsNotBlank (map item_child (filter (is_kept true) items))
+left_not_blank : (items : List Item) → AllByRecursion IsNotBlank (map item_child (filter (is_child true) items))
 left_not_blank [] = tt
 left_not_blank (Inner e d ∷ items) = (tt, left_not_blank items)
-left_not_blank (Run t ∷ items) = elim (cases_Bool (list_all is_space t)) [
+left_not_blank (Run t ∷ items) = elim (cases_Bool (list_all is_white t)) [
   | inl k ↦ rw k (left_not_blank items)
   | inr k ↦ rw k ((λ blank. let wrong : true ≡ false = sym (of_each t blank) ∙ k in cc), left_not_blank items)
 ]
 
-children_fit : (items : List Item) → AllByRecursion IsFitItem items → AreFitChildren (map item_child (kept items))
+children_fit : (items : List Item) → AllByRecursion IsFitItem items → AreFitChildren (map item_child (children_among items))
 children_fit items f = record {
   texts = left_texts (list_any is_inner items) (joined items) (joined_fits items f);
   apart = left_apart (list_any is_inner items) (joined items) (joined_apart items);
   beside = λ any.
       let inner : list_any is_inner items ≡ true = sym (left_inner (list_any is_inner items) (joined items) ∙ joined_inner items) ∙ any in
-      subst (λ (b : Bool). AllByRecursion IsNotBlank (map item_child (filter (is_kept b) (joined items)))) (sym inner) (left_not_blank (joined items));
+      subst (λ (b : Bool). AllByRecursion IsNotBlank (map item_child (filter (is_child b) (joined items)))) (sym inner) (left_not_blank (joined items));
 }
 
 inner_fit : (items : List Item) → AllByRecursion IsFitItem items → AllByRecursion IsFitAlone (flat_map elements_of_child (map child_of items))
@@ -243,8 +245,8 @@ element_fits : (outer : Scope) (tag : Tag) (items : List Item) (e : Element) (de
     → IsElement outer tag items e declared → IsFit e
 element_fits outer tag items e declared f t i is =
     let within = within_fits outer tag f t is.named.binds in
-    let children : AreFitChildren (map out-Child (map child_of (kept items))) = subst AreFitChildren (sym (opened (kept items))) (children_fit items i) in
-    let inner = inner_fit (kept items) (left_fits (list_any is_inner items) (joined items) (joined_fits items i)) in
+    let children : AreFitChildren (map out-Child (map child_of (children_among items))) = subst AreFitChildren (sym (opened (children_among items))) (children_fit items i) in
+    let inner = inner_fit (children_among items) (left_fits (list_any is_inner items) (joined items) (joined_fits items i)) in
     fit_whole e
     (record {
       name = record { space = (bound_fits (scope_within outer tag) within tag.name.prefix e.name.space is.named.space_is).0; local = subst IsNamePart (sym is.named.local_is) t.name.local_is };
@@ -254,25 +256,25 @@ element_fits outer tag items e declared f t i is =
     })
     (subst (λ (cs : List Child). AllByRecursion IsFitAlone (flat_map elements_of_child cs)) (sym is.children_are) inner)
 
-means_fit : (scope : Scope) (c : Content) (items : List Item) → IsFitScope scope → AllByRecursion IsFitToken (tokens_of c) → Means scope c items → AllByRecursion IsFitItem items
+means_fit : (scope : Scope) (c : Pieces) (items : List Item) → IsFitScope scope → AllByRecursion IsFitToken (tokens_of c) → AreItems scope c items → AllByRecursion IsFitItem items
 means_fit scope Nothing items f t m = subst (AllByRecursion IsFitItem) (sym m) tt
-means_fit scope (Remark after) items f t m = means_fit scope after items f t.1 m
-means_fit scope (Words blank text after) items f t m = subst (AllByRecursion IsFitItem) (sym m.1) (t.0, means_fit scope after m.0 f t.1 m.2)
-means_fit scope (Verbatim text after) items f t m = subst (AllByRecursion IsFitItem) (sym m.1) (t.0, means_fit scope after m.0 f t.1 m.2)
-means_fit scope (Leaf tag after) items f t m =
+means_fit scope (piece.Comment after) items f t m = means_fit scope after items f t.1 m
+means_fit scope (piece.Characters blank text after) items f t m = subst (AllByRecursion IsFitItem) (sym m.1) (t.0, means_fit scope after m.0 f t.1 m.2)
+means_fit scope (piece.Section text after) items f t m = subst (AllByRecursion IsFitItem) (sym m.1) (t.0, means_fit scope after m.0 f t.1 m.2)
+means_fit scope (piece.Empty tag after) items f t m =
     subst (AllByRecursion IsFitItem) (sym m.3) (element_fits scope tag [] m.0 m.1 f t.0 tt m.4, means_fit scope after m.2 f t.1 m.5)
-means_fit scope (Branch tag inside after) items f t m =
+means_fit scope (piece.Start tag inside after) items f t m =
     let parts = all_both IsFitToken (tokens_of inside) (End tag.name ∷ tokens_of after) t.1 in
     let inner = means_fit (scope_within scope tag) inside m.0 (within_fits scope tag f t.0 m.6.named.binds) parts.0 m.5 in
     subst (AllByRecursion IsFitItem) (sym m.4) (element_fits scope tag m.0 m.1 m.2 f t.0 inner m.6, means_fit scope after m.3 f parts.1.1 m.7)
 
-rooted_fits : (c : Content) (r : Reading) → AllByRecursion IsFitToken (tokens_of c) → IsRoot c r → IsFit r.root
+rooted_fits : (c : Pieces) (r : Reading) → AllByRecursion IsFitToken (tokens_of c) → BeginsWithRoot c r → IsFit r.root
 rooted_fits Nothing r t m = absurd m
-rooted_fits (Remark after) r t m = rooted_fits after r t.1 m
-rooted_fits (Words blank text after) r t m = rooted_fits after r t.1 m.1
-rooted_fits (Verbatim text after) r t m = absurd m
-rooted_fits (Leaf tag after) r t m = element_fits root_scope tag [] r.root r.declared root_fits t.0 tt m.0
-rooted_fits (Branch tag inside after) r t m =
+rooted_fits (piece.Comment after) r t m = rooted_fits after r t.1 m
+rooted_fits (piece.Characters blank text after) r t m = rooted_fits after r t.1 m.1
+rooted_fits (piece.Section text after) r t m = absurd m
+rooted_fits (piece.Empty tag after) r t m = element_fits root_scope tag [] r.root r.declared root_fits t.0 tt m.0
+rooted_fits (piece.Start tag inside after) r t m =
     let parts = all_both IsFitToken (tokens_of inside) (End tag.name ∷ tokens_of after) t.1 in
     let inner = means_fit (scope_within root_scope tag) inside m.0 (within_fits root_scope tag root_fits t.0 m.2.named.binds) parts.0 m.1 in
     element_fits root_scope tag m.0 r.root r.declared root_fits t.0 inner m.2
@@ -280,6 +282,6 @@ rooted_fits (Branch tag inside after) r t m =
 -- what bytes spell is fit
 pub spelled_fits : (bytes : List ℕ) (r : Reading) → Spells bytes r → IsFit r.root
 spelled_fits bytes r s =
-    let tokens = tokens_fit (without_mark bytes) s.tokens [] s.lexed in
+    let tokens = tokens_fit (without_byte_order_mark bytes) s.tokens [] s.lexed in
     let here = subst (AllByRecursion IsFitToken) s.document.tokens_are tokens in
-    rooted_fits s.document.content r (all_both IsFitToken (heading s.document.declared) (tokens_of s.document.content) here).1 s.document.rooted
+    rooted_fits s.document.pieces r (all_both IsFitToken (heading s.document.declared) (tokens_of s.document.pieces) here).1 (root_begins s.document.pieces r s.document.rooted)

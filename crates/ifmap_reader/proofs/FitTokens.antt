@@ -8,7 +8,7 @@ use Rattle.ifmap_elem.specs.Tokens.{TakesAssignment, TakesTag, TakesToken}
 use Rattle.ifmap_elem.specs.declared.tokens.Assignment.{Assignment}
 use Rattle.ifmap_elem.specs.declared.tokens.Tag.{Tag}
 use Rattle.ifmap_elem.specs.declared.tokens.Token.{Token}
-use Rattle.ifmap_elem.specs.declared.tokens.Token.TheVariants.{Declaration, Comment, Start, Empty, End, Section, Text}
+use Rattle.ifmap_elem.specs.declared.tokens.Token.TheVariants.{Declaration, Comment, Start, Empty, End, Section, Characters}
 use Rattle.ifmap_reader.proofs.CharacterRuns.{lines_characters, text_characters, value_characters}
 
 pub record IsFitAssignment (a : Assignment) : Type 0 where
@@ -26,7 +26,7 @@ IsFitToken (Start tag) = IsFitTag tag
 IsFitToken (Empty tag) = IsFitTag tag
 IsFitToken (End name) = Unit {0}
 IsFitToken (Section text) = IsCharacters text
-IsFitToken (Text blank text) = IsCharacters text
+IsFitToken (Characters blank text) = IsCharacters text
 
 -- what holds of each item that is taken holds of all
 all_taken : {X : Type 0} (Takes : List ℕ → X → List ℕ → Type 0) (P : X → Type 0) → ((bytes : List ℕ) (x : X) (rest : List ℕ) → Takes bytes x rest → P x)
@@ -39,7 +39,7 @@ assignment_fits bytes a rest t = record { name = t.is_name; value = value_charac
 
 tag_fits : (bytes : List ℕ) (tag : Tag) (end : List ℕ) → TakesTag bytes tag end → IsFitTag tag
 tag_fits bytes tag end t =
-    record { name = t.is_name; assignments = all_taken TakesAssignment IsFitAssignment assignment_fits t.behind tag.assignments (t.space ++ end) t.assigned }
+    record { name = t.is_name; assignments = all_taken TakesAssignment IsFitAssignment assignment_fits t.after tag.assignments (t.white ++ end) t.assigned }
 
 token_fits : (bytes : List ℕ) (t : Token) (rest : List ℕ) → TakesToken bytes t rest → IsFitToken t
 token_fits bytes Declaration rest t = tt
@@ -48,7 +48,7 @@ token_fits bytes (Start tag) rest t = tag_fits bytes tag _ t
 token_fits bytes (Empty tag) rest t = tag_fits bytes tag _ t
 token_fits bytes (End name) rest t = tt
 token_fits bytes (Section text) rest t = subst IsCharacters (sym t.3) (lines_characters t.0 t.1.characters)
-token_fits bytes (Text blank text) rest t = text_characters t.own text t.characters t.means
+token_fits bytes (Characters blank text) rest t = text_characters t.own text t.characters t.means
 
 pub tokens_fit : (bytes : List ℕ) (ts : List Token) (rest : List ℕ) → To TakesToken bytes ts rest → AllByRecursion IsFitToken ts
 tokens_fit = all_taken TakesToken IsFitToken token_fits

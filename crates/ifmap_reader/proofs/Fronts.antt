@@ -7,9 +7,9 @@ use Rattle.ifmap_elem.specs.declared.readings.Reading.{Reading}
 use Rattle.ifmap_elem.specs.declared.tokens.Token.{Token}
 use Rattle.ifmap_elem.specs.Document.{IsDocument}
 use Rattle.ifmap_elem.specs.Places.{BeginsDocument, Deep, Opens, Stop, offset, open_after}
-use Rattle.ifmap_elem.specs.Spells.{Spells, without_mark}
+use Rattle.ifmap_elem.specs.Spells.{Spells, without_byte_order_mark}
 use Rattle.ifmap_elem.specs.Tokens.{TakesToken}
-use Rattle.ifmap_elem.proofs.OneToken.{one_token}
+use Rattle.ifmap_elem.specs.laws.OneToken.{one_token}
 use Rattle.ifmap_reader.specs.Reads.{IsUnreadable}
 
 -- each tag so far opened a level up to that depth
@@ -44,7 +44,7 @@ module _ (bytes : List ℕ) where
   -- where shallow tokens stop, no tag opens a level too many
   pub not_deep : (depth at place : ℕ) (s : Stop bytes at) → Shallow depth s.tokens → Deep bytes depth place → ⊥
   not_deep depth at place s shallow d =
-      elim (one_front (without_mark bytes) s.tokens (d.tokens ++ d.tag ∷ []) s.rest d.behind s.reaches.lexed (to_last TakesToken (without_mark bytes) d.tokens d.rest d.tag d.behind d.lexed d.taken)) [
+      elim (one_front (without_byte_order_mark bytes) s.tokens (d.tokens ++ d.tag ∷ []) s.rest d.after s.reaches.lexed (to_last TakesToken (without_byte_order_mark bytes) d.tokens d.rest d.tag d.after d.lexed d.taken)) [
         | inl h ↦ beyond h.0 h.1 h.2
         | inr h ↦ among h.0 (h.1 ∙ append_assoc d.tokens (d.tag ∷ []) h.0)
       ]
@@ -52,7 +52,7 @@ module _ (bytes : List ℕ) where
       among : (after : List Token) → s.tokens ≡ d.tokens ++ (d.tag ∷ after) → ⊥
       among after e = let inside = shallow d.tokens after d.tag e d.opens in let level = d.level_is in omega (arith, inside, level)
 
-      beyond : (more : List Token) → d.tokens ++ d.tag ∷ [] ≡ s.tokens ++ more → To TakesToken s.rest more d.behind → ⊥
+      beyond : (more : List Token) → d.tokens ++ d.tag ∷ [] ≡ s.tokens ++ more → To TakesToken s.rest more d.after → ⊥
       beyond [] e l = among [] (sym (e ∙ append-nil s.tokens))
       beyond (u ∷ us) e l = s.no_further u l.0 l.1 (begins_front s.tokens u us (subst BeginsDocument e d.allowed))
 
@@ -68,7 +68,7 @@ module _ (bytes : List ℕ) where
 
   pub one_stop : (a b : ℕ) → Stop bytes a → Stop bytes b → a ≡ b
   one_stop a b s t =
-      elim (one_front (without_mark bytes) s.tokens t.tokens s.rest t.rest s.reaches.lexed t.reaches.lexed) [
+      elim (one_front (without_byte_order_mark bytes) s.tokens t.tokens s.rest t.rest s.reaches.lexed t.reaches.lexed) [
         | inl h ↦ stops_here a b s t h
         | inr h ↦ sym (stops_here b a t s h)
       ]
@@ -79,14 +79,14 @@ module _ (bytes : List ℕ) where
       by : (more : List Token) → e.tokens ≡ d.tokens ++ more → To TakesToken d.rest more e.rest → a ≡ b
       by [] is l = d.at_is ∙ ap (offset bytes) l ∙ sym e.at_is
       by (u ∷ us) is l =
-          let same : d.tag ≡ u = (one_token d.rest d.tag u d.behind l.0 d.taken l.1).0 in
+          let same : d.tag ≡ u = (one_token d.rest d.tag u d.after l.0 d.taken l.1).0 in
           let inside = e.first d.tokens us u is (subst Opens same d.opens) in
           let level = d.level_is in
           absurd (omega (arith, inside, level))
 
   pub one_deep : (depth a b : ℕ) → Deep bytes depth a → Deep bytes depth b → a ≡ b
   one_deep depth a b d e =
-      elim (one_front (without_mark bytes) d.tokens e.tokens d.rest e.rest d.lexed e.lexed) [
+      elim (one_front (without_byte_order_mark bytes) d.tokens e.tokens d.rest e.rest d.lexed e.lexed) [
         | inl h ↦ deep_here depth a b d e h
         | inr h ↦ sym (deep_here depth b a e d h)
       ]

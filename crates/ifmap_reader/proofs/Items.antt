@@ -9,12 +9,12 @@ use Rattle.ifmap_elem.specs.declared.elements.Element.{Element}
 use Rattle.ifmap_elem.specs.declared.readings.Declared.{Declared}
 use Rattle.ifmap_elem.specs.declared.tokens.Tag.{Tag}
 use Rattle.ifmap_elem.specs.Scopes.{Scope, bindings, NamesElement}
-use Rattle.ifmap_elem.specs.Document.{Item, Inner, Run, is_inner, put_before, joined, is_kept, kept, child_of, declared_here, declared_below, from_above, IsElement}
-use Rattle.ifmap_elem.proofs.Cuts.{is_other}
-use Rattle.ifmap_elem.proofs.OneReading.{one_name}
-use Rattle.ifmap_reader.specs.declared.frames.Frame.{Frame}
-use Rattle.ifmap_reader.specs.Frames.{Closes, has_children, kept_behind, kept_text, text_behind, with_inner, with_words}
-use Rattle.ifmap_reader.specs.Opening.{Opened}
+use Rattle.ifmap_elem.specs.Document.{Item, Inner, Run, is_inner, put_before, joined, is_child, children_among, child_of, declared_here, declared_below, from_above, IsElement}
+use Rattle.ifmap_lemmas.specs.Numbers.{is_other}
+use Rattle.ifmap_elem.specs.laws.OneReading.{one_name}
+use Rattle.ifmap_reader.specs.declared.open_elements.OpenElement.{OpenElement}
+use Rattle.ifmap_reader.specs.OpenElements.{Closes, has_children, children_to_come, is_child_text, text_child, with_inner, with_characters}
+use Rattle.ifmap_reader.specs.AllowedTags.{OpensElement}
 
 put_twice : (a b : List ℕ) (xs : List Item) → put_before a (put_before b xs) ≡ put_before (a ++ b) xs
 put_twice a b [] = refl
@@ -22,7 +22,7 @@ put_twice a b (Run more ∷ xs) = ap (λ (t : List ℕ). Run t ∷ xs) (sym (app
 put_twice a b (Inner e d ∷ xs) = refl
 
 -- an empty text in front is no child
-put_nothing : (b : Bool) (xs : List Item) → filter (is_kept b) (put_before [] xs) ≡ filter (is_kept b) xs
+put_nothing : (b : Bool) (xs : List Item) → filter (is_child b) (put_before [] xs) ≡ filter (is_child b) xs
 put_nothing true [] = refl
 put_nothing false [] = refl
 put_nothing b (Run more ∷ xs) = refl
@@ -30,13 +30,13 @@ put_nothing true (Inner e d ∷ xs) = refl
 put_nothing false (Inner e d ∷ xs) = refl
 
 -- text
-kept_words : (f : Frame) (text : List ℕ) (items : List Item) → kept_behind f (Run text ∷ items) ≡ kept_behind (with_words f text) items
-kept_words f text items = ap (filter (is_kept (has_children f || list_any is_inner items))) (put_twice f.text text (joined items))
+kept_words : (f : OpenElement) (text : List ℕ) (items : List Item) → children_to_come f (Run text ∷ items) ≡ children_to_come (with_characters f text) items
+kept_words f text items = ap (filter (is_child (has_children f || list_any is_inner items))) (put_twice f.text text (joined items))
 
-module _ (f : Frame) (e : Element) (declared : List Declared) where
-  closes_by : (g : Frame) (is js : List Item) → f.name ≡ g.name → f.attributes ≡ g.attributes → f.bindings ≡ g.bindings
-      → f.children ++ map child_of (kept_behind f is) ≡ g.children ++ map child_of (kept_behind g js)
-      → f.below ++ declared_below (length f.children) (kept_behind f is) ≡ g.below ++ declared_below (length g.children) (kept_behind g js)
+module _ (f : OpenElement) (e : Element) (declared : List Declared) where
+  closes_by : (g : OpenElement) (is js : List Item) → f.name ≡ g.name → f.attributes ≡ g.attributes → f.bindings ≡ g.bindings
+      → f.children ++ map child_of (children_to_come f is) ≡ g.children ++ map child_of (children_to_come g js)
+      → f.below ++ declared_below (length f.children) (children_to_come f is) ≡ g.below ++ declared_below (length g.children) (children_to_come g js)
       → Closes f is e declared → Closes g js e declared
   closes_by g is js name attributes bound children below c =
       record {
@@ -44,14 +44,14 @@ module _ (f : Frame) (e : Element) (declared : List Declared) where
         declared_is = c.declared_is ∙ (λ i. declared_here (bound i) ++ below i);
       }
 
-pub words_close : (f : Frame) (text : List ℕ) (items : List Item) (e : Element) (declared : List Declared) → Closes f (Run text ∷ items) e declared → Closes (with_words f text) items e declared
+pub words_close : (f : OpenElement) (text : List ℕ) (items : List Item) (e : Element) (declared : List Declared) → Closes f (Run text ∷ items) e declared → Closes (with_characters f text) items e declared
 words_close f text items e declared =
-    closes_by f e declared (with_words f text) (Run text ∷ items) items refl refl refl (ap (λ k. f.children ++ map child_of k) (kept_words f text items))
+    closes_by f e declared (with_characters f text) (Run text ∷ items) items refl refl refl (ap (λ k. f.children ++ map child_of k) (kept_words f text items))
     (ap (λ k. f.below ++ declared_below (length f.children) k) (kept_words f text items))
 
-pub close_words : (f : Frame) (text : List ℕ) (items : List Item) (e : Element) (declared : List Declared) → Closes (with_words f text) items e declared → Closes f (Run text ∷ items) e declared
+pub close_words : (f : OpenElement) (text : List ℕ) (items : List Item) (e : Element) (declared : List Declared) → Closes (with_characters f text) items e declared → Closes f (Run text ∷ items) e declared
 close_words f text items e declared =
-    closes_by (with_words f text) e declared f items (Run text ∷ items) refl refl refl (ap (λ k. f.children ++ map child_of k) (sym (kept_words f text items)))
+    closes_by (with_characters f text) e declared f items (Run text ∷ items) refl refl refl (ap (λ k. f.children ++ map child_of k) (sym (kept_words f text items)))
     (ap (λ k. f.below ++ declared_below (length f.children) k) (sym (kept_words f text items)))
 
 -- an element
@@ -86,24 +86,24 @@ module _ (fc : List Child) (fb : List Declared) (text : List ℕ) (e : Element) 
       let second : length (fc ++ [] ++ the.Element e ∷ []) ≡ length (fc ++ []) + 1 = one_more (fc ++ []) (the.Element e) in
       sym (append_assoc fb _ _ ∙ (λ i. fb ++ (map (from_above (first i)) d ++ declared_below ((second ∙ ap (λ (n : ℕ). n + 1) first) i) ys)))
 
-module _ (f : Frame) (inner : Element) (below : List Declared) (items : List Item) where
-  kept_before : kept_behind f (Inner inner below ∷ items) ≡ cond (kept_text true f.text) (Run f.text ∷ (Inner inner below ∷ filter (is_kept true) (joined items))) (Inner inner below ∷ filter (is_kept true) (joined items))
-  kept_before = ap (λ (b : Bool). filter (is_kept b) (Run f.text ∷ (Inner inner below ∷ joined items))) (beside_all (has_children f) (list_any is_inner items))
+module _ (f : OpenElement) (inner : Element) (below : List Declared) (items : List Item) where
+  kept_before : children_to_come f (Inner inner below ∷ items) ≡ cond (is_child_text true f.text) (Run f.text ∷ (Inner inner below ∷ filter (is_child true) (joined items))) (Inner inner below ∷ filter (is_child true) (joined items))
+  kept_before = ap (λ (b : Bool). filter (is_child b) (Run f.text ∷ (Inner inner below ∷ joined items))) (beside_all (has_children f) (list_any is_inner items))
 
-  kept_after : kept_behind (with_inner f inner below) items ≡ filter (is_kept true) (joined items)
+  kept_after : children_to_come (with_inner f inner below) items ≡ filter (is_child true) (joined items)
   kept_after =
-      ap (λ (b : Bool). filter (is_kept (b || list_any is_inner items)) (put_before [] (joined items))) (some_last f.children (text_behind true f.text) (the.Element inner))
+      ap (λ (b : Bool). filter (is_child (b || list_any is_inner items)) (put_before [] (joined items))) (some_last f.children (text_child true f.text) (the.Element inner))
       ∙ put_nothing true (joined items)
 
-  children_same : f.children ++ map child_of (kept_behind f (Inner inner below ∷ items)) ≡ (with_inner f inner below).children ++ map child_of (kept_behind (with_inner f inner below) items)
+  children_same : f.children ++ map child_of (children_to_come f (Inner inner below ∷ items)) ≡ (with_inner f inner below).children ++ map child_of (children_to_come (with_inner f inner below) items)
   children_same =
-      ap (λ k. f.children ++ map child_of k) kept_before ∙ inner_children f.children f.below f.text inner below (filter (is_kept true) (joined items)) (kept_text true f.text)
+      ap (λ k. f.children ++ map child_of k) kept_before ∙ inner_children f.children f.below f.text inner below (filter (is_child true) (joined items)) (is_child_text true f.text)
       ∙ ap (λ k. (with_inner f inner below).children ++ map child_of k) (sym kept_after)
 
-  below_same : f.below ++ declared_below (length f.children) (kept_behind f (Inner inner below ∷ items))
-      ≡ (with_inner f inner below).below ++ declared_below (length (with_inner f inner below).children) (kept_behind (with_inner f inner below) items)
+  below_same : f.below ++ declared_below (length f.children) (children_to_come f (Inner inner below ∷ items))
+      ≡ (with_inner f inner below).below ++ declared_below (length (with_inner f inner below).children) (children_to_come (with_inner f inner below) items)
   below_same =
-      ap (λ k. f.below ++ declared_below (length f.children) k) kept_before ∙ inner_below f.children f.below f.text inner below (filter (is_kept true) (joined items)) (kept_text true f.text)
+      ap (λ k. f.below ++ declared_below (length f.children) k) kept_before ∙ inner_below f.children f.below f.text inner below (filter (is_child true) (joined items)) (is_child_text true f.text)
       ∙ ap (λ k. (with_inner f inner below).below ++ declared_below (length (with_inner f inner below).children) k) (sym kept_after)
 
   pub inner_closes : (e : Element) (declared : List Declared) → Closes f (Inner inner below ∷ items) e declared → Closes (with_inner f inner below) items e declared
@@ -114,19 +114,19 @@ module _ (f : Frame) (inner : Element) (below : List Declared) (items : List Ite
 
 -- an element that has just opened
 kept_new : (cs : List Child) (text : List ℕ) (items : List Item) → cs ≡ [] → text ≡ []
-    → filter (is_kept (not (length cs == 0) || list_any is_inner items)) (put_before text (joined items)) ≡ kept items
+    → filter (is_child (not (length cs == 0) || list_any is_inner items)) (put_before text (joined items)) ≡ children_among items
 kept_new cs text items no_children no_text =
-    (λ i. filter (is_kept (not (length (no_children i) == 0) || list_any is_inner items)) (put_before (no_text i) (joined items)))
+    (λ i. filter (is_child (not (length (no_children i) == 0) || list_any is_inner items)) (put_before (no_text i) (joined items)))
     ∙ put_nothing (list_any is_inner items) (joined items)
 
-module _ (outer : Scope) (tag : Tag) (f : Frame) (o : Opened outer tag f) (items : List Item) (e : Element) (declared : List Declared) where
-  kept_all : kept_behind f items ≡ kept items
+module _ (outer : Scope) (tag : Tag) (f : OpenElement) (o : OpensElement outer tag f) (items : List Item) (e : Element) (declared : List Declared) where
+  kept_all : children_to_come f items ≡ children_among items
   kept_all = kept_new f.children f.text items o.no_children o.no_text
 
-  children_new : f.children ++ map child_of (kept_behind f items) ≡ map child_of (kept items)
+  children_new : f.children ++ map child_of (children_to_come f items) ≡ map child_of (children_among items)
   children_new = λ i. o.no_children i ++ map child_of (kept_all i)
 
-  declared_new : declared_here f.bindings ++ (f.below ++ declared_below (length f.children) (kept_behind f items)) ≡ declared_here (bindings tag) ++ declared_below 0 (kept items)
+  declared_new : declared_here f.bindings ++ (f.below ++ declared_below (length f.children) (children_to_come f items)) ≡ declared_here (bindings tag) ++ declared_below 0 (children_among items)
   declared_new = λ i. declared_here (o.bindings_are i) ++ (o.none_below i ++ declared_below (length (o.no_children i)) (kept_all i))
 
   pub closes_opened : Closes f items e declared → IsElement outer tag items e declared

@@ -7,13 +7,13 @@ use Rattle.ifmap_elem.specs.declared.elements.Element.{Element}
 use Rattle.ifmap_elem.specs.declared.readings.Declared.{Declared}
 use Rattle.ifmap_elem.specs.declared.readings.Reading.{Reading}
 use Rattle.ifmap_elem.specs.declared.tokens.Token.{Token}
-use Rattle.ifmap_elem.specs.Document.{Item, Run, is_kept, child_of}
+use Rattle.ifmap_elem.specs.Document.{Item, Run, is_child, child_of}
 use Rattle.ifmap_elem.specs.Folds.{at_element, at_child_element, at_child_text}
 use Rattle.ifmap_elem.specs.Nesting.{greatest, nesting, child_nesting, child_levels, element_levels}
-use Rattle.ifmap_reader.specs.declared.frames.Frame.{Frame}
+use Rattle.ifmap_reader.specs.declared.open_elements.OpenElement.{OpenElement}
 use Rattle.ifmap_reader.specs.Depths.{levels}
-use Rattle.ifmap_reader.specs.Frames.{Closes, has_children, kept_behind, kept_text, text_behind, with_inner}
-use Rattle.ifmap_reader.specs.Progress.{Where, AtStart, Among, Behind, Closing, GoesOn, adopted, so_deep}
+use Rattle.ifmap_reader.specs.OpenElements.{Closes, has_children, children_to_come, is_child_text, text_child, with_inner}
+use Rattle.ifmap_reader.specs.Progress.{Where, AtStart, Within, AfterRoot, Closing, GoesOn, after_element, so_deep}
 
 -- the greatest nesting of some children
 abbrev pub deepest : List Child → ℕ
@@ -39,46 +39,46 @@ one_text : (b : Bool) (t : List ℕ) → deepest (map child_of (cond b (Run t �
 one_text true t = let h = text_nests t in omega (arith, h)
 one_text false t = refl
 
-children_deep : (f : Frame) (items : List Item) (e : Element) (d : List Declared) → Closes f items e d → nesting e ≡ suc (max (deepest f.children) (deepest (map child_of (kept_behind f items))))
+children_deep : (f : OpenElement) (items : List Item) (e : Element) (d : List Declared) → Closes f items e d → nesting e ≡ suc (max (deepest f.children) (deepest (map child_of (children_to_come f items))))
 children_deep f items e d c =
-    nesting_is e ∙ ap (λ (y : Element). suc (deepest y.children)) c.element_is ∙ ap suc (deepest_append f.children (map child_of (kept_behind f items)))
+    nesting_is e ∙ ap (λ (y : Element). suc (deepest y.children)) c.element_is ∙ ap suc (deepest_append f.children (map child_of (children_to_come f items)))
 
 -- an element that ends
-pub closed_nests : (f : Frame) (e : Element) (d : List Declared) → Closes f [] e d → nesting e ≡ suc (deepest f.children)
+pub closed_nests : (f : OpenElement) (e : Element) (d : List Declared) → Closes f [] e d → nesting e ≡ suc (deepest f.children)
 closed_nests f e d c =
     let h = children_deep f [] e d c in
-    let t : deepest (map child_of (kept_behind f [])) ≡ 0 = one_text (is_kept (has_children f || false) (Run f.text)) f.text in
+    let t : deepest (map child_of (children_to_come f [])) ≡ 0 = one_text (is_child (has_children f || false) (Run f.text)) f.text in
     omega (arith, h, t)
 
 one_child : (b : Bool) (t : List ℕ) → deepest (cond b (the.Text t ∷ []) []) ≡ 0
 one_child true t = let h = text_nests t in omega (arith, h)
 one_child false t = refl
 
-inner_deep : (g : Frame) (e : Element) (d : List Declared) → deepest (with_inner g e d).children ≡ max (deepest g.children) (nesting e)
+inner_deep : (g : OpenElement) (e : Element) (d : List Declared) → deepest (with_inner g e d).children ≡ max (deepest g.children) (nesting e)
 inner_deep g e d =
-    let h = deepest_append (g.children ++ text_behind true g.text) (the.Element e ∷ []) in
-    let k = deepest_append g.children (text_behind true g.text) in
-    let t : deepest (text_behind true g.text) ≡ 0 = one_child (kept_text true g.text) g.text in
+    let h = deepest_append (g.children ++ text_child true g.text) (the.Element e ∷ []) in
+    let k = deepest_append g.children (text_child true g.text) in
+    let t : deepest (text_child true g.text) ≡ 0 = one_child (is_child_text true g.text) g.text in
     let l = element_nests e in
     omega (arith, h, k, t, l)
 
 -- behind an element that ended nothing is deeper than before
-pub adopted_fits : (n : ℕ) (f : Frame) (fs : List Frame) (e : Element) (d : List Declared) → Closes f [] e d → levels (f ∷ fs) ≤ n → so_deep (adopted fs e d) ≤ n
-adopted_fits n f [] e d c fits = let h = closed_nests f e d c in omega (arith, h, fits)
-adopted_fits n f (g ∷ gs) e d c fits =
+pub after_element_fits : (n : ℕ) (f : OpenElement) (fs : List OpenElement) (e : Element) (d : List Declared) → Closes f [] e d → levels (f ∷ fs) ≤ n → so_deep (after_element fs e d) ≤ n
+after_element_fits n f [] e d c fits = let h = closed_nests f e d c in omega (arith, h, fits)
+after_element_fits n f (g ∷ gs) e d c fits =
     let h = closed_nests f e d c in
     let k = inner_deep g e d in
     omega (arith, h, k, fits)
 
 -- and no less deep
-pub adopted_deep : (f : Frame) (fs : List Frame) (e : Element) (d : List Declared) → Closes f [] e d → length fs < so_deep (adopted fs e d)
-adopted_deep f [] e d c = let h = closed_nests f e d c in omega (arith, h)
-adopted_deep f (g ∷ gs) e d c =
+pub after_element_deep : (f : OpenElement) (fs : List OpenElement) (e : Element) (d : List Declared) → Closes f [] e d → length fs < so_deep (after_element fs e d)
+after_element_deep f [] e d c = let h = closed_nests f e d c in omega (arith, h)
+after_element_deep f (g ∷ gs) e d c =
     let h = closed_nests f e d c in
     let k = inner_deep g e d in
     omega (arith, h, k)
 
-closing_deep : (f : Frame) (fs : List Frame) (ts : List Token) (r : Reading) → Closing f fs ts r → levels (f ∷ fs) ≤ nesting r.root
+closing_deep : (f : OpenElement) (fs : List OpenElement) (ts : List Token) (r : Reading) → Closing f fs ts r → levels (f ∷ fs) ≤ nesting r.root
 closing_deep f [] ts r x =
     let h = children_deep f x.items x.element x.declared x.closes in
     let s = ap (λ (y : Reading). nesting y.root) x.goes_on.same in
@@ -92,6 +92,6 @@ closing_deep f (g ∷ gs) ts r x =
 -- what goes on nests at least as deep as what has been read
 pub goes_deep : (w : Where) (ts : List Token) (r : Reading) → GoesOn w ts r → so_deep w ≤ nesting r.root
 goes_deep AtStart ts r x = omega arith
-goes_deep (Among []) ts r x = omega arith
-goes_deep (Among (f ∷ fs)) ts r x = closing_deep f fs ts r x
-goes_deep (Behind root) ts r x = let s = ap (λ (y : Reading). nesting y.root) x.same in omega (arith, s)
+goes_deep (Within []) ts r x = omega arith
+goes_deep (Within (f ∷ fs)) ts r x = closing_deep f fs ts r x
+goes_deep (AfterRoot root) ts r x = let s = ap (λ (y : Reading). nesting y.root) x.same in omega (arith, s)

@@ -8,7 +8,7 @@ use Rattle.ifmap_elem.specs.declared.elements.Name.{Name}
 use Rattle.ifmap_elem.specs.declared.tokens.Assignment.{Assignment}
 use Rattle.ifmap_elem.specs.declared.tokens.Tag.{Tag}
 use Rattle.ifmap_elem.specs.Scopes.{Scope, Binding, AllDiffer, AreAttributes, NamesElement, binding_of, bindings}
-use Rattle.ifmap_elem.proofs.OneReading.{one_list_of_attributes}
+use Rattle.ifmap_elem.specs.laws.OneReading.{one_list_of_attributes}
 
 abbrev pub names : List Attribute → List Name
 names ts = map (λ t. t.name) ts

@@ -11,7 +11,8 @@ use Rattle.ifmap_elem.specs.Arranged.{name_order}
 use Rattle.ifmap_elem.specs.Scopes.{AllDiffer}
 use Rattle.ifmap_elem.specs.declared.elements.Attribute.{Attribute}
 use Rattle.ifmap_elem.specs.declared.elements.Name.{Name}
-use Rattle.ifmap_elem.proofs.Attributes.{both_equal, same_texts}
+use Rattle.ifmap_lemmas.specs.Orderings.{both_equal}
+use Rattle.ifmap_lemmas.specs.Texts.{same_texts}
 use Rattle.ifmap_reader.proofs.Binding.{all_last, all_middle}
 use Rattle.ifmap_reader.proofs.NameLaws.{names, dropped}
 

@@ -8,9 +8,9 @@ use Rattle.ifmap_elem.specs.declared.readings.Reading.{Reading}
 use Rattle.ifmap_elem.specs.declared.tokens.Token.{Token}
 use Rattle.ifmap_elem.specs.Document.{IsDocument}
 use Rattle.ifmap_elem.specs.Places.{BeginsDocument, Deep, Opens, Stop, is_start, is_end, open_after, offset}
-use Rattle.ifmap_elem.specs.Spells.{Spells, without_mark}
+use Rattle.ifmap_elem.specs.Spells.{Spells, without_byte_order_mark}
 use Rattle.ifmap_elem.specs.Tokens.{TakesToken}
-use Rattle.ifmap_elem.proofs.OneToken.{no_token}
+use Rattle.ifmap_elem.specs.laws.OneToken.{no_token}
 use Rattle.ifmap_lexer.specs.declared.errors.LexError.{LexError}
 use Rattle.ifmap_lexer.specs.declared.errors.LexError.TheVariants as lexing
 use Rattle.ifmap_reader.specs.declared.errors.ReadError.{ReadError}
@@ -18,9 +18,9 @@ use Rattle.ifmap_reader.specs.declared.errors.Refusal.{Refusal}
 use Rattle.ifmap_reader.specs.declared.errors.Refusal.TheVariants as refusals
 use Rattle.ifmap_reader.specs.declared.standing.Standing.{Standing}
 use Rattle.ifmap_reader.specs.declared.standing.Standing.TheVariants as standing
-use Rattle.ifmap_reader.specs.Progress.{Where, AtStart, Among, Behind, GoesOn, Leads, Passes, Steps, open_in, so_deep, one_if, where_is}
-use Rattle.ifmap_reader.specs.Reads.{IsUnreadable, IsTooDeep, IsRead, lex_error, step_error, read_at_end}
-use Rattle.ifmap_reader.proofs.Goings.{no_tokens, no_tokens_start, behind_ends}
+use Rattle.ifmap_reader.specs.Progress.{Where, AtStart, Within, AfterRoot, GoesOn, Leads, Passes, TokenAnswer, open_in, so_deep, one_if, where_is}
+use Rattle.ifmap_reader.specs.Reads.{IsUnreadable, IsTooDeep, IsRead, lex_error, refusal_error, read_at_end}
+use Rattle.ifmap_reader.proofs.Goings.{no_tokens, no_tokens_start, after_root_ends}
 use Rattle.ifmap_reader.proofs.Levels.{goes_deep}
 use Rattle.ifmap_reader.proofs.Ways.{some_way}
 use Rattle.ifmap_reader.proofs.Fronts.{Shallow, not_deep, unreadable}
@@ -28,9 +28,9 @@ use Rattle.ifmap_reader.proofs.Fronts.{Shallow, not_deep, unreadable}
 -- where a reader is: the tokens so far, what they make of any document, and what any spelling goes on with
 pub record At (bytes : List ℕ) (depth : ℕ) (w : Where) (rest : List ℕ) : Type 0 where
   pub so_far : List Token
-  pub lexed : To TakesToken (without_mark bytes) so_far rest
+  pub lexed : To TakesToken (without_byte_order_mark bytes) so_far rest
   pub goes : (ts : List Token) (r : Reading) → (IsDocument (so_far ++ ts) r ↔ GoesOn w ts r)
-  pub ahead : Ahead TakesToken (without_mark bytes) so_far rest []
+  pub ahead : Ahead TakesToken (without_byte_order_mark bytes) so_far rest []
   pub fits : so_deep w ≤ depth
   pub level : count_by is_start so_far ≡ open_in w + count_by is_end so_far
   pub shallow : Shallow depth so_far
@@ -39,12 +39,12 @@ no_split : (before after : List Token) (t : Token) → [] ≡ before ++ (t ∷ a
 no_split [] after t e = cc
 no_split (b ∷ bs) after t e = cc
 
-pub at_start : (bytes : List ℕ) (depth : ℕ) (rest : List ℕ) → rest ≡ without_mark bytes → At bytes depth AtStart rest
+pub at_start : (bytes : List ℕ) (depth : ℕ) (rest : List ℕ) → rest ≡ without_byte_order_mark bytes → At bytes depth AtStart rest
 at_start bytes depth rest is = record {
   so_far = [];
   lexed = sym is;
   goes = λ ts r. (λ x. x, λ x. x);
-  ahead = subst (λ (b : List ℕ). Ahead TakesToken (without_mark bytes) [] b []) (sym is) (ahead_at_start TakesToken (without_mark bytes) []);
+  ahead = subst (λ (b : List ℕ). Ahead TakesToken (without_byte_order_mark bytes) [] b []) (sym is) (ahead_at_start TakesToken (without_byte_order_mark bytes) []);
   fits = omega arith;
   level = omega arith;
   shallow = λ before after t e o. absurd (no_split before after t e);
@@ -89,9 +89,9 @@ module _ (bytes : List ℕ) (depth : ℕ) (w : Where) (rest : List ℕ) (at : At
     pub at_next : (new : Where) → Leads depth w t new → At bytes depth new behind
     at_next new l = record {
       so_far = at.so_far ++ t ∷ [];
-      lexed = to_last TakesToken (without_mark bytes) at.so_far rest t behind at.lexed takes;
+      lexed = to_last TakesToken (without_byte_order_mark bytes) at.so_far rest t behind at.lexed takes;
       goes = λ ts r. let g = goes_next ts r in let f = l.follows ts r in (λ x. f.0 (g.0 x), λ x. g.1 (f.1 x));
-      ahead = ahead_next TakesToken (without_mark bytes) at.so_far rest t behind [] some is_only at.ahead;
+      ahead = ahead_next TakesToken (without_byte_order_mark bytes) at.so_far rest t behind [] some is_only at.ahead;
       fits = l.fits at.fits;
       level = let a = counted is_start t in let b = counted is_end t in let c = l.counts in let d = at.level in omega (arith, a, b, c, d);
       shallow = λ before after u e o. elim (split_last at.so_far before after t u e) [
@@ -134,9 +134,9 @@ module _ (bytes : List ℕ) (depth : ℕ) (w : Where) (rest : List ℕ) (at : At
       where
         fitting : (v : Where) → so_deep v ≤ depth → open_in v ≤ depth
         fitting AtStart f = omega arith
-        fitting (Among []) f = omega arith
-        fitting (Among (g ∷ gs)) f = omega (arith, f)
-        fitting (Behind root) f = omega arith
+        fitting (Within []) f = omega arith
+        fitting (Within (g ∷ gs)) f = omega (arith, f)
+        fitting (AfterRoot root) f = omega arith
 
     pub step_too_deep : (place : ℕ) → place ≡ offset bytes rest → place ≤ length bytes → Passes depth w t → IsTooDeep bytes depth place
     step_too_deep place is within p =
@@ -147,7 +147,7 @@ module _ (bytes : List ℕ) (depth : ℕ) (w : Where) (rest : List ℕ) (at : At
             tokens = at.so_far;
             tag = t;
             rest = rest;
-            behind = behind;
+            after = behind;
             lexed = at.lexed;
             taken = takes;
             allowed = record { more = s.0; reading = s.1.0; document = (goes_next s.0 s.1.0).1 ((p.follows s.0 s.1.0).1 s.1.1) };
@@ -167,7 +167,7 @@ module _ (bytes : List ℕ) (depth : ℕ) (w : Where) (rest : List ℕ) (at : At
       unreadable bytes depth place
       (record { tokens = at.so_far; rest = rest; reaches = record { lexed = at.lexed; allowed = begins }; no_further = λ t after h b. none t after h; at_is = is })
       at.shallow
-      (λ r s. none_ahead TakesToken (without_mark bytes) at.so_far rest [] some none at.ahead s.tokens s.lexed)
+      (λ r s. none_ahead TakesToken (without_byte_order_mark bytes) at.so_far rest [] some none at.ahead s.tokens s.lexed)
       within
 
   -- at the end of the input
@@ -194,7 +194,7 @@ module _ (bytes : List ℕ) (depth : ℕ) (w : Where) (rest : List ℕ) (at : At
     pub whole : (r : Reading) → GoesOn w [] r → Spells bytes r
     whole r x = record {
       tokens = at.so_far;
-      lexed = subst (λ (b : List ℕ). To TakesToken (without_mark bytes) at.so_far b) end at.lexed;
+      lexed = subst (λ (b : List ℕ). To TakesToken (without_byte_order_mark bytes) at.so_far b) end at.lexed;
       document = subst (λ (us : List Token). IsDocument us r) (append-nil at.so_far) ((at.goes [] r).1 x);
     }
 
@@ -218,22 +218,22 @@ module _ (bytes : List ℕ) (depth : ℕ) (w : Where) (place : ℕ) (at : At byt
 
   module _ (shown : List ℕ) (t : Token) (count : ℕ) (l : place < length bytes) (is : shown ≡ drop place bytes) (taken : TakesToken shown t (drop count shown))
       (alone : (u : Token) (rest : List ℕ) → TakesToken shown u rest → (u ≡ t) × (rest ≡ drop count shown)) where
-    behind_here : drop count shown ≡ drop (place + count) bytes
-    behind_here = ap (drop count) is ∙ drop-drop count place bytes
+    after_here : drop count shown ≡ drop (place + count) bytes
+    after_here = ap (drop count) is ∙ drop-drop count place bytes
 
     taken_here : TakesToken (drop place bytes) t (drop (place + count) bytes)
-    taken_here = subst (λ (b : List ℕ). TakesToken b t (drop (place + count) bytes)) is (subst (λ (b : List ℕ). TakesToken shown t b) behind_here taken)
+    taken_here = subst (λ (b : List ℕ). TakesToken b t (drop (place + count) bytes)) is (subst (λ (b : List ℕ). TakesToken shown t b) after_here taken)
 
     alone_here : (u : Token) (rest : List ℕ) → TakesToken (drop place bytes) u rest → (u ≡ t) × (rest ≡ drop (place + count) bytes)
-    alone_here u rest h = let k = alone u rest (subst (λ (b : List ℕ). TakesToken b u rest) (sym is) h) in (k.0, k.1 ∙ behind_here)
+    alone_here u rest h = let k = alone u rest (subst (λ (b : List ℕ). TakesToken b u rest) (sym is) h) in (k.0, k.1 ∙ after_here)
 
     pub next_at : (new : Where) → Leads depth w t new → At bytes depth new (drop (place + count) bytes)
     next_at new h = at_next bytes depth w (drop place bytes) at t (drop (place + count) bytes) (some_left l) taken_here alone_here new h
 
-    pub refused_at : (refusal : Refusal) (result : ReadError) → result ≡ step_error refusal place → Steps depth w t (Err refusal) → IsRead bytes depth (Err result)
+    pub refused_at : (refusal : Refusal) (result : ReadError) → result ≡ refusal_error refusal place → TokenAnswer depth w t (Err refusal) → IsRead bytes depth (Err result)
     refused_at refusal result made h = subst (λ (e : ReadError). IsRead bytes depth (Err e)) (sym made) (by refusal h)
       where
-        by : (refusal : Refusal) → Steps depth w t (Err refusal) → IsRead bytes depth (Err (step_error refusal place))
+        by : (refusal : Refusal) → TokenAnswer depth w t (Err refusal) → IsRead bytes depth (Err (refusal_error refusal place))
         by refusals.NotAllowed h =
             step_refused bytes depth w (drop place bytes) at t (drop (place + count) bytes) (some_left l) taken_here alone_here place (offset_is (omega (arith, l))) (omega (arith, l)) h
         by refusals.TooDeep h =
@@ -263,5 +263,5 @@ end_read bytes depth s place result at within end made = subst (λ (a : Result R
 
     by : (s : Standing) → At bytes depth (where_is s) (drop place bytes) → IsRead bytes depth (read_at_end s place)
     by standing.Start a = ended_early bytes depth AtStart (drop place bytes) a none_left no_tokens_start place (here AtStart a) within
-    by (standing.Open frames) a = ended_early bytes depth (Among (reverse frames)) (drop place bytes) a none_left (no_tokens (reverse frames)) place (here (Among (reverse frames)) a) within
-    by (standing.Done r) a = (whole bytes depth (Behind r) (drop place bytes) a none_left r (behind_ends r), a.fits, λ deep d. none_deep bytes depth (Behind r) (drop place bytes) a none_left place deep (here (Behind r) a) d)
+    by (standing.Open open_elements) a = ended_early bytes depth (Within (reverse open_elements)) (drop place bytes) a none_left (no_tokens (reverse open_elements)) place (here (Within (reverse open_elements)) a) within
+    by (standing.Done r) a = (whole bytes depth (AfterRoot r) (drop place bytes) a none_left r (after_root_ends r), a.fits, λ deep d. none_deep bytes depth (AfterRoot r) (drop place bytes) a none_left place deep (here (AfterRoot r) a) d)

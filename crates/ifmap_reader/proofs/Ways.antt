@@ -8,10 +8,12 @@ use Rattle.ifmap_elem.specs.declared.tokens.Tag.{Tag}
 use Rattle.ifmap_elem.specs.declared.tokens.Token.{Token}
 use Rattle.ifmap_elem.specs.declared.tokens.Token.TheVariants.{Empty, End}
 use Rattle.ifmap_elem.specs.Scopes.{root_scope}
-use Rattle.ifmap_elem.specs.Document.{Nothing, Leaf, IsElement}
-use Rattle.ifmap_reader.specs.declared.frames.Frame.{Frame}
-use Rattle.ifmap_reader.specs.Frames.{Closes, with_inner, written_name}
-use Rattle.ifmap_reader.specs.Progress.{Where, AtStart, Among, Behind, Closing, GoesOn}
+use Rattle.ifmap_elem.specs.Document as piece
+use Rattle.ifmap_elem.specs.Document.{Nothing, IsElement}
+use Rattle.ifmap_elem.specs.laws.Roots.{begins_root}
+use Rattle.ifmap_reader.specs.declared.open_elements.OpenElement.{OpenElement}
+use Rattle.ifmap_reader.specs.OpenElements.{Closes, with_inner, written_name}
+use Rattle.ifmap_reader.specs.Progress.{Where, AtStart, Within, AfterRoot, Closing, GoesOn}
 
 -- `<a/>`
 abbrev some_tag : Tag
@@ -30,7 +32,7 @@ some_element = record {
 abbrev pub SomeWay : Where → Type 0
 SomeWay w = (ts : List Token) × ((r : Reading) × GoesOn w ts r)
 
-some_closing : (f : Frame) (fs : List Frame) → (ts : List Token) × ((r : Reading) × Closing f fs ts r)
+some_closing : (f : OpenElement) (fs : List OpenElement) → (ts : List Token) × ((r : Reading) × Closing f fs ts r)
 some_closing f [] =
     let end : (e : Element) × ((d : List Declared) × Closes f [] e d) = (_, (_, record { element_is = refl; declared_is = refl })) in (
       End (written_name f) ∷ [],
@@ -60,7 +62,7 @@ some_closing f (g ∷ gs) =
     )
 
 pub some_way : (w : Where) → SomeWay w
-some_way AtStart = (Empty some_tag ∷ [], (some_reading, record { declared = false; content = Leaf some_tag Nothing; tokens_are = refl; rooted = (some_element, tt) }))
-some_way (Among []) = (Empty some_tag ∷ [], (some_reading, record { content = Leaf some_tag Nothing; tokens_are = refl; rooted = (some_element, tt) }))
-some_way (Among (f ∷ fs)) = some_closing f fs
-some_way (Behind root) = ([], (root, record { after = Nothing; tokens_are = refl; margin = tt; same = refl }))
+some_way AtStart = (Empty some_tag ∷ [], (some_reading, record { declared = false; pieces = piece.Empty some_tag Nothing; tokens_are = refl; rooted = begins_root (piece.Empty some_tag Nothing) some_reading (some_element, tt) }))
+some_way (Within []) = (Empty some_tag ∷ [], (some_reading, record { pieces = piece.Empty some_tag Nothing; tokens_are = refl; rooted = (some_element, tt) }))
+some_way (Within (f ∷ fs)) = some_closing f fs
+some_way (AfterRoot root) = ([], (root, record { after = Nothing; tokens_are = refl; margin = tt; same = refl }))

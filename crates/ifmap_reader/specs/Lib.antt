@@ -1,7 +1,6 @@
 pub mod Depths
-pub mod Frames
-pub mod InScope
-pub mod Opening
+pub mod ListedScopes
+pub mod OpenElements
+pub mod AllowedTags
 pub mod Progress
 pub mod Reads
-pub mod Rows

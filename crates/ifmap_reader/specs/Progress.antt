@@ -1,6 +1,7 @@
 -- How a document goes on from where a reader stands, and what one more token makes of that.
 use Rattle.std.specs.Prelude.{◌≡◌, ◌↔◌, ℕ, ◌+◌, ◌<◌, ◌≤◌, Bool, true, false, cond, ◌⊎◌, List, [], ◌∷◌, ◌++◌, length, reverse, Result, Ok, Err}
-use Rattle.ifmap_elem.specs.Document.{Content, tokens_of, Item, Means, IsMargin, IsRoot, IsDocument}
+use Rattle.ifmap_elem.specs.Document.{Pieces, tokens_of, Item, AreItems, IsMargin, IsDocument}
+use Rattle.ifmap_elem.specs.laws.Roots.{BeginsWithRoot}
 use Rattle.ifmap_elem.specs.Nesting.{nesting}
 use Rattle.ifmap_elem.specs.Places.{is_start, is_end, Opens}
 use Rattle.ifmap_elem.specs.Scopes.{Scope}
@@ -8,75 +9,75 @@ use Rattle.ifmap_elem.specs.declared.elements.Element.{Element}
 use Rattle.ifmap_elem.specs.declared.readings.Declared.{Declared}
 use Rattle.ifmap_elem.specs.declared.readings.Reading.{Reading}
 use Rattle.ifmap_elem.specs.declared.tokens.Token.{Token}
-use Rattle.ifmap_elem.specs.declared.tokens.Token.TheVariants.{Declaration, Comment, Start, Empty, End, Section, Text}
+use Rattle.ifmap_elem.specs.declared.tokens.Token.TheVariants.{Declaration, Comment, Start, Empty, End, Section, Characters}
 use Rattle.ifmap_reader.specs.Depths.{levels}
-use Rattle.ifmap_reader.specs.Frames.{Closes, scope_of, with_inner, written_name}
+use Rattle.ifmap_reader.specs.OpenElements.{Closes, scope_of, with_inner, written_name}
 use Rattle.ifmap_reader.specs.declared.errors.Refusal.{Refusal}
 use Rattle.ifmap_reader.specs.declared.errors.Refusal.TheVariants.{NotAllowed, TooDeep, NoMemory}
-use Rattle.ifmap_reader.specs.declared.frames.Frame.{Frame}
+use Rattle.ifmap_reader.specs.declared.open_elements.OpenElement.{OpenElement}
 use Rattle.ifmap_reader.specs.declared.standing.Standing.{Standing}
 use Rattle.ifmap_reader.specs.declared.standing.Standing.TheVariants as standing
 
 -- where a reader stands: at the start, within some open elements, the innermost first and none before the root, or behind the root
 pub data Where : Type 0 where
   AtStart : Where
-  Among : List Frame → Where
-  Behind : Reading → Where
+  Within : List OpenElement → Where
+  AfterRoot : Reading → Where
 
 abbrev pub where_is : Standing → Where
 where_is standing.Start = AtStart
-where_is (standing.Open frames) = Among (reverse frames)
-where_is (standing.Done r) = Behind r
+where_is (standing.Open open_elements) = Within (reverse open_elements)
+where_is (standing.Done r) = AfterRoot r
 
--- the tokens are the rest of an open element's content, its end tag, and what Then says of the element that ended
-pub record Ends (scope : Scope) (f : Frame) (ts : List Token) (Then : Element → List Declared → List Token → Type 0) : Type 0 where
-  pub inside : Content
+-- the tokens are the rest of an open element's pieces, its end tag, and what Then says of the element that ended
+pub record Ends (scope : Scope) (f : OpenElement) (ts : List Token) (Then : Element → List Declared → List Token → Type 0) : Type 0 where
+  pub inside : Pieces
   pub behind : List Token
   pub items : List Item
   pub element : Element
   pub declared : List Declared
   pub tokens_are : ts ≡ tokens_of inside ++ (End (written_name f) ∷ behind)
-  pub means : Means scope inside items
+  pub means : AreItems scope inside items
   pub closes : Closes f items element declared
   pub goes_on : Then element declared behind
 
 -- the tokens end a document behind this root
 pub record EndsDocument (root : Reading) (ts : List Token) (r : Reading) : Type 0 where
-  pub after : Content
+  pub after : Pieces
   pub tokens_are : ts ≡ tokens_of after
   pub margin : IsMargin after
   pub same : root ≡ r
 
 -- the tokens end an open element, those round it, and the document
-abbrev pub Closing : Frame → List Frame → List Token → Reading → Type 0
+abbrev pub Closing : OpenElement → List OpenElement → List Token → Reading → Type 0
 Closing f [] ts r = Ends (scope_of (f ∷ [])) f ts (λ e declared behind. EndsDocument (record { root = e; declared = declared }) behind r)
 Closing f (g ∷ gs) ts r = Ends (scope_of (f ∷ (g ∷ gs))) f ts (λ e declared behind. Closing (with_inner g e declared) gs behind r)
 
 -- the tokens are a document from before its root on
 pub record BeginsRoot (ts : List Token) (r : Reading) : Type 0 where
-  pub content : Content
-  pub tokens_are : ts ≡ tokens_of content
-  pub rooted : IsRoot content r
+  pub pieces : Pieces
+  pub tokens_are : ts ≡ tokens_of pieces
+  pub rooted : BeginsWithRoot pieces r
 
 -- the tokens go on from there to a document that means this
 abbrev pub GoesOn : Where → List Token → Reading → Type 0
 GoesOn AtStart ts r = IsDocument ts r
-GoesOn (Among []) ts r = BeginsRoot ts r
-GoesOn (Among (f ∷ fs)) ts r = Closing f fs ts r
-GoesOn (Behind root) ts r = EndsDocument root ts r
+GoesOn (Within []) ts r = BeginsRoot ts r
+GoesOn (Within (f ∷ fs)) ts r = Closing f fs ts r
+GoesOn (AfterRoot root) ts r = EndsDocument root ts r
 
 -- what goes on behind the token goes on before it with the token in front, and the other way
 abbrev pub Follows : Where → Token → Where → Type 0
 Follows old t new = (ts : List Token) (r : Reading) → (GoesOn old (t ∷ ts) r ↔ GoesOn new ts r)
 
 -- behind an element that ended within these
-abbrev pub adopted : List Frame → Element → List Declared → Where
-adopted [] e declared = Behind (record { root = e; declared = declared })
-adopted (g ∷ gs) e declared = Among (with_inner g e declared ∷ gs)
+abbrev pub after_element : List OpenElement → Element → List Declared → Where
+after_element [] e declared = AfterRoot (record { root = e; declared = declared })
+after_element (g ∷ gs) e declared = Within (with_inner g e declared ∷ gs)
 
 -- a token of text that means this, with its own bytes white space alone or not
-abbrev pub IsWords : Bool → List ℕ → Token → Type 0
-IsWords blank text t = (t ≡ Text blank text) ⊎ ((blank ≡ false) × (t ≡ Section text))
+abbrev pub IsCharacterData : Bool → List ℕ → Token → Type 0
+IsCharacterData blank text t = (t ≡ Characters blank text) ⊎ ((blank ≡ false) × (t ≡ Section text))
 
 -- the token may stand beside the root: a comment, or white space alone in its own bytes
 abbrev pub is_margin : Token → Bool
@@ -86,19 +87,19 @@ is_margin (Start tag) = false
 is_margin (Empty tag) = false
 is_margin (End name) = false
 is_margin (Section text) = false
-is_margin (Text blank text) = blank
+is_margin (Characters blank text) = blank
 
 -- how many elements are open
 abbrev pub open_in : Where → ℕ
 open_in AtStart = 0
-open_in (Among frames) = length frames
-open_in (Behind root) = 0
+open_in (Within open_elements) = length open_elements
+open_in (AfterRoot root) = 0
 
 -- how deep what was read nests
 abbrev pub so_deep : Where → ℕ
 so_deep AtStart = 0
-so_deep (Among frames) = levels frames
-so_deep (Behind root) = nesting root.root
+so_deep (Within open_elements) = levels open_elements
+so_deep (AfterRoot root) = nesting root.root
 
 -- one, where it is so
 abbrev pub one_if : Bool → ℕ
@@ -120,8 +121,8 @@ pub record Passes (depth : ℕ) (old : Where) (t : Token) : Type 0 where
   pub deeper : depth < so_deep new
 
 -- the answer to one more token
-abbrev pub Steps : ℕ → Where → Token → Result Standing Refusal → Type 0
-Steps depth old t (Ok new) = Leads depth old t (where_is new)
-Steps depth old t (Err NotAllowed) = (ts : List Token) (r : Reading) → GoesOn old (t ∷ ts) r → ⊥
-Steps depth old t (Err TooDeep) = Passes depth old t
-Steps depth old t (Err NoMemory) = Unit {0}
+abbrev pub TokenAnswer : ℕ → Where → Token → Result Standing Refusal → Type 0
+TokenAnswer depth old t (Ok new) = Leads depth old t (where_is new)
+TokenAnswer depth old t (Err NotAllowed) = (ts : List Token) (r : Reading) → GoesOn old (t ∷ ts) r → ⊥
+TokenAnswer depth old t (Err TooDeep) = Passes depth old t
+TokenAnswer depth old t (Err NoMemory) = Unit {0}

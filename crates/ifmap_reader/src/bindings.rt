@@ -3,7 +3,7 @@ ghost use Rattle.std.specs.Prelude.{◌≡◌, ◌↔◌, ◌∷◌, [], ◌++�
 ghost use Rattle.std.specs.Option.{option_copied};
 ghost use Rattle.ifmap_elem.specs.Scopes.{Binding, IsBinding, binding_of, bound};
 ghost use Rattle.ifmap_elem.specs.Document.{declared_here};
-ghost use Rattle.ifmap_reader.specs.Opening.{Binds, IsBound, told};
+ghost use Rattle.ifmap_reader.specs.AllowedTags.{Binds, IsBound, told};
 
 use crate::errors::Refusal;
 use ifmap_elem::tokens::Assignment;
@@ -35,13 +35,13 @@ impl Model for Bindings {
     ghost use Rattle.std.specs.BTreeMap.{get};
     ghost use Rattle.ifmap_elem.specs.Scopes.{Binding, bound};
     ghost use Rattle.ifmap_elem.specs.Document.{declared_here};
-    ghost use Rattle.ifmap_reader.specs.Rows.{row_binding};
+    ghost use Rattle.ifmap_elem.specs.InScope.{binding_told};
 
     ghost Value = { List Binding };
 
-    ghost view = { λ b. map row_binding b.rows.items };
+    ghost view = { λ b. map binding_told b.rows.items };
 
-    ghost invariant = { λ b. (b.rows.items ≡ declared_here (map row_binding b.rows.items)) × ((prefix : List ℕ) → get (slice_cmp nat_cmp) b.spaces prefix ≡ bound (map row_binding b.rows.items) prefix) };
+    ghost invariant = { λ b. (b.rows.items ≡ declared_here (map binding_told b.rows.items)) × ((prefix : List ℕ) → get (slice_cmp nat_cmp) b.spaces prefix ≡ bound (map binding_told b.rows.items) prefix) };
 }
 
 impl Bindings {

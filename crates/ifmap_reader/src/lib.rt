@@ -3,12 +3,12 @@
 //! scope at an element that was read.
 #![tactic(auto)]
 
+mod allowed_tags;
 mod bindings;
 mod differing;
 pub mod errors;
-mod frames;
 pub mod laws;
-mod opening;
+mod open_elements;
 pub mod reading;
 pub mod scoping;
 mod standing;

@@ -7,9 +7,11 @@ ghost use Rattle.std.specs.Map.{lookup};
 ghost use Rattle.std.specs.Ordering.{nat_cmp};
 ghost use Rattle.std.specs.Str.{bytes_eq};
 ghost use Rattle.ifmap_elem.specs.Scopes.{AllDiffer};
-ghost use Rattle.ifmap_reader.specs.InScope.{declared_at, is_listed, listed};
+ghost use Rattle.ifmap_elem.specs.InScope.{declared_at, is_listed, listed};
+ghost use Rattle.ifmap_reader.specs.ListedScopes.{Lists, ListsScope};
 
 use crate::bindings::XML;
+use ifmap_elem::laws::declarations_tell_the_scopes;
 use ifmap_elem::{Copied, Declared, Many, Reading, Text};
 use std::alloc::{AllocError as NoMemory, Global};
 use std::collections::BTreeMap;
@@ -18,25 +20,27 @@ use std::collections::BTreeMap;
 /// not among them.
 #[derive(Debug, Drop)]
 pub struct Scope {
-    pub rows: Many<(Text, Text)>,
+    pub bindings: Many<(Text, Text)>,
 }
 
 impl Copied for Scope {
     fn copy(&self, alloc: Global) -> Result<Self, NoMemory> {
-        let rows = self.rows.copy(alloc)?;
-        Ok(Scope { rows })
+        let bindings = self.bindings.copy(alloc)?;
+        Ok(Scope { bindings })
     }
 }
 
 /// The prefixes in scope at the element with this path of child indexes. A path that names no
 /// element is answered as the part of it that is there.
 pub fn scope_at(alloc: Global, reading: &Reading, path: &[u32]) -> Result<Scope, NoMemory>
-    ensures once { IfOk result (λ scope. AllDiffer (map (λ row. row.0) scope.rows)) }
-    ensures rows { IfOk result (λ scope. (prefix : List ℕ) → lookup (bytes_eq prefix) scope.rows ≡ listed (declared_at path.now reading.now.declared) prefix) }
+    ensures once { IfOk result (λ s. AllDiffer (map (λ b. b.0) s.bindings)) }
+    ensures declared { IfOk result (λ s. Lists s.bindings (declared_at path.now reading.now.declared)) }
+    ensures resolved { IfOk result (λ s. ListsScope s.bindings reading.now path.now) }
 {
+    declarations_tell_the_scopes();
     let spaces = spaces_at(alloc, &reading.declared.0, path)?;
-    let rows = rows_of(alloc, spaces)?;
-    Ok(Scope { rows })
+    let bindings = bindings_of(alloc, spaces)?;
+    Ok(Scope { bindings })
 }
 
 /// What each listed prefix is bound to: a declaration further in takes the place of one round it.
@@ -48,19 +52,22 @@ fn spaces_at(
     ensures { IfOk result (λ spaces. (prefix : List ℕ) → get (slice_cmp nat_cmp) spaces prefix ≡ listed (declared_at path.now declared.now) prefix) }
 {
     let mut spaces = BTreeMap::new(alloc);
-    for row in declared {
-        if is_row_at(row, path) {
-            spaces.insert(row.prefix.copy(alloc)?, row.space.copy(alloc)?)?;
+    for declaration in declared {
+        if is_listed_at(declaration, path) {
+            spaces.insert(
+                declaration.prefix.copy(alloc)?,
+                declaration.space.copy(alloc)?,
+            )?;
         }
     }
     Ok(spaces)
 }
 
 /// Whether a declaration stands at or round the element with this path, and is of a listed prefix.
-fn is_row_at(row: &Declared, path: &[u32]) -> bool
-    ensures { result ≡ (starts_with ◌==◌ path.now row.now.path && is_listed row.now.prefix) }
+fn is_listed_at(declaration: &Declared, path: &[u32]) -> bool
+    ensures { result ≡ (starts_with ◌==◌ path.now declaration.now.path && is_listed declaration.now.prefix) }
 {
-    path.starts_with(&row.path.0) && is_listed(&row.prefix)
+    path.starts_with(&declaration.path.0) && is_listed(&declaration.prefix)
 }
 
 fn is_listed(prefix: &Text) -> bool
@@ -69,13 +76,13 @@ fn is_listed(prefix: &Text) -> bool
     !(prefix.0.as_bytes().is_empty() || prefix.0.as_bytes() == XML.as_bytes())
 }
 
-fn rows_of(alloc: Global, spaces: BTreeMap<Text, Text>) -> Result<Many<(Text, Text)>, NoMemory>
-    ensures all { IfOk result (λ rows. rows ≡ spaces.entries) }
-    ensures once { IfOk result (λ rows. AllDiffer (map (λ row. row.0) rows)) }
+fn bindings_of(alloc: Global, spaces: BTreeMap<Text, Text>) -> Result<Many<(Text, Text)>, NoMemory>
+    ensures all { IfOk result (λ bindings. bindings ≡ spaces.entries) }
+    ensures once { IfOk result (λ bindings. AllDiffer (map (λ binding. binding.0) bindings)) }
 {
-    let mut rows = Vec::with_capacity(alloc, spaces.len())?;
-    for row in spaces {
-        rows.push(row)?;
+    let mut bindings = Vec::with_capacity(alloc, spaces.len())?;
+    for binding in spaces {
+        bindings.push(binding)?;
     }
-    Ok(Many(rows))
+    Ok(Many(bindings))
 }

@@ -1,11 +1,11 @@
 //! Where a reader stands, and what one more token makes of it.
 ghost use Rattle.std.specs.Prelude.{◌≡◌, ℕ, reverse, IfOk};
-ghost use Rattle.ifmap_reader.specs.Progress.{Among, Behind, IsWords, Steps, adopted, is_margin, where_is};
+ghost use Rattle.ifmap_reader.specs.Progress.{Within, AfterRoot, IsCharacterData, TokenAnswer, after_element, is_margin, where_is};
 ghost use Rattle.ifmap_elem.specs.declared.tokens.Token.{Token};
 
+use crate::allowed_tags::open_element;
 use crate::errors::Refusal;
-use crate::frames::Frame;
-use crate::opening::opened;
+use crate::open_elements::OpenElement;
 use ifmap_elem::tokens::{Qualified, Tag, Token};
 use ifmap_elem::{Declared, Element, Many, Reading, Text};
 use std::alloc::{AllocError as NoMemory, Global};
@@ -15,32 +15,32 @@ pub(crate) enum Standing {
     /// At the start, where a declaration may stand.
     Start,
     /// Within the elements that are open, the innermost last; before the root where none is.
-    Open(Many<Frame>),
-    /// Behind the root.
+    Open(Many<OpenElement>),
+    /// After the root.
     Done(Reading),
 }
 
 /// Where the reader stands behind one more token.
-pub(crate) fn step(
+pub(crate) fn take_token(
     alloc: Global,
     depth: u32,
     standing: Standing,
     token: Token,
 ) -> Result<Standing, Refusal>
-    ensures { Steps depth (where_is standing) token result }
+    ensures { TokenAnswer depth (where_is standing) token result }
 {
     match standing {
         Standing::Start => match token {
             Token::Declaration => Ok(Standing::Open(Many(Vec::new(alloc)))),
-            token => continued(alloc, depth, Many(Vec::new(alloc)), token),
+            token => take_inside(alloc, depth, Many(Vec::new(alloc)), token),
         },
-        Standing::Open(frames) => continued(alloc, depth, frames, token),
-        Standing::Done(reading) => behind_root(depth, reading, token),
+        Standing::Open(open_elements) => take_inside(alloc, depth, open_elements, token),
+        Standing::Done(reading) => take_after_root(depth, reading, token),
     }
 }
 
-fn behind_root(depth: u32, reading: Reading, token: Token) -> Result<Standing, Refusal>
-    ensures { Steps depth (Behind reading) token result }
+fn take_after_root(depth: u32, reading: Reading, token: Token) -> Result<Standing, Refusal>
+    ensures { TokenAnswer depth (AfterRoot reading) token result }
 {
     if !is_margin(&token) {
         return Err(Refusal::NotAllowed);
@@ -52,95 +52,112 @@ fn behind_root(depth: u32, reading: Reading, token: Token) -> Result<Standing, R
 fn is_margin(token: &Token) -> bool
     ensures { result ≡ is_margin token.now }
 {
-    matches!(token, Token::Comment | Token::Text(true, _))
+    matches!(
+        token,
+        Token::Comment | Token::Characters { blank: true, .. }
+    )
 }
 
-fn continued(
+fn take_inside(
     alloc: Global,
     depth: u32,
-    frames: Many<Frame>,
+    open_elements: Many<OpenElement>,
     token: Token,
 ) -> Result<Standing, Refusal>
-    ensures { Steps depth (Among (reverse frames)) token result }
+    ensures { TokenAnswer depth (Within (reverse open_elements)) token result }
 {
     match token {
         Token::Declaration => Err(Refusal::NotAllowed),
-        Token::Comment => Ok(Standing::Open(frames)),
-        Token::Start(tag) => started(alloc, depth, frames, tag),
-        Token::Empty(tag) => emptied(alloc, depth, frames, tag),
-        Token::End(name) => ended(alloc, frames, name),
-        Token::Section(text) => worded(frames, false, text),
-        Token::Text(blank, text) => worded(frames, blank, text),
+        Token::Comment => Ok(Standing::Open(open_elements)),
+        Token::Start(tag) => take_start(alloc, depth, open_elements, tag),
+        Token::Empty(tag) => take_empty(alloc, depth, open_elements, tag),
+        Token::End(name) => take_end(alloc, open_elements, name),
+        Token::Section(text) => take_text(open_elements, false, text),
+        Token::Characters { blank, text } => take_text(open_elements, blank, text),
     }
 }
 
-/// Behind a text. Outside the root it may be white space alone in its own bytes.
-fn worded(frames: Many<Frame>, blank: bool, text: Text) -> Result<Standing, Refusal>
-    ensures { (depth : ℕ) → (t : Token) → IsWords blank text t → Steps depth (Among (reverse frames)) t result }
+/// After a text. Outside the root it may be white space alone in its own bytes.
+fn take_text(open_elements: Many<OpenElement>, blank: bool, text: Text) -> Result<Standing, Refusal>
+    ensures { (depth : ℕ) → (t : Token) → IsCharacterData blank text t → TokenAnswer depth (Within (reverse open_elements)) t result }
 {
-    let Many(mut frames) = frames;
-    let Some(frame) = frames.pop() else {
+    let Many(mut open_elements) = open_elements;
+    let Some(frame) = open_elements.pop() else {
         if blank {
-            return Ok(Standing::Open(Many(frames)));
+            return Ok(Standing::Open(Many(open_elements)));
         }
         return Err(Refusal::NotAllowed);
     };
-    frames.push(frame.with_words(text)?)?;
-    Ok(Standing::Open(Many(frames)))
+    open_elements.push(frame.with_characters(text)?)?;
+    Ok(Standing::Open(Many(open_elements)))
 }
 
-fn started(alloc: Global, depth: u32, frames: Many<Frame>, tag: Tag) -> Result<Standing, Refusal>
-    ensures { Steps depth (Among (reverse frames)) (Token.Start tag) result }
+fn take_start(
+    alloc: Global,
+    depth: u32,
+    open_elements: Many<OpenElement>,
+    tag: Tag,
+) -> Result<Standing, Refusal>
+    ensures { TokenAnswer depth (Within (reverse open_elements)) (Token.Start tag) result }
 {
-    let Many(mut frames) = frames;
-    let frame = opened(alloc, &frames, tag)?;
-    if frames.len() >= depth as usize {
+    let Many(mut open_elements) = open_elements;
+    let frame = open_element(alloc, &open_elements, tag)?;
+    if open_elements.len() >= depth as usize {
         return Err(Refusal::TooDeep);
     }
-    frames.push(frame)?;
-    Ok(Standing::Open(Many(frames)))
+    open_elements.push(frame)?;
+    Ok(Standing::Open(Many(open_elements)))
 }
 
-fn emptied(alloc: Global, depth: u32, frames: Many<Frame>, tag: Tag) -> Result<Standing, Refusal>
-    ensures { Steps depth (Among (reverse frames)) (Token.Empty tag) result }
+fn take_empty(
+    alloc: Global,
+    depth: u32,
+    open_elements: Many<OpenElement>,
+    tag: Tag,
+) -> Result<Standing, Refusal>
+    ensures { TokenAnswer depth (Within (reverse open_elements)) (Token.Empty tag) result }
 {
-    let Many(frames) = frames;
-    let frame = opened(alloc, &frames, tag)?;
-    if frames.len() >= depth as usize {
+    let Many(open_elements) = open_elements;
+    let frame = open_element(alloc, &open_elements, tag)?;
+    if open_elements.len() >= depth as usize {
         return Err(Refusal::TooDeep);
     }
-    let (element, declared) = frame.closed()?;
-    Ok(with_element(alloc, frames, element, declared)?)
+    let (element, declared) = frame.close()?;
+    Ok(with_element(alloc, open_elements, element, declared)?)
 }
 
-fn ended(alloc: Global, frames: Many<Frame>, name: Qualified) -> Result<Standing, Refusal>
-    ensures { (depth : ℕ) → Steps depth (Among (reverse frames)) (Token.End name) result }
+fn take_end(
+    alloc: Global,
+    open_elements: Many<OpenElement>,
+    name: Qualified,
+) -> Result<Standing, Refusal>
+    ensures { (depth : ℕ) → TokenAnswer depth (Within (reverse open_elements)) (Token.End name) result }
 {
-    let Many(mut frames) = frames;
-    let Some(frame) = frames.pop() else {
+    let Many(mut open_elements) = open_elements;
+    let Some(frame) = open_elements.pop() else {
         return Err(Refusal::NotAllowed);
     };
     if !frame.is_named(&name) {
         return Err(Refusal::NotAllowed);
     }
-    let (element, declared) = frame.closed()?;
-    Ok(with_element(alloc, frames, element, declared)?)
+    let (element, declared) = frame.close()?;
+    Ok(with_element(alloc, open_elements, element, declared)?)
 }
 
-/// Behind an element that ended: it is a child of the innermost that is still open, or the root.
+/// After an element that ended: it is a child of the innermost that is still open, or the root.
 fn with_element(
     alloc: Global,
-    frames: Vec<Frame>,
+    open_elements: Vec<OpenElement>,
     element: Element,
     declared: Many<Declared>,
 ) -> Result<Standing, NoMemory>
-    ensures { IfOk result (λ new. where_is new ≡ adopted (reverse frames.items) element declared) }
+    ensures { IfOk result (λ new. where_is new ≡ after_element (reverse open_elements.items) element declared) }
 {
-    let mut frames = frames;
-    let Some(parent) = frames.pop() else {
+    let mut open_elements = open_elements;
+    let Some(parent) = open_elements.pop() else {
         let root = element;
         return Ok(Standing::Done(Reading { root, declared }));
     };
-    frames.push(parent.with_inner(alloc, element, declared)?)?;
-    Ok(Standing::Open(Many(frames)))
+    open_elements.push(parent.with_inner(alloc, element, declared)?)?;
+    Ok(Standing::Open(Many(open_elements)))
 }

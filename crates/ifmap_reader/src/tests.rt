@@ -286,7 +286,7 @@ fn scope_text(alloc: Global, document: &str, path: &[u32]) -> Result<String, All
     };
     let scope = scope_at(alloc, &reading, path)?.copy(alloc)?;
     let mut out = String::new(alloc);
-    for (prefix, space) in &scope.rows.0 {
+    for (prefix, space) in &scope.bindings.0 {
         out.push_str(prefix.0.as_str())?;
         out.push('=')?;
         out.push_str(space.0.as_str())?;

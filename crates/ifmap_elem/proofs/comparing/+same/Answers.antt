@@ -1,6 +1,6 @@
 use Rattle.std.proofs.Common.{◌∙◌, sym, ap, map, arith}
 use Rattle.ifmap_elem.specs.Arranged.{arranged_child}
-use Rattle.ifmap_elem.proofs.ArrangedLaws.{same_children_of, other_at}
+use Rattle.ifmap_elem.specs.laws.ArrangedLaws.{same_children_of, other_at}
 use Rattle.ifmap_elem.proofs.comparing.+same.Goals as goal
 
 pub same_child-returns-in-Element-Element : goal.same_child-returns-in-Element-Element

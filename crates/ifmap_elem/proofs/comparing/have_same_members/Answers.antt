@@ -2,7 +2,7 @@ use Rattle.std.proofs.Common.{◌≡◌, ◌∙◌, sym, refl, subst}
 use Rattle.std.proofs.lemmas.List.{take_all}
 use Rattle.std.proofs.lemmas.List.Elements.{All-more, All-same}
 use Rattle.ifmap_elem.specs.printer.Occurrences.{occurrences_of}
-use Rattle.ifmap_elem.proofs.Attributes.{not_same_lengths, not_same_numbers, same_members}
+use Rattle.ifmap_elem.specs.laws.AttributeOrder.{not_same_lengths, not_same_numbers, same_members}
 use Rattle.ifmap_elem.proofs.comparing.have_same_members.Goals as goal
 
 pub returns-then-one-other : goal.returns-then-one-other

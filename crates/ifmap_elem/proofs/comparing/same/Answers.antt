@@ -1,4 +1,4 @@
-use Rattle.ifmap_elem.proofs.CanonicalSpells.{tells_apart}
+use Rattle.ifmap_elem.specs.laws.CanonicalSpells.{tells_apart}
 use Rattle.ifmap_elem.proofs.comparing.same.Goals as goal
 
 pub returns-clause-canonical : goal.returns-clause-canonical

@@ -1,4 +1,4 @@
-use Rattle.ifmap_elem.proofs.OneToken.{one_token}
+use Rattle.ifmap_elem.specs.laws.OneToken.{one_token}
 use Rattle.ifmap_elem.proofs.laws.one_token_stands_at_the_front.Goals as goal
 
 pub returns : goal.returns

@@ -1,4 +1,4 @@
-use Rattle.ifmap_elem.proofs.Attributes.{one_order}
+use Rattle.ifmap_elem.specs.laws.AttributeOrder.{one_order}
 use Rattle.ifmap_elem.proofs.order_laws.permutations_have_one_order.Goals as goal
 
 pub returns : goal.returns

@@ -1,5 +1,5 @@
 use Rattle.std.proofs.Common.{[]}
-use Rattle.ifmap_elem.proofs.CanonicalSpells.{written_if_ok}
+use Rattle.ifmap_elem.specs.laws.CanonicalSpells.{written_if_ok}
 use Rattle.ifmap_elem.proofs.printing.canonical.Goals as goal
 
 pub returns-clause-spelled : goal.returns-clause-spelled

@@ -1,7 +1,7 @@
 use Rattle.std.proofs.Common.{◌≡◌, ◌∙◌, subst, sym}
 use Rattle.std.specs.List.{AllByRecursion}
 use Rattle.ifmap_elem.specs.Fit.{IsDeclarable}
-use Rattle.ifmap_elem.proofs.CanonicalSpells.{written_if_ok}
+use Rattle.ifmap_elem.specs.laws.CanonicalSpells.{written_if_ok}
 use Rattle.ifmap_elem.proofs.printing.written.Goals as goal
 
 pub returns-clause-spelled : goal.returns-clause-spelled

@@ -1,4 +1,4 @@
-use Rattle.ifmap_elem.proofs.Attributes.{already_sorted}
+use Rattle.ifmap_elem.specs.laws.AttributeOrder.{already_sorted}
 use Rattle.ifmap_elem.proofs.sorting.are_sorted.Goals as goal
 
 pub returns : goal.returns

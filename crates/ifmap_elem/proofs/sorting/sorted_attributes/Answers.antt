@@ -1,7 +1,7 @@
 use Rattle.std.proofs.Common.{◌∙◌, ap, length, arith}
 use Rattle.std.proofs.lemmas.List.{take_all}
 use Rattle.ifmap_elem.specs.Arranged.{sorted}
-use Rattle.ifmap_elem.proofs.Attributes.{sorted_references}
+use Rattle.ifmap_elem.specs.laws.AttributeOrder.{sorted_references}
 use Rattle.ifmap_elem.proofs.sorting.sorted_attributes.Goals as goal
 
 pub returns : goal.returns

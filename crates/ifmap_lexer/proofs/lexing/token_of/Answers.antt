@@ -1,6 +1,6 @@
 use Rattle.std.proofs.Common.{subst, sym, ◌∙◌}
 use Rattle.ifmap_elem.specs.Tokens.{TakesToken}
-use Rattle.ifmap_elem.proofs.OneToken.{one_token}
+use Rattle.ifmap_elem.specs.laws.OneToken.{one_token}
 use Rattle.std.proofs.lemmas.Result.{err_from_is_err_and}
 use Rattle.ifmap_lexer.proofs.TokenLaws.{token_length, is_behind, malformed_of}
 use Rattle.ifmap_lexer.proofs.lexing.token_of.Goals as goal

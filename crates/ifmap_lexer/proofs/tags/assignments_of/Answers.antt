@@ -8,7 +8,7 @@ all-init c = goes_on_start c.args.bytes.now _ c.new-made.ensures.items
 
 pub all-preserved : goal.all-preserved
 all-preserved c =
-    goes_on_next c.all.rest.now (is_not _ _ c.is_at_end.ensures c.all-test.true) c.args.bytes.now c.all.made.items c.push.new.self.items c.in_ok-assignment.assignment c.in_ok-assignment.behind.now
+    goes_on_next c.all.rest.now (is_not _ _ c.is_at_end.ensures c.all-test.true) c.args.bytes.now c.all.made.items c.push.new.self.items c.in_ok-assignment.assignment c.in_ok-assignment.after.now
     c.all.invariant c.in_ok-assignment.ensures.found c.in_ok-push.ensures.items
 
 pub returns-in_err-assignment-clause-refused : goal.returns-in_err-assignment-clause-refused
@@ -19,4 +19,4 @@ returns-in_err-assignment-clause-refused c =
 
 pub returns-clause-found : goal.returns-clause-found
 returns-clause-found c =
-    goes_on_end c.args.bytes.now c.all.made.items c.all.rest.now c.split_space.result.0.now c.split_space.result.1.now c.all.invariant (c.is_at_end.ensures.0 c.all-test.false) c.split_space.ensures
+    goes_on_end c.args.bytes.now c.all.made.items c.all.rest.now c.split_white.result.0.now c.split_white.result.1.now c.all.invariant (c.is_at_end.ensures.0 c.all-test.false) c.split_white.ensures

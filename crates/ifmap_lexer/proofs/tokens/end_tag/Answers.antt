@@ -16,4 +16,4 @@ returns-in_err-name-clause-refused c =
 
 pub returns-in-None-clause-refused : goal.returns-in-None-clause-refused
 returns-in-None-clause-refused c =
-    no_end_end c.args.bytes.now c.in-Some.inner.now c.in-Some.ensures.found c.in_ok-name.name c.in_ok-name.behind.now c.split_space.result.0.now c.split_space.result.1.now c.in_ok-name.ensures.found c.split_space.ensures c.in-None.ensures.none
+    no_end_end c.args.bytes.now c.in-Some.inner.now c.in-Some.ensures.found c.in_ok-name.name c.in_ok-name.after.now c.split_white.result.0.now c.split_white.result.1.now c.in_ok-name.ensures.found c.split_white.ensures c.in-None.ensures.none

@@ -9,10 +9,10 @@ loop-line-preserved c =
     let inv = c.loop-line.invariant in
     let place = c.args.place in
     let rest = c.loop-line.rest.now in
-    let after = c.behind_newline-rest.result.now in (
-      c.behind_newline-rest.utf8,
+    let later = c.after_newline-rest.result.now in (
+      c.after_newline-rest.utf8,
       two_more _ (string_bytes c.loop-line.text) (string_bytes c.push_line.new.text) (part_in place (Plain rest)) (string_bytes c.push_break.new.text) (line_in place c.in-Some.line.now) (break_in place ∷ []) inv.1
-          c.in_ok-push_line.ensures c.in_ok-push_break.ensures (part_in place (Plain after)) (break_step place rest c.in-Some.line.now c.in-Some.behind.now after c.in-Some.ensures.found c.behind_newline-rest.ensures.line),
+          c.in_ok-push_line.ensures c.in_ok-push_break.ensures (part_in place (Plain later)) (break_step place rest c.in-Some.line.now c.in-Some.after.now later c.in-Some.ensures.found c.after_newline-rest.ensures.line),
     )
 
 pub returns : goal.returns

@@ -1,7 +1,7 @@
 use Rattle.std.proofs.Common.{[], ◌∷◌, ◌++◌, map, ap, ◌∙◌, refl, string_bytes, lit<}
 use Rattle.ifmap_elem.specs.Values.{as_space}
 use Rattle.ifmap_lexer.proofs.RunLaws.{newline_step, two_more, last_line}
-use Rattle.ifmap_lexer.proofs.SplitLaws.{behind_is_utf8}
+use Rattle.ifmap_lexer.proofs.SplitLaws.{after_is_utf8}
 use Rattle.ifmap_lexer.proofs.values.push_spaced.Goals as goal
 
 pub loop-front-preserved : goal.loop-front-preserved
@@ -10,10 +10,10 @@ loop-front-preserved c =
     let cut = c.in-Some.ensures.found in
     let rest = c.loop-front.rest.now in
     let front = c.in-Some.front.now in
-    let behind = c.in-Some.behind.now in (
-      behind_is_utf8 10 rest front behind (lit< tt) cut.bytes_are inv.0,
+    let after = c.in-Some.after.now in (
+      after_is_utf8 10 rest front after (lit< tt) cut.bytes_are inv.0,
       two_more _ (string_bytes c.loop-front.text) (string_bytes c.push_untabbed.new.text) (map as_space rest) (string_bytes c.push.new.self) (map as_space front) (0x20 ∷ []) inv.1
-          c.in_ok-push_untabbed.ensures (c.in_ok-push.ensures.bytes ∙ ap (λ x. string_bytes c.push_untabbed.new.text ++ x) (c.in_ok-push.ensures.ascii (lit< tt))) (map as_space behind) (newline_step rest front behind cut),
+          c.in_ok-push_untabbed.ensures (c.in_ok-push.ensures.bytes ∙ ap (λ x. string_bytes c.push_untabbed.new.text ++ x) (c.in_ok-push.ensures.ascii (lit< tt))) (map as_space after) (newline_step rest front after cut),
     )
 
 pub returns : goal.returns

@@ -1,7 +1,7 @@
 use Rattle.std.proofs.Common.{[], ◌∷◌, ◌++◌, map, ap, ◌∙◌, string_bytes, lit<}
 use Rattle.ifmap_elem.specs.Values.{as_space}
 use Rattle.ifmap_lexer.proofs.RunLaws.{tab_step, tab_behind, untabbed, two_more, last_str}
-use Rattle.ifmap_lexer.proofs.SplitLaws.{behind_is_utf8}
+use Rattle.ifmap_lexer.proofs.SplitLaws.{after_is_utf8}
 use Rattle.ifmap_lexer.proofs.values.push_untabbed.Goals as goal
 
 pub loop-front-preserved : goal.loop-front-preserved
@@ -10,11 +10,11 @@ loop-front-preserved c =
     let cut = c.in-Some.ensures.found in
     let rest = c.loop-front.rest.now in
     let front = c.in-Some.front.now in
-    let behind = c.in-Some.behind.now in (
-      behind_is_utf8 9 rest front behind (lit< tt) cut.bytes_are inv.0,
-      tab_behind rest front behind cut inv.1,
+    let after = c.in-Some.after.now in (
+      after_is_utf8 9 rest front after (lit< tt) cut.bytes_are inv.0,
+      tab_behind rest front after cut inv.1,
       two_more _ (string_bytes c.loop-front.text) (string_bytes c.push_str.new.self) (map as_space rest) (string_bytes c.push.new.self) front (0x20 ∷ []) inv.2
-          c.in_ok-push_str.ensures.bytes (c.in_ok-push.ensures.bytes ∙ ap (λ x. string_bytes c.push_str.new.self ++ x) (c.in_ok-push.ensures.ascii (lit< tt))) (map as_space behind) (tab_step rest front behind cut inv.1),
+          c.in_ok-push_str.ensures.bytes (c.in_ok-push.ensures.bytes ∙ ap (λ x. string_bytes c.push_str.new.self ++ x) (c.in_ok-push.ensures.ascii (lit< tt))) (map as_space after) (tab_step rest front after cut inv.1),
     )
 
 pub returns : goal.returns

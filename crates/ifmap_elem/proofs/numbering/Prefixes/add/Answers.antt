@@ -1,5 +1,5 @@
 use Rattle.std.proofs.Common.{◌∙◌, ◌∷◌, [], sym, inl, inr}
-use Rattle.ifmap_elem.proofs.NamespaceLaws.{adds_no_space, adds_prefixed, adds_unprefixed}
+use Rattle.ifmap_elem.specs.laws.NamespaceLaws.{adds_no_space, adds_prefixed, adds_unprefixed}
 use Rattle.ifmap_elem.proofs.PieceLaws.{front_same, numbered_new}
 use Rattle.ifmap_elem.proofs.numbering.Prefixes.add.Goals as goal
 use Rattle.ifmap_elem.proofs.numbering.Prefixes.add.Goals.{then-is_none-via-then-is_none, then-is_none-via-else-is_none+then-knows}

@@ -7,7 +7,7 @@ use Rattle.std.specs.Str.{bytes_eq}
 use Rattle.std.specs.Ordering.{nat_cmp}
 use Rattle.std.specs.Cmp.Lexicographic.{slice_cmp}
 use Rattle.ifmap_elem.specs.Namespaces.{name_prefixes}
-use Rattle.ifmap_elem.proofs.NamespaceLaws.{keyed, none_more}
+use Rattle.ifmap_elem.specs.laws.NamespaceLaws.{keyed, none_more}
 use Rattle.ifmap_elem.proofs.numbering.Prefixes.add_new.Goals as goal
 
 pub invariant_of-self-2 : goal.invariant_of-self-2

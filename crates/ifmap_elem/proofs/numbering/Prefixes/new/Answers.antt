@@ -3,7 +3,7 @@ use Rattle.std.specs.BTreeMap.{get}
 use Rattle.std.specs.Map.{lookup}
 use Rattle.std.specs.Ordering.{nat_cmp}
 use Rattle.std.specs.Cmp.Lexicographic.{slice_cmp}
-use Rattle.ifmap_elem.proofs.NamespaceLaws.{first_row, none_first}
+use Rattle.ifmap_elem.specs.laws.NamespaceLaws.{first_row, none_first}
 use Rattle.ifmap_elem.proofs.numbering.Prefixes.new.Goals as goal
 
 pub invariant_of-result : goal.invariant_of-result

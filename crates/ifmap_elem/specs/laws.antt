@@ -1,0 +1,16 @@
+pub mod ArrangedLaws
+pub mod AttributeOrder
+pub mod CanonicalSpells
+pub mod Delimiters
+pub mod FitLaws
+pub mod NameBytes
+pub mod NamespaceLaws
+pub mod OneReading
+pub mod OneToken
+pub mod PrintedElements
+pub mod PrintedParts
+pub mod PrintedScopes
+pub mod PrintedTags
+pub mod Resolving
+pub mod Roots
+pub mod ScopeLaws

@@ -1,0 +1,207 @@
+-- The order of attributes, and how often they occur.
+use Rattle.std.proofs.Common.{◌≡◌, ℕ, ◌+◌, ◌≤◌, ◌<◌, suc, List, [], ◌∷◌, length, Bool, true, false, Option, Some, refl, ap, sym, ◌∙◌, subst, arith, get_or, map, inl, inr, ◌⊎◌, cond, add-one, Bor}
+use Rattle.std.proofs.lemmas.List.Sums.{sum_by-cons}
+use Rattle.std.specs.Bool.{OnTrue}
+use Rattle.std.specs.List.{All, IsEachAdjacentAnswer}
+use Rattle.std.proofs.lemmas.Bool.{cases_Bool, and_parts}
+use Rattle.std.proofs.lemmas.Cmp.{nat_list_cmp_total, then_total, on_total, upto}
+use Rattle.std.proofs.lemmas.Slice.Eq.{bytes_eq-Decides}
+use Rattle.std.specs.Cmp.{IsTotalOrder}
+use Rattle.std.specs.Cmp.Lexicographic.{slice_cmp}
+use Rattle.std.specs.Str.{bytes_eq}
+use Rattle.std.specs.Ordering.{is_gt, is_lt, is_le, is_some_and, partial_le, partial_ordering_then, ordering_then, ordering_reverse, nat_cmp}
+use Rattle.std.specs.declared.cmp.Ordering.{Ordering}
+use Rattle.std.specs.declared.cmp.Ordering.TheVariants.{Less, Equal, Greater}
+use Rattle.ifmap_elem.specs.declared.elements.Attribute.{Attribute}
+use Rattle.ifmap_elem.specs.Arranged.{attribute_order, name_order, sorted}
+use Rattle.ifmap_elem.specs.printer.Occurrences.{attribute_eq, occurrences_of}
+use Rattle.std.specs.List.Sorted.{IsPermutation, IsSorted}
+use Rattle.std.proofs.lemmas.List.Sorted.{IsPermutation-map, IsPermutation-refl}
+use Rattle.std.proofs.lemmas.List.{get_or-map, length-map}
+use Rattle.ifmap_lemmas.specs.Sorting.{Ranks, in_order_same, in_order_is, in_order-rises, in_order-permutation, IsPermutation-in_order, length-in_order, count-in_order}
+use Rattle.ifmap_lemmas.specs.Texts.{same_texts}
+use Rattle.ifmap_lemmas.specs.Orderings.{both_equal}
+
+texts_total : IsTotalOrder (slice_cmp nat_cmp)
+texts_total = nat_list_cmp_total
+
+pub attributes_total : IsTotalOrder attribute_order
+attributes_total =
+    then_total (then_total (on_total (λ (a : Attribute). a.name.space) texts_total) (on_total (λ (a : Attribute). a.name.local) texts_total)) (on_total (λ (a : Attribute). a.value) texts_total)
+
+pub attributes_tied : (a b : Attribute) → attribute_order a b ≡ Equal → a ≡ b
+attributes_tied a b e =
+    let v = both_equal (name_order a.name b.name) (slice_cmp nat_cmp a.value b.value) e in
+    let n = both_equal (slice_cmp nat_cmp a.name.space b.name.space) (slice_cmp nat_cmp a.name.local b.name.local) v.0 in
+    let s = same_texts a.name.space b.name.space n.0 in
+    let l = same_texts a.name.local b.name.local n.1 in
+    let w = same_texts a.value b.value v.1 in
+    λ i. record { name = record { space = s i; local = l i }; value = w i }
+
+module _ {X : Type 0} (R : X → X → Ordering) (o : IsTotalOrder R) (tied : (x y : X) → R x y ≡ Equal → x ≡ y) where
+  neither : (p q : Ordering) → p ≡ ordering_reverse q → is_gt p ≡ false → is_gt q ≡ false → p ≡ Equal
+  neither Less Less e g h = cc
+  neither Less Equal e g h = cc
+  neither Less Greater e g h = cc
+  neither Equal q e g h = refl
+  neither Greater q e g h = cc
+
+  other_way : (p q : Ordering) → p ≡ ordering_reverse q → is_gt p ≡ true → is_gt q ≡ false
+  other_way Less q e g = cc
+  other_way Equal q e g = cc
+  other_way Greater Less e g = refl
+  other_way Greater Equal e g = cc
+  other_way Greater Greater e g = cc
+
+  pub ranks : Ranks (λ x y. is_gt (R x y))
+  ranks = record {
+    tied = λ x y e f. tied x y (neither (R x y) (R y x) (o.antisymm x y) e f);
+    chain = upto o;
+    one_way = λ x y e. other_way (R x y) (R y x) (o.antisymm x y) e;
+  }
+
+pub attribute_ranks : Ranks (λ a b. is_gt (attribute_order a b))
+attribute_ranks = ranks attribute_order attributes_total attributes_tied
+
+pub eq_itself : (a : Attribute) → attribute_eq a a ≡ true
+eq_itself a =
+    let s : bytes_eq a.name.space a.name.space ≡ true = (bytes_eq-Decides a.name.space a.name.space).1 refl in
+    let l : bytes_eq a.name.local a.name.local ≡ true = (bytes_eq-Decides a.name.local a.name.local).1 refl in
+    let v : bytes_eq a.value a.value ≡ true = (bytes_eq-Decides a.value a.value).1 refl in
+    rw (s, l, v) refl
+
+pub eq_tells : (a b : Attribute) → attribute_eq a b ≡ true → a ≡ b
+eq_tells a b e =
+    let p = and_parts _ _ e in
+    let q = and_parts _ _ p.0 in
+    let s = (bytes_eq-Decides a.name.space b.name.space).0 q.0 in
+    let l = (bytes_eq-Decides a.name.local b.name.local).0 q.1 in
+    let w = (bytes_eq-Decides a.value b.value).0 p.1 in
+    λ i. record { name = record { space = s i; local = l i }; value = w i }
+
+pub length-sorted : (xs : List Attribute) → length (sorted xs) ≡ length xs
+length-sorted xs = length-in_order attribute_order attribute_ranks xs
+
+pub occurrences-sorted : (a : Attribute) (xs : List Attribute) → occurrences_of a (sorted xs) ≡ occurrences_of a xs
+occurrences-sorted a xs = count-in_order attribute_order attribute_ranks attribute_eq eq_itself eq_tells a xs
+
+-- different lengths, or numbers of occurrences, show that two lists are not the same in order
+pub not_same_lengths : (xs ys : List Attribute) → (length xs ≡ length ys → ⊥) → sorted xs ≡ sorted ys → ⊥
+not_same_lengths xs ys other same = other (sym (length-sorted xs) ∙ ap length same ∙ length-sorted ys)
+
+pub not_same_numbers : (a : Attribute) (xs ys : List Attribute) → (occurrences_of a xs ≡ occurrences_of a ys → ⊥) → sorted xs ≡ sorted ys → ⊥
+not_same_numbers a xs ys other same = other (sym (occurrences-sorted a xs) ∙ ap (occurrences_of a) same ∙ occurrences-sorted a ys)
+
+-- an attribute stands nowhere in a list, or at some place
+nowhere_or_at : (a : Attribute) (xs : List Attribute) → (occurrences_of a xs ≡ 0) ⊎ ((k : ℕ) × (k < length xs) × ((d : Attribute) → get_or xs k d ≡ a))
+nowhere_or_at a [] = inl refl
+nowhere_or_at a (x ∷ xs) = elim (cases_Bool (attribute_eq x a)) [
+  | inl e ↦ inr (0, omega arith, λ d. eq_tells x a e)
+  | inr e ↦
+      let none : cond {A = ℕ} (attribute_eq x a) 1 0 ≡ 0 = rw e refl in
+      elim (nowhere_or_at a xs) [
+        | inl n ↦ inl (omega (arith, sum_by-cons (λ y. cond (attribute_eq y a) 1 0) x xs))
+        | inr p ↦ inr (suc p.0, omega arith, p.2)
+      ]
+]
+
+-- lists of one length where each member of the first occurs as often in the second
+pub same_members : (xs ys : List Attribute) → length xs ≡ length ys → All (λ a. occurrences_of a xs ≡ occurrences_of a ys) xs → sorted xs ≡ sorted ys
+same_members xs ys long often = in_order_same attribute_order attribute_ranks attribute_eq eq_itself eq_tells xs ys long (λ a. fewer a)
+  where
+    fewer : (a : Attribute) → occurrences_of a xs ≤ occurrences_of a ys
+    fewer a = elim (nowhere_or_at a xs) [
+      | inl n ↦ omega arith
+      | inr p ↦
+          let h : occurrences_of a xs ≡ occurrences_of a ys = subst (λ b. occurrences_of b xs ≡ occurrences_of b ys) (p.2 a) (often p.0 a p.1) in
+          omega arith
+    ]
+
+not_greater : (p q : Ordering) → p ≡ ordering_reverse q → is_lt q ≡ false → is_gt p ≡ false
+not_greater Less q e f = refl
+not_greater Equal q e f = refl
+not_greater Greater Less e f = cc
+not_greater Greater Equal e f = cc
+not_greater Greater Greater e f = cc
+
+-- a permutation of the attributes that rises
+pub rising_is_sorted : (xs ys : List Attribute) → IsPermutation xs ys → ((k : ℕ) (d : Attribute) → suc k < length ys → is_lt (attribute_order (get_or ys (suc k) d) (get_or ys k d)) ≡ false) → ys ≡ sorted xs
+rising_is_sorted xs ys p up =
+    in_order_is attribute_order attribute_ranks attribute_eq eq_itself eq_tells xs ys p
+    (λ k d l. not_greater (attribute_order (get_or ys k d) (get_or ys (suc k) d)) (attribute_order (get_or ys (suc k) d) (get_or ys k d)) (attributes_total.antisymm (get_or ys k d) (get_or ys (suc k) d)) (up k d l))
+
+next_not_less : (p q : Ordering) → p ≡ ordering_reverse q → is_le p ≡ true → is_lt q ≡ false
+next_not_less Less Less e f = cc
+next_not_less Less Equal e f = cc
+next_not_less Less Greater e f = refl
+next_not_less Equal Less e f = cc
+next_not_less Equal Equal e f = refl
+next_not_less Equal Greater e f = cc
+next_not_less Greater q e f = cc
+
+then_some : (o p : Ordering) → partial_ordering_then (Some o) (Some p) ≡ Some (ordering_then o p)
+then_some Less p = refl
+then_some Equal p = refl
+then_some Greater p = refl
+
+-- how two attributes compare, as `<=` asks
+abbrev compared : Attribute → Attribute → Option Ordering
+compared a b =
+    partial_ordering_then (partial_ordering_then (Some (slice_cmp nat_cmp a.name.space b.name.space)) (Some (slice_cmp nat_cmp a.name.local b.name.local))) (Some (slice_cmp nat_cmp a.value b.value))
+
+compared_is : (a b : Attribute) → compared a b ≡ Some (attribute_order a b)
+compared_is a b =
+    ap (λ o. partial_ordering_then o (Some (slice_cmp nat_cmp a.value b.value))) (then_some (slice_cmp nat_cmp a.name.space b.name.space) (slice_cmp nat_cmp a.name.local b.name.local))
+    ∙ then_some (name_order a.name b.name) (slice_cmp nat_cmp a.value b.value)
+
+-- attributes each of which is not greater than the next are in order
+pub already_sorted : (xs : List Attribute) (r : Bool) → IsEachAdjacentAnswer (λ x y b. partial_le compared x y ≡ b) xs r → OnTrue r (sorted xs ≡ xs)
+already_sorted xs true up = sym (rising_is_sorted xs xs (IsPermutation-refl xs) (λ k d l. rises k d l))
+  where
+    rises : (k : ℕ) (d : Attribute) → suc k < length xs → is_lt (attribute_order (get_or xs (suc k) d) (get_or xs k d)) ≡ false
+    rises k d l =
+        let a = get_or xs k d in
+        let b = get_or xs (suc k) d in
+        let h : partial_le compared a (get_or xs (k + 1) d) ≡ true = (up k d (omega (arith, l))).1 in
+        let g : partial_le compared a b ≡ true = subst (λ (n : ℕ). partial_le compared a (get_or xs n d) ≡ true) (add-one k) h in
+        next_not_less (attribute_order a b) (attribute_order b a) (attributes_total.antisymm a b) (ap (λ o. is_some_and is_le o) (sym (compared_is a b)) ∙ g)
+already_sorted xs false up = tt
+
+abbrev referred : List (Bor Attribute) → List Attribute
+referred rs = map (λ (r : Bor Attribute). r.now) rs
+
+rising_references : (ss : List (Bor Attribute)) → IsSorted (λ (x y : Bor Attribute). attribute_order x.now y.now) ss
+    → (k : ℕ) (d : Attribute) → suc k < length (referred ss) → is_lt (attribute_order (get_or (referred ss) (suc k) d) (get_or (referred ss) k d)) ≡ false
+rising_references [] up k d l = absurd (omega (arith, l))
+rising_references (s ∷ ss) up k d l =
+    let now : Bor Attribute → Attribute = λ (r : Bor Attribute). r.now in
+    let long : suc k < length (s ∷ ss) = omega (arith, l, length-map (s ∷ ss) now) in
+    let step : is_lt (attribute_order (now (get_or (s ∷ ss) (suc k) s)) (now (get_or (s ∷ ss) k s))) ≡ false = subst (λ (n : ℕ). is_lt (attribute_order (now (get_or (s ∷ ss) n s)) (now (get_or (s ∷ ss) k s))) ≡ false) (add-one k) (up k s (omega arith) (omega arith)) in
+    let here : get_or (referred (s ∷ ss)) k d ≡ now (get_or (s ∷ ss) k s) = get_or-map now (s ∷ ss) k s d (omega arith) in
+    let next : get_or (referred (s ∷ ss)) (suc k) d ≡ now (get_or (s ∷ ss) (suc k) s) = get_or-map now (s ∷ ss) (suc k) s d long in
+    ap (λ a. is_lt (attribute_order a (get_or (referred (s ∷ ss)) k d))) next ∙ ap (λ a. is_lt (attribute_order (now (get_or (s ∷ ss) (suc k) s)) a)) here ∙ step
+
+-- references that were put in order refer to the attributes in order
+pub sorted_references : (rs ss : List (Bor Attribute)) → IsPermutation rs ss → IsSorted (λ (x y : Bor Attribute). attribute_order x.now y.now) ss → referred ss ≡ sorted (referred rs)
+sorted_references rs ss p up = rising_is_sorted (referred rs) (referred ss) (IsPermutation-map (λ (r : Bor Attribute). r.now) rs ss p) (rising_references ss up)
+
+pub sorted_permutation : (xs : List Attribute) → IsPermutation xs (sorted xs)
+sorted_permutation xs = IsPermutation-in_order attribute_order attribute_ranks xs
+
+not_less : (p q : Ordering) → p ≡ ordering_reverse q → is_gt q ≡ false → is_lt p ≡ false
+not_less Less Less e f = cc
+not_less Less Equal e f = cc
+not_less Less Greater e f = cc
+not_less Equal q e f = refl
+not_less Greater q e f = refl
+
+pub sorted_rises : (xs : List Attribute) → IsSorted attribute_order (sorted xs)
+sorted_rises xs k d low high =
+    let next : Attribute = get_or (sorted xs) (suc k) d in
+    let here : Attribute = get_or (sorted xs) k d in
+    let step : is_lt (attribute_order next here) ≡ false =
+    not_less (attribute_order next here) (attribute_order here next) (attributes_total.antisymm next here) (in_order-rises attribute_order attribute_ranks xs k d (omega arith)) in
+    subst (λ (n : ℕ). is_lt (attribute_order (get_or (sorted xs) n d) here) ≡ false) (sym (add-one k)) step
+
+pub one_order : (xs ys : List Attribute) → IsPermutation xs ys → sorted xs ≡ sorted ys
+one_order xs ys p = in_order-permutation attribute_order attribute_ranks attribute_eq eq_itself eq_tells xs ys p

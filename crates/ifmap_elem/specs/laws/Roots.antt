@@ -1,0 +1,120 @@
+-- A root by the cases of its first piece, which is how a reader meets it; and that this is what `IsRoot` says.
+use Rattle.std.specs.Prelude.{◌≡◌, ◌↔◌, true, List, [], ◌∷◌, refl}
+use Rattle.std.proofs.Common.{ap, sym, ◌∙◌, subst}
+use Rattle.ifmap_elem.specs.declared.elements.Element.{Element}
+use Rattle.ifmap_elem.specs.declared.readings.Declared.{Declared}
+use Rattle.ifmap_elem.specs.declared.readings.Reading.{Reading}
+use Rattle.ifmap_elem.specs.Document as piece
+use Rattle.ifmap_elem.specs.Document.{Pieces, Nothing, chained, Item, Inner, Run, AreItems, IsElement, IsMargin, IsRoot}
+use Rattle.ifmap_elem.specs.Scopes.{Scope, root_scope, scope_within}
+
+-- from the first piece on: what a comment and white space leave is a root, and after an element a margin stands
+abbrev pub BeginsWithRoot : Pieces → Reading → Type 0
+BeginsWithRoot Nothing r = ⊥
+BeginsWithRoot (piece.Comment after) r = BeginsWithRoot after r
+BeginsWithRoot (piece.Characters blank text after) r = (blank ≡ true) × BeginsWithRoot after r
+BeginsWithRoot (piece.Section text after) r = ⊥
+BeginsWithRoot (piece.Empty tag after) r = IsElement root_scope tag [] r.root r.declared × IsMargin after
+BeginsWithRoot (piece.Start tag inside after) r =
+    (inner : List Item) × AreItems (scope_within root_scope tag) inside inner × IsElement root_scope tag inner r.root r.declared × IsMargin after
+
+pub chained_nothing : (c : Pieces) → chained c Nothing ≡ c
+chained_nothing Nothing = refl
+chained_nothing (piece.Comment after) = ap piece.Comment (chained_nothing after)
+chained_nothing (piece.Characters blank text after) = ap (piece.Characters blank text) (chained_nothing after)
+chained_nothing (piece.Section text after) = ap (piece.Section text) (chained_nothing after)
+chained_nothing (piece.Empty tag after) = ap (piece.Empty tag) (chained_nothing after)
+chained_nothing (piece.Start tag inside after) = ap (piece.Start tag inside) (chained_nothing after)
+
+-- pieces that mean nothing are comments
+no_items : (c d : Pieces) → AreItems root_scope c [] → IsMargin d → IsMargin (chained c d)
+no_items Nothing d m h = h
+no_items (piece.Comment after) d m h = no_items after d m h
+no_items (piece.Characters blank text after) d m h = let e : [] ≡ Run text ∷ m.0 = m.1 in cc
+no_items (piece.Section text after) d m h = let e : [] ≡ Run text ∷ m.0 = m.1 in cc
+no_items (piece.Empty tag after) d m h = let e : [] ≡ Inner m.0 m.1 ∷ m.2 = m.3 in cc
+no_items (piece.Start tag inside after) d m h = let e : [] ≡ Inner m.1 m.2 ∷ m.3 = m.4 in cc
+
+-- one element, and a margin
+element_begins : (c d : Pieces) (e : Element) (declared : List Declared) → AreItems root_scope c (Inner e declared ∷ []) → IsMargin d
+    → BeginsWithRoot (chained c d) (record { root = e; declared = declared })
+element_begins Nothing d e declared m h = let wrong : Inner e declared ∷ [] ≡ [] = m in cc
+element_begins (piece.Comment after) d e declared m h = element_begins after d e declared m h
+element_begins (piece.Characters blank text after) d e declared m h = let wrong : Inner e declared ∷ [] ≡ Run text ∷ m.0 = m.1 in cc
+element_begins (piece.Section text after) d e declared m h = let wrong : Inner e declared ∷ [] ≡ Run text ∷ m.0 = m.1 in cc
+element_begins (piece.Empty tag after) d e declared m h =
+    let one : Inner e declared ∷ [] ≡ Inner m.0 m.1 ∷ m.2 = m.3 in
+    let same : m.0 ≡ e = cc in
+    let told : m.1 ≡ declared = cc in
+    let last : m.2 ≡ [] = cc in (
+      subst (λ (x : Element). IsElement root_scope tag [] x declared) same (subst (λ (x : List Declared). IsElement root_scope tag [] m.0 x) told m.4),
+      no_items after d (subst (λ (is : List Item). AreItems root_scope after is) last m.5) h,
+    )
+element_begins (piece.Start tag inside after) d e declared m h =
+    let one : Inner e declared ∷ [] ≡ Inner m.1 m.2 ∷ m.3 = m.4 in
+    let same : m.1 ≡ e = cc in
+    let told : m.2 ≡ declared = cc in
+    let last : m.3 ≡ [] = cc in (
+      m.0,
+      m.5,
+      subst (λ (x : Element). IsElement root_scope tag m.0 x declared) same (subst (λ (x : List Declared). IsElement root_scope tag m.0 m.1 x) told m.6),
+      no_items after d (subst (λ (is : List Item). AreItems root_scope after is) last m.7) h,
+    )
+
+-- a margin before it
+margin_begins : (c d : Pieces) (r : Reading) → IsMargin c → BeginsWithRoot d r → BeginsWithRoot (chained c d) r
+margin_begins Nothing d r m h = h
+margin_begins (piece.Comment after) d r m h = margin_begins after d r m h
+margin_begins (piece.Characters blank text after) d r m h = (m.0, margin_begins after d r m.1 h)
+margin_begins (piece.Section text after) d r m h = absurd m
+margin_begins (piece.Empty tag after) d r m h = absurd m
+margin_begins (piece.Start tag inside after) d r m h = absurd m
+
+pub root_begins : (c : Pieces) (r : Reading) → IsRoot c r → BeginsWithRoot c r
+root_begins c r h =
+    subst (λ (d : Pieces). BeginsWithRoot d r) (sym h.pieces_are)
+    (margin_begins h.before (chained h.element h.after) r h.margin_before (element_begins h.element h.after r.root r.declared h.means h.margin_after))
+
+pub begins_root : (c : Pieces) (r : Reading) → BeginsWithRoot c r → IsRoot c r
+begins_root Nothing r h = absurd h
+begins_root (piece.Comment after) r h =
+    let i = begins_root after r h in
+    record {
+      before = piece.Comment i.before;
+      element = i.element;
+      after = i.after;
+      pieces_are = ap piece.Comment i.pieces_are;
+      margin_before = i.margin_before;
+      means = i.means;
+      margin_after = i.margin_after;
+    }
+begins_root (piece.Characters blank text after) r h =
+    let i = begins_root after r h.1 in
+    record {
+      before = piece.Characters blank text i.before;
+      element = i.element;
+      after = i.after;
+      pieces_are = ap (piece.Characters blank text) i.pieces_are;
+      margin_before = (h.0, i.margin_before);
+      means = i.means;
+      margin_after = i.margin_after;
+    }
+begins_root (piece.Section text after) r h = absurd h
+begins_root (piece.Empty tag after) r h = record {
+  before = Nothing;
+  element = piece.Empty tag Nothing;
+  after = after;
+  pieces_are = refl;
+  margin_before = tt;
+  means = (r.root, r.declared, [], refl, h.0, refl);
+  margin_after = h.1;
+}
+begins_root (piece.Start tag inside after) r h = record {
+  before = Nothing;
+  element = piece.Start tag inside Nothing;
+  after = after;
+  pieces_are = refl;
+  margin_before = tt;
+  means = (h.0, r.root, r.declared, [], refl, h.1, h.2, refl);
+  margin_after = h.3;
+}

@@ -1,0 +1,24 @@
+-- Where two readings of the same bytes cut them: at the same place, if each stops where a test or a word says so.
+use Rattle.std.proofs.Common.{◌≡◌, ◌≢◌, Bool, true, false, List, [], ◌∷◌, ◌++◌, refl, sym, ◌∙◌, subst}
+use Rattle.std.specs.List.{AllByRecursion}
+
+-- the first, if there is one, fails the test
+abbrev pub Stops : {X : Type 0} → (X → Bool) → List X → Type 0
+Stops p [] = Unit {0}
+Stops p (b ∷ bs) = p b ≡ false
+
+pub cut : {X : Type 0} (p : X → Bool) (a b r s : List X) → AllByRecursion (λ n. p n ≡ true) a → AllByRecursion (λ n. p n ≡ true) b → Stops p r → Stops p s → a ++ r ≡ b ++ s → (a ≡ b) × (r ≡ s)
+cut p [] [] r s f g stop also e = (refl, e)
+cut p [] (y ∷ ys) r s f g stop also e = let h : p y ≡ false = subst (Stops p) e stop in let q : true ≡ false = sym g.0 ∙ h in cc
+cut p (x ∷ xs) [] r s f g stop also e = let h : p x ≡ false = subst (Stops p) (sym e) also in let q : true ≡ false = sym f.0 ∙ h in cc
+cut p (x ∷ xs) (y ∷ ys) r s f g stop also e =
+    let head : x ≡ y = cc in
+    let tail : xs ++ r ≡ ys ++ s = cc in
+    let both = cut p xs ys r s f.1 g.1 stop also tail in
+    let same : xs ≡ ys = both.0 in
+    (cc, both.1)
+
+-- what all passes stops what nothing of it passes
+pub front_stops : {X : Type 0} (p q : X → Bool) → ((b : X) → p b ≡ true → q b ≡ false) → (a r : List X) → a ≢ [] → AllByRecursion (λ n. p n ≡ true) a → Stops q (a ++ r)
+front_stops p q apart [] r some f = absurd (some refl)
+front_stops p q apart (x ∷ xs) r some f = apart x f.0

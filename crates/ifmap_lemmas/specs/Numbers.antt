@@ -1,0 +1,10 @@
+-- What a test of two numbers for equality tells.
+use Rattle.std.proofs.Common.{◌≡◌, ◌≢◌, ℕ, true, false, arith}
+use Rattle.std.specs.Prelude.{nat_eq}
+use Rattle.std.proofs.lemmas.Bool.Decides.{nat_tests}
+
+pub is_number : (a b : ℕ) → nat_eq a b ≡ true → a ≡ b
+is_number a b h = grind (arith, nat_tests)
+
+pub is_other : (a b : ℕ) → a ≢ b → nat_eq a b ≡ false
+is_other a b h = grind (arith, nat_tests)

@@ -1,0 +1,31 @@
+-- Texts as lists of bytes: their equality and order, and ASCII in UTF-8.
+use Rattle.std.proofs.Common.{◌≡◌, ℕ, ◌<◌, Bool, true, false, not, List, [], ◌∷◌, ◌++◌, refl, ap, ◌∙◌, arith}
+use Rattle.std.specs.Prelude.{nat_le, encode_utf8_all}
+use Rattle.std.specs.Cmp.Lexicographic.{slice_cmp, texts_ties}
+use Rattle.std.specs.List.{AllByRecursion}
+use Rattle.std.specs.Ordering.{nat_cmp, is_eq}
+use Rattle.std.specs.Str.{bytes_eq}
+use Rattle.std.specs.declared.cmp.Ordering.TheVariants.{Equal}
+use Rattle.std.proofs.lemmas.Bool.{not-true}
+use Rattle.std.proofs.lemmas.Bool.Decides.{nat_tests}
+use Rattle.std.proofs.lemmas.Slice.Eq.{bytes_eq-Decides}
+use Rattle.std.proofs.lemmas.Str.{encode_ascii}
+
+pub eq_tells : (x y : List ℕ) → bytes_eq x y ≡ true → x ≡ y
+eq_tells x y = (bytes_eq-Decides x y).0
+
+pub eq_itself : (x : List ℕ) → bytes_eq x x ≡ true
+eq_itself x = (bytes_eq-Decides x x).1 refl
+
+pub same_texts : (xs ys : List ℕ) → slice_cmp nat_cmp xs ys ≡ Equal → xs ≡ ys
+same_texts xs ys e = eq_tells xs ys (texts_ties xs ys ∙ ap is_eq e)
+
+abbrev pub is_ascii : ℕ → Bool
+is_ascii b = not (nat_le 128 b)
+
+pub ascii_encoded : (xs : List ℕ) → AllByRecursion (λ n. is_ascii n ≡ true) xs → encode_utf8_all xs ≡ xs
+ascii_encoded [] f = refl
+ascii_encoded (b ∷ bs) f = (λ i. encode_ascii b (low b f.0) i ++ ascii_encoded bs f.1 i)
+  where
+    low : (b : ℕ) → is_ascii b ≡ true → b < 128
+    low b h = let g : nat_le 128 b ≡ false = not-true (nat_le 128 b) h in grind (arith, nat_tests)

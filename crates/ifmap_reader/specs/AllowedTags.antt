@@ -1,0 +1,69 @@
+-- What a tag opens.
+use Rattle.std.specs.Prelude.{◌≡◌, ℕ, List, [], ◌∷◌, ◌++◌, map, Option, Some, None, Result, Ok, Err}
+use Rattle.std.proofs.Common.{Bor}
+use Rattle.std.specs.List.{AllByRecursion, filter_map}
+use Rattle.ifmap_elem.specs.Scopes.{Scope, Binding, IsBinding, AllDiffer, IsAttribute, AreAttributes, NamesElement, binding_of, bindings, bound}
+use Rattle.ifmap_elem.specs.declared.elements.Attribute.{Attribute}
+use Rattle.ifmap_elem.specs.declared.elements.Name.{Name}
+use Rattle.ifmap_elem.specs.declared.tokens.Assignment.{Assignment}
+use Rattle.ifmap_elem.specs.declared.tokens.Tag.{Tag}
+use Rattle.ifmap_reader.specs.declared.errors.Refusal.{Refusal}
+use Rattle.ifmap_reader.specs.declared.errors.Refusal.TheVariants.{NotAllowed, TooDeep, NoMemory}
+use Rattle.ifmap_reader.specs.declared.open_elements.OpenElement.{OpenElement}
+use Rattle.ifmap_reader.specs.OpenElements.{written_name}
+
+-- the binding of a prefix, if there is one, to a namespace
+abbrev pub told : Option (Bor (List ℕ)) → List ℕ → Option Binding
+told None space = None
+told (Some prefix) space = Some (record { prefix = prefix.now; space = space })
+
+-- the answer to one binding more: these bindings and that one, where it may be made and its prefix has none
+abbrev pub Binds : List Binding → Option Binding → Result (List Binding) Refusal → Type 0
+Binds old None (Ok new) = new ≡ old
+Binds old (Some b) (Ok new) = IsBinding b × (bound old b.prefix ≡ None) × (new ≡ old ++ b ∷ [])
+Binds old None (Err NotAllowed) = ⊥
+Binds old (Some b) (Err NotAllowed) = IsBinding b → bound old b.prefix ≡ None → ⊥
+Binds old b (Err TooDeep) = ⊥
+Binds old b (Err NoMemory) = Unit {0}
+
+-- some bindings may be made together
+pub record MayBind (bs : List Binding) : Type 0 where
+  pub binds : AllByRecursion IsBinding bs
+  pub binds_once : AllDiffer (map (λ b. b.prefix) bs)
+
+-- the answer to assignments: the bindings that they make, where these may be made
+abbrev pub IsBound : List Assignment → Result (List Binding) Refusal → Type 0
+IsBound assignments (Ok made) = (made ≡ filter_map binding_of assignments) × MayBind made
+IsBound assignments (Err NotAllowed) = MayBind (filter_map binding_of assignments) → ⊥
+IsBound assignments (Err TooDeep) = ⊥
+IsBound assignments (Err NoMemory) = Unit {0}
+
+-- the answer to an assignment of an attribute
+abbrev pub IsGiven : Scope → Assignment → Result Attribute Refusal → Type 0
+IsGiven scope a (Ok made) = IsAttribute scope a made
+IsGiven scope a (Err NotAllowed) = (t : Attribute) → IsAttribute scope a t → ⊥
+IsGiven scope a (Err TooDeep) = ⊥
+IsGiven scope a (Err NoMemory) = Unit {0}
+
+-- the answer to assignments: the attributes that they give
+abbrev pub ArePlain : Scope → List Assignment → Result (List Attribute) Refusal → Type 0
+ArePlain scope assignments (Ok made) = AreAttributes scope assignments made
+ArePlain scope assignments (Err NotAllowed) = (ts : List Attribute) → AreAttributes scope assignments ts → ⊥
+ArePlain scope assignments (Err TooDeep) = ⊥
+ArePlain scope assignments (Err NoMemory) = Unit {0}
+
+-- an open element that an allowed tag has just opened
+pub record OpensElement (outer : Scope) (tag : Tag) (f : OpenElement) : Type 0 where
+  pub named : NamesElement outer tag f.name f.attributes
+  pub name_is : tag.name ≡ written_name f
+  pub bindings_are : f.bindings ≡ bindings tag
+  pub no_children : f.children ≡ []
+  pub no_text : f.text ≡ []
+  pub none_below : f.below ≡ []
+
+-- the answer to a tag: the element that it opens, where the tag is allowed
+abbrev pub TagAnswer : Scope → Tag → Result OpenElement Refusal → Type 0
+TagAnswer outer tag (Ok f) = OpensElement outer tag f
+TagAnswer outer tag (Err NotAllowed) = (name : Name) (attributes : List Attribute) → NamesElement outer tag name attributes → ⊥
+TagAnswer outer tag (Err TooDeep) = ⊥
+TagAnswer outer tag (Err NoMemory) = Unit {0}

@@ -1,0 +1,123 @@
+//! Whether a tag is allowed, and the element that it opens.
+ghost use Rattle.std.specs.Prelude.{◌≡◌, ◌++◌, reverse, filter, is_none, IfOk};
+ghost use Rattle.ifmap_elem.specs.Scopes.{binding_of, bound, root_scope};
+ghost use Rattle.ifmap_reader.specs.OpenElements.{scope_of};
+ghost use Rattle.ifmap_reader.specs.AllowedTags.{ArePlain, IsGiven, TagAnswer};
+
+use crate::bindings::{Bindings, XML, XML_SPACE, bindings_of, bound_prefix};
+use crate::differing::have_other_names;
+use crate::errors::Refusal;
+use crate::open_elements::OpenElement;
+use ifmap_elem::tokens::{Assignment, Tag};
+use ifmap_elem::{Attribute, Copied, Many, Name, Text};
+use std::alloc::{AllocError as NoMemory, Global};
+
+/// The element that a tag opens within the open elements, the innermost last.
+pub(crate) fn open_element(
+    alloc: Global,
+    open_elements: &[OpenElement],
+    tag: Tag,
+) -> Result<OpenElement, Refusal>
+    ensures { TagAnswer (scope_of (reverse open_elements.now)) tag result }
+{
+    let Tag { name, assignments } = tag;
+    let bindings = bindings_of(alloc, &assignments.0)?;
+    let Some(space) = space_of(alloc, &bindings, open_elements, &name.prefix)? else {
+        return Err(Refusal::NotAllowed);
+    };
+    let attributes = attributes_of(alloc, &bindings, open_elements, assignments)?;
+    if !have_other_names(alloc, &attributes.0)? {
+        return Err(Refusal::NotAllowed);
+    }
+    Ok(OpenElement {
+        prefix: name.prefix,
+        name: Name {
+            space,
+            local: name.local,
+        },
+        attributes,
+        bindings,
+        children: Many(Vec::new(alloc)),
+        text: Text(String::new(alloc)),
+        below: Many(Vec::new(alloc)),
+    })
+}
+
+/// What a prefix is bound to within a tag with these bindings.
+fn space_of(
+    alloc: Global,
+    bindings: &Bindings,
+    open_elements: &[OpenElement],
+    prefix: &Text,
+) -> Result<Option<Text>, NoMemory>
+    ensures { IfOk result (λ space. space ≡ bound (bindings.now ++ scope_of (reverse open_elements.now)) prefix.now) }
+{
+    if let Some(space) = bindings.space_of(prefix) {
+        return Ok(Some(space.copy(alloc)?));
+    }
+    let mut outer = open_elements.len();
+    while outer > 0 {
+        outer -= 1;
+        if let Some(space) = open_elements[outer].bindings.space_of(prefix) {
+            return Ok(Some(space.copy(alloc)?));
+        }
+    }
+    root_space_of(alloc, prefix)
+}
+
+/// What a prefix is bound to where no tag binds it.
+fn root_space_of(alloc: Global, prefix: &Text) -> Result<Option<Text>, NoMemory>
+    ensures { IfOk result (λ space. space ≡ bound root_scope prefix.now) }
+{
+    if prefix.0.as_bytes() == XML.as_bytes() {
+        return Ok(Some(Text(String::from_str(alloc, XML_SPACE)?)));
+    }
+    if prefix.0.as_bytes().is_empty() {
+        return Ok(Some(Text(String::new(alloc))));
+    }
+    Ok(None)
+}
+
+/// The attributes that the assignments of a tag give.
+fn attributes_of(
+    alloc: Global,
+    bindings: &Bindings,
+    open_elements: &[OpenElement],
+    assignments: Many<Assignment>,
+) -> Result<Many<Attribute>, Refusal>
+    ensures { ArePlain (bindings.now ++ scope_of (reverse open_elements.now)) (filter (λ a. is_none (binding_of a)) assignments) result }
+{
+    let Many(mut left) = assignments;
+    let mut made = Vec::with_capacity(alloc, left.len())?;
+    left.reverse();
+    while let Some(assignment) = left.pop() {
+        if bound_prefix(&assignment).is_some() {
+            continue;
+        }
+        made.push(attribute_of(alloc, bindings, open_elements, assignment)?)?;
+    }
+    Ok(Many(made))
+}
+
+/// The attribute that an assignment gives.
+fn attribute_of(
+    alloc: Global,
+    bindings: &Bindings,
+    open_elements: &[OpenElement],
+    assignment: Assignment,
+) -> Result<Attribute, Refusal>
+    ensures { IsGiven (bindings.now ++ scope_of (reverse open_elements.now)) assignment result }
+{
+    let Assignment { name, value } = assignment;
+    let local = name.local;
+    if name.prefix.0.as_bytes().is_empty() {
+        let space = Text(String::new(alloc));
+        let name = Name { space, local };
+        return Ok(Attribute { name, value });
+    }
+    let Some(space) = space_of(alloc, bindings, open_elements, &name.prefix)? else {
+        return Err(Refusal::NotAllowed);
+    };
+    let name = Name { space, local };
+    Ok(Attribute { name, value })
+}
