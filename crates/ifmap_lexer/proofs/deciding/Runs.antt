@@ -11,7 +11,7 @@ use Rattle.memchr.proofs.lemmas.MatchLemmas.{OccursAt-part, OccursAt-from_part}
 use Rattle.ifmap_lemmas.specs.Deciding.{Decided, decided_both, decided_each, decided_test, decided_untrue, first_or_none, same_or_not}
 use Rattle.ifmap_elem.specs.Chars.{AllAre, IsCharacters, is_character}
 use Rattle.ifmap_elem.specs.Tokens.{Lacks}
-use Rattle.ifmap_elem.proofs.Cuts.{is_number}
+use Rattle.ifmap_lemmas.specs.Numbers.{is_number}
 use Rattle.ifmap_lexer.specs.Cutting.{Cuts, CutsAt, CutsWord, is_but}
 use Rattle.ifmap_lexer.proofs.CharacterLaws.{characters_are_utf8}
 use Rattle.ifmap_lexer.proofs.SplitLaws.{cuts_at_len}

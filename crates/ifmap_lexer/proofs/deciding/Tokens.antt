@@ -3,14 +3,14 @@ use Rattle.std.proofs.Common.{◌≡◌, ℕ, List, [], ◌∷◌, refl, arith, 
 use Rattle.std.specs.Prelude.{codes}
 use Rattle.std.specs.List.{list_all}
 use Rattle.ifmap_lemmas.specs.Deciding.{Decided, begins_or_not}
-use Rattle.ifmap_elem.specs.Chars.{is_space}
+use Rattle.ifmap_elem.specs.Chars.{is_white}
 use Rattle.ifmap_elem.specs.Values.{line_ends}
-use Rattle.ifmap_elem.specs.declared.tokens.Token.TheVariants.{Declaration, Comment, Start, Empty, End, Section, Text}
+use Rattle.ifmap_elem.specs.declared.tokens.Token.TheVariants.{Declaration, Comment, Start, Empty, End, Section, Characters}
 use Rattle.ifmap_lexer.specs.Cutting.{Cuts, is_but}
 use Rattle.ifmap_lexer.specs.Kinds.{Stands, kind_at}
 use Rattle.ifmap_lexer.specs.declared.kinds.Kind.{Kind}
 use Rattle.ifmap_lexer.specs.declared.kinds.Kind.TheVariants as kinds
-use Rattle.ifmap_lexer.specs.declared.values.Place.TheVariants.{Content}
+use Rattle.ifmap_lexer.specs.declared.values.Place.TheVariants.{CharacterData}
 use Rattle.ifmap_lexer.proofs.TokenLaws.{SomeToken, of_kind, of_no_kind, no_declaration, no_opening_comment, no_dashes, no_comment_end, no_comment_characters, comment_found, no_opening_section, no_brackets, no_section_characters, section_found, no_opening_end, end_name, no_end_end, end_found, some_tag, no_tag_end, start_found, empty_found, no_own, no_text_end, no_text_characters, some_text, text_found}
 use Rattle.ifmap_lexer.proofs.deciding.Declarations.{declaration_or_none}
 use Rattle.ifmap_lexer.proofs.deciding.Names.{name_or_none}
@@ -61,7 +61,7 @@ end_stands bytes = elim (begins_or_not (codes "</") bytes) [
   | inl b ↦ elim (name_or_none b.0) [
     | inr none ↦ inr (λ s. none (end_name bytes b.0 b.1 s))
     | inl n ↦
-        let c = cut_of is_space n.1 in
+        let c = cut_of is_white n.1 in
         elim (begins_or_not (codes ">") c.1) [
           | inr none ↦ inr (no_end_end bytes b.0 b.1 n.0 n.1 c.0 c.1 (n.2, n.3, n.4) c.2 (λ r e. none (r, e)))
           | inl end ↦ inl (End n.0, end.0, end_found bytes b.0 b.1 n.0 n.1 c.0 c.1 (n.2, n.3, n.4) c.2 end.0 end.1)
@@ -87,9 +87,9 @@ text_before bytes (b ∷ bs) rest c = elim (lacks_or_not (codes "]]>") (b ∷ bs
   | inr fails ↦ inr (no_text_end bytes (b ∷ bs) rest c fails)
   | inl lacks ↦ elim (characters_or_not (b ∷ bs)) [
     | inr fails ↦ inr (no_text_characters bytes (b ∷ bs) rest c fails)
-    | inl f ↦ elim (expansion_or_none Content (b ∷ bs)) [
+    | inl f ↦ elim (expansion_or_none CharacterData (b ∷ bs)) [
       | inr none ↦ inr (λ s. none (some_text bytes (b ∷ bs) rest c s))
-      | inl x ↦ inl (Text (list_all is_space (b ∷ bs)) x.0, rest, text_found bytes (b ∷ bs) rest c (λ e. cc) lacks f (list_all is_space (b ∷ bs)) refl x.0 x.1)
+      | inl x ↦ inl (Characters (list_all is_white (b ∷ bs)) x.0, rest, text_found bytes (b ∷ bs) rest c (λ e. cc) lacks f (list_all is_white (b ∷ bs)) refl x.0 x.1)
     ]
   ]
 ]

@@ -10,12 +10,12 @@ use Rattle.ifmap_elem.specs.declared.readings.Reading.{Reading}
 use Rattle.ifmap_elem.specs.declared.tokens.Token.{Token}
 use Rattle.ifmap_elem.specs.Document.{IsDocument}
 use Rattle.ifmap_elem.specs.Places.{Deep, Stop, is_start, offset}
-use Rattle.ifmap_elem.specs.Spells.{Spells, byte_order_mark, without_mark}
+use Rattle.ifmap_elem.specs.Spells.{Spells, byte_order_mark, without_byte_order_mark}
 use Rattle.ifmap_elem.specs.Tokens.{TakesToken}
-use Rattle.ifmap_elem.proofs.OneToken.{no_token, one_token}
-use Rattle.ifmap_reader.specs.Progress.{Where, AtStart, Among, Behind}
+use Rattle.ifmap_elem.specs.laws.OneToken.{no_token, one_token}
+use Rattle.ifmap_reader.specs.Progress.{Where, AtStart, Within, AfterRoot}
 use Rattle.ifmap_reader.specs.Reads.{IsRead, IsTooDeep, IsUnreadable}
-use Rattle.ifmap_reader.proofs.Goings.{no_tokens, no_tokens_start, behind_ends}
+use Rattle.ifmap_reader.proofs.Goings.{no_tokens, no_tokens_start, after_root_ends}
 use Rattle.ifmap_reader.proofs.Progressing.{At, at_start, at_next, ended_early, none_deep, not_lexed, step_refused, step_too_deep, whole}
 use Rattle.ifmap_reader.proofs.deciding.Steps.{Goes, goes}
 
@@ -32,18 +32,18 @@ module _ (token_or_none : (bytes : List ℕ) → Decided ((t : Token) × (rest :
 
     at_end : (rest : List ℕ) → rest ≡ [] → FromThere rest
     at_end rest end AtStart at = inr (inl (offset bytes rest, ended_early bytes depth AtStart rest at end no_tokens_start (offset bytes rest) refl (omega arith)))
-    at_end rest end (Among fs) at = inr (inl (offset bytes rest, ended_early bytes depth (Among fs) rest at end (no_tokens fs) (offset bytes rest) refl (omega arith)))
-    at_end rest end (Behind r) at = inl (r, (whole bytes depth (Behind r) rest at end r (behind_ends r), at.fits, λ place d. none_deep bytes depth (Behind r) rest at end (offset bytes rest) place refl d))
+    at_end rest end (Within fs) at = inr (inl (offset bytes rest, ended_early bytes depth (Within fs) rest at end (no_tokens fs) (offset bytes rest) refl (omega arith)))
+    at_end rest end (AfterRoot r) at = inl (r, (whole bytes depth (AfterRoot r) rest at end r (after_root_ends r), at.fits, λ place d. none_deep bytes depth (AfterRoot r) rest at end (offset bytes rest) place refl d))
 
-    at_token : (rest : List ℕ) → rest ≢ [] → (w : Where) (at : At bytes depth w rest) (t : Token) (behind : List ℕ) → TakesToken rest t behind
-        → ((new : Where) → At bytes depth new behind → Outcome bytes depth) → Goes depth w t → Outcome bytes depth
-    at_token rest some w at t behind takes others g =
-        let only : (u : Token) (after : List ℕ) → TakesToken rest u after → (u ≡ t) × (after ≡ behind) = λ u after l. one_token rest u t after behind l takes in
+    at_token : (rest : List ℕ) → rest ≢ [] → (w : Where) (at : At bytes depth w rest) (t : Token) (after : List ℕ) → TakesToken rest t after
+        → ((new : Where) → At bytes depth new after → Outcome bytes depth) → Goes depth w t → Outcome bytes depth
+    at_token rest some w at t after takes others g =
+        let only : (u : Token) (other : List ℕ) → TakesToken rest u other → (u ≡ t) × (other ≡ after) = λ u other l. one_token rest u t other after l takes in
         elim g [
-          | inl l ↦ others l.0 (at_next bytes depth w rest at t behind some takes only l.0 l.1)
+          | inl l ↦ others l.0 (at_next bytes depth w rest at t after some takes only l.0 l.1)
           | inr h ↦ elim h [
-            | inl p ↦ inr (inr (offset bytes rest, step_too_deep bytes depth w rest at t behind some takes only (offset bytes rest) refl (omega arith) p))
-            | inr none ↦ inr (inl (offset bytes rest, step_refused bytes depth w rest at t behind some takes only (offset bytes rest) refl (omega arith) none))
+            | inl p ↦ inr (inr (offset bytes rest, step_too_deep bytes depth w rest at t after some takes only (offset bytes rest) refl (omega arith) p))
+            | inr none ↦ inr (inl (offset bytes rest, step_refused bytes depth w rest at t after some takes only (offset bytes rest) refl (omega arith) none))
           ]
         ]
 
@@ -55,7 +55,7 @@ module _ (token_or_none : (bytes : List ℕ) → Decided ((t : Token) × (rest :
     ]
 
     pub outcome : Outcome bytes depth
-    outcome = by_length FromThere from_there (without_mark bytes) AtStart (at_start bytes depth (without_mark bytes) refl)
+    outcome = by_length FromThere from_there (without_byte_order_mark bytes) AtStart (at_start bytes depth (without_byte_order_mark bytes) refl)
 
   -- whether some tag opens a level too many
   pub deep_or_not : (bytes : List ℕ) (depth : ℕ) → Decided ((at : ℕ) × Deep bytes depth at)
@@ -72,7 +72,7 @@ module _ (token_or_none : (bytes : List ℕ) → Decided ((t : Token) × (rest :
   few_tokens bytes [] rest l = omega arith
   few_tokens bytes (t ∷ ts) rest l = let here = some_bytes bytes t l.0 l.1 in let others = few_tokens l.0 ts rest l.2 in omega (arith, here, others)
 
-  unmarked : (bytes : List ℕ) → length (without_mark bytes) ≤ length bytes
+  unmarked : (bytes : List ℕ) → length (without_byte_order_mark bytes) ≤ length bytes
   unmarked bytes = by (starts_with ◌==◌ bytes byte_order_mark)
     where
       by : (b : Bool) → length (if b then drop 3 bytes else bytes) ≤ length bytes
@@ -81,7 +81,7 @@ module _ (token_or_none : (bytes : List ℕ) → Decided ((t : Token) × (rest :
 
   not_so_deep : (bytes : List ℕ) (at : ℕ) → Deep bytes (suc (length bytes)) at → ⊥
   not_so_deep bytes at d =
-      let few = few_tokens (without_mark bytes) d.tokens d.rest d.lexed in
+      let few = few_tokens (without_byte_order_mark bytes) d.tokens d.rest d.lexed in
       let short = unmarked bytes in
       let starts = count_by-le-length is_start d.tokens in
       let level = d.level_is in
@@ -92,7 +92,7 @@ module _ (token_or_none : (bytes : List ℕ) → Decided ((t : Token) × (rest :
     tokens = s.tokens;
     rest = [];
     reaches = record { lexed = s.lexed; allowed = record { more = []; reading = r; document = subst (λ (ts : List Token). IsDocument ts r) (sym (append-nil s.tokens)) s.document } };
-    no_further = λ t behind l b. no_token [] t behind refl l;
+    no_further = λ t after l b. no_token [] t after refl l;
     at_is = refl;
   }
 

@@ -8,9 +8,9 @@ use Rattle.ifmap_elem.specs.declared.tokens.Assignment.{Assignment}
 use Rattle.ifmap_elem.specs.declared.tokens.Qualified.{Qualified}
 use Rattle.ifmap_elem.specs.declared.tokens.Tag.{Tag}
 use Rattle.ifmap_elem.specs.Scopes.{Scope, Binding, AllDiffer, AreAttributes, IsAttribute, IsBinding, NamesElement, attribute_space, bindings, bound, plain_assignments, scope_within, xml_space, xmlns_space}
-use Rattle.ifmap_elem.proofs.OneReading.{one_list_of_attributes}
-use Rattle.ifmap_reader.specs.declared.frames.Frame.{Frame}
-use Rattle.ifmap_reader.specs.Opening.{Opened}
+use Rattle.ifmap_elem.specs.laws.OneReading.{one_list_of_attributes}
+use Rattle.ifmap_reader.specs.declared.open_elements.OpenElement.{OpenElement}
+use Rattle.ifmap_reader.specs.AllowedTags.{OpensElement}
 use Rattle.ifmap_reader.proofs.Goings.{NoName}
 
 -- names
@@ -79,11 +79,11 @@ module _ (scope : Scope) where
 
 -- tags
 
-abbrev pub SomeOpened : Scope → Tag → Type 0
-SomeOpened outer tag = (f : Frame) × Opened outer tag f
+abbrev pub OpensSome : Scope → Tag → Type 0
+OpensSome outer tag = (f : OpenElement) × OpensElement outer tag f
 
-opened_by : (outer : Scope) (tag : Tag) (name : Name) (attributes : List Attribute) → NamesElement outer tag name attributes → SomeOpened outer tag
-opened_by outer tag name attributes n = (
+element_by : (outer : Scope) (tag : Tag) (name : Name) (attributes : List Attribute) → NamesElement outer tag name attributes → OpensSome outer tag
+element_by outer tag name attributes n = (
   record { prefix = tag.name.prefix; name = name; attributes = attributes; bindings = bindings tag; children = []; text = []; below = [] },
   record {
     named = n;
@@ -95,8 +95,8 @@ opened_by outer tag name attributes n = (
   },
 )
 
-pub opened_or_none : (outer : Scope) (tag : Tag) → SomeOpened outer tag ⊎ NoName outer tag
-opened_or_none outer tag = elim (decided_each IsBinding binding_or_not (bindings tag)) [
+pub element_or_none : (outer : Scope) (tag : Tag) → OpensSome outer tag ⊎ NoName outer tag
+element_or_none outer tag = elim (decided_each IsBinding binding_or_not (bindings tag)) [
   | inr fails ↦ inr (λ name attributes n. fails n.binds)
   | inl binds ↦ elim (differ_or_not same_or_not (map (λ b. b.prefix) (bindings tag))) [
     | inr fails ↦ inr (λ name attributes n. fails n.binds_once)
@@ -108,7 +108,7 @@ opened_or_none outer tag = elim (decided_each IsBinding binding_or_not (bindings
           | inr fails ↦ inr (λ name attributes n.
               let same : attributes ≡ ts.0 = one_list_of_attributes (scope_within outer tag) (plain_assignments tag) attributes ts.0 n.attributes_are ts.1 in
               fails (subst (λ (us : List Attribute). AllDiffer (map (λ t. t.name) us)) same n.names_differ))
-          | inl differ ↦ inl (opened_by outer tag (record { space = s.0; local = tag.name.local }) ts.0 (record {
+          | inl differ ↦ inl (element_by outer tag (record { space = s.0; local = tag.name.local }) ts.0 (record {
               binds = binds;
               binds_once = once;
               space_is = s.1;
