@@ -3,10 +3,10 @@ use Rattle.std.proofs.Common.{◌≡◌, ℕ, Bool, true, false, not, List, [], 
 use Rattle.std.proofs.lemmas.Bool.{cases_Bool, not-true}
 use Rattle.std.specs.List.{AllByRecursion, filter}
 use Rattle.std.specs.Ordering.{is_gt, is_lt}
-use Rattle.ifmap_graph.proofs.Placing.{all_around, all_filter}
+use Rattle.ifmap_lemmas.specs.Filters.{all_around, all_filter}
 use Rattle.ifmap_graph.specs.declared.attachments.Attachment.{Attachment}
 use Rattle.ifmap_graph.specs.Attachments.{attachment_order, ends_with, same_key}
-use Rattle.ifmap_graph.specs.Graph.{attached, retract, without_key}
+use Rattle.ifmap_graph.specs.Graph.{attach, retract, without_key}
 
 -- what a filter leaves passes, and is as before
 all_kept : {X : Type 0} (P Q : X → Type 0) (p : X → Bool) → ((x : X) → p x ≡ true → P x → Q x) → (xs : List X) → AllByRecursion P xs → AllByRecursion Q (filter p xs)
@@ -15,7 +15,7 @@ all_kept P Q p f (x ∷ xs) h =
     elim (cases_Bool (p x)) [ inl stays ↦ rw stays (f x stays h.0, all_kept P Q p f xs h.1) | inr goes ↦ rw goes (all_kept P Q p f xs h.1) ]
 
 -- what is true of the new one and of the others stays true of all
-pub all_attached : (P : Attachment → Type 0) (graph : List Attachment) (a : Attachment) → AllByRecursion P graph → P a → AllByRecursion P (attached graph a)
+pub all_attached : (P : Attachment → Type 0) (graph : List Attachment) (a : Attachment) → AllByRecursion P graph → P a → AllByRecursion P (attach graph a)
 all_attached P graph a h k =
     let others : List Attachment = without_key a graph in
     let all : AllByRecursion P others = all_filter P (λ b. not (same_key a b)) graph h in

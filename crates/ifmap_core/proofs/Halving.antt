@@ -10,7 +10,7 @@ use Rattle.std.specs.List.Sorted.{IsStrictlySortedBy, IsSortedBy, IsPartitionPoi
 use Rattle.std.specs.Ordering.{is_eq, is_lt, on, ordering_reverse}
 use Rattle.std.specs.declared.cmp.Ordering.TheVariants.{Less, Equal, Greater}
 use Rattle.ifmap_core.specs.Table.{IsPlaceOf}
-use Rattle.ifmap_graph.proofs.Placing.{all_at, all_weaker, filter_all}
+use Rattle.ifmap_lemmas.specs.Filters.{all_at, all_weaker, filter_all}
 
 pub all_push : {X : Type 0} (P : X → Type 0) (xs : List X) (y : X) → AllByRecursion P xs → P y → AllByRecursion P (xs ++ y ∷ [])
 all_push P [] y h k = (k, tt)

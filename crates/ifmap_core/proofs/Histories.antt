@@ -25,10 +25,10 @@ use Rattle.ifmap_core.specs.Table.{serial_order}
 use Rattle.ifmap_core.proofs.Graphs.{all_attached, all_retracted}
 use Rattle.ifmap_core.proofs.Halving.{all_found, all_push, find_none}
 use Rattle.ifmap_core.proofs.Kept.{distinct_filter, distinct_push, rest_differ, sorted_push, text_is, text_same}
-use Rattle.ifmap_graph.proofs.Placing.{all_filter, all_weaker}
+use Rattle.ifmap_lemmas.specs.Filters.{all_filter, all_weaker}
 use Rattle.ifmap_graph.specs.declared.attachments.Attachment.{Attachment}
 use Rattle.ifmap_graph.specs.Attachments.{ends_with}
-use Rattle.ifmap_graph.specs.Graph.{IsGraph, attached, retract}
+use Rattle.ifmap_graph.specs.Graph.{IsGraph, attach, retract}
 use Rattle.ifmap_ident.specs.declared.items.Item.{Item}
 use Rattle.ifmap_meta.specs.declared.metadata.Metadata.{Metadata}
 use Rattle.ifmap_meta.specs.declared.stored.Life.{Life}
@@ -249,7 +249,7 @@ its_life sessions by true h = tt
 its_life sessions by false h = h
 
 -- graphs stay graphs
-module _ (attached_graph : (graph : List Attachment) (a : Attachment) → IsGraph graph → IsGraph (attached graph a)) (retracted_graph : (serial : ℕ) (graph : List Attachment) → IsGraph graph → IsGraph (retract serial graph)) where
+module _ (attached_graph : (graph : List Attachment) (a : Attachment) → IsGraph graph → IsGraph (attach graph a)) (retracted_graph : (serial : ℕ) (graph : List Attachment) → IsGraph graph → IsGraph (retract serial graph)) where
   ended_sound : (serial : ℕ) (state : State) → IsSound state → IsSound (ended (serial ∷ []) state)
   ended_sound serial state w = record {
     graph = retracted_graph serial state.graph w.graph;
@@ -274,7 +274,7 @@ module _ (attached_graph : (graph : List Attachment) (a : Attachment) → IsGrap
   update_sound state by item forever h [] graph w = w
   update_sound state by item forever h (m ∷ elements) graph w =
       let a : Attachment = attachment_of by item forever m in
-      update_sound state by item forever h elements (attached graph a) (record {
+      update_sound state by item forever h elements (attach graph a) (record {
         graph = attached_graph graph a w.graph;
         lives = all_attached (λ (b : Attachment). IsLifeFor state.sessions b.stored.publisher b.stored.life) graph a w.lives (its_life state.sessions by forever h);
       })

@@ -19,7 +19,7 @@ use Rattle.ifmap_core.specs.declared.sessions.Session.{Session}
 use Rattle.ifmap_core.specs.State.{is_text, session_of_client, session_with_id, session_with_serial, without_sessions}
 use Rattle.ifmap_core.specs.Table.{BeginsWithSerial, IsKept, IsPlaceFor, IsPlaceOf, client_order, holder_of, serial_order}
 use Rattle.ifmap_core.proofs.Halving.{all_found, all_push, filter_same, find_insert, find_none, none_passes, place_for, placed}
-use Rattle.ifmap_graph.proofs.Placing.{all_filter, all_weaker, filter_all, filter_passes}
+use Rattle.ifmap_lemmas.specs.Filters.{all_filter, all_weaker, filter_all, filter_passes}
 
 -- texts and numbers
 pub text_is : (a b : List ℕ) → is_text a b ≡ true → a ≡ b

@@ -1,7 +1,7 @@
 -- What a publish makes of the graph.
 use Rattle.std.specs.Prelude.{ℕ, Bool, true, false, List, [], ◌∷◌}
 use Rattle.ifmap_graph.specs.declared.attachments.Attachment.{Attachment}
-use Rattle.ifmap_graph.specs.Graph.{attached}
+use Rattle.ifmap_graph.specs.Graph.{attach}
 use Rattle.ifmap_ident.specs.declared.items.Item.{Item}
 use Rattle.ifmap_meta.specs.declared.metadata.Metadata.{Metadata}
 use Rattle.ifmap_meta.specs.declared.stored.Life.{Life}
@@ -29,7 +29,7 @@ attachment_of by item forever metadata =
 -- the elements of an update are attached from left to right
 abbrev pub update : List Attachment → Authorship → Item → Bool → List Metadata → List Attachment
 update graph by item forever [] = graph
-update graph by item forever (m ∷ elements) = update (attached graph (attachment_of by item forever m)) by item forever elements
+update graph by item forever (m ∷ elements) = update (attach graph (attachment_of by item forever m)) by item forever elements
 
 -- one operation
 abbrev pub apply_op : List Attachment → Authorship → PublishOp → List Attachment

@@ -3,7 +3,7 @@ use Rattle.std.specs.Prelude.{Bool, List, [], ◌∷◌, flat_map, map}
 use Rattle.ifmap_core.specs.declared.publishing.Author.{Author}
 use Rattle.ifmap_core.specs.Apply.{Authorship, attachment_of}
 use Rattle.ifmap_graph.specs.declared.attachments.Attachment.{Attachment}
-use Rattle.ifmap_graph.specs.Graph.{attached}
+use Rattle.ifmap_graph.specs.Graph.{attach}
 use Rattle.ifmap_ident.specs.declared.items.Item.{Item}
 use Rattle.ifmap_meta.specs.declared.metadata.Metadata.{Metadata}
 use Rattle.ifmap_msg.specs.declared.requests.PublishOp.{PublishOp}
@@ -26,4 +26,4 @@ rows_of by ops = flat_map (rows_of_op by) ops
 -- all of them attached, from left to right
 abbrev pub attached_all : List Attachment → List Attachment → List Attachment
 attached_all graph [] = graph
-attached_all graph (row ∷ rows) = attached_all (attached graph row) rows
+attached_all graph (row ∷ rows) = attached_all (attach graph row) rows

@@ -13,7 +13,7 @@ use crate::publishing::Author;
 use crate::searching::search_answer;
 use crate::sessions::{Session, Sessions};
 use ifmap_elem::{Copied, Equals, Many, Text};
-use ifmap_graph::{Graph, Row};
+use ifmap_graph::{Graph, KeptAttachment};
 use ifmap_ident::Code;
 use ifmap_io::Moment;
 use ifmap_meta::ClientName;
@@ -45,7 +45,7 @@ impl Model for Core {
 
     ghost coded = { Prim.hlevel (codes, the_attachment.the_row.coded) };
 
-    ghost view = { λ core. record { moment = core.moment; ttl = core.ttl; counter = core.sessions.counter; graph = core.graph.rows; sessions = core.sessions.live } };
+    ghost view = { λ core. record { moment = core.moment; ttl = core.ttl; counter = core.sessions.counter; graph = core.graph.attachments; sessions = core.sessions.live } };
 }
 
 impl Core {
@@ -241,9 +241,9 @@ impl Core {
 }
 
 // Attaches the rows in order. It takes no memory.
-fn attach_all(graph: &mut Graph, rows: Vec<Row>)
+fn attach_all(graph: &mut Graph, rows: Vec<KeptAttachment>)
     requires { vec_len rows ≤ graph.old.room }
-    ensures { graph.new.rows ≡ attached_all graph.old.rows rows.items }
+    ensures { graph.new.attachments ≡ attached_all graph.old.attachments rows.items }
 {
     for row in rows {
         graph.attach(row);

@@ -4,7 +4,7 @@ ghost use Rattle.ifmap_core.specs.Apply.{attachment_of, life_of};
 ghost use Rattle.ifmap_core.specs.Rows.{authorship, rows_of, rows_of_op, rows_of_update};
 
 use ifmap_elem::{Copied, Many};
-use ifmap_graph::Row;
+use ifmap_graph::KeptAttachment;
 use ifmap_ident::Item;
 use ifmap_io::Moment;
 use ifmap_meta::{ClientName, Life, Metadata};
@@ -21,7 +21,11 @@ pub struct Author<'a> {
 
 impl<'a> Author<'a> {
     /// The rows that the operations attach, in order. All the memory of a publish is taken here.
-    pub fn rows_of(&self, alloc: Global, ops: &Many<PublishOp>) -> Result<Vec<Row>, AllocError>
+    pub fn rows_of(
+        &self,
+        alloc: Global,
+        ops: &Many<PublishOp>,
+    ) -> Result<Vec<KeptAttachment>, AllocError>
         ensures { IfOk result (λ rows. rows.items ≡ rows_of (authorship self.now) ops.now) }
     {
         let mut rows = Vec::new(alloc);
@@ -32,7 +36,12 @@ impl<'a> Author<'a> {
     }
 
     // The rows of one operation go behind the others.
-    fn add_rows(&self, alloc: Global, op: &PublishOp, rows: &mut Vec<Row>) -> Result<(), AllocError>
+    fn add_rows(
+        &self,
+        alloc: Global,
+        op: &PublishOp,
+        rows: &mut Vec<KeptAttachment>,
+    ) -> Result<(), AllocError>
         ensures { OnOk result (rows.new.items ≡ rows.old.items ++ rows_of_op (authorship self.now) op.now) }
     {
         match op {
@@ -50,7 +59,7 @@ impl<'a> Author<'a> {
         item: &Item,
         elements: &Many<Metadata>,
         forever: bool,
-        rows: &mut Vec<Row>,
+        rows: &mut Vec<KeptAttachment>,
     ) -> Result<(), AllocError>
         ensures { OnOk result (rows.new.items ≡ rows.old.items ++ rows_of_update (authorship self.now) item.now forever elements.now) }
     {
@@ -67,12 +76,12 @@ impl<'a> Author<'a> {
         item: &Item,
         metadata: &Metadata,
         forever: bool,
-    ) -> Result<Row, AllocError>
+    ) -> Result<KeptAttachment, AllocError>
         ensures { IfOk result (λ row. row ≡ attachment_of (authorship self.now) item.now forever metadata.now) }
     {
         let life = self.life(forever);
         let stored = metadata.stamp(alloc, self.client, self.moment, life)?;
-        Row::new(alloc, item.copy(alloc)?, stored)
+        KeptAttachment::new(alloc, item.copy(alloc)?, stored)
     }
 
     fn life(&self, forever: bool) -> Life

@@ -5,17 +5,17 @@ ghost use Rattle.ifmap_core.specs.Step.{search_answer};
 
 use crate::events::Answer;
 use ifmap_elem::{Copied, Many, Text};
-use ifmap_graph::{Graph, Row};
+use ifmap_graph::{Graph, KeptAttachment};
 use ifmap_ident::{Code, Item};
 use ifmap_msg::{Entry, Reply, Search};
 use std::alloc::{AllocError, Global};
 
 /// What the search finds in the graph, or the refusal where its size is greater than the limit.
 pub fn search_answer(alloc: Global, graph: &Graph, search: &Search) -> Result<Answer, AllocError>
-    ensures { IfOk result (λ answer. answer ≡ search_answer graph.now.rows search.now) }
+    ensures { IfOk result (λ answer. answer ≡ search_answer graph.now.attachments search.now) }
 {
     let start = Item::One(search.start.copy(alloc)?);
-    let rows = graph.on(&start);
+    let rows = graph.attachments_on(&start);
     let size = size_of(rows)?;
     if search.max_size < size {
         let note = limit_note(alloc, size, search.max_size)?;
@@ -29,7 +29,7 @@ pub fn search_answer(alloc: Global, graph: &Graph, search: &Search) -> Result<An
 }
 
 // The size of a result. A sum of 2^64 or more is told as want of memory.
-fn size_of(rows: &[Row]) -> Result<u64, AllocError>
+fn size_of(rows: &[KeptAttachment]) -> Result<u64, AllocError>
     ensures { IfOk result (λ size. size ≡ size_of rows.now) }
 {
     let mut size = 0u64;
@@ -39,7 +39,7 @@ fn size_of(rows: &[Row]) -> Result<u64, AllocError>
     Ok(size)
 }
 
-fn entries_of(alloc: Global, rows: &[Row]) -> Result<Many<Entry>, AllocError>
+fn entries_of(alloc: Global, rows: &[KeptAttachment]) -> Result<Many<Entry>, AllocError>
     ensures { IfOk result (λ entries. entries ≡ map entry_of rows.now) }
 {
     let mut entries = Vec::with_capacity(alloc, rows.len())?;
@@ -49,7 +49,7 @@ fn entries_of(alloc: Global, rows: &[Row]) -> Result<Many<Entry>, AllocError>
     Ok(Many(entries))
 }
 
-fn entry_of(alloc: Global, row: &Row) -> Result<Entry, AllocError>
+fn entry_of(alloc: Global, row: &KeptAttachment) -> Result<Entry, AllocError>
     ensures { IfOk result (λ entry. entry ≡ entry_of row.now) }
 {
     Ok(Entry {

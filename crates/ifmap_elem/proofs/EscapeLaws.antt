@@ -5,20 +5,20 @@ use Rattle.std.proofs.lemmas.Simd.{bitmask_splat, length-chunk, none_from_empty_
 use Rattle.std.specs.Bool.{OnTrue}
 use lib.Lanes.{chunk, mask_l, top, zip2}
 use Rattle.ifmap_elem.specs.declared.escaping.Place.{Place}
-use Rattle.ifmap_elem.specs.Escapes.{ArePlain, LacksByte, escaped}
+use Rattle.ifmap_elem.specs.Escapes.{ArePlain, LacksByte, escape_bytes}
 
 on_true : (b : Bool) (P : Type 0) → (b ≡ true → P) → OnTrue b P
 on_true true P f = f refl
 on_true false P f = tt
 
-escaped_plain : (place : Place) (bytes : List ℕ) → ArePlain place bytes 0 (length bytes) → escaped place bytes ≡ bytes
+escaped_plain : (place : Place) (bytes : List ℕ) → ArePlain place bytes 0 (length bytes) → escape_bytes place bytes ≡ bytes
 escaped_plain place [] h = λ i. []
 escaped_plain place (b ∷ bytes) h =
     let first = h 0 (omega arith) (omega arith) in
     let rest = escaped_plain place bytes (λ k p q. h (suc k) (omega arith) (omega arith)) in
     λ i. first i ++ rest i
 
-pub plain_is_escaped : (found : Bool) (place : Place) (bytes : List ℕ) → OnTrue found (ArePlain place bytes 0 (length bytes)) → OnTrue found (escaped place bytes ≡ bytes)
+pub plain_is_escaped : (found : Bool) (place : Place) (bytes : List ℕ) → OnTrue found (ArePlain place bytes 0 (length bytes)) → OnTrue found (escape_bytes place bytes ≡ bytes)
 plain_is_escaped true place bytes h = escaped_plain place bytes h
 plain_is_escaped false place bytes h = tt
 

@@ -9,10 +9,10 @@ use Rattle.std.specs.Map.{lookup}
 use Rattle.std.specs.Option.{is_some}
 use Rattle.std.specs.Str.{bytes_eq}
 use Rattle.ifmap_elem.specs.Folds.{at_child_element, at_child_text}
-use Rattle.ifmap_elem.specs.Arranged.{arranged, arranged_child, sorted}
-use Rattle.ifmap_elem.specs.Canonical.{after_prefix, printed_name, declaration_bytes, written_bytes, attribute_bytes, content_bytes, child_piece, element_piece, child_bytes, element_bytes}
+use Rattle.ifmap_elem.specs.Arranged.{arrange, arrange_child, sort_attributes}
+use Rattle.ifmap_elem.specs.Canonical.{after_prefix, printed_name, declaration_bytes, written_bytes, attribute_bytes, after_attributes_bytes, child_piece, element_piece, child_bytes, element_bytes}
 use Rattle.ifmap_elem.specs.Escapes.{text_bytes, value_bytes}
-use Rattle.ifmap_elem.specs.Namespaces.{spaces_of, spaces_of_child, child_spaces, element_spaces, prefix_rows, name_prefixes, AddsSpaces}
+use Rattle.ifmap_elem.specs.Namespaces.{spaces_of, spaces_of_child, child_spaces, element_spaces, numbered_prefixes, name_prefixes, AddsSpaces}
 use Rattle.ifmap_elem.specs.printer.Pieces.{IsFront, AreFinal, IsNumbered, Adds}
 use Rattle.ifmap_elem.specs.Scopes.{xml_space}
 use Rattle.ifmap_elem.specs.declared.elements.Name.{Name}
@@ -43,8 +43,8 @@ front_both a b c h k = (h.0 ++ k.0, k.1 ∙ ap (λ l. l ++ k.0) h.1 ∙ append_a
 final_before : (b c final : Spaces) → IsFront b c → AreFinal c final → AreFinal b final
 final_before b c final h f = record { begins = front_both b c final h f.begins; none_bare = f.none_bare }
 
-row_stays : (p : List ℕ → Bool) (letter : List ℕ) (n : ℕ) (xs ys : Spaces) → is_some (lookup p (prefix_rows letter n xs)) ≡ true
-    → lookup p (prefix_rows letter n (xs ++ ys)) ≡ lookup p (prefix_rows letter n xs)
+row_stays : (p : List ℕ → Bool) (letter : List ℕ) (n : ℕ) (xs ys : Spaces) → is_some (lookup p (numbered_prefixes letter n xs)) ≡ true
+    → lookup p (numbered_prefixes letter n (xs ++ ys)) ≡ lookup p (numbered_prefixes letter n xs)
 row_stays p letter n [] ys some = cc
 row_stays p letter n (x ∷ xs) ys some = elim (cases_Bool (p x)) [
   | inl e ↦ rw e refl
@@ -80,7 +80,7 @@ pub numbered_later : (xs ys : Spaces) (s : List ℕ) → IsFront xs ys → IsNum
 numbered_later xs ys s h (inl e) = inl e
 numbered_later xs ys s h (inr some) = inr (subst (λ l. is_some (lookup (bytes_eq s) (name_prefixes l)) ≡ true) (sym h.1) (ap is_some (prefix_stays s xs h.0 some) ∙ some))
 
-row_new : (letter : List ℕ) (n : ℕ) (xs : Spaces) (s : List ℕ) → is_some (lookup (bytes_eq s) (prefix_rows letter n (xs ++ s ∷ []))) ≡ true
+row_new : (letter : List ℕ) (n : ℕ) (xs : Spaces) (s : List ℕ) → is_some (lookup (bytes_eq s) (numbered_prefixes letter n (xs ++ s ∷ []))) ≡ true
 row_new letter n [] s = let e = eq_itself s in rw e refl
 row_new letter n (x ∷ xs) s = elim (cases_Bool (bytes_eq s x)) [
   | inl e ↦ rw e refl
@@ -175,7 +175,7 @@ piece_attribute attribute a b s t u v w x p h q r z = record {
 pub piece_content : (f : Child → Spaces) (g : Rows → Child → List ℕ) (children : List Child) (name : Name) (prefix : Option (List ℕ)) (a b : Spaces) (s t u v w x : List ℕ) → length children ≢ 0
     → t ≡ s ++ codes ">" → Adds a (flat_map f children) b (λ rows. flat_map (g rows) children) t u → v ≡ u ++ codes "</" → IsNumbered b name.space
     → prefix ≡ lookup (bytes_eq name.space) (name_prefixes b) → w ≡ v ++ after_prefix prefix name.local → x ≡ w ++ codes ">"
-    → Adds a (flat_map f children) b (λ rows. content_bytes (printed_name rows name) (map (g rows) children)) s x
+    → Adds a (flat_map f children) b (λ rows. after_attributes_bytes (printed_name rows name) (map (g rows) children)) s x
 piece_content f g children name prefix a b s t u v w x some p h q n e r z = record {
   added = h.added;
   behind = h.behind;
@@ -185,50 +185,50 @@ piece_content f g children name prefix a b s t u v w x some p h q n e r z = reco
 }
 
 pub piece_no_content : (f : Child → Spaces) (g : Rows → Child → List ℕ) (children : List Child) (name : Name) (a : Spaces) (s t : List ℕ) → children ≡ [] → t ≡ s ++ codes "/>"
-    → Adds a (flat_map f children) a (λ rows. content_bytes (printed_name rows name) (map (g rows) children)) s t
+    → Adds a (flat_map f children) a (λ rows. after_attributes_bytes (printed_name rows name) (map (g rows) children)) s t
 piece_no_content f g children name a s t none is =
-    subst (λ (cs : List Child). Adds a (flat_map f cs) a (λ rows. content_bytes (printed_name rows name) (map (g rows) cs)) s t) (sym none)
+    subst (λ (cs : List Child). Adds a (flat_map f cs) a (λ rows. after_attributes_bytes (printed_name rows name) (map (g rows) cs)) s t) (sym none)
     (record { added = adds_none a; behind = front_same a; written = λ final fin. is })
 
 pub piece_element : (e : Element) (a b c d : Spaces) (s t u v w : List ℕ) → t ≡ s ++ codes "<" → Adds a (e.name.space ∷ []) b (λ rows. printed_name rows e.name) t u
-    → Adds b (map space_of (sorted e.attributes)) c (λ rows. flat_map (attribute_bytes rows) (sorted e.attributes)) u v
-    → Adds c (flat_map (λ x. spaces_of_child (arranged_child x)) e.children) d (λ rows. content_bytes (printed_name rows e.name) (map (λ x. child_bytes rows (arranged_child x)) e.children)) v w
-    → Adds a (spaces_of (arranged e)) d (λ rows. element_bytes rows (arranged e)) s w
+    → Adds b (map space_of (sort_attributes e.attributes)) c (λ rows. flat_map (attribute_bytes rows) (sort_attributes e.attributes)) u v
+    → Adds c (flat_map (λ x. spaces_of_child (arrange_child x)) e.children) d (λ rows. after_attributes_bytes (printed_name rows e.name) (map (λ x. child_bytes rows (arrange_child x)) e.children)) v w
+    → Adds a (spaces_of (arrange e)) d (λ rows. element_bytes rows (arrange e)) s w
 piece_element e a b c d s t u v w is name attributes content =
-    adds_as a d (e.name.space ∷ (map space_of (sorted e.attributes) ++ flat_map (λ x. spaces_of_child (arranged_child x)) e.children)) (spaces_of (arranged e))
-    (λ rows. codes "<" ++ (printed_name rows e.name ++ (flat_map (attribute_bytes rows) (sorted e.attributes) ++ content_bytes (printed_name rows e.name) (map (λ x. child_bytes rows (arranged_child x)) e.children))))
-    (λ rows. element_bytes rows (arranged e)) s w (sym (spaces_arranged e)) (λ rows. sym (element_is rows e))
+    adds_as a d (e.name.space ∷ (map space_of (sort_attributes e.attributes) ++ flat_map (λ x. spaces_of_child (arrange_child x)) e.children)) (spaces_of (arrange e))
+    (λ rows. codes "<" ++ (printed_name rows e.name ++ (flat_map (attribute_bytes rows) (sort_attributes e.attributes) ++ after_attributes_bytes (printed_name rows e.name) (map (λ x. child_bytes rows (arrange_child x)) e.children))))
+    (λ rows. element_bytes rows (arrange e)) s w (sym (spaces_arranged e)) (λ rows. sym (element_is rows e))
     (adds_before a d _ (codes "<") _ s t w is (adds_two a b d _ _ _ _ t u w name (adds_two b c d _ _ _ _ u v w attributes content)))
 
-pub piece_child : (e : Element) (child : Child) (a b : Spaces) (s t : List ℕ) → child ≡ the.Element e → Adds a (spaces_of (arranged e)) b (λ rows. element_bytes rows (arranged e)) s t
-    → Adds a (spaces_of_child (arranged_child child)) b (λ rows. child_bytes rows (arranged_child child)) s t
+pub piece_child : (e : Element) (child : Child) (a b : Spaces) (s t : List ℕ) → child ≡ the.Element e → Adds a (spaces_of (arrange e)) b (λ rows. element_bytes rows (arrange e)) s t
+    → Adds a (spaces_of_child (arrange_child child)) b (λ rows. child_bytes rows (arrange_child child)) s t
 piece_child e child a b s t is h =
-    adds_as a b (spaces_of (arranged e)) (spaces_of_child (arranged_child child)) (λ rows. element_bytes rows (arranged e)) (λ rows. child_bytes rows (arranged_child child)) s t
-    (sym (ap (λ x. spaces_of_child (arranged_child x)) is ∙ ap spaces_of_child (arranged_in e) ∙ at_child_element Spaces Spaces child_spaces element_spaces (arranged e)))
-    (λ rows. sym (ap (λ x. child_bytes rows (arranged_child x)) is ∙ ap (child_bytes rows) (arranged_in e) ∙ at_child_element (List ℕ) (List ℕ) (child_piece rows) (element_piece rows) (arranged e))) h
+    adds_as a b (spaces_of (arrange e)) (spaces_of_child (arrange_child child)) (λ rows. element_bytes rows (arrange e)) (λ rows. child_bytes rows (arrange_child child)) s t
+    (sym (ap (λ x. spaces_of_child (arrange_child x)) is ∙ ap spaces_of_child (arranged_in e) ∙ at_child_element Spaces Spaces child_spaces element_spaces (arrange e)))
+    (λ rows. sym (ap (λ x. child_bytes rows (arrange_child x)) is ∙ ap (child_bytes rows) (arranged_in e) ∙ at_child_element (List ℕ) (List ℕ) (child_piece rows) (element_piece rows) (arrange e))) h
 
 pub piece_text : (text : List ℕ) (child : Child) (a : Spaces) (s t : List ℕ) → child ≡ the.Text text → t ≡ s ++ text_bytes text
-    → Adds a (spaces_of_child (arranged_child child)) a (λ rows. child_bytes rows (arranged_child child)) s t
+    → Adds a (spaces_of_child (arrange_child child)) a (λ rows. child_bytes rows (arrange_child child)) s t
 piece_text text child a s t is e =
-    adds_as a a [] (spaces_of_child (arranged_child child)) (λ rows. text_bytes text) (λ rows. child_bytes rows (arranged_child child)) s t
-    (sym (ap (λ x. spaces_of_child (arranged_child x)) is ∙ ap spaces_of_child (arranged_text text) ∙ at_child_text Spaces Spaces child_spaces element_spaces text))
-    (λ rows. sym (ap (λ x. child_bytes rows (arranged_child x)) is ∙ ap (child_bytes rows) (arranged_text text) ∙ at_child_text (List ℕ) (List ℕ) (child_piece rows) (element_piece rows) text))
+    adds_as a a [] (spaces_of_child (arrange_child child)) (λ rows. text_bytes text) (λ rows. child_bytes rows (arrange_child child)) s t
+    (sym (ap (λ x. spaces_of_child (arrange_child x)) is ∙ ap spaces_of_child (arranged_text text) ∙ at_child_text Spaces Spaces child_spaces element_spaces text))
+    (λ rows. sym (ap (λ x. child_bytes rows (arrange_child x)) is ∙ ap (child_bytes rows) (arranged_text text) ∙ at_child_text (List ℕ) (List ℕ) (child_piece rows) (element_piece rows) text))
     (record { added = adds_none a; behind = front_same a; written = λ final f. e })
 
 -- the root, whose attributes and content are printed first and stand behind its declarations
 pub piece_root : (element : Element) (given first a b all listed : Spaces) (prefix : Option (List ℕ)) (i j k inside s t u v w x : List ℕ) → first ≡ [] → AddsSpaces first (element.name.space ∷ []) a → i ≡ []
-    → Adds a (map space_of (sorted element.attributes)) b (λ rows. flat_map (attribute_bytes rows) (sorted element.attributes)) i j
-    → Adds b (flat_map (λ c. spaces_of_child (arranged_child c)) element.children) all (λ rows. content_bytes (printed_name rows element.name) (map (λ c. child_bytes rows (arranged_child c)) element.children)) j k
+    → Adds a (map space_of (sort_attributes element.attributes)) b (λ rows. flat_map (attribute_bytes rows) (sort_attributes element.attributes)) i j
+    → Adds b (flat_map (λ c. spaces_of_child (arrange_child c)) element.children) all (λ rows. after_attributes_bytes (printed_name rows element.name) (map (λ c. child_bytes rows (arrange_child c)) element.children)) j k
     → lookup (bytes_eq []) (name_prefixes all) ≡ None → prefix ≡ lookup (bytes_eq element.name.space) (name_prefixes all) → listed ≡ all → inside ≡ k
-    → s ≡ [] → t ≡ s ++ codes "<" → u ≡ t ++ after_prefix prefix element.name.local → v ≡ u ++ flat_map declaration_bytes (prefix_rows (codes "n") 1 listed)
-    → w ≡ v ++ flat_map declaration_bytes (prefix_rows (codes "f") 1 given) → x ≡ w ++ inside → x ≡ written_bytes element given
+    → s ≡ [] → t ≡ s ++ codes "<" → u ≡ t ++ after_prefix prefix element.name.local → v ≡ u ++ flat_map declaration_bytes (numbered_prefixes (codes "n") 1 listed)
+    → w ≡ v ++ flat_map declaration_bytes (numbered_prefixes (codes "f") 1 given) → x ≡ w ++ inside → x ≡ written_bytes element given
 piece_root element given first a b all listed prefix i j k inside s t u v w x none name empty attributes content bare named are is new p q r z behind =
     let final : AreFinal all all = record { begins = front_same all; none_bare = bare } in
-    let tag = flat_map (attribute_bytes (name_prefixes all)) (sorted element.attributes) in
-    let rest = content_bytes (printed_name (name_prefixes all) element.name) (map (λ c. child_bytes (name_prefixes all) (arranged_child c)) element.children) in
+    let tag = flat_map (attribute_bytes (name_prefixes all)) (sort_attributes element.attributes) in
+    let rest = after_attributes_bytes (printed_name (name_prefixes all) element.name) (map (λ c. child_bytes (name_prefixes all) (arrange_child c)) element.children) in
     let printed : k ≡ tag ++ rest =
     two_written i j k tag rest (attributes.written all (final_before b all all content.behind final)) (content.written all final) ∙ ap (λ l. l ++ (tag ++ rest)) empty in
     root_printed element given all t u v w (w ++ tag) x (adds_element element first a b all name attributes.added content.added [] none)
     (p ∙ ap (λ l. l ++ codes "<") new) (q ∙ ap (λ o. t ++ after_prefix o element.name.local) named)
-    (r ∙ ap (λ (l : Spaces). u ++ flat_map declaration_bytes (prefix_rows (codes "n") 1 l)) are) z refl
+    (r ∙ ap (λ (l : Spaces). u ++ flat_map declaration_bytes (numbered_prefixes (codes "n") 1 l)) are) z refl
     (behind ∙ ap (λ l. w ++ l) (is ∙ printed) ∙ sym (append_assoc w tag rest))

@@ -20,26 +20,26 @@ abbrev pub attribute_order : Attribute → Attribute → Ordering
 attribute_order a b = ordering_then (name_order a.name b.name) (slice_cmp nat_cmp a.value b.value)
 
 -- attributes in rising order
-abbrev pub sorted : List Attribute → List Attribute
-sorted attributes = in_order attribute_order attributes
+abbrev pub sort_attributes : List Attribute → List Attribute
+sort_attributes attributes = in_order attribute_order attributes
 
 -- of a child, where the element in it is arranged already
-abbrev pub child_arranged : Child-F Child Element → Child
-child_arranged (Child-F.Element e) = the.Element e
-child_arranged (Child-F.Text t) = the.Text t
+abbrev pub arrange_child_of : Child-F Child Element → Child
+arrange_child_of (Child-F.Element e) = the.Element e
+arrange_child_of (Child-F.Text t) = the.Text t
 
 -- of an element, where its children are arranged already
-abbrev pub element_arranged : Element-F Child Element → Element
-element_arranged e = record { name = e.name; attributes = sorted e.attributes; children = e.children }
+abbrev pub arrange_element_of : Element-F Child Element → Element
+arrange_element_of e = record { name = e.name; attributes = sort_attributes e.attributes; children = e.children }
 
 -- the element with its attributes, and those of all elements in it, in order
-abbrev pub arranged : Element → Element
-arranged = fold-Element Child Element child_arranged element_arranged
+abbrev pub arrange : Element → Element
+arrange = fold-Element Child Element arrange_child_of arrange_element_of
 
 -- the child with the attributes of all elements in it in order
-abbrev pub arranged_child : Child → Child
-arranged_child = fold-Child Child Element child_arranged element_arranged
+abbrev pub arrange_child : Child → Child
+arrange_child = fold-Child Child Element arrange_child_of arrange_element_of
 
 -- two elements are the same but for the order of attributes
 abbrev pub IsSame : Element → Element → Type 0
-IsSame a b = arranged a ≡ arranged b
+IsSame a b = arrange a ≡ arrange b

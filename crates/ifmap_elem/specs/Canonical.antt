@@ -1,5 +1,5 @@
 -- The one canonical byte list of an element.
-use Rattle.std.specs.Prelude.{ℕ, ◌<◌, ◌^◌, length, List, [], ◌∷◌, ◌++◌, map, codes, Option, None, Some}
+use Rattle.std.specs.Prelude.{ℕ, List, [], ◌∷◌, ◌++◌, map, codes, Option, None, Some}
 use Rattle.std.specs.List.{concat, flat_map}
 use Rattle.std.specs.Map.{lookup}
 use Rattle.std.specs.Str.{bytes_eq}
@@ -8,9 +8,11 @@ use Rattle.ifmap_elem.specs.declared.elements.Attribute.{Attribute}
 use Rattle.ifmap_elem.specs.declared.elements.Child.{Child, fold-Child}
 use Rattle.ifmap_elem.specs.declared.elements.Element.{Element, fold-Element}
 use Rattle.ifmap_elem.specs.declared.elements.Child.TheOpen.{Child-F, Element-F}
-use Rattle.ifmap_elem.specs.Arranged.{arranged}
+use Rattle.ifmap_elem.specs.declared.readings.Declared.{Declared}
+use Rattle.ifmap_elem.specs.declared.readings.Reading.{Reading}
+use Rattle.ifmap_elem.specs.Arranged.{arrange}
 use Rattle.ifmap_elem.specs.Escapes.{text_bytes, value_bytes}
-use Rattle.ifmap_elem.specs.Namespaces.{namespaces, prefix_rows, name_prefixes}
+use Rattle.ifmap_elem.specs.Namespaces.{namespaces, numbered_prefixes, name_prefixes}
 
 -- a local name behind the prefix, if there is one
 abbrev pub after_prefix : Option (List ℕ) → List ℕ → List ℕ
@@ -29,15 +31,15 @@ abbrev pub attribute_bytes : List (List ℕ × List ℕ) → Attribute → List 
 attribute_bytes prefixes a = codes " " ++ (printed_name prefixes a.name ++ (codes "=\"" ++ (value_bytes a.value ++ codes "\"")))
 
 -- what follows the attributes: `/>`, or the children as they are printed and an end tag
-abbrev pub content_bytes : List ℕ → List (List ℕ) → List ℕ
-content_bytes name [] = codes "/>"
-content_bytes name (first ∷ others) = codes ">" ++ (concat (first ∷ others) ++ (codes "</" ++ (name ++ codes ">")))
+abbrev pub after_attributes_bytes : List ℕ → List (List ℕ) → List ℕ
+after_attributes_bytes name [] = codes "/>"
+after_attributes_bytes name (first ∷ others) = codes ">" ++ (concat (first ∷ others) ++ (codes "</" ++ (name ++ codes ">")))
 
 -- an element of this name and these attributes, with these declarations, whose children are printed already
-abbrev pub tagged : List (List ℕ × List ℕ) → List (List ℕ × List ℕ) → Name → List Attribute → List (List ℕ) → List ℕ
-tagged prefixes declared name attributes children =
+abbrev pub element_of_parts : List (List ℕ × List ℕ) → List (List ℕ × List ℕ) → Name → List Attribute → List (List ℕ) → List ℕ
+element_of_parts prefixes declared name attributes children =
     let written = printed_name prefixes name in
-    codes "<" ++ (written ++ (flat_map declaration_bytes declared ++ (flat_map (attribute_bytes prefixes) attributes ++ content_bytes written children)))
+    codes "<" ++ (written ++ (flat_map declaration_bytes declared ++ (flat_map (attribute_bytes prefixes) attributes ++ after_attributes_bytes written children)))
 
 module _ (prefixes : List (List ℕ × List ℕ)) where
   abbrev pub child_piece : Child-F (List ℕ) (List ℕ) → List ℕ
@@ -46,7 +48,7 @@ module _ (prefixes : List (List ℕ × List ℕ)) where
 
   -- of an element below the root, which carries no declarations
   abbrev pub element_piece : Element-F (List ℕ) (List ℕ) → List ℕ
-  element_piece e = tagged prefixes [] e.name e.attributes e.children
+  element_piece e = element_of_parts prefixes [] e.name e.attributes e.children
 
   abbrev pub child_bytes : Child → List ℕ
   child_bytes = fold-Child (List ℕ) (List ℕ) child_piece element_piece
@@ -58,16 +60,26 @@ module _ (prefixes : List (List ℕ × List ℕ)) where
 abbrev pub root_bytes : List (List ℕ × List ℕ) → Element → List ℕ
 root_bytes given e =
     let spaces = namespaces e in
-    tagged (name_prefixes spaces) (prefix_rows (codes "n") 1 spaces ++ given) e.name e.attributes (map (child_bytes (name_prefixes spaces)) e.children)
+    element_of_parts (name_prefixes spaces) (numbered_prefixes (codes "n") 1 spaces ++ given) e.name e.attributes (map (child_bytes (name_prefixes spaces)) e.children)
 
 -- the canonical bytes, with ` xmlns:f1=".."`, ` xmlns:f2=".."` and so on for the given namespaces behind the declarations
 abbrev pub written_bytes : Element → List (List ℕ) → List ℕ
-written_bytes e spaces = root_bytes (prefix_rows (codes "f") 1 spaces) (arranged e)
+written_bytes e spaces = root_bytes (numbered_prefixes (codes "f") 1 spaces) (arrange e)
 
 -- the canonical bytes
 abbrev pub canonical_bytes : Element → List ℕ
 canonical_bytes e = written_bytes e []
 
--- bytes that a machine can hold, in which fewer namespaces are numbered than there are numbers with 64 digits
-abbrev pub AreHeld : List ℕ → Type 0
-AreHeld bytes = length bytes < 2 ^ 64
+-- the declarations that a root carries for prefixes, as they are read
+abbrev pub root_declarations : List (List ℕ × List ℕ) → List Declared
+root_declarations rows = map (λ row. record { path = []; prefix = row.1; space = row.0 }) rows
+
+-- what these bytes mean where they are read: the element arranged, and the declarations of its root
+abbrev pub written_reading : Element → List (List ℕ) → Reading
+written_reading e spaces =
+    let rows = numbered_prefixes (codes "n") 1 (namespaces (arrange e)) ++ numbered_prefixes (codes "f") 1 spaces in
+    record { root = arrange e; declared = root_declarations rows }
+
+-- what the canonical bytes mean
+abbrev pub canonical_reading : Element → Reading
+canonical_reading e = written_reading e []

@@ -22,17 +22,17 @@ abbrev pub value_bytes : List ℕ → List ℕ
 value_bytes value = flat_map value_byte value
 
 -- a byte as it is written in its place
-abbrev pub escaped_byte : Place → ℕ → List ℕ
-escaped_byte Content b = text_byte b
-escaped_byte Value b = value_byte b
+abbrev pub escape_byte : Place → ℕ → List ℕ
+escape_byte Content b = text_byte b
+escape_byte Value b = value_byte b
 
 -- bytes as they are written in their place
-abbrev pub escaped : Place → List ℕ → List ℕ
-escaped place bytes = flat_map (escaped_byte place) bytes
+abbrev pub escape_bytes : Place → List ℕ → List ℕ
+escape_bytes place bytes = flat_map (escape_byte place) bytes
 
 -- each byte from one place up to another stands for itself
 abbrev pub ArePlain : Place → List ℕ → ℕ → ℕ → Type 0
-ArePlain place bytes from to = (k : ℕ) → from ≤ k → k < to → escaped_byte place (get_or bytes k 0) ≡ get_or bytes k 0 ∷ []
+ArePlain place bytes from to = (k : ℕ) → from ≤ k → k < to → escape_byte place (get_or bytes k 0) ≡ get_or bytes k 0 ∷ []
 
 -- a byte is none of those from one place up to another
 abbrev pub LacksByte : List ℕ → ℕ → ℕ → ℕ → Type 0

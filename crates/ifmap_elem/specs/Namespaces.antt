@@ -1,7 +1,7 @@
 -- The namespaces of an element in the order of their first occurrence, and their prefixes (Namespaces in XML 1.0).
 use Rattle.std.specs.Prelude.{◌≡◌, ℕ, ◌+◌, List, [], ◌∷◌, ◌++◌, map, Bool, not, ◌&&◌, codes}
 use Rattle.std.specs.List.{filter, flat_map}
-use Rattle.std.specs.Fmt.{decimal}
+use Rattle.ifmap_lemmas.specs.Numerals.{numeral}
 use Rattle.std.specs.Str.{bytes_eq}
 use Rattle.ifmap_elem.specs.declared.elements.Child.{fold-Child, Child}
 use Rattle.ifmap_elem.specs.declared.elements.Element.{Element, fold-Element}
@@ -45,10 +45,10 @@ abbrev pub AddsSpaces : List (List ℕ) → List (List ℕ) → List (List ℕ) 
 AddsSpaces old spaces new = (seen : List (List ℕ)) → old ≡ declared_among seen → new ≡ declared_among (seen ++ spaces)
 
 -- namespaces with the prefixes of a letter and a number, the first with this one
-abbrev pub prefix_rows : List ℕ → ℕ → List (List ℕ) → List (List ℕ × List ℕ)
-prefix_rows letter number [] = []
-prefix_rows letter number (space ∷ spaces) = (space, letter ++ decimal number) ∷ prefix_rows letter (number + 1) spaces
+abbrev pub numbered_prefixes : List ℕ → ℕ → List (List ℕ) → List (List ℕ × List ℕ)
+numbered_prefixes letter number [] = []
+numbered_prefixes letter number (space ∷ spaces) = (space, letter ++ numeral number) ∷ numbered_prefixes letter (number + 1) spaces
 
 -- the prefixes by which names are written where these namespaces are declared: `xml`, `n1`, `n2` and so on
 abbrev pub name_prefixes : List (List ℕ) → List (List ℕ × List ℕ)
-name_prefixes spaces = (xml_space, codes "xml") ∷ prefix_rows (codes "n") 1 spaces
+name_prefixes spaces = (xml_space, codes "xml") ∷ numbered_prefixes (codes "n") 1 spaces

@@ -1,8 +1,7 @@
 -- Which bytes spell which element.
-use Rattle.std.specs.Prelude.{◌≡◌, ℕ, ◌==◌, if◌then◌else◌, List, [], ◌∷◌, drop}
+use Rattle.std.specs.Prelude.{ℕ, ◌==◌, if◌then◌else◌, List, [], ◌∷◌, drop}
 use Rattle.std.specs.List.{starts_with}
 use Rattle.ifmap_lemmas.specs.Items.{To}
-use Rattle.ifmap_elem.specs.declared.elements.Element.{Element}
 use Rattle.ifmap_elem.specs.declared.readings.Reading.{Reading}
 use Rattle.ifmap_elem.specs.Document.{IsDocument}
 use Rattle.ifmap_elem.specs.declared.tokens.Token.{Token}
@@ -21,7 +20,3 @@ pub record Spells (bytes : List ℕ) (r : Reading) : Type 0 where
   pub tokens : List Token
   pub lexed : To TakesToken (without_byte_order_mark bytes) tokens []
   pub document : IsDocument tokens r
-
--- the bytes spell this element, with some declarations
-abbrev pub SpelledBy : List ℕ → Element → Type 0
-SpelledBy bytes e = (r : Reading) × (r.root ≡ e) × Spells bytes r

@@ -1,7 +1,7 @@
 //! Whether two elements are the same but for the order of their attributes.
 ghost use Rattle.std.specs.Prelude.{◌≡◌, ◌↔◌, IsTrue, map};
-ghost use Rattle.ifmap_elem.specs.Arranged.{IsSame, arranged, arranged_child, sorted};
-ghost use Rattle.ifmap_elem.specs.Canonical.{AreHeld, canonical_bytes};
+ghost use Rattle.ifmap_elem.specs.Arranged.{IsSame, arrange, arrange_child, sort_attributes};
+ghost use Rattle.ifmap_elem.specs.Canonical.{canonical_bytes};
 ghost use Rattle.ifmap_elem.specs.Fit.{IsFit};
 ghost use Rattle.ifmap_elem.specs.printer.Occurrences.{occurrences_of};
 
@@ -14,14 +14,14 @@ use crate::lists::Many;
 /// elements, in time that grows with the square of their number in one element.
 pub fn same(a: &Element, b: &Element) -> bool
     ensures same { IsTrue result ↔ IsSame a.now b.now }
-    ensures canonical { IsFit a.now → IsFit b.now → AreHeld (canonical_bytes a.now) → (IsTrue result ↔ (canonical_bytes a.now ≡ canonical_bytes b.now)) }
+    ensures canonical { IsFit a.now → IsFit b.now → (IsTrue result ↔ (canonical_bytes a.now ≡ canonical_bytes b.now)) }
 {
     same_element(a, b)
 }
 
 #[cycle(same)]
 fn same_child(one: &Child, other: &Child) -> bool
-    ensures { IsTrue result ↔ (arranged_child one.now ≡ arranged_child other.now) }
+    ensures { IsTrue result ↔ (arrange_child one.now ≡ arrange_child other.now) }
 {
     match (one, other) {
         (Child::Element(one), Child::Element(other)) => same_element(one, other),
@@ -32,7 +32,7 @@ fn same_child(one: &Child, other: &Child) -> bool
 
 #[cycle(same)]
 fn same_element(one: &Element, other: &Element) -> bool
-    ensures { IsTrue result ↔ (arranged one.now ≡ arranged other.now) }
+    ensures { IsTrue result ↔ (arrange one.now ≡ arrange other.now) }
 {
     one.name.equals(&other.name)
         && same_attributes(&one.attributes, &other.attributes)
@@ -41,7 +41,7 @@ fn same_element(one: &Element, other: &Element) -> bool
 
 #[cycle(same)]
 fn same_children(one: &Many<Child>, other: &Many<Child>) -> bool
-    ensures { IsTrue result ↔ (map arranged_child one.now ≡ map arranged_child other.now) }
+    ensures { IsTrue result ↔ (map arrange_child one.now ≡ map arrange_child other.now) }
 {
     if one.0.len() != other.0.len() {
         return false;
@@ -55,14 +55,14 @@ fn same_children(one: &Many<Child>, other: &Many<Child>) -> bool
 }
 
 fn same_attributes(one: &Many<Attribute>, other: &Many<Attribute>) -> bool
-    ensures { IsTrue result ↔ (sorted one.now ≡ sorted other.now) }
+    ensures { IsTrue result ↔ (sort_attributes one.now ≡ sort_attributes other.now) }
 {
     one.equals(other) || have_same_members(&one.0, &other.0)
 }
 
-/// Whether both have the same attributes, each as often.
+// Whether both have the same attributes, each as often.
 fn have_same_members(one: &[Attribute], other: &[Attribute]) -> bool
-    ensures { IsTrue result ↔ (sorted one.now ≡ sorted other.now) }
+    ensures { IsTrue result ↔ (sort_attributes one.now ≡ sort_attributes other.now) }
 {
     if one.len() != other.len() {
         return false;

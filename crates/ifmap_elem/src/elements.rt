@@ -4,7 +4,7 @@ ghost use Rattle.std.specs.Prelude.{◌≡◌, IfOk};
 use crate::copying::Copied;
 use crate::lists::Many;
 use crate::texts::Text;
-use std::alloc::{AllocError, Global};
+use std::alloc::{AllocError as NoMemory, Global};
 
 /// A name in a namespace; the space is empty where there is none.
 #[derive(Debug, Drop, PartialEq, Eq, PartialOrd, Ord)]
@@ -14,7 +14,7 @@ pub struct Name {
 }
 
 impl Copied for Name {
-    fn copy(&self, alloc: Global) -> Result<Self, AllocError> {
+    fn copy(&self, alloc: Global) -> Result<Self, NoMemory> {
         Ok(Name {
             space: self.space.copy(alloc)?,
             local: self.local.copy(alloc)?,
@@ -30,7 +30,7 @@ pub struct Attribute {
 }
 
 impl Copied for Attribute {
-    fn copy(&self, alloc: Global) -> Result<Self, AllocError> {
+    fn copy(&self, alloc: Global) -> Result<Self, NoMemory> {
         Ok(Attribute {
             name: self.name.copy(alloc)?,
             value: self.value.copy(alloc)?,
@@ -56,34 +56,34 @@ pub struct Element {
 }
 
 impl Copied for Child {
-    fn copy(&self, alloc: Global) -> Result<Self, AllocError> {
-        copied_child(alloc, self)
+    fn copy(&self, alloc: Global) -> Result<Self, NoMemory> {
+        copy_child(alloc, self)
     }
 }
 
 impl Copied for Element {
-    fn copy(&self, alloc: Global) -> Result<Self, AllocError> {
-        copied_element(alloc, self)
+    fn copy(&self, alloc: Global) -> Result<Self, NoMemory> {
+        copy_element(alloc, self)
     }
 }
 
-#[cycle(copied)]
-fn copied_child(alloc: Global, child: &Child) -> Result<Child, AllocError>
+#[cycle(copying)]
+fn copy_child(alloc: Global, child: &Child) -> Result<Child, NoMemory>
     ensures { IfOk result (λ made. made ≡ child.now) }
 {
     match child {
-        Child::Element(element) => Ok(Child::Element(copied_element(alloc, element)?)),
+        Child::Element(element) => Ok(Child::Element(copy_element(alloc, element)?)),
         Child::Text(text) => Ok(Child::Text(text.copy(alloc)?)),
     }
 }
 
-#[cycle(copied)]
-fn copied_element(alloc: Global, element: &Element) -> Result<Element, AllocError>
+#[cycle(copying)]
+fn copy_element(alloc: Global, element: &Element) -> Result<Element, NoMemory>
     ensures { IfOk result (λ made. made ≡ element.now) }
 {
     let name = element.name.copy(alloc)?;
     let attributes = element.attributes.copy(alloc)?;
-    let children = copied_children(alloc, &element.children)?;
+    let children = copy_children(alloc, &element.children)?;
     Ok(Element {
         name,
         attributes,
@@ -91,13 +91,13 @@ fn copied_element(alloc: Global, element: &Element) -> Result<Element, AllocErro
     })
 }
 
-#[cycle(copied)]
-fn copied_children(alloc: Global, children: &Many<Child>) -> Result<Many<Child>, AllocError>
+#[cycle(copying)]
+fn copy_children(alloc: Global, children: &Many<Child>) -> Result<Many<Child>, NoMemory>
     ensures { IfOk result (λ made. made ≡ children.now) }
 {
     let mut made = Vec::with_capacity(alloc, children.0.len())?;
     for child in &children.0 {
-        made.push(copied_child(alloc, child)?)?;
+        made.push(copy_child(alloc, child)?)?;
     }
     Ok(Many(made))
 }

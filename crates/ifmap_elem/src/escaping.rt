@@ -1,24 +1,24 @@
 //! Text and the values of attributes as they stand in canonical bytes.
 ghost use Rattle.std.specs.Prelude.{◌≡◌, ◌++◌, ◌+◌, ◌∷◌, [], ◌≤◌, length, OnOk, MatchOption};
 ghost use Rattle.std.specs.Bool.{OnTrue};
-ghost use Rattle.ifmap_elem.specs.Escapes.{escaped_byte, escaped, ArePlain, LacksByte};
+ghost use Rattle.ifmap_elem.specs.Escapes.{escape_byte, escape_bytes, value_byte, ArePlain, LacksByte};
 
 use std::alloc::AllocError as NoMemory;
 use std::simd::prelude::*;
 
-/// Where characters stand that are written.
+// Where characters stand that are written.
 #[derive(Clone, Copy)]
 pub(crate) enum Place {
-    /// Between tags.
+    // Between tags.
     Content,
-    /// Between the double quotes of an attribute.
+    // Between the double quotes of an attribute.
     Value,
 }
 
-/// Appends bytes as they are written in their place.
+// Appends bytes as they are written in their place.
 #[inline(always)]
 pub(crate) fn write_escaped(place: Place, bytes: &[u8], out: &mut Vec<u8>) -> Result<(), NoMemory>
-    ensures { OnOk result (out.new.items ≡ out.old.items ++ escaped place bytes.now) }
+    ensures { OnOk result (out.new.items ≡ out.old.items ++ escape_bytes place bytes.now) }
 {
     if bytes.len() > RUN {
         return write_runs(place, bytes, out);
@@ -26,12 +26,12 @@ pub(crate) fn write_escaped(place: Place, bytes: &[u8], out: &mut Vec<u8>) -> Re
     write_run(place, bytes, out)
 }
 
-/// How many bytes are looked at before they are copied.
+// How many bytes are looked at before they are copied.
 const RUN: usize = 256;
 
 #[inline(never)]
 fn write_runs(place: Place, bytes: &[u8], out: &mut Vec<u8>) -> Result<(), NoMemory>
-    ensures { OnOk result (out.new.items ≡ out.old.items ++ escaped place bytes.now) }
+    ensures { OnOk result (out.new.items ≡ out.old.items ++ escape_bytes place bytes.now) }
 {
     let mut rest = bytes;
     while !rest.is_empty() {
@@ -44,7 +44,7 @@ fn write_runs(place: Place, bytes: &[u8], out: &mut Vec<u8>) -> Result<(), NoMem
 
 #[inline(always)]
 fn write_run(place: Place, bytes: &[u8], out: &mut Vec<u8>) -> Result<(), NoMemory>
-    ensures { OnOk result (out.new.items ≡ out.old.items ++ escaped place bytes.now) }
+    ensures { OnOk result (out.new.items ≡ out.old.items ++ escape_bytes place bytes.now) }
 {
     if is_plain(place, bytes) {
         return out.extend_from_slice(bytes);
@@ -54,7 +54,7 @@ fn write_run(place: Place, bytes: &[u8], out: &mut Vec<u8>) -> Result<(), NoMemo
 
 #[inline(never)]
 fn write_each(place: Place, bytes: &[u8], out: &mut Vec<u8>) -> Result<(), NoMemory>
-    ensures { OnOk result (out.new.items ≡ out.old.items ++ escaped place bytes.now) }
+    ensures { OnOk result (out.new.items ≡ out.old.items ++ escape_bytes place bytes.now) }
 {
     for byte in bytes {
         write_byte(place, *byte, out)?;
@@ -63,7 +63,7 @@ fn write_each(place: Place, bytes: &[u8], out: &mut Vec<u8>) -> Result<(), NoMem
 }
 
 fn write_byte(place: Place, byte: u8, out: &mut Vec<u8>) -> Result<(), NoMemory>
-    ensures { OnOk result (out.new.items ≡ out.old.items ++ escaped_byte place byte) }
+    ensures { OnOk result (out.new.items ≡ out.old.items ++ escape_byte place byte) }
 {
     match escape(place, byte) {
         Some(reference) => out.extend_from_slice(reference)?,
@@ -72,10 +72,10 @@ fn write_byte(place: Place, byte: u8, out: &mut Vec<u8>) -> Result<(), NoMemory>
     Ok(())
 }
 
-/// Whether each byte stands for itself.
+// Whether each byte stands for itself.
 #[inline(always)]
 fn is_plain(place: Place, bytes: &[u8]) -> bool
-    ensures { OnTrue result (escaped place bytes.now ≡ bytes.now) }
+    ensures { OnTrue result (escape_bytes place bytes.now ≡ bytes.now) }
 {
     if bytes.len() < BLOCK {
         is_plain_each(place, bytes)
@@ -98,7 +98,7 @@ fn is_plain_each(place: Place, bytes: &[u8]) -> bool
 
 #[inline(always)]
 fn is_plain_byte(place: Place, byte: u8) -> bool
-    ensures { OnTrue result (escaped_byte place byte ≡ byte ∷ []) }
+    ensures { OnTrue result (escape_byte place byte ≡ byte ∷ []) }
 {
     match place {
         Place::Content => !matches!(byte, b'&' | b'<' | b'>' | b'\r'),
@@ -106,10 +106,10 @@ fn is_plain_byte(place: Place, byte: u8) -> bool
     }
 }
 
-/// How many bytes are looked at together.
+// How many bytes are looked at together.
 const BLOCK: usize = 16;
 
-/// As `is_plain`, for one block at least. The last block may overlap the one before.
+// As `is_plain`, for one block at least. The last block may overlap the one before.
 #[inline(always)]
 fn is_plain_in_blocks(place: Place, bytes: &[u8]) -> bool
     requires { BLOCK ≤ length bytes.now }
@@ -142,7 +142,7 @@ fn is_plain_block(place: Place, bytes: &[u8], at: usize) -> bool
     }
 }
 
-/// Whether a byte is none of a block.
+// Whether a byte is none of a block.
 #[inline(always)]
 fn lacks(bytes: &[u8], at: usize, byte: u8) -> bool
     requires { at + BLOCK ≤ length bytes.now }
@@ -152,9 +152,19 @@ fn lacks(bytes: &[u8], at: usize, byte: u8) -> bool
     block.simd_eq(u8x16::splat(byte)).to_bitmask() == 0
 }
 
-/// The reference that a byte is written as, where it does not stand for itself.
+/// The reference that a byte of an attribute's value is written as in canonical bytes; `None` where it
+/// stands for itself.
+pub fn value_reference(byte: u8) -> Option<&'static [u8]>
+    ensures { MatchOption result (value_byte byte ≡ byte ∷ [])
+        (λ reference. reference.now ≡ value_byte byte) }
+{
+    escape(Place::Value, byte)
+}
+
+// The reference that a byte is written as, where it does not stand for itself.
 fn escape(place: Place, byte: u8) -> Option<&'static [u8]>
-    ensures { MatchOption result (escaped_byte place byte ≡ byte ∷ []) (λ reference. reference.now ≡ escaped_byte place byte) }
+    ensures { MatchOption result (escape_byte place byte ≡ byte ∷ [])
+        (λ reference. reference.now ≡ escape_byte place byte) }
 {
     match (place, byte) {
         (_, b'&') => Some(b"&amp;"),

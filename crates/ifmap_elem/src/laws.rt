@@ -2,11 +2,11 @@
 ghost use Rattle.std.specs.Prelude.{◌≡◌, ◌↔◌, ℕ, List};
 ghost use Rattle.std.specs.List.{AllByRecursion};
 ghost use Rattle.ifmap_elem.specs.declared.readings.Reading.{Reading};
-ghost use Rattle.ifmap_elem.specs.Spells.{SpelledBy, Spells};
+ghost use Rattle.ifmap_elem.specs.Spells.{Spells};
 ghost use Rattle.ifmap_elem.specs.declared.elements.Element.{Element};
 ghost use Rattle.ifmap_elem.specs.declared.tokens.Token.{Token};
-ghost use Rattle.ifmap_elem.specs.Arranged.{IsSame, arranged};
-ghost use Rattle.ifmap_elem.specs.Canonical.{AreHeld, canonical_bytes, written_bytes};
+ghost use Rattle.ifmap_elem.specs.Arranged.{IsSame, arrange};
+ghost use Rattle.ifmap_elem.specs.Canonical.{canonical_bytes, canonical_reading, written_bytes, written_reading};
 ghost use Rattle.ifmap_elem.specs.Fit.{IsDeclarable, IsFit};
 ghost use Rattle.ifmap_elem.specs.Nesting.{nesting};
 ghost use Rattle.ifmap_elem.specs.Tokens.{TakesToken};
@@ -23,21 +23,23 @@ pub fn bytes_spell_one_element()
 {}
 
 /// The canonical bytes of an element that fits spell the element with its attributes in order, which
-/// nests as deep as the element.
+/// nests as deep as the element, and declare the prefixes `n1`, `n2` and so on of its namespaces at
+/// the root, and nothing else.
 pub fn canonical_bytes_spell_the_element()
-    ensures spelled { (element : Element) → IsFit element → AreHeld (canonical_bytes element) → SpelledBy (canonical_bytes element) (arranged element) }
-    ensures nesting { (element : Element) → nesting (arranged element) ≡ nesting element }
+    ensures spelled { (element : Element) → IsFit element → Spells (canonical_bytes element) (canonical_reading element) }
+    ensures nesting { (element : Element) → nesting (arrange element) ≡ nesting element }
 {}
 
-/// So do the bytes with declarations of given namespaces.
+/// So do the bytes with declarations of given namespaces, which also declare their prefixes `f1`,
+/// `f2` and so on at the root.
 pub fn written_bytes_spell_the_element()
-    ensures { (element : Element) (spaces : List (List ℕ)) → IsFit element → AllByRecursion IsDeclarable spaces → AreHeld (written_bytes element spaces) → SpelledBy (written_bytes element spaces) (arranged element) }
+    ensures { (element : Element) (spaces : List (List ℕ)) → IsFit element → AllByRecursion IsDeclarable spaces → Spells (written_bytes element spaces) (written_reading element spaces) }
 {}
 
 /// Elements that fit have the same canonical bytes exactly where they are the same but for the order
 /// of attributes.
 pub fn canonical_bytes_tell_elements_apart()
-    ensures { (one other : Element) → IsFit one → IsFit other → AreHeld (canonical_bytes one) → ((canonical_bytes one ≡ canonical_bytes other) ↔ IsSame one other) }
+    ensures { (one other : Element) → IsFit one → IsFit other → ((canonical_bytes one ≡ canonical_bytes other) ↔ IsSame one other) }
 {}
 
 /// Where bytes spell a reading and a path names an element in it, the declarations that were read bind

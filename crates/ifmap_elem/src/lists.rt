@@ -1,11 +1,11 @@
 //! Lists.
-ghost use Rattle.std.specs.Prelude.{◌≡◌, IfOk};
+ghost use Rattle.std.specs.Prelude.{◌≡◌, ◌↔◌, [], length, IfOk, IsTrue};
 ghost use Rattle.std.specs.Cmp.Lexicographic.{lists_agrees, lists_po, lists_ties, lists_total, pointwise, slice_cmp, slice_partial_cmp};
 ghost use Rattle.std.specs.Cmp.Rules.{comparing};
 ghost use Rattle.std.proofs.Common.{rules};
 
 use crate::copying::Copied;
-use std::alloc::{AllocError, Global};
+use std::alloc::{AllocError as NoMemory, Global};
 use std::cmp::Ordering;
 use std::marker::Model;
 
@@ -25,14 +25,37 @@ impl<T> Model for Many<T> {
     ghost view = { λ many. many.0.items };
 }
 
-impl<T: Copied> Copied for Many<T> {
-    fn copy(&self, alloc: Global) -> Result<Self, AllocError> {
-        let members: &[T] = self.0.as_slice();
-        Ok(Many(copied_members(alloc, members)?))
+impl<T> Many<T> {
+    /// The members, in order.
+    pub fn as_slice(&self) -> &[T]
+        ensures { result.now ≡ self.now }
+    {
+        self.0.as_slice()
+    }
+
+    /// How many members there are.
+    pub fn len(&self) -> usize
+        ensures { result ≡ length self.now }
+    {
+        self.0.len()
+    }
+
+    /// Whether there are none.
+    pub fn is_empty(&self) -> bool
+        ensures { IsTrue result ↔ (self.now ≡ []) }
+    {
+        self.0.is_empty()
     }
 }
 
-fn copied_members<T: Copied>(alloc: Global, members: &[T]) -> Result<Vec<T>, AllocError>
+impl<T: Copied> Copied for Many<T> {
+    fn copy(&self, alloc: Global) -> Result<Self, NoMemory> {
+        let members: &[T] = self.0.as_slice();
+        Ok(Many(copy_members(alloc, members)?))
+    }
+}
+
+fn copy_members<T: Copied>(alloc: Global, members: &[T]) -> Result<Vec<T>, NoMemory>
     ensures { IfOk result (λ made. made.items ≡ members.now) }
 {
     let mut made = Vec::with_capacity(alloc, members.len())?;

@@ -1,6 +1,6 @@
 //! The prefixes of an element's namespaces, numbered by first occurrence.
 ghost use Rattle.std.specs.Prelude.{◌≡◌, ◌≢◌, ◌↔◌, ◌∷◌, [], ◌++◌, None, IfOk, OnOk, IsTrue, is_some};
-ghost use Rattle.std.specs.Fmt.{decimal};
+ghost use Rattle.ifmap_lemmas.specs.Numerals.{numeral};
 ghost use Rattle.std.specs.Map.{lookup};
 ghost use Rattle.std.specs.Option.{option_copied};
 ghost use Rattle.std.specs.Str.{bytes_eq};
@@ -15,7 +15,7 @@ use std::marker::Model;
 
 const XML_SPACE: &str = "http://www.w3.org/XML/1998/namespace";
 
-/// The namespaces that were met, in order, and the prefix of each.
+// The namespaces that were met, in order, and the prefix of each.
 #[derive(Drop)]
 pub(crate) struct Prefixes {
     order: Vec<Text>,
@@ -50,7 +50,7 @@ impl Prefixes {
         Ok(Prefixes { order, labels })
     }
 
-    /// The prefix of a namespace, where it has one.
+    // The prefix of a namespace, where it has one.
     pub(crate) fn of_space(&self, space: &Text) -> Option<&Text>
         ensures { option_copied result ≡ lookup (bytes_eq space.now) (name_prefixes self.now) }
     {
@@ -67,7 +67,7 @@ impl Prefixes {
         self.labels.contains_key(space)
     }
 
-    /// The namespaces, in the order of their numbers.
+    // The namespaces, in the order of their numbers.
     pub(crate) fn spaces(&self) -> &[Text]
         ensures all { result.now ≡ self.now }
         ensures none_bare { lookup (bytes_eq []) (name_prefixes self.now) ≡ None }
@@ -75,7 +75,7 @@ impl Prefixes {
         &self.order
     }
 
-    /// Numbers a namespace, unless it has a prefix or is the lack of one.
+    // Numbers a namespace, unless it has a prefix or is the lack of one.
     pub(crate) fn add(&mut self, alloc: Global, space: &Text) -> Result<(), NoMemory>
         ensures added { OnOk result (AddsSpaces self.old (space.now ∷ []) self.new) }
         ensures behind { OnOk result (IsFront self.old self.new) }
@@ -103,14 +103,14 @@ impl Prefixes {
     }
 }
 
-/// The prefix of this letter and number.
+// The prefix of this letter and number.
 pub(crate) fn numbered_prefix(alloc: Global, letter: &str, number: usize) -> Result<Text, NoMemory>
-    ensures { IfOk result (λ made. made ≡ letter.now ++ decimal number) }
+    ensures { IfOk result (λ made. made ≡ letter.now ++ numeral number) }
 {
     Ok(Text(format!(in alloc; "{letter}{number}")?))
 }
 
-/// Whether this is the lack of a namespace.
+// Whether this is the lack of a namespace.
 fn is_none(space: &Text) -> bool
     ensures { IsTrue result ↔ (space.now ≡ []) }
 {

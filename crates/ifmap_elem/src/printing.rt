@@ -2,18 +2,18 @@
 ghost use Rattle.std.specs.Prelude.{◌≡◌, ◌++◌, ◌+◌, ◌∷◌, [], map, IfOk, OnOk};
 ghost use Rattle.std.specs.List.{AllByRecursion, flat_map};
 ghost use Rattle.std.specs.Option.{option_copied};
-ghost use Rattle.ifmap_elem.specs.Arranged.{arranged, arranged_child, sorted};
+ghost use Rattle.ifmap_elem.specs.Arranged.{arrange, arrange_child, sort_attributes};
 ghost use Rattle.ifmap_elem.specs.Fit.{IsDeclarable, IsFit};
-ghost use Rattle.ifmap_elem.specs.Namespaces.{prefix_rows, spaces_of, spaces_of_child};
+ghost use Rattle.ifmap_elem.specs.Namespaces.{numbered_prefixes, spaces_of, spaces_of_child};
 ghost use Rattle.ifmap_elem.specs.printer.Pieces.{Adds, IsNumbered};
-ghost use Rattle.ifmap_elem.specs.Spells.{SpelledBy};
-ghost use Rattle.ifmap_elem.specs.Canonical.{AreHeld, canonical_bytes, written_bytes, printed_name, element_bytes, child_bytes, after_prefix, attribute_bytes, declaration_bytes, content_bytes};
+ghost use Rattle.ifmap_elem.specs.Spells.{Spells};
+ghost use Rattle.ifmap_elem.specs.Canonical.{canonical_bytes, canonical_reading, written_bytes, written_reading, printed_name, element_bytes, child_bytes, after_prefix, attribute_bytes, declaration_bytes, after_attributes_bytes};
 
 use crate::elements::{Attribute, Child, Element, Name};
 use crate::escaping::{Place, write_escaped};
 use crate::lists::Many;
 use crate::numbering::{Prefixes, numbered_prefix};
-use crate::sorting::{are_sorted, sorted_attributes};
+use crate::sorting::{are_sorted, attributes_in_order};
 use crate::texts::Text;
 use std::alloc::{AllocError as NoMemory, Global};
 
@@ -21,23 +21,22 @@ use std::alloc::{AllocError as NoMemory, Global};
 /// sent. The one error is want of memory.
 pub fn canonical(alloc: Global, element: &Element) -> Result<Many<u8>, NoMemory>
     ensures bytes { IfOk result (λ bytes. bytes ≡ canonical_bytes element.now) }
-    ensures spelled { IsFit element.now → IfOk result (λ bytes. SpelledBy bytes (arranged element.now)) }
+    ensures spelled { IsFit element.now → IfOk result (λ bytes. Spells bytes (canonical_reading element.now)) }
 {
-    printed(alloc, element, &[])
+    print_root(alloc, element, &[])
 }
 
 /// The canonical bytes with declarations of the prefixes `f1`, `f2` and so on for these namespaces
 /// at the root, behind the element's own. The one error is want of memory.
 pub fn written(alloc: Global, element: &Element, spaces: &Many<Text>) -> Result<Many<u8>, NoMemory>
     ensures bytes { IfOk result (λ bytes. bytes ≡ written_bytes element.now spaces.now) }
-    ensures spelled { IsFit element.now → AllByRecursion IsDeclarable spaces.now → IfOk result (λ bytes. SpelledBy bytes (arranged element.now)) }
+    ensures spelled { IsFit element.now → AllByRecursion IsDeclarable spaces.now → IfOk result (λ bytes. Spells bytes (written_reading element.now spaces.now)) }
 {
-    printed(alloc, element, &spaces.0)
+    print_root(alloc, element, &spaces.0)
 }
 
-fn printed(alloc: Global, element: &Element, spaces: &[Text]) -> Result<Many<u8>, NoMemory>
-    ensures bytes { IfOk result (λ bytes. bytes ≡ written_bytes element.now spaces.now) }
-    ensures held { IfOk result AreHeld }
+fn print_root(alloc: Global, element: &Element, spaces: &[Text]) -> Result<Many<u8>, NoMemory>
+    ensures { IfOk result (λ bytes. bytes ≡ written_bytes element.now spaces.now) }
 {
     let mut prefixes = Prefixes::new(alloc)?;
     let name = &element.name;
@@ -61,7 +60,7 @@ fn write_element(
     element: &Element,
     out: &mut Vec<u8>,
 ) -> Result<(), NoMemory>
-    ensures { OnOk result (Adds prefixes.old (spaces_of (arranged element.now)) prefixes.new (λ rows. element_bytes rows (arranged element.now)) out.old.items out.new.items) }
+    ensures { OnOk result (Adds prefixes.old (spaces_of (arrange element.now)) prefixes.new (λ rows. element_bytes rows (arrange element.now)) out.old.items out.new.items) }
 {
     out.extend_from_slice(b"<")?;
     write_new_name(alloc, prefixes, &element.name, out)?;
@@ -70,7 +69,7 @@ fn write_element(
     Ok(())
 }
 
-/// What follows the attributes of an element of this name, whose namespace is numbered.
+// What follows the attributes of an element of this name, whose namespace is numbered.
 #[cycle(printing)]
 fn write_content(
     alloc: Global,
@@ -79,7 +78,7 @@ fn write_content(
     children: &Many<Child>,
     out: &mut Vec<u8>,
 ) -> Result<(), NoMemory>
-    ensures { OnOk result (IsNumbered prefixes.old name.now.space → Adds prefixes.old (flat_map (λ c. spaces_of_child (arranged_child c)) children.now) prefixes.new (λ rows. content_bytes (printed_name rows name.now) (map (λ c. child_bytes rows (arranged_child c)) children.now)) out.old.items out.new.items) }
+    ensures { OnOk result (IsNumbered prefixes.old name.now.space → Adds prefixes.old (flat_map (λ c. spaces_of_child (arrange_child c)) children.now) prefixes.new (λ rows. after_attributes_bytes (printed_name rows name.now) (map (λ c. child_bytes rows (arrange_child c)) children.now)) out.old.items out.new.items) }
 {
     if children.0.is_empty() {
         out.extend_from_slice(b"/>")?;
@@ -102,7 +101,7 @@ fn write_child(
     child: &Child,
     out: &mut Vec<u8>,
 ) -> Result<(), NoMemory>
-    ensures { OnOk result (Adds prefixes.old (spaces_of_child (arranged_child child.now)) prefixes.new (λ rows. child_bytes rows (arranged_child child.now)) out.old.items out.new.items) }
+    ensures { OnOk result (Adds prefixes.old (spaces_of_child (arrange_child child.now)) prefixes.new (λ rows. child_bytes rows (arrange_child child.now)) out.old.items out.new.items) }
 {
     match child {
         Child::Element(element) => {
@@ -122,19 +121,19 @@ fn write_attributes(
     attributes: &Many<Attribute>,
     out: &mut Vec<u8>,
 ) -> Result<(), NoMemory>
-    ensures { OnOk result (Adds prefixes.old (map (λ a. a.name.space) (sorted attributes.now)) prefixes.new (λ rows. flat_map (attribute_bytes rows) (sorted attributes.now)) out.old.items out.new.items) }
+    ensures { OnOk result (Adds prefixes.old (map (λ a. a.name.space) (sort_attributes attributes.now)) prefixes.new (λ rows. flat_map (attribute_bytes rows) (sort_attributes attributes.now)) out.old.items out.new.items) }
 {
     if are_sorted(&attributes.0) {
         return write_each(alloc, prefixes, &attributes.0, out);
     }
-    let order = sorted_attributes(alloc, attributes)?;
+    let order = attributes_in_order(alloc, attributes)?;
     for attribute in &order {
         write_attribute(alloc, prefixes, *attribute, out)?;
     }
     Ok(())
 }
 
-/// Writes attributes in the order in which they stand.
+// Writes attributes in the order in which they stand.
 fn write_each(
     alloc: Global,
     prefixes: &mut Prefixes,
@@ -166,7 +165,7 @@ fn write_attribute(
     Ok(())
 }
 
-/// Writes a name whose namespace is numbered if it is new.
+// Writes a name whose namespace is numbered if it is new.
 #[inline(always)]
 fn write_new_name(
     alloc: Global,
@@ -194,14 +193,14 @@ fn write_name(prefix: Option<&Text>, local: &Text, out: &mut Vec<u8>) -> Result<
     Ok(())
 }
 
-/// Declares a prefix of this letter and a number, counted from 1, for each namespace.
+// Declares a prefix of this letter and a number, counted from 1, for each namespace.
 fn write_declarations(
     alloc: Global,
     letter: &str,
     spaces: &[Text],
     out: &mut Vec<u8>,
 ) -> Result<(), NoMemory>
-    ensures { OnOk result (out.new.items ≡ out.old.items ++ flat_map declaration_bytes (prefix_rows letter.now 1 spaces.now)) }
+    ensures { OnOk result (out.new.items ≡ out.old.items ++ flat_map declaration_bytes (numbered_prefixes letter.now 1 spaces.now)) }
 {
     for (i, space) in spaces.iter().enumerate() {
         let prefix = numbered_prefix(alloc, letter, i + 1)?;

@@ -1,25 +1,25 @@
 //! Attributes in the order in which they are printed.
 ghost use Rattle.std.specs.Prelude.{◌≡◌, IfOk, map};
 ghost use Rattle.std.specs.Bool.{OnTrue};
-ghost use Rattle.ifmap_elem.specs.Arranged.{sorted};
+ghost use Rattle.ifmap_elem.specs.Arranged.{sort_attributes};
 
 use crate::elements::Attribute;
 use crate::lists::Many;
 use std::alloc::{AllocError as NoMemory, Global};
 
-/// Whether the attributes stand in order.
+// Whether the attributes stand in order.
 pub(crate) fn are_sorted(attributes: &[Attribute]) -> bool
-    ensures { OnTrue result (sorted attributes.now ≡ attributes.now) }
+    ensures { OnTrue result (sort_attributes attributes.now ≡ attributes.now) }
 {
     attributes.is_sorted()
 }
 
-/// References to the attributes, by name and then by value.
-pub(crate) fn sorted_attributes(
+// References to the attributes, by name and then by value.
+pub(crate) fn attributes_in_order(
     alloc: Global,
     attributes: &Many<Attribute>,
 ) -> Result<Vec<&Attribute>, NoMemory>
-    ensures { IfOk result (λ order. map (λ a. a.now) order.items ≡ sorted attributes.now) }
+    ensures { IfOk result (λ order. map (λ a. a.now) order.items ≡ sort_attributes attributes.now) }
 {
     let mut order = Vec::with_capacity(alloc, attributes.0.len())?;
     for attribute in &attributes.0 {

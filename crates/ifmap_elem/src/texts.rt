@@ -1,5 +1,5 @@
 //! Text.
-ghost use Rattle.std.specs.Prelude.{◌==◌, string_bytes};
+ghost use Rattle.std.specs.Prelude.{◌≡◌, ◌↔◌, ◌==◌, [], length, IsTrue, string_bytes};
 ghost use Rattle.std.specs.Cmp.{partial_order_from_own_ties};
 ghost use Rattle.std.specs.Cmp.Lexicographic.{pointwise, slice_cmp};
 ghost use Rattle.std.specs.Cmp.Rules.{comparing};
@@ -7,7 +7,7 @@ ghost use Rattle.std.specs.Ordering.{nat_cmp, as_partial_cmp};
 ghost use Rattle.std.proofs.Common.{rules};
 
 use crate::copying::Copied;
-use std::alloc::{AllocError, Global};
+use std::alloc::{AllocError as NoMemory, Global};
 use std::cmp::Ordering;
 use std::marker::Model;
 
@@ -23,8 +23,38 @@ impl Model for Text {
     ghost view = { λ text. string_bytes text.0 };
 }
 
+impl Text {
+    /// The characters.
+    pub fn as_str(&self) -> &str
+        ensures { result.now ≡ self.now }
+    {
+        self.0.as_str()
+    }
+
+    /// The bytes of the characters in UTF-8.
+    pub fn as_bytes(&self) -> &[u8]
+        ensures { result.now ≡ self.now }
+    {
+        self.0.as_bytes()
+    }
+
+    /// How many bytes there are.
+    pub fn len(&self) -> usize
+        ensures { result ≡ length self.now }
+    {
+        self.0.len()
+    }
+
+    /// Whether there are none.
+    pub fn is_empty(&self) -> bool
+        ensures { IsTrue result ↔ (self.now ≡ []) }
+    {
+        self.0.as_bytes().is_empty()
+    }
+}
+
 impl Copied for Text {
-    fn copy(&self, alloc: Global) -> Result<Self, AllocError> {
+    fn copy(&self, alloc: Global) -> Result<Self, NoMemory> {
         Ok(Text(String::from_str(alloc, self.0.as_str())?))
     }
 }

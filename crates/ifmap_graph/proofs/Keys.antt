@@ -7,7 +7,7 @@ use Rattle.std.specs.Cmp.{IsEquivalence, IsTotalOrder, bool_eq_equiv}
 use Rattle.std.specs.Cmp.Lexicographic.{lists_ties}
 use Rattle.std.specs.Ordering.{is_eq}
 use Rattle.std.specs.Str.{bytes_eq}
-use Rattle.std.proofs.Math.Bool.{beq}
+use Rattle.std.proofs.Math.Bool.{beq, or-true}
 use Rattle.ifmap_elem.specs.declared.elements.Element.{Element}
 use Rattle.ifmap_ident.specs.declared.identifiers.Identifier.{Identifier}
 use Rattle.ifmap_ident.specs.declared.items.Item.{Item}
@@ -39,23 +39,20 @@ pub attachments_total : IsTotalOrder attachment_order
 attachments_total = then_total (on_total (λ (a : Attachment). a.item) items_total) (on_total stored_bytes nat_list_cmp_total)
 
 -- two equivalences, of which the second counts only where a test fails that the first does not see
-module _ {X : Type 0} (T R : X → X → Bool) (S : X → Bool) (t : IsEquivalence T) (r : IsEquivalence R) (agree : (x y : X) → T x y ≡ true → S x ≡ S y) where
-  or_true : (b : Bool) → (b || true) ≡ true
-  or_true true = refl
-  or_true false = refl
+module _ {X : Type 0} (T R : X → X → Bool) (S : X → Bool) (t : IsEquivalence T) (r : IsEquivalence R) (agree : (x y : X) → T x y ≡ true
+    → S x ≡ S y) where
+  guarded_refl : (x : X) → (T x x && (S x || R x x)) ≡ true
+  guarded_refl x = rw (t.refl x, r.refl x) (or-true (S x))
 
-  chosen_refl : (x : X) → (T x x && (S x || R x x)) ≡ true
-  chosen_refl x = rw (t.refl x, r.refl x) (or_true (S x))
-
-  chosen_symm : (x y : X) → (T x y && (S x || R x y)) ≡ (T y x && (S y || R y x))
-  chosen_symm x y =
+  guarded_symm : (x y : X) → (T x y && (S x || R x y)) ≡ (T y x && (S y || R y x))
+  guarded_symm x y =
       elim (cases_Bool (T x y)) [
         | inl same ↦ rw (← t.symm x y, same, agree x y same, r.symm x y) refl
         | inr differ ↦ rw (← t.symm x y, differ) refl
       ]
 
-  chosen_congr : (x y z : X) → (T x y && (S x || R x y)) ≡ true → (T x z && (S x || R x z)) ≡ (T y z && (S y || R y z))
-  chosen_congr x y z h =
+  guarded_congr : (x y z : X) → (T x y && (S x || R x y)) ≡ true → (T x z && (S x || R x z)) ≡ (T y z && (S y || R y z))
+  guarded_congr x y z h =
       elim (cases_Bool (T x y)) [
         | inl same ↦
             elim (cases_Bool (S x)) [
@@ -67,12 +64,13 @@ module _ {X : Type 0} (T R : X → X → Bool) (S : X → Bool) (t : IsEquivalen
         | inr differ ↦ let bad : false ≡ true = rw differ at h in cc
       ]
 
-  pub chosen : IsEquivalence (λ x y. T x y && (S x || R x y))
-  chosen = record { refl = chosen_refl; symm = chosen_symm; congr = chosen_congr }
+  pub guarded_equiv : IsEquivalence (λ x y. T x y && (S x || R x y))
+  guarded_equiv = record { refl = guarded_refl; symm = guarded_symm; congr = guarded_congr }
 
 -- elements of one type
 types_equiv : IsEquivalence stored.same_type
-types_equiv = and_equiv (and_equiv (on_equiv (λ (e : Element). e.name.space) nat_list_eq_equiv) (on_equiv (λ (e : Element). e.name.local) nat_list_eq_equiv)) (on_equiv is_single bool_eq_equiv)
+types_equiv = and_equiv (and_equiv (on_equiv (λ (e : Element). e.name.space) nat_list_eq_equiv)
+    (on_equiv (λ (e : Element). e.name.local) nat_list_eq_equiv)) (on_equiv is_single bool_eq_equiv)
 
 beq_same : (a b : Bool) → beq a b ≡ true → a ≡ b
 beq_same true true e = refl
@@ -85,9 +83,12 @@ one_cardinality a b e = beq_same (is_single a) (is_single b) (and_parts _ _ e).1
 
 stored_equiv : IsEquivalence stored.same_key
 stored_equiv =
-    chosen (λ (a : Stored) (b : Stored). stored.same_type a.element b.element) (λ (a : Stored) (b : Stored). bytes_eq a.publisher b.publisher && bytes_eq (stored.content_bytes a.element) (stored.content_bytes b.element)) (λ (a : Stored). is_single a.element)
+    guarded_equiv (λ (a : Stored) (b : Stored). stored.same_type a.element b.element)
+    (λ (a : Stored) (b : Stored). bytes_eq a.publisher b.publisher && bytes_eq (stored.content_bytes a.element)
+    (stored.content_bytes b.element)) (λ (a : Stored). is_single a.element)
     (on_equiv (λ (a : Stored). a.element) types_equiv)
-    (and_equiv (on_equiv (λ (a : Stored). a.publisher) nat_list_eq_equiv) (on_equiv (λ (a : Stored). stored.content_bytes a.element) nat_list_eq_equiv))
+    (and_equiv (on_equiv (λ (a : Stored). a.publisher) nat_list_eq_equiv)
+    (on_equiv (λ (a : Stored). stored.content_bytes a.element) nat_list_eq_equiv))
     (λ a b e. one_cardinality a.element b.element e)
 
 pub keys_equiv : IsEquivalence same_key

@@ -10,82 +10,43 @@ use Rattle.std.specs.List.{AllByRecursion, AllWithin, IsDistinct, filter, insert
 use Rattle.std.specs.List.Sorted.{IsBinarySearchResult, IsPartitionPoint, IsSearchInRange, IsSortedBy, IsStrictlySortedBy}
 use Rattle.std.specs.Ordering.{is_gt, is_lt, ordering_reverse}
 use Rattle.std.specs.declared.cmp.Ordering.TheVariants.{Less, Equal, Greater}
+use Rattle.ifmap_lemmas.specs.Filters.{all_around, all_at, all_filter, all_weaker, filter_all, filter_none, filter_passes}
+use Rattle.ifmap_lemmas.specs.Orderings.{is_greater, is_less}
 use Rattle.ifmap_graph.specs.Placing.{put}
 
 module _ {X : Type 0} where
-  pub all_weaker : (P Q : X → Type 0) → ((x : X) → P x → Q x) → (xs : List X) → AllByRecursion P xs → AllByRecursion Q xs
-  all_weaker P Q f [] h = tt
-  all_weaker P Q f (x ∷ xs) h = (f x h.0, all_weaker P Q f xs h.1)
-
-  pub all_filter : (P : X → Type 0) (p : X → Bool) (xs : List X) → AllByRecursion P xs → AllByRecursion P (filter p xs)
-  all_filter P p [] h = tt
-  all_filter P p (x ∷ xs) h =
-      elim (p x) as (λ b. AllByRecursion P (cond b (x ∷ filter p xs) (filter p xs))) [ true ↦ (h.0, all_filter P p xs h.1) | false ↦ all_filter P p xs h.1 ]
-
-  pub all_around : (P : X → Type 0) (xs : List X) (y : X) (zs : List X) → AllByRecursion P xs → P y → AllByRecursion P zs → AllByRecursion P (xs ++ y ∷ zs)
-  all_around P [] y zs h k l = (k, l)
-  all_around P (x ∷ xs) y zs h k l = (h.0, all_around P xs y zs h.1 k l)
-
-  pub all_at : (P : X → Type 0) (xs : List X) (i : ℕ) (d : X) → AllByRecursion P xs → i < length xs → P (get_or xs i d)
-  all_at P xs i d h lt = All-from_recursion P xs h i d lt
-
-  -- what a filter leaves passes
-  pub filter_passes : (p : X → Bool) (xs : List X) → AllByRecursion (λ x. p x ≡ true) (filter p xs)
-  filter_passes p [] = tt
-  filter_passes p (x ∷ xs) =
-      elim (cases_Bool (p x)) [ inl hit ↦ rw hit (hit, filter_passes p xs) | inr miss ↦ rw miss (filter_passes p xs) ]
-
-  pub filter_all : (p : X → Bool) (xs : List X) → AllByRecursion (λ x. p x ≡ true) xs → filter p xs ≡ xs
-  filter_all p [] h = refl
-  filter_all p (x ∷ xs) h = rw h.0 (ap (λ t. x ∷ t) (filter_all p xs h.1))
-
-  pub filter_none : (p : X → Bool) (xs : List X) → AllByRecursion (λ x. p x ≡ false) xs → filter p xs ≡ []
-  filter_none p [] h = refl
-  filter_none p (x ∷ xs) h = rw h.0 (filter_none p xs h.1)
-
-  pub distinct_filter : (E : X → X → Bool) (p : X → Bool) (xs : List X) → IsDistinct E xs → IsDistinct E (filter p xs)
-  unfolding IsDistinct
-  distinct_filter E p [] h = tt
-  distinct_filter E p (x ∷ xs) h =
-      elim (p x) as (λ b. IsDistinct E (cond b (x ∷ filter p xs) (filter p xs))) [
-        | true ↦ (all_filter (λ y. E x y ≡ false) p xs h.0, distinct_filter E p xs h.1)
-        | false ↦ distinct_filter E p xs h.1
-      ]
-
-  filter_front : (p : X → Bool) (xs : List X) (n : ℕ) → n ≤ length xs → AllWithin (λ y. p y ≡ true) xs 0 n → AllWithin (λ y. p y ≡ false) xs n (length xs) → take n xs ≡ filter p xs
+  -- where the members that pass stand first
+  filter_front : (p : X → Bool) (xs : List X) (n : ℕ) → n ≤ length xs → AllWithin (λ y. p y ≡ true) xs 0 n
+      → AllWithin (λ y. p y ≡ false) xs n (length xs) → take n xs ≡ filter p xs
   filter_front p [] zero le within after = refl
   filter_front p [] (suc n) le within after = refl
   filter_front p (x ∷ xs) zero le within after =
       sym (filter_none p (x ∷ xs) (recursion_from_All (λ y. p y ≡ false) (x ∷ xs) (λ j d h. after j d (omega arith) h)))
   filter_front p (x ∷ xs) (suc n) le within after =
       rw (within 0 x (omega arith) (omega arith))
-      (ap (λ t. x ∷ t) (filter_front p xs n (omega arith) (λ k d low h. within (suc k) d (omega arith) (omega arith)) (λ k d low h. after (suc k) d (omega arith) (omega arith))))
+      (ap (λ t. x ∷ t) (filter_front p xs n (omega arith) (λ k d low h. within (suc k) d (omega arith) (omega arith))
+      (λ k d low h. after (suc k) d (omega arith) (omega arith))))
 
   -- where the members that pass stand side by side
-  pub filter_range : (p : X → Bool) (xs : List X) (s n : ℕ) → s + n ≤ length xs → AllWithin (λ y. p y ≡ false) xs 0 s → AllWithin (λ y. p y ≡ true) xs s (s + n) → AllWithin (λ y. p y ≡ false) xs (s + n) (length xs) → take n (drop s xs) ≡ filter p xs
-  filter_range p xs zero n le before within after = filter_front p xs n (omega arith) (λ k d low h. within k d low (omega arith)) (λ k d low h. after k d (omega arith) h)
+  pub filter_range : (p : X → Bool) (xs : List X) (s n : ℕ) → s + n ≤ length xs → AllWithin (λ y. p y ≡ false) xs 0 s
+      → AllWithin (λ y. p y ≡ true) xs s (s + n) → AllWithin (λ y. p y ≡ false) xs (s + n) (length xs) → take n (drop s xs) ≡ filter p xs
+  filter_range p xs zero n le before within after = filter_front p xs n (omega arith) (λ k d low h. within k d low (omega arith))
+      (λ k d low h. after k d (omega arith) h)
   filter_range p [] (suc s) n le before within after = absurd (omega arith)
   filter_range p (x ∷ xs) (suc s) n le before within after =
       rw (before 0 x (omega arith) (omega arith))
-      (filter_range p xs s n (omega arith) (λ k d low h. before (suc k) d (omega arith) (omega arith)) (λ k d low h. within (suc k) d (omega arith) (omega arith)) (λ k d low h. after (suc k) d (omega arith) (omega arith)))
-
-pub is_less : (r : Ordering) → is_lt r ≡ true → r ≡ Less
-is_less Less e = refl
-is_less Equal e = cc
-is_less Greater e = cc
-
-is_greater : (r : Ordering) → is_gt r ≡ true → r ≡ Greater
-is_greater Less e = cc
-is_greater Equal e = cc
-is_greater Greater e = refl
+      (filter_range p xs s n (omega arith) (λ k d low h. before (suc k) d (omega arith) (omega arith))
+      (λ k d low h. within (suc k) d (omega arith) (omega arith)) (λ k d low h. after (suc k) d (omega arith) (omega arith)))
 
 module _ (X : Type 0) (E : X → X → Bool) (e : IsEquivalence E) where
   -- those that follow one of a key have other keys
-  later_differ : (a x : X) (xs : List X) → E a x ≡ true → AllByRecursion (λ y. E x y ≡ false) xs → AllByRecursion (λ y. not (E a y) ≡ true) xs
+  later_differ : (a x : X) (xs : List X) → E a x ≡ true → AllByRecursion (λ y. E x y ≡ false) xs
+      → AllByRecursion (λ y. not (E a y) ≡ true) xs
   later_differ a x xs is h = all_weaker (λ y. E x y ≡ false) (λ y. not (E a y) ≡ true) (λ y n. ap not (e.congr a x y is ∙ n)) xs h
 
   -- where keys are distinct, taking out one of a key leaves those of other keys
-  pub remove_one : (a : X) (xs : List X) (i : ℕ) → IsDistinct E xs → i < length xs → ((d : X) → E a (get_or xs i d) ≡ true) → remove xs i ≡ filter (λ y. not (E a y)) xs
+  pub remove_one : (a : X) (xs : List X) (i : ℕ) → IsDistinct E xs → i < length xs → ((d : X) → E a (get_or xs i d) ≡ true)
+      → remove xs i ≡ filter (λ y. not (E a y)) xs
   unfolding IsDistinct
   remove_one a [] i apart lt is = absurd (omega arith)
   remove_one a (x ∷ xs) zero apart lt is = rw (is x) (sym (filter_all (λ y. not (E a y)) xs (later_differ a x xs (is x) apart.0)))
@@ -102,8 +63,10 @@ module _ (X : Type 0) (C : X → X → Ordering) (o : IsTotalOrder C) where
   flipped_back a b e = o.antisymm b a ∙ ap ordering_reverse e
 
   -- all that follow one that is not less are greater
-  greater_next : (a x : X) (xs : List X) → C x a ≡ Greater → AllByRecursion (λ y. C x y ≡ Less) xs → AllByRecursion (λ y. C y a ≡ Greater) xs
-  greater_next a x xs h up = all_weaker (λ y. C x y ≡ Less) (λ y. C y a ≡ Greater) (λ y l. flipped a y (o.trans a x y (flipped_back x a h) l)) xs up
+  greater_next : (a x : X) (xs : List X) → C x a ≡ Greater → AllByRecursion (λ y. C x y ≡ Less) xs
+      → AllByRecursion (λ y. C y a ≡ Greater) xs
+  greater_next a x xs h up = all_weaker (λ y. C x y ≡ Less) (λ y. C y a ≡ Greater)
+      (λ y l. flipped a y (o.trans a x y (flipped_back x a h) l)) xs up
 
   greater_after : (a x : X) (xs : List X) → C x a ≡ Equal → AllByRecursion (λ y. C x y ≡ Less) xs → AllByRecursion (λ y. C y a ≡ Greater) xs
   greater_after a x xs h up = all_weaker (λ y. C x y ≡ Less) (λ y. C y a ≡ Greater) (λ y l. flipped a y (sym (o.congr x a y h) ∙ l)) xs up
@@ -111,7 +74,10 @@ module _ (X : Type 0) (C : X → X → Ordering) (o : IsTotalOrder C) where
   -- where all are greater, it goes in front
   put_front : (a : X) (xs : List X) → AllByRecursion (λ y. C y a ≡ Greater) xs → put C a xs ≡ a ∷ xs
   put_front a xs h =
-      rw (filter_none (λ y. is_lt (C y a)) xs (all_weaker (λ y. C y a ≡ Greater) (λ y. is_lt (C y a) ≡ false) (λ y g. ap is_lt g) xs h), filter_all (λ y. is_gt (C y a)) xs (all_weaker (λ y. C y a ≡ Greater) (λ y. is_gt (C y a) ≡ true) (λ y g. ap is_gt g) xs h)) refl
+      rw (
+        filter_none (λ y. is_lt (C y a)) xs (all_weaker (λ y. C y a ≡ Greater) (λ y. is_lt (C y a) ≡ false) (λ y g. ap is_lt g) xs h),
+        filter_all (λ y. is_gt (C y a)) xs (all_weaker (λ y. C y a ≡ Greater) (λ y. is_gt (C y a) ≡ true) (λ y g. ap is_gt g) xs h),
+      ) refl
 
   put_less : (a x : X) (xs : List X) → C x a ≡ Less → put C a (x ∷ xs) ≡ x ∷ put C a xs
   put_less a x xs h = rw h refl
@@ -120,7 +86,8 @@ module _ (X : Type 0) (C : X → X → Ordering) (o : IsTotalOrder C) where
   put_equal a x xs h = rw h refl
 
   -- where a search ends at one that is equal, it is put there
-  pub set_is_put : (a : X) (xs : List X) (i : ℕ) → IsStrictlySortedBy C xs → i < length xs → ((d : X) → C (get_or xs i d) a ≡ Equal) → set xs i a ≡ put C a xs
+  pub set_is_put : (a : X) (xs : List X) (i : ℕ) → IsStrictlySortedBy C xs → i < length xs → ((d : X) → C (get_or xs i d) a ≡ Equal)
+      → set xs i a ≡ put C a xs
   unfolding IsStrictlySortedBy
   set_is_put a [] i up lt is = absurd (omega arith)
   set_is_put a (x ∷ xs) zero up lt is = sym (put_equal a x xs (is x) ∙ put_front a xs (greater_after a x xs (is x) up.0))
@@ -129,15 +96,21 @@ module _ (X : Type 0) (C : X → X → Ordering) (o : IsTotalOrder C) where
       ap (λ t. x ∷ t) (set_is_put a xs i up.1 (omega arith) is) ∙ sym (put_less a x xs less)
 
   -- and where it ends between two, it goes in there
-  pub insert_is_put : (a : X) (xs : List X) (i : ℕ) → i ≤ length xs → IsPartitionPoint (λ y. C y a ≡ Less) (λ y. C y a ≡ Greater) xs i → insert xs i a ≡ put C a xs
+  pub insert_is_put : (a : X) (xs : List X) (i : ℕ) → i ≤ length xs → IsPartitionPoint (λ y. C y a ≡ Less) (λ y. C y a ≡ Greater) xs i
+      → insert xs i a ≡ put C a xs
   insert_is_put a [] zero le p = refl
   insert_is_put a [] (suc i) le p = refl
-  insert_is_put a (x ∷ xs) zero le p = sym (put_front a (x ∷ xs) (recursion_from_All (λ y. C y a ≡ Greater) (x ∷ xs) (λ j d h. p.1 j d (omega arith) h)))
+  insert_is_put a (x ∷ xs) zero le p = sym (put_front a (x ∷ xs) (recursion_from_All (λ y. C y a ≡ Greater) (x ∷ xs)
+      (λ j d h. p.1 j d (omega arith) h)))
   insert_is_put a (x ∷ xs) (suc i) le p =
-      ap (λ t. x ∷ t) (insert_is_put a xs i (omega arith) ((λ j d low h. p.0 (suc j) d (omega arith) (omega arith)), (λ j d low h. p.1 (suc j) d (omega arith) (omega arith))))
+      ap (λ t. x ∷ t) (insert_is_put a xs i (omega arith) (
+        (λ j d low h. p.0 (suc j) d (omega arith) (omega arith)),
+        (λ j d low h. p.1 (suc j) d (omega arith) (omega arith)),
+      ))
       ∙ sym (put_less a x xs (p.0 0 x (omega arith) (omega arith)))
 
-  rises_next : (xs : List X) → IsStrictlySortedBy C xs → (j : ℕ) (d : X) → suc j < length xs → is_lt (C (get_or xs (suc j) d) (get_or xs j d)) ≡ false
+  rises_next : (xs : List X) → IsStrictlySortedBy C xs → (j : ℕ) (d : X) → suc j < length xs
+      → is_lt (C (get_or xs (suc j) d) (get_or xs j d)) ≡ false
   unfolding IsStrictlySortedBy
   rises_next [] up j d lt = absurd (omega arith)
   rises_next (x ∷ xs) up zero d lt = ap is_lt (flipped x (get_or xs 0 d) (all_at (λ z. C x z ≡ Less) xs 0 d up.0 (omega arith)))
@@ -146,34 +119,45 @@ module _ (X : Type 0) (C : X → X → Ordering) (o : IsTotalOrder C) where
   rises : (xs : List X) → IsStrictlySortedBy C xs → IsSortedBy (λ a b. is_lt (C a b)) xs
   rises xs up j d low lt = rw (add-one j) (rises_next xs up j d (omega arith))
 
-  pub found_is_put : (a : X) (xs : List X) (i : ℕ) → IsStrictlySortedBy C xs → IsSearchInRange (Ok i) (length xs) → IsBinarySearchResult (λ y. C y a) xs (Ok i) → (i < length xs) × (set xs i a ≡ put C a xs)
+  pub found_is_put : (a : X) (xs : List X) (i : ℕ) → IsStrictlySortedBy C xs → IsSearchInRange (Ok i) (length xs)
+      → IsBinarySearchResult (λ y. C y a) xs (Ok i) → (i < length xs) × (set xs i a ≡ put C a xs)
   found_is_put a xs i up within is = (within, set_is_put a xs i up within is)
 
-  pub gap_is_put : (a : X) (xs : List X) (i : ℕ) → IsStrictlySortedBy C xs → IsSearchInRange (Err i) (length xs) → IsBinarySearchResult (λ y. C y a) xs (Err i) → (i ≤ length xs) × (insert xs i a ≡ put C a xs)
+  pub gap_is_put : (a : X) (xs : List X) (i : ℕ) → IsStrictlySortedBy C xs → IsSearchInRange (Err i) (length xs)
+      → IsBinarySearchResult (λ y. C y a) xs (Err i) → (i ≤ length xs) × (insert xs i a ≡ put C a xs)
   gap_is_put a xs i up within is = (within, insert_is_put a xs i within (is (searchable_from_sorted o (λ y. y) xs a (rises xs up))))
 
   -- a list stays in strict order
-  sorted_around : (xs : List X) (a : X) (zs : List X) → IsStrictlySortedBy C xs → IsStrictlySortedBy C zs → AllByRecursion (λ y. C y a ≡ Less) xs → AllByRecursion (λ y. C a y ≡ Less) zs → IsStrictlySortedBy C (xs ++ a ∷ zs)
+  sorted_around : (xs : List X) (a : X) (zs : List X) → IsStrictlySortedBy C xs → IsStrictlySortedBy C zs
+      → AllByRecursion (λ y. C y a ≡ Less) xs → AllByRecursion (λ y. C a y ≡ Less) zs → IsStrictlySortedBy C (xs ++ a ∷ zs)
   unfolding IsStrictlySortedBy
   sorted_around [] a zs up over below above = (above, over)
-  sorted_around (x ∷ xs) a zs up over below above =
-      (all_around (λ y. C x y ≡ Less) xs a zs up.0 below.0 (all_weaker (λ y. C a y ≡ Less) (λ y. C x y ≡ Less) (λ y l. o.trans x a y below.0 l) zs above), sorted_around xs a zs up.1 over below.1 above)
+  sorted_around (x ∷ xs) a zs up over below above = (
+    all_around (λ y. C x y ≡ Less) xs a zs up.0 below.0 (all_weaker (λ y. C a y ≡ Less) (λ y. C x y ≡ Less)
+        (λ y l. o.trans x a y below.0 l) zs above),
+    sorted_around xs a zs up.1 over below.1 above,
+  )
 
   pub put_sorted : (a : X) (xs : List X) → IsStrictlySortedBy C xs → IsStrictlySortedBy C (put C a xs)
   put_sorted a xs up =
       sorted_around (filter (λ y. is_lt (C y a)) xs) a (filter (λ y. is_gt (C y a)) xs)
       (IsStrictlySortedBy-filter C (λ y. is_lt (C y a)) xs up) (IsStrictlySortedBy-filter C (λ y. is_gt (C y a)) xs up)
       (all_weaker (λ y. is_lt (C y a) ≡ true) (λ y. C y a ≡ Less) (λ y h. is_less (C y a) h) _ (filter_passes (λ y. is_lt (C y a)) xs))
-      (all_weaker (λ y. is_gt (C y a) ≡ true) (λ y. C a y ≡ Less) (λ y h. flipped_back y a (is_greater (C y a) h)) _ (filter_passes (λ y. is_gt (C y a)) xs))
+      (all_weaker (λ y. is_gt (C y a) ≡ true) (λ y. C a y ≡ Less)
+      (λ y h. flipped_back y a (is_greater (C y a) h)) _ (filter_passes (λ y. is_gt (C y a)) xs))
 
   module _ (E : X → X → Bool) (e : IsEquivalence E) (a : X) where
     -- with the first member less than, equal to or greater than the one that is put in
-    distinct_at : (x : X) (xs : List X) (r : Ordering) → C x a ≡ r → AllByRecursion (λ y. C x y ≡ Less) xs → AllByRecursion (λ y. E x y ≡ false) xs → IsDistinct E xs → E a x ≡ false → AllByRecursion (λ y. E a y ≡ false) xs → IsDistinct E (put C a xs) → IsDistinct E (put C a (x ∷ xs))
+    distinct_at : (x : X) (xs : List X) (r : Ordering) → C x a ≡ r → AllByRecursion (λ y. C x y ≡ Less) xs
+        → AllByRecursion (λ y. E x y ≡ false) xs → IsDistinct E xs → E a x ≡ false → AllByRecursion (λ y. E a y ≡ false) xs
+        → IsDistinct E (put C a xs)
+        → IsDistinct E (put C a (x ∷ xs))
     unfolding IsDistinct
     distinct_at x xs Less is up others apart differs differ rest =
         subst (IsDistinct E) (sym (put_less a x xs is)) (
           all_around (λ y. E x y ≡ false) (filter (λ y. is_lt (C y a)) xs) a (filter (λ y. is_gt (C y a)) xs)
-              (all_filter (λ y. E x y ≡ false) (λ y. is_lt (C y a)) xs others) (e.symm x a ∙ differs) (all_filter (λ y. E x y ≡ false) (λ y. is_gt (C y a)) xs others),
+              (all_filter (λ y. E x y ≡ false) (λ y. is_lt (C y a)) xs others) (e.symm x a ∙ differs) (all_filter (λ y. E x y ≡ false)
+              (λ y. is_gt (C y a)) xs others),
           rest,
         )
     distinct_at x xs Equal is up others apart differs differ rest = subst (IsDistinct E) (sym (put_equal a x xs is)) rest
@@ -181,7 +165,9 @@ module _ (X : Type 0) (C : X → X → Ordering) (o : IsTotalOrder C) where
         subst (IsDistinct E) (sym (put_front a (x ∷ xs) (is, greater_next a x xs is up))) ((differs, differ), (others, apart))
 
     -- and its keys stay distinct where none is that of the new member
-    pub put_distinct : (xs : List X) → IsStrictlySortedBy C xs → IsDistinct E xs → AllByRecursion (λ y. E a y ≡ false) xs → IsDistinct E (put C a xs)
+    pub put_distinct : (xs : List X) → IsStrictlySortedBy C xs → IsDistinct E xs → AllByRecursion (λ y. E a y ≡ false) xs
+        → IsDistinct E (put C a xs)
     unfolding IsStrictlySortedBy IsDistinct
     put_distinct [] up apart differ = (tt, tt)
-    put_distinct (x ∷ xs) up apart differ = distinct_at x xs (C x a) refl up.0 apart.0 apart.1 differ.0 differ.1 (put_distinct xs up.1 apart.1 differ.1)
+    put_distinct (x ∷ xs) up apart differ = distinct_at x xs (C x a) refl up.0 apart.0 apart.1 differ.0 differ.1
+        (put_distinct xs up.1 apart.1 differ.1)

@@ -10,7 +10,7 @@ use Rattle.ifmap_graph.specs.Placing.{put}
 
 -- the attachments in their order, and for how many more there is room
 pub record Holding : Type 0 where
-  pub rows : List Attachment
+  pub attachments : List Attachment
   pub room : ℕ
 
 -- what holds of every graph: it rises strictly, and no two attachments have one key
@@ -23,8 +23,8 @@ abbrev pub without_key : Attachment → List Attachment → List Attachment
 without_key a graph = filter (λ b. not (same_key a b)) graph
 
 -- with this attachment in its place, instead of the one with its key
-abbrev pub attached : List Attachment → Attachment → List Attachment
-attached graph a = put attachment_order a (without_key a graph)
+abbrev pub attach : List Attachment → Attachment → List Attachment
+attach graph a = put attachment_order a (without_key a graph)
 
 -- without the attachments that end with the session of that serial
 abbrev pub retract : ℕ → List Attachment → List Attachment

@@ -15,7 +15,7 @@ pub record IsRangeOn (item : Item) (graph : List Attachment) (start end : ℕ) :
   pub within : end ≤ length graph
   pub before : AllWithin (λ a. same_item a.item item ≡ false) graph 0 start
   pub among : AllWithin (λ a. same_item a.item item ≡ true) graph start end
-  pub behind : AllWithin (λ a. same_item a.item item ≡ false) graph end (length graph)
+  pub after : AllWithin (λ a. same_item a.item item ≡ false) graph end (length graph)
 
 -- the one attachment of a key stands there, or none has it
 abbrev pub IsPlaceOfKey : Attachment → List Attachment → Option ℕ → Type 0

@@ -2,11 +2,11 @@
 ghost use Rattle.std.specs.Prelude.{◌≡◌, ◌+◌, ◌<◌, ◌≤◌, [], OnOk, vec_capacity, vec_len};
 ghost use Rattle.std.specs.List.Sorted.{IsStrictlySortedBy};
 ghost use Rattle.ifmap_graph.specs.Attachments.{attachment_order};
-ghost use Rattle.ifmap_graph.specs.Graph.{IsGraph, attached, on_item, retract, without_key};
+ghost use Rattle.ifmap_graph.specs.Graph.{IsGraph, attach, on_item, retract, without_key};
 ghost use Rattle.ifmap_graph.specs.Places.{IsPlaceFor, IsPlaceOfKey, IsRangeOn};
 ghost use Rattle.ifmap_graph.specs.Placing.{put};
 
-use crate::rows::Row;
+use crate::kept_attachments::KeptAttachment;
 use ifmap_ident::Item;
 use std::alloc::{AllocError as NoMemory, Global};
 use std::marker::Model;
@@ -15,7 +15,7 @@ use std::ops::Range;
 /// The attachments that are there. It is changed without memory, where room was made before.
 #[derive(Drop)]
 pub struct Graph {
-    rows: Vec<Row>,
+    attachments: Vec<KeptAttachment>,
 }
 
 impl Model for Graph {
@@ -28,78 +28,81 @@ impl Model for Graph {
 
     ghost coded = { Prim.hlevel (codes, the_attachment.the_row.coded) };
 
-    ghost view = { λ graph. record { rows = graph.rows.items; room = vec_capacity graph.rows - vec_len graph.rows } };
+    ghost view = { λ graph. record {
+      attachments = graph.attachments.items;
+      room = vec_capacity graph.attachments - vec_len graph.attachments;
+    } };
 
-    ghost invariant = { λ graph. IsGraph graph.rows.items };
+    ghost invariant = { λ graph. IsGraph graph.attachments.items };
 }
 
 impl Graph {
     /// Nothing yet. It takes no memory.
     pub fn new(alloc: Global) -> Graph
-        ensures { result.rows ≡ [] }
+        ensures { result.attachments ≡ [] }
     {
         Graph {
-            rows: Vec::new(alloc),
+            attachments: Vec::new(alloc),
         }
     }
 
     /// Makes room for `n` attachments more.
     pub fn reserve(&mut self, n: usize) -> Result<(), NoMemory>
         ensures room { OnOk result (n ≤ self.new.room) }
-        ensures rows { self.new.rows ≡ self.old.rows }
+        ensures attachments { self.new.attachments ≡ self.old.attachments }
         ensures kept { self.old.room ≤ self.new.room }
     {
-        self.rows.reserve(n)
+        self.attachments.reserve(n)
     }
 
     /// Puts an attachment in its place, instead of the one with its key. It takes no memory.
-    pub fn attach(&mut self, row: Row)
+    pub fn attach(&mut self, attachment: KeptAttachment)
         requires { 1 ≤ self.old.room }
-        ensures rows { self.new.rows ≡ attached self.old.rows row }
+        ensures attachments { self.new.attachments ≡ attach self.old.attachments attachment }
         ensures room { self.old.room ≤ self.new.room + 1 }
-        ensures graph { IsGraph self.new.rows }
+        ensures graph { IsGraph self.new.attachments }
     {
-        drop_key(&mut self.rows, &row);
-        put_row(&mut self.rows, row);
+        drop_key(&mut self.attachments, &attachment);
+        put_in_place(&mut self.attachments, attachment);
     }
 
     /// Takes out the attachments that end with the session of that serial. It takes no memory.
     pub fn retract_session(&mut self, serial: u64)
-        ensures rows { self.new.rows ≡ retract serial self.old.rows }
+        ensures attachments { self.new.attachments ≡ retract serial self.old.attachments }
         ensures room { self.old.room ≤ self.new.room }
-        ensures graph { IsGraph self.new.rows }
+        ensures graph { IsGraph self.new.attachments }
     {
-        retain_others(&mut self.rows, serial);
+        retain_others(&mut self.attachments, serial);
     }
 
     /// The attachments on an item, in their order. It takes no memory.
-    pub fn on(&self, item: &Item) -> &[Row]
-        ensures rows { result.now ≡ on_item item.now self.now.rows }
-        ensures graph { IsGraph self.now.rows }
+    pub fn attachments_on(&self, item: &Item) -> &[KeptAttachment]
+        ensures attachments { result.now ≡ on_item item.now self.now.attachments }
+        ensures graph { IsGraph self.now.attachments }
     {
-        let range = range_on(&self.rows, item);
-        &self.rows[range]
+        let range = range_on(&self.attachments, item);
+        &self.attachments[range]
     }
 }
 
 // Where the attachments on an item stand.
-fn range_on(rows: &[Row], item: &Item) -> Range<usize>
-    requires { IsGraph rows.now }
-    ensures { IsRangeOn item.now rows.now result.start result.end }
+fn range_on(attachments: &[KeptAttachment], item: &Item) -> Range<usize>
+    requires { IsGraph attachments.now }
+    ensures { IsRangeOn item.now attachments.now result.start result.end }
 {
-    let start = rows.partition_point(|row| row.item().cmp(item).is_lt());
-    let end = rows.partition_point(|row| row.item().cmp(item).is_le());
+    let start = attachments.partition_point(|attachment| attachment.item().cmp(item).is_lt());
+    let end = attachments.partition_point(|attachment| attachment.item().cmp(item).is_le());
     start..end
 }
 
 // Where the attachment with the key of this one stands.
-fn place_of_key(rows: &[Row], row: &Row) -> Option<usize>
-    requires { IsGraph rows.now }
-    ensures { IsPlaceOfKey row.now rows.now result }
+fn place_of_key(attachments: &[KeptAttachment], attachment: &KeptAttachment) -> Option<usize>
+    requires { IsGraph attachments.now }
+    ensures { IsPlaceOfKey attachment.now attachments.now result }
 {
-    let range = range_on(rows, row.item());
+    let range = range_on(attachments, attachment.item());
     for i in range.start..range.end {
-        if row.has_key_of(&rows[i]) {
+        if attachment.has_key_of(&attachments[i]) {
             return Some(i);
         }
     }
@@ -107,48 +110,48 @@ fn place_of_key(rows: &[Row], row: &Row) -> Option<usize>
 }
 
 // The place for an attachment in the order.
-fn place_for(rows: &[Row], row: &Row) -> Result<usize, usize>
-    requires { IsStrictlySortedBy attachment_order rows.now }
-    ensures { IsPlaceFor row.now rows.now result }
+fn place_for(attachments: &[KeptAttachment], attachment: &KeptAttachment) -> Result<usize, usize>
+    requires { IsStrictlySortedBy attachment_order attachments.now }
+    ensures { IsPlaceFor attachment.now attachments.now result }
 {
-    rows.binary_search_by(|other| other.order(row))
+    attachments.binary_search_by(|other| other.order(attachment))
 }
 
 // Takes out the attachment with the key of this one.
-fn drop_key(rows: &mut Vec<Row>, row: &Row)
-    requires { IsGraph rows.old.items }
-    ensures items { rows.new.items ≡ without_key row.now rows.old.items }
-    ensures len { vec_len rows.new ≤ vec_len rows.old }
-    ensures capacity { vec_capacity rows.new ≡ vec_capacity rows.old }
+fn drop_key(attachments: &mut Vec<KeptAttachment>, attachment: &KeptAttachment)
+    requires { IsGraph attachments.old.items }
+    ensures items { attachments.new.items ≡ without_key attachment.now attachments.old.items }
+    ensures len { vec_len attachments.new ≤ vec_len attachments.old }
+    ensures capacity { vec_capacity attachments.new ≡ vec_capacity attachments.old }
 {
-    let Some(place) = place_of_key(rows, row) else {
+    let Some(place) = place_of_key(attachments, attachment) else {
         return;
     };
-    rows.remove(place);
+    attachments.remove(place);
 }
 
 // Puts an attachment in its place. There is room for it.
-fn put_row(rows: &mut Vec<Row>, row: Row)
-    requires rising { IsStrictlySortedBy attachment_order rows.old.items }
-    requires room { vec_len rows.old < vec_capacity rows.old }
-    ensures items { rows.new.items ≡ put attachment_order row rows.old.items }
-    ensures len { vec_len rows.new ≤ vec_len rows.old + 1 }
-    ensures capacity { vec_capacity rows.new ≡ vec_capacity rows.old }
+fn put_in_place(attachments: &mut Vec<KeptAttachment>, attachment: KeptAttachment)
+    requires rising { IsStrictlySortedBy attachment_order attachments.old.items }
+    requires room { vec_len attachments.old < vec_capacity attachments.old }
+    ensures items { attachments.new.items ≡ put attachment_order attachment attachments.old.items }
+    ensures len { vec_len attachments.new ≤ vec_len attachments.old + 1 }
+    ensures capacity { vec_capacity attachments.new ≡ vec_capacity attachments.old }
 {
-    match place_for(rows, &row) {
-        Ok(place) => rows[place] = row,
+    match place_for(attachments, &attachment) {
+        Ok(place) => attachments[place] = attachment,
         Err(place) => {
-            let placed = rows.insert(place, row).is_ok();
+            let placed = attachments.insert(place, attachment).is_ok();
             prove!(placed);
         }
     }
 }
 
 // Keeps the attachments that do not end with the session of that serial.
-fn retain_others(rows: &mut Vec<Row>, serial: u64)
-    ensures items { rows.new.items ≡ retract serial rows.old.items }
-    ensures len { vec_len rows.new ≤ vec_len rows.old }
-    ensures capacity { vec_capacity rows.new ≡ vec_capacity rows.old }
+fn retain_others(attachments: &mut Vec<KeptAttachment>, serial: u64)
+    ensures items { attachments.new.items ≡ retract serial attachments.old.items }
+    ensures len { vec_len attachments.new ≤ vec_len attachments.old }
+    ensures capacity { vec_capacity attachments.new ≡ vec_capacity attachments.old }
 {
-    rows.retain(|row| row.outlives(serial));
+    attachments.retain(|attachment| attachment.outlives(serial));
 }

@@ -4,12 +4,9 @@
 
 pub mod attachments;
 pub mod graphs;
+pub mod kept_attachments;
 pub mod laws;
-pub mod rows;
 
 pub use attachments::Attachment;
 pub use graphs::Graph;
-pub use rows::Row;
-
-#[cfg(test)]
-mod tests;
+pub use kept_attachments::KeptAttachment;

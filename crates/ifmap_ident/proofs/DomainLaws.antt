@@ -4,20 +4,23 @@ use Rattle.std.specs.declared.cmp.Ordering.{Ordering}
 use Rattle.ifmap_elem.specs.Escapes.{value_bytes}
 use Rattle.ifmap_ident.specs.Leading.{Leads}
 use Rattle.ifmap_ident.specs.Written.{closed_value, domain_bytes}
+use Rattle.ifmap_lemmas.specs.Orderings.{then_equal}
 use Rattle.ifmap_ident.proofs.ValueLaws.{value_alike}
-use Rattle.ifmap_ident.proofs.LeadingLaws.{leads_behind, leads_both, leads_same, then_equal}
+use Rattle.ifmap_ident.proofs.LeadingLaws.{leads_after, leads_both, leads_same}
 
 -- how long the attribute of a domain is
 pub domain_length : (d : List ℕ) → (length d ≡ 0 → ⊥) → length (domain_bytes d) ≡ 25 + length (value_bytes d)
 domain_length [] n = absurd (n refl)
 domain_length (b ∷ d) n = let e = length-append (value_bytes (b ∷ d)) (codes "\"") in omega arith
 
--- two domains are ordered as their values, with the same behind them
-pub domains_lead : (o : Ordering) (d e : List ℕ) → (length d ≡ 0 → ⊥) → (length e ≡ 0 → ⊥) → Leads o (closed_value d) (closed_value e) → (s : List ℕ) → Leads o (domain_bytes d ++ s) (domain_bytes e ++ s)
+-- two domains are ordered as their values, with the same after them
+pub domains_lead : (o : Ordering) (d e : List ℕ) → (length d ≡ 0 → ⊥) → (length e ≡ 0 → ⊥) → Leads o (closed_value d) (closed_value e)
+    → (s : List ℕ) → Leads o (domain_bytes d ++ s) (domain_bytes e ++ s)
 domains_lead o [] e n m f s = absurd (n refl)
 domains_lead o (b ∷ d) [] n m f s = absurd (m refl)
 domains_lead o (b ∷ d) (c ∷ e) n m f s =
-    subst (λ r. Leads r (domain_bytes (b ∷ d) ++ s) (domain_bytes (c ∷ e) ++ s)) (then_equal o) (leads_both (leads_behind (codes " administrative-domain=\"") f) (leads_same s))
+    subst (λ r. Leads r (domain_bytes (b ∷ d) ++ s) (domain_bytes (c ∷ e) ++ s)) (then_equal o)
+    (leads_both (leads_after (codes " administrative-domain=\"") f) (leads_same s))
 
 -- a text whose length is not 0
 pub some_bytes : (d : List ℕ) (n : ℕ) → false ≡ nat_eq n 0 → n ≡ length d → length d ≡ 0 → ⊥

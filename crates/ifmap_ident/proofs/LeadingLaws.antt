@@ -7,24 +7,9 @@ use Rattle.std.specs.Cmp.Lexicographic.{slice_cmp}
 use Rattle.std.specs.Ordering.{is_eq, nat_cmp, ordering_then}
 use Rattle.std.specs.declared.cmp.Ordering.{Ordering}
 use Rattle.std.specs.declared.cmp.Ordering.TheVariants.{Less, Equal, Greater}
-use Rattle.ifmap_lemmas.specs.Orderings.{both_equal}
 use Rattle.ifmap_ident.specs.Leading.{Leads}
-use Rattle.ifmap_ident.proofs.Ties.{itself}
-
-pub then_equal : (r : Ordering) → ordering_then r Equal ≡ r
-then_equal Less = refl
-then_equal Equal = refl
-then_equal Greater = refl
-
-then_then : (o p q : Ordering) → ordering_then o (ordering_then p q) ≡ ordering_then (ordering_then o p) q
-then_then Less p q = refl
-then_then Equal p q = refl
-then_then Greater p q = refl
-
-then_decided : (o r s : Ordering) → is_eq o ≡ false → ordering_then o r ≡ ordering_then o s
-then_decided Less r s e = refl
-then_decided Equal r s e = cc
-then_decided Greater r s e = refl
+use Rattle.ifmap_lemmas.specs.Orderings.{both_equal, then_decided, then_equal, then_then, then_where_equal}
+use Rattle.ifmap_lemmas.specs.Texts.{slice_cmp-same}
 
 -- one byte each
 pub leads_one : (b c : ℕ) → Leads (nat_cmp b c) (b ∷ []) (c ∷ [])
@@ -33,24 +18,33 @@ leads_one b c = record { compares = λ x y. refl }
 -- one beginning, and then another
 pub leads_both : {o r : Ordering} {p q s t : List ℕ} → Leads o p q → Leads r s t → Leads (ordering_then o r) (p ++ s) (q ++ t)
 leads_both {o} {r} {p} {q} {s} {t} f g =
-    record { compares = λ x y. rw (append_assoc p s x, append_assoc q t y) (f.compares (s ++ x) (t ++ y) ∙ ap (ordering_then o) (g.compares x y) ∙ then_then o r (slice_cmp nat_cmp x y)) }
+    record {
+      compares = λ x y. rw (append_assoc p s x, append_assoc q t y) (f.compares (s ++ x) (t ++ y)
+          ∙ ap (ordering_then o) (g.compares x y) ∙ then_then o r (slice_cmp nat_cmp x y));
+    }
 
 -- the same beginning
 pub leads_same : (p : List ℕ) → Leads Equal p p
 leads_same [] = record { compares = λ x y. refl }
 leads_same (b ∷ bs) =
-    record { compares = λ x y. ap (λ o. ordering_then o (slice_cmp nat_cmp (bs ++ x) (bs ++ y))) (tied_itself nat_cmp_total b) ∙ (leads_same bs).compares x y }
+    record {
+      compares = λ x y. ap (λ o. ordering_then o (slice_cmp nat_cmp (bs ++ x) (bs ++ y))) (tied_itself nat_cmp_total b)
+          ∙ (leads_same bs).compares x y;
+    }
 
 -- the same in front of two others
-pub leads_behind : {o : Ordering} {p q : List ℕ} → (s : List ℕ) → Leads o p q → Leads o (s ++ p) (s ++ q)
-leads_behind s f = leads_both (leads_same s) f
+pub leads_after : {o : Ordering} {p q : List ℕ} → (s : List ℕ) → Leads o p q → Leads o (s ++ p) (s ++ q)
+leads_after s f = leads_both (leads_same s) f
 
 -- once they differ, whatever follows
 pub leads_decided : {o : Ordering} {p q : List ℕ} → Leads o p q → is_eq o ≡ false → (s t : List ℕ) → Leads o (p ++ s) (q ++ t)
 leads_decided {o} {p} {q} f e s t =
-    record { compares = λ x y. rw (append_assoc p s x, append_assoc q t y) (f.compares (s ++ x) (t ++ y) ∙ then_decided o (slice_cmp nat_cmp (s ++ x) (t ++ y)) (slice_cmp nat_cmp x y) e) }
+    record {
+      compares = λ x y. rw (append_assoc p s x, append_assoc q t y) (f.compares (s ++ x) (t ++ y)
+          ∙ then_decided o (slice_cmp nat_cmp (s ++ x) (t ++ y)) (slice_cmp nat_cmp x y) e);
+    }
 
--- with nothing behind them
+-- with nothing after them
 pub leads_whole : {o : Ordering} {p q : List ℕ} → Leads o p q → slice_cmp nat_cmp p q ≡ o
 leads_whole {o} {p} {q} f = (λ i. slice_cmp nat_cmp (sym (append-nil p) i) (sym (append-nil q) i)) ∙ f.compares [] [] ∙ then_equal o
 
@@ -61,17 +55,15 @@ Parted [] (c ∷ cs) = ⊥
 Parted (b ∷ bs) [] = ⊥
 Parted (b ∷ bs) (c ∷ cs) = b ≡ c → Parted bs cs
 
-first_decides : (r s t y : Ordering) → (r ≡ Equal → s ≡ ordering_then t y) → ordering_then r s ≡ ordering_then (ordering_then r t) y
-first_decides Less s t y f = refl
-first_decides Equal s t y f = f refl
-first_decides Greater s t y f = refl
-
 pub leads_parted : (p q : List ℕ) → Parted p q → Leads (slice_cmp nat_cmp p q) p q
 leads_parted [] [] h = leads_same []
 leads_parted [] (c ∷ cs) h = absurd h
 leads_parted (b ∷ bs) [] h = absurd h
 leads_parted (b ∷ bs) (c ∷ cs) h =
-    record { compares = λ x y. first_decides (nat_cmp b c) (slice_cmp nat_cmp (bs ++ x) (cs ++ y)) (slice_cmp nat_cmp bs cs) (slice_cmp nat_cmp x y) (λ e. (leads_parted bs cs (h (exact_unsigned b c e))).compares x y) }
+    record {
+      compares = λ x y. then_where_equal (nat_cmp b c) (slice_cmp nat_cmp (bs ++ x) (cs ++ y)) (slice_cmp nat_cmp bs cs)
+          (slice_cmp nat_cmp x y) (λ e. (leads_parted bs cs (h (exact_unsigned b c e))).compares x y);
+    }
 
 -- texts alike begin alike, where neither beginning goes on from the other
 pub parted_alike : (p q s t : List ℕ) → Parted p q → p ++ s ≡ q ++ t → (p ≡ q) × (s ≡ t)
@@ -86,4 +78,4 @@ parted_alike (b ∷ bs) (c ∷ cs) s t h e =
 
 -- and they compare alike there
 pub leads_alike : {o : Ordering} {p q : List ℕ} → (s t : List ℕ) → Leads o p q → p ++ s ≡ q ++ t → o ≡ Equal
-leads_alike {o} {p} {q} s t f e = (both_equal o (slice_cmp nat_cmp s t) (sym (f.compares s t) ∙ itself (p ++ s) (q ++ t) e)).0
+leads_alike {o} {p} {q} s t f e = (both_equal o (slice_cmp nat_cmp s t) (sym (f.compares s t) ∙ slice_cmp-same (p ++ s) (q ++ t) e)).0

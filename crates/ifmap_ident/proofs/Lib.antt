@@ -3,5 +3,4 @@ pub mod LeadingLaws
 pub mod MacAddressLaws
 pub mod OrderLaws
 pub mod PrintedLaws
-pub mod Ties
 pub mod ValueLaws

@@ -15,7 +15,7 @@ use Rattle.std.specs.declared.cmp.Ordering.{Ordering}
 use Rattle.ifmap_elem.specs.Escapes.{value_byte, value_bytes}
 use Rattle.ifmap_ident.specs.Leading.{Leads}
 use Rattle.ifmap_ident.specs.Written.{closed_value, written_byte}
-use Rattle.ifmap_ident.proofs.LeadingLaws.{Parted, leads_behind, leads_decided, leads_parted, parted_alike}
+use Rattle.ifmap_ident.proofs.LeadingLaws.{Parted, leads_after, leads_decided, leads_parted, parted_alike}
 
 not_equal : (b c : ℕ) → (b ≡ c → ⊥) → nat_eq b c ≡ false
 not_equal b c n = elim (cases_Bool (nat_eq b c)) [ inl e ↦ absurd (n (eqb-true b c e)) | inr e ↦ e ]
@@ -23,50 +23,30 @@ not_equal b c n = elim (cases_Bool (nat_eq b c)) [ inl e ↦ absurd (n (eqb-true
 -- a byte that stands for itself
 pub record IsPlain (b : ℕ) : Type 0 where
   pub written : value_byte b ≡ b ∷ []
-  pub no_mark : nat_eq b 38 ≡ false
+  pub no_ampersand : nat_eq b 38 ≡ false
   pub no_quote : nat_eq b 34 ≡ false
+
+-- a claim on a byte, where it is c and where it is not
+unless : (P : ℕ → Type 0) (b c : ℕ) → P c → (nat_eq b c ≡ false → P b) → P b
+unless P b c there other = elim (cases_eq b c) [ inl e ↦ subst P (sym e) there | inr n ↦ other (not_equal b c n) ]
 
 -- a claim on all bytes, from those that are references and those that stand for themselves
 each_byte : (P : ℕ → Type 0) → P 38 → P 60 → P 34 → P 9 → P 10 → P 13 → ((b : ℕ) → IsPlain b → P b) → (b : ℕ) → P b
-each_byte P mark less quote tab feed return plain b =
-    elim (cases_eq b 38) [
-      | inl e ↦ subst P (sym e) mark
-      | inr n ↦
-          elim (cases_eq b 60) [
-            | inl e ↦ subst P (sym e) less
-            | inr m ↦
-                elim (cases_eq b 34) [
-                  | inl e ↦ subst P (sym e) quote
-                  | inr q ↦
-                      elim (cases_eq b 9) [
-                        | inl e ↦ subst P (sym e) tab
-                        | inr t ↦
-                            elim (cases_eq b 10) [
-                              | inl e ↦ subst P (sym e) feed
-                              | inr f ↦
-                                  elim (cases_eq b 13) [
-                                    | inl e ↦ subst P (sym e) return
-                                    | inr r ↦
-                                        plain b (
-                                        let a0 : nat_eq b 38 ≡ false = not_equal b 38 n in
-                                        let a1 : nat_eq b 60 ≡ false = not_equal b 60 m in
-                                        let a2 : nat_eq b 34 ≡ false = not_equal b 34 q in
-                                        let a3 : nat_eq b 9 ≡ false = not_equal b 9 t in
-                                        let a4 : nat_eq b 10 ≡ false = not_equal b 10 f in
-                                        let a5 : nat_eq b 13 ≡ false = not_equal b 13 r in
-                                        record { written = rw (a0, a1, a2, a3, a4, a5) refl; no_mark = a0; no_quote = a2 })
-                                  ]
-                            ]
-                      ]
-                ]
-          ]
-    ]
+each_byte P ampersand less quote tab feed return plain b =
+    unless P b 38 ampersand (λ a.
+    unless P b 60 less (λ l.
+    unless P b 34 quote (λ q.
+    unless P b 9 tab (λ t.
+    unless P b 10 feed (λ f.
+    unless P b 13 return (λ r.
+    plain b (record { written = rw (a, l, q, t, f, r) refl; no_ampersand = a; no_quote = q })))))))
 
 -- ---- no piece goes on from another
 
 -- a byte but `&`, or `&` and what follows up to the first `;`
 abbrev IsPiece : List ℕ → Type 0
-IsPiece p = ((b : ℕ) × (p ≡ b ∷ []) × (nat_eq b 38 ≡ false)) ⊎ ((name : List ℕ) × (p ≡ 38 ∷ (name ++ (59 ∷ []))) × (list_all (λ b. not (nat_eq b 59)) name ≡ true))
+IsPiece p = ((b : ℕ) × (p ≡ b ∷ []) × (nat_eq b 38 ≡ false)) ⊎ ((name : List ℕ) × (p ≡ 38 ∷ (name ++ (59 ∷ [])))
+    × (list_all (λ b. not (nat_eq b 59)) name ≡ true))
 
 is_piece : (o : Option ℕ) → IsPiece (written_byte o)
 is_piece None = inl (34, refl, refl)
@@ -74,29 +54,32 @@ is_piece (Some b) =
     each_byte (λ n. IsPiece (value_byte n))
     (inr (97 ∷ (109 ∷ (112 ∷ [])), refl, refl)) (inr (108 ∷ (116 ∷ []), refl, refl)) (inr (113 ∷ (117 ∷ (111 ∷ (116 ∷ []))), refl, refl))
     (inr (35 ∷ (57 ∷ []), refl, refl)) (inr (35 ∷ (49 ∷ (48 ∷ [])), refl, refl)) (inr (35 ∷ (49 ∷ (51 ∷ [])), refl, refl))
-    (λ n p. inl (n, p.written, p.no_mark)) b
+    (λ n p. inl (n, p.written, p.no_ampersand)) b
 
 no_end : (b : ℕ) → not (nat_eq b 59) ≡ true → b ≡ 59 → ⊥
 no_end b h e = let t = eq-eqb b 59 e in cc
 
-parted_names : (m n : List ℕ) → list_all (λ b. not (nat_eq b 59)) m ≡ true → list_all (λ b. not (nat_eq b 59)) n ≡ true → Parted (m ++ (59 ∷ [])) (n ++ (59 ∷ []))
+parted_names : (m n : List ℕ) → list_all (λ b. not (nat_eq b 59)) m ≡ true → list_all (λ b. not (nat_eq b 59)) n ≡ true
+    → Parted (m ++ (59 ∷ [])) (n ++ (59 ∷ []))
 parted_names [] [] g h = λ e. tt
 parted_names [] (c ∷ n) g h = λ e. absurd (no_end c (and_parts (not (nat_eq c 59)) _ h).0 (sym e))
 parted_names (b ∷ m) [] g h = λ e. absurd (no_end b (and_parts (not (nat_eq b 59)) _ g).0 e)
 parted_names (b ∷ m) (c ∷ n) g h = λ e. parted_names m n (and_parts (not (nat_eq b 59)) _ g).1 (and_parts (not (nat_eq c 59)) _ h).1
 
-no_mark : (b : ℕ) → nat_eq b 38 ≡ false → b ≡ 38 → ⊥
-no_mark b h e = let t = eq-eqb b 38 e in cc
+no_ampersand : (b : ℕ) → nat_eq b 38 ≡ false → b ≡ 38 → ⊥
+no_ampersand b h e = let t = eq-eqb b 38 e in cc
 
 parted_pieces : (p q : List ℕ) → IsPiece p → IsPiece q → Parted p q
 parted_pieces p q g h = elim g [
   | inl s ↦ elim h [
     | inl t ↦ subst (λ x. Parted x q) (sym s.1) (subst (λ y. Parted (s.0 ∷ []) y) (sym t.1) (λ e. tt))
-    | inr t ↦ subst (λ x. Parted x q) (sym s.1) (subst (λ y. Parted (s.0 ∷ []) y) (sym t.1) (λ e. absurd (no_mark s.0 s.2 e)))
+    | inr t ↦ subst (λ x. Parted x q) (sym s.1) (subst (λ y. Parted (s.0 ∷ []) y) (sym t.1) (λ e. absurd (no_ampersand s.0 s.2 e)))
   ]
   | inr s ↦ elim h [
-    | inl t ↦ subst (λ x. Parted x q) (sym s.1) (subst (λ y. Parted (38 ∷ (s.0 ++ (59 ∷ []))) y) (sym t.1) (λ e. absurd (no_mark t.0 t.2 (sym e))))
-    | inr t ↦ subst (λ x. Parted x q) (sym s.1) (subst (λ y. Parted (38 ∷ (s.0 ++ (59 ∷ []))) y) (sym t.1) (λ e. parted_names s.0 t.0 s.2 t.2))
+    | inl t ↦ subst (λ x. Parted x q) (sym s.1) (subst (λ y. Parted (38 ∷ (s.0 ++ (59 ∷ []))) y) (sym t.1)
+        (λ e. absurd (no_ampersand t.0 t.2 (sym e))))
+    | inr t ↦ subst (λ x. Parted x q) (sym s.1) (subst (λ y. Parted (38 ∷ (s.0 ++ (59 ∷ []))) y) (sym t.1)
+        (λ e. parted_names s.0 t.0 s.2 t.2))
   ]
 ]
 
@@ -105,40 +88,42 @@ piece_leads o r = leads_parted (written_byte o) (written_byte r) (parted_pieces 
 
 -- ---- each piece is written for one byte
 
-fourth : List ℕ → ℕ
-fourth [] = 0
-fourth (b ∷ bs) = b
+first_of : List ℕ → ℕ
+first_of [] = 0
+first_of (b ∷ bs) = b
 
 -- what a piece is written for
-unwritten : List ℕ → Option ℕ
-unwritten [] = None
-unwritten (b ∷ []) = cond (nat_eq b 34) None (Some b)
-unwritten (b ∷ (c ∷ [])) = None
-unwritten (b ∷ (c ∷ (d ∷ e))) =
-    Some (cond (nat_eq c 97) 38 (cond (nat_eq c 108) 60 (cond (nat_eq c 113) 34 (cond (nat_eq d 57) 9 (cond (nat_eq (fourth e) 48) 10 13)))))
+byte_of_piece : List ℕ → Option ℕ
+byte_of_piece [] = None
+byte_of_piece (b ∷ []) = cond (nat_eq b 34) None (Some b)
+byte_of_piece (b ∷ (c ∷ [])) = None
+byte_of_piece (b ∷ (c ∷ (d ∷ e))) =
+    Some (cond (nat_eq c 97) 38 (cond (nat_eq c 108) 60 (cond (nat_eq c 113) 34
+    (cond (nat_eq d 57) 9 (cond (nat_eq (first_of e) 48) 10 13)))))
 
-written_once : (o : Option ℕ) → unwritten (written_byte o) ≡ o
-unfolding unwritten fourth
-written_once None = refl
-written_once (Some b) =
-    each_byte (λ n. unwritten (value_byte n) ≡ Some n) refl refl refl refl refl refl
-    (λ n p. ap unwritten p.written ∙ ap (λ t. cond t None (Some n)) p.no_quote) b
+byte_of_piece-written_byte : (o : Option ℕ) → byte_of_piece (written_byte o) ≡ o
+unfolding byte_of_piece first_of
+byte_of_piece-written_byte None = refl
+byte_of_piece-written_byte (Some b) =
+    each_byte (λ n. byte_of_piece (value_byte n) ≡ Some n) refl refl refl refl refl refl
+    (λ n p. ap byte_of_piece p.written ∙ ap (λ t. cond t None (Some n)) p.no_quote) b
 
 pieces_differ : (o r : Option ℕ) → (o ≡ r → ⊥) → is_eq (slice_cmp nat_cmp (written_byte o) (written_byte r)) ≡ false
 pieces_differ o r n = elim (cases_Bool (is_eq (slice_cmp nat_cmp (written_byte o) (written_byte r)))) [
-  | inl e ↦ absurd (n (sym (written_once o) ∙ ap unwritten (exact_bytes _ _ ((Equal-is (slice_cmp nat_cmp (written_byte o) (written_byte r))).0 e)) ∙ written_once r))
+  | inl e ↦ absurd (n (sym (byte_of_piece-written_byte o) ∙ ap byte_of_piece (exact_bytes _ _
+      ((Equal-is (slice_cmp nat_cmp (written_byte o) (written_byte r))).0 e)) ∙ byte_of_piece-written_byte r))
   | inr e ↦ e
 ]
 
 -- ---- values by their first byte that differs
 
 -- what follows the first piece
-behind : List ℕ → List ℕ
-behind [] = []
-behind (b ∷ bs) = closed_value bs
+after_first : List ℕ → List ℕ
+after_first [] = []
+after_first (b ∷ bs) = closed_value bs
 
-first_piece : (bs : List ℕ) → closed_value bs ≡ written_byte (slice_get bs 0) ++ behind bs
-unfolding behind
+first_piece : (bs : List ℕ) → closed_value bs ≡ written_byte (slice_get bs 0) ++ after_first bs
+unfolding after_first
 first_piece [] = refl
 first_piece (b ∷ bs) = append_assoc (value_byte b) (value_bytes bs) (34 ∷ [])
 
@@ -148,13 +133,16 @@ Apart one other n = slice_get one n ≡ slice_get other n → slice_get one n �
 abbrev pub piece_order : List ℕ → List ℕ → ℕ → Ordering
 piece_order one other n = slice_cmp nat_cmp (written_byte (slice_get one n)) (written_byte (slice_get other n))
 
-differ_at_once : (one other : List ℕ) → (slice_get one 0 ≡ slice_get other 0 → ⊥) → Leads (piece_order one other 0) (closed_value one) (closed_value other)
+differ_at_once : (one other : List ℕ) → (slice_get one 0 ≡ slice_get other 0 → ⊥)
+    → Leads (piece_order one other 0) (closed_value one) (closed_value other)
 differ_at_once one other n =
     subst (λ p. Leads (piece_order one other 0) p (closed_value other)) (sym (first_piece one))
-    (subst (λ q. Leads (piece_order one other 0) (written_byte (slice_get one 0) ++ behind one) q) (sym (first_piece other))
-    (leads_decided (piece_leads (slice_get one 0) (slice_get other 0)) (pieces_differ (slice_get one 0) (slice_get other 0) n) (behind one) (behind other)))
+    (subst (λ q. Leads (piece_order one other 0) (written_byte (slice_get one 0) ++ after_first one) q) (sym (first_piece other))
+    (leads_decided (piece_leads (slice_get one 0) (slice_get other 0)) (pieces_differ (slice_get one 0) (slice_get other 0) n)
+    (after_first one) (after_first other)))
 
-pub value_leads : (one other : List ℕ) (n : ℕ) → take n one ≡ take n other → Apart one other n → Leads (piece_order one other n) (closed_value one) (closed_value other)
+pub value_leads : (one other : List ℕ) (n : ℕ) → take n one ≡ take n other → Apart one other n
+    → Leads (piece_order one other n) (closed_value one) (closed_value other)
 value_leads [] [] zero e h = piece_leads None None
 value_leads [] [] (suc n) e h = piece_leads None None
 value_leads [] (c ∷ cs) zero e h = differ_at_once [] (c ∷ cs) (λ d. cc)
@@ -166,21 +154,25 @@ value_leads (b ∷ bs) (c ∷ cs) (suc n) e h =
     let same : b ≡ c = cc in
     let rest : take n bs ≡ take n cs = cc in
     subst (λ p. Leads (piece_order bs cs n) p (closed_value (c ∷ cs))) (sym (append_assoc (value_byte b) (value_bytes bs) (34 ∷ [])))
-    (subst (λ q. Leads (piece_order bs cs n) (value_byte b ++ closed_value bs) q) (ap (λ x. value_byte x ++ closed_value cs) same ∙ sym (append_assoc (value_byte c) (value_bytes cs) (34 ∷ [])))
-    (leads_behind (value_byte b) (value_leads bs cs n rest h)))
+    (subst (λ q. Leads (piece_order bs cs n) (value_byte b ++ closed_value bs) q) (ap
+    (λ x. value_byte x ++ closed_value cs) same ∙ sym (append_assoc (value_byte c) (value_bytes cs) (34 ∷ [])))
+    (leads_after (value_byte b) (value_leads bs cs n rest h)))
 
 -- ---- values are told apart
 
-piece_alike : (one other s t : List ℕ) → closed_value one ++ s ≡ closed_value other ++ t → (slice_get one 0 ≡ slice_get other 0) × (behind one ++ s ≡ behind other ++ t)
+piece_alike : (one other s t : List ℕ) → closed_value one ++ s ≡ closed_value other ++ t
+    → (slice_get one 0 ≡ slice_get other 0) × (after_first one ++ s ≡ after_first other ++ t)
 piece_alike one other s t e =
     let o = slice_get one 0 in
     let r = slice_get other 0 in
-    let split = sym (append_assoc (written_byte o) (behind one) s) ∙ ap (λ p. p ++ s) (sym (first_piece one)) ∙ e ∙ ap (λ p. p ++ t) (first_piece other) ∙ append_assoc (written_byte r) (behind other) t in
-    let both = parted_alike (written_byte o) (written_byte r) (behind one ++ s) (behind other ++ t) (parted_pieces (written_byte o) (written_byte r) (is_piece o) (is_piece r)) split in
-    (sym (written_once o) ∙ ap unwritten both.0 ∙ written_once r, both.1)
+    let split = sym (append_assoc (written_byte o) (after_first one) s) ∙ ap (λ p. p ++ s) (sym (first_piece one)) ∙ e ∙ ap
+    (λ p. p ++ t) (first_piece other) ∙ append_assoc (written_byte r) (after_first other) t in
+    let both = parted_alike (written_byte o) (written_byte r) (after_first one ++ s) (after_first other ++ t)
+    (parted_pieces (written_byte o) (written_byte r) (is_piece o) (is_piece r)) split in
+    (sym (byte_of_piece-written_byte o) ∙ ap byte_of_piece both.0 ∙ byte_of_piece-written_byte r, both.1)
 
 pub value_alike : (one other s t : List ℕ) → closed_value one ++ s ≡ closed_value other ++ t → (one ≡ other) × (s ≡ t)
-unfolding behind
+unfolding after_first
 value_alike [] [] s t e = (refl, (piece_alike [] [] s t e).1)
 value_alike [] (c ∷ cs) s t e = let first = (piece_alike [] (c ∷ cs) s t e).0 in cc
 value_alike (b ∷ bs) [] s t e = let first = (piece_alike (b ∷ bs) [] s t e).0 in cc
@@ -192,6 +184,7 @@ value_alike (b ∷ bs) (c ∷ cs) s t e =
 
 -- ---- an element that was looked up
 
-pub looked_up : (xs : List ℕ) (n : ℕ) (r : Option (Bor ℕ)) → is_some r ≡ nat_lt n (length xs) → IfSome r (λ x. x.now ≡ get_or xs n x.now) → option_copied r ≡ slice_get xs n
-looked_up xs n None e h = sym (slice_get_past xs n (ltb-false n (length xs) (sym e)))
-looked_up xs n (Some x) e h = sym (slice_get_read xs (length xs) n x.now refl (ltb-true n (length xs) (sym e)) h)
+pub option_copied-get : (xs : List ℕ) (n : ℕ) (r : Option (Bor ℕ)) → is_some r ≡ nat_lt n (length xs) → IfSome r
+    (λ x. x.now ≡ get_or xs n x.now) → option_copied r ≡ slice_get xs n
+option_copied-get xs n None e h = sym (slice_get_past xs n (ltb-false n (length xs) (sym e)))
+option_copied-get xs n (Some x) e h = sym (slice_get_read xs (length xs) n x.now refl (ltb-true n (length xs) (sym e)) h)

@@ -40,7 +40,8 @@ item_order = on identifiers_of (slice_cmp identifier_order)
 
 -- the same items are those that the order does not tell apart
 pub items_tie : (x y : Item) → same_item x y ≡ eq_by_cmp item_order x y
-items_tie x y = lists_ties identifier_order (λ a b. texts_ties (identifier_bytes a) (identifier_bytes b)) (identifiers_of x) (identifiers_of y)
+items_tie x y = lists_ties identifier_order (λ a b. texts_ties (identifier_bytes a) (identifier_bytes b)) (identifiers_of x)
+    (identifiers_of y)
 
 -- the lengths of the canonical bytes of an item's identifiers, together
 abbrev pub item_size : Item → ℕ

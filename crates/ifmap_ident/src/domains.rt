@@ -1,15 +1,14 @@
 //! Administrative domains.
-ghost use Rattle.std.specs.Prelude.{◌≡◌, ℕ, ◌-◌, ◌<◌, ◌^◌, ◌++◌, ◌∷◌, [], IfOk, length, min};
+ghost use Rattle.std.specs.Prelude.{◌≡◌, ◌-◌, ◌^◌, IfOk, length, min};
 ghost use Rattle.ifmap_ident.specs.Identifiers.{domain_attributes};
-ghost use Rattle.ifmap_ident.specs.Leading.{Leads};
-ghost use Rattle.ifmap_ident.specs.Written.{domain_bytes};
+ghost use Rattle.ifmap_ident.specs.Written.{DomainsLead, domain_bytes};
 
 use crate::values::{value_len, value_order};
 use ifmap_elem::{Attribute, Copied, Text};
 use std::alloc::{AllocError as NoMemory, Global};
 use std::cmp::Ordering;
 
-/// The attribute of a domain; none of the empty one.
+// The attribute of a domain; none of the empty one.
 pub(crate) fn domain_attributes(alloc: Global, domain: &Text) -> Result<Vec<Attribute>, NoMemory>
     ensures { IfOk result (λ attributes. attributes.items ≡ domain_attributes domain.now) }
 {
@@ -22,10 +21,10 @@ pub(crate) fn domain_attributes(alloc: Global, domain: &Text) -> Result<Vec<Attr
     Ok(attributes)
 }
 
-/// How the attributes of two domains compare, each in front of one whose name has a greater first
-/// letter: an identifier without a domain comes behind those with one.
+// How the attributes of two domains compare, each in front of one whose name has a greater first
+// letter: an identifier without a domain comes after those with one.
 pub(crate) fn domain_order(one: &Text, other: &Text) -> Ordering
-    ensures { (letter : ℕ) → 97 < letter → Leads result (domain_bytes one.now ++ (32 ∷ (letter ∷ []))) (domain_bytes other.now ++ (32 ∷ (letter ∷ []))) }
+    ensures { DomainsLead result one.now other.now }
 {
     match (one.0.is_empty(), other.0.is_empty()) {
         (true, true) => Ordering::Equal,
@@ -35,7 +34,7 @@ pub(crate) fn domain_order(one: &Text, other: &Text) -> Ordering
     }
 }
 
-/// How many bytes the attribute of a domain has; at most 2^64 - 1.
+// How many bytes the attribute of a domain has; at most 2^64 - 1.
 pub(crate) fn domain_len(domain: &Text) -> u64
     ensures { result ≡ min (length (domain_bytes domain.now)) (2 ^ 64 - 1) }
 {

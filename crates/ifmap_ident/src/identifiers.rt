@@ -41,7 +41,8 @@ impl Identifier {
     /// no identifier of a document has, it stands at the greatest.
     pub fn size(&self) -> u64
         ensures size { result ≡ min (length (identifier_bytes self.now)) (2 ^ 64 - 1) }
-        ensures exact { length (identifier_bytes self.now) < 2 ^ 64 → result ≡ length (identifier_bytes self.now) }
+        ensures exact { length (identifier_bytes self.now) < 2 ^ 64
+            → result ≡ length (identifier_bytes self.now) }
     {
         match self {
             Identifier::MacAddress { value, domain } => mac_address_len(value, domain),
@@ -63,7 +64,8 @@ impl Copied for Identifier {
 impl Equals for Identifier {
     fn equals(&self, other: &Identifier) -> bool
         ensures value { IsTrue result ↔ (self.now ≡ other.now) }
-        ensures canonical { IsTrue result ↔ (identifier_bytes self.now ≡ identifier_bytes other.now) }
+        ensures canonical { IsTrue result ↔ (identifier_bytes self.now
+            ≡ identifier_bytes other.now) }
     {
         match (self, other) {
             (
@@ -117,7 +119,8 @@ impl Ord for Identifier {
 impl PartialOrd for Identifier {
     ghost partial_cmp = { as_partial_cmp identifier_order };
 
-    ghost laws = { partial_order_from_own_ties (Prim.search (comparing, rules)) (Prim.search (comparing, rules)) };
+    ghost laws = { partial_order_from_own_ties (Prim.search (comparing, rules))
+        (Prim.search (comparing, rules)) };
 
     fn partial_cmp(&self, other: &Identifier) -> Option<Ordering> {
         Some(self.cmp(other))

@@ -13,6 +13,3 @@ mod values;
 pub use codes::Code;
 pub use identifiers::Identifier;
 pub use items::Item;
-
-#[cfg(test)]
-mod tests;

@@ -10,15 +10,17 @@ use ifmap_elem::{Equals, Text};
 use std::alloc::{AllocError as NoMemory, Global};
 use std::cmp::Ordering;
 
-/// Whether two MAC addresses are one, which their canonical bytes tell.
+// Whether two MAC addresses are one, which their canonical bytes tell.
 pub(crate) fn mac_addresses_are_one(
     value: &[u8; 6],
     domain: &Text,
     other_value: &[u8; 6],
     other_domain: &Text,
 ) -> bool
-    ensures one { IsTrue result ↔ (MacAddress value.now domain.now ≡ MacAddress other_value.now other_domain.now) }
-    ensures bytes { IsTrue result ↔ (identifier_bytes (MacAddress value.now domain.now) ≡ identifier_bytes (MacAddress other_value.now other_domain.now)) }
+    ensures one { IsTrue result ↔ (MacAddress value.now domain.now
+        ≡ MacAddress other_value.now other_domain.now) }
+    ensures bytes { IsTrue result ↔ (identifier_bytes (MacAddress value.now domain.now)
+        ≡ identifier_bytes (MacAddress other_value.now other_domain.now)) }
 {
     have_same_parts(value, domain, other_value, other_domain)
 }
@@ -29,34 +31,37 @@ fn have_same_parts(
     other_value: &[u8; 6],
     other_domain: &Text,
 ) -> bool
-    ensures { IsTrue result ↔ (MacAddress value.now domain.now ≡ MacAddress other_value.now other_domain.now) }
+    ensures { IsTrue result ↔ (MacAddress value.now domain.now
+        ≡ MacAddress other_value.now other_domain.now) }
 {
     value == other_value && domain.equals(other_domain)
 }
 
-/// How two MAC addresses compare by their canonical bytes.
+// How two MAC addresses compare by their canonical bytes.
 pub(crate) fn mac_address_order(
     value: &[u8; 6],
     domain: &Text,
     other_value: &[u8; 6],
     other_domain: &Text,
 ) -> Ordering
-    ensures { result ≡ identifier_order (MacAddress value.now domain.now) (MacAddress other_value.now other_domain.now) }
+    ensures { result ≡ identifier_order (MacAddress value.now domain.now)
+        (MacAddress other_value.now other_domain.now) }
 {
     domain_order(domain, other_domain).then(value.cmp(other_value))
 }
 
-/// How many canonical bytes a MAC address without a domain has.
+// How many canonical bytes a MAC address without a domain has.
 const BARE_LEN: u64 = 40;
 
-/// How many canonical bytes a MAC address has; at most 2^64 - 1.
+// How many canonical bytes a MAC address has; at most 2^64 - 1.
 pub(crate) fn mac_address_len(value: &[u8; 6], domain: &Text) -> u64
-    ensures { result ≡ min (length (identifier_bytes (MacAddress value.now domain.now))) (2 ^ 64 - 1) }
+    ensures { result ≡ min (length (identifier_bytes (MacAddress value.now domain.now)))
+        (2 ^ 64 - 1) }
 {
     domain_len(domain).saturating_add(BARE_LEN)
 }
 
-/// The bytes in hexadecimal digits, with a colon between each two.
+// The bytes in hexadecimal digits, with a colon between each two.
 pub(crate) fn address_text(alloc: Global, bytes: &[u8]) -> Result<Text, NoMemory>
     ensures { IfOk result (λ text. text ≡ address_text bytes.now) }
 {
@@ -72,7 +77,7 @@ pub(crate) fn address_text(alloc: Global, bytes: &[u8]) -> Result<Text, NoMemory
     Ok(Text(text))
 }
 
-/// Appends a byte as two digits.
+// Appends a byte as two digits.
 fn push_pair(byte: u8, text: &mut String) -> Result<(), NoMemory>
     ensures { OnOk result (string_bytes text.new ≡ string_bytes text.old ++ hex_pair byte) }
 {

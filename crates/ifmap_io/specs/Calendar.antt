@@ -1,5 +1,6 @@
 -- The Gregorian calendar and the clock in UTC, for the years 1970 to 9999: the date and the time of day
 -- of a second counted from 1970-01-01T00:00:00Z (RFC 3339; ISO 8601; no leap seconds), and its text.
+use Rattle.std.specs.Str.{byte}
 use Rattle.std.specs.Prelude.{ℕ, zero, suc, ◌+◌, ◌-◌, ◌*◌, ◌/◌, ◌%◌, ◌<◌, ◌≤◌, nat_le, Bool, not, ◌&&◌, ◌||◌, ◌==◌, if◌then◌else◌, List, [], ◌∷◌, ◌++◌, sum, take, slice_index, codes}
 
 -- each fourth year is a leap year, but of those that end a century only each fourth
@@ -44,7 +45,7 @@ second_number c = day_number c * 86400 + c.hour * 3600 + c.minute * 60 + c.secon
 
 -- the last decimal digit, in ASCII
 abbrev pub digit : ℕ → ℕ
-digit n = 48 + n % 10
+digit n = byte "0" + n % 10
 
 -- the last two decimal digits
 abbrev pub two_digits : ℕ → List ℕ
@@ -80,7 +81,14 @@ months_to year day = last_within (days_before_month year) day 11
 -- the date of a day of a year, which is counted from 0, and the time of a second of a day
 abbrev pub civil_in_year : ℕ → ℕ → ℕ → Civil
 civil_in_year year day second =
-    record { year = year; month = months_to year day + 1; day = day - days_before_month year (months_to year day) + 1; hour = second / 3600; minute = second % 3600 / 60; second = second % 60 }
+    record {
+      year = year;
+      month = months_to year day + 1;
+      day = day - days_before_month year (months_to year day) + 1;
+      hour = second / 3600;
+      minute = second % 3600 / 60;
+      second = second % 60;
+    }
 
 -- the date and the time of a second, which is counted from 1970-01-01T00:00:00Z
 unfoldable pub civil_of : ℕ → Civil

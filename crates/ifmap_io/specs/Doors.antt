@@ -36,8 +36,8 @@ abbrev pub Accepts : {L E : Type 0} → (L → Seen) → Option Doorway → Opti
 Accepts see old new result = MatchResult result (λ link. Hands old new (seen_in see link)) (λ _. StaysOpen old new)
 
 -- a door with one more link last among those that came back, where there is room for it
-abbrev pub taken_back : Doorway → Seen → Doorway
-taken_back door link =
+abbrev pub take_back : Doorway → Seen → Doorway
+take_back door link =
     if door.room == 0 then door
     else record { left = door.left; back = door.back ++ link ∷ []; room = door.room - 1 }
 
@@ -45,4 +45,4 @@ taken_back door link =
 abbrev pub TakesBack : Option Doorway → Option Doorway → Seen → Type 0
 TakesBack None new link = ⊤
 TakesBack (Some door) None link = ⊥
-TakesBack (Some door) (Some after) link = after ≡ taken_back door link
+TakesBack (Some door) (Some after) link = after ≡ take_back door link

@@ -16,7 +16,14 @@ pub(crate) fn civil_at(seconds: u64) -> DateTime
 
 // `YYYY-MM-DDThh:mm:ssZ`
 pub(crate) fn text_of(civil: DateTime) -> [u8; 20]
-    ensures { result ≡ civil_text (record { year = unsigned_abs civil.date.year; month = civil.date.month; day = civil.date.day; hour = civil.time.hour; minute = civil.time.minute; second = civil.time.second }) }
+    ensures { result ≡ civil_text (record {
+      year = unsigned_abs civil.date.year;
+      month = civil.date.month;
+      day = civil.date.day;
+      hour = civil.time.hour;
+      minute = civil.time.minute;
+      second = civil.time.second;
+    }) }
 {
     let year = civil.year().unsigned_abs();
     let month = two_digits(civil.month());

@@ -77,7 +77,7 @@ impl Clock for MemoryClock {
     }
 }
 
-/// How long a pause of the system's clock asks the system to sleep, in milliseconds.
+// How long a pause of the system's clock asks the system to sleep, in milliseconds.
 const PAUSE: u64 = 10;
 
 /// The system's clock, over the runtime. It claims nothing of its moments. It gives the moment 0

@@ -27,14 +27,17 @@ pub trait Door {
 
     /// The first link that is left, or None where none is. A call that fails changes nothing else.
     fn accept(&mut self) -> Result<Option<Self::Wire>, Failed>
-        ensures links { Accepts (seen Self.Wire.left Self.Wire.held Self.Wire.Source.faults Self.Wire.Sink.faults) (links self.old) (links self.new) result }
+        ensures links { Accepts
+            (seen Self.Wire.left Self.Wire.held Self.Wire.Source.faults Self.Wire.Sink.faults)
+            (links self.old) (links self.new) result }
         ensures told { is_some (links self.new) ≡ is_some (links self.old) }
         ensures cause { HasCause (faults self.old) (faults self.new) result };
 
     /// Takes a link back after its connection: last among those that came back where there is room,
     /// and else it is dropped.
     fn ended(&mut self, link: Self::Wire)
-        ensures links { TakesBack (links self.old) (links self.new) (seen Self.Wire.left Self.Wire.held Self.Wire.Source.faults Self.Wire.Sink.faults link) }
+        ensures links { TakesBack (links self.old) (links self.new)
+            (seen Self.Wire.left Self.Wire.held Self.Wire.Source.faults Self.Wire.Sink.faults link) }
         ensures told { is_some (links self.new) ≡ is_some (links self.old) }
         ensures faults { faults self.new ≡ faults self.old };
 }
@@ -56,7 +59,14 @@ impl Model for MemoryDoor {
 
     ghost Value = { Porch };
 
-    ghost view = { λ d. record { left = d.links.items; back = d.back.items; room = d.room; fails = d.fails.items; calls = d.calls; faults = d.faults } };
+    ghost view = { λ d. record {
+      left = d.links.items;
+      back = d.back.items;
+      room = d.room;
+      fails = d.fails.items;
+      calls = d.calls;
+      faults = d.faults;
+    } };
 
     ghost invariant = { λ d. vec_len d.back + d.room ≤ vec_capacity d.back };
 }
@@ -69,7 +79,14 @@ impl MemoryDoor {
         links: VecDeque<MemoryLink>,
         fails: Vec<u64>,
     ) -> Result<MemoryDoor, NoMemory>
-        ensures { IfOk result (λ door. door ≡ record { left = links.items; back = []; room = deque_len links; fails = fails.items; calls = 0; faults = 0 }) }
+        ensures { IfOk result (λ door. door ≡ record {
+          left = links.items;
+          back = [];
+          room = deque_len links;
+          fails = fails.items;
+          calls = 0;
+          faults = 0;
+        }) }
     {
         let room = links.len();
         let back = Vec::with_capacity(alloc, room)?;
@@ -99,18 +116,28 @@ impl Door for MemoryDoor {
     ghost faults = { λ d. d.faults };
 
     fn accept(&mut self) -> Result<Option<MemoryLink>, Failed>
-        ensures taken { MatchResult result (λ link. self.old.left ≡ option_to_list link ++ self.new.left) (λ _. self.new.left ≡ self.old.left) }
+        ensures taken { MatchResult result
+            (λ link. self.old.left ≡ option_to_list link ++ self.new.left)
+            (λ _. self.new.left ≡ self.old.left) }
         ensures last { IfOk result (λ link. IsNone link ↔ (self.old.left ≡ [])) }
         ensures cause { HasCause self.old.faults self.new.faults result }
         ensures listed { FailsAsListed self.old.fails self.old.calls result }
-        ensures rest { self.new ≡ record { left = self.new.left; back = self.old.back; room = self.old.room; fails = self.old.fails; calls = one_more self.old.calls; faults = faults_after result self.old.faults } }
+        ensures rest { self.new ≡ record self.old {
+          left = self.new.left;
+          calls = one_more self.old.calls;
+          faults = faults_after result self.old.faults;
+        } }
     {
         begin_call(&self.fails, &mut self.calls, &mut self.faults)?;
         Ok(self.links.pop_front())
     }
 
     fn ended(&mut self, link: MemoryLink)
-        ensures room { 0 < self.old.room → self.new ≡ record { left = self.old.left; back = self.old.back ++ link ∷ []; room = self.old.room - 1; fails = self.old.fails; calls = self.old.calls; faults = self.old.faults } }
+        ensures room { 0 < self.old.room
+            → self.new ≡ record self.old {
+              back = self.old.back ++ link ∷ [];
+              room = self.old.room - 1;
+            } }
         ensures full { self.old.room ≡ 0 → self.new ≡ self.old }
     {
         if self.room > 0 {

@@ -22,7 +22,8 @@ pub trait Source {
     ghost outgoing: { Self → Side } = { λ _. no_side };
 
     /// Puts the next bytes at the start of `room`, and answers how many. With room, 0 is the end of
-    /// input. A read that fails takes nothing, and no read changes what was written.
+    /// input. A read that fails takes nothing, and no read changes what was written. It is not made
+    /// again: one that a signal interrupts may fail as any other, and ends a run with status 4.
     fn read(&mut self, room: &mut [u8]) -> Result<usize, Failed>
         ensures bound { ReadsAtMost result room.new }
         ensures bytes { ReadConsumes (left self.old) (left self.new) result room.new }

@@ -21,6 +21,3 @@ pub use memory::{MemorySink, MemorySource};
 pub use moments::Moment;
 pub use std_ends::{StdSink, StdSource};
 pub use tcp::{TcpDoor, TcpLink};
-
-#[cfg(test)]
-mod tests;

@@ -7,16 +7,18 @@ ghost use Rattle.ifmap_io.specs.Memory.{FailsAsListed, one_more, faults_after};
 ghost use Rattle.ifmap_io.specs.Written.{WritesAll};
 
 use crate::ends::{Failed, Sink, Source};
-use crate::memory::{begin_call, give};
+use crate::memory::{begin_call, move_bytes};
 use std::marker::Model;
 
 /// A source and a sink in one object, each with its own count of faults.
 pub trait Link: Source + Sink + Drop {
     /// What reads leave alone is what the link is as a sink.
-    ghost outgoing_is: { (link : Self) → Self.outgoing link ≡ record { bytes = Self.held link; faults = Self.Sink.faults link } };
+    ghost outgoing_is: { (link : Self) → Self.outgoing link
+        ≡ record { bytes = Self.held link; faults = Self.Sink.faults link } };
 
     /// What writes leave alone is what the link is as a source.
-    ghost incoming_is: { (link : Self) → Self.incoming link ≡ record { bytes = Self.left link; faults = Self.Source.faults link } };
+    ghost incoming_is: { (link : Self) → Self.incoming link
+        ≡ record { bytes = Self.left link; faults = Self.Source.faults link } };
 }
 
 /// A link over bytes in memory. It tells what it has left and what it holds. A read gives as many
@@ -39,7 +41,14 @@ impl Model for MemoryLink {
 
     ghost Value = { Cable };
 
-    ghost view = { λ l. record { left = drop l.taken l.bytes.items; held = l.held.items; fails = l.fails.items; calls = l.calls; read_faults = l.read_faults; write_faults = l.write_faults } };
+    ghost view = { λ l. record {
+      left = drop l.taken l.bytes.items;
+      held = l.held.items;
+      fails = l.fails.items;
+      calls = l.calls;
+      read_faults = l.read_faults;
+      write_faults = l.write_faults;
+    } };
 
     ghost invariant = { λ l. l.taken ≤ vec_len l.bytes };
 }
@@ -48,7 +57,14 @@ impl MemoryLink {
     /// A link that has `left` and holds `held`. Its reads, writes and flushes, counted together from
     /// 0, fail at the numbers `fails`.
     pub fn new(left: Vec<u8>, held: Vec<u8>, fails: Vec<u64>) -> MemoryLink
-        ensures { result ≡ record { left = left.items; held = held.items; fails = fails.items; calls = 0; read_faults = 0; write_faults = 0 } }
+        ensures { result ≡ record {
+          left = left.items;
+          held = held.items;
+          fails = fails.items;
+          calls = 0;
+          read_faults = 0;
+          write_faults = 0;
+        } }
     {
         MemoryLink {
             bytes: left,
@@ -79,13 +95,18 @@ impl Source for MemoryLink {
     fn read(&mut self, room: &mut [u8]) -> Result<usize, Failed>
         ensures bound { ReadsAtMost result room.new }
         ensures bytes { ReadConsumes (Some self.old.left) (Some self.new.left) result room.new }
-        ensures fills { IfOk result (λ count. count ≡ min (length self.old.left) (length room.new)) }
+        ensures fills { IfOk result
+            (λ count. count ≡ min (length self.old.left) (length room.new)) }
         ensures cause { HasCause self.old.read_faults self.new.read_faults result }
         ensures listed { FailsAsListed self.old.fails self.old.calls result }
-        ensures rest { self.new ≡ record { left = self.new.left; held = self.old.held; fails = self.old.fails; calls = one_more self.old.calls; read_faults = faults_after result self.old.read_faults; write_faults = self.old.write_faults } }
+        ensures rest { self.new ≡ record self.old {
+          left = self.new.left;
+          calls = one_more self.old.calls;
+          read_faults = faults_after result self.old.read_faults;
+        } }
     {
         begin_call(&self.fails, &mut self.calls, &mut self.read_faults)?;
-        Ok(give(&self.bytes, &mut self.taken, room))
+        Ok(move_bytes(&self.bytes, &mut self.taken, room))
     }
 }
 
@@ -101,7 +122,11 @@ impl Sink for MemoryLink {
         ensures cause { HasCause self.old.write_faults self.new.write_faults result }
         ensures listed { Contains self.old.fails self.old.calls → IsErr result }
         ensures none { OnErr result (self.new.held ≡ self.old.held) }
-        ensures rest { self.new ≡ record { left = self.old.left; held = self.new.held; fails = self.old.fails; calls = one_more self.old.calls; read_faults = self.old.read_faults; write_faults = faults_after result self.old.write_faults } }
+        ensures rest { self.new ≡ record self.old {
+          held = self.new.held;
+          calls = one_more self.old.calls;
+          write_faults = faults_after result self.old.write_faults;
+        } }
     {
         begin_call(&self.fails, &mut self.calls, &mut self.write_faults)?;
         if self.held.extend_from_slice(bytes).is_err() {
@@ -115,7 +140,10 @@ impl Sink for MemoryLink {
         ensures bytes { Keeps (Some self.old.held) (Some self.new.held) }
         ensures cause { HasCause self.old.write_faults self.new.write_faults result }
         ensures listed { FailsAsListed self.old.fails self.old.calls result }
-        ensures rest { self.new ≡ record { left = self.old.left; held = self.old.held; fails = self.old.fails; calls = one_more self.old.calls; read_faults = self.old.read_faults; write_faults = faults_after result self.old.write_faults } }
+        ensures rest { self.new ≡ record self.old {
+          calls = one_more self.old.calls;
+          write_faults = faults_after result self.old.write_faults;
+        } }
     {
         begin_call(&self.fails, &mut self.calls, &mut self.write_faults)?;
         Ok(())

@@ -25,7 +25,12 @@ impl Model for MemorySource {
 
     ghost Value = { Feed };
 
-    ghost view = { λ s. record { left = drop s.taken s.bytes.items; fails = s.fails.items; calls = s.reads; faults = s.faults } };
+    ghost view = { λ s. record {
+      left = drop s.taken s.bytes.items;
+      fails = s.fails.items;
+      calls = s.reads;
+      faults = s.faults;
+    } };
 
     ghost invariant = { λ s. s.taken ≤ vec_len s.bytes };
 }
@@ -33,7 +38,12 @@ impl Model for MemorySource {
 impl MemorySource {
     /// A source that has `left`, and whose reads fail at the numbers `fails`, counted from 0.
     pub fn new(left: Vec<u8>, fails: Vec<u64>) -> MemorySource
-        ensures { result ≡ record { left = left.items; fails = fails.items; calls = 0; faults = 0 } }
+        ensures { result ≡ record {
+          left = left.items;
+          fails = fails.items;
+          calls = 0;
+          faults = 0;
+        } }
     {
         MemorySource {
             bytes: left,
@@ -53,13 +63,18 @@ impl Source for MemorySource {
     fn read(&mut self, room: &mut [u8]) -> Result<usize, Failed>
         ensures bound { ReadsAtMost result room.new }
         ensures bytes { ReadConsumes (Some self.old.left) (Some self.new.left) result room.new }
-        ensures fills { IfOk result (λ count. count ≡ min (length self.old.left) (length room.new)) }
+        ensures fills { IfOk result
+            (λ count. count ≡ min (length self.old.left) (length room.new)) }
         ensures cause { HasCause self.old.faults self.new.faults result }
         ensures listed { FailsAsListed self.old.fails self.old.calls result }
-        ensures rest { self.new ≡ record { left = self.new.left; fails = self.old.fails; calls = one_more self.old.calls; faults = faults_after result self.old.faults } }
+        ensures rest { self.new ≡ record self.old {
+          left = self.new.left;
+          calls = one_more self.old.calls;
+          faults = faults_after result self.old.faults;
+        } }
     {
         begin_call(&self.fails, &mut self.reads, &mut self.faults)?;
-        Ok(give(&self.bytes, &mut self.taken, room))
+        Ok(move_bytes(&self.bytes, &mut self.taken, room))
     }
 }
 
@@ -78,14 +93,24 @@ impl Model for MemorySink {
 
     ghost Value = { Store };
 
-    ghost view = { λ s. record { held = s.held.items; fails = s.fails.items; calls = s.calls; faults = s.faults } };
+    ghost view = { λ s. record {
+      held = s.held.items;
+      fails = s.fails.items;
+      calls = s.calls;
+      faults = s.faults;
+    } };
 }
 
 impl MemorySink {
     /// A sink that holds `held`, and whose writes and flushes, counted together from 0, fail at the
     /// numbers `fails`.
     pub fn new(held: Vec<u8>, fails: Vec<u64>) -> MemorySink
-        ensures { result ≡ record { held = held.items; fails = fails.items; calls = 0; faults = 0 } }
+        ensures { result ≡ record {
+          held = held.items;
+          fails = fails.items;
+          calls = 0;
+          faults = 0;
+        } }
     {
         MemorySink {
             held,
@@ -113,7 +138,11 @@ impl Sink for MemorySink {
         ensures cause { HasCause self.old.faults self.new.faults result }
         ensures listed { Contains self.old.fails self.old.calls → IsErr result }
         ensures none { OnErr result (self.new.held ≡ self.old.held) }
-        ensures rest { self.new ≡ record { held = self.new.held; fails = self.old.fails; calls = one_more self.old.calls; faults = faults_after result self.old.faults } }
+        ensures rest { self.new ≡ record self.old {
+          held = self.new.held;
+          calls = one_more self.old.calls;
+          faults = faults_after result self.old.faults;
+        } }
     {
         begin_call(&self.fails, &mut self.calls, &mut self.faults)?;
         if self.held.extend_from_slice(bytes).is_err() {
@@ -127,7 +156,10 @@ impl Sink for MemorySink {
         ensures bytes { Keeps (Some self.old.held) (Some self.new.held) }
         ensures cause { HasCause self.old.faults self.new.faults result }
         ensures listed { FailsAsListed self.old.fails self.old.calls result }
-        ensures rest { self.new ≡ record { held = self.old.held; fails = self.old.fails; calls = one_more self.old.calls; faults = faults_after result self.old.faults } }
+        ensures rest { self.new ≡ record self.old {
+          calls = one_more self.old.calls;
+          faults = faults_after result self.old.faults;
+        } }
     {
         begin_call(&self.fails, &mut self.calls, &mut self.faults)?;
         Ok(())
@@ -152,7 +184,7 @@ pub(crate) fn begin_call(fails: &[u64], calls: &mut u64, faults: &mut u64) -> Re
 }
 
 // Moves what fits from the bytes past `taken` to the start of `room`, and answers how many.
-pub(crate) fn give(bytes: &[u8], taken: &mut usize, room: &mut [u8]) -> usize
+pub(crate) fn move_bytes(bytes: &[u8], taken: &mut usize, room: &mut [u8]) -> usize
     requires { taken.old ≤ length bytes.now }
     ensures within { taken.new ≤ length bytes.now }
     ensures bound { result ≤ length room.new }
@@ -160,13 +192,13 @@ pub(crate) fn give(bytes: &[u8], taken: &mut usize, room: &mut [u8]) -> usize
     ensures moved { drop taken.old bytes.now ≡ take result room.new ++ drop taken.new bytes.now }
     ensures end { result ≡ 0 → 0 < length room.new → drop taken.new bytes.now ≡ [] }
 {
-    let count = copy(&bytes[*taken..], room);
+    let count = copy_bytes(&bytes[*taken..], room);
     *taken += count;
     count
 }
 
 // Copies what fits.
-fn copy(rest: &[u8], room: &mut [u8]) -> usize
+fn copy_bytes(rest: &[u8], room: &mut [u8]) -> usize
     ensures count { result ≡ min (length rest.now) (length room.old) }
     ensures bytes { take result room.new ≡ take result rest.now }
 {

@@ -56,8 +56,10 @@ impl Moment {
     /// Its date and time of day in UTC, as `YYYY-MM-DDThh:mm:ssZ` (RFC 3339).
     pub fn text(&self) -> [u8; 20]
         ensures value { result ≡ moment_text self.now }
-        ensures shown { (c : Civil) × IsCivil c × (second_number c ≡ self.now) × (result ≡ civil_text c) }
-        ensures only { (c : Civil) → IsCivil c → second_number c ≡ self.now → result ≡ civil_text c }
+        ensures shown { (c : Civil) × IsCivil c × (second_number c ≡ self.now)
+            × (result ≡ civil_text c) }
+        ensures only { (c : Civil) → IsCivil c → second_number c ≡ self.now
+            → result ≡ civil_text c }
     {
         text_of(civil_at(self.0))
     }

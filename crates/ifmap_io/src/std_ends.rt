@@ -12,7 +12,8 @@ use std::io::{Read, Write};
 use std::marker::Model;
 
 /// A source over a reader. Contracts see it as the reader and its count of faults, which is one more
-/// after each read that fails.
+/// after each read that fails. A read that a signal interrupts fails too, and is counted: the program
+/// then ends with status 4.
 #[derive(Drop)]
 pub struct StdSource<R> {
     reader: R,
@@ -45,16 +46,18 @@ impl<R: Read> Source for StdSource<R> {
 
     fn read(&mut self, room: &mut [u8]) -> Result<usize, Failed>
         ensures bound { ReadsAtMost result room.new }
-        ensures reader { ReadConsumes (R.remaining self.old.inner) (R.remaining self.new.inner) result room.new }
+        ensures reader { ReadConsumes (R.remaining self.old.inner) (R.remaining self.new.inner)
+            result room.new }
         ensures cause { HasCause self.old.faults self.new.faults result }
         ensures counted { self.new.faults ≡ faults_after result self.old.faults }
     {
-        counted(self.reader.read(room), &mut self.faults)
+        count_error(self.reader.read(room), &mut self.faults)
     }
 }
 
 /// A sink over a writer. Contracts see it as the writer and its count of faults, which is one more
-/// after each write and each flush that fails. How much a write that fails has written is not told.
+/// after each write and each flush that fails. How much a write that fails has written is not told. A
+/// write that a signal interrupts goes on.
 #[derive(Drop)]
 pub struct StdSink<W> {
     writer: W,
@@ -86,11 +89,12 @@ impl<W: Write> Sink for StdSink<W> {
     ghost faults = { λ s. s.faults };
 
     fn write_all(&mut self, bytes: &[u8]) -> Result<(), Failed>
-        ensures writer { OnOk result (Appends (W.contents self.old.inner) (W.contents self.new.inner) bytes.now) }
+        ensures writer { OnOk result (Appends (W.contents self.old.inner)
+            (W.contents self.new.inner) bytes.now) }
         ensures cause { HasCause self.old.faults self.new.faults result }
         ensures counted { self.new.faults ≡ faults_after result self.old.faults }
     {
-        counted(self.writer.write_all(bytes), &mut self.faults)
+        count_error(self.writer.write_all(bytes), &mut self.faults)
     }
 
     fn flush(&mut self) -> Result<(), Failed>
@@ -98,12 +102,12 @@ impl<W: Write> Sink for StdSink<W> {
         ensures cause { HasCause self.old.faults self.new.faults result }
         ensures counted { self.new.faults ≡ faults_after result self.old.faults }
     {
-        counted(self.writer.flush(), &mut self.faults)
+        count_error(self.writer.flush(), &mut self.faults)
     }
 }
 
 // The system's answer, whose error is counted.
-pub(crate) fn counted<T>(answer: io::Result<T>, faults: &mut u64) -> Result<T, Failed>
+pub(crate) fn count_error<T>(answer: io::Result<T>, faults: &mut u64) -> Result<T, Failed>
     ensures same { MatchResult result (λ value. answer ≡ Ok value) (λ _. IsErr answer) }
     ensures counted { faults.new ≡ faults_after result faults.old }
     ensures later { faults.old ≤ faults.new }

@@ -9,7 +9,7 @@ ghost use Rattle.ifmap_io.specs.Memory.{faults_after};
 use crate::doors::Door;
 use crate::ends::{Failed, Sink, Source};
 use crate::links::Link;
-use crate::std_ends::counted;
+use crate::std_ends::count_error;
 use std::io::{Read, Write};
 use std::marker::Model;
 use std::net::{TcpListener, TcpStream};
@@ -53,9 +53,11 @@ impl Source for TcpLink {
     fn read(&mut self, room: &mut [u8]) -> Result<usize, Failed>
         ensures bound { ReadsAtMost result room.new }
         ensures cause { HasCause self.old.read_faults self.new.read_faults result }
-        ensures counted { self.new ≡ record { read_faults = faults_after result self.old.read_faults; write_faults = self.old.write_faults } }
+        ensures counted { self.new ≡ record self.old {
+          read_faults = faults_after result self.old.read_faults;
+        } }
     {
-        counted(self.stream.read(room), &mut self.read_faults)
+        count_error(self.stream.read(room), &mut self.read_faults)
     }
 }
 
@@ -68,16 +70,20 @@ impl Sink for TcpLink {
 
     fn write_all(&mut self, bytes: &[u8]) -> Result<(), Failed>
         ensures cause { HasCause self.old.write_faults self.new.write_faults result }
-        ensures counted { self.new ≡ record { read_faults = self.old.read_faults; write_faults = faults_after result self.old.write_faults } }
+        ensures counted { self.new ≡ record self.old {
+          write_faults = faults_after result self.old.write_faults;
+        } }
     {
-        counted(self.stream.write_all(bytes), &mut self.write_faults)
+        count_error(self.stream.write_all(bytes), &mut self.write_faults)
     }
 
     fn flush(&mut self) -> Result<(), Failed>
         ensures cause { HasCause self.old.write_faults self.new.write_faults result }
-        ensures counted { self.new ≡ record { read_faults = self.old.read_faults; write_faults = faults_after result self.old.write_faults } }
+        ensures counted { self.new ≡ record self.old {
+          write_faults = faults_after result self.old.write_faults;
+        } }
     {
-        counted(self.stream.flush(), &mut self.write_faults)
+        count_error(self.stream.flush(), &mut self.write_faults)
     }
 }
 
@@ -124,12 +130,15 @@ impl<'a> Door for TcpDoor<'a> {
     ghost faults = { λ d. d };
 
     fn accept(&mut self) -> Result<Option<TcpLink>, Failed>
-        ensures links { Accepts (seen ⟦<TcpLink as Source>⟧.left ⟦<TcpLink as Sink>⟧.held ⟦<TcpLink as Source>⟧.faults ⟦<TcpLink as Sink>⟧.faults) None None result }
+        ensures links { Accepts
+            (seen ⟦<TcpLink as Source>⟧.left ⟦<TcpLink as Sink>⟧.held
+            ⟦<TcpLink as Source>⟧.faults ⟦<TcpLink as Sink>⟧.faults)
+            None None result }
         ensures some { IfOk result IsSome }
         ensures cause { HasCause self.old self.new result }
         ensures counted { self.new ≡ faults_after result self.old }
     {
-        let (stream, _) = counted(self.listener.accept(), &mut self.faults)?;
+        let (stream, _) = count_error(self.listener.accept(), &mut self.faults)?;
         Ok(Some(TcpLink::new(stream)))
     }
 

@@ -9,14 +9,14 @@ use Rattle.std.specs.Ordering.{is_gt}
 use Rattle.std.specs.declared.cmp.Ordering.{Ordering}
 
 -- a list in order with one more member, before the first member that is not smaller
-abbrev pub placed : {X : Type 0} → (X → X → Ordering) → X → List X → List X
-placed cmp x [] = x ∷ []
-placed cmp x (y ∷ ys) = cond (is_gt (cmp x y)) (y ∷ placed cmp x ys) (x ∷ (y ∷ ys))
+abbrev pub insert : {X : Type 0} → (X → X → Ordering) → X → List X → List X
+insert cmp x [] = x ∷ []
+insert cmp x (y ∷ ys) = cond (is_gt (cmp x y)) (y ∷ insert cmp x ys) (x ∷ (y ∷ ys))
 
 -- the members of a list in rising order
 abbrev pub in_order : {X : Type 0} → (X → X → Ordering) → List X → List X
 in_order cmp [] = []
-in_order cmp (x ∷ xs) = placed cmp x (in_order cmp xs)
+in_order cmp (x ∷ xs) = insert cmp x (in_order cmp xs)
 
 -- a test that says which of two members is the greater
 pub record Ranks {X : Type 0} (gt : X → X → Bool) : Type 0 where
@@ -41,7 +41,7 @@ module _ {X : Type 0} (cmp : X → X → Ordering) (r : Ranks (λ x y. is_gt (cm
   before x y z e f = elim (cases_Bool (gt y x)) [ inl g ↦ g | inr g ↦ let h : gt y z ≡ false = r.chain y x z g e in cc ]
 
   -- which of two is placed first does not matter
-  placed_twice : (x y : X) (zs : List X) → placed cmp x (placed cmp y zs) ≡ placed cmp y (placed cmp x zs)
+  placed_twice : (x y : X) (zs : List X) → insert cmp x (insert cmp y zs) ≡ insert cmp y (insert cmp x zs)
   placed_twice x y [] = two x y []
   placed_twice x y (z ∷ zs) = elim (cases_Bool (gt x z)) [
     | inl e ↦ elim (cases_Bool (gt y z)) [
@@ -54,11 +54,11 @@ module _ {X : Type 0} (cmp : X → X → Ordering) (r : Ranks (λ x y. is_gt (cm
     ]
   ]
 
-  in_order_middle : (x : X) (xs ys : List X) → in_order cmp (xs ++ x ∷ ys) ≡ placed cmp x (in_order cmp (xs ++ ys))
+  in_order_middle : (x : X) (xs ys : List X) → in_order cmp (xs ++ x ∷ ys) ≡ insert cmp x (in_order cmp (xs ++ ys))
   in_order_middle x [] ys = refl
-  in_order_middle x (y ∷ xs) ys = ap (placed cmp y) (in_order_middle x xs ys) ∙ placed_twice y x (in_order cmp (xs ++ ys))
+  in_order_middle x (y ∷ xs) ys = ap (insert cmp y) (in_order_middle x xs ys) ∙ placed_twice y x (in_order cmp (xs ++ ys))
 
-  pub length-placed : (x : X) (ys : List X) → length (placed cmp x ys) ≡ suc (length ys)
+  pub length-placed : (x : X) (ys : List X) → length (insert cmp x ys) ≡ suc (length ys)
   length-placed x [] = refl
   length-placed x (y ∷ ys) = elim (cases_Bool (gt x y)) [ inl e ↦ rw e (ap suc (length-placed x ys)) | inr e ↦ rw e refl ]
 
@@ -73,7 +73,7 @@ module _ {X : Type 0} (cmp : X → X → Ordering) (r : Ranks (λ x y. is_gt (cm
   in_order_rising (x ∷ (y ∷ ys)) up =
       let h : in_order cmp (y ∷ ys) ≡ y ∷ ys = in_order_rising (y ∷ ys) (λ k d l. up (suc k) d (omega arith)) in
       let first : gt x y ≡ false = up 0 x (omega arith) in
-      ap (placed cmp x) h ∙ (rw first refl)
+      ap (insert cmp x) h ∙ (rw first refl)
 
   -- x stands before these, and a list that rises
   abbrev Before : X → List X → Type 0
@@ -84,11 +84,11 @@ module _ {X : Type 0} (cmp : X → X → Ordering) (r : Ranks (λ x y. is_gt (cm
   Rises [] = Unit {0}
   Rises (x ∷ xs) = Before x xs × Rises xs
 
-  before_placed : (z x : X) (ys : List X) → Before z ys → gt z x ≡ false → Before z (placed cmp x ys)
+  before_placed : (z x : X) (ys : List X) → Before z ys → gt z x ≡ false → Before z (insert cmp x ys)
   before_placed z x [] b e = e
   before_placed z x (y ∷ ys) b e = elim (cases_Bool (gt x y)) [ inl f ↦ rw f b | inr f ↦ rw f e ]
 
-  rises_placed : (x : X) (ys : List X) → Rises ys → Rises (placed cmp x ys)
+  rises_placed : (x : X) (ys : List X) → Rises ys → Rises (insert cmp x ys)
   rises_placed x [] up = (tt, tt)
   rises_placed x (y ∷ ys) up = elim (cases_Bool (gt x y)) [
     | inl f ↦ rw f (before_placed y x ys up.0 (r.one_way x y f), rises_placed x ys up.1)
@@ -108,17 +108,17 @@ module _ {X : Type 0} (cmp : X → X → Ordering) (r : Ranks (λ x y. is_gt (cm
   pub in_order-rises : (xs : List X) (k : ℕ) (d : X) → suc k < length (in_order cmp xs) → gt (get_or (in_order cmp xs) k d) (get_or (in_order cmp xs) (suc k) d) ≡ false
   in_order-rises xs = at_places (in_order cmp xs) (rises_in_order xs)
 
-  IsPermutation-placed : (x : X) (ys : List X) → IsPermutation (x ∷ ys) (placed cmp x ys)
+  IsPermutation-placed : (x : X) (ys : List X) → IsPermutation (x ∷ ys) (insert cmp x ys)
   IsPermutation-placed x [] = IsPermutation-refl (x ∷ [])
   IsPermutation-placed x (y ∷ ys) = elim (cases_Bool (gt x y)) [
-    | inl f ↦ rw f (IsPermutation-trans (x ∷ (y ∷ ys)) (y ∷ (x ∷ ys)) (y ∷ placed cmp x ys) (IsPermutation-middle (x ∷ []) y ys) (IsPermutation-cons y (x ∷ ys) (placed cmp x ys) (IsPermutation-placed x ys)))
+    | inl f ↦ rw f (IsPermutation-trans (x ∷ (y ∷ ys)) (y ∷ (x ∷ ys)) (y ∷ insert cmp x ys) (IsPermutation-middle (x ∷ []) y ys) (IsPermutation-cons y (x ∷ ys) (insert cmp x ys) (IsPermutation-placed x ys)))
     | inr f ↦ rw f (IsPermutation-refl (x ∷ (y ∷ ys)))
   ]
 
   pub IsPermutation-in_order : (xs : List X) → IsPermutation xs (in_order cmp xs)
   IsPermutation-in_order [] = IsPermutation-refl []
   IsPermutation-in_order (x ∷ xs) =
-      IsPermutation-trans (x ∷ xs) (x ∷ in_order cmp xs) (placed cmp x (in_order cmp xs)) (IsPermutation-cons x xs (in_order cmp xs) (IsPermutation-in_order xs)) (IsPermutation-placed x (in_order cmp xs))
+      IsPermutation-trans (x ∷ xs) (x ∷ in_order cmp xs) (insert cmp x (in_order cmp xs)) (IsPermutation-cons x xs (in_order cmp xs) (IsPermutation-in_order xs)) (IsPermutation-placed x (in_order cmp xs))
 
   module _ (eq : X → X → Bool) (itself : (x : X) → eq x x ≡ true) (tells : (x y : X) → eq x y ≡ true → x ≡ y) where
     abbrev count : X → List X → ℕ
@@ -135,10 +135,10 @@ module _ {X : Type 0} (cmp : X → X → Ordering) (r : Ranks (λ x y. is_gt (cm
         let f : X → ℕ = λ y. cond (eq y z) 1 0 in
         omega (arith, sum_by-append f xs (x ∷ ys), sum_by-append f xs ys, sum_by-cons f x ys)
 
-    count-placed : (z x : X) (ys : List X) → count z (placed cmp x ys) ≡ one x z + count z ys
+    count-placed : (z x : X) (ys : List X) → count z (insert cmp x ys) ≡ one x z + count z ys
     count-placed z x [] = count-cons z x []
     count-placed z x (y ∷ ys) = elim (cases_Bool (gt x y)) [
-      | inl e ↦ rw e (omega (arith, count-cons z y (placed cmp x ys), count-placed z x ys, count-cons z y ys))
+      | inl e ↦ rw e (omega (arith, count-cons z y (insert cmp x ys), count-placed z x ys, count-cons z y ys))
       | inr e ↦ rw e (count-cons z x (y ∷ ys))
     ]
 
@@ -167,7 +167,7 @@ module _ {X : Type 0} (cmp : X → X → Ordering) (r : Ranks (λ x y. is_gt (cm
         let h : in_order cmp xs ≡ in_order cmp (p.0 ++ p.1) =
         in_order_same xs (p.0 ++ p.1) (omega (arith, length-append p.0 (x ∷ p.1), length-append p.0 p.1))
         (λ z. omega (arith, fewer z, count-cons z x xs, ap (count z) p.2, count-middle z x p.0 p.1)) in
-        ap (placed cmp x) h ∙ sym (in_order_middle x p.0 p.1) ∙ ap (in_order cmp) (sym p.2)
+        ap (insert cmp x) h ∙ sym (in_order_middle x p.0 p.1) ∙ ap (in_order cmp) (sym p.2)
 
     pub in_order-permutation : (xs ys : List X) → IsPermutation xs ys → in_order cmp xs ≡ in_order cmp ys
     in_order-permutation xs ys p =

@@ -1,11 +1,12 @@
 -- Texts as lists of bytes: their equality and order, and ASCII in UTF-8.
-use Rattle.std.proofs.Common.{◌≡◌, ℕ, ◌<◌, Bool, true, false, not, List, [], ◌∷◌, ◌++◌, refl, ap, ◌∙◌, arith}
+use Rattle.std.proofs.Common.{◌≡◌, ℕ, ◌<◌, Bool, true, false, not, List, [], ◌∷◌, ◌++◌, refl, ap, sym, ◌∙◌, arith}
 use Rattle.std.specs.Prelude.{nat_le, encode_utf8_all}
-use Rattle.std.specs.Cmp.Lexicographic.{slice_cmp, texts_ties}
+use Rattle.std.specs.Cmp.{tied_itself}
+use Rattle.std.specs.Cmp.Lexicographic.{nat_list_cmp_total, slice_cmp, texts_ties}
 use Rattle.std.specs.List.{AllByRecursion}
-use Rattle.std.specs.Ordering.{nat_cmp, is_eq}
+use Rattle.std.specs.Ordering.{nat_cmp, is_eq, ordering_reverse}
 use Rattle.std.specs.Str.{bytes_eq}
-use Rattle.std.specs.declared.cmp.Ordering.TheVariants.{Equal}
+use Rattle.std.specs.declared.cmp.Ordering.TheVariants.{Less, Equal, Greater}
 use Rattle.std.proofs.lemmas.Bool.{not-true}
 use Rattle.std.proofs.lemmas.Bool.Decides.{nat_tests}
 use Rattle.std.proofs.lemmas.Slice.Eq.{bytes_eq-Decides}
@@ -29,3 +30,21 @@ ascii_encoded (b ∷ bs) f = (λ i. encode_ascii b (low b f.0) i ++ ascii_encode
   where
     low : (b : ℕ) → is_ascii b ≡ true → b < 128
     low b h = let g : nat_le 128 b ≡ false = not-true (nat_le 128 b) h in grind (arith, nat_tests)
+
+-- a text compares as equal to itself
+pub slice_cmp-same : (xs ys : List ℕ) → xs ≡ ys → slice_cmp nat_cmp xs ys ≡ Equal
+slice_cmp-same xs ys e = ap (slice_cmp nat_cmp xs) (sym e) ∙ tied_itself nat_list_cmp_total xs
+
+-- and to no other
+pub slice_cmp-equal : (xs ys : List ℕ) → Equal ≡ slice_cmp nat_cmp xs ys → xs ≡ ys
+slice_cmp-equal xs ys e = same_texts xs ys (sym e)
+
+pub slice_cmp-less : (xs ys : List ℕ) → Less ≡ slice_cmp nat_cmp xs ys → xs ≡ ys → true ≡ false
+slice_cmp-less xs ys e s = let same = slice_cmp-same xs ys s in cc
+
+pub slice_cmp-greater : (xs ys : List ℕ) → Greater ≡ slice_cmp nat_cmp xs ys → xs ≡ ys → true ≡ false
+slice_cmp-greater xs ys e s = let same = slice_cmp-same xs ys s in cc
+
+-- the greater one stands after the other
+pub slice_cmp-turn : (xs ys : List ℕ) → Greater ≡ slice_cmp nat_cmp xs ys → slice_cmp nat_cmp ys xs ≡ Less
+slice_cmp-turn xs ys e = nat_list_cmp_total.antisymm ys xs ∙ ap ordering_reverse (sym e)

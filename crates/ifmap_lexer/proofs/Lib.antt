@@ -6,7 +6,8 @@ pub mod ExpansionLaws
 pub mod KindLaws
 pub mod NameLaws
 pub mod NumberLaws
-pub mod QuoteLaws
+pub mod PlainLaws
+mod QuoteLaws
 pub mod RunLaws
 pub mod SettingLaws
 pub mod SplitLaws

@@ -1,12 +1,13 @@
 -- Names that are read are those that stand there.
-use Rattle.std.proofs.Common.{◌≡◌, ◌≢◌, ℕ, ◌≤◌, Bool, true, false, List, [], ◌∷◌, ◌++◌, length, refl, ap, sym, ◌∙◌, subst, arith, inl, inr}
-use Rattle.std.specs.Prelude.{encode_utf8, encode_utf8_all, IsTrue, ◌↔◌, IsUtf8}
+use Rattle.std.proofs.Common.{◌≡◌, ◌≢◌, ℕ, ◌<◌, ◌≤◌, Bool, true, false, List, [], ◌∷◌, ◌++◌, length, refl, ap, sym, ◌∙◌, subst, arith, inl, inr}
+use Rattle.std.specs.Prelude.{encode_utf8, encode_utf8_all, IsTrue, ◌↔◌, ◌&&◌, IsUtf8, nat_lt}
 use Rattle.std.specs.Str.{chars, all_scalars}
+use Rattle.std.specs.Bool.{OnTrue}
 use Rattle.std.specs.List.{list_all}
 use Rattle.std.proofs.Math.Utf8.{scalar, low_scalar}
-use Rattle.std.proofs.lemmas.Bool.{cases_lt, and_from}
+use Rattle.std.proofs.lemmas.Bool.{cases_lt, and_from, and_parts}
 use Rattle.std.proofs.lemmas.Bool.Decides.{nat_tests}
-use Rattle.std.proofs.lemmas.Str.{encode_same, encodes-chars, chars_from_encodes, IsUtf8-past_char}
+use Rattle.std.proofs.lemmas.Str.{encode_ascii, encode_same, encodes-chars, chars_from_encodes, IsUtf8-past_char}
 use Rattle.ifmap_elem.specs.Chars.{AllAre}
 use Rattle.ifmap_elem.specs.declared.tokens.Qualified.{Qualified}
 use Rattle.ifmap_elem.specs.Names.{IsNamePart, IsQualified, is_name_start, is_name_character, name_bytes, prefixed}
@@ -15,7 +16,7 @@ use Rattle.ifmap_lemmas.specs.Members.{all_weaker}
 use Rattle.ifmap_lemmas.specs.Numbers.{is_other}
 use Rattle.ifmap_elem.specs.laws.NameBytes.{is_part_byte, name_are_bytes, part_bytes, part_is_some}
 use Rattle.ifmap_lexer.specs.Cutting.{Cuts, CutsAt, is_but, Stops}
-use Rattle.ifmap_lexer.specs.Names.{is_name_byte}
+use Rattle.ifmap_lexer.specs.Names.{is_name_byte, stands_in_ascii, starts_in_ascii}
 use Rattle.ifmap_lexer.proofs.Basics.{each, of_each, all_back}
 
 high_start : (c : ℕ) → 55296 ≤ c → is_name_start c ≡ true → scalar c ≡ true
@@ -36,6 +37,30 @@ inner_are_scalars (c ∷ cs) f = and_from (scalar c) (all_scalars cs) (inner_is_
 
 pub part_is_utf8 : (bytes : List ℕ) → IsNamePart bytes → IsUtf8 bytes
 part_is_utf8 bytes p = (p.first ∷ p.others, (and_from (scalar p.first) (all_scalars p.others) (start_is_scalar p.first p.begins) (inner_are_scalars p.others p.goes_on), p.bytes_are))
+
+-- parts of ASCII
+
+low : (b : ℕ) → nat_lt b 128 ≡ true → b < 128
+low b h = grind (arith, nat_tests)
+
+ascii_all : (bs : List ℕ) → list_all stands_in_ascii bs ≡ true → AllAre is_name_character bs × (encode_utf8_all bs ≡ bs)
+ascii_all [] h = (tt, refl)
+ascii_all (b ∷ bs) h =
+    let parts = and_parts (stands_in_ascii b) (list_all stands_in_ascii bs) h in
+    let both = and_parts (nat_lt b 128) (is_name_character b) parts.0 in
+    let others = ascii_all bs parts.1 in
+    ((both.1, others.0), (λ i. encode_ascii b (low b both.0) i ++ others.1 i))
+
+ascii_part : (b : ℕ) (bs : List ℕ) → (starts_in_ascii b && list_all stands_in_ascii bs) ≡ true → IsNamePart (b ∷ bs)
+ascii_part b bs h =
+    let parts = and_parts (starts_in_ascii b) (list_all stands_in_ascii bs) h in
+    let both = and_parts (nat_lt b 128) (is_name_start b) parts.0 in
+    let others = ascii_all bs parts.1 in
+    record { first = b; others = bs; bytes_are = (λ i. encode_ascii b (low b both.0) i ++ others.1 i); begins = both.1; goes_on = others.0 }
+
+pub ascii_tells : (bytes : List ℕ) (b : ℕ) (bs : List ℕ) (r : Bool) → bytes ≡ b ∷ bs → r ≡ (starts_in_ascii b && list_all stands_in_ascii bs) → OnTrue r (IsNamePart bytes)
+ascii_tells bytes b bs true is told = subst IsNamePart (sym is) (ascii_part b bs (sym told))
+ascii_tells bytes b bs false is told = tt
 
 -- the first character and the others
 

@@ -1,6 +1,6 @@
 -- The first place of a word.
 use Rattle.std.proofs.Common.{◌≡◌, ℕ, zero, suc, ◌+◌, ◌-◌, ◌<◌, ◌≤◌, Bool, true, false, List, [], ◌∷◌, ◌++◌, length, get_or, take, drop, refl, ap, sym, ◌∙◌, subst, arith, append_assoc, length-append}
-use Rattle.std.specs.Prelude.{◌==◌, nat_eq}
+use Rattle.std.specs.Prelude.{◌==◌, codes, nat_eq}
 use Rattle.std.specs.List.{starts_with}
 use Rattle.std.proofs.lemmas.List.{take-append-drop, length-take}
 use Rattle.std.proofs.Math.ListN.{get_or-append}
@@ -10,7 +10,7 @@ use Rattle.memchr.specs.Find.{OccursAt, NoneBefore, Passes, is_byte}
 use Rattle.memchr.proofs.lemmas.MatchLemmas.{OccursAt-part, OccursAt-from_part}
 use Rattle.ifmap_elem.specs.Chars.{AllAre}
 use Rattle.ifmap_elem.specs.Tokens.{Lacks}
-use Rattle.ifmap_lemmas.specs.Numbers.{is_number}
+use Rattle.ifmap_lemmas.specs.Numbers.{is_number, is_other}
 use Rattle.ifmap_lexer.specs.Cutting.{CutsWord, CutsAt, is_but}
 
 fits : (w xs : List ℕ) → w ≡ take (length w) xs → 0 + length w ≤ length xs
@@ -92,3 +92,10 @@ word_not_lacked (x ∷ xs) bytes front after some e l = at_seam front (subst (La
         let wrong : true ≡ false = sym test ∙ l.0 in
         cc
     at_seam (y ∷ ys) l = at_seam ys l.1
+
+-- without a bracket there is no end of a section
+pub lacks_section_end : (bytes : List ℕ) → AllAre (is_but 0x5D) bytes → Lacks (codes "]]>") bytes
+lacks_section_end [] f = tt
+lacks_section_end (b ∷ bs) f =
+    let other : (0x5D == b) ≡ false = is_other 0x5D b (λ e. let wrong : true ≡ false = sym f.0 ∙ subst (λ (n : ℕ). is_but 0x5D n ≡ false) e refl in cc) in
+    (rw other refl, lacks_section_end bs f.1)

@@ -1,5 +1,6 @@
 -- What runs of written characters add to a text or a value (XML 1.0, sections 2.11 and 3.3.3).
-use Rattle.std.specs.Prelude.{ℕ, List, map}
+use Rattle.std.specs.Prelude.{ℕ, Bool, not, ◌==◌, ◌||◌, List, map}
+use Rattle.ifmap_elem.specs.Chars.{ampersand, carriage_return, line_feed, space_character, tab}
 use Rattle.ifmap_elem.specs.Values.{Part, text_part, value_part, as_space}
 use Rattle.ifmap_lexer.specs.declared.values.Place.{Place}
 use Rattle.ifmap_lexer.specs.declared.values.Place.TheVariants.{AttributeValue, CharacterData}
@@ -16,5 +17,10 @@ line_in AttributeValue line = map as_space line
 
 -- what the end of a line adds in its place
 abbrev pub break_in : Place → ℕ
-break_in CharacterData = 0xA
-break_in AttributeValue = 0x20
+break_in CharacterData = line_feed
+break_in AttributeValue = space_character
+
+-- a byte that adds itself: one of no reference and no line end, and in a value no tab and no line feed either
+abbrev pub stands_for_itself : Place → ℕ → Bool
+stands_for_itself CharacterData b = not (b == ampersand || b == carriage_return)
+stands_for_itself AttributeValue b = not ((b == ampersand || b == carriage_return) || (b == line_feed || b == tab))

@@ -17,6 +17,3 @@ mod values;
 
 pub use errors::LexError;
 pub use lexing::{Lexed, token_of};
-
-#[cfg(test)]
-mod tests;

@@ -1,10 +1,11 @@
 //! Names as they are written.
-ghost use Rattle.std.specs.Prelude.{◌≡◌, ◌++◌, ◌↔◌, ℕ, List, IfErr, IfOk, IsTrue};
-ghost use Rattle.std.specs.List.{prefix_len};
+ghost use Rattle.std.specs.Prelude.{◌≡◌, ◌&&◌, ◌++◌, ◌↔◌, ℕ, List, IfErr, IfOk, IsTrue};
+ghost use Rattle.std.specs.List.{list_all, prefix_len};
 ghost use Rattle.ifmap_elem.specs.declared.tokens.Qualified.{Qualified};
 ghost use Rattle.ifmap_elem.specs.Names.{IsNamePart, IsQualified, is_name_start, is_name_character, name_bytes};
 ghost use Rattle.ifmap_lexer.specs.Cutting.{Cuts, Stops};
-ghost use Rattle.ifmap_lexer.specs.Names.{is_name_byte};
+ghost use Rattle.std.specs.Bool.{OnTrue};
+ghost use Rattle.ifmap_lexer.specs.Names.{is_name_byte, stands_in_ascii, starts_in_ascii};
 ghost use Rattle.ifmap_lexer.specs.Refusing.{Refuses};
 
 use crate::errors::LexError;
@@ -79,7 +80,52 @@ fn name_part(alloc: Global, bytes: &[u8]) -> Result<Text, LexError>
     }
 }
 
+/// Whether the bytes are a name part of ASCII alone, as most names are.
+#[tactic(auto, using(crate::proofs::NameLaws::ascii_tells))]
+fn is_ascii_part(bytes: &[u8]) -> bool
+    ensures { OnTrue result (IsNamePart bytes.now) }
+{
+    let Some((first, others)) = bytes.split_first() else {
+        return false;
+    };
+    is_ascii_run(*first, others)
+}
+
+fn is_ascii_run(first: u8, others: &[u8]) -> bool
+    ensures { result ≡ (starts_in_ascii first && list_all stands_in_ascii others.now) }
+{
+    is_ascii_first(first) && are_ascii_inner(others)
+}
+
+fn are_ascii_inner(bytes: &[u8]) -> bool
+    ensures { result ≡ list_all stands_in_ascii bytes.now }
+{
+    bytes.iter().all(|byte| is_ascii_inner(*byte))
+}
+
+fn is_ascii_first(byte: u8) -> bool
+    ensures { result ≡ starts_in_ascii byte }
+{
+    byte < 128 && is_first(byte as char)
+}
+
+#[inline(always)]
+fn is_ascii_inner(byte: u8) -> bool
+    ensures { result ≡ stands_in_ascii byte }
+{
+    byte < 128 && is_inner(byte as char)
+}
+
 fn is_name_part(text: &str) -> bool
+    ensures { IsTrue result ↔ IsNamePart text.now }
+{
+    if is_ascii_part(text.as_bytes()) {
+        return true;
+    }
+    is_any_name_part(text)
+}
+
+fn is_any_name_part(text: &str) -> bool
     ensures { IsTrue result ↔ IsNamePart text.now }
 {
     let mut characters = text.chars();
@@ -113,12 +159,15 @@ fn is_first(character: char) -> bool
     )
 }
 
-/// Whether the character may stand in a name part. Most are small letters.
+/// Whether the character may stand in a name part. Most are letters, hyphens and digits of ASCII.
 #[inline(always)]
 fn is_inner(character: char) -> bool
     ensures { result ≡ is_name_character character }
 {
-    matches!(character as u32, 0x61..=0x7A) || is_any_inner(character)
+    matches!(
+        character as u32,
+        0x61..=0x7A | 0x2D | 0x30..=0x39 | 0x41..=0x5A
+    ) || is_any_inner(character)
 }
 
 #[inline(never)]

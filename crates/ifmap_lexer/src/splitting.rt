@@ -1,5 +1,5 @@
 //! How far runs go: white space, a byte, a word.
-ghost use Rattle.std.specs.Prelude.{◌≡◌, ◌<◌, ◌≤◌, ◌+◌, ◌++◌, ℕ, List, IfNone, IfSome, length, take, drop};
+ghost use Rattle.std.specs.Prelude.{◌≡◌, ◌<◌, ◌≤◌, ◌+◌, ◌++◌, ℕ, List, IfNone, IfSome, codes, length, take, drop};
 ghost use Rattle.std.specs.Bool.{OnFalse, OnTrue};
 ghost use Rattle.std.specs.List.{prefix_len};
 ghost use Rattle.ifmap_elem.specs.Chars.{AllAre, is_white};
@@ -92,6 +92,18 @@ pub(crate) fn has_word(word: &[u8], bytes: &[u8]) -> bool
     ensures no { OnFalse result (Lacks word.now bytes.now) }
 {
     split_word(word, bytes).is_some()
+}
+
+/// Whether the end of a section stands somewhere. Most texts have no bracket, which is soon seen.
+#[tactic(auto, using(crate::proofs::WordLaws::lacks_section_end))]
+pub(crate) fn has_section_end(bytes: &[u8]) -> bool
+    ensures yes { OnTrue result (Lacks (codes "]]>") bytes.now → ⊥) }
+    ensures no { OnFalse result (Lacks (codes "]]>") bytes.now) }
+{
+    if !has_byte(b']', bytes) {
+        return false;
+    }
+    has_word(b"]]>", bytes)
 }
 
 /// The bytes before a place, and those after as many from there on.

@@ -12,7 +12,9 @@ use crate::declaration::after_declaration;
 use crate::errors::LexError;
 use crate::kinds::{Kind, kind_at};
 use crate::names::name_of;
-use crate::splitting::{after_word, has_word, is_white, split_byte, split_white, split_word};
+use crate::splitting::{
+    after_word, has_section_end, is_white, split_byte, split_white, split_word,
+};
 use crate::tags::tag_of;
 use crate::values::{Place, meaning, plain_meaning};
 use ifmap_elem::tokens::Token;
@@ -116,7 +118,7 @@ fn text(alloc: Global, bytes: &[u8]) -> Result<(Token, &[u8]), LexError>
     if own.is_empty() {
         return Err(LexError::Malformed);
     }
-    if has_word(b"]]>", own) {
+    if has_section_end(own) {
         return Err(LexError::Malformed);
     }
     let Some(written) = characters(own) else {

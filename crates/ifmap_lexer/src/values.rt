@@ -4,7 +4,9 @@ ghost use Rattle.ifmap_elem.specs.Chars.{AllAre};
 ghost use Rattle.ifmap_elem.specs.Values.{Expands, Plain, as_space, line_ends};
 ghost use Rattle.ifmap_lexer.specs.Cutting.{is_but};
 ghost use Rattle.ifmap_lexer.specs.Refusing.{Refuses};
-ghost use Rattle.ifmap_lexer.specs.Runs.{break_in, line_in, part_in};
+ghost use Rattle.std.specs.Bool.{OnTrue};
+ghost use Rattle.ifmap_lexer.specs.Runs.{break_in, line_in, part_in, stands_for_itself};
+ghost use Rattle.ifmap_lexer.specs.declared.values.Place.TheVariants.{AttributeValue, CharacterData};
 
 use crate::errors::LexError;
 use crate::references::character_named;
@@ -22,7 +24,54 @@ pub(crate) enum Place {
 }
 
 /// What the written characters mean.
+#[tactic(auto, using(crate::proofs::PlainLaws::plain_means))]
 pub(crate) fn meaning(alloc: Global, place: Place, written: &str) -> Result<Text, LexError>
+    ensures found { IfOk result (λ text. Expands (part_in place) written.now text) }
+    ensures refused { IfErr result (λ e. Refuses e ((text : List ℕ) × Expands (part_in place) written.now text)) }
+{
+    if are_plain(place, written.as_bytes()) {
+        return Ok(Text(String::from_str(alloc, written)?));
+    }
+    expansion_of(alloc, place, written)
+}
+
+/// Whether the bytes mean themselves, as those of most texts and values do.
+fn are_plain(place: Place, bytes: &[u8]) -> bool
+    ensures { OnTrue result (AllAre (stands_for_itself place) bytes.now) }
+{
+    match place {
+        Place::CharacterData => are_plain_in_text(bytes),
+        Place::AttributeValue => are_plain_in_value(bytes),
+    }
+}
+
+// Without a branch for each byte it becomes vector code.
+#[tactic(auto, using(crate::proofs::CharacterLaws::all_more))]
+fn are_plain_in_text(bytes: &[u8]) -> bool
+    ensures { OnTrue result (AllAre (stands_for_itself CharacterData) bytes.now) }
+{
+    let mut marked = false;
+    for byte in bytes {
+        let b = *byte;
+        marked |= (b == b'&') | (b == b'\r');
+    }
+    !marked
+}
+
+#[tactic(auto, using(crate::proofs::CharacterLaws::all_more))]
+fn are_plain_in_value(bytes: &[u8]) -> bool
+    ensures { OnTrue result (AllAre (stands_for_itself AttributeValue) bytes.now) }
+{
+    let mut marked = false;
+    for byte in bytes {
+        let b = *byte;
+        marked |= (b == b'&') | (b == b'\r') | (b == b'\n') | (b == b'\t');
+    }
+    !marked
+}
+
+/// What the written characters mean, with their references and line ends replaced.
+fn expansion_of(alloc: Global, place: Place, written: &str) -> Result<Text, LexError>
     ensures found { IfOk result (λ text. Expands (part_in place) written.now text) }
     ensures refused { IfErr result (λ e. Refuses e ((text : List ℕ) × Expands (part_in place) written.now text)) }
 {

@@ -10,50 +10,47 @@ use Rattle.std.proofs.lemmas.Map.Views.{any-filter_same}
 use Rattle.std.proofs.lemmas.Slice.Eq.{bytes_eq-Decides}
 use Rattle.std.specs.List.{filter, list_any}
 use Rattle.std.specs.Str.{bytes_eq}
-use Rattle.ifmap_elem.specs.Arranged.{arranged, arranged_child, sorted}
+use Rattle.ifmap_elem.specs.Arranged.{arrange, arrange_child, sort_attributes}
 use Rattle.ifmap_elem.specs.Canonical.{root_bytes}
 use Rattle.ifmap_elem.specs.Namespaces.{prefix_rows}
 use Rattle.ifmap_elem.specs.declared.elements.Attribute.{Attribute}
 use Rattle.ifmap_elem.specs.declared.elements.Element.{Element}
+use Rattle.ifmap_lemmas.specs.Filters.{filter_again}
 use Rattle.ifmap_elem.specs.laws.ArrangedLaws.{arranged_is}
 use Rattle.ifmap_elem.specs.laws.AttributeOrder.{one_order, sorted_permutation}
 use Rattle.ifmap_meta.specs.Cardinality.{is_single, is_single_value}
 use Rattle.ifmap_meta.specs.Keys.{content_bytes}
-use Rattle.ifmap_meta.specs.Stamps.{content_of, is_stamp, stamped, stamps, with_stamps, without_stamps}
+use Rattle.ifmap_meta.specs.Stamps.{content_of, is_stamp, stamp, stamps, with_stamps, without_stamps}
 use Rattle.ifmap_meta.proofs.Order.{filter_sorted}
 
 abbrev is_content : Attribute → Bool
 is_content a = not (is_stamp a)
 
-sorted_again : (xs : List Attribute) → sorted (sorted xs) ≡ sorted xs
-sorted_again xs = sym (one_order xs (sorted xs) (sorted_permutation xs))
+sorted_again : (xs : List Attribute) → sort_attributes (sort_attributes xs) ≡ sort_attributes xs
+sorted_again xs = sym (one_order xs (sort_attributes xs) (sorted_permutation xs))
 
--- what passes a test passes it again
-filter_again : {X : Type 0} (p : X → Bool) (xs : List X) → filter p (filter p xs) ≡ filter p xs
-filter_again p [] = refl
-filter_again p (x ∷ xs) = elim (cases_Bool (p x)) [
-  | inl e ↦ rw (e, e) (ap (λ ys. x ∷ ys) (filter_again p xs))
-  | inr e ↦ rw e (filter_again p xs)
-]
-
-stamps_go : (publisher : List ℕ) (moment : ℕ) (xs : List Attribute) → without_stamps (without_stamps xs ++ stamps publisher moment) ≡ without_stamps xs
+stamps_go : (publisher : List ℕ) (moment : ℕ) (xs : List Attribute)
+    → without_stamps (without_stamps xs ++ stamps publisher moment) ≡ without_stamps xs
 stamps_go publisher moment xs =
     filter-append is_content (without_stamps xs) (stamps publisher moment)
     ∙ append-nil (without_stamps (without_stamps xs))
     ∙ filter_again is_content xs
 
-same_content : (publisher : List ℕ) (moment : ℕ) (xs : List Attribute) → sorted (without_stamps (with_stamps publisher moment (without_stamps xs))) ≡ sorted (without_stamps xs)
+same_content : (publisher : List ℕ) (moment : ℕ) (xs : List Attribute)
+    → sort_attributes (without_stamps (with_stamps publisher moment (without_stamps xs))) ≡ sort_attributes (without_stamps xs)
 same_content publisher moment xs =
     let all = without_stamps xs ++ stamps publisher moment in
-    ap sorted (filter_sorted is_content all ∙ ap sorted (stamps_go publisher moment xs)) ∙ sorted_again (without_stamps xs)
+    ap sort_attributes (filter_sorted is_content all ∙ ap sort_attributes (stamps_go publisher moment xs)) ∙ sorted_again (without_stamps xs)
 
-arranged_content : (publisher : List ℕ) (moment : ℕ) (e : Element) → arranged (content_of (stamped publisher moment e)) ≡ arranged (content_of e)
+arranged_content : (publisher : List ℕ) (moment : ℕ) (e : Element)
+    → arrange (content_of (stamp publisher moment e)) ≡ arrange (content_of e)
 arranged_content publisher moment e =
-    arranged_is (content_of (stamped publisher moment e))
-    ∙ ap (λ attributes. record { name = e.name; attributes = attributes; children = map arranged_child e.children }) (same_content publisher moment e.attributes)
+    arranged_is (content_of (stamp publisher moment e))
+    ∙ ap (λ attributes. record { name = e.name; attributes = attributes; children = map arrange_child e.children })
+    (same_content publisher moment e.attributes)
     ∙ sym (arranged_is (content_of e))
 
-pub content_stays : (publisher : List ℕ) (moment : ℕ) (e : Element) → content_bytes (stamped publisher moment e) ≡ content_bytes e
+pub content_stays : (publisher : List ℕ) (moment : ℕ) (e : Element) → content_bytes (stamp publisher moment e) ≡ content_bytes e
 unfolding content_bytes
 content_stays publisher moment e = ap (root_bytes (prefix_rows (codes "f") 1 [])) (arranged_content publisher moment e)
 
@@ -69,11 +66,11 @@ is_content_too a e =
     let second : bytes_eq a.name.local (codes "ifmap-timestamp") ≡ false = rw l refl in
     rw (first, second) (never_both (bytes_eq a.name.space []))
 
-pub cardinality_stays : (publisher : List ℕ) (moment : ℕ) (e : Element) → is_single (stamped publisher moment e) ≡ is_single e
+pub cardinality_stays : (publisher : List ℕ) (moment : ℕ) (e : Element) → is_single (stamp publisher moment e) ≡ is_single e
 cardinality_stays publisher moment e =
     let content = without_stamps e.attributes in
     let all = content ++ stamps publisher moment in
-    sym (list_any-IsPermutation is_single_value all (sorted all) (sorted_permutation all))
+    sym (list_any-IsPermutation is_single_value all (sort_attributes all) (sorted_permutation all))
     ∙ list_any-append is_single_value content (stamps publisher moment)
     ∙ or-false (list_any is_single_value content)
     ∙ any-filter_same is_single_value is_content true is_content_too e.attributes
@@ -86,8 +83,10 @@ no_stamps (x ∷ xs) = elim (cases_Bool (is_stamp x)) [
   | inr e ↦ rw (e, e) (no_stamps xs)
 ]
 
-pub stamps_stay : (publisher : List ℕ) (moment : ℕ) (e : Element) → filter is_stamp (stamped publisher moment e).attributes ≡ stamps publisher moment
+pub stamps_stay : (publisher : List ℕ) (moment : ℕ) (e : Element)
+    → filter is_stamp (stamp publisher moment e).attributes ≡ stamps publisher moment
 stamps_stay publisher moment e =
     let content = without_stamps e.attributes in
     filter_sorted is_stamp (content ++ stamps publisher moment)
-    ∙ ap sorted (filter-append is_stamp content (stamps publisher moment) ∙ ap (λ xs. xs ++ stamps publisher moment) (no_stamps e.attributes))
+    ∙ ap sort_attributes (filter-append is_stamp content (stamps publisher moment) ∙ ap
+    (λ xs. xs ++ stamps publisher moment) (no_stamps e.attributes))

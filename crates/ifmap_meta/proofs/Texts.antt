@@ -14,4 +14,5 @@ all_ascii : (c : Civil) → AllByRecursion (λ b. b < 128) (civil_text c)
 all_ascii c = search (arith, digit_is_ascii)
 
 pub civil_text_is_utf8 : (c : Civil) → IsUtf8 (civil_text c)
-civil_text_is_utf8 c = IsUtf8-from_ascii (civil_text c) (IsAscii-from_all (civil_text c) (All-from_recursion (λ b. b < 128) (civil_text c) (all_ascii c)))
+civil_text_is_utf8 c = IsUtf8-from_ascii (civil_text c) (IsAscii-from_all (civil_text c) (All-from_recursion
+    (λ b. b < 128) (civil_text c) (all_ascii c)))

@@ -18,4 +18,5 @@ same_type a b = (bytes_eq a.name.space b.name.space && bytes_eq a.name.local b.n
 
 -- under one key, on one item: of one type, and where there may be many, of one publisher and content
 abbrev pub same_key : Stored → Stored → Bool
-same_key a b = same_type a.element b.element && (is_single a.element || (bytes_eq a.publisher b.publisher && bytes_eq (content_bytes a.element) (content_bytes b.element)))
+same_key a b = same_type a.element b.element && (is_single a.element ||
+    (bytes_eq a.publisher b.publisher && bytes_eq (content_bytes a.element) (content_bytes b.element)))

@@ -2,7 +2,7 @@
 -- the operational attributes of metadata).
 use Rattle.std.specs.Prelude.{ℕ, List, [], ◌∷◌, ◌++◌, Bool, not, ◌||◌, codes}
 use Rattle.std.specs.List.{filter}
-use Rattle.ifmap_elem.specs.Arranged.{sorted}
+use Rattle.ifmap_elem.specs.Arranged.{sort_attributes}
 use Rattle.ifmap_elem.specs.Building.{bare_attribute, is_bare}
 use Rattle.ifmap_elem.specs.declared.elements.Attribute.{Attribute}
 use Rattle.ifmap_elem.specs.declared.elements.Element.{Element}
@@ -27,8 +27,12 @@ stamps publisher moment =
 
 -- these attributes and the stamps, in order
 abbrev pub with_stamps : List ℕ → ℕ → List Attribute → List Attribute
-with_stamps publisher moment attributes = sorted (attributes ++ stamps publisher moment)
+with_stamps publisher moment attributes = sort_attributes (attributes ++ stamps publisher moment)
 
 -- an element as this publisher's at that moment, whatever it says of that itself
-abbrev pub stamped : List ℕ → ℕ → Element → Element
-stamped publisher moment e = record { name = e.name; attributes = with_stamps publisher moment (without_stamps e.attributes); children = e.children }
+abbrev pub stamp : List ℕ → ℕ → Element → Element
+stamp publisher moment e = record {
+  name = e.name;
+  attributes = with_stamps publisher moment (without_stamps e.attributes);
+  children = e.children;
+}

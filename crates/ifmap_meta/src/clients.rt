@@ -9,7 +9,7 @@ ghost use Rattle.std.proofs.Common.{rules};
 ghost use Rattle.ifmap_meta.specs.ClientNames.{IsClientName, is_client_byte};
 
 use ifmap_elem::{Copied, Equals, Text};
-use std::alloc::{AllocError, Global};
+use std::alloc::{AllocError as NoMemory, Global};
 use std::cmp::Ordering;
 use std::marker::Model;
 
@@ -52,7 +52,7 @@ impl ClientName {
 }
 
 impl Copied for ClientName {
-    fn copy(&self, alloc: Global) -> Result<Self, AllocError> {
+    fn copy(&self, alloc: Global) -> Result<Self, NoMemory> {
         Ok(ClientName(self.0.copy(alloc)?))
     }
 }
@@ -95,7 +95,8 @@ impl Ord for ClientName {
 impl PartialOrd for ClientName {
     ghost partial_cmp = { as_partial_cmp (slice_cmp nat_cmp) };
 
-    ghost laws = { partial_order_from_own_ties (Prim.search (comparing, rules)) (Prim.search (comparing, rules)) };
+    ghost laws = { partial_order_from_own_ties (Prim.search (comparing, rules))
+        (Prim.search (comparing, rules)) };
 
     fn partial_cmp(&self, other: &ClientName) -> Option<Ordering> {
         Some(self.cmp(other))
@@ -117,5 +118,5 @@ fn are_client_bytes(bytes: &[u8]) -> bool
 fn is_client_byte(b: u8) -> bool
     ensures { result ≡ is_client_byte b }
 {
-    matches!(b, b'a'..=b'z' | b'A'..=b'Z' | b'0'..=b'9' | b'.' | b'_' | b'-')
+    b.is_ascii_alphanumeric() || matches!(b, b'.' | b'_' | b'-')
 }

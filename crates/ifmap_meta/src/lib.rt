@@ -11,6 +11,3 @@ pub mod stored;
 pub use clients::ClientName;
 pub use metadata::{Cardinality, Metadata};
 pub use stored::{Life, Stored, content, content_bytes, is_single, same_type};
-
-#[cfg(test)]
-mod tests;

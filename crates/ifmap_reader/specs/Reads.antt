@@ -2,8 +2,7 @@
 use Rattle.std.specs.Prelude.{◌≡◌, ℕ, ◌<◌, ◌≤◌, List, length, IfOk, IfErr, Result, Ok, Err}
 use Rattle.ifmap_elem.specs.declared.elements.Element.{Element}
 use Rattle.ifmap_elem.specs.declared.readings.Reading.{Reading}
-use Rattle.ifmap_elem.specs.Arranged.{arranged}
-use Rattle.ifmap_elem.specs.Canonical.{AreHeld, canonical_bytes}
+use Rattle.ifmap_elem.specs.Canonical.{canonical_bytes, canonical_reading}
 use Rattle.ifmap_elem.specs.Fit.{IsFit}
 use Rattle.ifmap_elem.specs.Nesting.{nesting}
 use Rattle.ifmap_elem.specs.Places.{Deep, Stop}
@@ -42,11 +41,10 @@ pub record AreCanonical (bytes : List ℕ) (depth : ℕ) (e : Element) : Type 0 
   pub fit : IsFit e
   pub shallow : nesting e ≤ depth
   pub bytes_are : bytes ≡ canonical_bytes e
-  pub held : AreHeld bytes
 
--- what is read is the element with its attributes in order, unless memory runs out
+-- what is read is the element with its attributes in order and the declarations of its printing, unless memory runs out
 abbrev pub GivesBack : Element → Result Reading ReadError → Type 0
-GivesBack e result = IfOk result (λ r. r.root ≡ arranged e) × IfErr result (λ error. error ≡ NoMemory)
+GivesBack e result = IfOk result (λ r. r ≡ canonical_reading e) × IfErr result (λ error. error ≡ NoMemory)
 
 abbrev pub lex_error : LexError → ℕ → ReadError
 lex_error lexing.Malformed at = Unreadable at

@@ -16,6 +16,3 @@ mod standing;
 pub use errors::ReadError;
 pub use reading::read;
 pub use scoping::{Scope, scope_at};
-
-#[cfg(test)]
-mod tests;

@@ -13,7 +13,7 @@ use Rattle.std.specs.Ordering.{is_gt, is_lt, is_le, is_some_and, partial_le, par
 use Rattle.std.specs.declared.cmp.Ordering.{Ordering}
 use Rattle.std.specs.declared.cmp.Ordering.TheVariants.{Less, Equal, Greater}
 use Rattle.ifmap_elem.specs.declared.elements.Attribute.{Attribute}
-use Rattle.ifmap_elem.specs.Arranged.{attribute_order, name_order, sorted}
+use Rattle.ifmap_elem.specs.Arranged.{attribute_order, name_order, sort_attributes}
 use Rattle.ifmap_elem.specs.printer.Occurrences.{attribute_eq, occurrences_of}
 use Rattle.std.specs.List.Sorted.{IsPermutation, IsSorted}
 use Rattle.std.proofs.lemmas.List.Sorted.{IsPermutation-map, IsPermutation-refl}
@@ -79,17 +79,17 @@ eq_tells a b e =
     let w = (bytes_eq-Decides a.value b.value).0 p.1 in
     λ i. record { name = record { space = s i; local = l i }; value = w i }
 
-pub length-sorted : (xs : List Attribute) → length (sorted xs) ≡ length xs
+pub length-sorted : (xs : List Attribute) → length (sort_attributes xs) ≡ length xs
 length-sorted xs = length-in_order attribute_order attribute_ranks xs
 
-pub occurrences-sorted : (a : Attribute) (xs : List Attribute) → occurrences_of a (sorted xs) ≡ occurrences_of a xs
+pub occurrences-sorted : (a : Attribute) (xs : List Attribute) → occurrences_of a (sort_attributes xs) ≡ occurrences_of a xs
 occurrences-sorted a xs = count-in_order attribute_order attribute_ranks attribute_eq eq_itself eq_tells a xs
 
 -- different lengths, or numbers of occurrences, show that two lists are not the same in order
-pub not_same_lengths : (xs ys : List Attribute) → (length xs ≡ length ys → ⊥) → sorted xs ≡ sorted ys → ⊥
+pub not_same_lengths : (xs ys : List Attribute) → (length xs ≡ length ys → ⊥) → sort_attributes xs ≡ sort_attributes ys → ⊥
 not_same_lengths xs ys other same = other (sym (length-sorted xs) ∙ ap length same ∙ length-sorted ys)
 
-pub not_same_numbers : (a : Attribute) (xs ys : List Attribute) → (occurrences_of a xs ≡ occurrences_of a ys → ⊥) → sorted xs ≡ sorted ys → ⊥
+pub not_same_numbers : (a : Attribute) (xs ys : List Attribute) → (occurrences_of a xs ≡ occurrences_of a ys → ⊥) → sort_attributes xs ≡ sort_attributes ys → ⊥
 not_same_numbers a xs ys other same = other (sym (occurrences-sorted a xs) ∙ ap (occurrences_of a) same ∙ occurrences-sorted a ys)
 
 -- an attribute stands nowhere in a list, or at some place
@@ -106,7 +106,7 @@ nowhere_or_at a (x ∷ xs) = elim (cases_Bool (attribute_eq x a)) [
 ]
 
 -- lists of one length where each member of the first occurs as often in the second
-pub same_members : (xs ys : List Attribute) → length xs ≡ length ys → All (λ a. occurrences_of a xs ≡ occurrences_of a ys) xs → sorted xs ≡ sorted ys
+pub same_members : (xs ys : List Attribute) → length xs ≡ length ys → All (λ a. occurrences_of a xs ≡ occurrences_of a ys) xs → sort_attributes xs ≡ sort_attributes ys
 same_members xs ys long often = in_order_same attribute_order attribute_ranks attribute_eq eq_itself eq_tells xs ys long (λ a. fewer a)
   where
     fewer : (a : Attribute) → occurrences_of a xs ≤ occurrences_of a ys
@@ -125,7 +125,7 @@ not_greater Greater Equal e f = cc
 not_greater Greater Greater e f = cc
 
 -- a permutation of the attributes that rises
-pub rising_is_sorted : (xs ys : List Attribute) → IsPermutation xs ys → ((k : ℕ) (d : Attribute) → suc k < length ys → is_lt (attribute_order (get_or ys (suc k) d) (get_or ys k d)) ≡ false) → ys ≡ sorted xs
+pub rising_is_sorted : (xs ys : List Attribute) → IsPermutation xs ys → ((k : ℕ) (d : Attribute) → suc k < length ys → is_lt (attribute_order (get_or ys (suc k) d) (get_or ys k d)) ≡ false) → ys ≡ sort_attributes xs
 rising_is_sorted xs ys p up =
     in_order_is attribute_order attribute_ranks attribute_eq eq_itself eq_tells xs ys p
     (λ k d l. not_greater (attribute_order (get_or ys k d) (get_or ys (suc k) d)) (attribute_order (get_or ys (suc k) d) (get_or ys k d)) (attributes_total.antisymm (get_or ys k d) (get_or ys (suc k) d)) (up k d l))
@@ -155,7 +155,7 @@ compared_is a b =
     ∙ then_some (name_order a.name b.name) (slice_cmp nat_cmp a.value b.value)
 
 -- attributes each of which is not greater than the next are in order
-pub already_sorted : (xs : List Attribute) (r : Bool) → IsEachAdjacentAnswer (λ x y b. partial_le compared x y ≡ b) xs r → OnTrue r (sorted xs ≡ xs)
+pub already_sorted : (xs : List Attribute) (r : Bool) → IsEachAdjacentAnswer (λ x y b. partial_le compared x y ≡ b) xs r → OnTrue r (sort_attributes xs ≡ xs)
 already_sorted xs true up = sym (rising_is_sorted xs xs (IsPermutation-refl xs) (λ k d l. rises k d l))
   where
     rises : (k : ℕ) (d : Attribute) → suc k < length xs → is_lt (attribute_order (get_or xs (suc k) d) (get_or xs k d)) ≡ false
@@ -182,10 +182,10 @@ rising_references (s ∷ ss) up k d l =
     ap (λ a. is_lt (attribute_order a (get_or (referred (s ∷ ss)) k d))) next ∙ ap (λ a. is_lt (attribute_order (now (get_or (s ∷ ss) (suc k) s)) a)) here ∙ step
 
 -- references that were put in order refer to the attributes in order
-pub sorted_references : (rs ss : List (Bor Attribute)) → IsPermutation rs ss → IsSorted (λ (x y : Bor Attribute). attribute_order x.now y.now) ss → referred ss ≡ sorted (referred rs)
+pub sorted_references : (rs ss : List (Bor Attribute)) → IsPermutation rs ss → IsSorted (λ (x y : Bor Attribute). attribute_order x.now y.now) ss → referred ss ≡ sort_attributes (referred rs)
 sorted_references rs ss p up = rising_is_sorted (referred rs) (referred ss) (IsPermutation-map (λ (r : Bor Attribute). r.now) rs ss p) (rising_references ss up)
 
-pub sorted_permutation : (xs : List Attribute) → IsPermutation xs (sorted xs)
+pub sorted_permutation : (xs : List Attribute) → IsPermutation xs (sort_attributes xs)
 sorted_permutation xs = IsPermutation-in_order attribute_order attribute_ranks xs
 
 not_less : (p q : Ordering) → p ≡ ordering_reverse q → is_gt q ≡ false → is_lt p ≡ false
@@ -195,13 +195,13 @@ not_less Less Greater e f = cc
 not_less Equal q e f = refl
 not_less Greater q e f = refl
 
-pub sorted_rises : (xs : List Attribute) → IsSorted attribute_order (sorted xs)
+pub sorted_rises : (xs : List Attribute) → IsSorted attribute_order (sort_attributes xs)
 sorted_rises xs k d low high =
-    let next : Attribute = get_or (sorted xs) (suc k) d in
-    let here : Attribute = get_or (sorted xs) k d in
+    let next : Attribute = get_or (sort_attributes xs) (suc k) d in
+    let here : Attribute = get_or (sort_attributes xs) k d in
     let step : is_lt (attribute_order next here) ≡ false =
     not_less (attribute_order next here) (attribute_order here next) (attributes_total.antisymm next here) (in_order-rises attribute_order attribute_ranks xs k d (omega arith)) in
-    subst (λ (n : ℕ). is_lt (attribute_order (get_or (sorted xs) n d) here) ≡ false) (sym (add-one k)) step
+    subst (λ (n : ℕ). is_lt (attribute_order (get_or (sort_attributes xs) n d) here) ≡ false) (sym (add-one k)) step
 
-pub one_order : (xs ys : List Attribute) → IsPermutation xs ys → sorted xs ≡ sorted ys
+pub one_order : (xs ys : List Attribute) → IsPermutation xs ys → sort_attributes xs ≡ sort_attributes ys
 one_order xs ys p = in_order-permutation attribute_order attribute_ranks attribute_eq eq_itself eq_tells xs ys p

@@ -1,6 +1,6 @@
 -- The canonical bytes of an element that fits spell the element with its attributes in order, and tell elements apart.
-use Rattle.std.proofs.Common.{◌≡◌, ◌↔◌, ℕ, ◌<◌, ◌≤◌, Bool, false, IsTrue, List, [], ◌∷◌, ◌++◌, map, length, refl, ap, sym, ◌∙◌, subst, arith, length-append}
-use Rattle.std.specs.Prelude.{Result, Ok, Err, IfOk, ◌^◌, codes}
+use Rattle.std.proofs.Common.{◌≡◌, ◌↔◌, ℕ, Bool, false, IsTrue, List, [], ◌∷◌, ◌++◌, map, refl, ap, sym, ◌∙◌, subst, arith}
+use Rattle.std.specs.Prelude.{Result, Ok, Err, IfOk}
 use Rattle.std.specs.List.{AllByRecursion, flat_map}
 use Rattle.std.proofs.lemmas.List.{append-nil}
 use Rattle.ifmap_lemmas.specs.Items.{To}
@@ -8,21 +8,23 @@ use Rattle.ifmap_elem.specs.declared.elements.Attribute.{Attribute}
 use Rattle.ifmap_elem.specs.declared.elements.Child.{Child}
 use Rattle.ifmap_elem.specs.declared.elements.Child as the
 use Rattle.ifmap_elem.specs.declared.elements.Element.{Element}
+use Rattle.ifmap_elem.specs.declared.readings.Declared.{Declared}
 use Rattle.ifmap_elem.specs.declared.readings.Reading.{Reading}
+use Rattle.std.proofs.lemmas.Simd.{map-map}
 use Rattle.ifmap_elem.specs.Folds.{at_child_element, at_child_text, Each, by_children}
-use Rattle.ifmap_elem.specs.Arranged.{arranged, IsSame}
-use Rattle.ifmap_elem.specs.Canonical.{printed_name, declaration_bytes, attribute_bytes, content_bytes, child_bytes, root_bytes, written_bytes, canonical_bytes, AreHeld}
-use Rattle.ifmap_elem.specs.Document.{tokens_of}
+use Rattle.ifmap_elem.specs.Arranged.{arrange, IsSame}
+use Rattle.ifmap_elem.specs.Canonical.{root_bytes, written_bytes, canonical_bytes, root_declarations, written_reading, canonical_reading}
+use Rattle.ifmap_elem.specs.Document.{tokens_of, declared_here}
 use Rattle.ifmap_elem.specs.Fit.{IsFit, IsFitAlone, IsFitAttribute, IsNamespace, IsDeclarable}
 use Rattle.ifmap_elem.specs.Namespaces.{spaces_of, spaces_of_child, child_spaces, element_spaces, namespaces, name_prefixes}
-use Rattle.ifmap_elem.specs.Scopes.{Scope, IsBinding, root_scope}
-use Rattle.ifmap_elem.specs.Spells.{Spells, SpelledBy, without_byte_order_mark}
+use Rattle.ifmap_elem.specs.Scopes.{Scope, Binding, IsBinding, root_scope}
+use Rattle.ifmap_elem.specs.Spells.{Spells, without_byte_order_mark}
 use Rattle.ifmap_elem.specs.Tokens.{TakesToken}
 use Rattle.ifmap_elem.specs.laws.FitLaws.{elements_of_child, elements_in, fit_parts, fit_arranged}
 use Rattle.ifmap_lemmas.specs.Members.{all_both, both_all}
 use Rattle.ifmap_elem.specs.laws.OneReading.{one_reading}
 use Rattle.ifmap_elem.specs.laws.PrintedTags.{Rows, row_binding, Resolves, FitRow}
-use Rattle.ifmap_elem.specs.laws.PrintedScopes.{n_letter, f_letter, rows_of, scope_of, root_outermost, rows_outermost, all_resolved, are_declared, rows_fit, rows_are_bindings, prefixes_differ, both_differ, length-rows}
+use Rattle.ifmap_elem.specs.laws.PrintedScopes.{n_letter, f_letter, rows_of, scope_of, root_outermost, rows_outermost, all_resolved, are_declared, rows_fit, rows_are_bindings, prefixes_differ, both_differ}
 use Rattle.ifmap_elem.specs.laws.PrintedElements.{ElementTaken, tagged_taken, children_taken, fits_in, spaces_is, one_is_root}
 
 -- all namespaces of an element that fits can be declared
@@ -76,8 +78,9 @@ bindings_both : (rows more : Rows) → AllByRecursion IsBinding (map row_binding
 bindings_both [] more f g = g
 bindings_both (row ∷ rows) more f g = (f.0, bindings_both rows more f.1 g)
 
-root_taken : (e : Element) (given : Texts) → IsFit e → AllByRecursion IsDeclarable given → length (namespaces e) < 2 ^ 64 → length given < 2 ^ 64 → ElementTaken root_scope (root_bytes (rows_of 0x66 1 given) e) e
-root_taken e given fit can small few =
+root_taken : (e : Element) (given : Texts) → IsFit e → AllByRecursion IsDeclarable given
+    → ElementTaken root_scope (root_bytes (rows_of 0x66 1 given) e) e (declared_here (map row_binding (its_rows e given)))
+root_taken e given fit can =
     let prefixes : Rows = name_prefixes (namespaces e) in
     let scope : Scope = map row_binding (its_rows e given) ++ root_scope in
     let parts = fit_parts e fit in
@@ -85,80 +88,52 @@ root_taken e given fit can small few =
     let more : Scope = scope_of 0x66 1 given root_scope in
     let all : AllByRecursion (Resolves prefixes scope) (spaces_of e) =
     subst (λ (s : Scope). AllByRecursion (Resolves prefixes s) (spaces_of e)) (sym (rows_seam (rows_of 0x6E 1 (namespaces e)) (rows_of 0x66 1 given) root_scope))
-    (all_resolved (spaces_of e) more (rows_outermost 0x66 1 given root_scope f_letter root_outermost) small) in
+    (all_resolved (spaces_of e) more (rows_outermost 0x66 1 given root_scope f_letter root_outermost)) in
     let r : AllByRecursion (Resolves prefixes scope) (e.name.space ∷ (map space_of e.attributes ++ flat_map spaces_of_child e.children)) = subst (AllByRecursion (Resolves prefixes scope)) (spaces_is e) all in
     let s = all_both (Resolves prefixes scope) (map space_of e.attributes) (flat_map spaces_of_child e.children) r.1 in
     tagged_taken prefixes (its_rows e given) root_scope e parts.0
-    (both_all FitRow (rows_of 0x6E 1 (namespaces e)) (rows_of 0x66 1 given) (rows_fit 0x6E n_letter 1 (namespaces e) (omega arith) spaces) (rows_fit 0x66 f_letter 1 given (omega arith) can))
+    (both_all FitRow (rows_of 0x6E 1 (namespaces e)) (rows_of 0x66 1 given) (rows_fit 0x6E n_letter 1 (namespaces e) spaces) (rows_fit 0x66 f_letter 1 given can))
     (bindings_both (rows_of 0x6E 1 (namespaces e)) (rows_of 0x66 1 given) (rows_are_bindings 0x6E n_letter 1 (namespaces e) spaces) (rows_are_bindings 0x66 f_letter 1 given can))
-    (both_differ 0x6E 0x66 1 1 (namespaces e) given (λ q. absurd (omega arith)) (prefixes_differ 0x6E n_letter 1 (namespaces e) (omega arith)) (prefixes_differ 0x66 f_letter 1 given (omega arith)))
+    (both_differ 0x6E 0x66 1 1 (namespaces e) given (λ q. absurd (omega arith)) (prefixes_differ 0x6E n_letter 1 (namespaces e)) (prefixes_differ 0x66 f_letter 1 given))
     r.0 (fits_in prefixes scope e.attributes parts.0.attributes s.0) (children_taken prefixes scope e.children parts.1 parts.0.children.texts s.1)
 
-taken_spells : (e : Element) (bytes : List ℕ) → without_byte_order_mark bytes ≡ bytes → ElementTaken root_scope bytes e → SpelledBy bytes e
-taken_spells e bytes marked t = (
-  record { root = e; declared = t.declared },
-  refl,
-  record {
-    tokens = tokens_of t.pieces;
-    lexed = subst (λ (b : List ℕ). To TakesToken b (tokens_of t.pieces) []) (append-nil bytes ∙ sym marked) (t.lexed []);
-    document = record { declared = false; pieces = t.pieces; tokens_are = refl; rooted = one_is_root t.pieces e t.declared t.one };
-  },
-)
+taken_spells : (e : Element) (bytes : List ℕ) (declared : List Declared) → without_byte_order_mark bytes ≡ bytes → ElementTaken root_scope bytes e declared
+    → Spells bytes (record { root = e; declared = declared })
+taken_spells e bytes declared marked t = record {
+  tokens = tokens_of t.pieces;
+  lexed = subst (λ (b : List ℕ). To TakesToken b (tokens_of t.pieces) []) (append-nil bytes ∙ sym marked) (t.lexed []);
+  document = record { declared = false; pieces = t.pieces; tokens_are = refl; rooted = one_is_root t.pieces e declared t.one };
+}
 
--- held bytes number their namespaces
+-- the element as it stands, printed as a root, is spelled by its bytes, with the declarations of its rows
+pub root_spelled : (e : Element) (given : Texts) → IsFit e → AllByRecursion IsDeclarable given
+    → Spells (root_bytes (rows_of 0x66 1 given) e) (record { root = e; declared = root_declarations (its_rows e given) })
+root_spelled e given fit can =
+    subst (λ (d : List Declared). Spells (root_bytes (rows_of 0x66 1 given) e) (record { root = e; declared = d }))
+    (map-map (λ (b : Binding). record { path = []; prefix = b.prefix; space = b.space }) row_binding (its_rows e given))
+    (taken_spells e (root_bytes (rows_of 0x66 1 given) e) (declared_here (map row_binding (its_rows e given))) refl (root_taken e given fit can))
 
-some_bytes : (rows : Rows) → length rows ≤ length (flat_map declaration_bytes rows)
-some_bytes [] = omega arith
-some_bytes (row ∷ rows) = omega (arith, some_bytes rows, length-append (declaration_bytes row) (flat_map declaration_bytes rows))
+pub written_spelled : (e : Element) (given : Texts) → IsFit e → AllByRecursion IsDeclarable given → Spells (written_bytes e given) (written_reading e given)
+written_spelled e given fit can = root_spelled (arrange e) given (fit_arranged e fit) can
 
-within_tag : (n d r : List ℕ) → length d ≤ length (codes "<" ++ (n ++ (d ++ r)))
-within_tag n d r = omega (arith, length-append n (d ++ r), length-append d r)
-
-few_rows : (given : Rows) (e : Element) → AreHeld (root_bytes given e) → length (rows_of 0x6E 1 (namespaces e) ++ given) < 2 ^ 64
-few_rows given e held =
-    let rows : Rows = rows_of 0x6E 1 (namespaces e) ++ given in
-    omega (
-      arith,
-      held,
-      some_bytes rows,
-      within_tag (printed_name (name_prefixes (namespaces e)) e.name) (flat_map declaration_bytes rows)
-          (flat_map (attribute_bytes (name_prefixes (namespaces e))) e.attributes ++ content_bytes (printed_name (name_prefixes (namespaces e)) e.name) (map (child_bytes (name_prefixes (namespaces e))) e.children)),
-    )
-
--- the element as it stands, printed as a root, is spelled by its bytes
-pub root_spelled : (e : Element) (given : Texts) → IsFit e → AllByRecursion IsDeclarable given → AreHeld (root_bytes (rows_of 0x66 1 given) e)
-    → SpelledBy (root_bytes (rows_of 0x66 1 given) e) e
-root_spelled e given fit can held =
-    let few : length (rows_of 0x6E 1 (namespaces e) ++ rows_of 0x66 1 given) < 2 ^ 64 = few_rows (rows_of 0x66 1 given) e held in
-    let both = length-append (rows_of 0x6E 1 (namespaces e)) (rows_of 0x66 1 given) in
-    let own = length-rows 0x6E 1 (namespaces e) in
-    let more = length-rows 0x66 1 given in
-    taken_spells e (root_bytes (rows_of 0x66 1 given) e) refl (root_taken e given fit can (omega arith) (omega arith))
-
-pub written_spelled : (e : Element) (given : Texts) → IsFit e → AllByRecursion IsDeclarable given → AreHeld (written_bytes e given)
-    → SpelledBy (written_bytes e given) (arranged e)
-written_spelled e given fit can held = root_spelled (arranged e) given (fit_arranged e fit) can held
-
-pub canonical_spelled : (e : Element) → IsFit e → AreHeld (canonical_bytes e) → SpelledBy (canonical_bytes e) (arranged e)
-canonical_spelled e fit held = written_spelled e [] fit tt held
+pub canonical_spelled : (e : Element) → IsFit e → Spells (canonical_bytes e) (canonical_reading e)
+canonical_spelled e fit = written_spelled e [] fit tt
 
 -- elements that fit are printed alike just where they are the same but for the order of attributes
 pub alike_when_same : (a b : Element) → IsSame a b → canonical_bytes a ≡ canonical_bytes b
 alike_when_same a b same = ap (root_bytes []) same
 
-pub same_when_alike : (a b : Element) → IsFit a → IsFit b → AreHeld (canonical_bytes a) → canonical_bytes a ≡ canonical_bytes b → IsSame a b
-same_when_alike a b fit also held alike =
-    let l = canonical_spelled a fit held in
-    let m = canonical_spelled b also (subst AreHeld alike held) in
-    let one : l.0 ≡ m.0 = one_reading (canonical_bytes b) l.0 m.0 (subst (λ (bytes : List ℕ). Spells bytes l.0) alike l.2) m.2 in
-    sym l.1 ∙ ap (λ (r : Reading). r.root) one ∙ m.1
+pub same_when_alike : (a b : Element) → IsFit a → IsFit b → canonical_bytes a ≡ canonical_bytes b → IsSame a b
+same_when_alike a b fit also alike =
+    let mine : Spells (canonical_bytes b) (canonical_reading a) = subst (λ (bytes : List ℕ). Spells bytes (canonical_reading a)) alike (canonical_spelled a fit) in
+    ap (λ (r : Reading). r.root) (one_reading (canonical_bytes b) (canonical_reading a) (canonical_reading b) mine (canonical_spelled b also))
 
 -- what tells whether two elements are the same tells it of their canonical bytes
-pub tells_apart : (a b : Element) (r : Bool) → (IsTrue r ↔ IsSame a b) → IsFit a → IsFit b → AreHeld (canonical_bytes a) → (IsTrue r ↔ (canonical_bytes a ≡ canonical_bytes b))
-tells_apart a b r h fit also held = (λ t. alike_when_same a b (h.0 t), λ e. h.1 (same_when_alike a b fit also held e))
+pub tells_apart : (a b : Element) (r : Bool) → (IsTrue r ↔ IsSame a b) → IsFit a → IsFit b → (IsTrue r ↔ (canonical_bytes a ≡ canonical_bytes b))
+tells_apart a b r h fit also = (λ t. alike_when_same a b (h.0 t), λ e. h.1 (same_when_alike a b fit also e))
 
 -- what was printed, where there was memory
-pub written_if_ok : {E : Type 0} (r : Result (List ℕ) E) (e : Element) (given : Texts) → IfOk r (λ bytes. bytes ≡ written_bytes e given) → IfOk r AreHeld → IsFit e → AllByRecursion IsDeclarable given
-    → IfOk r (λ bytes. SpelledBy bytes (arranged e))
-written_if_ok (Ok bytes) e given is held fit can = subst (λ (b : List ℕ). SpelledBy b (arranged e)) (sym is) (written_spelled e given fit can (subst AreHeld is held))
-written_if_ok (Err error) e given is held fit can = tt
+pub written_if_ok : {E : Type 0} (r : Result (List ℕ) E) (e : Element) (given : Texts) → IfOk r (λ bytes. bytes ≡ written_bytes e given) → IsFit e → AllByRecursion IsDeclarable given
+    → IfOk r (λ bytes. Spells bytes (written_reading e given))
+written_if_ok (Ok bytes) e given is fit can = subst (λ (b : List ℕ). Spells b (written_reading e given)) (sym is) (written_spelled e given fit can)
+written_if_ok (Err error) e given is fit can = tt

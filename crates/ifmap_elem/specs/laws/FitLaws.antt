@@ -5,9 +5,9 @@ use Rattle.std.specs.Ordering.{is_gt}
 use Rattle.std.proofs.lemmas.Bool.{cases_Bool}
 use Rattle.std.proofs.lemmas.List.Folds.{flat_map-map}
 use Rattle.ifmap_elem.specs.Folds.{at_element, at_child_element, at_child_text, Each, by_children, each_child}
-use Rattle.ifmap_elem.specs.Arranged.{arranged, arranged_child, attribute_order, sorted}
+use Rattle.ifmap_elem.specs.Arranged.{arrange, arrange_child, attribute_order, sort_attributes}
 use Rattle.ifmap_elem.specs.Nesting.{nesting, child_nesting, greatest, child_levels, element_levels}
-use Rattle.ifmap_lemmas.specs.Sorting.{placed}
+use Rattle.ifmap_lemmas.specs.Sorting.{insert}
 use Rattle.ifmap_elem.specs.Scopes.{AllDiffer}
 use Rattle.ifmap_elem.specs.Fit.{IsFit, IsFitAlone, IsFitAttribute, AreFitChildren, HasCharacters, IsNotBlank, AreApart, is_element, elements_of, child_with_elements, element_with_elements}
 use Rattle.ifmap_elem.specs.declared.elements.Attribute.{Attribute}
@@ -79,47 +79,47 @@ fit_whole e alone inside = let h : AllByRecursion IsFitAlone (e ∷ flat_map ele
 
 -- attributes in order
 
-all_placed : (P : Attribute → Type 0) (x : Attribute) (ys : List Attribute) → P x → AllByRecursion P ys → AllByRecursion P (placed attribute_order x ys)
+all_placed : (P : Attribute → Type 0) (x : Attribute) (ys : List Attribute) → P x → AllByRecursion P ys → AllByRecursion P (insert attribute_order x ys)
 all_placed P x [] p f = (p, tt)
 all_placed P x (y ∷ ys) p f = elim (cases_Bool (is_gt (attribute_order x y))) [
   | inl e ↦ rw e (f.0, all_placed P x ys p f.1)
   | inr e ↦ rw e (p, f)
 ]
 
-all_sorted : (P : Attribute → Type 0) (xs : List Attribute) → AllByRecursion P xs → AllByRecursion P (sorted xs)
+all_sorted : (P : Attribute → Type 0) (xs : List Attribute) → AllByRecursion P xs → AllByRecursion P (sort_attributes xs)
 all_sorted P [] f = tt
-all_sorted P (x ∷ xs) f = all_placed P x (sorted xs) f.0 (all_sorted P xs f.1)
+all_sorted P (x ∷ xs) f = all_placed P x (sort_attributes xs) f.0 (all_sorted P xs f.1)
 
 module _ {Y : Type 0} (f : Attribute → Y) where
   abbrev apart_from : Y → Attribute → Type 0
   apart_from y a = y ≢ f a
 
-  differ_placed : (x : Attribute) (ys : List Attribute) → AllByRecursion (apart_from (f x)) ys → AllDiffer (map f ys) → AllDiffer (map f (placed attribute_order x ys))
+  differ_placed : (x : Attribute) (ys : List Attribute) → AllByRecursion (apart_from (f x)) ys → AllDiffer (map f ys) → AllDiffer (map f (insert attribute_order x ys))
   differ_placed x [] other d = (tt, tt)
   differ_placed x (y ∷ ys) other d = elim (cases_Bool (is_gt (attribute_order x y))) [
     | inl e ↦ rw e (
-      map_of_all (λ z. f y ≢ z) f (placed attribute_order x ys) (all_placed (apart_from (f y)) x ys (λ s. other.0 (sym s)) (all_of_map (λ z. f y ≢ z) f ys d.0)),
+      map_of_all (λ z. f y ≢ z) f (insert attribute_order x ys) (all_placed (apart_from (f y)) x ys (λ s. other.0 (sym s)) (all_of_map (λ z. f y ≢ z) f ys d.0)),
       differ_placed x ys other.1 d.1,
     )
     | inr e ↦ rw e (map_of_all (λ z. f x ≢ z) f (y ∷ ys) other, d)
   ]
 
-  pub differ_sorted : (xs : List Attribute) → AllDiffer (map f xs) → AllDiffer (map f (sorted xs))
+  pub differ_sorted : (xs : List Attribute) → AllDiffer (map f xs) → AllDiffer (map f (sort_attributes xs))
   differ_sorted [] d = tt
-  differ_sorted (x ∷ xs) d = differ_placed x (sorted xs) (all_sorted (apart_from (f x)) xs (all_of_map (λ z. f x ≢ z) f xs d.0)) (differ_sorted xs d.1)
+  differ_sorted (x ∷ xs) d = differ_placed x (sort_attributes xs) (all_sorted (apart_from (f x)) xs (all_of_map (λ z. f x ≢ z) f xs d.0)) (differ_sorted xs d.1)
 
 -- children with their attributes in order
 
 abbrev over : Child-F Child Element → Child-F Child Element
-over (Child-F.Element e) = Child-F.Element (arranged e)
+over (Child-F.Element e) = Child-F.Element (arrange e)
 over (Child-F.Text t) = Child-F.Text t
 
-over_child : (c : Child) → out-Child (arranged_child c) ≡ over (out-Child c)
-over_child = each_child (λ c. out-Child (arranged_child c) ≡ over (out-Child c)) (λ e. Unit {0})
-    (λ e none. ap out-Child (arranged_in e) ∙ out_element (arranged e) ∙ ap over (sym (out_element e)))
+over_child : (c : Child) → out-Child (arrange_child c) ≡ over (out-Child c)
+over_child = each_child (λ c. out-Child (arrange_child c) ≡ over (out-Child c)) (λ e. Unit {0})
+    (λ e none. ap out-Child (arranged_in e) ∙ out_element (arrange e) ∙ ap over (sym (out_element e)))
     (λ t. ap out-Child (arranged_text t) ∙ out_text t ∙ ap over (sym (out_text t))) (λ e each. tt)
 
-over_children : (cs : List Child) → map over (map out-Child cs) ≡ map out-Child (map arranged_child cs)
+over_children : (cs : List Child) → map over (map out-Child cs) ≡ map out-Child (map arrange_child cs)
 over_children [] = refl
 over_children (c ∷ cs) = (λ i. sym (over_child c) i ∷ over_children cs i)
 
@@ -149,7 +149,7 @@ fit_over : (xs : List (Child-F Child Element)) → AreFitChildren xs → AreFitC
 fit_over xs f = record { texts = texts_over xs f.texts; apart = apart_over xs f.apart; beside = λ any. blank_over xs (f.beside (sym (any_over xs) ∙ any)) }
 
 abbrev arranged_here : Element → Element
-arranged_here e = record { name = e.name; attributes = sorted e.attributes; children = map arranged_child e.children }
+arranged_here e = record { name = e.name; attributes = sort_attributes e.attributes; children = map arrange_child e.children }
 
 alone_arranged : (e : Element) → IsFitAlone e → IsFitAlone (arranged_here e)
 alone_arranged e f = record {
@@ -160,26 +160,26 @@ alone_arranged e f = record {
 }
 
 abbrev FitStays : Child → Type 0
-FitStays c = AllByRecursion IsFitAlone (elements_of_child c) → AllByRecursion IsFitAlone (elements_of_child (arranged_child c))
+FitStays c = AllByRecursion IsFitAlone (elements_of_child c) → AllByRecursion IsFitAlone (elements_of_child (arrange_child c))
 
-children_stay : (cs : List Child) → Each FitStays cs → AllByRecursion IsFitAlone (flat_map elements_of_child cs) → AllByRecursion IsFitAlone (flat_map elements_of_child (map arranged_child cs))
+children_stay : (cs : List Child) → Each FitStays cs → AllByRecursion IsFitAlone (flat_map elements_of_child cs) → AllByRecursion IsFitAlone (flat_map elements_of_child (map arrange_child cs))
 children_stay [] each f = tt
 children_stay (c ∷ cs) each f =
     let parts = all_both IsFitAlone (elements_of_child c) (flat_map elements_of_child cs) f in
-    both_all IsFitAlone (elements_of_child (arranged_child c)) (flat_map elements_of_child (map arranged_child cs)) (each.0 parts.0) (children_stay cs each.1 parts.1)
+    both_all IsFitAlone (elements_of_child (arrange_child c)) (flat_map elements_of_child (map arrange_child cs)) (each.0 parts.0) (children_stay cs each.1 parts.1)
 
 -- an element that fits does so with its attributes in order
-pub fit_arranged : (e : Element) → IsFit e → IsFit (arranged e)
-fit_arranged = by_children FitStays (λ e. IsFit e → IsFit (arranged e)) in_element in_text in_children
+pub fit_arranged : (e : Element) → IsFit e → IsFit (arrange e)
+fit_arranged = by_children FitStays (λ e. IsFit e → IsFit (arrange e)) in_element in_text in_children
   where
-    in_element : (e : Element) → (IsFit e → IsFit (arranged e)) → FitStays (the.Element e)
+    in_element : (e : Element) → (IsFit e → IsFit (arrange e)) → FitStays (the.Element e)
     in_element e q f =
-        subst (AllByRecursion IsFitAlone) (sym (ap elements_of_child (arranged_in e) ∙ elements_in (arranged e))) (q (subst (AllByRecursion IsFitAlone) (elements_in e) f))
+        subst (AllByRecursion IsFitAlone) (sym (ap elements_of_child (arranged_in e) ∙ elements_in (arrange e))) (q (subst (AllByRecursion IsFitAlone) (elements_in e) f))
 
     in_text : (t : List ℕ) → FitStays (the.Text t)
     in_text t f = subst (AllByRecursion IsFitAlone) (sym (ap elements_of_child (arranged_text t) ∙ elements_text t)) tt
 
-    in_children : (e : Element) → Each FitStays e.children → IsFit e → IsFit (arranged e)
+    in_children : (e : Element) → Each FitStays e.children → IsFit e → IsFit (arrange e)
     in_children e each f =
         let parts = fit_parts e f in
         subst IsFit (sym (arranged_is e)) (fit_whole (arranged_here e) (alone_arranged e parts.0) (children_stay e.children each parts.1))
@@ -187,15 +187,15 @@ fit_arranged = by_children FitStays (λ e. IsFit e → IsFit (arranged e)) in_el
 -- the nesting stays
 
 abbrev NestsAlike : Child → Type 0
-NestsAlike c = child_nesting (arranged_child c) ≡ child_nesting c
+NestsAlike c = child_nesting (arrange_child c) ≡ child_nesting c
 
-nest_alike : (cs : List Child) → Each NestsAlike cs → map child_nesting (map arranged_child cs) ≡ map child_nesting cs
+nest_alike : (cs : List Child) → Each NestsAlike cs → map child_nesting (map arrange_child cs) ≡ map child_nesting cs
 nest_alike [] each = refl
 nest_alike (c ∷ cs) each = (λ i. each.0 i ∷ nest_alike cs each.1 i)
 
-pub nesting_arranged : (e : Element) → nesting (arranged e) ≡ nesting e
-nesting_arranged = by_children NestsAlike (λ e. nesting (arranged e) ≡ nesting e)
-    (λ e q. ap child_nesting (arranged_in e) ∙ at_child_element ℕ ℕ child_levels element_levels (arranged e) ∙ q ∙ sym (at_child_element ℕ ℕ child_levels element_levels e))
+pub nesting_arranged : (e : Element) → nesting (arrange e) ≡ nesting e
+nesting_arranged = by_children NestsAlike (λ e. nesting (arrange e) ≡ nesting e)
+    (λ e q. ap child_nesting (arranged_in e) ∙ at_child_element ℕ ℕ child_levels element_levels (arrange e) ∙ q ∙ sym (at_child_element ℕ ℕ child_levels element_levels e))
     (λ t. ap child_nesting (arranged_text t))
     (λ e each. ap nesting (arranged_is e) ∙ at_element ℕ ℕ child_levels element_levels (arranged_here e) ∙ ap (λ l. suc (greatest l)) (nest_alike e.children each)
     ∙ sym (at_element ℕ ℕ child_levels element_levels e))

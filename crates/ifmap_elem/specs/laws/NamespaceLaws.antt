@@ -9,11 +9,11 @@ use Rattle.std.specs.List.{filter, list_any}
 use Rattle.std.specs.Map.{lookup}
 use Rattle.std.specs.Option.{is_some}
 use Rattle.std.specs.Str.{bytes_eq}
-use Rattle.std.specs.Fmt.{decimal}
+use Rattle.ifmap_lemmas.specs.Numerals.{numeral}
 use Rattle.std.specs.Ordering.{nat_cmp, is_eq}
 use Rattle.std.specs.Cmp.Lexicographic.{slice_cmp, texts_ties}
 use Rattle.std.proofs.lemmas.Cmp.{nat_list_eq_equiv}
-use Rattle.ifmap_elem.specs.Namespaces.{once_each, is_declared, declared_among, AddsSpaces, prefix_rows, name_prefixes}
+use Rattle.ifmap_elem.specs.Namespaces.{once_each, is_declared, declared_among, AddsSpaces, numbered_prefixes, name_prefixes}
 use Rattle.ifmap_elem.specs.Scopes.{xml_space}
 use Rattle.ifmap_lemmas.specs.Texts.{eq_tells, eq_itself}
 
@@ -86,7 +86,7 @@ adds_new xs s d new seen e =
     let k : among s (declared_among seen) ≡ false = ap (among s) (sym e) ∙ new in
     ap (λ l. l ++ s ∷ []) e ∙ sym (declared_among-push seen s d ∙ (rw k refl))
 
-pub is_some-prefix_rows : (letter : List ℕ) (n : ℕ) (s : List ℕ) (xs : Texts) → is_some (lookup (bytes_eq s) (prefix_rows letter n xs)) ≡ among s xs
+pub is_some-prefix_rows : (letter : List ℕ) (n : ℕ) (s : List ℕ) (xs : Texts) → is_some (lookup (bytes_eq s) (numbered_prefixes letter n xs)) ≡ among s xs
 is_some-prefix_rows letter n s [] = refl
 is_some-prefix_rows letter n s (x ∷ xs) = elim (cases_Bool (bytes_eq s x)) [
   | inl e ↦ rw e refl
@@ -120,11 +120,11 @@ adds_unprefixed xs ys s some none is =
         let off : bytes_eq s xml_space ≡ false = false_from_ne_true (bytes_eq s xml_space) (λ e. let h : true ≡ false = rw e at none in cc) in
         (off, sym (is_some-prefix_rows (codes "n") 1 s xs) ∙ (rw off at none))
 
-pub prefix_rows-push : (letter : List ℕ) (n : ℕ) (xs : Texts) (s : List ℕ) → prefix_rows letter n (xs ++ s ∷ []) ≡ prefix_rows letter n xs ++ (s, letter ++ decimal (n + length xs)) ∷ []
-prefix_rows-push letter n [] s = let e : n ≡ n + length {A = List ℕ} [] = omega arith in ap (λ (k : ℕ). (s, letter ++ decimal k) ∷ []) e
+pub prefix_rows-push : (letter : List ℕ) (n : ℕ) (xs : Texts) (s : List ℕ) → numbered_prefixes letter n (xs ++ s ∷ []) ≡ numbered_prefixes letter n xs ++ (s, letter ++ numeral (n + length xs)) ∷ []
+prefix_rows-push letter n [] s = let e : n ≡ n + length {A = List ℕ} [] = omega arith in ap (λ (k : ℕ). (s, letter ++ numeral k) ∷ []) e
 prefix_rows-push letter n (x ∷ xs) s =
     let e : n + 1 + length xs ≡ n + suc (length xs) = omega arith in
-    ap (λ l. (x, letter ++ decimal n) ∷ l) (prefix_rows-push letter (n + 1) xs s ∙ ap (λ (k : ℕ). prefix_rows letter (n + 1) xs ++ (s, letter ++ decimal k) ∷ []) e)
+    ap (λ l. (x, letter ++ numeral n) ∷ l) (prefix_rows-push letter (n + 1) xs s ∙ ap (λ (k : ℕ). numbered_prefixes letter (n + 1) xs ++ (s, letter ++ numeral k) ∷ []) e)
 
 abbrev Rows : Type 0
 Rows = List (List ℕ × List ℕ)
@@ -142,25 +142,25 @@ lookup-new p (r ∷ rows) s label e none = elim (cases_Bool (p r.0)) [
 
 -- a table from namespaces to prefixes, where one more is numbered
 one_row_more : (old new : List ℕ → Option (List ℕ)) (xs : Texts) (s label : List ℕ) → ((q : List ℕ) → old q ≡ lookup (bytes_eq q) (name_prefixes xs))
-    → ((q : List ℕ) → new q ≡ cond (is_eq (slice_cmp nat_cmp s q)) (Some label) (old q)) → label ≡ codes "n" ++ decimal (1 + length xs) → lookup (bytes_eq s) (name_prefixes xs) ≡ None
+    → ((q : List ℕ) → new q ≡ cond (is_eq (slice_cmp nat_cmp s q)) (Some label) (old q)) → label ≡ codes "n" ++ numeral (1 + length xs) → lookup (bytes_eq s) (name_prefixes xs) ≡ None
     → (q : List ℕ) → new q ≡ lookup (bytes_eq q) (name_prefixes (xs ++ s ∷ []))
 one_row_more old new xs s label was now is none q =
-    let rows : name_prefixes (xs ++ s ∷ []) ≡ name_prefixes xs ++ (s, codes "n" ++ decimal (1 + length xs)) ∷ [] = ap (λ l. (xml_space, codes "xml") ∷ l) (prefix_rows-push (codes "n") 1 xs s) in
+    let rows : name_prefixes (xs ++ s ∷ []) ≡ name_prefixes xs ++ (s, codes "n" ++ numeral (1 + length xs)) ∷ [] = ap (λ l. (xml_space, codes "xml") ∷ l) (prefix_rows-push (codes "n") 1 xs s) in
     now q ∙ ap (λ b. cond b (Some label) (old q)) (sym (texts_ties s q)) ∙ row (bytes_eq s q) refl ∙ ap (lookup (bytes_eq q)) (sym rows)
   where
-    row : (b : Bool) → bytes_eq s q ≡ b → cond b (Some label) (old q) ≡ lookup (bytes_eq q) (name_prefixes xs ++ (s, codes "n" ++ decimal (1 + length xs)) ∷ [])
+    row : (b : Bool) → bytes_eq s q ≡ b → cond b (Some label) (old q) ≡ lookup (bytes_eq q) (name_prefixes xs ++ (s, codes "n" ++ numeral (1 + length xs)) ∷ [])
     row true e =
         let same : s ≡ q = eq_tells s q e in
-        ap (λ l. Some l) is ∙ sym (lookup-new (bytes_eq q) (name_prefixes xs) s (codes "n" ++ decimal (1 + length xs)) (subst (λ t. bytes_eq t s ≡ true) same (eq_itself s)) (subst (λ t. lookup (bytes_eq t) (name_prefixes xs) ≡ None) same none))
-    row false e = was q ∙ sym (lookup-other (bytes_eq q) (name_prefixes xs) s (codes "n" ++ decimal (1 + length xs)) (apart s q e))
+        ap (λ l. Some l) is ∙ sym (lookup-new (bytes_eq q) (name_prefixes xs) s (codes "n" ++ numeral (1 + length xs)) (subst (λ t. bytes_eq t s ≡ true) same (eq_itself s)) (subst (λ t. lookup (bytes_eq t) (name_prefixes xs) ≡ None) same none))
+    row false e = was q ∙ sym (lookup-other (bytes_eq q) (name_prefixes xs) s (codes "n" ++ numeral (1 + length xs)) (apart s q e))
 
 -- the same as code makes it, with a copy of the namespace as the key, and another in the list
 pub keyed : (old new : List ℕ → Option (List ℕ)) (xs ys : Texts) (s key other label : List ℕ) → ((q : List ℕ) → old q ≡ lookup (bytes_eq q) (name_prefixes xs))
-    → ((q : List ℕ) → new q ≡ cond (is_eq (slice_cmp nat_cmp key q)) (Some label) (old q)) → key ≡ s → other ≡ s → ys ≡ xs ++ other ∷ [] → label ≡ codes "n" ++ decimal (length xs + 1)
+    → ((q : List ℕ) → new q ≡ cond (is_eq (slice_cmp nat_cmp key q)) (Some label) (old q)) → key ≡ s → other ≡ s → ys ≡ xs ++ other ∷ [] → label ≡ codes "n" ++ numeral (length xs + 1)
     → lookup (bytes_eq s) (name_prefixes xs) ≡ None → (q : List ℕ) → new q ≡ lookup (bytes_eq q) (name_prefixes ys)
 keyed old new xs ys s key other label was now k o more is none q =
     let e : length xs + 1 ≡ 1 + length xs = omega arith in
-    one_row_more old new xs s label was (λ t. now t ∙ ap (λ x. cond (is_eq (slice_cmp nat_cmp x t)) (Some label) (old t)) k) (is ∙ ap (λ n. codes "n" ++ decimal n) e) none q
+    one_row_more old new xs s label was (λ t. now t ∙ ap (λ x. cond (is_eq (slice_cmp nat_cmp x t)) (Some label) (old t)) k) (is ∙ ap (λ n. codes "n" ++ numeral n) e) none q
     ∙ ap (λ l. lookup (bytes_eq q) (name_prefixes l)) (sym (more ∙ ap (λ x. xs ++ x ∷ []) o))
 
 -- the lack of a namespace has no prefix where nothing is numbered
@@ -174,7 +174,7 @@ none_more xs ys s other some o more none =
     let off : bytes_eq [] s ≡ false = false_from_ne_true (bytes_eq [] s) (λ e. some (sym (eq_tells [] s e))) in
     ap (λ l. lookup (bytes_eq []) (name_prefixes l)) (more ∙ ap (λ x. xs ++ x ∷ []) o)
     ∙ ap (λ l. lookup (bytes_eq []) ((xml_space, codes "xml") ∷ l)) (prefix_rows-push (codes "n") 1 xs s)
-    ∙ lookup-other (bytes_eq []) (name_prefixes xs) s (codes "n" ++ decimal (1 + length xs)) off ∙ none
+    ∙ lookup-other (bytes_eq []) (name_prefixes xs) s (codes "n" ++ numeral (1 + length xs)) off ∙ none
 
 -- the table that begins with the prefix `xml`
 pub first_row : (old new : List ℕ → Option (List ℕ)) (xs : Texts) (key label : List ℕ) → ((q : List ℕ) → old q ≡ None)

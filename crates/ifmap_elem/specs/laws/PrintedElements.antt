@@ -1,8 +1,9 @@
 -- Printed children and printed elements are tokens that mean them.
-use Rattle.std.proofs.Common.{◌≡◌, ◌≢◌, ℕ, Bool, true, false, not, List, [], ◌∷◌, ◌++◌, map, length, refl, ap, sym, ◌∙◌, subst, arith, append_assoc}
+use Rattle.std.proofs.Common.{◌≡◌, ◌≢◌, ℕ, ◌+◌, Bool, true, false, not, List, [], ◌∷◌, ◌++◌, map, length, refl, ap, sym, ◌∙◌, subst, arith, append_assoc}
 use Rattle.std.specs.Prelude.{◌==◌, codes, filter}
 use Rattle.std.specs.List.{AllByRecursion, flat_map, concat, list_all, list_any}
 use Rattle.std.proofs.lemmas.Bool.{false_from_ne_true}
+use Rattle.std.proofs.lemmas.List.{append-nil}
 use Rattle.std.proofs.lemmas.List.Folds.{flat_map-map}
 use Rattle.ifmap_lemmas.specs.Items.{To}
 use Rattle.ifmap_elem.specs.declared.elements.Attribute.{Attribute}
@@ -16,15 +17,15 @@ use Rattle.ifmap_elem.specs.declared.tokens.Token.{Token}
 use Rattle.ifmap_elem.specs.declared.tokens.Token.TheVariants.{Comment, Start, Empty, End, Section, Characters}
 use Rattle.ifmap_elem.specs.Folds.{at_element, at_child_element, at_child_text, Each, each_child}
 use Rattle.ifmap_elem.specs.Chars.{IsCharacters, is_white}
-use Rattle.ifmap_elem.specs.Scopes.{Scope, AllDiffer, IsBinding, root_scope, scope_within, bindings}
+use Rattle.ifmap_elem.specs.Scopes.{Scope, AllDiffer, IsBinding, root_scope, scope_within}
 use Rattle.ifmap_elem.specs.Tokens.{TakesToken, TakesTag, TakesText, EndsText}
 use Rattle.ifmap_elem.specs.Document as piece
-use Rattle.ifmap_elem.specs.Document.{Pieces, Nothing, tokens_of, Item, Inner, Run, is_inner, joined, put_before, is_child, children_among, child_of, declared_here, declared_below, IsElement, AreItems, IsRoot, chained}
+use Rattle.ifmap_elem.specs.Document.{Pieces, Nothing, tokens_of, Item, Inner, Run, is_inner, joined, put_before, is_child, children_among, child_of, declared_here, declared_below, from_above, IsElement, AreItems, IsRoot, chained}
 use Rattle.ifmap_elem.specs.laws.Roots.{chained_nothing}
 use Rattle.ifmap_elem.specs.Escapes.{text_bytes}
 use Rattle.ifmap_elem.specs.Fit.{IsFit, IsFitAlone, IsFitAttribute, AreFitChildren, HasCharacters, IsNotBlank, AreApart, is_element}
 use Rattle.ifmap_elem.specs.Namespaces.{spaces_of, spaces_of_child, child_spaces, element_spaces}
-use Rattle.ifmap_elem.specs.Canonical.{printed_name, declaration_bytes, attribute_bytes, content_bytes, tagged, child_piece, element_piece, child_bytes, element_bytes}
+use Rattle.ifmap_elem.specs.Canonical.{printed_name, declaration_bytes, attribute_bytes, after_attributes_bytes, element_of_parts, child_piece, element_piece, child_bytes, element_bytes}
 use Rattle.ifmap_lemmas.specs.Numbers.{is_other}
 use Rattle.ifmap_lemmas.specs.Members.{all_of_test, all_both}
 use Rattle.ifmap_elem.specs.laws.PrintedTags.{Rows, row_binding, tag_of, qualified, Resolves, FitsIn, FitRow, to_both, tag_taken, end_taken, text_taken, bindings_are, names_element}
@@ -101,6 +102,16 @@ abbrev pub Follows : Item → List ℕ → Type 0
 Follows (Inner e declared) rest = Unit {0}
 Follows (Run text) rest = EndsText rest
 
+-- no declaration stands in an element
+abbrev pub IsBare : Item → Type 0
+IsBare (Inner e declared) = declared ≡ []
+IsBare (Run text) = Unit {0}
+
+none_below : (index : ℕ) (items : List Item) → AllByRecursion IsBare items → declared_below index items ≡ []
+none_below index [] f = refl
+none_below index (Inner e d ∷ items) f = (λ i. map (from_above index) (f.0 i) ++ none_below (index + 1) items f.1 i)
+none_below index (Run text ∷ items) f = none_below (index + 1) items f.1
+
 -- the printed child is tokens that mean it
 pub record ChildTaken (prefixes : Rows) (scope : Scope) (c : Child) : Type 0 where
   pub pieces : Pieces
@@ -110,6 +121,7 @@ pub record ChildTaken (prefixes : Rows) (scope : Scope) (c : Child) : Type 0 whe
   pub is_child : child_of item ≡ c
   pub opened : item_child item ≡ out-Child c
   pub begins : Begins item (child_bytes prefixes c)
+  pub bare : IsBare item
 
 module _ (prefixes : Rows) (scope : Scope) where
   abbrev items_of : (cs : List Child) → Each (ChildTaken prefixes scope) cs → List Item
@@ -158,6 +170,10 @@ module _ (prefixes : Rows) (scope : Scope) where
   children_are [] each = refl
   children_are (c ∷ cs) each = (λ i. each.0.is_child i ∷ children_are cs each.1 i)
 
+  items_bare : (cs : List Child) (each : Each (ChildTaken prefixes scope) cs) → AllByRecursion IsBare (items_of cs each)
+  items_bare [] each = tt
+  items_bare (c ∷ cs) each = (each.0.bare, items_bare cs each.1)
+
   children_opened : (cs : List Child) (each : Each (ChildTaken prefixes scope) cs) → map item_child (items_of cs each) ≡ map out-Child cs
   children_opened [] each = refl
   children_opened (c ∷ cs) each = (λ i. each.0.opened i ∷ children_opened cs each.1 i)
@@ -192,10 +208,9 @@ one_is_root c e d h = record {
   margin_after = tt;
 }
 
--- the printed element is tokens that mean it
-pub record ElementTaken (outer : Scope) (bytes : List ℕ) (e : Element) : Type 0 where
+-- the printed element is tokens that mean it, with these declarations
+pub record ElementTaken (outer : Scope) (bytes : List ℕ) (e : Element) (declared : List Declared) : Type 0 where
   pub pieces : Pieces
-  pub declared : List Declared
   pub lexed : (rest : List ℕ) → To TakesToken (bytes ++ rest) (tokens_of pieces) rest
   pub one : IsOne outer pieces e declared
   pub begins : (rest : List ℕ) → EndsText (bytes ++ rest)
@@ -222,31 +237,32 @@ module _ (prefixes declared : Rows) (outer : Scope) (e : Element) (fit : IsFitAl
   start_taken end = tag_taken prefixes declared within_it e.name e.attributes end fit.name named rows fits
 
   its_children : (items : List Item) → map child_of items ≡ e.children → map item_child items ≡ map out-Child e.children
-      → IsElement outer its_tag items e (declared_here (bindings its_tag) ++ declared_below 0 (children_among items))
-  its_children items are opened = record {
+      → AllByRecursion IsBare items → IsElement outer its_tag items e (declared_here (map row_binding declared))
+  its_children items are opened bare = record {
     named = names_element prefixes declared outer e.name e.attributes binds once named fits fit.names_differ;
     children_are = sym are ∙ ap (map child_of) (sym (kept_all items (subst AreFitChildren (sym opened) fit.children)));
-    declared_are = refl;
+    declared_are =
+        sym (append-nil (declared_here (map row_binding declared)))
+        ∙ ap (λ l. declared_here (map row_binding declared) ++ l) (sym (ap (declared_below 0) (kept_all items (subst AreFitChildren (sym opened) fit.children)) ∙ none_below 0 items bare))
+        ∙ ap (λ l. declared_here l ++ declared_below 0 (children_among items)) (sym (bindings_are prefixes declared within_it e.name e.attributes fits));
   }
 
   abbrev its_bytes : List Child → List ℕ
-  its_bytes cs = tagged prefixes declared e.name e.attributes (map (child_bytes prefixes) cs)
+  its_bytes cs = element_of_parts prefixes declared e.name e.attributes (map (child_bytes prefixes) cs)
 
-  taken_by : (cs : List Child) → cs ≡ e.children → Each (ChildTaken prefixes within_it) cs → ElementTaken outer (its_bytes cs) e
+  taken_by : (cs : List Child) → cs ≡ e.children → Each (ChildTaken prefixes within_it) cs → ElementTaken outer (its_bytes cs) e (declared_here (map row_binding declared))
   taken_by [] is each = record {
     pieces = piece.Empty its_tag Nothing;
-    declared = declared_here (bindings its_tag) ++ declared_below 0 (children_among []);
     lexed = λ rest. (
       rest,
       subst (λ (b : List ℕ). TakesTag b its_tag (codes "/>" ++ rest)) (sym (tag_seam (printed_name prefixes e.name) (flat_map declaration_bytes declared) (flat_map (attribute_bytes prefixes) e.attributes) (codes "/>") rest)) (start_taken (codes "/>" ++ rest)),
       refl,
     );
-    one = (its_children [] is (ap (map out-Child) is), refl);
+    one = (its_children [] is (ap (map out-Child) is) tt, refl);
     begins = λ rest. refl;
   }
   taken_by (c ∷ cs) is each = record {
     pieces = piece.Start its_tag (contents_of prefixes within_it (c ∷ cs) each) Nothing;
-    declared = declared_here (bindings its_tag) ++ declared_below 0 (children_among (items_of prefixes within_it (c ∷ cs) each));
     lexed = λ rest. (
       flat_map (child_bytes prefixes) (c ∷ cs) ++ (codes "</" ++ (printed_name prefixes e.name ++ (codes ">" ++ rest))),
       subst (λ (b : List ℕ). TakesTag b its_tag (codes ">" ++ (flat_map (child_bytes prefixes) (c ∷ cs) ++ (codes "</" ++ (printed_name prefixes e.name ++ (codes ">" ++ rest)))))) (sym (seam rest))
@@ -259,7 +275,7 @@ module _ (prefixes declared : Rows) (outer : Scope) (e : Element) (fit : IsFitAl
     one = (
       items_of prefixes within_it (c ∷ cs) each,
       subst (λ (s : Scope). AreItems s (contents_of prefixes within_it (c ∷ cs) each) (items_of prefixes within_it (c ∷ cs) each)) (sym within) (children_mean prefixes within_it (c ∷ cs) each),
-      its_children (items_of prefixes within_it (c ∷ cs) each) (children_are prefixes within_it (c ∷ cs) each ∙ is) opened,
+      its_children (items_of prefixes within_it (c ∷ cs) each) (children_are prefixes within_it (c ∷ cs) each ∙ is) opened (items_bare prefixes within_it (c ∷ cs) each),
       refl,
     );
     begins = λ rest. refl;
@@ -276,11 +292,11 @@ module _ (prefixes declared : Rows) (outer : Scope) (e : Element) (fit : IsFitAl
 
       seam : (rest : List ℕ) → its_bytes (c ∷ cs) ++ rest ≡ its_start (codes ">" ++ (flat_map (child_bytes prefixes) (c ∷ cs) ++ (codes "</" ++ (printed_name prefixes e.name ++ (codes ">" ++ rest)))))
       seam rest =
-          tag_seam (printed_name prefixes e.name) (flat_map declaration_bytes declared) (flat_map (attribute_bytes prefixes) e.attributes) (content_bytes (printed_name prefixes e.name) (map (child_bytes prefixes) (c ∷ cs))) rest
+          tag_seam (printed_name prefixes e.name) (flat_map declaration_bytes declared) (flat_map (attribute_bytes prefixes) e.attributes) (after_attributes_bytes (printed_name prefixes e.name) (map (child_bytes prefixes) (c ∷ cs))) rest
           ∙ ap its_start (content_seam (concat (map (child_bytes prefixes) (c ∷ cs))) (printed_name prefixes e.name) rest
           ∙ ap (λ f. codes ">" ++ (f ++ (codes "</" ++ (printed_name prefixes e.name ++ (codes ">" ++ rest))))) (concat_map (child_bytes prefixes) (c ∷ cs)))
 
-  pub tagged_taken : Each (ChildTaken prefixes within_it) e.children → ElementTaken outer (its_bytes e.children) e
+  pub tagged_taken : Each (ChildTaken prefixes within_it) e.children → ElementTaken outer (its_bytes e.children) e (declared_here (map row_binding declared))
   tagged_taken each = taken_by e.children refl each
 
 -- all in an element
@@ -298,22 +314,23 @@ module _ (prefixes : Rows) (scope : Scope) where
   TakesChild c = AllByRecursion IsFitAlone (elements_of_child c) → HasCharacters (out-Child c) → AllByRecursion (Resolves prefixes scope) (spaces_of_child c) → ChildTaken prefixes scope c
 
   abbrev TakesElement : Element → Type 0
-  TakesElement e = IsFit e → AllByRecursion (Resolves prefixes scope) (spaces_of e) → ElementTaken scope (element_bytes prefixes e) e
+  TakesElement e = IsFit e → AllByRecursion (Resolves prefixes scope) (spaces_of e) → ElementTaken scope (element_bytes prefixes e) e []
 
   in_element : (e : Element) → TakesElement e → TakesChild (the.Element e)
   in_element e takes fit some resolved =
       let bytes : child_bytes prefixes (the.Element e) ≡ element_bytes prefixes e = at_child_element (List ℕ) (List ℕ) (child_piece prefixes) (element_piece prefixes) e in
       let spaces : spaces_of_child (the.Element e) ≡ spaces_of e = at_child_element (List (List ℕ)) (List (List ℕ)) child_spaces element_spaces e in
-      let t : ElementTaken scope (element_bytes prefixes e) e =
+      let t : ElementTaken scope (element_bytes prefixes e) e [] =
       takes (subst (AllByRecursion IsFitAlone) (elements_in e) fit) (subst (AllByRecursion (Resolves prefixes scope)) spaces resolved) in
       record {
         pieces = t.pieces;
-        item = Inner e t.declared;
+        item = Inner e [];
         lexed = λ rest none. subst (λ (b : List ℕ). To TakesToken (b ++ rest) (tokens_of t.pieces) rest) (sym bytes) (t.lexed rest);
-        means = one_means scope t.pieces e t.declared t.one;
+        means = one_means scope t.pieces e [] t.one;
         is_child = refl;
         opened = sym (out_element e);
         begins = λ rest. subst (λ (b : List ℕ). EndsText (b ++ rest)) (sym bytes) (t.begins rest);
+        bare = refl;
       }
 
   in_text : (t : List ℕ) → TakesChild (the.Text t)
@@ -328,6 +345,7 @@ module _ (prefixes : Rows) (scope : Scope) where
         is_child = refl;
         opened = sym (out_text t);
         begins = tt;
+        bare = tt;
       }
 
   give_each : (cs : List Child) → Each TakesChild cs → AllByRecursion IsFitAlone (flat_map elements_of_child cs) → AllByRecursion HasCharacters (map out-Child cs)
@@ -347,7 +365,7 @@ module _ (prefixes : Rows) (scope : Scope) where
       let parts = fit_parts e fit in
       let r : AllByRecursion (Resolves prefixes scope) (e.name.space ∷ (map space_of e.attributes ++ flat_map spaces_of_child e.children)) = subst (AllByRecursion (Resolves prefixes scope)) (spaces_is e) resolved in
       let s = all_both (Resolves prefixes scope) (map space_of e.attributes) (flat_map spaces_of_child e.children) r.1 in
-      subst (λ (b : List ℕ). ElementTaken scope b e) (sym (at_element (List ℕ) (List ℕ) (child_piece prefixes) (element_piece prefixes) e))
+      subst (λ (b : List ℕ). ElementTaken scope b e []) (sym (at_element (List ℕ) (List ℕ) (child_piece prefixes) (element_piece prefixes) e))
       (tagged_taken prefixes [] scope e parts.0 tt tt tt r.0 (fits_in e.attributes parts.0.attributes s.0) (give_each e.children each parts.1 parts.0.children.texts s.1))
 
   pub child_taken : (c : Child) → TakesChild c

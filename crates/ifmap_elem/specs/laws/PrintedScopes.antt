@@ -1,8 +1,8 @@
 -- The declarations of a root bind a prefix to each namespace in it, and each prefix to one namespace.
-use Rattle.std.proofs.Common.{◌≡◌, ◌≢◌, ℕ, ◌+◌, ◌<◌, ◌≤◌, suc, Bool, true, false, not, ◌||◌, List, [], ◌∷◌, ◌++◌, map, length, refl, ap, sym, ◌∙◌, subst, arith, inl, inr, Option, Some, None}
-use Rattle.std.specs.Prelude.{◌==◌, ◌^◌, nat_le, codes, filter}
+use Rattle.std.proofs.Common.{◌≡◌, ◌≢◌, ℕ, ◌+◌, ◌<◌, ◌≤◌, Bool, true, false, not, ◌||◌, List, [], ◌∷◌, ◌++◌, map, refl, ap, sym, ◌∙◌, subst, arith, inl, inr, Option, Some, None}
+use Rattle.std.specs.Prelude.{◌==◌, nat_le, codes, filter}
 use Rattle.std.specs.List.{AllByRecursion}
-use Rattle.std.specs.Fmt.{decimal}
+use Rattle.ifmap_lemmas.specs.Numerals.{numeral, numeral_digits, one_number}
 use Rattle.std.specs.Int.{is_in_range}
 use Rattle.std.specs.Map.{lookup}
 use Rattle.std.specs.Option.{is_some}
@@ -10,7 +10,6 @@ use Rattle.std.specs.Str.{bytes_eq}
 use Rattle.std.specs.Str.Parse.{AllDigits}
 use Rattle.std.proofs.lemmas.Bool.{cases_Bool, false_from_ne_true}
 use Rattle.std.proofs.lemmas.Bool.Decides.{nat_tests}
-use Rattle.std.proofs.lemmas.Fmt.{decimal_injective, decimal_is_IsNumeral}
 use Rattle.std.proofs.lemmas.Slice.Eq.{bytes_eq-Decides}
 use Rattle.std.proofs.lemmas.Str.Parse.{digit_from_value}
 use Rattle.ifmap_elem.specs.Chars.{AllAre}
@@ -18,7 +17,7 @@ use Rattle.ifmap_elem.specs.Names.{IsNamePart, is_name_start, is_name_character,
 use Rattle.ifmap_elem.specs.Scopes.{Scope, AllDiffer, IsBinding, bound, root_scope, xml_space}
 use Rattle.ifmap_elem.specs.Fit.{IsNamespace, IsDeclarable}
 use Rattle.ifmap_elem.specs.Canonical.{after_prefix}
-use Rattle.ifmap_elem.specs.Namespaces.{once_each, is_declared, declared_among, prefix_rows, name_prefixes}
+use Rattle.ifmap_elem.specs.Namespaces.{once_each, is_declared, declared_among, numbered_prefixes, name_prefixes}
 use Rattle.ifmap_elem.specs.laws.NameBytes.{part_is_some}
 use Rattle.ifmap_elem.specs.laws.NamespaceLaws.{among, among-others, is_some-prefix_rows}
 use Rattle.ifmap_lemmas.specs.Texts.{eq_tells, eq_itself, is_ascii}
@@ -38,7 +37,7 @@ or_right false b h = h
 -- numbered prefixes
 
 abbrev pub label : ℕ → ℕ → List ℕ
-label letter n = letter ∷ decimal n
+label letter n = letter ∷ numeral n
 
 -- a letter that can begin a prefix, which is neither `xml` nor `xmlns`
 pub record IsLetter (letter : ℕ) : Type 0 where
@@ -82,45 +81,44 @@ label_some letter n e = cc
 -- what the rows bind
 
 abbrev pub rows_of : ℕ → ℕ → Texts → Rows
-rows_of letter n xs = prefix_rows (letter ∷ []) n xs
+rows_of letter n xs = numbered_prefixes (letter ∷ []) n xs
 
 abbrev pub scope_of : ℕ → ℕ → Texts → Scope → Scope
 scope_of letter n xs more = map row_binding (rows_of letter n xs) ++ more
 
--- a namespace with a number
-pub record Numbered (letter n : ℕ) (xs : Texts) (more : Scope) (s p : List ℕ) : Type 0 where
+-- a namespace, and the number of its prefix
+pub record HasNumber (letter n : ℕ) (xs : Texts) (more : Scope) (s p : List ℕ) : Type 0 where
   pub number : ℕ
   pub from : n ≤ number
-  pub below : number < n + length xs
   pub prefix_is : p ≡ label letter number
   pub binds : bound (scope_of letter n xs more) p ≡ Some s
 
 module _ (letter : ℕ) (is : IsLetter letter) where
-  label_part : (n : ℕ) → n < 2 ^ 64 → IsNamePart (label letter n)
-  label_part n small =
-      let digits : AllDigits 10 (decimal n) = (decimal_is_IsNumeral n small).0.1 in
-      ascii_part letter (decimal n) is.start (digits_characters (decimal n) digits) (is.low, digits_ascii (decimal n) digits)
+  label_part : (n : ℕ) → IsNamePart (label letter n)
+  label_part n =
+      let digits = numeral_digits n in
+      ascii_part letter (numeral n) is.start (digits_characters (numeral n) digits) (is.low, digits_ascii (numeral n) digits)
 
   label_no_x : (n : ℕ) (bs : List ℕ) → label letter n ≢ 0x78 ∷ bs
   label_no_x n bs e = let h : letter ≡ 0x78 = cc in is.no_x h
 
-  labels_differ : (m n : ℕ) → m < 2 ^ 64 → n < 2 ^ 64 → m ≢ n → label letter m ≢ label letter n
-  labels_differ m n p q other e = let d : decimal m ≡ decimal n = cc in other (decimal_injective m n p q d)
+  labels_differ : (m n : ℕ) → m ≢ n → label letter m ≢ label letter n
+  labels_differ m n other e = let d : numeral m ≡ numeral n = cc in other (one_number m n d)
 
-  rows_bind : (n : ℕ) (xs : Texts) (more : Scope) (s p : List ℕ) → n + length xs ≤ 2 ^ 64 → lookup (bytes_eq s) (rows_of letter n xs) ≡ Some p → Numbered letter n xs more s p
-  rows_bind n [] more s p small found = let wrong : None ≡ Some p = found in cc
-  rows_bind n (x ∷ xs) more s p small found = elim (cases_Bool (bytes_eq s x)) [
+  rows_bind : (n : ℕ) (xs : Texts) (more : Scope) (s p : List ℕ) → lookup (bytes_eq s) (rows_of letter n xs) ≡ Some p → HasNumber letter n xs more s p
+  rows_bind n [] more s p found = let wrong : None ≡ Some p = found in cc
+  rows_bind n (x ∷ xs) more s p found = elim (cases_Bool (bytes_eq s x)) [
     | inl e ↦
         let h : Some (label letter n) ≡ Some p = rw e at found in
         let q : label letter n ≡ p = cc in
         let t : bytes_eq (label letter n) p ≡ true = (bytes_eq-Decides (label letter n) p).1 q in
-        record { number = n; from = omega arith; below = omega arith; prefix_is = sym q; binds = rw t (ap (λ z. Some z) (sym (eq_tells s x e))) }
+        record { number = n; from = omega arith; prefix_is = sym q; binds = rw t (ap (λ z. Some z) (sym (eq_tells s x e))) }
     | inr e ↦
         let h : lookup (bytes_eq s) (rows_of letter (n + 1) xs) ≡ Some p = rw e at found in
-        let r : Numbered letter (n + 1) xs more s p = rows_bind (n + 1) xs more s p (omega arith) h in
+        let r : HasNumber letter (n + 1) xs more s p = rows_bind (n + 1) xs more s p h in
         let t : bytes_eq (label letter n) p ≡ false =
-        differ (label letter n) p (λ q. labels_differ n r.number (omega arith) (omega arith) (λ same. absurd (omega arith)) (q ∙ r.prefix_is)) in
-        record { number = r.number; from = omega arith; below = omega arith; prefix_is = r.prefix_is; binds = rw t r.binds }
+        differ (label letter n) p (λ q. labels_differ n r.number (λ same. absurd (omega arith)) (q ∙ r.prefix_is)) in
+        record { number = r.number; from = omega arith; prefix_is = r.prefix_is; binds = rw t r.binds }
   ]
 
 pub past_rows : (letter n : ℕ) (xs : Texts) (more : Scope) (p : List ℕ) → ((k : ℕ) → label letter k ≢ p) → bound (scope_of letter n xs more) p ≡ bound more p
@@ -201,7 +199,7 @@ rows_outermost letter n xs more is outer = record {
   xml = past_rows letter n xs more (codes "xml") (λ k. label_no_x letter is k (codes "ml")) ∙ outer.xml;
 }
 
-module _ (all : Texts) (more : Scope) (outer : IsOutermost more) (small : length (declared_among all) < 2 ^ 64) where
+module _ (all : Texts) (more : Scope) (outer : IsOutermost more) where
   abbrev its_prefixes : Rows
   its_prefixes = name_prefixes (declared_among all)
 
@@ -211,8 +209,8 @@ module _ (all : Texts) (more : Scope) (outer : IsOutermost more) (small : length
   outermost : IsOutermost its_scope
   outermost = rows_outermost 0x6E 1 (declared_among all) more n_letter outer
 
-  no_white : (s : List ℕ) → s ≡ [] → Resolves its_prefixes its_scope s
-  no_white s is =
+  no_namespace : (s : List ℕ) → s ≡ [] → Resolves its_prefixes its_scope s
+  no_namespace s is =
       let out : is_declared s ≡ false = ap is_declared is in
       let none : among s (declared_among all) ≡ false = among_once s (filter is_declared all) ∙ among_dropped is_declared s all out in
       let rows : lookup (bytes_eq s) (rows_of 0x6E 1 (declared_among all)) ≡ None = has_none _ (is_some-prefix_rows (codes "n") 1 s (declared_among all) ∙ none) in
@@ -228,13 +226,13 @@ module _ (all : Texts) (more : Scope) (outer : IsOutermost more) (small : length
   numbered s out other here =
       let found : among s (declared_among all) ≡ true = among_once s (filter is_declared all) ∙ among_kept is_declared s all out ∙ here in
       let row = has_value (lookup (bytes_eq s) (rows_of 0x6E 1 (declared_among all))) (is_some-prefix_rows (codes "n") 1 s (declared_among all) ∙ found) in
-      let r : Numbered 0x6E 1 (declared_among all) more s row.0 = rows_bind 0x6E n_letter 1 (declared_among all) more s row.0 (omega arith) row.1 in
-      resolves_some its_prefixes its_scope s row.0 (rw other row.1) (subst IsNamePart (sym r.prefix_is) (label_part 0x6E n_letter r.number (omega arith)))
+      let r : HasNumber 0x6E 1 (declared_among all) more s row.0 = rows_bind 0x6E n_letter 1 (declared_among all) more s row.0 row.1 in
+      resolves_some its_prefixes its_scope s row.0 (rw other row.1) (subst IsNamePart (sym r.prefix_is) (label_part 0x6E n_letter r.number))
       (λ e. label_no_x 0x6E n_letter r.number (codes "mlns") (sym r.prefix_is ∙ e)) r.binds
 
   resolved : (s : List ℕ) → among s all ≡ true → Resolves its_prefixes its_scope s
   resolved s here = elim (cases_Bool (bytes_eq s [])) [
-    | inl e ↦ no_white s (eq_tells s [] e)
+    | inl e ↦ no_namespace s (eq_tells s [] e)
     | inr e ↦ elim (cases_Bool (bytes_eq s xml_space)) [
       | inl f ↦ the_xml_space s f
       | inr f ↦ let out : is_declared s ≡ true = rw (e, f) refl in numbered s out f here
@@ -279,9 +277,9 @@ is_some_space : (s : List ℕ) → is_declared s ≡ true → s ≢ []
 is_some_space s out e = let wrong : false ≡ true = sym (ap is_declared e) ∙ out in cc
 
 module _ (letter : ℕ) (is : IsLetter letter) where
-  pub rows_fit : (n : ℕ) (xs : Texts) → n + length xs ≤ 2 ^ 64 → AllByRecursion IsDeclarable xs → AllByRecursion FitRow (rows_of letter n xs)
-  rows_fit n [] small f = tt
-  rows_fit n (x ∷ xs) small f = (record { prefix = label_part letter is n (omega arith); space = f.0.fit.characters }, rows_fit (n + 1) xs (omega arith) f.1)
+  pub rows_fit : (n : ℕ) (xs : Texts) → AllByRecursion IsDeclarable xs → AllByRecursion FitRow (rows_of letter n xs)
+  rows_fit n [] f = tt
+  rows_fit n (x ∷ xs) f = (record { prefix = label_part letter is n; space = f.0.fit.characters }, rows_fit (n + 1) xs f.1)
 
   pub rows_are_bindings : (n : ℕ) (xs : Texts) → AllByRecursion IsDeclarable xs → AllByRecursion IsBinding (map row_binding (rows_of letter n xs))
   rows_are_bindings n [] f = tt
@@ -295,14 +293,14 @@ module _ (letter : ℕ) (is : IsLetter letter) where
     rows_are_bindings (n + 1) xs f.1,
   )
 
-  later_differ : (m n : ℕ) (xs : Texts) → m < n → n + length xs ≤ 2 ^ 64 → AllByRecursion (λ y. label letter m ≢ y) (map (λ b. b.prefix) (map row_binding (rows_of letter n xs)))
-  later_differ m n [] low small = tt
-  later_differ m n (x ∷ xs) low small =
-      (labels_differ letter is m n (omega arith) (omega arith) (λ e. absurd (omega arith)), later_differ m (n + 1) xs (omega arith) (omega arith))
+  later_differ : (m n : ℕ) (xs : Texts) → m < n → AllByRecursion (λ y. label letter m ≢ y) (map (λ b. b.prefix) (map row_binding (rows_of letter n xs)))
+  later_differ m n [] low = tt
+  later_differ m n (x ∷ xs) low =
+      (labels_differ letter is m n (λ e. absurd (omega arith)), later_differ m (n + 1) xs (omega arith))
 
-  pub prefixes_differ : (n : ℕ) (xs : Texts) → n + length xs ≤ 2 ^ 64 → AllDiffer (map (λ b. b.prefix) (map row_binding (rows_of letter n xs)))
-  prefixes_differ n [] small = tt
-  prefixes_differ n (x ∷ xs) small = (later_differ n (n + 1) xs (omega arith) (omega arith), prefixes_differ (n + 1) xs (omega arith))
+  pub prefixes_differ : (n : ℕ) (xs : Texts) → AllDiffer (map (λ b. b.prefix) (map row_binding (rows_of letter n xs)))
+  prefixes_differ n [] = tt
+  prefixes_differ n (x ∷ xs) = (later_differ n (n + 1) xs (omega arith), prefixes_differ (n + 1) xs)
 
 -- prefixes of different letters differ
 
@@ -322,8 +320,3 @@ both_differ letter other n m (x ∷ xs) ys apart f g = (
   all_in_both (λ y. label letter n ≢ y) (rows_of letter (n + 1) xs) (rows_of other m ys) f.0 (others_differ letter other n m ys apart),
   both_differ letter other (n + 1) m xs ys apart f.1 g,
 )
-
--- there are as many rows as namespaces
-pub length-rows : (letter n : ℕ) (xs : Texts) → length (rows_of letter n xs) ≡ length xs
-length-rows letter n [] = refl
-length-rows letter n (x ∷ xs) = ap suc (length-rows letter (n + 1) xs)

@@ -1,12 +1,12 @@
 -- A root by the cases of its first piece, which is how a reader meets it; and that this is what `IsRoot` says.
-use Rattle.std.specs.Prelude.{◌≡◌, ◌↔◌, true, List, [], ◌∷◌, refl}
-use Rattle.std.proofs.Common.{ap, sym, ◌∙◌, subst}
+use Rattle.std.specs.Prelude.{◌≡◌, true, List, [], ◌∷◌, refl}
+use Rattle.std.proofs.Common.{ap, sym, subst}
 use Rattle.ifmap_elem.specs.declared.elements.Element.{Element}
 use Rattle.ifmap_elem.specs.declared.readings.Declared.{Declared}
 use Rattle.ifmap_elem.specs.declared.readings.Reading.{Reading}
 use Rattle.ifmap_elem.specs.Document as piece
 use Rattle.ifmap_elem.specs.Document.{Pieces, Nothing, chained, Item, Inner, Run, AreItems, IsElement, IsMargin, IsRoot}
-use Rattle.ifmap_elem.specs.Scopes.{Scope, root_scope, scope_within}
+use Rattle.ifmap_elem.specs.Scopes.{root_scope, scope_within}
 
 -- from the first piece on: what a comment and white space leave is a root, and after an element a margin stands
 abbrev pub BeginsWithRoot : Pieces → Reading → Type 0

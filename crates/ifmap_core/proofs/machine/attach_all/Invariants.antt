@@ -4,4 +4,4 @@ use Rattle.ifmap_core.specs.Rows.{attached_all}
 use Rattle.ifmap_core.proofs.machine.attach_all.Given as goal
 
 abbrev pub invariant-loop-row : goal.invariant-loop-row
-invariant-loop-row l = (attached_all l.graph.rows (into_iter_items l.row-iterator) ≡ attached_all l.fn.graph.rows l.fn.rows.items) × (length (into_iter_items l.row-iterator) ≤ l.graph.room)
+invariant-loop-row l = (attached_all l.graph.attachments (into_iter_items l.row-iterator) ≡ attached_all l.fn.graph.attachments l.fn.rows.items) × (length (into_iter_items l.row-iterator) ≤ l.graph.room)

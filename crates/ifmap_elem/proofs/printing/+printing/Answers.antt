@@ -2,7 +2,7 @@ use Rattle.std.proofs.Common.{◌≡◌, ◌∙◌, ap, subst, List, length, get
 use Rattle.std.proofs.lemmas.List.{take_all}
 use Rattle.std.specs.List.{flat_map}
 use Rattle.ifmap_elem.specs.declared.elements.Child.{Child}
-use Rattle.ifmap_elem.specs.Arranged.{arranged_child}
+use Rattle.ifmap_elem.specs.Arranged.{arrange_child}
 use Rattle.ifmap_elem.specs.Canonical.{child_bytes}
 use Rattle.ifmap_elem.specs.Namespaces.{spaces_of_child}
 use Rattle.ifmap_elem.specs.printer.Pieces.{Adds}
@@ -11,7 +11,7 @@ use Rattle.ifmap_elem.proofs.printing.+printing.Goals as goal
 
 pub write_content-loop-child-preserved : goal.write_content-loop-child-preserved
 write_content-loop-child-preserved t c =
-    pieces_next (λ x. spaces_of_child (arranged_child x)) (λ rows x. child_bytes rows (arranged_child x)) c.args.children.now c.loop-child.child-index c.child-item.result
+    pieces_next (λ x. spaces_of_child (arrange_child x)) (λ rows x. child_bytes rows (arrange_child x)) c.args.children.now c.loop-child.child-index c.child-item.result
     c.args.prefixes.now c.loop-child.prefixes c.write_child.new.prefixes c.extend_from_slice-2.new.self.items c.loop-child.out.items c.write_child.new.out.items
     (omega (arith, c.loop-child-test.true, ap length c.deref-child-items.ensures.value, ap length c.children.view_is))
     (c.child-item.is ∙ ap (λ (l : List Child). get_or l c.loop-child.child-index c.child-item.result) (c.deref-child-items.ensures.value ∙ c.children.view_is))
@@ -19,15 +19,15 @@ write_content-loop-child-preserved t c =
 
 pub write_content-returns : goal.write_content-returns
 write_content-returns t c = λ numbered.
-    piece_content (λ x. spaces_of_child (arranged_child x)) (λ rows x. child_bytes rows (arranged_child x)) c.args.children.now c.args.name.now _
+    piece_content (λ x. spaces_of_child (arrange_child x)) (λ rows x. child_bytes rows (arrange_child x)) c.args.children.now c.args.name.now _
     c.args.prefixes.now c.loop-child.prefixes c.args.out.now.items c.extend_from_slice-2.new.self.items c.loop-child.out.items
     c.extend_from_slice-3.new.self.items c.write_name.new.out.items c.extend_from_slice-4.new.self.items
     (λ e.
     let h : vec_len c.children.inside.0 ≡ 0 = omega (arith, e, c.children.inside.0.ok.0, ap length c.children.view_is) in
     let k = eq-eqb (vec_len c.children.inside.0) 0 h in cc)
     c.in_ok-extend_from_slice-2.ensures.items
-    (subst (λ (l : List Child). Adds c.args.prefixes.now (flat_map (λ x. spaces_of_child (arranged_child x)) l) c.loop-child.prefixes
-    (λ rows. flat_map (λ x. child_bytes rows (arranged_child x)) l) c.extend_from_slice-2.new.self.items c.loop-child.out.items)
+    (subst (λ (l : List Child). Adds c.args.prefixes.now (flat_map (λ x. spaces_of_child (arrange_child x)) l) c.loop-child.prefixes
+    (λ rows. flat_map (λ x. child_bytes rows (arrange_child x)) l) c.extend_from_slice-2.new.self.items c.loop-child.out.items)
     (take_all c.loop-child.child-index c.args.children.now (omega (arith, c.loop-child-test.false, ap length c.deref-child-items.ensures.value, ap length c.children.view_is)))
     c.loop-child.invariant)
     c.in_ok-extend_from_slice-3.ensures.items (numbered_later c.args.prefixes.now c.loop-child.prefixes c.args.name.now.space c.loop-child.invariant.behind numbered)

@@ -1,8 +1,8 @@
 use Rattle.std.proofs.Common.{◌≡◌, ◌++◌, take}
 use Rattle.std.specs.List.{flat_map}
 use Rattle.ifmap_elem.specs.Canonical.{declaration_bytes}
-use Rattle.ifmap_elem.specs.Namespaces.{prefix_rows}
+use Rattle.ifmap_elem.specs.Namespaces.{numbered_prefixes}
 use Rattle.ifmap_elem.proofs.printing.write_declarations.Given as goal
 
 abbrev pub invariant-loop-i : goal.invariant-loop-i
-invariant-loop-i l = l.out.items ≡ l.initial.out.items ++ flat_map declaration_bytes (prefix_rows l.letter 1 (take l.i l.spaces))
+invariant-loop-i l = l.out.items ≡ l.initial.out.items ++ flat_map declaration_bytes (numbered_prefixes l.letter 1 (take l.i l.spaces))

@@ -6,5 +6,6 @@ use Rattle.ifmap_graph.proofs.graphs.place_for.Goals as goal
 
 pub returns : goal.returns
 returns c =
-    place_found c.args.row.now c.args.rows.now _ c.requires c.binary_search_by.ensures.bound
-    (c.binary_search_by.ensures.position (λ b. attachment_order b c.args.row.now) (always_returns_same _ (λ b r. r ≡ attachment_order b.0.now c.args.row.now) _ (λ b r f k. search rules)))
+    place_found c.args.attachment.now c.args.attachments.now _ c.requires c.binary_search_by.ensures.bound
+    (c.binary_search_by.ensures.position (λ b. attachment_order b c.args.attachment.now)
+    (always_returns_same _ (λ b r. r ≡ attachment_order b.0.now c.args.attachment.now) _ (λ b r f k. search rules)))

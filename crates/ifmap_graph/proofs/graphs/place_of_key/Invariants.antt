@@ -5,4 +5,4 @@ use Rattle.ifmap_graph.specs.declared.attachments.Attachment.{Attachment}
 use Rattle.ifmap_graph.proofs.graphs.place_of_key.Given as goal
 
 abbrev pub invariant-loop-i : goal.invariant-loop-i
-invariant-loop-i l = AllWithin (λ (b : Attachment). stored.same_key l.row.stored b.stored ≡ false) l.rows l.initial.i l.i
+invariant-loop-i l = AllWithin (λ (b : Attachment). stored.same_key l.attachment.stored b.stored ≡ false) l.attachments l.initial.i l.i

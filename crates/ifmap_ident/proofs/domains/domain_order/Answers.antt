@@ -11,7 +11,8 @@ returns-in-false-false c =
     let other = c.as_bytes-in-false-false.ensures.value ∙ c.other.view_is in
     λ letter h. domains_lead c.value_order.result c.args.one.now c.args.other.now
     (some_bytes c.args.one.now (string_len c.one.inside.0) c.in-false-false.ensures (sym c.as_bytes.ensures.len ∙ ap length one))
-    (some_bytes c.args.other.now (string_len c.other.inside.0) c.in-false-false.ensures' (sym c.as_bytes-in-false-false.ensures.len ∙ ap length other))
+    (some_bytes c.args.other.now (string_len c.other.inside.0) c.in-false-false.ensures' (sym c.as_bytes-in-false-false.ensures.len
+    ∙ ap length other))
     (subst (λ d. Leads c.value_order.result (closed_value d) (closed_value c.args.other.now)) one
     (subst (λ d. Leads c.value_order.result (closed_value c.as_bytes.result.now) (closed_value d)) other c.value_order.ensures))
     (32 ∷ (letter ∷ []))

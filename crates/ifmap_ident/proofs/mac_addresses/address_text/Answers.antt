@@ -11,9 +11,12 @@ loop-byte-init c =
 pub loop-byte-preserved : goal.loop-byte-preserved
 loop-byte-preserved c =
     let pair = hex_pair (get_or c.in-Some.rest.now c.loop-byte.byte-index 0) in
-    c.in_ok-push_pair-2.ensures ∙ ap (λ t. t ++ pair) (c.in_ok-push.ensures.bytes ∙ (λ i. c.loop-byte.invariant i ++ c.in_ok-push.ensures.ascii (omega arith) i))
+    c.in_ok-push_pair-2.ensures ∙ ap (λ t. t ++ pair) (c.in_ok-push.ensures.bytes ∙
+    (λ i. c.loop-byte.invariant i ++ c.in_ok-push.ensures.ascii (omega arith) i))
     ∙ append_assoc (address_text (take (c.loop-byte.byte-index + 1) c.args.bytes.now)) (58 ∷ []) pair
-    ∙ sym (next_pair c.args.bytes.now c.in-Some.rest.now c.in-Some.first.now c.in-Some.ensures.cases.0 c.loop-byte.byte-index c.loop-byte-test.true)
+    ∙ sym (next_pair c.args.bytes.now c.in-Some.rest.now c.in-Some.first.now c.in-Some.ensures.cases.0 c.loop-byte.byte-index
+    c.loop-byte-test.true)
 
 pub returns : goal.returns
-returns c = c.loop-byte.invariant ∙ all_pairs c.args.bytes.now c.in-Some.rest.now c.in-Some.first.now c.in-Some.ensures.cases.0 c.loop-byte.byte-index c.loop-byte-test.false
+returns c = c.loop-byte.invariant ∙ all_pairs c.args.bytes.now c.in-Some.rest.now c.in-Some.first.now c.in-Some.ensures.cases.0
+    c.loop-byte.byte-index c.loop-byte-test.false

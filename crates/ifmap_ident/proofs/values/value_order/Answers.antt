@@ -2,7 +2,7 @@ use Rattle.std.proofs.Common.{ap, nat_cmp, sym, subst, ◌∙◌}
 use Rattle.std.specs.Cmp.Lexicographic.{slice_cmp}
 use Rattle.ifmap_ident.specs.Leading.{Leads}
 use Rattle.ifmap_ident.specs.Written.{closed_value, written_byte}
-use Rattle.ifmap_ident.proofs.ValueLaws.{looked_up, value_leads}
+use Rattle.ifmap_ident.proofs.ValueLaws.{option_copied-get, value_leads}
 use Rattle.ifmap_ident.proofs.values.value_order.Goals as goal
 
 pub returns : goal.returns
@@ -10,7 +10,9 @@ returns c =
     let one = c.args.one.now in
     let other = c.args.other.now in
     let shared = c.shared_len-shared.result in
-    let first = c.written_byte.ensures ∙ ap written_byte (looked_up one shared c.get.result c.get.ensures.lookup.0 c.get.ensures.lookup.1) in
-    let second = c.written_byte-2.ensures ∙ ap written_byte (looked_up other shared c.get-2.result c.get-2.ensures.lookup.0 c.get-2.ensures.lookup.1) in
+    let first = c.written_byte.ensures ∙ ap written_byte (option_copied-get one shared c.get.result c.get.ensures.lookup.0
+    c.get.ensures.lookup.1) in
+    let second = c.written_byte-2.ensures ∙ ap written_byte (option_copied-get other shared c.get-2.result c.get-2.ensures.lookup.0
+    c.get-2.ensures.lookup.1) in
     subst (λ o. Leads o (closed_value one) (closed_value other)) (sym (c.cmp.ensures ∙ (λ i. slice_cmp nat_cmp (first i) (second i))))
     (value_leads one other shared c.shared_len-shared.ensures.shared c.shared_len-shared.ensures.apart)

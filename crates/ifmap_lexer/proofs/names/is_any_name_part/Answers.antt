@@ -5,7 +5,7 @@ use Rattle.std.proofs.lemmas.Iterator.Search.{all_from_yields_List}
 use Rattle.std.proofs.lemmas.Str.{IsUtf8-past_char}
 use Rattle.ifmap_elem.specs.Names.{is_name_character}
 use Rattle.ifmap_lexer.proofs.NameLaws.{tells_part, part_begins, no_part_of_none}
-use Rattle.ifmap_lexer.proofs.names.is_name_part.Goals as goal
+use Rattle.ifmap_lexer.proofs.names.is_any_name_part.Goals as goal
 
 pub returns-then-is_first : goal.returns-then-is_first
 returns-then-is_first c =

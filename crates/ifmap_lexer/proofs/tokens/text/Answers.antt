@@ -11,9 +11,9 @@ pub returns-then-is_empty-clause-refused : goal.returns-then-is_empty-clause-ref
 returns-then-is_empty-clause-refused c =
     no_own c.args.bytes.now c.split_byte.result.0.now c.split_byte.result.1.now c.split_byte.ensures (is_none c.split_byte.result.0.now (sym c.is_empty.ensures ∙ c.if-is_empty.true))
 
-pub returns-then-has_word-clause-refused : goal.returns-then-has_word-clause-refused
-returns-then-has_word-clause-refused c =
-    no_text_end c.args.bytes.now c.split_byte.result.0.now c.split_byte.result.1.now c.split_byte.ensures c.if-has_word.ensures.yes
+pub returns-then-has_section_end-clause-refused : goal.returns-then-has_section_end-clause-refused
+returns-then-has_section_end-clause-refused c =
+    no_text_end c.args.bytes.now c.split_byte.result.0.now c.split_byte.result.1.now c.split_byte.ensures c.if-has_section_end.ensures.yes
 
 pub returns-in_default-clause-refused : goal.returns-in_default-clause-refused
 returns-in_default-clause-refused c =
@@ -28,5 +28,5 @@ returns-in_err-meant-clause-refused c =
 pub returns-clause-found : goal.returns-clause-found
 returns-clause-found c =
     text_found c.args.bytes.now c.split_byte.result.0.now c.split_byte.result.1.now c.split_byte.ensures (is_some_list c.split_byte.result.0.now (sym c.is_empty.ensures ∙ c.if-is_empty.false))
-    c.if-has_word.ensures.no c.in-Some.ensures.found.1 c.is_blank.result c.is_blank.ensures c.in_ok-meant.meant
+    c.if-has_section_end.ensures.no c.in-Some.ensures.found.1 c.is_blank.result c.is_blank.ensures c.in_ok-meant.meant
     (subst (λ (x : List ℕ). IsText x c.in_ok-meant.meant) c.in-Some.ensures.found.0 c.in_ok-meant.ensures.found)

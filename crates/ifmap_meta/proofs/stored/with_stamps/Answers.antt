@@ -1,12 +1,14 @@
 use Rattle.std.proofs.Common.{◌≡◌, List, [], ◌∷◌, ◌++◌, codes, ap, ◌∙◌, append_assoc}
-use Rattle.ifmap_elem.specs.Arranged.{sorted}
+use Rattle.ifmap_elem.specs.Arranged.{sort_attributes}
 use Rattle.ifmap_elem.specs.declared.elements.Attribute.{Attribute}
 use Rattle.ifmap_elem.specs.Building.{bare_attribute}
 use Rattle.ifmap_meta.proofs.stored.with_stamps.Goals as goal
 
 -- two more attributes, and then all in order
-in_order_with : (attributes start more all made : List Attribute) (a b p q : Attribute) → start ≡ attributes → more ≡ start ++ a ∷ [] → all ≡ more ++ b ∷ [] → made ≡ sorted all → a ≡ p → b ≡ q → made ≡ sorted (attributes ++ p ∷ q ∷ [])
-in_order_with attributes start more all made b c p q e f g h i j = rw (h, g, f, e, i, j) (ap sorted (append_assoc attributes (p ∷ []) (q ∷ [])))
+in_order_with : (attributes start more all made : List Attribute) (a b p q : Attribute) → start ≡ attributes → more ≡ start ++ a ∷ []
+    → all ≡ more ++ b ∷ [] → made ≡ sort_attributes all → a ≡ p → b ≡ q → made ≡ sort_attributes (attributes ++ p ∷ q ∷ [])
+in_order_with attributes start more all made b c p q e f g h i j =
+    rw (h, g, f, e, i, j) (ap sort_attributes (append_assoc attributes (p ∷ []) (q ∷ [])))
 
 pub returns : goal.returns
 returns c =

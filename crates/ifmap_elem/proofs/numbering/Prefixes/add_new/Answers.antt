@@ -2,7 +2,7 @@ use Rattle.std.proofs.Common.{◌≡◌, ℕ, ◌+◌, ◌++◌, ◌∷◌, [], 
 use Rattle.std.specs.Prelude.{codes, None}
 use Rattle.std.specs.BTreeMap.{get}
 use Rattle.std.specs.Map.{lookup}
-use Rattle.std.specs.Fmt.{decimal}
+use Rattle.ifmap_lemmas.specs.Numerals.{numeral}
 use Rattle.std.specs.Str.{bytes_eq}
 use Rattle.std.specs.Ordering.{nat_cmp}
 use Rattle.std.specs.Cmp.Lexicographic.{slice_cmp}
@@ -16,7 +16,7 @@ invariant_of-self-2 c =
     let more : c.push_reserved.new.self.items ≡ c.self.inside.order.items ++ c.in_ok-listed.listed ∷ [] = c.push_reserved.ensures.items ∙ ap (λ l. l ++ c.in_ok-listed.listed ∷ []) c.reserve.ensures.items in (
       keyed (get (slice_cmp nat_cmp) c.self.inside.labels) (get (slice_cmp nat_cmp) c.insert.new.self) c.self.inside.order.items c.push_reserved.new.self.items
           c.args.space.now c.in_ok-key.key c.in_ok-listed.listed c.in_ok-label.label c.self.invariant.0 c.in_ok-insert.ensures.updates.0
-          c.in_ok-key.ensures c.in_ok-listed.ensures more (c.in_ok-label.ensures ∙ ap (λ (n : ℕ). codes "n" ++ decimal (n + 1)) long)
+          c.in_ok-key.ensures c.in_ok-listed.ensures more (c.in_ok-label.ensures ∙ ap (λ (n : ℕ). codes "n" ++ numeral (n + 1)) long)
           (subst (λ xs. lookup (bytes_eq c.args.space.now) (name_prefixes xs) ≡ None) (sym c.self.view_is) c.requires.new),
       none_more c.self.inside.order.items c.push_reserved.new.self.items c.args.space.now c.in_ok-listed.listed c.requires.some c.in_ok-listed.ensures more c.self.invariant.1,
     )

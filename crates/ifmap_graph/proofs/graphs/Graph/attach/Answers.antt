@@ -1,11 +1,14 @@
 use Rattle.ifmap_graph.proofs.GraphLaws.{graph_attached, graph_without_key}
 use Rattle.ifmap_graph.proofs.graphs.Graph.attach.Goals as goal
 
-pub put_row-requires-clause-rising : goal.put_row-requires-clause-rising
-put_row-requires-clause-rising c = rw c.drop_key.ensures.items (graph_without_key c.args.row c.self.inside.rows.items c.self.invariant).rising
+pub put_in_place-requires-clause-rising : goal.put_in_place-requires-clause-rising
+put_in_place-requires-clause-rising c = rw c.drop_key.ensures.items
+    (graph_without_key c.args.attachment c.self.inside.attachments.items c.self.invariant).rising
 
 pub invariant_of-self : goal.invariant_of-self
-invariant_of-self c = rw (c.put_row.ensures.items, c.drop_key.ensures.items) (graph_attached c.self.inside.rows.items c.args.row c.self.invariant)
+invariant_of-self c = rw (c.put_in_place.ensures.items, c.drop_key.ensures.items)
+    (graph_attached c.self.inside.attachments.items c.args.attachment c.self.invariant)
 
 pub returns-clause-graph : goal.returns-clause-graph
-returns-clause-graph c = rw (c.put_row.ensures.items, c.drop_key.ensures.items) (graph_attached c.self.inside.rows.items c.args.row c.self.invariant)
+returns-clause-graph c = rw (c.put_in_place.ensures.items, c.drop_key.ensures.items)
+    (graph_attached c.self.inside.attachments.items c.args.attachment c.self.invariant)

@@ -8,4 +8,5 @@ pub returns : goal.returns
 returns c =
     let one = identifier_bytes c.args.self.now in
     let other = identifier_bytes c.args.other.now in
-    both_ways c.equals.result (pointwise ◌==◌ one other) (λ t. (bytes_decides one other).1 (c.equals.ensures.canonical.0 t)) (λ t. c.equals.ensures.canonical.1 ((bytes_decides one other).0 t))
+    both_ways c.equals.result (pointwise ◌==◌ one other) (λ t. (bytes_decides one other).1 (c.equals.ensures.canonical.0 t))
+    (λ t. c.equals.ensures.canonical.1 ((bytes_decides one other).0 t))

@@ -1,16 +1,16 @@
 //! Tokens as written by hand, and bytes at which none stands.
-use crate::{LexError, token_of};
 use ifmap_elem::tokens::{Qualified, Tag, Token};
-use std::alloc::{AllocError, Global};
+use ifmap_lexer::{LexError, token_of};
+use std::alloc::{AllocError as NoMemory, Global};
 use std::test::Fail;
 
-fn push_name(name: &Qualified, out: &mut String) -> Result<(), AllocError> {
+fn push_name(name: &Qualified, out: &mut String) -> Result<(), NoMemory> {
     out.push_str(name.prefix.0.as_str())?;
     out.push(':')?;
     out.push_str(name.local.0.as_str())
 }
 
-fn push_tag(word: &str, tag: &Tag, out: &mut String) -> Result<(), AllocError> {
+fn push_tag(word: &str, tag: &Tag, out: &mut String) -> Result<(), NoMemory> {
     out.push_str(word)?;
     push_name(&tag.name, out)?;
     for assignment in &tag.assignments.0 {
@@ -22,7 +22,7 @@ fn push_tag(word: &str, tag: &Tag, out: &mut String) -> Result<(), AllocError> {
     Ok(())
 }
 
-fn push_token(token: &Token, out: &mut String) -> Result<(), AllocError> {
+fn push_token(token: &Token, out: &mut String) -> Result<(), NoMemory> {
     match token {
         Token::Declaration => out.push_str("declaration"),
         Token::Comment => out.push_str("comment"),
@@ -43,8 +43,8 @@ fn push_token(token: &Token, out: &mut String) -> Result<(), AllocError> {
     }
 }
 
-/// The token at the front and its length, or why there is none.
-fn told(alloc: Global, bytes: &[u8]) -> Result<String, AllocError> {
+// The token at the front and its length, or why there is none.
+fn text_of_token(alloc: Global, bytes: &[u8]) -> Result<String, NoMemory> {
     match token_of(alloc, bytes) {
         Ok(lexed) => {
             let mut out = String::new(alloc);
@@ -57,10 +57,10 @@ fn told(alloc: Global, bytes: &[u8]) -> Result<String, AllocError> {
     }
 }
 
-/// How many cases agree, up to the first that does not.
-fn agreeing(alloc: Global, cases: &[(&str, &str)]) -> Result<usize, AllocError> {
+// How many cases agree, up to the first that does not.
+fn agreeing(alloc: Global, cases: &[(&str, &str)]) -> Result<usize, NoMemory> {
     for (i, (bytes, wanted)) in cases.iter().enumerate() {
-        let got = told(alloc, bytes.as_bytes())?;
+        let got = text_of_token(alloc, bytes.as_bytes())?;
         if got.as_str() != *wanted {
             return Ok(i);
         }
@@ -160,10 +160,10 @@ fn bytes_that_are_no_characters_are_malformed(rt: HostRuntime) -> Result<(), Fai
         b"<\xe9>",
     ];
     for bytes in cases {
-        let got = told(alloc, bytes)?;
+        let got = text_of_token(alloc, bytes)?;
         assert_eq!(rt; got.as_str(), "malformed");
     }
-    let got = told(alloc, b"a\xef\xbf\xbd")?;
+    let got = text_of_token(alloc, b"a\xef\xbf\xbd")?;
     assert_eq!(rt; got.as_str(), "4 text a\u{fffd}");
     Ok(())
 }

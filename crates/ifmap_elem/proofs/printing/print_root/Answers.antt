@@ -1,10 +1,10 @@
 use Rattle.std.proofs.Common.{◌≡◌, ◌++◌, refl, ap, ◌∙◌}
 use Rattle.ifmap_elem.proofs.Fronting.{drained_items}
 use Rattle.ifmap_elem.proofs.PieceLaws.{numbered_later, piece_root}
-use Rattle.ifmap_elem.proofs.printing.printed.Goals as goal
+use Rattle.ifmap_elem.proofs.printing.print_root.Goals as goal
 
-pub returns-clause-bytes : goal.returns-clause-bytes
-returns-clause-bytes c =
+pub returns : goal.returns
+returns c =
     let put = c.in_ok-splice.ensures.items in
     let head = c.write_declarations-2.new.out.items in
     let front : put.1 ≡ head = drained_items put.0 put.1 head put.3 put.2.0 (put.2.1 ∙ c.write_declarations-2.new.out.ok.0) in

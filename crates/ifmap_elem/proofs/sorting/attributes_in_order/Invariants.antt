@@ -1,5 +1,5 @@
 use Rattle.std.proofs.Common.{◌≡◌, take, map}
-use Rattle.ifmap_elem.proofs.sorting.sorted_attributes.Given as goal
+use Rattle.ifmap_elem.proofs.sorting.attributes_in_order.Given as goal
 
 abbrev pub invariant-loop-attribute : goal.invariant-loop-attribute
 invariant-loop-attribute l = map (λ a. a.now) l.order.items ≡ take l.attribute-index l.attributes

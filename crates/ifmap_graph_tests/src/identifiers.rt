@@ -1,17 +1,10 @@
 //! Identifiers and items beside bytes that were written by hand.
-use crate::{Code, Identifier, Item};
-use ifmap_elem::{Copied, Equals, Text, canonical};
-use std::alloc::{AllocError, Global};
+use crate::makers::address_of;
+use ifmap_elem::{Copied, Equals, canonical};
+use ifmap_ident::{Code, Item};
+use std::alloc::{AllocError as NoMemory, Global};
 use std::cmp::Ordering;
 use std::test::Fail;
-
-/// The MAC address `00:00:5e:00:53:..` that ends in this byte, in a domain.
-fn address(alloc: Global, last: u8, domain: &str) -> Result<Identifier, AllocError> {
-    Ok(Identifier::MacAddress {
-        value: [0x00, 0x00, 0x5e, 0x00, 0x53, last],
-        domain: Text(String::from_str(alloc, domain)?),
-    })
-}
 
 #[test]
 fn identifiers_print_as_written_by_hand(rt: HostRuntime) -> Result<(), Fail> {
@@ -25,7 +18,7 @@ fn identifiers_print_as_written_by_hand(rt: HostRuntime) -> Result<(), Fail> {
         ),
     ];
     for (last, domain, bytes) in &cases {
-        let identifier = address(alloc, *last, domain)?;
+        let identifier = address_of(alloc, *last, domain)?;
         let element = identifier.copy(alloc)?.element(alloc)?;
         let printed = canonical(alloc, &element)?;
         assert_eq!(rt; printed.0.as_slice(), bytes.as_bytes());
@@ -51,13 +44,22 @@ fn identifiers_are_ordered_by_their_bytes(rt: HostRuntime) -> Result<(), Fail> {
     ];
     for i in 1..rising.len() {
         let (last, domain) = rising[i - 1];
-        let one = address(alloc, last, domain)?;
+        let one = address_of(alloc, last, domain)?;
         let (last, domain) = rising[i];
-        let other = address(alloc, last, domain)?;
+        let other = address_of(alloc, last, domain)?;
         assert_eq!(rt; one.cmp(&other), Ordering::Less);
         assert!(rt; one != other && one == one.copy(alloc)?);
     }
     Ok(())
+}
+
+fn link_of(alloc: Global, ends: Option<(u8, u8)>) -> Result<Option<Item>, NoMemory> {
+    let Some((a, b)) = ends else {
+        return Ok(None);
+    };
+    let a = address_of(alloc, a, "")?;
+    let b = address_of(alloc, b, "")?;
+    Ok(Some(Item::Pair(a, b)))
 }
 
 #[test]
@@ -70,28 +72,19 @@ fn a_link_is_two_identifiers_the_smaller_first(rt: HostRuntime) -> Result<(), Fa
         (2, 1, Some((1, 2))),
     ];
     for (a, b, wanted) in &cases {
-        let link = Item::pair(address(alloc, *a, "")?, address(alloc, *b, "")?);
+        let link = Item::pair(address_of(alloc, *a, "")?, address_of(alloc, *b, "")?);
         let wanted = link_of(alloc, *wanted)?;
         assert!(rt; link == wanted);
     }
     Ok(())
 }
 
-fn link_of(alloc: Global, ends: Option<(u8, u8)>) -> Result<Option<Item>, AllocError> {
-    let Some((a, b)) = ends else {
-        return Ok(None);
-    };
-    let a = address(alloc, a, "")?;
-    let b = address(alloc, b, "")?;
-    Ok(Some(Item::Pair(a, b)))
-}
-
 #[test]
 fn an_identifier_comes_before_its_links(rt: HostRuntime) -> Result<(), Fail> {
     let alloc = rt.alloc();
-    let one = Item::One(address(alloc, 1, "")?);
-    let link = Item::Pair(address(alloc, 1, "")?, address(alloc, 2, "")?);
-    let other = Item::One(address(alloc, 2, "")?);
+    let one = Item::One(address_of(alloc, 1, "")?);
+    let link = Item::Pair(address_of(alloc, 1, "")?, address_of(alloc, 2, "")?);
+    let other = Item::One(address_of(alloc, 2, "")?);
     let orders = [one.cmp(&link), link.cmp(&other), other.cmp(&one)];
     assert_eq!(rt; orders, [Ordering::Less, Ordering::Less, Ordering::Greater]);
     assert!(rt; link.copy(alloc)?.equals(&link));

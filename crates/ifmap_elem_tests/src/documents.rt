@@ -1,11 +1,11 @@
 //! Documents and what is wanted of them: worked rows, and the answers of another program.
-use crate::{ReadError, read, scope_at};
 use ifmap_elem::{Copied, canonical};
-use std::alloc::{AllocError, Global};
+use ifmap_reader::{ReadError, read, scope_at};
+use std::alloc::{AllocError as NoMemory, Global};
 use std::test::Fail;
 
-/// Rows that end at `~`: the levels allowed, the canonical bytes or the place that are wanted, and
-/// the document.
+// Rows that end at `~`: the levels allowed, the canonical bytes or the place that are wanted, and
+// the document.
 const ROWS: &str = "\
     64|<a/>|<a/>~\
     64|unreadable 3|<a>~\
@@ -203,7 +203,7 @@ const ROWS: &str = "\
     2|<a-b>;&amp;</a-b>|<?xml version='1.0' encoding='UTF-8'?><a-b \nxmlns:q=\"u\">;&amp;<!--&<--></a-b>~\
     2|<n1:a.1 xmlns:n1=\"\u{fc}\" a=\";=\u{20ac}\" xml:a.1=\"?\" n1:\u{e9}t\u{e9}=\"\"/>|<?xml version=\"1.0\"?><r:a.1\nxmlns:r=\"\u{fc}\"\r\rxml:a.1\n =\"?\"\rxmlns:_=\"\u{fc}\"\n\r_:\u{e9}t\u{e9}=\r \"\" \na \t=';=&#x20AC;'/>";
 
-/// Documents that are not UTF-8, the levels allowed, and the place from which nothing is spelled.
+// Documents that are not UTF-8, the levels allowed, and the place from which nothing is spelled.
 static NO_TEXTS: [(&[u8], u32, u64); 6] = [
     (
         b"<_:\xc3\xa9t\xc3\xa9\n\nxmlns:_=\"a b\"><![CDATA[]]></_:\xc3<p:z/>\xa9t\xc3\xa9><!---->",
@@ -279,8 +279,8 @@ fn documents_that_are_no_texts_are_unreadable(rt: HostRuntime) -> Result<(), Fai
     Ok(())
 }
 
-/// The prefixes in scope at the element with this path, each with its namespace.
-fn scope_text(alloc: Global, document: &str, path: &[u32]) -> Result<String, AllocError> {
+// The prefixes in scope at the element with this path, each with its namespace.
+fn text_of_scope(alloc: Global, document: &str, path: &[u32]) -> Result<String, NoMemory> {
     let Ok(reading) = read(alloc, document.as_bytes(), 64) else {
         return String::from_str(alloc, "unread");
     };
@@ -307,7 +307,7 @@ fn the_innermost_declaration_of_a_prefix_is_in_scope(rt: HostRuntime) -> Result<
         (&[7, 1], "p=u;"),
     ];
     for (path, wanted) in &cases {
-        let got = scope_text(alloc, document, path)?;
+        let got = text_of_scope(alloc, document, path)?;
         assert_eq!(rt; got.as_str(), *wanted);
     }
     Ok(())

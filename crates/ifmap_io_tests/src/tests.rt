@@ -1,6 +1,8 @@
-//! What no clause says: values from outside, failing calls in mid-stream, the system's own ends, and
-//! that the objects cross threads.
-use super::*;
+//! What no clause says.
+use ifmap_io::{
+    Clock, Door, Failed, Link, MemoryClock, MemoryDoor, MemoryLink, MemorySink, MemorySource,
+    Moment, Sink, Source, StdSink, StdSource, SystemClock, TcpDoor, TcpLink,
+};
 use std::collections::VecDeque;
 use std::fs::File;
 use std::io::Write;
@@ -39,7 +41,7 @@ fn moments_print_as_their_dates(rt: HostRuntime) -> Result<(), Fail> {
 }
 
 #[test]
-fn a_listed_read_fails_and_takes_nothing(rt: HostRuntime) -> Result<(), Fail> {
+fn a_listed_call_fails_and_takes_and_writes_nothing(rt: HostRuntime) -> Result<(), Fail> {
     let alloc = rt.alloc();
     let mut source = MemorySource::new(b"abcde".to_vec(alloc)?, [1].to_vec(alloc)?);
     let mut room = [0; 3];
@@ -49,12 +51,6 @@ fn a_listed_read_fails_and_takes_nothing(rt: HostRuntime) -> Result<(), Fail> {
     }
     assert_eq!(rt; answers, [Ok(3), Err(Failed), Ok(2), Ok(0)]);
     assert_eq!(rt; room, *b"dec");
-    Ok(())
-}
-
-#[test]
-fn a_listed_write_fails_and_a_flush_counts_too(rt: HostRuntime) -> Result<(), Fail> {
-    let alloc = rt.alloc();
     let mut sink = MemorySink::new(b"a".to_vec(alloc)?, [1, 2].to_vec(alloc)?);
     let answers = [
         sink.write_all(b"bc"),
@@ -140,7 +136,7 @@ fn a_door_hands_out_its_links_and_takes_them_back(rt: HostRuntime) -> Result<(),
 }
 
 #[test]
-fn a_memory_clock_goes_on_to_its_last_moment(rt: HostRuntime) -> Result<(), Fail> {
+fn clocks_go_on(rt: HostRuntime) -> Result<(), Fail> {
     let (Some(first), Some(last)) = (Moment::new(10), Moment::new(15)) else {
         return Ok(());
     };
@@ -149,11 +145,7 @@ fn a_memory_clock_goes_on_to_its_last_moment(rt: HostRuntime) -> Result<(), Fail
         assert_eq!(rt; clock.now().seconds(), seconds);
         clock.pause();
     }
-    Ok(())
-}
-
-#[test]
-fn the_system_clock_reads_a_time_after_2020(rt: HostRuntime) -> Result<(), Fail> {
+    // The system's, after the year 2020.
     let clock = SystemClock::new(&rt);
     let before = clock.now();
     clock.pause();
@@ -180,7 +172,7 @@ fn a_file_is_a_sink_and_then_a_source(rt: HostRuntime) -> Result<(), Fail> {
 }
 
 #[test]
-fn a_socket_is_a_link_behind_a_door(rt: HostRuntime) -> Result<(), Fail> {
+fn a_socket_is_a_link_of_a_door(rt: HostRuntime) -> Result<(), Fail> {
     let listener = TcpListener::bind(&rt, "127.0.0.1:0")?;
     let mut client = TcpLink::new(TcpStream::connect(&rt, listener.local_addr()?)?);
     let mut door = TcpDoor::new(&listener);

@@ -29,9 +29,9 @@ struct Prepared {
 /// An attachment that is ready to stand in a graph; contracts see the attachment. It is a pointer, so
 /// that a long list of them moves fast.
 #[derive(Drop)]
-pub struct Row(Box<Prepared>);
+pub struct KeptAttachment(Box<Prepared>);
 
-impl Model for Row {
+impl Model for KeptAttachment {
     ghost use Rattle.ifmap_graph.specs.contracts.attachments.Attachment as the_attachment;
     ghost use Rattle.ifmap_graph.specs.declared.attachments.Attachment.{Attachment};
 
@@ -39,19 +39,19 @@ impl Model for Row {
 
     ghost coded = { the_attachment.the_row.coded };
 
-    ghost view = { λ row. row.0.value.attachment };
+    ghost view = { λ attachment. attachment.0.value.attachment };
 }
 
-impl Row {
+impl KeptAttachment {
     /// Takes all the memory that the attachment needs to be compared. The one error is want of memory.
     #[tactic(auto, unfolding(crate::specs::Attachments::stored_bytes))]
-    pub fn new(alloc: Global, item: Item, stored: Stored) -> Result<Row, NoMemory>
-        ensures { IfOk result (λ row. row ≡ record { item = item; stored = stored }) }
+    pub fn new(alloc: Global, item: Item, stored: Stored) -> Result<KeptAttachment, NoMemory>
+        ensures { IfOk result (λ attachment. attachment ≡ record { item = item; stored = stored }) }
     {
         let printed = canonical(alloc, &stored.element)?;
         let content = content_bytes(alloc, &stored.element)?;
         let size = entry_size(&item, &printed)?;
-        Ok(Row(Box::new(
+        Ok(KeptAttachment(Box::new(
             alloc,
             Prepared {
                 attachment: Attachment { item, stored },
@@ -84,7 +84,7 @@ impl Row {
     }
 
     // How it stands to another in the graph.
-    pub(crate) fn order(&self, other: &Row) -> Ordering
+    pub(crate) fn order(&self, other: &KeptAttachment) -> Ordering
         ensures { result ≡ attachment_order self.now other.now }
     {
         match self.item().cmp(other.item()) {
@@ -94,7 +94,7 @@ impl Row {
     }
 
     // Whether both have one key, where they stand on one item.
-    pub(crate) fn has_key_of(&self, other: &Row) -> bool
+    pub(crate) fn has_key_of(&self, other: &KeptAttachment) -> bool
         ensures { result ≡ same_key self.now.stored other.now.stored }
     {
         let (one, two) = (self.stored(), other.stored());

@@ -1,0 +1,82 @@
+-- What holds of all members of a list, and what a filter makes of it.
+use Rattle.std.specs.Prelude.{◌≡◌, ℕ, ◌+◌, ◌<◌, Bool, true, false, ◌&&◌, List, [], ◌∷◌, ◌++◌, count_by, length}
+use Rattle.std.specs.List.{AllByRecursion, IsDistinct, filter}
+use Rattle.std.proofs.Common.{ap, arith, cond, get_or, inl, inr, refl, subst, sym, ◌∙◌}
+use Rattle.std.proofs.lemmas.Bool.{cases_Bool}
+use Rattle.std.proofs.lemmas.List.Elements.{All-from_recursion}
+use Rattle.std.proofs.lemmas.List.Sums.{sum_by-cons}
+
+module _ {X : Type 0} where
+  pub all_weaker : (P Q : X → Type 0) → ((x : X) → P x → Q x) → (xs : List X) → AllByRecursion P xs → AllByRecursion Q xs
+  all_weaker P Q f [] h = tt
+  all_weaker P Q f (x ∷ xs) h = (f x h.0, all_weaker P Q f xs h.1)
+
+  pub all_around : (P : X → Type 0) (xs : List X) (y : X) (zs : List X)
+      → AllByRecursion P xs → P y → AllByRecursion P zs → AllByRecursion P (xs ++ y ∷ zs)
+  all_around P [] y zs h k l = (k, l)
+  all_around P (x ∷ xs) y zs h k l = (h.0, all_around P xs y zs h.1 k l)
+
+  pub all_at : (P : X → Type 0) (xs : List X) (i : ℕ) (d : X) → AllByRecursion P xs → i < length xs → P (get_or xs i d)
+  all_at P xs i d h lt = All-from_recursion P xs h i d lt
+
+  pub all_filter : (P : X → Type 0) (p : X → Bool) (xs : List X) → AllByRecursion P xs → AllByRecursion P (filter p xs)
+  all_filter P p [] h = tt
+  all_filter P p (x ∷ xs) h =
+      elim (p x) as (λ b. AllByRecursion P (cond b (x ∷ filter p xs) (filter p xs))) [
+        | true ↦ (h.0, all_filter P p xs h.1)
+        | false ↦ all_filter P p xs h.1
+      ]
+
+  -- what a filter leaves passes
+  pub filter_passes : (p : X → Bool) (xs : List X) → AllByRecursion (λ x. p x ≡ true) (filter p xs)
+  filter_passes p [] = tt
+  filter_passes p (x ∷ xs) =
+      elim (cases_Bool (p x)) [
+        | inl hit ↦ subst left (sym hit) (hit, filter_passes p xs)
+        | inr miss ↦ subst left (sym miss) (filter_passes p xs)
+      ]
+    where
+      left : Bool → Type 0
+      left b = AllByRecursion (λ y. p y ≡ true) (cond b (x ∷ filter p xs) (filter p xs))
+
+  pub filter_all : (p : X → Bool) (xs : List X) → AllByRecursion (λ x. p x ≡ true) xs → filter p xs ≡ xs
+  filter_all p [] h = refl
+  filter_all p (x ∷ xs) h =
+      ap (λ b. cond b (x ∷ filter p xs) (filter p xs)) h.0 ∙ ap (λ t. x ∷ t) (filter_all p xs h.1)
+
+  pub filter_none : (p : X → Bool) (xs : List X) → AllByRecursion (λ x. p x ≡ false) xs → filter p xs ≡ []
+  filter_none p [] h = refl
+  filter_none p (x ∷ xs) h = ap (λ b. cond b (x ∷ filter p xs) (filter p xs)) h.0 ∙ filter_none p xs h.1
+
+  pub distinct_filter : (E : X → X → Bool) (p : X → Bool) (xs : List X) → IsDistinct E xs → IsDistinct E (filter p xs)
+  unfolding IsDistinct
+  distinct_filter E p [] h = tt
+  distinct_filter E p (x ∷ xs) h =
+      elim (p x) as (λ b. IsDistinct E (cond b (x ∷ filter p xs) (filter p xs))) [
+        | true ↦ (all_filter (λ y. E x y ≡ false) p xs h.0, distinct_filter E p xs h.1)
+        | false ↦ distinct_filter E p xs h.1
+      ]
+
+  -- what passes a test passes it again
+  pub filter_again : (p : X → Bool) (xs : List X) → filter p (filter p xs) ≡ filter p xs
+  filter_again p [] = refl
+  filter_again p (x ∷ xs) = elim (cases_Bool (p x)) [
+    | inl e ↦ rw (e, e) (ap (λ ys. x ∷ ys) (filter_again p xs))
+    | inr e ↦ rw e (filter_again p xs)
+  ]
+
+  -- how many that pass one test pass another
+  pub count_filter : (q p : X → Bool) (xs : List X) → count_by q (filter p xs) ≡ count_by (λ x. p x && q x) xs
+  count_filter q p [] = refl
+  count_filter q p (x ∷ xs) = elim (cases_Bool (p x)) [
+    | inl e ↦
+        let passing : filter p (x ∷ xs) ≡ x ∷ filter p xs = rw e refl in
+        let one : cond {A = ℕ} (p x && q x) 1 0 ≡ cond (q x) 1 0 = rw e refl in
+        ap (count_by q) passing ∙ sum_by-cons (λ y. cond (q y) 1 0) x (filter p xs) ∙ ap (λ n. cond (q x) 1 0 + n) (count_filter q p xs)
+        ∙ ap (λ n. n + count_by (λ y. p y && q y) xs) (sym one) ∙ sym (sum_by-cons (λ y. cond (p y && q y) 1 0) x xs)
+    | inr e ↦
+        let gone : filter p (x ∷ xs) ≡ filter p xs = rw e refl in
+        let none : cond {A = ℕ} (p x && q x) 1 0 ≡ 0 = rw e refl in
+        let added : count_by (λ y. p y && q y) xs ≡ cond (p x && q x) 1 0 + count_by (λ y. p y && q y) xs = omega (arith, none) in
+        ap (count_by q) gone ∙ count_filter q p xs ∙ added ∙ sym (sum_by-cons (λ y. cond (p y && q y) 1 0) x xs)
+  ]
