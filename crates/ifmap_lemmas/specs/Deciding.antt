@@ -83,7 +83,10 @@ first_or_none P one (suc n) = elim (first_or_none P one n) [
   | inl f ↦ inl (f.0, omega (arith, f.1), f.2)
   | inr none ↦ elim (one n) [
     | inl p ↦ inl (n, omega arith, (none, p))
-    | inr fails ↦ inr (λ k l p. elim (cases_lt k n) [ inl below ↦ none k below p | inr above ↦ fails (subst P (let e : k ≡ n = omega (arith, l, above) in e) p) ])
+    | inr fails ↦ inr (λ k l p. elim (cases_lt k n) [
+      | inl below ↦ none k below p
+      | inr above ↦ let e : k ≡ n = omega (arith, l, above) in fails (subst P e p)
+    ])
   ]
 ]
 

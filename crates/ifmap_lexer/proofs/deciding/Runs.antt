@@ -22,7 +22,9 @@ are_or_not p bytes = decided_each (λ n. p n ≡ true) (λ n. decided_test (p n)
 
 -- the bytes at the front that pass a test
 pub cut_of : (p : ℕ → Bool) (bytes : List ℕ) → (front : List ℕ) × (rest : List ℕ) × Cuts p bytes front rest
-cut_of p bytes = (take (prefix_len p bytes) bytes, drop (prefix_len p bytes) bytes, cuts_at_len p bytes _ _ (prefix_len p bytes) refl refl refl)
+cut_of p bytes =
+    let n = prefix_len p bytes in
+    (take n bytes, drop n bytes, cuts_at_len p bytes (take n bytes) (drop n bytes) n refl refl refl)
 
 -- the bytes up to a byte, which stands there or not
 abbrev pub SomeCut : ℕ → List ℕ → Type 0
@@ -58,7 +60,10 @@ SomeWord word bytes = (front : List ℕ) × (after : List ℕ) × CutsWord word 
 
 pub word_or_none : (word bytes : List ℕ) → 0 < length word → SomeWord word bytes ⊎ Lacks word bytes
 word_or_none word bytes some = elim (first_or_none (OccursAt bytes word) (occurs_or_not word bytes) (length bytes + 1)) [
-  | inl f ↦ inl (take f.0 bytes, drop (length word) (drop f.0 bytes), word_found word bytes _ _ f.0 some (record { low = omega arith; high = f.1; before = λ j low below. f.2.0 j below }) f.2.1 refl refl)
+  | inl f ↦
+      let first : NoneBefore (OccursAt bytes word) 0 (length bytes + 1) f.0
+      = record { low = omega arith; high = f.1; before = λ j low below. f.2.0 j below } in
+      inl (take f.0 bytes, drop (length word) (drop f.0 bytes), word_found word bytes _ _ f.0 some first f.2.1 refl refl)
   | inr none ↦ inr (lacks_from word bytes (λ k o. none k (omega (arith, o.fits, some)) o))
 ]
 

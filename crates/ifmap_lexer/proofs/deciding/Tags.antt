@@ -10,7 +10,7 @@ use Rattle.ifmap_elem.specs.declared.tokens.Assignment.{Assignment}
 use Rattle.ifmap_lexer.specs.Cutting.{Cuts, is_but}
 use Rattle.ifmap_lexer.specs.Tags.{ClosesTag, IsAtEnd}
 use Rattle.ifmap_lexer.specs.declared.values.Place.TheVariants.{AttributeValue}
-use Rattle.ifmap_lexer.proofs.AssignmentLaws.{SomeAssignment, SomeAssignments, SomeGiven, SomeTag, no_white, some_name, no_value, some_value, assignment_found, goes_on_start, goes_on_next, some_first, tells_end, tag_name, tag_assignments, tag_found}
+use Rattle.ifmap_lexer.proofs.AssignmentLaws.{SomeAssignment, SomeAssignments, SomeGiven, SomeTag, SomeValue, no_white, some_name, no_value, some_value, assignment_found, goes_on_start, goes_on_next, some_first, tells_end, tag_name, tag_assignments, tag_found}
 use Rattle.ifmap_lexer.proofs.deciding.Names.{name_or_none}
 use Rattle.ifmap_lexer.proofs.deciding.Runs.{are_or_not, characters_or_not, cut_of}
 use Rattle.ifmap_lexer.proofs.deciding.Values.{expansion_or_none, quoted_or_none}
@@ -18,7 +18,7 @@ use Rattle.ifmap_lexer.proofs.deciding.Values.{expansion_or_none, quoted_or_none
 given_or_none : (written : List ℕ) → Decided (SomeGiven written)
 given_or_none written =
     decided_by
-    (λ (h : IsCharacters written × (AllAre (is_but 0x3C) written × ((value : List ℕ) × IsValue written value))). (h.1.1.0, h.0, h.1.0, h.1.1.1))
+    (λ (h : IsCharacters written × (AllAre (is_but 0x3C) written × SomeValue written)). (h.1.1.0, h.0, h.1.0, h.1.1.1))
     (λ s. (s.1, (s.2, (s.0, s.3))))
     (decided_both (characters_or_not written) (decided_both (are_or_not (is_but 0x3C) written) (expansion_or_none AttributeValue written)))
 
@@ -30,7 +30,9 @@ assignment_after bytes (b ∷ bs) inner c = elim (name_or_none inner) [
     | inr none ↦ inr (no_value bytes (b ∷ bs) inner c n.0 n.1 (n.2, n.3, n.4) (λ w r q. none (w, r, q)))
     | inl q ↦ elim (given_or_none q.0) [
       | inr none ↦ inr (λ s. none (some_value bytes (b ∷ bs) inner c n.0 n.1 (n.2, n.3, n.4) q.0 q.1 q.2 s))
-      | inl g ↦ inl (record { name = n.0; value = g.0 }, q.1, assignment_found bytes (b ∷ bs) inner c n.0 n.1 (n.2, n.3, n.4) q.0 q.1 q.2 g.0 (λ e. cc) (g.1, g.2, g.3))
+      | inl g ↦
+          let found = assignment_found bytes (b ∷ bs) inner c n.0 n.1 (n.2, n.3, n.4) q.0 q.1 q.2 g.0 (λ e. cc) (g.1, g.2, g.3) in
+          inl (record { name = n.0; value = g.0 }, q.1, found)
     ]
   ]
 ]
@@ -44,8 +46,16 @@ shorter bytes a rest t =
     let end : List ℕ = q.quote ∷ rest in
     let value : List ℕ = q.quote ∷ (t.written ++ end) in
     let sign : List ℕ = 0x3D ∷ (q.after ++ value) in
-    omega (arith, ap length t.bytes_are, length-append t.white (name_bytes a.name ++ t.after), length-append (name_bytes a.name) t.after, ap length q.bytes_are, length-append q.before sign, length-append q.after value,
-    length-append t.written end)
+    omega (
+      arith,
+      ap length t.bytes_are,
+      length-append t.white (name_bytes a.name ++ t.after),
+      length-append (name_bytes a.name) t.after,
+      ap length q.bytes_are,
+      length-append q.before sign,
+      length-append q.after value,
+      length-append t.written end,
+    )
 
 -- assignments in a row
 
@@ -59,18 +69,31 @@ at_end_or_not bytes =
     elim (closes_or_not c.1) [
       | inl closes ↦ inl (c.0, c.1, c.2.bytes_are, c.2.passes, closes)
       | inr fails ↦ inr (λ at.
-          let wrong : false ≡ true = (tells_end bytes c.0 c.1 false c.2 ((λ e. let wrong : false ≡ true = e in cc), (λ h. absurd (fails h)))).1 at in
+          let tells = tells_end bytes c.0 c.1 false c.2 ((λ e. let wrong : false ≡ true = e in cc), (λ h. absurd (fails h))) in
+          let wrong : false ≡ true = tells.1 at in
           cc)
     ]
 
-assignments_from : (bytes : List ℕ) → ((rest : List ℕ) → length rest < length bytes → Decided (SomeAssignments rest)) → Decided (SomeAssignments bytes)
+assignments_from : (bytes : List ℕ) → ((rest : List ℕ) → length rest < length bytes → Decided (SomeAssignments rest))
+    → Decided (SomeAssignments bytes)
 assignments_from bytes others = elim (at_end_or_not bytes) [
   | inl at ↦ inl ([], at.1, record { white = at.0; assigned = at.2; is_white = at.3; closes = at.4 })
   | inr open_still ↦ elim (assignment_or_none bytes) [
     | inr none ↦ inr (λ s. none (some_first bytes open_still s))
     | inl a ↦ elim (others a.1 (shorter bytes a.0 a.1 a.2)) [
-      | inl s ↦ inl (a.0 ∷ s.0, s.1, record { white = s.2.white; assigned = (a.1, a.2, s.2.assigned); is_white = s.2.is_white; closes = s.2.closes })
-      | inr none ↦ inr (λ s. none ((goes_on_next bytes open_still bytes [] (a.0 ∷ []) a.0 a.1 (goes_on_start bytes [] refl) a.2 refl).ahead s))
+      | inl s ↦ inl (
+        a.0 ∷ s.0,
+        s.1,
+        record {
+          white = s.2.white;
+          assigned = (a.1, a.2, s.2.assigned);
+          is_white = s.2.is_white;
+          closes = s.2.closes;
+        },
+      )
+      | inr none ↦
+          let next = goes_on_next bytes open_still bytes [] (a.0 ∷ []) a.0 a.1 (goes_on_start bytes [] refl) a.2 refl in
+          inr (λ s. none (next.ahead s))
     ]
   ]
 ]
@@ -87,7 +110,9 @@ tag_or_none bytes = elim (begins_or_not (0x3C ∷ []) bytes) [
     | inr none ↦ inr (λ s. none (tag_name bytes b.0 b.1 s))
     | inl n ↦ elim (assignments_or_none n.1) [
       | inr none ↦ inr (λ s. none (tag_assignments bytes b.0 b.1 n.0 n.1 (n.2, n.3, n.4) s))
-      | inl a ↦ let f = tag_found bytes b.0 b.1 n.0 n.1 (n.2, n.3, n.4) a.0 a.1 a.2 in inl (record { name = n.0; assignments = a.0 }, a.1, f.0, f.1)
+      | inl a ↦
+          let found = tag_found bytes b.0 b.1 n.0 n.1 (n.2, n.3, n.4) a.0 a.1 a.2 in
+          inl (record { name = n.0; assignments = a.0 }, a.1, found.0, found.1)
     ]
   ]
 ]

@@ -89,7 +89,9 @@ text_before bytes (b ∷ bs) rest c = elim (lacks_or_not (codes "]]>") (b ∷ bs
     | inr fails ↦ inr (no_text_characters bytes (b ∷ bs) rest c fails)
     | inl f ↦ elim (expansion_or_none CharacterData (b ∷ bs)) [
       | inr none ↦ inr (λ s. none (some_text bytes (b ∷ bs) rest c s))
-      | inl x ↦ inl (Characters (list_all is_white (b ∷ bs)) x.0, rest, text_found bytes (b ∷ bs) rest c (λ e. cc) lacks f (list_all is_white (b ∷ bs)) refl x.0 x.1)
+      | inl x ↦
+          let blank = list_all is_white (b ∷ bs) in
+          inl (Characters blank x.0, rest, text_found bytes (b ∷ bs) rest c (λ e. cc) lacks f blank refl x.0 x.1)
     ]
   ]
 ]

@@ -44,14 +44,16 @@ module _ (place : Place) (written : List ℕ) where
   abbrev pub SomeExpansion : Type 0
   SomeExpansion = (text : List ℕ) × Expands (part_in place) written text
 
-  module _ (made rest run inner : List ℕ) (along : Along place written made rest) (c : CutsAt 0x26 rest run inner) (name after : List ℕ) (d : CutsAt 0x3B inner name after)
+  module _ (made rest run inner : List ℕ) (along : Along place written made rest) (c : CutsAt 0x26 rest run inner)
+      (name after : List ℕ) (d : CutsAt 0x3B inner name after)
       (others : (new : List ℕ) → Along place written new after → Decided SomeExpansion) where
     reference_or_none : (o : Option ℕ) → referred name ≡ o → Decided SomeExpansion
     reference_or_none None e = inr (along_unknown place written made rest run inner along c name after d e)
     reference_or_none (Some ch) e = others _ (along_next place written made rest run inner along c name after d _ ch e refl)
 
   shorter : (rest run inner name after : List ℕ) → CutsAt 0x26 rest run inner → CutsAt 0x3B inner name after → length after < length rest
-  shorter rest run inner name after c d = omega (arith, ap length c.bytes_are, length-append run (0x26 ∷ inner), ap length d.bytes_are, length-append name (0x3B ∷ after))
+  shorter rest run inner name after c d =
+      omega (arith, ap length c.bytes_are, length-append run (0x26 ∷ inner), ap length d.bytes_are, length-append name (0x3B ∷ after))
 
   abbrev FromThere : List ℕ → Type 0
   FromThere rest = (made : List ℕ) → Along place written made rest → Decided SomeExpansion
@@ -61,7 +63,9 @@ module _ (place : Place) (written : List ℕ) where
     | inr plain ↦ inl (_, along_end place written made rest _ along plain refl)
     | inl c ↦ elim (cut_or_none 0x3B c.1) [
       | inr unended ↦ inr (along_unended place written made rest c.0 c.1 along c.2 unended)
-      | inl d ↦ reference_or_none made rest c.0 c.1 along c.2 d.0 d.1 d.2 (λ new. others d.1 (shorter rest c.0 c.1 d.0 d.1 c.2 d.2) new) (referred d.0) refl
+      | inl d ↦
+          let less = shorter rest c.0 c.1 d.0 d.1 c.2 d.2 in
+          reference_or_none made rest c.0 c.1 along c.2 d.0 d.1 d.2 (λ new. others d.1 less new) (referred d.0) refl
     ]
   ]
 

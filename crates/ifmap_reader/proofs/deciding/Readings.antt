@@ -21,7 +21,8 @@ use Rattle.ifmap_reader.proofs.deciding.Steps.{Goes, goes}
 
 -- how a reading comes out
 abbrev pub Outcome : List ℕ → ℕ → Type 0
-Outcome bytes depth = ((r : Reading) × IsRead bytes depth (Ok r)) ⊎ (((at : ℕ) × IsUnreadable bytes depth at) ⊎ ((at : ℕ) × IsTooDeep bytes depth at))
+Outcome bytes depth =
+    ((r : Reading) × IsRead bytes depth (Ok r)) ⊎ (((at : ℕ) × IsUnreadable bytes depth at) ⊎ ((at : ℕ) × IsTooDeep bytes depth at))
 
 -- what the lexer decides
 module _ (token_or_none : (bytes : List ℕ) → Decided ((t : Token) × (rest : List ℕ) × TakesToken bytes t rest))
@@ -31,31 +32,45 @@ module _ (token_or_none : (bytes : List ℕ) → Decided ((t : Token) × (rest :
     FromThere rest = (w : Where) → At bytes depth w rest → Outcome bytes depth
 
     at_end : (rest : List ℕ) → rest ≡ [] → FromThere rest
-    at_end rest end AtStart at = inr (inl (offset bytes rest, ended_early bytes depth AtStart rest at end no_tokens_start (offset bytes rest) refl (omega arith)))
-    at_end rest end (Within fs) at = inr (inl (offset bytes rest, ended_early bytes depth (Within fs) rest at end (no_tokens fs) (offset bytes rest) refl (omega arith)))
-    at_end rest end (AfterRoot r) at = inl (r, (whole bytes depth (AfterRoot r) rest at end r (after_root_ends r), at.fits, λ place d. none_deep bytes depth (AfterRoot r) rest at end (offset bytes rest) place refl d))
+    at_end rest end AtStart at =
+        inr (inl (_, ended_early bytes depth AtStart rest at end no_tokens_start (offset bytes rest) refl (omega arith)))
+    at_end rest end (Within fs) at =
+        inr (inl (_, ended_early bytes depth (Within fs) rest at end (no_tokens fs) (offset bytes rest) refl (omega arith)))
+    at_end rest end (AfterRoot r) at = inl (
+      r,
+      (
+        whole bytes depth (AfterRoot r) rest at end r (after_root_ends r),
+        at.fits,
+        λ place d. none_deep bytes depth (AfterRoot r) rest at end (offset bytes rest) place refl d,
+      ),
+    )
 
     at_token : (rest : List ℕ) → rest ≢ [] → (w : Where) (at : At bytes depth w rest) (t : Token) (after : List ℕ) → TakesToken rest t after
         → ((new : Where) → At bytes depth new after → Outcome bytes depth) → Goes depth w t → Outcome bytes depth
     at_token rest some w at t after takes others g =
-        let only : (u : Token) (other : List ℕ) → TakesToken rest u other → (u ≡ t) × (other ≡ after) = λ u other l. one_token rest u t other after l takes in
+        let only : (u : Token) (other : List ℕ) → TakesToken rest u other → (u ≡ t) × (other ≡ after)
+        = λ u other l. one_token rest u t other after l takes in
+        let place = offset bytes rest in
         elim g [
           | inl l ↦ others l.0 (at_next bytes depth w rest at t after some takes only l.0 l.1)
           | inr h ↦ elim h [
-            | inl p ↦ inr (inr (offset bytes rest, step_too_deep bytes depth w rest at t after some takes only (offset bytes rest) refl (omega arith) p))
-            | inr none ↦ inr (inl (offset bytes rest, step_refused bytes depth w rest at t after some takes only (offset bytes rest) refl (omega arith) none))
+            | inl p ↦ inr (inr (place, step_too_deep bytes depth w rest at t after some takes only place refl (omega arith) p))
+            | inr none ↦ inr (inl (place, step_refused bytes depth w rest at t after some takes only place refl (omega arith) none))
           ]
         ]
 
     from_there : (rest : List ℕ) → ((after : List ℕ) → length after < length rest → FromThere after) → FromThere rest
     from_there [] others w at = at_end [] refl w at
     from_there (b ∷ bs) others w at = elim (token_or_none (b ∷ bs)) [
-      | inr none ↦ inr (inl (offset bytes (b ∷ bs), not_lexed bytes depth w (b ∷ bs) at (λ e. cc) (λ t after l. none (t, after, l)) (offset bytes (b ∷ bs)) refl (omega arith)))
+      | inr none ↦
+          let place = offset bytes (b ∷ bs) in
+          inr (inl (place, not_lexed bytes depth w (b ∷ bs) at (λ e. cc) (λ t after l. none (t, after, l)) place refl (omega arith)))
       | inl t ↦ at_token (b ∷ bs) (λ e. cc) w at t.0 t.1 t.2 (others t.1 (some_bytes (b ∷ bs) t.0 t.1 t.2)) (goes depth w t.0)
     ]
 
     pub outcome : Outcome bytes depth
-    outcome = by_length FromThere from_there (without_byte_order_mark bytes) AtStart (at_start bytes depth (without_byte_order_mark bytes) refl)
+    outcome =
+        let all = without_byte_order_mark bytes in by_length FromThere from_there all AtStart (at_start bytes depth all refl)
 
   -- whether some tag opens a level too many
   pub deep_or_not : (bytes : List ℕ) (depth : ℕ) → Decided ((at : ℕ) × Deep bytes depth at)
@@ -70,7 +85,8 @@ module _ (token_or_none : (bytes : List ℕ) → Decided ((t : Token) × (rest :
   -- no tag opens more levels than there are bytes
   few_tokens : (bytes : List ℕ) (ts : List Token) (rest : List ℕ) → To TakesToken bytes ts rest → length ts ≤ length bytes
   few_tokens bytes [] rest l = omega arith
-  few_tokens bytes (t ∷ ts) rest l = let here = some_bytes bytes t l.0 l.1 in let others = few_tokens l.0 ts rest l.2 in omega (arith, here, others)
+  few_tokens bytes (t ∷ ts) rest l =
+      let here = some_bytes bytes t l.0 l.1 in let others = few_tokens l.0 ts rest l.2 in omega (arith, here, others)
 
   unmarked : (bytes : List ℕ) → length (without_byte_order_mark bytes) ≤ length bytes
   unmarked bytes = by (starts_with ◌==◌ bytes byte_order_mark)
@@ -91,7 +107,14 @@ module _ (token_or_none : (bytes : List ℕ) → Decided ((t : Token) × (rest :
   stop_of bytes r s = record {
     tokens = s.tokens;
     rest = [];
-    reaches = record { lexed = s.lexed; allowed = record { more = []; reading = r; document = subst (λ (ts : List Token). IsDocument ts r) (sym (append-nil s.tokens)) s.document } };
+    reaches = record {
+      lexed = s.lexed;
+      allowed = record {
+        more = [];
+        reading = r;
+        document = subst (λ (ts : List Token). IsDocument ts r) (sym (append-nil s.tokens)) s.document;
+      };
+    };
     no_further = λ t after l b. no_token [] t after refl l;
     at_is = refl;
   }

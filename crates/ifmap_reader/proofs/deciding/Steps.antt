@@ -38,7 +38,9 @@ module _ (depth : ℕ) where
   empty_goes old tag = elim (element_or_none (scope_of (reverse old)) tag) [
     | inr none ↦ inr (inr (no_empty (reverse old) tag none))
     | inl o ↦ elim (cases_lt (length old) depth) [
-      | inl l ↦ let k = closed_of o.0 in inl (after_element (reverse old) k.0 k.1.0, empty_step depth old tag o.0 k.0 k.1.0 _ o.1 k.1.1 l refl)
+      | inl l ↦
+          let k = closed_of o.0 in
+          inl (after_element (reverse old) k.0 k.1.0, empty_step depth old tag o.0 k.0 k.1.0 _ o.1 k.1.1 l refl)
       | inr g ↦ inr (inl (empty_too_deep depth old tag o.0 o.1 g))
     ]
   ]
@@ -48,13 +50,18 @@ module _ (depth : ℕ) where
     | inr none ↦ inr (inr (no_end old name none))
     | inl l ↦ elim (qualified_or_other name (written_name l.1)) [
       | inr other ↦ inr (inr (other_end old l.0 l.1 name l.2 other))
-      | inl same ↦ let k = closed_of l.1 in inl (after_element (reverse l.0) k.0 k.1.0, end_step depth old l.0 l.1 name k.0 k.1.0 _ l.2 same k.1.1 refl)
+      | inl same ↦
+          let k = closed_of l.1 in
+          inl (after_element (reverse l.0) k.0 k.1.0, end_step depth old l.0 l.1 name k.0 k.1.0 _ l.2 same k.1.1 refl)
     ]
   ]
 
-  words_go : (old : List OpenElement) (t : Token) (blank : Bool) (text : List ℕ) → IsCharacterData blank text t → Goes (Within (reverse old)) t
-  words_go old t blank text w = elim (last_or_none old) [
-    | inl l ↦ inl (Within (reverse (l.0 ++ with_characters l.1 text ∷ [])), words_step depth old l.0 _ l.1 (with_characters l.1 text) t blank text w l.2 refl refl)
+  data_goes : (old : List OpenElement) (t : Token) (blank : Bool) (text : List ℕ) → IsCharacterData blank text t
+      → Goes (Within (reverse old)) t
+  data_goes old t blank text w = elim (last_or_none old) [
+    | inl l ↦
+        let new = l.0 ++ with_characters l.1 text ∷ [] in
+        inl (Within (reverse new), words_step depth old l.0 new l.1 (with_characters l.1 text) t blank text w l.2 refl refl)
     | inr none ↦ elim (cases_Bool blank) [
       | inl b ↦ inl (Within (reverse []), blank_step depth old [] t blank text w none refl b)
       | inr b ↦ inr (inr (words_refused old t blank text w none b))
@@ -67,17 +74,20 @@ module _ (depth : ℕ) where
   open_goes old (Start tag) = start_goes old tag
   open_goes old (Empty tag) = empty_goes old tag
   open_goes old (End name) = end_goes old name
-  open_goes old (Section text) = words_go old (Section text) false text (inr (refl, refl))
-  open_goes old (Characters blank text) = words_go old (Characters blank text) blank text (inl refl)
+  open_goes old (Section text) = data_goes old (Section text) false text (inr (refl, refl))
+  open_goes old (Characters blank text) = data_goes old (Characters blank text) blank text (inl refl)
 
   -- but for a declaration the start is before the root
   from_start : (t : Token) → IsOther t → Goes (Within []) t → Goes AtStart t
-  from_start t other (inl l) = inl (l.0, record {
-    follows = λ ts r. let e = start_other t other ts r in let k = l.1.follows ts r in (λ x. k.0 (e.0 x), λ x. e.1 (k.1 x));
-    fits = l.1.fits;
-    counts = l.1.counts;
-    within = l.1.within;
-  })
+  from_start t other (inl l) = inl (
+    l.0,
+    record {
+      follows = λ ts r. let e = start_other t other ts r in let k = l.1.follows ts r in (λ x. k.0 (e.0 x), λ x. e.1 (k.1 x));
+      fits = l.1.fits;
+      counts = l.1.counts;
+      within = l.1.within;
+    },
+  )
   from_start t other (inr (inl p)) = inr (inl (record {
     opens = p.opens;
     level_is = p.level_is;
