@@ -1,3 +1,4 @@
+pub mod deciding
 pub mod AssignmentLaws
 pub mod Basics
 pub mod CharacterLaws

@@ -5,6 +5,7 @@ mod characters;
 mod declaration;
 mod errors;
 mod kinds;
+pub mod laws;
 pub mod lexing;
 mod names;
 mod quoting;

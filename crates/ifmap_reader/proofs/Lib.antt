@@ -1,3 +1,4 @@
+pub mod deciding
 pub mod Answering
 pub mod Attributing
 pub mod Binding

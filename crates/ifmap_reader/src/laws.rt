@@ -1,11 +1,14 @@
 //! Laws on what bytes spell and on the places at which they are refused: functions that do nothing,
 //! whose contracts are the laws.
 ghost use Rattle.std.specs.Prelude.{ℕ, List};
+ghost use Rattle.ifmap_lemmas.specs.Deciding.{Decided};
 ghost use Rattle.ifmap_elem.specs.declared.readings.Reading.{Reading};
 ghost use Rattle.ifmap_elem.specs.Fit.{IsFit};
 ghost use Rattle.ifmap_elem.specs.Places.{Deep, Stop};
 ghost use Rattle.ifmap_elem.specs.Spells.{Spells};
 ghost use Rattle.ifmap_reader.specs.Reads.{AtMostOne};
+
+use ifmap_lexer::laws::token_stands_or_none;
 
 /// There is at most one place where bytes cease to begin a document.
 pub fn bytes_stop_at_one_place()
@@ -21,3 +24,24 @@ pub fn bytes_nest_too_deep_at_one_place()
 pub fn what_bytes_spell_fits()
     ensures { (bytes : List ℕ) (reading : Reading) → Spells bytes reading → IsFit reading.root }
 {}
+
+/// There is a place where bytes cease to begin a document.
+pub fn bytes_stop_somewhere()
+    ensures { (bytes : List ℕ) → (at : ℕ) × Stop bytes at }
+{
+    token_stands_or_none();
+}
+
+/// Some tag is the first that opens a level too many, or none does.
+pub fn bytes_nest_too_deep_or_not()
+    ensures { (bytes : List ℕ) (depth : ℕ) → Decided ((at : ℕ) × Deep bytes depth at) }
+{
+    token_stands_or_none();
+}
+
+/// Bytes spell an element with its declarations, or they spell none.
+pub fn bytes_spell_an_element_or_none()
+    ensures { (bytes : List ℕ) → Decided ((reading : Reading) × Spells bytes reading) }
+{
+    token_stands_or_none();
+}
