@@ -1,0 +1,13 @@
+pub mod CarryingOn
+pub mod Changes
+pub mod Cutting
+pub mod Drawing
+pub mod Gluing
+pub mod Opening
+pub mod Passing
+pub mod Places
+pub mod Settling
+pub mod Sights
+pub mod Taken
+pub mod Totals
+pub mod Turning

@@ -1,0 +1,10 @@
+pub mod Answers
+pub mod Asking
+pub mod Books
+pub mod Counts
+pub mod Passes
+pub mod Plays
+pub mod Rule
+pub mod Runs
+pub mod Shelves
+pub mod Views
