@@ -1,7 +1,7 @@
 -- What carries on what, over plain lists.
-use Rattle.std.proofs.Common.{◌≡◌, ℕ, ◌+◌, ◌-◌, ◌≤◌, List, [], ◌∷◌, ◌++◌, length, take, drop, refl, sym, ap, ◌∙◌, arith, append_assoc, length-drop, take-add, drop-drop}
+use Rattle.std.proofs.Common.{◌≡◌, ℕ, ◌+◌, ◌-◌, ◌≤◌, List, [], ◌∷◌, ◌++◌, length, take, drop, refl, sym, ap, ◌∙◌, arith, append-nil, append_assoc, length-drop, take-add, drop-drop}
 use Rattle.std.proofs.lemmas.List.{take-append-le, drop-append-le}
-use Rattle.ifmap_hall.specs.Runs.{Sight, CarriesOn, run}
+use Rattle.ifmap_hall.specs.Sights.{Sight, CarriesOn, run}
 
 module _ {M E : Type 0} (next : M → E → M) where
   pub run-append : (m : M) (xs ys : List (ℕ × E)) → run next m (xs ++ ys) ≡ run next (run next m xs) ys
@@ -35,4 +35,14 @@ module _ {M E : Type 0} (next : M → E → M) where
                   ∙ append_assoc (drop k (drop j p.seen)) x.0 y.0
                   ∙ ap (λ xs. xs ++ (x.0 ++ y.0)) (drop-drop k j p.seen ∙ ap (λ n. drop n p.seen) (omega arith)),
             );
+      }
+
+  pub carries-itself : (p : Sight M E) → CarriesOn next p p
+  carries-itself p =
+      let none : p.from - p.from ≡ 0 = omega arith in
+      record {
+        from = omega arith;
+        ends = omega arith;
+        base = λ _. rw none refl;
+        rest = λ _. ([], rw none (sym (append-nil p.seen)));
       }

@@ -1,186 +1,197 @@
--- A pass takes in another.
-use Rattle.std.proofs.Common.{◌≡◌, ◌≢◌, ◌⊎◌, ℕ, ◌+◌, ◌<◌, ◌≤◌, List, [], ◌++◌, length, take, drop, set, Bool, true, false, refl, sym, ap, subst, ◌∙◌, inl, inr, arith}
-use mathlib.Core.Option.{Option as Maybe, some, some-injective}
+-- A seat is joined to another. `Place` says where a seat of the new list comes from, and each field of the rule goes by cases on
+-- it. `Joint` is what the joined view is of two, whichever has seen more; `joint_of` makes it in both cases.
+use Rattle.std.proofs.Common.{◌≡◌, ◌≢◌, ◌⊎◌, ℕ, ◌+◌, ◌<◌, ◌≤◌, List, [], length, set, Bool, true, false, cond, refl, sym, ap, subst, ◌∙◌, inl, inr, arith}
+use mathlib.Core.Option.{Option as Maybe, some-injective}
 use lib.ListN.{get_elem?}
-use Rattle.std.proofs.lemmas.List.{take-append-le, take-append-drop}
-use Rattle.std.proofs.Math.Seq.{take-append_seam}
-use Rattle.std.proofs.lemmas.Bool.Decides.{nat_tests}
 use Rattle.std.specs.Prelude.{Option}
 use Rattle.atomic_table.specs.Table.{Joins}
 use Rattle.atomic_table.proofs.Lists.{at_set, set_else}
+use Rattle.ifmap_hall.specs.Histories.{Extends, Ordered}
+use Rattle.ifmap_hall.specs.Places.{times}
+use Rattle.ifmap_hall.specs.Rule.{Sits, Fits, AtHome, IsOut, IsInTurn, Keeps}
+use Rattle.ifmap_hall.specs.SeatViews.{tickets_of, holds_book, joint_seat, spent_seat}
+use Rattle.ifmap_hall.specs.Views.{is_later}
 use Rattle.ifmap_hall.specs.declared.book.Book.{Book}
-use Rattle.ifmap_hall.specs.Counts.{times}
-use Rattle.ifmap_hall.specs.Rule.{Trails, Ordered, Fits, AtHome, IsOut, Kept, Keeps}
-use Rattle.ifmap_hall.specs.Views.{is_later, joined_by, joined, spent_view}
+use Rattle.ifmap_hall.specs.declared.view.History.{History}
+use Rattle.ifmap_hall.specs.declared.view.SeatView.{SeatView}
+use Rattle.ifmap_hall.specs.declared.view.Stage.TheVariants.{Idle}
 use Rattle.ifmap_hall.specs.declared.view.Terms.{Terms}
-use Rattle.ifmap_hall.specs.declared.view.View.{View}
-use Rattle.ifmap_hall.proofs.Totals.{total_set, two_at_most, at_within}
-use Rattle.ifmap_hall.proofs.Drawing.{falsehood}
-use Rattle.ifmap_hall.proofs.Places.{rises_le, rises_merged, times-merged, once_most}
 use Rattle.ifmap_hall.proofs.Cutting.{Stems, stems_ordered}
+use Rattle.ifmap_hall.proofs.Extending.{extends-itself, longer, later_extends, earlier_extends}
+use Rattle.ifmap_hall.proofs.General.{at_within, falsehood, sum_set, two_at_most}
+use Rattle.ifmap_hall.proofs.Places.{rises_le, rises_merge, times-merge, once_most}
 
--- of two beginnings of one list the shorter begins the longer
-pub begins_with : {A : Type 0} (xs ys r s : List A) → xs ++ r ≡ ys ++ s → length xs ≤ length ys → (rest : List A) × (ys ≡ xs ++ rest)
-begins_with xs ys r s e h =
-    let front : xs ≡ take (length xs) ys = sym (take-append_seam xs r) ∙ ap (take (length xs)) e ∙ take-append-le (length xs) ys s h in
-    (drop (length xs) ys, sym (take-append-drop (length xs) ys) ∙ ap (λ zs. zs ++ drop (length xs) ys) (sym front))
+-- of two histories the later one, and the earlier one
+pub record Joint {E : Type 0} (h k late early : History E) : Type 0 where
+  pub one : (late ≡ h) ⊎ (late ≡ k)
+  pub this : Extends h late
+  pub that : Extends k late
+  pub rest : Extends early late
+
+module _ {E : Type 0} where
+  joint_by : (h k : History E) (b : Bool) → is_later h k ≡ b → Ordered h k → Joint h k (cond b k h) (cond b h k)
+  joint_by h k true e o = let x = later_extends h k o e in record { one = inr refl; this = x; that = extends-itself k; rest = x }
+  joint_by h k false e o = let x = earlier_extends h k o e in record { one = inl refl; this = extends-itself h; that = x; rest = x }
+
+  pub joint_of : (h k : History E) → Ordered h k → Joint h k (cond (is_later h k) k h) (cond (is_later h k) h k)
+  joint_of h k o = joint_by h k (is_later h k) refl o
 
 module _ {M E R : Type 0} (next : M → E → M) (weight : E → ℕ) where
-  data Place (vs : List (View M E R)) (id other : ℕ) (both spent : View M E R) (i : ℕ) (u : View M E R) : Type 0 where
-    is_both : i ≡ id → both ≡ u → Place vs id other both spent i u
-    is_spent : i ≡ other → spent ≡ u → Place vs id other both spent i u
-    is_old : i ≢ id → i ≢ other → get_elem? vs i ≡ some u → Place vs id other both spent i u
+  data Place (seats : List (SeatView M E R)) (id other : ℕ) (both spent : SeatView M E R) (i : ℕ) (x : SeatView M E R) : Type 0 where
+    is_both : i ≡ id → both ≡ x → Place seats id other both spent i x
+    is_spent : i ≡ other → spent ≡ x → Place seats id other both spent i x
+    is_old : i ≢ id → i ≢ other → Sits seats i x → Place seats id other both spent i x
 
-  place : (vs : List (View M E R)) (id other : ℕ) (both spent : View M E R) (i : ℕ) (u : View M E R) → get_elem? (set (set vs id both) other spent) i ≡ some u → Place vs id other both spent i u
-  place vs id other both spent i u e = elim (at_set (set vs id both) other i spent u e) [
+  place : (seats : List (SeatView M E R)) (id other : ℕ) (both spent : SeatView M E R) (i : ℕ) (x : SeatView M E R) → Sits (set (set seats id both) other spent) i x
+      → Place seats id other both spent i x
+  place seats id other both spent i x e = elim (at_set (set seats id both) other i spent x e) [
     | inl p ↦ is_spent p.0 p.1
-    | inr q ↦ elim (at_set vs id i both u q.1) [
+    | inr q ↦ elim (at_set seats id i both x q.1) [
       | inl p ↦ is_both p.0 p.1
       | inr p ↦ is_old p.0 q.0 p.1
     ]
   ]
 
-  module _ (m : M) (key : Terms M) (ws : List ℕ) (hs : List (Maybe (Option (Book M E R)))) (vs : List (View M E R)) (k : Kept next weight key ws hs vs) (id other : ℕ) (v w : View M E R) (b : Bool)
-      (sits : get_elem? vs id ≡ some v) (ne : other ≢ id) (there : get_elem? vs other ≡ some w)
-      (part_v : 0 < v.parts) (part_w : 0 < w.parts) (idle_v : v.waits ≡ 0) (idle_w : w.waits ≡ 0) (free_v : v.holds ≡ false) (free_w : w.holds ≡ false)
-      (stem : Stems next weight vs (joined_by b v w))
-      (begins : (rest : List (ℕ × E)) × (k.log ≡ (joined_by b v w).log ++ rest)) (behind : (joined_by b v w).from ≤ k.from) (inside : (joined_by b v w).from ≤ length (joined_by b v w).log)
-      (long_v : length v.log ≤ length (joined_by b v w).log) (long_w : length w.log ≤ length (joined_by b v w).log)
-      (beats : (rest : List (ℕ × E)) × ((joined_by b v w).log ≡ (joined_by b v w).beaten ++ rest)) (ahead : (joined_by b v w).beaten_from ≤ (joined_by b v w).from) where
-    glue_few : (i : ℕ) (u : View M E R) → Place vs id other (joined_by b v w) (spent_view m) i u → u.waits ≤ 1 × u.waits ≤ u.parts
-    glue_few i u (is_both p e) = subst (λ (x : View M E R). x.waits ≤ 1 × x.waits ≤ x.parts) e (omega arith, omega arith)
-    glue_few i u (is_spent p e) = subst (λ (x : View M E R). x.waits ≤ 1 × x.waits ≤ x.parts) e (omega arith, omega arith)
-    glue_few i u (is_old n o e) = k.few i u e
+  module _ (m : M) (terms : Terms M) (words : List ℕ) (homes : List (Maybe (Option (Book M E R)))) (seats : List (SeatView M E R)) (k : IsInTurn next weight terms words homes seats)
+      (id other : ℕ) (s u : SeatView M E R) (sits : Sits seats id s) (ne : other ≢ id) (there : Sits seats other u)
+      (part_s : 0 < s.parts) (part_u : 0 < u.parts) (idle_s : s.stage ≡ Idle) (idle_u : u.stage ≡ Idle) where
+    no_ticket : tickets_of s.stage ≡ 0
+    no_ticket = ap tickets_of idle_s
 
-    glue_spent : (i : ℕ) (u : View M E R) → Place vs id other (joined_by b v w) (spent_view m) i u → u.parts ≡ 0 → (u.mine ≡ []) × (u.holds ≡ false)
-    glue_spent i u (is_both p e) z = let q : v.parts + w.parts ≡ u.parts = ap (λ (x : View M E R). x.parts) e in absurd (omega arith)
-    glue_spent i u (is_spent p e) z = (ap (λ (x : View M E R). x.mine) (sym e), ap (λ (x : View M E R). x.holds) (sym e))
-    glue_spent i u (is_old n o e) z = k.spent i u e z
+    no_ticket_other : tickets_of u.stage ≡ 0
+    no_ticket_other = ap tickets_of idle_u
 
-    glue_waits : (i : ℕ) (u : View M E R) → Place vs id other (joined_by b v w) (spent_view m) i u → u.waits ≡ 1 → get_elem? vs i ≡ some u
-    glue_waits i u (is_both p e) h = let q : v.waits ≡ u.waits = ap (λ (x : View M E R). x.waits) e in absurd (omega arith)
-    glue_waits i u (is_spent p e) h = let q : 0 ≡ u.waits = ap (λ (x : View M E R). x.waits) e in absurd (omega arith)
-    glue_waits i u (is_old n o e) h = e
+    no_book : holds_book s.stage ≡ false
+    no_book = ap holds_book idle_s
 
-    disjoint : (x : ℕ) → times x v.mine + times x w.mine ≤ 1
+    no_book_other : holds_book u.stage ≡ false
+    no_book_other = ap holds_book idle_u
+
+    joint : Joint s.view.history u.view.history (joint_seat s u).view.history (joint_seat s u).joined
+    joint = joint_of s.view.history u.view.history (k.ordered id other s u sits there part_s part_u)
+
+    glue_enough : (i : ℕ) (x : SeatView M E R) → Place seats id other (joint_seat s u) (spent_seat m) i x → tickets_of x.stage ≤ x.parts
+    glue_enough i x (is_both p e) = subst (λ (y : SeatView M E R). tickets_of y.stage ≤ y.parts) e (omega (arith, no_ticket))
+    glue_enough i x (is_spent p e) = subst (λ (y : SeatView M E R). tickets_of y.stage ≤ y.parts) e (omega arith)
+    glue_enough i x (is_old n o e) = k.enough i x e
+
+    glue_spent : (i : ℕ) (x : SeatView M E R) → Place seats id other (joint_seat s u) (spent_seat m) i x → x.parts ≡ 0 → (x.view.mine ≡ []) × (holds_book x.stage ≡ false)
+    glue_spent i x (is_both p e) z = let q : s.parts + u.parts ≡ x.parts = ap (λ (y : SeatView M E R). y.parts) e in absurd (omega arith)
+    glue_spent i x (is_spent p e) z = (ap (λ (y : SeatView M E R). y.view.mine) (sym e), ap (λ (y : SeatView M E R). holds_book y.stage) (sym e))
+    glue_spent i x (is_old n o e) z = k.spent i x e z
+
+    glue_waits : (i : ℕ) (x : SeatView M E R) → Place seats id other (joint_seat s u) (spent_seat m) i x → tickets_of x.stage ≡ 1 → Sits seats i x
+    glue_waits i x (is_both p e) h = let q : tickets_of s.stage ≡ tickets_of x.stage = ap (λ (y : SeatView M E R). tickets_of y.stage) e in absurd (omega (arith, no_ticket))
+    glue_waits i x (is_spent p e) h = let q : 0 ≡ tickets_of x.stage = ap (λ (y : SeatView M E R). tickets_of y.stage) e in absurd (omega arith)
+    glue_waits i x (is_old n o e) h = e
+
+    disjoint : (x : ℕ) → times x s.view.mine + times x u.view.mine ≤ 1
     disjoint x =
-        let t = two_at_most (λ (u : View M E R). times x u.mine) vs id other v w (λ e. ne (sym e)) sits there in
-        let p = k.places x in let o = once_most x (length k.log) in omega arith
+        let t = two_at_most (λ (y : SeatView M E R). times x y.view.mine) seats id other s u (λ e. ne (sym e)) sits there in
+        let p = k.places x in let o = once_most x (length k.history.log) in omega arith
 
-    glue_fits : (i : ℕ) (u : View M E R) → Place vs id other (joined_by b v w) (spent_view m) i u → 0 < u.parts → Fits key k.log k.from k.served k.drawn u
-    glue_fits i u (is_both p e) h =
-        let f = k.fit id v sits part_v in
-        let g = k.fit other w there part_w in
-        subst (λ (x : View M E R). Fits key k.log k.from k.served k.drawn x) e (record {
-          opening = f.opening;
-          limit = f.limit;
-          heaviest = f.heaviest;
-          begins = begins;
-          behind = behind;
-          inside = inside;
-          rises = rises_merged 0 v.mine w.mine (length (joined_by b v w).log) (rises_le 0 v.mine (length v.log) (length (joined_by b v w).log) f.rises long_v) (rises_le 0 w.mine (length w.log) (length (joined_by b v w).log) g.rises long_w) disjoint;
-          beats = beats;
-          ahead = ahead;
-          queued = λ w. absurd (omega arith);
-          held = λ w. absurd (falsehood (sym w ∙ free_v));
+    late_fits : (late : History E) → (late ≡ s.view.history) ⊎ (late ≡ u.view.history) → Extends late k.history × (late.from ≤ length late.log)
+    late_fits late (inl e) = let f = k.fit id s sits part_s in subst (λ (h : History E). Extends h k.history × (h.from ≤ length h.log)) (sym e) (f.extends, f.sound.inside)
+    late_fits late (inr e) = let f = k.fit other u there part_u in subst (λ (h : History E). Extends h k.history × (h.from ≤ length h.log)) (sym e) (f.extends, f.sound.inside)
+
+    glue_fits : (i : ℕ) (x : SeatView M E R) → Place seats id other (joint_seat s u) (spent_seat m) i x → 0 < x.parts → Fits terms k.history k.served k.drawn x
+    glue_fits i x (is_both p e) h =
+        let f = k.fit id s sits part_s in
+        let g = k.fit other u there part_u in
+        let late : History E = (joint_seat s u).view.history in
+        let fits = late_fits late joint.one in
+        let long_s = longer s.view.history late joint.this in
+        let long_u = longer u.view.history late joint.that in
+        subst (λ (y : SeatView M E R). Fits terms k.history k.served k.drawn y) e (record {
+          terms_are = f.terms_are;
+          sound = record {
+            inside = fits.1;
+            mine = rises_merge 0 s.view.mine u.view.mine (length late.log) (rises_le 0 s.view.mine (length s.view.history.log) (length late.log) f.sound.mine (omega arith))
+                (rises_le 0 u.view.mine (length u.view.history.log) (length late.log) g.sound.mine (omega arith)) disjoint;
+          };
+          extends = fits.0;
+          joined = joint.rest;
+          queued = λ w. absurd (omega (arith, no_ticket));
+          held = λ w. absurd (falsehood (sym w ∙ no_book));
           lone = λ l. absurd (falsehood (sym l));
         })
-    glue_fits i u (is_spent p e) h = let q : 0 ≡ u.parts = ap (λ (x : View M E R). x.parts) e in absurd (omega arith)
-    glue_fits i u (is_old n o e) h = k.fit i u e h
+    glue_fits i x (is_spent p e) h = let q : 0 ≡ x.parts = ap (λ (y : SeatView M E R). y.parts) e in absurd (omega arith)
+    glue_fits i x (is_old n o e) h = k.fit i x e h
 
-    glue_stems : (i : ℕ) (u : View M E R) → Place vs id other (joined_by b v w) (spent_view m) i u → 0 < u.parts → Stems next weight vs u
-    glue_stems i u (is_both p e) h = subst (Stems next weight vs) e stem
-    glue_stems i u (is_spent p e) h = let q : 0 ≡ u.parts = ap (λ (x : View M E R). x.parts) e in absurd (omega arith)
-    glue_stems i u (is_old n o e) h = record { index = i; old = u; sits = e; part = h; from = refl; seen = refl }
+    late_stems : (late : History E) → (late ≡ s.view.history) ⊎ (late ≡ u.view.history) → (x : SeatView M E R) → late ≡ x.view.history → Stems next weight seats x
+    late_stems late (inl e) x q = record { index = id; old = s; sits = sits; part = part_s; seen = sym e ∙ q }
+    late_stems late (inr e) x q = record { index = other; old = u; sits = there; part = part_u; seen = sym e ∙ q }
 
-    glue_alone : (i : ℕ) (u : View M E R) → Place vs id other (joined_by b v w) (spent_view m) i u → u.lone ≡ true → ⊥
-    glue_alone i u (is_both p e) l = falsehood (sym l ∙ ap (λ (x : View M E R). x.lone) (sym e))
-    glue_alone i u (is_spent p e) l = falsehood (sym l ∙ ap (λ (x : View M E R). x.lone) (sym e))
-    glue_alone i u (is_old n o e) l = let one = k.alone i u e l in let a = at_within vs i u e in let c = at_within vs id v sits in n (omega arith)
+    glue_stems : (i : ℕ) (x : SeatView M E R) → Place seats id other (joint_seat s u) (spent_seat m) i x → 0 < x.parts → Stems next weight seats x
+    glue_stems i x (is_both p e) h = late_stems (joint_seat s u).view.history joint.one x (ap (λ (y : SeatView M E R). y.view.history) e)
+    glue_stems i x (is_spent p e) h = let q : 0 ≡ x.parts = ap (λ (y : SeatView M E R). y.parts) e in absurd (omega arith)
+    glue_stems i x (is_old n o e) h = record { index = i; old = x; sits = e; part = h; seen = refl }
 
-    glue_free : ((j : ℕ) (x : View M E R) → get_elem? vs j ≡ some x → x.holds ≡ false) → (i : ℕ) (u : View M E R) → Place vs id other (joined_by b v w) (spent_view m) i u → u.holds ≡ false
-    glue_free unheld i u (is_both p e) = ap (λ (x : View M E R). x.holds) (sym e) ∙ free_v
-    glue_free unheld i u (is_spent p e) = ap (λ (x : View M E R). x.holds) (sym e)
-    glue_free unheld i u (is_old n o e) = unheld i u e
+    glue_alone : (i : ℕ) (x : SeatView M E R) → Place seats id other (joint_seat s u) (spent_seat m) i x → x.view.lone ≡ true → ⊥
+    glue_alone i x (is_both p e) l = falsehood (sym l ∙ ap (λ (y : SeatView M E R). y.view.lone) (sym e))
+    glue_alone i x (is_spent p e) l = falsehood (sym l ∙ ap (λ (y : SeatView M E R). y.view.lone) (sym e))
+    glue_alone i x (is_old n o e) l = let one = k.alone i x e l in let a = at_within seats i x e in let c = at_within seats id s sits in n (omega arith)
 
-    glue_desk : AtHome next weight key k.log k.from hs vs ⊎ IsOut next weight hs vs
-        → AtHome next weight key k.log k.from hs (set (set vs id (joined_by b v w)) other (spent_view m)) ⊎ IsOut next weight hs (set (set vs id (joined_by b v w)) other (spent_view m))
-    glue_desk (inl a) = inl (record {
+    glue_free : ((j : ℕ) (y : SeatView M E R) → Sits seats j y → holds_book y.stage ≡ false) → (i : ℕ) (x : SeatView M E R) → Place seats id other (joint_seat s u) (spent_seat m) i x
+        → holds_book x.stage ≡ false
+    glue_free free i x (is_both p e) = ap (λ (y : SeatView M E R). holds_book y.stage) (sym e) ∙ no_book
+    glue_free free i x (is_spent p e) = ap (λ (y : SeatView M E R). holds_book y.stage) (sym e)
+    glue_free free i x (is_old n o e) = free i x e
+
+    glue_slot : AtHome next weight terms k.history homes seats ⊎ IsOut next weight homes seats
+        → AtHome next weight terms k.history homes (set (set seats id (joint_seat s u)) other (spent_seat m)) ⊎ IsOut next weight homes (set (set seats id (joint_seat s u)) other (spent_seat m))
+    glue_slot (inl a) = inl (record {
       book = a.book;
       there = a.there;
-      shows = a.shows;
-      free = λ i u e. glue_free a.free i u (place vs id other (joined_by b v w) (spent_view m) i u e);
+      stands = a.stands;
+      free = λ i x e. glue_free a.free i x (place seats id other (joint_seat s u) (spent_seat m) i x e);
     })
-    glue_desk (inr o) = inr (record {
+    glue_slot (inr o) = inr (record {
       gone = o.gone;
       seat = o.seat;
       holder = o.holder;
-      sits = set_else (set vs id (joined_by b v w)) other o.seat (spent_view m) (λ e. falsehood (sym o.holds ∙ ap (λ (y : View M E R). y.holds) (some-injective o.holder w (sym o.sits ∙ ap (get_elem? vs) e ∙ there)) ∙ free_w))
-          ∙ set_else vs id o.seat (joined_by b v w) (λ e. falsehood (sym o.holds ∙ ap (λ (y : View M E R). y.holds) (some-injective o.holder v (sym o.sits ∙ ap (get_elem? vs) e ∙ sits)) ∙ free_v))
+      sits = set_else (set seats id (joint_seat s u)) other o.seat (spent_seat m)
+          (λ e. falsehood (sym o.holds ∙ ap (λ (y : SeatView M E R). holds_book y.stage) (some-injective o.holder u (sym o.sits ∙ ap (get_elem? seats) e ∙ there)) ∙ no_book_other))
+          ∙ set_else seats id o.seat (joint_seat s u)
+          (λ e. falsehood (sym o.holds ∙ ap (λ (y : SeatView M E R). holds_book y.stage) (some-injective o.holder s (sym o.sits ∙ ap (get_elem? seats) e ∙ sits)) ∙ no_book))
           ∙ o.sits;
       holds = o.holds;
     })
 
-    still_there : get_elem? (set vs id (joined_by b v w)) other ≡ some w
-    still_there = set_else vs id other (joined_by b v w) ne ∙ there
+    still_there : Sits (set seats id (joint_seat s u)) other u
+    still_there = set_else seats id other (joint_seat s u) ne ∙ there
 
-    glue_kept : Kept next weight key ws hs (set (set vs id (joined_by b v w)) other (spent_view m))
-    glue_kept =
-        let at = λ (i : ℕ) (u : View M E R) (e : get_elem? (set (set vs id (joined_by b v w)) other (spent_view m)) i ≡ some u). place vs id other (joined_by b v w) (spent_view m) i u e in
+    pub glue_keeps : IsInTurn next weight terms words homes (set (set seats id (joint_seat s u)) other (spent_seat m))
+    glue_keeps =
+        let at = λ (i : ℕ) (x : SeatView M E R) (e : Sits (set (set seats id (joint_seat s u)) other (spent_seat m)) i x). place seats id other (joint_seat s u) (spent_seat m) i x e in
         record {
-          log = k.log;
-          from = k.from;
+          history = k.history;
           served = k.served;
           drawn = k.drawn;
-          words = k.words;
-          desk = glue_desk k.desk;
+          words_are = k.words_are;
+          slot = glue_slot k.slot;
           parts =
-              let t = total_set (λ (u : View M E R). u.parts) vs id v (joined_by b v w) sits in
-              let z = total_set (λ (u : View M E R). u.parts) (set vs id (joined_by b v w)) other w (spent_view m) still_there in
+              let t = sum_set (λ (x : SeatView M E R). x.parts) seats id s (joint_seat s u) sits in
+              let z = sum_set (λ (x : SeatView M E R). x.parts) (set seats id (joint_seat s u)) other u (spent_seat m) still_there in
               let p = k.parts in omega arith;
-          few = λ i u e. glue_few i u (at i u e);
-          spent = λ i u e. glue_spent i u (at i u e);
+          enough = λ i x e. glue_enough i x (at i x e);
+          spent = λ i x e. glue_spent i x (at i x e);
           tickets =
-              let t = total_set (λ (u : View M E R). u.waits) vs id v (joined_by b v w) sits in
-              let z = total_set (λ (u : View M E R). u.waits) (set vs id (joined_by b v w)) other w (spent_view m) still_there in
-              let p = k.tickets in omega arith;
-          apart = λ i j u x e f hu hx. k.apart i j u x (glue_waits i u (at i u e) hu) (glue_waits j x (at j x f) hx) hu hx;
+              let t = sum_set (λ (x : SeatView M E R). tickets_of x.stage) seats id s (joint_seat s u) sits in
+              let z = sum_set (λ (x : SeatView M E R). tickets_of x.stage) (set seats id (joint_seat s u)) other u (spent_seat m) still_there in
+              let p = k.tickets in omega (arith, no_ticket_other);
+          apart = λ i j x y e f hx hy. k.apart i j x y (glue_waits i x (at i x e) hx) (glue_waits j y (at j y f) hy) hx hy;
           places = λ x.
-              let t = total_set (λ (u : View M E R). times x u.mine) vs id v (joined_by b v w) sits in
-              let z = total_set (λ (u : View M E R). times x u.mine) (set vs id (joined_by b v w)) other w (spent_view m) still_there in
-              let q = times-merged x v.mine w.mine in
+              let t = sum_set (λ (y : SeatView M E R). times x y.view.mine) seats id s (joint_seat s u) sits in
+              let z = sum_set (λ (y : SeatView M E R). times x y.view.mine) (set seats id (joint_seat s u)) other u (spent_seat m) still_there in
+              let q = times-merge x s.view.mine u.view.mine in
               let p = k.places x in omega arith;
-          fit = λ i u e. glue_fits i u (at i u e);
-          ordered = λ i j u x e f hu hx. stems_ordered next weight key ws hs vs k u x (glue_stems i u (at i u e) hu) (glue_stems j x (at j x f) hx);
-          alone = λ i u e l. absurd (glue_alone i u (at i u e) l);
+          fit = λ i x e. glue_fits i x (at i x e);
+          ordered = λ i j x y e f hx hy. stems_ordered next weight terms words homes seats k x y (glue_stems i x (at i x e) hx) (glue_stems j y (at j y f) hy);
+          alone = λ i x e l. absurd (glue_alone i x (at i x e) l);
         }
 
-  pub later_true : (v w : View M E R) → Ordered v w → is_later v w ≡ true → Trails v w
-  later_true v w (inl t) e = t
-  later_true v w (inr t) e = let a = t.0 in let b = t.1 in grind (arith, nat_tests)
-
-  pub later_false : (v w : View M E R) → Ordered v w → is_later v w ≡ false → Trails w v
-  later_false v w (inl t) e = let a = t.0 in let b = t.1 in grind (arith, nat_tests)
-  later_false v w (inr t) e = t
-
-  by_case : (m : M) (key : Terms M) (ws : List ℕ) (hs : List (Maybe (Option (Book M E R)))) (vs : List (View M E R)) (k : Kept next weight key ws hs vs) (id other : ℕ) (v w : View M E R)
-      → get_elem? vs id ≡ some v → other ≢ id → get_elem? vs other ≡ some w
-      → 0 < v.parts → 0 < w.parts → v.waits ≡ 0 → w.waits ≡ 0 → v.holds ≡ false → w.holds ≡ false
-      → (b : Bool) → is_later v w ≡ b → Kept next weight key ws hs (set (set vs id (joined_by b v w)) other (spent_view m))
-  by_case m key ws hs vs k id other v w sits ne there pv pw iv iw fv fw true e =
-      let t = later_true v w (k.ordered id other v w sits there pv pw) e in
-      let g = k.fit other w there pw in
-      let f = k.fit id v sits pv in
-      glue_kept m key ws hs vs k id other v w true sits ne there pv pw iv iw fv fw
-      (record { index = other; old = w; sits = there; part = pw; from = refl; seen = refl }) g.begins g.behind g.inside t.1 (omega arith) (begins_with v.log w.log f.begins.0 g.begins.0 (sym f.begins.1 ∙ g.begins.1) t.1) t.0
-  by_case m key ws hs vs k id other v w sits ne there pv pw iv iw fv fw false e =
-      let t = later_false v w (k.ordered id other v w sits there pv pw) e in
-      let f = k.fit id v sits pv in
-      let g = k.fit other w there pw in
-      glue_kept m key ws hs vs k id other v w false sits ne there pv pw iv iw fv fw
-      (record { index = id; old = v; sits = sits; part = pv; from = refl; seen = refl }) f.begins f.behind f.inside (omega arith) t.1 (begins_with w.log v.log g.begins.0 f.begins.0 (sym g.begins.1 ∙ f.begins.1) t.1) t.0
-
-  pub joins : (m : M) (key : Terms M) (id other : ℕ) (v w : View M E R) → 0 < v.parts → 0 < w.parts → v.waits ≡ 0 → w.waits ≡ 0 → v.holds ≡ false → w.holds ≡ false
-      → Joins (Keeps next weight key) id v other w (joined v w) (spent_view m)
-  joins m key id other v w pv pw iv iw fv fw s k sits ne there =
-      by_case m key s.words s.homes s.views k id other v w sits ne (sym (set_else s.views id other (joined v w) ne) ∙ there) pv pw iv iw fv fw (is_later v w) refl
+  pub joins : (m : M) (terms : Terms M) (id other : ℕ) (s u : SeatView M E R) → 0 < s.parts → 0 < u.parts → s.stage ≡ Idle → u.stage ≡ Idle
+      → Joins (Keeps next weight terms) id s other u (joint_seat s u) (spent_seat m)
+  joins m terms id other s u ps pu is iu t k sits ne there =
+      glue_keeps m terms t.words t.homes t.views k id other s u sits ne (sym (set_else t.views id other (joint_seat s u) ne) ∙ there) ps pu is iu

@@ -3,7 +3,7 @@ use Rattle.std.proofs.Common.{◌≡◌, ◌≢◌, ◌⊎◌, ℕ, ◌+◌, ◌
 use Rattle.std.proofs.Math.Seq.{drop-append_seam, drop-length}
 use Rattle.std.proofs.lemmas.Bool.Decides.{nat_tests}
 use Rattle.std.proofs.lemmas.Bool.{cases_eq, cases_lt}
-use Rattle.ifmap_hall.specs.Counts.{times, once_below, Rises, placed, merged}
+use Rattle.ifmap_hall.specs.Places.{times, once_below, Rises, insert, merge}
 
 pub times-append : (x : ℕ) (xs ys : List ℕ) → times x (xs ++ ys) ≡ times x xs + times x ys
 times-append x [] ys = omega arith
@@ -53,10 +53,6 @@ module _ {E : Type 0} where
   gains_rise taken whole mine (inr more) r =
       rw (more.1, drop-append_seam taken (more.0 ∷ []), length-append taken (more.0 ∷ [])) (rises_snoc 0 mine (length taken) r)
 
-  pub gains_begin : (taken whole : List E) → (whole ≡ taken) ⊎ ((e : E) × (whole ≡ taken ++ e ∷ [])) → (more : List E) × (whole ≡ taken ++ more)
-  gains_begin taken whole (inl same) = ([], same ∙ sym (append-nil taken))
-  gains_begin taken whole (inr more) = (more.0 ∷ [], more.1)
-
 pub rises_bound : (low : ℕ) (xs : List ℕ) (high : ℕ) → Rises low xs high → low ≤ high
 rises_bound low [] high r = r
 rises_bound low (x ∷ xs) high r = let a = r.0 in let b = rises_bound (x + 1) xs high r.1 in omega arith
@@ -65,23 +61,23 @@ rises_low : (low higher : ℕ) (xs : List ℕ) (high : ℕ) → low ≤ higher �
 rises_low low higher [] high h r = let a : higher ≤ high = r in omega arith
 rises_low low higher (x ∷ xs) high h r = let a = r.0 in (omega arith, r.1)
 
-pub times-placed : (x y : ℕ) (ys : List ℕ) → times x (placed y ys) ≡ times x (y ∷ []) + times x ys
-times-placed x y [] = omega arith
-times-placed x y (z ∷ zs) = placing (nat_lt y z) (times-placed x y zs) where
-  placing : (b : Bool) → times x (placed y zs) ≡ times x (y ∷ []) + times x zs → times x (cond b (y ∷ z ∷ zs) (z ∷ placed y zs)) ≡ times x (y ∷ []) + times x (z ∷ zs)
+pub times-insert : (x y : ℕ) (ys : List ℕ) → times x (insert y ys) ≡ times x (y ∷ []) + times x ys
+times-insert x y [] = omega arith
+times-insert x y (z ∷ zs) = placing (nat_lt y z) (times-insert x y zs) where
+  placing : (b : Bool) → times x (insert y zs) ≡ times x (y ∷ []) + times x zs → times x (cond b (y ∷ z ∷ zs) (z ∷ insert y zs)) ≡ times x (y ∷ []) + times x (z ∷ zs)
   placing true r = omega arith
   placing false r = omega arith
 
-pub times-merged : (x : ℕ) (xs ys : List ℕ) → times x (merged xs ys) ≡ times x xs + times x ys
-times-merged x [] ys = omega arith
-times-merged x (z ∷ zs) ys = let a = times-placed x z (merged zs ys) in let r = times-merged x zs ys in omega arith
+pub times-merge : (x : ℕ) (xs ys : List ℕ) → times x (merge xs ys) ≡ times x xs + times x ys
+times-merge x [] ys = omega arith
+times-merge x (z ∷ zs) ys = let a = times-insert x z (merge zs ys) in let r = times-merge x zs ys in omega arith
 
 times_itself : (x : ℕ) (xs : List ℕ) → times x (x ∷ xs) ≡ 1 + times x xs
 times_itself x xs = let e : nat_eq x x ≡ true = grind (arith, nat_tests) in rw e refl
 
-rises_placed : (low x : ℕ) (ys : List ℕ) (high : ℕ) → Rises low ys high → low ≤ x → x < high → times x ys ≡ 0 → Rises low (placed x ys) high
-rises_placed low x [] high r l h none = (l, omega arith)
-rises_placed low x (y ∷ ys) high r l h none = elim (cases_lt x y) [
+rises_insert : (low x : ℕ) (ys : List ℕ) (high : ℕ) → Rises low ys high → low ≤ x → x < high → times x ys ≡ 0 → Rises low (insert x ys) high
+rises_insert low x [] high r l h none = (l, omega arith)
+rises_insert low x (y ∷ ys) high r l h none = elim (cases_lt x y) [
   | inl lt ↦
       let a : nat_lt x y ≡ true = grind (arith, nat_tests) in
       rw a (l, (omega arith, r.1))
@@ -89,17 +85,17 @@ rises_placed low x (y ∷ ys) high r l h none = elim (cases_lt x y) [
       let a : nat_lt x y ≡ false = grind (arith, nat_tests) in
       let ne : x ≢ y = λ e. let t = times_itself x ys in let s : times x (y ∷ ys) ≡ times x (x ∷ ys) = ap (λ z. times x (z ∷ ys)) (sym e) in omega arith in
       let rest : times x ys ≡ 0 = omega arith in
-      rw a (r.0, rises_placed (y + 1) x ys high r.1 (omega arith) h rest)
+      rw a (r.0, rises_insert (y + 1) x ys high r.1 (omega arith) h rest)
 ]
 
-pub rises_merged : (low : ℕ) (xs ys : List ℕ) (high : ℕ) → Rises low xs high → Rises low ys high → ((x : ℕ) → times x xs + times x ys ≤ 1) → Rises low (merged xs ys) high
-rises_merged low [] ys high r s apart = s
-rises_merged low (x ∷ xs) ys high r s apart =
+pub rises_merge : (low : ℕ) (xs ys : List ℕ) (high : ℕ) → Rises low xs high → Rises low ys high → ((x : ℕ) → times x xs + times x ys ≤ 1) → Rises low (merge xs ys) high
+rises_merge low [] ys high r s apart = s
+rises_merge low (x ∷ xs) ys high r s apart =
     let a = r.0 in
     let bound = rises_bound (x + 1) xs high r.1 in
-    let m = rises_merged low xs ys high (rises_low low (x + 1) xs high (omega arith) r.1) s (λ z. let p = apart z in omega arith) in
-    let t = times-merged x xs ys in let i = times_itself x xs in let p = apart x in
-    rises_placed low x (merged xs ys) high m a (omega arith) (omega arith)
+    let m = rises_merge low xs ys high (rises_low low (x + 1) xs high (omega arith) r.1) s (λ z. let p = apart z in omega arith) in
+    let t = times-merge x xs ys in let i = times_itself x xs in let p = apart x in
+    rises_insert low x (merge xs ys) high m a (omega arith) (omega arith)
 
 pub once_most : (x n : ℕ) → once_below x n ≤ 1
 once_most x n = at_most_one (nat_lt x n) where

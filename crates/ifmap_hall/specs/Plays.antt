@@ -1,72 +1,63 @@
 -- What each step tells its seat.
-use Rattle.std.specs.Prelude.{◌≡◌, ◌≢◌, ◌⊎◌, ℕ, ◌%◌, ◌^◌, ◌<◌, ◌≤◌, ◌++◌, List, [], ◌∷◌, length, drop, take, true, Option, Some}
+use Rattle.std.specs.Prelude.{◌≡◌, ◌≢◌, ℕ, ◌%◌, ◌^◌, ◌≤◌, [], ◌∷◌, length, true, Option, Some}
 use Rattle.atomic_table.specs.Table.{Step, Me}
-use Rattle.ifmap_hall.specs.Runs.{run}
-use Rattle.ifmap_hall.specs.Shelves.{Stands}
+use Rattle.ifmap_hall.specs.Histories.{Extends, GainsAtMostOne, StandsFor, history_in}
+use Rattle.ifmap_hall.specs.SeatViews.{ticket_of, taken_of, with_ticket, with_book, after_turn, IsSoundSeat}
+use Rattle.ifmap_hall.specs.Views.{IsSound}
 use Rattle.ifmap_hall.specs.declared.book.Book.{Book}
-use Rattle.ifmap_hall.specs.Counts.{Rises}
+use Rattle.ifmap_hall.specs.declared.view.History.{History}
+use Rattle.ifmap_hall.specs.declared.view.SeatView.{SeatView}
+use Rattle.ifmap_hall.specs.declared.view.Terms.{Terms}
 use Rattle.ifmap_hall.specs.declared.view.View.{View}
-use Rattle.ifmap_hall.specs.Views.{waiting, holding, passed, whole}
+
+-- what a seat knows, and the book where it has it
+abbrev pub Seated : Type 0 → Type 0 → Type 0 → Type 0
+Seated M E R = Me (Option (Book M E R)) (SeatView M E R)
 
 module _ {M E R : Type 0} where
-  -- a ticket was drawn, and its number found
-  abbrev pub Draws : Step (Option (Book M E R)) → Me (Option (Book M E R)) (View M E R) → ℕ → Me (Option (Book M E R)) (View M E R) → Type 0
-  Draws s me n after = (t : ℕ) × (n ≡ t % 2 ^ 64) × (after ≡ (waiting me.0 t, me.1))
+  -- draw: a ticket was drawn, and its number found
+  abbrev pub Draws : Step (Option (Book M E R)) → Seated M E R → ℕ → Seated M E R → Type 0
+  Draws s me n after = (t : ℕ) × (n ≡ t % 2 ^ 64) × (after ≡ (with_ticket me.0 t, me.1))
 
-  -- what holds of the view of each pass
-  pub record IsSound (v : View M E R) : Type 0 where
-    pub inside : v.from ≤ length v.log
-    pub rises : Rises 0 v.mine (length v.log)
-    pub beats : (rest : List (ℕ × E)) × (v.log ≡ v.beaten ++ rest)
-    pub ahead : v.beaten_from ≤ v.from
-    pub parts : v.parts < 2 ^ 64
-
-  -- nothing changed, and what holds of the view was seen
-  abbrev pub Checks : Step (Option (Book M E R)) → Me (Option (Book M E R)) (View M E R) → ℕ → Me (Option (Book M E R)) (View M E R) → Type 0
-  Checks s me n after = (after ≡ me) × IsSound me.0
+  -- look without a ticket: nothing changed, and the seat is sound
+  abbrev pub Checks : Step (Option (Book M E R)) → Seated M E R → ℕ → Seated M E R → Type 0
+  Checks s me n after = (after ≡ me) × IsSoundSeat me.0
 
   module _ (next : M → E → M) (weight : E → ℕ) where
-    -- the book that a seat takes: it stands for the history then, which begins with what the seat has seen
-    pub record Takes (v : View M E R) (log : List (ℕ × E)) (from : ℕ) (b : Book M E R) : Type 0 where
-      pub stands : Stands next weight b
-      pub limit : b.limit ≡ v.limit
-      pub heaviest : b.heaviest ≡ v.heaviest
-      pub count : b.from ≡ from
-      pub inside : from ≤ length log
-      pub base : b.base ≡ run next v.opening (take from log)
-      pub journal : b.journal.items ≡ drop from log
-      pub behind : v.from ≤ from
-      pub begins : (rest : List (ℕ × E)) × (log ≡ v.log ++ rest)
-      pub lone : v.lone ≡ true → (v.log ≡ log) × (v.from ≡ from)
-      pub rises : Rises 0 v.mine (length v.log)
+    -- the book that a pass finds stands for a history that extends what it has seen, and is what it has seen if it is alone
+    pub record Finds (v : View M E R) (h : History E) (b : Book M E R) : Type 0 where
+      pub book : StandsFor next weight v.terms h b
+      pub sound : IsSound v
+      pub extends : Extends v.history h
+      pub lone : v.lone ≡ true → v.history ≡ h
 
     -- the seat took the book
-    abbrev pub Served : View M E R → Me (Option (Book M E R)) (View M E R) → Type 0
-    Served v after = (log : List (ℕ × E)) × (from : ℕ) × (b : Book M E R) × Takes v log from b × (after ≡ (holding v log from, (0, Some b) ∷ []))
+    abbrev pub Served : SeatView M E R → Seated M E R → Type 0
+    Served s after = (h : History E) × (b : Book M E R) × Finds s.view h b × (after ≡ (with_book s h, (0, Some b) ∷ []))
 
-    -- the book that a seat gives back: the history that was taken, with one entry more or none, of which it has as many or more in its base
-    pub record Gives (v : View M E R) (b : Book M E R) : Type 0 where
-      pub stands : Stands next weight b
-      pub limit : b.limit ≡ v.limit
-      pub heaviest : b.heaviest ≡ v.heaviest
-      pub settled : v.taken_from ≤ b.from
-      pub inside : b.from ≤ length v.taken
-      pub base : b.base ≡ run next v.opening (take b.from v.taken)
-      pub whole : (whole v.taken b ≡ v.taken) ⊎ ((e : ℕ × E) × (whole v.taken b ≡ v.taken ++ e ∷ []))
-
-    abbrev pub Brings : Me (Option (Book M E R)) (View M E R) → Type 0
-    Brings me = (b : Book M E R) × (me.1 ≡ (0, Some b) ∷ []) × Gives me.0 b
-
-    -- the seat was served and took the book, or nothing changed
-    abbrev pub Looks : Step (Option (Book M E R)) → Me (Option (Book M E R)) (View M E R) → ℕ → Me (Option (Book M E R)) (View M E R) → Type 0
+    -- look: where its ticket is served the seat took the book, and elsewhere nothing changed
+    abbrev pub Looks : Step (Option (Book M E R)) → Seated M E R → ℕ → Seated M E R → Type 0
     Looks s me n after =
-        (n ≡ me.0.ticket % 2 ^ 64 → Served me.0 after)
-        × (n ≢ me.0.ticket % 2 ^ 64 → after ≡ me)
+        (n ≡ ticket_of me.0.stage % 2 ^ 64 → Served me.0 after)
+        × (n ≢ ticket_of me.0.stage % 2 ^ 64 → after ≡ me)
+
+    -- the book that a seat gives back stands for the history that was taken, with one entry more or none, of which as many
+    -- or more are in the base, and only such as were taken
+    pub record Gives (terms : Terms M) (taken : History E) (b : Book M E R) : Type 0 where
+      pub book : StandsFor next weight terms (history_in taken b) b
+      pub settled : taken.from ≤ b.from
+      pub near : b.from ≤ length taken.log
+      pub gains : GainsAtMostOne taken.log (history_in taken b).log
+
+    -- the seat has a book that it may give back
+    abbrev pub Brings : Seated M E R → Type 0
+    Brings me = (b : Book M E R) × (me.1 ≡ (0, Some b) ∷ []) × Gives me.0.view.terms (taken_of me.0.stage) b
 
   module _ (next : M → E → M) (reply : M → E → R) where
-    abbrev pub WentOn : Me (Option (Book M E R)) (View M E R) → Me (Option (Book M E R)) (View M E R) → Type 0
-    WentOn me after = (b : Book M E R) × (me.1 ≡ (0, Some b) ∷ []) × (after ≡ (passed next reply me.0 b, []))
+    -- the seat gave the book back
+    abbrev pub WentOn : Seated M E R → Seated M E R → Type 0
+    WentOn me after = (b : Book M E R) × (me.1 ≡ (0, Some b) ∷ []) × (after ≡ (after_turn next reply me.0 b, []))
 
-    -- the book went back to its slot, and the turn to the next ticket
-    abbrev pub Passes : Step (Option (Book M E R)) → Me (Option (Book M E R)) (View M E R) → ℕ → Me (Option (Book M E R)) (View M E R) → Type 0
+    -- pass the turn on: the book went back to its slot, and the turn to the next ticket
+    abbrev pub Passes : Step (Option (Book M E R)) → Seated M E R → ℕ → Seated M E R → Type 0
     Passes s me n after = WentOn me after

@@ -1,88 +1,70 @@
--- The rule of the hall's table: two words, one slot, and the views of all passes.
-use Rattle.std.specs.Prelude.{◌≡◌, ◌⊎◌, ℕ, ◌+◌, ◌-◌, ◌%◌, ◌^◌, ◌≤◌, ◌<◌, List, [], ◌∷◌, ◌++◌, length, take, drop, true, false, Option, Some}
+-- The rule of the hall's table: two words, one slot, and what all seats know.
+use Rattle.std.specs.Prelude.{◌≡◌, ◌⊎◌, ℕ, ◌+◌, ◌-◌, ◌%◌, ◌^◌, ◌≤◌, ◌<◌, List, [], ◌∷◌, length, true, false, sum_by, Option, Some}
 use mathlib.Core.Option.{Option as Maybe, some, none}
 use lib.ListN.{get_elem?}
 use Rattle.atomic_table.specs.Table.{State}
-use Rattle.ifmap_hall.specs.Runs.{run}
-use Rattle.ifmap_hall.specs.Shelves.{Stands}
+use Rattle.ifmap_hall.specs.Histories.{Extends, Ordered, StandsFor}
+use Rattle.ifmap_hall.specs.Places.{times, once_below}
+use Rattle.ifmap_hall.specs.SeatViews.{tickets_of, ticket_of, taken_of, holds_book}
+use Rattle.ifmap_hall.specs.Views.{IsSound}
 use Rattle.ifmap_hall.specs.declared.book.Book.{Book}
-use Rattle.ifmap_hall.specs.Counts.{total, times, once_below, Rises}
+use Rattle.ifmap_hall.specs.declared.view.History.{History}
+use Rattle.ifmap_hall.specs.declared.view.SeatView.{SeatView}
 use Rattle.ifmap_hall.specs.declared.view.Terms.{Terms}
-use Rattle.ifmap_hall.specs.declared.view.View.{View}
 
 module _ {M E R : Type 0} where
-  -- what has seen no more of either
-  abbrev pub Trails : View M E R → View M E R → Type 0
-  Trails v w = (v.from ≤ w.from) × (length v.log ≤ length w.log)
+  -- the seat with this number knows this
+  abbrev pub Sits : List (SeatView M E R) → ℕ → SeatView M E R → Type 0
+  Sits seats i s = get_elem? seats i ≡ some s
 
-  abbrev pub Ordered : View M E R → View M E R → Type 0
-  Ordered v w = Trails v w ⊎ Trails w v
-
-  -- a view fits the history
-  pub record Fits (key : Terms M) (log : List (ℕ × E)) (from served drawn : ℕ) (v : View M E R) : Type 0 where
-    pub opening : v.opening ≡ key.opening.value
-    pub limit : v.limit ≡ key.limit
-    pub heaviest : v.heaviest ≡ key.heaviest
-    pub begins : (rest : List (ℕ × E)) × (log ≡ v.log ++ rest)
-    pub behind : v.from ≤ from
-    pub inside : v.from ≤ length v.log
-    pub rises : Rises 0 v.mine (length v.log)
-    -- the view that was joined last had seen no more
-    pub beats : (rest : List (ℕ × E)) × (v.log ≡ v.beaten ++ rest)
-    pub ahead : v.beaten_from ≤ v.from
-    pub queued : v.waits ≡ 1 → (served ≤ v.ticket) × (v.ticket < drawn)
-    pub held : v.holds ≡ true → (v.waits ≡ 1) × (v.ticket ≡ served) × (v.taken ≡ log) × (v.taken_from ≡ from)
-    pub lone : v.lone ≡ true → (v.log ≡ log) × (v.from ≡ from)
+  -- what a seat knows fits the history, the number served and the next ticket
+  pub record Fits (terms : Terms M) (h : History E) (served drawn : ℕ) (s : SeatView M E R) : Type 0 where
+    pub terms_are : s.view.terms ≡ terms
+    pub sound : IsSound s.view
+    pub extends : Extends s.view.history h
+    pub joined : Extends s.joined s.view.history
+    pub queued : tickets_of s.stage ≡ 1 → (served ≤ ticket_of s.stage) × (ticket_of s.stage < drawn)
+    pub held : holds_book s.stage ≡ true → (ticket_of s.stage ≡ served) × (taken_of s.stage ≡ h)
+    pub lone : s.view.lone ≡ true → s.view.history ≡ h
 
   module _ (next : M → E → M) (weight : E → ℕ) where
-    -- the book stands for the history
-    pub record Shows (key : Terms M) (log : List (ℕ × E)) (from : ℕ) (b : Book M E R) : Type 0 where
-      pub stands : Stands next weight b
-      pub limit : b.limit ≡ key.limit
-      pub heaviest : b.heaviest ≡ key.heaviest
-      pub count : b.from ≡ from
-      pub inside : from ≤ length log
-      pub base : b.base ≡ run next key.opening.value (take from log)
-      pub journal : b.journal.items ≡ drop from log
-
-    -- the book stands in its slot, and no view holds it
-    pub record AtHome (key : Terms M) (log : List (ℕ × E)) (from : ℕ) (hs : List (Maybe (Option (Book M E R)))) (vs : List (View M E R)) : Type 0 where
+    -- the book stands in its slot, and no seat has it
+    pub record AtHome (terms : Terms M) (h : History E) (homes : List (Maybe (Option (Book M E R)))) (seats : List (SeatView M E R)) : Type 0 where
       pub book : Book M E R
-      pub there : hs ≡ some (Some book) ∷ []
-      pub shows : Shows key log from book
-      pub free : (i : ℕ) (v : View M E R) → get_elem? vs i ≡ some v → v.holds ≡ false
+      pub there : homes ≡ some (Some book) ∷ []
+      pub stands : StandsFor next weight terms h book
+      pub free : (i : ℕ) (s : SeatView M E R) → Sits seats i s → holds_book s.stage ≡ false
 
-    -- the slot is empty, and a view holds the book
-    pub record IsOut (hs : List (Maybe (Option (Book M E R)))) (vs : List (View M E R)) : Type 0 where
-      pub gone : hs ≡ none ∷ []
+    -- the slot is empty, and a seat has the book
+    pub record IsOut (homes : List (Maybe (Option (Book M E R)))) (seats : List (SeatView M E R)) : Type 0 where
+      pub gone : homes ≡ none ∷ []
       pub seat : ℕ
-      pub holder : View M E R
-      pub sits : get_elem? vs seat ≡ some holder
-      pub holds : holder.holds ≡ true
+      pub holder : SeatView M E R
+      pub sits : Sits seats seat holder
+      pub holds : holds_book holder.stage ≡ true
 
     -- what holds of the table between any two steps
-    pub record Kept (key : Terms M) (ws : List ℕ) (hs : List (Maybe (Option (Book M E R)))) (vs : List (View M E R)) : Type 0 where
-      -- all entries since the opening state, how many of them are in the base, how many turns were passed on and how many tickets drawn
-      pub log : List (ℕ × E)
-      pub from : ℕ
+    pub record IsInTurn (terms : Terms M) (words : List ℕ) (homes : List (Maybe (Option (Book M E R)))) (seats : List (SeatView M E R)) : Type 0 where
+      -- there is one history, and so many turns were passed on and so many tickets drawn
+      pub history : History E
       pub served : ℕ
       pub drawn : ℕ
-      pub words : ws ≡ served % 2 ^ 64 ∷ drawn % 2 ^ 64 ∷ []
-      pub desk : AtHome key log from hs vs ⊎ IsOut hs vs
-      -- each part is some view's, and a view without parts has no ticket and no place
-      pub parts : total (λ (v : View M E R). v.parts) vs ≡ 2 ^ 64 - 1
-      pub few : (i : ℕ) (v : View M E R) → get_elem? vs i ≡ some v → v.waits ≤ 1 × v.waits ≤ v.parts
-      pub spent : (i : ℕ) (v : View M E R) → get_elem? vs i ≡ some v → v.parts ≡ 0 → (v.mine ≡ []) × (v.holds ≡ false)
-      -- each ticket that is out is some view's
-      pub tickets : total (λ (v : View M E R). v.waits) vs + served ≡ drawn
-      pub apart : (i j : ℕ) (v w : View M E R) → get_elem? vs i ≡ some v → get_elem? vs j ≡ some w → v.waits ≡ 1 → w.waits ≡ 1 → v.ticket ≡ w.ticket → i ≡ j
-      -- each place of the history is in the list of one view
-      pub places : (x : ℕ) → total (λ (v : View M E R). times x v.mine) vs ≡ once_below x (length log)
-      pub fit : (i : ℕ) (v : View M E R) → get_elem? vs i ≡ some v → 0 < v.parts → Fits key log from served drawn v
-      -- of each two views one carries on the other
-      pub ordered : (i j : ℕ) (v w : View M E R) → get_elem? vs i ≡ some v → get_elem? vs j ≡ some w → 0 < v.parts → 0 < w.parts → Ordered v w
-      pub alone : (i : ℕ) (v : View M E R) → get_elem? vs i ≡ some v → v.lone ≡ true → length vs ≡ 1
+      pub words_are : words ≡ served % 2 ^ 64 ∷ drawn % 2 ^ 64 ∷ []
+      pub slot : AtHome terms history homes seats ⊎ IsOut homes seats
+      -- each part is some seat's, a ticket needs a part, and a seat without parts has neither a place nor the book
+      pub parts : sum_by (λ (s : SeatView M E R). s.parts) seats ≡ 2 ^ 64 - 1
+      pub enough : (i : ℕ) (s : SeatView M E R) → Sits seats i s → tickets_of s.stage ≤ s.parts
+      pub spent : (i : ℕ) (s : SeatView M E R) → Sits seats i s → s.parts ≡ 0 → (s.view.mine ≡ []) × (holds_book s.stage ≡ false)
+      -- each ticket that is out is one seat's
+      pub tickets : sum_by (λ (s : SeatView M E R). tickets_of s.stage) seats + served ≡ drawn
+      pub apart : (i j : ℕ) (s u : SeatView M E R) → Sits seats i s → Sits seats j u → tickets_of s.stage ≡ 1 → tickets_of u.stage ≡ 1 → ticket_of s.stage ≡ ticket_of u.stage → i ≡ j
+      -- each place of the history is in the list of one seat
+      pub places : (x : ℕ) → sum_by (λ (s : SeatView M E R). times x s.view.mine) seats ≡ once_below x (length history.log)
+      pub fit : (i : ℕ) (s : SeatView M E R) → Sits seats i s → 0 < s.parts → Fits terms history served drawn s
+      -- of each two seats that are not spent one has seen what the other has seen
+      pub ordered : (i j : ℕ) (s u : SeatView M E R) → Sits seats i s → Sits seats j u → 0 < s.parts → 0 < u.parts → Ordered s.view.history u.view.history
+      pub alone : (i : ℕ) (s : SeatView M E R) → Sits seats i s → s.view.lone ≡ true → length seats ≡ 1
 
-    -- the rule, of a table
-    abbrev pub Keeps : Terms M → State (Option (Book M E R)) (View M E R) → Type 0
-    Keeps key s = Kept key s.words s.homes s.views
+    -- the rule of a table
+    abbrev pub Keeps : Terms M → State (Option (Book M E R)) (SeatView M E R) → Type 0
+    Keeps terms t = IsInTurn terms t.words t.homes t.views

@@ -1,26 +1,27 @@
 //! The calls of a hall.
-ghost use Rattle.std.specs.Prelude.{◌≡◌, ℕ, ◌+◌, ◌*◌, ◌^◌, ◌<◌, ◌≤◌, List, true, false, [], ◌∷◌, ◌++◌, length, IfOk, OnErr};
-ghost use Rattle.ifmap_hall.specs.Runs.{CarriesOn, end_of, run};
-ghost use Rattle.ifmap_hall.specs.Shelves.{sight_of, Stands};
-ghost use Rattle.ifmap_hall.specs.Counts.{times, Rises};
-ghost use Rattle.ifmap_hall.specs.Views.{seen_by, first_view, split_from, split_off, joined, share};
-ghost use Rattle.ifmap_hall.specs.Plays.{Takes};
-ghost use Rattle.ifmap_hall.specs.Asking.{TookATurn, Entered, Answered};
-ghost use Rattle.ifmap_hall.specs.Passes.{IsOf, view_of};
+ghost use Rattle.std.specs.Prelude.{◌≡◌, ℕ, ◌+◌, ◌*◌, ◌^◌, ◌<◌, ◌≤◌, true, [], IfOk, OnErr};
+ghost use Rattle.ifmap_hall.specs.Books.{sight_of, IsBook};
+ghost use Rattle.ifmap_hall.specs.Histories.{Extends, StandsFor};
+ghost use Rattle.ifmap_hall.specs.Sights.{CarriesOn};
+ghost use Rattle.ifmap_hall.specs.Places.{times};
+ghost use Rattle.ifmap_hall.specs.SeatViews.{share};
+ghost use Rattle.ifmap_hall.specs.Views.{first_view, kept_view, given_view, joint_view, sight_by, IsSound};
+ghost use Rattle.ifmap_hall.specs.Asking.{TookATurn, Answered, AnsweredFromBase};
+ghost use Rattle.ifmap_hall.specs.Passes.{IsOf, view_of, number_of};
 
 use crate::asking::{ask_seat, await_turn};
 use crate::book::{Asked, Book};
 use crate::hall::{Hall, Pass};
 use crate::machine::Machine;
-use crate::rule::InTurn;
 use crate::steps::{check, cut, draw, glue};
-use crate::view::{Terms, View};
+use crate::view::{History, Terms};
 use atomic_table::Table;
-use std::alloc::{AllocError, Global};
+use std::alloc::{AllocError as NoMemory, Global};
 use std::collections::VecDeque;
 use std::snapshot::Snapshot;
 use std::sync::Wait;
 
+// How many of its parts a pass gives to one that is split from it.
 fn share_of(parts: u64) -> u64
     ensures { result ≡ share parts }
 {
@@ -32,21 +33,22 @@ where
     M::Event: Drop,
     M::Reply: Drop,
 {
-    /// A hall with an empty journal, and the one pass of it.
+    /// A hall with no entry yet, and its first pass. Its two machines must be in one state, the
+    /// opening state; twice the heaviest weight must be at most the limit, both in bytes.
     pub fn begin(
         alloc: Global,
         machine: M,
         base: M,
         limit: u64,
         heaviest: u64,
-    ) -> Result<(Hall<M>, Pass<M>), AllocError>
+    ) -> Result<(Hall<M>, Pass<M>), NoMemory>
         requires same { machine ≡ base }
         requires room { 2 * heaviest ≤ limit }
         ensures hall { IfOk result (λ r. IsOf r.0 r.1) }
-        ensures opening { IfOk result (λ r. (view_of r.1).opening ≡ base) }
-        ensures limits { IfOk result (λ r. ((view_of r.1).limit ≡ limit) × ((view_of r.1).heaviest ≡ heaviest)) }
-        ensures empty { IfOk result (λ r. ((view_of r.1).log ≡ []) × ((view_of r.1).from ≡ 0) × ((view_of r.1).mine ≡ []) × ((view_of r.1).said ≡ []) × ((view_of r.1).turns ≡ 0)) }
-        ensures lone { IfOk result (λ r. (view_of r.1).lone ≡ true) }
+        ensures view { IfOk result (λ r. view_of r.1 ≡ first_view (view_of r.1).terms) }
+        ensures opening { IfOk result (λ r. (view_of r.1).terms.opening.value ≡ base) }
+        ensures limit { IfOk result (λ r. (view_of r.1).terms.limit ≡ limit) }
+        ensures heaviest { IfOk result (λ r. (view_of r.1).terms.heaviest ≡ heaviest) }
     {
         let terms = Terms {
             opening: Snapshot::of(&base),
@@ -64,7 +66,7 @@ where
             heaviest,
         }))?;
         let Ok((table, seat)) = Table::new(alloc, &[0, 0], slots, &terms) else {
-            return Err(AllocError);
+            return Err(NoMemory);
         };
         Ok((
             Hall { table },
@@ -77,16 +79,20 @@ where
         ))
     }
 
-    /// Another pass, which has seen the same.
-    pub fn split(&self, pass: &mut Pass<M>) -> Result<Pass<M>, AllocError>
+    /// Another pass of this hall, which has seen the same and has asked nothing. `Err` comes where
+    /// the pass has no part left to give, after more than two million splits of one pass or some
+    /// four levels of splits of splits, and leaves it as it was.
+    pub fn split(&self, pass: &mut Pass<M>) -> Result<Pass<M>, NoMemory>
         requires hall { IsOf self.now pass.old }
         ensures hall { IsOf self.now pass.new }
-        ensures left { IfOk result (λ _. view_of pass.new ≡ split_from (view_of pass.old)) }
-        ensures right { IfOk result (λ p. IsOf self.now p × (view_of p ≡ split_off (view_of pass.old))) }
+        ensures number { number_of pass.new ≡ number_of pass.old }
+        ensures kept { IfOk result (λ _. view_of pass.new ≡ kept_view (view_of pass.old)) }
+        ensures given { IfOk result (λ p. view_of p ≡ given_view (view_of pass.old)) }
+        ensures given_hall { IfOk result (λ p. IsOf self.now p) }
         ensures err { OnErr result (view_of pass.new ≡ view_of pass.old) }
     {
         if pass.parts < 2 {
-            return Err(AllocError);
+            return Err(NoMemory);
         }
         let parts = share_of(pass.parts);
         let seat = cut(&self.table.shared, &mut pass.seat);
@@ -101,14 +107,19 @@ where
         })
     }
 
-    /// Takes another pass in.
+    /// Joins another pass of this hall to this one. The history is then that of the one of the two
+    /// that carries on the other, and the places are those of both, which have none in common.
     pub fn join(&self, into: &mut Pass<M>, from: Pass<M>)
         requires hall { IsOf self.now into.old × IsOf self.now from }
         ensures hall { IsOf self.now into.new }
-        ensures both { view_of into.new ≡ joined (view_of into.old) (view_of from) }
-        ensures carries { CarriesOn M.next (seen_by M.next (view_of into.old)) (seen_by M.next (view_of into.new)) × CarriesOn M.next (seen_by M.next (view_of from)) (seen_by M.next (view_of into.new)) }
+        ensures number { number_of into.new ≡ number_of into.old }
+        ensures view { view_of into.new ≡ joint_view (view_of into.old) (view_of from) }
+        ensures carries_this { CarriesOn M.next
+            (sight_by M.next (view_of into.old)) (sight_by M.next (view_of into.new)) }
+        ensures carries_other { CarriesOn M.next
+            (sight_by M.next (view_of from)) (sight_by M.next (view_of into.new)) }
         ensures apart { (x : ℕ) → times x (view_of into.old).mine + times x (view_of from).mine ≤ 1 }
-        ensures rises { Rises 0 (view_of into.new).mine (length (view_of into.new).log) }
+        ensures sound { IsSound (view_of into.new) }
     {
         let Pass {
             seat,
@@ -121,7 +132,8 @@ where
         into.parts = into.parts.saturating_add(parts);
     }
 
-    /// Asks in turn.
+    /// Asks the book in turn, and may wait for it. What the pass has seen is afterwards all that the
+    /// book has seen. The answer is that of `Book::turn` on the book as the turn found it.
     pub fn ask<R: Wait>(
         &self,
         rt: &R,
@@ -130,22 +142,31 @@ where
         event: M::Event,
     ) -> Asked<M::Event, M::Reply>
         requires hall { IsOf self.now pass.old }
-        requires light { M.weight_of event ≤ (view_of pass.old).heaviest }
-        ensures hall { IsOf self.now pass.new × (pass.new.number ≡ pass.old.number) }
-        ensures carries { CarriesOn M.next (seen_by M.next (view_of pass.old)) (seen_by M.next (view_of pass.new)) }
+        requires light { M.weight_of event ≤ (view_of pass.old).terms.heaviest }
+        ensures hall { IsOf self.now pass.new }
+        ensures number { number_of pass.new ≡ number_of pass.old }
+        ensures carries { CarriesOn M.next
+            (sight_by M.next (view_of pass.old)) (sight_by M.next (view_of pass.new)) }
         ensures took { TookATurn (view_of pass.old) (view_of pass.new) }
-        ensures answered { Answered M.next M.holds_on M.reply (view_of pass.old) (view_of pass.new) pass.old.number event result }
+        ensures answered { Answered M.next M.holds_on M.reply
+            (view_of pass.old) (view_of pass.new) (number_of pass.old) event result }
+        ensures from_base { AnsweredFromBase M.next M.holds_on M.reply
+            (sight_by M.next (view_of pass.new)) (number_of pass.old) event result }
     {
         let number = pass.number;
         ask_seat(rt, &self.table.shared, alloc, &mut pass.seat, number, event)
     }
 
-    /// Takes the book out for good.
+    /// Takes the book out in turn, and ends the hall. It may wait. Another pass that was not joined
+    /// can ask nothing any more.
     pub fn close<R: Wait>(self, rt: &R, pass: Pass<M>) -> Book<M>
         requires hall { IsOf self pass }
-        ensures carries { CarriesOn M.next (seen_by M.next (view_of pass)) (sight_of result) }
-        ensures book { Stands M.next M.weight_of result × (result.limit ≡ (view_of pass).limit) × (result.heaviest ≡ (view_of pass).heaviest) }
-        ensures whole { (log : List (ℕ × M.Event)) × (from : ℕ) × Takes M.next M.weight_of (view_of pass) log from result }
+        ensures carries { CarriesOn M.next (sight_by M.next (view_of pass)) (sight_of result) }
+        ensures book { IsBook M.next M.weight_of result }
+        ensures limit { result.limit ≡ (view_of pass).terms.limit }
+        ensures heaviest { result.heaviest ≡ (view_of pass).terms.heaviest }
+        ensures whole { (h : History M.Event) × Extends (view_of pass).history h
+            × StandsFor M.next M.weight_of (view_of pass).terms h result }
     {
         let Hall { table } = self;
         let Pass {
@@ -162,11 +183,3 @@ where
         book
     }
 }
-
-/// The reply at an entry is the machine's after the entries that were seen before it, run from the base.
-pub fn replies_from_base<M: Machine>()
-    ensures { (v w : View M M.Event M.Reply) (number : ℕ) (event : M.Event) (place : ℕ) (r : M.Reply) → w.opening ≡ v.opening
-        → Entered M.next M.holds_on M.reply v w number event place r
-        → (before : List (ℕ × M.Event)) × ((seen_by M.next w).seen ≡ before ++ (number, event) ∷ []) × (end_of (seen_by M.next w) ≡ place + 1)
-        × (M.holds_on (run M.next (seen_by M.next w).base before) event ≡ false) × (r ≡ M.reply (run M.next (seen_by M.next w).base before) event) }
-{}

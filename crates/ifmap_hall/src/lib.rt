@@ -1,4 +1,5 @@
-//! One book in one slot, asked by many threads in turn.
+//! One history for many callers: a machine, the book of what it was asked, and a hall in which
+//! passes ask the one book in turn. It is generic over the machine.
 #![tactic(auto)]
 
 mod asking;
@@ -11,8 +12,8 @@ mod rule;
 mod steps;
 mod view;
 
-pub use crate::book::{Asked, Book};
-pub use calls::replies_from_base;
+pub use book::{Asked, Book};
 pub use carrying::{carries_itself, carries_through};
 pub use hall::{Hall, Pass};
 pub use machine::Machine;
+pub use view::{History, Terms, View};

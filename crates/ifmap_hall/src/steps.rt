@@ -1,85 +1,89 @@
-//! The seven steps.
-ghost use Rattle.std.specs.Prelude.{◌≡◌, ◌≢◌, ◌⊎◌, ℕ, List, ◌+◌, ◌%◌, ◌^◌, ◌<◌, ◌≤◌, true, false, [], ◌∷◌, ◌++◌, length, take, Some};
-ghost use Rattle.ifmap_hall.specs.Views.{waiting, split_from, split_off, joined};
-ghost use Rattle.ifmap_hall.specs.Plays.{Served, Brings, WentOn, IsSound};
+//! The steps on a hall's table.
+ghost use Rattle.std.specs.Prelude.{◌≡◌, ◌≢◌, ℕ, ◌+◌, ◌%◌, ◌^◌, ◌<◌, ◌≤◌, [], ◌∷◌, ◌++◌, length};
+ghost use Rattle.ifmap_hall.specs.SeatViews.{with_ticket, kept_seat, given_seat, joint_seat};
+ghost use Rattle.ifmap_hall.specs.SeatViews.{ticket_of, IsAtRest, IsWaiting, HoldsBook, IsSoundSeat};
+ghost use Rattle.ifmap_hall.specs.Plays.{Served, Brings, WentOn};
 
 use crate::book::Book;
 use crate::machine::Machine;
 use crate::rule::{Check, Cut, Draw, Glue, InTurn, Look, PassOn};
-use crate::view::{Terms, View};
+use crate::view::{SeatView, Terms};
 use atomic_table::{Seat, Shared};
 
-pub(crate) type Board<M> = Shared<Option<Book<M>>, View<M>, Terms<M>, InTurn<M>>;
+// The table as passes see it.
+pub(crate) type HallTable<M> = Shared<Option<Book<M>>, SeatView<M>, Terms<M>, InTurn<M>>;
 
-pub(crate) type Place<M> = Seat<Option<Book<M>>, View<M>>;
+// The seat of a pass.
+pub(crate) type HallSeat<M> = Seat<Option<Book<M>>, SeatView<M>>;
 
-/// Draws a ticket.
-pub(crate) fn draw<M: Machine>(board: &Board<M>, seat: &mut Place<M>) -> u64
-    requires own { seat.old.table_id ≡ board.now.table_id }
-    requires words { board.now.table_id.words ≡ 2 }
-    requires idle { (0 < seat.old.me.0.parts) × (seat.old.me.0.waits ≡ 0) × (seat.old.me.0.holds ≡ false) × (seat.old.me.1 ≡ []) }
+// Draws a ticket.
+pub(crate) fn draw<M: Machine>(table: &HallTable<M>, seat: &mut HallSeat<M>) -> u64
+    requires own { seat.old.table_id ≡ table.now.table_id }
+    requires words { table.now.table_id.words ≡ 2 }
+    requires idle { IsAtRest seat.old.me }
     ensures own { (seat.new.table_id ≡ seat.old.table_id) × (seat.new.id ≡ seat.old.id) }
-    ensures ticket { (t : ℕ) × (result ≡ t % 2 ^ 64) × (seat.new.me ≡ (waiting seat.old.me.0 t, [])) }
+    ensures ticket { (t : ℕ) × (result ≡ t % 2 ^ 64) × (seat.new.me ≡ (with_ticket seat.old.me.0 t, [])) }
 {
-    board.fetch_add::<Draw>(seat, 1, 1)
+    table.fetch_add::<Draw>(seat, 1, 1)
 }
 
-/// Looks whether the ticket is served, and takes the book if it is.
-pub(crate) fn look<M: Machine>(board: &Board<M>, seat: &mut Place<M>) -> u64
-    requires own { seat.old.table_id ≡ board.now.table_id }
-    requires words { board.now.table_id.words ≡ 2 }
-    requires waits { (0 < seat.old.me.0.parts) × (seat.old.me.0.waits ≡ 1) × (seat.old.me.0.holds ≡ false) × (seat.old.me.1 ≡ []) }
+// Looks whether the ticket is served, and takes the book if it is.
+pub(crate) fn look<M: Machine>(table: &HallTable<M>, seat: &mut HallSeat<M>) -> u64
+    requires own { seat.old.table_id ≡ table.now.table_id }
+    requires words { table.now.table_id.words ≡ 2 }
+    requires waits { IsWaiting seat.old.me }
     ensures own { (seat.new.table_id ≡ seat.old.table_id) × (seat.new.id ≡ seat.old.id) }
-    ensures served { result ≡ seat.old.me.0.ticket % 2 ^ 64 → Served M.next M.weight_of seat.old.me.0 seat.new.me }
-    ensures not_yet { result ≢ seat.old.me.0.ticket % 2 ^ 64 → seat.new.me ≡ (seat.old.me.0, []) }
+    ensures served { result ≡ ticket_of seat.old.me.0.stage % 2 ^ 64
+        → Served M.next M.weight_of seat.old.me.0 seat.new.me }
+    ensures not_yet { result ≢ ticket_of seat.old.me.0.stage % 2 ^ 64
+        → seat.new.me ≡ seat.old.me }
 {
-    board.load::<Look>(seat, 0)
+    table.load::<Look>(seat, 0)
 }
 
-/// Gives the book back and passes the turn on.
-pub(crate) fn pass_on<M: Machine>(board: &Board<M>, seat: &mut Place<M>)
-    requires own { seat.old.table_id ≡ board.now.table_id }
-    requires words { board.now.table_id.words ≡ 2 }
-    requires holds { (0 < seat.old.me.0.parts) × (seat.old.me.0.holds ≡ true) }
+// Passes the turn on, and with it the book.
+pub(crate) fn pass_on<M: Machine>(table: &HallTable<M>, seat: &mut HallSeat<M>)
+    requires own { seat.old.table_id ≡ table.now.table_id }
+    requires words { table.now.table_id.words ≡ 2 }
+    requires holds { HoldsBook seat.old.me.0 }
     requires book { Brings M.next M.weight_of seat.old.me }
     ensures own { (seat.new.table_id ≡ seat.old.table_id) × (seat.new.id ≡ seat.old.id) }
     ensures passed { WentOn M.next M.reply seat.old.me seat.new.me }
 {
-    board.fetch_add::<PassOn>(seat, 0, 1);
+    table.fetch_add::<PassOn>(seat, 0, 1);
 }
 
-/// Cuts a view in two.
-pub(crate) fn cut<M: Machine>(board: &Board<M>, seat: &mut Place<M>) -> Place<M>
-    requires own { seat.old.table_id ≡ board.now.table_id }
-    requires words { board.now.table_id.words ≡ 2 }
-    requires idle { (1 < seat.old.me.0.parts) × (seat.old.me.0.waits ≡ 0) × (seat.old.me.0.holds ≡ false) × (seat.old.me.1 ≡ []) }
+// Splits a seat in two.
+pub(crate) fn cut<M: Machine>(table: &HallTable<M>, seat: &mut HallSeat<M>) -> HallSeat<M>
+    requires own { seat.old.table_id ≡ table.now.table_id }
+    requires words { table.now.table_id.words ≡ 2 }
+    requires idle { IsAtRest seat.old.me × (1 < seat.old.me.0.parts) }
     ensures own { (seat.new.table_id ≡ seat.old.table_id) × (result.table_id ≡ seat.old.table_id) }
-    ensures left { seat.new.me ≡ (split_from seat.old.me.0, []) }
-    ensures right { result.me ≡ (split_off seat.old.me.0, []) }
+    ensures kept { seat.new.me ≡ (kept_seat seat.old.me.0, []) }
+    ensures given { result.me ≡ (given_seat seat.old.me.0, []) }
 {
-    board.split_seat::<Cut>(seat)
+    table.split_seat::<Cut>(seat)
 }
 
-/// Takes another seat in.
-pub(crate) fn glue<M: Machine>(board: &Board<M>, seat: &mut Place<M>, other: Place<M>)
-    requires own { (seat.old.table_id ≡ board.now.table_id) × (other.table_id ≡ board.now.table_id) }
-    requires words { board.now.table_id.words ≡ 2 }
-    requires idle { (0 < seat.old.me.0.parts) × (seat.old.me.0.waits ≡ 0) × (seat.old.me.0.holds ≡ false) × (seat.old.me.1 ≡ []) }
-    requires other { (0 < other.me.0.parts) × (other.me.0.waits ≡ 0) × (other.me.0.holds ≡ false) × (other.me.1 ≡ []) }
+// Joins another seat to this one.
+pub(crate) fn glue<M: Machine>(table: &HallTable<M>, seat: &mut HallSeat<M>, other: HallSeat<M>)
+    requires own { (seat.old.table_id ≡ table.now.table_id) × (other.table_id ≡ table.now.table_id) }
+    requires words { table.now.table_id.words ≡ 2 }
+    requires idle { IsAtRest seat.old.me × IsAtRest other.me }
     ensures own { seat.new.table_id ≡ seat.old.table_id }
-    ensures both { seat.new.me ≡ (joined seat.old.me.0 other.me.0, []) }
+    ensures both { seat.new.me ≡ (joint_seat seat.old.me.0 other.me.0, []) }
 {
-    board.join_seat::<Glue>(seat, other);
+    table.join_seat::<Glue>(seat, other);
 }
 
-/// Looks without a ticket.
-pub(crate) fn check<M: Machine>(board: &Board<M>, seat: &mut Place<M>)
-    requires own { seat.old.table_id ≡ board.now.table_id }
-    requires words { board.now.table_id.words ≡ 2 }
-    requires idle { (0 < seat.old.me.0.parts) × (seat.old.me.1 ≡ []) }
+// Looks without a ticket, which tells what the rule says of each seat.
+pub(crate) fn check<M: Machine>(table: &HallTable<M>, seat: &mut HallSeat<M>)
+    requires own { seat.old.table_id ≡ table.now.table_id }
+    requires words { table.now.table_id.words ≡ 2 }
+    requires idle { IsAtRest seat.old.me }
     ensures own { (seat.new.table_id ≡ seat.old.table_id) × (seat.new.id ≡ seat.old.id) }
-    ensures same { seat.new.me ≡ (seat.old.me.0, []) }
-    ensures sound { IsSound seat.old.me.0 }
+    ensures same { seat.new.me ≡ seat.old.me }
+    ensures sound { IsSoundSeat seat.old.me.0 }
 {
-    board.load::<Check>(seat, 0);
+    table.load::<Check>(seat, 0);
 }

@@ -5,8 +5,11 @@ use Rattle.ifmap_hall.proofs.Drawing.{checks}
 use Rattle.ifmap_hall.proofs.steps.check.Goals as goal
 
 pub load-requires : goal.load-requires
-load-requires g c = (
-  c.requires.own,
-  omega (arith, c.requires.words),
-  rw c.requires.idle.1 (checks g.M.Machine.next g.M.Machine.weight_of c.args.board.now.key c.args.board.now.table_id.slots c.args.seat.now.id c.args.seat.now.me.0 (step c.args.board.now.table_id.slots 0 0 0 none) c.requires.idle.0),
-)
+load-requires g c =
+    let t = c.args.table.now in
+    let s = c.args.seat.now in
+    let r = c.requires.idle in (
+      c.requires.own,
+      omega (arith, c.requires.words),
+      rw r.slots (checks g.M.Machine.next g.M.Machine.weight_of t.key t.table_id.slots s.id s.me.0 (step t.table_id.slots 0 0 0 none) r.part),
+    )

@@ -4,11 +4,13 @@ use Rattle.ifmap_hall.proofs.steps.glue.Goals as goal
 
 pub join_seat-requires : goal.join_seat-requires
 join_seat-requires g c =
-    let i = c.requires.idle in
-    let o = c.requires.other in (
+    let s = c.args.seat.now in
+    let o = c.args.other in
+    let r = c.requires.idle.0 in
+    let q = c.requires.idle.1 in (
       c.requires.own.0,
       c.requires.own.1,
-      o.3,
+      q.slots,
       omega (arith, c.requires.words),
-      joins g.M.Machine.next g.M.Machine.weight_of g.M.Machine.some_state c.args.board.now.key c.args.seat.now.id c.args.other.id c.args.seat.now.me.0 c.args.other.me.0 i.0 o.0 i.1 o.1 i.2 o.2,
+      joins g.M.Machine.next g.M.Machine.weight_of g.M.Machine.some_state c.args.table.now.key s.id o.id s.me.0 o.me.0 r.part q.part r.idle q.idle,
     )

@@ -5,8 +5,11 @@ use Rattle.ifmap_hall.proofs.Drawing.{looks}
 use Rattle.ifmap_hall.proofs.steps.look.Goals as goal
 
 pub load-requires : goal.load-requires
-load-requires g c = (
-  c.requires.own,
-  omega (arith, c.requires.words),
-  rw c.requires.waits.3 (looks g.M.Machine.next g.M.Machine.weight_of c.args.board.now.key c.args.board.now.table_id.slots c.args.seat.now.id c.args.seat.now.me.0 (step c.args.board.now.table_id.slots 0 0 0 none) c.requires.waits.0 c.requires.waits.1 c.requires.waits.2),
-)
+load-requires g c =
+    let t = c.args.table.now in
+    let s = c.args.seat.now in
+    let r = c.requires.waits in (
+      c.requires.own,
+      omega (arith, c.requires.words),
+      rw r.slots (looks g.M.Machine.next g.M.Machine.weight_of t.key t.table_id.slots s.id s.me.0 (step t.table_id.slots 0 0 0 none) r.part r.waits),
+    )

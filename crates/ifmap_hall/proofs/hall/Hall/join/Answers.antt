@@ -1,20 +1,31 @@
-use Rattle.std.proofs.Common.{◌∙◌, ap, sym, subst}
-use Rattle.ifmap_hall.specs.Runs.{CarriesOn}
-use Rattle.ifmap_hall.specs.Plays.{IsSound}
-use Rattle.ifmap_hall.specs.Views.{seen_by}
-use Rattle.ifmap_hall.proofs.Sights.{joined_carries, joined_apart}
+use Rattle.std.proofs.Common.{◌∙◌, sym, subst}
+use Rattle.ifmap_hall.specs.SeatViews.{IsSoundSeat}
+use Rattle.ifmap_hall.specs.Sights.{CarriesOn}
+use Rattle.ifmap_hall.specs.Views.{IsSound, sight_by}
+use Rattle.ifmap_hall.proofs.Sighting.{joint_carries, joint_apart}
 use Rattle.ifmap_hall.proofs.hall.Hall.join.Goals as goal
 
-pub returns-clause-carries : goal.returns-clause-carries
-returns-clause-carries g c =
+pub returns-clause-carries_this : goal.returns-clause-carries_this
+returns-clause-carries_this g c =
     let next = g.M.Machine.next in
-    let v = c.args.into.now.seat.me.0 in
-    let w = c.args.from.seat.me.0 in
-    let both = ap (λ m. m.0) c.glue.ensures.both in
-    let same = ap (λ m. m.0) c.check.ensures.same ∙ both in
-    let sound = subst IsSound both c.check.ensures.sound in
-    subst (λ u. CarriesOn next (seen_by next v) (seen_by next u) × CarriesOn next (seen_by next w) (seen_by next u)) (sym same)
-    (joined_carries next v w (c.requires.hall.0.opening ∙ sym c.requires.hall.1.opening) c.args.into.now.rests.5 c.args.from.rests.5 sound)
+    let s = c.args.into.now.seat.me.0 in
+    let u = c.args.from.seat.me.0 in
+    let sound = subst (λ m. IsSoundSeat m.0) c.glue.ensures.both c.check.ensures.sound in
+    subst (λ m. CarriesOn next (sight_by next s.view) (sight_by next m.0.view)) (sym (c.check.ensures.same ∙ c.glue.ensures.both))
+    (joint_carries next s u (c.requires.hall.0.terms ∙ sym c.requires.hall.1.terms) c.args.into.now.inside c.args.from.inside sound).0
+
+pub returns-clause-carries_other : goal.returns-clause-carries_other
+returns-clause-carries_other g c =
+    let next = g.M.Machine.next in
+    let s = c.args.into.now.seat.me.0 in
+    let u = c.args.from.seat.me.0 in
+    let sound = subst (λ m. IsSoundSeat m.0) c.glue.ensures.both c.check.ensures.sound in
+    subst (λ m. CarriesOn next (sight_by next u.view) (sight_by next m.0.view)) (sym (c.check.ensures.same ∙ c.glue.ensures.both))
+    (joint_carries next s u (c.requires.hall.0.terms ∙ sym c.requires.hall.1.terms) c.args.into.now.inside c.args.from.inside sound).1
 
 pub returns-clause-apart : goal.returns-clause-apart
-returns-clause-apart g c = joined_apart g.M.Machine.next c.args.into.now.seat.me.0 c.args.from.seat.me.0 (subst IsSound (ap (λ m. m.0) c.glue.ensures.both) c.check.ensures.sound)
+returns-clause-apart g c =
+    joint_apart g.M.Machine.next c.args.into.now.seat.me.0 c.args.from.seat.me.0 (subst (λ m. IsSoundSeat m.0) c.glue.ensures.both c.check.ensures.sound)
+
+pub returns-clause-sound : goal.returns-clause-sound
+returns-clause-sound g c = subst (λ m. IsSound m.0.view) (sym c.check.ensures.same) c.check.ensures.sound.view
