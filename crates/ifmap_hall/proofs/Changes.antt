@@ -1,12 +1,12 @@
 -- A step of one seat keeps the rule. `Goes` says how what the seat knows changes while the history, the number served and the
 -- next ticket go on; `seat_goes` turns it into the rule after the step, field by field, by cases on whether a seat is this one.
 use Rattle.std.proofs.Common.{◌≡◌, ◌≢◌, ◌⊎◌, ℕ, ◌+◌, ◌%◌, ◌^◌, ◌<◌, ◌≤◌, List, [], ◌∷◌, length, set, true, sym, ap, subst, ◌∙◌, inl, inr, arith, length-set}
-use mathlib.Core.Option.{Option as Maybe}
+use mathlib.Core.Option.{}
 use Rattle.std.specs.Prelude.{Option}
 use Rattle.atomic_table.proofs.Lists.{at_set}
 use Rattle.ifmap_hall.specs.Histories.{Extends, Ordered}
 use Rattle.ifmap_hall.specs.Places.{times, once_below}
-use Rattle.ifmap_hall.specs.Rule.{Sits, Fits, AtHome, IsOut, IsInTurn}
+use Rattle.ifmap_hall.specs.Rule.{Homes, Sits, Fits, AtHome, IsOut, IsInTurn}
 use Rattle.ifmap_hall.specs.SeatViews.{tickets_of, ticket_of, holds_book}
 use Rattle.ifmap_hall.specs.declared.book.Book.{Book}
 use Rattle.ifmap_hall.specs.declared.view.History.{History}
@@ -30,7 +30,7 @@ module _ {E : Type 0} where
 
 module _ {M E R : Type 0} (next : M → E → M) (weight : E → ℕ) where
   -- one seat goes from s to u
-  pub record Goes (terms : Terms M) (words : List ℕ) (homes : List (Maybe (Option (Book M E R)))) (seats : List (SeatView M E R)) (k : IsInTurn next weight terms words homes seats)
+  pub record Goes (terms : Terms M) (words : List ℕ) (homes : Homes M E R) (seats : List (SeatView M E R)) (k : IsInTurn next weight terms words homes seats)
       (id : ℕ) (s u : SeatView M E R) (history : History E) (served drawn : ℕ) : Type 0 where
     pub sits : Sits seats id s
     pub same : u.parts ≡ s.parts
@@ -47,7 +47,7 @@ module _ {M E R : Type 0} (next : M → E → M) (weight : E → ℕ) where
     pub order : (j : ℕ) (x : SeatView M E R) → j ≢ id → Sits seats j x → 0 < x.parts → Ordered x.view.history u.view.history
     pub alone : u.view.lone ≡ true → s.view.lone ≡ true
 
-  module _ (terms : Terms M) (words : List ℕ) (homes : List (Maybe (Option (Book M E R)))) (seats : List (SeatView M E R)) (k : IsInTurn next weight terms words homes seats)
+  module _ (terms : Terms M) (words : List ℕ) (homes : Homes M E R) (seats : List (SeatView M E R)) (k : IsInTurn next weight terms words homes seats)
       (id : ℕ) (s u : SeatView M E R) (history : History E) (served drawn : ℕ) (g : Goes terms words homes seats k id s u history served drawn) where
     no_other_lone : (j : ℕ) (x : SeatView M E R) → j ≢ id → Sits seats j x → x.view.lone ≡ true → ⊥
     no_other_lone j x n e l =
@@ -66,7 +66,7 @@ module _ {M E R : Type 0} (next : M → E → M) (weight : E → ℕ) where
           lone = λ h. absurd (no_other_lone j x n e h);
         }
 
-    pub seat_goes : (words' : List ℕ) (homes' : List (Maybe (Option (Book M E R)))) → words' ≡ served % 2 ^ 64 ∷ drawn % 2 ^ 64 ∷ []
+    pub seat_goes : (words' : List ℕ) (homes' : Homes M E R) → words' ≡ served % 2 ^ 64 ∷ drawn % 2 ^ 64 ∷ []
         → AtHome next weight terms history homes' (set seats id u) ⊎ IsOut next weight homes' (set seats id u) → IsInTurn next weight terms words' homes' (set seats id u)
     seat_goes words' homes' words_are slot = record {
       history = history;

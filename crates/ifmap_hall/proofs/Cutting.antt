@@ -1,7 +1,7 @@
 -- A seat is split in two. `Place` says where a seat of the new list comes from, and each field of the rule goes by cases on it;
 -- the order of histories goes by `Stems`: each seat of the new list has seen what some old one had.
 use Rattle.std.proofs.Common.{◌≡◌, ◌≢◌, ◌⊎◌, ℕ, ◌-◌, ◌%◌, ◌<◌, ◌≤◌, List, [], ◌∷◌, ◌++◌, set, nat_lt, true, false, refl, sym, ap, subst, ◌∙◌, inl, inr, arith, div-add-mod'}
-use mathlib.Core.Option.{Option as Maybe, some-injective}
+use mathlib.Core.Option.{some-injective}
 use lib.ListN.{get_elem?}
 use Rattle.std.proofs.Math.Nat.{mod-lt}
 use Rattle.std.proofs.lemmas.Bool.Decides.{nat_tests}
@@ -11,7 +11,7 @@ use Rattle.atomic_table.specs.Table.{Splits}
 use Rattle.atomic_table.proofs.Lists.{at_set, set_else, at_snoc, at_longer}
 use Rattle.ifmap_hall.specs.Histories.{Ordered}
 use Rattle.ifmap_hall.specs.Places.{times}
-use Rattle.ifmap_hall.specs.Rule.{Sits, Fits, AtHome, IsOut, IsInTurn, Keeps}
+use Rattle.ifmap_hall.specs.Rule.{Homes, Sits, Fits, AtHome, IsOut, IsInTurn, Keeps}
 use Rattle.ifmap_hall.specs.SeatViews.{share, tickets_of, holds_book, kept_seat, given_seat}
 use Rattle.ifmap_hall.specs.declared.book.Book.{Book}
 use Rattle.ifmap_hall.specs.declared.view.History.{History}
@@ -40,7 +40,7 @@ module _ {M E R : Type 0} (next : M → E → M) (weight : E → ℕ) where
     pub part : 0 < old.parts
     pub seen : old.view.history ≡ x.view.history
 
-  pub stems_ordered : (terms : Terms M) (words : List ℕ) (homes : List (Maybe (Option (Book M E R)))) (seats : List (SeatView M E R)) (k : IsInTurn next weight terms words homes seats)
+  pub stems_ordered : (terms : Terms M) (words : List ℕ) (homes : Homes M E R) (seats : List (SeatView M E R)) (k : IsInTurn next weight terms words homes seats)
       (x y : SeatView M E R) → Stems seats x → Stems seats y → Ordered x.view.history y.view.history
   stems_ordered terms words homes seats k x y a b =
       subst (λ (h : History E). Ordered h y.view.history) a.seen (subst (λ (h : History E). Ordered a.old.view.history h) b.seen
@@ -61,7 +61,7 @@ module _ {M E R : Type 0} (next : M → E → M) (weight : E → ℕ) where
     | inr r ↦ is_given r
   ]
 
-  module _ (terms : Terms M) (words : List ℕ) (homes : List (Maybe (Option (Book M E R)))) (seats : List (SeatView M E R)) (k : IsInTurn next weight terms words homes seats)
+  module _ (terms : Terms M) (words : List ℕ) (homes : Homes M E R) (seats : List (SeatView M E R)) (k : IsInTurn next weight terms words homes seats)
       (id : ℕ) (s : SeatView M E R) (sits : Sits seats id s) (parts : 1 < s.parts) (idle : s.stage ≡ Idle) where
     no_ticket : tickets_of s.stage ≡ 0
     no_ticket = ap tickets_of idle

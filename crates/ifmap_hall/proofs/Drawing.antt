@@ -2,7 +2,7 @@
 -- (`draws`, `looks`, `checks`), over the words that the rule names. Who has the ticket that is served finds the book in its slot
 -- (`finds`), and equal remainders are equal tickets since no more tickets are out than there are parts (`is_served`).
 use Rattle.std.proofs.Common.{◌≡◌, ◌⊎◌, ℕ, ◌+◌, ◌%◌, ◌^◌, ◌<◌, List, [], ◌∷◌, set, slice_index, true, false, refl, sym, ap, subst, ◌∙◌, inl, inr, arith}
-use mathlib.Core.Option.{Option as Maybe, none, some-injective}
+use mathlib.Core.Option.{none, some-injective}
 use native.Mathlib.Nat.{mod-add-mod}
 use native.Mathlib.Decide.{ℕ_discrete}
 use mathlib.Core.Logic.{dite}
@@ -12,7 +12,7 @@ use Rattle.atomic_table.specs.Table.{Step, Act, keeps, takes, Valid, homes_after
 use Rattle.atomic_table.proofs.Lists.{at_set, set_here, set_else, set_again, one_turn}
 use Rattle.ifmap_hall.specs.Histories.{StandsFor}
 use Rattle.ifmap_hall.specs.Plays.{Draws, Looks, Checks}
-use Rattle.ifmap_hall.specs.Rule.{Sits, AtHome, IsOut, IsInTurn, Keeps}
+use Rattle.ifmap_hall.specs.Rule.{Homes, Sits, AtHome, IsOut, IsInTurn, Keeps}
 use Rattle.ifmap_hall.specs.SeatViews.{tickets_of, ticket_of, holds_book, with_ticket, with_book}
 use Rattle.ifmap_hall.specs.declared.book.Book.{Book}
 use Rattle.ifmap_hall.specs.declared.view.History.{History}
@@ -28,7 +28,7 @@ ticket_after n = mod-add-mod n (2 ^ 64) 1
 
 module _ {M E R : Type 0} (next : M → E → M) (weight : E → ℕ) where
   -- the slot, where a seat that has no book changes into one that has none
-  pub same_slot : (terms : Terms M) (h : History E) (id : ℕ) (s u : SeatView M E R) (homes : List (Maybe (Option (Book M E R)))) (seats : List (SeatView M E R))
+  pub same_slot : (terms : Terms M) (h : History E) (id : ℕ) (s u : SeatView M E R) (homes : Homes M E R) (seats : List (SeatView M E R))
       → Sits seats id s → holds_book s.stage ≡ false → holds_book u.stage ≡ false
       → AtHome next weight terms h homes seats ⊎ IsOut next weight homes seats → AtHome next weight terms h homes (set seats id u) ⊎ IsOut next weight homes (set seats id u)
   same_slot terms h id s u homes seats sits hs hu (inl a) = inl (record {
@@ -48,7 +48,7 @@ module _ {M E R : Type 0} (next : M → E → M) (weight : E → ℕ) where
     holds = o.holds;
   })
 
-  module _ (terms : Terms M) (words : List ℕ) (homes : List (Maybe (Option (Book M E R)))) (seats : List (SeatView M E R)) (k : IsInTurn next weight terms words homes seats) where
+  module _ (terms : Terms M) (words : List ℕ) (homes : Homes M E R) (seats : List (SeatView M E R)) (k : IsInTurn next weight terms words homes seats) where
     -- a seat that has a ticket has a part
     pub has_part : (j : ℕ) (x : SeatView M E R) → Sits seats j x → tickets_of x.stage ≡ 1 → 0 < x.parts
     has_part j x e h = let a = k.enough j x e in omega arith
@@ -183,7 +183,7 @@ module _ {M E R : Type 0} (next : M → E → M) (weight : E → ℕ) where
             (look_goes terms t.words t.homes t.views k id s sits part waits here)
             (k.served % 2 ^ 64 ∷ k.drawn % 2 ^ 64 ∷ []) (set t.homes 0 none) refl
             (inr (record {
-              gone = ap (λ (hs : List (Maybe (Option (Book M E R)))). set hs 0 none) a.there;
+              gone = ap (λ (hs : Homes M E R). set hs 0 none) a.there;
               seat = id;
               holder = u;
               sits = set_here t.views id u (at_within t.views id s sits);

@@ -1,14 +1,14 @@
 -- A seat is joined to another. `Place` says where a seat of the new list comes from, and each field of the rule goes by cases on
 -- it. `Joint` is what the joined view is of two, whichever has seen more; `joint_of` makes it in both cases.
 use Rattle.std.proofs.Common.{◌≡◌, ◌≢◌, ◌⊎◌, ℕ, ◌+◌, ◌<◌, ◌≤◌, List, [], length, set, Bool, true, false, cond, refl, sym, ap, subst, ◌∙◌, inl, inr, arith}
-use mathlib.Core.Option.{Option as Maybe, some-injective}
+use mathlib.Core.Option.{some-injective}
 use lib.ListN.{get_elem?}
 use Rattle.std.specs.Prelude.{Option}
 use Rattle.atomic_table.specs.Table.{Joins}
 use Rattle.atomic_table.proofs.Lists.{at_set, set_else}
 use Rattle.ifmap_hall.specs.Histories.{Extends, Ordered}
 use Rattle.ifmap_hall.specs.Places.{times}
-use Rattle.ifmap_hall.specs.Rule.{Sits, Fits, AtHome, IsOut, IsInTurn, Keeps}
+use Rattle.ifmap_hall.specs.Rule.{Homes, Sits, Fits, AtHome, IsOut, IsInTurn, Keeps}
 use Rattle.ifmap_hall.specs.SeatViews.{tickets_of, holds_book, joint_seat, spent_seat}
 use Rattle.ifmap_hall.specs.Views.{is_later}
 use Rattle.ifmap_hall.specs.declared.book.Book.{Book}
@@ -52,7 +52,7 @@ module _ {M E R : Type 0} (next : M → E → M) (weight : E → ℕ) where
     ]
   ]
 
-  module _ (m : M) (terms : Terms M) (words : List ℕ) (homes : List (Maybe (Option (Book M E R)))) (seats : List (SeatView M E R)) (k : IsInTurn next weight terms words homes seats)
+  module _ (m : M) (terms : Terms M) (words : List ℕ) (homes : Homes M E R) (seats : List (SeatView M E R)) (k : IsInTurn next weight terms words homes seats)
       (id other : ℕ) (s u : SeatView M E R) (sits : Sits seats id s) (ne : other ≢ id) (there : Sits seats other u)
       (part_s : 0 < s.parts) (part_u : 0 < u.parts) (idle_s : s.stage ≡ Idle) (idle_u : u.stage ≡ Idle) where
     no_ticket : tickets_of s.stage ≡ 0

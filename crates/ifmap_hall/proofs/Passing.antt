@@ -1,6 +1,6 @@
 -- Giving the book back and passing the turn on.
 use Rattle.std.proofs.Common.{◌≡◌, ◌≢◌, ◌⊎◌, ℕ, ◌+◌, ◌%◌, ◌^◌, ◌<◌, List, [], ◌∷◌, length, set, slice_index, true, false, refl, sym, ap, subst, ◌∙◌, inl, inr, arith}
-use mathlib.Core.Option.{Option as Maybe, some, none}
+use mathlib.Core.Option.{some, none}
 use Rattle.std.proofs.lemmas.Bool.{false_from_ne_true}
 use Rattle.std.specs.Prelude.{Option, Some}
 use Rattle.atomic_table.specs.Table.{Step, Act, gives, Valid, homes_after, carried_after, Allows}
@@ -8,7 +8,7 @@ use Rattle.atomic_table.proofs.Lists.{at_set}
 use Rattle.ifmap_hall.specs.Histories.{Extends, StandsFor, no_history, history_in}
 use Rattle.ifmap_hall.specs.Places.{times, once_below}
 use Rattle.ifmap_hall.specs.Plays.{Gives, Passes}
-use Rattle.ifmap_hall.specs.Rule.{Sits, AtHome, IsOut, IsInTurn, Keeps}
+use Rattle.ifmap_hall.specs.Rule.{Homes, Sits, AtHome, IsOut, IsInTurn, Keeps}
 use Rattle.ifmap_hall.specs.SeatViews.{tickets_of, ticket_of, holds_book, taken_of, after_turn}
 use Rattle.ifmap_hall.specs.declared.book.Book.{Book}
 use Rattle.ifmap_hall.specs.declared.view.History.{History}
@@ -31,7 +31,7 @@ module _ {M E R : Type 0} (next : M → E → M) (weight : E → ℕ) (reply : M
       let more = gains_rest h.log (history_in h b).log g.gains in
       record { from = g.settled; rest = more.0; whole = more.1 }
 
-  module _ (terms : Terms M) (words : List ℕ) (homes : List (Maybe (Option (Book M E R)))) (seats : List (SeatView M E R)) (k : IsInTurn next weight terms words homes seats)
+  module _ (terms : Terms M) (words : List ℕ) (homes : Homes M E R) (seats : List (SeatView M E R)) (k : IsInTurn next weight terms words homes seats)
       (id : ℕ) (s : SeatView M E R) (sits : Sits seats id s) (part : 0 < s.parts) (holds : holds_book s.stage ≡ true) where
     no_other : (j : ℕ) (x : SeatView M E R) → j ≢ id → Sits seats j x → holds_book x.stage ≡ false
     no_other j x n e = false_from_ne_true (holds_book x.stage) (λ h.
@@ -108,7 +108,7 @@ module _ {M E R : Type 0} (next : M → E → M) (weight : E → ℕ) (reply : M
             ((k.served % 2 ^ 64 + 1) % 2 ^ 64 ∷ k.drawn % 2 ^ 64 ∷ []) (set t.homes 0 (some (Some b))) (ap (λ n. n ∷ k.drawn % 2 ^ 64 ∷ []) (ticket_after k.served))
             (inl (record {
               book = b;
-              there = ap (λ (hs : List (Maybe (Option (Book M E R)))). set hs 0 (some (Some b))) (empty terms t.words t.homes t.views k id s sits part holds k.slot);
+              there = ap (λ (hs : Homes M E R). set hs 0 (some (Some b))) (empty terms t.words t.homes t.views k id s sits part holds k.slot);
               stands = subst (λ q. StandsFor next weight q (history_in (taken_of s.stage) b) b) (k.fit id s sits part).terms_are g.book;
               free = λ i x e. elim (at_set t.views id i u x e) [
                 | inl p ↦ sym (ap (λ (y : SeatView M E R). holds_book y.stage) p.1)

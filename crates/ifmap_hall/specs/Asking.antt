@@ -28,7 +28,8 @@ module _ {M E R : Type 0} where
     pub said : w.said ≡ v.said
 
   module _ (next : M → E → M) (holds_on : M → E → Bool) (reply : M → E → R) where
-    -- the event is the last entry of the history, at this place, with the reply of the machine after the entries before it, which would not have held on it
+    -- the event is the last entry of the history, at this place, with the reply of the machine after the entries before it, which
+    -- would not have held on it
     pub record Said (v w : View M E R) (number : ℕ) (event : E) (place : ℕ) (r : R) : Type 0 where
       pub before : List (ℕ × E)
       pub entry : w.history.log ≡ before ++ (number, event) ∷ []

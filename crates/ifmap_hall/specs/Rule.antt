@@ -12,6 +12,10 @@ use Rattle.ifmap_hall.specs.declared.view.History.{History}
 use Rattle.ifmap_hall.specs.declared.view.SeatView.{SeatView}
 use Rattle.ifmap_hall.specs.declared.view.Terms.{Terms}
 
+-- the slots of the hall's table: none where a slot is out with a seat
+abbrev pub Homes : Type 0 → Type 0 → Type 0 → Type 0
+Homes M E R = List (Maybe (Option (Book M E R)))
+
 module _ {M E R : Type 0} where
   -- the seat with this number knows this
   abbrev pub Sits : List (SeatView M E R) → ℕ → SeatView M E R → Type 0
@@ -29,14 +33,14 @@ module _ {M E R : Type 0} where
 
   module _ (next : M → E → M) (weight : E → ℕ) where
     -- the book stands in its slot, and no seat has it
-    pub record AtHome (terms : Terms M) (h : History E) (homes : List (Maybe (Option (Book M E R)))) (seats : List (SeatView M E R)) : Type 0 where
+    pub record AtHome (terms : Terms M) (h : History E) (homes : Homes M E R) (seats : List (SeatView M E R)) : Type 0 where
       pub book : Book M E R
       pub there : homes ≡ some (Some book) ∷ []
       pub stands : StandsFor next weight terms h book
       pub free : (i : ℕ) (s : SeatView M E R) → Sits seats i s → holds_book s.stage ≡ false
 
     -- the slot is empty, and a seat has the book
-    pub record IsOut (homes : List (Maybe (Option (Book M E R)))) (seats : List (SeatView M E R)) : Type 0 where
+    pub record IsOut (homes : Homes M E R) (seats : List (SeatView M E R)) : Type 0 where
       pub gone : homes ≡ none ∷ []
       pub seat : ℕ
       pub holder : SeatView M E R
@@ -44,7 +48,7 @@ module _ {M E R : Type 0} where
       pub holds : holds_book holder.stage ≡ true
 
     -- what holds of the table between any two steps
-    pub record IsInTurn (terms : Terms M) (words : List ℕ) (homes : List (Maybe (Option (Book M E R)))) (seats : List (SeatView M E R)) : Type 0 where
+    pub record IsInTurn (terms : Terms M) (words : List ℕ) (homes : Homes M E R) (seats : List (SeatView M E R)) : Type 0 where
       -- there is one history, and so many turns were passed on and so many tickets drawn
       pub history : History E
       pub served : ℕ
@@ -57,12 +61,14 @@ module _ {M E R : Type 0} where
       pub spent : (i : ℕ) (s : SeatView M E R) → Sits seats i s → s.parts ≡ 0 → (s.view.mine ≡ []) × (holds_book s.stage ≡ false)
       -- each ticket that is out is one seat's
       pub tickets : sum_by (λ (s : SeatView M E R). tickets_of s.stage) seats + served ≡ drawn
-      pub apart : (i j : ℕ) (s u : SeatView M E R) → Sits seats i s → Sits seats j u → tickets_of s.stage ≡ 1 → tickets_of u.stage ≡ 1 → ticket_of s.stage ≡ ticket_of u.stage → i ≡ j
+      pub apart : (i j : ℕ) (s u : SeatView M E R) → Sits seats i s → Sits seats j u → tickets_of s.stage ≡ 1 → tickets_of u.stage ≡ 1
+          → ticket_of s.stage ≡ ticket_of u.stage → i ≡ j
       -- each place of the history is in the list of one seat
       pub places : (x : ℕ) → sum_by (λ (s : SeatView M E R). times x s.view.mine) seats ≡ once_below x (length history.log)
       pub fit : (i : ℕ) (s : SeatView M E R) → Sits seats i s → 0 < s.parts → Fits terms history served drawn s
       -- of each two seats that are not spent one has seen what the other has seen
-      pub ordered : (i j : ℕ) (s u : SeatView M E R) → Sits seats i s → Sits seats j u → 0 < s.parts → 0 < u.parts → Ordered s.view.history u.view.history
+      pub ordered : (i j : ℕ) (s u : SeatView M E R) → Sits seats i s → Sits seats j u → 0 < s.parts → 0 < u.parts
+          → Ordered s.view.history u.view.history
       pub alone : (i : ℕ) (s : SeatView M E R) → Sits seats i s → s.view.lone ≡ true → length seats ≡ 1
 
     -- the rule of a table

@@ -73,7 +73,9 @@ module _ {M E R : Type 0} where
 
   -- what is left of a seat that was joined to another
   abbrev pub spent_seat : M → SeatView M E R
-  spent_seat m = record { view = kept_view (first_view (record { opening = record { marker = record {}; value = m }; limit = 0; heaviest = 0 })); parts = 0; stage = Idle; joined = no_history }
+  spent_seat m =
+      let terms : Terms M = record { opening = record { marker = record {}; value = m }; limit = 0; heaviest = 0 } in
+      record { view = kept_view (first_view terms); parts = 0; stage = Idle; joined = no_history }
 
   module _ (next : M → E → M) (reply : M → E → R) where
     -- what a pass is seen as after a turn in which it found this history and left this book: it has seen what the book has seen,

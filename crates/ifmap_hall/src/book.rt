@@ -64,7 +64,8 @@ where
         requires some { 0 < length self.old.journal.items }
         requires heavy { self.old.limit < self.old.bytes + self.old.heaviest }
         ensures settles { Settles M.next M.weight_of self.old self.new }
-        ensures one { OnOk result (length self.new.journal.items + 1 ≡ length self.old.journal.items) }
+        ensures one { OnOk result
+            (length self.new.journal.items + 1 ≡ length self.old.journal.items) }
     {
         let Some(oldest) = self.journal.front() else {
             unreachable!();

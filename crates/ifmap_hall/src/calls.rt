@@ -118,7 +118,8 @@ where
             (sight_by M.next (view_of into.old)) (sight_by M.next (view_of into.new)) }
         ensures carries_other { CarriesOn M.next
             (sight_by M.next (view_of from)) (sight_by M.next (view_of into.new)) }
-        ensures apart { (x : ℕ) → times x (view_of into.old).mine + times x (view_of from).mine ≤ 1 }
+        ensures apart { (x : ℕ)
+            → times x (view_of into.old).mine + times x (view_of from).mine ≤ 1 }
         ensures sound { IsSound (view_of into.new) }
     {
         let Pass {
@@ -132,8 +133,8 @@ where
         into.parts = into.parts.saturating_add(parts);
     }
 
-    /// Asks the book in turn, and may wait for it. What the pass has seen is afterwards all that the
-    /// book has seen. The answer is that of `Book::turn` on the book as the turn found it.
+    /// Asks the book in turn, and may wait for it. What the pass has seen is afterwards all that
+    /// the book has seen. The answer is that of `Book::turn` on the book as the turn found it.
     pub fn ask<R: Wait>(
         &self,
         rt: &R,

@@ -11,8 +11,8 @@ use crate::view::{SeatView, Terms};
 use atomic_table::Table;
 use std::alloc::Global;
 
-/// One book, which passes ask in turn. It lies in the one slot of a table with two words: the number
-/// served and the next ticket, both modulo 2^64.
+/// One book, which passes ask in turn. It lies in the one slot of a table with two words: the
+/// number served and the next ticket, both modulo 2^64.
 #[derive(Drop)]
 pub struct Hall<M: Machine> {
     pub(crate) table: Table<Option<Book<M>>, SeatView<M>, Terms<M>, InTurn<M>, Global>,
@@ -27,7 +27,7 @@ pub struct Pass<M: Machine> {
     pub(crate) number: u64,
     // How many passes were split from it.
     pub(crate) made: u64,
-    // A lower bound of the parts that its seat has, so that a sum of them can stand still at its last value.
+    // A lower bound of the parts that its seat has, so that a sum of them may stand still.
     pub(crate) parts: u64,
     ghost rests: { IsAtRest seat.me },
     ghost some_part: { 0 < parts },

@@ -22,7 +22,8 @@ pub(crate) fn draw<M: Machine>(table: &HallTable<M>, seat: &mut HallSeat<M>) -> 
     requires words { table.now.table_id.words ≡ 2 }
     requires idle { IsAtRest seat.old.me }
     ensures own { (seat.new.table_id ≡ seat.old.table_id) × (seat.new.id ≡ seat.old.id) }
-    ensures ticket { (t : ℕ) × (result ≡ t % 2 ^ 64) × (seat.new.me ≡ (with_ticket seat.old.me.0 t, [])) }
+    ensures ticket { (t : ℕ) × (result ≡ t % 2 ^ 64)
+        × (seat.new.me ≡ (with_ticket seat.old.me.0 t, [])) }
 {
     table.fetch_add::<Draw>(seat, 1, 1)
 }
@@ -67,7 +68,8 @@ pub(crate) fn cut<M: Machine>(table: &HallTable<M>, seat: &mut HallSeat<M>) -> H
 
 // Joins another seat to this one.
 pub(crate) fn glue<M: Machine>(table: &HallTable<M>, seat: &mut HallSeat<M>, other: HallSeat<M>)
-    requires own { (seat.old.table_id ≡ table.now.table_id) × (other.table_id ≡ table.now.table_id) }
+    requires own { seat.old.table_id ≡ table.now.table_id }
+    requires other { other.table_id ≡ table.now.table_id }
     requires words { table.now.table_id.words ≡ 2 }
     requires idle { IsAtRest seat.old.me × IsAtRest other.me }
     ensures own { seat.new.table_id ≡ seat.old.table_id }

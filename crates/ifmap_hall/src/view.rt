@@ -52,7 +52,8 @@ pub enum Stage<E> {
 pub struct SeatView<M: Machine> {
     /// What the pass of the seat is seen as.
     pub view: View<M>,
-    /// Its parts of the right to draw tickets. With none it is spent: its pass was joined to another.
+    /// Its parts of the right to draw tickets. With none it is spent: its pass was joined to
+    /// another.
     pub parts: u64,
     /// How far it is with its turn.
     pub stage: Stage<M::Event>,

@@ -8,8 +8,8 @@ join_seat-requires g c =
     let o = c.args.other in
     let r = c.requires.idle.0 in
     let q = c.requires.idle.1 in (
-      c.requires.own.0,
-      c.requires.own.1,
+      c.requires.own,
+      c.requires.other,
       q.slots,
       omega (arith, c.requires.words),
       joins g.M.Machine.next g.M.Machine.weight_of g.M.Machine.some_state c.args.table.now.key s.id o.id s.me.0 o.me.0 r.part q.part r.idle q.idle,
