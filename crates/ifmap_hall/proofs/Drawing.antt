@@ -30,7 +30,8 @@ module _ {M E R : Type 0} (next : M → E → M) (weight : E → ℕ) where
   -- the slot, where a seat that has no book changes into one that has none
   pub same_slot : (terms : Terms M) (h : History E) (id : ℕ) (s u : SeatView M E R) (homes : Homes M E R) (seats : List (SeatView M E R))
       → Sits seats id s → holds_book s.stage ≡ false → holds_book u.stage ≡ false
-      → AtHome next weight terms h homes seats ⊎ IsOut next weight homes seats → AtHome next weight terms h homes (set seats id u) ⊎ IsOut next weight homes (set seats id u)
+      → AtHome next weight terms h homes seats ⊎ IsOut next weight homes seats
+      → AtHome next weight terms h homes (set seats id u) ⊎ IsOut next weight homes (set seats id u)
   same_slot terms h id s u homes seats sits hs hu (inl a) = inl (record {
     book = a.book;
     there = a.there;
@@ -44,17 +45,21 @@ module _ {M E R : Type 0} (next : M → E → M) (weight : E → ℕ) where
     gone = o.gone;
     seat = o.seat;
     holder = o.holder;
-    sits = set_else seats id o.seat u (λ e. falsehood (sym o.holds ∙ ap (λ (y : SeatView M E R). holds_book y.stage) (some-injective o.holder s (sym o.sits ∙ ap (get_elem? seats) e ∙ sits)) ∙ hs)) ∙ o.sits;
+    sits = set_else seats id o.seat u (λ e. falsehood (sym o.holds
+        ∙ ap (λ (y : SeatView M E R). holds_book y.stage) (some-injective o.holder s (sym o.sits ∙ ap (get_elem? seats) e ∙ sits)) ∙ hs))
+        ∙ o.sits;
     holds = o.holds;
   })
 
-  module _ (terms : Terms M) (words : List ℕ) (homes : Homes M E R) (seats : List (SeatView M E R)) (k : IsInTurn next weight terms words homes seats) where
+  module _ (terms : Terms M) (words : List ℕ) (homes : Homes M E R) (seats : List (SeatView M E R))
+      (k : IsInTurn next weight terms words homes seats) where
     -- a seat that has a ticket has a part
     pub has_part : (j : ℕ) (x : SeatView M E R) → Sits seats j x → tickets_of x.stage ≡ 1 → 0 < x.parts
     has_part j x e h = let a = k.enough j x e in omega arith
 
     -- a seat that has the book has a part, and the ticket that is served
-    pub holder_served : (j : ℕ) (x : SeatView M E R) → Sits seats j x → holds_book x.stage ≡ true → (0 < x.parts) × (tickets_of x.stage ≡ 1) × (ticket_of x.stage ≡ k.served)
+    pub holder_served : (j : ℕ) (x : SeatView M E R) → Sits seats j x → holds_book x.stage ≡ true
+        → (0 < x.parts) × (tickets_of x.stage ≡ 1) × (ticket_of x.stage ≡ k.served)
     holder_served j x e h =
         let one = holder_has_ticket x.stage h in
         let part = has_part j x e one in
@@ -93,7 +98,8 @@ module _ {M E R : Type 0} (next : M → E → M) (weight : E → ℕ) where
           }
 
       -- who has the ticket that is served takes the book
-      look_goes : tickets_of s.stage ≡ 1 → k.served ≡ ticket_of s.stage → Goes next weight terms words homes seats k id s (with_book s k.history) k.history k.served k.drawn
+      look_goes : tickets_of s.stage ≡ 1 → k.served ≡ ticket_of s.stage
+          → Goes next weight terms words homes seats k id s (with_book s k.history) k.history k.served k.drawn
       look_goes waits here =
           let f = k.fit id s sits part in
           record {
@@ -143,7 +149,8 @@ module _ {M E R : Type 0} (next : M → E → M) (weight : E → ℕ) where
       -- a look that changes nothing
       unchanged : IsInTurn next weight terms (k.served % 2 ^ 64 ∷ k.drawn % 2 ^ 64 ∷ []) homes (set seats id s)
       unchanged =
-          subst (λ (xs : List (SeatView M E R)). IsInTurn next weight terms (k.served % 2 ^ 64 ∷ k.drawn % 2 ^ 64 ∷ []) homes xs) (sym (set_again seats id s sits))
+          subst (λ (xs : List (SeatView M E R)). IsInTurn next weight terms (k.served % 2 ^ 64 ∷ k.drawn % 2 ^ 64 ∷ []) homes xs)
+          (sym (set_again seats id s sits))
           (subst (λ ws. IsInTurn next weight terms ws homes seats) k.words_are k)
 
   pub draws : (terms : Terms M) (slots id : ℕ) (s : SeatView M E R) (st : Step (Option (Book M E R))) → 0 < s.parts → s.stage ≡ Idle
@@ -163,7 +170,8 @@ module _ {M E R : Type 0} (next : M → E → M) (weight : E → ℕ) where
         (k.drawn, refl, refl),
       )
 
-  pub looks : (terms : Terms M) (slots id : ℕ) (s : SeatView M E R) (st : Step (Option (Book M E R))) → 0 < s.parts → s.stage ≡ Waits (ticket_of s.stage)
+  pub looks : (terms : Terms M) (slots id : ℕ) (s : SeatView M E R) (st : Step (Option (Book M E R))) → 0 < s.parts
+      → s.stage ≡ Waits (ticket_of s.stage)
       → Allows (Keeps next weight terms) slots id (s, []) 0 (λ n. n) (Looks next weight st (s, []))
   looks terms slots id s st part is t k _ sits _ =
       let waits : tickets_of s.stage ≡ 1 = ap tickets_of is in

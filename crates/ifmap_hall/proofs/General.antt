@@ -41,7 +41,8 @@ module _ {V : Type 0} where
   pub joined_up : (from n : ℕ) (xs more : List V) → from ≤ n → take n xs ++ (drop (n - from) (drop from xs) ++ more) ≡ xs ++ more
   joined_up from n xs more h =
       let d : drop (n - from) (drop from xs) ≡ drop n xs = drop-drop (n - from) from xs ∙ ap (λ k. drop k xs) (omega arith) in
-      ap (λ ys. take n xs ++ (ys ++ more)) d ∙ sym (append_assoc (take n xs) (drop n xs) more) ∙ ap (λ ys. ys ++ more) (take-append-drop n xs)
+      ap (λ ys. take n xs ++ (ys ++ more)) d ∙ sym (append_assoc (take n xs) (drop n xs) more)
+      ∙ ap (λ ys. ys ++ more) (take-append-drop n xs)
 
   -- sums over lists of which one element or two are known
   pub sum_set : (f : V → ℕ) (vs : List V) (i : ℕ) (v w : V) → get_elem? vs i ≡ some v → sum_by f (set vs i w) + f v ≡ sum_by f vs + f w
@@ -54,11 +55,14 @@ module _ {V : Type 0} where
   at_most f (x ∷ xs) zero v e = let h : f x ≡ f v = ap f (some-injective x v e) in omega (arith, sum_by-cons f x xs)
   at_most f (x ∷ xs) (suc i) v e = omega (arith, at_most f xs i v e, sum_by-cons f x xs)
 
-  pub two_at_most : (f : V → ℕ) (vs : List V) (i j : ℕ) (v w : V) → i ≢ j → get_elem? vs i ≡ some v → get_elem? vs j ≡ some w → f v + f w ≤ sum_by f vs
+  pub two_at_most : (f : V → ℕ) (vs : List V) (i j : ℕ) (v w : V) → i ≢ j → get_elem? vs i ≡ some v → get_elem? vs j ≡ some w
+      → f v + f w ≤ sum_by f vs
   two_at_most f [] i j v w n a b = absurd (some-ne-none v (sym a))
   two_at_most f (x ∷ xs) zero zero v w n a b = absurd (n refl)
-  two_at_most f (x ∷ xs) zero (suc j) v w n a b = let h : f x ≡ f v = ap f (some-injective x v a) in omega (arith, at_most f xs j w b, sum_by-cons f x xs)
-  two_at_most f (x ∷ xs) (suc i) zero v w n a b = let h : f x ≡ f w = ap f (some-injective x w b) in omega (arith, at_most f xs i v a, sum_by-cons f x xs)
+  two_at_most f (x ∷ xs) zero (suc j) v w n a b =
+      let h : f x ≡ f v = ap f (some-injective x v a) in omega (arith, at_most f xs j w b, sum_by-cons f x xs)
+  two_at_most f (x ∷ xs) (suc i) zero v w n a b =
+      let h : f x ≡ f w = ap f (some-injective x w b) in omega (arith, at_most f xs i v a, sum_by-cons f x xs)
   two_at_most f (x ∷ xs) (suc i) (suc j) v w n a b = omega (arith, two_at_most f xs i j v w (λ e. n (ap suc e)) a b, sum_by-cons f x xs)
 
   pub sum_le : (f g : V → ℕ) (vs : List V) → ((i : ℕ) (v : V) → get_elem? vs i ≡ some v → f v ≤ g v) → sum_by f vs ≤ sum_by g vs

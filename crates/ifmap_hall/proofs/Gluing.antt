@@ -42,7 +42,8 @@ module _ {M E R : Type 0} (next : M → E → M) (weight : E → ℕ) where
     is_spent : i ≡ other → spent ≡ x → Place seats id other both spent i x
     is_old : i ≢ id → i ≢ other → Sits seats i x → Place seats id other both spent i x
 
-  place : (seats : List (SeatView M E R)) (id other : ℕ) (both spent : SeatView M E R) (i : ℕ) (x : SeatView M E R) → Sits (set (set seats id both) other spent) i x
+  place : (seats : List (SeatView M E R)) (id other : ℕ) (both spent : SeatView M E R) (i : ℕ) (x : SeatView M E R)
+      → Sits (set (set seats id both) other spent) i x
       → Place seats id other both spent i x
   place seats id other both spent i x e = elim (at_set (set seats id both) other i spent x e) [
     | inl p ↦ is_spent p.0 p.1
@@ -52,7 +53,8 @@ module _ {M E R : Type 0} (next : M → E → M) (weight : E → ℕ) where
     ]
   ]
 
-  module _ (m : M) (terms : Terms M) (words : List ℕ) (homes : Homes M E R) (seats : List (SeatView M E R)) (k : IsInTurn next weight terms words homes seats)
+  module _ (m : M) (terms : Terms M) (words : List ℕ) (homes : Homes M E R) (seats : List (SeatView M E R))
+      (k : IsInTurn next weight terms words homes seats)
       (id other : ℕ) (s u : SeatView M E R) (sits : Sits seats id s) (ne : other ≢ id) (there : Sits seats other u)
       (part_s : 0 < s.parts) (part_u : 0 < u.parts) (idle_s : s.stage ≡ Idle) (idle_u : u.stage ≡ Idle) where
     no_ticket : tickets_of s.stage ≡ 0
@@ -75,14 +77,20 @@ module _ {M E R : Type 0} (next : M → E → M) (weight : E → ℕ) where
     glue_enough i x (is_spent p e) = subst (λ (y : SeatView M E R). tickets_of y.stage ≤ y.parts) e (omega arith)
     glue_enough i x (is_old n o e) = k.enough i x e
 
-    glue_spent : (i : ℕ) (x : SeatView M E R) → Place seats id other (joint_seat s u) (spent_seat m) i x → x.parts ≡ 0 → (x.view.mine ≡ []) × (holds_book x.stage ≡ false)
+    glue_spent : (i : ℕ) (x : SeatView M E R) → Place seats id other (joint_seat s u) (spent_seat m) i x → x.parts ≡ 0
+        → (x.view.mine ≡ []) × (holds_book x.stage ≡ false)
     glue_spent i x (is_both p e) z = let q : s.parts + u.parts ≡ x.parts = ap (λ (y : SeatView M E R). y.parts) e in absurd (omega arith)
-    glue_spent i x (is_spent p e) z = (ap (λ (y : SeatView M E R). y.view.mine) (sym e), ap (λ (y : SeatView M E R). holds_book y.stage) (sym e))
+    glue_spent i x (is_spent p e) z =
+        (ap (λ (y : SeatView M E R). y.view.mine) (sym e), ap (λ (y : SeatView M E R). holds_book y.stage) (sym e))
     glue_spent i x (is_old n o e) z = k.spent i x e z
 
-    glue_waits : (i : ℕ) (x : SeatView M E R) → Place seats id other (joint_seat s u) (spent_seat m) i x → tickets_of x.stage ≡ 1 → Sits seats i x
-    glue_waits i x (is_both p e) h = let q : tickets_of s.stage ≡ tickets_of x.stage = ap (λ (y : SeatView M E R). tickets_of y.stage) e in absurd (omega (arith, no_ticket))
-    glue_waits i x (is_spent p e) h = let q : 0 ≡ tickets_of x.stage = ap (λ (y : SeatView M E R). tickets_of y.stage) e in absurd (omega arith)
+    glue_waits : (i : ℕ) (x : SeatView M E R) → Place seats id other (joint_seat s u) (spent_seat m) i x → tickets_of x.stage ≡ 1
+        → Sits seats i x
+    glue_waits i x (is_both p e) h =
+        let q : tickets_of s.stage ≡ tickets_of x.stage = ap (λ (y : SeatView M E R). tickets_of y.stage) e in absurd
+        (omega (arith, no_ticket))
+    glue_waits i x (is_spent p e) h =
+        let q : 0 ≡ tickets_of x.stage = ap (λ (y : SeatView M E R). tickets_of y.stage) e in absurd (omega arith)
     glue_waits i x (is_old n o e) h = e
 
     disjoint : (x : ℕ) → times x s.view.mine + times x u.view.mine ≤ 1
@@ -90,11 +98,17 @@ module _ {M E R : Type 0} (next : M → E → M) (weight : E → ℕ) where
         let t = two_at_most (λ (y : SeatView M E R). times x y.view.mine) seats id other s u (λ e. ne (sym e)) sits there in
         let p = k.places x in let o = once_most x (length k.history.log) in omega arith
 
-    late_fits : (late : History E) → (late ≡ s.view.history) ⊎ (late ≡ u.view.history) → Extends late k.history × (late.from ≤ length late.log)
-    late_fits late (inl e) = let f = k.fit id s sits part_s in subst (λ (h : History E). Extends h k.history × (h.from ≤ length h.log)) (sym e) (f.extends, f.sound.inside)
-    late_fits late (inr e) = let f = k.fit other u there part_u in subst (λ (h : History E). Extends h k.history × (h.from ≤ length h.log)) (sym e) (f.extends, f.sound.inside)
+    late_fits : (late : History E) → (late ≡ s.view.history) ⊎ (late ≡ u.view.history)
+        → Extends late k.history × (late.from ≤ length late.log)
+    late_fits late (inl e) =
+        let f = k.fit id s sits part_s in subst (λ (h : History E). Extends h k.history × (h.from ≤ length h.log)) (sym e)
+        (f.extends, f.sound.inside)
+    late_fits late (inr e) =
+        let f = k.fit other u there part_u in subst (λ (h : History E). Extends h k.history × (h.from ≤ length h.log)) (sym e)
+        (f.extends, f.sound.inside)
 
-    glue_fits : (i : ℕ) (x : SeatView M E R) → Place seats id other (joint_seat s u) (spent_seat m) i x → 0 < x.parts → Fits terms k.history k.served k.drawn x
+    glue_fits : (i : ℕ) (x : SeatView M E R) → Place seats id other (joint_seat s u) (spent_seat m) i x → 0 < x.parts
+        → Fits terms k.history k.served k.drawn x
     glue_fits i x (is_both p e) h =
         let f = k.fit id s sits part_s in
         let g = k.fit other u there part_u in
@@ -106,7 +120,8 @@ module _ {M E R : Type 0} (next : M → E → M) (weight : E → ℕ) where
           terms_are = f.terms_are;
           sound = record {
             inside = fits.1;
-            mine = rises_merge 0 s.view.mine u.view.mine (length late.log) (rises_le 0 s.view.mine (length s.view.history.log) (length late.log) f.sound.mine (omega arith))
+            mine = rises_merge 0 s.view.mine u.view.mine (length late.log)
+                (rises_le 0 s.view.mine (length s.view.history.log) (length late.log) f.sound.mine (omega arith))
                 (rises_le 0 u.view.mine (length u.view.history.log) (length late.log) g.sound.mine (omega arith)) disjoint;
           };
           extends = fits.0;
@@ -118,11 +133,13 @@ module _ {M E R : Type 0} (next : M → E → M) (weight : E → ℕ) where
     glue_fits i x (is_spent p e) h = let q : 0 ≡ x.parts = ap (λ (y : SeatView M E R). y.parts) e in absurd (omega arith)
     glue_fits i x (is_old n o e) h = k.fit i x e h
 
-    late_stems : (late : History E) → (late ≡ s.view.history) ⊎ (late ≡ u.view.history) → (x : SeatView M E R) → late ≡ x.view.history → Stems next weight seats x
+    late_stems : (late : History E) → (late ≡ s.view.history) ⊎ (late ≡ u.view.history) → (x : SeatView M E R) → late ≡ x.view.history
+        → Stems next weight seats x
     late_stems late (inl e) x q = record { index = id; old = s; sits = sits; part = part_s; seen = sym e ∙ q }
     late_stems late (inr e) x q = record { index = other; old = u; sits = there; part = part_u; seen = sym e ∙ q }
 
-    glue_stems : (i : ℕ) (x : SeatView M E R) → Place seats id other (joint_seat s u) (spent_seat m) i x → 0 < x.parts → Stems next weight seats x
+    glue_stems : (i : ℕ) (x : SeatView M E R) → Place seats id other (joint_seat s u) (spent_seat m) i x → 0 < x.parts
+        → Stems next weight seats x
     glue_stems i x (is_both p e) h = late_stems (joint_seat s u).view.history joint.one x (ap (λ (y : SeatView M E R). y.view.history) e)
     glue_stems i x (is_spent p e) h = let q : 0 ≡ x.parts = ap (λ (y : SeatView M E R). y.parts) e in absurd (omega arith)
     glue_stems i x (is_old n o e) h = record { index = i; old = x; sits = e; part = h; seen = refl }
@@ -130,16 +147,19 @@ module _ {M E R : Type 0} (next : M → E → M) (weight : E → ℕ) where
     glue_alone : (i : ℕ) (x : SeatView M E R) → Place seats id other (joint_seat s u) (spent_seat m) i x → x.view.lone ≡ true → ⊥
     glue_alone i x (is_both p e) l = falsehood (sym l ∙ ap (λ (y : SeatView M E R). y.view.lone) (sym e))
     glue_alone i x (is_spent p e) l = falsehood (sym l ∙ ap (λ (y : SeatView M E R). y.view.lone) (sym e))
-    glue_alone i x (is_old n o e) l = let one = k.alone i x e l in let a = at_within seats i x e in let c = at_within seats id s sits in n (omega arith)
+    glue_alone i x (is_old n o e) l =
+        let one = k.alone i x e l in let a = at_within seats i x e in let c = at_within seats id s sits in n (omega arith)
 
-    glue_free : ((j : ℕ) (y : SeatView M E R) → Sits seats j y → holds_book y.stage ≡ false) → (i : ℕ) (x : SeatView M E R) → Place seats id other (joint_seat s u) (spent_seat m) i x
+    glue_free : ((j : ℕ) (y : SeatView M E R) → Sits seats j y → holds_book y.stage ≡ false) → (i : ℕ) (x : SeatView M E R)
+        → Place seats id other (joint_seat s u) (spent_seat m) i x
         → holds_book x.stage ≡ false
     glue_free free i x (is_both p e) = ap (λ (y : SeatView M E R). holds_book y.stage) (sym e) ∙ no_book
     glue_free free i x (is_spent p e) = ap (λ (y : SeatView M E R). holds_book y.stage) (sym e)
     glue_free free i x (is_old n o e) = free i x e
 
     glue_slot : AtHome next weight terms k.history homes seats ⊎ IsOut next weight homes seats
-        → AtHome next weight terms k.history homes (set (set seats id (joint_seat s u)) other (spent_seat m)) ⊎ IsOut next weight homes (set (set seats id (joint_seat s u)) other (spent_seat m))
+        → AtHome next weight terms k.history homes (set (set seats id (joint_seat s u)) other (spent_seat m))
+        ⊎ IsOut next weight homes (set (set seats id (joint_seat s u)) other (spent_seat m))
     glue_slot (inl a) = inl (record {
       book = a.book;
       there = a.there;
@@ -151,9 +171,11 @@ module _ {M E R : Type 0} (next : M → E → M) (weight : E → ℕ) where
       seat = o.seat;
       holder = o.holder;
       sits = set_else (set seats id (joint_seat s u)) other o.seat (spent_seat m)
-          (λ e. falsehood (sym o.holds ∙ ap (λ (y : SeatView M E R). holds_book y.stage) (some-injective o.holder u (sym o.sits ∙ ap (get_elem? seats) e ∙ there)) ∙ no_book_other))
+          (λ e. falsehood (sym o.holds ∙ ap (λ (y : SeatView M E R). holds_book y.stage)
+          (some-injective o.holder u (sym o.sits ∙ ap (get_elem? seats) e ∙ there)) ∙ no_book_other))
           ∙ set_else seats id o.seat (joint_seat s u)
-          (λ e. falsehood (sym o.holds ∙ ap (λ (y : SeatView M E R). holds_book y.stage) (some-injective o.holder s (sym o.sits ∙ ap (get_elem? seats) e ∙ sits)) ∙ no_book))
+          (λ e. falsehood (sym o.holds ∙ ap (λ (y : SeatView M E R). holds_book y.stage)
+          (some-injective o.holder s (sym o.sits ∙ ap (get_elem? seats) e ∙ sits)) ∙ no_book))
           ∙ o.sits;
       holds = o.holds;
     })
@@ -163,7 +185,8 @@ module _ {M E R : Type 0} (next : M → E → M) (weight : E → ℕ) where
 
     pub glue_keeps : IsInTurn next weight terms words homes (set (set seats id (joint_seat s u)) other (spent_seat m))
     glue_keeps =
-        let at = λ (i : ℕ) (x : SeatView M E R) (e : Sits (set (set seats id (joint_seat s u)) other (spent_seat m)) i x). place seats id other (joint_seat s u) (spent_seat m) i x e in
+        let at = λ (i : ℕ) (x : SeatView M E R) (e : Sits (set (set seats id (joint_seat s u)) other (spent_seat m)) i x). place seats id
+        other (joint_seat s u) (spent_seat m) i x e in
         record {
           history = k.history;
           served = k.served;
@@ -178,20 +201,24 @@ module _ {M E R : Type 0} (next : M → E → M) (weight : E → ℕ) where
           spent = λ i x e. glue_spent i x (at i x e);
           tickets =
               let t = sum_set (λ (x : SeatView M E R). tickets_of x.stage) seats id s (joint_seat s u) sits in
-              let z = sum_set (λ (x : SeatView M E R). tickets_of x.stage) (set seats id (joint_seat s u)) other u (spent_seat m) still_there in
+              let z = sum_set (λ (x : SeatView M E R). tickets_of x.stage) (set seats id (joint_seat s u)) other u
+              (spent_seat m) still_there in
               let p = k.tickets in omega (arith, no_ticket_other);
           apart = λ i j x y e f hx hy. k.apart i j x y (glue_waits i x (at i x e) hx) (glue_waits j y (at j y f) hy) hx hy;
           places = λ x.
               let t = sum_set (λ (y : SeatView M E R). times x y.view.mine) seats id s (joint_seat s u) sits in
-              let z = sum_set (λ (y : SeatView M E R). times x y.view.mine) (set seats id (joint_seat s u)) other u (spent_seat m) still_there in
+              let z = sum_set (λ (y : SeatView M E R). times x y.view.mine) (set seats id (joint_seat s u)) other u
+              (spent_seat m) still_there in
               let q = times-merge x s.view.mine u.view.mine in
               let p = k.places x in omega arith;
           fit = λ i x e. glue_fits i x (at i x e);
-          ordered = λ i j x y e f hx hy. stems_ordered next weight terms words homes seats k x y (glue_stems i x (at i x e) hx) (glue_stems j y (at j y f) hy);
+          ordered = λ i j x y e f hx hy. stems_ordered next weight terms words homes seats k x y (glue_stems i x (at i x e) hx)
+              (glue_stems j y (at j y f) hy);
           alone = λ i x e l. absurd (glue_alone i x (at i x e) l);
         }
 
   pub joins : (m : M) (terms : Terms M) (id other : ℕ) (s u : SeatView M E R) → 0 < s.parts → 0 < u.parts → s.stage ≡ Idle → u.stage ≡ Idle
       → Joins (Keeps next weight terms) id s other u (joint_seat s u) (spent_seat m)
   joins m terms id other s u ps pu is iu t k sits ne there =
-      glue_keeps m terms t.words t.homes t.views k id other s u sits ne (sym (set_else t.views id other (joint_seat s u) ne) ∙ there) ps pu is iu
+      glue_keeps m terms t.words t.homes t.views k id other s u sits ne
+      (sym (set_else t.views id other (joint_seat s u) ne) ∙ there) ps pu is iu

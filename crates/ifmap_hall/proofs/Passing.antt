@@ -31,7 +31,8 @@ module _ {M E R : Type 0} (next : M → E → M) (weight : E → ℕ) (reply : M
       let more = gains_rest h.log (history_in h b).log g.gains in
       record { from = g.settled; rest = more.0; whole = more.1 }
 
-  module _ (terms : Terms M) (words : List ℕ) (homes : Homes M E R) (seats : List (SeatView M E R)) (k : IsInTurn next weight terms words homes seats)
+  module _ (terms : Terms M) (words : List ℕ) (homes : Homes M E R) (seats : List (SeatView M E R))
+      (k : IsInTurn next weight terms words homes seats)
       (id : ℕ) (s : SeatView M E R) (sits : Sits seats id s) (part : 0 < s.parts) (holds : holds_book s.stage ≡ true) where
     no_other : (j : ℕ) (x : SeatView M E R) → j ≢ id → Sits seats j x → holds_book x.stage ≡ false
     no_other j x n e = false_from_ne_true (holds_book x.stage) (λ h.
@@ -40,7 +41,8 @@ module _ {M E R : Type 0} (next : M → E → M) (weight : E → ℕ) (reply : M
         n (k.apart j id x s e sits a.1 b.1 (a.2 ∙ sym b.2)))
 
     pass_goes : (b : Book M E R) → Gives next weight s.view.terms (taken_of s.stage) b
-        → Goes next weight terms words homes seats k id s (after_turn next reply s b) (history_in (taken_of s.stage) b) (k.served + 1) k.drawn
+        → Goes next weight terms words homes seats k id s (after_turn next reply s b) (history_in (taken_of s.stage) b)
+        (k.served + 1) k.drawn
     pass_goes b g =
         let taken : History E = taken_of s.stage in
         let after : History E = history_in taken b in
@@ -70,7 +72,8 @@ module _ {M E R : Type 0} (next : M → E → M) (weight : E → ℕ) (reply : M
             terms_are = f.terms_are;
             sound = record {
               inside = omega arith;
-              mine = gains_rise taken.log after.log s.view.mine g.gains (rises_le 0 s.view.mine (length s.view.history.log) (length taken.log) f.sound.mine (omega arith));
+              mine = gains_rise taken.log after.log s.view.mine g.gains
+                  (rises_le 0 s.view.mine (length s.view.history.log) (length taken.log) f.sound.mine (omega arith));
             };
             extends = extends-itself after;
             joined = extends-none after;
@@ -79,7 +82,8 @@ module _ {M E R : Type 0} (next : M → E → M) (weight : E → ℕ) (reply : M
             lone = λ _. refl;
           };
           tickets = omega arith;
-          places = λ x. subst (λ (n : ℕ). times x (after_turn next reply s b).view.mine + once_below x n ≡ times x s.view.mine + once_below x (length after.log)) len
+          places = λ x. subst (λ (n : ℕ). times x (after_turn next reply s b).view.mine + once_below x n ≡ times x
+              s.view.mine + once_below x (length after.log)) len
               (gains_places taken.log after.log s.view.mine g.gains x);
           apart = λ one. absurd (omega arith);
           order = λ j x n e some_part. inl (extends-through x.view.history k.history after (k.fit j x e some_part).extends grown');
@@ -91,12 +95,15 @@ module _ {M E R : Type 0} (next : M → E → M) (weight : E → ℕ) (reply : M
     empty (inl a) = absurd (falsehood (sym holds ∙ a.free id s sits))
     empty (inr o) = o.gone
 
-  pub passes : (terms : Terms M) (slots id : ℕ) (s : SeatView M E R) (b : Book M E R) (st : Step (Option (Book M E R))) → 0 < s.parts → holds_book s.stage ≡ true
+  pub passes : (terms : Terms M) (slots id : ℕ) (s : SeatView M E R) (b : Book M E R) (st : Step (Option (Book M E R))) → 0 < s.parts
+      → holds_book s.stage ≡ true
       → Gives next weight s.view.terms (taken_of s.stage) b
-      → Allows (Keeps next weight terms) slots id (s, (0, Some b) ∷ []) 0 (λ n. (n + 1) % 2 ^ 64) (Passes next reply st (s, (0, Some b) ∷ []))
+      → Allows (Keeps next weight terms) slots id (s, (0, Some b) ∷ []) 0 (λ n. (n + 1) % 2 ^ 64)
+      (Passes next reply st (s, (0, Some b) ∷ []))
   passes terms slots id s b st part holds g t k _ sits _ =
       let P : List ℕ → Type 0 = λ ws. (u : SeatView M E R) × (a : Act (Option (Book M E R))) × Valid t.homes ((0, Some b) ∷ []) a
-      × IsInTurn next weight terms (set ws 0 ((slice_index ws 0 + 1) % 2 ^ 64)) (homes_after t.homes ((0, Some b) ∷ []) a) (set t.views id u)
+      × IsInTurn next weight terms (set ws 0 ((slice_index ws 0 + 1) % 2 ^ 64)) (homes_after t.homes ((0, Some b) ∷ []) a)
+      (set t.views id u)
       × Passes next reply st (s, (0, Some b) ∷ []) (slice_index ws 0) (u, carried_after ((0, Some b) ∷ []) a) in
       let u : SeatView M E R = after_turn next reply s b in
       subst P (sym k.words_are) (
@@ -105,10 +112,12 @@ module _ {M E R : Type 0} (next : M → E → M) (weight : E → ℕ) (reply : M
         tt,
         seat_goes next weight terms t.words t.homes t.views k id s u (history_in (taken_of s.stage) b) (k.served + 1) k.drawn
             (pass_goes terms t.words t.homes t.views k id s sits part holds b g)
-            ((k.served % 2 ^ 64 + 1) % 2 ^ 64 ∷ k.drawn % 2 ^ 64 ∷ []) (set t.homes 0 (some (Some b))) (ap (λ n. n ∷ k.drawn % 2 ^ 64 ∷ []) (ticket_after k.served))
+            ((k.served % 2 ^ 64 + 1) % 2 ^ 64 ∷ k.drawn % 2 ^ 64 ∷ []) (set t.homes 0 (some (Some b)))
+            (ap (λ n. n ∷ k.drawn % 2 ^ 64 ∷ []) (ticket_after k.served))
             (inl (record {
               book = b;
-              there = ap (λ (hs : Homes M E R). set hs 0 (some (Some b))) (empty terms t.words t.homes t.views k id s sits part holds k.slot);
+              there =
+                  ap (λ (hs : Homes M E R). set hs 0 (some (Some b))) (empty terms t.words t.homes t.views k id s sits part holds k.slot);
               stands = subst (λ q. StandsFor next weight q (history_in (taken_of s.stage) b) b) (k.fit id s sits part).terms_are g.book;
               free = λ i x e. elim (at_set t.views id i u x e) [
                 | inl p ↦ sym (ap (λ (y : SeatView M E R). holds_book y.stage) p.1)

@@ -41,13 +41,15 @@ rises_snoc low (x ∷ xs) high r = (r.0, rises_snoc (x + 1) xs high r.1)
 module _ {E : Type 0} where
   -- what is gained by at most one entry
   pub gains_places : (taken whole : List E) (mine : List ℕ) → (whole ≡ taken) ⊎ ((e : E) × (whole ≡ taken ++ e ∷ [])) → (x : ℕ)
-      → times x (mine ++ map (λ _. length taken) (drop (length taken) whole)) + once_below x (length taken) ≡ times x mine + once_below x (length whole)
+      → times x (mine ++ map (λ _. length taken) (drop (length taken) whole)) + once_below x (length taken) ≡ times x mine + once_below x
+      (length whole)
   gains_places taken whole mine (inl same) x = rw (same, drop-length taken, append-nil mine) refl
   gains_places taken whole mine (inr more) x =
       rw (more.1, drop-append_seam taken (more.0 ∷ []), length-append taken (more.0 ∷ []))
       (let a = times-append x mine (length taken ∷ []) in let b = once_more x (length taken) in omega arith)
 
-  pub gains_rise : (taken whole : List E) (mine : List ℕ) → (whole ≡ taken) ⊎ ((e : E) × (whole ≡ taken ++ e ∷ [])) → Rises 0 mine (length taken)
+  pub gains_rise : (taken whole : List E) (mine : List ℕ) → (whole ≡ taken) ⊎ ((e : E) × (whole ≡ taken ++ e ∷ []))
+      → Rises 0 mine (length taken)
       → Rises 0 (mine ++ map (λ _. length taken) (drop (length taken) whole)) (length whole)
   gains_rise taken whole mine (inl same) r = rw (same, drop-length taken, append-nil mine) r
   gains_rise taken whole mine (inr more) r =
@@ -64,7 +66,8 @@ rises_low low higher (x ∷ xs) high h r = let a = r.0 in (omega arith, r.1)
 pub times-insert : (x y : ℕ) (ys : List ℕ) → times x (insert y ys) ≡ times x (y ∷ []) + times x ys
 times-insert x y [] = omega arith
 times-insert x y (z ∷ zs) = placing (nat_lt y z) (times-insert x y zs) where
-  placing : (b : Bool) → times x (insert y zs) ≡ times x (y ∷ []) + times x zs → times x (cond b (y ∷ z ∷ zs) (z ∷ insert y zs)) ≡ times x (y ∷ []) + times x (z ∷ zs)
+  placing : (b : Bool) → times x (insert y zs) ≡ times x (y ∷ []) + times x zs
+      → times x (cond b (y ∷ z ∷ zs) (z ∷ insert y zs)) ≡ times x (y ∷ []) + times x (z ∷ zs)
   placing true r = omega arith
   placing false r = omega arith
 
@@ -83,12 +86,14 @@ rises_insert low x (y ∷ ys) high r l h none = elim (cases_lt x y) [
       rw a (l, (omega arith, r.1))
   | inr ge ↦
       let a : nat_lt x y ≡ false = grind (arith, nat_tests) in
-      let ne : x ≢ y = λ e. let t = times_itself x ys in let s : times x (y ∷ ys) ≡ times x (x ∷ ys) = ap (λ z. times x (z ∷ ys)) (sym e) in omega arith in
+      let ne : x ≢ y = λ e. let t = times_itself x ys in let s : times x (y ∷ ys) ≡ times x (x ∷ ys) = ap (λ z. times x (z ∷ ys))
+      (sym e) in omega arith in
       let rest : times x ys ≡ 0 = omega arith in
       rw a (r.0, rises_insert (y + 1) x ys high r.1 (omega arith) h rest)
 ]
 
-pub rises_merge : (low : ℕ) (xs ys : List ℕ) (high : ℕ) → Rises low xs high → Rises low ys high → ((x : ℕ) → times x xs + times x ys ≤ 1) → Rises low (merge xs ys) high
+pub rises_merge : (low : ℕ) (xs ys : List ℕ) (high : ℕ) → Rises low xs high → Rises low ys high → ((x : ℕ) → times x xs + times x ys ≤ 1)
+    → Rises low (merge xs ys) high
 rises_merge low [] ys high r s apart = s
 rises_merge low (x ∷ xs) ys high r s apart =
     let a = r.0 in

@@ -62,12 +62,14 @@ module _ {M E : Type 0} (next : M → E → M) (weight : E → ℕ) where
       → IsBalanced next weight m' (record { from = from; base = base; seen = xs ++ (p, e) ∷ [] }) (bytes + w) limit heaviest
   written m m' base from bytes limit heaviest w p e xs stepped is light fits free b =
       let full = b.full in let len = length-append xs ((p, e) ∷ []) in
-      let one : sum_by (λ (u : ℕ × E). weight u.1) ((p, e) ∷ []) ≡ weight e = sum_by-cons (λ (u : ℕ × E). weight u.1) (p, e) [] ∙ omega arith in
+      let one : sum_by (λ (u : ℕ × E). weight u.1) ((p, e) ∷ []) ≡ weight e = sum_by-cons (λ (u : ℕ × E). weight u.1) (p, e) []
+      ∙ omega arith in
       record {
         state = stepped ∙ ap (λ n. next n e) b.state ∙ sym (run-append next base xs ((p, e) ∷ []));
         weighed = sym (sum_by-append (λ (u : ℕ × E). weight u.1) xs ((p, e) ∷ []) ∙ (let s = b.weighed in omega arith));
         within = fits;
-        each = All-append (λ (u : ℕ × E). weight u.1 ≤ heaviest) xs ((p, e) ∷ []) b.each (All-from_recursion (λ (u : ℕ × E). weight u.1 ≤ heaviest) ((p, e) ∷ []) (rw (sym is) light, tt));
+        each = All-append (λ (u : ℕ × E). weight u.1 ≤ heaviest) xs ((p, e) ∷ []) b.each
+            (All-from_recursion (λ (u : ℕ × E). weight u.1 ≤ heaviest) ((p, e) ∷ []) (rw (sym is) light, tt));
         room = b.room;
         full = λ some. let f = full some in omega arith;
         places = omega arith;
@@ -106,9 +108,10 @@ module _ {M E R : Type 0} (next : M → E → M) (weight : E → ℕ) where
   })
 
   -- what was wanting for memory after entries had settled
-  pub wanting_on : (b c d : Book M E R) (event : E) (answer : Asked E R) → Settles next weight b c
-      → IfNoMemory answer (λ back. (back ≡ event) × Settles next weight c d) → IfNoMemory answer (λ back. (back ≡ event) × Settles next weight b d)
-  wanting_on b c d event (Done place r) s h = tt
-  wanting_on b c d event (Held place back) s h = tt
-  wanting_on b c d event (Spent entries back) s h = tt
-  wanting_on b c d event (NoMemory back) s h = (h.0, settles_on b c d s h.1)
+  pub wanting_on : (b c d : Book M E R) (event : E) (P Q : Type 0) (answer : Asked E R) → Settles next weight b c → P → Q
+      → IfNoMemory answer (λ back. (back ≡ event) × Settles next weight c d)
+      → IfNoMemory answer (λ back. (back ≡ event) × P × Q × Settles next weight b d)
+  wanting_on b c d event P Q (Done place r) s p q h = tt
+  wanting_on b c d event P Q (Held place back) s p q h = tt
+  wanting_on b c d event P Q (Spent entries back) s p q h = tt
+  wanting_on b c d event P Q (NoMemory back) s p q h = (h.0, p, q, settles_on b c d s h.1)

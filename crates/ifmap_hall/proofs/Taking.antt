@@ -14,7 +14,8 @@ module _ {M E R : Type 0} where
   slot_of [] = None
   slot_of (x ∷ xs) = x.1
 
-  first_is : (c : List (ℕ × Option (Book M E R))) (b book : Book M E R) (tail : List (ℕ × Option (Book M E R))) → c ≡ (0, Some b) ∷ [] → c ≡ (0, Some book) ∷ tail → b ≡ book
+  first_is : (c : List (ℕ × Option (Book M E R))) (b book : Book M E R) (tail : List (ℕ × Option (Book M E R))) → c ≡ (0, Some b) ∷ []
+      → c ≡ (0, Some book) ∷ tail → b ≡ book
   unfolding slot_of
   first_is c b book tail e f = same_Some b book (ap slot_of (sym e ∙ f))
 
@@ -27,7 +28,8 @@ module _ {M E R : Type 0} where
 
   module _ (next : M → E → M) (weight : E → ℕ) where
     -- what was in the slot is a book that the pass may find
-    pub finds_book : (m n o : Seated M E R) (t : ℕ) (found : Option (Book M E R)) (book : Book M E R) → n ≡ (with_ticket m.0 t, []) → (s : Served next weight n.0 o)
+    pub finds_book : (m n o : Seated M E R) (t : ℕ) (found : Option (Book M E R)) (book : Book M E R) → n ≡ (with_ticket m.0 t, [])
+        → (s : Served next weight n.0 o)
         → o.1 ≡ (0, found) ∷ rest o.1 → found ≡ Some book → Finds next weight m.0.view s.0 book
     finds_book m n o t found book drawn s lies is =
         let same = first_is o.1 s.1 book (rest o.1) (ap (λ p. p.1) s.3) (lies ∙ ap (λ (r : Option (Book M E R)). (0, r) ∷ rest o.1) is) in
@@ -37,7 +39,8 @@ module _ {M E R : Type 0} where
     pub brings_book : (m n o p q : Seated M E R) (t : ℕ) (b : Book M E R) → n ≡ (with_ticket m.0 t, []) → (s : Served next weight n.0 o)
         → p ≡ (o.0, (0, None) ∷ rest o.1) → q ≡ (p.0, (0, Some b) ∷ rest p.1) → q ≡ (with_book (with_ticket m.0 t) s.0, (0, Some b) ∷ [])
     brings_book m n o p q t b drawn s emptied filled =
-        filled ∙ ap (λ (r : Seated M E R). (r.0, (0, Some b) ∷ rest r.1)) emptied ∙ ap (λ (r : Seated M E R). (r.0, (0, Some b) ∷ rest r.1)) s.3
+        filled ∙ ap (λ (r : Seated M E R). (r.0, (0, Some b) ∷ rest r.1)) emptied
+        ∙ ap (λ (r : Seated M E R). (r.0, (0, Some b) ∷ rest r.1)) s.3
         ∙ ap (λ (r : Seated M E R). (with_book r.0 s.0, (0, Some b) ∷ [])) drawn
 
   pub holds_brought : (m : Seated M E R) (s : SeatView M E R) (t : ℕ) (h : History E) (b : Book M E R) → 0 < s.parts
@@ -45,7 +48,9 @@ module _ {M E R : Type 0} where
   holds_brought m s t h b part e = subst (λ (n : Seated M E R). HoldsBook n.0) (sym e) (record { holds = refl; part = part })
 
   -- the seat after the turn
-  pub goes_on_to : (next : M → E → M) (reply : M → E → R) (m n : Seated M E R) (s : SeatView M E R) (b : Book M E R) → m ≡ (s, (0, Some b) ∷ []) → WentOn next reply m n → n ≡ (after_turn next reply s b, [])
+  pub goes_on_to : (next : M → E → M) (reply : M → E → R) (m n : Seated M E R) (s : SeatView M E R) (b : Book M E R)
+      → m ≡ (s, (0, Some b) ∷ []) → WentOn next reply m n → n ≡ (after_turn next reply s b, [])
   goes_on_to next reply m n s b e w =
       let same = first_is m.1 b w.0 [] (ap (λ p. p.1) e) w.1 in
-      w.2 ∙ ap (λ (p : Seated M E R). (after_turn next reply p.0 w.0, [])) e ∙ ap (λ (c : Book M E R). (after_turn next reply s c, [])) (sym same)
+      w.2 ∙ ap (λ (p : Seated M E R). (after_turn next reply p.0 w.0, [])) e
+      ∙ ap (λ (c : Book M E R). (after_turn next reply s c, [])) (sym same)

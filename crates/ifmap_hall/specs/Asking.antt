@@ -1,5 +1,5 @@
 -- What an answer says of the pass before it and after it.
-use Rattle.std.specs.Prelude.{◌≡◌, ℕ, Bool, ◌+◌, ◌-◌, ◌^◌, ◌≤◌, List, [], ◌∷◌, ◌++◌, length, true, false}
+use Rattle.std.specs.Prelude.{◌≡◌, ℕ, Bool, ◌+◌, ◌-◌, ◌^◌, ◌<◌, ◌≤◌, List, [], ◌∷◌, ◌++◌, length, true, false}
 use Rattle.ifmap_hall.specs.Histories.{Extends}
 use Rattle.ifmap_hall.specs.Plays.{Gives}
 use Rattle.ifmap_hall.specs.SeatViews.{view_after}
@@ -34,6 +34,7 @@ module _ {M E R : Type 0} where
       pub before : List (ℕ × E)
       pub entry : w.history.log ≡ before ++ (number, event) ∷ []
       pub place_is : length before ≡ place
+      pub numbered : place < 2 ^ 64 - 1
       pub free : holds_on (run next v.terms.opening.value before) event ≡ false
       pub reply_is : r ≡ reply (run next v.terms.opening.value before) event
       pub settled : w.history.from ≤ place
@@ -45,11 +46,13 @@ module _ {M E R : Type 0} where
     abbrev pub Answered : View M E R → View M E R → ℕ → E → Asked E R → Type 0
     Answered v w number event (Done place r) = Said v w number event place r
     Answered v w number event (Held place back) =
-        (back ≡ event) × (length w.history.log ≡ place)
+        (back ≡ event) × (length w.history.log ≡ place) × (place < 2 ^ 64 - 1)
         × (holds_on (run next v.terms.opening.value w.history.log) event ≡ true) × SaidNothing v w
     Answered v w number event (Spent entries back) =
         (back ≡ event) × (length w.history.log ≡ entries) × (entries ≡ 2 ^ 64 - 1) × SaidNothing v w
-    Answered v w number event (NoMemory back) = (back ≡ event) × SaidNothing v w
+    Answered v w number event (NoMemory back) =
+        (back ≡ event) × (length w.history.log < 2 ^ 64 - 1)
+        × (holds_on (run next v.terms.opening.value w.history.log) event ≡ false) × SaidNothing v w
 
     -- what each answer says of what is seen: the base, and the entries after it
     abbrev pub AnsweredFromBase : Sight M E → ℕ → E → Asked E R → Type 0

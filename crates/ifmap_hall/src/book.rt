@@ -149,7 +149,9 @@ where
             (entries ≡ end_of_book self.old) × (entries ≡ 2 ^ 64 - 1)
             × (back ≡ event) × (self.new ≡ self.old)) }
         ensures no_memory { IfNoMemory result (λ back.
-            (back ≡ event) × Settles M.next M.weight_of self.old self.new) }
+            (back ≡ event) × (end_of_book self.old < 2 ^ 64 - 1)
+            × (M.holds_on self.old.machine event ≡ false)
+            × Settles M.next M.weight_of self.old self.new) }
     {
         let end = self.end();
         if end == u64::MAX {

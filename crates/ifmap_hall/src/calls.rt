@@ -5,7 +5,8 @@ ghost use Rattle.ifmap_hall.specs.Histories.{Extends, StandsFor};
 ghost use Rattle.ifmap_hall.specs.Sights.{CarriesOn};
 ghost use Rattle.ifmap_hall.specs.Places.{times};
 ghost use Rattle.ifmap_hall.specs.SeatViews.{share};
-ghost use Rattle.ifmap_hall.specs.Views.{first_view, kept_view, given_view, joint_view, sight_by, IsSound};
+ghost use Rattle.ifmap_hall.specs.Views.{first_view, kept_view, given_view, joint_view};
+ghost use Rattle.ifmap_hall.specs.Views.{sight_by, IsSound};
 ghost use Rattle.ifmap_hall.specs.Asking.{TookATurn, Answered, AnsweredFromBase};
 ghost use Rattle.ifmap_hall.specs.Passes.{IsOf, view_of, number_of};
 

@@ -1,6 +1,7 @@
 //! The rule of the hall's table, and the names of its steps.
 ghost use Rattle.ifmap_hall.specs.Rule.{Keeps};
-ghost use Rattle.ifmap_hall.specs.SeatViews.{first_seat, kept_seat, given_seat, joint_seat, spent_seat};
+ghost use Rattle.ifmap_hall.specs.SeatViews.{first_seat, kept_seat, given_seat};
+ghost use Rattle.ifmap_hall.specs.SeatViews.{joint_seat, spent_seat};
 ghost use Rattle.ifmap_hall.specs.Plays.{Checks, Draws, Looks, Passes};
 
 use crate::book::Book;

@@ -1,7 +1,8 @@
 //! The steps on a hall's table.
 ghost use Rattle.std.specs.Prelude.{◌≡◌, ◌≢◌, ℕ, ◌+◌, ◌%◌, ◌^◌, ◌<◌, ◌≤◌, [], ◌∷◌, ◌++◌, length};
 ghost use Rattle.ifmap_hall.specs.SeatViews.{with_ticket, kept_seat, given_seat, joint_seat};
-ghost use Rattle.ifmap_hall.specs.SeatViews.{ticket_of, IsAtRest, IsWaiting, HoldsBook, IsSoundSeat};
+ghost use Rattle.ifmap_hall.specs.SeatViews.{ticket_of, IsSoundSeat};
+ghost use Rattle.ifmap_hall.specs.SeatViews.{IsAtRest, IsWaiting, HoldsBook};
 ghost use Rattle.ifmap_hall.specs.Plays.{Served, Brings, WentOn};
 
 use crate::book::Book;

@@ -2,7 +2,7 @@
 ghost use Rattle.std.specs.Prelude.{◌≡◌, ◌+◌, ◌*◌, ◌<◌, ◌≤◌, All, IfOk, length};
 ghost use Rattle.ifmap_hall.specs.Passes.{IsOf, view_of};
 
-use crate::till::{Payment, Till, Told, pay, told};
+use crate::till::{Payment, Till, Told, pay, tell};
 use ifmap_hall::{Hall, Pass};
 use std::alloc::{AllocError as NoMemory, Global};
 use std::sync::Wait;
@@ -66,7 +66,7 @@ fn work<R: Wait + Clock>(
             level: 0,
             weight: 600,
         };
-        let answer = told(pay(rt, alloc, hall, pass, payment));
+        let answer = tell(pay(rt, alloc, hall, pass, payment));
         if let Told::Done(place, reply) = answer
             && answers.push((place, reply)).is_err()
         {

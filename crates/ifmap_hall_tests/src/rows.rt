@@ -2,7 +2,7 @@
 ghost use Rattle.std.specs.Prelude.{◌≡◌, ◌+◌, ◌*◌, ◌<◌, ◌≤◌, IfOk};
 ghost use Rattle.ifmap_hall.specs.Books.{IsBook};
 
-use crate::till::{Payment, Till, Told, heavy, pay, told};
+use crate::till::{Payment, Till, Told, heavy, pay, tell};
 use ifmap_hall::{Asked, Book, Hall, Machine, carries_itself, carries_through};
 use std::alloc::{AllocError as NoMemory, Global};
 use std::collections::VecDeque;
@@ -12,9 +12,9 @@ use std::test::Fail;
 fn the_oldest_entry_goes_to_the_base(rt: HostRuntime) -> Result<(), Fail> {
     let alloc = rt.alloc();
     let (hall, mut pass) = Hall::begin(alloc, Till { sum: 0 }, Till { sum: 0 }, 1200, 600)?;
-    let first = told(pay(&rt, alloc, &hall, &mut pass, heavy(5)));
-    let second = told(pay(&rt, alloc, &hall, &mut pass, heavy(7)));
-    let third = told(pay(&rt, alloc, &hall, &mut pass, heavy(9)));
+    let first = tell(pay(&rt, alloc, &hall, &mut pass, heavy(5)));
+    let second = tell(pay(&rt, alloc, &hall, &mut pass, heavy(7)));
+    let third = tell(pay(&rt, alloc, &hall, &mut pass, heavy(9)));
     assert!(rt; [first, second, third] == [Told::Done(0, 0), Told::Done(1, 5), Told::Done(2, 12)]);
     let book = hall.close(&rt, pass);
     assert!(rt; book.from == 1 && book.bytes == 1200 && book.journal.len() == 2);
@@ -55,7 +55,7 @@ fn a_book_without_numbers_says_so(rt: HostRuntime) -> Result<(), Fail> {
         weight: 600,
     };
     let answer = book.turn(rt.alloc(), 0, payment);
-    assert!(rt; told(answer) == Told::Spent(u64::MAX));
+    assert!(rt; tell(answer) == Told::Spent(u64::MAX));
     assert!(rt; book.from == u64::MAX - 1 && book.journal.len() == 1 && book.machine.sum == 6);
     carries_itself::<Till>();
     carries_through::<Till>();
@@ -67,11 +67,11 @@ fn two_passes_ask_one_history(rt: HostRuntime) -> Result<(), Fail> {
     let alloc = rt.alloc();
     let (hall, mut pass) = Hall::begin(alloc, Till { sum: 0 }, Till { sum: 0 }, 6000, 600)?;
     let mut other = hall.split(&mut pass)?;
-    let first = told(pay(&rt, alloc, &hall, &mut pass, heavy(3)));
-    let second = told(pay(&rt, alloc, &hall, &mut other, heavy(4)));
-    let third = told(pay(&rt, alloc, &hall, &mut pass, heavy(5)));
+    let first = tell(pay(&rt, alloc, &hall, &mut pass, heavy(3)));
+    let second = tell(pay(&rt, alloc, &hall, &mut other, heavy(4)));
+    let third = tell(pay(&rt, alloc, &hall, &mut pass, heavy(5)));
     hall.join(&mut pass, other);
-    let fourth = told(pay(&rt, alloc, &hall, &mut pass, heavy(6)));
+    let fourth = tell(pay(&rt, alloc, &hall, &mut pass, heavy(6)));
     let got = [first, second, third, fourth];
     assert!(rt;
         got == [

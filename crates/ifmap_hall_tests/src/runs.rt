@@ -2,8 +2,8 @@
 ghost use Rattle.std.specs.Prelude.{◌≡◌, ◌+◌, ◌*◌, ◌<◌, ◌≤◌, IfOk};
 ghost use Rattle.ifmap_hall.specs.Passes.{IsOf, view_of};
 
-use crate::till::{Payment, Till, Told, pay, told};
-use ifmap_hall::{Hall, Pass};
+use crate::till::{Payment, Till, Told, pay, tell};
+use ifmap_hall::{Book, Hall, Pass};
 use std::alloc::{AllocError as NoMemory, Global};
 use std::sync::Wait;
 use std::test::Fail;
@@ -14,6 +14,7 @@ type Row = (bool, u64, u64, u64);
 // All entries, each with its amount and its weight, and how many of the oldest are in the base.
 #[derive(Drop)]
 struct Plain {
+    alloc: Global,
     entries: Vec<(u64, u64)>,
     settled: usize,
 }
@@ -81,29 +82,71 @@ fn begin(alloc: Global) -> Result<(Hall<Till>, Pass<Till>, Pass<Till>), NoMemory
     Ok((hall, pass, other))
 }
 
-// Whether the answers of a hall are those of a plain list, and its book is that list at the end.
+// Whether a pass answers a payment as the list does.
+fn is_as_listed<R: Wait>(
+    rt: &R,
+    hall: &Hall<Till>,
+    pass: &mut Pass<Till>,
+    list: &mut Plain,
+    row: Row,
+) -> Result<bool, NoMemory>
+    requires hall { IsOf hall.now pass.old }
+    requires light { 600 ≤ (view_of pass.old).terms.heaviest }
+    ensures hall { IsOf hall.now pass.new }
+    ensures terms { (view_of pass.new).terms ≡ (view_of pass.old).terms }
+{
+    let answer = tell(pay(rt, list.alloc, hall, pass, payment_of(row)));
+    let listed = list.ask(row)?;
+    Ok(answer == listed)
+}
+
+// Whether two passes answer all payments as a list does.
+fn are_as_listed<R: Wait>(
+    rt: &R,
+    hall: &Hall<Till>,
+    first: &mut Pass<Till>,
+    second: &mut Pass<Till>,
+    list: &mut Plain,
+    rows: &[Row],
+) -> Result<bool, NoMemory>
+    requires first { IsOf hall.now first.old × (600 ≤ (view_of first.old).terms.heaviest) }
+    requires second { IsOf hall.now second.old × (600 ≤ (view_of second.old).terms.heaviest) }
+    ensures hall { IsOf hall.now first.new × IsOf hall.now second.new }
+{
+    for row in rows {
+        let same = if row.0 {
+            is_as_listed(rt, hall, second, list, *row)?
+        } else {
+            is_as_listed(rt, hall, first, list, *row)?
+        };
+        if !same {
+            return Ok(false);
+        }
+    }
+    Ok(true)
+}
+
+// Whether the book is that of the list.
+fn is_book_of(book: &Book<Till>, list: &Plain) -> bool {
+    book.from == list.settled as u64
+        && book.bytes == list.bytes()
+        && book.journal.len() == list.entries.len().saturating_sub(list.settled)
+        && book.base.sum == list.sum(list.settled)
+        && book.machine.sum == list.sum(list.entries.len())
+}
+
+// Whether a hall answers all payments as a plain list does, and its book is that list at the end.
 fn is_same<R: Wait>(rt: &R, alloc: Global, rows: &[Row]) -> Result<bool, NoMemory> {
     let (hall, mut pass, mut other) = begin(alloc)?;
     let mut list = Plain {
+        alloc,
         entries: Vec::new(alloc),
         settled: 0,
     };
-    let mut same = true;
-    for row in rows {
-        let payment = payment_of(*row);
-        let answer = if row.0 {
-            told(pay(rt, alloc, &hall, &mut other, payment))
-        } else {
-            told(pay(rt, alloc, &hall, &mut pass, payment))
-        };
-        same = same && answer == list.ask(*row)?;
-    }
+    let same = are_as_listed(rt, &hall, &mut pass, &mut other, &mut list, rows)?;
     hall.join(&mut other, pass);
     let book = hall.close(rt, other);
-    let base = book.from == list.settled as u64 && book.base.sum == list.sum(list.settled);
-    let end = book.end() == list.entries.len() as u64;
-    let machine = book.machine.sum == list.sum(list.entries.len());
-    Ok(same && base && end && machine && book.bytes == list.bytes())
+    Ok(same && is_book_of(&book, &list))
 }
 
 #[test]

@@ -81,7 +81,7 @@ pub(crate) enum Told {
     NoMemory,
 }
 
-pub(crate) fn told(answer: Asked<Payment, u64>) -> Told {
+pub(crate) fn tell(answer: Asked<Payment, u64>) -> Told {
     match answer {
         Asked::Done { place, reply } => Told::Done(place, reply),
         Asked::Held { place, event } => Told::Held(place, event.amount),

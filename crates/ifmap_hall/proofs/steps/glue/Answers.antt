@@ -12,5 +12,6 @@ join_seat-requires g c =
       c.requires.other,
       q.slots,
       omega (arith, c.requires.words),
-      joins g.M.Machine.next g.M.Machine.weight_of g.M.Machine.some_state c.args.table.now.key s.id o.id s.me.0 o.me.0 r.part q.part r.idle q.idle,
+      joins g.M.Machine.next g.M.Machine.weight_of g.M.Machine.some_state c.args.table.now.key s.id o.id s.me.0 o.me.0 r.part q.part
+          r.idle q.idle,
     )

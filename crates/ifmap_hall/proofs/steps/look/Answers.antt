@@ -11,5 +11,6 @@ load-requires g c =
     let r = c.requires.waits in (
       c.requires.own,
       omega (arith, c.requires.words),
-      rw r.slots (looks g.M.Machine.next g.M.Machine.weight_of t.key t.table_id.slots s.id s.me.0 (step t.table_id.slots 0 0 0 none) r.part r.waits),
+      rw r.slots (looks g.M.Machine.next g.M.Machine.weight_of t.key t.table_id.slots s.id s.me.0
+          (step t.table_id.slots 0 0 0 none) r.part r.waits),
     )

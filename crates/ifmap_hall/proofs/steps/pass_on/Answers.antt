@@ -12,6 +12,7 @@ fetch_add-requires g c =
     let b = c.requires.book in (
       c.requires.own,
       omega (arith, c.requires.words),
-      rw b.1 (passes g.M.Machine.next g.M.Machine.weight_of g.M.Machine.reply t.key t.table_id.slots s.id s.me.0 b.0 (step t.table_id.slots 0 1 0 none)
+      rw b.1 (passes g.M.Machine.next g.M.Machine.weight_of g.M.Machine.reply t.key t.table_id.slots s.id s.me.0 b.0
+          (step t.table_id.slots 0 1 0 none)
           c.requires.holds.part (ap holds_book c.requires.holds.holds) b.2),
     )

@@ -25,7 +25,8 @@ returns-clause-carries_other g c =
 
 pub returns-clause-apart : goal.returns-clause-apart
 returns-clause-apart g c =
-    joint_apart g.M.Machine.next c.args.into.now.seat.me.0 c.args.from.seat.me.0 (subst (λ m. IsSoundSeat m.0) c.glue.ensures.both c.check.ensures.sound)
+    joint_apart g.M.Machine.next c.args.into.now.seat.me.0 c.args.from.seat.me.0
+    (subst (λ m. IsSoundSeat m.0) c.glue.ensures.both c.check.ensures.sound)
 
 pub returns-clause-sound : goal.returns-clause-sound
 returns-clause-sound g c = subst (λ m. IsSound m.0.view) (sym c.check.ensures.same) c.check.ensures.sound.view
