@@ -1,0 +1,14 @@
+pub mod CarryingOn
+pub mod Extending
+pub mod General
+pub mod Places
+pub mod Settling
+pub mod Changes
+pub mod Drawing
+pub mod Cutting
+pub mod Passing
+pub mod Gluing
+pub mod Opening
+pub mod Turning
+pub mod Sighting
+pub mod Taking

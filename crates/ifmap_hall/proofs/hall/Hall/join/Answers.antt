@@ -1,0 +1,32 @@
+use Rattle.std.proofs.Common.{◌∙◌, sym, subst}
+use Rattle.ifmap_hall.specs.SeatViews.{IsSoundSeat}
+use Rattle.ifmap_hall.specs.Sights.{CarriesOn}
+use Rattle.ifmap_hall.specs.Views.{IsSound, sight_by}
+use Rattle.ifmap_hall.proofs.Sighting.{joint_carries, joint_apart}
+use Rattle.ifmap_hall.proofs.hall.Hall.join.Goals as goal
+
+pub returns-clause-carries_this : goal.returns-clause-carries_this
+returns-clause-carries_this g c =
+    let next = g.M.Machine.next in
+    let s = c.args.into.now.seat.me.0 in
+    let u = c.args.from.seat.me.0 in
+    let sound = subst (λ m. IsSoundSeat m.0) c.glue.ensures.both c.check.ensures.sound in
+    subst (λ m. CarriesOn next (sight_by next s.view) (sight_by next m.0.view)) (sym (c.check.ensures.same ∙ c.glue.ensures.both))
+    (joint_carries next s u (c.requires.hall.0.terms ∙ sym c.requires.hall.1.terms) c.args.into.now.inside c.args.from.inside sound).0
+
+pub returns-clause-carries_other : goal.returns-clause-carries_other
+returns-clause-carries_other g c =
+    let next = g.M.Machine.next in
+    let s = c.args.into.now.seat.me.0 in
+    let u = c.args.from.seat.me.0 in
+    let sound = subst (λ m. IsSoundSeat m.0) c.glue.ensures.both c.check.ensures.sound in
+    subst (λ m. CarriesOn next (sight_by next u.view) (sight_by next m.0.view)) (sym (c.check.ensures.same ∙ c.glue.ensures.both))
+    (joint_carries next s u (c.requires.hall.0.terms ∙ sym c.requires.hall.1.terms) c.args.into.now.inside c.args.from.inside sound).1
+
+pub returns-clause-apart : goal.returns-clause-apart
+returns-clause-apart g c =
+    joint_apart g.M.Machine.next c.args.into.now.seat.me.0 c.args.from.seat.me.0
+    (subst (λ m. IsSoundSeat m.0) c.glue.ensures.both c.check.ensures.sound)
+
+pub returns-clause-sound : goal.returns-clause-sound
+returns-clause-sound g c = subst (λ m. IsSound m.0.view) (sym c.check.ensures.same) c.check.ensures.sound.view

@@ -1,0 +1,12 @@
+pub mod Answers
+pub mod Asking
+pub mod Books
+pub mod Histories
+pub mod Passes
+pub mod Places
+pub mod Plays
+pub mod Rule
+pub mod SeatViews
+pub mod Sights
+pub mod Turns
+pub mod Views

@@ -1,0 +1,187 @@
+//! The calls of a hall.
+ghost use Rattle.std.specs.Prelude.{◌≡◌, ℕ, ◌+◌, ◌*◌, ◌^◌, ◌<◌, ◌≤◌, true, [], IfOk, OnErr};
+ghost use Rattle.ifmap_hall.specs.Books.{sight_of, IsBook};
+ghost use Rattle.ifmap_hall.specs.Histories.{Extends, StandsFor};
+ghost use Rattle.ifmap_hall.specs.Sights.{CarriesOn};
+ghost use Rattle.ifmap_hall.specs.Places.{times};
+ghost use Rattle.ifmap_hall.specs.SeatViews.{share};
+ghost use Rattle.ifmap_hall.specs.Views.{first_view, kept_view, given_view, joint_view};
+ghost use Rattle.ifmap_hall.specs.Views.{sight_by, IsSound};
+ghost use Rattle.ifmap_hall.specs.Asking.{TookATurn, Answered, AnsweredFromBase};
+ghost use Rattle.ifmap_hall.specs.Passes.{IsOf, view_of, number_of};
+
+use crate::asking::{ask_seat, await_turn};
+use crate::book::{Asked, Book};
+use crate::hall::{Hall, Pass};
+use crate::machine::Machine;
+use crate::steps::{check, cut, draw, glue};
+use crate::view::{History, Terms};
+use atomic_table::Table;
+use std::alloc::{AllocError as NoMemory, Global};
+use std::collections::VecDeque;
+use std::snapshot::Snapshot;
+use std::sync::Wait;
+
+// How many of its parts a pass gives to one that is split from it.
+fn share_of(parts: u64) -> u64
+    ensures { result ≡ share parts }
+{
+    if parts < 65536 { 1 } else { parts / 65536 }
+}
+
+impl<M: Machine + Drop> Hall<M>
+where
+    M::Event: Drop,
+    M::Reply: Drop,
+{
+    /// A hall with no entry yet, and its first pass. Its two machines must be in one state, the
+    /// opening state; twice the heaviest weight must be at most the limit, both in bytes.
+    pub fn begin(
+        alloc: Global,
+        machine: M,
+        base: M,
+        limit: u64,
+        heaviest: u64,
+    ) -> Result<(Hall<M>, Pass<M>), NoMemory>
+        requires same { machine ≡ base }
+        requires room { 2 * heaviest ≤ limit }
+        ensures hall { IfOk result (λ r. IsOf r.0 r.1) }
+        ensures view { IfOk result (λ r. view_of r.1 ≡ first_view (view_of r.1).terms) }
+        ensures opening { IfOk result (λ r. (view_of r.1).terms.opening.value ≡ base) }
+        ensures limit { IfOk result (λ r. (view_of r.1).terms.limit ≡ limit) }
+        ensures heaviest { IfOk result (λ r. (view_of r.1).terms.heaviest ≡ heaviest) }
+    {
+        let terms = Terms {
+            opening: Snapshot::of(&base),
+            limit,
+            heaviest,
+        };
+        let mut slots = Vec::with_capacity(alloc, 1)?;
+        slots.push(Some(Book {
+            base,
+            machine,
+            from: 0,
+            journal: VecDeque::new(alloc),
+            bytes: 0,
+            limit,
+            heaviest,
+        }))?;
+        let Ok((table, seat)) = Table::new(alloc, &[0, 0], slots, &terms) else {
+            return Err(NoMemory);
+        };
+        Ok((
+            Hall { table },
+            Pass {
+                seat,
+                number: 0,
+                made: 0,
+                parts: u64::MAX,
+            },
+        ))
+    }
+
+    /// Another pass of this hall, which has seen the same and has asked nothing. `Err` comes where
+    /// the pass has no part left to give, after more than two million splits of one pass or some
+    /// four levels of splits of splits, and leaves it as it was.
+    pub fn split(&self, pass: &mut Pass<M>) -> Result<Pass<M>, NoMemory>
+        requires hall { IsOf self.now pass.old }
+        ensures hall { IsOf self.now pass.new }
+        ensures number { number_of pass.new ≡ number_of pass.old }
+        ensures kept { IfOk result (λ _. view_of pass.new ≡ kept_view (view_of pass.old)) }
+        ensures given { IfOk result (λ p. view_of p ≡ given_view (view_of pass.old)) }
+        ensures given_hall { IfOk result (λ p. IsOf self.now p) }
+        ensures err { OnErr result (view_of pass.new ≡ view_of pass.old) }
+    {
+        if pass.parts < 2 {
+            return Err(NoMemory);
+        }
+        let parts = share_of(pass.parts);
+        let seat = cut(&self.table.shared, &mut pass.seat);
+        pass.parts -= parts;
+        pass.made = pass.made.wrapping_add(1);
+        let number = pass.number.wrapping_add(pass.made);
+        Ok(Pass {
+            seat,
+            number,
+            made: 0,
+            parts,
+        })
+    }
+
+    /// Joins another pass of this hall to this one. The history is then that of the one of the two
+    /// that carries on the other, and the places are those of both, which have none in common.
+    pub fn join(&self, into: &mut Pass<M>, from: Pass<M>)
+        requires hall { IsOf self.now into.old × IsOf self.now from }
+        ensures hall { IsOf self.now into.new }
+        ensures number { number_of into.new ≡ number_of into.old }
+        ensures view { view_of into.new ≡ joint_view (view_of into.old) (view_of from) }
+        ensures carries_this { CarriesOn M.next
+            (sight_by M.next (view_of into.old)) (sight_by M.next (view_of into.new)) }
+        ensures carries_other { CarriesOn M.next
+            (sight_by M.next (view_of from)) (sight_by M.next (view_of into.new)) }
+        ensures apart { (x : ℕ)
+            → times x (view_of into.old).mine + times x (view_of from).mine ≤ 1 }
+        ensures sound { IsSound (view_of into.new) }
+    {
+        let Pass {
+            seat,
+            number: _,
+            made: _,
+            parts,
+        } = from;
+        glue(&self.table.shared, &mut into.seat, seat);
+        check(&self.table.shared, &mut into.seat);
+        into.parts = into.parts.saturating_add(parts);
+    }
+
+    /// Asks the book in turn, and may wait for it. What the pass has seen is afterwards all that
+    /// the book has seen. The answer is that of `Book::turn` on the book as the turn found it.
+    pub fn ask<R: Wait>(
+        &self,
+        rt: &R,
+        alloc: Global,
+        pass: &mut Pass<M>,
+        event: M::Event,
+    ) -> Asked<M::Event, M::Reply>
+        requires hall { IsOf self.now pass.old }
+        requires light { M.weight_of event ≤ (view_of pass.old).terms.heaviest }
+        ensures hall { IsOf self.now pass.new }
+        ensures number { number_of pass.new ≡ number_of pass.old }
+        ensures carries { CarriesOn M.next
+            (sight_by M.next (view_of pass.old)) (sight_by M.next (view_of pass.new)) }
+        ensures took { TookATurn (view_of pass.old) (view_of pass.new) }
+        ensures answered { Answered M.next M.holds_on M.reply
+            (view_of pass.old) (view_of pass.new) (number_of pass.old) event result }
+        ensures from_base { AnsweredFromBase M.next M.holds_on M.reply
+            (sight_by M.next (view_of pass.new)) (number_of pass.old) event result }
+    {
+        let number = pass.number;
+        ask_seat(rt, &self.table.shared, alloc, &mut pass.seat, number, event)
+    }
+
+    /// Takes the book out in turn, and ends the hall. It may wait. Another pass that was not joined
+    /// can ask nothing any more.
+    pub fn close<R: Wait>(self, rt: &R, pass: Pass<M>) -> Book<M>
+        requires hall { IsOf self pass }
+        ensures carries { CarriesOn M.next (sight_by M.next (view_of pass)) (sight_of result) }
+        ensures book { IsBook M.next M.weight_of result }
+        ensures limit { result.limit ≡ (view_of pass).terms.limit }
+        ensures heaviest { result.heaviest ≡ (view_of pass).terms.heaviest }
+        ensures whole { (h : History M.Event) × Extends (view_of pass).history h
+            × StandsFor M.next M.weight_of (view_of pass).terms h result }
+    {
+        let Hall { table } = self;
+        let Pass {
+            mut seat,
+            number: _,
+            made: _,
+            parts: _,
+        } = pass;
+        let ticket = draw(&table.shared, &mut seat);
+        await_turn(rt, &table.shared, &mut seat, ticket);
+        let Some(book) = table.shared.exchange(&mut seat, 0, None) else {
+            unreachable!();
+        };
+        book
+    }
+}

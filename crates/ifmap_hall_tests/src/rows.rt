@@ -1,0 +1,92 @@
+//! Rows that a book and a hall must answer.
+ghost use Rattle.std.specs.Prelude.{◌≡◌, ◌+◌, ◌*◌, ◌<◌, ◌≤◌, IfOk};
+ghost use Rattle.ifmap_hall.specs.Books.{IsBook};
+
+use crate::till::{Payment, Till, Told, heavy, pay, tell};
+use ifmap_hall::{Asked, Book, Hall, Machine, carries_itself, carries_through};
+use std::alloc::{AllocError as NoMemory, Global};
+use std::collections::VecDeque;
+use std::test::Fail;
+
+#[test]
+fn the_oldest_entry_goes_to_the_base(rt: HostRuntime) -> Result<(), Fail> {
+    let alloc = rt.alloc();
+    let (hall, mut pass) = Hall::begin(alloc, Till { sum: 0 }, Till { sum: 0 }, 1200, 600)?;
+    let first = tell(pay(&rt, alloc, &hall, &mut pass, heavy(5)));
+    let second = tell(pay(&rt, alloc, &hall, &mut pass, heavy(7)));
+    let third = tell(pay(&rt, alloc, &hall, &mut pass, heavy(9)));
+    assert!(rt; [first, second, third] == [Told::Done(0, 0), Told::Done(1, 5), Told::Done(2, 12)]);
+    let book = hall.close(&rt, pass);
+    assert!(rt; book.from == 1 && book.bytes == 1200 && book.journal.len() == 2);
+    assert!(rt; book.base.sum == 5 && book.machine.sum == 21 && book.end() == 3);
+    Ok(())
+}
+
+// A book with one entry, whose end is the last number.
+fn last_book(alloc: Global) -> Result<Book<Till>, NoMemory>
+    ensures book { IfOk result (λ b. IsBook ⟦<Till as Machine>⟧.next ⟦<Till as Machine>⟧.weight_of b) }
+    ensures heaviest { IfOk result (λ b. b.heaviest ≡ 600) }
+{
+    let mut journal = VecDeque::new(alloc);
+    let payment = Payment {
+        amount: 1,
+        level: 0,
+        weight: 600,
+    };
+    journal.push_back((7, payment))?;
+    Ok(Book {
+        base: Till { sum: 5 },
+        machine: Till { sum: 6 },
+        from: u64::MAX - 1,
+        journal,
+        bytes: 600,
+        limit: 1200,
+        heaviest: 600,
+    })
+}
+
+#[test]
+fn a_book_without_numbers_says_so(rt: HostRuntime) -> Result<(), Fail> {
+    let mut book = last_book(rt.alloc())?;
+    // It would be held, but that is looked at later.
+    let payment = Payment {
+        amount: 1,
+        level: 100,
+        weight: 600,
+    };
+    let answer = book.turn(rt.alloc(), 0, payment);
+    assert!(rt; tell(answer) == Told::Spent(u64::MAX));
+    assert!(rt; book.from == u64::MAX - 1 && book.journal.len() == 1 && book.machine.sum == 6);
+    carries_itself::<Till>();
+    carries_through::<Till>();
+    Ok(())
+}
+
+#[test]
+fn two_passes_ask_one_history(rt: HostRuntime) -> Result<(), Fail> {
+    let alloc = rt.alloc();
+    let (hall, mut pass) = Hall::begin(alloc, Till { sum: 0 }, Till { sum: 0 }, 6000, 600)?;
+    let mut other = hall.split(&mut pass)?;
+    let first = tell(pay(&rt, alloc, &hall, &mut pass, heavy(3)));
+    let second = tell(pay(&rt, alloc, &hall, &mut other, heavy(4)));
+    let third = tell(pay(&rt, alloc, &hall, &mut pass, heavy(5)));
+    hall.join(&mut pass, other);
+    let fourth = tell(pay(&rt, alloc, &hall, &mut pass, heavy(6)));
+    let got = [first, second, third, fourth];
+    assert!(rt;
+        got == [
+            Told::Done(0, 0),
+            Told::Done(1, 3),
+            Told::Done(2, 7),
+            Told::Done(3, 12)
+        ]
+    );
+    let book = hall.close(&rt, pass);
+    let mut numbers = [99; 4];
+    for (slot, entry) in numbers.iter_mut().zip(book.journal.iter()) {
+        *slot = entry.0;
+    }
+    // The passes have numbers of their own.
+    assert!(rt; numbers == [0, 1, 0, 0]);
+    Ok(())
+}
