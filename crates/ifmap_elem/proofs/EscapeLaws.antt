@@ -5,7 +5,7 @@ use Rattle.std.proofs.lemmas.Simd.{bitmask_splat, length-chunk, none_from_empty_
 use Rattle.std.specs.Bool.{OnTrue}
 use lib.Lanes.{chunk, mask_l, top, zip2}
 use Rattle.ifmap_elem.specs.declared.escaping.Place.{Place}
-use Rattle.ifmap_elem.specs.Escapes.{ArePlain, LacksByte, escape_bytes}
+use Rattle.ifmap_elem.specs.printer.Plain.{ArePlain, LacksByte, escape_bytes}
 
 on_true : (b : Bool) (P : Type 0) → (b ≡ true → P) → OnTrue b P
 on_true true P f = f refl

@@ -12,8 +12,8 @@ use Rattle.ifmap_elem.specs.Folds.{at_child_element, at_child_text}
 use Rattle.ifmap_elem.specs.Arranged.{arrange, arrange_child, sort_attributes}
 use Rattle.ifmap_elem.specs.Canonical.{after_prefix, printed_name, declaration_bytes, written_bytes, attribute_bytes, after_attributes_bytes, child_piece, element_piece, child_bytes, element_bytes}
 use Rattle.ifmap_elem.specs.Escapes.{text_bytes, value_bytes}
-use Rattle.ifmap_elem.specs.Namespaces.{spaces_of, spaces_of_child, child_spaces, element_spaces, numbered_prefixes, name_prefixes, AddsSpaces}
-use Rattle.ifmap_elem.specs.printer.Pieces.{IsFront, AreFinal, IsNumbered, Adds}
+use Rattle.ifmap_elem.specs.Namespaces.{spaces_of, spaces_of_child, child_spaces, element_spaces, numbered_prefixes, name_prefixes}
+use Rattle.ifmap_elem.specs.printer.Pieces.{AddsSpaces, IsFront, AreFinal, IsNumbered, Adds}
 use Rattle.ifmap_elem.specs.Scopes.{xml_space}
 use Rattle.ifmap_elem.specs.declared.elements.Name.{Name}
 use Rattle.ifmap_elem.specs.declared.elements.Attribute.{Attribute}

@@ -1,5 +1,5 @@
 -- The namespaces of an element in the order of their first occurrence, and their prefixes (Namespaces in XML 1.0).
-use Rattle.std.specs.Prelude.{◌≡◌, ℕ, ◌+◌, List, [], ◌∷◌, ◌++◌, map, Bool, not, ◌&&◌, codes}
+use Rattle.std.specs.Prelude.{ℕ, ◌+◌, List, [], ◌∷◌, ◌++◌, map, Bool, not, ◌&&◌, codes}
 use Rattle.std.specs.List.{filter, flat_map}
 use Rattle.ifmap_lemmas.specs.Numerals.{numeral}
 use Rattle.std.specs.Str.{bytes_eq}
@@ -39,10 +39,6 @@ declared_among spaces = once_each (filter is_declared spaces)
 -- the namespaces that an element declares where it is the root
 abbrev pub namespaces : Element → List (List ℕ)
 namespaces e = declared_among (spaces_of e)
-
--- old are the declared ones among some, and new are those among the same and these after them
-abbrev pub AddsSpaces : List (List ℕ) → List (List ℕ) → List (List ℕ) → Type 0
-AddsSpaces old spaces new = (seen : List (List ℕ)) → old ≡ declared_among seen → new ≡ declared_among (seen ++ spaces)
 
 -- namespaces with the prefixes of a letter and a number, the first with this one
 abbrev pub numbered_prefixes : List ℕ → ℕ → List (List ℕ) → List (List ℕ × List ℕ)

@@ -63,7 +63,8 @@ impl Element {
         attributes: Vec<Attribute>,
         children: Vec<Child>,
     ) -> Result<Element, NoMemory>
-        ensures { IfOk result (λ element. element ≡ bare_element local.now attributes.items children.items) }
+        ensures { IfOk result (λ element.
+            element ≡ bare_element local.now attributes.items children.items) }
     {
         Ok(Element {
             name: Name::bare(alloc, local)?,

@@ -14,7 +14,8 @@ use crate::lists::Many;
 /// elements, in time that grows with the square of their number in one element.
 pub fn same(a: &Element, b: &Element) -> bool
     ensures same { IsTrue result ↔ IsSame a.now b.now }
-    ensures canonical { IsFit a.now → IsFit b.now → (IsTrue result ↔ (canonical_bytes a.now ≡ canonical_bytes b.now)) }
+    ensures canonical { IsFit a.now → IsFit b.now →
+        (IsTrue result ↔ (canonical_bytes a.now ≡ canonical_bytes b.now)) }
 {
     same_element(a, b)
 }

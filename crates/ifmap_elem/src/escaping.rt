@@ -1,7 +1,8 @@
 //! Text and the values of attributes as they stand in canonical bytes.
 ghost use Rattle.std.specs.Prelude.{◌≡◌, ◌++◌, ◌+◌, ◌∷◌, [], ◌≤◌, length, OnOk, MatchOption};
 ghost use Rattle.std.specs.Bool.{OnTrue};
-ghost use Rattle.ifmap_elem.specs.Escapes.{escape_byte, escape_bytes, value_byte, ArePlain, LacksByte};
+ghost use Rattle.ifmap_elem.specs.Escapes.{value_byte};
+ghost use Rattle.ifmap_elem.specs.printer.Plain.{escape_byte, escape_bytes, ArePlain, LacksByte};
 
 use std::alloc::AllocError as NoMemory;
 use std::simd::prelude::*;

@@ -4,8 +4,8 @@ ghost use Rattle.ifmap_lemmas.specs.Numerals.{numeral};
 ghost use Rattle.std.specs.Map.{lookup};
 ghost use Rattle.std.specs.Option.{option_copied};
 ghost use Rattle.std.specs.Str.{bytes_eq};
-ghost use Rattle.ifmap_elem.specs.Namespaces.{name_prefixes, AddsSpaces};
-ghost use Rattle.ifmap_elem.specs.printer.Pieces.{IsFront, IsNumbered};
+ghost use Rattle.ifmap_elem.specs.Namespaces.{name_prefixes};
+ghost use Rattle.ifmap_elem.specs.printer.Pieces.{AddsSpaces, IsFront, IsNumbered};
 
 use crate::copying::Copied;
 use crate::texts::Text;
@@ -35,7 +35,10 @@ impl Model for Prefixes {
 
     ghost view = { λ p. p.order.items };
 
-    ghost invariant = { λ p. ((space : List ℕ) → get (slice_cmp nat_cmp) p.labels space ≡ lookup (bytes_eq space) (name_prefixes p.order.items)) × (lookup (bytes_eq []) (name_prefixes p.order.items) ≡ None) };
+    ghost invariant = { λ p.
+        ((space : List ℕ) → get (slice_cmp nat_cmp) p.labels space ≡
+        lookup (bytes_eq space) (name_prefixes p.order.items))
+        × (lookup (bytes_eq []) (name_prefixes p.order.items) ≡ None) };
 }
 
 impl Prefixes {

@@ -8,17 +8,22 @@ ghost use Rattle.ifmap_elem.specs.Canonical.{canonical_bytes, written_bytes};
 
 /// The attributes in order are the attributes, and they rise.
 pub fn sorting_orders_attributes()
-    ensures permutation { (attributes : List Attribute) → IsPermutation attributes (sort_attributes attributes) }
-    ensures rising { (attributes : List Attribute) → IsSorted attribute_order (sort_attributes attributes) }
+    ensures permutation { (attributes : List Attribute) →
+        IsPermutation attributes (sort_attributes attributes) }
+    ensures rising { (attributes : List Attribute) →
+        IsSorted attribute_order (sort_attributes attributes) }
 {}
 
-/// Attributes are in one order exactly where they are permutations of each other.
+/// Attributes that are permutations of each other are in one order.
 pub fn permutations_have_one_order()
-    ensures { (one other : List Attribute) → IsPermutation one other → sort_attributes one ≡ sort_attributes other }
+    ensures { (one other : List Attribute) → IsPermutation one other →
+        sort_attributes one ≡ sort_attributes other }
 {}
 
 /// Elements that are the same but for the order of attributes are printed alike.
 pub fn same_elements_are_printed_alike()
-    ensures canonical { (one other : Element) → IsSame one other → canonical_bytes one ≡ canonical_bytes other }
-    ensures written { (spaces : List (List ℕ)) (one other : Element) → IsSame one other → written_bytes one spaces ≡ written_bytes other spaces }
+    ensures canonical { (one other : Element) → IsSame one other →
+        canonical_bytes one ≡ canonical_bytes other }
+    ensures written { (spaces : List (List ℕ)) (one other : Element) → IsSame one other →
+        written_bytes one spaces ≡ written_bytes other spaces }
 {}

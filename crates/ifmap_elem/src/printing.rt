@@ -1,13 +1,14 @@
 //! Printing: the canonical bytes of an element.
-ghost use Rattle.std.specs.Prelude.{◌≡◌, ◌++◌, ◌+◌, ◌∷◌, [], map, IfOk, OnOk};
+ghost use Rattle.std.specs.Prelude.{◌≡◌, ◌++◌, ◌+◌, IfOk, OnOk};
 ghost use Rattle.std.specs.List.{AllByRecursion, flat_map};
 ghost use Rattle.std.specs.Option.{option_copied};
-ghost use Rattle.ifmap_elem.specs.Arranged.{arrange, arrange_child, sort_attributes};
+ghost use Rattle.ifmap_elem.specs.Arranged.{sort_attributes};
 ghost use Rattle.ifmap_elem.specs.Fit.{IsDeclarable, IsFit};
-ghost use Rattle.ifmap_elem.specs.Namespaces.{numbered_prefixes, spaces_of, spaces_of_child};
-ghost use Rattle.ifmap_elem.specs.printer.Pieces.{Adds, IsNumbered};
+ghost use Rattle.ifmap_elem.specs.Namespaces.{numbered_prefixes};
+ghost use Rattle.ifmap_elem.specs.printer.Pieces.{AddsAttribute, AddsAttributes, AddsChild, AddsContent, AddsElement, AddsName, IsNumbered};
 ghost use Rattle.ifmap_elem.specs.Spells.{Spells};
-ghost use Rattle.ifmap_elem.specs.Canonical.{canonical_bytes, canonical_reading, written_bytes, written_reading, printed_name, element_bytes, child_bytes, after_prefix, attribute_bytes, declaration_bytes, after_attributes_bytes};
+ghost use Rattle.ifmap_elem.specs.Canonical.{after_prefix, canonical_bytes, canonical_reading, declaration_bytes};
+ghost use Rattle.ifmap_elem.specs.Canonical.{written_bytes, written_reading};
 
 use crate::elements::{Attribute, Child, Element, Name};
 use crate::escaping::{Place, write_escaped};
@@ -21,7 +22,8 @@ use std::alloc::{AllocError as NoMemory, Global};
 /// sent. The one error is want of memory.
 pub fn canonical(alloc: Global, element: &Element) -> Result<Many<u8>, NoMemory>
     ensures bytes { IfOk result (λ bytes. bytes ≡ canonical_bytes element.now) }
-    ensures spelled { IsFit element.now → IfOk result (λ bytes. Spells bytes (canonical_reading element.now)) }
+    ensures spelled { IsFit element.now →
+        IfOk result (λ bytes. Spells bytes (canonical_reading element.now)) }
 {
     print_root(alloc, element, &[])
 }
@@ -30,7 +32,8 @@ pub fn canonical(alloc: Global, element: &Element) -> Result<Many<u8>, NoMemory>
 /// at the root, behind the element's own. The one error is want of memory.
 pub fn written(alloc: Global, element: &Element, spaces: &Many<Text>) -> Result<Many<u8>, NoMemory>
     ensures bytes { IfOk result (λ bytes. bytes ≡ written_bytes element.now spaces.now) }
-    ensures spelled { IsFit element.now → AllByRecursion IsDeclarable spaces.now → IfOk result (λ bytes. Spells bytes (written_reading element.now spaces.now)) }
+    ensures spelled { IsFit element.now → AllByRecursion IsDeclarable spaces.now →
+        IfOk result (λ bytes. Spells bytes (written_reading element.now spaces.now)) }
 {
     print_root(alloc, element, &spaces.0)
 }
@@ -60,7 +63,8 @@ fn write_element(
     element: &Element,
     out: &mut Vec<u8>,
 ) -> Result<(), NoMemory>
-    ensures { OnOk result (Adds prefixes.old (spaces_of (arrange element.now)) prefixes.new (λ rows. element_bytes rows (arrange element.now)) out.old.items out.new.items) }
+    ensures { OnOk result (
+        AddsElement element.now prefixes.old prefixes.new out.old.items out.new.items) }
 {
     out.extend_from_slice(b"<")?;
     write_new_name(alloc, prefixes, &element.name, out)?;
@@ -78,7 +82,8 @@ fn write_content(
     children: &Many<Child>,
     out: &mut Vec<u8>,
 ) -> Result<(), NoMemory>
-    ensures { OnOk result (IsNumbered prefixes.old name.now.space → Adds prefixes.old (flat_map (λ c. spaces_of_child (arrange_child c)) children.now) prefixes.new (λ rows. after_attributes_bytes (printed_name rows name.now) (map (λ c. child_bytes rows (arrange_child c)) children.now)) out.old.items out.new.items) }
+    ensures { OnOk result (IsNumbered prefixes.old name.now.space →
+        AddsContent name.now children.now prefixes.old prefixes.new out.old.items out.new.items) }
 {
     if children.0.is_empty() {
         out.extend_from_slice(b"/>")?;
@@ -101,7 +106,8 @@ fn write_child(
     child: &Child,
     out: &mut Vec<u8>,
 ) -> Result<(), NoMemory>
-    ensures { OnOk result (Adds prefixes.old (spaces_of_child (arrange_child child.now)) prefixes.new (λ rows. child_bytes rows (arrange_child child.now)) out.old.items out.new.items) }
+    ensures { OnOk result (
+        AddsChild child.now prefixes.old prefixes.new out.old.items out.new.items) }
 {
     match child {
         Child::Element(element) => {
@@ -121,7 +127,9 @@ fn write_attributes(
     attributes: &Many<Attribute>,
     out: &mut Vec<u8>,
 ) -> Result<(), NoMemory>
-    ensures { OnOk result (Adds prefixes.old (map (λ a. a.name.space) (sort_attributes attributes.now)) prefixes.new (λ rows. flat_map (attribute_bytes rows) (sort_attributes attributes.now)) out.old.items out.new.items) }
+    ensures { OnOk result (
+        AddsAttributes (sort_attributes attributes.now) prefixes.old prefixes.new
+        out.old.items out.new.items) }
 {
     if are_sorted(&attributes.0) {
         return write_each(alloc, prefixes, &attributes.0, out);
@@ -140,7 +148,8 @@ fn write_each(
     attributes: &[Attribute],
     out: &mut Vec<u8>,
 ) -> Result<(), NoMemory>
-    ensures { OnOk result (Adds prefixes.old (map (λ a. a.name.space) attributes.now) prefixes.new (λ rows. flat_map (attribute_bytes rows) attributes.now) out.old.items out.new.items) }
+    ensures { OnOk result (
+        AddsAttributes attributes.now prefixes.old prefixes.new out.old.items out.new.items) }
 {
     for attribute in attributes {
         write_attribute(alloc, prefixes, attribute, out)?;
@@ -155,7 +164,8 @@ fn write_attribute(
     attribute: &Attribute,
     out: &mut Vec<u8>,
 ) -> Result<(), NoMemory>
-    ensures { OnOk result (Adds prefixes.old (attribute.now.name.space ∷ []) prefixes.new (λ rows. attribute_bytes rows attribute.now) out.old.items out.new.items) }
+    ensures { OnOk result (
+        AddsAttribute attribute.now prefixes.old prefixes.new out.old.items out.new.items) }
 {
     out.extend_from_slice(b" ")?;
     write_new_name(alloc, prefixes, &attribute.name, out)?;
@@ -173,7 +183,8 @@ fn write_new_name(
     name: &Name,
     out: &mut Vec<u8>,
 ) -> Result<(), NoMemory>
-    ensures added { OnOk result (Adds prefixes.old (name.now.space ∷ []) prefixes.new (λ rows. printed_name rows name.now) out.old.items out.new.items) }
+    ensures added { OnOk result (
+        AddsName name.now prefixes.old prefixes.new out.old.items out.new.items) }
     ensures numbered { OnOk result (IsNumbered prefixes.new name.now.space) }
 {
     prefixes.add(alloc, &name.space)?;
@@ -183,7 +194,8 @@ fn write_new_name(
 
 #[inline(always)]
 fn write_name(prefix: Option<&Text>, local: &Text, out: &mut Vec<u8>) -> Result<(), NoMemory>
-    ensures { OnOk result (out.new.items ≡ out.old.items ++ after_prefix (option_copied prefix.entry) local.now) }
+    ensures { OnOk result (out.new.items ≡ out.old.items ++
+        after_prefix (option_copied prefix.entry) local.now) }
 {
     if let Some(prefix) = prefix {
         out.extend_from_slice(prefix.0.as_bytes())?;
@@ -200,7 +212,8 @@ fn write_declarations(
     spaces: &[Text],
     out: &mut Vec<u8>,
 ) -> Result<(), NoMemory>
-    ensures { OnOk result (out.new.items ≡ out.old.items ++ flat_map declaration_bytes (numbered_prefixes letter.now 1 spaces.now)) }
+    ensures { OnOk result (out.new.items ≡ out.old.items ++
+        flat_map declaration_bytes (numbered_prefixes letter.now 1 spaces.now)) }
 {
     for (i, space) in spaces.iter().enumerate() {
         let prefix = numbered_prefix(alloc, letter, i + 1)?;
@@ -210,7 +223,8 @@ fn write_declarations(
 }
 
 fn write_declaration(prefix: &Text, space: &Text, out: &mut Vec<u8>) -> Result<(), NoMemory>
-    ensures { OnOk result (out.new.items ≡ out.old.items ++ declaration_bytes (space.now, prefix.now)) }
+    ensures { OnOk result (out.new.items ≡ out.old.items ++
+        declaration_bytes (space.now, prefix.now)) }
 {
     out.extend_from_slice(b" xmlns:")?;
     out.extend_from_slice(prefix.0.as_bytes())?;

@@ -5,12 +5,12 @@ use Rattle.std.specs.List.{filter, flat_map}
 use Rattle.ifmap_elem.specs.declared.elements.Attribute.{Attribute}
 use Rattle.ifmap_elem.specs.declared.elements.Child.{Child}
 use Rattle.ifmap_elem.specs.declared.elements.Element.{Element}
-use Rattle.ifmap_elem.specs.Arranged.{child_arranged, element_arranged, sort_attributes}
+use Rattle.ifmap_elem.specs.Arranged.{arrange_child_of, arrange_element_of, sort_attributes}
 use Rattle.ifmap_elem.specs.Building.{bare_attribute, bare_element, bare_name}
-use Rattle.ifmap_elem.specs.Canonical.{attribute_bytes, canonical_bytes, root_bytes, tagged}
+use Rattle.ifmap_elem.specs.Canonical.{attribute_bytes, canonical_bytes, root_bytes, element_of_parts}
 use Rattle.ifmap_elem.specs.Escapes.{value_bytes}
 use Rattle.ifmap_elem.specs.Folds.{at_element}
-use Rattle.ifmap_elem.specs.Namespaces.{child_spaces, declared_among, element_spaces, is_declared, name_prefixes, namespaces, once_each, prefix_rows}
+use Rattle.ifmap_elem.specs.Namespaces.{child_spaces, declared_among, element_spaces, is_declared, name_prefixes, namespaces, once_each, numbered_prefixes}
 use Rattle.ifmap_ident.specs.MacAddresses.{address_text}
 use Rattle.ifmap_ident.specs.declared.identifiers.Identifier.TheVariants.{MacAddress}
 use Rattle.ifmap_ident.specs.Identifiers.{domain_attributes, identifier_bytes}
@@ -46,8 +46,8 @@ parts_are (part ∷ parts) = ap (λ rest. part_bytes part ++ rest) (parts_are pa
 tag_of : (local : List ℕ) (attributes : List Attribute) (parts : List (List ℕ × List ℕ)) → sort_attributes attributes ≡ map attribute_of parts
     → canonical_bytes (element_of local attributes) ≡ codes "<" ++ (local ++ (flat_map part_bytes parts ++ codes "/>"))
 tag_of local attributes parts e =
-    ap (root_bytes []) (at_element Child Element child_arranged element_arranged (element_of local attributes) ∙ ap (element_of local) e)
-    ∙ ap (λ spaces. tagged (name_prefixes spaces) (prefix_rows (codes "n") 1 spaces ++ []) (bare_name local) (map attribute_of parts) [])
+    ap (root_bytes []) (at_element Child Element arrange_child_of arrange_element_of (element_of local attributes) ∙ ap (element_of local) e)
+    ∙ ap (λ spaces. element_of_parts (name_prefixes spaces) (numbered_prefixes (codes "n") 1 spaces ++ []) (bare_name local) (map attribute_of parts) [])
     (no_namespaces local parts)
     ∙ ap (λ text. codes "<" ++ (local ++ (text ++ codes "/>"))) (parts_are parts)
 

@@ -17,19 +17,7 @@ use Rattle.ifmap_elem.specs.laws.OneToken.{EndsTag, one_assignment, one_quoted, 
 use Rattle.ifmap_lexer.specs.Cutting.{Cuts, is_but, Stops}
 use Rattle.ifmap_lexer.specs.Names.{is_name_byte}
 use Rattle.ifmap_lexer.specs.Tags.{ClosesTag, IsAtEnd, TakesAssignments}
-use Rattle.ifmap_lexer.proofs.NameLaws.{NameAt}
-
-abbrev pub SomeAssignment : List ℕ → Type 0
-SomeAssignment bytes = (a : Assignment) × (rest : List ℕ) × TakesAssignment bytes a rest
-
-abbrev pub SomeName : List ℕ → Type 0
-SomeName bytes = (name : Qualified) × (rest : List ℕ) × IsQualified name × (bytes ≡ name_bytes name ++ rest) × Stops is_name_byte rest
-
-abbrev pub IsGiven : List ℕ → List ℕ → Type 0
-IsGiven written value = IsCharacters written × AllAre (is_but 0x3C) written × IsValue written value
-
-abbrev pub SomeGiven : List ℕ → Type 0
-SomeGiven written = (value : List ℕ) × IsCharacters written × AllAre (is_but 0x3C) written × IsValue written value
+use Rattle.ifmap_lexer.specs.There.{IsGiven, NameAt, SomeAssignment, SomeAssignments, SomeGiven, SomeName, SomeTag}
 
 abbrev pub SomeValue : List ℕ → Type 0
 SomeValue written = (value : List ℕ) × IsValue written value
@@ -97,9 +85,6 @@ closes_stops : (end : List ℕ) → ClosesTag end → Stops is_white end
 closes_stops [] h = tt
 closes_stops (b ∷ bs) h = (closes_ends (b ∷ bs) h).0
 
-abbrev pub SomeAssignments : List ℕ → Type 0
-SomeAssignments bytes = (assignments : List Assignment) × (end : List ℕ) × TakesAssignments bytes assignments end
-
 -- how a read of assignments goes on from what is left
 pub record GoesOn (bytes : List ℕ) (made : List Assignment) (rest : List ℕ) : Type 0 where
   pub so_far : To TakesAssignment bytes made rest
@@ -156,9 +141,6 @@ tells_end bytes white end b c t = (
 )
 
 -- tags
-
-abbrev pub SomeTag : List ℕ → Type 0
-SomeTag bytes = (tag : Tag) × (end : List ℕ) × TakesTag bytes tag end × ClosesTag end
 
 module _ (bytes inner : List ℕ) (e : bytes ≡ 0x3C ∷ inner) where
   inside : (tag : Tag) (end : List ℕ) (t : TakesTag bytes tag end) → inner ≡ name_bytes tag.name ++ t.after

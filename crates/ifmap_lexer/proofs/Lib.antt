@@ -6,10 +6,10 @@ pub mod ExpansionLaws
 pub mod KindLaws
 pub mod NameLaws
 pub mod NumberLaws
-pub mod PlainLaws
 mod QuoteLaws
 pub mod RunLaws
 pub mod SettingLaws
 pub mod SplitLaws
+pub mod Tables
 pub mod TokenLaws
 pub mod WordLaws

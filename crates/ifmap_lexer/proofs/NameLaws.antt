@@ -18,6 +18,7 @@ use Rattle.ifmap_elem.specs.laws.NameBytes.{is_part_byte, name_are_bytes, part_b
 use Rattle.ifmap_lexer.specs.Cutting.{Cuts, CutsAt, is_but, Stops}
 use Rattle.ifmap_lexer.specs.Names.{is_name_byte, stands_in_ascii, starts_in_ascii}
 use Rattle.ifmap_lexer.proofs.Basics.{each, of_each, all_back}
+use Rattle.ifmap_lexer.specs.There.{NameAt}
 
 high_start : (c : ℕ) → 55296 ≤ c → is_name_start c ≡ true → scalar c ≡ true
 high_start c g h = grind (arith, nat_tests)
@@ -90,9 +91,6 @@ no_part_of_none (b ∷ bs) e p = absurd (omega arith)
 
 -- a qualified name by its colon
 
-abbrev pub Written : List ℕ → Type 0
-Written bytes = (name : Qualified) × IsQualified name × (name_bytes name ≡ bytes)
-
 no_colon : (b : ℕ) → is_part_byte b ≡ true → is_but 58 b ≡ true
 no_colon b h = rw (is_other b 58 (λ e. let wrong : false ≡ true = subst (λ (n : ℕ). is_part_byte n ≡ true) e h in cc)) refl
 
@@ -137,9 +135,6 @@ unprefixed_part bytes f q i e =
     ]
 
 -- the name at the front
-
-abbrev pub NameAt : List ℕ → Qualified → List ℕ → Type 0
-NameAt bytes name rest = IsQualified name × (bytes ≡ name_bytes name ++ rest) × Stops is_name_byte rest
 
 pub name_found : (bytes run rest : List ℕ) (name : Qualified) → Cuts is_name_byte bytes run rest → IsQualified name × (name_bytes name ≡ run) → NameAt bytes name rest
 name_found bytes run rest name c f = (f.0, c.bytes_are ∙ ap (λ x. x ++ rest) (sym f.1), c.stops)

@@ -1,4 +1,6 @@
 -- Tokens that are read are those that stand there.
+-- A module for each kind of token, with the steps of its function as parameters: what is found is a token, and a refusal of a step is one
+-- of the whole (`no_..`). At the end, what every token takes is not empty, so that a reader goes on.
 use Rattle.std.proofs.Common.{◌≡◌, ◌≢◌, ℕ, ◌+◌, ◌-◌, ◌≤◌, Bool, true, false, not, List, [], ◌∷◌, ◌++◌, length, drop, refl, ap, sym, ◌∙◌, subst, arith, append_assoc, length-append}
 use Rattle.std.specs.Prelude.{◌==◌, codes, Result, Ok, Err, IfErr}
 use Rattle.std.specs.List.{list_all}
@@ -26,13 +28,10 @@ use Rattle.ifmap_lexer.specs.declared.errors.LexError.{LexError}
 use Rattle.ifmap_lexer.specs.declared.errors.LexError.TheVariants.{Malformed, NoMemory}
 use Rattle.ifmap_lexer.specs.declared.kinds.Kind.{Kind}
 use Rattle.ifmap_lexer.specs.declared.kinds.Kind.TheVariants as kinds
-use Rattle.ifmap_lexer.proofs.AssignmentLaws.{SomeName, SomeTag, closes_ends}
+use Rattle.ifmap_lexer.proofs.AssignmentLaws.{closes_ends}
 use Rattle.ifmap_lexer.proofs.Basics.{refuses_by}
 use Rattle.ifmap_lexer.proofs.KindLaws.{kind_is}
-use Rattle.ifmap_lexer.proofs.NameLaws.{NameAt}
-
-abbrev pub SomeToken : List ℕ → Type 0
-SomeToken bytes = (t : Token) × (rest : List ℕ) × TakesToken bytes t rest
+use Rattle.ifmap_lexer.specs.There.{NameAt, SomeName, SomeTag, SomeToken}
 
 abbrev pub SomeMeaning : List ℕ → Type 0
 SomeMeaning written = (text : List ℕ) × IsText written text

@@ -7,3 +7,4 @@ pub mod Refusing
 pub mod Runs
 pub mod Settings
 pub mod Tags
+pub mod There

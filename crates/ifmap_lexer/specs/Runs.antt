@@ -1,7 +1,7 @@
 -- What runs of written characters add to a text or a value (XML 1.0, sections 2.11 and 3.3.3).
-use Rattle.std.specs.Prelude.{ℕ, Bool, not, ◌==◌, ◌||◌, List, map}
-use Rattle.ifmap_elem.specs.Chars.{ampersand, carriage_return, line_feed, space_character, tab}
-use Rattle.ifmap_elem.specs.Values.{Part, text_part, value_part, as_space}
+use Rattle.std.specs.Prelude.{ℕ, List, map}
+use Rattle.ifmap_elem.specs.Chars.{line_feed, space_character}
+use Rattle.ifmap_elem.specs.Values.{Part, Plain, text_part, value_part, as_space}
 use Rattle.ifmap_lexer.specs.declared.values.Place.{Place}
 use Rattle.ifmap_lexer.specs.declared.values.Place.TheVariants.{AttributeValue, CharacterData}
 
@@ -20,7 +20,6 @@ abbrev pub break_in : Place → ℕ
 break_in CharacterData = line_feed
 break_in AttributeValue = space_character
 
--- a byte that adds itself: one of no reference and no line end, and in a value no tab and no line feed either
-abbrev pub stands_for_itself : Place → ℕ → Bool
-stands_for_itself CharacterData b = not (b == ampersand || b == carriage_return)
-stands_for_itself AttributeValue b = not ((b == ampersand || b == carriage_return) || (b == line_feed || b == tab))
+-- what a run adds in its place
+abbrev pub run_in : Place → List ℕ → List ℕ
+run_in place run = part_in place (Plain run)

@@ -31,3 +31,7 @@ IsEncoding v = map to_ascii_uppercase v ≡ codes "UTF-8"
 
 abbrev pub IsYesOrNo : List ℕ → Type 0
 IsYesOrNo v = (v ≡ codes "yes") ⊎ (v ≡ codes "no")
+
+-- the setting of the version
+abbrev pub SetsVersion : List ℕ → List ℕ → Type 0
+SetsVersion bytes rest = TakesSetting (codes "version") IsVersion bytes rest

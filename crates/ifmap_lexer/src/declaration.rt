@@ -1,16 +1,17 @@
 //! The XML declaration.
 ghost use Rattle.std.specs.Prelude.{◌↔◌, ℕ, List, codes, IfNone, IfSome, IsTrue};
 ghost use Rattle.ifmap_elem.specs.Tokens.{TakesDeclaration};
-ghost use Rattle.ifmap_lexer.specs.Settings.{IsEncoding, IsVersion, IsYesOrNo, SetsTo, StartsNotWhite, TakesWhereSet};
+ghost use Rattle.ifmap_lexer.specs.There.{NoneLeaves, NotSet};
+ghost use Rattle.ifmap_lexer.specs.Settings.{IsEncoding, IsVersion, IsYesOrNo, SetsTo, SetsVersion, StartsNotWhite, TakesWhereSet};
 ghost use Rattle.ifmap_elem.specs.Tokens.{TakesSetting};
 
 use crate::quoting::quoted_value;
 use crate::splitting::{after_word, split_white};
 
-/// What is after the declaration at the front.
+// What is after the declaration at the front.
 pub(crate) fn after_declaration(bytes: &[u8]) -> Option<&[u8]>
     ensures found { IfSome result (λ rest. TakesDeclaration bytes.now rest.now) }
-    ensures none { IfNone result ((rest : List ℕ) → TakesDeclaration bytes.now rest → ⊥) }
+    ensures none { IfNone result (NoneLeaves (TakesDeclaration bytes.now)) }
 {
     let Some(first) = after_word(b"<?xml", bytes) else {
         return None;
@@ -24,10 +25,10 @@ pub(crate) fn after_declaration(bytes: &[u8]) -> Option<&[u8]>
     after_word(b"?>", end)
 }
 
-/// What is after the version, where it is 1.0.
+// What is after the version, where it is 1.0.
 fn after_version(bytes: &[u8]) -> Option<&[u8]>
-    ensures found { IfSome result (λ rest. TakesSetting (codes "version") IsVersion bytes.now rest.now) }
-    ensures none { IfNone result ((rest : List ℕ) → TakesSetting (codes "version") IsVersion bytes.now rest → ⊥) }
+    ensures found { IfSome result (λ rest. SetsVersion bytes.now rest.now) }
+    ensures none { IfNone result (NoneLeaves (SetsVersion bytes.now)) }
 {
     let Some((written, rest)) = setting(b"version", bytes) else {
         return None;
@@ -39,7 +40,7 @@ fn after_version(bytes: &[u8]) -> Option<&[u8]>
     }
 }
 
-/// What is after the encoding, where it stands here and is UTF-8.
+// What is after the encoding, where it stands here and is UTF-8.
 fn after_encoding(bytes: &[u8]) -> &[u8]
     ensures { TakesWhereSet (codes "encoding") IsEncoding bytes.now result.now }
 {
@@ -53,7 +54,7 @@ fn after_encoding(bytes: &[u8]) -> &[u8]
     }
 }
 
-/// What is after whether the document stands alone, where that stands here.
+// What is after whether the document stands alone, where that stands here.
 fn after_standalone(bytes: &[u8]) -> &[u8]
     ensures { TakesWhereSet (codes "standalone") IsYesOrNo bytes.now result.now }
 {
@@ -69,11 +70,11 @@ fn is_yes_or_no(written: &[u8]) -> bool
     written == b"yes".as_slice() || written == b"no".as_slice()
 }
 
-/// The value that the name is given here, as it is written, and what is left.
+// The value that the name is given here, as it is written, and what is left.
 fn setting<'a>(name: &[u8], bytes: &'a [u8]) -> Option<(&'a [u8], &'a [u8])>
     requires { StartsNotWhite name.now }
     ensures found { IfSome result (λ f. SetsTo name.now bytes.now f.0.now f.1.now) }
-    ensures none { IfNone result ((written : List ℕ) (rest : List ℕ) → SetsTo name.now bytes.now written rest → ⊥) }
+    ensures none { IfNone result (NotSet name.now bytes.now) }
 {
     let (white, inner) = split_white(bytes);
     if white.is_empty() {

@@ -2,10 +2,10 @@
 ghost use Rattle.std.specs.Prelude.{◌≡◌};
 ghost use Rattle.ifmap_lexer.specs.Kinds.{kind_at, kind_of_markup, kind_of_section};
 
-/// The kinds of tokens that their first bytes tell apart.
+// The kinds of tokens that their first bytes tell apart.
 #[derive(Clone, Copy)]
 pub(crate) enum Kind {
-    /// No token begins so.
+    // No token begins so.
     Nothing,
     Text,
     Declaration,
@@ -15,7 +15,7 @@ pub(crate) enum Kind {
     Section,
 }
 
-/// The kind of any token that stands at the front.
+// The kind of any token that stands at the front.
 pub(crate) fn kind_at(bytes: &[u8]) -> Kind
     ensures { result ≡ kind_at bytes.now }
 {
@@ -26,7 +26,7 @@ pub(crate) fn kind_at(bytes: &[u8]) -> Kind
     }
 }
 
-/// The kind by what is after a `<`.
+// The kind by what is after a `<`.
 fn kind_of_markup(bytes: &[u8]) -> Kind
     ensures { result ≡ kind_of_markup bytes.now }
 {
@@ -39,7 +39,7 @@ fn kind_of_markup(bytes: &[u8]) -> Kind
     }
 }
 
-/// The kind by what is after a `<!`.
+// The kind by what is after a `<!`.
 fn kind_of_section(bytes: &[u8]) -> Kind
     ensures { result ≡ kind_of_section bytes.now }
 {

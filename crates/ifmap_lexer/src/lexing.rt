@@ -2,6 +2,7 @@
 ghost use Rattle.std.specs.Prelude.{◌≡◌, ◌≤◌, ℕ, List, drop, length, IfErr, IfOk};
 ghost use Rattle.ifmap_elem.specs.Tokens.{TakesToken};
 ghost use Rattle.ifmap_elem.specs.declared.tokens.Token.{Token};
+ghost use Rattle.ifmap_lexer.specs.There.{IsAlone, NoToken};
 
 use crate::errors::LexError;
 use crate::tokens::first_token;
@@ -19,8 +20,8 @@ pub struct Lexed {
 pub fn token_of(alloc: Global, bytes: &[u8]) -> Result<Lexed, LexError>
     ensures taken { IfOk result (λ l. TakesToken bytes.now l.token (drop l.length bytes.now)) }
     ensures length { IfOk result (λ l. (1 ≤ l.length) × (l.length ≤ length bytes.now)) }
-    ensures alone { IfOk result (λ l. (t : Token) (rest : List ℕ) → TakesToken bytes.now t rest → (t ≡ l.token) × (rest ≡ drop l.length bytes.now)) }
-    ensures malformed { IfErr result (λ e. e ≡ LexError.Malformed → (t : Token) (rest : List ℕ) → TakesToken bytes.now t rest → ⊥) }
+    ensures alone { IfOk result (λ l. IsAlone bytes.now l.token (drop l.length bytes.now)) }
+    ensures malformed { IfErr result (λ e. e ≡ LexError.Malformed → NoToken bytes.now) }
 {
     let (token, rest) = first_token(alloc, bytes)?;
     let length = bytes.len() - rest.len();

@@ -3,6 +3,7 @@ ghost use Rattle.std.specs.Prelude.{◌≡◌, ◌&&◌, ◌++◌, ◌↔◌, �
 ghost use Rattle.std.specs.List.{list_all, prefix_len};
 ghost use Rattle.ifmap_elem.specs.declared.tokens.Qualified.{Qualified};
 ghost use Rattle.ifmap_elem.specs.Names.{IsNamePart, IsQualified, is_name_start, is_name_character, name_bytes};
+ghost use Rattle.ifmap_lexer.specs.There.{NameAt, SomeName, Written};
 ghost use Rattle.ifmap_lexer.specs.Cutting.{Cuts, Stops};
 ghost use Rattle.std.specs.Bool.{OnTrue};
 ghost use Rattle.ifmap_lexer.specs.Names.{is_name_byte, stands_in_ascii, starts_in_ascii};
@@ -14,17 +15,17 @@ use ifmap_elem::Text;
 use ifmap_elem::tokens::Qualified;
 use std::alloc::Global;
 
-/// The qualified name at the front, and what is left.
+// The qualified name at the front, and what is left.
 pub(crate) fn name_of(alloc: Global, bytes: &[u8]) -> Result<(Qualified, &[u8]), LexError>
-    ensures found { IfOk result (λ f. IsQualified f.0 × (bytes.now ≡ name_bytes f.0 ++ f.1.now) × Stops is_name_byte f.1.now) }
-    ensures refused { IfErr result (λ e. Refuses e ((name : Qualified) × (rest : List ℕ) × IsQualified name × (bytes.now ≡ name_bytes name ++ rest) × Stops is_name_byte rest)) }
+    ensures found { IfOk result (λ f. NameAt bytes.now f.0 f.1.now) }
+    ensures refused { IfErr result (λ e. Refuses e (SomeName bytes.now)) }
 {
     let (run, rest) = split_name(bytes);
     let name = qualified_name(alloc, run)?;
     Ok((name, rest))
 }
 
-/// The bytes at the front that a name may have, and what is left.
+// The bytes at the front that a name may have, and what is left.
 fn split_name(bytes: &[u8]) -> (&[u8], &[u8])
     ensures { Cuts is_name_byte bytes.now result.0.now result.1.now }
 {
@@ -37,16 +38,39 @@ fn name_len(bytes: &[u8]) -> usize
     bytes.iter().take_while(|byte| may_be_named(**byte)).count()
 }
 
+// Each byte that a name may have at its own place, `~` for one of a character beyond ASCII, and a comma
+// for any other.
+static NAME_BYTES: [u8; 256] = *b"\
+    ,,,,,,,,,,,,,,,,,,,,,,,,,,,,,,,,\
+    ,,,,,,,,,,,,,-.,0123456789:,,,,,\
+    ,ABCDEFGHIJKLMNOPQRSTUVWXYZ,,,,_\
+    ,abcdefghijklmnopqrstuvwxyz,,,,,\
+    ~~~~~~~~~~~~~~~~~~~~~~~~~~~~~~~~\
+    ~~~~~~~~~~~~~~~~~~~~~~~~~~~~~~~~\
+    ~~~~~~~~~~~~~~~~~~~~~~~~~~~~~~~~\
+    ~~~~~~~~~~~~~~~~~~~~~~~~~~~~~~~~";
+
+// Each byte that stands for a character of a name part, and a comma for any other.
+static PART_BYTES: [u8; 256] = *b"\
+    ,,,,,,,,,,,,,,,,,,,,,,,,,,,,,,,,\
+    ,,,,,,,,,,,,,-.,0123456789,,,,,,\
+    ,ABCDEFGHIJKLMNOPQRSTUVWXYZ,,,,_\
+    ,abcdefghijklmnopqrstuvwxyz,,,,,\
+    ,,,,,,,,,,,,,,,,,,,,,,,,,,,,,,,,\
+    ,,,,,,,,,,,,,,,,,,,,,,,,,,,,,,,,\
+    ,,,,,,,,,,,,,,,,,,,,,,,,,,,,,,,,\
+    ,,,,,,,,,,,,,,,,,,,,,,,,,,,,,,,,";
+
 fn may_be_named(byte: u8) -> bool
     ensures { result ≡ is_name_byte byte }
 {
-    byte == b':' || byte >= 128 || is_inner(byte as char)
+    NAME_BYTES[byte as usize] != b','
 }
 
-/// The name that is written so.
+// The name that is written so.
 fn qualified_name(alloc: Global, bytes: &[u8]) -> Result<Qualified, LexError>
     ensures found { IfOk result (λ name. IsQualified name × (name_bytes name ≡ bytes.now)) }
-    ensures refused { IfErr result (λ e. Refuses e ((name : Qualified) × IsQualified name × (name_bytes name ≡ bytes.now))) }
+    ensures refused { IfErr result (λ e. Refuses e (Written bytes.now)) }
 {
     match split_round_byte(b':', bytes) {
         Some((prefix, local)) => {
@@ -62,7 +86,7 @@ fn qualified_name(alloc: Global, bytes: &[u8]) -> Result<Qualified, LexError>
     }
 }
 
-/// The name part that is written so.
+// The name part that is written so.
 #[tactic(auto, using(crate::proofs::NameLaws::part_is_utf8))]
 fn name_part(alloc: Global, bytes: &[u8]) -> Result<Text, LexError>
     ensures found { IfOk result (λ text. (text ≡ bytes.now) × IsNamePart bytes.now) }
@@ -80,7 +104,7 @@ fn name_part(alloc: Global, bytes: &[u8]) -> Result<Text, LexError>
     }
 }
 
-/// Whether the bytes are a name part of ASCII alone, as most names are.
+// Whether the bytes are a name part of ASCII alone, as most names are.
 #[tactic(auto, using(crate::proofs::NameLaws::ascii_tells))]
 fn is_ascii_part(bytes: &[u8]) -> bool
     ensures { OnTrue result (IsNamePart bytes.now) }
@@ -113,7 +137,7 @@ fn is_ascii_first(byte: u8) -> bool
 fn is_ascii_inner(byte: u8) -> bool
     ensures { result ≡ stands_in_ascii byte }
 {
-    byte < 128 && is_inner(byte as char)
+    PART_BYTES[byte as usize] != b','
 }
 
 fn is_name_part(text: &str) -> bool
@@ -135,7 +159,7 @@ fn is_any_name_part(text: &str) -> bool
     }
 }
 
-/// Whether a name part may begin with the character.
+// Whether a name part may begin with the character.
 fn is_first(character: char) -> bool
     ensures { result ≡ is_name_start character }
 {
@@ -159,15 +183,12 @@ fn is_first(character: char) -> bool
     )
 }
 
-/// Whether the character may stand in a name part. Most are letters, hyphens and digits of ASCII.
+// Whether the character may stand in a name part. Most are small letters.
 #[inline(always)]
 fn is_inner(character: char) -> bool
     ensures { result ≡ is_name_character character }
 {
-    matches!(
-        character as u32,
-        0x61..=0x7A | 0x2D | 0x30..=0x39 | 0x41..=0x5A
-    ) || is_any_inner(character)
+    matches!(character as u32, 0x61..=0x7A) || is_any_inner(character)
 }
 
 #[inline(never)]

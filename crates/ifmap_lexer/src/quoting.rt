@@ -1,13 +1,14 @@
 //! Values in quotes.
 ghost use Rattle.std.specs.Prelude.{◌≡◌, ℕ, List, ◌∷◌, ◌==◌, ◌||◌, true, IfNone, IfSome};
 ghost use Rattle.ifmap_elem.specs.Tokens.{TakesQuoted};
+ghost use Rattle.ifmap_lexer.specs.There.{BeginsNoQuoted, BeginsQuoted, NoQuoted, is_quote};
 
 use crate::splitting::{after_word, split_round_byte, split_white};
 
-/// The value after an equals sign, as it is written between its quotes, and what is left.
+// The value after an equals sign, as it is written between its quotes, and what is left.
 pub(crate) fn quoted_value(bytes: &[u8]) -> Option<(&[u8], &[u8])>
     ensures found { IfSome result (λ f. TakesQuoted bytes.now f.0.now f.1.now) }
-    ensures none { IfNone result ((written : List ℕ) (rest : List ℕ) → TakesQuoted bytes.now written rest → ⊥) }
+    ensures none { IfNone result (NoQuoted bytes.now) }
 {
     let (_before, sign) = split_white(bytes);
     let Some(after) = after_word(b"=", sign) else {
@@ -20,10 +21,10 @@ pub(crate) fn quoted_value(bytes: &[u8]) -> Option<(&[u8], &[u8])>
     split_round_byte(quote, inside)
 }
 
-/// The quote at the front, single or double, and what is left.
+// The quote at the front, single or double, and what is left.
 fn quote_at(bytes: &[u8]) -> Option<(u8, &[u8])>
-    ensures found { IfSome result (λ f. (bytes.now ≡ f.0 ∷ f.1.now) × ((f.0 == 0x22 || f.0 == 0x27) ≡ true)) }
-    ensures none { IfNone result ((quote : ℕ) (rest : List ℕ) → (quote == 0x22 || quote == 0x27) ≡ true → bytes.now ≡ quote ∷ rest → ⊥) }
+    ensures found { IfSome result (λ f. BeginsQuoted f.0 f.1.now bytes.now) }
+    ensures none { IfNone result (BeginsNoQuoted bytes.now) }
 {
     let Some((first, rest)) = bytes.split_first() else {
         return None;
@@ -36,7 +37,7 @@ fn quote_at(bytes: &[u8]) -> Option<(u8, &[u8])>
 }
 
 fn is_quote(byte: u8) -> bool
-    ensures { result ≡ (byte == 0x22 || byte == 0x27) }
+    ensures { result ≡ is_quote byte }
 {
     byte == b'"' || byte == b'\''
 }

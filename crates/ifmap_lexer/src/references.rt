@@ -5,7 +5,7 @@ ghost use Rattle.ifmap_lexer.specs.Numbers.{by_number, code_of};
 
 use crate::characters::is_allowed;
 
-/// The character that a reference stands for, by what is between its `&` and its `;`.
+// The character that a reference stands for, by what is between its `&` and its `;`.
 pub(crate) fn character_named(name: &[u8]) -> Option<char>
     ensures { result ≡ referred name.now }
 {
@@ -36,7 +36,7 @@ fn character_numbered(name: &[u8]) -> Option<char>
     }
 }
 
-/// The character with the number that the digits write.
+// The character with the number that the digits write.
 fn character_with_number(base: u32, digits: &[u8]) -> Option<char>
     requires least { 2 ≤ base }
     requires most { base ≤ 36 }
@@ -50,7 +50,7 @@ fn character_with_number(base: u32, digits: &[u8]) -> Option<char>
     }
 }
 
-/// A number past those of all characters.
+// A number past those of all characters.
 const PAST: u32 = 0x11_0000;
 
 fn number_of(base: u32, digits: &[u8]) -> Option<u32>

@@ -8,7 +8,7 @@ ghost use Rattle.ifmap_lexer.specs.Cutting.{Cuts, CutsAt, CutsWord, is_but};
 
 use memchr::{memchr, memmem};
 
-/// The white space at the front, and what is left.
+// The white space at the front, and what is left.
 pub(crate) fn split_white(bytes: &[u8]) -> (&[u8], &[u8])
     ensures { Cuts is_white bytes.now result.0.now result.1.now }
 {
@@ -27,7 +27,7 @@ pub(crate) fn is_white(byte: u8) -> bool
     byte == b' ' || byte == b'\t' || byte == b'\r' || byte == b'\n'
 }
 
-/// The bytes before the first such byte, and what is left.
+// The bytes before the first such byte, and what is left.
 pub(crate) fn split_byte(byte: u8, bytes: &[u8]) -> (&[u8], &[u8])
     ensures { Cuts (is_but byte) bytes.now result.0.now result.1.now }
 {
@@ -37,7 +37,7 @@ pub(crate) fn split_byte(byte: u8, bytes: &[u8]) -> (&[u8], &[u8])
     }
 }
 
-/// The text before the first such ASCII character, and that after it.
+// The text before the first such ASCII character, and that after it.
 pub(crate) fn split_char(character: char, text: &str) -> Option<(&str, &str)>
     requires { character < 128 }
     ensures found { IfSome result (λ s. CutsAt character text.now s.0.now s.1.now) }
@@ -46,7 +46,7 @@ pub(crate) fn split_char(character: char, text: &str) -> Option<(&str, &str)>
     text.split_once(character)
 }
 
-/// What is after the word, where the bytes begin with it.
+// What is after the word, where the bytes begin with it.
 pub(crate) fn after_word<'a>(word: &[u8], bytes: &'a [u8]) -> Option<&'a [u8]>
     ensures found { IfSome result (λ rest. bytes.now ≡ word.now ++ rest.now) }
     ensures none { IfNone result ((rest : List ℕ) → bytes.now ≡ word.now ++ rest → ⊥) }
@@ -54,7 +54,7 @@ pub(crate) fn after_word<'a>(word: &[u8], bytes: &'a [u8]) -> Option<&'a [u8]>
     bytes.strip_prefix(word)
 }
 
-/// The bytes before the first place of the word, and those after it.
+// The bytes before the first place of the word, and those after it.
 pub(crate) fn split_word<'a>(word: &[u8], bytes: &'a [u8]) -> Option<(&'a [u8], &'a [u8])>
     requires { 0 < length word.now }
     ensures found { IfSome result (λ s. CutsWord word.now bytes.now s.0.now s.1.now) }
@@ -66,7 +66,7 @@ pub(crate) fn split_word<'a>(word: &[u8], bytes: &'a [u8]) -> Option<(&'a [u8], 
     }
 }
 
-/// The bytes before the first such byte, and those after it.
+// The bytes before the first such byte, and those after it.
 pub(crate) fn split_round_byte(byte: u8, bytes: &[u8]) -> Option<(&[u8], &[u8])>
     ensures found { IfSome result (λ s. CutsAt byte bytes.now s.0.now s.1.now) }
     ensures none { IfNone result (AllAre (is_but byte) bytes.now) }
@@ -77,7 +77,7 @@ pub(crate) fn split_round_byte(byte: u8, bytes: &[u8]) -> Option<(&[u8], &[u8])>
     }
 }
 
-/// Whether the byte stands somewhere.
+// Whether the byte stands somewhere.
 pub(crate) fn has_byte(byte: u8, bytes: &[u8]) -> bool
     ensures yes { OnTrue result (AllAre (is_but byte) bytes.now → ⊥) }
     ensures no { OnFalse result (AllAre (is_but byte) bytes.now) }
@@ -85,7 +85,7 @@ pub(crate) fn has_byte(byte: u8, bytes: &[u8]) -> bool
     split_round_byte(byte, bytes).is_some()
 }
 
-/// Whether the word begins somewhere.
+// Whether the word begins somewhere.
 pub(crate) fn has_word(word: &[u8], bytes: &[u8]) -> bool
     requires { 0 < length word.now }
     ensures yes { OnTrue result (Lacks word.now bytes.now → ⊥) }
@@ -94,7 +94,7 @@ pub(crate) fn has_word(word: &[u8], bytes: &[u8]) -> bool
     split_word(word, bytes).is_some()
 }
 
-/// Whether the end of a section stands somewhere. Most texts have no bracket, which is soon seen.
+// Whether the end of a section stands somewhere. Most texts have no bracket, which is soon seen.
 #[tactic(auto, using(crate::proofs::WordLaws::lacks_section_end))]
 pub(crate) fn has_section_end(bytes: &[u8]) -> bool
     ensures yes { OnTrue result (Lacks (codes "]]>") bytes.now → ⊥) }
@@ -106,7 +106,7 @@ pub(crate) fn has_section_end(bytes: &[u8]) -> bool
     has_word(b"]]>", bytes)
 }
 
-/// The bytes before a place, and those after as many from there on.
+// The bytes before a place, and those after as many from there on.
 fn split_round(place: usize, len: usize, bytes: &[u8]) -> (&[u8], &[u8])
     requires { place + len ≤ length bytes.now }
     ensures front { result.0.now ≡ take place bytes.now }

@@ -5,6 +5,7 @@ ghost use Rattle.ifmap_elem.specs.Tokens.{TakesAssignment, TakesTag};
 ghost use Rattle.ifmap_elem.specs.Values.{IsValue};
 ghost use Rattle.ifmap_elem.specs.declared.tokens.Assignment.{Assignment};
 ghost use Rattle.ifmap_elem.specs.declared.tokens.Tag.{Tag};
+ghost use Rattle.ifmap_lexer.specs.There.{IsGiven, SomeAssignment, SomeAssignments, SomeGiven, SomeTag};
 ghost use Rattle.ifmap_lexer.specs.Cutting.{is_but};
 ghost use Rattle.ifmap_lexer.specs.Refusing.{Refuses};
 ghost use Rattle.ifmap_lexer.specs.Tags.{ClosesTag, IsAtEnd, TakesAssignments};
@@ -19,10 +20,10 @@ use ifmap_elem::tokens::{Assignment, Tag};
 use ifmap_elem::{Many, Text};
 use std::alloc::Global;
 
-/// The tag at the front, and how it ends.
+// The tag at the front, and how it ends.
 pub(crate) fn tag_of(alloc: Global, bytes: &[u8]) -> Result<(Tag, &[u8]), LexError>
     ensures found { IfOk result (λ f. TakesTag bytes.now f.0 f.1.now × ClosesTag f.1.now) }
-    ensures refused { IfErr result (λ e. Refuses e ((tag : Tag) × (end : List ℕ) × TakesTag bytes.now tag end × ClosesTag end)) }
+    ensures refused { IfErr result (λ e. Refuses e (SomeTag bytes.now)) }
 {
     let Some(inner) = after_word(b"<", bytes) else {
         return Err(LexError::Malformed);
@@ -32,10 +33,10 @@ pub(crate) fn tag_of(alloc: Global, bytes: &[u8]) -> Result<(Tag, &[u8]), LexErr
     Ok((Tag { name, assignments }, end))
 }
 
-/// The assignments up to the end of a tag, and that end.
+// The assignments up to the end of a tag, and that end.
 fn assignments_of(alloc: Global, bytes: &[u8]) -> Result<(Many<Assignment>, &[u8]), LexError>
     ensures found { IfOk result (λ f. TakesAssignments bytes.now f.0 f.1.now) }
-    ensures refused { IfErr result (λ e. Refuses e ((assignments : List Assignment) × (end : List ℕ) × TakesAssignments bytes.now assignments end)) }
+    ensures refused { IfErr result (λ e. Refuses e (SomeAssignments bytes.now)) }
 {
     let mut made = Vec::new(alloc);
     let mut rest = bytes;
@@ -48,7 +49,7 @@ fn assignments_of(alloc: Global, bytes: &[u8]) -> Result<(Many<Assignment>, &[u8
     Ok((Many(made), end))
 }
 
-/// Whether white space stands here, or none, and then a tag's end.
+// Whether white space stands here, or none, and then a tag's end.
 fn is_at_end(bytes: &[u8]) -> bool
     ensures { IsTrue result ↔ IsAtEnd bytes.now }
 {
@@ -65,10 +66,10 @@ fn closes(bytes: &[u8]) -> bool
     }
 }
 
-/// White space and the assignment after it, and what is left.
+// White space and the assignment after it, and what is left.
 fn assignment_of(alloc: Global, bytes: &[u8]) -> Result<(Assignment, &[u8]), LexError>
     ensures found { IfOk result (λ f. TakesAssignment bytes.now f.0 f.1.now) }
-    ensures refused { IfErr result (λ e. Refuses e ((a : Assignment) × (rest : List ℕ) × TakesAssignment bytes.now a rest)) }
+    ensures refused { IfErr result (λ e. Refuses e (SomeAssignment bytes.now)) }
     ensures shorter { IfOk result (λ f. length f.1.now < length bytes.now) }
 {
     let (white, inner) = split_white(bytes);
@@ -83,10 +84,10 @@ fn assignment_of(alloc: Global, bytes: &[u8]) -> Result<(Assignment, &[u8]), Lex
     Ok((Assignment { name, value }, rest))
 }
 
-/// What the written value means.
+// What the written value means.
 fn value_of(alloc: Global, written: &[u8]) -> Result<Text, LexError>
-    ensures found { IfOk result (λ value. IsCharacters written.now × AllAre (is_but 0x3C) written.now × IsValue written.now value) }
-    ensures refused { IfErr result (λ e. Refuses e ((value : List ℕ) × IsCharacters written.now × AllAre (is_but 0x3C) written.now × IsValue written.now value)) }
+    ensures found { IfOk result (λ value. IsGiven written.now value) }
+    ensures refused { IfErr result (λ e. Refuses e (SomeGiven written.now)) }
 {
     if has_byte(b'<', written) {
         return Err(LexError::Malformed);

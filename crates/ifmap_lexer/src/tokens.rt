@@ -4,6 +4,7 @@ ghost use Rattle.std.specs.List.{list_all};
 ghost use Rattle.ifmap_elem.specs.Chars.{is_white};
 ghost use Rattle.ifmap_elem.specs.Tokens.{TakesToken};
 ghost use Rattle.ifmap_elem.specs.declared.tokens.Token.{Token};
+ghost use Rattle.ifmap_lexer.specs.There.{SomeToken};
 ghost use Rattle.ifmap_lexer.specs.Kinds.{Stands};
 ghost use Rattle.ifmap_lexer.specs.Refusing.{Refuses};
 
@@ -20,10 +21,10 @@ use crate::values::{Place, meaning, plain_meaning};
 use ifmap_elem::tokens::Token;
 use std::alloc::Global;
 
-/// The token at the front, and what is left.
+// The token at the front, and what is left.
 pub(crate) fn first_token(alloc: Global, bytes: &[u8]) -> Result<(Token, &[u8]), LexError>
     ensures found { IfOk result (λ f. TakesToken bytes.now f.0 f.1.now) }
-    ensures refused { IfErr result (λ e. Refuses e ((t : Token) × (rest : List ℕ) × TakesToken bytes.now t rest)) }
+    ensures refused { IfErr result (λ e. Refuses e (SomeToken bytes.now)) }
 {
     match kind_at(bytes) {
         Kind::Nothing => Err(LexError::Malformed),

@@ -2,11 +2,10 @@
 ghost use Rattle.std.specs.Prelude.{◌≡◌, ◌<◌, ◌++◌, [], ◌∷◌, ◌≤◌, ℕ, List, IfErr, IfOk, OnOk, length, map, string_bytes};
 ghost use Rattle.ifmap_elem.specs.Chars.{AllAre};
 ghost use Rattle.ifmap_elem.specs.Values.{Expands, Plain, as_space, line_ends};
+ghost use Rattle.ifmap_lexer.specs.There.{SomeExpansion};
 ghost use Rattle.ifmap_lexer.specs.Cutting.{is_but};
 ghost use Rattle.ifmap_lexer.specs.Refusing.{Refuses};
-ghost use Rattle.std.specs.Bool.{OnTrue};
-ghost use Rattle.ifmap_lexer.specs.Runs.{break_in, line_in, part_in, stands_for_itself};
-ghost use Rattle.ifmap_lexer.specs.declared.values.Place.TheVariants.{AttributeValue, CharacterData};
+ghost use Rattle.ifmap_lexer.specs.Runs.{break_in, line_in, part_in, run_in};
 
 use crate::errors::LexError;
 use crate::references::character_named;
@@ -14,66 +13,19 @@ use crate::splitting::split_char;
 use ifmap_elem::Text;
 use std::alloc::{AllocError, Global};
 
-/// Where characters are written.
+// Where characters are written.
 #[derive(Clone, Copy)]
 pub(crate) enum Place {
-    /// Between tags.
+    // Between tags.
     CharacterData,
-    /// In the value of an attribute.
+    // In the value of an attribute.
     AttributeValue,
 }
 
-/// What the written characters mean.
-#[tactic(auto, using(crate::proofs::PlainLaws::plain_means))]
+// What the written characters mean.
 pub(crate) fn meaning(alloc: Global, place: Place, written: &str) -> Result<Text, LexError>
     ensures found { IfOk result (λ text. Expands (part_in place) written.now text) }
-    ensures refused { IfErr result (λ e. Refuses e ((text : List ℕ) × Expands (part_in place) written.now text)) }
-{
-    if are_plain(place, written.as_bytes()) {
-        return Ok(Text(String::from_str(alloc, written)?));
-    }
-    expansion_of(alloc, place, written)
-}
-
-/// Whether the bytes mean themselves, as those of most texts and values do.
-fn are_plain(place: Place, bytes: &[u8]) -> bool
-    ensures { OnTrue result (AllAre (stands_for_itself place) bytes.now) }
-{
-    match place {
-        Place::CharacterData => are_plain_in_text(bytes),
-        Place::AttributeValue => are_plain_in_value(bytes),
-    }
-}
-
-// Without a branch for each byte it becomes vector code.
-#[tactic(auto, using(crate::proofs::CharacterLaws::all_more))]
-fn are_plain_in_text(bytes: &[u8]) -> bool
-    ensures { OnTrue result (AllAre (stands_for_itself CharacterData) bytes.now) }
-{
-    let mut marked = false;
-    for byte in bytes {
-        let b = *byte;
-        marked |= (b == b'&') | (b == b'\r');
-    }
-    !marked
-}
-
-#[tactic(auto, using(crate::proofs::CharacterLaws::all_more))]
-fn are_plain_in_value(bytes: &[u8]) -> bool
-    ensures { OnTrue result (AllAre (stands_for_itself AttributeValue) bytes.now) }
-{
-    let mut marked = false;
-    for byte in bytes {
-        let b = *byte;
-        marked |= (b == b'&') | (b == b'\r') | (b == b'\n') | (b == b'\t');
-    }
-    !marked
-}
-
-/// What the written characters mean, with their references and line ends replaced.
-fn expansion_of(alloc: Global, place: Place, written: &str) -> Result<Text, LexError>
-    ensures found { IfOk result (λ text. Expands (part_in place) written.now text) }
-    ensures refused { IfErr result (λ e. Refuses e ((text : List ℕ) × Expands (part_in place) written.now text)) }
+    ensures refused { IfErr result (λ e. Refuses e (SomeExpansion place written.now)) }
 {
     let mut text = String::with_capacity(alloc, written.len())?;
     let mut rest = written;
@@ -92,7 +44,7 @@ fn expansion_of(alloc: Global, place: Place, written: &str) -> Result<Text, LexE
     Ok(Text(text))
 }
 
-/// What characters mean between which no references stand.
+// What characters mean between which no references stand.
 pub(crate) fn plain_meaning(alloc: Global, written: &str) -> Result<Text, AllocError>
     ensures { IfOk result (λ text. text ≡ line_ends written.now) }
 {
@@ -101,9 +53,9 @@ pub(crate) fn plain_meaning(alloc: Global, written: &str) -> Result<Text, AllocE
     Ok(Text(text))
 }
 
-/// Appends what a run without references means.
+// Appends what a run without references means.
 fn push_run(place: Place, run: &str, text: &mut String) -> Result<(), AllocError>
-    ensures { OnOk result (string_bytes text.new ≡ string_bytes text.old ++ part_in place (Plain run.now)) }
+    ensures { OnOk result (string_bytes text.new ≡ string_bytes text.old ++ run_in place run.now) }
 {
     let mut rest = run;
     while let Some((line, after)) = split_char('\r', rest) {
@@ -114,7 +66,7 @@ fn push_run(place: Place, run: &str, text: &mut String) -> Result<(), AllocError
     push_line(place, rest, text)
 }
 
-/// What is after a carriage return and the line feed that belongs to it.
+// What is after a carriage return and the line feed that belongs to it.
 fn after_newline(text: &str) -> &str
     ensures line { line_ends (0xD ∷ text.now) ≡ 0xA ∷ line_ends result.now }
     ensures shorter { length result.now ≤ length text.now }
@@ -134,16 +86,16 @@ fn push_break(place: Place, text: &mut String) -> Result<(), AllocError>
     }
 }
 
-fn push_line(place: Place, line: &str, text: &mut String) -> Result<(), AllocError>
-    ensures { OnOk result (string_bytes text.new ≡ string_bytes text.old ++ line_in place line.now) }
+fn push_line(place: Place, line: &str, out: &mut String) -> Result<(), AllocError>
+    ensures { OnOk result (string_bytes out.new ≡ string_bytes out.old ++ line_in place line.now) }
 {
     match place {
-        Place::CharacterData => text.push_str(line),
-        Place::AttributeValue => push_spaced(line, text),
+        Place::CharacterData => out.push_str(line),
+        Place::AttributeValue => push_spaced(line, out),
     }
 }
 
-/// Appends a line with its white space as spaces.
+// Appends a line with its white space as spaces.
 fn push_spaced(line: &str, text: &mut String) -> Result<(), AllocError>
     ensures { OnOk result (string_bytes text.new ≡ string_bytes text.old ++ map as_space line.now) }
 {
@@ -156,7 +108,7 @@ fn push_spaced(line: &str, text: &mut String) -> Result<(), AllocError>
     push_untabbed(rest, text)
 }
 
-/// Appends characters without line feeds, with their tabs as spaces.
+// Appends characters without line feeds, with their tabs as spaces.
 fn push_untabbed(line: &str, text: &mut String) -> Result<(), AllocError>
     requires { AllAre (is_but 0xA) line.now }
     ensures { OnOk result (string_bytes text.new ≡ string_bytes text.old ++ map as_space line.now) }

@@ -12,7 +12,7 @@ use Rattle.std.specs.List.{filter, list_any}
 use Rattle.std.specs.Str.{bytes_eq}
 use Rattle.ifmap_elem.specs.Arranged.{arrange, arrange_child, sort_attributes}
 use Rattle.ifmap_elem.specs.Canonical.{root_bytes}
-use Rattle.ifmap_elem.specs.Namespaces.{prefix_rows}
+use Rattle.ifmap_elem.specs.Namespaces.{numbered_prefixes}
 use Rattle.ifmap_elem.specs.declared.elements.Attribute.{Attribute}
 use Rattle.ifmap_elem.specs.declared.elements.Element.{Element}
 use Rattle.ifmap_lemmas.specs.Filters.{filter_again}
@@ -52,7 +52,7 @@ arranged_content publisher moment e =
 
 pub content_stays : (publisher : List ℕ) (moment : ℕ) (e : Element) → content_bytes (stamp publisher moment e) ≡ content_bytes e
 unfolding content_bytes
-content_stays publisher moment e = ap (root_bytes (prefix_rows (codes "f") 1 [])) (arranged_content publisher moment e)
+content_stays publisher moment e = ap (root_bytes (numbered_prefixes (codes "f") 1 [])) (arranged_content publisher moment e)
 
 never_both : (s : Bool) → not ((s && false) || (s && false)) ≡ true
 never_both true = refl

@@ -11,6 +11,7 @@ pub mod Goings
 pub mod Items
 pub mod Lasts
 pub mod Levels
+pub mod Linking
 pub mod Lookups
 pub mod NameLaws
 pub mod NameSets

@@ -1,5 +1,5 @@
 -- What a tag opens.
-use Rattle.std.specs.Prelude.{◌≡◌, ℕ, List, [], ◌∷◌, ◌++◌, map, Option, Some, None, Result, Ok, Err}
+use Rattle.std.specs.Prelude.{◌≡◌, ◌≢◌, ℕ, List, [], ◌∷◌, ◌++◌, filter, is_none, map, reverse, Option, Some, None, Result, Ok, Err}
 use Rattle.std.proofs.Common.{Bor}
 use Rattle.std.specs.List.{AllByRecursion, filter_map}
 use Rattle.ifmap_elem.specs.Scopes.{Scope, Binding, IsBinding, AllDiffer, IsAttribute, AreAttributes, NamesElement, binding_of, bindings, bound}
@@ -10,7 +10,7 @@ use Rattle.ifmap_elem.specs.declared.tokens.Tag.{Tag}
 use Rattle.ifmap_reader.specs.declared.errors.Refusal.{Refusal}
 use Rattle.ifmap_reader.specs.declared.errors.Refusal.TheVariants.{NotAllowed, TooDeep, NoMemory}
 use Rattle.ifmap_reader.specs.declared.open_elements.OpenElement.{OpenElement}
-use Rattle.ifmap_reader.specs.OpenElements.{written_name}
+use Rattle.ifmap_reader.specs.OpenElements.{Reaches, scope_of, written_name}
 
 -- the binding of a prefix, if there is one, to a namespace
 abbrev pub told : Option (Bor (List ℕ)) → List ℕ → Option Binding
@@ -61,9 +61,21 @@ pub record OpensElement (outer : Scope) (tag : Tag) (f : OpenElement) : Type 0 w
   pub no_text : f.text ≡ []
   pub none_below : f.below ≡ []
 
--- the answer to a tag: the element that it opens, where the tag is allowed
-abbrev pub TagAnswer : Scope → Tag → Result OpenElement Refusal → Type 0
-TagAnswer outer tag (Ok f) = OpensElement outer tag f
-TagAnswer outer tag (Err NotAllowed) = (name : Name) (attributes : List Attribute) → NamesElement outer tag name attributes → ⊥
+-- the answer to a tag: the element that it opens within the open elements, where the tag is allowed
+abbrev pub TagAnswer : List OpenElement → Tag → Result OpenElement Refusal → Type 0
+TagAnswer outer tag (Ok f) = OpensElement (scope_of outer) tag f × Reaches f.bindings f.declaring outer
+TagAnswer outer tag (Err NotAllowed) = (name : Name) (attributes : List Attribute) → NamesElement (scope_of outer) tag name attributes → ⊥
 TagAnswer outer tag (Err TooDeep) = ⊥
 TagAnswer outer tag (Err NoMemory) = Unit {0}
+
+-- what is bound within a tag with these bindings, in some open elements, the innermost last
+abbrev pub scope_inside : List Binding → List OpenElement → Scope
+scope_inside bindings open_elements = bindings ++ scope_of (reverse open_elements)
+
+-- the assignments that bind no prefix
+abbrev pub plain : List Assignment → List Assignment
+plain assignments = filter (λ a. is_none (binding_of a)) assignments
+
+-- no attribute has the name
+abbrev pub LacksName : Name → List Attribute → Type 0
+LacksName name attributes = AllByRecursion (λ n. name ≢ n) (map (λ t. t.name) attributes)

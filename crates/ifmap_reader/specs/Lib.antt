@@ -1,4 +1,5 @@
 pub mod Depths
+pub mod Indexes
 pub mod ListedScopes
 pub mod OpenElements
 pub mod AllowedTags

@@ -1,8 +1,8 @@
 -- Elements that are open, by what they are once they end.
-use Rattle.std.specs.Prelude.{◌≡◌, ℕ, Bool, true, not, ◌==◌, ◌||◌, if◌then◌else◌, List, [], ◌∷◌, ◌++◌, length, map, filter}
+use Rattle.std.specs.Prelude.{◌≡◌, ◌⊎◌, ℕ, ◌+◌, ◌-◌, ◌≤◌, Bool, true, not, ◌==◌, ◌||◌, if◌then◌else◌, List, [], ◌∷◌, ◌++◌, drop, length, map, filter}
 use Rattle.std.specs.List.{list_any}
 use Rattle.ifmap_elem.specs.Document.{Item, Run, is_inner, put_before, joined, is_child, child_of, declared_here, declared_below, from_above}
-use Rattle.ifmap_elem.specs.Scopes.{Scope, root_scope}
+use Rattle.ifmap_elem.specs.Scopes.{Binding, Scope, root_scope}
 use Rattle.ifmap_elem.specs.declared.elements.Child.{Child}
 use Rattle.ifmap_elem.specs.declared.elements.Child as the
 use Rattle.ifmap_elem.specs.declared.elements.Element.{Element}
@@ -19,11 +19,26 @@ abbrev pub scope_of : List OpenElement → Scope
 scope_of [] = root_scope
 scope_of (f ∷ fs) = f.bindings ++ scope_of fs
 
+-- that many open elements, the outermost, bind all that an element binds that has these bindings and stands within those open elements:
+-- the element itself is one of them, or it binds nothing
+pub record BindsNothing (bindings : List Binding) (count : ℕ) (outer : List OpenElement) : Type 0 where
+  pub within : count ≤ length outer
+  pub none : bindings ≡ []
+  pub same : scope_of (drop (length outer - count) outer) ≡ scope_of outer
+
+abbrev pub Reaches : List Binding → ℕ → List OpenElement → Type 0
+Reaches bindings count outer = (count ≡ length outer + 1) ⊎ BindsNothing bindings count outer
+
+-- each open element, the innermost first, knows how many of the outermost bind all that is bound in it
+abbrev pub AreLinked : List OpenElement → Type 0
+AreLinked [] = Unit {0}
+AreLinked (f ∷ fs) = Reaches f.bindings f.declaring fs × AreLinked fs
+
 -- some of its children have ended, an element among them
 abbrev pub has_children : OpenElement → Bool
 has_children f = not (length f.children == 0)
 
--- a text is children_among as a child
+-- the text is a child
 abbrev pub is_child_text : Bool → List ℕ → Bool
 is_child_text beside text = is_child beside (Run text)
 
@@ -40,11 +55,11 @@ pub record Closes (f : OpenElement) (items : List Item) (e : Element) (declared 
   pub element_is : e ≡ record { name = f.name; attributes = f.attributes; children = f.children ++ map child_of (children_to_come f items) }
   pub declared_is : declared ≡ declared_here f.bindings ++ (f.below ++ declared_below (length f.children) (children_to_come f items))
 
--- with more text behind its children
+-- with more text after its children
 abbrev pub with_characters : OpenElement → List ℕ → OpenElement
 with_characters f text = record f { text = f.text ++ text }
 
--- with an element behind its text, and the declarations in that
+-- with an element after its text, and the declarations in that
 abbrev pub with_inner : OpenElement → Element → List Declared → OpenElement
 with_inner f e declared = record f {
   children = f.children ++ text_child true f.text ++ the.Element e ∷ [];

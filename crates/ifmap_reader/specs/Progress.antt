@@ -8,17 +8,18 @@ use Rattle.ifmap_elem.specs.Scopes.{Scope}
 use Rattle.ifmap_elem.specs.declared.elements.Element.{Element}
 use Rattle.ifmap_elem.specs.declared.readings.Declared.{Declared}
 use Rattle.ifmap_elem.specs.declared.readings.Reading.{Reading}
+use Rattle.ifmap_elem.specs.declared.tokens.Qualified.{Qualified}
 use Rattle.ifmap_elem.specs.declared.tokens.Token.{Token}
 use Rattle.ifmap_elem.specs.declared.tokens.Token.TheVariants.{Declaration, Comment, Start, Empty, End, Section, Characters}
 use Rattle.ifmap_reader.specs.Depths.{levels}
-use Rattle.ifmap_reader.specs.OpenElements.{Closes, scope_of, with_inner, written_name}
+use Rattle.ifmap_reader.specs.OpenElements.{AreLinked, Closes, scope_of, with_inner, written_name}
 use Rattle.ifmap_reader.specs.declared.errors.Refusal.{Refusal}
 use Rattle.ifmap_reader.specs.declared.errors.Refusal.TheVariants.{NotAllowed, TooDeep, NoMemory}
 use Rattle.ifmap_reader.specs.declared.open_elements.OpenElement.{OpenElement}
 use Rattle.ifmap_reader.specs.declared.standing.Standing.{Standing}
 use Rattle.ifmap_reader.specs.declared.standing.Standing.TheVariants as standing
 
--- where a reader stands: at the start, within some open elements, the innermost first and none before the root, or behind the root
+-- where a reader stands: at the start, within some open elements, the innermost first and none before the root, or after the root
 pub data Where : Type 0 where
   AtStart : Where
   Within : List OpenElement → Where
@@ -32,16 +33,16 @@ where_is (standing.Done r) = AfterRoot r
 -- the tokens are the rest of an open element's pieces, its end tag, and what Then says of the element that ended
 pub record Ends (scope : Scope) (f : OpenElement) (ts : List Token) (Then : Element → List Declared → List Token → Type 0) : Type 0 where
   pub inside : Pieces
-  pub behind : List Token
+  pub rest : List Token
   pub items : List Item
   pub element : Element
   pub declared : List Declared
-  pub tokens_are : ts ≡ tokens_of inside ++ (End (written_name f) ∷ behind)
+  pub tokens_are : ts ≡ tokens_of inside ++ (End (written_name f) ∷ rest)
   pub means : AreItems scope inside items
   pub closes : Closes f items element declared
-  pub goes_on : Then element declared behind
+  pub goes_on : Then element declared rest
 
--- the tokens end a document behind this root
+-- the tokens end a document after this root
 pub record EndsDocument (root : Reading) (ts : List Token) (r : Reading) : Type 0 where
   pub after : Pieces
   pub tokens_are : ts ≡ tokens_of after
@@ -50,8 +51,8 @@ pub record EndsDocument (root : Reading) (ts : List Token) (r : Reading) : Type 
 
 -- the tokens end an open element, those round it, and the document
 abbrev pub Closing : OpenElement → List OpenElement → List Token → Reading → Type 0
-Closing f [] ts r = Ends (scope_of (f ∷ [])) f ts (λ e declared behind. EndsDocument (record { root = e; declared = declared }) behind r)
-Closing f (g ∷ gs) ts r = Ends (scope_of (f ∷ (g ∷ gs))) f ts (λ e declared behind. Closing (with_inner g e declared) gs behind r)
+Closing f [] ts r = Ends (scope_of (f ∷ [])) f ts (λ e declared rest. EndsDocument (record { root = e; declared = declared }) rest r)
+Closing f (g ∷ gs) ts r = Ends (scope_of (f ∷ (g ∷ gs))) f ts (λ e declared rest. Closing (with_inner g e declared) gs rest r)
 
 -- the tokens are a document from before its root on
 pub record BeginsRoot (ts : List Token) (r : Reading) : Type 0 where
@@ -66,11 +67,11 @@ GoesOn (Within []) ts r = BeginsRoot ts r
 GoesOn (Within (f ∷ fs)) ts r = Closing f fs ts r
 GoesOn (AfterRoot root) ts r = EndsDocument root ts r
 
--- what goes on behind the token goes on before it with the token in front, and the other way
+-- what goes on after the token goes on before it with the token in front, and the other way
 abbrev pub Follows : Where → Token → Where → Type 0
 Follows old t new = (ts : List Token) (r : Reading) → (GoesOn old (t ∷ ts) r ↔ GoesOn new ts r)
 
--- behind an element that ended within these
+-- after an element that ended within these
 abbrev pub after_element : List OpenElement → Element → List Declared → Where
 after_element [] e declared = AfterRoot (record { root = e; declared = declared })
 after_element (g ∷ gs) e declared = Within (with_inner g e declared ∷ gs)
@@ -105,12 +106,19 @@ so_deep (AfterRoot root) = nesting root.root
 abbrev pub one_if : Bool → ℕ
 one_if b = cond b 1 0
 
+-- what is open there is linked
+abbrev pub IsLinked : Where → Type 0
+IsLinked AtStart = Unit {0}
+IsLinked (Within open_elements) = AreLinked open_elements
+IsLinked (AfterRoot root) = Unit {0}
+
 -- the token leads from there to here, within that many levels
 pub record Leads (depth : ℕ) (old : Where) (t : Token) (new : Where) : Type 0 where
   pub follows : Follows old t new
   pub fits : so_deep old ≤ depth → so_deep new ≤ depth
   pub counts : open_in old + one_if (is_start t) ≡ open_in new + one_if (is_end t)
   pub within : Opens t → open_in old < depth
+  pub linked : IsLinked old → IsLinked new
 
 -- the token is a tag that is allowed but opens a level more than that many
 pub record Passes (depth : ℕ) (old : Where) (t : Token) : Type 0 where
@@ -126,3 +134,16 @@ TokenAnswer depth old t (Ok new) = Leads depth old t (where_is new)
 TokenAnswer depth old t (Err NotAllowed) = (ts : List Token) (r : Reading) → GoesOn old (t ∷ ts) r → ⊥
 TokenAnswer depth old t (Err TooDeep) = Passes depth old t
 TokenAnswer depth old t (Err NoMemory) = Unit {0}
+
+-- the answer to characters or a section within some open elements, the innermost last
+abbrev pub TextAnswer : List OpenElement → Bool → List ℕ → Result Standing Refusal → Type 0
+TextAnswer open_elements blank text result =
+    (depth : ℕ) (t : Token) → IsCharacterData blank text t → TokenAnswer depth (Within (reverse open_elements)) t result
+
+-- the answer to an end tag there
+abbrev pub EndAnswer : List OpenElement → Qualified → Result Standing Refusal → Type 0
+EndAnswer open_elements name result = (depth : ℕ) → TokenAnswer depth (Within (reverse open_elements)) (End name) result
+
+-- a reader stands after an element that ended within these
+abbrev pub IsAfterElement : List OpenElement → Element → List Declared → Standing → Type 0
+IsAfterElement open_elements e declared new = where_is new ≡ after_element (reverse open_elements) e declared

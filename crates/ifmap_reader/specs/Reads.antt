@@ -59,3 +59,7 @@ abbrev pub read_at_end : Standing → ℕ → Result Reading ReadError
 read_at_end Start at = Err (Unreadable at)
 read_at_end (Open open_elements) at = Err (Unreadable at)
 read_at_end (Done r) at = Ok r
+
+-- at most one number passes
+abbrev pub AtMostOne : (ℕ → Type 0) → Type 0
+AtMostOne Passes = (one other : ℕ) → Passes one → Passes other → one ≡ other

@@ -1,8 +1,8 @@
 //! Whether a tag is allowed, and the element that it opens.
-ghost use Rattle.std.specs.Prelude.{◌≡◌, ◌++◌, reverse, filter, is_none, IfOk};
-ghost use Rattle.ifmap_elem.specs.Scopes.{binding_of, bound, root_scope};
-ghost use Rattle.ifmap_reader.specs.OpenElements.{scope_of};
-ghost use Rattle.ifmap_reader.specs.AllowedTags.{ArePlain, IsGiven, TagAnswer};
+ghost use Rattle.std.specs.Prelude.{◌≡◌, reverse, IfOk};
+ghost use Rattle.ifmap_elem.specs.Scopes.{bound, root_scope};
+ghost use Rattle.ifmap_reader.specs.OpenElements.{AreLinked, Reaches};
+ghost use Rattle.ifmap_reader.specs.AllowedTags.{ArePlain, IsGiven, TagAnswer, plain, scope_inside};
 
 use crate::bindings::{Bindings, XML, XML_SPACE, bindings_of, bound_prefix};
 use crate::differing::have_other_names;
@@ -12,13 +12,14 @@ use ifmap_elem::tokens::{Assignment, Tag};
 use ifmap_elem::{Attribute, Copied, Many, Name, Text};
 use std::alloc::{AllocError as NoMemory, Global};
 
-/// The element that a tag opens within the open elements, the innermost last.
+// The element that a tag opens within the open elements, the innermost last.
 pub(crate) fn open_element(
     alloc: Global,
     open_elements: &[OpenElement],
     tag: Tag,
 ) -> Result<OpenElement, Refusal>
-    ensures { TagAnswer (scope_of (reverse open_elements.now)) tag result }
+    requires { AreLinked (reverse open_elements.now) }
+    ensures { TagAnswer (reverse open_elements.now) tag result }
 {
     let Tag { name, assignments } = tag;
     let bindings = bindings_of(alloc, &assignments.0)?;
@@ -29,6 +30,7 @@ pub(crate) fn open_element(
     if !have_other_names(alloc, &attributes.0)? {
         return Err(Refusal::NotAllowed);
     }
+    let declaring = innermost_declaring(&bindings, open_elements);
     Ok(OpenElement {
         prefix: name.prefix,
         name: Name {
@@ -37,35 +39,58 @@ pub(crate) fn open_element(
         },
         attributes,
         bindings,
+        declaring,
         children: Many(Vec::new(alloc)),
         text: Text(String::new(alloc)),
         below: Many(Vec::new(alloc)),
     })
 }
 
-/// What a prefix is bound to within a tag with these bindings.
+// How many open elements stand up to the innermost that binds a prefix, where one with these bindings
+// is opened within those.
+fn innermost_declaring(bindings: &Bindings, open_elements: &[OpenElement]) -> usize
+    requires { AreLinked (reverse open_elements.now) }
+    ensures { Reaches bindings.now result (reverse open_elements.now) }
+{
+    let count = open_elements.len();
+    if !bindings.is_empty() {
+        return count + 1;
+    }
+    if count == 0 {
+        return 0;
+    }
+    open_elements[count - 1].declaring
+}
+
+// What a prefix is bound to within a tag with these bindings.
 fn space_of(
     alloc: Global,
     bindings: &Bindings,
     open_elements: &[OpenElement],
     prefix: &Text,
 ) -> Result<Option<Text>, NoMemory>
-    ensures { IfOk result (λ space. space ≡ bound (bindings.now ++ scope_of (reverse open_elements.now)) prefix.now) }
+    requires { AreLinked (reverse open_elements.now) }
+    ensures { IfOk result (λ space. space ≡ bound (scope_inside bindings.now open_elements.now) prefix.now) }
 {
     if let Some(space) = bindings.space_of(prefix) {
         return Ok(Some(space.copy(alloc)?));
     }
     let mut outer = open_elements.len();
     while outer > 0 {
-        outer -= 1;
-        if let Some(space) = open_elements[outer].bindings.space_of(prefix) {
+        let element = &open_elements[outer - 1];
+        if element.declaring < outer {
+            outer = element.declaring;
+            continue;
+        }
+        if let Some(space) = element.bindings.space_of(prefix) {
             return Ok(Some(space.copy(alloc)?));
         }
+        outer -= 1;
     }
     root_space_of(alloc, prefix)
 }
 
-/// What a prefix is bound to where no tag binds it.
+// What a prefix is bound to where no tag binds it.
 fn root_space_of(alloc: Global, prefix: &Text) -> Result<Option<Text>, NoMemory>
     ensures { IfOk result (λ space. space ≡ bound root_scope prefix.now) }
 {
@@ -78,14 +103,15 @@ fn root_space_of(alloc: Global, prefix: &Text) -> Result<Option<Text>, NoMemory>
     Ok(None)
 }
 
-/// The attributes that the assignments of a tag give.
+// The attributes that the assignments of a tag give.
 fn attributes_of(
     alloc: Global,
     bindings: &Bindings,
     open_elements: &[OpenElement],
     assignments: Many<Assignment>,
 ) -> Result<Many<Attribute>, Refusal>
-    ensures { ArePlain (bindings.now ++ scope_of (reverse open_elements.now)) (filter (λ a. is_none (binding_of a)) assignments) result }
+    requires { AreLinked (reverse open_elements.now) }
+    ensures { ArePlain (scope_inside bindings.now open_elements.now) (plain assignments) result }
 {
     let Many(mut left) = assignments;
     let mut made = Vec::with_capacity(alloc, left.len())?;
@@ -99,14 +125,15 @@ fn attributes_of(
     Ok(Many(made))
 }
 
-/// The attribute that an assignment gives.
+// The attribute that an assignment gives.
 fn attribute_of(
     alloc: Global,
     bindings: &Bindings,
     open_elements: &[OpenElement],
     assignment: Assignment,
 ) -> Result<Attribute, Refusal>
-    ensures { IsGiven (bindings.now ++ scope_of (reverse open_elements.now)) assignment result }
+    requires { AreLinked (reverse open_elements.now) }
+    ensures { IsGiven (scope_inside bindings.now open_elements.now) assignment result }
 {
     let Assignment { name, value } = assignment;
     let local = name.local;

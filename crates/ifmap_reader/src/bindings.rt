@@ -1,5 +1,6 @@
 //! The bindings of prefixes that one tag makes.
 ghost use Rattle.std.specs.Prelude.{◌≡◌, ◌↔◌, ◌∷◌, [], ◌++◌, IfOk, IsTrue, None};
+ghost use Rattle.std.specs.Bool.{OnTrue};
 ghost use Rattle.std.specs.Option.{option_copied};
 ghost use Rattle.ifmap_elem.specs.Scopes.{Binding, IsBinding, binding_of, bound};
 ghost use Rattle.ifmap_elem.specs.Document.{declared_here};
@@ -20,8 +21,8 @@ pub(crate) const XML: &str = "xml";
 
 const XMLNS_SPACE: &str = "http://www.w3.org/2000/xmlns/";
 
-/// The bindings that a tag makes, in order, which contracts see as a list; and what each prefix is
-/// bound to.
+// The bindings that a tag makes, in order, which contracts see as a list; and what each prefix is
+// bound to.
 #[derive(Drop)]
 pub(crate) struct Bindings {
     rows: Vec<Declared>,
@@ -29,19 +30,19 @@ pub(crate) struct Bindings {
 }
 
 impl Model for Bindings {
-    ghost use Rattle.std.specs.Prelude.{◌≡◌, List, ℕ, map};
+    ghost use Rattle.std.specs.Prelude.{List, map};
     ghost use Rattle.std.specs.Ordering.{nat_cmp};
     ghost use Rattle.std.specs.Cmp.Lexicographic.{slice_cmp};
     ghost use Rattle.std.specs.BTreeMap.{get};
-    ghost use Rattle.ifmap_elem.specs.Scopes.{Binding, bound};
-    ghost use Rattle.ifmap_elem.specs.Document.{declared_here};
+    ghost use Rattle.ifmap_elem.specs.Scopes.{Binding};
     ghost use Rattle.ifmap_elem.specs.InScope.{binding_told};
+    ghost use Rattle.ifmap_reader.specs.Indexes.{AreIndexed};
 
     ghost Value = { List Binding };
 
     ghost view = { λ b. map binding_told b.rows.items };
 
-    ghost invariant = { λ b. (b.rows.items ≡ declared_here (map binding_told b.rows.items)) × ((prefix : List ℕ) → get (slice_cmp nat_cmp) b.spaces prefix ≡ bound (map binding_told b.rows.items) prefix) };
+    ghost invariant = { λ b. AreIndexed b.rows.items (get (slice_cmp nat_cmp) b.spaces) };
 }
 
 impl Bindings {
@@ -54,17 +55,24 @@ impl Bindings {
         }
     }
 
-    /// What the tag binds a prefix to.
+    // Whether the tag binds no prefix.
+    pub(crate) fn is_empty(&self) -> bool
+        ensures { OnTrue result (self.now ≡ []) }
+    {
+        self.rows.is_empty()
+    }
+
+    // What the tag binds a prefix to.
     pub(crate) fn space_of(&self, prefix: &Text) -> Option<&Text>
         ensures { option_copied result ≡ bound self.now prefix.now }
     {
         self.spaces.get(prefix)
     }
 
-    /// With one binding more, of a prefix that has none.
+    // With one binding more, of a prefix that has none.
     fn with(self, alloc: Global, prefix: Text, space: Text) -> Result<Bindings, NoMemory>
         requires { bound self prefix ≡ None }
-        ensures { IfOk result (λ made. made ≡ self ++ record { prefix = prefix; space = space } ∷ []) }
+        ensures { IfOk result (λ b. b ≡ self ++ record { prefix = prefix; space = space } ∷ []) }
     {
         let Bindings {
             mut rows,
@@ -80,7 +88,7 @@ impl Bindings {
         Ok(Bindings { rows, spaces })
     }
 
-    /// The bindings as declarations at the tag's own element.
+    // The bindings as declarations at the tag's own element.
     pub(crate) fn into_declared(self) -> Many<Declared>
         ensures { result ≡ declared_here self }
     {
@@ -88,7 +96,7 @@ impl Bindings {
         Many(rows)
     }
 
-    /// With the binding that an assignment makes, if it makes one.
+    // With the binding that an assignment makes, if it makes one.
     fn with_assignment(self, alloc: Global, assignment: &Assignment) -> Result<Bindings, Refusal>
         ensures { Binds self (binding_of assignment.now) result }
     {
@@ -108,8 +116,8 @@ impl Bindings {
     }
 }
 
-/// The prefix that an assignment binds, which is empty for the default; none where the assignment
-/// gives an attribute.
+// The prefix that an assignment binds, which is empty for the default; none where the assignment
+// gives an attribute.
 pub(crate) fn bound_prefix(assignment: &Assignment) -> Option<&str>
     ensures { binding_of assignment.now ≡ told result assignment.now.value }
 {
@@ -150,7 +158,7 @@ fn is_word(text: &str, word: &str) -> bool
     text == word
 }
 
-/// The bindings that the assignments of a tag make.
+// The bindings that the assignments of a tag make.
 pub(crate) fn bindings_of(alloc: Global, assignments: &[Assignment]) -> Result<Bindings, Refusal>
     ensures { IsBound assignments.now result }
 {

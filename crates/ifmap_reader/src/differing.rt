@@ -1,13 +1,13 @@
 //! Whether the attributes of an element have different names.
-ghost use Rattle.std.specs.Prelude.{◌≡◌, ◌≢◌, ◌↔◌, IfOk, IsTrue, map, false};
-ghost use Rattle.std.specs.List.{AllByRecursion};
+ghost use Rattle.std.specs.Prelude.{◌≡◌, ◌↔◌, IfOk, IsTrue, map, false};
 ghost use Rattle.ifmap_elem.specs.Scopes.{AllDiffer};
+ghost use Rattle.ifmap_reader.specs.AllowedTags.{LacksName};
 
 use ifmap_elem::{Attribute, Equals, Name};
 use std::alloc::{AllocError as NoMemory, Global};
 use std::collections::BTreeSet;
 
-/// So many attributes are compared each to each, which takes no memory.
+// So many attributes are compared each to each, which takes no memory.
 const FEW: usize = 8;
 
 pub(crate) fn have_other_names(alloc: Global, attributes: &[Attribute]) -> Result<bool, NoMemory>
@@ -43,8 +43,8 @@ fn few_differ(attributes: &[Attribute]) -> bool
 }
 
 fn has_name(attributes: &[Attribute], name: &Name) -> bool
-    ensures found { IsTrue result → AllByRecursion (λ n. name.now ≢ n) (map (λ t. t.name) attributes.now) → ⊥ }
-    ensures none { result ≡ false → AllByRecursion (λ n. name.now ≢ n) (map (λ t. t.name) attributes.now) }
+    ensures found { IsTrue result → LacksName name.now attributes.now → ⊥ }
+    ensures none { result ≡ false → LacksName name.now attributes.now }
 {
     for attribute in attributes {
         if attribute.name.equals(name) {

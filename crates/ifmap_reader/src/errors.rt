@@ -15,7 +15,7 @@ pub enum ReadError {
     NoMemory,
 }
 
-/// Why a reader does not go on with a token.
+// Why a reader does not go on with a token.
 #[derive(Debug, Drop)]
 pub(crate) enum Refusal {
     NotAllowed,

@@ -1,22 +1,23 @@
 //! Laws on what bytes spell and on the places at which they are refused: functions that do nothing,
 //! whose contracts are the laws.
-ghost use Rattle.std.specs.Prelude.{◌≡◌, ℕ, List};
+ghost use Rattle.std.specs.Prelude.{ℕ, List};
 ghost use Rattle.ifmap_lemmas.specs.Deciding.{Decided};
 ghost use Rattle.ifmap_elem.specs.declared.readings.Reading.{Reading};
 ghost use Rattle.ifmap_elem.specs.Fit.{IsFit};
 ghost use Rattle.ifmap_elem.specs.Places.{Deep, Stop};
 ghost use Rattle.ifmap_elem.specs.Spells.{Spells};
+ghost use Rattle.ifmap_reader.specs.Reads.{AtMostOne};
 
 use ifmap_lexer::laws::token_stands_or_none;
 
 /// There is at most one place where bytes cease to begin a document.
 pub fn bytes_stop_at_one_place()
-    ensures { (bytes : List ℕ) (one other : ℕ) → Stop bytes one → Stop bytes other → one ≡ other }
+    ensures { (bytes : List ℕ) → AtMostOne (Stop bytes) }
 {}
 
 /// A list of bytes has at most one first tag that opens a level too many.
 pub fn bytes_nest_too_deep_at_one_place()
-    ensures { (bytes : List ℕ) (depth one other : ℕ) → Deep bytes depth one → Deep bytes depth other → one ≡ other }
+    ensures { (bytes : List ℕ) (depth : ℕ) → AtMostOne (Deep bytes depth) }
 {}
 
 /// What bytes spell is an element that a document can have.

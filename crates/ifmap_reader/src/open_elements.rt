@@ -10,40 +10,43 @@ use ifmap_elem::tokens::Qualified;
 use ifmap_elem::{Attribute, Child, Declared, Element, Equals, Many, Name, Text};
 use std::alloc::{AllocError as NoMemory, Global};
 
-/// An element that is open.
+// An element that is open.
 #[derive(Drop)]
 pub(crate) struct OpenElement {
-    /// The prefix of its name, as it is written.
+    // The prefix of its name, as it is written.
     pub prefix: Text,
     pub name: Name,
     pub attributes: Many<Attribute>,
     pub bindings: Bindings,
-    /// The children that are kept, up to the last element among them.
+    // How many of the open elements, from the root on, stand up to the innermost that binds a prefix,
+    // this one among them: what binds in it is bound by these.
+    pub declaring: usize,
+    // The children that are kept, up to the last element among them.
     pub children: Many<Child>,
-    /// The text behind these.
+    // The text after these.
     pub text: Text,
-    /// The declarations in the children, with their paths from this element on.
+    // The declarations in the children, with their paths from this element on.
     pub below: Many<Declared>,
 }
 
 impl OpenElement {
-    /// Whether an end tag of this name ends the element.
+    // Whether an end tag of this name ends the element.
     pub(crate) fn is_named(&self, name: &Qualified) -> bool
         ensures { IsTrue result ↔ (name.now ≡ written_name self.now) }
     {
         self.prefix.equals(&name.prefix) && self.name.local.equals(&name.local)
     }
 
-    /// With more text behind its children.
+    // With more text after its children.
     pub(crate) fn with_characters(self, words: Text) -> Result<OpenElement, NoMemory>
         ensures { IfOk result (λ made. made ≡ with_characters self words) }
     {
-        let mut frame = self;
-        frame.text = joined(frame.text, words)?;
-        Ok(frame)
+        let mut element = self;
+        element.text = join(element.text, words)?;
+        Ok(element)
     }
 
-    /// With an element as one more child, and the declarations in it.
+    // With an element as one more child, and the declarations in it.
     pub(crate) fn with_inner(
         self,
         alloc: Global,
@@ -57,6 +60,7 @@ impl OpenElement {
             name,
             attributes,
             bindings,
+            declaring,
             children,
             text,
             below,
@@ -70,13 +74,14 @@ impl OpenElement {
             name,
             attributes,
             bindings,
+            declaring,
             children,
             text,
             below,
         })
     }
 
-    /// The element, at its end, and the declarations in it.
+    // The element, at its end, and the declarations in it.
     pub(crate) fn close(self) -> Result<(Element, Many<Declared>), NoMemory>
         ensures { IfOk result (λ closed. Closes self [] closed.0 closed.1) }
     {
@@ -85,13 +90,14 @@ impl OpenElement {
             name,
             attributes,
             bindings,
+            declaring: _,
             children,
             text,
             below,
         } = self;
         let beside = !children.0.is_empty();
         let children = with_text(children, beside, text)?;
-        let declared = appended(bindings.into_declared(), below)?;
+        let declared = append(bindings.into_declared(), below)?;
         let element = Element {
             name,
             attributes,
@@ -101,7 +107,7 @@ impl OpenElement {
     }
 }
 
-fn joined(text: Text, more: Text) -> Result<Text, NoMemory>
+fn join(text: Text, more: Text) -> Result<Text, NoMemory>
     ensures { IfOk result (λ made. made ≡ text ++ more) }
 {
     if text.0.as_bytes().is_empty() {
@@ -112,7 +118,7 @@ fn joined(text: Text, more: Text) -> Result<Text, NoMemory>
     Ok(Text(bytes))
 }
 
-/// With a text behind them, where it is kept.
+// With a text after them, where it is kept.
 fn with_text(children: Many<Child>, beside: bool, text: Text) -> Result<Many<Child>, NoMemory>
     ensures { IfOk result (λ made. made ≡ children ++ text_child beside text) }
 {
@@ -123,7 +129,7 @@ fn with_text(children: Many<Child>, beside: bool, text: Text) -> Result<Many<Chi
     Ok(made)
 }
 
-/// Whether a text is a child: beside an element it is none where it is white space alone.
+// Whether a text is a child: beside an element it is none where it is white space alone.
 fn is_kept_text(beside: bool, text: &[u8]) -> bool
     ensures { result ≡ is_child_text beside text.now }
 {
@@ -134,15 +140,15 @@ fn is_kept_text(beside: bool, text: &[u8]) -> bool
     }
 }
 
-/// Whether a text is white space alone.
+// Whether a text is white space alone.
 fn is_blank(text: &[u8]) -> bool
     ensures { result ≡ list_all is_white text.now }
 {
     text.iter().all(|b| *b == b' ' || *b == b'\t' || *b == b'\r' || *b == b'\n')
 }
 
-/// Puts a child behind the others. The first takes room for itself alone, since most elements hold
-/// one text and nothing else.
+// Puts a child after the others. The first takes room for itself alone, since most elements hold
+// one text and nothing else.
 fn with_child(children: Many<Child>, child: Child) -> Result<Many<Child>, NoMemory>
     ensures { IfOk result (λ made. made ≡ children ++ child ∷ []) }
 {
@@ -154,7 +160,7 @@ fn with_child(children: Many<Child>, child: Child) -> Result<Many<Child>, NoMemo
     Ok(Many(members))
 }
 
-fn appended(declared: Many<Declared>, more: Many<Declared>) -> Result<Many<Declared>, NoMemory>
+fn append(declared: Many<Declared>, more: Many<Declared>) -> Result<Many<Declared>, NoMemory>
     ensures { IfOk result (λ made. made ≡ declared ++ more) }
 {
     let Many(mut members) = declared;
@@ -163,7 +169,7 @@ fn appended(declared: Many<Declared>, more: Many<Declared>) -> Result<Many<Decla
     Ok(Many(members))
 }
 
-/// With the declarations in the child at this index.
+// With the declarations in the child at this index.
 fn with_below(
     below: Many<Declared>,
     index: usize,
@@ -174,13 +180,13 @@ fn with_below(
     let Many(mut members) = below;
     let Many(inner) = declared;
     for row in inner {
-        members.push(raised(index, row)?)?;
+        members.push(raise(index, row)?)?;
     }
     Ok(Many(members))
 }
 
-/// A declaration as the parent sees it. An index beyond 32 bits is more than memory holds.
-fn raised(index: usize, row: Declared) -> Result<Declared, NoMemory>
+// A declaration as the parent sees it. An index beyond 32 bits is more than memory holds.
+fn raise(index: usize, row: Declared) -> Result<Declared, NoMemory>
     ensures { IfOk result (λ made. made ≡ from_above index row) }
 {
     let Declared {

@@ -42,7 +42,7 @@ fn read_tokens(alloc: Global, bytes: &[u8], depth: u32) -> Result<Reading, ReadE
     read_at_end(standing, at)
 }
 
-/// What has been read where the input ends.
+// What has been read where the input ends.
 fn read_at_end(standing: Standing, at: usize) -> Result<Reading, ReadError>
     ensures { result ≡ read_at_end standing at }
 {
@@ -52,7 +52,7 @@ fn read_at_end(standing: Standing, at: usize) -> Result<Reading, ReadError>
     }
 }
 
-/// How many bytes a byte order mark takes.
+// How many bytes a byte order mark takes.
 fn byte_order_mark_length(bytes: &[u8]) -> usize
     ensures after { drop result bytes.now ≡ without_byte_order_mark bytes.now }
     ensures within { result ≤ length bytes.now }

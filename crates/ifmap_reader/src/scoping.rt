@@ -1,14 +1,11 @@
 //! Which prefixes are in scope at an element that was read.
-ghost use Rattle.std.specs.Prelude.{◌≡◌, ℕ, ◌==◌, ◌&&◌, List, map, IfOk};
+ghost use Rattle.std.specs.Prelude.{◌≡◌, map, IfOk};
 ghost use Rattle.std.specs.BTreeMap.{get};
 ghost use Rattle.std.specs.Cmp.Lexicographic.{slice_cmp};
-ghost use Rattle.std.specs.List.{starts_with};
-ghost use Rattle.std.specs.Map.{lookup};
 ghost use Rattle.std.specs.Ordering.{nat_cmp};
-ghost use Rattle.std.specs.Str.{bytes_eq};
 ghost use Rattle.ifmap_elem.specs.Scopes.{AllDiffer};
-ghost use Rattle.ifmap_elem.specs.InScope.{declared_at, is_listed, listed};
-ghost use Rattle.ifmap_reader.specs.ListedScopes.{Lists, ListsScope};
+ghost use Rattle.ifmap_elem.specs.InScope.{is_listed};
+ghost use Rattle.ifmap_reader.specs.ListedScopes.{ListsDeclared, ListsScope, TellsDeclared, is_listed_at};
 
 use crate::bindings::XML;
 use ifmap_elem::laws::declarations_tell_the_scopes;
@@ -34,7 +31,7 @@ impl Copied for Scope {
 /// element is answered as the part of it that is there.
 pub fn scope_at(alloc: Global, reading: &Reading, path: &[u32]) -> Result<Scope, NoMemory>
     ensures once { IfOk result (λ s. AllDiffer (map (λ b. b.0) s.bindings)) }
-    ensures declared { IfOk result (λ s. Lists s.bindings (declared_at path.now reading.now.declared)) }
+    ensures declared { IfOk result (λ s. ListsDeclared s.bindings reading.now path.now) }
     ensures resolved { IfOk result (λ s. ListsScope s.bindings reading.now path.now) }
 {
     declarations_tell_the_scopes();
@@ -43,13 +40,13 @@ pub fn scope_at(alloc: Global, reading: &Reading, path: &[u32]) -> Result<Scope,
     Ok(Scope { bindings })
 }
 
-/// What each listed prefix is bound to: a declaration further in takes the place of one round it.
+// What each listed prefix is bound to: a declaration further in takes the place of one round it.
 fn spaces_at(
     alloc: Global,
     declared: &[Declared],
     path: &[u32],
 ) -> Result<BTreeMap<Text, Text>, NoMemory>
-    ensures { IfOk result (λ spaces. (prefix : List ℕ) → get (slice_cmp nat_cmp) spaces prefix ≡ listed (declared_at path.now declared.now) prefix) }
+    ensures { IfOk result (λ m. TellsDeclared (get (slice_cmp nat_cmp) m) path.now declared.now) }
 {
     let mut spaces = BTreeMap::new(alloc);
     for declaration in declared {
@@ -63,9 +60,9 @@ fn spaces_at(
     Ok(spaces)
 }
 
-/// Whether a declaration stands at or round the element with this path, and is of a listed prefix.
+// Whether a declaration stands at or round the element with this path, and is of a listed prefix.
 fn is_listed_at(declaration: &Declared, path: &[u32]) -> bool
-    ensures { result ≡ (starts_with ◌==◌ path.now declaration.now.path && is_listed declaration.now.prefix) }
+    ensures { result ≡ is_listed_at path.now declaration.now }
 {
     path.starts_with(&declaration.path.0) && is_listed(&declaration.prefix)
 }

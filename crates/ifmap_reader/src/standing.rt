@@ -1,6 +1,7 @@
 //! Where a reader stands, and what one more token makes of it.
-ghost use Rattle.std.specs.Prelude.{◌≡◌, ℕ, reverse, IfOk};
-ghost use Rattle.ifmap_reader.specs.Progress.{Within, AfterRoot, IsCharacterData, TokenAnswer, after_element, is_margin, where_is};
+ghost use Rattle.std.specs.Prelude.{◌≡◌, reverse, IfOk};
+ghost use Rattle.ifmap_reader.specs.OpenElements.{AreLinked};
+ghost use Rattle.ifmap_reader.specs.Progress.{AfterRoot, EndAnswer, IsAfterElement, IsLinked, TextAnswer, TokenAnswer, Within, is_margin, where_is};
 ghost use Rattle.ifmap_elem.specs.declared.tokens.Token.{Token};
 
 use crate::allowed_tags::open_element;
@@ -12,21 +13,22 @@ use std::alloc::{AllocError as NoMemory, Global};
 
 #[derive(Drop)]
 pub(crate) enum Standing {
-    /// At the start, where a declaration may stand.
+    // At the start, where a declaration may stand.
     Start,
-    /// Within the elements that are open, the innermost last; before the root where none is.
+    // Within the elements that are open, the innermost last; before the root where none is.
     Open(Many<OpenElement>),
-    /// After the root.
+    // After the root.
     Done(Reading),
 }
 
-/// Where the reader stands behind one more token.
+// Where the reader stands after one more token.
 pub(crate) fn take_token(
     alloc: Global,
     depth: u32,
     standing: Standing,
     token: Token,
 ) -> Result<Standing, Refusal>
+    requires { IsLinked (where_is standing) }
     ensures { TokenAnswer depth (where_is standing) token result }
 {
     match standing {
@@ -48,7 +50,7 @@ fn take_after_root(depth: u32, reading: Reading, token: Token) -> Result<Standin
     Ok(Standing::Done(reading))
 }
 
-/// Whether a token may stand beside the root.
+// Whether a token may stand beside the root.
 fn is_margin(token: &Token) -> bool
     ensures { result ≡ is_margin token.now }
 {
@@ -64,6 +66,7 @@ fn take_inside(
     open_elements: Many<OpenElement>,
     token: Token,
 ) -> Result<Standing, Refusal>
+    requires { AreLinked (reverse open_elements) }
     ensures { TokenAnswer depth (Within (reverse open_elements)) token result }
 {
     match token {
@@ -77,18 +80,18 @@ fn take_inside(
     }
 }
 
-/// After a text. Outside the root it may be white space alone in its own bytes.
+// After a text. Outside the root it may be white space alone in its own bytes.
 fn take_text(open_elements: Many<OpenElement>, blank: bool, text: Text) -> Result<Standing, Refusal>
-    ensures { (depth : ℕ) → (t : Token) → IsCharacterData blank text t → TokenAnswer depth (Within (reverse open_elements)) t result }
+    ensures { TextAnswer open_elements blank text result }
 {
     let Many(mut open_elements) = open_elements;
-    let Some(frame) = open_elements.pop() else {
+    let Some(innermost) = open_elements.pop() else {
         if blank {
             return Ok(Standing::Open(Many(open_elements)));
         }
         return Err(Refusal::NotAllowed);
     };
-    open_elements.push(frame.with_characters(text)?)?;
+    open_elements.push(innermost.with_characters(text)?)?;
     Ok(Standing::Open(Many(open_elements)))
 }
 
@@ -98,14 +101,15 @@ fn take_start(
     open_elements: Many<OpenElement>,
     tag: Tag,
 ) -> Result<Standing, Refusal>
+    requires { AreLinked (reverse open_elements) }
     ensures { TokenAnswer depth (Within (reverse open_elements)) (Token.Start tag) result }
 {
     let Many(mut open_elements) = open_elements;
-    let frame = open_element(alloc, &open_elements, tag)?;
+    let inner = open_element(alloc, &open_elements, tag)?;
     if open_elements.len() >= depth as usize {
         return Err(Refusal::TooDeep);
     }
-    open_elements.push(frame)?;
+    open_elements.push(inner)?;
     Ok(Standing::Open(Many(open_elements)))
 }
 
@@ -115,14 +119,15 @@ fn take_empty(
     open_elements: Many<OpenElement>,
     tag: Tag,
 ) -> Result<Standing, Refusal>
+    requires { AreLinked (reverse open_elements) }
     ensures { TokenAnswer depth (Within (reverse open_elements)) (Token.Empty tag) result }
 {
     let Many(open_elements) = open_elements;
-    let frame = open_element(alloc, &open_elements, tag)?;
+    let inner = open_element(alloc, &open_elements, tag)?;
     if open_elements.len() >= depth as usize {
         return Err(Refusal::TooDeep);
     }
-    let (element, declared) = frame.close()?;
+    let (element, declared) = inner.close()?;
     Ok(with_element(alloc, open_elements, element, declared)?)
 }
 
@@ -131,27 +136,27 @@ fn take_end(
     open_elements: Many<OpenElement>,
     name: Qualified,
 ) -> Result<Standing, Refusal>
-    ensures { (depth : ℕ) → TokenAnswer depth (Within (reverse open_elements)) (Token.End name) result }
+    ensures { EndAnswer open_elements name result }
 {
     let Many(mut open_elements) = open_elements;
-    let Some(frame) = open_elements.pop() else {
+    let Some(innermost) = open_elements.pop() else {
         return Err(Refusal::NotAllowed);
     };
-    if !frame.is_named(&name) {
+    if !innermost.is_named(&name) {
         return Err(Refusal::NotAllowed);
     }
-    let (element, declared) = frame.close()?;
+    let (element, declared) = innermost.close()?;
     Ok(with_element(alloc, open_elements, element, declared)?)
 }
 
-/// After an element that ended: it is a child of the innermost that is still open, or the root.
+// After an element that ended: it is a child of the innermost that is still open, or the root.
 fn with_element(
     alloc: Global,
     open_elements: Vec<OpenElement>,
     element: Element,
     declared: Many<Declared>,
 ) -> Result<Standing, NoMemory>
-    ensures { IfOk result (λ new. where_is new ≡ after_element (reverse open_elements.items) element declared) }
+    ensures { IfOk result (λ new. IsAfterElement open_elements.items element declared new) }
 {
     let mut open_elements = open_elements;
     let Some(parent) = open_elements.pop() else {

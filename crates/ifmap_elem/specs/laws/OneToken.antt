@@ -1,4 +1,7 @@
 -- At most one token stands at the front of bytes.
+-- Each part of a token ends at the first place where its test fails, so two readings of one part agree: `cut` says so of runs, and the
+-- lemmas `one_..` go from values in quotes to assignments, tags, the declaration and text. That tokens of different kinds do not stand at
+-- the same place is told by their first bytes (`kind_is`).
 use Rattle.std.proofs.Common.{◌≡◌, ◌≢◌, ℕ, Bool, true, false, not, ◌||◌, List, [], ◌∷◌, ◌++◌, map, refl, ap, sym, ◌∙◌, subst, arith, append_assoc, ◌⊎◌, inl, inr}
 use Rattle.std.specs.Prelude.{◌==◌, if◌then◌else◌, codes, Some}
 use Rattle.std.specs.Char.{to_ascii_uppercase}

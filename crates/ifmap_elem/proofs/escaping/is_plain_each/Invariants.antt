@@ -1,4 +1,4 @@
-use Rattle.ifmap_elem.specs.Escapes.{ArePlain}
+use Rattle.ifmap_elem.specs.printer.Plain.{ArePlain}
 use Rattle.ifmap_elem.proofs.escaping.is_plain_each.Given as goal
 
 abbrev pub invariant-loop-byte : goal.invariant-loop-byte

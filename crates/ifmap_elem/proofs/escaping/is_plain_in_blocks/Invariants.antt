@@ -1,5 +1,5 @@
 use Rattle.std.proofs.Common.{◌≤◌, ◌-◌, length}
-use Rattle.ifmap_elem.specs.Escapes.{ArePlain}
+use Rattle.ifmap_elem.specs.printer.Plain.{ArePlain}
 use Rattle.ifmap_elem.proofs.escaping.is_plain_in_blocks.Given as goal
 
 abbrev pub invariant-loop-at : goal.invariant-loop-at

@@ -1,5 +1,5 @@
 use Rattle.std.proofs.Common.{◌≡◌, ◌++◌, take}
-use Rattle.ifmap_elem.specs.Escapes.{escape_bytes}
+use Rattle.ifmap_elem.specs.printer.Plain.{escape_bytes}
 use Rattle.ifmap_elem.proofs.escaping.write_each.Given as goal
 
 abbrev pub invariant-loop-byte : goal.invariant-loop-byte

@@ -1,5 +1,5 @@
 use Rattle.std.proofs.Common.{◌≡◌, ◌++◌, length}
-use Rattle.ifmap_elem.specs.Escapes.{escape_bytes}
+use Rattle.ifmap_elem.specs.printer.Plain.{escape_bytes}
 use Rattle.ifmap_elem.proofs.escaping.write_runs.Given as goal
 
 abbrev pub invariant-loop-rest : goal.invariant-loop-rest

@@ -1,8 +1,9 @@
 use Rattle.std.proofs.lemmas.Result.{err_from_is_err_and}
 use Rattle.ifmap_elem.specs.Names.{IsNamePart}
 use Rattle.ifmap_lexer.proofs.Basics.{refuses_by}
-use Rattle.ifmap_lexer.proofs.NameLaws.{Written, prefixed_found, prefixed_parts, unprefixed_part}
+use Rattle.ifmap_lexer.proofs.NameLaws.{prefixed_found, prefixed_parts, unprefixed_part}
 use Rattle.ifmap_lexer.proofs.names.qualified_name.Goals as goal
+use Rattle.ifmap_lexer.specs.There.{Written}
 
 pub returns-in_err-prefix-in-Some-clause-refused : goal.returns-in_err-prefix-in-Some-clause-refused
 returns-in_err-prefix-in-Some-clause-refused c =

@@ -1,8 +1,9 @@
 use Rattle.std.proofs.Common.{sym, ◌∙◌}
 use Rattle.std.proofs.lemmas.Result.{err_from_is_err_and}
-use Rattle.ifmap_lexer.proofs.AssignmentLaws.{SomeName, SomeAssignment, no_white, some_name, no_value, some_value, assignment_found, is_shorter}
+use Rattle.ifmap_lexer.proofs.AssignmentLaws.{no_white, some_name, no_value, some_value, assignment_found, is_shorter}
 use Rattle.ifmap_lexer.proofs.Basics.{refuses_by, is_none, is_some_list}
 use Rattle.ifmap_lexer.proofs.tags.assignment_of.Goals as goal
+use Rattle.ifmap_lexer.specs.There.{SomeAssignment, SomeName}
 
 pub returns-then-is_empty-clause-refused : goal.returns-then-is_empty-clause-refused
 returns-then-is_empty-clause-refused c =

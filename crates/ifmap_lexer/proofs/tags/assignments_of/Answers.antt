@@ -1,7 +1,8 @@
 use Rattle.std.proofs.lemmas.Result.{err_from_is_err_and}
-use Rattle.ifmap_lexer.proofs.AssignmentLaws.{SomeAssignment, SomeAssignments, goes_on_start, goes_on_next, goes_on_end, some_first}
+use Rattle.ifmap_lexer.proofs.AssignmentLaws.{goes_on_start, goes_on_next, goes_on_end, some_first}
 use Rattle.ifmap_lexer.proofs.Basics.{refuses_by, is_not}
 use Rattle.ifmap_lexer.proofs.tags.assignments_of.Goals as goal
+use Rattle.ifmap_lexer.specs.There.{SomeAssignment, SomeAssignments}
 
 pub all-init : goal.all-init
 all-init c = goes_on_start c.args.bytes.now _ c.new-made.ensures.items

@@ -1,7 +1,8 @@
 use Rattle.std.proofs.lemmas.Result.{err_from_is_err_and}
-use Rattle.ifmap_lexer.proofs.AssignmentLaws.{SomeTag, SomeName, SomeAssignments, tag_name, tag_assignments, tag_found}
+use Rattle.ifmap_lexer.proofs.AssignmentLaws.{tag_name, tag_assignments, tag_found}
 use Rattle.ifmap_lexer.proofs.Basics.{refuses_by}
 use Rattle.ifmap_lexer.proofs.tags.tag_of.Goals as goal
+use Rattle.ifmap_lexer.specs.There.{SomeAssignments, SomeName, SomeTag}
 
 pub returns-in_default-clause-refused : goal.returns-in_default-clause-refused
 returns-in_default-clause-refused c = λ s. c.in_default.ensures.none _ s.2.bytes_are

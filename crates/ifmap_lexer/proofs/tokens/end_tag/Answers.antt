@@ -1,10 +1,10 @@
 use Rattle.std.proofs.lemmas.Result.{err_from_is_err_and}
 use Rattle.ifmap_lexer.specs.Kinds.{Stands}
 use Rattle.ifmap_lexer.specs.declared.kinds.Kind.TheVariants as kinds
-use Rattle.ifmap_lexer.proofs.AssignmentLaws.{SomeName}
 use Rattle.ifmap_lexer.proofs.Basics.{refuses_by}
 use Rattle.ifmap_lexer.proofs.TokenLaws.{no_opening_end, end_name, no_end_end}
 use Rattle.ifmap_lexer.proofs.tokens.end_tag.Goals as goal
+use Rattle.ifmap_lexer.specs.There.{SomeName}
 
 pub returns-in_default-clause-refused : goal.returns-in_default-clause-refused
 returns-in_default-clause-refused c = no_opening_end c.args.bytes.now c.in_default.ensures.none

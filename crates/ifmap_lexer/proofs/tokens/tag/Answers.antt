@@ -1,10 +1,10 @@
 use Rattle.std.proofs.lemmas.Result.{err_from_is_err_and}
 use Rattle.ifmap_lexer.specs.Kinds.{Stands}
 use Rattle.ifmap_lexer.specs.declared.kinds.Kind.TheVariants as kinds
-use Rattle.ifmap_lexer.proofs.AssignmentLaws.{SomeTag}
 use Rattle.ifmap_lexer.proofs.Basics.{refuses_by}
 use Rattle.ifmap_lexer.proofs.TokenLaws.{some_tag, no_tag_end, start_found}
 use Rattle.ifmap_lexer.proofs.tokens.tag.Goals as goal
+use Rattle.ifmap_lexer.specs.There.{SomeTag}
 
 pub returns-in_err-tag-clause-refused : goal.returns-in_err-tag-clause-refused
 returns-in_err-tag-clause-refused c =
