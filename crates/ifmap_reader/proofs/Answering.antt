@@ -23,7 +23,8 @@ module _ (bytes : List ℕ) (depth : ℕ) where
   fit (Err (TooDeep at)) h = tt
   fit (Err NoMemory) h = tt
 
-  gives : (a : Result Reading ReadError) → IsRead bytes depth a → (e : Element) → Spells bytes (canonical_reading e) → nesting (arrange e) ≤ depth → GivesBack e a
+  gives : (a : Result Reading ReadError) → IsRead bytes depth a → (e : Element) → Spells bytes (canonical_reading e)
+      → nesting (arrange e) ≤ depth → GivesBack e a
   gives (Ok s) h e spells fits = (one_reading bytes s (canonical_reading e) h.0 spells, tt)
   gives (Err (Unreadable at)) h e spells fits = absurd (h.none (canonical_reading e) spells)
   gives (Err (TooDeep at)) h e spells fits = let d = h.deeper (canonical_reading e) spells in absurd (omega (arith, d, fits))
@@ -31,6 +32,7 @@ module _ (bytes : List ℕ) (depth : ℕ) where
 
   pub canonical : (a : Result Reading ReadError) → IsRead bytes depth a → (e : Element) → AreCanonical bytes depth e → GivesBack e a
   canonical a h e c =
-      let spells : Spells bytes (canonical_reading e) = subst (λ (b : List ℕ). Spells b (canonical_reading e)) (sym c.bytes_are) (canonical_spelled e c.fit) in
+      let spells : Spells bytes (canonical_reading e) = subst (λ (b : List ℕ). Spells b (canonical_reading e)) (sym c.bytes_are)
+          (canonical_spelled e c.fit) in
       let deep = nesting_arranged e in
       gives a h e spells (omega (arith, deep, c.shallow))

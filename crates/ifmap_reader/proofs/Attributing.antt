@@ -14,13 +14,16 @@ use Rattle.ifmap_reader.specs.AllowedTags.{IsGiven, ArePlain, plain, told}
 -- what the attributes so far and those of the assignments that are left are for all of them
 pub record Attributing (scope : Scope) (all : List Assignment) (made : List Attribute) (left : List Assignment) : Type 0 where
   pub whole : (more : List Attribute) → AreAttributes scope left more → AreAttributes scope all (made ++ more)
-  pub only : (ts : List Attribute) → AreAttributes scope all ts → (more : List Attribute) × (ts ≡ made ++ more) × AreAttributes scope left more
+  pub only : (ts : List Attribute) → AreAttributes scope all ts
+      → (more : List Attribute) × (ts ≡ made ++ more) × AreAttributes scope left more
 
 pub at_first : (scope : Scope) (all : List Assignment) → Attributing scope all [] all
 at_first scope all = record { whole = λ more h. h; only = λ ts h. (ts, refl, h) }
 
-module _ (scope : Scope) (all : List Assignment) (made : List Attribute) (a : Assignment) (left : List Assignment) (at : Attributing scope all made (a ∷ left)) where
-  next_of : (t : Attribute) → IsAttribute scope a t → (ts : List Attribute) (more : List Attribute) → ts ≡ made ++ more → AreAttributes scope (a ∷ left) more
+module _ (scope : Scope) (all : List Assignment) (made : List Attribute) (a : Assignment) (left : List Assignment)
+    (at : Attributing scope all made (a ∷ left)) where
+  next_of : (t : Attribute) → IsAttribute scope a t → (ts : List Attribute) (more : List Attribute) → ts ≡ made ++ more
+      → AreAttributes scope (a ∷ left) more
       → (others : List Attribute) × (ts ≡ (made ++ t ∷ []) ++ others) × AreAttributes scope left others
   next_of t is ts [] e h = absurd h
   next_of t is ts (u ∷ us) e h =
@@ -28,7 +31,8 @@ module _ (scope : Scope) (all : List Assignment) (made : List Attribute) (a : As
 
   attributing_next : (t : Attribute) → IsAttribute scope a t → Attributing scope all (made ++ t ∷ []) left
   attributing_next t is = record {
-    whole = λ more h. subst (λ (ts : List Attribute). AreAttributes scope all ts) (sym (append_assoc made (t ∷ []) more)) (at.whole (t ∷ more) (is, h));
+    whole = λ more h. subst (λ (ts : List Attribute). AreAttributes scope all ts) (sym (append_assoc made (t ∷ []) more))
+        (at.whole (t ∷ more) (is, h));
     only = λ ts h. let k = at.only ts h in next_of t is ts k.0 k.1 k.2;
   }
 
@@ -46,37 +50,47 @@ left_one : (a : Assignment) (as' : List Assignment) → is_none (binding_of a) �
 left_one a as' e = rw e refl
 
 -- of the code's list, whose last assignment is the next
-pub attributing_first : (scope : Scope) (assignments old turned : List Assignment) (made : List Attribute) → old ≡ assignments → turned ≡ reverse old → made ≡ [] → Attributing scope (plain assignments) made (plain (reverse turned))
+pub attributing_first : (scope : Scope) (assignments old turned : List Assignment) (made : List Attribute) → old ≡ assignments
+    → turned ≡ reverse old → made ≡ [] → Attributing scope (plain assignments) made (plain (reverse turned))
 attributing_first scope assignments old turned made is rev none =
     subst (λ (ts : List Attribute). Attributing scope (plain assignments) ts (plain (reverse turned))) (sym none)
-    (subst (λ (as' : List Assignment). Attributing scope (plain assignments) [] (plain as')) (sym (ap reverse rev ∙ reverse-reverse old ∙ is)) (at_first scope (plain assignments)))
+    (subst (λ (as' : List Assignment). Attributing scope (plain assignments) [] (plain as'))
+        (sym (ap reverse rev ∙ reverse-reverse old ∙ is)) (at_first scope (plain assignments)))
 
 -- whether the code finds a binding
-pub told_some : (o : Option (Bor (List ℕ))) (space : List ℕ) (b : Option Binding) (found : Bool) → b ≡ told o space → found ≡ is_some o → found ≡ true → is_none b ≡ false
+pub told_some : (o : Option (Bor (List ℕ))) (space : List ℕ) (b : Option Binding) (found : Bool) → b ≡ told o space → found ≡ is_some o
+    → found ≡ true → is_none b ≡ false
 told_some None space b found e f t = let k : false ≡ true = sym f ∙ t in cc
 told_some (Some p) space b found e f t = ap is_none e
 
-pub told_none : (o : Option (Bor (List ℕ))) (space : List ℕ) (b : Option Binding) (found : Bool) → b ≡ told o space → found ≡ is_some o → found ≡ false → is_none b ≡ true
+pub told_none : (o : Option (Bor (List ℕ))) (space : List ℕ) (b : Option Binding) (found : Bool) → b ≡ told o space → found ≡ is_some o
+    → found ≡ false → is_none b ≡ true
 told_none None space b found e f t = ap is_none e
 told_none (Some p) space b found e f t = let k : true ≡ false = sym f ∙ t in cc
 
-module _ (scope : Scope) (all : List Assignment) (made : List Attribute) (old new : List Assignment) (a : Assignment) (is : old ≡ new ++ a ∷ []) (at : Attributing scope all made (plain (reverse old))) where
+module _ (scope : Scope) (all : List Assignment) (made : List Attribute) (old new : List Assignment) (a : Assignment)
+    (is : old ≡ new ++ a ∷ []) (at : Attributing scope all made (plain (reverse old))) where
   at_one : is_none (binding_of a) ≡ true → Attributing scope all made (a ∷ plain (reverse new))
-  at_one e = subst (λ (as' : List Assignment). Attributing scope all made as') (ap plain (last_first old new a is) ∙ kept_one a (reverse new) e) at
+  at_one e =
+      subst (λ (as' : List Assignment). Attributing scope all made as') (ap plain (last_first old new a is) ∙ kept_one a (reverse new) e) at
 
-  pub attribute_added : is_none (binding_of a) ≡ true → (t : Attribute) (after : List Attribute) → IsAttribute scope a t → after ≡ made ++ t ∷ [] → Attributing scope all after (plain (reverse new))
+  pub attribute_added : is_none (binding_of a) ≡ true → (t : Attribute) (after : List Attribute) → IsAttribute scope a t
+      → after ≡ made ++ t ∷ [] → Attributing scope all after (plain (reverse new))
   attribute_added e t after h added =
-      subst (λ (ts : List Attribute). Attributing scope all ts (plain (reverse new))) (sym added) (attributing_next scope all made a (plain (reverse new)) (at_one e) t h)
+      subst (λ (ts : List Attribute). Attributing scope all ts (plain (reverse new))) (sym added)
+          (attributing_next scope all made a (plain (reverse new)) (at_one e) t h)
 
   pub binding_left : is_none (binding_of a) ≡ false → Attributing scope all made (plain (reverse new))
-  binding_left e = subst (λ (as' : List Assignment). Attributing scope all made as') (ap plain (last_first old new a is) ∙ left_one a (reverse new) e) at
+  binding_left e =
+      subst (λ (as' : List Assignment). Attributing scope all made as') (ap plain (last_first old new a is) ∙ left_one a (reverse new) e) at
 
   pub attribute_refused : is_none (binding_of a) ≡ true → (error : Refusal) → IsGiven scope a (Err error) → ArePlain scope all (Err error)
   attribute_refused e NotAllowed h = attributing_not scope all made a (plain (reverse new)) (at_one e) h
   attribute_refused e TooDeep h = absurd h
   attribute_refused e NoMemory h = tt
 
-pub all_given : (scope : Scope) (all : List Assignment) (made : List Attribute) (old : List Assignment) → old ≡ [] → Attributing scope all made (plain (reverse old)) → AreAttributes scope all made
+pub all_given : (scope : Scope) (all : List Assignment) (made : List Attribute) (old : List Assignment) → old ≡ []
+    → Attributing scope all made (plain (reverse old)) → AreAttributes scope all made
 all_given scope all made old none at =
     let end = subst (λ (os : List Assignment). Attributing scope all made (plain (reverse os))) none at in
     subst (λ (ts : List Attribute). AreAttributes scope all ts) (append-nil made) (end.whole [] tt)

@@ -22,7 +22,8 @@ bound_other : (bs : List Binding) (b : Binding) (q : List ℕ) → bytes_eq b.pr
 bound_other [] b q e = rw e refl
 bound_other (x ∷ xs) b q e = ap (λ o. cond (bytes_eq x.prefix q) (Some x.space) o) (bound_other xs b q e)
 
-bound_last : (bs : List Binding) (b : Binding) (q : List ℕ) → bound bs b.prefix ≡ None → bound (bs ++ b ∷ []) q ≡ cond (bytes_eq b.prefix q) (Some b.space) (bound bs q)
+bound_last : (bs : List Binding) (b : Binding) (q : List ℕ) → bound bs b.prefix ≡ None
+    → bound (bs ++ b ∷ []) q ≡ cond (bytes_eq b.prefix q) (Some b.space) (bound bs q)
 bound_last bs b q none = elim (cases_Bool (bytes_eq b.prefix q)) [
   | inl e ↦
       let same : b.prefix ≡ q = eq_tells b.prefix q e in
@@ -31,20 +32,28 @@ bound_last bs b q none = elim (cases_Bool (bytes_eq b.prefix q)) [
 ]
 
 -- the table of prefixes, and the rows, with one more
-pub spaces_more : (old new : List ℕ → Option (List ℕ)) (rows after : List Declared) (row : Declared) (key space : List ℕ) → ((q : List ℕ) → old q ≡ bound (map binding_told rows) q)
-    → ((q : List ℕ) → new q ≡ cond (is_eq (slice_cmp nat_cmp key q)) (Some space) (old q)) → key ≡ row.prefix → space ≡ row.space → after ≡ rows ++ row ∷ [] → bound (map binding_told rows) row.prefix ≡ None
+pub spaces_more : (old new : List ℕ → Option (List ℕ)) (rows after : List Declared) (row : Declared) (key space : List ℕ)
+    → ((q : List ℕ) → old q ≡ bound (map binding_told rows) q)
+    → ((q : List ℕ) → new q ≡ cond (is_eq (slice_cmp nat_cmp key q)) (Some space) (old q)) → key ≡ row.prefix → space ≡ row.space
+        → after ≡ rows ++ row ∷ [] → bound (map binding_told rows) row.prefix ≡ None
     → (q : List ℕ) → new q ≡ bound (map binding_told after) q
 spaces_more old new rows after row key space was now k s more none q =
-    now q ∙ (λ i. cond (is_eq (slice_cmp nat_cmp (k i) q)) (Some (s i)) (was q i)) ∙ ap (λ b. cond b (Some row.space) (bound (map binding_told rows) q)) (sym (texts_ties row.prefix q))
-    ∙ sym (bound_last (map binding_told rows) (binding_told row) q none) ∙ ap (λ bs. bound bs q) (sym (ap (map binding_told) more ∙ map-append binding_told rows (row ∷ [])))
+    now q ∙ (λ i. cond (is_eq (slice_cmp nat_cmp (k i) q)) (Some (s i)) (was q i))
+        ∙ ap (λ b. cond b (Some row.space) (bound (map binding_told rows) q)) (sym (texts_ties row.prefix q))
+    ∙ sym (bound_last (map binding_told rows) (binding_told row) q none)
+        ∙ ap (λ bs. bound bs q) (sym (ap (map binding_told) more ∙ map-append binding_told rows (row ∷ [])))
 
-pub rows_more : (rows after : List Declared) (path prefix space : List ℕ) → rows ≡ declared_here (map binding_told rows) → after ≡ rows ++ record { path = path; prefix = prefix; space = space } ∷ [] → path ≡ []
+pub rows_more : (rows after : List Declared) (path prefix space : List ℕ) → rows ≡ declared_here (map binding_told rows)
+    → after ≡ rows ++ record { path = path; prefix = prefix; space = space } ∷ [] → path ≡ []
     → after ≡ declared_here (map binding_told after)
 rows_more rows after path prefix space was more none =
-    let made : after ≡ rows ++ record { path = []; prefix = prefix; space = space } ∷ [] = more ∙ ap (λ (p : List ℕ). rows ++ record { path = p; prefix = prefix; space = space } ∷ []) none in
+    let made : after ≡ rows ++ record { path = []; prefix = prefix; space = space } ∷ [] = more
+        ∙ ap (λ (p : List ℕ). rows ++ record { path = p; prefix = prefix; space = space } ∷ []) none in
     made ∙ ap (λ ds. ds ++ record { path = []; prefix = prefix; space = space } ∷ []) was
-    ∙ sym (ap declared_here (ap (map binding_told) made ∙ map-append binding_told rows (record { path = []; prefix = prefix; space = space } ∷ []))
-    ∙ map-append (λ (b : Binding). let d : Declared = record { path = []; prefix = b.prefix; space = b.space } in d) (map binding_told rows) (record { prefix = prefix; space = space } ∷ []))
+    ∙ sym (ap declared_here (ap (map binding_told) made ∙ map-append binding_told rows
+        (record { path = []; prefix = prefix; space = space } ∷ []))
+    ∙ map-append (λ (b : Binding). let d : Declared = record { path = []; prefix = b.prefix; space = b.space } in d)
+        (map binding_told rows) (record { prefix = prefix; space = space } ∷ []))
 
 abbrev prefix_of : Binding → List ℕ
 prefix_of b = b.prefix
@@ -57,21 +66,25 @@ pub all_middle : {X : Type 0} (P : X → Type 0) (xs : List X) (x : X) (ys : Lis
 all_middle P [] x ys h = h.0
 all_middle P (z ∷ zs) x ys h = all_middle P zs x ys h.1
 
-all_mapped : (x : Binding) (xs : List Binding) (b : Binding) → AllByRecursion (λ p. x.prefix ≢ p) (map prefix_of xs) → x.prefix ≢ b.prefix → AllByRecursion (λ p. x.prefix ≢ p) (map prefix_of (xs ++ b ∷ []))
+all_mapped : (x : Binding) (xs : List Binding) (b : Binding) → AllByRecursion (λ p. x.prefix ≢ p) (map prefix_of xs) → x.prefix ≢ b.prefix
+    → AllByRecursion (λ p. x.prefix ≢ p) (map prefix_of (xs ++ b ∷ []))
 all_mapped x [] b h p = (p, tt)
 all_mapped x (y ∷ ys) b h p = (h.0, all_mapped x ys b h.1 p)
 
-mapped_middle : (x : Binding) (xs : List Binding) (b : Binding) (ys : List Binding) → AllByRecursion (λ p. x.prefix ≢ p) (map prefix_of (xs ++ b ∷ ys)) → x.prefix ≢ b.prefix
+mapped_middle : (x : Binding) (xs : List Binding) (b : Binding) (ys : List Binding)
+    → AllByRecursion (λ p. x.prefix ≢ p) (map prefix_of (xs ++ b ∷ ys)) → x.prefix ≢ b.prefix
 mapped_middle x [] b ys h = h.0
 mapped_middle x (z ∷ zs) b ys h = mapped_middle x zs b ys h.1
 
 none_parts : (x : Binding) (xs : List Binding) (p : List ℕ) → bound (x ∷ xs) p ≡ None → (x.prefix ≢ p) × (bound xs p ≡ None)
 none_parts x xs p none = elim (cases_Bool (bytes_eq x.prefix p)) [
   | inl e ↦ let k : Some x.space ≡ None = rw e at none in cc
-  | inr e ↦ (λ same. let k : bytes_eq x.prefix p ≡ true = subst (λ q. bytes_eq x.prefix q ≡ true) same (eq_itself x.prefix) in cc, rw e at none)
+  | inr e ↦ (λ same. let k : bytes_eq x.prefix p ≡ true = subst (λ q. bytes_eq x.prefix q ≡ true) same
+      (eq_itself x.prefix) in cc, rw e at none)
 ]
 
-differ_last : (xs : List Binding) (b : Binding) → AllDiffer (map prefix_of xs) → bound xs b.prefix ≡ None → AllDiffer (map prefix_of (xs ++ b ∷ []))
+differ_last : (xs : List Binding) (b : Binding) → AllDiffer (map prefix_of xs) → bound xs b.prefix ≡ None
+    → AllDiffer (map prefix_of (xs ++ b ∷ []))
 differ_last [] b d none = (tt, tt)
 differ_last (x ∷ xs) b d none = let h = none_parts x xs b.prefix none in (all_mapped x xs b d.0 h.0, differ_last xs b d.1 h.1)
 
@@ -79,7 +92,8 @@ differ_none : (xs : List Binding) (b : Binding) (ys : List Binding) → AllDiffe
 differ_none [] b ys d = refl
 differ_none (x ∷ xs) b ys d =
     let other = mapped_middle x xs b ys d.0 in
-    let e : bytes_eq x.prefix b.prefix ≡ false = false_from_ne_true (bytes_eq x.prefix b.prefix) (λ t. other (eq_tells x.prefix b.prefix t)) in
+    let e : bytes_eq x.prefix b.prefix ≡ false = false_from_ne_true (bytes_eq x.prefix b.prefix)
+        (λ t. other (eq_tells x.prefix b.prefix t)) in
     rw e (differ_none xs b ys d.1)
 
 abbrev Made : List Assignment → List Binding
@@ -98,10 +112,13 @@ pub record Binding-so-far (all : List Binding) (made : List Binding) (left : Lis
 
 module _ (all : List Binding) (a : Assignment) (left : List Assignment) (old : List Binding) (at : Binding-so-far all old (a ∷ left)) where
   next_by : (o : Option Binding) (new : List Binding) → binding_of a ≡ o → Binds old o (Ok new) → Binding-so-far all new left
-  next_by None new e h = record { whole = at.whole ∙ ap (λ bs. old ++ bs) (taken_none a left e) ∙ ap (λ bs. bs ++ Made left) (sym h); may = subst MayBind (sym h) at.may }
+  next_by None new e h = record { whole = at.whole ∙ ap (λ bs. old ++ bs) (taken_none a left e)
+      ∙ ap (λ bs. bs ++ Made left) (sym h); may = subst MayBind (sym h) at.may }
   next_by (Some b) new e h = record {
-    whole = at.whole ∙ ap (λ bs. old ++ bs) (taken_some a left b e) ∙ sym (append_assoc old (b ∷ []) (Made left)) ∙ ap (λ bs. bs ++ Made left) (sym h.2);
-    may = subst MayBind (sym h.2) (record { binds = all_last IsBinding old b at.may.binds h.0; binds_once = differ_last old b at.may.binds_once h.1 });
+    whole = at.whole ∙ ap (λ bs. old ++ bs) (taken_some a left b e) ∙ sym (append_assoc old (b ∷ []) (Made left))
+        ∙ ap (λ bs. bs ++ Made left) (sym h.2);
+    may = subst MayBind (sym h.2) (record { binds = all_last IsBinding old b at.may.binds h.0; binds_once = differ_last old b
+        at.may.binds_once h.1 });
   }
 
   pub binding_next : (new : List Binding) → Binds old (binding_of a) (Ok new) → Binding-so-far all new left
@@ -116,7 +133,8 @@ module _ (all : List Binding) (a : Assignment) (left : List Assignment) (old : L
   refused_by o TooDeep e h n m = cc
   refused_by o NoMemory e h n m = cc
 
-  pub binding_refused : (assignments : List Assignment) → all ≡ filter_map binding_of assignments → (error : Refusal) → Binds old (binding_of a) (Err error) → IsBound assignments (Err error)
+  pub binding_refused : (assignments : List Assignment) → all ≡ filter_map binding_of assignments → (error : Refusal)
+      → Binds old (binding_of a) (Err error) → IsBound assignments (Err error)
   binding_refused assignments is NotAllowed h = λ m. refused_by (binding_of a) NotAllowed refl h refl (subst MayBind (sym is) m)
   binding_refused assignments is TooDeep h = no_depth (binding_of a) h
     where
@@ -125,18 +143,23 @@ module _ (all : List Binding) (a : Assignment) (left : List Assignment) (old : L
       no_depth (Some b) h = h
   binding_refused assignments is NoMemory h = tt
 
-pub binding_first : (assignments : List Assignment) (made : List Binding) → made ≡ [] → Binding-so-far (filter_map binding_of assignments) made assignments
-binding_first assignments made none = record { whole = ap (λ bs. bs ++ Made assignments) (sym none); may = subst MayBind (sym none) (record { binds = tt; binds_once = tt }) }
+pub binding_first : (assignments : List Assignment) (made : List Binding) → made ≡ []
+    → Binding-so-far (filter_map binding_of assignments) made assignments
+binding_first assignments made none =
+    record { whole = ap (λ bs. bs ++ Made assignments) (sym none); may = subst MayBind (sym none) (record { binds = tt; binds_once = tt }) }
 
-pub binding_done : (all made : List Binding) (left : List Assignment) → left ≡ [] → Binding-so-far all made left → (made ≡ all) × MayBind made
+pub binding_done : (all made : List Binding) (left : List Assignment) → left ≡ [] → Binding-so-far all made left
+    → (made ≡ all) × MayBind made
 binding_done all made left none at = (sym (at.whole ∙ ap (λ (ls : List Assignment). made ++ Made ls) none ∙ append-nil made), at.may)
 
 -- of the code's list, at an index
-pub at_item : (all made : List Binding) (assignments : List Assignment) (i : ℕ) (a : Assignment) → i < length assignments → a ≡ get_or assignments i a → Binding-so-far all made (drop i assignments)
+pub at_item : (all made : List Binding) (assignments : List Assignment) (i : ℕ) (a : Assignment) → i < length assignments
+    → a ≡ get_or assignments i a → Binding-so-far all made (drop i assignments)
     → Binding-so-far all made (a ∷ drop (i + 1) assignments)
 at_item all made assignments i a l is at =
     subst (λ (as' : List Assignment). Binding-so-far all made as')
-    (drop-cons assignments i a l ∙ ap (λ (n : ℕ). get_or assignments i a ∷ drop n assignments) (sym (add-one i)) ∙ ap (λ (b : Assignment). b ∷ drop (i + 1) assignments) (sym is)) at
+    (drop-cons assignments i a l ∙ ap (λ (n : ℕ). get_or assignments i a ∷ drop n assignments) (sym (add-one i))
+        ∙ ap (λ (b : Assignment). b ∷ drop (i + 1) assignments) (sym is)) at
 
 -- whether a binding may be made, by tests in turn
 module _ (p s : List ℕ) where
@@ -150,7 +173,8 @@ module _ (p s : List ℕ) where
   false_not P b t e h = let k : b ≡ true = t.1 h in cc
 
   module _ (b c : Bool) (t : IsTrue b ↔ (p ≡ codes "xmlns")) (u : IsTrue c ↔ (s ≡ xmlns_space)) (e : b ≡ false) (f : c ≡ false) where
-    pub xml_binds : (d x : Bool) → (IsTrue d ↔ (p ≡ codes "xml")) → d ≡ true → (IsTrue x ↔ (s ≡ xml_space)) → IsTrue x ↔ IsBinding (record { prefix = p; space = s })
+    pub xml_binds : (d x : Bool) → (IsTrue d ↔ (p ≡ codes "xml")) → d ≡ true → (IsTrue x ↔ (s ≡ xml_space))
+        → IsTrue x ↔ IsBinding (record { prefix = p; space = s })
     xml_binds d x v is w = (
       λ h. record {
         no_xmlns = false_not (p ≡ codes "xmlns") b t e;
@@ -177,6 +201,8 @@ module _ (p s : List ℕ) where
         pub default_binds : (y : Bool) → (IsTrue y ↔ (p ≡ [])) → y ≡ true → IsBinding (record { prefix = p; space = s })
         default_binds y m is = binds_where (λ some. absurd (some (m.0 is)))
 
-        pub prefix_binds : (y z : Bool) → (IsTrue y ↔ (p ≡ [])) → y ≡ false → (IsTrue z ↔ (s ≡ [])) → IsTrue (not z) ↔ IsBinding (record { prefix = p; space = s })
-        prefix_binds y true m is o = (λ h. let k : false ≡ true = h in cc, λ h. absurd (h.some_space (false_not (p ≡ []) y m is) (o.0 refl)))
+        pub prefix_binds : (y z : Bool) → (IsTrue y ↔ (p ≡ [])) → y ≡ false → (IsTrue z ↔ (s ≡ []))
+            → IsTrue (not z) ↔ IsBinding (record { prefix = p; space = s })
+        prefix_binds y true m is o =
+            (λ h. let k : false ≡ true = h in cc, λ h. absurd (h.some_space (false_not (p ≡ []) y m is) (o.0 refl)))
         prefix_binds y false m is o = (λ _. binds_where (λ _ none. let k : false ≡ true = o.1 none in cc), λ _. refl)

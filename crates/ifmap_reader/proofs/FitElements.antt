@@ -49,7 +49,9 @@ no_namespace = record { characters = no_characters; not_reserved = told_apart []
 root_fits : IsFitScope root_scope
 root_fits = (
   record {
-    space = record { characters = (xml_space, ascii_encoded xml_space (all_of_test is_ascii xml_space refl), all_of_test is_character xml_space refl); not_reserved = told_apart xml_space xmlns_space refl };
+    space = record { characters = (xml_space, ascii_encoded xml_space
+        (all_of_test is_ascii xml_space refl), all_of_test is_character xml_space refl); not_reserved = told_apart xml_space xmlns_space
+            refl };
     some = λ e. told_apart xml_space [] refl;
   },
   (record { space = no_namespace; some = λ some. absurd (some refl) }, tt),
@@ -64,19 +66,24 @@ bound_characters a i = elim (cases_Bool (bytes_eq a.name.prefix (codes "xmlns"))
   ]
 ]
 
-one_more : (o : Option Binding) (bs : List Binding) → IfSome o (λ b. IsCharacters b.space) → AllByRecursion IsBinding (cons_option o bs) → (AllByRecursion IsBinding bs → IsFitScope bs)
+one_more : (o : Option Binding) (bs : List Binding) → IfSome o (λ b. IsCharacters b.space) → AllByRecursion IsBinding (cons_option o bs)
+    → (AllByRecursion IsBinding bs → IsFitScope bs)
     → IsFitScope (cons_option o bs)
 one_more None bs i h rest = rest h
-one_more (Some b) bs i h rest = (record { space = record { characters = i; not_reserved = h.0.no_xmlns_space }; some = h.0.some_space }, rest h.1)
+one_more (Some b) bs i h rest =
+    (record { space = record { characters = i; not_reserved = h.0.no_xmlns_space }; some = h.0.some_space }, rest h.1)
 
-bindings_fit : (assignments : List Assignment) → AllByRecursion IsFitAssignment assignments → AllByRecursion IsBinding (filter_map binding_of assignments) → IsFitScope (filter_map binding_of assignments)
+bindings_fit : (assignments : List Assignment) → AllByRecursion IsFitAssignment assignments
+    → AllByRecursion IsBinding (filter_map binding_of assignments) → IsFitScope (filter_map binding_of assignments)
 bindings_fit [] f g = tt
 bindings_fit (a ∷ as') f g = one_more (binding_of a) (filter_map binding_of as') (bound_characters a f.0.value) g (bindings_fit as' f.1)
 
-within_fits : (outer : Scope) (tag : Tag) → IsFitScope outer → IsFitTag tag → AllByRecursion IsBinding (bindings tag) → IsFitScope (scope_within outer tag)
+within_fits : (outer : Scope) (tag : Tag) → IsFitScope outer → IsFitTag tag → AllByRecursion IsBinding (bindings tag)
+    → IsFitScope (scope_within outer tag)
 within_fits outer tag f t binds = both_all IsFitBinding (bindings tag) outer (bindings_fit tag.assignments t.assignments binds) f
 
-bound_fits : (scope : Scope) → IsFitScope scope → (prefix space : List ℕ) → bound scope prefix ≡ Some space → IsNamespace space × (prefix ≢ [] → space ≢ [])
+bound_fits : (scope : Scope) → IsFitScope scope → (prefix space : List ℕ) → bound scope prefix ≡ Some space
+    → IsNamespace space × (prefix ≢ [] → space ≢ [])
 bound_fits [] f prefix space e = cc
 bound_fits (b ∷ bs) f prefix space e = elim (cases_Bool (bytes_eq b.prefix prefix)) [
   | inl h ↦
@@ -88,7 +95,8 @@ bound_fits (b ∷ bs) f prefix space e = elim (cases_Bool (bytes_eq b.prefix pre
 
 -- attributes
 
-space_fits : (scope : Scope) → IsFitScope scope → (prefix space : List ℕ) → attribute_space scope prefix ≡ Some space → IsNamespace space × (prefix ≢ [] → space ≢ [])
+space_fits : (scope : Scope) → IsFitScope scope → (prefix space : List ℕ) → attribute_space scope prefix ≡ Some space
+    → IsNamespace space × (prefix ≢ [] → space ≢ [])
 space_fits scope f [] space e = let none : [] ≡ space = cc in (subst IsNamespace none no_namespace, λ some. absurd (some refl))
 space_fits scope f (b ∷ bs) space e = bound_fits scope f (b ∷ bs) space e
 
@@ -101,7 +109,8 @@ bound_by value prefix local =
 declares : (a : Assignment) → a.name.prefix ≡ [] → a.name.local ≡ codes "xmlns" → is_none (binding_of a) ≡ false
 declares a p l = λ i. is_none (bound_by a.value (p i) (l i))
 
-attribute_fits : (scope : Scope) (a : Assignment) (t : Attribute) → IsFitScope scope → IsFitAssignment a → is_none (binding_of a) ≡ true → IsAttribute scope a t → IsFitAttribute t
+attribute_fits : (scope : Scope) (a : Assignment) (t : Attribute) → IsFitScope scope → IsFitAssignment a → is_none (binding_of a) ≡ true
+    → IsAttribute scope a t → IsFitAttribute t
 attribute_fits scope a t f fit plain is =
     let space = space_fits scope f a.name.prefix t.name.space is.space_is in
     record {
@@ -116,15 +125,18 @@ attribute_fits scope a t f fit plain is =
 abbrev AreFit : Scope → List Assignment → Type 0
 AreFit scope plain = (ts : List Attribute) → AreAttributes scope plain ts → AllByRecursion IsFitAttribute ts
 
-one_fits : (scope : Scope) (a : Assignment) (plain : List Assignment) → ((t : Attribute) → IsAttribute scope a t → IsFitAttribute t) → AreFit scope plain → AreFit scope (a ∷ plain)
+one_fits : (scope : Scope) (a : Assignment) (plain : List Assignment) → ((t : Attribute) → IsAttribute scope a t → IsFitAttribute t)
+    → AreFit scope plain → AreFit scope (a ∷ plain)
 one_fits scope a plain first others [] h = absurd h
 one_fits scope a plain first others (t ∷ ts) h = (first t h.0, others ts h.1)
 
-attributes_fit : (scope : Scope) → IsFitScope scope → (assignments : List Assignment) → AllByRecursion IsFitAssignment assignments → AreFit scope (filter (λ a. is_none (binding_of a)) assignments)
+attributes_fit : (scope : Scope) → IsFitScope scope → (assignments : List Assignment) → AllByRecursion IsFitAssignment assignments
+    → AreFit scope (filter (λ a. is_none (binding_of a)) assignments)
 attributes_fit scope f [] g [] h = tt
 attributes_fit scope f [] g (t ∷ ts) h = absurd h
 attributes_fit scope f (a ∷ as') g ts h = elim (cases_Bool (is_none (binding_of a))) [
-  | inl e ↦ one_fits scope a (filter (λ b. is_none (binding_of b)) as') (λ t is. attribute_fits scope a t f g.0 e is) (attributes_fit scope f as' g.1) ts (rw e at h)
+  | inl e ↦ one_fits scope a (filter (λ b. is_none (binding_of b)) as') (λ t is. attribute_fits scope a t f g.0 e is)
+      (attributes_fit scope f as' g.1) ts (rw e at h)
   | inr e ↦ attributes_fit scope f as' g.1 ts (rw e at h)
 ]
 
@@ -145,7 +157,8 @@ opened (Run t ∷ items) = λ i. out_text t i ∷ opened items i
 
 -- texts beside each other are joined
 
-put_fits : (text : List ℕ) (items : List Item) → IsCharacters text → AllByRecursion IsFitItem items → AllByRecursion IsFitItem (put_before text items)
+put_fits : (text : List ℕ) (items : List Item) → IsCharacters text → AllByRecursion IsFitItem items
+    → AllByRecursion IsFitItem (put_before text items)
 put_fits text [] i f = (i, tt)
 put_fits text (Inner e d ∷ items) i f = (i, f)
 put_fits text (Run more ∷ items) i f = (characters_both text more i f.0, f.1)
@@ -194,13 +207,15 @@ module _ (beside : Bool) where
   left_apart [] a = tt
   left_apart (Inner e d ∷ items) a = left_apart items a
   left_apart (Run t ∷ []) a = elim (cases_Bool (is_child beside (Run t))) [ inl k ↦ rw k tt | inr k ↦ rw k tt ]
-  left_apart (Run t ∷ (Inner e d ∷ items)) a = elim (cases_Bool (is_child beside (Run t))) [ inl k ↦ rw k (left_apart items a) | inr k ↦ rw k (left_apart items a) ]
+  left_apart (Run t ∷ (Inner e d ∷ items)) a =
+      elim (cases_Bool (is_child beside (Run t))) [ inl k ↦ rw k (left_apart items a) | inr k ↦ rw k (left_apart items a) ]
   left_apart (Run t ∷ (Run u ∷ items)) a = absurd a
 
   left_inner : (items : List Item) → list_any is_element (map item_child (left items)) ≡ list_any is_inner items
   left_inner [] = refl
   left_inner (Inner e d ∷ items) = refl
-  left_inner (Run t ∷ items) = elim (cases_Bool (is_child beside (Run t))) [ inl k ↦ rw k (left_inner items) | inr k ↦ rw k (left_inner items) ]
+  left_inner (Run t ∷ items) =
+      elim (cases_Bool (is_child beside (Run t))) [ inl k ↦ rw k (left_inner items) | inr k ↦ rw k (left_inner items) ]
 
 some_kept : (beside : Bool) (text : List ℕ) → is_child beside (Run text) ≡ true → text ≢ []
 some_kept true [] k e = cc
@@ -211,7 +226,8 @@ of_each : (bs : List ℕ) → IsWhite bs → list_all is_white bs ≡ true
 of_each [] f = refl
 of_each (b ∷ bs) f = and_from (is_white b) (list_all is_white bs) f.0 (of_each bs f.1)
 
-left_texts : (beside : Bool) (items : List Item) → AllByRecursion IsFitItem items → AllByRecursion HasCharacters (map item_child (filter (is_child beside) items))
+left_texts : (beside : Bool) (items : List Item) → AllByRecursion IsFitItem items
+    → AllByRecursion HasCharacters (map item_child (filter (is_child beside) items))
 left_texts beside [] f = tt
 left_texts beside (Inner e d ∷ items) f = (tt, left_texts beside items f.1)
 left_texts beside (Run t ∷ items) f = elim (cases_Bool (is_child beside (Run t))) [
@@ -233,42 +249,52 @@ children_fit items f = record {
   apart = left_apart (list_any is_inner items) (joined items) (joined_apart items);
   beside = λ any.
       let inner : list_any is_inner items ≡ true = sym (left_inner (list_any is_inner items) (joined items) ∙ joined_inner items) ∙ any in
-      subst (λ (b : Bool). AllByRecursion IsNotBlank (map item_child (filter (is_child b) (joined items)))) (sym inner) (left_not_blank (joined items));
+      subst (λ (b : Bool). AllByRecursion IsNotBlank (map item_child (filter (is_child b) (joined items)))) (sym inner)
+          (left_not_blank (joined items));
 }
 
-inner_fit : (items : List Item) → AllByRecursion IsFitItem items → AllByRecursion IsFitAlone (flat_map elements_of_child (map child_of items))
+inner_fit : (items : List Item) → AllByRecursion IsFitItem items
+    → AllByRecursion IsFitAlone (flat_map elements_of_child (map child_of items))
 inner_fit [] f = tt
-inner_fit (Inner e d ∷ items) f = both_all IsFitAlone _ _ (subst (AllByRecursion IsFitAlone) (sym (elements_in e)) f.0) (inner_fit items f.1)
+inner_fit (Inner e d ∷ items) f =
+    both_all IsFitAlone _ _ (subst (AllByRecursion IsFitAlone) (sym (elements_in e)) f.0) (inner_fit items f.1)
 inner_fit (Run t ∷ items) f = both_all IsFitAlone _ _ (subst (AllByRecursion IsFitAlone) (sym (elements_text t)) tt) (inner_fit items f.1)
 
 -- elements
 
-element_fits : (outer : Scope) (tag : Tag) (items : List Item) (e : Element) (declared : List Declared) → IsFitScope outer → IsFitTag tag → AllByRecursion IsFitItem items
+element_fits : (outer : Scope) (tag : Tag) (items : List Item) (e : Element) (declared : List Declared) → IsFitScope outer → IsFitTag tag
+    → AllByRecursion IsFitItem items
     → IsElement outer tag items e declared → IsFit e
 element_fits outer tag items e declared f t i is =
     let within = within_fits outer tag f t is.named.binds in
-    let children : AreFitChildren (map out-Child (map child_of (children_among items))) = subst AreFitChildren (sym (opened (children_among items))) (children_fit items i) in
+    let children : AreFitChildren (map out-Child (map child_of (children_among items))) = subst AreFitChildren
+        (sym (opened (children_among items))) (children_fit items i) in
     let inner = inner_fit (children_among items) (left_fits (list_any is_inner items) (joined items) (joined_fits items i)) in
     fit_whole e
     (record {
-      name = record { space = (bound_fits (scope_within outer tag) within tag.name.prefix e.name.space is.named.space_is).0; local = subst IsNamePart (sym is.named.local_is) t.name.local_is };
+      name = record { space = (bound_fits (scope_within outer tag) within tag.name.prefix e.name.space is.named.space_is).0; local = subst
+          IsNamePart (sym is.named.local_is) t.name.local_is };
       attributes = attributes_fit (scope_within outer tag) within tag.assignments t.assignments e.attributes is.named.attributes_are;
       names_differ = is.named.names_differ;
       children = subst (λ (cs : List Child). AreFitChildren (map out-Child cs)) (sym is.children_are) children;
     })
     (subst (λ (cs : List Child). AllByRecursion IsFitAlone (flat_map elements_of_child cs)) (sym is.children_are) inner)
 
-means_fit : (scope : Scope) (c : Pieces) (items : List Item) → IsFitScope scope → AllByRecursion IsFitToken (tokens_of c) → AreItems scope c items → AllByRecursion IsFitItem items
+means_fit : (scope : Scope) (c : Pieces) (items : List Item) → IsFitScope scope → AllByRecursion IsFitToken (tokens_of c)
+    → AreItems scope c items → AllByRecursion IsFitItem items
 means_fit scope Nothing items f t m = subst (AllByRecursion IsFitItem) (sym m) tt
 means_fit scope (piece.Comment after) items f t m = means_fit scope after items f t.1 m
-means_fit scope (piece.Characters blank text after) items f t m = subst (AllByRecursion IsFitItem) (sym m.1) (t.0, means_fit scope after m.0 f t.1 m.2)
-means_fit scope (piece.Section text after) items f t m = subst (AllByRecursion IsFitItem) (sym m.1) (t.0, means_fit scope after m.0 f t.1 m.2)
+means_fit scope (piece.Characters blank text after) items f t m =
+    subst (AllByRecursion IsFitItem) (sym m.1) (t.0, means_fit scope after m.0 f t.1 m.2)
+means_fit scope (piece.Section text after) items f t m =
+    subst (AllByRecursion IsFitItem) (sym m.1) (t.0, means_fit scope after m.0 f t.1 m.2)
 means_fit scope (piece.Empty tag after) items f t m =
     subst (AllByRecursion IsFitItem) (sym m.3) (element_fits scope tag [] m.0 m.1 f t.0 tt m.4, means_fit scope after m.2 f t.1 m.5)
 means_fit scope (piece.Start tag inside after) items f t m =
     let parts = all_both IsFitToken (tokens_of inside) (End tag.name ∷ tokens_of after) t.1 in
     let inner = means_fit (scope_within scope tag) inside m.0 (within_fits scope tag f t.0 m.6.named.binds) parts.0 m.5 in
-    subst (AllByRecursion IsFitItem) (sym m.4) (element_fits scope tag m.0 m.1 m.2 f t.0 inner m.6, means_fit scope after m.3 f parts.1.1 m.7)
+    subst (AllByRecursion IsFitItem) (sym m.4) (element_fits scope tag m.0 m.1 m.2 f t.0 inner m.6, means_fit scope after m.3 f parts.1.1
+        m.7)
 
 rooted_fits : (c : Pieces) (r : Reading) → AllByRecursion IsFitToken (tokens_of c) → BeginsWithRoot c r → IsFit r.root
 rooted_fits Nothing r t m = absurd m
@@ -286,4 +312,5 @@ pub spelled_fits : (bytes : List ℕ) (r : Reading) → Spells bytes r → IsFit
 spelled_fits bytes r s =
     let tokens = tokens_fit (without_byte_order_mark bytes) s.tokens [] s.lexed in
     let here = subst (AllByRecursion IsFitToken) s.document.tokens_are tokens in
-    rooted_fits s.document.pieces r (all_both IsFitToken (heading s.document.declared) (tokens_of s.document.pieces) here).1 (root_begins s.document.pieces r s.document.rooted)
+    rooted_fits s.document.pieces r (all_both IsFitToken (heading s.document.declared) (tokens_of s.document.pieces) here).1
+        (root_begins s.document.pieces r s.document.rooted)

@@ -29,7 +29,8 @@ IsFitToken (Section text) = IsCharacters text
 IsFitToken (Characters blank text) = IsCharacters text
 
 -- what holds of each item that is taken holds of all
-all_taken : {X : Type 0} (Takes : List ℕ → X → List ℕ → Type 0) (P : X → Type 0) → ((bytes : List ℕ) (x : X) (rest : List ℕ) → Takes bytes x rest → P x)
+all_taken : {X : Type 0} (Takes : List ℕ → X → List ℕ → Type 0) (P : X → Type 0)
+    → ((bytes : List ℕ) (x : X) (rest : List ℕ) → Takes bytes x rest → P x)
     → (bytes : List ℕ) (xs : List X) (rest : List ℕ) → To Takes bytes xs rest → AllByRecursion P xs
 all_taken Takes P each bytes [] rest l = tt
 all_taken Takes P each bytes (x ∷ xs) rest l = (each bytes x l.0 l.1, all_taken Takes P each l.0 xs rest l.2)
@@ -39,7 +40,8 @@ assignment_fits bytes a rest t = record { name = t.is_name; value = value_charac
 
 tag_fits : (bytes : List ℕ) (tag : Tag) (end : List ℕ) → TakesTag bytes tag end → IsFitTag tag
 tag_fits bytes tag end t =
-    record { name = t.is_name; assignments = all_taken TakesAssignment IsFitAssignment assignment_fits t.after tag.assignments (t.white ++ end) t.assigned }
+    record { name = t.is_name; assignments = all_taken TakesAssignment IsFitAssignment assignment_fits t.after tag.assignments
+        (t.white ++ end) t.assigned }
 
 token_fits : (bytes : List ℕ) (t : Token) (rest : List ℕ) → TakesToken bytes t rest → IsFitToken t
 token_fits bytes Declaration rest t = tt

@@ -20,7 +20,8 @@ Shallow depth ts = (before after : List Token) (t : Token) → ts ≡ before ++ 
 abbrev GoOn : List Token → List ℕ → List Token → List ℕ → Type 0
 GoOn ts rest us end = (more : List Token) × (us ≡ ts ++ more) × To TakesToken rest more end
 
-one_front : (bytes : List ℕ) (ts us : List Token) (rest end : List ℕ) → To TakesToken bytes ts rest → To TakesToken bytes us end → GoOn ts rest us end ⊎ GoOn us end ts rest
+one_front : (bytes : List ℕ) (ts us : List Token) (rest end : List ℕ) → To TakesToken bytes ts rest → To TakesToken bytes us end
+    → GoOn ts rest us end ⊎ GoOn us end ts rest
 one_front bytes [] us rest end l m = inl (us, refl, subst (λ (b : List ℕ). To TakesToken b us end) l m)
 one_front bytes (t ∷ ts) [] rest end l m = inr (t ∷ ts, refl, subst (λ (b : List ℕ). To TakesToken b (t ∷ ts) rest) m l)
 one_front bytes (t ∷ ts) (u ∷ us) rest end l m =
@@ -37,14 +38,16 @@ begins_front : (ts : List Token) (u : Token) (us : List Token) → BeginsDocumen
 begins_front ts u us b = record {
   more = us ++ b.more;
   reading = b.reading;
-  document = subst (λ (xs : List Token). IsDocument xs b.reading) (append_assoc ts (u ∷ us) b.more ∙ sym (append_assoc ts (u ∷ []) (us ++ b.more))) b.document;
+  document = subst (λ (xs : List Token). IsDocument xs b.reading)
+      (append_assoc ts (u ∷ us) b.more ∙ sym (append_assoc ts (u ∷ []) (us ++ b.more))) b.document;
 }
 
 module _ (bytes : List ℕ) where
   -- where shallow tokens stop, no tag opens a level too many
   pub not_deep : (depth at place : ℕ) (s : Stop bytes at) → Shallow depth s.tokens → Deep bytes depth place → ⊥
   not_deep depth at place s shallow d =
-      elim (one_front (without_byte_order_mark bytes) s.tokens (d.tokens ++ d.tag ∷ []) s.rest d.after s.reaches.lexed (to_last TakesToken (without_byte_order_mark bytes) d.tokens d.rest d.tag d.after d.lexed d.taken)) [
+      elim (one_front (without_byte_order_mark bytes) s.tokens (d.tokens ++ d.tag ∷ []) s.rest d.after s.reaches.lexed
+          (to_last TakesToken (without_byte_order_mark bytes) d.tokens d.rest d.tag d.after d.lexed d.taken)) [
         | inl h ↦ beyond h.0 h.1 h.2
         | inr h ↦ among h.0 (h.1 ∙ append_assoc d.tokens (d.tag ∷ []) h.0)
       ]
@@ -56,8 +59,10 @@ module _ (bytes : List ℕ) where
       beyond [] e l = among [] (sym (e ∙ append-nil s.tokens))
       beyond (u ∷ us) e l = s.no_further u l.0 l.1 (begins_front s.tokens u us (subst BeginsDocument e d.allowed))
 
-  pub unreadable : (depth at : ℕ) (s : Stop bytes at) → Shallow depth s.tokens → ((r : Reading) → Spells bytes r → ⊥) → at ≤ length bytes → IsUnreadable bytes depth at
-  unreadable depth at s shallow none within = record { none = none; stop = s; shallow = λ place d. not_deep depth at place s shallow d; within = within }
+  pub unreadable : (depth at : ℕ) (s : Stop bytes at) → Shallow depth s.tokens → ((r : Reading) → Spells bytes r → ⊥) → at ≤ length bytes
+      → IsUnreadable bytes depth at
+  unreadable depth at s shallow none within =
+      record { none = none; stop = s; shallow = λ place d. not_deep depth at place s shallow d; within = within }
 
   stops_here : (a b : ℕ) (s : Stop bytes a) (t : Stop bytes b) → GoOn s.tokens s.rest t.tokens t.rest → a ≡ b
   stops_here a b s t h = by h.0 h.1 h.2

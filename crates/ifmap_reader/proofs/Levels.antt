@@ -39,9 +39,11 @@ one_text : (b : Bool) (t : List ℕ) → deepest (map child_of (cond b (Run t �
 one_text true t = let h = text_nests t in omega (arith, h)
 one_text false t = refl
 
-children_deep : (f : OpenElement) (items : List Item) (e : Element) (d : List Declared) → Closes f items e d → nesting e ≡ suc (max (deepest f.children) (deepest (map child_of (children_to_come f items))))
+children_deep : (f : OpenElement) (items : List Item) (e : Element) (d : List Declared) → Closes f items e d
+    → nesting e ≡ suc (max (deepest f.children) (deepest (map child_of (children_to_come f items))))
 children_deep f items e d c =
-    nesting_is e ∙ ap (λ (y : Element). suc (deepest y.children)) c.element_is ∙ ap suc (deepest_append f.children (map child_of (children_to_come f items)))
+    nesting_is e ∙ ap (λ (y : Element). suc (deepest y.children)) c.element_is
+        ∙ ap suc (deepest_append f.children (map child_of (children_to_come f items)))
 
 -- an element that ends
 pub closed_nests : (f : OpenElement) (e : Element) (d : List Declared) → Closes f [] e d → nesting e ≡ suc (deepest f.children)
@@ -54,7 +56,8 @@ one_child : (b : Bool) (t : List ℕ) → deepest (cond b (the.Text t ∷ []) []
 one_child true t = let h = text_nests t in omega (arith, h)
 one_child false t = refl
 
-inner_deep : (g : OpenElement) (e : Element) (d : List Declared) → deepest (with_inner g e d).children ≡ max (deepest g.children) (nesting e)
+inner_deep : (g : OpenElement) (e : Element) (d : List Declared)
+    → deepest (with_inner g e d).children ≡ max (deepest g.children) (nesting e)
 inner_deep g e d =
     let h = deepest_append (g.children ++ text_child true g.text) (the.Element e ∷ []) in
     let k = deepest_append g.children (text_child true g.text) in
@@ -63,7 +66,8 @@ inner_deep g e d =
     omega (arith, h, k, t, l)
 
 -- after an element that ended nothing is deeper than before
-pub after_element_fits : (n : ℕ) (f : OpenElement) (fs : List OpenElement) (e : Element) (d : List Declared) → Closes f [] e d → levels (f ∷ fs) ≤ n → so_deep (after_element fs e d) ≤ n
+pub after_element_fits : (n : ℕ) (f : OpenElement) (fs : List OpenElement) (e : Element) (d : List Declared) → Closes f [] e d
+    → levels (f ∷ fs) ≤ n → so_deep (after_element fs e d) ≤ n
 after_element_fits n f [] e d c fits = let h = closed_nests f e d c in omega (arith, h, fits)
 after_element_fits n f (g ∷ gs) e d c fits =
     let h = closed_nests f e d c in
@@ -71,14 +75,16 @@ after_element_fits n f (g ∷ gs) e d c fits =
     omega (arith, h, k, fits)
 
 -- and no less deep
-pub after_element_deep : (f : OpenElement) (fs : List OpenElement) (e : Element) (d : List Declared) → Closes f [] e d → length fs < so_deep (after_element fs e d)
+pub after_element_deep : (f : OpenElement) (fs : List OpenElement) (e : Element) (d : List Declared) → Closes f [] e d
+    → length fs < so_deep (after_element fs e d)
 after_element_deep f [] e d c = let h = closed_nests f e d c in omega (arith, h)
 after_element_deep f (g ∷ gs) e d c =
     let h = closed_nests f e d c in
     let k = inner_deep g e d in
     omega (arith, h, k)
 
-closing_deep : (f : OpenElement) (fs : List OpenElement) (ts : List Token) (r : Reading) → Closing f fs ts r → levels (f ∷ fs) ≤ nesting r.root
+closing_deep : (f : OpenElement) (fs : List OpenElement) (ts : List Token) (r : Reading) → Closing f fs ts r
+    → levels (f ∷ fs) ≤ nesting r.root
 closing_deep f [] ts r x =
     let h = children_deep f x.items x.element x.declared x.closes in
     let s = ap (λ (y : Reading). nesting y.root) x.goes_on.same in

@@ -8,7 +8,8 @@ use Rattle.ifmap_reader.proofs.Lookups.{element_before}
 use Rattle.ifmap_reader.specs.OpenElements.{AreLinked, BindsNothing, Reaches, scope_of}
 
 -- an element that binds nothing reaches as far as the one round it
-pub reaches_outer : (bindings : List Binding) (f : OpenElement) (fs : List OpenElement) → bindings ≡ [] → AreLinked (f ∷ fs) → Reaches bindings f.declaring (f ∷ fs)
+pub reaches_outer : (bindings : List Binding) (f : OpenElement) (fs : List OpenElement) → bindings ≡ [] → AreLinked (f ∷ fs)
+    → Reaches bindings f.declaring (f ∷ fs)
 reaches_outer bindings f fs none l = inr (elim l.0 [
   | inl e ↦ record {
     within = omega (arith, e);
@@ -31,10 +32,12 @@ reaches_outer bindings f fs none l = inr (elim l.0 [
 pub reaches_none : (bindings : List Binding) → bindings ≡ [] → Reaches bindings 0 []
 reaches_none bindings none = inr (record { within = omega arith; none = none; same = refl })
 
-pub last_reaches : (bindings : List Binding) (xs : List OpenElement) (f : OpenElement) (n : ℕ) → 0 < n → n ≡ length xs → f ≡ get_or xs (n - 1) f → bindings ≡ [] → AreLinked (reverse xs)
+pub last_reaches : (bindings : List Binding) (xs : List OpenElement) (f : OpenElement) (n : ℕ) → 0 < n → n ≡ length xs
+    → f ≡ get_or xs (n - 1) f → bindings ≡ [] → AreLinked (reverse xs)
     → Reaches bindings f.declaring (reverse xs)
 last_reaches bindings xs f n some end is none l =
-    let last : reverse xs ≡ f ∷ reverse (take (n - 1) xs) = ap reverse (sym (take_all n xs (omega (arith, end)))) ∙ element_before xs n f some (omega (arith, end)) is in
+    let last : reverse xs ≡ f ∷ reverse (take (n - 1) xs) = ap reverse (sym (take_all n xs (omega (arith, end))))
+        ∙ element_before xs n f some (omega (arith, end)) is in
     subst (Reaches bindings f.declaring) (sym last) (reaches_outer bindings f (reverse (take (n - 1) xs)) none (subst AreLinked last l))
 
 pub none_reaches : (bindings : List Binding) (xs : List OpenElement) → length xs ≡ 0 → bindings ≡ [] → Reaches bindings 0 (reverse xs)
@@ -52,7 +55,8 @@ pub linked_front : (xs : List OpenElement) (n : ℕ) → AreLinked (reverse xs) 
 linked_front xs n l = linked_tail (reverse (drop n xs)) (reverse (take n xs)) (subst AreLinked (parted xs n) l)
 
 -- the outermost of some open elements
-outermost : (xs : List OpenElement) (n m : ℕ) → n ≤ m → m ≤ length xs → drop (length (reverse (take m xs)) - n) (reverse (take m xs)) ≡ reverse (take n xs)
+outermost : (xs : List OpenElement) (n m : ℕ) → n ≤ m → m ≤ length xs
+    → drop (length (reverse (take m xs)) - n) (reverse (take m xs)) ≡ reverse (take n xs)
 outermost xs n m l k =
     ap (λ c. drop c (reverse (take m xs))) count ∙ ap (drop (length (reverse (drop n (take m xs))))) (parted (take m xs) n)
     ∙ drop-append_seam (reverse (drop n (take m xs))) (reverse (take n (take m xs))) ∙ ap reverse front
@@ -69,10 +73,12 @@ outermost xs n m l k =
         let size = length-take m xs in
         sym (take-append-le n (take m xs) (drop m xs) (omega (arith, size, l, k))) ∙ ap (take n) (take-append-drop m xs)
 
-pub reaches_back : (xs : List OpenElement) (n m : ℕ) (f : OpenElement) → 0 < m → m ≤ length xs → n < m → reverse (take m xs) ≡ f ∷ reverse (take (m - 1) xs) → f.declaring ≡ n → AreLinked (reverse xs)
+pub reaches_back : (xs : List OpenElement) (n m : ℕ) (f : OpenElement) → 0 < m → m ≤ length xs → n < m
+    → reverse (take m xs) ≡ f ∷ reverse (take (m - 1) xs) → f.declaring ≡ n → AreLinked (reverse xs)
     → scope_of (reverse (take n xs)) ≡ scope_of (reverse (take m xs))
 reaches_back xs n m f some within less is reach l = elim linked.0 [
-  | inl e ↦ absurd (let k = length-reverse (take (m - 1) xs) in let j = length-take (m - 1) xs in omega (arith, e, k, j, reach, less, within, some))
+  | inl e ↦ absurd (let k = length-reverse (take (m - 1) xs) in let j = length-take (m - 1) xs in omega
+      (arith, e, k, j, reach, less, within, some))
   | inr h ↦
       ap scope_of (sym (outermost xs n (m - 1) (omega (arith, less)) (omega (arith, within))))
       ∙ ap (λ c. scope_of (drop (length (reverse (take (m - 1) xs)) - c) (reverse (take (m - 1) xs)))) (sym reach) ∙ h.same

@@ -48,7 +48,8 @@ at_start bytes depth rest is = record {
   so_far = [];
   lexed = sym is;
   goes = λ ts r. (λ x. x, λ x. x);
-  ahead = subst (λ (b : List ℕ). Ahead TakesToken (without_byte_order_mark bytes) [] b []) (sym is) (ahead_at_start TakesToken (without_byte_order_mark bytes) []);
+  ahead = subst (λ (b : List ℕ). Ahead TakesToken (without_byte_order_mark bytes) [] b []) (sym is)
+      (ahead_at_start TakesToken (without_byte_order_mark bytes) []);
   fits = omega arith;
   level = omega arith;
   shallow = λ before after t e o. absurd (no_split before after t e);
@@ -56,7 +57,8 @@ at_start bytes depth rest is = record {
 }
 
 -- a place in a list with one more at the end is in the list or at the end
-split_last : (ts before after : List Token) (u t : Token) → ts ++ u ∷ [] ≡ before ++ (t ∷ after) → ((others : List Token) × (ts ≡ before ++ (t ∷ others))) ⊎ ((before ≡ ts) × (t ≡ u))
+split_last : (ts before after : List Token) (u t : Token) → ts ++ u ∷ [] ≡ before ++ (t ∷ after)
+    → ((others : List Token) × (ts ≡ before ++ (t ∷ others))) ⊎ ((before ≡ ts) × (t ≡ u))
 split_last [] [] after u t e = inr (refl, cc)
 split_last [] (b ∷ []) after u t e = cc
 split_last [] (b ∷ (c ∷ bs)) after u t e = cc
@@ -81,7 +83,8 @@ module _ (bytes : List ℕ) (depth : ℕ) (w : Where) (rest : List ℕ) (at : At
       omega (arith, a, b, none)
 
   -- one token more
-  module _ (t : Token) (behind : List ℕ) (some : rest ≢ []) (takes : TakesToken rest t behind) (only : (u : Token) (after : List ℕ) → TakesToken rest u after → (u ≡ t) × (after ≡ behind)) where
+  module _ (t : Token) (behind : List ℕ) (some : rest ≢ []) (takes : TakesToken rest t behind)
+      (only : (u : Token) (after : List ℕ) → TakesToken rest u after → (u ≡ t) × (after ≡ behind)) where
     is_only : IsOnly TakesToken rest t behind
     is_only u after h = let k = only u after h in (sym k.0, sym k.1)
 
@@ -102,7 +105,9 @@ module _ (bytes : List ℕ) (depth : ℕ) (w : Where) (rest : List ℕ) (at : At
       level = let a = counted is_start t in let b = counted is_end t in let c = l.counts in let d = at.level in omega (arith, a, b, c, d);
       shallow = λ before after u e o. elim (split_last at.so_far before after t u e) [
         | inl h ↦ at.shallow before h.0 u h.1 o
-        | inr h ↦ let inside = l.within (subst Opens h.1 o) in let same : open_after before ≡ open_in w = ap open_after h.0 ∙ open_after_is in omega (arith, inside, same)
+        | inr h ↦ let inside =
+            l.within (subst Opens h.1 o) in let same : open_after before ≡ open_in w = ap open_after h.0
+                ∙ open_after_is in omega (arith, inside, same)
       ];
     }
 
@@ -120,7 +125,8 @@ module _ (bytes : List ℕ) (depth : ℕ) (w : Where) (rest : List ℕ) (at : At
     begins_so_far : BeginsDocument at.so_far
     begins_so_far = let s = some_way w in record { more = s.0; reading = s.1.0; document = (at.goes s.0 s.1.0).1 s.1.1 }
 
-    pub step_refused : (place : ℕ) → place ≡ offset bytes rest → place ≤ length bytes → ((ts : List Token) (r : Reading) → GoesOn w (t ∷ ts) r → ⊥) → IsUnreadable bytes depth place
+    pub step_refused : (place : ℕ) → place ≡ offset bytes rest → place ≤ length bytes
+        → ((ts : List Token) (r : Reading) → GoesOn w (t ∷ ts) r → ⊥) → IsUnreadable bytes depth place
     step_refused place is within refused =
         unreadable bytes depth place
         (record {
@@ -128,7 +134,8 @@ module _ (bytes : List ℕ) (depth : ℕ) (w : Where) (rest : List ℕ) (at : At
           rest = rest;
           reaches = record { lexed = at.lexed; allowed = begins_so_far };
           no_further = λ u after h b.
-              refused b.more b.reading ((goes_next b.more b.reading).0 (subst (λ (v : Token). IsDocument ((at.so_far ++ v ∷ []) ++ b.more) b.reading) (only u after h).0 b.document));
+              refused b.more b.reading ((goes_next b.more b.reading).0
+                  (subst (λ (v : Token). IsDocument ((at.so_far ++ v ∷ []) ++ b.more) b.reading) (only u after h).0 b.document));
           at_is = is;
         })
         at.shallow
@@ -148,7 +155,8 @@ module _ (bytes : List ℕ) (depth : ℕ) (w : Where) (rest : List ℕ) (at : At
     step_too_deep place is within p =
         let s = some_way p.new in
         record {
-          deeper = λ r s. let x = spelled r s in let d = goes_deep p.new x.0 r ((p.follows x.0 r).0 x.1) in let e = p.deeper in omega (arith, d, e);
+          deeper = λ r s. let x = spelled r s in let d = goes_deep p.new x.0 r ((p.follows x.0 r).0 x.1) in let e = p.deeper in omega
+              (arith, d, e);
           deep = record {
             tokens = at.so_far;
             tag = t;
@@ -168,10 +176,12 @@ module _ (bytes : List ℕ) (depth : ℕ) (w : Where) (rest : List ℕ) (at : At
   begins : BeginsDocument at.so_far
   begins = let s = some_way w in record { more = s.0; reading = s.1.0; document = (at.goes s.0 s.1.0).1 s.1.1 }
 
-  pub not_lexed : rest ≢ [] → ((t : Token) (after : List ℕ) → TakesToken rest t after → ⊥) → (place : ℕ) → place ≡ offset bytes rest → place ≤ length bytes → IsUnreadable bytes depth place
+  pub not_lexed : rest ≢ [] → ((t : Token) (after : List ℕ) → TakesToken rest t after → ⊥) → (place : ℕ) → place ≡ offset bytes rest
+      → place ≤ length bytes → IsUnreadable bytes depth place
   not_lexed some none place is within =
       unreadable bytes depth place
-      (record { tokens = at.so_far; rest = rest; reaches = record { lexed = at.lexed; allowed = begins }; no_further = λ t after h b. none t after h; at_is = is })
+      (record { tokens = at.so_far; rest = rest; reaches = record { lexed = at.lexed; allowed = begins }; no_further = λ t after h b. none
+          t after h; at_is = is })
       at.shallow
       (λ r s. none_ahead TakesToken (without_byte_order_mark bytes) at.so_far rest [] some none at.ahead s.tokens s.lexed)
       within
@@ -189,10 +199,13 @@ module _ (bytes : List ℕ) (depth : ℕ) (w : Where) (rest : List ℕ) (at : At
         subst (λ (us : List Token). GoesOn w us r) (no_more a.0 a.2) x
 
     abbrev stopped : (place : ℕ) → place ≡ offset bytes rest → Stop bytes place
-    stopped place is = record { tokens = at.so_far; rest = rest; reaches = record { lexed = at.lexed; allowed = begins }; no_further = λ t after h b. no_token rest t after end h; at_is = is }
+    stopped place is = record { tokens = at.so_far; rest = rest; reaches = record { lexed = at.lexed; allowed = begins }; no_further = λ t
+        after h b. no_token rest t after end h; at_is = is }
 
-    pub ended_early : ((r : Reading) → GoesOn w [] r → ⊥) → (place : ℕ) → place ≡ offset bytes rest → place ≤ length bytes → IsUnreadable bytes depth place
-    ended_early none place is within = unreadable bytes depth place (stopped place is) at.shallow (λ r s. none r (spelled_so_far r s)) within
+    pub ended_early : ((r : Reading) → GoesOn w [] r → ⊥) → (place : ℕ) → place ≡ offset bytes rest → place ≤ length bytes
+        → IsUnreadable bytes depth place
+    ended_early none place is within =
+        unreadable bytes depth place (stopped place is) at.shallow (λ r s. none r (spelled_so_far r s)) within
 
     pub none_deep : (end_at place : ℕ) → end_at ≡ offset bytes rest → Deep bytes depth place → ⊥
     none_deep end_at place is d = not_deep bytes depth end_at place (stopped end_at is) at.shallow d
@@ -212,23 +225,29 @@ module _ (bytes : List ℕ) (depth : ℕ) (w : Where) (place : ℕ) (at : At byt
   offset_is : place ≤ length bytes → place ≡ offset bytes (drop place bytes)
   offset_is l = let b = length-drop place bytes in omega (arith, b, l)
 
-  pub lex_refused : (shown : List ℕ) (error : LexError) (result : ReadError) → place < length bytes → shown ≡ drop place bytes → result ≡ lex_error error place
+  pub lex_refused : (shown : List ℕ) (error : LexError) (result : ReadError) → place < length bytes → shown ≡ drop place bytes
+      → result ≡ lex_error error place
       → (error ≡ lexing.Malformed → (t : Token) (rest : List ℕ) → TakesToken shown t rest → ⊥) → IsRead bytes depth (Err result)
   lex_refused shown error result l is made none =
       subst (λ (e : ReadError). IsRead bytes depth (Err e)) (sym made) (by error none)
     where
-      by : (error : LexError) → (error ≡ lexing.Malformed → (t : Token) (rest : List ℕ) → TakesToken shown t rest → ⊥) → IsRead bytes depth (Err (lex_error error place))
+      by : (error : LexError) → (error ≡ lexing.Malformed → (t : Token) (rest : List ℕ) → TakesToken shown t rest → ⊥)
+          → IsRead bytes depth (Err (lex_error error place))
       by lexing.Malformed none =
-          not_lexed bytes depth w (drop place bytes) at (some_left l) (subst (λ (b : List ℕ). (t : Token) (rest : List ℕ) → TakesToken b t rest → ⊥) is (none refl)) place (offset_is (omega (arith, l))) (omega (arith, l))
+          not_lexed bytes depth w (drop place bytes) at (some_left l)
+              (subst (λ (b : List ℕ). (t : Token) (rest : List ℕ) → TakesToken b t rest → ⊥) is (none refl)) place
+                  (offset_is (omega (arith, l))) (omega (arith, l))
       by lexing.NoMemory none = tt
 
-  module _ (shown : List ℕ) (t : Token) (count : ℕ) (l : place < length bytes) (is : shown ≡ drop place bytes) (taken : TakesToken shown t (drop count shown))
+  module _ (shown : List ℕ) (t : Token) (count : ℕ) (l : place < length bytes) (is : shown ≡ drop place bytes)
+      (taken : TakesToken shown t (drop count shown))
       (alone : (u : Token) (rest : List ℕ) → TakesToken shown u rest → (u ≡ t) × (rest ≡ drop count shown)) where
     after_here : drop count shown ≡ drop (place + count) bytes
     after_here = ap (drop count) is ∙ drop-drop count place bytes
 
     taken_here : TakesToken (drop place bytes) t (drop (place + count) bytes)
-    taken_here = subst (λ (b : List ℕ). TakesToken b t (drop (place + count) bytes)) is (subst (λ (b : List ℕ). TakesToken shown t b) after_here taken)
+    taken_here = subst (λ (b : List ℕ). TakesToken b t (drop (place + count) bytes)) is
+        (subst (λ (b : List ℕ). TakesToken shown t b) after_here taken)
 
     alone_here : (u : Token) (rest : List ℕ) → TakesToken (drop place bytes) u rest → (u ≡ t) × (rest ≡ drop (place + count) bytes)
     alone_here u rest h = let k = alone u rest (subst (λ (b : List ℕ). TakesToken b u rest) (sym is) h) in (k.0, k.1 ∙ after_here)
@@ -236,24 +255,29 @@ module _ (bytes : List ℕ) (depth : ℕ) (w : Where) (place : ℕ) (at : At byt
     pub next_at : (new : Where) → Leads depth w t new → At bytes depth new (drop (place + count) bytes)
     next_at new h = at_next bytes depth w (drop place bytes) at t (drop (place + count) bytes) (some_left l) taken_here alone_here new h
 
-    pub refused_at : (refusal : Refusal) (result : ReadError) → result ≡ refusal_error refusal place → TokenAnswer depth w t (Err refusal) → IsRead bytes depth (Err result)
+    pub refused_at : (refusal : Refusal) (result : ReadError) → result ≡ refusal_error refusal place → TokenAnswer depth w t (Err refusal)
+        → IsRead bytes depth (Err result)
     refused_at refusal result made h = subst (λ (e : ReadError). IsRead bytes depth (Err e)) (sym made) (by refusal h)
       where
         by : (refusal : Refusal) → TokenAnswer depth w t (Err refusal) → IsRead bytes depth (Err (refusal_error refusal place))
         by refusals.NotAllowed h =
-            step_refused bytes depth w (drop place bytes) at t (drop (place + count) bytes) (some_left l) taken_here alone_here place (offset_is (omega (arith, l))) (omega (arith, l)) h
+            step_refused bytes depth w (drop place bytes) at t (drop (place + count) bytes) (some_left l) taken_here alone_here place
+                (offset_is (omega (arith, l))) (omega (arith, l)) h
         by refusals.TooDeep h =
-            step_too_deep bytes depth w (drop place bytes) at t (drop (place + count) bytes) (some_left l) taken_here alone_here place (offset_is (omega (arith, l))) (omega (arith, l)) h
+            step_too_deep bytes depth w (drop place bytes) at t (drop (place + count) bytes) (some_left l) taken_here alone_here place
+                (offset_is (omega (arith, l))) (omega (arith, l)) h
         by refusals.NoMemory h = tt
 
 pub shown_is : (bytes : List ℕ) (place : ℕ) → take (length bytes - place) (drop place bytes) ≡ drop place bytes
 shown_is bytes place = take_all (length bytes - place) (drop place bytes) (omega (arith, length-drop place bytes))
 
-pub within_next : (bytes : List ℕ) (place count : ℕ) → place < length bytes → count ≤ length (take (length bytes - place) (drop place bytes)) → place + count ≤ length bytes
+pub within_next : (bytes : List ℕ) (place count : ℕ) → place < length bytes
+    → count ≤ length (take (length bytes - place) (drop place bytes)) → place + count ≤ length bytes
 within_next bytes place count l h = let a = ap length (shown_is bytes place) in let b = length-drop place bytes in omega (arith, a, b, h, l)
 
 -- at the end
-pub end_read : (bytes : List ℕ) (depth : ℕ) (s : Standing) (place : ℕ) (result : Result Reading ReadError) → At bytes depth (where_is s) (drop place bytes) → place ≤ length bytes → length bytes ≤ place → result ≡ read_at_end s place
+pub end_read : (bytes : List ℕ) (depth : ℕ) (s : Standing) (place : ℕ) (result : Result Reading ReadError)
+    → At bytes depth (where_is s) (drop place bytes) → place ≤ length bytes → length bytes ≤ place → result ≡ read_at_end s place
     → IsRead bytes depth result
 end_read bytes depth s place result at within end made = subst (λ (a : Result Reading ReadError). IsRead bytes depth a) (sym made) (by s at)
   where
@@ -269,5 +293,9 @@ end_read bytes depth s place result at within end made = subst (λ (a : Result R
 
     by : (s : Standing) → At bytes depth (where_is s) (drop place bytes) → IsRead bytes depth (read_at_end s place)
     by standing.Start a = ended_early bytes depth AtStart (drop place bytes) a none_left no_tokens_start place (here AtStart a) within
-    by (standing.Open open_elements) a = ended_early bytes depth (Within (reverse open_elements)) (drop place bytes) a none_left (no_tokens (reverse open_elements)) place (here (Within (reverse open_elements)) a) within
-    by (standing.Done r) a = (whole bytes depth (AfterRoot r) (drop place bytes) a none_left r (after_root_ends r), a.fits, λ deep d. none_deep bytes depth (AfterRoot r) (drop place bytes) a none_left place deep (here (AfterRoot r) a) d)
+    by (standing.Open open_elements) a =
+        ended_early bytes depth (Within (reverse open_elements)) (drop place bytes) a none_left (no_tokens (reverse open_elements)) place
+            (here (Within (reverse open_elements)) a) within
+    by (standing.Done r) a =
+        (whole bytes depth (AfterRoot r) (drop place bytes) a none_left r (after_root_ends r), a.fits, λ deep d. none_deep bytes depth
+            (AfterRoot r) (drop place bytes) a none_left place deep (here (AfterRoot r) a) d)

@@ -6,7 +6,7 @@ use Rattle.std.specs.Str.{chars}
 use Rattle.std.proofs.lemmas.Bool.{cases_lt, cases_Bool}
 use Rattle.std.proofs.lemmas.List.{append-nil}
 use Rattle.std.proofs.lemmas.Str.{encodes-chars, chars_from_encodes}
-use Rattle.memchr.specs.Find.{OccursAt}
+use Rattle.memchr.specs.Find.{NoneBefore, OccursAt}
 use Rattle.memchr.proofs.lemmas.MatchLemmas.{OccursAt-part, OccursAt-from_part}
 use Rattle.ifmap_lemmas.specs.Deciding.{Decided, decided_both, decided_each, decided_test, decided_untrue, first_or_none, same_or_not}
 use Rattle.ifmap_elem.specs.Chars.{AllAre, IsCharacters, is_character}

@@ -11,7 +11,7 @@ use Rattle.ifmap_elem.specs.declared.tokens.Tag.{Tag}
 use Rattle.ifmap_elem.specs.declared.tokens.Token.{Token}
 use Rattle.ifmap_elem.specs.declared.tokens.Token.TheVariants.{Declaration, Comment, Start, Empty, End, Section, Characters}
 use Rattle.ifmap_reader.specs.declared.open_elements.OpenElement.{OpenElement}
-use Rattle.ifmap_reader.specs.OpenElements.{Closes, scope_of, with_characters, written_name}
+use Rattle.ifmap_reader.specs.OpenElements.{Closes, with_characters, written_name}
 use Rattle.ifmap_reader.specs.Progress.{Where, AtStart, Within, AfterRoot, GoesOn, IsCharacterData, is_margin, Leads, Passes, after_element}
 use Rattle.ifmap_reader.proofs.Goings.{IsOther, no_start, no_empty, start_other}
 use Rattle.ifmap_reader.proofs.Stepping.{comment_leads, declaration_leads, words_step, blank_step, words_refused, start_step, start_too_deep, empty_step, empty_too_deep, end_step, other_end, no_end, declaration_refused, margin_leads, no_margin}
@@ -26,16 +26,16 @@ module _ (depth : ℕ) where
 
   -- within some open elements, the innermost last
   start_goes : (old : List OpenElement) (tag : Tag) → Goes (Within (reverse old)) (Start tag)
-  start_goes old tag = elim (element_or_none (scope_of (reverse old)) tag) [
+  start_goes old tag = elim (element_or_none (reverse old) tag) [
     | inr none ↦ inr (inr (no_start (reverse old) tag none))
     | inl o ↦ elim (cases_lt (length old) depth) [
-      | inl l ↦ inl (Within (reverse (old ++ o.0 ∷ [])), start_step depth old (old ++ o.0 ∷ []) tag o.0 o.1 l refl)
+      | inl l ↦ inl (Within (reverse (old ++ o.0 ∷ [])), start_step depth old (old ++ o.0 ∷ []) tag o.0 o.1 o.2 l refl)
       | inr g ↦ inr (inl (start_too_deep depth old tag o.0 o.1 g))
     ]
   ]
 
   empty_goes : (old : List OpenElement) (tag : Tag) → Goes (Within (reverse old)) (Empty tag)
-  empty_goes old tag = elim (element_or_none (scope_of (reverse old)) tag) [
+  empty_goes old tag = elim (element_or_none (reverse old) tag) [
     | inr none ↦ inr (inr (no_empty (reverse old) tag none))
     | inl o ↦ elim (cases_lt (length old) depth) [
       | inl l ↦
@@ -84,6 +84,7 @@ module _ (depth : ℕ) where
     record {
       follows = λ ts r. let e = start_other t other ts r in let k = l.1.follows ts r in (λ x. k.0 (e.0 x), λ x. e.1 (k.1 x));
       fits = l.1.fits;
+      linked = λ _. l.1.linked tt;
       counts = l.1.counts;
       within = l.1.within;
     },

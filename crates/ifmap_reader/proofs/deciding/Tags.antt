@@ -1,5 +1,5 @@
 -- Whether a tag is allowed, and what it opens.
-use Rattle.std.proofs.Common.{◌≡◌, ◌≢◌, ℕ, List, [], ◌∷◌, map, refl, ap, sym, ◌∙◌, subst, ◌⊎◌, inl, inr}
+use Rattle.std.proofs.Common.{◌≡◌, ◌≢◌, ℕ, ◌+◌, List, [], ◌∷◌, length, map, refl, ap, sym, ◌∙◌, subst, ◌⊎◌, inl, inr}
 use Rattle.std.specs.Prelude.{Some, None, codes, ◌↔◌}
 use Rattle.ifmap_lemmas.specs.Deciding.{Decided, decided_both, decided_by, decided_each, decided_leads, decided_not, decided_same, same_or_not, value_or_none}
 use Rattle.ifmap_elem.specs.declared.elements.Attribute.{Attribute}
@@ -11,6 +11,7 @@ use Rattle.ifmap_elem.specs.Scopes.{Scope, Binding, AllDiffer, AreAttributes, Is
 use Rattle.ifmap_elem.specs.laws.OneReading.{one_list_of_attributes}
 use Rattle.ifmap_reader.specs.declared.open_elements.OpenElement.{OpenElement}
 use Rattle.ifmap_reader.specs.AllowedTags.{OpensElement}
+use Rattle.ifmap_reader.specs.OpenElements.{Reaches, scope_of}
 use Rattle.ifmap_reader.proofs.Goings.{NoName}
 
 -- names
@@ -93,25 +94,37 @@ module _ (scope : Scope) where
 
 -- tags
 
-abbrev pub OpensSome : Scope → Tag → Type 0
-OpensSome outer tag = (f : OpenElement) × OpensElement outer tag f
+abbrev Allows : Scope → Tag → Type 0
+Allows outer tag = (name : Name) × (attributes : List Attribute) × NamesElement outer tag name attributes
 
-element_by : (outer : Scope) (tag : Tag) (name : Name) (attributes : List Attribute) → NamesElement outer tag name attributes
-    → OpensSome outer tag
-element_by outer tag name attributes n = (
-  record { prefix = tag.name.prefix; name = name; attributes = attributes; bindings = bindings tag; children = []; text = []; below = [] },
+abbrev pub OpensSome : List OpenElement → Tag → Type 0
+OpensSome fs tag = (f : OpenElement) × OpensElement (scope_of fs) tag f × Reaches f.bindings f.declaring fs
+
+element_by : (fs : List OpenElement) (tag : Tag) → Allows (scope_of fs) tag → OpensSome fs tag
+element_by fs tag a = (
   record {
-    named = n;
-    name_is = λ i. record { prefix = tag.name.prefix; local = sym n.local_is i };
+    prefix = tag.name.prefix;
+    name = a.0;
+    attributes = a.1;
+    bindings = bindings tag;
+    declaring = length fs + 1;
+    children = [];
+    text = [];
+    below = [];
+  },
+  record {
+    named = a.2;
+    name_is = λ i. record { prefix = tag.name.prefix; local = sym a.2.local_is i };
     bindings_are = refl;
     no_children = refl;
     no_text = refl;
     none_below = refl;
   },
+  inl refl,
 )
 
-pub element_or_none : (outer : Scope) (tag : Tag) → OpensSome outer tag ⊎ NoName outer tag
-element_or_none outer tag = elim (decided_each IsBinding binding_or_not (bindings tag)) [
+allowed_or_none : (outer : Scope) (tag : Tag) → Allows outer tag ⊎ NoName outer tag
+allowed_or_none outer tag = elim (decided_each IsBinding binding_or_not (bindings tag)) [
   | inr fails ↦ inr (λ name attributes n. fails n.binds)
   | inl binds ↦ elim (differ_or_not same_or_not (map (λ b. b.prefix) (bindings tag))) [
     | inr fails ↦ inr (λ name attributes n. fails n.binds_once)
@@ -124,16 +137,22 @@ element_or_none outer tag = elim (decided_each IsBinding binding_or_not (binding
               let same : attributes ≡ ts.0
               = one_list_of_attributes (scope_within outer tag) (plain_assignments tag) attributes ts.0 n.attributes_are ts.1 in
               fails (subst (λ (us : List Attribute). AllDiffer (map (λ t. t.name) us)) same n.names_differ))
-          | inl differ ↦ inl (element_by outer tag (record { space = s.0; local = tag.name.local }) ts.0 (record {
+          | inl differ ↦ inl (record { space = s.0; local = tag.name.local }, ts.0, record {
             binds = binds;
             binds_once = once;
             space_is = s.1;
             local_is = refl;
             attributes_are = ts.1;
             names_differ = differ;
-          }))
+          })
         ]
       ]
     ]
   ]
+]
+
+pub element_or_none : (fs : List OpenElement) (tag : Tag) → OpensSome fs tag ⊎ NoName (scope_of fs) tag
+element_or_none fs tag = elim (allowed_or_none (scope_of fs) tag) [
+  | inl a ↦ inl (element_by fs tag a)
+  | inr none ↦ inr none
 ]

@@ -5,7 +5,8 @@ use Rattle.ifmap_reader.specs.AllowedTags.{plain}
 use Rattle.ifmap_reader.proofs.allowed_tags.attributes_of.Given as goal
 
 abbrev pub invariant-loop-assignment : goal.invariant-loop-assignment
-invariant-loop-assignment l = Attributing (l.bindings ++ scope_of (reverse l.open_elements)) (plain l.fn.assignments) l.made.items (plain (reverse l.left.items))
+invariant-loop-assignment l =
+    Attributing (l.bindings ++ scope_of (reverse l.open_elements)) (plain l.fn.assignments) l.made.items (plain (reverse l.left.items))
 
 abbrev pub decreases-loop-assignment : goal.decreases-loop-assignment
 decreases-loop-assignment l = vec_len l.left

@@ -6,7 +6,8 @@ use Rattle.ifmap_reader.proofs.allowed_tags.space_of.Given as goal
 abbrev pub invariant-loop-outer : goal.invariant-loop-outer
 invariant-loop-outer l = record {
   within : l.outer ≤ length l.open_elements;
-  same : bound (scope_of (reverse (take l.outer l.open_elements))) l.prefix ≡ bound (l.bindings ++ scope_of (reverse l.open_elements)) l.prefix;
+  same : bound (scope_of (reverse (take l.outer l.open_elements))) l.prefix ≡ bound
+      (l.bindings ++ scope_of (reverse l.open_elements)) l.prefix;
 }
 
 abbrev pub decreases-loop-outer : goal.decreases-loop-outer

@@ -6,4 +6,5 @@ use Rattle.ifmap_reader.proofs.NameSets.{Names-so-far}
 use Rattle.ifmap_reader.proofs.differing.many_differ.Given as goal
 
 abbrev pub invariant-loop-attribute : goal.invariant-loop-attribute
-invariant-loop-attribute l = Names-so-far l.attributes l.attribute-index (λ (n : Bor Name). contains (λ (x y : Bor Name). name_order x.now y.now) l.names n)
+invariant-loop-attribute l =
+    Names-so-far l.attributes l.attribute-index (λ (n : Bor Name). contains (λ (x y : Bor Name). name_order x.now y.now) l.names n)

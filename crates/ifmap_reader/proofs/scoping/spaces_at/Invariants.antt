@@ -6,4 +6,5 @@ use Rattle.ifmap_elem.specs.InScope.{declared_at, listed}
 use Rattle.ifmap_reader.proofs.scoping.spaces_at.Given as goal
 
 abbrev pub invariant-loop-declaration : goal.invariant-loop-declaration
-invariant-loop-declaration l = (prefix : List ℕ) → get (slice_cmp nat_cmp) l.spaces prefix ≡ listed (declared_at l.path (take l.declaration-index l.declared)) prefix
+invariant-loop-declaration l =
+    (prefix : List ℕ) → get (slice_cmp nat_cmp) l.spaces prefix ≡ listed (declared_at l.path (take l.declaration-index l.declared)) prefix
