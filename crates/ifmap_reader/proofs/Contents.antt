@@ -40,37 +40,29 @@ module _ (scope : Scope) (f : OpenElement) (ts : List Token) (Then : Element →
   )
 
   -- a text
+  text_off : (text more : List ℕ) (after : Pieces) (rest : List Token) (items : List Item) (e : Element) (d : List Declared) → text ≡ more → ts ≡ tokens_of after ++ (End (written_name f) ∷ rest)
+      → ((others : List Item) × (items ≡ Run more ∷ others) × AreItems scope after others) → Closes f items e d → Then e d rest → Ends scope (with_characters f text) ts Then
+  text_off text more after rest items e d same is m c th = record {
+    inside = after;
+    rest = rest;
+    items = m.0;
+    element = e;
+    declared = d;
+    tokens_are = is;
+    means = m.2;
+    closes = words_close f text m.0 e d (subst (λ (is : List Item). Closes f is e d) (m.1 ∙ ap (λ (u : List ℕ). Run u ∷ m.0) (sym same)) c);
+    goes_on = th;
+  }
+
   words_off : (t : Token) (blank : Bool) (text : List ℕ) → IsCharacterData blank text t → (c : Pieces) (rest : List Token) (items : List Item) (e : Element) (d : List Declared)
       → t ∷ ts ≡ tokens_of c ++ (End (written_name f) ∷ rest)
       → AreItems scope c items → Closes f items e d → Then e d rest → Ends scope (with_characters f text) ts Then
   words_off t blank text w Nothing rest items e d is m c th = elim w [ inl k ↦ cc | inr k ↦ let h = k.1 in cc ]
   words_off t blank text w (piece.Comment after) rest items e d is m c th = elim w [ inl k ↦ cc | inr k ↦ let h = k.1 in cc ]
   words_off t blank text w (piece.Characters b more after) rest items e d is m c th =
-      let same : text ≡ more = elim w [ inl k ↦ cc | inr k ↦ let h = k.1 in cc ] in
-      record {
-        inside = after;
-        rest = rest;
-        items = m.0;
-        element = e;
-        declared = d;
-        tokens_are = cc;
-        means = m.2;
-        closes = words_close f text m.0 e d (subst (λ (is : List Item). Closes f is e d) (m.1 ∙ ap (λ (u : List ℕ). Run u ∷ m.0) (sym same)) c);
-        goes_on = th;
-      }
+      text_off text more after rest items e d (elim w [ inl k ↦ cc | inr k ↦ let h = k.1 in cc ]) (cc) m c th
   words_off t blank text w (piece.Section more after) rest items e d is m c th =
-      let same : text ≡ more = elim w [ inl k ↦ cc | inr k ↦ let h = k.1 in cc ] in
-      record {
-        inside = after;
-        rest = rest;
-        items = m.0;
-        element = e;
-        declared = d;
-        tokens_are = cc;
-        means = m.2;
-        closes = words_close f text m.0 e d (subst (λ (is : List Item). Closes f is e d) (m.1 ∙ ap (λ (u : List ℕ). Run u ∷ m.0) (sym same)) c);
-        goes_on = th;
-      }
+      text_off text more after rest items e d (elim w [ inl k ↦ cc | inr k ↦ let h = k.1 in cc ]) (cc) m c th
   words_off t blank text w (piece.Empty tag after) rest items e d is m c th = elim w [ inl k ↦ cc | inr k ↦ let h = k.1 in cc ]
   words_off t blank text w (piece.Start tag inside after) rest items e d is m c th = elim w [ inl k ↦ cc | inr k ↦ let h = k.1 in cc ]
 
