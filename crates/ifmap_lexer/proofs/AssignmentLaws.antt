@@ -4,7 +4,7 @@ use Rattle.std.specs.Prelude.{◌==◌}
 use Rattle.std.proofs.lemmas.Bool.{or_cases}
 use Rattle.ifmap_lemmas.specs.Items.{To, to_last}
 use Rattle.ifmap_elem.specs.Chars.{AllAre, IsCharacters, is_white}
-use Rattle.ifmap_elem.specs.Names.{IsQualified, name_bytes}
+use Rattle.ifmap_elem.specs.Names.{name_bytes}
 use Rattle.ifmap_elem.specs.Tokens.{TakesAssignment, TakesQuoted, TakesTag}
 use Rattle.ifmap_elem.specs.Values.{IsValue}
 use Rattle.ifmap_elem.specs.declared.tokens.Assignment.{Assignment}

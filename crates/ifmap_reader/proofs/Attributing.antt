@@ -1,6 +1,6 @@
 -- The attributes that assignments give, one assignment at a time.
 use Rattle.std.proofs.Common.{◌≡◌, ℕ, Bool, true, false, List, [], ◌∷◌, ◌++◌, reverse, refl, ap, sym, ◌∙◌, subst, append_assoc, Bor}
-use Rattle.std.specs.Prelude.{Some, None, Err, filter, Option, is_none, is_some}
+use Rattle.std.specs.Prelude.{Some, None, Err, Option, is_none, is_some}
 use Rattle.std.proofs.lemmas.List.{append-nil, reverse-reverse}
 use Rattle.ifmap_elem.specs.declared.elements.Attribute.{Attribute}
 use Rattle.ifmap_elem.specs.declared.tokens.Assignment.{Assignment}

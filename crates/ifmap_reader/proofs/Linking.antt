@@ -1,11 +1,11 @@
 -- How an open element knows the innermost one that binds a prefix.
-use Rattle.std.proofs.Common.{◌≡◌, ℕ, ◌<◌, ◌≤◌, ◌+◌, ◌-◌, suc, List, [], ◌∷◌, ◌++◌, length, reverse, take, drop, get_or, refl, ap, sym, ◌∙◌, subst, arith, ◌⊎◌, inl, inr}
+use Rattle.std.proofs.Common.{◌≡◌, ℕ, ◌<◌, ◌≤◌, ◌+◌, ◌-◌, suc, List, [], ◌∷◌, ◌++◌, length, reverse, take, drop, get_or, refl, ap, sym, ◌∙◌, subst, arith, inl, inr}
 use Rattle.std.proofs.Math.Seq.{drop-append_seam}
 use Rattle.std.proofs.lemmas.List.{reverse-append, take_all, length-drop, length-reverse, length-take, take-append-drop, take-append-le}
-use Rattle.ifmap_elem.specs.Scopes.{Binding, Scope, bound}
+use Rattle.ifmap_elem.specs.Scopes.{Binding}
 use Rattle.ifmap_reader.specs.declared.open_elements.OpenElement.{OpenElement}
 use Rattle.ifmap_reader.proofs.Lookups.{element_before}
-use Rattle.ifmap_reader.specs.OpenElements.{AreLinked, BindsNothing, Reaches, scope_of}
+use Rattle.ifmap_reader.specs.OpenElements.{AreLinked, Reaches, scope_of}
 
 -- an element that binds nothing reaches as far as the one round it
 pub reaches_outer : (bindings : List Binding) (f : OpenElement) (fs : List OpenElement) → bindings ≡ [] → AreLinked (f ∷ fs)

@@ -1,4 +1,4 @@
-use Rattle.std.proofs.Common.{◌≡◌, ℕ, List, ap, ◌∙◌, refl}
+use Rattle.std.proofs.Common.{ap, ◌∙◌}
 use Rattle.std.specs.Map.{lookup}
 use Rattle.std.specs.Str.{bytes_eq}
 use Rattle.ifmap_elem.specs.declared.readings.Reading.{Reading}
