@@ -1,4 +1,7 @@
 -- What holds over all histories, by the definition of the step.
+-- Two records hold in every state: `IsWhole` of the sessions and `IsSound` of the graph. Each case of the step keeps them
+-- (`step_whole`, `step_sound`), so each legal history does; the laws are read off them. The laws on the graph take what
+-- attaching and retracting keep of a graph as premises.
 use Rattle.std.proofs.Common.{◌≡◌, ◌≢◌, refl, sym, ◌∙◌, ap, subst, ℕ, ◌+◌, ◌-◌, ◌^◌, ◌<◌, ◌≤◌, ◌==◌, ◌&&◌, Bool, true, false, not, List, [], ◌∷◌, ◌++◌, length, map, Option, None, Some, inl, inr, nat_le, nat_lt, is_none, arith, length-append}
 use Rattle.std.proofs.lemmas.Bool.{and_cases, both_ways, cases_Bool, eq-eqb, not_from_true, or_left, or_parts}
 use Rattle.std.proofs.lemmas.Bool.Decides.{nat_tests}

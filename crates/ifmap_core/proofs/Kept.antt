@@ -1,4 +1,7 @@
 -- The kept lists, as sessions begin and end.
+-- First: a filter, a removal and an insertion keep the order, and `find` after each. Then the two lists together: they stay
+-- tied (`IsKept`) where the session of a serial ends (`kept_after_end`) and where one begins (`kept_after_begin`). Last, the
+-- same in the words of the code: what a place that a search gave says of the lists.
 use Rattle.std.proofs.Common.{◌≡◌, refl, sym, ◌∙◌, ap, subst, ℕ, ◌+◌, ◌-◌, ◌<◌, ◌≤◌, ◌^◌, ◌==◌, Bool, true, false, not, cond, List, [], ◌∷◌, ◌++◌, length, map, get_or, Option, None, Some, Result, Ok, Err, inl, inr, arith}
 use Rattle.std.proofs.lemmas.Bool.{both_ways, cases_Bool, eqb-true, eqb-false, eq-eqb, false_from_ne_true, not-true}
 use Rattle.std.proofs.lemmas.Bool.Decides.{nat_tests}
