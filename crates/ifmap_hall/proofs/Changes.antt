@@ -2,13 +2,11 @@
 -- next ticket go on; `seat_goes` turns it into the rule after the step, field by field, by cases on whether a seat is this one.
 use Rattle.std.proofs.Common.{◌≡◌, ◌≢◌, ◌⊎◌, ℕ, ◌+◌, ◌%◌, ◌^◌, ◌<◌, ◌≤◌, List, [], ◌∷◌, length, set, true, sym, ap, subst, ◌∙◌, inl, inr, arith, length-set}
 use mathlib.Core.Option.{}
-use Rattle.std.specs.Prelude.{Option}
 use Rattle.atomic_table.proofs.Lists.{at_set}
 use Rattle.ifmap_hall.specs.Histories.{Extends, Ordered}
 use Rattle.ifmap_hall.specs.Places.{times, once_below}
 use Rattle.ifmap_hall.specs.Rule.{Homes, Sits, Fits, AtHome, IsOut, IsInTurn}
 use Rattle.ifmap_hall.specs.SeatViews.{tickets_of, ticket_of, holds_book}
-use Rattle.ifmap_hall.specs.declared.book.Book.{Book}
 use Rattle.ifmap_hall.specs.declared.view.History.{History}
 use Rattle.ifmap_hall.specs.declared.view.SeatView.{SeatView}
 use Rattle.ifmap_hall.specs.declared.view.Stage.{Stage}

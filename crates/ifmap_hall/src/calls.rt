@@ -1,9 +1,9 @@
 //! The calls of a hall.
 ghost use Rattle.std.specs.Prelude.{◌≡◌, ℕ, ◌+◌, ◌*◌, ◌^◌, ◌<◌, ◌≤◌, true, [], IfOk, OnErr};
 ghost use Rattle.ifmap_hall.specs.Books.{sight_of, IsBook};
-ghost use Rattle.ifmap_hall.specs.Histories.{Extends, StandsFor};
 ghost use Rattle.ifmap_hall.specs.Sights.{CarriesOn};
 ghost use Rattle.ifmap_hall.specs.Places.{times};
+ghost use Rattle.ifmap_hall.specs.Plays.{Finds};
 ghost use Rattle.ifmap_hall.specs.SeatViews.{share};
 ghost use Rattle.ifmap_hall.specs.Views.{first_view, kept_view, given_view, joint_view};
 ghost use Rattle.ifmap_hall.specs.Views.{sight_by, IsSound};
@@ -167,8 +167,8 @@ where
         ensures book { IsBook M.next M.weight_of result }
         ensures limit { result.limit ≡ (view_of pass).terms.limit }
         ensures heaviest { result.heaviest ≡ (view_of pass).terms.heaviest }
-        ensures whole { (h : History M.Event) × Extends (view_of pass).history h
-            × StandsFor M.next M.weight_of (view_of pass).terms h result }
+        ensures whole { (h : History M.Event)
+            × Finds M.next M.weight_of (view_of pass) h result }
     {
         let Hall { table } = self;
         let Pass {

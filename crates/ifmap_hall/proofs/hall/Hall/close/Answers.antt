@@ -23,24 +23,23 @@ exchange-requires g c =
 pub returns-clause-whole : goal.returns-clause-whole
 returns-clause-whole g c =
     let d = c.draw-ticket.ensures.ticket in
-    let s = c.await_turn.ensures.served in
-    let f = finds_book g.M.Machine.next g.M.Machine.weight_of c.args.pass.seat.me c.draw-ticket.new.seat.me c.await_turn.new.seat.me d.0
-    c.exchange.result c.in-Some.book d.2 s c.exchange.ensures.2 c.in-Some.is in
-    (s.0, f.extends, f.book)
+    let s = c.await_turn.ensures.served in (
+      s.0,
+      finds_book g.M.Machine.next g.M.Machine.weight_of c.args.pass.seat.me c.draw-ticket.new.seat.me c.await_turn.new.seat.me
+          d.0 c.exchange.result c.in-Some.book d.2 s c.exchange.ensures.2 c.in-Some.is,
+    )
 
 pub returns-clause-carries : goal.returns-clause-carries
 returns-clause-carries g c =
-    let d = c.draw-ticket.ensures.ticket in
-    let s = c.await_turn.ensures.served in
-    found_carries g.M.Machine.next g.M.Machine.weight_of c.args.pass.seat.me.0.view s.0 c.in-Some.book c.args.pass.inside
-    (finds_book g.M.Machine.next g.M.Machine.weight_of c.args.pass.seat.me c.draw-ticket.new.seat.me c.await_turn.new.seat.me d.0
-    c.exchange.result c.in-Some.book d.2 s c.exchange.ensures.2 c.in-Some.is)
+    let found = returns-clause-whole g c in
+    found_carries g.M.Machine.next g.M.Machine.weight_of c.args.pass.seat.me.0.view found.0 c.in-Some.book c.args.pass.inside
+    found.1
 
 pub returns-clause-book : goal.returns-clause-book
-returns-clause-book g c = (returns-clause-whole g c).2.book
+returns-clause-book g c = (returns-clause-whole g c).1.book.book
 
 pub returns-clause-limit : goal.returns-clause-limit
-returns-clause-limit g c = (returns-clause-whole g c).2.limit
+returns-clause-limit g c = (returns-clause-whole g c).1.book.limit
 
 pub returns-clause-heaviest : goal.returns-clause-heaviest
-returns-clause-heaviest g c = (returns-clause-whole g c).2.heaviest
+returns-clause-heaviest g c = (returns-clause-whole g c).1.book.heaviest
