@@ -16,6 +16,7 @@ type Answers = Cell<u64>;
 #[derive(Drop)]
 struct PacedSource<'a> {
     pieces: &'a [(u64, &'a str)],
+    given: usize,
     handed_on: &'a Answers,
     faults: u64,
 }
@@ -26,7 +27,7 @@ impl<'a> Source for PacedSource<'a> {
     ghost faults = { λ source. source.faults };
 
     fn read(&mut self, room: &mut [u8]) -> Result<usize, Failed> {
-        let Some(((due, piece), rest)) = self.pieces.split_first() else {
+        let Some((due, piece)) = self.pieces.get(self.given) else {
             return Ok(0);
         };
         if *due != self.handed_on.get() || piece.len() > room.len() {
@@ -34,7 +35,7 @@ impl<'a> Source for PacedSource<'a> {
             return Err(Failed);
         }
         room[..piece.len()].copy_from_slice(piece.as_bytes());
-        self.pieces = rest;
+        self.given += 1;
         Ok(piece.len())
     }
 }
@@ -87,18 +88,18 @@ fn an_answer_is_handed_on_before_the_next_frame_is_read(rt: HostRuntime) -> Resu
     let alloc = rt.alloc();
     let cuts = cuts_of(alloc, PUBLISH_AND_FIND)?;
     let mut pieces = Vec::new(alloc);
-    let mut due = 0;
     for (i, start) in cuts.iter().enumerate() {
+        let due = i as u64;
         let end = cuts.get(i + 1).copied().unwrap_or(PUBLISH_AND_FIND.len());
         let frame = PUBLISH_AND_FIND.get(*start..end).ok_or("no frame")?;
         let (line, body) = frame.split_at_checked(20).ok_or("a short frame")?;
         pieces.push((due, line))?;
         pieces.push((due, body))?;
-        due += 1;
     }
     let handed_on = Cell::new(0);
     let mut source = PacedSource {
         pieces: &pieces,
+        given: 0,
         handed_on: &handed_on,
         faults: 0,
     };
