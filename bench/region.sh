@@ -1,6 +1,7 @@
 #!/bin/sh
-# Times regions: ten thousand added links away from a region, a dense graph, and room for a patch that a
-# region has already. The program's links are not proved to be symmetric, so `rt try` runs it.
+# Times regions: building, and a repair after ten thousand links came elsewhere. What the program's links
+# are is not proved, so `rt try` interprets it: its figures tell one state of the code from another, run in
+# turn on one machine, and not how long a call takes when it is compiled.
 # Run from anywhere: sh bench/region.sh. It needs `rt`, and builds in a new folder under TMPDIR.
 . "$(dirname "$0")/common.sh"
 prepare region_bench 'ifmap_region ifmap_steps'
@@ -66,7 +67,7 @@ fn time_region<R: Runtime, L: Ledger>(rt: &R, alloc: Global, width: u64, layers:
     let mut steps: Steps<L> = Steps::from_blank(blank);
     let graph = Layers { width, layers };
     let mut built = u128::MAX;
-    for _ in 0..5 {
+    for _ in 0..3 {
         let start = Instant::now(rt)?;
         let region = build(alloc, 0, 1_000_000, &graph, &mut steps).map_err(io::Error::from)?;
         built = built.min(start.elapsed(rt)?.as_micros());
@@ -82,7 +83,7 @@ fn time_region<R: Runtime, L: Ledger>(rt: &R, alloc: Global, width: u64, layers:
         flips.push(Flip { a, b: a ^ 1, added: true }).map_err(io::Error::from)?;
     }
     let mut repaired = u128::MAX;
-    for _ in 0..5 {
+    for _ in 0..3 {
         let start = Instant::now(rt)?;
         let patch = repair(alloc, &region, &graph, flips.as_slice(), &mut steps).map_err(io::Error::from)?;
         repaired = repaired.min(start.elapsed(rt)?.as_micros());
@@ -99,9 +100,7 @@ fn time_one<R: Runtime>(rt: &R, alloc: Global, width: u64, layers: u64) -> io::R
 fn main(rt: HostRuntime) -> io::Result<()> {
     let alloc = rt.alloc();
     time_one(&rt, alloc, 1, 100)?;
-    time_one(&rt, alloc, 1, 100_000)?;
-    time_one(&rt, alloc, 100, 100)?;
-    time_one(&rt, alloc, 1000, 3)?;
+    time_one(&rt, alloc, 20, 10)?;
     Ok(())
 }
 RATTLE

@@ -20,7 +20,8 @@ loop-flip-preserved c v w h =
       | inr p ↦ elim c.if-flip.branch [
         | then-flip+else-not-has_link+else-not-has_link-2 s ↦ elim p.1 [
           | inl e ↦ subst (λ (y : ℕ). links v y) e.1 (subst (λ (x : ℕ). links x f.b) e.0 (s.has_link.ensures s.if-not-has_link.false))
-          | inr e ↦ subst (λ (y : ℕ). links v y) e.0 (subst (λ (x : ℕ). links x f.a) e.1 (s.has_link-else-not-has_link.ensures s.if-not-has_link-2.false))
+          | inr e ↦ subst (λ (y : ℕ). links v y) e.0 (subst (λ (x : ℕ). links x f.a) e.1 (s.has_link-else-not-has_link.ensures
+              s.if-not-has_link-2.false))
         ]
         | else-flip s ↦ absurd (true≢false (sym p.0 ∙ s.if-flip.false))
       ]
