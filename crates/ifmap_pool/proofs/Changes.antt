@@ -55,13 +55,15 @@ module _ {K : Type 0} where
     whole_now = is_pool slots pool live_is total order kept.indexed (omega (arith, kept.within, limit_is))
 
     -- where a key is missed there is room for it
-    pub room_for_new : (key : K) (place : ℕ) → IsPlace cmp (slot_at slots) order key (Err place) → (0 < pool.spare) ⊎ IsPresent cmp pool key → slot_count slots < limit
+    pub room_for_new : (key : K) (place : ℕ) → IsPlace cmp (slot_at slots) order key (Err place)
+        → (0 < pool.spare) ⊎ IsPresent cmp pool key → slot_count slots < limit
     room_for_new key place missing (inl some) = omega (arith, some, spare_is, kept.counted)
     room_for_new key place missing (inr present) =
         absurd (absent_at slots pool live_is total order kept.indexed key place missing present.0 present.1)
 
     -- the count of a number is written
-    module _ (number : ℕ) (old value : Held K) (was : slot_at slots number ≡ Some old) (same : value.key ≡ old.key) (held : 0 < value.holds)
+    module _ (number : ℕ) (old value : Held K) (was : slot_at slots number ≡ Some old) (same : value.key ≡ old.key) (held : 0 <
+        value.holds)
         (after : List (Option (Held K))) (wrote : after ≡ set slots number (Some value)) where
       pub is_written : Writes slots after number (Some value)
       is_written = subst (λ (s : List (Option (Held K))). Writes slots s number (Some value)) (sym wrote)
@@ -69,8 +71,10 @@ module _ {K : Type 0} where
 
       pub kept_write : IsKept cmp after free order len limit
       kept_write = record {
-        indexed = IsIndexed-written total (slot_at slots) (slot_at after) order kept.indexed number old value was is_written.changed same held is_written.others;
-        free_slots = subst (λ (s : List (Option (Held K))). AreFree s free) (sym wrote) (free_written slots free number old value was kept.free_slots);
+        indexed = IsIndexed-written total (slot_at slots) (slot_at after) order kept.indexed number old value was is_written.changed same
+            held is_written.others;
+        free_slots = subst (λ (s : List (Option (Held K))). AreFree s free) (sym wrote) (free_written slots free number old value was
+            kept.free_slots);
         counted =
             let all = count_written slots number (Some value) (slot_within slots number (IsSome-from _ old was)) in
             let had = ap one_of was in
@@ -80,19 +84,22 @@ module _ {K : Type 0} where
 
       pub seen_write : seen after len limit ≡ record pool { live = map.insert pool.live number (value.key, value.holds) }
       seen_write = same_holdings _ _
-          (live_of-set slots after number value is_written.changed is_written.others ∙ ap (λ (p : Holdings K). map.insert p.live number (value.key, value.holds)) is)
+          (live_of-set slots after number value is_written.changed is_written.others ∙ ap (λ (p : Holdings K). map.insert p.live number
+              (value.key, value.holds)) is)
           spare_is limit_is
 
     -- a free number is taken
     module _ (number place : ℕ) (value : Held K) (vacant : slot_at slots number ≡ None) (once : value.holds ≡ 1)
         (room : slot_count slots < limit) (found : IsPlace cmp (slot_at slots) order value.key (Err place))
         (after : List (Option (Held K))) (rest items : List ℕ) (longer : ℕ)
-        (writes : Writes slots after number (Some value)) (are_free : AreFree after rest) (counted : slot_count after ≡ slot_count slots + 1)
+        (writes : Writes slots after number (Some value)) (are_free : AreFree after rest) (counted : slot_count after ≡ slot_count slots
+            + 1)
         (inside : length after ≤ limit) (listed : items ≡ lists.insert order place number) (long : longer ≡ len + 1) where
       pub kept_take : IsKept cmp after rest items longer limit
       kept_take = record {
         indexed = rw listed
-            (IsIndexed-inserted total (slot_at slots) (slot_at after) order kept.indexed number place value vacant writes.changed (omega (arith, once)) writes.others
+            (IsIndexed-inserted total (slot_at slots) (slot_at after) order kept.indexed number place value vacant writes.changed (omega
+                (arith, once)) writes.others
             found.0 found.1 found.2);
         free_slots = are_free;
         counted = omega (arith, kept.counted, counted, long);
@@ -113,10 +120,12 @@ module _ {K : Type 0} where
     module _ (number place : ℕ) (here : place < length order) (stood : get_or order place 0 ≡ number)
         (after : List (Option (Held K))) (rest items : List ℕ) (shorter : ℕ)
         (writes : Writes slots after number None) (are_free : AreFree after rest) (counted : slot_count after + 1 ≡ slot_count slots)
-        (same : length after ≡ length slots) (listed : items ≡ lists.remove order place) (short : shorter + 1 ≡ len) (room : len ≤ limit) where
+        (same : length after ≡ length slots) (listed : items ≡ lists.remove order place) (short : shorter + 1 ≡ len) (room : len ≤ limit)
+            where
       pub kept_free : IsKept cmp after rest items shorter limit
       kept_free = record {
-        indexed = rw listed (IsIndexed-removed total (slot_at slots) (slot_at after) order kept.indexed number place here stood writes.changed writes.others);
+        indexed = rw listed (IsIndexed-removed total (slot_at slots) (slot_at after) order kept.indexed number place here stood
+            writes.changed writes.others);
         free_slots = are_free;
         counted = omega (arith, kept.counted, counted, short);
         within = omega (arith, kept.within, same);

@@ -21,14 +21,16 @@ module _ {K : Type 0} where
       → slot_count (set slots number slot) + one_of (slot_at slots number) ≡ slot_count slots + one_of slot
   count_written slots number slot within = sum_by-set one_of slots number slot None within
 
-  pub written : (slots : List (Option (Held K))) (number : ℕ) (slot : Option (Held K)) → number < length slots → Writes slots (set slots number slot) number slot
+  pub written : (slots : List (Option (Held K))) (number : ℕ) (slot : Option (Held K)) → number < length slots
+      → Writes slots (set slots number slot) number slot
   written slots number slot within = record {
     changed = get_or-set_same slots number slot None within;
     others = λ other differs. get_or-set_other slots number other slot None differs;
   }
 
   -- the last of the free numbers is taken
-  module _ (slots : List (Option (Held K))) (free rest : List ℕ) (number : ℕ) (is : free ≡ rest ++ number ∷ []) (f : AreFree slots free) where
+  module _ (slots : List (Option (Held K))) (free rest : List ℕ) (number : ℕ) (is : free ≡ rest ++ number ∷ []) (f : AreFree slots free)
+      where
     long : length free ≡ length rest + 1
     long = ap length is ∙ length_push rest number
 
@@ -52,8 +54,10 @@ module _ {K : Type 0} where
 
     pub free_filled : (held : Held K) → AreFree (set slots number (Some held)) rest
     free_filled held = record {
-      apart = λ i j lt within e. f.apart i j lt (omega (arith, long, within)) (before i (omega (arith, lt, within)) ∙ e ∙ sym (before j within));
-      within = λ i lt. let inside = f.within i (omega (arith, long, lt)) in let same = before i lt in omega (arith, inside, same, length-set slots number (Some held));
+      apart = λ i j lt within e. f.apart i j lt (omega (arith, long, within)) (before i (omega (arith, lt, within)) ∙ e ∙ sym (before j
+          within));
+      within = λ i lt. let inside = f.within i (omega (arith, long, lt)) in let same = before i lt in omega (arith, inside, same,
+          length-set slots number (Some held));
       empty = λ i lt.
           let apart : get_or rest i 0 ≢ number = λ e. f.apart i (length rest) lt (omega (arith, long)) (before i lt ∙ e ∙ sym last) in
           get_or-set_other slots number (get_or rest i 0) (Some held) None apart

@@ -19,15 +19,19 @@ module _ {K : Type 0} where
   pub holds_none : (pool : Holdings K) (number : ℕ) → entry_at pool number ≡ None → holds_at pool number ≡ 0
   holds_none pool number is = ap (λ (o : Option (K × ℕ)). unwrap_or (option_map (λ x. x.1) o) 0) is
 
-  pub holds_same : (pool other : Holdings K) (number : ℕ) → entry_at pool number ≡ entry_at other number → holds_at pool number ≡ holds_at other number
+  pub holds_same : (pool other : Holdings K) (number : ℕ) → entry_at pool number ≡ entry_at other number
+      → holds_at pool number ≡ holds_at other number
   holds_same pool other number is = ap (λ (o : Option (K × ℕ)). unwrap_or (option_map (λ x. x.1) o) 0) is
 
   -- the entry of a number that is put in, and those of others
-  pub entry_put : (pool : Holdings K) (old : Holdings K) (number : ℕ) (entry : K × ℕ) → pool.live ≡ insert old.live number entry → entry_at pool number ≡ Some entry
+  pub entry_put : (pool : Holdings K) (old : Holdings K) (number : ℕ) (entry : K × ℕ) → pool.live ≡ insert old.live number entry
+      → entry_at pool number ≡ Some entry
   entry_put pool old number entry is =
-      ap (λ l. get l number) is ∙ get-insert nat_cmp_total old.live number entry number ∙ ap (λ b. cond b (Some entry) (get old.live number)) (tied number)
+      ap (λ l. get l number) is ∙ get-insert nat_cmp_total old.live number entry number ∙ ap (λ b. cond b (Some entry) (get old.live
+          number)) (tied number)
 
-  pub entry_other : (pool : Holdings K) (old : Holdings K) (number other : ℕ) (entry : K × ℕ) → pool.live ≡ insert old.live number entry → other ≢ number
+  pub entry_other : (pool : Holdings K) (old : Holdings K) (number other : ℕ) (entry : K × ℕ)
+      → pool.live ≡ insert old.live number entry → other ≢ number
       → entry_at pool other ≡ entry_at old other
   entry_other pool old number other entry is differs =
       ap (λ l. get l other) is ∙ get-insert nat_cmp_total old.live number entry other
@@ -61,12 +65,15 @@ module _ {K : Type 0} {cmp : K → K → Ordering} (total : IsTotalOrder cmp) wh
   pub tied_on : (first key other : K) → cmp first key ≡ Equal → cmp key other ≡ Equal → cmp first other ≡ Equal
   tied_on first key other e f = total.congr first key other e ∙ f
 
-  module _ (old new : Holdings K) (number : ℕ) (key : K) (holds : HoldsOne cmp old new number key) (before : IsPool cmp old) (whole : IsPool cmp new) where
+  module _ (old new : Holdings K) (number : ℕ) (key : K) (holds : HoldsOne cmp old new number key) (before : IsPool cmp old) (whole :
+      IsPool cmp new) where
     -- the entry of the number, before and afterwards
-    change : ((entry : K × ℕ) × (entry_at old number ≡ Some entry) × (cmp entry.0 key ≡ Equal) × (entry_at new number ≡ Some (entry.0, entry.1 + 1)))
+    change : ((entry : K × ℕ) × (entry_at old number ≡ Some entry) × (cmp entry.0 key ≡ Equal) × (entry_at new number ≡ Some (entry.0,
+        entry.1 + 1)))
         ⊎ ((entry_at old number ≡ None) × (entry_at new number ≡ Some (key, 1)))
     change = elim holds [
-      | inl h ↦ let n = h.0 in inl (n.0, n.1, n.2, entry_put new old number (n.0.0, n.0.1 + 1) (ap (λ (p : Holdings K). p.live) (h.1 n.0 n.1)))
+      | inl h ↦ let n = h.0 in inl (n.0, n.1, n.2, entry_put new old number (n.0.0, n.0.1 + 1) (ap (λ (p : Holdings K). p.live) (h.1 n.0
+          n.1)))
       | inr h ↦ inr (h.1.free, entry_put new old number (key, 1) h.1.live)
     ]
 
@@ -118,7 +125,8 @@ module _ {K : Type 0} {cmp : K → K → Ordering} (total : IsTotalOrder cmp) wh
 
     pub below : (v : ℕ) → holds_at new v ≤ holds_at old v + 1
     below v = elim (cases_eq v number) [
-      | inl same ↦ let p : holds_at new v ≡ holds_at old v + 1 = ap (holds_at new) same ∙ counted ∙ ap (λ x. holds_at old x + 1) (sym same) in omega (arith, p)
+      | inl same ↦ let p : holds_at new v ≡ holds_at old v + 1 = ap (holds_at new) same ∙ counted ∙ ap (λ x. holds_at old x + 1) (sym
+          same) in omega (arith, p)
       | inr differs ↦ let p = holds_same new old v (others v differs) in omega (arith, p)
     ]
 
@@ -127,8 +135,10 @@ module _ {K : Type 0} {cmp : K → K → Ordering} (total : IsTotalOrder cmp) wh
     held other n (inl h) = elim (tied_or_not key other) [
       | inl tie ↦
           let one = once_tied key other tie in
-          let same : h.0 ≡ number = whole.one_to_one h.0 number other (kept h.0 other h.1) (named.0, named.1, tied_on named.0.0 key other named.2 tie) in
-          let now : holds_at new h.0 ≡ holds_at old h.0 + 1 = ap (holds_at new) same ∙ counted ∙ ap (λ x. holds_at old x + 1) (sym same) in
+          let same : h.0 ≡ number = whole.one_to_one h.0 number other (kept h.0 other h.1) (named.0, named.1, tied_on named.0.0 key other
+              named.2 tie) in
+          let now : holds_at new h.0 ≡ holds_at old h.0 + 1 = ap (holds_at new) same ∙ counted ∙ ap (λ x. holds_at old x + 1) (sym same)
+              in
           inl (h.0, kept h.0 other h.1, omega (arith, now, h.2, one))
       | inr differs ↦
           let none = once_apart key other differs in

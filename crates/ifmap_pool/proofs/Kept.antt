@@ -1,4 +1,7 @@
 -- What stays of the list of numbers through a hold and a release.
+-- Plan: where what stands at a place of the list stood before an insert or a removal (`Moved`, `Closed`); what the order
+-- tells of places, numbers and searches (`one_place`, `one_number`, `none_missed`, `number_found`); that the list stays
+-- in order as a value is written, put in or taken out (`IsIndexed-written`, `IsIndexed-inserted`, `IsIndexed-removed`).
 use Rattle.std.proofs.Common.{◌≡◌, ◌≢◌, ◌⊎◌, ℕ, suc, ◌+◌, ◌-◌, ◌<◌, ◌≤◌, List, length, get_or, Option, Some, None, Ok, Err, Ordering, refl, sym, ap, subst, ◌∙◌, inl, inr, arith}
 use Rattle.std.proofs.lemmas.Bool.{cases_eq, cases_lt}
 use Rattle.std.proofs.lemmas.Cmp.{tied_itself, tied_back}
@@ -105,11 +108,13 @@ module _ {K : Type 0} {cmp : K → K → Ordering} (total : IsTotalOrder cmp) wh
     one_number m n a b at_m at_n e =
         let first = indexed.listed m (IsSome-from _ a at_m) in
         let second = indexed.listed n (IsSome-from _ b at_n) in
-        let same : first.0 ≡ second.0 = one_place first.0 second.0 a b first.1 second.1 (ap slot first.2 ∙ at_m) (ap slot second.2 ∙ at_n) e in
+        let same : first.0 ≡ second.0 = one_place first.0 second.0 a b first.1 second.1 (ap slot first.2 ∙ at_m) (ap slot second.2 ∙
+            at_n) e in
         sym first.2 ∙ ap (λ i. get_or order i 0) same ∙ second.2
 
     -- no value has a key that the search misses
-    pub none_missed : (key : K) (place : ℕ) → IsPlace cmp slot order key (Err place) → (number : ℕ) (held : Held K) → slot number ≡ Some held → cmp held.key key ≢ Equal
+    pub none_missed : (key : K) (place : ℕ) → IsPlace cmp slot order key (Err place) → (number : ℕ) (held : Held K)
+        → slot number ≡ Some held → cmp held.key key ≢ Equal
     none_missed key place missing number held is tie =
         let listed = indexed.listed number (IsSome-from _ held is) in
         let here : slot (get_or order listed.0 0) ≡ Some held = ap slot listed.2 ∙ is in
@@ -119,13 +124,15 @@ module _ {K : Type 0} {cmp : K → K → Ordering} (total : IsTotalOrder cmp) wh
         ]
 
     -- the value at the place that the search finds
-    pub place_held : (key : K) (place : ℕ) → IsPlace cmp slot order key (Ok place) → (number : ℕ) → get_or order place 0 ≡ number → (held : Held K) × (slot number ≡ Some held) × (cmp held.key key ≡ Equal)
+    pub place_held : (key : K) (place : ℕ) → IsPlace cmp slot order key (Ok place) → (number : ℕ) → get_or order place 0 ≡ number
+        → (held : Held K) × (slot number ≡ Some held) × (cmp held.key key ≡ Equal)
     place_held key place found number stands =
         let there = some_from _ (indexed.live place found.0) in
         (there.0, sym (ap slot stands) ∙ there.1, found.1 there.0 there.1)
 
     -- the search finds a value's key at its number
-    pub number_found : (key : K) (place : ℕ) → IsPlace cmp slot order key (Ok place) → (number : ℕ) (held : Held K) → slot number ≡ Some held → cmp held.key key ≡ Equal → get_or order place 0 ≡ number
+    pub number_found : (key : K) (place : ℕ) → IsPlace cmp slot order key (Ok place) → (number : ℕ) (held : Held K)
+        → slot number ≡ Some held → cmp held.key key ≡ Equal → get_or order place 0 ≡ number
     number_found key place found number held is tie =
         let there = some_from _ (indexed.live place found.0) in
         one_number _ number there.0 held there.1 is (total.congr _ _ held.key (found.1 there.0 there.1) ∙ tied_back total _ _ tie)
@@ -139,11 +146,14 @@ module _ {K : Type 0} {cmp : K → K → Ordering} (total : IsTotalOrder cmp) wh
         rising = λ i j a b before within at_i at_j.
             let first = earlier _ a at_i in
             let second = earlier _ b at_j in
-            ap (λ k. cmp k b.key) first.2 ∙ ap (cmp first.0.key) second.2 ∙ indexed.rising i j first.0 second.0 before within first.1 second.1;
+            ap (λ k. cmp k b.key) first.2 ∙ ap (cmp first.0.key) second.2 ∙ indexed.rising i j first.0 second.0 before within first.1
+                second.1;
         live = λ i within. let there = some_from _ (indexed.live i within) in later _ there.0 there.1;
-        listed = λ n some. let there = some_from _ some in let before = earlier n there.0 there.1 in indexed.listed n (IsSome-from _ before.0 before.1);
+        listed = λ n some. let there = some_from _ some in let before = earlier n there.0 there.1 in indexed.listed n (IsSome-from _
+            before.0 before.1);
         held = λ n entry at_n. elim (cases_eq n number) [
-          | inl here ↦ let one : value ≡ entry = same_Some _ _ (sym is ∙ sym (ap new here) ∙ at_n) in subst (λ (h : Held K). 0 < h.holds) one held
+          | inl here ↦ let one : value ≡ entry = same_Some _ _ (sym is ∙ sym (ap new here) ∙ at_n) in subst (λ (h : Held K). 0 < h.holds)
+              one held
           | inr differs ↦ indexed.held n entry (sym (others n differs) ∙ at_n)
         ];
       }
@@ -173,7 +183,8 @@ module _ {K : Type 0} {cmp : K → K → Ordering} (total : IsTotalOrder cmp) wh
         rising = λ i j a b before j_in at_i at_j.
             elim (source i (omega (arith, length-insert order place number within))) [
               | inl old_i ↦ elim (source j (omega (arith, length-insert order place number within))) [
-                | inl old_j ↦ indexed.rising old_i.from old_j.from a b (in_order i j old_i old_j before) old_j.within (was_at i a old_i at_i) (was_at j b old_j at_j)
+                | inl old_j ↦ indexed.rising old_i.from old_j.from a b (in_order i j old_i old_j before) old_j.within (was_at i a old_i
+                    at_i) (was_at j b old_j at_j)
                 | inr here ↦
                     let one : value ≡ b = same_Some _ _ (sym is ∙ sym (ap new here.1) ∙ at_j) in
                     sym (ap (λ (h : Held K). cmp a.key h.key) one) ∙ below old_i.from a (omega arith) (was_at i a old_i at_i)
@@ -181,7 +192,8 @@ module _ {K : Type 0} {cmp : K → K → Ordering} (total : IsTotalOrder cmp) wh
               | inr here ↦ elim (source j (omega (arith, length-insert order place number within))) [
                 | inl old_j ↦
                     let one : value ≡ a = same_Some _ _ (sym is ∙ sym (ap new here.1) ∙ at_i) in
-                    sym (ap (λ (h : Held K). cmp h.key b.key) one) ∙ Less-from_greater total _ _ (above old_j.from b (omega arith) old_j.within (was_at j b old_j at_j))
+                    sym (ap (λ (h : Held K). cmp h.key b.key) one) ∙ Less-from_greater total _ _ (above old_j.from b (omega arith)
+                        old_j.within (was_at j b old_j at_j))
                 | inr also ↦ absurd (omega arith)
               ]
             ];
@@ -192,16 +204,20 @@ module _ {K : Type 0} {cmp : K → K → Ordering} (total : IsTotalOrder cmp) wh
           | inr here ↦ IsSome-from _ value (ap new here.1 ∙ is)
         ];
         listed = λ n some. elim (cases_eq n number) [
-          | inl here ↦ (place, omega (arith, length-insert order place number within), get_or-insert_at order place number 0 within ∙ sym here)
+          | inl here ↦ (place, omega (arith, length-insert order place number within), get_or-insert_at order place number 0 within ∙ sym
+              here)
           | inr differs ↦
               let there = indexed.listed n (subst (λ (o : Option (Held K)). IsSome o) (others n differs) some) in
               elim (cases_lt there.0 place) [
-                | inl before ↦ (there.0, omega (arith, length-insert order place number within, there.1), get_or-insert_below order place number 0 there.0 before within ∙ there.2)
-                | inr past ↦ (there.0 + 1, omega (arith, length-insert order place number within, there.1), get_or-insert_above order place number 0 there.0 past within ∙ there.2)
+                | inl before ↦ (there.0, omega (arith, length-insert order place number within, there.1), get_or-insert_below order place
+                    number 0 there.0 before within ∙ there.2)
+                | inr past ↦ (there.0 + 1, omega (arith, length-insert order place number within, there.1), get_or-insert_above order
+                    place number 0 there.0 past within ∙ there.2)
               ]
         ];
         held = λ n entry at_n. elim (cases_eq n number) [
-          | inl here ↦ let one : value ≡ entry = same_Some _ _ (sym is ∙ sym (ap new here) ∙ at_n) in subst (λ (h : Held K). 0 < h.holds) one held
+          | inl here ↦ let one : value ≡ entry = same_Some _ _ (sym is ∙ sym (ap new here) ∙ at_n) in subst (λ (h : Held K). 0 < h.holds)
+              one held
           | inr differs ↦ indexed.held n entry (sym (others n differs) ∙ at_n)
         ];
       }
@@ -218,10 +234,12 @@ module _ {K : Type 0} {cmp : K → K → Ordering} (total : IsTotalOrder cmp) wh
           let there = some_from _ (indexed.live k k_in) in
           none-some there.0 (sym was ∙ sym (ap slot same) ∙ there.1))
 
-      source : (k : ℕ) → k < length order + 1 → Moved order place number k ⊎ ((k ≡ place) × (get_or (insert order place number) k 0 ≡ number))
+      source : (k : ℕ) → k < length order + 1 → Moved order place number k ⊎ ((k ≡ place) × (get_or (insert order place number) k 0 ≡
+          number))
       source k = moved order place number k within
 
-      was_at : (k : ℕ) (a : Held K) (s : Moved order place number k) → new (get_or (insert order place number) k 0) ≡ Some a → slot (get_or order s.from 0) ≡ Some a
+      was_at : (k : ℕ) (a : Held K) (s : Moved order place number k) → new (get_or (insert order place number) k 0) ≡ Some a
+          → slot (get_or order s.from 0) ≡ Some a
       was_at k a s at_k = sym (kept s.from s.within) ∙ sym (ap new s.is) ∙ at_k
 
   -- a number is freed
@@ -234,7 +252,8 @@ module _ {K : Type 0} {cmp : K → K → Ordering} (total : IsTotalOrder cmp) wh
         rising = λ i j a b before j_in at_i at_j.
             let first = closed order place i within (omega (arith, length-remove order place within)) in
             let second = closed order place j within (omega (arith, length-remove order place within)) in
-            indexed.rising first.from second.from a b (in_order i j first second before) second.within (was_at i a first at_i) (was_at j b second at_j);
+            indexed.rising first.from second.from a b (in_order i j first second before) second.within (was_at i a first at_i) (was_at j
+                b second at_j);
         live = λ i i_in.
             let from = closed order place i within (omega (arith, length-remove order place within)) in
             let there = some_from _ (indexed.live from.from from.within) in
@@ -245,10 +264,12 @@ module _ {K : Type 0} {cmp : K → K → Ordering} (total : IsTotalOrder cmp) wh
             let before = indexed.listed n (IsSome-from _ there.0 (sym (others n differs) ∙ there.1)) in
             let elsewhere : before.0 ≢ place = λ same. differs (sym before.2 ∙ ap (λ i. get_or order i 0) same ∙ stood) in
             elim (cases_lt before.0 place) [
-              | inl front ↦ (before.0, omega (arith, length-remove order place within, before.1), get_or-remove_below order place 0 before.0 front within ∙ before.2)
+              | inl front ↦ (before.0, omega (arith, length-remove order place within, before.1), get_or-remove_below order place 0
+                  before.0 front within ∙ before.2)
               | inr past ↦
                   let next : (before.0 - 1) + 1 ≡ before.0 = omega arith in
-                  (before.0 - 1, omega (arith, length-remove order place within, before.1), get_or-remove_above order place 0 (before.0 - 1) (omega arith) within ∙ ap (λ i. get_or order i 0) next ∙ before.2)
+                  (before.0 - 1, omega (arith, length-remove order place within, before.1), get_or-remove_above order place 0 (before.0 -
+                      1) (omega arith) within ∙ ap (λ i. get_or order i 0) next ∙ before.2)
             ];
         held = λ n entry at_n.
             let differs : n ≢ number = λ same. none-some entry (sym none ∙ sym (ap new same) ∙ at_n) in
@@ -266,8 +287,10 @@ module _ {K : Type 0} {cmp : K → K → Ordering} (total : IsTotalOrder cmp) wh
       kept k s = others _ (λ same.
           let there = some_from _ (indexed.live s.from s.within) in
           let here : slot (get_or order place 0) ≡ Some there.0 = ap slot (stood ∙ sym same) ∙ there.1 in
-          let one : s.from ≡ place = one_place slot order indexed s.from place there.0 there.0 s.within within there.1 here (tied_itself total there.0.key) in
+          let one : s.from ≡ place = one_place slot order indexed s.from place there.0 there.0 s.within within there.1 here (tied_itself
+              total there.0.key) in
           absurd (elim (cases_lt k place) [ inl front ↦ omega arith | inr past ↦ omega arith ]))
 
-      was_at : (k : ℕ) (a : Held K) (s : Closed order place k) → new (get_or (remove order place) k 0) ≡ Some a → slot (get_or order s.from 0) ≡ Some a
+      was_at : (k : ℕ) (a : Held K) (s : Closed order place k) → new (get_or (remove order place) k 0) ≡ Some a
+          → slot (get_or order s.from 0) ≡ Some a
       was_at k a s at_k = sym (kept k s) ∙ sym (ap new s.is) ∙ at_k

@@ -28,7 +28,8 @@ module _ {K : Type 0} where
       ap (λ b. cond b (Some (entry_of held)) (find nat_cmp q (listed (first + 1) rest))) (apart q first (omega arith))
       ∙ find_before (first + 1) q rest (omega arith)
 
-  find_listed : (first q k : ℕ) (slots : List (Option (Held K))) → q ≡ first + k → find nat_cmp q (listed first slots) ≡ option_map entry_of (get_or slots k None)
+  find_listed : (first q k : ℕ) (slots : List (Option (Held K))) → q ≡ first + k
+      → find nat_cmp q (listed first slots) ≡ option_map entry_of (get_or slots k None)
   find_listed first q k [] e = refl
   find_listed first q zero (None ∷ rest) e = find_before (first + 1) q rest (omega arith)
   find_listed first q (suc k) (None ∷ rest) e = find_listed (first + 1) q k rest (omega arith)
@@ -40,7 +41,8 @@ module _ {K : Type 0} where
       ∙ find_listed (first + 1) q k rest (omega arith)
 
   -- the map has at a number what its slot has
-  pub get-live_of : (slots : List (Option (Held K))) (number : ℕ) → get (live_of slots) number ≡ option_map entry_of (get_or slots number None)
+  pub get-live_of : (slots : List (Option (Held K))) (number : ℕ) → get (live_of slots) number ≡ option_map entry_of (get_or slots number
+      None)
   unfolding live_of
   get-live_of slots number = get-from_entries nat_cmp_total (listed 0 slots) number ∙ find_listed 0 number number slots (omega arith)
 

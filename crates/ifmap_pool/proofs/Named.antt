@@ -17,7 +17,8 @@ module _ {K : Type 0} where
   pub same_holdings : (a b : Holdings K) → a.live ≡ b.live → a.spare ≡ b.spare → a.limit ≡ b.limit → a ≡ b
   same_holdings a b p q r = λ i. record { live = p i; spare = q i; limit = r i }
 
-  entry_some : (o : Option (Held K)) (entry : K × ℕ) → option_map entry_of o ≡ Some entry → (held : Held K) × (o ≡ Some held) × (entry_of held ≡ entry)
+  entry_some : (o : Option (Held K)) (entry : K × ℕ) → option_map entry_of o ≡ Some entry
+      → (held : Held K) × (o ≡ Some held) × (entry_of held ≡ entry)
   entry_some None entry e = absurd (cc)
   entry_some (Some held) entry e = (held, refl, same_Some _ _ e)
 
@@ -25,7 +26,8 @@ module _ {K : Type 0} where
   pub same_entry : (old new : List (Option (Held K))) (pool next : Holdings K) → pool.live ≡ live_of old → next.live ≡ live_of new
       → (number : ℕ) → get_or new number None ≡ get_or old number None → entry_at next number ≡ entry_at pool number
   same_entry old new pool next is now number e =
-      ap (λ m. get m number) now ∙ get-live_of new number ∙ ap (option_map entry_of) e ∙ sym (get-live_of old number) ∙ sym (ap (λ m. get m number) is)
+      ap (λ m. get m number) now ∙ get-live_of new number ∙ ap (option_map entry_of) e ∙ sym (get-live_of old number) ∙ sym (ap (λ m. get
+          m number) is)
 
   module _ (slots : List (Option (Held K))) (pool : Holdings K) (is : pool.live ≡ live_of slots) where
     pub entry_is : (number : ℕ) → entry_at pool number ≡ option_map entry_of (get_or slots number None)
@@ -38,20 +40,24 @@ module _ {K : Type 0} where
         by_cases None = refl
         by_cases (Some held) = refl
 
-    pub entry_from_slot : (number : ℕ) (held : Held K) → get_or slots number None ≡ Some held → entry_at pool number ≡ Some (held.key, held.holds)
+    pub entry_from_slot : (number : ℕ) (held : Held K) → get_or slots number None ≡ Some held
+        → entry_at pool number ≡ Some (held.key, held.holds)
     entry_from_slot number held e = entry_is number ∙ ap (option_map entry_of) e
 
-    pub slot_from_entry : (number : ℕ) (entry : K × ℕ) → entry_at pool number ≡ Some entry → (held : Held K) × (get_or slots number None ≡ Some held) × (entry_of held ≡ entry)
+    pub slot_from_entry : (number : ℕ) (entry : K × ℕ) → entry_at pool number ≡ Some entry
+        → (held : Held K) × (get_or slots number None ≡ Some held) × (entry_of held ≡ entry)
     slot_from_entry number entry e = entry_some _ entry (sym (entry_is number) ∙ e)
 
     pub holds_from_slot : (number : ℕ) (held : Held K) → get_or slots number None ≡ Some held → holds_at pool number ≡ held.holds
     holds_from_slot number held e = ap (λ o. unwrap_or (option_map (λ (entry : K × ℕ). entry.1) o) 0) (entry_from_slot number held e)
 
     pub holds_from_none : (number : ℕ) → get_or slots number None ≡ None → holds_at pool number ≡ 0
-    holds_from_none number e = ap (λ o. unwrap_or (option_map (λ (entry : K × ℕ). entry.1) o) 0) (entry_is number ∙ ap (option_map entry_of) e)
+    holds_from_none number e = ap (λ o. unwrap_or (option_map (λ (entry : K × ℕ). entry.1) o) 0) (entry_is number ∙ ap (option_map
+        entry_of) e)
 
     -- a live number has one entry
-    pub entry_known : (number : ℕ) (held : Held K) (entry : K × ℕ) → get_or slots number None ≡ Some held → entry_at pool number ≡ Some entry → (held.key, held.holds) ≡ entry
+    pub entry_known : (number : ℕ) (held : Held K) (entry : K × ℕ) → get_or slots number None ≡ Some held
+        → entry_at pool number ≡ Some entry → (held.key, held.holds) ≡ entry
     entry_known number held entry e there = same_Some _ _ (sym (entry_from_slot number held e) ∙ there)
 
     pub slot_from_live : (number : ℕ) → IsSome (entry_at pool number) → (held : Held K) × (get_or slots number None ≡ Some held)
@@ -61,20 +67,24 @@ module _ {K : Type 0} where
         (there.0, there.1)
 
     module _ (cmp : K → K → Ordering) where
-      pub names_from_slot : (number : ℕ) (held : Held K) (key : K) → get_or slots number None ≡ Some held → cmp held.key key ≡ Equal → Names cmp pool number key
+      pub names_from_slot : (number : ℕ) (held : Held K) (key : K) → get_or slots number None ≡ Some held → cmp held.key key ≡ Equal
+          → Names cmp pool number key
       names_from_slot number held key e tie = ((held.key, held.holds), entry_from_slot number held e, tie)
 
-      pub slot_from_names : (number : ℕ) (key : K) → Names cmp pool number key → (held : Held K) × (get_or slots number None ≡ Some held) × (cmp held.key key ≡ Equal)
+      pub slot_from_names : (number : ℕ) (key : K) → Names cmp pool number key
+          → (held : Held K) × (get_or slots number None ≡ Some held) × (cmp held.key key ≡ Equal)
       slot_from_names number key names =
           let there = slot_from_entry number names.0 names.1 in
           (there.0, there.1, ap (λ (entry : K × ℕ). cmp entry.0 key) there.2 ∙ names.2)
 
-    module _ {cmp : K → K → Ordering} (total : IsTotalOrder cmp) (order : List ℕ) (indexed : IsIndexed cmp (λ n. get_or slots n None) order) where
+    module _ {cmp : K → K → Ordering} (total : IsTotalOrder cmp) (order : List ℕ) (indexed : IsIndexed cmp (λ n. get_or slots n None)
+        order) where
       pub numbers_apart : OneToOne cmp pool
       numbers_apart first second key one other =
           let a = slot_from_names cmp first key one in
           let b = slot_from_names cmp second key other in
-          one_number total (λ n. get_or slots n None) order indexed first second a.0 b.0 a.1 b.1 (total.congr _ _ b.0.key a.2 ∙ tied_back total _ _ b.2)
+          one_number total (λ n. get_or slots n None) order indexed first second a.0 b.0 a.1 b.1 (total.congr _ _ b.0.key a.2 ∙ tied_back
+              total _ _ b.2)
 
       -- each number is below a limit that the slots do not pass, and is held
       pub is_pool : length slots ≤ pool.limit → IsPool cmp pool
@@ -92,7 +102,8 @@ module _ {K : Type 0} where
       }
 
       -- what a search tells
-      pub named_at : (key : K) (place : ℕ) → IsPlace cmp (λ n. get_or slots n None) order key (Ok place) → Names cmp pool (get_or order place 0) key
+      pub named_at : (key : K) (place : ℕ) → IsPlace cmp (λ n. get_or slots n None) order key (Ok place)
+          → Names cmp pool (get_or order place 0) key
       named_at key place found =
           let there = some_from _ (indexed.live place found.0) in
           names_from_slot cmp _ there.0 key there.1 (found.1 there.0 there.1)
@@ -103,7 +114,8 @@ module _ {K : Type 0} where
           none_missed total (λ n. get_or slots n None) order indexed key place missing number there.0 there.1 there.2
 
 -- what holds of a pool holds of one with the same numbers and a limit that is no lower
-pub pool_kept : {K : Type 0} (cmp : K → K → Ordering) (old new : Holdings K) → new.live ≡ old.live → old.limit ≤ new.limit → IsPool cmp old → IsPool cmp new
+pub pool_kept : {K : Type 0} (cmp : K → K → Ordering) (old new : Holdings K) → new.live ≡ old.live → old.limit ≤ new.limit
+    → IsPool cmp old → IsPool cmp new
 pool_kept {K} cmp old new same le whole = record {
   one_to_one = λ first second key one other. whole.one_to_one first second key (back first key one) (back second key other);
   below = λ number live. let inside = whole.below number (ap is_some (sym (entry number)) ∙ live) in omega (arith, inside, le);

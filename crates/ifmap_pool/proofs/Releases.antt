@@ -18,13 +18,15 @@ module _ {K : Type 0} (old new : Holdings K) (number : ℕ) (goes : LetsOneGo ol
   change : ((goes.0.1 ≡ 1) × (entry_at new number ≡ None)) ⊎ ((1 < goes.0.1) × (entry_at new number ≡ Some (goes.0.0, goes.0.1 - 1)))
   change = elim goes.2 [
     | inl h ↦ inr (h.0, entry_put new old number (goes.0.0, goes.0.1 - 1) (ap (λ (p : Holdings K). p.live) (h.1 goes.0 goes.1 h.0)))
-    | inr h ↦ inl (h.0, ap (λ l. get l number) h.1.live ∙ get-remove nat_cmp_total old.live number number ∙ ap (λ b. cond b None (get old.live number)) (tied number))
+    | inr h ↦ inl (h.0, ap (λ l. get l number) h.1.live ∙ get-remove nat_cmp_total old.live number number ∙ ap (λ b. cond b None (get
+        old.live number)) (tied number))
   ]
 
   pub kept : LetsGo old new number
   kept other is more = elim goes.2 [
     | inl h ↦ h.1 other is more
-    | inr h ↦ let same : other ≡ goes.0 = same_Some _ _ (sym is ∙ goes.1) in let one = ap (λ (e : K × ℕ). e.1) same in absurd (omega (arith, one, more, h.0))
+    | inr h ↦ let same : other ≡ goes.0 = same_Some _ _ (sym is ∙ goes.1) in let one = ap (λ (e : K × ℕ). e.1) same in absurd (omega
+        (arith, one, more, h.0))
   ]
 
   pub last : holds_at old number ≡ 1 → Frees old new number
@@ -42,7 +44,8 @@ module _ {K : Type 0} (old new : Holdings K) (number : ℕ) (goes : LetsOneGo ol
   pub others : (other : ℕ) → other ≢ number → entry_at new other ≡ entry_at old other
   others other differs = elim goes.2 [
     | inl h ↦ entry_other new old number other (goes.0.0, goes.0.1 - 1) (ap (λ (p : Holdings K). p.live) (h.1 goes.0 goes.1 h.0)) differs
-    | inr h ↦ ap (λ l. get l other) h.1.live ∙ get-remove nat_cmp_total old.live number other ∙ ap (λ b. cond b None (get old.live other)) (apart other number differs)
+    | inr h ↦ ap (λ l. get l other) h.1.live ∙ get-remove nat_cmp_total old.live number other ∙ ap (λ b. cond b None (get old.live
+        other)) (apart other number differs)
   ]
 
   pub spare_more : old.spare ≤ new.spare
@@ -72,7 +75,8 @@ module _ {K : Type 0} (old new : Holdings K) (number : ℕ) (goes : LetsOneGo ol
     held other n (inl h) = elim (tied_or_not total key other) [
       | inl tie ↦
           let one = once_tied total key other tie in
-          let same : h.0 ≡ number = before.one_to_one h.0 number other h.1 (mine.0, mine.1, tied_on total mine.0.0 key other mine.2 tie) in
+          let same : h.0 ≡ number = before.one_to_one h.0 number other h.1 (mine.0, mine.1, tied_on total mine.0.0 key other mine.2 tie)
+              in
           let had : holds_at old number ≡ n = ap (holds_at old) (sym same) ∙ h.2 in
           let was = holds_of old number goes.0 goes.1 in
           elim change [
@@ -86,7 +90,8 @@ module _ {K : Type 0} (old new : Holdings K) (number : ℕ) (goes : LetsOneGo ol
             )
             | inr p ↦
                 let names : Names cmp new number other =
-                (((goes.0.0, goes.0.1 - 1), p.1, ap (λ (e : K × ℕ). cmp e.0 other) my_entry ∙ tied_on total mine.0.0 key other mine.2 tie)) in
+                (((goes.0.0, goes.0.1 - 1), p.1, ap (λ (e : K × ℕ). cmp e.0 other) my_entry ∙ tied_on total mine.0.0 key other mine.2
+                    tie)) in
                 inl (number, names, omega (arith, one, had, counted))
           ]
       | inr differs ↦
@@ -99,7 +104,8 @@ module _ {K : Type 0} (old new : Holdings K) (number : ℕ) (goes : LetsOneGo ol
     ]
     held other n (inr h) = inr (
       (λ v names. elim (cases_eq v number) [
-        | inl same ↦ h.0 number (mine.0, mine.1, tied_on total mine.0.0 key other mine.2 (later_key other (subst (λ (x : ℕ). Names cmp new x other) same names)))
+        | inl same ↦ h.0 number (mine.0, mine.1, tied_on total mine.0.0 key other mine.2 (later_key other (subst (λ (x : ℕ). Names cmp
+            new x other) same names)))
         | inr elsewhere ↦ h.0 v (names.0, sym (others v elsewhere) ∙ names.1, names.2)
       ]),
       omega (arith, h.1),

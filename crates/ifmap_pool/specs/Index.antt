@@ -45,15 +45,18 @@ module _ {K : Type 0} where
 module _ {K : Type 0} (cmp : K → K → Ordering) (slot : ℕ → Option (Held K)) (order : List ℕ) where
   -- each key in front of this place is below the key
   abbrev pub AllBelow : K → ℕ → Type 0
-  AllBelow key place = (k : ℕ) (held : Held K) → k < place → slot (slice_index_or order k 0) ≡ Some held → cmp held.key key ≡ Less
+  AllBelow key place = (k : ℕ) (held : Held K) → k < place → slot (slice_index_or order k 0) ≡ Some held
+      → cmp held.key key ≡ Less
 
   -- each key from this place on is above the key
   abbrev pub AllAbove : K → ℕ → Type 0
-  AllAbove key place = (k : ℕ) (held : Held K) → place ≤ k → k < length order → slot (slice_index_or order k 0) ≡ Some held → cmp held.key key ≡ Greater
+  AllAbove key place = (k : ℕ) (held : Held K) → place ≤ k → k < length order
+      → slot (slice_index_or order k 0) ≡ Some held → cmp held.key key ≡ Greater
 
   -- the key is found at this place, or would stand in front of it
   abbrev pub IsPlace : K → Result ℕ ℕ → Type 0
-  IsPlace key (Ok place) = (place < length order) × ((held : Held K) → slot (slice_index_or order place 0) ≡ Some held → cmp held.key key ≡ Equal)
+  IsPlace key (Ok place) = (place < length order) × ((held : Held K)
+      → slot (slice_index_or order place 0) ≡ Some held → cmp held.key key ≡ Equal)
   IsPlace key (Err place) = (place ≤ length order) × AllBelow key place × AllAbove key place
 
   -- the list has each number with a value, and no other, by rising keys; each value is held
@@ -61,11 +64,13 @@ module _ {K : Type 0} (cmp : K → K → Ordering) (slot : ℕ → Option (Held 
     pub rising : (i j : ℕ) (a b : Held K) → i < j → j < length order
         → slot (slice_index_or order i 0) ≡ Some a → slot (slice_index_or order j 0) ≡ Some b → cmp a.key b.key ≡ Less
     pub live : (i : ℕ) → i < length order → IsSome (slot (slice_index_or order i 0))
-    pub listed : (number : ℕ) → IsSome (slot number) → (i : ℕ) × (i < length order) × (slice_index_or order i 0 ≡ number)
+    pub listed : (number : ℕ) → IsSome (slot number) → (i : ℕ) × (i < length order) × (slice_index_or order i 0 ≡
+        number)
     pub held : (number : ℕ) (value : Held K) → slot number ≡ Some value → 0 < value.holds
 
 -- what holds of a pool's lists, of the length of its order, and of how many keys there is room for
-pub record IsKept {K : Type 0} (cmp : K → K → Ordering) (slots : List (Option (Held K))) (free order : List ℕ) (len limit : ℕ) : Type 0 where
+pub record IsKept {K : Type 0} (cmp : K → K → Ordering) (slots : List (Option (Held K))) (free order : List ℕ) (len
+    limit : ℕ) : Type 0 where
   pub indexed : IsIndexed cmp (slot_at slots) order
   pub free_slots : AreFree slots free
   pub counted : slot_count slots ≡ len

@@ -1,4 +1,7 @@
 -- What one number that is looked at changes, with the steps that it takes.
+-- Plan: the steps are charged to what was looked at, and once more to what is gone (`looked_more`, `spent_now`).
+-- Each way in which a look ends keeps the whole state (`cutting_passed`, `cutting_held`, `cutting_followed`,
+-- `cutting_ended`); then the beginning, a level that comes out, and the end of a level.
 use Rattle.std.proofs.Common.{◌≡◌, ◌≢◌, ℕ, suc, ◌+◌, ◌*◌, ◌<◌, ◌≤◌, Bool, true, false, Option, Some, None, List, [], ◌∷◌, ◌++◌, Contains, sum_by, is_some, ◌⊎◌, inl, inr, refl, sym, ap, subst, ◌∙◌, arith, true≢false}
 use Rattle.std.specs.Prelude.{IsSome}
 use Rattle.std.proofs.lemmas.Option.{same_Some, none-some}
@@ -20,7 +23,7 @@ use Rattle.ifmap_region.specs.Spreading.{waiting}
 use Rattle.ifmap_region.specs.Losing.{Follows, AreGone, IsLookedAt, IsBeforeCut, IsCutting}
 use Rattle.ifmap_region.proofs.Lost.{losing_passed, losing_held, losing_gone, moved_here}
 use Rattle.ifmap_region.proofs.Ready.{waiting_out, waiting_in, waiting_first}
-use Rattle.ifmap_region.specs.General.{distinct_cons, distinct_push, sum_within}
+use Rattle.ifmap_region.specs.Distinct.{distinct_cons, distinct_push, sum_within}
 
 pub some_row : (o : Option (Option ℕ)) → IsSome o → (r : Option ℕ) × (o ≡ Some r)
 some_row None h = absurd (true≢false (sym h))
@@ -45,7 +48,8 @@ module _ (count : ℕ → ℕ) (rows rows' : List (ℕ × Option ℕ)) (gone : L
       → IsLookedAt count rows gone before steps → IsLookedAt count rows' gone' before after
   looked_more gone' r before steps after here le l = record {
     numbers = v ∷ l.numbers;
-    distinct = distinct_cons v l.numbers (All-weaker (λ (x : ℕ). IsSome (row_of rows x)) (λ (x : ℕ). v ≢ x) unlooked l.numbers l.among) l.distinct;
+    distinct = distinct_cons v l.numbers (All-weaker (λ (x : ℕ). IsSome (row_of rows x)) (λ (x : ℕ). v ≢ x) unlooked l.numbers l.among)
+        l.distinct;
     among = All-cons (λ (x : ℕ). IsSome (row_of rows' x)) v l.numbers (is_some_row (row_of rows' v) r here)
         (All-weaker (λ (x : ℕ). IsSome (row_of rows x)) (λ (x : ℕ). IsSome (row_of rows' x)) (still_rowed r here) l.numbers l.among);
     all = λ x h. elim (cases_eq x v) [
@@ -82,8 +86,10 @@ module _ (links : ℕ → ℕ → Type 0) (terminal : ℕ → Bool) (count : ℕ
   abbrev IsNear : ℕ → Type 0
   IsNear = NearOneWay flips false (WithRemoved links flips) links terminal start top
 
-  gone_within : (rows : List (ℕ × Option ℕ)) (gone : List ℕ) (before after : ℕ) → AreGone rows gone → (c : IsLookedAt count rows gone before after) → sum_by count gone ≤ sum_by count c.numbers
-  gone_within rows gone before after g c = sum_within count gone c.numbers g.distinct (λ x h. c.all x (is_some_row (row_of rows x) None (g.only x h)))
+  gone_within : (rows : List (ℕ × Option ℕ)) (gone : List ℕ) (before after : ℕ) → AreGone rows gone
+      → (c : IsLookedAt count rows gone before after) → sum_by count gone ≤ sum_by count c.numbers
+  gone_within rows gone before after g c = sum_within count gone c.numbers g.distinct (λ x h. c.all x (is_some_row (row_of rows x) None
+      (g.only x h)))
 
   looked_near : (rows : List (ℕ × Option ℕ)) (gone : List ℕ) (waits : ℕ → ℕ → Type 0) (level before after : ℕ)
       → IsCutting links terminal count flips start top first rows gone waits level before after
@@ -107,11 +113,14 @@ module _ (links : ℕ → ℕ → Type 0) (terminal : ℕ → Bool) (count : ℕ
       → IsWithin count (NearOneWay flips false (WithRemoved links flips) links terminal start top) 2 before after
   spent_more rows gone waits level before steps after v unrowed waited le c = record {
     numbers = v ∷ c.charged.numbers;
-    distinct = distinct_cons v c.charged.numbers (All-weaker (λ (x : ℕ). IsSome (row_of rows x)) (λ (x : ℕ). v ≢ x) (unlooked count rows rows gone v unrowed (λ q apart. refl)) c.charged.numbers c.charged.among) c.charged.distinct;
-    among = All-cons (NearOneWay flips false (WithRemoved links flips) links terminal start top) v c.charged.numbers (c.losing.entered level v waited).2
+    distinct = distinct_cons v c.charged.numbers (All-weaker (λ (x : ℕ). IsSome (row_of rows x)) (λ (x : ℕ). v ≢ x) (unlooked count rows
+        rows gone v unrowed (λ q apart. refl)) c.charged.numbers c.charged.among) c.charged.distinct;
+    among = All-cons (NearOneWay flips false (WithRemoved links flips) links terminal start top) v c.charged.numbers (c.losing.entered
+        level v waited).2
         (All-weaker (λ (x : ℕ). IsSome (row_of rows x)) (NearOneWay flips false (WithRemoved links flips) links terminal start top)
         (looked_near rows gone waits level before steps c) c.charged.numbers c.charged.among);
-    bound = omega (arith, le, c.charged.bound, gone_within rows gone before steps c.are_gone c.charged, sum_by-cons count v c.charged.numbers);
+    bound = omega (arith, le, c.charged.bound, gone_within rows gone before steps c.are_gone c.charged, sum_by-cons count v
+        c.charged.numbers);
   }
 
 module _ (count : ℕ → ℕ) (link : ℕ → ℕ → Option ℕ) (terminal : ℕ → Bool) (flips : List Flip) (start top : ℕ) (first : ℕ → Option ℕ)
@@ -125,7 +134,8 @@ module _ (count : ℕ → ℕ) (link : ℕ → ℕ → Option ℕ) (terminal : �
   cutting_passed rows gone entries h c = let s = some_row (row_of rows v) h in record {
     losing = losing_passed (WithRemoved (Linked count link) flips) (Linked count link) terminal start top first b.depths (λ u w l. inl l)
         (NearOneWay flips false (WithRemoved (Linked count link) flips) (Linked count link) terminal start top)
-        rows (waiting level (v ∷ rest) entries) (waiting level rest entries) level v s.0 s.1 (waiting_out level v rest entries) (waiting_in level v rest entries) c.losing;
+        rows (waiting level (v ∷ rest) entries) (waiting level rest entries) level v s.0 s.1 (waiting_out level v rest entries)
+            (waiting_in level v rest entries) c.losing;
     are_gone = c.are_gone;
     charged = c.charged;
   }
@@ -139,7 +149,8 @@ module _ (count : ℕ → ℕ) (link : ℕ → ℕ → Option ℕ) (terminal : �
   cutting_held rows rows' gone entries unrowed here others h le c = record {
     losing = losing_held (WithRemoved (Linked count link) flips) (Linked count link) terminal start top first b.depths (λ u w l. inl l)
         (NearOneWay flips false (WithRemoved (Linked count link) flips) (Linked count link) terminal start top)
-        rows rows' (waiting level (v ∷ rest) entries) (waiting level rest entries) level v unrowed others (waiting_first level v rest entries) c.losing (waiting_out level v rest entries)
+        rows rows' (waiting level (v ∷ rest) entries) (waiting level rest entries) level v unrowed others (waiting_first level v rest
+            entries) c.losing (waiting_out level v rest entries)
         here (h.0, h.1, h.2, b.symmetric v h.0 h.3, h.4, h.5) (waiting_in level v rest entries);
     are_gone = gone_held count rows rows' gone v unrowed others level here c.are_gone;
     charged = looked_more count rows rows' gone v unrowed others gone (Some level) before steps after here (omega (arith, le)) c.charged;
@@ -149,24 +160,31 @@ module _ (count : ℕ → ℕ) (link : ℕ → ℕ → Option ℕ) (terminal : �
       (unrowed : row_of rows v ≡ None) (here : row_of rows' v ≡ Some None) (others : (q : ℕ) → q ≢ v → row_of rows' q ≡ row_of rows q)
       (not_held : (u d : ℕ) → level ≡ suc d → Linked count link v u → terminal u ≡ false → over rows first u ≡ Some d → ⊥)
       (le : after ≤ steps + 2 * count v)
-      (c : IsCutting (Linked count link) terminal count flips start top first rows gone (waiting level (v ∷ rest) entries) level before steps) where
+      (c : IsCutting (Linked count link) terminal count flips start top first rows gone (waiting level (v ∷ rest) entries) level before
+          steps) where
     cutting_gone : ((k x : ℕ) → waiting level (v ∷ rest) entries k x → ((k ≡ level) × (x ≡ v)) ⊎ waiting level rest entries' k x)
-        → ((k x : ℕ) → waiting level rest entries' k x → waiting level (v ∷ rest) entries k x ⊎ ((k ≡ level + 1) × (first x ≡ Some (level + 1)) × Linked count link v x))
-        → ((w : ℕ) → level < top → terminal v ≡ false → Linked count link v w → first w ≡ Some (level + 1) → waiting level rest entries' (level + 1) w)
-        → IsCutting (Linked count link) terminal count flips start top first rows' (gone ++ v ∷ []) (waiting level rest entries') level before after
+        → ((k x : ℕ) → waiting level rest entries' k x → waiting level (v ∷ rest) entries k x ⊎ ((k ≡ level + 1) × (first x ≡ Some (level
+            + 1)) × Linked count link v x))
+        → ((w : ℕ) → level < top → terminal v ≡ false → Linked count link v w → first w ≡ Some (level + 1)
+            → waiting level rest entries' (level + 1) w)
+        → IsCutting (Linked count link) terminal count flips start top first rows' (gone ++ v ∷ []) (waiting level rest entries') level
+            before after
     cutting_gone there back followed = record {
       losing = losing_gone (WithRemoved (Linked count link) flips) (Linked count link) terminal start top first b.depths (λ u w l. inl l)
           (NearOneWay flips false (WithRemoved (Linked count link) flips) (Linked count link) terminal start top)
-          rows rows' (waiting level (v ∷ rest) entries) (waiting level rest entries') level v unrowed others (waiting_first level v rest entries) c.losing there
+          rows rows' (waiting level (v ∷ rest) entries) (waiting level rest entries') level v unrowed others (waiting_first level v rest
+              entries) c.losing there
           unheld here near_back followed;
       are_gone = gone_gone count rows rows' gone v unrowed others here c.are_gone;
-      charged = looked_more count rows rows' gone v unrowed others (gone ++ v ∷ []) None before steps after here (omega (arith, le, sum_by_push count gone v)) c.charged;
+      charged = looked_more count rows rows' gone v unrowed others (gone ++ v ∷ []) None before steps after here (omega (arith, le,
+          sum_by_push count gone v)) c.charged;
     }
       where
         unheld : (u d : ℕ) → level ≡ suc d → Linked count link u v → terminal u ≡ false → over rows first u ≡ Some d → ⊥
         unheld u d is l t m = not_held u d is (b.symmetric u v l) t m
 
-        near_back : (k x : ℕ) → waiting level rest entries' k x → waiting level (v ∷ rest) entries k x ⊎ ((k ≡ level + 1) × (first x ≡ Some (level + 1)) × NearOneWay flips false (WithRemoved (Linked count link) flips) (Linked count link) terminal start top x)
+        near_back : (k x : ℕ) → waiting level rest entries' k x → waiting level (v ∷ rest) entries k x ⊎ ((k ≡ level + 1) × (first x ≡
+            Some (level + 1)) × NearOneWay flips false (WithRemoved (Linked count link) flips) (Linked count link) terminal start top x)
         near_back k x w = elim (back k x w) [
           | inl old ↦ inl old
           | inr p ↦ inr (
@@ -175,13 +193,15 @@ module _ (count : ℕ → ℕ) (link : ℕ → ℕ → Option ℕ) (terminal : �
             beside
                 (moved_here (WithRemoved (Linked count link) flips) (Linked count link) terminal start top first b.depths (λ u w l. inl l)
                 (NearOneWay flips false (WithRemoved (Linked count link) flips) (Linked count link) terminal start top)
-                rows rows' (waiting level (v ∷ rest) entries) (waiting level rest entries') level v unrowed others (waiting_first level v rest entries) c.losing there unheld)
+                rows rows' (waiting level (v ∷ rest) entries) (waiting level rest entries') level v unrowed others (waiting_first level v
+                    rest entries) c.losing there unheld)
                 (inr p.2),
           )
         ]
 
     pub cutting_followed : Follows (link v) (count v) first (level + 1) entries entries'
-        → IsCutting (Linked count link) terminal count flips start top first rows' (gone ++ v ∷ []) (waiting level rest entries') level before after
+        → IsCutting (Linked count link) terminal count flips start top first rows' (gone ++ v ∷ []) (waiting level rest entries') level
+            before after
     cutting_followed f = cutting_gone
         (λ k x w. elim (waiting_out level v rest entries k x w) [
           | inl at ↦ inl at
@@ -194,9 +214,11 @@ module _ (count : ℕ → ℕ) (link : ℕ → ℕ → Option ℕ) (terminal : �
         (λ w below passable l m. inr (f.followed w l.0 l.1 l.2 m))
 
     pub cutting_ended : entries' ≡ entries → (level < top → terminal v ≡ false → ⊥)
-        → IsCutting (Linked count link) terminal count flips start top first rows' (gone ++ v ∷ []) (waiting level rest entries') level before after
+        → IsCutting (Linked count link) terminal count flips start top first rows' (gone ++ v ∷ []) (waiting level rest entries') level
+            before after
     cutting_ended same ends = cutting_gone
-        (λ k x w. subst (λ (e : List (ℕ × ℕ)). ((k ≡ level) × (x ≡ v)) ⊎ waiting level rest e k x) (sym same) (waiting_out level v rest entries k x w))
+        (λ k x w. subst (λ (e : List (ℕ × ℕ)). ((k ≡ level) × (x ≡ v)) ⊎ waiting level rest e k x) (sym same) (waiting_out level v rest
+            entries k x w))
         (λ k x w. inl (waiting_in level v rest entries k x (subst (λ (e : List (ℕ × ℕ)). waiting level rest e k x) same w)))
         (λ w below passable l m. absurd (ends below passable))
 
@@ -223,15 +245,18 @@ module _ (links : ℕ → ℕ → Type 0) (terminal : ℕ → Bool) (count : ℕ
         | inl link ↦ inr (link, f)
         | inr flip ↦
             let bound = (sound_from (WithRemoved links flips) terminal start top first b.depths v (suc d) e).0 in
-            inl (kept (suc d, v) (s.each u v (suc d) flip ((d, refl, record { marked = f; below = omega (arith, bound); passable = t }), e)))
+            inl (kept (suc d, v) (s.each u v (suc d) flip ((d, refl, record { marked = f; below = omega (arith, bound); passable = t }),
+                e)))
       ];
     };
     are_gone = record { all = λ v e. absurd (none-some None e); only = λ v h. absurd (omega (arith, h.1)); distinct = tt };
-    charged = record { numbers = []; distinct = tt; among = All-nil (λ (x : ℕ). IsSome (row_of [] x)); all = λ v h. absurd (true≢false (sym h)); bound = omega arith };
+    charged = record { numbers = []; distinct = tt; among = All-nil (λ (x : ℕ). IsSome (row_of [] x)); all = λ v h. absurd (true≢false
+        (sym h)); bound = omega arith };
   }
 
   -- the same numbers wait, at a level that is no lower
-  pub cutting_same : (rows : List (ℕ × Option ℕ)) (gone : List ℕ) (waits waits' : ℕ → ℕ → Type 0) (level later before after : ℕ) → level ≤ later
+  pub cutting_same : (rows : List (ℕ × Option ℕ)) (gone : List ℕ) (waits waits' : ℕ → ℕ → Type 0) (level later before after : ℕ)
+      → level ≤ later
       → ((k x : ℕ) → waits k x → waits' k x) → ((k x : ℕ) → waits' k x → waits k x)
       → IsCutting links terminal count flips start top first rows gone waits level before after
       → IsCutting links terminal count flips start top first rows gone waits' later before after
@@ -247,7 +272,8 @@ module _ (links : ℕ → ℕ → Type 0) (terminal : ℕ → Bool) (count : ℕ
     charged = c.charged;
   }
 
-  pub cutting_out : (rows : List (ℕ × Option ℕ)) (gone : List ℕ) (old new : Waiting) (level before after : ℕ) (now : List ℕ) → ComesOut old new level now
+  pub cutting_out : (rows : List (ℕ × Option ℕ)) (gone : List ℕ) (old new : Waiting) (level before after : ℕ) (now : List ℕ)
+      → ComesOut old new level now
       → IsCutting links terminal count flips start top first rows gone (λ k v. Contains old.entries (k, v)) old.floor before after
       → IsCutting links terminal count flips start top first rows gone (waiting level now new.entries) level before after
   cutting_out rows gone old new level before after now out c =

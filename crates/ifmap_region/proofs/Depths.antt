@@ -13,7 +13,8 @@ module _ (links : ℕ → ℕ → Type 0) (terminal : ℕ → Bool) (start top :
   abbrev pub IsClosed : (ℕ → Option ℕ) → Type 0
   IsClosed m = (m start ≡ Some 0) × ((x y d : ℕ) → Expands terminal top m x d → links x y → (j : ℕ) × (m y ≡ Some j) × (j ≤ suc d))
 
-  pub marked_from_closed : (m : ℕ → Option ℕ) → IsClosed m → (k v : ℕ) → Walk links terminal start k v → k ≤ top → (j : ℕ) × (m v ≡ Some j) × (j ≤ k)
+  pub marked_from_closed : (m : ℕ → Option ℕ) → IsClosed m → (k v : ℕ) → Walk links terminal start k v → k ≤ top
+      → (j : ℕ) × (m v ≡ Some j) × (j ≤ k)
   marked_from_closed m closed zero v (begins e) within = (0, subst (λ (x : ℕ). m x ≡ Some 0) (sym e) closed.0, omega arith)
   marked_from_closed m closed (suc k) v (goes_on {u = u} w t l) within =
       let before = marked_from_closed m closed k u w (omega arith) in
@@ -43,7 +44,8 @@ module _ (links : ℕ → ℕ → Type 0) (terminal : ℕ → Bool) (start top :
           f.1 ∙ ap Some same
 
   -- where no number is the depth, no walk within the bound ends
-  pub no_walk : (v : ℕ) → ((n : ℕ) → HasDepth links terminal start top v n → ⊥) → (bound k : ℕ) → k < bound → k ≤ top → Walk links terminal start k v → ⊥
+  pub no_walk : (v : ℕ) → ((n : ℕ) → HasDepth links terminal start top v n → ⊥) → (bound k : ℕ) → k < bound → k ≤ top
+      → Walk links terminal start k v → ⊥
   no_walk v none zero k lt within w = absurd (omega (arith, lt))
   no_walk v none (suc bound) k lt within w =
       none k (record {
@@ -89,7 +91,8 @@ module _ (links : ℕ → ℕ → Type 0) (terminal : ℕ → Bool) (start top :
 pub walk_along : (links others : ℕ → ℕ → Type 0) (terminal : ℕ → Bool) (start : ℕ) → ((u v : ℕ) → links u v → others u v)
     → (k v : ℕ) → Walk links terminal start k v → Walk others terminal start k v
 walk_along links others terminal start f zero v (begins e) = begins e
-walk_along links others terminal start f (suc k) v (goes_on {u = u} w t l) = goes_on (walk_along links others terminal start f k u w) t (f u v l)
+walk_along links others terminal start f (suc k) v (goes_on {u = u} w t l) = goes_on (walk_along links others terminal start f k u w) t
+    (f u v l)
 
 module _ (links others : ℕ → ℕ → Type 0) (terminal : ℕ → Bool) (start top : ℕ)
     (there : (u v : ℕ) → links u v → others u v) (back : (u v : ℕ) → others u v → links u v) where

@@ -6,17 +6,11 @@ use Rattle.std.proofs.lemmas.Bool.{and_parts, and_from, eqb-true, eq-eqb}
 use Rattle.std.proofs.lemmas.List.Elements.{Contains-append_left, Contains-push, Contains-push_cases}
 use Rattle.std.specs.HashSet.{HashSet, contains}
 use Rattle.ifmap_region.specs.declared.flips.Flip.{Flip}
-use Rattle.ifmap_region.specs.Flips.{Joins, IsFlipped}
+use Rattle.ifmap_region.specs.Flips.{Joins, IsFlipped, flipped_cases}
 use Rattle.ifmap_region.specs.Hiding.{same_pair, hides}
 use Rattle.ifmap_region.specs.Seeds.{SeedsAlong}
 
 module _ (flips : List Flip) (flip : Flip) (added : Bool) (v w : ℕ) where
-  pub flipped_cases : IsFlipped (flips ++ flip ∷ []) added v w → IsFlipped flips added v w ⊎ ((flip.added ≡ added) × Joins flip v w)
-  flipped_cases h = elim (Contains-push_cases flips flip h.0 h.1) [
-    | inl before ↦ inl (h.0, before, h.2, h.3)
-    | inr e ↦ inr (ap (λ (f : Flip). f.added) e ∙ h.2, subst (λ (f : Flip). Joins f v w) (sym e) h.3)
-  ]
-
   pub flipped_kept : IsFlipped flips added v w → IsFlipped (flips ++ flip ∷ []) added v w
   flipped_kept h = (h.0, Contains-append_left flips (flip ∷ []) h.0 h.1, h.2, h.3)
 
@@ -79,7 +73,8 @@ module _ (Gives : ℕ → ℕ → ℕ → Type 0) (x y : ℕ) (level : Option �
   pub offer_only : (k z : ℕ) → Contains after (k, z) → Contains before (k, z) ⊎ ((y ≡ z) × Gives x y k)
   offer_only k z h = by level offered only
     where
-      by : (o : Option ℕ) → MatchOption o (after ≡ before) (λ k. after ≡ before ++ (k, y) ∷ []) → IfSome o (λ k. Gives x y k) → Contains before (k, z) ⊎ ((y ≡ z) × Gives x y k)
+      by : (o : Option ℕ) → MatchOption o (after ≡ before) (λ k. after ≡ before ++ (k, y) ∷ []) → IfSome o (λ k. Gives x y k)
+          → Contains before (k, z) ⊎ ((y ≡ z) × Gives x y k)
       by None e g = inl (subst (λ (l : List (ℕ × ℕ)). Contains l (k, z)) e h)
       by (Some j) e g = elim (Contains-push_cases before (j, y) (k, z) (subst (λ (l : List (ℕ × ℕ)). Contains l (k, z)) e h)) [
         | inl old ↦ inl old
@@ -91,21 +86,26 @@ module _ (Gives : ℕ → ℕ → ℕ → Type 0) (x y : ℕ) (level : Option �
     where
       by : (o : Option ℕ) → MatchOption o (after ≡ before) (λ k. after ≡ before ++ (k, y) ∷ []) → o ≡ Some k → Contains after (k, y)
       by None e n = absurd (none-some k n)
-      by (Some j) e n = subst (λ (l : List (ℕ × ℕ)). Contains l (k, y)) (sym e) (subst (λ (i : ℕ). Contains (before ++ (j, y) ∷ []) (i, y)) (same_Some j k n) (Contains-push before (j, y)))
+      by (Some j) e n = subst (λ (l : List (ℕ × ℕ)). Contains l (k, y)) (sym e) (subst (λ (i : ℕ). Contains (before ++ (j, y) ∷ []) (i,
+          y)) (same_Some j k n) (Contains-push before (j, y)))
 
 -- seeds of one flip more
 module _ (flips : List Flip) (flip : Flip) (added : Bool) (Gives : ℕ → ℕ → ℕ → Type 0) where
-  pub seeds_other : (seeds : List (ℕ × ℕ)) → (flip.added ≡ added → ⊥) → SeedsAlong flips added Gives seeds → SeedsAlong (flips ++ flip ∷ []) added Gives seeds
+  pub seeds_other : (seeds : List (ℕ × ℕ)) → (flip.added ≡ added → ⊥) → SeedsAlong flips added Gives seeds
+      → SeedsAlong (flips ++ flip ∷ []) added Gives seeds
   seeds_other seeds other s = record {
     only = λ k y h. let p = s.only k y h in (p.0, flipped_kept flips flip added p.0 y p.1, p.2);
     each = λ x y k f g. elim (flipped_cases flips flip added x y f) [ inl old ↦ s.each x y k old g | inr p ↦ absurd (other p.0) ];
   }
 
   pub seeds_more : (at_b at_a : Option ℕ) (before mid after : List (ℕ × ℕ)) → flip.added ≡ added
-      → MatchOption at_b (mid ≡ before) (λ k. mid ≡ before ++ (k, flip.b) ∷ []) → IfSome at_b (λ k. Gives flip.a flip.b k) → ((k : ℕ) → Gives flip.a flip.b k → at_b ≡ Some k)
-      → MatchOption at_a (after ≡ mid) (λ k. after ≡ mid ++ (k, flip.a) ∷ []) → IfSome at_a (λ k. Gives flip.b flip.a k) → ((k : ℕ) → Gives flip.b flip.a k → at_a ≡ Some k)
+      → MatchOption at_b (mid ≡ before) (λ k. mid ≡ before ++ (k, flip.b) ∷ []) → IfSome at_b (λ k. Gives flip.a flip.b k) → ((k : ℕ)
+          → Gives flip.a flip.b k → at_b ≡ Some k)
+      → MatchOption at_a (after ≡ mid) (λ k. after ≡ mid ++ (k, flip.a) ∷ []) → IfSome at_a (λ k. Gives flip.b flip.a k) → ((k : ℕ)
+          → Gives flip.b flip.a k → at_a ≡ Some k)
       → SeedsAlong flips added Gives before → SeedsAlong (flips ++ flip ∷ []) added Gives after
-  seeds_more at_b at_a before mid after kind first first_only first_each second second_only second_each s = record { only = only; each = each }
+  seeds_more at_b at_a before mid after kind first first_only first_each second second_only second_each s = record { only = only; each =
+      each }
     where
       only : (k y : ℕ) → Contains after (k, y) → (x : ℕ) × IsFlipped (flips ++ flip ∷ []) added x y × Gives x y k
       only k y h = elim (offer_only Gives flip.b flip.a at_a mid after second second_only second_each k y h) [
@@ -124,7 +124,8 @@ module _ (flips : List Flip) (flip : Flip) (added : Bool) (Gives : ℕ → ℕ �
           | inl e ↦ offer_kept Gives flip.b flip.a at_a mid after second second_only second_each (k, y)
               (subst (λ (z : ℕ). Contains mid (k, z)) e.1 (offer_each Gives flip.a flip.b at_b before mid first first_only first_each k
               (subst (λ (z : ℕ). Gives flip.a z k) (sym e.1) (subst (λ (z : ℕ). Gives z y k) (sym e.0) g))))
-          | inr e ↦ subst (λ (z : ℕ). Contains after (k, z)) e.0 (offer_each Gives flip.b flip.a at_a mid after second second_only second_each k
+          | inr e ↦ subst (λ (z : ℕ). Contains after (k, z)) e.0 (offer_each Gives flip.b flip.a at_a mid after second second_only
+              second_each k
               (subst (λ (z : ℕ). Gives flip.b z k) (sym e.0) (subst (λ (z : ℕ). Gives z y k) (sym e.1) g)))
         ]
       ]

@@ -58,7 +58,8 @@ missing_fewer rows after n put (e ∷ es) =
 
 module _ (rows es : List (ℕ × Option ℕ)) (i n : ℕ) (s : Option ℕ) (place : slice_get es i ≡ Some (n, s)) where
   drop_at : drop i es ≡ (n, s) ∷ drop (i + 1) es
-  drop_at = drop_more es i (n, s) (slice_get_within es i (n, s) place) ∙ ap (λ (e : ℕ × Option ℕ). e ∷ drop (i + 1) es) (get_or_from_slice_get es i (n, s) (n, s) place)
+  drop_at = drop_more es i (n, s) (slice_get_within es i (n, s) place) ∙ ap (λ (e : ℕ × Option ℕ). e ∷ drop (i + 1) es)
+      (get_or_from_slice_get es i (n, s) (n, s) place)
 
   missing_at : missing rows (drop i es) ≡ one_of (row_of rows n) + missing rows (drop (i + 1) es)
   missing_at = ap (missing rows) drop_at ∙ missing_cons rows (drop (i + 1) es) (n, s)

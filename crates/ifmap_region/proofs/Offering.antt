@@ -14,7 +14,8 @@ module _ (link : ℕ → Option ℕ) (n : ℕ) (mark : ℕ → Option ℕ) (leve
   last_or_before : (j : ℕ) → j < n + 1 → (j < n) ⊎ (j ≡ n)
   last_or_before j lt = elim (cases_lt j n) [ inl l ↦ inl l | inr g ↦ inr (omega (arith, lt, g)) ]
 
-  widened : Offers link n mark level before after → (s : ℕ × ℕ) → Contains after s → Contains before s ⊎ ((s.0 ≡ level) × ((j : ℕ) × (j < n + 1) × (link j ≡ Some s.1)))
+  widened : Offers link n mark level before after → (s : ℕ × ℕ) → Contains after s
+      → Contains before s ⊎ ((s.0 ≡ level) × ((j : ℕ) × (j < n + 1) × (link j ≡ Some s.1)))
   widened o s h = elim (o.joined s h) [ inl b ↦ inl b | inr p ↦ inr (p.0, (p.1.0, omega (arith, p.1.1), p.1.2)) ]
 
   pub offers_unmatched : Offers link n mark level before after → link n ≡ None → Offers link (n + 1) mark level before after
@@ -27,7 +28,8 @@ module _ (link : ℕ → Option ℕ) (n : ℕ) (mark : ℕ → Option ℕ) (leve
     ];
   }
 
-  pub offers_marked : (w k : ℕ) → Offers link n mark level before after → link n ≡ Some w → mark w ≡ Some k → k ≤ level → Offers link (n + 1) mark level before after
+  pub offers_marked : (w k : ℕ) → Offers link n mark level before after → link n ≡ Some w → mark w ≡ Some k → k ≤ level
+      → Offers link (n + 1) mark level before after
   offers_marked w k o here marked le = record {
     kept = o.kept;
     joined = widened o;
@@ -38,7 +40,8 @@ module _ (link : ℕ → Option ℕ) (n : ℕ) (mark : ℕ → Option ℕ) (leve
     ];
   }
 
-  pub offers_pushed : (w : ℕ) → Offers link n mark level before after → link n ≡ Some w → Offers link (n + 1) mark level before (after ++ (level, w) ∷ [])
+  pub offers_pushed : (w : ℕ) → Offers link n mark level before after → link n ≡ Some w
+      → Offers link (n + 1) mark level before (after ++ (level, w) ∷ [])
   offers_pushed w o here = record {
     kept = λ s h. Contains-append_left after ((level, w) ∷ []) s (o.kept s h);
     joined = λ s h. elim (Contains-push_cases after (level, w) s h) [
@@ -70,7 +73,8 @@ module _ (link : ℕ → Option ℕ) (n : ℕ) (mark : ℕ → Option ℕ) (leve
     ];
   }
 
-  pub follows_other : (w : ℕ) → Follows link n mark level before after → link n ≡ Some w → (mark w ≡ Some level → ⊥) → Follows link (n + 1) mark level before after
+  pub follows_other : (w : ℕ) → Follows link n mark level before after → link n ≡ Some w → (mark w ≡ Some level → ⊥)
+      → Follows link (n + 1) mark level before after
   follows_other w o here other = record {
     kept = o.kept;
     joined = further o;
@@ -80,12 +84,14 @@ module _ (link : ℕ → Option ℕ) (n : ℕ) (mark : ℕ → Option ℕ) (leve
     ];
   }
 
-  pub follows_pushed : (w : ℕ) → Follows link n mark level before after → link n ≡ Some w → mark w ≡ Some level → Follows link (n + 1) mark level before (after ++ (level, w) ∷ [])
+  pub follows_pushed : (w : ℕ) → Follows link n mark level before after → link n ≡ Some w → mark w ≡ Some level
+      → Follows link (n + 1) mark level before (after ++ (level, w) ∷ [])
   follows_pushed w o here marked = record {
     kept = λ s h. Contains-append_left after ((level, w) ∷ []) s (o.kept s h);
     joined = λ s h. elim (Contains-push_cases after (level, w) s h) [
       | inl a ↦ further o s a
-      | inr e ↦ inr (ap (λ (p : ℕ × ℕ). p.0) (sym e), ap (λ (p : ℕ × ℕ). mark p.1) (sym e) ∙ marked, (n, omega arith, here ∙ ap Some (ap (λ (p : ℕ × ℕ). p.1) e)))
+      | inr e ↦ inr (ap (λ (p : ℕ × ℕ). p.0) (sym e), ap (λ (p : ℕ × ℕ). mark p.1) (sym e) ∙ marked, (n, omega arith, here ∙ ap Some (ap
+          (λ (p : ℕ × ℕ). p.1) e)))
     ];
     followed = λ x j lt e m. elim (last_or_before link n mark level before after j lt) [
       | inl l ↦ Contains-append_left after ((level, w) ∷ []) (level, x) (o.followed x j l e m)

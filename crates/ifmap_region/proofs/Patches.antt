@@ -12,7 +12,8 @@ pub row_place : (es : List (ℕ × Option ℕ)) (v : ℕ) (r : Option ℕ) → r
 row_place [] v r e = absurd (none-some r e)
 row_place (x ∷ es) v r e = by (nat_eq v x.0) refl (row_place es v r)
   where
-    by : (t : Bool) → nat_eq v x.0 ≡ t → (row_of es v ≡ Some r → (j : ℕ) × (slice_get es j ≡ Some (v, r))) → (j : ℕ) × (slice_get (x ∷ es) j ≡ Some (v, r))
+    by : (t : Bool) → nat_eq v x.0 ≡ t → (row_of es v ≡ Some r → (j : ℕ) × (slice_get es j ≡ Some (v, r)))
+        → (j : ℕ) × (slice_get (x ∷ es) j ≡ Some (v, r))
     by true t rest =
         let here : x.1 ≡ r = same_Some x.1 r (sym (ap (λ (b : Bool). cond b (Some x.1) (row_of es v)) t) ∙ e) in
         let key : v ≡ x.0 = eqb-true v x.0 t in
@@ -31,8 +32,10 @@ module _ (rows base changed after : List (ℕ × Option ℕ)) (n : ℕ) (s : Opt
   ]
 
   pub each_same : s ≡ mark_of base n
-      → ((j v : ℕ) (r : Option ℕ) → j < i → slice_get rows j ≡ Some (v, r) → row_of rows v ≡ Some r → r ≢ mark_of base v → row_of changed v ≡ Some r)
-      → (j v : ℕ) (r : Option ℕ) → j < i + 1 → slice_get rows j ≡ Some (v, r) → row_of rows v ≡ Some r → r ≢ mark_of base v → row_of changed v ≡ Some r
+      → ((j v : ℕ) (r : Option ℕ) → j < i → slice_get rows j ≡ Some (v, r) → row_of rows v ≡ Some r → r ≢ mark_of base v
+          → row_of changed v ≡ Some r)
+      → (j v : ℕ) (r : Option ℕ) → j < i + 1 → slice_get rows j ≡ Some (v, r) → row_of rows v ≡ Some r → r ≢ mark_of base v
+          → row_of changed v ≡ Some r
   each_same same each j v r lt e f d = elim (last_place j v r lt e) [
     | inl l ↦ each j v r l e f d
     | inr p ↦ absurd (d (sym p.1 ∙ same ∙ ap (mark_of base) p.0))
@@ -49,8 +52,10 @@ module _ (rows base changed after : List (ℕ × Option ℕ)) (n : ℕ) (s : Opt
       | inr apart ↦ only v r (sym (row_apart changed after (mark_of base) n s put v apart) ∙ e)
     ]
 
-    pub each_put : ((j v : ℕ) (r : Option ℕ) → j < i → slice_get rows j ≡ Some (v, r) → row_of rows v ≡ Some r → r ≢ mark_of base v → row_of changed v ≡ Some r)
-        → (j v : ℕ) (r : Option ℕ) → j < i + 1 → slice_get rows j ≡ Some (v, r) → row_of rows v ≡ Some r → r ≢ mark_of base v → row_of after v ≡ Some r
+    pub each_put : ((j v : ℕ) (r : Option ℕ) → j < i → slice_get rows j ≡ Some (v, r) → row_of rows v ≡ Some r → r ≢ mark_of base v
+        → row_of changed v ≡ Some r)
+        → (j v : ℕ) (r : Option ℕ) → j < i + 1 → slice_get rows j ≡ Some (v, r) → row_of rows v ≡ Some r → r ≢ mark_of base v
+            → row_of after v ≡ Some r
     each_put each j v r lt e f d = elim (cases_eq v n) [
       | inl at ↦ ap (row_of after) at ∙ row_here changed after (mark_of base) n s put ∙ sym row ∙ ap (row_of rows) (sym at) ∙ f
       | inr apart ↦ row_apart changed after (mark_of base) n s put v apart ∙ elim (last_place j v r lt e) [
@@ -60,7 +65,8 @@ module _ (rows base changed after : List (ℕ × Option ℕ)) (n : ℕ) (s : Opt
     ]
 
 pub each_past : (rows base changed : List (ℕ × Option ℕ)) (i : ℕ) → length rows ≤ i
-    → ((j v : ℕ) (r : Option ℕ) → j < i → slice_get rows j ≡ Some (v, r) → row_of rows v ≡ Some r → r ≢ mark_of base v → row_of changed v ≡ Some r)
+    → ((j v : ℕ) (r : Option ℕ) → j < i → slice_get rows j ≡ Some (v, r) → row_of rows v ≡ Some r → r ≢ mark_of base v
+        → row_of changed v ≡ Some r)
     → (v : ℕ) (r : Option ℕ) → row_of rows v ≡ Some r → r ≢ mark_of base v → row_of changed v ≡ Some r
 each_past rows base changed i le each v r e d =
     let p = row_place rows v r e in
@@ -93,6 +99,7 @@ over_differing rows base changed only each v = by (row_of rows v) (row_of change
     ]
 
 -- where a number has a row, it stands at some place
-pub row_found : (rows : List (ℕ × Option ℕ)) (v : ℕ) (o : Option (Option ℕ)) → o ≡ row_of rows v → IfSome o (λ mark. (i : ℕ) × (slice_get rows i ≡ Some (v, mark)))
+pub row_found : (rows : List (ℕ × Option ℕ)) (v : ℕ) (o : Option (Option ℕ)) → o ≡ row_of rows v
+    → IfSome o (λ mark. (i : ℕ) × (slice_get rows i ≡ Some (v, mark)))
 row_found rows v None e = tt
 row_found rows v (Some r) e = row_place rows v r (sym e)

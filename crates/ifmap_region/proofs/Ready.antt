@@ -1,4 +1,7 @@
 -- What one number that is looked at changes while marks fall.
+-- Plan: how what waits changes; one number is passed over, set, or set with its neighbours waiting (`ready_passed`,
+-- `ready_set`), and its scan is charged to it (`charged_set`); the same at a source's links; levels that come out and
+-- end; nothing waits, so the marks are depths (`depths_ready`); the beginning of a build.
 use Rattle.std.proofs.Common.{◌≡◌, ◌≢◌, ℕ, suc, ◌+◌, ◌<◌, ◌≤◌, Bool, false, Option, Some, None, List, [], ◌∷◌, Contains, ◌⊎◌, inl, inr, refl, sym, ap, subst, ◌∙◌, arith}
 use Rattle.std.proofs.lemmas.Option.{same_Some, none-some}
 use Rattle.std.proofs.lemmas.Bool.{cases_eq}
@@ -11,7 +14,7 @@ use Rattle.ifmap_region.specs.Walks.{Walk, begins, goes_on, AreDepths, IsReached
 use Rattle.ifmap_region.specs.Waiting.{Waiting, ComesOut}
 use Rattle.ifmap_region.proofs.Depths.{depths_from}
 use Rattle.ifmap_region.specs.Spreading.{Offers, waiting, IsBound, IsReady, Improves, IsSet, IsCharged}
-use Rattle.ifmap_region.specs.General.{contains_one, distinct_cons}
+use Rattle.ifmap_region.specs.Distinct.{contains_one, distinct_cons}
 
 -- what waits is the first number of the level, or waits without it
 pub waiting_out : (level n : ℕ) (rest : List ℕ) (entries : List (ℕ × ℕ)) (k x : ℕ) → waiting level (n ∷ rest) entries k x
@@ -24,7 +27,8 @@ waiting_out level n rest entries k x w = elim w [
   | inr c ↦ inr (inr c)
 ]
 
-pub waiting_in : (level n : ℕ) (rest : List ℕ) (entries : List (ℕ × ℕ)) (k x : ℕ) → waiting level rest entries k x → waiting level (n ∷ rest) entries k x
+pub waiting_in : (level n : ℕ) (rest : List ℕ) (entries : List (ℕ × ℕ)) (k x : ℕ) → waiting level rest entries k x
+    → waiting level (n ∷ rest) entries k x
 waiting_in level n rest entries k x w = elim w [ inl p ↦ inl (p.0, Contains-append_right (n ∷ []) rest x p.1) | inr c ↦ inr c ]
 
 pub waiting_first : (level n : ℕ) (rest : List ℕ) (entries : List (ℕ × ℕ)) → waiting level (n ∷ rest) entries level n
@@ -71,7 +75,8 @@ module _ (links : ℕ → ℕ → Type 0) (terminal : ℕ → Bool) (start top :
         sound q k e = elim (cases_eq q v) [
           | inl at ↦ let same : level ≡ k = same_Some level k (sym here ∙ ap m' (sym at) ∙ e) in
               let w = r.walks v level waited in
-              (omega (arith, w.0, same), subst (λ (n : ℕ). Walk links terminal start n q) same (subst (λ (x : ℕ). Walk links terminal start level x) (sym at) w.1))
+              (omega (arith, w.0, same), subst (λ (n : ℕ). Walk links terminal start n q) same (subst (λ (x : ℕ). Walk links terminal
+                  start level x) (sym at) w.1))
           | inr apart ↦ r.sound q k (sym (others q apart) ∙ e)
         ]
 
@@ -79,7 +84,8 @@ module _ (links : ℕ → ℕ → Type 0) (terminal : ℕ → Bool) (start top :
         walks x k w = elim (back k x w) [
           | inl old ↦ r.walks x k old
           | inr p ↦ let same : suc level ≡ k = omega (arith, p.0) in
-              (omega (arith, p.0, p.1.below), subst (λ (n : ℕ). Walk links terminal start n x) same (goes_on (r.walks v level waited).1 p.1.passable p.2))
+              (omega (arith, p.0, p.1.below), subst (λ (n : ℕ). Walk links terminal start n x) same (goes_on (r.walks v level waited).1
+                  p.1.passable p.2))
         ]
 
         bound : (y d : ℕ) → IsBound m waits y d → IsBound m' waits' y d
@@ -103,21 +109,26 @@ module _ (links : ℕ → ℕ → Type 0) (terminal : ℕ → Bool) (start top :
         along : (x y d : ℕ) → Expands terminal top m' x d → links x y → IsBound m' waits' y (suc d)
         along x y d e l = elim (cases_eq x v) [
           | inl at ↦ let same : level ≡ d = same_Some level d (sym here ∙ ap m' (sym at) ∙ e.marked) in
-              let at_v : Expands terminal top m' v level = record { marked = here; below = omega (arith, e.below, same); passable = ap terminal (sym at) ∙ e.passable } in
+              let at_v : Expands terminal top m' v level = record { marked = here; below = omega (arith, e.below, same); passable = ap
+                  terminal (sym at) ∙ e.passable } in
               subst (λ (n : ℕ). IsBound m' waits' y (suc n)) same (offered y at_v (subst (λ (n : ℕ). links n y) at l))
-          | inr apart ↦ bound y (suc d) (r.along x y d (record { marked = sym (others x apart) ∙ e.marked; below = e.below; passable = e.passable }) l)
+          | inr apart ↦ bound y (suc d) (r.along x y d (record { marked = sym (others x apart) ∙ e.marked; below = e.below; passable =
+              e.passable }) l)
         ]
 
     -- its scan is charged to it
     pub charged_set : (count : ℕ → ℕ) (first : ℕ → Option ℕ) (before steps after : ℕ) → after ≤ steps + count v
-        → IsCharged links terminal start top count first m level before steps → IsCharged links terminal start top count first m' level before after
+        → IsCharged links terminal start top count first m level before steps
+            → IsCharged links terminal start top count first m' level before after
     charged_set count first before steps after le c = record {
       falls = falls;
       spent = record {
         numbers = v ∷ c.spent.numbers;
-        distinct = distinct_cons v c.spent.numbers (All-weaker (IsSet links terminal start top first m level) (λ (y : ℕ). v ≢ y) apart c.spent.numbers c.spent.among) c.spent.distinct;
+        distinct = distinct_cons v c.spent.numbers (All-weaker (IsSet links terminal start top first m level) (λ (y : ℕ). v ≢ y) apart
+            c.spent.numbers c.spent.among) c.spent.distinct;
         among = All-cons (IsSet links terminal start top first m' level) v c.spent.numbers (improved, (level, here, omega arith))
-            (All-weaker (IsSet links terminal start top first m level) (IsSet links terminal start top first m' level) kept c.spent.numbers c.spent.among);
+            (All-weaker (IsSet links terminal start top first m level) (IsSet links terminal start top first m' level) kept
+                c.spent.numbers c.spent.among);
         bound = omega (arith, le, c.spent.bound, sum_by-cons count v c.spent.numbers);
       };
     }
@@ -150,7 +161,8 @@ module _ (count : ℕ → ℕ) (link : ℕ → ℕ → Option ℕ) (terminal : �
       → IsReady (Linked count link) terminal start top m (waiting level (v ∷ rest) entries)
       → IsReady (Linked count link) terminal start top m' (waiting level rest entries')
   ready_offered m m' entries entries' here others lower below passable o r =
-      ready_set (Linked count link) terminal start top m m' (waiting level (v ∷ rest) entries) level v here others lower (waiting_first level v rest entries) r
+      ready_set (Linked count link) terminal start top m m' (waiting level (v ∷ rest) entries) level v here others lower (waiting_first
+          level v rest entries) r
       (waiting level rest entries') there back offered
     where
       there : (k x : ℕ) → waiting level (v ∷ rest) entries k x → ((k ≡ level) × (x ≡ v)) ⊎ waiting level rest entries' k x
@@ -159,7 +171,8 @@ module _ (count : ℕ → ℕ) (link : ℕ → ℕ → Option ℕ) (terminal : �
         | inr later ↦ elim later [ inl p ↦ inr (inl p) | inr c ↦ inr (inr (o.kept (k, x) c)) ]
       ]
 
-      back : (k x : ℕ) → waiting level rest entries' k x → waiting level (v ∷ rest) entries k x ⊎ ((k ≡ level + 1) × Expands terminal top m' v level × Linked count link v x)
+      back : (k x : ℕ) → waiting level rest entries' k x → waiting level (v ∷ rest) entries k x ⊎ ((k ≡ level + 1) × Expands terminal top
+          m' v level × Linked count link v x)
       back k x w = elim w [
         | inl p ↦ inl (waiting_in level v rest entries k x (inl p))
         | inr c ↦ elim (o.joined (k, x) c) [
@@ -180,8 +193,10 @@ module _ (count : ℕ → ℕ) (link : ℕ → ℕ → Option ℕ) (terminal : �
       → IsReady (Linked count link) terminal start top m (waiting level (v ∷ rest) entries)
       → IsReady (Linked count link) terminal start top m' (waiting level rest entries)
   ready_ended m m' entries here others lower ends r =
-      ready_set (Linked count link) terminal start top m m' (waiting level (v ∷ rest) entries) level v here others lower (waiting_first level v rest entries) r
-      (waiting level rest entries) (waiting_out level v rest entries) (λ k x w. inl (waiting_in level v rest entries k x w)) (λ w e l. absurd (ends e))
+      ready_set (Linked count link) terminal start top m m' (waiting level (v ∷ rest) entries) level v here others lower (waiting_first
+          level v rest entries) r
+      (waiting level rest entries) (waiting_out level v rest entries) (λ k x w. inl (waiting_in level v rest entries k x w)) (λ w e l.
+          absurd (ends e))
 
 module _ (links : ℕ → ℕ → Type 0) (terminal : ℕ → Bool) (start top : ℕ) where
   -- the same numbers wait
@@ -212,7 +227,8 @@ module _ (links : ℕ → ℕ → Type 0) (terminal : ℕ → Bool) (start top :
         | inr w ↦ absurd (none b.0 y w)
       ]
 
-  pub charged_start : (count : ℕ → ℕ) (m : ℕ → Option ℕ) (level before : ℕ) → IsCharged links terminal start top count m m level before before
+  pub charged_start : (count : ℕ → ℕ) (m : ℕ → Option ℕ) (level before : ℕ) → IsCharged links terminal start top count m m level before
+      before
   unfolding IsDistinct
   charged_start count m level before = record {
     falls = λ v j e. (j, e, omega arith);
@@ -220,29 +236,34 @@ module _ (links : ℕ → ℕ → Type 0) (terminal : ℕ → Bool) (start top :
   }
 
   pub charged_later : (count : ℕ → ℕ) (first m : ℕ → Option ℕ) (level later before after : ℕ) → level ≤ later
-      → IsCharged links terminal start top count first m level before after → IsCharged links terminal start top count first m later before after
+      → IsCharged links terminal start top count first m level before after → IsCharged links terminal start top count first m later
+          before after
   charged_later count first m level later before after le c = record {
     falls = c.falls;
     spent = record {
       numbers = c.spent.numbers;
       distinct = c.spent.distinct;
-      among = All-weaker (IsSet links terminal start top first m level) (IsSet links terminal start top first m later) (λ v s. (s.0, (s.1.0, s.1.1, omega (arith, s.1.2, le)))) c.spent.numbers c.spent.among;
+      among = All-weaker (IsSet links terminal start top first m level) (IsSet links terminal start top first m later) (λ v s. (s.0,
+          (s.1.0, s.1.1, omega (arith, s.1.2, le)))) c.spent.numbers c.spent.among;
       bound = c.spent.bound;
     };
   }
 
   pub spent_from : (count : ℕ → ℕ) (first m : ℕ → Option ℕ) (level before after : ℕ)
-      → IsCharged links terminal start top count first m level before after → IsWithin count (Improves links terminal start top first) 1 before after
+      → IsCharged links terminal start top count first m level before after → IsWithin count (Improves links terminal start top first) 1
+          before after
   spent_from count first m level before after c = record {
     numbers = c.spent.numbers;
     distinct = c.spent.distinct;
-    among = All-weaker (IsSet links terminal start top first m level) (Improves links terminal start top first) (λ v s. s.0) c.spent.numbers c.spent.among;
+    among = All-weaker (IsSet links terminal start top first m level) (Improves links terminal start top first) (λ v s. s.0)
+        c.spent.numbers c.spent.among;
     bound = c.spent.bound;
   }
 
   -- a level comes out of what waits, and goes
   pub ready_out : (m : ℕ → Option ℕ) (old new : Waiting) (level : ℕ) (now : List ℕ) → ComesOut old new level now
-      → IsReady links terminal start top m (λ k v. Contains old.entries (k, v)) → IsReady links terminal start top m (waiting level now new.entries)
+      → IsReady links terminal start top m (λ k v. Contains old.entries (k, v))
+          → IsReady links terminal start top m (waiting level now new.entries)
   ready_out m old new level now out r =
       ready_same m (λ k v. Contains old.entries (k, v)) (waiting level now new.entries)
       (λ k x w. out.each (k, x) w)
@@ -250,13 +271,15 @@ module _ (links : ℕ → ℕ → Type 0) (terminal : ℕ → Bool) (start top :
       r
 
   pub ready_done : (m : ℕ → Option ℕ) (level : ℕ) (entries : List (ℕ × ℕ))
-      → IsReady links terminal start top m (waiting level [] entries) → IsReady links terminal start top m (λ k v. Contains entries (k, v))
+      → IsReady links terminal start top m (waiting level [] entries) → IsReady links terminal start top m (λ k v. Contains entries (k,
+          v))
   ready_done m level entries r =
       ready_same m (waiting level [] entries) (λ k v. Contains entries (k, v))
       (λ k x w. elim w [ inl p ↦ absurd (omega (arith, p.1.1)) | inr c ↦ c ]) (λ k x c. inr c) r
 
 -- before any mark, the start alone waits
-pub ready_begun : (links : ℕ → ℕ → Type 0) (terminal : ℕ → Bool) (start top : ℕ) (m : ℕ → Option ℕ) (seeds : List (ℕ × ℕ)) → ((v : ℕ) → m v ≡ None) → seeds ≡ (0, start) ∷ []
+pub ready_begun : (links : ℕ → ℕ → Type 0) (terminal : ℕ → Bool) (start top : ℕ) (m : ℕ → Option ℕ) (seeds : List (ℕ × ℕ)) → ((v : ℕ)
+    → m v ≡ None) → seeds ≡ (0, start) ∷ []
     → IsReady links terminal start top m (λ k v. Contains seeds (k, v))
 ready_begun links terminal start top m seeds none one = record {
   sound = λ v k e. absurd (none-some k (sym (none v) ∙ e));
@@ -269,10 +292,12 @@ ready_begun links terminal start top m seeds none one = record {
 
 -- what was improved is reached
 pub reached_spent : (links : ℕ → ℕ → Type 0) (terminal : ℕ → Bool) (start top : ℕ) (count : ℕ → ℕ) (m : ℕ → Option ℕ) (before after : ℕ)
-    → IsWithin count (Improves links terminal start top m) 1 before after → IsWithin count (IsReached links terminal start top) 1 before after
+    → IsWithin count (Improves links terminal start top m) 1 before after → IsWithin count (IsReached links terminal start top) 1 before
+        after
 reached_spent links terminal start top count m before after s = record {
   numbers = s.numbers;
   distinct = s.distinct;
-  among = All-weaker (Improves links terminal start top m) (IsReached links terminal start top) (λ v i. (i.links_of_it, i.within, i.walk)) s.numbers s.among;
+  among = All-weaker (Improves links terminal start top m) (IsReached links terminal start top) (λ v i. (i.links_of_it, i.within,
+      i.walk)) s.numbers s.among;
   bound = s.bound;
 }

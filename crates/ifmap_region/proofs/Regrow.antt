@@ -1,4 +1,7 @@
 -- What is found again after a cut, and what is found by added links.
+-- Plan: seeds for what is gone (`reseeds_more`); after a cut only what is gone can be improved, and the bound of all
+-- four scans (`spent_cut`); marks that are depths without the added links are ready to fall along these
+-- (`ready_grown`), and only numbers whose depth differs fall (`improved_moved`); the least level of a neighbour.
 use Rattle.std.proofs.Common.{◌≡◌, ℕ, suc, ◌+◌, ◌<◌, ◌≤◌, Bool, true, false, Option, Some, None, List, [], ◌∷◌, ◌++◌, Contains, sum_by, is_some, ◌⊎◌, inl, inr, refl, sym, ap, subst, ◌∙◌, arith, true≢false}
 use Rattle.std.specs.Prelude.{MatchOption, IfSome, IsSome}
 use Rattle.std.proofs.lemmas.Option.{same_Some, none-some}
@@ -16,16 +19,18 @@ use Rattle.ifmap_region.specs.Walks.{Walk, goes_on, AreDepths, Expands}
 use Rattle.ifmap_region.proofs.Depths.{marked, marked_start, closed_from, sound_from, walk_along, no_walk}
 use Rattle.ifmap_region.proofs.Lost.{ready_left, over_unrowed, over_rowed}
 use Rattle.ifmap_region.proofs.Cuts.{some_row}
-use Rattle.ifmap_region.specs.General.{contains_one, sum_within}
+use Rattle.ifmap_region.specs.Distinct.{contains_one, sum_within}
 
 -- seeds of one number more that is gone
-module _ (links : ℕ → ℕ → Type 0) (terminal : ℕ → Bool) (top : ℕ) (mark : ℕ → Option ℕ) (gone : List ℕ) (v : ℕ) (seeds after : List (ℕ × ℕ)) where
+module _ (links : ℕ → ℕ → Type 0) (terminal : ℕ → Bool) (top : ℕ) (mark : ℕ → Option ℕ) (gone : List ℕ) (v : ℕ) (seeds after : List (ℕ ×
+    ℕ)) where
   pub reseeds_more : (level : Option ℕ) → MatchOption level (after ≡ seeds) (λ k. after ≡ seeds ++ (k, v) ∷ [])
       → IfSome level (λ k. (u : ℕ) × links v u × IsNext terminal top mark u k)
       → ((u k : ℕ) → links v u → IsNext terminal top mark u k → (m : ℕ) × (m ≤ k) × (level ≡ Some m))
       → Reseeds links terminal top mark gone seeds → Reseeds links terminal top mark (gone ++ v ∷ []) after
   reseeds_more None offered only least r = record {
-    only = λ k x h. let p = r.only k x (subst (λ (l : List (ℕ × ℕ)). Contains l (k, x)) offered h) in (Contains-append_left gone (v ∷ []) x p.0, p.1);
+    only = λ k x h. let p = r.only k x (subst (λ (l : List (ℕ × ℕ)). Contains l (k, x)) offered h) in (Contains-append_left gone (v ∷ [])
+        x p.0, p.1);
     each = λ x u d g l e. elim (Contains-push_cases gone v x g) [
       | inl old ↦ let q = r.each x u d old l e in (q.0, q.1, subst (λ (s : List (ℕ × ℕ)). Contains s (q.0, x)) (sym offered) q.2)
       | inr at ↦ let m = least u (suc d) (subst (λ (y : ℕ). links y u) (sym at) l) (d, refl, e) in absurd (none-some m.0 m.2)
@@ -42,13 +47,15 @@ module _ (links : ℕ → ℕ → Type 0) (terminal : ℕ → Bool) (top : ℕ) 
           )
     ];
     each = λ x u d g l e. elim (Contains-push_cases gone v x g) [
-      | inl old ↦ let q = r.each x u d old l e in (q.0, q.1, subst (λ (s : List (ℕ × ℕ)). Contains s (q.0, x)) (sym offered) (Contains-append_left seeds ((j, v) ∷ []) (q.0, x) q.2))
+      | inl old ↦ let q = r.each x u d old l e in (q.0, q.1, subst (λ (s : List (ℕ × ℕ)). Contains s (q.0, x)) (sym offered)
+          (Contains-append_left seeds ((j, v) ∷ []) (q.0, x) q.2))
       | inr at ↦
           let m = least u (suc d) (subst (λ (y : ℕ). links y u) (sym at) l) (d, refl, e) in (
             m.0,
             m.1,
             subst (λ (s : List (ℕ × ℕ)). Contains s (m.0, x)) (sym offered)
-                (subst (λ (i : ℕ). Contains (seeds ++ (j, v) ∷ []) (i, x)) (same_Some j m.0 m.2) (subst (λ (y : ℕ). Contains (seeds ++ (j, v) ∷ []) (j, y)) at (Contains-push seeds (j, v)))),
+                (subst (λ (i : ℕ). Contains (seeds ++ (j, v) ∷ []) (i, x)) (same_Some j m.0 m.2) (subst (λ (y : ℕ). Contains (seeds ++
+                    (j, v) ∷ []) (j, y)) at (Contains-push seeds (j, v)))),
           )
     ];
   }
@@ -65,7 +72,8 @@ module _ (links : ℕ → ℕ → Type 0) (terminal : ℕ → Bool) (count : ℕ
       → IsReady links terminal start top (over rows first) (λ k v. Contains seeds (k, v))
   ready_again seeds r =
       ready_left (WithRemoved links flips) links terminal start top first b.depths (λ u v l. inl l)
-      (NearOneWay flips false (WithRemoved links flips) links terminal start top) rows (λ _ _. ⊥) level (λ k x w. w) c.losing gone seeds c.are_gone b.symmetric r
+      (NearOneWay flips false (WithRemoved links flips) links terminal start top) rows (λ _ _. ⊥) level (λ k x w. w) c.losing gone seeds
+          c.are_gone b.symmetric r
 
   improved_gone : (v : ℕ) → Improves links terminal start top (over rows first) v → Contains gone v
   improved_gone v i = by (row_of rows v) refl
@@ -87,8 +95,10 @@ module _ (links : ℕ → ℕ → Type 0) (terminal : ℕ → Bool) (count : ℕ
       → IsWithin count (Improves links terminal start top (over rows first)) 1 reseeded after
       → IsWithin count (NearOneWay flips false (WithRemoved links flips) links terminal start top) 4 before after
   spent_cut reseeded after le s =
-      let found = sum_within count s.numbers gone s.distinct (λ x h. improved_gone x (All-contains (Improves links terminal start top (over rows first)) s.numbers x s.among h)) in
-      let lost = sum_within count gone c.charged.numbers c.are_gone.distinct (λ x h. c.charged.all x (ap is_some (c.are_gone.only x h))) in
+      let found = sum_within count s.numbers gone s.distinct (λ x h. improved_gone x (All-contains (Improves links terminal start top
+          (over rows first)) s.numbers x s.among h)) in
+      let lost = sum_within count gone c.charged.numbers c.are_gone.distinct (λ x h. c.charged.all x (ap is_some (c.are_gone.only x h)))
+          in
       record {
         numbers = c.charged.numbers;
         distinct = c.charged.distinct;
@@ -100,7 +110,8 @@ module _ (links : ℕ → ℕ → Type 0) (terminal : ℕ → Bool) (count : ℕ
   pub spent_reseed : (after : ℕ) → after ≤ lost_at + sum_by count gone
       → IsWithin count (NearOneWay flips false (WithRemoved links flips) links terminal start top) 4 before after
   spent_reseed after le =
-      let lost = sum_within count gone c.charged.numbers c.are_gone.distinct (λ x h. c.charged.all x (ap is_some (c.are_gone.only x h))) in
+      let lost = sum_within count gone c.charged.numbers c.are_gone.distinct (λ x h. c.charged.all x (ap is_some (c.are_gone.only x h)))
+          in
       record {
         numbers = c.charged.numbers;
         distinct = c.charged.distinct;
@@ -117,7 +128,8 @@ flipped_or_not (f ∷ fs) added v w = elim (flipped_or_not fs added v w) [
   | inr none_later ↦ elim (first_flip f added v w) [
     | inl h ↦ inl (f, (0, omega arith, refl), h.0, h.1)
     | inr other ↦ inr (λ h. elim (Contains-append_cases (f ∷ []) fs h.0 h.1) [
-      | inl one ↦ let e = contains_one f h.0 one in other (ap (λ (g : Flip). g.added) e ∙ h.2, subst (λ (g : Flip). Joins g v w) (sym e) h.3)
+      | inl one ↦ let e = contains_one f h.0 one in other (ap (λ (g : Flip). g.added) e ∙ h.2, subst (λ (g : Flip). Joins g v w) (sym e)
+          h.3)
       | inr later ↦ none_later (h.0, later, h.2, h.3)
     ])
   ]
@@ -162,8 +174,10 @@ module _ (links : ℕ → ℕ → Type 0) (terminal : ℕ → Bool) (flips : Lis
   new_walk : (k v : ℕ) → Walk (Mid links flips) terminal start k v → Walk links terminal start k v
   new_walk = walk_along (Mid links flips) links terminal start (λ u v l. l.0)
 
-  pub ready_grown : (seeds : List (ℕ × ℕ)) → SeedsAlong flips true (Lowers terminal top m) seeds → IsReady links terminal start top m (λ k v. Contains seeds (k, v))
-  ready_grown seeds s = record { sound = sound; walks = walks; begun = (0, omega arith, inl (marked_start (Mid links flips) terminal start top m depths)); along = along }
+  pub ready_grown : (seeds : List (ℕ × ℕ)) → SeedsAlong flips true (Lowers terminal top m) seeds
+      → IsReady links terminal start top m (λ k v. Contains seeds (k, v))
+  ready_grown seeds s = record { sound = sound; walks = walks; begun = (0, omega arith, inl (marked_start (Mid links flips) terminal
+      start top m depths)); along = along }
     where
       sound : (v k : ℕ) → m v ≡ Some k → (k ≤ top) × Walk links terminal start k v
       sound v k e = let p = sound_from (Mid links flips) terminal start top m depths v k e in (p.0, new_walk k v p.1)
@@ -173,12 +187,15 @@ module _ (links : ℕ → ℕ → Type 0) (terminal : ℕ → Bool) (flips : Lis
           let p = s.only k v h in
           let n = p.2.0 in
           let w = sound p.0 n.0 n.2.marked in
-          (omega (arith, n.1, n.2.below), subst (λ (j : ℕ). Walk links terminal start j v) (sym n.1) (goes_on w.1 n.2.passable (added p.0 v p.1)))
+          (omega (arith, n.1, n.2.below), subst (λ (j : ℕ). Walk links terminal start j v) (sym n.1) (goes_on w.1 n.2.passable (added p.0
+              v p.1)))
 
-      lowered : (x y d : ℕ) → Expands terminal top m x d → IsFlipped flips true x y → (o : Option ℕ) → m y ≡ o → IsBound m (λ k v. Contains seeds (k, v)) y (suc d)
+      lowered : (x y d : ℕ) → Expands terminal top m x d → IsFlipped flips true x y → (o : Option ℕ) → m y ≡ o
+          → IsBound m (λ k v. Contains seeds (k, v)) y (suc d)
       lowered x y d e f None u = (suc d, omega arith, inr (s.each x y (suc d) f ((d, refl, e), λ j g. absurd (none-some j (sym u ∙ g)))))
       lowered x y d e f (Some j) u = elim (cases_lt (suc d) j) [
-        | inl lt ↦ (suc d, omega arith, inr (s.each x y (suc d) f ((d, refl, e), λ i g. let same : j ≡ i = same_Some j i (sym u ∙ g) in omega (arith, lt, same))))
+        | inl lt ↦ (suc d, omega arith, inr (s.each x y (suc d) f ((d, refl, e), λ i g. let same : j ≡ i = same_Some j i (sym u ∙ g) in
+            omega (arith, lt, same))))
         | inr ge ↦ (j, ge, inl u)
       ]
 
@@ -192,7 +209,8 @@ module _ (links : ℕ → ℕ → Type 0) (terminal : ℕ → Bool) (flips : Lis
   improved_moved v i same = by (m v) refl
     where
       by : (o : Option ℕ) → m v ≡ o → ⊥
-      by None e = no_walk links terminal start top v (λ n h. none-some n (sym e ∙ (depths v n).1 ((same n).1 h))) (suc i.links_of_it) i.links_of_it (omega arith) i.within i.walk
+      by None e = no_walk links terminal start top v (λ n h. none-some n (sym e ∙ (depths v n).1 ((same n).1 h))) (suc i.links_of_it)
+          i.links_of_it (omega arith) i.within i.walk
       by (Some j) e =
           let f = i.fewer j e in
           let g = ((same j).0 ((depths v j).0 e)).least i.links_of_it i.walk in
@@ -203,7 +221,8 @@ module _ (links : ℕ → ℕ → Type 0) (terminal : ℕ → Bool) (flips : Lis
   spent_grown count before after s = record {
     numbers = s.numbers;
     distinct = s.distinct;
-    among = All-weaker (Improves links terminal start top m) (NearOneWay flips true (Mid links flips) links terminal start top) (λ v i. touched (improved_moved v i)) s.numbers s.among;
+    among = All-weaker (Improves links terminal start top m) (NearOneWay flips true (Mid links flips) links terminal start top) (λ v i.
+        touched (improved_moved v i)) s.numbers s.among;
     bound = s.bound;
   }
 

@@ -20,7 +20,8 @@ pub spent_both : (count : ℕ → ℕ) (Among First Second : ℕ → Type 0) (be
     → IsWithin count First 4 before mid → IsWithin count Second 1 mid after → IsWithin (λ v. 1 + count v) Among 5 before after
 spent_both count Among First Second before mid after f g a b =
     within_heavier count (λ v. 1 + count v) Among 5 before after (λ v. omega arith)
-    (within_both count Among 4 1 before mid after (within_wider count First Among 4 before mid f a) (within_wider count Second Among 1 mid after g b))
+    (within_both count Among 4 1 before mid after (within_wider count First Among 4 before mid f a) (within_wider count Second Among 1
+        mid after g b))
 
 -- the bound of a cut alone
 pub spent_first : (count : ℕ → ℕ) (Among First : ℕ → Type 0) (before after : ℕ) → ((v : ℕ) → First v → Among v)
@@ -105,7 +106,8 @@ module _ {S : Type 0} (count : ℕ → ℕ) (link : ℕ → ℕ → Option ℕ) 
 
       mid_reached : (k v : ℕ) → k ≤ top → Walk (Mid (Linked count link) flips) terminal start k v → (j : ℕ) × (m v ≡ Some j)
       mid_reached k v le w =
-          old_reached k v le (walk_along (Mid (Linked count link) flips) (Old (Linked count link) flips) terminal start (λ x y l. inl l) k v w)
+          old_reached k v le (walk_along (Mid (Linked count link) flips) (Old (Linked count link) flips) terminal start (λ x y l. inl l)
+              k v w)
 
       old_back : (v w : ℕ) → Old (Linked count link) flips v w → WithRemoved shown flips v w
       old_back v w l = elim l [ inl mid ↦ inl (shown_back v w mid) | inr f ↦ inr f ]
@@ -113,10 +115,12 @@ module _ {S : Type 0} (count : ℕ → ℕ) (link : ℕ → ℕ → Option ℕ) 
       old_met : (v w k : ℕ) → m v ≡ Some k → WithRemoved shown flips v w → Old (Linked count link) flips v w
       old_met v w k e l = elim l [ inl mid ↦ inl (shown_met v w k e mid) | inr f ↦ inr f ]
 
-      old_there : (v k : ℕ) → HasDepth (WithRemoved shown flips) terminal start top v k → HasDepth (Old (Linked count link) flips) terminal start top v k
+      old_there : (v k : ℕ) → HasDepth (WithRemoved shown flips) terminal start top v k
+          → HasDepth (Old (Linked count link) flips) terminal start top v k
       old_there = depth_met (Old (Linked count link) flips) (WithRemoved shown flips) terminal start top m old_back old_reached old_met
 
-      old_again : (v k : ℕ) → HasDepth (Old (Linked count link) flips) terminal start top v k → HasDepth (WithRemoved shown flips) terminal start top v k
+      old_again : (v k : ℕ) → HasDepth (Old (Linked count link) flips) terminal start top v k
+          → HasDepth (WithRemoved shown flips) terminal start top v k
       old_again = depth_more (Old (Linked count link) flips) (WithRemoved shown flips) terminal start top m old_back old_reached old_met
 
       mid_there : (v k : ℕ) → HasDepth shown terminal start top v k → HasDepth (Mid (Linked count link) flips) terminal start top v k
@@ -131,14 +135,16 @@ module _ {S : Type 0} (count : ℕ → ℕ) (link : ℕ → ℕ → Option ℕ) 
         depths = λ v k. (λ e. old_again v k ((depths v k).0 e), λ h. (depths v k).1 (old_there v k h));
       }
 
-      pub after_cut : (n : ℕ → Option ℕ) → AreDepths shown terminal start top n → AreDepths (Mid (Linked count link) flips) terminal start top n
+      pub after_cut : (n : ℕ → Option ℕ) → AreDepths shown terminal start top n
+          → AreDepths (Mid (Linked count link) flips) terminal start top n
       after_cut n cut v k = (λ e. mid_there v k ((cut v k).0 e), λ h. (cut v k).1 (mid_again v k h))
 
       same_cut : (v : ℕ) → SameDepth (Old (Linked count link) flips) (Mid (Linked count link) flips) terminal start top v
           → SameDepth (WithRemoved shown flips) shown terminal start top v
       same_cut v same k = (λ h. mid_again v k ((same k).0 (old_there v k h)), λ h. old_again v k ((same k).1 (mid_there v k h)))
 
-      pub near_cut : (v : ℕ) → NearOneWay flips false (WithRemoved shown flips) shown terminal start top v → NearFlips (Linked count link) flips terminal start top v
+      pub near_cut : (v : ℕ) → NearOneWay flips false (WithRemoved shown flips) shown terminal start top v
+          → NearFlips (Linked count link) flips terminal start top v
       near_cut v (at_flip e) = at_flip (inr e)
       near_cut v (touched t) = touched (λ same. t (same_cut v same.0))
       near_cut v (beside {u = u} t l) = beside (λ same. t (same_cut u same.0)) (elim l [

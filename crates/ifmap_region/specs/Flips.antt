@@ -1,5 +1,7 @@
 -- Flips: links that two graphs do not share.
-use Rattle.std.specs.Prelude.{◌≡◌, ℕ, Bool, true, false, List, Contains, ◌⊎◌}
+use Rattle.std.specs.Prelude.{◌≡◌, ℕ, Bool, true, false, List, Contains, [], ◌∷◌, ◌++◌, ◌⊎◌}
+use Rattle.std.proofs.Common.{inl, inr, sym, ap, subst, ◌∙◌}
+use Rattle.std.proofs.lemmas.List.Elements.{Contains-push_cases}
 use Rattle.ifmap_region.specs.declared.flips.Flip.{Flip}
 
 -- the flip joins two numbers, whichever end is `a`
@@ -25,3 +27,11 @@ Mid new flips v w = new v w × ¬ IsFlipped flips true v w
 -- the links of the old graph: the new ones with the flips undone
 abbrev pub Old : (ℕ → ℕ → Type 0) → List Flip → ℕ → ℕ → Type 0
 Old new flips = WithRemoved (Mid new flips) flips
+
+-- what is flipped by the flips and one more is flipped by these, or by that one
+pub flipped_cases : (flips : List Flip) (flip : Flip) (added : Bool) (v w : ℕ) → IsFlipped (flips ++ flip ∷ []) added v w
+    → IsFlipped flips added v w ⊎ ((flip.added ≡ added) × Joins flip v w)
+flipped_cases flips flip added v w h = elim (Contains-push_cases flips flip h.0 h.1) [
+  | inl before ↦ inl (h.0, before, h.2, h.3)
+  | inr e ↦ inr (ap (λ (f : Flip). f.added) e ∙ h.2, subst (λ (f : Flip). Joins f v w) (sym e) h.3)
+]

@@ -1,6 +1,6 @@
 pub mod Bounds
+pub mod Distinct
 pub mod Flips
-pub mod General
 pub mod Hiding
 pub mod Links
 pub mod Losing

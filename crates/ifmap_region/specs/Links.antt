@@ -1,7 +1,8 @@
 -- Links between numbers, by their places at a number.
 use Rattle.std.specs.Prelude.{◌≡◌, ℕ, ◌<◌, Option, Some}
 
--- a number has a matching link with another at some place: `link` gives the other end at a place, or nothing where the link there does not match
+-- a number has a matching link with another at some place: `link` gives the other end at a place, or nothing where
+-- the link there does not match
 abbrev pub Linked : (ℕ → ℕ) → (ℕ → ℕ → Option ℕ) → ℕ → ℕ → Type 0
 Linked count link v w = (i : ℕ) × (i < count v) × (link v i ≡ Some w)
 

@@ -8,23 +8,30 @@ use Rattle.ifmap_region.specs.Near.{NearOneWay}
 use Rattle.ifmap_region.specs.Marks.{row_of, over}
 use Rattle.ifmap_region.specs.Walks.{Walk, AreDepths, Expands}
 
--- the ends of the first links of a number, given by their places, have come to wait at the level, where it is their mark
-pub record Follows (link : ℕ → Option ℕ) (places : ℕ) (mark : ℕ → Option ℕ) (level : ℕ) (before after : List (ℕ × ℕ)) : Type 0 where
+-- the ends of the first links of a number, given by their places, have come to wait at the level, where it is their
+-- mark
+pub record Follows (link : ℕ → Option ℕ) (places : ℕ) (mark : ℕ → Option ℕ) (level : ℕ) (before after : List (ℕ × ℕ))
+    : Type 0 where
   pub kept : (s : ℕ × ℕ) → Contains before s → Contains after s
-  pub joined : (s : ℕ × ℕ) → Contains after s → Contains before s ⊎ ((s.0 ≡ level) × (mark s.1 ≡ Some level) × ((j : ℕ) × (j < places) × (link j ≡ Some s.1)))
+  pub joined : (s : ℕ × ℕ) → Contains after s → Contains before s ⊎ ((s.0 ≡ level) × (mark s.1 ≡ Some level) × ((j :
+      ℕ) × (j < places) × (link j ≡ Some s.1)))
   pub followed : (w j : ℕ) → j < places → link j ≡ Some w → mark w ≡ Some level → Contains after (level, w)
 
 -- a neighbour that is nearer by one, and not terminal, has its mark
 abbrev pub IsHeld : (ℕ → ℕ → Type 0) → (ℕ → Bool) → (ℕ → Option ℕ) → ℕ → ℕ → Type 0
-IsHeld links terminal mark v k = (u : ℕ) × (d : ℕ) × (k ≡ suc d) × links u v × (terminal u ≡ false) × (mark u ≡ Some d)
+IsHeld links terminal mark v k = (u : ℕ) × (d : ℕ) × (k ≡ suc d) × links u v × (terminal u ≡ false) × (mark u ≡ Some
+    d)
 
 -- what the rows say while marks are taken away: a number with a row was looked at, and its row has its mark or none
-pub record IsLosing (old mid : ℕ → ℕ → Type 0) (terminal : ℕ → Bool) (start : ℕ) (IsNear : ℕ → Type 0) (first : ℕ → Option ℕ) (rows : List (ℕ × Option ℕ)) (waits : ℕ → ℕ → Type 0) (level : ℕ) : Type 0 where
+pub record IsLosing (old mid : ℕ → ℕ → Type 0) (terminal : ℕ → Bool) (start : ℕ) (IsNear : ℕ → Type 0) (first : ℕ
+    → Option ℕ) (rows : List (ℕ × Option ℕ)) (waits : ℕ → ℕ → Type 0) (level : ℕ) : Type 0 where
   pub entered : (k v : ℕ) → waits k v → (first v ≡ Some k) × (0 < k) × IsNear v
-  pub looked : (v : ℕ) (r : Option ℕ) → row_of rows v ≡ Some r → (k : ℕ) × (first v ≡ Some k) × (0 < k) × (k ≤ level) × IsNear v × ((r ≡ None) ⊎ (r ≡ Some k))
+  pub looked : (v : ℕ) (r : Option ℕ) → row_of rows v ≡ Some r → (k : ℕ) × (first v ≡ Some k) × (0 < k) × (k ≤ level)
+      × IsNear v × ((r ≡ None) ⊎ (r ≡ Some k))
   pub held : (v k : ℕ) → row_of rows v ≡ Some (Some k) → IsHeld mid terminal (over rows first) v k
   pub lost : (v k : ℕ) → row_of rows v ≡ Some None → first v ≡ Some k → ¬ Walk mid terminal start k v
-  pub firm : (v u d : ℕ) → first v ≡ Some (suc d) → row_of rows v ≡ None → old u v → terminal u ≡ false → first u ≡ Some d
+  pub firm : (v u d : ℕ) → first v ≡ Some (suc d) → row_of rows v ≡ None → old u v → terminal u ≡ false
+      → first u ≡ Some d
       → waits (suc d) v ⊎ (mid u v × (over rows first u ≡ Some d))
 
 -- these numbers lost their marks
@@ -41,19 +48,26 @@ pub record IsLookedAt (count : ℕ → ℕ) (rows : List (ℕ × Option ℕ)) (g
   pub all : (v : ℕ) → IsSome (row_of rows v) → Contains numbers v
   pub bound : after ≤ before + (sum_by count numbers + sum_by count gone)
 
--- seeds for numbers that are gone: a level for one that has an expanding neighbour, which is above the neighbour's mark by one, and not above that of another
-pub record Reseeds (links : ℕ → ℕ → Type 0) (terminal : ℕ → Bool) (top : ℕ) (mark : ℕ → Option ℕ) (gone : List ℕ) (seeds : List (ℕ × ℕ)) : Type 0 where
-  pub only : (k v : ℕ) → Contains seeds (k, v) → Contains gone v × ((u : ℕ) × (d : ℕ) × links v u × Expands terminal top mark u d × (k ≡ suc d))
-  pub each : (v u d : ℕ) → Contains gone v → links v u → Expands terminal top mark u d → (k : ℕ) × (k ≤ suc d) × Contains seeds (k, v)
+-- seeds for numbers that are gone: a level for one that has an expanding neighbour, which is above the neighbour's
+-- mark by one, and not above that of another
+pub record Reseeds (links : ℕ → ℕ → Type 0) (terminal : ℕ → Bool) (top : ℕ) (mark : ℕ
+    → Option ℕ) (gone : List ℕ) (seeds : List (ℕ × ℕ)) : Type 0 where
+  pub only : (k v : ℕ) → Contains seeds (k, v) → Contains gone v × ((u : ℕ) × (d : ℕ) × links v u × Expands terminal
+      top mark u d × (k ≡ suc d))
+  pub each : (v u d : ℕ) → Contains gone v → links v u → Expands terminal top mark u d
+      → (k : ℕ) × (k ≤ suc d) × Contains seeds (k, v)
 
 -- the marks are the depths over the links with the removed ones
-pub record IsBeforeCut (links : ℕ → ℕ → Type 0) (terminal : ℕ → Bool) (flips : List Flip) (start top : ℕ) (first : ℕ → Option ℕ) : Type 0 where
+pub record IsBeforeCut (links : ℕ → ℕ → Type 0) (terminal : ℕ → Bool) (flips : List Flip) (start top : ℕ) (first : ℕ
+    → Option ℕ) : Type 0 where
   pub symmetric : IsSymmetric links
   pub depths : AreDepths (WithRemoved links flips) terminal start top first
 
 -- the rows, the numbers that are gone and the steps agree while removed links are cut
-pub record IsCutting (links : ℕ → ℕ → Type 0) (terminal : ℕ → Bool) (count : ℕ → ℕ) (flips : List Flip) (start top : ℕ) (first : ℕ → Option ℕ)
+pub record IsCutting (links : ℕ → ℕ → Type 0) (terminal : ℕ → Bool) (count : ℕ
+    → ℕ) (flips : List Flip) (start top : ℕ) (first : ℕ → Option ℕ)
     (rows : List (ℕ × Option ℕ)) (gone : List ℕ) (waits : ℕ → ℕ → Type 0) (level before after : ℕ) : Type 0 where
-  pub losing : IsLosing (WithRemoved links flips) links terminal start (NearOneWay flips false (WithRemoved links flips) links terminal start top) first rows waits level
+  pub losing : IsLosing (WithRemoved links flips) links terminal start (NearOneWay flips false (WithRemoved links
+      flips) links terminal start top) first rows waits level
   pub are_gone : AreGone rows gone
   pub charged : IsLookedAt count rows gone before after

@@ -6,7 +6,8 @@ use Rattle.ifmap_region.specs.Walks.{HasDepth}
 
 -- whatever is the depth of the number over one graph is its depth over the other
 abbrev pub SameDepth : (ℕ → ℕ → Type 0) → (ℕ → ℕ → Type 0) → (ℕ → Bool) → ℕ → ℕ → ℕ → Type 0
-SameDepth before after terminal start top v = (k : ℕ) → HasDepth before terminal start top v k ↔ HasDepth after terminal start top v k
+SameDepth before after terminal start top v = (k : ℕ) → HasDepth before terminal start top v k ↔ HasDepth after
+    terminal start top v k
 
 -- the depth differs; having none differs from having one
 abbrev pub IsMoved : (ℕ → ℕ → Type 0) → (ℕ → ℕ → Type 0) → (ℕ → Bool) → ℕ → ℕ → ℕ → Type 0
@@ -20,13 +21,16 @@ pub data Near (IsFlipEnd IsTouched : ℕ → Type 0) (before after : ℕ → ℕ
 
 -- what is near, where links are removed, or added, and none else
 abbrev pub NearOneWay : List Flip → Bool → (ℕ → ℕ → Type 0) → (ℕ → ℕ → Type 0) → (ℕ → Bool) → ℕ → ℕ → ℕ → Type 0
-NearOneWay flips added before after terminal start top = Near (IsEnd flips added) (IsMoved before after terminal start top) before after
+NearOneWay flips added before after terminal start top = Near (IsEnd flips added) (IsMoved before after terminal
+    start top) before after
 
 -- the depth differs between the old links and those that stay, or between these and the new ones
 abbrev pub IsTouched : (ℕ → ℕ → Type 0) → List Flip → (ℕ → Bool) → ℕ → ℕ → ℕ → Type 0
 IsTouched new flips terminal start top v =
-    ¬ (SameDepth (Old new flips) (Mid new flips) terminal start top v × SameDepth (Mid new flips) new terminal start top v)
+    ¬ (SameDepth (Old new flips) (Mid new flips) terminal start top v × SameDepth (Mid new flips) new terminal start
+        top v)
 
 -- what is near the flips
 abbrev pub NearFlips : (ℕ → ℕ → Type 0) → List Flip → (ℕ → Bool) → ℕ → ℕ → ℕ → Type 0
-NearFlips new flips terminal start top = Near (λ v. IsEnd flips true v ⊎ IsEnd flips false v) (IsTouched new flips terminal start top) (Old new flips) new
+NearFlips new flips terminal start top = Near (λ v. IsEnd flips true v ⊎ IsEnd flips false v) (IsTouched new flips
+    terminal start top) (Old new flips) new

@@ -12,11 +12,13 @@ IsNext terminal top mark x k = (d : ℕ) × (k ≡ suc d) × Expands terminal to
 abbrev pub MayHold : (ℕ → Bool) → ℕ → (ℕ → Option ℕ) → ℕ → ℕ → ℕ → Type 0
 MayHold terminal top mark x y k = IsNext terminal top mark x k × (mark y ≡ Some k)
 
--- a number lowers another by a link: the level that follows its mark is below the mark of the other, which may have none
+-- a number lowers another by a link: the level that follows its mark is below the mark of the other, which may have
+-- none
 abbrev pub Lowers : (ℕ → Bool) → ℕ → (ℕ → Option ℕ) → ℕ → ℕ → ℕ → Type 0
 Lowers terminal top mark x y k = IsNext terminal top mark x k × ((j : ℕ) → mark y ≡ Some j → k < j)
 
 -- there is a seed for an end of a flip of the kind exactly where the other end gives it that level
-pub record SeedsAlong (flips : List Flip) (added : Bool) (Gives : ℕ → ℕ → ℕ → Type 0) (seeds : List (ℕ × ℕ)) : Type 0 where
+pub record SeedsAlong (flips : List Flip) (added : Bool) (Gives : ℕ → ℕ → ℕ
+    → Type 0) (seeds : List (ℕ × ℕ)) : Type 0 where
   pub only : (k y : ℕ) → Contains seeds (k, y) → (x : ℕ) × IsFlipped flips added x y × Gives x y k
   pub each : (x y k : ℕ) → IsFlipped flips added x y → Gives x y k → Contains seeds (k, y)

@@ -11,14 +11,19 @@ waiting level numbers entries k v = ((k ≡ level) × Contains numbers v) ⊎ Co
 abbrev pub IsBound : (ℕ → Option ℕ) → (ℕ → ℕ → Type 0) → ℕ → ℕ → Type 0
 IsBound mark waits v d = (k : ℕ) × (k ≤ d) × ((mark v ≡ Some k) ⊎ waits k v)
 
--- the ends of the first links of a number, given by their places, have a mark that is at most the level, or have come to wait there
-pub record Offers (link : ℕ → Option ℕ) (places : ℕ) (mark : ℕ → Option ℕ) (level : ℕ) (before after : List (ℕ × ℕ)) : Type 0 where
+-- the ends of the first links of a number, given by their places, have a mark that is at most the level, or have come
+-- to wait there
+pub record Offers (link : ℕ → Option ℕ) (places : ℕ) (mark : ℕ → Option ℕ) (level : ℕ) (before after : List (ℕ × ℕ))
+    : Type 0 where
   pub kept : (s : ℕ × ℕ) → Contains before s → Contains after s
-  pub joined : (s : ℕ × ℕ) → Contains after s → Contains before s ⊎ ((s.0 ≡ level) × ((j : ℕ) × (j < places) × (link j ≡ Some s.1)))
-  pub offered : (w j : ℕ) → j < places → link j ≡ Some w → ((k : ℕ) × (mark w ≡ Some k) × (k ≤ level)) ⊎ Contains after (level, w)
+  pub joined : (s : ℕ × ℕ) → Contains after s → Contains before s ⊎ ((s.0 ≡ level) × ((j : ℕ) × (j < places) × (link
+      j ≡ Some s.1)))
+  pub offered : (w j : ℕ) → j < places → link j ≡ Some w → ((k : ℕ) × (mark w ≡ Some k) × (k ≤ level)) ⊎ Contains
+      after (level, w)
 
 module _ (links : ℕ → ℕ → Type 0) (terminal : ℕ → Bool) (start top : ℕ) where
-  -- marks and what waits stand for walks, and where a walk goes on there is a mark that is low enough, or a number waits
+  -- marks and what waits stand for walks, and where a walk goes on there is a mark that is low enough, or a number
+  -- waits
   pub record IsReady (mark : ℕ → Option ℕ) (waits : ℕ → ℕ → Type 0) : Type 0 where
     pub sound : (v k : ℕ) → mark v ≡ Some k → (k ≤ top) × Walk links terminal start k v
     pub walks : (v k : ℕ) → waits k v → (k ≤ top) × Walk links terminal start k v

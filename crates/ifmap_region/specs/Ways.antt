@@ -14,7 +14,8 @@ missing rows patch = count_by (λ e. is_none (row_of rows e.0)) patch
 
 -- numbers of the patch that had no row may have one without a mark; all other rows stay
 abbrev pub OnlyRoom : List (ℕ × Option ℕ) → List (ℕ × Option ℕ) → List (ℕ × Option ℕ) → Type 0
-OnlyRoom patch old new = (v : ℕ) → (row_of new v ≡ row_of old v) ⊎ ((row_of old v ≡ None) × (row_of new v ≡ Some None) × IsSome (row_of patch v))
+OnlyRoom patch old new = (v : ℕ) → (row_of new v ≡ row_of old v) ⊎ ((row_of old v ≡ None) × (row_of new v ≡ Some
+    None) × IsSome (row_of patch v))
 
 -- the marks of the patch are made, where it has a number, and all rows stay rows
 pub record Makes (patch old new : List (ℕ × Option ℕ)) : Type 0 where
@@ -27,13 +28,16 @@ taken_from mark patch = map (λ e. (e.0, mark e.0)) patch
 
 -- the numbers of the patch have no row without a mark any more; all other rows stay
 pub record Sweeps (patch old new : List (ℕ × Option ℕ)) : Type 0 where
-  pub each : (v : ℕ) → (row_of new v ≡ row_of old v) ⊎ ((row_of old v ≡ Some None) × (row_of new v ≡ None) × IsSome (row_of patch v))
+  pub each : (v : ℕ) → (row_of new v ≡ row_of old v) ⊎ ((row_of old v ≡ Some None) × (row_of new v ≡ None) × IsSome
+      (row_of patch v))
   pub out : (v : ℕ) → IsSome (row_of patch v) → row_of old v ≡ Some None → row_of new v ≡ None
 
--- the mark of the number at a place of the patch is exchanged with the one that the patch has there; past the patch's end nothing changes
+-- the mark of the number at a place of the patch is exchanged with the one that the patch has there; past the patch's
+-- end nothing changes
 pub record Exchanges (i : ℕ) (old patch new back : List (ℕ × Option ℕ)) : Type 0 where
   pub at : (n : ℕ) (r : Option ℕ) → slice_get patch i ≡ Some (n, r)
-      → ((q : ℕ) → row_of new q ≡ update nat_eq (row_of old) n (Some r) q) × (back ≡ insert_entry nat_eq patch n (mark_of old n))
+      → ((q : ℕ) → row_of new q ≡ update nat_eq (row_of old) n (Some r) q) × (back ≡ insert_entry nat_eq patch n
+          (mark_of old n))
 
 -- what a change gave as its way back: the marks that its numbers had, where the marks afterwards are those before
 -- with the patch made. Which rows stand without a mark does not matter

@@ -20,7 +20,7 @@ use indexmap::IndexMap;
 use std::alloc::{AllocError as NoMemory, Global};
 use std::sync::ledger::Ledger;
 
-/// The lesser of two levels, where there are two.
+// The lesser of two levels, where there are two.
 fn lesser(a: Option<u32>, b: Option<u32>) -> Option<u32>
     ensures one { (result ≡ a) ⊎ (result ≡ b) }
     ensures first { (k : ℕ) → a ≡ Some k → (m : ℕ) × (m ≤ k) × (result ≡ Some m) }
@@ -35,7 +35,7 @@ fn lesser(a: Option<u32>, b: Option<u32>) -> Option<u32>
     }
 }
 
-/// The least level that a neighbour gives the number.
+// The least level that a neighbour gives the number.
 fn least_level<G: LinkSource, L: Ledger>(
     base: &IndexMap<u64, Option<u32>>,
     rows: &IndexMap<u64, Option<u32>>,
@@ -61,7 +61,7 @@ fn least_level<G: LinkSource, L: Ledger>(
     least
 }
 
-/// A seed for each number that is gone and has a neighbour from which a walk goes on.
+// A seed for each number that is gone and has a neighbour from which a walk goes on.
 fn reseed<G: LinkSource, L: Ledger>(
     alloc: Global,
     base: &IndexMap<u64, Option<u32>>,
@@ -84,12 +84,12 @@ fn reseed<G: LinkSource, L: Ledger>(
     Ok(seeds)
 }
 
-/// From depths over the links of `graph` and the removed ones, the rows that make them depths over
-/// the links of `graph` alone.
-///
-/// A number whose mark may have rested on a removed link is looked at, level by level: it keeps its
-/// mark where a neighbour that stays holds it. What lost its mark is then found again from what is
-/// left.
+// From depths over the links of `graph` and the removed ones, the rows that make them depths over
+// the links of `graph` alone.
+//
+// A number whose mark may have rested on a removed link is looked at, level by level: it keeps its
+// mark where a neighbour that stays holds it. What lost its mark is then found again from what is
+// left.
 pub(crate) fn cut<G: LinkSource, L: Ledger>(
     alloc: Global,
     base: &IndexMap<u64, Option<u32>>,

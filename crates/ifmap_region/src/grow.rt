@@ -16,9 +16,9 @@ use indexmap::IndexMap;
 use std::alloc::{AllocError as NoMemory, Global};
 use std::sync::ledger::Ledger;
 
-/// From depths over the links of `graph` without the added ones, depths over all its links.
-///
-/// Each end of an added link that the other end lowers is a seed, and marks fall from there.
+// From depths over the links of `graph` without the added ones, depths over all its links.
+//
+// Each end of an added link that the other end lowers is a seed, and marks fall from there.
 pub(crate) fn grow<G: LinkSource, L: Ledger>(
     alloc: Global,
     base: &IndexMap<u64, Option<u32>>,

@@ -6,7 +6,7 @@ use std::alloc::{AllocError as NoMemory, Global};
 use std::marker::Model;
 use std::mem;
 
-/// Numbers that wait, each at a level, rising by level.
+// Numbers that wait, each at a level, rising by level.
 #[derive(Drop)]
 pub(crate) struct Seeds {
     items: Vec<(u32, u64)>,
@@ -27,8 +27,8 @@ impl Model for Seeds {
 }
 
 impl Seeds {
-    /// These seeds, in order of their levels.
-    pub(crate) fn sorted(mut items: Vec<(u32, u64)>) -> Seeds
+    // These seeds, in order of their levels.
+    pub(crate) fn sort_seeds(mut items: Vec<(u32, u64)>) -> Seeds
         ensures kept { (s : ℕ × ℕ) → Contains items.items s → Contains result s }
         ensures only { (s : ℕ × ℕ) → Contains result s → Contains items.items s }
     {
@@ -36,7 +36,7 @@ impl Seeds {
         Seeds { items, taken: 0 }
     }
 
-    /// The least level of a seed.
+    // The least level of a seed.
     fn least(&self) -> Option<u32>
         ensures none { IfNone result (self.now ≡ []) }
         ensures least { IfSome result (λ level. All (λ s. level ≤ s.0) self.now) }
@@ -50,7 +50,7 @@ impl Seeds {
         }
     }
 
-    /// Takes out a seed of the level, which is not above that of any seed.
+    // Takes out a seed of the level, which is not above that of any seed.
     fn pop_at(&mut self, level: u32) -> Option<u64>
         ensures some { IfSome result (λ number. self.old ≡ (level, number) ∷ self.new) }
         ensures none { IfNone result (self.new ≡ self.old) }
@@ -66,7 +66,7 @@ impl Seeds {
         }
     }
 
-    /// Takes out all seeds of the level, which is not above that of any seed, and appends their numbers.
+    // Takes out all seeds of the level, which is not above that of any seed, and appends their numbers.
     fn pop_level(&mut self, level: u32, into: &mut Vec<u64>) -> Result<(), NoMemory>
         ensures moves { OnOk result (Moves self.old self.new level into.old.items into.new.items) }
         ensures left { (s : ℕ × ℕ) → Contains self.new s → Contains self.old s }
@@ -80,10 +80,10 @@ impl Seeds {
     }
 }
 
-/// Numbers that wait, each at a level. Those of the least level come out first, all at once.
-///
-/// What comes out may put in numbers of the next level. No memory is kept for a level at which
-/// nothing waits.
+// Numbers that wait, each at a level. Those of the least level come out first, all at once.
+//
+// What comes out may put in numbers of the next level. No memory is kept for a level at which
+// nothing waits.
 #[derive(Drop)]
 pub(crate) struct Levels {
     // the level of the numbers in `next`; no seed that is left is below it
@@ -108,7 +108,7 @@ impl Model for Levels {
 }
 
 impl Levels {
-    /// The seeds, each at its level, and nothing else.
+    // The seeds, each at its level, and nothing else.
     pub(crate) fn from_seeds(alloc: Global, seeds: Vec<(u32, u64)>) -> Levels
         ensures kept { (s : ℕ × ℕ) → Contains seeds.items s → Contains result.entries s }
         ensures only { (s : ℕ × ℕ) → Contains result.entries s → Contains seeds.items s }
@@ -116,11 +116,11 @@ impl Levels {
         Levels {
             floor: 0,
             next: Vec::new(alloc),
-            seeds: Seeds::sorted(seeds),
+            seeds: Seeds::sort_seeds(seeds),
         }
     }
 
-    /// One number more, at the level that follows the one that came out last.
+    // One number more, at the level that follows the one that came out last.
     pub(crate) fn push(&mut self, number: u64) -> Result<(), NoMemory>
         requires { self.old.floor < 2 ^ 32 }
         ensures floor { self.new.floor ≡ self.old.floor }
@@ -132,7 +132,7 @@ impl Levels {
         Ok(())
     }
 
-    /// The least level at which a number waits, with all numbers that wait there; they are out then.
+    // The least level at which a number waits, with all numbers that wait there; they are out then.
     pub(crate) fn next_level(&mut self, alloc: Global) -> Result<Option<(u32, Vec<u64>)>, NoMemory>
         ensures { IfOk result (λ found. MatchOption found (self.old.entries ≡ [])
             (λ out. ComesOut self.old self.new out.0 out.1.items)) }

@@ -19,7 +19,7 @@ use indexmap::IndexMap;
 use std::alloc::{AllocError as NoMemory, Global};
 use std::sync::ledger::Ledger;
 
-/// Whether there is a mark, and it is one below the level.
+// Whether there is a mark, and it is one below the level.
 fn is_just_below(mark: Option<u32>, level: u32) -> bool
     ensures yes { result ≡ true → (d : ℕ) × (mark ≡ Some d) × (level ≡ suc d) }
     ensures no { result ≡ false → (d : ℕ) → mark ≡ Some d → level ≡ suc d → ⊥ }
@@ -30,7 +30,7 @@ fn is_just_below(mark: Option<u32>, level: u32) -> bool
     }
 }
 
-/// Whether a neighbour that is nearer by one, and not terminal, has its mark. The look ends at the first.
+// Whether a neighbour that is nearer by one, and not terminal, has its mark. The look ends at the first.
 fn is_held<G: LinkSource, L: Ledger>(
     base: &IndexMap<u64, Option<u32>>,
     rows: &IndexMap<u64, Option<u32>>,
@@ -57,7 +57,7 @@ fn is_held<G: LinkSource, L: Ledger>(
     false
 }
 
-/// Lets the neighbours of a number wait that had the next level as their mark.
+// Lets the neighbours of a number wait that had the next level as their mark.
 fn follow<G: LinkSource, L: Ledger>(
     base: &IndexMap<u64, Option<u32>>,
     graph: &G,
@@ -82,8 +82,8 @@ fn follow<G: LinkSource, L: Ledger>(
     Ok(())
 }
 
-/// Looks at a number that may have lost what held it: it keeps its mark where a neighbour holds it.
-/// Otherwise it loses its mark, and the neighbours wait that it may have held.
+// Looks at a number that may have lost what held it: it keeps its mark where a neighbour holds it.
+// Otherwise it loses its mark, and the neighbours wait that it may have held.
 fn look<G: LinkSource, L: Ledger>(
     base: &IndexMap<u64, Option<u32>>,
     rows: &mut IndexMap<u64, Option<u32>>,
@@ -133,7 +133,7 @@ fn look<G: LinkSource, L: Ledger>(
     Ok(())
 }
 
-/// Looks at the numbers of one level.
+// Looks at the numbers of one level.
 fn look_level<G: LinkSource, L: Ledger>(
     base: &IndexMap<u64, Option<u32>>,
     rows: &mut IndexMap<u64, Option<u32>>,
@@ -176,8 +176,8 @@ fn look_level<G: LinkSource, L: Ledger>(
     Ok(())
 }
 
-/// Takes away the mark of each number that has another depth over the links of `graph` than over
-/// these and the removed ones, and gives those numbers.
+// Takes away the mark of each number that has another depth over the links of `graph` than over
+// these and the removed ones, and gives those numbers.
 pub(crate) fn lose<G: LinkSource, L: Ledger>(
     alloc: Global,
     base: &IndexMap<u64, Option<u32>>,

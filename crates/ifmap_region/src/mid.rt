@@ -14,7 +14,7 @@ use std::alloc::{AllocError as NoMemory, Global};
 use std::collections::HashSet;
 use std::sync::ledger::Ledger;
 
-/// The links of a graph without some, each of which is named both ways round.
+// The links of a graph without some, each of which is named both ways round.
 #[derive(Drop)]
 pub(crate) struct Mid<'a, G> {
     pub(crate) graph: &'a G,

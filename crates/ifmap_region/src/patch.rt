@@ -74,7 +74,7 @@ impl Model for RegionUndo {
     ghost view = { λ p. p.rows.entries };
 }
 
-/// Whether two marks are the same; having none is the same as having none.
+// Whether two marks are the same; having none is the same as having none.
 fn is_same(a: Option<u32>, b: Option<u32>) -> bool
     ensures yes { result ≡ true → a ≡ b }
     ensures no { result ≡ false → a ≡ b → ⊥ }
@@ -91,8 +91,8 @@ fn is_same(a: Option<u32>, b: Option<u32>) -> bool
     }
 }
 
-/// The rows that differ from the marks below them.
-pub(crate) fn differing(
+// The rows that differ from the marks below them.
+pub(crate) fn changed_rows(
     alloc: Global,
     base: &IndexMap<u64, Option<u32>>,
     rows: &IndexMap<u64, Option<u32>>,

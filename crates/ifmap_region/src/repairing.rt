@@ -12,7 +12,7 @@ use crate::flips::Flip;
 use crate::grow::grow;
 use crate::link_source::LinkSource;
 use crate::mid::{Mid, near_pairs};
-use crate::patch::{Patch, differing};
+use crate::patch::{Patch, changed_rows};
 use crate::region::Region;
 use ifmap_steps::Steps;
 use std::alloc::{AllocError as NoMemory, Global};
@@ -61,6 +61,6 @@ pub fn repair<G: LinkSource, L: Ledger>(
     let mid = Mid { graph, hidden };
     let mut rows = cut(alloc, &region.marks, top, &mid, flips, steps)?;
     grow(alloc, &region.marks, &mut rows, top, graph, flips, steps)?;
-    let rows = differing(alloc, &region.marks, &rows)?;
+    let rows = changed_rows(alloc, &region.marks, &rows)?;
     Ok(Patch { rows })
 }

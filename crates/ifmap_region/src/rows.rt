@@ -6,7 +6,7 @@ ghost use Rattle.std.specs.Map.{update};
 use indexmap::IndexMap;
 use std::alloc::AllocError as NoMemory;
 
-/// The marks of `rows` where they have a row, else those of `base`.
+// The marks of `rows` where they have a row, else those of `base`.
 pub(crate) fn mark(
     base: &IndexMap<u64, Option<u32>>,
     rows: &IndexMap<u64, Option<u32>>,
@@ -23,14 +23,14 @@ pub(crate) fn mark(
     }
 }
 
-/// Whether the number has a row.
+// Whether the number has a row.
 pub(crate) fn has_row(rows: &IndexMap<u64, Option<u32>>, number: u64) -> bool
     ensures { result ≡ is_some (row_of rows.now.entries number) }
 {
     rows.contains_key(&number)
 }
 
-/// Puts a row in, in place of the one that is there.
+// Puts a row in, in place of the one that is there.
 pub(crate) fn put(
     rows: &mut IndexMap<u64, Option<u32>>,
     number: u64,
@@ -44,7 +44,7 @@ pub(crate) fn put(
     Ok(())
 }
 
-/// Whether there is a mark, and it is at most the level.
+// Whether there is a mark, and it is at most the level.
 pub(crate) fn is_within(mark: Option<u32>, level: u32) -> bool
     ensures yes { result ≡ true → (k : ℕ) × (mark ≡ Some k) × (k ≤ level) }
     ensures no { result ≡ false → (k : ℕ) → mark ≡ Some k → level < k }
@@ -55,7 +55,7 @@ pub(crate) fn is_within(mark: Option<u32>, level: u32) -> bool
     }
 }
 
-/// Whether the mark is this one.
+// Whether the mark is this one.
 pub(crate) fn is_mark(mark: Option<u32>, level: u32) -> bool
     ensures yes { result ≡ true → mark ≡ Some level }
     ensures no { result ≡ false → mark ≡ Some level → ⊥ }
@@ -66,7 +66,7 @@ pub(crate) fn is_mark(mark: Option<u32>, level: u32) -> bool
     }
 }
 
-/// The mark of the number in these rows alone.
+// The mark of the number in these rows alone.
 pub(crate) fn mark_in(rows: &IndexMap<u64, Option<u32>>, number: u64) -> Option<u32>
     ensures { result ≡ mark_of rows.now.entries number }
 {

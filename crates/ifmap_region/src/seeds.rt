@@ -10,7 +10,7 @@ use crate::rows::{is_mark, is_within, mark};
 use indexmap::IndexMap;
 use std::alloc::{AllocError as NoMemory, Global};
 
-/// The level that follows the mark of the number, where a walk may go on from it.
+// The level that follows the mark of the number, where a walk may go on from it.
 pub(crate) fn next_of<G: LinkSource>(
     base: &IndexMap<u64, Option<u32>>,
     rows: &IndexMap<u64, Option<u32>>,
@@ -36,7 +36,7 @@ pub(crate) fn next_of<G: LinkSource>(
     }
 }
 
-/// The mark of `to`, where `from` may have held it.
+// The mark of `to`, where `from` may have held it.
 fn held_at<G: LinkSource>(
     base: &IndexMap<u64, Option<u32>>,
     rows: &IndexMap<u64, Option<u32>>,
@@ -63,7 +63,7 @@ fn held_at<G: LinkSource>(
     }
 }
 
-/// The level to which `from` lowers `to`.
+// The level to which `from` lowers `to`.
 fn lowered_to<G: LinkSource>(
     base: &IndexMap<u64, Option<u32>>,
     rows: &IndexMap<u64, Option<u32>>,
@@ -90,7 +90,7 @@ fn lowered_to<G: LinkSource>(
     }
 }
 
-/// Puts a seed in, where there is a level.
+// Puts a seed in, where there is a level.
 pub(crate) fn offer(
     seeds: &mut Vec<(u32, u64)>,
     level: Option<u32>,
@@ -105,7 +105,7 @@ pub(crate) fn offer(
     Ok(())
 }
 
-/// The ends of removed links that the other end may have held, at their marks.
+// The ends of removed links that the other end may have held, at their marks.
 pub(crate) fn held_seeds<G: LinkSource>(
     alloc: Global,
     base: &IndexMap<u64, Option<u32>>,
@@ -130,7 +130,7 @@ pub(crate) fn held_seeds<G: LinkSource>(
     Ok(seeds)
 }
 
-/// The ends of added links that the other end lowers, at the levels to which it does.
+// The ends of added links that the other end lowers, at the levels to which it does.
 pub(crate) fn lowered_seeds<G: LinkSource>(
     alloc: Global,
     base: &IndexMap<u64, Option<u32>>,

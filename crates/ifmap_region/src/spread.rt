@@ -14,7 +14,7 @@ use indexmap::IndexMap;
 use std::alloc::{AllocError as NoMemory, Global};
 use std::sync::ledger::Ledger;
 
-/// Lets the neighbours of a number wait that have no mark, or one above the level that follows.
+// Lets the neighbours of a number wait that have no mark, or one above the level that follows.
 fn offer_neighbours<G: LinkSource, L: Ledger>(
     base: &IndexMap<u64, Option<u32>>,
     rows: &IndexMap<u64, Option<u32>>,
@@ -41,7 +41,7 @@ fn offer_neighbours<G: LinkSource, L: Ledger>(
     Ok(())
 }
 
-/// Gives a number the mark of its level, unless it has one that is no greater, and lets its neighbours wait.
+// Gives a number the mark of its level, unless it has one that is no greater, and lets its neighbours wait.
 fn visit<G: LinkSource, L: Ledger>(
     base: &IndexMap<u64, Option<u32>>,
     rows: &mut IndexMap<u64, Option<u32>>,
@@ -83,7 +83,7 @@ fn visit<G: LinkSource, L: Ledger>(
     Ok(())
 }
 
-/// Visits the numbers of one level.
+// Visits the numbers of one level.
 fn visit_level<G: LinkSource, L: Ledger>(
     base: &IndexMap<u64, Option<u32>>,
     rows: &mut IndexMap<u64, Option<u32>>,
@@ -121,10 +121,10 @@ fn visit_level<G: LinkSource, L: Ledger>(
     Ok(())
 }
 
-/// Lowers marks until they are the depths: each seed, a level and a number, stands for a walk, and
-/// where a walk goes on there is a mark that is low enough, or a seed.
-///
-/// After want of memory only some marks have fallen.
+// Lowers marks until they are the depths: each seed, a level and a number, stands for a walk, and
+// where a walk goes on there is a mark that is low enough, or a seed.
+//
+// After want of memory only some marks have fallen.
 pub(crate) fn spread<G: LinkSource, L: Ledger>(
     alloc: Global,
     base: &IndexMap<u64, Option<u32>>,

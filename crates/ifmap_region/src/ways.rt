@@ -9,7 +9,7 @@ use crate::rows::{has_row, mark_in};
 use indexmap::IndexMap;
 use std::alloc::AllocError as NoMemory;
 
-/// Puts a row in where there is room for one, or the number has one. It takes no memory.
+// Puts a row in where there is room for one, or the number has one. It takes no memory.
 fn put_within(rows: &mut IndexMap<u64, Option<u32>>, number: u64, mark: Option<u32>)
     requires { (0 < spare rows.old) ⊎ IsSome (row_of rows.old.entries number) }
     ensures put { (q : ℕ)
@@ -23,7 +23,7 @@ fn put_within(rows: &mut IndexMap<u64, Option<u32>>, number: u64, mark: Option<u
     }
 }
 
-/// Whether the number has a row without a mark.
+// Whether the number has a row without a mark.
 fn is_bare(rows: &IndexMap<u64, Option<u32>>, number: u64) -> bool
     ensures yes { result ≡ true → row_of rows.now.entries number ≡ Some None }
     ensures no { result ≡ false → row_of rows.now.entries number ≡ Some None → ⊥ }
@@ -49,7 +49,7 @@ fn count_missing(rows: &IndexMap<u64, Option<u32>>, patch: &IndexMap<u64, Option
     count
 }
 
-/// Makes room for the numbers of `patch`: each that has no row gets one without a mark.
+// Makes room for the numbers of `patch`: each that has no row gets one without a mark.
 pub(crate) fn make_room(
     rows: &mut IndexMap<u64, Option<u32>>,
     patch: &IndexMap<u64, Option<u32>>,
@@ -69,7 +69,7 @@ pub(crate) fn make_room(
     Ok(())
 }
 
-/// Exchanges the marks of the numbers of `patch` with those that `patch` has.
+// Exchanges the marks of the numbers of `patch` with those that `patch` has.
 pub(crate) fn exchange(
     rows: &mut IndexMap<u64, Option<u32>>,
     patch: &mut IndexMap<u64, Option<u32>>,
@@ -83,7 +83,7 @@ pub(crate) fn exchange(
     }
 }
 
-/// Exchanges the mark of the number at a place of `patch` with the one that `patch` has.
+// Exchanges the mark of the number at a place of `patch` with the one that `patch` has.
 fn exchange_at(
     rows: &mut IndexMap<u64, Option<u32>>,
     patch: &mut IndexMap<u64, Option<u32>>,
@@ -101,7 +101,7 @@ fn exchange_at(
     }
 }
 
-/// Takes out the rows of the numbers of `patch` that have no mark.
+// Takes out the rows of the numbers of `patch` that have no mark.
 pub(crate) fn sweep(rows: &mut IndexMap<u64, Option<u32>>, patch: &IndexMap<u64, Option<u32>>)
     ensures { Sweeps patch.now.entries rows.old.entries rows.new.entries }
 {

@@ -12,7 +12,8 @@ beside_back v w zero e =
     let t : v % 128 < 99 = ltb-true (v % 128) 99 p.0 in
     let low : 0 < w % 128 = omega (arith, t, p.1) in
     let high : w % 128 < 100 = omega (arith, t, p.1) in
-    (1, omega arith, ap (λ (b : Bool). if b then Some (w - 1) else None) (and_from (nat_lt 0 (w % 128)) (nat_lt (w % 128) 100) (lt-ltb 0 (w % 128) low) (lt-ltb (w % 128) 100 high)) ∙ ap Some (omega (arith, p.1)))
+    (1, omega arith, ap (λ (b : Bool). if b then Some (w - 1) else None) (and_from (nat_lt 0 (w % 128)) (nat_lt (w % 128) 100) (lt-ltb 0
+        (w % 128) low) (lt-ltb (w % 128) 100 high)) ∙ ap Some (omega (arith, p.1)))
 beside_back v w (suc zero) e =
     let p = cond_some (nat_lt 0 (v % 128) && nat_lt (v % 128) 100) (v - 1) w e in
     let q = and_parts (nat_lt 0 (v % 128)) (nat_lt (v % 128) 100) p.0 in
@@ -25,7 +26,8 @@ beside_back v w (suc (suc zero)) e =
     let t : v / 128 < 99 = ltb-true (v / 128) 99 p.0 in
     let low : 127 < w = omega (arith, p.1) in
     let high : w < 12800 = omega (arith, t, p.1) in
-    (3, omega arith, ap (λ (b : Bool). if b then Some (w - 128) else None) (and_from (nat_lt 127 w) (nat_lt w 12800) (lt-ltb 127 w low) (lt-ltb w 12800 high)) ∙ ap Some (omega (arith, p.1)))
+    (3, omega arith, ap (λ (b : Bool). if b then Some (w - 128) else None) (and_from (nat_lt 127 w) (nat_lt w 12800) (lt-ltb 127 w low)
+        (lt-ltb w 12800 high)) ∙ ap Some (omega (arith, p.1)))
 beside_back v w (suc (suc (suc i))) e =
     let p = cond_some (nat_lt 127 v && nat_lt v 12800) (v - 128) w e in
     let q = and_parts (nat_lt 127 v) (nat_lt v 12800) p.0 in
@@ -58,7 +60,8 @@ corner_back v w = by (v == 0) (w == 1) (v == 1) (w == 0)
 pub grid_symmetric : (cut : Bool) → IsSymmetric (Linked (λ _. 4) (grid_link cut))
 grid_symmetric cut v w l = by (beside v l.0) refl l.2
   where
-    shown : (x : ℕ) (t : Bool) → (cut && is_corner v x) ≡ t → beside v l.0 ≡ Some x → (if t then None else Some x) ≡ Some w → Linked (λ _. 4) (grid_link cut) w v
+    shown : (x : ℕ) (t : Bool) → (cut && is_corner v x) ≡ t → beside v l.0 ≡ Some x → (if t then None else Some x) ≡ Some w
+        → Linked (λ _. 4) (grid_link cut) w v
     shown x true t e f = absurd (none-some w f)
     shown x false t e f =
         let same = same_Some x w f in

@@ -1,3 +1,2 @@
-pub mod FlipLists
 pub mod GridLinks
 pub mod PairLinks

@@ -9,7 +9,8 @@ abbrev pub invariant-loop-i : goal.invariant-loop-i
 invariant-loop-i g l = record {
   only : IfSome l.least (λ k. (u : ℕ) × Linked (g.G.LinkSource.count l.graph) (g.G.LinkSource.link l.graph) l.number u
       × IsNext (g.G.LinkSource.terminal l.graph) l.top (over l.rows.entries (mark_of l.base.entries)) u k);
-  least : (j u k : ℕ) → j < l.i → g.G.LinkSource.link l.graph l.number j ≡ Some u → IsNext (g.G.LinkSource.terminal l.graph) l.top (over l.rows.entries (mark_of l.base.entries)) u k
+  least : (j u k : ℕ) → j < l.i → g.G.LinkSource.link l.graph l.number j ≡ Some u
+      → IsNext (g.G.LinkSource.terminal l.graph) l.top (over l.rows.entries (mark_of l.base.entries)) u k
       → (m : ℕ) × (m ≤ k) × (l.least ≡ Some m);
   steps : l.steps ≤ l.initial.steps + l.i;
 }

@@ -8,12 +8,14 @@ pub loop-number-preserved : goal.loop-number-preserved
 loop-number-preserved g c =
     let at = take_more c.args.gone.now c.loop-number.number-index 0 c.loop-number-test.true in
     rw at record {
-      seeds = reseeds_more _ _ _ _ (take c.loop-number.number-index c.args.gone.now) (get_or c.args.gone.now c.loop-number.number-index 0) _ _ c.least_level-level.result
+      seeds = reseeds_more _ _ _ _ (take c.loop-number.number-index c.args.gone.now) (get_or c.args.gone.now c.loop-number.number-index
+          0) _ _ c.least_level-level.result
           c.in_ok-offer.ensures c.least_level-level.ensures.only c.least_level-level.ensures.least c.loop-number.invariant.seeds;
       steps = omega (
         arith,
         c.least_level-level.ensures.steps,
         c.loop-number.invariant.steps,
-        sum_by_push (g.G.LinkSource.count c.args.graph.now) (take c.loop-number.number-index c.args.gone.now) (get_or c.args.gone.now c.loop-number.number-index 0),
+        sum_by_push (g.G.LinkSource.count c.args.graph.now) (take c.loop-number.number-index c.args.gone.now) (get_or c.args.gone.now
+            c.loop-number.number-index 0),
       );
     }

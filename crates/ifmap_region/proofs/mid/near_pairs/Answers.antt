@@ -1,8 +1,8 @@
 use Rattle.std.proofs.Common.{◌≡◌, ◌+◌, true, false, List, [], ◌∷◌, ◌++◌, inl, inr, sym, subst, take, get_or, arith}
 use Rattle.std.proofs.lemmas.List.{take_more, take_all}
 use Rattle.ifmap_region.specs.declared.flips.Flip.{Flip}
-use Rattle.ifmap_region.specs.Flips.{IsFlipped}
-use Rattle.ifmap_region.proofs.FlipLists.{flipped_cases, flipped_kept, flipped_last, hides_cases, hides_kept, hides_here, turned_both}
+use Rattle.ifmap_region.specs.Flips.{IsFlipped, flipped_cases}
+use Rattle.ifmap_region.proofs.FlipLists.{flipped_kept, flipped_last, hides_cases, hides_kept, hides_here, turned_both}
 use Rattle.ifmap_region.proofs.mid.near_pairs.Goals as goal
 use Rattle.ifmap_region.proofs.mid.near_pairs.Goals.{then-is_near+in_ok-insert+in_ok-insert-2, else-is_near}
 
@@ -27,16 +27,20 @@ loop-flip-preserved c =
                   | inr e ↦ flipped_last before f true v w kind (inr (e.1, e.0))
                 ]);
             each = λ v w k h m. elim (flipped_cases before f true v w (subst (λ (l : List Flip). IsFlipped l true v w) more h)) [
-              | inl old ↦ hides_kept s.insert.new.self s.insert-then-is_near.new.self f.b f.a v w second (hides_kept c.loop-flip.pairs s.insert.new.self f.a f.b v w first (c.loop-flip.invariant.each v w k old m))
+              | inl old ↦ hides_kept s.insert.new.self s.insert-then-is_near.new.self f.b f.a v w second (hides_kept c.loop-flip.pairs
+                  s.insert.new.self f.a f.b v w first (c.loop-flip.invariant.each v w k old m))
               | inr j ↦ elim j.1 [
-                | inl e ↦ hides_kept s.insert.new.self s.insert-then-is_near.new.self f.b f.a v w second (hides_here c.loop-flip.pairs s.insert.new.self f.a f.b v w first e.0 e.1)
+                | inl e ↦ hides_kept s.insert.new.self s.insert-then-is_near.new.self f.b f.a v w second (hides_here c.loop-flip.pairs
+                    s.insert.new.self f.a f.b v w first e.0 e.1)
                 | inr e ↦ hides_here s.insert.new.self s.insert-then-is_near.new.self f.b f.a v w second e.1 e.0
               ]
             ];
-            turned = turned_both c.loop-flip.pairs s.insert.new.self s.insert-then-is_near.new.self f.a f.b first second c.loop-flip.invariant.turned;
+            turned = turned_both c.loop-flip.pairs s.insert.new.self s.insert-then-is_near.new.self f.a f.b first second
+                c.loop-flip.invariant.turned;
           }
       | else-is_near s ↦ rw s.pairs-is record {
-        only = λ v w h. subst (λ (l : List Flip). IsFlipped l true v w) (sym more) (flipped_kept before f true v w (c.loop-flip.invariant.only v w h));
+        only = λ v w h. subst (λ (l : List Flip). IsFlipped l true v w) (sym more) (flipped_kept before f true v w
+            (c.loop-flip.invariant.only v w h));
         each = λ v w k h m. elim (flipped_cases before f true v w (subst (λ (l : List Flip). IsFlipped l true v w) more h)) [
           | inl old ↦ c.loop-flip.invariant.each v w k old m
           | inr j ↦ absurd (c.is_near.ensures.far s.if-is_near.false j.0 v w k j.1 m)
@@ -46,4 +50,5 @@ loop-flip-preserved c =
     ]
 
 pub returns-clause-each : goal.returns-clause-each
-returns-clause-each c = rw (take_all c.loop-flip.flip-index c.args.flips.now (omega (arith, c.loop-flip-test.false))) at c.loop-flip.invariant.each
+returns-clause-each c = rw (take_all c.loop-flip.flip-index c.args.flips.now (omega (arith, c.loop-flip-test.false))) at
+    c.loop-flip.invariant.each

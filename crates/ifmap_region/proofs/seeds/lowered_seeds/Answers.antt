@@ -13,11 +13,14 @@ loop-flip-preserved g c =
     let f : Flip = get_or c.args.flips.now c.loop-flip.flip-index (record { a = 0; b = 0; added = false }) in
     let more : take (c.loop-flip.flip-index + 1) c.args.flips.now ≡ before ++ f ∷ [] =
     take_more c.args.flips.now c.loop-flip.flip-index (record { a = 0; b = 0; added = false }) c.loop-flip-test.true in
-    let gives = Lowers (g.G.LinkSource.terminal c.args.graph.now) c.args.top (over c.args.rows.now.entries (mark_of c.args.base.now.entries)) in
+    let gives = Lowers (g.G.LinkSource.terminal c.args.graph.now) c.args.top (over c.args.rows.now.entries (mark_of
+        c.args.base.now.entries)) in
     elim c.if-flip.branch [
-      | then-flip+in_ok-offer+in_ok-offer-2 w ↦ rw w.seeds-is (rw more (seeds_more before f true gives w.lowered_to-at_b.result w.lowered_to-at_a.result
+      | then-flip+in_ok-offer+in_ok-offer-2 w ↦ rw w.seeds-is (rw more (seeds_more before f true gives w.lowered_to-at_b.result
+          w.lowered_to-at_a.result
           c.loop-flip.seeds.items w.offer.new.seeds.items w.offer-then-flip.new.seeds.items w.if-flip.true
           w.in_ok-offer.ensures w.lowered_to-at_b.ensures.only w.lowered_to-at_b.ensures.each
           w.in_ok-offer-2.ensures w.lowered_to-at_a.ensures.only w.lowered_to-at_a.ensures.each c.loop-flip.invariant))
-      | else-flip w ↦ rw w.seeds-is (rw more (seeds_other before f true gives c.loop-flip.seeds.items (λ e. true≢false (sym e ∙ w.if-flip.false)) c.loop-flip.invariant))
+      | else-flip w ↦ rw w.seeds-is (rw more (seeds_other before f true gives c.loop-flip.seeds.items (λ e. true≢false (sym e ∙
+          w.if-flip.false)) c.loop-flip.invariant))
     ]

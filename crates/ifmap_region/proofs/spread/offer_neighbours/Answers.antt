@@ -15,7 +15,8 @@ loop-i-preserved g c = elim c.match-at.branch [
       let m = w.is_within.ensures.yes w.if-not-is_within.false in
       rw w.levels-is record {
         floor = c.loop-i.invariant.floor;
-        offers = offers_marked _ _ _ _ _ _ w.in-Some.neighbour m.0 c.loop-i.invariant.offers (sym w.in-Some.ensures.link) (sym w.mark.ensures ∙ m.1) m.2;
+        offers = offers_marked _ _ _ _ _ _ w.in-Some.neighbour m.0 c.loop-i.invariant.offers (sym w.in-Some.ensures.link) (sym
+            w.mark.ensures ∙ m.1) m.2;
         steps = omega (arith, c.at.ensures.step, c.loop-i.invariant.steps);
       }
   | in_default w ↦ rw w.levels-is record {

@@ -11,11 +11,14 @@ invariant-loop-levels g l =
     record {
       rows : AddsMarks l.initial.rows.entries l.rows.entries;
       ready : (start : ℕ)
-          → IsReady links terminal start l.top (over l.initial.rows.entries (mark_of l.base.entries)) (λ k v. Contains l.fn.seeds.items (k, v))
+          → IsReady links terminal start l.top (over l.initial.rows.entries (mark_of l.base.entries)) (λ k v. Contains l.fn.seeds.items
+              (k, v))
           → IsReady links terminal start l.top (over l.rows.entries (mark_of l.base.entries)) (λ k v. Contains l.levels.entries (k, v));
       charged : (start : ℕ)
-          → IsReady links terminal start l.top (over l.initial.rows.entries (mark_of l.base.entries)) (λ k v. Contains l.fn.seeds.items (k, v))
-          → IsCharged links terminal start l.top (g.G.LinkSource.count l.graph) (over l.initial.rows.entries (mark_of l.base.entries)) (over l.rows.entries (mark_of l.base.entries)) l.levels.floor l.initial.steps l.steps;
+          → IsReady links terminal start l.top (over l.initial.rows.entries (mark_of l.base.entries)) (λ k v. Contains l.fn.seeds.items
+              (k, v))
+          → IsCharged links terminal start l.top (g.G.LinkSource.count l.graph) (over l.initial.rows.entries (mark_of l.base.entries))
+              (over l.rows.entries (mark_of l.base.entries)) l.levels.floor l.initial.steps l.steps;
     }
 
 abbrev pub decreases-loop-levels : goal.decreases-loop-levels

@@ -7,14 +7,17 @@ use Rattle.ifmap_region.proofs.ways.sweep.Goals.{in-Some+then-is_bare, in-Some+e
 pub loop-i-preserved : goal.loop-i-preserved
 loop-i-preserved c = elim c.match-get_index.branch [
   | in-Some+then-is_bare w ↦ rw w.rows-is record {
-    each = each_swept c.args.patch.now.entries c.args.rows.now.entries c.loop-i.rows.entries w.swap_remove.new.self.entries w.in-Some.number.now _ c.loop-i.i (sym w.in-Some.ensures.entry) w.in-Some.ensures.value
+    each = each_swept c.args.patch.now.entries c.args.rows.now.entries c.loop-i.rows.entries w.swap_remove.new.self.entries
+        w.in-Some.number.now _ c.loop-i.i (sym w.in-Some.ensures.entry) w.in-Some.ensures.value
         c.loop-i.invariant.each c.loop-i.invariant.out (w.is_bare.ensures.yes w.if-is_bare.true) w.swap_remove.ensures.updates.0;
-    out = out_swept c.args.patch.now.entries c.args.rows.now.entries c.loop-i.rows.entries w.swap_remove.new.self.entries w.in-Some.number.now _ c.loop-i.i (sym w.in-Some.ensures.entry) w.in-Some.ensures.value
+    out = out_swept c.args.patch.now.entries c.args.rows.now.entries c.loop-i.rows.entries w.swap_remove.new.self.entries
+        w.in-Some.number.now _ c.loop-i.i (sym w.in-Some.ensures.entry) w.in-Some.ensures.value
         c.loop-i.invariant.each c.loop-i.invariant.out (w.is_bare.ensures.yes w.if-is_bare.true) w.swap_remove.ensures.updates.0;
   }
   | in-Some+else-is_bare w ↦ rw w.rows-is record {
     each = c.loop-i.invariant.each;
-    out = out_same c.args.patch.now.entries c.args.rows.now.entries c.loop-i.rows.entries c.loop-i.rows.entries w.in-Some.number.now _ c.loop-i.i (sym w.in-Some.ensures.entry) w.in-Some.ensures.value
+    out = out_same c.args.patch.now.entries c.args.rows.now.entries c.loop-i.rows.entries c.loop-i.rows.entries w.in-Some.number.now _
+        c.loop-i.i (sym w.in-Some.ensures.entry) w.in-Some.ensures.value
         c.loop-i.invariant.each c.loop-i.invariant.out (w.is_bare.ensures.no w.if-is_bare.false);
   }
   | in_default w ↦ absurd (true≢false (sym (w.in_default.ensures.found.1 (omega (arith, c.loop-i-test.true, c.len-i-end.ensures.len)))))
@@ -23,4 +26,5 @@ loop-i-preserved c = elim c.match-get_index.branch [
 pub returns : goal.returns
 returns c =
     swept_all c.args.patch.now.entries c.args.rows.now.entries c.loop-i.rows.entries c.loop-i.i
-    (λ j v r e. omega (arith, slice_get_within c.args.patch.now.entries j (v, r) e, c.loop-i-test.false, c.len-i-end.ensures.len)) c.loop-i.invariant.each c.loop-i.invariant.out
+    (λ j v r e. omega (arith, slice_get_within c.args.patch.now.entries j (v, r) e, c.loop-i-test.false, c.len-i-end.ensures.len))
+        c.loop-i.invariant.each c.loop-i.invariant.out

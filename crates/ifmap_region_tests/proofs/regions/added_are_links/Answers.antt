@@ -1,10 +1,9 @@
 use Rattle.std.proofs.Common.{◌≡◌, ℕ, ◌+◌, true, List, [], ◌∷◌, ◌++◌, false, inl, inr, sym, subst, ◌∙◌, take, get_or, true≢false, vec_len}
 use Rattle.std.proofs.lemmas.List.{take_more}
 use Rattle.ifmap_region.specs.declared.flips.Flip.{Flip}
-use Rattle.ifmap_region.specs.Flips.{IsFlipped}
+use Rattle.ifmap_region.specs.Flips.{IsFlipped, flipped_cases}
 use Rattle.ifmap_region.specs.Links.{Linked}
 use Rattle.ifmap_region_tests.specs.Pairs.{far_end_at}
-use Rattle.ifmap_region_tests.proofs.FlipLists.{flipped_cases}
 use Rattle.ifmap_region_tests.proofs.regions.added_are_links.Goals as goal
 use Rattle.ifmap_region_tests.proofs.regions.added_are_links.Goals.{then-flip+else-not-has_link+else-not-has_link-2, else-flip}
 
@@ -20,7 +19,8 @@ loop-flip-preserved c v w h =
       | inr p ↦ elim c.if-flip.branch [
         | then-flip+else-not-has_link+else-not-has_link-2 s ↦ elim p.1 [
           | inl e ↦ subst (λ (y : ℕ). links v y) e.1 (subst (λ (x : ℕ). links x f.b) e.0 (s.has_link.ensures s.if-not-has_link.false))
-          | inr e ↦ subst (λ (y : ℕ). links v y) e.0 (subst (λ (x : ℕ). links x f.a) e.1 (s.has_link-else-not-has_link.ensures s.if-not-has_link-2.false))
+          | inr e ↦ subst (λ (y : ℕ). links v y) e.0 (subst (λ (x : ℕ). links x f.a) e.1 (s.has_link-else-not-has_link.ensures
+              s.if-not-has_link-2.false))
         ]
         | else-flip s ↦ absurd (true≢false (sym p.0 ∙ s.if-flip.false))
       ]

@@ -5,4 +5,5 @@ use Rattle.ifmap_region_tests.specs.Pairs.{far_end_at}
 use Rattle.ifmap_region_tests.proofs.regions.added_are_links.Given as goal
 
 abbrev pub invariant-loop-flip : goal.invariant-loop-flip
-invariant-loop-flip l = (v w : ℕ) → IsFlipped (take l.flip-index l.flips) true v w → Linked (λ _. vec_len l.graph.links) (far_end_at l.graph.links.items) v w
+invariant-loop-flip l = (v w : ℕ) → IsFlipped (take l.flip-index l.flips) true v w
+    → Linked (λ _. vec_len l.graph.links) (far_end_at l.graph.links.items) v w

@@ -16,4 +16,5 @@ returns-clause-none g c number =
 
 pub invariant_of-result : goal.invariant_of-result
 invariant_of-result g c =
-    (rw (c.new.ensures.items, c.new-2.ensures.items, c.new-3.ensures.items, c.new-3.ensures.len) (kept_none g.K.Ord.cmp), omega arith, omega arith, omega arith, lit≤ tt)
+    (rw (c.new.ensures.items, c.new-2.ensures.items, c.new-3.ensures.items, c.new-3.ensures.len) (kept_none g.K.Ord.cmp), omega arith,
+        omega arith, omega arith, lit≤ tt)
