@@ -85,7 +85,7 @@ module _ {K : Type 0} where
       pub seen_write : seen after len limit ≡ record pool { live = map.insert pool.live number (value.key, value.holds) }
       seen_write = same_holdings _ _
           (live_of-set slots after number value is_written.changed is_written.others ∙ ap (λ (p : Holdings K). map.insert p.live number
-              (value.key, value.holds)) is)
+          (value.key, value.holds)) is)
           spare_is limit_is
 
     -- a free number is taken
@@ -93,13 +93,13 @@ module _ {K : Type 0} where
         (room : slot_count slots < limit) (found : IsPlace cmp (slot_at slots) order value.key (Err place))
         (after : List (Option (Held K))) (rest items : List ℕ) (longer : ℕ)
         (writes : Writes slots after number (Some value)) (are_free : AreFree after rest) (counted : slot_count after ≡ slot_count slots
-            + 1)
+        + 1)
         (inside : length after ≤ limit) (listed : items ≡ lists.insert order place number) (long : longer ≡ len + 1) where
       pub kept_take : IsKept cmp after rest items longer limit
       kept_take = record {
         indexed = rw listed
             (IsIndexed-inserted total (slot_at slots) (slot_at after) order kept.indexed number place value vacant writes.changed (omega
-                (arith, once)) writes.others
+            (arith, once)) writes.others
             found.0 found.1 found.2);
         free_slots = are_free;
         counted = omega (arith, kept.counted, counted, long);
@@ -121,19 +121,19 @@ module _ {K : Type 0} where
         (after : List (Option (Held K))) (rest items : List ℕ) (shorter : ℕ)
         (writes : Writes slots after number None) (are_free : AreFree after rest) (counted : slot_count after + 1 ≡ slot_count slots)
         (same : length after ≡ length slots) (listed : items ≡ lists.remove order place) (short : shorter + 1 ≡ len) (room : len ≤ limit)
-            where
-      pub kept_free : IsKept cmp after rest items shorter limit
-      kept_free = record {
-        indexed = rw listed (IsIndexed-removed total (slot_at slots) (slot_at after) order kept.indexed number place here stood
-            writes.changed writes.others);
-        free_slots = are_free;
-        counted = omega (arith, kept.counted, counted, short);
-        within = omega (arith, kept.within, same);
-      }
+      where
+        pub kept_free : IsKept cmp after rest items shorter limit
+        kept_free = record {
+          indexed = rw listed (IsIndexed-removed total (slot_at slots) (slot_at after) order kept.indexed number place here stood
+              writes.changed writes.others);
+          free_slots = are_free;
+          counted = omega (arith, kept.counted, counted, short);
+          within = omega (arith, kept.within, same);
+        }
 
-      pub seen_free : Frees pool (seen after shorter limit) number
-      seen_free = record {
-        live = live_of-removed slots after number writes.changed writes.others ∙ ap (λ (p : Holdings K). map.remove p.live number) is;
-        spare = omega (arith, spare_is, short, room);
-        limit = limit_is;
-      }
+        pub seen_free : Frees pool (seen after shorter limit) number
+        seen_free = record {
+          live = live_of-removed slots after number writes.changed writes.others ∙ ap (λ (p : Holdings K). map.remove p.live number) is;
+          spare = omega (arith, spare_is, short, room);
+          limit = limit_is;
+        }

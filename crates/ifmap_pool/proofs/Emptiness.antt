@@ -30,40 +30,44 @@ module _ {K : Type 0} where
 
   -- the last of the free numbers is taken
   module _ (slots : List (Option (Held K))) (free rest : List ℕ) (number : ℕ) (is : free ≡ rest ++ number ∷ []) (f : AreFree slots free)
-      where
-    long : length free ≡ length rest + 1
-    long = ap length is ∙ length_push rest number
+    where
+      long : length free ≡ length rest + 1
+      long = ap length is ∙ length_push rest number
 
-    last : get_or free (length rest) 0 ≡ number
-    last = ap (λ (l : List ℕ). get_or l (length rest) 0) is ∙ get_or_push rest number 0 (length rest) refl
+      last : get_or free (length rest) 0 ≡ number
+      last = ap (λ (l : List ℕ). get_or l (length rest) 0) is ∙ get_or_push rest number 0 (length rest) refl
 
-    before : (i : ℕ) → i < length rest → get_or free i 0 ≡ get_or rest i 0
-    before i lt = ap (λ (l : List ℕ). get_or l i 0) is ∙ get_or_append_left rest (number ∷ []) 0 i lt
+      before : (i : ℕ) → i < length rest → get_or free i 0 ≡ get_or rest i 0
+      before i lt = ap (λ (l : List ℕ). get_or l i 0) is ∙ get_or_append_left rest (number ∷ []) 0 i lt
 
-    pub last_within : number < length slots
-    last_within = subst (λ (n : ℕ). n < length slots) last (f.within (length rest) (omega (arith, long)))
+      pub last_within : number < length slots
+      last_within = subst (λ (n : ℕ). n < length slots) last (f.within (length rest) (omega (arith, long)))
 
-    pub last_empty : slot_at slots number ≡ None
-    last_empty = subst (λ (n : ℕ). slot_at slots n ≡ None) last (f.empty (length rest) (omega (arith, long)))
+      pub last_empty : slot_at slots number ≡ None
+      last_empty = subst (λ (n : ℕ). slot_at slots n ≡ None) last (f.empty (length rest) (omega (arith, long)))
 
-    pub count_filled : (held : Held K) → slot_count (set slots number (Some held)) ≡ slot_count slots + 1
-    count_filled held =
-        let all = count_written slots number (Some held) last_within in
-        let none : one_of (slot_at slots number) ≡ 0 = ap one_of last_empty in
-        omega (arith, all, none)
+      pub count_filled : (held : Held K) → slot_count (set slots number (Some held)) ≡ slot_count slots + 1
+      count_filled held =
+          let all = count_written slots number (Some held) last_within in
+          let none : one_of (slot_at slots number) ≡ 0 = ap one_of last_empty in
+          omega (arith, all, none)
 
-    pub free_filled : (held : Held K) → AreFree (set slots number (Some held)) rest
-    free_filled held = record {
-      apart = λ i j lt within e. f.apart i j lt (omega (arith, long, within)) (before i (omega (arith, lt, within)) ∙ e ∙ sym (before j
-          within));
-      within = λ i lt. let inside = f.within i (omega (arith, long, lt)) in let same = before i lt in omega (arith, inside, same,
-          length-set slots number (Some held));
-      empty = λ i lt.
-          let apart : get_or rest i 0 ≢ number = λ e. f.apart i (length rest) lt (omega (arith, long)) (before i lt ∙ e ∙ sym last) in
-          get_or-set_other slots number (get_or rest i 0) (Some held) None apart
-          ∙ ap (slot_at slots) (sym (before i lt)) ∙ f.empty i (omega (arith, long, lt));
-      counted = omega (arith, f.counted, count_filled held, long, length-set slots number (Some held));
-    }
+      pub free_filled : (held : Held K) → AreFree (set slots number (Some held)) rest
+      free_filled held = record {
+        apart = λ i j lt within e. f.apart i j lt (omega (arith, long, within)) (before i (omega (arith, lt, within)) ∙ e ∙ sym (before j
+            within));
+        within = λ i lt. let inside = f.within i (omega (arith, long, lt)) in let same = before i lt in omega (
+          arith,
+          inside,
+          same,
+          length-set slots number (Some held),
+        );
+        empty = λ i lt.
+            let apart : get_or rest i 0 ≢ number = λ e. f.apart i (length rest) lt (omega (arith, long)) (before i lt ∙ e ∙ sym last) in
+            get_or-set_other slots number (get_or rest i 0) (Some held) None apart
+            ∙ ap (slot_at slots) (sym (before i lt)) ∙ f.empty i (omega (arith, long, lt));
+        counted = omega (arith, f.counted, count_filled held, long, length-set slots number (Some held));
+      }
 
   -- no slot, and no number
   pub kept_none : (cmp : K → K → Ordering) → IsKept cmp [] [] [] 0 0

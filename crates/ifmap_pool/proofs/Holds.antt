@@ -28,7 +28,7 @@ module _ {K : Type 0} where
       → entry_at pool number ≡ Some entry
   entry_put pool old number entry is =
       ap (λ l. get l number) is ∙ get-insert nat_cmp_total old.live number entry number ∙ ap (λ b. cond b (Some entry) (get old.live
-          number)) (tied number)
+      number)) (tied number)
 
   pub entry_other : (pool : Holdings K) (old : Holdings K) (number other : ℕ) (entry : K × ℕ)
       → pool.live ≡ insert old.live number entry → other ≢ number
@@ -68,12 +68,19 @@ module _ {K : Type 0} {cmp : K → K → Ordering} (total : IsTotalOrder cmp) wh
   module _ (old new : Holdings K) (number : ℕ) (key : K) (holds : HoldsOne cmp old new number key) (before : IsPool cmp old) (whole :
       IsPool cmp new) where
     -- the entry of the number, before and afterwards
-    change : ((entry : K × ℕ) × (entry_at old number ≡ Some entry) × (cmp entry.0 key ≡ Equal) × (entry_at new number ≡ Some (entry.0,
-        entry.1 + 1)))
+    change : ((entry : K × ℕ) × (entry_at old number ≡ Some entry) × (cmp entry.0 key ≡ Equal) × (entry_at new number ≡ Some (
+      entry.0,
+      entry.1 + 1,
+    )))
         ⊎ ((entry_at old number ≡ None) × (entry_at new number ≡ Some (key, 1)))
     change = elim holds [
-      | inl h ↦ let n = h.0 in inl (n.0, n.1, n.2, entry_put new old number (n.0.0, n.0.1 + 1) (ap (λ (p : Holdings K). p.live) (h.1 n.0
-          n.1)))
+      | inl h ↦ let n = h.0 in inl (
+        n.0,
+        n.1,
+        n.2,
+        entry_put new old number (n.0.0, n.0.1 + 1) (ap (λ (p : Holdings K). p.live) (h.1 n.0
+            n.1)),
+      )
       | inr h ↦ inr (h.1.free, entry_put new old number (key, 1) h.1.live)
     ]
 
@@ -135,10 +142,14 @@ module _ {K : Type 0} {cmp : K → K → Ordering} (total : IsTotalOrder cmp) wh
     held other n (inl h) = elim (tied_or_not key other) [
       | inl tie ↦
           let one = once_tied key other tie in
-          let same : h.0 ≡ number = whole.one_to_one h.0 number other (kept h.0 other h.1) (named.0, named.1, tied_on named.0.0 key other
-              named.2 tie) in
+          let same : h.0 ≡ number = whole.one_to_one h.0 number other (kept h.0 other h.1) (
+            named.0,
+            named.1,
+            tied_on named.0.0 key other
+                named.2 tie,
+          ) in
           let now : holds_at new h.0 ≡ holds_at old h.0 + 1 = ap (holds_at new) same ∙ counted ∙ ap (λ x. holds_at old x + 1) (sym same)
-              in
+          in
           inl (h.0, kept h.0 other h.1, omega (arith, now, h.2, one))
       | inr differs ↦
           let none = once_apart key other differs in

@@ -109,7 +109,7 @@ module _ {K : Type 0} {cmp : K → K → Ordering} (total : IsTotalOrder cmp) wh
         let first = indexed.listed m (IsSome-from _ a at_m) in
         let second = indexed.listed n (IsSome-from _ b at_n) in
         let same : first.0 ≡ second.0 = one_place first.0 second.0 a b first.1 second.1 (ap slot first.2 ∙ at_m) (ap slot second.2 ∙
-            at_n) e in
+        at_n) e in
         sym first.2 ∙ ap (λ i. get_or order i 0) same ∙ second.2
 
     -- no value has a key that the search misses
@@ -147,7 +147,7 @@ module _ {K : Type 0} {cmp : K → K → Ordering} (total : IsTotalOrder cmp) wh
             let first = earlier _ a at_i in
             let second = earlier _ b at_j in
             ap (λ k. cmp k b.key) first.2 ∙ ap (cmp first.0.key) second.2 ∙ indexed.rising i j first.0 second.0 before within first.1
-                second.1;
+            second.1;
         live = λ i within. let there = some_from _ (indexed.live i within) in later _ there.0 there.1;
         listed = λ n some. let there = some_from _ some in let before = earlier n there.0 there.1 in indexed.listed n (IsSome-from _
             before.0 before.1);
@@ -193,7 +193,7 @@ module _ {K : Type 0} {cmp : K → K → Ordering} (total : IsTotalOrder cmp) wh
                 | inl old_j ↦
                     let one : value ≡ a = same_Some _ _ (sym is ∙ sym (ap new here.1) ∙ at_i) in
                     sym (ap (λ (h : Held K). cmp h.key b.key) one) ∙ Less-from_greater total _ _ (above old_j.from b (omega arith)
-                        old_j.within (was_at j b old_j at_j))
+                    old_j.within (was_at j b old_j at_j))
                 | inr also ↦ absurd (omega arith)
               ]
             ];
@@ -204,15 +204,27 @@ module _ {K : Type 0} {cmp : K → K → Ordering} (total : IsTotalOrder cmp) wh
           | inr here ↦ IsSome-from _ value (ap new here.1 ∙ is)
         ];
         listed = λ n some. elim (cases_eq n number) [
-          | inl here ↦ (place, omega (arith, length-insert order place number within), get_or-insert_at order place number 0 within ∙ sym
-              here)
+          | inl here ↦ (
+            place,
+            omega (arith, length-insert order place number within),
+            get_or-insert_at order place number 0 within ∙ sym
+                here,
+          )
           | inr differs ↦
               let there = indexed.listed n (subst (λ (o : Option (Held K)). IsSome o) (others n differs) some) in
               elim (cases_lt there.0 place) [
-                | inl before ↦ (there.0, omega (arith, length-insert order place number within, there.1), get_or-insert_below order place
-                    number 0 there.0 before within ∙ there.2)
-                | inr past ↦ (there.0 + 1, omega (arith, length-insert order place number within, there.1), get_or-insert_above order
-                    place number 0 there.0 past within ∙ there.2)
+                | inl before ↦ (
+                  there.0,
+                  omega (arith, length-insert order place number within, there.1),
+                  get_or-insert_below order place
+                      number 0 there.0 before within ∙ there.2,
+                )
+                | inr past ↦ (
+                  there.0 + 1,
+                  omega (arith, length-insert order place number within, there.1),
+                  get_or-insert_above order
+                      place number 0 there.0 past within ∙ there.2,
+                )
               ]
         ];
         held = λ n entry at_n. elim (cases_eq n number) [
@@ -253,7 +265,7 @@ module _ {K : Type 0} {cmp : K → K → Ordering} (total : IsTotalOrder cmp) wh
             let first = closed order place i within (omega (arith, length-remove order place within)) in
             let second = closed order place j within (omega (arith, length-remove order place within)) in
             indexed.rising first.from second.from a b (in_order i j first second before) second.within (was_at i a first at_i) (was_at j
-                b second at_j);
+            b second at_j);
         live = λ i i_in.
             let from = closed order place i within (omega (arith, length-remove order place within)) in
             let there = some_from _ (indexed.live from.from from.within) in
@@ -264,12 +276,19 @@ module _ {K : Type 0} {cmp : K → K → Ordering} (total : IsTotalOrder cmp) wh
             let before = indexed.listed n (IsSome-from _ there.0 (sym (others n differs) ∙ there.1)) in
             let elsewhere : before.0 ≢ place = λ same. differs (sym before.2 ∙ ap (λ i. get_or order i 0) same ∙ stood) in
             elim (cases_lt before.0 place) [
-              | inl front ↦ (before.0, omega (arith, length-remove order place within, before.1), get_or-remove_below order place 0
-                  before.0 front within ∙ before.2)
+              | inl front ↦ (
+                before.0,
+                omega (arith, length-remove order place within, before.1),
+                get_or-remove_below order place 0
+                    before.0 front within ∙ before.2,
+              )
               | inr past ↦
-                  let next : (before.0 - 1) + 1 ≡ before.0 = omega arith in
-                  (before.0 - 1, omega (arith, length-remove order place within, before.1), get_or-remove_above order place 0 (before.0 -
-                      1) (omega arith) within ∙ ap (λ i. get_or order i 0) next ∙ before.2)
+                  let next : (before.0 - 1) + 1 ≡ before.0 = omega arith in (
+                    before.0 - 1,
+                    omega (arith, length-remove order place within, before.1),
+                    get_or-remove_above order place 0 (before.0 -
+                        1) (omega arith) within ∙ ap (λ i. get_or order i 0) next ∙ before.2,
+                  )
             ];
         held = λ n entry at_n.
             let differs : n ≢ number = λ same. none-some entry (sym none ∙ sym (ap new same) ∙ at_n) in
@@ -288,7 +307,7 @@ module _ {K : Type 0} {cmp : K → K → Ordering} (total : IsTotalOrder cmp) wh
           let there = some_from _ (indexed.live s.from s.within) in
           let here : slot (get_or order place 0) ≡ Some there.0 = ap slot (stood ∙ sym same) ∙ there.1 in
           let one : s.from ≡ place = one_place slot order indexed s.from place there.0 there.0 s.within within there.1 here (tied_itself
-              total there.0.key) in
+          total there.0.key) in
           absurd (elim (cases_lt k place) [ inl front ↦ omega arith | inr past ↦ omega arith ]))
 
       was_at : (k : ℕ) (a : Held K) (s : Closed order place k) → new (get_or (remove order place) k 0) ≡ Some a

@@ -27,7 +27,7 @@ module _ {K : Type 0} where
       → (number : ℕ) → get_or new number None ≡ get_or old number None → entry_at next number ≡ entry_at pool number
   same_entry old new pool next is now number e =
       ap (λ m. get m number) now ∙ get-live_of new number ∙ ap (option_map entry_of) e ∙ sym (get-live_of old number) ∙ sym (ap (λ m. get
-          m number) is)
+      m number) is)
 
   module _ (slots : List (Option (Held K))) (pool : Holdings K) (is : pool.live ≡ live_of slots) where
     pub entry_is : (number : ℕ) → entry_at pool number ≡ option_map entry_of (get_or slots number None)
@@ -84,7 +84,7 @@ module _ {K : Type 0} where
           let a = slot_from_names cmp first key one in
           let b = slot_from_names cmp second key other in
           one_number total (λ n. get_or slots n None) order indexed first second a.0 b.0 a.1 b.1 (total.congr _ _ b.0.key a.2 ∙ tied_back
-              total _ _ b.2)
+          total _ _ b.2)
 
       -- each number is below a limit that the slots do not pass, and is held
       pub is_pool : length slots ≤ pool.limit → IsPool cmp pool

@@ -18,8 +18,11 @@ module _ {K : Type 0} (old new : Holdings K) (number : ℕ) (goes : LetsOneGo ol
   change : ((goes.0.1 ≡ 1) × (entry_at new number ≡ None)) ⊎ ((1 < goes.0.1) × (entry_at new number ≡ Some (goes.0.0, goes.0.1 - 1)))
   change = elim goes.2 [
     | inl h ↦ inr (h.0, entry_put new old number (goes.0.0, goes.0.1 - 1) (ap (λ (p : Holdings K). p.live) (h.1 goes.0 goes.1 h.0)))
-    | inr h ↦ inl (h.0, ap (λ l. get l number) h.1.live ∙ get-remove nat_cmp_total old.live number number ∙ ap (λ b. cond b None (get
-        old.live number)) (tied number))
+    | inr h ↦ inl (
+      h.0,
+      ap (λ l. get l number) h.1.live ∙ get-remove nat_cmp_total old.live number number ∙ ap (λ b. cond b None (get
+          old.live number)) (tied number),
+    )
   ]
 
   pub kept : LetsGo old new number
@@ -76,7 +79,7 @@ module _ {K : Type 0} (old new : Holdings K) (number : ℕ) (goes : LetsOneGo ol
       | inl tie ↦
           let one = once_tied total key other tie in
           let same : h.0 ≡ number = before.one_to_one h.0 number other h.1 (mine.0, mine.1, tied_on total mine.0.0 key other mine.2 tie)
-              in
+          in
           let had : holds_at old number ≡ n = ap (holds_at old) (sym same) ∙ h.2 in
           let was = holds_of old number goes.0 goes.1 in
           elim change [
@@ -90,8 +93,12 @@ module _ {K : Type 0} (old new : Holdings K) (number : ℕ) (goes : LetsOneGo ol
             )
             | inr p ↦
                 let names : Names cmp new number other =
-                (((goes.0.0, goes.0.1 - 1), p.1, ap (λ (e : K × ℕ). cmp e.0 other) my_entry ∙ tied_on total mine.0.0 key other mine.2
-                    tie)) in
+                ((
+                  (goes.0.0, goes.0.1 - 1),
+                  p.1,
+                  ap (λ (e : K × ℕ). cmp e.0 other) my_entry ∙ tied_on total mine.0.0 key other mine.2
+                      tie,
+                )) in
                 inl (number, names, omega (arith, one, had, counted))
           ]
       | inr differs ↦
@@ -104,8 +111,12 @@ module _ {K : Type 0} (old new : Holdings K) (number : ℕ) (goes : LetsOneGo ol
     ]
     held other n (inr h) = inr (
       (λ v names. elim (cases_eq v number) [
-        | inl same ↦ h.0 number (mine.0, mine.1, tied_on total mine.0.0 key other mine.2 (later_key other (subst (λ (x : ℕ). Names cmp
-            new x other) same names)))
+        | inl same ↦ h.0 number (
+          mine.0,
+          mine.1,
+          tied_on total mine.0.0 key other mine.2 (later_key other (subst (λ (x : ℕ). Names cmp
+              new x other) same names)),
+        )
         | inr elsewhere ↦ h.0 v (names.0, sym (others v elsewhere) ∙ names.1, names.2)
       ]),
       omega (arith, h.1),

@@ -17,26 +17,26 @@ module _ {K : Type 0} {cmp : K → K → Ordering} (total : IsTotalOrder cmp) wh
   Less-from_greater a b e = total.antisymm b a ∙ ap ordering_reverse e
 
   module _ (slot : ℕ → Option (Held K)) (order : List ℕ) (indexed : IsIndexed cmp slot order) (key : K) (middle : ℕ) (found : Held K)
-      where
-    -- the key at the middle is below: so is each in front of it
-    pub AllBelow-next : middle < length order → slot (get_or order middle 0) ≡ Some found → cmp found.key key ≡ Less
-        → AllBelow cmp slot order key (middle + 1)
-    AllBelow-next within is less k held before at_k =
-        elim (cases_eq k middle) [
-          | inl same ↦
-              let one : held ≡ found = same_Some _ _ (sym at_k ∙ ap (λ i. slot (get_or order i 0)) same ∙ is) in
-              ap (λ h. cmp h.key key) one ∙ less
-          | inr differs ↦ total.trans _ _ _ (indexed.rising k middle held found (omega arith) within at_k is) less
-        ]
+    where
+      -- the key at the middle is below: so is each in front of it
+      pub AllBelow-next : middle < length order → slot (get_or order middle 0) ≡ Some found → cmp found.key key ≡ Less
+          → AllBelow cmp slot order key (middle + 1)
+      AllBelow-next within is less k held before at_k =
+          elim (cases_eq k middle) [
+            | inl same ↦
+                let one : held ≡ found = same_Some _ _ (sym at_k ∙ ap (λ i. slot (get_or order i 0)) same ∙ is) in
+                ap (λ h. cmp h.key key) one ∙ less
+            | inr differs ↦ total.trans _ _ _ (indexed.rising k middle held found (omega arith) within at_k is) less
+          ]
 
-    -- the key at the middle is above: so is each past it
-    pub AllAbove-next : slot (get_or order middle 0) ≡ Some found → cmp found.key key ≡ Greater → AllAbove cmp slot order key middle
-    AllAbove-next is greater k held from within at_k =
-        elim (cases_eq k middle) [
-          | inl same ↦
-              let one : held ≡ found = same_Some _ _ (sym at_k ∙ ap (λ i. slot (get_or order i 0)) same ∙ is) in
-              ap (λ h. cmp h.key key) one ∙ greater
-          | inr differs ↦
-              Greater-from_less key held.key (total.trans _ _ _ (Less-from_greater _ _ greater) (indexed.rising middle k found held
-                  (omega arith) within is at_k))
-        ]
+      -- the key at the middle is above: so is each past it
+      pub AllAbove-next : slot (get_or order middle 0) ≡ Some found → cmp found.key key ≡ Greater → AllAbove cmp slot order key middle
+      AllAbove-next is greater k held from within at_k =
+          elim (cases_eq k middle) [
+            | inl same ↦
+                let one : held ≡ found = same_Some _ _ (sym at_k ∙ ap (λ i. slot (get_or order i 0)) same ∙ is) in
+                ap (λ h. cmp h.key key) one ∙ greater
+            | inr differs ↦
+                Greater-from_less key held.key (total.trans _ _ _ (Less-from_greater _ _ greater) (indexed.rising middle k found held
+                (omega arith) within is at_k))
+          ]

@@ -33,6 +33,6 @@ module _ (bytes : List ℕ) (depth : ℕ) where
   pub canonical : (a : Result Reading ReadError) → IsRead bytes depth a → (e : Element) → AreCanonical bytes depth e → GivesBack e a
   canonical a h e c =
       let spells : Spells bytes (canonical_reading e) = subst (λ (b : List ℕ). Spells b (canonical_reading e)) (sym c.bytes_are)
-          (canonical_spelled e c.fit) in
+      (canonical_spelled e c.fit) in
       let deep = nesting_arranged e in
       gives a h e spells (omega (arith, deep, c.shallow))

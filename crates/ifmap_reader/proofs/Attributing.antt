@@ -55,7 +55,7 @@ pub attributing_first : (scope : Scope) (assignments old turned : List Assignmen
 attributing_first scope assignments old turned made is rev none =
     subst (λ (ts : List Attribute). Attributing scope (plain assignments) ts (plain (reverse turned))) (sym none)
     (subst (λ (as' : List Assignment). Attributing scope (plain assignments) [] (plain as'))
-        (sym (ap reverse rev ∙ reverse-reverse old ∙ is)) (at_first scope (plain assignments)))
+    (sym (ap reverse rev ∙ reverse-reverse old ∙ is)) (at_first scope (plain assignments)))
 
 -- whether the code finds a binding
 pub told_some : (o : Option (Bor (List ℕ))) (space : List ℕ) (b : Option Binding) (found : Bool) → b ≡ told o space → found ≡ is_some o
@@ -78,7 +78,7 @@ module _ (scope : Scope) (all : List Assignment) (made : List Attribute) (old ne
       → after ≡ made ++ t ∷ [] → Attributing scope all after (plain (reverse new))
   attribute_added e t after h added =
       subst (λ (ts : List Attribute). Attributing scope all ts (plain (reverse new))) (sym added)
-          (attributing_next scope all made a (plain (reverse new)) (at_one e) t h)
+      (attributing_next scope all made a (plain (reverse new)) (at_one e) t h)
 
   pub binding_left : is_none (binding_of a) ≡ false → Attributing scope all made (plain (reverse new))
   binding_left e =

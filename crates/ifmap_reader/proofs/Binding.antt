@@ -35,25 +35,25 @@ bound_last bs b q none = elim (cases_Bool (bytes_eq b.prefix q)) [
 pub spaces_more : (old new : List ℕ → Option (List ℕ)) (rows after : List Declared) (row : Declared) (key space : List ℕ)
     → ((q : List ℕ) → old q ≡ bound (map binding_told rows) q)
     → ((q : List ℕ) → new q ≡ cond (is_eq (slice_cmp nat_cmp key q)) (Some space) (old q)) → key ≡ row.prefix → space ≡ row.space
-        → after ≡ rows ++ row ∷ [] → bound (map binding_told rows) row.prefix ≡ None
+    → after ≡ rows ++ row ∷ [] → bound (map binding_told rows) row.prefix ≡ None
     → (q : List ℕ) → new q ≡ bound (map binding_told after) q
 spaces_more old new rows after row key space was now k s more none q =
     now q ∙ (λ i. cond (is_eq (slice_cmp nat_cmp (k i) q)) (Some (s i)) (was q i))
-        ∙ ap (λ b. cond b (Some row.space) (bound (map binding_told rows) q)) (sym (texts_ties row.prefix q))
+    ∙ ap (λ b. cond b (Some row.space) (bound (map binding_told rows) q)) (sym (texts_ties row.prefix q))
     ∙ sym (bound_last (map binding_told rows) (binding_told row) q none)
-        ∙ ap (λ bs. bound bs q) (sym (ap (map binding_told) more ∙ map-append binding_told rows (row ∷ [])))
+    ∙ ap (λ bs. bound bs q) (sym (ap (map binding_told) more ∙ map-append binding_told rows (row ∷ [])))
 
 pub rows_more : (rows after : List Declared) (path prefix space : List ℕ) → rows ≡ declared_here (map binding_told rows)
     → after ≡ rows ++ record { path = path; prefix = prefix; space = space } ∷ [] → path ≡ []
     → after ≡ declared_here (map binding_told after)
 rows_more rows after path prefix space was more none =
     let made : after ≡ rows ++ record { path = []; prefix = prefix; space = space } ∷ [] = more
-        ∙ ap (λ (p : List ℕ). rows ++ record { path = p; prefix = prefix; space = space } ∷ []) none in
+    ∙ ap (λ (p : List ℕ). rows ++ record { path = p; prefix = prefix; space = space } ∷ []) none in
     made ∙ ap (λ ds. ds ++ record { path = []; prefix = prefix; space = space } ∷ []) was
     ∙ sym (ap declared_here (ap (map binding_told) made ∙ map-append binding_told rows
-        (record { path = []; prefix = prefix; space = space } ∷ []))
+    (record { path = []; prefix = prefix; space = space } ∷ []))
     ∙ map-append (λ (b : Binding). let d : Declared = record { path = []; prefix = b.prefix; space = b.space } in d)
-        (map binding_told rows) (record { prefix = prefix; space = space } ∷ []))
+    (map binding_told rows) (record { prefix = prefix; space = space } ∷ []))
 
 abbrev prefix_of : Binding → List ℕ
 prefix_of b = b.prefix
@@ -79,8 +79,11 @@ mapped_middle x (z ∷ zs) b ys h = mapped_middle x zs b ys h.1
 none_parts : (x : Binding) (xs : List Binding) (p : List ℕ) → bound (x ∷ xs) p ≡ None → (x.prefix ≢ p) × (bound xs p ≡ None)
 none_parts x xs p none = elim (cases_Bool (bytes_eq x.prefix p)) [
   | inl e ↦ let k : Some x.space ≡ None = rw e at none in cc
-  | inr e ↦ (λ same. let k : bytes_eq x.prefix p ≡ true = subst (λ q. bytes_eq x.prefix q ≡ true) same
-      (eq_itself x.prefix) in cc, rw e at none)
+  | inr e ↦ (
+    λ same. let k : bytes_eq x.prefix p ≡ true = subst (λ q. bytes_eq x.prefix q ≡ true) same
+        (eq_itself x.prefix) in cc,
+    rw e at none,
+  )
 ]
 
 differ_last : (xs : List Binding) (b : Binding) → AllDiffer (map prefix_of xs) → bound xs b.prefix ≡ None
@@ -93,7 +96,7 @@ differ_none [] b ys d = refl
 differ_none (x ∷ xs) b ys d =
     let other = mapped_middle x xs b ys d.0 in
     let e : bytes_eq x.prefix b.prefix ≡ false = false_from_ne_true (bytes_eq x.prefix b.prefix)
-        (λ t. other (eq_tells x.prefix b.prefix t)) in
+    (λ t. other (eq_tells x.prefix b.prefix t)) in
     rw e (differ_none xs b ys d.1)
 
 abbrev Made : List Assignment → List Binding
@@ -112,13 +115,19 @@ pub record Binding-so-far (all : List Binding) (made : List Binding) (left : Lis
 
 module _ (all : List Binding) (a : Assignment) (left : List Assignment) (old : List Binding) (at : Binding-so-far all old (a ∷ left)) where
   next_by : (o : Option Binding) (new : List Binding) → binding_of a ≡ o → Binds old o (Ok new) → Binding-so-far all new left
-  next_by None new e h = record { whole = at.whole ∙ ap (λ bs. old ++ bs) (taken_none a left e)
-      ∙ ap (λ bs. bs ++ Made left) (sym h); may = subst MayBind (sym h) at.may }
+  next_by None new e h = record {
+    whole = at.whole ∙ ap (λ bs. old ++ bs) (taken_none a left e)
+        ∙ ap (λ bs. bs ++ Made left) (sym h);
+    may = subst MayBind (sym h) at.may;
+  }
   next_by (Some b) new e h = record {
     whole = at.whole ∙ ap (λ bs. old ++ bs) (taken_some a left b e) ∙ sym (append_assoc old (b ∷ []) (Made left))
         ∙ ap (λ bs. bs ++ Made left) (sym h.2);
-    may = subst MayBind (sym h.2) (record { binds = all_last IsBinding old b at.may.binds h.0; binds_once = differ_last old b
-        at.may.binds_once h.1 });
+    may = subst MayBind (sym h.2) (record {
+      binds = all_last IsBinding old b at.may.binds h.0;
+      binds_once = differ_last old b
+          at.may.binds_once h.1;
+    });
   }
 
   pub binding_next : (new : List Binding) → Binds old (binding_of a) (Ok new) → Binding-so-far all new left
@@ -159,7 +168,7 @@ pub at_item : (all made : List Binding) (assignments : List Assignment) (i : ℕ
 at_item all made assignments i a l is at =
     subst (λ (as' : List Assignment). Binding-so-far all made as')
     (drop-cons assignments i a l ∙ ap (λ (n : ℕ). get_or assignments i a ∷ drop n assignments) (sym (add-one i))
-        ∙ ap (λ (b : Assignment). b ∷ drop (i + 1) assignments) (sym is)) at
+    ∙ ap (λ (b : Assignment). b ∷ drop (i + 1) assignments) (sym is)) at
 
 -- whether a binding may be made, by tests in turn
 module _ (p s : List ℕ) where

@@ -74,11 +74,11 @@ lines_of (c ∷ cs) f = elim (cases_Bool (c == 0xD)) [
   | inl e ↦
       let is : encode_utf8 c ≡ 0xD ∷ [] = ap encode_utf8 (is_number c 0xD e) ∙ encode_ascii 0xD (omega arith) in
       subst (λ (x : List ℕ). IsCharacters (line_ends (x ++ encode_utf8_all cs))) (sym is)
-          (return_first (encode_utf8_all cs) (lines_of cs f.1))
+      (return_first (encode_utf8_all cs) (lines_of cs f.1))
   | inr e ↦
       let front = character_passes (λ b. not (b == 0xD)) (high_but 0xD (omega arith)) c (ap not e) in
       subst IsCharacters (sym (lines_front (encode_utf8 c) (encode_utf8_all cs) front))
-          (character_first c (line_ends (encode_utf8_all cs)) f.0 (lines_of cs f.1))
+      (character_first c (line_ends (encode_utf8_all cs)) f.0 (lines_of cs f.1))
 ]
 
 pub lines_characters : (bytes : List ℕ) → IsCharacters bytes → IsCharacters (line_ends bytes)
@@ -170,7 +170,7 @@ tested false v c f e = cc
 numbered_fits : (base : ℕ) (digits : List ℕ) (c : ℕ) → numbered base digits ≡ Some c → is_character c ≡ true
 numbered_fits base digits c e =
     tested (not (length digits == 0) && list_all (λ d. is_digit d base) digits && is_character (digits_value base digits))
-        (digits_value base digits) c
+    (digits_value base digits) c
     (λ t. (and_parts (not (length digits == 0) && list_all (λ d. is_digit d base) digits) (is_character (digits_value base digits)) t).1) e
 
 chosen : (b : Bool) (o q : Option ℕ) (c : ℕ) → (o ≡ Some c → is_character c ≡ true) → (q ≡ Some c → is_character c ≡ true)
@@ -209,9 +209,9 @@ module _ (adds : Part → List ℕ) (runs : (run : List ℕ) → IsCharacters ru
       characters_both (adds (Plain run)) (flat_map adds parts) (runs run both.0) (parts_fit parts l.0 l.2 both.1)
   parts_fit (Reference c ∷ parts) bytes l i =
       let both = cut_characters (λ b. not (b == 0x3B)) (high_but 0x3B (omega arith)) bytes (0x26 ∷ l.1.0) (0x3B ∷ l.0) i l.1.1
-          (refl, l.1.2) refl in
+      (refl, l.1.2) refl in
       characters_both (adds (Reference c)) (flat_map adds parts)
-          (subst IsCharacters (sym (references c)) (one_character c (referred_fits l.1.0 c l.1.3)))
+      (subst IsCharacters (sym (references c)) (one_character c (referred_fits l.1.0 c l.1.3)))
       (parts_fit parts l.0 l.2 (behind_low 0x3B l.0 (omega arith) both.1))
 
   means_characters : (written text : List ℕ) → IsCharacters written → Expands adds written text → IsCharacters text

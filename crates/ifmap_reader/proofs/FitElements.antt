@@ -49,9 +49,16 @@ no_namespace = record { characters = no_characters; not_reserved = told_apart []
 root_fits : IsFitScope root_scope
 root_fits = (
   record {
-    space = record { characters = (xml_space, ascii_encoded xml_space
-        (all_of_test is_ascii xml_space refl), all_of_test is_character xml_space refl); not_reserved = told_apart xml_space xmlns_space
-            refl };
+    space = record {
+      characters = (
+        xml_space,
+        ascii_encoded xml_space
+            (all_of_test is_ascii xml_space refl),
+        all_of_test is_character xml_space refl,
+      );
+      not_reserved = told_apart xml_space xmlns_space
+          refl;
+    };
     some = λ e. told_apart xml_space [] refl;
   },
   (record { space = no_namespace; some = λ some. absurd (some refl) }, tt),
@@ -250,7 +257,7 @@ children_fit items f = record {
   beside = λ any.
       let inner : list_any is_inner items ≡ true = sym (left_inner (list_any is_inner items) (joined items) ∙ joined_inner items) ∙ any in
       subst (λ (b : Bool). AllByRecursion IsNotBlank (map item_child (filter (is_child b) (joined items)))) (sym inner)
-          (left_not_blank (joined items));
+      (left_not_blank (joined items));
 }
 
 inner_fit : (items : List Item) → AllByRecursion IsFitItem items
@@ -268,12 +275,15 @@ element_fits : (outer : Scope) (tag : Tag) (items : List Item) (e : Element) (de
 element_fits outer tag items e declared f t i is =
     let within = within_fits outer tag f t is.named.binds in
     let children : AreFitChildren (map out-Child (map child_of (children_among items))) = subst AreFitChildren
-        (sym (opened (children_among items))) (children_fit items i) in
+    (sym (opened (children_among items))) (children_fit items i) in
     let inner = inner_fit (children_among items) (left_fits (list_any is_inner items) (joined items) (joined_fits items i)) in
     fit_whole e
     (record {
-      name = record { space = (bound_fits (scope_within outer tag) within tag.name.prefix e.name.space is.named.space_is).0; local = subst
-          IsNamePart (sym is.named.local_is) t.name.local_is };
+      name = record {
+        space = (bound_fits (scope_within outer tag) within tag.name.prefix e.name.space is.named.space_is).0;
+        local = subst
+            IsNamePart (sym is.named.local_is) t.name.local_is;
+      };
       attributes = attributes_fit (scope_within outer tag) within tag.assignments t.assignments e.attributes is.named.attributes_are;
       names_differ = is.named.names_differ;
       children = subst (λ (cs : List Child). AreFitChildren (map out-Child cs)) (sym is.children_are) children;
@@ -293,8 +303,11 @@ means_fit scope (piece.Empty tag after) items f t m =
 means_fit scope (piece.Start tag inside after) items f t m =
     let parts = all_both IsFitToken (tokens_of inside) (End tag.name ∷ tokens_of after) t.1 in
     let inner = means_fit (scope_within scope tag) inside m.0 (within_fits scope tag f t.0 m.6.named.binds) parts.0 m.5 in
-    subst (AllByRecursion IsFitItem) (sym m.4) (element_fits scope tag m.0 m.1 m.2 f t.0 inner m.6, means_fit scope after m.3 f parts.1.1
-        m.7)
+    subst (AllByRecursion IsFitItem) (sym m.4) (
+      element_fits scope tag m.0 m.1 m.2 f t.0 inner m.6,
+      means_fit scope after m.3 f parts.1.1
+          m.7,
+    )
 
 rooted_fits : (c : Pieces) (r : Reading) → AllByRecursion IsFitToken (tokens_of c) → BeginsWithRoot c r → IsFit r.root
 rooted_fits Nothing r t m = absurd m
@@ -313,4 +326,4 @@ spelled_fits bytes r s =
     let tokens = tokens_fit (without_byte_order_mark bytes) s.tokens [] s.lexed in
     let here = subst (AllByRecursion IsFitToken) s.document.tokens_are tokens in
     rooted_fits s.document.pieces r (all_both IsFitToken (heading s.document.declared) (tokens_of s.document.pieces) here).1
-        (root_begins s.document.pieces r s.document.rooted)
+    (root_begins s.document.pieces r s.document.rooted)

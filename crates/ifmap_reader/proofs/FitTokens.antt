@@ -40,8 +40,11 @@ assignment_fits bytes a rest t = record { name = t.is_name; value = value_charac
 
 tag_fits : (bytes : List ℕ) (tag : Tag) (end : List ℕ) → TakesTag bytes tag end → IsFitTag tag
 tag_fits bytes tag end t =
-    record { name = t.is_name; assignments = all_taken TakesAssignment IsFitAssignment assignment_fits t.after tag.assignments
-        (t.white ++ end) t.assigned }
+    record {
+      name = t.is_name;
+      assignments = all_taken TakesAssignment IsFitAssignment assignment_fits t.after tag.assignments
+          (t.white ++ end) t.assigned;
+    }
 
 token_fits : (bytes : List ℕ) (t : Token) (rest : List ℕ) → TakesToken bytes t rest → IsFitToken t
 token_fits bytes Declaration rest t = tt

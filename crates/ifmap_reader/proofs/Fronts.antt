@@ -47,7 +47,7 @@ module _ (bytes : List ℕ) where
   pub not_deep : (depth at place : ℕ) (s : Stop bytes at) → Shallow depth s.tokens → Deep bytes depth place → ⊥
   not_deep depth at place s shallow d =
       elim (one_front (without_byte_order_mark bytes) s.tokens (d.tokens ++ d.tag ∷ []) s.rest d.after s.reaches.lexed
-          (to_last TakesToken (without_byte_order_mark bytes) d.tokens d.rest d.tag d.after d.lexed d.taken)) [
+      (to_last TakesToken (without_byte_order_mark bytes) d.tokens d.rest d.tag d.after d.lexed d.taken)) [
         | inl h ↦ beyond h.0 h.1 h.2
         | inr h ↦ among h.0 (h.1 ∙ append_assoc d.tokens (d.tag ∷ []) h.0)
       ]

@@ -86,8 +86,12 @@ root_blank_off text (piece.Start tag inside after) ts r is h = cc
 pub root_blank : (text : List ℕ) → Follows (Within []) (Characters true text) (Within [])
 root_blank text ts r = (
   λ x. root_blank_off text x.pieces ts r x.tokens_are x.rooted,
-  λ x. record { pieces = piece.Characters true text x.pieces; tokens_are = ap
-      (λ us. Characters true text ∷ us) x.tokens_are; rooted = (refl, x.rooted) },
+  λ x. record {
+    pieces = piece.Characters true text x.pieces;
+    tokens_are = ap
+        (λ us. Characters true text ∷ us) x.tokens_are;
+    rooted = (refl, x.rooted);
+  },
 )
 
 -- a token that stands nowhere outside the root
@@ -164,7 +168,7 @@ module _ (tag : Tag) (new : OpenElement) (o : OpensElement root_scope tag new) w
     root_empty_off (piece.Empty other after) ts r is h =
         let same : other ≡ tag = cc in
         let made = opened_closes root_scope tag new o [] r.root r.declared
-            (subst (λ (u : Tag). IsElement root_scope u [] r.root r.declared) same h.0) in
+        (subst (λ (u : Tag). IsElement root_scope u [] r.root r.declared) same h.0) in
         let root = k.element_is ∙ sym made.element_is in
         let told = k.declared_is ∙ sym made.declared_is in
         record { after = after; tokens_are = cc; margin = h.1; same = λ i. record { root = root i; declared = told i } }
@@ -180,8 +184,11 @@ module _ (tag : Tag) (new : OpenElement) (o : OpensElement root_scope tag new) w
       λ y. record {
         pieces = piece.Empty tag y.after;
         tokens_are = ap (λ us. Empty tag ∷ us) y.tokens_are;
-        rooted = (subst (λ (s : Reading). IsElement root_scope tag [] s.root s.declared) y.same
-            (closes_opened root_scope tag new o [] e d k), y.margin);
+        rooted = (
+          subst (λ (s : Reading). IsElement root_scope tag [] s.root s.declared) y.same
+              (closes_opened root_scope tag new o [] e d k),
+          y.margin,
+        );
       },
     )
 
@@ -220,9 +227,11 @@ margin_off : (root : Reading) (t : Token) (c : Pieces) (ts : List Token) (r : Re
 margin_off root t (piece.Comment after) ts r is h s =
     let e : t ≡ Comment = cc in (record { after = after; tokens_are = cc; margin = h; same = s }, λ i. subst IsInner e i)
 margin_off root t (piece.Characters blank text after) ts r is h s =
-    let e : t ≡ Characters blank text = cc in
-    (record { after = after; tokens_are = cc; margin = h.1; same = s }, λ i. let f : blank ≡ false = subst IsInner e i in let g :
-        blank ≡ true = h.0 in cc)
+    let e : t ≡ Characters blank text = cc in (
+      record { after = after; tokens_are = cc; margin = h.1; same = s },
+      λ i. let f : blank ≡ false = subst IsInner e i in let g :
+          blank ≡ true = h.0 in cc,
+    )
 margin_off root t Nothing ts r is h s = cc
 margin_off root t (piece.Section text after) ts r is h s = absurd h
 margin_off root t (piece.Empty tag after) ts r is h s = absurd h
@@ -237,8 +246,13 @@ after_root_comment root ts r = (
 pub after_root_blank : (root : Reading) (text : List ℕ) → Follows (AfterRoot root) (Characters true text) (AfterRoot root)
 after_root_blank root text ts r = (
   λ x. (margin_off root (Characters true text) x.after ts r x.tokens_are x.margin x.same).0,
-  λ x. record { after = piece.Characters true text x.after; tokens_are = ap
-      (λ us. Characters true text ∷ us) x.tokens_are; margin = (refl, x.margin); same = x.same },
+  λ x. record {
+    after = piece.Characters true text x.after;
+    tokens_are = ap
+        (λ us. Characters true text ∷ us) x.tokens_are;
+    margin = (refl, x.margin);
+    same = x.same;
+  },
 )
 
 pub nothing_after_root : (root : Reading) (t : Token) → IsInner t → (ts : List Token) (r : Reading) → GoesOn (AfterRoot root) (t ∷ ts) r → ⊥
@@ -274,8 +288,13 @@ declaration_off false c ts r is h = absurd (not_heading c ts is)
 pub start_declaration : Follows AtStart Declaration (Within [])
 start_declaration ts r = (
   λ x. declaration_off x.declared x.pieces ts r x.tokens_are x.rooted,
-  λ x. record { declared = true; pieces = x.pieces; tokens_are = ap
-      (λ us. Declaration ∷ us) x.tokens_are; rooted = begins_root x.pieces r x.rooted },
+  λ x. record {
+    declared = true;
+    pieces = x.pieces;
+    tokens_are = ap
+        (λ us. Declaration ∷ us) x.tokens_are;
+    rooted = begins_root x.pieces r x.rooted;
+  },
 )
 
 abbrev pub IsOther : Token → Type 0

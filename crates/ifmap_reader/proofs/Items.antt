@@ -38,7 +38,7 @@ module _ (f : OpenElement) (e : Element) (declared : List Declared) where
   closes_by : (g : OpenElement) (is js : List Item) → f.name ≡ g.name → f.attributes ≡ g.attributes → f.bindings ≡ g.bindings
       → f.children ++ map child_of (children_to_come f is) ≡ g.children ++ map child_of (children_to_come g js)
       → f.below ++ declared_below (length f.children) (children_to_come f is) ≡ g.below ++ declared_below (length g.children)
-          (children_to_come g js)
+      (children_to_come g js)
       → Closes f is e declared → Closes g js e declared
   closes_by g is js name attributes bound children below c =
       record {
@@ -50,14 +50,14 @@ pub words_close : (f : OpenElement) (text : List ℕ) (items : List Item) (e : E
     → Closes f (Run text ∷ items) e declared → Closes (with_characters f text) items e declared
 words_close f text items e declared =
     closes_by f e declared (with_characters f text) (Run text ∷ items) items refl refl refl
-        (ap (λ k. f.children ++ map child_of k) (kept_words f text items))
+    (ap (λ k. f.children ++ map child_of k) (kept_words f text items))
     (ap (λ k. f.below ++ declared_below (length f.children) k) (kept_words f text items))
 
 pub close_words : (f : OpenElement) (text : List ℕ) (items : List Item) (e : Element) (declared : List Declared)
     → Closes (with_characters f text) items e declared → Closes f (Run text ∷ items) e declared
 close_words f text items e declared =
     closes_by (with_characters f text) e declared f items (Run text ∷ items) refl refl refl
-        (ap (λ k. f.children ++ map child_of k) (sym (kept_words f text items)))
+    (ap (λ k. f.children ++ map child_of k) (sym (kept_words f text items)))
     (ap (λ k. f.below ++ declared_below (length f.children) k) (sym (kept_words f text items)))
 
 -- an element
@@ -86,18 +86,18 @@ module _ (fc : List Child) (fb : List Declared) (text : List ℕ) (e : Element) 
 
   inner_below : (b : Bool) → fb ++ declared_below (length fc) (cond b (Run text ∷ (Inner e d ∷ ys)) (Inner e d ∷ ys))
       ≡ (fb ++ map (from_above (length (fc ++ (cond b (the.Text text ∷ []) [])))) d) ++ declared_below
-          (length (fc ++ (cond b (the.Text text ∷ []) []) ++ the.Element e ∷ [])) ys
+      (length (fc ++ (cond b (the.Text text ∷ []) []) ++ the.Element e ∷ [])) ys
   inner_below true =
       let first : length (fc ++ the.Text text ∷ []) ≡ length fc + 1 = one_more fc (the.Text text) in
       let second : length (fc ++ the.Text text ∷ [] ++ the.Element e ∷ []) ≡ length (fc ++ the.Text text ∷ []) + 1 = one_more
-          (fc ++ the.Text text ∷ []) (the.Element e) in
+      (fc ++ the.Text text ∷ []) (the.Element e) in
       sym (append_assoc fb _ _ ∙ (λ i. fb ++ (map (from_above (first i)) d ++ declared_below
-          ((second ∙ ap (λ (n : ℕ). n + 1) first) i) ys)))
+      ((second ∙ ap (λ (n : ℕ). n + 1) first) i) ys)))
   inner_below false =
       let first : length (fc ++ []) ≡ length fc = ap length (append-nil fc) in
       let second : length (fc ++ [] ++ the.Element e ∷ []) ≡ length (fc ++ []) + 1 = one_more (fc ++ []) (the.Element e) in
       sym (append_assoc fb _ _ ∙ (λ i. fb ++ (map (from_above (first i)) d ++ declared_below
-          ((second ∙ ap (λ (n : ℕ). n + 1) first) i) ys)))
+      ((second ∙ ap (λ (n : ℕ). n + 1) first) i) ys)))
 
 module _ (f : OpenElement) (inner : Element) (below : List Declared) (items : List Item) where
   kept_before : children_to_come f (Inner inner below ∷ items) ≡ cond (is_child_text true f.text)
@@ -108,22 +108,22 @@ module _ (f : OpenElement) (inner : Element) (below : List Declared) (items : Li
   kept_after : children_to_come (with_inner f inner below) items ≡ filter (is_child true) (joined items)
   kept_after =
       ap (λ (b : Bool). filter (is_child (b || list_any is_inner items)) (put_before [] (joined items)))
-          (some_last f.children (text_child true f.text) (the.Element inner))
+      (some_last f.children (text_child true f.text) (the.Element inner))
       ∙ put_nothing true (joined items)
 
   children_same : f.children ++ map child_of (children_to_come f
       (Inner inner below ∷ items)) ≡ (with_inner f inner below).children ++ map child_of (children_to_come (with_inner f inner below) items)
   children_same =
       ap (λ k. f.children ++ map child_of k) kept_before ∙ inner_children f.children f.below f.text inner below
-          (filter (is_child true) (joined items)) (is_child_text true f.text)
+      (filter (is_child true) (joined items)) (is_child_text true f.text)
       ∙ ap (λ k. (with_inner f inner below).children ++ map child_of k) (sym kept_after)
 
   below_same : f.below ++ declared_below (length f.children) (children_to_come f (Inner inner below ∷ items))
       ≡ (with_inner f inner below).below ++ declared_below (length (with_inner f inner below).children)
-          (children_to_come (with_inner f inner below) items)
+      (children_to_come (with_inner f inner below) items)
   below_same =
       ap (λ k. f.below ++ declared_below (length f.children) k) kept_before
-          ∙ inner_below f.children f.below f.text inner below (filter (is_child true) (joined items)) (is_child_text true f.text)
+      ∙ inner_below f.children f.below f.text inner below (filter (is_child true) (joined items)) (is_child_text true f.text)
       ∙ ap (λ k. (with_inner f inner below).below ++ declared_below (length (with_inner f inner below).children) k) (sym kept_after)
 
   pub inner_closes : (e : Element) (declared : List Declared) → Closes f (Inner inner below ∷ items) e declared
@@ -135,7 +135,7 @@ module _ (f : OpenElement) (inner : Element) (below : List Declared) (items : Li
       → Closes f (Inner inner below ∷ items) e declared
   closes_inner e declared =
       closes_by (with_inner f inner below) e declared f items (Inner inner below ∷ items) refl refl refl (sym children_same)
-          (sym below_same)
+      (sym below_same)
 
 -- an element that has just opened
 kept_new : (cs : List Child) (text : List ℕ) (items : List Item) → cs ≡ [] → text ≡ []
@@ -167,5 +167,8 @@ module _ (outer : Scope) (tag : Tag) (f : OpenElement) (o : OpensElement outer t
   opened_closes h =
       let n = one_name outer tag e.name f.name e.attributes f.attributes h.named o.named in
       let children = h.children_are ∙ sym children_new in
-      record { element_is = λ i. record { name = n.0 i; attributes = n.1 i; children = children i }; declared_is = h.declared_are
-          ∙ sym declared_new }
+      record {
+        element_is = λ i. record { name = n.0 i; attributes = n.1 i; children = children i };
+        declared_is = h.declared_are
+            ∙ sym declared_new;
+      }

@@ -43,7 +43,7 @@ children_deep : (f : OpenElement) (items : List Item) (e : Element) (d : List De
     → nesting e ≡ suc (max (deepest f.children) (deepest (map child_of (children_to_come f items))))
 children_deep f items e d c =
     nesting_is e ∙ ap (λ (y : Element). suc (deepest y.children)) c.element_is
-        ∙ ap suc (deepest_append f.children (map child_of (children_to_come f items)))
+    ∙ ap suc (deepest_append f.children (map child_of (children_to_come f items)))
 
 -- an element that ends
 pub closed_nests : (f : OpenElement) (e : Element) (d : List Declared) → Closes f [] e d → nesting e ≡ suc (deepest f.children)

@@ -37,7 +37,7 @@ pub last_reaches : (bindings : List Binding) (xs : List OpenElement) (f : OpenEl
     → Reaches bindings f.declaring (reverse xs)
 last_reaches bindings xs f n some end is none l =
     let last : reverse xs ≡ f ∷ reverse (take (n - 1) xs) = ap reverse (sym (take_all n xs (omega (arith, end))))
-        ∙ element_before xs n f some (omega (arith, end)) is in
+    ∙ element_before xs n f some (omega (arith, end)) is in
     subst (Reaches bindings f.declaring) (sym last) (reaches_outer bindings f (reverse (take (n - 1) xs)) none (subst AreLinked last l))
 
 pub none_reaches : (bindings : List Binding) (xs : List OpenElement) → length xs ≡ 0 → bindings ≡ [] → Reaches bindings 0 (reverse xs)

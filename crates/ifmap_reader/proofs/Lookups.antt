@@ -7,7 +7,7 @@ pub element_last : (open_elements : List OpenElement) (i : ℕ) (f : OpenElement
     → reverse (take (i + 1) open_elements) ≡ f ∷ reverse (take i open_elements)
 element_last open_elements i f l is =
     ap reverse (take_more open_elements i f l ∙ ap (λ (g : OpenElement). take i open_elements ++ g ∷ []) (sym is))
-        ∙ reverse-append (take i open_elements) (f ∷ [])
+    ∙ reverse-append (take i open_elements) (f ∷ [])
 
 pub element_before : (open_elements : List OpenElement) (n : ℕ) (f : OpenElement) → 0 < n → n ≤ length open_elements
     → f ≡ get_or open_elements (n - 1) f → reverse (take n open_elements) ≡ f ∷ reverse (take (n - 1) open_elements)

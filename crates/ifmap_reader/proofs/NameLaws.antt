@@ -24,7 +24,7 @@ pub lacks_more : (name : Name) (ts : List Attribute) (i : ℕ) (t : Attribute) �
     → (t.name ≡ name → ⊥) → Lacks name (take (i + 1) ts)
 lacks_more name ts i t l is h n =
     subst (λ (us : List Attribute). Lacks name us) (sym (take_more ts i t l ∙ ap (λ (u : Attribute). take i ts ++ u ∷ []) (sym is)))
-        (lacks_last name (take i ts) t h (λ e. n (sym e)))
+    (lacks_last name (take i ts) t h (λ e. n (sym e)))
 
 pub lacks_all : (name : Name) (ts : List Attribute) (i : ℕ) → length ts ≤ i → Lacks name (take i ts) → Lacks name ts
 lacks_all name ts i l h = subst (λ (us : List Attribute). Lacks name us) (take_all i ts l) h
@@ -76,12 +76,12 @@ behind_is ts n = take_all (length ts - n) (drop n ts) (omega (arith, length-drop
 pub no_names : (outer : Scope) (tag : Tag) (bs : List Binding) (given : List Assignment) (made shown : List Attribute) (differ : Bool)
     → bs ≡ filter_map binding_of given → given ≡ tag.assignments
     → AreAttributes (bs ++ outer) (filter (λ a. is_none (binding_of a)) tag.assignments) made → shown ≡ made
-        → (IsTrue differ ↔ AllDiffer (names shown)) → differ ≡ false
+    → (IsTrue differ ↔ AllDiffer (names shown)) → differ ≡ false
     → (name : Name) (attributes : List Attribute) → NamesElement outer tag name attributes → ⊥
 no_names outer tag bs given made shown differ bound is are same tells fails name attributes h =
     let scope : bs ++ outer ≡ bindings tag ++ outer = ap (λ xs. xs ++ outer) (bound ∙ ap (filter_map binding_of) is) in
     let one : attributes ≡ made = one_list_of_attributes (bindings tag ++ outer)
-        (filter (λ a. is_none (binding_of a)) tag.assignments) attributes made h.attributes_are
+    (filter (λ a. is_none (binding_of a)) tag.assignments) attributes made h.attributes_are
     (subst (λ (s : Scope). AreAttributes s (filter (λ a. is_none (binding_of a)) tag.assignments) made) scope are) in
     let k : differ ≡ true = tells.1 (subst (λ (ts : List Attribute). AllDiffer (names ts)) (one ∙ sym same) h.names_differ) in
     cc

@@ -42,9 +42,11 @@ or_parts false c e = (refl, e)
 differ_last : (ns : List Name) (n : Name) → AllDiffer ns → list_any (same n) ns ≡ false → AllDiffer (ns ++ n ∷ [])
 differ_last [] n d none = (tt, tt)
 differ_last (m ∷ ms) n d none =
-    let parts = or_parts (same n m) (list_any (same n) ms) none in
-    (all_last (λ y. m ≢ y) ms n d.0 (λ e. let k : same n m ≡ true = subst (λ y. same n y ≡ true) (sym e)
-        (same_itself n) in cc), differ_last ms n d.1 parts.1)
+    let parts = or_parts (same n m) (list_any (same n) ms) none in (
+      all_last (λ y. m ≢ y) ms n d.0 (λ e. let k : same n m ≡ true = subst (λ y. same n y ≡ true) (sym e)
+          (same_itself n) in cc),
+      differ_last ms n d.1 parts.1,
+    )
 
 differ_not : (ns : List Name) (n : Name) (more : List Name) → list_any (same n) ns ≡ true → AllDiffer (ns ++ n ∷ more) → ⊥
 differ_not [] n more some d = cc
@@ -76,7 +78,7 @@ module _ (ts : List Attribute) (i : ℕ) (t : Attribute) (l : i < length ts) (is
   whole_is : names ts ≡ before ++ t.name ∷ names (drop (i + 1) ts)
   whole_is =
       ap names (sym (take-append-drop i ts) ∙ ap (λ us. take i ts ++ us)
-          (dropped ts i t l ∙ ap (λ (u : Attribute). u ∷ drop (i + 1) ts) (sym is)))
+      (dropped ts i t l ∙ ap (λ (u : Attribute). u ∷ drop (i + 1) ts) (sym is)))
       ∙ map-append (λ (u : Attribute). u.name) (take i ts) (t ∷ drop (i + 1) ts)
 
   there_is : has key ≡ list_any (same t.name) before
@@ -97,13 +99,13 @@ module _ (ts : List Attribute) (i : ℕ) (t : Attribute) (l : i < length ts) (is
     has_them = λ n. now n ∙ ap (λ m. cond (same m n.now) true (has n)) k ∙ ap (λ b. cond (same t.name n.now) true b) (at.has_them n)
         ∙ or_last (same t.name n.now) (list_any (same n.now) before)
         ∙ ap (λ b. list_any (same n.now) before || (b || false)) (same_swaps t.name n.now)
-            ∙ sym (list_any-append (same n.now) before (t.name ∷ [])) ∙ ap (list_any (same n.now)) (sym more_is);
+        ∙ sym (list_any-append (same n.now) before (t.name ∷ [])) ∙ ap (list_any (same n.now)) (sym more_is);
   }
 
   pub name_twice : (added : Bool) → added ≡ not (has key) → added ≡ false → AllDiffer (names ts) → ⊥
   name_twice added tells fails d =
       differ_not before t.name (names (drop (i + 1) ts)) (sym there_is ∙ not_false (has key) (sym tells ∙ fails))
-          (subst AllDiffer whole_is d)
+      (subst AllDiffer whole_is d)
 
 pub no_names_yet : (ts : List Attribute) (has : Bor Name → Bool) → ((n : Bor Name) → has n ≡ false) → Names-so-far ts 0 has
 no_names_yet ts has none = record { differ = tt; has_them = none }

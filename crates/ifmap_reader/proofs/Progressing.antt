@@ -107,7 +107,7 @@ module _ (bytes : List ℕ) (depth : ℕ) (w : Where) (rest : List ℕ) (at : At
         | inl h ↦ at.shallow before h.0 u h.1 o
         | inr h ↦ let inside =
             l.within (subst Opens h.1 o) in let same : open_after before ≡ open_in w = ap open_after h.0
-                ∙ open_after_is in omega (arith, inside, same)
+            ∙ open_after_is in omega (arith, inside, same)
       ];
     }
 
@@ -135,7 +135,7 @@ module _ (bytes : List ℕ) (depth : ℕ) (w : Where) (rest : List ℕ) (at : At
           reaches = record { lexed = at.lexed; allowed = begins_so_far };
           no_further = λ u after h b.
               refused b.more b.reading ((goes_next b.more b.reading).0
-                  (subst (λ (v : Token). IsDocument ((at.so_far ++ v ∷ []) ++ b.more) b.reading) (only u after h).0 b.document));
+              (subst (λ (v : Token). IsDocument ((at.so_far ++ v ∷ []) ++ b.more) b.reading) (only u after h).0 b.document));
           at_is = is;
         })
         at.shallow
@@ -180,8 +180,14 @@ module _ (bytes : List ℕ) (depth : ℕ) (w : Where) (rest : List ℕ) (at : At
       → place ≤ length bytes → IsUnreadable bytes depth place
   not_lexed some none place is within =
       unreadable bytes depth place
-      (record { tokens = at.so_far; rest = rest; reaches = record { lexed = at.lexed; allowed = begins }; no_further = λ t after h b. none
-          t after h; at_is = is })
+      (record {
+        tokens = at.so_far;
+        rest = rest;
+        reaches = record { lexed = at.lexed; allowed = begins };
+        no_further = λ t after h b. none
+            t after h;
+        at_is = is;
+      })
       at.shallow
       (λ r s. none_ahead TakesToken (without_byte_order_mark bytes) at.so_far rest [] some none at.ahead s.tokens s.lexed)
       within
@@ -199,8 +205,14 @@ module _ (bytes : List ℕ) (depth : ℕ) (w : Where) (rest : List ℕ) (at : At
         subst (λ (us : List Token). GoesOn w us r) (no_more a.0 a.2) x
 
     abbrev stopped : (place : ℕ) → place ≡ offset bytes rest → Stop bytes place
-    stopped place is = record { tokens = at.so_far; rest = rest; reaches = record { lexed = at.lexed; allowed = begins }; no_further = λ t
-        after h b. no_token rest t after end h; at_is = is }
+    stopped place is = record {
+      tokens = at.so_far;
+      rest = rest;
+      reaches = record { lexed = at.lexed; allowed = begins };
+      no_further = λ t
+          after h b. no_token rest t after end h;
+      at_is = is;
+    }
 
     pub ended_early : ((r : Reading) → GoesOn w [] r → ⊥) → (place : ℕ) → place ≡ offset bytes rest → place ≤ length bytes
         → IsUnreadable bytes depth place
@@ -235,8 +247,8 @@ module _ (bytes : List ℕ) (depth : ℕ) (w : Where) (place : ℕ) (at : At byt
           → IsRead bytes depth (Err (lex_error error place))
       by lexing.Malformed none =
           not_lexed bytes depth w (drop place bytes) at (some_left l)
-              (subst (λ (b : List ℕ). (t : Token) (rest : List ℕ) → TakesToken b t rest → ⊥) is (none refl)) place
-                  (offset_is (omega (arith, l))) (omega (arith, l))
+          (subst (λ (b : List ℕ). (t : Token) (rest : List ℕ) → TakesToken b t rest → ⊥) is (none refl)) place
+          (offset_is (omega (arith, l))) (omega (arith, l))
       by lexing.NoMemory none = tt
 
   module _ (shown : List ℕ) (t : Token) (count : ℕ) (l : place < length bytes) (is : shown ≡ drop place bytes)
@@ -262,10 +274,10 @@ module _ (bytes : List ℕ) (depth : ℕ) (w : Where) (place : ℕ) (at : At byt
         by : (refusal : Refusal) → TokenAnswer depth w t (Err refusal) → IsRead bytes depth (Err (refusal_error refusal place))
         by refusals.NotAllowed h =
             step_refused bytes depth w (drop place bytes) at t (drop (place + count) bytes) (some_left l) taken_here alone_here place
-                (offset_is (omega (arith, l))) (omega (arith, l)) h
+            (offset_is (omega (arith, l))) (omega (arith, l)) h
         by refusals.TooDeep h =
             step_too_deep bytes depth w (drop place bytes) at t (drop (place + count) bytes) (some_left l) taken_here alone_here place
-                (offset_is (omega (arith, l))) (omega (arith, l)) h
+            (offset_is (omega (arith, l))) (omega (arith, l)) h
         by refusals.NoMemory h = tt
 
 pub shown_is : (bytes : List ℕ) (place : ℕ) → take (length bytes - place) (drop place bytes) ≡ drop place bytes
@@ -295,7 +307,10 @@ end_read bytes depth s place result at within end made = subst (λ (a : Result R
     by standing.Start a = ended_early bytes depth AtStart (drop place bytes) a none_left no_tokens_start place (here AtStart a) within
     by (standing.Open open_elements) a =
         ended_early bytes depth (Within (reverse open_elements)) (drop place bytes) a none_left (no_tokens (reverse open_elements)) place
-            (here (Within (reverse open_elements)) a) within
-    by (standing.Done r) a =
-        (whole bytes depth (AfterRoot r) (drop place bytes) a none_left r (after_root_ends r), a.fits, λ deep d. none_deep bytes depth
-            (AfterRoot r) (drop place bytes) a none_left place deep (here (AfterRoot r) a) d)
+        (here (Within (reverse open_elements)) a) within
+    by (standing.Done r) a = (
+      whole bytes depth (AfterRoot r) (drop place bytes) a none_left r (after_root_ends r),
+      a.fits,
+      λ deep d. none_deep bytes depth
+          (AfterRoot r) (drop place bytes) a none_left place deep (here (AfterRoot r) a) d,
+    )

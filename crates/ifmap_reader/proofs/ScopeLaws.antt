@@ -58,10 +58,10 @@ module _ (path : List ℕ) where
     row_passed row tells fails q = at q ∙ elim (cases_Bool (stands d)) [
       | inl e ↦
           let other : is_listed d.prefix ≡ false = let k : (true && is_listed d.prefix) ≡ false = ap (λ b. b && is_listed d.prefix)
-              (sym e) ∙ sym tells ∙ fails in k in
+          (sym e) ∙ sym tells ∙ fails in k in
           sym (listed_outer (declared_at path (take i ds)) (binding_told d) q other)
-              ∙ ap (λ s. listed s q) (sym (more_is ∙ ap (λ b. cond b (binding_told d ∷ declared_at path (take i ds))
-                  (declared_at path (take i ds))) e))
+          ∙ ap (λ s. listed s q) (sym (more_is ∙ ap (λ b. cond b (binding_told d ∷ declared_at path (take i ds))
+          (declared_at path (take i ds))) e))
       | inr e ↦ ap (λ s. listed s q) (sym (more_is ∙ ap (λ b. cond b (binding_told d ∷ declared_at path (take i ds))
           (declared_at path (take i ds))) e))
     ]
@@ -69,14 +69,14 @@ module _ (path : List ℕ) where
     pub row_taken : (row : Bool) → row ≡ (stands d && is_listed d.prefix) → row ≡ true
         → (new : List ℕ → Option (List ℕ)) (key space : List ℕ) → key ≡ d.prefix → space ≡ d.space
         → ((q : List ℕ) → new q ≡ cond (is_eq (slice_cmp nat_cmp key q)) (Some space) (old q)) → (q : List ℕ)
-            → new q ≡ listed (declared_at path (take (i + 1) ds)) q
+        → new q ≡ listed (declared_at path (take (i + 1) ds)) q
     row_taken row tells holds new key space k s now q =
         let both = and_parts (stands d) (is_listed d.prefix) (sym tells ∙ holds) in
         now q ∙ (λ i. cond (is_eq (slice_cmp nat_cmp (k i) q)) (Some (s i)) (at q i))
-            ∙ ap (λ b. cond b (Some d.space) (listed (declared_at path (take i ds)) q)) (sym (texts_ties d.prefix q))
+        ∙ ap (λ b. cond b (Some d.space) (listed (declared_at path (take i ds)) q)) (sym (texts_ties d.prefix q))
         ∙ sym (listed_inner (declared_at path (take i ds)) (binding_told d) q both.1)
         ∙ ap (λ scope. listed scope q) (sym (more_is ∙ ap (λ b. cond b (binding_told d ∷ declared_at path (take i ds))
-            (declared_at path (take i ds))) both.0))
+        (declared_at path (take i ds))) both.0))
 
 -- a table as the list of its rows
 pub found_by_text : (rows : List (List ℕ × List ℕ)) (prefix : List ℕ)

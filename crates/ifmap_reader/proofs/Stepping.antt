@@ -51,10 +51,10 @@ words_lead : (depth : ℕ) (f : OpenElement) (fs : List OpenElement) (t : Token)
 words_lead depth f fs t blank text w = elim w [
   | inl e ↦ subst (λ (u : Token). Leads depth (Within (f ∷ fs)) u (Within (with_characters f text ∷ fs))) (sym e)
       (still depth (Within (f ∷ fs)) (Characters blank text) (Within (with_characters f text ∷ fs))
-          (inner_words f fs (Characters blank text) blank text (inl refl)) refl refl refl refl (λ o. o) (λ l. l))
+      (inner_words f fs (Characters blank text) blank text (inl refl)) refl refl refl refl (λ o. o) (λ l. l))
   | inr e ↦ subst (λ (u : Token). Leads depth (Within (f ∷ fs)) u (Within (with_characters f text ∷ fs))) (sym e.1)
       (still depth (Within (f ∷ fs)) (Section text) (Within (with_characters f text ∷ fs))
-          (inner_words f fs (Section text) blank text (inr (e.0, refl))) refl refl refl refl (λ o. o) (λ l. l))
+      (inner_words f fs (Section text) blank text (inr (e.0, refl))) refl refl refl refl (λ o. o) (λ l. l))
 ]
 
 pub words_step : (depth : ℕ) (old mid new : List OpenElement) (f g : OpenElement) (t : Token) (blank : Bool) (text : List ℕ)
@@ -63,7 +63,7 @@ pub words_step : (depth : ℕ) (old mid new : List OpenElement) (f g : OpenEleme
 words_step depth old mid new f g t blank text w is made added =
     subst (λ (fs : List OpenElement). Leads depth (Within fs) t (Within (reverse new))) (sym (last_first old mid f is))
     (subst (λ (fs : List OpenElement). Leads depth (Within (f ∷ reverse mid)) t (Within fs))
-        (sym (last_first new mid g made ∙ ap (λ (h : OpenElement). h ∷ reverse mid) added))
+    (sym (last_first new mid g made ∙ ap (λ (h : OpenElement). h ∷ reverse mid) added))
     (words_lead depth f (reverse mid) t blank text w))
 
 pub blank_step : (depth : ℕ) (old new : List OpenElement) (t : Token) (blank : Bool) (text : List ℕ) → IsCharacterData blank text t
@@ -81,7 +81,7 @@ pub words_refused : (old : List OpenElement) (t : Token) (blank : Bool) (text : 
     → blank ≡ false → (ts : List Token) (r : Reading) → GoesOn (Within (reverse old)) (t ∷ ts) r → ⊥
 words_refused old t blank text w none b ts r x =
     no_root t (elim w [ inl e ↦ subst IsInner (sym e) b | inr e ↦ subst IsInner (sym e.1) tt ]) ts r
-        (subst (λ (fs : List OpenElement). GoesOn (Within (reverse fs)) (t ∷ ts) r) none x)
+    (subst (λ (fs : List OpenElement). GoesOn (Within (reverse fs)) (t ∷ ts) r) none x)
 
 -- tags
 pub tag_follows : (fs : List OpenElement) (tag : Tag) (new : OpenElement) → OpensElement (scope_of fs) tag new
@@ -142,7 +142,7 @@ start_passes depth fs tag new o l = record {
 -- of the code's list, whose last is the innermost
 pub start_step : (depth : ℕ) (old new : List OpenElement) (tag : Tag) (f : OpenElement) → OpensElement (scope_of (reverse old)) tag f
     → Reaches f.bindings f.declaring (reverse old) → length old < depth → new ≡ old ++ f ∷ []
-        → Leads depth (Within (reverse old)) (Start tag) (Within (reverse new))
+    → Leads depth (Within (reverse old)) (Start tag) (Within (reverse new))
 start_step depth old new tag f o reaches l is =
     subst (λ (fs : List OpenElement). Leads depth (Within (reverse old)) (Start tag) (Within fs)) (sym (last_first new old f is))
     (start_leads depth (reverse old) tag f o reaches (let h = length-reverse old in omega (arith, h, l)))
@@ -156,7 +156,7 @@ pub empty_step : (depth : ℕ) (old : List OpenElement) (tag : Tag) (f : OpenEle
     → new ≡ after_element (reverse old) e d → Leads depth (Within (reverse old)) (Empty tag) new
 empty_step depth old tag f e d new o k l is =
     subst (λ (w : Where). Leads depth (Within (reverse old)) (Empty tag) w) (sym is)
-        (empty_leads depth (reverse old) tag f o e d k (let h = length-reverse old in omega (arith, h, l)))
+    (empty_leads depth (reverse old) tag f o e d k (let h = length-reverse old in omega (arith, h, l)))
 
 closed_of : (f : OpenElement) → (e : Element) × ((d : List Declared) × Closes f [] e d)
 closed_of f = (_, (_, record { element_is = refl; declared_is = refl }))
@@ -189,13 +189,13 @@ pub end_step : (depth : ℕ) (old mid : List OpenElement) (f : OpenElement) (nam
 end_step depth old mid f name e d new is same c made =
     subst (λ (fs : List OpenElement). Leads depth (Within fs) (End name) new) (sym (last_first old mid f is))
     (subst (λ (w : Where). Leads depth (Within (f ∷ reverse mid)) (End name) w) (sym made)
-        (end_leads depth f (reverse mid) name e d same c))
+    (end_leads depth f (reverse mid) name e d same c))
 
 pub other_end : (old mid : List OpenElement) (f : OpenElement) (name : Qualified) → old ≡ mid ++ f ∷ [] → (name ≡ written_name f → ⊥)
     → (ts : List Token) (r : Reading) → GoesOn (Within (reverse old)) (End name ∷ ts) r → ⊥
 other_end old mid f name is other ts r x =
     inner_other_end f (reverse mid) name other ts r (subst (λ (fs : List OpenElement). GoesOn (Within fs) (End name ∷ ts) r)
-        (last_first old mid f is) x)
+    (last_first old mid f is) x)
 
 pub no_end : (old : List OpenElement) (name : Qualified) → old ≡ [] → (ts : List Token) (r : Reading)
     → GoesOn (Within (reverse old)) (End name ∷ ts) r → ⊥
@@ -270,11 +270,11 @@ module _ (depth : ℕ) (t : Token) (other : IsOther t) where
       → TokenAnswer depth (Within (reverse fs)) t result → TokenAnswer depth s t result
   steps_at_start s fs result is none h =
       subst (λ (w : Where). TokenAnswer depth w t result) (sym is)
-          (start_steps result (subst (λ (gs : List OpenElement). TokenAnswer depth (Within (reverse gs)) t result) none h))
+      (start_steps result (subst (λ (gs : List OpenElement). TokenAnswer depth (Within (reverse gs)) t result) none h))
 
 pub declaration_at_start : (depth : ℕ) (s : Where) (t : Token) (new : List OpenElement) → s ≡ AtStart → t ≡ Declaration → new ≡ []
     → Leads depth s t (Within (reverse new))
 declaration_at_start depth s t new is same none =
     subst (λ (w : Where). Leads depth w t (Within (reverse new))) (sym is)
-        (subst (λ (u : Token). Leads depth AtStart u (Within (reverse new))) (sym same)
+    (subst (λ (u : Token). Leads depth AtStart u (Within (reverse new))) (sym same)
     (subst (λ (fs : List OpenElement). Leads depth AtStart Declaration (Within (reverse fs))) (sym none) (declaration_leads depth)))

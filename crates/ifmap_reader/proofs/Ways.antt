@@ -57,14 +57,33 @@ some_closing f (g ∷ gs) =
       End (written_name f) ∷ outer.0,
       (
         outer.1.0,
-        record { inside = Nothing; rest = outer.0; items = []; element = end.0; declared = end.1.0; tokens_are = refl; means = refl;
-            closes = end.1.1; goes_on = outer.1.1 },
+        record {
+          inside = Nothing;
+          rest = outer.0;
+          items = [];
+          element = end.0;
+          declared = end.1.0;
+          tokens_are = refl;
+          means = refl;
+          closes = end.1.1;
+          goes_on = outer.1.1;
+        },
       ),
     )
 
 pub some_way : (w : Where) → SomeWay w
-some_way AtStart = (Empty some_tag ∷ [], (some_reading, record { declared = false; pieces = piece.Empty some_tag Nothing;
-    tokens_are = refl; rooted = begins_root (piece.Empty some_tag Nothing) some_reading (some_element, tt) }))
+some_way AtStart = (
+  Empty some_tag ∷ [],
+  (
+    some_reading,
+    record {
+      declared = false;
+      pieces = piece.Empty some_tag Nothing;
+      tokens_are = refl;
+      rooted = begins_root (piece.Empty some_tag Nothing) some_reading (some_element, tt);
+    },
+  ),
+)
 some_way (Within []) =
     (Empty some_tag ∷ [], (some_reading, record { pieces = piece.Empty some_tag Nothing; tokens_are = refl; rooted = (some_element, tt) }))
 some_way (Within (f ∷ fs)) = some_closing f fs

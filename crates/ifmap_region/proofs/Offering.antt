@@ -90,8 +90,16 @@ module _ (link : ℕ → Option ℕ) (n : ℕ) (mark : ℕ → Option ℕ) (leve
     kept = λ s h. Contains-append_left after ((level, w) ∷ []) s (o.kept s h);
     joined = λ s h. elim (Contains-push_cases after (level, w) s h) [
       | inl a ↦ further o s a
-      | inr e ↦ inr (ap (λ (p : ℕ × ℕ). p.0) (sym e), ap (λ (p : ℕ × ℕ). mark p.1) (sym e) ∙ marked, (n, omega arith, here ∙ ap Some (ap
-          (λ (p : ℕ × ℕ). p.1) e)))
+      | inr e ↦ inr (
+        ap (λ (p : ℕ × ℕ). p.0) (sym e),
+        ap (λ (p : ℕ × ℕ). mark p.1) (sym e) ∙ marked,
+        (
+          n,
+          omega arith,
+          here ∙ ap Some (ap
+              (λ (p : ℕ × ℕ). p.1) e),
+        ),
+      )
     ];
     followed = λ x j lt e m. elim (last_or_before link n mark level before after j lt) [
       | inl l ↦ Contains-append_left after ((level, w) ∷ []) (level, x) (o.followed x j l e m)

@@ -74,18 +74,22 @@ module _ (links : ℕ → ℕ → Type 0) (terminal : ℕ → Bool) (start top :
         sound : (q k : ℕ) → m' q ≡ Some k → (k ≤ top) × Walk links terminal start k q
         sound q k e = elim (cases_eq q v) [
           | inl at ↦ let same : level ≡ k = same_Some level k (sym here ∙ ap m' (sym at) ∙ e) in
-              let w = r.walks v level waited in
-              (omega (arith, w.0, same), subst (λ (n : ℕ). Walk links terminal start n q) same (subst (λ (x : ℕ). Walk links terminal
-                  start level x) (sym at) w.1))
+              let w = r.walks v level waited in (
+                omega (arith, w.0, same),
+                subst (λ (n : ℕ). Walk links terminal start n q) same (subst (λ (x : ℕ). Walk links terminal
+                    start level x) (sym at) w.1),
+              )
           | inr apart ↦ r.sound q k (sym (others q apart) ∙ e)
         ]
 
         walks : (x k : ℕ) → waits' k x → (k ≤ top) × Walk links terminal start k x
         walks x k w = elim (back k x w) [
           | inl old ↦ r.walks x k old
-          | inr p ↦ let same : suc level ≡ k = omega (arith, p.0) in
-              (omega (arith, p.0, p.1.below), subst (λ (n : ℕ). Walk links terminal start n x) same (goes_on (r.walks v level waited).1
-                  p.1.passable p.2))
+          | inr p ↦ let same : suc level ≡ k = omega (arith, p.0) in (
+            omega (arith, p.0, p.1.below),
+            subst (λ (n : ℕ). Walk links terminal start n x) same (goes_on (r.walks v level waited).1
+                p.1.passable p.2),
+          )
         ]
 
         bound : (y d : ℕ) → IsBound m waits y d → IsBound m' waits' y d
@@ -109,17 +113,25 @@ module _ (links : ℕ → ℕ → Type 0) (terminal : ℕ → Bool) (start top :
         along : (x y d : ℕ) → Expands terminal top m' x d → links x y → IsBound m' waits' y (suc d)
         along x y d e l = elim (cases_eq x v) [
           | inl at ↦ let same : level ≡ d = same_Some level d (sym here ∙ ap m' (sym at) ∙ e.marked) in
-              let at_v : Expands terminal top m' v level = record { marked = here; below = omega (arith, e.below, same); passable = ap
-                  terminal (sym at) ∙ e.passable } in
+              let at_v : Expands terminal top m' v level = record {
+                marked = here;
+                below = omega (arith, e.below, same);
+                passable = ap
+                    terminal (sym at) ∙ e.passable;
+              } in
               subst (λ (n : ℕ). IsBound m' waits' y (suc n)) same (offered y at_v (subst (λ (n : ℕ). links n y) at l))
-          | inr apart ↦ bound y (suc d) (r.along x y d (record { marked = sym (others x apart) ∙ e.marked; below = e.below; passable =
-              e.passable }) l)
+          | inr apart ↦ bound y (suc d) (r.along x y d (record {
+            marked = sym (others x apart) ∙ e.marked;
+            below = e.below;
+            passable =
+                e.passable;
+          }) l)
         ]
 
     -- its scan is charged to it
     pub charged_set : (count : ℕ → ℕ) (first : ℕ → Option ℕ) (before steps after : ℕ) → after ≤ steps + count v
         → IsCharged links terminal start top count first m level before steps
-            → IsCharged links terminal start top count first m' level before after
+        → IsCharged links terminal start top count first m' level before after
     charged_set count first before steps after le c = record {
       falls = falls;
       spent = record {
@@ -128,7 +140,7 @@ module _ (links : ℕ → ℕ → Type 0) (terminal : ℕ → Bool) (start top :
             c.spent.numbers c.spent.among) c.spent.distinct;
         among = All-cons (IsSet links terminal start top first m' level) v c.spent.numbers (improved, (level, here, omega arith))
             (All-weaker (IsSet links terminal start top first m level) (IsSet links terminal start top first m' level) kept
-                c.spent.numbers c.spent.among);
+            c.spent.numbers c.spent.among);
         bound = omega (arith, le, c.spent.bound, sum_by-cons count v c.spent.numbers);
       };
     }
@@ -162,7 +174,7 @@ module _ (count : ℕ → ℕ) (link : ℕ → ℕ → Option ℕ) (terminal : �
       → IsReady (Linked count link) terminal start top m' (waiting level rest entries')
   ready_offered m m' entries entries' here others lower below passable o r =
       ready_set (Linked count link) terminal start top m m' (waiting level (v ∷ rest) entries) level v here others lower (waiting_first
-          level v rest entries) r
+      level v rest entries) r
       (waiting level rest entries') there back offered
     where
       there : (k x : ℕ) → waiting level (v ∷ rest) entries k x → ((k ≡ level) × (x ≡ v)) ⊎ waiting level rest entries' k x
@@ -194,9 +206,9 @@ module _ (count : ℕ → ℕ) (link : ℕ → ℕ → Option ℕ) (terminal : �
       → IsReady (Linked count link) terminal start top m' (waiting level rest entries)
   ready_ended m m' entries here others lower ends r =
       ready_set (Linked count link) terminal start top m m' (waiting level (v ∷ rest) entries) level v here others lower (waiting_first
-          level v rest entries) r
+      level v rest entries) r
       (waiting level rest entries) (waiting_out level v rest entries) (λ k x w. inl (waiting_in level v rest entries k x w)) (λ w e l.
-          absurd (ends e))
+      absurd (ends e))
 
 module _ (links : ℕ → ℕ → Type 0) (terminal : ℕ → Bool) (start top : ℕ) where
   -- the same numbers wait
@@ -237,21 +249,23 @@ module _ (links : ℕ → ℕ → Type 0) (terminal : ℕ → Bool) (start top :
 
   pub charged_later : (count : ℕ → ℕ) (first m : ℕ → Option ℕ) (level later before after : ℕ) → level ≤ later
       → IsCharged links terminal start top count first m level before after → IsCharged links terminal start top count first m later
-          before after
+      before after
   charged_later count first m level later before after le c = record {
     falls = c.falls;
     spent = record {
       numbers = c.spent.numbers;
       distinct = c.spent.distinct;
-      among = All-weaker (IsSet links terminal start top first m level) (IsSet links terminal start top first m later) (λ v s. (s.0,
-          (s.1.0, s.1.1, omega (arith, s.1.2, le)))) c.spent.numbers c.spent.among;
+      among = All-weaker (IsSet links terminal start top first m level) (IsSet links terminal start top first m later) (λ v s. (
+        s.0,
+        (s.1.0, s.1.1, omega (arith, s.1.2, le)),
+      )) c.spent.numbers c.spent.among;
       bound = c.spent.bound;
     };
   }
 
   pub spent_from : (count : ℕ → ℕ) (first m : ℕ → Option ℕ) (level before after : ℕ)
       → IsCharged links terminal start top count first m level before after → IsWithin count (Improves links terminal start top first) 1
-          before after
+      before after
   spent_from count first m level before after c = record {
     numbers = c.spent.numbers;
     distinct = c.spent.distinct;
@@ -263,7 +277,7 @@ module _ (links : ℕ → ℕ → Type 0) (terminal : ℕ → Bool) (start top :
   -- a level comes out of what waits, and goes
   pub ready_out : (m : ℕ → Option ℕ) (old new : Waiting) (level : ℕ) (now : List ℕ) → ComesOut old new level now
       → IsReady links terminal start top m (λ k v. Contains old.entries (k, v))
-          → IsReady links terminal start top m (waiting level now new.entries)
+      → IsReady links terminal start top m (waiting level now new.entries)
   ready_out m old new level now out r =
       ready_same m (λ k v. Contains old.entries (k, v)) (waiting level now new.entries)
       (λ k x w. out.each (k, x) w)
@@ -271,8 +285,10 @@ module _ (links : ℕ → ℕ → Type 0) (terminal : ℕ → Bool) (start top :
       r
 
   pub ready_done : (m : ℕ → Option ℕ) (level : ℕ) (entries : List (ℕ × ℕ))
-      → IsReady links terminal start top m (waiting level [] entries) → IsReady links terminal start top m (λ k v. Contains entries (k,
-          v))
+      → IsReady links terminal start top m (waiting level [] entries) → IsReady links terminal start top m (λ k v. Contains entries (
+        k,
+        v,
+      ))
   ready_done m level entries r =
       ready_same m (waiting level [] entries) (λ k v. Contains entries (k, v))
       (λ k x w. elim w [ inl p ↦ absurd (omega (arith, p.1.1)) | inr c ↦ c ]) (λ k x c. inr c) r
@@ -293,11 +309,14 @@ ready_begun links terminal start top m seeds none one = record {
 -- what was improved is reached
 pub reached_spent : (links : ℕ → ℕ → Type 0) (terminal : ℕ → Bool) (start top : ℕ) (count : ℕ → ℕ) (m : ℕ → Option ℕ) (before after : ℕ)
     → IsWithin count (Improves links terminal start top m) 1 before after → IsWithin count (IsReached links terminal start top) 1 before
-        after
+    after
 reached_spent links terminal start top count m before after s = record {
   numbers = s.numbers;
   distinct = s.distinct;
-  among = All-weaker (Improves links terminal start top m) (IsReached links terminal start top) (λ v i. (i.links_of_it, i.within,
-      i.walk)) s.numbers s.among;
+  among = All-weaker (Improves links terminal start top m) (IsReached links terminal start top) (λ v i. (
+    i.links_of_it,
+    i.within,
+    i.walk,
+  )) s.numbers s.among;
   bound = s.bound;
 }

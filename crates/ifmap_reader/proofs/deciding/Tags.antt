@@ -137,14 +137,18 @@ allowed_or_none outer tag = elim (decided_each IsBinding binding_or_not (binding
               let same : attributes ≡ ts.0
               = one_list_of_attributes (scope_within outer tag) (plain_assignments tag) attributes ts.0 n.attributes_are ts.1 in
               fails (subst (λ (us : List Attribute). AllDiffer (map (λ t. t.name) us)) same n.names_differ))
-          | inl differ ↦ inl (record { space = s.0; local = tag.name.local }, ts.0, record {
-            binds = binds;
-            binds_once = once;
-            space_is = s.1;
-            local_is = refl;
-            attributes_are = ts.1;
-            names_differ = differ;
-          })
+          | inl differ ↦ inl (
+            record { space = s.0; local = tag.name.local },
+            ts.0,
+            record {
+              binds = binds;
+              binds_once = once;
+              space_is = s.1;
+              local_is = refl;
+              attributes_are = ts.1;
+              names_differ = differ;
+            },
+          )
         ]
       ]
     ]

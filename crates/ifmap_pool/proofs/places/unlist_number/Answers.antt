@@ -7,7 +7,7 @@ pub unreachable-requires : goal.unreachable-requires
 unreachable-requires g c =
     let missing = rw c.deref.ensures.value at c.in-Err.ensures in
     none_missed g.met.K.Ord.total (slot_at c.args.slots.now) c.args.order.now.items c.requires.indexed c.held_at.result.now.key
-        c.in-Err.field-0 missing
+    c.in-Err.field-0 missing
     c.args.number c.held_at.result.now c.held_at.ensures (tied_itself g.met.K.Ord.total c.held_at.result.now.key)
 
 pub returns-clause-items : goal.returns-clause-items

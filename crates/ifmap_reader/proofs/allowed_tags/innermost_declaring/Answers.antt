@@ -8,5 +8,5 @@ pub returns : goal.returns
 returns c =
     subst (λ (f : OpenElement). Reaches c.args.bindings.now f.declaring (reverse c.args.open_elements.now)) c.index-open_elements-count.is
     (last_reaches c.args.bindings.now c.args.open_elements.now c.index-open_elements-count.result (length c.args.open_elements.now)
-        (omega (arith, c.if-count-eq0.false)) refl
+    (omega (arith, c.if-count-eq0.false)) refl
     c.index-open_elements-count.is c.if-not-is_empty.ensures c.requires)

@@ -11,7 +11,7 @@ use Rattle.ifmap_reader.proofs.allowed_tags.space_of.Goals as goal
 pub returns-in-Some : goal.returns-in-Some
 returns-in-Some c =
     ap Some c.in_ok-copy.ensures ∙ sym (bound_inner c.args.bindings.now
-        (scope_of (reverse c.args.open_elements.now)) c.args.prefix.now c.in-Some.space.now (sym c.in-Some.ensures))
+    (scope_of (reverse c.args.open_elements.now)) c.args.prefix.now c.in-Some.space.now (sym c.in-Some.ensures))
 
 pub loop-outer-init : goal.loop-outer-init
 loop-outer-init c = record {
@@ -29,7 +29,7 @@ loop-outer-preserved-then-element-outer c =
           c.loop-outer.outer c.index-open_elements-outer.result
           c.loop-outer-test.true c.loop-outer.invariant.within less
           (element_before c.args.open_elements.now c.loop-outer.outer c.index-open_elements-outer.result c.loop-outer-test.true
-              c.loop-outer.invariant.within c.index-open_elements-outer.is) refl c.requires)
+          c.loop-outer.invariant.within c.index-open_elements-outer.is) refl c.requires)
           ∙ c.loop-outer.invariant.same;
     }
 
@@ -37,10 +37,10 @@ pub returns-in-Some-space_of : goal.returns-in-Some-space_of
 returns-in-Some-space_of c =
     ap Some c.in_ok-copy-2.ensures
     ∙ sym (bound_inner c.index-open_elements-outer.result.bindings
-        (scope_of (reverse (take _ c.args.open_elements.now))) c.args.prefix.now c.in-Some-space_of.space.now
-            (sym c.in-Some-space_of.ensures))
+    (scope_of (reverse (take _ c.args.open_elements.now))) c.args.prefix.now c.in-Some-space_of.space.now
+    (sym c.in-Some-space_of.ensures))
     ∙ ap (λ fs. bound (scope_of fs) c.args.prefix.now) (sym (element_before c.args.open_elements.now c.loop-outer.outer
-        c.index-open_elements-outer.result c.loop-outer-test.true c.loop-outer.invariant.within c.index-open_elements-outer.is))
+    c.index-open_elements-outer.result c.loop-outer-test.true c.loop-outer.invariant.within c.index-open_elements-outer.is))
     ∙ c.loop-outer.invariant.same
 
 pub loop-outer-preserved : goal.loop-outer-preserved
@@ -49,7 +49,7 @@ loop-outer-preserved c = record {
   same = sym (bound_outer c.index-open_elements-outer.result.bindings
       (scope_of (reverse (take _ c.args.open_elements.now))) c.args.prefix.now (sym c.in_default-space_of.ensures))
       ∙ ap (λ fs. bound (scope_of fs) c.args.prefix.now) (sym
-          (element_before c.args.open_elements.now c.loop-outer.outer c.index-open_elements-outer.result c.loop-outer-test.true
-              c.loop-outer.invariant.within c.index-open_elements-outer.is))
+      (element_before c.args.open_elements.now c.loop-outer.outer c.index-open_elements-outer.result c.loop-outer-test.true
+      c.loop-outer.invariant.within c.index-open_elements-outer.is))
       ∙ c.loop-outer.invariant.same;
 }

@@ -11,7 +11,7 @@ returns-in_err-made c =
     rw (p.1, p.2) (binding_refused (filter_map binding_of c.args.assignments.now) c.assignment-item.result
     (drop (c.loop-assignment.assignment-index + 1) c.args.assignments.now) c.loop-assignment.made
     (at_item _ _ c.args.assignments.now c.loop-assignment.assignment-index c.assignment-item.result c.loop-assignment-test.true
-        c.assignment-item.is c.loop-assignment.invariant)
+    c.assignment-item.is c.loop-assignment.invariant)
     c.args.assignments.now refl c.in_err-made.field-0.0 c.in_err-made.ensures)
 
 pub loop-assignment-preserved : goal.loop-assignment-preserved
@@ -19,5 +19,5 @@ loop-assignment-preserved c =
     binding_next (filter_map binding_of c.args.assignments.now) c.assignment-item.result
     (drop (c.loop-assignment.assignment-index + 1) c.args.assignments.now) c.loop-assignment.made
     (at_item _ _ c.args.assignments.now c.loop-assignment.assignment-index c.assignment-item.result c.loop-assignment-test.true
-        c.assignment-item.is c.loop-assignment.invariant)
+    c.assignment-item.is c.loop-assignment.invariant)
     c.in_ok-made.made c.in_ok-made.ensures

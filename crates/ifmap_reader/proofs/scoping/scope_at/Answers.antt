@@ -9,10 +9,10 @@ use Rattle.ifmap_reader.proofs.scoping.scope_at.Goals as goal
 pub returns-clause-declared : goal.returns-clause-declared
 returns-clause-declared c = λ prefix.
     ap (lookup (bytes_eq prefix)) c.in_ok-bindings.ensures.all ∙ found_by_text c.in_ok-spaces.spaces.entries prefix
-        ∙ c.in_ok-spaces.ensures prefix
+    ∙ c.in_ok-spaces.ensures prefix
     ∙ ap (λ ds. listed (declared_at c.args.path.now ds) prefix) (c.deref.ensures.value ∙ ap (λ (r : Reading). r.declared) c.reading.view_is)
 
 pub returns-clause-resolved : goal.returns-clause-resolved
 returns-clause-resolved c =
     λ bytes scope s h prefix. returns-clause-declared c prefix
-        ∙ c.declarations_tell_the_scopes.ensures bytes c.args.reading.now s c.args.path.now scope h prefix
+    ∙ c.declarations_tell_the_scopes.ensures bytes c.args.reading.now s c.args.path.now scope h prefix

@@ -8,12 +8,12 @@ use Rattle.ifmap_reader.proofs.standing.take_inside.Goals as goal
 pub returns-in-Declaration : goal.returns-in-Declaration
 returns-in-Declaration c =
     subst (λ (t : Token). (ts : List Token) (r : Reading) → GoesOn (Within (reverse c.args.open_elements)) (t ∷ ts) r → ⊥)
-        (sym c.in-Declaration.is) (declaration_refused (reverse c.args.open_elements))
+    (sym c.in-Declaration.is) (declaration_refused (reverse c.args.open_elements))
 
 pub returns-in-Comment : goal.returns-in-Comment
 returns-in-Comment c =
     subst (λ (t : Token). Leads c.args.depth (Within (reverse c.args.open_elements)) t (Within (reverse c.args.open_elements)))
-        (sym c.in-Comment.is) (comment_leads c.args.depth (reverse c.args.open_elements))
+    (sym c.in-Comment.is) (comment_leads c.args.depth (reverse c.args.open_elements))
 
 pub returns-in-End : goal.returns-in-End
 returns-in-End c = subst (λ (t : Token). TokenAnswer c.args.depth (Within (reverse c.args.open_elements)) t c.take_end.result)

@@ -12,13 +12,13 @@ invariant-loop-levels g l =
       rows : AddsMarks l.initial.rows.entries l.rows.entries;
       ready : (start : ℕ)
           → IsReady links terminal start l.top (over l.initial.rows.entries (mark_of l.base.entries)) (λ k v. Contains l.fn.seeds.items
-              (k, v))
+          (k, v))
           → IsReady links terminal start l.top (over l.rows.entries (mark_of l.base.entries)) (λ k v. Contains l.levels.entries (k, v));
       charged : (start : ℕ)
           → IsReady links terminal start l.top (over l.initial.rows.entries (mark_of l.base.entries)) (λ k v. Contains l.fn.seeds.items
-              (k, v))
+          (k, v))
           → IsCharged links terminal start l.top (g.G.LinkSource.count l.graph) (over l.initial.rows.entries (mark_of l.base.entries))
-              (over l.rows.entries (mark_of l.base.entries)) l.levels.floor l.initial.steps l.steps;
+          (over l.rows.entries (mark_of l.base.entries)) l.levels.floor l.initial.steps l.steps;
     }
 
 abbrev pub decreases-loop-levels : goal.decreases-loop-levels

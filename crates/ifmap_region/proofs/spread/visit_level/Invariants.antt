@@ -13,14 +13,14 @@ invariant-loop-number g l =
       rows : AddsMarks l.initial.rows.entries l.rows.entries;
       ready : (start : ℕ)
           → IsReady links terminal start l.top (over l.initial.rows.entries (mark_of l.base.entries)) (waiting l.level l.now
-              l.initial.levels.entries)
+          l.initial.levels.entries)
           → IsReady links terminal start l.top (over l.rows.entries (mark_of l.base.entries)) (waiting l.level (drop l.number-index
-              l.now) l.levels.entries);
+          l.now) l.levels.entries);
       charged : (start before : ℕ) (first : ℕ → Option ℕ)
           → IsReady links terminal start l.top (over l.initial.rows.entries (mark_of l.base.entries)) (waiting l.level l.now
-              l.initial.levels.entries)
+          l.initial.levels.entries)
           → IsCharged links terminal start l.top (g.G.LinkSource.count l.graph) first (over l.initial.rows.entries (mark_of
-              l.base.entries)) l.level before l.initial.steps
+          l.base.entries)) l.level before l.initial.steps
           → IsCharged links terminal start l.top (g.G.LinkSource.count l.graph) first (over l.rows.entries (mark_of l.base.entries))
-              l.level before l.steps;
+          l.level before l.steps;
     }

@@ -15,25 +15,25 @@ place_of-requires g c = rw (c.deref.ensures.value, c.deref-2.ensures.value) c.se
 pub held_at-requires : goal.held_at-requires
 held_at-requires g c =
     let is = live_is g.met.K.Ord.total c.self.inside.slots.items c.self.inside.free.items c.self.inside.order.items (vec_len
-        c.self.inside.order) c.self.inside.limit c.self.invariant.0 c.args.self.now c.self.view_is in
+    c.self.inside.order) c.self.inside.limit c.self.invariant.0 c.args.self.now c.self.view_is in
     let found = rw (c.deref.ensures.value, c.deref-2.ensures.value) at c.in-Ok.ensures in
     let number = c.index-number.result.now in
     let stands : get_or c.self.inside.order.items c.in-Ok.place 0 ≡ number =
     get_or_default c.self.inside.order.items c.in-Ok.place 0 number found.0 ∙ sym c.index-number.ensures in
     let there = place_held g.met.K.Ord.total (slot_at c.self.inside.slots.items) c.self.inside.order.items c.self.invariant.0.indexed
-        c.args.key c.in-Ok.place found number stands in
+    c.args.key c.in-Ok.place found number stands in
     rw c.deref-in-Ok.ensures.value (IsSome-from _ there.0 there.1)
 
 pub overflow_add-holds : goal.overflow_add-holds
 overflow_add-holds g c =
     let is = live_is g.met.K.Ord.total c.self.inside.slots.items c.self.inside.free.items c.self.inside.order.items (vec_len
-        c.self.inside.order) c.self.inside.limit c.self.invariant.0 c.args.self.now c.self.view_is in
+    c.self.inside.order) c.self.inside.limit c.self.invariant.0 c.args.self.now c.self.view_is in
     let found = rw (c.deref.ensures.value, c.deref-2.ensures.value) at c.in-Ok.ensures in
     let number = c.index-number.result.now in
     let stands : get_or c.self.inside.order.items c.in-Ok.place 0 ≡ number =
     get_or_default c.self.inside.order.items c.in-Ok.place 0 number found.0 ∙ sym c.index-number.ensures in
     let there = place_held g.met.K.Ord.total (slot_at c.self.inside.slots.items) c.self.inside.order.items c.self.invariant.0.indexed
-        c.args.key c.in-Ok.place found number stands in
+    c.args.key c.in-Ok.place found number stands in
     let mine = names_from_slot c.self.inside.slots.items c.args.self.now is g.K.Ord.cmp number there.0 c.args.key there.1 there.2 in
     let at = rw c.deref-in-Ok.ensures.value at c.held_at.ensures in
     let few = c.requires.few number mine in
@@ -48,13 +48,13 @@ set_holds-requires g c =
 pub invariant_of-self : goal.invariant_of-self
 invariant_of-self g c =
     let is = live_is g.met.K.Ord.total c.self.inside.slots.items c.self.inside.free.items c.self.inside.order.items (vec_len
-        c.self.inside.order) c.self.inside.limit c.self.invariant.0 c.args.self.now c.self.view_is in
+    c.self.inside.order) c.self.inside.limit c.self.invariant.0 c.args.self.now c.self.view_is in
     let found = rw (c.deref.ensures.value, c.deref-2.ensures.value) at c.in-Ok.ensures in
     let number = c.index-number.result.now in
     let stands : get_or c.self.inside.order.items c.in-Ok.place 0 ≡ number =
     get_or_default c.self.inside.order.items c.in-Ok.place 0 number found.0 ∙ sym c.index-number.ensures in
     let there = place_held g.met.K.Ord.total (slot_at c.self.inside.slots.items) c.self.inside.order.items c.self.invariant.0.indexed
-        c.args.key c.in-Ok.place found number stands in
+    c.args.key c.in-Ok.place found number stands in
     let held = c.held_at.result.now in
     let at = rw c.deref-in-Ok.ensures.value at c.held_at.ensures in
     let value : Held g.row.K.Denot = record held { holds = held.holds + 1 } in (
@@ -74,42 +74,44 @@ returns-in-Ok-clause-before g c = whole_now g.met.K.Ord.total c.self.inside.slot
 pub returns-in-Ok-clause-whole : goal.returns-in-Ok-clause-whole
 returns-in-Ok-clause-whole g c =
     whole_now g.met.K.Ord.total c.set_holds.new.slots.items c.self.inside.free.items c.self.inside.order.items (vec_len
-        c.self.inside.order) c.self.inside.limit (invariant_of-self g c).0 _ refl
+    c.self.inside.order) c.self.inside.limit (invariant_of-self g c).0 _ refl
 
 pub returns-in-Ok-clause-holds : goal.returns-in-Ok-clause-holds
 returns-in-Ok-clause-holds g c =
     let is = live_is g.met.K.Ord.total c.self.inside.slots.items c.self.inside.free.items c.self.inside.order.items (vec_len
-        c.self.inside.order) c.self.inside.limit c.self.invariant.0 c.args.self.now c.self.view_is in
+    c.self.inside.order) c.self.inside.limit c.self.invariant.0 c.args.self.now c.self.view_is in
     let found = rw (c.deref.ensures.value, c.deref-2.ensures.value) at c.in-Ok.ensures in
     let number = c.index-number.result.now in
     let stands : get_or c.self.inside.order.items c.in-Ok.place 0 ≡ number =
     get_or_default c.self.inside.order.items c.in-Ok.place 0 number found.0 ∙ sym c.index-number.ensures in
     let there = place_held g.met.K.Ord.total (slot_at c.self.inside.slots.items) c.self.inside.order.items c.self.invariant.0.indexed
-        c.args.key c.in-Ok.place found number stands in
+    c.args.key c.in-Ok.place found number stands in
     let mine = names_from_slot c.self.inside.slots.items c.args.self.now is g.K.Ord.cmp number there.0 c.args.key there.1 there.2 in
     let held = c.held_at.result.now in
     let at = rw c.deref-in-Ok.ensures.value at c.held_at.ensures in
     let value : Held g.row.K.Denot = record held { holds = held.holds + 1 } in
     let again : (entry : g.row.K.Denot × ℕ) → entry_at c.args.self.now number ≡ Some entry
-    → seen c.set_holds.new.slots.items (vec_len c.self.inside.order) c.self.inside.limit ≡ record c.args.self.now { live = insert
-        c.args.self.now.live number (entry.0, entry.1 + 1) } =
+    → seen c.set_holds.new.slots.items (vec_len c.self.inside.order) c.self.inside.limit ≡ record c.args.self.now {
+      live = insert
+          c.args.self.now.live number (entry.0, entry.1 + 1);
+    } =
     λ entry there.
     subst (λ (x : g.row.K.Denot × ℕ). seen c.set_holds.new.slots.items (vec_len c.self.inside.order) c.self.inside.limit
     ≡ record c.args.self.now { live = insert c.args.self.now.live number (x.0, x.1 + 1) })
     (entry_known c.self.inside.slots.items c.args.self.now is number held entry at there)
     (seen_write g.met.K.Ord.total c.self.inside.slots.items c.self.inside.free.items c.self.inside.order.items (vec_len
-        c.self.inside.order) c.self.inside.limit c.self.invariant.0 c.args.self.now c.self.view_is
+    c.self.inside.order) c.self.inside.limit c.self.invariant.0 c.args.self.now c.self.view_is
     number held value at refl (omega arith) c.set_holds.new.slots.items (c.set_holds.ensures.items held at)) in
     subst (λ (n : ℕ). HoldsOne g.K.Ord.cmp c.args.self.now (seen c.set_holds.new.slots.items (vec_len c.self.inside.order)
-        c.self.inside.limit) n c.args.key)
+    c.self.inside.limit) n c.args.key)
     (sym c.from.ensures) (inl (mine, again))
 
 pub fill_slot-number-requires : goal.fill_slot-number-requires
 fill_slot-number-requires g c =
     let missing = rw (c.deref.ensures.value, c.deref-2.ensures.value) at c.in-Err.ensures in
     let room = room_for_new g.met.K.Ord.total c.self.inside.slots.items c.self.inside.free.items c.self.inside.order.items (vec_len
-        c.self.inside.order) c.self.inside.limit c.self.invariant.0 c.args.self.now c.self.view_is c.args.key c.in-Err.place missing
-        c.requires.room in
+    c.self.inside.order) c.self.inside.limit c.self.invariant.0 c.args.self.now c.self.view_is c.args.key c.in-Err.place missing
+    c.requires.room in
     record {
       free = c.self.invariant.0.free_slots;
       room = omega (arith, room, c.self.invariant.1);
@@ -120,25 +122,25 @@ pub list_number-requires-clause-room : goal.list_number-requires-clause-room
 list_number-requires-clause-room g c =
     let missing = rw (c.deref.ensures.value, c.deref-2.ensures.value) at c.in-Err.ensures in
     let room = room_for_new g.met.K.Ord.total c.self.inside.slots.items c.self.inside.free.items c.self.inside.order.items (vec_len
-        c.self.inside.order) c.self.inside.limit c.self.invariant.0 c.args.self.now c.self.view_is c.args.key c.in-Err.place missing
-        c.requires.room in
+    c.self.inside.order) c.self.inside.limit c.self.invariant.0 c.args.self.now c.self.view_is c.args.key c.in-Err.place missing
+    c.requires.room in
     omega (arith, room, c.self.invariant.0.counted, c.self.invariant.3)
 
 pub invariant_of-self-in-Err : goal.invariant_of-self-in-Err
 invariant_of-self-in-Err g c =
     let missing = rw (c.deref.ensures.value, c.deref-2.ensures.value) at c.in-Err.ensures in
     let room = room_for_new g.met.K.Ord.total c.self.inside.slots.items c.self.inside.free.items c.self.inside.order.items (vec_len
-        c.self.inside.order) c.self.inside.limit c.self.invariant.0 c.args.self.now c.self.view_is c.args.key c.in-Err.place missing
-        c.requires.room in
+    c.self.inside.order) c.self.inside.limit c.self.invariant.0 c.args.self.now c.self.view_is c.args.key c.in-Err.place missing
+    c.requires.room in
     let value : Held g.row.K.Denot = record { key = c.args.key; holds = 1 } in (
       kept_take g.met.K.Ord.total c.self.inside.slots.items c.self.inside.free.items c.self.inside.order.items (vec_len
           c.self.inside.order) c.self.inside.limit c.self.invariant.0 c.args.self.now c.self.view_is
           c.fill_slot-number.result c.in-Err.place value c.fill_slot-number.ensures.vacant refl room missing
           c.fill_slot-number.new.slots.items c.fill_slot-number.new.free.items c.list_number.new.order.items (vec_len
-              c.list_number.new.order)
+          c.list_number.new.order)
           c.fill_slot-number.ensures.writes c.fill_slot-number.ensures.free c.fill_slot-number.ensures.count
           (c.fill_slot-number.ensures.within c.self.inside.limit c.self.invariant.0.within room) c.list_number.ensures.items
-              c.list_number.ensures.len,
+          c.list_number.ensures.len,
       omega (arith, c.self.invariant.1, c.fill_slot-number.ensures.slots_room),
       omega (arith, c.self.invariant.2, c.fill_slot-number.ensures.free_room),
       omega (arith, c.self.invariant.3, c.list_number.ensures.capacity),
@@ -148,26 +150,26 @@ invariant_of-self-in-Err g c =
 pub returns-in-Err-clause-holds : goal.returns-in-Err-clause-holds
 returns-in-Err-clause-holds g c =
     let is = live_is g.met.K.Ord.total c.self.inside.slots.items c.self.inside.free.items c.self.inside.order.items (vec_len
-        c.self.inside.order) c.self.inside.limit c.self.invariant.0 c.args.self.now c.self.view_is in
+    c.self.inside.order) c.self.inside.limit c.self.invariant.0 c.args.self.now c.self.view_is in
     let missing = rw (c.deref.ensures.value, c.deref-2.ensures.value) at c.in-Err.ensures in
     let room = room_for_new g.met.K.Ord.total c.self.inside.slots.items c.self.inside.free.items c.self.inside.order.items (vec_len
-        c.self.inside.order) c.self.inside.limit c.self.invariant.0 c.args.self.now c.self.view_is c.args.key c.in-Err.place missing
-        c.requires.room in
+    c.self.inside.order) c.self.inside.limit c.self.invariant.0 c.args.self.now c.self.view_is c.args.key c.in-Err.place missing
+    c.requires.room in
     let value : Held g.row.K.Denot = record { key = c.args.key; holds = 1 } in
     let none = absent_at c.self.inside.slots.items c.args.self.now is g.met.K.Ord.total c.self.inside.order.items
-        c.self.invariant.0.indexed c.args.key c.in-Err.place missing in
+    c.self.invariant.0.indexed c.args.key c.in-Err.place missing in
     subst (λ (n : ℕ). HoldsOne g.K.Ord.cmp c.args.self.now (seen c.fill_slot-number.new.slots.items (vec_len c.list_number.new.order)
-        c.self.inside.limit) n c.args.key)
+    c.self.inside.limit) n c.args.key)
     (sym c.from-in-Err.ensures) (inr (
       none,
       seen_take g.met.K.Ord.total c.self.inside.slots.items c.self.inside.free.items c.self.inside.order.items (vec_len
           c.self.inside.order) c.self.inside.limit c.self.invariant.0 c.args.self.now c.self.view_is
           c.fill_slot-number.result c.in-Err.place value c.fill_slot-number.ensures.vacant refl room missing
           c.fill_slot-number.new.slots.items c.fill_slot-number.new.free.items c.list_number.new.order.items (vec_len
-              c.list_number.new.order)
+          c.list_number.new.order)
           c.fill_slot-number.ensures.writes c.fill_slot-number.ensures.free c.fill_slot-number.ensures.count
           (c.fill_slot-number.ensures.within c.self.inside.limit c.self.invariant.0.within room) c.list_number.ensures.items
-              c.list_number.ensures.len,
+          c.list_number.ensures.len,
     ))
 
 pub returns-in-Err-clause-before : goal.returns-in-Err-clause-before
@@ -177,4 +179,4 @@ returns-in-Err-clause-before g c = whole_now g.met.K.Ord.total c.self.inside.slo
 pub returns-in-Err-clause-whole : goal.returns-in-Err-clause-whole
 returns-in-Err-clause-whole g c =
     whole_now g.met.K.Ord.total c.fill_slot-number.new.slots.items c.fill_slot-number.new.free.items c.list_number.new.order.items
-        (vec_len c.list_number.new.order) c.self.inside.limit (invariant_of-self-in-Err g c).0 _ refl
+    (vec_len c.list_number.new.order) c.self.inside.limit (invariant_of-self-in-Err g c).0 _ refl

@@ -15,6 +15,10 @@ returns-clause-none g c number =
     (ap (λ m. get m number) (live_of-nil c.new.result.items c.new.ensures.items) ∙ get-empty nat_cmp number)
 
 pub invariant_of-result : goal.invariant_of-result
-invariant_of-result g c =
-    (rw (c.new.ensures.items, c.new-2.ensures.items, c.new-3.ensures.items, c.new-3.ensures.len) (kept_none g.K.Ord.cmp), omega arith,
-        omega arith, omega arith, lit≤ tt)
+invariant_of-result g c = (
+  rw (c.new.ensures.items, c.new-2.ensures.items, c.new-3.ensures.items, c.new-3.ensures.len) (kept_none g.K.Ord.cmp),
+  omega arith,
+  omega arith,
+  omega arith,
+  lit≤ tt,
+)

@@ -9,15 +9,15 @@ use Rattle.ifmap_pool.proofs.pools.Pool.release_one.Goals as goal
 pub prove-unreachable-requires : goal.prove-unreachable-requires
 prove-unreachable-requires g c =
     let inside = (whole_now g.met.K.Ord.total c.self.inside.slots.items c.self.inside.free.items c.self.inside.order.items (vec_len
-        c.self.inside.order) c.self.inside.limit c.self.invariant.0 c.args.self.now c.self.view_is).below c.args.number c.requires in
+    c.self.inside.order) c.self.inside.limit c.self.invariant.0 c.args.self.now c.self.view_is).below c.args.number c.requires in
     let same = limit_is g.met.K.Ord.total c.self.inside.slots.items c.self.inside.free.items c.self.inside.order.items (vec_len
-        c.self.inside.order) c.self.inside.limit c.self.invariant.0 c.args.self.now c.self.view_is in
+    c.self.inside.order) c.self.inside.limit c.self.invariant.0 c.args.self.now c.self.view_is in
     omega (arith, inside, same, c.if-prove.true)
 
 pub held_at-requires : goal.held_at-requires
 held_at-requires g c =
     let is = live_is g.met.K.Ord.total c.self.inside.slots.items c.self.inside.free.items c.self.inside.order.items (vec_len
-        c.self.inside.order) c.self.inside.limit c.self.invariant.0 c.args.self.now c.self.view_is in
+    c.self.inside.order) c.self.inside.limit c.self.invariant.0 c.args.self.now c.self.view_is in
     let there = slot_from_live c.self.inside.slots.items c.args.self.now is c.args.number c.requires in
     rw c.deref.ensures.value (IsSome-from _ there.0 there.1)
 
@@ -27,8 +27,11 @@ set_holds-requires g c = let at = rw c.deref.ensures.value at c.held_at.ensures 
 pub unlist_number-requires : goal.unlist_number-requires
 unlist_number-requires g c =
     let at = rw c.deref.ensures.value at c.held_at.ensures in
-    record { indexed = rw c.deref-2.ensures.value c.self.invariant.0.indexed; live = rw c.deref-2.ensures.value (IsSome-from _
-        c.held_at.result.now at) }
+    record {
+      indexed = rw c.deref-2.ensures.value c.self.invariant.0.indexed;
+      live = rw c.deref-2.ensures.value (IsSome-from _
+          c.held_at.result.now at);
+    }
 
 pub invariant_of-self : goal.invariant_of-self
 invariant_of-self g c =
@@ -51,12 +54,12 @@ returns-then-holds-gt1-clause-before g c = whole_now g.met.K.Ord.total c.self.in
 pub returns-then-holds-gt1-clause-whole : goal.returns-then-holds-gt1-clause-whole
 returns-then-holds-gt1-clause-whole g c =
     whole_now g.met.K.Ord.total c.set_holds.new.slots.items c.self.inside.free.items c.self.inside.order.items (vec_len
-        c.self.inside.order) c.self.inside.limit (invariant_of-self g c).0 _ refl
+    c.self.inside.order) c.self.inside.limit (invariant_of-self g c).0 _ refl
 
 pub returns-then-holds-gt1-clause-goes : goal.returns-then-holds-gt1-clause-goes
 returns-then-holds-gt1-clause-goes g c =
     let is = live_is g.met.K.Ord.total c.self.inside.slots.items c.self.inside.free.items c.self.inside.order.items (vec_len
-        c.self.inside.order) c.self.inside.limit c.self.invariant.0 c.args.self.now c.self.view_is in
+    c.self.inside.order) c.self.inside.limit c.self.invariant.0 c.args.self.now c.self.view_is in
     let held = c.held_at.result.now in
     let at = rw c.deref.ensures.value at c.held_at.ensures in
     let value : Held g.row.K.Denot = record held { holds = held.holds - 1 } in (
@@ -69,7 +72,7 @@ returns-then-holds-gt1-clause-goes g c =
             ≡ record c.args.self.now { live = insert c.args.self.now.live c.args.number (x.0, x.1 - 1) })
             (entry_known c.self.inside.slots.items c.args.self.now is c.args.number held entry at there)
             (seen_write g.met.K.Ord.total c.self.inside.slots.items c.self.inside.free.items c.self.inside.order.items (vec_len
-                c.self.inside.order) c.self.inside.limit c.self.invariant.0 c.args.self.now c.self.view_is
+            c.self.inside.order) c.self.inside.limit c.self.invariant.0 c.args.self.now c.self.view_is
             c.args.number held value at refl (omega arith) c.set_holds.new.slots.items (c.set_holds.ensures.items held at)),
       ),
     )
@@ -88,13 +91,13 @@ pub invariant_of-self-2 : goal.invariant_of-self-2
 invariant_of-self-2 g c =
     let listed = c.unlist_number.ensures.items in
     let room = len_within g.met.K.Ord.total c.self.inside.slots.items c.self.inside.free.items c.self.inside.order.items (vec_len
-        c.self.inside.order) c.self.inside.limit c.self.invariant.0 c.args.self.now c.self.view_is in (
+    c.self.inside.order) c.self.inside.limit c.self.invariant.0 c.args.self.now c.self.view_is in (
       kept_free g.met.K.Ord.total c.self.inside.slots.items c.self.inside.free.items c.self.inside.order.items (vec_len
           c.self.inside.order) c.self.inside.limit c.self.invariant.0 c.args.self.now c.self.view_is
           c.args.number listed.0 listed.1 listed.2 c.empty_slot.new.slots.items c.empty_slot.new.free.items
-              c.unlist_number.new.order.items (vec_len c.unlist_number.new.order)
+          c.unlist_number.new.order.items (vec_len c.unlist_number.new.order)
           c.empty_slot.ensures.writes c.empty_slot.ensures.free c.empty_slot.ensures.count c.empty_slot.ensures.len listed.3
-              c.unlist_number.ensures.len room,
+          c.unlist_number.ensures.len room,
       omega (arith, c.self.invariant.1, c.empty_slot.ensures.slots_room),
       omega (arith, c.self.invariant.2, c.empty_slot.ensures.free_room),
       omega (arith, c.self.invariant.3, c.unlist_number.ensures.capacity),
@@ -108,17 +111,17 @@ returns-clause-before g c = whole_now g.met.K.Ord.total c.self.inside.slots.item
 pub returns-clause-whole : goal.returns-clause-whole
 returns-clause-whole g c =
     whole_now g.met.K.Ord.total c.empty_slot.new.slots.items c.empty_slot.new.free.items c.unlist_number.new.order.items (vec_len
-        c.unlist_number.new.order) c.self.inside.limit (invariant_of-self-2 g c).0 _ refl
+    c.unlist_number.new.order) c.self.inside.limit (invariant_of-self-2 g c).0 _ refl
 
 pub returns-clause-goes : goal.returns-clause-goes
 returns-clause-goes g c =
     let is = live_is g.met.K.Ord.total c.self.inside.slots.items c.self.inside.free.items c.self.inside.order.items (vec_len
-        c.self.inside.order) c.self.inside.limit c.self.invariant.0 c.args.self.now c.self.view_is in
+    c.self.inside.order) c.self.inside.limit c.self.invariant.0 c.args.self.now c.self.view_is in
     let held = c.held_at.result.now in
     let at = rw c.deref.ensures.value at c.held_at.ensures in
     let listed = c.unlist_number.ensures.items in
     let room = len_within g.met.K.Ord.total c.self.inside.slots.items c.self.inside.free.items c.self.inside.order.items (vec_len
-        c.self.inside.order) c.self.inside.limit c.self.invariant.0 c.args.self.now c.self.view_is in (
+    c.self.inside.order) c.self.inside.limit c.self.invariant.0 c.args.self.now c.self.view_is in (
       (held.key, held.holds),
       entry_from_slot c.self.inside.slots.items c.args.self.now is c.args.number held at,
       inr (
@@ -126,8 +129,8 @@ returns-clause-goes g c =
         seen_free g.met.K.Ord.total c.self.inside.slots.items c.self.inside.free.items c.self.inside.order.items (vec_len
             c.self.inside.order) c.self.inside.limit c.self.invariant.0 c.args.self.now c.self.view_is
             c.args.number listed.0 listed.1 listed.2 c.empty_slot.new.slots.items c.empty_slot.new.free.items
-                c.unlist_number.new.order.items (vec_len c.unlist_number.new.order)
+            c.unlist_number.new.order.items (vec_len c.unlist_number.new.order)
             c.empty_slot.ensures.writes c.empty_slot.ensures.free c.empty_slot.ensures.count c.empty_slot.ensures.len listed.3
-                c.unlist_number.ensures.len room,
+            c.unlist_number.ensures.len room,
       ),
     )

@@ -16,36 +16,39 @@ returns-then-n-len-clause-whole g c = whole_now g.met.K.Ord.total c.self.inside.
 pub returns-in_err-reserve-clause-whole : goal.returns-in_err-reserve-clause-whole
 returns-in_err-reserve-clause-whole g c =
     pool_kept g.K.Ord.cmp c.args.self.now _ (ap live_of c.reserve.ensures.items ∙ ap (λ (p : Holdings g.row.K.Denot). p.live)
-        c.self.view_is)
+    c.self.view_is)
     (let same = limit_is g.met.K.Ord.total c.self.inside.slots.items c.self.inside.free.items c.self.inside.order.items (vec_len
-        c.self.inside.order) c.self.inside.limit c.self.invariant.0 c.args.self.now c.self.view_is in omega (arith, same))
+    c.self.inside.order) c.self.inside.limit c.self.invariant.0 c.args.self.now c.self.view_is in omega (arith, same))
     (whole_now g.met.K.Ord.total c.self.inside.slots.items c.self.inside.free.items c.self.inside.order.items (vec_len
-        c.self.inside.order) c.self.inside.limit c.self.invariant.0 c.args.self.now c.self.view_is)
+    c.self.inside.order) c.self.inside.limit c.self.invariant.0 c.args.self.now c.self.view_is)
 
 pub returns-in_err-reserve-2-clause-whole : goal.returns-in_err-reserve-2-clause-whole
 returns-in_err-reserve-2-clause-whole g c =
     pool_kept g.K.Ord.cmp c.args.self.now _ (ap live_of c.reserve.ensures.items ∙ ap (λ (p : Holdings g.row.K.Denot). p.live)
-        c.self.view_is)
+    c.self.view_is)
     (let same = limit_is g.met.K.Ord.total c.self.inside.slots.items c.self.inside.free.items c.self.inside.order.items (vec_len
-        c.self.inside.order) c.self.inside.limit c.self.invariant.0 c.args.self.now c.self.view_is in omega (arith, same))
+    c.self.inside.order) c.self.inside.limit c.self.invariant.0 c.args.self.now c.self.view_is in omega (arith, same))
     (whole_now g.met.K.Ord.total c.self.inside.slots.items c.self.inside.free.items c.self.inside.order.items (vec_len
-        c.self.inside.order) c.self.inside.limit c.self.invariant.0 c.args.self.now c.self.view_is)
+    c.self.inside.order) c.self.inside.limit c.self.invariant.0 c.args.self.now c.self.view_is)
 
 pub returns-in_err-reserve-3-clause-whole : goal.returns-in_err-reserve-3-clause-whole
 returns-in_err-reserve-3-clause-whole g c =
     pool_kept g.K.Ord.cmp c.args.self.now _ (ap live_of c.reserve.ensures.items ∙ ap (λ (p : Holdings g.row.K.Denot). p.live)
-        c.self.view_is)
+    c.self.view_is)
     (let same = limit_is g.met.K.Ord.total c.self.inside.slots.items c.self.inside.free.items c.self.inside.order.items (vec_len
-        c.self.inside.order) c.self.inside.limit c.self.invariant.0 c.args.self.now c.self.view_is in omega (arith, same))
+    c.self.inside.order) c.self.inside.limit c.self.invariant.0 c.args.self.now c.self.view_is in omega (arith, same))
     (whole_now g.met.K.Ord.total c.self.inside.slots.items c.self.inside.free.items c.self.inside.order.items (vec_len
-        c.self.inside.order) c.self.inside.limit c.self.invariant.0 c.args.self.now c.self.view_is)
+    c.self.inside.order) c.self.inside.limit c.self.invariant.0 c.args.self.now c.self.view_is)
 
 pub returns-clause-whole : goal.returns-clause-whole
 returns-clause-whole g c =
     pool_kept g.K.Ord.cmp c.args.self.now _ (ap live_of c.reserve.ensures.items ∙ ap (λ (p : Holdings g.row.K.Denot). p.live)
-        c.self.view_is)
+    c.self.view_is)
     (let same = limit_is g.met.K.Ord.total c.self.inside.slots.items c.self.inside.free.items c.self.inside.order.items (vec_len
-        c.self.inside.order) c.self.inside.limit c.self.invariant.0 c.args.self.now c.self.view_is in omega (arith, same,
-        c.if-n-self.false))
+    c.self.inside.order) c.self.inside.limit c.self.invariant.0 c.args.self.now c.self.view_is in omega (
+      arith,
+      same,
+      c.if-n-self.false,
+    ))
     (whole_now g.met.K.Ord.total c.self.inside.slots.items c.self.inside.free.items c.self.inside.order.items (vec_len
-        c.self.inside.order) c.self.inside.limit c.self.invariant.0 c.args.self.now c.self.view_is)
+    c.self.inside.order) c.self.inside.limit c.self.invariant.0 c.args.self.now c.self.view_is)

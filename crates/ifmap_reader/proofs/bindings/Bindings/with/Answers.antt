@@ -16,6 +16,6 @@ invariant_of-result c =
       spaces_more (get (slice_cmp nat_cmp) c.self.inside.spaces)
           (get (slice_cmp nat_cmp) c.insert.new.self) c.self.inside.rows.items c.push.new.self.items row
           c.in_ok-copy.field-0 c.in_ok-copy-2.field-0 c.self.invariant.1 c.in_ok-insert.ensures.updates.0 c.in_ok-copy.ensures
-              c.in_ok-copy-2.ensures c.in_ok-push.ensures.items
+          c.in_ok-copy-2.ensures c.in_ok-push.ensures.items
           (subst (λ (bs : List Binding). bound bs c.args.prefix ≡ None) (sym c.self.view_is) c.requires),
     )
