@@ -8,7 +8,7 @@ cat > "$work/crates/graph_bench/src/main.rt" <<'RATTLE'
 #![tactic(auto)]
 
 use ifmap_elem::{Attribute, Child, Element, Many, Name, Text};
-use ifmap_graph::{Graph, Row};
+use ifmap_graph::{Graph, KeptAttachment};
 use ifmap_ident::{Identifier, Item};
 use ifmap_meta::{ClientName, Life, Stored};
 use std::alloc::{AllocError, Global};
@@ -48,33 +48,33 @@ fn item(alloc: Global, number: u32) -> Result<Item, AllocError> {
     Ok(Item::One(Identifier::MacAddress { value: [0, 2, a, b, c, d], domain }))
 }
 
-fn row(alloc: Global, number: u32) -> Result<Row, AllocError> {
+fn attachment_of(alloc: Global, number: u32) -> Result<KeptAttachment, AllocError> {
     let element = role(alloc)?;
     let publisher = ClientName::new(Text::from_str(alloc, "pdp-17")?).ok_or(AllocError)?;
     let life = Life::Session(u64::from(number % 2));
-    Row::new(alloc, item(alloc, number)?, Stored { element, publisher, life })
+    KeptAttachment::new(alloc, item(alloc, number)?, Stored { element, publisher, life })
 }
 
-fn made(alloc: Global, count: u32) -> Result<Vec<Row>, AllocError> {
-    let mut rows = Vec::new(alloc);
+fn attachments_of(alloc: Global, count: u32) -> Result<Vec<KeptAttachment>, AllocError> {
+    let mut attachments = Vec::new(alloc);
     for number in 0..count {
-        rows.push(row(alloc, number)?)?;
+        attachments.push(attachment_of(alloc, number)?)?;
     }
-    Ok(rows)
+    Ok(attachments)
 }
 
-fn attach(graph: &mut Graph, rows: Vec<Row>) -> Result<(), AllocError> {
-    for row in rows {
+fn attach(graph: &mut Graph, attachments: Vec<KeptAttachment>) -> Result<(), AllocError> {
+    for attachment in attachments {
         graph.reserve(1)?;
-        graph.attach(row);
+        graph.attach(attachment);
     }
     Ok(())
 }
 
-fn found(graph: &Graph, items: &[Item]) -> usize {
+fn count_found(graph: &Graph, items: &[Item]) -> usize {
     let mut found = 0usize;
     for item in items {
-        found = found.wrapping_add(graph.on(item).len());
+        found = found.wrapping_add(graph.attachments_on(item).len());
     }
     found
 }
@@ -90,19 +90,19 @@ fn items(alloc: Global, count: u32) -> Result<Vec<Item>, AllocError> {
 fn bench<R: Runtime>(rt: &R, alloc: Global, count: u32) -> io::Result<()> {
     let mut graph = Graph::new(alloc);
     let start = Instant::now(rt)?;
-    let rows = made(alloc, count).map_err(io::Error::from)?;
+    let attachments = attachments_of(alloc, count).map_err(io::Error::from)?;
     let making = start.elapsed(rt)?.as_nanos() / u128::from(count.max(1));
     let start = Instant::now(rt)?;
-    attach(&mut graph, rows).map_err(io::Error::from)?;
+    attach(&mut graph, attachments).map_err(io::Error::from)?;
     let attached = start.elapsed(rt)?.as_nanos() / u128::from(count.max(1));
     let items = items(alloc, count).map_err(io::Error::from)?;
     let start = Instant::now(rt)?;
-    let there = found(&graph, items.as_slice());
+    let there = count_found(&graph, items.as_slice());
     let looked = start.elapsed(rt)?.as_nanos() / u128::from(count.max(1));
     let start = Instant::now(rt)?;
     graph.retract_session(1);
     let retracted = start.elapsed(rt)?.as_micros();
-    let left = found(&graph, items.as_slice());
+    let left = count_found(&graph, items.as_slice());
     rt.println(format_args!("{count} attachments: made in {making} ns each, attached in {attached} ns, {there} looked up in {looked} ns; a session's half taken out in {retracted} us, {left} left"))
 }
 
