@@ -40,7 +40,7 @@ front_same xs = ([], sym (append-nil xs))
 pub front_both : (a b c : Spaces) → IsFront a b → IsFront b c → IsFront a c
 front_both a b c h k = (h.0 ++ k.0, k.1 ∙ ap (λ l. l ++ k.0) h.1 ∙ append_assoc a h.0 k.0)
 
-final_before : (b c final : Spaces) → IsFront b c → AreFinal c final → AreFinal b final
+pub final_before : (b c final : Spaces) → IsFront b c → AreFinal c final → AreFinal b final
 final_before b c final h f = record { begins = front_both b c final h f.begins; none_bare = f.none_bare }
 
 row_stays : (p : List ℕ → Bool) (letter : List ℕ) (n : ℕ) (xs ys : Spaces) → is_some (lookup p (numbered_prefixes letter n xs)) ≡ true
@@ -75,6 +75,11 @@ numbered_stays xs final s (inl e) f =
     let bare : lookup (bytes_eq []) (name_prefixes xs) ≡ None = none_before [] xs f.begins.0 (ap (λ l. lookup (bytes_eq []) (name_prefixes l)) (sym f.begins.1) ∙ f.none_bare) in
     subst (λ t. lookup (bytes_eq t) (name_prefixes final) ≡ lookup (bytes_eq t) (name_prefixes xs)) (sym e) (f.none_bare ∙ sym bare)
 numbered_stays xs final s (inr some) f = ap (λ l. lookup (bytes_eq s) (name_prefixes l)) f.begins.1 ∙ prefix_stays s xs f.begins.0 some
+
+-- the prefix of a namespace that is numbered is its prefix in the end
+pub prefix_final : (xs : Spaces) (s : List ℕ) (prefix : Option (List ℕ)) → IsNumbered xs s → prefix ≡ lookup (bytes_eq s) (name_prefixes xs)
+    → (final : Spaces) → AreFinal xs final → prefix ≡ lookup (bytes_eq s) (name_prefixes final)
+prefix_final xs s prefix n is final f = is ∙ sym (numbered_stays xs final s n f)
 
 pub numbered_later : (xs ys : Spaces) (s : List ℕ) → IsFront xs ys → IsNumbered xs s → IsNumbered ys s
 numbered_later xs ys s h (inl e) = inl e
@@ -173,15 +178,15 @@ piece_attribute attribute a b s t u v w x p h q r z = record {
 }
 
 pub piece_content : (f : Child → Spaces) (g : Rows → Child → List ℕ) (children : List Child) (name : Name) (prefix : Option (List ℕ)) (a b : Spaces) (s t u v w x : List ℕ) → length children ≢ 0
-    → t ≡ s ++ codes ">" → Adds a (flat_map f children) b (λ rows. flat_map (g rows) children) t u → v ≡ u ++ codes "</" → IsNumbered b name.space
-    → prefix ≡ lookup (bytes_eq name.space) (name_prefixes b) → w ≡ v ++ after_prefix prefix name.local → x ≡ w ++ codes ">"
+    → t ≡ s ++ codes ">" → Adds a (flat_map f children) b (λ rows. flat_map (g rows) children) t u → v ≡ u ++ codes "</"
+    → ((final : Spaces) → AreFinal a final → prefix ≡ lookup (bytes_eq name.space) (name_prefixes final)) → w ≡ v ++ after_prefix prefix name.local → x ≡ w ++ codes ">"
     → Adds a (flat_map f children) b (λ rows. after_attributes_bytes (printed_name rows name) (map (g rows) children)) s x
-piece_content f g children name prefix a b s t u v w x some p h q n e r z = record {
+piece_content f g children name prefix a b s t u v w x some p h q e r z = record {
   added = h.added;
   behind = h.behind;
   written = λ final fin.
       content_written (g (name_prefixes final)) children (printed_name (name_prefixes final) name) s t u v w x some p (h.written final fin) q
-      (r ∙ ap (λ o. v ++ after_prefix o name.local) (e ∙ sym (numbered_stays b final name.space n fin))) z;
+      (r ∙ ap (λ o. v ++ after_prefix o name.local) (e final (final_before a b final h.behind fin))) z;
 }
 
 pub piece_no_content : (f : Child → Spaces) (g : Rows → Child → List ℕ) (children : List Child) (name : Name) (a : Spaces) (s t : List ℕ) → children ≡ [] → t ≡ s ++ codes "/>"

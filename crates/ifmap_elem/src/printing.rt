@@ -1,11 +1,13 @@
 //! Printing: the canonical bytes of an element.
-ghost use Rattle.std.specs.Prelude.{◌≡◌, ◌++◌, ◌+◌, IfOk, OnOk};
+ghost use Rattle.std.specs.Prelude.{◌≡◌, ◌++◌, ◌+◌, List, ℕ, IfOk, OnOk};
 ghost use Rattle.std.specs.List.{AllByRecursion, flat_map};
-ghost use Rattle.std.specs.Option.{option_copied};
+ghost use Rattle.std.specs.Map.{lookup};
+ghost use Rattle.std.specs.Str.{bytes_eq};
 ghost use Rattle.ifmap_elem.specs.Arranged.{sort_attributes};
 ghost use Rattle.ifmap_elem.specs.Fit.{IsDeclarable, IsFit};
-ghost use Rattle.ifmap_elem.specs.Namespaces.{numbered_prefixes};
-ghost use Rattle.ifmap_elem.specs.printer.Pieces.{AddsAttribute, AddsAttributes, AddsChild, AddsContent, AddsElement, AddsName, IsNumbered};
+ghost use Rattle.ifmap_elem.specs.Namespaces.{name_prefixes, numbered_prefixes};
+ghost use Rattle.ifmap_lemmas.specs.Numerals.{numeral};
+ghost use Rattle.ifmap_elem.specs.printer.Pieces.{AddsAttribute, AddsAttributes, AddsChild, AddsContent, AddsElement, AddsName, AreFinal};
 ghost use Rattle.ifmap_elem.specs.Spells.{Spells};
 ghost use Rattle.ifmap_elem.specs.Canonical.{after_prefix, canonical_bytes, canonical_reading, declaration_bytes};
 ghost use Rattle.ifmap_elem.specs.Canonical.{written_bytes, written_reading};
@@ -13,7 +15,7 @@ ghost use Rattle.ifmap_elem.specs.Canonical.{written_bytes, written_reading};
 use crate::elements::{Attribute, Child, Element, Name};
 use crate::escaping::{Place, write_escaped};
 use crate::lists::Many;
-use crate::numbering::{Prefixes, numbered_prefix};
+use crate::numbering::{Prefix, Prefixes, write_numbered};
 use crate::sorting::{are_sorted, attributes_in_order};
 use crate::texts::Text;
 use std::alloc::{AllocError as NoMemory, Global};
@@ -43,15 +45,22 @@ fn print_root(alloc: Global, element: &Element, spaces: &[Text]) -> Result<Many<
 {
     let mut prefixes = Prefixes::new(alloc)?;
     let name = &element.name;
-    prefixes.add(alloc, &name.space)?;
+    let prefix = prefixes.number(alloc, &name.space)?;
     let mut inside = Vec::new(alloc);
     write_attributes(alloc, &mut prefixes, &element.attributes, &mut inside)?;
-    write_content(alloc, &mut prefixes, name, &element.children, &mut inside)?;
+    write_content(
+        alloc,
+        &mut prefixes,
+        &prefix,
+        name,
+        &element.children,
+        &mut inside,
+    )?;
     let mut head = Vec::new(alloc);
     head.extend_from_slice(b"<")?;
-    write_name(prefixes.of_space(&name.space), &name.local, &mut head)?;
-    write_declarations(alloc, "n", prefixes.spaces(), &mut head)?;
-    write_declarations(alloc, "f", spaces, &mut head)?;
+    write_name(&prefix, &name.local, &mut head)?;
+    write_declarations("n", prefixes.spaces(), &mut head)?;
+    write_declarations("f", spaces, &mut head)?;
     drop(inside.splice(0..0, head)?);
     Ok(Many(inside))
 }
@@ -67,22 +76,31 @@ fn write_element(
         AddsElement element.now prefixes.old prefixes.new out.old.items out.new.items) }
 {
     out.extend_from_slice(b"<")?;
-    write_new_name(alloc, prefixes, &element.name, out)?;
+    let prefix = write_new_name(alloc, prefixes, &element.name, out)?;
     write_attributes(alloc, prefixes, &element.attributes, out)?;
-    write_content(alloc, prefixes, &element.name, &element.children, out)?;
+    write_content(
+        alloc,
+        prefixes,
+        &prefix,
+        &element.name,
+        &element.children,
+        out,
+    )?;
     Ok(())
 }
 
-// What follows the attributes of an element of this name, whose namespace is numbered.
+// What follows the attributes of an element of this name, which is written with this prefix.
 #[cycle(printing)]
 fn write_content(
     alloc: Global,
     prefixes: &mut Prefixes,
+    prefix: &Option<Prefix>,
     name: &Name,
     children: &Many<Child>,
     out: &mut Vec<u8>,
 ) -> Result<(), NoMemory>
-    ensures { OnOk result (IsNumbered prefixes.old name.now.space →
+    ensures { OnOk result (((final : List (List ℕ)) → AreFinal prefixes.old final →
+        prefix.now ≡ lookup (bytes_eq name.now.space) (name_prefixes final)) →
         AddsContent name.now children.now prefixes.old prefixes.new out.old.items out.new.items) }
 {
     if children.0.is_empty() {
@@ -94,7 +112,7 @@ fn write_content(
         write_child(alloc, prefixes, child, out)?;
     }
     out.extend_from_slice(b"</")?;
-    write_name(prefixes.of_space(&name.space), &name.local, out)?;
+    write_name(prefix, &name.local, out)?;
     out.extend_from_slice(b">")?;
     Ok(())
 }
@@ -175,30 +193,30 @@ fn write_attribute(
     Ok(())
 }
 
-// Writes a name whose namespace is numbered if it is new.
+// Writes a name whose namespace is numbered if it is new. Its prefix.
 #[inline(always)]
 fn write_new_name(
     alloc: Global,
     prefixes: &mut Prefixes,
     name: &Name,
     out: &mut Vec<u8>,
-) -> Result<(), NoMemory>
+) -> Result<Option<Prefix>, NoMemory>
     ensures added { OnOk result (
         AddsName name.now prefixes.old prefixes.new out.old.items out.new.items) }
-    ensures numbered { OnOk result (IsNumbered prefixes.new name.now.space) }
+    ensures prefix { IfOk result (λ prefix. (final : List (List ℕ)) → AreFinal prefixes.new final →
+        prefix ≡ lookup (bytes_eq name.now.space) (name_prefixes final)) }
 {
-    prefixes.add(alloc, &name.space)?;
-    write_name(prefixes.of_space(&name.space), &name.local, out)?;
-    Ok(())
+    let prefix = prefixes.number(alloc, &name.space)?;
+    write_name(&prefix, &name.local, out)?;
+    Ok(prefix)
 }
 
 #[inline(always)]
-fn write_name(prefix: Option<&Text>, local: &Text, out: &mut Vec<u8>) -> Result<(), NoMemory>
-    ensures { OnOk result (out.new.items ≡ out.old.items ++
-        after_prefix (option_copied prefix.entry) local.now) }
+fn write_name(prefix: &Option<Prefix>, local: &Text, out: &mut Vec<u8>) -> Result<(), NoMemory>
+    ensures { OnOk result (out.new.items ≡ out.old.items ++ after_prefix prefix.now local.now) }
 {
     if let Some(prefix) = prefix {
-        out.extend_from_slice(prefix.0.as_bytes())?;
+        prefix.write(out)?;
         out.extend_from_slice(b":")?;
     }
     out.extend_from_slice(local.0.as_bytes())?;
@@ -206,28 +224,27 @@ fn write_name(prefix: Option<&Text>, local: &Text, out: &mut Vec<u8>) -> Result<
 }
 
 // Declares a prefix of this letter and a number, counted from 1, for each namespace.
-fn write_declarations(
-    alloc: Global,
-    letter: &str,
-    spaces: &[Text],
-    out: &mut Vec<u8>,
-) -> Result<(), NoMemory>
+fn write_declarations(letter: &str, spaces: &[Text], out: &mut Vec<u8>) -> Result<(), NoMemory>
     ensures { OnOk result (out.new.items ≡ out.old.items ++
         flat_map declaration_bytes (numbered_prefixes letter.now 1 spaces.now)) }
 {
     for (i, space) in spaces.iter().enumerate() {
-        let prefix = numbered_prefix(alloc, letter, i + 1)?;
-        write_declaration(&prefix, space, out)?;
+        write_declaration(letter, i + 1, space, out)?;
     }
     Ok(())
 }
 
-fn write_declaration(prefix: &Text, space: &Text, out: &mut Vec<u8>) -> Result<(), NoMemory>
+fn write_declaration(
+    letter: &str,
+    number: usize,
+    space: &Text,
+    out: &mut Vec<u8>,
+) -> Result<(), NoMemory>
     ensures { OnOk result (out.new.items ≡ out.old.items ++
-        declaration_bytes (space.now, prefix.now)) }
+        declaration_bytes (space.now, letter.now ++ numeral number)) }
 {
     out.extend_from_slice(b" xmlns:")?;
-    out.extend_from_slice(prefix.0.as_bytes())?;
+    write_numbered(letter, number, out)?;
     out.extend_from_slice(b"=\"")?;
     write_escaped(Place::Value, space.0.as_bytes(), out)?;
     out.extend_from_slice(b"\"")?;

@@ -6,7 +6,7 @@ use Rattle.ifmap_elem.specs.Arranged.{arrange_child}
 use Rattle.ifmap_elem.specs.Canonical.{child_bytes}
 use Rattle.ifmap_elem.specs.Namespaces.{spaces_of_child}
 use Rattle.ifmap_elem.specs.printer.Pieces.{Adds}
-use Rattle.ifmap_elem.proofs.PieceLaws.{numbered_later, pieces_next, piece_content, piece_element}
+use Rattle.ifmap_elem.proofs.PieceLaws.{final_before, pieces_next, piece_content, piece_element}
 use Rattle.ifmap_elem.proofs.printing.+printing.Goals as goal
 
 pub write_content-loop-child-preserved : goal.write_content-loop-child-preserved
@@ -18,8 +18,8 @@ write_content-loop-child-preserved t c =
     c.loop-child.invariant c.in_ok-write_child.ensures
 
 pub write_content-returns : goal.write_content-returns
-write_content-returns t c = λ numbered.
-    piece_content (λ x. spaces_of_child (arrange_child x)) (λ rows x. child_bytes rows (arrange_child x)) c.args.children.now c.args.name.now _
+write_content-returns t c = λ named.
+    piece_content (λ x. spaces_of_child (arrange_child x)) (λ rows x. child_bytes rows (arrange_child x)) c.args.children.now c.args.name.now c.args.prefix.now
     c.args.prefixes.now c.loop-child.prefixes c.args.out.now.items c.extend_from_slice-2.new.self.items c.loop-child.out.items
     c.extend_from_slice-3.new.self.items c.write_name.new.out.items c.extend_from_slice-4.new.self.items
     (λ e.
@@ -30,13 +30,13 @@ write_content-returns t c = λ numbered.
     (λ rows. flat_map (λ x. child_bytes rows (arrange_child x)) l) c.extend_from_slice-2.new.self.items c.loop-child.out.items)
     (take_all c.loop-child.child-index c.args.children.now (omega (arith, c.loop-child-test.false, ap length c.deref-child-items.ensures.value, ap length c.children.view_is)))
     c.loop-child.invariant)
-    c.in_ok-extend_from_slice-3.ensures.items (numbered_later c.args.prefixes.now c.loop-child.prefixes c.args.name.now.space c.loop-child.invariant.behind numbered)
-    c.of_space.ensures c.in_ok-write_name.ensures c.in_ok-extend_from_slice-4.ensures.items
+    c.in_ok-extend_from_slice-3.ensures.items named c.in_ok-write_name.ensures c.in_ok-extend_from_slice-4.ensures.items
 
 pub write_element-returns : goal.write_element-returns
 write_element-returns t c =
     piece_element c.args.element.now c.args.prefixes.now c.write_new_name.new.prefixes c.write_attributes.new.prefixes c.write_content.new.prefixes
     c.args.out.now.items c.extend_from_slice.new.self.items c.write_new_name.new.out.items c.write_attributes.new.out.items c.write_content.new.out.items
-    c.in_ok-extend_from_slice.ensures.items c.in_ok-write_new_name.ensures.added c.in_ok-write_attributes.ensures
+    c.in_ok-extend_from_slice.ensures.items c.in_ok-prefix.ensures.added c.in_ok-write_attributes.ensures
     (c.in_ok-write_content.ensures
-    (numbered_later c.write_new_name.new.prefixes c.write_attributes.new.prefixes c.args.element.now.name.space c.in_ok-write_attributes.ensures.behind c.in_ok-write_new_name.ensures.numbered))
+    (λ final f. c.in_ok-prefix.ensures.prefix final
+    (final_before c.write_new_name.new.prefixes c.write_attributes.new.prefixes final c.in_ok-write_attributes.ensures.behind f)))
