@@ -1,16 +1,18 @@
 -- Which prefixes are in scope at an element: by the declarations that are read, and by the scope of the element's own names
 -- (Namespaces in XML 1.0, section 6). `ResolvesAsDeclared` says that both are one.
-use Rattle.std.specs.Prelude.{◌≡◌, ◌⊎◌, ℕ, Bool, true, not, ◌==◌, ◌||◌, if◌then◌else◌, List, [], ◌∷◌, ◌++◌, codes, length, reverse, map, filter, Option, None}
-use Rattle.std.specs.List.{starts_with}
+use Rattle.std.specs.Prelude.{◌≡◌, ◌⊎◌, ℕ, Bool, true, not, ◌==◌, ◌||◌, if◌then◌else◌, List, [], ◌∷◌, ◌++◌, codes, length, reverse, map, filter, Option, Some, None}
+use Rattle.std.specs.List.{slice_get, starts_with}
 use Rattle.std.specs.Str.{bytes_eq}
 use Rattle.ifmap_lemmas.specs.Items.{To}
+use Rattle.ifmap_elem.specs.declared.elements.Child as the
+use Rattle.ifmap_elem.specs.declared.elements.Element.{Element}
 use Rattle.ifmap_elem.specs.declared.readings.Declared.{Declared}
 use Rattle.ifmap_elem.specs.declared.readings.Reading.{Reading}
 use Rattle.ifmap_elem.specs.declared.tokens.Tag.{Tag}
 use Rattle.ifmap_elem.specs.declared.tokens.Token.{Token}
 use Rattle.ifmap_elem.specs.Document as piece
 use Rattle.ifmap_elem.specs.Document.{Pieces, Nothing, chained, tokens_of, heading, Item, joined, is_child, AreItems, IsMargin}
-use Rattle.ifmap_elem.specs.Scopes.{Binding, Scope, bound, root_scope, scope_within}
+use Rattle.ifmap_elem.specs.Scopes.{Binding, Scope, NamesElement, bound, root_scope, scope_within}
 use Rattle.ifmap_elem.specs.Spells.{Spells, without_byte_order_mark}
 use Rattle.ifmap_elem.specs.Tokens.{TakesToken}
 
@@ -75,3 +77,23 @@ pub record HasScope (bytes path : List ℕ) (scope : Scope) : Type 0 where
 abbrev pub ResolvesAsDeclared : List ℕ → Reading → Type 0
 ResolvesAsDeclared bytes r =
     (path : List ℕ) (scope : Scope) → HasScope bytes path scope → (prefix : List ℕ) → listed (declared_at path r.declared) prefix ≡ listed scope prefix
+
+-- the path of child indexes names this element: no index the root, and an index what the others name in the child element with it
+abbrev pub NamesElementAt : Element → List ℕ → Element → Type 0
+NamesElementAt root [] e = e ≡ root
+NamesElementAt root (index ∷ path) e = (child : Element) × (slice_get root.children index ≡ Some (the.Element child)) × NamesElementAt child path e
+
+-- the element's name and attributes are those that this scope, its own, resolves
+pub record ResolvedIn (scope : Scope) (e : Element) : Type 0 where
+  pub outer : Scope
+  pub tag : Tag
+  pub scope_is : scope ≡ scope_within outer tag
+  pub named : NamesElement outer tag e.name e.attributes
+
+-- each element that a path names in the reading has its own scope in the bytes
+abbrev pub NamedHaveScopes : List ℕ → Reading → Type 0
+NamedHaveScopes bytes r = (path : List ℕ) (e : Element) → NamesElementAt r.root path e → (scope : Scope) × HasScope bytes path scope × ResolvedIn scope e
+
+-- each scope in the bytes is that of an element that the path names in the reading
+abbrev pub ScopesAreNamed : List ℕ → Reading → Type 0
+ScopesAreNamed bytes r = (path : List ℕ) (scope : Scope) → HasScope bytes path scope → (e : Element) × NamesElementAt r.root path e × ResolvedIn scope e

@@ -4,6 +4,7 @@ pub mod CanonicalSpells
 pub mod Delimiters
 pub mod FitLaws
 pub mod NameBytes
+pub mod NamedElements
 pub mod NamespaceLaws
 pub mod OneReading
 pub mod OneToken

@@ -10,7 +10,7 @@ ghost use Rattle.ifmap_elem.specs.Canonical.{canonical_bytes, canonical_reading,
 ghost use Rattle.ifmap_elem.specs.Fit.{IsDeclarable, IsFit};
 ghost use Rattle.ifmap_elem.specs.Nesting.{nesting};
 ghost use Rattle.ifmap_elem.specs.Tokens.{TakesToken};
-ghost use Rattle.ifmap_elem.specs.InScope.{ResolvesAsDeclared};
+ghost use Rattle.ifmap_elem.specs.InScope.{NamedHaveScopes, ResolvesAsDeclared, ScopesAreNamed};
 
 /// At most one token stands at the front of bytes, and it takes the same bytes.
 pub fn one_token_stands_at_the_front()
@@ -52,4 +52,12 @@ pub fn canonical_bytes_tell_elements_apart()
 /// each listed prefix there to what that element's own scope binds it to.
 pub fn declarations_tell_the_scopes()
     ensures { (bytes : List ℕ) (r : Reading) → Spells bytes r → ResolvesAsDeclared bytes r }
+{}
+
+/// Where bytes spell a reading, each element that a path of child indexes names in it has a scope of
+/// its own in the bytes, which resolves its name and its attributes' names; and each scope that the
+/// bytes have at a path is that of an element which the path names.
+pub fn named_elements_have_scopes()
+    ensures have { (bytes : List ℕ) (r : Reading) → Spells bytes r → NamedHaveScopes bytes r }
+    ensures named { (bytes : List ℕ) (r : Reading) → Spells bytes r → ScopesAreNamed bytes r }
 {}

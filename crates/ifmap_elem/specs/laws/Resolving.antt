@@ -98,7 +98,7 @@ told_above i (d ∷ ds) = ap (λ bs. binding_told d ∷ bs) (told_above i ds)
 
 -- children among items
 
-joined_both : (xs : List Item) (e : Element) (d : List Declared) (ys : List Item) → joined (xs ++ (Inner e d ∷ ys)) ≡ joined xs ++ (Inner e d ∷ joined ys)
+pub joined_both : (xs : List Item) (e : Element) (d : List Declared) (ys : List Item) → joined (xs ++ (Inner e d ∷ ys)) ≡ joined xs ++ (Inner e d ∷ joined ys)
 joined_both [] e d ys = refl
 joined_both (Inner f c ∷ xs) e d ys = ap (λ l. Inner f c ∷ l) (joined_both xs e d ys)
 joined_both (Run text ∷ xs) e d ys = ap (put_before text) (joined_both xs e d ys) ∙ before text (joined xs)
@@ -182,7 +182,7 @@ pub record IsThere (scope : Scope) (child : Tag) (within : Pieces) (items : List
   pub inside_are : AreItems (scope_within scope child) within inner
   pub is_element : IsElement scope child inner element declared
 
-child_there : (scope : Scope) (inside : Pieces) (items : List Item) (index : ℕ) (child : Tag) (within : Pieces) → AreItems scope inside items → IsChildAt scope inside index child within
+pub child_there : (scope : Scope) (inside : Pieces) (items : List Item) (index : ℕ) (child : Tag) (within : Pieces) → AreItems scope inside items → IsChildAt scope inside index child within
     → IsThere scope child within items index
 child_there scope inside items index child within m c =
     let p = parted scope c.before c.element items (subst (λ (q : Pieces). AreItems scope q items) c.inside_is m) in
@@ -260,7 +260,7 @@ listed_alike s t p e = elim (cases_Bool (is_listed p)) [
 ]
 
 -- after a margin the element of the document
-after_margin : (c d : Pieces) (r : Reading) → IsMargin c → BeginsWithRoot (chained c d) r → BeginsWithRoot d r
+pub after_margin : (c d : Pieces) (r : Reading) → IsMargin c → BeginsWithRoot (chained c d) r → BeginsWithRoot d r
 after_margin Nothing d r m h = h
 after_margin (piece.Comment after) d r m h = after_margin after d r m h
 after_margin (piece.Characters blank text after) d r m h = after_margin after d r m.1 h.1
@@ -268,7 +268,7 @@ after_margin (piece.Section text after) d r m h = absurd m
 after_margin (piece.Empty tag after) d r m h = absurd m
 after_margin (piece.Start tag inside after) d r m h = absurd m
 
-root_there : (pieces : Pieces) (tag : Tag) (inside after : Pieces) (r : Reading) → IsElementPiece pieces tag inside after → BeginsWithRoot pieces r
+pub root_there : (pieces : Pieces) (tag : Tag) (inside after : Pieces) (r : Reading) → IsElementPiece pieces tag inside after → BeginsWithRoot pieces r
     → (items : List Item) × IsElement root_scope tag items r.root r.declared × AreItems (scope_within root_scope tag) inside items
 root_there pieces tag inside after r is b = elim is [
   | inl e ↦ let h : BeginsWithRoot (piece.Start tag inside after) r = subst (λ (q : Pieces). BeginsWithRoot q r) e b in (h.0, h.2, h.1)
