@@ -7,5 +7,7 @@ use Rattle.std.specs.declared.vec.IntoIter.{IntoIter}
 use Rattle.std.specs.Iterator.{Drains}
 use Rattle.std.specs.Vec.Iter.{into_iter_items, into_iter_len, into_iter_steps}
 
-pub drained_items : {X Z : Type 0} (s : IntoIter X Z) (xs items : List X) → Drains (into_iter_steps {X = X} {Z = Z}) s xs → into_iter_items s ≡ items → into_iter_len s ≡ length items → xs ≡ items
-drained_items s xs items d are len = sym (map-id xs) ∙ items_from_drains xs (d.1.0, d.1.1, λ _. (d.0, d.1.2)) (YieldsList-from_vec items are len)
+pub drained_items : {X Z : Type 0} (s : IntoIter X Z) (xs items : List X) → Drains (into_iter_steps {X = X} {Z = Z}) s xs
+    → into_iter_items s ≡ items → into_iter_len s ≡ length items → xs ≡ items
+drained_items s xs items d are len =
+    sym (map-id xs) ∙ items_from_drains xs (d.1.0, d.1.1, λ _. (d.0, d.1.2)) (YieldsList-from_vec items are len)

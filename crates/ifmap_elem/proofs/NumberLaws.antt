@@ -11,12 +11,15 @@ use Rattle.ifmap_lemmas.specs.Texts.{eq_itself}
 use Rattle.ifmap_elem.specs.Namespaces.{name_prefixes}
 use Rattle.ifmap_elem.specs.laws.NamespaceLaws.{Texts, keyed}
 
-pub labelled : (old new : List ℕ → Option (List ℕ)) (xs ys : Texts) (s key other label : List ℕ) → ((q : List ℕ) → old q ≡ lookup (bytes_eq q) (name_prefixes xs))
-    → ((q : List ℕ) → new q ≡ cond (is_eq (slice_cmp nat_cmp key q)) (Some label) (old q)) → key ≡ s → other ≡ s → ys ≡ xs ++ other ∷ [] → label ≡ codes "n" ++ numeral (length xs + 1)
+pub labelled : (old new : List ℕ → Option (List ℕ)) (xs ys : Texts) (s key other label : List ℕ)
+    → ((q : List ℕ) → old q ≡ lookup (bytes_eq q) (name_prefixes xs))
+    → ((q : List ℕ) → new q ≡ cond (is_eq (slice_cmp nat_cmp key q)) (Some label) (old q)) → key ≡ s → other ≡ s → ys ≡ xs ++ other ∷ []
+    → label ≡ codes "n" ++ numeral (length xs + 1)
     → lookup (bytes_eq s) (name_prefixes xs) ≡ None → Some label ≡ lookup (bytes_eq s) (name_prefixes ys)
 labelled old new xs ys s key other label was now k o more is none =
     let same : bytes_eq key s ≡ true = subst (λ t. bytes_eq t s ≡ true) (sym k) (eq_itself s) in
-    sym (now s ∙ ap (λ b. cond b (Some label) (old s)) (sym (texts_ties key s) ∙ same)) ∙ keyed old new xs ys s key other label was now k o more is none s
+    sym (now s ∙ ap (λ b. cond b (Some label) (old s)) (sym (texts_ties key s) ∙ same))
+    ∙ keyed old new xs ys s key other label was now k o more is none s
 
 pub none_unless : (o : Option (List ℕ)) → ((x : List ℕ) → o ≡ Some x → ⊥) → is_some o ≡ false
 none_unless None h = refl

@@ -39,7 +39,8 @@ after_attributes_bytes name (first ∷ others) = codes ">" ++ (concat (first ∷
 abbrev pub element_of_parts : List (List ℕ × List ℕ) → List (List ℕ × List ℕ) → Name → List Attribute → List (List ℕ) → List ℕ
 element_of_parts prefixes declared name attributes children =
     let written = printed_name prefixes name in
-    codes "<" ++ (written ++ (flat_map declaration_bytes declared ++ (flat_map (attribute_bytes prefixes) attributes ++ after_attributes_bytes written children)))
+    codes "<" ++ (written ++ (flat_map declaration_bytes declared ++ (flat_map
+    (attribute_bytes prefixes) attributes ++ after_attributes_bytes written children)))
 
 module _ (prefixes : List (List ℕ × List ℕ)) where
   abbrev pub child_piece : Child-F (List ℕ) (List ℕ) → List ℕ
@@ -60,7 +61,8 @@ module _ (prefixes : List (List ℕ × List ℕ)) where
 abbrev pub root_bytes : List (List ℕ × List ℕ) → Element → List ℕ
 root_bytes given e =
     let spaces = namespaces e in
-    element_of_parts (name_prefixes spaces) (numbered_prefixes (codes "n") 1 spaces ++ given) e.name e.attributes (map (child_bytes (name_prefixes spaces)) e.children)
+    element_of_parts (name_prefixes spaces) (numbered_prefixes (codes "n") 1 spaces ++ given) e.name e.attributes
+    (map (child_bytes (name_prefixes spaces)) e.children)
 
 -- the canonical bytes, with ` xmlns:f1=".."`, ` xmlns:f2=".."` and so on for the given namespaces behind the declarations
 abbrev pub written_bytes : Element → List (List ℕ) → List ℕ

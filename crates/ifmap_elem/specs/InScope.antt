@@ -76,12 +76,14 @@ pub record HasScope (bytes path : List ℕ) (scope : Scope) : Type 0 where
 -- what is listed for a prefix at a path, from the declarations that are read, is what the scope of the element there binds it to
 abbrev pub ResolvesAsDeclared : List ℕ → Reading → Type 0
 ResolvesAsDeclared bytes r =
-    (path : List ℕ) (scope : Scope) → HasScope bytes path scope → (prefix : List ℕ) → listed (declared_at path r.declared) prefix ≡ listed scope prefix
+    (path : List ℕ) (scope : Scope) → HasScope bytes path scope → (prefix : List ℕ)
+    → listed (declared_at path r.declared) prefix ≡ listed scope prefix
 
 -- the path of child indexes names this element: no index the root, and an index what the others name in the child element with it
 abbrev pub NamesElementAt : Element → List ℕ → Element → Type 0
 NamesElementAt root [] e = e ≡ root
-NamesElementAt root (index ∷ path) e = (child : Element) × (slice_get root.children index ≡ Some (the.Element child)) × NamesElementAt child path e
+NamesElementAt root (index ∷ path) e =
+    (child : Element) × (slice_get root.children index ≡ Some (the.Element child)) × NamesElementAt child path e
 
 -- the element's name and attributes are those that this scope, its own, resolves
 pub record ResolvedIn (scope : Scope) (e : Element) : Type 0 where
@@ -92,8 +94,10 @@ pub record ResolvedIn (scope : Scope) (e : Element) : Type 0 where
 
 -- each element that a path names in the reading has its own scope in the bytes
 abbrev pub NamedHaveScopes : List ℕ → Reading → Type 0
-NamedHaveScopes bytes r = (path : List ℕ) (e : Element) → NamesElementAt r.root path e → (scope : Scope) × HasScope bytes path scope × ResolvedIn scope e
+NamedHaveScopes bytes r =
+    (path : List ℕ) (e : Element) → NamesElementAt r.root path e → (scope : Scope) × HasScope bytes path scope × ResolvedIn scope e
 
 -- each scope in the bytes is that of an element that the path names in the reading
 abbrev pub ScopesAreNamed : List ℕ → Reading → Type 0
-ScopesAreNamed bytes r = (path : List ℕ) (scope : Scope) → HasScope bytes path scope → (e : Element) × NamesElementAt r.root path e × ResolvedIn scope e
+ScopesAreNamed bytes r =
+    (path : List ℕ) (scope : Scope) → HasScope bytes path scope → (e : Element) × NamesElementAt r.root path e × ResolvedIn scope e

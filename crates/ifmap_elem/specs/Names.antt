@@ -27,13 +27,15 @@ full_stop = 0x2E
 abbrev pub is_name_start : ℕ → Bool
 is_name_start c =
     is_capital c || c == underscore || is_small c || is_in_range 0xC0 0xD6 c || is_in_range 0xD8 0xF6 c || is_in_range 0xF8 0x2FF c
-    || is_in_range 0x370 0x37D c || is_in_range 0x37F 0x1FFF c || is_in_range 0x200C 0x200D c || is_in_range 0x2070 0x218F c || is_in_range 0x2C00 0x2FEF c
+    || is_in_range 0x370 0x37D c || is_in_range 0x37F 0x1FFF c || is_in_range 0x200C 0x200D c || is_in_range 0x2070 0x218F c ||
+    is_in_range 0x2C00 0x2FEF c
     || is_in_range 0x3001 0xD7FF c || is_in_range 0xF900 0xFDCF c || is_in_range 0xFDF0 0xFFFD c || is_in_range 0x1_0000 0xE_FFFF c
 
 -- a character that may stand in a name part: one that may begin it, `-`, `.`, a digit, or one of the further characters
 abbrev pub is_name_character : ℕ → Bool
 is_name_character c =
-    is_name_start c || c == hyphen || c == full_stop || is_decimal c || c == 0xB7 || is_in_range 0x300 0x36F c || is_in_range 0x203F 0x2040 c
+    is_name_start c || c == hyphen || c == full_stop || is_decimal c || c == 0xB7 || is_in_range 0x300 0x36F c || is_in_range 0x203F
+    0x2040 c
 
 -- the bytes are a name part: a name without a colon
 pub record IsNamePart (bytes : List ℕ) : Type 0 where

@@ -40,7 +40,8 @@ bound (b ∷ bs) prefix = if bytes_eq b.prefix prefix then Some b.space else bou
 abbrev pub binding_of : Assignment → Option Binding
 binding_of a =
     if bytes_eq a.name.prefix (codes "xmlns") then Some (record { prefix = a.name.local; space = a.value })
-    else (if bytes_eq a.name.prefix [] && bytes_eq a.name.local (codes "xmlns") then Some (record { prefix = []; space = a.value }) else None)
+    else (if bytes_eq a.name.prefix [] && bytes_eq a.name.local (codes "xmlns") then Some
+    (record { prefix = []; space = a.value }) else None)
 
 -- the bindings that a tag makes, in order
 abbrev pub bindings : Tag → List Binding

@@ -111,9 +111,12 @@ pub record TakesText (bytes : List ℕ) (blank : Bool) (text rest : List ℕ) : 
 -- the token stands at the front, and this is left
 abbrev pub TakesToken : List ℕ → Token → List ℕ → Type 0
 TakesToken bytes Declaration rest = TakesDeclaration bytes rest
-TakesToken bytes Comment rest = (between : List ℕ) × TakesBetween (codes "<!--") (codes "-->") bytes between rest × Lacks (codes "--") (between ++ codes "-")
+TakesToken bytes Comment rest =
+    (between : List ℕ) × TakesBetween (codes "<!--") (codes "-->") bytes between rest × Lacks (codes "--") (between ++ codes "-")
 TakesToken bytes (Start tag) rest = TakesTag bytes tag (codes ">" ++ rest)
 TakesToken bytes (Empty tag) rest = TakesTag bytes tag (codes "/>" ++ rest)
 TakesToken bytes (End name) rest = TakesEnd bytes name rest
-TakesToken bytes (Section text) rest = (between : List ℕ) × TakesBetween (codes "<![CDATA[") (codes "]]>") bytes between rest × Lacks (codes "]]>") between × (text ≡ line_ends between)
+TakesToken bytes (Section text) rest =
+    (between : List ℕ) × TakesBetween (codes "<![CDATA[") (codes "]]>") bytes between rest × Lacks (codes "]]>") between
+    × (text ≡ line_ends between)
 TakesToken bytes (Characters blank text) rest = TakesText bytes blank text rest

@@ -15,7 +15,8 @@ begins_with b (c ∷ cs) = c == b
 -- each line end as one line feed: a carriage return before a line feed goes, and any other is a line feed
 abbrev pub line_ends : List ℕ → List ℕ
 line_ends [] = []
-line_ends (b ∷ bs) = if b == carriage_return then (if begins_with line_feed bs then line_ends bs else line_feed ∷ line_ends bs) else b ∷ line_ends bs
+line_ends (b ∷ bs) =
+    if b == carriage_return then (if begins_with line_feed bs then line_ends bs else line_feed ∷ line_ends bs) else b ∷ line_ends bs
 
 -- white space within a written attribute value is a space
 abbrev pub as_space : ℕ → ℕ
@@ -24,7 +25,8 @@ as_space b = if b == tab || b == line_feed then space_character else b
 -- the character with that number, where these digits are some and the number is a character's
 abbrev pub numbered : ℕ → List ℕ → Option ℕ
 numbered base digits =
-    if not (length digits == 0) && list_all (λ d. is_digit d base) digits && is_character (digits_value base digits) then Some (digits_value base digits) else None
+    if not (length digits == 0) && list_all (λ d. is_digit d base) digits && is_character (digits_value base digits) then Some
+    (digits_value base digits) else None
 
 -- the character that a reference stands for, by what is between its `&` and its `;`
 abbrev pub referred : List ℕ → Option ℕ
@@ -51,7 +53,9 @@ EndsRun (b ∷ bs) = b ≡ ampersand
 -- a part stands at the front: a run without `&`, or `&`, what names a character, and `;`
 abbrev pub TakesPart : List ℕ → Part → List ℕ → Type 0
 TakesPart bytes (Plain run) rest = (bytes ≡ run ++ rest) × (run ≢ []) × AllAre (λ b. not (b == ampersand)) run × EndsRun rest
-TakesPart bytes (Reference c) rest = (name : List ℕ) × (bytes ≡ ampersand ∷ (name ++ (semicolon ∷ rest))) × AllAre (λ b. not (b == semicolon)) name × (referred name ≡ Some c)
+TakesPart bytes (Reference c) rest =
+    (name : List ℕ) × (bytes ≡ ampersand ∷ (name ++ (semicolon ∷ rest))) × AllAre (λ b. not (b == semicolon)) name
+    × (referred name ≡ Some c)
 
 -- what a part adds to a text: a run with its line ends as line feeds, or the character
 abbrev pub text_part : Part → List ℕ

@@ -47,8 +47,10 @@ tag_of : (local : List ℕ) (attributes : List Attribute) (parts : List (List �
     → sort_attributes attributes ≡ map attribute_of parts
     → canonical_bytes (element_of local attributes) ≡ codes "<" ++ (local ++ (flat_map part_bytes parts ++ codes "/>"))
 tag_of local attributes parts e =
-    ap (root_bytes []) (at_element Child Element arrange_child_of arrange_element_of (element_of local attributes) ∙ ap (element_of local) e)
-    ∙ ap (λ spaces. element_of_parts (name_prefixes spaces) (numbered_prefixes (codes "n") 1 spaces ++ []) (bare_name local) (map attribute_of parts) [])
+    ap (root_bytes []) (at_element Child Element arrange_child_of arrange_element_of (element_of local attributes)
+    ∙ ap (element_of local) e)
+    ∙ ap (λ spaces. element_of_parts (name_prefixes spaces) (numbered_prefixes (codes "n") 1 spaces ++ []) (bare_name local)
+    (map attribute_of parts) [])
     (no_namespaces local parts)
     ∙ ap (λ text. codes "<" ++ (local ++ (text ++ codes "/>"))) (parts_are parts)
 

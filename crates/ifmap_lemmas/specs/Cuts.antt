@@ -7,7 +7,8 @@ abbrev pub Stops : {X : Type 0} → (X → Bool) → List X → Type 0
 Stops p [] = Unit {0}
 Stops p (b ∷ bs) = p b ≡ false
 
-pub cut : {X : Type 0} (p : X → Bool) (a b r s : List X) → AllByRecursion (λ n. p n ≡ true) a → AllByRecursion (λ n. p n ≡ true) b → Stops p r → Stops p s → a ++ r ≡ b ++ s → (a ≡ b) × (r ≡ s)
+pub cut : {X : Type 0} (p : X → Bool) (a b r s : List X) → AllByRecursion (λ n. p n ≡ true) a → AllByRecursion (λ n. p n ≡ true) b
+    → Stops p r → Stops p s → a ++ r ≡ b ++ s → (a ≡ b) × (r ≡ s)
 cut p [] [] r s f g stop also e = (refl, e)
 cut p [] (y ∷ ys) r s f g stop also e = let h : p y ≡ false = subst (Stops p) e stop in let q : true ≡ false = sym g.0 ∙ h in cc
 cut p (x ∷ xs) [] r s f g stop also e = let h : p x ≡ false = subst (Stops p) (sym e) also in let q : true ≡ false = sym f.0 ∙ h in cc
@@ -19,6 +20,7 @@ cut p (x ∷ xs) (y ∷ ys) r s f g stop also e =
     (cc, both.1)
 
 -- what all passes stops what nothing of it passes
-pub front_stops : {X : Type 0} (p q : X → Bool) → ((b : X) → p b ≡ true → q b ≡ false) → (a r : List X) → a ≢ [] → AllByRecursion (λ n. p n ≡ true) a → Stops q (a ++ r)
+pub front_stops : {X : Type 0} (p q : X → Bool) → ((b : X) → p b ≡ true → q b ≡ false) → (a r : List X) → a ≢ []
+    → AllByRecursion (λ n. p n ≡ true) a → Stops q (a ++ r)
 front_stops p q apart [] r some f = absurd (some refl)
 front_stops p q apart (x ∷ xs) r some f = apart x f.0

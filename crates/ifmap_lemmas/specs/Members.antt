@@ -19,11 +19,13 @@ pub map_of_all : {X Y : Type 0} (P : Y → Type 0) (f : X → Y) (xs : List X) �
 map_of_all P f [] h = tt
 map_of_all P f (x ∷ xs) h = (h.0, map_of_all P f xs h.1)
 
-pub all_append : {X : Type 0} (p : X → Bool) (a b : List X) → AllByRecursion (λ n. p n ≡ true) a → AllByRecursion (λ n. p n ≡ true) b → AllByRecursion (λ n. p n ≡ true) (a ++ b)
+pub all_append : {X : Type 0} (p : X → Bool) (a b : List X) → AllByRecursion (λ n. p n ≡ true) a → AllByRecursion (λ n. p n ≡ true) b
+    → AllByRecursion (λ n. p n ≡ true) (a ++ b)
 all_append p [] b f g = g
 all_append p (x ∷ xs) b f g = (f.0, all_append p xs b f.1 g)
 
-pub all_weaker : {X : Type 0} (p q : X → Bool) → ((b : X) → p b ≡ true → q b ≡ true) → (a : List X) → AllByRecursion (λ n. p n ≡ true) a → AllByRecursion (λ n. q n ≡ true) a
+pub all_weaker : {X : Type 0} (p q : X → Bool) → ((b : X) → p b ≡ true → q b ≡ true) → (a : List X) → AllByRecursion (λ n. p n ≡ true) a
+    → AllByRecursion (λ n. q n ≡ true) a
 all_weaker p q leads [] f = tt
 all_weaker p q leads (x ∷ xs) f = (leads x f.0, all_weaker p q leads xs f.1)
 

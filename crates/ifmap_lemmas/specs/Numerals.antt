@@ -46,7 +46,8 @@ all_digits_push [] d f few = (let h = digit_is d few in omega arith, tt)
 all_digits_push (c ∷ cs) d f few = (f.0, all_digits_push cs d f.1 few)
 
 pub numeral_digits : (n : ℕ) → AllDigits 10 (numeral n)
-numeral_digits = numeral_by_digits (λ n ds. AllDigits 10 ds) (λ n few. all_digits_push [] n tt few) (λ n ds many h. all_digits_push ds (n % 10) h (omega arith))
+numeral_digits = numeral_by_digits (λ n ds. AllDigits 10 ds) (λ n few. all_digits_push [] n tt few)
+    (λ n ds many h. all_digits_push ds (n % 10) h (omega arith))
 
 value_push : (m : ℕ) (ds : List ℕ) (c : ℕ) → digits_value_after 10 m (ds ++ c ∷ []) ≡ digits_value_after 10 m ds * 10 + digit_value c
 value_push m [] c = refl

@@ -67,7 +67,8 @@ module _ {X : Type 0} (cmp : X → X → Ordering) (r : Ranks (λ x y. is_gt (cm
   length-in_order (x ∷ xs) = length-placed x (in_order cmp xs) ∙ ap suc (length-in_order xs)
 
   -- a rising list is in order
-  in_order_rising : (xs : List X) → ((k : ℕ) (d : X) → suc k < length xs → gt (get_or xs k d) (get_or xs (suc k) d) ≡ false) → in_order cmp xs ≡ xs
+  in_order_rising : (xs : List X) → ((k : ℕ) (d : X) → suc k < length xs → gt (get_or xs k d) (get_or xs (suc k) d) ≡ false)
+      → in_order cmp xs ≡ xs
   in_order_rising [] up = refl
   in_order_rising (x ∷ []) up = refl
   in_order_rising (x ∷ (y ∷ ys)) up =
@@ -105,20 +106,23 @@ module _ {X : Type 0} (cmp : X → X → Ordering) (r : Ranks (λ x y. is_gt (cm
   at_places (x ∷ (y ∷ ys)) up zero d l = up.0
   at_places (x ∷ (y ∷ ys)) up (suc k) d l = at_places (y ∷ ys) up.1 k d (omega arith)
 
-  pub in_order-rises : (xs : List X) (k : ℕ) (d : X) → suc k < length (in_order cmp xs) → gt (get_or (in_order cmp xs) k d) (get_or (in_order cmp xs) (suc k) d) ≡ false
+  pub in_order-rises : (xs : List X) (k : ℕ) (d : X) → suc k < length (in_order cmp xs)
+      → gt (get_or (in_order cmp xs) k d) (get_or (in_order cmp xs) (suc k) d) ≡ false
   in_order-rises xs = at_places (in_order cmp xs) (rises_in_order xs)
 
   IsPermutation-placed : (x : X) (ys : List X) → IsPermutation (x ∷ ys) (insert cmp x ys)
   IsPermutation-placed x [] = IsPermutation-refl (x ∷ [])
   IsPermutation-placed x (y ∷ ys) = elim (cases_Bool (gt x y)) [
-    | inl f ↦ rw f (IsPermutation-trans (x ∷ (y ∷ ys)) (y ∷ (x ∷ ys)) (y ∷ insert cmp x ys) (IsPermutation-middle (x ∷ []) y ys) (IsPermutation-cons y (x ∷ ys) (insert cmp x ys) (IsPermutation-placed x ys)))
+    | inl f ↦ rw f (IsPermutation-trans (x ∷ (y ∷ ys)) (y ∷ (x ∷ ys)) (y ∷ insert cmp x ys) (IsPermutation-middle (x ∷ []) y ys)
+        (IsPermutation-cons y (x ∷ ys) (insert cmp x ys) (IsPermutation-placed x ys)))
     | inr f ↦ rw f (IsPermutation-refl (x ∷ (y ∷ ys)))
   ]
 
   pub IsPermutation-in_order : (xs : List X) → IsPermutation xs (in_order cmp xs)
   IsPermutation-in_order [] = IsPermutation-refl []
   IsPermutation-in_order (x ∷ xs) =
-      IsPermutation-trans (x ∷ xs) (x ∷ in_order cmp xs) (insert cmp x (in_order cmp xs)) (IsPermutation-cons x xs (in_order cmp xs) (IsPermutation-in_order xs)) (IsPermutation-placed x (in_order cmp xs))
+      IsPermutation-trans (x ∷ xs) (x ∷ in_order cmp xs) (insert cmp x (in_order cmp xs))
+      (IsPermutation-cons x xs (in_order cmp xs) (IsPermutation-in_order xs)) (IsPermutation-placed x (in_order cmp xs))
 
   module _ (eq : X → X → Bool) (itself : (x : X) → eq x x ≡ true) (tells : (x y : X) → eq x y ≡ true → x ≡ y) where
     abbrev count : X → List X → ℕ
@@ -174,6 +178,8 @@ module _ {X : Type 0} (cmp : X → X → Ordering) (r : Ranks (λ x y. is_gt (cm
         in_order_same xs ys (sym (length_permutation xs ys p)) (λ z. omega (arith, sum_by-IsPermutation (λ y. cond (eq y z) 1 0) xs ys p))
 
     -- a permutation that rises is the list in order
-    pub in_order_is : (xs ys : List X) → IsPermutation xs ys → ((k : ℕ) (d : X) → suc k < length ys → gt (get_or ys k d) (get_or ys (suc k) d) ≡ false) → ys ≡ in_order cmp xs
+    pub in_order_is : (xs ys : List X) → IsPermutation xs ys → ((k : ℕ) (d : X) → suc k < length ys
+        → gt (get_or ys k d) (get_or ys (suc k) d) ≡ false) → ys ≡ in_order cmp xs
     in_order_is xs ys p up =
-        sym (in_order_same xs ys (sym (length_permutation xs ys p)) (λ z. omega (arith, sum_by-IsPermutation (λ y. cond (eq y z) 1 0) xs ys p)) ∙ in_order_rising ys up)
+        sym (in_order_same xs ys (sym (length_permutation xs ys p))
+        (λ z. omega (arith, sum_by-IsPermutation (λ y. cond (eq y z) 1 0) xs ys p)) ∙ in_order_rising ys up)

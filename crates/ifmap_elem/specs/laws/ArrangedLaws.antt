@@ -9,7 +9,12 @@ use Rattle.ifmap_elem.specs.declared.elements.Child.TheVariants.{rolls-Element}
 use Rattle.ifmap_elem.specs.declared.elements.Child.TheOpen.{Child-F}
 use Rattle.ifmap_elem.specs.declared.elements.Element.{Element}
 
-pub arranged_is : (e : Element) → arrange e ≡ record { name = e.name; attributes = sort_attributes e.attributes; children = map arrange_child e.children }
+pub arranged_is : (e : Element) → arrange e ≡ record {
+  name = e.name;
+  attributes = sort_attributes e.attributes;
+  children = map
+      arrange_child e.children;
+}
 arranged_is e = at_element Child Element arrange_child_of arrange_element_of e
 
 pub arranged_in : (e : Element) → arrange_child (the.Element e) ≡ the.Element (arrange e)
@@ -36,7 +41,8 @@ same_in a b e = arranged_in a ∙ ap (λ x. the.Element x) e ∙ sym (arranged_i
 pub same_out : (a b : Element) → arrange_child (the.Element a) ≡ arrange_child (the.Element b) → arrange a ≡ arrange b
 same_out a b e = one_element (arrange a) (arrange b) (sym (arranged_in a) ∙ e ∙ arranged_in b)
 
-pub same_children_of : (x y : Child) (a b : Element) (r : Bool) → x ≡ the.Element a → y ≡ the.Element b → (IsTrue r ↔ (arrange a ≡ arrange b)) → IsTrue r ↔ (arrange_child x ≡ arrange_child y)
+pub same_children_of : (x y : Child) (a b : Element) (r : Bool) → x ≡ the.Element a → y ≡ the.Element b
+    → (IsTrue r ↔ (arrange a ≡ arrange b)) → IsTrue r ↔ (arrange_child x ≡ arrange_child y)
 same_children_of x y a b r p q h = (
   λ t. ap arrange_child p ∙ same_in a b (h.0 t) ∙ sym (ap arrange_child q),
   λ e. h.1 (same_out a b (sym (ap arrange_child p) ∙ e ∙ ap arrange_child q)),
@@ -46,4 +52,5 @@ same_children_of x y a b r p q h = (
 pub other_at : (xs ys : List Child) (i : ℕ) (x y : Child) → i < length xs → i < length ys → x ≡ get_or xs i x → y ≡ get_or ys i y
     → (arrange_child x ≡ arrange_child y → ⊥) → map arrange_child xs ≡ map arrange_child ys → ⊥
 other_at xs ys i x y l m p q other same =
-    other (ap arrange_child p ∙ sym (get_or-map arrange_child xs i x (arrange_child x) l) ∙ ap (λ zs. get_or zs i (arrange_child x)) same ∙ get_or-map arrange_child ys i y (arrange_child x) m ∙ sym (ap arrange_child q))
+    other (ap arrange_child p ∙ sym (get_or-map arrange_child xs i x (arrange_child x) l) ∙ ap (λ zs. get_or zs i (arrange_child x)) same
+    ∙ get_or-map arrange_child ys i y (arrange_child x) m ∙ sym (ap arrange_child q))

@@ -27,7 +27,8 @@ texts_total = nat_list_cmp_total
 
 pub attributes_total : IsTotalOrder attribute_order
 attributes_total =
-    then_total (then_total (on_total (λ (a : Attribute). a.name.space) texts_total) (on_total (λ (a : Attribute). a.name.local) texts_total)) (on_total (λ (a : Attribute). a.value) texts_total)
+    then_total (then_total (on_total (λ (a : Attribute). a.name.space) texts_total)
+    (on_total (λ (a : Attribute). a.name.local) texts_total)) (on_total (λ (a : Attribute). a.value) texts_total)
 
 pub attributes_tied : (a b : Attribute) → attribute_order a b ≡ Equal → a ≡ b
 attributes_tied a b e =
@@ -89,11 +90,13 @@ occurrences-sorted a xs = count-in_order attribute_order attribute_ranks attribu
 pub not_same_lengths : (xs ys : List Attribute) → (length xs ≡ length ys → ⊥) → sort_attributes xs ≡ sort_attributes ys → ⊥
 not_same_lengths xs ys other same = other (sym (length-sorted xs) ∙ ap length same ∙ length-sorted ys)
 
-pub not_same_numbers : (a : Attribute) (xs ys : List Attribute) → (occurrences_of a xs ≡ occurrences_of a ys → ⊥) → sort_attributes xs ≡ sort_attributes ys → ⊥
+pub not_same_numbers : (a : Attribute) (xs ys : List Attribute) → (occurrences_of a xs ≡ occurrences_of a ys → ⊥)
+    → sort_attributes xs ≡ sort_attributes ys → ⊥
 not_same_numbers a xs ys other same = other (sym (occurrences-sorted a xs) ∙ ap (occurrences_of a) same ∙ occurrences-sorted a ys)
 
 -- an attribute stands nowhere in a list, or at some place
-nowhere_or_at : (a : Attribute) (xs : List Attribute) → (occurrences_of a xs ≡ 0) ⊎ ((k : ℕ) × (k < length xs) × ((d : Attribute) → get_or xs k d ≡ a))
+nowhere_or_at : (a : Attribute) (xs : List Attribute) → (occurrences_of a xs ≡ 0)
+    ⊎ ((k : ℕ) × (k < length xs) × ((d : Attribute) → get_or xs k d ≡ a))
 nowhere_or_at a [] = inl refl
 nowhere_or_at a (x ∷ xs) = elim (cases_Bool (attribute_eq x a)) [
   | inl e ↦ inr (0, omega arith, λ d. eq_tells x a e)
@@ -106,14 +109,16 @@ nowhere_or_at a (x ∷ xs) = elim (cases_Bool (attribute_eq x a)) [
 ]
 
 -- lists of one length where each member of the first occurs as often in the second
-pub same_members : (xs ys : List Attribute) → length xs ≡ length ys → All (λ a. occurrences_of a xs ≡ occurrences_of a ys) xs → sort_attributes xs ≡ sort_attributes ys
+pub same_members : (xs ys : List Attribute) → length xs ≡ length ys → All (λ a. occurrences_of a xs ≡ occurrences_of a ys) xs
+    → sort_attributes xs ≡ sort_attributes ys
 same_members xs ys long often = in_order_same attribute_order attribute_ranks attribute_eq eq_itself eq_tells xs ys long (λ a. fewer a)
   where
     fewer : (a : Attribute) → occurrences_of a xs ≤ occurrences_of a ys
     fewer a = elim (nowhere_or_at a xs) [
       | inl n ↦ omega arith
       | inr p ↦
-          let h : occurrences_of a xs ≡ occurrences_of a ys = subst (λ b. occurrences_of b xs ≡ occurrences_of b ys) (p.2 a) (often p.0 a p.1) in
+          let h : occurrences_of a xs ≡ occurrences_of a ys = subst (λ b. occurrences_of b xs ≡ occurrences_of b ys) (p.2 a)
+          (often p.0 a p.1) in
           omega arith
     ]
 
@@ -125,10 +130,13 @@ not_greater Greater Equal e f = cc
 not_greater Greater Greater e f = cc
 
 -- a permutation of the attributes that rises
-pub rising_is_sorted : (xs ys : List Attribute) → IsPermutation xs ys → ((k : ℕ) (d : Attribute) → suc k < length ys → is_lt (attribute_order (get_or ys (suc k) d) (get_or ys k d)) ≡ false) → ys ≡ sort_attributes xs
+pub rising_is_sorted : (xs ys : List Attribute) → IsPermutation xs ys
+    → ((k : ℕ) (d : Attribute) → suc k < length ys → is_lt (attribute_order (get_or ys (suc k) d) (get_or ys k d)) ≡ false)
+    → ys ≡ sort_attributes xs
 rising_is_sorted xs ys p up =
     in_order_is attribute_order attribute_ranks attribute_eq eq_itself eq_tells xs ys p
-    (λ k d l. not_greater (attribute_order (get_or ys k d) (get_or ys (suc k) d)) (attribute_order (get_or ys (suc k) d) (get_or ys k d)) (attributes_total.antisymm (get_or ys k d) (get_or ys (suc k) d)) (up k d l))
+    (λ k d l. not_greater (attribute_order (get_or ys k d) (get_or ys (suc k) d)) (attribute_order (get_or ys (suc k) d) (get_or ys k d))
+    (attributes_total.antisymm (get_or ys k d) (get_or ys (suc k) d)) (up k d l))
 
 next_not_less : (p q : Ordering) → p ≡ ordering_reverse q → is_le p ≡ true → is_lt q ≡ false
 next_not_less Less Less e f = cc
@@ -147,15 +155,18 @@ then_some Greater p = refl
 -- how two attributes compare, as `<=` asks
 abbrev compared : Attribute → Attribute → Option Ordering
 compared a b =
-    partial_ordering_then (partial_ordering_then (Some (slice_cmp nat_cmp a.name.space b.name.space)) (Some (slice_cmp nat_cmp a.name.local b.name.local))) (Some (slice_cmp nat_cmp a.value b.value))
+    partial_ordering_then (partial_ordering_then (Some (slice_cmp nat_cmp a.name.space b.name.space))
+    (Some (slice_cmp nat_cmp a.name.local b.name.local))) (Some (slice_cmp nat_cmp a.value b.value))
 
 compared_is : (a b : Attribute) → compared a b ≡ Some (attribute_order a b)
 compared_is a b =
-    ap (λ o. partial_ordering_then o (Some (slice_cmp nat_cmp a.value b.value))) (then_some (slice_cmp nat_cmp a.name.space b.name.space) (slice_cmp nat_cmp a.name.local b.name.local))
+    ap (λ o. partial_ordering_then o (Some (slice_cmp nat_cmp a.value b.value)))
+    (then_some (slice_cmp nat_cmp a.name.space b.name.space) (slice_cmp nat_cmp a.name.local b.name.local))
     ∙ then_some (name_order a.name b.name) (slice_cmp nat_cmp a.value b.value)
 
 -- attributes each of which is not greater than the next are in order
-pub already_sorted : (xs : List Attribute) (r : Bool) → IsEachAdjacentAnswer (λ x y b. partial_le compared x y ≡ b) xs r → OnTrue r (sort_attributes xs ≡ xs)
+pub already_sorted : (xs : List Attribute) (r : Bool) → IsEachAdjacentAnswer (λ x y b. partial_le compared x y ≡ b) xs r
+    → OnTrue r (sort_attributes xs ≡ xs)
 already_sorted xs true up = sym (rising_is_sorted xs xs (IsPermutation-refl xs) (λ k d l. rises k d l))
   where
     rises : (k : ℕ) (d : Attribute) → suc k < length xs → is_lt (attribute_order (get_or xs (suc k) d) (get_or xs k d)) ≡ false
@@ -164,26 +175,33 @@ already_sorted xs true up = sym (rising_is_sorted xs xs (IsPermutation-refl xs) 
         let b = get_or xs (suc k) d in
         let h : partial_le compared a (get_or xs (k + 1) d) ≡ true = (up k d (omega (arith, l))).1 in
         let g : partial_le compared a b ≡ true = subst (λ (n : ℕ). partial_le compared a (get_or xs n d) ≡ true) (add-one k) h in
-        next_not_less (attribute_order a b) (attribute_order b a) (attributes_total.antisymm a b) (ap (λ o. is_some_and is_le o) (sym (compared_is a b)) ∙ g)
+        next_not_less (attribute_order a b) (attribute_order b a) (attributes_total.antisymm a b)
+        (ap (λ o. is_some_and is_le o) (sym (compared_is a b)) ∙ g)
 already_sorted xs false up = tt
 
 abbrev referred : List (Bor Attribute) → List Attribute
 referred rs = map (λ (r : Bor Attribute). r.now) rs
 
 rising_references : (ss : List (Bor Attribute)) → IsSorted (λ (x y : Bor Attribute). attribute_order x.now y.now) ss
-    → (k : ℕ) (d : Attribute) → suc k < length (referred ss) → is_lt (attribute_order (get_or (referred ss) (suc k) d) (get_or (referred ss) k d)) ≡ false
+    → (k : ℕ) (d : Attribute) → suc k < length (referred ss) → is_lt
+    (attribute_order (get_or (referred ss) (suc k) d) (get_or (referred ss) k d)) ≡ false
 rising_references [] up k d l = absurd (omega (arith, l))
 rising_references (s ∷ ss) up k d l =
     let now : Bor Attribute → Attribute = λ (r : Bor Attribute). r.now in
     let long : suc k < length (s ∷ ss) = omega (arith, l, length-map (s ∷ ss) now) in
-    let step : is_lt (attribute_order (now (get_or (s ∷ ss) (suc k) s)) (now (get_or (s ∷ ss) k s))) ≡ false = subst (λ (n : ℕ). is_lt (attribute_order (now (get_or (s ∷ ss) n s)) (now (get_or (s ∷ ss) k s))) ≡ false) (add-one k) (up k s (omega arith) (omega arith)) in
+    let step : is_lt (attribute_order (now (get_or (s ∷ ss) (suc k) s)) (now (get_or (s ∷ ss) k s))) ≡ false = subst
+    (λ (n : ℕ). is_lt (attribute_order (now (get_or (s ∷ ss) n s)) (now (get_or (s ∷ ss) k s))) ≡ false) (add-one k)
+    (up k s (omega arith) (omega arith)) in
     let here : get_or (referred (s ∷ ss)) k d ≡ now (get_or (s ∷ ss) k s) = get_or-map now (s ∷ ss) k s d (omega arith) in
     let next : get_or (referred (s ∷ ss)) (suc k) d ≡ now (get_or (s ∷ ss) (suc k) s) = get_or-map now (s ∷ ss) (suc k) s d long in
-    ap (λ a. is_lt (attribute_order a (get_or (referred (s ∷ ss)) k d))) next ∙ ap (λ a. is_lt (attribute_order (now (get_or (s ∷ ss) (suc k) s)) a)) here ∙ step
+    ap (λ a. is_lt (attribute_order a (get_or (referred (s ∷ ss)) k d))) next
+    ∙ ap (λ a. is_lt (attribute_order (now (get_or (s ∷ ss) (suc k) s)) a)) here ∙ step
 
 -- references that were put in order refer to the attributes in order
-pub sorted_references : (rs ss : List (Bor Attribute)) → IsPermutation rs ss → IsSorted (λ (x y : Bor Attribute). attribute_order x.now y.now) ss → referred ss ≡ sort_attributes (referred rs)
-sorted_references rs ss p up = rising_is_sorted (referred rs) (referred ss) (IsPermutation-map (λ (r : Bor Attribute). r.now) rs ss p) (rising_references ss up)
+pub sorted_references : (rs ss : List (Bor Attribute)) → IsPermutation rs ss
+    → IsSorted (λ (x y : Bor Attribute). attribute_order x.now y.now) ss → referred ss ≡ sort_attributes (referred rs)
+sorted_references rs ss p up =
+    rising_is_sorted (referred rs) (referred ss) (IsPermutation-map (λ (r : Bor Attribute). r.now) rs ss p) (rising_references ss up)
 
 pub sorted_permutation : (xs : List Attribute) → IsPermutation xs (sort_attributes xs)
 sorted_permutation xs = IsPermutation-in_order attribute_order attribute_ranks xs
@@ -200,7 +218,8 @@ sorted_rises xs k d low high =
     let next : Attribute = get_or (sort_attributes xs) (suc k) d in
     let here : Attribute = get_or (sort_attributes xs) k d in
     let step : is_lt (attribute_order next here) ≡ false =
-    not_less (attribute_order next here) (attribute_order here next) (attributes_total.antisymm next here) (in_order-rises attribute_order attribute_ranks xs k d (omega arith)) in
+    not_less (attribute_order next here) (attribute_order here next) (attributes_total.antisymm next here)
+    (in_order-rises attribute_order attribute_ranks xs k d (omega arith)) in
     subst (λ (n : ℕ). is_lt (attribute_order (get_or (sort_attributes xs) n d) here) ≡ false) (sym (add-one k)) step
 
 pub one_order : (xs ys : List Attribute) → IsPermutation xs ys → sort_attributes xs ≡ sort_attributes ys

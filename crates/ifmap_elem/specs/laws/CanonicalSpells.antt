@@ -35,11 +35,13 @@ space_of a = a.name.space
 abbrev HasNamespaces : Child → Type 0
 HasNamespaces c = AllByRecursion IsFitAlone (elements_of_child c) → AllByRecursion IsNamespace (spaces_of_child c)
 
-attribute_spaces : (attributes : List Attribute) → AllByRecursion IsFitAttribute attributes → AllByRecursion IsNamespace (map space_of attributes)
+attribute_spaces : (attributes : List Attribute) → AllByRecursion IsFitAttribute attributes
+    → AllByRecursion IsNamespace (map space_of attributes)
 attribute_spaces [] f = tt
 attribute_spaces (a ∷ attributes) f = (f.0.name.space, attribute_spaces attributes f.1)
 
-children_spaces : (cs : List Child) → Each HasNamespaces cs → AllByRecursion IsFitAlone (flat_map elements_of_child cs) → AllByRecursion IsNamespace (flat_map spaces_of_child cs)
+children_spaces : (cs : List Child) → Each HasNamespaces cs → AllByRecursion IsFitAlone (flat_map elements_of_child cs)
+    → AllByRecursion IsNamespace (flat_map spaces_of_child cs)
 children_spaces [] each f = tt
 children_spaces (c ∷ cs) each f =
     let parts = all_both IsFitAlone (elements_of_child c) (flat_map elements_of_child cs) f in
@@ -50,7 +52,8 @@ fit_spaces = by_children HasNamespaces (λ e. IsFit e → AllByRecursion IsNames
   where
     in_element : (e : Element) → (IsFit e → AllByRecursion IsNamespace (spaces_of e)) → HasNamespaces (the.Element e)
     in_element e q f =
-        subst (AllByRecursion IsNamespace) (sym (at_child_element (List (List ℕ)) (List (List ℕ)) child_spaces element_spaces e)) (q (subst (AllByRecursion IsFitAlone) (elements_in e) f))
+        subst (AllByRecursion IsNamespace) (sym (at_child_element (List (List ℕ)) (List (List ℕ)) child_spaces element_spaces e))
+        (q (subst (AllByRecursion IsFitAlone) (elements_in e) f))
 
     in_text : (t : List ℕ) → HasNamespaces (the.Text t)
     in_text t f = subst (AllByRecursion IsNamespace) (sym (at_child_text (List (List ℕ)) (List (List ℕ)) child_spaces element_spaces t)) tt
@@ -58,8 +61,11 @@ fit_spaces = by_children HasNamespaces (λ e. IsFit e → AllByRecursion IsNames
     in_children : (e : Element) → Each HasNamespaces e.children → IsFit e → AllByRecursion IsNamespace (spaces_of e)
     in_children e each f =
         let parts = fit_parts e f in
-        let h : AllByRecursion IsNamespace (e.name.space ∷ (map space_of e.attributes ++ flat_map spaces_of_child e.children)) =
-        (parts.0.name.space, both_all IsNamespace (map space_of e.attributes) (flat_map spaces_of_child e.children) (attribute_spaces e.attributes parts.0.attributes) (children_spaces e.children each parts.1)) in
+        let h : AllByRecursion IsNamespace (e.name.space ∷ (map space_of e.attributes ++ flat_map spaces_of_child e.children)) = (
+          parts.0.name.space,
+          both_all IsNamespace (map space_of e.attributes) (flat_map spaces_of_child e.children)
+              (attribute_spaces e.attributes parts.0.attributes) (children_spaces e.children each parts.1),
+        ) in
         subst (AllByRecursion IsNamespace) (sym (spaces_is e)) h
 
 -- the root
@@ -70,11 +76,13 @@ Texts = List (List ℕ)
 abbrev its_rows : Element → Texts → Rows
 its_rows e given = rows_of 0x6E 1 (namespaces e) ++ rows_of 0x66 1 given
 
-rows_seam : (rows more : Rows) (scope : Scope) → map row_binding (rows ++ more) ++ scope ≡ map row_binding rows ++ (map row_binding more ++ scope)
+rows_seam : (rows more : Rows) (scope : Scope) → map row_binding
+    (rows ++ more) ++ scope ≡ map row_binding rows ++ (map row_binding more ++ scope)
 rows_seam [] more scope = refl
 rows_seam (row ∷ rows) more scope = ap (λ l. row_binding row ∷ l) (rows_seam rows more scope)
 
-bindings_both : (rows more : Rows) → AllByRecursion IsBinding (map row_binding rows) → AllByRecursion IsBinding (map row_binding more) → AllByRecursion IsBinding (map row_binding (rows ++ more))
+bindings_both : (rows more : Rows) → AllByRecursion IsBinding (map row_binding rows) → AllByRecursion IsBinding (map row_binding more)
+    → AllByRecursion IsBinding (map row_binding (rows ++ more))
 bindings_both [] more f g = g
 bindings_both (row ∷ rows) more f g = (f.0, bindings_both rows more f.1 g)
 
@@ -87,17 +95,25 @@ root_taken e given fit can =
     let spaces : AllByRecursion IsDeclarable (namespaces e) = are_declared (spaces_of e) (fit_spaces e fit) in
     let more : Scope = scope_of 0x66 1 given root_scope in
     let all : AllByRecursion (Resolves prefixes scope) (spaces_of e) =
-    subst (λ (s : Scope). AllByRecursion (Resolves prefixes s) (spaces_of e)) (sym (rows_seam (rows_of 0x6E 1 (namespaces e)) (rows_of 0x66 1 given) root_scope))
+    subst (λ (s : Scope). AllByRecursion (Resolves prefixes s) (spaces_of e))
+    (sym (rows_seam (rows_of 0x6E 1 (namespaces e)) (rows_of 0x66 1 given) root_scope))
     (all_resolved (spaces_of e) more (rows_outermost 0x66 1 given root_scope f_letter root_outermost)) in
-    let r : AllByRecursion (Resolves prefixes scope) (e.name.space ∷ (map space_of e.attributes ++ flat_map spaces_of_child e.children)) = subst (AllByRecursion (Resolves prefixes scope)) (spaces_is e) all in
+    let r : AllByRecursion (Resolves prefixes scope) (e.name.space ∷
+    (map space_of e.attributes ++ flat_map spaces_of_child e.children)) = subst (AllByRecursion (Resolves prefixes scope))
+    (spaces_is e) all in
     let s = all_both (Resolves prefixes scope) (map space_of e.attributes) (flat_map spaces_of_child e.children) r.1 in
     tagged_taken prefixes (its_rows e given) root_scope e parts.0
-    (both_all FitRow (rows_of 0x6E 1 (namespaces e)) (rows_of 0x66 1 given) (rows_fit 0x6E n_letter 1 (namespaces e) spaces) (rows_fit 0x66 f_letter 1 given can))
-    (bindings_both (rows_of 0x6E 1 (namespaces e)) (rows_of 0x66 1 given) (rows_are_bindings 0x6E n_letter 1 (namespaces e) spaces) (rows_are_bindings 0x66 f_letter 1 given can))
-    (both_differ 0x6E 0x66 1 1 (namespaces e) given (λ q. absurd (omega arith)) (prefixes_differ 0x6E n_letter 1 (namespaces e)) (prefixes_differ 0x66 f_letter 1 given))
-    r.0 (fits_in prefixes scope e.attributes parts.0.attributes s.0) (children_taken prefixes scope e.children parts.1 parts.0.children.texts s.1)
+    (both_all FitRow (rows_of 0x6E 1 (namespaces e)) (rows_of 0x66 1 given) (rows_fit 0x6E n_letter 1 (namespaces e) spaces)
+    (rows_fit 0x66 f_letter 1 given can))
+    (bindings_both (rows_of 0x6E 1 (namespaces e)) (rows_of 0x66 1 given) (rows_are_bindings 0x6E n_letter 1 (namespaces e) spaces)
+    (rows_are_bindings 0x66 f_letter 1 given can))
+    (both_differ 0x6E 0x66 1 1 (namespaces e) given (λ q. absurd (omega arith)) (prefixes_differ 0x6E n_letter 1 (namespaces e))
+    (prefixes_differ 0x66 f_letter 1 given))
+    r.0 (fits_in prefixes scope e.attributes parts.0.attributes s.0)
+    (children_taken prefixes scope e.children parts.1 parts.0.children.texts s.1)
 
-taken_spells : (e : Element) (bytes : List ℕ) (declared : List Declared) → without_byte_order_mark bytes ≡ bytes → ElementTaken root_scope bytes e declared
+taken_spells : (e : Element) (bytes : List ℕ) (declared : List Declared) → without_byte_order_mark bytes ≡ bytes
+    → ElementTaken root_scope bytes e declared
     → Spells bytes (record { root = e; declared = declared })
 taken_spells e bytes declared marked t = record {
   tokens = tokens_of t.pieces;
@@ -111,9 +127,11 @@ pub root_spelled : (e : Element) (given : Texts) → IsFit e → AllByRecursion 
 root_spelled e given fit can =
     subst (λ (d : List Declared). Spells (root_bytes (rows_of 0x66 1 given) e) (record { root = e; declared = d }))
     (map-map (λ (b : Binding). record { path = []; prefix = b.prefix; space = b.space }) row_binding (its_rows e given))
-    (taken_spells e (root_bytes (rows_of 0x66 1 given) e) (declared_here (map row_binding (its_rows e given))) refl (root_taken e given fit can))
+    (taken_spells e (root_bytes (rows_of 0x66 1 given) e) (declared_here (map row_binding (its_rows e given))) refl
+    (root_taken e given fit can))
 
-pub written_spelled : (e : Element) (given : Texts) → IsFit e → AllByRecursion IsDeclarable given → Spells (written_bytes e given) (written_reading e given)
+pub written_spelled : (e : Element) (given : Texts) → IsFit e → AllByRecursion IsDeclarable given
+    → Spells (written_bytes e given) (written_reading e given)
 written_spelled e given fit can = root_spelled (arrange e) given (fit_arranged e fit) can
 
 pub canonical_spelled : (e : Element) → IsFit e → Spells (canonical_bytes e) (canonical_reading e)
@@ -125,15 +143,20 @@ alike_when_same a b same = ap (root_bytes []) same
 
 pub same_when_alike : (a b : Element) → IsFit a → IsFit b → canonical_bytes a ≡ canonical_bytes b → IsSame a b
 same_when_alike a b fit also alike =
-    let mine : Spells (canonical_bytes b) (canonical_reading a) = subst (λ (bytes : List ℕ). Spells bytes (canonical_reading a)) alike (canonical_spelled a fit) in
-    ap (λ (r : Reading). r.root) (one_reading (canonical_bytes b) (canonical_reading a) (canonical_reading b) mine (canonical_spelled b also))
+    let mine : Spells (canonical_bytes b) (canonical_reading a) = subst (λ (bytes : List ℕ). Spells bytes (canonical_reading a)) alike
+    (canonical_spelled a fit) in
+    ap (λ (r : Reading). r.root) (one_reading (canonical_bytes b) (canonical_reading a) (canonical_reading b) mine
+    (canonical_spelled b also))
 
 -- what tells whether two elements are the same tells it of their canonical bytes
-pub tells_apart : (a b : Element) (r : Bool) → (IsTrue r ↔ IsSame a b) → IsFit a → IsFit b → (IsTrue r ↔ (canonical_bytes a ≡ canonical_bytes b))
+pub tells_apart : (a b : Element) (r : Bool) → (IsTrue r ↔ IsSame a b) → IsFit a → IsFit b
+    → (IsTrue r ↔ (canonical_bytes a ≡ canonical_bytes b))
 tells_apart a b r h fit also = (λ t. alike_when_same a b (h.0 t), λ e. h.1 (same_when_alike a b fit also e))
 
 -- what was printed, where there was memory
-pub written_if_ok : {E : Type 0} (r : Result (List ℕ) E) (e : Element) (given : Texts) → IfOk r (λ bytes. bytes ≡ written_bytes e given) → IsFit e → AllByRecursion IsDeclarable given
+pub written_if_ok : {E : Type 0} (r : Result (List ℕ) E) (e : Element) (given : Texts) → IfOk r (λ bytes. bytes ≡ written_bytes e given)
+    → IsFit e → AllByRecursion IsDeclarable given
     → IfOk r (λ bytes. Spells bytes (written_reading e given))
-written_if_ok (Ok bytes) e given is fit can = subst (λ (b : List ℕ). Spells b (written_reading e given)) (sym is) (written_spelled e given fit can)
+written_if_ok (Ok bytes) e given is fit can =
+    subst (λ (b : List ℕ). Spells b (written_reading e given)) (sym is) (written_spelled e given fit can)
 written_if_ok (Err error) e given is fit can = tt

@@ -5,26 +5,31 @@ use Rattle.std.specs.List.{starts_with}
 use Rattle.ifmap_elem.specs.Tokens.{Lacks}
 
 -- the bytes before the first `--`
-pub dash_cut : (a b r s : List ℕ) → Lacks (codes "--") (a ++ codes "-") → Lacks (codes "--") (b ++ codes "-") → a ++ (codes "--" ++ r) ≡ b ++ (codes "--" ++ s) → (a ≡ b) × (r ≡ s)
+pub dash_cut : (a b r s : List ℕ) → Lacks (codes "--") (a ++ codes "-") → Lacks (codes "--") (b ++ codes "-")
+    → a ++ (codes "--" ++ r) ≡ b ++ (codes "--" ++ s) → (a ≡ b) × (r ≡ s)
 dash_cut [] [] r s f g e = (refl, cc)
 dash_cut [] (y ∷ []) r s f g e =
     let one : y ≡ 45 = cc in
-    let h : starts_with ◌==◌ (45 ∷ (45 ∷ [])) (codes "--") ≡ false = subst (λ (b : ℕ). starts_with ◌==◌ (b ∷ (45 ∷ [])) (codes "--") ≡ false) one g.0 in
+    let h : starts_with ◌==◌ (45 ∷ (45 ∷ [])) (codes "--") ≡ false = subst
+    (λ (b : ℕ). starts_with ◌==◌ (b ∷ (45 ∷ [])) (codes "--") ≡ false) one g.0 in
     cc
 dash_cut [] (y ∷ (z ∷ zs)) r s f g e =
     let one : y ≡ 45 = cc in
     let two : z ≡ 45 = cc in
-    let h : starts_with ◌==◌ (y ∷ (45 ∷ (zs ++ codes "-"))) (codes "--") ≡ false = subst (λ (b : ℕ). starts_with ◌==◌ (y ∷ (b ∷ (zs ++ codes "-"))) (codes "--") ≡ false) two g.0 in
+    let h : starts_with ◌==◌ (y ∷ (45 ∷ (zs ++ codes "-"))) (codes "--") ≡ false = subst
+    (λ (b : ℕ). starts_with ◌==◌ (y ∷ (b ∷ (zs ++ codes "-"))) (codes "--") ≡ false) two g.0 in
     let k : true ≡ false = subst (λ (b : ℕ). starts_with ◌==◌ (b ∷ (45 ∷ (zs ++ codes "-"))) (codes "--") ≡ false) one h in
     cc
 dash_cut (x ∷ []) [] r s f g e =
     let one : x ≡ 45 = cc in
-    let h : starts_with ◌==◌ (45 ∷ (45 ∷ [])) (codes "--") ≡ false = subst (λ (b : ℕ). starts_with ◌==◌ (b ∷ (45 ∷ [])) (codes "--") ≡ false) one f.0 in
+    let h : starts_with ◌==◌ (45 ∷ (45 ∷ [])) (codes "--") ≡ false = subst
+    (λ (b : ℕ). starts_with ◌==◌ (b ∷ (45 ∷ [])) (codes "--") ≡ false) one f.0 in
     cc
 dash_cut (x ∷ (z ∷ zs)) [] r s f g e =
     let one : x ≡ 45 = cc in
     let two : z ≡ 45 = cc in
-    let h : starts_with ◌==◌ (x ∷ (45 ∷ (zs ++ codes "-"))) (codes "--") ≡ false = subst (λ (b : ℕ). starts_with ◌==◌ (x ∷ (b ∷ (zs ++ codes "-"))) (codes "--") ≡ false) two f.0 in
+    let h : starts_with ◌==◌ (x ∷ (45 ∷ (zs ++ codes "-"))) (codes "--") ≡ false = subst
+    (λ (b : ℕ). starts_with ◌==◌ (x ∷ (b ∷ (zs ++ codes "-"))) (codes "--") ≡ false) two f.0 in
     let k : true ≡ false = subst (λ (b : ℕ). starts_with ◌==◌ (b ∷ (45 ∷ (zs ++ codes "-"))) (codes "--") ≡ false) one h in
     cc
 dash_cut (x ∷ xs) (y ∷ ys) r s f g e =
@@ -42,13 +47,16 @@ no_bracket y (z ∷ (w ∷ ws)) r s g e =
     let one : y ≡ 93 = cc in
     let two : z ≡ 93 = cc in
     let three : w ≡ 62 = cc in
-    let h : starts_with ◌==◌ (y ∷ (z ∷ (62 ∷ ws))) (codes "]]>") ≡ false = subst (λ (b : ℕ). starts_with ◌==◌ (y ∷ (z ∷ (b ∷ ws))) (codes "]]>") ≡ false) three g.0 in
-    let k : starts_with ◌==◌ (y ∷ (93 ∷ (62 ∷ ws))) (codes "]]>") ≡ false = subst (λ (b : ℕ). starts_with ◌==◌ (y ∷ (b ∷ (62 ∷ ws))) (codes "]]>") ≡ false) two h in
+    let h : starts_with ◌==◌ (y ∷ (z ∷ (62 ∷ ws))) (codes "]]>") ≡ false = subst
+    (λ (b : ℕ). starts_with ◌==◌ (y ∷ (z ∷ (b ∷ ws))) (codes "]]>") ≡ false) three g.0 in
+    let k : starts_with ◌==◌ (y ∷ (93 ∷ (62 ∷ ws))) (codes "]]>") ≡ false = subst
+    (λ (b : ℕ). starts_with ◌==◌ (y ∷ (b ∷ (62 ∷ ws))) (codes "]]>") ≡ false) two h in
     let l : true ≡ false = subst (λ (b : ℕ). starts_with ◌==◌ (b ∷ (93 ∷ (62 ∷ ws))) (codes "]]>") ≡ false) one k in
     cc
 
 -- the bytes before the first `]]>`
-pub bracket_cut : (a b r s : List ℕ) → Lacks (codes "]]>") a → Lacks (codes "]]>") b → a ++ (codes "]]>" ++ r) ≡ b ++ (codes "]]>" ++ s) → (a ≡ b) × (r ≡ s)
+pub bracket_cut : (a b r s : List ℕ) → Lacks (codes "]]>") a → Lacks (codes "]]>") b → a ++ (codes "]]>" ++ r) ≡ b ++ (codes "]]>" ++ s)
+    → (a ≡ b) × (r ≡ s)
 bracket_cut [] [] r s f g e = (refl, cc)
 bracket_cut [] (y ∷ ys) r s f g e = absurd (no_bracket y ys r s g e)
 bracket_cut (x ∷ xs) [] r s f g e = absurd (no_bracket x xs s r f (sym e))

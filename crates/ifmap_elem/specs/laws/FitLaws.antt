@@ -41,14 +41,17 @@ firsts [] each = refl
 firsts (c ∷ cs) each = (λ i. each.0 i ∷ firsts cs each.1 i)
 
 first_in : (e : Element) → (paired e).0 ≡ e → (paired_child (the.Element e)).0 ≡ the.Element e
-first_in e q = ap (λ (p : Child × List Element). p.0) (at_child_element (Child × List Element) (Element × List Element) child_with_elements element_with_elements e) ∙ ap (λ (x : Element). the.Element x) q
+first_in e q = ap (λ (p : Child × List Element). p.0) (at_child_element (Child × List Element)
+    (Element × List Element) child_with_elements element_with_elements e) ∙ ap (λ (x : Element). the.Element x) q
 
 first_text : (t : List ℕ) → (paired_child (the.Text t)).0 ≡ the.Text t
-first_text t = ap (λ (p : Child × List Element). p.0) (at_child_text (Child × List Element) (Element × List Element) child_with_elements element_with_elements t)
+first_text t = ap (λ (p : Child × List Element). p.0) (at_child_text (Child × List Element)
+    (Element × List Element) child_with_elements element_with_elements t)
 
 first_of_children : (e : Element) → Each (λ c. (paired_child c).0 ≡ c) e.children → (paired e).0 ≡ e
 first_of_children e each =
-    ap (λ (p : Element × List Element). p.0) (at_element (Child × List Element) (Element × List Element) child_with_elements element_with_elements e)
+    ap (λ (p : Element × List Element). p.0) (at_element (Child × List Element)
+    (Element × List Element) child_with_elements element_with_elements e)
     ∙ (λ i. record { name = e.name; attributes = e.attributes; children = firsts e.children each i })
 
 first_child : (c : Child) → (paired_child c).0 ≡ c
@@ -60,26 +63,34 @@ all_firsts (c ∷ cs) = (λ i. first_child c i ∷ all_firsts cs i)
 
 pub elements_is : (e : Element) → elements_of e ≡ e ∷ flat_map elements_of_child e.children
 elements_is e =
-    ap (λ (p : Element × List Element). p.1) (at_element (Child × List Element) (Element × List Element) child_with_elements element_with_elements e)
-    ∙ (λ i. record { name = e.name; attributes = e.attributes; children = all_firsts e.children i } ∷ flat_map-map (λ (p : Child × List Element). p.1) paired_child e.children i)
+    ap (λ (p : Element × List Element). p.1) (at_element (Child × List Element)
+    (Element × List Element) child_with_elements element_with_elements e)
+    ∙ (λ i. record { name = e.name; attributes = e.attributes; children = all_firsts e.children i } ∷ flat_map-map
+    (λ (p : Child × List Element). p.1) paired_child e.children i)
 
 pub elements_in : (e : Element) → elements_of_child (the.Element e) ≡ elements_of e
-elements_in e = ap (λ (p : Child × List Element). p.1) (at_child_element (Child × List Element) (Element × List Element) child_with_elements element_with_elements e)
+elements_in e = ap (λ (p : Child × List Element). p.1) (at_child_element (Child × List Element)
+    (Element × List Element) child_with_elements element_with_elements e)
 
 pub elements_text : (t : List ℕ) → elements_of_child (the.Text t) ≡ []
-elements_text t = ap (λ (p : Child × List Element). p.1) (at_child_text (Child × List Element) (Element × List Element) child_with_elements element_with_elements t)
+elements_text t = ap (λ (p : Child × List Element). p.1) (at_child_text (Child × List Element)
+    (Element × List Element) child_with_elements element_with_elements t)
 
 pub fit_parts : (e : Element) → IsFit e → IsFitAlone e × AllByRecursion IsFitAlone (flat_map elements_of_child e.children)
-fit_parts e fit = let h : AllByRecursion IsFitAlone (e ∷ flat_map elements_of_child e.children) = subst (AllByRecursion IsFitAlone) (elements_is e) fit in (h.0, h.1)
+fit_parts e fit = let h : AllByRecursion IsFitAlone (e ∷ flat_map elements_of_child e.children) = subst (AllByRecursion IsFitAlone)
+    (elements_is e) fit in (h.0, h.1)
 
 pub fit_whole : (e : Element) → IsFitAlone e → AllByRecursion IsFitAlone (flat_map elements_of_child e.children) → IsFit e
-fit_whole e alone inside = let h : AllByRecursion IsFitAlone (e ∷ flat_map elements_of_child e.children) = (alone, inside) in subst (AllByRecursion IsFitAlone) (sym (elements_is e)) h
+fit_whole e alone inside =
+    let h : AllByRecursion IsFitAlone (e ∷ flat_map elements_of_child e.children) = (alone, inside) in subst (AllByRecursion IsFitAlone)
+    (sym (elements_is e)) h
 
 -- what holds of all in two lists
 
 -- attributes in order
 
-all_placed : (P : Attribute → Type 0) (x : Attribute) (ys : List Attribute) → P x → AllByRecursion P ys → AllByRecursion P (insert attribute_order x ys)
+all_placed : (P : Attribute → Type 0) (x : Attribute) (ys : List Attribute) → P x → AllByRecursion P ys
+    → AllByRecursion P (insert attribute_order x ys)
 all_placed P x [] p f = (p, tt)
 all_placed P x (y ∷ ys) p f = elim (cases_Bool (is_gt (attribute_order x y))) [
   | inl e ↦ rw e (f.0, all_placed P x ys p f.1)
@@ -94,11 +105,13 @@ module _ {Y : Type 0} (f : Attribute → Y) where
   abbrev apart_from : Y → Attribute → Type 0
   apart_from y a = y ≢ f a
 
-  differ_placed : (x : Attribute) (ys : List Attribute) → AllByRecursion (apart_from (f x)) ys → AllDiffer (map f ys) → AllDiffer (map f (insert attribute_order x ys))
+  differ_placed : (x : Attribute) (ys : List Attribute) → AllByRecursion (apart_from (f x)) ys → AllDiffer (map f ys)
+      → AllDiffer (map f (insert attribute_order x ys))
   differ_placed x [] other d = (tt, tt)
   differ_placed x (y ∷ ys) other d = elim (cases_Bool (is_gt (attribute_order x y))) [
     | inl e ↦ rw e (
-      map_of_all (λ z. f y ≢ z) f (insert attribute_order x ys) (all_placed (apart_from (f y)) x ys (λ s. other.0 (sym s)) (all_of_map (λ z. f y ≢ z) f ys d.0)),
+      map_of_all (λ z. f y ≢ z) f (insert attribute_order x ys)
+          (all_placed (apart_from (f y)) x ys (λ s. other.0 (sym s)) (all_of_map (λ z. f y ≢ z) f ys d.0)),
       differ_placed x ys other.1 d.1,
     )
     | inr e ↦ rw e (map_of_all (λ z. f x ≢ z) f (y ∷ ys) other, d)
@@ -106,7 +119,8 @@ module _ {Y : Type 0} (f : Attribute → Y) where
 
   pub differ_sorted : (xs : List Attribute) → AllDiffer (map f xs) → AllDiffer (map f (sort_attributes xs))
   differ_sorted [] d = tt
-  differ_sorted (x ∷ xs) d = differ_placed x (sort_attributes xs) (all_sorted (apart_from (f x)) xs (all_of_map (λ z. f x ≢ z) f xs d.0)) (differ_sorted xs d.1)
+  differ_sorted (x ∷ xs) d =
+      differ_placed x (sort_attributes xs) (all_sorted (apart_from (f x)) xs (all_of_map (λ z. f x ≢ z) f xs d.0)) (differ_sorted xs d.1)
 
 -- children with their attributes in order
 
@@ -146,7 +160,12 @@ blank_over (Child-F.Element e ∷ xs) f = (tt, blank_over xs f.1)
 blank_over (Child-F.Text t ∷ xs) f = (f.0, blank_over xs f.1)
 
 fit_over : (xs : List (Child-F Child Element)) → AreFitChildren xs → AreFitChildren (map over xs)
-fit_over xs f = record { texts = texts_over xs f.texts; apart = apart_over xs f.apart; beside = λ any. blank_over xs (f.beside (sym (any_over xs) ∙ any)) }
+fit_over xs f = record {
+  texts = texts_over xs f.texts;
+  apart = apart_over xs f.apart;
+  beside = λ any. blank_over xs
+      (f.beside (sym (any_over xs) ∙ any));
+}
 
 abbrev arranged_here : Element → Element
 arranged_here e = record { name = e.name; attributes = sort_attributes e.attributes; children = map arrange_child e.children }
@@ -162,11 +181,13 @@ alone_arranged e f = record {
 abbrev FitStays : Child → Type 0
 FitStays c = AllByRecursion IsFitAlone (elements_of_child c) → AllByRecursion IsFitAlone (elements_of_child (arrange_child c))
 
-children_stay : (cs : List Child) → Each FitStays cs → AllByRecursion IsFitAlone (flat_map elements_of_child cs) → AllByRecursion IsFitAlone (flat_map elements_of_child (map arrange_child cs))
+children_stay : (cs : List Child) → Each FitStays cs → AllByRecursion IsFitAlone (flat_map elements_of_child cs)
+    → AllByRecursion IsFitAlone (flat_map elements_of_child (map arrange_child cs))
 children_stay [] each f = tt
 children_stay (c ∷ cs) each f =
     let parts = all_both IsFitAlone (elements_of_child c) (flat_map elements_of_child cs) f in
-    both_all IsFitAlone (elements_of_child (arrange_child c)) (flat_map elements_of_child (map arrange_child cs)) (each.0 parts.0) (children_stay cs each.1 parts.1)
+    both_all IsFitAlone (elements_of_child (arrange_child c)) (flat_map elements_of_child (map arrange_child cs)) (each.0 parts.0)
+    (children_stay cs each.1 parts.1)
 
 -- an element that fits does so with its attributes in order
 pub fit_arranged : (e : Element) → IsFit e → IsFit (arrange e)
@@ -174,7 +195,8 @@ fit_arranged = by_children FitStays (λ e. IsFit e → IsFit (arrange e)) in_ele
   where
     in_element : (e : Element) → (IsFit e → IsFit (arrange e)) → FitStays (the.Element e)
     in_element e q f =
-        subst (AllByRecursion IsFitAlone) (sym (ap elements_of_child (arranged_in e) ∙ elements_in (arrange e))) (q (subst (AllByRecursion IsFitAlone) (elements_in e) f))
+        subst (AllByRecursion IsFitAlone) (sym (ap elements_of_child (arranged_in e) ∙ elements_in (arrange e)))
+        (q (subst (AllByRecursion IsFitAlone) (elements_in e) f))
 
     in_text : (t : List ℕ) → FitStays (the.Text t)
     in_text t f = subst (AllByRecursion IsFitAlone) (sym (ap elements_of_child (arranged_text t) ∙ elements_text t)) tt
@@ -195,7 +217,9 @@ nest_alike (c ∷ cs) each = (λ i. each.0 i ∷ nest_alike cs each.1 i)
 
 pub nesting_arranged : (e : Element) → nesting (arrange e) ≡ nesting e
 nesting_arranged = by_children NestsAlike (λ e. nesting (arrange e) ≡ nesting e)
-    (λ e q. ap child_nesting (arranged_in e) ∙ at_child_element ℕ ℕ child_levels element_levels (arrange e) ∙ q ∙ sym (at_child_element ℕ ℕ child_levels element_levels e))
+    (λ e q. ap child_nesting (arranged_in e) ∙ at_child_element ℕ ℕ child_levels element_levels (arrange e) ∙ q
+    ∙ sym (at_child_element ℕ ℕ child_levels element_levels e))
     (λ t. ap child_nesting (arranged_text t))
-    (λ e each. ap nesting (arranged_is e) ∙ at_element ℕ ℕ child_levels element_levels (arranged_here e) ∙ ap (λ l. suc (greatest l)) (nest_alike e.children each)
+    (λ e each. ap nesting (arranged_is e) ∙ at_element ℕ ℕ child_levels element_levels (arranged_here e)
+    ∙ ap (λ l. suc (greatest l)) (nest_alike e.children each)
     ∙ sym (at_element ℕ ℕ child_levels element_levels e))

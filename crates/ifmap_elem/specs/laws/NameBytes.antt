@@ -38,7 +38,8 @@ byte_inside c k l low = inside_one c [] (encode_utf8 c) k (sym (append-nil (enco
 character_bytes : (c : ℕ) → is_name_character c ≡ true → AllAre is_part_byte (encode_utf8 c)
 character_bytes c h =
     let P : ℕ → Type 0 = λ b. is_part_byte b ≡ true in
-    recursion_from_All P (encode_utf8 c) (All-from_get_or P (encode_utf8 c) 0 (λ k l. one_byte c h (get_or (encode_utf8 c) k 0) (byte_inside c k l)))
+    recursion_from_All P (encode_utf8 c) (All-from_get_or P (encode_utf8 c) 0
+    (λ k l. one_byte c h (get_or (encode_utf8 c) k 0) (byte_inside c k l)))
 
 starts_are_characters : (c : ℕ) → is_name_start c ≡ true → is_name_character c ≡ true
 starts_are_characters c h = rw h refl
@@ -48,11 +49,18 @@ characters_bytes [] f = tt
 characters_bytes (c ∷ cs) f = all_append is_part_byte (encode_utf8 c) (encode_utf8_all cs) (character_bytes c f.0) (characters_bytes cs f.1)
 
 pub part_bytes : (bytes : List ℕ) → IsNamePart bytes → AllAre is_part_byte bytes
-part_bytes bytes p = subst (AllAre is_part_byte) p.bytes_are (characters_bytes (p.first ∷ p.others) (starts_are_characters p.first p.begins, p.goes_on))
+part_bytes bytes p =
+    subst (AllAre is_part_byte) p.bytes_are (characters_bytes (p.first ∷ p.others) (starts_are_characters p.first p.begins, p.goes_on))
 
 no_part_of_none : (first : ℕ) (others : List ℕ) → encode_utf8_all (first ∷ others) ≡ [] → ⊥
 no_part_of_none first others e =
-    absurd (omega (arith, ap length e, length-append (encode_utf8 first) (encode_utf8_all others), length-encode first, (len_utf8_bounds first).0))
+    absurd (omega (
+      arith,
+      ap length e,
+      length-append (encode_utf8 first) (encode_utf8_all others),
+      length-encode first,
+      (len_utf8_bounds first).0,
+    ))
 
 pub part_is_some : (bytes : List ℕ) → IsNamePart bytes → bytes ≢ []
 part_is_some bytes p none = no_part_of_none p.first p.others (p.bytes_are ∙ none)
@@ -81,7 +89,8 @@ pub name_is_some : (q : Qualified) → IsQualified q → name_bytes q ≢ []
 name_is_some q is = some_prefixed q.prefix q.local (part_is_some q.local is.local_is)
 
 -- the parts are those round the first colon
-same_parts : (p l q m : List ℕ) → AllAre is_part_byte p → AllAre is_part_byte l → AllAre is_part_byte q → AllAre is_part_byte m → prefixed p l ≡ prefixed q m → (p ≡ q) × (l ≡ m)
+same_parts : (p l q m : List ℕ) → AllAre is_part_byte p → AllAre is_part_byte l → AllAre is_part_byte q → AllAre is_part_byte m
+    → prefixed p l ≡ prefixed q m → (p ≡ q) × (l ≡ m)
 same_parts [] l [] m fp fl fq fm e = (refl, e)
 same_parts [] l (c ∷ cs) m fp fl fq fm e =
     let both = cut is_part_byte l (c ∷ cs) [] (58 ∷ m) fl fq tt refl (append-nil l ∙ e) in
@@ -96,11 +105,13 @@ same_parts (b ∷ bs) l (c ∷ cs) m fp fl fq fm e =
 
 pub same_name : (q u : Qualified) → IsQualified q → IsQualified u → name_bytes q ≡ name_bytes u → q ≡ u
 same_name q u i j e =
-    let both = same_parts q.prefix q.local u.prefix u.local (prefix_bytes q i) (part_bytes q.local i.local_is) (prefix_bytes u j) (part_bytes u.local j.local_is) e in
+    let both = same_parts q.prefix q.local u.prefix u.local (prefix_bytes q i) (part_bytes q.local i.local_is) (prefix_bytes u j)
+    (part_bytes u.local j.local_is) e in
     λ k. record { prefix = both.0 k; local = both.1 k }
 
 -- a name ends where no byte of a name stands
-pub name_cut : (q u : Qualified) (r s : List ℕ) → IsQualified q → IsQualified u → Stops is_name_byte r → Stops is_name_byte s → name_bytes q ++ r ≡ name_bytes u ++ s → (q ≡ u) × (r ≡ s)
+pub name_cut : (q u : Qualified) (r s : List ℕ) → IsQualified q → IsQualified u → Stops is_name_byte r → Stops is_name_byte s
+    → name_bytes q ++ r ≡ name_bytes u ++ s → (q ≡ u) × (r ≡ s)
 name_cut q u r s i j stop also e =
     let both = cut is_name_byte (name_bytes q) (name_bytes u) r s (name_are_bytes q i) (name_are_bytes u j) stop also e in
     (same_name q u i j both.0, both.1)
@@ -110,7 +121,8 @@ pub no_name_byte : (b n : ℕ) → is_name_byte n ≡ false → is_name_byte b �
 no_name_byte b n not h = is_other b n (λ e. let wrong : false ≡ true = sym not ∙ subst (λ (m : ℕ). is_name_byte m ≡ true) e h in cc)
 
 pub name_is_not_white : (b : ℕ) → is_name_byte b ≡ true → is_white b ≡ false
-name_is_not_white b h = rw (no_name_byte b 0x20 refl h, no_name_byte b 0x9 refl h, no_name_byte b 0xD refl h, no_name_byte b 0xA refl h) refl
+name_is_not_white b h =
+    rw (no_name_byte b 0x20 refl h, no_name_byte b 0x9 refl h, no_name_byte b 0xD refl h, no_name_byte b 0xA refl h) refl
 
 pub white_is_no_name : (b : ℕ) → is_white b ≡ true → is_name_byte b ≡ false
 white_is_no_name b h = by_test (is_name_byte b) refl

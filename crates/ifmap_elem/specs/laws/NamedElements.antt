@@ -61,7 +61,8 @@ item_of (item ∷ items) (suc index) e h =
       index_is = ap suc rest.index_is;
     }
 
-element_at : (before : List Item) (e : Element) (d : List Declared) (after : List Item) → slice_get (map child_of (before ++ (Inner e d ∷ after))) (length before) ≡ Some (the.Element e)
+element_at : (before : List Item) (e : Element) (d : List Declared) (after : List Item)
+    → slice_get (map child_of (before ++ (Inner e d ∷ after))) (length before) ≡ Some (the.Element e)
 element_at [] e d after = refl
 element_at (item ∷ before) e d after = element_at before e d after
 
@@ -103,12 +104,14 @@ no_inner (Run text ∷ before) e d after h = no_inner before e d after h
 -- from a child's item to its place among all items
 
 -- after texts and an element's item, the other item is the same or comes later
-abbrev IsLater : (runs : List Item) (f : Element) (c : List Declared) (rest before : List Item) (e : Element) (d : List Declared) (after : List Item) → Type 0
+abbrev IsLater : (runs : List Item) (f : Element) (c : List Declared) (rest before : List Item) (e : Element) (d : List Declared)
+    (after : List Item) → Type 0
 IsLater runs f c rest before e d after =
     ((before ≡ runs) × (f ≡ e) × (c ≡ d))
     ⊎ ((more : List Item) × (before ≡ runs ++ (Inner f c ∷ more)) × (rest ≡ more ++ (Inner e d ∷ after)))
 
-is_later : (runs : List Item) (f : Element) (c : List Declared) (rest before : List Item) (e : Element) (d : List Declared) (after : List Item) → AreRuns runs
+is_later : (runs : List Item) (f : Element) (c : List Declared) (rest before : List Item) (e : Element) (d : List Declared)
+    (after : List Item) → AreRuns runs
     → runs ++ (Inner f c ∷ rest) ≡ before ++ (Inner e d ∷ after) → IsLater runs f c rest before e d after
 is_later [] f c rest [] e d after h is =
     let element : f ≡ e = cc in
@@ -138,10 +141,13 @@ place_of : (runs : List Item) (items before : List Item) (e : Element) (d : List
     → filter (is_child true) (joined (runs ++ items)) ≡ before ++ (Inner e d ∷ after) → IsPlace runs items before e d
 place_of runs [] before e d after h is =
     absurd (no_inner before e d after
-    (subst AreRuns is (runs_among (is_child true) (joined (runs ++ [])) (runs_joined (runs ++ []) (subst AreRuns (sym (append-nil runs)) h)))))
+    (subst AreRuns is (runs_among (is_child true) (joined (runs ++ []))
+    (runs_joined (runs ++ []) (subst AreRuns (sym (append-nil runs)) h)))))
 place_of runs (Run text ∷ items) before e d after h is =
-    let moved : (rest : List Item) → (runs ++ (Run text ∷ [])) ++ rest ≡ runs ++ (Run text ∷ rest) = λ rest. append_assoc runs (Run text ∷ []) rest in
-    let p = place_of (runs ++ (Run text ∷ [])) items before e d after (runs_after runs text h) (ap (λ (is : List Item). filter (is_child true) (joined is)) (moved items) ∙ is) in
+    let moved : (rest : List Item) → (runs ++ (Run text ∷ [])) ++ rest ≡ runs ++ (Run text ∷ rest) = λ rest. append_assoc runs
+    (Run text ∷ []) rest in
+    let p = place_of (runs ++ (Run text ∷ [])) items before e d after (runs_after runs text h)
+    (ap (λ (is : List Item). filter (is_child true) (joined is)) (moved items) ∙ is) in
     record {
       first = Run text ∷ p.first;
       others = p.others;
@@ -149,7 +155,8 @@ place_of runs (Run text ∷ items) before e d after h is =
       before_is = p.before_is ∙ ap (λ (is : List Item). filter (is_child true) (joined is)) (moved p.first);
     }
 place_of runs (Inner f c ∷ items) before e d after h is =
-    elim (is_later among f c (filter (is_child true) (joined items)) before e d after (runs_among (is_child true) (joined runs) (runs_joined runs h)) (sym (parts items) ∙ is)) [
+    elim (is_later among f c (filter (is_child true) (joined items)) before e d after
+    (runs_among (is_child true) (joined runs) (runs_joined runs h)) (sym (parts items) ∙ is)) [
       | inl k ↦ record {
         first = [];
         others = items;
@@ -169,8 +176,10 @@ place_of runs (Inner f c ∷ items) before e d after h is =
     among : List Item
     among = filter (is_child true) (joined runs)
 
-    parts : (rest : List Item) → filter (is_child true) (joined (runs ++ (Inner f c ∷ rest))) ≡ filter (is_child true) (joined runs) ++ (Inner f c ∷ filter (is_child true) (joined rest))
-    parts rest = ap (filter (is_child true)) (joined_both runs f c rest) ∙ filter-append (is_child true) (joined runs) (Inner f c ∷ joined rest)
+    parts : (rest : List Item) → filter (is_child true) (joined (runs ++ (Inner f c ∷ rest))) ≡ filter (is_child true)
+        (joined runs) ++ (Inner f c ∷ filter (is_child true) (joined rest))
+    parts rest =
+        ap (filter (is_child true)) (joined_both runs f c rest) ∙ filter-append (is_child true) (joined runs) (Inner f c ∷ joined rest)
 
 -- from an item to its piece
 
@@ -188,7 +197,8 @@ pub record IsPiece (scope : Scope) (inside : Pieces) (first : List Item) (e : El
   pub is_element : IsElement scope tag inner e d
 
 -- after a comment, which means no item
-with_comment : (scope : Scope) (inside : Pieces) (first : List Item) (e : Element) (d : List Declared) → IsPiece scope inside first e d → IsPiece scope (piece.Comment inside) first e d
+with_comment : (scope : Scope) (inside : Pieces) (first : List Item) (e : Element) (d : List Declared) → IsPiece scope inside first e d
+    → IsPiece scope (piece.Comment inside) first e d
 with_comment scope inside first e d p = record {
   before = piece.Comment p.before;
   element = p.element;
@@ -203,12 +213,15 @@ with_comment scope inside first e d p = record {
   is_element = p.is_element;
 }
 
-piece_of : (scope : Scope) (inside : Pieces) (items first : List Item) (e : Element) (d : List Declared) (others : List Item) → AreItems scope inside items
+piece_of : (scope : Scope) (inside : Pieces) (items first : List Item) (e : Element) (d : List Declared) (others : List Item)
+    → AreItems scope inside items
     → items ≡ first ++ (Inner e d ∷ others) → IsPiece scope inside first e d
 piece_of scope Nothing items [] e d others m is = let wrong : [] ≡ Inner e d ∷ others = sym m ∙ is in cc
 piece_of scope Nothing items (item ∷ first) e d others m is = let wrong : [] ≡ item ∷ (first ++ (Inner e d ∷ others)) = sym m ∙ is in cc
-piece_of scope (piece.Comment after) items first e d others m is = with_comment scope after first e d (piece_of scope after items first e d others m is)
-piece_of scope (piece.Characters blank text after) items [] e d others m is = let wrong : Run text ∷ m.0 ≡ Inner e d ∷ others = sym m.1 ∙ is in cc
+piece_of scope (piece.Comment after) items first e d others m is =
+    with_comment scope after first e d (piece_of scope after items first e d others m is)
+piece_of scope (piece.Characters blank text after) items [] e d others m is =
+    let wrong : Run text ∷ m.0 ≡ Inner e d ∷ others = sym m.1 ∙ is in cc
 piece_of scope (piece.Characters blank text after) items (item ∷ first) e d others m is =
     let both : Run text ∷ m.0 ≡ item ∷ (first ++ (Inner e d ∷ others)) = sym m.1 ∙ is in
     let head : item ≡ Run text = cc in
@@ -261,7 +274,8 @@ piece_of scope (piece.Empty tag after) items [] e d others m is =
       is_piece = inr (refl, refl);
       mean = refl;
       inner_are = refl;
-      is_element = subst (λ (x : Element). IsElement scope tag [] x d) same (subst (λ (x : List Declared). IsElement scope tag [] m.0 x) told m.4);
+      is_element =
+          subst (λ (x : Element). IsElement scope tag [] x d) same (subst (λ (x : List Declared). IsElement scope tag [] m.0 x) told m.4);
     }
 piece_of scope (piece.Empty tag after) items (item ∷ first) e d others m is =
     let both : Inner m.0 m.1 ∷ m.2 ≡ item ∷ (first ++ (Inner e d ∷ others)) = sym m.3 ∙ is in
@@ -296,7 +310,8 @@ piece_of scope (piece.Start tag within after) items [] e d others m is =
       is_piece = inl refl;
       mean = refl;
       inner_are = m.5;
-      is_element = subst (λ (x : Element). IsElement scope tag m.0 x d) same (subst (λ (x : List Declared). IsElement scope tag m.0 m.1 x) told m.6);
+      is_element =
+          subst (λ (x : Element). IsElement scope tag m.0 x d) same (subst (λ (x : List Declared). IsElement scope tag m.0 m.1 x) told m.6);
     }
 piece_of scope (piece.Start tag within after) items (item ∷ first) e d others m is =
     let both : Inner m.1 m.2 ∷ m.3 ≡ item ∷ (first ++ (Inner e d ∷ others)) = sym m.4 ∙ is in
@@ -318,11 +333,13 @@ piece_of scope (piece.Start tag within after) items (item ∷ first) e d others 
     }
 
 -- beside an element among the children white space is none
-among_both : (items before : List Item) (e : Element) (d : List Declared) (after : List Item) → children_among items ≡ before ++ (Inner e d ∷ after)
+among_both : (items before : List Item) (e : Element) (d : List Declared) (after : List Item)
+    → children_among items ≡ before ++ (Inner e d ∷ after)
     → filter (is_child true) (joined items) ≡ before ++ (Inner e d ∷ after)
 among_both items before e d after is = elim (cases_Bool (list_any is_inner items)) [
   | inl some ↦ ap (λ (b : Bool). filter (is_child b) (joined items)) (sym some) ∙ is
-  | inr none ↦ absurd (no_inner before e d after (subst AreRuns is (runs_among (is_child (list_any is_inner items)) (joined items) (runs_joined items (are_runs items none)))))
+  | inr none ↦ absurd (no_inner before e d after (subst AreRuns is
+      (runs_among (is_child (list_any is_inner items)) (joined items) (runs_joined items (are_runs items none)))))
 ]
   where
     are_runs : (items : List Item) → list_any is_inner items ≡ false → AreRuns items
@@ -340,7 +357,8 @@ pub record IsChild (scope : Scope) (inside : Pieces) (index : ℕ) (e : Element)
   pub inner_are : AreItems (scope_within scope child) within inner
   pub is_element : IsElement scope child inner e declared
 
-child_at : (scope : Scope) (inside : Pieces) (items : List Item) (index : ℕ) (e : Element) → AreItems scope inside items → slice_get (map child_of (children_among items)) index ≡ Some (the.Element e)
+child_at : (scope : Scope) (inside : Pieces) (items : List Item) (index : ℕ) (e : Element) → AreItems scope inside items
+    → slice_get (map child_of (children_among items)) index ≡ Some (the.Element e)
     → IsChild scope inside index e
 child_at scope inside items index e m h =
     let i = item_of (children_among items) index e h in
@@ -367,8 +385,10 @@ child_at scope inside items index e m h =
 
 -- from tag to tag
 
-leads_there : (path : List ℕ) (outer : Scope) (tag : Tag) (inside : Pieces) (items : List Item) (root e : Element) (declared : List Declared) → IsElement outer tag items root declared
-    → AreItems (scope_within outer tag) inside items → NamesElementAt root path e → (scope : Scope) × LeadsTo outer tag inside path scope × ResolvedIn scope e
+leads_there : (path : List ℕ) (outer : Scope) (tag : Tag) (inside : Pieces) (items : List Item) (root e : Element)
+    (declared : List Declared) → IsElement outer tag items root declared
+    → AreItems (scope_within outer tag) inside items → NamesElementAt root path e
+    → (scope : Scope) × LeadsTo outer tag inside path scope × ResolvedIn scope e
 leads_there [] outer tag inside items root e declared h m is = (
   scope_within outer tag,
   refl,
@@ -380,12 +400,15 @@ leads_there [] outer tag inside items root e declared h m is = (
   },
 )
 leads_there (index ∷ path) outer tag inside items root e declared h m is =
-    let c = child_at (scope_within outer tag) inside items index is.0 m (ap (λ (cs : List the.Child). slice_get cs index) (sym h.children_are) ∙ is.1) in
+    let c = child_at (scope_within outer tag) inside items index is.0 m
+    (ap (λ (cs : List the.Child). slice_get cs index) (sym h.children_are) ∙ is.1) in
     let l = leads_there path (scope_within outer tag) c.child c.within c.inner is.0 e c.declared c.is_element c.inner_are is.2 in
     (l.0, (c.child, c.within, c.is_there, l.1), l.2)
 
-named_there : (path : List ℕ) (outer : Scope) (tag : Tag) (inside : Pieces) (items : List Item) (root : Element) (declared : List Declared) (scope : Scope) → IsElement outer tag items root declared
-    → AreItems (scope_within outer tag) inside items → LeadsTo outer tag inside path scope → (e : Element) × NamesElementAt root path e × ResolvedIn scope e
+named_there : (path : List ℕ) (outer : Scope) (tag : Tag) (inside : Pieces) (items : List Item) (root : Element)
+    (declared : List Declared) (scope : Scope) → IsElement outer tag items root declared
+    → AreItems (scope_within outer tag) inside items → LeadsTo outer tag inside path scope
+    → (e : Element) × NamesElementAt root path e × ResolvedIn scope e
 named_there [] outer tag inside items root declared scope h m l = (
   root,
   refl,
@@ -500,8 +523,10 @@ named_have_scopes bytes r s path e h =
 pub scopes_are_named : (bytes : List ℕ) (r : Reading) → Spells bytes r → ScopesAreNamed bytes r
 scopes_are_named bytes r s path scope h =
     let tokens = one_lexing _ s.tokens h.tokens s.lexed h.lexed in
-    let heads = one_heading s.document.declared h.declared s.document.pieces (chained h.before h.element) (sym s.document.tokens_are ∙ tokens ∙ h.tokens_are) in
+    let heads = one_heading s.document.declared h.declared s.document.pieces (chained h.before h.element)
+    (sym s.document.tokens_are ∙ tokens ∙ h.tokens_are) in
     let pieces = (one_content s.document.pieces (chained h.before h.element) [] [] tt tt (ap (λ (ts : List Token). ts ++ []) heads)).0 in
-    let begins = after_margin h.before h.element r h.margin (subst (λ (q : Pieces). BeginsWithRoot q r) pieces (root_begins s.document.pieces r s.document.rooted)) in
+    let begins = after_margin h.before h.element r h.margin (subst (λ (q : Pieces). BeginsWithRoot q r) pieces
+    (root_begins s.document.pieces r s.document.rooted)) in
     let root = root_there h.element h.tag h.inside h.after r h.is_element begins in
     named_there path root_scope h.tag h.inside root.0 r.root r.declared scope root.1 root.2 h.leads

@@ -50,7 +50,8 @@ kept p x xs s e true = refl
 kept p x xs s e false = ap (λ l. x ∷ l) (filter-append p xs (s ∷ []) ∙ (rw e refl))
 
 -- one more at the end is new, or changes nothing
-once_each-push : (xs : Texts) (s : List ℕ) → once_each (xs ++ s ∷ []) ≡ cond (among s (once_each xs)) (once_each xs) (once_each xs ++ s ∷ [])
+once_each-push : (xs : Texts) (s : List ℕ) → once_each (xs ++ s ∷ []) ≡ cond (among s (once_each xs)) (once_each xs)
+    (once_each xs ++ s ∷ [])
 once_each-push [] s = refl
 once_each-push (x ∷ xs) s = elim (cases_Bool (bytes_eq s x)) [
   | inl e ↦
@@ -58,7 +59,8 @@ once_each-push (x ∷ xs) s = elim (cases_Bool (bytes_eq s x)) [
       rw (once_each-push xs s, e) (ap (λ l. x ∷ l) (left_out (λ y. not (bytes_eq y x)) (once_each xs) s out (among s (once_each xs))))
   | inr e ↦
       let stays : not (bytes_eq s x) ≡ true = ap not e in
-      rw (once_each-push xs s, e, among-others s x (once_each xs) e) (kept (λ y. not (bytes_eq y x)) x (once_each xs) s stays (among s (once_each xs)))
+      rw (once_each-push xs s, e, among-others s x (once_each xs) e)
+      (kept (λ y. not (bytes_eq y x)) x (once_each xs) s stays (among s (once_each xs)))
 ]
 
 undeclared : (seen : Texts) (s : List ℕ) → is_declared s ≡ false → declared_among (seen ++ s ∷ []) ≡ declared_among seen
@@ -66,7 +68,8 @@ undeclared seen s e = ap once_each (filter-append is_declared seen (s ∷ []) �
 
 declared_among-push : (seen : Texts) (s : List ℕ) → is_declared s ≡ true
     → declared_among (seen ++ s ∷ []) ≡ cond (among s (declared_among seen)) (declared_among seen) (declared_among seen ++ s ∷ [])
-declared_among-push seen s e = ap once_each (filter-append is_declared seen (s ∷ []) ∙ (rw e refl)) ∙ once_each-push (filter is_declared seen) s
+declared_among-push seen s e =
+    ap once_each (filter-append is_declared seen (s ∷ []) ∙ (rw e refl)) ∙ once_each-push (filter is_declared seen) s
 
 pub adds_none : (xs : Texts) → AddsSpaces xs [] xs
 adds_none xs seen e = e ∙ ap declared_among (sym (append-nil seen))
@@ -87,7 +90,8 @@ adds_new xs s d new seen e =
     let k : among s (declared_among seen) ≡ false = ap (among s) (sym e) ∙ new in
     ap (λ l. l ++ s ∷ []) e ∙ sym (declared_among-push seen s d ∙ (rw k refl))
 
-pub is_some-prefix_rows : (letter : List ℕ) (n : ℕ) (s : List ℕ) (xs : Texts) → is_some (lookup (bytes_eq s) (numbered_prefixes letter n xs)) ≡ among s xs
+pub is_some-prefix_rows : (letter : List ℕ) (n : ℕ) (s : List ℕ) (xs : Texts)
+    → is_some (lookup (bytes_eq s) (numbered_prefixes letter n xs)) ≡ among s xs
 is_some-prefix_rows letter n s [] = refl
 is_some-prefix_rows letter n s (x ∷ xs) = elim (cases_Bool (bytes_eq s x)) [
   | inl e ↦ rw e refl
@@ -99,7 +103,8 @@ pub adds_prefixed : (xs : Texts) (s : List ℕ) → is_some (lookup (bytes_eq s)
 adds_prefixed xs s known = elim (cases_Bool (is_declared s)) [
   | inr d ↦ adds_undeclared xs s d
   | inl d ↦
-      let other : bytes_eq s xml_space ≡ false = not-true (bytes_eq s xml_space) (and_parts (not (bytes_eq s [])) (not (bytes_eq s xml_space)) d).1 in
+      let other : bytes_eq s xml_space ≡ false = not-true (bytes_eq s xml_space)
+      (and_parts (not (bytes_eq s [])) (not (bytes_eq s xml_space)) d).1 in
       adds_known xs s d (sym (is_some-prefix_rows (codes "n") 1 s xs) ∙ (rw other at known))
 ]
 
@@ -108,7 +113,8 @@ pub adds_no_space : (xs : Texts) (s : List ℕ) → s ≡ [] → AddsSpaces xs (
 adds_no_space xs s e = adds_undeclared xs s (ap is_declared e)
 
 -- one without a prefix, which is a namespace, is new
-pub adds_unprefixed : (xs ys : Texts) (s : List ℕ) → (s ≡ [] → ⊥) → is_some (lookup (bytes_eq s) (name_prefixes xs)) ≡ false → ys ≡ xs ++ s ∷ [] → AddsSpaces xs (s ∷ []) ys
+pub adds_unprefixed : (xs ys : Texts) (s : List ℕ) → (s ≡ [] → ⊥) → is_some (lookup (bytes_eq s) (name_prefixes xs)) ≡ false
+    → ys ≡ xs ++ s ∷ [] → AddsSpaces xs (s ∷ []) ys
 adds_unprefixed xs ys s some none is =
     let full : bytes_eq s [] ≡ false = false_from_ne_true (bytes_eq s []) (λ e. some (eq_tells s [] e)) in
     let parts = unprefixed s xs none in
@@ -116,16 +122,20 @@ adds_unprefixed xs ys s some none is =
     let new = adds_new xs s (rw (full, xml) refl) parts.1 in
     λ seen e. is ∙ new seen e
   where
-    unprefixed : (s : List ℕ) (xs : Texts) → is_some (lookup (bytes_eq s) (name_prefixes xs)) ≡ false → (bytes_eq s xml_space ≡ false) × (among s xs ≡ false)
+    unprefixed : (s : List ℕ) (xs : Texts) → is_some (lookup (bytes_eq s) (name_prefixes xs)) ≡ false
+        → (bytes_eq s xml_space ≡ false) × (among s xs ≡ false)
     unprefixed s xs none =
-        let off : bytes_eq s xml_space ≡ false = false_from_ne_true (bytes_eq s xml_space) (λ e. let h : true ≡ false = rw e at none in cc) in
+        let off : bytes_eq s xml_space ≡ false = false_from_ne_true (bytes_eq s xml_space)
+        (λ e. let h : true ≡ false = rw e at none in cc) in
         (off, sym (is_some-prefix_rows (codes "n") 1 s xs) ∙ (rw off at none))
 
-pub prefix_rows-push : (letter : List ℕ) (n : ℕ) (xs : Texts) (s : List ℕ) → numbered_prefixes letter n (xs ++ s ∷ []) ≡ numbered_prefixes letter n xs ++ (s, letter ++ numeral (n + length xs)) ∷ []
+pub prefix_rows-push : (letter : List ℕ) (n : ℕ) (xs : Texts) (s : List ℕ)
+    → numbered_prefixes letter n (xs ++ s ∷ []) ≡ numbered_prefixes letter n xs ++ (s, letter ++ numeral (n + length xs)) ∷ []
 prefix_rows-push letter n [] s = let e : n ≡ n + length {A = List ℕ} [] = omega arith in ap (λ (k : ℕ). (s, letter ++ numeral k) ∷ []) e
 prefix_rows-push letter n (x ∷ xs) s =
     let e : n + 1 + length xs ≡ n + suc (length xs) = omega arith in
-    ap (λ l. (x, letter ++ numeral n) ∷ l) (prefix_rows-push letter (n + 1) xs s ∙ ap (λ (k : ℕ). numbered_prefixes letter (n + 1) xs ++ (s, letter ++ numeral k) ∷ []) e)
+    ap (λ l. (x, letter ++ numeral n) ∷ l) (prefix_rows-push letter (n + 1) xs s
+    ∙ ap (λ (k : ℕ). numbered_prefixes letter (n + 1) xs ++ (s, letter ++ numeral k) ∷ []) e)
 
 abbrev Rows : Type 0
 Rows = List (List ℕ × List ℕ)
@@ -134,7 +144,8 @@ lookup-other : (p : List ℕ → Bool) (rows : Rows) (s label : List ℕ) → p 
 lookup-other p [] s label e = rw e refl
 lookup-other p (r ∷ rows) s label e = ap (cond (p r.0) (Some r.1)) (lookup-other p rows s label e)
 
-lookup-new : (p : List ℕ → Bool) (rows : Rows) (s label : List ℕ) → p s ≡ true → lookup p rows ≡ None → lookup p (rows ++ (s, label) ∷ []) ≡ Some label
+lookup-new : (p : List ℕ → Bool) (rows : Rows) (s label : List ℕ) → p s ≡ true → lookup p rows ≡ None
+    → lookup p (rows ++ (s, label) ∷ []) ≡ Some label
 lookup-new p [] s label e none = rw e refl
 lookup-new p (r ∷ rows) s label e none = elim (cases_Bool (p r.0)) [
   | inl f ↦ let h : Some r.1 ≡ None = rw f at none in cc
@@ -142,26 +153,34 @@ lookup-new p (r ∷ rows) s label e none = elim (cases_Bool (p r.0)) [
 ]
 
 -- a table from namespaces to prefixes, where one more is numbered
-one_row_more : (old new : List ℕ → Option (List ℕ)) (xs : Texts) (s label : List ℕ) → ((q : List ℕ) → old q ≡ lookup (bytes_eq q) (name_prefixes xs))
-    → ((q : List ℕ) → new q ≡ cond (is_eq (slice_cmp nat_cmp s q)) (Some label) (old q)) → label ≡ codes "n" ++ numeral (1 + length xs) → lookup (bytes_eq s) (name_prefixes xs) ≡ None
+one_row_more : (old new : List ℕ → Option (List ℕ)) (xs : Texts) (s label : List ℕ)
+    → ((q : List ℕ) → old q ≡ lookup (bytes_eq q) (name_prefixes xs))
+    → ((q : List ℕ) → new q ≡ cond (is_eq (slice_cmp nat_cmp s q)) (Some label) (old q)) → label ≡ codes "n" ++ numeral (1 + length xs)
+    → lookup (bytes_eq s) (name_prefixes xs) ≡ None
     → (q : List ℕ) → new q ≡ lookup (bytes_eq q) (name_prefixes (xs ++ s ∷ []))
 one_row_more old new xs s label was now is none q =
-    let rows : name_prefixes (xs ++ s ∷ []) ≡ name_prefixes xs ++ (s, codes "n" ++ numeral (1 + length xs)) ∷ [] = ap (λ l. (xml_space, codes "xml") ∷ l) (prefix_rows-push (codes "n") 1 xs s) in
+    let rows : name_prefixes (xs ++ s ∷ []) ≡ name_prefixes xs ++ (s, codes "n" ++ numeral (1 + length xs)) ∷ [] = ap
+    (λ l. (xml_space, codes "xml") ∷ l) (prefix_rows-push (codes "n") 1 xs s) in
     now q ∙ ap (λ b. cond b (Some label) (old q)) (sym (texts_ties s q)) ∙ row (bytes_eq s q) refl ∙ ap (lookup (bytes_eq q)) (sym rows)
   where
-    row : (b : Bool) → bytes_eq s q ≡ b → cond b (Some label) (old q) ≡ lookup (bytes_eq q) (name_prefixes xs ++ (s, codes "n" ++ numeral (1 + length xs)) ∷ [])
+    row : (b : Bool) → bytes_eq s q ≡ b → cond b (Some label) (old q) ≡ lookup (bytes_eq q)
+        (name_prefixes xs ++ (s, codes "n" ++ numeral (1 + length xs)) ∷ [])
     row true e =
         let same : s ≡ q = eq_tells s q e in
-        ap (λ l. Some l) is ∙ sym (lookup-new (bytes_eq q) (name_prefixes xs) s (codes "n" ++ numeral (1 + length xs)) (subst (λ t. bytes_eq t s ≡ true) same (eq_itself s)) (subst (λ t. lookup (bytes_eq t) (name_prefixes xs) ≡ None) same none))
+        ap (λ l. Some l) is ∙ sym (lookup-new (bytes_eq q) (name_prefixes xs) s (codes "n" ++ numeral (1 + length xs))
+        (subst (λ t. bytes_eq t s ≡ true) same (eq_itself s)) (subst (λ t. lookup (bytes_eq t) (name_prefixes xs) ≡ None) same none))
     row false e = was q ∙ sym (lookup-other (bytes_eq q) (name_prefixes xs) s (codes "n" ++ numeral (1 + length xs)) (apart s q e))
 
 -- the same as code makes it, with a copy of the namespace as the key, and another in the list
-pub keyed : (old new : List ℕ → Option (List ℕ)) (xs ys : Texts) (s key other label : List ℕ) → ((q : List ℕ) → old q ≡ lookup (bytes_eq q) (name_prefixes xs))
-    → ((q : List ℕ) → new q ≡ cond (is_eq (slice_cmp nat_cmp key q)) (Some label) (old q)) → key ≡ s → other ≡ s → ys ≡ xs ++ other ∷ [] → label ≡ codes "n" ++ numeral (length xs + 1)
+pub keyed : (old new : List ℕ → Option (List ℕ)) (xs ys : Texts) (s key other label : List ℕ)
+    → ((q : List ℕ) → old q ≡ lookup (bytes_eq q) (name_prefixes xs))
+    → ((q : List ℕ) → new q ≡ cond (is_eq (slice_cmp nat_cmp key q)) (Some label) (old q)) → key ≡ s → other ≡ s → ys ≡ xs ++ other ∷ []
+    → label ≡ codes "n" ++ numeral (length xs + 1)
     → lookup (bytes_eq s) (name_prefixes xs) ≡ None → (q : List ℕ) → new q ≡ lookup (bytes_eq q) (name_prefixes ys)
 keyed old new xs ys s key other label was now k o more is none q =
     let e : length xs + 1 ≡ 1 + length xs = omega arith in
-    one_row_more old new xs s label was (λ t. now t ∙ ap (λ x. cond (is_eq (slice_cmp nat_cmp x t)) (Some label) (old t)) k) (is ∙ ap (λ n. codes "n" ++ numeral n) e) none q
+    one_row_more old new xs s label was (λ t. now t ∙ ap (λ x. cond (is_eq (slice_cmp nat_cmp x t)) (Some label) (old t)) k)
+    (is ∙ ap (λ n. codes "n" ++ numeral n) e) none q
     ∙ ap (λ l. lookup (bytes_eq q) (name_prefixes l)) (sym (more ∙ ap (λ x. xs ++ x ∷ []) o))
 
 -- the lack of a namespace has no prefix where nothing is numbered
@@ -169,7 +188,8 @@ pub none_first : (xs : Texts) → xs ≡ [] → lookup (bytes_eq []) (name_prefi
 none_first xs e = ap (λ l. lookup (bytes_eq []) (name_prefixes l)) e
 
 -- nor where one more namespace is
-pub none_more : (xs ys : Texts) (s other : List ℕ) → s ≢ [] → other ≡ s → ys ≡ xs ++ other ∷ [] → lookup (bytes_eq []) (name_prefixes xs) ≡ None
+pub none_more : (xs ys : Texts) (s other : List ℕ) → s ≢ [] → other ≡ s → ys ≡ xs ++ other ∷ []
+    → lookup (bytes_eq []) (name_prefixes xs) ≡ None
     → lookup (bytes_eq []) (name_prefixes ys) ≡ None
 none_more xs ys s other some o more none =
     let off : bytes_eq [] s ≡ false = false_from_ne_true (bytes_eq [] s) (λ e. some (sym (eq_tells [] s e))) in

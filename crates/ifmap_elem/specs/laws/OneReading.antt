@@ -41,7 +41,8 @@ nothing_is (piece.Section text after) r s h e = let wrong : false ≡ true = sub
 nothing_is (piece.Empty tag after) r s h e = let wrong : false ≡ true = subst Closes e h in cc
 nothing_is (piece.Start tag inside after) r s h e = let wrong : false ≡ true = subst Closes e h in cc
 
-branch_seam : (tag : Tag) (inside after : Pieces) (r : List Token) → tokens_of (piece.Start tag inside after) ++ r ≡ Start tag ∷ (tokens_of inside ++ (End tag.name ∷ (tokens_of after ++ r)))
+branch_seam : (tag : Tag) (inside after : Pieces) (r : List Token)
+    → tokens_of (piece.Start tag inside after) ++ r ≡ Start tag ∷ (tokens_of inside ++ (End tag.name ∷ (tokens_of after ++ r)))
 branch_seam tag inside after r = ap (λ ts. Start tag ∷ ts) (append_assoc (tokens_of inside) (End tag.name ∷ tokens_of after) r)
 
 -- tokens are those of one pieces
@@ -95,7 +96,8 @@ one_attribute scope a t u l m =
     let value = l.value_is ∙ sym m.value_is in
     λ i. record { name = record { space = space i; local = local i }; value = value i }
 
-pub one_list_of_attributes : (scope : Scope) (as' : List Assignment) (ts us : List Attribute) → AreAttributes scope as' ts → AreAttributes scope as' us → ts ≡ us
+pub one_list_of_attributes : (scope : Scope) (as' : List Assignment) (ts us : List Attribute) → AreAttributes scope as' ts
+    → AreAttributes scope as' us → ts ≡ us
 one_list_of_attributes scope [] [] [] l m = refl
 one_list_of_attributes scope [] (t ∷ ts) us l m = absurd l
 one_list_of_attributes scope [] [] (u ∷ us) l m = absurd m
@@ -106,20 +108,26 @@ one_list_of_attributes scope (a ∷ as') (t ∷ ts) (u ∷ us) l m =
     let tail : ts ≡ us = one_list_of_attributes scope as' ts us l.1 m.1 in
     cc
 
-pub one_name : (outer : Scope) (tag : Tag) (n o : Name) (as' bs : List Attribute) → NamesElement outer tag n as' → NamesElement outer tag o bs → (n ≡ o) × (as' ≡ bs)
+pub one_name : (outer : Scope) (tag : Tag) (n o : Name) (as' bs : List Attribute) → NamesElement outer tag n as'
+    → NamesElement outer tag o bs → (n ≡ o) × (as' ≡ bs)
 one_name outer tag n o as' bs l m =
     let found : Some n.space ≡ Some o.space = sym l.space_is ∙ m.space_is in
     let space : n.space ≡ o.space = cc in
-    let local = l.local_is ∙ sym m.local_is in
-    (λ i. record { space = space i; local = local i }, one_list_of_attributes (scope_within outer tag) (plain_assignments tag) as' bs l.attributes_are m.attributes_are)
+    let local = l.local_is ∙ sym m.local_is in (
+      λ i. record { space = space i; local = local i },
+      one_list_of_attributes (scope_within outer tag)
+          (plain_assignments tag) as' bs l.attributes_are m.attributes_are,
+    )
 
-one_element : (outer : Scope) (tag : Tag) (items : List Item) (e f : Element) (d c : List Declared) → IsElement outer tag items e d → IsElement outer tag items f c → (e ≡ f) × (d ≡ c)
+one_element : (outer : Scope) (tag : Tag) (items : List Item) (e f : Element) (d c : List Declared) → IsElement outer tag items e d
+    → IsElement outer tag items f c → (e ≡ f) × (d ≡ c)
 one_element outer tag items e f d c l m =
     let named = one_name outer tag e.name f.name e.attributes f.attributes l.named m.named in
     let children = l.children_are ∙ sym m.children_are in
     (λ i. record { name = named.0 i; attributes = named.1 i; children = children i }, l.declared_are ∙ sym m.declared_are)
 
-inner_items : (outer : Scope) (tag : Tag) (i j : List Item) (e f : Element) (d c : List Declared) (x y k l : List Item) → i ≡ j → x ≡ y → k ≡ Inner e d ∷ x → l ≡ Inner f c ∷ y
+inner_items : (outer : Scope) (tag : Tag) (i j : List Item) (e f : Element) (d c : List Declared) (x y k l : List Item) → i ≡ j → x ≡ y
+    → k ≡ Inner e d ∷ x → l ≡ Inner f c ∷ y
     → IsElement outer tag i e d → IsElement outer tag j f c → k ≡ l
 inner_items outer tag i j e f d c x y k l inner after p q r s =
     let both = one_element outer tag j e f d c (subst (λ (z : List Item). IsElement outer tag z e d) inner r) s in
@@ -130,14 +138,18 @@ inner_items outer tag i j e f d c x y k l inner after p q r s =
 pub one_meaning : (scope : Scope) (c : Pieces) (i j : List Item) → AreItems scope c i → AreItems scope c j → i ≡ j
 one_meaning scope Nothing i j l m = l ∙ sym m
 one_meaning scope (piece.Comment after) i j l m = one_meaning scope after i j l m
-one_meaning scope (piece.Characters blank text after) i j l m = l.1 ∙ ap (λ items. Run text ∷ items) (one_meaning scope after l.0 m.0 l.2 m.2) ∙ sym m.1
-one_meaning scope (piece.Section text after) i j l m = l.1 ∙ ap (λ items. Run text ∷ items) (one_meaning scope after l.0 m.0 l.2 m.2) ∙ sym m.1
+one_meaning scope (piece.Characters blank text after) i j l m =
+    l.1 ∙ ap (λ items. Run text ∷ items) (one_meaning scope after l.0 m.0 l.2 m.2) ∙ sym m.1
+one_meaning scope (piece.Section text after) i j l m =
+    l.1 ∙ ap (λ items. Run text ∷ items) (one_meaning scope after l.0 m.0 l.2 m.2) ∙ sym m.1
 one_meaning scope (piece.Empty tag after) i j l m =
     inner_items scope tag [] [] l.0 m.0 l.1 m.1 l.2 m.2 i j refl (one_meaning scope after l.2 m.2 l.5 m.5) l.3 m.3 l.4 m.4
 one_meaning scope (piece.Start tag inside after) i j l m =
-    inner_items scope tag l.0 m.0 l.1 m.1 l.2 m.2 l.3 m.3 i j (one_meaning (scope_within scope tag) inside l.0 m.0 l.5 m.5) (one_meaning scope after l.3 m.3 l.7 m.7) l.4 m.4 l.6 m.6
+    inner_items scope tag l.0 m.0 l.1 m.1 l.2 m.2 l.3 m.3 i j (one_meaning (scope_within scope tag) inside l.0 m.0 l.5 m.5)
+    (one_meaning scope after l.3 m.3 l.7 m.7) l.4 m.4 l.6 m.6
 
-same_reading : (tag : Tag) (items : List Item) (r s : Reading) → IsElement root_scope tag items r.root r.declared → IsElement root_scope tag items s.root s.declared → r ≡ s
+same_reading : (tag : Tag) (items : List Item) (r s : Reading) → IsElement root_scope tag items r.root r.declared
+    → IsElement root_scope tag items s.root s.declared → r ≡ s
 same_reading tag items r s l m =
     let both = one_element root_scope tag items r.root s.root r.declared s.declared l m in
     λ i. record { root = both.0 i; declared = both.1 i }
@@ -171,7 +183,8 @@ pub one_document : (ts : List Token) (r s : Reading) → IsDocument ts r → IsD
 one_document ts r s l m =
     let tokens = one_heading l.declared m.declared l.pieces m.pieces (sym l.tokens_are ∙ m.tokens_are) in
     let pieces = (one_content l.pieces m.pieces [] [] tt tt (ap (λ us. us ++ []) tokens)).0 in
-    one_root m.pieces r s (subst (λ (c : Pieces). BeginsWithRoot c r) pieces (root_begins l.pieces r l.rooted)) (root_begins m.pieces s m.rooted)
+    one_root m.pieces r s (subst (λ (c : Pieces). BeginsWithRoot c r) pieces (root_begins l.pieces r l.rooted))
+    (root_begins m.pieces s m.rooted)
 
 pub one_lexing : (bytes : List ℕ) (ts us : List Token) → To TakesToken bytes ts [] → To TakesToken bytes us [] → ts ≡ us
 one_lexing bytes ts us l m =

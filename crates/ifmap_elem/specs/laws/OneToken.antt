@@ -80,7 +80,8 @@ itself q = let same : (q == q) ≡ true = grind (arith, nat_tests) in rw same re
 
 pub one_quoted : (bytes v w r s : List ℕ) → TakesQuoted bytes v r → TakesQuoted bytes w s → (v ≡ w) × (r ≡ s)
 one_quoted bytes v w r s l m =
-    let first = cut is_white l.before m.before (0x3D ∷ (l.after ++ (l.quote ∷ (v ++ (l.quote ∷ r))))) (0x3D ∷ (m.after ++ (m.quote ∷ (w ++ (m.quote ∷ s)))))
+    let first = cut is_white l.before m.before (0x3D ∷ (l.after ++ (l.quote ∷ (v ++ (l.quote ∷ r)))))
+    (0x3D ∷ (m.after ++ (m.quote ∷ (w ++ (m.quote ∷ s)))))
     l.white_before m.white_before refl refl (sym l.bytes_are ∙ m.bytes_are) in
     let equals : 0x3D ∷ (l.after ++ (l.quote ∷ (v ++ (l.quote ∷ r)))) ≡ 0x3D ∷ (m.after ++ (m.quote ∷ (w ++ (m.quote ∷ s)))) = first.1 in
     let behind : l.after ++ (l.quote ∷ (v ++ (l.quote ∷ r))) ≡ m.after ++ (m.quote ∷ (w ++ (m.quote ∷ s))) = cc in
@@ -99,11 +100,13 @@ one_quoted bytes v w r s l m =
 pub quoted_stops : (bytes v r : List ℕ) → TakesQuoted bytes v r → Stops is_name_byte bytes
 quoted_stops bytes v r t = subst (Stops is_name_byte) (sym t.bytes_are) (name_stops_at_white t.before _ t.white_before refl)
 
-pub one_assignment : (bytes : List ℕ) (a b : Assignment) (r s : List ℕ) → TakesAssignment bytes a r → TakesAssignment bytes b s → (a ≡ b) × (r ≡ s)
+pub one_assignment : (bytes : List ℕ) (a b : Assignment) (r s : List ℕ) → TakesAssignment bytes a r → TakesAssignment bytes b s
+    → (a ≡ b) × (r ≡ s)
 one_assignment bytes a b r s l m =
     let first = cut is_white l.white m.white (name_bytes a.name ++ l.after) (name_bytes b.name ++ m.after) l.is_white m.is_white
     (white_stops_at_name a.name l.after l.is_name) (white_stops_at_name b.name m.after m.is_name) (sym l.bytes_are ∙ m.bytes_are) in
-    let second = name_cut a.name b.name l.after m.after l.is_name m.is_name (quoted_stops l.after l.written r l.given) (quoted_stops m.after m.written s m.given) first.1 in
+    let second = name_cut a.name b.name l.after m.after l.is_name m.is_name (quoted_stops l.after l.written r l.given)
+    (quoted_stops m.after m.written s m.given) first.1 in
     let third = one_quoted m.after l.written m.written r s (subst (λ (x : List ℕ). TakesQuoted x l.written r) second.1 l.given) m.given in
     let value = one_expansion value_part m.written a.value b.value (subst (λ (x : List ℕ). IsValue x a.value) third.0 l.means) m.means in
     (λ k. record { name = second.0 k; value = value k }, third.1)
@@ -136,25 +139,31 @@ stops_name (b ∷ bs) ends = ends.1
 
 pub no_assignment : (end : List ℕ) (a : Assignment) (rest : List ℕ) → IsTagEnd end → TakesAssignment end a rest → ⊥
 no_assignment bytes a rest i t =
-    let both = cut is_white i.0 t.white i.1 (name_bytes a.name ++ t.after) i.3 t.is_white (stops_white i.1 i.4) (white_stops_at_name a.name t.after t.is_name) (sym i.2 ∙ t.bytes_are) in
+    let both = cut is_white i.0 t.white i.1 (name_bytes a.name ++ t.after) i.3 t.is_white (stops_white i.1 i.4)
+    (white_stops_at_name a.name t.after t.is_name) (sym i.2 ∙ t.bytes_are) in
     no_name_ends i.1 a.name t.after t.is_name i.4 both.1
 
 -- what stands behind a tag's name is no byte of a name
-pub assigned_stops : (bytes : List ℕ) (as' : List Assignment) (white end : List ℕ) → IsWhite white → EndsTag end → To TakesAssignment bytes as' (white ++ end) → Stops is_name_byte bytes
+pub assigned_stops : (bytes : List ℕ) (as' : List Assignment) (white end : List ℕ) → IsWhite white → EndsTag end
+    → To TakesAssignment bytes as' (white ++ end) → Stops is_name_byte bytes
 assigned_stops bytes [] white end f ends l = subst (Stops is_name_byte) (sym l) (name_stops_at_white white end f (stops_name end ends))
-assigned_stops bytes (a ∷ as') white end f ends l = subst (Stops is_name_byte) (sym l.1.bytes_are) (some_white l.1.white l.1.some_white l.1.is_white)
+assigned_stops bytes (a ∷ as') white end f ends l =
+    subst (Stops is_name_byte) (sym l.1.bytes_are) (some_white l.1.white l.1.some_white l.1.is_white)
   where
     some_white : (xs : List ℕ) → xs ≢ [] → IsWhite xs → Stops is_name_byte (xs ++ (name_bytes a.name ++ l.1.after))
     some_white [] some g = absurd (some refl)
     some_white (x ∷ xs) some g = white_is_no_name x g.0
 
-pub one_tag : (bytes : List ℕ) (a b : Tag) (end after : List ℕ) → EndsTag end → EndsTag after → TakesTag bytes a end → TakesTag bytes b after → (a ≡ b) × (end ≡ after)
+pub one_tag : (bytes : List ℕ) (a b : Tag) (end after : List ℕ) → EndsTag end → EndsTag after → TakesTag bytes a end
+    → TakesTag bytes b after → (a ≡ b) × (end ≡ after)
 one_tag bytes a b end after ends also l m =
     let e : 0x3C ∷ (name_bytes a.name ++ l.after) ≡ 0x3C ∷ (name_bytes b.name ++ m.after) = sym l.bytes_are ∙ m.bytes_are in
     let named : name_bytes a.name ++ l.after ≡ name_bytes b.name ++ m.after = cc in
     let first = name_cut a.name b.name l.after m.after l.is_name m.is_name
-    (assigned_stops l.after a.assignments l.white end l.is_white ends l.assigned) (assigned_stops m.after b.assignments m.white after m.is_white also m.assigned) named in
-    let second = one_list TakesAssignment IsTagEnd no_assignment one_assignment m.after a.assignments b.assignments (l.white ++ end) (m.white ++ after)
+    (assigned_stops l.after a.assignments l.white end l.is_white ends l.assigned)
+    (assigned_stops m.after b.assignments m.white after m.is_white also m.assigned) named in
+    let second = one_list TakesAssignment IsTagEnd no_assignment one_assignment m.after a.assignments b.assignments (l.white ++ end)
+    (m.white ++ after)
     (l.white, end, refl, l.is_white, ends) (m.white, after, refl, m.is_white, also)
     (subst (λ (x : List ℕ). To TakesAssignment x a.assignments (l.white ++ end)) first.1 l.assigned) m.assigned in
     let third = cut is_white l.white m.white end after l.is_white m.is_white (stops_white end ends) (stops_white after also) second.1 in
@@ -192,7 +201,8 @@ quoted_no_end bytes v rest f t =
     let q : AllAre no_end (t.quote ∷ []) = (quote_no_end t.quote t.is_quote, tt) in
     let value = all_append no_end v (t.quote ∷ []) f q in
     let behind = all_append no_end t.after (t.quote ∷ (v ++ (t.quote ∷ []))) (white_no_end t.after t.white_after) (q.0, value) in
-    let all = all_append no_end t.before (0x3D ∷ (t.after ++ (t.quote ∷ (v ++ (t.quote ∷ []))))) (white_no_end t.before t.white_before) (refl, behind) in
+    let all = all_append no_end t.before (0x3D ∷ (t.after ++ (t.quote ∷ (v ++ (t.quote ∷ []))))) (white_no_end t.before t.white_before)
+    (refl, behind) in
     (t.before ++ (0x3D ∷ (t.after ++ (t.quote ∷ (v ++ (t.quote ∷ []))))), t.bytes_are ∙ seam t.before t.after v rest t.quote, all)
 
 module _ (name : List ℕ) (Allows : List ℕ → Type 0) (plain : AllAre no_end name) (values : (v : List ℕ) → Allows v → AllAre no_end v) where
@@ -208,7 +218,8 @@ module _ (name : List ℕ) (Allows : List ℕ → Type 0) (plain : AllAre no_end
   optional_no_end bytes rest t = elim t [ inl e ↦ ([], e, tt) | inr s ↦ setting_no_end bytes rest s ]
 
 joined_no_end : (bytes mid rest : List ℕ) → TakesNoEnd bytes mid → TakesNoEnd mid rest → TakesNoEnd bytes rest
-joined_no_end bytes mid rest l m = (l.0 ++ m.0, l.1 ∙ ap (λ x. l.0 ++ x) m.1 ∙ sym (append_assoc l.0 m.0 rest), all_append no_end l.0 m.0 l.2 m.2)
+joined_no_end bytes mid rest l m =
+    (l.0 ++ m.0, l.1 ∙ ap (λ x. l.0 ++ x) m.1 ∙ sym (append_assoc l.0 m.0 rest), all_append no_end l.0 m.0 l.2 m.2)
 
 -- no upper case letter, digit or dash is written by `>`
 raised_no_end : (v w : List ℕ) → map to_ascii_uppercase v ≡ w → AllAre no_end w → AllAre no_end v
@@ -236,9 +247,17 @@ declaration_no_end bytes rest t =
     (λ v e. subst (AllAre no_end) (sym e) (each (codes "1.0") refl)) t.first t.second t.version in
     let third = optional_no_end (codes "encoding") (λ v. map to_ascii_uppercase v ≡ codes "UTF-8") (each (codes "encoding") refl)
     (λ v e. raised_no_end v (codes "UTF-8") e (each (codes "UTF-8") refl)) t.second t.third t.encoding in
-    let fourth = optional_no_end (codes "standalone") (λ v. (v ≡ codes "yes") ⊎ (v ≡ codes "no")) (each (codes "standalone") refl) yes_or_no t.third (t.white ++ (codes "?>" ++ rest)) t.standalone in
-    let last : TakesNoEnd (t.white ++ (codes "?>" ++ rest)) (0x3E ∷ rest) = (t.white ++ codes "?", sym (append_assoc t.white (codes "?") (0x3E ∷ rest)), all_append no_end t.white (codes "?") (white_no_end t.white t.is_white) (refl, tt)) in
-    joined_no_end bytes t.first _ first (joined_no_end t.first t.second _ second (joined_no_end t.second t.third _ third (joined_no_end t.third _ _ fourth last)))
+    let fourth = optional_no_end (codes "standalone") (λ v. (v ≡ codes "yes") ⊎ (v ≡ codes "no"))
+    (each (codes "standalone") refl) yes_or_no t.third (t.white ++ (codes "?>" ++ rest)) t.standalone in
+    let last : TakesNoEnd (t.white ++ (codes "?>" ++ rest)) (0x3E ∷ rest) = (
+      t.white ++ codes "?",
+      sym
+          (append_assoc t.white (codes "?") (0x3E ∷ rest)),
+      all_append no_end t.white (codes "?") (white_no_end t.white t.is_white)
+          (refl, tt),
+    ) in
+    joined_no_end bytes t.first _ first (joined_no_end t.first t.second _ second
+    (joined_no_end t.second t.third _ third (joined_no_end t.third _ _ fourth last)))
   where
     yes_or_no : (v : List ℕ) → (v ≡ codes "yes") ⊎ (v ≡ codes "no") → AllAre no_end v
     yes_or_no v e = elim e [
@@ -282,7 +301,8 @@ name_kind [] r some f = absurd (some refl)
 name_kind (b ∷ bs) r some f = rw (no_name_byte b 0x3F refl f.0, no_name_byte b 0x2F refl f.0, no_name_byte b 0x21 refl f.0) refl
 
 tag_kind : (bytes : List ℕ) (tag : Tag) (end : List ℕ) → TakesTag bytes tag end → kind_at bytes ≡ 4
-tag_kind bytes tag end t = ap kind_at t.bytes_are ∙ name_kind (name_bytes tag.name) t.after (name_is_some tag.name t.is_name) (name_are_bytes tag.name t.is_name)
+tag_kind bytes tag end t =
+    ap kind_at t.bytes_are ∙ name_kind (name_bytes tag.name) t.after (name_is_some tag.name t.is_name) (name_are_bytes tag.name t.is_name)
 
 text_kind : (own r : List ℕ) → own ≢ [] → AllAre (λ b. not (b == 0x3C)) own → kind_at (own ++ r) ≡ 1
 text_kind [] r some f = absurd (some refl)
@@ -308,14 +328,16 @@ one_comment bytes r s l m =
 
 one_section : (bytes t u r s : List ℕ) → TakesToken bytes (Section t) r → TakesToken bytes (Section u) s → (t ≡ u) × (r ≡ s)
 one_section bytes t u r s l m =
-    let e : codes "<![CDATA[" ++ (l.0 ++ (codes "]]>" ++ r)) ≡ codes "<![CDATA[" ++ (m.0 ++ (codes "]]>" ++ s)) = sym l.1.bytes_are ∙ m.1.bytes_are in
+    let e : codes "<![CDATA[" ++ (l.0 ++ (codes "]]>" ++ r)) ≡ codes "<![CDATA[" ++ (m.0 ++ (codes "]]>" ++ s)) = sym l.1.bytes_are
+    ∙ m.1.bytes_are in
     let inside : l.0 ++ (codes "]]>" ++ r) ≡ m.0 ++ (codes "]]>" ++ s) = cc in
     let both = bracket_cut l.0 m.0 r s l.2 m.2 inside in
     (l.3 ∙ ap line_ends both.0 ∙ sym m.3, both.1)
 
 one_end : (bytes : List ℕ) (q u : Qualified) (r s : List ℕ) → TakesEnd bytes q r → TakesEnd bytes u s → (q ≡ u) × (r ≡ s)
 one_end bytes q u r s l m =
-    let e : codes "</" ++ (name_bytes q ++ (l.white ++ (codes ">" ++ r))) ≡ codes "</" ++ (name_bytes u ++ (m.white ++ (codes ">" ++ s))) = sym l.bytes_are ∙ m.bytes_are in
+    let e : codes "</" ++ (name_bytes q ++ (l.white ++ (codes ">" ++ r))) ≡ codes "</" ++ (name_bytes u ++ (m.white ++ (codes
+    ">" ++ s))) = sym l.bytes_are ∙ m.bytes_are in
     let inside : name_bytes q ++ (l.white ++ (codes ">" ++ r)) ≡ name_bytes u ++ (m.white ++ (codes ">" ++ s)) = cc in
     let first = name_cut q u (l.white ++ (codes ">" ++ r)) (m.white ++ (codes ">" ++ s)) l.is_name m.is_name
     (name_stops_at_white l.white (codes ">" ++ r) l.is_white refl) (name_stops_at_white m.white (codes ">" ++ s) m.is_white refl) inside in
@@ -327,9 +349,11 @@ pub text_stops : (rest : List ℕ) → EndsText rest → Stops (λ b. not (b == 
 text_stops [] e = tt
 text_stops (b ∷ bs) e = subst (λ (n : ℕ). not (n == 0x3C) ≡ false) (sym e) refl
 
-one_text : (bytes : List ℕ) (a b : Bool) (t u r s : List ℕ) → TakesText bytes a t r → TakesText bytes b u s → (Characters a t ≡ Characters b u) × (r ≡ s)
+one_text : (bytes : List ℕ) (a b : Bool) (t u r s : List ℕ) → TakesText bytes a t r → TakesText bytes b u s
+    → (Characters a t ≡ Characters b u) × (r ≡ s)
 one_text bytes a b t u r s l m =
-    let both = cut (λ b. not (b == 0x3C)) l.own m.own r s l.no_tag m.no_tag (text_stops r l.ends) (text_stops s m.ends) (sym l.bytes_are ∙ m.bytes_are) in
+    let both = cut (λ b. not (b == 0x3C)) l.own m.own r s l.no_tag m.no_tag (text_stops r l.ends) (text_stops s m.ends)
+    (sym l.bytes_are ∙ m.bytes_are) in
     let blank : a ≡ b = l.blank_is ∙ ap (list_all is_white) both.0 ∙ sym m.blank_is in
     let text : t ≡ u = one_expansion text_part m.own t u (subst (λ (x : List ℕ). IsText x t) both.0 l.means) m.means in
     (cc, both.1)
@@ -337,7 +361,8 @@ one_text bytes a b t u r s l m =
 other_kinds : (bytes : List ℕ) (t u : Token) (r s : List ℕ) → TakesToken bytes t r → TakesToken bytes u s → kind_of t ≡ kind_of u
 other_kinds bytes t u r s l m = sym (kind_is bytes t r l) ∙ kind_is bytes u s m
 
-tag_ends : (bytes : List ℕ) (a b : Tag) (end after : List ℕ) → EndsTag end → EndsTag after → TakesTag bytes a end → TakesTag bytes b after → end ≡ after
+tag_ends : (bytes : List ℕ) (a b : Tag) (end after : List ℕ) → EndsTag end → EndsTag after → TakesTag bytes a end → TakesTag bytes b after
+    → end ≡ after
 tag_ends bytes a b end after i j l m = (one_tag bytes a b end after i j l m).1
 
 pub one_token : (bytes : List ℕ) (t u : Token) (r s : List ℕ) → TakesToken bytes t r → TakesToken bytes u s → (t ≡ u) × (r ≡ s)

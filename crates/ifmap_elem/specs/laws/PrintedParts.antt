@@ -41,14 +41,21 @@ module _ (marked : ℕ → Bool) (name_of : ℕ → List ℕ) (write : ℕ → L
 
   -- a reference stands at the front
   abbrev takes_reference : (b : ℕ) (rest : List ℕ) → marked b ≡ true → TakesPart (write b ++ rest) (Reference b) rest
-  takes_reference b rest m =
-      (name_of b, ap (λ l. l ++ rest) (w.reference b m) ∙ ap (λ l. 0x26 ∷ l) (append_assoc (name_of b) (0x3B ∷ []) rest), w.names b m, w.refers b m)
+  takes_reference b rest m = (
+    name_of b,
+    ap (λ l. l ++ rest) (w.reference b m) ∙ ap (λ l. 0x26 ∷ l)
+        (append_assoc (name_of b) (0x3B ∷ []) rest),
+    w.names b m,
+    w.refers b m,
+  )
 
   no_ampersand : (b : ℕ) → marked b ≡ false → not (b == 0x26) ≡ true
-  no_ampersand b m = ap not (is_other b 0x26 (λ e. let wrong : true ≡ false = sym w.ampersand ∙ subst (λ (n : ℕ). marked n ≡ false) e m in cc))
+  no_ampersand b m =
+      ap not (is_other b 0x26 (λ e. let wrong : true ≡ false = sym w.ampersand ∙ subst (λ (n : ℕ). marked n ≡ false) e m in cc))
 
   -- a plain byte before parts
-  takes_plain : (b : ℕ) (bytes : List ℕ) (parts : List Part) → marked b ≡ false → To TakesPart bytes parts [] → To TakesPart (b ∷ bytes) (with_plain b parts) []
+  takes_plain : (b : ℕ) (bytes : List ℕ) (parts : List Part) → marked b ≡ false → To TakesPart bytes parts []
+      → To TakesPart (b ∷ bytes) (with_plain b parts) []
   takes_plain b bytes [] m l = ([], (ap (λ x. b ∷ x) l, λ e. cc, (no_ampersand b m, tt), tt), refl)
   takes_plain b bytes (Plain run ∷ parts) m l =
       (l.0, (ap (λ x. b ∷ x) l.1.0, λ e. cc, (no_ampersand b m, l.1.2), l.1.3), l.2)
@@ -63,17 +70,22 @@ module _ (marked : ℕ → Bool) (name_of : ℕ → List ℕ) (write : ℕ → L
   ]
 
   -- what the parts add
-  module _ (adds : Part → List ℕ) (whole : (run : List ℕ) → List ℕ) (runs : (run : List ℕ) → adds (Plain run) ≡ whole run) (none : whole [] ≡ [])
-      (next : (b : ℕ) (run : List ℕ) → marked b ≡ false → whole (b ∷ run) ≡ b ∷ whole run) (references : (c : ℕ) → adds (Reference c) ≡ encode_utf8 c) where
+  module _ (adds : Part → List ℕ) (whole : (run : List ℕ) → List ℕ) (runs : (run : List ℕ) → adds (Plain run) ≡ whole run)
+      (none : whole [] ≡ [])
+      (next : (b : ℕ) (run : List ℕ) → marked b ≡ false → whole (b ∷ run) ≡ b ∷ whole run)
+      (references : (c : ℕ) → adds (Reference c) ≡ encode_utf8 c) where
     adds_plain : (b : ℕ) (parts : List Part) → marked b ≡ false → flat_map adds (with_plain b parts) ≡ b ∷ flat_map adds parts
     adds_plain b [] m = ap (λ x. x ++ []) (runs (b ∷ []) ∙ next b [] m ∙ ap (λ x. b ∷ x) none)
-    adds_plain b (Plain run ∷ parts) m = ap (λ x. x ++ flat_map adds parts) (runs (b ∷ run) ∙ next b run m ∙ ap (λ x. b ∷ x) (sym (runs run)))
-    adds_plain b (Reference c ∷ parts) m = ap (λ x. x ++ flat_map adds (Reference c ∷ parts)) (runs (b ∷ []) ∙ next b [] m ∙ ap (λ x. b ∷ x) none)
+    adds_plain b (Plain run ∷ parts) m =
+        ap (λ x. x ++ flat_map adds parts) (runs (b ∷ run) ∙ next b run m ∙ ap (λ x. b ∷ x) (sym (runs run)))
+    adds_plain b (Reference c ∷ parts) m =
+        ap (λ x. x ++ flat_map adds (Reference c ∷ parts)) (runs (b ∷ []) ∙ next b [] m ∙ ap (λ x. b ∷ x) none)
 
     pub adds_all : (bs : List ℕ) → bs ≡ flat_map adds (parts_of bs)
     adds_all [] = refl
     adds_all (b ∷ bs) = elim (cases_Bool (marked b)) [
-      | inl m ↦ rw m (ap (λ x. b ∷ x) (adds_all bs) ∙ ap (λ x. x ++ flat_map adds (parts_of bs)) (sym (references b ∙ encode_ascii b (w.ascii b m))))
+      | inl m ↦ rw m (ap (λ x. b ∷ x) (adds_all bs) ∙ ap (λ x. x ++ flat_map adds (parts_of bs))
+          (sym (references b ∙ encode_ascii b (w.ascii b m))))
       | inr m ↦ rw m (ap (λ x. b ∷ x) (adds_all bs) ∙ sym (adds_plain b (parts_of bs) m))
     ]
 
@@ -88,7 +100,8 @@ module _ (marked : ℕ → Bool) (name_of : ℕ → List ℕ) (write : ℕ → L
       (λ i. plain_high b high i ++ high_bytes bs f.1 i)
     where
       plain_high : (b : ℕ) → 128 ≤ b → write b ≡ b ∷ []
-      plain_high b high = elim (cases_Bool (marked b)) [ inl m ↦ let low : b < 128 = w.ascii b m in absurd (omega arith) | inr m ↦ w.plain b m ]
+      plain_high b high =
+          elim (cases_Bool (marked b)) [ inl m ↦ let low : b < 128 = w.ascii b m in absurd (omega arith) | inr m ↦ w.plain b m ]
 
   bytes_high : (c : ℕ) → 128 ≤ c → AllAre (λ b. nat_le 128 b) (encode_utf8 c)
   bytes_high c high =
@@ -97,7 +110,8 @@ module _ (marked : ℕ → Bool) (name_of : ℕ → List ℕ) (write : ℕ → L
     where
       at_place : (k : ℕ) → k < length (encode_utf8 c) → nat_le 128 (get_or (encode_utf8 c) k 0) ≡ true
       at_place k l = elim (cases_lt (get_or (encode_utf8 c) k 0) 128) [
-        | inl low ↦ let same : c ≡ get_or (encode_utf8 c) k 0 = inside_one c [] (encode_utf8 c) k (sym (append-nil (encode_utf8 c))) l low in absurd (omega arith)
+        | inl low ↦ let same : c ≡ get_or (encode_utf8 c) k 0 = inside_one c [] (encode_utf8 c) k
+            (sym (append-nil (encode_utf8 c))) l low in absurd (omega arith)
         | inr g ↦ grind (arith, nat_tests)
       ]
 
@@ -111,19 +125,25 @@ module _ (marked : ℕ → Bool) (name_of : ℕ → List ℕ) (write : ℕ → L
   ]
     where
       high_plain : 128 ≤ c → write c ≡ c ∷ []
-      high_plain high = elim (cases_Bool (marked c)) [ inl m ↦ let low : c < 128 = w.ascii c m in absurd (omega arith) | inr m ↦ w.plain c m ]
+      high_plain high =
+          elim (cases_Bool (marked c)) [ inl m ↦ let low : c < 128 = w.ascii c m in absurd (omega arith) | inr m ↦ w.plain c m ]
 
   all_written : (cs : List ℕ) → flat_map write (encode_utf8_all cs) ≡ encode_utf8_all (flat_map write cs)
   all_written [] = refl
   all_written (c ∷ cs) =
-      flat_map-append write (encode_utf8 c) (encode_utf8_all cs) ∙ (λ i. one_written c i ++ all_written cs i) ∙ sym (encodes-append (write c) (flat_map write cs))
+      flat_map-append write (encode_utf8 c) (encode_utf8_all cs) ∙ (λ i. one_written c i ++ all_written cs i)
+      ∙ sym (encodes-append (write c) (flat_map write cs))
 
   are_characters : (cs : List ℕ) → AllAre is_character cs → AllAre is_character (flat_map write cs)
   are_characters [] f = tt
   are_characters (c ∷ cs) f = all_append is_character (write c) (flat_map write cs) first (are_characters cs f.1)
     where
       first : AllAre is_character (write c)
-      first = elim (cases_Bool (marked c)) [ inl m ↦ w.characters_written c m | inr m ↦ subst (AllAre is_character) (sym (w.plain c m)) (f.0, tt) ]
+      first = elim (cases_Bool (marked c)) [
+        | inl m ↦ w.characters_written c m
+        | inr m ↦ subst (AllAre is_character) (sym (w.plain c m))
+            (f.0, tt)
+      ]
 
   pub characters_of : (bs : List ℕ) → IsCharacters bs → IsCharacters (flat_map write bs)
   characters_of bs i = (flat_map write i.0, sym (all_written i.0) ∙ ap (flat_map write) i.1, are_characters i.0 i.2)
@@ -145,7 +165,8 @@ module _ (marked : ℕ → Bool) (name_of : ℕ → List ℕ) (write : ℕ → L
   pub some_written : (bs : List ℕ) → bs ≢ [] → flat_map write bs ≢ []
   some_written [] some e = some refl
   some_written (b ∷ bs) some e = elim (cases_Bool (marked b)) [
-    | inl m ↦ let wrong : 0x26 ∷ ((name_of b ++ (0x3B ∷ [])) ++ flat_map write bs) ≡ [] = ap (λ l. l ++ flat_map write bs) (sym (w.reference b m)) ∙ e in cc
+    | inl m ↦ let wrong : 0x26 ∷ ((name_of b ++ (0x3B ∷ [])) ++ flat_map write bs) ≡ [] = ap (λ l. l ++ flat_map write bs)
+        (sym (w.reference b m)) ∙ e in cc
     | inr m ↦ let wrong : b ∷ flat_map write bs ≡ [] = ap (λ l. l ++ flat_map write bs) (sym (w.plain b m)) ∙ e in cc
   ]
 
@@ -161,7 +182,8 @@ abbrev value_marked : ℕ → Bool
 value_marked b = b == 38 || (b == 60 || (b == 34 || (b == 9 || (b == 10 || b == 13))))
 
 abbrev value_name : ℕ → List ℕ
-value_name b = cond (b == 38) (codes "amp") (cond (b == 60) (codes "lt") (cond (b == 34) (codes "quot") (cond (b == 9) (codes "#9") (cond (b == 10) (codes "#10") (codes "#13")))))
+value_name b = cond (b == 38) (codes "amp") (cond (b == 60) (codes "lt")
+    (cond (b == 34) (codes "quot") (cond (b == 9) (codes "#9") (cond (b == 10) (codes "#10") (codes "#13")))))
 
 -- what holds of each marked byte
 text_cases : (P : ℕ → Type 0) → P 38 → P 60 → P 62 → P 13 → (b : ℕ) → text_marked b ≡ true → P b
@@ -215,20 +237,24 @@ value_plain b m =
     let t = neither (b == 10) (b == 13) s.1 in
     rw (p.0, q.0, r.0, s.0, t.0, t.1) refl
 
-text_written : (p : ℕ → Bool) → list_all p (text_byte 38) ≡ true → list_all p (text_byte 60) ≡ true → list_all p (text_byte 62) ≡ true → list_all p (text_byte 13) ≡ true
+text_written : (p : ℕ → Bool) → list_all p (text_byte 38) ≡ true → list_all p (text_byte 60) ≡ true → list_all p (text_byte 62) ≡ true
+    → list_all p (text_byte 13) ≡ true
     → (b : ℕ) → text_marked b ≡ true → AllAre p (text_byte b)
 text_written p amp lt gt cr b m = all_of_test p (text_byte b) (text_cases (λ b. list_all p (text_byte b) ≡ true) amp lt gt cr b m)
 
-value_written : (p : ℕ → Bool) → list_all p (value_byte 38) ≡ true → list_all p (value_byte 60) ≡ true → list_all p (value_byte 34) ≡ true → list_all p (value_byte 9) ≡ true
+value_written : (p : ℕ → Bool) → list_all p (value_byte 38) ≡ true → list_all p (value_byte 60) ≡ true → list_all p (value_byte 34) ≡ true
+    → list_all p (value_byte 9) ≡ true
     → list_all p (value_byte 10) ≡ true → list_all p (value_byte 13) ≡ true → (b : ℕ) → value_marked b ≡ true → AllAre p (value_byte b)
-value_written p amp lt quot tab lf cr b m = all_of_test p (value_byte b) (value_cases (λ b. list_all p (value_byte b) ≡ true) amp lt quot tab lf cr b m)
+value_written p amp lt quot tab lf cr b m =
+    all_of_test p (value_byte b) (value_cases (λ b. list_all p (value_byte b) ≡ true) amp lt quot tab lf cr b m)
 
 text_writes : Writes text_marked text_name text_byte
 text_writes = record {
   plain = text_plain;
   reference = text_cases (λ b. text_byte b ≡ 0x26 ∷ (text_name b ++ (0x3B ∷ []))) refl refl refl refl;
   ampersand = refl;
-  names = text_cases (λ b. AllAre (λ n. not (n == 0x3B)) (text_name b)) (refl, (refl, (refl, tt))) (refl, (refl, tt)) (refl, (refl, tt)) (refl, (refl, (refl, tt)));
+  names = text_cases (λ b. AllAre (λ n. not (n == 0x3B)) (text_name b)) (refl, (refl, (refl, tt))) (refl, (refl, tt)) (refl, (refl, tt))
+      (refl, (refl, (refl, tt)));
   refers = text_cases (λ b. referred (text_name b) ≡ Some b) refl refl refl refl;
   ascii = text_cases (λ b. b < 128) (omega arith) (omega arith) (omega arith) (omega arith);
   ascii_written = λ b m. ascii_encoded (text_byte b) (text_written is_ascii refl refl refl refl b m);
@@ -240,7 +266,8 @@ value_writes = record {
   plain = value_plain;
   reference = value_cases (λ b. value_byte b ≡ 0x26 ∷ (value_name b ++ (0x3B ∷ []))) refl refl refl refl refl refl;
   ampersand = refl;
-  names = λ b m. all_of_test (λ n. not (n == 0x3B)) (value_name b) (value_cases (λ b. list_all (λ n. not (n == 0x3B)) (value_name b) ≡ true) refl refl refl refl refl refl b m);
+  names = λ b m. all_of_test (λ n. not (n == 0x3B)) (value_name b)
+      (value_cases (λ b. list_all (λ n. not (n == 0x3B)) (value_name b) ≡ true) refl refl refl refl refl refl b m);
   refers = value_cases (λ b. referred (value_name b) ≡ Some b) refl refl refl refl refl refl;
   ascii = value_cases (λ b. b < 128) (omega arith) (omega arith) (omega arith) (omega arith) (omega arith) (omega arith);
   ascii_written = λ b m. ascii_encoded (value_byte b) (value_written is_ascii refl refl refl refl refl refl b m);
@@ -258,7 +285,8 @@ text_means text = expands text_marked text_name text_byte text_writes text_part 
         rw r.1 refl
 
 pub value_means : (value : List ℕ) → IsValue (value_bytes value) value
-value_means value = expands value_marked value_name value_byte value_writes value_part (λ run. map as_space (line_ends run)) (λ run. refl) refl next (λ c. refl) value
+value_means value = expands value_marked value_name value_byte value_writes value_part (λ run. map as_space (line_ends run))
+    (λ run. refl) refl next (λ c. refl) value
   where
     next : (b : ℕ) (run : List ℕ) → value_marked b ≡ false → map as_space (line_ends (b ∷ run)) ≡ b ∷ map as_space (line_ends run)
     next b run m =
@@ -282,10 +310,12 @@ pub text_no_tag : (text : List ℕ) → AllAre (λ b. not (b == 0x3C)) (text_byt
 text_no_tag = never text_marked text_name text_byte text_writes 0x3C refl (text_written (λ n. not (n == 0x3C)) refl refl refl refl)
 
 pub value_no_tag : (value : List ℕ) → AllAre (λ b. not (b == 0x3C)) (value_bytes value)
-value_no_tag = never value_marked value_name value_byte value_writes 0x3C refl (value_written (λ n. not (n == 0x3C)) refl refl refl refl refl refl)
+value_no_tag =
+    never value_marked value_name value_byte value_writes 0x3C refl (value_written (λ n. not (n == 0x3C)) refl refl refl refl refl refl)
 
 pub value_no_quote : (value : List ℕ) → AllAre (λ b. not (b == 0x22)) (value_bytes value)
-value_no_quote = never value_marked value_name value_byte value_writes 0x22 refl (value_written (λ n. not (n == 0x22)) refl refl refl refl refl refl)
+value_no_quote =
+    never value_marked value_name value_byte value_writes 0x22 refl (value_written (λ n. not (n == 0x22)) refl refl refl refl refl refl)
 
 text_no_end : (text : List ℕ) → AllAre (λ b. not (b == 0x3E)) (text_bytes text)
 text_no_end = never text_marked text_name text_byte text_writes 0x3E refl (text_written (λ n. not (n == 0x3E)) refl refl refl refl)

@@ -105,7 +105,8 @@ module _ (letter : ℕ) (is : IsLetter letter) where
   labels_differ : (m n : ℕ) → m ≢ n → label letter m ≢ label letter n
   labels_differ m n other e = let d : numeral m ≡ numeral n = cc in other (one_number m n d)
 
-  rows_bind : (n : ℕ) (xs : Texts) (more : Scope) (s p : List ℕ) → lookup (bytes_eq s) (rows_of letter n xs) ≡ Some p → HasNumber letter n xs more s p
+  rows_bind : (n : ℕ) (xs : Texts) (more : Scope) (s p : List ℕ) → lookup (bytes_eq s) (rows_of letter n xs) ≡ Some p
+      → HasNumber letter n xs more s p
   rows_bind n [] more s p found = let wrong : None ≡ Some p = found in cc
   rows_bind n (x ∷ xs) more s p found = elim (cases_Bool (bytes_eq s x)) [
     | inl e ↦
@@ -121,11 +122,13 @@ module _ (letter : ℕ) (is : IsLetter letter) where
         record { number = r.number; from = omega arith; prefix_is = r.prefix_is; binds = rw t r.binds }
   ]
 
-pub past_rows : (letter n : ℕ) (xs : Texts) (more : Scope) (p : List ℕ) → ((k : ℕ) → label letter k ≢ p) → bound (scope_of letter n xs more) p ≡ bound more p
+pub past_rows : (letter n : ℕ) (xs : Texts) (more : Scope) (p : List ℕ) → ((k : ℕ) → label letter k ≢ p)
+    → bound (scope_of letter n xs more) p ≡ bound more p
 past_rows letter n [] more p other = refl
 past_rows letter n (x ∷ xs) more p other = rw (differ (label letter n) p (other n)) (past_rows letter (n + 1) xs more p other)
 
-resolves_none : (prefixes : Rows) (scope : Scope) (s : List ℕ) → lookup (bytes_eq s) prefixes ≡ None → s ≡ [] → bound scope [] ≡ Some [] → Resolves prefixes scope s
+resolves_none : (prefixes : Rows) (scope : Scope) (s : List ℕ) → lookup (bytes_eq s) prefixes ≡ None → s ≡ [] → bound scope [] ≡ Some []
+    → Resolves prefixes scope s
 resolves_none prefixes scope s found is default = record {
   printed = λ local. ap (λ o. after_prefix o local) found ∙ sym (ap (λ o. prefixed (prefix_or o) local) found);
   is_prefix = inl (ap prefix_or found);
@@ -134,9 +137,11 @@ resolves_none prefixes scope s found is default = record {
   none = λ e. is;
 }
 
-resolves_some : (prefixes : Rows) (scope : Scope) (s p : List ℕ) → lookup (bytes_eq s) prefixes ≡ Some p → IsNamePart p → p ≢ codes "xmlns" → bound scope p ≡ Some s → Resolves prefixes scope s
+resolves_some : (prefixes : Rows) (scope : Scope) (s p : List ℕ) → lookup (bytes_eq s) prefixes ≡ Some p → IsNamePart p
+    → p ≢ codes "xmlns" → bound scope p ≡ Some s → Resolves prefixes scope s
 resolves_some prefixes scope s p found part other binds = record {
-  printed = λ local. ap (λ o. after_prefix o local) found ∙ colon p local (part_is_some p part) ∙ sym (ap (λ o. prefixed (prefix_or o) local) found);
+  printed = λ local. ap (λ o. after_prefix o local) found ∙ colon p local (part_is_some p part)
+      ∙ sym (ap (λ o. prefixed (prefix_or o) local) found);
   is_prefix = inr (subst IsNamePart (sym (ap prefix_or found)) part);
   no_xmlns = λ e. other (sym (ap prefix_or found) ∙ e);
   bound_to = ap (bound scope) (ap prefix_or found) ∙ binds;
@@ -161,7 +166,8 @@ among_kept test s [] t = refl
 among_kept test s (x ∷ xs) t = elim (cases_Bool (test x)) [
   | inl e ↦ rw e (ap (λ b. bytes_eq s x || b) (among_kept test s xs t))
   | inr e ↦
-      let other : bytes_eq s x ≡ false = false_from_ne_true (bytes_eq s x) (λ same. let wrong : true ≡ false = sym t ∙ ap test (eq_tells s x same) ∙ e in cc) in
+      let other : bytes_eq s x ≡ false = false_from_ne_true (bytes_eq s x)
+      (λ same. let wrong : true ≡ false = sym t ∙ ap test (eq_tells s x same) ∙ e in cc) in
       rw (e, other) (among_kept test s xs t)
 ]
 
@@ -169,7 +175,8 @@ among_dropped : (test : List ℕ → Bool) (s : List ℕ) (xs : Texts) → test 
 among_dropped test s [] t = refl
 among_dropped test s (x ∷ xs) t = elim (cases_Bool (test x)) [
   | inl e ↦
-      let other : bytes_eq s x ≡ false = false_from_ne_true (bytes_eq s x) (λ same. let wrong : false ≡ true = sym t ∙ ap test (eq_tells s x same) ∙ e in cc) in
+      let other : bytes_eq s x ≡ false = false_from_ne_true (bytes_eq s x)
+      (λ same. let wrong : false ≡ true = sym t ∙ ap test (eq_tells s x same) ∙ e in cc) in
       rw (e, other) (among_dropped test s xs t)
   | inr e ↦ rw e (among_dropped test s xs t)
 ]
@@ -193,7 +200,8 @@ pub record IsOutermost (scope : Scope) : Type 0 where
 pub root_outermost : IsOutermost root_scope
 root_outermost = record { default = refl; xml = refl }
 
-pub rows_outermost : (letter n : ℕ) (xs : Texts) (more : Scope) → IsLetter letter → IsOutermost more → IsOutermost (scope_of letter n xs more)
+pub rows_outermost : (letter n : ℕ) (xs : Texts) (more : Scope) → IsLetter letter → IsOutermost more
+    → IsOutermost (scope_of letter n xs more)
 rows_outermost letter n xs more is outer = record {
   default = past_rows letter n xs more [] (label_some letter) ∙ outer.default;
   xml = past_rows letter n xs more (codes "xml") (λ k. label_no_x letter is k (codes "ml")) ∙ outer.xml;
@@ -213,7 +221,8 @@ module _ (all : Texts) (more : Scope) (outer : IsOutermost more) where
   no_namespace s is =
       let out : is_declared s ≡ false = ap is_declared is in
       let none : among s (declared_among all) ≡ false = among_once s (filter is_declared all) ∙ among_dropped is_declared s all out in
-      let rows : lookup (bytes_eq s) (rows_of 0x6E 1 (declared_among all)) ≡ None = has_none _ (is_some-prefix_rows (codes "n") 1 s (declared_among all) ∙ none) in
+      let rows : lookup (bytes_eq s) (rows_of 0x6E 1 (declared_among all)) ≡ None = has_none _
+      (is_some-prefix_rows (codes "n") 1 s (declared_among all) ∙ none) in
       let xml : bytes_eq s xml_space ≡ false = ap (λ z. bytes_eq z xml_space) is in
       resolves_none its_prefixes its_scope s (rw xml rows) is outermost.default
 
@@ -225,7 +234,8 @@ module _ (all : Texts) (more : Scope) (outer : IsOutermost more) where
   numbered : (s : List ℕ) → is_declared s ≡ true → bytes_eq s xml_space ≡ false → among s all ≡ true → Resolves its_prefixes its_scope s
   numbered s out other here =
       let found : among s (declared_among all) ≡ true = among_once s (filter is_declared all) ∙ among_kept is_declared s all out ∙ here in
-      let row = has_value (lookup (bytes_eq s) (rows_of 0x6E 1 (declared_among all))) (is_some-prefix_rows (codes "n") 1 s (declared_among all) ∙ found) in
+      let row = has_value (lookup (bytes_eq s) (rows_of 0x6E 1 (declared_among all)))
+      (is_some-prefix_rows (codes "n") 1 s (declared_among all) ∙ found) in
       let r : HasNumber 0x6E 1 (declared_among all) more s row.0 = rows_bind 0x6E n_letter 1 (declared_among all) more s row.0 row.1 in
       resolves_some its_prefixes its_scope s row.0 (rw other row.1) (subst IsNamePart (sym r.prefix_is) (label_part 0x6E n_letter r.number))
       (λ e. label_no_x 0x6E n_letter r.number (codes "mlns") (sym r.prefix_is ∙ e)) r.binds
@@ -239,9 +249,11 @@ module _ (all : Texts) (more : Scope) (outer : IsOutermost more) where
     ]
   ]
 
-  each_of : (xs : Texts) → ((s : List ℕ) → among s xs ≡ true → Resolves its_prefixes its_scope s) → AllByRecursion (Resolves its_prefixes its_scope) xs
+  each_of : (xs : Texts) → ((s : List ℕ) → among s xs ≡ true → Resolves its_prefixes its_scope s)
+      → AllByRecursion (Resolves its_prefixes its_scope) xs
   each_of [] h = tt
-  each_of (x ∷ xs) h = (h x (let same : bytes_eq x x ≡ true = eq_itself x in rw same refl), each_of xs (λ s m. h s (or_right (bytes_eq s x) (among s xs) m)))
+  each_of (x ∷ xs) h =
+      (h x (let same : bytes_eq x x ≡ true = eq_itself x in rw same refl), each_of xs (λ s m. h s (or_right (bytes_eq s x) (among s xs) m)))
 
   -- each namespace is written by a prefix that is bound to it
   pub all_resolved : AllByRecursion (Resolves its_prefixes its_scope) all
@@ -281,7 +293,8 @@ module _ (letter : ℕ) (is : IsLetter letter) where
   rows_fit n [] f = tt
   rows_fit n (x ∷ xs) f = (record { prefix = label_part letter is n; space = f.0.fit.characters }, rows_fit (n + 1) xs f.1)
 
-  pub rows_are_bindings : (n : ℕ) (xs : Texts) → AllByRecursion IsDeclarable xs → AllByRecursion IsBinding (map row_binding (rows_of letter n xs))
+  pub rows_are_bindings : (n : ℕ) (xs : Texts) → AllByRecursion IsDeclarable xs
+      → AllByRecursion IsBinding (map row_binding (rows_of letter n xs))
   rows_are_bindings n [] f = tt
   rows_are_bindings n (x ∷ xs) f = (
     record {
@@ -293,7 +306,8 @@ module _ (letter : ℕ) (is : IsLetter letter) where
     rows_are_bindings (n + 1) xs f.1,
   )
 
-  later_differ : (m n : ℕ) (xs : Texts) → m < n → AllByRecursion (λ y. label letter m ≢ y) (map (λ b. b.prefix) (map row_binding (rows_of letter n xs)))
+  later_differ : (m n : ℕ) (xs : Texts) → m < n → AllByRecursion (λ y. label letter m ≢ y)
+      (map (λ b. b.prefix) (map row_binding (rows_of letter n xs)))
   later_differ m n [] low = tt
   later_differ m n (x ∷ xs) low =
       (labels_differ letter is m n (λ e. absurd (omega arith)), later_differ m (n + 1) xs (omega arith))
@@ -304,17 +318,21 @@ module _ (letter : ℕ) (is : IsLetter letter) where
 
 -- prefixes of different letters differ
 
-others_differ : (letter other m n : ℕ) (ys : Texts) → letter ≢ other → AllByRecursion (λ y. label letter m ≢ y) (map (λ b. b.prefix) (map row_binding (rows_of other n ys)))
+others_differ : (letter other m n : ℕ) (ys : Texts) → letter ≢ other
+    → AllByRecursion (λ y. label letter m ≢ y) (map (λ b. b.prefix) (map row_binding (rows_of other n ys)))
 others_differ letter other m n [] apart = tt
 others_differ letter other m n (y ∷ ys) apart = (λ e. let h : letter ≡ other = cc in apart h, others_differ letter other m (n + 1) ys apart)
 
-all_in_both : (P : List ℕ → Type 0) (rows more : Rows) → AllByRecursion P (map (λ b. b.prefix) (map row_binding rows)) → AllByRecursion P (map (λ b. b.prefix) (map row_binding more))
+all_in_both : (P : List ℕ → Type 0) (rows more : Rows) → AllByRecursion P (map (λ b. b.prefix) (map row_binding rows))
+    → AllByRecursion P (map (λ b. b.prefix) (map row_binding more))
     → AllByRecursion P (map (λ b. b.prefix) (map row_binding (rows ++ more)))
 all_in_both P [] more f g = g
 all_in_both P (row ∷ rows) more f g = (f.0, all_in_both P rows more f.1 g)
 
-pub both_differ : (letter other n m : ℕ) (xs ys : Texts) → letter ≢ other → AllDiffer (map (λ b. b.prefix) (map row_binding (rows_of letter n xs)))
-    → AllDiffer (map (λ b. b.prefix) (map row_binding (rows_of other m ys))) → AllDiffer (map (λ b. b.prefix) (map row_binding (rows_of letter n xs ++ rows_of other m ys)))
+pub both_differ : (letter other n m : ℕ) (xs ys : Texts) → letter ≢ other
+    → AllDiffer (map (λ b. b.prefix) (map row_binding (rows_of letter n xs)))
+    → AllDiffer (map (λ b. b.prefix) (map row_binding (rows_of other m ys)))
+    → AllDiffer (map (λ b. b.prefix) (map row_binding (rows_of letter n xs ++ rows_of other m ys)))
 both_differ letter other n m [] ys apart f g = g
 both_differ letter other n m (x ∷ xs) ys apart f g = (
   all_in_both (λ y. label letter n ≢ y) (rows_of letter (n + 1) xs) (rows_of other m ys) f.0 (others_differ letter other n m ys apart),

@@ -51,7 +51,11 @@ row_binding row = record { prefix = row.1; space = row.0 }
 
 abbrev pub tag_of : Rows → Rows → Name → List Attribute → Tag
 tag_of prefixes declared name attributes =
-    record { name = qualified prefixes name; assignments = map declaration_assignment declared ++ map (attribute_assignment prefixes) attributes }
+    record {
+      name = qualified prefixes name;
+      assignments = map declaration_assignment declared ++ map
+          (attribute_assignment prefixes) attributes;
+    }
 
 -- a namespace is written by a prefix that is bound to it
 pub record Resolves (prefixes : Rows) (scope : Scope) (space : List ℕ) : Type 0 where
@@ -72,68 +76,98 @@ pub record FitRow (row : List ℕ × List ℕ) : Type 0 where
   pub space : IsCharacters row.0
 
 -- a name part in ASCII
-pub ascii_part : (b : ℕ) (bs : List ℕ) → is_name_start b ≡ true → AllAre is_name_character bs → AllAre is_ascii (b ∷ bs) → IsNamePart (b ∷ bs)
-ascii_part b bs start others low = record { first = b; others = bs; bytes_are = ascii_encoded (b ∷ bs) low; begins = start; goes_on = others }
+pub ascii_part : (b : ℕ) (bs : List ℕ) → is_name_start b ≡ true → AllAre is_name_character bs → AllAre is_ascii (b ∷ bs)
+    → IsNamePart (b ∷ bs)
+ascii_part b bs start others low =
+    record { first = b; others = bs; bytes_are = ascii_encoded (b ∷ bs) low; begins = start; goes_on = others }
 
 xmlns_part : IsNamePart (codes "xmlns")
-xmlns_part = ascii_part 0x78 (codes "mlns") refl (all_of_test is_name_character (codes "mlns") refl) (all_of_test is_ascii (codes "xmlns") refl)
+xmlns_part =
+    ascii_part 0x78 (codes "mlns") refl (all_of_test is_name_character (codes "mlns") refl) (all_of_test is_ascii (codes "xmlns") refl)
 
 assignment_taken : (q : Qualified) (value rest : List ℕ) → IsQualified q → IsCharacters value
-    → TakesAssignment ((codes " " ++ (name_bytes q ++ (codes "=\"" ++ (value_bytes value ++ codes "\"")))) ++ rest) (record { name = q; value = value }) rest
+    → TakesAssignment ((codes " " ++ (name_bytes q ++ (codes "=\"" ++ (value_bytes value ++ codes "\"")))) ++ rest)
+    (record { name = q; value = value }) rest
 assignment_taken q value rest i f = record {
   white = codes " ";
   after = codes "=\"" ++ (value_bytes value ++ (codes "\"" ++ rest));
   written = value_bytes value;
   bytes_are =
       ap (λ l. codes " " ++ l)
-      (append_assoc (name_bytes q) (codes "=\"" ++ (value_bytes value ++ codes "\"")) rest ∙ ap (λ l. name_bytes q ++ (codes "=\"" ++ l)) (append_assoc (value_bytes value) (codes "\"") rest));
+      (append_assoc (name_bytes q) (codes "=\"" ++ (value_bytes value ++ codes "\"")) rest
+      ∙ ap (λ l. name_bytes q ++ (codes "=\"" ++ l)) (append_assoc (value_bytes value) (codes "\"") rest));
   is_white = (refl, tt);
   some_white = λ e. cc;
   is_name = i;
-  given = record { before = []; after = []; quote = 0x22; bytes_are = refl; white_before = tt; white_after = tt; is_quote = refl; unquoted = value_no_quote value };
+  given = record {
+    before = [];
+    after = [];
+    quote = 0x22;
+    bytes_are = refl;
+    white_before = tt;
+    white_after = tt;
+    is_quote = refl;
+    unquoted = value_no_quote value;
+  };
   characters = value_characters value f;
   no_tag = value_no_tag value;
   means = value_means value;
 }
 
-is_qualified : (prefixes : Rows) (scope : Scope) (name : Name) → IsFitName name → Resolves prefixes scope name.space → IsQualified (qualified prefixes name)
+is_qualified : (prefixes : Rows) (scope : Scope) (name : Name) → IsFitName name → Resolves prefixes scope name.space
+    → IsQualified (qualified prefixes name)
 is_qualified prefixes scope name f r = record { prefix_is = r.is_prefix; local_is = f.local }
 
-attribute_taken : (prefixes : Rows) (scope : Scope) (a : Attribute) (rest : List ℕ) → FitsIn prefixes scope a → TakesAssignment (attribute_bytes prefixes a ++ rest) (attribute_assignment prefixes a) rest
+attribute_taken : (prefixes : Rows) (scope : Scope) (a : Attribute) (rest : List ℕ) → FitsIn prefixes scope a
+    → TakesAssignment (attribute_bytes prefixes a ++ rest) (attribute_assignment prefixes a) rest
 attribute_taken prefixes scope a rest f =
-    subst (λ (n : List ℕ). TakesAssignment ((codes " " ++ (n ++ (codes "=\"" ++ (value_bytes a.value ++ codes "\"")))) ++ rest) (attribute_assignment prefixes a) rest)
-    (sym (f.resolved.printed a.name.local)) (assignment_taken (qualified prefixes a.name) a.value rest (is_qualified prefixes scope a.name f.fit.name f.resolved) f.fit.value)
+    subst (λ (n : List ℕ). TakesAssignment ((codes " " ++ (n ++ (codes "=\"" ++ (value_bytes a.value ++ codes "\"")))) ++ rest)
+    (attribute_assignment prefixes a) rest)
+    (sym (f.resolved.printed a.name.local)) (assignment_taken (qualified prefixes a.name) a.value rest
+    (is_qualified prefixes scope a.name f.fit.name f.resolved) f.fit.value)
 
-declaration_taken : (row : List ℕ × List ℕ) (rest : List ℕ) → FitRow row → TakesAssignment (declaration_bytes row ++ rest) (declaration_assignment row) rest
-declaration_taken row rest f = assignment_taken (record { prefix = codes "xmlns"; local = row.1 }) row.0 rest (record { prefix_is = inr xmlns_part; local_is = f.prefix }) f.space
+declaration_taken : (row : List ℕ × List ℕ) (rest : List ℕ) → FitRow row
+    → TakesAssignment (declaration_bytes row ++ rest) (declaration_assignment row) rest
+declaration_taken row rest f =
+    assignment_taken (record { prefix = codes "xmlns"; local = row.1 }) row.0 rest
+    (record { prefix_is = inr xmlns_part; local_is = f.prefix }) f.space
 
-all_taken : {X : Type 0} (write : X → List ℕ) (means : X → Assignment) (P : X → Type 0) → ((x : X) (rest : List ℕ) → P x → TakesAssignment (write x ++ rest) (means x) rest)
+all_taken : {X : Type 0} (write : X → List ℕ) (means : X → Assignment) (P : X → Type 0)
+    → ((x : X) (rest : List ℕ) → P x → TakesAssignment (write x ++ rest) (means x) rest)
     → (xs : List X) (rest : List ℕ) → AllByRecursion P xs → To TakesAssignment (flat_map write xs ++ rest) (map means xs) rest
 all_taken write means P each [] rest f = refl
 all_taken write means P each (x ∷ xs) rest f = (
   flat_map write xs ++ rest,
-  subst (λ (b : List ℕ). TakesAssignment b (means x) (flat_map write xs ++ rest)) (sym (append_assoc (write x) (flat_map write xs) rest)) (each x (flat_map write xs ++ rest) f.0),
+  subst (λ (b : List ℕ). TakesAssignment b (means x) (flat_map write xs ++ rest)) (sym (append_assoc (write x) (flat_map write xs) rest))
+      (each x (flat_map write xs ++ rest) f.0),
   all_taken write means P each xs rest f.1,
 )
 
 -- items, and then more
-pub to_both : {B X : Type 0} (Takes : B → X → B → Type 0) (bytes : B) (xs : List X) (mid : B) (ys : List X) (rest : B) → To Takes bytes xs mid → To Takes mid ys rest → To Takes bytes (xs ++ ys) rest
+pub to_both : {B X : Type 0} (Takes : B → X → B → Type 0) (bytes : B) (xs : List X) (mid : B) (ys : List X) (rest : B)
+    → To Takes bytes xs mid → To Takes mid ys rest → To Takes bytes (xs ++ ys) rest
 to_both {B} {X} Takes bytes [] mid ys rest l m = subst (λ (b : B). To Takes b ys rest) (sym l) m
 to_both Takes bytes (x ∷ xs) mid ys rest l m = (l.0, l.1, to_both Takes l.0 xs mid ys rest l.2 m)
 
-pub tag_taken : (prefixes declared : Rows) (scope : Scope) (name : Name) (attributes : List Attribute) (end : List ℕ) → IsFitName name → Resolves prefixes scope name.space
+pub tag_taken : (prefixes declared : Rows) (scope : Scope) (name : Name) (attributes : List Attribute) (end : List ℕ) → IsFitName name
+    → Resolves prefixes scope name.space
     → AllByRecursion FitRow declared → AllByRecursion (FitsIn prefixes scope) attributes
-    → TakesTag (codes "<" ++ (printed_name prefixes name ++ (flat_map declaration_bytes declared ++ (flat_map (attribute_bytes prefixes) attributes ++ end)))) (tag_of prefixes declared name attributes) end
+    → TakesTag (codes "<" ++ (printed_name prefixes name ++ (flat_map declaration_bytes declared ++ (flat_map
+    (attribute_bytes prefixes) attributes ++ end)))) (tag_of prefixes declared name attributes) end
 tag_taken prefixes declared scope name attributes end f r rows fits = record {
   after = flat_map declaration_bytes declared ++ (flat_map (attribute_bytes prefixes) attributes ++ end);
   white = [];
-  bytes_are = ap (λ l. codes "<" ++ (l ++ (flat_map declaration_bytes declared ++ (flat_map (attribute_bytes prefixes) attributes ++ end)))) (r.printed name.local);
+  bytes_are = ap (λ l. codes "<" ++ (l ++ (flat_map declaration_bytes declared ++ (flat_map
+      (attribute_bytes prefixes) attributes ++ end)))) (r.printed name.local);
   is_name = is_qualified prefixes scope name f r;
   assigned =
-      to_both TakesAssignment (flat_map declaration_bytes declared ++ (flat_map (attribute_bytes prefixes) attributes ++ end)) (map declaration_assignment declared)
+      to_both TakesAssignment (flat_map declaration_bytes declared ++ (flat_map (attribute_bytes prefixes) attributes ++ end))
+      (map declaration_assignment declared)
       (flat_map (attribute_bytes prefixes) attributes ++ end) (map (attribute_assignment prefixes) attributes) end
-      (all_taken declaration_bytes declaration_assignment FitRow declaration_taken declared (flat_map (attribute_bytes prefixes) attributes ++ end) rows)
-      (all_taken (attribute_bytes prefixes) (attribute_assignment prefixes) (FitsIn prefixes scope) (attribute_taken prefixes scope) attributes end fits);
+      (all_taken declaration_bytes declaration_assignment FitRow declaration_taken declared
+      (flat_map (attribute_bytes prefixes) attributes ++ end) rows)
+      (all_taken (attribute_bytes prefixes) (attribute_assignment prefixes) (FitsIn prefixes scope)
+      (attribute_taken prefixes scope) attributes end fits);
   is_white = tt;
 }
 
@@ -146,7 +180,8 @@ end_taken prefixes scope name rest f r = record {
   is_white = tt;
 }
 
-pub text_taken : (text rest : List ℕ) → text ≢ [] → IsCharacters text → EndsText rest → TakesText (text_bytes text ++ rest) (list_all is_white (text_bytes text)) text rest
+pub text_taken : (text rest : List ℕ) → text ≢ [] → IsCharacters text → EndsText rest
+    → TakesText (text_bytes text ++ rest) (list_all is_white (text_bytes text)) text rest
 text_taken text rest some f ends = record {
   own = text_bytes text;
   bytes_are = refl;
@@ -164,15 +199,18 @@ text_taken text rest some f ends = record {
 differ : (a b : List ℕ) → a ≢ b → bytes_eq a b ≡ false
 differ a b other = false_from_ne_true (bytes_eq a b) (λ e. other ((bytes_eq-Decides a b).0 e))
 
-binds_nothing : (prefixes : Rows) (scope : Scope) (a : Attribute) → FitsIn prefixes scope a → binding_of (attribute_assignment prefixes a) ≡ None
+binds_nothing : (prefixes : Rows) (scope : Scope) (a : Attribute) → FitsIn prefixes scope a
+    → binding_of (attribute_assignment prefixes a) ≡ None
 binds_nothing prefixes scope a f =
     let no_prefix : bytes_eq (prefix_of prefixes a.name.space) (codes "xmlns") ≡ false = differ _ _ f.resolved.no_xmlns in
-    let no_default : (bytes_eq (prefix_of prefixes a.name.space) [] && bytes_eq a.name.local (codes "xmlns")) ≡ false = unprefixed (prefix_of prefixes a.name.space) f.resolved.none in
+    let no_default : (bytes_eq (prefix_of prefixes a.name.space) [] && bytes_eq a.name.local (codes "xmlns")) ≡ false = unprefixed
+    (prefix_of prefixes a.name.space) f.resolved.none in
     rw (no_prefix, no_default) refl
   where
     unprefixed : (p : List ℕ) → (p ≡ [] → a.name.space ≡ []) → (bytes_eq p [] && bytes_eq a.name.local (codes "xmlns")) ≡ false
     unprefixed [] none =
-        differ a.name.local (codes "xmlns") (λ e. f.fit.no_declaration (let s : a.name.space ≡ [] = none refl in λ i. record { space = s i; local = e i }))
+        differ a.name.local (codes "xmlns") (λ e. f.fit.no_declaration
+        (let s : a.name.space ≡ [] = none refl in λ i. record { space = s i; local = e i }))
     unprefixed (b ∷ bs) none = refl
 
 declared_bindings : (rows : Rows) → filter_map binding_of (map declaration_assignment rows) ≡ map row_binding rows
@@ -194,13 +232,15 @@ all_plain prefixes scope [] f = refl
 all_plain prefixes scope (a ∷ attributes) f =
     rw (binds_nothing prefixes scope a f.0) (ap (λ l. attribute_assignment prefixes a ∷ l) (all_plain prefixes scope attributes f.1))
 
-pub bindings_are : (prefixes declared : Rows) (scope : Scope) (name : Name) (attributes : List Attribute) → AllByRecursion (FitsIn prefixes scope) attributes
+pub bindings_are : (prefixes declared : Rows) (scope : Scope) (name : Name) (attributes : List Attribute)
+    → AllByRecursion (FitsIn prefixes scope) attributes
     → bindings (tag_of prefixes declared name attributes) ≡ map row_binding declared
 bindings_are prefixes declared scope name attributes f =
     filter_map-append binding_of (map declaration_assignment declared) (map (attribute_assignment prefixes) attributes)
     ∙ (λ i. declared_bindings declared i ++ no_bindings prefixes scope attributes f i) ∙ append-nil (map row_binding declared)
 
-plain_are : (prefixes declared : Rows) (scope : Scope) (name : Name) (attributes : List Attribute) → AllByRecursion (FitsIn prefixes scope) attributes
+plain_are : (prefixes declared : Rows) (scope : Scope) (name : Name) (attributes : List Attribute)
+    → AllByRecursion (FitsIn prefixes scope) attributes
     → plain_assignments (tag_of prefixes declared name attributes) ≡ map (attribute_assignment prefixes) attributes
 plain_are prefixes declared scope name attributes f =
     filter-append (λ a. is_none (binding_of a)) (map declaration_assignment declared) (map (attribute_assignment prefixes) attributes)
@@ -214,17 +254,23 @@ are_attributes : (prefixes : Rows) (scope : Scope) (attributes : List Attribute)
     → AreAttributes scope (map (attribute_assignment prefixes) attributes) attributes
 are_attributes prefixes scope [] f = tt
 are_attributes prefixes scope (a ∷ attributes) f = (
-  record { space_is = space_of_prefix scope (prefix_of prefixes a.name.space) a.name.space f.0.resolved.bound_to f.0.resolved.none; local_is = refl; value_is = refl },
+  record {
+    space_is = space_of_prefix scope (prefix_of prefixes a.name.space) a.name.space f.0.resolved.bound_to f.0.resolved.none;
+    local_is = refl;
+    value_is = refl;
+  },
   are_attributes prefixes scope attributes f.1,
 )
 
-pub names_element : (prefixes declared : Rows) (outer : Scope) (name : Name) (attributes : List Attribute) → AllByRecursion IsBinding (map row_binding declared)
+pub names_element : (prefixes declared : Rows) (outer : Scope) (name : Name) (attributes : List Attribute)
+    → AllByRecursion IsBinding (map row_binding declared)
     → AllDiffer (map (λ b. b.prefix) (map row_binding declared)) → Resolves prefixes (map row_binding declared ++ outer) name.space
     → AllByRecursion (FitsIn prefixes (map row_binding declared ++ outer)) attributes → AllDiffer (map (λ t. t.name) attributes)
     → NamesElement outer (tag_of prefixes declared name attributes) name attributes
 names_element prefixes declared outer name attributes binds once r f differ =
     let scope : Scope = map row_binding declared ++ outer in
-    let bs : bindings (tag_of prefixes declared name attributes) ≡ map row_binding declared = bindings_are prefixes declared scope name attributes f in
+    let bs : bindings (tag_of prefixes declared name attributes) ≡ map row_binding declared = bindings_are prefixes declared scope name
+    attributes f in
     let within : scope_within outer (tag_of prefixes declared name attributes) ≡ scope = ap (λ l. l ++ outer) bs in
     record {
       binds = subst (AllByRecursion IsBinding) (sym bs) binds;
@@ -233,6 +279,7 @@ names_element prefixes declared outer name attributes binds once r f differ =
       local_is = refl;
       attributes_are =
           subst (λ (s : Scope). AreAttributes s (plain_assignments (tag_of prefixes declared name attributes)) attributes) (sym within)
-          (subst (λ (l : List Assignment). AreAttributes scope l attributes) (sym (plain_are prefixes declared scope name attributes f)) (are_attributes prefixes scope attributes f));
+          (subst (λ (l : List Assignment). AreAttributes scope l attributes) (sym (plain_are prefixes declared scope name attributes f))
+          (are_attributes prefixes scope attributes f));
       names_differ = differ;
     }

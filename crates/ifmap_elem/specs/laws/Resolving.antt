@@ -68,7 +68,9 @@ in_none i (d ∷ ds) = in_none i ds
 
 below_none : (i : ℕ) (items : List Item) → at [] (declared_below i items) ≡ []
 below_none i [] = refl
-below_none i (Inner e d ∷ items) = at_both [] (map (from_above i) d) (declared_below (i + 1) items) ∙ ap (λ l. l ++ at [] (declared_below (i + 1) items)) (in_none i d) ∙ below_none (i + 1) items
+below_none i (Inner e d ∷ items) =
+    at_both [] (map (from_above i) d) (declared_below (i + 1) items) ∙ ap (λ l. l ++ at [] (declared_below (i + 1) items)) (in_none i d)
+    ∙ below_none (i + 1) items
 below_none i (Run text ∷ items) = below_none (i + 1) items
 
 below_other : (i j : ℕ) (q : List ℕ) (items : List Item) → i < j → at (i ∷ q) (declared_below j items) ≡ []
@@ -88,7 +90,8 @@ below_at j q [] e d ys i is =
     ∙ append-nil (at (i ∷ q) (map (from_above j) d)) ∙ ap (λ (n : ℕ). at (i ∷ q) (map (from_above n) d)) same ∙ in_child i q d
 below_at j q (Inner f c ∷ xs) e d ys i is =
     at_both (i ∷ q) (map (from_above j) c) (declared_below (j + 1) (xs ++ (Inner e d ∷ ys)))
-    ∙ ap (λ k. k ++ at (i ∷ q) (declared_below (j + 1) (xs ++ (Inner e d ∷ ys)))) (in_other i j q c (is_other j i (λ h. omega (arith, is, h))))
+    ∙ ap (λ k. k ++ at (i ∷ q) (declared_below (j + 1) (xs ++ (Inner e d ∷ ys))))
+    (in_other i j q c (is_other j i (λ h. omega (arith, is, h))))
     ∙ below_at (j + 1) q xs e d ys i (omega (arith, is))
 below_at j q (Run text ∷ xs) e d ys i is = below_at (j + 1) q xs e d ys i (omega (arith, is))
 
@@ -98,12 +101,14 @@ told_above i (d ∷ ds) = ap (λ bs. binding_told d ∷ bs) (told_above i ds)
 
 -- children among items
 
-pub joined_both : (xs : List Item) (e : Element) (d : List Declared) (ys : List Item) → joined (xs ++ (Inner e d ∷ ys)) ≡ joined xs ++ (Inner e d ∷ joined ys)
+pub joined_both : (xs : List Item) (e : Element) (d : List Declared) (ys : List Item)
+    → joined (xs ++ (Inner e d ∷ ys)) ≡ joined xs ++ (Inner e d ∷ joined ys)
 joined_both [] e d ys = refl
 joined_both (Inner f c ∷ xs) e d ys = ap (λ l. Inner f c ∷ l) (joined_both xs e d ys)
 joined_both (Run text ∷ xs) e d ys = ap (put_before text) (joined_both xs e d ys) ∙ before text (joined xs)
   where
-    before : (text : List ℕ) (zs : List Item) → put_before text (zs ++ (Inner e d ∷ joined ys)) ≡ put_before text zs ++ (Inner e d ∷ joined ys)
+    before : (text : List ℕ) (zs : List Item) → put_before text
+        (zs ++ (Inner e d ∷ joined ys)) ≡ put_before text zs ++ (Inner e d ∷ joined ys)
     before text [] = refl
     before text (Inner f c ∷ zs) = refl
     before text (Run more ∷ zs) = refl
@@ -130,7 +135,14 @@ parted scope (piece.Characters blank text after) d items m =
 parted scope (piece.Section text after) d items m =
     let p = parted scope after d m.0 m.2 in (Run text ∷ p.0, p.1, m.1 ∙ ap (λ l. Run text ∷ l) p.2, (p.0, refl, p.3), p.4)
 parted scope (piece.Empty tag after) d items m =
-    let p = parted scope after d m.2 m.5 in (Inner m.0 m.1 ∷ p.0, p.1, m.3 ∙ ap (λ l. Inner m.0 m.1 ∷ l) p.2, (m.0, m.1, p.0, refl, m.4, p.3), p.4)
+    let p = parted scope after d m.2 m.5 in (
+      Inner m.0 m.1 ∷ p.0,
+      p.1,
+      m.3
+          ∙ ap (λ l. Inner m.0 m.1 ∷ l) p.2,
+      (m.0, m.1, p.0, refl, m.4, p.3),
+      p.4,
+    )
 parted scope (piece.Start tag inside after) d items m =
     let p = parted scope after d m.3 m.7 in (
       Inner m.1 m.2 ∷ p.0,
@@ -150,7 +162,8 @@ pub record IsFirst (scope : Scope) (tag : Tag) (inside : Pieces) (items : List I
   pub inside_are : AreItems (scope_within scope tag) inside inner
   pub is_element : IsElement scope tag inner element declared
 
-first_of : (scope : Scope) (pieces : Pieces) (tag : Tag) (inside after : Pieces) (items : List Item) → IsElementPiece pieces tag inside after → AreItems scope pieces items → IsFirst scope tag inside items
+first_of : (scope : Scope) (pieces : Pieces) (tag : Tag) (inside after : Pieces) (items : List Item)
+    → IsElementPiece pieces tag inside after → AreItems scope pieces items → IsFirst scope tag inside items
 first_of scope pieces tag inside after items is m = elim is [
   | inl e ↦ started (subst (λ (p : Pieces). AreItems scope p items) e m)
   | inr e ↦ emptied e.1 (subst (λ (p : Pieces). AreItems scope p items) e.0 m)
@@ -182,7 +195,8 @@ pub record IsThere (scope : Scope) (child : Tag) (within : Pieces) (items : List
   pub inside_are : AreItems (scope_within scope child) within inner
   pub is_element : IsElement scope child inner element declared
 
-pub child_there : (scope : Scope) (inside : Pieces) (items : List Item) (index : ℕ) (child : Tag) (within : Pieces) → AreItems scope inside items → IsChildAt scope inside index child within
+pub child_there : (scope : Scope) (inside : Pieces) (items : List Item) (index : ℕ) (child : Tag) (within : Pieces)
+    → AreItems scope inside items → IsChildAt scope inside index child within
     → IsThere scope child within items index
 child_there scope inside items index child within m c =
     let p = parted scope c.before c.element items (subst (λ (q : Pieces). AreItems scope q items) c.inside_is m) in
@@ -202,7 +216,8 @@ child_there scope inside items index child within m c =
 
 -- from tag to tag
 
-module _ (outer : Scope) (tag : Tag) (items : List Item) (e : Element) (declared : List Declared) (h : IsElement outer tag items e declared) where
+module _ (outer : Scope) (tag : Tag) (items : List Item) (e : Element) (declared : List Declared)
+    (h : IsElement outer tag items e declared) where
   declared_there : declared_at [] declared ≡ reverse (bindings tag)
   declared_there =
       ap (λ ds. reverse (map binding_told (at [] ds))) h.declared_are
@@ -214,7 +229,8 @@ module _ (outer : Scope) (tag : Tag) (items : List Item) (e : Element) (declared
       → declared_at (index ∷ path) declared ≡ declared_at path t.declared ++ reverse (bindings tag)
   declared_in index path scope child within t =
       ap (λ ds. reverse (map binding_told (at (index ∷ path) ds))) h.declared_are
-      ∙ ap (λ ds. reverse (map binding_told ds)) (at_both (index ∷ path) (declared_here (bindings tag)) (declared_below 0 (children_among items))
+      ∙ ap (λ ds. reverse (map binding_told ds)) (at_both (index ∷ path) (declared_here (bindings tag))
+      (declared_below 0 (children_among items))
       ∙ (λ i. at_here (index ∷ path) (bindings tag) i ++ below i))
       ∙ ap reverse (map-append binding_told (declared_here (bindings tag)) (map (from_above index) (at path t.declared))
       ∙ (λ i. told_here (bindings tag) i ++ told_above index (at path t.declared) i))
@@ -228,15 +244,19 @@ module _ (outer : Scope) (tag : Tag) (items : List Item) (e : Element) (declared
   own_bound : (p : List ℕ) → bound (reverse (bindings tag) ++ outer) p ≡ bound (scope_within outer tag) p
   own_bound p = bound_reversed (bindings tag) outer p h.named.binds_once
 
-resolves : (path : List ℕ) (outer : Scope) (tag : Tag) (inside : Pieces) (items : List Item) (e : Element) (declared : List Declared) (scope : Scope) → IsElement outer tag items e declared
-    → AreItems (scope_within outer tag) inside items → LeadsTo outer tag inside path scope → (p : List ℕ) → bound (declared_at path declared ++ outer) p ≡ bound scope p
+resolves : (path : List ℕ) (outer : Scope) (tag : Tag) (inside : Pieces) (items : List Item) (e : Element) (declared : List Declared)
+    (scope : Scope) → IsElement outer tag items e declared
+    → AreItems (scope_within outer tag) inside items → LeadsTo outer tag inside path scope → (p : List ℕ)
+    → bound (declared_at path declared ++ outer) p ≡ bound scope p
 resolves [] outer tag inside items e declared scope h m l p =
-    ap (λ s. bound (s ++ outer) p) (declared_there outer tag items e declared h) ∙ own_bound outer tag items e declared h p ∙ ap (λ (s : Scope). bound s p) (sym l)
+    ap (λ s. bound (s ++ outer) p) (declared_there outer tag items e declared h) ∙ own_bound outer tag items e declared h p
+    ∙ ap (λ (s : Scope). bound s p) (sym l)
 resolves (index ∷ path) outer tag inside items e declared scope h m l p =
     let t = child_there (scope_within outer tag) inside items index l.0 l.1 m l.2 in
     ap (λ s. bound (s ++ outer) p) (declared_in outer tag items e declared h index path (scope_within outer tag) l.0 l.1 t)
     ∙ ap (λ s. bound s p) (append_assoc (declared_at path t.declared) (reverse (bindings tag)) outer)
-    ∙ bound_within (declared_at path t.declared) (reverse (bindings tag) ++ outer) (scope_within outer tag) p (own_bound outer tag items e declared h p)
+    ∙ bound_within (declared_at path t.declared) (reverse (bindings tag) ++ outer) (scope_within outer tag) p
+    (own_bound outer tag items e declared h p)
     ∙ resolves path (scope_within outer tag) l.0 l.1 t.inner t.element t.declared scope t.is_element t.inside_are l.3 p
 
 -- what is bound at the root is not listed
@@ -268,7 +288,8 @@ after_margin (piece.Section text after) d r m h = absurd m
 after_margin (piece.Empty tag after) d r m h = absurd m
 after_margin (piece.Start tag inside after) d r m h = absurd m
 
-pub root_there : (pieces : Pieces) (tag : Tag) (inside after : Pieces) (r : Reading) → IsElementPiece pieces tag inside after → BeginsWithRoot pieces r
+pub root_there : (pieces : Pieces) (tag : Tag) (inside after : Pieces) (r : Reading) → IsElementPiece pieces tag inside after
+    → BeginsWithRoot pieces r
     → (items : List Item) × IsElement root_scope tag items r.root r.declared × AreItems (scope_within root_scope tag) inside items
 root_there pieces tag inside after r is b = elim is [
   | inl e ↦ let h : BeginsWithRoot (piece.Start tag inside after) r = subst (λ (q : Pieces). BeginsWithRoot q r) e b in (h.0, h.2, h.1)
@@ -280,8 +301,11 @@ root_there pieces tag inside after r is b = elim is [
 pub resolves_as_declared : (bytes : List ℕ) (r : Reading) → Spells bytes r → ResolvesAsDeclared bytes r
 resolves_as_declared bytes r s path scope h prefix =
     let tokens = one_lexing _ s.tokens h.tokens s.lexed h.lexed in
-    let heads = one_heading s.document.declared h.declared s.document.pieces (chained h.before h.element) (sym s.document.tokens_are ∙ tokens ∙ h.tokens_are) in
+    let heads = one_heading s.document.declared h.declared s.document.pieces (chained h.before h.element)
+    (sym s.document.tokens_are ∙ tokens ∙ h.tokens_are) in
     let pieces = (one_content s.document.pieces (chained h.before h.element) [] [] tt tt (ap (λ (ts : List Token). ts ++ []) heads)).0 in
-    let begins = after_margin h.before h.element r h.margin (subst (λ (q : Pieces). BeginsWithRoot q r) pieces (root_begins s.document.pieces r s.document.rooted)) in
+    let begins = after_margin h.before h.element r h.margin (subst (λ (q : Pieces). BeginsWithRoot q r) pieces
+    (root_begins s.document.pieces r s.document.rooted)) in
     let root = root_there h.element h.tag h.inside h.after r h.is_element begins in
-    listed_alike (declared_at path r.declared) scope prefix (resolves path root_scope h.tag h.inside root.0 r.root r.declared scope root.1 root.2 h.leads prefix)
+    listed_alike (declared_at path r.declared) scope prefix (resolves path root_scope h.tag h.inside root.0 r.root r.declared scope root.1
+    root.2 h.leads prefix)

@@ -16,7 +16,8 @@ BeginsWithRoot (piece.Characters blank text after) r = (blank ≡ true) × Begin
 BeginsWithRoot (piece.Section text after) r = ⊥
 BeginsWithRoot (piece.Empty tag after) r = IsElement root_scope tag [] r.root r.declared × IsMargin after
 BeginsWithRoot (piece.Start tag inside after) r =
-    (inner : List Item) × AreItems (scope_within root_scope tag) inside inner × IsElement root_scope tag inner r.root r.declared × IsMargin after
+    (inner : List Item) × AreItems (scope_within root_scope tag) inside inner × IsElement root_scope tag inner r.root r.declared
+    × IsMargin after
 
 pub chained_nothing : (c : Pieces) → chained c Nothing ≡ c
 chained_nothing Nothing = refl
@@ -47,7 +48,8 @@ element_begins (piece.Empty tag after) d e declared m h =
     let same : m.0 ≡ e = cc in
     let told : m.1 ≡ declared = cc in
     let last : m.2 ≡ [] = cc in (
-      subst (λ (x : Element). IsElement root_scope tag [] x declared) same (subst (λ (x : List Declared). IsElement root_scope tag [] m.0 x) told m.4),
+      subst (λ (x : Element). IsElement root_scope tag [] x declared) same
+          (subst (λ (x : List Declared). IsElement root_scope tag [] m.0 x) told m.4),
       no_items after d (subst (λ (is : List Item). AreItems root_scope after is) last m.5) h,
     )
 element_begins (piece.Start tag inside after) d e declared m h =
@@ -57,7 +59,8 @@ element_begins (piece.Start tag inside after) d e declared m h =
     let last : m.3 ≡ [] = cc in (
       m.0,
       m.5,
-      subst (λ (x : Element). IsElement root_scope tag m.0 x declared) same (subst (λ (x : List Declared). IsElement root_scope tag m.0 m.1 x) told m.6),
+      subst (λ (x : Element). IsElement root_scope tag m.0 x declared) same
+          (subst (λ (x : List Declared). IsElement root_scope tag m.0 m.1 x) told m.6),
       no_items after d (subst (λ (is : List Item). AreItems root_scope after is) last m.7) h,
     )
 
@@ -73,7 +76,8 @@ margin_begins (piece.Start tag inside after) d r m h = absurd m
 pub root_begins : (c : Pieces) (r : Reading) → IsRoot c r → BeginsWithRoot c r
 root_begins c r h =
     subst (λ (d : Pieces). BeginsWithRoot d r) (sym h.pieces_are)
-    (margin_begins h.before (chained h.element h.after) r h.margin_before (element_begins h.element h.after r.root r.declared h.means h.margin_after))
+    (margin_begins h.before (chained h.element h.after) r h.margin_before
+    (element_begins h.element h.after r.root r.declared h.means h.margin_after))
 
 pub begins_root : (c : Pieces) (r : Reading) → BeginsWithRoot c r → IsRoot c r
 begins_root Nothing r h = absurd h

@@ -38,7 +38,8 @@ not_bound (b ∷ bs) p f =
     rw other (not_bound bs p f.1)
 
 -- a binding of another prefix than those of the others can stand before or after them
-moved_in : (b : Binding) (bs outer : Scope) (p : List ℕ) → AllByRecursion (λ q. b.prefix ≢ q) (map prefix_of bs) → bound (bs ++ (b ∷ outer)) p ≡ bound (b ∷ (bs ++ outer)) p
+moved_in : (b : Binding) (bs outer : Scope) (p : List ℕ) → AllByRecursion (λ q. b.prefix ≢ q) (map prefix_of bs)
+    → bound (bs ++ (b ∷ outer)) p ≡ bound (b ∷ (bs ++ outer)) p
 moved_in b bs outer p f = elim (cases_Bool (bytes_eq b.prefix p)) [
   | inl e ↦
       let none : bound bs p ≡ None = subst (λ q. bound bs q ≡ None) (eq_tells b.prefix p e) (not_bound bs b.prefix f) in

@@ -55,7 +55,8 @@ AddsElement e old new before after = Adds old (spaces_of (arrange e)) new (λ ro
 
 -- a child, arranged
 abbrev pub AddsChild : Child → List (List ℕ) → List (List ℕ) → List ℕ → List ℕ → Type 0
-AddsChild c old new before after = Adds old (spaces_of_child (arrange_child c)) new (λ rows. child_bytes rows (arrange_child c)) before after
+AddsChild c old new before after =
+    Adds old (spaces_of_child (arrange_child c)) new (λ rows. child_bytes rows (arrange_child c)) before after
 
 -- what follows the attributes of an element of this name with these children, arranged
 abbrev pub AddsContent : Name → List Child → List (List ℕ) → List (List ℕ) → List ℕ → List ℕ → Type 0

@@ -11,15 +11,19 @@ use Rattle.ifmap_elem.proofs.printing.+printing.Goals as goal
 
 pub write_content-loop-child-preserved : goal.write_content-loop-child-preserved
 write_content-loop-child-preserved t c =
-    pieces_next (λ x. spaces_of_child (arrange_child x)) (λ rows x. child_bytes rows (arrange_child x)) c.args.children.now c.loop-child.child-index c.child-item.result
-    c.args.prefixes.now c.loop-child.prefixes c.write_child.new.prefixes c.extend_from_slice-2.new.self.items c.loop-child.out.items c.write_child.new.out.items
+    pieces_next (λ x. spaces_of_child (arrange_child x)) (λ rows x. child_bytes rows
+    (arrange_child x)) c.args.children.now c.loop-child.child-index c.child-item.result
+    c.args.prefixes.now c.loop-child.prefixes c.write_child.new.prefixes c.extend_from_slice-2.new.self.items c.loop-child.out.items
+    c.write_child.new.out.items
     (omega (arith, c.loop-child-test.true, ap length c.deref-child-items.ensures.value, ap length c.children.view_is))
-    (c.child-item.is ∙ ap (λ (l : List Child). get_or l c.loop-child.child-index c.child-item.result) (c.deref-child-items.ensures.value ∙ c.children.view_is))
+    (c.child-item.is ∙ ap (λ (l : List Child). get_or l c.loop-child.child-index c.child-item.result)
+    (c.deref-child-items.ensures.value ∙ c.children.view_is))
     c.loop-child.invariant c.in_ok-write_child.ensures
 
 pub write_content-returns : goal.write_content-returns
 write_content-returns t c = λ named.
-    piece_content (λ x. spaces_of_child (arrange_child x)) (λ rows x. child_bytes rows (arrange_child x)) c.args.children.now c.args.name.now c.args.prefix.now
+    piece_content (λ x. spaces_of_child (arrange_child x)) (λ rows x. child_bytes rows
+    (arrange_child x)) c.args.children.now c.args.name.now c.args.prefix.now
     c.args.prefixes.now c.loop-child.prefixes c.args.out.now.items c.extend_from_slice-2.new.self.items c.loop-child.out.items
     c.extend_from_slice-3.new.self.items c.write_name.new.out.items c.extend_from_slice-4.new.self.items
     (λ e.
@@ -28,14 +32,17 @@ write_content-returns t c = λ named.
     c.in_ok-extend_from_slice-2.ensures.items
     (subst (λ (l : List Child). Adds c.args.prefixes.now (flat_map (λ x. spaces_of_child (arrange_child x)) l) c.loop-child.prefixes
     (λ rows. flat_map (λ x. child_bytes rows (arrange_child x)) l) c.extend_from_slice-2.new.self.items c.loop-child.out.items)
-    (take_all c.loop-child.child-index c.args.children.now (omega (arith, c.loop-child-test.false, ap length c.deref-child-items.ensures.value, ap length c.children.view_is)))
+    (take_all c.loop-child.child-index c.args.children.now (omega
+    (arith, c.loop-child-test.false, ap length c.deref-child-items.ensures.value, ap length c.children.view_is)))
     c.loop-child.invariant)
     c.in_ok-extend_from_slice-3.ensures.items named c.in_ok-write_name.ensures c.in_ok-extend_from_slice-4.ensures.items
 
 pub write_element-returns : goal.write_element-returns
 write_element-returns t c =
-    piece_element c.args.element.now c.args.prefixes.now c.write_new_name.new.prefixes c.write_attributes.new.prefixes c.write_content.new.prefixes
-    c.args.out.now.items c.extend_from_slice.new.self.items c.write_new_name.new.out.items c.write_attributes.new.out.items c.write_content.new.out.items
+    piece_element c.args.element.now c.args.prefixes.now c.write_new_name.new.prefixes c.write_attributes.new.prefixes
+    c.write_content.new.prefixes
+    c.args.out.now.items c.extend_from_slice.new.self.items c.write_new_name.new.out.items c.write_attributes.new.out.items
+    c.write_content.new.out.items
     c.in_ok-extend_from_slice.ensures.items c.in_ok-prefix.ensures.added c.in_ok-write_attributes.ensures
     (c.in_ok-write_content.ensures
     (λ final f. c.in_ok-prefix.ensures.prefix final

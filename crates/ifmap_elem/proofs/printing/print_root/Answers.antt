@@ -10,14 +10,24 @@ returns c =
     let head = c.write_declarations-2.new.out.items in
     let front : put.1 ≡ head = drained_items put.0 put.1 head put.3 put.2.0 (put.2.1 ∙ c.write_declarations-2.new.out.ok.0) in
     let named =
-    prefix_final c.number.new.self c.args.element.now.name.space c.in_ok-prefix.prefix c.in_ok-prefix.ensures.numbered c.in_ok-prefix.ensures.prefix in
+    prefix_final c.number.new.self c.args.element.now.name.space c.in_ok-prefix.prefix c.in_ok-prefix.ensures.numbered
+    c.in_ok-prefix.ensures.prefix in
     let content =
-    c.in_ok-write_content.ensures (λ final f. named final (final_before c.number.new.self c.write_attributes.new.prefixes final c.in_ok-write_attributes.ensures.behind f)) in
+    c.in_ok-write_content.ensures (λ final f. named final (final_before c.number.new.self c.write_attributes.new.prefixes final
+    c.in_ok-write_attributes.ensures.behind f)) in
     let whole : AreFinal c.number.new.self c.write_content.new.prefixes =
-    record { begins = front_both c.number.new.self c.write_attributes.new.prefixes c.write_content.new.prefixes c.in_ok-write_attributes.ensures.behind content.behind; none_bare = c.spaces.ensures.none_bare } in
-    piece_root c.args.element.now c.args.spaces.now c.in_ok-prefixes.prefixes c.number.new.self c.write_attributes.new.prefixes c.write_content.new.prefixes c.spaces.result.now c.in_ok-prefix.prefix
+    record {
+      begins = front_both c.number.new.self c.write_attributes.new.prefixes c.write_content.new.prefixes
+          c.in_ok-write_attributes.ensures.behind content.behind;
+      none_bare = c.spaces.ensures.none_bare;
+    } in
+    piece_root c.args.element.now c.args.spaces.now c.in_ok-prefixes.prefixes c.number.new.self c.write_attributes.new.prefixes
+    c.write_content.new.prefixes c.spaces.result.now c.in_ok-prefix.prefix
     c.new-inside.result.items c.write_attributes.new.out.items c.write_content.new.out.items c.write_content.new.out.items
-    c.new-head.result.items c.extend_from_slice.new.self.items c.write_name.new.out.items c.write_declarations.new.out.items head c.splice.new.self.items
+    c.new-head.result.items c.extend_from_slice.new.self.items c.write_name.new.out.items c.write_declarations.new.out.items head
+    c.splice.new.self.items
     c.in_ok-prefixes.ensures c.in_ok-prefix.ensures.added c.new-inside.ensures.items c.in_ok-write_attributes.ensures content
-    c.spaces.ensures.none_bare (named c.write_content.new.prefixes whole) c.spaces.ensures.all refl c.new-head.ensures.items c.in_ok-extend_from_slice.ensures.items
-    c.in_ok-write_name.ensures c.in_ok-write_declarations.ensures c.in_ok-write_declarations-2.ensures (put.4 ∙ ap (λ l. l ++ c.write_content.new.out.items) front)
+    c.spaces.ensures.none_bare (named c.write_content.new.prefixes whole) c.spaces.ensures.all refl c.new-head.ensures.items
+    c.in_ok-extend_from_slice.ensures.items
+    c.in_ok-write_name.ensures c.in_ok-write_declarations.ensures c.in_ok-write_declarations-2.ensures
+    (put.4 ∙ ap (λ l. l ++ c.write_content.new.out.items) front)

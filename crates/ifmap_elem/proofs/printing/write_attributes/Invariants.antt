@@ -8,4 +8,5 @@ use Rattle.ifmap_elem.proofs.printing.write_attributes.Given as goal
 abbrev pub invariant-loop-attribute : goal.invariant-loop-attribute
 invariant-loop-attribute l =
     Adds l.initial.prefixes (flat_map (λ (a : Bor Attribute). a.now.name.space ∷ []) (take l.attribute-index l.attribute-items)) l.prefixes
-    (λ rows. flat_map (λ (a : Bor Attribute). attribute_bytes rows a.now) (take l.attribute-index l.attribute-items)) l.initial.out.items l.out.items
+    (λ rows. flat_map (λ (a : Bor Attribute). attribute_bytes rows a.now)
+    (take l.attribute-index l.attribute-items)) l.initial.out.items l.out.items

@@ -8,4 +8,5 @@ pub returns-clause-spelled : goal.returns-clause-spelled
 returns-clause-spelled c =
     let e = c.deref.ensures.value ∙ c.spaces.view_is in
     λ fit can. written_if_ok c.print_root.result c.args.element.now c.args.spaces.now
-    (subst (λ (l : List (List ℕ)). IfOk c.print_root.result (λ bytes. bytes ≡ written_bytes c.args.element.now l)) e c.print_root.ensures) fit can
+    (subst (λ (l : List (List ℕ)). IfOk c.print_root.result (λ bytes. bytes ≡ written_bytes c.args.element.now l)) e c.print_root.ensures)
+    fit can

@@ -6,6 +6,7 @@ use Rattle.ifmap_elem.proofs.sorting.attributes_in_order.Goals as goal
 
 pub returns : goal.returns
 returns c =
-    sorted_references c.loop-attribute.order.items c.sort_unstable.new.self.items c.sort_unstable.ensures.permutation c.sort_unstable.ensures.sorted
+    sorted_references c.loop-attribute.order.items c.sort_unstable.new.self.items c.sort_unstable.ensures.permutation
+    c.sort_unstable.ensures.sorted
     ∙ ap sort_attributes (c.loop-attribute.invariant ∙ take_all c.loop-attribute.attribute-index c.args.attributes.now
     (omega (arith, c.loop-attribute-test.false, ap length c.deref-attribute-items.ensures.value, ap length c.attributes.view_is)))

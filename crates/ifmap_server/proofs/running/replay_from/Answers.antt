@@ -7,7 +7,8 @@ use Rattle.ifmap_server.proofs.running.replay_from.Goals as goal
 
 pub returns-in_default : goal.returns-in_default
 returns-in_default g c =
-    let before = ends (g.S.Source.left c.args.source.now) (g.S.Source.faults c.args.source.now) (g.K.Sink.held c.args.sink.now) (g.K.Sink.faults c.args.sink.now) in
+    let before = ends (g.S.Source.left c.args.source.now) (g.S.Source.faults c.args.source.now) (g.K.Sink.held c.args.sink.now)
+    (g.K.Sink.faults c.args.sink.now) in
     record { ended = Err NoMemory; told = refl; promise = nothing_done before }
 
 pub returns : goal.returns

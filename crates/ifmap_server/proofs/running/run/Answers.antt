@@ -11,4 +11,7 @@ pub returns-in-Err : goal.returns-in-Err
 returns-in-Err g c =
     let wrote =
     subst (AppendsPrefix (g.K.Sink.held c.args.sink.now) (g.K.Sink.held c.send.new.sink)) c.as_bytes.ensures.value c.in-Err.ensures.bytes in
-    inr ((λ is. let form = c.form_of.ensures.replay.1 is in let wrong = c.in-Wrong.is in cc), (Keeps-refl _, inr (refl, wrote, c.in-Err.ensures.fault.failed)))
+    inr (
+      (λ is. let form = c.form_of.ensures.replay.1 is in let wrong = c.in-Wrong.is in cc),
+      (Keeps-refl _, inr (refl, wrote, c.in-Err.ensures.fault.failed)),
+    )

@@ -16,5 +16,7 @@ returns-in-Some-clause-added c = adds_prefixed c.args.self.now c.args.space.now 
 
 pub returns-clause-added : goal.returns-clause-added
 returns-clause-added c =
-    let none : is_some (lookup (bytes_eq c.args.space.now) (name_prefixes c.args.self.now)) ≡ false = ap is_some (sym c.of_space.ensures) ∙ none_unless c.of_space.result c.in_default.not-Some in
-    adds_unprefixed c.args.self.now c.add_new.new.self c.args.space.now (λ e. let h = c.is_none.ensures.1 e in cc) none c.in_ok-prefix.ensures.added
+    let none : is_some (lookup (bytes_eq c.args.space.now) (name_prefixes c.args.self.now)) ≡ false = ap is_some (sym c.of_space.ensures)
+    ∙ none_unless c.of_space.result c.in_default.not-Some in
+    adds_unprefixed c.args.self.now c.add_new.new.self c.args.space.now
+    (λ e. let h = c.is_none.ensures.1 e in cc) none c.in_ok-prefix.ensures.added
