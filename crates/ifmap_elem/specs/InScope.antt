@@ -13,7 +13,7 @@ use Rattle.ifmap_elem.specs.declared.tokens.Token.{Token}
 use Rattle.ifmap_elem.specs.Document as piece
 use Rattle.ifmap_elem.specs.Document.{Pieces, Nothing, chained, tokens_of, heading, Item, joined, is_child, AreItems, IsMargin}
 use Rattle.ifmap_elem.specs.Scopes.{Binding, Scope, NamesElement, bound, root_scope, scope_within}
-use Rattle.ifmap_elem.specs.Spells.{Spells, without_byte_order_mark}
+use Rattle.ifmap_elem.specs.Spells.{without_byte_order_mark}
 use Rattle.ifmap_elem.specs.Tokens.{TakesToken}
 
 -- the binding that a declaration tells

@@ -3,7 +3,7 @@
 -- place among all items (`place_of`), and from there to its piece (`piece_of`); an induction over the path goes from tag to tag.
 -- The other way is `child_there`.
 use Rattle.std.proofs.Common.{◌≡◌, ℕ, zero, suc, Bool, true, false, List, [], ◌∷◌, ◌++◌, length, map, refl, ap, sym, ◌∙◌, subst, append_assoc, ◌⊎◌, inl, inr}
-use Rattle.std.specs.Prelude.{filter, Option, Some, None}
+use Rattle.std.specs.Prelude.{filter, Some, None}
 use Rattle.std.specs.List.{list_any, slice_get}
 use Rattle.std.proofs.lemmas.Bool.{cases_Bool}
 use Rattle.std.proofs.lemmas.List.{append-nil}
@@ -18,13 +18,13 @@ use Rattle.ifmap_elem.specs.declared.tokens.Tag.{Tag}
 use Rattle.ifmap_elem.specs.declared.tokens.Token.{Token}
 use Rattle.ifmap_elem.specs.Document as piece
 use Rattle.ifmap_elem.specs.Document.{Pieces, Nothing, chained, Item, Inner, Run, is_inner, put_before, joined, is_child, children_among, child_of, IsElement, AreItems, IsMargin}
-use Rattle.ifmap_elem.specs.InScope.{IsElementPiece, children_before, IsChildAt, LeadsTo, HasScope, NamesElementAt, ResolvedIn, NamedHaveScopes, ScopesAreNamed}
+use Rattle.ifmap_elem.specs.InScope.{IsElementPiece, IsChildAt, LeadsTo, NamesElementAt, ResolvedIn, NamedHaveScopes, ScopesAreNamed}
 use Rattle.ifmap_elem.specs.Scopes.{Scope, root_scope, scope_within, NamesElement}
 use Rattle.ifmap_elem.specs.Spells.{Spells}
 use Rattle.ifmap_elem.specs.laws.ArrangedLaws.{one_element}
 use Rattle.ifmap_elem.specs.laws.FitLaws.{out_element, out_text}
 use Rattle.ifmap_elem.specs.laws.OneReading.{one_lexing, one_heading, one_content}
-use Rattle.ifmap_elem.specs.laws.Resolving.{IsThere, child_there, root_there, after_margin, joined_both}
+use Rattle.ifmap_elem.specs.laws.Resolving.{child_there, root_there, after_margin, joined_both}
 use Rattle.ifmap_elem.specs.laws.Roots.{BeginsWithRoot, root_begins}
 
 -- from a child element to its item

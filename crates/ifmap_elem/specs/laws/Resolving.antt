@@ -2,7 +2,7 @@
 -- The declarations at a path are those of the element's tag, and then those at the rest of the path in the child that the first index
 -- names (`below_at`). That child is found among the items (`child_there`), so an induction over the path goes from tag to tag
 -- (`resolves`), each of which adds its bindings to the scope; that they come in another order does not matter, as they differ.
-use Rattle.std.proofs.Common.{◌≡◌, ℕ, ◌+◌, ◌<◌, suc, Bool, true, false, cond, List, [], ◌∷◌, ◌++◌, length, map, reverse, take, refl, ap, sym, ◌∙◌, subst, append_assoc, arith, ◌⊎◌, inl, inr}
+use Rattle.std.proofs.Common.{◌≡◌, ℕ, ◌+◌, ◌<◌, Bool, true, false, cond, List, [], ◌∷◌, ◌++◌, length, map, reverse, refl, ap, sym, ◌∙◌, subst, append_assoc, arith, inl, inr}
 use Rattle.std.specs.Prelude.{◌==◌, codes, filter, Some, None}
 use Rattle.std.specs.List.{list_any, starts_with}
 use Rattle.std.specs.Str.{bytes_eq}
@@ -19,7 +19,7 @@ use Rattle.ifmap_elem.specs.declared.tokens.Tag.{Tag}
 use Rattle.ifmap_elem.specs.declared.tokens.Token.{Token}
 use Rattle.ifmap_elem.specs.Document as piece
 use Rattle.ifmap_elem.specs.Document.{Pieces, Nothing, chained, tokens_of, heading, Item, Inner, Run, is_inner, put_before, joined, is_child, children_among, declared_here, declared_below, from_above, IsElement, AreItems, IsMargin}
-use Rattle.ifmap_elem.specs.InScope.{binding_told, declared_at, is_listed, listed, IsElementPiece, children_before, IsChildAt, LeadsTo, HasScope, ResolvesAsDeclared}
+use Rattle.ifmap_elem.specs.InScope.{binding_told, declared_at, is_listed, listed, IsElementPiece, children_before, IsChildAt, LeadsTo, ResolvesAsDeclared}
 use Rattle.ifmap_elem.specs.Scopes.{Binding, Scope, bindings, bound, root_scope, scope_within}
 use Rattle.ifmap_elem.specs.Spells.{Spells}
 use Rattle.ifmap_elem.specs.laws.OneReading.{one_lexing, one_heading, one_content, one_meaning}
