@@ -395,8 +395,8 @@ named_there (index ∷ path) outer tag inside items root declared scope h m l =
     let t = child_there (scope_within outer tag) inside items index l.0 l.1 m l.2 in
     let n = named_there path (scope_within outer tag) l.0 l.1 t.inner t.element t.declared scope t.is_element t.inside_are l.3 in
     let at : slice_get root.children index ≡ Some (the.Element t.element) =
-        (λ i. slice_get ((h.children_are ∙ ap (map child_of) t.children_are) i) (t.index_is i))
-        ∙ element_at t.before t.element t.declared t.after
+    (λ i. slice_get ((h.children_are ∙ ap (map child_of) t.children_are) i) (t.index_is i))
+    ∙ element_at t.before t.element t.declared t.after
     in (n.0, (t.element, at, n.1), n.2)
 
 -- from the bytes
@@ -478,8 +478,7 @@ root_of (piece.Start tag inside after) r h = record {
 pub named_have_scopes : (bytes : List ℕ) (r : Reading) → Spells bytes r → NamedHaveScopes bytes r
 named_have_scopes bytes r s path e h =
     let root = root_of s.document.pieces r (root_begins s.document.pieces r s.document.rooted) in
-    let l = leads_there path root_scope root.tag root.inside root.items r.root e r.declared root.is_element root.inside_are h in
-    (
+    let l = leads_there path root_scope root.tag root.inside root.items r.root e r.declared root.is_element root.inside_are h in (
       l.0,
       record {
         tokens = s.tokens;
