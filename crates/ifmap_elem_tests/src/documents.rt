@@ -286,7 +286,7 @@ fn text_of_scope(alloc: Global, document: &str, path: &[u32]) -> Result<String, 
     };
     let scope = scope_at(alloc, &reading, path)?.copy(alloc)?;
     let mut out = String::new(alloc);
-    for (prefix, space) in &scope.bindings.0 {
+    for (prefix, space) in &scope.rows.0 {
         out.push_str(prefix.0.as_str())?;
         out.push('=')?;
         out.push_str(space.0.as_str())?;

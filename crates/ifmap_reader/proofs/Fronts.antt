@@ -1,6 +1,6 @@
 -- Two lists of tokens at the front of the same bytes: one of them goes on from the other. So where the bytes stop is one place, and so
 -- is the first tag that opens a level too many.
-use Rattle.std.proofs.Common.{◌≡◌, ℕ, ◌<◌, ◌≤◌, List, [], ◌∷◌, ◌++◌, length, refl, ap, sym, ◌∙◌, subst, append_assoc, arith, ◌⊎◌, inl, inr}
+use Rattle.std.proofs.Common.{◌≡◌, ℕ, ◌<◌, List, [], ◌∷◌, ◌++◌, refl, ap, sym, ◌∙◌, subst, append_assoc, arith, ◌⊎◌, inl, inr}
 use Rattle.std.proofs.lemmas.List.{append-nil}
 use Rattle.ifmap_lemmas.specs.Items.{To, to_last}
 use Rattle.ifmap_elem.specs.declared.readings.Reading.{Reading}
@@ -59,10 +59,9 @@ module _ (bytes : List ℕ) where
       beyond [] e l = among [] (sym (e ∙ append-nil s.tokens))
       beyond (u ∷ us) e l = s.no_further u l.0 l.1 (begins_front s.tokens u us (subst BeginsDocument e d.allowed))
 
-  pub unreadable : (depth at : ℕ) (s : Stop bytes at) → Shallow depth s.tokens → ((r : Reading) → Spells bytes r → ⊥) → at ≤ length bytes
+  pub unreadable : (depth at : ℕ) (s : Stop bytes at) → Shallow depth s.tokens → ((r : Reading) → Spells bytes r → ⊥)
       → IsUnreadable bytes depth at
-  unreadable depth at s shallow none within =
-      record { none = none; stop = s; shallow = λ place d. not_deep depth at place s shallow d; within = within }
+  unreadable depth at s shallow none = record { none = none; stop = s; shallow = λ place d. not_deep depth at place s shallow d }
 
   stops_here : (a b : ℕ) (s : Stop bytes a) (t : Stop bytes b) → GoOn s.tokens s.rest t.tokens t.rest → a ≡ b
   stops_here a b s t h = by h.0 h.1 h.2

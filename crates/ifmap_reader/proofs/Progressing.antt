@@ -125,9 +125,8 @@ module _ (bytes : List ℕ) (depth : ℕ) (w : Where) (rest : List ℕ) (at : At
     begins_so_far : BeginsDocument at.so_far
     begins_so_far = let s = some_way w in record { more = s.0; reading = s.1.0; document = (at.goes s.0 s.1.0).1 s.1.1 }
 
-    pub step_refused : (place : ℕ) → place ≡ offset bytes rest → place ≤ length bytes
-        → ((ts : List Token) (r : Reading) → GoesOn w (t ∷ ts) r → ⊥) → IsUnreadable bytes depth place
-    step_refused place is within refused =
+    pub step_refused : (place : ℕ) → place ≡ offset bytes rest → ((ts : List Token) (r : Reading) → GoesOn w (t ∷ ts) r → ⊥) → IsUnreadable bytes depth place
+    step_refused place is refused =
         unreadable bytes depth place
         (record {
           tokens = at.so_far;
@@ -140,7 +139,6 @@ module _ (bytes : List ℕ) (depth : ℕ) (w : Where) (rest : List ℕ) (at : At
         })
         at.shallow
         (λ r s. let x = spelled r s in refused x.0 r x.1)
-        within
 
     open_fits : open_in w ≤ depth
     open_fits = let f = at.fits in fitting w f
@@ -151,8 +149,8 @@ module _ (bytes : List ℕ) (depth : ℕ) (w : Where) (rest : List ℕ) (at : At
         fitting (Within (g ∷ gs)) f = omega (arith, f)
         fitting (AfterRoot root) f = omega arith
 
-    pub step_too_deep : (place : ℕ) → place ≡ offset bytes rest → place ≤ length bytes → Passes depth w t → IsTooDeep bytes depth place
-    step_too_deep place is within p =
+    pub step_too_deep : (place : ℕ) → place ≡ offset bytes rest → Passes depth w t → IsTooDeep bytes depth place
+    step_too_deep place is p =
         let s = some_way p.new in
         record {
           deeper = λ r s. let x = spelled r s in let d = goes_deep p.new x.0 r ((p.follows x.0 r).0 x.1) in let e = p.deeper in omega
@@ -170,15 +168,14 @@ module _ (bytes : List ℕ) (depth : ℕ) (w : Where) (rest : List ℕ) (at : At
             first = at.shallow;
             at_is = is;
           };
-          within = within;
         }
 
   begins : BeginsDocument at.so_far
   begins = let s = some_way w in record { more = s.0; reading = s.1.0; document = (at.goes s.0 s.1.0).1 s.1.1 }
 
   pub not_lexed : rest ≢ [] → ((t : Token) (after : List ℕ) → TakesToken rest t after → ⊥) → (place : ℕ) → place ≡ offset bytes rest
-      → place ≤ length bytes → IsUnreadable bytes depth place
-  not_lexed some none place is within =
+      → IsUnreadable bytes depth place
+  not_lexed some none place is =
       unreadable bytes depth place
       (record {
         tokens = at.so_far;
@@ -190,7 +187,6 @@ module _ (bytes : List ℕ) (depth : ℕ) (w : Where) (rest : List ℕ) (at : At
       })
       at.shallow
       (λ r s. none_ahead TakesToken (without_byte_order_mark bytes) at.so_far rest [] some none at.ahead s.tokens s.lexed)
-      within
 
   -- at the end of the input
   module _ (end : rest ≡ []) where
@@ -214,10 +210,9 @@ module _ (bytes : List ℕ) (depth : ℕ) (w : Where) (rest : List ℕ) (at : At
       at_is = is;
     }
 
-    pub ended_early : ((r : Reading) → GoesOn w [] r → ⊥) → (place : ℕ) → place ≡ offset bytes rest → place ≤ length bytes
+    pub ended_early : ((r : Reading) → GoesOn w [] r → ⊥) → (place : ℕ) → place ≡ offset bytes rest
         → IsUnreadable bytes depth place
-    ended_early none place is within =
-        unreadable bytes depth place (stopped place is) at.shallow (λ r s. none r (spelled_so_far r s)) within
+    ended_early none place is = unreadable bytes depth place (stopped place is) at.shallow (λ r s. none r (spelled_so_far r s))
 
     pub none_deep : (end_at place : ℕ) → end_at ≡ offset bytes rest → Deep bytes depth place → ⊥
     none_deep end_at place is d = not_deep bytes depth end_at place (stopped end_at is) at.shallow d
@@ -248,7 +243,7 @@ module _ (bytes : List ℕ) (depth : ℕ) (w : Where) (place : ℕ) (at : At byt
       by lexing.Malformed none =
           not_lexed bytes depth w (drop place bytes) at (some_left l)
           (subst (λ (b : List ℕ). (t : Token) (rest : List ℕ) → TakesToken b t rest → ⊥) is (none refl)) place
-          (offset_is (omega (arith, l))) (omega (arith, l))
+          (offset_is (omega (arith, l)))
       by lexing.NoMemory none = tt
 
   module _ (shown : List ℕ) (t : Token) (count : ℕ) (l : place < length bytes) (is : shown ≡ drop place bytes)
@@ -274,10 +269,10 @@ module _ (bytes : List ℕ) (depth : ℕ) (w : Where) (place : ℕ) (at : At byt
         by : (refusal : Refusal) → TokenAnswer depth w t (Err refusal) → IsRead bytes depth (Err (refusal_error refusal place))
         by refusals.NotAllowed h =
             step_refused bytes depth w (drop place bytes) at t (drop (place + count) bytes) (some_left l) taken_here alone_here place
-            (offset_is (omega (arith, l))) (omega (arith, l)) h
+            (offset_is (omega (arith, l))) h
         by refusals.TooDeep h =
             step_too_deep bytes depth w (drop place bytes) at t (drop (place + count) bytes) (some_left l) taken_here alone_here place
-            (offset_is (omega (arith, l))) (omega (arith, l)) h
+            (offset_is (omega (arith, l))) h
         by refusals.NoMemory h = tt
 
 pub shown_is : (bytes : List ℕ) (place : ℕ) → take (length bytes - place) (drop place bytes) ≡ drop place bytes
@@ -304,10 +299,10 @@ end_read bytes depth s place result at within end made = subst (λ (a : Result R
     here w a = offset_is bytes depth w place a within
 
     by : (s : Standing) → At bytes depth (where_is s) (drop place bytes) → IsRead bytes depth (read_at_end s place)
-    by standing.Start a = ended_early bytes depth AtStart (drop place bytes) a none_left no_tokens_start place (here AtStart a) within
+    by standing.Start a = ended_early bytes depth AtStart (drop place bytes) a none_left no_tokens_start place (here AtStart a)
     by (standing.Open open_elements) a =
         ended_early bytes depth (Within (reverse open_elements)) (drop place bytes) a none_left (no_tokens (reverse open_elements)) place
-        (here (Within (reverse open_elements)) a) within
+        (here (Within (reverse open_elements)) a)
     by (standing.Done r) a = (
       whole bytes depth (AfterRoot r) (drop place bytes) a none_left r (after_root_ends r),
       a.fits,

@@ -1,5 +1,5 @@
 -- When which answer of a reading comes.
-use Rattle.std.specs.Prelude.{◌≡◌, ℕ, ◌<◌, ◌≤◌, List, length, IfOk, IfErr, Result, Ok, Err}
+use Rattle.std.specs.Prelude.{◌≡◌, ℕ, ◌<◌, ◌≤◌, List, IfOk, IfErr, Result, Ok, Err}
 use Rattle.ifmap_elem.specs.declared.elements.Element.{Element}
 use Rattle.ifmap_elem.specs.declared.readings.Reading.{Reading}
 use Rattle.ifmap_elem.specs.Canonical.{canonical_bytes, canonical_reading}
@@ -21,13 +21,11 @@ pub record IsUnreadable (bytes : List ℕ) (depth at : ℕ) : Type 0 where
   pub none : (r : Reading) → Spells bytes r → ⊥
   pub stop : Stop bytes at
   pub shallow : (place : ℕ) → Deep bytes depth place → ⊥
-  pub within : at ≤ length bytes
 
 -- what is spelled nests too deep, and this is the first tag that does
 pub record IsTooDeep (bytes : List ℕ) (depth at : ℕ) : Type 0 where
   pub deeper : (r : Reading) → Spells bytes r → depth < nesting r.root
   pub deep : Deep bytes depth at
-  pub within : at ≤ length bytes
 
 -- the answer to the bytes, where at most that many levels are allowed
 abbrev pub IsRead : List ℕ → ℕ → Result Reading ReadError → Type 0

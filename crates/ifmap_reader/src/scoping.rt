@@ -17,27 +17,27 @@ use std::collections::BTreeMap;
 /// not among them.
 #[derive(Debug, Drop)]
 pub struct Scope {
-    pub bindings: Many<(Text, Text)>,
+    pub rows: Many<(Text, Text)>,
 }
 
 impl Copied for Scope {
     fn copy(&self, alloc: Global) -> Result<Self, NoMemory> {
-        let bindings = self.bindings.copy(alloc)?;
-        Ok(Scope { bindings })
+        let rows = self.rows.copy(alloc)?;
+        Ok(Scope { rows })
     }
 }
 
 /// The prefixes in scope at the element with this path of child indexes. A path that names no
 /// element is answered as the part of it that is there.
 pub fn scope_at(alloc: Global, reading: &Reading, path: &[u32]) -> Result<Scope, NoMemory>
-    ensures once { IfOk result (λ s. AllDiffer (map (λ b. b.0) s.bindings)) }
-    ensures declared { IfOk result (λ s. ListsDeclared s.bindings reading.now path.now) }
-    ensures resolved { IfOk result (λ s. ListsScope s.bindings reading.now path.now) }
+    ensures once { IfOk result (λ s. AllDiffer (map (λ row. row.0) s.rows)) }
+    ensures declared { IfOk result (λ s. ListsDeclared s.rows reading.now path.now) }
+    ensures resolved { IfOk result (λ s. ListsScope s.rows reading.now path.now) }
 {
     declarations_tell_the_scopes();
     let spaces = spaces_at(alloc, &reading.declared.0, path)?;
-    let bindings = bindings_of(alloc, spaces)?;
-    Ok(Scope { bindings })
+    let rows = rows_of(alloc, spaces)?;
+    Ok(Scope { rows })
 }
 
 // What each listed prefix is bound to: a declaration further in takes the place of one round it.
@@ -73,13 +73,13 @@ fn is_listed(prefix: &Text) -> bool
     !(prefix.0.as_bytes().is_empty() || prefix.0.as_bytes() == XML.as_bytes())
 }
 
-fn bindings_of(alloc: Global, spaces: BTreeMap<Text, Text>) -> Result<Many<(Text, Text)>, NoMemory>
-    ensures all { IfOk result (λ bindings. bindings ≡ spaces.entries) }
-    ensures once { IfOk result (λ bindings. AllDiffer (map (λ binding. binding.0) bindings)) }
+fn rows_of(alloc: Global, spaces: BTreeMap<Text, Text>) -> Result<Many<(Text, Text)>, NoMemory>
+    ensures all { IfOk result (λ rows. rows ≡ spaces.entries) }
+    ensures once { IfOk result (λ rows. AllDiffer (map (λ row. row.0) rows)) }
 {
-    let mut bindings = Vec::with_capacity(alloc, spaces.len())?;
-    for binding in spaces {
-        bindings.push(binding)?;
+    let mut rows = Vec::with_capacity(alloc, spaces.len())?;
+    for row in spaces {
+        rows.push(row)?;
     }
-    Ok(Many(bindings))
+    Ok(Many(rows))
 }

@@ -33,9 +33,9 @@ module _ (token_or_none : (bytes : List ℕ) → Decided ((t : Token) × (rest :
 
     at_end : (rest : List ℕ) → rest ≡ [] → FromThere rest
     at_end rest end AtStart at =
-        inr (inl (_, ended_early bytes depth AtStart rest at end no_tokens_start (offset bytes rest) refl (omega arith)))
+        inr (inl (_, ended_early bytes depth AtStart rest at end no_tokens_start (offset bytes rest) refl))
     at_end rest end (Within fs) at =
-        inr (inl (_, ended_early bytes depth (Within fs) rest at end (no_tokens fs) (offset bytes rest) refl (omega arith)))
+        inr (inl (_, ended_early bytes depth (Within fs) rest at end (no_tokens fs) (offset bytes rest) refl))
     at_end rest end (AfterRoot r) at = inl (
       r,
       (
@@ -54,8 +54,8 @@ module _ (token_or_none : (bytes : List ℕ) → Decided ((t : Token) × (rest :
         elim g [
           | inl l ↦ others l.0 (at_next bytes depth w rest at t after some takes only l.0 l.1)
           | inr h ↦ elim h [
-            | inl p ↦ inr (inr (place, step_too_deep bytes depth w rest at t after some takes only place refl (omega arith) p))
-            | inr none ↦ inr (inl (place, step_refused bytes depth w rest at t after some takes only place refl (omega arith) none))
+            | inl p ↦ inr (inr (place, step_too_deep bytes depth w rest at t after some takes only place refl p))
+            | inr none ↦ inr (inl (place, step_refused bytes depth w rest at t after some takes only place refl none))
           ]
         ]
 
@@ -64,7 +64,7 @@ module _ (token_or_none : (bytes : List ℕ) → Decided ((t : Token) × (rest :
     from_there (b ∷ bs) others w at = elim (token_or_none (b ∷ bs)) [
       | inr none ↦
           let place = offset bytes (b ∷ bs) in
-          inr (inl (place, not_lexed bytes depth w (b ∷ bs) at (λ e. cc) (λ t after l. none (t, after, l)) place refl (omega arith)))
+          inr (inl (place, not_lexed bytes depth w (b ∷ bs) at (λ e. cc) (λ t after l. none (t, after, l)) place refl))
       | inl t ↦ at_token (b ∷ bs) (λ e. cc) w at t.0 t.1 t.2 (others t.1 (some_bytes (b ∷ bs) t.0 t.1 t.2)) (goes depth w t.0)
     ]
 

@@ -1,5 +1,5 @@
 use Rattle.std.proofs.Common.{◌≡◌, ◌++◌}
-use Rattle.ifmap_reader.proofs.scoping.bindings_of.Given as goal
+use Rattle.ifmap_reader.proofs.scoping.rows_of.Given as goal
 
-abbrev pub invariant-loop-binding : goal.invariant-loop-binding
-invariant-loop-binding l = l.bindings.items ++ l.binding-iterator ≡ l.fn.spaces.entries
+abbrev pub invariant-loop-row : goal.invariant-loop-row
+invariant-loop-row l = l.rows.items ++ l.row-iterator ≡ l.fn.spaces.entries

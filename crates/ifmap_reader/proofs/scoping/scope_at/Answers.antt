@@ -8,7 +8,7 @@ use Rattle.ifmap_reader.proofs.scoping.scope_at.Goals as goal
 
 pub returns-clause-declared : goal.returns-clause-declared
 returns-clause-declared c = λ prefix.
-    ap (lookup (bytes_eq prefix)) c.in_ok-bindings.ensures.all ∙ found_by_text c.in_ok-spaces.spaces.entries prefix
+    ap (lookup (bytes_eq prefix)) c.in_ok-rows.ensures.all ∙ found_by_text c.in_ok-spaces.spaces.entries prefix
     ∙ c.in_ok-spaces.ensures prefix
     ∙ ap (λ ds. listed (declared_at c.args.path.now ds) prefix) (c.deref.ensures.value ∙ ap (λ (r : Reading). r.declared) c.reading.view_is)
 
