@@ -1,16 +1,18 @@
 -- The oldest entry goes to the base, and a new entry is written.
-use Rattle.std.proofs.Common.{◌≡◌, ℕ, ◌+◌, ◌-◌, ◌^◌, ◌<◌, ◌≤◌, List, [], ◌∷◌, ◌++◌, length, drop, slice_index_or, refl, sym, ap, ◌∙◌, arith, length-append, append-nil}
+use Rattle.std.proofs.Common.{◌≡◌, ℕ, ◌+◌, ◌-◌, ◌^◌, ◌<◌, ◌≤◌, List, [], ◌∷◌, ◌++◌, zero, suc, length, drop, slice_index_or, refl, sym, ap, ◌∙◌, inl, inr, arith, length-append, length-drop, drop-drop, append-nil}
+use Rattle.std.proofs.lemmas.Bool.{cases_lt}
 use Rattle.std.proofs.lemmas.List.Elements.{recursion_from_All, All-from_recursion, All-append}
 use Rattle.std.proofs.lemmas.List.Sums.{sum_by-cons, sum_by-append}
 use Rattle.std.specs.Prelude.{sum_by}
 use Rattle.ifmap_hall.specs.Sights.{CarriesOn}
 use Rattle.ifmap_hall.specs.Answers.{IfNoMemory}
 use Rattle.ifmap_hall.specs.Books.{IsBalanced, IsBook, sight_of}
-use Rattle.ifmap_hall.specs.Turns.{Settles}
+use Rattle.ifmap_hall.specs.Turns.{Settles, HadToGo}
 use Rattle.ifmap_hall.specs.declared.book.Asked.{Asked}
 use Rattle.ifmap_hall.specs.declared.book.Asked.TheVariants.{Done, Held, Spent, NoMemory}
 use Rattle.ifmap_hall.specs.declared.book.Book.{Book}
 use Rattle.ifmap_hall.proofs.CarryingOn.{run-append, carries-itself, carries-through}
+use Rattle.ifmap_hall.proofs.General.{none_left}
 
 module _ {M E : Type 0} (next : M → E → M) (weight : E → ℕ) where
   settled_at : (m base : M) (from bytes limit heaviest : ℕ) (z : ℕ × E) (zs : List (ℕ × E))
@@ -96,6 +98,41 @@ module _ {M E R : Type 0} (next : M → E → M) (weight : E → ℕ) where
     limits = record { limit = t.limits.limit ∙ s.limits.limit; heaviest = t.limits.heaviest ∙ s.limits.heaviest };
     ends = t.ends ∙ s.ends;
   }
+
+  -- what settles leaves the rest of the journal
+  left_of : (b c : Book M E R) → Settles next weight b c → c.journal.items ≡ drop (c.from - b.from) b.journal.items
+  left_of b c s =
+      let ends = s.ends in
+      let r = s.carries.rest (omega arith) in
+      let l : length c.journal.items ≡ (length b.journal.items - (c.from - b.from)) + length r.0 =
+      ap length r.1 ∙ length-append (drop (c.from - b.from) b.journal.items) r.0
+      ∙ ap (λ n. n + length r.0) (length-drop (c.from - b.from) b.journal.items) in
+      let from = s.carries.from in
+      r.1 ∙ ap (λ ys. drop (c.from - b.from) b.journal.items ++ ys) (none_left r.0 (omega arith))
+      ∙ append-nil (drop (c.from - b.from) b.journal.items)
+
+  -- the oldest entry had to go where there was no room
+  pub one_had_to_go : (b c : Book M E R) → IsBook next weight b → c.from ≤ b.from + 1 → (heavy : ℕ) → b.limit < b.bytes + heavy
+      → HadToGo weight b c heavy
+  one_had_to_go b c book one heavy full zero k = let w = book.weighed in omega arith
+  one_had_to_go b c book one heavy full (suc n) k = absurd (omega arith)
+
+  -- what had to go, and had to go after it
+  pub had_to_go_on : (b c d : Book M E R) (heavy : ℕ) → Settles next weight b c → HadToGo weight b c heavy → c.from ≤ d.from
+      → HadToGo weight c d heavy → HadToGo weight b d heavy
+  had_to_go_on b c d heavy s few up more k below = elim (cases_lt k (c.from - b.from)) [
+    | inl early ↦ few k early
+    | inr late ↦
+        let n = c.from - b.from in
+        let from = s.carries.from in
+        let at : n + (k - n) ≡ k = omega arith in
+        let same : drop (k - n) c.journal.items ≡ drop k b.journal.items = ap (drop (k - n)) (left_of b c s)
+        ∙ drop-drop (k - n) n b.journal.items ∙ ap (λ i. drop i b.journal.items) (omega arith) in
+        let limit = s.limits.limit in
+        let sums = ap (λ (es : List (ℕ × E)). sum_by (λ (e : ℕ × E). weight e.1) es) same in
+        let over = more (k - n) (omega arith) in
+        omega arith
+  ]
 
   -- where the base is the same, nothing changed
   pub settles_none : (b : Book M E R) (base : M) → base ≡ b.base → IsBook next weight b → Settles next weight b (record b { base = base })

@@ -14,6 +14,10 @@ module _ {M E R : Type 0} {G : Ghosts M E R} where
   abbrev pub number_of : Pass M E R G → ℕ
   number_of p = p.number
 
+  -- how many parts it has to give away: where there are two, it can be split
+  abbrev pub parts_of : Pass M E R G → ℕ
+  parts_of p = p.parts
+
   -- the pass is of this hall
   pub record IsOf (h : Hall M E R) (p : Pass M E R G) : Type 0 where
     pub table : p.seat.table_id ≡ h.table.shared.table_id

@@ -1,5 +1,5 @@
 -- What becomes of a book.
-use Rattle.std.specs.Prelude.{◌≡◌, ℕ, ◌+◌, List, [], ◌∷◌, ◌++◌, length}
+use Rattle.std.specs.Prelude.{◌≡◌, ℕ, ◌+◌, ◌-◌, ◌<◌, List, [], ◌∷◌, ◌++◌, length, drop, sum_by}
 use Rattle.ifmap_hall.specs.Books.{IsBook, sight_of, end_of_book}
 use Rattle.ifmap_hall.specs.Sights.{Sight, CarriesOn}
 use Rattle.ifmap_hall.specs.declared.book.Book.{Book}
@@ -22,6 +22,11 @@ module _ {M E R : Type 0} where
     pub machine : new.machine ≡ old.machine
     pub limits : SameLimits old new
     pub ends : end_of_book new ≡ end_of_book old
+
+  -- no entry went to the base without need: before each that went, an event of this weight was too heavy for what was left
+  abbrev pub HadToGo : (E → ℕ) → Book M E R → Book M E R → ℕ → Type 0
+  HadToGo weight old new heavy =
+      (k : ℕ) → k < new.from - old.from → old.limit < heavy + sum_by (λ e. weight e.1) (drop k old.journal.items)
 
   -- the event became the last entry, at the place that was next, and got the reply of the machine before it
   pub record Enters (reply : M → E → R) (old new : Book M E R) (pass : ℕ) (event : E) (place : ℕ) (r : R) : Type 0 where

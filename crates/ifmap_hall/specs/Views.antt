@@ -1,7 +1,8 @@
 -- What a pass is seen as, and how that changes where it is split or joined.
+use native.Mathlib.Bridge.{le_prop}
 use Rattle.std.specs.Prelude.{Bool, ◌≤◌, [], length, true, false, nat_eq, nat_lt, if◌then◌else◌, ◌||◌, ◌&&◌}
 use Rattle.ifmap_hall.specs.Histories.{no_history, sight_in}
-use Rattle.ifmap_hall.specs.Places.{Rises, merge}
+use Rattle.ifmap_hall.specs.Places.{Rises, Rises-prop, merge}
 use Rattle.ifmap_hall.specs.Sights.{Sight}
 use Rattle.ifmap_hall.specs.declared.view.History.{History}
 use Rattle.ifmap_hall.specs.declared.view.Terms.{Terms}
@@ -20,6 +21,13 @@ module _ {M E R : Type 0} where
   pub record IsSound (v : View M E R) : Type 0 where
     pub inside : v.history.from ≤ length v.history.log
     pub mine : Rises 0 v.mine (length v.history.log)
+
+  -- there is one proof at most of that
+  pub IsSound-prop : (v : View M E R) → IsProp (IsSound v)
+  IsSound-prop v a b = λ i. record {
+    inside = le_prop a.inside b.inside i;
+    mine = Rises-prop 0 v.mine (length v.history.log) a.mine b.mine i;
+  }
 
   -- the first pass of a hall
   abbrev pub first_view : Terms M → View M E R

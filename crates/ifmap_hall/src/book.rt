@@ -4,7 +4,7 @@ ghost use Rattle.std.specs.Prelude.{List, [], ◌∷◌, ◌++◌, true, false, 
 ghost use Rattle.ifmap_hall.specs.Answers.{IfDone, IfHeld, IfSpent, IfNoMemory};
 ghost use Rattle.ifmap_hall.specs.Books.{sight_of, end_of_book, IsBook};
 ghost use Rattle.ifmap_hall.specs.Sights.{CarriesOn};
-ghost use Rattle.ifmap_hall.specs.Turns.{Settles, SameLimits, Enters};
+ghost use Rattle.ifmap_hall.specs.Turns.{Settles, SameLimits, HadToGo, Enters};
 
 use crate::machine::Machine;
 use std::alloc::{AllocError as NoMemory, Global};
@@ -66,6 +66,8 @@ where
         ensures settles { Settles M.next M.weight_of self.old self.new }
         ensures one { OnOk result
             (length self.new.journal.items + 1 ≡ length self.old.journal.items) }
+        ensures few { (heavy : ℕ) → self.old.limit < self.old.bytes + heavy
+            → HadToGo M.weight_of self.old self.new heavy }
     {
         let Some(oldest) = self.journal.front() else {
             unreachable!();
@@ -84,6 +86,7 @@ where
         requires light { weight ≤ self.old.heaviest }
         ensures settles { Settles M.next M.weight_of self.old self.new }
         ensures room { OnOk result (self.new.bytes + weight ≤ self.new.limit) }
+        ensures few { HadToGo M.weight_of self.old self.new weight }
     {
         while self.bytes > self.limit - weight {
             self.settle_one(alloc)?;
@@ -106,6 +109,7 @@ where
         ensures book { IsBook M.next M.weight_of self.new }
         ensures carries { CarriesOn M.next (sight_of self.old) (sight_of self.new) }
         ensures limits { SameLimits self.old self.new }
+        ensures from { self.new.from ≡ self.old.from }
         ensures done { IfDone result (λ place reply.
             Enters M.reply self.old self.new pass event place reply) }
         ensures held { IfHeld result (λ _ _. ⊥) }
@@ -139,6 +143,7 @@ where
         ensures book { IsBook M.next M.weight_of self.new }
         ensures carries { CarriesOn M.next (sight_of self.old) (sight_of self.new) }
         ensures limits { SameLimits self.old self.new }
+        ensures few { HadToGo M.weight_of self.old self.new (M.weight_of event) }
         ensures done { IfDone result (λ place reply.
             (place < 2 ^ 64 - 1) × (M.holds_on self.old.machine event ≡ false)
             × Enters M.reply self.old self.new pass event place reply) }

@@ -1,5 +1,5 @@
 //! The calls of a hall.
-ghost use Rattle.std.specs.Prelude.{◌≡◌, ℕ, ◌+◌, ◌*◌, ◌^◌, ◌<◌, ◌≤◌, true, [], IfOk, OnErr};
+ghost use Rattle.std.specs.Prelude.{◌≡◌, ℕ, ◌+◌, ◌-◌, ◌*◌, ◌^◌, ◌<◌, ◌≤◌, true, [], IfOk, OnErr};
 ghost use Rattle.ifmap_hall.specs.Books.{sight_of, IsBook};
 ghost use Rattle.ifmap_hall.specs.Sights.{CarriesOn};
 ghost use Rattle.ifmap_hall.specs.Places.{times};
@@ -8,7 +8,7 @@ ghost use Rattle.ifmap_hall.specs.SeatViews.{share};
 ghost use Rattle.ifmap_hall.specs.Views.{first_view, kept_view, given_view, joint_view};
 ghost use Rattle.ifmap_hall.specs.Views.{sight_by, IsSound};
 ghost use Rattle.ifmap_hall.specs.Asking.{TookATurn, Answered, AnsweredFromBase};
-ghost use Rattle.ifmap_hall.specs.Passes.{IsOf, view_of, number_of};
+ghost use Rattle.ifmap_hall.specs.Passes.{IsOf, view_of, number_of, parts_of};
 
 use crate::asking::{ask_seat, await_turn};
 use crate::book::{Asked, Book};
@@ -47,6 +47,8 @@ where
         requires room { 2 * heaviest ≤ limit }
         ensures hall { IfOk result (λ r. IsOf r.0 r.1) }
         ensures view { IfOk result (λ r. view_of r.1 ≡ first_view (view_of r.1).terms) }
+        ensures sound { IfOk result (λ r. IsSound (view_of r.1)) }
+        ensures parts { IfOk result (λ r. parts_of r.1 ≡ 2 ^ 64 - 1) }
         ensures opening { IfOk result (λ r. (view_of r.1).terms.opening.value ≡ base) }
         ensures limit { IfOk result (λ r. (view_of r.1).terms.limit ≡ limit) }
         ensures heaviest { IfOk result (λ r. (view_of r.1).terms.heaviest ≡ heaviest) }
@@ -80,9 +82,11 @@ where
         ))
     }
 
-    /// Another pass of this hall, which has seen the same and has asked nothing. `Err` comes where
-    /// the pass has no part left to give, after more than two million splits of one pass or some
-    /// four levels of splits of splits, and leaves it as it was.
+    /// Another pass of this hall, which has seen the same and has asked nothing. It gets a 65,536th
+    /// of the parts that this one has to give away, or one where there are fewer than 65,536. `Err`
+    /// comes only where there are fewer than two, and leaves the pass as it was. A new hall's pass
+    /// has 2^64 - 1, which last for more than two million splits of one pass, and for four levels
+    /// of splits of splits.
     pub fn split(&self, pass: &mut Pass<M>) -> Result<Pass<M>, NoMemory>
         requires hall { IsOf self.now pass.old }
         ensures hall { IsOf self.now pass.new }
@@ -90,7 +94,13 @@ where
         ensures kept { IfOk result (λ _. view_of pass.new ≡ kept_view (view_of pass.old)) }
         ensures given { IfOk result (λ p. view_of p ≡ given_view (view_of pass.old)) }
         ensures given_hall { IfOk result (λ p. IsOf self.now p) }
-        ensures err { OnErr result (view_of pass.new ≡ view_of pass.old) }
+        ensures sound { IsSound (view_of pass.new) }
+        ensures given_sound { IfOk result (λ p. IsSound (view_of p)) }
+        ensures parts { IfOk result (λ p. (parts_of p ≡ share (parts_of pass.old))
+            × (parts_of pass.new + parts_of p ≡ parts_of pass.old)) }
+        ensures err { OnErr result ((view_of pass.new ≡ view_of pass.old)
+            × (parts_of pass.new ≡ parts_of pass.old)) }
+        ensures err_when { OnErr result (parts_of pass.old < 2) }
     {
         if pass.parts < 2 {
             return Err(NoMemory);
@@ -122,6 +132,7 @@ where
         ensures apart { (x : ℕ)
             → times x (view_of into.old).mine + times x (view_of from).mine ≤ 1 }
         ensures sound { IsSound (view_of into.new) }
+        ensures parts { parts_of into.new ≡ parts_of into.old + parts_of from }
     {
         let Pass {
             seat,
@@ -147,6 +158,7 @@ where
         requires light { M.weight_of event ≤ (view_of pass.old).terms.heaviest }
         ensures hall { IsOf self.now pass.new }
         ensures number { number_of pass.new ≡ number_of pass.old }
+        ensures parts { parts_of pass.new ≡ parts_of pass.old }
         ensures carries { CarriesOn M.next
             (sight_by M.next (view_of pass.old)) (sight_by M.next (view_of pass.new)) }
         ensures took { TookATurn (view_of pass.old) (view_of pass.new) }

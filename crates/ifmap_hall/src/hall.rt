@@ -1,7 +1,8 @@
 //! A hall and a pass. Their ghost fields import all that this file names, so their methods stand in
 //! `calls`.
-ghost use Rattle.std.specs.Prelude.{◌≡◌, ◌<◌, ◌≤◌, length};
+ghost use Rattle.std.specs.Prelude.{◌≡◌, ◌<◌, ◌≤◌};
 ghost use Rattle.ifmap_hall.specs.SeatViews.{IsAtRest};
+ghost use Rattle.ifmap_hall.specs.Views.{IsSound, IsSound-prop};
 
 use crate::book::Book;
 use crate::machine::Machine;
@@ -27,10 +28,10 @@ pub struct Pass<M: Machine> {
     pub(crate) number: u64,
     // How many passes were split from it.
     pub(crate) made: u64,
-    // A lower bound of the parts that its seat has, so that a sum of them may stand still.
+    // Parts of the right to draw, no more than its seat has.
     pub(crate) parts: u64,
     ghost rests: { IsAtRest seat.me },
     ghost some_part: { 0 < parts },
     ghost parts_there: { parts ≤ seat.me.0.parts },
-    ghost inside: { seat.me.0.view.history.from ≤ length seat.me.0.view.history.log },
+    ghost sound: { IsSound seat.me.0.view } by { IsSound-prop seat.me.0.view },
 }

@@ -2,7 +2,7 @@
 ghost use Rattle.std.specs.Prelude.{◌≡◌, ◌+◌, ◌*◌, ◌<◌, ◌≤◌, IfOk};
 ghost use Rattle.ifmap_hall.specs.Books.{IsBook};
 
-use crate::till::{Payment, Till, Told, heavy, pay, tell};
+use crate::till::{Payment, Till, Told, heavy, light, pay, tell};
 use ifmap_hall::{Asked, Book, Hall, Machine, carries_itself, carries_through};
 use std::alloc::{AllocError as NoMemory, Global};
 use std::collections::VecDeque;
@@ -19,6 +19,29 @@ fn the_oldest_entry_goes_to_the_base(rt: HostRuntime) -> Result<(), Fail> {
     let book = hall.close(&rt, pass);
     assert!(rt; book.from == 1 && book.bytes == 1200 && book.journal.len() == 2);
     assert!(rt; book.base.sum == 5 && book.machine.sum == 21 && book.end() == 3);
+    Ok(())
+}
+
+#[test]
+fn no_entry_goes_while_there_is_room(rt: HostRuntime) -> Result<(), Fail> {
+    let alloc = rt.alloc();
+    let (hall, mut pass) = Hall::begin(alloc, Till { sum: 0 }, Till { sum: 0 }, 1200, 600)?;
+    let first = tell(pay(&rt, alloc, &hall, &mut pass, light(5)));
+    let second = tell(pay(&rt, alloc, &hall, &mut pass, light(7)));
+    let third = tell(pay(&rt, alloc, &hall, &mut pass, light(9)));
+    let fourth = tell(pay(&rt, alloc, &hall, &mut pass, light(1)));
+    let got = [first, second, third, fourth];
+    assert!(rt;
+        got == [
+            Told::Done(0, 0),
+            Told::Done(1, 5),
+            Told::Done(2, 12),
+            Told::Done(3, 21)
+        ]
+    );
+    let book = hall.close(&rt, pass);
+    assert!(rt; book.from == 0 && book.bytes == 1200 && book.journal.len() == 4);
+    assert!(rt; book.base.sum == 0 && book.machine.sum == 22);
     Ok(())
 }
 

@@ -151,12 +151,19 @@ fn is_same<R: Wait>(rt: &R, alloc: Global, rows: &[Row]) -> Result<bool, NoMemor
 
 #[test]
 fn small_runs_are_those_of_a_plain_list(rt: HostRuntime) -> Result<(), Fail> {
-    let runs: [&[Row]; 7] = [
+    let runs: [&[Row]; 8] = [
         &[],
         // The oldest entry goes to the base, and no other.
         &[(false, 1, 0, 600), (true, 2, 0, 600), (false, 3, 0, 600)],
         // Held until the other pass pays in.
         &[(true, 1, 2, 100), (false, 2, 0, 100), (true, 1, 2, 100)],
+        // Four that just fit, of which none goes.
+        &[
+            (false, 4, 0, 300),
+            (true, 5, 0, 300),
+            (true, 6, 0, 300),
+            (false, 7, 0, 300),
+        ],
         // Many light ones go for one heavy one.
         &[
             (false, 4, 0, 300),

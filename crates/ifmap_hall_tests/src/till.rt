@@ -98,3 +98,12 @@ pub(crate) fn heavy(amount: u64) -> Payment {
         weight: 600,
     }
 }
+
+/// An amount of half that weight, paid in at once.
+pub(crate) fn light(amount: u64) -> Payment {
+    Payment {
+        amount,
+        level: 0,
+        weight: 300,
+    }
+}

@@ -1,5 +1,5 @@
-use Rattle.std.proofs.Common.{refl}
-use Rattle.ifmap_hall.proofs.Settling.{settled, one_carries, one_end, settles_none}
+use Rattle.std.proofs.Common.{◌+◌, ◌-◌, refl, arith}
+use Rattle.ifmap_hall.proofs.Settling.{settled, one_carries, one_end, settles_none, one_had_to_go}
 use Rattle.ifmap_hall.proofs.book.Book.settle_one.Goals as goal
 
 pub returns-clause-settles : goal.returns-clause-settles
@@ -22,3 +22,15 @@ returns-clause-settles g c =
 pub returns-in_err-_reply-clause-settles : goal.returns-in_err-_reply-clause-settles
 returns-in_err-_reply-clause-settles g c =
     settles_none g.M.Machine.next g.M.Machine.weight_of c.args.self.now c.step.new.self c.in_err-_reply.ensures c.requires.book
+
+pub returns-clause-few : goal.returns-clause-few
+returns-clause-few g c heavy full =
+    let b = c.args.self.now in
+    one_had_to_go g.M.Machine.next g.M.Machine.weight_of b
+    (record b {
+      base = c.step.new.self;
+      from = b.from + 1;
+      journal = c.pop_front-gone.new.self;
+      bytes = b.bytes - c.weight-weight.result;
+    })
+    c.requires.book (omega arith) heavy full

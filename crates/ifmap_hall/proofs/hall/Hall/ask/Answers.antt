@@ -3,7 +3,7 @@ use Rattle.ifmap_hall.proofs.hall.Hall.ask.Goals as goal
 
 pub returns-clause-carries : goal.returns-clause-carries
 returns-clause-carries g c =
-    turn_carries g.M.Machine.next c.args.pass.now.seat.me.0.view c.ask_seat.new.seat.me.0.view c.args.pass.now.inside
+    turn_carries g.M.Machine.next c.args.pass.now.seat.me.0.view c.ask_seat.new.seat.me.0.view c.args.pass.now.sound.inside
     c.ask_seat.ensures.took
 
 pub returns-clause-from_base : goal.returns-clause-from_base

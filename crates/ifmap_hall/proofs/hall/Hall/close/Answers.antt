@@ -32,7 +32,7 @@ returns-clause-whole g c =
 pub returns-clause-carries : goal.returns-clause-carries
 returns-clause-carries g c =
     let found = returns-clause-whole g c in
-    found_carries g.M.Machine.next g.M.Machine.weight_of c.args.pass.seat.me.0.view found.0 c.in-Some.book c.args.pass.inside
+    found_carries g.M.Machine.next g.M.Machine.weight_of c.args.pass.seat.me.0.view found.0 c.in-Some.book c.args.pass.sound.inside
     found.1
 
 pub returns-clause-book : goal.returns-clause-book

@@ -1,4 +1,4 @@
-use Rattle.std.proofs.Common.{◌∙◌, sym, subst}
+use Rattle.std.proofs.Common.{◌+◌, ◌<◌, ◌∙◌, sym, subst, arith}
 use Rattle.ifmap_hall.specs.SeatViews.{IsSoundSeat}
 use Rattle.ifmap_hall.specs.Sights.{CarriesOn}
 use Rattle.ifmap_hall.specs.Views.{IsSound, sight_by}
@@ -12,7 +12,7 @@ returns-clause-carries_this g c =
     let u = c.args.from.seat.me.0 in
     let sound = subst (λ m. IsSoundSeat m.0) c.glue.ensures.both c.check.ensures.sound in
     subst (λ m. CarriesOn next (sight_by next s.view) (sight_by next m.0.view)) (sym (c.check.ensures.same ∙ c.glue.ensures.both))
-    (joint_carries next s u (c.requires.hall.0.terms ∙ sym c.requires.hall.1.terms) c.args.into.now.inside c.args.from.inside sound).0
+    (joint_carries next s u (c.requires.hall.0.terms ∙ sym c.requires.hall.1.terms) c.args.into.now.sound.inside c.args.from.sound.inside sound).0
 
 pub returns-clause-carries_other : goal.returns-clause-carries_other
 returns-clause-carries_other g c =
@@ -21,7 +21,7 @@ returns-clause-carries_other g c =
     let u = c.args.from.seat.me.0 in
     let sound = subst (λ m. IsSoundSeat m.0) c.glue.ensures.both c.check.ensures.sound in
     subst (λ m. CarriesOn next (sight_by next u.view) (sight_by next m.0.view)) (sym (c.check.ensures.same ∙ c.glue.ensures.both))
-    (joint_carries next s u (c.requires.hall.0.terms ∙ sym c.requires.hall.1.terms) c.args.into.now.inside c.args.from.inside sound).1
+    (joint_carries next s u (c.requires.hall.0.terms ∙ sym c.requires.hall.1.terms) c.args.into.now.sound.inside c.args.from.sound.inside sound).1
 
 pub returns-clause-apart : goal.returns-clause-apart
 returns-clause-apart g c =
@@ -30,3 +30,13 @@ returns-clause-apart g c =
 
 pub returns-clause-sound : goal.returns-clause-sound
 returns-clause-sound g c = subst (λ m. IsSound m.0.view) (sym c.check.ensures.same) c.check.ensures.sound.view
+
+pub returns-clause-parts : goal.returns-clause-parts
+returns-clause-parts g c =
+    let s = c.args.into.now.seat.me.0 in
+    let u = c.args.from.seat.me.0 in
+    let sound = subst (λ m. IsSoundSeat m.0) c.glue.ensures.both c.check.ensures.sound in
+    let fits : s.parts + u.parts < 18446744073709551616 = sound.parts in
+    let there = c.args.into.now.parts_there in
+    let other = c.args.from.parts_there in
+    omega arith
