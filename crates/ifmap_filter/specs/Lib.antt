@@ -1,0 +1,3 @@
+-- What filters mean, in reading order.
+pub mod Holding
+pub mod Meets
