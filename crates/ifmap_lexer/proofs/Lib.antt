@@ -2,6 +2,7 @@ pub mod deciding
 pub mod AssignmentLaws
 pub mod Basics
 pub mod CharacterLaws
+pub mod EndLaws
 pub mod ExpansionLaws
 pub mod KindLaws
 pub mod NameLaws
@@ -12,4 +13,5 @@ pub mod SettingLaws
 pub mod SplitLaws
 pub mod Tables
 pub mod TokenLaws
+pub mod VerbatimLaws
 pub mod WordLaws

@@ -94,7 +94,7 @@ no_part_of_none (b ∷ bs) e p = absurd (omega arith)
 no_colon : (b : ℕ) → is_part_byte b ≡ true → is_but 58 b ≡ true
 no_colon b h = rw (is_other b 58 (λ e. let wrong : false ≡ true = subst (λ (n : ℕ). is_part_byte n ≡ true) e h in cc)) refl
 
-prefixed_some : (prefix local : List ℕ) → prefix ≢ [] → prefixed prefix local ≡ prefix ++ (58 ∷ local)
+pub prefixed_some : (prefix local : List ℕ) → prefix ≢ [] → prefixed prefix local ≡ prefix ++ (58 ∷ local)
 prefixed_some [] local some = absurd (some refl)
 prefixed_some (b ∷ bs) local some = refl
 

@@ -8,6 +8,7 @@ use Rattle.ifmap_elem.specs.declared.tokens.Assignment.{Assignment}
 use Rattle.ifmap_elem.specs.declared.tokens.Qualified.{Qualified}
 use Rattle.ifmap_elem.specs.declared.tokens.Tag.{Tag}
 use Rattle.ifmap_elem.specs.declared.tokens.Token.{Token}
+use Rattle.ifmap_elem.specs.declared.tokens.Token.TheVariants.{End}
 use Rattle.ifmap_lexer.specs.Cutting.{Stops, is_but}
 use Rattle.ifmap_lexer.specs.Names.{is_name_byte}
 use Rattle.ifmap_lexer.specs.Runs.{part_in}
@@ -76,3 +77,18 @@ NoToken bytes = (t : Token) (rest : List ℕ) → TakesToken bytes t rest → �
 -- the token is the only one there, and what it leaves the only rest
 abbrev pub IsAlone : List ℕ → Token → List ℕ → Type 0
 IsAlone bytes token left = (t : Token) (rest : List ℕ) → TakesToken bytes t rest → (t ≡ token) × (rest ≡ left)
+
+-- the name with these parts, and what is after it
+abbrev pub qualified : List ℕ → List ℕ → Qualified
+qualified prefix local = record { prefix = prefix; local = local }
+
+abbrev pub BeginsNamed : List ℕ → List ℕ → List ℕ → List ℕ → Type 0
+BeginsNamed prefix local bytes rest = IsQualified (qualified prefix local) × (bytes ≡ name_bytes (qualified prefix local) ++ rest)
+
+-- the end tag of the name with these parts
+abbrev pub end_of : List ℕ → List ℕ → Token
+end_of prefix local = End (qualified prefix local)
+
+-- the end tag stands at the front, as the only token there, and this is left
+abbrev pub TakesEndTag : List ℕ → List ℕ → List ℕ → List ℕ → Type 0
+TakesEndTag prefix local bytes rest = TakesToken bytes (end_of prefix local) rest × IsAlone bytes (end_of prefix local) rest

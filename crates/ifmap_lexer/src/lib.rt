@@ -16,4 +16,4 @@ mod tokens;
 mod values;
 
 pub use errors::LexError;
-pub use lexing::{Lexed, token_of};
+pub use lexing::{Lexed, end_tag_length, token_of};

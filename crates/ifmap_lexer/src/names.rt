@@ -1,16 +1,16 @@
 //! Names as they are written.
-ghost use Rattle.std.specs.Prelude.{◌≡◌, ◌&&◌, ◌++◌, ◌↔◌, ℕ, List, IfErr, IfOk, IsTrue};
+ghost use Rattle.std.specs.Prelude.{◌≡◌, ◌&&◌, ◌++◌, ◌↔◌, ℕ, List, IfErr, IfOk, IfSome, IsTrue};
 ghost use Rattle.std.specs.List.{list_all, prefix_len};
 ghost use Rattle.ifmap_elem.specs.declared.tokens.Qualified.{Qualified};
 ghost use Rattle.ifmap_elem.specs.Names.{IsNamePart, IsQualified, is_name_start, is_name_character, name_bytes};
-ghost use Rattle.ifmap_lexer.specs.There.{NameAt, SomeName, Written};
+ghost use Rattle.ifmap_lexer.specs.There.{BeginsNamed, NameAt, SomeName, Written};
 ghost use Rattle.ifmap_lexer.specs.Cutting.{Cuts, Stops};
 ghost use Rattle.std.specs.Bool.{OnTrue};
 ghost use Rattle.ifmap_lexer.specs.Names.{is_name_byte, stands_in_ascii, starts_in_ascii};
 ghost use Rattle.ifmap_lexer.specs.Refusing.{Refuses};
 
 use crate::errors::LexError;
-use crate::splitting::split_round_byte;
+use crate::splitting::{after_word, split_round_byte};
 use ifmap_elem::Text;
 use ifmap_elem::tokens::Qualified;
 use std::alloc::Global;
@@ -23,6 +23,28 @@ pub(crate) fn name_of(alloc: Global, bytes: &[u8]) -> Result<(Qualified, &[u8]),
     let (run, rest) = split_name(bytes);
     let name = qualified_name(alloc, run)?;
     Ok((name, rest))
+}
+
+// What is after the name with these parts, where it stands at the front and is of ASCII alone.
+pub(crate) fn after_ascii_name<'a>(prefix: &[u8], local: &[u8], bytes: &'a [u8]) -> Option<&'a [u8]>
+    ensures { IfSome result (λ rest. BeginsNamed prefix.now local.now bytes.now rest.now) }
+{
+    if prefix.is_empty() {
+        return after_ascii_part(local, bytes);
+    }
+    let after_prefix = after_ascii_part(prefix, bytes)?;
+    let after_colon = after_word(b":", after_prefix)?;
+    after_ascii_part(local, after_colon)
+}
+
+// What is after a name part, where it stands at the front and is of ASCII alone.
+fn after_ascii_part<'a>(part: &[u8], bytes: &'a [u8]) -> Option<&'a [u8]>
+    ensures { IfSome result (λ rest. IsNamePart part.now × (bytes.now ≡ part.now ++ rest.now)) }
+{
+    if !is_ascii_part(part) {
+        return None;
+    }
+    after_word(part, bytes)
 }
 
 // The bytes at the front that a name may have, and what is left.

@@ -1,10 +1,10 @@
 //! Each kind of token by itself.
-ghost use Rattle.std.specs.Prelude.{◌≡◌, List, ℕ, IfErr, IfOk};
+ghost use Rattle.std.specs.Prelude.{◌≡◌, List, ℕ, IfErr, IfOk, IfSome};
 ghost use Rattle.std.specs.List.{list_all};
 ghost use Rattle.ifmap_elem.specs.Chars.{is_white};
 ghost use Rattle.ifmap_elem.specs.Tokens.{TakesToken};
 ghost use Rattle.ifmap_elem.specs.declared.tokens.Token.{Token};
-ghost use Rattle.ifmap_lexer.specs.There.{SomeToken};
+ghost use Rattle.ifmap_lexer.specs.There.{SomeToken, end_of};
 ghost use Rattle.ifmap_lexer.specs.Kinds.{Stands};
 ghost use Rattle.ifmap_lexer.specs.Refusing.{Refuses};
 
@@ -12,7 +12,7 @@ use crate::characters::characters;
 use crate::declaration::after_declaration;
 use crate::errors::LexError;
 use crate::kinds::{Kind, kind_at};
-use crate::names::name_of;
+use crate::names::{after_ascii_name, name_of};
 use crate::splitting::{
     after_word, has_section_end, is_white, split_byte, split_white, split_word,
 };
@@ -95,6 +95,17 @@ fn end_tag(alloc: Global, bytes: &[u8]) -> Result<(Token, &[u8]), LexError>
         Some(rest) => Ok((Token::End(name), rest)),
         None => Err(LexError::Malformed),
     }
+}
+
+// What is after the end tag of the name with these parts, where it stands at the front and the name is
+// of ASCII alone.
+pub(crate) fn after_end_tag<'a>(prefix: &[u8], local: &[u8], bytes: &'a [u8]) -> Option<&'a [u8]>
+    ensures { IfSome result (λ rest. TakesToken bytes.now (end_of prefix.now local.now) rest.now) }
+{
+    let inner = after_word(b"</", bytes)?;
+    let after = after_ascii_name(prefix, local, inner)?;
+    let (_white, end) = split_white(after);
+    after_word(b">", end)
 }
 
 fn tag(alloc: Global, bytes: &[u8]) -> Result<(Token, &[u8]), LexError>

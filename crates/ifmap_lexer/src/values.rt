@@ -3,7 +3,9 @@ ghost use Rattle.std.specs.Prelude.{◌≡◌, ◌<◌, ◌++◌, [], ◌∷◌,
 ghost use Rattle.ifmap_elem.specs.Chars.{AllAre};
 ghost use Rattle.ifmap_elem.specs.Values.{Expands, Plain, as_space, line_ends};
 ghost use Rattle.ifmap_lexer.specs.There.{SomeExpansion};
+ghost use Rattle.ifmap_lexer.specs.Common.{is_verbatim};
 ghost use Rattle.ifmap_lexer.specs.Cutting.{is_but};
+ghost use Rattle.std.specs.Bool.{OnTrue};
 ghost use Rattle.ifmap_lexer.specs.Refusing.{Refuses};
 ghost use Rattle.ifmap_lexer.specs.Runs.{break_in, line_in, part_in, run_in};
 
@@ -11,7 +13,7 @@ use crate::errors::LexError;
 use crate::references::character_named;
 use crate::splitting::split_char;
 use ifmap_elem::Text;
-use std::alloc::{AllocError, Global};
+use std::alloc::{AllocError as NoMemory, Global};
 
 // Where characters are written.
 #[derive(Clone, Copy)]
@@ -22,8 +24,34 @@ pub(crate) enum Place {
     AttributeValue,
 }
 
-// What the written characters mean.
+// What the written characters mean. Most mean themselves.
+#[tactic(auto, using(crate::proofs::VerbatimLaws::verbatim_expands))]
 pub(crate) fn meaning(alloc: Global, place: Place, written: &str) -> Result<Text, LexError>
+    ensures found { IfOk result (λ text. Expands (part_in place) written.now text) }
+    ensures refused { IfErr result (λ e. Refuses e (SomeExpansion place written.now)) }
+{
+    if are_verbatim(written.as_bytes()) {
+        return Ok(Text(String::from_str(alloc, written)?));
+    }
+    expand(alloc, place, written)
+}
+
+// Whether the bytes mean themselves wherever they stand: among them is no reference and no white
+// space but spaces. Without a branch for each byte it becomes vector code.
+#[tactic(auto, using(crate::proofs::CharacterLaws::all_more))]
+fn are_verbatim(bytes: &[u8]) -> bool
+    ensures { OnTrue result (AllAre is_verbatim bytes.now) }
+{
+    let mut other = false;
+    for byte in bytes {
+        let b = *byte;
+        other |= (b < b' ') | (b == b'&');
+    }
+    !other
+}
+
+// What the written characters mean, run by run and reference by reference.
+fn expand(alloc: Global, place: Place, written: &str) -> Result<Text, LexError>
     ensures found { IfOk result (λ text. Expands (part_in place) written.now text) }
     ensures refused { IfErr result (λ e. Refuses e (SomeExpansion place written.now)) }
 {
@@ -45,7 +73,7 @@ pub(crate) fn meaning(alloc: Global, place: Place, written: &str) -> Result<Text
 }
 
 // What characters mean between which no references stand.
-pub(crate) fn plain_meaning(alloc: Global, written: &str) -> Result<Text, AllocError>
+pub(crate) fn plain_meaning(alloc: Global, written: &str) -> Result<Text, NoMemory>
     ensures { IfOk result (λ text. text ≡ line_ends written.now) }
 {
     let mut text = String::with_capacity(alloc, written.len())?;
@@ -54,7 +82,7 @@ pub(crate) fn plain_meaning(alloc: Global, written: &str) -> Result<Text, AllocE
 }
 
 // Appends what a run without references means.
-fn push_run(place: Place, run: &str, text: &mut String) -> Result<(), AllocError>
+fn push_run(place: Place, run: &str, text: &mut String) -> Result<(), NoMemory>
     ensures { OnOk result (string_bytes text.new ≡ string_bytes text.old ++ run_in place run.now) }
 {
     let mut rest = run;
@@ -77,7 +105,7 @@ fn after_newline(text: &str) -> &str
     }
 }
 
-fn push_break(place: Place, text: &mut String) -> Result<(), AllocError>
+fn push_break(place: Place, text: &mut String) -> Result<(), NoMemory>
     ensures { OnOk result (string_bytes text.new ≡ string_bytes text.old ++ (break_in place ∷ [])) }
 {
     match place {
@@ -86,7 +114,7 @@ fn push_break(place: Place, text: &mut String) -> Result<(), AllocError>
     }
 }
 
-fn push_line(place: Place, line: &str, out: &mut String) -> Result<(), AllocError>
+fn push_line(place: Place, line: &str, out: &mut String) -> Result<(), NoMemory>
     ensures { OnOk result (string_bytes out.new ≡ string_bytes out.old ++ line_in place line.now) }
 {
     match place {
@@ -96,7 +124,7 @@ fn push_line(place: Place, line: &str, out: &mut String) -> Result<(), AllocErro
 }
 
 // Appends a line with its white space as spaces.
-fn push_spaced(line: &str, text: &mut String) -> Result<(), AllocError>
+fn push_spaced(line: &str, text: &mut String) -> Result<(), NoMemory>
     ensures { OnOk result (string_bytes text.new ≡ string_bytes text.old ++ map as_space line.now) }
 {
     let mut rest = line;
@@ -109,7 +137,7 @@ fn push_spaced(line: &str, text: &mut String) -> Result<(), AllocError>
 }
 
 // Appends characters without line feeds, with their tabs as spaces.
-fn push_untabbed(line: &str, text: &mut String) -> Result<(), AllocError>
+fn push_untabbed(line: &str, text: &mut String) -> Result<(), NoMemory>
     requires { AllAre (is_but 0xA) line.now }
     ensures { OnOk result (string_bytes text.new ≡ string_bytes text.old ++ map as_space line.now) }
 {

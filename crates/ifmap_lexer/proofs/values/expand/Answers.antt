@@ -3,7 +3,7 @@ use Rattle.std.specs.Prelude.{encode_utf8}
 use Rattle.ifmap_elem.specs.Values.{referred}
 use Rattle.ifmap_lexer.proofs.ExpansionLaws.{along_unended, along_unknown, along_next, along_end}
 use Rattle.ifmap_lexer.proofs.SplitLaws.{after_is_utf8}
-use Rattle.ifmap_lexer.proofs.values.meaning.Goals as goal
+use Rattle.ifmap_lexer.proofs.values.expand.Goals as goal
 
 pub returns-in_default-split_char-clause-refused : goal.returns-in_default-split_char-clause-refused
 returns-in_default-split_char-clause-refused c =
