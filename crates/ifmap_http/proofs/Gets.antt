@@ -1,6 +1,6 @@
 -- From what was awaited to what a wire answers.
 use Rattle.std.proofs.Common.{◌≡◌, ◌⊎◌, ℕ, List, [], ◌++◌, ap, sym, ◌∙◌, append-nil, drop}
-use Rattle.std.specs.Prelude.{IfSome, Option, Some}
+use Rattle.std.specs.Prelude.{IfSome, None, Option, Some}
 use Rattle.std.specs.Io.KnownBytes.{IsAtEnd, prepend_known}
 use Rattle.ifmap_heads.specs.Answers.{ReadsAnswer, not_http, other, status as other_status, ended as unanswered}
 use Rattle.ifmap_heads.specs.Posts.{ReadsPost, ended, status, truncated}
@@ -68,3 +68,8 @@ pub answers_taken : (result : Answered) (left_old left_mid : Option (List ℕ)) 
     → IfSome (prepend_known old left_old) (λ left. GetsAnswer left after result)
 answers_taken result left_old left_mid old mid after takes reads =
     for_told (λ left. GetsAnswer left after result) left_old left_mid old mid takes reads
+
+-- of an answer that says nothing, nothing is to be shown
+pub gets_nothing : (known : Option (List ℕ)) → IfSome known (λ left. Unit {0})
+gets_nothing None = tt
+gets_nothing (Some left) = tt
