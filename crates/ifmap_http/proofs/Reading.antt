@@ -5,10 +5,9 @@ use Rattle.std.specs.Io.KnownBytes.{Consumes, IsAtEnd, prepend_known}
 use Rattle.httparse.specs.Grammar.{RequestHead, print_blank, print_end, print_request, print_section, print_version}
 use Rattle.httparse.proofs.GrammarLemmas.{print_request-append}
 use Rattle.ifmap_heads.specs.Answers.{Answering, ReadsAnswer, answered, not_http, other, sized, status as other_status, ended as unanswered}
-use Rattle.ifmap_heads.specs.Heads.{BeginsNoAnswer, BeginsNoPost, IsAnswerHead, IsCutAnswerHead, IsCutPostHead, IsPostHead, line_count}
-use Rattle.ifmap_heads.specs.Limits.{most_lines}
+use Rattle.ifmap_heads.specs.Heads.{IsAnswerHead, IsPostHead}
 use Rattle.ifmap_heads.specs.Posts.{ReadsPost, ended, posted, status, taken, truncated}
-use Rattle.ifmap_heads.specs.Starts.{HasAnswerHead, HasPostHead, IsUnfinishedAnswer, IsUnfinishedPost}
+use Rattle.ifmap_heads.specs.Starts.{HasAnswerHead, HasPostHead}
 use Rattle.ifmap_heads.specs.declared.posts.PostTerms.{PostTerms}
 use Rattle.ifmap_http.specs.Buffers.{LacksBody, Takes, TakesBody}
 
@@ -41,19 +40,6 @@ pub unfit_whole : (bytes rest : List ℕ) (left : Option (List ℕ)) → left �
     → ReadsAnswer (bytes ++ rest) not_http
 unfit_whole bytes rest left is (inl always) = always rest
 unfit_whole bytes rest left is (inr (end, reads)) = at_end_is (λ xs. ReadsAnswer xs not_http) bytes rest left is end reads
-
--- a whole head that 66 lines make none
-pub lines_passed : (bytes : List ℕ) → IsUnfinishedPost bytes → most_lines ≤ line_count bytes → ReadsPost bytes (status 400)
-lines_passed bytes open lines = inl (record { none = open.none; passed = inr (inl lines); }, refl)
-
-pub post_cut : (bytes : List ℕ) → IsUnfinishedPost bytes → line_count bytes < most_lines → bytes ≢ [] → ReadsPost bytes truncated
-post_cut bytes open few some = (some, inl (record { none = open.none; short = open.short; few = few; unfinished = open.unfinished; }))
-
-pub answer_lines_passed : (bytes : List ℕ) → IsUnfinishedAnswer bytes → most_lines ≤ line_count bytes → ReadsAnswer bytes not_http
-answer_lines_passed bytes open lines = inl (record { none = open.none; passed = inr (inl lines); })
-
-pub answer_cut : (bytes : List ℕ) → IsUnfinishedAnswer bytes → line_count bytes < most_lines → ReadsAnswer bytes unanswered
-answer_cut bytes open few = inl (record { none = open.none; short = open.short; few = few; unfinished = open.unfinished; })
 
 -- what is left after what was consumed
 pub record After (left_new : Option (List ℕ)) (all got : List ℕ) : Type 0 where

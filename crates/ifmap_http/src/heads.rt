@@ -1,5 +1,5 @@
 //! Heads, as they come from a source.
-ghost use Rattle.std.specs.Prelude.{◌≡◌, ◌≤◌, ℕ, List, IfNone, IfSome, Option, is_some, length};
+ghost use Rattle.std.specs.Prelude.{◌≡◌, ◌≢◌, ◌≤◌, ℕ, List, IfNone, IfSome, Option, is_some, length};
 ghost use Rattle.std.specs.Io.KnownBytes.{IsAtEnd};
 ghost use Rattle.ifmap_io.specs.Causes.{Rose};
 ghost use Rattle.ifmap_heads.specs.Limits.{longest_head};
@@ -62,6 +62,7 @@ pub(crate) fn await_post<S: Source>(alloc: Global, buffer: &mut Buffer, source: 
 fn look_at_post(alloc: Global, progress: &mut Progress, bytes: &[u8]) -> Option<AwaitedPost>
     ensures none { IfNone result (length bytes.now ≤ longest_head) }
     ensures some { IfSome result (λ awaited. (left : Option (List ℕ)) → AwaitsPost bytes.now left awaited) }
+    ensures never { IfSome result (λ awaited. awaited ≢ AwaitedPost.ReadFault) }
 {
     if !progress.is_due(bytes) {
         return None;
@@ -76,7 +77,8 @@ fn look_at_post(alloc: Global, progress: &mut Progress, bytes: &[u8]) -> Option<
 
 // What the bytes of a post are, after which nothing comes.
 fn end_post(alloc: Global, bytes: &[u8]) -> AwaitedPost
-    ensures { (left : Option (List ℕ)) → IsAtEnd left → AwaitsPost bytes.now left result }
+    ensures is { (left : Option (List ℕ)) → IsAtEnd left → AwaitsPost bytes.now left result }
+    ensures never { result ≢ AwaitedPost.ReadFault }
 {
     if bytes.is_empty() {
         return AwaitedPost::Ended;
@@ -124,6 +126,7 @@ pub(crate) fn await_answer<S: Source>(buffer: &mut Buffer, source: &mut S) -> Aw
 fn look_at_answer(progress: &mut Progress, bytes: &[u8]) -> Option<AwaitedAnswer>
     ensures none { IfNone result (length bytes.now ≤ longest_head) }
     ensures some { IfSome result (λ awaited. (left : Option (List ℕ)) → AwaitsAnswer bytes.now left awaited) }
+    ensures never { IfSome result (λ awaited. awaited ≢ AwaitedAnswer.ReadFault) }
 {
     if !progress.is_due(bytes) {
         return None;
@@ -138,7 +141,8 @@ fn look_at_answer(progress: &mut Progress, bytes: &[u8]) -> Option<AwaitedAnswer
 
 // What the bytes of an answer are, after which nothing comes.
 fn end_answer(bytes: &[u8]) -> AwaitedAnswer
-    ensures { (left : Option (List ℕ)) → IsAtEnd left → AwaitsAnswer bytes.now left result }
+    ensures is { (left : Option (List ℕ)) → IsAtEnd left → AwaitsAnswer bytes.now left result }
+    ensures never { result ≢ AwaitedAnswer.ReadFault }
 {
     match read_answer_head(bytes) {
         AnswerStart::Sized(size, body) => AwaitedAnswer::Sized(size, body),
