@@ -227,15 +227,15 @@ impl<L: Link> Wire<L> {
         ensures apart { L.outgoing self.new.link ≡ L.outgoing self.old.link }
     {
         match await_answer(&mut self.buffer, &mut self.link) {
-            AwaitedAnswer::Sized(size, body) => self.take_answered(alloc, size, body),
+            AwaitedAnswer::Sized(size, body) => return self.take_answered(alloc, size, body),
             AwaitedAnswer::Refused(size, status) => {
                 self.buffer.advance(size);
-                Answered::Status(status)
+                return Answered::Status(status);
             }
-            AwaitedAnswer::NotHttp => Answered::NotHttp,
-            AwaitedAnswer::Ended => Answered::Ended,
-            AwaitedAnswer::ReadFault => Answered::ReadFault,
-            AwaitedAnswer::NoMemory => Answered::NoMemory,
+            AwaitedAnswer::NotHttp => return Answered::NotHttp,
+            AwaitedAnswer::Ended => return Answered::Ended,
+            AwaitedAnswer::ReadFault => return Answered::ReadFault,
+            AwaitedAnswer::NoMemory => return Answered::NoMemory,
         }
     }
 
@@ -251,10 +251,10 @@ impl<L: Link> Wire<L> {
     {
         self.buffer.advance(size);
         match take_body(alloc, &mut self.buffer, &mut self.link, body) {
-            Ok(body) => Answered::Body(Many(body)),
-            Err(Unread::Truncated) => Answered::Ended,
-            Err(Unread::ReadFault) => Answered::ReadFault,
-            Err(Unread::NoMemory) => Answered::NoMemory,
+            Ok(body) => return Answered::Body(Many(body)),
+            Err(Unread::Truncated) => return Answered::Ended,
+            Err(Unread::ReadFault) => return Answered::ReadFault,
+            Err(Unread::NoMemory) => return Answered::NoMemory,
         }
     }
 }
