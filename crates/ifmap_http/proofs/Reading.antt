@@ -52,7 +52,7 @@ after_of left_old left_new all got is consumed = by_new left_new (subst (λ (lef
   where
     by_new : (left : Option (List ℕ)) → Consumes (Some all) left got → After left all got
     by_new None none = absurd none
-    by_new (Some rest) split = record { rest = rest; is = refl; split = split; }
+    by_new (Some rest) split = record { rest = rest; is = refl; split = split }
 
 -- what a body leaves of what stands after a head
 after_body : (start all got body new rest : List ℕ) → all ≡ got ++ rest → start ++ got ≡ body ++ new → start ++ all ≡ body ++ (new ++ rest)
@@ -65,8 +65,7 @@ pub post_read : (bytes : List ℕ) (size : ℕ) (terms : PostTerms) (left_old le
     → (rest : List ℕ) × (prepend_known new left_new ≡ Some rest) × ReadsPost (bytes ++ all) (posted terms.client body terms.close rest)
 post_read bytes size terms left_old left_new all new body has told takes sized_is =
     let after = after_of left_old left_new all takes.got told takes.consumed in
-    let cut = after_body (drop size bytes) all takes.got body new after.rest after.split takes.split in
-    (
+    let cut = after_body (drop size bytes) all takes.got body new after.rest after.split takes.split in (
       new ++ after.rest,
       ap (prepend_known new) after.is,
       (
@@ -88,8 +87,7 @@ post_lacks bytes size terms left_old left_new all has told lacks =
     let after = after_of left_old left_new all lacks.got told lacks.consumed in
     let none : after.rest ≡ [] = subst IsAtEnd after.is lacks.at_end in
     let same : all ≡ lacks.got = after.split ∙ ap (λ (xs : List ℕ). lacks.got ++ xs) none ∙ append-nil lacks.got in
-    let short : length (drop size bytes ++ all) < terms.size = subst (λ (xs : List ℕ). length (drop size bytes ++ xs) < terms.size) (sym same) lacks.short in
-    (
+    let short : length (drop size bytes ++ all) < terms.size = subst (λ (xs : List ℕ). length (drop size bytes ++ xs) < terms.size) (sym same) lacks.short in (
       head_is_some (bytes ++ all) has.head (drop size bytes ++ all) (has.is all).reads.1,
       inr (has.head, drop size bytes ++ all, terms.client, terms.size, terms.close, has.is all, has.says, short),
     )
@@ -99,8 +97,7 @@ pub answer_read : (bytes : List ℕ) (size : ℕ) (left_old left_new : Option (L
     → (rest : List ℕ) × (prepend_known new left_new ≡ Some rest) × ReadsAnswer (bytes ++ all) (answered body rest)
 answer_read bytes size left_old left_new all new body has told takes =
     let after = after_of left_old left_new all takes.got told takes.consumed in
-    let cut = after_body (drop size bytes) all takes.got body new after.rest after.split takes.split in
-    (
+    let cut = after_body (drop size bytes) all takes.got body new after.rest after.split takes.split in (
       new ++ after.rest,
       ap (prepend_known new) after.is,
       (has.head, subst (IsAnswerHead (bytes ++ all) has.head) cut (has.is all), has.says),

@@ -58,5 +58,6 @@ fn is_line_end(byte: u8) -> bool {
 fn has_empty_line(bytes: &[u8], blank: usize, from: usize) -> bool {
     let start = blank.max(from.saturating_sub(2));
     let rest = bytes.get(start..).unwrap_or(b"");
-    rest.windows(2).any(|pair| pair == b"\n\n".as_slice()) || rest.windows(3).any(|triple| triple == b"\n\r\n".as_slice())
+    rest.windows(2).any(|pair| pair == b"\n\n".as_slice())
+        || rest.windows(3).any(|triple| triple == b"\n\r\n".as_slice())
 }

@@ -8,7 +8,9 @@ ghost use Rattle.ifmap_http.specs.Buffers.{AwaitsAnswer, AwaitsPost, Takes, Unle
 use crate::bodies::Unread;
 use crate::buffers::Buffer;
 use crate::dues::Progress;
-use ifmap_heads::{AnswerStart, PostStart, PostTerms, passes_lines, read_answer_head, read_post_head};
+use ifmap_heads::{
+    AnswerStart, PostStart, PostTerms, passes_lines, read_answer_head, read_post_head,
+};
 use ifmap_io::Source;
 use std::alloc::Global;
 
@@ -36,7 +38,11 @@ pub enum AwaitedAnswer {
 
 // Waits for the head of a post.
 #[tactic(auto, using(crate::proofs::Taking::takes_nothing, crate::proofs::Taking::takes_more, crate::proofs::Taking::rose_since))]
-pub(crate) fn await_post<S: Source>(alloc: Global, buffer: &mut Buffer, source: &mut S) -> AwaitedPost
+pub(crate) fn await_post<S: Source>(
+    alloc: Global,
+    buffer: &mut Buffer,
+    source: &mut S,
+) -> AwaitedPost
     ensures taken { UnlessPostFails result (Takes (S.left source.old) (S.left source.new) buffer.old buffer.new) }
     ensures is { AwaitsPost buffer.new (S.left source.new) result }
     ensures fault { result ≡ AwaitedPost.ReadFault → Rose (S.faults source.old) (S.faults source.new) }

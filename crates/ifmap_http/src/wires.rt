@@ -103,7 +103,11 @@ impl<L: Link> Wire<L> {
     pub fn into_link(self) -> L
         ensures { result ≡ self.link }
     {
-        let Wire { link, buffer: _, spent: _ } = self;
+        let Wire {
+            link,
+            buffer: _,
+            spent: _,
+        } = self;
         link
     }
 
@@ -143,7 +147,13 @@ impl<L: Link> Wire<L> {
     }
 
     /// Writes a post of that client to that host, its head and its body in one write.
-    pub fn send_post(&mut self, alloc: Global, host: &Text, client: &ClientName, body: &[u8]) -> Sent
+    pub fn send_post(
+        &mut self,
+        alloc: Global,
+        host: &Text,
+        client: &ClientName,
+        body: &[u8],
+    ) -> Sent
         requires { IsTrue (is_visible host.now) }
         ensures sends { Sends (L.held self.old.link) (L.held self.new.link) result (post_bytes host.now client.now body.now) }
         ensures fault { result ≡ Sent.WriteFault → Rose (L.Sink.faults self.old.link) (L.Sink.faults self.new.link) }

@@ -11,7 +11,8 @@ use std::alloc::{AllocError, Global};
 use std::net::{TcpListener, TcpStream};
 use std::test::Fail;
 
-const POST: &[u8] = b"POST /ifmap HTTP/1.1\r\nhost: h\r\nifmap-client: c1\r\ncontent-type: application/soap+xml\r\ncontent-length: 4\r\n\r\nbody";
+const POST: &[u8] =
+    b"POST /ifmap HTTP/1.1\r\nhost: h\r\nifmap-client: c1\r\ncontent-type: application/soap+xml\r\ncontent-length: 4\r\n\r\nbody";
 
 // A link that reads a byte at a time, and tells no bytes.
 #[derive(Drop)]
@@ -88,14 +89,23 @@ fn heads_have_their_statuses(rt: HostRuntime) -> Result<(), Fail> {
     let rows: [(&[u8], &str); 4] = [
         (b"GET / HTTP/1.1\r\n\r\n", "Status 405"),
         (b"POST / HTTP/1.1\r\n\r\n", "Status 411"),
-        (b"POST / HTTP/1.1\r\ncontent-length: 10000001\r\n\r\n", "Status 413"),
-        (b"POST / HTTP/1.1\r\ncontent-length: 10000000\r\n\r\n", "Status 403"),
+        (
+            b"POST / HTTP/1.1\r\ncontent-length: 10000001\r\n\r\n",
+            "Status 413",
+        ),
+        (
+            b"POST / HTTP/1.1\r\ncontent-length: 10000000\r\n\r\n",
+            "Status 403",
+        ),
     ];
     for (bytes, shown) in rows {
         assert_eq!(rt; post_in(alloc, bytes, &[])?.as_str(), shown);
         assert_eq!(rt; drip_in(alloc, bytes)?.as_str(), shown);
     }
-    assert_eq!(rt; answer_in(alloc, b"HTTP/1.1 503 Service Unavailable\r\n\r\n", &[])?.as_str(), "Status 503");
+    assert_eq!(rt;
+        answer_in(alloc, b"HTTP/1.1 503 Service Unavailable\r\n\r\n", &[])?.as_str(),
+        "Status 503"
+    );
     Ok(())
 }
 
@@ -106,7 +116,10 @@ fn a_post_that_is_cut_is_truncated_and_ended_at_its_start(rt: HostRuntime) -> Re
         let shown = if cut == 0 { "Ended" } else { "Truncated" };
         assert_eq!(rt; post_in(alloc, &POST[..cut], &[])?.as_str(), shown);
     }
-    assert_eq!(rt; post_in(alloc, POST, &[])?.as_str(), "Posted c1 stays 626f6479");
+    assert_eq!(rt;
+        post_in(alloc, POST, &[])?.as_str(),
+        "Posted c1 stays 626f6479"
+    );
     Ok(())
 }
 
@@ -171,9 +184,18 @@ fn a_head_that_is_cut_at_a_limit_is_truncated_before_it(rt: HostRuntime) -> Resu
 #[test]
 fn one_read_serves_a_post_that_came_whole(rt: HostRuntime) -> Result<(), Fail> {
     let alloc = rt.alloc();
-    assert_eq!(rt; post_in(alloc, POST, &[1])?.as_str(), "Posted c1 stays 626f6479");
-    assert_eq!(rt; post_in(alloc, b"\x16\x03\x01", &[1])?.as_str(), "Status 400");
-    assert_eq!(rt; answer_in(alloc, b"HTTP/1.1 200 OK\ncontent-length: 1\n\nx", &[1])?.as_str(), "Body 78");
+    assert_eq!(rt;
+        post_in(alloc, POST, &[1])?.as_str(),
+        "Posted c1 stays 626f6479"
+    );
+    assert_eq!(rt;
+        post_in(alloc, b"\x16\x03\x01", &[1])?.as_str(),
+        "Status 400"
+    );
+    assert_eq!(rt;
+        answer_in(alloc, b"HTTP/1.1 200 OK\ncontent-length: 1\n\nx", &[1])?.as_str(),
+        "Body 78"
+    );
     Ok(())
 }
 
@@ -196,7 +218,10 @@ fn each_write_that_fails_is_told(rt: HostRuntime) -> Result<(), Fail> {
     let alloc = rt.alloc();
     for fail in [0, 1] {
         let mut wire = wire_of(alloc, b"", &[fail])?;
-        assert_eq!(rt; wire.write_answer(alloc, 200, b"x", false), Sent::WriteFault);
+        assert_eq!(rt;
+            wire.write_answer(alloc, 200, b"x", false),
+            Sent::WriteFault
+        );
     }
     Ok(())
 }
@@ -205,10 +230,26 @@ fn each_write_that_fails_is_told(rt: HostRuntime) -> Result<(), Fail> {
 fn answers_are_written_in_one_piece(rt: HostRuntime) -> Result<(), Fail> {
     let alloc = rt.alloc();
     let rows: [(u16, bool, &[u8]); 4] = [
-        (200, false, b"HTTP/1.1 200 OK\r\ncontent-type: application/soap+xml\r\ncontent-length: 2\r\n\r\nab"),
-        (200, true, b"HTTP/1.1 200 OK\r\ncontent-type: application/soap+xml\r\ncontent-length: 2\r\nconnection: close\r\n\r\nab"),
-        (405, false, b"HTTP/1.1 405 Method Not Allowed\r\nallow: POST\r\ncontent-length: 0\r\nconnection: close\r\n\r\n"),
-        (507, true, b"HTTP/1.1 507 Insufficient Storage\r\ncontent-length: 0\r\nconnection: close\r\n\r\n"),
+        (
+            200,
+            false,
+            b"HTTP/1.1 200 OK\r\ncontent-type: application/soap+xml\r\ncontent-length: 2\r\n\r\nab",
+        ),
+        (
+            200,
+            true,
+            b"HTTP/1.1 200 OK\r\ncontent-type: application/soap+xml\r\ncontent-length: 2\r\nconnection: close\r\n\r\nab",
+        ),
+        (
+            405,
+            false,
+            b"HTTP/1.1 405 Method Not Allowed\r\nallow: POST\r\ncontent-length: 0\r\nconnection: close\r\n\r\n",
+        ),
+        (
+            507,
+            true,
+            b"HTTP/1.1 507 Insufficient Storage\r\ncontent-length: 0\r\nconnection: close\r\n\r\n",
+        ),
     ];
     for (status, close, bytes) in rows {
         // The second call of the link is the flush, and a third would fail.
@@ -254,6 +295,9 @@ fn an_exchange_goes_over_sockets(rt: HostRuntime) -> Result<(), Fail> {
     assert_eq!(rt; show_answer(alloc, &answered)?.as_str(), "Body 746f6c64");
     drop(server);
     assert!(rt; matches!(answered, Answered::Body(_)) && matches!(got, Got::Posted(_)));
-    assert_eq!(rt; show_answer(alloc, &client.read_answer(alloc))?.as_str(), "Ended");
+    assert_eq!(rt;
+        show_answer(alloc, &client.read_answer(alloc))?.as_str(),
+        "Ended"
+    );
     Ok(())
 }

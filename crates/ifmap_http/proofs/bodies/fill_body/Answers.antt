@@ -14,9 +14,8 @@ returns-in-Ok-eq0-clause-truncated g c _ =
     let same = ok_then c.make_room.result made c.make_room.ensures.same in
     let (got, consumed, is) = c.body.invariant.got in
     let there = rw c.in-Ok-eq0.field-0-test at c.in-Ok-eq0.ensures.got in
-    let (more, then_consumed, grown) = there.1 in
-    (
+    let (more, then_consumed, grown) = there.1 in (
       c.in-Ok-eq0.ensures.end c.in-Ok-eq0.field-0-test (omega (arith, room.0)),
       body_lacks _ _ _ c.args.body.items got more _ _ c.body.filled c.args.size consumed then_consumed is
-      (subst (λ (xs : List ℕ). take (c.body.filled + 0) c.read_after.new.body.items ≡ xs ++ more) same grown) c.body-test.true,
+          (subst (λ (xs : List ℕ). take (c.body.filled + 0) c.read_after.new.body.items ≡ xs ++ more) same grown) c.body-test.true,
     )

@@ -9,18 +9,17 @@ reads_more : {E : Type 0} (r : Result ℕ E) (left_old left_new : Option (List �
     → ReadsAtMost r room → ReadConsumes left_old left_new r room → slice ≡ items → filled ≤ length items
     → filled + length room ≤ len
     → IfOk r (λ count. (filled + count ≤ len) × ((x : List ℕ) × Consumes left_old left_new x
-        × (take (filled + count) (take len ((take filled slice ++ (room ++ t1)) ++ t2)) ≡ take filled items ++ x)))
+    × (take (filled + count) (take len ((take filled slice ++ (room ++ t1)) ++ t2)) ≡ take filled items ++ x)))
 reads_more (Err e) left_old left_new items slice room t1 t2 filled len bound bytes same within fits = tt
-reads_more (Ok count) left_old left_new items slice room t1 t2 filled len bound bytes same within fits =
-    (
-      omega arith,
-      (
-        take count room,
-        bytes.0,
-        subst (λ (xs : List ℕ). take (filled + count) (take len ((take filled xs ++ (room ++ t1)) ++ t2)) ≡ take filled items ++ take count room)
+reads_more (Ok count) left_old left_new items slice room t1 t2 filled len bound bytes same within fits = (
+  omega arith,
+  (
+    take count room,
+    bytes.0,
+    subst (λ (xs : List ℕ). take (filled + count) (take len ((take filled xs ++ (room ++ t1)) ++ t2)) ≡ take filled items ++ take count room)
         (sym same) (filled_by items room t1 t2 filled count len within (omega arith) (omega arith)),
-      ),
-    )
+  ),
+)
 
 pub returns-clause-got : goal.returns-clause-got
 returns-clause-got g c =
