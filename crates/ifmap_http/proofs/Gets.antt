@@ -1,10 +1,10 @@
 -- From what was awaited to what a wire answers.
-use Rattle.std.proofs.Common.{◌≡◌, ◌⊎◌, ℕ, List, [], ◌++◌, ap, sym, ◌∙◌, append-nil, drop}
+use Rattle.std.proofs.Common.{◌≡◌, ◌⊎◌, ℕ, List, [], ◌++◌, ap, drop}
 use Rattle.std.specs.Prelude.{IfSome, None, Option, Some}
 use Rattle.std.specs.Io.KnownBytes.{IsAtEnd, prepend_known}
-use Rattle.ifmap_heads.specs.Answers.{ReadsAnswer, not_http, other, status as other_status, ended as unanswered}
-use Rattle.ifmap_heads.specs.Posts.{ReadsPost, ended, status, truncated}
-use Rattle.ifmap_heads.specs.Starts.{HasAnswerHead, HasPostHead}
+use Rattle.ifmap_heads.specs.Answers.{ReadsAnswer, not_http, other, ended as unanswered}
+use Rattle.ifmap_heads.specs.Posts.{ReadsPost, status, truncated}
+use Rattle.ifmap_heads.specs.Starts.{HasAnswerHead}
 use Rattle.ifmap_http.specs.Buffers.{Takes}
 use Rattle.ifmap_http.specs.Outcomes.{GetsAnswer, GetsPost}
 use Rattle.ifmap_http.specs.declared.wires.Answered.{Answered}

@@ -1,12 +1,12 @@
 -- What a wire reads, over all that it had left: what was taken and then what the link had.
-use Rattle.std.proofs.Common.{◌≡◌, ◌≢◌, ℕ, ◌<◌, ◌≤◌, ◌⊎◌, inl, inr, List, [], ◌∷◌, ◌++◌, length, drop, refl, sym, ap, ◌∙◌, subst, arith, append_assoc, append-nil, length-append}
+use Rattle.std.proofs.Common.{◌≡◌, ◌≢◌, ℕ, ◌<◌, ◌⊎◌, inl, inr, List, [], ◌∷◌, ◌++◌, length, drop, refl, sym, ap, ◌∙◌, subst, arith, append_assoc, append-nil, length-append}
 use Rattle.std.specs.Prelude.{IfSome, None, Option, Some}
 use Rattle.std.specs.Io.KnownBytes.{Consumes, IsAtEnd, prepend_known}
 use Rattle.httparse.specs.Grammar.{RequestHead, print_blank, print_end, print_request, print_section, print_version}
 use Rattle.httparse.proofs.GrammarLemmas.{print_request-append}
-use Rattle.ifmap_heads.specs.Answers.{Answering, ReadsAnswer, answered, not_http, other, sized, status as other_status, ended as unanswered}
+use Rattle.ifmap_heads.specs.Answers.{ReadsAnswer, answered, not_http, other, sized, status as other_status, ended as unanswered}
 use Rattle.ifmap_heads.specs.Heads.{IsAnswerHead, IsPostHead}
-use Rattle.ifmap_heads.specs.Posts.{ReadsPost, ended, posted, status, taken, truncated}
+use Rattle.ifmap_heads.specs.Posts.{ReadsPost, posted, status, taken, truncated}
 use Rattle.ifmap_heads.specs.Starts.{HasAnswerHead, HasPostHead}
 use Rattle.ifmap_heads.specs.declared.posts.PostTerms.{PostTerms}
 use Rattle.ifmap_http.specs.Buffers.{LacksBody, Takes, TakesBody}

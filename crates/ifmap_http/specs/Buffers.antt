@@ -1,15 +1,13 @@
 -- What was taken from a link and is not handed out yet. No public clause cites this file.
-use Rattle.std.specs.Prelude.{◌≡◌, ℕ, ◌<◌, ◌⊎◌, List, [], ◌++◌, length, Option, Result, Ok, Err}
+use Rattle.std.specs.Prelude.{◌≡◌, ℕ, ◌<◌, ◌⊎◌, List, [], ◌++◌, length, Option}
 use Rattle.std.specs.Io.KnownBytes.{Consumes, IsAtEnd}
 use Rattle.ifmap_heads.specs.Answers.{ReadsAnswer, ended as unanswered, not_http, other, sized}
-use Rattle.ifmap_heads.specs.Posts.{ReadsPost, ended, status, truncated}
+use Rattle.ifmap_heads.specs.Posts.{ReadsPost, status, truncated}
 use Rattle.ifmap_heads.specs.Starts.{HasAnswerHead, HasPostHead}
 use Rattle.ifmap_http.specs.declared.heads.AwaitedAnswer.{AwaitedAnswer}
 use Rattle.ifmap_http.specs.declared.heads.AwaitedAnswer.TheVariants as answer
 use Rattle.ifmap_http.specs.declared.heads.AwaitedPost.{AwaitedPost}
 use Rattle.ifmap_http.specs.declared.heads.AwaitedPost.TheVariants as post
-use Rattle.ifmap_http.specs.declared.bodies.Unread.{Unread}
-use Rattle.ifmap_http.specs.declared.bodies.Unread.TheVariants as unread
 
 -- what is pending grew by what was taken from the source
 pub record Takes (left_old left_new : Option (List ℕ)) (old new : List ℕ) : Type 0 where

@@ -1,5 +1,5 @@
 -- What the calls of a wire answer.
-use Rattle.std.specs.Prelude.{◌≡◌, ℕ, ◌<◌, Bool, true, false, List, ◌++◌, length, take, Option, Some}
+use Rattle.std.specs.Prelude.{◌≡◌, ℕ, Bool, true, false, List, take, Option, Some}
 use Rattle.std.specs.Io.KnownBytes.{Appends, Keeps}
 use Rattle.ifmap_heads.specs.Answers.{ReadsAnswer, answered, not_http, status as other_status, ended as unanswered}
 use Rattle.ifmap_heads.specs.Posts.{ReadsPost, ended, posted, status, truncated}

@@ -1,5 +1,5 @@
 -- A wire as contracts see it.
-use Rattle.std.specs.Prelude.{◌≡◌, ℕ, Bool, List, refl}
+use Rattle.std.specs.Prelude.{ℕ, Bool, List, refl}
 use Rattle.std.specs.Coded.{Coded, code_by, coded×, coded_list, coded_ℕ, coded_bool}
 
 -- its link, the bytes that it took from the link and has not handed out, and whether it is spent

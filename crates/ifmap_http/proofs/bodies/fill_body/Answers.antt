@@ -1,4 +1,4 @@
-use Rattle.std.proofs.Common.{◌≡◌, ℕ, ◌+◌, ◌<◌, Bool, true, false, List, ◌++◌, Ok, Err, Result, arith, subst, sym, take, ◌∙◌}
+use Rattle.std.proofs.Common.{◌≡◌, ℕ, ◌+◌, false, List, ◌++◌, Ok, Err, Result, arith, subst, sym, take, ◌∙◌}
 use Rattle.std.specs.Prelude.{OnOk, is_err}
 use Rattle.ifmap_http.proofs.Filling.{body_lacks}
 use Rattle.ifmap_http.proofs.bodies.fill_body.Goals as goal

@@ -1,4 +1,4 @@
-use Rattle.std.proofs.Common.{◌≡◌, false, ℕ, List, subst, ◌∙◌, sym}
+use Rattle.std.proofs.Common.{◌≡◌, false, ℕ, List, subst}
 use Rattle.ifmap_http.specs.Buffers.{AwaitsPost, Takes}
 use Rattle.ifmap_http.proofs.Taking.{takes_more, unless_post}
 use Rattle.ifmap_http.proofs.heads.await_post.Goals as goal

@@ -1,4 +1,4 @@
-use Rattle.std.proofs.Common.{◌≡◌, ℕ, Bool, true, false, List, Ok, Err, Result, sym, ◌∙◌}
+use Rattle.std.proofs.Common.{◌≡◌, ℕ, false, List, Ok, Err, Result, sym, ◌∙◌}
 use Rattle.std.specs.Prelude.{Option, is_err}
 use Rattle.std.specs.Io.KnownBytes.{Appends}
 use Rattle.ifmap_io.specs.Written.{WritesAll}

@@ -1,4 +1,4 @@
-use Rattle.std.proofs.Common.{◌≡◌, ℕ, List, ap, subst, ◌∙◌, rules}
+use Rattle.std.proofs.Common.{◌≡◌, ℕ, List, ap, subst, ◌∙◌}
 use Rattle.ifmap_heads.specs.Messages.{post_bytes}
 use Rattle.ifmap_http.specs.Outcomes.{Sends}
 use Rattle.ifmap_http.proofs.wires.Wire.send_post.Goals as goal
