@@ -1,0 +1,9 @@
+pub mod AnswerHeads
+pub mod AnswersOnce
+pub mod Found
+pub mod General
+pub mod Lines
+pub mod PostHeads
+pub mod PostsOnce
+pub mod Targets
+pub mod Values

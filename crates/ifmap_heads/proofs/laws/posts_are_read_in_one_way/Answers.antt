@@ -1,0 +1,5 @@
+use Rattle.ifmap_heads.proofs.PostsOnce.{one_way}
+use Rattle.ifmap_heads.proofs.laws.posts_are_read_in_one_way.Goals as goal
+
+pub returns : goal.returns
+returns c = one_way
