@@ -119,8 +119,14 @@ module _ (links : ℕ → ℕ → Type 0) (terminal : ℕ → Bool) (count : ℕ
         level v waited).2
         (All-weaker (λ (x : ℕ). IsSome (row_of rows x)) (NearOneWay flips false (WithRemoved links flips) links terminal start top)
         (looked_near rows gone waits level before steps c) c.charged.numbers c.charged.among);
-    bound = omega (arith, le, c.charged.bound, gone_within rows gone before steps c.are_gone c.charged, sum_by-cons count v
-        c.charged.numbers);
+    bound = omega (
+      arith,
+      le,
+      c.charged.bound,
+      gone_within rows gone before steps c.are_gone c.charged,
+      sum_by-cons count v
+          c.charged.numbers,
+    );
   }
 
 module _ (count : ℕ → ℕ) (link : ℕ → ℕ → Option ℕ) (terminal : ℕ → Bool) (flips : List Flip) (start top : ℕ) (first : ℕ → Option ℕ)
@@ -135,7 +141,7 @@ module _ (count : ℕ → ℕ) (link : ℕ → ℕ → Option ℕ) (terminal : �
     losing = losing_passed (WithRemoved (Linked count link) flips) (Linked count link) terminal start top first b.depths (λ u w l. inl l)
         (NearOneWay flips false (WithRemoved (Linked count link) flips) (Linked count link) terminal start top)
         rows (waiting level (v ∷ rest) entries) (waiting level rest entries) level v s.0 s.1 (waiting_out level v rest entries)
-            (waiting_in level v rest entries) c.losing;
+        (waiting_in level v rest entries) c.losing;
     are_gone = c.are_gone;
     charged = c.charged;
   }
@@ -150,7 +156,7 @@ module _ (count : ℕ → ℕ) (link : ℕ → ℕ → Option ℕ) (terminal : �
     losing = losing_held (WithRemoved (Linked count link) flips) (Linked count link) terminal start top first b.depths (λ u w l. inl l)
         (NearOneWay flips false (WithRemoved (Linked count link) flips) (Linked count link) terminal start top)
         rows rows' (waiting level (v ∷ rest) entries) (waiting level rest entries) level v unrowed others (waiting_first level v rest
-            entries) c.losing (waiting_out level v rest entries)
+        entries) c.losing (waiting_out level v rest entries)
         here (h.0, h.1, h.2, b.symmetric v h.0 h.3, h.4, h.5) (waiting_in level v rest entries);
     are_gone = gone_held count rows rows' gone v unrowed others level here c.are_gone;
     charged = looked_more count rows rows' gone v unrowed others gone (Some level) before steps after here (omega (arith, le)) c.charged;
@@ -161,23 +167,26 @@ module _ (count : ℕ → ℕ) (link : ℕ → ℕ → Option ℕ) (terminal : �
       (not_held : (u d : ℕ) → level ≡ suc d → Linked count link v u → terminal u ≡ false → over rows first u ≡ Some d → ⊥)
       (le : after ≤ steps + 2 * count v)
       (c : IsCutting (Linked count link) terminal count flips start top first rows gone (waiting level (v ∷ rest) entries) level before
-          steps) where
+      steps) where
     cutting_gone : ((k x : ℕ) → waiting level (v ∷ rest) entries k x → ((k ≡ level) × (x ≡ v)) ⊎ waiting level rest entries' k x)
         → ((k x : ℕ) → waiting level rest entries' k x → waiting level (v ∷ rest) entries k x ⊎ ((k ≡ level + 1) × (first x ≡ Some (level
-            + 1)) × Linked count link v x))
+        + 1)) × Linked count link v x))
         → ((w : ℕ) → level < top → terminal v ≡ false → Linked count link v w → first w ≡ Some (level + 1)
-            → waiting level rest entries' (level + 1) w)
+        → waiting level rest entries' (level + 1) w)
         → IsCutting (Linked count link) terminal count flips start top first rows' (gone ++ v ∷ []) (waiting level rest entries') level
-            before after
+        before after
     cutting_gone there back followed = record {
       losing = losing_gone (WithRemoved (Linked count link) flips) (Linked count link) terminal start top first b.depths (λ u w l. inl l)
           (NearOneWay flips false (WithRemoved (Linked count link) flips) (Linked count link) terminal start top)
           rows rows' (waiting level (v ∷ rest) entries) (waiting level rest entries') level v unrowed others (waiting_first level v rest
-              entries) c.losing there
+          entries) c.losing there
           unheld here near_back followed;
       are_gone = gone_gone count rows rows' gone v unrowed others here c.are_gone;
-      charged = looked_more count rows rows' gone v unrowed others (gone ++ v ∷ []) None before steps after here (omega (arith, le,
-          sum_by_push count gone v)) c.charged;
+      charged = looked_more count rows rows' gone v unrowed others (gone ++ v ∷ []) None before steps after here (omega (
+        arith,
+        le,
+        sum_by_push count gone v,
+      )) c.charged;
     }
       where
         unheld : (u d : ℕ) → level ≡ suc d → Linked count link u v → terminal u ≡ false → over rows first u ≡ Some d → ⊥
@@ -194,14 +203,14 @@ module _ (count : ℕ → ℕ) (link : ℕ → ℕ → Option ℕ) (terminal : �
                 (moved_here (WithRemoved (Linked count link) flips) (Linked count link) terminal start top first b.depths (λ u w l. inl l)
                 (NearOneWay flips false (WithRemoved (Linked count link) flips) (Linked count link) terminal start top)
                 rows rows' (waiting level (v ∷ rest) entries) (waiting level rest entries') level v unrowed others (waiting_first level v
-                    rest entries) c.losing there unheld)
+                rest entries) c.losing there unheld)
                 (inr p.2),
           )
         ]
 
     pub cutting_followed : Follows (link v) (count v) first (level + 1) entries entries'
         → IsCutting (Linked count link) terminal count flips start top first rows' (gone ++ v ∷ []) (waiting level rest entries') level
-            before after
+        before after
     cutting_followed f = cutting_gone
         (λ k x w. elim (waiting_out level v rest entries k x w) [
           | inl at ↦ inl at
@@ -215,10 +224,10 @@ module _ (count : ℕ → ℕ) (link : ℕ → ℕ → Option ℕ) (terminal : �
 
     pub cutting_ended : entries' ≡ entries → (level < top → terminal v ≡ false → ⊥)
         → IsCutting (Linked count link) terminal count flips start top first rows' (gone ++ v ∷ []) (waiting level rest entries') level
-            before after
+        before after
     cutting_ended same ends = cutting_gone
         (λ k x w. subst (λ (e : List (ℕ × ℕ)). ((k ≡ level) × (x ≡ v)) ⊎ waiting level rest e k x) (sym same) (waiting_out level v rest
-            entries k x w))
+        entries k x w))
         (λ k x w. inl (waiting_in level v rest entries k x (subst (λ (e : List (ℕ × ℕ)). waiting level rest e k x) same w)))
         (λ w below passable l m. absurd (ends below passable))
 
@@ -245,13 +254,21 @@ module _ (links : ℕ → ℕ → Type 0) (terminal : ℕ → Bool) (count : ℕ
         | inl link ↦ inr (link, f)
         | inr flip ↦
             let bound = (sound_from (WithRemoved links flips) terminal start top first b.depths v (suc d) e).0 in
-            inl (kept (suc d, v) (s.each u v (suc d) flip ((d, refl, record { marked = f; below = omega (arith, bound); passable = t }),
-                e)))
+            inl (kept (suc d, v) (s.each u v (suc d) flip (
+              (d, refl, record { marked = f; below = omega (arith, bound); passable = t }),
+              e,
+            )))
       ];
     };
     are_gone = record { all = λ v e. absurd (none-some None e); only = λ v h. absurd (omega (arith, h.1)); distinct = tt };
-    charged = record { numbers = []; distinct = tt; among = All-nil (λ (x : ℕ). IsSome (row_of [] x)); all = λ v h. absurd (true≢false
-        (sym h)); bound = omega arith };
+    charged = record {
+      numbers = [];
+      distinct = tt;
+      among = All-nil (λ (x : ℕ). IsSome (row_of [] x));
+      all = λ v h. absurd (true≢false
+          (sym h));
+      bound = omega arith;
+    };
   }
 
   -- the same numbers wait, at a level that is no lower

@@ -43,7 +43,7 @@ fresh_at [] ys n r d = refl
 fresh_at (x ∷ xs) ys n r d =
     let apart : x.0 ≢ n = distinct_head x.0 (keys_of (xs ++ (n, r) ∷ ys)) d n (key_in xs ys n r) in
     ap (λ (t : Bool). cond t (Some x.1) (row_of xs n)) (ne_eqb n x.0 (λ e. apart (sym e))) ∙ fresh_at xs ys n r (distinct_tail x.0
-        (keys_of (xs ++ (n, r) ∷ ys)) d)
+    (keys_of (xs ++ (n, r) ∷ ys)) d)
 
 -- a row is put at its place
 insert_at : (xs ys : List (ℕ × Option ℕ)) (n : ℕ) (r w : Option ℕ) → row_of xs n ≡ None
@@ -93,7 +93,7 @@ module _ (rows es now patch : List (ℕ × Option ℕ)) (i : ℕ) (distinct : Is
       some = sym (rowed_first (row_of (taken_from (mark_of rows) (take i es)) v) (row_of (drop i es) v) (row_of (take i es) v)
           (rowed_taken rows (take i es) v))
           ∙ sym (ap is_some (row_append (taken_from (mark_of rows) (take i es)) (drop i es) v)) ∙ ap (λ (l : List (ℕ × Option ℕ)).
-              is_some (row_of l v)) (sym inv_patch) ∙ h
+          is_some (row_of l v)) (sym inv_patch) ∙ h
 
       in_all : is_some (row_of es v) ≡ true
       in_all = ap (λ (l : List (ℕ × Option ℕ)). is_some (row_of l v)) (sym (take-append-drop i es)) ∙ ap is_some (row_append (take i es)
@@ -134,8 +134,10 @@ module _ (rows es now patch : List (ℕ × Option ℕ)) (i : ℕ) (distinct : Is
     drop_none (Some r) b = refl
 
     front_row : (v : ℕ) → row_of (take (i + 1) es) v ≡ first_row (row_of (take i es) v) (row_of (get_or es i (0, None) ∷ []) v)
-    front_row v = ap (λ (l : List (ℕ × Option ℕ)). row_of l v) (take_more es i (0, None) lt) ∙ row_append (take i es) (get_or es i (0,
-        None) ∷ []) v
+    front_row v = ap (λ (l : List (ℕ × Option ℕ)). row_of l v) (take_more es i (0, None) lt) ∙ row_append (take i es) (get_or es i (
+      0,
+      None,
+    ) ∷ []) v
 
     pub rows_next : (v : ℕ) → row_of rows' v ≡ first_row (row_of (take (i + 1) es) v) (row_of rows v)
     rows_next v = elim (cases_eq v (get_or es i (0, None)).0) [
@@ -143,30 +145,32 @@ module _ (rows es now patch : List (ℕ × Option ℕ)) (i : ℕ) (distinct : Is
           ap (row_of rows') at ∙ row_here now rows' (λ _. None) (get_or es i (0, None)).0 (get_or es i (0, None)).1 done.0
           ∙ sym (ap (λ (o : Option (Option ℕ)). first_row o (row_of rows v))
           (front_row v ∙ ap (λ (o : Option (Option ℕ)). first_row o (row_of (get_or es i (0, None) ∷ []) v)) (ap (row_of (take i es)) at
-              ∙ fresh)
+          ∙ fresh)
           ∙ ap (λ (t : Bool). cond t (Some (get_or es i (0, None)).1) None) (eq-eqb v (get_or es i (0, None)).0 at)))
       | inr apart ↦
           row_apart now rows' (λ _. None) (get_or es i (0, None)).0 (get_or es i (0, None)).1 done.0 v apart ∙ inv_rows v
           ∙ sym (ap (λ (o : Option (Option ℕ)). first_row o (row_of rows v))
           (front_row v ∙ ap (λ (t : Bool). first_row (row_of (take i es) v) (cond t (Some (get_or es i (0, None)).1) None)) (ne_eqb v
-              (get_or es i (0, None)).0 apart))
+          (get_or es i (0, None)).0 apart))
           ∙ drop_none (row_of (take i es) v) (row_of rows v))
     ]
 
     pub patch_next : patch' ≡ taken_from (mark_of rows) (take (i + 1) es) ++ drop (i + 1) es
     patch_next =
-        done.1 ∙ ap (λ (l : List (ℕ × Option ℕ)). insert_entry nat_eq l (get_or es i (0, None)).0 (mark_of now (get_or es i (0,
-            None)).0)) patch_is
+        done.1 ∙ ap (λ (l : List (ℕ × Option ℕ)). insert_entry nat_eq l (get_or es i (0, None)).0 (mark_of now (get_or es i (
+          0,
+          None,
+        )).0)) patch_is
         ∙ insert_at (taken_from (mark_of rows) (take i es)) (drop (i + 1) es) (get_or es i (0, None)).0 (get_or es i (0, None)).1
-            (mark_of now (get_or es i (0, None)).0)
+        (mark_of now (get_or es i (0, None)).0)
         (none_from (row_of (taken_from (mark_of rows) (take i es)) (get_or es i (0, None)).0) (rowed_taken rows (take i es) (get_or es i
-            (0, None)).0 ∙ ap is_some fresh))
+        (0, None)).0 ∙ ap is_some fresh))
         ∙ ap (λ (m : Option ℕ). taken_from (mark_of rows) (take i es) ++ ((get_or es i (0, None)).0, m) ∷ drop (i + 1) es) mark_is
         ∙ sym (ap (λ (l : List (ℕ × Option ℕ)). taken_from (mark_of rows) l ++ drop (i + 1) es) (take_more es i (0, None) lt)
         ∙ ap (λ (l : List (ℕ × Option ℕ)). l ++ drop (i + 1) es) (map_push (λ (x : ℕ × Option ℕ). (x.0, mark_of rows x.0)) (take i es)
-            (get_or es i (0, None)))
+        (get_or es i (0, None)))
         ∙ append_assoc (taken_from (mark_of rows) (take i es)) (((get_or es i (0, None)).0, mark_of rows (get_or es i (0, None)).0) ∷ [])
-            (drop (i + 1) es))
+        (drop (i + 1) es))
       where
         mark_is : mark_of now (get_or es i (0, None)).0 ≡ mark_of rows (get_or es i (0, None)).0
         mark_is = ap (λ (o : Option (Option ℕ)). unwrap_or o None) (inv_rows (get_or es i (0, None)).0 ∙ ap (λ (o : Option (Option ℕ)).
@@ -208,17 +212,24 @@ place_cases es n s i place j v r lt e = elim (cases_lt j i) [
 module _ (patch old rows after : List (ℕ × Option ℕ)) (n : ℕ) (s : Option ℕ) (i : ℕ)
     (place : slice_get patch i ≡ Some (n, s)) (listed : row_of patch n ≡ Some s)
     (only : OnlyRoom patch old rows) (done : (j v : ℕ) (r : Option ℕ) → j < i → slice_get patch j ≡ Some (v, r)
-        → IsSome (row_of rows v)) where
+    → IsSome (row_of rows v)) where
   pub done_same : IsSome (row_of rows n) → (j v : ℕ) (r : Option ℕ) → j < i + 1 → slice_get patch j ≡ Some (v, r) → IsSome (row_of rows v)
-  done_same h j v r lt e = elim (place_cases patch n s i place j v r lt e) [ inl l ↦ done j v r l e | inr at ↦ subst (λ (x : ℕ). IsSome
-      (row_of rows x)) at h ]
+  done_same h j v r lt e = elim (place_cases patch n s i place j v r lt e) [
+    | inl l ↦ done j v r l e
+    | inr at ↦ subst (λ (x : ℕ). IsSome
+        (row_of rows x)) at h
+  ]
 
   module _ (bare : row_of rows n ≡ None) (put : (q : ℕ) → row_of after q ≡ update nat_eq (row_of rows) n (Some None) q) where
     pub only_put : OnlyRoom patch old after
     only_put v = elim (cases_eq v n) [
       | inl at ↦ elim (only n) [
-        | inl same ↦ inr (ap (row_of old) at ∙ sym same ∙ bare, ap (row_of after) at ∙ row_here rows after (λ _. None) n None put, ap
-            is_some (ap (row_of patch) at ∙ listed))
+        | inl same ↦ inr (
+          ap (row_of old) at ∙ sym same ∙ bare,
+          ap (row_of after) at ∙ row_here rows after (λ _. None) n None put,
+          ap
+              is_some (ap (row_of patch) at ∙ listed),
+        )
         | inr p ↦ absurd (none-some None (sym bare ∙ p.1))
       ]
       | inr apart ↦ elim (only v) [
@@ -270,8 +281,12 @@ module _ (patch old rows after : List (ℕ × Option ℕ)) (n : ℕ) (s : Option
         patch v))
     each_swept v = elim (cases_eq v n) [
       | inl at ↦ elim (each n) [
-        | inl same ↦ inr (ap (row_of old) at ∙ sym same ∙ bare, ap (row_of after) at ∙ gone_here, ap is_some (ap (row_of patch) at ∙
-            listed))
+        | inl same ↦ inr (
+          ap (row_of old) at ∙ sym same ∙ bare,
+          ap (row_of after) at ∙ gone_here,
+          ap is_some (ap (row_of patch) at ∙
+              listed),
+        )
         | inr p ↦ absurd (none-some None (sym p.1 ∙ bare))
       ]
       | inr apart ↦ elim (each v) [
@@ -284,14 +299,17 @@ module _ (patch old rows after : List (ℕ × Option ℕ)) (n : ℕ) (s : Option
         → row_of after v ≡ None
     out_swept j v r lt e old_bare = elim (cases_eq v n) [
       | inl at ↦ ap (row_of after) at ∙ gone_here
-      | inr apart ↦ gone_apart v apart ∙ elim (place_cases patch n s i place j v r lt e) [ inl l ↦ out j v r l e old_bare | inr at ↦
-          absurd (apart (sym at)) ]
+      | inr apart ↦ gone_apart v apart ∙ elim (place_cases patch n s i place j v r lt e) [
+        | inl l ↦ out j v r l e old_bare
+        | inr at ↦
+            absurd (apart (sym at))
+      ]
     ]
 
 pub swept_all : (patch old rows : List (ℕ × Option ℕ)) (i : ℕ) → ((j v : ℕ) (r : Option ℕ) → slice_get patch j ≡ Some (v, r) → j < i)
     → ((v : ℕ) → (row_of rows v ≡ row_of old v) ⊎ ((row_of old v ≡ Some None) × (row_of rows v ≡ None) × IsSome (row_of patch v)))
     → ((j v : ℕ) (r : Option ℕ) → j < i → slice_get patch j ≡ Some (v, r) → row_of old v ≡ Some None → row_of rows v ≡ None)
-        → Sweeps patch old rows
+    → Sweeps patch old rows
 swept_all patch old rows i within each out = record { each = each; out = λ v h bare. by v (row_of patch v) refl h bare }
   where
     by : (v : ℕ) (o : Option (Option ℕ)) → row_of patch v ≡ o → IsSome o → row_of old v ≡ Some None → row_of rows v ≡ None

@@ -86,8 +86,10 @@ module _ (Gives : ℕ → ℕ → ℕ → Type 0) (x y : ℕ) (level : Option �
     where
       by : (o : Option ℕ) → MatchOption o (after ≡ before) (λ k. after ≡ before ++ (k, y) ∷ []) → o ≡ Some k → Contains after (k, y)
       by None e n = absurd (none-some k n)
-      by (Some j) e n = subst (λ (l : List (ℕ × ℕ)). Contains l (k, y)) (sym e) (subst (λ (i : ℕ). Contains (before ++ (j, y) ∷ []) (i,
-          y)) (same_Some j k n) (Contains-push before (j, y)))
+      by (Some j) e n = subst (λ (l : List (ℕ × ℕ)). Contains l (k, y)) (sym e) (subst (λ (i : ℕ). Contains (before ++ (j, y) ∷ []) (
+        i,
+        y,
+      )) (same_Some j k n) (Contains-push before (j, y)))
 
 -- seeds of one flip more
 module _ (flips : List Flip) (flip : Flip) (added : Bool) (Gives : ℕ → ℕ → ℕ → Type 0) where
@@ -100,12 +102,15 @@ module _ (flips : List Flip) (flip : Flip) (added : Bool) (Gives : ℕ → ℕ �
 
   pub seeds_more : (at_b at_a : Option ℕ) (before mid after : List (ℕ × ℕ)) → flip.added ≡ added
       → MatchOption at_b (mid ≡ before) (λ k. mid ≡ before ++ (k, flip.b) ∷ []) → IfSome at_b (λ k. Gives flip.a flip.b k) → ((k : ℕ)
-          → Gives flip.a flip.b k → at_b ≡ Some k)
+      → Gives flip.a flip.b k → at_b ≡ Some k)
       → MatchOption at_a (after ≡ mid) (λ k. after ≡ mid ++ (k, flip.a) ∷ []) → IfSome at_a (λ k. Gives flip.b flip.a k) → ((k : ℕ)
-          → Gives flip.b flip.a k → at_a ≡ Some k)
+      → Gives flip.b flip.a k → at_a ≡ Some k)
       → SeedsAlong flips added Gives before → SeedsAlong (flips ++ flip ∷ []) added Gives after
-  seeds_more at_b at_a before mid after kind first first_only first_each second second_only second_each s = record { only = only; each =
-      each }
+  seeds_more at_b at_a before mid after kind first first_only first_each second second_only second_each s = record {
+    only = only;
+    each =
+        each;
+  }
     where
       only : (k y : ℕ) → Contains after (k, y) → (x : ℕ) × IsFlipped (flips ++ flip ∷ []) added x y × Gives x y k
       only k y h = elim (offer_only Gives flip.b flip.a at_a mid after second second_only second_each k y h) [

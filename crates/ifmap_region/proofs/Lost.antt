@@ -76,8 +76,13 @@ module _ (old mid : ℕ → ℕ → Type 0) (terminal : ℕ → Bool) (start top
     pub losing_held : row_of rows' v ≡ Some (Some level) → IsHeld mid terminal (over rows first) v level → ((k x : ℕ) → waits' k x
         → waits k x)
         → IsLosing old mid terminal start IsNear first rows' waits' level
-    losing_held here by_one back = record { entered = λ k x w. l.entered k x (back k x w); looked = looked; held = held; lost = lost;
-        firm = firm }
+    losing_held here by_one back = record {
+      entered = λ k x w. l.entered k x (back k x w);
+      looked = looked;
+      held = held;
+      lost = lost;
+      firm = firm;
+    }
       where
         same : (q : ℕ) → over rows' first q ≡ over rows first q
         same q = elim (cases_eq q v) [
@@ -91,9 +96,15 @@ module _ (old mid : ℕ → ℕ → Type 0) (terminal : ℕ → Bool) (start top
         looked : (x : ℕ) (r : Option ℕ) → row_of rows' x ≡ Some r → (k : ℕ) × (first x ≡ Some k) × (0 < k) × (k ≤ level) × IsNear x × ((r
             ≡ None) ⊎ (r ≡ Some k))
         looked x r e = elim (cases_eq x v) [
-          | inl at ↦ let w = l.entered level v waited in
-              (level, ap first at ∙ w.0, w.1, omega arith, subst IsNear (sym at) w.2, inr (same_Some r (Some level) (sym e ∙ ap (row_of
-                  rows') at ∙ here)))
+          | inl at ↦ let w = l.entered level v waited in (
+            level,
+            ap first at ∙ w.0,
+            w.1,
+            omega arith,
+            subst IsNear (sym at) w.2,
+            inr (same_Some r (Some level) (sym e ∙ ap (row_of
+                rows') at ∙ here)),
+          )
           | inr apart ↦ l.looked x r (sym (others x apart) ∙ e)
         ]
 
@@ -102,7 +113,7 @@ module _ (old mid : ℕ → ℕ → Type 0) (terminal : ℕ → Bool) (start top
           | inl at ↦ let level_is : level ≡ k = same_Some level k (same_Some (Some level) (Some k) (sym here ∙ ap (row_of rows') (sym at)
               ∙ e)) in
               moved x k (subst (λ (n : ℕ). IsHeld mid terminal (over rows first) x n) level_is (subst (λ (y : ℕ). IsHeld mid terminal
-                  (over rows first) y level) (sym at) by_one))
+              (over rows first) y level) (sym at) by_one))
           | inr apart ↦ moved x k (l.held x k (sym (others x apart) ∙ e))
         ]
 
@@ -133,9 +144,17 @@ module _ (old mid : ℕ → ℕ → Type 0) (terminal : ℕ → Bool) (start top
           by d is (goes_on {u = u} w t link) =
               let bound = (sound_from old terminal start top first depths v level first_here).0 in
               let m = marked old terminal start top first depths u d (omega (arith, bound, is)) (walk_along mid old terminal start within
-                  d u w) in
-              let s = closed_from old terminal start top first depths u v m.0 (record { marked = m.1; below = omega (arith, bound, is,
-                  m.2); passable = t }) (within u v link) in
+              d u w) in
+              let s = closed_from old terminal start top first depths u v m.0 (record {
+                marked = m.1;
+                below = omega (
+                  arith,
+                  bound,
+                  is,
+                  m.2,
+                );
+                passable = t;
+              }) (within u v link) in
               let level_is : s.0 ≡ level = same_Some s.0 level (sym s.1 ∙ first_here) in
               let exact : m.0 ≡ d = omega (arith, m.2, s.2, level_is, is) in
               not_held u d is link t (still_marked rows waits level l u d (m.1 ∙ ap Some exact) w)
@@ -159,9 +178,15 @@ module _ (old mid : ℕ → ℕ → Type 0) (terminal : ℕ → Bool) (start top
           looked : (x : ℕ) (r : Option ℕ) → row_of rows' x ≡ Some r → (k : ℕ) × (first x ≡ Some k) × (0 < k) × (k ≤ level) × IsNear x ×
               ((r ≡ None) ⊎ (r ≡ Some k))
           looked x r e = elim (cases_eq x v) [
-            | inl at ↦ let w = l.entered level v waited in
-                (level, ap first at ∙ w.0, w.1, omega arith, subst IsNear (sym at) w.2, inl (same_Some r None (sym e ∙ ap (row_of rows')
-                    at ∙ here)))
+            | inl at ↦ let w = l.entered level v waited in (
+              level,
+              ap first at ∙ w.0,
+              w.1,
+              omega arith,
+              subst IsNear (sym at) w.2,
+              inl (same_Some r None (sym e ∙ ap (row_of rows')
+                  at ∙ here)),
+            )
             | inr apart ↦ l.looked x r (sym (others x apart) ∙ e)
           ]
 
@@ -172,8 +197,11 @@ module _ (old mid : ℕ → ℕ → Type 0) (terminal : ℕ → Bool) (start top
                 let row = sym (others x apart) ∙ e in
                 let h = l.held x k row in
                 let k_is = l.looked x (Some k) row in
-                let same : k_is.0 ≡ k = elim k_is.5 [ inl none ↦ absurd (none-some k (sym none)) | inr some ↦ sym (same_Some k k_is.0
-                    some) ] in (
+                let same : k_is.0 ≡ k = elim k_is.5 [
+                  | inl none ↦ absurd (none-some k (sym none))
+                  | inr some ↦ sym (same_Some k k_is.0
+                      some)
+                ] in (
                   h.0,
                   h.1,
                   h.2,
@@ -189,7 +217,7 @@ module _ (old mid : ℕ → ℕ → Type 0) (terminal : ℕ → Bool) (start top
           lost x k e f = elim (cases_eq x v) [
             | inl at ↦ λ w. let level_is : level ≡ k = same_Some level k (sym first_here ∙ ap first (sym at) ∙ f) in
                 lost_here (subst (λ (n : ℕ). Walk mid terminal start n v) (sym level_is) (subst (λ (y : ℕ). Walk mid terminal start k y)
-                    at w))
+                at w))
             | inr apart ↦ l.lost x k (sym (others x apart) ∙ e) f
           ]
 
@@ -205,7 +233,7 @@ module _ (old mid : ℕ → ℕ → Type 0) (terminal : ℕ → Bool) (start top
                     let bound = (sound_from old terminal start top first depths x (suc d) e).0 in
                     let next : level + 1 ≡ suc d = omega (arith, level_is) in
                     inl (subst (λ (n : ℕ). waits' n x) next (followed x (omega (arith, bound, level_is)) (ap terminal (sym at) ∙ t)
-                        (subst (λ (y : ℕ). mid y x) at p.0) (e ∙ ap Some (sym next))))
+                    (subst (λ (y : ℕ). mid y x) at p.0) (e ∙ ap Some (sym next))))
                 | inr other ↦ inr (p.0, over_other u other ∙ p.1)
               ]
             ]
@@ -255,9 +283,11 @@ module _ (old mid : ℕ → ℕ → Type 0) (terminal : ℕ → Bool) (start top
 
         walks : (v k : ℕ) → Contains seeds (k, v) → (k ≤ top) × Walk mid terminal start k v
         walks v k h =
-            let p = (r.only k v h).1 in
-            (omega (arith, p.3.below, p.4), subst (λ (n : ℕ). Walk mid terminal start n v) (sym p.4) (goes_on (sound_left p.1 p.0
-                p.3.marked) p.3.passable (sym_mid v p.0 p.2)))
+            let p = (r.only k v h).1 in (
+              omega (arith, p.3.below, p.4),
+              subst (λ (n : ℕ). Walk mid terminal start n v) (sym p.4) (goes_on (sound_left p.1 p.0
+                  p.3.marked) p.3.passable (sym_mid v p.0 p.2)),
+            )
 
         start_row : (o : Option (Option ℕ)) → row_of rows start ≡ o → over rows first start ≡ Some 0
         start_row None u = over_unrowed rows first start u ∙ marked_start old terminal start top first depths
@@ -274,8 +304,11 @@ module _ (old mid : ℕ → ℕ → Type 0) (terminal : ℕ → Bool) (start top
         along x y d e link = by (row_of rows y) refl
           where
             s : (j : ℕ) × (first y ≡ Some j) × (j ≤ suc d)
-            s = closed_from old terminal start top first depths x y d (record { marked = first_of_over x d e.marked; below = e.below;
-                passable = e.passable }) (within x y link)
+            s = closed_from old terminal start top first depths x y d (record {
+              marked = first_of_over x d e.marked;
+              below = e.below;
+              passable = e.passable;
+            }) (within x y link)
 
             by : (o : Option (Option ℕ)) → row_of rows y ≡ o → IsBound (over rows first) (λ k v. Contains seeds (k, v)) y (suc d)
             by None u = (s.0, s.2, inl (over_unrowed rows first y u ∙ s.1))

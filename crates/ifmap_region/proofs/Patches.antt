@@ -33,9 +33,9 @@ module _ (rows base changed after : List (ℕ × Option ℕ)) (n : ℕ) (s : Opt
 
   pub each_same : s ≡ mark_of base n
       → ((j v : ℕ) (r : Option ℕ) → j < i → slice_get rows j ≡ Some (v, r) → row_of rows v ≡ Some r → r ≢ mark_of base v
-          → row_of changed v ≡ Some r)
+      → row_of changed v ≡ Some r)
       → (j v : ℕ) (r : Option ℕ) → j < i + 1 → slice_get rows j ≡ Some (v, r) → row_of rows v ≡ Some r → r ≢ mark_of base v
-          → row_of changed v ≡ Some r
+      → row_of changed v ≡ Some r
   each_same same each j v r lt e f d = elim (last_place j v r lt e) [
     | inl l ↦ each j v r l e f d
     | inr p ↦ absurd (d (sym p.1 ∙ same ∙ ap (mark_of base) p.0))
@@ -55,7 +55,7 @@ module _ (rows base changed after : List (ℕ × Option ℕ)) (n : ℕ) (s : Opt
     pub each_put : ((j v : ℕ) (r : Option ℕ) → j < i → slice_get rows j ≡ Some (v, r) → row_of rows v ≡ Some r → r ≢ mark_of base v
         → row_of changed v ≡ Some r)
         → (j v : ℕ) (r : Option ℕ) → j < i + 1 → slice_get rows j ≡ Some (v, r) → row_of rows v ≡ Some r → r ≢ mark_of base v
-            → row_of after v ≡ Some r
+        → row_of after v ≡ Some r
     each_put each j v r lt e f d = elim (cases_eq v n) [
       | inl at ↦ ap (row_of after) at ∙ row_here changed after (mark_of base) n s put ∙ sym row ∙ ap (row_of rows) (sym at) ∙ f
       | inr apart ↦ row_apart changed after (mark_of base) n s put v apart ∙ elim (last_place j v r lt e) [
@@ -66,7 +66,7 @@ module _ (rows base changed after : List (ℕ × Option ℕ)) (n : ℕ) (s : Opt
 
 pub each_past : (rows base changed : List (ℕ × Option ℕ)) (i : ℕ) → length rows ≤ i
     → ((j v : ℕ) (r : Option ℕ) → j < i → slice_get rows j ≡ Some (v, r) → row_of rows v ≡ Some r → r ≢ mark_of base v
-        → row_of changed v ≡ Some r)
+    → row_of changed v ≡ Some r)
     → (v : ℕ) (r : Option ℕ) → row_of rows v ≡ Some r → r ≢ mark_of base v → row_of changed v ≡ Some r
 each_past rows base changed i le each v r e d =
     let p = row_place rows v r e in

@@ -29,8 +29,11 @@ module _ (links : ℕ → ℕ → Type 0) (terminal : ℕ → Bool) (top : ℕ) 
       → ((u k : ℕ) → links v u → IsNext terminal top mark u k → (m : ℕ) × (m ≤ k) × (level ≡ Some m))
       → Reseeds links terminal top mark gone seeds → Reseeds links terminal top mark (gone ++ v ∷ []) after
   reseeds_more None offered only least r = record {
-    only = λ k x h. let p = r.only k x (subst (λ (l : List (ℕ × ℕ)). Contains l (k, x)) offered h) in (Contains-append_left gone (v ∷ [])
-        x p.0, p.1);
+    only = λ k x h. let p = r.only k x (subst (λ (l : List (ℕ × ℕ)). Contains l (k, x)) offered h) in (
+      Contains-append_left gone (v ∷ [])
+          x p.0,
+      p.1,
+    );
     each = λ x u d g l e. elim (Contains-push_cases gone v x g) [
       | inl old ↦ let q = r.each x u d old l e in (q.0, q.1, subst (λ (s : List (ℕ × ℕ)). Contains s (q.0, x)) (sym offered) q.2)
       | inr at ↦ let m = least u (suc d) (subst (λ (y : ℕ). links y u) (sym at) l) (d, refl, e) in absurd (none-some m.0 m.2)
@@ -47,15 +50,19 @@ module _ (links : ℕ → ℕ → Type 0) (terminal : ℕ → Bool) (top : ℕ) 
           )
     ];
     each = λ x u d g l e. elim (Contains-push_cases gone v x g) [
-      | inl old ↦ let q = r.each x u d old l e in (q.0, q.1, subst (λ (s : List (ℕ × ℕ)). Contains s (q.0, x)) (sym offered)
-          (Contains-append_left seeds ((j, v) ∷ []) (q.0, x) q.2))
+      | inl old ↦ let q = r.each x u d old l e in (
+        q.0,
+        q.1,
+        subst (λ (s : List (ℕ × ℕ)). Contains s (q.0, x)) (sym offered)
+            (Contains-append_left seeds ((j, v) ∷ []) (q.0, x) q.2),
+      )
       | inr at ↦
           let m = least u (suc d) (subst (λ (y : ℕ). links y u) (sym at) l) (d, refl, e) in (
             m.0,
             m.1,
             subst (λ (s : List (ℕ × ℕ)). Contains s (m.0, x)) (sym offered)
                 (subst (λ (i : ℕ). Contains (seeds ++ (j, v) ∷ []) (i, x)) (same_Some j m.0 m.2) (subst (λ (y : ℕ). Contains (seeds ++
-                    (j, v) ∷ []) (j, y)) at (Contains-push seeds (j, v)))),
+                (j, v) ∷ []) (j, y)) at (Contains-push seeds (j, v)))),
           )
     ];
   }
@@ -73,7 +80,7 @@ module _ (links : ℕ → ℕ → Type 0) (terminal : ℕ → Bool) (count : ℕ
   ready_again seeds r =
       ready_left (WithRemoved links flips) links terminal start top first b.depths (λ u v l. inl l)
       (NearOneWay flips false (WithRemoved links flips) links terminal start top) rows (λ _ _. ⊥) level (λ k x w. w) c.losing gone seeds
-          c.are_gone b.symmetric r
+      c.are_gone b.symmetric r
 
   improved_gone : (v : ℕ) → Improves links terminal start top (over rows first) v → Contains gone v
   improved_gone v i = by (row_of rows v) refl
@@ -96,9 +103,9 @@ module _ (links : ℕ → ℕ → Type 0) (terminal : ℕ → Bool) (count : ℕ
       → IsWithin count (NearOneWay flips false (WithRemoved links flips) links terminal start top) 4 before after
   spent_cut reseeded after le s =
       let found = sum_within count s.numbers gone s.distinct (λ x h. improved_gone x (All-contains (Improves links terminal start top
-          (over rows first)) s.numbers x s.among h)) in
+      (over rows first)) s.numbers x s.among h)) in
       let lost = sum_within count gone c.charged.numbers c.are_gone.distinct (λ x h. c.charged.all x (ap is_some (c.are_gone.only x h)))
-          in
+      in
       record {
         numbers = c.charged.numbers;
         distinct = c.charged.distinct;
@@ -111,7 +118,7 @@ module _ (links : ℕ → ℕ → Type 0) (terminal : ℕ → Bool) (count : ℕ
       → IsWithin count (NearOneWay flips false (WithRemoved links flips) links terminal start top) 4 before after
   spent_reseed after le =
       let lost = sum_within count gone c.charged.numbers c.are_gone.distinct (λ x h. c.charged.all x (ap is_some (c.are_gone.only x h)))
-          in
+      in
       record {
         numbers = c.charged.numbers;
         distinct = c.charged.distinct;
@@ -128,8 +135,11 @@ flipped_or_not (f ∷ fs) added v w = elim (flipped_or_not fs added v w) [
   | inr none_later ↦ elim (first_flip f added v w) [
     | inl h ↦ inl (f, (0, omega arith, refl), h.0, h.1)
     | inr other ↦ inr (λ h. elim (Contains-append_cases (f ∷ []) fs h.0 h.1) [
-      | inl one ↦ let e = contains_one f h.0 one in other (ap (λ (g : Flip). g.added) e ∙ h.2, subst (λ (g : Flip). Joins g v w) (sym e)
-          h.3)
+      | inl one ↦ let e = contains_one f h.0 one in other (
+        ap (λ (g : Flip). g.added) e ∙ h.2,
+        subst (λ (g : Flip). Joins g v w) (sym e)
+            h.3,
+      )
       | inr later ↦ none_later (h.0, later, h.2, h.3)
     ])
   ]
@@ -176,8 +186,17 @@ module _ (links : ℕ → ℕ → Type 0) (terminal : ℕ → Bool) (flips : Lis
 
   pub ready_grown : (seeds : List (ℕ × ℕ)) → SeedsAlong flips true (Lowers terminal top m) seeds
       → IsReady links terminal start top m (λ k v. Contains seeds (k, v))
-  ready_grown seeds s = record { sound = sound; walks = walks; begun = (0, omega arith, inl (marked_start (Mid links flips) terminal
-      start top m depths)); along = along }
+  ready_grown seeds s = record {
+    sound = sound;
+    walks = walks;
+    begun = (
+      0,
+      omega arith,
+      inl (marked_start (Mid links flips) terminal
+          start top m depths),
+    );
+    along = along;
+  }
     where
       sound : (v k : ℕ) → m v ≡ Some k → (k ≤ top) × Walk links terminal start k v
       sound v k e = let p = sound_from (Mid links flips) terminal start top m depths v k e in (p.0, new_walk k v p.1)
@@ -186,16 +205,25 @@ module _ (links : ℕ → ℕ → Type 0) (terminal : ℕ → Bool) (flips : Lis
       walks v k h =
           let p = s.only k v h in
           let n = p.2.0 in
-          let w = sound p.0 n.0 n.2.marked in
-          (omega (arith, n.1, n.2.below), subst (λ (j : ℕ). Walk links terminal start j v) (sym n.1) (goes_on w.1 n.2.passable (added p.0
-              v p.1)))
+          let w = sound p.0 n.0 n.2.marked in (
+            omega (arith, n.1, n.2.below),
+            subst (λ (j : ℕ). Walk links terminal start j v) (sym n.1) (goes_on w.1 n.2.passable (added p.0
+                v p.1)),
+          )
 
       lowered : (x y d : ℕ) → Expands terminal top m x d → IsFlipped flips true x y → (o : Option ℕ) → m y ≡ o
           → IsBound m (λ k v. Contains seeds (k, v)) y (suc d)
       lowered x y d e f None u = (suc d, omega arith, inr (s.each x y (suc d) f ((d, refl, e), λ j g. absurd (none-some j (sym u ∙ g)))))
       lowered x y d e f (Some j) u = elim (cases_lt (suc d) j) [
-        | inl lt ↦ (suc d, omega arith, inr (s.each x y (suc d) f ((d, refl, e), λ i g. let same : j ≡ i = same_Some j i (sym u ∙ g) in
-            omega (arith, lt, same))))
+        | inl lt ↦ (
+          suc d,
+          omega arith,
+          inr (s.each x y (suc d) f (
+            (d, refl, e),
+            λ i g. let same : j ≡ i = same_Some j i (sym u ∙ g) in
+                omega (arith, lt, same),
+          )),
+        )
         | inr ge ↦ (j, ge, inl u)
       ]
 

@@ -21,7 +21,7 @@ pub spent_both : (count : ℕ → ℕ) (Among First Second : ℕ → Type 0) (be
 spent_both count Among First Second before mid after f g a b =
     within_heavier count (λ v. 1 + count v) Among 5 before after (λ v. omega arith)
     (within_both count Among 4 1 before mid after (within_wider count First Among 4 before mid f a) (within_wider count Second Among 1
-        mid after g b))
+    mid after g b))
 
 -- the bound of a cut alone
 pub spent_first : (count : ℕ → ℕ) (Among First : ℕ → Type 0) (before after : ℕ) → ((v : ℕ) → First v → Among v)
@@ -107,7 +107,7 @@ module _ {S : Type 0} (count : ℕ → ℕ) (link : ℕ → ℕ → Option ℕ) 
       mid_reached : (k v : ℕ) → k ≤ top → Walk (Mid (Linked count link) flips) terminal start k v → (j : ℕ) × (m v ≡ Some j)
       mid_reached k v le w =
           old_reached k v le (walk_along (Mid (Linked count link) flips) (Old (Linked count link) flips) terminal start (λ x y l. inl l)
-              k v w)
+          k v w)
 
       old_back : (v w : ℕ) → Old (Linked count link) flips v w → WithRemoved shown flips v w
       old_back v w l = elim l [ inl mid ↦ inl (shown_back v w mid) | inr f ↦ inr f ]

@@ -24,7 +24,7 @@ all_above xs i up lt e is level apart all k d h =
     let zero_there : 0 < length (drop i xs) = omega (arith, h) in
     let at_first : level ≤ (get_or (drop i xs) 0 d).0 = all 0 d zero_there in
     let same : (get_or (drop i xs) 0 d).0 ≡ e.0 = ap (λ (p : ℕ × ℕ). p.0) (get_or-drop i xs 0 d ∙ ap (λ (n : ℕ). get_or xs n d) (omega
-        arith) ∙ sym (is ∙ get_or_default xs i e d lt)) in
+    arith) ∙ sym (is ∙ get_or_default xs i e d lt)) in
     let this : e.0 ≤ (get_or (drop i xs) k d).0 = least k d h in
     omega (arith, at_first, same, this, apart)
 
@@ -37,16 +37,21 @@ moves_more old mid new level n before after is m = record {
   kept = λ x h. Contains-append_left after (n ∷ []) x (m.kept x h);
   joined = λ x h. elim (Contains-push_cases after n x h) [
     | inl before_it ↦ m.joined x before_it
-    | inr e ↦ inr (m.left (level, x) (subst (λ (l : List (ℕ × ℕ)). Contains l (level, x)) (sym is) (subst (λ (y : ℕ). Contains ((level,
-        n) ∷ new) (level, y)) e (0, omega arith, refl))))
+    | inr e ↦ inr (m.left (level, x) (subst (λ (l : List (ℕ × ℕ)). Contains l (level, x)) (sym is) (subst (λ (y : ℕ). Contains ((
+      level,
+      n,
+    ) ∷ new) (level, y)) e (0, omega arith, refl))))
   ];
   left = λ s h. m.left s (subst (λ (l : List (ℕ × ℕ)). Contains l s) (sym is) (Contains-append_right ((level, n) ∷ []) new s h));
   each = λ s h. elim (m.each s h) [
     | inl p ↦ inl (p.0, Contains-append_left after (n ∷ []) s.1 p.1)
     | inr there ↦ elim (Contains-append_cases ((level, n) ∷ []) new s (subst (λ (l : List (ℕ × ℕ)). Contains l s) is there)) [
       | inl first ↦ let e = contains_one (level, n) s first in
-          inl (ap (λ (p : ℕ × ℕ). p.0) (sym e), subst (λ (x : ℕ). Contains (after ++ n ∷ []) x) (ap (λ (p : ℕ × ℕ). p.1) e)
-              (Contains-push after n))
+          inl (
+            ap (λ (p : ℕ × ℕ). p.0) (sym e),
+            subst (λ (x : ℕ). Contains (after ++ n ∷ []) x) (ap (λ (p : ℕ × ℕ). p.1) e)
+                (Contains-push after n),
+          )
       | inr rest ↦ inr rest
     ]
   ];
@@ -63,7 +68,7 @@ below_first xs i lt e is floor all =
     let some : 0 < length (drop i xs) = omega (arith, lt, length-drop i xs) in
     let at_first : floor ≤ (get_or (drop i xs) 0 e).0 = all 0 e some in
     let same : (get_or (drop i xs) 0 e).0 ≡ e.0 = ap (λ (p : ℕ × ℕ). p.0) (get_or-drop i xs 0 e ∙ ap (λ (n : ℕ). get_or xs n e) (omega
-        arith) ∙ sym is) in
+    arith) ∙ sym is) in
     omega (arith, at_first, same)
 
 pub contains_at : (k : ℕ) (ns : List ℕ) (s : ℕ × ℕ) → Contains (at_level k ns) s → (s.0 ≡ k) × Contains ns s.1
@@ -73,22 +78,28 @@ contains_at k ns s h =
     (ap (λ (p : ℕ × ℕ). p.0) (sym e), (h.0, lt, ap (λ (p : ℕ × ℕ). p.1) e))
 
 pub at_contains : (k : ℕ) (ns : List ℕ) (x : ℕ) → Contains ns x → Contains (at_level k ns) (k, x)
-at_contains k ns x h =
-    (h.0, omega (arith, h.1, length-map {B = ℕ × ℕ} ns (λ (n : ℕ). (k, n))), get_or-map (λ (n : ℕ). (k, n)) ns h.0 x (k, x) h.1 ∙ ap (λ
-        (n : ℕ). (k, n)) h.2)
+at_contains k ns x h = (
+  h.0,
+  omega (arith, h.1, length-map {B = ℕ × ℕ} ns (λ (n : ℕ). (k, n))),
+  get_or-map (λ (n : ℕ). (k, n)) ns h.0 x (k, x) h.1 ∙ ap (λ
+      (n : ℕ). (k, n)) h.2,
+)
 
 pub comes_out : (floor level : ℕ) (seeds rest : List (ℕ × ℕ)) (next now none : List ℕ) → floor ≤ level
     → (next ≡ []) ⊎ (level ≡ floor) → none ≡ []
     → Moves seeds rest level next now
-    → ComesOut (record { floor = floor; entries = seeds ++ at_level floor next }) (record { floor = level + 1; entries = rest ++ at_level
-        (level + 1) none }) level now
+    → ComesOut (record { floor = floor; entries = seeds ++ at_level floor next }) (record {
+      floor = level + 1;
+      entries = rest ++ at_level
+          (level + 1) none;
+    }) level now
 comes_out floor level seeds rest next now none le side empty m = record {
   floor = refl;
   rises = le;
   out = λ n h. elim (m.joined n h) [
     | inl old ↦ let at : level ≡ floor = elim side [ inl e ↦ absurd (no_member next n e old) | inr e ↦ e ] in
         subst (λ (k : ℕ). Contains (seeds ++ at_level floor next) (k, n)) (sym at) (Contains-append_right seeds (at_level floor next)
-            (floor, n) (at_contains floor next n old))
+        (floor, n) (at_contains floor next n old))
     | inr seed ↦ Contains-append_left seeds (at_level floor next) (level, n) seed
   ];
   left = λ s h. elim (Contains-append_cases rest (at_level (level + 1) none) s h) [

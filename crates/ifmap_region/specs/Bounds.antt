@@ -17,8 +17,13 @@ pub record IsWithin (weight : ℕ → ℕ) (Among : ℕ → Type 0) (times befor
 pub within_nothing : (weight : ℕ → ℕ) (Among : ℕ → Type 0) (times before : ℕ)
     → IsWithin weight Among times before before
 unfolding IsDistinct
-within_nothing weight Among times before = record { numbers = []; distinct = tt; among = All-nil Among; bound = omega
-    arith }
+within_nothing weight Among times before = record {
+  numbers = [];
+  distinct = tt;
+  among = All-nil Among;
+  bound = omega
+      arith;
+}
 
 -- fewer steps
 pub within_fewer : (weight : ℕ → ℕ) (Among : ℕ → Type 0) (times before mid after : ℕ) → mid ≤ after
@@ -47,7 +52,7 @@ pub within_heavier : (weight heavier : ℕ → ℕ) (Among : ℕ → Type 0) (ti
     → IsWithin weight Among times before after → IsWithin heavier Among times before after
 within_heavier weight heavier Among times before after le s =
     let more : times * sum_by weight s.numbers ≤ times * sum_by heavier s.numbers = mul-le-mul_left times
-        (sum_heavier weight heavier le s.numbers) in
+    (sum_heavier weight heavier le s.numbers) in
     record { numbers = s.numbers; distinct = s.distinct; among = s.among; bound = omega (arith, s.bound, more) }
 
 -- more times
@@ -55,19 +60,19 @@ pub within_more : (weight : ℕ → ℕ) (Among : ℕ → Type 0) (times more be
     → IsWithin weight Among times before after → IsWithin weight Among more before after
 within_more weight Among times more before after le s =
     let most : times * sum_by weight s.numbers ≤ more * sum_by weight s.numbers = mul-le-mul_right (sum_by weight
-        s.numbers) le in
+    s.numbers) le in
     record { numbers = s.numbers; distinct = s.distinct; among = s.among; bound = omega (arith, s.bound, most) }
 
 -- two bounds, one after the other
 pub within_both : (weight : ℕ → ℕ) (Among : ℕ → Type 0) (first second before mid after : ℕ)
     → IsWithin weight Among first before mid → IsWithin weight Among second mid after
-        → IsWithin weight Among (first + second) before after
+    → IsWithin weight Among (first + second) before after
 within_both weight Among first second before mid after a b =
     let u = both Among a.numbers b.numbers a.distinct a.among b.among in
     let s : first * sum_by weight a.numbers ≤ first * sum_by weight u.0 = mul-le-mul_left first (sum_within weight
-        a.numbers u.0 a.distinct u.3) in
+    a.numbers u.0 a.distinct u.3) in
     let t : second * sum_by weight b.numbers ≤ second * sum_by weight u.0 = mul-le-mul_left second (sum_within weight
-        b.numbers u.0 b.distinct u.4) in
+    b.numbers u.0 b.distinct u.4) in
     record { numbers = u.0; distinct = u.1; among = u.2; bound = omega (arith, a.bound, b.bound, s, t) }
 
 -- the union of two sets, one after the other
@@ -85,6 +90,6 @@ pub within_sum : (weight : ℕ → ℕ) (Among : ℕ → Type 0) (times before a
     → (numbers : List ℕ) → ((v : ℕ) → Among v → Contains numbers v) → after ≤ before + times * sum_by weight numbers
 within_sum weight Among times before after s numbers all =
     let sum = sum_within weight s.numbers numbers s.distinct (λ v h. all v (All-contains Among s.numbers v s.among
-        h)) in
+    h)) in
     let most : times * sum_by weight s.numbers ≤ times * sum_by weight numbers = mul-le-mul_left times sum in
     omega (arith, s.bound, most)

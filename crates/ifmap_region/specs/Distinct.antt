@@ -26,9 +26,11 @@ left_of_rest old rest x e y h = subst (λ (l : List _). Contains l y) (sym e) (C
 -- a distinct list with one number more
 pub distinct_cons : (x : ℕ) (xs : List ℕ) → All (λ y. x ≢ y) xs → IsDistinct nat_eq xs → IsDistinct nat_eq (x ∷ xs)
 unfolding IsDistinct
-distinct_cons x xs apart d =
-    (recursion_from_All (λ (y : ℕ). nat_eq x y ≡ false) xs (All-weaker (λ (y : ℕ). x ≢ y) (λ (y : ℕ). nat_eq x y ≡
-        false) (λ y ne. ne_eqb x y ne) xs apart), d)
+distinct_cons x xs apart d = (
+  recursion_from_All (λ (y : ℕ). nat_eq x y ≡ false) xs (All-weaker (λ (y : ℕ). x ≢ y) (λ (y : ℕ). nat_eq x y ≡
+      false) (λ y ne. ne_eqb x y ne) xs apart),
+  d,
+)
 
 -- a distinct list with one number more at its end
 pub distinct_push : (xs : List ℕ) (x : ℕ) → ((y : ℕ) → Contains xs y → y ≢ x) → IsDistinct nat_eq xs
@@ -38,7 +40,7 @@ distinct_push [] x apart d = (tt, tt)
 distinct_push (y ∷ ys) x apart d = (
   recursion_from_All (λ (z : ℕ). nat_eq y z ≡ false) (ys ++ x ∷ [])
       (All-push (λ (z : ℕ). nat_eq y z ≡ false) ys x (All-from_recursion (λ (z : ℕ). nat_eq y z ≡ false) ys d.0)
-          (ne_eqb y x (apart y (0, omega arith, refl)))),
+      (ne_eqb y x (apart y (0, omega arith, refl)))),
   distinct_push ys x (λ z h. apart z (Contains-append_right (y ∷ []) ys z h)) d.1,
 )
 
@@ -47,7 +49,7 @@ pub distinct_head : (x : ℕ) (xs : List ℕ) → IsDistinct nat_eq (x ∷ xs) �
 unfolding IsDistinct
 distinct_head x xs d y h at =
     true≢false (sym (eq-eqb x y at) ∙ All-contains (λ (z : ℕ). nat_eq x z ≡ false) xs y (All-from_recursion (λ (z :
-        ℕ). nat_eq x z ≡ false) xs d.0) h)
+    ℕ). nat_eq x z ≡ false) xs d.0) h)
 
 pub distinct_tail : (x : ℕ) (xs : List ℕ) → IsDistinct nat_eq (x ∷ xs) → IsDistinct nat_eq xs
 unfolding IsDistinct
@@ -55,9 +57,12 @@ distinct_tail x xs d = d.1
 
 -- a member parts a list in two
 pub parted : (ys : List ℕ) (x : ℕ) → Contains ys x → (front : List ℕ) × (back : List ℕ) × (ys ≡ front ++ x ∷ back)
-parted ys x h =
-    (take h.0 ys, drop (suc h.0) ys, sym (set-get_or ys h.0 x) ∙ set_split ys h.0 (get_or ys h.0 x) h.1 ∙ ap (λ (y :
-        ℕ). take h.0 ys ++ y ∷ drop (suc h.0) ys) h.2)
+parted ys x h = (
+  take h.0 ys,
+  drop (suc h.0) ys,
+  sym (set-get_or ys h.0 x) ∙ set_split ys h.0 (get_or ys h.0 x) h.1 ∙ ap (λ (y :
+      ℕ). take h.0 ys ++ y ∷ drop (suc h.0) ys) h.2,
+)
 
 -- distinct numbers that are all in a list do not sum to more than it
 pub sum_within : (f : ℕ → ℕ) (xs ys : List ℕ) → IsDistinct nat_eq xs → ((x : ℕ) → Contains xs x → Contains ys x)
@@ -75,8 +80,15 @@ sum_within f (x ∷ xs) ys d within =
         | inr back ↦ Contains-append_right p.0 p.1 y back
       ]
     ]) in
-    omega (arith, rest, sum_by-cons f x xs, ap (sum_by f) p.2, sum_by-append f p.0 (x ∷ p.1), sum_by-cons f x p.1,
-        sum_by-append f p.0 p.1)
+    omega (
+      arith,
+      rest,
+      sum_by-cons f x xs,
+      ap (sum_by f) p.2,
+      sum_by-append f p.0 (x ∷ p.1),
+      sum_by-cons f x p.1,
+      sum_by-append f p.0 p.1,
+    )
 
 -- whether a number is in a list can be told
 pub member_or_not : (xs : List ℕ) (x : ℕ) → Contains xs x ⊎ (Contains xs x → ⊥)
@@ -85,15 +97,18 @@ member_or_not (y ∷ ys) x = elim (cases_eq y x) [
   | inl at ↦ inl (0, omega arith, at)
   | inr apart ↦ elim (member_or_not ys x) [
     | inl h ↦ inl (Contains-append_right (y ∷ []) ys x h)
-    | inr out ↦ inr (λ h. elim (Contains-append_cases (y ∷ []) ys x h) [ inl one ↦ apart (contains_one y x one) | inr
-        later ↦ out later ])
+    | inr out ↦ inr (λ h. elim (Contains-append_cases (y ∷ []) ys x h) [
+      | inl one ↦ apart (contains_one y x one)
+      | inr
+          later ↦ out later
+    ])
   ]
 ]
 
 -- two lists of distinct numbers are both in a third
 pub both : (Among : ℕ → Type 0) (xs ys : List ℕ) → IsDistinct nat_eq xs → All Among xs → All Among ys
     → (zs : List ℕ) × IsDistinct nat_eq zs × All Among zs × ((x : ℕ) → Contains xs x → Contains zs x) × ((y : ℕ)
-        → Contains ys y → Contains zs y)
+    → Contains ys y → Contains zs y)
 both Among xs [] d a b = (xs, d, a, λ x h. h, λ y h. absurd (omega (arith, h.1)))
 both Among xs (y ∷ ys) d a b =
     let rest = both Among xs ys d a (λ k e lt. b (suc k) e (omega (arith, lt))) in

@@ -28,7 +28,7 @@ NearOneWay flips added before after terminal start top = Near (IsEnd flips added
 abbrev pub IsTouched : (ℕ → ℕ → Type 0) → List Flip → (ℕ → Bool) → ℕ → ℕ → ℕ → Type 0
 IsTouched new flips terminal start top v =
     ¬ (SameDepth (Old new flips) (Mid new flips) terminal start top v × SameDepth (Mid new flips) new terminal start
-        top v)
+    top v)
 
 -- what is near the flips
 abbrev pub NearFlips : (ℕ → ℕ → Type 0) → List Flip → (ℕ → Bool) → ℕ → ℕ → ℕ → Type 0

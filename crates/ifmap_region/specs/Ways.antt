@@ -37,7 +37,7 @@ pub record Sweeps (patch old new : List (ℕ × Option ℕ)) : Type 0 where
 pub record Exchanges (i : ℕ) (old patch new back : List (ℕ × Option ℕ)) : Type 0 where
   pub at : (n : ℕ) (r : Option ℕ) → slice_get patch i ≡ Some (n, r)
       → ((q : ℕ) → row_of new q ≡ update nat_eq (row_of old) n (Some r) q) × (back ≡ insert_entry nat_eq patch n
-          (mark_of old n))
+      (mark_of old n))
 
 -- what a change gave as its way back: the marks that its numbers had, where the marks afterwards are those before
 -- with the patch made. Which rows stand without a mark does not matter

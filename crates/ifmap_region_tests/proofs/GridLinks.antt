@@ -11,9 +11,12 @@ beside_back v w zero e =
     let p = cond_some (nat_lt (v % 128) 99) (v + 1) w e in
     let t : v % 128 < 99 = ltb-true (v % 128) 99 p.0 in
     let low : 0 < w % 128 = omega (arith, t, p.1) in
-    let high : w % 128 < 100 = omega (arith, t, p.1) in
-    (1, omega arith, ap (λ (b : Bool). if b then Some (w - 1) else None) (and_from (nat_lt 0 (w % 128)) (nat_lt (w % 128) 100) (lt-ltb 0
-        (w % 128) low) (lt-ltb (w % 128) 100 high)) ∙ ap Some (omega (arith, p.1)))
+    let high : w % 128 < 100 = omega (arith, t, p.1) in (
+      1,
+      omega arith,
+      ap (λ (b : Bool). if b then Some (w - 1) else None) (and_from (nat_lt 0 (w % 128)) (nat_lt (w % 128) 100) (lt-ltb 0
+          (w % 128) low) (lt-ltb (w % 128) 100 high)) ∙ ap Some (omega (arith, p.1)),
+    )
 beside_back v w (suc zero) e =
     let p = cond_some (nat_lt 0 (v % 128) && nat_lt (v % 128) 100) (v - 1) w e in
     let q = and_parts (nat_lt 0 (v % 128)) (nat_lt (v % 128) 100) p.0 in
@@ -25,9 +28,12 @@ beside_back v w (suc (suc zero)) e =
     let p = cond_some (nat_lt (v / 128) 99) (v + 128) w e in
     let t : v / 128 < 99 = ltb-true (v / 128) 99 p.0 in
     let low : 127 < w = omega (arith, p.1) in
-    let high : w < 12800 = omega (arith, t, p.1) in
-    (3, omega arith, ap (λ (b : Bool). if b then Some (w - 128) else None) (and_from (nat_lt 127 w) (nat_lt w 12800) (lt-ltb 127 w low)
-        (lt-ltb w 12800 high)) ∙ ap Some (omega (arith, p.1)))
+    let high : w < 12800 = omega (arith, t, p.1) in (
+      3,
+      omega arith,
+      ap (λ (b : Bool). if b then Some (w - 128) else None) (and_from (nat_lt 127 w) (nat_lt w 12800) (lt-ltb 127 w low)
+          (lt-ltb w 12800 high)) ∙ ap Some (omega (arith, p.1)),
+    )
 beside_back v w (suc (suc (suc i))) e =
     let p = cond_some (nat_lt 127 v && nat_lt v 12800) (v - 128) w e in
     let q = and_parts (nat_lt 127 v) (nat_lt v 12800) p.0 in

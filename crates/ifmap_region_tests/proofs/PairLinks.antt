@@ -18,7 +18,7 @@ far_back link v w e = by (nat_eq link.0 v) refl e
     other true s f =
         let at : link.0 ≡ w = same_Some link.0 w f in
         ap (λ (b : Bool). if b then Some link.1 else (if nat_eq link.1 w then Some link.0 else None)) (eq-eqb link.0 w at) ∙ ap Some
-            (eqb-true link.1 v s)
+        (eqb-true link.1 v s)
     other false s f = absurd (none-some w f)
 
     by : (t : Bool) → nat_eq link.0 v ≡ t → (if t then Some link.1 else (if nat_eq link.1 v then Some link.0 else None)) ≡ Some w

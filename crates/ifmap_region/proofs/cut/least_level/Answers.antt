@@ -9,12 +9,23 @@ use Rattle.ifmap_region.proofs.cut.least_level.Goals.{in-Some, in_default}
 pub loop-i-preserved : goal.loop-i-preserved
 loop-i-preserved g c =
     let given = IsNext (g.G.LinkSource.terminal c.args.graph.now) c.args.top (over c.args.rows.now.entries (mark_of
-        c.args.base.now.entries)) in
+    c.args.base.now.entries)) in
     elim c.match-at.branch [
       | in-Some w ↦ rw w.least-is record {
         only = lesser_only _ _ _ _ w.lesser-least.ensures.one c.loop-i.invariant.only
-            (IfSome_then w.next_of.result w.next_of.ensures.only (λ k n. (w.in-Some.neighbour, (c.loop-i.i, omega (arith,
-                c.loop-i-test.true, c.count-i-end.ensures), sym w.in-Some.ensures.link), n)));
+            (IfSome_then w.next_of.result w.next_of.ensures.only (λ k n. (
+              w.in-Some.neighbour,
+              (
+                c.loop-i.i,
+                omega (
+                  arith,
+                  c.loop-i-test.true,
+                  c.count-i-end.ensures,
+                ),
+                sym w.in-Some.ensures.link,
+              ),
+              n,
+            )));
         least = least_more (g.G.LinkSource.link c.args.graph.now c.args.number) c.loop-i.i given c.loop-i.least c.loop-i.invariant.least
             w.next_of.result w.lesser-least.result w.in-Some.neighbour
             (sym w.in-Some.ensures.link) w.next_of.ensures.each w.lesser-least.ensures.first w.lesser-least.ensures.second;

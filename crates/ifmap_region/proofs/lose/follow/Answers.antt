@@ -9,7 +9,7 @@ loop-i-preserved g c = elim c.match-at.branch [
     floor = w.push.ensures.floor ∙ c.loop-i.invariant.floor;
     follows = rw (w.in_ok-push.ensures.entries, c.loop-i.invariant.floor)
         (follows_pushed _ _ _ _ _ _ w.in-Some.neighbour c.loop-i.invariant.follows (sym w.in-Some.ensures.link) (sym w.mark_in.ensures ∙
-            w.is_mark.ensures.yes w.if-is_mark.true));
+        w.is_mark.ensures.yes w.if-is_mark.true));
     steps = omega (arith, c.at.ensures.step, c.loop-i.invariant.steps);
   }
   | in-Some+else-is_mark w ↦ rw w.levels-is record {

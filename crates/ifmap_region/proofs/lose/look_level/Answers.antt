@@ -16,12 +16,12 @@ pub returns-in_err-look-clause-spent : goal.returns-in_err-look-clause-spent
 returns-in_err-look-clause-spent g c flips start before b s =
     let at = drop_more c.args.now.now c.loop-number.number-index 0 c.loop-number-test.true in
     c.look.ensures.spent flips start before (drop (c.loop-number.number-index + 1) c.args.now.now) (rw at at
-        (c.loop-number.invariant.keeps flips start before b s))
+    (c.loop-number.invariant.keeps flips start before b s))
 
 pub returns-clause-keeps : goal.returns-clause-keeps
 returns-clause-keeps g c flips start before b s =
     rw (drop_all c.loop-number.number-index c.args.now.now (omega (arith, c.loop-number-test.false))) at (c.loop-number.invariant.keeps
-        flips start before b s)
+    flips start before b s)
 
 pub returns-clause-spent : goal.returns-clause-spent
 returns-clause-spent g c flips start before b s = spent_now _ _ _ flips start _ _ _ _ _ _ _ _ (c.loop-number.invariant.keeps flips start

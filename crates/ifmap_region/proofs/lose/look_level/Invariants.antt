@@ -16,7 +16,7 @@ invariant-loop-number g l =
       keeps : (flips : List Flip) (start before : ℕ)
           → IsBeforeCut links terminal flips start l.top (mark_of l.base.entries)
           → IsCutting links terminal count flips start l.top (mark_of l.base.entries) l.initial.rows.entries l.initial.gone.items
-              (waiting l.level l.now l.initial.levels.entries) l.level before l.initial.steps
+          (waiting l.level l.now l.initial.levels.entries) l.level before l.initial.steps
           → IsCutting links terminal count flips start l.top (mark_of l.base.entries) l.rows.entries l.gone.items (waiting l.level (drop
-              l.number-index l.now) l.levels.entries) l.level before l.steps;
+          l.number-index l.now) l.levels.entries) l.level before l.steps;
     }

@@ -14,7 +14,7 @@ invariant-loop-levels g l =
     → IsBeforeCut links terminal flips start l.top (mark_of l.base.entries)
     → SeedsAlong flips false (MayHold terminal l.top (mark_of l.base.entries)) l.fn.seeds.items
     → IsCutting links terminal (g.G.LinkSource.count l.graph) flips start l.top (mark_of l.base.entries) l.rows.entries l.gone.items (λ k
-        v. Contains l.levels.entries (k, v)) l.levels.floor l.initial.steps l.steps
+    v. Contains l.levels.entries (k, v)) l.levels.floor l.initial.steps l.steps
 
 abbrev pub decreases-loop-levels : goal.decreases-loop-levels
 decreases-loop-levels g l = 2 ^ 32 - l.levels.floor

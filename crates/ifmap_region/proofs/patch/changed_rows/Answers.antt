@@ -22,13 +22,19 @@ loop-i-preserved c =
             (sym w.in-Some.ensures.entry) w.in-Some.ensures.value
             (w.is_same.ensures.yes w.if-not-is_same.false ∙ w.mark_in.ensures) c.loop-i.invariant.each;
       }
-      | in_default w ↦ absurd (true≢false (sym (w.in_default.ensures.found.1 (omega (arith, c.loop-i-test.true,
-          c.len-i-end.ensures.len)))))
+      | in_default w ↦ absurd (true≢false (sym (w.in_default.ensures.found.1 (omega (
+        arith,
+        c.loop-i-test.true,
+        c.len-i-end.ensures.len,
+      )))))
     ]
 
 pub returns-clause-only : goal.returns-clause-only
 returns-clause-only c = c.loop-i.invariant.only
 
 pub returns-clause-each : goal.returns-clause-each
-returns-clause-each c = each_past c.args.rows.now.entries c.args.base.now.entries c.loop-i.changed.entries c.loop-i.i (omega (arith,
-    c.loop-i-test.false, c.len-i-end.ensures.len)) c.loop-i.invariant.each
+returns-clause-each c = each_past c.args.rows.now.entries c.args.base.now.entries c.loop-i.changed.entries c.loop-i.i (omega (
+  arith,
+  c.loop-i-test.false,
+  c.len-i-end.ensures.len,
+)) c.loop-i.invariant.each

@@ -20,5 +20,8 @@ loop-i-preserved c = elim c.match-get_index.branch [
 pub returns : goal.returns
 returns c =
     c.loop-i.invariant
-    ∙ ap (missing c.args.rows.now.entries) (take_all c.loop-i.i c.args.patch.now.entries (omega (arith, c.loop-i-test.false,
-        c.len-i-end.ensures.len)))
+    ∙ ap (missing c.args.rows.now.entries) (take_all c.loop-i.i c.args.patch.now.entries (omega (
+      arith,
+      c.loop-i-test.false,
+      c.len-i-end.ensures.len,
+    )))

@@ -17,14 +17,14 @@ loop-i-preserved c = elim c.match-get_index.branch [
     only = only_put c.args.patch.now.entries c.args.rows.now.entries c.loop-i.rows.entries w.put_within.new.rows.entries
         w.in-Some.number.now _ c.loop-i.i (sym w.in-Some.ensures.entry) w.in-Some.ensures.value
         c.loop-i.invariant.only c.loop-i.invariant.done (no_row _ (sym w.has_row.ensures ∙ w.if-not-has_row.true))
-            w.put_within.ensures.put;
+        w.put_within.ensures.put;
     done = done_put c.args.patch.now.entries c.args.rows.now.entries c.loop-i.rows.entries w.put_within.new.rows.entries
         w.in-Some.number.now _ c.loop-i.i (sym w.in-Some.ensures.entry) w.in-Some.ensures.value
         c.loop-i.invariant.only c.loop-i.invariant.done (no_row _ (sym w.has_row.ensures ∙ w.if-not-has_row.true))
-            w.put_within.ensures.put;
+        w.put_within.ensures.put;
     spare = room_put c.loop-i.rows.entries c.args.patch.now.entries c.loop-i.i w.in-Some.number.now _ (sym w.in-Some.ensures.entry)
         w.put_within.new.rows.entries _ _ (no_row _ (sym w.has_row.ensures ∙ w.if-not-has_row.true)) w.put_within.ensures.put
-            w.put_within.ensures.spare c.loop-i.invariant.spare;
+        w.put_within.ensures.spare c.loop-i.invariant.spare;
   }
   | in-Some+else-not-has_row w ↦ rw w.rows-is record {
     only = c.loop-i.invariant.only;
@@ -41,4 +41,4 @@ pub returns-clause-room : goal.returns-clause-room
 returns-clause-room c =
     room_all c.args.patch.now.entries c.loop-i.rows.entries c.loop-i.i
     (λ j v r e. omega (arith, slice_get_within c.args.patch.now.entries j (v, r) e, c.loop-i-test.false, c.len-i-end.ensures.len))
-        c.loop-i.invariant.done
+    c.loop-i.invariant.done

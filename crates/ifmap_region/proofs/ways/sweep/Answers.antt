@@ -27,4 +27,4 @@ pub returns : goal.returns
 returns c =
     swept_all c.args.patch.now.entries c.args.rows.now.entries c.loop-i.rows.entries c.loop-i.i
     (λ j v r e. omega (arith, slice_get_within c.args.patch.now.entries j (v, r) e, c.loop-i-test.false, c.len-i-end.ensures.len))
-        c.loop-i.invariant.each c.loop-i.invariant.out
+    c.loop-i.invariant.each c.loop-i.invariant.out

@@ -27,5 +27,5 @@ returns c =
     ] in
     rw (← c.self.view_is, c.from.ensures)
     (comes_out c.self.inside.floor c.if-is_empty.level c.self.inside.seeds c.pop_level.new.self c.self.inside.next.items
-        c.pop_level.new.into.items c.replace-now.new.dest.items
+    c.pop_level.new.into.items c.replace-now.new.dest.items
     le side (ap (λ v. v.items) emptied ∙ c.new.ensures.items) (rw c.replace-now.ensures.value at c.in_ok-pop_level.ensures.moves))

@@ -8,8 +8,13 @@ returns-else-self-len-clause-above c =
     rw (← c.self.view_is) (elim c.else-self-len.branch [
       | else-self-len-via-then-self-len+else-index-level w ↦
           all_above c.self.inside.items.items c.self.inside.taken c.self.invariant.0 (omega (arith, c.len.ensures, w.if-self-len.true))
-              w.index.result.now w.index.ensures c.args.level w.if-index-level.false
+          w.index.result.now w.index.ensures c.args.level w.if-index-level.false
       | else-self-len-via-else-self-len w ↦
-          λ all k d h. absurd (omega (arith, h, length-drop c.self.inside.taken c.self.inside.items.items, c.len.ensures,
-              w.if-self-len.false))
+          λ all k d h. absurd (omega (
+            arith,
+            h,
+            length-drop c.self.inside.taken c.self.inside.items.items,
+            c.len.ensures,
+            w.if-self-len.false,
+          ))
     ])

@@ -12,4 +12,4 @@ returns-in_err-push-clause-left c s h = c.loop-number.invariant.left s (left_of_
 pub returns-clause-above : goal.returns-clause-above
 returns-clause-above c all =
     rw c.in_default.ensures.none (c.in_default.ensures.above (all_left (λ (s : ℕ × ℕ). c.args.level ≤ s.0) _ _
-        c.loop-number.invariant.left all))
+    c.loop-number.invariant.left all))

@@ -8,4 +8,4 @@ pub returns-clause-room : goal.returns-clause-room
 returns-clause-room c =
     room_taken c.patch.inside.rows.entries c.args.self.now.marks.entries c.exchange.new.rows.entries c.exchange.new.patch.entries
     (subst (λ (u : List (ℕ × Option ℕ)). (v : ℕ) → IsSome (row_of u v) → IsSome (row_of c.args.self.now.marks.entries v)) (sym
-        c.patch.view_is) c.requires) c.exchange.ensures.makes c.exchange.ensures.taken
+    c.patch.view_is) c.requires) c.exchange.ensures.makes c.exchange.ensures.taken
