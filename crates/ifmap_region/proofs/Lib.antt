@@ -1,6 +1,7 @@
 pub mod Cuts
 pub mod Depths
 pub mod Exchange
+pub mod Falling
 pub mod FlipLists
 pub mod Lost
 pub mod Missing

@@ -1,59 +1,14 @@
 -- One link more whose end has a mark that is low enough, or waits.
-use Rattle.std.proofs.Common.{◌≡◌, ℕ, ◌+◌, ◌<◌, ◌≤◌, Option, Some, None, List, [], ◌∷◌, ◌++◌, Contains, ◌⊎◌, inl, inr, sym, ap, subst, ◌∙◌, arith}
+use Rattle.std.proofs.Common.{◌≡◌, ℕ, ◌+◌, ◌<◌, Option, Some, None, List, [], ◌∷◌, ◌++◌, Contains, ◌⊎◌, inl, inr, sym, ap, subst, ◌∙◌, arith}
 use Rattle.std.proofs.lemmas.Option.{same_Some, none-some}
 use Rattle.std.proofs.lemmas.Bool.{cases_lt}
 use Rattle.std.proofs.lemmas.List.Elements.{Contains-append_left, Contains-push, Contains-push_cases}
 use Rattle.ifmap_region.specs.Losing.{Follows}
-use Rattle.ifmap_region.specs.Spreading.{Offers}
 
 module _ (link : ℕ → Option ℕ) (n : ℕ) (mark : ℕ → Option ℕ) (level : ℕ) (before after : List (ℕ × ℕ)) where
-  pub offers_none : Offers link 0 mark level before before
-  offers_none = record { kept = λ s h. h; joined = λ s h. inl h; offered = λ w j lt e. absurd (omega (arith, lt)) }
-
   -- a place below n + 1 is below n, or is n
   last_or_before : (j : ℕ) → j < n + 1 → (j < n) ⊎ (j ≡ n)
   last_or_before j lt = elim (cases_lt j n) [ inl l ↦ inl l | inr g ↦ inr (omega (arith, lt, g)) ]
-
-  widened : Offers link n mark level before after → (s : ℕ × ℕ) → Contains after s
-      → Contains before s ⊎ ((s.0 ≡ level) × ((j : ℕ) × (j < n + 1) × (link j ≡ Some s.1)))
-  widened o s h = elim (o.joined s h) [ inl b ↦ inl b | inr p ↦ inr (p.0, (p.1.0, omega (arith, p.1.1), p.1.2)) ]
-
-  pub offers_unmatched : Offers link n mark level before after → link n ≡ None → Offers link (n + 1) mark level before after
-  offers_unmatched o none = record {
-    kept = o.kept;
-    joined = widened o;
-    offered = λ w j lt e. elim (last_or_before j lt) [
-      | inl l ↦ o.offered w j l e
-      | inr at ↦ absurd (none-some w (sym none ∙ ap link (sym at) ∙ e))
-    ];
-  }
-
-  pub offers_marked : (w k : ℕ) → Offers link n mark level before after → link n ≡ Some w → mark w ≡ Some k → k ≤ level
-      → Offers link (n + 1) mark level before after
-  offers_marked w k o here marked le = record {
-    kept = o.kept;
-    joined = widened o;
-    offered = λ x j lt e. elim (last_or_before j lt) [
-      | inl l ↦ o.offered x j l e
-      | inr at ↦ let same : w ≡ x = same_Some w x (sym here ∙ ap link (sym at) ∙ e) in
-          inl (k, ap mark (sym same) ∙ marked, le)
-    ];
-  }
-
-  pub offers_pushed : (w : ℕ) → Offers link n mark level before after → link n ≡ Some w
-      → Offers link (n + 1) mark level before (after ++ (level, w) ∷ [])
-  offers_pushed w o here = record {
-    kept = λ s h. Contains-append_left after ((level, w) ∷ []) s (o.kept s h);
-    joined = λ s h. elim (Contains-push_cases after (level, w) s h) [
-      | inl a ↦ widened o s a
-      | inr e ↦ inr (ap (λ (p : ℕ × ℕ). p.0) (sym e), (n, omega arith, here ∙ ap Some (ap (λ (p : ℕ × ℕ). p.1) e)))
-    ];
-    offered = λ x j lt e. elim (last_or_before j lt) [
-      | inl l ↦ elim (o.offered x j l e) [ inl m ↦ inl m | inr c ↦ inr (Contains-append_left after ((level, w) ∷ []) (level, x) c) ]
-      | inr at ↦ let same : w ≡ x = same_Some w x (sym here ∙ ap link (sym at) ∙ e) in
-          inr (subst (λ (y : ℕ). Contains (after ++ (level, w) ∷ []) (level, y)) same (Contains-push after (level, w)))
-    ];
-  }
 
 module _ (link : ℕ → Option ℕ) (n : ℕ) (mark : ℕ → Option ℕ) (level : ℕ) (before after : List (ℕ × ℕ)) where
   pub follows_none : Follows link 0 mark level before before

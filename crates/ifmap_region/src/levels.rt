@@ -37,7 +37,7 @@ impl Seeds {
     }
 
     // The least level of a seed.
-    fn least(&self) -> Option<u32>
+    pub(crate) fn least(&self) -> Option<u32>
         ensures none { IfNone result (self.now ≡ []) }
         ensures least { IfSome result (λ level. All (λ s. level ≤ s.0) self.now) }
         ensures greatest { IfSome result (λ level. (floor : ℕ) → All (λ s. floor ≤ s.0) self.now
@@ -51,7 +51,7 @@ impl Seeds {
     }
 
     // Takes out a seed of the level, which is not above that of any seed.
-    fn pop_at(&mut self, level: u32) -> Option<u64>
+    pub(crate) fn pop_at(&mut self, level: u32) -> Option<u64>
         ensures some { IfSome result (λ number. self.old ≡ (level, number) ∷ self.new) }
         ensures none { IfNone result (self.new ≡ self.old) }
         ensures above { IfNone result (All (λ s. level ≤ s.0) self.old
