@@ -1,11 +1,13 @@
 //! Small graphs, whose depths a plain breadth-first search gives.
-ghost use Rattle.std.specs.Prelude.{◌≡◌, ℕ, ◌<◌, true, false, nat_le, vec_len};
+ghost use Rattle.std.specs.Prelude.{◌≡◌, ℕ, ◌<◌, true, false, nat_le, vec_len, OnOk};
 ghost use Rattle.ifmap_region.specs.Flips.{IsFlipped};
 ghost use Rattle.ifmap_region_tests.specs.Grid.{beside, is_corner, grid_link};
 ghost use Rattle.ifmap_region.specs.Links.{Linked};
+ghost use Rattle.ifmap_region.specs.Ways.{HasRoom};
+ghost use Rattle.ifmap_region_tests.specs.Rooms.{KeepsRows};
 ghost use Rattle.ifmap_region_tests.specs.Pairs.{far_end_of, far_end_at};
 
-use ifmap_region::{Flip, LinkSource, Region, build, repair};
+use ifmap_region::{Flip, LinkSource, Patch, Region, RegionUndo, build, repair};
 use ifmap_steps::Steps;
 use std::alloc::{AllocError as NoMemory, Global};
 use std::cell::Cell;
@@ -166,6 +168,46 @@ fn run<L: Ledger>(alloc: Global, case: &Case, blank: Blank) -> Result<bool, NoMe
     Ok(held && has_marks(&region, &case.after) && region.marks.len() == case.after.len())
 }
 
+/// The patch of the change to a graph, where the added flips are its links.
+fn patch_to<L: Ledger>(
+    alloc: Global,
+    region: &Region,
+    graph: &Pairs,
+    flips: &[Flip],
+    steps: &mut Steps<L>,
+) -> Result<Option<Patch>, NoMemory> {
+    if !added_are_links(graph, flips) {
+        return Ok(None);
+    }
+    Ok(Some(repair(alloc, region, graph, flips, steps)?))
+}
+
+/// Gives a patch its rows; those that were there stay.
+fn make_room(region: &mut Region, patch: &Patch) -> Result<(), NoMemory>
+    ensures room { OnOk result (HasRoom patch.now region.new.marks.entries) }
+    ensures kept { KeepsRows region.old.marks.entries region.new.marks.entries }
+{
+    region.reserve(patch)?;
+    Ok(())
+}
+
+/// Makes a patch, and gives the way back.
+fn make_change(region: &mut Region, patch: Patch) -> RegionUndo
+    requires { HasRoom patch region.old.marks.entries }
+    ensures room { HasRoom result region.new.marks.entries }
+    ensures kept { KeepsRows region.old.marks.entries region.new.marks.entries }
+{
+    region.commit_kept(patch)
+}
+
+/// Takes a change back, and gives its patch.
+fn take_back(region: &mut Region, undo: RegionUndo) -> Patch
+    requires { HasRoom undo region.old.marks.entries }
+    ensures kept { KeepsRows region.old.marks.entries region.new.marks.entries }
+{
+    region.undo(undo)
+}
+
 /// The way back of two changes that were made while a third had its rows: whether the marks are at
 /// each moment those of the number of changes that stand.
 fn go_back<L: Ledger>(alloc: Global, blank: Blank) -> Result<bool, NoMemory>
@@ -174,55 +216,43 @@ fn go_back<L: Ledger>(alloc: Global, blank: Blank) -> Result<bool, NoMemory>
     requires some { 0 < blank.parts }
 {
     let mut steps: Steps<L> = Steps::from_blank(blank);
-    let graphs = [
-        Pairs {
-            links: vec![in alloc; (0, 1), (1, 2)]?,
-        },
-        Pairs {
-            links: vec![in alloc; (1, 2), (0, 3)]?,
-        },
-        Pairs {
-            links: vec![in alloc; (0, 2), (0, 3)]?,
-        },
-        Pairs {
-            links: vec![in alloc; (0, 1), (3, 4)]?,
-        },
-    ];
-    let marks: [&[(u64, u32)]; 3] = [
-        &[(0, 0), (1, 1), (2, 2)],
-        &[(0, 0), (3, 1)],
-        &[(0, 0), (2, 1), (3, 1)],
-    ];
-    let first = [removed(0, 1), added(0, 3)];
-    let second = [removed(1, 2), added(0, 2)];
-    let third = [removed(0, 2), removed(0, 3), added(0, 1), added(3, 4)];
-    let mut region = build(alloc, 0, 9, &graphs[0], &mut steps)?;
-    let mut same = has_marks(&region, marks[0]);
-    if !added_are_links(&graphs[1], &first)
-        || !added_are_links(&graphs[2], &second)
-        || !added_are_links(&graphs[3], &third)
-    {
+    let links = vec![in alloc; (0, 1), (1, 2)]?;
+    let mut region = build(alloc, 0, 9, &Pairs { links }, &mut steps)?;
+    let before = [(0, 0), (1, 1), (2, 2)];
+    let mut same = has_marks(&region, &before);
+    let flips = [removed(0, 1), added(0, 3)];
+    let links = vec![in alloc; (1, 2), (0, 3)]?;
+    let Some(patch) = patch_to(alloc, &region, &Pairs { links }, &flips, &mut steps)? else {
         return Ok(false);
-    }
-    let patch = repair(alloc, &region, &graphs[1], &first, &mut steps)?;
-    region.reserve(&patch)?;
-    let first_undo = region.commit_kept(patch);
-    same = same && has_marks(&region, marks[1]);
-    let patch = repair(alloc, &region, &graphs[2], &second, &mut steps)?;
-    region.reserve(&patch)?;
-    let second_undo = region.commit_kept(patch);
-    same = same && has_marks(&region, marks[2]);
-    let third_patch = repair(alloc, &region, &graphs[3], &third, &mut steps)?;
-    region.reserve(&third_patch)?;
-    same = same && has_marks(&region, marks[2]);
-    let second_patch = region.undo(second_undo);
-    same = same && has_marks(&region, marks[1]);
-    let first_patch = region.undo(first_undo);
-    same = same && has_marks(&region, marks[0]);
+    };
+    make_room(&mut region, &patch)?;
+    let first_undo = make_change(&mut region, patch);
+    let between = [(0, 0), (3, 1)];
+    same = same && has_marks(&region, &between);
+    let flips = [removed(1, 2), added(0, 2)];
+    let links = vec![in alloc; (0, 2), (0, 3)]?;
+    let Some(patch) = patch_to(alloc, &region, &Pairs { links }, &flips, &mut steps)? else {
+        return Ok(false);
+    };
+    make_room(&mut region, &patch)?;
+    let second_undo = make_change(&mut region, patch);
+    let after = [(0, 0), (2, 1), (3, 1)];
+    same = same && has_marks(&region, &after);
+    let flips = [removed(0, 2), removed(0, 3), added(0, 1), added(3, 4)];
+    let links = vec![in alloc; (0, 1), (3, 4)]?;
+    let Some(third_patch) = patch_to(alloc, &region, &Pairs { links }, &flips, &mut steps)? else {
+        return Ok(false);
+    };
+    make_room(&mut region, &third_patch)?;
+    same = same && has_marks(&region, &after);
+    let second_patch = take_back(&mut region, second_undo);
+    same = same && has_marks(&region, &between);
+    let first_patch = take_back(&mut region, first_undo);
+    same = same && has_marks(&region, &before);
     region.forget(first_patch);
     region.forget(third_patch);
     region.forget(second_patch);
-    Ok(same && has_marks(&region, marks[0]) && region.marks.len() == marks[0].len())
+    Ok(same && has_marks(&region, &before) && region.marks.len() == before.len())
 }
 
 fn goes_back(alloc: Global) -> Result<bool, NoMemory> {

@@ -1,4 +1,4 @@
 use Rattle.ifmap_region_tests.proofs.counters.a_counter_begins_from_a_blank.Given as goal
 
-abbrev pub ghosts-ticked_twice : goal.ghosts-ticked_twice
-ghosts-ticked_twice a = record { name = a.blank.name; parts = a.blank.parts }
+abbrev pub ghosts-tick_twice : goal.ghosts-tick_twice
+ghosts-tick_twice a = record { name = a.blank.name; parts = a.blank.parts }
