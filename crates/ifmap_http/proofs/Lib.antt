@@ -1,5 +1,0 @@
-pub mod Filling
-pub mod Gets
-pub mod Reading
-pub mod Sending
-pub mod Taking
