@@ -1,12 +1,12 @@
 -- What one number that is looked at changes, with the steps that it takes.
--- Plan: the steps are charged to what was looked at, and once more to what is gone (`looked_more`, `spent_now`).
--- Each way in which a look ends keeps the whole state (`cutting_passed`, `cutting_held`, `cutting_followed`,
--- `cutting_ended`); then the beginning, a level that comes out, and the end of a level.
-use Rattle.std.proofs.Common.{◌≡◌, ◌≢◌, ℕ, suc, ◌+◌, ◌*◌, ◌<◌, ◌≤◌, Bool, true, false, Option, Some, None, List, [], ◌∷◌, ◌++◌, Contains, sum_by, is_some, ◌⊎◌, inl, inr, refl, sym, ap, subst, ◌∙◌, arith, true≢false}
+-- Plan: the steps are charged to what has a row, and once more to what is gone (`looked_more`, `looked_same`,
+-- `spent_now`, `spent_more`). A number comes into the queue with a row (`cutting_seed`, `cutting_neighbour`) and leaves
+-- it when it is looked at (`cutting_held`, `cutting_gone`); then the beginning, a level that begins, and one that ends.
+use Rattle.std.proofs.Common.{◌≡◌, ◌≢◌, ℕ, suc, ◌+◌, ◌*◌, ◌<◌, ◌≤◌, Bool, true, false, Option, Some, None, List, [], ◌∷◌, ◌++◌, Contains, sum_by, nat_eq, is_some, ◌⊎◌, inl, inr, refl, sym, ap, subst, ◌∙◌, arith, true≢false}
 use Rattle.std.specs.Prelude.{IsSome}
 use Rattle.std.proofs.lemmas.Option.{same_Some, none-some}
 use Rattle.std.proofs.lemmas.Bool.{cases_eq}
-use Rattle.std.proofs.lemmas.List.Elements.{Contains-append_left, Contains-append_right, Contains-push, Contains-push_cases, All-weaker, All-cons, All-nil}
+use Rattle.std.proofs.lemmas.List.Elements.{Contains-append_left, Contains-append_right, Contains-append_cases, Contains-push, Contains-push_cases, All-weaker, All-cons, All-nil, Contains-get_or}
 use Rattle.std.proofs.lemmas.List.Sums.{sum_by-cons, sum_by_push}
 use Rattle.std.specs.List.{IsDistinct}
 use Rattle.ifmap_region.specs.declared.flips.Flip.{Flip}
@@ -16,14 +16,13 @@ use Rattle.ifmap_region.specs.Links.{Linked}
 use Rattle.ifmap_region.specs.Marks.{row_of, over}
 use Rattle.ifmap_region.specs.Near.{NearOneWay, at_flip, beside}
 use Rattle.ifmap_region.specs.Seeds.{MayHold, SeedsAlong}
-use Rattle.ifmap_region.specs.Waiting.{Waiting, ComesOut}
 use Rattle.ifmap_region.proofs.Depths.{sound_from}
 use Rattle.ifmap_region.proofs.FlipLists.{flipped_back}
-use Rattle.ifmap_region.specs.Spreading.{waiting}
-use Rattle.ifmap_region.specs.Losing.{Follows, AreGone, IsLookedAt, IsBeforeCut, IsCutting}
-use Rattle.ifmap_region.proofs.Lost.{losing_passed, losing_held, losing_gone, moved_here}
-use Rattle.ifmap_region.proofs.Ready.{waiting_out, waiting_in, waiting_first}
-use Rattle.ifmap_region.specs.Distinct.{distinct_cons, distinct_push, sum_within}
+use Rattle.ifmap_region.specs.Spreading.{queue_at}
+use Rattle.ifmap_region.specs.Losing.{Awaits, IsHeld, AreGone, IsLookedAt, IsBeforeCut, IsCutting}
+use Rattle.ifmap_region.proofs.Lost.{losing_passed, losing_entered, losing_held, losing_gone, moved_here}
+use Rattle.ifmap_region.proofs.Falling.{queue_out, queue_in, queue_first, now_in, now_new, now_out, next_in, next_new, next_out}
+use Rattle.ifmap_region.specs.Distinct.{contains_one, no_member, distinct_cons, distinct_push, distinct_head, distinct_tail, sum_within}
 
 pub some_row : (o : Option (Option ℕ)) → IsSome o → (r : Option ℕ) × (o ≡ Some r)
 some_row None h = absurd (true≢false (sym h))
@@ -34,7 +33,7 @@ is_some_row o r e = ap is_some e
 
 module _ (count : ℕ → ℕ) (rows rows' : List (ℕ × Option ℕ)) (gone : List ℕ) (v : ℕ)
     (unrowed : row_of rows v ≡ None) (others : (q : ℕ) → q ≢ v → row_of rows' q ≡ row_of rows q) where
-  still_rowed : (r : Option ℕ) → row_of rows' v ≡ Some r → (x : ℕ) → IsSome (row_of rows x) → IsSome (row_of rows' x)
+  pub still_rowed : (r : Option ℕ) → row_of rows' v ≡ Some r → (x : ℕ) → IsSome (row_of rows x) → IsSome (row_of rows' x)
   still_rowed r here x h = elim (cases_eq x v) [
     | inl at ↦ is_some_row (row_of rows' x) r (ap (row_of rows') at ∙ here)
     | inr apart ↦ ap is_some (others x apart) ∙ h
@@ -69,185 +68,234 @@ module _ (count : ℕ → ℕ) (rows rows' : List (ℕ × Option ℕ)) (gone : L
     distinct = g.distinct;
   }
 
-  pub gone_gone : row_of rows' v ≡ Some None → AreGone rows gone → AreGone rows' (gone ++ v ∷ [])
-  gone_gone here g = record {
+-- a number that had a row with a mark loses the mark
+module _ (count : ℕ → ℕ) (rows rows' : List (ℕ × Option ℕ)) (gone : List ℕ) (v k : ℕ) (row : row_of rows v ≡ Some (Some k))
+    (here : row_of rows' v ≡ Some None) (others : (q : ℕ) → q ≢ v → row_of rows' q ≡ row_of rows q) where
+  not_gone : AreGone rows gone → (x : ℕ) → Contains gone x → x ≢ v
+  not_gone g x h at = none-some k (same_Some None (Some k) (sym (g.only x h) ∙ ap (row_of rows) at ∙ row))
+
+  pub looked_same : (gone' : List ℕ) (before steps after : ℕ) → after + sum_by count gone ≤ steps + sum_by count gone'
+      → IsLookedAt count rows gone before steps → IsLookedAt count rows' gone' before after
+  looked_same gone' before steps after le l = record {
+    numbers = l.numbers;
+    distinct = l.distinct;
+    among = All-weaker (λ (x : ℕ). IsSome (row_of rows x)) (λ (x : ℕ). IsSome (row_of rows' x)) (λ x h. elim (cases_eq x v) [
+      | inl at ↦ is_some_row (row_of rows' x) None (ap (row_of rows') at ∙ here)
+      | inr apart ↦ ap is_some (others x apart) ∙ h
+    ]) l.numbers l.among;
+    all = λ x h. l.all x (elim (cases_eq x v) [
+      | inl at ↦ is_some_row (row_of rows x) (Some k) (ap (row_of rows) at ∙ row)
+      | inr apart ↦ ap is_some (sym (others x apart)) ∙ h
+    ]);
+    bound = omega (arith, le, l.bound);
+  }
+
+  pub gone_gone : AreGone rows gone → AreGone rows' (gone ++ v ∷ [])
+  gone_gone g = record {
     all = λ x e. elim (cases_eq x v) [
       | inl at ↦ subst (λ (y : ℕ). Contains (gone ++ v ∷ []) y) (sym at) (Contains-push gone v)
       | inr apart ↦ Contains-append_left gone (v ∷ []) x (g.all x (sym (others x apart) ∙ e))
     ];
     only = λ x h. elim (Contains-push_cases gone v x h) [
-      | inl old ↦ let e = g.only x old in others x (λ at. none-some None (sym unrowed ∙ ap (row_of rows) (sym at) ∙ e)) ∙ e
+      | inl old ↦ others x (not_gone g x old) ∙ g.only x old
       | inr at ↦ ap (row_of rows') (sym at) ∙ here
     ];
-    distinct = distinct_push gone v (λ y h at. none-some None (sym unrowed ∙ ap (row_of rows) (sym at) ∙ g.only y h)) g.distinct;
+    distinct = distinct_push gone v (λ y h. not_gone g y h) g.distinct;
   }
 
 module _ (links : ℕ → ℕ → Type 0) (terminal : ℕ → Bool) (count : ℕ → ℕ) (flips : List Flip) (start top : ℕ) (first : ℕ → Option ℕ) where
   abbrev IsNear : ℕ → Type 0
   IsNear = NearOneWay flips false (WithRemoved links flips) links terminal start top
 
-  gone_within : (rows : List (ℕ × Option ℕ)) (gone : List ℕ) (before after : ℕ) → AreGone rows gone
-      → (c : IsLookedAt count rows gone before after) → sum_by count gone ≤ sum_by count c.numbers
-  gone_within rows gone before after g c = sum_within count gone c.numbers g.distinct (λ x h. c.all x (is_some_row (row_of rows x) None
-      (g.only x h)))
+  module _ (rows : List (ℕ × Option ℕ)) (gone : List ℕ) (seeds : List (ℕ × ℕ)) (level before : ℕ) where
+    gone_within : (after : ℕ) → AreGone rows gone → (c : IsLookedAt count rows gone before after) → sum_by count gone ≤ sum_by count c.numbers
+    gone_within after g c = sum_within count gone c.numbers g.distinct (λ x h. c.all x (is_some_row (row_of rows x) None (g.only x h)))
 
-  looked_near : (rows : List (ℕ × Option ℕ)) (gone : List ℕ) (waits : ℕ → ℕ → Type 0) (level before after : ℕ)
-      → IsCutting links terminal count flips start top first rows gone waits level before after
-      → (x : ℕ) → IsSome (row_of rows x) → NearOneWay flips false (WithRemoved links flips) links terminal start top x
-  looked_near rows gone waits level before after c x h = let s = some_row (row_of rows x) h in (c.losing.looked x s.0 s.1).4
+    pub looked_near : (now next : List ℕ) (after : ℕ)
+        → IsCutting links terminal count flips start top first rows gone seeds level now next before after
+        → (x : ℕ) → IsSome (row_of rows x) → NearOneWay flips false (WithRemoved links flips) links terminal start top x
+    looked_near now next after c x h = let s = some_row (row_of rows x) h in (c.losing.rowed x s.0 s.1).3
 
-  pub spent_now : (rows : List (ℕ × Option ℕ)) (gone : List ℕ) (waits : ℕ → ℕ → Type 0) (level before after : ℕ)
-      → IsCutting links terminal count flips start top first rows gone waits level before after
-      → IsWithin count (NearOneWay flips false (WithRemoved links flips) links terminal start top) 2 before after
-  spent_now rows gone waits level before after c = record {
-    numbers = c.charged.numbers;
-    distinct = c.charged.distinct;
-    among = All-weaker (λ (x : ℕ). IsSome (row_of rows x)) (NearOneWay flips false (WithRemoved links flips) links terminal start top)
-        (looked_near rows gone waits level before after c) c.charged.numbers c.charged.among;
-    bound = omega (arith, c.charged.bound, gone_within rows gone before after c.are_gone c.charged);
-  }
+    pub spent_now : (now next : List ℕ) (after : ℕ)
+        → IsCutting links terminal count flips start top first rows gone seeds level now next before after
+        → IsWithin count (NearOneWay flips false (WithRemoved links flips) links terminal start top) 2 before after
+    spent_now now next after c = record {
+      numbers = c.charged.numbers;
+      distinct = c.charged.distinct;
+      among = All-weaker (λ (x : ℕ). IsSome (row_of rows x)) (NearOneWay flips false (WithRemoved links flips) links terminal start top)
+          (looked_near now next after c) c.charged.numbers c.charged.among;
+      bound = omega (arith, c.charged.bound, gone_within (after + sum_by count now + sum_by count next) c.are_gone c.charged);
+    }
 
-  pub spent_more : (rows : List (ℕ × Option ℕ)) (gone : List ℕ) (waits : ℕ → ℕ → Type 0) (level before steps after v : ℕ)
-      → row_of rows v ≡ None → waits level v → after ≤ steps + 2 * count v
-      → IsCutting links terminal count flips start top first rows gone waits level before steps
-      → IsWithin count (NearOneWay flips false (WithRemoved links flips) links terminal start top) 2 before after
-  spent_more rows gone waits level before steps after v unrowed waited le c = record {
-    numbers = v ∷ c.charged.numbers;
-    distinct = distinct_cons v c.charged.numbers (All-weaker (λ (x : ℕ). IsSome (row_of rows x)) (λ (x : ℕ). v ≢ x) (unlooked count rows
-        rows gone v unrowed (λ q apart. refl)) c.charged.numbers c.charged.among) c.charged.distinct;
-    among = All-cons (NearOneWay flips false (WithRemoved links flips) links terminal start top) v c.charged.numbers (c.losing.entered
-        level v waited).2
-        (All-weaker (λ (x : ℕ). IsSome (row_of rows x)) (NearOneWay flips false (WithRemoved links flips) links terminal start top)
-        (looked_near rows gone waits level before steps c) c.charged.numbers c.charged.among);
-    bound = omega (
-      arith,
-      le,
-      c.charged.bound,
-      gone_within rows gone before steps c.are_gone c.charged,
-      sum_by-cons count v
-          c.charged.numbers,
-    );
-  }
+    -- the first number of the queue is looked at
+    pub spent_more : (v : ℕ) (rest next : List ℕ) (steps after : ℕ) → after ≤ steps + 2 * count v
+        → IsCutting links terminal count flips start top first rows gone seeds level (v ∷ rest) next before steps
+        → IsWithin count (NearOneWay flips false (WithRemoved links flips) links terminal start top) 2 before after
+    spent_more v rest next steps after le c =
+        let row = c.losing.in_queue level v (queue_first level v rest next) in
+        let more = sum_within count (v ∷ gone) c.charged.numbers (distinct_cons v gone (λ i e lt at. none-some level (same_Some None (Some level)
+        (sym (c.are_gone.only _ (Contains-get_or gone i e lt)) ∙ ap (row_of rows) (sym at) ∙ row))) c.are_gone.distinct)
+        (λ x h. elim (Contains-append_cases (v ∷ []) gone x h) [
+          | inl one ↦ c.charged.all x (is_some_row (row_of rows x) (Some level) (ap (row_of rows) (sym (contains_one v x one)) ∙ row))
+          | inr later ↦ c.charged.all x (is_some_row (row_of rows x) None (c.are_gone.only x later))
+        ]) in
+        record {
+          numbers = c.charged.numbers;
+          distinct = c.charged.distinct;
+          among = All-weaker (λ (x : ℕ). IsSome (row_of rows x)) (NearOneWay flips false (WithRemoved links flips) links terminal start top)
+              (looked_near (v ∷ rest) next steps c) c.charged.numbers c.charged.among;
+          bound = omega (arith, le, c.charged.bound, more, sum_by-cons count v gone, sum_by-cons count v rest);
+        }
 
 module _ (count : ℕ → ℕ) (link : ℕ → ℕ → Option ℕ) (terminal : ℕ → Bool) (flips : List Flip) (start top : ℕ) (first : ℕ → Option ℕ)
-    (b : IsBeforeCut (Linked count link) terminal flips start top first) (level v : ℕ) (rest : List ℕ) (before steps after : ℕ) where
-  abbrev links : ℕ → ℕ → Type 0
-  links = Linked count link
+    (b : IsBeforeCut (Linked count link) terminal flips start top first) (gone : List ℕ) (level : ℕ) (before : ℕ) where
+  abbrev Near : ℕ → Type 0
+  Near = NearOneWay flips false (WithRemoved (Linked count link) flips) (Linked count link) terminal start top
 
-  pub cutting_passed : (rows : List (ℕ × Option ℕ)) (gone : List ℕ) (entries : List (ℕ × ℕ)) → is_some (row_of rows v) ≡ true
-      → IsCutting (Linked count link) terminal count flips start top first rows gone (waiting level (v ∷ rest) entries) level before steps
-      → IsCutting (Linked count link) terminal count flips start top first rows gone (waiting level rest entries) level before steps
-  cutting_passed rows gone entries h c = let s = some_row (row_of rows v) h in record {
-    losing = losing_passed (WithRemoved (Linked count link) flips) (Linked count link) terminal start top first b.depths (λ u w l. inl l)
-        (NearOneWay flips false (WithRemoved (Linked count link) flips) (Linked count link) terminal start top)
-        rows (waiting level (v ∷ rest) entries) (waiting level rest entries) level v s.0 s.1 (waiting_out level v rest entries)
-        (waiting_in level v rest entries) c.losing;
-    are_gone = c.are_gone;
-    charged = c.charged;
-  }
+  abbrev Cutting : List (ℕ × Option ℕ) → List ℕ → List (ℕ × ℕ) → List ℕ → List ℕ → ℕ → Type 0
+  Cutting rows gone' seeds now next = IsCutting (Linked count link) terminal count flips start top first rows gone' seeds level now next before
 
-  pub cutting_held : (rows rows' : List (ℕ × Option ℕ)) (gone : List ℕ) (entries : List (ℕ × ℕ))
-      → row_of rows v ≡ None → row_of rows' v ≡ Some (Some level) → ((q : ℕ) → q ≢ v → row_of rows' q ≡ row_of rows q)
-      → ((u : ℕ) × (d : ℕ) × (level ≡ suc d) × Linked count link v u × (terminal u ≡ false) × (over rows first u ≡ Some d))
-      → after ≤ steps + count v
-      → IsCutting (Linked count link) terminal count flips start top first rows gone (waiting level (v ∷ rest) entries) level before steps
-      → IsCutting (Linked count link) terminal count flips start top first rows' gone (waiting level rest entries) level before after
-  cutting_held rows rows' gone entries unrowed here others h le c = record {
-    losing = losing_held (WithRemoved (Linked count link) flips) (Linked count link) terminal start top first b.depths (λ u w l. inl l)
-        (NearOneWay flips false (WithRemoved (Linked count link) flips) (Linked count link) terminal start top)
-        rows rows' (waiting level (v ∷ rest) entries) (waiting level rest entries) level v unrowed others (waiting_first level v rest
-        entries) c.losing (waiting_out level v rest entries)
-        here (h.0, h.1, h.2, b.symmetric v h.0 h.3, h.4, h.5) (waiting_in level v rest entries);
-    are_gone = gone_held count rows rows' gone v unrowed others level here c.are_gone;
-    charged = looked_more count rows rows' gone v unrowed others gone (Some level) before steps after here (omega (arith, le)) c.charged;
-  }
+  -- a seed comes into the queue, or has a row and is passed over
+  pub cutting_seed : (rows rows' : List (ℕ × Option ℕ)) (seeds rest : List (ℕ × ℕ)) (now now' : List ℕ) (w spent : ℕ) → seeds ≡ (level, w) ∷ rest
+      → Awaits level w rows rows' now now' → Cutting rows gone seeds now [] spent → Cutting rows' gone rest now' [] spent
+  cutting_seed rows rows' seeds rest now now' w spent is put c = elim put [
+    | inl p ↦ subst (λ (l : List ℕ). Cutting rows' gone rest l [] spent) (sym p.2)
+        (subst (λ (r : List (ℕ × Option ℕ)). Cutting r gone rest now [] spent) (sym p.1) (passed_by p.0))
+    | inr p ↦ subst (λ (l : List ℕ). Cutting rows' gone rest l [] spent) (sym p.1) (record {
+      losing = losing_entered (WithRemoved (Linked count link) flips) (Linked count link) terminal start top first b.depths (λ u x l. inl l) Near
+          rows rows' (λ k x. Contains seeds (k, x)) (λ k x. Contains rest (k, x)) (queue_at level now []) (queue_at level (now ++ w ∷ []) [])
+          level level w p.0 seed.0 seed.1 seed.2 there back (now_in level w now []) (now_new level w now []) (now_out level w now []) c.losing;
+      are_gone = gone_held count rows rows' gone w p.0.bare p.0.others level p.0.here c.are_gone;
+      once_now = distinct_push now w (λ y h at. none-some (Some level) (sym p.0.bare ∙ ap (row_of rows) (sym at) ∙ c.losing.in_queue level y
+          (inl (refl, h)))) c.once_now;
+      once_next = c.once_next;
+      charged = looked_more count rows rows' gone w p.0.bare p.0.others gone (Some level) before (spent + sum_by count now + sum_by count [])
+          (spent + sum_by count (now ++ w ∷ []) + sum_by count []) p.0.here (omega (arith, sum_by_push count now w)) c.charged;
+    })
+  ]
+    where
+      first_seed : Contains seeds (level, w)
+      first_seed = subst (λ (l : List (ℕ × ℕ)). Contains l (level, w)) (sym is) (0, omega arith, refl)
 
-  module _ (rows rows' : List (ℕ × Option ℕ)) (gone : List ℕ) (entries entries' : List (ℕ × ℕ))
-      (unrowed : row_of rows v ≡ None) (here : row_of rows' v ≡ Some None) (others : (q : ℕ) → q ≢ v → row_of rows' q ≡ row_of rows q)
-      (not_held : (u d : ℕ) → level ≡ suc d → Linked count link v u → terminal u ≡ false → over rows first u ≡ Some d → ⊥)
-      (le : after ≤ steps + 2 * count v)
-      (c : IsCutting (Linked count link) terminal count flips start top first rows gone (waiting level (v ∷ rest) entries) level before
-      steps) where
-    cutting_gone : ((k x : ℕ) → waiting level (v ∷ rest) entries k x → ((k ≡ level) × (x ≡ v)) ⊎ waiting level rest entries' k x)
-        → ((k x : ℕ) → waiting level rest entries' k x → waiting level (v ∷ rest) entries k x ⊎ ((k ≡ level + 1) × (first x ≡ Some (level
-        + 1)) × Linked count link v x))
-        → ((w : ℕ) → level < top → terminal v ≡ false → Linked count link v w → first w ≡ Some (level + 1)
-        → waiting level rest entries' (level + 1) w)
-        → IsCutting (Linked count link) terminal count flips start top first rows' (gone ++ v ∷ []) (waiting level rest entries') level
-        before after
-    cutting_gone there back followed = record {
-      losing = losing_gone (WithRemoved (Linked count link) flips) (Linked count link) terminal start top first b.depths (λ u w l. inl l)
-          (NearOneWay flips false (WithRemoved (Linked count link) flips) (Linked count link) terminal start top)
-          rows rows' (waiting level (v ∷ rest) entries) (waiting level rest entries') level v unrowed others (waiting_first level v rest
-          entries) c.losing there
-          unheld here near_back followed;
-      are_gone = gone_gone count rows rows' gone v unrowed others here c.are_gone;
-      charged = looked_more count rows rows' gone v unrowed others (gone ++ v ∷ []) None before steps after here (omega (
-        arith,
-        le,
-        sum_by_push count gone v,
-      )) c.charged;
+      seed : (first w ≡ Some level) × (0 < level) × Near w
+      seed = c.losing.entered level w first_seed
+
+      there : (k x : ℕ) → Contains seeds (k, x) → ((k ≡ level) × (x ≡ w)) ⊎ Contains rest (k, x)
+      there k x h = elim (Contains-append_cases ((level, w) ∷ []) rest (k, x) (subst (λ (l : List (ℕ × ℕ)). Contains l (k, x)) is h)) [
+        | inl one ↦ let e = contains_one (level, w) (k, x) one in
+            inl (ap (λ (q : ℕ × ℕ). q.0) (sym e), ap (λ (q : ℕ × ℕ). q.1) (sym e))
+        | inr r ↦ inr r
+      ]
+
+      back : (k x : ℕ) → Contains rest (k, x) → Contains seeds (k, x)
+      back k x h = subst (λ (l : List (ℕ × ℕ)). Contains l (k, x)) (sym is) (Contains-append_right ((level, w) ∷ []) rest (k, x) h)
+
+      passed_by : IsSome (row_of rows w) → Cutting rows gone rest now [] spent
+      passed_by h = let s = some_row (row_of rows w) h in record {
+        losing = losing_passed (WithRemoved (Linked count link) flips) (Linked count link) terminal start top first b.depths (λ u x l. inl l) Near
+            rows (λ k x. Contains seeds (k, x)) (λ k x. Contains rest (k, x)) (queue_at level now []) level w s.0 s.1 there back c.losing;
+        are_gone = c.are_gone;
+        once_now = c.once_now;
+        once_next = c.once_next;
+        charged = c.charged;
+      }
+
+  module _ (v : ℕ) (rest : List ℕ) (seeds : List (ℕ × ℕ)) where
+    module _ (rows : List (ℕ × Option ℕ)) (next : List ℕ)
+        (not_held : (u d : ℕ) → level ≡ suc d → Linked count link v u → terminal u ≡ false → over rows first u ≡ Some d → ⊥) where
+      unheld : (u d : ℕ) → level ≡ suc d → Linked count link u v → terminal u ≡ false → over rows first u ≡ Some d → ⊥
+      unheld u d is l t m = not_held u d is (b.symmetric u v l) t m
+
+      -- a neighbour of the first number of the queue, which is not held, comes into the queue of the next level
+      pub cutting_neighbour : (rows' : List (ℕ × Option ℕ)) (next' : List ℕ) (w spent : ℕ) → Linked count link v w → first w ≡ Some (level + 1)
+          → Awaits (level + 1) w rows rows' next next' → Cutting rows gone seeds (v ∷ rest) next spent
+          → Cutting rows' gone seeds (v ∷ rest) next' spent
+      cutting_neighbour rows' next' w spent l marked put c = elim put [
+        | inl p ↦ subst (λ (q : List ℕ). Cutting rows' gone seeds (v ∷ rest) q spent) (sym p.2)
+            (subst (λ (r : List (ℕ × Option ℕ)). Cutting r gone seeds (v ∷ rest) next spent) (sym p.1) c)
+        | inr p ↦ subst (λ (q : List ℕ). Cutting rows' gone seeds (v ∷ rest) q spent) (sym p.1) (record {
+          losing = losing_entered (WithRemoved (Linked count link) flips) (Linked count link) terminal start top first b.depths (λ u x l. inl l)
+              Near rows rows' (λ k x. Contains seeds (k, x)) (λ k x. Contains seeds (k, x)) (queue_at level (v ∷ rest) next)
+              (queue_at level (v ∷ rest) (next ++ w ∷ [])) level (level + 1) w p.0 marked (omega arith)
+              (beside (moved_here (WithRemoved (Linked count link) flips) (Linked count link) terminal start top first b.depths (λ u x l. inl l)
+              Near rows (λ k x. Contains seeds (k, x)) (queue_at level (v ∷ rest) next) level v (queue_first level v rest next) c.losing unheld)
+              (inr l))
+              (λ k x h. inr h) (λ k x h. h) (next_in level w (v ∷ rest) next) (next_new level w (v ∷ rest) next)
+              (next_out level w (v ∷ rest) next) c.losing;
+          are_gone = gone_held count rows rows' gone w p.0.bare p.0.others (level + 1) p.0.here c.are_gone;
+          once_now = c.once_now;
+          once_next = distinct_push next w (λ y h at. none-some (Some (level + 1)) (sym p.0.bare ∙ ap (row_of rows) (sym at) ∙
+              c.losing.in_queue (level + 1) y (inr (refl, h)))) c.once_next;
+          charged = looked_more count rows rows' gone w p.0.bare p.0.others gone (Some (level + 1)) before
+              (spent + sum_by count (v ∷ rest) + sum_by count next) (spent + sum_by count (v ∷ rest) + sum_by count (next ++ w ∷ [])) p.0.here
+              (omega (arith, sum_by_push count next w)) c.charged;
+        })
+      ]
+
+      -- the first number of the queue is not held, and loses its mark
+      pub cutting_gone : (rows' : List (ℕ × Option ℕ)) (steps after : ℕ) → row_of rows' v ≡ Some None
+          → ((q : ℕ) → q ≢ v → row_of rows' q ≡ row_of rows q)
+          → ((w : ℕ) → level < top → terminal v ≡ false → Linked count link v w → first w ≡ Some (level + 1) → IsSome (row_of rows w))
+          → after ≤ steps + 2 * count v → Cutting rows gone seeds (v ∷ rest) next steps → Cutting rows' (gone ++ v ∷ []) seeds rest next after
+      cutting_gone rows' steps after here others followed le c =
+          let row = c.losing.in_queue level v (queue_first level v rest next) in
+          record {
+            losing = losing_gone (WithRemoved (Linked count link) flips) (Linked count link) terminal start top first b.depths (λ u x l. inl l)
+                Near rows (λ k x. Contains seeds (k, x)) (queue_at level (v ∷ rest) next) level v (queue_first level v rest next) c.losing unheld
+                rows' (queue_at level rest next) here others (queue_out level v rest next) (queue_in level v rest next)
+                (λ k q. elim q [
+                  | inl p ↦ distinct_head v rest c.once_now v p.1 refl
+                  | inr p ↦
+                      let again = c.losing.in_queue k v (inr p) in
+                      let same : level ≡ k = same_Some level k (same_Some (Some level) (Some k) (sym row ∙ again)) in
+                      omega (arith, same, p.0)
+                ]) followed;
+            are_gone = gone_gone count rows rows' gone v level row here others c.are_gone;
+            once_now = distinct_tail v rest c.once_now;
+            once_next = c.once_next;
+            charged = looked_same count rows rows' gone v level row here others (gone ++ v ∷ []) before
+                (steps + sum_by count (v ∷ rest) + sum_by count next) (after + sum_by count rest + sum_by count next)
+                (omega (arith, le, sum_by_push count gone v, sum_by-cons count v rest)) c.charged;
+          }
+
+    -- the first number of the queue is held, and keeps its mark
+    pub cutting_held : (rows : List (ℕ × Option ℕ)) (next : List ℕ) (steps after : ℕ)
+        → IsHeld (λ u x. Linked count link x u) terminal (over rows first) v level → after ≤ steps + count v
+        → Cutting rows gone seeds (v ∷ rest) next steps → Cutting rows gone seeds rest next after
+    cutting_held rows next steps after h le c = record {
+      losing = losing_held (WithRemoved (Linked count link) flips) (Linked count link) terminal start top first b.depths (λ u x l. inl l) Near
+          rows (λ k x. Contains seeds (k, x)) (queue_at level (v ∷ rest) next) level v (queue_first level v rest next) c.losing
+          (queue_at level rest next) (queue_out level v rest next) (queue_in level v rest next)
+          (h.0, h.1, h.2, b.symmetric v h.0 h.3, h.4, h.5);
+      are_gone = c.are_gone;
+      once_now = distinct_tail v rest c.once_now;
+      once_next = c.once_next;
+      charged = record {
+        numbers = c.charged.numbers;
+        distinct = c.charged.distinct;
+        among = c.charged.among;
+        all = c.charged.all;
+        bound = omega (arith, le, c.charged.bound, sum_by-cons count v rest);
+      };
     }
-      where
-        unheld : (u d : ℕ) → level ≡ suc d → Linked count link u v → terminal u ≡ false → over rows first u ≡ Some d → ⊥
-        unheld u d is l t m = not_held u d is (b.symmetric u v l) t m
-
-        near_back : (k x : ℕ) → waiting level rest entries' k x → waiting level (v ∷ rest) entries k x ⊎ ((k ≡ level + 1) × (first x ≡
-            Some (level + 1)) × NearOneWay flips false (WithRemoved (Linked count link) flips) (Linked count link) terminal start top x)
-        near_back k x w = elim (back k x w) [
-          | inl old ↦ inl old
-          | inr p ↦ inr (
-            p.0,
-            p.1,
-            beside
-                (moved_here (WithRemoved (Linked count link) flips) (Linked count link) terminal start top first b.depths (λ u w l. inl l)
-                (NearOneWay flips false (WithRemoved (Linked count link) flips) (Linked count link) terminal start top)
-                rows rows' (waiting level (v ∷ rest) entries) (waiting level rest entries') level v unrowed others (waiting_first level v
-                rest entries) c.losing there unheld)
-                (inr p.2),
-          )
-        ]
-
-    pub cutting_followed : Follows (link v) (count v) first (level + 1) entries entries'
-        → IsCutting (Linked count link) terminal count flips start top first rows' (gone ++ v ∷ []) (waiting level rest entries') level
-        before after
-    cutting_followed f = cutting_gone
-        (λ k x w. elim (waiting_out level v rest entries k x w) [
-          | inl at ↦ inl at
-          | inr later ↦ elim later [ inl p ↦ inr (inl p) | inr e ↦ inr (inr (f.kept (k, x) e)) ]
-        ])
-        (λ k x w. elim w [
-          | inl p ↦ inl (waiting_in level v rest entries k x (inl p))
-          | inr e ↦ elim (f.joined (k, x) e) [ inl old ↦ inl (inr old) | inr p ↦ inr (p.0, p.1, p.2) ]
-        ])
-        (λ w below passable l m. inr (f.followed w l.0 l.1 l.2 m))
-
-    pub cutting_ended : entries' ≡ entries → (level < top → terminal v ≡ false → ⊥)
-        → IsCutting (Linked count link) terminal count flips start top first rows' (gone ++ v ∷ []) (waiting level rest entries') level
-        before after
-    cutting_ended same ends = cutting_gone
-        (λ k x w. subst (λ (e : List (ℕ × ℕ)). ((k ≡ level) × (x ≡ v)) ⊎ waiting level rest e k x) (sym same) (waiting_out level v rest
-        entries k x w))
-        (λ k x w. inl (waiting_in level v rest entries k x (subst (λ (e : List (ℕ × ℕ)). waiting level rest e k x) same w)))
-        (λ w below passable l m. absurd (ends below passable))
 
 pub no_row : (o : Option (Option ℕ)) → is_some o ≡ false → o ≡ None
 no_row None h = refl
 no_row (Some r) h = absurd (true≢false h)
 
-module _ (links : ℕ → ℕ → Type 0) (terminal : ℕ → Bool) (count : ℕ → ℕ) (flips : List Flip) (start top : ℕ) (first : ℕ → Option ℕ)
-    (b : IsBeforeCut links terminal flips start top first) where
-  -- at the beginning no number was looked at, and the seeds wait
-  pub cutting_begun : (seeds entries : List (ℕ × ℕ)) (level before : ℕ)
-      → ((s : ℕ × ℕ) → Contains seeds s → Contains entries s) → ((s : ℕ × ℕ) → Contains entries s → Contains seeds s)
+module _ (links : ℕ → ℕ → Type 0) (terminal : ℕ → Bool) (count : ℕ → ℕ) (flips : List Flip) (start top : ℕ) (first : ℕ → Option ℕ) where
+  -- at the beginning no number has a row, and the seeds wait
+  pub cutting_begun : IsBeforeCut links terminal flips start top first → (seeds waiting : List (ℕ × ℕ)) (before : ℕ)
+      → ((s : ℕ × ℕ) → Contains seeds s → Contains waiting s) → ((s : ℕ × ℕ) → Contains waiting s → Contains seeds s)
       → SeedsAlong flips false (MayHold terminal top first) seeds
-      → IsCutting links terminal count flips start top first [] [] (λ k v. Contains entries (k, v)) level before before
+      → IsCutting links terminal count flips start top first [] [] waiting 0 [] [] before before
   unfolding IsDistinct
-  cutting_begun seeds entries level before kept only s = record {
+  cutting_begun b seeds waiting before kept only s = record {
     losing = record {
       entered = λ k v h. let p = s.only k v (only (k, v) h) in
           (p.2.1, omega (arith, p.2.0.1), at_flip (p.0, flipped_back flips false p.0 v p.1));
-      looked = λ v r e. absurd (none-some r e);
+      in_queue = λ k v q. elim q [ inl p ↦ absurd (no_member [] v refl p.1) | inr p ↦ absurd (no_member [] v refl p.1) ];
+      rowed = λ v r e. absurd (none-some r e);
       held = λ v k e. absurd (none-some (Some k) e);
       lost = λ v k e f. absurd (none-some None e);
       firm = λ v u d e none o t f. elim o [
@@ -261,6 +309,8 @@ module _ (links : ℕ → ℕ → Type 0) (terminal : ℕ → Bool) (count : ℕ
       ];
     };
     are_gone = record { all = λ v e. absurd (none-some None e); only = λ v h. absurd (omega (arith, h.1)); distinct = tt };
+    once_now = tt;
+    once_next = tt;
     charged = record {
       numbers = [];
       distinct = tt;
@@ -271,37 +321,63 @@ module _ (links : ℕ → ℕ → Type 0) (terminal : ℕ → Bool) (count : ℕ
     };
   }
 
-  -- the same numbers wait, at a level that is no lower
-  pub cutting_same : (rows : List (ℕ × Option ℕ)) (gone : List ℕ) (waits waits' : ℕ → ℕ → Type 0) (level later before after : ℕ)
-      → level ≤ later
-      → ((k x : ℕ) → waits k x → waits' k x) → ((k x : ℕ) → waits' k x → waits k x)
-      → IsCutting links terminal count flips start top first rows gone waits level before after
-      → IsCutting links terminal count flips start top first rows gone waits' later before after
-  cutting_same rows gone waits waits' level later before after le there back c = record {
-    losing = record {
-      entered = λ k x w. c.losing.entered k x (back k x w);
-      looked = λ v r e. let s = c.losing.looked v r e in (s.0, s.1, s.2, omega (arith, s.3, le), s.4, s.5);
-      held = c.losing.held;
-      lost = c.losing.lost;
-      firm = λ v u d e none o t f. elim (c.losing.firm v u d e none o t f) [ inl w ↦ inl (there (suc d) v w) | inr p ↦ inr p ];
-    };
-    are_gone = c.are_gone;
-    charged = c.charged;
-  }
+  module _ (rows : List (ℕ × Option ℕ)) (gone : List ℕ) (seeds : List (ℕ × ℕ)) (level later before after : ℕ) where
+    -- the same numbers are in the queue, at a level that is no lower
+    cutting_moved : (now next now' next' : List ℕ) → level ≤ later
+        → ((k x : ℕ) → queue_at level now next k x → queue_at later now' next' k x)
+        → ((k x : ℕ) → queue_at later now' next' k x → queue_at level now next k x)
+        → IsDistinct nat_eq now' → IsDistinct nat_eq next'
+        → sum_by count now' + sum_by count next' ≤ sum_by count now + sum_by count next
+        → IsCutting links terminal count flips start top first rows gone seeds level now next before after
+        → IsCutting links terminal count flips start top first rows gone seeds later now' next' before after
+    cutting_moved now next now' next' le there back once_now once_next less c = record {
+      losing = record {
+        entered = c.losing.entered;
+        in_queue = λ k x q. c.losing.in_queue k x (back k x q);
+        rowed = c.losing.rowed;
+        held = λ x k row. elim (c.losing.held x k row) [ inl q ↦ inl (there k x q) | inr h ↦ inr (omega (arith, h.0, le), h.1) ];
+        lost = c.losing.lost;
+        firm = c.losing.firm;
+      };
+      are_gone = c.are_gone;
+      once_now = once_now;
+      once_next = once_next;
+      charged = record {
+        numbers = c.charged.numbers;
+        distinct = c.charged.distinct;
+        among = c.charged.among;
+        all = c.charged.all;
+        bound = omega (arith, less, c.charged.bound);
+      };
+    }
 
-  pub cutting_out : (rows : List (ℕ × Option ℕ)) (gone : List ℕ) (old new : Waiting) (level before after : ℕ) (now : List ℕ)
-      → ComesOut old new level now
-      → IsCutting links terminal count flips start top first rows gone (λ k v. Contains old.entries (k, v)) old.floor before after
-      → IsCutting links terminal count flips start top first rows gone (waiting level now new.entries) level before after
-  cutting_out rows gone old new level before after now out c =
-      cutting_same rows gone (λ k v. Contains old.entries (k, v)) (waiting level now new.entries) old.floor level before after out.rises
-      (λ k x w. out.each (k, x) w)
-      (λ k x w. elim w [ inl p ↦ subst (λ (n : ℕ). Contains old.entries (n, x)) (sym p.0) (out.out x p.1) | inr e ↦ out.left (k, x) e ])
-      c
+    -- a level begins: its queue is what was put in for it, if anything was
+    pub cutting_level : (now now' : List ℕ) → now' ≡ now → level ≤ later → (now ≡ []) ⊎ (later ≡ level)
+        → IsCutting links terminal count flips start top first rows gone seeds level now [] before after
+        → IsCutting links terminal count flips start top first rows gone seeds later now' [] before after
+    cutting_level now now' is le side c =
+        subst (λ (l : List ℕ). IsCutting links terminal count flips start top first rows gone seeds later l [] before after) (sym is)
+        (cutting_moved now [] now [] le
+        (λ k x q. elim q [ inl p ↦ inl (p.0 ∙ sym (at x p.1), p.1) | inr p ↦ absurd (no_member [] x refl p.1) ])
+        (λ k x q. elim q [ inl p ↦ inl (p.0 ∙ at x p.1, p.1) | inr p ↦ absurd (no_member [] x refl p.1) ])
+        c.once_now c.once_next (omega arith) c)
+      where
+        at : (x : ℕ) → Contains now x → later ≡ level
+        at x h = elim side [ inl none ↦ absurd (no_member now x none h) | inr same ↦ same ]
 
-  pub cutting_done : (rows : List (ℕ × Option ℕ)) (gone : List ℕ) (level floor before after : ℕ) (entries : List (ℕ × ℕ)) → level ≤ floor
-      → IsCutting links terminal count flips start top first rows gone (waiting level [] entries) level before after
-      → IsCutting links terminal count flips start top first rows gone (λ k v. Contains entries (k, v)) floor before after
-  cutting_done rows gone level floor before after entries le c =
-      cutting_same rows gone (waiting level [] entries) (λ k v. Contains entries (k, v)) level floor before after le
-      (λ k x w. elim w [ inl p ↦ absurd (omega (arith, p.1.1)) | inr e ↦ e ]) (λ k x e. inr e) c
+    -- a level ends: what came into the queue of the next level is looked at there
+    pub cutting_next : (next : List ℕ) → later ≡ level + 1
+        → IsCutting links terminal count flips start top first rows gone seeds level [] next before after
+        → IsCutting links terminal count flips start top first rows gone seeds later next [] before after
+    cutting_next next is c = cutting_moved [] next next [] (omega (arith, is))
+        (λ k x q. elim q [ inl p ↦ absurd (no_member [] x refl p.1) | inr p ↦ inl (p.0 ∙ sym is, p.1) ])
+        (λ k x q. elim q [ inl p ↦ inr (p.0 ∙ is, p.1) | inr p ↦ absurd (no_member [] x refl p.1) ])
+        c.once_next c.once_now (omega arith) c
+
+    -- the queue is handed on as a slice, and the next one is empty
+    pub cutting_handed : (now slice next : List ℕ) → slice ≡ now → next ≡ []
+        → IsCutting links terminal count flips start top first rows gone seeds level now [] before after
+        → IsCutting links terminal count flips start top first rows gone seeds level slice next before after
+    cutting_handed now slice next same none c =
+        subst (λ (l : List ℕ). IsCutting links terminal count flips start top first rows gone seeds level l next before after) (sym same)
+        (subst (λ (l : List ℕ). IsCutting links terminal count flips start top first rows gone seeds level now l before after) (sym none) c)

@@ -34,13 +34,13 @@ module _ (level v : ℕ) where
   queue_first rest next = inl (refl, (0, omega arith, refl))
 
   -- a number more of the level
-  now_in : (now next : List ℕ) (k x : ℕ) → queue_at level now next k x → queue_at level (now ++ v ∷ []) next k x
+  pub now_in : (now next : List ℕ) (k x : ℕ) → queue_at level now next k x → queue_at level (now ++ v ∷ []) next k x
   now_in now next k x w = elim w [ inl p ↦ inl (p.0, Contains-append_left now (v ∷ []) x p.1) | inr c ↦ inr c ]
 
-  now_new : (now next : List ℕ) → queue_at level (now ++ v ∷ []) next level v
+  pub now_new : (now next : List ℕ) → queue_at level (now ++ v ∷ []) next level v
   now_new now next = inl (refl, Contains-push now v)
 
-  now_out : (now next : List ℕ) (k x : ℕ) → queue_at level (now ++ v ∷ []) next k x
+  pub now_out : (now next : List ℕ) (k x : ℕ) → queue_at level (now ++ v ∷ []) next k x
       → ((k ≡ level) × (x ≡ v)) ⊎ queue_at level now next k x
   now_out now next k x w = elim w [
     | inl p ↦ elim (Contains-push_cases now v x p.1) [ inl old ↦ inr (inl (p.0, old)) | inr e ↦ inl (p.0, sym e) ]
@@ -48,13 +48,13 @@ module _ (level v : ℕ) where
   ]
 
   -- a number more of the level that follows
-  next_in : (now next : List ℕ) (k x : ℕ) → queue_at level now next k x → queue_at level now (next ++ v ∷ []) k x
+  pub next_in : (now next : List ℕ) (k x : ℕ) → queue_at level now next k x → queue_at level now (next ++ v ∷ []) k x
   next_in now next k x w = elim w [ inl p ↦ inl p | inr c ↦ inr (c.0, Contains-append_left next (v ∷ []) x c.1) ]
 
-  next_new : (now next : List ℕ) → queue_at level now (next ++ v ∷ []) (level + 1) v
+  pub next_new : (now next : List ℕ) → queue_at level now (next ++ v ∷ []) (level + 1) v
   next_new now next = inr (refl, Contains-push next v)
 
-  next_out : (now next : List ℕ) (k x : ℕ) → queue_at level now (next ++ v ∷ []) k x
+  pub next_out : (now next : List ℕ) (k x : ℕ) → queue_at level now (next ++ v ∷ []) k x
       → ((k ≡ level + 1) × (x ≡ v)) ⊎ queue_at level now next k x
   next_out now next k x w = elim w [
     | inl p ↦ inr (inl p)

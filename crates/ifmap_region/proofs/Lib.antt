@@ -3,9 +3,9 @@ pub mod Depths
 pub mod Exchange
 pub mod Falling
 pub mod FlipLists
+pub mod Following
 pub mod Lost
 pub mod Missing
-pub mod Offering
 pub mod Overs
 pub mod Patches
 pub mod Ready

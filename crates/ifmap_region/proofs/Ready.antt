@@ -6,26 +6,8 @@ use Rattle.std.specs.List.{IsDistinct}
 use Rattle.ifmap_region.specs.Bounds.{IsWithin}
 use Rattle.ifmap_region.specs.Walks.{Walk, begins, AreDepths, IsReached, Expands}
 use Rattle.ifmap_region.proofs.Depths.{depths_from}
-use Rattle.ifmap_region.specs.Spreading.{waiting, IsReady, Improves, IsSet, IsCharged}
+use Rattle.ifmap_region.specs.Spreading.{IsReady, Improves, IsSet, IsCharged}
 use Rattle.ifmap_region.specs.Distinct.{contains_one}
-
--- what waits is the first number of the level, or waits without it
-pub waiting_out : (level n : ℕ) (rest : List ℕ) (entries : List (ℕ × ℕ)) (k x : ℕ) → waiting level (n ∷ rest) entries k x
-    → ((k ≡ level) × (x ≡ n)) ⊎ waiting level rest entries k x
-waiting_out level n rest entries k x w = elim w [
-  | inl p ↦ elim (Contains-append_cases (n ∷ []) rest x p.1) [
-    | inl one ↦ inl (p.0, sym (contains_one n x one))
-    | inr r ↦ inr (inl (p.0, r))
-  ]
-  | inr c ↦ inr (inr c)
-]
-
-pub waiting_in : (level n : ℕ) (rest : List ℕ) (entries : List (ℕ × ℕ)) (k x : ℕ) → waiting level rest entries k x
-    → waiting level (n ∷ rest) entries k x
-waiting_in level n rest entries k x w = elim w [ inl p ↦ inl (p.0, Contains-append_right (n ∷ []) rest x p.1) | inr c ↦ inr c ]
-
-pub waiting_first : (level n : ℕ) (rest : List ℕ) (entries : List (ℕ × ℕ)) → waiting level (n ∷ rest) entries level n
-waiting_first level n rest entries = inl (refl, (0, omega arith, refl))
 
 module _ (links : ℕ → ℕ → Type 0) (terminal : ℕ → Bool) (start top : ℕ) where
   -- nothing waits any more

@@ -13,13 +13,13 @@ use Rattle.ifmap_region.specs.Flips.{Joins, IsFlipped, WithRemoved, Mid}
 use Rattle.ifmap_region.specs.Marks.{row_of, over}
 use Rattle.ifmap_region.specs.Near.{NearOneWay, IsMoved, touched}
 use Rattle.ifmap_region.specs.Seeds.{IsNext, Lowers, SeedsAlong}
-use Rattle.ifmap_region.specs.Spreading.{IsBound, IsReady, Improves}
+use Rattle.ifmap_region.specs.Spreading.{queue_at, IsBound, IsReady, Improves}
 use Rattle.ifmap_region.specs.Losing.{Reseeds, IsBeforeCut, IsCutting}
 use Rattle.ifmap_region.specs.Walks.{Walk, goes_on, AreDepths, Expands}
 use Rattle.ifmap_region.proofs.Depths.{marked, marked_start, closed_from, sound_from, walk_along, no_walk}
 use Rattle.ifmap_region.proofs.Lost.{ready_left, over_unrowed, over_rowed}
 use Rattle.ifmap_region.proofs.Cuts.{some_row}
-use Rattle.ifmap_region.specs.Distinct.{contains_one, sum_within}
+use Rattle.ifmap_region.specs.Distinct.{contains_one, no_member, sum_within}
 
 -- seeds of one number more that is gone
 module _ (links : ℕ → ℕ → Type 0) (terminal : ℕ → Bool) (top : ℕ) (mark : ℕ → Option ℕ) (gone : List ℕ) (v : ℕ) (seeds after : List (ℕ ×
@@ -74,12 +74,13 @@ module _ (links : ℕ → ℕ → Type 0) (terminal : ℕ → Bool) (top : ℕ) 
 module _ (links : ℕ → ℕ → Type 0) (terminal : ℕ → Bool) (count : ℕ → ℕ) (flips : List Flip) (start top : ℕ) (first : ℕ → Option ℕ)
     (b : IsBeforeCut links terminal flips start top first)
     (rows : List (ℕ × Option ℕ)) (gone : List ℕ) (level before lost_at : ℕ)
-    (c : IsCutting links terminal count flips start top first rows gone (λ _ _. ⊥) level before lost_at) where
+    (c : IsCutting links terminal count flips start top first rows gone [] level [] [] before lost_at) where
   pub ready_again : (seeds : List (ℕ × ℕ)) → Reseeds links terminal top (over rows first) gone seeds
       → IsReady links terminal start top (over rows first) (λ k v. Contains seeds (k, v))
   ready_again seeds r =
       ready_left (WithRemoved links flips) links terminal start top first b.depths (λ u v l. inl l)
-      (NearOneWay flips false (WithRemoved links flips) links terminal start top) rows (λ _ _. ⊥) level (λ k x w. w) c.losing gone seeds
+      (NearOneWay flips false (WithRemoved links flips) links terminal start top) rows (λ k v. Contains [] (k, v)) (queue_at level [] [])
+      level (λ k x h. no_member [] (k, x) refl h) (λ k x q. elim q [ inl p ↦ no_member [] x refl p.1 | inr p ↦ no_member [] x refl p.1 ]) c.losing gone seeds
       c.are_gone b.symmetric r
 
   improved_gone : (v : ℕ) → Improves links terminal start top (over rows first) v → Contains gone v
@@ -93,8 +94,8 @@ module _ (links : ℕ → ℕ → Type 0) (terminal : ℕ → Bool) (count : ℕ
       by None e = let f = i.fewer old.0 (over_unrowed rows first v e ∙ old.1) in absurd (omega (arith, f, old.2))
       by (Some None) e = c.are_gone.all v e
       by (Some (Some k)) e =
-          let s = c.losing.looked v (Some k) e in
-          let k_is : Some k ≡ Some s.0 = elim s.5 [ inl none ↦ absurd (none-some k (sym none)) | inr some ↦ some ] in
+          let s = c.losing.rowed v (Some k) e in
+          let k_is : Some k ≡ Some s.0 = elim s.4 [ inl none ↦ absurd (none-some k (sym none)) | inr some ↦ some ] in
           let f = i.fewer old.0 (over_rowed rows first v (Some k) e ∙ k_is ∙ sym s.1 ∙ old.1) in
           absurd (omega (arith, f, old.2))
 
@@ -110,7 +111,7 @@ module _ (links : ℕ → ℕ → Type 0) (terminal : ℕ → Bool) (count : ℕ
         numbers = c.charged.numbers;
         distinct = c.charged.distinct;
         among = All-weaker (λ (x : ℕ). IsSome (row_of rows x)) (NearOneWay flips false (WithRemoved links flips) links terminal start top)
-            (λ x h. let r = some_row (row_of rows x) h in (c.losing.looked x r.0 r.1).4) c.charged.numbers c.charged.among;
+            (λ x h. let r = some_row (row_of rows x) h in (c.losing.rowed x r.0 r.1).3) c.charged.numbers c.charged.among;
         bound = omega (arith, le, s.bound, c.charged.bound, found, lost);
       }
 
@@ -123,7 +124,7 @@ module _ (links : ℕ → ℕ → Type 0) (terminal : ℕ → Bool) (count : ℕ
         numbers = c.charged.numbers;
         distinct = c.charged.distinct;
         among = All-weaker (λ (x : ℕ). IsSome (row_of rows x)) (NearOneWay flips false (WithRemoved links flips) links terminal start top)
-            (λ x h. let r = some_row (row_of rows x) h in (c.losing.looked x r.0 r.1).4) c.charged.numbers c.charged.among;
+            (λ x h. let r = some_row (row_of rows x) h in (c.losing.rowed x r.0 r.1).3) c.charged.numbers c.charged.among;
         bound = omega (arith, le, c.charged.bound, lost);
       }
 

@@ -2,12 +2,12 @@ pub mod Bounds
 pub mod Distinct
 pub mod Flips
 pub mod Hiding
+pub mod Layers
 pub mod Links
 pub mod Losing
 pub mod Marks
 pub mod Near
 pub mod Seeds
 pub mod Spreading
-pub mod Waiting
 pub mod Walks
 pub mod Ways

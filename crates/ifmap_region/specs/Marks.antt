@@ -1,6 +1,6 @@
 -- Marks: the rows of a map from numbers to depths, where a row may stand without a mark.
 use Rattle.std.specs.Prelude.{◌≡◌, ℕ, Option, Some, None, List, nat_eq, unwrap_or}
-use Rattle.std.specs.Map.{lookup}
+use Rattle.std.specs.Map.{lookup, update}
 
 -- the row of a number: none, or one that holds a mark or holds none
 abbrev pub row_of : List (ℕ × Option ℕ) → ℕ → Option (Option ℕ)
@@ -21,3 +21,7 @@ AllMarked rows = (v : ℕ) → row_of rows v ≡ Some None → ⊥
 -- each row of the new ones that holds no mark stood like that before
 abbrev pub AddsMarks : List (ℕ × Option ℕ) → List (ℕ × Option ℕ) → Type 0
 AddsMarks old new = (v : ℕ) → row_of new v ≡ Some None → row_of old v ≡ Some None
+
+-- a row is put in, in place of the one that the number has, if any; the other numbers keep theirs
+abbrev pub HasPut : List (ℕ × Option ℕ) → List (ℕ × Option ℕ) → ℕ → Option ℕ → Type 0
+HasPut old new v mark = (q : ℕ) → row_of new q ≡ update nat_eq (row_of old) v (Some mark) q

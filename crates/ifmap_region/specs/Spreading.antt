@@ -4,10 +4,6 @@ use Rattle.ifmap_region.specs.Walks.{Walk, Expands}
 use Rattle.ifmap_region.specs.Bounds.{IsWithin}
 use Rattle.ifmap_region.specs.Marks.{over}
 
--- the numbers of a level, and the entries, wait
-abbrev pub waiting : ℕ → List ℕ → List (ℕ × ℕ) → ℕ → ℕ → Type 0
-waiting level numbers entries k v = ((k ≡ level) × Contains numbers v) ⊎ Contains entries (k, v)
-
 -- a number has a mark that is at most d, or waits at a level that is
 abbrev pub IsBound : (ℕ → Option ℕ) → (ℕ → ℕ → Type 0) → ℕ → ℕ → Type 0
 IsBound mark waits v d = (k : ℕ) × (k ≤ d) × ((mark v ≡ Some k) ⊎ waits k v)

@@ -1,6 +1,7 @@
 //! Which numbers a bounded walk along links reaches, and by how many links.
 #![tactic(auto)]
 
+mod bases;
 mod cut;
 mod flips;
 mod grow;

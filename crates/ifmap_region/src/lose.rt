@@ -1,23 +1,27 @@
 //! Marks are taken away, level by level, where what held them is gone.
-ghost use Rattle.std.specs.Prelude.{◌≡◌, ℕ, suc, ◌+◌, ◌<◌, ◌≤◌, ◌∷◌, [], Some, true, false, List, OnOk, IfOk};
-ghost use Rattle.ifmap_region.specs.Bounds.{IsWithin};
-ghost use Rattle.ifmap_region.specs.Flips.{WithRemoved};
-ghost use Rattle.ifmap_region.specs.Links.{Linked};
+ghost use Rattle.std.specs.Prelude.{◌≡◌, ℕ, suc, ◌+◌, ◌<◌, ◌≤◌, ◌^◌, ◌∷◌, [], All, Some, true, false, List, OnOk, IfOk};
 ghost use Rattle.ifmap_region.specs.declared.flips.Flip.{Flip};
-ghost use Rattle.ifmap_region.specs.Losing.{Follows, IsBeforeCut, IsCutting};
-ghost use Rattle.ifmap_region.specs.Marks.{mark_of, over};
-ghost use Rattle.ifmap_region.specs.Near.{NearOneWay};
-ghost use Rattle.ifmap_region.specs.Seeds.{MayHold, SeedsAlong};
-ghost use Rattle.ifmap_region.specs.Spreading.{waiting};
+ghost use Rattle.ifmap_region.specs.Layers.{Layer, layer_of, with_rows, HasHolder, MayHoldAt, IsUncut, IsBeingCut, IsNearCut, IsUnheld, AreFollowed};
+ghost use Rattle.ifmap_region.specs.Losing.{Awaits};
+ghost use Rattle.ifmap_region.specs.Seeds.{SeedsAlong};
 
-use crate::flips::Flip;
-use crate::levels::Levels;
+use crate::bases::Basis;
+use crate::levels::{Seeds, least_level};
 use crate::link_source::LinkSource;
-use crate::rows::{has_row, is_mark, mark, mark_in, put};
+use crate::rows::{Rows, has_row, is_mark, mark, mark_in, put};
 use ifmap_steps::Steps;
 use indexmap::IndexMap;
 use std::alloc::{AllocError as NoMemory, Global};
+use std::mem;
 use std::sync::ledger::Ledger;
+
+// What cutting links has changed so far: rows with the marks that may go, and the numbers whose
+// marks went.
+#[derive(Drop)]
+pub(crate) struct Losses {
+    pub(crate) rows: Rows,
+    pub(crate) gone: Vec<u64>,
+}
 
 // Whether there is a mark, and it is one below the level.
 fn is_just_below(mark: Option<u32>, level: u32) -> bool
@@ -32,24 +36,22 @@ fn is_just_below(mark: Option<u32>, level: u32) -> bool
 
 // Whether a neighbour that is nearer by one, and not terminal, has its mark. The look ends at the first.
 fn is_held<G: LinkSource, L: Ledger>(
-    base: &IndexMap<u64, Option<u32>>,
-    rows: &IndexMap<u64, Option<u32>>,
-    graph: &G,
+    basis: &Basis<'_, G>,
+    rows: &Rows,
     number: u64,
     level: u32,
     steps: &mut Steps<L>,
 ) -> bool
-    ensures yes { result ≡ true → (u : ℕ) × (d : ℕ) × (level ≡ suc d)
-        × Linked (G.count graph.now) (G.link graph.now) number u × (G.terminal graph.now u ≡ false)
-        × (over rows.now.entries (mark_of base.now.entries) u ≡ Some d) }
-    ensures no { result ≡ false → (u d : ℕ) → level ≡ suc d
-        → Linked (G.count graph.now) (G.link graph.now) number u → G.terminal graph.now u ≡ false
-        → over rows.now.entries (mark_of base.now.entries) u ≡ Some d → ⊥ }
-    ensures steps { steps.new ≤ steps.old + G.count graph.now number }
+    ensures yes { let layer = layer_of G.count G.link G.terminal basis.now rows.now.entries in
+        result ≡ true → HasHolder layer number level }
+    ensures no { let layer = layer_of G.count G.link G.terminal basis.now rows.now.entries in
+        result ≡ false → IsUnheld layer number level }
+    ensures steps { steps.new ≤ steps.old + G.count basis.now.graph.now number }
 {
-    for i in 0..graph.count(number) {
-        if let Some(neighbour) = graph.at(number, i, steps) {
-            if is_just_below(mark(base, rows, neighbour), level) && !graph.is_terminal(neighbour) {
+    for i in 0..basis.graph.count(number) {
+        if let Some(neighbour) = basis.graph.at(number, i, steps) {
+            let known = mark(basis.base, rows, neighbour);
+            if is_just_below(known, level) && !basis.graph.is_terminal(neighbour) {
                 return true;
             }
         }
@@ -57,169 +59,188 @@ fn is_held<G: LinkSource, L: Ledger>(
     false
 }
 
-// Lets the neighbours of a number wait that had the next level as their mark.
+// Gives a number a row with the mark of a level and puts it into the queue, unless it has a row.
+fn enqueue(rows: &mut Rows, level: u32, number: u64, queue: &mut Vec<u64>) -> Result<(), NoMemory>
+    ensures { OnOk result (Awaits level number rows.old.entries rows.new.entries queue.old.items
+        queue.new.items) }
+{
+    if has_row(rows, number) {
+        return Ok(());
+    }
+    put(rows, number, Some(level))?;
+    queue.push(number)?;
+    Ok(())
+}
+
+// Whether a walk goes on from a number that has the level.
+fn goes_on<G: LinkSource>(basis: &Basis<'_, G>, level: u32, number: u64) -> bool
+    ensures yes { result ≡ true → level < basis.now.top }
+    ensures no { result ≡ false → level < basis.now.top
+        → G.terminal basis.now.graph.now number ≡ false → ⊥ }
+{
+    level < basis.top && !basis.graph.is_terminal(number)
+}
+
+// Puts the neighbours of a number of the level into the queue that it may have held: those that had
+// the next level as their mark. There are none where no walk goes on from the number.
 fn follow<G: LinkSource, L: Ledger>(
-    base: &IndexMap<u64, Option<u32>>,
-    graph: &G,
+    basis: &Basis<'_, G>,
+    rows: &mut Rows,
+    level: u32,
     number: u64,
-    next: u32,
-    levels: &mut Levels,
+    queue: &mut Vec<u64>,
     steps: &mut Steps<L>,
 ) -> Result<(), NoMemory>
-    requires { levels.old.floor ≡ next }
-    ensures floor { levels.new.floor ≡ next }
-    ensures follows { OnOk result (Follows (G.link graph.now number) (G.count graph.now number)
-        (mark_of base.now.entries) next levels.old.entries levels.new.entries) }
-    ensures steps { steps.new ≤ steps.old + G.count graph.now number }
+    ensures keeps { let layer = layer_of G.count G.link G.terminal basis.now in
+        OnOk result ((flips : List Flip) (start before spent : ℕ) (gone rest : List ℕ)
+        (seeds : List (ℕ × ℕ)) → IsUncut (layer rows.old.entries) flips start
+        → IsUnheld (layer rows.old.entries) number level
+        → IsBeingCut (layer rows.old.entries) flips start gone seeds level (number ∷ rest)
+        queue.old.items before spent
+        → IsBeingCut (layer rows.new.entries) flips start gone seeds level (number ∷ rest)
+        queue.new.items before spent) }
+    ensures unheld { let layer = layer_of G.count G.link G.terminal basis.now in
+        OnOk result (IsUnheld (layer rows.old.entries) number level
+        → IsUnheld (layer rows.new.entries) number level) }
+    ensures followed { let layer = layer_of G.count G.link G.terminal basis.now rows.new.entries in
+        OnOk result (AreFollowed layer number level) }
+    ensures still { 2 ^ 32 ≤ level + 1 → queue.new.items ≡ queue.old.items }
+    ensures steps { steps.new ≤ steps.old + G.count basis.now.graph.now number }
 {
-    for i in 0..graph.count(number) {
-        if let Some(neighbour) = graph.at(number, i, steps) {
-            if is_mark(mark_in(base, neighbour), next) {
-                levels.push(neighbour)?;
+    if !goes_on(basis, level, number) {
+        return Ok(());
+    }
+    for i in 0..basis.graph.count(number) {
+        if let Some(neighbour) = basis.graph.at(number, i, steps) {
+            if is_mark(mark_in(basis.base, neighbour), level + 1) {
+                enqueue(rows, level + 1, neighbour, queue)?;
             }
         }
     }
     Ok(())
 }
 
-// Looks at a number that may have lost what held it: it keeps its mark where a neighbour holds it.
-// Otherwise it loses its mark, and the neighbours wait that it may have held.
+// Looks at a number that may have lost what held it, the first of the queue of its level: it keeps
+// its mark where a neighbour holds it. Otherwise it loses its mark, and the neighbours that it may
+// have held come into the queue of the next level.
 fn look<G: LinkSource, L: Ledger>(
-    base: &IndexMap<u64, Option<u32>>,
-    rows: &mut IndexMap<u64, Option<u32>>,
-    top: u32,
-    graph: &G,
+    basis: &Basis<'_, G>,
+    losses: &mut Losses,
     level: u32,
     number: u64,
-    gone: &mut Vec<u64>,
-    levels: &mut Levels,
+    queue: &mut Vec<u64>,
     steps: &mut Steps<L>,
 ) -> Result<(), NoMemory>
-    requires { levels.old.floor ≡ level + 1 }
-    ensures floor { levels.new.floor ≡ level + 1 }
-    ensures keeps { OnOk result ((flips : List Flip) (start before : ℕ) (rest : List ℕ)
-        → IsBeforeCut (Linked (G.count graph.now) (G.link graph.now)) (G.terminal graph.now) flips
-        start top (mark_of base.now.entries)
-        → IsCutting (Linked (G.count graph.now) (G.link graph.now)) (G.terminal graph.now)
-        (G.count graph.now) flips start top (mark_of base.now.entries)
-        rows.old.entries gone.old.items (waiting level (number ∷ rest) levels.old.entries) level
-        before steps.old
-        → IsCutting (Linked (G.count graph.now) (G.link graph.now)) (G.terminal graph.now)
-        (G.count graph.now) flips start top (mark_of base.now.entries)
-        rows.new.entries gone.new.items (waiting level rest levels.new.entries) level before
-        steps.new) }
-    ensures spent { (flips : List Flip) (start before : ℕ) (rest : List ℕ)
-        → IsCutting (Linked (G.count graph.now) (G.link graph.now)) (G.terminal graph.now)
-        (G.count graph.now) flips start top (mark_of base.now.entries)
-        rows.old.entries gone.old.items (waiting level (number ∷ rest) levels.old.entries) level
-        before steps.old
-        → IsWithin (G.count graph.now) (NearOneWay flips false
-        (WithRemoved (Linked (G.count graph.now) (G.link graph.now)) flips)
-        (Linked (G.count graph.now) (G.link graph.now)) (G.terminal graph.now) start top)
-        2 before steps.new }
+    ensures keeps { let layer = layer_of G.count G.link G.terminal basis.now in
+        OnOk result ((flips : List Flip) (start before : ℕ) (rest : List ℕ) (seeds : List (ℕ × ℕ))
+        → IsUncut (layer losses.old.rows.entries) flips start
+        → IsBeingCut (layer losses.old.rows.entries) flips start losses.old.gone.items seeds level
+        (number ∷ rest) queue.old.items before steps.old
+        → IsBeingCut (layer losses.new.rows.entries) flips start losses.new.gone.items seeds level
+        rest queue.new.items before steps.new) }
+    ensures spent { let layer = layer_of G.count G.link G.terminal basis.now in
+        (flips : List Flip) (start before : ℕ) (rest : List ℕ) (seeds : List (ℕ × ℕ))
+        → IsBeingCut (layer losses.old.rows.entries) flips start losses.old.gone.items seeds level
+        (number ∷ rest) queue.old.items before steps.old
+        → IsNearCut (layer []) flips start 2 before steps.new }
+    ensures still { 2 ^ 32 ≤ level + 1 → queue.new.items ≡ queue.old.items }
 {
-    if has_row(rows, number) {
+    if is_held(basis, &losses.rows, number, level, steps) {
         return Ok(());
     }
-    if is_held(base, rows, graph, number, level, steps) {
-        put(rows, number, Some(level))?;
-        return Ok(());
-    }
-    put(rows, number, None)?;
-    gone.push(number)?;
-    if level < top && !graph.is_terminal(number) {
-        follow(base, graph, number, level + 1, levels, steps)?;
-    }
+    follow(basis, &mut losses.rows, level, number, queue, steps)?;
+    put(&mut losses.rows, number, None)?;
+    losses.gone.push(number)?;
     Ok(())
 }
 
 // Looks at the numbers of one level.
 fn look_level<G: LinkSource, L: Ledger>(
-    base: &IndexMap<u64, Option<u32>>,
-    rows: &mut IndexMap<u64, Option<u32>>,
-    top: u32,
-    graph: &G,
+    basis: &Basis<'_, G>,
+    losses: &mut Losses,
     level: u32,
     now: &[u64],
-    gone: &mut Vec<u64>,
-    levels: &mut Levels,
+    queue: &mut Vec<u64>,
     steps: &mut Steps<L>,
 ) -> Result<(), NoMemory>
-    requires { levels.old.floor ≡ level + 1 }
-    ensures floor { levels.new.floor ≡ level + 1 }
-    ensures keeps { OnOk result ((flips : List Flip) (start before : ℕ)
-        → IsBeforeCut (Linked (G.count graph.now) (G.link graph.now)) (G.terminal graph.now) flips
-        start top (mark_of base.now.entries)
-        → IsCutting (Linked (G.count graph.now) (G.link graph.now)) (G.terminal graph.now)
-        (G.count graph.now) flips start top (mark_of base.now.entries)
-        rows.old.entries gone.old.items (waiting level now.now levels.old.entries) level before
-        steps.old
-        → IsCutting (Linked (G.count graph.now) (G.link graph.now)) (G.terminal graph.now)
-        (G.count graph.now) flips start top (mark_of base.now.entries)
-        rows.new.entries gone.new.items (waiting level [] levels.new.entries) level before
-        steps.new) }
-    ensures spent { (flips : List Flip) (start before : ℕ)
-        → IsBeforeCut (Linked (G.count graph.now) (G.link graph.now)) (G.terminal graph.now) flips
-        start top (mark_of base.now.entries)
-        → IsCutting (Linked (G.count graph.now) (G.link graph.now)) (G.terminal graph.now)
-        (G.count graph.now) flips start top (mark_of base.now.entries)
-        rows.old.entries gone.old.items (waiting level now.now levels.old.entries) level before
-        steps.old
-        → IsWithin (G.count graph.now) (NearOneWay flips false
-        (WithRemoved (Linked (G.count graph.now) (G.link graph.now)) flips)
-        (Linked (G.count graph.now) (G.link graph.now)) (G.terminal graph.now) start top)
-        2 before steps.new }
+    ensures keeps { let layer = layer_of G.count G.link G.terminal basis.now in
+        OnOk result ((flips : List Flip) (start before : ℕ) (seeds : List (ℕ × ℕ))
+        → IsUncut (layer losses.old.rows.entries) flips start
+        → IsBeingCut (layer losses.old.rows.entries) flips start losses.old.gone.items seeds level
+        now.now queue.old.items before steps.old
+        → IsBeingCut (layer losses.new.rows.entries) flips start losses.new.gone.items seeds level
+        [] queue.new.items before steps.new) }
+    ensures spent { let layer = layer_of G.count G.link G.terminal basis.now in
+        (flips : List Flip) (start before : ℕ) (seeds : List (ℕ × ℕ))
+        → IsUncut (layer losses.old.rows.entries) flips start
+        → IsBeingCut (layer losses.old.rows.entries) flips start losses.old.gone.items seeds level
+        now.now queue.old.items before steps.old
+        → IsNearCut (layer []) flips start 2 before steps.new }
+    ensures still { 2 ^ 32 ≤ level + 1 → queue.new.items ≡ queue.old.items }
 {
     for number in now {
-        look(base, rows, top, graph, level, *number, gone, levels, steps)?;
+        look(basis, losses, level, *number, queue, steps)?;
     }
     Ok(())
 }
 
-// Takes away the mark of each number that has another depth over the links of `graph` than over
+// Takes out the seeds of a level that is not above that of any seed, and puts their numbers into
+// the queue of the level.
+fn queue_seeds(
+    rows: &mut Rows,
+    level: u32,
+    seeds: &mut Seeds,
+    queue: &mut Vec<u64>,
+) -> Result<(), NoMemory>
+    ensures above { OnOk result (All (λ s. level ≤ s.0) seeds.old
+        → All (λ s. level < s.0) seeds.new) }
+    ensures keeps { OnOk result ((layer : Layer) (flips : List Flip) (start before spent : ℕ)
+        (gone : List ℕ) → IsUncut layer flips start
+        → IsBeingCut (with_rows layer rows.old.entries) flips start gone seeds.old level
+        queue.old.items [] before spent
+        → IsBeingCut (with_rows layer rows.new.entries) flips start gone seeds.new level
+        queue.new.items [] before spent) }
+{
+    while let Some(number) = seeds.pop_at(level) {
+        enqueue(rows, level, number, queue)?;
+    }
+    Ok(())
+}
+
+// Takes away the mark of each number that has another depth over the links of the graph than over
 // these and the removed ones, and gives those numbers.
+//
+// A number comes into the queue once, when it gets its row, and not once for each link.
 pub(crate) fn lose<G: LinkSource, L: Ledger>(
     alloc: Global,
-    base: &IndexMap<u64, Option<u32>>,
-    rows: &mut IndexMap<u64, Option<u32>>,
-    top: u32,
-    graph: &G,
+    basis: &Basis<'_, G>,
     seeds: Vec<(u32, u64)>,
     steps: &mut Steps<L>,
-) -> Result<Vec<u64>, NoMemory>
-    requires { rows.old.entries ≡ [] }
-    ensures keeps { IfOk result (λ gone. (flips : List Flip) (start : ℕ)
-        → IsBeforeCut (Linked (G.count graph.now) (G.link graph.now)) (G.terminal graph.now) flips
-        start top (mark_of base.now.entries)
-        → SeedsAlong flips false (MayHold (G.terminal graph.now) top (mark_of base.now.entries))
-        seeds.items
-        → (level : ℕ) × IsCutting (Linked (G.count graph.now) (G.link graph.now))
-        (G.terminal graph.now) (G.count graph.now) flips start top (mark_of base.now.entries)
-        rows.new.entries gone.items (λ _ _. ⊥) level steps.old steps.new) }
-    ensures spent { (flips : List Flip) (start : ℕ)
-        → IsBeforeCut (Linked (G.count graph.now) (G.link graph.now)) (G.terminal graph.now) flips
-        start top (mark_of base.now.entries)
-        → SeedsAlong flips false (MayHold (G.terminal graph.now) top (mark_of base.now.entries))
-        seeds.items
-        → IsWithin (G.count graph.now) (NearOneWay flips false
-        (WithRemoved (Linked (G.count graph.now) (G.link graph.now)) flips)
-        (Linked (G.count graph.now) (G.link graph.now)) (G.terminal graph.now) start top)
-        2 steps.old steps.new }
+) -> Result<Losses, NoMemory>
+    ensures keeps { let layer = layer_of G.count G.link G.terminal basis.now in
+        IfOk result (λ losses. (flips : List Flip) (start : ℕ) → IsUncut (layer []) flips start
+        → SeedsAlong flips false (MayHoldAt (layer [])) seeds.items
+        → (level : ℕ) × IsBeingCut (layer losses.rows.entries) flips start losses.gone.items [] level
+        [] [] steps.old steps.new) }
+    ensures spent { let layer = layer_of G.count G.link G.terminal basis.now [] in
+        (flips : List Flip) (start : ℕ) → IsUncut layer flips start
+        → SeedsAlong flips false (MayHoldAt layer) seeds.items
+        → IsNearCut layer flips start 2 steps.old steps.new }
 {
-    let mut gone = Vec::new(alloc);
-    let mut levels = Levels::from_seeds(alloc, seeds);
-    while let Some((level, now)) = levels.next_level(alloc)? {
-        look_level(
-            base,
-            rows,
-            top,
-            graph,
-            level,
-            &now,
-            &mut gone,
-            &mut levels,
-            steps,
-        )?;
+    let mut losses = Losses {
+        rows: IndexMap::new(alloc),
+        gone: Vec::new(alloc),
+    };
+    let mut waiting = Seeds::sort_seeds(seeds);
+    let mut now: Vec<u64> = Vec::new(alloc);
+    let mut next: Vec<u64> = Vec::new(alloc);
+    let mut floor: u64 = 0;
+    while let Some(level) = least_level(floor, &next, &waiting) {
+        now.clear();
+        mem::swap(&mut now, &mut next);
+        queue_seeds(&mut losses.rows, level, &mut waiting, &mut now)?;
+        look_level(basis, &mut losses, level, &now, &mut next, steps)?;
+        floor = u64::from(level) + 1;
     }
-    Ok(gone)
+    Ok(losses)
 }

@@ -6,6 +6,7 @@ ghost use Rattle.ifmap_region.specs.Marks.{mark_of, row_of, over, AllMarked};
 ghost use Rattle.ifmap_region.specs.Walks.{AreDepths, IsReached};
 ghost use Rattle.ifmap_region.specs.Ways.{HasRoom, OnlyRoom, Makes, Sweeps, IsWayBack, taken_from};
 
+use crate::bases::Basis;
 use crate::link_source::LinkSource;
 use crate::patch::{Patch, RegionUndo};
 use crate::rows::mark_in;
@@ -58,7 +59,12 @@ pub fn build<G: LinkSource, L: Ledger>(
     let mut marks = IndexMap::new(alloc);
     let mut seeds = Vec::new(alloc);
     seeds.push((0, start))?;
-    spread(alloc, &unmarked, &mut marks, max_depth, graph, seeds, steps)?;
+    let basis = Basis {
+        base: &unmarked,
+        top: max_depth,
+        graph,
+    };
+    spread(alloc, &basis, &mut marks, seeds, steps)?;
     Ok(Region {
         start,
         max_depth,

@@ -7,6 +7,7 @@ ghost use Rattle.ifmap_region.specs.Marks.{mark_of, row_of, over};
 ghost use Rattle.ifmap_region.specs.Near.{NearFlips};
 ghost use Rattle.ifmap_region.specs.Walks.{AreDepths};
 
+use crate::bases::Basis;
 use crate::cut::cut;
 use crate::flips::Flip;
 use crate::grow::grow;
@@ -56,11 +57,18 @@ pub fn repair<G: LinkSource, L: Ledger>(
         region.now.start region.now.max_depth)
         5 steps.old steps.new }
 {
+    let base = &region.marks;
     let top = region.max_depth;
-    let hidden = near_pairs(alloc, &region.marks, flips)?;
+    let hidden = near_pairs(alloc, base, flips)?;
     let mid = Mid { graph, hidden };
-    let mut rows = cut(alloc, &region.marks, top, &mid, flips, steps)?;
-    grow(alloc, &region.marks, &mut rows, top, graph, flips, steps)?;
-    let rows = changed_rows(alloc, &region.marks, &rows)?;
+    let before = Basis {
+        base,
+        top,
+        graph: &mid,
+    };
+    let mut rows = cut(alloc, &before, flips, steps)?;
+    let after = Basis { base, top, graph };
+    grow(alloc, &after, &mut rows, flips, steps)?;
+    let rows = changed_rows(alloc, base, &rows)?;
     Ok(Patch { rows })
 }

@@ -1,17 +1,15 @@
 //! Rows of marks.
-ghost use Rattle.std.specs.Prelude.{◌≡◌, ℕ, ◌<◌, ◌≤◌, true, false, nat_eq, is_some, OnOk, OnErr, Some};
-ghost use Rattle.ifmap_region.specs.Marks.{row_of, mark_of, over};
-ghost use Rattle.std.specs.Map.{update};
+ghost use Rattle.std.specs.Prelude.{◌≡◌, ℕ, ◌<◌, ◌≤◌, true, false, is_some, OnOk, OnErr, Some};
+ghost use Rattle.ifmap_region.specs.Marks.{row_of, mark_of, over, HasPut};
 
 use indexmap::IndexMap;
 use std::alloc::AllocError as NoMemory;
 
+// Marks by their numbers; a row may stand without a mark.
+pub(crate) type Rows = IndexMap<u64, Option<u32>>;
+
 // The marks of `rows` where they have a row, else those of `base`.
-pub(crate) fn mark(
-    base: &IndexMap<u64, Option<u32>>,
-    rows: &IndexMap<u64, Option<u32>>,
-    number: u64,
-) -> Option<u32>
+pub(crate) fn mark(base: &Rows, rows: &Rows, number: u64) -> Option<u32>
     ensures { result ≡ over rows.now.entries (mark_of base.now.entries) number }
 {
     match rows.get(&number) {
@@ -24,20 +22,15 @@ pub(crate) fn mark(
 }
 
 // Whether the number has a row.
-pub(crate) fn has_row(rows: &IndexMap<u64, Option<u32>>, number: u64) -> bool
+pub(crate) fn has_row(rows: &Rows, number: u64) -> bool
     ensures { result ≡ is_some (row_of rows.now.entries number) }
 {
     rows.contains_key(&number)
 }
 
 // Puts a row in, in place of the one that is there.
-pub(crate) fn put(
-    rows: &mut IndexMap<u64, Option<u32>>,
-    number: u64,
-    mark: Option<u32>,
-) -> Result<(), NoMemory>
-    ensures put { OnOk result ((q : ℕ)
-        → row_of rows.new.entries q ≡ update nat_eq (row_of rows.old.entries) number (Some mark) q) }
+pub(crate) fn put(rows: &mut Rows, number: u64, mark: Option<u32>) -> Result<(), NoMemory>
+    ensures put { OnOk result (HasPut rows.old.entries rows.new.entries number mark) }
     ensures err { OnErr result (rows.new.entries ≡ rows.old.entries) }
 {
     rows.insert(number, mark)?;
@@ -67,7 +60,7 @@ pub(crate) fn is_mark(mark: Option<u32>, level: u32) -> bool
 }
 
 // The mark of the number in these rows alone.
-pub(crate) fn mark_in(rows: &IndexMap<u64, Option<u32>>, number: u64) -> Option<u32>
+pub(crate) fn mark_in(rows: &Rows, number: u64) -> Option<u32>
     ensures { result ≡ mark_of rows.now.entries number }
 {
     match rows.get(&number) {

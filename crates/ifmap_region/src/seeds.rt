@@ -1,32 +1,24 @@
 //! At which level a number is looked at first.
 ghost use Rattle.std.specs.Prelude.{◌≡◌, ℕ, ◌+◌, ◌≤◌, ◌++◌, ◌∷◌, [], ◌⊎◌, Some, true, false, IfSome, IfOk, OnOk, MatchOption};
-ghost use Rattle.ifmap_region.specs.Links.{Linked};
-ghost use Rattle.ifmap_region.specs.Marks.{mark_of, over};
-ghost use Rattle.ifmap_region.specs.Seeds.{IsNext, MayHold, Lowers, SeedsAlong};
+ghost use Rattle.ifmap_region.specs.Layers.{layer_of, IsNextOf, MayHoldAt, LowersTo};
+ghost use Rattle.ifmap_region.specs.Seeds.{SeedsAlong};
 
+use crate::bases::Basis;
 use crate::flips::Flip;
 use crate::link_source::LinkSource;
-use crate::rows::{is_mark, is_within, mark};
-use indexmap::IndexMap;
+use crate::rows::{Rows, is_mark, is_within, mark};
 use std::alloc::{AllocError as NoMemory, Global};
 
 // The level that follows the mark of the number, where a walk may go on from it.
-pub(crate) fn next_of<G: LinkSource>(
-    base: &IndexMap<u64, Option<u32>>,
-    rows: &IndexMap<u64, Option<u32>>,
-    top: u32,
-    graph: &G,
-    number: u64,
-) -> Option<u32>
-    ensures only { IfSome result (λ k. IsNext (G.terminal graph.now) top
-        (over rows.now.entries (mark_of base.now.entries)) number k) }
-    ensures each { (k : ℕ)
-        → IsNext (G.terminal graph.now) top (over rows.now.entries (mark_of base.now.entries))
-        number k → result ≡ Some k }
+pub(crate) fn next_of<G: LinkSource>(basis: &Basis<'_, G>, rows: &Rows, number: u64) -> Option<u32>
+    ensures only { let layer = layer_of G.count G.link G.terminal basis.now rows.now.entries in
+        IfSome result (λ k. IsNextOf layer number k) }
+    ensures each { let layer = layer_of G.count G.link G.terminal basis.now rows.now.entries in
+        (k : ℕ) → IsNextOf layer number k → result ≡ Some k }
 {
-    match mark(base, rows, number) {
+    match mark(basis.base, rows, number) {
         Some(known) => {
-            if known < top && !graph.is_terminal(number) {
+            if known < basis.top && !basis.graph.is_terminal(number) {
                 Some(known + 1)
             } else {
                 None
@@ -37,23 +29,15 @@ pub(crate) fn next_of<G: LinkSource>(
 }
 
 // The mark of `to`, where `from` may have held it.
-fn held_at<G: LinkSource>(
-    base: &IndexMap<u64, Option<u32>>,
-    rows: &IndexMap<u64, Option<u32>>,
-    top: u32,
-    graph: &G,
-    from: u64,
-    to: u64,
-) -> Option<u32>
-    ensures only { IfSome result (λ k. MayHold (G.terminal graph.now) top
-        (over rows.now.entries (mark_of base.now.entries)) from to k) }
-    ensures each { (k : ℕ)
-        → MayHold (G.terminal graph.now) top (over rows.now.entries (mark_of base.now.entries)) from
-        to k → result ≡ Some k }
+fn held_at<G: LinkSource>(basis: &Basis<'_, G>, rows: &Rows, from: u64, to: u64) -> Option<u32>
+    ensures only { let layer = layer_of G.count G.link G.terminal basis.now rows.now.entries in
+        IfSome result (λ k. MayHoldAt layer from to k) }
+    ensures each { let layer = layer_of G.count G.link G.terminal basis.now rows.now.entries in
+        (k : ℕ) → MayHoldAt layer from to k → result ≡ Some k }
 {
-    match next_of(base, rows, top, graph, from) {
+    match next_of(basis, rows, from) {
         Some(level) => {
-            if is_mark(mark(base, rows, to), level) {
+            if is_mark(mark(basis.base, rows, to), level) {
                 Some(level)
             } else {
                 None
@@ -64,23 +48,15 @@ fn held_at<G: LinkSource>(
 }
 
 // The level to which `from` lowers `to`.
-fn lowered_to<G: LinkSource>(
-    base: &IndexMap<u64, Option<u32>>,
-    rows: &IndexMap<u64, Option<u32>>,
-    top: u32,
-    graph: &G,
-    from: u64,
-    to: u64,
-) -> Option<u32>
-    ensures only { IfSome result (λ k. Lowers (G.terminal graph.now) top
-        (over rows.now.entries (mark_of base.now.entries)) from to k) }
-    ensures each { (k : ℕ)
-        → Lowers (G.terminal graph.now) top (over rows.now.entries (mark_of base.now.entries)) from
-        to k → result ≡ Some k }
+fn lowered_to<G: LinkSource>(basis: &Basis<'_, G>, rows: &Rows, from: u64, to: u64) -> Option<u32>
+    ensures only { let layer = layer_of G.count G.link G.terminal basis.now rows.now.entries in
+        IfSome result (λ k. LowersTo layer from to k) }
+    ensures each { let layer = layer_of G.count G.link G.terminal basis.now rows.now.entries in
+        (k : ℕ) → LowersTo layer from to k → result ≡ Some k }
 {
-    match next_of(base, rows, top, graph, from) {
+    match next_of(basis, rows, from) {
         Some(level) => {
-            if is_within(mark(base, rows, to), level) {
+            if is_within(mark(basis.base, rows, to), level) {
                 None
             } else {
                 Some(level)
@@ -108,22 +84,19 @@ pub(crate) fn offer(
 // The ends of removed links that the other end may have held, at their marks.
 pub(crate) fn held_seeds<G: LinkSource>(
     alloc: Global,
-    base: &IndexMap<u64, Option<u32>>,
-    rows: &IndexMap<u64, Option<u32>>,
-    top: u32,
-    graph: &G,
+    basis: &Basis<'_, G>,
+    rows: &Rows,
     flips: &[Flip],
 ) -> Result<Vec<(u32, u64)>, NoMemory>
-    ensures { IfOk result (λ seeds. SeedsAlong flips.now false
-        (MayHold (G.terminal graph.now) top (over rows.now.entries (mark_of base.now.entries)))
-        seeds.items) }
+    ensures { let layer = layer_of G.count G.link G.terminal basis.now rows.now.entries in
+        IfOk result (λ seeds. SeedsAlong flips.now false (MayHoldAt layer) seeds.items) }
 {
     let mut seeds = Vec::new(alloc);
     for flip in flips {
         if !flip.added {
-            let at_b = held_at(base, rows, top, graph, flip.a, flip.b);
+            let at_b = held_at(basis, rows, flip.a, flip.b);
             offer(&mut seeds, at_b, flip.b)?;
-            let at_a = held_at(base, rows, top, graph, flip.b, flip.a);
+            let at_a = held_at(basis, rows, flip.b, flip.a);
             offer(&mut seeds, at_a, flip.a)?;
         }
     }
@@ -133,22 +106,19 @@ pub(crate) fn held_seeds<G: LinkSource>(
 // The ends of added links that the other end lowers, at the levels to which it does.
 pub(crate) fn lowered_seeds<G: LinkSource>(
     alloc: Global,
-    base: &IndexMap<u64, Option<u32>>,
-    rows: &IndexMap<u64, Option<u32>>,
-    top: u32,
-    graph: &G,
+    basis: &Basis<'_, G>,
+    rows: &Rows,
     flips: &[Flip],
 ) -> Result<Vec<(u32, u64)>, NoMemory>
-    ensures { IfOk result (λ seeds. SeedsAlong flips.now true
-        (Lowers (G.terminal graph.now) top (over rows.now.entries (mark_of base.now.entries)))
-        seeds.items) }
+    ensures { let layer = layer_of G.count G.link G.terminal basis.now rows.now.entries in
+        IfOk result (λ seeds. SeedsAlong flips.now true (LowersTo layer) seeds.items) }
 {
     let mut seeds = Vec::new(alloc);
     for flip in flips {
         if flip.added {
-            let at_b = lowered_to(base, rows, top, graph, flip.a, flip.b);
+            let at_b = lowered_to(basis, rows, flip.a, flip.b);
             offer(&mut seeds, at_b, flip.b)?;
-            let at_a = lowered_to(base, rows, top, graph, flip.b, flip.a);
+            let at_a = lowered_to(basis, rows, flip.b, flip.a);
             offer(&mut seeds, at_a, flip.a)?;
         }
     }

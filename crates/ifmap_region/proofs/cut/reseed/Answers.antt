@@ -9,13 +9,13 @@ loop-number-preserved g c =
     let at = take_more c.args.gone.now c.loop-number.number-index 0 c.loop-number-test.true in
     rw at record {
       seeds = reseeds_more _ _ _ _ (take c.loop-number.number-index c.args.gone.now) (get_or c.args.gone.now c.loop-number.number-index
-          0) _ _ c.least_level-level.result
-          c.in_ok-offer.ensures c.least_level-level.ensures.only c.least_level-level.ensures.least c.loop-number.invariant.seeds;
+          0) _ _ c.lowest_level-level.result
+          c.in_ok-offer.ensures c.lowest_level-level.ensures.only c.lowest_level-level.ensures.least c.loop-number.invariant.seeds;
       steps = omega (
         arith,
-        c.least_level-level.ensures.steps,
+        c.lowest_level-level.ensures.steps,
         c.loop-number.invariant.steps,
-        sum_by_push (g.G.LinkSource.count c.args.graph.now) (take c.loop-number.number-index c.args.gone.now) (get_or c.args.gone.now
+        sum_by_push (g.G.LinkSource.count c.args.basis.now.graph.now) (take c.loop-number.number-index c.args.gone.now) (get_or c.args.gone.now
             c.loop-number.number-index 0),
       );
     }

@@ -1,20 +1,21 @@
-use Rattle.std.proofs.Common.{ℕ, ◌-◌, ◌^◌, Contains, List, false}
+use Rattle.std.proofs.Common.{ℕ, ◌<◌, ◌≤◌, ◌-◌, ◌^◌, [], All, List, false}
+use Rattle.std.specs.Prelude.{vec_len}
 use Rattle.ifmap_region.specs.declared.flips.Flip.{Flip}
-use Rattle.ifmap_region.specs.Links.{Linked}
-use Rattle.ifmap_region.specs.Marks.{mark_of}
-use Rattle.ifmap_region.specs.Seeds.{MayHold, SeedsAlong}
-use Rattle.ifmap_region.specs.Losing.{IsBeforeCut, IsCutting}
+use Rattle.ifmap_region.specs.Layers.{layer_of, MayHoldAt, IsUncut, IsBeingCut}
+use Rattle.ifmap_region.specs.Seeds.{SeedsAlong}
 use Rattle.ifmap_region.proofs.lose.lose.Given as goal
 
-abbrev pub invariant-loop-levels : goal.invariant-loop-levels
-invariant-loop-levels g l =
-    let links = Linked (g.G.LinkSource.count l.graph) (g.G.LinkSource.link l.graph) in
-    let terminal = g.G.LinkSource.terminal l.graph in
-    (flips : List Flip) (start : ℕ)
-    → IsBeforeCut links terminal flips start l.top (mark_of l.base.entries)
-    → SeedsAlong flips false (MayHold terminal l.top (mark_of l.base.entries)) l.fn.seeds.items
-    → IsCutting links terminal (g.G.LinkSource.count l.graph) flips start l.top (mark_of l.base.entries) l.rows.entries l.gone.items (λ k
-    v. Contains l.levels.entries (k, v)) l.levels.floor l.initial.steps l.steps
+abbrev pub invariant-loop-level : goal.invariant-loop-level
+invariant-loop-level g l =
+    let G = g.G.LinkSource in
+    let layer = layer_of G.count G.link G.terminal l.basis in
+    record {
+      fits : 0 < vec_len l.next → l.floor < 2 ^ 32;
+      above : All (λ s. l.floor ≤ s.0) l.waiting;
+      keeps : (flips : List Flip) (start : ℕ) → IsUncut (layer []) flips start
+          → SeedsAlong flips false (MayHoldAt (layer [])) l.fn.seeds.items
+          → IsBeingCut (layer l.losses.rows.entries) flips start l.losses.gone.items l.waiting l.floor l.next.items [] l.initial.steps l.steps;
+    }
 
-abbrev pub decreases-loop-levels : goal.decreases-loop-levels
-decreases-loop-levels g l = 2 ^ 32 - l.levels.floor
+abbrev pub decreases-loop-level : goal.decreases-loop-level
+decreases-loop-level g l = 2 ^ 32 - l.floor

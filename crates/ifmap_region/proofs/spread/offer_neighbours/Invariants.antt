@@ -1,25 +1,23 @@
-use Rattle.std.proofs.Common.{◌≡◌, ℕ, ◌+◌, ◌<◌, ◌≤◌, ◌∷◌, Option, Some, false, List, sum_by}
-use Rattle.ifmap_region.specs.Links.{Linked}
-use Rattle.ifmap_region.specs.Marks.{mark_of, over, AddsMarks}
-use Rattle.ifmap_region.specs.Spreading.{IsFalling, IsCharged}
+use Rattle.std.proofs.Common.{◌≡◌, ℕ, ◌+◌, ◌<◌, ◌≤◌, ◌∷◌, Option, Some, false, List}
+use Rattle.ifmap_region.specs.Layers.{layer_of, marks, Falls, Charges}
+use Rattle.ifmap_region.specs.Marks.{AddsMarks}
 use Rattle.ifmap_region.proofs.spread.offer_neighbours.Given as goal
 
 abbrev pub invariant-loop-i : goal.invariant-loop-i
 invariant-loop-i g l =
-    let links = Linked (g.G.LinkSource.count l.graph) (g.G.LinkSource.link l.graph) in
-    let terminal = g.G.LinkSource.terminal l.graph in
-    let count = g.G.LinkSource.count l.graph in
+    let G = g.G.LinkSource in
+    let layer = layer_of G.count G.link G.terminal l.basis in
+    let then = layer l.initial.rows.entries in
+    let now = layer l.rows.entries in
     record {
       rows : AddsMarks l.initial.rows.entries l.rows.entries;
-      offered : (j w : ℕ) → j < l.i → g.G.LinkSource.link l.graph l.number j ≡ Some w
-          → (k : ℕ) × (k ≤ l.next) × (over l.rows.entries (mark_of l.base.entries) w ≡ Some k);
-      falls : (start top level : ℕ) (rest : List ℕ) (seeds : List (ℕ × ℕ)) → l.next ≡ level + 1 → level < top → terminal l.number ≡ false
-          → IsFalling links terminal start top (over l.initial.rows.entries (mark_of l.base.entries)) seeds level (l.number ∷ rest) l.initial.queue.items
-          → IsFalling links terminal start top (over l.rows.entries (mark_of l.base.entries)) seeds level (l.number ∷ rest) l.queue.items;
-      charged : (start top level before owed : ℕ) (rest : List ℕ) (seeds : List (ℕ × ℕ)) (first : ℕ → Option ℕ) → l.next ≡ level + 1
-          → level < top → terminal l.number ≡ false
-          → IsFalling links terminal start top (over l.initial.rows.entries (mark_of l.base.entries)) seeds level (l.number ∷ rest) l.initial.queue.items
-          → IsCharged links terminal start top count first (over l.initial.rows.entries (mark_of l.base.entries)) l.next before (owed + sum_by count l.initial.queue.items)
-          → IsCharged links terminal start top count first (over l.rows.entries (mark_of l.base.entries)) l.next before (owed + sum_by count l.queue.items);
+      offered : (j w : ℕ) → j < l.i → now.link l.number j ≡ Some w → (k : ℕ) × (k ≤ l.next) × (marks now w ≡ Some k);
+      falls : (start level : ℕ) (rest : List ℕ) (seeds : List (ℕ × ℕ)) → l.next ≡ level + 1 → level < now.top → now.terminal l.number ≡ false
+          → Falls then start seeds level (l.number ∷ rest) l.initial.queue.items → Falls now start seeds level (l.number ∷ rest) l.queue.items;
+      charged : (start level before owed : ℕ) (rest : List ℕ) (seeds : List (ℕ × ℕ)) (first : ℕ → Option ℕ) → l.next ≡ level + 1
+          → level < now.top → now.terminal l.number ≡ false
+          → Falls then start seeds level (l.number ∷ rest) l.initial.queue.items
+          → Charges then start first l.next before owed l.initial.queue.items
+          → Charges now start first l.next before owed l.queue.items;
       steps : l.steps ≤ l.initial.steps + l.i;
     }

@@ -1,4 +1,4 @@
-use Rattle.std.proofs.Common.{ℕ, ◌≡◌, ◌+◌, ◌<◌, ◌≤◌, [], length, arith, inl, inr, ap, ◌∙◌}
+use Rattle.std.proofs.Common.{◌^◌, ℕ, ◌≡◌, ◌+◌, ◌<◌, ◌≤◌, [], length, arith, inl, inr, ap, ◌∙◌}
 use Rattle.std.proofs.lemmas.Bool.{cases_lt}
 use Rattle.std.proofs.lemmas.List.Elements.{All-weaker}
 use Rattle.ifmap_region.proofs.Ready.{charged_later, spent_from}
@@ -22,23 +22,23 @@ loop-level-preserved g c =
     let floor_is : c.from-floor.result + 1 ≡ c.in-Some.level + 1 = omega (arith, c.from-floor.ensures) in
     record {
       rows = λ v e. c.loop-level.invariant.rows v (c.admit_seeds.ensures.rows v (c.visit_level.ensures.rows v e));
-      fits = λ some. elim (cases_lt c.in-Some.level c.args.top) [
-        | inl lt ↦ omega (arith, lt, floor_is, c.ranges.top.fits)
+      fits = λ some. elim (cases_lt (c.in-Some.level + 1) (2 ^ 32)) [
+        | inl lt ↦ omega (arith, lt, floor_is)
         | inr ge ↦ absurd (omega (arith, some, ap length (c.visit_level.ensures.still ge ∙ none)))
       ];
       above = All-weaker (λ (s : ℕ × ℕ). c.in-Some.level < s.0) (λ (s : ℕ × ℕ). c.from-floor.result + 1 ≤ s.0)
           (λ s lt. omega (arith, lt, floor_is)) _ (c.in_ok-admit_seeds.ensures.above c.in-Some.ensures.least);
       falls = λ start r. level_ended _ _ start _ _ _ c.in-Some.level _ _ floor_is
           (c.in_ok-visit_level.ensures.falls start _ (queue_handed _ _ start _ _ _ c.in-Some.level _ _ _ c.deref.ensures.value none
-          (c.in_ok-admit_seeds.ensures.falls _ _ _ start c.args.top
+          (c.in_ok-admit_seeds.ensures.falls start
           (level_begun _ _ start _ _ _ c.loop-level.floor c.in-Some.level _ _ now_is c.in-Some.ensures.side (c.loop-level.invariant.falls start r)))));
       charged = λ start r.
           let begun = level_begun _ _ start _ _ _ c.loop-level.floor c.in-Some.level _ _ now_is c.in-Some.ensures.side (c.loop-level.invariant.falls start r) in
           charged_later _ _ start _ _ _ _ (c.in-Some.level + 1) _ _ _ (omega (arith, floor_is))
           (c.visit_level.ensures.charged start _ _ _
-          (queue_handed _ _ start _ _ _ c.in-Some.level _ _ _ c.deref.ensures.value none (c.in_ok-admit_seeds.ensures.falls _ _ _ start c.args.top begun))
+          (queue_handed _ _ start _ _ _ c.in-Some.level _ _ _ c.deref.ensures.value none (c.in_ok-admit_seeds.ensures.falls start begun))
           (charged_handed _ _ start _ _ _ _ c.in-Some.level _ c.loop-level.steps _ _ _ c.deref.ensures.value none
-          (c.admit_seeds.ensures.charged _ (g.G.LinkSource.link c.args.graph.now) _ start c.args.top _ c.loop-level.steps _ begun
+          (c.admit_seeds.ensures.charged start _ c.loop-level.steps _ begun
           (charged_level _ _ start _ _ _ _ c.loop-level.floor c.in-Some.level _ c.loop-level.steps _ _ now_is c.in-Some.ensures.rises
           (c.loop-level.invariant.charged start r)))));
     }
@@ -49,7 +49,7 @@ returns-in_err-admit_seeds-clause-charged g c start r =
     let begun = level_begun _ _ start _ _ _ c.loop-level.floor c.in-Some.level _ _ now_is c.in-Some.ensures.side (c.loop-level.invariant.falls start r) in
     spent_from _ _ start _ _ _ _ c.in-Some.level _ _
     (charged_fewer _ _ start _ _ _ _ c.in-Some.level _ c.loop-level.steps _ (omega arith)
-    (c.admit_seeds.ensures.charged _ (g.G.LinkSource.link c.args.graph.now) _ start c.args.top _ c.loop-level.steps _ begun
+    (c.admit_seeds.ensures.charged start _ c.loop-level.steps _ begun
     (charged_level _ _ start _ _ _ _ c.loop-level.floor c.in-Some.level _ c.loop-level.steps _ _ now_is c.in-Some.ensures.rises
     (c.loop-level.invariant.charged start r))))
 
@@ -61,9 +61,9 @@ returns-in_err-visit_level-clause-charged g c start r =
     spent_from _ _ start _ _ _ _ (c.in-Some.level + 1) _ _
     (charged_fewer _ _ start _ _ _ _ (c.in-Some.level + 1) _ c.visit_level.new.steps _ (omega arith)
     (c.visit_level.ensures.charged start _ _ _
-    (queue_handed _ _ start _ _ _ c.in-Some.level _ _ _ c.deref.ensures.value none (c.in_ok-admit_seeds.ensures.falls _ _ _ start c.args.top begun))
+    (queue_handed _ _ start _ _ _ c.in-Some.level _ _ _ c.deref.ensures.value none (c.in_ok-admit_seeds.ensures.falls start begun))
     (charged_handed _ _ start _ _ _ _ c.in-Some.level _ c.loop-level.steps _ _ _ c.deref.ensures.value none
-    (c.admit_seeds.ensures.charged _ (g.G.LinkSource.link c.args.graph.now) _ start c.args.top _ c.loop-level.steps _ begun
+    (c.admit_seeds.ensures.charged start _ c.loop-level.steps _ begun
     (charged_level _ _ start _ _ _ _ c.loop-level.floor c.in-Some.level _ c.loop-level.steps _ _ now_is c.in-Some.ensures.rises
     (c.loop-level.invariant.charged start r))))))
 

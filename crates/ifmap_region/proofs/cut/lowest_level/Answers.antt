@@ -3,13 +3,13 @@ use Rattle.std.proofs.lemmas.Option.{IfSome_then}
 use Rattle.ifmap_region.specs.Marks.{mark_of, over}
 use Rattle.ifmap_region.specs.Seeds.{IsNext}
 use Rattle.ifmap_region.proofs.Regrow.{least_unmatched, least_more, lesser_only}
-use Rattle.ifmap_region.proofs.cut.least_level.Goals as goal
-use Rattle.ifmap_region.proofs.cut.least_level.Goals.{in-Some, in_default}
+use Rattle.ifmap_region.proofs.cut.lowest_level.Goals as goal
+use Rattle.ifmap_region.proofs.cut.lowest_level.Goals.{in-Some, in_default}
 
 pub loop-i-preserved : goal.loop-i-preserved
 loop-i-preserved g c =
-    let given = IsNext (g.G.LinkSource.terminal c.args.graph.now) c.args.top (over c.args.rows.now.entries (mark_of
-    c.args.base.now.entries)) in
+    let given = IsNext (g.G.LinkSource.terminal c.args.basis.now.graph.now) c.args.basis.now.top (over c.args.rows.now.entries (mark_of
+    c.args.basis.now.base.now.entries)) in
     elim c.match-at.branch [
       | in-Some w ↦ rw w.least-is record {
         only = lesser_only _ _ _ _ w.lesser-least.ensures.one c.loop-i.invariant.only
@@ -26,14 +26,14 @@ loop-i-preserved g c =
               ),
               n,
             )));
-        least = least_more (g.G.LinkSource.link c.args.graph.now c.args.number) c.loop-i.i given c.loop-i.least c.loop-i.invariant.least
+        least = least_more (g.G.LinkSource.link c.args.basis.now.graph.now c.args.number) c.loop-i.i given c.loop-i.least c.loop-i.invariant.least
             w.next_of.result w.lesser-least.result w.in-Some.neighbour
             (sym w.in-Some.ensures.link) w.next_of.ensures.each w.lesser-least.ensures.first w.lesser-least.ensures.second;
         steps = omega (arith, c.at.ensures.step, c.loop-i.invariant.steps);
       }
       | in_default w ↦ rw w.least-is record {
         only = c.loop-i.invariant.only;
-        least = least_unmatched (g.G.LinkSource.link c.args.graph.now c.args.number) c.loop-i.i given c.loop-i.least
+        least = least_unmatched (g.G.LinkSource.link c.args.basis.now.graph.now c.args.number) c.loop-i.i given c.loop-i.least
             c.loop-i.invariant.least (sym w.in_default.ensures.link);
         steps = omega (arith, c.at.ensures.step, c.loop-i.invariant.steps);
       }
