@@ -108,7 +108,8 @@ module _ (links : ℕ → ℕ → Type 0) (terminal : ℕ → Bool) (count : ℕ
   IsNear = NearOneWay flips false (WithRemoved links flips) links terminal start top
 
   module _ (rows : List (ℕ × Option ℕ)) (gone : List ℕ) (seeds : List (ℕ × ℕ)) (level before : ℕ) where
-    gone_within : (after : ℕ) → AreGone rows gone → (c : IsLookedAt count rows gone before after) → sum_by count gone ≤ sum_by count c.numbers
+    gone_within : (after : ℕ) → AreGone rows gone → (c : IsLookedAt count rows gone before after) → sum_by count gone ≤ sum_by count
+        c.numbers
     gone_within after g c = sum_within count gone c.numbers g.distinct (λ x h. c.all x (is_some_row (row_of rows x) None (g.only x h)))
 
     pub looked_near : (now next : List ℕ) (after : ℕ)
@@ -133,7 +134,8 @@ module _ (links : ℕ → ℕ → Type 0) (terminal : ℕ → Bool) (count : ℕ
         → IsWithin count (NearOneWay flips false (WithRemoved links flips) links terminal start top) 2 before after
     spent_more v rest next steps after le c =
         let row = c.losing.in_queue level v (queue_first level v rest next) in
-        let more = sum_within count (v ∷ gone) c.charged.numbers (distinct_cons v gone (λ i e lt at. none-some level (same_Some None (Some level)
+        let more = sum_within count (v ∷ gone) c.charged.numbers (distinct_cons v gone (λ i e lt at. none-some level
+        (same_Some None (Some level)
         (sym (c.are_gone.only _ (Contains-get_or gone i e lt)) ∙ ap (row_of rows) (sym at) ∙ row))) c.are_gone.distinct)
         (λ x h. elim (Contains-append_cases (v ∷ []) gone x h) [
           | inl one ↦ c.charged.all x (is_some_row (row_of rows x) (Some level) (ap (row_of rows) (sym (contains_one v x one)) ∙ row))
@@ -153,23 +155,29 @@ module _ (count : ℕ → ℕ) (link : ℕ → ℕ → Option ℕ) (terminal : �
   Near = NearOneWay flips false (WithRemoved (Linked count link) flips) (Linked count link) terminal start top
 
   abbrev Cutting : List (ℕ × Option ℕ) → List ℕ → List (ℕ × ℕ) → List ℕ → List ℕ → ℕ → Type 0
-  Cutting rows gone' seeds now next = IsCutting (Linked count link) terminal count flips start top first rows gone' seeds level now next before
+  Cutting rows gone' seeds now next = IsCutting (Linked count link) terminal count flips start top first rows gone' seeds level now next
+      before
 
   -- a seed comes into the queue, or has a row and is passed over
-  pub cutting_seed : (rows rows' : List (ℕ × Option ℕ)) (seeds rest : List (ℕ × ℕ)) (now now' : List ℕ) (w spent : ℕ) → seeds ≡ (level, w) ∷ rest
+  pub cutting_seed : (rows rows' : List (ℕ × Option ℕ)) (seeds rest : List (ℕ × ℕ)) (now now' : List ℕ) (w spent : ℕ) → seeds ≡ (level, w)
+      ∷ rest
       → Awaits level w rows rows' now now' → Cutting rows gone seeds now [] spent → Cutting rows' gone rest now' [] spent
   cutting_seed rows rows' seeds rest now now' w spent is put c = elim put [
     | inl p ↦ subst (λ (l : List ℕ). Cutting rows' gone rest l [] spent) (sym p.2)
         (subst (λ (r : List (ℕ × Option ℕ)). Cutting r gone rest now [] spent) (sym p.1) (passed_by p.0))
     | inr p ↦ subst (λ (l : List ℕ). Cutting rows' gone rest l [] spent) (sym p.1) (record {
-      losing = losing_entered (WithRemoved (Linked count link) flips) (Linked count link) terminal start top first b.depths (λ u x l. inl l) Near
-          rows rows' (λ k x. Contains seeds (k, x)) (λ k x. Contains rest (k, x)) (queue_at level now []) (queue_at level (now ++ w ∷ []) [])
-          level level w p.0 seed.0 seed.1 seed.2 there back (now_in level w now []) (now_new level w now []) (now_out level w now []) c.losing;
+      losing = losing_entered (WithRemoved (Linked count link) flips) (Linked count link) terminal start top first b.depths
+          (λ u x l. inl l) Near
+          rows rows' (λ k x. Contains seeds (k, x)) (λ k x. Contains rest (k, x)) (queue_at level now [])
+          (queue_at level (now ++ w ∷ []) [])
+          level level w p.0 seed.0 seed.1 seed.2 there back (now_in level w now []) (now_new level w now []) (now_out level w now [])
+          c.losing;
       are_gone = gone_held count rows rows' gone w p.0.bare p.0.others level p.0.here c.are_gone;
       once_now = distinct_push now w (λ y h at. none-some (Some level) (sym p.0.bare ∙ ap (row_of rows) (sym at) ∙ c.losing.in_queue level y
           (inl (refl, h)))) c.once_now;
       once_next = c.once_next;
-      charged = looked_more count rows rows' gone w p.0.bare p.0.others gone (Some level) before (spent + sum_by count now + sum_by count [])
+      charged = looked_more count rows rows' gone w p.0.bare p.0.others gone (Some level) before (spent + sum_by count now + sum_by count
+          [])
           (spent + sum_by count (now ++ w ∷ []) + sum_by count []) p.0.here (omega (arith, sum_by_push count now w)) c.charged;
     })
   ]
@@ -192,7 +200,8 @@ module _ (count : ℕ → ℕ) (link : ℕ → ℕ → Option ℕ) (terminal : �
 
       passed_by : IsSome (row_of rows w) → Cutting rows gone rest now [] spent
       passed_by h = let s = some_row (row_of rows w) h in record {
-        losing = losing_passed (WithRemoved (Linked count link) flips) (Linked count link) terminal start top first b.depths (λ u x l. inl l) Near
+        losing = losing_passed (WithRemoved (Linked count link) flips) (Linked count link) terminal start top first b.depths
+            (λ u x l. inl l) Near
             rows (λ k x. Contains seeds (k, x)) (λ k x. Contains rest (k, x)) (queue_at level now []) level w s.0 s.1 there back c.losing;
         are_gone = c.are_gone;
         once_now = c.once_now;
@@ -207,18 +216,22 @@ module _ (count : ℕ → ℕ) (link : ℕ → ℕ → Option ℕ) (terminal : �
       unheld u d is l t m = not_held u d is (b.symmetric u v l) t m
 
       -- a neighbour of the first number of the queue, which is not held, comes into the queue of the next level
-      pub cutting_neighbour : (rows' : List (ℕ × Option ℕ)) (next' : List ℕ) (w spent : ℕ) → Linked count link v w → first w ≡ Some (level + 1)
+      pub cutting_neighbour : (rows' : List (ℕ × Option ℕ)) (next' : List ℕ) (w spent : ℕ) → Linked count link v w → first w ≡ Some
+          (level + 1)
           → Awaits (level + 1) w rows rows' next next' → Cutting rows gone seeds (v ∷ rest) next spent
           → Cutting rows' gone seeds (v ∷ rest) next' spent
       cutting_neighbour rows' next' w spent l marked put c = elim put [
         | inl p ↦ subst (λ (q : List ℕ). Cutting rows' gone seeds (v ∷ rest) q spent) (sym p.2)
             (subst (λ (r : List (ℕ × Option ℕ)). Cutting r gone seeds (v ∷ rest) next spent) (sym p.1) c)
         | inr p ↦ subst (λ (q : List ℕ). Cutting rows' gone seeds (v ∷ rest) q spent) (sym p.1) (record {
-          losing = losing_entered (WithRemoved (Linked count link) flips) (Linked count link) terminal start top first b.depths (λ u x l. inl l)
+          losing = losing_entered (WithRemoved (Linked count link) flips) (Linked count link) terminal start top first b.depths
+              (λ u x l. inl l)
               Near rows rows' (λ k x. Contains seeds (k, x)) (λ k x. Contains seeds (k, x)) (queue_at level (v ∷ rest) next)
               (queue_at level (v ∷ rest) (next ++ w ∷ [])) level (level + 1) w p.0 marked (omega arith)
-              (beside (moved_here (WithRemoved (Linked count link) flips) (Linked count link) terminal start top first b.depths (λ u x l. inl l)
-              Near rows (λ k x. Contains seeds (k, x)) (queue_at level (v ∷ rest) next) level v (queue_first level v rest next) c.losing unheld)
+              (beside (moved_here (WithRemoved (Linked count link) flips) (Linked count link) terminal start top first b.depths
+              (λ u x l. inl l)
+              Near rows (λ k x. Contains seeds (k, x)) (queue_at level (v ∷ rest) next) level v (queue_first level v rest next) c.losing
+              unheld)
               (inr l))
               (λ k x h. inr h) (λ k x h. h) (next_in level w (v ∷ rest) next) (next_new level w (v ∷ rest) next)
               (next_out level w (v ∷ rest) next) c.losing;
@@ -227,7 +240,8 @@ module _ (count : ℕ → ℕ) (link : ℕ → ℕ → Option ℕ) (terminal : �
           once_next = distinct_push next w (λ y h at. none-some (Some (level + 1)) (sym p.0.bare ∙ ap (row_of rows) (sym at) ∙
               c.losing.in_queue (level + 1) y (inr (refl, h)))) c.once_next;
           charged = looked_more count rows rows' gone w p.0.bare p.0.others gone (Some (level + 1)) before
-              (spent + sum_by count (v ∷ rest) + sum_by count next) (spent + sum_by count (v ∷ rest) + sum_by count (next ++ w ∷ [])) p.0.here
+              (spent + sum_by count (v ∷ rest) + sum_by count next) (spent + sum_by count (v ∷ rest) + sum_by count (next ++ w ∷ []))
+              p.0.here
               (omega (arith, sum_by_push count next w)) c.charged;
         })
       ]
@@ -236,12 +250,15 @@ module _ (count : ℕ → ℕ) (link : ℕ → ℕ → Option ℕ) (terminal : �
       pub cutting_gone : (rows' : List (ℕ × Option ℕ)) (steps after : ℕ) → row_of rows' v ≡ Some None
           → ((q : ℕ) → q ≢ v → row_of rows' q ≡ row_of rows q)
           → ((w : ℕ) → level < top → terminal v ≡ false → Linked count link v w → first w ≡ Some (level + 1) → IsSome (row_of rows w))
-          → after ≤ steps + 2 * count v → Cutting rows gone seeds (v ∷ rest) next steps → Cutting rows' (gone ++ v ∷ []) seeds rest next after
+          → after ≤ steps + 2 * count v → Cutting rows gone seeds (v ∷ rest) next steps → Cutting rows' (gone ++ v ∷ []) seeds rest next
+          after
       cutting_gone rows' steps after here others followed le c =
           let row = c.losing.in_queue level v (queue_first level v rest next) in
           record {
-            losing = losing_gone (WithRemoved (Linked count link) flips) (Linked count link) terminal start top first b.depths (λ u x l. inl l)
-                Near rows (λ k x. Contains seeds (k, x)) (queue_at level (v ∷ rest) next) level v (queue_first level v rest next) c.losing unheld
+            losing = losing_gone (WithRemoved (Linked count link) flips) (Linked count link) terminal start top first b.depths
+                (λ u x l. inl l)
+                Near rows (λ k x. Contains seeds (k, x)) (queue_at level (v ∷ rest) next) level v (queue_first level v rest next) c.losing
+                unheld
                 rows' (queue_at level rest next) here others (queue_out level v rest next) (queue_in level v rest next)
                 (λ k q. elim q [
                   | inl p ↦ distinct_head v rest c.once_now v p.1 refl
@@ -263,7 +280,8 @@ module _ (count : ℕ → ℕ) (link : ℕ → ℕ → Option ℕ) (terminal : �
         → IsHeld (λ u x. Linked count link x u) terminal (over rows first) v level → after ≤ steps + count v
         → Cutting rows gone seeds (v ∷ rest) next steps → Cutting rows gone seeds rest next after
     cutting_held rows next steps after h le c = record {
-      losing = losing_held (WithRemoved (Linked count link) flips) (Linked count link) terminal start top first b.depths (λ u x l. inl l) Near
+      losing = losing_held (WithRemoved (Linked count link) flips) (Linked count link) terminal start top first b.depths (λ u x l. inl l)
+          Near
           rows (λ k x. Contains seeds (k, x)) (queue_at level (v ∷ rest) next) level v (queue_first level v rest next) c.losing
           (queue_at level rest next) (queue_out level v rest next) (queue_in level v rest next)
           (h.0, h.1, h.2, b.symmetric v h.0 h.3, h.4, h.5);

@@ -203,7 +203,11 @@ module _ (links : ℕ → ℕ → Type 0) (terminal : ℕ → Bool) (start top :
           | inl at ↦
               let same : level ≡ d = same_Some level d (sym low.here ∙ ap m' (sym at) ∙ e.marked) in
               inl (subst (λ (n : ℕ). queued' n x) same (subst (λ (z : ℕ). queued' level z) (sym at) new))
-          | inr apart ↦ elim (r.along x y d (record { marked = sym (low.others x apart) ∙ e.marked; below = e.below; passable = e.passable }) l) [
+          | inr apart ↦ elim (r.along x y d (record {
+            marked = sym (low.others x apart) ∙ e.marked;
+            below = e.below;
+            passable = e.passable;
+          }) l) [
             | inl q ↦ inl (enter d x q)
             | inr b ↦ inr (bound y (suc d) b)
           ]
@@ -218,7 +222,8 @@ module _ (links : ℕ → ℕ → Type 0) (terminal : ℕ → Bool) (start top :
       spent = record {
         numbers = v ∷ c.spent.numbers;
         distinct = distinct_cons v c.spent.numbers
-            (All-weaker (IsSet links terminal start top first m level) (λ (y : ℕ). v ≢ y) apart c.spent.numbers c.spent.among) c.spent.distinct;
+            (All-weaker (IsSet links terminal start top first m level) (λ (y : ℕ). v ≢ y) apart c.spent.numbers c.spent.among)
+            c.spent.distinct;
         among = All-cons (IsSet links terminal start top first m' level) v c.spent.numbers (improved, (level, low.here, omega arith))
             (All-weaker (IsSet links terminal start top first m level) (IsSet links terminal start top first m' level) kept
             c.spent.numbers c.spent.among);
@@ -287,7 +292,8 @@ module _ (links : ℕ → ℕ → Type 0) (terminal : ℕ → Bool) (start top :
       → IsCharged links terminal start top count m m 0 before (before + sum_by count next)
   charged_begun count m before next none =
       subst (λ (l : List ℕ). IsCharged links terminal start top count m m 0 before (before + sum_by count l)) (sym none)
-      (charged_fewer count m m 0 before (before + sum_by count []) before (omega arith) (charged_start links terminal start top count m 0 before))
+      (charged_fewer count m m 0 before (before + sum_by count []) before (omega arith) (charged_start links terminal start top count m 0
+      before))
 
   -- what waited for the level that follows is that level
   pub level_ended : (m : ℕ → Option ℕ) (seeds : List (ℕ × ℕ)) (level floor : ℕ) (next : List ℕ) → floor ≡ level + 1
@@ -328,9 +334,12 @@ module _ (links : ℕ → ℕ → Type 0) (terminal : ℕ → Bool) (start top :
       → next ≡ [] → IsCharged links terminal start top count first m level before (steps + sum_by count now)
       → IsCharged links terminal start top count first m (level + 1) before (steps + sum_by count slice + sum_by count next)
   charged_handed count first m level before steps now slice next same none c =
-      subst (λ (l : List ℕ). IsCharged links terminal start top count first m (level + 1) before (steps + sum_by count l + sum_by count next)) (sym same)
-      (subst (λ (l : List ℕ). IsCharged links terminal start top count first m (level + 1) before (steps + sum_by count now + sum_by count l)) (sym none)
-      (charged_later links terminal start top count first m level (level + 1) before (steps + sum_by count now + sum_by count []) (omega arith)
+      subst (λ (l : List ℕ). IsCharged links terminal start top count first m (level + 1) before
+      (steps + sum_by count l + sum_by count next)) (sym same)
+      (subst (λ (l : List ℕ). IsCharged links terminal start top count first m (level + 1) before (steps + sum_by count now + sum_by count
+      l)) (sym none)
+      (charged_later links terminal start top count first m level (level + 1) before (steps + sum_by count now + sum_by count [])
+      (omega arith)
       (charged_fewer count first m level before (steps + sum_by count now + sum_by count []) (steps + sum_by count now) (omega arith) c)))
 
   module _ (count : ℕ → ℕ) (below : ℕ → Option ℕ) (rows rows' : List (ℕ × Option ℕ)) where
@@ -340,8 +349,10 @@ module _ (links : ℕ → ℕ → Type 0) (terminal : ℕ → Bool) (start top :
         → IsCharged links terminal start top count first (over rows below) level before (owed + sum_by count queue)
         → IsCharged links terminal start top count first (over rows' below) level before (owed + sum_by count queue')
     charged_more level v queue queue' first before owed walk put c = elim put [
-      | inl p ↦ subst (λ (l : List ℕ). IsCharged links terminal start top count first (over rows' below) level before (owed + sum_by count l)) (sym p.2)
-          (subst (λ (r : List (ℕ × Option ℕ)). IsCharged links terminal start top count first (over r below) level before (owed + sum_by count queue)) (sym p.1) c)
+      | inl p ↦ subst (λ (l : List ℕ). IsCharged links terminal start top count first (over rows' below) level before
+          (owed + sum_by count l)) (sym p.2)
+          (subst (λ (r : List (ℕ × Option ℕ)). IsCharged links terminal start top count first (over r below) level before
+          (owed + sum_by count queue)) (sym p.1) c)
       | inr p ↦ charged_set (over rows below) (over rows' below) level v p.0 walk count first before (owed + sum_by count queue)
           (owed + sum_by count queue') (omega (arith, ap (sum_by count) p.1, sum_by_push count queue v)) c
     ]
@@ -353,7 +364,8 @@ module _ (links : ℕ → ℕ → Type 0) (terminal : ℕ → Bool) (start top :
         → IsCharged links terminal start top count first (over rows below) level before (owed + sum_by count queue)
         → IsCharged links terminal start top count first (over rows' below) level before (owed + sum_by count queue)
     charged_part level v queue first before owed walk put c = elim put [
-      | inl e ↦ subst (λ (r : List (ℕ × Option ℕ)). IsCharged links terminal start top count first (over r below) level before (owed + sum_by count queue)) (sym e) c
+      | inl e ↦ subst (λ (r : List (ℕ × Option ℕ)). IsCharged links terminal start top count first (over r below) level before
+          (owed + sum_by count queue)) (sym e) c
       | inr p ↦ charged_set (over rows below) (over rows' below) level v p walk count first before (owed + sum_by count queue)
           (owed + sum_by count queue) (omega arith) c
     ]
@@ -366,7 +378,8 @@ module _ (links : ℕ → ℕ → Type 0) (terminal : ℕ → Bool) (start top :
     seed_admitted level v seeds rest queue queue' is put r = elim put [
       | inl p ↦ subst (λ (l : List ℕ). IsFalling links terminal start top (over rows' below) rest level l []) (sym p.2)
           (subst (λ (o : List (ℕ × Option ℕ)). IsFalling links terminal start top (over o below) rest level queue []) (sym p.1)
-          (ready_passed (over rows below) (λ k x. Contains seeds (k, x)) (λ k x. Contains rest (k, x)) (queue_at level queue []) level v p.0.0
+          (ready_passed (over rows below) (λ k x. Contains seeds (k, x)) (λ k x. Contains rest (k, x)) (queue_at level queue []) level v
+          p.0.0
           p.0.2 p.0.1 there back r))
       | inr p ↦ subst (λ (l : List ℕ). IsFalling links terminal start top (over rows' below) rest level l []) (sym p.1)
           (ready_set (over rows below) (over rows' below) level v p.0 (r.walks v level first_seed) (λ k x. Contains seeds (k, x))
@@ -411,12 +424,14 @@ module _ (count : ℕ → ℕ) (link : ℕ → ℕ → Option ℕ) (terminal : �
       → IsFalling (Linked count link) terminal start top (over rows' first) seeds level (v ∷ rest) next'
   neighbour_offered first rows rows' next next' w l put r = elim put [
     | inl p ↦ subst (λ (q : List ℕ). IsFalling (Linked count link) terminal start top (over rows' first) seeds level (v ∷ rest) q) (sym p.2)
-        (subst (λ (o : List (ℕ × Option ℕ)). IsFalling (Linked count link) terminal start top (over o first) seeds level (v ∷ rest) next) (sym p.1) r)
+        (subst (λ (o : List (ℕ × Option ℕ)). IsFalling (Linked count link) terminal start top (over o first) seeds level (v ∷ rest) next)
+        (sym p.1) r)
     | inr p ↦ subst (λ (q : List ℕ). IsFalling (Linked count link) terminal start top (over rows' first) seeds level (v ∷ rest) q) (sym p.1)
         (ready_set (Linked count link) terminal start top (over rows first) (over rows' first) (level + 1) w p.0
         (neighbour_walk (over rows first) next w l r) (λ k x. Contains seeds (k, x)) (λ k x. Contains seeds (k, x))
         (queue_at level (v ∷ rest) next) (queue_at level (v ∷ rest) (next ++ w ∷ [])) (queue_lower level (v ∷ rest) next)
-        (λ k x h. inr h) (λ k x h. h) (next_in level w (v ∷ rest) next) (next_new level w (v ∷ rest) next) (next_out level w (v ∷ rest) next) r)
+        (λ k x h. inr h) (λ k x h. h) (next_in level w (v ∷ rest) next) (next_new level w (v ∷ rest) next)
+        (next_out level w (v ∷ rest) next) r)
   ]
 
 -- marks that are at most the level stay, and the number has one afterwards

@@ -41,9 +41,11 @@ module _ (old mid : ℕ → ℕ → Type 0) (terminal : ℕ → Bool) (start top
           over_rowed rows first u r e ∙ elim k.4 [ inl none ↦ absurd (l.lost u d (e ∙ ap Some none) f w) | inr some ↦ some ∙ sym k.1 ∙ f ]
 
   -- a seed that has a row is passed over
-  pub losing_passed : (rows : List (ℕ × Option ℕ)) (seeds seeds' queued : ℕ → ℕ → Type 0) (level v : ℕ) (r : Option ℕ) → row_of rows v ≡ Some r
+  pub losing_passed : (rows : List (ℕ × Option ℕ)) (seeds seeds' queued : ℕ → ℕ → Type 0) (level v : ℕ) (r : Option ℕ) → row_of rows v ≡
+      Some r
       → ((k x : ℕ) → seeds k x → ((k ≡ level) × (x ≡ v)) ⊎ seeds' k x) → ((k x : ℕ) → seeds' k x → seeds k x)
-      → IsLosing old mid terminal start IsNear first rows seeds queued level → IsLosing old mid terminal start IsNear first rows seeds' queued level
+      → IsLosing old mid terminal start IsNear first rows seeds queued level → IsLosing old mid terminal start IsNear first rows seeds'
+      queued level
   losing_passed rows seeds seeds' queued level v r row there back l = record {
     entered = λ k x w. l.entered k x (back k x w);
     in_queue = l.in_queue;
@@ -63,67 +65,69 @@ module _ (old mid : ℕ → ℕ → Type 0) (terminal : ℕ → Bool) (start top
   module _ (rows rows' : List (ℕ × Option ℕ)) (seeds seeds' queued queued' : ℕ → ℕ → Type 0) (level j v : ℕ) (e : Enters j v rows rows')
       (first_here : first v ≡ Some j) (above : 0 < j) (near : IsNear v)
       (there : (k x : ℕ) → seeds k x → ((k ≡ j) × (x ≡ v)) ⊎ seeds' k x) (back : (k x : ℕ) → seeds' k x → seeds k x)
-      (kept : (k x : ℕ) → queued k x → queued' k x) (new : queued' j v) (out : (k x : ℕ) → queued' k x → ((k ≡ j) × (x ≡ v)) ⊎ queued k x) where
-    marks_entered : (q : ℕ) → over rows' first q ≡ over rows first q
-    marks_entered q = elim (cases_eq q v) [
-      | inl at ↦ ap (over rows' first) at ∙ over_rowed rows' first v (Some j) e.here ∙ sym first_here ∙ sym (over_unrowed rows first v e.bare)
-          ∙ ap (over rows first) (sym at)
-      | inr apart ↦ ap (λ (o : Option (Option ℕ)). unwrap_or o (first q)) (e.others q apart)
-    ]
+      (kept : (k x : ℕ) → queued k x → queued' k x) (new : queued' j v) (out : (k x : ℕ) → queued' k x → ((k ≡ j) × (x ≡ v)) ⊎ queued k x)
+    where
+      marks_entered : (q : ℕ) → over rows' first q ≡ over rows first q
+      marks_entered q = elim (cases_eq q v) [
+        | inl at ↦ ap (over rows' first) at ∙ over_rowed rows' first v (Some j) e.here ∙ sym first_here ∙ sym
+            (over_unrowed rows first v e.bare)
+            ∙ ap (over rows first) (sym at)
+        | inr apart ↦ ap (λ (o : Option (Option ℕ)). unwrap_or o (first q)) (e.others q apart)
+      ]
 
-    -- a number that has a row is another
-    entered_apart : (x : ℕ) (r : Option ℕ) → row_of rows x ≡ Some r → x ≢ v
-    entered_apart x r row at = none-some r (sym e.bare ∙ ap (row_of rows) (sym at) ∙ row)
+      -- a number that has a row is another
+      entered_apart : (x : ℕ) (r : Option ℕ) → row_of rows x ≡ Some r → x ≢ v
+      entered_apart x r row at = none-some r (sym e.bare ∙ ap (row_of rows) (sym at) ∙ row)
 
-    row_entered : (x : ℕ) (r : Option ℕ) → row_of rows' x ≡ Some r → x ≡ v → r ≡ Some j
-    row_entered x r row at = same_Some r (Some j) (sym row ∙ ap (row_of rows') at ∙ e.here)
+      row_entered : (x : ℕ) (r : Option ℕ) → row_of rows' x ≡ Some r → x ≡ v → r ≡ Some j
+      row_entered x r row at = same_Some r (Some j) (sym row ∙ ap (row_of rows') at ∙ e.here)
 
-    pub losing_entered : IsLosing old mid terminal start IsNear first rows seeds queued level
-        → IsLosing old mid terminal start IsNear first rows' seeds' queued' level
-    losing_entered l = record { entered = entered; in_queue = in_queue; rowed = rowed; held = held; lost = lost; firm = firm }
-      where
-        entered : (k x : ℕ) → seeds' k x → (first x ≡ Some k) × (0 < k) × IsNear x
-        entered k x w = l.entered k x (back k x w)
+      pub losing_entered : IsLosing old mid terminal start IsNear first rows seeds queued level
+          → IsLosing old mid terminal start IsNear first rows' seeds' queued' level
+      losing_entered l = record { entered = entered; in_queue = in_queue; rowed = rowed; held = held; lost = lost; firm = firm }
+        where
+          entered : (k x : ℕ) → seeds' k x → (first x ≡ Some k) × (0 < k) × IsNear x
+          entered k x w = l.entered k x (back k x w)
 
-        in_queue : (k x : ℕ) → queued' k x → row_of rows' x ≡ Some (Some k)
-        in_queue k x q = elim (out k x q) [
-          | inl at ↦ ap (row_of rows') at.1 ∙ e.here ∙ ap (λ (n : ℕ). Some (Some n)) (sym at.0)
-          | inr was ↦ let row = l.in_queue k x was in e.others x (entered_apart x (Some k) row) ∙ row
-        ]
-
-        rowed : (x : ℕ) (r : Option ℕ) → row_of rows' x ≡ Some r → (k : ℕ) × (first x ≡ Some k) × (0 < k) × IsNear x × ((r ≡ None) ⊎ (r ≡
-            Some k))
-        rowed x r row = elim (cases_eq x v) [
-          | inl at ↦ (j, ap first at ∙ first_here, above, subst IsNear (sym at) near, inr (row_entered x r row at))
-          | inr apart ↦ l.rowed x r (sym (e.others x apart) ∙ row)
-        ]
-
-        held : (x k : ℕ) → row_of rows' x ≡ Some (Some k) → queued' k x ⊎ ((k ≤ level) × IsHeld mid terminal (over rows' first) x k)
-        held x k row = elim (cases_eq x v) [
-          | inl at ↦
-              let k_is : k ≡ j = same_Some k j (row_entered x (Some k) row at) in
-              inl (subst (λ (n : ℕ). queued' n x) (sym k_is) (subst (λ (y : ℕ). queued' j y) (sym at) new))
-          | inr apart ↦ elim (l.held x k (sym (e.others x apart) ∙ row)) [
-            | inl q ↦ inl (kept k x q)
-            | inr p ↦ let h = p.1 in inr (p.0, (h.0, h.1, h.2, h.3, h.4, marks_entered h.0 ∙ h.5))
+          in_queue : (k x : ℕ) → queued' k x → row_of rows' x ≡ Some (Some k)
+          in_queue k x q = elim (out k x q) [
+            | inl at ↦ ap (row_of rows') at.1 ∙ e.here ∙ ap (λ (n : ℕ). Some (Some n)) (sym at.0)
+            | inr was ↦ let row = l.in_queue k x was in e.others x (entered_apart x (Some k) row) ∙ row
           ]
-        ]
 
-        lost : (x k : ℕ) → row_of rows' x ≡ Some None → first x ≡ Some k → ¬ Walk mid terminal start k x
-        lost x k row f = elim (cases_eq x v) [
-          | inl at ↦ absurd (none-some j (row_entered x None row at))
-          | inr apart ↦ l.lost x k (sym (e.others x apart) ∙ row) f
-        ]
-
-        firm : (x u d : ℕ) → first x ≡ Some (suc d) → row_of rows' x ≡ None → old u x → terminal u ≡ false → first u ≡ Some d
-            → seeds' (suc d) x ⊎ (mid u x × (over rows' first u ≡ Some d))
-        firm x u d f none o t g = elim (cases_eq x v) [
-          | inl at ↦ absurd (none-some (Some j) (sym none ∙ ap (row_of rows') at ∙ e.here))
-          | inr apart ↦ elim (l.firm x u d f (sym (e.others x apart) ∙ none) o t g) [
-            | inl w ↦ elim (there (suc d) x w) [ inl p ↦ absurd (apart p.1) | inr w' ↦ inl w' ]
-            | inr p ↦ inr (p.0, marks_entered u ∙ p.1)
+          rowed : (x : ℕ) (r : Option ℕ) → row_of rows' x ≡ Some r → (k : ℕ) × (first x ≡ Some k) × (0 < k) × IsNear x × ((r ≡ None) ⊎ (r ≡
+              Some k))
+          rowed x r row = elim (cases_eq x v) [
+            | inl at ↦ (j, ap first at ∙ first_here, above, subst IsNear (sym at) near, inr (row_entered x r row at))
+            | inr apart ↦ l.rowed x r (sym (e.others x apart) ∙ row)
           ]
-        ]
+
+          held : (x k : ℕ) → row_of rows' x ≡ Some (Some k) → queued' k x ⊎ ((k ≤ level) × IsHeld mid terminal (over rows' first) x k)
+          held x k row = elim (cases_eq x v) [
+            | inl at ↦
+                let k_is : k ≡ j = same_Some k j (row_entered x (Some k) row at) in
+                inl (subst (λ (n : ℕ). queued' n x) (sym k_is) (subst (λ (y : ℕ). queued' j y) (sym at) new))
+            | inr apart ↦ elim (l.held x k (sym (e.others x apart) ∙ row)) [
+              | inl q ↦ inl (kept k x q)
+              | inr p ↦ let h = p.1 in inr (p.0, (h.0, h.1, h.2, h.3, h.4, marks_entered h.0 ∙ h.5))
+            ]
+          ]
+
+          lost : (x k : ℕ) → row_of rows' x ≡ Some None → first x ≡ Some k → ¬ Walk mid terminal start k x
+          lost x k row f = elim (cases_eq x v) [
+            | inl at ↦ absurd (none-some j (row_entered x None row at))
+            | inr apart ↦ l.lost x k (sym (e.others x apart) ∙ row) f
+          ]
+
+          firm : (x u d : ℕ) → first x ≡ Some (suc d) → row_of rows' x ≡ None → old u x → terminal u ≡ false → first u ≡ Some d
+              → seeds' (suc d) x ⊎ (mid u x × (over rows' first u ≡ Some d))
+          firm x u d f none o t g = elim (cases_eq x v) [
+            | inl at ↦ absurd (none-some (Some j) (sym none ∙ ap (row_of rows') at ∙ e.here))
+            | inr apart ↦ elim (l.firm x u d f (sym (e.others x apart) ∙ none) o t g) [
+              | inl w ↦ elim (there (suc d) x w) [ inl p ↦ absurd (apart p.1) | inr w' ↦ inl w' ]
+              | inr p ↦ inr (p.0, marks_entered u ∙ p.1)
+            ]
+          ]
 
   module _ (rows : List (ℕ × Option ℕ)) (seeds queued : ℕ → ℕ → Type 0) (level v : ℕ) (waited : queued level v)
       (l : IsLosing old mid terminal start IsNear first rows seeds queued level) where
@@ -231,7 +235,8 @@ module _ (old mid : ℕ → ℕ → Type 0) (terminal : ℕ → Bool) (start top
                   h.3,
                   h.4,
                   over_other h.0 (λ at.
-                      let level_is : level ≡ h.1 = same_Some level h.1 (sym (over_rowed rows first v (Some level) row_waited) ∙ ap (over rows
+                      let level_is : level ≡ h.1 = same_Some level h.1 (sym (over_rowed rows first v (Some level) row_waited) ∙ ap
+                      (over rows
                       first) (sym at) ∙ h.5) in
                       absurd (omega (arith, level_is, p.0, h.2))) ∙ h.5,
                 ),

@@ -80,7 +80,8 @@ module _ (links : ℕ → ℕ → Type 0) (terminal : ℕ → Bool) (count : ℕ
   ready_again seeds r =
       ready_left (WithRemoved links flips) links terminal start top first b.depths (λ u v l. inl l)
       (NearOneWay flips false (WithRemoved links flips) links terminal start top) rows (λ k v. Contains [] (k, v)) (queue_at level [] [])
-      level (λ k x h. no_member [] (k, x) refl h) (λ k x q. elim q [ inl p ↦ no_member [] x refl p.1 | inr p ↦ no_member [] x refl p.1 ]) c.losing gone seeds
+      level (λ k x h. no_member [] (k, x) refl h) (λ k x q. elim q [ inl p ↦ no_member [] x refl p.1 | inr p ↦ no_member [] x refl p.1 ])
+      c.losing gone seeds
       c.are_gone b.symmetric r
 
   improved_gone : (v : ℕ) → Improves links terminal start top (over rows first) v → Contains gone v

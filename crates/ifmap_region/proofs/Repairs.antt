@@ -59,6 +59,13 @@ module _ (fewer links : ℕ → ℕ → Type 0) (terminal : ℕ → Bool) (start
     ];
   }
 
+-- the growth of a repair
+module _ (new : ℕ → ℕ → Type 0) (terminal : ℕ → Bool) (flips : List Flip) (start top : ℕ) where
+  pub near_grown : (v : ℕ) → NearOneWay flips true (Mid new flips) new terminal start top v → NearFlips new flips terminal start top v
+  near_grown v (at_flip e) = at_flip (inl e)
+  near_grown v (touched t) = touched (λ same. t same.1)
+  near_grown v (beside {u = u} t l) = beside (λ same. t same.1) (elim l [ inl m ↦ inl (inl m) | inr n ↦ inr n ])
+
 -- the links of a graph where some of the added ones are hidden: of those that are not, no end has a mark
 module _ {S : Type 0} (count : ℕ → ℕ) (link : ℕ → ℕ → Option ℕ) (hidden : HashSet (ℕ × ℕ) S) where
   shown_parts : (v w : ℕ) → Linked count (λ v i. unhidden hidden v (link v i)) v w → Linked count link v w × (hides hidden v w ≡ false)
@@ -152,9 +159,34 @@ module _ {S : Type 0} (count : ℕ → ℕ) (link : ℕ → ℕ → Option ℕ) 
         | inr mid ↦ inr (shown_parts u v mid).0
       ])
 
--- the growth of a repair
-module _ (new : ℕ → ℕ → Type 0) (terminal : ℕ → Bool) (flips : List Flip) (start top : ℕ) where
-  pub near_grown : (v : ℕ) → NearOneWay flips true (Mid new flips) new terminal start top v → NearFlips new flips terminal start top v
-  near_grown v (at_flip e) = at_flip (inl e)
-  near_grown v (touched t) = touched (λ same. t same.1)
-  near_grown v (beside {u = u} t l) = beside (λ same. t same.1) (elim l [ inl m ↦ inl (inl m) | inr n ↦ inr n ])
+      module _ (symmetric : IsSymmetric (Linked count link)) where
+        -- the steps of a cut alone
+        pub spent_cutting : (before after : ℕ)
+            → (IsBeforeCut shown terminal flips start top m → IsWithin count (NearOneWay flips false (WithRemoved shown flips) shown
+            terminal
+            start top) 4 before after)
+            → IsWithin (λ v. 1 + count v) (NearFlips (Linked count link) flips terminal start top) 5 before after
+        spent_cutting before after cut =
+            spent_first count (NearFlips (Linked count link) flips terminal start top)
+            (NearOneWay flips false (WithRemoved shown flips) shown terminal start top) before after near_cut (cut (before_cut symmetric))
+
+        -- what growth is given: the marks that the cut left are the depths over the links that both graphs have
+        pub cut_left : (n : ℕ → Option ℕ) → (IsBeforeCut shown terminal flips start top m → AreDepths shown terminal start top n)
+            → AreDepths (Mid (Linked count link) flips) terminal start top n
+        cut_left n cut = after_cut n (cut (before_cut symmetric))
+
+        -- the steps of a cut and of growth
+        pub spent_repairing : (n : ℕ → Option ℕ) (before mid after : ℕ)
+            → (IsBeforeCut shown terminal flips start top m → IsWithin count (NearOneWay flips false (WithRemoved shown flips) shown
+            terminal
+            start top) 4 before mid)
+            → (IsBeforeCut shown terminal flips start top m → AreDepths shown terminal start top n)
+            → (AreDepths (Mid (Linked count link) flips) terminal start top n → IsWithin count (NearOneWay flips true (Mid (Linked count
+            link)
+            flips) (Linked count link) terminal start top) 1 mid after)
+            → IsWithin (λ v. 1 + count v) (NearFlips (Linked count link) flips terminal start top) 5 before after
+        spent_repairing n before mid after cut left grow =
+            spent_both count (NearFlips (Linked count link) flips terminal start top)
+            (NearOneWay flips false (WithRemoved shown flips) shown terminal start top)
+            (NearOneWay flips true (Mid (Linked count link) flips) (Linked count link) terminal start top) before mid after near_cut
+            (near_grown (Linked count link) terminal flips start top) (cut (before_cut symmetric)) (grow (cut_left n left))

@@ -1,5 +1,5 @@
 -- Layers: rows over the marks of a region, with the most links of a walk and the graph along which it goes.
-use Rattle.std.specs.Prelude.{◌≡◌, ℕ, suc, ◌+◌, ◌<◌, Bool, true, false, Option, Some, IsSome, List, sum_by}
+use Rattle.std.specs.Prelude.{◌≡◌, ℕ, suc, ◌+◌, ◌<◌, ◌≤◌, Bool, true, false, Option, Some, IsSome, List, sum_by}
 use Rattle.ifmap_region.specs.declared.flips.Flip.{Flip}
 use Rattle.ifmap_region.specs.declared.bases.Basis.{Basis}
 use Rattle.ifmap_region.specs.Bounds.{IsWithin}
@@ -51,6 +51,10 @@ links layer = Linked layer.count layer.link
 -- the marks of a layer
 abbrev pub marks : Layer → ℕ → Option ℕ
 marks layer = over layer.rows layer.first
+
+-- the number has a mark that is at most so much
+abbrev pub HasMarkWithin : Layer → ℕ → ℕ → Type 0
+HasMarkWithin layer v most = (k : ℕ) × (k ≤ most) × (marks layer v ≡ Some k)
 
 -- the marks are the depths over the layer's links
 abbrev pub HasDepths : Layer → ℕ → Type 0

@@ -40,7 +40,8 @@ fn lowest_level<G: LinkSource, L: Ledger>(
     ensures only { let layer = layer_of G.count G.link G.terminal basis.now rows.now.entries in
         IfSome result (λ k. (u : ℕ) × links layer number u × IsNextOf layer u k) }
     ensures least { let layer = layer_of G.count G.link G.terminal basis.now rows.now.entries in
-        (u k : ℕ) → links layer number u → IsNextOf layer u k → (m : ℕ) × (m ≤ k) × (result ≡ Some m) }
+        (u k : ℕ) → links layer number u → IsNextOf layer u k
+        → (m : ℕ) × (m ≤ k) × (result ≡ Some m) }
     ensures steps { steps.new ≤ steps.old + G.count basis.now.graph.now number }
 {
     let mut least = None;

@@ -34,7 +34,8 @@ fn is_just_below(mark: Option<u32>, level: u32) -> bool
     }
 }
 
-// Whether a neighbour that is nearer by one, and not terminal, has its mark. The look ends at the first.
+// Whether a neighbour that is nearer by one, and not terminal, has its mark. The look ends at the
+// first.
 fn is_held<G: LinkSource, L: Ledger>(
     basis: &Basis<'_, G>,
     rows: &Rows,
@@ -220,8 +221,8 @@ pub(crate) fn lose<G: LinkSource, L: Ledger>(
     ensures keeps { let layer = layer_of G.count G.link G.terminal basis.now in
         IfOk result (λ losses. (flips : List Flip) (start : ℕ) → IsUncut (layer []) flips start
         → SeedsAlong flips false (MayHoldAt (layer [])) seeds.items
-        → (level : ℕ) × IsBeingCut (layer losses.rows.entries) flips start losses.gone.items [] level
-        [] [] steps.old steps.new) }
+        → (level : ℕ) × IsBeingCut (layer losses.rows.entries) flips start losses.gone.items []
+        level [] [] steps.old steps.new) }
     ensures spent { let layer = layer_of G.count G.link G.terminal basis.now [] in
         (flips : List Flip) (start : ℕ) → IsUncut layer flips start
         → SeedsAlong flips false (MayHoldAt layer) seeds.items

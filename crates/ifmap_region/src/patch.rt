@@ -54,7 +54,8 @@ impl Patch {
     /// The new mark of a number, where the patch has one for it.
     pub fn row(&self, number: u64) -> Option<Option<u32>>
         ensures row { result ≡ row_of self.now number }
-        ensures at { IfSome result (λ mark. (i : ℕ) × (slice_get self.now i ≡ Some (number, mark))) }
+        ensures at { IfSome result (λ mark. (i : ℕ)
+            × (slice_get self.now i ≡ Some (number, mark))) }
     {
         self.rows.get(&number).copied()
     }

@@ -107,7 +107,8 @@ impl Region {
         ensures swept { (v : ℕ) → IsSome (row_of patch v)
             → row_of self.new.marks.entries v ≡ Some None → ⊥ }
         ensures others { (v : ℕ) → row_of patch v ≡ None
-            → is_some (row_of self.new.marks.entries v) ≡ is_some (row_of self.old.marks.entries v) }
+            → is_some (row_of self.new.marks.entries v)
+            ≡ is_some (row_of self.old.marks.entries v) }
     {
         let undo = self.commit_kept(patch);
         self.settle(undo);

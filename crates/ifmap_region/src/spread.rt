@@ -1,7 +1,7 @@
 //! Marks fall along links, level by level, until they are the depths.
 ghost use Rattle.std.specs.Prelude.{◌≡◌, ℕ, ◌+◌, ◌<◌, ◌≤◌, ◌^◌, ◌⊎◌, ◌∷◌, [], All, Option, Some, true, false, List, Contains, OnOk, OnErr, sum_by};
 ghost use Rattle.ifmap_region.specs.Bounds.{IsWithin};
-ghost use Rattle.ifmap_region.specs.Layers.{layer_of, links, marks, HasDepths, MayFall, Falls, IsShortened, Charges};
+ghost use Rattle.ifmap_region.specs.Layers.{layer_of, links, marks, HasMarkWithin, HasDepths, MayFall, Falls, IsShortened, Charges};
 ghost use Rattle.ifmap_region.specs.Marks.{mark_of, over, AddsMarks};
 ghost use Rattle.ifmap_region.specs.Spreading.{IsLowered, Enqueues};
 
@@ -51,7 +51,7 @@ fn offer_neighbours<G: LinkSource, L: Ledger>(
 ) -> Result<(), NoMemory>
     ensures rows { AddsMarks rows.old.entries rows.new.entries }
     ensures offered { let layer = layer_of G.count G.link G.terminal basis.now rows.new.entries in
-        OnOk result ((w : ℕ) → links layer number w → (k : ℕ) × (k ≤ next) × (marks layer w ≡ Some k)) }
+        OnOk result ((w : ℕ) → links layer number w → HasMarkWithin layer w next) }
     ensures falls { let layer = layer_of G.count G.link G.terminal basis.now in
         OnOk result ((start level : ℕ) (rest : List ℕ) (seeds : List (ℕ × ℕ))
         → next ≡ level + 1 → level < basis.now.top → G.terminal basis.now.graph.now number ≡ false
@@ -124,7 +124,8 @@ fn visit_level<G: LinkSource, L: Ledger>(
         → Falls (layer rows.old.entries) start seeds level now.now queue.old.items
         → Charges (layer rows.old.entries) start first (level + 1) before
         (steps.old + sum_by (G.count basis.now.graph.now) now.now) queue.old.items
-        → Charges (layer rows.new.entries) start first (level + 1) before steps.new queue.new.items }
+        → Charges (layer rows.new.entries) start first (level + 1) before steps.new
+        queue.new.items }
 {
     for number in now {
         visit(basis, rows, level, *number, queue, steps)?;
@@ -145,7 +146,8 @@ fn admit_seeds<G: LinkSource>(
     ensures above { OnOk result (All (λ s. level ≤ s.0) seeds.old
         → All (λ s. level < s.0) seeds.new) }
     ensures falls { let layer = layer_of G.count G.link G.terminal basis.now in
-        OnOk result ((start : ℕ) → Falls (layer rows.old.entries) start seeds.old level queue.old.items []
+        OnOk result ((start : ℕ)
+        → Falls (layer rows.old.entries) start seeds.old level queue.old.items []
         → Falls (layer rows.new.entries) start seeds.new level queue.new.items []) }
     ensures charged { let layer = layer_of G.count G.link G.terminal basis.now in
         (start before owed : ℕ) (first : ℕ → Option ℕ)

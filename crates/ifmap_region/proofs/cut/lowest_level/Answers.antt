@@ -26,7 +26,8 @@ loop-i-preserved g c =
               ),
               n,
             )));
-        least = least_more (g.G.LinkSource.link c.args.basis.now.graph.now c.args.number) c.loop-i.i given c.loop-i.least c.loop-i.invariant.least
+        least = least_more (g.G.LinkSource.link c.args.basis.now.graph.now c.args.number) c.loop-i.i given c.loop-i.least
+            c.loop-i.invariant.least
             w.next_of.result w.lesser-least.result w.in-Some.neighbour
             (sym w.in-Some.ensures.link) w.next_of.ensures.each w.lesser-least.ensures.first w.lesser-least.ensures.second;
         steps = omega (arith, c.at.ensures.step, c.loop-i.invariant.steps);

@@ -18,11 +18,14 @@ loop-i-preserved g c =
       | in-Some+then-is_mark+in_ok-enqueue w ↦
           let joined : Linked count link c.args.number w.in-Some.neighbour =
           (c.loop-i.i, omega (arith, c.loop-i-test.true, c.count-i-end.ensures), sym w.in-Some.ensures.link) in
-          let marked : first w.in-Some.neighbour ≡ Some (c.args.level + 1) = sym w.mark_in.ensures ∙ w.is_mark.ensures.yes w.if-is_mark.true in
+          let marked : first w.in-Some.neighbour ≡ Some (c.args.level + 1) = sym w.mark_in.ensures ∙ w.is_mark.ensures.yes
+          w.if-is_mark.true in
           rw (w.rows-is, w.queue-is) record {
             keeps = λ flips start before spent gone rest seeds b unheld s.
-                cutting_neighbour count link _ flips start _ first b gone c.args.level before c.args.number rest seeds rows c.loop-i.queue.items
-                (λ u d is l t m. unheld u d is l t (sym (c.loop-i.invariant.same u) ∙ m)) w.enqueue.new.rows.entries w.enqueue.new.queue.items
+                cutting_neighbour count link _ flips start _ first b gone c.args.level before c.args.number rest seeds rows
+                c.loop-i.queue.items
+                (λ u d is l t m. unheld u d is l t (sym (c.loop-i.invariant.same u) ∙ m)) w.enqueue.new.rows.entries
+                w.enqueue.new.queue.items
                 w.in-Some.neighbour spent joined marked w.in_ok-enqueue.ensures (c.loop-i.invariant.keeps flips start before spent gone rest
                 seeds b unheld s);
             same = λ x. marks_kept (c.args.level + 1) w.in-Some.neighbour rows w.enqueue.new.rows.entries c.loop-i.queue.items

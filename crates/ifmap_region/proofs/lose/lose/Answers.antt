@@ -9,7 +9,8 @@ pub loop-level-init : goal.loop-level-init
 loop-level-init g c = record {
   fits = λ some. omega arith;
   above = λ k d lt. omega arith;
-  keeps = λ flips start b s. rw (c.new.ensures.empty, c.new-2.ensures.items, c.new-next.ensures.items) (cutting_begun _ _ _ flips start _ _ b
+  keeps = λ flips start b s. rw (c.new.ensures.empty, c.new-2.ensures.items, c.new-next.ensures.items)
+      (cutting_begun _ _ _ flips start _ _ b
       c.args.seeds.items _ _ c.sort_seeds-waiting.ensures.kept c.sort_seeds-waiting.ensures.only s);
 }
 
@@ -28,7 +29,8 @@ loop-level-preserved g c =
           (λ s lt. omega (arith, lt, floor_is)) _ (c.in_ok-queue_seeds.ensures.above c.in-Some.ensures.least);
       keeps = λ flips start b s. cutting_next _ _ _ flips start _ _ _ _ _ c.in-Some.level _ _ _ _ floor_is
           (c.in_ok-look_level.ensures.keeps flips start _ _ b (cutting_handed _ _ _ flips start _ _ _ _ _ c.in-Some.level 0 _ _ _ _ _
-          c.deref.ensures.value none (c.in_ok-queue_seeds.ensures.keeps (layer_of G.count G.link G.terminal c.args.basis.now []) flips start _
+          c.deref.ensures.value none (c.in_ok-queue_seeds.ensures.keeps (layer_of G.count G.link G.terminal c.args.basis.now []) flips
+          start _
           c.loop-level.steps _ b (cutting_level _ _ _ flips start _ _ _ _ _ c.loop-level.floor c.in-Some.level _ _ _ _ now_is
           c.in-Some.ensures.rises c.in-Some.ensures.side (c.loop-level.invariant.keeps flips start b s)))));
     }

@@ -14,7 +14,8 @@ invariant-loop-level g l =
       above : All (λ s. l.floor ≤ s.0) l.waiting;
       keeps : (flips : List Flip) (start : ℕ) → IsUncut (layer []) flips start
           → SeedsAlong flips false (MayHoldAt (layer [])) l.fn.seeds.items
-          → IsBeingCut (layer l.losses.rows.entries) flips start l.losses.gone.items l.waiting l.floor l.next.items [] l.initial.steps l.steps;
+          → IsBeingCut (layer l.losses.rows.entries) flips start l.losses.gone.items l.waiting l.floor l.next.items [] l.initial.steps
+          l.steps;
     }
 
 abbrev pub decreases-loop-level : goal.decreases-loop-level

@@ -12,8 +12,10 @@ invariant-loop-i g l =
     record {
       rows : AddsMarks l.initial.rows.entries l.rows.entries;
       offered : (j w : ℕ) → j < l.i → now.link l.number j ≡ Some w → (k : ℕ) × (k ≤ l.next) × (marks now w ≡ Some k);
-      falls : (start level : ℕ) (rest : List ℕ) (seeds : List (ℕ × ℕ)) → l.next ≡ level + 1 → level < now.top → now.terminal l.number ≡ false
-          → Falls then start seeds level (l.number ∷ rest) l.initial.queue.items → Falls now start seeds level (l.number ∷ rest) l.queue.items;
+      falls : (start level : ℕ) (rest : List ℕ) (seeds : List (ℕ × ℕ)) → l.next ≡ level + 1 → level < now.top → now.terminal l.number ≡
+          false
+          → Falls then start seeds level (l.number ∷ rest) l.initial.queue.items → Falls now start seeds level (l.number ∷ rest)
+          l.queue.items;
       charged : (start level before owed : ℕ) (rest : List ℕ) (seeds : List (ℕ × ℕ)) (first : ℕ → Option ℕ) → l.next ≡ level + 1
           → level < now.top → now.terminal l.number ≡ false
           → Falls then start seeds level (l.number ∷ rest) l.initial.queue.items

@@ -31,9 +31,11 @@ loop-level-preserved g c =
       falls = λ start r. level_ended _ _ start _ _ _ c.in-Some.level _ _ floor_is
           (c.in_ok-visit_level.ensures.falls start _ (queue_handed _ _ start _ _ _ c.in-Some.level _ _ _ c.deref.ensures.value none
           (c.in_ok-admit_seeds.ensures.falls start
-          (level_begun _ _ start _ _ _ c.loop-level.floor c.in-Some.level _ _ now_is c.in-Some.ensures.side (c.loop-level.invariant.falls start r)))));
+          (level_begun _ _ start _ _ _ c.loop-level.floor c.in-Some.level _ _ now_is c.in-Some.ensures.side
+          (c.loop-level.invariant.falls start r)))));
       charged = λ start r.
-          let begun = level_begun _ _ start _ _ _ c.loop-level.floor c.in-Some.level _ _ now_is c.in-Some.ensures.side (c.loop-level.invariant.falls start r) in
+          let begun = level_begun _ _ start _ _ _ c.loop-level.floor c.in-Some.level _ _ now_is c.in-Some.ensures.side
+          (c.loop-level.invariant.falls start r) in
           charged_later _ _ start _ _ _ _ (c.in-Some.level + 1) _ _ _ (omega (arith, floor_is))
           (c.visit_level.ensures.charged start _ _ _
           (queue_handed _ _ start _ _ _ c.in-Some.level _ _ _ c.deref.ensures.value none (c.in_ok-admit_seeds.ensures.falls start begun))
@@ -46,7 +48,8 @@ loop-level-preserved g c =
 pub returns-in_err-admit_seeds-clause-charged : goal.returns-in_err-admit_seeds-clause-charged
 returns-in_err-admit_seeds-clause-charged g c start r =
     let now_is : c.swap.new.x.items ≡ c.loop-level.next.items = ap (λ v. v.items) c.swap.ensures.x_after in
-    let begun = level_begun _ _ start _ _ _ c.loop-level.floor c.in-Some.level _ _ now_is c.in-Some.ensures.side (c.loop-level.invariant.falls start r) in
+    let begun = level_begun _ _ start _ _ _ c.loop-level.floor c.in-Some.level _ _ now_is c.in-Some.ensures.side
+    (c.loop-level.invariant.falls start r) in
     spent_from _ _ start _ _ _ _ c.in-Some.level _ _
     (charged_fewer _ _ start _ _ _ _ c.in-Some.level _ c.loop-level.steps _ (omega arith)
     (c.admit_seeds.ensures.charged start _ c.loop-level.steps _ begun
@@ -57,7 +60,8 @@ pub returns-in_err-visit_level-clause-charged : goal.returns-in_err-visit_level-
 returns-in_err-visit_level-clause-charged g c start r =
     let now_is : c.swap.new.x.items ≡ c.loop-level.next.items = ap (λ v. v.items) c.swap.ensures.x_after in
     let none : c.swap.new.y.items ≡ [] = ap (λ v. v.items) c.swap.ensures.y_after ∙ c.clear.ensures.items in
-    let begun = level_begun _ _ start _ _ _ c.loop-level.floor c.in-Some.level _ _ now_is c.in-Some.ensures.side (c.loop-level.invariant.falls start r) in
+    let begun = level_begun _ _ start _ _ _ c.loop-level.floor c.in-Some.level _ _ now_is c.in-Some.ensures.side
+    (c.loop-level.invariant.falls start r) in
     spent_from _ _ start _ _ _ _ (c.in-Some.level + 1) _ _
     (charged_fewer _ _ start _ _ _ _ (c.in-Some.level + 1) _ c.visit_level.new.steps _ (omega arith)
     (c.visit_level.ensures.charged start _ _ _

@@ -14,7 +14,8 @@ invariant-loop-level g l =
       rows : AddsMarks l.initial.rows.entries l.rows.entries;
       fits : 0 < vec_len l.next → l.floor < 2 ^ 32;
       above : All (λ s. l.floor ≤ s.0) l.waiting;
-      falls : (start : ℕ) → MayFall then start (λ k v. Contains l.fn.seeds.items (k, v)) → Falls now start l.waiting l.floor l.next.items [];
+      falls : (start : ℕ) → MayFall then start (λ k v. Contains l.fn.seeds.items (k, v)) → Falls now start l.waiting l.floor l.next.items
+          [];
       charged : (start : ℕ) → MayFall then start (λ k v. Contains l.fn.seeds.items (k, v))
           → Charges now start (marks then) l.floor l.initial.steps l.steps l.next.items;
     }

@@ -32,9 +32,14 @@ returns-else-level-basis-clause-falls g c start rest seeds r =
     (queue_in c.args.level c.args.number rest _) (λ w e l. elim c.else-level-basis.branch [
       | else-level-basis-via-then-level-basis+else-not-is_terminal b ↦
           absurd (true≢false (sym b.if-not-is_terminal.false ∙ b.is_terminal.ensures ∙ e.passable))
-      | else-level-basis-via-else-level-basis b ↦ let t : c.args.level < c.args.basis.now.top = e.below in absurd (omega (arith, t, b.if-level-basis.false))
+      | else-level-basis-via-else-level-basis b ↦ let t : c.args.level < c.args.basis.now.top = e.below in absurd
+          (omega (arith, t, b.if-level-basis.false))
     ]) r
 
 pub returns-else-level-basis-clause-charged : goal.returns-else-level-basis-clause-charged
 returns-else-level-basis-clause-charged g c start before rest seeds first r ch =
-    charged_fewer _ _ start _ _ first _ _ before _ _ (omega (arith, sum_by-cons (g.G.LinkSource.count c.args.basis.now.graph.now) c.args.number rest)) ch
+    charged_fewer _ _ start _ _ first _ _ before _ _ (omega (
+      arith,
+      sum_by-cons (g.G.LinkSource.count c.args.basis.now.graph.now)
+          c.args.number rest,
+    )) ch

@@ -13,7 +13,8 @@ loop-number-preserved g c =
           (rw at at (c.loop-number.invariant.falls start seeds r));
       charged = λ start before seeds first r ch.
           c.visit.ensures.charged start before (drop (c.loop-number.number-index + 1) c.args.now.now) seeds first
-          (rw at at (c.loop-number.invariant.falls start seeds r)) (rw at at (c.loop-number.invariant.charged start before seeds first r ch));
+          (rw at at (c.loop-number.invariant.falls start seeds r)) (rw at at (c.loop-number.invariant.charged start before seeds first r
+          ch));
     }
 
 pub returns-in_err-visit-clause-charged : goal.returns-in_err-visit-clause-charged
@@ -25,7 +26,8 @@ returns-in_err-visit-clause-charged g c start before seeds first r ch =
 
 pub returns-clause-falls : goal.returns-clause-falls
 returns-clause-falls g c start seeds r =
-    rw (drop_all c.loop-number.number-index c.args.now.now (omega (arith, c.loop-number-test.false))) at (c.loop-number.invariant.falls start seeds r)
+    rw (drop_all c.loop-number.number-index c.args.now.now (omega (arith, c.loop-number-test.false))) at
+    (c.loop-number.invariant.falls start seeds r)
 
 pub returns-clause-charged : goal.returns-clause-charged
 returns-clause-charged g c start before seeds first r ch =
