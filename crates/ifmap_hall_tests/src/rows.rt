@@ -47,7 +47,8 @@ fn no_entry_goes_while_there_is_room(rt: HostRuntime) -> Result<(), Fail> {
 
 // A book with one entry, whose end is the last number.
 fn last_book(alloc: Global) -> Result<Book<Till>, NoMemory>
-    ensures book { IfOk result (λ b. IsBook ⟦<Till as Machine>⟧.next ⟦<Till as Machine>⟧.weight_of b) }
+    ensures book { IfOk result (λ book.
+        IsBook ⟦<Till as Machine>⟧.next ⟦<Till as Machine>⟧.weight_of book) }
     ensures heaviest { IfOk result (λ b. b.heaviest ≡ 600) }
 {
     let mut journal = VecDeque::new(alloc);

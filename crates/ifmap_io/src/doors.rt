@@ -37,7 +37,8 @@ pub trait Door {
     /// and else it is dropped.
     fn ended(&mut self, link: Self::Wire)
         ensures links { TakesBack (links self.old) (links self.new)
-            (seen Self.Wire.left Self.Wire.held Self.Wire.Source.faults Self.Wire.Sink.faults link) }
+            (seen Self.Wire.left Self.Wire.held Self.Wire.Source.faults Self.Wire.Sink.faults
+            link) }
         ensures told { is_some (links self.new) ≡ is_some (links self.old) }
         ensures faults { faults self.new ≡ faults self.old };
 }

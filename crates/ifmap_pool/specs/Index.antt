@@ -1,6 +1,6 @@
 -- How a pool keeps its keys: slots by number, the numbers of the empty ones, and the live numbers in the order of
 -- their keys. No public clause cites this module.
-use Rattle.std.specs.Prelude.{◌≡◌, ◌≢◌, ℕ, ◌+◌, ◌<◌, ◌≤◌, List, [], ◌∷◌, map, length, Option, Some, None, is_some, IsSome, slice_index_or, Result, Ok, Err, count_by}
+use Rattle.std.specs.Prelude.{◌≡◌, ◌≢◌, ℕ, ◌+◌, ◌<◌, ◌≤◌, List, [], ◌∷◌, map, length, Option, Some, None, is_some, IsSome, slice_index_or, slice_set, Result, Ok, Err, count_by}
 use Rattle.std.specs.Ordering.{nat_cmp}
 use Rattle.std.specs.declared.cmp.Ordering.{Ordering}
 use Rattle.std.specs.declared.cmp.Ordering.TheVariants.{Less, Equal, Greater}
@@ -29,6 +29,11 @@ module _ {K : Type 0} where
   -- the live numbers with their entries, of the slots
   unfoldable pub live_of : List (Option (Held K)) → FinMap nat_cmp (K × ℕ)
   live_of slots = from_entries (map (λ e. (e.0, entry_of e.1)) (entries_from 0 slots))
+
+  -- the count of a live number is written, and nothing else
+  abbrev pub Counts : List (Option (Held K)) → List (Option (Held K)) → ℕ → ℕ → Type 0
+  Counts old new number holds =
+      (held : Held K) → slot_at old number ≡ Some held → new ≡ slice_set old number (Some (record held { holds = holds }))
 
   -- one slot is written, and no other
   pub record Writes (old new : List (Option (Held K))) (number : ℕ) (slot : Option (Held K)) : Type 0 where

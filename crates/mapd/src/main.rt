@@ -26,7 +26,8 @@ fn main(rt: HostRuntime) -> ExitCode {
 
 // The words after the program's name. Words that are no text are of no form, as no words are.
 fn words_of(alloc: Global, args: io::Result<Args>) -> Result<Vec<String>, NoMemory>
-    ensures some { IfOk args (λ all. IfOk result (λ words. words.items ≡ drop 1 (into_iter_items all))) }
+    ensures some { IfOk args (λ all. IfOk result (λ words.
+        words.items ≡ drop 1 (into_iter_items all))) }
     ensures none { IfErr args (λ _. IfOk result (λ words. words.items ≡ [])) }
 {
     match args {
