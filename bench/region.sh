@@ -1,5 +1,6 @@
 #!/bin/sh
-# Times regions: building, and a repair after ten thousand links came elsewhere. What the program's links
+# Times regions: building, a repair after ten thousand links came elsewhere, and one after the start lost
+# its links, where all that was reached goes. What the program's links
 # are is not proved, so `rt try` interprets it: its figures tell one state of the code from another, run in
 # turn on one machine, and not how long a call takes when it is compiled.
 # Run from anywhere: sh bench/region.sh. It needs `rt`, and builds in a new folder under TMPDIR.
@@ -25,6 +26,8 @@ use std::time::Instant;
 struct Layers {
     width: u64,
     layers: u64,
+    // whether the start has no links
+    cut: bool,
 }
 
 impl LinkSource for Layers {
@@ -49,6 +52,9 @@ impl LinkSource for Layers {
             return Some(number ^ 1);
         }
         let layer = number / self.width.max(1);
+        if self.cut && (number == 0 || (layer == 1 && i == 0)) {
+            return None;
+        }
         if i < self.width {
             if layer == 0 { None } else { Some(layer.wrapping_sub(1).wrapping_mul(self.width).wrapping_add(i)) }
         } else if layer.wrapping_add(1) < self.layers {
@@ -65,7 +71,7 @@ impl LinkSource for Layers {
 
 fn time_region<R: Runtime, L: Ledger>(rt: &R, alloc: Global, width: u64, layers: u64, blank: Blank) -> io::Result<()> {
     let mut steps: Steps<L> = Steps::from_blank(blank);
-    let graph = Layers { width, layers };
+    let graph = Layers { width, layers, cut: false };
     let mut built = u128::MAX;
     for _ in 0..3 {
         let start = Instant::now(rt)?;
@@ -90,7 +96,21 @@ fn time_region<R: Runtime, L: Ledger>(rt: &R, alloc: Global, width: u64, layers:
         region.reserve(&patch).map_err(io::Error::from)?;
         region.commit(patch);
     }
-    rt.println(format_args!("{layers} layers of {width}: built in {built} us; 10000 links that come elsewhere repaired in {repaired} us"))
+    let cut = Layers { width, layers, cut: true };
+    let mut flips = Vec::new(alloc);
+    for i in 0..width {
+        flips.push(Flip { a: 0, b: width.wrapping_add(i), added: false }).map_err(io::Error::from)?;
+    }
+    let mut emptied = u128::MAX;
+    for _ in 0..3 {
+        let start = Instant::now(rt)?;
+        let patch = repair(alloc, &region, &cut, flips.as_slice(), &mut steps).map_err(io::Error::from)?;
+        emptied = emptied.min(start.elapsed(rt)?.as_micros());
+        if patch.is_empty() {
+            return Ok(());
+        }
+    }
+    rt.println(format_args!("{layers} layers of {width}: built in {built} us; 10000 links that come elsewhere repaired in {repaired} us; start cut off in {emptied} us"))
 }
 
 fn time_one<R: Runtime>(rt: &R, alloc: Global, width: u64, layers: u64) -> io::Result<()> {

@@ -12,7 +12,7 @@ use Rattle.ifmap_pool.specs.Index.{slot_at, slot_count, Writes, AreFree, IsPlace
 use Rattle.ifmap_pool.specs.declared.slots.Held.{Held}
 use Rattle.ifmap_pool.proofs.Live.{live_of-set, live_of-removed}
 use Rattle.ifmap_pool.proofs.Kept.{IsSome-from, IsIndexed-written, IsIndexed-inserted, IsIndexed-removed}
-use Rattle.ifmap_pool.proofs.Named.{same_holdings, entry_is, is_pool, absent_at}
+use Rattle.ifmap_pool.proofs.Named.{same_holdings, entry_is, is_pool, pool_kept, absent_at}
 use Rattle.ifmap_pool.proofs.Emptiness.{one_of, slot_within, written, count_written}
 
 module _ {K : Type 0} where
@@ -53,6 +53,10 @@ module _ {K : Type 0} where
 
     pub whole_now : IsPool cmp pool
     whole_now = is_pool slots pool live_is total order kept.indexed (omega (arith, kept.within, limit_is))
+
+    -- the same keys, under a limit that is no lower
+    pub whole_after : (new : Holdings K) → new.live ≡ live_of slots → limit ≤ new.limit → IsPool cmp new
+    whole_after new same le = pool_kept cmp pool new (same ∙ sym live_is) (omega (arith, le, limit_is)) whole_now
 
     -- where a key is missed there is room for it
     pub room_for_new : (key : K) (place : ℕ) → IsPlace cmp (slot_at slots) order key (Err place)

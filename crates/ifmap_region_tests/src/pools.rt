@@ -3,8 +3,7 @@ ghost use Rattle.std.specs.Prelude.{ℕ, ◌≤◌};
 ghost use Rattle.ifmap_pool.specs.Holdings.{holds_at};
 
 use ifmap_pool::Pool;
-use std::alloc::{AllocError, Global};
-use std::collections::BTreeMap;
+use std::alloc::{AllocError as NoMemory, Global};
 use std::process::Abort;
 use std::test::Fail;
 
@@ -24,9 +23,9 @@ impl<K: Ord + Drop> Counted<K> {
         }
     }
 
-    fn hold(&mut self, key: K) -> Result<u64, AllocError> {
+    fn hold(&mut self, key: K) -> Result<u64, NoMemory> {
         if self.most == u64::MAX {
-            return Err(AllocError);
+            return Err(NoMemory);
         }
         self.pool.reserve(1)?;
         let number = self.pool.hold(key);
@@ -80,33 +79,63 @@ fn texts_are_found_whatever_their_order(rt: HostRuntime) -> Result<(), Fail> {
     Ok(())
 }
 
+/// Holds or releases a key, and counts the same: whether the answers are those of the counts.
+fn hold_or_release(
+    counted: &mut Counted<u64>,
+    counts: &mut [u64],
+    step: u64,
+) -> Result<bool, NoMemory> {
+    let key = step % 1000 / 3 * 25 % 61;
+    let Some(count) = counts.get_mut(key as usize) else {
+        return Ok(false);
+    };
+    if step % 7 < 4 {
+        *count = count.saturating_add(1);
+        let number = counted.hold(key)?;
+        Ok(number < 61 && counted.pool.key_of(number).copied() == Some(key))
+    } else {
+        let held = *count > 0;
+        *count = count.saturating_sub(1);
+        Ok(counted.release(&key) == held)
+    }
+}
+
+/// Whether just the keys with a count have a number.
+fn agrees_with_counts(counted: &Counted<u64>, counts: &[u64]) -> bool {
+    for key in 0..counts.len() {
+        if counted.pool.number_of(&(key as u64)).is_some() != (counts[key] > 0) {
+            return false;
+        }
+    }
+    true
+}
+
+/// Releases each key as often as it was counted, and once more.
+fn release_all(counted: &mut Counted<u64>, counts: &[u64]) -> bool {
+    for key in 0..counts.len() {
+        for _ in 0..counts[key] {
+            if !counted.release(&(key as u64)) {
+                return false;
+            }
+        }
+        if counted.release(&(key as u64)) {
+            return false;
+        }
+    }
+    true
+}
+
 #[test]
-fn a_thousand_holds_and_releases_agree_with_a_plain_map(rt: HostRuntime) -> Result<(), Fail> {
-    let alloc = rt.alloc();
-    let mut counted: Counted<u64> = Counted::new(alloc);
-    let mut plain: BTreeMap<u64, u64> = BTreeMap::new(alloc);
+fn a_thousand_holds_and_releases_agree_with_plain_counts(rt: HostRuntime) -> Result<(), Fail> {
+    let mut counted: Counted<u64> = Counted::new(rt.alloc());
+    let mut counts = vec![in rt.alloc(); 0u64; 61]?;
     for step in 0..1000u64 {
-        let key = step / 3 * 25 % 61;
-        let holds = plain.get(&key).copied().unwrap_or(0);
-        if step % 7 < 4 {
-            let number = counted.hold(key)?;
-            assert_eq!(rt; counted.pool.key_of(number).copied(), Some(key));
-            assert!(rt; number < 61);
-            plain.insert(key, holds.saturating_add(1))?;
-        } else {
-            assert_eq!(rt; counted.release(&key), holds > 0);
-            plain.insert(key, holds.saturating_sub(1))?;
-        }
-        assert_eq!(rt;
-            counted.pool.number_of(&key).is_some(),
-            plain.get(&key).copied().unwrap_or(0) > 0
+        assert!(rt;
+            hold_or_release(&mut counted, &mut counts, step)?,
+            "at {step}"
         );
+        assert!(rt; agrees_with_counts(&counted, &counts), "at {step}");
     }
-    for key in 0..61u64 {
-        for _ in 0..plain.get(&key).copied().unwrap_or(0) {
-            assert!(rt; counted.release(&key));
-        }
-        assert!(rt; counted.pool.number_of(&key).is_none());
-    }
+    assert!(rt; release_all(&mut counted, &counts));
     Ok(())
 }

@@ -1,4 +1,4 @@
-use Rattle.std.proofs.Common.{sym, ◌∙◌, arith}
+use Rattle.std.proofs.Common.{arith}
 use Rattle.ifmap_region.specs.Marks.{mark_of}
 use Rattle.ifmap_region.proofs.Overs.{row_here, row_apart}
 use Rattle.ifmap_region.proofs.Cuts.{spent_more, cutting_held, cutting_gone}

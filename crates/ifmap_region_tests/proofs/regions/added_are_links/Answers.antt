@@ -1,4 +1,4 @@
-use Rattle.std.proofs.Common.{◌≡◌, ℕ, ◌+◌, true, List, [], ◌∷◌, ◌++◌, false, inl, inr, sym, subst, ◌∙◌, take, get_or, true≢false, vec_len}
+use Rattle.std.proofs.Common.{◌≡◌, ℕ, ◌+◌, true, List, [], ◌∷◌, ◌++◌, false, inl, inr, sym, subst, ◌∙◌, take, get_or, true≢false, length}
 use Rattle.std.proofs.lemmas.List.{take_more}
 use Rattle.ifmap_region.specs.declared.flips.Flip.{Flip}
 use Rattle.ifmap_region.specs.Flips.{IsFlipped, flipped_cases}
@@ -13,7 +13,7 @@ loop-flip-preserved c v w h =
     let f : Flip = get_or c.args.flips.now c.loop-flip.flip-index (record { a = 0; b = 0; added = false }) in
     let more : take (c.loop-flip.flip-index + 1) c.args.flips.now ≡ before ++ f ∷ [] =
     take_more c.args.flips.now c.loop-flip.flip-index (record { a = 0; b = 0; added = false }) c.loop-flip-test.true in
-    let links = Linked (λ _. vec_len c.args.graph.now.links) (far_end_at c.args.graph.now.links.items) in
+    let links = Linked (λ _. length c.args.links.now) (far_end_at c.args.links.now) in
     elim (flipped_cases before f true v w (subst (λ (l : List Flip). IsFlipped l true v w) more h)) [
       | inl old ↦ c.loop-flip.invariant v w old
       | inr p ↦ elim c.if-flip.branch [

@@ -10,4 +10,4 @@ repair-requires-clause-symmetric g c = grid_symmetric true
 pub repair-requires-clause-added : goal.repair-requires-clause-added
 repair-requires-clause-added g c v w f =
     let e = contains_one _ f.0 f.1 in
-    absurd (true≢false (sym f.2 ∙ ap (λ (x : Flip). x.added) (sym e) ∙ c.removed-first.ensures))
+    absurd (true≢false (sym f.2 ∙ ap (λ (x : Flip). x.added) (sym e) ∙ c.flip_out-first.ensures))

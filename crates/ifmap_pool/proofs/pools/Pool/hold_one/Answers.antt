@@ -14,8 +14,7 @@ place_of-requires g c = rw (c.deref.ensures.value, c.deref-2.ensures.value) c.se
 
 pub held_at-requires : goal.held_at-requires
 held_at-requires g c =
-    let is = live_is g.met.K.Ord.total c.self.inside.slots.items c.self.inside.free.items c.self.inside.order.items (vec_len
-    c.self.inside.order) c.self.inside.limit c.self.invariant.0 c.args.self.now c.self.view_is in
+    let is = live_is g.met.K.Ord.total _ _ _ _ _ c.self.invariant.0 _ c.self.view_is in
     let found = rw (c.deref.ensures.value, c.deref-2.ensures.value) at c.in-Ok.ensures in
     let number = c.index-number.result.now in
     let stands : get_or c.self.inside.order.items c.in-Ok.place 0 ≡ number =
@@ -26,8 +25,7 @@ held_at-requires g c =
 
 pub overflow_add-holds : goal.overflow_add-holds
 overflow_add-holds g c =
-    let is = live_is g.met.K.Ord.total c.self.inside.slots.items c.self.inside.free.items c.self.inside.order.items (vec_len
-    c.self.inside.order) c.self.inside.limit c.self.invariant.0 c.args.self.now c.self.view_is in
+    let is = live_is g.met.K.Ord.total _ _ _ _ _ c.self.invariant.0 _ c.self.view_is in
     let found = rw (c.deref.ensures.value, c.deref-2.ensures.value) at c.in-Ok.ensures in
     let number = c.index-number.result.now in
     let stands : get_or c.self.inside.order.items c.in-Ok.place 0 ≡ number =
@@ -47,8 +45,7 @@ set_holds-requires g c =
 
 pub invariant_of-self : goal.invariant_of-self
 invariant_of-self g c =
-    let is = live_is g.met.K.Ord.total c.self.inside.slots.items c.self.inside.free.items c.self.inside.order.items (vec_len
-    c.self.inside.order) c.self.inside.limit c.self.invariant.0 c.args.self.now c.self.view_is in
+    let is = live_is g.met.K.Ord.total _ _ _ _ _ c.self.invariant.0 _ c.self.view_is in
     let found = rw (c.deref.ensures.value, c.deref-2.ensures.value) at c.in-Ok.ensures in
     let number = c.index-number.result.now in
     let stands : get_or c.self.inside.order.items c.in-Ok.place 0 ≡ number =
@@ -58,8 +55,7 @@ invariant_of-self g c =
     let held = c.held_at.result.now in
     let at = rw c.deref-in-Ok.ensures.value at c.held_at.ensures in
     let value : Held g.row.K.Denot = record held { holds = held.holds + 1 } in (
-      kept_write g.met.K.Ord.total c.self.inside.slots.items c.self.inside.free.items c.self.inside.order.items (vec_len
-          c.self.inside.order) c.self.inside.limit c.self.invariant.0 c.args.self.now c.self.view_is number held value at refl (omega
+      kept_write g.met.K.Ord.total _ _ _ _ _ c.self.invariant.0 _ c.self.view_is number held value at refl (omega
           arith) c.set_holds.new.slots.items (c.set_holds.ensures.items held at),
       omega (arith, c.self.invariant, c.set_holds.ensures.capacity),
       omega (arith, c.self.invariant),
@@ -68,8 +64,7 @@ invariant_of-self g c =
     )
 
 pub returns-in-Ok-clause-before : goal.returns-in-Ok-clause-before
-returns-in-Ok-clause-before g c = whole_now g.met.K.Ord.total c.self.inside.slots.items c.self.inside.free.items
-    c.self.inside.order.items (vec_len c.self.inside.order) c.self.inside.limit c.self.invariant.0 c.args.self.now c.self.view_is
+returns-in-Ok-clause-before g c = whole_now g.met.K.Ord.total _ _ _ _ _ c.self.invariant.0 _ c.self.view_is
 
 pub returns-in-Ok-clause-whole : goal.returns-in-Ok-clause-whole
 returns-in-Ok-clause-whole g c =
@@ -78,8 +73,7 @@ returns-in-Ok-clause-whole g c =
 
 pub returns-in-Ok-clause-holds : goal.returns-in-Ok-clause-holds
 returns-in-Ok-clause-holds g c =
-    let is = live_is g.met.K.Ord.total c.self.inside.slots.items c.self.inside.free.items c.self.inside.order.items (vec_len
-    c.self.inside.order) c.self.inside.limit c.self.invariant.0 c.args.self.now c.self.view_is in
+    let is = live_is g.met.K.Ord.total _ _ _ _ _ c.self.invariant.0 _ c.self.view_is in
     let found = rw (c.deref.ensures.value, c.deref-2.ensures.value) at c.in-Ok.ensures in
     let number = c.index-number.result.now in
     let stands : get_or c.self.inside.order.items c.in-Ok.place 0 ≡ number =
@@ -99,8 +93,7 @@ returns-in-Ok-clause-holds g c =
     subst (λ (x : g.row.K.Denot × ℕ). seen c.set_holds.new.slots.items (vec_len c.self.inside.order) c.self.inside.limit
     ≡ record c.args.self.now { live = insert c.args.self.now.live number (x.0, x.1 + 1) })
     (entry_known c.self.inside.slots.items c.args.self.now is number held entry at there)
-    (seen_write g.met.K.Ord.total c.self.inside.slots.items c.self.inside.free.items c.self.inside.order.items (vec_len
-    c.self.inside.order) c.self.inside.limit c.self.invariant.0 c.args.self.now c.self.view_is
+    (seen_write g.met.K.Ord.total _ _ _ _ _ c.self.invariant.0 _ c.self.view_is
     number held value at refl (omega arith) c.set_holds.new.slots.items (c.set_holds.ensures.items held at)) in
     subst (λ (n : ℕ). HoldsOne g.K.Ord.cmp c.args.self.now (seen c.set_holds.new.slots.items (vec_len c.self.inside.order)
     c.self.inside.limit) n c.args.key)
@@ -109,8 +102,7 @@ returns-in-Ok-clause-holds g c =
 pub fill_slot-number-requires : goal.fill_slot-number-requires
 fill_slot-number-requires g c =
     let missing = rw (c.deref.ensures.value, c.deref-2.ensures.value) at c.in-Err.ensures in
-    let room = room_for_new g.met.K.Ord.total c.self.inside.slots.items c.self.inside.free.items c.self.inside.order.items (vec_len
-    c.self.inside.order) c.self.inside.limit c.self.invariant.0 c.args.self.now c.self.view_is c.args.key c.in-Err.place missing
+    let room = room_for_new g.met.K.Ord.total _ _ _ _ _ c.self.invariant.0 _ c.self.view_is c.args.key c.in-Err.place missing
     c.requires.room in
     record {
       free = c.self.invariant.0.free_slots;
@@ -121,20 +113,17 @@ fill_slot-number-requires g c =
 pub list_number-requires-clause-room : goal.list_number-requires-clause-room
 list_number-requires-clause-room g c =
     let missing = rw (c.deref.ensures.value, c.deref-2.ensures.value) at c.in-Err.ensures in
-    let room = room_for_new g.met.K.Ord.total c.self.inside.slots.items c.self.inside.free.items c.self.inside.order.items (vec_len
-    c.self.inside.order) c.self.inside.limit c.self.invariant.0 c.args.self.now c.self.view_is c.args.key c.in-Err.place missing
+    let room = room_for_new g.met.K.Ord.total _ _ _ _ _ c.self.invariant.0 _ c.self.view_is c.args.key c.in-Err.place missing
     c.requires.room in
     omega (arith, room, c.self.invariant.0.counted, c.self.invariant.3)
 
 pub invariant_of-self-in-Err : goal.invariant_of-self-in-Err
 invariant_of-self-in-Err g c =
     let missing = rw (c.deref.ensures.value, c.deref-2.ensures.value) at c.in-Err.ensures in
-    let room = room_for_new g.met.K.Ord.total c.self.inside.slots.items c.self.inside.free.items c.self.inside.order.items (vec_len
-    c.self.inside.order) c.self.inside.limit c.self.invariant.0 c.args.self.now c.self.view_is c.args.key c.in-Err.place missing
+    let room = room_for_new g.met.K.Ord.total _ _ _ _ _ c.self.invariant.0 _ c.self.view_is c.args.key c.in-Err.place missing
     c.requires.room in
     let value : Held g.row.K.Denot = record { key = c.args.key; holds = 1 } in (
-      kept_take g.met.K.Ord.total c.self.inside.slots.items c.self.inside.free.items c.self.inside.order.items (vec_len
-          c.self.inside.order) c.self.inside.limit c.self.invariant.0 c.args.self.now c.self.view_is
+      kept_take g.met.K.Ord.total _ _ _ _ _ c.self.invariant.0 _ c.self.view_is
           c.fill_slot-number.result c.in-Err.place value c.fill_slot-number.ensures.vacant refl room missing
           c.fill_slot-number.new.slots.items c.fill_slot-number.new.free.items c.list_number.new.order.items (vec_len
           c.list_number.new.order)
@@ -149,11 +138,9 @@ invariant_of-self-in-Err g c =
 
 pub returns-in-Err-clause-holds : goal.returns-in-Err-clause-holds
 returns-in-Err-clause-holds g c =
-    let is = live_is g.met.K.Ord.total c.self.inside.slots.items c.self.inside.free.items c.self.inside.order.items (vec_len
-    c.self.inside.order) c.self.inside.limit c.self.invariant.0 c.args.self.now c.self.view_is in
+    let is = live_is g.met.K.Ord.total _ _ _ _ _ c.self.invariant.0 _ c.self.view_is in
     let missing = rw (c.deref.ensures.value, c.deref-2.ensures.value) at c.in-Err.ensures in
-    let room = room_for_new g.met.K.Ord.total c.self.inside.slots.items c.self.inside.free.items c.self.inside.order.items (vec_len
-    c.self.inside.order) c.self.inside.limit c.self.invariant.0 c.args.self.now c.self.view_is c.args.key c.in-Err.place missing
+    let room = room_for_new g.met.K.Ord.total _ _ _ _ _ c.self.invariant.0 _ c.self.view_is c.args.key c.in-Err.place missing
     c.requires.room in
     let value : Held g.row.K.Denot = record { key = c.args.key; holds = 1 } in
     let none = absent_at c.self.inside.slots.items c.args.self.now is g.met.K.Ord.total c.self.inside.order.items
@@ -162,8 +149,7 @@ returns-in-Err-clause-holds g c =
     c.self.inside.limit) n c.args.key)
     (sym c.from-in-Err.ensures) (inr (
       none,
-      seen_take g.met.K.Ord.total c.self.inside.slots.items c.self.inside.free.items c.self.inside.order.items (vec_len
-          c.self.inside.order) c.self.inside.limit c.self.invariant.0 c.args.self.now c.self.view_is
+      seen_take g.met.K.Ord.total _ _ _ _ _ c.self.invariant.0 _ c.self.view_is
           c.fill_slot-number.result c.in-Err.place value c.fill_slot-number.ensures.vacant refl room missing
           c.fill_slot-number.new.slots.items c.fill_slot-number.new.free.items c.list_number.new.order.items (vec_len
           c.list_number.new.order)
@@ -173,8 +159,7 @@ returns-in-Err-clause-holds g c =
     ))
 
 pub returns-in-Err-clause-before : goal.returns-in-Err-clause-before
-returns-in-Err-clause-before g c = whole_now g.met.K.Ord.total c.self.inside.slots.items c.self.inside.free.items
-    c.self.inside.order.items (vec_len c.self.inside.order) c.self.inside.limit c.self.invariant.0 c.args.self.now c.self.view_is
+returns-in-Err-clause-before g c = whole_now g.met.K.Ord.total _ _ _ _ _ c.self.invariant.0 _ c.self.view_is
 
 pub returns-in-Err-clause-whole : goal.returns-in-Err-clause-whole
 returns-in-Err-clause-whole g c =

@@ -10,8 +10,7 @@ place_of-requires g c = rw (c.deref.ensures.value, c.deref-2.ensures.value) c.se
 
 pub returns-in-Ok-clause-found : goal.returns-in-Ok-clause-found
 returns-in-Ok-clause-found g c =
-    let is = live_is g.met.K.Ord.total c.self.inside.slots.items c.self.inside.free.items c.self.inside.order.items (vec_len
-    c.self.inside.order) c.self.inside.limit c.self.invariant.0 c.args.self.now c.self.view_is in
+    let is = live_is g.met.K.Ord.total _ _ _ _ _ c.self.invariant.0 _ c.self.view_is in
     let found = rw (c.deref.ensures.value, c.deref-2.ensures.value) at c.in-Ok.ensures in
     let at : get_or c.self.inside.order.items c.in-Ok.place 0 ≡ c.index.result.now =
     get_or_default c.self.inside.order.items c.in-Ok.place 0 c.index.result.now found.0 ∙ sym c.index.ensures in
@@ -22,20 +21,17 @@ returns-in-Ok-clause-found g c =
 
 pub returns-in-Ok-clause-only : goal.returns-in-Ok-clause-only
 returns-in-Ok-clause-only g c number names =
-    let is = live_is g.met.K.Ord.total c.self.inside.slots.items c.self.inside.free.items c.self.inside.order.items (vec_len
-    c.self.inside.order) c.self.inside.limit c.self.invariant.0 c.args.self.now c.self.view_is in
+    let is = live_is g.met.K.Ord.total _ _ _ _ _ c.self.invariant.0 _ c.self.view_is in
     ap Some (numbers_apart c.self.inside.slots.items c.args.self.now is g.met.K.Ord.total c.self.inside.order.items
     c.self.invariant.0.indexed
     _ _ c.args.key.now (returns-in-Ok-clause-found g c) names)
 
 pub returns-in-Ok-clause-whole : goal.returns-in-Ok-clause-whole
-returns-in-Ok-clause-whole g c = whole_now g.met.K.Ord.total c.self.inside.slots.items c.self.inside.free.items c.self.inside.order.items
-    (vec_len c.self.inside.order) c.self.inside.limit c.self.invariant.0 c.args.self.now c.self.view_is
+returns-in-Ok-clause-whole g c = whole_now g.met.K.Ord.total _ _ _ _ _ c.self.invariant.0 _ c.self.view_is
 
 pub returns-in-Err-clause-absent : goal.returns-in-Err-clause-absent
 returns-in-Err-clause-absent g c =
-    let is = live_is g.met.K.Ord.total c.self.inside.slots.items c.self.inside.free.items c.self.inside.order.items (vec_len
-    c.self.inside.order) c.self.inside.limit c.self.invariant.0 c.args.self.now c.self.view_is in
+    let is = live_is g.met.K.Ord.total _ _ _ _ _ c.self.invariant.0 _ c.self.view_is in
     let missing = rw (c.deref.ensures.value, c.deref-2.ensures.value) at c.in-Err.ensures in
     absent_at c.self.inside.slots.items c.args.self.now is g.met.K.Ord.total c.self.inside.order.items c.self.invariant.0.indexed
     c.args.key.now _ missing
@@ -44,5 +40,4 @@ pub returns-in-Err-clause-only : goal.returns-in-Err-clause-only
 returns-in-Err-clause-only g c number names = absurd (returns-in-Err-clause-absent g c number names)
 
 pub returns-in-Err-clause-whole : goal.returns-in-Err-clause-whole
-returns-in-Err-clause-whole g c = whole_now g.met.K.Ord.total c.self.inside.slots.items c.self.inside.free.items
-    c.self.inside.order.items (vec_len c.self.inside.order) c.self.inside.limit c.self.invariant.0 c.args.self.now c.self.view_is
+returns-in-Err-clause-whole g c = whole_now g.met.K.Ord.total _ _ _ _ _ c.self.invariant.0 _ c.self.view_is
