@@ -11,36 +11,36 @@ returns-in_err-hidden-clause-steps g c d = within_nothing _ _ _ _
 pub returns-in_err-rows-clause-steps : goal.returns-in_err-rows-clause-steps
 returns-in_err-rows-clause-steps g c d =
     let h = c.in_ok-hidden.ensures in
-    let start = c.args.region.now.start in
-    spent_cutting _ _ c.in_ok-hidden.hidden _ _ start _ _ h.only h.each h.turned d c.requires.symmetric _ _ (c.cut.ensures.steps start)
+    let from = c.args.region.now.start in
+    spent_cutting _ _ c.in_ok-hidden.hidden _ _ from _ _ h.only h.each h.turned d c.requires.symmetric _ _ (c.cut.ensures.steps from)
 
 pub returns-in_err-grow-clause-steps : goal.returns-in_err-grow-clause-steps
 returns-in_err-grow-clause-steps g c d =
     let h = c.in_ok-hidden.ensures in
-    let start = c.args.region.now.start in
-    spent_repairing _ _ c.in_ok-hidden.hidden _ _ start _ _ h.only h.each h.turned d c.requires.symmetric _ _ _ _ (c.cut.ensures.steps start)
-    (c.in_ok-rows.ensures.depths start) (c.grow.ensures.steps start)
+    let from = c.args.region.now.start in
+    spent_repairing _ _ c.in_ok-hidden.hidden _ _ from _ _ h.only h.each h.turned d c.requires.symmetric _ _ _ _ (c.cut.ensures.steps from)
+    (c.in_ok-rows.ensures.depths from) (c.grow.ensures.steps from)
 
 pub returns-in_err-rows-2-clause-steps : goal.returns-in_err-rows-2-clause-steps
 returns-in_err-rows-2-clause-steps g c d =
     let h = c.in_ok-hidden.ensures in
-    let start = c.args.region.now.start in
-    spent_repairing _ _ c.in_ok-hidden.hidden _ _ start _ _ h.only h.each h.turned d c.requires.symmetric _ _ _ _ (c.cut.ensures.steps start)
-    (c.in_ok-rows.ensures.depths start) (c.grow.ensures.steps start)
+    let from = c.args.region.now.start in
+    spent_repairing _ _ c.in_ok-hidden.hidden _ _ from _ _ h.only h.each h.turned d c.requires.symmetric _ _ _ _ (c.cut.ensures.steps from)
+    (c.in_ok-rows.ensures.depths from) (c.grow.ensures.steps from)
 
 pub returns-clause-steps : goal.returns-clause-steps
 returns-clause-steps g c d =
     let h = c.in_ok-hidden.ensures in
-    let start = c.args.region.now.start in
-    spent_repairing _ _ c.in_ok-hidden.hidden _ _ start _ _ h.only h.each h.turned d c.requires.symmetric _ _ _ _ (c.cut.ensures.steps start)
-    (c.in_ok-rows.ensures.depths start) (c.grow.ensures.steps start)
+    let from = c.args.region.now.start in
+    spent_repairing _ _ c.in_ok-hidden.hidden _ _ from _ _ h.only h.each h.turned d c.requires.symmetric _ _ _ _ (c.cut.ensures.steps from)
+    (c.in_ok-rows.ensures.depths from) (c.grow.ensures.steps from)
 
 pub returns-clause-depths : goal.returns-clause-depths
 returns-clause-depths g c d =
     let h = c.in_ok-hidden.ensures in
-    let start = c.args.region.now.start in
+    let from = c.args.region.now.start in
     let below = mark_of c.args.region.now.marks.entries in
-    depths_same _ _ start _ (over c.grow.new.rows.entries below) _
+    depths_same _ _ from _ (over c.grow.new.rows.entries below) _
     (over_differing c.grow.new.rows.entries c.args.region.now.marks.entries _ c.in_ok-rows-2.ensures.only c.in_ok-rows-2.ensures.each)
-    (c.in_ok-grow.ensures.depths start
-    (cut_left _ _ c.in_ok-hidden.hidden _ _ start _ _ h.only h.each h.turned d c.requires.symmetric _ (c.in_ok-rows.ensures.depths start)))
+    (c.in_ok-grow.ensures.depths from
+    (cut_left _ _ c.in_ok-hidden.hidden _ _ from _ _ h.only h.each h.turned d c.requires.symmetric _ (c.in_ok-rows.ensures.depths from)))
