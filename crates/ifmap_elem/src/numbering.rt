@@ -172,5 +172,5 @@ impl Prefixes {
 fn is_none(space: &Text) -> bool
     ensures { IsTrue result ↔ (space.now ≡ []) }
 {
-    space.0.as_bytes().is_empty()
+    space.is_empty()
 }

@@ -37,7 +37,7 @@ pub fn written(alloc: Global, element: &Element, spaces: &Many<Text>) -> Result<
     ensures spelled { IsFit element.now → AllByRecursion IsDeclarable spaces.now →
         IfOk result (λ bytes. Spells bytes (written_reading element.now spaces.now)) }
 {
-    print_root(alloc, element, &spaces.0)
+    print_root(alloc, element, spaces.as_slice())
 }
 
 fn print_root(alloc: Global, element: &Element, spaces: &[Text]) -> Result<Many<u8>, NoMemory>
@@ -103,12 +103,12 @@ fn write_content(
         prefix.now ≡ lookup (bytes_eq name.now.space) (name_prefixes final)) →
         AddsContent name.now children.now prefixes.old prefixes.new out.old.items out.new.items) }
 {
-    if children.0.is_empty() {
+    if children.is_empty() {
         out.extend_from_slice(b"/>")?;
         return Ok(());
     }
     out.extend_from_slice(b">")?;
-    for child in &children.0 {
+    for child in children.as_slice() {
         write_child(alloc, prefixes, child, out)?;
     }
     out.extend_from_slice(b"</")?;
@@ -133,7 +133,7 @@ fn write_child(
             Ok(())
         }
         Child::Text(text) => {
-            write_escaped(Place::Content, text.0.as_bytes(), out)?;
+            write_escaped(Place::Content, text.as_bytes(), out)?;
             Ok(())
         }
     }
@@ -149,8 +149,8 @@ fn write_attributes(
         AddsAttributes (sort_attributes attributes.now) prefixes.old prefixes.new
         out.old.items out.new.items) }
 {
-    if are_sorted(&attributes.0) {
-        return write_each(alloc, prefixes, &attributes.0, out);
+    if are_sorted(attributes.as_slice()) {
+        return write_each(alloc, prefixes, attributes.as_slice(), out);
     }
     let order = attributes_in_order(alloc, attributes)?;
     for attribute in &order {
@@ -188,7 +188,7 @@ fn write_attribute(
     out.extend_from_slice(b" ")?;
     write_new_name(alloc, prefixes, &attribute.name, out)?;
     out.extend_from_slice(b"=\"")?;
-    write_escaped(Place::Value, attribute.value.0.as_bytes(), out)?;
+    write_escaped(Place::Value, attribute.value.as_bytes(), out)?;
     out.extend_from_slice(b"\"")?;
     Ok(())
 }
@@ -219,7 +219,7 @@ fn write_name(prefix: &Option<Prefix>, local: &Text, out: &mut Vec<u8>) -> Resul
         prefix.write(out)?;
         out.extend_from_slice(b":")?;
     }
-    out.extend_from_slice(local.0.as_bytes())?;
+    out.extend_from_slice(local.as_bytes())?;
     Ok(())
 }
 
@@ -246,7 +246,7 @@ fn write_declaration(
     out.extend_from_slice(b" xmlns:")?;
     write_numbered(letter, number, out)?;
     out.extend_from_slice(b"=\"")?;
-    write_escaped(Place::Value, space.0.as_bytes(), out)?;
+    write_escaped(Place::Value, space.as_bytes(), out)?;
     out.extend_from_slice(b"\"")?;
     Ok(())
 }
