@@ -35,6 +35,6 @@ pub fn end_tag_length(prefix: &Text, local: &Text, bytes: &[u8]) -> Option<usize
     ensures taken { IfSome result (λ n. TakesEndTag prefix.now local.now bytes.now (drop n bytes.now)) }
     ensures length { IfSome result (λ n. (1 ≤ n) × (n ≤ length bytes.now)) }
 {
-    let rest = after_end_tag(prefix.0.as_bytes(), local.0.as_bytes(), bytes)?;
+    let rest = after_end_tag(prefix.as_bytes(), local.as_bytes(), bytes)?;
     Some(bytes.len() - rest.len())
 }
