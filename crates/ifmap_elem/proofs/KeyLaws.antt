@@ -1,5 +1,6 @@
 -- Keys are one where their bytes are, whatever their words; and what putting a new namespace into the printer's map makes.
-use Rattle.std.proofs.Common.{◌≡◌, ◌≢◌, ℕ, zero, suc, ◌+◌, List, [], ◌∷◌, ◌++◌, length, map, get_or, true, false, cond, Option, Some, None, Bor, refl, ap, sym, ◌∙◌, subst, inl, inr}
+use Rattle.std.proofs.Common.{◌≡◌, ◌≢◌, ℕ, zero, suc, ◌+◌, List, [], ◌∷◌, ◌++◌, length, map, get_or, true, false, cond, Option, Some}
+use Rattle.std.proofs.Common.{None, Bor, refl, ap, sym, ◌∙◌, subst, inl, inr}
 use Rattle.std.proofs.lemmas.Bool.{cases_Bool}
 use Rattle.std.specs.declared.cmp.Ordering.{Ordering}
 use Rattle.std.specs.declared.cmp.Ordering.TheVariants.{Less, Equal, Greater}
@@ -73,7 +74,8 @@ none_of : {X : Type 0} (o : Option X) → ((x : X) → o ≡ Some x → ⊥) →
 none_of None h = refl
 none_of (Some x) h = absurd (h x refl)
 
-pub placed : (old new : List ℕ → Option (List ℕ)) (before : Texts) (first middle after : Places) (s : Bor (List ℕ)) (key label : List ℕ) (found : Option (List ℕ)) (count : ℕ)
+pub placed : (old new : List ℕ → Option (List ℕ)) (before : Texts) (first middle after : Places) (s : Bor (List ℕ)) (key label : List ℕ)
+    (found : Option (List ℕ)) (count : ℕ)
     → s.now ≢ [] → bytes_of first ≡ before
     → ((q : List ℕ) → old q ≡ lookup (bytes_eq q) (name_prefixes (bytes_of first)))
     → lookup (bytes_eq []) (name_prefixes (bytes_of first)) ≡ None

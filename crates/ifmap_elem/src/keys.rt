@@ -10,9 +10,8 @@ use std::cmp::Ordering;
 use std::hash::{FoldHasher, Hasher};
 use std::marker::Model;
 
-// A namespace, and a word that mixes its bytes. Keys are compared by the word first, so that the
-// bytes are looked at only where the words are one: few comparisons, however the namespaces were chosen,
-// read more than a word.
+// A namespace, and a word that mixes its bytes. Keys are compared by the word first, and by the bytes
+// where the words are one: namespaces that were chosen to have one word cost no more than texts do.
 #[derive(Drop)]
 pub(crate) struct Key<'a> {
     word: u64,

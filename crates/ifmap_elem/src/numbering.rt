@@ -124,7 +124,8 @@ impl<'a> Prefixes<'a> {
 
     // The prefix of a namespace that is that of the last name; none of another.
     fn of_last(&self, space: &[u8]) -> Option<Prefix>
-        ensures { IfSome result (λ p. lookup (bytes_eq space.now) (name_prefixes self.now) ≡ Some p) }
+        ensures { IfSome result (λ p.
+            lookup (bytes_eq space.now) (name_prefixes self.now) ≡ Some p) }
     {
         if space == self.last {
             Some(self.last_prefix.copy())
