@@ -1,5 +1,6 @@
 pub mod EscapeLaws
 pub mod Fronting
+pub mod KeyLaws
 pub mod NumberLaws
 pub mod PieceLaws
 pub mod PrintedLaws

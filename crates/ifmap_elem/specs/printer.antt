@@ -1,3 +1,4 @@
+pub mod Keys
 pub mod Occurrences
 pub mod Pieces
 pub mod Plain

@@ -32,7 +32,7 @@ impl Name {
         ensures { IfOk result (λ name. name ≡ bare_name local.now) }
     {
         Ok(Name {
-            space: Text(String::new(alloc)),
+            space: Text::new(alloc),
             local: Text::from_str(alloc, local)?,
         })
     }
@@ -41,7 +41,7 @@ impl Name {
     pub fn is_bare(&self, local: &str) -> bool
         ensures { result ≡ is_bare local.now self.now }
     {
-        self.space.0.is_empty() && self.local.0.as_str() == local
+        self.space.is_empty() && self.local.as_str() == local
     }
 }
 

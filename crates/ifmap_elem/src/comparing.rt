@@ -37,18 +37,18 @@ fn same_element(one: &Element, other: &Element) -> bool
 {
     one.name.equals(&other.name)
         && same_attributes(&one.attributes, &other.attributes)
-        && same_children(&one.children, &other.children)
+        && same_children(one.children.as_slice(), other.children.as_slice())
 }
 
 #[cycle(same)]
-fn same_children(one: &Many<Child>, other: &Many<Child>) -> bool
+fn same_children(one: &[Child], other: &[Child]) -> bool
     ensures { IsTrue result ↔ (map arrange_child one.now ≡ map arrange_child other.now) }
 {
-    if one.0.len() != other.0.len() {
+    if one.len() != other.len() {
         return false;
     }
-    for i in 0..one.0.len() {
-        if !same_child(&one.0[i], &other.0[i]) {
+    for i in 0..one.len() {
+        if !same_child(&one[i], &other[i]) {
             return false;
         }
     }
@@ -58,7 +58,7 @@ fn same_children(one: &Many<Child>, other: &Many<Child>) -> bool
 fn same_attributes(one: &Many<Attribute>, other: &Many<Attribute>) -> bool
     ensures { IsTrue result ↔ (sort_attributes one.now ≡ sort_attributes other.now) }
 {
-    one.equals(other) || have_same_members(&one.0, &other.0)
+    one.equals(other) || have_same_members(one.as_slice(), other.as_slice())
 }
 
 // Whether both have the same attributes, each as often.

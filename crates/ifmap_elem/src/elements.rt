@@ -83,7 +83,7 @@ fn copy_element(alloc: Global, element: &Element) -> Result<Element, NoMemory>
 {
     let name = element.name.copy(alloc)?;
     let attributes = element.attributes.copy(alloc)?;
-    let children = copy_children(alloc, &element.children)?;
+    let children = copy_children(alloc, element.children.as_slice())?;
     Ok(Element {
         name,
         attributes,
@@ -92,11 +92,11 @@ fn copy_element(alloc: Global, element: &Element) -> Result<Element, NoMemory>
 }
 
 #[cycle(copying)]
-fn copy_children(alloc: Global, children: &Many<Child>) -> Result<Many<Child>, NoMemory>
+fn copy_children(alloc: Global, children: &[Child]) -> Result<Many<Child>, NoMemory>
     ensures { IfOk result (λ made. made ≡ children.now) }
 {
-    let mut made = Vec::with_capacity(alloc, children.0.len())?;
-    for child in &children.0 {
+    let mut made = Vec::with_capacity(alloc, children.len())?;
+    for child in children {
         made.push(copy_child(alloc, child)?)?;
     }
     Ok(Many(made))

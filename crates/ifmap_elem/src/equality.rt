@@ -32,7 +32,7 @@ impl Equals for Attribute {
 
 impl<T: Equals> Equals for Many<T> {
     fn equals(&self, other: &Many<T>) -> bool {
-        members_equal(&self.0, &other.0)
+        members_equal(self.as_slice(), other.as_slice())
     }
 }
 
@@ -79,18 +79,18 @@ fn elements_are_one(one: &Element, other: &Element) -> bool
 {
     one.name.equals(&other.name)
         && one.attributes.equals(&other.attributes)
-        && child_lists_are_one(&one.children, &other.children)
+        && child_lists_are_one(one.children.as_slice(), other.children.as_slice())
 }
 
 #[cycle(equal)]
-fn child_lists_are_one(one: &Many<Child>, other: &Many<Child>) -> bool
+fn child_lists_are_one(one: &[Child], other: &[Child]) -> bool
     ensures { IsTrue result ↔ (one.now ≡ other.now) }
 {
-    if one.0.len() != other.0.len() {
+    if one.len() != other.len() {
         return false;
     }
-    for i in 0..one.0.len() {
-        if !children_are_one(&one.0[i], &other.0[i]) {
+    for i in 0..one.len() {
+        if !children_are_one(&one[i], &other[i]) {
             return false;
         }
     }

@@ -9,6 +9,7 @@ pub mod copying;
 pub mod elements;
 pub mod equality;
 mod escaping;
+mod keys;
 pub mod laws;
 pub mod lists;
 mod numbering;

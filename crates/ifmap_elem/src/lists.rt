@@ -1,5 +1,8 @@
 //! Lists.
-ghost use Rattle.std.specs.Prelude.{◌≡◌, ◌↔◌, [], length, IfOk, IsTrue};
+ghost use Rattle.std.specs.Prelude.{◌≡◌, ◌↔◌, ◌++◌, ◌∷◌, ◌<◌, ◌^◌, ◌-◌, [], length, slice_get, IfOk, IsTrue, OnErr, OnOk};
+ghost use Rattle.std.specs.Iterator.Adapters.{IterYieldsInOrder};
+ghost use Rattle.std.specs.Option.{option_copied};
+ghost use Rattle.std.specs.Slice.Iter.{iter_rest};
 ghost use Rattle.std.specs.Cmp.Lexicographic.{lists_agrees, lists_po, lists_ties, lists_total, pointwise, slice_cmp, slice_partial_cmp};
 ghost use Rattle.std.specs.Cmp.Rules.{comparing};
 ghost use Rattle.std.proofs.Common.{rules};
@@ -8,6 +11,7 @@ use crate::copying::Copied;
 use std::alloc::{AllocError as NoMemory, Global};
 use std::cmp::Ordering;
 use std::marker::Model;
+use std::slice::Iter;
 
 /// A vector, which contracts see as the list of its members. A type may hold itself through it, as
 /// an element holds elements.
@@ -26,6 +30,13 @@ impl<T> Model for Many<T> {
 }
 
 impl<T> Many<T> {
+    /// No members.
+    pub fn new(alloc: Global) -> Many<T>
+        ensures { result ≡ [] }
+    {
+        Many(Vec::new(alloc))
+    }
+
     /// The members, in order.
     pub fn as_slice(&self) -> &[T]
         ensures { result.now ≡ self.now }
@@ -45,6 +56,41 @@ impl<T> Many<T> {
         ensures { IsTrue result ↔ (self.now ≡ []) }
     {
         self.0.is_empty()
+    }
+
+    /// The members, one after another.
+    pub fn iter(&self) -> Iter<'_, T>
+        ensures rest { iter_rest result ≡ self.now }
+        ensures len { length (iter_rest result) ≡ length self.now }
+        ensures bound { length (iter_rest result) < 2 ^ 64 }
+        ensures runs { IterYieldsInOrder T }
+    {
+        self.0.iter()
+    }
+
+    /// The first member, if there is one.
+    pub fn first(&self) -> Option<&T>
+        ensures { option_copied result ≡ slice_get self.now 0 }
+    {
+        self.0.first()
+    }
+
+    /// The last member, if there is one.
+    pub fn last(&self) -> Option<&T>
+        ensures { option_copied result ≡ slice_get self.now (length self.now - 1) }
+    {
+        self.0.last()
+    }
+
+    /// Puts a member after the others. The one error is want of memory, and leaves the list as it was.
+    pub fn push(&mut self, member: T) -> Result<(), NoMemory>
+    where
+        T: Drop,
+        ensures pushed { OnOk result (self.new ≡ self.old ++ member ∷ []) }
+        ensures unchanged { OnErr result (self.new ≡ self.old) }
+    {
+        self.0.push(member)?;
+        Ok(())
     }
 }
 

@@ -1,16 +1,20 @@
 //! The prefixes of an element's namespaces, numbered by first occurrence.
-ghost use Rattle.std.specs.Prelude.{◌≡◌, ◌≢◌, ◌↔◌, ◌∷◌, [], ◌++◌, ◌<◌, None, Some, IfOk, OnOk, IsTrue, codes};
+ghost use Rattle.std.specs.Prelude.{◌≡◌, ◌≢◌, ◌∷◌, [], ◌++◌, ◌<◌, None, Some, IfOk, IfSome, OnErr, OnOk, codes, map};
+ghost use Rattle.std.specs.BTreeMap.{IsUnchanged, Updates, get};
 ghost use Rattle.ifmap_lemmas.specs.Numerals.{numeral};
 ghost use Rattle.std.specs.Map.{lookup};
+ghost use Rattle.std.specs.Option.{unwrap_or};
 ghost use Rattle.std.specs.Str.{bytes_eq};
 ghost use Rattle.ifmap_elem.specs.Namespaces.{name_prefixes};
+ghost use Rattle.ifmap_elem.specs.printer.Keys.{key_order};
 ghost use Rattle.ifmap_elem.specs.printer.Pieces.{AddsSpaces, IsFront, IsNumbered};
 
-use crate::copying::Copied;
+use crate::keys::Key;
 use crate::texts::Text;
 use itoa::Buffer;
 use std::alloc::{AllocError as NoMemory, Global};
 use std::collections::BTreeMap;
+use std::collections::btree_map::Entry;
 use std::marker::Model;
 
 const XML_SPACE: &str = "http://www.w3.org/XML/1998/namespace";
@@ -70,50 +74,63 @@ pub(crate) fn write_numbered(letter: &str, number: usize, out: &mut Vec<u8>) -> 
     Ok(())
 }
 
-// The namespaces that were met, in order, and the prefix of each.
+// The namespaces that were met, in order, and the prefix of each. That of the last name is at hand,
+// since the next name is mostly of the same namespace.
 #[derive(Drop)]
-pub(crate) struct Prefixes {
-    order: Vec<Text>,
-    labels: BTreeMap<Text, Prefix>,
+pub(crate) struct Prefixes<'a> {
+    order: Vec<&'a Text>,
+    labels: BTreeMap<Key<'a>, Prefix>,
+    last: &'a [u8],
+    last_prefix: Prefix,
 }
 
-impl Model for Prefixes {
-    ghost use Rattle.std.specs.Prelude.{◌≡◌, List, ℕ, [], None};
-    ghost use Rattle.std.specs.Ordering.{nat_cmp};
-    ghost use Rattle.std.specs.Cmp.Lexicographic.{slice_cmp};
+impl<'a> Model for Prefixes<'a> {
+    ghost use Rattle.std.specs.Prelude.{◌≡◌, List, ℕ, [], None, Some, map};
     ghost use Rattle.std.specs.BTreeMap.{get};
     ghost use Rattle.std.specs.Map.{lookup};
     ghost use Rattle.std.specs.Str.{bytes_eq};
     ghost use Rattle.ifmap_elem.specs.Namespaces.{name_prefixes};
+    ghost use Rattle.ifmap_elem.specs.printer.Keys.{key_order};
 
     ghost Value = { List (List ℕ) };
 
-    ghost view = { λ p. p.order.items };
+    ghost view = { λ p. map (λ s. s.now) p.order.items };
 
     ghost invariant = { λ p.
-        ((space : List ℕ) → get (slice_cmp nat_cmp) p.labels space ≡
-        lookup (bytes_eq space) (name_prefixes p.order.items))
-        × (lookup (bytes_eq []) (name_prefixes p.order.items) ≡ None) };
+        ((space : List ℕ) → get key_order p.labels space ≡
+        lookup (bytes_eq space) (name_prefixes (map (λ s. s.now) p.order.items)))
+        × (lookup (bytes_eq []) (name_prefixes (map (λ s. s.now) p.order.items)) ≡ None)
+        × (lookup (bytes_eq p.last.now) (name_prefixes (map (λ s. s.now) p.order.items)) ≡
+        Some p.last_prefix) };
 }
 
-impl Prefixes {
-    pub(crate) fn new(alloc: Global) -> Result<Prefixes, NoMemory>
+impl<'a> Prefixes<'a> {
+    pub(crate) fn new(alloc: Global) -> Result<Prefixes<'a>, NoMemory>
         ensures { IfOk result (λ prefixes. prefixes ≡ []) }
     {
         let mut labels = BTreeMap::new(alloc);
-        let space = Text::from_str(alloc, XML_SPACE)?;
-        labels.insert(space, Prefix::xml())?;
+        let last = XML_SPACE.as_bytes();
+        let key = Key::new(last);
+        let xml = Prefix::xml();
+        labels.insert(key, xml.copy())?;
         let order = Vec::new(alloc);
-        Ok(Prefixes { order, labels })
+        Ok(Prefixes {
+            order,
+            labels,
+            last,
+            last_prefix: xml,
+        })
     }
 
-    // The prefix of a namespace, where it has one.
-    fn of_space(&self, space: &Text) -> Option<Prefix>
-        ensures { result ≡ lookup (bytes_eq space.now) (name_prefixes self.now) }
+    // The prefix of a namespace that is that of the last name; none of another.
+    fn of_last(&self, space: &[u8]) -> Option<Prefix>
+        ensures { IfSome result (λ p.
+            lookup (bytes_eq space.now) (name_prefixes self.now) ≡ Some p) }
     {
-        match self.labels.get(space) {
-            Some(prefix) => Some(prefix.copy()),
-            None => None,
+        if space == self.last {
+            Some(self.last_prefix.copy())
+        } else {
+            None
         }
     }
 
@@ -126,51 +143,72 @@ impl Prefixes {
     }
 
     // The namespaces, in the order of their numbers.
-    pub(crate) fn spaces(&self) -> &[Text]
-        ensures all { result.now ≡ self.now }
+    pub(crate) fn spaces(&self) -> &[&'a Text]
+        ensures all { map (λ s. s.now) result.now ≡ self.now }
         ensures none_bare { lookup (bytes_eq []) (name_prefixes self.now) ≡ None }
     {
         &self.order
     }
 
     // The prefix of a namespace, which is numbered unless it has a prefix or is the lack of one.
-    pub(crate) fn number(&mut self, alloc: Global, space: &Text) -> Result<Option<Prefix>, NoMemory>
+    pub(crate) fn number(&mut self, space: &'a Text) -> Result<Option<Prefix>, NoMemory>
         ensures added { OnOk result (AddsSpaces self.old (space.now ∷ []) self.new) }
         ensures behind { OnOk result (IsFront self.old self.new) }
         ensures numbered { OnOk result (IsNumbered self.new space.now) }
         ensures prefix { IfOk result (λ prefix.
             prefix ≡ lookup (bytes_eq space.now) (name_prefixes self.new)) }
     {
-        if is_none(space) {
+        if space.is_empty() {
             return Ok(self.of_none());
         }
-        if let Some(prefix) = self.of_space(space) {
+        let bytes = space.as_bytes();
+        if let Some(prefix) = self.of_last(bytes) {
             return Ok(Some(prefix));
         }
-        let prefix = self.add_new(alloc, space)?;
+        let prefix = self.number_named(space)?;
         Ok(Some(prefix))
     }
 
-    fn add_new(&mut self, alloc: Global, space: &Text) -> Result<Prefix, NoMemory>
+    fn number_named(&mut self, space: &'a Text) -> Result<Prefix, NoMemory>
         requires some { space.now ≢ [] }
-        requires new { lookup (bytes_eq space.now) (name_prefixes self.old) ≡ None }
-        ensures added { OnOk result (self.new ≡ self.old ++ space.now ∷ []) }
+        ensures added { OnOk result (AddsSpaces self.old (space.now ∷ []) self.new) }
+        ensures behind { OnOk result (IsFront self.old self.new) }
+        ensures numbered { OnOk result (IsNumbered self.new space.now) }
         ensures prefix { IfOk result (λ prefix.
             Some prefix ≡ lookup (bytes_eq space.now) (name_prefixes self.new)) }
     {
-        let label = Prefix::of_number(self.order.len() + 1);
-        let key = space.copy(alloc)?;
-        let listed = space.copy(alloc)?;
+        let next = Prefix::of_number(self.order.len() + 1);
         self.order.reserve(1)?;
-        self.labels.insert(key, label.copy())?;
-        self.order.push_reserved(listed);
-        Ok(label)
+        let bytes = space.as_bytes();
+        let key = Key::new(bytes);
+        if let Some(prefix) = label_of(&mut self.labels, key, next.copy())? {
+            self.last = bytes;
+            self.last_prefix = prefix.copy();
+            return Ok(prefix);
+        }
+        self.order.push_reserved(space);
+        self.last = bytes;
+        self.last_prefix = next.copy();
+        Ok(next)
     }
 }
 
-// Whether this is the lack of a namespace.
-fn is_none(space: &Text) -> bool
-    ensures { IsTrue result ↔ (space.now ≡ []) }
+// The prefix that a namespace has. One that has none is given this one, for the next time.
+fn label_of<'a>(
+    labels: &mut BTreeMap<Key<'a>, Prefix>,
+    key: Key<'a>,
+    next: Prefix,
+) -> Result<Option<Prefix>, NoMemory>
+    ensures found { IfOk result (λ label. label ≡ get key_order labels.old key.entry) }
+    ensures put { IfOk result (λ label. Updates key_order labels.old labels.new key.entry
+        (Some (unwrap_or label next))) }
+    ensures err { OnErr result (IsUnchanged labels.old labels.new) }
 {
-    space.0.as_bytes().is_empty()
+    match labels.entry(key)? {
+        Entry::Occupied(entry) => Ok(Some(entry.into_mut().copy())),
+        Entry::Vacant(entry) => {
+            entry.insert(next);
+            Ok(None)
+        }
+    }
 }

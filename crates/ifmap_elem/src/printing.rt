@@ -1,5 +1,5 @@
 //! Printing: the canonical bytes of an element.
-ghost use Rattle.std.specs.Prelude.{◌≡◌, ◌++◌, ◌+◌, List, ℕ, IfOk, OnOk};
+ghost use Rattle.std.specs.Prelude.{◌≡◌, ◌++◌, ◌+◌, List, ℕ, IfOk, OnOk, map};
 ghost use Rattle.std.specs.List.{AllByRecursion, flat_map};
 ghost use Rattle.std.specs.Map.{lookup};
 ghost use Rattle.std.specs.Str.{bytes_eq};
@@ -37,7 +37,7 @@ pub fn written(alloc: Global, element: &Element, spaces: &Many<Text>) -> Result<
     ensures spelled { IsFit element.now → AllByRecursion IsDeclarable spaces.now →
         IfOk result (λ bytes. Spells bytes (written_reading element.now spaces.now)) }
 {
-    print_root(alloc, element, &spaces.0)
+    print_root(alloc, element, spaces.as_slice())
 }
 
 fn print_root(alloc: Global, element: &Element, spaces: &[Text]) -> Result<Many<u8>, NoMemory>
@@ -45,7 +45,7 @@ fn print_root(alloc: Global, element: &Element, spaces: &[Text]) -> Result<Many<
 {
     let mut prefixes = Prefixes::new(alloc)?;
     let name = &element.name;
-    let prefix = prefixes.number(alloc, &name.space)?;
+    let prefix = prefixes.number(&name.space)?;
     let mut inside = Vec::new(alloc);
     write_attributes(alloc, &mut prefixes, &element.attributes, &mut inside)?;
     write_content(
@@ -60,16 +60,17 @@ fn print_root(alloc: Global, element: &Element, spaces: &[Text]) -> Result<Many<
     head.extend_from_slice(b"<")?;
     write_name(&prefix, &name.local, &mut head)?;
     write_declarations("n", prefixes.spaces(), &mut head)?;
-    write_declarations("f", spaces, &mut head)?;
+    let given = references(alloc, spaces)?;
+    write_declarations("f", &given, &mut head)?;
     drop(inside.splice(0..0, head)?);
     Ok(Many(inside))
 }
 
 #[cycle(printing)]
-fn write_element(
+fn write_element<'a>(
     alloc: Global,
-    prefixes: &mut Prefixes,
-    element: &Element,
+    prefixes: &mut Prefixes<'a>,
+    element: &'a Element,
     out: &mut Vec<u8>,
 ) -> Result<(), NoMemory>
     ensures { OnOk result (
@@ -91,24 +92,24 @@ fn write_element(
 
 // What follows the attributes of an element of this name, which is written with this prefix.
 #[cycle(printing)]
-fn write_content(
+fn write_content<'a>(
     alloc: Global,
-    prefixes: &mut Prefixes,
+    prefixes: &mut Prefixes<'a>,
     prefix: &Option<Prefix>,
     name: &Name,
-    children: &Many<Child>,
+    children: &'a Many<Child>,
     out: &mut Vec<u8>,
 ) -> Result<(), NoMemory>
     ensures { OnOk result (((final : List (List ℕ)) → AreFinal prefixes.old final →
         prefix.now ≡ lookup (bytes_eq name.now.space) (name_prefixes final)) →
         AddsContent name.now children.now prefixes.old prefixes.new out.old.items out.new.items) }
 {
-    if children.0.is_empty() {
+    if children.is_empty() {
         out.extend_from_slice(b"/>")?;
         return Ok(());
     }
     out.extend_from_slice(b">")?;
-    for child in &children.0 {
+    for child in children.as_slice() {
         write_child(alloc, prefixes, child, out)?;
     }
     out.extend_from_slice(b"</")?;
@@ -118,10 +119,10 @@ fn write_content(
 }
 
 #[cycle(printing)]
-fn write_child(
+fn write_child<'a>(
     alloc: Global,
-    prefixes: &mut Prefixes,
-    child: &Child,
+    prefixes: &mut Prefixes<'a>,
+    child: &'a Child,
     out: &mut Vec<u8>,
 ) -> Result<(), NoMemory>
     ensures { OnOk result (
@@ -133,24 +134,24 @@ fn write_child(
             Ok(())
         }
         Child::Text(text) => {
-            write_escaped(Place::Content, text.0.as_bytes(), out)?;
+            write_escaped(Place::Content, text.as_bytes(), out)?;
             Ok(())
         }
     }
 }
 
-fn write_attributes(
+fn write_attributes<'a>(
     alloc: Global,
-    prefixes: &mut Prefixes,
-    attributes: &Many<Attribute>,
+    prefixes: &mut Prefixes<'a>,
+    attributes: &'a Many<Attribute>,
     out: &mut Vec<u8>,
 ) -> Result<(), NoMemory>
     ensures { OnOk result (
         AddsAttributes (sort_attributes attributes.now) prefixes.old prefixes.new
         out.old.items out.new.items) }
 {
-    if are_sorted(&attributes.0) {
-        return write_each(alloc, prefixes, &attributes.0, out);
+    if are_sorted(attributes.as_slice()) {
+        return write_each(alloc, prefixes, attributes.as_slice(), out);
     }
     let order = attributes_in_order(alloc, attributes)?;
     for attribute in &order {
@@ -160,10 +161,10 @@ fn write_attributes(
 }
 
 // Writes attributes in the order in which they stand.
-fn write_each(
+fn write_each<'a>(
     alloc: Global,
-    prefixes: &mut Prefixes,
-    attributes: &[Attribute],
+    prefixes: &mut Prefixes<'a>,
+    attributes: &'a [Attribute],
     out: &mut Vec<u8>,
 ) -> Result<(), NoMemory>
     ensures { OnOk result (
@@ -176,10 +177,10 @@ fn write_each(
 }
 
 #[inline(always)]
-fn write_attribute(
+fn write_attribute<'a>(
     alloc: Global,
-    prefixes: &mut Prefixes,
-    attribute: &Attribute,
+    prefixes: &mut Prefixes<'a>,
+    attribute: &'a Attribute,
     out: &mut Vec<u8>,
 ) -> Result<(), NoMemory>
     ensures { OnOk result (
@@ -188,17 +189,17 @@ fn write_attribute(
     out.extend_from_slice(b" ")?;
     write_new_name(alloc, prefixes, &attribute.name, out)?;
     out.extend_from_slice(b"=\"")?;
-    write_escaped(Place::Value, attribute.value.0.as_bytes(), out)?;
+    write_escaped(Place::Value, attribute.value.as_bytes(), out)?;
     out.extend_from_slice(b"\"")?;
     Ok(())
 }
 
 // Writes a name whose namespace is numbered if it is new. Its prefix.
 #[inline(always)]
-fn write_new_name(
+fn write_new_name<'a>(
     alloc: Global,
-    prefixes: &mut Prefixes,
-    name: &Name,
+    prefixes: &mut Prefixes<'a>,
+    name: &'a Name,
     out: &mut Vec<u8>,
 ) -> Result<Option<Prefix>, NoMemory>
     ensures added { OnOk result (
@@ -206,7 +207,7 @@ fn write_new_name(
     ensures prefix { IfOk result (λ prefix. (final : List (List ℕ)) → AreFinal prefixes.new final →
         prefix ≡ lookup (bytes_eq name.now.space) (name_prefixes final)) }
 {
-    let prefix = prefixes.number(alloc, &name.space)?;
+    let prefix = prefixes.number(&name.space)?;
     write_name(&prefix, &name.local, out)?;
     Ok(prefix)
 }
@@ -219,17 +220,30 @@ fn write_name(prefix: &Option<Prefix>, local: &Text, out: &mut Vec<u8>) -> Resul
         prefix.write(out)?;
         out.extend_from_slice(b":")?;
     }
-    out.extend_from_slice(local.0.as_bytes())?;
+    out.extend_from_slice(local.as_bytes())?;
     Ok(())
 }
 
-// Declares a prefix of this letter and a number, counted from 1, for each namespace.
-fn write_declarations(letter: &str, spaces: &[Text], out: &mut Vec<u8>) -> Result<(), NoMemory>
-    ensures { OnOk result (out.new.items ≡ out.old.items ++
-        flat_map declaration_bytes (numbered_prefixes letter.now 1 spaces.now)) }
+// References to the texts, in order.
+fn references(alloc: Global, texts: &[Text]) -> Result<Vec<&Text>, NoMemory>
+    ensures { IfOk result (λ made. map (λ s. s.now) made.items ≡ texts.now) }
 {
-    for (i, space) in spaces.iter().enumerate() {
-        write_declaration(letter, i + 1, space, out)?;
+    let mut made = Vec::with_capacity(alloc, texts.len())?;
+    for text in texts {
+        made.push(text)?;
+    }
+    Ok(made)
+}
+
+// Declares a prefix of this letter and a number, counted from 1, for each namespace.
+fn write_declarations(letter: &str, spaces: &[&Text], out: &mut Vec<u8>) -> Result<(), NoMemory>
+    ensures { OnOk result (out.new.items ≡ out.old.items ++ flat_map declaration_bytes
+        (numbered_prefixes letter.now 1 (map (λ s. s.now) spaces.now))) }
+{
+    let mut count = 0;
+    for space in spaces {
+        count += 1;
+        write_declaration(letter, count, *space, out)?;
     }
     Ok(())
 }
@@ -246,7 +260,7 @@ fn write_declaration(
     out.extend_from_slice(b" xmlns:")?;
     write_numbered(letter, number, out)?;
     out.extend_from_slice(b"=\"")?;
-    write_escaped(Place::Value, space.0.as_bytes(), out)?;
+    write_escaped(Place::Value, space.as_bytes(), out)?;
     out.extend_from_slice(b"\"")?;
     Ok(())
 }

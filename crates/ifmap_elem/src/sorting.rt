@@ -21,8 +21,8 @@ pub(crate) fn attributes_in_order(
 ) -> Result<Vec<&Attribute>, NoMemory>
     ensures { IfOk result (λ order. map (λ a. a.now) order.items ≡ sort_attributes attributes.now) }
 {
-    let mut order = Vec::with_capacity(alloc, attributes.0.len())?;
-    for attribute in &attributes.0 {
+    let mut order = Vec::with_capacity(alloc, attributes.len())?;
+    for attribute in attributes.as_slice() {
         order.push(attribute)?;
     }
     order.sort_unstable();

@@ -1,5 +1,5 @@
 //! Text.
-ghost use Rattle.std.specs.Prelude.{◌≡◌, ◌↔◌, ◌==◌, [], length, IsTrue, string_bytes};
+ghost use Rattle.std.specs.Prelude.{◌≡◌, ◌↔◌, ◌==◌, ◌++◌, [], length, IsTrue, OnErr, OnOk, string_bytes};
 ghost use Rattle.std.specs.Cmp.{partial_order_from_own_ties};
 ghost use Rattle.std.specs.Cmp.Lexicographic.{pointwise, slice_cmp};
 ghost use Rattle.std.specs.Cmp.Rules.{comparing};
@@ -24,6 +24,13 @@ impl Model for Text {
 }
 
 impl Text {
+    /// No characters.
+    pub fn new(alloc: Global) -> Text
+        ensures { result ≡ [] }
+    {
+        Text(String::new(alloc))
+    }
+
     /// The characters.
     pub fn as_str(&self) -> &str
         ensures { result.now ≡ self.now }
@@ -50,6 +57,14 @@ impl Text {
         ensures { IsTrue result ↔ (self.now ≡ []) }
     {
         self.0.as_bytes().is_empty()
+    }
+
+    /// Appends characters. The one error is want of memory, and leaves the text as it was.
+    pub fn push_str(&mut self, more: &str) -> Result<(), NoMemory>
+        ensures pushed { OnOk result (self.new ≡ self.old ++ more.now) }
+        ensures unchanged { OnErr result (self.new ≡ self.old) }
+    {
+        self.0.push_str(more)
     }
 }
 

@@ -1,5 +1,6 @@
 -- Assignments that are read are those that stand there.
-use Rattle.std.proofs.Common.{◌≡◌, ◌≢◌, ℕ, ◌<◌, Bool, true, false, List, [], ◌∷◌, ◌++◌, length, refl, ap, sym, ◌∙◌, subst, arith, length-append, inl, inr}
+use Rattle.std.proofs.Common.{◌≡◌, ◌≢◌, ℕ, ◌<◌, Bool, true, false, List, [], ◌∷◌, ◌++◌, length, refl, ap, sym, ◌∙◌, subst, arith}
+use Rattle.std.proofs.Common.{length-append, inl, inr}
 use Rattle.std.specs.Prelude.{◌==◌}
 use Rattle.std.proofs.lemmas.Bool.{or_cases}
 use Rattle.ifmap_lemmas.specs.Items.{To, to_last}
@@ -27,7 +28,8 @@ value_meant written text e s = (s.0, subst (λ (x : List ℕ). IsValue x s.0) (s
 
 module _ (bytes white inner : List ℕ) (c : Cuts is_white bytes white inner) where
   parted : (a : Assignment) (r : List ℕ) (t : TakesAssignment bytes a r) → (white ≡ t.white) × (inner ≡ name_bytes a.name ++ t.after)
-  parted a r t = cut is_white white t.white inner (name_bytes a.name ++ t.after) c.passes t.is_white c.stops (white_stops_at_name a.name t.after t.is_name) (sym c.bytes_are ∙ t.bytes_are)
+  parted a r t = cut is_white white t.white inner (name_bytes a.name ++ t.after) c.passes t.is_white c.stops
+      (white_stops_at_name a.name t.after t.is_name) (sym c.bytes_are ∙ t.bytes_are)
 
   pub no_white : white ≡ [] → SomeAssignment bytes → ⊥
   no_white e s = s.2.some_white (sym (parted s.0 s.1 s.2).0 ∙ e)
@@ -37,7 +39,8 @@ module _ (bytes white inner : List ℕ) (c : Cuts is_white bytes white inner) wh
 
   module _ (name : Qualified) (after : List ℕ) (n : NameAt inner name after) where
     named : (a : Assignment) (r : List ℕ) (t : TakesAssignment bytes a r) → (name ≡ a.name) × (after ≡ t.after)
-    named a r t = name_cut name a.name after t.after n.0 t.is_name n.2 (quoted_stops t.after t.written r t.given) (sym n.1 ∙ (parted a r t).1)
+    named a r t = name_cut name a.name after t.after n.0 t.is_name n.2 (quoted_stops t.after t.written r t.given)
+        (sym n.1 ∙ (parted a r t).1)
 
     pub no_value : ((w r : List ℕ) → TakesQuoted after w r → ⊥) → SomeAssignment bytes → ⊥
     no_value none s = none s.2.written s.1 (subst (λ (x : List ℕ). TakesQuoted x s.2.written s.1) (sym (named s.0 s.1 s.2).1) s.2.given)
@@ -46,10 +49,18 @@ module _ (bytes white inner : List ℕ) (c : Cuts is_white bytes white inner) wh
       pub some_value : SomeAssignment bytes → (value : List ℕ) × IsCharacters written × AllAre (is_but 0x3C) written × IsValue written value
       some_value s =
           let t = s.2 in
-          let same : written ≡ t.written = (one_quoted after written t.written rest s.1 q (subst (λ (x : List ℕ). TakesQuoted x t.written s.1) (sym (named s.0 s.1 t).1) t.given)).0 in
-          (s.0.value, subst IsCharacters (sym same) t.characters, subst (AllAre (is_but 0x3C)) (sym same) t.no_tag, subst (λ (x : List ℕ). IsValue x s.0.value) (sym same) t.means)
+          let same : written ≡ t.written =
+          (one_quoted after written t.written rest s.1 q
+          (subst (λ (x : List ℕ). TakesQuoted x t.written s.1) (sym (named s.0 s.1 t).1) t.given)).0 in (
+            s.0.value,
+            subst IsCharacters (sym same) t.characters,
+            subst (AllAre (is_but 0x3C)) (sym same) t.no_tag,
+            subst
+                (λ (x : List ℕ). IsValue x s.0.value) (sym same) t.means,
+          )
 
-      pub assignment_found : (value : List ℕ) → white ≢ [] → IsGiven written value → TakesAssignment bytes (record { name = name; value = value }) rest
+      pub assignment_found : (value : List ℕ) → white ≢ [] → IsGiven written value
+          → TakesAssignment bytes (record { name = name; value = value }) rest
       assignment_found value some g = record {
         white = white;
         after = after;
@@ -69,7 +80,18 @@ module _ (bytes white inner : List ℕ) (c : Cuts is_white bytes white inner) wh
           let end : List ℕ = q.quote ∷ rest in
           let value : List ℕ = q.quote ∷ (written ++ end) in
           let sign : List ℕ = 0x3D ∷ (q.after ++ value) in
-          omega (arith, ap length c.bytes_are, length-append white inner, ap length n.1, length-append (name_bytes name) after, ap length q.bytes_are, length-append q.before sign, length-append q.after value, length-append written end)
+          omega (
+            arith,
+            ap length c.bytes_are,
+            length-append white inner,
+            ap length n.1,
+            length-append (name_bytes name) after,
+            ap length
+                q.bytes_are,
+            length-append q.before sign,
+            length-append q.after value,
+            length-append written end,
+          )
 
 -- assignments in a row
 
@@ -91,7 +113,8 @@ pub record GoesOn (bytes : List ℕ) (made : List Assignment) (rest : List ℕ) 
   pub ahead : SomeAssignments bytes → SomeAssignments rest
 
 pub goes_on_start : (bytes : List ℕ) (made : List Assignment) → made ≡ [] → GoesOn bytes made bytes
-goes_on_start bytes made e = record { so_far = subst (λ (m : List Assignment). To TakesAssignment bytes m bytes) (sym e) refl; ahead = λ s. s }
+goes_on_start bytes made e =
+    record { so_far = subst (λ (m : List Assignment). To TakesAssignment bytes m bytes) (sym e) refl; ahead = λ s. s }
 
 module _ (rest : List ℕ) (open_still : IsAtEnd rest → ⊥) where
   pub some_first : SomeAssignments rest → SomeAssignment rest
@@ -118,13 +141,16 @@ module _ (rest : List ℕ) (open_still : IsAtEnd rest → ⊥) where
             },
           )
 
-  pub goes_on_next : (bytes : List ℕ) (made new : List Assignment) (a : Assignment) (after : List ℕ) → GoesOn bytes made rest → TakesAssignment rest a after → new ≡ made ++ a ∷ [] → GoesOn bytes new after
+  pub goes_on_next : (bytes : List ℕ) (made new : List Assignment) (a : Assignment) (after : List ℕ) → GoesOn bytes made rest
+      → TakesAssignment rest a after → new ≡ made ++ a ∷ [] → GoesOn bytes new after
   goes_on_next bytes made new a after g takes e = record {
-    so_far = subst (λ (m : List Assignment). To TakesAssignment bytes m after) (sym e) (to_last TakesAssignment bytes made rest a after g.so_far takes);
+    so_far = subst (λ (m : List Assignment). To TakesAssignment bytes m after) (sym e)
+        (to_last TakesAssignment bytes made rest a after g.so_far takes);
     ahead = λ s. others_after a after takes (g.ahead s);
   }
 
-pub goes_on_end : (bytes : List ℕ) (made : List Assignment) (rest white end : List ℕ) → GoesOn bytes made rest → IsAtEnd rest → Cuts is_white rest white end → TakesAssignments bytes made end
+pub goes_on_end : (bytes : List ℕ) (made : List Assignment) (rest white end : List ℕ) → GoesOn bytes made rest → IsAtEnd rest
+    → Cuts is_white rest white end → TakesAssignments bytes made end
 goes_on_end bytes made rest white end g at c =
     let both = cut is_white white at.0 end at.1 c.passes at.3 c.stops (closes_stops at.1 at.4) (sym c.bytes_are ∙ at.2) in
     record {
@@ -134,10 +160,12 @@ goes_on_end bytes made rest white end g at c =
       closes = subst ClosesTag (sym both.1) at.4;
     }
 
-pub tells_end : (bytes white end : List ℕ) (b : Bool) → Cuts is_white bytes white end → (b ≡ true → ClosesTag end) × (ClosesTag end → b ≡ true) → (b ≡ true → IsAtEnd bytes) × (IsAtEnd bytes → b ≡ true)
+pub tells_end : (bytes white end : List ℕ) (b : Bool) → Cuts is_white bytes white end → (b ≡ true → ClosesTag end)
+    × (ClosesTag end → b ≡ true) → (b ≡ true → IsAtEnd bytes) × (IsAtEnd bytes → b ≡ true)
 tells_end bytes white end b c t = (
   (λ h. (white, end, c.bytes_are, c.passes, t.0 h)),
-  (λ at. t.1 (subst ClosesTag (sym (cut is_white white at.0 end at.1 c.passes at.3 c.stops (closes_stops at.1 at.4) (sym c.bytes_are ∙ at.2)).1) at.4)),
+  (λ at. t.1 (subst ClosesTag
+      (sym (cut is_white white at.0 end at.1 c.passes at.3 c.stops (closes_stops at.1 at.4) (sym c.bytes_are ∙ at.2)).1) at.4)),
 )
 
 -- tags
@@ -156,7 +184,8 @@ module _ (bytes inner : List ℕ) (e : bytes ≡ 0x3C ∷ inner) where
     pub tag_assignments : SomeTag bytes → SomeAssignments after
     tag_assignments s =
         let t = s.2 in
-        let same : after ≡ t.after = (name_cut name s.0.name after t.after n.0 t.is_name n.2 (stops s.0 s.1 t s.3) (sym n.1 ∙ inside s.0 s.1 t)).1 in (
+        let same : after ≡ t.after =
+        (name_cut name s.0.name after t.after n.0 t.is_name n.2 (stops s.0 s.1 t s.3) (sym n.1 ∙ inside s.0 s.1 t)).1 in (
           s.0.assignments,
           s.1,
           record {
@@ -167,7 +196,8 @@ module _ (bytes inner : List ℕ) (e : bytes ≡ 0x3C ∷ inner) where
           },
         )
 
-    pub tag_found : (assignments : List Assignment) (end : List ℕ) → TakesAssignments after assignments end → TakesTag bytes (record { name = name; assignments = assignments }) end × ClosesTag end
+    pub tag_found : (assignments : List Assignment) (end : List ℕ) → TakesAssignments after assignments end
+        → TakesTag bytes (record { name = name; assignments = assignments }) end × ClosesTag end
     tag_found assignments end t = (
       record {
         after = after;

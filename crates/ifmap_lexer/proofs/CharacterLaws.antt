@@ -1,5 +1,6 @@
 -- Which bytes are characters of a document.
-use Rattle.std.proofs.Common.{◌≡◌, ◌≢◌, ℕ, ◌+◌, ◌<◌, ◌≤◌, Bool, true, false, List, [], ◌∷◌, length, get_or, take, refl, ap, sym, ◌∙◌, subst, arith, ◌⊎◌, inl, inr}
+use Rattle.std.proofs.Common.{◌≡◌, ◌≢◌, ℕ, ◌+◌, ◌<◌, ◌≤◌, Bool, true, false, List, [], ◌∷◌, length, get_or, take, refl, ap, sym, ◌∙◌}
+use Rattle.std.proofs.Common.{subst, arith, ◌⊎◌, inl, inr}
 use Rattle.std.specs.Prelude.{encode_utf8, encode_utf8_all, IsTrue, ◌↔◌, IsUtf8}
 use Rattle.std.specs.Str.{chars, all_scalars}
 use Rattle.std.specs.List.{list_all}
@@ -61,11 +62,15 @@ common_character c s f =
 common_characters : (cs : List ℕ) → all_scalars cs ≡ true → AllAre is_common (encode_utf8_all cs) → AllAre is_character cs
 common_characters [] s f = tt
 common_characters (c ∷ cs) s f =
-    let parts = and_parts (scalar c) (all_scalars cs) s in
-    (common_character c parts.0 (all_front is_common (encode_utf8 c) (encode_utf8_all cs) f), common_characters cs parts.1 (all_back is_common (encode_utf8 c) (encode_utf8_all cs) f))
+    let parts = and_parts (scalar c) (all_scalars cs) s in (
+      common_character c parts.0 (all_front is_common (encode_utf8 c) (encode_utf8_all cs) f),
+      common_characters cs parts.1
+          (all_back is_common (encode_utf8 c) (encode_utf8_all cs) f),
+    )
 
 pub common_are_characters : (text : List ℕ) → IsUtf8 text → AllAre is_common text → IsCharacters text
 common_are_characters text u f = (u.0, u.1.1, common_characters u.0 u.1.0 (subst (AllAre is_common) (sym u.1.1) f))
 
-pub all_more : (p : ℕ → Bool) (xs : List ℕ) (i : ℕ) → i < length xs → AllAre p (take i xs) → p (get_or xs i 0) ≡ true → AllAre p (take (i + 1) xs)
+pub all_more : (p : ℕ → Bool) (xs : List ℕ) (i : ℕ) → i < length xs → AllAre p (take i xs) → p (get_or xs i 0) ≡ true
+    → AllAre p (take (i + 1) xs)
 all_more p xs i l f h = subst (AllAre p) (sym (take_more xs i 0 l)) (all_append p (take i xs) (get_or xs i 0 ∷ []) f (h, tt))

@@ -35,7 +35,8 @@ module _ (place : Place) where
   abbrev Means : List ℕ → List ℕ → Type 0
   Means written text = Expands (part_in place) written text
 
-  run_found : (run after u : List ℕ) → AllAre (is_but 0x26) run → EndsRun after → Means after u → Means (run ++ after) (part_in place (Plain run) ++ u)
+  run_found : (run after u : List ℕ) → AllAre (is_but 0x26) run → EndsRun after → Means after u
+      → Means (run ++ after) (part_in place (Plain run) ++ u)
   run_found [] after u f ends x = subst (Means after) (sym (ap (λ y. y ++ u) (empty_run place))) x
   run_found (b ∷ bs) after u f ends x = record {
     parts = Plain (b ∷ bs) ∷ x.parts;
@@ -43,38 +44,54 @@ module _ (place : Place) where
     text_is = ap (λ y. part_in place (Plain (b ∷ bs)) ++ y) x.text_is;
   }
 
-  reference_found : (name beyond u : List ℕ) (c : ℕ) → AllAre (is_but 0x3B) name → referred name ≡ Some c → Means beyond u → Means (0x26 ∷ (name ++ (0x3B ∷ beyond))) (encode_utf8 c ++ u)
-  reference_found name beyond u c f e x = subst (λ (y : List ℕ). Means (0x26 ∷ (name ++ (0x3B ∷ beyond))) (y ++ u)) (character_in place c) (record {
-    parts = Reference c ∷ x.parts;
-    taken = (beyond, (name, refl, f, e), x.taken);
-    text_is = ap (λ y. part_in place (Reference c) ++ y) x.text_is;
-  })
+  reference_found : (name beyond u : List ℕ) (c : ℕ) → AllAre (is_but 0x3B) name → referred name ≡ Some c → Means beyond u
+      → Means (0x26 ∷ (name ++ (0x3B ∷ beyond))) (encode_utf8 c ++ u)
+  reference_found name beyond u c f e x =
+      subst (λ (y : List ℕ). Means (0x26 ∷ (name ++ (0x3B ∷ beyond))) (y ++ u)) (character_in place c) (record {
+        parts = Reference c ∷ x.parts;
+        taken = (beyond, (name, refl, f, e), x.taken);
+        text_is = ap (λ y. part_in place (Reference c) ++ y) x.text_is;
+      })
 
-  run_ahead : (run after : List ℕ) → AllAre (is_but 0x26) run → EndsRun after → (t : List ℕ) → Means (run ++ after) t → (u : List ℕ) × Means after u
+  run_ahead : (run after : List ℕ) → AllAre (is_but 0x26) run → EndsRun after → (t : List ℕ) → Means (run ++ after) t → (u : List ℕ)
+      × Means after u
   run_ahead [] after f ends t x = (t, x)
   run_ahead (b ∷ bs) after f ends t x = first x.parts x.taken
     where
       first : (parts : List Part) → To TakesPart ((b ∷ bs) ++ after) parts [] → (u : List ℕ) × Means after u
       first [] l = absurd (no_cons b (bs ++ after) l)
       first (p ∷ ps) l =
-          let both = one_part ((b ∷ bs) ++ after) (Plain (b ∷ bs)) p after l.0 (refl, no_cons b bs, f, ends) l.1 in
-          (flat_map (part_in place) ps, record { parts = ps; taken = subst (λ (m : List ℕ). To TakesPart m ps []) (sym both.1) l.2; text_is = refl })
+          let both = one_part ((b ∷ bs) ++ after) (Plain (b ∷ bs)) p after l.0 (refl, no_cons b bs, f, ends) l.1 in (
+            flat_map (part_in place) ps,
+            record
+                { parts = ps; taken = subst (λ (m : List ℕ). To TakesPart m ps []) (sym both.1) l.2; text_is = refl },
+          )
 
   abbrev Refers : List ℕ → List ℕ → Type 0
   Refers name beyond = (c : ℕ) × (referred name ≡ Some c) × ((u : List ℕ) × Means beyond u)
 
-  reference_ahead : (name beyond : List ℕ) → AllAre (is_but 0x3B) name → (t : List ℕ) → Means (0x26 ∷ (name ++ (0x3B ∷ beyond))) t → Refers name beyond
+  reference_ahead : (name beyond : List ℕ) → AllAre (is_but 0x3B) name → (t : List ℕ) → Means (0x26 ∷ (name ++ (0x3B ∷ beyond))) t
+      → Refers name beyond
   reference_ahead name beyond f t x = first x.parts x.taken
     where
-      refers : (p : Part) (ps : List Part) (mid : List ℕ) → TakesPart (0x26 ∷ (name ++ (0x3B ∷ beyond))) p mid → To TakesPart mid ps [] → Refers name beyond
+      refers : (p : Part) (ps : List Part) (mid : List ℕ) → TakesPart (0x26 ∷ (name ++ (0x3B ∷ beyond))) p mid → To TakesPart mid ps []
+          → Refers name beyond
       refers (Plain run) ps mid l m = absurd (no_run run mid (name ++ (0x3B ∷ beyond)) l.1 l.2 l.0)
       refers (Reference c) ps mid l m =
           let e : 0x26 ∷ (name ++ (0x3B ∷ beyond)) ≡ 0x26 ∷ (l.0 ++ (0x3B ∷ mid)) = l.1 in
           let tail : name ++ (0x3B ∷ beyond) ≡ l.0 ++ (0x3B ∷ mid) = cc in
           let both = cut (is_but 0x3B) name l.0 (0x3B ∷ beyond) (0x3B ∷ mid) f l.2 refl refl tail in
           let after : 0x3B ∷ beyond ≡ 0x3B ∷ mid = both.1 in
-          let same : mid ≡ beyond = cc in
-          (c, ap referred both.0 ∙ l.3, (flat_map (part_in place) ps, record { parts = ps; taken = subst (λ (b : List ℕ). To TakesPart b ps []) same m; text_is = refl }))
+          let same : mid ≡ beyond = cc in (
+            c,
+            ap referred both.0
+                ∙ l.3,
+            (
+              flat_map (part_in place) ps,
+              record
+                  { parts = ps; taken = subst (λ (b : List ℕ). To TakesPart b ps []) same m; text_is = refl },
+            ),
+          )
 
       first : (parts : List Part) → To TakesPart (0x26 ∷ (name ++ (0x3B ∷ beyond))) parts [] → Refers name beyond
       first [] l = absurd (no_cons 0x26 (name ++ (0x3B ∷ beyond)) l)
@@ -135,21 +152,28 @@ module _ (place : Place) where
           let wrong : ◌≡◌ {A = Option ℕ} None (Some r.0) = sym e ∙ r.1 in
           cc
 
-      pub along_next : (new : List ℕ) (ch : ℕ) → referred name ≡ Some ch → new ≡ (made ++ part_in place (Plain run)) ++ encode_utf8 ch → Along written new beyond
+      pub along_next : (new : List ℕ) (ch : ℕ) → referred name ≡ Some ch → new ≡ (made ++ part_in place (Plain run)) ++ encode_utf8 ch
+          → Along written new beyond
       along_next new ch e is = record {
         found = λ u x.
             let whole : rest ≡ run ++ (0x26 ∷ (name ++ (0x3B ∷ beyond))) = c.bytes_are ∙ ap (λ b. run ++ (0x26 ∷ b)) d.bytes_are in
-            let m = run_found run (0x26 ∷ (name ++ (0x3B ∷ beyond))) (encode_utf8 ch ++ u) c.passes refl (reference_found name beyond u ch d.passes e x) in
-            let all = along.found (part_in place (Plain run) ++ (encode_utf8 ch ++ u)) (subst (λ (b : List ℕ). Means b (part_in place (Plain run) ++ (encode_utf8 ch ++ u))) (sym whole) m) in
+            let m = run_found run (0x26 ∷ (name ++ (0x3B ∷ beyond))) (encode_utf8 ch ++ u) c.passes refl
+            (reference_found name beyond u ch d.passes e x) in
+            let all = along.found (part_in place (Plain run) ++ (encode_utf8 ch ++ u))
+            (subst (λ (b : List ℕ). Means b (part_in place (Plain run) ++ (encode_utf8 ch ++ u))) (sym whole) m) in
             let joined : made ++ (part_in place (Plain run) ++ (encode_utf8 ch ++ u)) ≡ new ++ u
-            = sym (ap (λ x. x ++ u) is ∙ append_assoc (made ++ part_in place (Plain run)) (encode_utf8 ch) u ∙ append_assoc made (part_in place (Plain run)) (encode_utf8 ch ++ u)) in
+            = sym (ap (λ x. x ++ u) is ∙ append_assoc (made ++ part_in place (Plain run)) (encode_utf8 ch) u
+            ∙ append_assoc made (part_in place (Plain run)) (encode_utf8 ch ++ u)) in
             subst (Means written) joined all;
         ahead = λ t x. (referred_left t x).2;
       }
 
-  pub along_end : (written made rest text : List ℕ) → Along written made rest → AllAre (is_but 0x26) rest → text ≡ made ++ part_in place (Plain rest) → Means written text
+  pub along_end : (written made rest text : List ℕ) → Along written made rest → AllAre (is_but 0x26) rest → text ≡ made
+      ++ part_in place (Plain rest) → Means written text
   along_end written made rest text along f e =
       let nothing : Means [] [] = record { parts = []; taken = refl; text_is = refl } in
       let m = run_found rest [] [] f tt nothing in
-      let n : Means rest (part_in place (Plain rest)) = subst (λ (b : List ℕ). Means b (part_in place (Plain rest))) (append-nil rest) (subst (Means (rest ++ [])) (append-nil (part_in place (Plain rest))) m) in
+      let n : Means rest (part_in place (Plain rest)) =
+      subst (λ (b : List ℕ). Means b (part_in place (Plain rest))) (append-nil rest)
+      (subst (Means (rest ++ [])) (append-nil (part_in place (Plain rest))) m) in
       subst (Means written) (sym e) (along.found (part_in place (Plain rest)) n)

@@ -1,5 +1,6 @@
 -- Names that are read are those that stand there.
-use Rattle.std.proofs.Common.{◌≡◌, ◌≢◌, ℕ, ◌<◌, ◌≤◌, Bool, true, false, List, [], ◌∷◌, ◌++◌, length, refl, ap, sym, ◌∙◌, subst, arith, inl, inr}
+use Rattle.std.proofs.Common.{◌≡◌, ◌≢◌, ℕ, ◌<◌, ◌≤◌, Bool, true, false, List, [], ◌∷◌, ◌++◌, length, refl, ap, sym, ◌∙◌, subst, arith}
+use Rattle.std.proofs.Common.{inl, inr}
 use Rattle.std.specs.Prelude.{encode_utf8, encode_utf8_all, IsTrue, ◌↔◌, ◌&&◌, IsUtf8, nat_lt}
 use Rattle.std.specs.Str.{chars, all_scalars}
 use Rattle.std.specs.Bool.{OnTrue}
@@ -37,7 +38,13 @@ inner_are_scalars [] f = refl
 inner_are_scalars (c ∷ cs) f = and_from (scalar c) (all_scalars cs) (inner_is_scalar c f.0) (inner_are_scalars cs f.1)
 
 pub part_is_utf8 : (bytes : List ℕ) → IsNamePart bytes → IsUtf8 bytes
-part_is_utf8 bytes p = (p.first ∷ p.others, (and_from (scalar p.first) (all_scalars p.others) (start_is_scalar p.first p.begins) (inner_are_scalars p.others p.goes_on), p.bytes_are))
+part_is_utf8 bytes p = (
+  p.first ∷ p.others,
+  (
+    and_from (scalar p.first) (all_scalars p.others) (start_is_scalar p.first p.begins) (inner_are_scalars p.others p.goes_on),
+    p.bytes_are,
+  ),
+)
 
 -- parts of ASCII
 
@@ -59,7 +66,8 @@ ascii_part b bs h =
     let others = ascii_all bs parts.1 in
     record { first = b; others = bs; bytes_are = (λ i. encode_ascii b (low b both.0) i ++ others.1 i); begins = both.1; goes_on = others.0 }
 
-pub ascii_tells : (bytes : List ℕ) (b : ℕ) (bs : List ℕ) (r : Bool) → bytes ≡ b ∷ bs → r ≡ (starts_in_ascii b && list_all stands_in_ascii bs) → OnTrue r (IsNamePart bytes)
+pub ascii_tells : (bytes : List ℕ) (b : ℕ) (bs : List ℕ) (r : Bool) → bytes ≡ b ∷ bs → r
+    ≡ (starts_in_ascii b && list_all stands_in_ascii bs) → OnTrue r (IsNamePart bytes)
 ascii_tells bytes b bs true is told = subst IsNamePart (sym is) (ascii_part b bs (sym told))
 ascii_tells bytes b bs false is told = tt
 
@@ -71,7 +79,8 @@ module _ (text rest : List ℕ) (first : ℕ) (split : text ≡ encode_utf8 firs
       let same = encode_same p.first first (encode_utf8_all p.others) rest (p.bytes_are ∙ split) in
       subst (λ (c : ℕ). is_name_start c ≡ true) same.0 p.begins
 
-  pub tells_part : (r : Bool) → IsUtf8 text → is_name_start first ≡ true → r ≡ list_all is_name_character (chars rest) → IsTrue r ↔ IsNamePart text
+  pub tells_part : (r : Bool) → IsUtf8 text → is_name_start first ≡ true → r ≡ list_all is_name_character (chars rest)
+      → IsTrue r ↔ IsNamePart text
   tells_part r u begins e =
       let v : IsUtf8 rest = IsUtf8-past_char text rest first u split in (
         (λ t. record {
@@ -82,7 +91,8 @@ module _ (text rest : List ℕ) (first : ℕ) (split : text ≡ encode_utf8 firs
           goes_on = each is_name_character (chars rest) (sym e ∙ t);
         }),
         (λ p. let same = encode_same p.first first (encode_utf8_all p.others) rest (p.bytes_are ∙ split) in
-            e ∙ ap (list_all is_name_character) (sym (chars_from_encodes p.others rest v same.1)) ∙ of_each is_name_character p.others p.goes_on),
+            e ∙ ap (list_all is_name_character) (sym (chars_from_encodes p.others rest v same.1))
+            ∙ of_each is_name_character p.others p.goes_on),
       )
 
 pub no_part_of_none : (text : List ℕ) → length text ≡ 0 → IsNamePart text → ⊥
@@ -105,42 +115,50 @@ prefixed_found bytes prefix local c p l q e f = (
   (λ i. prefixed (e i) (f i)) ∙ prefixed_some prefix local (part_is_some prefix p) ∙ sym c.bytes_are,
 )
 
-pub unprefixed_found : (bytes : List ℕ) → IsNamePart bytes → (q : Qualified) → q.prefix ≡ [] → q.local ≡ bytes → IsQualified q × (name_bytes q ≡ bytes)
+pub unprefixed_found : (bytes : List ℕ) → IsNamePart bytes → (q : Qualified) → q.prefix ≡ [] → q.local ≡ bytes → IsQualified q
+    × (name_bytes q ≡ bytes)
 unprefixed_found bytes l q e f = (record { prefix_is = inl e; local_is = subst IsNamePart (sym f) l }, (λ i. prefixed (e i) (f i)))
 
 local_bytes : (q : Qualified) → q.prefix ≡ [] → name_bytes q ≡ q.local
 local_bytes q e = ap (λ x. prefixed x q.local) e
 
-pub prefixed_parts : (bytes front after : List ℕ) → CutsAt 58 bytes front after → (q : Qualified) → IsQualified q → name_bytes q ≡ bytes → IsNamePart front × IsNamePart after
+pub prefixed_parts : (bytes front after : List ℕ) → CutsAt 58 bytes front after → (q : Qualified) → IsQualified q → name_bytes q ≡ bytes
+    → IsNamePart front × IsNamePart after
 prefixed_parts bytes front after c q i e =
     elim i.prefix_is [
       | inl none ↦
-          let all : AllAre is_part_byte (front ++ (58 ∷ after)) = subst (AllAre is_part_byte) (sym (local_bytes q none) ∙ e ∙ c.bytes_are) (part_bytes q.local i.local_is) in
+          let all : AllAre is_part_byte (front ++ (58 ∷ after)) =
+          subst (AllAre is_part_byte) (sym (local_bytes q none) ∙ e ∙ c.bytes_are) (part_bytes q.local i.local_is) in
           let wrong : false ≡ true = (all_back is_part_byte front (58 ∷ after) all).0 in cc
       | inr part ↦
-          let both = cut (is_but 58) q.prefix front (58 ∷ q.local) (58 ∷ after) (all_weaker is_part_byte (is_but 58) no_colon q.prefix (part_bytes q.prefix part)) c.passes refl refl
+          let both = cut (is_but 58) q.prefix front (58 ∷ q.local) (58 ∷ after)
+          (all_weaker is_part_byte (is_but 58) no_colon q.prefix (part_bytes q.prefix part)) c.passes refl refl
           (sym (prefixed_some q.prefix q.local (part_is_some q.prefix part)) ∙ e ∙ c.bytes_are) in
           let tail : 58 ∷ q.local ≡ 58 ∷ after = both.1 in
           let local : q.local ≡ after = cc in
           (subst IsNamePart both.0 part, subst IsNamePart local i.local_is)
     ]
 
-pub unprefixed_part : (bytes : List ℕ) → AllAre (is_but 58) bytes → (q : Qualified) → IsQualified q → name_bytes q ≡ bytes → IsNamePart bytes
+pub unprefixed_part : (bytes : List ℕ) → AllAre (is_but 58) bytes → (q : Qualified) → IsQualified q → name_bytes q ≡ bytes
+    → IsNamePart bytes
 unprefixed_part bytes f q i e =
     elim i.prefix_is [
       | inl none ↦ subst IsNamePart (sym (local_bytes q none) ∙ e) i.local_is
       | inr part ↦
-          let all : AllAre (is_but 58) (q.prefix ++ (58 ∷ q.local)) = subst (AllAre (is_but 58)) (sym e ∙ prefixed_some q.prefix q.local (part_is_some q.prefix part)) f in
+          let all : AllAre (is_but 58) (q.prefix ++ (58 ∷ q.local)) =
+          subst (AllAre (is_but 58)) (sym e ∙ prefixed_some q.prefix q.local (part_is_some q.prefix part)) f in
           let wrong : false ≡ true = (all_back (is_but 58) q.prefix (58 ∷ q.local) all).0 in cc
     ]
 
 -- the name at the front
 
-pub name_found : (bytes run rest : List ℕ) (name : Qualified) → Cuts is_name_byte bytes run rest → IsQualified name × (name_bytes name ≡ run) → NameAt bytes name rest
+pub name_found : (bytes run rest : List ℕ) (name : Qualified) → Cuts is_name_byte bytes run rest → IsQualified name
+    × (name_bytes name ≡ run) → NameAt bytes name rest
 name_found bytes run rest name c f = (f.0, c.bytes_are ∙ ap (λ x. x ++ rest) (sym f.1), c.stops)
 
 pub name_run : (bytes run rest : List ℕ) → Cuts is_name_byte bytes run rest
-    → ((name : Qualified) × (later : List ℕ) × IsQualified name × (bytes ≡ name_bytes name ++ later) × Stops is_name_byte later) → (name : Qualified) × IsQualified name × (name_bytes name ≡ run)
+    → ((name : Qualified) × (later : List ℕ) × IsQualified name × (bytes ≡ name_bytes name ++ later) × Stops is_name_byte later)
+    → (name : Qualified) × IsQualified name × (name_bytes name ≡ run)
 name_run bytes run rest c s =
     let both = cut is_name_byte run (name_bytes s.0) rest s.1 c.passes (name_are_bytes s.0 s.2) c.stops s.4 (sym c.bytes_are ∙ s.3) in
     (s.0, s.2, sym both.0)

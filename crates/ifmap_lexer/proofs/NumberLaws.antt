@@ -1,5 +1,6 @@
 -- The numbers that digits write.
-use Rattle.std.proofs.Common.{◌≡◌, ℕ, ◌+◌, ◌*◌, ◌<◌, ◌≤◌, true, false, List, [], ◌∷◌, length, get_or, take, min, refl, ap, sym, ◌∙◌, subst, arith, inl, inr}
+use Rattle.std.proofs.Common.{◌≡◌, ℕ, ◌+◌, ◌*◌, ◌<◌, ◌≤◌, true, false, List, [], ◌∷◌, length, get_or, take, min, refl, ap, sym, ◌∙◌}
+use Rattle.std.proofs.Common.{subst, arith, inl, inr}
 use Rattle.std.specs.Prelude.{nat_eq, Some, None}
 use Rattle.std.specs.Char.{is_digit, digit_value}
 use Rattle.std.specs.List.{list_all}
@@ -32,13 +33,15 @@ stepped base v n d some e =
       | inr g ↦ let same : n ≡ 0x11_0000 = omega arith in ap (λ x. min (x * base + d) 0x11_0000) same ∙ past base v d some g
     ]
 
-pub reads_next : (base : ℕ) (digits : List ℕ) (i n m d : ℕ) → 2 ≤ base → Reads base digits i n → i < length digits → d ≡ get_or digits i 0 → digit_value d < base → m ≡ min (n * base + digit_value d) 0x11_0000 → Reads base digits (i + 1) m
+pub reads_next : (base : ℕ) (digits : List ℕ) (i n m d : ℕ) → 2 ≤ base → Reads base digits i n → i < length digits → d ≡ get_or digits i 0
+    → digit_value d < base → m ≡ min (n * base + digit_value d) 0x11_0000 → Reads base digits (i + 1) m
 reads_next base digits i n m d some r l at digit e =
     let here : is_digit d base ≡ true = grind (arith, nat_tests) in
     record {
       all = list_all_more (λ x. is_digit x base) digits i 0 l ∙ and_from _ _ r.all (subst (λ (x : ℕ). is_digit x base ≡ true) at here);
       is = e ∙ stepped base (digits_value base (take i digits)) n (digit_value d) (omega arith) r.is
-          ∙ ap (λ x. min (digits_value base (take i digits) * base + digit_value x) 0x11_0000) at ∙ ap (λ x. min x 0x11_0000) (sym (digits_value_more base digits i l));
+          ∙ ap (λ x. min (digits_value base (take i digits) * base + digit_value x) 0x11_0000) at
+          ∙ ap (λ x. min x 0x11_0000) (sym (digits_value_more base digits i l));
       small = omega arith;
     }
 
@@ -46,15 +49,19 @@ take_all : (xs : List ℕ) → take (length xs) xs ≡ xs
 take_all [] = refl
 take_all (x ∷ xs) = ap (λ ys. x ∷ ys) (take_all xs)
 
-pub reads_all : (base : ℕ) (digits : List ℕ) (i n : ℕ) → nat_eq (length digits) 0 ≡ false → i ≡ length digits → Reads base digits i n → Some n ≡ code_of base digits
+pub reads_all : (base : ℕ) (digits : List ℕ) (i n : ℕ) → nat_eq (length digits) 0 ≡ false → i ≡ length digits → Reads base digits i n
+    → Some n ≡ code_of base digits
 reads_all base digits i n some end r =
     let whole : take i digits ≡ digits = ap (λ k. take k digits) end ∙ take_all digits in
-    let all : list_all (λ d. is_digit d base) digits ≡ true = subst (λ (xs : List ℕ). list_all (λ d. is_digit d base) xs ≡ true) whole r.all in
+    let all : list_all (λ d. is_digit d base) digits ≡ true =
+    subst (λ (xs : List ℕ). list_all (λ d. is_digit d base) xs ≡ true) whole r.all in
     let is : n ≡ min (digits_value base digits) 0x11_0000 = subst (λ (xs : List ℕ). n ≡ min (digits_value base xs) 0x11_0000) whole r.is in
     rw (some, all) (ap Some is)
 
-pub no_digit : (base : ℕ) (digits : List ℕ) (i d : ℕ) → nat_eq (length digits) 0 ≡ false → i < length digits → d ≡ get_or digits i 0 → (digit_value d < base → ⊥) → None ≡ code_of base digits
+pub no_digit : (base : ℕ) (digits : List ℕ) (i d : ℕ) → nat_eq (length digits) 0 ≡ false → i < length digits → d ≡ get_or digits i 0
+    → (digit_value d < base → ⊥) → None ≡ code_of base digits
 no_digit base digits i d some l at none =
     let here : is_digit d base ≡ false = grind (arith, nat_tests) in
-    let all : list_all (λ x. is_digit x base) digits ≡ false = list_all_at (λ x. is_digit x base) digits i 0 l (subst (λ (x : ℕ). is_digit x base ≡ false) at here) in
+    let all : list_all (λ x. is_digit x base) digits ≡ false =
+    list_all_at (λ x. is_digit x base) digits i 0 l (subst (λ (x : ℕ). is_digit x base ≡ false) at here) in
     rw (some, all) refl

@@ -23,7 +23,8 @@ module _ (rest front after : List ℕ) where
   pub tab_step : CutsAt 9 rest front after → AllAre (is_but 10) rest → map as_space rest ≡ front ++ (0x20 ∷ map as_space after)
   tab_step c g =
       ap (map as_space) c.bytes_are ∙ map-append as_space front (9 ∷ after)
-      ∙ ap (λ x. x ++ (0x20 ∷ map as_space after)) (untabbed front c.passes (all_front (is_but 10) front (9 ∷ after) (subst (AllAre (is_but 10)) c.bytes_are g)))
+      ∙ ap (λ x. x ++ (0x20 ∷ map as_space after))
+      (untabbed front c.passes (all_front (is_but 10) front (9 ∷ after) (subst (AllAre (is_but 10)) c.bytes_are g)))
 
   pub tab_behind : CutsAt 9 rest front after → AllAre (is_but 10) rest → AllAre (is_but 10) after
   tab_behind c g = (all_back (is_but 10) front (9 ∷ after) (subst (AllAre (is_but 10)) c.bytes_are g)).1
@@ -39,9 +40,11 @@ lines_none : (xs : List ℕ) → AllAre (is_but 13) xs → line_ends xs ≡ xs
 lines_none [] f = refl
 lines_none (b ∷ bs) f = rw (not-true (b == 0xD) f.0) (ap (λ x. b ∷ x) (lines_none bs f.1))
 
-pub break_step : (place : Place) (rest line after beyond : List ℕ) → CutsAt 13 rest line after → line_ends (0xD ∷ after) ≡ 0xA ∷ line_ends beyond
+pub break_step : (place : Place) (rest line after beyond : List ℕ) → CutsAt 13 rest line after → line_ends (0xD ∷ after) ≡ 0xA
+    ∷ line_ends beyond
     → part_in place (Plain rest) ≡ line_in place line ++ (break_in place ∷ part_in place (Plain beyond))
-break_step CharacterData rest line after beyond c e = ap line_ends c.bytes_are ∙ lines_front line (0xD ∷ after) c.passes ∙ ap (λ x. line ++ x) e
+break_step CharacterData rest line after beyond c e = ap line_ends c.bytes_are ∙ lines_front line (0xD ∷ after) c.passes
+    ∙ ap (λ x. line ++ x) e
 break_step AttributeValue rest line after beyond c e =
     ap (λ x. map as_space (line_ends x)) c.bytes_are ∙ ap (map as_space) (lines_front line (0xD ∷ after) c.passes ∙ ap (λ x. line ++ x) e)
     ∙ map-append as_space line (0xA ∷ line_ends beyond)
@@ -55,15 +58,19 @@ no_newline [] h = refl
 no_newline (b ∷ bs) h = is_other b 10 (λ e. h bs (ap (λ n. n ∷ bs) e))
 
 -- what is appended in turn
-pub two_more : (start old first rest later a d : List ℕ) → old ++ rest ≡ start → first ≡ old ++ a → later ≡ first ++ d → (beyond : List ℕ) → rest ≡ a ++ (d ++ beyond) → later ++ beyond ≡ start
+pub two_more : (start old first rest later a d : List ℕ) → old ++ rest ≡ start → first ≡ old ++ a → later ≡ first ++ d → (beyond : List ℕ)
+    → rest ≡ a ++ (d ++ beyond) → later ++ beyond ≡ start
 two_more start old first rest later a d inv p q beyond r =
-    ap (λ x. x ++ beyond) (q ∙ ap (λ x. x ++ d) p) ∙ append_assoc (old ++ a) d beyond ∙ append_assoc old a (d ++ beyond) ∙ ap (λ x. old ++ x) (sym r) ∙ inv
+    ap (λ x. x ++ beyond) (q ∙ ap (λ x. x ++ d) p) ∙ append_assoc (old ++ a) d beyond ∙ append_assoc old a (d ++ beyond)
+    ∙ ap (λ x. old ++ x) (sym r) ∙ inv
 
-pub last_str : {T E : Type 0} (r : Result T E) (start old rest later a : List ℕ) → old ++ rest ≡ start → later ≡ (if is_ok r then old ++ a else old) → rest ≡ a → OnOk r (later ≡ start)
+pub last_str : {T E : Type 0} (r : Result T E) (start old rest later a : List ℕ) → old ++ rest ≡ start → later
+    ≡ (if is_ok r then old ++ a else old) → rest ≡ a → OnOk r (later ≡ start)
 last_str (Ok x) start old rest later a inv p e = p ∙ ap (λ x. old ++ x) (sym e) ∙ inv
 last_str (Err x) start old rest later a inv p e = tt
 
-pub last_line : {T E : Type 0} (r : Result T E) (start old rest later a : List ℕ) → old ++ rest ≡ start → OnOk r (later ≡ old ++ a) → rest ≡ a → OnOk r (later ≡ start)
+pub last_line : {T E : Type 0} (r : Result T E) (start old rest later a : List ℕ) → old ++ rest ≡ start → OnOk r (later ≡ old ++ a) → rest
+    ≡ a → OnOk r (later ≡ start)
 last_line (Ok x) start old rest later a inv p e = p ∙ ap (λ x. old ++ x) (sym e) ∙ inv
 last_line (Err x) start old rest later a inv p e = tt
 

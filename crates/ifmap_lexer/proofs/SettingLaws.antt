@@ -21,7 +21,8 @@ stops_at (b ∷ bs) after h = h
 module _ (name : List ℕ) (starts : StartsNotWhite name) where
   module _ (bytes white inner : List ℕ) (c : Cuts is_white bytes white inner) where
     parted : (w r : List ℕ) (t : SetsTo name bytes w r) → (white ≡ t.white) × (inner ≡ name ++ t.after)
-    parted w r t = cut is_white white t.white inner (name ++ t.after) c.passes t.is_white c.stops (stops_at name t.after starts) (sym c.bytes_are ∙ t.bytes_are)
+    parted w r t = cut is_white white t.white inner (name ++ t.after) c.passes t.is_white c.stops (stops_at name t.after starts)
+        (sym c.bytes_are ∙ t.bytes_are)
 
     pub not_spaced : white ≡ [] → (w r : List ℕ) → SetsTo name bytes w r → ⊥
     not_spaced e w r t = t.some_white (sym (parted w r t).0 ∙ e)
@@ -31,7 +32,8 @@ module _ (name : List ℕ) (starts : StartsNotWhite name) where
 
     module _ (after : List ℕ) (e : inner ≡ name ++ after) where
       pub not_given : ((w r : List ℕ) → TakesQuoted after w r → ⊥) → (w r : List ℕ) → SetsTo name bytes w r → ⊥
-      not_given none w r t = none w r (subst (λ (x : List ℕ). TakesQuoted x w r) (sym (cancel name after t.after (sym e ∙ (parted w r t).1))) t.given)
+      not_given none w r t =
+          none w r (subst (λ (x : List ℕ). TakesQuoted x w r) (sym (cancel name after t.after (sym e ∙ (parted w r t).1))) t.given)
 
       pub setting_found : (w r : List ℕ) → white ≢ [] → TakesQuoted after w r → SetsTo name bytes w r
       setting_found w r some q = record {
@@ -45,15 +47,28 @@ module _ (name : List ℕ) (starts : StartsNotWhite name) where
 
   one_setting : (bytes w v r s : List ℕ) → SetsTo name bytes w r → SetsTo name bytes v s → (w ≡ v) × (r ≡ s)
   one_setting bytes w v r s l m =
-      let both = cut is_white l.white m.white (name ++ l.after) (name ++ m.after) l.is_white m.is_white (stops_at name l.after starts) (stops_at name m.after starts) (sym l.bytes_are ∙ m.bytes_are) in
+      let both = cut is_white l.white m.white (name ++ l.after) (name ++ m.after) l.is_white m.is_white (stops_at name l.after starts)
+      (stops_at name m.after starts) (sym l.bytes_are ∙ m.bytes_are) in
       one_quoted l.after w v r s l.given (subst (λ (x : List ℕ). TakesQuoted x v s) (sym (cancel name l.after m.after both.1)) m.given)
 
   module _ (Allows : List ℕ → Type 0) where
     set_by : (bytes r : List ℕ) (t : TakesSetting name Allows bytes r) → SetsTo name bytes t.written r
-    set_by bytes r t = record { white = t.white; after = t.after; bytes_are = t.bytes_are; is_white = t.is_white; some_white = t.some_white; given = t.given }
+    set_by bytes r t = record
+        { white = t.white; after = t.after; bytes_are = t.bytes_are; is_white = t.is_white; some_white = t.some_white; given = t.given }
 
     pub taken_with : (bytes w r : List ℕ) → SetsTo name bytes w r → Allows w → TakesSetting name Allows bytes r
-    taken_with bytes w r t a = record { white = t.white; after = t.after; written = w; bytes_are = t.bytes_are; is_white = t.is_white; some_white = t.some_white; given = t.given; allowed = a }
+    taken_with bytes w r t a =
+        record {
+          white = t.white;
+          after = t.after;
+          written = w;
+          bytes_are = t.bytes_are;
+          is_white = t.is_white;
+          some_white =
+              t.some_white;
+          given = t.given;
+          allowed = a;
+        }
 
     pub not_allowed : (bytes w r : List ℕ) → SetsTo name bytes w r → (Allows w → ⊥) → (s : List ℕ) → TakesSetting name Allows bytes s → ⊥
     not_allowed bytes w r t none s u = none (subst Allows (sym (one_setting bytes w u.written r s t (set_by bytes s u)).0) u.allowed)
@@ -94,22 +109,28 @@ from_encoding w e = sym (all_lowered w) ∙ ap (map to_ascii_lowercase) e
 heads : (s t x y : List ℕ) → IsWhite s → IsWhite t → Stops is_white x → Stops is_white y → s ++ x ≡ t ++ y → x ≡ y
 heads s t x y f g stop also e = (cut is_white s t x y f g stop also e).1
 
-encoding_is_no_end : (bytes r white rest : List ℕ) → TakesSetting (codes "encoding") IsEncoding bytes r → IsWhite white → bytes ≡ white ++ (codes "?>" ++ rest) → ⊥
+encoding_is_no_end : (bytes r white rest : List ℕ) → TakesSetting (codes "encoding") IsEncoding bytes r → IsWhite white → bytes ≡ white
+    ++ (codes "?>" ++ rest) → ⊥
 encoding_is_no_end bytes r white rest t f e =
-    let both : codes "encoding" ++ t.after ≡ codes "?>" ++ rest = heads t.white white (codes "encoding" ++ t.after) (codes "?>" ++ rest) t.is_white f refl refl (sym t.bytes_are ∙ e) in
+    let both : codes "encoding" ++ t.after ≡ codes "?>" ++ rest =
+    heads t.white white (codes "encoding" ++ t.after) (codes "?>" ++ rest) t.is_white f refl refl (sym t.bytes_are ∙ e) in
     let wrong : ◌≡◌ {A = ℕ} 101 63 = cc in
     absurd (omega arith)
 
-standalone_is_no_end : (bytes r white rest : List ℕ) → TakesSetting (codes "standalone") IsYesOrNo bytes r → IsWhite white → bytes ≡ white ++ (codes "?>" ++ rest) → ⊥
+standalone_is_no_end : (bytes r white rest : List ℕ) → TakesSetting (codes "standalone") IsYesOrNo bytes r → IsWhite white → bytes ≡ white
+    ++ (codes "?>" ++ rest) → ⊥
 standalone_is_no_end bytes r white rest t f e =
-    let both : codes "standalone" ++ t.after ≡ codes "?>" ++ rest = heads t.white white (codes "standalone" ++ t.after) (codes "?>" ++ rest) t.is_white f refl refl (sym t.bytes_are ∙ e) in
+    let both : codes "standalone" ++ t.after ≡ codes "?>" ++ rest =
+    heads t.white white (codes "standalone" ++ t.after) (codes "?>" ++ rest) t.is_white f refl refl (sym t.bytes_are ∙ e) in
     let wrong : ◌≡◌ {A = ℕ} 115 63 = cc in
     absurd (omega arith)
 
-encoding_is_no_standalone : (bytes r s : List ℕ) → TakesSetting (codes "encoding") IsEncoding bytes r → TakesSetting (codes "standalone") IsYesOrNo bytes s → ⊥
+encoding_is_no_standalone : (bytes r s : List ℕ) → TakesSetting (codes "encoding") IsEncoding bytes r
+    → TakesSetting (codes "standalone") IsYesOrNo bytes s → ⊥
 encoding_is_no_standalone bytes r s t u =
     let both : codes "encoding" ++ t.after ≡ codes "standalone" ++ u.after
-    = heads t.white u.white (codes "encoding" ++ t.after) (codes "standalone" ++ u.after) t.is_white u.is_white refl refl (sym t.bytes_are ∙ u.bytes_are) in
+    = heads t.white u.white (codes "encoding" ++ t.after) (codes "standalone" ++ u.after) t.is_white u.is_white refl refl
+    (sym t.bytes_are ∙ u.bytes_are) in
     let wrong : ◌≡◌ {A = ℕ} 101 115 = cc in
     absurd (omega arith)
 
@@ -118,12 +139,15 @@ module _ (bytes first : List ℕ) (e : bytes ≡ codes "<?xml" ++ first) where
   first_is r t = cancel (codes "<?xml") first t.first (sym e ∙ t.bytes_are)
 
   pub no_version : ((r : List ℕ) → TakesSetting (codes "version") IsVersion first r → ⊥) → (r : List ℕ) → TakesDeclaration bytes r → ⊥
-  no_version none r t = none t.second (subst (λ (x : List ℕ). TakesSetting (codes "version") IsVersion x t.second) (sym (first_is r t)) t.version)
+  no_version none r t =
+      none t.second (subst (λ (x : List ℕ). TakesSetting (codes "version") IsVersion x t.second) (sym (first_is r t)) t.version)
 
-  module _ (second third fourth white end : List ℕ) (v : TakesSetting (codes "version") IsVersion first second) (enc : TakesWhereSet (codes "encoding") IsEncoding second third)
+  module _ (second third fourth white end : List ℕ) (v : TakesSetting (codes "version") IsVersion first second)
+      (enc : TakesWhereSet (codes "encoding") IsEncoding second third)
       (alone : TakesWhereSet (codes "standalone") IsYesOrNo third fourth) (c : Cuts is_white fourth white end) where
     second_is : (r : List ℕ) (t : TakesDeclaration bytes r) → second ≡ t.second
-    second_is r t = one_taken (codes "version") refl IsVersion first second t.second v (subst (λ (x : List ℕ). TakesSetting (codes "version") IsVersion x t.second) (sym (first_is r t)) t.version)
+    second_is r t = one_taken (codes "version") refl IsVersion first second t.second v
+        (subst (λ (x : List ℕ). TakesSetting (codes "version") IsVersion x t.second) (sym (first_is r t)) t.version)
 
     no_skip : (r : List ℕ) (t : TakesDeclaration bytes r) → TakesSetting (codes "encoding") IsEncoding t.third third → ⊥
     no_skip r t s = elim t.standalone [
@@ -137,7 +161,8 @@ module _ (bytes first : List ℕ) (e : bytes ≡ codes "<?xml" ++ first) where
         elim enc [
           | inl s ↦ elim t.encoding [
             | inl same ↦ absurd (no_skip r t (subst (λ (x : List ℕ). TakesSetting (codes "encoding") IsEncoding x third) (at ∙ same) s))
-            | inr u ↦ one_taken (codes "encoding") refl IsEncoding t.second third t.third (subst (λ (x : List ℕ). TakesSetting (codes "encoding") IsEncoding x third) at s) u
+            | inr u ↦ one_taken (codes "encoding") refl IsEncoding t.second third t.third
+                (subst (λ (x : List ℕ). TakesSetting (codes "encoding") IsEncoding x third) at s) u
           ]
           | inr n ↦ elim t.encoding [
             | inl same ↦ sym n.0 ∙ at ∙ same
@@ -151,18 +176,21 @@ module _ (bytes first : List ℕ) (e : bytes ≡ codes "<?xml" ++ first) where
         elim alone [
           | inl s ↦ elim t.standalone [
             | inl same ↦ absurd (standalone_is_no_end third fourth t.white r s t.is_white (at ∙ same))
-            | inr u ↦ one_taken (codes "standalone") refl IsYesOrNo t.third fourth (t.white ++ (codes "?>" ++ r)) (subst (λ (x : List ℕ). TakesSetting (codes "standalone") IsYesOrNo x fourth) at s) u
+            | inr u ↦ one_taken (codes "standalone") refl IsYesOrNo t.third fourth (t.white ++ (codes "?>" ++ r))
+                (subst (λ (x : List ℕ). TakesSetting (codes "standalone") IsYesOrNo x fourth) at s) u
           ]
           | inr n ↦ elim t.standalone [
             | inl same ↦ sym n.0 ∙ at ∙ same
-            | inr u ↦ absurd (n.1 (t.white ++ (codes "?>" ++ r)) (subst (λ (x : List ℕ). TakesSetting (codes "standalone") IsYesOrNo x (t.white ++ (codes "?>" ++ r))) (sym at) u))
+            | inr u ↦ absurd (n.1 (t.white ++ (codes "?>" ++ r))
+                (subst (λ (x : List ℕ). TakesSetting (codes "standalone") IsYesOrNo x (t.white ++ (codes "?>" ++ r))) (sym at) u))
           ]
         ]
 
     pub no_end : ((r : List ℕ) → end ≡ codes "?>" ++ r → ⊥) → (r : List ℕ) → TakesDeclaration bytes r → ⊥
     no_end none r t = none r (heads white t.white end (codes "?>" ++ r) c.passes t.is_white c.stops refl (sym c.bytes_are ∙ fourth_is r t))
 
-    optional : (name : List ℕ) (Allows : List ℕ → Type 0) (from to : List ℕ) → TakesWhereSet name Allows from to → TakesOptional name Allows from to
+    optional : (name : List ℕ) (Allows : List ℕ → Type 0) (from to : List ℕ) → TakesWhereSet name Allows from to
+        → TakesOptional name Allows from to
     optional name Allows from to w = elim w [ inl s ↦ inr s | inr n ↦ inl n.0 ]
 
     pub declaration_found : (r : List ℕ) → end ≡ codes "?>" ++ r → TakesDeclaration bytes r
@@ -174,6 +202,7 @@ module _ (bytes first : List ℕ) (e : bytes ≡ codes "<?xml" ++ first) where
       bytes_are = e;
       version = v;
       encoding = optional (codes "encoding") IsEncoding second third enc;
-      standalone = subst (TakesOptional (codes "standalone") IsYesOrNo third) (c.bytes_are ∙ ap (λ x. white ++ x) is) (optional (codes "standalone") IsYesOrNo third fourth alone);
+      standalone = subst (TakesOptional (codes "standalone") IsYesOrNo third) (c.bytes_are ∙ ap (λ x. white ++ x) is)
+          (optional (codes "standalone") IsYesOrNo third fourth alone);
       is_white = c.passes;
     }

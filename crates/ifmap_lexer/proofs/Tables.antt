@@ -22,5 +22,6 @@ agree_at f g (suc n) h b l =
     elim (cases_eq b n) [ inl same ↦ rw same both.0 | inr other ↦ agree_at f g n both.1 b (omega arith) ]
 
 -- a byte is marked where the table has no comma (44) at its place
-pub from_table : (table : List ℕ) (g : ℕ → Bool) (b : ℕ) → b < 256 → agree_below (λ k. not (nat_eq (get_or table k 0) 44)) g 256 ≡ true → not (nat_eq (get_or table b 0) 44) ≡ g b
+pub from_table : (table : List ℕ) (g : ℕ → Bool) (b : ℕ) → b < 256 → agree_below (λ k. not (nat_eq (get_or table k 0) 44)) g 256 ≡ true
+    → not (nat_eq (get_or table b 0) 44) ≡ g b
 from_table table g b l h = agree_at _ _ 256 h b l

@@ -1,7 +1,8 @@
 -- Tokens that are read are those that stand there.
 -- A module for each kind of token, with the steps of its function as parameters: what is found is a token, and a refusal of a step is one
 -- of the whole (`no_..`). At the end, what every token takes is not empty, so that a reader goes on.
-use Rattle.std.proofs.Common.{◌≡◌, ◌≢◌, ℕ, ◌+◌, ◌-◌, ◌≤◌, Bool, true, false, not, List, [], ◌∷◌, ◌++◌, length, drop, refl, ap, sym, ◌∙◌, subst, arith, append_assoc, length-append}
+use Rattle.std.proofs.Common.{◌≡◌, ◌≢◌, ℕ, ◌+◌, ◌-◌, ◌≤◌, Bool, true, false, not, List, [], ◌∷◌, ◌++◌, length, drop, refl, ap, sym, ◌∙◌}
+use Rattle.std.proofs.Common.{subst, arith, append_assoc, length-append}
 use Rattle.std.specs.Prelude.{◌==◌, codes, Result, Ok, Err, IfErr}
 use Rattle.std.specs.List.{list_all}
 use Rattle.std.proofs.Math.Seq.{drop-append_seam}
@@ -53,33 +54,40 @@ of_no_kind bytes e s = none s.0 (sym (kind_is bytes s.0 s.1 s.2) ∙ sym e)
     none (Section text) h = cc
     none (Characters blank text) h = cc
 
-pub kind_refused : {X : Type 0} (kind : Kind) (bytes : List ℕ) (r : Result X LexError) → kind ≡ kind_at bytes → IfErr r (λ e. Refuses e (Stands kind bytes)) → IfErr r (λ e. Refuses e (SomeToken bytes))
+pub kind_refused : {X : Type 0} (kind : Kind) (bytes : List ℕ) (r : Result X LexError) → kind ≡ kind_at bytes
+    → IfErr r (λ e. Refuses e (Stands kind bytes)) → IfErr r (λ e. Refuses e (SomeToken bytes))
 kind_refused kind bytes (Ok x) e h = tt
 kind_refused kind bytes (Err d) e h = refuses_by d (Stands kind bytes) (SomeToken bytes) (of_kind kind bytes e) h
 
-declaration_by : (bytes : List ℕ) (t : Token) (rest : List ℕ) → TakesToken bytes t rest → kind_of t ≡ kinds.Declaration → TakesDeclaration bytes rest
+declaration_by : (bytes : List ℕ) (t : Token) (rest : List ℕ) → TakesToken bytes t rest → kind_of t ≡ kinds.Declaration
+    → TakesDeclaration bytes rest
 declaration_by bytes Declaration rest l e = l
 declaration_by bytes t rest l e = cc
 
-comment_by : (bytes : List ℕ) (t : Token) (rest : List ℕ) → TakesToken bytes t rest → kind_of t ≡ kinds.Comment → TakesToken bytes Comment rest
+comment_by : (bytes : List ℕ) (t : Token) (rest : List ℕ) → TakesToken bytes t rest → kind_of t ≡ kinds.Comment
+    → TakesToken bytes Comment rest
 comment_by bytes Comment rest l e = l
 comment_by bytes t rest l e = cc
 
-section_by : (bytes : List ℕ) (t : Token) (rest : List ℕ) → TakesToken bytes t rest → kind_of t ≡ kinds.Section → (text : List ℕ) × TakesToken bytes (Section text) rest
+section_by : (bytes : List ℕ) (t : Token) (rest : List ℕ) → TakesToken bytes t rest → kind_of t ≡ kinds.Section → (text : List ℕ)
+    × TakesToken bytes (Section text) rest
 section_by bytes (Section text) rest l e = (text, l)
 section_by bytes t rest l e = cc
 
-end_by : (bytes : List ℕ) (t : Token) (rest : List ℕ) → TakesToken bytes t rest → kind_of t ≡ kinds.End → (name : Qualified) × TakesEnd bytes name rest
+end_by : (bytes : List ℕ) (t : Token) (rest : List ℕ) → TakesToken bytes t rest → kind_of t ≡ kinds.End → (name : Qualified)
+    × TakesEnd bytes name rest
 end_by bytes (End name) rest l e = (name, l)
 end_by bytes t rest l e = cc
 
-text_by : (bytes : List ℕ) (t : Token) (rest : List ℕ) → TakesToken bytes t rest → kind_of t ≡ kinds.Text → (blank : Bool) × (text : List ℕ) × TakesText bytes blank text rest
+text_by : (bytes : List ℕ) (t : Token) (rest : List ℕ) → TakesToken bytes t rest → kind_of t ≡ kinds.Text → (blank : Bool)
+    × (text : List ℕ) × TakesText bytes blank text rest
 text_by bytes (Characters blank text) rest l e = (blank, text, l)
 text_by bytes t rest l e = cc
 
 -- how a tag's bytes end
 abbrev pub EndsAs : List ℕ → Type 0
-EndsAs bytes = (tag : Tag) × (end : List ℕ) × TakesTag bytes tag end × ClosesTag end × (((rest : List ℕ) → end ≡ codes ">" ++ rest → ⊥) → ((rest : List ℕ) → end ≡ codes "/>" ++ rest → ⊥) → ⊥)
+EndsAs bytes = (tag : Tag) × (end : List ℕ) × TakesTag bytes tag end × ClosesTag end
+    × (((rest : List ℕ) → end ≡ codes ">" ++ rest → ⊥) → ((rest : List ℕ) → end ≡ codes "/>" ++ rest → ⊥) → ⊥)
 
 tag_by : (bytes : List ℕ) (t : Token) (rest : List ℕ) → TakesToken bytes t rest → kind_of t ≡ kinds.Tag → EndsAs bytes
 tag_by bytes (Start tag) rest l e = (tag, codes ">" ++ rest, l, refl, (λ one two. one rest refl))
@@ -107,7 +115,8 @@ module _ (bytes inner : List ℕ) (e : bytes ≡ codes "<!--" ++ inner) where
   pub no_dashes : Lacks (codes "--") inner → Stands kinds.Comment bytes → ⊥
   no_dashes l s =
       let t = comment_by bytes s.0 s.1 s.2 s.3 in
-      let wrong : true ≡ false = (lacks_back (codes "--") t.0 (codes "-->" ++ s.1) (subst (Lacks (codes "--")) (comment_inner s.1 t) l)).0 in
+      let wrong : true ≡ false =
+      (lacks_back (codes "--") t.0 (codes "-->" ++ s.1) (subst (Lacks (codes "--")) (comment_inner s.1 t) l)).0 in
       cc
 
   module _ (content end : List ℕ) (c : CutsWord (codes "--") inner content end) where
@@ -118,10 +127,19 @@ module _ (bytes inner : List ℕ) (e : bytes ≡ codes "<!--" ++ inner) where
     no_comment_end none s = none s.1 (comment_cut s.1 (comment_by bytes s.0 s.1 s.2 s.3)).1
 
     pub no_comment_characters : (IsCharacters content → ⊥) → Stands kinds.Comment bytes → ⊥
-    no_comment_characters none s = let t = comment_by bytes s.0 s.1 s.2 s.3 in none (subst IsCharacters (sym (comment_cut s.1 t).0) t.1.characters)
+    no_comment_characters none s = let t =
+        comment_by bytes s.0 s.1 s.2 s.3 in none (subst IsCharacters (sym (comment_cut s.1 t).0) t.1.characters)
 
     pub comment_found : (rest : List ℕ) → end ≡ codes ">" ++ rest → IsCharacters content → TakesToken bytes Comment rest
-    comment_found rest is f = (content, record { bytes_are = e ∙ ap (λ x. codes "<!--" ++ x) (c.bytes_are ∙ ap (λ x. content ++ (codes "--" ++ x)) is); characters = f }, c.lacks)
+    comment_found rest is f = (
+      content,
+      record {
+        bytes_are =
+            e ∙ ap (λ x. codes "<!--" ++ x) (c.bytes_are ∙ ap (λ x. content ++ (codes "--" ++ x)) is);
+        characters = f;
+      },
+      c.lacks,
+    )
 
 -- character sections
 
@@ -130,12 +148,14 @@ no_opening_section bytes none s = let t = (section_by bytes s.0 s.1 s.2 s.3).1 i
 
 module _ (bytes inner : List ℕ) (e : bytes ≡ codes "<![CDATA[" ++ inner) where
   section_inner : (text rest : List ℕ) (t : TakesToken bytes (Section text) rest) → inner ≡ t.0 ++ (codes "]]>" ++ rest)
-  section_inner text rest t = let both : codes "<![CDATA[" ++ inner ≡ codes "<![CDATA[" ++ (t.0 ++ (codes "]]>" ++ rest)) = sym e ∙ t.1.bytes_are in cc
+  section_inner text rest t = let both : codes "<![CDATA[" ++ inner ≡ codes "<![CDATA[" ++ (t.0 ++ (codes "]]>" ++ rest)) =
+      sym e ∙ t.1.bytes_are in cc
 
   pub no_brackets : Lacks (codes "]]>") inner → Stands kinds.Section bytes → ⊥
   no_brackets l s =
       let t = section_by bytes s.0 s.1 s.2 s.3 in
-      let wrong : true ≡ false = (lacks_back (codes "]]>") t.1.0 (codes "]]>" ++ s.1) (subst (Lacks (codes "]]>")) (section_inner t.0 s.1 t.1) l)).0 in
+      let wrong : true ≡ false =
+      (lacks_back (codes "]]>") t.1.0 (codes "]]>" ++ s.1) (subst (Lacks (codes "]]>")) (section_inner t.0 s.1 t.1) l)).0 in
       cc
 
   module _ (content rest : List ℕ) (c : CutsWord (codes "]]>") inner content rest) where
@@ -143,31 +163,43 @@ module _ (bytes inner : List ℕ) (e : bytes ≡ codes "<![CDATA[" ++ inner) whe
     section_cut text later t = bracket_cut content t.0 rest later c.front_lacks t.2 (sym c.bytes_are ∙ section_inner text later t)
 
     pub no_section_characters : (IsCharacters content → ⊥) → Stands kinds.Section bytes → ⊥
-    no_section_characters none s = let t = section_by bytes s.0 s.1 s.2 s.3 in none (subst IsCharacters (sym (section_cut t.0 s.1 t.1).0) t.1.1.characters)
+    no_section_characters none s = let t =
+        section_by bytes s.0 s.1 s.2 s.3 in none (subst IsCharacters (sym (section_cut t.0 s.1 t.1).0) t.1.1.characters)
 
     pub section_found : (text : List ℕ) → IsCharacters content → text ≡ line_ends content → TakesToken bytes (Section text) rest
-    section_found text f is = (content, record { bytes_are = e ∙ ap (λ x. codes "<![CDATA[" ++ x) c.bytes_are; characters = f }, c.front_lacks, is)
+    section_found text f is =
+        (content, record { bytes_are = e ∙ ap (λ x. codes "<![CDATA[" ++ x) c.bytes_are; characters = f }, c.front_lacks, is)
 
 -- end tags
 
 pub no_opening_end : (bytes : List ℕ) → ((rest : List ℕ) → bytes ≡ codes "</" ++ rest → ⊥) → Stands kinds.End bytes → ⊥
-no_opening_end bytes none s = let t = end_by bytes s.0 s.1 s.2 s.3 in none (name_bytes t.0 ++ (t.1.white ++ (codes ">" ++ s.1))) t.1.bytes_are
+no_opening_end bytes none s = let t =
+    end_by bytes s.0 s.1 s.2 s.3 in none (name_bytes t.0 ++ (t.1.white ++ (codes ">" ++ s.1))) t.1.bytes_are
 
 module _ (bytes inner : List ℕ) (e : bytes ≡ codes "</" ++ inner) where
-  end_inner : (name : Qualified) (rest : List ℕ) (t : TakesEnd bytes name rest) → inner ≡ name_bytes name ++ (t.white ++ (codes ">" ++ rest))
-  end_inner name rest t = let both : codes "</" ++ inner ≡ codes "</" ++ (name_bytes name ++ (t.white ++ (codes ">" ++ rest))) = sym e ∙ t.bytes_are in cc
+  end_inner : (name : Qualified) (rest : List ℕ) (t : TakesEnd bytes name rest) → inner ≡ name_bytes name
+      ++ (t.white ++ (codes ">" ++ rest))
+  end_inner name rest t = let both : codes "</" ++ inner ≡ codes "</" ++ (name_bytes name ++ (t.white ++ (codes ">" ++ rest))) =
+      sym e ∙ t.bytes_are in cc
 
   pub end_name : Stands kinds.End bytes → SomeName inner
   end_name s =
-      let t = end_by bytes s.0 s.1 s.2 s.3 in
-      (t.0, t.1.white ++ (codes ">" ++ s.1), t.1.is_name, end_inner t.0 s.1 t.1, name_stops_at_white t.1.white (codes ">" ++ s.1) t.1.is_white refl)
+      let t = end_by bytes s.0 s.1 s.2 s.3 in (
+        t.0,
+        t.1.white ++ (codes ">" ++ s.1),
+        t.1.is_name,
+        end_inner t.0 s.1 t.1,
+        name_stops_at_white t.1.white (codes ">" ++ s.1)
+            t.1.is_white refl,
+      )
 
   module _ (name : Qualified) (after white end : List ℕ) (n : NameAt inner name after) (c : Cuts is_white after white end) where
     pub no_end_end : ((rest : List ℕ) → end ≡ codes ">" ++ rest → ⊥) → Stands kinds.End bytes → ⊥
     no_end_end none s =
         let o = end_by bytes s.0 s.1 s.2 s.3 in
         let t = o.1 in
-        let both = name_cut name o.0 after (t.white ++ (codes ">" ++ s.1)) n.0 t.is_name n.2 (name_stops_at_white t.white (codes ">" ++ s.1) t.is_white refl) (sym n.1 ∙ end_inner o.0 s.1 t) in
+        let both = name_cut name o.0 after (t.white ++ (codes ">" ++ s.1)) n.0 t.is_name n.2
+        (name_stops_at_white t.white (codes ">" ++ s.1) t.is_white refl) (sym n.1 ∙ end_inner o.0 s.1 t) in
         none s.1 (cut is_white white t.white end (codes ">" ++ s.1) c.passes t.is_white c.stops refl (sym c.bytes_are ∙ both.1)).1
 
     pub end_found : (rest : List ℕ) → end ≡ codes ">" ++ rest → TakesEnd bytes name rest
@@ -190,10 +222,12 @@ no_tag_end bytes tag end l closes one two s =
     let same : end ≡ t.1 = (one_tag bytes tag t.0 end t.1 (closes_ends end closes) (closes_ends t.1 t.3) l t.2).1 in
     t.4 (λ r e. one r (same ∙ e)) (λ r e. two r (same ∙ e))
 
-pub start_found : (bytes : List ℕ) (tag : Tag) (end rest : List ℕ) → TakesTag bytes tag end → end ≡ codes ">" ++ rest → TakesToken bytes (Start tag) rest
+pub start_found : (bytes : List ℕ) (tag : Tag) (end rest : List ℕ) → TakesTag bytes tag end → end ≡ codes ">" ++ rest
+    → TakesToken bytes (Start tag) rest
 start_found bytes tag end rest t e = subst (TakesTag bytes tag) e t
 
-pub empty_found : (bytes : List ℕ) (tag : Tag) (end rest : List ℕ) → TakesTag bytes tag end → end ≡ codes "/>" ++ rest → TakesToken bytes (Empty tag) rest
+pub empty_found : (bytes : List ℕ) (tag : Tag) (end rest : List ℕ) → TakesTag bytes tag end → end ≡ codes "/>" ++ rest
+    → TakesToken bytes (Empty tag) rest
 empty_found bytes tag end rest t e = subst (TakesTag bytes tag) e t
 
 -- text
@@ -208,24 +242,29 @@ ends_text (b ∷ bs) s = by_test (b == 0x3C) refl
 
 module _ (bytes own rest : List ℕ) (c : Cuts (is_but 0x3C) bytes own rest) where
   text_cut : (blank : Bool) (text later : List ℕ) (t : TakesText bytes blank text later) → own ≡ t.own
-  text_cut blank text later t = (cut (is_but 0x3C) own t.own rest later c.passes t.no_tag c.stops (text_stops later t.ends) (sym c.bytes_are ∙ t.bytes_are)).0
+  text_cut blank text later t =
+      (cut (is_but 0x3C) own t.own rest later c.passes t.no_tag c.stops (text_stops later t.ends) (sym c.bytes_are ∙ t.bytes_are)).0
 
   pub no_own : own ≡ [] → Stands kinds.Text bytes → ⊥
   no_own e s = let t = (text_by bytes s.0 s.1 s.2 s.3) in t.2.some (sym (text_cut t.0 t.1 s.1 t.2) ∙ e)
 
   pub no_text_end : (Lacks (codes "]]>") own → ⊥) → Stands kinds.Text bytes → ⊥
-  no_text_end none s = let t = (text_by bytes s.0 s.1 s.2 s.3) in none (subst (Lacks (codes "]]>")) (sym (text_cut t.0 t.1 s.1 t.2)) t.2.no_section_end)
+  no_text_end none s = let t =
+      (text_by bytes s.0 s.1 s.2 s.3) in none (subst (Lacks (codes "]]>")) (sym (text_cut t.0 t.1 s.1 t.2)) t.2.no_section_end)
 
   pub no_text_characters : (IsCharacters own → ⊥) → Stands kinds.Text bytes → ⊥
-  no_text_characters none s = let t = (text_by bytes s.0 s.1 s.2 s.3) in none (subst IsCharacters (sym (text_cut t.0 t.1 s.1 t.2)) t.2.characters)
+  no_text_characters none s = let t =
+      (text_by bytes s.0 s.1 s.2 s.3) in none (subst IsCharacters (sym (text_cut t.0 t.1 s.1 t.2)) t.2.characters)
 
   pub some_text : Stands kinds.Text bytes → (text : List ℕ) × IsText own text
-  some_text s = let t = (text_by bytes s.0 s.1 s.2 s.3) in (t.1, subst (λ (x : List ℕ). IsText x t.1) (sym (text_cut t.0 t.1 s.1 t.2)) t.2.means)
+  some_text s = let t =
+      (text_by bytes s.0 s.1 s.2 s.3) in (t.1, subst (λ (x : List ℕ). IsText x t.1) (sym (text_cut t.0 t.1 s.1 t.2)) t.2.means)
 
   pub some_text_of : (written : List ℕ) → written ≡ own → Stands kinds.Text bytes → SomeMeaning written
   some_text_of written e s = subst SomeMeaning (sym e) (some_text s)
 
-  pub text_found : own ≢ [] → Lacks (codes "]]>") own → IsCharacters own → (blank : Bool) → blank ≡ list_all is_white own → (text : List ℕ) → IsText own text → TakesText bytes blank text rest
+  pub text_found : own ≢ [] → Lacks (codes "]]>") own → IsCharacters own → (blank : Bool) → blank ≡ list_all is_white own
+      → (text : List ℕ) → IsText own text → TakesText bytes blank text rest
   text_found some lacks f blank b text m = record {
     own = own;
     bytes_are = c.bytes_are;
@@ -240,7 +279,8 @@ module _ (bytes own rest : List ℕ) (c : Cuts (is_but 0x3C) bytes own rest) whe
 
 -- the token and how much it takes
 
-shorter : (front rest bytes : List ℕ) → bytes ≡ front ++ rest → front ≢ [] → (1 ≤ length bytes - length rest) × (length bytes - length rest ≤ length bytes) × (drop (length bytes - length rest) bytes ≡ rest)
+shorter : (front rest bytes : List ℕ) → bytes ≡ front ++ rest → front ≢ [] → (1 ≤ length bytes - length rest)
+    × (length bytes - length rest ≤ length bytes) × (drop (length bytes - length rest) bytes ≡ rest)
 shorter [] rest bytes e some = absurd (some refl)
 shorter (x ∷ xs) rest bytes e some =
     let both : length bytes ≡ length (x ∷ xs) + length rest = ap length e ∙ length-append (x ∷ xs) rest in
@@ -258,7 +298,8 @@ tag_front bytes tag end t =
       (λ e. cc),
     )
   where
-    items_front : (bytes : List ℕ) (xs : List Assignment) (rest : List ℕ) → To TakesAssignment bytes xs rest → (front : List ℕ) × (bytes ≡ front ++ rest)
+    items_front : (bytes : List ℕ) (xs : List Assignment) (rest : List ℕ) → To TakesAssignment bytes xs rest → (front : List ℕ)
+        × (bytes ≡ front ++ rest)
     items_front bytes [] rest l = ([], l)
     items_front bytes (x ∷ xs) rest l =
         let f = items_front l.0 xs rest l.2 in
@@ -266,10 +307,13 @@ tag_front bytes tag end t =
         let quoted : List ℕ = q.before ++ (0x3D ∷ (q.after ++ (q.quote ∷ (l.1.written ++ (q.quote ∷ []))))) in (
           l.1.white ++ (name_bytes x.name ++ (quoted ++ f.0)),
           l.1.bytes_are ∙ ap (λ b. l.1.white ++ (name_bytes x.name ++ b)) q.bytes_are
-              ∙ ap (λ b. l.1.white ++ (name_bytes x.name ++ (q.before ++ (0x3D ∷ (q.after ++ (q.quote ∷ (l.1.written ++ (q.quote ∷ b)))))))) f.1 ∙ simp append_assoc,
+              ∙ ap (λ b. l.1.white
+              ++ (name_bytes x.name ++ (q.before ++ (0x3D ∷ (q.after ++ (q.quote ∷ (l.1.written ++ (q.quote ∷ b)))))))) f.1
+              ∙ simp append_assoc,
         )
 
-pub token_front : (bytes : List ℕ) (t : Token) (rest : List ℕ) → TakesToken bytes t rest → (front : List ℕ) × (bytes ≡ front ++ rest) × (front ≢ [])
+pub token_front : (bytes : List ℕ) (t : Token) (rest : List ℕ) → TakesToken bytes t rest → (front : List ℕ) × (bytes ≡ front ++ rest)
+    × (front ≢ [])
 token_front bytes Declaration rest t =
     let n = declaration_no_end bytes rest t in
     (n.0 ++ codes ">", n.1 ∙ sym (append_assoc n.0 (codes ">") rest), some_end n.0)
@@ -292,7 +336,8 @@ token_front bytes (Empty tag) rest t =
     some_more : (xs ys : List ℕ) → xs ≢ [] → xs ++ ys ≢ []
     some_more [] ys some e = some refl
     some_more (x ∷ xs) ys some e = cc
-token_front bytes (End name) rest t = (codes "</" ++ (name_bytes name ++ (t.white ++ codes ">")), t.bytes_are ∙ simp append_assoc, (λ e. cc))
+token_front bytes (End name) rest t =
+    (codes "</" ++ (name_bytes name ++ (t.white ++ codes ">")), t.bytes_are ∙ simp append_assoc, (λ e. cc))
 token_front bytes (Section text) rest t = (codes "<![CDATA[" ++ (t.0 ++ codes "]]>"), t.1.bytes_are ∙ simp append_assoc, (λ e. cc))
 token_front bytes (Characters blank text) rest t = (t.own, t.bytes_are, t.some)
 
@@ -303,6 +348,7 @@ token_length bytes t rest l = let f = token_front bytes t rest l in shorter f.0 
 pub is_behind : (bytes : List ℕ) (t : Token) (rest : List ℕ) → TakesToken bytes t rest → length rest ≤ length bytes
 is_behind bytes t rest l = let f = token_front bytes t rest l in omega (arith, ap length f.1, length-append f.0 rest)
 
-pub malformed_of : (bytes : List ℕ) (e : LexError) → Refuses e (SomeToken bytes) → e ≡ Malformed → (t : Token) (rest : List ℕ) → TakesToken bytes t rest → ⊥
+pub malformed_of : (bytes : List ℕ) (e : LexError) → Refuses e (SomeToken bytes) → e ≡ Malformed → (t : Token) (rest : List ℕ)
+    → TakesToken bytes t rest → ⊥
 malformed_of bytes Malformed r e t rest l = r (t, rest, l)
 malformed_of bytes NoMemory r e t rest l = cc

@@ -26,7 +26,8 @@ no_tab b h = grind (arith, nat_tests)
 
 line_same : (place : Place) (xs : List ℕ) → AllAre is_verbatim xs → line_in place xs ≡ xs
 line_same CharacterData xs f = refl
-line_same AttributeValue xs f = untabbed xs (all_weaker is_verbatim (is_but 9) no_tab xs f) (all_weaker is_verbatim (is_but 10) no_newline xs f)
+line_same AttributeValue xs f =
+    untabbed xs (all_weaker is_verbatim (is_but 9) no_tab xs f) (all_weaker is_verbatim (is_but 10) no_newline xs f)
 
 part_same : (place : Place) (xs : List ℕ) → AllAre is_verbatim xs → part_in place (Plain xs) ≡ xs
 part_same place xs f = break_end place xs (all_weaker is_verbatim (is_but 13) no_return xs f) ∙ line_same place xs f

@@ -1,5 +1,6 @@
 -- The first place of a word.
-use Rattle.std.proofs.Common.{◌≡◌, ℕ, zero, suc, ◌+◌, ◌-◌, ◌<◌, ◌≤◌, Bool, true, false, List, [], ◌∷◌, ◌++◌, length, get_or, take, drop, refl, ap, sym, ◌∙◌, subst, arith, append_assoc, length-append}
+use Rattle.std.proofs.Common.{◌≡◌, ℕ, zero, suc, ◌+◌, ◌-◌, ◌<◌, ◌≤◌, Bool, true, false, List, [], ◌∷◌, ◌++◌, length, get_or, take, drop}
+use Rattle.std.proofs.Common.{refl, ap, sym, ◌∙◌, subst, arith, append_assoc, length-append}
 use Rattle.std.specs.Prelude.{◌==◌, codes, nat_eq}
 use Rattle.std.specs.List.{starts_with}
 use Rattle.std.proofs.lemmas.List.{take-append-drop, length-take}
@@ -42,21 +43,28 @@ occurs_whole w whole xs ys j e o = record {
 joined : (a w b : List ℕ) (m : ℕ) → a ++ (w ++ b) ≡ (a ++ take m w) ++ (drop m w ++ b)
 joined a w b m = ap (λ x. a ++ (x ++ b)) (sym (take-append-drop m w)) ∙ simp append_assoc
 
-pub word_found : (w bytes front after : List ℕ) (k : ℕ) → 0 < length w → NoneBefore (OccursAt bytes w) 0 (length bytes + 1) k → OccursAt bytes w k → front ≡ take k bytes → after ≡ drop (length w) (drop k bytes) → CutsWord w bytes front after
+pub word_found : (w bytes front after : List ℕ) (k : ℕ) → 0 < length w → NoneBefore (OccursAt bytes w) 0 (length bytes + 1) k
+    → OccursAt bytes w k → front ≡ take k bytes → after ≡ drop (length w) (drop k bytes) → CutsWord w bytes front after
 word_found w bytes front after k some first o f b =
-    let tail : drop k bytes ≡ w ++ after = sym (take-append-drop (length w) (drop k bytes)) ∙ (λ i. OccursAt-part bytes w k o i ++ sym b i) in
+    let tail : drop k bytes ≡ w ++ after = sym (take-append-drop (length w) (drop k bytes))
+    ∙ (λ i. OccursAt-part bytes w k o i ++ sym b i) in
     let whole : bytes ≡ front ++ (w ++ after) = sym (take-append-drop k bytes) ∙ (λ i. sym f i ++ tail i) in
     let m = length w - 1 in
     let cut : bytes ≡ (front ++ take m w) ++ (drop m w ++ after) = whole ∙ joined front w after m in
     record {
       bytes_are = whole;
       lacks = lacks_from w (front ++ take m w) (λ j inside.
-          first.before j (omega arith) (omega (arith, inside.fits, length-append front (take m w), length-take m w, ap length f, length-take k bytes)) (occurs_whole w bytes (front ++ take m w) (drop m w ++ after) j cut inside));
-      front_lacks = lacks_from w front (λ j inside. first.before j (omega arith) (omega (arith, inside.fits, ap length f, length-take k bytes)) (occurs_whole w bytes front (w ++ after) j whole inside));
+          first.before j (omega arith)
+          (omega (arith, inside.fits, length-append front (take m w), length-take m w, ap length f, length-take k bytes))
+          (occurs_whole w bytes (front ++ take m w) (drop m w ++ after) j cut inside));
+      front_lacks = lacks_from w front
+          (λ j inside. first.before j (omega arith) (omega (arith, inside.fits, ap length f, length-take k bytes))
+          (occurs_whole w bytes front (w ++ after) j whole inside));
     }
 
 -- a byte's first place
-pub byte_found : (c : ℕ) (bytes front after : List ℕ) (k : ℕ) → NoneBefore (Passes (is_byte c) bytes) 0 (length bytes) k → Passes (is_byte c) bytes k → front ≡ take k bytes → after ≡ drop 1 (drop k bytes) → CutsAt c bytes front after
+pub byte_found : (c : ℕ) (bytes front after : List ℕ) (k : ℕ) → NoneBefore (Passes (is_byte c) bytes) 0 (length bytes) k
+    → Passes (is_byte c) bytes k → front ≡ take k bytes → after ≡ drop 1 (drop k bytes) → CutsAt c bytes front after
 byte_found c bytes front after k first here f b = record {
   bytes_are = split bytes k first.high here ∙ (λ i. sym f i ++ (c ∷ sym b i));
   passes = subst (AllAre (is_but c)) (sym f) (before bytes k (λ j l. first.before j (omega arith) l));
@@ -88,7 +96,8 @@ word_not_lacked (x ∷ xs) bytes front after some e l = at_seam front (subst (La
     at_seam : (front : List ℕ) → Lacks (x ∷ xs) (front ++ ((x ∷ xs) ++ after)) → ⊥
     at_seam [] l =
         let same : take (length (x ∷ xs)) ((x ∷ xs) ++ after) ≡ x ∷ xs = take-append_seam (x ∷ xs) after in
-        let test : starts_with ◌==◌ ((x ∷ xs) ++ after) (x ∷ xs) ≡ true = (bytes_eq-Decides (x ∷ xs) (take (length (x ∷ xs)) ((x ∷ xs) ++ after))).1 (sym same) in
+        let test : starts_with ◌==◌ ((x ∷ xs) ++ after) (x ∷ xs) ≡ true =
+        (bytes_eq-Decides (x ∷ xs) (take (length (x ∷ xs)) ((x ∷ xs) ++ after))).1 (sym same) in
         let wrong : true ≡ false = sym test ∙ l.0 in
         cc
     at_seam (y ∷ ys) l = at_seam ys l.1
@@ -97,5 +106,6 @@ word_not_lacked (x ∷ xs) bytes front after some e l = at_seam front (subst (La
 pub lacks_section_end : (bytes : List ℕ) → AllAre (is_but 0x5D) bytes → Lacks (codes "]]>") bytes
 lacks_section_end [] f = tt
 lacks_section_end (b ∷ bs) f =
-    let other : (0x5D == b) ≡ false = is_other 0x5D b (λ e. let wrong : true ≡ false = sym f.0 ∙ subst (λ (n : ℕ). is_but 0x5D n ≡ false) e refl in cc) in
+    let other : (0x5D == b) ≡ false =
+    is_other 0x5D b (λ e. let wrong : true ≡ false = sym f.0 ∙ subst (λ (n : ℕ). is_but 0x5D n ≡ false) e refl in cc) in
     (rw other refl, lacks_section_end bs f.1)

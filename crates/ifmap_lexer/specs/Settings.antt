@@ -20,7 +20,8 @@ pub record SetsTo (name bytes written rest : List ℕ) : Type 0 where
 
 -- the setting is taken where it stands, and else nothing is
 abbrev pub TakesWhereSet : List ℕ → (List ℕ → Type 0) → List ℕ → List ℕ → Type 0
-TakesWhereSet name IsAllowed bytes rest = TakesSetting name IsAllowed bytes rest ⊎ ((bytes ≡ rest) × ((r : List ℕ) → TakesSetting name IsAllowed bytes r → ⊥))
+TakesWhereSet name IsAllowed bytes rest = TakesSetting name IsAllowed bytes rest
+    ⊎ ((bytes ≡ rest) × ((r : List ℕ) → TakesSetting name IsAllowed bytes r → ⊥))
 
 -- the values that a declaration may have
 abbrev pub IsVersion : List ℕ → Type 0

@@ -1,7 +1,7 @@
 //! Why no token was read.
 ghost use Rattle.std.specs.Prelude.{◌≡◌};
 
-use std::alloc::{AllocError, AllocFailed};
+use std::alloc::{AllocError as NoMemory, AllocFailed};
 use thiserror::Error;
 
 /// Why no token was read.
@@ -13,12 +13,12 @@ pub enum LexError {
     NoMemory,
 }
 
-impl From<AllocError> for LexError {
+impl From<NoMemory> for LexError {
     ghost use Rattle.ifmap_lexer.specs.declared.errors.LexError.TheVariants.{NoMemory};
 
     ghost from_gives = { λ _ e. e ≡ NoMemory };
 
-    fn from(_: AllocError) -> Self {
+    fn from(_: NoMemory) -> Self {
         LexError::NoMemory
     }
 }

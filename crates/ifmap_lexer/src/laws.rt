@@ -6,6 +6,8 @@ ghost use Rattle.ifmap_elem.specs.declared.tokens.Token.{Token};
 
 /// At the front of bytes stands a token, or none does; and a token takes some bytes.
 pub fn token_stands_or_none()
-    ensures decided { (bytes : List ℕ) → Decided ((t : Token) × (rest : List ℕ) × TakesToken bytes t rest) }
-    ensures some_bytes { (bytes : List ℕ) (t : Token) (rest : List ℕ) → TakesToken bytes t rest → length rest < length bytes }
+    ensures decided { (bytes : List ℕ) →
+        Decided ((t : Token) × (rest : List ℕ) × TakesToken bytes t rest) }
+    ensures some_bytes { (bytes : List ℕ) (t : Token) (rest : List ℕ) →
+        TakesToken bytes t rest → length rest < length bytes }
 {}

@@ -32,9 +32,10 @@ pub fn token_of(alloc: Global, bytes: &[u8]) -> Result<Lexed, LexError>
 /// How many bytes the end tag of the name with these parts takes, where it stands at the front; none
 /// where it does not, or where the name is not of ASCII alone. Makes no token.
 pub fn end_tag_length(prefix: &Text, local: &Text, bytes: &[u8]) -> Option<usize>
-    ensures taken { IfSome result (λ n. TakesEndTag prefix.now local.now bytes.now (drop n bytes.now)) }
+    ensures taken { IfSome result (λ n.
+        TakesEndTag prefix.now local.now bytes.now (drop n bytes.now)) }
     ensures length { IfSome result (λ n. (1 ≤ n) × (n ≤ length bytes.now)) }
 {
-    let rest = after_end_tag(prefix.0.as_bytes(), local.0.as_bytes(), bytes)?;
+    let rest = after_end_tag(prefix.as_bytes(), local.as_bytes(), bytes)?;
     Some(bytes.len() - rest.len())
 }

@@ -102,7 +102,7 @@ fn qualified_name(alloc: Global, bytes: &[u8]) -> Result<Qualified, LexError>
         }
         None => {
             let local = name_part(alloc, bytes)?;
-            let prefix = Text(String::new(alloc));
+            let prefix = Text::new(alloc);
             Ok(Qualified { prefix, local })
         }
     }

@@ -70,7 +70,8 @@ fn space_of(
     prefix: &Text,
 ) -> Result<Option<Text>, NoMemory>
     requires { AreLinked (reverse open_elements.now) }
-    ensures { IfOk result (λ space. space ≡ bound (scope_inside bindings.now open_elements.now) prefix.now) }
+    ensures { IfOk result (λ space.
+        space ≡ bound (scope_inside bindings.now open_elements.now) prefix.now) }
 {
     if let Some(space) = bindings.space_of(prefix) {
         return Ok(Some(space.copy(alloc)?));

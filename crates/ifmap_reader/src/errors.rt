@@ -1,5 +1,5 @@
 //! Why nothing was read.
-use std::alloc::{AllocError, AllocFailed};
+use std::alloc::{AllocError as NoMemory, AllocFailed};
 use thiserror::Error;
 
 /// Why bytes are not read as an element.
@@ -23,13 +23,13 @@ pub(crate) enum Refusal {
     NoMemory,
 }
 
-impl From<AllocError> for Refusal {
+impl From<NoMemory> for Refusal {
     ghost use Rattle.std.specs.Prelude.{◌≡◌};
     ghost use Rattle.ifmap_reader.specs.declared.errors.Refusal.TheVariants.{NoMemory};
 
     ghost from_gives = { λ _ e. e ≡ NoMemory };
 
-    fn from(_: AllocError) -> Self {
+    fn from(_: NoMemory) -> Self {
         Refusal::NoMemory
     }
 }

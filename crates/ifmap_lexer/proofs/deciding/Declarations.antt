@@ -7,7 +7,8 @@ use Rattle.ifmap_elem.specs.Chars.{is_white}
 use Rattle.ifmap_elem.specs.Tokens.{TakesDeclaration, TakesSetting}
 use Rattle.ifmap_lexer.specs.Cutting.{Cuts}
 use Rattle.ifmap_lexer.specs.Settings.{IsEncoding, IsVersion, IsYesOrNo, SetsTo, StartsNotWhite, TakesWhereSet}
-use Rattle.ifmap_lexer.proofs.SettingLaws.{not_spaced, not_named, not_given, setting_found, taken_with, not_allowed, not_set, no_version, no_end, declaration_found}
+use Rattle.ifmap_lexer.proofs.SettingLaws.{not_spaced, not_named, not_given, setting_found, taken_with, not_allowed, not_set, no_version}
+use Rattle.ifmap_lexer.proofs.SettingLaws.{no_end, declaration_found}
 use Rattle.ifmap_lexer.proofs.deciding.Runs.{cut_of}
 use Rattle.ifmap_lexer.proofs.deciding.Values.{quoted_or_none}
 

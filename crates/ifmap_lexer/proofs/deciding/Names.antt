@@ -9,7 +9,8 @@ use Rattle.ifmap_elem.specs.declared.tokens.Qualified.{Qualified}
 use Rattle.ifmap_elem.specs.Names.{IsNamePart, is_name_start, is_name_character}
 use Rattle.ifmap_lexer.specs.Names.{is_name_byte}
 use Rattle.ifmap_lexer.specs.There.{SomeName, Written}
-use Rattle.ifmap_lexer.proofs.NameLaws.{part_is_utf8, prefixed_found, unprefixed_found, prefixed_parts, unprefixed_part, name_found, name_run}
+use Rattle.ifmap_lexer.proofs.NameLaws.{part_is_utf8, prefixed_found, unprefixed_found, prefixed_parts, unprefixed_part, name_found}
+use Rattle.ifmap_lexer.proofs.NameLaws.{name_run}
 use Rattle.ifmap_lexer.proofs.deciding.Runs.{are_or_not, cut_of, cut_or_none}
 
 -- these characters are the bytes, and a name part

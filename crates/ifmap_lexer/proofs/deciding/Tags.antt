@@ -11,7 +11,8 @@ use Rattle.ifmap_lexer.specs.Cutting.{Cuts, is_but}
 use Rattle.ifmap_lexer.specs.Tags.{ClosesTag, IsAtEnd}
 use Rattle.ifmap_lexer.specs.declared.values.Place.TheVariants.{AttributeValue}
 use Rattle.ifmap_lexer.specs.There.{SomeAssignment, SomeAssignments, SomeGiven, SomeTag}
-use Rattle.ifmap_lexer.proofs.AssignmentLaws.{SomeValue, no_white, some_name, no_value, some_value, assignment_found, goes_on_start, goes_on_next, some_first, tells_end, tag_name, tag_assignments, tag_found}
+use Rattle.ifmap_lexer.proofs.AssignmentLaws.{SomeValue, no_white, some_name, no_value, some_value, assignment_found, goes_on_start}
+use Rattle.ifmap_lexer.proofs.AssignmentLaws.{goes_on_next, some_first, tells_end, tag_name, tag_assignments, tag_found}
 use Rattle.ifmap_lexer.proofs.deciding.Names.{name_or_none}
 use Rattle.ifmap_lexer.proofs.deciding.Runs.{are_or_not, characters_or_not, cut_of}
 use Rattle.ifmap_lexer.proofs.deciding.Values.{expansion_or_none, quoted_or_none}

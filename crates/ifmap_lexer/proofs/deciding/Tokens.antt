@@ -12,7 +12,10 @@ use Rattle.ifmap_lexer.specs.declared.kinds.Kind.{Kind}
 use Rattle.ifmap_lexer.specs.declared.kinds.Kind.TheVariants as kinds
 use Rattle.ifmap_lexer.specs.declared.values.Place.TheVariants.{CharacterData}
 use Rattle.ifmap_lexer.specs.There.{SomeToken}
-use Rattle.ifmap_lexer.proofs.TokenLaws.{of_kind, of_no_kind, no_declaration, no_opening_comment, no_dashes, no_comment_end, no_comment_characters, comment_found, no_opening_section, no_brackets, no_section_characters, section_found, no_opening_end, end_name, no_end_end, end_found, some_tag, no_tag_end, start_found, empty_found, no_own, no_text_end, no_text_characters, some_text, text_found}
+use Rattle.ifmap_lexer.proofs.TokenLaws.{of_kind, of_no_kind, no_declaration, no_opening_comment, no_dashes, no_comment_end}
+use Rattle.ifmap_lexer.proofs.TokenLaws.{no_comment_characters, comment_found, no_opening_section, no_brackets, no_section_characters}
+use Rattle.ifmap_lexer.proofs.TokenLaws.{section_found, no_opening_end, end_name, no_end_end, end_found, some_tag, no_tag_end}
+use Rattle.ifmap_lexer.proofs.TokenLaws.{start_found, empty_found, no_own, no_text_end, no_text_characters, some_text, text_found}
 use Rattle.ifmap_lexer.proofs.deciding.Declarations.{declaration_or_none}
 use Rattle.ifmap_lexer.proofs.deciding.Names.{name_or_none}
 use Rattle.ifmap_lexer.proofs.deciding.Runs.{characters_or_not, cut_of, lacks_or_not, word_or_none}

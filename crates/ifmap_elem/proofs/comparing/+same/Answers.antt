@@ -1,5 +1,4 @@
-use Rattle.std.proofs.Common.{◌∙◌, sym, ap, map, arith}
-use Rattle.ifmap_elem.specs.Arranged.{arrange_child}
+use Rattle.std.proofs.Common.{arith}
 use Rattle.ifmap_elem.specs.laws.ArrangedLaws.{same_children_of, other_at}
 use Rattle.ifmap_elem.proofs.comparing.+same.Goals as goal
 
@@ -11,8 +10,6 @@ same_child-returns-in-Element-Element t c =
 pub same_children-returns-then-not-same_child : goal.same_children-returns-then-not-same_child
 same_children-returns-then-not-same_child t c = (
   λ f. cc,
-  λ same. absurd (other_at c.one.inside.0.items c.other.inside.0.items c.loop-i.i c.index.result.now c.index-in-loop-i.result.now
-      (omega (arith, c.one.inside.0.ok.0)) (omega (arith, c.other.inside.0.ok.0)) c.index.ensures c.index-in-loop-i.ensures
-      (λ e. let h = c.same_child.ensures.1 e in cc)
-      (ap (map arrange_child) c.one.view_is ∙ same ∙ sym (ap (map arrange_child) c.other.view_is))),
+  λ same. absurd (other_at c.args.one.now c.args.other.now c.loop-i.i c.index-one-i.result c.index-other-i.result
+      (omega arith) (omega arith) c.index-one-i.is c.index-other-i.is (λ e. let h = c.same_child.ensures.1 e in cc) same),
 )

@@ -1,5 +1,5 @@
-use Rattle.std.proofs.Common.{◌≡◌, ◌∙◌, ap, subst, List, length, get_or, arith, eq-eqb, vec_len}
-use Rattle.std.proofs.lemmas.List.{take_all}
+use Rattle.std.proofs.Common.{◌∙◌, ap, subst, List, length, get_or, arith}
+use Rattle.std.proofs.lemmas.List.{nil_from_length, take_all}
 use Rattle.std.specs.List.{flat_map}
 use Rattle.ifmap_elem.specs.declared.elements.Child.{Child}
 use Rattle.ifmap_elem.specs.Arranged.{arrange_child}
@@ -15,9 +15,8 @@ write_content-loop-child-preserved t c =
     (arrange_child x)) c.args.children.now c.loop-child.child-index c.child-item.result
     c.args.prefixes.now c.loop-child.prefixes c.write_child.new.prefixes c.extend_from_slice-2.new.self.items c.loop-child.out.items
     c.write_child.new.out.items
-    (omega (arith, c.loop-child-test.true, ap length c.deref-child-items.ensures.value, ap length c.children.view_is))
-    (c.child-item.is ∙ ap (λ (l : List Child). get_or l c.loop-child.child-index c.child-item.result)
-    (c.deref-child-items.ensures.value ∙ c.children.view_is))
+    (omega (arith, c.loop-child-test.true, ap length c.as_slice-child-items.ensures))
+    (c.child-item.is ∙ ap (λ (l : List Child). get_or l c.loop-child.child-index c.child-item.result) c.as_slice-child-items.ensures)
     c.loop-child.invariant c.in_ok-write_child.ensures
 
 pub write_content-returns : goal.write_content-returns
@@ -26,14 +25,12 @@ write_content-returns t c = λ named.
     (arrange_child x)) c.args.children.now c.args.name.now c.args.prefix.now
     c.args.prefixes.now c.loop-child.prefixes c.args.out.now.items c.extend_from_slice-2.new.self.items c.loop-child.out.items
     c.extend_from_slice-3.new.self.items c.write_name.new.out.items c.extend_from_slice-4.new.self.items
-    (λ e.
-    let h : vec_len c.children.inside.0 ≡ 0 = omega (arith, e, c.children.inside.0.ok.0, ap length c.children.view_is) in
-    let k = eq-eqb (vec_len c.children.inside.0) 0 h in cc)
+    (λ e. let h = c.is_empty.ensures.1 (nil_from_length c.args.children.now e) in cc)
     c.in_ok-extend_from_slice-2.ensures.items
     (subst (λ (l : List Child). Adds c.args.prefixes.now (flat_map (λ x. spaces_of_child (arrange_child x)) l) c.loop-child.prefixes
     (λ rows. flat_map (λ x. child_bytes rows (arrange_child x)) l) c.extend_from_slice-2.new.self.items c.loop-child.out.items)
     (take_all c.loop-child.child-index c.args.children.now (omega
-    (arith, c.loop-child-test.false, ap length c.deref-child-items.ensures.value, ap length c.children.view_is)))
+    (arith, c.loop-child-test.false, ap length c.as_slice-child-items.ensures)))
     c.loop-child.invariant)
     c.in_ok-extend_from_slice-3.ensures.items named c.in_ok-write_name.ensures c.in_ok-extend_from_slice-4.ensures.items
 

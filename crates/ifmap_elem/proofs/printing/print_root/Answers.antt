@@ -1,5 +1,10 @@
 use Rattle.std.proofs.Common.{◌≡◌, ◌++◌, refl, ap, ◌∙◌}
 use Rattle.ifmap_elem.proofs.Fronting.{drained_items}
+use Rattle.std.specs.Prelude.{codes}
+use Rattle.std.specs.List.{flat_map}
+use Rattle.ifmap_elem.specs.Canonical.{declaration_bytes}
+use Rattle.ifmap_elem.specs.Namespaces.{numbered_prefixes}
+use Rattle.ifmap_elem.proofs.KeyLaws.{bytes_of}
 use Rattle.ifmap_elem.proofs.PieceLaws.{final_before, front_both, prefix_final, piece_root}
 use Rattle.ifmap_elem.specs.printer.Pieces.{AreFinal}
 use Rattle.ifmap_elem.proofs.printing.print_root.Goals as goal
@@ -22,12 +27,14 @@ returns c =
       none_bare = c.spaces.ensures.none_bare;
     } in
     piece_root c.args.element.now c.args.spaces.now c.in_ok-prefixes.prefixes c.number.new.self c.write_attributes.new.prefixes
-    c.write_content.new.prefixes c.spaces.result.now c.in_ok-prefix.prefix
+    c.write_content.new.prefixes (bytes_of c.spaces.result.now) c.in_ok-prefix.prefix
     c.new-inside.result.items c.write_attributes.new.out.items c.write_content.new.out.items c.write_content.new.out.items
     c.new-head.result.items c.extend_from_slice.new.self.items c.write_name.new.out.items c.write_declarations.new.out.items head
     c.splice.new.self.items
     c.in_ok-prefixes.ensures c.in_ok-prefix.ensures.added c.new-inside.ensures.items c.in_ok-write_attributes.ensures content
     c.spaces.ensures.none_bare (named c.write_content.new.prefixes whole) c.spaces.ensures.all refl c.new-head.ensures.items
     c.in_ok-extend_from_slice.ensures.items
-    c.in_ok-write_name.ensures c.in_ok-write_declarations.ensures c.in_ok-write_declarations-2.ensures
+    c.in_ok-write_name.ensures c.in_ok-write_declarations.ensures (c.in_ok-write_declarations-2.ensures
+    ∙ ap (λ l. c.write_declarations.new.out.items ++ flat_map declaration_bytes (numbered_prefixes (codes "f") 1 l))
+    (ap bytes_of c.deref.ensures.value ∙ c.in_ok-given.ensures))
     (put.4 ∙ ap (λ l. l ++ c.write_content.new.out.items) front)

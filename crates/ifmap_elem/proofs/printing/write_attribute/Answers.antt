@@ -1,8 +1,5 @@
-use Rattle.std.proofs.Common.{◌∷◌, [], ◌++◌, subst, ap, ◌∙◌}
-use Rattle.ifmap_elem.specs.declared.elements.Name.{Name}
-use Rattle.ifmap_elem.specs.Canonical.{printed_name}
+use Rattle.std.proofs.Common.{◌++◌, ap, ◌∙◌}
 use Rattle.ifmap_elem.specs.Escapes.{value_bytes}
-use Rattle.ifmap_elem.specs.printer.Pieces.{Adds}
 use Rattle.ifmap_elem.proofs.PieceLaws.{piece_attribute}
 use Rattle.ifmap_elem.proofs.printing.write_attribute.Goals as goal
 
@@ -12,9 +9,6 @@ returns c =
     c.extend_from_slice.new.self.items c.write_new_name.new.out.items
     c.extend_from_slice-2.new.self.items c.write_escaped.new.out.items c.extend_from_slice-3.new.self.items
     c.in_ok-extend_from_slice.ensures.items
-    (subst (λ (n : Name). Adds c.args.prefixes.now (n.space ∷ []) c.write_new_name.new.prefixes
-    (λ rows. printed_name rows n) c.extend_from_slice.new.self.items c.write_new_name.new.out.items)
-    (ap (λ a. a.name) c.attribute.view_is) c.in_ok-write_new_name.ensures.added)
+    c.in_ok-write_new_name.ensures.added
     c.in_ok-extend_from_slice-2.ensures.items (c.in_ok-write_escaped.ensures
-    ∙ ap (λ l. c.extend_from_slice-2.new.self.items ++ value_bytes l)
-    (c.as_bytes.ensures.value ∙ ap (λ a. a.value) c.attribute.view_is)) c.in_ok-extend_from_slice-3.ensures.items
+    ∙ ap (λ l. c.extend_from_slice-2.new.self.items ++ value_bytes l) c.as_bytes.ensures) c.in_ok-extend_from_slice-3.ensures.items

@@ -1,4 +1,4 @@
-use Rattle.std.proofs.Common.{◌≡◌, List, ℕ, ◌∙◌, subst}
+use Rattle.std.proofs.Common.{◌≡◌, List, ℕ, subst}
 use Rattle.std.specs.Prelude.{IfOk}
 use Rattle.ifmap_elem.specs.Canonical.{written_bytes}
 use Rattle.ifmap_elem.specs.laws.CanonicalSpells.{written_if_ok}
@@ -6,7 +6,7 @@ use Rattle.ifmap_elem.proofs.printing.written.Goals as goal
 
 pub returns-clause-spelled : goal.returns-clause-spelled
 returns-clause-spelled c =
-    let e = c.deref.ensures.value ∙ c.spaces.view_is in
     λ fit can. written_if_ok c.print_root.result c.args.element.now c.args.spaces.now
-    (subst (λ (l : List (List ℕ)). IfOk c.print_root.result (λ bytes. bytes ≡ written_bytes c.args.element.now l)) e c.print_root.ensures)
+    (subst (λ (l : List (List ℕ)). IfOk c.print_root.result (λ bytes. bytes ≡ written_bytes c.args.element.now l)) c.as_slice.ensures
+    c.print_root.ensures)
     fit can

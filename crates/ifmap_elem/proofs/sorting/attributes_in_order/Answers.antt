@@ -9,4 +9,4 @@ returns c =
     sorted_references c.loop-attribute.order.items c.sort_unstable.new.self.items c.sort_unstable.ensures.permutation
     c.sort_unstable.ensures.sorted
     ∙ ap sort_attributes (c.loop-attribute.invariant ∙ take_all c.loop-attribute.attribute-index c.args.attributes.now
-    (omega (arith, c.loop-attribute-test.false, ap length c.deref-attribute-items.ensures.value, ap length c.attributes.view_is)))
+    (omega (arith, c.loop-attribute-test.false, ap length c.as_slice-attribute-items.ensures)))

@@ -8,4 +8,5 @@ use Rattle.ifmap_lexer.proofs.characters.are_allowed.Goals as goal
 pub returns : goal.returns
 returns c =
     tells_characters c.args.text.now c.all.result c.utf8.text
-    (all_from_yields_List is_character _ _ c.all.result c.all.ensures.ran (YieldsList-from_chars c.args.text.now c.utf8.text cc) (λ x b q k. search (rules, tests)))
+    (all_from_yields_List is_character _ _ c.all.result c.all.ensures.ran (YieldsList-from_chars c.args.text.now c.utf8.text cc)
+    (λ x b q k. search (rules, tests)))

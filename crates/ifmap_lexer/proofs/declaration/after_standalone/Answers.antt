@@ -9,7 +9,8 @@ returns-in_default c = inr (refl, not_set (codes "standalone") refl IsYesOrNo c.
 
 pub returns-then-is_yes_or_no : goal.returns-then-is_yes_or_no
 returns-then-is_yes_or_no c =
-    inl (taken_with (codes "standalone") refl IsYesOrNo c.args.bytes.now c.in-Some.written.now c.in-Some.rest.now c.in-Some.ensures.found (c.is_yes_or_no.ensures.0 c.if-is_yes_or_no.true))
+    inl (taken_with (codes "standalone") refl IsYesOrNo c.args.bytes.now c.in-Some.written.now c.in-Some.rest.now c.in-Some.ensures.found
+    (c.is_yes_or_no.ensures.0 c.if-is_yes_or_no.true))
 
 pub returns-else-is_yes_or_no : goal.returns-else-is_yes_or_no
 returns-else-is_yes_or_no c =

@@ -10,4 +10,5 @@ returns-in_default-clause-none c = not_set (codes "version") refl IsVersion c.ar
 pub returns-else-eq-clause-none : goal.returns-else-eq-clause-none
 returns-else-eq-clause-none c =
     not_allowed (codes "version") refl IsVersion c.args.bytes.now c.in-Some.written.now c.in-Some.rest.now c.in-Some.ensures.found
-    (λ is. is_false _ (sym c.eq.ensures ∙ c.if-eq.false) ((bytes_eq-Decides c.in-Some.written.now c.as_slice.result.now).1 (is ∙ sym c.as_slice.ensures)))
+    (λ is. is_false _ (sym c.eq.ensures ∙ c.if-eq.false)
+    ((bytes_eq-Decides c.in-Some.written.now c.as_slice.result.now).1 (is ∙ sym c.as_slice.ensures)))

@@ -6,21 +6,25 @@ use Rattle.ifmap_lexer.proofs.declaration.setting.Goals as goal
 
 pub returns-then-is_empty-clause-none : goal.returns-then-is_empty-clause-none
 returns-then-is_empty-clause-none c =
-    not_spaced c.args.name.now c.requires c.args.bytes.now c.split_white.result.0.now c.split_white.result.1.now c.split_white.ensures (is_none c.split_white.result.0.now (sym c.is_empty.ensures ∙ c.if-is_empty.true))
+    not_spaced c.args.name.now c.requires c.args.bytes.now c.split_white.result.0.now c.split_white.result.1.now c.split_white.ensures
+    (is_none c.split_white.result.0.now (sym c.is_empty.ensures ∙ c.if-is_empty.true))
 
 pub returns-in_default-clause-none : goal.returns-in_default-clause-none
 returns-in_default-clause-none c =
-    not_named c.args.name.now c.requires c.args.bytes.now c.split_white.result.0.now c.split_white.result.1.now c.split_white.ensures c.in_default.ensures.none
+    not_named c.args.name.now c.requires c.args.bytes.now c.split_white.result.0.now c.split_white.result.1.now c.split_white.ensures
+    c.in_default.ensures.none
 
 pub returns-clause-found : goal.returns-clause-found
 returns-clause-found c =
     map_some c.quoted_value.result _ _
-    (λ x q. setting_found c.args.name.now c.requires c.args.bytes.now c.split_white.result.0.now c.split_white.result.1.now c.split_white.ensures c.in-Some.after.now c.in-Some.ensures.found x.0.now x.1.now
+    (λ x q. setting_found c.args.name.now c.requires c.args.bytes.now c.split_white.result.0.now c.split_white.result.1.now
+    c.split_white.ensures c.in-Some.after.now c.in-Some.ensures.found x.0.now x.1.now
     (is_some_list c.split_white.result.0.now (sym c.is_empty.ensures ∙ c.if-is_empty.false)) q)
     c.quoted_value.ensures.found
 
 pub returns-clause-none : goal.returns-clause-none
 returns-clause-none c =
     map_none c.quoted_value.result _ _
-    (λ n. not_given c.args.name.now c.requires c.args.bytes.now c.split_white.result.0.now c.split_white.result.1.now c.split_white.ensures c.in-Some.after.now c.in-Some.ensures.found n)
+    (λ n. not_given c.args.name.now c.requires c.args.bytes.now c.split_white.result.0.now c.split_white.result.1.now
+    c.split_white.ensures c.in-Some.after.now c.in-Some.ensures.found n)
     c.quoted_value.ensures.none

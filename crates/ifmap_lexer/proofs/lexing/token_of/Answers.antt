@@ -11,7 +11,8 @@ overflow_sub-length c = is_behind c.args.bytes.now c.in_ok-token.token c.in_ok-t
 pub returns-clause-taken : goal.returns-clause-taken
 returns-clause-taken c =
     let found = c.in_ok-token.ensures.found in
-    subst (TakesToken c.args.bytes.now c.in_ok-token.token) (sym (token_length c.args.bytes.now c.in_ok-token.token c.in_ok-token.rest.now found).2) found
+    subst (TakesToken c.args.bytes.now c.in_ok-token.token)
+    (sym (token_length c.args.bytes.now c.in_ok-token.token c.in_ok-token.rest.now found).2) found
 
 pub returns-clause-length : goal.returns-clause-length
 returns-clause-length c =

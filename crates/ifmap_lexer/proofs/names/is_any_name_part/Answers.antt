@@ -12,7 +12,9 @@ returns-then-is_first c =
     let rest = c.next.new.self.rest.now in
     let split : c.args.text.now ≡ encode_utf8 c.in-Some.first ++ rest = sym c.chars-characters.ensures.rest ∙ c.in-Some.ensures.steps.0 in
     tells_part c.args.text.now rest c.in-Some.first split c.all.result c.utf8.text (sym c.is_first.ensures ∙ c.if-is_first.true)
-    (all_from_yields_List is_name_character _ _ c.all.result c.all.ensures.ran (YieldsList-from_chars rest (IsUtf8-past_char c.args.text.now rest c.in-Some.first c.utf8.text split) refl) (λ x b q k. search (rules, tests)))
+    (all_from_yields_List is_name_character _ _ c.all.result c.all.ensures.ran
+    (YieldsList-from_chars rest (IsUtf8-past_char c.args.text.now rest c.in-Some.first c.utf8.text split) refl)
+    (λ x b q k. search (rules, tests)))
 
 pub returns-else-is_first : goal.returns-else-is_first
 returns-else-is_first c =

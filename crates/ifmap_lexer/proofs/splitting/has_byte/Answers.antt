@@ -5,7 +5,13 @@ use Rattle.ifmap_lexer.proofs.SplitLaws.{some_or_not}
 use Rattle.ifmap_lexer.proofs.splitting.has_byte.Goals as goal
 
 pub returns-clause-yes : goal.returns-clause-yes
-returns-clause-yes c = (some_or_not c.split_round_byte.result _ (AllAre (is_but c.args.byte) c.args.bytes.now) (λ x k f. not_lacked c.args.byte c.args.bytes.now x.0.now x.1.now k.bytes_are f) c.split_round_byte.ensures.found c.split_round_byte.ensures.none c.is_some.result c.is_some.ensures).0
+returns-clause-yes c =
+    (some_or_not c.split_round_byte.result _ (AllAre (is_but c.args.byte) c.args.bytes.now)
+    (λ x k f. not_lacked c.args.byte c.args.bytes.now x.0.now x.1.now k.bytes_are f) c.split_round_byte.ensures.found
+    c.split_round_byte.ensures.none c.is_some.result c.is_some.ensures).0
 
 pub returns-clause-no : goal.returns-clause-no
-returns-clause-no c = (some_or_not c.split_round_byte.result _ (AllAre (is_but c.args.byte) c.args.bytes.now) (λ x k f. not_lacked c.args.byte c.args.bytes.now x.0.now x.1.now k.bytes_are f) c.split_round_byte.ensures.found c.split_round_byte.ensures.none c.is_some.result c.is_some.ensures).1
+returns-clause-no c =
+    (some_or_not c.split_round_byte.result _ (AllAre (is_but c.args.byte) c.args.bytes.now)
+    (λ x k f. not_lacked c.args.byte c.args.bytes.now x.0.now x.1.now k.bytes_are f) c.split_round_byte.ensures.found
+    c.split_round_byte.ensures.none c.is_some.result c.is_some.ensures).1

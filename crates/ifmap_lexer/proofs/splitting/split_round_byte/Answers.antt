@@ -7,4 +7,5 @@ split_round-requires c = omega (arith, c.in-Some.ensures.0.high)
 
 pub returns-in-Some-clause-found : goal.returns-in-Some-clause-found
 returns-in-Some-clause-found c =
-    byte_found c.args.byte c.args.bytes.now c.split_round.result.0.now c.split_round.result.1.now c.in-Some.place c.in-Some.ensures.0 c.in-Some.ensures.1 c.split_round.ensures.front c.split_round.ensures.after
+    byte_found c.args.byte c.args.bytes.now c.split_round.result.0.now c.split_round.result.1.now c.in-Some.place c.in-Some.ensures.0
+    c.in-Some.ensures.1 c.split_round.ensures.front c.split_round.ensures.after

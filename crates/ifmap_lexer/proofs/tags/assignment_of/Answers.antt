@@ -7,7 +7,8 @@ use Rattle.ifmap_lexer.specs.There.{SomeAssignment, SomeName}
 
 pub returns-then-is_empty-clause-refused : goal.returns-then-is_empty-clause-refused
 returns-then-is_empty-clause-refused c =
-    no_white c.args.bytes.now c.split_white.result.0.now c.split_white.result.1.now c.split_white.ensures (is_none c.split_white.result.0.now (sym c.is_empty.ensures ∙ c.if-is_empty.true))
+    no_white c.args.bytes.now c.split_white.result.0.now c.split_white.result.1.now c.split_white.ensures
+    (is_none c.split_white.result.0.now (sym c.is_empty.ensures ∙ c.if-is_empty.true))
 
 pub returns-in_err-name-clause-refused : goal.returns-in_err-name-clause-refused
 returns-in_err-name-clause-refused c =
@@ -17,20 +18,24 @@ returns-in_err-name-clause-refused c =
 
 pub returns-in_default-clause-refused : goal.returns-in_default-clause-refused
 returns-in_default-clause-refused c =
-    no_value c.args.bytes.now c.split_white.result.0.now c.split_white.result.1.now c.split_white.ensures c.in_ok-name.name c.in_ok-name.after.now c.in_ok-name.ensures.found c.in_default.ensures.none
+    no_value c.args.bytes.now c.split_white.result.0.now c.split_white.result.1.now c.split_white.ensures c.in_ok-name.name
+    c.in_ok-name.after.now c.in_ok-name.ensures.found c.in_default.ensures.none
 
 pub returns-in_err-value-clause-refused : goal.returns-in_err-value-clause-refused
 returns-in_err-value-clause-refused c =
     let p = err_from_is_err_and c.from_residual-in_err-value.result c.from_residual-in_err-value.ensures.1 in
     rw (p.1, p.2) (refuses_by c.in_err-value.field-0.0 _ (SomeAssignment c.args.bytes.now)
-    (some_value c.args.bytes.now c.split_white.result.0.now c.split_white.result.1.now c.split_white.ensures c.in_ok-name.name c.in_ok-name.after.now c.in_ok-name.ensures.found c.in-Some.written.now c.in-Some.rest.now c.in-Some.ensures.found)
+    (some_value c.args.bytes.now c.split_white.result.0.now c.split_white.result.1.now c.split_white.ensures c.in_ok-name.name
+    c.in_ok-name.after.now c.in_ok-name.ensures.found c.in-Some.written.now c.in-Some.rest.now c.in-Some.ensures.found)
     c.in_err-value.ensures.refused)
 
 pub returns-clause-found : goal.returns-clause-found
 returns-clause-found c =
-    assignment_found c.args.bytes.now c.split_white.result.0.now c.split_white.result.1.now c.split_white.ensures c.in_ok-name.name c.in_ok-name.after.now c.in_ok-name.ensures.found c.in-Some.written.now c.in-Some.rest.now c.in-Some.ensures.found
+    assignment_found c.args.bytes.now c.split_white.result.0.now c.split_white.result.1.now c.split_white.ensures c.in_ok-name.name
+    c.in_ok-name.after.now c.in_ok-name.ensures.found c.in-Some.written.now c.in-Some.rest.now c.in-Some.ensures.found
     c.in_ok-value.value (is_some_list c.split_white.result.0.now (sym c.is_empty.ensures ∙ c.if-is_empty.false)) c.in_ok-value.ensures.found
 
 pub returns-clause-shorter : goal.returns-clause-shorter
 returns-clause-shorter c =
-    is_shorter c.args.bytes.now c.split_white.result.0.now c.split_white.result.1.now c.split_white.ensures c.in_ok-name.name c.in_ok-name.after.now c.in_ok-name.ensures.found c.in-Some.written.now c.in-Some.rest.now c.in-Some.ensures.found
+    is_shorter c.args.bytes.now c.split_white.result.0.now c.split_white.result.1.now c.split_white.ensures c.in_ok-name.name
+    c.in_ok-name.after.now c.in_ok-name.ensures.found c.in-Some.written.now c.in-Some.rest.now c.in-Some.ensures.found

@@ -9,15 +9,19 @@ all-init c = goes_on_start c.args.bytes.now _ c.new-made.ensures.items
 
 pub all-preserved : goal.all-preserved
 all-preserved c =
-    goes_on_next c.all.rest.now (is_not _ _ c.is_at_end.ensures c.all-test.true) c.args.bytes.now c.all.made.items c.push.new.self.items c.in_ok-assignment.assignment c.in_ok-assignment.after.now
+    goes_on_next c.all.rest.now (is_not _ _ c.is_at_end.ensures c.all-test.true) c.args.bytes.now c.all.made.items c.push.new.self.items
+    c.in_ok-assignment.assignment c.in_ok-assignment.after.now
     c.all.invariant c.in_ok-assignment.ensures.found c.in_ok-push.ensures.items
 
 pub returns-in_err-assignment-clause-refused : goal.returns-in_err-assignment-clause-refused
 returns-in_err-assignment-clause-refused c =
     let p = err_from_is_err_and c.from_residual.result c.from_residual.ensures.1 in
-    let f = λ (s : SomeAssignments c.args.bytes.now). some_first c.all.rest.now (is_not _ _ c.is_at_end.ensures c.all-test.true) (c.all.invariant.ahead s) in
-    rw (p.1, p.2) (refuses_by c.in_err-assignment.field-0.0 (SomeAssignment c.all.rest.now) (SomeAssignments c.args.bytes.now) f c.in_err-assignment.ensures.refused)
+    let f = λ (s : SomeAssignments c.args.bytes.now). some_first c.all.rest.now (is_not _ _ c.is_at_end.ensures c.all-test.true)
+    (c.all.invariant.ahead s) in
+    rw (p.1, p.2) (refuses_by c.in_err-assignment.field-0.0 (SomeAssignment c.all.rest.now) (SomeAssignments c.args.bytes.now) f
+    c.in_err-assignment.ensures.refused)
 
 pub returns-clause-found : goal.returns-clause-found
 returns-clause-found c =
-    goes_on_end c.args.bytes.now c.all.made.items c.all.rest.now c.split_white.result.0.now c.split_white.result.1.now c.all.invariant (c.is_at_end.ensures.0 c.all-test.false) c.split_white.ensures
+    goes_on_end c.args.bytes.now c.all.made.items c.all.rest.now c.split_white.result.0.now c.split_white.result.1.now c.all.invariant
+    (c.is_at_end.ensures.0 c.all-test.false) c.split_white.ensures

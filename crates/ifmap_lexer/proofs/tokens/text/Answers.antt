@@ -9,7 +9,8 @@ use Rattle.ifmap_lexer.proofs.tokens.text.Goals as goal
 
 pub returns-then-is_empty-clause-refused : goal.returns-then-is_empty-clause-refused
 returns-then-is_empty-clause-refused c =
-    no_own c.args.bytes.now c.split_byte.result.0.now c.split_byte.result.1.now c.split_byte.ensures (is_none c.split_byte.result.0.now (sym c.is_empty.ensures ∙ c.if-is_empty.true))
+    no_own c.args.bytes.now c.split_byte.result.0.now c.split_byte.result.1.now c.split_byte.ensures
+    (is_none c.split_byte.result.0.now (sym c.is_empty.ensures ∙ c.if-is_empty.true))
 
 pub returns-then-has_section_end-clause-refused : goal.returns-then-has_section_end-clause-refused
 returns-then-has_section_end-clause-refused c =
@@ -23,10 +24,12 @@ pub returns-in_err-meant-clause-refused : goal.returns-in_err-meant-clause-refus
 returns-in_err-meant-clause-refused c =
     let p = err_from_is_err_and c.from_residual.result c.from_residual.ensures.1 in
     rw (p.1, p.2) (refuses_by c.in_err-meant.field-0.0 (SomeMeaning c.in-Some.written.now) (Stands kinds.Text c.args.bytes.now)
-    (some_text_of c.args.bytes.now c.split_byte.result.0.now c.split_byte.result.1.now c.split_byte.ensures c.in-Some.written.now c.in-Some.ensures.found.0) c.in_err-meant.ensures.refused)
+    (some_text_of c.args.bytes.now c.split_byte.result.0.now c.split_byte.result.1.now c.split_byte.ensures c.in-Some.written.now
+    c.in-Some.ensures.found.0) c.in_err-meant.ensures.refused)
 
 pub returns-clause-found : goal.returns-clause-found
 returns-clause-found c =
-    text_found c.args.bytes.now c.split_byte.result.0.now c.split_byte.result.1.now c.split_byte.ensures (is_some_list c.split_byte.result.0.now (sym c.is_empty.ensures ∙ c.if-is_empty.false))
+    text_found c.args.bytes.now c.split_byte.result.0.now c.split_byte.result.1.now c.split_byte.ensures
+    (is_some_list c.split_byte.result.0.now (sym c.is_empty.ensures ∙ c.if-is_empty.false))
     c.if-has_section_end.ensures.no c.in-Some.ensures.found.1 c.is_blank.result c.is_blank.ensures c.in_ok-meant.meant
     (subst (λ (x : List ℕ). IsText x c.in_ok-meant.meant) c.in-Some.ensures.found.0 c.in_ok-meant.ensures.found)

@@ -4,4 +4,5 @@ use Rattle.ifmap_lexer.proofs.RunLaws.{no_newline}
 use Rattle.ifmap_lexer.proofs.values.after_newline.Goals as goal
 
 pub returns-in-None-clause-line : goal.returns-in-None-clause-line
-returns-in-None-clause-line c = rw (no_newline c.args.text.now (strip_prefix_char 10 c.args.text.now None c.in-None.ensures.cases (lit< tt))) refl
+returns-in-None-clause-line c =
+    rw (no_newline c.args.text.now (strip_prefix_char 10 c.args.text.now None c.in-None.ensures.cases (lit< tt))) refl

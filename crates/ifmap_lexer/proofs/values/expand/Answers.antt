@@ -7,11 +7,13 @@ use Rattle.ifmap_lexer.proofs.values.expand.Goals as goal
 
 pub returns-in_default-split_char-clause-refused : goal.returns-in_default-split_char-clause-refused
 returns-in_default-split_char-clause-refused c =
-    along_unended c.args.place c.args.written.now (string_bytes c.loop-run.text) c.loop-run.rest.now c.in-Some.run'.now c.in-Some.after.now c.loop-run.invariant.1 c.in-Some.ensures.found c.in_default-split_char.ensures.none
+    along_unended c.args.place c.args.written.now (string_bytes c.loop-run.text) c.loop-run.rest.now c.in-Some.run'.now
+    c.in-Some.after.now c.loop-run.invariant.1 c.in-Some.ensures.found c.in_default-split_char.ensures.none
 
 pub returns-in_default-character_named-clause-refused : goal.returns-in_default-character_named-clause-refused
 returns-in_default-character_named-clause-refused c =
-    along_unknown c.args.place c.args.written.now (string_bytes c.loop-run.text) c.loop-run.rest.now c.in-Some.run'.now c.in-Some.after.now c.loop-run.invariant.1 c.in-Some.ensures.found
+    along_unknown c.args.place c.args.written.now (string_bytes c.loop-run.text) c.loop-run.rest.now c.in-Some.run'.now
+    c.in-Some.after.now c.loop-run.invariant.1 c.in-Some.ensures.found
     c.in-Some-split_char.name.now c.in-Some-split_char.next.now c.in-Some-split_char.ensures.found
     (ap referred (sym c.as_bytes.ensures.value) ∙ sym c.character_named.ensures ∙ c.in_default-character_named.is)
 
@@ -27,11 +29,13 @@ loop-run-preserved c =
     let next = c.in-Some-split_char.next.now in
     let character = c.in-Some-character_named.character in (
       after_is_utf8 59 after name next (lit< tt) second.bytes_are (after_is_utf8 38 rest run after (lit< tt) first.bytes_are inv.0),
-      along_next c.args.place c.args.written.now (string_bytes c.loop-run.text) rest run after inv.1 first name next second (string_bytes c.push.new.self) character
+      along_next c.args.place c.args.written.now (string_bytes c.loop-run.text) rest run after inv.1 first name next second
+          (string_bytes c.push.new.self) character
           (ap referred (sym c.as_bytes.ensures.value) ∙ sym c.character_named.ensures ∙ c.in-Some-character_named.is)
           (c.in_ok-push.ensures.bytes ∙ ap (λ x. x ++ encode_utf8 character) c.in_ok-push_run.ensures),
     )
 
 pub returns-clause-found : goal.returns-clause-found
 returns-clause-found c =
-    along_end c.args.place c.args.written.now (string_bytes c.loop-run.text) c.loop-run.rest.now (string_bytes c.push_run-2.new.text) c.loop-run.invariant.1 c.in_default.ensures.none c.in_ok-push_run-2.ensures
+    along_end c.args.place c.args.written.now (string_bytes c.loop-run.text) c.loop-run.rest.now (string_bytes c.push_run-2.new.text)
+    c.loop-run.invariant.1 c.in_default.ensures.none c.in_ok-push_run-2.ensures

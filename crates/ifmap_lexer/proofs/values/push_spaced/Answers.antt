@@ -12,11 +12,15 @@ loop-front-preserved c =
     let front = c.in-Some.front.now in
     let after = c.in-Some.after.now in (
       after_is_utf8 10 rest front after (lit< tt) cut.bytes_are inv.0,
-      two_more _ (string_bytes c.loop-front.text) (string_bytes c.push_untabbed.new.text) (map as_space rest) (string_bytes c.push.new.self) (map as_space front) (0x20 ∷ []) inv.1
-          c.in_ok-push_untabbed.ensures (c.in_ok-push.ensures.bytes ∙ ap (λ x. string_bytes c.push_untabbed.new.text ++ x) (c.in_ok-push.ensures.ascii (lit< tt))) (map as_space after) (newline_step rest front after cut),
+      two_more _ (string_bytes c.loop-front.text) (string_bytes c.push_untabbed.new.text) (map as_space rest)
+          (string_bytes c.push.new.self) (map as_space front) (0x20 ∷ []) inv.1
+          c.in_ok-push_untabbed.ensures
+          (c.in_ok-push.ensures.bytes ∙ ap (λ x. string_bytes c.push_untabbed.new.text ++ x) (c.in_ok-push.ensures.ascii (lit< tt)))
+          (map as_space after) (newline_step rest front after cut),
     )
 
 pub returns : goal.returns
 returns c =
     let inv = c.loop-front.invariant in
-    last_line c.push_untabbed-2.result _ (string_bytes c.loop-front.text) (map as_space c.loop-front.rest.now) (string_bytes c.push_untabbed-2.new.text) (map as_space c.loop-front.rest.now) inv.1 c.push_untabbed-2.ensures refl
+    last_line c.push_untabbed-2.result _ (string_bytes c.loop-front.text) (map as_space c.loop-front.rest.now)
+    (string_bytes c.push_untabbed-2.new.text) (map as_space c.loop-front.rest.now) inv.1 c.push_untabbed-2.ensures refl

@@ -5,7 +5,8 @@ use Rattle.ifmap_elem.specs.Values.{as_space}
 use Rattle.ifmap_lexer.proofs.values.push_spaced.Given as goal
 
 abbrev pub invariant-loop-front : goal.invariant-loop-front
-invariant-loop-front l = shadow (Utf8 l.rest) × (string_bytes l.text ++ map as_space l.rest ≡ string_bytes l.initial.text ++ map as_space l.line)
+invariant-loop-front l =
+    shadow (Utf8 l.rest) × (string_bytes l.text ++ map as_space l.rest ≡ string_bytes l.initial.text ++ map as_space l.line)
 
 abbrev pub decreases-loop-front : goal.decreases-loop-front
 decreases-loop-front l = length l.rest

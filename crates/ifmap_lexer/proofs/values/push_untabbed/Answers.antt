@@ -13,12 +13,16 @@ loop-front-preserved c =
     let after = c.in-Some.after.now in (
       after_is_utf8 9 rest front after (lit< tt) cut.bytes_are inv.0,
       tab_behind rest front after cut inv.1,
-      two_more _ (string_bytes c.loop-front.text) (string_bytes c.push_str.new.self) (map as_space rest) (string_bytes c.push.new.self) front (0x20 ∷ []) inv.2
-          c.in_ok-push_str.ensures.bytes (c.in_ok-push.ensures.bytes ∙ ap (λ x. string_bytes c.push_str.new.self ++ x) (c.in_ok-push.ensures.ascii (lit< tt))) (map as_space after) (tab_step rest front after cut inv.1),
+      two_more _ (string_bytes c.loop-front.text) (string_bytes c.push_str.new.self) (map as_space rest) (string_bytes c.push.new.self)
+          front (0x20 ∷ []) inv.2
+          c.in_ok-push_str.ensures.bytes
+          (c.in_ok-push.ensures.bytes ∙ ap (λ x. string_bytes c.push_str.new.self ++ x) (c.in_ok-push.ensures.ascii (lit< tt)))
+          (map as_space after) (tab_step rest front after cut inv.1),
     )
 
 pub returns : goal.returns
 returns c =
     let inv = c.loop-front.invariant in
-    last_str c.push_str-2.result _ (string_bytes c.loop-front.text) (map as_space c.loop-front.rest.now) (string_bytes c.push_str-2.new.self) c.loop-front.rest.now inv.2 c.push_str-2.ensures.bytes
+    last_str c.push_str-2.result _ (string_bytes c.loop-front.text) (map as_space c.loop-front.rest.now)
+    (string_bytes c.push_str-2.new.self) c.loop-front.rest.now inv.2 c.push_str-2.ensures.bytes
     (untabbed c.loop-front.rest.now c.in_default.ensures.none inv.1)
