@@ -5,11 +5,16 @@
 
 pub mod codes;
 mod domains;
+mod equality;
 pub mod identifiers;
 pub mod items;
+pub mod kinds;
 mod mac_addresses;
+mod ordering;
+mod sizes;
 mod values;
 
 pub use codes::Code;
 pub use identifiers::Identifier;
 pub use items::Item;
+pub use kinds::{IdentityType, Kind};
