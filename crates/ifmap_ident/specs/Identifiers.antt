@@ -3,6 +3,9 @@ use Rattle.std.specs.Prelude.{ℕ, Bool, List, [], ◌∷◌, ◌++◌, ◌==◌
 use Rattle.std.specs.Cmp.Lexicographic.{pointwise, slice_cmp}
 use Rattle.std.specs.Ordering.{nat_cmp, on}
 use Rattle.std.specs.declared.cmp.Ordering.{Ordering}
+use Rattle.ifmap_addresses.specs.IpV4.{ip_v4_text}
+use Rattle.ifmap_addresses.specs.IpV6.{ip_v6_text}
+use Rattle.ifmap_addresses.specs.MacAddresses.{mac_address_text}
 use Rattle.ifmap_elem.specs.declared.elements.Attribute.{Attribute}
 use Rattle.ifmap_elem.specs.declared.elements.Child
 use Rattle.ifmap_elem.specs.declared.elements.Element.{Element}
@@ -12,8 +15,7 @@ use Rattle.ifmap_ident.specs.declared.identifiers.Identifier.{Identifier}
 use Rattle.ifmap_ident.specs.declared.identifiers.Identifier.TheVariants.{AccessRequest, Device, Identity, IpV4, IpV6, MacAddress}
 use Rattle.ifmap_ident.specs.declared.kinds.Kind.{Kind}
 use Rattle.ifmap_ident.specs.declared.kinds.Kind
-use Rattle.ifmap_ident.specs.AddressTexts.{ip_v4_text, ip_v6_text, mac_address_text}
-use Rattle.ifmap_ident.specs.IdentityTypes.{identity_type_name}
+use Rattle.ifmap_ident.specs.Kinds.{identity_type_name}
 
 -- an attribute that an empty value leaves out
 abbrev pub attribute_unless_empty : List ℕ → List ℕ → List Attribute

@@ -1,6 +1,6 @@
 //! The kinds of identifiers, and the types of identities.
 ghost use Rattle.std.specs.Prelude.{◌≡◌};
-ghost use Rattle.ifmap_ident.specs.IdentityTypes.{identity_type_name};
+ghost use Rattle.ifmap_ident.specs.Kinds.{identity_type_name};
 
 /// The element that an identifier is.
 #[derive(Clone, Copy, Debug, PartialEq, Eq)]
