@@ -4,7 +4,7 @@ use Rattle.std.specs.Str.{byte}
 use Rattle.std.specs.declared.cmp.Ordering.{Ordering}
 use Rattle.ifmap_elem.specs.Escapes.{value_byte, value_bytes}
 use Rattle.ifmap_ident.specs.Leading.{Leads}
-use Rattle.ifmap_ident.specs.MacAddresses.{address_text}
+use Rattle.ifmap_addresses.specs.MacAddresses.{mac_address_text as address_text}
 
 -- what is written for a byte of an attribute's value; at its end, the closing quote
 abbrev pub written_byte : Option ℕ → List ℕ

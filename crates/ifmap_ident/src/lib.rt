@@ -5,11 +5,19 @@
 
 pub mod codes;
 mod domains;
+mod equality;
+pub mod errors;
 pub mod identifiers;
+mod identities;
 pub mod items;
+pub mod kinds;
 mod mac_addresses;
+mod ordering;
+mod sizes;
 mod values;
 
 pub use codes::Code;
+pub use errors::IdentError;
 pub use identifiers::Identifier;
 pub use items::Item;
+pub use kinds::{IdentityType, Kind};
