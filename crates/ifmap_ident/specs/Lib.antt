@@ -5,6 +5,5 @@ pub mod IdentityNames
 pub mod Items
 pub mod Kinds
 pub mod Leading
-pub mod MacAddresses
 pub mod Parts
 pub mod Written

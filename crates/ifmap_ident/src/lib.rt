@@ -4,17 +4,16 @@
 #![tactic(auto)]
 
 pub mod codes;
-mod domains;
 mod equality;
 pub mod errors;
 pub mod identifiers;
 mod identities;
 pub mod items;
 pub mod kinds;
-mod mac_addresses;
+mod optionals;
 mod ordering;
 mod sizes;
-mod values;
+mod written;
 
 pub use codes::Code;
 pub use errors::IdentError;
