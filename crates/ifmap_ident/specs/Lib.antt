@@ -6,5 +6,6 @@ pub mod Items
 pub mod Kinds
 pub mod Leading
 pub mod MacAddresses
+pub mod Meaning
 pub mod Parts
 pub mod Written

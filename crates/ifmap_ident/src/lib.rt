@@ -13,6 +13,7 @@ pub mod items;
 pub mod kinds;
 mod mac_addresses;
 mod ordering;
+mod parts;
 mod sizes;
 mod values;
 
