@@ -1,5 +1,5 @@
 //! IPv4 addresses.
-ghost use Rattle.std.specs.Prelude.{◌≡◌, ◌++◌, ℕ, List, IfSome, IsNone, OnOk, codes, decimal, length, string_bytes};
+ghost use Rattle.std.specs.Prelude.{◌≡◌, ◌++◌, ◌≤◌, ℕ, List, IfSome, IsNone, OnOk, codes, decimal, length, string_bytes};
 ghost use Rattle.std.specs.Cmp.Lexicographic.{slice_cmp};
 ghost use Rattle.std.specs.Ordering.{nat_cmp};
 ghost use Rattle.ifmap_addresses.specs.IpV4.{IsIpV4, ip_v4_text};
@@ -49,7 +49,8 @@ pub fn ip_v4_len(value: &[u8; 4]) -> usize
 }
 
 fn number_len(number: u8) -> usize
-    ensures { result ≡ length (decimal number) }
+    ensures value { result ≡ length (decimal number) }
+    ensures within { result ≤ 40 }
 {
     Buffer::new().format(number).len()
 }

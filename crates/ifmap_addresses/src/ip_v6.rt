@@ -1,5 +1,5 @@
 //! IPv6 addresses.
-ghost use Rattle.std.specs.Prelude.{◌≡◌, ◌++◌, ◌<◌, ℕ, List, IfSome, IsNone, OnOk, codes, length, string_bytes};
+ghost use Rattle.std.specs.Prelude.{◌≡◌, ◌++◌, ◌<◌, ◌≤◌, ℕ, List, IfSome, IsNone, OnOk, codes, length, string_bytes};
 ghost use Rattle.std.specs.Char.{digit_char};
 ghost use Rattle.std.specs.Cmp.Lexicographic.{slice_cmp};
 ghost use Rattle.std.specs.Net.Text.{hex, leading_zero_digits};
@@ -53,7 +53,7 @@ fn push_group(group: u16, text: &mut String) -> Result<(), NoMemory>
 {
     let digits = closed_group(group);
     for digit in &digits[leading_zeros(group)..4] {
-        text.push(*digit)?;
+        text.push(char::from(*digit))?;
     }
     Ok(())
 }
@@ -64,9 +64,16 @@ pub fn ip_v6_len(value: &[u16; 8]) -> usize
 {
     let mut len = b":::::::".len();
     for group in value {
-        len += 4 - leading_zeros(*group);
+        len += group_len(*group);
     }
     len
+}
+
+fn group_len(group: u16) -> usize
+    ensures value { result ≡ length (hex group) }
+    ensures within { result ≤ 4 }
+{
+    4 - leading_zeros(group)
 }
 
 /// How the texts of two addresses compare.
@@ -105,16 +112,15 @@ fn last_order(one: u16, other: u16) -> Ordering
 }
 
 // The four digits of a group, and a colon.
-fn closed_group(group: u16) -> [char; 5]
+fn closed_group(group: u16) -> [u8; 5]
     ensures { result ≡ four_digits group ++ codes ":" }
 {
-    let group = u32::from(group);
     [
         hex_digit(group / 0x1000),
         hex_digit(group / 0x100 % 16),
         hex_digit(group / 0x10 % 16),
         hex_digit(group % 16),
-        ':',
+        b':',
     ]
 }
 

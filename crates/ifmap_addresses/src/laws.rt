@@ -2,7 +2,7 @@
 ghost use Rattle.std.specs.Prelude.{◌≡◌, ◌^◌, ℕ, List};
 ghost use Rattle.ifmap_addresses.specs.IpV4.{IsIpV4, ip_v4_text};
 ghost use Rattle.ifmap_addresses.specs.IpV6.{IsIpV6, ip_v6_text};
-ghost use Rattle.ifmap_addresses.specs.Laws.{AreBelow};
+ghost use Rattle.ifmap_addresses.specs.Values.{AreBelow};
 ghost use Rattle.ifmap_addresses.specs.MacAddresses.{IsMacAddress, mac_address_text};
 
 /// A text is at most one address of each kind.

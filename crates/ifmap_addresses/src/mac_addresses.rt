@@ -82,9 +82,9 @@ fn push_pairs(bytes: &[u8], text: &mut String) -> Result<(), NoMemory>
 fn push_pair(byte: u8, text: &mut String) -> Result<(), NoMemory>
     ensures { OnOk result (string_bytes text.new ≡ string_bytes text.old ++ hex_pair byte) }
 {
-    let byte = u32::from(byte);
-    text.push(hex_digit(byte / 16))?;
-    text.push(hex_digit(byte % 16))
+    let byte = u16::from(byte);
+    text.push(char::from(hex_digit(byte / 16)))?;
+    text.push(char::from(hex_digit(byte % 16)))
 }
 
 /// How long the text of an address is.

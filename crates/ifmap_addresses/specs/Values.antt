@@ -1,4 +1,4 @@
--- What the crates above cite of addresses: what values they have, and what their texts are made of.
+-- Values of addresses, and what the texts of addresses are made of.
 use Rattle.std.specs.Prelude.{◌≡◌, ℕ, ◌<◌, ◌⊎◌, List, length}
 use Rattle.std.specs.Int.{IsInRange}
 use Rattle.std.specs.List.{AllByRecursion}
@@ -6,9 +6,13 @@ use Rattle.std.specs.Str.{byte}
 
 -- so many numbers, each below a bound
 pub record AreBelow (bound many : ℕ) (value : List ℕ) : Type 0 where
-  pub many_of_them : length value ≡ many
+  pub number : length value ≡ many
   pub below : AllByRecursion (λ n. n < bound) value
 
--- a digit, a letter from a to f, a dot or a colon
+-- a digit in lower case
+abbrev pub IsDigit : ℕ → Type 0
+IsDigit b = IsInRange (byte "0") (byte "9") b ⊎ IsInRange (byte "a") (byte "f") b
+
+-- a digit, a dot or a colon
 abbrev pub IsAddressByte : ℕ → Type 0
-IsAddressByte b = IsInRange (byte "0") (byte "9") b ⊎ (IsInRange (byte "a") (byte "f") b ⊎ ((b ≡ byte ".") ⊎ (b ≡ byte ":")))
+IsAddressByte b = IsDigit b ⊎ ((b ≡ byte ".") ⊎ (b ≡ byte ":"))

@@ -1,0 +1,5 @@
+mod Dotted
+mod Grouped
+mod Joined
+mod Orders
+mod Paired
