@@ -15,7 +15,7 @@ use Rattle.ifmap_ident.specs.declared.kinds.IdentityType.TheVariants as types
 use Rattle.ifmap_ident.specs.declared.kinds.Kind.{Kind}
 use Rattle.ifmap_ident.specs.Identifiers.{identifier_bytes, identifier_kind}
 use Rattle.ifmap_ident.specs.IdentityNames.{IsKept, name_form}
-use Rattle.ifmap_ident.specs.Kinds.{identity_type_name, kind_name}
+use Rattle.ifmap_ident.specs.Kinds.{allowed_attributes, identity_type_name, kind_name}
 use Rattle.ifmap_ident.specs.Parts.{has_only, is_blank_inside, solid_children, value_of}
 
 -- the administrative domain: an absent one is the empty one
@@ -23,7 +23,6 @@ abbrev pub domain_of : Element → List ℕ
 domain_of e = unwrap_or (value_of (codes "administrative-domain") e) []
 
 pub record IsAccessRequest (e : Element) (name domain : List ℕ) : Type 0 where
-  pub attributes : IsTrue (has_only (codes "name" ∷ (codes "administrative-domain" ∷ [])) e)
   pub children : IsTrue (is_blank_inside e)
   pub name_is : value_of (codes "name") e ≡ Some name
   pub not_empty : name ≢ []
@@ -31,7 +30,6 @@ pub record IsAccessRequest (e : Element) (name domain : List ℕ) : Type 0 where
 
 -- beside white space, one element `name` that holds a text alone
 pub record IsDevice (e : Element) (name : List ℕ) : Type 0 where
-  pub attributes : IsTrue (has_only [] e)
   pub child : Element
   pub children : solid_children e ≡ Child.Element child ∷ []
   pub child_name : child.name ≡ bare_name (codes "name")
@@ -45,8 +43,6 @@ IsDefinition types.Other given other = (given ≡ Some other) × (other ≢ [])
 IsDefinition _ given other = other ≡ []
 
 pub record IsIdentity (e : Element) (name : List ℕ) (kind : IdentityType) (other domain : List ℕ) : Type 0 where
-  pub attributes : IsTrue (has_only (codes "name" ∷ (codes "type" ∷ (codes "other-type-definition"
-  ∷ (codes "administrative-domain" ∷ [])))) e)
   pub children : IsTrue (is_blank_inside e)
   pub kind_is : value_of (codes "type") e ≡ Some (identity_type_name kind)
   pub definition : IsDefinition kind (value_of (codes "other-type-definition") e) other
@@ -57,8 +53,7 @@ pub record IsIdentity (e : Element) (name : List ℕ) (kind : IdentityType) (oth
   pub domain_is : domain ≡ domain_of e
 
 -- an address of this type, which is that of IPv4 where none is given
-pub record IsIpAddress (e : Element) (kind : List ℕ) (Means : List ℕ → List ℕ → Type 0) (value domain : List ℕ) : Type 0 where
-  pub attributes : IsTrue (has_only (codes "value" ∷ (codes "type" ∷ (codes "administrative-domain" ∷ []))) e)
+pub record IsIpAddress (kind : List ℕ) (Means : List ℕ → List ℕ → Type 0) (e : Element) (value domain : List ℕ) : Type 0 where
   pub children : IsTrue (is_blank_inside e)
   pub kind_is : unwrap_or (value_of (codes "type") e) (codes "IPv4") ≡ kind
   pub text : List ℕ
@@ -67,20 +62,19 @@ pub record IsIpAddress (e : Element) (kind : List ℕ) (Means : List ℕ → Lis
   pub domain_is : domain ≡ domain_of e
 
 pub record IsMacAddressElement (e : Element) (value domain : List ℕ) : Type 0 where
-  pub attributes : IsTrue (has_only (codes "value" ∷ (codes "administrative-domain" ∷ [])) e)
   pub children : IsTrue (is_blank_inside e)
   pub text : List ℕ
   pub text_is : value_of (codes "value") e ≡ Some text
   pub means : IsMacAddress text value
   pub domain_is : domain ≡ domain_of e
 
--- the element has the parts of this identifier, whatever the element's own name is
+-- the element has the parts of this identifier, whatever its own name and its further attributes are
 abbrev pub HasParts : Element → Identifier → Type 0
 HasParts e (AccessRequest name domain) = IsAccessRequest e name domain
 HasParts e (Device name) = IsDevice e name
 HasParts e (Identity name kind other domain) = IsIdentity e name kind other domain
-HasParts e (IpV4 value domain) = IsIpAddress e (codes "IPv4") IsIpV4 value domain
-HasParts e (IpV6 value domain) = IsIpAddress e (codes "IPv6") IsIpV6 value domain
+HasParts e (IpV4 value domain) = IsIpAddress (codes "IPv4") IsIpV4 e value domain
+HasParts e (IpV6 value domain) = IsIpAddress (codes "IPv6") IsIpV6 e value domain
 HasParts e (MacAddress value domain) = IsMacAddressElement e value domain
 
 -- the element is of this kind
@@ -90,6 +84,7 @@ IsOfKind e kind = e.name ≡ bare_name (kind_name kind)
 -- the element means this identifier, however long that is
 pub record IsMeant (e : Element) (i : Identifier) : Type 0 where
   pub named : IsOfKind e (identifier_kind i)
+  pub attributes : IsTrue (has_only (allowed_attributes (identifier_kind i)) e)
   pub parts : HasParts e i
 
 -- the most canonical bytes of an identifier
@@ -109,7 +104,7 @@ IsWrongKind e = (kind : Kind) → IsOfKind e kind → ⊥
 pub record IsInvalid (e : Element) : Type 0 where
   pub kind : Kind
   pub named : IsOfKind e kind
-  pub none : (i : Identifier) → HasParts e i → identifier_kind i ≡ kind → ⊥
+  pub none : (i : Identifier) → IsMeant e i → ⊥
 
 -- the element means an identifier that is too long
 pub record IsTooLong (e : Element) : Type 0 where

@@ -1,5 +1,5 @@
 -- The kinds of identifiers and the types of identities as they are written: IF-MAP binding for SOAP, version 2.2, section 3.2.
-use Rattle.std.specs.Prelude.{ℕ, List, codes}
+use Rattle.std.specs.Prelude.{ℕ, List, [], ◌∷◌, codes}
 use Rattle.ifmap_ident.specs.declared.kinds.IdentityType.{IdentityType}
 use Rattle.ifmap_ident.specs.declared.kinds.IdentityType.TheVariants.{AikName, DistinguishedName, DnsName, EmailAddress, HipHit, KerberosPrincipal, Username, SipUri, TelUri, Other}
 use Rattle.ifmap_ident.specs.declared.kinds.Kind.{Kind}
@@ -12,6 +12,15 @@ kind_name Device = codes "device"
 kind_name Identity = codes "identity"
 kind_name IpAddress = codes "ip-address"
 kind_name MacAddress = codes "mac-address"
+
+-- the attributes that the element of a kind can have beside those of a namespace
+abbrev pub allowed_attributes : Kind → List (List ℕ)
+allowed_attributes AccessRequest = codes "name" ∷ (codes "administrative-domain" ∷ [])
+allowed_attributes Device = []
+allowed_attributes Identity =
+    codes "name" ∷ (codes "type" ∷ (codes "other-type-definition" ∷ (codes "administrative-domain" ∷ [])))
+allowed_attributes IpAddress = codes "value" ∷ (codes "type" ∷ (codes "administrative-domain" ∷ []))
+allowed_attributes MacAddress = codes "value" ∷ (codes "administrative-domain" ∷ [])
 
 -- a type of identity, as the value of the attribute `type`
 abbrev pub identity_type_name : IdentityType → List ℕ

@@ -5,5 +5,6 @@ pub mod IdentityNames
 pub mod Items
 pub mod Kinds
 pub mod Leading
+pub mod Meaning
 pub mod Parts
 pub mod Written

@@ -33,6 +33,10 @@ has_only locals e = list_all (is_known locals) e.attributes
 abbrev pub is_blank_inside : Element → Bool
 is_blank_inside e = list_all is_blank e.children
 
+-- the child is something else
+abbrev pub is_solid : Child → Bool
+is_solid child = not (is_blank child)
+
 -- the children but for white space
 abbrev pub solid_children : Element → List Child
-solid_children e = filter (λ child. not (is_blank child)) e.children
+solid_children e = filter is_solid e.children

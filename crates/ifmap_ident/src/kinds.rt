@@ -1,8 +1,13 @@
 //! The kinds of identifiers, and the types of identities.
-ghost use Rattle.std.specs.Prelude.{◌≡◌};
-ghost use Rattle.ifmap_ident.specs.Kinds.{identity_type_name};
+ghost use Rattle.std.specs.Prelude.{◌≡◌, IfSome, IsNone};
+ghost use Rattle.ifmap_elem.specs.Building.{bare_name};
+ghost use Rattle.ifmap_ident.specs.Kinds.{identity_type_name, kind_name};
+ghost use Rattle.ifmap_ident.specs.declared.kinds.IdentityType.{IdentityType};
+ghost use Rattle.ifmap_ident.specs.declared.kinds.Kind.{Kind};
 
-/// The element that an identifier is.
+use ifmap_elem::Name;
+
+/// Which element an identifier is.
 #[derive(Clone, Copy, Debug, PartialEq, Eq)]
 pub enum Kind {
     AccessRequest,
@@ -10,6 +15,43 @@ pub enum Kind {
     Identity,
     IpAddress,
     MacAddress,
+}
+
+const KINDS: [Kind; 5] = [
+    Kind::AccessRequest,
+    Kind::Device,
+    Kind::Identity,
+    Kind::IpAddress,
+    Kind::MacAddress,
+];
+
+impl Kind {
+    /// The name of its element.
+    pub fn name(self) -> &'static str
+        ensures { result.now ≡ kind_name self }
+    {
+        match self {
+            Kind::AccessRequest => "access-request",
+            Kind::Device => "device",
+            Kind::Identity => "identity",
+            Kind::IpAddress => "ip-address",
+            Kind::MacAddress => "mac-address",
+        }
+    }
+
+    /// The kind whose element has this name; `None` exactly where there is none.
+    pub fn of_name(name: &Name) -> Option<Kind>
+        ensures found { IfSome result (λ kind. name.now ≡ bare_name (kind_name kind)) }
+        ensures none { IsNone result → (kind : Kind) →
+            name.now ≡ bare_name (kind_name kind) → ⊥ }
+    {
+        for kind in &KINDS {
+            if name.is_bare(kind.name()) {
+                return Some(*kind);
+            }
+        }
+        None
+    }
 }
 
 /// What the name of an identity is.
@@ -28,6 +70,19 @@ pub enum IdentityType {
     Other,
 }
 
+const IDENTITY_TYPES: [IdentityType; 10] = [
+    IdentityType::AikName,
+    IdentityType::DistinguishedName,
+    IdentityType::DnsName,
+    IdentityType::EmailAddress,
+    IdentityType::HipHit,
+    IdentityType::KerberosPrincipal,
+    IdentityType::Username,
+    IdentityType::SipUri,
+    IdentityType::TelUri,
+    IdentityType::Other,
+];
+
 impl IdentityType {
     /// The type as it is written in the attribute `type`.
     pub fn name(self) -> &'static str
@@ -45,5 +100,19 @@ impl IdentityType {
             IdentityType::TelUri => "tel-uri",
             IdentityType::Other => "other",
         }
+    }
+
+    /// The type that is written like this; `None` exactly where there is none.
+    pub fn of_name(name: &str) -> Option<IdentityType>
+        ensures found { IfSome result (λ kind. name.now ≡ identity_type_name kind) }
+        ensures none { IsNone result → (kind : IdentityType) →
+            name.now ≡ identity_type_name kind → ⊥ }
+    {
+        for kind in &IDENTITY_TYPES {
+            if kind.name() == name {
+                return Some(*kind);
+            }
+        }
+        None
     }
 }

@@ -12,6 +12,7 @@ pub mod items;
 pub mod kinds;
 mod optionals;
 mod ordering;
+mod parts;
 mod sizes;
 mod written;
 
