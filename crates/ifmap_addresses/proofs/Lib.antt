@@ -1,5 +1,4 @@
 mod Dotted
 mod Grouped
 mod Joined
-mod Orders
 mod Paired

@@ -6,3 +6,4 @@ pub mod DigitLaws
 pub mod IpV4Laws
 pub mod IpV6Laws
 pub mod MacAddressLaws
+pub mod OrderLaws

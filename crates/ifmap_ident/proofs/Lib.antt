@@ -1,6 +1,7 @@
-pub mod DomainLaws
-pub mod LeadingLaws
-pub mod MacAddressLaws
-pub mod OrderLaws
-pub mod PrintedLaws
-pub mod ValueLaws
+mod AlikeLaws
+mod LeadingLaws
+mod OptionalLaws
+mod OrderLaws
+mod PlacedLaws
+mod PrintedLaws
+mod SizeLaws

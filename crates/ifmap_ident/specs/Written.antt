@@ -6,11 +6,14 @@ use Rattle.std.specs.declared.cmp.Ordering.{Ordering}
 use Rattle.ifmap_addresses.specs.IpV4.{ip_v4_text}
 use Rattle.ifmap_addresses.specs.IpV6.{ip_v6_text}
 use Rattle.ifmap_addresses.specs.MacAddresses.{mac_address_text}
+use Rattle.ifmap_addresses.specs.Values.{AreBelow}
 use Rattle.ifmap_elem.specs.Escapes.{text_byte, value_byte}
 use Rattle.ifmap_ident.specs.declared.identifiers.Identifier.{Identifier}
 use Rattle.ifmap_ident.specs.declared.identifiers.Identifier.TheVariants.{AccessRequest, Device, Identity, IpV4, IpV6, MacAddress}
 use Rattle.ifmap_ident.specs.declared.written.Place.{Place}
 use Rattle.ifmap_ident.specs.declared.written.Place.TheVariants.{Value, Content}
+use Rattle.ifmap_ident.specs.declared.kinds.Kind.{Kind}
+use Rattle.ifmap_ident.specs.declared.kinds.Kind
 use Rattle.ifmap_ident.specs.Kinds.{identity_type_name}
 use Rattle.ifmap_ident.specs.Leading.{Leads}
 
@@ -76,3 +79,22 @@ identifier_written (IpV6 value domain) =
     ++ (attribute_written (codes "value") (ip_v6_text value) ++ codes "/>")))
 identifier_written (MacAddress value domain) =
     codes "<mac-address" ++ (domain_written domain ++ (attribute_written (codes "value") (mac_address_text value) ++ codes "/>"))
+
+-- ---- kinds and types
+
+-- the place of a kind among the names of the elements
+abbrev pub kind_rank : Kind → ℕ
+kind_rank Kind.AccessRequest = 0
+kind_rank Kind.Device = 1
+kind_rank Kind.Identity = 2
+kind_rank Kind.IpAddress = 3
+kind_rank Kind.MacAddress = 4
+
+-- an address has its number of parts, each within its range
+abbrev pub IsTyped : Identifier → Type 0
+IsTyped (AccessRequest name domain) = Unit {0}
+IsTyped (Device name) = Unit {0}
+IsTyped (Identity name kind other domain) = Unit {0}
+IsTyped (IpV4 value domain) = AreBelow 256 4 value
+IsTyped (IpV6 value domain) = AreBelow 65536 8 value
+IsTyped (MacAddress value domain) = AreBelow 256 6 value

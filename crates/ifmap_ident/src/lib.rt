@@ -10,6 +10,7 @@ pub mod identifiers;
 mod identities;
 pub mod items;
 pub mod kinds;
+mod names;
 mod optionals;
 mod ordering;
 mod parts;

@@ -25,7 +25,7 @@ pub(crate) fn text_order(place: Place, one: &Text, other: &Text) -> Ordering
     bytes_order(place, one.as_bytes(), other.as_bytes())
 }
 
-fn bytes_order(place: Place, one: &[u8], other: &[u8]) -> Ordering
+pub(crate) fn bytes_order(place: Place, one: &[u8], other: &[u8]) -> Ordering
     ensures { Leads result (closed_text place one.now) (closed_text place other.now) }
 {
     let shared = shared_len(one, other);
