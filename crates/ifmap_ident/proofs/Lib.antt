@@ -1,6 +1,15 @@
+pub mod AgainLaws
+pub mod BackLaws
 pub mod DomainLaws
+pub mod DotLaws
+pub mod FindLaws
+pub mod KindLaws
 pub mod LeadingLaws
 pub mod MacAddressLaws
+pub mod MeaningLaws
 pub mod OrderLaws
 pub mod PrintedLaws
+pub mod SingleLaws
+pub mod SpelledLaws
+pub mod Utf8Laws
 pub mod ValueLaws

@@ -1,7 +1,8 @@
 //! Identities, read from their elements.
-ghost use Rattle.std.specs.Prelude.{◌≡◌, ◌≢◌, [], ℕ, List, IfSome, IsNone};
+ghost use Rattle.std.specs.Prelude.{◌≡◌, codes, IfSome, IsNone, Some};
 ghost use Rattle.ifmap_ident.specs.Canon.{IsDefinition};
-ghost use Rattle.ifmap_ident.specs.IdentityNames.{IsKept, IsSpelledName, name_form, without_last_dots};
+ghost use Rattle.ifmap_ident.specs.IdentityNames.{name_form};
+ghost use Rattle.ifmap_ident.specs.Kinds.{identity_type_name};
 ghost use Rattle.ifmap_ident.specs.Meaning.{ArePartsOf, IsFound};
 ghost use Rattle.ifmap_ident.specs.Parts.{value_of};
 ghost use Rattle.ifmap_ident.specs.declared.kinds.IdentityType.{IdentityType};

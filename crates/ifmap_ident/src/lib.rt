@@ -11,11 +11,15 @@ pub mod identifiers;
 mod identities;
 pub mod items;
 pub mod kinds;
+pub mod laws;
 mod mac_addresses;
+mod names;
 mod ordering;
 mod parts;
+mod reading;
 mod sizes;
 mod values;
+mod writing;
 
 pub use codes::Code;
 pub use errors::IdentError;
