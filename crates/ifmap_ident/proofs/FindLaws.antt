@@ -73,9 +73,9 @@ pub not_alone : {X : Type 0} (p : X → Bool) (xs : List X) (i : ℕ) (x : X) (o
     → is_some o ≡ true → i < length xs → x ≡ get_or xs i x → p x ≡ true → (y : X) → filter p xs ≡ y ∷ [] → ⊥
 not_alone p xs i x o front some below at passes y alone =
     let split : xs ≡ take i xs ++ (x ∷ drop (suc i) xs) =
-      sym (take-append-drop i xs) ∙ ap (λ ys. take i xs ++ ys) (drop-cons xs i x below ∙ ap (λ z. z ∷ drop (suc i) xs) (sym at)) in
+    sym (take-append-drop i xs) ∙ ap (λ ys. take i xs ++ ys) (drop-cons xs i x below ∙ ap (λ z. z ∷ drop (suc i) xs) (sym at)) in
     let parts : filter p xs ≡ filter p (take i xs) ++ filter p (x ∷ drop (suc i) xs) =
-      ap (filter p) split ∙ filter-append p (take i xs) (x ∷ drop (suc i) xs) in
+    ap (filter p) split ∙ filter-append p (take i xs) (x ∷ drop (suc i) xs) in
     let whole : filter p xs ≡ option_to_list o ++ (x ∷ filter p (drop (suc i) xs)) =
-      parts ∙ (λ k. front k ++ solid_first p x (drop (suc i) xs) passes k) in
+    parts ∙ (λ k. front k ++ solid_first p x (drop (suc i) xs) passes k) in
     two_members o x y (filter p (drop (suc i) xs)) some (sym whole ∙ alone)

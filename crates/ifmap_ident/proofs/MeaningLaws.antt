@@ -106,7 +106,7 @@ unknown_attribute e kind named only = record {
   kind = kind;
   named = named;
   none = λ i meant. untrue (has_only (allowed_attributes kind) e) only
-    (subst (λ k. IsTrue (has_only (allowed_attributes k) e)) (kind_of_meant e kind i named meant) meant.attributes);
+      (subst (λ k. IsTrue (has_only (allowed_attributes k) e)) (kind_of_meant e kind i named meant) meant.attributes);
 }
 
 -- what gives no meaning is an answer
@@ -123,7 +123,7 @@ long_answer e i size meant is above = record {
   identifier = i;
   meant = meant;
   above = let n = length (identifier_bytes i) in let same : size ≡ min n (2 ^ 64 - 1) = is in let high : 4096 < size = above in
-    omega (arith, same, high);
+      omega (arith, same, high);
 }
 
 pub short_answer : (e : Element) (i : Identifier) (size : ℕ) → IsMeant e i → size ≡ min (length (identifier_bytes i)) (2 ^ 64 - 1)
@@ -131,5 +131,5 @@ pub short_answer : (e : Element) (i : Identifier) (size : ℕ) → IsMeant e i �
 short_answer e i size meant is below = record {
   meant = meant;
   within = let n = length (identifier_bytes i) in let same : size ≡ min n (2 ^ 64 - 1) = is in let low : size ≤ 4096 = below in
-    omega (arith, same, low);
+      omega (arith, same, low);
 }

@@ -32,6 +32,7 @@ use Rattle.ifmap_ident.specs.Identifiers.{identifier_bytes, identifier_kind}
 use Rattle.ifmap_ident.specs.IdentityNames.{IsKept, IsSpelledName, name_form}
 use Rattle.ifmap_ident.specs.Kinds.{identity_type_name}
 use Rattle.ifmap_ident.specs.Laws.{AreOneAnswer}
+use Rattle.ifmap_ident.specs.Parts.{value_of}
 use Rattle.ifmap_ident.proofs.KindLaws.{kinds_are_one, one_value, types_are_one}
 use Rattle.ifmap_ident.proofs.MeaningLaws.{kind_of_meant, versions_differ}
 
@@ -77,7 +78,7 @@ one_name_held child x y p q = one_text x y (one_member (the.Text x) (the.Text y)
 one_device_name : (e : Element) (x y : List ℕ) → IsDevice e x → IsDevice e y → x ≡ y
 one_device_name e x y p q =
     let child : p.child ≡ q.child = one_element p.child q.child (one_member (the.Element p.child) (the.Element q.child)
-      (sym p.children ∙ q.children)) in
+    (sym p.children ∙ q.children)) in
     one_name_held p.child x y p.holds (subst (λ c. HoldsName c y) (sym child) q.holds)
 
 -- ---- variants
@@ -85,17 +86,18 @@ one_device_name e x y p q =
 one_access_request : (e : Element) (n d m c : List ℕ) → IsAccessRequest e n d → IsAccessRequest e m c
     → AccessRequest n d ≡ AccessRequest m c
 one_access_request e n d m c p q =
-    λ i. AccessRequest (one_of _ n m p.name_is q.name_is i) ((p.domain_is ∙ sym q.domain_is) i)
+    λ i. AccessRequest (one_of (value_of (codes "name") e) n m p.name_is q.name_is i) ((p.domain_is ∙ sym q.domain_is) i)
 
 one_identity : (e : Element) (n : List ℕ) (k : IdentityType) (o d m : List ℕ) (l : IdentityType) (s c : List ℕ) → IsIdentity e n k o d
     → IsIdentity e m l s c → Identity n k o d ≡ Identity m l s c
 one_identity e n k o d m l s c p q =
-    let kinds : k ≡ l = types_are_one k l (one_of _ (identity_type_name k) (identity_type_name l) p.kind_is q.kind_is) in
-    let others : o ≡ s = one_definition k _ o s p.definition (subst (λ t. IsDefinition t _ s) (sym kinds) q.definition) in
-    let texts : p.text ≡ q.text = one_of _ p.text q.text p.text_is q.text_is in
+    let kinds : k ≡ l = types_are_one k l (one_of (value_of (codes "type") e) (identity_type_name k) (identity_type_name l) p.kind_is q.kind_is) in
+    let given : Option (List ℕ) = value_of (codes "other-type-definition") e in
+    let others : o ≡ s = one_definition k given o s p.definition (subst (λ t. IsDefinition t given s) (sym kinds) q.definition) in
+    let texts : p.text ≡ q.text = one_of (value_of (codes "name") e) p.text q.text p.text_is q.text_is in
     let kept : IsKept (name_form k o) p.text m =
-      subst (λ t. IsKept (name_form k o) t m) (sym texts)
-      (subst (λ t. IsKept (name_form t o) q.text m) (sym kinds) (subst (λ t. IsKept (name_form l t) q.text m) (sym others) q.kept)) in
+    subst (λ t. IsKept (name_form k o) t m) (sym texts)
+    (subst (λ t. IsKept (name_form t o) q.text m) (sym kinds) (subst (λ t. IsKept (name_form l t) q.text m) (sym others) q.kept)) in
     let names : n ≡ m = one_kept (name_form k o) p.text n m p.kept kept in
     λ i. Identity (names i) (kinds i) (others i) ((p.domain_is ∙ sym q.domain_is) i)
 
@@ -103,13 +105,13 @@ one_ip : (kind : List ℕ) (Means : List ℕ → List ℕ → Type 0) (single : 
     (Made : List ℕ → List ℕ → Identifier) (e : Element) (v d w c : List ℕ) → IsIpAddress kind Means e v d → IsIpAddress kind Means e w c
     → Made v d ≡ Made w c
 one_ip kind Means single Made e v d w c p q =
-    let texts : p.text ≡ q.text = one_of _ p.text q.text p.text_is q.text_is in
+    let texts : p.text ≡ q.text = one_of (value_of (codes "value") e) p.text q.text p.text_is q.text_is in
     let values : v ≡ w = single p.text v w p.means (subst (λ t. Means t w) (sym texts) q.means) in
     λ i. Made (values i) ((p.domain_is ∙ sym q.domain_is) i)
 
 one_mac : (e : Element) (v d w c : List ℕ) → IsMacAddressElement e v d → IsMacAddressElement e w c → MacAddress v d ≡ MacAddress w c
 one_mac e v d w c p q =
-    let texts : p.text ≡ q.text = one_of _ p.text q.text p.text_is q.text_is in
+    let texts : p.text ≡ q.text = one_of (value_of (codes "value") e) p.text q.text p.text_is q.text_is in
     let values : v ≡ w = one_mac_address p.text v w p.means (subst (λ t. IsMacAddress t w) (sym texts) q.means) in
     λ i. MacAddress (values i) ((p.domain_is ∙ sym q.domain_is) i)
 
@@ -162,7 +164,7 @@ one_identifier e i j p q = one_meaning e i j p.meant q.meant
 within_or_above : (e : Element) (i : Identifier) → IsCanon e i → IsTooLong e → ⊥
 within_or_above e i p q =
     let same : length (identifier_bytes i) ≡ length (identifier_bytes q.identifier) =
-      ap (λ j. length (identifier_bytes j)) (one_meaning e i q.identifier p.meant q.meant) in
+    ap (λ j. length (identifier_bytes j)) (one_meaning e i q.identifier p.meant q.meant) in
     let low : length (identifier_bytes i) ≤ most_bytes = p.within in
     let high : most_bytes < length (identifier_bytes q.identifier) = q.above in
     omega (arith, same, low, high)

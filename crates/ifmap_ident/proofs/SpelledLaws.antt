@@ -26,7 +26,7 @@ pub spelled_again : ((bytes : List ℕ) (r : Reading) → Spells bytes r → IsF
 spelled_again fits text name s = record {
   reading = canonical_reading s.reading.root;
   spelled = subst (λ bytes. Spells bytes (canonical_reading s.reading.root)) (sym s.canonical)
-    (canonical_spelled s.reading.root (fits text s.reading s.spelled));
+      (canonical_spelled s.reading.root (fits text s.reading s.spelled));
   shallow = subst (λ n. n ≤ 64) (sym (nesting_arranged s.reading.root)) s.shallow;
   canonical = s.canonical ∙ sym (printed_again s.reading.root);
 }

@@ -68,9 +68,13 @@ start_scalar : (c : ℕ) → is_name_start c ≡ true → scalar c ≡ true
 start_scalar c h = elim (cases_lt c 55296) [ inl l ↦ low_scalar c l | inr g ↦ high_start c g h ]
 
 part_utf8 : (bs : List ℕ) → IsNamePart bs → IsUtf8 bs
-part_utf8 bs p =
-    (p.first ∷ p.others, (and_from (scalar p.first) (all_scalars p.others) (start_scalar p.first p.begins) (name_scalars p.others p.goes_on),
-    p.bytes_are))
+part_utf8 bs p = (
+  p.first ∷ p.others,
+  (
+    and_from (scalar p.first) (all_scalars p.others) (start_scalar p.first p.begins) (name_scalars p.others p.goes_on),
+    p.bytes_are,
+  ),
+)
 
 -- ---- what stands before UTF-8
 
@@ -103,10 +107,10 @@ quoted_utf8 bytes written rest t w u =
     let q : is_ascii t.quote ≡ true = quote_ascii t.quote t.is_quote in
     let last : IsUtf8 (t.quote ∷ rest) = cons_utf8 t.quote rest q u in
     let value : IsUtf8 (t.quote ∷ (written ++ (t.quote ∷ rest))) =
-      cons_utf8 t.quote (written ++ (t.quote ∷ rest)) q (IsUtf8-append written (t.quote ∷ rest) w last) in
+    cons_utf8 t.quote (written ++ (t.quote ∷ rest)) q (IsUtf8-append written (t.quote ∷ rest) w last) in
     let sign : IsUtf8 (equals_sign ∷ (t.after ++ (t.quote ∷ (written ++ (t.quote ∷ rest))))) =
-      cons_utf8 equals_sign (t.after ++ (t.quote ∷ (written ++ (t.quote ∷ rest)))) refl
-      (after_white t.after (t.quote ∷ (written ++ (t.quote ∷ rest))) t.white_after value) in
+    cons_utf8 equals_sign (t.after ++ (t.quote ∷ (written ++ (t.quote ∷ rest)))) refl
+    (after_white t.after (t.quote ∷ (written ++ (t.quote ∷ rest))) t.white_after value) in
     subst IsUtf8 (sym t.bytes_are) (after_white t.before
     (equals_sign ∷ (t.after ++ (t.quote ∷ (written ++ (t.quote ∷ rest))))) t.white_before sign)
 
@@ -126,7 +130,7 @@ assignments_utf8 bytes (a ∷ many) rest l u = assignment_utf8 bytes a l.0 l.1 (
 tag_utf8 : (bytes : List ℕ) (tag : Tag) (end : List ℕ) → TakesTag bytes tag end → IsUtf8 end → IsUtf8 bytes
 tag_utf8 bytes tag end t u =
     let assigned : IsUtf8 t.after = assignments_utf8 t.after tag.assignments (t.white ++ end) t.assigned
-      (after_white t.white end t.is_white u) in
+    (after_white t.white end t.is_white u) in
     subst IsUtf8 (sym t.bytes_are) (cons_utf8 less_than (name_bytes tag.name ++ t.after) refl
     (IsUtf8-append (name_bytes tag.name) t.after (name_utf8 tag.name t.is_name) assigned))
 
@@ -156,20 +160,20 @@ word_utf8 word v f e = subst IsUtf8 (sym e) (ascii_utf8 word f)
 declaration_utf8 : (bytes rest : List ℕ) → TakesDeclaration bytes rest → IsUtf8 rest → IsUtf8 bytes
 declaration_utf8 bytes rest t u =
     let end : IsUtf8 (t.white ++ (codes "?>" ++ rest)) = after_white t.white (codes "?>" ++ rest) t.is_white
-      (IsUtf8-append (codes "?>") rest (ascii_utf8 (codes "?>") (all_of_test is_ascii (codes "?>") refl)) u) in
+    (IsUtf8-append (codes "?>") rest (ascii_utf8 (codes "?>") (all_of_test is_ascii (codes "?>") refl)) u) in
     let third : IsUtf8 t.third = optional_utf8 (codes "standalone") (λ v. (v ≡ codes "yes") ⊎ (v ≡ codes "no"))
-      (ascii_utf8 (codes "standalone") (all_of_test is_ascii (codes "standalone") refl))
-      (λ v a. elim a [
-        | inl yes_is ↦ word_utf8 (codes "yes") v (all_of_test is_ascii (codes "yes") refl) yes_is
-        | inr no_is ↦ word_utf8 (codes "no") v (all_of_test is_ascii (codes "no") refl) no_is
-      ]) t.third (t.white ++ (codes "?>" ++ rest)) t.standalone end in
+    (ascii_utf8 (codes "standalone") (all_of_test is_ascii (codes "standalone") refl))
+    (λ v a. elim a [
+      | inl yes_is ↦ word_utf8 (codes "yes") v (all_of_test is_ascii (codes "yes") refl) yes_is
+      | inr no_is ↦ word_utf8 (codes "no") v (all_of_test is_ascii (codes "no") refl) no_is
+    ]) t.third (t.white ++ (codes "?>" ++ rest)) t.standalone end in
     let second : IsUtf8 t.second = optional_utf8 (codes "encoding") (λ v. map to_ascii_uppercase v ≡ codes "UTF-8")
-      (ascii_utf8 (codes "encoding") (all_of_test is_ascii (codes "encoding") refl))
-      (λ v a. ascii_utf8 v (uppers_ascii v (subst (AllAre is_ascii) (sym a) (all_of_test is_ascii (codes "UTF-8") refl))))
-      t.second t.third t.encoding third in
+    (ascii_utf8 (codes "encoding") (all_of_test is_ascii (codes "encoding") refl))
+    (λ v a. ascii_utf8 v (uppers_ascii v (subst (AllAre is_ascii) (sym a) (all_of_test is_ascii (codes "UTF-8") refl))))
+    t.second t.third t.encoding third in
     let first : IsUtf8 t.first = setting_utf8 (codes "version") (λ v. v ≡ codes "1.0")
-      (ascii_utf8 (codes "version") (all_of_test is_ascii (codes "version") refl))
-      (λ v a. word_utf8 (codes "1.0") v (all_of_test is_ascii (codes "1.0") refl) a) t.first t.second t.version second in
+    (ascii_utf8 (codes "version") (all_of_test is_ascii (codes "version") refl))
+    (λ v a. word_utf8 (codes "1.0") v (all_of_test is_ascii (codes "1.0") refl) a) t.first t.second t.version second in
     subst IsUtf8 (sym t.bytes_are) (IsUtf8-append (codes "<?xml") t.first
     (ascii_utf8 (codes "<?xml") (all_of_test is_ascii (codes "<?xml") refl)) first)
 

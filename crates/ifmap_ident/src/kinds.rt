@@ -54,10 +54,7 @@ impl Kind {
 fn kind_of(name: &Name) -> Option<Kind>
     ensures { result ≡ find (λ kind. is_bare (kind_name kind) name.now) kinds }
 {
-    KINDS
-        .iter()
-        .copied()
-        .find(|kind| name.is_bare(kind.name()))
+    KINDS.iter().copied().find(|kind| name.is_bare(kind.name()))
 }
 
 /// What the name of an identity is.

@@ -57,7 +57,7 @@ pub(crate) fn has_only(kind: Kind, element: &Element) -> bool
 fn is_known(kind: Kind, attribute: &Attribute) -> bool
     ensures { result ≡ is_known (allowed_attributes kind) attribute.now }
 {
-    !attribute.name.space.0.is_empty() || is_allowed(kind, attribute.name.local.0.as_str())
+    !attribute.name.space.is_empty() || is_allowed(kind, attribute.name.local.as_str())
 }
 
 // Whether a kind allows the attribute.
@@ -129,7 +129,7 @@ fn is_blank(child: &Child) -> bool
 {
     match child {
         Child::Element(_) => false,
-        Child::Text(text) => is_white_alone(text.0.as_bytes()),
+        Child::Text(text) => is_white_alone(text.as_bytes()),
     }
 }
 

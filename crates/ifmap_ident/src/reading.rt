@@ -9,9 +9,7 @@ use crate::errors::IdentError;
 use crate::identifiers::Identifier;
 use crate::identities::read_identity;
 use crate::kinds::Kind;
-use crate::parts::{
-    copy_domain, has_only, is_blank_inside, only_solid_child, only_text, value_of,
-};
+use crate::parts::{copy_domain, has_only, is_blank_inside, only_solid_child, only_text, value_of};
 use ifmap_addresses::{ip_v4_of, ip_v6_of, mac_address_of};
 use ifmap_elem::{Child, Copied, Element, Text};
 use std::alloc::Global;

@@ -11,10 +11,7 @@ use ifmap_elem::{Attribute, Child, Copied, Element, Text};
 use std::alloc::{AllocError as NoMemory, Global};
 
 // The identifier as an element.
-pub(crate) fn write_identifier(
-    alloc: Global,
-    identifier: &Identifier,
-) -> Result<Element, NoMemory>
+pub(crate) fn write_identifier(alloc: Global, identifier: &Identifier) -> Result<Element, NoMemory>
     ensures { IfOk result (λ element. element ≡ identifier_element identifier.now) }
 {
     match identifier {
