@@ -26,3 +26,11 @@ pub fn elements_have_one_answer()
     ensures answer { (element : Element) (one other : Result Identifier IdentError) →
         IsAnswer element one → IsAnswer element other → AreOneAnswer one other }
 {}
+
+/// Identifiers that elements gave are one exactly where their canonical bytes are.
+pub fn bytes_tell_identifiers_apart()
+    ensures { (one other : Identifier) → IsIdentifier one → IsIdentifier other →
+        identifier_bytes one ≡ identifier_bytes other → one ≡ other }
+{
+    addresses_have_one_size();
+}
