@@ -30,7 +30,7 @@ use Rattle.ifmap_ident.specs.Canon.{HasParts, HoldsName, IsAccessRequest, IsCano
 use Rattle.ifmap_ident.specs.Identifiers.{attribute_unless_empty, domain_attributes, identifier_element, identifier_kind}
 use Rattle.ifmap_ident.specs.IdentityNames.{IsKept, domain_name, name_form}
 use Rattle.ifmap_ident.specs.Kinds.{allowed_attributes, identity_type_name, kind_name}
-use Rattle.ifmap_ident.specs.Parts.{has_only, is_blank, is_blank_part, is_solid, value_of}
+use Rattle.ifmap_ident.specs.Parts.{has_only, is_blank_inside, is_blank_part, is_solid, value_of}
 use Rattle.ifmap_ident.proofs.DotLaws.{domain_again}
 use Rattle.ifmap_ident.proofs.SpelledLaws.{spelled_again}
 
@@ -88,104 +88,87 @@ module _ (fits : (bytes : List ℕ) (r : Reading) → Spells bytes r → IsFit r
     holds = record { named = refl; attributes = refl; text_is = refl; not_empty = p.holds.not_empty };
   }
 
+  -- an element has the parts of an identity that another has, where it gives the same of each attribute
+  module _ (made : Element) (blank : IsTrue (is_blank_inside made)) where
+    identity_in : (e : Element) (name : List ℕ) (kind : IdentityType) (other domain : List ℕ) → IsIdentity e name kind other domain
+        → value_of (codes "type") made ≡ Some (identity_type_name kind)
+        → value_of (codes "other-type-definition") made ≡ given_again other → value_of (codes "name") made ≡ Some name
+        → domain ≡ domain_of made → IsIdentity made name kind other domain
+    identity_in e name kind other domain p kind_is given name_is domain_is = record {
+      children = blank;
+      kind_is = kind_is;
+      definition = subst (λ o. IsDefinition kind o other) (sym given)
+        (definition_again kind (value_of (codes "other-type-definition") e) other p.definition);
+      text = name;
+      text_is = name_is;
+      kept = kept_again (name_form kind other) p.text name p.kept;
+      not_empty = p.not_empty;
+      domain_is = domain_is;
+    }
+
+    v4_in : (e : Element) (value domain : List ℕ) → IsIpAddress (codes "IPv4") IsIpV4 e value domain
+        → unwrap_or (value_of (codes "type") made) (codes "IPv4") ≡ codes "IPv4"
+        → value_of (codes "value") made ≡ Some (ip_v4_text value) → domain ≡ domain_of made
+        → IsIpAddress (codes "IPv4") IsIpV4 made value domain
+    v4_in e value domain p kind_is text_is domain_is = record {
+      children = blank;
+      kind_is = kind_is;
+      text = ip_v4_text value;
+      text_is = text_is;
+      means = ip_v4_spelled value (v4_size p.text value p.means);
+      domain_is = domain_is;
+    }
+
+    v6_in : (e : Element) (value domain : List ℕ) → IsIpAddress (codes "IPv6") IsIpV6 e value domain
+        → unwrap_or (value_of (codes "type") made) (codes "IPv4") ≡ codes "IPv6"
+        → value_of (codes "value") made ≡ Some (ip_v6_text value) → domain ≡ domain_of made
+        → IsIpAddress (codes "IPv6") IsIpV6 made value domain
+    v6_in e value domain p kind_is text_is domain_is = record {
+      children = blank;
+      kind_is = kind_is;
+      text = ip_v6_text value;
+      text_is = text_is;
+      means = ip_v6_spelled value (ip_v6_fits p.text value p.means);
+      domain_is = domain_is;
+    }
+
+    mac_in : (e : Element) (value domain : List ℕ) → IsMacAddressElement e value domain
+        → value_of (codes "value") made ≡ Some (mac_address_text value) → domain ≡ domain_of made
+        → IsMacAddressElement made value domain
+    mac_in e value domain p text_is domain_is = record {
+      children = blank;
+      text = mac_address_text value;
+      text_is = text_is;
+      means = mac_address_spelled value (record { number = p.means.six; below = p.means.bytes });
+      domain_is = domain_is;
+    }
+
   identity_again : (e : Element) (name : List ℕ) (kind : IdentityType) (other domain : List ℕ) → IsIdentity e name kind other domain
       → IsIdentity (identifier_element (Identity name kind other domain)) name kind other domain
   unfolding given_again
-  identity_again e name kind [] [] p = record {
-    children = refl;
-    kind_is = refl;
-    definition = definition_again kind (value_of (codes "other-type-definition") e) [] p.definition;
-    text = name;
-    text_is = refl;
-    kept = kept_again (name_form kind []) p.text name p.kept;
-    not_empty = p.not_empty;
-    domain_is = refl;
-  }
-  identity_again e name kind [] (b ∷ bs) p = record {
-    children = refl;
-    kind_is = refl;
-    definition = definition_again kind (value_of (codes "other-type-definition") e) [] p.definition;
-    text = name;
-    text_is = refl;
-    kept = kept_again (name_form kind []) p.text name p.kept;
-    not_empty = p.not_empty;
-    domain_is = refl;
-  }
-  identity_again e name kind (o ∷ os) [] p = record {
-    children = refl;
-    kind_is = refl;
-    definition = definition_again kind (value_of (codes "other-type-definition") e) (o ∷ os) p.definition;
-    text = name;
-    text_is = refl;
-    kept = kept_again (name_form kind (o ∷ os)) p.text name p.kept;
-    not_empty = p.not_empty;
-    domain_is = refl;
-  }
-  identity_again e name kind (o ∷ os) (b ∷ bs) p = record {
-    children = refl;
-    kind_is = refl;
-    definition = definition_again kind (value_of (codes "other-type-definition") e) (o ∷ os) p.definition;
-    text = name;
-    text_is = refl;
-    kept = kept_again (name_form kind (o ∷ os)) p.text name p.kept;
-    not_empty = p.not_empty;
-    domain_is = refl;
-  }
+  identity_again e name kind [] [] p =
+      identity_in (identifier_element (Identity name kind [] [])) refl e name kind [] [] p refl refl refl refl
+  identity_again e name kind [] (b ∷ bs) p =
+      identity_in (identifier_element (Identity name kind [] (b ∷ bs))) refl e name kind [] (b ∷ bs) p refl refl refl refl
+  identity_again e name kind (o ∷ os) [] p =
+      identity_in (identifier_element (Identity name kind (o ∷ os) [])) refl e name kind (o ∷ os) [] p refl refl refl refl
+  identity_again e name kind (o ∷ os) (b ∷ bs) p =
+      identity_in (identifier_element (Identity name kind (o ∷ os) (b ∷ bs))) refl e name kind (o ∷ os) (b ∷ bs) p refl refl refl refl
 
   v4_again : (e : Element) (value domain : List ℕ) → IsIpAddress (codes "IPv4") IsIpV4 e value domain
       → IsIpAddress (codes "IPv4") IsIpV4 (identifier_element (IpV4 value domain)) value domain
-  v4_again e value [] p = record {
-    children = refl;
-    kind_is = refl;
-    text = ip_v4_text value;
-    text_is = refl;
-    means = ip_v4_spelled value (v4_size p.text value p.means);
-    domain_is = refl;
-  }
-  v4_again e value (b ∷ bs) p = record {
-    children = refl;
-    kind_is = refl;
-    text = ip_v4_text value;
-    text_is = refl;
-    means = ip_v4_spelled value (v4_size p.text value p.means);
-    domain_is = refl;
-  }
+  v4_again e value [] p = v4_in (identifier_element (IpV4 value [])) refl e value [] p refl refl refl
+  v4_again e value (b ∷ bs) p = v4_in (identifier_element (IpV4 value (b ∷ bs))) refl e value (b ∷ bs) p refl refl refl
 
   v6_again : (e : Element) (value domain : List ℕ) → IsIpAddress (codes "IPv6") IsIpV6 e value domain
       → IsIpAddress (codes "IPv6") IsIpV6 (identifier_element (IpV6 value domain)) value domain
-  v6_again e value [] p = record {
-    children = refl;
-    kind_is = refl;
-    text = ip_v6_text value;
-    text_is = refl;
-    means = ip_v6_spelled value (ip_v6_fits p.text value p.means);
-    domain_is = refl;
-  }
-  v6_again e value (b ∷ bs) p = record {
-    children = refl;
-    kind_is = refl;
-    text = ip_v6_text value;
-    text_is = refl;
-    means = ip_v6_spelled value (ip_v6_fits p.text value p.means);
-    domain_is = refl;
-  }
+  v6_again e value [] p = v6_in (identifier_element (IpV6 value [])) refl e value [] p refl refl refl
+  v6_again e value (b ∷ bs) p = v6_in (identifier_element (IpV6 value (b ∷ bs))) refl e value (b ∷ bs) p refl refl refl
 
   mac_again : (e : Element) (value domain : List ℕ) → IsMacAddressElement e value domain
       → IsMacAddressElement (identifier_element (MacAddress value domain)) value domain
-  mac_again e value [] p = record {
-    children = refl;
-    text = mac_address_text value;
-    text_is = refl;
-    means = mac_address_spelled value (record { number = p.means.six; below = p.means.bytes });
-    domain_is = refl;
-  }
-  mac_again e value (b ∷ bs) p = record {
-    children = refl;
-    text = mac_address_text value;
-    text_is = refl;
-    means = mac_address_spelled value (record { number = p.means.six; below = p.means.bytes });
-    domain_is = refl;
-  }
+  mac_again e value [] p = mac_in (identifier_element (MacAddress value [])) refl e value [] p refl refl
+  mac_again e value (b ∷ bs) p = mac_in (identifier_element (MacAddress value (b ∷ bs))) refl e value (b ∷ bs) p refl refl
 
   parts_again : (e : Element) (i : Identifier) → HasParts e i → HasParts (identifier_element i) i
   parts_again e (AccessRequest name domain) p = access_request_again e name domain p

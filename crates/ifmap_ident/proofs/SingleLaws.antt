@@ -91,7 +91,8 @@ one_access_request e n d m c p q =
 one_identity : (e : Element) (n : List ℕ) (k : IdentityType) (o d m : List ℕ) (l : IdentityType) (s c : List ℕ) → IsIdentity e n k o d
     → IsIdentity e m l s c → Identity n k o d ≡ Identity m l s c
 one_identity e n k o d m l s c p q =
-    let kinds : k ≡ l = types_are_one k l (one_of (value_of (codes "type") e) (identity_type_name k) (identity_type_name l) p.kind_is q.kind_is) in
+    let named : Option (List ℕ) = value_of (codes "type") e in
+    let kinds : k ≡ l = types_are_one k l (one_of named (identity_type_name k) (identity_type_name l) p.kind_is q.kind_is) in
     let given : Option (List ℕ) = value_of (codes "other-type-definition") e in
     let others : o ≡ s = one_definition k given o s p.definition (subst (λ t. IsDefinition t given s) (sym kinds) q.definition) in
     let texts : p.text ≡ q.text = one_of (value_of (codes "name") e) p.text q.text p.text_is q.text_is in

@@ -1,4 +1,9 @@
 -- Canonical bytes are UTF-8, since they spell an element and each token is UTF-8.
+-- 1. Characters, parts of names and ASCII are UTF-8.
+-- 2. So is white space, a name or a quoted value before UTF-8.
+-- 3. So is each part of a token: an assignment, a tag, a setting of the declaration.
+-- 4. So is each token before UTF-8, and then a list of tokens up to the end.
+-- 5. The canonical bytes of an element that fits spell it, and begin with no byte order mark.
 use Rattle.std.proofs.Common.{◌≡◌, ℕ, ◌≤◌, ◌==◌, ◌||◌, true, false, Bool, List, [], ◌∷◌, ◌++◌, map, codes, refl, sym, subst, ap, ◌∙◌, ◌⊎◌, inl, inr, arith}
 use Rattle.std.specs.Prelude.{IsUtf8}
 use Rattle.std.specs.Char.{to_ascii_uppercase}
