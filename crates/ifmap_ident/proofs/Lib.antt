@@ -1,7 +1,16 @@
-mod AlikeLaws
-mod LeadingLaws
-mod OptionalLaws
-mod OrderLaws
-mod PlacedLaws
-mod PrintedLaws
-mod SizeLaws
+pub mod AgainLaws
+pub mod AlikeLaws
+pub mod BackLaws
+pub mod DotLaws
+pub mod FindLaws
+pub mod KindLaws
+pub mod LeadingLaws
+pub mod MeaningLaws
+pub mod OptionalLaws
+pub mod OrderLaws
+pub mod PlacedLaws
+pub mod PrintedLaws
+pub mod SingleLaws
+pub mod SizeLaws
+pub mod SpelledLaws
+pub mod Utf8Laws

@@ -28,14 +28,18 @@ pub record IsAccessRequest (e : Element) (name domain : List ℕ) : Type 0 where
   pub not_empty : name ≢ []
   pub domain_is : domain ≡ domain_of e
 
--- beside white space, one element `name` that holds a text alone
+-- an element `name` that holds this text alone
+pub record HoldsName (child : Element) (name : List ℕ) : Type 0 where
+  pub named : child.name ≡ bare_name (codes "name")
+  pub attributes : IsTrue (has_only [] child)
+  pub text_is : child.children ≡ Child.Text name ∷ []
+  pub not_empty : name ≢ []
+
+-- such an element, and nothing beside it but white space
 pub record IsDevice (e : Element) (name : List ℕ) : Type 0 where
   pub child : Element
   pub children : solid_children e ≡ Child.Element child ∷ []
-  pub child_name : child.name ≡ bare_name (codes "name")
-  pub child_attributes : IsTrue (has_only [] child)
-  pub text : child.children ≡ Child.Text name ∷ []
-  pub not_empty : name ≢ []
+  pub holds : HoldsName child name
 
 -- the type `other` needs a definition that is not empty, and any other type drops it
 abbrev pub IsDefinition : IdentityType → Option (List ℕ) → List ℕ → Type 0

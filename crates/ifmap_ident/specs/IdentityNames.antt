@@ -8,8 +8,8 @@ use Rattle.ifmap_elem.specs.Nesting.{nesting}
 use Rattle.ifmap_elem.specs.Spells.{Spells}
 use Rattle.ifmap_ident.specs.declared.kinds.IdentityType.{IdentityType}
 use Rattle.ifmap_ident.specs.declared.kinds.IdentityType.TheVariants.{DnsName, Other}
-use Rattle.ifmap_ident.specs.declared.identities.NameForm.{NameForm}
-use Rattle.ifmap_ident.specs.declared.identities.NameForm.TheVariants.{Literal, Domain, Spelled}
+use Rattle.ifmap_ident.specs.declared.names.NameForm.{NameForm}
+use Rattle.ifmap_ident.specs.declared.names.NameForm.TheVariants.{Literal, Domain, Spelled}
 
 -- the text without the full stops at its end
 abbrev pub without_last_dots : List ℕ → List ℕ
@@ -18,7 +18,7 @@ without_last_dots (b ∷ bs) = if list_all (λ c. c == byte ".") (b ∷ bs) then
 
 -- a name of a domain: letters of ASCII in lower case (RFC 4343, section 3), without the root's dots
 abbrev pub domain_name : List ℕ → List ℕ
-domain_name text = without_last_dots (str_to_ascii_lowercase text)
+domain_name text = str_to_ascii_lowercase (without_last_dots text)
 
 -- the text spells an element that nests at most 64 deep, and the name is the canonical bytes of it: an extended identifier
 -- (IF-MAP binding for SOAP, version 2.2, section 3.2.3)

@@ -13,6 +13,10 @@ kind_name Identity = codes "identity"
 kind_name IpAddress = codes "ip-address"
 kind_name MacAddress = codes "mac-address"
 
+-- all kinds
+abbrev pub kinds : List Kind
+kinds = AccessRequest ∷ (Device ∷ (Identity ∷ (IpAddress ∷ (MacAddress ∷ []))))
+
 -- the attributes that the element of a kind can have beside those of a namespace
 abbrev pub allowed_attributes : Kind → List (List ℕ)
 allowed_attributes AccessRequest = codes "name" ∷ (codes "administrative-domain" ∷ [])
@@ -34,3 +38,9 @@ identity_type_name Username = codes "username"
 identity_type_name SipUri = codes "sip-uri"
 identity_type_name TelUri = codes "tel-uri"
 identity_type_name Other = codes "other"
+
+-- all types
+abbrev pub identity_types : List IdentityType
+identity_types =
+    AikName ∷ (DistinguishedName ∷ (DnsName ∷ (EmailAddress ∷ (HipHit ∷ (KerberosPrincipal ∷ (Username
+    ∷ (SipUri ∷ (TelUri ∷ (Other ∷ [])))))))))

@@ -4,6 +4,7 @@ pub mod Identifiers
 pub mod IdentityNames
 pub mod Items
 pub mod Kinds
+pub mod Laws
 pub mod Leading
 pub mod Meaning
 pub mod Parts

@@ -1,15 +1,15 @@
 -- The answers on the way to an identifier, before its size is looked at.
-use Rattle.std.specs.Prelude.{◌≡◌, ◌≢◌, ℕ, List, [], Option, Some, None, Result, Ok, Err}
+use Rattle.std.specs.Prelude.{◌≡◌, ℕ, List, [], ◌∷◌, Option, Some, None, Result, Ok, Err, codes, unwrap_or}
 use Rattle.ifmap_elem.specs.declared.elements.Element.{Element}
 use Rattle.ifmap_ident.specs.declared.errors.IdentError.{IdentError}
 use Rattle.ifmap_ident.specs.declared.errors.IdentError.TheVariants.{WrongKind, Invalid, TooLong, NoMemory}
 use Rattle.ifmap_ident.specs.declared.identifiers.Identifier.{Identifier}
-use Rattle.ifmap_ident.specs.declared.identities.NameForm.{NameForm}
-use Rattle.ifmap_ident.specs.declared.kinds.IdentityType.{IdentityType}
 use Rattle.ifmap_ident.specs.declared.kinds.Kind.{Kind}
-use Rattle.ifmap_ident.specs.Canon.{HasParts, IsDefinition, IsInvalid, IsMeant, IsWrongKind}
+use Rattle.ifmap_ident.specs.Canon.{HasParts, IsInvalid, IsMeant, IsWrongKind}
 use Rattle.ifmap_ident.specs.Identifiers.{identifier_kind}
-use Rattle.ifmap_ident.specs.IdentityNames.{IsKept}
+use Rattle.ifmap_ident.specs.Parts.{value_of}
+use Rattle.ifmap_ident.specs.declared.reading.Version.{Version}
+use Rattle.ifmap_ident.specs.declared.reading.Version.TheVariants.{V4, V6}
 
 -- what the element means, or why it means nothing
 abbrev pub IsMeaning : Element → Result Identifier IdentError → Type 0
@@ -32,3 +32,16 @@ abbrev pub IsFound : {E : Type 0} (Passes : List ℕ → Type 0) → Result (Opt
 IsFound Passes (Ok (Some text)) = Passes text
 IsFound Passes (Ok None) = (text : List ℕ) → Passes text → ⊥
 IsFound Passes (Err e) = Unit {0}
+
+abbrev pub unless_empty : List ℕ → Option (List ℕ)
+unless_empty [] = None
+unless_empty (b ∷ bs) = Some (b ∷ bs)
+
+-- the version of an address as it is written in the attribute `type`
+abbrev pub version_name : Version → List ℕ
+version_name V4 = codes "IPv4"
+version_name V6 = codes "IPv6"
+
+-- the version of the addresses of an element
+abbrev pub IsVersion : Element → Version → Type 0
+IsVersion e version = unwrap_or (value_of (codes "type") e) (codes "IPv4") ≡ version_name version

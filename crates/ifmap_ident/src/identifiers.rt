@@ -4,13 +4,17 @@ ghost use Rattle.std.specs.Cmp.{partial_order_from_own_ties};
 ghost use Rattle.std.specs.Cmp.Rules.{comparing};
 ghost use Rattle.std.specs.Ordering.{as_partial_cmp};
 ghost use Rattle.std.proofs.Common.{rules};
+ghost use Rattle.ifmap_ident.specs.Canon.{IsAnswer};
 ghost use Rattle.ifmap_ident.specs.Identifiers.{identifier_bytes, identifier_element, identifier_kind, identifier_order, same_identifier};
 
 use crate::equality::identifiers_are_one;
+use crate::errors::IdentError;
 use crate::kinds::{IdentityType, Kind};
 use crate::ordering::compare_identifiers;
+use crate::reading::read_identifier;
 use crate::sizes::identifier_len;
-use ifmap_elem::{Attribute, Copied, Element, Equals, Text};
+use crate::writing::write_identifier;
+use ifmap_elem::{Copied, Element, Equals, Text};
 use std::alloc::{AllocError as NoMemory, Global};
 use std::cmp::Ordering;
 
@@ -53,6 +57,33 @@ pub enum Identifier {
 }
 
 impl Identifier {
+    /// The most canonical bytes of an identifier that is made from an element.
+    pub const MOST_BYTES: u64 = 4096;
+
+    /// The identifier that an element is. An error tells why it is none; want of memory may stand in
+    /// place of any answer.
+    pub fn from_element(alloc: Global, element: &Element) -> Result<Identifier, IdentError>
+        ensures { IsAnswer element.now result }
+    {
+        match read_identifier(alloc, element) {
+            Ok(identifier) => {
+                if identifier.size() > Identifier::MOST_BYTES {
+                    return Err(IdentError::TooLong);
+                }
+                Ok(identifier)
+            }
+            Err(error) => Err(error),
+        }
+    }
+
+    /// The identifier as an element, whose canonical bytes are the identifier's and which is read back
+    /// as the same identifier. The one error is want of memory.
+    pub fn element(&self, alloc: Global) -> Result<Element, NoMemory>
+        ensures { IfOk result (λ element. element ≡ identifier_element self.now) }
+    {
+        write_identifier(alloc, self)
+    }
+
     /// Which of the five elements the identifier is.
     pub fn kind(&self) -> Kind
         ensures { result ≡ identifier_kind self.now }

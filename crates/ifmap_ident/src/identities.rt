@@ -1,7 +1,8 @@
 //! Identities, read from their elements.
-ghost use Rattle.std.specs.Prelude.{◌≡◌, ◌≢◌, [], ℕ, List, IfSome, IsNone};
+ghost use Rattle.std.specs.Prelude.{◌≡◌, codes, IfSome, IsNone, Some};
 ghost use Rattle.ifmap_ident.specs.Canon.{IsDefinition};
-ghost use Rattle.ifmap_ident.specs.IdentityNames.{IsKept, IsSpelledName, name_form, without_last_dots};
+ghost use Rattle.ifmap_ident.specs.IdentityNames.{name_form};
+ghost use Rattle.ifmap_ident.specs.Kinds.{identity_type_name};
 ghost use Rattle.ifmap_ident.specs.Meaning.{ArePartsOf, IsFound};
 ghost use Rattle.ifmap_ident.specs.Parts.{value_of};
 ghost use Rattle.ifmap_ident.specs.declared.kinds.IdentityType.{IdentityType};
@@ -51,7 +52,7 @@ fn type_of(element: &Element) -> Option<IdentityType>
         value_of (codes "type") element.now ≡ Some (identity_type_name kind) → ⊥ }
 {
     let name = value_of(element, "type")?;
-    IdentityType::of_name(name.0.as_str())
+    IdentityType::of_name(name.as_str())
 }
 
 // A copy of what the type `other` is defined as, or the empty text of another type; `None` where the
@@ -77,7 +78,7 @@ fn copy_needed_definition(alloc: Global, element: &Element) -> Result<Option<Tex
     let Some(definition) = value_of(element, "other-type-definition") else {
         return Ok(None);
     };
-    if definition.0.is_empty() {
+    if definition.is_empty() {
         return Ok(None);
     }
     Ok(Some(definition.copy(alloc)?))
@@ -97,7 +98,7 @@ fn name_form(kind: IdentityType, other: &Text) -> NameForm
 fn other_form(other: &Text) -> NameForm
     ensures { result ≡ name_form Other other.now }
 {
-    if other.0.as_str() == "extended" {
+    if other.as_str() == "extended" {
         NameForm::Spelled
     } else {
         NameForm::Literal

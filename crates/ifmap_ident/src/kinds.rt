@@ -1,7 +1,9 @@
 //! The kinds of identifiers, and the types of identities.
 ghost use Rattle.std.specs.Prelude.{◌≡◌, IfSome, IsNone};
-ghost use Rattle.ifmap_elem.specs.Building.{bare_name};
-ghost use Rattle.ifmap_ident.specs.Kinds.{identity_type_name, kind_name};
+ghost use Rattle.std.specs.List.{find};
+ghost use Rattle.std.specs.Str.{bytes_eq};
+ghost use Rattle.ifmap_elem.specs.Building.{bare_name, is_bare};
+ghost use Rattle.ifmap_ident.specs.Kinds.{identity_type_name, identity_types, kind_name, kinds};
 ghost use Rattle.ifmap_ident.specs.declared.kinds.IdentityType.{IdentityType};
 ghost use Rattle.ifmap_ident.specs.declared.kinds.Kind.{Kind};
 
@@ -45,13 +47,14 @@ impl Kind {
         ensures none { IsNone result → (kind : Kind) →
             name.now ≡ bare_name (kind_name kind) → ⊥ }
     {
-        for kind in &KINDS {
-            if name.is_bare(kind.name()) {
-                return Some(*kind);
-            }
-        }
-        None
+        kind_of(name)
     }
+}
+
+fn kind_of(name: &Name) -> Option<Kind>
+    ensures { result ≡ find (λ kind. is_bare (kind_name kind) name.now) kinds }
+{
+    KINDS.iter().copied().find(|kind| name.is_bare(kind.name()))
 }
 
 /// What the name of an identity is.
@@ -108,11 +111,15 @@ impl IdentityType {
         ensures none { IsNone result → (kind : IdentityType) →
             name.now ≡ identity_type_name kind → ⊥ }
     {
-        for kind in &IDENTITY_TYPES {
-            if kind.name() == name {
-                return Some(*kind);
-            }
-        }
-        None
+        type_of(name)
     }
+}
+
+fn type_of(name: &str) -> Option<IdentityType>
+    ensures { result ≡ find (λ kind. bytes_eq (identity_type_name kind) name.now) identity_types }
+{
+    IDENTITY_TYPES
+        .iter()
+        .copied()
+        .find(|kind| kind.name() == name)
 }

@@ -10,11 +10,14 @@ pub mod identifiers;
 mod identities;
 pub mod items;
 pub mod kinds;
+pub mod laws;
 mod names;
 mod optionals;
 mod ordering;
 mod parts;
+mod reading;
 mod sizes;
+mod writing;
 mod written;
 
 pub use codes::Code;

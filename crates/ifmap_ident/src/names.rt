@@ -1,9 +1,11 @@
 //! The names of identities, in the form in which they are kept.
 ghost use Rattle.std.specs.Prelude.{◌≡◌, ◌≢◌, [], IfOk};
 ghost use Rattle.ifmap_ident.specs.IdentityNames.{IsKept, IsSpelledName, domain_name, without_last_dots};
-ghost use Rattle.ifmap_ident.specs.Meaning.{IsFound};
+ghost use Rattle.ifmap_ident.specs.Meaning.{IsFound, unless_empty};
+ghost use Rattle.ifmap_elem.specs.Canonical.{canonical_bytes};
+ghost use Rattle.ifmap_elem.specs.Fit.{IsFit};
 
-use ifmap_elem::{Copied, Text, canonical};
+use ifmap_elem::{Copied, Element, Text, canonical};
 use ifmap_reader::{ReadError, read};
 use std::alloc::{AllocError as NoMemory, Global};
 
@@ -29,31 +31,54 @@ pub(crate) fn keep_name(
 ) -> Result<Option<Text>, NoMemory>
     ensures { IsFound (λ name. IsKept form text.now name × (name ≢ [])) result }
 {
-    let kept = match form {
-        NameForm::Literal => Some(text.copy(alloc)?),
-        NameForm::Domain => Some(domain_name(alloc, text)?),
-        NameForm::Spelled => spelled_name(alloc, text)?,
-    };
-    Ok(unless_empty(kept))
+    match form {
+        NameForm::Literal => Ok(unless_empty(text.copy(alloc)?)),
+        NameForm::Domain => Ok(unless_empty(domain_name(alloc, text)?)),
+        NameForm::Spelled => spelled_name(alloc, text),
+    }
+}
+
+fn unless_empty(text: Text) -> Option<Text>
+    ensures { result ≡ unless_empty text }
+{
+    if text.is_empty() {
+        return None;
+    }
+    Some(text)
 }
 
 fn domain_name(alloc: Global, text: &Text) -> Result<Text, NoMemory>
     ensures { IfOk result (λ name. name ≡ domain_name text.now) }
 {
-    let mut name = text.0.to_ascii_lowercase(alloc)?;
-    let len = len_without_last_dots(name.as_bytes());
-    name.truncate(len);
+    let mut name = String::from_str(alloc, without_last_dots(text.as_str()))?;
+    name.make_ascii_lowercase();
     Ok(Text(name))
+}
+
+fn without_last_dots(text: &str) -> &str
+    ensures { result.now ≡ without_last_dots text.now }
+{
+    text.trim_end_matches('.')
 }
 
 // The canonical bytes of the element that the text spells; `None` where it spells none, or one that
 // nests too deep.
 fn spelled_name(alloc: Global, text: &Text) -> Result<Option<Text>, NoMemory>
-    ensures { IsFound (IsSpelledName text.now) result }
+    ensures { IsFound (λ name. IsSpelledName text.now name × (name ≢ [])) result }
 {
-    match read(alloc, text.0.as_bytes(), DEPTH) {
+    match read(alloc, text.as_bytes(), DEPTH) {
         Ok(reading) => Ok(Some(canonical_text(alloc, &reading.root)?)),
         Err(ReadError::NoMemory) => Err(NoMemory),
-        Err(_) => Ok(None),
+        Err(ReadError::Unreadable { .. }) => Ok(None),
+        Err(ReadError::TooDeep { .. }) => Ok(None),
     }
+}
+
+// The canonical bytes of an element that fits, as a text.
+fn canonical_text(alloc: Global, element: &Element) -> Result<Text, NoMemory>
+    requires { IsFit element.now }
+    ensures { IfOk result (λ text. text ≡ canonical_bytes element.now) }
+{
+    let bytes = canonical(alloc, element)?;
+    Ok(Text(String::from_utf8(bytes.0).unwrap()))
 }

@@ -1,7 +1,8 @@
 //! What the element of an identifier has in it.
 ghost use Rattle.std.specs.Prelude.{◌≡◌, [], ◌∷◌, ℕ, List, IfSome, IsNone, IfOk, option_copied};
-ghost use Rattle.std.specs.List.{filter, list_any};
+ghost use Rattle.std.specs.List.{filter, find, list_all, list_any};
 ghost use Rattle.std.specs.Str.{bytes_eq};
+ghost use Rattle.ifmap_elem.specs.Building.{is_bare};
 ghost use Rattle.ifmap_elem.specs.Chars.{is_white};
 ghost use Rattle.ifmap_elem.specs.declared.elements.Child;
 ghost use Rattle.ifmap_elem.specs.declared.elements.Child.{Child};
@@ -18,12 +19,18 @@ pub(crate) fn value_of<'a>(element: &'a Element, local: &str) -> Option<&'a Text
     ensures { option_copied result ≡ value_of local.now element.now }
 {
     let attributes = &element.attributes;
-    for attribute in &attributes.0 {
-        if attribute.name.is_bare(local) {
-            return Some(&attribute.value);
-        }
+    match attribute_of(&attributes.0, local) {
+        Some(attribute) => Some(&attribute.value),
+        None => None,
     }
-    None
+}
+
+fn attribute_of<'a>(attributes: &'a [Attribute], local: &str) -> Option<&'a Attribute>
+    ensures { option_copied result ≡ find (λ a. is_bare local.now a.name) attributes.now }
+{
+    attributes
+        .iter()
+        .find(|attribute| attribute.name.is_bare(local))
 }
 
 // A copy of the administrative domain; an empty one where there is none.
@@ -50,7 +57,7 @@ pub(crate) fn has_only(kind: Kind, element: &Element) -> bool
 fn is_known(kind: Kind, attribute: &Attribute) -> bool
     ensures { result ≡ is_known (allowed_attributes kind) attribute.now }
 {
-    !attribute.name.space.0.is_empty() || is_allowed(kind, attribute.name.local.0.as_str())
+    !attribute.name.space.is_empty() || is_allowed(kind, attribute.name.local.as_str())
 }
 
 // Whether a kind allows the attribute.
@@ -122,8 +129,14 @@ fn is_blank(child: &Child) -> bool
 {
     match child {
         Child::Element(_) => false,
-        Child::Text(text) => text.0.as_bytes().iter().all(|byte| is_white(*byte)),
+        Child::Text(text) => is_white_alone(text.as_bytes()),
     }
+}
+
+fn is_white_alone(bytes: &[u8]) -> bool
+    ensures { result ≡ list_all is_white bytes.now }
+{
+    bytes.iter().all(|byte| is_white(*byte))
 }
 
 fn is_white(byte: u8) -> bool
