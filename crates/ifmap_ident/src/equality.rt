@@ -57,14 +57,49 @@ fn have_same_parts(one: &Identifier, other: &Identifier) -> bool
         }
         (Device { name: a }, Device { name: b }) => a.equals(b),
         (
-            Identity { name, kind, other, domain },
-            Identity { name: a, kind: b, other: c, domain: d },
+            Identity {
+                name,
+                kind,
+                other,
+                domain,
+            },
+            Identity {
+                name: a,
+                kind: b,
+                other: c,
+                domain: d,
+            },
         ) => name.equals(a) && kind == b && other.equals(c) && domain.equals(d),
-        (IpV4 { value: a, domain: b }, IpV4 { value: c, domain: d }) => a == c && b.equals(d),
-        (IpV6 { value: a, domain: b }, IpV6 { value: c, domain: d }) => a == c && b.equals(d),
-        (MacAddress { value: a, domain: b }, MacAddress { value: c, domain: d }) => {
-            a == c && b.equals(d)
-        }
+        (
+            IpV4 {
+                value: a,
+                domain: b,
+            },
+            IpV4 {
+                value: c,
+                domain: d,
+            },
+        ) => a == c && b.equals(d),
+        (
+            IpV6 {
+                value: a,
+                domain: b,
+            },
+            IpV6 {
+                value: c,
+                domain: d,
+            },
+        ) => a == c && b.equals(d),
+        (
+            MacAddress {
+                value: a,
+                domain: b,
+            },
+            MacAddress {
+                value: c,
+                domain: d,
+            },
+        ) => { a == c && b.equals(d) }
         _ => false,
     }
 }

@@ -55,19 +55,82 @@ fn order_in_kind(one: &Identifier, other: &Identifier) -> Ordering
         }
         (Device { name: a }, Device { name: b }) => device_order(a, b),
         (
-            Identity { name, kind, other, domain },
-            Identity { name: a, kind: b, other: c, domain: d },
+            Identity {
+                name,
+                kind,
+                other,
+                domain,
+            },
+            Identity {
+                name: a,
+                kind: b,
+                other: c,
+                domain: d,
+            },
         ) => identity_order(
-            IdentityParts { name, kind: *kind, other, domain },
-            IdentityParts { name: a, kind: *b, other: c, domain: d },
+            IdentityParts {
+                name,
+                kind: *kind,
+                other,
+                domain,
+            },
+            IdentityParts {
+                name: a,
+                kind: *b,
+                other: c,
+                domain: d,
+            },
         ),
-        (IpV4 { value: a, domain: b }, IpV4 { value: c, domain: d }) => v4_order(a, b, c, d),
-        (IpV4 { value: a, domain: b }, IpV6 { value: c, domain: d }) => v4_v6_order(a, b, c, d),
-        (IpV6 { value: a, domain: b }, IpV4 { value: c, domain: d }) => v6_v4_order(a, b, c, d),
-        (IpV6 { value: a, domain: b }, IpV6 { value: c, domain: d }) => v6_order(a, b, c, d),
-        (MacAddress { value: a, domain: b }, MacAddress { value: c, domain: d }) => {
-            mac_order(a, b, c, d)
-        }
+        (
+            IpV4 {
+                value: a,
+                domain: b,
+            },
+            IpV4 {
+                value: c,
+                domain: d,
+            },
+        ) => v4_order(a, b, c, d),
+        (
+            IpV4 {
+                value: a,
+                domain: b,
+            },
+            IpV6 {
+                value: c,
+                domain: d,
+            },
+        ) => v4_v6_order(a, b, c, d),
+        (
+            IpV6 {
+                value: a,
+                domain: b,
+            },
+            IpV4 {
+                value: c,
+                domain: d,
+            },
+        ) => v6_v4_order(a, b, c, d),
+        (
+            IpV6 {
+                value: a,
+                domain: b,
+            },
+            IpV6 {
+                value: c,
+                domain: d,
+            },
+        ) => v6_order(a, b, c, d),
+        (
+            MacAddress {
+                value: a,
+                domain: b,
+            },
+            MacAddress {
+                value: c,
+                domain: d,
+            },
+        ) => { mac_order(a, b, c, d) }
         _ => Ordering::Equal,
     }
 }
@@ -103,7 +166,7 @@ fn identity_order(one: IdentityParts<'_>, other: IdentityParts<'_>) -> Ordering
     ensures { result ≡ identifier_order
         (Identity one.entry.name.now one.entry.kind one.entry.other.now one.entry.domain.now)
         (Identity other.entry.name.now other.entry.kind other.entry.other.now
-            other.entry.domain.now) }
+        other.entry.domain.now) }
 {
     optional_order(one.domain, other.domain)
         .then(text_order(Place::Value, one.name, other.name))
@@ -162,12 +225,7 @@ fn v6_order(
     optional_order(domain, other_domain).then(ip_v6_order(value, other_value))
 }
 
-fn mac_order(
-    value: &[u8; 6],
-    domain: &Text,
-    other_value: &[u8; 6],
-    other_domain: &Text,
-) -> Ordering
+fn mac_order(value: &[u8; 6], domain: &Text, other_value: &[u8; 6], other_domain: &Text) -> Ordering
     ensures { result ≡ identifier_order (MacAddress value.now domain.now)
         (MacAddress other_value.now other_domain.now) }
 {
