@@ -66,7 +66,7 @@ fn bench_element<R: Runtime>(rt: &R, alloc: Global, document: &str) -> io::Resul
     rt.println(format_args!("{} | {} | {}", document, reading / 2000, making / 2000))
 }
 
-fn time_of_comparing<R: Runtime>(rt: &R, one: &Identifier, other: &Identifier) -> io::Result<u128> {
+fn time_of_comparing<R: Runtime, T: Ord>(rt: &R, one: &T, other: &T) -> io::Result<u128> {
     let mut least = u128::MAX;
     for _ in 0..TURNS {
         let start = Instant::now(rt)?;
@@ -85,19 +85,6 @@ fn time_of_equals<R: Runtime>(rt: &R, one: &Identifier, other: &Identifier) -> i
         let start = Instant::now(rt)?;
         for _ in 0..CALLS {
             black_box(black_box(one) == black_box(other));
-        }
-        least = least.min(start.elapsed(rt)?.as_nanos());
-    }
-    Ok(least)
-}
-
-fn time_of_texts<R: Runtime>(rt: &R, one: &Text, other: &Text) -> io::Result<u128> {
-    let mut least = u128::MAX;
-    for _ in 0..TURNS {
-        let start = Instant::now(rt)?;
-        for _ in 0..CALLS {
-            let order: Ordering = black_box(one).cmp(black_box(other));
-            black_box(order);
         }
         least = least.min(start.elapsed(rt)?.as_nanos());
     }
@@ -135,7 +122,7 @@ fn mac(alloc: Global, last: u8) -> Identifier {
 
 fn bench_comparing<R: Runtime>(rt: &R, alloc: Global, len: usize) -> io::Result<()> {
     let (one, other) = (long_name(alloc, len, 'a')?, long_name(alloc, len, 'b')?);
-    let texts = time_of_texts(rt, &one, &other)?;
+    let texts = time_of_comparing(rt, &one, &other)?;
     let (one, other) = (device(alloc, len, 'a')?, device(alloc, len, 'b')?);
     let devices = time_of_comparing(rt, &one, &other)?;
     let (one, other) = (access_request(alloc, len, 'a')?, access_request(alloc, len, 'b')?);

@@ -13,4 +13,5 @@ pub mod PrintedLaws
 pub mod SingleLaws
 pub mod SizeLaws
 pub mod SpelledLaws
+pub mod TypedLaws
 pub mod Utf8Laws
