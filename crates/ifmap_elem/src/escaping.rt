@@ -1,7 +1,7 @@
 //! Text and the values of attributes as they stand in canonical bytes.
 ghost use Rattle.std.specs.Prelude.{◌≡◌, ◌++◌, ◌+◌, ◌∷◌, [], ◌≤◌, length, OnOk, MatchOption};
 ghost use Rattle.std.specs.Bool.{OnTrue};
-ghost use Rattle.ifmap_elem.specs.Escapes.{value_byte};
+ghost use Rattle.ifmap_elem.specs.Escapes.{text_byte, value_byte};
 ghost use Rattle.ifmap_elem.specs.printer.Plain.{escape_byte, escape_bytes, ArePlain, LacksByte};
 
 use std::alloc::AllocError as NoMemory;
@@ -160,6 +160,14 @@ pub fn value_reference(byte: u8) -> Option<&'static [u8]>
         (λ reference. reference.now ≡ value_byte byte) }
 {
     escape(Place::Value, byte)
+}
+
+/// The same of a byte of text.
+pub fn text_reference(byte: u8) -> Option<&'static [u8]>
+    ensures { MatchOption result (text_byte byte ≡ byte ∷ [])
+        (λ reference. reference.now ≡ text_byte byte) }
+{
+    escape(Place::Content, byte)
 }
 
 // The reference that a byte is written as, where it does not stand for itself.

@@ -24,7 +24,7 @@ pub use comparing::same;
 pub use copying::Copied;
 pub use elements::{Attribute, Child, Element, Name};
 pub use equality::Equals;
-pub use escaping::value_reference;
+pub use escaping::{text_reference, value_reference};
 pub use lists::Many;
 pub use printing::{canonical, written};
 pub use readings::{Declared, Reading};

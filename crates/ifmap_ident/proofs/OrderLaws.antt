@@ -1,48 +1,182 @@
--- The order of identifiers by their canonical bytes, from the orders of their parts; and that these bytes tell the parts.
-use Rattle.std.proofs.Common.{Bool, IsTrue, ◌↔◌, get_or, ◌≡◌, ℕ, ◌<◌, List, ◌++◌, codes, drop, length, ap, sym, ◌∙◌, append_assoc, arith}
-use Rattle.std.proofs.lemmas.Map.Lookups.{exact_bytes}
+-- The order of identifiers by their canonical bytes, from the orders of their parts.
+use Rattle.std.proofs.Common.{◌≡◌, ℕ, suc, ◌<◌, get_or, List, [], ◌∷◌, ◌++◌, codes, length, inl, inr, refl, ap, sym, ◌∙◌, subst, append_assoc, arith}
+use Rattle.std.proofs.lemmas.Bool.Decides.{nat_tests}
 use Rattle.std.specs.Cmp.Lexicographic.{slice_cmp}
+use Rattle.std.specs.List.{AllByRecursion}
 use Rattle.std.specs.Ordering.{nat_cmp, ordering_then}
 use Rattle.std.specs.declared.cmp.Ordering.{Ordering}
-use Rattle.ifmap_ident.specs.declared.identifiers.Identifier.TheVariants.{MacAddress}
-use Rattle.ifmap_ident.specs.Identifiers.{identifier_bytes, identifier_order}
-use Rattle.ifmap_ident.specs.MacAddresses.{address_text}
-use Rattle.ifmap_ident.specs.Written.{DomainsLead, domain_bytes, mac_address_bytes}
-use Rattle.ifmap_lemmas.specs.Orderings.{then_equal}
-use Rattle.ifmap_ident.proofs.DomainLaws.{domain_alike}
-use Rattle.ifmap_ident.proofs.LeadingLaws.{leads_alike, leads_after, leads_both, leads_same, leads_whole}
-use Rattle.ifmap_ident.proofs.MacAddressLaws.{AreBytes, address_leads, are_bytes}
-use Rattle.ifmap_ident.proofs.PrintedLaws.{mac_address_printed}
+use Rattle.std.specs.declared.cmp.Ordering.TheVariants.{Less, Equal, Greater}
+use Rattle.ifmap_addresses.specs.IpV4.{ip_v4_text}
+use Rattle.ifmap_addresses.specs.IpV4Laws.{ip_v4_plain}
+use Rattle.ifmap_addresses.specs.IpV6.{ip_v6_text}
+use Rattle.ifmap_addresses.specs.IpV6Laws.{ip_v6_plain}
+use Rattle.ifmap_addresses.specs.MacAddresses.{mac_address_text}
+use Rattle.ifmap_addresses.specs.MacAddressLaws.{mac_address_plain}
+use Rattle.ifmap_addresses.specs.OrderLaws.{closed_below}
+use Rattle.ifmap_addresses.specs.Values.{IsAddressByte, IsDigit}
+use Rattle.ifmap_elem.specs.Escapes.{value_byte}
+use Rattle.ifmap_ident.specs.declared.identifiers.Identifier.{Identifier}
+use Rattle.ifmap_ident.specs.declared.identifiers.Identifier.TheVariants.{AccessRequest, Device, Identity, IpV4, IpV6, MacAddress}
+use Rattle.ifmap_ident.specs.declared.kinds.IdentityType.{IdentityType}
+use Rattle.ifmap_ident.specs.declared.written.Place.TheVariants.{Value, Content}
+use Rattle.ifmap_ident.specs.Identifiers.{identifier_bytes, identifier_kind, identifier_order}
+use Rattle.ifmap_ident.specs.Kinds.{identity_type_name}
+use Rattle.ifmap_ident.specs.Leading.{Leads}
+use Rattle.ifmap_ident.specs.Written.{OptionalsLead, closed_text, domain_written, identifier_written, kind_rank, optional_written, placed_bytes}
+use Rattle.ifmap_ident.proofs.LeadingLaws.{leads_after, leads_both, leads_decided, leads_whole}
+use Rattle.ifmap_ident.proofs.OptionalLaws.{leads_before, optional_then}
+use Rattle.ifmap_ident.proofs.PrintedLaws.{printed}
+use Rattle.ifmap_lemmas.specs.Orderings.{then_equal, then_then}
 
--- the domain with the first bytes after it, and then the rest
-mac_address_parts : (v d : List ℕ) → mac_address_bytes v d ≡ codes "<mac-address"
-    ++ ((domain_bytes d ++ codes " v") ++ (codes "alue=\"" ++ (address_text v ++ codes "\"/>")))
-mac_address_parts v d = ap (λ t. codes "<mac-address" ++ t) (sym
-    (append_assoc (domain_bytes d) (codes " v") (codes "alue=\"" ++ (address_text v ++ codes "\"/>"))))
+-- ---- texts of addresses
 
-pub mac_addresses_in_order : (o : Ordering) (v d w e : List ℕ) → AreBytes v → AreBytes w → length v ≡ length w
-    → DomainsLead o d e
-    → ordering_then o (slice_cmp nat_cmp v w) ≡ identifier_order (MacAddress v d) (MacAddress w e)
-mac_addresses_in_order o v d w e f g same domains =
-    let values = leads_both (address_leads v w same) (leads_same (codes "\"/>")) in
-    let whole = leads_after (codes "<mac-address") (leads_both (domains 118 (omega arith)) (leads_after (codes "alue=\"") values)) in
-    ap (ordering_then o) (sym (then_equal (slice_cmp nat_cmp v w))) ∙ sym (leads_whole whole)
-    ∙ (λ i. slice_cmp nat_cmp ((sym (mac_address_parts v d) ∙ sym (mac_address_printed v d f)) i)
-    ((sym (mac_address_parts w e) ∙ sym (mac_address_printed w e g)) i))
+plain_byte : (b : ℕ) → IsAddressByte b → value_byte b ≡ b ∷ []
+plain_byte b h = grind (arith, nat_tests)
 
-mac_address_alike : (v d w e : List ℕ) → AreBytes v → AreBytes w → length v ≡ length w
-    → identifier_bytes (MacAddress v d) ≡ identifier_bytes (MacAddress w e) → MacAddress v d ≡ MacAddress w e
-mac_address_alike v d w e f g same h =
-    let rest = ap (drop 12) (sym (mac_address_printed v d f) ∙ h ∙ mac_address_printed w e g) in
-    let both = domain_alike d e (codes "alue=\"" ++ (address_text v ++ codes "\"/>")) (codes "alue=\"" ++ (address_text w ++ codes "\"/>"))
-    rest in
-    let values = leads_alike (codes "\"/>") (codes "\"/>") (address_leads v w same) (ap (drop 6) both.1) in
-    λ i. MacAddress (exact_bytes v w values i) (both.0 i)
+above_quote : (b : ℕ) → IsAddressByte b → 34 < b
+above_quote b h = grind (arith, nat_tests)
 
--- so a test that tells two MAC addresses tells their canonical bytes
-pub told_by_bytes : (r : Bool) (v d w e : List ℕ) → ((i : ℕ) → get_or v i 0 < 256) → ((i : ℕ) → get_or w i 0 < 256) → length v ≡ length w
-    → (IsTrue r ↔ (MacAddress v d ≡ MacAddress w e)) → IsTrue r ↔ (identifier_bytes (MacAddress v d) ≡ identifier_bytes (MacAddress w e))
-told_by_bytes r v d w e f g same told = (
-  λ t. ap identifier_bytes (told.0 t),
-  λ h. told.1 (mac_address_alike v d w e (are_bytes v f) (are_bytes w g) same h),
-)
+pub plain_text : (text : List ℕ) → AllByRecursion IsAddressByte text → closed_text Value text ≡ text ++ (34 ∷ [])
+plain_text [] h = refl
+plain_text (b ∷ bs) h = (λ i. (plain_byte b h.0 i ++ placed_bytes Value bs) ++ (34 ∷ [])) ∙ ap (λ t. b ∷ t) (plain_text bs h.1)
+
+above_quotes : (text : List ℕ) → AllByRecursion IsAddressByte text → AllByRecursion (λ b. 34 < b) text
+above_quotes [] h = tt
+above_quotes (b ∷ bs) h = (above_quote b h.0, above_quotes bs h.1)
+
+plain_leads : (p q : List ℕ) → AllByRecursion IsAddressByte p → AllByRecursion IsAddressByte q
+    → Leads (slice_cmp nat_cmp p q) (closed_text Value p) (closed_text Value q)
+plain_leads p q f g =
+    record {
+      compares = λ x y. (λ i. slice_cmp nat_cmp ((plain_text p f i) ++ x) ((plain_text q g i) ++ y))
+          ∙ (λ i. slice_cmp nat_cmp (append_assoc p (34 ∷ []) x i) (append_assoc q (34 ∷ []) y i))
+          ∙ closed_below 34 p q x y (above_quotes p f) (above_quotes q g);
+    }
+
+pub below : (bound : ℕ) (xs : List ℕ) → ((i : ℕ) → get_or xs i 0 < bound) → AllByRecursion (λ n. n < bound) xs
+below bound [] f = tt
+below bound (x ∷ xs) f = (f 0, below bound xs (λ i. f (suc i)))
+
+-- ---- each kind
+
+-- from how two identifiers are written
+by_written : (o : Ordering) (a b : Identifier) → Leads o (identifier_written a) (identifier_written b) → o ≡ identifier_order a b
+by_written o a b f =
+    sym (leads_whole f) ∙ (λ i. slice_cmp nat_cmp (sym (printed a) i) (sym (printed b) i))
+
+-- the domain, and then an attribute whose name begins with this letter
+domain_then : (o r : Ordering) (letter : ℕ) (d e s t : List ℕ) → 97 < letter → OptionalsLead o d e → Leads r s t
+    → Leads (ordering_then o r) (domain_written d ++ (32 ∷ (letter ∷ s))) (domain_written e ++ (32 ∷ (letter ∷ t)))
+domain_then o r letter d e s t h f g = optional_then o r 97 letter (codes "dministrative-domain") d e s t h f g
+
+pub access_requests : (o r : Ordering) (n d m e : List ℕ) → OptionalsLead o d e → Leads r (closed_text Value n) (closed_text Value m)
+    → ordering_then o r ≡ identifier_order (AccessRequest n d) (AccessRequest m e)
+access_requests o r n d m e f g =
+    by_written (ordering_then o r) (AccessRequest n d) (AccessRequest m e) (leads_after (codes "<access-request")
+    (domain_then o r 110 d e (codes "ame=\"" ++ (closed_text Value n ++ codes "/>")) (codes "ame=\"" ++ (closed_text Value m ++ codes "/>"))
+    (omega arith) f (leads_after (codes "ame=\"") (leads_before g (codes "/>")))))
+
+pub devices : (r : Ordering) (n m : List ℕ) → Leads r (closed_text Content n) (closed_text Content m)
+    → r ≡ identifier_order (Device n) (Device m)
+devices r n m g =
+    by_written r (Device n) (Device m) (leads_after (codes "<device><name>") (leads_before g (codes "/name></device>")))
+
+pub identities : (o r p q : Ordering) (n : List ℕ) (k : IdentityType) (u d m : List ℕ) (l : IdentityType) (v e : List ℕ)
+    → OptionalsLead o d e → Leads r (closed_text Value n) (closed_text Value m) → OptionalsLead p u v
+    → Leads q (closed_text Value (identity_type_name k)) (closed_text Value (identity_type_name l))
+    → ordering_then (ordering_then (ordering_then o r) p) q ≡ identifier_order (Identity n k u d) (Identity m l v e)
+identities o r p q n k u d m l v e f g h j =
+    let types = leads_after (codes "ype=\"") (leads_before j (codes "/>")) in
+    let others = optional_then p q 111 116 (codes "ther-type-definition") u v _ _ (omega arith) h types in
+    let names = leads_after (codes "ame=\"") (leads_both g others) in
+    sym (then_then (ordering_then o r) p q) ∙ sym (then_then o r (ordering_then p q))
+    ∙ by_written (ordering_then o (ordering_then r (ordering_then p q))) (Identity n k u d) (Identity m l v e)
+    (leads_after (codes "<identity") (domain_then o (ordering_then r (ordering_then p q)) 110 d e _ _ (omega arith) f names))
+
+-- addresses with a type and the texts of their values
+typed_addresses : (o r : Ordering) (d e p q s t : List ℕ) → OptionalsLead o d e
+    → Leads r (p ++ (codes "\" value=\"" ++ closed_text Value s)) (q ++ (codes "\" value=\"" ++ closed_text Value t))
+    → Leads (ordering_then o r) (codes "<ip-address" ++ (domain_written d ++ (codes " type=\"" ++ (p ++ (codes "\" value=\"" ++ (closed_text Value s ++ codes "/>"))))))
+    (codes "<ip-address" ++ (domain_written e ++ (codes " type=\"" ++ (q ++ (codes "\" value=\"" ++ (closed_text Value t ++ codes "/>"))))))
+typed_addresses o r d e p q s t f g =
+    leads_after (codes "<ip-address") (domain_then o r 116 d e _ _ (omega arith) f (leads_after (codes "ype=\"")
+    (subst (λ x. Leads r x (q ++ (codes "\" value=\"" ++ (closed_text Value t ++ codes "/>")))) (append_assoc p (codes "\" value=\"" ++ closed_text Value s) (codes "/>"))
+    (subst (λ y. Leads r ((p ++ (codes "\" value=\"" ++ closed_text Value s)) ++ codes "/>") y)
+    (append_assoc q (codes "\" value=\"" ++ closed_text Value t) (codes "/>")) (leads_before g (codes "/>"))))))
+
+pub v4_addresses : (o : Ordering) (v d w e : List ℕ) → ((i : ℕ) → get_or v i 0 < 256) → ((i : ℕ) → get_or w i 0 < 256) → OptionalsLead o d e
+    → ordering_then o (slice_cmp nat_cmp (ip_v4_text v) (ip_v4_text w)) ≡ identifier_order (IpV4 v d) (IpV4 w e)
+v4_addresses o v d w e f g h =
+    by_written _ (IpV4 v d) (IpV4 w e) (typed_addresses o _ d e (codes "IPv4") (codes "IPv4") (ip_v4_text v) (ip_v4_text w) h
+    (leads_after (codes "IPv4\" value=\"") (plain_leads (ip_v4_text v) (ip_v4_text w) (ip_v4_plain v f) (ip_v4_plain w g))))
+
+pub v6_addresses : (o : Ordering) (v d w e : List ℕ) → ((i : ℕ) → get_or v i 0 < 65536) → ((i : ℕ) → get_or w i 0 < 65536) → OptionalsLead o d e
+    → ordering_then o (slice_cmp nat_cmp (ip_v6_text v) (ip_v6_text w)) ≡ identifier_order (IpV6 v d) (IpV6 w e)
+v6_addresses o v d w e f g h =
+    by_written _ (IpV6 v d) (IpV6 w e) (typed_addresses o _ d e (codes "IPv6") (codes "IPv6") (ip_v6_text v) (ip_v6_text w) h
+    (leads_after (codes "IPv6\" value=\"") (plain_leads (ip_v6_text v) (ip_v6_text w) (ip_v6_plain v (below 65536 v f))
+    (ip_v6_plain w (below 65536 w g)))))
+
+pub v4_v6_addresses : (o : Ordering) (v d w e : List ℕ) → OptionalsLead o d e → ordering_then o Less ≡ identifier_order (IpV4 v d) (IpV6 w e)
+v4_v6_addresses o v d w e h =
+    by_written _ (IpV4 v d) (IpV6 w e) (typed_addresses o Less d e (codes "IPv4") (codes "IPv6") (ip_v4_text v) (ip_v6_text w) h
+    (record { compares = λ x y. refl }))
+
+pub v6_v4_addresses : (o : Ordering) (v d w e : List ℕ) → OptionalsLead o d e → ordering_then o Greater ≡ identifier_order (IpV6 v d) (IpV4 w e)
+v6_v4_addresses o v d w e h =
+    by_written _ (IpV6 v d) (IpV4 w e) (typed_addresses o Greater d e (codes "IPv6") (codes "IPv4") (ip_v6_text v) (ip_v4_text w) h
+    (record { compares = λ x y. refl }))
+
+pub mac_addresses : (o : Ordering) (v d w e : List ℕ) → ((i : ℕ) → get_or v i 0 < 256) → ((i : ℕ) → get_or w i 0 < 256) → OptionalsLead o d e
+    → ordering_then o (slice_cmp nat_cmp (mac_address_text v) (mac_address_text w)) ≡ identifier_order (MacAddress v d) (MacAddress w e)
+mac_addresses o v d w e f g h =
+    by_written _ (MacAddress v d) (MacAddress w e) (leads_after (codes "<mac-address") (domain_then o _ 118 d e _ _ (omega arith) h
+    (leads_after (codes "alue=\"") (leads_before (plain_leads (mac_address_text v) (mac_address_text w) (mac_address_plain v (below 256 v f))
+    (mac_address_plain w (below 256 w g))) (codes "/>")))))
+
+-- ---- kinds
+
+-- identifiers of two kinds differ in the names of their elements
+written_by_kind : (a b : Identifier) (r : Ordering) → (identifier_kind a ≡ identifier_kind b → r ≡ identifier_order a b)
+    → ordering_then (nat_cmp (kind_rank (identifier_kind a)) (kind_rank (identifier_kind b))) r
+    ≡ slice_cmp nat_cmp (identifier_written a) (identifier_written b)
+written_by_kind (AccessRequest n d) (AccessRequest m e) r f = f refl ∙ (λ i. slice_cmp nat_cmp (printed (AccessRequest n d) i) (printed (AccessRequest m e) i))
+written_by_kind (AccessRequest n d) (Device m) r f = refl
+written_by_kind (AccessRequest n d) (Identity m l v e) r f = refl
+written_by_kind (AccessRequest n d) (IpV4 m e) r f = refl
+written_by_kind (AccessRequest n d) (IpV6 m e) r f = refl
+written_by_kind (AccessRequest n d) (MacAddress m e) r f = refl
+written_by_kind (Device n) (AccessRequest m e) r f = refl
+written_by_kind (Device n) (Device m) r f = f refl ∙ (λ i. slice_cmp nat_cmp (printed (Device n) i) (printed (Device m) i))
+written_by_kind (Device n) (Identity m l v e) r f = refl
+written_by_kind (Device n) (IpV4 m e) r f = refl
+written_by_kind (Device n) (IpV6 m e) r f = refl
+written_by_kind (Device n) (MacAddress m e) r f = refl
+written_by_kind (Identity n k u d) (AccessRequest m e) r f = refl
+written_by_kind (Identity n k u d) (Device m) r f = refl
+written_by_kind (Identity n k u d) (Identity m l v e) r f = f refl ∙ (λ i. slice_cmp nat_cmp (printed (Identity n k u d) i) (printed (Identity m l v e) i))
+written_by_kind (Identity n k u d) (IpV4 m e) r f = refl
+written_by_kind (Identity n k u d) (IpV6 m e) r f = refl
+written_by_kind (Identity n k u d) (MacAddress m e) r f = refl
+written_by_kind (IpV4 n d) (AccessRequest m e) r f = refl
+written_by_kind (IpV4 n d) (Device m) r f = refl
+written_by_kind (IpV4 n d) (Identity m l v e) r f = refl
+written_by_kind (IpV4 n d) (IpV4 m e) r f = f refl ∙ (λ i. slice_cmp nat_cmp (printed (IpV4 n d) i) (printed (IpV4 m e) i))
+written_by_kind (IpV4 n d) (IpV6 m e) r f = f refl ∙ (λ i. slice_cmp nat_cmp (printed (IpV4 n d) i) (printed (IpV6 m e) i))
+written_by_kind (IpV4 n d) (MacAddress m e) r f = refl
+written_by_kind (IpV6 n d) (AccessRequest m e) r f = refl
+written_by_kind (IpV6 n d) (Device m) r f = refl
+written_by_kind (IpV6 n d) (Identity m l v e) r f = refl
+written_by_kind (IpV6 n d) (IpV4 m e) r f = f refl ∙ (λ i. slice_cmp nat_cmp (printed (IpV6 n d) i) (printed (IpV4 m e) i))
+written_by_kind (IpV6 n d) (IpV6 m e) r f = f refl ∙ (λ i. slice_cmp nat_cmp (printed (IpV6 n d) i) (printed (IpV6 m e) i))
+written_by_kind (IpV6 n d) (MacAddress m e) r f = refl
+written_by_kind (MacAddress n d) (AccessRequest m e) r f = refl
+written_by_kind (MacAddress n d) (Device m) r f = refl
+written_by_kind (MacAddress n d) (Identity m l v e) r f = refl
+written_by_kind (MacAddress n d) (IpV4 m e) r f = refl
+written_by_kind (MacAddress n d) (IpV6 m e) r f = refl
+written_by_kind (MacAddress n d) (MacAddress m e) r f = f refl ∙ (λ i. slice_cmp nat_cmp (printed (MacAddress n d) i) (printed (MacAddress m e) i))
+
+pub by_kind : (a b : Identifier) (r : Ordering) → (identifier_kind a ≡ identifier_kind b → r ≡ identifier_order a b)
+    → ordering_then (nat_cmp (kind_rank (identifier_kind a)) (kind_rank (identifier_kind b))) r ≡ identifier_order a b
+by_kind a b r f = written_by_kind a b r f ∙ (λ i. slice_cmp nat_cmp (sym (printed a) i) (sym (printed b) i))

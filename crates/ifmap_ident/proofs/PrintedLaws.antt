@@ -1,95 +1,190 @@
--- The canonical bytes of elements that are in no namespace and have no children, and of identifiers.
-use Rattle.std.proofs.Common.{◌≡◌, ℕ, ◌+◌, ◌<◌, List, [], ◌∷◌, ◌++◌, map, codes, length, get_or, refl, ap, ◌∙◌, append_assoc, length-append, arith}
+-- The canonical bytes of elements in no namespace, and of identifiers, part by part.
+use Rattle.std.proofs.Common.{◌≡◌, ℕ, ◌+◌, List, [], ◌∷◌, ◌++◌, map, codes, length, refl, ap, sym, ◌∙◌, append_assoc}
 use Rattle.std.proofs.lemmas.List.{append-nil}
-use Rattle.std.specs.List.{filter, flat_map}
+use Rattle.std.specs.List.{concat, filter, flat_map}
+use Rattle.ifmap_addresses.specs.IpV4.{ip_v4_text}
+use Rattle.ifmap_addresses.specs.IpV6.{ip_v6_text}
+use Rattle.ifmap_addresses.specs.MacAddresses.{mac_address_text}
 use Rattle.ifmap_elem.specs.declared.elements.Attribute.{Attribute}
-use Rattle.ifmap_elem.specs.declared.elements.Child.{Child}
+use Rattle.ifmap_elem.specs.declared.elements.Child
 use Rattle.ifmap_elem.specs.declared.elements.Element.{Element}
-use Rattle.ifmap_elem.specs.Arranged.{arrange_child_of, arrange_element_of, sort_attributes}
+use Rattle.ifmap_elem.specs.Arranged.{arrange, arrange_child_of, arrange_element_of, sort_attributes}
 use Rattle.ifmap_elem.specs.Building.{bare_attribute, bare_element, bare_name}
-use Rattle.ifmap_elem.specs.Canonical.{attribute_bytes, canonical_bytes, root_bytes, element_of_parts}
-use Rattle.ifmap_elem.specs.Escapes.{value_bytes}
-use Rattle.ifmap_elem.specs.Folds.{at_element}
-use Rattle.ifmap_elem.specs.Namespaces.{child_spaces, declared_among, element_spaces, is_declared, name_prefixes, namespaces, once_each, numbered_prefixes}
-use Rattle.ifmap_ident.specs.MacAddresses.{address_text}
-use Rattle.ifmap_ident.specs.declared.identifiers.Identifier.TheVariants.{MacAddress}
-use Rattle.ifmap_ident.specs.Identifiers.{domain_attributes, identifier_bytes}
-use Rattle.ifmap_ident.specs.Written.{domain_bytes, mac_address_bytes}
-use Rattle.ifmap_ident.proofs.MacAddressLaws.{AreBytes, address_length, are_bytes, plain_address}
+use Rattle.ifmap_elem.specs.Canonical.{attribute_bytes, canonical_bytes, child_bytes, child_piece, element_of_parts, element_piece, root_bytes}
+use Rattle.ifmap_elem.specs.Escapes.{text_bytes}
+use Rattle.ifmap_elem.specs.Folds.{at_child_element, at_child_text, at_element}
+use Rattle.ifmap_elem.specs.Namespaces.{child_spaces, declared_among, element_spaces, is_declared, name_prefixes, namespaces, once_each, numbered_prefixes, spaces_of}
+use Rattle.ifmap_ident.specs.Identifiers.{attribute_unless_empty, identifier_bytes}
+use Rattle.ifmap_ident.specs.Kinds.{identity_type_name}
+use Rattle.ifmap_ident.specs.Written.{attribute_written, domain_written, identifier_written, optional_written}
+use Rattle.ifmap_ident.specs.declared.identifiers.Identifier.{Identifier}
+use Rattle.ifmap_ident.specs.declared.identifiers.Identifier.TheVariants.{AccessRequest, Device, Identity, IpV4, IpV6, MacAddress}
+use Rattle.ifmap_ident.specs.declared.kinds.IdentityType.{IdentityType}
 
 -- an attribute by its local name and its value, and how it is printed
 abbrev attribute_of : List ℕ × List ℕ → Attribute
 attribute_of part = bare_attribute part.0 part.1
 
-abbrev part_bytes : List ℕ × List ℕ → List ℕ
-part_bytes part = codes " " ++ (part.0 ++ (codes "=\"" ++ (value_bytes part.1 ++ codes "\"")))
-
--- an element with these attributes
-abbrev element_of : List ℕ → List Attribute → Element
-element_of local attributes = bare_element local attributes []
+abbrev part_written : List ℕ × List ℕ → List ℕ
+part_written part = attribute_written part.0 part.1
 
 no_space : (parts : List (List ℕ × List ℕ)) → filter is_declared (map (λ a. a.name.space) (map attribute_of parts) ++ []) ≡ []
 no_space [] = refl
 no_space (part ∷ parts) = no_space parts
 
-no_namespaces : (local : List ℕ) (parts : List (List ℕ × List ℕ)) → namespaces (element_of local (map attribute_of parts)) ≡ []
+no_namespaces : (local : List ℕ) (parts : List (List ℕ × List ℕ)) → namespaces (bare_element local (map attribute_of parts) []) ≡ []
 no_namespaces local parts =
-    ap declared_among (at_element (List (List ℕ)) (List (List ℕ)) child_spaces element_spaces (element_of local (map attribute_of parts)))
+    ap declared_among (at_element (List (List ℕ)) (List (List ℕ)) child_spaces element_spaces (bare_element local (map attribute_of parts) []))
     ∙ ap once_each (no_space parts)
 
 parts_are : (parts : List (List ℕ × List ℕ)) → flat_map (attribute_bytes (name_prefixes [])) (map attribute_of parts)
-    ≡ flat_map part_bytes parts
+    ≡ flat_map part_written parts
 parts_are [] = refl
-parts_are (part ∷ parts) = ap (λ rest. part_bytes part ++ rest) (parts_are parts)
+parts_are (part ∷ parts) = ap (λ rest. part_written part ++ rest) (parts_are parts)
 
--- such an element prints as a tag with its attributes in order
+-- an element without children prints as a tag with its attributes in order
 tag_of : (local : List ℕ) (attributes : List Attribute) (parts : List (List ℕ × List ℕ))
     → sort_attributes attributes ≡ map attribute_of parts
-    → canonical_bytes (element_of local attributes) ≡ codes "<" ++ (local ++ (flat_map part_bytes parts ++ codes "/>"))
+    → canonical_bytes (bare_element local attributes []) ≡ codes "<" ++ (local ++ (flat_map part_written parts ++ codes "/>"))
 tag_of local attributes parts e =
-    ap (root_bytes []) (at_element Child Element arrange_child_of arrange_element_of (element_of local attributes)
-    ∙ ap (element_of local) e)
+    ap (root_bytes []) (at_element Child.Child Element arrange_child_of arrange_element_of (bare_element local attributes [])
+    ∙ ap (λ sorted. bare_element local sorted []) e)
     ∙ ap (λ spaces. element_of_parts (name_prefixes spaces) (numbered_prefixes (codes "n") 1 spaces ++ []) (bare_name local)
     (map attribute_of parts) [])
     (no_namespaces local parts)
     ∙ ap (λ text. codes "<" ++ (local ++ (text ++ codes "/>"))) (parts_are parts)
 
--- what closes the last attribute's value and the tag
-tag_end : (text : List ℕ) → ((text ++ codes "\"") ++ []) ++ codes "/>" ≡ text ++ codes "\"/>"
-tag_end text = ap (λ t. t ++ codes "/>") (append-nil (text ++ codes "\"")) ∙ append_assoc text (codes "\"") (codes "/>")
+-- parts in a row, before what ends the tag
+two_parts : (a b : List ℕ) → (a ++ (b ++ [])) ++ codes "/>" ≡ a ++ (b ++ codes "/>")
+two_parts a b = simp (append_assoc, append-nil)
 
--- the value's attribute and the end of the tag
-value_end : (v : List ℕ) → AreBytes v → (part_bytes (codes "value", address_text v) ++ []) ++ codes "/>"
-    ≡ codes " value=\"" ++ (address_text v ++ codes "\"/>")
-value_end v h = ap (λ t. codes " value=\"" ++ t) (tag_end (value_bytes (address_text v)) ∙ ap (λ t. t ++ codes "\"/>") (plain_address v h))
+three_parts : (a b c : List ℕ) → (a ++ (b ++ (c ++ []))) ++ codes "/>" ≡ a ++ (b ++ (c ++ codes "/>"))
+three_parts a b c = simp (append_assoc, append-nil)
 
-mac_address_element : (v d : List ℕ) → AreBytes v → canonical_bytes
-    (element_of (codes "mac-address") (domain_attributes d ++ (bare_attribute (codes "value") (address_text v) ∷ [])))
-    ≡ mac_address_bytes v d
-mac_address_element v [] h =
-    tag_of (codes "mac-address") (bare_attribute (codes "value") (address_text v) ∷ []) ((codes "value", address_text v) ∷ []) refl
-    ∙ ap (λ t. codes "<mac-address" ++ t) (value_end v h)
-mac_address_element v (b ∷ d) h =
-    tag_of (codes "mac-address") (bare_attribute (codes "administrative-domain") (b ∷ d) ∷
-    (bare_attribute (codes "value") (address_text v) ∷ []))
-    ((codes "administrative-domain", b ∷ d) ∷ ((codes "value", address_text v) ∷ [])) refl
-    ∙ ap (λ t. codes "<mac-address" ++ t) (append_assoc (domain_bytes (b ∷ d)) (part_bytes (codes "value", address_text v) ++ [])
-    (codes "/>") ∙ ap (λ t. domain_bytes (b ∷ d) ++ t) (value_end v h))
+four_parts : (a b c d : List ℕ) → (a ++ (b ++ (c ++ (d ++ [])))) ++ codes "/>" ≡ a ++ (b ++ (c ++ (d ++ codes "/>")))
+four_parts a b c d = simp (append_assoc, append-nil)
 
--- the canonical bytes of a MAC address
-pub mac_address_printed : (v d : List ℕ) → AreBytes v → identifier_bytes (MacAddress v d) ≡ mac_address_bytes v d
+one_part : (a : List ℕ) → (a ++ []) ++ codes "/>" ≡ a ++ codes "/>"
+one_part a = simp (append_assoc, append-nil)
+
+abbrev domain_name : List ℕ
+domain_name = codes "administrative-domain"
+
+abbrev other_name : List ℕ
+other_name = codes "other-type-definition"
+
+access_request_printed : (name domain : List ℕ) → identifier_bytes (AccessRequest name domain) ≡ identifier_written (AccessRequest name domain)
 unfolding identifier_bytes
-mac_address_printed v d h = mac_address_element v d h
+access_request_printed name [] =
+    tag_of (codes "access-request") _ ((codes "name", name) ∷ []) refl
+    ∙ ap (λ t. codes "<access-request" ++ t) (one_part (attribute_written (codes "name") name))
+access_request_printed name (b ∷ d) =
+    tag_of (codes "access-request") _ ((domain_name, b ∷ d) ∷ ((codes "name", name) ∷ [])) refl
+    ∙ ap (λ t. codes "<access-request" ++ t) (two_parts (attribute_written domain_name (b ∷ d)) (attribute_written (codes "name") name))
 
--- how many they are
-mac_address_length : (v d : List ℕ) → length v ≡ 6 → length (mac_address_bytes v d) ≡ 40 + length (domain_bytes d)
-mac_address_length [] d e = absurd (omega arith)
-mac_address_length (b ∷ v) d e =
-    let address = address_length b v in
-    let rest = length-append (address_text (b ∷ v)) (codes "\"/>") in
-    let whole = length-append (domain_bytes d) (codes " value=\"" ++ (address_text (b ∷ v) ++ codes "\"/>")) in
-    omega arith
+-- an address of some type, and one without
+typed_address_printed : (type value domain : List ℕ) → canonical_bytes (bare_element (codes "ip-address")
+    (attribute_unless_empty domain_name domain ++ (bare_attribute (codes "type") type ∷ (bare_attribute (codes "value") value ∷ []))) [])
+    ≡ codes "<ip-address" ++ (domain_written domain ++ (attribute_written (codes "type") type ++ (attribute_written (codes "value") value ++ codes "/>")))
+typed_address_printed type value [] =
+    tag_of (codes "ip-address") _ ((codes "type", type) ∷ ((codes "value", value) ∷ [])) refl
+    ∙ ap (λ t. codes "<ip-address" ++ t) (two_parts (attribute_written (codes "type") type) (attribute_written (codes "value") value))
+typed_address_printed type value (b ∷ d) =
+    tag_of (codes "ip-address") _ ((domain_name, b ∷ d) ∷ ((codes "type", type) ∷ ((codes "value", value) ∷ []))) refl
+    ∙ ap (λ t. codes "<ip-address" ++ t) (three_parts (attribute_written domain_name (b ∷ d)) (attribute_written (codes "type") type)
+    (attribute_written (codes "value") value))
 
-pub mac_address_size : (v d : List ℕ) → ((i : ℕ) → get_or v i 0 < 256) → length v ≡ 6
-    → length (identifier_bytes (MacAddress v d)) ≡ 40 + length (domain_bytes d)
-mac_address_size v d f e = ap length (mac_address_printed v d (are_bytes v f)) ∙ mac_address_length v d e
+mac_address_printed : (value domain : List ℕ) → identifier_bytes (MacAddress value domain) ≡ identifier_written (MacAddress value domain)
+unfolding identifier_bytes
+mac_address_printed value [] =
+    tag_of (codes "mac-address") _ ((codes "value", mac_address_text value) ∷ []) refl
+    ∙ ap (λ t. codes "<mac-address" ++ t) (one_part (attribute_written (codes "value") (mac_address_text value)))
+mac_address_printed value (b ∷ d) =
+    tag_of (codes "mac-address") _ ((domain_name, b ∷ d) ∷ ((codes "value", mac_address_text value) ∷ [])) refl
+    ∙ ap (λ t. codes "<mac-address" ++ t) (two_parts (attribute_written domain_name (b ∷ d))
+    (attribute_written (codes "value") (mac_address_text value)))
+
+identity_printed : (name : List ℕ) (kind : IdentityType) (other domain : List ℕ)
+    → identifier_bytes (Identity name kind other domain) ≡ identifier_written (Identity name kind other domain)
+unfolding identifier_bytes
+identity_printed name kind [] [] =
+    tag_of (codes "identity") _ ((codes "name", name) ∷ ((codes "type", identity_type_name kind) ∷ [])) refl
+    ∙ ap (λ t. codes "<identity" ++ t) (two_parts (attribute_written (codes "name") name)
+    (attribute_written (codes "type") (identity_type_name kind)))
+identity_printed name kind [] (b ∷ d) =
+    tag_of (codes "identity") _ ((domain_name, b ∷ d) ∷ ((codes "name", name) ∷ ((codes "type", identity_type_name kind) ∷ []))) refl
+    ∙ ap (λ t. codes "<identity" ++ t) (three_parts (attribute_written domain_name (b ∷ d)) (attribute_written (codes "name") name)
+    (attribute_written (codes "type") (identity_type_name kind)))
+identity_printed name kind (o ∷ os) [] =
+    tag_of (codes "identity") _ ((codes "name", name) ∷ ((other_name, o ∷ os) ∷ ((codes "type", identity_type_name kind) ∷ []))) refl
+    ∙ ap (λ t. codes "<identity" ++ t) (three_parts (attribute_written (codes "name") name) (attribute_written other_name (o ∷ os))
+    (attribute_written (codes "type") (identity_type_name kind)))
+identity_printed name kind (o ∷ os) (b ∷ d) =
+    tag_of (codes "identity") _
+    ((domain_name, b ∷ d) ∷ ((codes "name", name) ∷ ((other_name, o ∷ os) ∷ ((codes "type", identity_type_name kind) ∷ [])))) refl
+    ∙ ap (λ t. codes "<identity" ++ t) (four_parts (attribute_written domain_name (b ∷ d)) (attribute_written (codes "name") name)
+    (attribute_written other_name (o ∷ os)) (attribute_written (codes "type") (identity_type_name kind)))
+
+-- a name as text in an element in another
+abbrev inner : List ℕ → Element
+inner name = bare_element (codes "name") [] (Child.Text name ∷ [])
+
+abbrev outer : List ℕ → Element
+outer name = bare_element (codes "device") [] (Child.Element (inner name) ∷ [])
+
+abbrev Spaces : Type 0
+Spaces = List (List ℕ)
+
+arranged_inner : (name : List ℕ) → arrange (inner name) ≡ inner name
+arranged_inner name =
+    at_element Child.Child Element arrange_child_of arrange_element_of (inner name)
+    ∙ ap (λ child. bare_element (codes "name") [] (child ∷ [])) (at_child_text Child.Child Element arrange_child_of arrange_element_of name)
+
+arranged_outer : (name : List ℕ) → arrange (outer name) ≡ outer name
+arranged_outer name =
+    at_element Child.Child Element arrange_child_of arrange_element_of (outer name)
+    ∙ ap (λ child. bare_element (codes "device") [] (child ∷ []))
+    (at_child_element Child.Child Element arrange_child_of arrange_element_of (inner name) ∙ ap Child.Element (arranged_inner name))
+
+inner_spaces : (name : List ℕ) → spaces_of (inner name) ≡ [] ∷ []
+inner_spaces name =
+    at_element Spaces Spaces child_spaces element_spaces (inner name)
+    ∙ ap (λ spaces. [] ∷ (spaces ++ [])) (at_child_text Spaces Spaces child_spaces element_spaces name)
+
+outer_spaces : (name : List ℕ) → namespaces (outer name) ≡ []
+outer_spaces name =
+    ap declared_among (at_element Spaces Spaces child_spaces element_spaces (outer name)
+    ∙ ap (λ spaces. [] ∷ (spaces ++ [])) (at_child_element Spaces Spaces child_spaces element_spaces (inner name) ∙ inner_spaces name))
+
+abbrev no_prefixes : List (List ℕ × List ℕ)
+no_prefixes = name_prefixes []
+
+inner_bytes : (name : List ℕ) → child_bytes no_prefixes (Child.Element (inner name)) ≡ codes "<name>" ++ ((text_bytes name ++ []) ++ codes "</name>")
+inner_bytes name =
+    at_child_element (List ℕ) (List ℕ) (child_piece no_prefixes) (element_piece no_prefixes) (inner name)
+    ∙ at_element (List ℕ) (List ℕ) (child_piece no_prefixes) (element_piece no_prefixes) (inner name)
+    ∙ ap (λ text. codes "<name>" ++ ((text ++ []) ++ codes "</name>"))
+    (at_child_text (List ℕ) (List ℕ) (child_piece no_prefixes) (element_piece no_prefixes) name)
+
+device_end : (text : List ℕ) → codes "<device>" ++ (((codes "<name>" ++ ((text ++ []) ++ codes "</name>")) ++ []) ++ codes "</device>")
+    ≡ codes "<device><name>" ++ ((text ++ (60 ∷ [])) ++ codes "/name></device>")
+device_end text = simp (append_assoc, append-nil)
+
+device_printed : (name : List ℕ) → identifier_bytes (Device name) ≡ identifier_written (Device name)
+unfolding identifier_bytes
+device_printed name =
+    ap (root_bytes []) (arranged_outer name)
+    ∙ ap (λ spaces. element_of_parts (name_prefixes spaces) (numbered_prefixes (codes "n") 1 spaces ++ []) (bare_name (codes "device")) []
+    (map (child_bytes (name_prefixes spaces)) (Child.Element (inner name) ∷ []))) (outer_spaces name)
+    ∙ ap (λ child. codes "<device>" ++ ((child ++ []) ++ codes "</device>")) (inner_bytes name)
+    ∙ device_end (text_bytes name)
+
+-- an identifier, part by part
+pub printed : (i : Identifier) → identifier_bytes i ≡ identifier_written i
+unfolding identifier_bytes
+printed (AccessRequest name domain) = access_request_printed name domain
+printed (Device name) = device_printed name
+printed (Identity name kind other domain) = identity_printed name kind other domain
+printed (IpV4 value domain) = typed_address_printed (codes "IPv4") (ip_v4_text value) domain
+printed (IpV6 value domain) = typed_address_printed (codes "IPv6") (ip_v6_text value) domain
+printed (MacAddress value domain) = mac_address_printed value domain

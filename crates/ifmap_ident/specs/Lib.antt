@@ -1,6 +1,11 @@
+pub mod Canon
 pub mod Codes
 pub mod Identifiers
+pub mod IdentityNames
 pub mod Items
+pub mod Kinds
+pub mod Laws
 pub mod Leading
-pub mod MacAddresses
+pub mod Meaning
+pub mod Parts
 pub mod Written

@@ -4,36 +4,96 @@ ghost use Rattle.std.specs.Cmp.{partial_order_from_own_ties};
 ghost use Rattle.std.specs.Cmp.Rules.{comparing};
 ghost use Rattle.std.specs.Ordering.{as_partial_cmp};
 ghost use Rattle.std.proofs.Common.{rules};
-ghost use Rattle.ifmap_ident.specs.Identifiers.{identifier_bytes, identifier_element, identifier_order, same_identifier};
+ghost use Rattle.ifmap_ident.specs.Canon.{IsAnswer};
+ghost use Rattle.ifmap_ident.specs.Identifiers.{identifier_bytes, identifier_element, identifier_kind, identifier_order, same_identifier};
 
-use crate::domains::domain_attributes;
-use crate::mac_addresses::{
-    address_text, mac_address_len, mac_address_order, mac_addresses_are_one,
-};
-use ifmap_elem::{Attribute, Copied, Element, Equals, Text};
+use crate::equality::identifiers_are_one;
+use crate::errors::IdentError;
+use crate::kinds::{IdentityType, Kind};
+use crate::ordering::compare_identifiers;
+use crate::reading::read_identifier;
+use crate::sizes::identifier_len;
+use crate::writing::write_identifier;
+use ifmap_elem::{Copied, Element, Equals, Text};
 use std::alloc::{AllocError as NoMemory, Global};
 use std::cmp::Ordering;
 
-/// What metadata is said of. Its parts are in their canonical form.
+/// What metadata is said of. Its parts are in their canonical form, and the empty domain is no
+/// domain.
 #[derive(Debug, Drop)]
 pub enum Identifier {
-    /// The address of a network interface. The empty domain is no domain.
-    MacAddress { value: [u8; 6], domain: Text },
+    /// A client's request for access to the network.
+    AccessRequest {
+        name: Text,
+        domain: Text,
+    },
+    /// A device, by a name that its owner chose.
+    Device {
+        name: Text,
+    },
+    /// A user or another party. With the type `Other` and only there, `other` tells the type, and
+    /// an extended identifier has the canonical bytes of an element as its name.
+    Identity {
+        name: Text,
+        kind: IdentityType,
+        other: Text,
+        domain: Text,
+    },
+    /// An address of version 4 of the Internet Protocol.
+    IpV4 {
+        value: [u8; 4],
+        domain: Text,
+    },
+    /// An address of version 6 of the Internet Protocol.
+    IpV6 {
+        value: [u16; 8],
+        domain: Text,
+    },
+    /// The address of a network interface.
+    MacAddress {
+        value: [u8; 6],
+        domain: Text,
+    },
 }
 
 impl Identifier {
-    /// The identifier as an element, whose canonical bytes are the identifier's. The one error is
-    /// want of memory.
+    /// The most canonical bytes of an identifier that is made from an element.
+    pub const MOST_BYTES: u64 = 4096;
+
+    /// The identifier that an element is. An error tells why it is none; want of memory may stand in
+    /// place of any answer.
+    pub fn from_element(alloc: Global, element: &Element) -> Result<Identifier, IdentError>
+        ensures { IsAnswer element.now result }
+    {
+        match read_identifier(alloc, element) {
+            Ok(identifier) => {
+                if identifier.size() > Identifier::MOST_BYTES {
+                    return Err(IdentError::TooLong);
+                }
+                Ok(identifier)
+            }
+            Err(error) => Err(error),
+        }
+    }
+
+    /// The identifier as an element, whose canonical bytes are the identifier's and which is read back
+    /// as the same identifier. The one error is want of memory.
     pub fn element(&self, alloc: Global) -> Result<Element, NoMemory>
         ensures { IfOk result (λ element. element ≡ identifier_element self.now) }
     {
+        write_identifier(alloc, self)
+    }
+
+    /// Which of the five elements the identifier is.
+    pub fn kind(&self) -> Kind
+        ensures { result ≡ identifier_kind self.now }
+    {
         match self {
-            Identifier::MacAddress { value, domain } => {
-                let mut attributes = domain_attributes(alloc, domain)?;
-                let text = address_text(alloc, value)?;
-                attributes.push(Attribute::bare(alloc, "value", text)?)?;
-                Element::bare(alloc, "mac-address", attributes, Vec::new(alloc))
-            }
+            Identifier::AccessRequest { .. } => Kind::AccessRequest,
+            Identifier::Device { .. } => Kind::Device,
+            Identifier::Identity { .. } => Kind::Identity,
+            Identifier::IpV4 { .. } | Identifier::IpV6 { .. } => Kind::IpAddress,
+            Identifier::MacAddress { .. } => Kind::MacAddress,
         }
     }
 
@@ -44,15 +104,39 @@ impl Identifier {
         ensures exact { length (identifier_bytes self.now) < 2 ^ 64
             → result ≡ length (identifier_bytes self.now) }
     {
-        match self {
-            Identifier::MacAddress { value, domain } => mac_address_len(value, domain),
-        }
+        identifier_len(self)
     }
 }
 
 impl Copied for Identifier {
     fn copy(&self, alloc: Global) -> Result<Self, NoMemory> {
         match self {
+            Identifier::AccessRequest { name, domain } => Ok(Identifier::AccessRequest {
+                name: name.copy(alloc)?,
+                domain: domain.copy(alloc)?,
+            }),
+            Identifier::Device { name } => Ok(Identifier::Device {
+                name: name.copy(alloc)?,
+            }),
+            Identifier::Identity {
+                name,
+                kind,
+                other,
+                domain,
+            } => Ok(Identifier::Identity {
+                name: name.copy(alloc)?,
+                kind: *kind,
+                other: other.copy(alloc)?,
+                domain: domain.copy(alloc)?,
+            }),
+            Identifier::IpV4 { value, domain } => Ok(Identifier::IpV4 {
+                value: *value,
+                domain: domain.copy(alloc)?,
+            }),
+            Identifier::IpV6 { value, domain } => Ok(Identifier::IpV6 {
+                value: *value,
+                domain: domain.copy(alloc)?,
+            }),
             Identifier::MacAddress { value, domain } => Ok(Identifier::MacAddress {
                 value: *value,
                 domain: domain.copy(alloc)?,
@@ -67,15 +151,7 @@ impl Equals for Identifier {
         ensures canonical { IsTrue result ↔ (identifier_bytes self.now
             ≡ identifier_bytes other.now) }
     {
-        match (self, other) {
-            (
-                Identifier::MacAddress { value, domain },
-                Identifier::MacAddress {
-                    value: other_value,
-                    domain: other_domain,
-                },
-            ) => mac_addresses_are_one(value, domain, other_value, other_domain),
-        }
+        identifiers_are_one(self, other)
     }
 }
 
@@ -104,15 +180,7 @@ impl Ord for Identifier {
     ghost matches_eq = { Prim.search (comparing, rules) };
 
     fn cmp(&self, other: &Identifier) -> Ordering {
-        match (self, other) {
-            (
-                Identifier::MacAddress { value, domain },
-                Identifier::MacAddress {
-                    value: other_value,
-                    domain: other_domain,
-                },
-            ) => mac_address_order(value, domain, other_value, other_domain),
-        }
+        compare_identifiers(self, other)
     }
 }
 

@@ -4,12 +4,24 @@
 #![tactic(auto)]
 
 pub mod codes;
-mod domains;
+mod equality;
+pub mod errors;
 pub mod identifiers;
+mod identities;
 pub mod items;
-mod mac_addresses;
-mod values;
+pub mod kinds;
+pub mod laws;
+mod names;
+mod optionals;
+mod ordering;
+mod parts;
+mod reading;
+mod sizes;
+mod writing;
+mod written;
 
 pub use codes::Code;
+pub use errors::IdentError;
 pub use identifiers::Identifier;
 pub use items::Item;
+pub use kinds::{IdentityType, Kind};

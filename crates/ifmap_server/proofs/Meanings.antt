@@ -10,7 +10,7 @@ use Rattle.std.specs.List.{list_all}
 use Rattle.std.specs.Char.{digit_char}
 use Rattle.std.specs.Prelude.{◌==◌, codes, option_and_then, option_map}
 use Rattle.std.specs.Str.{bytes_eq}
-use Rattle.ifmap_ident.specs.MacAddresses.{address_text}
+use Rattle.ifmap_addresses.specs.MacAddresses.{mac_address_text}
 use Rattle.ifmap_meta.specs.declared.metadata.Cardinality.{Cardinality}
 use Rattle.ifmap_meta.specs.declared.metadata.Cardinality.TheVariants.{Single, Multi}
 use Rattle.ifmap_msg.specs.declared.requests.Request.{Request}
@@ -162,7 +162,7 @@ six_same : (x0 x1 x2 x3 x4 x5 y0 y1 y2 y3 y4 y5 : ℕ) → x0 ≡ y0 → x1 ≡ 
     → x0 ∷ x1 ∷ x2 ∷ x3 ∷ x4 ∷ x5 ∷ [] ≡ y0 ∷ y1 ∷ y2 ∷ y3 ∷ y4 ∷ y5 ∷ []
 six_same x0 x1 x2 x3 x4 x5 y0 y1 y2 y3 y4 y5 e0 e1 e2 e3 e4 e5 = rw (e0, e1, e2, e3, e4, e5) refl
 
-written_address : (a : List ℕ) → IsAddress a → (address_at (address_text a) ≡ a) × Without 34 (address_text a)
+written_address : (a : List ℕ) → IsAddress a → (address_at (mac_address_text a) ≡ a) × Without 34 (mac_address_text a)
 written_address [] h = absurd (omega (arith, h.0))
 written_address (a ∷ []) h = absurd (omega (arith, h.0))
 written_address (a ∷ (b ∷ [])) h = absurd (omega (arith, h.0))
@@ -225,14 +225,14 @@ address_at_fits text = (refl, (pair_fits 0, (pair_fits 3, (pair_fits 6, (pair_fi
     pair_fits : (i : ℕ) → pair_at text i < 2 ^ 8
     pair_fits i = omega (arith, digit_fits (get_or text i 0), digit_fits (get_or text (i + 1) 0))
 
-address_is : (text a : List ℕ) → address_in text ≡ Some a → (text ≡ address_text a) × IsAddress a
+address_is : (text a : List ℕ) → address_in text ≡ Some a → (text ≡ mac_address_text a) × IsAddress a
 address_is text a e =
-    let c = chosen (bytes_eq text (address_text (address_at text))) (address_at text) a e in
-    ((bytes_eq-Decides text (address_text (address_at text))).0 c.0 ∙ ap address_text c.1, subst IsAddress c.1 (address_at_fits text))
+    let c = chosen (bytes_eq text (mac_address_text (address_at text))) (address_at text) a e in
+    ((bytes_eq-Decides text (mac_address_text (address_at text))).0 c.0 ∙ ap mac_address_text c.1, subst IsAddress c.1 (address_at_fits text))
 
-address_of : (a : List ℕ) → IsAddress a → Some a ≡ address_in (address_text a)
-address_of a h = address_found (address_text a) a (sym (written_address a h).0)
-    ((bytes_eq-Decides (address_text a) (address_text a)).1 refl)
+address_of : (a : List ℕ) → IsAddress a → Some a ≡ address_in (mac_address_text a)
+address_of a h = address_found (mac_address_text a) a (sym (written_address a h).0)
+    ((bytes_eq-Decides (mac_address_text a) (mac_address_text a)).1 refl)
 
 cardinality_is : (text : List ℕ) (c : Cardinality) → cardinality_in text ≡ Some c → text ≡ cardinality_text c
 cardinality_is text c e = by_first (bytes_eq text (codes "singleValue")) refl e
@@ -273,7 +273,7 @@ end_of body id is e = sym (end_some body id (in_at before_id ((34, after_id) ∷
 
 -- a search
 
-search_spelled : (q : Inquiry) → search_start ++ spelled search_fixed (q.session ∷ address_text q.address ∷ []) ≡ search_body q
+search_spelled : (q : Inquiry) → search_start ++ spelled search_fixed (q.session ∷ mac_address_text q.address ∷ []) ≡ search_body q
 search_spelled q = refl
 
 search_is : (body : List ℕ) (r : Request) → search_of body ≡ Some r
@@ -288,7 +288,7 @@ search_is body r e =
       p.3,
     )
   where
-    by_parts : (ps : List (List ℕ)) → search_by ps ≡ Some r → (q : Inquiry) × IsInquiry q × (ps ≡ q.session ∷ address_text q.address ∷ [])
+    by_parts : (ps : List (List ℕ)) → search_by ps ≡ Some r → (q : Inquiry) × IsInquiry q × (ps ≡ q.session ∷ mac_address_text q.address ∷ [])
         × (r ≡ request.Search q.session (search_from q))
     by_parts [] f = cc
     by_parts (s ∷ []) f = cc
@@ -309,15 +309,15 @@ search_is body r e =
 search_at : (body : List ℕ) (q : Inquiry) → IsInquiry q → body ≡ search_body q
     → search_of body ≡ Some (request.Search q.session (search_from q))
 search_at body q is e =
-    sym (search_some body q.session (address_text q.address) q.address
-    (in_at search_start search_fixed body (q.session ∷ address_text q.address ∷ [])
+    sym (search_some body q.session (mac_address_text q.address) q.address
+    (in_at search_start search_fixed body (q.session ∷ mac_address_text q.address ∷ [])
     (id_unquoted q.session is.session, ((written_address q.address is.address).1, tt)) (e ∙ sym (search_spelled q)))
     is.session (address_of q.address is.address))
 
 -- a publish
 
 abbrev parts_of : Publication → List (List ℕ)
-parts_of p = p.session ∷ address_text p.address ∷ p.local ∷ cardinality_text p.cardinality ∷ p.value ∷ p.local ∷ []
+parts_of p = p.session ∷ mac_address_text p.address ∷ p.local ∷ cardinality_text p.cardinality ∷ p.value ∷ p.local ∷ []
 
 publish_spelled : (p : Publication) → publish_start ++ spelled publish_fixed (parts_of p) ≡ publish_body p
 publish_spelled p = refl
@@ -368,7 +368,7 @@ publish_is body r e =
 
 publish_at : (body : List ℕ) (p : Publication) → IsPublication p → body ≡ publish_body p → publish_of body ≡ Some (publish_request p)
 publish_at body p is e =
-    sym (publish_some body p.session (address_text p.address) p.local (cardinality_text p.cardinality) p.value p.local
+    sym (publish_some body p.session (mac_address_text p.address) p.local (cardinality_text p.cardinality) p.value p.local
     (in_at publish_start publish_fixed body (parts_of p) (
       id_unquoted p.session is.session,
       (

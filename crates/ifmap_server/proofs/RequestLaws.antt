@@ -7,7 +7,7 @@ use Rattle.std.proofs.Common.{arith}
 use Rattle.std.specs.List.{list_all}
 use Rattle.std.specs.Prelude.{length, nat_le, option_and_then}
 use Rattle.std.specs.Str.{IsAscii, bytes_eq}
-use Rattle.ifmap_ident.specs.MacAddresses.{address_text}
+use Rattle.ifmap_addresses.specs.MacAddresses.{mac_address_text}
 use Rattle.ifmap_meta.specs.declared.metadata.Cardinality.{Cardinality}
 use Rattle.ifmap_msg.specs.declared.requests.Request.{Request}
 use Rattle.ifmap_msg.specs.declared.requests.Request.TheVariants as request
@@ -41,14 +41,14 @@ value_is_ascii value is = all_ascii is_value_byte value_byte value (and_parts _ 
 
 -- addresses
 
-pub address_found : (text a : List ℕ) → a ≡ address_at text → bytes_eq text (address_text a) ≡ true → Some a ≡ address_in text
+pub address_found : (text a : List ℕ) → a ≡ address_at text → bytes_eq text (mac_address_text a) ≡ true → Some a ≡ address_in text
 address_found text a e t =
-    let same : bytes_eq text (address_text (address_at text)) ≡ true = ap (λ b. bytes_eq text (address_text b)) (sym e) ∙ t in
+    let same : bytes_eq text (mac_address_text (address_at text)) ≡ true = ap (λ b. bytes_eq text (mac_address_text b)) (sym e) ∙ t in
     ap Some e ∙ sym (ap (λ b. if b then Some (address_at text) else None) same)
 
-pub no_address : (text a : List ℕ) → a ≡ address_at text → bytes_eq text (address_text a) ≡ false → None ≡ address_in text
+pub no_address : (text a : List ℕ) → a ≡ address_at text → bytes_eq text (mac_address_text a) ≡ false → None ≡ address_in text
 no_address text a e t =
-    let same : bytes_eq text (address_text (address_at text)) ≡ false = ap (λ b. bytes_eq text (address_text b)) (sym e) ∙ t in
+    let same : bytes_eq text (mac_address_text (address_at text)) ≡ false = ap (λ b. bytes_eq text (mac_address_text b)) (sym e) ∙ t in
     sym (ap (λ b. if b then Some (address_at text) else None) same)
 
 -- the end of a session

@@ -7,7 +7,7 @@ use Rattle.ifmap_elem.specs.declared.elements.Element.{Element}
 use Rattle.ifmap_elem.specs.Building.{bare_attribute, bare_element}
 use Rattle.ifmap_ident.specs.declared.identifiers.Identifier.TheVariants.{MacAddress}
 use Rattle.ifmap_ident.specs.declared.items.Item.TheVariants.{One}
-use Rattle.ifmap_ident.specs.MacAddresses.{address_text}
+use Rattle.ifmap_addresses.specs.MacAddresses.{mac_address_text}
 use Rattle.ifmap_meta.specs.declared.metadata.Cardinality.{Cardinality}
 use Rattle.ifmap_meta.specs.declared.metadata.Cardinality.TheVariants.{Single, Multi}
 use Rattle.ifmap_meta.specs.declared.metadata.Metadata.{Metadata}
@@ -91,7 +91,7 @@ publish_body p =
     publish_start
     ++ (p.session
     ++ (codes "\"><update><mac-address value=\""
-    ++ (address_text p.address
+    ++ (mac_address_text p.address
     ++ (codes "\"/><metadata><n3:"
     ++ (p.local
     ++ (codes " ifmap-cardinality=\""
@@ -123,7 +123,7 @@ search_start =
 abbrev pub search_body : Inquiry → List ℕ
 search_body q =
     search_start
-    ++ (q.session ++ (codes "\"><mac-address value=\"" ++ (address_text q.address ++ codes "\"/></n2:search></n1:Body></n1:Envelope>")))
+    ++ (q.session ++ (codes "\"><mac-address value=\"" ++ (mac_address_text q.address ++ codes "\"/></n2:search></n1:Body></n1:Envelope>")))
 
 -- the number that a hexadecimal digit in lower case stands for
 abbrev pub digit_number : ℕ → ℕ
@@ -138,7 +138,7 @@ address_at text = pair_at text 0 ∷ pair_at text 3 ∷ pair_at text 6 ∷ pair_
 
 -- the address that a text writes, if it writes one
 abbrev pub address_in : List ℕ → Option (List ℕ)
-address_in text = if bytes_eq text (address_text (address_at text)) then Some (address_at text) else None
+address_in text = if bytes_eq text (mac_address_text (address_at text)) then Some (address_at text) else None
 
 abbrev pub cardinality_in : List ℕ → Option Cardinality
 cardinality_in text =

@@ -4,7 +4,7 @@ ghost use Rattle.std.specs.Prelude.{◌≡◌, ◌∷◌, [], ◌<◌, ◌&&◌,
 ghost use Rattle.std.specs.Char.{digit_char};
 ghost use Rattle.std.specs.List.{list_all};
 ghost use Rattle.std.specs.Str.{bytes_eq};
-ghost use Rattle.ifmap_ident.specs.MacAddresses.{address_text};
+ghost use Rattle.ifmap_addresses.specs.MacAddresses.{mac_address_text};
 ghost use Rattle.ifmap_ident.specs.declared.identifiers.Identifier.TheVariants.{MacAddress};
 ghost use Rattle.ifmap_server.specs.Ids.{is_id};
 ghost use Rattle.ifmap_server.specs.Publications.{address_in, cardinality_in, cardinality_text, digit_number, is_local, is_local_byte, is_lower, is_value, is_value_byte, one_update, pair_at, published_element, publish_parts, publish_of, search_parts, search_of};
@@ -230,13 +230,13 @@ fn address_in(text: &[u8]) -> Option<[u8; 6]>
 }
 
 fn is_address(text: &[u8], address: [u8; 6]) -> bool
-    ensures { result ≡ bytes_eq text.now (address_text address) }
+    ensures { result ≡ bytes_eq text.now (mac_address_text address) }
 {
     text == address_text(address).as_slice()
 }
 
 fn address_text(address: [u8; 6]) -> [u8; 17]
-    ensures { result ≡ address_text address }
+    ensures { result ≡ mac_address_text address }
 {
     let [a, b, c, d, e, f] = address;
     [

@@ -1,0 +1,4 @@
+mod Dotted
+mod Grouped
+mod Joined
+mod Paired

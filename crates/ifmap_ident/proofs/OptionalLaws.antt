@@ -1,0 +1,60 @@
+-- Attributes that an empty value leaves out: their order, that they tell their values, and their length.
+use Rattle.std.proofs.Common.{ap, ◌≡◌, ℕ, ◌+◌, ◌<◌, List, [], ◌∷◌, ◌++◌, codes, drop, get_or, length, refl, sym, ◌∙◌, subst, arith, append_assoc, length-append}
+use Rattle.std.specs.Cmp.{nat_cmp_is}
+use Rattle.std.specs.Cmp.Lexicographic.{slice_cmp}
+use Rattle.std.specs.Ordering.{nat_cmp, ordering_then}
+use Rattle.std.specs.declared.cmp.Ordering.{Ordering}
+use Rattle.std.specs.declared.cmp.Ordering.TheVariants.{Less, Equal, Greater}
+use Rattle.ifmap_ident.specs.Leading.{Leads}
+use Rattle.ifmap_ident.specs.Written.{OptionalsLead, attribute_written, closed_text, optional_written, placed_bytes}
+use Rattle.ifmap_ident.specs.declared.written.Place.TheVariants.{Value}
+use Rattle.ifmap_lemmas.specs.Orderings.{then_equal}
+use Rattle.ifmap_ident.proofs.LeadingLaws.{leads_after, leads_both, leads_decided, leads_one, leads_same}
+use Rattle.ifmap_ident.proofs.PlacedLaws.{text_alike}
+
+-- ---- order
+
+-- attributes of one name are ordered as their values
+pub attributes_lead : (o : Ordering) (local v w : List ℕ) → Leads o (closed_text Value v) (closed_text Value w)
+    → Leads o (attribute_written local v) (attribute_written local w)
+attributes_lead o local v w f = leads_after (32 ∷ []) (leads_after local (leads_after (codes "=\"") f))
+
+pub optionals_lead : (o : Ordering) (v w : List ℕ) → (v ≡ [] → ⊥) → (w ≡ [] → ⊥) → Leads o (closed_text Value v) (closed_text Value w)
+    → OptionalsLead o v w
+optionals_lead o [] w n m f = absurd (n refl)
+optionals_lead o (b ∷ v) [] n m f = absurd (m refl)
+optionals_lead o (b ∷ v) (c ∷ w) n m f = λ first letter local h.
+    subst (λ r. Leads r (attribute_written (first ∷ local) (b ∷ v) ++ (32 ∷ (letter ∷ []))) (attribute_written (first ∷ local) (c ∷ w)
+    ++ (32 ∷ (letter ∷ [])))) (then_equal o)
+    (leads_both (attributes_lead o (first ∷ local) (b ∷ v) (c ∷ w) f) (leads_same (32 ∷ (letter ∷ []))))
+
+-- ---- one part and then another
+
+pub leads_before : {o : Ordering} {p q : List ℕ} → Leads o p q → (s : List ℕ) → Leads o (p ++ s) (q ++ s)
+leads_before {o} {p} {q} f s = subst (λ r. Leads r (p ++ s) (q ++ s)) (then_equal o) (leads_both f (leads_same s))
+
+-- an attribute that may be left out, a space, a greater letter, and then others
+pub optional_then : (o r : Ordering) (first letter : ℕ) (local v w s t : List ℕ) → first < letter → OptionalsLead o v w → Leads r s t
+    → Leads (ordering_then o r) (optional_written (first ∷ local) v ++ (32 ∷ (letter ∷ s))) (optional_written (first ∷ local) w ++ (32 ∷ (letter ∷ t)))
+optional_then o r first letter local v w s t h f g =
+    subst (λ p. Leads (ordering_then o r) p (optional_written (first ∷ local) w ++ (32 ∷ (letter ∷ t))))
+    (append_assoc (optional_written (first ∷ local) v) (32 ∷ (letter ∷ [])) s)
+    (subst (λ q. Leads (ordering_then o r) ((optional_written (first ∷ local) v ++ (32 ∷ (letter ∷ []))) ++ s) q)
+    (append_assoc (optional_written (first ∷ local) w) (32 ∷ (letter ∷ [])) t) (leads_both (f first letter local h) g))
+
+-- ---- values are told apart
+
+pub same_front : (p x y : List ℕ) → p ++ x ≡ p ++ y → x ≡ y
+same_front [] x y e = e
+same_front (b ∷ p) x y e = same_front p x y (cc)
+
+pub optional_alike : (first letter : ℕ) (local v w s t : List ℕ) → first < letter
+    → optional_written (first ∷ local) v ++ (32 ∷ (letter ∷ s)) ≡ optional_written (first ∷ local) w ++ (32 ∷ (letter ∷ t)) → (v ≡ w) × (s ≡ t)
+optional_alike first letter local [] [] s t h e = (refl, cc)
+optional_alike first letter local [] (c ∷ w) s t h e = let wrong : letter ≡ first = ap (λ text. get_or text 1 0) e in absurd (omega arith)
+optional_alike first letter local (b ∷ v) [] s t h e = let wrong : first ≡ letter = ap (λ text. get_or text 1 0) e in absurd (omega arith)
+optional_alike first letter local (b ∷ v) (c ∷ w) s t h e =
+    let parts = λ (u x : List ℕ). append_assoc local (61 ∷ (34 ∷ closed_text Value u)) x in
+    let rest = same_front local _ _ (sym (parts (b ∷ v) (32 ∷ (letter ∷ s))) ∙ ap (drop 2) e ∙ parts (c ∷ w) (32 ∷ (letter ∷ t))) in
+    let both = text_alike Value (b ∷ v) (c ∷ w) (32 ∷ (letter ∷ s)) (32 ∷ (letter ∷ t)) (ap (drop 2) rest) in
+    (both.0, ap (drop 2) both.1)

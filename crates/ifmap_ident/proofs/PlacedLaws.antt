@@ -1,0 +1,212 @@
+-- Texts as they are written in a place, each byte on its own up to the byte that ends the text: none of these pieces goes on from another, so
+-- texts compare by the first byte in which they differ.
+use Rattle.std.proofs.Common.{◌≡◌, ℕ, zero, suc, List, [], ◌∷◌, ◌++◌, true, false, not, nat_eq, cond, Option, None, Some, take, get_or, refl, ap, sym, ◌∙◌, subst, append_assoc, eq-eqb, nat_lt, length, IfSome, inl, inr, ◌⊎◌}
+use Rattle.std.proofs.lemmas.Bool.{and_parts, cases_Bool, cases_eq, eqb-true}
+use borrow.Author.Tests.{ltb-false, ltb-true}
+use denote.Bor.{Bor}
+use Rattle.std.proofs.lemmas.Option.{slice_get_past, slice_get_read}
+use Rattle.std.specs.Option.{is_some, option_copied}
+use Rattle.std.proofs.lemmas.Map.Lookups.{exact_bytes}
+use Rattle.std.specs.Cmp.{Equal-is}
+use Rattle.std.specs.Cmp.Lexicographic.{slice_cmp}
+use Rattle.std.specs.List.{list_all, slice_get}
+use Rattle.std.specs.Ordering.{is_eq, nat_cmp}
+use Rattle.std.specs.declared.cmp.Ordering.{Ordering}
+use Rattle.ifmap_elem.specs.Escapes.{text_byte, value_byte}
+use Rattle.ifmap_ident.specs.Leading.{Leads}
+use Rattle.ifmap_ident.specs.Written.{closed_text, end_byte, placed_byte, placed_bytes, written_byte}
+use Rattle.ifmap_ident.specs.declared.written.Place.{Place}
+use Rattle.ifmap_ident.specs.declared.written.Place.TheVariants.{Value, Content}
+use Rattle.ifmap_ident.proofs.LeadingLaws.{Parted, leads_after, leads_decided, leads_parted, parted_alike}
+
+not_equal : (b c : ℕ) → (b ≡ c → ⊥) → nat_eq b c ≡ false
+not_equal b c n = elim (cases_Bool (nat_eq b c)) [ inl e ↦ absurd (n (eqb-true b c e)) | inr e ↦ e ]
+
+-- a byte that stands for itself
+pub record IsPlain (place : Place) (b : ℕ) : Type 0 where
+  pub written : placed_byte place b ≡ b ∷ []
+  pub no_ampersand : nat_eq b 38 ≡ false
+  pub no_end : nat_eq b (end_byte place) ≡ false
+
+-- a claim on a byte, where it is c and where it is not
+unless : (P : ℕ → Type 0) (b c : ℕ) → P c → (nat_eq b c ≡ false → P b) → P b
+unless P b c there other = elim (cases_eq b c) [ inl e ↦ subst P (sym e) there | inr n ↦ other (not_equal b c n) ]
+
+-- a claim on all bytes, from those that are references and those that stand for themselves
+each_byte : (place : Place) (P : ℕ → Type 0) → P 38 → P 60 → P 62 → P 34 → P 9 → P 10 → P 13 → ((b : ℕ) → IsPlain place b → P b) → (b : ℕ) → P b
+each_byte Value P ampersand less greater quote tab feed return plain b =
+    unless P b 38 ampersand (λ a.
+    unless P b 60 less (λ l.
+    unless P b 34 quote (λ q.
+    unless P b 9 tab (λ t.
+    unless P b 10 feed (λ f.
+    unless P b 13 return (λ r.
+    plain b (record { written = rw (a, l, q, t, f, r) refl; no_ampersand = a; no_end = q })))))))
+each_byte Content P ampersand less greater quote tab feed return plain b =
+    unless P b 38 ampersand (λ a.
+    unless P b 60 less (λ l.
+    unless P b 62 greater (λ g.
+    unless P b 13 return (λ r.
+    plain b (record { written = rw (a, l, g, r) refl; no_ampersand = a; no_end = l })))))
+
+-- ---- no piece goes on from another
+
+-- a byte but `&`, or `&` and what follows up to the first `;`
+abbrev IsPiece : List ℕ → Type 0
+IsPiece p = ((b : ℕ) × (p ≡ b ∷ []) × (nat_eq b 38 ≡ false)) ⊎ ((name : List ℕ) × (p ≡ 38 ∷ (name ++ (59 ∷ [])))
+    × (list_all (λ b. not (nat_eq b 59)) name ≡ true))
+
+is_piece : (place : Place) (o : Option ℕ) → IsPiece (written_byte place o)
+is_piece Value None = inl (34, refl, refl)
+is_piece Content None = inl (60, refl, refl)
+is_piece Value (Some b) =
+    each_byte Value (λ n. IsPiece (value_byte n))
+    (inr (97 ∷ (109 ∷ (112 ∷ [])), refl, refl)) (inr (108 ∷ (116 ∷ []), refl, refl)) (inl (62, refl, refl))
+    (inr (113 ∷ (117 ∷ (111 ∷ (116 ∷ []))), refl, refl))
+    (inr (35 ∷ (57 ∷ []), refl, refl)) (inr (35 ∷ (49 ∷ (48 ∷ [])), refl, refl)) (inr (35 ∷ (49 ∷ (51 ∷ [])), refl, refl))
+    (λ n p. inl (n, p.written, p.no_ampersand)) b
+is_piece Content (Some b) =
+    each_byte Content (λ n. IsPiece (text_byte n))
+    (inr (97 ∷ (109 ∷ (112 ∷ [])), refl, refl)) (inr (108 ∷ (116 ∷ []), refl, refl)) (inr (103 ∷ (116 ∷ []), refl, refl))
+    (inl (34, refl, refl)) (inl (9, refl, refl)) (inl (10, refl, refl)) (inr (35 ∷ (49 ∷ (51 ∷ [])), refl, refl))
+    (λ n p. inl (n, p.written, p.no_ampersand)) b
+
+no_end : (b : ℕ) → not (nat_eq b 59) ≡ true → b ≡ 59 → ⊥
+no_end b h e = let t = eq-eqb b 59 e in cc
+
+parted_names : (m n : List ℕ) → list_all (λ b. not (nat_eq b 59)) m ≡ true → list_all (λ b. not (nat_eq b 59)) n ≡ true
+    → Parted (m ++ (59 ∷ [])) (n ++ (59 ∷ []))
+parted_names [] [] g h = λ e. tt
+parted_names [] (c ∷ n) g h = λ e. absurd (no_end c (and_parts (not (nat_eq c 59)) _ h).0 (sym e))
+parted_names (b ∷ m) [] g h = λ e. absurd (no_end b (and_parts (not (nat_eq b 59)) _ g).0 e)
+parted_names (b ∷ m) (c ∷ n) g h = λ e. parted_names m n (and_parts (not (nat_eq b 59)) _ g).1 (and_parts (not (nat_eq c 59)) _ h).1
+
+no_ampersand : (b : ℕ) → nat_eq b 38 ≡ false → b ≡ 38 → ⊥
+no_ampersand b h e = let t = eq-eqb b 38 e in cc
+
+parted_pieces : (p q : List ℕ) → IsPiece p → IsPiece q → Parted p q
+parted_pieces p q g h = elim g [
+  | inl s ↦ elim h [
+    | inl t ↦ subst (λ x. Parted x q) (sym s.1) (subst (λ y. Parted (s.0 ∷ []) y) (sym t.1) (λ e. tt))
+    | inr t ↦ subst (λ x. Parted x q) (sym s.1) (subst (λ y. Parted (s.0 ∷ []) y) (sym t.1) (λ e. absurd (no_ampersand s.0 s.2 e)))
+  ]
+  | inr s ↦ elim h [
+    | inl t ↦ subst (λ x. Parted x q) (sym s.1) (subst (λ y. Parted (38 ∷ (s.0 ++ (59 ∷ []))) y) (sym t.1)
+        (λ e. absurd (no_ampersand t.0 t.2 (sym e))))
+    | inr t ↦ subst (λ x. Parted x q) (sym s.1) (subst (λ y. Parted (38 ∷ (s.0 ++ (59 ∷ []))) y) (sym t.1)
+        (λ e. parted_names s.0 t.0 s.2 t.2))
+  ]
+]
+
+-- ---- each piece is written for one byte
+
+first_of : List ℕ → ℕ
+first_of [] = 0
+first_of (b ∷ bs) = b
+
+-- what a piece is written for in a place
+byte_of_piece : Place → List ℕ → Option ℕ
+byte_of_piece place [] = None
+byte_of_piece place (b ∷ []) = cond (nat_eq b (end_byte place)) None (Some b)
+byte_of_piece place (b ∷ (c ∷ [])) = None
+byte_of_piece place (b ∷ (c ∷ (d ∷ e))) =
+    Some (cond (nat_eq c 97) 38 (cond (nat_eq c 108) 60 (cond (nat_eq c 103) 62 (cond (nat_eq c 113) 34
+    (cond (nat_eq d 57) 9 (cond (nat_eq (first_of e) 48) 10 13))))))
+
+byte_of_piece-written_byte : (place : Place) (o : Option ℕ) → byte_of_piece place (written_byte place o) ≡ o
+unfolding byte_of_piece first_of
+byte_of_piece-written_byte Value None = refl
+byte_of_piece-written_byte Content None = refl
+byte_of_piece-written_byte Value (Some b) =
+    each_byte Value (λ n. byte_of_piece Value (value_byte n) ≡ Some n) refl refl refl refl refl refl refl
+    (λ n p. ap (byte_of_piece Value) p.written ∙ ap (λ t. cond t None (Some n)) p.no_end) b
+byte_of_piece-written_byte Content (Some b) =
+    each_byte Content (λ n. byte_of_piece Content (text_byte n) ≡ Some n) refl refl refl refl refl refl refl
+    (λ n p. ap (byte_of_piece Content) p.written ∙ ap (λ t. cond t None (Some n)) p.no_end) b
+
+-- ---- texts in one place
+
+module _ (place : Place) where
+  piece_leads : (o r : Option ℕ) → Leads (slice_cmp nat_cmp (written_byte place o) (written_byte place r)) (written_byte place o) (written_byte place r)
+  piece_leads o r = leads_parted (written_byte place o) (written_byte place r) (parted_pieces (written_byte place o) (written_byte place r) (is_piece place o) (is_piece place r))
+
+  pieces_differ : (o r : Option ℕ) → (o ≡ r → ⊥) → is_eq (slice_cmp nat_cmp (written_byte place o) (written_byte place r)) ≡ false
+  pieces_differ o r n = elim (cases_Bool (is_eq (slice_cmp nat_cmp (written_byte place o) (written_byte place r)))) [
+    | inl e ↦ absurd (n (sym (byte_of_piece-written_byte place o) ∙ ap (byte_of_piece place) (exact_bytes _ _
+        ((Equal-is (slice_cmp nat_cmp (written_byte place o) (written_byte place r))).0 e)) ∙ byte_of_piece-written_byte place r))
+    | inr e ↦ e
+  ]
+
+  -- ---- values by their first byte that differs
+
+  -- what follows the first piece
+  after_first : List ℕ → List ℕ
+  after_first [] = []
+  after_first (b ∷ bs) = closed_text place bs
+
+  first_piece : (bs : List ℕ) → closed_text place bs ≡ written_byte place (slice_get bs 0) ++ after_first bs
+  unfolding after_first
+  first_piece [] = refl
+  first_piece (b ∷ bs) = append_assoc (placed_byte place b) (placed_bytes place bs) (end_byte place ∷ [])
+
+  abbrev Apart : List ℕ → List ℕ → ℕ → Type 0
+  Apart one other n = slice_get one n ≡ slice_get other n → slice_get one n ≡ None
+
+  abbrev pub piece_order : List ℕ → List ℕ → ℕ → Ordering
+  piece_order one other n = slice_cmp nat_cmp (written_byte place (slice_get one n)) (written_byte place (slice_get other n))
+
+  differ_at_once : (one other : List ℕ) → (slice_get one 0 ≡ slice_get other 0 → ⊥)
+      → Leads (piece_order one other 0) (closed_text place one) (closed_text place other)
+  differ_at_once one other n =
+      subst (λ p. Leads (piece_order one other 0) p (closed_text place other)) (sym (first_piece one))
+      (subst (λ q. Leads (piece_order one other 0) (written_byte place (slice_get one 0) ++ after_first one) q) (sym (first_piece other))
+      (leads_decided (piece_leads (slice_get one 0) (slice_get other 0)) (pieces_differ (slice_get one 0) (slice_get other 0) n)
+      (after_first one) (after_first other)))
+
+  pub text_leads : (one other : List ℕ) (n : ℕ) → take n one ≡ take n other → Apart one other n
+      → Leads (piece_order one other n) (closed_text place one) (closed_text place other)
+  text_leads [] [] zero e h = piece_leads None None
+  text_leads [] [] (suc n) e h = piece_leads None None
+  text_leads [] (c ∷ cs) zero e h = differ_at_once [] (c ∷ cs) (λ d. cc)
+  text_leads [] (c ∷ cs) (suc n) e h = absurd (cc)
+  text_leads (b ∷ bs) [] zero e h = differ_at_once (b ∷ bs) [] (λ d. cc)
+  text_leads (b ∷ bs) [] (suc n) e h = absurd (cc)
+  text_leads (b ∷ bs) (c ∷ cs) zero e h = differ_at_once (b ∷ bs) (c ∷ cs) (λ d. let gone = h d in cc)
+  text_leads (b ∷ bs) (c ∷ cs) (suc n) e h =
+      let same : b ≡ c = cc in
+      let rest : take n bs ≡ take n cs = cc in
+      subst (λ p. Leads (piece_order bs cs n) p (closed_text place (c ∷ cs))) (sym (append_assoc (placed_byte place b) (placed_bytes place bs) (end_byte place ∷ [])))
+      (subst (λ q. Leads (piece_order bs cs n) (placed_byte place b ++ closed_text place bs) q) (ap
+      (λ x. placed_byte place x ++ closed_text place cs) same ∙ sym (append_assoc (placed_byte place c) (placed_bytes place cs) (end_byte place ∷ [])))
+      (leads_after (placed_byte place b) (text_leads bs cs n rest h)))
+
+  -- ---- values are told apart
+
+  piece_alike : (one other s t : List ℕ) → closed_text place one ++ s ≡ closed_text place other ++ t
+      → (slice_get one 0 ≡ slice_get other 0) × (after_first one ++ s ≡ after_first other ++ t)
+  piece_alike one other s t e =
+      let o = slice_get one 0 in
+      let r = slice_get other 0 in
+      let split = sym (append_assoc (written_byte place o) (after_first one) s) ∙ ap (λ p. p ++ s) (sym (first_piece one)) ∙ e ∙ ap
+      (λ p. p ++ t) (first_piece other) ∙ append_assoc (written_byte place r) (after_first other) t in
+      let both = parted_alike (written_byte place o) (written_byte place r) (after_first one ++ s) (after_first other ++ t)
+      (parted_pieces (written_byte place o) (written_byte place r) (is_piece place o) (is_piece place r)) split in
+      (sym (byte_of_piece-written_byte place o) ∙ ap (byte_of_piece place) both.0 ∙ byte_of_piece-written_byte place r, both.1)
+
+  pub text_alike : (one other s t : List ℕ) → closed_text place one ++ s ≡ closed_text place other ++ t → (one ≡ other) × (s ≡ t)
+  unfolding after_first
+  text_alike [] [] s t e = (refl, (piece_alike [] [] s t e).1)
+  text_alike [] (c ∷ cs) s t e = let first = (piece_alike [] (c ∷ cs) s t e).0 in cc
+  text_alike (b ∷ bs) [] s t e = let first = (piece_alike (b ∷ bs) [] s t e).0 in cc
+  text_alike (b ∷ bs) (c ∷ cs) s t e =
+      let here = piece_alike (b ∷ bs) (c ∷ cs) s t e in
+      let first : b ≡ c = let some = here.0 in cc in
+      let rest = text_alike bs cs s t here.1 in
+      ((λ i. first i ∷ rest.0 i), rest.1)
+
+-- ---- an element that was looked up
+
+pub option_copied-get : (xs : List ℕ) (n : ℕ) (r : Option (Bor ℕ)) → is_some r ≡ nat_lt n (length xs) → IfSome r
+    (λ x. x.now ≡ get_or xs n x.now) → option_copied r ≡ slice_get xs n
+option_copied-get xs n None e h = sym (slice_get_past xs n (ltb-false n (length xs) (sym e)))
+option_copied-get xs n (Some x) e h = sym (slice_get_read xs (length xs) n x.now refl (ltb-true n (length xs) (sym e)) h)

@@ -1,0 +1,10 @@
+use Rattle.std.proofs.Common.{ap, sym, ◌∙◌}
+use Rattle.std.specs.Ordering.{ordering_then}
+use Rattle.ifmap_ident.proofs.OrderLaws.{mac_addresses}
+use Rattle.ifmap_ident.proofs.ordering.mac_order.Goals as goal
+
+pub returns : goal.returns
+returns c =
+    c.then.ensures ∙ ap (ordering_then c.optional_order.result) c.mac_address_order.ensures
+    ∙ mac_addresses c.optional_order.result c.args.value.now c.args.domain.now c.args.other_value.now c.args.other_domain.now
+    c.fits-value c.fits-other_value c.optional_order.ensures

@@ -1,0 +1,19 @@
+use Rattle.std.proofs.Common.{ap, nat_cmp, sym, subst, ◌∙◌}
+use Rattle.std.specs.Cmp.Lexicographic.{slice_cmp}
+use Rattle.ifmap_ident.specs.Leading.{Leads}
+use Rattle.ifmap_ident.specs.Written.{closed_text, written_byte}
+use Rattle.ifmap_ident.proofs.PlacedLaws.{option_copied-get, text_leads}
+use Rattle.ifmap_ident.proofs.written.bytes_order.Goals as goal
+
+pub returns : goal.returns
+returns c =
+    let place = c.args.place in
+    let one = c.args.one.now in
+    let other = c.args.other.now in
+    let shared = c.shared_len-shared.result in
+    let first = c.written_byte.ensures ∙ ap (written_byte place) (option_copied-get one shared c.get.result c.get.ensures.lookup.0
+    c.get.ensures.lookup.1) in
+    let second = c.written_byte-2.ensures ∙ ap (written_byte place) (option_copied-get other shared c.get-2.result c.get-2.ensures.lookup.0
+    c.get-2.ensures.lookup.1) in
+    subst (λ o. Leads o (closed_text place one) (closed_text place other)) (sym (c.cmp.ensures ∙ (λ i. slice_cmp nat_cmp (first i) (second i))))
+    (text_leads place one other shared c.shared_len-shared.ensures.shared c.shared_len-shared.ensures.apart)
