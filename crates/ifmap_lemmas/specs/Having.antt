@@ -1,5 +1,6 @@
 -- What a list has, by recursion: as filters, maps with gaps and joined lists meet it.
-use Rattle.std.proofs.Common.{◌≡◌, ◌⊎◌, ◌↔◌, ℕ, zero, suc, Bool, true, false, cond, Option, Some, None, List, [], ◌∷◌, ◌++◌, map, flat_map, refl, ap, ◌∙◌, sym, subst, inl, inr, arith}
+use Rattle.std.proofs.Common.{◌≡◌, ◌⊎◌, ℕ, zero, suc, Bool, true, false, cond, Option, Some, None, List, [], ◌∷◌, ◌++◌, map, flat_map}
+use Rattle.std.proofs.Common.{refl, ap, ◌∙◌, sym, subst, inl, inr, arith}
 use Rattle.std.proofs.lemmas.Bool.{cases_Bool}
 use Rattle.std.specs.List.{Contains, cons_option, filter, filter_map, list_any}
 
@@ -38,7 +39,8 @@ pub has_filter : {X : Type 0} (p : X → Bool) (xs : List X) (x : X) → Has xs 
 has_filter p [] x h e = h
 has_filter {X} p (y ∷ ys) x h e = at (p y) refl h (λ q. has_filter p ys x q e)
   where
-    at : (b : Bool) → p y ≡ b → (y ≡ x) ⊎ Has ys x → (Has ys x → Has (filter p ys) x) → Has (cond b (y ∷ filter p ys) (filter p ys)) x
+    at : (b : Bool) → p y ≡ b → (y ≡ x) ⊎ Has ys x → (Has ys x → Has (filter p ys) x)
+        → Has (cond b (y ∷ filter p ys) (filter p ys)) x
     at true is (inl q) rest = inl q
     at true is (inr q) rest = inr (rest q)
     at false is (inl q) rest = let r : false ≡ true = sym is ∙ ap p q ∙ e in cc
@@ -48,7 +50,8 @@ pub filter_has : {X : Type 0} (p : X → Bool) (xs : List X) (x : X) → Has (fi
 filter_has p [] x h = absurd h
 filter_has {X} p (y ∷ ys) x h = at (p y) refl h (λ q. filter_has p ys x q)
   where
-    at : (b : Bool) → p y ≡ b → Has (cond b (y ∷ filter p ys) (filter p ys)) x → (Has (filter p ys) x → Has ys x × (p x ≡ true)) → ((y ≡ x) ⊎ Has ys x) × (p x ≡ true)
+    at : (b : Bool) → p y ≡ b → Has (cond b (y ∷ filter p ys) (filter p ys)) x
+        → (Has (filter p ys) x → Has ys x × (p x ≡ true)) → ((y ≡ x) ⊎ Has ys x) × (p x ≡ true)
     at true is (inl q) rest = (inl q, ap p (sym q) ∙ is)
     at true is (inr q) rest = let r = rest q in (inr r.0, r.1)
     at false is q rest = let r = rest q in (inr r.0, r.1)
@@ -65,7 +68,8 @@ map_has f (x ∷ xs) y (inl e) = (x, inl refl, e)
 map_has f (x ∷ xs) y (inr h) = let r = map_has f xs y h in (r.0, inr r.1, r.2)
 
 -- a map with gaps
-pub has_mapped : {X Y : Type 0} (f : X → Option Y) (xs : List X) (x : X) (y : Y) → Has xs x → f x ≡ Some y → Has (filter_map f xs) y
+pub has_mapped : {X Y : Type 0} (f : X → Option Y) (xs : List X) (x : X) (y : Y) → Has xs x → f x ≡ Some y
+    → Has (filter_map f xs) y
 has_mapped f [] x y h e = absurd h
 has_mapped {X} {Y} f (z ∷ zs) x y (inl q) e = subst (λ o. Has (cons_option o (filter_map f zs)) y) (sym (ap f q ∙ e)) (inl refl)
 has_mapped {X} {Y} f (z ∷ zs) x y (inr q) e = at (f z) (has_mapped f zs x y q e)
@@ -74,11 +78,13 @@ has_mapped {X} {Y} f (z ∷ zs) x y (inr q) e = at (f z) (has_mapped f zs x y q 
     at None h = h
     at (Some w) h = inr h
 
-pub mapped_has : {X Y : Type 0} (f : X → Option Y) (xs : List X) (y : Y) → Has (filter_map f xs) y → (x : X) × Has xs x × (f x ≡ Some y)
+pub mapped_has : {X Y : Type 0} (f : X → Option Y) (xs : List X) (y : Y) → Has (filter_map f xs) y
+    → (x : X) × Has xs x × (f x ≡ Some y)
 mapped_has f [] y h = absurd h
 mapped_has {X} {Y} f (z ∷ zs) y h = at (f z) refl h (λ q. mapped_has f zs y q)
   where
-    at : (o : Option Y) → f z ≡ o → Has (cons_option o (filter_map f zs)) y → (Has (filter_map f zs) y → (x : X) × Has zs x × (f x ≡ Some y)) → (x : X) × ((z ≡ x) ⊎ Has zs x) × (f x ≡ Some y)
+    at : (o : Option Y) → f z ≡ o → Has (cons_option o (filter_map f zs)) y
+        → (Has (filter_map f zs) y → (x : X) × Has zs x × (f x ≡ Some y)) → (x : X) × ((z ≡ x) ⊎ Has zs x) × (f x ≡ Some y)
     at None is q rest = let r = rest q in (r.0, inr r.1, r.2)
     at (Some w) is (inl q) rest = (z, inl refl, is ∙ ap Some q)
     at (Some w) is (inr q) rest = let r = rest q in (r.0, inr r.1, r.2)
@@ -92,22 +98,22 @@ has_joined f (z ∷ zs) x y (inr h) k = has_right (f z) (flat_map f zs) y (has_j
 pub joined_has : {X Y : Type 0} (f : X → List Y) (xs : List X) (y : Y) → Has (flat_map f xs) y → (x : X) × Has xs x × Has (f x) y
 joined_has f [] y h = absurd h
 joined_has f (z ∷ zs) y h = elim (has_either (f z) (flat_map f zs) y h) [
-    | inl a ↦ (z, inl refl, a)
-    | inr b ↦ let r = joined_has f zs y b in (r.0, inr r.1, r.2)
-  ]
+  | inl a ↦ (z, inl refl, a)
+  | inr b ↦ let r = joined_has f zs y b in (r.0, inr r.1, r.2)
+]
 
 -- a test of some element
 pub has_any : {X : Type 0} (p : X → Bool) (xs : List X) (x : X) → Has xs x → p x ≡ true → list_any p xs ≡ true
 has_any p [] x h e = absurd h
 has_any p (y ∷ ys) x (inl q) e = let t : p y ≡ true = ap p q ∙ e in rw t refl
 has_any p (y ∷ ys) x (inr h) e = elim (cases_Bool (p y)) [
-    | inl t ↦ rw t refl
-    | inr t ↦ rw t (has_any p ys x h e)
-  ]
+  | inl t ↦ rw t refl
+  | inr t ↦ rw t (has_any p ys x h e)
+]
 
 pub any_has : {X : Type 0} (p : X → Bool) (xs : List X) → list_any p xs ≡ true → (x : X) × Has xs x × (p x ≡ true)
 any_has p [] e = let q : false ≡ true = e in cc
 any_has p (y ∷ ys) e = elim (cases_Bool (p y)) [
-    | inl t ↦ (y, inl refl, t)
-    | inr t ↦ let r = any_has p ys (rw t at e) in (r.0, inr r.1, r.2)
-  ]
+  | inl t ↦ (y, inl refl, t)
+  | inr t ↦ let r = any_has p ys (rw t at e) in (r.0, inr r.1, r.2)
+]
