@@ -13,7 +13,7 @@ returns-clause-carries_this g c =
     let sound = subst (λ m. IsSoundSeat m.0) c.glue.ensures.both c.check.ensures.sound in
     subst (λ m. CarriesOn next (sight_by next s.view) (sight_by next m.0.view)) (sym (c.check.ensures.same ∙ c.glue.ensures.both))
     (joint_carries next s u (c.requires.hall.0.terms ∙ sym c.requires.hall.1.terms) c.args.into.now.sound.inside
-        c.args.from.sound.inside sound).0
+    c.args.from.sound.inside sound).0
 
 pub returns-clause-carries_other : goal.returns-clause-carries_other
 returns-clause-carries_other g c =
@@ -23,7 +23,7 @@ returns-clause-carries_other g c =
     let sound = subst (λ m. IsSoundSeat m.0) c.glue.ensures.both c.check.ensures.sound in
     subst (λ m. CarriesOn next (sight_by next u.view) (sight_by next m.0.view)) (sym (c.check.ensures.same ∙ c.glue.ensures.both))
     (joint_carries next s u (c.requires.hall.0.terms ∙ sym c.requires.hall.1.terms) c.args.into.now.sound.inside
-        c.args.from.sound.inside sound).1
+    c.args.from.sound.inside sound).1
 
 pub returns-clause-apart : goal.returns-clause-apart
 returns-clause-apart g c =
