@@ -98,7 +98,7 @@ module _ (fits : (bytes : List ℕ) (r : Reading) → Spells bytes r → IsFit r
       children = blank;
       kind_is = kind_is;
       definition = subst (λ o. IsDefinition kind o other) (sym given)
-        (definition_again kind (value_of (codes "other-type-definition") e) other p.definition);
+          (definition_again kind (value_of (codes "other-type-definition") e) other p.definition);
       text = name;
       text_is = name_is;
       kept = kept_again (name_form kind other) p.text name p.kept;
