@@ -59,7 +59,7 @@ access_requests_alike : (n d m e : List ℕ) → identifier_written (AccessReque
     → AccessRequest n d ≡ AccessRequest m e
 access_requests_alike n d m e h =
     let domains = domain_alike 110 d e (codes "ame=\"" ++ (closed_text Value n ++ codes "/>")) (codes "ame=\"" ++ (closed_text Value m ++ codes "/>"))
-        (omega arith) (ap (drop 15) h) in
+    (omega arith) (ap (drop 15) h) in
     let names = text_alike Value n m (codes "/>") (codes "/>") (ap (drop 5) domains.1) in
     λ i. AccessRequest (names.0 i) (domains.0 i)
 
@@ -76,7 +76,7 @@ identities_alike : (n : List ℕ) (k : IdentityType) (u d m : List ℕ) (l : Ide
     → identifier_written (Identity n k u d) ≡ identifier_written (Identity m l v e) → Identity n k u d ≡ Identity m l v e
 identities_alike n k u d m l v e h =
     let domains = domain_alike 110 d e (codes "ame=\"" ++ (closed_text Value n ++ other_end u k)) (codes "ame=\"" ++ (closed_text Value m
-        ++ other_end v l)) (omega arith) (ap (drop 9) h) in
+    ++ other_end v l)) (omega arith) (ap (drop 9) h) in
     let names = text_alike Value n m (other_end u k) (other_end v l) (ap (drop 5) domains.1) in
     let others = optional_alike 111 116 (codes "ther-type-definition") u v (type_end k) (type_end l) (omega arith) names.1 in
     let types = names_tell k l (text_alike Value (identity_type_name k) (identity_type_name l) (codes "/>") (codes "/>") (ap (drop 5) others.1)).0 in
@@ -92,7 +92,7 @@ typed_alike : (type other d e s t : List ℕ)
     → (d ≡ e) × (type ++ (codes "\" value=\"" ++ value_end s) ≡ other ++ (codes "\" value=\"" ++ value_end t))
 typed_alike type other d e s t h =
     let both = domain_alike 116 d e (codes "ype=\"" ++ (type ++ (codes "\" value=\"" ++ value_end s))) (codes "ype=\"" ++ (other
-        ++ (codes "\" value=\"" ++ value_end t))) (omega arith) h in
+    ++ (codes "\" value=\"" ++ value_end t))) (omega arith) h in
     (both.0, ap (drop 5) both.1)
 
 v4_alike : (v d w e : List ℕ) → AreBelow 256 4 v → AreBelow 256 4 w → identifier_written (IpV4 v d) ≡ identifier_written (IpV4 w e)
@@ -119,7 +119,7 @@ mac_addresses_alike : (v d w e : List ℕ) → AreBelow 256 6 v → AreBelow 256
     → identifier_written (MacAddress v d) ≡ identifier_written (MacAddress w e) → MacAddress v d ≡ MacAddress w e
 mac_addresses_alike v d w e f g h =
     let both = domain_alike 118 d e (codes "alue=\"" ++ value_end (mac_address_text v)) (codes "alue=\"" ++ value_end (mac_address_text w))
-        (omega arith) (ap (drop 12) h) in
+    (omega arith) (ap (drop 12) h) in
     let texts = text_alike Value (mac_address_text v) (mac_address_text w) (codes "/>") (codes "/>") (ap (drop 6) both.1) in
     λ i. MacAddress (mac_address_tells v w (f.number ∙ sym g.number) texts.0 i) (both.0 i)
 

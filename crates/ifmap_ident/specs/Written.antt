@@ -57,7 +57,7 @@ abbrev pub OptionalsLead : Ordering → List ℕ → List ℕ → Type 0
 OptionalsLead order one other =
     (first letter : ℕ) (local : List ℕ) → first < letter
     → Leads order (optional_written (first ∷ local) one ++ (codes " " ++ (letter ∷ [])))
-        (optional_written (first ∷ local) other ++ (codes " " ++ (letter ∷ [])))
+    (optional_written (first ∷ local) other ++ (codes " " ++ (letter ∷ [])))
 
 -- ---- identifiers
 

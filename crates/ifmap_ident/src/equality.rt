@@ -3,9 +3,11 @@ ghost use Rattle.std.specs.Prelude.{◌≡◌, ◌↔◌, IsTrue};
 ghost use Rattle.ifmap_addresses.specs.Values.{AreBelow};
 ghost use Rattle.ifmap_ident.specs.Identifiers.{identifier_bytes};
 ghost use Rattle.ifmap_ident.specs.Written.{IsTyped};
+ghost use Rattle.ifmap_ident.specs.declared.identifiers.Identifier.TheVariants.{AccessRequest, Device, Identity, IpV4, IpV6, MacAddress};
 
 use crate::identifiers::Identifier;
-use ifmap_elem::Equals;
+use crate::kinds::IdentityType;
+use ifmap_elem::{Equals, Text};
 
 // Whether two identifiers are one, which their canonical bytes tell.
 pub(crate) fn identifiers_are_one(one: &Identifier, other: &Identifier) -> bool
@@ -29,6 +31,7 @@ fn is_typed(identifier: &Identifier)
     }
 }
 
+// The next three do nothing: that their value is looked at makes the types of its numbers known.
 fn are_four_bytes(value: &[u8; 4])
     ensures { AreBelow 256 4 value.now }
 {
@@ -50,21 +53,93 @@ fn are_six_bytes(value: &[u8; 6])
 fn have_same_parts(one: &Identifier, other: &Identifier) -> bool
     ensures { IsTrue result ↔ (one.now ≡ other.now) }
 {
-    use Identifier::{AccessRequest, Device, Identity, IpV4, IpV6, MacAddress};
-    match (one, other) {
-        (AccessRequest { name: a, domain: b }, AccessRequest { name: c, domain: d }) => {
-            a.equals(c) && b.equals(d)
-        }
-        (Device { name: a }, Device { name: b }) => a.equals(b),
-        (
-            Identity { name, kind, other, domain },
-            Identity { name: a, kind: b, other: c, domain: d },
-        ) => name.equals(a) && kind == b && other.equals(c) && domain.equals(d),
-        (IpV4 { value: a, domain: b }, IpV4 { value: c, domain: d }) => a == c && b.equals(d),
-        (IpV6 { value: a, domain: b }, IpV6 { value: c, domain: d }) => a == c && b.equals(d),
-        (MacAddress { value: a, domain: b }, MacAddress { value: c, domain: d }) => {
-            a == c && b.equals(d)
-        }
+    match one {
+        Identifier::AccessRequest { name, domain } => is_access_request(other, name, domain),
+        Identifier::Device { name } => is_device(other, name),
+        Identifier::Identity {
+            name,
+            kind,
+            other: definition,
+            domain,
+        } => is_identity(other, name, *kind, definition, domain),
+        Identifier::IpV4 { value, domain } => is_v4(other, value, domain),
+        Identifier::IpV6 { value, domain } => is_v6(other, value, domain),
+        Identifier::MacAddress { value, domain } => is_mac(other, value, domain),
+    }
+}
+
+// Whether the identifier is the one with these parts; so the next five.
+fn is_access_request(identifier: &Identifier, name: &Text, domain: &Text) -> bool
+    ensures { IsTrue result ↔ (AccessRequest name.now domain.now ≡ identifier.now) }
+{
+    match identifier {
+        Identifier::AccessRequest { name: n, domain: d } => name.equals(n) && domain.equals(d),
+        _ => false,
+    }
+}
+
+fn is_device(identifier: &Identifier, name: &Text) -> bool
+    ensures { IsTrue result ↔ (Device name.now ≡ identifier.now) }
+{
+    match identifier {
+        Identifier::Device { name: n } => name.equals(n),
+        _ => false,
+    }
+}
+
+fn is_identity(
+    identifier: &Identifier,
+    name: &Text,
+    kind: IdentityType,
+    definition: &Text,
+    domain: &Text,
+) -> bool
+    ensures { IsTrue result ↔ (Identity name.now kind definition.now domain.now
+        ≡ identifier.now) }
+{
+    match identifier {
+        Identifier::Identity {
+            name: n,
+            kind: k,
+            other: o,
+            domain: d,
+        } => name.equals(n) && kind == *k && definition.equals(o) && domain.equals(d),
+        _ => false,
+    }
+}
+
+fn is_v4(identifier: &Identifier, value: &[u8; 4], domain: &Text) -> bool
+    ensures { IsTrue result ↔ (IpV4 value.now domain.now ≡ identifier.now) }
+{
+    match identifier {
+        Identifier::IpV4 {
+            value: v,
+            domain: d,
+        } => value == v && domain.equals(d),
+        _ => false,
+    }
+}
+
+fn is_v6(identifier: &Identifier, value: &[u16; 8], domain: &Text) -> bool
+    ensures { IsTrue result ↔ (IpV6 value.now domain.now ≡ identifier.now) }
+{
+    match identifier {
+        Identifier::IpV6 {
+            value: v,
+            domain: d,
+        } => value == v && domain.equals(d),
+        _ => false,
+    }
+}
+
+fn is_mac(identifier: &Identifier, value: &[u8; 6], domain: &Text) -> bool
+    ensures { IsTrue result ↔ (MacAddress value.now domain.now ≡ identifier.now) }
+{
+    match identifier {
+        Identifier::MacAddress {
+            value: v,
+            domain: d,
+        } => value == v && domain.equals(d),
         _ => false,
     }
 }

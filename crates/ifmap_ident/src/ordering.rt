@@ -6,6 +6,7 @@ ghost use Rattle.ifmap_ident.specs.Kinds.{identity_type_name};
 ghost use Rattle.ifmap_ident.specs.Leading.{Leads};
 ghost use Rattle.ifmap_ident.specs.Written.{closed_text, kind_rank};
 ghost use Rattle.ifmap_ident.specs.declared.identifiers.Identifier.TheVariants.{AccessRequest, Device, Identity, IpV4, IpV6, MacAddress};
+ghost use Rattle.ifmap_ident.specs.declared.kinds.Kind;
 ghost use Rattle.ifmap_ident.specs.declared.written.Place.TheVariants.{Value};
 
 use crate::identifiers::Identifier;
@@ -43,31 +44,125 @@ fn rank_of(kind: Kind) -> u8
     }
 }
 
-// How two identifiers of one kind compare; `Equal` of others.
+// How two identifiers of one kind compare.
 fn order_in_kind(one: &Identifier, other: &Identifier) -> Ordering
     ensures { identifier_kind one.now ≡ identifier_kind other.now
         → result ≡ identifier_order one.now other.now }
 {
-    use Identifier::{AccessRequest, Device, Identity, IpV4, IpV6, MacAddress};
-    match (one, other) {
-        (AccessRequest { name: a, domain: b }, AccessRequest { name: c, domain: d }) => {
-            access_request_order(a, b, c, d)
-        }
-        (Device { name: a }, Device { name: b }) => device_order(a, b),
-        (
-            Identity { name, kind, other, domain },
-            Identity { name: a, kind: b, other: c, domain: d },
-        ) => identity_order(
-            IdentityParts { name, kind: *kind, other, domain },
-            IdentityParts { name: a, kind: *b, other: c, domain: d },
+    match one {
+        Identifier::AccessRequest { name, domain } => order_of_access_request(name, domain, other),
+        Identifier::Device { name } => order_of_device(name, other),
+        Identifier::Identity {
+            name,
+            kind,
+            other: definition,
+            domain,
+        } => order_of_identity(
+            IdentityParts {
+                name,
+                kind: *kind,
+                definition,
+                domain,
+            },
+            other,
         ),
-        (IpV4 { value: a, domain: b }, IpV4 { value: c, domain: d }) => v4_order(a, b, c, d),
-        (IpV4 { value: a, domain: b }, IpV6 { value: c, domain: d }) => v4_v6_order(a, b, c, d),
-        (IpV6 { value: a, domain: b }, IpV4 { value: c, domain: d }) => v6_v4_order(a, b, c, d),
-        (IpV6 { value: a, domain: b }, IpV6 { value: c, domain: d }) => v6_order(a, b, c, d),
-        (MacAddress { value: a, domain: b }, MacAddress { value: c, domain: d }) => {
-            mac_order(a, b, c, d)
-        }
+        Identifier::IpV4 { value, domain } => order_of_v4(value, domain, other),
+        Identifier::IpV6 { value, domain } => order_of_v6(value, domain, other),
+        Identifier::MacAddress { value, domain } => order_of_mac(value, domain, other),
+    }
+}
+
+// How this identifier and another of its kind compare; so the next five.
+fn order_of_access_request(name: &Text, domain: &Text, other: &Identifier) -> Ordering
+    ensures { identifier_kind other.now ≡ Kind.AccessRequest
+        → result ≡ identifier_order (AccessRequest name.now domain.now) other.now }
+{
+    match other {
+        Identifier::AccessRequest {
+            name: other_name,
+            domain: other_domain,
+        } => access_request_order(name, domain, other_name, other_domain),
+        _ => Ordering::Equal,
+    }
+}
+
+fn order_of_device(name: &Text, other: &Identifier) -> Ordering
+    ensures { identifier_kind other.now ≡ Kind.Device
+        → result ≡ identifier_order (Device name.now) other.now }
+{
+    match other {
+        Identifier::Device { name: other_name } => device_order(name, other_name),
+        _ => Ordering::Equal,
+    }
+}
+
+fn order_of_identity(one: IdentityParts<'_>, other: &Identifier) -> Ordering
+    ensures { identifier_kind other.now ≡ Kind.Identity
+        → result ≡ identifier_order (Identity one.entry.name.now one.entry.kind
+        one.entry.definition.now one.entry.domain.now) other.now }
+{
+    match other {
+        Identifier::Identity {
+            name,
+            kind,
+            other: definition,
+            domain,
+        } => identity_order(
+            one,
+            IdentityParts {
+                name,
+                kind: *kind,
+                definition,
+                domain,
+            },
+        ),
+        _ => Ordering::Equal,
+    }
+}
+
+fn order_of_v4(value: &[u8; 4], domain: &Text, other: &Identifier) -> Ordering
+    ensures { identifier_kind other.now ≡ Kind.IpAddress
+        → result ≡ identifier_order (IpV4 value.now domain.now) other.now }
+{
+    match other {
+        Identifier::IpV4 {
+            value: other_value,
+            domain: other_domain,
+        } => v4_order(value, domain, other_value, other_domain),
+        Identifier::IpV6 {
+            value: other_value,
+            domain: other_domain,
+        } => v4_v6_order(value, domain, other_value, other_domain),
+        _ => Ordering::Equal,
+    }
+}
+
+fn order_of_v6(value: &[u16; 8], domain: &Text, other: &Identifier) -> Ordering
+    ensures { identifier_kind other.now ≡ Kind.IpAddress
+        → result ≡ identifier_order (IpV6 value.now domain.now) other.now }
+{
+    match other {
+        Identifier::IpV4 {
+            value: other_value,
+            domain: other_domain,
+        } => v6_v4_order(value, domain, other_value, other_domain),
+        Identifier::IpV6 {
+            value: other_value,
+            domain: other_domain,
+        } => v6_order(value, domain, other_value, other_domain),
+        _ => Ordering::Equal,
+    }
+}
+
+fn order_of_mac(value: &[u8; 6], domain: &Text, other: &Identifier) -> Ordering
+    ensures { identifier_kind other.now ≡ Kind.MacAddress
+        → result ≡ identifier_order (MacAddress value.now domain.now) other.now }
+{
+    match other {
+        Identifier::MacAddress {
+            value: other_value,
+            domain: other_domain,
+        } => mac_order(value, domain, other_value, other_domain),
         _ => Ordering::Equal,
     }
 }
@@ -95,19 +190,19 @@ fn device_order(name: &Text, other_name: &Text) -> Ordering
 struct IdentityParts<'a> {
     name: &'a Text,
     kind: IdentityType,
-    other: &'a Text,
+    definition: &'a Text,
     domain: &'a Text,
 }
 
 fn identity_order(one: IdentityParts<'_>, other: IdentityParts<'_>) -> Ordering
     ensures { result ≡ identifier_order
-        (Identity one.entry.name.now one.entry.kind one.entry.other.now one.entry.domain.now)
-        (Identity other.entry.name.now other.entry.kind other.entry.other.now
-            other.entry.domain.now) }
+        (Identity one.entry.name.now one.entry.kind one.entry.definition.now one.entry.domain.now)
+        (Identity other.entry.name.now other.entry.kind other.entry.definition.now
+        other.entry.domain.now) }
 {
     optional_order(one.domain, other.domain)
         .then(text_order(Place::Value, one.name, other.name))
-        .then(optional_order(one.other, other.other))
+        .then(optional_order(one.definition, other.definition))
         .then(type_order(one.kind, other.kind))
 }
 
@@ -162,12 +257,7 @@ fn v6_order(
     optional_order(domain, other_domain).then(ip_v6_order(value, other_value))
 }
 
-fn mac_order(
-    value: &[u8; 6],
-    domain: &Text,
-    other_value: &[u8; 6],
-    other_domain: &Text,
-) -> Ordering
+fn mac_order(value: &[u8; 6], domain: &Text, other_value: &[u8; 6], other_domain: &Text) -> Ordering
     ensures { result ≡ identifier_order (MacAddress value.now domain.now)
         (MacAddress other_value.now other_domain.now) }
 {

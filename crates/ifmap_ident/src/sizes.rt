@@ -18,8 +18,9 @@ pub(crate) fn identifier_len(identifier: &Identifier) -> u64
         Identifier::AccessRequest { name, domain } => domain_len(domain)
             .saturating_add(attribute_len("name", name))
             .saturating_add(b"<access-request/>".len() as u64),
-        Identifier::Device { name } => text_len(Place::Content, name)
-            .saturating_add(b"<device><name></name></device>".len() as u64),
+        Identifier::Device { name } => text_len(Place::Content, name).saturating_add(
+            b"<device><name></name></device>".len() as u64,
+        ),
         Identifier::Identity {
             name,
             kind,

@@ -1,5 +1,6 @@
 //! Texts as they are written in canonical bytes, compared and measured without writing them.
-ghost use Rattle.std.specs.Prelude.{◌≡◌, ◌-◌, ◌^◌, None, length, min, take};
+ghost use Rattle.std.specs.Bool.{OnTrue};
+ghost use Rattle.std.specs.Prelude.{◌≡◌, ◌≤◌, ◌+◌, ◌-◌, ◌^◌, None, drop, length, min, take};
 ghost use Rattle.std.specs.List.{slice_get};
 ghost use Rattle.std.specs.Option.{option_copied};
 ghost use Rattle.ifmap_ident.specs.Leading.{Leads};
@@ -38,8 +39,47 @@ fn shared_len(one: &[u8], other: &[u8]) -> usize
     ensures apart { slice_get one.now result ≡ slice_get other.now result
         → slice_get one.now result ≡ None }
 {
-    for (i, byte) in one.iter().enumerate() {
-        if other.get(i) != Some(byte) {
+    shared_len_from(one, other, shared_blocks_len(one, other))
+}
+
+// How many bytes are compared together.
+const BLOCK: usize = 16;
+
+// How long the whole blocks are that both begin with.
+fn shared_blocks_len(one: &[u8], other: &[u8]) -> usize
+    ensures shared { take result one.now ≡ take result other.now }
+    ensures within { result ≤ length one.now }
+{
+    let mut at = 0;
+    while shares_block(one, other, at) {
+        at += BLOCK;
+    }
+    at
+}
+
+// Whether both have a whole block there, and the same one.
+fn shares_block(one: &[u8], other: &[u8], at: usize) -> bool
+    requires one { at ≤ length one.now }
+    requires other { at ≤ length other.now }
+    ensures one { OnTrue result (at + BLOCK ≤ length one.now) }
+    ensures other { OnTrue result (at + BLOCK ≤ length other.now) }
+    ensures same { OnTrue result (take BLOCK (drop at one.now) ≡ take BLOCK (drop at other.now)) }
+{
+    one.len() - at >= BLOCK
+        && other.len() - at >= BLOCK
+        && one[at..at + BLOCK] == other[at..at + BLOCK]
+}
+
+// The same, where both begin with the bytes before a place.
+fn shared_len_from(one: &[u8], other: &[u8], at: usize) -> usize
+    requires shared { take at one.now ≡ take at other.now }
+    requires within { at ≤ length one.now }
+    ensures shared { take result one.now ≡ take result other.now }
+    ensures apart { slice_get one.now result ≡ slice_get other.now result
+        → slice_get one.now result ≡ None }
+{
+    for i in at..one.len() {
+        if other.get(i) != one.get(i) {
             return i;
         }
     }
