@@ -1,4 +1,2 @@
 pub mod InPlace
-pub mod Order
-pub mod StampLaws
 pub mod Texts

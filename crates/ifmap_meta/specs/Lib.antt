@@ -4,3 +4,5 @@ pub mod Keys
 pub mod Stamps
 pub mod Stored
 pub mod Whole
+-- Laws on the definitions, which crates above cite.
+pub mod laws

@@ -1,4 +1,4 @@
-use Rattle.ifmap_meta.proofs.Order.{sorted-by_sort}
+use Rattle.ifmap_meta.specs.laws.Order.{sorted-by_sort}
 use Rattle.ifmap_meta.proofs.arranging.put_in_order.Goals as goal
 
 pub returns : goal.returns

@@ -1,0 +1,4 @@
+pub mod ContentLaws
+pub mod Order
+pub mod StampLaws
+pub mod WholeLaws
