@@ -1,4 +1,5 @@
 pub mod ContentLaws
+pub mod KeyLaws
 pub mod Order
 pub mod StampLaws
 pub mod WholeLaws

@@ -5,6 +5,7 @@
 mod arranging;
 pub mod clients;
 pub mod errors;
+pub mod keys;
 pub mod laws;
 pub mod metadata;
 pub mod shared_elements;
@@ -12,6 +13,7 @@ pub mod stored;
 
 pub use clients::ClientName;
 pub use errors::MetaError;
+pub use keys::same_type;
 pub use metadata::{Cardinality, Metadata, cardinality_of, is_single};
 pub use shared_elements::SharedElement;
-pub use stored::{Life, Stored, content, content_bytes, same_type};
+pub use stored::{Life, Stored, content, content_bytes};

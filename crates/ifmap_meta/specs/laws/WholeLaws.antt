@@ -63,7 +63,7 @@ alone_with : (e : Element) (attributes : List Attribute) → IsFitAlone e → Al
     → AllDiffer (map name_of attributes) → IsFitAlone (with_attributes e attributes)
 alone_with e attributes f fit differ = record { name = f.name; attributes = fit; names_differ = differ; children = f.children }
 
-fit_content : (e : Element) → IsFit e → IsFit (content_of e)
+pub fit_content : (e : Element) → IsFit e → IsFit (content_of e)
 fit_content e fit =
     let parts = fit_parts e fit in
     let content : Attribute → Bool = λ a. not (is_stamp a) in
