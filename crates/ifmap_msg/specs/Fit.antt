@@ -1,0 +1,24 @@
+-- Requests that are fit: what they name is written in characters of XML, and what they publish can be published.
+use Rattle.std.specs.Prelude.{List}
+use Rattle.std.specs.List.{AllByRecursion}
+use Rattle.ifmap_elem.specs.Chars.{IsCharacters}
+use Rattle.ifmap_ident.specs.Items.{IsItem}
+use Rattle.ifmap_meta.specs.Whole.{IsMetadata}
+use Rattle.ifmap_msg.specs.declared.requests.PublishOp.{PublishOp}
+use Rattle.ifmap_msg.specs.declared.requests.PublishOp.TheVariants.{Update}
+use Rattle.ifmap_msg.specs.declared.requests.Request.{Request}
+use Rattle.ifmap_msg.specs.declared.requests.Request.TheVariants.{NewSession, EndSession, Publish, Search}
+
+-- it changes an item, by metadata that can be published
+abbrev pub IsFitOp : PublishOp → Type 0
+IsFitOp (Update item elements forever) = IsItem item × AllByRecursion IsMetadata elements
+
+abbrev pub AreFitOps : List PublishOp → Type 0
+AreFitOps ops = AllByRecursion IsFitOp ops
+
+-- a request as a client can send it
+abbrev pub IsFitRequest : Request → Type 0
+IsFitRequest NewSession = Unit {0}
+IsFitRequest (EndSession session) = IsCharacters session
+IsFitRequest (Publish session ops) = IsCharacters session × AreFitOps ops
+IsFitRequest (Search session search) = IsCharacters session
