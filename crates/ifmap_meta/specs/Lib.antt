@@ -1,6 +1,7 @@
 pub mod Cardinality
 pub mod ClientNames
 pub mod Keys
+pub mod KeyWords
 pub mod Stamps
 pub mod Stored
 pub mod Whole

@@ -26,6 +26,9 @@ impl Stored {
 fn have_one_key(one: &Stored, other: &Stored) -> bool
     ensures { IsTrue result ↔ HaveOneKey one.now other.now }
 {
+    if one.element.word() != other.element.word() {
+        return false;
+    }
     let (a, b) = (one.element.element(), other.element.element());
     same_type(a, b)
         && (is_single(a) || (one.publisher.equals(&other.publisher) && same_content(a, b)))

@@ -5,6 +5,7 @@
 mod arranging;
 pub mod clients;
 pub mod errors;
+mod key_words;
 pub mod keys;
 pub mod laws;
 pub mod metadata;

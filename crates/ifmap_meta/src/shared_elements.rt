@@ -1,7 +1,9 @@
 //! Elements that are shared, with their canonical bytes.
 ghost use Rattle.std.specs.Prelude.{◌≡◌, length, IfOk};
 ghost use Rattle.ifmap_elem.specs.Canonical.{canonical_bytes};
+ghost use Rattle.ifmap_meta.specs.KeyWords.{key_word};
 
+use crate::key_words::key_word;
 use ifmap_elem::{Copied, Element, Many, canonical};
 use std::alloc::{AllocError as NoMemory, Global};
 use std::marker::Model;
@@ -12,7 +14,10 @@ use std::sync::Arc;
 struct Printed {
     element: Element,
     bytes: Many<u8>,
+    // The word of its key, where it is stored.
+    word: u64,
     ghost printed: { bytes ≡ canonical_bytes element },
+    ghost worded: { word ≡ key_word element },
 }
 
 /// An element that is never changed and may stand in many places at once, with its canonical bytes.
@@ -38,7 +43,13 @@ impl SharedElement {
         ensures { IfOk result (λ shared. shared ≡ element) }
     {
         let bytes = bytes_of(alloc, &element)?;
-        Ok(SharedElement(Arc::new(alloc, Printed { element, bytes })?))
+        let word = key_word(&element);
+        let printed = Printed {
+            element,
+            bytes,
+            word,
+        };
+        Ok(SharedElement(Arc::new(alloc, printed)?))
     }
 
     /// The same element once more, which takes no memory: nothing is copied. It fails only where it
@@ -61,6 +72,13 @@ impl SharedElement {
         ensures { result.now ≡ canonical_bytes self.now }
     {
         self.0.bytes.as_slice()
+    }
+
+    // The word of its key, where it is stored. It takes no memory.
+    pub(crate) fn word(&self) -> u64
+        ensures { result ≡ key_word self.now }
+    {
+        self.0.word
     }
 
     /// How many canonical bytes it has. It takes no memory.

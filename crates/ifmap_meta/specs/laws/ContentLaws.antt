@@ -1,6 +1,5 @@
 -- Arranging twice is arranging once, and content without stamps stays so.
-use Rattle.std.proofs.Common.{◌≡◌, ℕ, List, [], ◌∷◌, not, map, codes, refl, ap, sym, ◌∙◌}
-use Rattle.std.specs.List.{filter}
+use Rattle.std.proofs.Common.{◌≡◌, List, [], ◌∷◌, not, map, codes, refl, ap, sym, ◌∙◌}
 use Rattle.ifmap_elem.specs.Arranged.{arrange, arrange_child, sort_attributes}
 use Rattle.ifmap_elem.specs.Canonical.{canonical_bytes, root_bytes}
 use Rattle.ifmap_elem.specs.Folds.{Each, by_children}

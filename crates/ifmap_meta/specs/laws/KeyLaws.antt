@@ -1,10 +1,8 @@
 -- Contents of whole elements are one exactly where their bytes are, so keys are told without printing.
-use Rattle.std.proofs.Common.{◌≡◌, ◌↔◌, ◌⊎◌, Bool, true, false, ◌&&◌, ◌||◌, not, IsTrue, map, refl, ap, sym, ◌∙◌, inl, inr}
+use Rattle.std.proofs.Common.{◌≡◌, ◌↔◌, ◌⊎◌, Bool, true, false, ◌&&◌, ◌||◌, not, IsTrue, refl, ap, sym, ◌∙◌, inl, inr}
 use Rattle.std.specs.Str.{bytes_eq}
-use Rattle.std.proofs.lemmas.Bool.{and_parts, cases_Bool}
-use Rattle.ifmap_elem.specs.Arranged.{arrange, arrange_child, sort_attributes}
+use Rattle.ifmap_elem.specs.Arranged.{arrange}
 use Rattle.ifmap_elem.specs.Canonical.{canonical_bytes}
-use Rattle.ifmap_elem.specs.Fit.{IsFit}
 use Rattle.ifmap_elem.specs.declared.elements.Element.{Element}
 use Rattle.ifmap_elem.specs.laws.ArrangedLaws.{arranged_is}
 use Rattle.ifmap_elem.specs.laws.CanonicalSpells.{same_when_alike}

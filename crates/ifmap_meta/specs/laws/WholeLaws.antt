@@ -1,28 +1,26 @@
 -- What is made of an element that a client can send is metadata, and what is stamped of metadata is whole.
-use Rattle.std.proofs.Common.{◌≡◌, ◌≢◌, ℕ, ◌<◌, ◌≤◌, suc, Bool, true, false, not, IsTrue, List, [], ◌∷◌, ◌++◌, map, length, codes, Some, IsSome, refl, ap, sym, ◌∙◌, subst, arith, inl, inr}
-use Rattle.std.specs.Prelude.{encode_utf8_all}
-use Rattle.std.specs.List.{AllByRecursion, filter, list_all}
+use Rattle.std.proofs.Common.{◌≡◌, ◌≢◌, ℕ, ◌≤◌, Bool, true, false, not, List, [], ◌∷◌, ◌++◌, map, length, codes, IsSome, refl, ap, sym, ◌∙◌, subst, arith, inl, inr}
+use Rattle.std.specs.List.{AllByRecursion, filter}
 use Rattle.std.proofs.Common.{◌&&◌, ◌||◌, rules}
 use Rattle.std.proofs.lemmas.Bool.{and_parts, cases_Bool, not-true}
 use Rattle.std.proofs.lemmas.Bool.Decides.{nat_tests}
 use Rattle.ifmap_elem.specs.Arranged.{arrange, arrange_child, sort_attributes}
 use Rattle.ifmap_elem.specs.Canonical.{canonical_bytes}
 use Rattle.ifmap_elem.specs.Chars.{AllAre, IsCharacters, is_character}
-use Rattle.ifmap_elem.specs.Fit.{IsFit, IsFitAlone, IsFitAttribute, IsFitName, IsNamespace}
+use Rattle.ifmap_elem.specs.Fit.{IsFit, IsFitAlone, IsFitAttribute, IsNamespace}
 use Rattle.ifmap_elem.specs.Folds.{at_element}
 use Rattle.ifmap_elem.specs.Building.{bare_name, is_bare}
 use Rattle.ifmap_elem.specs.Names.{IsNamePart, is_name_character}
 use Rattle.ifmap_elem.specs.Nesting.{child_levels, element_levels, nesting}
 use Rattle.ifmap_elem.specs.Scopes.{AllDiffer}
 use Rattle.ifmap_elem.specs.declared.elements.Attribute.{Attribute}
-use Rattle.ifmap_elem.specs.declared.elements.Child.{Child}
 use Rattle.ifmap_elem.specs.declared.elements.Element.{Element}
 use Rattle.ifmap_elem.specs.declared.elements.Name.{Name}
 use Rattle.ifmap_elem.specs.laws.ArrangedLaws.{arranged_is}
 use Rattle.ifmap_elem.specs.laws.FitLaws.{fit_arranged, fit_parts, fit_whole, nesting_arranged}
 use Rattle.ifmap_io.specs.Calendar.{Civil, civil_of, civil_text, digit, moment_text}
 use Rattle.ifmap_lemmas.specs.Filters.{all_filter, filter_passes}
-use Rattle.ifmap_lemmas.specs.Members.{all_both, all_of_map, all_of_test, all_weaker, both_all, map_of_all}
+use Rattle.ifmap_lemmas.specs.Members.{all_of_map, all_of_test, all_weaker, both_all, map_of_all}
 use Rattle.ifmap_lemmas.specs.Texts.{ascii_encoded, is_ascii}
 use Rattle.ifmap_meta.specs.declared.metadata.Metadata.{Metadata}
 use Rattle.ifmap_meta.specs.declared.stored.Life.{Life}

@@ -1,4 +1,4 @@
-use Rattle.std.proofs.Common.{◌≡◌, sym, ◌∙◌, subst, arith}
+use Rattle.std.proofs.Common.{arith}
 use Rattle.ifmap_elem.specs.Arranged.{arrange_child}
 use Rattle.ifmap_meta.proofs.InPlace.{one_more}
 use Rattle.ifmap_meta.proofs.arranging.+arranging.Goals as goal
