@@ -1,7 +1,6 @@
--- Requests that are fit: what they name is written in characters of XML, and what they publish can be published.
+-- Requests that are fit: what they publish can be published.
 use Rattle.std.specs.Prelude.{List}
 use Rattle.std.specs.List.{AllByRecursion}
-use Rattle.ifmap_elem.specs.Chars.{IsCharacters}
 use Rattle.ifmap_ident.specs.Items.{IsItem}
 use Rattle.ifmap_meta.specs.Whole.{IsMetadata}
 use Rattle.ifmap_msg.specs.declared.requests.PublishOp.{PublishOp}
@@ -16,9 +15,9 @@ IsFitOp (Update item elements forever) = IsItem item × AllByRecursion IsMetadat
 abbrev pub AreFitOps : List PublishOp → Type 0
 AreFitOps ops = AllByRecursion IsFitOp ops
 
--- a request as a client can send it
+-- each of its operations is fit
 abbrev pub IsFitRequest : Request → Type 0
 IsFitRequest NewSession = Unit {0}
-IsFitRequest (EndSession session) = IsCharacters session
-IsFitRequest (Publish session ops) = IsCharacters session × AreFitOps ops
-IsFitRequest (Search session search) = IsCharacters session
+IsFitRequest (EndSession session) = Unit {0}
+IsFitRequest (Publish session ops) = AreFitOps ops
+IsFitRequest (Search session search) = Unit {0}
