@@ -66,24 +66,33 @@ local_is_ascii b h = grind (arith, nat_tests)
 lower_begins : (b : ℕ) → is_lower b ≡ true → is_name_start b ≡ true
 lower_begins b h = grind (arith, nat_tests)
 
+begins_goes_on : (b : ℕ) → is_name_start b ≡ true → is_name_character b ≡ true
+begins_goes_on b h = rw h refl
+
 local_goes_on : (b : ℕ) → is_local_byte b ≡ true → is_name_character b ≡ true
-local_goes_on b h = grind (arith, nat_tests)
+local_goes_on b h = elim (cases_Bool (is_lower b)) [
+  | inl e ↦ begins_goes_on b (lower_begins b e)
+  | inr e ↦
+      let q : (b == 45) ≡ true = sym (ap (λ (t : Bool). t || (b == 45)) e) ∙ h in
+      let n : b ≡ 45 = grind (arith, nat_tests, q) in
+      subst (λ (n : ℕ). is_name_character n ≡ true) (sym n) refl
+]
 
 value_characters : (value : List ℕ) → is_value value ≡ true → IsCharacters value
 value_characters value h =
     both_are value (all_weaker is_value_byte is_both value_is_both value (all_of_test is_value_byte value
-    (and_parts _ _ (and_parts _ _ h).1).1))
+    (and_parts (nat_le 1 (length value) && nat_le (length value) 100) (list_all is_value_byte value) h).1))
 
 local_part : (local : List ℕ) → is_local local ≡ true → IsNamePart local
 local_part [] h = absurd (let q : false ≡ true = h in cc)
 local_part (b ∷ bs) h =
-    let parts = and_parts (is_lower b) (nat_le (length (b ∷ bs)) 60 && list_all is_local_byte (b ∷ bs)) h in
-    let all = all_of_test is_local_byte (b ∷ bs) (and_parts (nat_le (length (b ∷ bs)) 60) (list_all is_local_byte (b ∷ bs)) parts.1).1 in
+    let parts = and_parts (is_lower b && nat_le (length (b ∷ bs)) 60) (list_all is_local_byte (b ∷ bs)) h in
+    let all = all_of_test is_local_byte (b ∷ bs) parts.1 in
     record {
       first = b;
       others = bs;
       bytes_are = ascii_encoded (b ∷ bs) (all_weaker is_local_byte is_ascii local_is_ascii (b ∷ bs) all);
-      begins = lower_begins b parts.0;
+      begins = lower_begins b (and_parts (is_lower b) (nat_le (length (b ∷ bs)) 60) parts.0).0;
       goes_on = all_weaker is_local_byte is_name_character local_goes_on bs all.1;
     }
 
@@ -298,8 +307,10 @@ published_is_metadata p is = record {
   bare = bare_content p.local p.cardinality p.value;
   cardinality = says_so p.local p.cardinality p.value;
   size = element_is_short p.local p.cardinality p.value
-      (at_most (length p.local) 60 (and_parts _ _ (and_parts _ _ is.local).1).0)
-      (at_most (length p.value) 100 (and_parts _ _ (and_parts _ _ is.value).1).0);
+      (at_most (length p.local) 60 (and_parts (is_lower (get_or p.local 0 0)) (nat_le (length p.local) 60)
+      (and_parts (is_lower (get_or p.local 0 0) && nat_le (length p.local) 60) (list_all is_local_byte p.local) is.local).0).1)
+      (at_most (length p.value) 100 (and_parts (nat_le 1 (length p.value)) (nat_le (length p.value) 100)
+      (and_parts (nat_le 1 (length p.value) && nat_le (length p.value) 100) (list_all is_value_byte p.value) is.value).0).1);
 }
 
 -- each request that a body means is fit
