@@ -136,4 +136,4 @@ fn main(rt: HostRuntime) -> io::Result<()> {
 }
 RATTLE
 cd "$work/crates/meta_bench"
-rt try
+rt run
