@@ -2,57 +2,54 @@
 # Times the graph: attachments on different addresses, put in in no order.
 # Run from anywhere: sh bench/graph.sh. It needs `rt`, and builds in a new folder under TMPDIR.
 . "$(dirname "$0")/common.sh"
-prepare graph_bench 'ifmap_elem ifmap_graph ifmap_ident ifmap_meta'
+prepare graph_bench 'ifmap_elem ifmap_graph ifmap_ident ifmap_io ifmap_meta ifmap_reader'
 cat > "$work/crates/graph_bench/src/main.rt" <<'RATTLE'
 //! Attaches metadata to addresses in no order, looks each up, and ends a session.
 #![tactic(auto)]
 
-use ifmap_elem::{Attribute, Child, Element, Many, Name, Text};
+ghost use Rattle.std.specs.Prelude.{IfOk};
+ghost use Rattle.ifmap_ident.specs.Items.{IsItem};
+ghost use Rattle.ifmap_meta.specs.Whole.{IsMetadata};
+
+use ifmap_elem::Text;
 use ifmap_graph::{Graph, KeptAttachment};
 use ifmap_ident::{Identifier, Item};
-use ifmap_meta::{ClientName, Life, Stored};
+use ifmap_io::Moment;
+use ifmap_meta::{ClientName, Life, Metadata};
+use ifmap_reader::read;
 use std::alloc::{AllocError, Global};
 use std::io;
 use std::rt::Runtime;
 use std::time::Instant;
 
-const META: &str = "http://www.trustedcomputinggroup.org/2010/IFMAP-METADATA/2";
+const ROLE: &str = "<m:role xmlns:m=\"http://www.trustedcomputinggroup.org/2010/IFMAP-METADATA/2\" ifmap-cardinality=\"multiValue\"><name>employee</name></m:role>";
 
-fn attribute(alloc: Global, local: &str, value: &str) -> Result<Attribute, AllocError> {
-    let value = Text::from_str(alloc, value)?;
-    Attribute::bare(alloc, local, value)
+fn role(alloc: Global) -> Result<Metadata, AllocError>
+    ensures { IfOk result IsMetadata }
+{
+    let Ok(reading) = read(alloc, ROLE.as_bytes(), 64) else {
+        return Err(AllocError);
+    };
+    match Metadata::from_element(alloc, reading.root) {
+        Ok(metadata) => Ok(metadata),
+        Err(_) => Err(AllocError),
+    }
 }
 
-fn leaf(alloc: Global, words: &str) -> Result<Child, AllocError> {
-    let mut members = Vec::new(alloc);
-    members.push(Child::Text(Text::from_str(alloc, words)?))?;
-    Ok(Child::Element(Element::bare(alloc, "name", Vec::new(alloc), members)?))
-}
-
-fn role(alloc: Global) -> Result<Element, AllocError> {
-    let name = Name::new(alloc, META, "role")?;
-    let mut attributes = Vec::new(alloc);
-    attributes.push(attribute(alloc, "ifmap-cardinality", "multiValue")?)?;
-    attributes.push(attribute(alloc, "ifmap-publisher-id", "pdp-17")?)?;
-    attributes.push(attribute(alloc, "ifmap-timestamp", "2026-11-27T01:23:45Z")?)?;
-    let mut members = Vec::new(alloc);
-    members.push(leaf(alloc, "employee")?)?;
-    let attributes = Many(attributes);
-    let children = Many(members);
-    Ok(Element { name, attributes, children })
-}
-
-fn item(alloc: Global, number: u32) -> Result<Item, AllocError> {
+fn item(alloc: Global, number: u32) -> Result<Item, AllocError>
+    ensures { IfOk result IsItem }
+{
     let [a, b, c, d] = number.wrapping_mul(2_654_435_761).to_be_bytes();
     let domain = Text(String::new(alloc));
     Ok(Item::One(Identifier::MacAddress { value: [0, 2, a, b, c, d], domain }))
 }
 
 fn attachment_of(alloc: Global, number: u32) -> Result<KeptAttachment, AllocError> {
-    let element = role(alloc)?;
     let publisher = ClientName::new(Text::from_str(alloc, "pdp-17")?).ok_or(AllocError)?;
+    let moment = Moment::new(1_000_000_000).ok_or(AllocError)?;
     let life = Life::Session(u64::from(number % 2));
-    KeptAttachment::new(alloc, item(alloc, number)?, Stored { element, publisher, life })
+    let stored = role(alloc)?.stamp(alloc, &publisher, moment, life)?;
+    KeptAttachment::new(alloc, item(alloc, number)?, stored)
 }
 
 fn attachments_of(alloc: Global, count: u32) -> Result<Vec<KeptAttachment>, AllocError> {

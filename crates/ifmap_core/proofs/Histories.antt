@@ -15,11 +15,17 @@ use Rattle.std.specs.declared.cmp.Ordering.TheVariants.{Less}
 use Rattle.ifmap_core.specs.declared.events.Answer.{Answer}
 use Rattle.ifmap_core.specs.declared.events.Ask.{Ask}
 use Rattle.ifmap_core.specs.declared.events.Ask.TheVariants.{Request}
-use Rattle.ifmap_core.specs.declared.events.Event.{Event}
+use Rattle.ifmap_core.specs.Events.{Event, IsFitAsk}
+use Rattle.ifmap_graph.specs.Attachments.{IsWholeAttachment}
+use Rattle.ifmap_ident.specs.Items.{IsItem}
+use Rattle.ifmap_meta.specs.ClientNames.{IsClientName}
+use Rattle.ifmap_meta.specs.Whole.{IsMetadata}
+use Rattle.ifmap_meta.specs.laws.WholeLaws.{stamped_is_whole}
+use Rattle.ifmap_msg.specs.Fit.{AreFitOps, IsFitOp}
 use Rattle.ifmap_core.specs.declared.sessions.Session.{Session}
 use Rattle.ifmap_core.specs.Apply.{Authorship, apply, apply_op, attachment_of, life_of, update}
 use Rattle.ifmap_core.specs.Fresh.{found_attachments, size_of}
-use Rattle.ifmap_core.specs.Legal.{AreNumberedAfter, History, LegalFrom, ids_given_by, ids_given, live_clients, state_after}
+use Rattle.ifmap_core.specs.Legal.{AreFit, AreNumberedAfter, History, LegalFrom, ids_given_by, ids_given, live_clients, state_after}
 use Rattle.ifmap_core.specs.Lives.{AllLive, IsLifeFor}
 use Rattle.ifmap_core.specs.SessionIds.{session_id}
 use Rattle.ifmap_core.specs.State.{State, advance, is_text, opening, session_of_client, session_with_id, session_with_serial, without_sessions}
@@ -291,7 +297,7 @@ its_life sessions by true h = tt
 its_life sessions by false h = h
 
 -- graphs stay graphs
-module _ (attached_graph : (graph : List Attachment) (a : Attachment) → IsGraph graph
+module _ (attached_graph : (graph : List Attachment) (a : Attachment) → IsWholeAttachment a → IsGraph graph
     → IsGraph (attach graph a)) (retracted_graph : (serial : ℕ) (graph : List Attachment) → IsGraph graph
     → IsGraph (retract serial graph)) where
   ended_sound : (serial : ℕ) (state : State) → IsSound state → IsSound (end_sessions (serial ∷ []) state)
@@ -318,67 +324,80 @@ module _ (attached_graph : (graph : List Attachment) (a : Attachment) → IsGrap
   new_sound state client random (Some s) w = begun_sound client random (end_sessions (s.serial ∷ []) state) (ended_sound s.serial state w)
 
   update_sound : (state : State) (by : Authorship) (item : Item) (forever : Bool) → IsAuthor state.sessions by
-      → (elements : List Metadata) (graph : List Attachment) → IsSound (record state { graph = graph })
+      → IsClientName by.client → IsItem item → (elements : List Metadata) → AllByRecursion IsMetadata elements
+      → (graph : List Attachment) → IsSound (record state { graph = graph })
       → IsSound (record state { graph = update graph by item forever elements })
-  update_sound state by item forever h [] graph w = w
-  update_sound state by item forever h (m ∷ elements) graph w =
+  update_sound state by item forever h name is [] met graph w = w
+  update_sound state by item forever h name is (m ∷ elements) met graph w =
       let a : Attachment = attachment_of by item forever m in
-      update_sound state by item forever h elements (attach graph a) (record {
-        graph = attached_graph graph a w.graph;
+      update_sound state by item forever h name is elements met.1 (attach graph a) (record {
+        graph = attached_graph graph a (record {
+          item = is;
+          stored = stamped_is_whole m by.client by.moment (life_of by.serial forever) met.0 name;
+        }) w.graph;
         lives = all_attached (λ (b : Attachment). IsLifeFor state.sessions b.stored.publisher b.stored.life) graph a w.lives
             (its_life state.sessions by forever h);
       })
 
-  op_sound : (state : State) (by : Authorship) → IsAuthor state.sessions by → (op : PublishOp) (graph : List Attachment)
+  op_sound : (state : State) (by : Authorship) → IsAuthor state.sessions by → IsClientName by.client
+      → (op : PublishOp) → IsFitOp op → (graph : List Attachment)
       → IsSound (record state { graph = graph }) → IsSound (record state { graph = apply_op graph by op })
-  op_sound state by h (Update item elements forever) graph w = update_sound state by item forever h elements graph w
+  op_sound state by h name (Update item elements forever) fit graph w =
+      update_sound state by item forever h name fit.0 elements fit.1 graph w
 
-  apply_sound : (state : State) (by : Authorship) → IsAuthor state.sessions by → (ops : List PublishOp) (graph : List Attachment)
+  apply_sound : (state : State) (by : Authorship) → IsAuthor state.sessions by → IsClientName by.client
+      → (ops : List PublishOp) → AreFitOps ops → (graph : List Attachment)
       → IsSound (record state { graph = graph }) → IsSound (record state { graph = apply graph by ops })
-  apply_sound state by h [] graph w = w
-  apply_sound state by h (op ∷ ops) graph w = apply_sound state by h ops (apply_op graph by op) (op_sound state by h op graph w)
+  apply_sound state by h name [] fit graph w = w
+  apply_sound state by h name (op ∷ ops) fit graph w =
+      apply_sound state by h name ops fit.1 (apply_op graph by op) (op_sound state by h name op fit.0 graph w)
 
   publish_sound : (state : State) (ops : List PublishOp) (q : Session → Bool) (s : Session) → IsWhole state → IsSound state
-      → find q state.sessions ≡ Some s → IsSound (publish state ops s).0
+      → find q state.sessions ≡ Some s → IsClientName s.client → AreFitOps ops → IsSound (publish state ops s).0
   unfolding IsAuthor
-  publish_sound state ops q s whole w e =
+  publish_sound state ops q s whole w e name fit =
       apply_sound state (record { client = s.client; serial = s.serial; moment = state.moment })
-      (s, found_by_serial q state.sessions s whole.rising e, refl) ops state.graph w
+      (s, found_by_serial q state.sessions s whole.rising e, refl) name ops fit state.graph w
 
   in_session_sound : (state : State) (client : List ℕ) (accept : Session → State × Answer) (o : Option Session)
-      → ((s : Session) → o ≡ Some s → IsSound (accept s).0) → IsSound state → IsSound (in_session state client o accept).0
+      → ((s : Session) → o ≡ Some s → is_text s.client client ≡ true → IsSound (accept s).0)
+      → IsSound state → IsSound (in_session state client o accept).0
   in_session_sound state client accept None f w = w
   in_session_sound state client accept (Some s) f w =
-      elim (cases_Bool (is_text s.client client)) [ inl hit ↦ rw hit (f s refl) | inr miss ↦ rw miss w ]
+      elim (cases_Bool (is_text s.client client)) [ inl hit ↦ rw hit (f s refl hit) | inr miss ↦ rw miss w ]
 
-  step_sound : (state : State) (event : Event) (ask : Ask) → IsWhole state → IsSound state → IsSound (step_ask state event ask).0
-  step_sound state event (Request the_request.NewSession) whole w =
+  step_sound : (state : State) (event : Event) (ask : Ask) → IsClientName event.client → IsFitAsk ask → IsWhole state → IsSound state
+      → IsSound (step_ask state event ask).0
+  step_sound state event (Request the_request.NewSession) name fit whole w =
       elim (cases_Bool (is_full state event.client)) [
         | inl hit ↦ rw hit w
         | inr miss ↦ rw miss (new_sound state event.client event.random (session_of_client event.client state.sessions) w)
       ]
-  step_sound state event (Request (the_request.EndSession id)) whole w =
-      in_session_sound state event.client (end_session state) (session_with_id id state.sessions) (λ s e. ended_sound s.serial state w) w
-  step_sound state event (Request (the_request.Publish id ops)) whole w =
+  step_sound state event (Request (the_request.EndSession id)) name fit whole w =
+      in_session_sound state event.client (end_session state) (session_with_id id state.sessions) (λ s e own. ended_sound s.serial state w) w
+  step_sound state event (Request (the_request.Publish id ops)) name fit whole w =
       in_session_sound state event.client (publish state ops) (session_with_id id state.sessions)
-      (λ s e. publish_sound state ops (λ (t : Session). is_text t.id id) s whole w e) w
-  step_sound state event (Request (the_request.Search id search)) whole w =
-      in_session_sound state event.client (λ s. (state, search_answer state.graph search)) (session_with_id id state.sessions) (λ s e. w) w
+      (λ s e own. publish_sound state ops (λ (t : Session). is_text t.id id) s whole w e
+      (subst IsClientName (sym (text_is s.client event.client own)) name) fit) w
+  step_sound state event (Request (the_request.Search id search)) name fit whole w =
+      in_session_sound state event.client (λ s. (state, search_answer state.graph search)) (session_with_id id state.sessions) (λ s e own. w) w
 
-  after_sound : (state : State) (history : History) → IsWhole state → IsSound state → IsSound (state_after state history)
-  after_sound state [] whole w = w
-  after_sound state (e ∷ history) whole w =
-      after_sound (step state e.0).0 history (step_whole (advance e.0.moment state) e.0 e.0.ask (advanced_whole e.0.moment state whole))
-      (step_sound (advance e.0.moment state) e.0 e.0.ask (advanced_whole e.0.moment state whole)
+  after_sound : (state : State) (history : History) → AreFit history → IsWhole state → IsSound state → IsSound (state_after state history)
+  after_sound state [] fit whole w = w
+  after_sound state (e ∷ history) fit whole w =
+      after_sound (step state e.0).0 history fit.1
+      (step_whole (advance e.0.moment state) e.0 e.0.ask (advanced_whole e.0.moment state whole))
+      (step_sound (advance e.0.moment state) e.0 e.0.ask fit.0.client fit.0.ask (advanced_whole e.0.moment state whole)
       (record { graph = w.graph; lives = w.lives }))
 
-  sound_after : (empty : IsGraph []) (ttl : ℕ) (history : History) → IsSound (state_after (opening ttl) history)
-  sound_after empty ttl history = after_sound (opening ttl) history (opening_whole ttl) (record { graph = empty; lives = tt })
+  sound_after : (empty : IsGraph []) (ttl : ℕ) (history : History) → AreFit history → IsSound (state_after (opening ttl) history)
+  sound_after empty ttl history fit =
+      after_sound (opening ttl) history fit (opening_whole ttl) (record { graph = empty; lives = tt })
 
-  pub graph_after : (empty : IsGraph []) (ttl : ℕ) (history : History) → IsGraph (state_after (opening ttl) history).graph
-  graph_after empty ttl history = (sound_after empty ttl history).graph
+  pub graph_after : (empty : IsGraph []) (ttl : ℕ) (history : History) → AreFit history → IsGraph (state_after (opening ttl) history).graph
+  graph_after empty ttl history fit = (sound_after empty ttl history fit).graph
 
-  pub all_live : (empty : IsGraph []) (ttl : ℕ) (history : History) → AllLive (state_after (opening ttl) history)
-  all_live empty ttl history =
+  pub all_live : (empty : IsGraph []) (ttl : ℕ) (history : History) → AreFit history → AllLive (state_after (opening ttl) history)
+  all_live empty ttl history fit =
       All-from_recursion (λ (a : Attachment). IsLifeFor (state_after (opening ttl) history).sessions a.stored.publisher a.stored.life)
-      (state_after (opening ttl) history).graph (sound_after empty ttl history).lives
+      (state_after (opening ttl) history).graph (sound_after empty ttl history fit).lives

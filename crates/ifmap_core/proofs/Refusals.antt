@@ -8,7 +8,7 @@ use Rattle.std.proofs.lemmas.Bool.Decides.{nat_tests}
 use Rattle.ifmap_core.specs.declared.events.Answer.{Answer}
 use Rattle.ifmap_core.specs.declared.events.Ask.{Ask}
 use Rattle.ifmap_core.specs.declared.events.Ask.TheVariants.{Request}
-use Rattle.ifmap_core.specs.declared.events.Event.{Event}
+use Rattle.ifmap_core.specs.Events.{Event}
 use Rattle.ifmap_core.specs.declared.sessions.Session.{Session}
 use Rattle.ifmap_core.specs.Causes.{AsksForNoneLeft, FindsTooMuch, IsRefusal, NamesAnothersSession, NamesNoSession}
 use Rattle.ifmap_core.specs.Fresh.{found_attachments, size_of}

@@ -1,8 +1,9 @@
 -- Histories of the machine.
 use Rattle.std.specs.Prelude.{◌≡◌, ℕ, ◌+◌, List, [], ◌∷◌, ◌++◌, map}
+use Rattle.std.specs.List.{AllByRecursion}
 use Rattle.ifmap_core.specs.declared.events.Answer.{Answer}
 use Rattle.ifmap_core.specs.declared.events.Answer.TheVariants as the_answer
-use Rattle.ifmap_core.specs.declared.events.Event.{Event}
+use Rattle.ifmap_core.specs.Events.{Event, IsFitEvent}
 use Rattle.ifmap_core.specs.declared.sessions.Session.{Session}
 use Rattle.ifmap_core.specs.SessionIds.{session_id}
 use Rattle.ifmap_core.specs.State.{State, opening}
@@ -21,6 +22,10 @@ LegalFrom state (e ∷ history) = (e.1 ≡ (step state e.0).1) × LegalFrom (ste
 -- the same, from the opening state
 abbrev pub Legal : ℕ → History → Type 0
 Legal ttl history = LegalFrom (opening ttl) history
+
+-- each event is fit
+abbrev pub AreFit : History → Type 0
+AreFit history = AllByRecursion (λ (e : Event × Answer). IsFitEvent e.0) history
 
 -- the state after the events of a history
 abbrev pub state_after : State → History → State

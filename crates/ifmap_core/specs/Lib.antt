@@ -1,6 +1,7 @@
 pub mod Apply
 pub mod Attachments
 pub mod Causes
+pub mod Events
 pub mod Fresh
 pub mod Legal
 pub mod Lives

@@ -2,6 +2,7 @@
 use ifmap_io::Moment;
 use ifmap_meta::ClientName;
 use ifmap_msg::{Reply, Request};
+use std::marker::Model;
 
 /// What is asked of the machine.
 #[derive(Debug, Drop)]
@@ -10,7 +11,8 @@ pub enum Ask {
     Request(Request),
 }
 
-/// One event: a request with all that its answer depends on beside the state.
+/// One event: a request with all that its answer depends on beside the state. The request is fit:
+/// what it publishes can be published.
 #[derive(Debug, Drop)]
 pub struct Event {
     /// When the request came. Where the state's moment is later, that one stands.
@@ -25,6 +27,27 @@ pub struct Event {
     pub bytes: u32,
     /// What is asked.
     pub ask: Ask,
+}
+
+impl Model for Event {
+    ghost use Rattle.ifmap_core.specs.contracts.events.Ask as the_ask;
+    ghost use Rattle.std.specs.Coded.{codes};
+    ghost use Rattle.ifmap_core.specs.Events as events;
+
+    ghost Value = { events.Event };
+
+    ghost coded = { Prim.hlevel (codes, the_ask.the_row.coded) };
+
+    ghost view = { λ event. record {
+      moment = event.moment;
+      client = event.client;
+      random = event.random;
+      again = event.again;
+      bytes = event.bytes;
+      ask = event.ask;
+    } };
+
+    ghost invariant = { λ event. events.IsFitAsk event.ask };
 }
 
 /// The answer to an event.

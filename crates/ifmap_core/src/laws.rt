@@ -1,6 +1,6 @@
 //! Laws of the machine, over all its histories.
 ghost use Rattle.std.specs.Prelude.{◌≢◌, ◌≤◌, ℕ, All, AllPairs, length};
-ghost use Rattle.ifmap_core.specs.Legal.{AreNumberedAfter, History, Legal, ids_given, live_clients, state_after};
+ghost use Rattle.ifmap_core.specs.Legal.{AreFit, AreNumberedAfter, History, Legal, ids_given, live_clients, state_after};
 ghost use Rattle.ifmap_core.specs.Lives.{AllLive};
 ghost use Rattle.ifmap_core.specs.State.{opening};
 ghost use Rattle.ifmap_core.specs.Step.{most_sessions};
@@ -23,12 +23,13 @@ pub fn sessions_are_numbered_and_apart()
         → length (state_after (opening ttl) history).sessions ≤ most_sessions }
 {}
 
-/// After every legal history the graph rises strictly and its keys are distinct, and what is to stay
-/// as long as a session belongs to a live session of the client that published it.
+/// After every legal history of fit events the graph rises strictly, its keys are distinct and its
+/// attachments whole, and what is to stay as long as a session belongs to a live session of the client
+/// that published it.
 pub fn attachments_are_apart_and_live()
-    ensures graph { (ttl : ℕ) (history : History) → Legal ttl history
+    ensures graph { (ttl : ℕ) (history : History) → Legal ttl history → AreFit history
         → IsGraph (state_after (opening ttl) history).graph }
-    ensures lives { (ttl : ℕ) (history : History) → Legal ttl history
+    ensures lives { (ttl : ℕ) (history : History) → Legal ttl history → AreFit history
         → AllLive (state_after (opening ttl) history) }
 {
     graphs_stay_graphs();

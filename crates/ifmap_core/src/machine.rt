@@ -6,7 +6,9 @@ ghost use Rattle.ifmap_core.specs.Causes.{AsksForNoneLeft, FindsTooMuch, IsRefus
 ghost use Rattle.ifmap_core.specs.Attachments.{attach_all};
 ghost use Rattle.ifmap_core.specs.State.{State, advance, opening, session_with_id};
 ghost use Rattle.ifmap_core.specs.Step.{end_session, in_session, is_full, new_session, publish, refusal, search_answer, step, step_ask};
+ghost use Rattle.ifmap_graph.specs.Graph.{IsGraph};
 ghost use Rattle.ifmap_ident.specs.declared.codes.Code.{Code};
+ghost use Rattle.ifmap_msg.specs.Fit.{AreFitOps};
 
 use crate::events::{Answer, Ask, Event};
 use crate::publishing::Author;
@@ -71,8 +73,8 @@ impl Core {
 
     /// Answers an event. The answer and the state after it are those of `step`; the one error is
     /// want of memory, also told of a search whose result would have 2^64 bytes or more; it leaves the
-    /// state as it was. A refusal takes the event's moment in and changes nothing else. No link is
-    /// looked at. No session expires yet, so `ttl` changes nothing.
+    /// state as it was. A refusal takes the event's moment in and changes nothing else. After each
+    /// event the attachments rise, their keys differ and each is whole. No link is looked at. No session expires yet, so `ttl` changes nothing.
     pub fn step<L: Ledger>(
         &mut self,
         alloc: Global,
@@ -84,6 +86,7 @@ impl Core {
         ensures refusal { IfOk result (λ answer. (code : Code) → IsRefusal code answer
             → self.new ≡ advance event.now.moment self.old) }
         ensures cost { steps.new ≡ steps.old }
+        ensures graph { IsGraph self.new.graph }
 
         // Each refusal comes exactly where its cause stands.
         ensures invalid_session { IfOk result
@@ -98,7 +101,9 @@ impl Core {
     {
         let before = self.moment;
         self.moment = before.max(event.moment);
-        match self.answer(alloc, event) {
+        let outcome = self.answer(alloc, event);
+        self.graph.is_graph();
+        match outcome {
             Ok(answer) => Ok(answer),
             Err(no_memory) => {
                 self.moment = before;
@@ -191,6 +196,7 @@ impl Core {
         ops: &Many<PublishOp>,
         client: &ClientName,
     ) -> Result<Answer, NoMemory>
+        requires { AreFitOps ops.now }
         ensures answer { IfOk result (λ answer. (self.new, answer)
             ≡ in_session self.old client.now (session_with_id id.now self.old.sessions)
             (publish self.old ops.now)) }
@@ -213,6 +219,7 @@ impl Core {
         client: &ClientName,
         serial: u64,
     ) -> Result<(), NoMemory>
+        requires { AreFitOps ops.now }
         ensures ok { OnOk result (self.new ≡ record self.old {
           graph = apply self.old.graph (record
               { client = client.now; serial = serial; moment = self.old.moment }) ops.now;

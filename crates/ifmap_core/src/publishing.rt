@@ -1,7 +1,11 @@
 //! The attachments that a publish attaches.
 ghost use Rattle.std.specs.Prelude.{◌≡◌, ◌++◌, IfOk, OnOk};
+ghost use Rattle.std.specs.List.{AllByRecursion};
 ghost use Rattle.ifmap_core.specs.Apply.{attachment_of, life_of};
 ghost use Rattle.ifmap_core.specs.Attachments.{authorship, attachments_of, attachments_of_op, attachments_of_update};
+ghost use Rattle.ifmap_ident.specs.Items.{IsItem};
+ghost use Rattle.ifmap_meta.specs.Whole.{IsMetadata};
+ghost use Rattle.ifmap_msg.specs.Fit.{AreFitOps, IsFitOp};
 
 use ifmap_elem::{Copied, Many};
 use ifmap_graph::KeptAttachment;
@@ -26,6 +30,7 @@ impl<'a> Author<'a> {
         alloc: Global,
         ops: &Many<PublishOp>,
     ) -> Result<Vec<KeptAttachment>, NoMemory>
+        requires { AreFitOps ops.now }
         ensures { IfOk result (λ attachments. attachments.items
             ≡ attachments_of (authorship self.now) ops.now) }
     {
@@ -43,6 +48,7 @@ impl<'a> Author<'a> {
         op: &PublishOp,
         attachments: &mut Vec<KeptAttachment>,
     ) -> Result<(), NoMemory>
+        requires { IsFitOp op.now }
         ensures { OnOk result (attachments.new.items
             ≡ attachments.old.items ++ attachments_of_op (authorship self.now) op.now) }
     {
@@ -63,6 +69,8 @@ impl<'a> Author<'a> {
         forever: bool,
         attachments: &mut Vec<KeptAttachment>,
     ) -> Result<(), NoMemory>
+        requires item { IsItem item.now }
+        requires elements { AllByRecursion IsMetadata elements.now }
         ensures { OnOk result (attachments.new.items
             ≡ attachments.old.items ++ attachments_of_update (authorship self.now) item.now forever
             elements.now) }
@@ -81,6 +89,8 @@ impl<'a> Author<'a> {
         metadata: &Metadata,
         forever: bool,
     ) -> Result<KeptAttachment, NoMemory>
+        requires item { IsItem item.now }
+        requires metadata { IsMetadata metadata.now }
         ensures { IfOk result (λ attachment. attachment
             ≡ attachment_of (authorship self.now) item.now forever
             metadata.now) }

@@ -54,7 +54,7 @@ fn entry_of(alloc: Global, attachment: &KeptAttachment) -> Result<Entry, NoMemor
 {
     Ok(Entry {
         item: attachment.item().copy(alloc)?,
-        element: attachment.stored().element.copy(alloc)?,
+        element: attachment.stored().element.element().copy(alloc)?,
     })
 }
 

@@ -1,12 +1,13 @@
 //! Histories of the machine: events one after another, and what each is answered.
-ghost use Rattle.std.specs.Prelude.{◌≡◌, ◌<◌};
+ghost use Rattle.std.specs.Prelude.{◌≡◌, ◌<◌, IfOk};
+ghost use Rattle.ifmap_msg.specs.Fit.{IsFitOp, IsFitRequest};
 
-use crate::roles::{mac_address, role};
+use crate::roles::{mac_address, role_to_publish};
 use ifmap_core::{Answer, Ask, Core, Event};
-use ifmap_elem::{Attribute, Child, Element, Many, Text};
+use ifmap_elem::{Child, Element, Many, Text};
 use ifmap_ident::Item;
 use ifmap_io::Moment;
-use ifmap_meta::{Cardinality, ClientName, Metadata};
+use ifmap_meta::{Cardinality, ClientName};
 use ifmap_msg::{Entry, PublishOp, Reply, Request, Search};
 use ifmap_steps::Steps;
 use std::alloc::Global;
@@ -40,7 +41,10 @@ enum Asks {
 /// An event, with its random word, and the answer in words.
 type Turn = (u64, &'static str, u128, Asks, &'static str);
 
-fn publish(alloc: Global, id: &str, update: PublishOp) -> Result<Request, Fail> {
+fn publish(alloc: Global, id: &str, update: PublishOp) -> Result<Request, Fail>
+    requires { IsFitOp update }
+    ensures { IfOk result IsFitRequest }
+{
     Ok(Request::Publish {
         session: Text::from_str(alloc, id)?,
         ops: Many(Vec::from_array(alloc, [update])?),
@@ -52,18 +56,14 @@ fn update(
     name: &str,
     cardinality: Cardinality,
     forever: bool,
-) -> Result<PublishOp, Fail> {
+) -> Result<PublishOp, Fail>
+    ensures { IfOk result IsFitOp }
+{
     let value = match cardinality {
         Cardinality::Single => "singleValue",
         Cardinality::Multi => "multiValue",
     };
-    let value = Text::from_str(alloc, value)?;
-    let attribute = Attribute::bare(alloc, "ifmap-cardinality", value)?;
-    let attributes = Vec::from_array(alloc, [attribute])?;
-    let metadata = Metadata {
-        element: role(alloc, attributes, name)?,
-        cardinality,
-    };
+    let metadata = role_to_publish(alloc, value, name)?;
     Ok(PublishOp::Update {
         item: Item::One(mac_address(alloc, 1)),
         elements: Many(Vec::from_array(alloc, [metadata])?),
@@ -71,7 +71,9 @@ fn update(
     })
 }
 
-fn request(alloc: Global, asks: Asks) -> Result<Request, Fail> {
+fn request(alloc: Global, asks: Asks) -> Result<Request, Fail>
+    ensures { IfOk result IsFitRequest }
+{
     match asks {
         Asks::New => Ok(Request::NewSession),
         Asks::End(id) => Ok(Request::EndSession {

@@ -1,6 +1,11 @@
 //! The elements of the tests: `role` of the standard's metadata.
+ghost use Rattle.std.specs.Prelude.{IfOk};
+ghost use Rattle.ifmap_meta.specs.Whole.{IsMetadata};
+
 use ifmap_elem::{Attribute, Child, Element, Many, Name, Text};
 use ifmap_ident::Identifier;
+use ifmap_meta::Metadata;
+use ifmap_reader::read;
 use std::alloc::Global;
 use std::test::Fail;
 
@@ -15,6 +20,22 @@ pub fn role(alloc: Global, attributes: Vec<Attribute>, name: &str) -> Result<Ele
         attributes: Many(attributes),
         children: Many(Vec::from_array(alloc, [Child::Element(child)])?),
     })
+}
+
+/// `role` with this cardinality, as it is written, and one name, to be published.
+pub fn role_to_publish(alloc: Global, cardinality: &str, name: &str) -> Result<Metadata, Fail>
+    ensures { IfOk result IsMetadata }
+{
+    let text = format!(in alloc;
+        "<m:role xmlns:m=\"{METADATA}\" ifmap-cardinality=\"{cardinality}\"><name>{name}</name></m:role>"
+    )?;
+    let Ok(reading) = read(alloc, text.as_str().as_bytes(), 64) else {
+        return Err("the role is not read".into());
+    };
+    match Metadata::from_element(alloc, reading.root) {
+        Ok(metadata) => Ok(metadata),
+        Err(_) => Err("the role is no metadata".into()),
+    }
 }
 
 /// A MAC address of the block for documents, with this last byte.

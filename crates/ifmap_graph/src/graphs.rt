@@ -62,6 +62,7 @@ impl Graph {
         ensures room { self.old.room ≤ self.new.room + 1 }
         ensures graph { IsGraph self.new.attachments }
     {
+        attachment.is_whole();
         drop_key(&mut self.attachments, &attachment);
         put_in_place(&mut self.attachments, attachment);
     }
@@ -73,6 +74,13 @@ impl Graph {
         ensures graph { IsGraph self.new.attachments }
     {
         retain_others(&mut self.attachments, serial);
+    }
+
+    /// It is a graph, as each is: it rises strictly, no two attachments have one key, and each is whole.
+    pub fn is_graph(&self)
+        ensures { IsGraph self.now.attachments }
+    {
+        let _attachments = &self.attachments;
     }
 
     /// The attachments on an item, in their order. It takes no memory.

@@ -1,8 +1,13 @@
 //! What stands on an item after attachments came and went.
-use crate::makers::{address_of, attribute_of, client_of, element_of};
-use ifmap_elem::{Element, Many};
+ghost use Rattle.std.specs.Prelude.{IfOk};
+ghost use Rattle.ifmap_ident.specs.Items.{IsItem};
+ghost use Rattle.ifmap_meta.specs.Whole.{IsWhole};
+
+use crate::makers::{address_of, client_of, metadata_in};
+use ifmap_elem::Element;
 use ifmap_graph::{Graph, KeptAttachment};
 use ifmap_ident::Item;
+use ifmap_io::Moment;
 use ifmap_meta::{Life, Stored};
 use std::alloc::{AllocError as NoMemory, Global};
 use std::test::Fail;
@@ -20,7 +25,8 @@ struct Published {
     // The local name, and the cardinality as it is written.
     kind: (&'static str, &'static str),
     client: &'static str,
-    moment: &'static str,
+    // Its last digit is shown.
+    moment: u64,
     life: Life,
 }
 
@@ -36,7 +42,8 @@ fn published_of(
     place: Place,
     kind: (&'static str, &'static str),
     client: &'static str,
-    moment: &'static str,
+    // Its last digit is shown.
+    moment: u64,
     life: Life,
 ) -> Published {
     Published {
@@ -48,7 +55,9 @@ fn published_of(
     }
 }
 
-fn item_at(alloc: Global, place: Place) -> Result<Item, NoMemory> {
+fn item_at(alloc: Global, place: Place) -> Result<Item, NoMemory>
+    ensures { IfOk result IsItem }
+{
     match place {
         Place::At(last) => Ok(Item::One(address_of(alloc, last, "")?)),
         Place::Link => {
@@ -58,19 +67,16 @@ fn item_at(alloc: Global, place: Place) -> Result<Item, NoMemory> {
 }
 
 // The element of the namespace `m` with the text `w`, as this client's at that moment.
-fn stored_of(alloc: Global, published: &Published) -> Result<Stored, NoMemory> {
+fn stored_of(alloc: Global, published: &Published) -> Result<Stored, NoMemory>
+    ensures { IfOk result IsWhole }
+{
     let (name, cardinality) = published.kind;
-    let mut attributes = Vec::new(alloc);
-    attributes.push(attribute_of(alloc, "", "ifmap-cardinality", cardinality)?)?;
-    attributes.push(attribute_of(alloc, "", "ifmap-publisher-id", published.client)?)?;
-    attributes.push(attribute_of(alloc, "", "ifmap-timestamp", published.moment)?)?;
-    let mut element = element_of(alloc, "m", name, "w")?;
-    element.attributes = Many(attributes);
-    Ok(Stored {
-        element,
-        publisher: client_of(alloc, published.client)?,
-        life: published.life,
-    })
+    let text = format!(in alloc;
+        "<m:{name} xmlns:m=\"m\" ifmap-cardinality=\"{cardinality}\">w</m:{name}>"
+    )?;
+    let publisher = client_of(alloc, published.client)?;
+    let moment = Moment::new(published.moment).ok_or(NoMemory)?;
+    metadata_in(alloc, text.as_str())?.stamp(alloc, &publisher, moment, published.life)
 }
 
 fn publish(alloc: Global, graph: &mut Graph, all: &[Published]) -> Result<(), NoMemory> {
@@ -83,9 +89,10 @@ fn publish(alloc: Global, graph: &mut Graph, all: &[Published]) -> Result<(), No
     Ok(())
 }
 
-fn moment_of(element: &Element) -> &str {
+// The last digit of the second.
+fn digit_of(element: &Element) -> &str {
     match element.attributes.0.last() {
-        Some(attribute) => attribute.value.0.as_str(),
+        Some(attribute) => attribute.value.0.get(18..19).unwrap_or(""),
         None => "",
     }
 }
@@ -95,9 +102,9 @@ fn names_and_moments(alloc: Global, graph: &Graph, place: Place) -> Result<Strin
     let item = item_at(alloc, place)?;
     let mut out = String::new(alloc);
     for attachment in graph.attachments_on(&item) {
-        let element = &attachment.stored().element;
+        let element = attachment.stored().element.element();
         out.push_str(element.name.local.0.as_str())?;
-        out.push_str(moment_of(element))?;
+        out.push_str(digit_of(element))?;
     }
     Ok(out)
 }
@@ -117,15 +124,15 @@ fn a_new_element_takes_the_place_of_one_with_its_key(rt: HostRuntime) -> Result<
     let alloc = rt.alloc();
     let life = Life::Forever;
     let all = [
-        published_of(SECOND, MANY, "a", "1", life),
-        published_of(FIRST, ONE, "a", "2", life),
-        published_of(FIRST, MANY, "a", "3", life),
+        published_of(SECOND, MANY, "a", 1, life),
+        published_of(FIRST, ONE, "a", 2, life),
+        published_of(FIRST, MANY, "a", 3, life),
         // Another client's: of one value it takes the place, of many it stands beside.
-        published_of(FIRST, ONE, "b", "4", life),
-        published_of(FIRST, MANY, "b", "5", life),
+        published_of(FIRST, ONE, "b", 4, life),
+        published_of(FIRST, MANY, "b", 5, life),
         // The same client's, of the same content.
-        published_of(FIRST, MANY, "a", "6", life),
-        published_of(SECOND, ONE, "a", "7", life),
+        published_of(FIRST, MANY, "a", 6, life),
+        published_of(SECOND, ONE, "a", 7, life),
     ];
     let mut graph = Graph::new(alloc);
     publish(alloc, &mut graph, &all[..3])?;
@@ -154,11 +161,11 @@ fn a_new_element_takes_the_place_of_one_with_its_key(rt: HostRuntime) -> Result<
 fn an_ended_session_takes_what_it_published(rt: HostRuntime) -> Result<(), Fail> {
     let alloc = rt.alloc();
     let all = [
-        published_of(FIRST, MANY, "a", "1", Life::Session(1)),
-        published_of(FIRST, MANY, "b", "2", Life::Session(2)),
-        published_of(FIRST, ONE, "a", "3", Life::Forever),
-        published_of(Place::Link, ONE, "a", "4", Life::Session(1)),
-        published_of(Place::Link, MANY, "b", "5", Life::Session(2)),
+        published_of(FIRST, MANY, "a", 1, Life::Session(1)),
+        published_of(FIRST, MANY, "b", 2, Life::Session(2)),
+        published_of(FIRST, ONE, "a", 3, Life::Forever),
+        published_of(Place::Link, ONE, "a", 4, Life::Session(1)),
+        published_of(Place::Link, MANY, "b", 5, Life::Session(2)),
     ];
     let mut graph = Graph::new(alloc);
     publish(alloc, &mut graph, &all)?;
@@ -175,7 +182,7 @@ fn an_ended_session_takes_what_it_published(rt: HostRuntime) -> Result<(), Fail>
         names_and_moments(alloc, &graph, FIRST)?.as_str(),
         "many2one3"
     );
-    // 40 bytes for each identifier, and 107 for this element.
-    assert_eq!(rt; size_at(alloc, &graph, Place::Link)?, 187);
+    // 40 bytes for each identifier, and 126 for this element.
+    assert_eq!(rt; size_at(alloc, &graph, Place::Link)?, 206);
     Ok(())
 }

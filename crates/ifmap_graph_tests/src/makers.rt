@@ -1,7 +1,13 @@
 //! What the tests make their cases of.
+ghost use Rattle.std.specs.Prelude.{◌≤◌, IfOk};
+ghost use Rattle.ifmap_elem.specs.Fit.{IsFit};
+ghost use Rattle.ifmap_elem.specs.Nesting.{nesting};
+ghost use Rattle.ifmap_meta.specs.Whole.{IsMetadata, level_limit};
+
 use ifmap_elem::{Attribute, Child, Element, Many, Name, Text};
 use ifmap_ident::Identifier;
-use ifmap_meta::ClientName;
+use ifmap_meta::{ClientName, Metadata};
+use ifmap_reader::read;
 use std::alloc::{AllocError as NoMemory, Global};
 
 pub(crate) fn text_of(alloc: Global, words: &str) -> Result<Text, NoMemory> {
@@ -53,4 +59,25 @@ pub(crate) fn address_of(alloc: Global, last: u8, domain: &str) -> Result<Identi
         value: [0x00, 0x00, 0x5e, 0x00, 0x53, last],
         domain: text_of(alloc, domain)?,
     })
+}
+
+// The element that a text spells.
+pub(crate) fn element_in(alloc: Global, text: &str) -> Result<Element, NoMemory>
+    ensures fit { IfOk result IsFit }
+    ensures levels { IfOk result (λ element. nesting element ≤ level_limit) }
+{
+    match read(alloc, text.as_bytes(), 64) {
+        Ok(reading) => Ok(reading.root),
+        Err(_) => Err(NoMemory),
+    }
+}
+
+// The metadata of the element that a text spells.
+pub(crate) fn metadata_in(alloc: Global, text: &str) -> Result<Metadata, NoMemory>
+    ensures { IfOk result IsMetadata }
+{
+    match Metadata::from_element(alloc, element_in(alloc, text)?) {
+        Ok(metadata) => Ok(metadata),
+        Err(_) => Err(NoMemory),
+    }
 }

@@ -1,10 +1,11 @@
 //! Names of clients and metadata: values from outside, and that each call succeeds where there is
 //! memory.
-use crate::makers::{attribute_of, client_of, element_of, text_of};
+use crate::makers::{attribute_of, client_of, element_in, element_of, metadata_in, text_of};
 use ifmap_elem::{Attribute, Child, Copied, Element, Equals, Many, canonical};
 use ifmap_io::Moment;
 use ifmap_meta::{
-    Cardinality, ClientName, Life, Metadata, Stored, content, content_bytes, is_single, same_type,
+    Cardinality, ClientName, Life, MetaError, Metadata, SharedElement, Stored, content,
+    content_bytes, is_single, same_type,
 };
 use std::alloc::{AllocError as NoMemory, Global};
 use std::test::Fail;
@@ -54,39 +55,201 @@ fn role_with(alloc: Global, attributes: Vec<Attribute>) -> Result<Element, NoMem
     Ok(role)
 }
 
-// A role with a timestamp of its own.
-fn old_role(alloc: Global) -> Result<Metadata, NoMemory> {
-    let own = attribute_of(alloc, "", "ifmap-timestamp", "1970-01-01T00:00:00Z")?;
-    let many = attribute_of(alloc, "", "ifmap-cardinality", "multiValue")?;
-    Ok(Metadata {
-        element: role_with(alloc, vec![in alloc; own, many]?)?,
-        cardinality: Cardinality::Multi.copy(alloc)?,
-    })
-}
+const ROLE: &str =
+    "<m:role xmlns:m=\"http://www.trustedcomputinggroup.org/2010/IFMAP-METADATA/2\" ifmap-timestamp=\"1970-01-01T00:00:00Z\" ifmap-cardinality=\"multiValue\"><name>r</name></m:role>";
 
-// What is stored of it for c1.
-fn stored_role(alloc: Global) -> Result<Stored, NoMemory> {
-    let moment = Moment::new(1_000_000_000).ok_or(NoMemory)?;
-    let publisher = client_of(alloc, "c1")?;
-    old_role(alloc)?.stamp(alloc, &publisher, moment, Life::Session(1))
+// What is stored of the element that a text spells, for a client at a moment.
+fn stored_of(alloc: Global, text: &str, client: &str, seconds: u64) -> Result<Stored, NoMemory> {
+    let moment = Moment::new(seconds).ok_or(NoMemory)?;
+    let publisher = client_of(alloc, client)?;
+    metadata_in(alloc, text)?.stamp(alloc, &publisher, moment, Life::Session(1))
 }
 
 #[test]
 fn a_stamped_element_says_who_published_it_and_when(rt: HostRuntime) -> Result<(), Fail> {
     let alloc = rt.alloc();
-    let stored = stored_role(alloc)?;
-    let bytes = canonical(alloc, &stored.element)?;
+    let stored = stored_of(alloc, ROLE, "c1", 1_000_000_000)?;
     let wanted =
         b"<n1:role xmlns:n1=\"http://www.trustedcomputinggroup.org/2010/IFMAP-METADATA/2\" ifmap-cardinality=\"multiValue\" ifmap-publisher-id=\"c1\" ifmap-timestamp=\"2001-09-09T01:46:40Z\"><name>r</name></n1:role>";
-    assert_eq!(rt; bytes.0.len(), 197);
-    assert!(rt; bytes.0.as_slice() == wanted.as_slice());
+    assert_eq!(rt; stored.size(), 197);
+    assert!(rt; stored.element.bytes() == wanted.as_slice());
+    assert!(rt; canonical(alloc, stored.element.element())?.as_slice() == wanted.as_slice());
     let copy = stored.copy(alloc)?;
     assert!(rt; copy.publisher.equals(&stored.publisher));
     assert!(rt; copy.life == Life::Session(1));
-    let metadata = old_role(alloc)?;
-    let copy = metadata.copy(alloc)?;
-    assert!(rt; copy.element.equals(&metadata.element));
-    assert!(rt; copy.cardinality == Cardinality::Multi);
+    assert!(rt; copy.same_key(&stored));
+    let shared = copy.element.share()?;
+    assert_eq!(rt; shared.size(), 197);
+    Ok(())
+}
+
+#[test]
+fn an_element_is_shared_as_it_stands(rt: HostRuntime) -> Result<(), Fail> {
+    let alloc = rt.alloc();
+    let shared = SharedElement::new(alloc, element_in(alloc, "<x b=\"1\" a=\"2\"/>")?)?;
+    assert!(rt; shared.bytes() == b"<x a=\"2\" b=\"1\"/>".as_slice());
+    assert_eq!(rt; shared.size(), 16);
+    Ok(())
+}
+
+// What comes of an element that is to be published: the word of the refusal, or the canonical bytes of
+// what is made of it.
+fn outcome(alloc: Global, text: &str) -> Result<String, NoMemory> {
+    match Metadata::from_element(alloc, element_in(alloc, text)?) {
+        Ok(metadata) => {
+            let copy = metadata.copy(alloc)?;
+            let bytes = canonical(alloc, &copy.element)?;
+            let text = String::from_utf8(bytes.0).map_err(|_| NoMemory)?;
+            Ok(text)
+        }
+        Err(MetaError::Invalid) => String::from_str(alloc, "Invalid"),
+        Err(MetaError::TooLong) => String::from_str(alloc, "TooLong"),
+        Err(MetaError::NoMemory) => Err(NoMemory),
+    }
+}
+
+#[test]
+fn metadata_state_their_cardinality_and_are_arranged(rt: HostRuntime) -> Result<(), Fail> {
+    let alloc = rt.alloc();
+    let rows = [
+        ("<x/>", "Invalid"),
+        ("<x ifmap-cardinality=\"single\"/>", "Invalid"),
+        ("<x ifmap-cardinality=\"SingleValue\"/>", "Invalid"),
+        (
+            "<x xmlns:m=\"u\" m:ifmap-cardinality=\"singleValue\"/>",
+            "Invalid",
+        ),
+        ("<x><y ifmap-cardinality=\"singleValue\"/></x>", "Invalid"),
+        (
+            "<x ifmap-cardinality=\"singleValue\"/>",
+            "<x ifmap-cardinality=\"singleValue\"/>",
+        ),
+        (
+            "<x ifmap-timestamp=\"t\" ifmap-cardinality=\"multiValue\" ifmap-publisher-id=\"p\" a=\"1\"/>",
+            "<x a=\"1\" ifmap-cardinality=\"multiValue\"/>",
+        ),
+        (
+            "<x ifmap-cardinality=\"multiValue\"><y d=\"2\" c=\"1\"><z ifmap-timestamp=\"f\" e=\"3\"/></y></x>",
+            "<x ifmap-cardinality=\"multiValue\"><y c=\"1\" d=\"2\"><z e=\"3\" ifmap-timestamp=\"f\"/></y></x>",
+        ),
+    ];
+    for (text, wanted) in rows {
+        assert_eq!(rt; outcome(alloc, text)?.as_str(), wanted);
+    }
+    Ok(())
+}
+
+#[test]
+fn the_order_of_attributes_in_children_makes_no_difference(rt: HostRuntime) -> Result<(), Fail> {
+    let alloc = rt.alloc();
+    let one = metadata_in(
+        alloc,
+        "<x ifmap-cardinality=\"multiValue\"><y d=\"2\" c=\"1\"/></x>",
+    )?;
+    let other = metadata_in(
+        alloc,
+        "<x ifmap-cardinality=\"multiValue\"><y c=\"1\" d=\"2\"/></x>",
+    )?;
+    assert!(rt; one.element.equals(&other.element));
+    assert!(rt; one.cardinality == Cardinality::Multi);
+    Ok(())
+}
+
+#[test]
+fn content_has_100_000_canonical_bytes_at_most(rt: HostRuntime) -> Result<(), Fail> {
+    let alloc = rt.alloc();
+    // The element has 39 canonical bytes beside its text, in which `&` counts as 5.
+    let rows = [
+        ("ifmap-cardinality=\"singleValue\"", 99_961, "", "Made"),
+        ("ifmap-cardinality=\"singleValue\"", 99_962, "", "TooLong"),
+        ("ifmap-cardinality=\"singleValue\"", 99_956, "&amp;", "Made"),
+        (
+            "ifmap-cardinality=\"singleValue\"",
+            99_957,
+            "&amp;",
+            "TooLong",
+        ),
+        (
+            "ifmap-cardinality=\"singleValue\" ifmap-publisher-id=\"some other name\" ifmap-timestamp=\"long ago\"",
+            99_961,
+            "",
+            "Made",
+        ),
+        ("ifmap-cardinality=\"neither\"", 200_000, "", "Invalid"),
+    ];
+    for (attributes, length, more, wanted) in rows {
+        let words = "w".repeat(alloc, length)?;
+        let text = format!(in alloc; "<x {attributes}>{words}{more}</x>")?;
+        let made = outcome(alloc, text.as_str())?;
+        let word = if made.len() > 10 {
+            "Made"
+        } else {
+            made.as_str()
+        };
+        assert_eq!(rt; word, wanted);
+    }
+    Ok(())
+}
+
+#[test]
+fn keys_are_types_and_where_there_are_many_publishers_and_contents(
+    rt: HostRuntime,
+) -> Result<(), Fail> {
+    let alloc = rt.alloc();
+    let many = "<x ifmap-cardinality=\"multiValue\" a=\"1\" z=\"2\"><y c=\"1\" d=\"2\"/></x>";
+    let one = "<x ifmap-cardinality=\"singleValue\"/>";
+    let rows = [
+        // Attributes are in any order, and stamps are no content.
+        (
+            many,
+            "c1",
+            "<x z=\"2\" a=\"1\" ifmap-timestamp=\"t\" ifmap-cardinality=\"multiValue\"><y d=\"2\" c=\"1\"/></x>",
+            "c1",
+            true,
+        ),
+        (many, "c1", many, "c2", false),
+        (
+            many,
+            "c1",
+            "<x ifmap-cardinality=\"multiValue\" a=\"1\" z=\"2\"><y c=\"1\" d=\"3\"/></x>",
+            "c1",
+            false,
+        ),
+        (
+            many,
+            "c1",
+            "<x ifmap-cardinality=\"multiValue\" a=\"1\"><y c=\"1\" d=\"2\"/></x>",
+            "c1",
+            false,
+        ),
+        (
+            one,
+            "c1",
+            "<x ifmap-cardinality=\"singleValue\" a=\"1\"/>",
+            "c2",
+            true,
+        ),
+        (
+            one,
+            "c1",
+            "<x ifmap-cardinality=\"multiValue\"/>",
+            "c1",
+            false,
+        ),
+        (
+            one,
+            "c1",
+            "<x xmlns=\"u\" ifmap-cardinality=\"singleValue\"/>",
+            "c1",
+            false,
+        ),
+    ];
+    for (text, client, other_text, other_client, wanted) in rows {
+        let stored = stored_of(alloc, text, client, 1)?;
+        let other = stored_of(alloc, other_text, other_client, 2)?;
+        assert_eq!(rt; stored.same_key(&other), wanted);
+        assert_eq!(rt; other.same_key(&stored), wanted);
+    }
     Ok(())
 }
 

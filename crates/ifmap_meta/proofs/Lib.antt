@@ -1,3 +1,3 @@
-pub mod Order
-pub mod StampLaws
+pub mod InPlace
+pub mod Mixing
 pub mod Texts

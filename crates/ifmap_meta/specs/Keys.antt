@@ -1,5 +1,5 @@
 -- Which stored elements take each other's place on an item (IF-MAP binding for SOAP 2.2, metadata cardinality).
-use Rattle.std.specs.Prelude.{ℕ, List, Bool, ◌&&◌, ◌||◌}
+use Rattle.std.specs.Prelude.{◌≡◌, ◌⊎◌, ℕ, List, Bool, IsTrue, ◌&&◌, ◌||◌}
 use Rattle.std.specs.Str.{bytes_eq}
 use Rattle.std.proofs.Math.Bool.{beq}
 use Rattle.ifmap_elem.specs.declared.elements.Element.{Element}
@@ -20,3 +20,8 @@ same_type a b = (bytes_eq a.name.space b.name.space && bytes_eq a.name.local b.n
 abbrev pub same_key : Stored → Stored → Bool
 same_key a b = same_type a.element b.element && (is_single a.element ||
     (bytes_eq a.publisher b.publisher && bytes_eq (content_bytes a.element) (content_bytes b.element)))
+
+-- the same of elements as they stand, without their bytes
+abbrev pub HaveOneKey : Stored → Stored → Type 0
+HaveOneKey a b = IsTrue (same_type a.element b.element) × (IsTrue (is_single a.element)
+    ⊎ ((a.publisher ≡ b.publisher) × (content_of a.element ≡ content_of b.element)))

@@ -1,5 +1,15 @@
 //! Elements that are to be published.
-use ifmap_elem::{Copied, Element};
+ghost use Rattle.std.specs.Prelude.{◌≡◌, ◌≤◌, ◌<◌, ◌↔◌, None, length, IfOk, IsErrOf, IsSome, IsTrue};
+ghost use Rattle.ifmap_elem.specs.Canonical.{canonical_bytes};
+ghost use Rattle.ifmap_elem.specs.Fit.{IsFit};
+ghost use Rattle.ifmap_elem.specs.Nesting.{nesting};
+ghost use Rattle.ifmap_meta.specs.Cardinality.{cardinality_of, is_multi, is_multi_value, is_single, is_single_value};
+ghost use Rattle.ifmap_meta.specs.Keys.{content_bytes};
+ghost use Rattle.ifmap_meta.specs.Whole.{IsMadeOf, IsMetadata, content_limit, level_limit};
+
+use crate::arranging::arrange_content;
+use crate::errors::MetaError;
+use ifmap_elem::{Attribute, Copied, Element, canonical};
 use std::alloc::{AllocError as NoMemory, Global};
 
 /// How many elements of one type an item can carry.
@@ -17,7 +27,7 @@ impl Copied for Cardinality {
     }
 }
 
-/// An element that is to be published.
+/// An element that is to be published: its content, without the server's stamps.
 #[derive(Debug, Drop)]
 pub struct Metadata {
     pub element: Element,
@@ -31,4 +41,77 @@ impl Copied for Metadata {
             cardinality: self.cardinality,
         })
     }
+}
+
+// How many canonical bytes content can have.
+const CONTENT_LIMIT: usize = 100_000;
+
+impl Metadata {
+    /// What is published of an element: all but what it says itself of its publisher and moment, with
+    /// the attributes of all elements in it put in order. It is `Invalid` where the element does not
+    /// say its cardinality, and otherwise `TooLong` where more than 100,000 canonical bytes are left.
+    pub fn from_element(alloc: Global, element: Element) -> Result<Metadata, MetaError>
+        ensures made { IfOk result (IsMadeOf element) }
+        ensures metadata { IsFit element → nesting element ≤ level_limit → IfOk result IsMetadata }
+        ensures invalid { IsErrOf result MetaError.Invalid ↔ (cardinality_of element ≡ None) }
+        ensures too_long { IsErrOf result MetaError.TooLong →
+            IsSome (cardinality_of element) × (content_limit < length (content_bytes element)) }
+    {
+        let Some(cardinality) = cardinality_of(&element) else {
+            return Err(MetaError::Invalid);
+        };
+        let element = arrange_content(element);
+        if is_too_long(alloc, &element)? {
+            return Err(MetaError::TooLong);
+        }
+        Ok(Metadata {
+            element,
+            cardinality,
+        })
+    }
+}
+
+/// What the element says of its cardinality. It takes no memory.
+pub fn cardinality_of(element: &Element) -> Option<Cardinality>
+    ensures { result ≡ cardinality_of element.now }
+{
+    if is_single(element) {
+        return Some(Cardinality::Single);
+    }
+    if is_multi(element) {
+        return Some(Cardinality::Multi);
+    }
+    None
+}
+
+/// Whether an item carries one element of this type at most. It takes no memory.
+pub fn is_single(element: &Element) -> bool
+    ensures { result ≡ is_single element.now }
+{
+    element.attributes.0.iter().any(is_single_value)
+}
+
+fn is_multi(element: &Element) -> bool
+    ensures { result ≡ is_multi element.now }
+{
+    element.attributes.0.iter().any(is_multi_value)
+}
+
+fn is_single_value(attribute: &Attribute) -> bool
+    ensures { result ≡ is_single_value attribute.now }
+{
+    attribute.name.is_bare("ifmap-cardinality") && attribute.value.0.as_str() == "singleValue"
+}
+
+fn is_multi_value(attribute: &Attribute) -> bool
+    ensures { result ≡ is_multi_value attribute.now }
+{
+    attribute.name.is_bare("ifmap-cardinality") && attribute.value.0.as_str() == "multiValue"
+}
+
+// Whether the element has more canonical bytes than content can have.
+fn is_too_long(alloc: Global, element: &Element) -> Result<bool, NoMemory>
+    ensures { IfOk result (λ long. IsTrue long ↔ (content_limit < length (canonical_bytes element.now))) }
+{
+    Ok(canonical(alloc, element)?.len() > CONTENT_LIMIT)
 }

@@ -1,15 +1,17 @@
 //! Elements as they are stored.
-ghost use Rattle.std.specs.Prelude.{◌≡◌, IfOk};
+ghost use Rattle.std.specs.Prelude.{◌≡◌, length, IfOk};
+ghost use Rattle.ifmap_elem.specs.Canonical.{canonical_bytes};
 ghost use Rattle.ifmap_io.specs.Calendar.{moment_text};
-ghost use Rattle.ifmap_meta.specs.Cardinality.{is_single, is_single_value};
-ghost use Rattle.ifmap_meta.specs.Keys.{content_bytes, same_type};
+ghost use Rattle.ifmap_meta.specs.Keys.{content_bytes};
 ghost use Rattle.ifmap_meta.specs.Stamps.{content_of, is_stamp, with_stamps, without_stamps};
 ghost use Rattle.ifmap_meta.specs.Stored.{stored_as};
+ghost use Rattle.ifmap_meta.specs.Whole.{IsMetadata, IsWhole};
 
-use crate::attributes::put_in_order;
+use crate::arranging::put_in_order;
 use crate::clients::ClientName;
 use crate::metadata::Metadata;
-use ifmap_elem::{Attribute, Copied, Element, Equals, Many, Text, canonical};
+use crate::shared_elements::SharedElement;
+use ifmap_elem::{Attribute, Copied, Element, Many, Text, canonical};
 use ifmap_io::Moment;
 use std::alloc::{AllocError as NoMemory, Global};
 
@@ -31,7 +33,7 @@ impl Copied for Life {
 /// An element as it is stored, with its stamps.
 #[derive(Debug, Drop)]
 pub struct Stored {
-    pub element: Element,
+    pub element: SharedElement,
     pub publisher: ClientName,
     pub life: Life,
 }
@@ -46,6 +48,15 @@ impl Copied for Stored {
     }
 }
 
+impl Stored {
+    /// How many canonical bytes the stored element has. It takes no memory.
+    pub fn size(&self) -> u64
+        ensures { result ≡ length (canonical_bytes self.now.element) }
+    {
+        self.element.size()
+    }
+}
+
 impl Metadata {
     /// What is stored of the element where this client publishes it at that moment: its content with
     /// the client and the moment as its stamps, whatever it says of these itself. The one error is
@@ -57,15 +68,18 @@ impl Metadata {
         moment: Moment,
         life: Life,
     ) -> Result<Stored, NoMemory>
-        ensures { IfOk result (λ s. s ≡ stored_as self.now.element publisher.now moment life) }
+        ensures stored { IfOk result (λ s.
+            s ≡ stored_as self.now.element publisher.now moment life) }
+        ensures whole { IsMetadata self.now → IfOk result IsWhole }
     {
         let content = content(alloc, &self.element)?;
+        let stamped = Element {
+            name: content.name,
+            attributes: with_stamps(alloc, publisher.text(), moment, content.attributes)?,
+            children: content.children,
+        };
         Ok(Stored {
-            element: Element {
-                name: content.name,
-                attributes: with_stamps(alloc, publisher, moment, content.attributes)?,
-                children: content.children,
-            },
+            element: SharedElement::new(alloc, stamped)?,
             publisher: publisher.copy(alloc)?,
             life,
         })
@@ -91,27 +105,7 @@ pub fn content_bytes(alloc: Global, element: &Element) -> Result<Many<u8>, NoMem
     canonical(alloc, &content(alloc, element)?)
 }
 
-/// Whether an item carries one element of this type at most. It takes no memory.
-pub fn is_single(element: &Element) -> bool
-    ensures { result ≡ is_single element.now }
-{
-    element.attributes.0.iter().any(is_single_value)
-}
-
-/// Whether both have one name and one cardinality. It takes no memory.
-pub fn same_type(a: &Element, b: &Element) -> bool
-    ensures { result ≡ same_type a.now b.now }
-{
-    a.name == b.name && is_single(a) == is_single(b)
-}
-
-fn is_single_value(attribute: &Attribute) -> bool
-    ensures { result ≡ is_single_value attribute.now }
-{
-    attribute.name.is_bare("ifmap-cardinality") && attribute.value.0.as_str() == "singleValue"
-}
-
-fn is_stamp(attribute: &Attribute) -> bool
+pub(crate) fn is_stamp(attribute: &Attribute) -> bool
     ensures { result ≡ is_stamp attribute.now }
 {
     attribute.name.is_bare("ifmap-publisher-id") || attribute.name.is_bare("ifmap-timestamp")
@@ -131,13 +125,13 @@ fn without_stamps(alloc: Global, attributes: &Many<Attribute>) -> Result<Many<At
 
 fn with_stamps(
     alloc: Global,
-    publisher: &ClientName,
+    publisher: &Text,
     moment: Moment,
     attributes: Many<Attribute>,
 ) -> Result<Many<Attribute>, NoMemory>
     ensures { IfOk result (λ made. made ≡ with_stamps publisher.now moment attributes) }
 {
-    let publisher = publisher.text().copy(alloc)?;
+    let publisher = publisher.copy(alloc)?;
     let moment = moment_text(alloc, moment)?;
     let mut made = attributes.0;
     made.push(Attribute::bare(alloc, "ifmap-publisher-id", publisher)?)?;

@@ -1,5 +1,6 @@
 pub mod Cuts
 pub mod Endings
+pub mod FitRequests
 pub mod Forms
 pub mod Framing
 pub mod HeaderLines

@@ -5,7 +5,7 @@ use Rattle.std.specs.Io.KnownBytes.{Appends}
 use Rattle.ifmap_core.specs.declared.events.Answer.{Answer}
 use Rattle.ifmap_core.specs.declared.events.Answer.TheVariants.{Reply}
 use Rattle.ifmap_core.specs.declared.events.Ask.TheVariants as ask
-use Rattle.ifmap_core.specs.declared.events.Event.{Event}
+use Rattle.ifmap_core.specs.Events.{Event}
 use Rattle.ifmap_core.specs.State.{State, opening}
 use Rattle.ifmap_core.specs.Step.{step}
 use Rattle.ifmap_msg.specs.declared.requests.Request.{Request}

@@ -1,4 +1,4 @@
-use Rattle.ifmap_meta.proofs.StampLaws.{cardinality_stays, content_stays}
+use Rattle.ifmap_meta.specs.laws.StampLaws.{cardinality_stays, content_stays}
 use Rattle.ifmap_meta.proofs.laws.stamping_keeps_what_keys_compare.Goals as goal
 
 pub returns-clause-content : goal.returns-clause-content

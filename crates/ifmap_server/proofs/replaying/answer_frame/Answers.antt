@@ -1,0 +1,6 @@
+use Rattle.std.proofs.Common.{sym, ◌∙◌}
+use Rattle.ifmap_server.proofs.FitRequests.{fit_meaning}
+use Rattle.ifmap_server.proofs.replaying.answer_frame.Goals as goal
+
+pub invariant_of-event : goal.invariant_of-event
+invariant_of-event c = ?
