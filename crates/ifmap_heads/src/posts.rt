@@ -42,7 +42,7 @@ pub enum PostStart {
     /// No head is whole yet.
     Unfinished,
     /// The post has this status, whatever comes.
-    Refused(StatusCode),
+    Refused(u16),
     /// A head with this length, and its terms.
     Taken(usize, PostTerms),
 }
@@ -63,12 +63,12 @@ pub fn read_post_head(alloc: Global, bytes: &[u8]) -> Result<PostStart, AllocErr
     match request.parse(bytes) {
         Ok(Status::Complete(size)) => {
             if size > LONGEST_HEAD || request.headers.len() > MOST_FIELDS {
-                return Ok(PostStart::Refused(StatusCode::BAD_REQUEST));
+                return Ok(refuse(StatusCode::BAD_REQUEST));
             }
             let method = request.method.unwrap().as_bytes();
             let minor = request.version.unwrap();
             match judge_parts(alloc, method, minor, request.headers)? {
-                Judged::Refused(status) => Ok(PostStart::Refused(status)),
+                Judged::Refused(status) => Ok(refuse(status)),
                 Judged::Taken(terms) => Ok(PostStart::Taken(size, terms)),
             }
         }
@@ -77,10 +77,17 @@ pub fn read_post_head(alloc: Global, bytes: &[u8]) -> Result<PostStart, AllocErr
             if ends_in_target(bytes) {
                 Ok(unfinished_post(bytes))
             } else {
-                Ok(PostStart::Refused(StatusCode::BAD_REQUEST))
+                Ok(refuse(StatusCode::BAD_REQUEST))
             }
         }
     }
+}
+
+// A post is refused with that status.
+fn refuse(status: StatusCode) -> PostStart
+    ensures { result ≡ PostStart.Refused status }
+{
+    PostStart::Refused(status.as_u16())
 }
 
 // No head is whole: one may come while the limit is not passed.
@@ -89,7 +96,7 @@ fn unfinished_post(bytes: &[u8]) -> PostStart
     ensures short { length bytes.now ≤ longest_head → result ≡ PostStart.Unfinished }
 {
     if bytes.len() > LONGEST_HEAD {
-        PostStart::Refused(StatusCode::BAD_REQUEST)
+        refuse(StatusCode::BAD_REQUEST)
     } else {
         PostStart::Unfinished
     }

@@ -8,6 +8,7 @@ ghost use Rattle.ifmap_http.specs.Buffers.{AwaitsAnswer, AwaitsPost, Takes, Unle
 use crate::bodies::Unread;
 use crate::buffers::Buffer;
 use crate::dues::Progress;
+use http::StatusCode;
 use ifmap_heads::{
     AnswerStart, PostStart, PostTerms, passes_lines, read_answer_head, read_post_head,
 };
@@ -94,7 +95,7 @@ fn end_post(alloc: Global, bytes: &[u8]) -> AwaitedPost
         Ok(PostStart::Refused(status)) => AwaitedPost::Refused(status),
         Ok(PostStart::Unfinished) => {
             if passes_lines(bytes) {
-                AwaitedPost::Refused(400)
+                AwaitedPost::Refused(StatusCode::BAD_REQUEST.as_u16())
             } else {
                 AwaitedPost::Truncated
             }

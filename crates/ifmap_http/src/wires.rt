@@ -10,6 +10,7 @@ ghost use Rattle.ifmap_http.specs.Outcomes.{GetsAnswer, GetsPost, Sends, is_answ
 use crate::bodies::{Unread, take_body};
 use crate::buffers::Buffer;
 use crate::heads::{AwaitedAnswer, AwaitedPost, await_answer, await_post};
+use http::StatusCode;
 use ifmap_elem::{Many, Text};
 use ifmap_heads::{PostTerms, answer_message, post_message};
 use ifmap_io::{Link, Sink};
@@ -140,6 +141,7 @@ impl<L: Link> Wire<L> {
         ensures apart { L.incoming self.new.link ≡ L.incoming self.old.link }
         ensures rest { self.new ≡ record self.old { link = self.new.link } }
     {
+        let status = StatusCode::from_u16(status).unwrap();
         match answer_message(alloc, status, body, close) {
             Ok(message) => send(&mut self.link, &message),
             Err(_) => Sent::NoMemory,
