@@ -14,6 +14,10 @@ use std::test::Fail;
 const POST: &[u8] =
     b"POST /ifmap HTTP/1.1\r\nhost: h\r\nifmap-client: c1\r\ncontent-type: application/soap+xml\r\ncontent-length: 4\r\n\r\nbody";
 
+const POSTED: &str = "Posted c1 stays 626f6479";
+
+const ANSWER: &[u8] = b"HTTP/1.1 200 OK\r\ncontent-length: 2\r\n\r\nok";
+
 // A link that reads a byte at a time, and tells no bytes.
 #[derive(Drop)]
 struct Drip {
@@ -72,11 +76,14 @@ fn post_in(alloc: Global, left: &[u8], fails: &[u64]) -> Result<String, AllocErr
     show_post(alloc, &wire_of(alloc, left, fails)?.read_post(alloc))
 }
 
-fn drip_in(alloc: Global, left: &[u8]) -> Result<String, AllocError> {
-    let drip = Drip {
-        link: link_of(alloc, left, &[])?,
-    };
-    show_post(alloc, &Wire::new(alloc, drip).read_post(alloc))
+fn drip_of(alloc: Global, left: &[u8], fails: &[u64]) -> Result<Wire<Drip>, AllocError> {
+    let link = link_of(alloc, left, fails)?;
+    Ok(Wire::new(alloc, Drip { link }))
+}
+
+// The same over a link that reads a byte at a time.
+fn drip_in(alloc: Global, left: &[u8], fails: &[u64]) -> Result<String, AllocError> {
+    show_post(alloc, &drip_of(alloc, left, fails)?.read_post(alloc))
 }
 
 fn answer_in(alloc: Global, left: &[u8], fails: &[u64]) -> Result<String, AllocError> {
@@ -100,7 +107,7 @@ fn heads_have_their_statuses(rt: HostRuntime) -> Result<(), Fail> {
     ];
     for (bytes, shown) in rows {
         assert_eq!(rt; post_in(alloc, bytes, &[])?.as_str(), shown);
-        assert_eq!(rt; drip_in(alloc, bytes)?.as_str(), shown);
+        assert_eq!(rt; drip_in(alloc, bytes, &[])?.as_str(), shown);
     }
     assert_eq!(rt;
         answer_in(alloc, b"HTTP/1.1 503 Service Unavailable\r\n\r\n", &[])?.as_str(),
@@ -115,19 +122,60 @@ fn a_post_that_is_cut_is_truncated_and_ended_at_its_start(rt: HostRuntime) -> Re
     for (cut, _) in POST.iter().enumerate() {
         let shown = if cut == 0 { "Ended" } else { "Truncated" };
         assert_eq!(rt; post_in(alloc, &POST[..cut], &[])?.as_str(), shown);
+        assert_eq!(rt; drip_in(alloc, &POST[..cut], &[])?.as_str(), shown);
     }
-    assert_eq!(rt;
-        post_in(alloc, POST, &[])?.as_str(),
-        "Posted c1 stays 626f6479"
-    );
+    assert_eq!(rt; post_in(alloc, POST, &[])?.as_str(), POSTED);
+    Ok(())
+}
+
+// A read of more than a post or a head needs fails here, and so would wait elsewhere.
+#[test]
+fn a_post_comes_a_byte_at_a_time_and_waits_for_no_more(rt: HostRuntime) -> Result<(), Fail> {
+    let alloc = rt.alloc();
+    let rows: [(&[u8], &str); 7] = [
+        (POST, POSTED),
+        (
+            b"\n\r\n\nPOST / HTTP/1.0\nifmap-client: c\ncontent-length: 1\n\nx",
+            "Posted c closes 78",
+        ),
+        (
+            b"POST / HTTP/1.1\r\nifmap-client: c\r\ncontent-length: 0\r\n\n",
+            "Posted c stays -",
+        ),
+        (
+            b"POST / HTTP/1.1\nifmap-client: c\ncontent-length: 0\n\r\n",
+            "Posted c stays -",
+        ),
+        (b"GET / HTTP/1.1\n\n", "Status 405"),
+        (b"POST / HTTP/1.1\n\r\n", "Status 411"),
+        (b"\r\n\nGET / HTTP/1.1\r\n\r\n", "Status 405"),
+    ];
+    for (bytes, shown) in rows {
+        let next = bytes.len() as u64;
+        assert_eq!(rt; drip_in(alloc, bytes, &[next])?.as_str(), shown);
+    }
     Ok(())
 }
 
 #[test]
-fn a_post_comes_a_byte_at_a_time(rt: HostRuntime) -> Result<(), Fail> {
+fn two_posts_come_in_one_read(rt: HostRuntime) -> Result<(), Fail> {
     let alloc = rt.alloc();
-    assert_eq!(rt; drip_in(alloc, POST)?.as_str(), "Posted c1 stays 626f6479");
-    assert_eq!(rt; drip_in(alloc, b"\n\r\n\nPOST")?.as_str(), "Truncated");
+    let mut two = POST.to_vec(alloc)?;
+    two.extend_from_slice(POST)?;
+    let mut wire = wire_of(alloc, &two, &[1])?;
+    for shown in [POSTED, POSTED, "ReadFault"] {
+        assert_eq!(rt; show_post(alloc, &wire.read_post(alloc))?.as_str(), shown);
+    }
+    Ok(())
+}
+
+#[test]
+fn a_length_that_lies_is_a_post_that_is_cut(rt: HostRuntime) -> Result<(), Fail> {
+    let alloc = rt.alloc();
+    let post = b"POST / HTTP/1.1\nifmap-client: c\ncontent-length: 10000000\n\nabc";
+    assert_eq!(rt; post_in(alloc, post, &[])?.as_str(), "Truncated");
+    let answer = b"HTTP/1.1 200 OK\ncontent-length: 110000000\n\nabc";
+    assert_eq!(rt; answer_in(alloc, answer, &[])?.as_str(), "Ended");
     Ok(())
 }
 
@@ -159,7 +207,7 @@ fn heads_stand_within_their_limits(rt: HostRuntime) -> Result<(), Fail> {
         let head = head_of(alloc, size, fields)?;
         assert_eq!(rt; head.len(), size);
         assert_eq!(rt; post_in(alloc, &head, &[])?.as_str(), shown);
-        assert_eq!(rt; drip_in(alloc, &head)?.as_str(), shown);
+        assert_eq!(rt; drip_in(alloc, &head, &[])?.as_str(), shown);
     }
     Ok(())
 }
@@ -169,7 +217,11 @@ fn a_head_that_is_cut_at_a_limit_is_truncated_before_it(rt: HostRuntime) -> Resu
     let alloc = rt.alloc();
     let long = head_of(alloc, 16_390, 4)?;
     let wide = head_of(alloc, 400, 65)?;
-    let rows: [(&[u8], &str); 4] = [
+    let mut blank = b"".to_vec(alloc)?;
+    blank.resize(16_385, b'\n')?;
+    let rows: [(&[u8], &str); 6] = [
+        (&blank[..16_384], "Truncated"),
+        (&blank, "Status 400"),
         (&long[..16_384], "Truncated"),
         (&long[..16_385], "Status 400"),
         (&wide[..397], "Truncated"),
@@ -184,10 +236,7 @@ fn a_head_that_is_cut_at_a_limit_is_truncated_before_it(rt: HostRuntime) -> Resu
 #[test]
 fn one_read_serves_a_post_that_came_whole(rt: HostRuntime) -> Result<(), Fail> {
     let alloc = rt.alloc();
-    assert_eq!(rt;
-        post_in(alloc, POST, &[1])?.as_str(),
-        "Posted c1 stays 626f6479"
-    );
+    assert_eq!(rt; post_in(alloc, POST, &[1])?.as_str(), POSTED);
     assert_eq!(rt;
         post_in(alloc, b"\x16\x03\x01", &[1])?.as_str(),
         "Status 400"
@@ -202,26 +251,37 @@ fn one_read_serves_a_post_that_came_whole(rt: HostRuntime) -> Result<(), Fail> {
 #[test]
 fn each_read_that_fails_is_told(rt: HostRuntime) -> Result<(), Fail> {
     let alloc = rt.alloc();
-    let mut body = POST.to_vec(alloc)?;
-    body.truncate(POST.len() - 1);
-    for (left, fails) in [(POST, [0]), (&body, [1]), (b"POST", [1])] {
-        assert_eq!(rt; post_in(alloc, left, &fails)?.as_str(), "ReadFault");
+    for (at, _) in POST.iter().enumerate() {
+        assert_eq!(rt; drip_in(alloc, POST, &[at as u64])?.as_str(), "ReadFault");
     }
-    for (left, fails) in [(b"HTTP".as_slice(), [0]), (b"HTTP", [1])] {
-        assert_eq!(rt; answer_in(alloc, left, &fails)?.as_str(), "ReadFault");
+    for (at, _) in ANSWER.iter().enumerate() {
+        let answered = drip_of(alloc, ANSWER, &[at as u64])?.read_answer(alloc);
+        assert_eq!(rt; show_answer(alloc, &answered)?.as_str(), "ReadFault");
     }
+    let answered = drip_of(alloc, ANSWER, &[ANSWER.len() as u64])?.read_answer(alloc);
+    assert_eq!(rt; show_answer(alloc, &answered)?.as_str(), "Body 6f6b");
     Ok(())
 }
 
 #[test]
 fn each_write_that_fails_is_told(rt: HostRuntime) -> Result<(), Fail> {
     let alloc = rt.alloc();
-    for fail in [0, 1] {
+    let client = client_of(alloc)?.ok_or("a name")?;
+    let host = Text(String::from_str(alloc, "h")?);
+    // The write, and then the flush.
+    let rows: [(u64, &[u8]); 2] = [(0, b""), (1, POST)];
+    for (fail, held) in rows {
         let mut wire = wire_of(alloc, b"", &[fail])?;
         assert_eq!(rt;
             wire.write_answer(alloc, 200, b"x", false),
             Sent::WriteFault
         );
+        let mut wire = wire_of(alloc, b"", &[fail])?;
+        assert_eq!(rt;
+            wire.send_post(alloc, &host, &client, b"body"),
+            Sent::WriteFault
+        );
+        assert!(rt; wire.into_link().held() == held);
     }
     Ok(())
 }
