@@ -1,7 +1,8 @@
 #!/bin/sh
-# Times posts of 300 bytes, read and answered: over links in memory and over a pair of sockets, with the
-# same heads through `httparse` alone beside it. Run from anywhere: sh bench/http.sh. It needs `rt`, and
-# builds in a new folder under TMPDIR.
+# Times posts of 300 bytes, read and answered: over links in memory, with the same heads through
+# `httparse` alone beside it, and over a pair of sockets, with the same bytes read and written there
+# and no HTTP beside it; and heads that come a byte at a time. Run from anywhere: sh bench/http.sh. It
+# needs `rt`, and builds in a new folder under TMPDIR.
 . "$(dirname "$0")/common.sh"
 prepare http_bench 'httparse ifmap_heads ifmap_http ifmap_io'
 cat > "$work/crates/http_bench/src/main.rt" <<'RATTLE'
@@ -10,7 +11,7 @@ cat > "$work/crates/http_bench/src/main.rt" <<'RATTLE'
 
 use httparse::{EMPTY_HEADER, Request};
 use ifmap_http::{Got, Sent, Wire};
-use ifmap_io::{Door, Link, MemoryLink, Sink, Source, TcpDoor, TcpLink};
+use ifmap_io::{Door, Failed, Link, MemoryLink, Sink, Source, TcpDoor, TcpLink};
 use std::alloc::{AllocError, Global};
 use std::io;
 use std::net::{TcpListener, TcpStream};
@@ -19,6 +20,7 @@ use std::time::{Clock, Instant};
 const HEAD: &[u8] = b"POST /ifmap HTTP/1.1\r\nhost: map.example.org:8444\r\nuser-agent: Apache-HttpClient/4.5\r\nifmap-client: pdp-17\r\ncontent-type: application/soap+xml\r\ncontent-length: 134\r\n\r\n";
 const POSTS: u32 = 200_000;
 const EXCHANGES: u32 = 20_000;
+const DRIPS: u32 = 200;
 
 fn post(alloc: Global) -> Result<Vec<u8>, AllocError> {
     let mut post = HEAD.to_vec(alloc)?;
@@ -33,6 +35,76 @@ fn posts(alloc: Global, count: u32) -> Result<Vec<u8>, AllocError> {
         all.extend_from_slice(&one)?;
     }
     Ok(all)
+}
+
+// A link that reads a byte at a time.
+#[derive(Drop)]
+struct Drip {
+    left: Vec<u8>,
+    taken: usize,
+}
+
+impl Source for Drip {
+    ghost use Rattle.std.specs.Prelude.{None};
+    ghost use Rattle.ifmap_io.specs.Links.{no_side};
+
+    ghost left = { λ _. None };
+
+    ghost faults = { λ _. 0 };
+
+    ghost outgoing = { λ _. no_side };
+
+    fn read(&mut self, room: &mut [u8]) -> Result<usize, Failed> {
+        let (Some(byte), Some(place)) = (self.left.get(self.taken), room.first_mut()) else {
+            return Ok(0);
+        };
+        *place = *byte;
+        self.taken = self.taken.saturating_add(1);
+        Ok(1)
+    }
+}
+
+impl Sink for Drip {
+    ghost use Rattle.std.specs.Prelude.{None};
+    ghost use Rattle.ifmap_io.specs.Links.{no_side};
+
+    ghost held = { λ _. None };
+
+    ghost faults = { λ _. 0 };
+
+    ghost incoming = { λ _. no_side };
+
+    fn write_all(&mut self, _bytes: &[u8]) -> Result<(), Failed> {
+        Ok(())
+    }
+
+    fn flush(&mut self) -> Result<(), Failed> {
+        Ok(())
+    }
+}
+
+impl Link for Drip {
+    ghost use Rattle.std.specs.Prelude.{refl};
+
+    ghost outgoing_is = { λ link. refl };
+
+    ghost incoming_is = { λ link. refl };
+}
+
+// How long a head of that many bytes takes, which comes a byte at a time.
+fn drip(rt: &impl Clock, alloc: Global, size: usize) -> io::Result<u128> {
+    let mut left = b"POST / HTTP/1.1\r\nifmap-client: c\r\ncontent-length: 0\r\na: ".to_vec(alloc)?;
+    left.resize(size, b'x')?;
+    left.extend_from_slice(b"\r\n\r\n")?;
+    let began = Instant::now(rt)?;
+    let mut served = 0u32;
+    for _ in 0..DRIPS {
+        let link = Drip { left: left.clone()?, taken: 0 };
+        if matches!(Wire::new(alloc, link).read_post(alloc), Got::Posted(_)) {
+            served = served.saturating_add(1);
+        }
+    }
+    nanoseconds(rt, began, served)
 }
 
 // Reads a post and answers it.
@@ -72,12 +144,25 @@ fn main(rt: HostRuntime) -> io::Result<()> {
     println!(rt; "httparse alone: {parsed} heads, {alone} ns each; links in memory take {ratio} hundredths of that")?;
     let listener = TcpListener::bind(&rt, "127.0.0.1:0")?;
     let mut near = TcpLink::new(TcpStream::connect(&rt, listener.local_addr()?)?);
-    let Ok(Some(far)) = TcpDoor::new(&listener).accept() else {
+    let Ok(Some(mut far)) = TcpDoor::new(&listener).accept() else {
         return Err(io::Error::from(io::ErrorKind::NotConnected));
     };
-    let mut wire = Wire::new(alloc, far);
     let one = post(alloc)?;
     let mut room = [0u8; 4096];
+    let mut there = [0u8; 4096];
+    let began = Instant::now(&rt)?;
+    let mut moved = 0u32;
+    for _ in 0..EXCHANGES {
+        if near.write_all(&one).is_ok()
+            && far.read(&mut there).is_ok()
+            && far.write_all(&one[..84]).is_ok()
+            && near.read(&mut room).is_ok()
+        {
+            moved = moved.saturating_add(1);
+        }
+    }
+    let bare = nanoseconds(&rt, began, EXCHANGES)?;
+    let mut wire = Wire::new(alloc, far);
     let began = Instant::now(&rt)?;
     let mut served = 0u32;
     for _ in 0..EXCHANGES {
@@ -86,7 +171,13 @@ fn main(rt: HostRuntime) -> io::Result<()> {
         }
     }
     let each = nanoseconds(&rt, began, EXCHANGES)?;
-    println!(rt; "a pair of sockets: {served} posts, {each} ns each, with the client's write and read")
+    let ratio = 100 * each / bare.max(1);
+    println!(rt; "a pair of sockets: {served} posts, {each} ns each; {moved} bare exchanges, {bare} ns each: {ratio} hundredths of that")?;
+    let half = drip(&rt, alloc, 8_000)?;
+    let whole = drip(&rt, alloc, 16_000)?;
+    let ratio = 100 * whole / half.max(1);
+    println!(rt; "a byte at a time: a head of 8,000 bytes in {half} ns, of 16,000 in {whole} ns: {ratio} hundredths of that")?;
+    Ok(())
 }
 RATTLE
 cd "$work/crates/http_bench"

@@ -1,12 +1,12 @@
 -- What a wire reads, over all that it had left: what was taken and then what the link had.
-use Rattle.std.proofs.Common.{◌≡◌, ◌≢◌, ℕ, ◌<◌, ◌⊎◌, inl, inr, List, [], ◌∷◌, ◌++◌, length, drop, refl, sym, ap, ◌∙◌, subst, arith, append_assoc, append-nil, length-append}
+use Rattle.std.proofs.Common.{◌≡◌, ◌≢◌, ℕ, ◌<◌, ◌≤◌, ◌⊎◌, Bool, inl, inr, List, [], ◌∷◌, ◌++◌, length, drop, refl, sym, ap, ◌∙◌, subst, arith, append_assoc, append-nil, length-append}
 use Rattle.std.specs.Prelude.{IfSome, None, Option, Some}
 use Rattle.std.specs.Io.KnownBytes.{Consumes, IsAtEnd, prepend_known}
-use Rattle.httparse.specs.Grammar.{RequestHead, print_blank, print_end, print_request, print_section, print_version}
-use Rattle.httparse.proofs.GrammarLemmas.{print_request-append}
+use Rattle.httparse.specs.Grammar.{ReadsRequest, RequestHead, print_blank, print_end, print_request, print_section, print_version}
+use Rattle.httparse.proofs.GrammarLemmas.{print_request-append, request_unique}
 use Rattle.ifmap_heads.specs.Answers.{ReadsAnswer, answered, not_http, other, sized, status as other_status, ended as unanswered}
 use Rattle.ifmap_heads.specs.Heads.{IsAnswerHead, IsPostHead}
-use Rattle.ifmap_heads.specs.Posts.{ReadsPost, posted, status, taken, truncated}
+use Rattle.ifmap_heads.specs.Posts.{Judgement, ReadsPost, judge_post, posted, refused, status, taken, truncated}
 use Rattle.ifmap_heads.specs.Starts.{HasAnswerHead, HasPostHead}
 use Rattle.ifmap_heads.specs.declared.posts.PostTerms.{PostTerms}
 use Rattle.ifmap_http.specs.Buffers.{LacksBody, Takes, TakesBody}
@@ -75,7 +75,7 @@ post_read bytes size terms left_old left_new all new body has told takes sized_i
       ),
     )
 
-head_is_some : (left : List ℕ) (h : RequestHead) (rest : List ℕ) → left ≡ print_request h ++ rest → left ≢ []
+pub head_is_some : (left : List ℕ) (h : RequestHead) (rest : List ℕ) → left ≡ print_request h ++ rest → left ≢ []
 head_is_some left h rest cut none =
     let after = h.target ++ 32 ∷ (print_version h.minor ++ (print_end h.line_end ++ (print_section h.fields h.last ++ rest))) in
     omega (arith, ap length none, ap length (cut ∙ print_request-append h rest), length-append (print_blank h.blank) (h.method ++ 32 ∷ after), length-append h.method (32 ∷ after))
@@ -118,3 +118,21 @@ pub answer_refused : (bytes : List ℕ) (size number : ℕ) (left : Option (List
     → (rest : List ℕ) × (prepend_known (drop size bytes) left ≡ Some rest) × ReadsAnswer (bytes ++ all) (other_status number rest)
 answer_refused bytes size number left all has told =
     (drop size bytes ++ all, ap (prepend_known (drop size bytes)) told, (has.head, has.is all, has.says))
+
+size_of : Judgement → ℕ
+size_of (refused number) = 0
+size_of (taken client size close) = size
+
+-- where a post stands whole, its body does after the head that was found
+pub post_is_there : (old new : List ℕ) (size : ℕ) (terms : PostTerms) (head : RequestHead) (client body : List ℕ) (close : Bool) (rest : List ℕ)
+    → new ≡ old → HasPostHead new size terms → IsPostHead old head (body ++ rest) → judge_post head ≡ taken client (length body) close
+    → terms.size ≤ length (drop size new)
+unfolding size_of
+post_is_there old new size terms head client body close rest same has is says =
+    let at : ReadsRequest new has.head (drop size new) =
+    subst (λ (xs : List ℕ). ReadsRequest xs has.head (drop size new)) (append-nil new)
+    (subst (λ (xs : List ℕ). ReadsRequest (new ++ []) has.head xs) (append-nil (drop size new)) (has.is []).reads) in
+    let here : ReadsRequest new head (body ++ rest) = subst (λ (xs : List ℕ). ReadsRequest xs head (body ++ rest)) (sym same) is.reads in
+    let one = request_unique new has.head head (drop size new) (body ++ rest) at here in
+    let sizes : terms.size ≡ length body = ap size_of (sym has.says ∙ ap judge_post one.0 ∙ says) in
+    omega (arith, sizes, ap length one.1, length-append body rest)

@@ -33,6 +33,7 @@ pub(crate) fn take_body<S: Source>(
     ensures told { is_some (S.left source.new) ≡ is_some (S.left source.old) }
     ensures apart { S.outgoing source.new ≡ S.outgoing source.old }
     ensures later { S.faults source.old ≤ S.faults source.new }
+    ensures quiet { size ≤ length buffer.old → source.new ≡ source.old }
 {
     let Ok(mut body) = Vec::with_capacity(alloc, size) else {
         return Err(Unread::NoMemory);
@@ -42,6 +43,9 @@ pub(crate) fn take_body<S: Source>(
         return Err(Unread::NoMemory);
     }
     buffer.advance(there);
+    if there == size {
+        return Ok(body);
+    }
     fill_body(body, source, size)
 }
 

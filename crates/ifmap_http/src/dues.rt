@@ -1,5 +1,5 @@
 //! When bytes that were taken are worth being parsed.
-ghost use Rattle.std.specs.Prelude.{◌≤◌, length};
+ghost use Rattle.std.specs.Prelude.{◌≡◌, ◌≤◌, [], length};
 ghost use Rattle.std.specs.Bool.{OnFalse};
 ghost use Rattle.ifmap_heads.specs.Limits.{longest_head};
 
@@ -19,7 +19,9 @@ pub(crate) struct Progress {
 }
 
 impl Progress {
-    pub(crate) fn new() -> Progress {
+    pub(crate) fn new() -> Progress
+        ensures { result.parsed ≡ 0 }
+    {
         Progress {
             blank: 0,
             seen: 0,
@@ -27,9 +29,10 @@ impl Progress {
         }
     }
 
-    // The bytes are worth being parsed. Past the limit they always are.
+    // The bytes are worth being parsed. The first bytes are, and bytes past the limit always are.
     pub(crate) fn is_due(&mut self, bytes: &[u8]) -> bool
-        ensures { OnFalse result (length bytes.now ≤ longest_head) }
+        ensures within { OnFalse result (length bytes.now ≤ longest_head) }
+        ensures first { OnFalse result (self.old.parsed ≡ 0 → bytes.now ≡ []) }
     {
         let from = self.seen.min(bytes.len());
         self.seen = bytes.len();

@@ -2,6 +2,8 @@
 ghost use Rattle.std.specs.Prelude.{◌≡◌, ◌≢◌, ◌≤◌, ℕ, List, IfNone, IfSome, Option, is_some, length};
 ghost use Rattle.std.specs.Io.KnownBytes.{IsAtEnd};
 ghost use Rattle.ifmap_io.specs.Causes.{Rose};
+ghost use Rattle.httparse.specs.Grammar.{RequestHead};
+ghost use Rattle.ifmap_heads.specs.Heads.{HasNoPostHead, IsPostHead};
 ghost use Rattle.ifmap_heads.specs.Limits.{longest_head};
 ghost use Rattle.ifmap_http.specs.Buffers.{AwaitsAnswer, AwaitsPost, Takes, UnlessAnswerFails, UnlessPostFails};
 
@@ -37,8 +39,8 @@ pub enum AwaitedAnswer {
     NoMemory,
 }
 
-// Waits for the head of a post.
-#[tactic(auto, using(crate::proofs::Taking::takes_nothing, crate::proofs::Taking::takes_more, crate::proofs::Taking::rose_since))]
+// Waits for the head of a post. The source is left alone where one was taken from it before.
+#[tactic(auto, using(crate::proofs::Taking::takes_nothing, crate::proofs::Taking::unless_post))]
 pub(crate) fn await_post<S: Source>(
     alloc: Global,
     buffer: &mut Buffer,
@@ -50,8 +52,32 @@ pub(crate) fn await_post<S: Source>(
     ensures told { is_some (S.left source.new) ≡ is_some (S.left source.old) }
     ensures apart { S.outgoing source.new ≡ S.outgoing source.old }
     ensures later { S.faults source.old ≤ S.faults source.new }
+    ensures quiet { (head : RequestHead) (rest : List ℕ) → IsPostHead buffer.old head rest
+        → (source.new ≡ source.old) × (buffer.new ≡ buffer.old) }
 {
     let mut progress = Progress::new();
+    if let Some(awaited) = look_at_post(alloc, &mut progress, buffer.bytes()) {
+        return awaited;
+    }
+    await_more(alloc, progress, buffer, source)
+}
+
+// Waits for the head of a post, of which some bytes were looked at.
+#[tactic(auto, using(crate::proofs::Taking::takes_nothing, crate::proofs::Taking::takes_more, crate::proofs::Taking::rose_since))]
+fn await_more<S: Source>(
+    alloc: Global,
+    progress: Progress,
+    buffer: &mut Buffer,
+    source: &mut S,
+) -> AwaitedPost
+    ensures taken { UnlessPostFails result (Takes (S.left source.old) (S.left source.new) buffer.old buffer.new) }
+    ensures is { AwaitsPost buffer.new (S.left source.new) result }
+    ensures fault { result ≡ AwaitedPost.ReadFault → Rose (S.faults source.old) (S.faults source.new) }
+    ensures told { is_some (S.left source.new) ≡ is_some (S.left source.old) }
+    ensures apart { S.outgoing source.new ≡ S.outgoing source.old }
+    ensures later { S.faults source.old ≤ S.faults source.new }
+{
+    let mut progress = progress;
     'head: loop {
         if let Some(awaited) = look_at_post(alloc, &mut progress, buffer.bytes()) {
             return awaited;
@@ -68,6 +94,7 @@ pub(crate) fn await_post<S: Source>(
 // What the bytes of a post so far are, whatever comes after them; `None` where more is to be waited for.
 fn look_at_post(alloc: Global, progress: &mut Progress, bytes: &[u8]) -> Option<AwaitedPost>
     ensures none { IfNone result (length bytes.now ≤ longest_head) }
+    ensures first { IfNone result (progress.old.parsed ≡ 0 → HasNoPostHead bytes.now) }
     ensures some { IfSome result (λ awaited. (left : Option (List ℕ)) → AwaitsPost bytes.now left awaited) }
     ensures never { IfSome result (λ awaited. awaited ≢ AwaitedPost.ReadFault) }
 {

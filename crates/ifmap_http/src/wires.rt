@@ -1,9 +1,10 @@
 //! Wires: HTTP over a link.
-ghost use Rattle.std.specs.Prelude.{◌≡◌, ◌≤◌, ◌++◌, ℕ, List, Some, false, [], IfSome, IsFalse, IsTrue, is_some, not};
+ghost use Rattle.std.specs.Prelude.{◌≡◌, ◌≤◌, ◌++◌, ℕ, Bool, List, Some, false, [], IfSome, IsFalse, IsTrue, drop, is_some, length, not};
 ghost use Rattle.std.specs.Io.KnownBytes.{prepend_known};
 ghost use Rattle.ifmap_io.specs.Causes.{Rose};
 ghost use Rattle.ifmap_heads.specs.Answers.{sized};
 ghost use Rattle.ifmap_heads.specs.Messages.{answer_bytes, is_answer_status, is_visible, post_bytes};
+ghost use Rattle.ifmap_heads.specs.Posts.{ReadsPost, posted};
 ghost use Rattle.ifmap_heads.specs.Starts.{HasAnswerHead, HasPostHead};
 ghost use Rattle.ifmap_http.specs.Outcomes.{GetsAnswer, GetsPost, Sends, is_answered, is_posted};
 
@@ -112,8 +113,16 @@ impl<L: Link> Wire<L> {
         link
     }
 
+    /// The wire was read to where nothing more can be read of it.
+    pub fn is_spent(&self) -> bool
+        ensures { result ≡ self.now.spent }
+    {
+        self.spent
+    }
+
     /// Reads a post: a head of at most 16,384 bytes and 64 fields, and a body of at most 10,000,000.
-    /// After any other answer the wire is spent.
+    /// After any other answer the wire is spent. A post that was taken whole before is handed out with
+    /// no call of the link.
     pub fn read_post(&mut self, alloc: Global) -> Got
         requires { IsFalse self.old.spent }
         ensures reads { IfSome (prepend_known self.old.taken (L.left self.old.link))
@@ -123,6 +132,8 @@ impl<L: Link> Wire<L> {
         ensures told { is_some (L.left self.new.link) ≡ is_some (L.left self.old.link) }
         ensures apart { L.outgoing self.new.link ≡ L.outgoing self.old.link }
         ensures spent { self.new.spent ≡ not (is_posted result) }
+        ensures quiet { (client body : List ℕ) (close : Bool) (rest : List ℕ)
+            → ReadsPost self.old.taken (posted client body close rest) → self.new.link ≡ self.old.link }
     {
         let got = self.take_post(alloc);
         self.spent = !matches!(got, Got::Posted(_));
@@ -195,6 +206,8 @@ impl<L: Link> Wire<L> {
         ensures later { L.Source.faults self.old.link ≤ L.Source.faults self.new.link }
         ensures told { is_some (L.left self.new.link) ≡ is_some (L.left self.old.link) }
         ensures apart { L.outgoing self.new.link ≡ L.outgoing self.old.link }
+        ensures quiet { (client body : List ℕ) (close : Bool) (rest : List ℕ)
+            → ReadsPost self.old.taken (posted client body close rest) → self.new.link ≡ self.old.link }
     {
         match await_post(alloc, &mut self.buffer, &mut self.link) {
             AwaitedPost::Taken(size, terms) => self.take_posted(alloc, size, terms),
@@ -215,6 +228,7 @@ impl<L: Link> Wire<L> {
         ensures later { L.Source.faults self.old.link ≤ L.Source.faults self.new.link }
         ensures told { is_some (L.left self.new.link) ≡ is_some (L.left self.old.link) }
         ensures apart { L.outgoing self.new.link ≡ L.outgoing self.old.link }
+        ensures quiet { terms.size ≤ length (drop size self.old.taken) → self.new.link ≡ self.old.link }
     {
         self.buffer.advance(size);
         match take_body(alloc, &mut self.buffer, &mut self.link, terms.size) {

@@ -1,5 +1,7 @@
+use Rattle.std.proofs.Common.{◌++◌, ◌∙◌}
 use Rattle.std.specs.Io.KnownBytes.{prepend_known}
 use Rattle.ifmap_http.proofs.Gets.{gets_ended, gets_nothing, gets_refused, gets_taken, gets_truncated}
+use Rattle.ifmap_http.proofs.Reading.{post_is_there}
 use Rattle.ifmap_http.proofs.wires.Wire.take_post.Goals as goal
 
 pub returns-in-Taken-clause-reads : goal.returns-in-Taken-clause-reads
@@ -31,3 +33,14 @@ returns-in-ReadFault-clause-reads g c = gets_nothing (prepend_known c.args.self.
 
 pub returns-in-NoMemory-clause-reads : goal.returns-in-NoMemory-clause-reads
 returns-in-NoMemory-clause-reads g c = gets_nothing (prepend_known c.args.self.now.taken (g.L.Source.left c.args.self.now.link))
+
+pub returns-in-Taken-clause-quiet : goal.returns-in-Taken-clause-quiet
+returns-in-Taken-clause-quiet g c =
+    rw (← c.self.view_is)
+    (λ client body close rest post.
+    let (head, is, says) = post in
+    let quiet = c.in-Taken.ensures.quiet head (body ++ rest) is in
+    c.take_posted.ensures.quiet
+    (post_is_there c.self.inside.buffer c.await_post.new.buffer c.in-Taken.size c.in-Taken.terms head client body close rest
+    quiet.1 c.in-Taken.ensures.is is says)
+    ∙ quiet.0)

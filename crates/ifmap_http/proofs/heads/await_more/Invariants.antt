@@ -1,7 +1,7 @@
 use Rattle.std.proofs.Common.{◌≡◌, ◌≤◌, ◌-◌, length}
 use Rattle.std.specs.Prelude.{is_some}
 use Rattle.ifmap_http.specs.Buffers.{Takes}
-use Rattle.ifmap_http.proofs.heads.await_post.Given as goal
+use Rattle.ifmap_http.proofs.heads.await_more.Given as goal
 
 abbrev pub invariant-head : goal.invariant-head
 invariant-head g l = record {
