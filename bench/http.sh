@@ -92,7 +92,7 @@ impl Link for Drip {
 }
 
 // How long a head of that many bytes takes, which comes a byte at a time.
-fn drip(rt: &impl Clock, alloc: Global, size: usize) -> io::Result<u128> {
+fn time_drip(rt: &impl Clock, alloc: Global, size: usize) -> io::Result<u128> {
     let mut left = b"POST / HTTP/1.1\r\nifmap-client: c\r\ncontent-length: 0\r\na: ".to_vec(alloc)?;
     left.resize(size, b'x')?;
     left.extend_from_slice(b"\r\n\r\n")?;
@@ -109,7 +109,8 @@ fn drip(rt: &impl Clock, alloc: Global, size: usize) -> io::Result<u128> {
 
 // Reads a post and answers it.
 fn serve<L: Link>(alloc: Global, wire: &mut Wire<L>) -> bool {
-    matches!(wire.read_post(alloc), Got::Posted(_))
+    !wire.is_spent()
+        && matches!(wire.read_post(alloc), Got::Posted(_))
         && wire.write_answer(alloc, 200, b"<answer/>", false) == Sent::Done
 }
 
@@ -117,10 +118,14 @@ fn nanoseconds(rt: &impl Clock, began: Instant, count: u32) -> io::Result<u128> 
     Ok(Instant::now(rt)?.duration_since(began).as_nanos() / u128::from(count.max(1)))
 }
 
-fn main(rt: HostRuntime) -> io::Result<()> {
-    let alloc = rt.alloc();
+fn hundredths(of: u128, one: u128) -> u128 {
+    of.saturating_mul(100) / one.max(1)
+}
+
+// Posts over links in memory, all of which are there at once.
+fn time_memory(rt: &impl Clock, alloc: Global) -> io::Result<u128> {
     let all = posts(alloc, POSTS)?;
-    let began = Instant::now(&rt)?;
+    let began = Instant::now(rt)?;
     let mut wire = Wire::new(alloc, MemoryLink::new(all, Vec::new(alloc), Vec::new(alloc)));
     let mut served = 0u32;
     for _ in 0..POSTS {
@@ -128,9 +133,12 @@ fn main(rt: HostRuntime) -> io::Result<()> {
             served = served.saturating_add(1);
         }
     }
-    let each = nanoseconds(&rt, began, POSTS)?;
-    println!(rt; "links in memory: {served} posts, {each} ns each")?;
-    let began = Instant::now(&rt)?;
+    nanoseconds(rt, began, served)
+}
+
+// The same heads through the parser alone.
+fn time_parser(rt: &impl Clock) -> io::Result<u128> {
+    let began = Instant::now(rt)?;
     let mut parsed = 0u32;
     for _ in 0..POSTS {
         let mut room = [EMPTY_HEADER; 64];
@@ -139,46 +147,62 @@ fn main(rt: HostRuntime) -> io::Result<()> {
             parsed = parsed.saturating_add(1);
         }
     }
-    let alone = nanoseconds(&rt, began, POSTS)?;
-    let ratio = 100 * each / alone.max(1);
-    println!(rt; "httparse alone: {parsed} heads, {alone} ns each; links in memory take {ratio} hundredths of that")?;
+    nanoseconds(rt, began, parsed)
+}
+
+// The same bytes over a pair of sockets, with no HTTP.
+fn time_bare(rt: &impl Clock, near: &mut TcpLink, far: &mut TcpLink, one: &[u8]) -> io::Result<u128> {
+    let mut room = [0u8; 4096];
+    let mut there = [0u8; 4096];
+    let began = Instant::now(rt)?;
+    let mut moved = 0u32;
+    for _ in 0..EXCHANGES {
+        if near.write_all(one).is_ok()
+            && far.read(&mut there).is_ok()
+            && far.write_all(&there[..84]).is_ok()
+            && near.read(&mut room).is_ok()
+        {
+            moved = moved.saturating_add(1);
+        }
+    }
+    nanoseconds(rt, began, moved)
+}
+
+fn time_sockets(rt: &impl Clock, alloc: Global, near: &mut TcpLink, far: TcpLink, one: &[u8]) -> io::Result<u128> {
+    let mut room = [0u8; 4096];
+    let mut wire = Wire::new(alloc, far);
+    let began = Instant::now(rt)?;
+    let mut served = 0u32;
+    for _ in 0..EXCHANGES {
+        if near.write_all(one).is_ok() && serve(alloc, &mut wire) && near.read(&mut room).is_ok() {
+            served = served.saturating_add(1);
+        }
+    }
+    nanoseconds(rt, began, served)
+}
+
+fn main(rt: HostRuntime) -> io::Result<()> {
+    let alloc = rt.alloc();
+    let each = time_memory(&rt, alloc)?;
+    let alone = time_parser(&rt)?;
+    let ratio = hundredths(each, alone);
+    println!(rt; "links in memory: {each} ns a post; httparse alone: {alone} ns a head; {ratio} hundredths of that")?;
     let listener = TcpListener::bind(&rt, "127.0.0.1:0")?;
     let mut near = TcpLink::new(TcpStream::connect(&rt, listener.local_addr()?)?);
     let Ok(Some(mut far)) = TcpDoor::new(&listener).accept() else {
         return Err(io::Error::from(io::ErrorKind::NotConnected));
     };
     let one = post(alloc)?;
-    let mut room = [0u8; 4096];
-    let mut there = [0u8; 4096];
-    let began = Instant::now(&rt)?;
-    let mut moved = 0u32;
-    for _ in 0..EXCHANGES {
-        if near.write_all(&one).is_ok()
-            && far.read(&mut there).is_ok()
-            && far.write_all(&one[..84]).is_ok()
-            && near.read(&mut room).is_ok()
-        {
-            moved = moved.saturating_add(1);
-        }
-    }
-    let bare = nanoseconds(&rt, began, EXCHANGES)?;
-    let mut wire = Wire::new(alloc, far);
-    let began = Instant::now(&rt)?;
-    let mut served = 0u32;
-    for _ in 0..EXCHANGES {
-        if near.write_all(&one).is_ok() && serve(alloc, &mut wire) && near.read(&mut room).is_ok() {
-            served = served.saturating_add(1);
-        }
-    }
-    let each = nanoseconds(&rt, began, EXCHANGES)?;
-    let ratio = 100 * each / bare.max(1);
-    println!(rt; "a pair of sockets: {served} posts, {each} ns each; {moved} bare exchanges, {bare} ns each: {ratio} hundredths of that")?;
-    let half = drip(&rt, alloc, 8_000)?;
-    let whole = drip(&rt, alloc, 16_000)?;
-    let ratio = 100 * whole / half.max(1);
-    println!(rt; "a byte at a time: a head of 8,000 bytes in {half} ns, of 16,000 in {whole} ns: {ratio} hundredths of that")?;
+    let bare = time_bare(&rt, &mut near, &mut far, &one)?;
+    let each = time_sockets(&rt, alloc, &mut near, far, &one)?;
+    let ratio = hundredths(each, bare);
+    println!(rt; "a pair of sockets: {each} ns an exchange; without HTTP: {bare} ns; {ratio} hundredths of that")?;
+    let half = time_drip(&rt, alloc, 8_000)?;
+    let whole = time_drip(&rt, alloc, 16_000)?;
+    let ratio = hundredths(whole, half);
+    println!(rt; "a byte at a time: a head of 8,000 bytes in {half} ns, of 16,000 in {whole} ns; {ratio} hundredths of that")?;
     Ok(())
 }
 RATTLE
 cd "$work/crates/http_bench"
-rt try
+rt "${1:-run}"
