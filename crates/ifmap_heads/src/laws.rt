@@ -17,7 +17,8 @@ pub fn answers_are_read_in_one_way()
 
 /// A post that is written is read back, whatever comes after it.
 pub fn written_posts_are_read()
-    ensures { (host client body rest : List ℕ) → IsTrue (is_visible host) → IsTrue (is_client_name client)
+    ensures { (host client body rest : List ℕ) → IsTrue (is_visible host)
+        → IsTrue (is_client_name client)
         → length host ≤ longest_host → length body ≤ longest_post
         → ReadsPost (post_bytes host client body ++ rest) (posted client body false rest) }
 {}
@@ -26,6 +27,7 @@ pub fn written_posts_are_read()
 pub fn written_answers_are_read()
     ensures body { (body rest : List ℕ) (close : Bool) → length body ≤ longest_answer
         → ReadsAnswer (answer_bytes 200 body close ++ rest) (answered body rest) }
-    ensures other { (number : ℕ) (body rest : List ℕ) (close : Bool) → IsTrue (is_answer_status number) → number ≢ 200
+    ensures other { (number : ℕ) (body rest : List ℕ) (close : Bool)
+        → IsTrue (is_answer_status number) → number ≢ 200
         → ReadsAnswer (answer_bytes number body close ++ rest) (status number rest) }
 {}

@@ -109,7 +109,8 @@ fn judge_parts(
     minor: u8,
     headers: &[Header<'_>],
 ) -> Result<Judged, AllocError>
-    ensures { IfOk result (λ j. judgement_of j ≡ judge_parts method.now minor (map header_parts headers.now)) }
+    ensures { IfOk result
+        (λ j. judgement_of j ≡ judge_parts method.now minor (map header_parts headers.now)) }
 {
     if method != Method::POST.as_str().as_bytes() {
         return Ok(Judged::Refused(StatusCode::METHOD_NOT_ALLOWED));
@@ -159,7 +160,9 @@ fn has_length(headers: &[Header<'_>]) -> bool
 
 // The client, where it is named once and by a name.
 fn only_client(alloc: Global, headers: &[Header<'_>]) -> Result<Option<ClientName>, AllocError>
-    ensures { IfOk result (λ client. client ≡ only_client (values (codes "ifmap-client") (map header_parts headers.now))) }
+    ensures { IfOk result
+        (λ client. client
+        ≡ only_client (values (codes "ifmap-client") (map header_parts headers.now))) }
 {
     let Some(named) = next_value(IFMAP_CLIENT, headers) else {
         return Ok(None);
@@ -172,7 +175,8 @@ fn only_client(alloc: Global, headers: &[Header<'_>]) -> Result<Option<ClientNam
 
 // The value as a client's name, where it is one.
 fn client_of(alloc: Global, value: &[u8]) -> Result<Option<ClientName>, AllocError>
-    ensures { IfOk result (λ client. client ≡ (if is_client_name value.now then Some value.now else None)) }
+    ensures { IfOk result
+        (λ client. client ≡ (if is_client_name value.now then Some value.now else None)) }
 {
     match std::str::from_utf8(value) {
         Ok(text) => Ok(ClientName::new(Text(String::from_str(alloc, text)?))),

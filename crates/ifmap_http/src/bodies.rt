@@ -26,10 +26,13 @@ pub(crate) fn take_body<S: Source>(
     source: &mut S,
     size: usize,
 ) -> Result<Vec<u8>, Unread>
-    ensures body { IfOk result (λ body. TakesBody (S.left source.old) (S.left source.new) buffer.old buffer.new body.items) }
+    ensures body { IfOk result (λ body.
+        TakesBody (S.left source.old) (S.left source.new) buffer.old buffer.new body.items) }
     ensures size { IfOk result (λ body. length body.items ≡ size) }
-    ensures truncated { result ≡ Err Unread.Truncated → LacksBody (S.left source.old) (S.left source.new) buffer.old size }
-    ensures fault { result ≡ Err Unread.ReadFault → Rose (S.faults source.old) (S.faults source.new) }
+    ensures truncated { result ≡ Err Unread.Truncated
+        → LacksBody (S.left source.old) (S.left source.new) buffer.old size }
+    ensures fault { result ≡ Err Unread.ReadFault
+        → Rose (S.faults source.old) (S.faults source.new) }
     ensures told { is_some (S.left source.new) ≡ is_some (S.left source.old) }
     ensures apart { S.outgoing source.new ≡ S.outgoing source.old }
     ensures later { S.faults source.old ≤ S.faults source.new }
@@ -54,10 +57,13 @@ pub(crate) fn take_body<S: Source>(
 fn fill_body<S: Source>(mut body: Vec<u8>, source: &mut S, size: usize) -> Result<Vec<u8>, Unread>
     requires { vec_len body ≤ size }
     ensures body { IfOk result (λ whole. (vec_len whole ≡ size)
-        × ((got : List ℕ) × Consumes (S.left source.old) (S.left source.new) got × (whole.items ≡ body.items ++ got))) }
+        × ((got : List ℕ) × Consumes (S.left source.old) (S.left source.new) got
+        × (whole.items ≡ body.items ++ got))) }
     ensures truncated { result ≡ Err Unread.Truncated → IsAtEnd (S.left source.new)
-        × ((got : List ℕ) × Consumes (S.left source.old) (S.left source.new) got × (length (body.items ++ got) < size)) }
-    ensures fault { result ≡ Err Unread.ReadFault → Rose (S.faults source.old) (S.faults source.new) }
+        × ((got : List ℕ) × Consumes (S.left source.old) (S.left source.new) got
+        × (length (body.items ++ got) < size)) }
+    ensures fault { result ≡ Err Unread.ReadFault
+        → Rose (S.faults source.old) (S.faults source.new) }
     ensures told { is_some (S.left source.new) ≡ is_some (S.left source.old) }
     ensures apart { S.outgoing source.new ≡ S.outgoing source.old }
     ensures later { S.faults source.old ≤ S.faults source.new }
@@ -97,7 +103,8 @@ fn read_after<S: Source>(source: &mut S, body: &mut Vec<u8>, filled: usize) -> R
     ensures got { IfOk result (λ count. (filled + count ≤ vec_len body.new)
         × ((got : List ℕ) × Consumes (S.left source.old) (S.left source.new) got
         × (take (filled + count) body.new.items ≡ take filled body.old.items ++ got))) }
-    ensures end { IfOk result (λ count. count ≡ 0 → filled < vec_len body.old → IsAtEnd (S.left source.new)) }
+    ensures end { IfOk result (λ count. count ≡ 0 → filled < vec_len body.old
+        → IsAtEnd (S.left source.new)) }
     ensures fault { OnErr result (Rose (S.faults source.old) (S.faults source.new)) }
     ensures told { is_some (S.left source.new) ≡ is_some (S.left source.old) }
     ensures apart { S.outgoing source.new ≡ S.outgoing source.old }

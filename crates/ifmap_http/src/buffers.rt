@@ -60,10 +60,13 @@ impl Buffer {
 
     // Takes more from the source by one read; false at its end.
     pub(crate) fn fill<S: Source>(&mut self, source: &mut S) -> Result<bool, Unread>
-        ensures taken { OnOk result (Takes (S.left source.old) (S.left source.new) self.old self.new) }
+        ensures taken { OnOk result
+            (Takes (S.left source.old) (S.left source.new) self.old self.new) }
         ensures more { IfOk result (λ more. OnTrue more (length self.old < length self.new)) }
-        ensures end { IfOk result (λ more. OnFalse more (IsAtEnd (S.left source.new) × (self.new ≡ self.old))) }
-        ensures fault { result ≡ Err Unread.ReadFault → Rose (S.faults source.old) (S.faults source.new) }
+        ensures end { IfOk result (λ more. OnFalse more
+            (IsAtEnd (S.left source.new) × (self.new ≡ self.old))) }
+        ensures fault { result ≡ Err Unread.ReadFault
+            → Rose (S.faults source.old) (S.faults source.new) }
         ensures told { is_some (S.left source.new) ≡ is_some (S.left source.old) }
         ensures apart { S.outgoing source.new ≡ S.outgoing source.old }
         ensures later { S.faults source.old ≤ S.faults source.new }

@@ -46,9 +46,11 @@ pub(crate) fn await_post<S: Source>(
     buffer: &mut Buffer,
     source: &mut S,
 ) -> AwaitedPost
-    ensures taken { UnlessPostFails result (Takes (S.left source.old) (S.left source.new) buffer.old buffer.new) }
+    ensures taken { UnlessPostFails result
+        (Takes (S.left source.old) (S.left source.new) buffer.old buffer.new) }
     ensures is { AwaitsPost buffer.new (S.left source.new) result }
-    ensures fault { result ≡ AwaitedPost.ReadFault → Rose (S.faults source.old) (S.faults source.new) }
+    ensures fault { result ≡ AwaitedPost.ReadFault
+        → Rose (S.faults source.old) (S.faults source.new) }
     ensures told { is_some (S.left source.new) ≡ is_some (S.left source.old) }
     ensures apart { S.outgoing source.new ≡ S.outgoing source.old }
     ensures later { S.faults source.old ≤ S.faults source.new }
@@ -70,9 +72,11 @@ fn await_more<S: Source>(
     buffer: &mut Buffer,
     source: &mut S,
 ) -> AwaitedPost
-    ensures taken { UnlessPostFails result (Takes (S.left source.old) (S.left source.new) buffer.old buffer.new) }
+    ensures taken { UnlessPostFails result
+        (Takes (S.left source.old) (S.left source.new) buffer.old buffer.new) }
     ensures is { AwaitsPost buffer.new (S.left source.new) result }
-    ensures fault { result ≡ AwaitedPost.ReadFault → Rose (S.faults source.old) (S.faults source.new) }
+    ensures fault { result ≡ AwaitedPost.ReadFault
+        → Rose (S.faults source.old) (S.faults source.new) }
     ensures told { is_some (S.left source.new) ≡ is_some (S.left source.old) }
     ensures apart { S.outgoing source.new ≡ S.outgoing source.old }
     ensures later { S.faults source.old ≤ S.faults source.new }
@@ -95,7 +99,8 @@ fn await_more<S: Source>(
 fn look_at_post(alloc: Global, progress: &mut Progress, bytes: &[u8]) -> Option<AwaitedPost>
     ensures none { IfNone result (length bytes.now ≤ longest_head) }
     ensures first { IfNone result (progress.old.parsed ≡ 0 → HasNoPostHead bytes.now) }
-    ensures some { IfSome result (λ awaited. (left : Option (List ℕ)) → AwaitsPost bytes.now left awaited) }
+    ensures some { IfSome result (λ awaited. (left : Option (List ℕ))
+        → AwaitsPost bytes.now left awaited) }
     ensures never { IfSome result (λ awaited. awaited ≢ AwaitedPost.ReadFault) }
 {
     if !progress.is_due(bytes) {
@@ -134,9 +139,11 @@ fn end_post(alloc: Global, bytes: &[u8]) -> AwaitedPost
 // Waits for the head of an answer.
 #[tactic(auto, using(crate::proofs::Taking::takes_nothing, crate::proofs::Taking::takes_more, crate::proofs::Taking::rose_since))]
 pub(crate) fn await_answer<S: Source>(buffer: &mut Buffer, source: &mut S) -> AwaitedAnswer
-    ensures taken { UnlessAnswerFails result (Takes (S.left source.old) (S.left source.new) buffer.old buffer.new) }
+    ensures taken { UnlessAnswerFails result
+        (Takes (S.left source.old) (S.left source.new) buffer.old buffer.new) }
     ensures is { AwaitsAnswer buffer.new (S.left source.new) result }
-    ensures fault { result ≡ AwaitedAnswer.ReadFault → Rose (S.faults source.old) (S.faults source.new) }
+    ensures fault { result ≡ AwaitedAnswer.ReadFault
+        → Rose (S.faults source.old) (S.faults source.new) }
     ensures told { is_some (S.left source.new) ≡ is_some (S.left source.old) }
     ensures apart { S.outgoing source.new ≡ S.outgoing source.old }
     ensures later { S.faults source.old ≤ S.faults source.new }
@@ -159,7 +166,8 @@ pub(crate) fn await_answer<S: Source>(buffer: &mut Buffer, source: &mut S) -> Aw
 // for.
 fn look_at_answer(progress: &mut Progress, bytes: &[u8]) -> Option<AwaitedAnswer>
     ensures none { IfNone result (length bytes.now ≤ longest_head) }
-    ensures some { IfSome result (λ awaited. (left : Option (List ℕ)) → AwaitsAnswer bytes.now left awaited) }
+    ensures some { IfSome result (λ awaited. (left : Option (List ℕ))
+        → AwaitsAnswer bytes.now left awaited) }
     ensures never { IfSome result (λ awaited. awaited ≢ AwaitedAnswer.ReadFault) }
 {
     if !progress.is_due(bytes) {

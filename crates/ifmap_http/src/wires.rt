@@ -127,13 +127,15 @@ impl<L: Link> Wire<L> {
         requires { IsFalse self.old.spent }
         ensures reads { IfSome (prepend_known self.old.taken (L.left self.old.link))
             (λ left. GetsPost left (prepend_known self.new.taken (L.left self.new.link)) result) }
-        ensures fault { result ≡ Got.ReadFault → Rose (L.Source.faults self.old.link) (L.Source.faults self.new.link) }
+        ensures fault { result ≡ Got.ReadFault
+            → Rose (L.Source.faults self.old.link) (L.Source.faults self.new.link) }
         ensures later { L.Source.faults self.old.link ≤ L.Source.faults self.new.link }
         ensures told { is_some (L.left self.new.link) ≡ is_some (L.left self.old.link) }
         ensures apart { L.outgoing self.new.link ≡ L.outgoing self.old.link }
         ensures spent { self.new.spent ≡ not (is_posted result) }
         ensures quiet { (client body : List ℕ) (close : Bool) (rest : List ℕ)
-            → ReadsPost self.old.taken (posted client body close rest) → self.new.link ≡ self.old.link }
+            → ReadsPost self.old.taken (posted client body close rest)
+            → self.new.link ≡ self.old.link }
     {
         let got = self.take_post(alloc);
         self.spent = !matches!(got, Got::Posted(_));
@@ -145,8 +147,10 @@ impl<L: Link> Wire<L> {
     /// connection will be closed, as `close` does.
     pub fn write_answer(&mut self, alloc: Global, status: u16, body: &[u8], close: bool) -> Sent
         requires { IsTrue (is_answer_status status) }
-        ensures sends { Sends (L.held self.old.link) (L.held self.new.link) result (answer_bytes status body.now close) }
-        ensures fault { result ≡ Sent.WriteFault → Rose (L.Sink.faults self.old.link) (L.Sink.faults self.new.link) }
+        ensures sends { Sends (L.held self.old.link) (L.held self.new.link) result
+            (answer_bytes status body.now close) }
+        ensures fault { result ≡ Sent.WriteFault
+            → Rose (L.Sink.faults self.old.link) (L.Sink.faults self.new.link) }
         ensures later { L.Sink.faults self.old.link ≤ L.Sink.faults self.new.link }
         ensures told { is_some (L.held self.new.link) ≡ is_some (L.held self.old.link) }
         ensures apart { L.incoming self.new.link ≡ L.incoming self.old.link }
@@ -168,8 +172,10 @@ impl<L: Link> Wire<L> {
         body: &[u8],
     ) -> Sent
         requires { IsTrue (is_visible host.now) }
-        ensures sends { Sends (L.held self.old.link) (L.held self.new.link) result (post_bytes host.now client.now body.now) }
-        ensures fault { result ≡ Sent.WriteFault → Rose (L.Sink.faults self.old.link) (L.Sink.faults self.new.link) }
+        ensures sends { Sends (L.held self.old.link) (L.held self.new.link) result
+            (post_bytes host.now client.now body.now) }
+        ensures fault { result ≡ Sent.WriteFault
+            → Rose (L.Sink.faults self.old.link) (L.Sink.faults self.new.link) }
         ensures later { L.Sink.faults self.old.link ≤ L.Sink.faults self.new.link }
         ensures told { is_some (L.held self.new.link) ≡ is_some (L.held self.old.link) }
         ensures apart { L.incoming self.new.link ≡ L.incoming self.old.link }
@@ -187,7 +193,8 @@ impl<L: Link> Wire<L> {
         requires { IsFalse self.old.spent }
         ensures reads { IfSome (prepend_known self.old.taken (L.left self.old.link))
             (λ left. GetsAnswer left (prepend_known self.new.taken (L.left self.new.link)) result) }
-        ensures fault { result ≡ Answered.ReadFault → Rose (L.Source.faults self.old.link) (L.Source.faults self.new.link) }
+        ensures fault { result ≡ Answered.ReadFault
+            → Rose (L.Source.faults self.old.link) (L.Source.faults self.new.link) }
         ensures later { L.Source.faults self.old.link ≤ L.Source.faults self.new.link }
         ensures told { is_some (L.left self.new.link) ≡ is_some (L.left self.old.link) }
         ensures apart { L.outgoing self.new.link ≡ L.outgoing self.old.link }
@@ -202,12 +209,14 @@ impl<L: Link> Wire<L> {
     fn take_post(&mut self, alloc: Global) -> Got
         ensures reads { IfSome (prepend_known self.old.taken (L.left self.old.link))
             (λ left. GetsPost left (prepend_known self.new.taken (L.left self.new.link)) result) }
-        ensures fault { result ≡ Got.ReadFault → Rose (L.Source.faults self.old.link) (L.Source.faults self.new.link) }
+        ensures fault { result ≡ Got.ReadFault
+            → Rose (L.Source.faults self.old.link) (L.Source.faults self.new.link) }
         ensures later { L.Source.faults self.old.link ≤ L.Source.faults self.new.link }
         ensures told { is_some (L.left self.new.link) ≡ is_some (L.left self.old.link) }
         ensures apart { L.outgoing self.new.link ≡ L.outgoing self.old.link }
         ensures quiet { (client body : List ℕ) (close : Bool) (rest : List ℕ)
-            → ReadsPost self.old.taken (posted client body close rest) → self.new.link ≡ self.old.link }
+            → ReadsPost self.old.taken (posted client body close rest)
+            → self.new.link ≡ self.old.link }
     {
         match await_post(alloc, &mut self.buffer, &mut self.link) {
             AwaitedPost::Taken(size, terms) => self.take_posted(alloc, size, terms),
@@ -223,12 +232,15 @@ impl<L: Link> Wire<L> {
     fn take_posted(&mut self, alloc: Global, size: usize, terms: PostTerms) -> Got
         requires { HasPostHead self.old.taken size terms }
         ensures reads { (all : List ℕ) → L.left self.old.link ≡ Some all
-            → GetsPost (self.old.taken ++ all) (prepend_known self.new.taken (L.left self.new.link)) result }
-        ensures fault { result ≡ Got.ReadFault → Rose (L.Source.faults self.old.link) (L.Source.faults self.new.link) }
+            → GetsPost (self.old.taken ++ all) (prepend_known self.new.taken
+            (L.left self.new.link)) result }
+        ensures fault { result ≡ Got.ReadFault
+            → Rose (L.Source.faults self.old.link) (L.Source.faults self.new.link) }
         ensures later { L.Source.faults self.old.link ≤ L.Source.faults self.new.link }
         ensures told { is_some (L.left self.new.link) ≡ is_some (L.left self.old.link) }
         ensures apart { L.outgoing self.new.link ≡ L.outgoing self.old.link }
-        ensures quiet { terms.size ≤ length (drop size self.old.taken) → self.new.link ≡ self.old.link }
+        ensures quiet { terms.size ≤ length (drop size self.old.taken)
+            → self.new.link ≡ self.old.link }
     {
         self.buffer.advance(size);
         match take_body(alloc, &mut self.buffer, &mut self.link, terms.size) {
@@ -247,7 +259,8 @@ impl<L: Link> Wire<L> {
     fn take_answer(&mut self, alloc: Global) -> Answered
         ensures reads { IfSome (prepend_known self.old.taken (L.left self.old.link))
             (λ left. GetsAnswer left (prepend_known self.new.taken (L.left self.new.link)) result) }
-        ensures fault { result ≡ Answered.ReadFault → Rose (L.Source.faults self.old.link) (L.Source.faults self.new.link) }
+        ensures fault { result ≡ Answered.ReadFault
+            → Rose (L.Source.faults self.old.link) (L.Source.faults self.new.link) }
         ensures later { L.Source.faults self.old.link ≤ L.Source.faults self.new.link }
         ensures told { is_some (L.left self.new.link) ≡ is_some (L.left self.old.link) }
         ensures apart { L.outgoing self.new.link ≡ L.outgoing self.old.link }
@@ -269,8 +282,10 @@ impl<L: Link> Wire<L> {
     fn take_answered(&mut self, alloc: Global, size: usize, body: usize) -> Answered
         requires { HasAnswerHead self.old.taken size (sized body) }
         ensures reads { (all : List ℕ) → L.left self.old.link ≡ Some all
-            → GetsAnswer (self.old.taken ++ all) (prepend_known self.new.taken (L.left self.new.link)) result }
-        ensures fault { result ≡ Answered.ReadFault → Rose (L.Source.faults self.old.link) (L.Source.faults self.new.link) }
+            → GetsAnswer (self.old.taken ++ all) (prepend_known self.new.taken
+            (L.left self.new.link)) result }
+        ensures fault { result ≡ Answered.ReadFault
+            → Rose (L.Source.faults self.old.link) (L.Source.faults self.new.link) }
         ensures later { L.Source.faults self.old.link ≤ L.Source.faults self.new.link }
         ensures told { is_some (L.left self.new.link) ≡ is_some (L.left self.old.link) }
         ensures apart { L.outgoing self.new.link ≡ L.outgoing self.old.link }
@@ -289,7 +304,8 @@ impl<L: Link> Wire<L> {
 #[tactic(auto, using(crate::proofs::Sending::sent_and_kept))]
 fn send<L: Link>(link: &mut L, message: &[u8]) -> Sent
     ensures sends { Sends (L.held link.old) (L.held link.new) result message.now }
-    ensures fault { result ≡ Sent.WriteFault → Rose (L.Sink.faults link.old) (L.Sink.faults link.new) }
+    ensures fault { result ≡ Sent.WriteFault
+        → Rose (L.Sink.faults link.old) (L.Sink.faults link.new) }
     ensures later { L.Sink.faults link.old ≤ L.Sink.faults link.new }
     ensures told { is_some (L.held link.new) ≡ is_some (L.held link.old) }
     ensures apart { L.incoming link.new ≡ L.incoming link.old }
