@@ -44,7 +44,8 @@ skips_none [] is = refl
 skips_none (b ∷ v) is = rw (no_space b (and_parts (is_visible_byte b) (list_all is_visible_byte v) is).0) refl
 
 turned : (v : List ℕ) → list_all is_visible_byte v ≡ true → list_all is_visible_byte (reverse v) ≡ true
-turned v is = list_all-from_AllPass is_visible_byte (reverse v) (AllPass-reverse is_visible_byte v (AllPass-from_list_all is_visible_byte v is))
+turned v is = list_all-from_AllPass is_visible_byte (reverse v)
+    (AllPass-reverse is_visible_byte v (AllPass-from_list_all is_visible_byte v is))
 
 -- a visible value is read as it was written
 value_stays : (name v : List ℕ) → list_all is_visible_byte v ≡ true → field_value (written_field name v) ≡ v

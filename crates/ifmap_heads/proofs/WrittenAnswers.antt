@@ -70,7 +70,8 @@ plain : (number : ℕ) (body rest : List ℕ) (close : Bool)
     → ReadsAnswer (answer_bytes number body close ++ rest) (status number rest)
 unfolding is_token_byte
 plain number body rest close is three ten seen short code other_than =
-    status_is_read number (phrase number) (closing []) (answer_bytes number body close) rest is three ten seen refl short refl code other_than
+    status_is_read number (phrase number) (closing [])
+    (answer_bytes number body close) rest is three ten seen refl short refl code other_than
 
 read_400 : (body rest : List ℕ) (close : Bool) → ReadsAnswer (answer_bytes 400 body close ++ rest) (status 400 rest)
 unfolding print_response is_token_byte digits
@@ -166,7 +167,8 @@ head_is_short count false few =
           (codes "\r\n") [],
     )
 
-are_fit : (count : List ℕ) (close : Bool) → list_all is_visible_byte count ≡ true → list_all is_fit (success count (last_pairs close)) ≡ true
+are_fit : (count : List ℕ) (close : Bool) → list_all is_visible_byte count ≡ true → list_all is_fit
+    (success count (last_pairs close)) ≡ true
 unfolding is_token_byte
 are_fit count true seen = rw seen refl
 are_fit count false seen = rw seen refl

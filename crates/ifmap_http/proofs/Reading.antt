@@ -22,7 +22,8 @@ for_told P (Some xs) (Some rest) old new takes claim =
     ∙ ap (λ (bytes : List ℕ). old ++ bytes) (sym takes.consumed) in
     subst P whole (claim rest refl)
 
-pub at_end_is : (P : List ℕ → Type 0) (bytes rest : List ℕ) (left : Option (List ℕ)) → left ≡ Some rest → IsAtEnd left → P bytes → P (bytes ++ rest)
+pub at_end_is : (P : List ℕ → Type 0) (bytes rest : List ℕ) (left : Option (List ℕ)) → left ≡ Some rest → IsAtEnd left → P bytes → P
+    (bytes ++ rest)
 at_end_is P bytes rest left is end holds =
     let none : rest ≡ [] = subst IsAtEnd is end in
     subst P (sym (ap (λ (xs : List ℕ). bytes ++ xs) none ∙ append-nil bytes)) holds
@@ -47,8 +48,10 @@ pub record After (left_new : Option (List ℕ)) (all got : List ℕ) : Type 0 wh
   pub is : left_new ≡ Some rest
   pub split : all ≡ got ++ rest
 
-pub after_of : (left_old left_new : Option (List ℕ)) (all got : List ℕ) → left_old ≡ Some all → Consumes left_old left_new got → After left_new all got
-after_of left_old left_new all got is consumed = by_new left_new (subst (λ (left : Option (List ℕ)). Consumes left left_new got) is consumed)
+pub after_of : (left_old left_new : Option (List ℕ)) (all got : List ℕ) → left_old ≡ Some all → Consumes left_old left_new got
+    → After left_new all got
+after_of left_old left_new all got is consumed = by_new left_new
+    (subst (λ (left : Option (List ℕ)). Consumes left left_new got) is consumed)
   where
     by_new : (left : Option (List ℕ)) → Consumes (Some all) left got → After left all got
     by_new None none = absurd none
@@ -78,7 +81,14 @@ post_read bytes size terms left_old left_new all new body has told takes sized_i
 pub head_is_some : (left : List ℕ) (h : RequestHead) (rest : List ℕ) → left ≡ print_request h ++ rest → left ≢ []
 head_is_some left h rest cut none =
     let after = h.target ++ 32 ∷ (print_version h.minor ++ (print_end h.line_end ++ (print_section h.fields h.last ++ rest))) in
-    omega (arith, ap length none, ap length (cut ∙ print_request-append h rest), length-append (print_blank h.blank) (h.method ++ 32 ∷ after), length-append h.method (32 ∷ after))
+    omega (
+      arith,
+      ap length none,
+      ap length (cut ∙ print_request-append h rest),
+      length-append (print_blank h.blank)
+          (h.method ++ 32 ∷ after),
+      length-append h.method (32 ∷ after),
+    )
 
 pub post_lacks : (bytes : List ℕ) (size : ℕ) (terms : PostTerms) (left_old left_new : Option (List ℕ)) (all : List ℕ)
     → HasPostHead bytes size terms → left_old ≡ Some all → LacksBody left_old left_new (drop size bytes) terms.size
@@ -87,7 +97,8 @@ post_lacks bytes size terms left_old left_new all has told lacks =
     let after = after_of left_old left_new all lacks.got told lacks.consumed in
     let none : after.rest ≡ [] = subst IsAtEnd after.is lacks.at_end in
     let same : all ≡ lacks.got = after.split ∙ ap (λ (xs : List ℕ). lacks.got ++ xs) none ∙ append-nil lacks.got in
-    let short : length (drop size bytes ++ all) < terms.size = subst (λ (xs : List ℕ). length (drop size bytes ++ xs) < terms.size) (sym same) lacks.short in (
+    let short : length (drop size bytes ++ all) < terms.size = subst (λ (xs : List ℕ). length (drop size bytes ++ xs) < terms.size)
+    (sym same) lacks.short in (
       head_is_some (bytes ++ all) has.head (drop size bytes ++ all) (has.is all).reads.1,
       inr (has.head, drop size bytes ++ all, terms.client, terms.size, terms.close, has.is all, has.says, short),
     )
@@ -110,7 +121,8 @@ answer_lacks bytes size body left_old left_new all has told lacks =
     let after = after_of left_old left_new all lacks.got told lacks.consumed in
     let none : after.rest ≡ [] = subst IsAtEnd after.is lacks.at_end in
     let same : all ≡ lacks.got = after.split ∙ ap (λ (xs : List ℕ). lacks.got ++ xs) none ∙ append-nil lacks.got in
-    let short : length (drop size bytes ++ all) < body = subst (λ (xs : List ℕ). length (drop size bytes ++ xs) < body) (sym same) lacks.short in
+    let short : length (drop size bytes ++ all) < body = subst (λ (xs : List ℕ). length (drop size bytes ++ xs) < body)
+    (sym same) lacks.short in
     inr (has.head, drop size bytes ++ all, body, has.is all, has.says, short)
 
 pub answer_refused : (bytes : List ℕ) (size number : ℕ) (left : Option (List ℕ)) (all : List ℕ) → HasAnswerHead bytes size (other number)
@@ -124,7 +136,8 @@ size_of (refused number) = 0
 size_of (taken client size close) = size
 
 -- where a post stands whole, its body does after the head that was found
-pub post_is_there : (old new : List ℕ) (size : ℕ) (terms : PostTerms) (head : RequestHead) (client body : List ℕ) (close : Bool) (rest : List ℕ)
+pub post_is_there : (old new : List ℕ) (size : ℕ) (terms : PostTerms) (head : RequestHead) (client body : List ℕ) (close : Bool)
+    (rest : List ℕ)
     → new ≡ old → HasPostHead new size terms → IsPostHead old head (body ++ rest) → judge_post head ≡ taken client (length body) close
     → terms.size ≤ length (drop size new)
 unfolding size_of

@@ -12,7 +12,8 @@ use Rattle.ifmap_http.specs.declared.heads.AwaitedPost.TheVariants as post
 pub takes_nothing : (left : Option (List ℕ)) (pending : List ℕ) → Takes left left pending pending
 takes_nothing left pending = record { got = []; consumed = Consumes-nil left; grown = sym (append-nil pending) }
 
-pub takes_more : (left_old left_mid left_new : Option (List ℕ)) (old mid new : List ℕ) → Takes left_old left_mid old mid → Takes left_mid left_new mid new → Takes left_old left_new old new
+pub takes_more : (left_old left_mid left_new : Option (List ℕ)) (old mid new : List ℕ) → Takes left_old left_mid old mid
+    → Takes left_mid left_new mid new → Takes left_old left_new old new
 takes_more left_old left_mid left_new old mid new a b =
     record {
       got = a.got ++ b.got;

@@ -12,9 +12,11 @@ returns-then-size-gt-LONGEST_HEAD c =
     let (h, holds) = rw c.in-Ok-Complete.field-0-is at c.in-Ok-Complete.ensures.complete in
     elim c.then-size-gt-LONGEST_HEAD.branch [
       | then-size-gt-LONGEST_HEAD-via-then-size-gt-LONGEST_HEAD w ↦
-          refused_head_long c.args.bytes.now more h (drop c.in-Ok-Complete.size c.args.bytes.now) holds.reads (omega (arith, holds.len_is, w.if-size-gt-LONGEST_HEAD.true))
+          refused_head_long c.args.bytes.now more h (drop c.in-Ok-Complete.size c.args.bytes.now) holds.reads
+          (omega (arith, holds.len_is, w.if-size-gt-LONGEST_HEAD.true))
       | then-size-gt-LONGEST_HEAD-via-else-size-gt-LONGEST_HEAD+then-request-gt-MOST_FIELDS w ↦
-          refused_head_wide c.args.bytes.now more h (drop c.in-Ok-Complete.size c.args.bytes.now) holds.reads (omega (arith, field_count c.parse.new.self.headers.now h.fields holds.fields, w.if-request-gt-MOST_FIELDS.true))
+          refused_head_wide c.args.bytes.now more h (drop c.in-Ok-Complete.size c.args.bytes.now) holds.reads
+          (omega (arith, field_count c.parse.new.self.headers.now h.fields holds.fields, w.if-request-gt-MOST_FIELDS.true))
     ])
 
 pub returns-in-Refused : goal.returns-in-Refused
@@ -23,7 +25,8 @@ returns-in-Refused c =
     (λ more.
     let (h, holds) = rw c.in-Ok-Complete.field-0-is at c.in-Ok-Complete.ensures.complete in
     let minor : c.unwrap-minor.result ≡ h.minor = cc (c.unwrap-minor.ensures, holds.version) in
-    let method : c.as_bytes-method.result.now ≡ h.method = cc (c.as_bytes-method.ensures.value, option_now c.unwrap.ensures, holds.method) in
+    let method : c.as_bytes-method.result.now ≡ h.method = cc
+    (c.as_bytes-method.ensures.value, option_now c.unwrap.ensures, holds.method) in
     let says = rw c.in-Refused.is at c.in_ok-status-in-Ok-Complete.ensures in
     refused_by_head c.args.bytes.now more h (drop c.in-Ok-Complete.size c.args.bytes.now) c.in-Refused.status holds.reads
     (omega (arith, holds.len_is, c.if-size-gt-LONGEST_HEAD.false))
@@ -34,7 +37,8 @@ pub returns-in-Taken : goal.returns-in-Taken
 returns-in-Taken c =
     let (h, holds) = rw c.in-Ok-Complete.field-0-is at c.in-Ok-Complete.ensures.complete in
     let minor : c.unwrap-minor.result ≡ h.minor = cc (c.unwrap-minor.ensures, holds.version) in
-    let method : c.as_bytes-method.result.now ≡ h.method = cc (c.as_bytes-method.ensures.value, option_now c.unwrap.ensures, holds.method) in
+    let method : c.as_bytes-method.result.now ≡ h.method = cc
+    (c.as_bytes-method.ensures.value, option_now c.unwrap.ensures, holds.method) in
     let says = rw c.in-Taken.is at c.in_ok-status-in-Ok-Complete.ensures in
     record {
       head = h;

@@ -16,7 +16,8 @@ reads_more (Ok count) left_old left_new items slice room t1 t2 filled len bound 
   (
     take count room,
     bytes.0,
-    subst (λ (xs : List ℕ). take (filled + count) (take len ((take filled xs ++ (room ++ t1)) ++ t2)) ≡ take filled items ++ take count room)
+    subst (λ (xs : List ℕ). take (filled + count) (take len ((take filled xs ++
+        (room ++ t1)) ++ t2)) ≡ take filled items ++ take count room)
         (sym same) (filled_by items room t1 t2 filled count len within (omega arith) (omega arith)),
   ),
 )
