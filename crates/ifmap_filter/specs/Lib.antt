@@ -1,3 +1,8 @@
--- What filters mean, in reading order.
+-- What filters mean and how they are written, in reading order.
 pub mod Holding
 pub mod Meets
+pub mod Tokens
+pub mod Grammar
+pub mod Texts
+pub mod Printing
+pub mod Progress
