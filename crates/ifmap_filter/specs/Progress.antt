@@ -71,6 +71,16 @@ test_of name predicate = record { name = name; predicate = predicate }
 abbrev pub with_factor : Context → Predicate → Context
 with_factor c p = record c { ands = c.ands ++ p ∷ [] }
 
+-- after a factor, where parentheses may nest so much deeper, and then as the whole or-part does
+pub record MoreFactors (scope : Scope) (n : ℕ) (Then : Predicate → List Token → Type 0) (ors ands : List Predicate) (ts : List Token) : Type 0 where
+  pub more_ands : List Predicate
+  pub more_ors : List Predicate
+  pub mid : List Token
+  pub rest : List Token
+  pub takes_ands : TakesMore and_word (TakesFactor scope n) ts more_ands mid
+  pub takes_ors : TakesMore or_word (TakesAnds (TakesFactor scope n)) mid more_ors rest
+  pub followed : Then (gathered Or (ors ++ (gathered And (ands ++ more_ands) ∷ more_ors))) rest
+
 -- how a filter goes on, in a scope
 module _ (scope : Scope) (filter : Filter) where
   -- after these tests
@@ -84,26 +94,16 @@ module _ (scope : Scope) (filter : Filter) where
   PredicateFirst done name ts =
       (p : Option Predicate) × (mid : List Token) × TakesPredicate scope ts p mid × MoreTests (done ++ test_of name p ∷ []) mid
 
-  -- after a factor, where parentheses may nest so much deeper, and then as the whole or-part does
-  pub record MoreFactors (n : ℕ) (Then : Predicate → List Token → Type 0) (ors ands : List Predicate) (ts : List Token) : Type 0 where
-    pub more_ands : List Predicate
-    pub more_ors : List Predicate
-    pub mid : List Token
-    pub rest : List Token
-    pub takes_ands : TakesMore and_word (TakesFactor scope n) ts more_ands mid
-    pub takes_ors : TakesMore or_word (TakesAnds (TakesFactor scope n)) mid more_ors rest
-    pub then : Then (gathered Or (ors ++ (gathered And (ands ++ more_ands) ∷ more_ors))) rest
-
   -- after an or-part, whose own parentheses may nest so deep
   abbrev pub Closes : List Test → Option element.Name → ℕ → List Frame → Predicate → List Token → Type 0
   Closes done name n [] p ts = (after : List Token) × (ts ≡ CloseBracket ∷ after) × MoreTests (done ++ test_of name (Some p) ∷ []) after
   Closes done name n (frame ∷ outer) p ts =
       (after : List Token) × (ts ≡ CloseParenthesis ∷ after)
-      × MoreFactors (suc n) (Closes done name (suc n) outer) frame.ors (frame.ands ++ p ∷ []) after
+      × MoreFactors scope (suc n) (Closes done name (suc n) outer) frame.ors (frame.ands ++ p ∷ []) after
 
   -- after a factor in this context, of which parentheses may nest n deep
   abbrev pub AfterFactor : ℕ → Context → List Token → Type 0
-  AfterFactor n c ts = MoreFactors n (Closes c.tests c.name n c.outer) c.ors c.ands ts
+  AfterFactor n c ts = MoreFactors scope n (Closes c.tests c.name n c.outer) c.ors c.ands ts
 
   abbrev pub FactorFirst : ℕ → Context → List Token → Type 0
   FactorFirst n c ts = (p : Predicate) × (mid : List Token) × TakesFactor scope n ts p mid × AfterFactor n (with_factor c p) mid

@@ -1,7 +1,6 @@
 -- The tokens of a filter, by the characters of its text. Names are those of XML 1.0 (fifth edition), section 2.3, and of Namespaces in XML 1.0,
 -- section 4; white space is that of XML 1.0, section 2.3.
-use Rattle.std.specs.Prelude.{◌≡◌, ℕ, Bool, not, ◌==◌, ◌||◌, if◌then◌else◌, List, [], ◌∷◌, drop, encode_utf8_all, Option, Some, None}
-use Rattle.std.specs.List.{prefix_len, take_while}
+use Rattle.std.specs.Prelude.{◌≡◌, ℕ, Bool, not, ◌==◌, ◌||◌, if◌then◌else◌, List, [], ◌∷◌, encode_utf8_all, Option, Some, None}
 use Rattle.std.specs.Str.{byte}
 use Rattle.ifmap_elem.specs.Chars.{colon, double_quote, equals_sign, is_white, single_quote}
 use Rattle.ifmap_elem.specs.Names.{is_name_character, is_name_start}
@@ -17,9 +16,14 @@ pub record Taken : Type 0 where
 abbrev pub taken : Token → List ℕ → Taken
 taken t cs = record { token = t; rest = cs }
 
--- what is left after the characters at the front that pass
+-- the characters at the front that pass, and what is left after them
+abbrev pub front_while : (ℕ → Bool) → List ℕ → List ℕ
+front_while p [] = []
+front_while p (c ∷ cs) = if p c then c ∷ front_while p cs else []
+
 abbrev pub after_while : (ℕ → Bool) → List ℕ → List ℕ
-after_while p cs = drop (prefix_len p cs) cs
+after_while p [] = []
+after_while p (c ∷ cs) = if p c then after_while p cs else c ∷ cs
 
 abbrev pub without_white : List ℕ → List ℕ
 without_white cs = after_while is_white cs
@@ -45,9 +49,9 @@ is_but quote c = not (c == quote)
 
 -- the literal after its first quote: all up to the next quote of that kind
 abbrev pub literal_at : ℕ → List ℕ → Option Taken
-literal_at quote cs = closed_literal (take_while (is_but quote) cs) (after_while (is_but quote) cs)
+literal_at quote cs = closed_literal (front_while (is_but quote) cs) (after_while (is_but quote) cs)
 
--- the name of these two parts, where the second may be empty before it and the local part is as long as can be
+-- the name of these two parts, of which the first may be empty
 abbrev pub name_token : List ℕ → List ℕ → Token
 name_token prefix local = Name (record { prefix = encode_utf8_all prefix; local = encode_utf8_all local })
 
@@ -55,7 +59,7 @@ name_token prefix local = Name (record { prefix = encode_utf8_all prefix; local 
 abbrev pub prefixed_name_at : List ℕ → List ℕ → Option Taken
 prefixed_name_at prefix [] = None
 prefixed_name_at prefix (c ∷ cs) =
-    if is_name_start c then Some (taken (name_token prefix (take_while is_name_character (c ∷ cs))) (after_while is_name_character (c ∷ cs)))
+    if is_name_start c then Some (taken (name_token prefix (front_while is_name_character (c ∷ cs))) (after_while is_name_character (c ∷ cs)))
     else None
 
 -- the name whose first part this is: a colon after it makes it a prefix
@@ -65,7 +69,7 @@ name_from part (c ∷ cs) = if c == colon then prefixed_name_at part cs else Som
 
 -- the name at the front, whose first part is as long as can be
 abbrev pub name_at : List ℕ → Option Taken
-name_at cs = name_from (take_while is_name_character cs) (after_while is_name_character cs)
+name_at cs = name_from (front_while is_name_character cs) (after_while is_name_character cs)
 
 abbrev pub is_quote : ℕ → Bool
 is_quote c = c == double_quote || c == single_quote

@@ -6,6 +6,7 @@
 pub mod errors;
 pub mod filters;
 pub mod holding;
+pub mod laws;
 pub mod matching;
 pub mod parsing;
 pub mod printing;
