@@ -57,6 +57,10 @@ abbrev pub gathered : (List Predicate → Predicate) → List Predicate → Pred
 gathered join [] = join []
 gathered join (p ∷ ps) = joined join p ps
 
+-- the parts are not one alone
+abbrev pub IsNotSingle : List Predicate → Type 0
+IsNotSingle parts = (p : Predicate) → parts ≡ p ∷ [] → ⊥
+
 -- the predicate of an or-part by what is done of it
 abbrev pub done_part : List Predicate → List Predicate → Predicate
 done_part ors ands = gathered Or (ors ++ gathered And ands ∷ [])
@@ -175,12 +179,15 @@ step_named done name t = step_tested (done ++ test_of name None ∷ []) t
 abbrev pub inner_context : Context → Context
 inner_context c = record c { outer = record { ors = c.ors; ands = c.ands } ∷ c.outer; ors = []; ands = [] }
 
+abbrev pub inner_place : Context → Option Where
+inner_place c = if nat_lt (length c.outer) deepest then Some (FactorDue (inner_context c)) else None
+
 abbrev pub child_named : Context → Option element.Name → Option Where
 child_named c None = None
 child_named c (Some name) = Some (EqualsDue c (asked.Child name))
 
 abbrev pub step_factor : Scope → Context → Token → Option Where
-step_factor scope c OpenParenthesis = if nat_lt (length c.outer) deepest then Some (FactorDue (inner_context c)) else None
+step_factor scope c OpenParenthesis = inner_place c
 step_factor scope c At = Some (LocalDue c)
 step_factor scope c (Name q) = child_named c (name_of scope q)
 step_factor scope c _ = None
@@ -210,9 +217,13 @@ abbrev pub close_test : Context → List Frame → Option Where
 close_test c [] = Some (Tested (c.tests ++ test_of c.name (Some (done_part c.ors c.ands)) ∷ []))
 close_test c (frame ∷ outer) = None
 
-abbrev pub step_done : Context → Token → Option Where
-step_done c (Name q) =
+-- `and`, or `or`, with which the next and-part begins
+abbrev pub step_joining : Context → Qualified → Option Where
+step_joining c q =
     if is_word (codes "and") q then Some (FactorDue c) else if is_word (codes "or") q then Some (FactorDue (next_part c)) else None
+
+abbrev pub step_done : Context → Token → Option Where
+step_done c (Name q) = step_joining c q
 step_done c CloseParenthesis = close_group c c.outer
 step_done c CloseBracket = close_test c c.outer
 step_done c _ = None

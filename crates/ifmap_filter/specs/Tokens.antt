@@ -51,25 +51,27 @@ is_but quote c = not (c == quote)
 abbrev pub literal_at : ℕ → List ℕ → Option Taken
 literal_at quote cs = closed_literal (front_while (is_but quote) cs) (after_while (is_but quote) cs)
 
--- the name of these two parts, of which the first may be empty
+-- the bytes of the name characters at the front
+abbrev pub part_bytes : List ℕ → List ℕ
+part_bytes cs = encode_utf8_all (front_while is_name_character cs)
+
 abbrev pub name_token : List ℕ → List ℕ → Token
-name_token prefix local = Name (record { prefix = encode_utf8_all prefix; local = encode_utf8_all local })
+name_token prefix local = Name (record { prefix = prefix; local = local })
 
 -- the name of this prefix, after its colon: where no part begins there, none
 abbrev pub prefixed_name_at : List ℕ → List ℕ → Option Taken
 prefixed_name_at prefix [] = None
 prefixed_name_at prefix (c ∷ cs) =
-    if is_name_start c then Some (taken (name_token prefix (front_while is_name_character (c ∷ cs))) (after_while is_name_character (c ∷ cs)))
-    else None
+    if is_name_start c then Some (taken (name_token prefix (part_bytes (c ∷ cs))) (after_while is_name_character (c ∷ cs))) else None
 
 -- the name whose first part this is: a colon after it makes it a prefix
 abbrev pub name_from : List ℕ → List ℕ → Option Taken
 name_from part [] = Some (taken (name_token [] part) [])
 name_from part (c ∷ cs) = if c == colon then prefixed_name_at part cs else Some (taken (name_token [] part) (c ∷ cs))
 
--- the name at the front, whose first part is as long as can be
+-- the name at the front, whose parts are as long as can be
 abbrev pub name_at : List ℕ → Option Taken
-name_at cs = name_from (front_while is_name_character cs) (after_while is_name_character cs)
+name_at cs = name_from (part_bytes cs) (after_while is_name_character cs)
 
 abbrev pub is_quote : ℕ → Bool
 is_quote c = c == double_quote || c == single_quote
