@@ -9,3 +9,4 @@ pub mod Reaching
 pub mod StandingLaws
 pub mod Stepping
 pub mod TextLaws
+pub mod TokenLaws
