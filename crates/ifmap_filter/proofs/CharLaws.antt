@@ -36,7 +36,7 @@ module _ (p t : ℕ → Bool) (turns : (c : ℕ) → t c ≡ not (p c)) where
   cuts_all text u (cs, e, none) =
       let are : cs ≡ chars text = chars_from_encodes cs text u e in
       let all : front_while p (chars text) ≡ cs =
-          ap (front_while p) (sym are ∙ sym (append-nil cs)) ∙ front_more cs [] none ∙ append-nil cs in
+      ap (front_while p) (sym are ∙ sym (append-nil cs)) ∙ front_more cs [] none ∙ append-nil cs in
       record {
         front_is = sym e ∙ ap encode_utf8_all (sym all);
         rest_is = chars-nil ∙ sym (ap (after_while p) (sym are ∙ sym (append-nil cs)) ∙ after_more cs [] none);
@@ -48,13 +48,13 @@ module _ (p t : ℕ → Bool) (turns : (c : ℕ) → t c ≡ not (p c)) where
       let v : IsUtf8 (drop i text) = IsUtf8-drop text i u bound in
       let more : chars (drop i text) ≡ c ∷ chars (drop j text) = chars_past_char (drop i text) (drop j text) c v has.split in
       let bytes : encode_utf8_all (cs ++ chars (drop i text)) ≡ text =
-          encodes-append cs (chars (drop i text)) ∙ (λ k. e k ++ encodes-chars (drop i text) v k) ∙ take-append-drop i text in
+      encodes-append cs (chars (drop i text)) ∙ (λ k. e k ++ encodes-chars (drop i text) v k) ∙ take-append-drop i text in
       let are : cs ++ chars (drop i text) ≡ chars text = chars_from_encodes (cs ++ chars (drop i text)) text u bytes in
       let front_none : front_while p (chars (drop i text)) ≡ [] = ap (front_while p) more ∙ stops_front in
       let after_all : after_while p (chars (drop i text)) ≡ chars (drop i text) = ap (after_while p) more ∙ stops_after ∙ sym more in
       record {
         front_is = sym e ∙ ap encode_utf8_all (sym (
-          ap (front_while p) (sym are) ∙ front_more cs (chars (drop i text)) none ∙ ap (λ xs. cs ++ xs) front_none ∙ append-nil cs));
+            ap (front_while p) (sym are) ∙ front_more cs (chars (drop i text)) none ∙ ap (λ xs. cs ++ xs) front_none ∙ append-nil cs));
         rest_is = sym (ap (after_while p) (sym are) ∙ after_more cs (chars (drop i text)) none ∙ after_all);
       }
     where

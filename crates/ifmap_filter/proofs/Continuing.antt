@@ -79,10 +79,12 @@ module _ (scope : Scope) where
     named done t name asks only more = (
       (λ (test, mid, takes, rest).
           let same = head_of t takes.head more takes.after takes.tokens_are in
-          let is = only test.name (subst (λ (h : Token). AsksFor scope h test.name) (sym same.0) takes.asks) in
-          (test.predicate, mid,
-          subst (λ (ts : List Token). TakesPredicate scope ts test.predicate mid) (sym same.1) takes.holds,
-          subst (λ (n : Option element.Name). MoreTests scope filter (done ++ test_of n test.predicate ∷ []) mid) is rest)),
+          let is = only test.name (subst (λ (h : Token). AsksFor scope h test.name) (sym same.0) takes.asks) in (
+            test.predicate,
+            mid,
+            subst (λ (ts : List Token). TakesPredicate scope ts test.predicate mid) (sym same.1) takes.holds,
+            subst (λ (n : Option element.Name). MoreTests scope filter (done ++ test_of n test.predicate ∷ []) mid) is rest,
+          )),
       (λ (p, mid, takes, rest).
           (test_of name p, mid, record { head = t; after = more; tokens_are = refl; asks = asks; holds = takes }, rest)),
     )
@@ -142,16 +144,20 @@ module _ (scope : Scope) where
       (λ (p, rest, takes, follow).
           let one = takes.one in
           let is : p ≡ joined Or (joined And one.first one.others) takes.others =
-              takes.means ∙ ap (λ f. joined Or f takes.others) one.means in
-          (one.first, one.mid, one.one, record {
-            more_ands = one.others;
-            more_ors = takes.others;
-            mid = takes.mid;
-            rest = rest;
-            takes_ands = one.more;
-            takes_ors = takes.more;
-            followed = subst (λ f. Then f rest) is follow;
-          })),
+          takes.means ∙ ap (λ f. joined Or f takes.others) one.means in (
+            one.first,
+            one.mid,
+            one.one,
+            record {
+              more_ands = one.others;
+              more_ors = takes.others;
+              mid = takes.mid;
+              rest = rest;
+              takes_ands = one.more;
+              takes_ors = takes.more;
+              followed = subst (λ f. Then f rest) is follow;
+            },
+          )),
       (λ (q, mid, takes, more). (
         joined Or (joined And q more.more_ands) more.more_ors,
         more.rest,
@@ -209,16 +215,20 @@ module _ (scope : Scope) where
               → First ors ands more
           from [] os mid rest e takes_ors follow = absurd (none os mid rest e takes_ors _ follow)
           from (q ∷ as') os mid rest (after, m, e, takes, others) takes_ors follow =
-              let tail = (head_of and_word and_word more after e).1 in
-              (q, m, subst (λ (ts : List Token). TakesFactor scope n ts q m) (sym tail) takes, record {
-                more_ands = as';
-                more_ors = os;
-                mid = mid;
-                rest = rest;
-                takes_ands = others;
-                takes_ors = takes_ors;
-                followed = subst (λ bs. Then (gathered Or (ors ++ (gathered And bs ∷ os))) rest) (sym (joins ands q as')) follow;
-              })
+              let tail = (head_of and_word and_word more after e).1 in (
+                q,
+                m,
+                subst (λ (ts : List Token). TakesFactor scope n ts q m) (sym tail) takes,
+                record {
+                  more_ands = as';
+                  more_ors = os;
+                  mid = mid;
+                  rest = rest;
+                  takes_ands = others;
+                  takes_ors = takes_ors;
+                  followed = subst (λ bs. Then (gathered Or (ors ++ (gathered And bs ∷ os))) rest) (sym (joins ands q as')) follow;
+                },
+              )
 
       pub or_more : (more : List Token) → Refuses or_word → MoreFactors scope n Then ors ands (or_word ∷ more) ↔ First (ors ++ gathered And ands ∷ []) [] more
       or_more more refused = (
@@ -240,19 +250,23 @@ module _ (scope : Scope) where
               → Then (gathered Or (ors ++ (gathered And (ands ++ []) ∷ xs))) rest → First (ors ++ gathered And ands ∷ []) [] more
           inner [] mid rest e f follow = absurd (refused _ more (subst (Then _) (sym (e ∙ f)) follow))
           inner (x ∷ xs) mid rest e (after, m, f, takes, others) follow =
-              let tail = (head_of or_word or_word more after (e ∙ f)).1 in
-              (takes.first, takes.mid, subst (λ (ts : List Token). TakesFactor scope n ts takes.first takes.mid) (sym tail) takes.one, record {
-                more_ands = takes.others;
-                more_ors = xs;
-                mid = m;
-                rest = rest;
-                takes_ands = takes.more;
-                takes_ors = others;
-                followed =
-                    subst (λ os. Then (gathered Or os) rest) (sym (joins ors (gathered And ands) (joined And takes.first takes.others ∷ xs)))
-                    (subst (λ y. Then (gathered Or (ors ++ (gathered And ands ∷ (y ∷ xs)))) rest) takes.means
-                    (subst (λ as'. Then (gathered Or (ors ++ (gathered And as' ∷ (x ∷ xs)))) rest) (append-nil ands) follow));
-              })
+              let tail = (head_of or_word or_word more after (e ∙ f)).1 in (
+                takes.first,
+                takes.mid,
+                subst (λ (ts : List Token). TakesFactor scope n ts takes.first takes.mid) (sym tail) takes.one,
+                record {
+                  more_ands = takes.others;
+                  more_ors = xs;
+                  mid = m;
+                  rest = rest;
+                  takes_ands = takes.more;
+                  takes_ors = others;
+                  followed =
+                      subst (λ os. Then (gathered Or os) rest) (sym (joins ors (gathered And ands) (joined And takes.first takes.others ∷ xs)))
+                      (subst (λ y. Then (gathered Or (ors ++ (gathered And ands ∷ (y ∷ xs)))) rest) takes.means
+                      (subst (λ as'. Then (gathered Or (ors ++ (gathered And as' ∷ (x ∷ xs)))) rest) (append-nil ands) follow));
+                },
+              )
 
           from : (as' os : List Predicate) (mid rest : List Token) → TakesMore and_word (TakesFactor scope n) (or_word ∷ more) as' mid
               → TakesMore or_word (TakesAnds (TakesFactor scope n)) mid os rest → Then (gathered Or (ors ++ (gathered And (ands ++ as') ∷ os))) rest

@@ -99,7 +99,7 @@ past_stop : (text : List ℕ) (scope : Scope) (at : ℕ) (s : StopsAt text scope
     → BeginsFilter scope us → ⊥
 past_stop text scope at s us after (t, mid, more, e, takes, others) b =
     let all : us ++ b.more ≡ (s.tokens ++ t ∷ []) ++ (more ++ b.more) =
-        ap (λ xs. xs ++ b.more) e ∙ append_assoc s.tokens (t ∷ more) b.more ∙ sym (append_assoc s.tokens (t ∷ []) (more ++ b.more)) in
+    ap (λ xs. xs ++ b.more) e ∙ append_assoc s.tokens (t ∷ more) b.more ∙ sym (append_assoc s.tokens (t ∷ []) (more ++ b.more)) in
     s.no_further t mid takes
     (record { more = more ++ b.more; filter = b.filter; filter_is = subst (λ ts. IsFilter scope ts b.filter) all b.filter_is })
 

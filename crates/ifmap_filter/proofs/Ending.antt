@@ -111,9 +111,11 @@ module _ (scope : Scope) where
     ([], refl, ([], refl, sym (append-nil (tests ++ test_of name (Some p) ∷ [])))),
   )
   closable tests name n (frame ∷ outer) p =
-      let c = closable tests name (suc n) outer (done_part frame.ors (frame.ands ++ p ∷ [])) in
-      (c.0, CloseParenthesis ∷ c.1,
-      (c.1, refl, no_more scope (suc n) (Closes scope c.0 tests name (suc n) outer) frame.ors (frame.ands ++ p ∷ []) c.1 c.2))
+      let c = closable tests name (suc n) outer (done_part frame.ors (frame.ands ++ p ∷ [])) in (
+        c.0,
+        CloseParenthesis ∷ c.1,
+        (c.1, refl, no_more scope (suc n) (Closes scope c.0 tests name (suc n) outer) frame.ors (frame.ands ++ p ∷ []) c.1 c.2),
+      )
 
   after_factor : (n : ℕ) (c : Context) → SomeFilter (λ filter ts. AfterFactor scope filter n c ts)
   after_factor n c =
@@ -135,8 +137,12 @@ module _ (scope : Scope) where
   test_first done = (
     record { tests = done ++ test_of None None ∷ [] },
     Any ∷ [],
-    (test_of None None, [], record { head = Any; after = []; tokens_are = refl; asks = refl; holds = refl },
-    ([], refl, sym (append-nil (done ++ test_of None None ∷ [])))),
+    (
+      test_of None None,
+      [],
+      record { head = Any; after = []; tokens_are = refl; asks = refl; holds = refl },
+      ([], refl, sym (append-nil (done ++ test_of None None ∷ []))),
+    ),
   )
 
   pub goes_on : (n : ℕ) (w : Where) → SomeFilter (λ filter ts. GoesOn scope filter n w ts)

@@ -114,13 +114,13 @@ later_length cs rest (c, front, e) =
 pub later_bytes : (cs rest : List ℕ) → IsLater cs rest → length (encode_utf8_all rest) < length (encode_utf8_all cs)
 later_bytes cs rest (c, front, e) =
     let sum : length (encode_utf8_all cs) ≡ length (encode_utf8_all (c ∷ front) ++ encode_utf8_all rest) =
-        ap length (ap encode_utf8_all e ∙ encodes-append (c ∷ front) rest) in
+    ap length (ap encode_utf8_all e ∙ encodes-append (c ∷ front) rest) in
     omega (arith, sum, length-append {A = ℕ} (encode_utf8_all (c ∷ front)) (encode_utf8_all rest), length-le-encodes (c ∷ front))
 
 pub after_bytes : (cs rest : List ℕ) → IsAfter cs rest → length (encode_utf8_all rest) ≤ length (encode_utf8_all cs)
 after_bytes cs rest (front, e) =
     let sum : length (encode_utf8_all cs) ≡ length (encode_utf8_all front ++ encode_utf8_all rest) =
-        ap length (ap encode_utf8_all e ∙ encodes-append front rest) in
+    ap length (ap encode_utf8_all e ∙ encodes-append front rest) in
     omega (arith, sum, length-append {A = ℕ} (encode_utf8_all front) (encode_utf8_all rest))
 
 pub white_after : (cs : List ℕ) → IsAfter cs (without_white cs)

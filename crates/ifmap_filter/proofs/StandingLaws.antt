@@ -27,13 +27,13 @@ deepest_is = refl
 pub too_deep : (i : Inside) → 64 ≤ length i.outer → inner_place (context i) ≡ None
 too_deep i far =
     let e : nat_lt (length (reverse i.outer)) deepest ≡ false =
-        (let l = length-reverse i.outer in let d = deepest_is in grind (arith, nat_tests, l, d, far)) in
+    (let l = length-reverse i.outer in let d = deepest_is in grind (arith, nat_tests, l, d, far)) in
     rw e refl
 
 pub goes_deeper : (i : Inside) → length i.outer < 64 → inner_place (context i) ≡ Some (FactorDue (inner_context (context i)))
 goes_deeper i near =
     let e : nat_lt (length (reverse i.outer)) deepest ≡ true =
-        (let l = length-reverse i.outer in let d = deepest_is in grind (arith, nat_tests, l, d, near)) in
+    (let l = length-reverse i.outer in let d = deepest_is in grind (arith, nat_tests, l, d, near)) in
     rw e refl
 
 pub pushed : (outer : List Frame) (frame : Frame) → reverse (outer ++ frame ∷ []) ≡ frame ∷ reverse outer

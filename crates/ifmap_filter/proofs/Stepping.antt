@@ -149,33 +149,36 @@ module _ (scope : Scope) where
       at_local : FactorFirst scope filter n c (At ∷ more) → LocalFirst scope filter n c more
       at_local (p, mid, takes, rest) = elim (comparison_only At (λ e. cc) n more p mid takes) [
         | inl a ↦
-          let tail : more ≡ Name (bare a.local) ∷ (EqualsSign ∷ (Literal a.value ∷ mid)) = (head_of At At more _ a.tokens_are).1 in
-          let after : AfterFactor scope filter n (with_factor c (Attr a.local a.value)) mid =
-              subst (λ f. AfterFactor scope filter n (with_factor c f) mid) a.means rest in
-          (a.local, EqualsSign ∷ (Literal a.value ∷ mid), tail, (Literal a.value ∷ mid, refl, (a.value, mid, refl, after)))
+            let tail : more ≡ Name (bare a.local) ∷ (EqualsSign ∷ (Literal a.value ∷ mid)) = (head_of At At more _ a.tokens_are).1 in
+            let after : AfterFactor scope filter n (with_factor c (Attr a.local a.value)) mid =
+            subst (λ f. AfterFactor scope filter n (with_factor c f) mid) a.means rest in
+            (a.local, EqualsSign ∷ (Literal a.value ∷ mid), tail, (Literal a.value ∷ mid, refl, (a.value, mid, refl, after)))
         | inr ch ↦ let wrong : At ≡ Name ch.written = (head_of At (Name ch.written) more _ ch.tokens_are).0 in cc
       ]
 
       local_at : LocalFirst scope filter n c more → FactorFirst scope filter n c (At ∷ more)
       local_at (local, rest, e, (others, f, (value, end, g, after))) =
           let all : more ≡ Name (bare local) ∷ (EqualsSign ∷ (Literal value ∷ end)) =
-              e ∙ ap (λ ts. Name (bare local) ∷ ts) (f ∙ ap (λ ts. EqualsSign ∷ ts) g) in
-          (Attr local value, end,
-          as_factor n (At ∷ more) (Attr local value) end
-          (inl (record { local = local; value = value; tokens_are = ap (λ ts. At ∷ ts) all; means = refl })), after)
+          e ∙ ap (λ ts. Name (bare local) ∷ ts) (f ∙ ap (λ ts. EqualsSign ∷ ts) g) in (
+            Attr local value,
+            end,
+            as_factor n (At ∷ more) (Attr local value) end
+                (inl (record { local = local; value = value; tokens_are = ap (λ ts. At ∷ ts) all; means = refl })),
+            after,
+          )
 
       child_equals : (q : Qualified) (name : element.Name) → ((other : element.Name) → StandsFor scope q other → other ≡ name)
           → FactorFirst scope filter n c (Name q ∷ more) → EqualsFirst scope filter n c (asked.Child name) more
       child_equals q name only (p, mid, takes, rest) = elim (comparison_only (Name q) (λ e. cc) n more p mid takes) [
         | inl a ↦ let wrong : Name q ≡ At = (head_of (Name q) At more _ a.tokens_are).0 in cc
         | inr ch ↦
-          let both = head_of (Name q) (Name ch.written) more (EqualsSign ∷ (Literal ch.value ∷ mid)) ch.tokens_are in
-          let first : Name q ≡ Name ch.written = both.0 in
-          let same : q ≡ ch.written = cc in
-          let is : ch.name ≡ name = only ch.name (subst (λ (v : Qualified). StandsFor scope v ch.name) (sym same) ch.named) in
-          let after : AfterFactor scope filter n (with_factor c (Child name ch.value)) mid =
-              subst (λ f. AfterFactor scope filter n (with_factor c f) mid) (ch.means ∙ ap (λ m. Child m ch.value) is) rest in
-          (Literal ch.value ∷ mid, both.1, (ch.value, mid, refl, after))
+            let both = head_of (Name q) (Name ch.written) more (EqualsSign ∷ (Literal ch.value ∷ mid)) ch.tokens_are in
+            let first : Name q ≡ Name ch.written = both.0 in
+            let same : q ≡ ch.written = cc in
+            let is : ch.name ≡ name = only ch.name (subst (λ (v : Qualified). StandsFor scope v ch.name) (sym same) ch.named) in
+            let after : AfterFactor scope filter n (with_factor c (Child name ch.value)) mid =
+            subst (λ f. AfterFactor scope filter n (with_factor c f) mid) (ch.means ∙ ap (λ m. Child m ch.value) is) rest in
+            (Literal ch.value ∷ mid, both.1, (ch.value, mid, refl, after))
       ]
 
       equals_child : (q : Qualified) (name : element.Name) → StandsFor scope q name
@@ -198,9 +201,9 @@ module _ (scope : Scope) where
       no_child q none (p, mid, takes, rest) = elim (comparison_only (Name q) (λ e. cc) n more p mid takes) [
         | inl a ↦ let wrong : Name q ≡ At = (head_of (Name q) At more _ a.tokens_are).0 in cc
         | inr ch ↦
-          let first : Name q ≡ Name ch.written = (head_of (Name q) (Name ch.written) more _ ch.tokens_are).0 in
-          let same : q ≡ ch.written = cc in
-          none ch.name (subst (λ (v : Qualified). StandsFor scope v ch.name) (sym same) ch.named)
+            let first : Name q ≡ Name ch.written = (head_of (Name q) (Name ch.written) more _ ch.tokens_are).0 in
+            let same : q ≡ ch.written = cc in
+            none ch.name (subst (λ (v : Qualified). StandsFor scope v ch.name) (sym same) ch.named)
       ]
 
       no_factor : (t : Token) → t ≢ OpenParenthesis → t ≢ At → ((q : Qualified) → t ≢ Name q) → FactorFirst scope filter n c (t ∷ more) → ⊥
@@ -236,19 +239,20 @@ module _ (scope : Scope) where
         | inr ch ↦ let wrong : OpenParenthesis ≡ Name ch.written = (head_of OpenParenthesis (Name ch.written) more _ ch.tokens_are).0 in cc
       ]
       | inr group ↦
-        let tail : group.0 ≡ more = sym (head_of OpenParenthesis OpenParenthesis more group.0 group.1).1 in
-        (or_part scope m (InnerThen m c filter) more).0 (
-          p,
-          CloseParenthesis ∷ mid,
-          subst (λ (ts : List Token). TakesOrs (TakesFactor scope m) ts p (CloseParenthesis ∷ mid)) tail group.2,
-          (mid, refl, rest),
-        )
+          let tail : group.0 ≡ more = sym (head_of OpenParenthesis OpenParenthesis more group.0 group.1).1 in
+          (or_part scope m (InnerThen m c filter) more).0 (
+            p,
+            CloseParenthesis ∷ mid,
+            subst (λ (ts : List Token). TakesOrs (TakesFactor scope m) ts p (CloseParenthesis ∷ mid)) tail group.2,
+            (mid, refl, rest),
+          )
     ]),
     (λ first.
         let part = (or_part scope m (InnerThen m c filter) more).1 first in
         let e = part.3.1 in
         (part.0, part.3.0, inr (more, refl, subst (λ (ts : List Token). TakesOrs (TakesFactor scope m) more part.0 ts) e part.2), part.3.2)),
   )
+
   room : (n k : ℕ) → suc n + k ≡ deepest → nat_lt k deepest ≡ true
   room n k e = grind (arith, nat_tests)
 
@@ -382,10 +386,14 @@ module _ (scope : Scope) where
 
   after_or : (n : ℕ) (c : Context) (q : Qualified) → n + length c.outer ≡ deepest → is_word (codes "and") q ≡ false → (b : Bool)
       → is_word (codes "or") q ≡ b → IsRight n (FactorDone c) (Name q) (if b then Some (FactorDue (next_part c)) else None)
-  after_or n c q e no_and true is = (n, e, (λ filter more.
-      subst (λ (v : Qualified). AfterFactor scope filter n c (Name v ∷ more) ↔ FactorFirst scope filter n (next_part c) more) (sym (word_is (codes "or") q is))
-      (or_more scope n (Closes scope filter c.tests c.name n c.outer) c.ors c.ands more
-      (no_close filter c.tests c.name n c.outer or_word (λ e. cc) (λ e. cc)))))
+  after_or n c q e no_and true is = (
+    n,
+    e,
+    (λ filter more.
+        subst (λ (v : Qualified). AfterFactor scope filter n c (Name v ∷ more) ↔ FactorFirst scope filter n (next_part c) more) (sym (word_is (codes "or") q is))
+        (or_more scope n (Closes scope filter c.tests c.name n c.outer) c.ors c.ands more
+        (no_close filter c.tests c.name n c.outer or_word (λ e. cc) (λ e. cc)))),
+  )
   after_or n c q e no_and false is = λ filter more after.
       no_close filter c.tests c.name n c.outer (Name q) (λ e. cc) (λ e. cc) (done_part c.ors c.ands) more
       ((other_more scope n (Closes scope filter c.tests c.name n c.outer) c.ors c.ands (Name q) more (not_that_word (codes "and") q no_and)
@@ -394,10 +402,14 @@ module _ (scope : Scope) where
   after_name : (n : ℕ) (c : Context) (q : Qualified) → n + length c.outer ≡ deepest → (b : Bool) → is_word (codes "and") q ≡ b
       → IsRight n (FactorDone c) (Name q)
       (if b then Some (FactorDue c) else (if is_word (codes "or") q then Some (FactorDue (next_part c)) else None))
-  after_name n c q e true is = (n, e, (λ filter more.
-      subst (λ (v : Qualified). AfterFactor scope filter n c (Name v ∷ more) ↔ FactorFirst scope filter n c more) (sym (word_is (codes "and") q is))
-      (and_more scope n (Closes scope filter c.tests c.name n c.outer) c.ors c.ands more
-      (no_close filter c.tests c.name n c.outer and_word (λ e. cc) (λ e. cc)))))
+  after_name n c q e true is = (
+    n,
+    e,
+    (λ filter more.
+        subst (λ (v : Qualified). AfterFactor scope filter n c (Name v ∷ more) ↔ FactorFirst scope filter n c more) (sym (word_is (codes "and") q is))
+        (and_more scope n (Closes scope filter c.tests c.name n c.outer) c.ors c.ands more
+        (no_close filter c.tests c.name n c.outer and_word (λ e. cc) (λ e. cc)))),
+  )
   after_name n c q e false is = after_or n c q e is (is_word (codes "or") q) refl
 
   closing : (n : ℕ) (c : Context) (t : Token) → ((q : Qualified) → t ≢ Name q) → (filter : Filter) (more : List Token)
@@ -415,10 +427,14 @@ module _ (scope : Scope) where
       where
         none : (filter : Filter) (more : List Token) → Closes scope filter tests name n [] (done_part ors ands) (CloseParenthesis ∷ more) → ⊥
         none filter more (after, f, rest) = let wrong : CloseParenthesis ≡ CloseBracket = (head_of CloseParenthesis CloseBracket more after f).0 in cc
-    closes_group (frame ∷ outer) e = (suc n, omega (arith, e), (λ filter more. (
-      (λ after. to filter more ((closing n (within (frame ∷ outer)) CloseParenthesis (λ q e. cc) filter more).0 after)),
-      (λ after. (closing n (within (frame ∷ outer)) CloseParenthesis (λ q e. cc) filter more).1 (more, refl, after)),
-    )))
+    closes_group (frame ∷ outer) e = (
+      suc n,
+      omega (arith, e),
+      (λ filter more. (
+        (λ after. to filter more ((closing n (within (frame ∷ outer)) CloseParenthesis (λ q e. cc) filter more).0 after)),
+        (λ after. (closing n (within (frame ∷ outer)) CloseParenthesis (λ q e. cc) filter more).1 (more, refl, after)),
+      )),
+    )
       where
         to : (filter : Filter) (more : List Token) → Closes scope filter tests name n (frame ∷ outer) (done_part ors ands) (CloseParenthesis ∷ more)
             → MoreFactors scope (suc n) (Closes scope filter tests name (suc n) outer) frame.ors (frame.ands ++ done_part ors ands ∷ []) more
@@ -428,10 +444,14 @@ module _ (scope : Scope) where
 
     closes_test : (outer : List Frame) → n + length outer ≡ deepest
         → IsRight n (FactorDone (within outer)) CloseBracket (close_test (within outer) outer)
-    closes_test [] e = (n, e, (λ filter more. (
-      (λ after. to filter more ((closing n (within []) CloseBracket (λ q e. cc) filter more).0 after)),
-      (λ after. (closing n (within []) CloseBracket (λ q e. cc) filter more).1 (more, refl, after)),
-    )))
+    closes_test [] e = (
+      n,
+      e,
+      (λ filter more. (
+        (λ after. to filter more ((closing n (within []) CloseBracket (λ q e. cc) filter more).0 after)),
+        (λ after. (closing n (within []) CloseBracket (λ q e. cc) filter more).1 (more, refl, after)),
+      )),
+    )
       where
         to : (filter : Filter) (more : List Token) → Closes scope filter tests name n [] (done_part ors ands) (CloseBracket ∷ more)
             → MoreTests scope filter (tests ++ test_of name (Some (done_part ors ands)) ∷ []) more

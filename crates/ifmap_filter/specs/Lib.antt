@@ -5,7 +5,6 @@ pub mod Tokens
 pub mod Grammar
 pub mod Texts
 pub mod Lexing
-pub mod Printing
 pub mod Laws
 pub mod Progress
 pub mod Reaching

@@ -96,11 +96,7 @@ fn is_white(character: char) -> bool
 }
 
 // The literal after its first quote, and what is left.
-fn literal_at(
-    alloc: Global,
-    quote: char,
-    text: &str,
-) -> Result<Option<(Token, &str)>, NoMemory>
+fn literal_at(alloc: Global, quote: char, text: &str) -> Result<Option<(Token, &str)>, NoMemory>
     ensures found { IfOk result (λ o. IfSome o (λ f. literal_at quote (chars text.now) ≡ Some (taken f.0 (chars f.1.now)))) }
     ensures none { IfOk result (λ o. IfNone o (literal_at quote (chars text.now) ≡ None)) }
 {

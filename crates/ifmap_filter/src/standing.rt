@@ -178,7 +178,13 @@ fn open_group(alloc: Global, inside: Inside) -> Result<Option<Standing>, NoMemor
     if inside.outer.0.len() >= DEEPEST {
         return Ok(None);
     }
-    let Inside { tests, name, mut outer, ors, ands } = inside;
+    let Inside {
+        tests,
+        name,
+        mut outer,
+        ors,
+        ands,
+    } = inside;
     outer.0.push(Frame { ors, ands })?;
     let ors = Many(Vec::new(alloc));
     let ands = Many(Vec::new(alloc));
@@ -215,11 +221,7 @@ fn take_equals(inside: Inside, asked: Asked, token: Token) -> Option<Standing>
     }
 }
 
-fn take_literal(
-    inside: Inside,
-    asked: Asked,
-    token: Token,
-) -> Result<Option<Standing>, NoMemory>
+fn take_literal(inside: Inside, asked: Asked, token: Token) -> Result<Option<Standing>, NoMemory>
     ensures { IfOk result (λ o. option_map where_is o ≡ step_literal (context inside) asked token) }
 {
     match token {
@@ -279,7 +281,13 @@ fn take_joining(
 fn next_part(alloc: Global, inside: Inside) -> Result<Inside, NoMemory>
     ensures { IfOk result (λ made. context made ≡ next_part (context inside)) }
 {
-    let Inside { tests, name, outer, mut ors, ands } = inside;
+    let Inside {
+        tests,
+        name,
+        outer,
+        mut ors,
+        ands,
+    } = inside;
     ors.0.push(all_of(ands))?;
     let ands = Many(Vec::new(alloc));
     Ok(Inside {
@@ -295,7 +303,13 @@ fn next_part(alloc: Global, inside: Inside) -> Result<Inside, NoMemory>
 fn close_group(inside: Inside) -> Result<Option<Standing>, NoMemory>
     ensures { IfOk result (λ o. option_map where_is o ≡ step_done (context inside) CloseParenthesis) }
 {
-    let Inside { tests, name, mut outer, ors, ands } = inside;
+    let Inside {
+        tests,
+        name,
+        mut outer,
+        ors,
+        ands,
+    } = inside;
     let Some(frame) = outer.0.pop() else {
         return Ok(None);
     };
@@ -315,7 +329,13 @@ fn close_group(inside: Inside) -> Result<Option<Standing>, NoMemory>
 fn close_test(inside: Inside) -> Result<Option<Standing>, NoMemory>
     ensures { IfOk result (λ o. option_map where_is o ≡ step_done (context inside) CloseBracket) }
 {
-    let Inside { tests, name, outer, ors, ands } = inside;
+    let Inside {
+        tests,
+        name,
+        outer,
+        ors,
+        ands,
+    } = inside;
     if !outer.0.is_empty() {
         return Ok(None);
     }
