@@ -7,7 +7,10 @@ use std::alloc::{AllocError as NoMemory, Global};
 use std::test::Fail;
 
 fn row(alloc: Global, prefix: &str, space: &str) -> Result<(Text, Text), NoMemory> {
-    Ok((Text::from_str(alloc, prefix)?, Text::from_str(alloc, space)?))
+    Ok((
+        Text::from_str(alloc, prefix)?,
+        Text::from_str(alloc, space)?,
+    ))
 }
 
 // The scope of the texts; the second row of `p` counts for nothing.
