@@ -6,7 +6,7 @@ use Rattle.std.specs.List.{list_all}
 use Rattle.std.specs.Str.{byte}
 use Rattle.std.specs.Str.Pattern.{CutsSuffixes, FindsCharSuffix, HasCharAt, IsFullyTrimmed, IsTrimEndMatches}
 use Rattle.std.proofs.lemmas.Bool.Decides.{nat_tests}
-use Rattle.std.proofs.lemmas.Bool.{cases_Bool}
+use Rattle.std.proofs.lemmas.Bool.{and_parts}
 use Rattle.std.proofs.Math.Seq.{drop-length}
 use Rattle.std.proofs.lemmas.List.{take-append-drop}
 use Rattle.std.proofs.lemmas.Str.{encode_ascii}
@@ -26,18 +26,10 @@ last_dot : (xs : List ℕ) → without_last_dots (xs ++ 46 ∷ []) ≡ without_l
 last_dot [] = refl
 last_dot (b ∷ xs) = λ i. cond (is_dot b && all_last xs i) [] (b ∷ last_dot xs i)
 
-and_left : (a b : Bool) → (a && b) ≡ true → a ≡ true
-and_left true b h = refl
-and_left false b h = h
-
-and_right : (a b : Bool) → (a && b) ≡ true → b ≡ true
-and_right true b h = h
-and_right false b h = absurd cc
-
 dots_end : (b : ℕ) (bs : List ℕ) → list_all is_dot (b ∷ bs) ≡ true → (front : List ℕ) × (b ∷ bs ≡ front ++ 46 ∷ [])
-dots_end b [] h = ([], ap (λ c. c ∷ []) (is_number b 46 (and_left (is_dot b) true h)))
+dots_end b [] h = ([], ap (λ c. c ∷ []) (is_number b 46 (and_parts (is_dot b) true h).0))
 dots_end b (c ∷ cs) h =
-    let rest = dots_end c cs (and_right (is_dot b) (list_all is_dot (c ∷ cs)) h) in
+    let rest = dots_end c cs (and_parts (is_dot b) (list_all is_dot (c ∷ cs)) h).1 in
     (b ∷ rest.0, ap (λ ys. b ∷ ys) rest.1)
 
 kept_step : (b : ℕ) (bs cut : List ℕ) (t : Bool) → list_all is_dot (b ∷ bs) ≡ t → (t ≡ true → ⊥) → cut ≡ bs

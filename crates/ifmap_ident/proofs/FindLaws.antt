@@ -1,6 +1,7 @@
 -- What the first that passes tells of all.
 use Rattle.std.proofs.Common.{◌≡◌, ◌&&◌, ℕ, suc, ◌<◌, ◌++◌, take, drop, length, get_or, option_to_list, Bool, true, false, List, [], ◌∷◌, Option, None, Some, IfSome, IsNone, cond, is_some, refl, sym, ◌∙◌, ap, subst, ◌⊎◌, inl, inr, rules, arith}
 use Rattle.std.specs.List.{AllByRecursion, filter, find}
+use Rattle.std.proofs.lemmas.Bool.{and_parts}
 use Rattle.std.proofs.lemmas.List.{take-append-drop}
 use Rattle.std.proofs.lemmas.List.Elements.{filter-append}
 use Rattle.std.proofs.Math.Seq.{drop-cons}
@@ -38,19 +39,12 @@ other_text x y differs same =
     let P : List ℕ → Type 0 = λ z. bytes_eq x z ≡ false in let f : bytes_eq x x ≡ false = subst P same differs in
     let t : bytes_eq x x ≡ true = eq_itself x in cc
 
-and_left : (a b : Bool) → (a && b) ≡ true → a ≡ true
-and_left true b h = refl
-and_left false b h = h
-
-and_right : (a b : Bool) → (a && b) ≡ true → b ≡ true
-and_right true b h = h
-and_right false b h = absurd cc
-
 -- a name in no namespace, by its local part
 pub bare_tells : (local : List ℕ) (name : Name) → is_bare local name ≡ true → name ≡ bare_name local
 bare_tells local name h =
-    let space : name.space ≡ [] = eq_tells name.space [] (and_left (bytes_eq name.space []) (bytes_eq name.local local) h) in
-    let part : name.local ≡ local = eq_tells name.local local (and_right (bytes_eq name.space []) (bytes_eq name.local local) h) in
+    let parts = and_parts (bytes_eq name.space []) (bytes_eq name.local local) h in
+    let space : name.space ≡ [] = eq_tells name.space [] parts.0 in
+    let part : name.local ≡ local = eq_tells name.local local parts.1 in
     λ i. record { space = space i; local = part i }
 
 pub bare_itself : (local : List ℕ) → is_bare local (bare_name local) ≡ true
