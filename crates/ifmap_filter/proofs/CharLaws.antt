@@ -1,11 +1,11 @@
 -- Texts that are cut where their characters cease to pass a test.
-use Rattle.std.proofs.Common.{◌≡◌, ℕ, ◌+◌, ◌<◌, ◌≤◌, Bool, true, false, List, [], ◌∷◌, ◌++◌, length, take, drop, refl, ap, sym, ◌∙◌, subst, arith, Option, Some, None}
-use Rattle.std.specs.Prelude.{not, ◌==◌, encode_utf8, encode_utf8_all, IsUtf8, chars, MatchOption, if◌then◌else◌}
+use Rattle.std.proofs.Common.{◌≡◌, ℕ, Bool, true, false, List, [], ◌∷◌, ◌++◌, length, take, drop, refl, ap, sym, ◌∙◌, arith, Some}
+use Rattle.std.specs.Prelude.{not, ◌==◌, encode_utf8_all, IsUtf8, chars}
 use Rattle.std.specs.Str.{IsCharBoundary, NoCharPasses, NonePass}
 use Rattle.std.specs.Str.Pattern.{FindsBy, HasCharAt}
 use Rattle.std.proofs.lemmas.Bool.Decides.{Decides-eqb}
 use Rattle.std.proofs.lemmas.List.{append-nil, take-append-drop}
-use Rattle.std.proofs.lemmas.Str.{IsUtf8-drop, IsUtf8-past_char, chars-nil, chars_from_encodes, chars_past_char, encodes-append, encodes-chars}
+use Rattle.std.proofs.lemmas.Str.{IsUtf8-drop, chars-nil, chars_from_encodes, chars_past_char, encodes-append, encodes-chars}
 use Rattle.ifmap_filter.specs.Lexing.{Cuts}
 use Rattle.ifmap_filter.specs.Tokens.{after_while, front_while}
 

@@ -1,25 +1,21 @@
 -- How a filter goes on, by one more token. (1) Words that join are told by their parts; (2) tests: what names ask for, and what is after a
 -- test; (3) an or-part is its first factor and what is after it; (4) what is after a factor, by `and`, `or` and any other token.
-use Rattle.std.proofs.Common.{◌≡◌, ◌≢◌, ℕ, ◌+◌, ◌<◌, zero, suc, Bool, true, false, List, [], ◌∷◌, ◌++◌, length, refl, ap, sym, ◌∙◌, subst, arith, inl, inr, Option, Some, None, append_assoc, codes}
-use Rattle.std.specs.Prelude.{◌↔◌, ◌⊎◌, ◌&&◌, nat_lt, if◌then◌else◌}
+use Rattle.std.proofs.Common.{◌≡◌, ◌≢◌, ℕ, true, false, List, [], ◌∷◌, ◌++◌, refl, ap, sym, ◌∙◌, subst, Option, Some, None, append_assoc, codes}
+use Rattle.std.specs.Prelude.{◌↔◌}
 use Rattle.std.specs.Str.{bytes_eq}
-use Rattle.std.proofs.lemmas.Bool.{cases_Bool, and_from, and_parts}
-use Rattle.std.proofs.lemmas.Bool.Decides.{nat_tests}
+use Rattle.std.proofs.lemmas.Bool.{and_from, and_parts}
 use Rattle.std.proofs.lemmas.List.{append-nil}
 use Rattle.ifmap_lemmas.specs.Texts.{eq_itself, eq_tells}
 use Rattle.ifmap_elem.specs.declared.elements.Name as element
 use Rattle.ifmap_elem.specs.declared.tokens.Qualified.{Qualified}
 use Rattle.ifmap_reader.specs.declared.scoping.Scope.{Scope}
-use Rattle.ifmap_filter.specs.declared.filters.Predicate.{Predicate, Attr, Child, And, Or}
+use Rattle.ifmap_filter.specs.declared.filters.Predicate.{Predicate, And, Or}
 use Rattle.ifmap_filter.specs.declared.filters.Test.{Test}
 use Rattle.ifmap_filter.specs.declared.filters.Filter.{Filter}
 use Rattle.ifmap_filter.specs.declared.tokens.Token.{Token}
-use Rattle.ifmap_filter.specs.declared.tokens.Token.TheVariants.{Any, OpenBracket, CloseBracket, OpenParenthesis, CloseParenthesis, EqualsSign, At, Name, Literal}
-use Rattle.ifmap_filter.specs.declared.standing.Frame.{Frame}
-use Rattle.ifmap_filter.specs.declared.standing.Asked.{Asked}
-use Rattle.ifmap_filter.specs.declared.standing.Asked.TheVariants as asked
-use Rattle.ifmap_filter.specs.Grammar.{AreTests, AsksFor, IsFilter, StandsFor, TakesAnds, TakesAttribute, TakesChild, TakesComparison, TakesFactor, TakesJoined, TakesMore, TakesOrs, TakesPredicate, TakesTest, and_word, bare, deepest, joined, or_word, space_of}
-use Rattle.ifmap_filter.specs.Progress.{Closes, Context, Where, Start, TestDue, Named, Tested, FactorDue, LocalDue, EqualsDue, LiteralDue, FactorDone, AfterFactor, EqualsFirst, FactorFirst, GoesOn, LiteralFirst, LocalFirst, MoreFactors, MoreTests, PredicateFirst, TestFirst, asks_named, child_named, close_group, close_test, compared, done_part, gathered, inner_context, is_word, name_in, name_of, nesting, next_part, step, step_done, step_equals, step_factor, step_literal, step_local, step_named, step_test, step_tested, test_of, whole, with_factor}
+use Rattle.ifmap_filter.specs.declared.tokens.Token.TheVariants.{Any, OpenBracket, Name}
+use Rattle.ifmap_filter.specs.Grammar.{AreTests, AsksFor, IsFilter, TakesAnds, TakesFactor, TakesMore, TakesOrs, TakesPredicate, TakesTest, and_word, bare, joined, or_word, space_of}
+use Rattle.ifmap_filter.specs.Progress.{MoreFactors, MoreTests, PredicateFirst, TestFirst, done_part, gathered, is_word, test_of}
 
 -- (1) words
 

@@ -1,9 +1,9 @@
 -- Each text writes one filter, or stops at one place. (1) Reading goes on while tokens stand there; (2) a filter's tokens are one filter: reading them
 -- leads to one place; (3) two readings of one text: one goes on from the other.
-use Rattle.std.proofs.Common.{◌≡◌, ◌≢◌, ℕ, ◌+◌, ◌<◌, zero, suc, List, [], ◌∷◌, ◌++◌, length, refl, ap, sym, ◌∙◌, subst, arith, inl, inr, Option, Some, None, append_assoc}
-use Rattle.std.specs.Prelude.{◌⊎◌, ◌↔◌, chars}
+use Rattle.std.proofs.Common.{◌≡◌, ℕ, ◌+◌, ◌<◌, List, [], ◌∷◌, ◌++◌, length, refl, ap, sym, ◌∙◌, subst, arith, inl, inr, Option, Some, None, append_assoc}
+use Rattle.std.specs.Prelude.{◌⊎◌, chars}
 use Rattle.std.proofs.lemmas.List.{append-nil}
-use Rattle.ifmap_lemmas.specs.Deciding.{Decided, by_length, value_or_none}
+use Rattle.ifmap_lemmas.specs.Deciding.{by_length, value_or_none}
 use Rattle.ifmap_lemmas.specs.Items.{To}
 use Rattle.ifmap_reader.specs.declared.scoping.Scope.{Scope}
 use Rattle.ifmap_filter.specs.declared.filters.Filter.{Filter}
@@ -13,7 +13,7 @@ use Rattle.ifmap_filter.specs.Laws.{FilterOrStop, OneFilter, OnePlace, StopsWher
 use Rattle.ifmap_filter.specs.Progress.{GoesOn, Where, Start, nesting, step, whole}
 use Rattle.ifmap_filter.specs.Reaching.{Reached}
 use Rattle.ifmap_filter.specs.Texts.{BeginsFilter, StopsAt, Writes, offset}
-use Rattle.ifmap_filter.specs.Tokens.{IsEnd, Taken, Takes, taken, token_at, without_white}
+use Rattle.ifmap_filter.specs.Tokens.{IsEnd, Taken, Takes, token_at, without_white}
 use Rattle.ifmap_filter.proofs.Ending.{EndsAt, ends}
 use Rattle.ifmap_filter.proofs.Stepping.{IsRight, right}
 use Rattle.ifmap_filter.proofs.Reaching.{at_start, later_length, next_place, only_taken, not_end, stops_at_end, stops_at_token, stops_where_none, taken_later, whole_text}

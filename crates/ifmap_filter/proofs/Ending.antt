@@ -1,5 +1,5 @@
 -- (1) What ends at a place, and (2) that from each place some filter goes on.
-use Rattle.std.proofs.Common.{◌≡◌, ◌≢◌, ℕ, ◌+◌, zero, suc, List, [], ◌∷◌, ◌++◌, length, refl, ap, sym, ◌∙◌, subst, inl, inr, Option, Some, None}
+use Rattle.std.proofs.Common.{◌≡◌, ℕ, zero, suc, List, [], ◌∷◌, ◌++◌, refl, ap, sym, ◌∙◌, subst, inl, inr, Option, Some, None}
 use Rattle.std.specs.Prelude.{◌↔◌}
 use Rattle.std.proofs.lemmas.List.{append-nil}
 use Rattle.ifmap_elem.specs.declared.elements.Name as element
@@ -11,9 +11,9 @@ use Rattle.ifmap_filter.specs.declared.standing.Frame.{Frame}
 use Rattle.ifmap_filter.specs.declared.standing.Asked.{Asked}
 use Rattle.ifmap_filter.specs.declared.standing.Asked.TheVariants as asked
 use Rattle.ifmap_filter.specs.declared.tokens.Token.{Token}
-use Rattle.ifmap_filter.specs.declared.tokens.Token.TheVariants.{Any, OpenBracket, CloseBracket, OpenParenthesis, CloseParenthesis, EqualsSign, At, Name, Literal}
+use Rattle.ifmap_filter.specs.declared.tokens.Token.TheVariants.{Any, CloseBracket, CloseParenthesis, EqualsSign, At, Name, Literal}
 use Rattle.ifmap_filter.specs.Grammar.{AreTests, IsFilter, TakesAnds, TakesFactor, TakesMore, TakesPredicate, TakesTest, and_word, bare, or_word}
-use Rattle.ifmap_filter.specs.Progress.{Closes, Context, Where, Start, TestDue, Named, Tested, FactorDue, LocalDue, EqualsDue, LiteralDue, FactorDone, AfterFactor, FactorFirst, GoesOn, MoreFactors, MoreTests, PredicateFirst, TestFirst, compared, done_part, gathered, test_of, whole, with_factor}
+use Rattle.ifmap_filter.specs.Progress.{Closes, Context, Where, Start, TestDue, Named, Tested, FactorDue, LocalDue, EqualsDue, LiteralDue, FactorDone, AfterFactor, GoesOn, MoreTests, PredicateFirst, TestFirst, compared, done_part, gathered, test_of, whole, with_factor}
 use Rattle.ifmap_filter.proofs.Continuing.{no_more}
 
 module _ (scope : Scope) where

@@ -1,19 +1,19 @@
 -- The steps of the loop that reads a filter, over texts in UTF-8.
-use Rattle.std.proofs.Common.{◌≡◌, ◌≢◌, ℕ, ◌+◌, ◌-◌, ◌<◌, ◌≤◌, List, [], ◌∷◌, ◌++◌, length, refl, ap, sym, ◌∙◌, subst, arith, inl, inr, Option, Some, None}
+use Rattle.std.proofs.Common.{◌≡◌, ◌≢◌, ℕ, ◌-◌, ◌<◌, ◌≤◌, List, [], length, ap, sym, ◌∙◌, subst, arith, inl, inr, Some}
 use Rattle.std.specs.Prelude.{◌==◌, true, false, IsUtf8, chars, encode_utf8_all, Result, Ok, Err}
 use Rattle.std.proofs.lemmas.Bool.Decides.{Decides-eqb}
-use Rattle.std.proofs.lemmas.Str.{chars-nil, encodes-chars}
+use Rattle.std.proofs.lemmas.Str.{encodes-chars}
 use Rattle.ifmap_reader.specs.declared.scoping.Scope.{Scope}
 use Rattle.ifmap_filter.specs.declared.errors.FilterError.{FilterError}
 use Rattle.ifmap_filter.specs.declared.errors.FilterError.TheVariants.{NotAFilter, NoMemory}
 use Rattle.ifmap_filter.specs.declared.filters.Filter.{Filter}
 use Rattle.ifmap_filter.specs.declared.tokens.Token.{Token}
-use Rattle.ifmap_filter.specs.Progress.{Where, Start, step, whole}
-use Rattle.ifmap_filter.specs.Reaching.{IsEndAnswer, IsRefused, Reached, ReachedWhite, StepsOn}
-use Rattle.ifmap_filter.specs.Texts.{IsParsed, StopsAt, Writes, offset}
+use Rattle.ifmap_filter.specs.Progress.{Where, Start}
+use Rattle.ifmap_filter.specs.Reaching.{IsEndAnswer, IsRefused, ReachedWhite, StepsOn}
+use Rattle.ifmap_filter.specs.Texts.{IsParsed, StopsAt, offset}
 use Rattle.ifmap_filter.specs.Tokens.{Takes, taken, token_at, without_white}
 use Rattle.ifmap_filter.proofs.CharLaws.{no_characters}
-use Rattle.ifmap_filter.proofs.Reaching.{IsLater, after_bytes, at_start, later_bytes, next_place, stops_at_end, stops_at_token, stops_where_none, token_later, white_after, whole_text}
+use Rattle.ifmap_filter.proofs.Reaching.{after_bytes, at_start, later_bytes, next_place, stops_at_end, stops_at_token, stops_where_none, token_later, white_after, whole_text}
 
 byte_length : (text : List ℕ) → IsUtf8 text → length (encode_utf8_all (chars text)) ≡ length text
 byte_length text u = ap length (encodes-chars text u)

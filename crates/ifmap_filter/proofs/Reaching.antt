@@ -1,18 +1,17 @@
 -- What a reader has reached in the characters of a text: (1) tokens take characters from the front; (2) the next place, the stop at a token, the
 -- stop where no token stands and the end; (3) each text is a filter or stops to be one, and (4) at one place alone.
-use Rattle.std.proofs.Common.{◌≡◌, ◌≢◌, ℕ, ◌+◌, ◌-◌, ◌<◌, ◌≤◌, zero, suc, Bool, true, false, List, [], ◌∷◌, ◌++◌, length, refl, ap, sym, ◌∙◌, subst, arith, inl, inr, Option, Some, None, append_assoc, length-append}
-use Rattle.std.specs.Prelude.{◌↔◌, ◌⊎◌, ◌==◌, if◌then◌else◌, encode_utf8_all, chars}
+use Rattle.std.proofs.Common.{◌≡◌, ◌≢◌, ℕ, ◌<◌, ◌≤◌, Bool, true, false, List, [], ◌∷◌, ◌++◌, length, refl, ap, sym, ◌∙◌, subst, arith, Option, Some, None, append_assoc, length-append}
+use Rattle.std.specs.Prelude.{◌==◌, if◌then◌else◌, encode_utf8_all, chars}
 use Rattle.std.proofs.lemmas.Str.{encodes-append, length-le-encodes}
 use Rattle.std.proofs.lemmas.List.{append-nil}
-use Rattle.ifmap_lemmas.specs.Deciding.{value_or_none}
-use Rattle.ifmap_lemmas.specs.Items.{To, to_last}
+use Rattle.ifmap_lemmas.specs.Items.{to_last}
 use Rattle.ifmap_elem.specs.Chars.{colon, is_white}
 use Rattle.ifmap_elem.specs.Names.{is_name_character, is_name_start}
 use Rattle.ifmap_reader.specs.declared.scoping.Scope.{Scope}
 use Rattle.ifmap_filter.specs.declared.filters.Filter.{Filter}
 use Rattle.ifmap_filter.specs.declared.tokens.Token.{Token}
 use Rattle.ifmap_filter.specs.Grammar.{IsFilter, deepest}
-use Rattle.ifmap_filter.specs.Progress.{GoesOn, Where, Start, nesting, step, whole}
+use Rattle.ifmap_filter.specs.Progress.{GoesOn, Where, Start, step, whole}
 use Rattle.ifmap_filter.specs.Reaching.{Reached}
 use Rattle.ifmap_filter.specs.Texts.{BeginsFilter, StopsAt, Writes, offset}
 use Rattle.ifmap_filter.specs.Tokens.{IsEnd, Taken, Takes, after_while, closed_literal, front_while, is_but, is_quote, literal_at, name_at, name_from, name_token, part_bytes, prefixed_name_at, symbol_of, taken, token_at, with_symbol, without_white}

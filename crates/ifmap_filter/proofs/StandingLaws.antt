@@ -1,8 +1,7 @@
 -- What the code of `standing` does beside its definitions: the depth, the stack with the innermost last, and tokens that are not allowed.
-use Rattle.std.proofs.Common.{◌≡◌, ◌≢◌, ℕ, ◌+◌, ◌<◌, ◌≤◌, suc, Bool, true, false, List, [], ◌∷◌, ◌++◌, length, refl, ap, sym, ◌∙◌, subst, arith, Option, Some, None, reverse, drop, get_or, add-one, drop-cons}
-use Rattle.std.specs.Prelude.{nat_lt, if◌then◌else◌}
+use Rattle.std.proofs.Common.{◌≡◌, ◌≢◌, ℕ, ◌+◌, ◌<◌, ◌≤◌, suc, true, false, List, [], ◌∷◌, ◌++◌, length, refl, ap, sym, ◌∙◌, arith, Option, Some, None, reverse, drop, get_or, add-one, drop-cons}
+use Rattle.std.specs.Prelude.{nat_lt}
 use Rattle.std.specs.Map.{lookup}
-use Rattle.std.specs.Option.{option_map}
 use Rattle.std.specs.Str.{bytes_eq}
 use Rattle.std.proofs.Math.Seq.{drop-length}
 use Rattle.std.proofs.lemmas.Bool.Decides.{nat_tests}
@@ -10,7 +9,7 @@ use Rattle.std.proofs.lemmas.List.{length-reverse, reverse-append}
 use Rattle.ifmap_elem.specs.declared.elements.Name as element
 use Rattle.ifmap_elem.specs.declared.tokens.Qualified.{Qualified}
 use Rattle.ifmap_reader.specs.declared.scoping.Scope.{Scope}
-use Rattle.ifmap_filter.specs.declared.filters.Predicate.{Predicate, And, Or}
+use Rattle.ifmap_filter.specs.declared.filters.Predicate.{Predicate}
 use Rattle.ifmap_filter.specs.declared.filters.Test.{Test}
 use Rattle.ifmap_filter.specs.declared.standing.Frame.{Frame}
 use Rattle.ifmap_filter.specs.declared.standing.Inside.{Inside}
@@ -18,7 +17,7 @@ use Rattle.ifmap_filter.specs.declared.standing.Asked.{Asked}
 use Rattle.ifmap_filter.specs.declared.tokens.Token.{Token}
 use Rattle.ifmap_filter.specs.declared.tokens.Token.TheVariants.{Any, OpenBracket, CloseBracket, OpenParenthesis, CloseParenthesis, EqualsSign, At, Name, Literal}
 use Rattle.ifmap_filter.specs.Grammar.{deepest}
-use Rattle.ifmap_filter.specs.Progress.{Context, Where, FactorDue, context, gathered, inner_context, inner_place, IsNotSingle, step_done, step_equals, step_factor, step_literal, step_local, step_named, step_test, step_tested, test_of}
+use Rattle.ifmap_filter.specs.Progress.{Context, FactorDue, context, gathered, inner_context, inner_place, IsNotSingle, step_done, step_equals, step_factor, step_literal, step_local, step_named, step_test, step_tested, test_of}
 
 pub deepest_is : deepest ≡ 64
 unfolding deepest

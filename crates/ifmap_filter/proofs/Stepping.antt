@@ -1,16 +1,15 @@
 -- Each step of a reader is right: what goes on with the token from the place before is what goes on from the next place, or nothing does. By
 -- where the reader stands: (1) between tests; (2) at a factor, by its first token; (3) within a comparison; (4) after a factor; (5) all together;
 -- (6) what ends at a place; (7) from each place some filter goes on.
-use Rattle.std.proofs.Common.{◌≡◌, ◌≢◌, ℕ, ◌+◌, ◌<◌, zero, suc, Bool, true, false, List, [], ◌∷◌, ◌++◌, length, refl, ap, sym, ◌∙◌, subst, arith, inl, inr, Option, Some, None, codes, add-zero}
-use Rattle.std.specs.Prelude.{◌↔◌, ◌⊎◌, nat_lt, if◌then◌else◌}
+use Rattle.std.proofs.Common.{◌≡◌, ◌≢◌, ℕ, ◌+◌, zero, suc, Bool, true, false, List, [], ◌∷◌, ◌++◌, length, refl, ap, sym, ◌∙◌, subst, arith, inl, inr, Option, Some, None, codes, add-zero}
+use Rattle.std.specs.Prelude.{◌↔◌, nat_lt, if◌then◌else◌}
 use Rattle.std.specs.Str.{bytes_eq}
 use Rattle.std.proofs.lemmas.Bool.Decides.{nat_tests}
-use Rattle.std.proofs.lemmas.List.{append-nil}
-use Rattle.ifmap_lemmas.specs.Texts.{eq_itself, eq_tells}
+use Rattle.ifmap_lemmas.specs.Texts.{eq_tells}
 use Rattle.ifmap_elem.specs.declared.elements.Name as element
 use Rattle.ifmap_elem.specs.declared.tokens.Qualified.{Qualified}
 use Rattle.ifmap_reader.specs.declared.scoping.Scope.{Scope}
-use Rattle.ifmap_filter.specs.declared.filters.Predicate.{Predicate, Attr, Child, And, Or}
+use Rattle.ifmap_filter.specs.declared.filters.Predicate.{Predicate, Attr, Child}
 use Rattle.ifmap_filter.specs.declared.filters.Test.{Test}
 use Rattle.ifmap_filter.specs.declared.filters.Filter.{Filter}
 use Rattle.ifmap_filter.specs.declared.tokens.Token.{Token}
@@ -18,9 +17,9 @@ use Rattle.ifmap_filter.specs.declared.tokens.Token.TheVariants.{Any, OpenBracke
 use Rattle.ifmap_filter.specs.declared.standing.Frame.{Frame}
 use Rattle.ifmap_filter.specs.declared.standing.Asked.{Asked}
 use Rattle.ifmap_filter.specs.declared.standing.Asked.TheVariants as asked
-use Rattle.ifmap_filter.specs.Grammar.{AreTests, AsksFor, IsFilter, StandsFor, TakesComparison, TakesFactor, TakesMore, TakesOrPart, TakesOrs, TakesPredicate, TakesTest, and_word, bare, deepest, or_word, space_of}
-use Rattle.ifmap_filter.specs.Progress.{Closes, Context, Where, Start, TestDue, Named, Tested, FactorDue, LocalDue, EqualsDue, LiteralDue, FactorDone, AfterFactor, EqualsFirst, FactorFirst, GoesOn, LiteralFirst, LocalFirst, MoreFactors, MoreTests, PredicateFirst, TestFirst, asks_named, child_named, close_group, close_test, compared, done_part, inner_context, is_word, name_in, nesting, next_part, step, step_done, step_equals, step_factor, step_literal, step_local, step_named, step_test, step_tested, test_of, whole, with_factor}
-use Rattle.ifmap_filter.proofs.Continuing.{Refuses, and_more, any_asks, bare_named, head_of, name_asks, named, no_more, none_asks, not_that_word, or_more, or_part, other_more, started, tested_or, tested_other, unnamed, word_is}
+use Rattle.ifmap_filter.specs.Grammar.{AsksFor, StandsFor, TakesComparison, TakesFactor, TakesOrPart, TakesOrs, and_word, bare, deepest, or_word, space_of}
+use Rattle.ifmap_filter.specs.Progress.{Closes, Context, Where, Start, TestDue, Named, Tested, FactorDue, LocalDue, EqualsDue, LiteralDue, FactorDone, AfterFactor, EqualsFirst, FactorFirst, GoesOn, LiteralFirst, LocalFirst, MoreFactors, MoreTests, PredicateFirst, TestFirst, asks_named, child_named, close_group, close_test, compared, done_part, inner_context, is_word, name_in, nesting, next_part, step, step_done, step_equals, step_factor, step_literal, step_local, step_named, step_test, step_tested, test_of, with_factor}
+use Rattle.ifmap_filter.proofs.Continuing.{Refuses, and_more, any_asks, bare_named, head_of, name_asks, named, none_asks, not_that_word, or_more, or_part, other_more, started, tested_or, tested_other, unnamed, word_is}
 
 module _ (scope : Scope) where
   -- the step from a place by a token is right: the next place, where so much deeper, or none

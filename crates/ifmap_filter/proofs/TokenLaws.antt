@@ -1,8 +1,8 @@
 -- The token at the front by its first character.
-use Rattle.std.proofs.Common.{◌≡◌, ℕ, true, false, List, [], ◌∷◌, refl, ap, sym, ◌∙◌, Option, Some, None}
+use Rattle.std.proofs.Common.{◌≡◌, ℕ, true, false, List, [], ◌∷◌, refl, ap, sym, ◌∙◌, Some, None}
 use Rattle.ifmap_elem.specs.Names.{is_name_start}
 use Rattle.ifmap_filter.specs.declared.tokens.Token.{Token}
-use Rattle.ifmap_filter.specs.Tokens.{Taken, is_quote, literal_at, name_at, symbol_of, taken, token_at, with_symbol}
+use Rattle.ifmap_filter.specs.Tokens.{is_quote, literal_at, name_at, symbol_of, taken, token_at, with_symbol}
 
 module _ (cs : List ℕ) (c : ℕ) (more : List ℕ) (is : cs ≡ c ∷ more) where
   pub quoted : is_quote c ≡ true → token_at cs ≡ literal_at c more

@@ -1,5 +1,5 @@
 -- Where a reader of filters stands, how a filter goes on from there, and what one more token makes of it.
-use Rattle.std.specs.Prelude.{◌≡◌, ◌&&◌, ◌==◌, ◌⊎◌, ℕ, suc, Bool, if◌then◌else◌, nat_lt, List, [], ◌∷◌, ◌++◌, codes, length, reverse, Option, Some, None}
+use Rattle.std.specs.Prelude.{◌≡◌, ◌&&◌, ℕ, suc, Bool, if◌then◌else◌, nat_lt, List, [], ◌∷◌, ◌++◌, codes, length, reverse, Option, Some, None}
 use Rattle.std.specs.Str.{bytes_eq}
 use Rattle.ifmap_elem.specs.declared.elements.Name as element
 use Rattle.ifmap_elem.specs.declared.tokens.Qualified.{Qualified}

@@ -1,5 +1,5 @@
 -- What a reader of filters has reached.
-use Rattle.std.specs.Prelude.{◌≡◌, ◌↔◌, ◌⊎◌, ◌≤◌, ℕ, ◌+◌, List, ◌++◌, IsUtf8, chars, length, Option, Some, None, Result, Ok, Err}
+use Rattle.std.specs.Prelude.{◌≡◌, ◌↔◌, ◌⊎◌, ◌≤◌, ℕ, ◌+◌, List, ◌++◌, IsUtf8, chars, length, Some, None, Result, Ok, Err}
 use Rattle.ifmap_lemmas.specs.Items.{To}
 use Rattle.ifmap_reader.specs.declared.scoping.Scope.{Scope}
 use Rattle.ifmap_filter.specs.declared.errors.FilterError.{FilterError}

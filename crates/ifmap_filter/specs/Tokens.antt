@@ -4,7 +4,6 @@ use Rattle.std.specs.Prelude.{◌≡◌, ℕ, Bool, not, ◌==◌, ◌||◌, if�
 use Rattle.std.specs.Str.{byte}
 use Rattle.ifmap_elem.specs.Chars.{colon, double_quote, equals_sign, is_white, single_quote}
 use Rattle.ifmap_elem.specs.Names.{is_name_character, is_name_start}
-use Rattle.ifmap_elem.specs.declared.tokens.Qualified.{Qualified}
 use Rattle.ifmap_filter.specs.declared.tokens.Token.{Token}
 use Rattle.ifmap_filter.specs.declared.tokens.Token.TheVariants.{Any, OpenBracket, CloseBracket, OpenParenthesis, CloseParenthesis, EqualsSign, At, Name, Literal}
 

@@ -1,6 +1,6 @@
-use Rattle.std.proofs.Common.{◌≡◌, [], ◌∷◌, ◌++◌, sym, ◌∙◌, ap, length, refl}
-use Rattle.std.specs.Prelude.{encode_utf8, chars}
-use Rattle.std.proofs.lemmas.Str.{chars_past_char, chars-nil}
+use Rattle.std.proofs.Common.{◌∷◌, sym, ◌∙◌, ap, length}
+use Rattle.std.specs.Prelude.{chars}
+use Rattle.std.proofs.lemmas.Str.{chars_past_char}
 use Rattle.ifmap_filter.proofs.CharLaws.{no_characters}
 use Rattle.ifmap_filter.proofs.lexing.first_character.Goals as goal
 

@@ -1,5 +1,4 @@
-use Rattle.std.proofs.Common.{ap, sym}
-use Rattle.std.specs.Prelude.{not, ◌==◌}
+use Rattle.std.specs.Prelude.{◌==◌}
 use Rattle.ifmap_filter.specs.Tokens.{is_but}
 use Rattle.ifmap_filter.proofs.CharLaws.{cuts_all, cuts_from, same_number, twice}
 use Rattle.ifmap_filter.proofs.lexing.split_literal.Goals as goal

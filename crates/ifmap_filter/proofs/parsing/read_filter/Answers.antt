@@ -1,4 +1,4 @@
-use Rattle.std.proofs.Common.{◌≡◌, ◌∙◌, ◌-◌, refl, subst, sym, length}
+use Rattle.std.proofs.Common.{◌∙◌, ◌-◌, refl, subst, sym, length}
 use Rattle.std.proofs.lemmas.Result.{err_from_is_err_and}
 use Rattle.ifmap_filter.specs.Progress.{where_is}
 use Rattle.ifmap_filter.specs.Reaching.{IsRefused}

@@ -1,9 +1,8 @@
-use Rattle.std.proofs.Common.{◌≡◌, ℕ, List, length}
-use Rattle.std.specs.Prelude.{chars}
+use Rattle.std.proofs.Common.{length}
 use denote.Text.{Utf8}
 use denote.Shadow.{shadow}
 use Rattle.ifmap_filter.specs.Progress.{where_is}
-use Rattle.ifmap_filter.specs.Reaching.{Reached, ReachedWhite}
+use Rattle.ifmap_filter.specs.Reaching.{ReachedWhite}
 use Rattle.ifmap_filter.proofs.parsing.read_filter.Given as goal
 
 abbrev pub invariant-loop-rest : goal.invariant-loop-rest

@@ -1,4 +1,4 @@
-use Rattle.std.proofs.Common.{◌≡◌, ◌∙◌, ap, inl, inr, refl, subst, sym, Some, None}
+use Rattle.std.proofs.Common.{◌≡◌, ◌∙◌, ap, inl, refl, subst, sym, Some, None}
 use Rattle.std.specs.Prelude.{IfNone, IfSome, chars}
 use Rattle.std.specs.Option.{option_map}
 use Rattle.ifmap_filter.specs.Progress.{where_is}
