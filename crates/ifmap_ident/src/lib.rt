@@ -8,8 +8,10 @@ mod domains;
 pub mod identifiers;
 pub mod items;
 mod mac_addresses;
+pub mod shared_items;
 mod values;
 
 pub use codes::Code;
 pub use identifiers::Identifier;
 pub use items::Item;
+pub use shared_items::SharedItem;
