@@ -1,3 +1,4 @@
+pub mod InPlace
 pub mod Order
 pub mod StampLaws
 pub mod Texts

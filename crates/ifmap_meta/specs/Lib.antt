@@ -3,3 +3,4 @@ pub mod ClientNames
 pub mod Keys
 pub mod Stamps
 pub mod Stored
+pub mod Whole

@@ -20,10 +20,12 @@ without_stamps attributes = filter (λ a. not (is_stamp a)) attributes
 abbrev pub content_of : Element → Element
 content_of e = record { name = e.name; attributes = without_stamps e.attributes; children = e.children }
 
--- what the server sets: the publisher, and the moment of publishing
+-- what the server sets: the publisher, and a text for the moment of publishing
+abbrev pub stamps_of : List ℕ → List ℕ → List Attribute
+stamps_of publisher text = bare_attribute (codes "ifmap-publisher-id") publisher ∷ bare_attribute (codes "ifmap-timestamp") text ∷ []
+
 abbrev pub stamps : List ℕ → ℕ → List Attribute
-stamps publisher moment =
-    bare_attribute (codes "ifmap-publisher-id") publisher ∷ bare_attribute (codes "ifmap-timestamp") (moment_text moment) ∷ []
+stamps publisher moment = stamps_of publisher (moment_text moment)
 
 -- these attributes and the stamps, in order
 abbrev pub with_stamps : List ℕ → ℕ → List Attribute → List Attribute

@@ -2,12 +2,16 @@
 //! with who published them, when, and for how long; what their keys compare.
 #![tactic(auto)]
 
-mod attributes;
+mod arranging;
 pub mod clients;
+pub mod errors;
 pub mod laws;
 pub mod metadata;
+pub mod shared_elements;
 pub mod stored;
 
 pub use clients::ClientName;
-pub use metadata::{Cardinality, Metadata};
-pub use stored::{Life, Stored, content, content_bytes, is_single, same_type};
+pub use errors::MetaError;
+pub use metadata::{Cardinality, Metadata, cardinality_of, is_single};
+pub use shared_elements::SharedElement;
+pub use stored::{Life, Stored, content, content_bytes, same_type};

@@ -1,5 +1,8 @@
 //! Elements that are to be published.
-use ifmap_elem::{Copied, Element};
+ghost use Rattle.std.specs.Prelude.{◌≡◌};
+ghost use Rattle.ifmap_meta.specs.Cardinality.{cardinality_of, is_multi, is_multi_value, is_single, is_single_value};
+
+use ifmap_elem::{Attribute, Copied, Element};
 use std::alloc::{AllocError as NoMemory, Global};
 
 /// How many elements of one type an item can carry.
@@ -17,7 +20,7 @@ impl Copied for Cardinality {
     }
 }
 
-/// An element that is to be published.
+/// An element that is to be published: its content, without the server's stamps.
 #[derive(Debug, Drop)]
 pub struct Metadata {
     pub element: Element,
@@ -31,4 +34,42 @@ impl Copied for Metadata {
             cardinality: self.cardinality,
         })
     }
+}
+
+/// What the element says of its cardinality. It takes no memory.
+pub fn cardinality_of(element: &Element) -> Option<Cardinality>
+    ensures { result ≡ cardinality_of element.now }
+{
+    if is_single(element) {
+        return Some(Cardinality::Single);
+    }
+    if is_multi(element) {
+        return Some(Cardinality::Multi);
+    }
+    None
+}
+
+/// Whether an item carries one element of this type at most. It takes no memory.
+pub fn is_single(element: &Element) -> bool
+    ensures { result ≡ is_single element.now }
+{
+    element.attributes.0.iter().any(is_single_value)
+}
+
+fn is_multi(element: &Element) -> bool
+    ensures { result ≡ is_multi element.now }
+{
+    element.attributes.0.iter().any(is_multi_value)
+}
+
+fn is_single_value(attribute: &Attribute) -> bool
+    ensures { result ≡ is_single_value attribute.now }
+{
+    attribute.name.is_bare("ifmap-cardinality") && attribute.value.0.as_str() == "singleValue"
+}
+
+fn is_multi_value(attribute: &Attribute) -> bool
+    ensures { result ≡ is_multi_value attribute.now }
+{
+    attribute.name.is_bare("ifmap-cardinality") && attribute.value.0.as_str() == "multiValue"
 }

@@ -1,14 +1,14 @@
 //! Elements as they are stored.
 ghost use Rattle.std.specs.Prelude.{◌≡◌, IfOk};
 ghost use Rattle.ifmap_io.specs.Calendar.{moment_text};
-ghost use Rattle.ifmap_meta.specs.Cardinality.{is_single, is_single_value};
 ghost use Rattle.ifmap_meta.specs.Keys.{content_bytes, same_type};
 ghost use Rattle.ifmap_meta.specs.Stamps.{content_of, is_stamp, with_stamps, without_stamps};
 ghost use Rattle.ifmap_meta.specs.Stored.{stored_as};
 
-use crate::attributes::put_in_order;
+use crate::arranging::put_in_order;
 use crate::clients::ClientName;
-use crate::metadata::Metadata;
+use crate::metadata::{Metadata, is_single};
+use crate::shared_elements::SharedElement;
 use ifmap_elem::{Attribute, Copied, Element, Equals, Many, Text, canonical};
 use ifmap_io::Moment;
 use std::alloc::{AllocError as NoMemory, Global};
@@ -31,7 +31,7 @@ impl Copied for Life {
 /// An element as it is stored, with its stamps.
 #[derive(Debug, Drop)]
 pub struct Stored {
-    pub element: Element,
+    pub element: SharedElement,
     pub publisher: ClientName,
     pub life: Life,
 }
@@ -60,12 +60,13 @@ impl Metadata {
         ensures { IfOk result (λ s. s ≡ stored_as self.now.element publisher.now moment life) }
     {
         let content = content(alloc, &self.element)?;
+        let stamped = Element {
+            name: content.name,
+            attributes: with_stamps(alloc, publisher, moment, content.attributes)?,
+            children: content.children,
+        };
         Ok(Stored {
-            element: Element {
-                name: content.name,
-                attributes: with_stamps(alloc, publisher, moment, content.attributes)?,
-                children: content.children,
-            },
+            element: SharedElement::new(alloc, stamped)?,
             publisher: publisher.copy(alloc)?,
             life,
         })
@@ -91,13 +92,6 @@ pub fn content_bytes(alloc: Global, element: &Element) -> Result<Many<u8>, NoMem
     canonical(alloc, &content(alloc, element)?)
 }
 
-/// Whether an item carries one element of this type at most. It takes no memory.
-pub fn is_single(element: &Element) -> bool
-    ensures { result ≡ is_single element.now }
-{
-    element.attributes.0.iter().any(is_single_value)
-}
-
 /// Whether both have one name and one cardinality. It takes no memory.
 pub fn same_type(a: &Element, b: &Element) -> bool
     ensures { result ≡ same_type a.now b.now }
@@ -105,13 +99,7 @@ pub fn same_type(a: &Element, b: &Element) -> bool
     a.name == b.name && is_single(a) == is_single(b)
 }
 
-fn is_single_value(attribute: &Attribute) -> bool
-    ensures { result ≡ is_single_value attribute.now }
-{
-    attribute.name.is_bare("ifmap-cardinality") && attribute.value.0.as_str() == "singleValue"
-}
-
-fn is_stamp(attribute: &Attribute) -> bool
+pub(crate) fn is_stamp(attribute: &Attribute) -> bool
     ensures { result ≡ is_stamp attribute.now }
 {
     attribute.name.is_bare("ifmap-publisher-id") || attribute.name.is_bare("ifmap-timestamp")

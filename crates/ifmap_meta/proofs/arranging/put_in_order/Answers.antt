@@ -1,5 +1,5 @@
 use Rattle.ifmap_meta.proofs.Order.{sorted-by_sort}
-use Rattle.ifmap_meta.proofs.attributes.put_in_order.Goals as goal
+use Rattle.ifmap_meta.proofs.arranging.put_in_order.Goals as goal
 
 pub returns : goal.returns
 returns c = sorted-by_sort _ _ c.sort_unstable.ensures.permutation c.sort_unstable.ensures.sorted
