@@ -9,7 +9,7 @@ use std::marker::Model;
 use std::sync::Arc;
 
 // An item with its size, which is computed once.
-#[derive(Drop)]
+#[derive(Debug, Drop)]
 struct Measured {
     item: Item,
     size: u64,
@@ -17,7 +17,7 @@ struct Measured {
 }
 
 /// An item that is shared and never changed. Contracts see the item.
-#[derive(Drop)]
+#[derive(Debug, Drop)]
 pub struct SharedItem(Arc<Measured>);
 
 impl Model for SharedItem {

@@ -1,18 +1,17 @@
 -- The live sessions as they are kept.
-use Rattle.std.specs.Prelude.{◌≡◌, ℕ, ◌+◌, ◌-◌, ◌*◌, ◌^◌, ◌≤◌, ◌<◌, ◌==◌, nat_le, Bool, List, [], ◌∷◌, ◌++◌, filter, find, flat_map, get_or, length, map, min, not, Option, None, Some, IsSome, option_map, option_to_list, Result, MatchOption, MatchResult, slice_index_or, slice_set, sum_by}
+use Rattle.std.specs.Prelude.{◌≡◌, ◌⊎◌, ℕ, ◌+◌, ◌-◌, ◌^◌, ◌≤◌, ◌<◌, List, ◌∷◌, ◌++◌, find, flat_map, length, map, IfSome, MatchOption, Option, None, Some, option_map, option_to_list, slice_get, slice_set, unwrap_or}
 use Rattle.std.specs.Cmp.Lexicographic.{slice_cmp}
 use Rattle.std.specs.Fmt.{decimal}
-use Rattle.std.specs.List.{AllByRecursion, IsDistinct, insert, remove}
+use Rattle.std.specs.List.{AllByRecursion, IsDistinct}
 use Rattle.std.specs.List.Sorted.{IsStrictlySortedBy}
 use Rattle.std.specs.Ordering.{nat_cmp, on}
 use Rattle.std.specs.declared.cmp.Ordering.{Ordering}
-use Rattle.ifmap_search.specs.declared.results.PollItem.{PollItem}
-use Rattle.ifmap_search.specs.Sizes.{poll_size}
 use Rattle.ifmap_session.specs.declared.holders.Holder.{Holder}
 use Rattle.ifmap_session.specs.declared.rows.Row.{Row}
 use Rattle.ifmap_session.specs.Seats.{Seat}
 use Rattle.ifmap_session.specs.SessionIds.{hyphen}
-use Rattle.ifmap_session.specs.Sessions.{Session, is_text, most_sessions, session_of_client}
+use Rattle.ifmap_session.specs.Sessions.{Session, is_text, most_sessions, session_of_client, session_with_serial}
+use Rattle.ifmap_session.specs.Stamps.{IsPower, IsTree, at}
 
 -- the sessions of rows: an empty row has none
 abbrev pub seats_of : List Row → List Seat
@@ -39,11 +38,64 @@ holder_of client holders = find (λ h. is_text h.client client) holders
 abbrev pub BeginsWithSerial : ℕ → List ℕ → Type 0
 BeginsWithSerial serial id = (rest : List ℕ) × (id ≡ decimal serial ++ hyphen ∷ rest)
 
--- what holds of the session of a row: it has the row's serial, which is the counter or less, and its id begins with it
-pub record IsOwn (counter : ℕ) (row : Row) (seat : Seat) : Type 0 where
-  pub serial : seat.session.serial ≡ row.serial
-  pub id : BeginsWithSerial row.serial seat.session.id
+-- the session of a row has its serial, with which its id begins
+pub record IsOwn (serial : ℕ) (seat : Seat) : Type 0 where
+  pub serial : seat.session.serial ≡ serial
+  pub id : BeginsWithSerial serial seat.session.id
 
 -- the stamp of a row: the last moment of its session, or what no moment reaches
 abbrev pub no_stamp : ℕ
 no_stamp = 2 ^ 64 - 1
+
+abbrev pub stamp_of : Row → ℕ
+stamp_of row = unwrap_or (option_map (λ (s : Seat). s.session.last) row.kept) no_stamp
+
+-- where the session of a serial stands, or that none is live
+abbrev pub IsRowOf : ℕ → List Row → Option ℕ → Type 0
+IsRowOf serial rows place =
+    MatchOption place
+    (session_with_serial serial (live_of rows) ≡ None)
+    (λ i. (i < length rows) × ((seat : Seat) × (slice_get rows i ≡ Some (record { serial = serial; kept = Some seat }))))
+
+-- what holds of the rows between two calls
+pub record AreRows (counter : ℕ) (rows : List Row) : Type 0 where
+  pub small : counter < 2 ^ 64
+  -- the serials rise, and end at the counter or before it
+  pub rising : IsStrictlySortedBy row_order rows
+  pub counted : AllByRecursion (λ (r : Row). r.serial ≤ counter) rows
+  -- a session has the serial of its row, with which its id begins
+  pub own : AllByRecursion (λ (r : Row). IfSome r.kept (IsOwn r.serial)) rows
+  -- a client has one session
+  pub apart : IsDistinct is_text (map (λ (s : Session). s.client) (live_of rows))
+  pub few : length (live_of rows) ≤ most_sessions
+
+-- what holds of the clients' entries: they are in order, and each leads to its client's session
+pub record AreHolders (rows : List Row) (holders : List Holder) : Type 0 where
+  pub ordered : IsStrictlySortedBy client_order holders
+  pub indexed : (client : List ℕ) → option_map (λ (h : Holder). h.serial) (holder_of client holders) ≡ option_map
+      (λ (s : Session). s.serial) (session_of_client client (live_of rows))
+  pub counts : length holders ≡ length (live_of rows)
+
+-- what holds of the stamps: each row has its own, and no other place has one
+pub record AreStamps (rows : List Row) (width : ℕ) (tree : List ℕ) : Type 0 where
+  pub tree : IsTree width tree
+  pub power : (width ≡ 0) ⊎ IsPower width
+  pub few : width < 40000
+  pub within : length rows ≤ width
+  pub stamped : (place : ℕ) → place < width → at tree (width + place) ≡ unwrap_or (option_map stamp_of (slice_get rows place)) no_stamp
+
+-- all of these
+pub record IsKept (counter : ℕ) (rows : List Row) (holders : List Holder) (width : ℕ) (tree : List ℕ) : Type 0 where
+  pub rows : AreRows counter rows
+  pub holders : AreHolders rows holders
+  pub stamps : AreStamps rows width tree
+
+-- the session of a row is changed, and P holds of it before and after
+abbrev pub Rewrites : ℕ → (Seat → Seat → Type 0) → List Row → List Row → Type 0
+Rewrites place P old new =
+    (serial : ℕ) (seat : Seat) → slice_get old place ≡ Some (record { serial = serial; kept = Some seat })
+    → (after : Seat) × P seat after × (new ≡ slice_set old place (record { serial = serial; kept = Some after }))
+
+-- a row has a session
+abbrev pub IsTaken : List Row → ℕ → Type 0
+IsTaken rows place = (serial : ℕ) × ((seat : Seat) × (slice_get rows place ≡ Some (record { serial = serial; kept = Some seat })))

@@ -1,5 +1,5 @@
 -- Live sessions, and what each call makes of their list.
-use Rattle.std.specs.Prelude.{◌≡◌, ◌≢◌, ◌≤◌, ℕ, ◌+◌, ◌-◌, ◌^◌, ◌==◌, nat_le, Bool, true, false, List, [], ◌∷◌, ◌++◌, filter, find, length, map, max, min, not, Option, None, Some, IsSome, option_map, unwrap_or, if◌then◌else◌}
+use Rattle.std.specs.Prelude.{◌≡◌, ◌≢◌, ◌≤◌, ℕ, ◌+◌, ◌==◌, nat_le, Bool, false, List, [], ◌∷◌, ◌++◌, filter, find, length, map, max, min, not, Option, None, Some, IsSome, option_map, unwrap_or, if◌then◌else◌}
 use Rattle.std.specs.Cmp.Lexicographic.{pointwise}
 use Rattle.std.specs.List.{list_any}
 use Rattle.ifmap_search.specs.declared.results.PollItem.{PollItem}
@@ -75,6 +75,22 @@ pub record Changes (serial : ℕ) (f : Session → Session) (old new : Table) : 
   pub counter : new.counter ≡ old.counter
   pub others : (other : ℕ) → other ≢ serial → spare_of other new.spare ≡ spare_of other old.spare
   pub room : old.room ≤ new.room
+
+-- the same sessions, room of their queues and counter; the room for more is no less
+pub record IsAsBefore (old new : Table) : Type 0 where
+  pub live : new.live ≡ old.live
+  pub counter : new.counter ≡ old.counter
+  pub spare : new.spare ≡ old.spare
+  pub room : old.room ≤ new.room
+
+-- the queue of a session has room for one item, once it is empty
+abbrev pub HasRoomForOne : ℕ → Table → Type 0
+HasRoomForOne serial table =
+    (s : Session) → session_with_serial serial table.live ≡ Some s → 1 ≤ spare_of serial table.spare + length s.queue
+
+-- a session stays as it is
+abbrev pub unchanged : Session → Session
+unchanged s = s
 
 -- a session that was ready begins, with nothing to tell
 abbrev pub begun : Opening → ℕ → ℕ → Session

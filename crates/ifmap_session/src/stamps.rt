@@ -1,0 +1,74 @@
+//! Stamps by place, of which the least is known at once. They stand in the second half of a slice;
+//! in the first half stands at each node from 1 on the lesser of what stands at its two children, so
+//! that one stamp is changed by a walk to the root.
+ghost use Rattle.std.specs.Prelude.{◌≡◌, ℕ, ◌+◌, ◌*◌, ◌≤◌, ◌<◌, ◌∷◌, ◌++◌, [], All, IfOk, OnOk, filter, length};
+ghost use Rattle.ifmap_session.specs.Stamps.{IsPower, IsTree, Restamps, children_of, due_nodes, is_due};
+
+use std::alloc::{AllocError as NoMemory, Global};
+
+/// Sets the stamp of a place.
+pub fn set_stamp(tree: &mut [u64], width: usize, place: usize, stamp: u64)
+    requires tree { IsTree width tree.old }
+    requires place { place < width }
+    ensures { Restamps width place stamp tree.old tree.new }
+{
+    let mut node = width + place;
+    tree[node] = stamp;
+    while 1 < node {
+        node /= 2;
+        tree[node] = tree[2 * node].min(tree[2 * node + 1]);
+    }
+}
+
+/// The nodes of the places whose stamps are no later than the limit. It looks at no other places
+/// than these and what stands between them and the root.
+pub fn due_nodes(
+    alloc: Global,
+    tree: &[u64],
+    width: usize,
+    limit: u64,
+) -> Result<Vec<usize>, NoMemory>
+    requires tree { IsTree width tree.now }
+    requires power { IsPower width }
+    ensures { IfOk result (λ nodes. nodes.items ≡ due_nodes width tree.now limit) }
+{
+    let mut nodes = Vec::new(alloc);
+    push_due(&mut nodes, tree, 1, limit)?;
+    let mut first = 1;
+    while first < width {
+        nodes = due_children(alloc, tree, &nodes, limit)?;
+        first *= 2;
+    }
+    Ok(nodes)
+}
+
+// The children of these nodes that are due.
+fn due_children(
+    alloc: Global,
+    tree: &[u64],
+    nodes: &[usize],
+    limit: u64,
+) -> Result<Vec<usize>, NoMemory>
+    requires { All (λ node. 2 * node + 1 < length tree.now) nodes.now }
+    ensures { IfOk result (λ due. due.items ≡ filter (is_due tree.now limit)
+        (children_of nodes.now)) }
+{
+    let mut due = Vec::new(alloc);
+    for node in nodes {
+        push_due(&mut due, tree, 2 * node, limit)?;
+        push_due(&mut due, tree, 2 * node + 1, limit)?;
+    }
+    Ok(due)
+}
+
+// Puts the node last where it is due.
+fn push_due(nodes: &mut Vec<usize>, tree: &[u64], node: usize, limit: u64) -> Result<(), NoMemory>
+    requires { node < length tree.now }
+    ensures { OnOk result (nodes.new.items
+        ≡ nodes.old.items ++ filter (is_due tree.now limit) (node ∷ [])) }
+{
+    if tree[node] <= limit {
+        nodes.push(node)?;
+    }
+    Ok(())
+}
