@@ -7,7 +7,7 @@ use Rattle.ifmap_search.specs.declared.results.PollItem.{PollItem}
 use Rattle.ifmap_search.specs.declared.results.PollItem.TheVariants as the_item
 
 -- the size of an entry: the canonical bytes of its identifiers and of its element, each printed alone
-abbrev pub entry_size : Entry → ℕ
+unfoldable pub entry_size : Entry → ℕ
 entry_size e = item_size e.item + length (canonical_bytes e.element)
 
 -- the size of a result; the tags around its entries do not count

@@ -2,7 +2,7 @@
 use ifmap_elem::{Copied, Many, Text};
 use ifmap_ident::{Code, SharedItem};
 use ifmap_meta::SharedElement;
-use std::alloc::{AllocError, AllocFailed, AllocError as NoMemory, Global};
+use std::alloc::{AllocError, AllocError as NoMemory, AllocFailed, Global};
 use thiserror::Error;
 
 /// What a search found at one place: an element, and the identifier or link that it is attached to.
@@ -41,13 +41,25 @@ impl Copied for Found {
 #[derive(Debug, Drop)]
 pub enum PollItem {
     /// All that it finds as it begins.
-    Search { name: Text, entries: Many<Entry> },
+    Search {
+        name: Text,
+        entries: Many<Entry>,
+    },
     /// What came.
-    Update { name: Text, entries: Many<Entry> },
+    Update {
+        name: Text,
+        entries: Many<Entry>,
+    },
     /// What went.
-    Delete { name: Text, entries: Many<Entry> },
+    Delete {
+        name: Text,
+        entries: Many<Entry>,
+    },
     /// What was notified.
-    Notify { name: Text, entries: Many<Entry> },
+    Notify {
+        name: Text,
+        entries: Many<Entry>,
+    },
     /// That it ended, or that all did where none is named, with a note for a reader.
     Error {
         name: Option<Text>,

@@ -29,6 +29,7 @@ fn size_with(entries: &Many<Entry>) -> u64
     size
 }
 
+#[tactic(auto, unfolding(crate::specs::Sizes::entry_size))]
 fn entry_size(entry: &Entry) -> u64
     ensures { result ≡ min (entry_size entry.now) (2 ^ 64 - 1) }
 {
