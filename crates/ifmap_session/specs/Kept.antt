@@ -11,7 +11,7 @@ use Rattle.ifmap_session.specs.declared.rows.Row.{Row}
 use Rattle.ifmap_session.specs.Seats.{Seat}
 use Rattle.ifmap_session.specs.SessionIds.{hyphen}
 use Rattle.ifmap_session.specs.Sessions.{Session, is_text, most_sessions, session_of_client, session_with_serial}
-use Rattle.ifmap_session.specs.Stamps.{IsPower, IsTree, at}
+use Rattle.ifmap_session.specs.Stamps.{IsPower, IsTree, at, no_stamp}
 
 -- the sessions of rows: an empty row has none
 abbrev pub seats_of : List Row → List Seat
@@ -40,13 +40,10 @@ BeginsWithSerial serial id = (rest : List ℕ) × (id ≡ decimal serial ++ hyph
 
 -- the session of a row has its serial, with which its id begins
 pub record IsOwn (serial : ℕ) (seat : Seat) : Type 0 where
-  pub serial : seat.session.serial ≡ serial
+  pub numbered : seat.session.serial ≡ serial
   pub id : BeginsWithSerial serial seat.session.id
 
 -- the stamp of a row: the last moment of its session, or what no moment reaches
-abbrev pub no_stamp : ℕ
-no_stamp = 2 ^ 64 - 1
-
 abbrev pub stamp_of : Row → ℕ
 stamp_of row = unwrap_or (option_map (λ (s : Seat). s.session.last) row.kept) no_stamp
 
@@ -57,14 +54,21 @@ IsRowOf serial rows place =
     (session_with_serial serial (live_of rows) ≡ None)
     (λ i. (i < length rows) × ((seat : Seat) × (slice_get rows i ≡ Some (record { serial = serial; kept = Some seat }))))
 
+-- the seat is that of a row with that serial
+abbrev pub IsSeatOf : ℕ → List Row → Seat → Type 0
+IsSeatOf serial rows seat = (i : ℕ) × (slice_get rows i ≡ Some (record { serial = serial; kept = Some seat }))
+
+-- the serials of rows rise, and the session of each has the row's serial, with which its id begins
+pub record AreOwn (rows : List Row) : Type 0 where
+  pub rising : IsStrictlySortedBy row_order rows
+  pub own : AllByRecursion (λ (r : Row). IfSome r.kept (IsOwn r.serial)) rows
+
 -- what holds of the rows between two calls
 pub record AreRows (counter : ℕ) (rows : List Row) : Type 0 where
   pub small : counter < 2 ^ 64
   -- the serials rise, and end at the counter or before it
-  pub rising : IsStrictlySortedBy row_order rows
+  pub own : AreOwn rows
   pub counted : AllByRecursion (λ (r : Row). r.serial ≤ counter) rows
-  -- a session has the serial of its row, with which its id begins
-  pub own : AllByRecursion (λ (r : Row). IfSome r.kept (IsOwn r.serial)) rows
   -- a client has one session
   pub apart : IsDistinct is_text (map (λ (s : Session). s.client) (live_of rows))
   pub few : length (live_of rows) ≤ most_sessions
@@ -76,19 +80,24 @@ pub record AreHolders (rows : List Row) (holders : List Holder) : Type 0 where
       (λ (s : Session). s.serial) (session_of_client client (live_of rows))
   pub counts : length holders ≡ length (live_of rows)
 
+-- each row has its stamp, and no other place has one
+abbrev pub IsStamped : List Row → ℕ → List ℕ → Type 0
+IsStamped rows width tree =
+    (place : ℕ) → place < width → at tree (width + place) ≡ unwrap_or (option_map stamp_of (slice_get rows place)) no_stamp
+
 -- what holds of the stamps: each row has its own, and no other place has one
 pub record AreStamps (rows : List Row) (width : ℕ) (tree : List ℕ) : Type 0 where
-  pub tree : IsTree width tree
+  pub lesser : IsTree width tree
   pub power : (width ≡ 0) ⊎ IsPower width
   pub few : width < 40000
   pub within : length rows ≤ width
-  pub stamped : (place : ℕ) → place < width → at tree (width + place) ≡ unwrap_or (option_map stamp_of (slice_get rows place)) no_stamp
+  pub stamped : IsStamped rows width tree
 
 -- all of these
 pub record IsKept (counter : ℕ) (rows : List Row) (holders : List Holder) (width : ℕ) (tree : List ℕ) : Type 0 where
-  pub rows : AreRows counter rows
-  pub holders : AreHolders rows holders
-  pub stamps : AreStamps rows width tree
+  pub sessions : AreRows counter rows
+  pub clients : AreHolders rows holders
+  pub moments : AreStamps rows width tree
 
 -- the session of a row is changed, and P holds of it before and after
 abbrev pub Rewrites : ℕ → (Seat → Seat → Type 0) → List Row → List Row → Type 0
@@ -96,6 +105,11 @@ Rewrites place P old new =
     (serial : ℕ) (seat : Seat) → slice_get old place ≡ Some (record { serial = serial; kept = Some seat })
     → (after : Seat) × P seat after × (new ≡ slice_set old place (record { serial = serial; kept = Some after }))
 
--- a row has a session
-abbrev pub IsTaken : List Row → ℕ → Type 0
-IsTaken rows place = (serial : ℕ) × ((seat : Seat) × (slice_get rows place ≡ Some (record { serial = serial; kept = Some seat })))
+-- a row has a session, of which P holds
+abbrev pub IsTaken : (Seat → Type 0) → List Row → ℕ → Type 0
+IsTaken P rows place =
+    (serial : ℕ) × ((seat : Seat) × (slice_get rows place ≡ Some (record { serial = serial; kept = Some seat })) × P seat)
+
+-- the serial of a row
+abbrev pub serial_at : List Row → ℕ → ℕ
+serial_at rows place = unwrap_or (option_map (λ (r : Row). r.serial) (slice_get rows place)) 0

@@ -1,5 +1,9 @@
 -- Stamps by place, of which the least is known.
-use Rattle.std.specs.Prelude.{◌≡◌, ◌⊎◌, ℕ, zero, suc, ◌+◌, ◌*◌, ◌^◌, ◌≤◌, ◌<◌, nat_le, Bool, List, [], ◌∷◌, filter, flat_map, length, min, slice_index_or}
+use Rattle.std.specs.Prelude.{◌≡◌, ◌⊎◌, ℕ, zero, suc, ◌+◌, ◌-◌, ◌*◌, ◌^◌, ◌≤◌, ◌<◌, nat_le, Bool, List, [], ◌∷◌, filter, flat_map, length, min, slice_index_or}
+
+-- the stamp of a place that has none: no moment reaches it
+abbrev pub no_stamp : ℕ
+no_stamp = 2 ^ 64 - 1
 
 -- what stands at a node
 abbrev pub at : List ℕ → ℕ → ℕ
@@ -27,12 +31,17 @@ is_due tree limit node = nat_le (at tree node) limit
 
 -- the two children of each node
 abbrev pub children_of : List ℕ → List ℕ
-children_of nodes = flat_map (λ node. 2 * node ∷ (2 * node + 1 ∷ [])) nodes
+children_of nodes = flat_map (λ node. (2 * node) ∷ ((2 * node + 1) ∷ [])) nodes
 
 -- the nodes of all places whose stamps are no later than the limit
 abbrev pub due_nodes : ℕ → List ℕ → ℕ → List ℕ
 due_nodes width tree limit = filter (is_due tree limit) (numbers_from width width)
 
+-- a number doubled so often
+abbrev pub doubled : ℕ → ℕ → ℕ
+doubled zero n = n
+doubled (suc times) n = doubled times (2 * n)
+
 -- a power of two
 abbrev pub IsPower : ℕ → Type 0
-IsPower width = (height : ℕ) × (width ≡ 2 ^ height)
+IsPower width = (times : ℕ) × (width ≡ doubled times 1)

@@ -1,15 +1,14 @@
 //! Sessions in the order of their serials. A session that ends leaves an empty row, so that no other
 //! moves.
-ghost use Rattle.std.specs.Prelude.{◌≡◌, ℕ, ◌+◌, ◌-◌, ◌<◌, ◌≤◌, ◌×◌, IfOk, MatchOption, None, OnOk, Some, filter, is_some, length, map, slice_get, slice_set, unwrap_or, option_map, vec_capacity, vec_len};
+ghost use Rattle.std.specs.Prelude.{◌≡◌, ℕ, ◌+◌, ◌-◌, ◌*◌, ◌<◌, ◌≤◌, IfOk, MatchOption, None, OnOk, Some, filter, is_some, length, map, slice_get, slice_set, vec_capacity, vec_len};
 ghost use Rattle.std.specs.List.{All};
-ghost use Rattle.std.specs.List.Sorted.{IsStrictlySortedBy};
-ghost use Rattle.ifmap_session.specs.Kept.{AreStamps, IsRowOf, IsSeatOf, IsTaken, Rewrites, live_of, row_order, serial_at};
+ghost use Rattle.ifmap_session.specs.Kept.{AreOwn, IsRowOf, IsSeatOf, IsStamped, IsTaken, Rewrites, live_of, serial_at, stamp_of};
 ghost use Rattle.ifmap_session.specs.Seats.{Seat};
 ghost use Rattle.ifmap_session.specs.Sessions.{emptied, overflowed, queued, renewed, session_with_serial, without_name};
 ghost use Rattle.ifmap_session.specs.Stamps.{IsTree, at, no_stamp};
 
 use crate::queues::Kept;
-use crate::stamps::set_stamp;
+use crate::stamps::{NO_STAMP, set_stamp};
 use ifmap_elem::{Many, Text};
 use ifmap_io::Moment;
 use ifmap_search::PollItem;
@@ -45,8 +44,9 @@ pub fn find_kept(rows: &[Row], serial: u64) -> Option<&Kept>
     rows[place].kept.as_ref()
 }
 
+/// A request in the session of a row is accepted at that moment.
 pub fn renew_at(rows: &mut Vec<Row>, place: usize, moment: Moment)
-    requires { IsTaken rows.old.items place }
+    requires { IsTaken (λ seat. Unit {0}) rows.old.items place }
     ensures rows { Rewrites place (λ a b. (b.session ≡ renewed moment a.session)
         × (b.spare ≡ a.spare)) rows.old.items rows.new.items }
     ensures len { vec_len rows.new ≡ vec_len rows.old }
@@ -57,10 +57,11 @@ pub fn renew_at(rows: &mut Vec<Row>, place: usize, moment: Moment)
     }
 }
 
+/// Makes room for `n` items more in the queue of a row.
 pub fn reserve_at(rows: &mut Vec<Row>, place: usize, n: u64) -> Result<(), NoMemory>
-    requires { IsTaken rows.old.items place }
+    requires { IsTaken (λ seat. Unit {0}) rows.old.items place }
     ensures rows { Rewrites place (λ a b. (b.session ≡ a.session)
-        × (a.spare ≤ b.spare) × OnOk result (n ≤ b.spare)) rows.old.items rows.new.items }
+        × ((a.spare ≤ b.spare) × OnOk result (n ≤ b.spare))) rows.old.items rows.new.items }
     ensures len { vec_len rows.new ≡ vec_len rows.old }
     ensures capacity { vec_capacity rows.new ≡ vec_capacity rows.old }
 {
@@ -70,8 +71,9 @@ pub fn reserve_at(rows: &mut Vec<Row>, place: usize, n: u64) -> Result<(), NoMem
     }
 }
 
+/// Queues an item in the session of a row.
 pub fn push_at(rows: &mut Vec<Row>, place: usize, item: PollItem)
-    requires room { HasRoomAt rows.old.items place }
+    requires { IsTaken (λ seat. 1 ≤ seat.spare) rows.old.items place }
     ensures rows { Rewrites place (λ a b. (b.session ≡ queued item a.session)
         × (b.spare + 1 ≡ a.spare)) rows.old.items rows.new.items }
     ensures len { vec_len rows.new ≡ vec_len rows.old }
@@ -80,4 +82,107 @@ pub fn push_at(rows: &mut Vec<Row>, place: usize, item: PollItem)
     if let Some(kept) = &mut rows[place].kept {
         kept.push(item);
     }
+}
+
+/// Queues an item in the session of a row, in place of all.
+pub fn overflow_at(rows: &mut Vec<Row>, place: usize, error: PollItem)
+    requires { IsTaken (λ seat. 1 ≤ seat.spare + length seat.session.queue) rows.old.items place }
+    ensures rows { Rewrites place (λ a b. b.session ≡ overflowed error a.session)
+        rows.old.items rows.new.items }
+    ensures len { vec_len rows.new ≡ vec_len rows.old }
+    ensures capacity { vec_capacity rows.new ≡ vec_capacity rows.old }
+{
+    if let Some(kept) = &mut rows[place].kept {
+        kept.overflow(error);
+    }
+}
+
+/// Drops what is queued in the session of a row of the subscription of that name.
+pub fn drop_name_at(rows: &mut Vec<Row>, place: usize, name: &Text)
+    requires { IsTaken (λ seat. Unit {0}) rows.old.items place }
+    ensures rows { Rewrites place (λ a b. (b.session ≡ without_name name.now a.session)
+        × (a.spare ≤ b.spare)) rows.old.items rows.new.items }
+    ensures len { vec_len rows.new ≡ vec_len rows.old }
+    ensures capacity { vec_capacity rows.new ≡ vec_capacity rows.old }
+{
+    if let Some(kept) = &mut rows[place].kept {
+        kept.drop_name(name);
+    }
+}
+
+/// Hands out what is queued in the session of a row.
+pub fn take_all_at(rows: &mut Vec<Row>, place: usize) -> Many<PollItem>
+    requires { IsTaken (λ seat. Unit {0}) rows.old.items place }
+    ensures rows { Rewrites place (λ a b. (b.session ≡ emptied a.session)
+        × (result ≡ a.session.queue)) rows.old.items rows.new.items }
+    ensures len { vec_len rows.new ≡ vec_len rows.old }
+    ensures capacity { vec_capacity rows.new ≡ vec_capacity rows.old }
+{
+    match &mut rows[place].kept {
+        Some(kept) => kept.take_all(),
+        None => unreachable!(),
+    }
+}
+
+/// Takes the session of a row out, which is empty then.
+pub fn end_at(rows: &mut Vec<Row>, place: usize) -> Kept
+    requires { IsTaken (λ seat. Unit {0}) rows.old.items place }
+    ensures rows { (serial : ℕ) (seat : Seat)
+        → slice_get rows.old.items place ≡ Some (record { serial = serial; kept = Some seat })
+        → (result ≡ seat) × (rows.new.items ≡ slice_set rows.old.items place
+        (record { serial = serial; kept = None })) }
+    ensures len { vec_len rows.new ≡ vec_len rows.old }
+    ensures capacity { vec_capacity rows.new ≡ vec_capacity rows.old }
+{
+    rows[place].kept.take().unwrap()
+}
+
+/// Drops the empty rows.
+pub fn drop_empty(rows: &mut Vec<Row>)
+    ensures items { rows.new.items ≡ filter (λ row. is_some row.kept) rows.old.items }
+    ensures len { vec_len rows.new ≤ vec_len rows.old }
+    ensures capacity { vec_capacity rows.new ≡ vec_capacity rows.old }
+{
+    rows.retain(|row| row.kept.is_some());
+}
+
+/// Stamps each row with the last moment of its session.
+pub fn stamp_rows(stamps: &mut [u64], width: usize, rows: &[Row])
+    requires tree { IsTree width stamps.old }
+    requires blank { (node : ℕ) → width ≤ node → node < 2 * width → at stamps.old node ≡ no_stamp }
+    requires within { length rows.now ≤ width }
+    ensures tree { IsTree width stamps.new }
+    ensures stamped { IsStamped rows.now width stamps.new }
+{
+    for place in 0..rows.len() {
+        set_stamp(stamps, width, place, stamp_of(&rows[place]));
+    }
+}
+
+// The last moment of the row's session; what no moment reaches where it is empty.
+fn stamp_of(row: &Row) -> u64
+    ensures { result ≡ stamp_of row.now }
+{
+    match &row.kept {
+        Some(kept) => kept.last().seconds(),
+        None => NO_STAMP,
+    }
+}
+
+/// The serials of the rows at these nodes.
+pub fn serials_of(
+    alloc: Global,
+    rows: &[Row],
+    nodes: &[usize],
+    width: usize,
+) -> Result<Vec<u64>, NoMemory>
+    requires { All (λ node. (width ≤ node) × (node - width < length rows.now)) nodes.now }
+    ensures { IfOk result (λ serials. serials.items
+        ≡ map (λ node. serial_at rows.now (node - width)) nodes.now) }
+{
+    let mut serials = Vec::with_capacity(alloc, nodes.len())?;
+    for node in nodes {
+        serials.push(rows[node - width].serial)?;
+    }
+    Ok(serials)
 }

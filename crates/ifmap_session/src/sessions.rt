@@ -226,7 +226,7 @@ impl Sessions {
     /// A request in a live session is accepted at that moment. It takes no memory.
     pub fn renew(&mut self, serial: u64, moment: Moment)
         requires { IsLive serial self.old.live }
-        ensures { Changes serial (renewed moment) self.old self.new }
+        ensures changes { Changes serial (renewed moment) self.old self.new }
         ensures spare { self.new.spare ≡ self.old.spare }
     {
         let place = place_of_serial(&self.rows, serial).unwrap();
@@ -286,7 +286,7 @@ impl Sessions {
     /// Makes room for `n` items in the queue of a live session.
     pub fn queue_room(&mut self, serial: u64, n: u64) -> Result<(), NoMemory>
         requires { IsLive serial self.old.live }
-        ensures { Changes serial unchanged self.old self.new }
+        ensures changes { Changes serial unchanged self.old self.new }
         ensures ok { OnOk result (n ≤ spare_of serial self.new.spare) }
         ensures spare { spare_of serial self.old.spare ≤ spare_of serial self.new.spare }
     {
@@ -298,7 +298,7 @@ impl Sessions {
     pub fn push(&mut self, serial: u64, item: PollItem)
         requires live { IsLive serial self.old.live }
         requires room { 1 ≤ spare_of serial self.old.spare }
-        ensures { Changes serial (queued item) self.old self.new }
+        ensures changes { Changes serial (queued item) self.old self.new }
         ensures spare { spare_of serial self.new.spare + 1 ≡ spare_of serial self.old.spare }
     {
         let place = place_of_serial(&self.rows, serial).unwrap();
@@ -319,7 +319,7 @@ impl Sessions {
     pub fn overflow(&mut self, serial: u64, error: PollItem)
         requires live { IsLive serial self.old.live }
         requires room { HasRoomForOne serial self.old }
-        ensures { Changes serial (overflowed error) self.old self.new }
+        ensures changes { Changes serial (overflowed error) self.old self.new }
     {
         let place = place_of_serial(&self.rows, serial).unwrap();
         overflow_at(&mut self.rows, place, error);
@@ -328,7 +328,7 @@ impl Sessions {
     /// Drops what is queued in a live session of the subscription of that name. It takes no memory.
     pub fn drop_name(&mut self, serial: u64, name: &Text)
         requires { IsLive serial self.old.live }
-        ensures { Changes serial (without_name name.now) self.old self.new }
+        ensures changes { Changes serial (without_name name.now) self.old self.new }
         ensures spare { spare_of serial self.old.spare ≤ spare_of serial self.new.spare }
     {
         let place = place_of_serial(&self.rows, serial).unwrap();
@@ -340,7 +340,7 @@ impl Sessions {
         requires { IsLive serial self.old.live }
         ensures items { (s : Session) → session_with_serial serial self.old.live ≡ Some s
             → result ≡ s.queue }
-        ensures { Changes serial emptied self.old self.new }
+        ensures changes { Changes serial emptied self.old self.new }
     {
         let place = place_of_serial(&self.rows, serial).unwrap();
         take_all_at(&mut self.rows, place)

@@ -6,6 +6,9 @@ ghost use Rattle.ifmap_session.specs.Stamps.{IsPower, IsTree, Restamps, children
 
 use std::alloc::{AllocError as NoMemory, Global};
 
+/// The stamp of a place that has none, which no moment reaches.
+pub const NO_STAMP: u64 = u64::MAX;
+
 /// Sets the stamp of a place.
 pub fn set_stamp(tree: &mut [u64], width: usize, place: usize, stamp: u64)
     requires tree { IsTree width tree.old }

@@ -1,0 +1,7 @@
+use Rattle.std.proofs.Common.{arith}
+use Rattle.ifmap_session.proofs.QueueLaws.{one_more_fits}
+use Rattle.ifmap_session.proofs.queues.Kept.push.Goals as goal
+
+pub overflow_add-self : goal.overflow_add-self
+overflow_add-self c =
+    one_more_fits c.self.inside.queue.items c.self.inside.size c.item_size.result c.self.invariant (omega arith) (omega (arith, c.item_size.ensures))
