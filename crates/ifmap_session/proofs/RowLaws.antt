@@ -325,12 +325,14 @@ spare_begun rows n a mine other apart =
     (false_from_ne_true (a.session.serial == other) (λ h. apart (sym (eqb-true a.session.serial other h) ∙ mine))))
 
 -- without the empty rows
+filter_one : (r : Row) (o : Option Seat) (rows rest : List Row) → r.kept ≡ o → seats_of rest ≡ seats_of rows
+    → seats_of (cond (is_some o) (r ∷ rest) rest) ≡ option_to_list o ++ seats_of rows
+filter_one r None rows rest e same = same
+filter_one r (Some s) rows rest e same = rw (e, same) refl
+
 pub seats_filter : (rows : List Row) → seats_of (filter (λ (r : Row). is_some r.kept) rows) ≡ seats_of rows
 seats_filter [] = refl
-seats_filter (r ∷ rows) = go r r.kept refl where
-  go : (r : Row) (o : Option Seat) → r.kept ≡ o → seats_of (filter (λ (r : Row). is_some r.kept) (r ∷ rows)) ≡ seats_of (r ∷ rows)
-  go r None e = rw e (seats_filter rows)
-  go r (Some s) e = rw (e, e) (ap (λ xs. s ∷ xs) (seats_filter rows))
+seats_filter (r ∷ rows) = filter_one r r.kept rows (filter (λ (r : Row). is_some r.kept) rows) refl (seats_filter rows)
 
 pub own_filter : (rows : List Row) → AreOwn rows → AreOwn (filter (λ (r : Row). is_some r.kept) rows)
 own_filter rows o = record {
@@ -343,9 +345,11 @@ pub counted_filter : (counter : ℕ) (rows : List Row) → AllByRecursion (λ (r
 counted_filter counter rows all = all_filter (λ (r : Row). r.serial ≤ counter) (λ (r : Row). is_some r.kept) rows all
 
 -- as many rows as sessions, where none is empty
+count_one : (r : Row) (o : Option Seat) (rest : List Row) (seats : List Seat) → length rest ≡ length (map the_session seats)
+    → length (cond (is_some o) (r ∷ rest) rest) ≡ length (map the_session (option_to_list o ++ seats))
+count_one r None rest seats same = same
+count_one r (Some s) rest seats same = ap (λ n. suc n) same
+
 pub full_length : (rows : List Row) → length (filter (λ (r : Row). is_some r.kept) rows) ≡ length (live_of rows)
 full_length [] = refl
-full_length (r ∷ rows) = go r.kept refl where
-  go : (o : Option Seat) → r.kept ≡ o → length (filter (λ (r : Row). is_some r.kept) (r ∷ rows)) ≡ length (live_of (r ∷ rows))
-  go None e = rw e (full_length rows)
-  go (Some s) e = rw (e, e) (ap (λ n. suc n) (full_length rows))
+full_length (r ∷ rows) = count_one r r.kept (filter (λ (r : Row). is_some r.kept) rows) (seats_of rows) (full_length rows)

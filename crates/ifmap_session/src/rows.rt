@@ -182,7 +182,15 @@ pub fn serials_of(
 {
     let mut serials = Vec::with_capacity(alloc, nodes.len())?;
     for node in nodes {
-        serials.push(rows[node - width].serial)?;
+        serials.push(serial_at(rows, node - width))?;
     }
     Ok(serials)
+}
+
+// The serial of a row.
+fn serial_at(rows: &[Row], place: usize) -> u64
+    requires { place < length rows.now }
+    ensures { result ≡ serial_at rows.now place }
+{
+    rows[place].serial
 }
