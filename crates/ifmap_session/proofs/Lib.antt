@@ -1,4 +1,5 @@
 pub mod Halving
+pub mod KeptLaws
 pub mod PlaceLaws
 pub mod QueueLaws
 pub mod RowLaws

@@ -231,6 +231,19 @@ module _ (n : ℕ) where
         find_alike the_spare (λ p. p.0 == other) r.kept (seats_of (set rows i (record { serial = n; kept = kept }))) (seats_of rows)
         (pair rows i own.1 e)
 
+  map_alike : {X : Type 0} (g : Seat → X) (kept : Option Seat) (seats others : List Seat) → map g seats ≡ map g others
+      → map g (option_to_list kept ++ seats) ≡ map g (option_to_list kept ++ others)
+  map_alike g None seats others e = e
+  map_alike g (Some s) seats others e = ap (λ xs. g s ∷ xs) e
+
+  pub spare_same : (rows : List Row) (i : ℕ) (a b : Seat) → slice_get rows i ≡ Some (taken n a) → the_spare b ≡ the_spare a
+      → spare_in (set rows i (taken n b)) ≡ spare_in rows
+  spare_same [] i a b e same = cc
+  spare_same (r ∷ rows) zero a b e same =
+      let is : r ≡ taken n a = cc in rw is (ap (λ p. p ∷ spare_in rows) same)
+  spare_same (r ∷ rows) (suc i) a b e same =
+      map_alike the_spare r.kept (seats_of (set rows i (taken n b))) (seats_of rows) (spare_same rows i a b e same)
+
 -- order
 all_set : {X : Type 0} (P : X → Type 0) (xs : List X) (i : ℕ) (y : X) → AllByRecursion P xs → P y → AllByRecursion P (set xs i y)
 all_set P [] i y all new = tt

@@ -119,3 +119,125 @@ stamped_alike rows width i r q tree s e within is = λ p high. elim (cases_lt p 
         (ap stamp_in e ∙ sym is ∙ ap stamp_in (sym (get_set_same rows i q within)))
   ]
 ]
+
+-- what the least stamp and those that are due say of the sessions
+due_at : (moment ttl limit : ℕ) (s : Session) → limit + ttl ≡ moment → is_expired moment ttl s ≡ nat_le s.last limit
+due_at moment ttl limit s e = grind (arith, nat_tests)
+
+expired_by : (moment ttl limit : ℕ) → limit + ttl ≡ moment → (sessions : List Session)
+    → filter (is_expired moment ttl) sessions ≡ filter (λ s. nat_le s.last limit) sessions
+expired_by moment ttl limit e [] = refl
+expired_by moment ttl limit e (s ∷ sessions) = rw (due_at moment ttl limit s e, expired_by moment ttl limit e sessions) refl
+
+any_by : (moment ttl limit : ℕ) → limit + ttl ≡ moment → (sessions : List Session)
+    → list_any (is_expired moment ttl) sessions ≡ list_any (λ s. nat_le s.last limit) sessions
+any_by moment ttl limit e [] = refl
+any_by moment ttl limit e (s ∷ sessions) = rw (due_at moment ttl limit s e, any_by moment ttl limit e sessions) refl
+
+not_yet : (moment ttl : ℕ) → moment < ttl → (sessions : List Session) → list_any (is_expired moment ttl) sessions ≡ false
+not_yet moment ttl early [] = refl
+not_yet moment ttl early (s ∷ sessions) =
+    let e : is_expired moment ttl s ≡ false = grind (arith, nat_tests) in rw (e, not_yet moment ttl early sessions) refl
+
+none_yet : (moment ttl : ℕ) → moment < ttl → (sessions : List Session) → filter (is_expired moment ttl) sessions ≡ []
+none_yet moment ttl early [] = refl
+none_yet moment ttl early (s ∷ sessions) =
+    let e : is_expired moment ttl s ≡ false = grind (arith, nat_tests) in rw (e, none_yet moment ttl early sessions) refl
+
+never_due : (tree : List ℕ) (limit k : ℕ) → limit < no_stamp → at tree k ≡ no_stamp → is_due tree limit k ≡ false
+never_due tree limit k low e = grind (arith, nat_tests)
+
+none_due : (tree : List ℕ) (limit base n : ℕ) → limit < no_stamp → ((p : ℕ) → p < n → at tree (base + p) ≡ no_stamp)
+    → filter (is_due tree limit) (numbers_from base n) ≡ []
+none_due tree limit base zero low blank = refl
+none_due tree limit base (suc n) low blank =
+    let first : at tree base ≡ no_stamp = subst (λ k. at tree k ≡ no_stamp) (omega arith) (blank 0 (omega arith)) in
+    rw (never_due tree limit base low first) (none_due tree limit (base + 1) n low (λ p less.
+    subst (λ k. at tree k ≡ no_stamp) (omega arith) (blank (suc p) (omega arith))))
+
+-- the serials at the nodes that are due are those of the sessions that are
+due_one : (g : ℕ → ℕ) (tree : List ℕ) (limit base : ℕ) (serial : ℕ) (kept : Option Seat) (nodes : List ℕ) (rows : List Row)
+    → limit < no_stamp → IfSome kept (IsOwn serial) → g base ≡ serial
+    → at tree base ≡ stamp_of (record { serial = serial; kept = kept })
+    → map g (filter (is_due tree limit) nodes) ≡ map (λ (s : Session). s.serial) (filter (λ s. nat_le s.last limit) (live_of rows))
+    → map g (filter (is_due tree limit) (base ∷ nodes)) ≡ map (λ (s : Session). s.serial) (filter
+    (λ s. nat_le s.last limit) (map (λ (s : Seat). s.session) (option_to_list kept ++ seats_of rows)))
+due_one g tree limit base serial None nodes rows low own named stamp rest = rw (never_due tree limit base low stamp) rest
+due_one g tree limit base serial (Some seat) nodes rows low own named stamp rest =
+    let same : is_due tree limit base ≡ nat_le seat.session.last limit = ap (λ n. nat_le n limit) stamp in
+    elim (cases_Bool (nat_le seat.session.last limit)) [
+      | inl hit ↦ rw (same, hit, named, own.numbered, rest) refl
+      | inr miss ↦ rw (same, miss) rest
+    ]
+
+due_all : (g : ℕ → ℕ) (tree : List ℕ) (limit base n : ℕ) (rows : List Row) → limit < no_stamp → Own rows → length rows ≤ n
+    → ((p : ℕ) (r : Row) → slice_get rows p ≡ Some r → g (base + p) ≡ r.serial)
+    → ((p : ℕ) → p < n → at tree (base + p) ≡ stamp_in (slice_get rows p))
+    → map g (filter (is_due tree limit) (numbers_from base n)) ≡ map (λ (s : Session). s.serial) (filter
+    (λ s. nat_le s.last limit) (live_of rows))
+due_all g tree limit base n [] low own fits named stamped =
+    ap (map g) (none_due tree limit base n low (λ p less. stamped p less))
+due_all g tree limit base zero (r ∷ rows) low own fits named stamped = absurd (omega arith)
+due_all g tree limit base (suc n) (r ∷ rows) low own fits named stamped =
+    due_one g tree limit base r.serial r.kept (numbers_from (base + 1) n) rows low own.0
+    (subst (λ k. g k ≡ r.serial) (omega arith) (named 0 r refl))
+    (subst (λ k. at tree k ≡ stamp_of r) (omega arith) (stamped 0 (omega arith)))
+    (due_all g tree limit (base + 1) n rows low own.1 (omega arith)
+    (λ p q e. subst (λ k. g k ≡ q.serial) (omega arith) (named (suc p) q e))
+    (λ p less. subst (λ k. at tree k ≡ stamp_in (slice_get rows p)) (omega arith) (stamped (suc p) (omega arith))))
+
+pub due_serials : (width : ℕ) (tree : List ℕ) (rows : List Row) (moment ttl limit : ℕ) → limit < no_stamp → limit + ttl ≡ moment
+    → Own rows → length rows ≤ width → IsStamped rows width tree
+    → map (λ node. serial_at rows (node - width)) (due_nodes width tree limit) ≡ expired_serials moment ttl (live_of rows)
+due_serials width tree rows moment ttl limit low e own fits stamped =
+    due_all (λ node. serial_at rows (node - width)) tree limit width width rows low own fits
+    (λ p r got. let back : width + p - width ≡ p = omega arith in rw (back, got) refl) stamped
+    ∙ ap (map (λ (s : Session). s.serial)) (sym (expired_by moment ttl limit e (live_of rows)))
+
+-- whether any is due
+any_at : (limit : ℕ) (rows : List Row) (p : ℕ) → limit < no_stamp → stamp_in (slice_get rows p) ≤ limit
+    → list_any (λ s. nat_le s.last limit) (live_of rows) ≡ true
+any_at limit [] p low le = absurd (omega arith)
+any_at limit (r ∷ rows) zero low le = here r.kept le where
+  here : (o : Option Seat) → unwrap_or (option_map (λ (s : Seat). s.session.last) o) no_stamp ≤ limit
+      → list_any (λ s. nat_le s.last limit) (map (λ (s : Seat). s.session) (option_to_list o ++ seats_of rows)) ≡ true
+  here None le = absurd (omega arith)
+  here (Some s) le = let e : nat_le s.session.last limit ≡ true = grind (arith, nat_tests) in rw e refl
+any_at limit (r ∷ rows) (suc p) low le = past r.kept (any_at limit rows p low le) where
+  past : (o : Option Seat) → list_any (λ s. nat_le s.last limit) (live_of rows) ≡ true
+      → list_any (λ s. nat_le s.last limit) (map (λ (s : Seat). s.session) (option_to_list o ++ seats_of rows)) ≡ true
+  past None e = e
+  past (Some s) e = elim (cases_Bool (nat_le s.session.last limit)) [ inl hit ↦ rw hit refl | inr miss ↦ rw (miss, e) refl ]
+
+none_any : (limit : ℕ) (rows : List Row) → ((p : ℕ) → p < length rows → limit < stamp_in (slice_get rows p))
+    → list_any (λ s. nat_le s.last limit) (live_of rows) ≡ false
+none_any limit [] f = refl
+none_any limit (r ∷ rows) f = one r.kept (f 0 (omega arith)) (none_any limit rows (λ p less. f (suc p) (omega arith))) where
+  one : (o : Option Seat) → limit < unwrap_or (option_map (λ (s : Seat). s.session.last) o) no_stamp
+      → list_any (λ s. nat_le s.last limit) (live_of rows) ≡ false
+      → list_any (λ s. nat_le s.last limit) (map (λ (s : Seat). s.session) (option_to_list o ++ seats_of rows)) ≡ false
+  one None low e = e
+  one (Some s) low e = let k : nat_le s.session.last limit ≡ false = grind (arith, nat_tests) in rw (k, e) refl
+
+pub root_any : (width : ℕ) (tree : List ℕ) (rows : List Row) (moment ttl limit : ℕ) → limit < no_stamp → limit + ttl ≡ moment
+    → IsTree width tree → 1 ≤ width → length rows ≤ width → IsStamped rows width tree
+    → nat_le (at tree 1) limit ≡ list_any (is_expired moment ttl) (live_of rows)
+root_any width tree rows moment ttl limit low e t some fits stamped =
+    elim (cases_lt limit (at tree 1)) [
+      | inl above ↦
+          let k : nat_le (at tree 1) limit ≡ false = grind (arith, nat_tests) in
+          k ∙ sym (any_by moment ttl limit e (live_of rows) ∙ none_any limit rows (λ p less.
+          let least = root_least width tree t (width + p) (omega arith) (omega arith) in
+          let is = stamped p (omega arith) in omega arith))
+      | inr within ↦
+          let k : nat_le (at tree 1) limit ≡ true = grind (arith, nat_tests) in
+          let there = root_there width tree t some in
+          k ∙ sym (any_by moment ttl limit e (live_of rows) ∙ any_at limit rows there.0 low
+          (let is = stamped there.0 there.1 in let at_root = there.2 in omega arith))
+    ]
+
+-- where there is no row, none is expired
+pub no_rows : (rows : List Row) (moment ttl : ℕ) → length rows ≤ 0 → (list_any (is_expired moment ttl) (live_of rows) ≡ false)
+    × (expired_serials moment ttl (live_of rows) ≡ [])
+no_rows [] moment ttl none = (refl, refl)
+no_rows (r ∷ rows) moment ttl none = absurd (omega arith)

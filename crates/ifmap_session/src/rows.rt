@@ -4,7 +4,7 @@ ghost use Rattle.std.specs.Prelude.{◌≡◌, ℕ, ◌+◌, ◌-◌, ◌*◌, �
 ghost use Rattle.std.specs.List.{All};
 ghost use Rattle.ifmap_session.specs.Kept.{AreOwn, IsRowOf, IsSeatOf, IsStamped, IsTaken, Rewrites, live_of, serial_at, stamp_of};
 ghost use Rattle.ifmap_session.specs.Seats.{Seat};
-ghost use Rattle.ifmap_session.specs.Sessions.{emptied, overflowed, queued, renewed, session_with_serial, without_name};
+ghost use Rattle.ifmap_session.specs.Sessions.{IsLive, emptied, overflowed, queued, renewed, session_with_serial, without_name};
 ghost use Rattle.ifmap_session.specs.Stamps.{IsTree, at, no_stamp};
 
 use crate::queues::Kept;
@@ -32,6 +32,16 @@ pub fn place_of_serial(rows: &[Row], serial: u64) -> Option<usize>
     } else {
         None
     }
+}
+
+/// Where the live session with that serial stands.
+pub fn place_in(rows: &[Row], serial: u64) -> usize
+    requires own { AreOwn rows.now }
+    requires live { IsLive serial (live_of rows.now) }
+    ensures { (seat : Seat) × (slice_get rows.now result
+        ≡ Some (record { serial = serial; kept = Some seat })) }
+{
+    place_of_serial(rows, serial).unwrap()
 }
 
 /// The session with that serial.
@@ -147,12 +157,13 @@ pub fn drop_empty(rows: &mut Vec<Row>)
 }
 
 /// Stamps each row with the last moment of its session.
-pub fn stamp_rows(stamps: &mut [u64], width: usize, rows: &[Row])
-    requires tree { IsTree width stamps.old }
-    requires blank { (node : ℕ) → width ≤ node → node < 2 * width → at stamps.old node ≡ no_stamp }
+pub fn stamp_rows(stamps: &mut Vec<u64>, width: usize, rows: &[Row])
+    requires tree { IsTree width stamps.old.items }
+    requires blank { (node : ℕ) → width ≤ node → node < 2 * width
+        → at stamps.old.items node ≡ no_stamp }
     requires within { length rows.now ≤ width }
-    ensures tree { IsTree width stamps.new }
-    ensures stamped { IsStamped rows.now width stamps.new }
+    ensures tree { IsTree width stamps.new.items }
+    ensures stamped { IsStamped rows.now width stamps.new.items }
 {
     for place in 0..rows.len() {
         set_stamp(stamps, width, place, stamp_of(&rows[place]));

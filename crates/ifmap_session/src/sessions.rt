@@ -12,7 +12,7 @@ use crate::ids::{new_id, serial_of};
 use crate::openings::{Begun, Opening};
 use crate::queues::Kept;
 use crate::rows::{
-    Row, drop_empty, drop_name_at, end_at, find_kept, overflow_at, place_of_serial, push_at,
+    Row, drop_empty, drop_name_at, end_at, find_kept, overflow_at, place_in, push_at,
     renew_at, reserve_at, serials_of, stamp_rows, take_all_at,
 };
 use crate::stamps::{NO_STAMP, due_nodes, set_stamp};
@@ -229,7 +229,7 @@ impl Sessions {
         ensures changes { Changes serial (renewed moment) self.old self.new }
         ensures spare { self.new.spare ≡ self.old.spare }
     {
-        let place = place_of_serial(&self.rows, serial).unwrap();
+        let place = place_in(&self.rows, serial);
         renew_at(&mut self.rows, place, moment);
         set_stamp(&mut self.stamps, self.width, place, moment.seconds());
     }
@@ -246,7 +246,7 @@ impl Sessions {
             → spare_of n self.new.spare ≡ spare_of n self.old.spare }
         ensures room { self.old.room ≤ self.new.room }
     {
-        let place = place_of_serial(&self.rows, serial).unwrap();
+        let place = place_in(&self.rows, serial);
         let ended = end_at(&mut self.rows, place);
         let holder = place_of_client(&self.holders, ended.client()).unwrap();
         let _holder = self.holders.remove(holder);
@@ -290,7 +290,7 @@ impl Sessions {
         ensures ok { OnOk result (n ≤ spare_of serial self.new.spare) }
         ensures spare { spare_of serial self.old.spare ≤ spare_of serial self.new.spare }
     {
-        let place = place_of_serial(&self.rows, serial).unwrap();
+        let place = place_in(&self.rows, serial);
         reserve_at(&mut self.rows, place, n)
     }
 
@@ -301,7 +301,7 @@ impl Sessions {
         ensures changes { Changes serial (queued item) self.old self.new }
         ensures spare { spare_of serial self.new.spare + 1 ≡ spare_of serial self.old.spare }
     {
-        let place = place_of_serial(&self.rows, serial).unwrap();
+        let place = place_in(&self.rows, serial);
         push_at(&mut self.rows, place, item);
     }
 
@@ -321,7 +321,7 @@ impl Sessions {
         requires room { HasRoomForOne serial self.old }
         ensures changes { Changes serial (overflowed error) self.old self.new }
     {
-        let place = place_of_serial(&self.rows, serial).unwrap();
+        let place = place_in(&self.rows, serial);
         overflow_at(&mut self.rows, place, error);
     }
 
@@ -331,7 +331,7 @@ impl Sessions {
         ensures changes { Changes serial (without_name name.now) self.old self.new }
         ensures spare { spare_of serial self.old.spare ≤ spare_of serial self.new.spare }
     {
-        let place = place_of_serial(&self.rows, serial).unwrap();
+        let place = place_in(&self.rows, serial);
         drop_name_at(&mut self.rows, place, name);
     }
 
@@ -342,7 +342,7 @@ impl Sessions {
             → result ≡ s.queue }
         ensures changes { Changes serial emptied self.old self.new }
     {
-        let place = place_of_serial(&self.rows, serial).unwrap();
+        let place = place_in(&self.rows, serial);
         take_all_at(&mut self.rows, place)
     }
 

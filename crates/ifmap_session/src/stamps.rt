@@ -1,8 +1,8 @@
 //! Stamps by place, of which the least is known at once. They stand in the second half of a slice;
 //! in the first half stands at each node from 1 on the lesser of what stands at its two children, so
 //! that one stamp is changed by a walk to the root.
-ghost use Rattle.std.specs.Prelude.{◌≡◌, ℕ, ◌+◌, ◌*◌, ◌≤◌, ◌<◌, ◌∷◌, ◌++◌, [], All, IfOk, OnOk, filter, length};
-ghost use Rattle.ifmap_session.specs.Stamps.{IsPower, IsTree, Restamps, children_of, due_nodes, is_due};
+ghost use Rattle.std.specs.Prelude.{◌≡◌, ℕ, ◌+◌, ◌*◌, ◌≤◌, ◌<◌, ◌∷◌, ◌++◌, [], All, IfOk, OnOk, filter, length, min};
+ghost use Rattle.ifmap_session.specs.Stamps.{IsPower, IsTree, Restamps, at, children_of, due_nodes, is_due};
 
 use std::alloc::{AllocError as NoMemory, Global};
 
@@ -10,17 +10,25 @@ use std::alloc::{AllocError as NoMemory, Global};
 pub const NO_STAMP: u64 = u64::MAX;
 
 /// Sets the stamp of a place.
-pub fn set_stamp(tree: &mut [u64], width: usize, place: usize, stamp: u64)
-    requires tree { IsTree width tree.old }
+pub fn set_stamp(tree: &mut Vec<u64>, width: usize, place: usize, stamp: u64)
+    requires tree { IsTree width tree.old.items }
     requires place { place < width }
-    ensures { Restamps width place stamp tree.old tree.new }
+    ensures { Restamps width place stamp tree.old.items tree.new.items }
 {
     let mut node = width + place;
     tree[node] = stamp;
     while 1 < node {
         node /= 2;
-        tree[node] = tree[2 * node].min(tree[2 * node + 1]);
+        tree[node] = lesser_child(tree, node);
     }
+}
+
+// The lesser of what stands at a node's children.
+fn lesser_child(tree: &[u64], node: usize) -> u64
+    requires { 2 * node + 1 < length tree.now }
+    ensures { result ≡ min (at tree.now (2 * node)) (at tree.now (2 * node + 1)) }
+{
+    tree[2 * node].min(tree[2 * node + 1])
 }
 
 /// The nodes of the places whose stamps are no later than the limit. It looks at no other places
