@@ -1,16 +1,17 @@
 -- The stamps of rows: as rows are stamped one by one, as one changes, and what the least and those that are due say of the
 -- sessions.
-use Rattle.std.proofs.Common.{◌≡◌, ◌≢◌, ◌⊎◌, refl, sym, ◌∙◌, ap, subst, ℕ, zero, suc, ◌+◌, ◌-◌, ◌*◌, ◌^◌, ◌<◌, ◌≤◌, nat_le, Bool, true, false, cond, List, [], ◌∷◌, ◌++◌, length, map, get_or, set, Option, None, Some, inl, inr, arith}
+use Rattle.std.proofs.Common.{◌≡◌, ◌≢◌, ◌⊎◌, refl, sym, ◌∙◌, ap, subst, ℕ, zero, suc, ◌+◌, ◌-◌, ◌*◌, ◌^◌, ◌<◌, ◌≤◌, ◌==◌, nat_le, Bool, true, false, cond, List, [], ◌∷◌, ◌++◌, length, map, get_or, set, Option, None, Some, inl, inr, arith}
 use Rattle.std.proofs.lemmas.Bool.{cases_Bool, cases_lt, both_ways}
 use Rattle.std.proofs.lemmas.Bool.Decides.{nat_tests}
+use Rattle.std.proofs.lemmas.List.Elements.{All-from_recursion}
 use Rattle.std.proofs.lemmas.Option.{slice_get_past}
 use Rattle.std.specs.List.{All, AllByRecursion, filter, list_any, slice_get}
 use Rattle.std.specs.Option.{IfSome, option_map, option_to_list, unwrap_or}
 use Rattle.ifmap_session.specs.declared.rows.Row.{Row}
-use Rattle.ifmap_session.specs.Kept.{IsOwn, IsStamped, live_of, seats_of, serial_at, stamp_of}
+use Rattle.ifmap_session.specs.Kept.{AreStamps, IsOwn, IsStamped, due_rows, live_of, seats_of, serial_at, stamp_of}
 use Rattle.ifmap_session.specs.Seats.{Seat}
 use Rattle.ifmap_session.specs.Sessions.{Session, expired_serials, is_expired}
-use Rattle.ifmap_session.specs.Stamps.{IsTree, Restamps, at, due_nodes, is_due, no_stamp, numbers_from}
+use Rattle.ifmap_session.specs.Stamps.{IsPower, IsTree, Restamps, at, due_nodes, is_any_due, is_due, no_stamp, numbers_from}
 use Rattle.ifmap_session.proofs.RowLaws.{Own}
 use Rattle.ifmap_session.proofs.Trees.{root_least, root_there}
 
@@ -241,3 +242,55 @@ pub no_rows : (rows : List Row) (moment ttl : ℕ) → length rows ≤ 0 → (li
     × (expired_serials moment ttl (live_of rows) ≡ [])
 no_rows [] moment ttl none = (refl, refl)
 no_rows (r ∷ rows) moment ttl none = absurd (omega arith)
+
+-- each node that is due is that of a row
+all_due : (width : ℕ) (tree : List ℕ) (rows : List Row) (limit base n : ℕ) → width ≤ base → base + n ≤ 2 * width → limit < no_stamp
+    → IsStamped rows width tree
+    → AllByRecursion (λ node. (width ≤ node) × (node - width < length rows)) (filter (is_due tree limit) (numbers_from base n))
+all_due width tree rows limit base zero low high small stamped = tt
+all_due width tree rows limit base (suc n) low high small stamped =
+    let rest = all_due width tree rows limit (base + 1) n (omega arith) (omega arith) small stamped in
+    elim (cases_Bool (is_due tree limit base)) [
+      | inl hit ↦ rw hit ((low, elim (cases_lt (base - width) (length rows)) [
+        | inl less ↦ less
+        | inr past ↦
+            let is : at tree (width + (base - width)) ≡ stamp_in (slice_get rows (base - width)) = stamped (base - width) (omega arith) in
+            let none : at tree base ≡ no_stamp = subst (λ k. at tree k ≡ no_stamp) (omega arith) (is ∙ ap stamp_in
+            (slice_get_past rows (base - width) (omega arith))) in
+            absurd (both_ways (is_due tree limit base) (never_due tree limit base small none) hit)
+      ]), rest)
+      | inr miss ↦ rw miss rest
+    ]
+
+pub due_within : (width : ℕ) (tree : List ℕ) (rows : List Row) (limit : ℕ) → limit < no_stamp → IsStamped rows width tree
+    → All (λ node. (width ≤ node) × (node - width < length rows)) (due_nodes width tree limit)
+due_within width tree rows limit small stamped =
+    All-from_recursion (λ node. (width ≤ node) × (node - width < length rows)) (due_nodes width tree limit)
+    (all_due width tree rows limit width width (omega arith) (omega arith) small stamped)
+
+pub is_power : (width : ℕ) → (width ≡ 0) ⊎ IsPower width → width ≢ 0 → IsPower width
+is_power width (inl none) some = absurd (some none)
+is_power width (inr p) some = p
+
+-- the same, in the words of the code
+pub any_is : (width : ℕ) (tree : List ℕ) (rows : List Row) (moment ttl limit : ℕ) → limit < no_stamp → limit + ttl ≡ moment
+    → AreStamps rows width tree → is_any_due width tree limit ≡ list_any (is_expired moment ttl) (live_of rows)
+any_is width tree rows moment ttl limit low e m =
+    elim (cases_lt 0 width) [
+      | inl some ↦
+          let there : (width == 0) ≡ false = grind (arith, nat_tests) in
+          rw there (root_any width tree rows moment ttl limit low e m.lesser (omega arith) m.within m.stamped)
+      | inr none ↦
+          let there : (width == 0) ≡ true = grind (arith, nat_tests) in
+          let fits = m.within in
+          rw there (sym (no_rows rows moment ttl (omega arith)).0)
+    ]
+
+pub due_is : (width : ℕ) (tree : List ℕ) (rows : List Row) (moment ttl limit : ℕ) → limit < no_stamp → limit + ttl ≡ moment → Own rows
+    → AreStamps rows width tree → due_rows rows width tree limit ≡ expired_serials moment ttl (live_of rows)
+due_is width tree rows moment ttl limit low e own m = due_serials width tree rows moment ttl limit low e own m.within m.stamped
+
+pub none_due_yet : (moment ttl : ℕ) → moment < ttl → (sessions : List Session)
+    → (list_any (is_expired moment ttl) sessions ≡ false) × (expired_serials moment ttl sessions ≡ [])
+none_due_yet moment ttl early sessions =
+    (not_yet moment ttl early sessions, ap (map (λ (s : Session). s.serial)) (none_yet moment ttl early sessions))

@@ -11,7 +11,7 @@ use Rattle.ifmap_session.specs.declared.rows.Row.{Row}
 use Rattle.ifmap_session.specs.Seats.{Seat}
 use Rattle.ifmap_session.specs.SessionIds.{hyphen}
 use Rattle.ifmap_session.specs.Sessions.{Session, is_text, most_sessions, session_of_client, session_with_serial}
-use Rattle.ifmap_session.specs.Stamps.{IsPower, IsTree, at, no_stamp}
+use Rattle.ifmap_session.specs.Stamps.{IsPower, IsTree, at, due_nodes, no_stamp}
 
 -- the sessions of rows: an empty row has none
 abbrev pub seats_of : List Row → List Seat
@@ -113,3 +113,7 @@ IsTaken P rows place =
 -- the serial of a row
 abbrev pub serial_at : List Row → ℕ → ℕ
 serial_at rows place = unwrap_or (option_map (λ (r : Row). r.serial) (slice_get rows place)) 0
+
+-- the serials of the rows whose stamps are no later than the limit
+abbrev pub due_rows : List Row → ℕ → List ℕ → ℕ → List ℕ
+due_rows rows width tree limit = map (λ node. serial_at rows (node - width)) (due_nodes width tree limit)

@@ -1,5 +1,5 @@
 -- Stamps by place, of which the least is known.
-use Rattle.std.specs.Prelude.{◌≡◌, ◌⊎◌, ℕ, zero, suc, ◌+◌, ◌-◌, ◌*◌, ◌^◌, ◌≤◌, ◌<◌, nat_le, Bool, List, [], ◌∷◌, filter, flat_map, length, min, slice_index_or}
+use Rattle.std.specs.Prelude.{◌≡◌, ◌⊎◌, ℕ, zero, suc, ◌+◌, ◌-◌, ◌*◌, ◌^◌, ◌≤◌, ◌<◌, nat_le, ◌==◌, ◌&&◌, not, Bool, List, [], ◌∷◌, filter, flat_map, length, min, slice_index_or}
 
 -- the stamp of a place that has none: no moment reaches it
 abbrev pub no_stamp : ℕ
@@ -45,3 +45,7 @@ doubled (suc times) n = doubled times (2 * n)
 -- a power of two
 abbrev pub IsPower : ℕ → Type 0
 IsPower width = (times : ℕ) × (width ≡ doubled times 1)
+
+-- whether the least stamp is no later than the limit
+abbrev pub is_any_due : ℕ → List ℕ → ℕ → Bool
+is_any_due width tree limit = not (width == 0) && is_due tree limit 1

@@ -2,13 +2,13 @@
 //! moves.
 ghost use Rattle.std.specs.Prelude.{◌≡◌, ℕ, ◌+◌, ◌-◌, ◌*◌, ◌<◌, ◌≤◌, IfOk, MatchOption, None, OnOk, Some, filter, is_some, length, map, slice_get, slice_set, vec_capacity, vec_len};
 ghost use Rattle.std.specs.List.{All};
-ghost use Rattle.ifmap_session.specs.Kept.{AreOwn, IsRowOf, IsSeatOf, IsStamped, IsTaken, Rewrites, live_of, serial_at, stamp_of};
+ghost use Rattle.ifmap_session.specs.Kept.{AreOwn, AreStamps, IsRowOf, IsSeatOf, IsStamped, IsTaken, Rewrites, due_rows, live_of, serial_at, stamp_of};
 ghost use Rattle.ifmap_session.specs.Seats.{Seat};
 ghost use Rattle.ifmap_session.specs.Sessions.{IsLive, emptied, overflowed, queued, renewed, session_with_serial, without_name};
 ghost use Rattle.ifmap_session.specs.Stamps.{IsTree, at, no_stamp};
 
 use crate::queues::Kept;
-use crate::stamps::{NO_STAMP, set_stamp};
+use crate::stamps::{NO_STAMP, due_nodes, set_stamp};
 use ifmap_elem::{Many, Text};
 use ifmap_io::Moment;
 use ifmap_search::PollItem;
@@ -180,8 +180,27 @@ fn stamp_of(row: &Row) -> u64
     }
 }
 
-/// The serials of the rows at these nodes.
-pub fn serials_of(
+/// The serials of the sessions whose stamps are no later than the limit, in their order.
+pub fn due_serials(
+    alloc: Global,
+    rows: &[Row],
+    stamps: &[u64],
+    width: usize,
+    limit: u64,
+) -> Result<Many<u64>, NoMemory>
+    requires stamps { AreStamps rows.now width stamps.now }
+    requires limit { limit < no_stamp }
+    ensures { IfOk result (λ serials. serials ≡ due_rows rows.now width stamps.now limit) }
+{
+    if width == 0 {
+        return Ok(Many(Vec::new(alloc)));
+    }
+    let nodes = due_nodes(alloc, stamps, width, limit)?;
+    Ok(Many(serials_of(alloc, rows, &nodes, width)?))
+}
+
+// The serials of the rows at these nodes.
+fn serials_of(
     alloc: Global,
     rows: &[Row],
     nodes: &[usize],

@@ -12,10 +12,10 @@ use crate::ids::{new_id, serial_of};
 use crate::openings::{Begun, Opening};
 use crate::queues::Kept;
 use crate::rows::{
-    Row, drop_empty, drop_name_at, end_at, find_kept, overflow_at, place_in, push_at,
-    renew_at, reserve_at, serials_of, stamp_rows, take_all_at,
+    Row, drop_empty, drop_name_at, due_serials, end_at, find_kept, overflow_at, place_in, push_at,
+    renew_at, reserve_at, stamp_rows, take_all_at,
 };
-use crate::stamps::{NO_STAMP, due_nodes, set_stamp};
+use crate::stamps::{NO_STAMP, is_any_due, set_stamp};
 use ifmap_elem::{Copied, Equals, Many, Text};
 use ifmap_io::Moment;
 use ifmap_meta::ClientName;
@@ -264,11 +264,8 @@ impl Sessions {
         ensures { IfOk result (λ serials. serials ≡ expired_serials moment ttl self.now.live) }
     {
         match moment.seconds().checked_sub(ttl as u64) {
-            Some(limit) if self.width != 0 => {
-                let nodes = due_nodes(alloc, &self.stamps, self.width, limit)?;
-                Ok(Many(serials_of(alloc, &self.rows, &nodes, self.width)?))
-            }
-            _ => Ok(Many(Vec::new(alloc))),
+            Some(limit) => due_serials(alloc, &self.rows, &self.stamps, self.width, limit),
+            None => Ok(Many(Vec::new(alloc))),
         }
     }
 
@@ -278,7 +275,7 @@ impl Sessions {
         ensures { result ≡ list_any (is_expired moment ttl) self.now.live }
     {
         match moment.seconds().checked_sub(ttl as u64) {
-            Some(limit) => self.width != 0 && self.stamps[1] <= limit,
+            Some(limit) => is_any_due(&self.stamps, self.width, limit),
             None => false,
         }
     }

@@ -2,7 +2,7 @@
 //! in the first half stands at each node from 1 on the lesser of what stands at its two children, so
 //! that one stamp is changed by a walk to the root.
 ghost use Rattle.std.specs.Prelude.{◌≡◌, ℕ, ◌+◌, ◌*◌, ◌≤◌, ◌<◌, ◌∷◌, ◌++◌, [], All, IfOk, OnOk, filter, length, min};
-ghost use Rattle.ifmap_session.specs.Stamps.{IsPower, IsTree, Restamps, at, children_of, due_nodes, is_due};
+ghost use Rattle.ifmap_session.specs.Stamps.{IsPower, IsTree, Restamps, at, children_of, due_nodes, is_any_due, is_due};
 
 use std::alloc::{AllocError as NoMemory, Global};
 
@@ -29,6 +29,14 @@ fn lesser_child(tree: &[u64], node: usize) -> u64
     ensures { result ≡ min (at tree.now (2 * node)) (at tree.now (2 * node + 1)) }
 {
     tree[2 * node].min(tree[2 * node + 1])
+}
+
+/// Whether any stamp is no later than the limit, as the least tells.
+pub fn is_any_due(tree: &[u64], width: usize, limit: u64) -> bool
+    requires { IsTree width tree.now }
+    ensures { result ≡ is_any_due width tree.now limit }
+{
+    width != 0 && tree[1] <= limit
 }
 
 /// The nodes of the places whose stamps are no later than the limit. It looks at no other places
