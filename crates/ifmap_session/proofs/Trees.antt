@@ -306,3 +306,6 @@ pub level_ends : (width : ℕ) (tree : List ℕ) (limit first : ℕ) (nodes : Li
     → nodes ≡ due_nodes width tree limit
 level_ends width tree limit first nodes l less =
     l.due ∙ ap (λ k. filter (is_due tree limit) (numbers_from k k)) (last_level width first l.up.0 l.up.1 less l.low)
+
+pub first_power : IsPower 64
+first_power = (6, refl)

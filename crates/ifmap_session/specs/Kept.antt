@@ -117,3 +117,11 @@ serial_at rows place = unwrap_or (option_map (λ (r : Row). r.serial) (slice_get
 -- the serials of the rows whose stamps are no later than the limit
 abbrev pub due_rows : List Row → ℕ → List ℕ → ℕ → List ℕ
 due_rows rows width tree limit = map (λ node. serial_at rows (node - width)) (due_nodes width tree limit)
+
+-- stamps for these rows may be made anew: they have so many sessions
+pub record CanWiden (rows : List Row) (width live : ℕ) : Type 0 where
+  pub power : (width ≡ 0) ⊎ IsPower width
+  pub few : width < 40000
+  pub within : live ≤ width
+  pub most : live ≤ most_sessions
+  pub counts : live ≡ length (live_of rows)

@@ -1,14 +1,14 @@
 //! Sessions in the order of their serials. A session that ends leaves an empty row, so that no other
 //! moves.
-ghost use Rattle.std.specs.Prelude.{◌≡◌, ℕ, ◌+◌, ◌-◌, ◌*◌, ◌<◌, ◌≤◌, IfOk, MatchOption, None, OnOk, Some, filter, is_some, length, map, slice_get, slice_set, vec_capacity, vec_len};
+ghost use Rattle.std.specs.Prelude.{◌≡◌, ℕ, ◌+◌, ◌-◌, ◌*◌, ◌<◌, ◌≤◌, IfOk, MatchOption, None, OnErr, OnOk, Some, filter, is_some, length, map, slice_get, slice_set, vec_capacity, vec_len};
 ghost use Rattle.std.specs.List.{All};
-ghost use Rattle.ifmap_session.specs.Kept.{AreOwn, AreStamps, IsRowOf, IsSeatOf, IsStamped, IsTaken, Rewrites, due_rows, live_of, serial_at, stamp_of};
+ghost use Rattle.ifmap_session.specs.Kept.{AreOwn, AreStamps, CanWiden, IsRowOf, IsSeatOf, IsStamped, IsTaken, Rewrites, due_rows, live_of, serial_at, stamp_of};
 ghost use Rattle.ifmap_session.specs.Seats.{Seat};
 ghost use Rattle.ifmap_session.specs.Sessions.{IsLive, emptied, overflowed, queued, renewed, session_with_serial, without_name};
 ghost use Rattle.ifmap_session.specs.Stamps.{IsTree, at, no_stamp};
 
 use crate::queues::Kept;
-use crate::stamps::{NO_STAMP, due_nodes, set_stamp};
+use crate::stamps::{NO_STAMP, due_nodes, next_width, set_stamp};
 use ifmap_elem::{Many, Text};
 use ifmap_io::Moment;
 use ifmap_search::PollItem;
@@ -147,8 +147,41 @@ pub fn end_at(rows: &mut Vec<Row>, place: usize) -> Kept
     rows[place].kept.take().unwrap()
 }
 
-/// Drops the empty rows.
-pub fn drop_empty(rows: &mut Vec<Row>)
+/// Stamps for rows, and for how many.
+#[derive(Drop)]
+pub struct Wide {
+    pub width: usize,
+    pub stamps: Vec<u64>,
+}
+
+/// Drops the empty rows, and makes stamps for these and more. The one error is want of memory, which
+/// leaves the rows.
+pub fn widen(
+    alloc: Global,
+    rows: &mut Vec<Row>,
+    width: usize,
+    live: usize,
+) -> Result<Wide, NoMemory>
+    requires { CanWiden rows.old.items width live }
+    ensures items { OnOk result (rows.new.items
+        ≡ filter (λ row. is_some row.kept) rows.old.items) }
+    ensures err { OnErr result (rows.new.items ≡ rows.old.items) }
+    ensures len { vec_len rows.new ≤ vec_len rows.old }
+    ensures same { OnErr result (vec_len rows.new ≡ vec_len rows.old) }
+    ensures capacity { vec_capacity rows.new ≡ vec_capacity rows.old }
+    ensures stamps { IfOk result (λ w. AreStamps rows.new.items w.width w.stamps.items) }
+    ensures wide { IfOk result (λ w. length rows.new.items < w.width) }
+    ensures more { IfOk result (λ w. width ≤ w.width) }
+{
+    let width = next_width(width, live);
+    let mut stamps = Vec::from_elem(alloc, NO_STAMP, 2 * width)?;
+    drop_empty(rows);
+    stamp_rows(&mut stamps, width, rows);
+    Ok(Wide { width, stamps })
+}
+
+// Drops the empty rows.
+fn drop_empty(rows: &mut Vec<Row>)
     ensures items { rows.new.items ≡ filter (λ row. is_some row.kept) rows.old.items }
     ensures len { vec_len rows.new ≤ vec_len rows.old }
     ensures capacity { vec_capacity rows.new ≡ vec_capacity rows.old }
@@ -156,8 +189,8 @@ pub fn drop_empty(rows: &mut Vec<Row>)
     rows.retain(|row| row.kept.is_some());
 }
 
-/// Stamps each row with the last moment of its session.
-pub fn stamp_rows(stamps: &mut Vec<u64>, width: usize, rows: &[Row])
+// Stamps each row with the last moment of its session.
+fn stamp_rows(stamps: &mut Vec<u64>, width: usize, rows: &[Row])
     requires tree { IsTree width stamps.old.items }
     requires blank { (node : ℕ) → width ≤ node → node < 2 * width
         → at stamps.old.items node ≡ no_stamp }

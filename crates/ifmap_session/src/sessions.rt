@@ -12,8 +12,8 @@ use crate::ids::{new_id, serial_of};
 use crate::openings::{Begun, Opening};
 use crate::queues::Kept;
 use crate::rows::{
-    Row, drop_empty, drop_name_at, due_serials, end_at, find_kept, overflow_at, place_in, push_at,
-    renew_at, reserve_at, stamp_rows, take_all_at,
+    Row, drop_name_at, due_serials, end_at, find_kept, overflow_at, place_in, push_at, renew_at,
+    reserve_at, take_all_at, widen,
 };
 use crate::stamps::{NO_STAMP, is_any_due, set_stamp};
 use ifmap_elem::{Copied, Equals, Many, Text};
@@ -25,9 +25,6 @@ use std::marker::Model;
 
 /// How many sessions may live.
 pub const MOST_SESSIONS: usize = 10_000;
-
-// For how many rows there are stamps once there are any.
-const FIRST_WIDTH: usize = 64;
 
 /// The live sessions. An id leads to its session by the serial that it begins with, a client by a
 /// list in the order of the clients' names; both are found by halving. The oldest last moment is
@@ -163,7 +160,10 @@ impl Sessions {
         ensures same { IsAsBefore self.old self.new }
     {
         if self.width <= self.rows.len() {
-            self.widen(alloc)?;
+            let live = self.holders.len();
+            let wide = widen(alloc, &mut self.rows, self.width, live)?;
+            self.width = wide.width;
+            self.stamps = wide.stamps;
         }
         self.rows.reserve(1)?;
         self.holders.reserve(1)?;
@@ -341,25 +341,5 @@ impl Sessions {
     {
         let place = place_in(&self.rows, serial);
         take_all_at(&mut self.rows, place)
-    }
-
-    // Makes room for more rows: those without a session go, and the stamps are made anew. Only the
-    // room changes.
-    fn widen(&mut self, alloc: Global) -> Result<(), NoMemory>
-        ensures same { IsAsBefore self.old self.new }
-    {
-        let width = if self.width == 0 {
-            FIRST_WIDTH
-        } else if self.width < 2 * self.holders.len() {
-            2 * self.width
-        } else {
-            self.width
-        };
-        let mut stamps = Vec::from_elem(alloc, NO_STAMP, 2 * width)?;
-        drop_empty(&mut self.rows);
-        stamp_rows(&mut stamps, width, &self.rows);
-        self.stamps = stamps;
-        self.width = width;
-        Ok(())
     }
 }

@@ -1,13 +1,35 @@
 //! Stamps by place, of which the least is known at once. They stand in the second half of a slice;
 //! in the first half stands at each node from 1 on the lesser of what stands at its two children, so
 //! that one stamp is changed by a walk to the root.
-ghost use Rattle.std.specs.Prelude.{◌≡◌, ℕ, ◌+◌, ◌*◌, ◌≤◌, ◌<◌, ◌∷◌, ◌++◌, [], All, IfOk, OnOk, filter, length, min};
+ghost use Rattle.std.specs.Prelude.{◌≡◌, ◌⊎◌, ℕ, ◌+◌, ◌*◌, ◌≤◌, ◌<◌, ◌∷◌, ◌++◌, [], All, IfOk, OnOk, filter, length, min};
 ghost use Rattle.ifmap_session.specs.Stamps.{IsPower, IsTree, Restamps, at, children_of, due_nodes, is_any_due, is_due};
 
 use std::alloc::{AllocError as NoMemory, Global};
 
 /// The stamp of a place that has none, which no moment reaches.
 pub const NO_STAMP: u64 = u64::MAX;
+
+/// For how many places there are to be stamps where those of this width do not serve: twice as many
+/// where more than half of them are taken, and 64 at least.
+#[tactic(auto, using(crate::proofs::Trees::power_again, crate::proofs::Trees::first_power, crate::proofs::StampLaws::is_power))]
+pub fn next_width(width: usize, live: usize) -> usize
+    requires power { (width ≡ 0) ⊎ IsPower width }
+    requires live { live ≤ width }
+    requires most { live ≤ 10000 }
+    requires few { width < 40000 }
+    ensures power { IsPower result }
+    ensures few { result < 40000 }
+    ensures wide { live < result }
+    ensures more { width ≤ result }
+{
+    if width == 0 {
+        64
+    } else if width < 2 * live {
+        2 * width
+    } else {
+        width
+    }
+}
 
 /// Sets the stamp of a place.
 pub fn set_stamp(tree: &mut Vec<u64>, width: usize, place: usize, stamp: u64)

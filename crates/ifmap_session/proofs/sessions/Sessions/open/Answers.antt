@@ -41,7 +41,8 @@ invariant_of-self c =
     ∙ ap (λ m. insert c.self.inside.holders.items c.unwrap_err-place.result (record { client = c.opening.inside.client; serial = m })) same
     ∙ ap (λ k. insert c.self.inside.holders.items c.unwrap_err-place.result (record { client = k; serial = c.self.inside.counter + 1 }))
     (sym client) in
-    let restamped = subst (λ p. Restamps c.self.inside.width p c.seconds.result c.self.inside.stamps.items c.set_stamp.new.tree.items)
+    let restamped : Restamps c.self.inside.width (length c.self.inside.rows.items) c.seconds.result c.self.inside.stamps.items
+    c.set_stamp.new.tree.items = subst (λ p. Restamps c.self.inside.width p c.seconds.result c.self.inside.stamps.items c.set_stamp.new.tree.items)
     (let l = c.len.ensures in omega arith) c.set_stamp.ensures in
     rw (c.push_reserved.ensures.items, same) (record {
       sessions = rows_begun c.self.inside.counter c.self.inside.rows.items y c.self.invariant.sessions small none_of_its few
