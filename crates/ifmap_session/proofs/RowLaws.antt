@@ -366,3 +366,16 @@ count_one r (Some s) rest seats same = ap (λ n. suc n) same
 pub full_length : (rows : List Row) → length (filter (λ (r : Row). is_some r.kept) rows) ≡ length (live_of rows)
 full_length [] = refl
 full_length (r ∷ rows) = count_one r r.kept (filter (λ (r : Row). is_some r.kept) rows) (seats_of rows) (full_length rows)
+
+pub few_rows : (rows new : List Row) (live : ℕ) → new ≡ filter (λ (r : Row). is_some r.kept) rows → live ≡ length (live_of rows)
+    → length new ≡ live
+few_rows rows new live e counts = ap length e ∙ full_length rows ∙ sym counts
+
+kept_few : (o : Option Seat) (rows : List Row) (seats : List Seat) → length (map the_session seats) ≤ length rows
+    → length (map the_session (option_to_list o ++ seats)) ≤ suc (length rows)
+kept_few None rows seats h = omega arith
+kept_few (Some s) rows seats h = omega arith
+
+pub live_few : (rows : List Row) → length (live_of rows) ≤ length rows
+live_few [] = omega arith
+live_few (r ∷ rows) = kept_few r.kept rows (seats_of rows) (live_few rows)

@@ -1,5 +1,5 @@
 //! The live sessions.
-ghost use Rattle.std.specs.Prelude.{◌≡◌, ◌≢◌, ◌↔◌, ℕ, ◌+◌, ◌-◌, ◌^◌, ◌<◌, ◌≤◌, [], ◌∷◌, ◌++◌, length, min, Err, IfNone, IfOk, IfSome, List, None, OnErr, OnOk, Some, option_map};
+ghost use Rattle.std.specs.Prelude.{◌≡◌, ◌≢◌, ◌↔◌, ℕ, ◌+◌, ◌-◌, ◌^◌, ◌<◌, ◌≤◌, [], ◌∷◌, ◌++◌, length, min, Err, IfNone, IfOk, IfSome, List, None, OnErr, OnOk, Some, option_map, vec_capacity, vec_len};
 ghost use Rattle.std.specs.List.{list_any};
 ghost use Rattle.ifmap_search.specs.Sizes.{queue_size};
 ghost use Rattle.ifmap_session.specs.declared.errors.BeginError.TheVariants as the_error;
@@ -159,14 +159,7 @@ impl Sessions {
         ensures room { OnOk result (1 ≤ self.new.room) }
         ensures same { IsAsBefore self.old self.new }
     {
-        if self.width <= self.rows.len() {
-            let live = self.holders.len();
-            let wide = widen(alloc, &mut self.rows, self.width, live)?;
-            self.width = wide.width;
-            self.stamps = wide.stamps;
-        }
-        self.rows.reserve(1)?;
-        self.holders.reserve(1)?;
+        self.make_room(alloc)?;
         let serial = self.counter.saturating_add(1);
         let id = new_id(alloc, serial, random)?;
         Ok(Opening {
@@ -342,4 +335,34 @@ impl Sessions {
         let place = place_in(&self.rows, serial);
         take_all_at(&mut self.rows, place)
     }
+
+    // Makes room for one session more. Only the room changes.
+    fn make_room(&mut self, alloc: Global) -> Result<(), NoMemory>
+        ensures same { IsAsBefore self.old self.new }
+        ensures room { OnOk result (1 ≤ self.new.room) }
+    {
+        if self.rows.len() < self.width {
+            return reserve_one(&mut self.rows, &mut self.holders);
+        }
+        let live = self.holders.len();
+        let wide = widen(alloc, &mut self.rows, self.width, live)?;
+        self.width = wide.width;
+        self.stamps = wide.stamps;
+        reserve_one(&mut self.rows, &mut self.holders)
+    }
+}
+
+// Makes room for one row and one entry more.
+fn reserve_one(rows: &mut Vec<Row>, holders: &mut Vec<Holder>) -> Result<(), NoMemory>
+    ensures rows { rows.new.items ≡ rows.old.items }
+    ensures holders { holders.new.items ≡ holders.old.items }
+    ensures rows_len { vec_len rows.new ≡ vec_len rows.old }
+    ensures holders_len { vec_len holders.new ≡ vec_len holders.old }
+    ensures rows_more { vec_capacity rows.old ≤ vec_capacity rows.new }
+    ensures holders_more { vec_capacity holders.old ≤ vec_capacity holders.new }
+    ensures ok { OnOk result ((vec_len rows.new + 1 ≤ vec_capacity rows.new)
+        × (vec_len holders.new + 1 ≤ vec_capacity holders.new)) }
+{
+    rows.reserve(1)?;
+    holders.reserve(1)
 }
