@@ -1,23 +1,21 @@
 -- All that is kept, as calls change it.
 -- First: the session of one row changes, and its queue with it (`rewritten`), which leaves its stamp (`moments_same`) or sets
 -- it (`moments_set`). Then: a session ends (`kept_ended`) or begins (`kept_begun`), and empty rows go (`kept_filled`).
-use Rattle.std.proofs.Common.{◌≡◌, ◌≢◌, ◌⊎◌, refl, sym, ◌∙◌, ap, subst, ℕ, zero, suc, ◌+◌, ◌-◌, ◌*◌, ◌^◌, ◌<◌, ◌≤◌, Bool, true, false, List, [], ◌∷◌, ◌++◌, length, map, get_or, set, Option, None, Some, Result, Ok, Err, inl, inr, arith}
+use Rattle.std.proofs.Common.{◌≡◌, ◌≢◌, refl, sym, ◌∙◌, ap, ℕ, zero, suc, ◌<◌, ◌≤◌, List, [], ◌∷◌, ◌++◌, length, set, Some, inl, arith}
 use Rattle.std.proofs.lemmas.List.{length-set}
 use Rattle.std.proofs.lemmas.Option.{slice_get_within}
-use Rattle.std.specs.List.{AllByRecursion, IsDistinct, filter, slice_get}
+use Rattle.std.specs.List.{IsDistinct, slice_get}
 use Rattle.std.specs.List.Sorted.{IsStrictlySortedBy}
-use Rattle.std.specs.Option.{IfSome, IsSome, is_some, option_map}
 use Rattle.ifmap_session.specs.declared.holders.Holder.{Holder}
 use Rattle.ifmap_session.specs.declared.rows.Row.{Row}
 use Rattle.ifmap_session.specs.SessionIds.{session_id}
-use Rattle.ifmap_session.specs.Kept.{AreHolders, AreOwn, AreRows, AreStamps, IsKept, IsOwn, IsStamped, Rewrites, live_of, seats_of, spare_in, stamp_of}
+use Rattle.ifmap_session.specs.Kept.{AreHolders, AreRows, AreStamps, IsKept, IsOwn, Rewrites, live_of, spare_in}
 use Rattle.ifmap_session.specs.Seats.{Seat}
-use Rattle.ifmap_session.specs.Sessions.{IsLive, Session, change, session_of_client, session_with_serial, spare_of}
-use Rattle.ifmap_session.specs.Stamps.{IsPower, IsTree, Restamps, at, no_stamp}
+use Rattle.ifmap_session.specs.Sessions.{Session, change, session_with_serial, spare_of}
+use Rattle.ifmap_session.specs.Stamps.{Restamps, no_stamp}
 use Rattle.ifmap_session.proofs.RowLaws.{changed, empty, found, spare_found, spare_other, taken}
-use Rattle.ifmap_session.proofs.SessionLaws.{Keeps, holders_changed, holders_filled, own_at, rows_changed, rows_filled}
+use Rattle.ifmap_session.proofs.SessionLaws.{Keeps, holders_changed, own_at, rows_changed}
 use Rattle.ifmap_session.proofs.StampLaws.{stamped_alike, stamped_push, stamped_set}
-use Rattle.ifmap_session.proofs.Trees.{power_again}
 
 pub kept_none : IsKept 0 [] [] 0 []
 unfolding IsStrictlySortedBy IsDistinct

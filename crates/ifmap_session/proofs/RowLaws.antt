@@ -3,15 +3,13 @@
 -- `filter_past`, `map_past`). Then, for the row at a place: its session is found (`found`), or none is (`gone`, `none_of`); it
 -- changes (`changed`), ends (`ended`) or begins (`begun_last`), and so does the room of its queue (`spare_found`,
 -- `spare_other`). Last: the order of rows and what holds of each stay (`own_set`, `own_push`, `own_filter`).
-use Rattle.std.proofs.Common.{◌≡◌, ◌≢◌, refl, sym, ◌∙◌, ap, subst, ℕ, zero, suc, ◌+◌, ◌<◌, ◌≤◌, ◌==◌, Bool, true, false, not, cond, List, [], ◌∷◌, ◌++◌, length, map, get_or, set, Option, None, Some, inl, inr, arith}
-use Rattle.std.proofs.lemmas.Bool.{cases_Bool, eqb-true, eqb-false, eq-eqb, false_from_ne_true, not-true}
+use Rattle.std.proofs.Common.{◌≡◌, ◌≢◌, refl, sym, ◌∙◌, ap, subst, ℕ, zero, suc, ◌+◌, ◌<◌, ◌≤◌, ◌==◌, Bool, true, false, not, cond, List, [], ◌∷◌, ◌++◌, length, map, set, Option, None, Some, arith}
+use Rattle.std.proofs.lemmas.Bool.{eqb-true, eq-eqb, false_from_ne_true}
 use Rattle.std.proofs.lemmas.Bool.Decides.{nat_tests}
 use Rattle.std.proofs.lemmas.List.Kept.{IsStrictlySortedBy-filter}
-use Rattle.std.specs.List.{AllByRecursion, filter, find, flat_map, list_any, slice_get}
+use Rattle.std.specs.List.{AllByRecursion, filter, find, list_any, slice_get}
 use Rattle.std.specs.List.Sorted.{IsStrictlySortedBy}
 use Rattle.std.specs.Option.{IfSome, is_some, option_map, option_to_list, unwrap_or}
-use Rattle.std.specs.Ordering.{nat_cmp, on}
-use Rattle.std.specs.declared.cmp.Ordering.{Ordering}
 use Rattle.std.specs.declared.cmp.Ordering.TheVariants.{Less}
 use Rattle.ifmap_lemmas.specs.Filters.{all_filter, all_weaker}
 use Rattle.ifmap_session.specs.declared.rows.Row.{Row}
@@ -212,24 +210,24 @@ module _ (n : ℕ) where
       → spare_of other (spare_in (set rows i (record { serial = n; kept = kept }))) ≡ spare_of other (spare_in rows)
   spare_other rows i a kept own e mine other apart =
       ap (λ (o : Option (ℕ × ℕ)). unwrap_or (option_map (λ p. p.1) o) 0) (pair rows i own e) where
-    not_other : (serial : ℕ) → serial ≡ n → (serial == other) ≡ false
-    not_other serial is = false_from_ne_true (serial == other) (λ h. apart (sym (eqb-true serial other h) ∙ is))
+        not_other : (serial : ℕ) → serial ≡ n → (serial == other) ≡ false
+        not_other serial is = false_from_ne_true (serial == other) (λ h. apart (sym (eqb-true serial other h) ∙ is))
 
-    mine_differs : (o : Option Seat) → IfSome o (λ s. s.session.serial ≡ n) → IfSome o (λ s. (s.session.serial == other) ≡ false)
-    mine_differs None h = tt
-    mine_differs (Some s) h = not_other s.session.serial h
+        mine_differs : (o : Option Seat) → IfSome o (λ s. s.session.serial ≡ n) → IfSome o (λ s. (s.session.serial == other) ≡ false)
+        mine_differs None h = tt
+        mine_differs (Some s) h = not_other s.session.serial h
 
-    pair : (rows : List Row) (i : ℕ) → Own rows → slice_get rows i ≡ Some (taken n a)
-        → find (λ p. p.0 == other) (spare_in (set rows i (record { serial = n; kept = kept }))) ≡ find (λ p. p.0 == other) (spare_in rows)
-    pair [] i own e = cc
-    pair (r ∷ rows) zero own e =
-        let same : r ≡ taken n a = cc in
-        let its = own_is r a own.0 same in
-        find_past the_spare (λ p. p.0 == other) kept (seats_of rows) (mine_differs kept mine)
-        ∙ rw (same, not_other a.session.serial its.numbered) refl
-    pair (r ∷ rows) (suc i) own e =
-        find_alike the_spare (λ p. p.0 == other) r.kept (seats_of (set rows i (record { serial = n; kept = kept }))) (seats_of rows)
-        (pair rows i own.1 e)
+        pair : (rows : List Row) (i : ℕ) → Own rows → slice_get rows i ≡ Some (taken n a)
+            → find (λ p. p.0 == other) (spare_in (set rows i (record { serial = n; kept = kept }))) ≡ find (λ p. p.0 == other) (spare_in rows)
+        pair [] i own e = cc
+        pair (r ∷ rows) zero own e =
+            let same : r ≡ taken n a = cc in
+            let its = own_is r a own.0 same in
+            find_past the_spare (λ p. p.0 == other) kept (seats_of rows) (mine_differs kept mine)
+            ∙ rw (same, not_other a.session.serial its.numbered) refl
+        pair (r ∷ rows) (suc i) own e =
+            find_alike the_spare (λ p. p.0 == other) r.kept (seats_of (set rows i (record { serial = n; kept = kept }))) (seats_of rows)
+            (pair rows i own.1 e)
 
   map_alike : {X : Type 0} (g : Seat → X) (kept : Option Seat) (seats others : List Seat) → map g seats ≡ map g others
       → map g (option_to_list kept ++ seats) ≡ map g (option_to_list kept ++ others)

@@ -3,11 +3,10 @@
 -- `holder_after`, `client_gone`), began (`begun_indexed`) or changed (`client_changed`). Then: the session that an id names
 -- (`id_at`, `id_nowhere`). Last: rows and entries together, as they are kept (`kept_changed`, `kept_ended`, `kept_begun`,
 -- `kept_filled`).
-use Rattle.std.proofs.Common.{◌≡◌, ◌≢◌, ◌⊎◌, refl, sym, ◌∙◌, ap, subst, ℕ, zero, suc, ◌+◌, ◌-◌, ◌<◌, ◌≤◌, ◌^◌, ◌==◌, Bool, true, false, not, cond, List, [], ◌∷◌, ◌++◌, length, map, get_or, set, Option, None, Some, Result, Ok, Err, inl, inr, arith}
+use Rattle.std.proofs.Common.{◌≡◌, refl, sym, ◌∙◌, ap, subst, ℕ, zero, suc, ◌+◌, ◌-◌, ◌<◌, ◌≤◌, ◌^◌, ◌==◌, Bool, true, false, not, cond, List, [], ◌∷◌, ◌++◌, length, map, set, Option, None, Some, Result, Ok, Err, inl, inr, arith}
 use Rattle.std.proofs.lemmas.Bool.{both_ways, cases_Bool, eqb-true, eqb-false, eq-eqb, false_from_ne_true, not-true}
 use Rattle.std.proofs.lemmas.Bool.Decides.{nat_tests}
-use Rattle.std.proofs.lemmas.Cmp.{nat_cmp_total, nat_list_cmp_total, nat_list_eq_equiv}
-use Rattle.std.proofs.lemmas.List.{length-set}
+use Rattle.std.proofs.lemmas.Cmp.{nat_list_cmp_total, nat_list_eq_equiv}
 use Rattle.std.proofs.lemmas.List.Folds.{find-append}
 use Rattle.std.proofs.lemmas.List.Kept.{IsStrictlySortedBy-filter}
 use Rattle.std.proofs.lemmas.Map.Text.{is_eq-slice_cmp}
@@ -28,7 +27,7 @@ use Rattle.ifmap_session.specs.Seats.{Seat}
 use Rattle.ifmap_session.specs.Sessions.{Session, change, is_text, most_sessions, session_of_client, session_with_id, session_with_serial, without_sessions}
 use Rattle.ifmap_session.proofs.Halving.{all_found, filter_same, find_insert, find_none, none_passes, place_for, placed}
 use Rattle.ifmap_session.proofs.RowLaws.{Own, Up, begun_last, changed, counted_filter, counted_push, counted_set, empty, ended, found, own_filter, own_push, own_set, seats_filter, taken}
-use Rattle.ifmap_lemmas.specs.Filters.{all_filter, all_weaker, filter_all, filter_passes}
+use Rattle.ifmap_lemmas.specs.Filters.{all_weaker, filter_all, filter_passes}
 
 abbrev pub session_order : Session → Session → Ordering
 session_order = on (λ (s : Session). s.serial) nat_cmp
@@ -522,11 +521,11 @@ rows_begun counter rows y kept small none few own =
       apart = rw live (distinct_push (λ (s : Session). s.client) (live_of rows) y.session kept.apart none);
       few = rw live (length_more (live_of rows) y.session few);
     } where
-  length_more : (xs : List Session) (x : Session) → length xs < most_sessions → length (xs ++ x ∷ []) ≤ most_sessions
-  length_more xs x less = let e = pushed xs x in omega arith where
-    pushed : (xs : List Session) (x : Session) → length (xs ++ x ∷ []) ≡ suc (length xs)
-    pushed [] x = refl
-    pushed (z ∷ xs) x = ap (λ m. suc m) (pushed xs x)
+      length_more : (xs : List Session) (x : Session) → length xs < most_sessions → length (xs ++ x ∷ []) ≤ most_sessions
+      length_more xs x less = let e = pushed xs x in omega arith where
+        pushed : (xs : List Session) (x : Session) → length (xs ++ x ∷ []) ≡ suc (length xs)
+        pushed [] x = refl
+        pushed (z ∷ xs) x = ap (λ m. suc m) (pushed xs x)
 
 inserted_length : (holders : List Holder) (j : ℕ) (h : Holder) → j ≤ length holders → length (insert holders j h) ≡ suc (length holders)
 inserted_length [] zero h le = refl
@@ -553,8 +552,12 @@ holders_begun n rows holders holders2 y j r h none same place gap is entry =
           (λ (x : Holder). x.serial) (holder_of c (insert holders j (record { client = y.session.client; serial = m }))) ≡ option_map
           (λ (s : Session). s.serial) (session_of_client c (live_of rows ++ y.session ∷ []))) same
           (begun_indexed y.session (live_of rows) holders j c none h.indexed));
-      counts = rw (entry, live, inserted_length holders j (record { client = y.session.client; serial = n }) at.0,
-          pushed_length (live_of rows) y.session) (ap (λ m. suc m) h.counts);
+      counts = rw (
+        entry,
+        live,
+        inserted_length holders j (record { client = y.session.client; serial = n }) at.0,
+        pushed_length (live_of rows) y.session,
+      ) (ap (λ m. suc m) h.counts);
     }
 
 pub live_filter : (rows : List Row) → live_of (filter (λ (r : Row). is_some r.kept) rows) ≡ live_of rows

@@ -1,6 +1,6 @@
 -- The stamps of rows: as rows are stamped one by one, as one changes, and what the least and those that are due say of the
 -- sessions.
-use Rattle.std.proofs.Common.{◌≡◌, ◌≢◌, ◌⊎◌, refl, sym, ◌∙◌, ap, subst, ℕ, zero, suc, ◌+◌, ◌-◌, ◌*◌, ◌^◌, ◌<◌, ◌≤◌, ◌==◌, nat_le, Bool, true, false, cond, List, [], ◌∷◌, ◌++◌, length, map, get_or, set, Option, None, Some, inl, inr, arith}
+use Rattle.std.proofs.Common.{◌≡◌, ◌≢◌, ◌⊎◌, refl, sym, ◌∙◌, ap, subst, ℕ, zero, suc, ◌+◌, ◌-◌, ◌*◌, ◌<◌, ◌≤◌, ◌==◌, nat_le, true, false, List, [], ◌∷◌, ◌++◌, length, map, set, Option, None, Some, inl, inr, arith}
 use Rattle.std.proofs.lemmas.Bool.{cases_Bool, cases_lt, both_ways}
 use Rattle.std.proofs.lemmas.Bool.Decides.{nat_tests}
 use Rattle.std.proofs.lemmas.List.Elements.{All-from_recursion}
@@ -251,14 +251,20 @@ all_due width tree rows limit base zero low high small stamped = tt
 all_due width tree rows limit base (suc n) low high small stamped =
     let rest = all_due width tree rows limit (base + 1) n (omega arith) (omega arith) small stamped in
     elim (cases_Bool (is_due tree limit base)) [
-      | inl hit ↦ rw hit ((low, elim (cases_lt (base - width) (length rows)) [
-        | inl less ↦ less
-        | inr past ↦
-            let is : at tree (width + (base - width)) ≡ stamp_in (slice_get rows (base - width)) = stamped (base - width) (omega arith) in
-            let none : at tree base ≡ no_stamp = subst (λ k. at tree k ≡ no_stamp) (omega arith) (is ∙ ap stamp_in
-            (slice_get_past rows (base - width) (omega arith))) in
-            absurd (both_ways (is_due tree limit base) (never_due tree limit base small none) hit)
-      ]), rest)
+      | inl hit ↦ rw hit (
+        (
+          low,
+          elim (cases_lt (base - width) (length rows)) [
+            | inl less ↦ less
+            | inr past ↦
+                let is : at tree (width + (base - width)) ≡ stamp_in (slice_get rows (base - width)) = stamped (base - width) (omega arith) in
+                let none : at tree base ≡ no_stamp = subst (λ k. at tree k ≡ no_stamp) (omega arith) (is ∙ ap stamp_in
+                (slice_get_past rows (base - width) (omega arith))) in
+                absurd (both_ways (is_due tree limit base) (never_due tree limit base small none) hit)
+          ],
+        ),
+        rest,
+      )
       | inr miss ↦ rw miss rest
     ]
 

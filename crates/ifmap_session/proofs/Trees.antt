@@ -2,14 +2,14 @@
 -- First: a walk from a place to the root leaves all nodes in order but those above where it stands (`Walks`). Then: what
 -- stands at the root is the least stamp (`root_least`, `root_there`). Last: the places that are due are found level by
 -- level: the children of what is due in one level hold all that is due in the next (`due_below`).
-use Rattle.std.proofs.Common.{◌≡◌, ◌≢◌, ◌⊎◌, refl, sym, ◌∙◌, ap, subst, ℕ, zero, suc, ◌+◌, ◌-◌, ◌*◌, ◌/◌, ◌%◌, ◌^◌, ◌<◌, ◌≤◌, nat_le, min, Bool, true, false, cond, List, [], ◌∷◌, ◌++◌, length, get_or, set, filter, inl, inr, arith, mod-lt}
+use Rattle.std.proofs.Common.{◌≡◌, ◌≢◌, ◌⊎◌, refl, sym, ◌∙◌, ap, subst, ℕ, zero, suc, ◌+◌, ◌-◌, ◌*◌, ◌/◌, ◌%◌, ◌<◌, ◌≤◌, min, Bool, false, cond, List, [], ◌∷◌, length, set, filter, inl, inr, arith, mod-lt}
 use Rattle.std.proofs.lemmas.Bool.{cases_Bool, cases_lt}
 use Rattle.std.proofs.lemmas.Bool.Decides.{nat_tests}
 use Rattle.std.proofs.lemmas.List.{get_or-set_same, get_or-set_other, length-set}
 use Rattle.std.proofs.lemmas.Nat.{div-add-mod'}
 use Rattle.std.proofs.lemmas.List.Elements.{All-from_recursion}
 use Rattle.std.specs.List.{All, AllByRecursion}
-use Rattle.ifmap_lemmas.specs.Filters.{all_filter, all_weaker}
+use Rattle.ifmap_lemmas.specs.Filters.{all_filter}
 use Rattle.ifmap_session.specs.Stamps.{IsPower, IsTree, Restamps, at, children_of, doubled, due_nodes, is_due, numbers_from}
 
 -- a number halved so often

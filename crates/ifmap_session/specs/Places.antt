@@ -1,5 +1,5 @@
 -- Where searches by halving end.
-use Rattle.std.specs.Prelude.{◌≡◌, ℕ, ◌≤◌, ◌<◌, Bool, List, find, length, not, Option, None, Some, Result, MatchResult, slice_index_or}
+use Rattle.std.specs.Prelude.{◌≡◌, ℕ, ◌≤◌, ◌<◌, Bool, List, find, length, not, None, Some, Result, MatchResult, slice_index_or}
 use Rattle.std.specs.List.{filter, insert, remove}
 use Rattle.std.specs.List.Sorted.{IsStrictlySortedBy}
 use Rattle.ifmap_session.specs.declared.holders.Holder.{Holder}

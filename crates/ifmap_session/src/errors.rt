@@ -1,6 +1,6 @@
 //! Why no session begins.
-use thiserror::Error;
 use std::alloc::AllocError;
+use thiserror::Error;
 
 /// Why no session begins.
 #[derive(Debug, Drop, Error)]

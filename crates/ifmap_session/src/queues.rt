@@ -60,8 +60,14 @@ impl Kept {
         limit: u32,
         last: Moment,
     ) -> Kept
-        ensures { result.session ≡ record { serial = serial; id = id; client = client; limit = limit;
-            last = last; queue = [] } }
+        ensures { result.session ≡ record {
+          serial = serial;
+          id = id;
+          client = client;
+          limit = limit;
+          last = last;
+          queue = [];
+        } }
     {
         Kept {
             serial,
@@ -190,7 +196,10 @@ fn is_named(item: &PollItem, name: &Text) -> bool
         PollItem::Update { name: own, .. } => own == name,
         PollItem::Delete { name: own, .. } => own == name,
         PollItem::Notify { name: own, .. } => own == name,
-        PollItem::Error { name: Some(own), .. } => own == name,
+        PollItem::Error {
+            name: Some(own),
+            ..
+        } => own == name,
         PollItem::Error { name: None, .. } => false,
     }
 }

@@ -119,11 +119,18 @@ impl Sessions {
         moment: Moment,
     ) -> Result<Begun, BeginError>
         requires none { session_of_client client.now self.old.live ≡ None }
-        ensures begun { IfOk result (λ begun. begun ≡ record { serial = self.old.counter + 1;
-            id = session_id (self.old.counter + 1) random }) }
+        ensures begun { IfOk result (λ begun. begun ≡ record {
+          serial = self.old.counter + 1;
+          id = session_id (self.old.counter + 1) random;
+        }) }
         ensures live { OnOk result (self.new.live ≡ self.old.live ++ record {
-            serial = self.old.counter + 1; id = session_id (self.old.counter + 1) random;
-            client = client.now; limit = limit; last = moment; queue = [] } ∷ []) }
+          serial = self.old.counter + 1;
+          id = session_id (self.old.counter + 1) random;
+          client = client.now;
+          limit = limit;
+          last = moment;
+          queue = [];
+        } ∷ []) }
         ensures counter { OnOk result (self.new.counter ≡ self.old.counter + 1) }
         ensures others { (n : ℕ) → n ≢ self.old.counter + 1
             → spare_of n self.new.spare ≡ spare_of n self.old.spare }
@@ -248,12 +255,7 @@ impl Sessions {
 
     /// The serials of the sessions that are expired at that moment: whose last request lies at least
     /// `ttl` seconds before it.
-    pub fn expired(
-        &self,
-        alloc: Global,
-        moment: Moment,
-        ttl: u32,
-    ) -> Result<Many<u64>, NoMemory>
+    pub fn expired(&self, alloc: Global, moment: Moment, ttl: u32) -> Result<Many<u64>, NoMemory>
         ensures { IfOk result (λ serials. serials ≡ expired_serials moment ttl self.now.live) }
     {
         match moment.seconds().checked_sub(ttl as u64) {

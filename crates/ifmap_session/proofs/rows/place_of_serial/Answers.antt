@@ -1,6 +1,5 @@
-use Rattle.std.proofs.Common.{rules, ◌≡◌, sym, ◌∙◌, subst}
+use Rattle.std.proofs.Common.{rules, ◌≡◌, sym, ◌∙◌}
 use Rattle.std.proofs.lemmas.List.Sorted.{answers_always}
-use Rattle.ifmap_session.specs.Kept.{IsRowOf}
 use Rattle.ifmap_session.proofs.PlaceLaws.{nowhere, row_empty, row_there}
 use Rattle.ifmap_session.proofs.rows.place_of_serial.Goals as goal
 

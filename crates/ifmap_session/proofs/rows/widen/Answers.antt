@@ -1,4 +1,4 @@
-use Rattle.std.proofs.Common.{◌≡◌, ◌≤◌, ◌<◌, inr, arith}
+use Rattle.std.proofs.Common.{inr, arith}
 use Rattle.ifmap_session.proofs.RowLaws.{few_rows}
 use Rattle.ifmap_session.proofs.rows.widen.Goals as goal
 

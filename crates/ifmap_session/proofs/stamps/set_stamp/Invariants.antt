@@ -1,4 +1,3 @@
-use Rattle.std.proofs.Common.{ℕ}
 use Rattle.ifmap_session.proofs.Trees.{Walks}
 use Rattle.ifmap_session.proofs.stamps.set_stamp.Given as goal
 

@@ -1,6 +1,3 @@
-use Rattle.std.proofs.Common.{rules, ◌≡◌}
-use Rattle.std.specs.List.{filter, sum_by}
-use Rattle.ifmap_session.specs.Seats.{counted_size}
 use Rattle.ifmap_session.specs.Sessions.{is_named}
 use Rattle.ifmap_session.proofs.QueueLaws.{named_within, rest_size}
 use Rattle.ifmap_session.proofs.queues.Kept.drop_name.Goals as goal

@@ -1,4 +1,4 @@
-use Rattle.std.proofs.Common.{◌≡◌, ◌∙◌, ap, ◌-◌, ◌^◌, min}
+use Rattle.std.proofs.Common.{◌∙◌, ap, ◌-◌, ◌^◌, min}
 use Rattle.ifmap_session.proofs.QueueLaws.{counted_whole}
 use Rattle.ifmap_session.proofs.queues.Kept.size.Goals as goal
 

@@ -1,4 +1,4 @@
-use Rattle.std.proofs.Common.{◌≡◌, sym, ◌∙◌, ap, ◌+◌, ◌<◌, inl, inr, arith}
+use Rattle.std.proofs.Common.{sym, ◌∙◌, ap, ◌<◌, inl, inr, arith}
 use Rattle.std.proofs.lemmas.Bool.{cases_lt}
 use Rattle.ifmap_session.specs.Kept.{live_of}
 use Rattle.ifmap_session.specs.Stamps.{is_any_due}

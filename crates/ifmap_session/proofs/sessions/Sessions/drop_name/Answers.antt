@@ -1,7 +1,6 @@
-use Rattle.std.proofs.Common.{rules, ◌≡◌, refl, ◌∙◌, sym, ap, subst, ◌+◌, ◌≤◌, length, arith}
+use Rattle.std.proofs.Common.{◌≡◌, refl, ap, ◌≤◌, arith}
 use Rattle.ifmap_session.specs.Sessions.{Session, without_name}
 use Rattle.ifmap_session.proofs.KeptLaws.{moments_same, rewritten}
-use Rattle.ifmap_session.proofs.RowLaws.{found, spare_found}
 use Rattle.ifmap_session.proofs.sessions.Sessions.drop_name.Goals as goal
 
 pub drop_name_at-requires : goal.drop_name_at-requires

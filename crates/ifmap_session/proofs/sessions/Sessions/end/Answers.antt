@@ -1,10 +1,9 @@
-use Rattle.std.proofs.Common.{rules, ◌≡◌, refl, ◌∙◌, sym, ap, subst, ◌≤◌, ◌==◌, not, List, None, arith}
-use Rattle.std.specs.List.{filter}
+use Rattle.std.proofs.Common.{◌∙◌, sym, ap, subst, None}
 use Rattle.ifmap_session.specs.Places.{IsPlaceOf}
 use Rattle.ifmap_session.specs.declared.holders.Holder.{Holder}
 use Rattle.ifmap_session.specs.Kept.{live_of}
 use Rattle.ifmap_session.specs.Seats.{Seat}
-use Rattle.ifmap_session.specs.Sessions.{Session, is_text, session_of_client}
+use Rattle.ifmap_session.specs.Sessions.{is_text, session_of_client}
 use Rattle.ifmap_session.proofs.KeptLaws.{moments_ended, place_within}
 use Rattle.ifmap_session.proofs.RowLaws.{ended, found, spare_other}
 use Rattle.ifmap_session.proofs.SessionLaws.{client_gone, holder_is_there, holders_ended, live_up, place_is_ok, rows_ended, without_one}

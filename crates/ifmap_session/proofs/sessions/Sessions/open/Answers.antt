@@ -1,4 +1,4 @@
-use Rattle.std.proofs.Common.{◌≡◌, None, refl, ◌∙◌, sym, ap, subst, ◌+◌, ◌<◌, ◌≤◌, length, arith}
+use Rattle.std.proofs.Common.{◌≡◌, None, ◌∙◌, sym, ap, subst, ◌+◌, length, arith}
 use Rattle.std.specs.List.{insert}
 use Rattle.std.specs.Result.{IfErr}
 use Rattle.ifmap_session.specs.declared.holders.Holder.{Holder}

@@ -1,16 +1,22 @@
-use Rattle.std.proofs.Common.{rules, ◌≡◌, refl, ◌∙◌, sym, ap, subst, ◌+◌, ◌≤◌, length, arith}
+use Rattle.std.proofs.Common.{◌≡◌, refl, ap, subst, ◌+◌, ◌≤◌, arith}
 use Rattle.ifmap_session.specs.Sessions.{Session, queued}
 use Rattle.ifmap_session.proofs.KeptLaws.{moments_same, rewritten}
-use Rattle.ifmap_session.proofs.RowLaws.{found, spare_found}
+use Rattle.ifmap_session.proofs.RowLaws.{spare_found}
 use Rattle.ifmap_session.proofs.sessions.Sessions.push.Goals as goal
 
 pub push_at-requires : goal.push_at-requires
 push_at-requires c =
     let got = rw c.deref.ensures.value at c.place_in-place.ensures in
     let own = c.self.invariant.sessions.own in
-    let room = rw (← c.self.view_is) at c.requires.room in
-    (c.args.serial, (got.0, got.1, subst (λ m. 1 ≤ m) (spare_found c.args.serial c.self.inside.rows.items c.place_in-place.result got.0
-    own.rising own.own got.1) room))
+    let room = rw (← c.self.view_is) at c.requires.room in (
+      c.args.serial,
+      (
+        got.0,
+        got.1,
+        subst (λ m. 1 ≤ m) (spare_found c.args.serial c.self.inside.rows.items c.place_in-place.result got.0
+            own.rising own.own got.1) room,
+      ),
+    )
 
 pub invariant_of-self : goal.invariant_of-self
 invariant_of-self c =

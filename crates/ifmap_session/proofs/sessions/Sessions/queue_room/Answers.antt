@@ -1,8 +1,7 @@
-use Rattle.std.proofs.Common.{rules, ◌≡◌, refl, ◌∙◌, sym, ap, subst, ◌+◌, ◌≤◌, length, arith}
+use Rattle.std.proofs.Common.{◌≡◌, refl, sym, ap, subst, ◌≤◌, arith}
 use Rattle.std.specs.Result.{OnOk}
 use Rattle.ifmap_session.specs.Sessions.{Session, unchanged}
 use Rattle.ifmap_session.proofs.KeptLaws.{moments_same, rewritten}
-use Rattle.ifmap_session.proofs.RowLaws.{found, spare_found}
 use Rattle.ifmap_session.proofs.sessions.Sessions.queue_room.Goals as goal
 
 pub reserve_at-requires : goal.reserve_at-requires

@@ -10,6 +10,8 @@ returns c = λ s is.
     let own = c.self.invariant.sessions.own in
     let there = found c.args.serial c.self.inside.rows.items got.0 c.unwrap.result.now own.rising own.own got.1 in
     let live = rw (← c.self.view_is) at is in
-    let same : c.unwrap.result.now.session ≡ s = cc (sym there ∙ live) in
-    (c.size.ensures.size ∙ ap (λ (t : Session). min (queue_size t.queue) (2 ^ 64 - 1)) same, c.size.ensures.limit
-    ∙ ap (λ (t : Session). t.limit) same)
+    let same : c.unwrap.result.now.session ≡ s = cc (sym there ∙ live) in (
+      c.size.ensures.size ∙ ap (λ (t : Session). min (queue_size t.queue) (2 ^ 64 - 1)) same,
+      c.size.ensures.limit
+          ∙ ap (λ (t : Session). t.limit) same,
+    )

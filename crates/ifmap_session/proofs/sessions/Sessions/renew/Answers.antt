@@ -1,4 +1,4 @@
-use Rattle.std.proofs.Common.{rules, ◌≡◌, refl, ◌∙◌, sym, ap, subst, ◌+◌, ◌≤◌, length, arith}
+use Rattle.std.proofs.Common.{◌≡◌, refl, ◌∙◌, sym, ap, arith}
 use Rattle.ifmap_session.specs.Sessions.{Session, renewed}
 use Rattle.ifmap_session.proofs.KeptLaws.{moments_set, place_within, rewritten}
 use Rattle.ifmap_session.proofs.RowLaws.{spare_same}

@@ -1,7 +1,6 @@
-use Rattle.std.proofs.Common.{rules, ◌≡◌, refl, ◌∙◌, sym, ap, subst, ◌+◌, ◌≤◌, length, arith}
+use Rattle.std.proofs.Common.{◌≡◌, refl, ◌∙◌, sym, ap, arith}
 use Rattle.ifmap_session.specs.Sessions.{Session, emptied}
 use Rattle.ifmap_session.proofs.KeptLaws.{moments_same, rewritten}
-use Rattle.ifmap_session.proofs.RowLaws.{found, spare_found}
 use Rattle.ifmap_session.proofs.sessions.Sessions.take_all.Goals as goal
 
 pub take_all_at-requires : goal.take_all_at-requires
