@@ -312,6 +312,9 @@ impl Sessions {
         requires live { IsLive serial self.old.live }
         requires room { HasRoomForOne serial self.old }
         ensures changes { Changes serial (overflowed error) self.old self.new }
+        ensures spare { (s : Session) → session_with_serial serial self.old.live ≡ Some s
+            → spare_of serial self.new.spare + 1
+            ≡ spare_of serial self.old.spare + length s.queue }
     {
         let place = place_in(&self.rows, serial);
         overflow_at(&mut self.rows, place, error);
