@@ -1,0 +1,8 @@
+//! What a search finds and what a poll is told, as values with their sizes.
+#![tactic(auto)]
+
+pub mod results;
+pub mod sizes;
+
+pub use results::{Entry, Found, PollItem, SearchError};
+pub use sizes::item_size;
