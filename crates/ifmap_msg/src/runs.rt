@@ -1,5 +1,5 @@
 //! Entries by the item that they are on.
-ghost use Rattle.std.specs.Prelude.{◌≡◌, ◌∷◌, [], map, reverse, IfOk, OnOk};
+ghost use Rattle.std.specs.Prelude.{◌≡◌, ◌∷◌, ◌++◌, [], map, reverse, IfOk, OnOk};
 ghost use Rattle.ifmap_ident.specs.Identifiers.{identifier_element};
 ghost use Rattle.ifmap_ident.specs.Items.{identifiers_of, same_item};
 ghost use Rattle.ifmap_msg.specs.Replies.{as_children, item_element};
@@ -63,12 +63,20 @@ impl Run {
         ensures { IfOk result (λ element. element ≡ item_element self) }
     {
         let Run { item, backwards } = self;
-        let found = forward_children(alloc, backwards)?;
-        let metadata = Element::bare(alloc, "metadata", Vec::new(alloc), found)?;
-        let mut children = identifiers_in(alloc, &item)?;
-        children.push(Child::Element(metadata))?;
-        Element::bare(alloc, "resultItem", Vec::new(alloc), children)
+        result_item(alloc, &item, backwards)
     }
+}
+
+// The `resultItem` of an item, with these elements in the other order.
+fn result_item(alloc: Global, item: &Item, backwards: Vec<Element>) -> Result<Element, NoMemory>
+    ensures { IfOk result (λ element. element
+        ≡ item_element (item.now, reverse backwards.items)) }
+{
+    let found = forward_children(alloc, backwards)?;
+    let metadata = Element::bare(alloc, "metadata", Vec::new(alloc), found)?;
+    let mut children = identifiers_in(alloc, item)?;
+    children.push(Child::Element(metadata))?;
+    Element::bare(alloc, "resultItem", Vec::new(alloc), children)
 }
 
 /// The runs of consecutive entries on one item, of which the last comes first.
@@ -87,16 +95,47 @@ pub fn runs_of(alloc: Global, entries: Vec<Entry>) -> Result<Vec<Run>, NoMemory>
 fn take_in(alloc: Global, runs: &mut Vec<Run>, entry: Entry) -> Result<(), NoMemory>
     ensures { OnOk result (reverse runs.new.items ≡ before entry (reverse runs.old.items)) }
 {
-    let Some(run) = runs.pop() else {
-        runs.push(Run::new(alloc, entry)?)?;
-        return Ok(());
-    };
-    if run.is_on(&entry.item) {
-        runs.push(run.with(entry.element)?)?;
-        return Ok(());
+    match runs.pop() {
+        Some(run) => take_in_before(alloc, runs, run, entry),
+        None => begin_run(alloc, runs, entry),
     }
+}
+
+// Puts an entry before a run and those after it.
+fn take_in_before(
+    alloc: Global,
+    runs: &mut Vec<Run>,
+    run: Run,
+    entry: Entry,
+) -> Result<(), NoMemory>
+    ensures { OnOk result (reverse runs.new.items
+        ≡ before entry (run ∷ reverse runs.old.items)) }
+{
+    if run.is_on(&entry.item) {
+        lengthen_run(runs, run, entry)
+    } else {
+        runs.push(run)?;
+        begin_run(alloc, runs, entry)
+    }
+}
+
+// Puts back a run with the element of one entry more.
+fn lengthen_run(runs: &mut Vec<Run>, run: Run, entry: Entry) -> Result<(), NoMemory>
+    ensures { OnOk result (runs.new.items
+        ≡ runs.old.items ++ (run.0, entry.element ∷ run.1) ∷ []) }
+{
+    let longer = run.with(entry.element)?;
+    runs.push(longer)?;
+    Ok(())
+}
+
+// Begins a run with an entry.
+fn begin_run(alloc: Global, runs: &mut Vec<Run>, entry: Entry) -> Result<(), NoMemory>
+    ensures { OnOk result (runs.new.items
+        ≡ runs.old.items ++ (entry.item, entry.element ∷ []) ∷ []) }
+{
+    let run = Run::new(alloc, entry)?;
     runs.push(run)?;
-    runs.push(Run::new(alloc, entry)?)?;
     Ok(())
 }
 
