@@ -46,12 +46,14 @@ fn show_posts(alloc: Global, wire: Wire<MemoryLink>) -> Result<String, AllocErro
     let mut wire = wire;
     let mut shown = String::new(alloc);
     for _ in 0..MOST_POSTS {
-        let got = wire.read_post(alloc);
-        shown.push_str(show_post(alloc, &got)?.as_str())?;
-        if !matches!(got, Got::Posted(_)) {
+        if wire.is_spent() {
             break;
         }
-        shown.push_str("; ")?;
+        let got = wire.read_post(alloc);
+        shown.push_str(show_post(alloc, &got)?.as_str())?;
+        if matches!(got, Got::Posted(_)) {
+            shown.push_str("; ")?;
+        }
     }
     Ok(shown)
 }
