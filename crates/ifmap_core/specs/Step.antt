@@ -83,13 +83,17 @@ publish state ops s = (
   the_answer.Reply the_reply.Published,
 )
 
--- what a search is answered: refused where the size of what it finds is greater than its limit
+-- what is answered for the attachments found: their entries, or a refusal where their size is greater than the limit
+abbrev pub answer_of : ℕ → List Attachment → Answer
+answer_of limit found =
+    let size = size_of found in
+    if nat_lt limit size
+    then refusal_with SearchResultsTooBig (limit_note size limit)
+    else the_answer.Reply (the_reply.Found (map entry_of found))
+
+-- what a search is answered
 abbrev pub search_answer : List Attachment → Search → Answer
-search_answer graph search =
-    let size = size_of (found_attachments graph search) in
-    if nat_lt search.max_size size
-    then refusal_with SearchResultsTooBig (limit_note size search.max_size)
-    else the_answer.Reply (the_reply.Found (fresh graph search))
+search_answer graph search = answer_of search.max_size (found_attachments graph search)
 
 -- the case of each request
 abbrev pub step_ask : State → Event → Ask → State × Answer

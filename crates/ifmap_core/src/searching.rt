@@ -1,7 +1,7 @@
 //! What a search is answered.
 ghost use Rattle.std.specs.Prelude.{◌≡◌, ◌<◌, ◌^◌, IfOk, map};
 ghost use Rattle.ifmap_core.specs.Fresh.{entry_of, limit_note, size_of};
-ghost use Rattle.ifmap_core.specs.Step.{search_answer};
+ghost use Rattle.ifmap_core.specs.Step.{answer_of, search_answer};
 
 use crate::events::Answer;
 use ifmap_elem::{Copied, Many, Text};
@@ -15,10 +15,16 @@ pub fn search_answer(alloc: Global, graph: &Graph, search: &Search) -> Result<An
     ensures { IfOk result (λ answer. answer ≡ search_answer graph.now.attachments search.now) }
 {
     let start = Item::One(search.start.copy(alloc)?);
-    let attachments = graph.attachments_on(&start);
+    answer_of(alloc, search.max_size, graph.attachments_on(&start))
+}
+
+// The result, or the refusal where its size is greater than the limit.
+fn answer_of(alloc: Global, limit: u64, attachments: &[KeptAttachment]) -> Result<Answer, NoMemory>
+    ensures { IfOk result (λ answer. answer ≡ answer_of limit attachments.now) }
+{
     let size = size_of(attachments)?;
-    if search.max_size < size {
-        let note = limit_note(alloc, size, search.max_size)?;
+    if limit < size {
+        let note = limit_note(alloc, size, limit)?;
         return Ok(Answer::Reply(Reply::Error {
             code: Code::SearchResultsTooBig,
             note,
