@@ -1,5 +1,5 @@
 -- What a search finds.
-use Rattle.std.specs.Prelude.{ℕ, Bool, false, List, ◌++◌, codes, filter, map, sum_by}
+use Rattle.std.specs.Prelude.{ℕ, Bool, false, List, ◌++◌, codes, filter, sum_by}
 use Rattle.std.specs.Fmt.{decimal}
 use Rattle.ifmap_graph.specs.declared.attachments.Attachment.{Attachment}
 use Rattle.ifmap_graph.specs.Attachments.{entry_size}
@@ -26,10 +26,6 @@ found_attachments graph search = filter (λ (a : Attachment). is_found_on search
 -- an attachment in a result: its item and the stored element
 abbrev pub entry_of : Attachment → Entry
 entry_of a = record { item = a.item; element = a.stored.element }
-
--- the result of a search
-abbrev pub fresh : List Attachment → Search → List Entry
-fresh graph search = map entry_of (found_attachments graph search)
 
 -- the size of a result: the canonical bytes of identifiers and elements, without the tags around them
 abbrev pub size_of : List Attachment → ℕ

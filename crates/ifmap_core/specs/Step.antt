@@ -1,5 +1,5 @@
 -- What the machine answers to an event, and the state after it.
-use Rattle.std.specs.Prelude.{ℕ, ◌+◌, ◌-◌, ◌^◌, ◌==◌, ◌&&◌, ◌||◌, nat_le, nat_lt, Bool, List, [], ◌∷◌, ◌++◌, length, Option, None, Some, is_none, if◌then◌else◌}
+use Rattle.std.specs.Prelude.{ℕ, ◌+◌, ◌-◌, ◌^◌, ◌==◌, ◌&&◌, ◌||◌, nat_le, nat_lt, Bool, List, [], ◌∷◌, ◌++◌, length, map, Option, None, Some, is_none, if◌then◌else◌}
 use Rattle.ifmap_core.specs.declared.events.Answer.{Answer}
 use Rattle.ifmap_core.specs.declared.events.Answer.TheVariants as the_answer
 use Rattle.ifmap_core.specs.declared.events.Ask.{Ask}
@@ -7,7 +7,7 @@ use Rattle.ifmap_core.specs.declared.events.Ask.TheVariants.{Request}
 use Rattle.ifmap_core.specs.Events.{Event}
 use Rattle.ifmap_core.specs.declared.sessions.Session.{Session}
 use Rattle.ifmap_core.specs.Apply.{apply}
-use Rattle.ifmap_core.specs.Fresh.{found_attachments, fresh, limit_note, size_of}
+use Rattle.ifmap_core.specs.Fresh.{entry_of, found_attachments, limit_note, size_of}
 use Rattle.ifmap_core.specs.Retract.{retract_sessions}
 use Rattle.ifmap_core.specs.SessionIds.{session_id}
 use Rattle.ifmap_core.specs.State.{State, advance, is_text, session_of_client, session_with_id, without_sessions}
