@@ -4,7 +4,7 @@ ghost use Rattle.std.specs.Prelude.{None};
 
 use crate::{show_answer, show_post};
 use ifmap_elem::Text;
-use ifmap_http::{Answered, Got, Sent, Wire};
+use ifmap_http::{Sent, Wire};
 use ifmap_io::{Door, Failed, Link, MemoryLink, Sink, Source, TcpDoor, TcpLink};
 use ifmap_meta::ClientName;
 use std::alloc::{AllocError, Global};
@@ -335,6 +335,31 @@ fn a_post_is_sent_as_it_is_read(rt: HostRuntime) -> Result<(), Fail> {
     Ok(())
 }
 
+// A post that the client sends is read and answered by the server, whose link then ends.
+fn serve_post(
+    alloc: Global,
+    client: &mut Wire<TcpLink>,
+    server: Wire<TcpLink>,
+) -> Result<String, AllocError> {
+    let mut server = server;
+    if send_ask(alloc, client)? != Sent::Done {
+        return String::from_str(alloc, "not sent");
+    }
+    let got = server.read_post(alloc);
+    if server.write_answer(alloc, 200, b"told", true) != Sent::Done {
+        return String::from_str(alloc, "not answered");
+    }
+    show_post(alloc, &got)
+}
+
+fn send_ask(alloc: Global, client: &mut Wire<TcpLink>) -> Result<Sent, AllocError> {
+    let Some(name) = client_of(alloc)? else {
+        return Ok(Sent::NoMemory);
+    };
+    let host = Text(String::from_str(alloc, "localhost")?);
+    Ok(client.send_post(alloc, &host, &name, b"ask"))
+}
+
 #[test]
 fn an_exchange_goes_over_sockets(rt: HostRuntime) -> Result<(), Fail> {
     let alloc = rt.alloc();
@@ -344,20 +369,13 @@ fn an_exchange_goes_over_sockets(rt: HostRuntime) -> Result<(), Fail> {
         panic!(rt; "no link");
     };
     let mut client = Wire::new(alloc, near);
-    let mut server = Wire::new(alloc, far);
-    let name = client_of(alloc)?.ok_or("a name")?;
-    let host = Text(String::from_str(alloc, "localhost")?);
-    assert_eq!(rt; client.send_post(alloc, &host, &name, b"ask"), Sent::Done);
-    let got = server.read_post(alloc);
-    assert_eq!(rt; show_post(alloc, &got)?.as_str(), "Posted c1 stays 61736b");
-    assert_eq!(rt; server.write_answer(alloc, 200, b"told", true), Sent::Done);
-    let answered = client.read_answer(alloc);
-    assert_eq!(rt; show_answer(alloc, &answered)?.as_str(), "Body 746f6c64");
-    drop(server);
-    assert!(rt; matches!(answered, Answered::Body(_)) && matches!(got, Got::Posted(_)));
-    assert_eq!(rt;
-        show_answer(alloc, &client.read_answer(alloc))?.as_str(),
-        "Ended"
-    );
+    let posted = serve_post(alloc, &mut client, Wire::new(alloc, far))?;
+    assert_eq!(rt; posted.as_str(), "Posted c1 stays 61736b");
+    for shown in ["Body 746f6c64", "Ended"] {
+        assert_eq!(rt;
+            show_answer(alloc, &client.read_answer(alloc))?.as_str(),
+            shown
+        );
+    }
     Ok(())
 }
