@@ -1,6 +1,6 @@
 //! What no clause says: limits, chunks, failing calls in mid-stream, printed messages, and an exchange
 //! over sockets.
-ghost use Rattle.std.specs.Prelude.{None};
+ghost use Rattle.std.specs.Prelude.{IfOk, IsFalse, None};
 
 use crate::{show_answer, show_post};
 use ifmap_elem::Text;
@@ -67,7 +67,9 @@ fn link_of(alloc: Global, left: &[u8], fails: &[u64]) -> Result<MemoryLink, Allo
     Ok(MemoryLink::new(left.to_vec(alloc)?, Vec::new(alloc), fails.to_vec(alloc)?))
 }
 
-fn wire_of(alloc: Global, left: &[u8], fails: &[u64]) -> Result<Wire<MemoryLink>, AllocError> {
+fn wire_of(alloc: Global, left: &[u8], fails: &[u64]) -> Result<Wire<MemoryLink>, AllocError>
+    ensures { IfOk result (λ wire. IsFalse wire.spent) }
+{
     Ok(Wire::new(alloc, link_of(alloc, left, fails)?))
 }
 
@@ -76,7 +78,9 @@ fn post_in(alloc: Global, left: &[u8], fails: &[u64]) -> Result<String, AllocErr
     show_post(alloc, &wire_of(alloc, left, fails)?.read_post(alloc))
 }
 
-fn drip_of(alloc: Global, left: &[u8], fails: &[u64]) -> Result<Wire<Drip>, AllocError> {
+fn drip_of(alloc: Global, left: &[u8], fails: &[u64]) -> Result<Wire<Drip>, AllocError>
+    ensures { IfOk result (λ wire. IsFalse wire.spent) }
+{
     let link = link_of(alloc, left, fails)?;
     Ok(Wire::new(alloc, Drip { link }))
 }
@@ -84,6 +88,25 @@ fn drip_of(alloc: Global, left: &[u8], fails: &[u64]) -> Result<Wire<Drip>, Allo
 // The same over a link that reads a byte at a time.
 fn drip_in(alloc: Global, left: &[u8], fails: &[u64]) -> Result<String, AllocError> {
     show_post(alloc, &drip_of(alloc, left, fails)?.read_post(alloc))
+}
+
+fn drip_answer_in(alloc: Global, left: &[u8], fails: &[u64]) -> Result<String, AllocError> {
+    show_answer(alloc, &drip_of(alloc, left, fails)?.read_answer(alloc))
+}
+
+// The post that comes next, where the wire can give one.
+fn next_post<L: Link>(alloc: Global, wire: &mut Wire<L>) -> Result<String, AllocError> {
+    if wire.is_spent() {
+        return String::from_str(alloc, "spent");
+    }
+    show_post(alloc, &wire.read_post(alloc))
+}
+
+fn next_answer<L: Link>(alloc: Global, wire: &mut Wire<L>) -> Result<String, AllocError> {
+    if wire.is_spent() {
+        return String::from_str(alloc, "spent");
+    }
+    show_answer(alloc, &wire.read_answer(alloc))
 }
 
 fn answer_in(alloc: Global, left: &[u8], fails: &[u64]) -> Result<String, AllocError> {
@@ -163,8 +186,8 @@ fn two_posts_come_in_one_read(rt: HostRuntime) -> Result<(), Fail> {
     let mut two = POST.to_vec(alloc)?;
     two.extend_from_slice(POST)?;
     let mut wire = wire_of(alloc, &two, &[1])?;
-    for shown in [POSTED, POSTED, "ReadFault"] {
-        assert_eq!(rt; show_post(alloc, &wire.read_post(alloc))?.as_str(), shown);
+    for shown in [POSTED, POSTED, "ReadFault", "spent"] {
+        assert_eq!(rt; next_post(alloc, &mut wire)?.as_str(), shown);
     }
     Ok(())
 }
@@ -186,7 +209,7 @@ fn head_of(alloc: Global, size: usize, fields: usize) -> Result<Vec<u8>, AllocEr
         head.extend_from_slice(b"a:\r\n")?;
     }
     head.extend_from_slice(b"b:")?;
-    while head.len() < size.saturating_sub(4) {
+    for _ in head.len()..size.saturating_sub(4) {
         head.push(b'x')?;
     }
     head.extend_from_slice(b"\r\n\r\n")?;
@@ -255,11 +278,13 @@ fn each_read_that_fails_is_told(rt: HostRuntime) -> Result<(), Fail> {
         assert_eq!(rt; drip_in(alloc, POST, &[at as u64])?.as_str(), "ReadFault");
     }
     for (at, _) in ANSWER.iter().enumerate() {
-        let answered = drip_of(alloc, ANSWER, &[at as u64])?.read_answer(alloc);
-        assert_eq!(rt; show_answer(alloc, &answered)?.as_str(), "ReadFault");
+        assert_eq!(rt;
+            drip_answer_in(alloc, ANSWER, &[at as u64])?.as_str(),
+            "ReadFault"
+        );
     }
-    let answered = drip_of(alloc, ANSWER, &[ANSWER.len() as u64])?.read_answer(alloc);
-    assert_eq!(rt; show_answer(alloc, &answered)?.as_str(), "Body 6f6b");
+    let shown = drip_answer_in(alloc, ANSWER, &[ANSWER.len() as u64])?;
+    assert_eq!(rt; shown.as_str(), "Body 6f6b");
     Ok(())
 }
 
@@ -345,11 +370,12 @@ fn serve_post(
     if send_ask(alloc, client)? != Sent::Done {
         return String::from_str(alloc, "not sent");
     }
-    let got = server.read_post(alloc);
-    if server.write_answer(alloc, 200, b"told", true) != Sent::Done {
-        return String::from_str(alloc, "not answered");
+    let shown = next_post(alloc, &mut server)?;
+    if server.write_answer(alloc, 200, b"told", true) == Sent::Done {
+        Ok(shown)
+    } else {
+        String::from_str(alloc, "not answered")
     }
-    show_post(alloc, &got)
 }
 
 fn send_ask(alloc: Global, client: &mut Wire<TcpLink>) -> Result<Sent, AllocError> {
