@@ -235,6 +235,11 @@ fn heads_stand_within_their_limits(rt: HostRuntime) -> Result<(), Fail> {
     Ok(())
 }
 
+fn start_of(bytes: &[u8], size: usize) -> &[u8] {
+    let size = size.min(bytes.len());
+    &bytes[..size]
+}
+
 #[test]
 fn a_head_that_is_cut_at_a_limit_is_truncated_before_it(rt: HostRuntime) -> Result<(), Fail> {
     let alloc = rt.alloc();
@@ -243,12 +248,12 @@ fn a_head_that_is_cut_at_a_limit_is_truncated_before_it(rt: HostRuntime) -> Resu
     let mut blank = b"".to_vec(alloc)?;
     blank.resize(16_385, b'\n')?;
     let rows: [(&[u8], &str); 6] = [
-        (&blank[..16_384], "Truncated"),
+        (start_of(&blank, 16_384), "Truncated"),
         (&blank, "Status 400"),
-        (&long[..16_384], "Truncated"),
-        (&long[..16_385], "Status 400"),
-        (&wide[..397], "Truncated"),
-        (&wide[..398], "Status 400"),
+        (start_of(&long, 16_384), "Truncated"),
+        (start_of(&long, 16_385), "Status 400"),
+        (start_of(&wide, 397), "Truncated"),
+        (start_of(&wide, 398), "Status 400"),
     ];
     for (bytes, shown) in rows {
         assert_eq!(rt; post_in(alloc, bytes, &[])?.as_str(), shown);
@@ -397,11 +402,8 @@ fn an_exchange_goes_over_sockets(rt: HostRuntime) -> Result<(), Fail> {
     let mut client = Wire::new(alloc, near);
     let posted = serve_post(alloc, &mut client, Wire::new(alloc, far))?;
     assert_eq!(rt; posted.as_str(), "Posted c1 stays 61736b");
-    for shown in ["Body 746f6c64", "Ended"] {
-        assert_eq!(rt;
-            show_answer(alloc, &client.read_answer(alloc))?.as_str(),
-            shown
-        );
+    for shown in ["Body 746f6c64", "Ended", "spent"] {
+        assert_eq!(rt; next_answer(alloc, &mut client)?.as_str(), shown);
     }
     Ok(())
 }
