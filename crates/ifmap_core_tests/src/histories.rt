@@ -170,27 +170,52 @@ fn expect_history_from<L: Ledger>(
     requires parts { blank.parts ≡ L.parts }
     requires some { 0 < blank.parts }
 {
-    let alloc = rt.alloc();
     let mut steps: Steps<L> = Steps::from_blank(blank);
-    let mut core = Core::new(alloc, 180);
+    let mut core = Core::new(rt.alloc(), 180);
     for i in 0..crowd {
-        let mut event = event_of(rt, &(1_000_000_000, "c", 0, Asks::New, ""))?;
-        let name = format!(in alloc; "c{i}")?;
-        event.client = ClientName::new(Text(name)).expect(rt, "a name");
-        let answer = core.step(alloc, &event, &mut steps)?;
-        let words = words_of(alloc, &answer)?;
-        assert!(rt;
-            words.ends_with(event.client.text().0.as_str()),
-            "at {i}: {words}"
-        );
+        assert!(rt; is_begun(rt, &mut core, i, &mut steps)?, "at {i}");
     }
     for turn in turns {
-        let event = event_of(rt, turn)?;
-        let answer = core.step(alloc, &event, &mut steps)?;
-        let words = words_of(alloc, &answer)?;
+        let words = take_turn(rt, &mut core, turn, &mut steps)?;
         assert_eq!(rt; words.as_str(), turn.4, "at {}", turn.2);
     }
     Ok(())
+}
+
+// Whether the client of that number in the crowd gets a session of its own.
+fn is_begun<L: Ledger>(
+    rt: &(impl Abort + AllocGlobal),
+    core: &mut Core,
+    number: u64,
+    steps: &mut Steps<L>,
+) -> Result<bool, Fail> {
+    let alloc = rt.alloc();
+    let mut event = event_of(rt, &(1_000_000_000, "c", 0, Asks::New, ""))?;
+    let name = format!(in alloc; "c{number}")?;
+    event.client = ClientName::new(Text(name)).expect(rt, "a name");
+    let words = words_after(alloc, core, &event, steps)?;
+    Ok(words.ends_with(event.client.text().0.as_str()))
+}
+
+fn take_turn<L: Ledger>(
+    rt: &(impl Abort + AllocGlobal),
+    core: &mut Core,
+    turn: &Turn,
+    steps: &mut Steps<L>,
+) -> Result<String, Fail> {
+    let event = event_of(rt, turn)?;
+    words_after(rt.alloc(), core, &event, steps)
+}
+
+// What the machine answers to the event, in words.
+fn words_after<L: Ledger>(
+    alloc: Global,
+    core: &mut Core,
+    event: &Event,
+    steps: &mut Steps<L>,
+) -> Result<String, Fail> {
+    let answer = core.step(alloc, event, steps)?;
+    words_of(alloc, &answer)
 }
 
 #[test]

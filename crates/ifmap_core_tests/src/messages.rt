@@ -66,30 +66,43 @@ fn replies_are_written_as_in_the_standard(rt: HostRuntime) -> Result<(), Fail> {
     )
 }
 
+// Where an entry stands, by the last bytes of its addresses, and the name of its role.
+type Row = (u8, Option<u8>, &'static str);
+
+fn item_of(alloc: Global, row: Row) -> Item {
+    let first = mac_address(alloc, row.0);
+    match row.1 {
+        None => Item::One(first),
+        Some(second) => Item::Pair(first, mac_address(alloc, second)),
+    }
+}
+
+fn entries_of(alloc: Global, rows: &[Row]) -> Result<Many<Entry>, Fail> {
+    let mut entries = Vec::new(alloc);
+    for row in rows {
+        entries.push(entry(alloc, item_of(alloc, *row), row.2)?)?;
+    }
+    Ok(Many(entries))
+}
+
 #[test]
 fn entries_on_one_item_stand_together(rt: HostRuntime) -> Result<(), Fail> {
-    let alloc = rt.alloc();
-    let entries = vec![in alloc;
-        entry(alloc, Item::One(mac_address(alloc, 1)), "r")?,
-        entry(alloc, Item::One(mac_address(alloc, 1)), "s")?,
-        entry(
-            alloc,
-            Item::Pair(mac_address(alloc, 1), mac_address(alloc, 2)),
-            "t"
-        )?,
-        entry(alloc, Item::One(mac_address(alloc, 1)), "u")?,
-    ]?;
+    let rows = [
+        (1, None, "r"),
+        (1, None, "s"),
+        (1, Some(2), "t"),
+        (1, None, "u"),
+    ];
+    let entries = entries_of(rt.alloc(), &rows)?;
     expect_reply(
         &rt,
-        Reply::Found(Many(entries)),
+        Reply::Found(entries),
         METADATA_START,
         "<searchResult><resultItem><mac-address value=\"00:00:5e:00:53:01\"/><metadata><n3:role><name>r</name></n3:role><n3:role><name>s</name></n3:role></metadata></resultItem><resultItem><mac-address value=\"00:00:5e:00:53:01\"/><mac-address value=\"00:00:5e:00:53:02\"/><metadata><n3:role><name>t</name></n3:role></metadata></resultItem><resultItem><mac-address value=\"00:00:5e:00:53:01\"/><metadata><n3:role><name>u</name></n3:role></metadata></resultItem></searchResult>",
     )
 }
 
-#[test]
-fn requests_are_copied(rt: HostRuntime) -> Result<(), Fail> {
-    let alloc = rt.alloc();
+fn publish(alloc: Global) -> Result<Request, Fail> {
     let element = Element {
         name: Name::new(alloc, "m", "role")?,
         attributes: Many(Vec::new(alloc)),
@@ -99,30 +112,55 @@ fn requests_are_copied(rt: HostRuntime) -> Result<(), Fail> {
         element,
         cardinality: Cardinality::Multi,
     };
+    let elements = Many(vec![in alloc; metadata]?);
+    let session = Text::from_str(alloc, "1-a")?;
     let update = PublishOp::Update {
         item: Item::One(mac_address(alloc, 1)),
-        elements: Many(vec![in alloc; metadata]?),
+        elements,
         forever: true,
     };
-    let publish = Request::Publish {
-        session: Text::from_str(alloc, "1-a")?,
+    Ok(Request::Publish {
+        session,
         ops: Many(vec![in alloc; update]?),
-    };
-    let Request::Publish { session, ops } = publish.copy(alloc)? else {
-        return Err("another request".into());
-    };
-    assert_eq!(rt; session.0.as_str(), "1-a");
-    assert_eq!(rt; ops.0.len(), 1);
-    let search = Request::Search {
+    })
+}
+
+fn search(alloc: Global) -> Result<Request, Fail> {
+    Ok(Request::Search {
         session: Text::from_str(alloc, "1-a")?,
         search: Search {
             start: mac_address(alloc, 1),
             max_size: 7,
         },
+    })
+}
+
+// The session of a request, and how many operations or bytes it names.
+fn words_of(alloc: Global, request: &Request) -> Result<String, Fail> {
+    let words = match request {
+        Request::Publish { session, ops } => format!(in alloc; "{} {}", session.0, ops.0.len())?,
+        Request::Search { session, search } => {
+            format!(in alloc; "{} {}", session.0, search.max_size)?
+        }
+        _ => String::from_str(alloc, "another request")?,
     };
-    let Request::Search { search, .. } = search.copy(alloc)? else {
-        return Err("another request".into());
-    };
-    assert_eq!(rt; search.max_size, 7);
+    Ok(words)
+}
+
+fn words_of_copy(alloc: Global, request: &Request) -> Result<String, Fail> {
+    words_of(alloc, &request.copy(alloc)?)
+}
+
+#[test]
+fn a_publish_is_copied(rt: HostRuntime) -> Result<(), Fail> {
+    let alloc = rt.alloc();
+    assert_eq!(rt; words_of_copy(alloc, &publish(alloc)?)?.as_str(), "1-a 1");
+    Ok(())
+}
+
+#[test]
+fn a_search_is_copied(rt: HostRuntime) -> Result<(), Fail> {
+    let alloc = rt.alloc();
+    assert_eq!(rt; words_of_copy(alloc, &search(alloc)?)?.as_str(), "1-a 7");
     Ok(())
 }
