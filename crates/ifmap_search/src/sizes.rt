@@ -1,0 +1,37 @@
+//! Sizes.
+ghost use Rattle.std.specs.Prelude.{◌≡◌, ◌+◌, ◌-◌, ◌^◌, min};
+ghost use Rattle.ifmap_search.specs.Sizes.{entries_size, entry_size, poll_size};
+
+use crate::results::{Entry, PollItem};
+use ifmap_elem::Many;
+
+/// The size of an item that a poll is told: 100, and the canonical bytes of the identifiers and
+/// elements of its entries; at most 2^64 - 1. It takes no memory.
+pub fn item_size(item: &PollItem) -> u64
+    ensures { result ≡ min (poll_size item.now) (2 ^ 64 - 1) }
+{
+    match item {
+        PollItem::Search { entries, .. } => size_with(entries),
+        PollItem::Update { entries, .. } => size_with(entries),
+        PollItem::Delete { entries, .. } => size_with(entries),
+        PollItem::Notify { entries, .. } => size_with(entries),
+        PollItem::Error { .. } => 100,
+    }
+}
+
+fn size_with(entries: &Many<Entry>) -> u64
+    ensures { result ≡ min (100 + entries_size entries.now) (2 ^ 64 - 1) }
+{
+    let mut size = 100u64;
+    for entry in &entries.0 {
+        size = size.saturating_add(entry_size(entry));
+    }
+    size
+}
+
+#[tactic(auto, unfolding(crate::specs::Sizes::entry_size))]
+fn entry_size(entry: &Entry) -> u64
+    ensures { result ≡ min (entry_size entry.now) (2 ^ 64 - 1) }
+{
+    entry.item.size().saturating_add(entry.element.size())
+}
