@@ -60,8 +60,10 @@ abbrev text_order : List ℕ → List ℕ → Ordering
 text_order v w = slice_cmp nat_cmp (ip_v6_text v) (ip_v6_text w)
 
 -- the groups from the one at i on, which is not the last
-pub groups_from : (i : ℕ) (v w : List ℕ) → i + 1 < length v → i + 1 < length w → ((k : ℕ) → get_or v k 0 < 65536) → ((k : ℕ) → get_or w k 0 < 65536)
-    → text_order (drop i v) (drop i w) ≡ ordering_then (inner_order (get_or v i 0) (get_or w i 0)) (text_order (drop (suc i) v) (drop (suc i) w))
+pub groups_from : (i : ℕ) (v w : List ℕ) → i + 1 < length v → i + 1 < length w → ((k : ℕ) → get_or v k 0 < 65536) → ((k : ℕ)
+    → get_or w k 0 < 65536)
+    → text_order (drop i v) (drop i w) ≡ ordering_then (inner_order (get_or v i 0) (get_or w i 0)) (text_order (drop (suc i) v) (drop
+    (suc i) w))
 groups_from zero [] w h k f g = absurd (omega arith)
 groups_from zero (a ∷ []) w h k f g = absurd (omega arith)
 groups_from zero (a ∷ (b ∷ v)) [] h k f g = absurd (omega arith)
@@ -80,12 +82,15 @@ group_last (suc i) [] h = absurd (omega arith)
 group_last (suc i) (a ∷ v) h = group_last i v (omega arith)
 
 -- one group more, which is not the last
-pub one_group : (i : ℕ) (o : Ordering) (v w : List ℕ) → i < 7 → length v ≡ 8 → length w ≡ 8 → ((k : ℕ) → get_or v k 0 < 65536) → ((k : ℕ) → get_or w k 0 < 65536)
+pub one_group : (i : ℕ) (o : Ordering) (v w : List ℕ) → i < 7 → length v ≡ 8 → length w ≡ 8 → ((k : ℕ) → get_or v k 0 < 65536)
+    → ((k : ℕ) → get_or w k 0 < 65536)
     → text_order v w ≡ ordering_then o (text_order (drop i v) (drop i w))
-    → text_order v w ≡ ordering_then (ordering_then o (inner_order (get_or v i 0) (get_or w i 0))) (text_order (drop (i + 1) v) (drop (i + 1) w))
+    → text_order v w ≡ ordering_then (ordering_then o (inner_order (get_or v i 0) (get_or w i 0))) (text_order (drop (i + 1) v) (drop
+    (i + 1) w))
 one_group i o v w h eight other_eight f g so_far =
     so_far ∙ ap (ordering_then o) (groups_from i v w (omega arith) (omega arith) f g
-    ∙ (λ j. ordering_then (inner_order (get_or v i 0) (get_or w i 0)) (text_order (drop (sym (add-one i) j) v) (drop (sym (add-one i) j) w))))
+    ∙ (λ j. ordering_then (inner_order (get_or v i 0) (get_or w i 0)) (text_order (drop (sym (add-one i) j) v) (drop (sym
+    (add-one i) j) w))))
     ∙ then_then o (inner_order (get_or v i 0) (get_or w i 0)) (text_order (drop (i + 1) v) (drop (i + 1) w))
 
 -- and the last

@@ -19,7 +19,8 @@ module _ (written : ℕ → List ℕ) where
     pub first_written : joined (take 1 xs) ≡ written x
     first_written = rw is refl
 
-    pub next_written : (i : ℕ) → i < length rest → joined (take (i + 1 + 1) xs) ≡ joined (take (i + 1) xs) ++ (58 ∷ written (get_or rest i 0))
+    pub next_written : (i : ℕ) → i < length rest → joined (take (i + 1 + 1) xs) ≡ joined (take (i + 1) xs) ++ (58 ∷ written
+        (get_or rest i 0))
     next_written i h = rw (is, add-one (i + 1), add-one i, take-suc rest i 0 h) (one_more x (get_or rest i 0) (take i rest))
 
     pub all_written : (i : ℕ) → length rest ≤ i → joined (take (i + 1) xs) ≡ joined xs
@@ -30,6 +31,7 @@ pub after_colon : (old text more : List ℕ) → ((old ++ text) ++ (58 ∷ [])) 
 after_colon old text more = simp append_assoc
 
 -- and one more byte of a list
-pub one_byte : (old items : List ℕ) (i : ℕ) → i < length items → (old ++ take i items) ++ (get_or items i 0 ∷ []) ≡ old ++ take (i + 1) items
+pub one_byte : (old items : List ℕ) (i : ℕ) → i < length items
+    → (old ++ take i items) ++ (get_or items i 0 ∷ []) ≡ old ++ take (i + 1) items
 one_byte old items i h =
     append_assoc old (take i items) (get_or items i 0 ∷ []) ∙ ap (λ t. old ++ t) (sym (rw (add-one i) (take-suc items i 0 h)))

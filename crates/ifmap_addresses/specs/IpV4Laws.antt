@@ -30,7 +30,8 @@ ip_v4_tells v w f g e =
 pub dotted_parts : (a b c d : ℕ) → dotted_text a b c d ≡ decimal a ++ (46 ∷ (decimal b ++ (46 ∷ (decimal c ++ (46 ∷ decimal d)))))
 dotted_parts a b c d = simp append_assoc
 
-plain_number : (n : ℕ) (rest : List ℕ) → n < 256 → AllByRecursion IsAddressByte rest → AllByRecursion IsAddressByte (decimal n ++ (46 ∷ rest))
+plain_number : (n : ℕ) (rest : List ℕ) → n < 256 → AllByRecursion IsAddressByte rest
+    → AllByRecursion IsAddressByte (decimal n ++ (46 ∷ rest))
 plain_number n rest h f =
     both_all IsAddressByte (decimal n) (46 ∷ rest) (address_digits (decimal n) (decimal_digits n h)) (inr (inl refl), f)
 

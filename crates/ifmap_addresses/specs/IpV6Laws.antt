@@ -1,4 +1,5 @@
--- Laws of IPv6 addresses: a text is one address, of eight numbers of sixteen bits; the text of a value is that value's address; it is plain.
+-- Laws of IPv6 addresses: a text is one address, of eight numbers of sixteen bits; the text of a value is that value's address; it is
+-- plain.
 use Rattle.std.proofs.Common.{◌≡◌, ℕ, zero, suc, ◌+◌, ◌-◌, ◌^◌, ◌<◌, ◌≤◌, ◌/◌, ◌%◌, Bool, true, false, nat_eq, List, [], ◌∷◌, ◌++◌, length, replicate, inl, inr, refl, ap, subst, sym, ◌∙◌, arith, append-nil, le-leb, lit≤, length-append}
 use Rattle.std.proofs.NetLemmas.Theorems.{IsIpv6Text_unique}
 use Rattle.std.proofs.lemmas.Bool.{cases_lt, lt-leb, or_from}
@@ -102,7 +103,14 @@ group_below text n h =
 
 dotted_below : (text octets : List ℕ) → IsDotted text octets → AllByRecursion (λ n. n < 65536) (segments_of octets)
 dotted_below text octets h =
-    subst (λ o. AllByRecursion (λ n. n < 65536) (segments_of o)) (sym h.value) (omega (arith, h.fit.0, h.fit.1), (omega (arith, h.fit.2, h.fit.3), tt))
+    subst (λ o. AllByRecursion (λ n. n < 65536) (segments_of o)) (sym h.value) (
+      omega (arith, h.fit.0, h.fit.1),
+      (
+        omega
+            (arith, h.fit.2, h.fit.3),
+        tt,
+      ),
+    )
 
 groups_below : (ipv4 : Bool) (lead text xs : List ℕ) → IsGroupsAfter ipv4 lead text xs → AllByRecursion (λ n. n < 65536) xs
 groups_below ipv4 lead text [] h = tt
@@ -120,7 +128,8 @@ ip_v6_fits text value (inr h, none) = record {
   number = ap length h.value ∙ elided_length h.head h.tail h.room;
   below = subst (AllByRecursion (λ n. n < 65536)) (sym h.value)
       (both_all (λ n. n < 65536) (h.head ++ replicate (8 - length h.head - length h.tail) 0) h.tail
-      (both_all (λ n. n < 65536) h.head (replicate (8 - length h.head - length h.tail) 0) (groups_below false [] h.head_text h.head h.head_groups)
+      (both_all (λ n. n < 65536) h.head (replicate (8 - length h.head - length h.tail) 0)
+      (groups_below false [] h.head_text h.head h.head_groups)
       (zeros_below (8 - length h.head - length h.tail))) (groups_below true [] h.tail_text h.tail h.tail_groups));
 }
   where

@@ -1,4 +1,5 @@
--- Laws of MAC addresses: their texts are ordered as they are, so a text is one address; the text of a value is that value's address; it is plain.
+-- Laws of MAC addresses: their texts are ordered as they are, so a text is one address; the text of a value is that value's address; it
+-- is plain.
 use Rattle.std.proofs.Common.{◌≡◌, ℕ, ◌+◌, ◌*◌, ◌/◌, ◌%◌, ◌<◌, List, [], ◌∷◌, ◌++◌, length, refl, ap, sym, ◌∙◌, arith}
 use Rattle.std.proofs.lemmas.Bool.Decides.{nat_tests}
 use Rattle.std.proofs.lemmas.Cmp.{ranked}

@@ -1,3 +1,12 @@
+pub mod CharLaws
+pub mod Continuing
+pub mod Deciding
+pub mod Ending
 pub mod General
 pub mod HoldLaws
+pub mod ParseLaws
+pub mod Reaching
+pub mod StandingLaws
+pub mod Stepping
 pub mod TextLaws
+pub mod TokenLaws

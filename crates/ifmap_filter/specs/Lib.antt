@@ -1,3 +1,10 @@
--- What filters mean, in reading order.
+-- What filters mean and how they are written, in reading order.
 pub mod Holding
 pub mod Meets
+pub mod Tokens
+pub mod Grammar
+pub mod Texts
+pub mod Lexing
+pub mod Laws
+pub mod Progress
+pub mod Reaching

@@ -1,9 +1,18 @@
 //! Filters of searches, subscriptions and deletes: tests of an element's name, its attributes and its
-//! children, joined by `and` and `or`. `matches` tells whether an element meets a filter.
+//! children, joined by `and` and `or`. `parse` reads one from text, and `matches`
+//! tells whether an element meets it.
 #![tactic(auto)]
 
+pub mod errors;
 pub mod filters;
 pub mod holding;
+pub mod laws;
+mod lexing;
 pub mod matching;
+mod naming;
+pub mod parsing;
+mod standing;
+pub mod tokens;
 
+pub use errors::FilterError;
 pub use filters::{Filter, Predicate, Test};

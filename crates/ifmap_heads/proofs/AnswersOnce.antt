@@ -27,7 +27,8 @@ shape_of left not_http (inl is) = none is refl
 shape_of left not_http (inr (head, rest, is, says)) = whole head rest is (rw says refl)
 shape_of left (status number rest) (head, is, says) = whole head rest is (rw says refl)
 shape_of left (answered body rest) (head, is, says) =
-    let enough : nat_lt (length (body ++ rest)) (length body) ≡ false = le-ltb (length (body ++ rest)) (length body) (omega (arith, length-append body rest)) in
+    let enough : nat_lt (length (body ++ rest)) (length body) ≡ false = le-ltb (length (body ++ rest)) (length body)
+    (omega (arith, length-append body rest)) in
     whole head (body ++ rest) is (rw says (rw (enough, take-append_seam body rest, drop-append_seam body rest) refl))
 
 cut_none : (left : List ℕ) → IsCutAnswerHead left → BeginsNoAnswer left → ⊥

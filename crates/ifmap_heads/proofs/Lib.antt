@@ -7,3 +7,6 @@ pub mod PostHeads
 pub mod PostsOnce
 pub mod Targets
 pub mod Values
+pub mod Written
+pub mod WrittenAnswers
+pub mod WrittenPosts

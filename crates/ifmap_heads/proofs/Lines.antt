@@ -69,7 +69,14 @@ lines_of_start blank b word between end fields last other =
     let tail = print_end end ++ print_section fields last in
     rw after_blank
     (rw other
-    (omega (arith, feeds_at_least (b ∷ word) between tail, feeds-append (print_end end) (print_section fields last), feeds_end end, feeds_section fields last)))
+    (omega (
+      arith,
+      feeds_at_least (b ∷ word) between tail,
+      feeds-append (print_end end)
+          (print_section fields last),
+      feeds_end end,
+      feeds_section fields last,
+    )))
 
 no_newline : (b : ℕ) → is_token_byte b ≡ true → (b == 13 || b == 10) ≡ false
 no_newline b token = token_is_no_newline b token
@@ -77,35 +84,44 @@ no_newline b token = token_is_no_newline b token
 cons-append : (x : ℕ) (a b : List ℕ) → (x ∷ a) ++ b ≡ x ∷ (a ++ b)
 cons-append x a b = refl
 
-grouped : (a b c d e f g : List ℕ) → a ++ (b ++ 32 ∷ (c ++ 32 ∷ (d ++ (e ++ (f ++ g))))) ≡ a ++ (b ++ ((32 ∷ (c ++ 32 ∷ d)) ++ (e ++ (f ++ g))))
+grouped : (a b c d e f g : List ℕ) → a ++ (b ++ 32 ∷ (c ++ 32 ∷ (d ++ (e ++ (f ++ g))))) ≡ a ++
+    (b ++ ((32 ∷ (c ++ 32 ∷ d)) ++ (e ++ (f ++ g))))
 grouped a b c d e f g = simp (append_assoc, cons-append)
 
 pub lines_of_request : (h : RequestHead) → IsRequestHead h → length h.fields + 2 ≤ line_count (print_request h)
 lines_of_request h valid =
-    let printed : print_request h ≡ print_blank h.blank ++ (h.method ++ ((32 ∷ (h.target ++ 32 ∷ print_version h.minor)) ++ (print_end h.line_end ++ print_section h.fields h.last))) =
+    let printed : print_request h ≡ print_blank h.blank ++
+    (h.method ++ ((32 ∷ (h.target ++ 32 ∷ print_version h.minor)) ++ (print_end h.line_end ++ print_section h.fields h.last))) =
     sym (append-nil (print_request h)) ∙ print_request-append h []
     ∙ grouped (print_blank h.blank) h.method h.target (print_version h.minor) (print_end h.line_end) (print_section h.fields h.last) []
-    ∙ ap (λ (xs : List ℕ). print_blank h.blank ++ (h.method ++ ((32 ∷ (h.target ++ 32 ∷ print_version h.minor)) ++ (print_end h.line_end ++ xs)))) (append-nil (print_section h.fields h.last)) in
+    ∙ ap (λ (xs : List ℕ). print_blank h.blank ++ (h.method ++ ((32 ∷ (h.target ++ 32 ∷ print_version h.minor)) ++
+    (print_end h.line_end ++ xs)))) (append-nil (print_section h.fields h.last)) in
     rw printed (by_method h.method valid.method)
   where
     by_method : (m : List ℕ) → IsToken m → length h.fields + 2
-        ≤ line_count (print_blank h.blank ++ (m ++ ((32 ∷ (h.target ++ 32 ∷ print_version h.minor)) ++ (print_end h.line_end ++ print_section h.fields h.last))))
+        ≤ line_count (print_blank h.blank ++ (m ++ ((32 ∷ (h.target ++ 32 ∷ print_version h.minor)) ++
+        (print_end h.line_end ++ print_section h.fields h.last))))
     by_method [] token = absurd (omega (arith, token.0))
     by_method (b ∷ word) token =
         lines_of_start h.blank b word (32 ∷ (h.target ++ 32 ∷ print_version h.minor)) h.line_end h.fields h.last
         (no_newline b (All-head (λ v. is_token_byte v ≡ true) b word token.1))
 
-grouped_answer : (a b c d e f g : List ℕ) → a ++ (b ++ 32 ∷ (c ++ (d ++ (e ++ (f ++ g))))) ≡ a ++ (b ++ ((32 ∷ (c ++ d)) ++ (e ++ (f ++ g))))
+grouped_answer : (a b c d e f g : List ℕ) → a ++ (b ++ 32 ∷ (c ++ (d ++ (e ++ (f ++ g))))) ≡ a ++
+    (b ++ ((32 ∷ (c ++ d)) ++ (e ++ (f ++ g))))
 grouped_answer a b c d e f g = simp append_assoc
 
 pub lines_of_response : (h : ResponseHead) → length h.fields + 2 ≤ line_count (print_response h)
 lines_of_response h =
-    let printed : print_response h ≡ print_blank h.blank ++ (print_version h.minor ++ ((32 ∷ (h.digits ++ print_reason h.reason)) ++ (print_end h.line_end ++ print_section h.fields h.last))) =
+    let printed : print_response h ≡ print_blank h.blank ++
+    (print_version h.minor ++ ((32 ∷ (h.digits ++ print_reason h.reason)) ++ (print_end h.line_end ++ print_section h.fields h.last))) =
     sym (append-nil (print_response h)) ∙ print_response-append h []
-    ∙ grouped_answer (print_blank h.blank) (print_version h.minor) h.digits (print_reason h.reason) (print_end h.line_end) (print_section h.fields h.last) []
-    ∙ ap (λ (xs : List ℕ). print_blank h.blank ++ (print_version h.minor ++ ((32 ∷ (h.digits ++ print_reason h.reason)) ++ (print_end h.line_end ++ xs)))) (append-nil (print_section h.fields h.last)) in
+    ∙ grouped_answer (print_blank h.blank) (print_version h.minor) h.digits (print_reason h.reason) (print_end h.line_end)
+    (print_section h.fields h.last) []
+    ∙ ap (λ (xs : List ℕ). print_blank h.blank ++ (print_version h.minor ++ ((32 ∷ (h.digits ++ print_reason h.reason)) ++
+    (print_end h.line_end ++ xs)))) (append-nil (print_section h.fields h.last)) in
     rw printed
-    (lines_of_start h.blank 72 (84 ∷ 84 ∷ 80 ∷ 47 ∷ 49 ∷ 46 ∷ (48 + h.minor) ∷ []) (32 ∷ (h.digits ++ print_reason h.reason)) h.line_end h.fields h.last refl)
+    (lines_of_start h.blank 72 (84 ∷ 84 ∷ 80 ∷ 47 ∷ 49 ∷ 46 ∷ (48 + h.minor) ∷ []) (32 ∷
+    (h.digits ++ print_reason h.reason)) h.line_end h.fields h.last refl)
 
 -- 65 field lines are 66 lines with the start line, whatever comes after
 pub many_lines : (front rest more printed : List ℕ) (fields : ℕ) → front ++ 10 ∷ [] ≡ printed ++ []

@@ -46,7 +46,8 @@ refused_many bytes more overflows (front, rest, cut, h, reads, many) =
     inl (record { none = none_so_small bytes more overflows; passed = inr (inl passed) }, refl)
 
 -- 400 where the bytes so far pass the limit and no head is among them
-pub refused_none : (bytes more : List ℕ) → longest_head < length bytes → HasNoPostHead (bytes ++ more) → ReadsPost (bytes ++ more) (status 400)
+pub refused_none : (bytes more : List ℕ) → longest_head < length bytes → HasNoPostHead (bytes ++ more) → ReadsPost (bytes ++ more)
+    (status 400)
 refused_none bytes more long none =
     let longer : longest_head < length (bytes ++ more) = omega (arith, length-append bytes more) in
     inl (record { none = none; passed = inl longer }, refl)
@@ -126,7 +127,8 @@ unfolding least_head
 least_is_head blank method token = record {
   method = token;
   target = (omega arith, All-cons (λ b. is_uri_byte b ≡ true) 47 [] refl (All-nil (λ b. is_uri_byte b ≡ true)));
-  target_text = IsUtf8-from_ascii (47 ∷ []) (IsAscii-from_all (47 ∷ []) (All-cons (λ b. b < 128) 47 [] (omega arith) (All-nil (λ b. b < 128))));
+  target_text = IsUtf8-from_ascii (47 ∷ [])
+      (IsAscii-from_all (47 ∷ []) (All-cons (λ b. b < 128) 47 [] (omega arith) (All-nil (λ b. b < 128))));
   minor = omega arith;
   fields = All-nil IsField;
 }
@@ -155,7 +157,15 @@ no_target_more bytes more never outside (blank, method, target, token, uri, cut)
     elim (fronts front bytes target more joined) [
       | inl on ↦
           let inner = subst (AllPass is_uri_byte) on.shorter uri in
-          outside (blank, method, on.middle, token, all_front (λ b. is_uri_byte b ≡ true) on.middle more inner, on.longer ∙ append_assoc (print_blank blank ++ method) (32 ∷ []) on.middle)
+          outside (
+            blank,
+            method,
+            on.middle,
+            token,
+            all_front (λ b. is_uri_byte b ≡ true) on.middle more inner,
+            on.longer ∙ append_assoc
+                (print_blank blank ++ method) (32 ∷ []) on.middle,
+          )
       | inr on ↦ never_before_target bytes on.middle blank method never token on.longer
     ]
 
@@ -163,7 +173,11 @@ no_target_more bytes more never outside (blank, method, target, token, uri, cut)
 pub refused_never : (bytes more : List ℕ) → NeverHasRequest bytes → ¬ (EndsInTarget bytes) → ReadsPost (bytes ++ more) (status 400)
 refused_never bytes more never outside =
     inl (
-      record { none = none_ever bytes more never; passed = inr (inr (never_more bytes more never, no_target_more bytes more never outside)) },
+      record {
+        none = none_ever bytes more never;
+        passed = inr (inr
+            (never_more bytes more never, no_target_more bytes more never outside));
+      },
       refl,
     )
 
@@ -174,7 +188,8 @@ letter_is_token = refl
 -- no bytes are not the bytes of no head
 pub nothing_never : NeverHasRequest [] → ⊥
 nothing_never never =
-    let token : IsToken (65 ∷ []) = (omega arith, All-cons (λ b. is_token_byte b ≡ true) 65 [] letter_is_token (All-nil (λ b. is_token_byte b ≡ true))) in
+    let token : IsToken (65 ∷ []) =
+    (omega arith, All-cons (λ b. is_token_byte b ≡ true) 65 [] letter_is_token (All-nil (λ b. is_token_byte b ≡ true))) in
     never (print_request (least_head [] (65 ∷ []))) (least_head [] (65 ∷ [])) []
     (least_is_head [] (65 ∷ []) token, sym (append-nil (print_request (least_head [] (65 ∷ [])))))
 

@@ -28,7 +28,8 @@ shape_of left truncated (some, inr (head, rest, client, size, close, is, says, s
 shape_of left (status number) (inl (is, same)) = none is (ap status same)
 shape_of left (status number) (inr (head, rest, is, says)) = whole head rest is (rw says refl)
 shape_of left (posted client body close rest) (head, is, says) =
-    let enough : nat_lt (length (body ++ rest)) (length body) ≡ false = le-ltb (length (body ++ rest)) (length body) (omega (arith, length-append body rest)) in
+    let enough : nat_lt (length (body ++ rest)) (length body) ≡ false = le-ltb (length (body ++ rest)) (length body)
+    (omega (arith, length-append body rest)) in
     whole head (body ++ rest) is (rw says (rw (enough, take-append_seam body rest, drop-append_seam body rest) refl))
 
 nothing_none : (left : List ℕ) → left ≡ [] → BeginsNoPost left → ⊥

@@ -20,3 +20,7 @@ longest_post = 10000000
 -- the most bytes of an answer's body
 abbrev pub longest_answer : ℕ
 longest_answer = 110000000
+
+-- the most bytes of a host with which a written post's head is surely within its limit
+abbrev pub longest_host : ℕ
+longest_host = 16000

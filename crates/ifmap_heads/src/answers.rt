@@ -6,7 +6,9 @@ ghost use Rattle.ifmap_heads.specs.Starts.{StartsAnswer, verdict_of};
 
 use crate::fields::{common_length, has_field};
 use crate::{LONGEST_HEAD, MOST_FIELDS};
-use httparse::{EMPTY_HEADER, Error, Header, Response, Status};
+use http::StatusCode;
+use http_header::{CONTENT_LENGTH, TRANSFER_ENCODING};
+use httparse::{EMPTY_HEADER, Header, Response, Status};
 
 // The most bytes of an answer's body.
 const LONGEST_ANSWER: u64 = 110_000_000;
@@ -65,13 +67,13 @@ pub fn read_answer_head(bytes: &[u8]) -> AnswerStart
 fn judge_status(status: u16, headers: &[Header<'_>]) -> Verdict
     ensures { verdict_of result ≡ judge_status status (map header_parts headers.now) }
 {
-    if status != 200 {
+    if status != StatusCode::OK.as_u16() {
         return Verdict::Other(status);
     }
-    if has_field(b"transfer-encoding", headers) {
+    if has_field(TRANSFER_ENCODING.as_bytes(), headers) {
         return Verdict::Unfit;
     }
-    match common_length(b"content-length", headers) {
+    match common_length(CONTENT_LENGTH.as_bytes(), headers) {
         Some(size) if size <= LONGEST_ANSWER => Verdict::Sized(size as usize),
         _ => Verdict::Unfit,
     }

@@ -23,7 +23,8 @@ pub(crate) fn next_value<'s, 'b>(name: &[u8], headers: &'s [Header<'b>]) -> Opti
         (values name.now (map header_parts headers.now) ≡ [])
         (λ named. values name.now (map header_parts headers.now)
         ≡ named.value.now ∷ values name.now (map header_parts named.rest.now)) }
-    ensures shorter { MatchOption result (Unit {0}) (λ named. length named.rest.now < length headers.now) }
+    ensures shorter { MatchOption result (Unit {0})
+        (λ named. length named.rest.now < length headers.now) }
 {
     for (i, header) in headers.iter().enumerate() {
         if is_same_word(header.name.as_bytes(), name) {
@@ -45,7 +46,8 @@ pub(crate) fn has_field(name: &[u8], headers: &[Header<'_>]) -> bool
 
 // Each field of the name has that value.
 pub(crate) fn has_only(name: &[u8], value: &[u8], headers: &[Header<'_>]) -> bool
-    ensures { result ≡ list_all (λ v. bytes_eq v value.now) (values name.now (map header_parts headers.now)) }
+    ensures { result ≡ list_all (λ v. bytes_eq v value.now)
+        (values name.now (map header_parts headers.now)) }
 {
     for header in headers {
         if is_same_word(header.name.as_bytes(), name) && header.value != value {
@@ -57,7 +59,8 @@ pub(crate) fn has_only(name: &[u8], value: &[u8], headers: &[Header<'_>]) -> boo
 
 // Some field of the name lists the word.
 pub(crate) fn lists(name: &[u8], word: &[u8], headers: &[Header<'_>]) -> bool
-    ensures { result ≡ list_any (lists_word word.now) (values name.now (map header_parts headers.now)) }
+    ensures { result ≡ list_any (lists_word word.now)
+        (values name.now (map header_parts headers.now)) }
 {
     for header in headers {
         if is_same_word(header.name.as_bytes(), name) && lists_word(word, header.value) {
@@ -82,7 +85,8 @@ pub(crate) fn common_length(name: &[u8], headers: &[Header<'_>]) -> Option<u64>
 
 // Each field of the name writes that number.
 fn all_write(number: u64, name: &[u8], headers: &[Header<'_>]) -> bool
-    ensures { result ≡ list_all (writes_number number) (values name.now (map header_parts headers.now)) }
+    ensures { result ≡ list_all (writes_number number)
+        (values name.now (map header_parts headers.now)) }
 {
     for header in headers {
         if is_same_word(header.name.as_bytes(), name) && !writes_number(number, header.value) {
@@ -104,7 +108,8 @@ fn writes_number(number: u64, value: &[u8]) -> bool
 
 // The number that one to eighteen digits write.
 fn number_of(value: &[u8]) -> Option<u64>
-    ensures value { result ≡ (if is_length value.now then Some (digits_value 10 value.now) else None) }
+    ensures value { result ≡ (if is_length value.now
+        then Some (digits_value 10 value.now) else None) }
 {
     if value.is_empty() || value.len() > 18 {
         return None;
@@ -138,7 +143,8 @@ fn comma_place(bytes: &[u8]) -> Option<usize>
     ensures within { IfSome result (λ comma. comma < length bytes.now) }
     ensures small { IfSome result (λ comma. comma < 2 ^ 63) }
     ensures parts { MatchOption result (comma_parts bytes.now ≡ bytes.now ∷ [])
-        (λ comma. comma_parts bytes.now ≡ take comma bytes.now ∷ comma_parts (drop (comma + 1) bytes.now)) }
+        (λ comma. comma_parts bytes.now
+        ≡ take comma bytes.now ∷ comma_parts (drop (comma + 1) bytes.now)) }
 {
     for (i, byte) in bytes.iter().enumerate() {
         if *byte == b',' {

@@ -2,6 +2,7 @@
 ghost use Rattle.std.specs.Prelude.{◌≡◌, ◌++◌, IfOk, IsTrue, OnOk};
 ghost use Rattle.ifmap_heads.specs.Messages.{answer_bytes, close_field, is_answer_status, length_field, phrase, post_bytes, sent_body, status_field, status_line};
 
+use http::StatusCode;
 use itoa::Buffer;
 use std::alloc::{AllocError, Global};
 
@@ -12,7 +13,7 @@ const HEAD_ROOM: usize = 256;
 /// and 507; a body comes with 200 alone.
 pub fn answer_message(
     alloc: Global,
-    status: u16,
+    status: StatusCode,
     body: &[u8],
     close: bool,
 ) -> Result<Vec<u8>, AllocError>
@@ -56,13 +57,14 @@ pub fn post_message(
 }
 
 // Appends the first line of an answer.
-fn write_status_line(status: u16, message: &mut Vec<u8>) -> Result<(), AllocError>
+fn write_status_line(status: StatusCode, message: &mut Vec<u8>) -> Result<(), AllocError>
+    requires { IsTrue (is_answer_status status) }
     ensures { OnOk result (message.new.items ≡ message.old.items ++ status_line status) }
 {
     message.extend_from_slice(b"HTTP/1.1 ")?;
-    message.extend_from_slice(Buffer::new().format(status).as_bytes())?;
+    message.extend_from_slice(Buffer::new().format(status.as_u16()).as_bytes())?;
     message.extend_from_slice(b" ")?;
-    message.extend_from_slice(phrase(status))?;
+    message.extend_from_slice(phrase(status).as_bytes())?;
     message.extend_from_slice(b"\r\n")
 }
 
@@ -76,44 +78,38 @@ fn write_length(body: &[u8], message: &mut Vec<u8>) -> Result<(), AllocError>
 }
 
 // The body, which comes with the status 200 alone.
-fn sent_body(status: u16, body: &[u8]) -> &[u8]
+fn sent_body(status: StatusCode, body: &[u8]) -> &[u8]
     ensures { result.now ≡ sent_body status body.now }
 {
-    if status == 200 { body } else { b"" }
+    if status == StatusCode::OK { body } else { b"" }
 }
 
 // The phrase of each status.
-fn phrase(status: u16) -> &'static [u8]
+fn phrase(status: StatusCode) -> &'static str
+    requires { IsTrue (is_answer_status status) }
     ensures { result.now ≡ phrase status }
 {
-    match status {
-        200 => b"OK",
-        400 => b"Bad Request",
-        403 => b"Forbidden",
-        405 => b"Method Not Allowed",
-        411 => b"Length Required",
-        413 => b"Payload Too Large",
-        503 => b"Service Unavailable",
-        _ => b"Insufficient Storage",
-    }
+    status.canonical_reason().unwrap()
 }
 
 // The field before `content-length`.
-fn status_field(status: u16) -> &'static [u8]
+fn status_field(status: StatusCode) -> &'static [u8]
     ensures { result.now ≡ status_field status }
 {
-    match status {
-        200 => b"content-type: application/soap+xml\r\n",
-        405 => b"allow: POST\r\n",
-        _ => b"",
+    if status == StatusCode::OK {
+        return b"content-type: application/soap+xml\r\n";
     }
+    if status == StatusCode::METHOD_NOT_ALLOWED {
+        return b"allow: POST\r\n";
+    }
+    b""
 }
 
 // The field of a connection that will be closed.
-fn close_field(status: u16, close: bool) -> &'static [u8]
+fn close_field(status: StatusCode, close: bool) -> &'static [u8]
     ensures { result.now ≡ close_field status close }
 {
-    if status != 200 || close {
+    if status != StatusCode::OK || close {
         b"connection: close\r\n"
     } else {
         b""

@@ -1,8 +1,10 @@
 //! The heads of posts.
-ghost use Rattle.std.specs.Prelude.{◌≡◌, ◌<◌, ◌≤◌, IfOk, Some, None, codes, length, map, if◌then◌else◌};
+ghost use Rattle.std.specs.Prelude.{◌≡◌, ◌<◌, ◌≤◌, ◌||◌, IfOk, Some, None, codes, length, map, not, if◌then◌else◌};
+ghost use Rattle.std.specs.List.{list_all};
 ghost use Rattle.std.specs.Option.{MatchOption};
+ghost use Rattle.std.specs.Str.{bytes_eq};
 ghost use Rattle.httparse.specs.Borrowed.{header_parts};
-ghost use Rattle.ifmap_heads.specs.Fields.{values};
+ghost use Rattle.ifmap_heads.specs.Fields.{has_field, values};
 ghost use Rattle.ifmap_heads.specs.Limits.{longest_head};
 ghost use Rattle.ifmap_heads.specs.Posts.{is_client_name, judge_parts, lacks_length, only_client};
 ghost use Rattle.ifmap_heads.specs.Starts.{StartsPost, judgement_of};
@@ -10,10 +12,15 @@ ghost use Rattle.ifmap_heads.specs.Starts.{StartsPost, judgement_of};
 use crate::beginnings::ends_in_target;
 use crate::fields::{common_length, has_field, has_only, lists, next_value};
 use crate::{LONGEST_HEAD, MOST_FIELDS};
+use http::{Method, StatusCode};
+use http_header::{CONNECTION, CONTENT_ENCODING, CONTENT_LENGTH, TRANSFER_ENCODING};
 use httparse::{EMPTY_HEADER, Header, Request, Status};
 use ifmap_elem::Text;
 use ifmap_meta::ClientName;
 use std::alloc::{AllocError, Global};
+
+// The field that names the client.
+const IFMAP_CLIENT: &[u8] = b"ifmap-client";
 
 // The most bytes of a post's body.
 const LONGEST_POST: u64 = 10_000_000;
@@ -43,7 +50,7 @@ pub enum PostStart {
 // What a head says.
 #[derive(Debug, Drop)]
 pub enum Judged {
-    Refused(u16),
+    Refused(StatusCode),
     Taken(PostTerms),
 }
 
@@ -56,12 +63,12 @@ pub fn read_post_head(alloc: Global, bytes: &[u8]) -> Result<PostStart, AllocErr
     match request.parse(bytes) {
         Ok(Status::Complete(size)) => {
             if size > LONGEST_HEAD || request.headers.len() > MOST_FIELDS {
-                return Ok(PostStart::Refused(400));
+                return Ok(refuse(StatusCode::BAD_REQUEST));
             }
             let method = request.method.unwrap().as_bytes();
             let minor = request.version.unwrap();
             match judge_parts(alloc, method, minor, request.headers)? {
-                Judged::Refused(status) => Ok(PostStart::Refused(status)),
+                Judged::Refused(status) => Ok(refuse(status)),
                 Judged::Taken(terms) => Ok(PostStart::Taken(size, terms)),
             }
         }
@@ -70,10 +77,17 @@ pub fn read_post_head(alloc: Global, bytes: &[u8]) -> Result<PostStart, AllocErr
             if ends_in_target(bytes) {
                 Ok(unfinished_post(bytes))
             } else {
-                Ok(PostStart::Refused(400))
+                Ok(refuse(StatusCode::BAD_REQUEST))
             }
         }
     }
+}
+
+// A post is refused with that status.
+fn refuse(status: StatusCode) -> PostStart
+    ensures { result ≡ PostStart.Refused status }
+{
+    PostStart::Refused(status.as_u16())
 }
 
 // No head is whole: one may come while the limit is not passed.
@@ -82,7 +96,7 @@ fn unfinished_post(bytes: &[u8]) -> PostStart
     ensures short { length bytes.now ≤ longest_head → result ≡ PostStart.Unfinished }
 {
     if bytes.len() > LONGEST_HEAD {
-        PostStart::Refused(400)
+        refuse(StatusCode::BAD_REQUEST)
     } else {
         PostStart::Unfinished
     }
@@ -95,27 +109,28 @@ fn judge_parts(
     minor: u8,
     headers: &[Header<'_>],
 ) -> Result<Judged, AllocError>
-    ensures { IfOk result (λ j. judgement_of j ≡ judge_parts method.now minor (map header_parts headers.now)) }
+    ensures { IfOk result
+        (λ j. judgement_of j ≡ judge_parts method.now minor (map header_parts headers.now)) }
 {
-    if method != b"POST".as_slice() {
-        return Ok(Judged::Refused(405));
+    if method != Method::POST.as_str().as_bytes() {
+        return Ok(Judged::Refused(StatusCode::METHOD_NOT_ALLOWED));
     }
     if lacks_length(headers) {
-        return Ok(Judged::Refused(411));
+        return Ok(Judged::Refused(StatusCode::LENGTH_REQUIRED));
     }
-    let Some(size) = common_length(b"content-length", headers) else {
-        return Ok(Judged::Refused(400));
+    let Some(size) = common_length(CONTENT_LENGTH.as_bytes(), headers) else {
+        return Ok(Judged::Refused(StatusCode::BAD_REQUEST));
     };
     if size > LONGEST_POST {
-        return Ok(Judged::Refused(413));
+        return Ok(Judged::Refused(StatusCode::PAYLOAD_TOO_LARGE));
     }
     let Some(client) = only_client(alloc, headers)? else {
-        return Ok(Judged::Refused(403));
+        return Ok(Judged::Refused(StatusCode::FORBIDDEN));
     };
     Ok(Judged::Taken(PostTerms {
         client,
         size: size as usize,
-        close: minor == 0 || lists(b"connection", b"close", headers),
+        close: minor == 0 || lists(CONNECTION.as_bytes(), b"close", headers),
     }))
 }
 
@@ -123,19 +138,36 @@ fn judge_parts(
 fn lacks_length(headers: &[Header<'_>]) -> bool
     ensures { result ≡ lacks_length (map header_parts headers.now) }
 {
-    has_field(b"transfer-encoding", headers)
-        || !has_only(b"content-encoding", b"identity", headers)
-        || !has_field(b"content-length", headers)
+    is_encoded(headers) || !has_length(headers)
+}
+
+// The body comes in another form than it is.
+fn is_encoded(headers: &[Header<'_>]) -> bool
+    ensures { result ≡ (has_field (codes "transfer-encoding") (map header_parts headers.now)
+        || not (list_all (λ v. bytes_eq v (codes "identity"))
+        (values (codes "content-encoding") (map header_parts headers.now)))) }
+{
+    has_field(TRANSFER_ENCODING.as_bytes(), headers)
+        || !has_only(CONTENT_ENCODING.as_bytes(), b"identity", headers)
+}
+
+// There is a `content-length`.
+fn has_length(headers: &[Header<'_>]) -> bool
+    ensures { result ≡ has_field (codes "content-length") (map header_parts headers.now) }
+{
+    has_field(CONTENT_LENGTH.as_bytes(), headers)
 }
 
 // The client, where it is named once and by a name.
 fn only_client(alloc: Global, headers: &[Header<'_>]) -> Result<Option<ClientName>, AllocError>
-    ensures { IfOk result (λ client. client ≡ only_client (values (codes "ifmap-client") (map header_parts headers.now))) }
+    ensures { IfOk result
+        (λ client. client
+        ≡ only_client (values (codes "ifmap-client") (map header_parts headers.now))) }
 {
-    let Some(named) = next_value(b"ifmap-client", headers) else {
+    let Some(named) = next_value(IFMAP_CLIENT, headers) else {
         return Ok(None);
     };
-    if has_field(b"ifmap-client", named.rest) {
+    if has_field(IFMAP_CLIENT, named.rest) {
         return Ok(None);
     }
     client_of(alloc, named.value)
@@ -143,7 +175,8 @@ fn only_client(alloc: Global, headers: &[Header<'_>]) -> Result<Option<ClientNam
 
 // The value as a client's name, where it is one.
 fn client_of(alloc: Global, value: &[u8]) -> Result<Option<ClientName>, AllocError>
-    ensures { IfOk result (λ client. client ≡ (if is_client_name value.now then Some value.now else None)) }
+    ensures { IfOk result
+        (λ client. client ≡ (if is_client_name value.now then Some value.now else None)) }
 {
     match std::str::from_utf8(value) {
         Ok(text) => Ok(ClientName::new(Text(String::from_str(alloc, text)?))),

@@ -1,6 +1,5 @@
 -- Canonical bytes tell identifiers apart: those of two kinds by the names of their elements, and those of one kind part by part.
-use Rattle.std.proofs.Common.{◌≡◌, ℕ, ◌<◌, cond, nat_eq, get_or, List, [], ◌∷◌, ◌++◌, codes, drop, length, refl, ap, sym, ◌∙◌, append_assoc, arith}
-use Rattle.std.proofs.lemmas.Bool.Decides.{nat_tests}
+use Rattle.std.proofs.Common.{◌≡◌, ℕ, ◌<◌, cond, nat_eq, get_or, List, ◌∷◌, ◌++◌, codes, drop, refl, ap, sym, ◌∙◌, arith}
 use Rattle.ifmap_addresses.specs.IpV4.{ip_v4_text}
 use Rattle.ifmap_addresses.specs.IpV4Laws.{ip_v4_tells}
 use Rattle.ifmap_addresses.specs.IpV6.{ip_v6_text}
@@ -16,7 +15,7 @@ use Rattle.ifmap_ident.specs.declared.written.Place.TheVariants.{Value, Content}
 use Rattle.ifmap_ident.specs.Identifiers.{identifier_bytes}
 use Rattle.ifmap_ident.specs.Kinds.{identity_type_name}
 use Rattle.ifmap_ident.specs.Written.{IsTyped, closed_text, domain_written, identifier_written, optional_written}
-use Rattle.ifmap_ident.proofs.OptionalLaws.{optional_alike, same_front}
+use Rattle.ifmap_ident.proofs.OptionalLaws.{optional_alike}
 use Rattle.ifmap_ident.proofs.PlacedLaws.{text_alike}
 use Rattle.ifmap_ident.proofs.PrintedLaws.{printed}
 
@@ -58,7 +57,8 @@ domain_alike letter d e s t h = optional_alike 97 letter (codes "dministrative-d
 access_requests_alike : (n d m e : List ℕ) → identifier_written (AccessRequest n d) ≡ identifier_written (AccessRequest m e)
     → AccessRequest n d ≡ AccessRequest m e
 access_requests_alike n d m e h =
-    let domains = domain_alike 110 d e (codes "ame=\"" ++ (closed_text Value n ++ codes "/>")) (codes "ame=\"" ++ (closed_text Value m ++ codes "/>"))
+    let domains = domain_alike 110 d e (codes "ame=\"" ++ (closed_text Value n ++ codes "/>")) (codes "ame=\"" ++ (closed_text Value m
+    ++ codes "/>"))
     (omega arith) (ap (drop 15) h) in
     let names = text_alike Value n m (codes "/>") (codes "/>") (ap (drop 5) domains.1) in
     λ i. AccessRequest (names.0 i) (domains.0 i)
@@ -79,7 +79,8 @@ identities_alike n k u d m l v e h =
     ++ other_end v l)) (omega arith) (ap (drop 9) h) in
     let names = text_alike Value n m (other_end u k) (other_end v l) (ap (drop 5) domains.1) in
     let others = optional_alike 111 116 (codes "ther-type-definition") u v (type_end k) (type_end l) (omega arith) names.1 in
-    let types = names_tell k l (text_alike Value (identity_type_name k) (identity_type_name l) (codes "/>") (codes "/>") (ap (drop 5) others.1)).0 in
+    let types = names_tell k l (text_alike Value (identity_type_name k) (identity_type_name l) (codes "/>") (codes "/>") (ap
+    (drop 5) others.1)).0 in
     λ i. Identity (names.0 i) (types i) (others.0 i) (domains.0 i)
 
 abbrev value_end : List ℕ → List ℕ

@@ -1,15 +1,12 @@
 -- Attributes that an empty value leaves out: their order, that they tell their values, and their length.
-use Rattle.std.proofs.Common.{ap, ◌≡◌, ℕ, ◌+◌, ◌<◌, List, [], ◌∷◌, ◌++◌, codes, drop, get_or, length, refl, sym, ◌∙◌, subst, arith, append_assoc, length-append}
-use Rattle.std.specs.Cmp.{nat_cmp_is}
-use Rattle.std.specs.Cmp.Lexicographic.{slice_cmp}
-use Rattle.std.specs.Ordering.{nat_cmp, ordering_then}
+use Rattle.std.proofs.Common.{ap, ◌≡◌, ℕ, ◌<◌, List, [], ◌∷◌, ◌++◌, codes, drop, get_or, refl, sym, ◌∙◌, subst, arith, append_assoc}
+use Rattle.std.specs.Ordering.{ordering_then}
 use Rattle.std.specs.declared.cmp.Ordering.{Ordering}
-use Rattle.std.specs.declared.cmp.Ordering.TheVariants.{Less, Equal, Greater}
 use Rattle.ifmap_ident.specs.Leading.{Leads}
-use Rattle.ifmap_ident.specs.Written.{OptionalsLead, attribute_written, closed_text, optional_written, placed_bytes}
+use Rattle.ifmap_ident.specs.Written.{OptionalsLead, attribute_written, closed_text, optional_written}
 use Rattle.ifmap_ident.specs.declared.written.Place.TheVariants.{Value}
 use Rattle.ifmap_lemmas.specs.Orderings.{then_equal}
-use Rattle.ifmap_ident.proofs.LeadingLaws.{leads_after, leads_both, leads_decided, leads_one, leads_same}
+use Rattle.ifmap_ident.proofs.LeadingLaws.{leads_after, leads_both, leads_same}
 use Rattle.ifmap_ident.proofs.PlacedLaws.{text_alike}
 
 -- ---- order
@@ -35,7 +32,8 @@ leads_before {o} {p} {q} f s = subst (λ r. Leads r (p ++ s) (q ++ s)) (then_equ
 
 -- an attribute that may be left out, a space, a greater letter, and then others
 pub optional_then : (o r : Ordering) (first letter : ℕ) (local v w s t : List ℕ) → first < letter → OptionalsLead o v w → Leads r s t
-    → Leads (ordering_then o r) (optional_written (first ∷ local) v ++ (32 ∷ (letter ∷ s))) (optional_written (first ∷ local) w ++ (32 ∷ (letter ∷ t)))
+    → Leads (ordering_then o r) (optional_written (first ∷ local) v ++ (32 ∷ (letter ∷ s))) (optional_written (first ∷ local) w ++ (32 ∷
+    (letter ∷ t)))
 optional_then o r first letter local v w s t h f g =
     subst (λ p. Leads (ordering_then o r) p (optional_written (first ∷ local) w ++ (32 ∷ (letter ∷ t))))
     (append_assoc (optional_written (first ∷ local) v) (32 ∷ (letter ∷ [])) s)
@@ -49,7 +47,8 @@ same_front [] x y e = e
 same_front (b ∷ p) x y e = same_front p x y (cc)
 
 pub optional_alike : (first letter : ℕ) (local v w s t : List ℕ) → first < letter
-    → optional_written (first ∷ local) v ++ (32 ∷ (letter ∷ s)) ≡ optional_written (first ∷ local) w ++ (32 ∷ (letter ∷ t)) → (v ≡ w) × (s ≡ t)
+    → optional_written (first ∷ local) v ++ (32 ∷ (letter ∷ s)) ≡ optional_written (first ∷ local) w ++ (32 ∷ (letter ∷ t))
+    → (v ≡ w) × (s ≡ t)
 optional_alike first letter local [] [] s t h e = (refl, cc)
 optional_alike first letter local [] (c ∷ w) s t h e = let wrong : letter ≡ first = ap (λ text. get_or text 1 0) e in absurd (omega arith)
 optional_alike first letter local (b ∷ v) [] s t h e = let wrong : first ≡ letter = ap (λ text. get_or text 1 0) e in absurd (omega arith)

@@ -1,11 +1,11 @@
 -- The order of identifiers by their canonical bytes, from the orders of their parts.
-use Rattle.std.proofs.Common.{◌≡◌, ℕ, suc, ◌<◌, get_or, List, [], ◌∷◌, ◌++◌, codes, length, inl, inr, refl, ap, sym, ◌∙◌, subst, append_assoc, arith}
+use Rattle.std.proofs.Common.{◌≡◌, ℕ, suc, ◌<◌, get_or, List, [], ◌∷◌, ◌++◌, codes, refl, ap, sym, ◌∙◌, subst, append_assoc, arith}
 use Rattle.std.proofs.lemmas.Bool.Decides.{nat_tests}
 use Rattle.std.specs.Cmp.Lexicographic.{slice_cmp}
 use Rattle.std.specs.List.{AllByRecursion}
 use Rattle.std.specs.Ordering.{nat_cmp, ordering_then}
 use Rattle.std.specs.declared.cmp.Ordering.{Ordering}
-use Rattle.std.specs.declared.cmp.Ordering.TheVariants.{Less, Equal, Greater}
+use Rattle.std.specs.declared.cmp.Ordering.TheVariants.{Less, Greater}
 use Rattle.ifmap_addresses.specs.IpV4.{ip_v4_text}
 use Rattle.ifmap_addresses.specs.IpV4Laws.{ip_v4_plain}
 use Rattle.ifmap_addresses.specs.IpV6.{ip_v6_text}
@@ -13,20 +13,20 @@ use Rattle.ifmap_addresses.specs.IpV6Laws.{ip_v6_plain}
 use Rattle.ifmap_addresses.specs.MacAddresses.{mac_address_text}
 use Rattle.ifmap_addresses.specs.MacAddressLaws.{mac_address_plain}
 use Rattle.ifmap_addresses.specs.OrderLaws.{closed_below}
-use Rattle.ifmap_addresses.specs.Values.{IsAddressByte, IsDigit}
+use Rattle.ifmap_addresses.specs.Values.{IsAddressByte}
 use Rattle.ifmap_elem.specs.Escapes.{value_byte}
 use Rattle.ifmap_ident.specs.declared.identifiers.Identifier.{Identifier}
 use Rattle.ifmap_ident.specs.declared.identifiers.Identifier.TheVariants.{AccessRequest, Device, Identity, IpV4, IpV6, MacAddress}
 use Rattle.ifmap_ident.specs.declared.kinds.IdentityType.{IdentityType}
 use Rattle.ifmap_ident.specs.declared.written.Place.TheVariants.{Value, Content}
-use Rattle.ifmap_ident.specs.Identifiers.{identifier_bytes, identifier_kind, identifier_order}
+use Rattle.ifmap_ident.specs.Identifiers.{identifier_kind, identifier_order}
 use Rattle.ifmap_ident.specs.Kinds.{identity_type_name}
 use Rattle.ifmap_ident.specs.Leading.{Leads}
-use Rattle.ifmap_ident.specs.Written.{OptionalsLead, closed_text, domain_written, identifier_written, kind_rank, optional_written, placed_bytes}
-use Rattle.ifmap_ident.proofs.LeadingLaws.{leads_after, leads_both, leads_decided, leads_whole}
+use Rattle.ifmap_ident.specs.Written.{OptionalsLead, closed_text, domain_written, identifier_written, kind_rank, placed_bytes}
+use Rattle.ifmap_ident.proofs.LeadingLaws.{leads_after, leads_both, leads_whole}
 use Rattle.ifmap_ident.proofs.OptionalLaws.{leads_before, optional_then}
 use Rattle.ifmap_ident.proofs.PrintedLaws.{printed}
-use Rattle.ifmap_lemmas.specs.Orderings.{then_equal, then_then}
+use Rattle.ifmap_lemmas.specs.Orderings.{then_then}
 
 -- ---- texts of addresses
 
@@ -96,11 +96,13 @@ identities o r p q n k u d m l v e f g h j =
 -- addresses with a type and the texts of their values
 typed_addresses : (o r : Ordering) (d e p q s t : List ℕ) → OptionalsLead o d e
     → Leads r (p ++ (codes "\" value=\"" ++ closed_text Value s)) (q ++ (codes "\" value=\"" ++ closed_text Value t))
-    → Leads (ordering_then o r) (codes "<ip-address" ++ (domain_written d ++ (codes " type=\"" ++ (p ++ (codes "\" value=\"" ++ (closed_text Value s ++ codes "/>"))))))
+    → Leads (ordering_then o r) (codes "<ip-address" ++ (domain_written d ++ (codes " type=\"" ++ (p ++ (codes "\" value=\""
+    ++ (closed_text Value s ++ codes "/>"))))))
     (codes "<ip-address" ++ (domain_written e ++ (codes " type=\"" ++ (q ++ (codes "\" value=\"" ++ (closed_text Value t ++ codes "/>"))))))
 typed_addresses o r d e p q s t f g =
     leads_after (codes "<ip-address") (domain_then o r 116 d e _ _ (omega arith) f (leads_after (codes "ype=\"")
-    (subst (λ x. Leads r x (q ++ (codes "\" value=\"" ++ (closed_text Value t ++ codes "/>")))) (append_assoc p (codes "\" value=\"" ++ closed_text Value s) (codes "/>"))
+    (subst (λ x. Leads r x (q ++ (codes "\" value=\"" ++ (closed_text Value t ++ codes "/>")))) (append_assoc p (codes "\" value=\""
+    ++ closed_text Value s) (codes "/>"))
     (subst (λ y. Leads r ((p ++ (codes "\" value=\"" ++ closed_text Value s)) ++ codes "/>") y)
     (append_assoc q (codes "\" value=\"" ++ closed_text Value t) (codes "/>")) (leads_before g (codes "/>"))))))
 
@@ -110,28 +112,33 @@ v4_addresses o v d w e f g h =
     by_written _ (IpV4 v d) (IpV4 w e) (typed_addresses o _ d e (codes "IPv4") (codes "IPv4") (ip_v4_text v) (ip_v4_text w) h
     (leads_after (codes "IPv4\" value=\"") (plain_leads (ip_v4_text v) (ip_v4_text w) (ip_v4_plain v f) (ip_v4_plain w g))))
 
-pub v6_addresses : (o : Ordering) (v d w e : List ℕ) → ((i : ℕ) → get_or v i 0 < 65536) → ((i : ℕ) → get_or w i 0 < 65536) → OptionalsLead o d e
+pub v6_addresses : (o : Ordering) (v d w e : List ℕ) → ((i : ℕ) → get_or v i 0 < 65536) → ((i : ℕ) → get_or w i 0 < 65536)
+    → OptionalsLead o d e
     → ordering_then o (slice_cmp nat_cmp (ip_v6_text v) (ip_v6_text w)) ≡ identifier_order (IpV6 v d) (IpV6 w e)
 v6_addresses o v d w e f g h =
     by_written _ (IpV6 v d) (IpV6 w e) (typed_addresses o _ d e (codes "IPv6") (codes "IPv6") (ip_v6_text v) (ip_v6_text w) h
     (leads_after (codes "IPv6\" value=\"") (plain_leads (ip_v6_text v) (ip_v6_text w) (ip_v6_plain v (below 65536 v f))
     (ip_v6_plain w (below 65536 w g)))))
 
-pub v4_v6_addresses : (o : Ordering) (v d w e : List ℕ) → OptionalsLead o d e → ordering_then o Less ≡ identifier_order (IpV4 v d) (IpV6 w e)
+pub v4_v6_addresses : (o : Ordering) (v d w e : List ℕ) → OptionalsLead o d e
+    → ordering_then o Less ≡ identifier_order (IpV4 v d) (IpV6 w e)
 v4_v6_addresses o v d w e h =
     by_written _ (IpV4 v d) (IpV6 w e) (typed_addresses o Less d e (codes "IPv4") (codes "IPv6") (ip_v4_text v) (ip_v6_text w) h
     (record { compares = λ x y. refl }))
 
-pub v6_v4_addresses : (o : Ordering) (v d w e : List ℕ) → OptionalsLead o d e → ordering_then o Greater ≡ identifier_order (IpV6 v d) (IpV4 w e)
+pub v6_v4_addresses : (o : Ordering) (v d w e : List ℕ) → OptionalsLead o d e
+    → ordering_then o Greater ≡ identifier_order (IpV6 v d) (IpV4 w e)
 v6_v4_addresses o v d w e h =
     by_written _ (IpV6 v d) (IpV4 w e) (typed_addresses o Greater d e (codes "IPv6") (codes "IPv4") (ip_v6_text v) (ip_v4_text w) h
     (record { compares = λ x y. refl }))
 
-pub mac_addresses : (o : Ordering) (v d w e : List ℕ) → ((i : ℕ) → get_or v i 0 < 256) → ((i : ℕ) → get_or w i 0 < 256) → OptionalsLead o d e
+pub mac_addresses : (o : Ordering) (v d w e : List ℕ) → ((i : ℕ) → get_or v i 0 < 256) → ((i : ℕ) → get_or w i 0 < 256)
+    → OptionalsLead o d e
     → ordering_then o (slice_cmp nat_cmp (mac_address_text v) (mac_address_text w)) ≡ identifier_order (MacAddress v d) (MacAddress w e)
 mac_addresses o v d w e f g h =
     by_written _ (MacAddress v d) (MacAddress w e) (leads_after (codes "<mac-address") (domain_then o _ 118 d e _ _ (omega arith) h
-    (leads_after (codes "alue=\"") (leads_before (plain_leads (mac_address_text v) (mac_address_text w) (mac_address_plain v (below 256 v f))
+    (leads_after (codes "alue=\"") (leads_before (plain_leads (mac_address_text v) (mac_address_text w) (mac_address_plain v
+    (below 256 v f))
     (mac_address_plain w (below 256 w g))) (codes "/>")))))
 
 -- ---- kinds
@@ -140,7 +147,8 @@ mac_addresses o v d w e f g h =
 written_by_kind : (a b : Identifier) (r : Ordering) → (identifier_kind a ≡ identifier_kind b → r ≡ identifier_order a b)
     → ordering_then (nat_cmp (kind_rank (identifier_kind a)) (kind_rank (identifier_kind b))) r
     ≡ slice_cmp nat_cmp (identifier_written a) (identifier_written b)
-written_by_kind (AccessRequest n d) (AccessRequest m e) r f = f refl ∙ (λ i. slice_cmp nat_cmp (printed (AccessRequest n d) i) (printed (AccessRequest m e) i))
+written_by_kind (AccessRequest n d) (AccessRequest m e) r f = f refl ∙ (λ i. slice_cmp nat_cmp (printed (AccessRequest n d) i) (printed
+    (AccessRequest m e) i))
 written_by_kind (AccessRequest n d) (Device m) r f = refl
 written_by_kind (AccessRequest n d) (Identity m l v e) r f = refl
 written_by_kind (AccessRequest n d) (IpV4 m e) r f = refl
@@ -154,7 +162,8 @@ written_by_kind (Device n) (IpV6 m e) r f = refl
 written_by_kind (Device n) (MacAddress m e) r f = refl
 written_by_kind (Identity n k u d) (AccessRequest m e) r f = refl
 written_by_kind (Identity n k u d) (Device m) r f = refl
-written_by_kind (Identity n k u d) (Identity m l v e) r f = f refl ∙ (λ i. slice_cmp nat_cmp (printed (Identity n k u d) i) (printed (Identity m l v e) i))
+written_by_kind (Identity n k u d) (Identity m l v e) r f = f refl ∙ (λ i. slice_cmp nat_cmp (printed (Identity n k u d) i) (printed
+    (Identity m l v e) i))
 written_by_kind (Identity n k u d) (IpV4 m e) r f = refl
 written_by_kind (Identity n k u d) (IpV6 m e) r f = refl
 written_by_kind (Identity n k u d) (MacAddress m e) r f = refl
@@ -175,7 +184,8 @@ written_by_kind (MacAddress n d) (Device m) r f = refl
 written_by_kind (MacAddress n d) (Identity m l v e) r f = refl
 written_by_kind (MacAddress n d) (IpV4 m e) r f = refl
 written_by_kind (MacAddress n d) (IpV6 m e) r f = refl
-written_by_kind (MacAddress n d) (MacAddress m e) r f = f refl ∙ (λ i. slice_cmp nat_cmp (printed (MacAddress n d) i) (printed (MacAddress m e) i))
+written_by_kind (MacAddress n d) (MacAddress m e) r f = f refl ∙ (λ i. slice_cmp nat_cmp (printed (MacAddress n d) i) (printed
+    (MacAddress m e) i))
 
 pub by_kind : (a b : Identifier) (r : Ordering) → (identifier_kind a ≡ identifier_kind b → r ≡ identifier_order a b)
     → ordering_then (nat_cmp (kind_rank (identifier_kind a)) (kind_rank (identifier_kind b))) r ≡ identifier_order a b

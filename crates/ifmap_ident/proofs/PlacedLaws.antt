@@ -1,5 +1,8 @@
--- Texts as they are written in a place, each byte on its own up to the byte that ends the text: none of these pieces goes on from another, so
--- texts compare by the first byte in which they differ.
+-- Texts as they are written in a place, each byte on its own up to the byte that ends the text.
+-- 1. A claim on all bytes comes from those that are references and those that stand for themselves.
+-- 2. What is written for a byte, or for the end, is a piece; no piece goes on from another, so two pieces lead as they compare.
+-- 3. A piece tells the byte that it is written for, so pieces of two bytes differ.
+-- 4. So texts lead as the pieces at the first place where they differ, and texts that are written alike are one.
 use Rattle.std.proofs.Common.{◌≡◌, ℕ, zero, suc, List, [], ◌∷◌, ◌++◌, true, false, not, nat_eq, cond, Option, None, Some, take, get_or, refl, ap, sym, ◌∙◌, subst, append_assoc, eq-eqb, nat_lt, length, IfSome, inl, inr, ◌⊎◌}
 use Rattle.std.proofs.lemmas.Bool.{and_parts, cases_Bool, cases_eq, eqb-true}
 use borrow.Author.Tests.{ltb-false, ltb-true}
@@ -33,7 +36,8 @@ unless : (P : ℕ → Type 0) (b c : ℕ) → P c → (nat_eq b c ≡ false → 
 unless P b c there other = elim (cases_eq b c) [ inl e ↦ subst P (sym e) there | inr n ↦ other (not_equal b c n) ]
 
 -- a claim on all bytes, from those that are references and those that stand for themselves
-each_byte : (place : Place) (P : ℕ → Type 0) → P 38 → P 60 → P 62 → P 34 → P 9 → P 10 → P 13 → ((b : ℕ) → IsPlain place b → P b) → (b : ℕ) → P b
+each_byte : (place : Place) (P : ℕ → Type 0) → P 38 → P 60 → P 62 → P 34 → P 9 → P 10 → P 13 → ((b : ℕ) → IsPlain place b → P b)
+    → (b : ℕ) → P b
 each_byte Value P ampersand less greater quote tab feed return plain b =
     unless P b 38 ampersand (λ a.
     unless P b 60 less (λ l.
@@ -127,8 +131,10 @@ byte_of_piece-written_byte Content (Some b) =
 -- ---- texts in one place
 
 module _ (place : Place) where
-  piece_leads : (o r : Option ℕ) → Leads (slice_cmp nat_cmp (written_byte place o) (written_byte place r)) (written_byte place o) (written_byte place r)
-  piece_leads o r = leads_parted (written_byte place o) (written_byte place r) (parted_pieces (written_byte place o) (written_byte place r) (is_piece place o) (is_piece place r))
+  piece_leads : (o r : Option ℕ) → Leads (slice_cmp nat_cmp (written_byte place o) (written_byte place r)) (written_byte place o)
+      (written_byte place r)
+  piece_leads o r = leads_parted (written_byte place o) (written_byte place r) (parted_pieces (written_byte place o)
+      (written_byte place r) (is_piece place o) (is_piece place r))
 
   pieces_differ : (o r : Option ℕ) → (o ≡ r → ⊥) → is_eq (slice_cmp nat_cmp (written_byte place o) (written_byte place r)) ≡ false
   pieces_differ o r n = elim (cases_Bool (is_eq (slice_cmp nat_cmp (written_byte place o) (written_byte place r)))) [
@@ -175,9 +181,11 @@ module _ (place : Place) where
   text_leads (b ∷ bs) (c ∷ cs) (suc n) e h =
       let same : b ≡ c = cc in
       let rest : take n bs ≡ take n cs = cc in
-      subst (λ p. Leads (piece_order bs cs n) p (closed_text place (c ∷ cs))) (sym (append_assoc (placed_byte place b) (placed_bytes place bs) (end_byte place ∷ [])))
+      subst (λ p. Leads (piece_order bs cs n) p (closed_text place (c ∷ cs))) (sym (append_assoc (placed_byte place b)
+      (placed_bytes place bs) (end_byte place ∷ [])))
       (subst (λ q. Leads (piece_order bs cs n) (placed_byte place b ++ closed_text place bs) q) (ap
-      (λ x. placed_byte place x ++ closed_text place cs) same ∙ sym (append_assoc (placed_byte place c) (placed_bytes place cs) (end_byte place ∷ [])))
+      (λ x. placed_byte place x ++ closed_text place cs) same ∙ sym (append_assoc (placed_byte place c) (placed_bytes place cs)
+      (end_byte place ∷ [])))
       (leads_after (placed_byte place b) (text_leads bs cs n rest h)))
 
   -- ---- values are told apart

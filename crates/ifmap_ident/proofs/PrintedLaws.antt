@@ -1,7 +1,7 @@
 -- The canonical bytes of elements in no namespace, and of identifiers, part by part.
-use Rattle.std.proofs.Common.{◌≡◌, ℕ, ◌+◌, List, [], ◌∷◌, ◌++◌, map, codes, length, refl, ap, sym, ◌∙◌, append_assoc}
+use Rattle.std.proofs.Common.{◌≡◌, ℕ, List, [], ◌∷◌, ◌++◌, map, codes, refl, ap, ◌∙◌, append_assoc}
 use Rattle.std.proofs.lemmas.List.{append-nil}
-use Rattle.std.specs.List.{concat, filter, flat_map}
+use Rattle.std.specs.List.{filter, flat_map}
 use Rattle.ifmap_addresses.specs.IpV4.{ip_v4_text}
 use Rattle.ifmap_addresses.specs.IpV6.{ip_v6_text}
 use Rattle.ifmap_addresses.specs.MacAddresses.{mac_address_text}
@@ -16,7 +16,7 @@ use Rattle.ifmap_elem.specs.Folds.{at_child_element, at_child_text, at_element}
 use Rattle.ifmap_elem.specs.Namespaces.{child_spaces, declared_among, element_spaces, is_declared, name_prefixes, namespaces, once_each, numbered_prefixes, spaces_of}
 use Rattle.ifmap_ident.specs.Identifiers.{attribute_unless_empty, identifier_bytes}
 use Rattle.ifmap_ident.specs.Kinds.{identity_type_name}
-use Rattle.ifmap_ident.specs.Written.{attribute_written, domain_written, identifier_written, optional_written}
+use Rattle.ifmap_ident.specs.Written.{attribute_written, domain_written, identifier_written}
 use Rattle.ifmap_ident.specs.declared.identifiers.Identifier.{Identifier}
 use Rattle.ifmap_ident.specs.declared.identifiers.Identifier.TheVariants.{AccessRequest, Device, Identity, IpV4, IpV6, MacAddress}
 use Rattle.ifmap_ident.specs.declared.kinds.IdentityType.{IdentityType}
@@ -34,7 +34,8 @@ no_space (part ∷ parts) = no_space parts
 
 no_namespaces : (local : List ℕ) (parts : List (List ℕ × List ℕ)) → namespaces (bare_element local (map attribute_of parts) []) ≡ []
 no_namespaces local parts =
-    ap declared_among (at_element (List (List ℕ)) (List (List ℕ)) child_spaces element_spaces (bare_element local (map attribute_of parts) []))
+    ap declared_among (at_element (List (List ℕ)) (List (List ℕ)) child_spaces element_spaces (bare_element local
+    (map attribute_of parts) []))
     ∙ ap once_each (no_space parts)
 
 parts_are : (parts : List (List ℕ × List ℕ)) → flat_map (attribute_bytes (name_prefixes [])) (map attribute_of parts)
@@ -65,7 +66,7 @@ four_parts : (a b c d : List ℕ) → (a ++ (b ++ (c ++ (d ++ [])))) ++ codes "/
 four_parts a b c d = simp (append_assoc, append-nil)
 
 one_part : (a : List ℕ) → (a ++ []) ++ codes "/>" ≡ a ++ codes "/>"
-one_part a = simp (append_assoc, append-nil)
+one_part a = simp append-nil
 
 abbrev domain_name : List ℕ
 domain_name = codes "administrative-domain"
@@ -73,7 +74,8 @@ domain_name = codes "administrative-domain"
 abbrev other_name : List ℕ
 other_name = codes "other-type-definition"
 
-access_request_printed : (name domain : List ℕ) → identifier_bytes (AccessRequest name domain) ≡ identifier_written (AccessRequest name domain)
+access_request_printed : (name domain : List ℕ) → identifier_bytes (AccessRequest name domain) ≡ identifier_written
+    (AccessRequest name domain)
 unfolding identifier_bytes
 access_request_printed name [] =
     tag_of (codes "access-request") _ ((codes "name", name) ∷ []) refl
@@ -85,7 +87,8 @@ access_request_printed name (b ∷ d) =
 -- an address of some type, and one without
 typed_address_printed : (type value domain : List ℕ) → canonical_bytes (bare_element (codes "ip-address")
     (attribute_unless_empty domain_name domain ++ (bare_attribute (codes "type") type ∷ (bare_attribute (codes "value") value ∷ []))) [])
-    ≡ codes "<ip-address" ++ (domain_written domain ++ (attribute_written (codes "type") type ++ (attribute_written (codes "value") value ++ codes "/>")))
+    ≡ codes "<ip-address" ++ (domain_written domain ++ (attribute_written (codes "type") type ++ (attribute_written
+    (codes "value") value ++ codes "/>")))
 typed_address_printed type value [] =
     tag_of (codes "ip-address") _ ((codes "type", type) ∷ ((codes "value", value) ∷ [])) refl
     ∙ ap (λ t. codes "<ip-address" ++ t) (two_parts (attribute_written (codes "type") type) (attribute_written (codes "value") value))
@@ -159,7 +162,8 @@ outer_spaces name =
 abbrev no_prefixes : List (List ℕ × List ℕ)
 no_prefixes = name_prefixes []
 
-inner_bytes : (name : List ℕ) → child_bytes no_prefixes (Child.Element (inner name)) ≡ codes "<name>" ++ ((text_bytes name ++ []) ++ codes "</name>")
+inner_bytes : (name : List ℕ) → child_bytes no_prefixes (Child.Element (inner name)) ≡ codes "<name>" ++ ((text_bytes name ++ [])
+    ++ codes "</name>")
 inner_bytes name =
     at_child_element (List ℕ) (List ℕ) (child_piece no_prefixes) (element_piece no_prefixes) (inner name)
     ∙ at_element (List ℕ) (List ℕ) (child_piece no_prefixes) (element_piece no_prefixes) (inner name)

@@ -14,7 +14,6 @@ use Rattle.ifmap_elem.specs.Canonical.{canonical_bytes}
 use Rattle.ifmap_ident.specs.declared.identifiers.Identifier.{Identifier}
 use Rattle.ifmap_ident.specs.declared.identifiers.Identifier.TheVariants.{AccessRequest, Device, Identity, IpV4, IpV6, MacAddress}
 use Rattle.ifmap_ident.specs.declared.kinds.Kind.{Kind}
-use Rattle.ifmap_ident.specs.declared.kinds.Kind
 use Rattle.ifmap_ident.specs.Kinds.{identity_type_name}
 
 -- an attribute that an empty value leaves out

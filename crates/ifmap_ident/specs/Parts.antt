@@ -1,5 +1,5 @@
 -- What the element of an identifier can have in it.
-use Rattle.std.specs.Prelude.{ℕ, List, [], Bool, false, not, ◌&&◌, ◌||◌, Option, option_map}
+use Rattle.std.specs.Prelude.{ℕ, List, [], Bool, false, not, ◌||◌, Option, option_map}
 use Rattle.std.specs.List.{filter, find, list_all, list_any}
 use Rattle.std.specs.Str.{bytes_eq}
 use Rattle.ifmap_elem.specs.Building.{is_bare}

@@ -13,7 +13,6 @@ use Rattle.ifmap_ident.specs.declared.identifiers.Identifier.TheVariants.{Access
 use Rattle.ifmap_ident.specs.declared.written.Place.{Place}
 use Rattle.ifmap_ident.specs.declared.written.Place.TheVariants.{Value, Content}
 use Rattle.ifmap_ident.specs.declared.kinds.Kind.{Kind}
-use Rattle.ifmap_ident.specs.declared.kinds.Kind
 use Rattle.ifmap_ident.specs.Kinds.{identity_type_name}
 use Rattle.ifmap_ident.specs.Leading.{Leads}
 
@@ -70,7 +69,8 @@ identifier_written (AccessRequest name domain) =
 identifier_written (Device name) = codes "<device><name>" ++ (closed_text Content name ++ codes "/name></device>")
 identifier_written (Identity name kind other domain) =
     codes "<identity" ++ (domain_written domain ++ (attribute_written (codes "name") name
-    ++ (optional_written (codes "other-type-definition") other ++ (attribute_written (codes "type") (identity_type_name kind) ++ codes "/>"))))
+    ++ (optional_written (codes "other-type-definition") other ++ (attribute_written (codes "type") (identity_type_name kind)
+    ++ codes "/>"))))
 identifier_written (IpV4 value domain) =
     codes "<ip-address" ++ (domain_written domain ++ (attribute_written (codes "type") (codes "IPv4")
     ++ (attribute_written (codes "value") (ip_v4_text value) ++ codes "/>")))

@@ -11,9 +11,11 @@ returns-then-size-gt-LONGEST_HEAD c more =
     let (h, holds) = rw c.in-Ok-Complete.field-0-is at c.in-Ok-Complete.ensures.complete in
     elim c.then-size-gt-LONGEST_HEAD.branch [
       | then-size-gt-LONGEST_HEAD-via-then-size-gt-LONGEST_HEAD w ↦
-          refused_head_long c.args.bytes.now more h (drop c.in-Ok-Complete.size c.args.bytes.now) holds.reads (omega (arith, holds.len_is, w.if-size-gt-LONGEST_HEAD.true))
+          refused_head_long c.args.bytes.now more h (drop c.in-Ok-Complete.size c.args.bytes.now) holds.reads
+          (omega (arith, holds.len_is, w.if-size-gt-LONGEST_HEAD.true))
       | then-size-gt-LONGEST_HEAD-via-else-size-gt-LONGEST_HEAD+then-response-gt-MOST_FIELDS w ↦
-          refused_head_wide c.args.bytes.now more h (drop c.in-Ok-Complete.size c.args.bytes.now) holds.reads (omega (arith, field_count c.parse.new.self.headers.now h.fields holds.fields, w.if-response-gt-MOST_FIELDS.true))
+          refused_head_wide c.args.bytes.now more h (drop c.in-Ok-Complete.size c.args.bytes.now) holds.reads
+          (omega (arith, field_count c.parse.new.self.headers.now h.fields holds.fields, w.if-response-gt-MOST_FIELDS.true))
     ]
 
 pub returns-in-Unfit : goal.returns-in-Unfit

@@ -7,7 +7,8 @@ use Prim.Native.Nat.{ℕ}
 one_more : (bytes : List ℕ) (blank : List LineEnd) (rest behind : List ℕ) (end : LineEnd) → bytes ≡ print_blank blank ++ rest
     → rest ≡ print_end end ++ behind → bytes ≡ print_blank (blank ++ end ∷ []) ++ behind
 one_more bytes blank rest behind end e f =
-    rw (flat_map-append, append-nil) (e ∙ ap (λ (xs : List ℕ). print_blank blank ++ xs) f ∙ sym (append_assoc (print_blank blank) (print_end end) behind))
+    rw (flat_map-append, append-nil)
+    (e ∙ ap (λ (xs : List ℕ). print_blank blank ++ xs) f ∙ sym (append_assoc (print_blank blank) (print_end end) behind))
 
 pub lines-preserved : goal.lines-preserved
 lines-preserved c =

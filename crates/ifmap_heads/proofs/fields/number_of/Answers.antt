@@ -8,7 +8,14 @@ overflow_mul-number c = omega (arith, room_for_digit c.loop-byte.number c.loop-b
 pub overflow_add-number : goal.overflow_add-number
 overflow_add-number c =
     let range = rw c.if-not-is_ascii_digit.false at c.is_ascii_digit.ensures.cases in
-    omega (arith, range.0, range.1, c.from.ensures, room_for_digit c.loop-byte.number c.loop-byte.byte-index c.loop-byte.invariant.1 (omega arith))
+    omega (
+      arith,
+      range.0,
+      range.1,
+      c.from.ensures,
+      room_for_digit c.loop-byte.number c.loop-byte.byte-index c.loop-byte.invariant.1
+          (omega arith),
+    )
 
 pub loop-byte-preserved : goal.loop-byte-preserved
 loop-byte-preserved c =

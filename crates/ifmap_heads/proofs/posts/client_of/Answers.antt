@@ -20,7 +20,8 @@ last_of_three false b c e = cc
 
 name_is_text : (name : List ℕ) → is_client_name name ≡ true → IsUtf8 name
 name_is_text name is =
-    let all = AllPass-from_list_all is_client_byte name (last_of_three (nat_le 1 (length name)) (nat_le (length name) 40) (list_all is_client_byte name) is) in
+    let all = AllPass-from_list_all is_client_byte name
+    (last_of_three (nat_le 1 (length name)) (nat_le (length name) 40) (list_all is_client_byte name) is) in
     IsUtf8-from_ascii name (IsAscii-from_all name (λ k d within. client_is_ascii _ (all k d within)))
 
 no_name : (name : List ℕ) → (IsUtf8 name → ⊥) → is_client_name name ≡ false

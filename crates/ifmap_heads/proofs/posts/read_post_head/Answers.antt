@@ -6,31 +6,39 @@ use Rattle.ifmap_heads.proofs.posts.read_post_head.Goals.{then-size-gt-LONGEST_H
 use Rattle.ifmap_heads.proofs.posts.read_post_head.Goals as goal
 
 pub returns-then-size-gt-LONGEST_HEAD : goal.returns-then-size-gt-LONGEST_HEAD
-returns-then-size-gt-LONGEST_HEAD c more =
+returns-then-size-gt-LONGEST_HEAD c =
+    rw c.refuse.ensures
+    (λ more.
     let (h, holds) = rw c.in-Ok-Complete.field-0-is at c.in-Ok-Complete.ensures.complete in
     elim c.then-size-gt-LONGEST_HEAD.branch [
       | then-size-gt-LONGEST_HEAD-via-then-size-gt-LONGEST_HEAD w ↦
-          refused_head_long c.args.bytes.now more h (drop c.in-Ok-Complete.size c.args.bytes.now) holds.reads (omega (arith, holds.len_is, w.if-size-gt-LONGEST_HEAD.true))
+          refused_head_long c.args.bytes.now more h (drop c.in-Ok-Complete.size c.args.bytes.now) holds.reads
+          (omega (arith, holds.len_is, w.if-size-gt-LONGEST_HEAD.true))
       | then-size-gt-LONGEST_HEAD-via-else-size-gt-LONGEST_HEAD+then-request-gt-MOST_FIELDS w ↦
-          refused_head_wide c.args.bytes.now more h (drop c.in-Ok-Complete.size c.args.bytes.now) holds.reads (omega (arith, field_count c.parse.new.self.headers.now h.fields holds.fields, w.if-request-gt-MOST_FIELDS.true))
-    ]
+          refused_head_wide c.args.bytes.now more h (drop c.in-Ok-Complete.size c.args.bytes.now) holds.reads
+          (omega (arith, field_count c.parse.new.self.headers.now h.fields holds.fields, w.if-request-gt-MOST_FIELDS.true))
+    ])
 
 pub returns-in-Refused : goal.returns-in-Refused
-returns-in-Refused c more =
+returns-in-Refused c =
+    rw c.refuse-in-Refused.ensures
+    (λ more.
     let (h, holds) = rw c.in-Ok-Complete.field-0-is at c.in-Ok-Complete.ensures.complete in
     let minor : c.unwrap-minor.result ≡ h.minor = cc (c.unwrap-minor.ensures, holds.version) in
-    let method : c.as_bytes-method.result.now ≡ h.method = cc (c.as_bytes-method.ensures.value, option_now c.unwrap.ensures, holds.method) in
+    let method : c.as_bytes-method.result.now ≡ h.method = cc
+    (c.as_bytes-method.ensures.value, option_now c.unwrap.ensures, holds.method) in
     let says = rw c.in-Refused.is at c.in_ok-status-in-Ok-Complete.ensures in
     refused_by_head c.args.bytes.now more h (drop c.in-Ok-Complete.size c.args.bytes.now) c.in-Refused.status holds.reads
     (omega (arith, holds.len_is, c.if-size-gt-LONGEST_HEAD.false))
     (omega (arith, field_count c.parse.new.self.headers.now h.fields holds.fields, c.if-request-gt-MOST_FIELDS.false))
-    (post_says h _ _ _ _ method minor holds.fields says)
+    (post_says h _ _ _ _ method minor holds.fields says))
 
 pub returns-in-Taken : goal.returns-in-Taken
 returns-in-Taken c =
     let (h, holds) = rw c.in-Ok-Complete.field-0-is at c.in-Ok-Complete.ensures.complete in
     let minor : c.unwrap-minor.result ≡ h.minor = cc (c.unwrap-minor.ensures, holds.version) in
-    let method : c.as_bytes-method.result.now ≡ h.method = cc (c.as_bytes-method.ensures.value, option_now c.unwrap.ensures, holds.method) in
+    let method : c.as_bytes-method.result.now ≡ h.method = cc
+    (c.as_bytes-method.ensures.value, option_now c.unwrap.ensures, holds.method) in
     let says = rw c.in-Taken.is at c.in_ok-status-in-Ok-Complete.ensures in
     record {
       head = h;
@@ -58,7 +66,9 @@ returns-then-ends_in_target c =
     c.unfinished_post-then-ends_in_target.ensures.long c.unfinished_post-then-ends_in_target.ensures.short
 
 pub returns-else-ends_in_target : goal.returns-else-ends_in_target
-returns-else-ends_in_target c more =
+returns-else-ends_in_target c =
+    rw c.refuse-else-ends_in_target.ensures
+    (λ more.
     let room : length c.new-request.result.headers.now ≡ 64 = ap length c.new-request.ensures.room in
     let overflows = subst (λ (n : ℕ). RequestOverflows n c.args.bytes.now) room c.in-Err.ensures.no_room in
     elim (is_too_many c.in-Err.field-0) [
@@ -68,4 +78,4 @@ returns-else-ends_in_target c more =
       | inr other ↦
           refused_never c.args.bytes.now more (c.in-Err.ensures.invalid other)
           (λ target. let yes_is = c.ends_in_target.ensures.1 target in let no_is = c.if-ends_in_target.false in cc)
-    ]
+    ])

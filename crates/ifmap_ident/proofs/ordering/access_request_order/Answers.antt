@@ -1,5 +1,4 @@
-use Rattle.std.proofs.Common.{ap, sym, ◌∙◌}
-use Rattle.std.specs.Ordering.{ordering_then}
+use Rattle.std.proofs.Common.{◌∙◌}
 use Rattle.ifmap_ident.proofs.OrderLaws.{access_requests}
 use Rattle.ifmap_ident.proofs.ordering.access_request_order.Goals as goal
 

@@ -1,5 +1,3 @@
-use Rattle.std.proofs.Common.{ap, sym, ◌∙◌}
-use Rattle.std.specs.Ordering.{ordering_then}
 use Rattle.ifmap_ident.proofs.OrderLaws.{devices}
 use Rattle.ifmap_ident.proofs.ordering.device_order.Goals as goal
 

@@ -1,4 +1,4 @@
-use Rattle.std.proofs.Common.{ap, sym, ◌∙◌}
+use Rattle.std.proofs.Common.{◌∙◌}
 use Rattle.std.specs.Ordering.{ordering_then}
 use Rattle.ifmap_ident.proofs.OrderLaws.{identities}
 use Rattle.ifmap_ident.proofs.ordering.identity_order.Goals as goal

@@ -1,4 +1,4 @@
-use Rattle.std.proofs.Common.{ap, sym, ◌∙◌}
+use Rattle.std.proofs.Common.{ap, ◌∙◌}
 use Rattle.std.specs.Ordering.{ordering_then}
 use Rattle.ifmap_ident.proofs.OrderLaws.{mac_addresses}
 use Rattle.ifmap_ident.proofs.ordering.mac_order.Goals as goal

@@ -1,5 +1,4 @@
-use Rattle.std.proofs.Common.{ap, sym, ◌∙◌}
-use Rattle.std.specs.Ordering.{ordering_then}
+use Rattle.std.proofs.Common.{◌∙◌}
 use Rattle.ifmap_ident.proofs.OrderLaws.{v4_v6_addresses}
 use Rattle.ifmap_ident.proofs.ordering.v4_v6_order.Goals as goal
 

@@ -5,4 +5,5 @@ use Rattle.ifmap_ident.proofs.SizeLaws.{mac_size}
 use Rattle.ifmap_ident.proofs.sizes.mac_len.Goals as goal
 
 pub returns : goal.returns
-returns c = let whole = mac_size c.args.value.now c.args.domain.now (mac_address_plain c.args.value.now (below 256 c.args.value.now c.fits-value)) in omega arith
+returns c = let whole = mac_size c.args.value.now c.args.domain.now (mac_address_plain c.args.value.now
+    (below 256 c.args.value.now c.fits-value)) in omega arith

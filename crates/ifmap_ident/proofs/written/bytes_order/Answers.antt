@@ -15,5 +15,6 @@ returns c =
     c.get.ensures.lookup.1) in
     let second = c.written_byte-2.ensures ∙ ap (written_byte place) (option_copied-get other shared c.get-2.result c.get-2.ensures.lookup.0
     c.get-2.ensures.lookup.1) in
-    subst (λ o. Leads o (closed_text place one) (closed_text place other)) (sym (c.cmp.ensures ∙ (λ i. slice_cmp nat_cmp (first i) (second i))))
+    subst (λ o. Leads o (closed_text place one) (closed_text place other)) (sym (c.cmp.ensures ∙ (λ i. slice_cmp nat_cmp (first i)
+    (second i))))
     (text_leads place one other shared c.shared_len-shared.ensures.shared c.shared_len-shared.ensures.apart)

@@ -1,0 +1,292 @@
+-- How a filter goes on, by one more token. (1) Words that join are told by their parts; (2) tests: what names ask for, and what is after a
+-- test; (3) an or-part is its first factor and what is after it; (4) what is after a factor, by `and`, `or` and any other token.
+use Rattle.std.proofs.Common.{◌≡◌, ◌≢◌, ℕ, true, false, List, [], ◌∷◌, ◌++◌, refl, ap, sym, ◌∙◌, subst, Option, Some, None, append_assoc, codes}
+use Rattle.std.specs.Prelude.{◌↔◌}
+use Rattle.std.specs.Str.{bytes_eq}
+use Rattle.std.proofs.lemmas.Bool.{and_from, and_parts}
+use Rattle.std.proofs.lemmas.List.{append-nil}
+use Rattle.ifmap_lemmas.specs.Texts.{eq_itself, eq_tells}
+use Rattle.ifmap_elem.specs.declared.elements.Name as element
+use Rattle.ifmap_elem.specs.declared.tokens.Qualified.{Qualified}
+use Rattle.ifmap_reader.specs.declared.scoping.Scope.{Scope}
+use Rattle.ifmap_filter.specs.declared.filters.Predicate.{Predicate, And, Or}
+use Rattle.ifmap_filter.specs.declared.filters.Test.{Test}
+use Rattle.ifmap_filter.specs.declared.filters.Filter.{Filter}
+use Rattle.ifmap_filter.specs.declared.tokens.Token.{Token}
+use Rattle.ifmap_filter.specs.declared.tokens.Token.TheVariants.{Any, OpenBracket, Name}
+use Rattle.ifmap_filter.specs.Grammar.{AreTests, AsksFor, IsFilter, TakesAnds, TakesFactor, TakesMore, TakesOrs, TakesPredicate, TakesTest, and_word, bare, joined, or_word, space_of}
+use Rattle.ifmap_filter.specs.Progress.{MoreFactors, MoreTests, PredicateFirst, TestFirst, done_part, gathered, is_word, test_of}
+
+-- (1) words
+
+pub word_is : (word : List ℕ) (q : Qualified) → is_word word q ≡ true → q ≡ bare word
+word_is word q h =
+    let both = and_parts (bytes_eq q.prefix []) (bytes_eq q.local word) h in
+    let p : q.prefix ≡ [] = eq_tells q.prefix [] both.0 in
+    let l : q.local ≡ word = eq_tells q.local word both.1 in
+    (λ i. record { prefix = p i; local = l i })
+
+pub is_that_word : (word : List ℕ) (q : Qualified) → q ≡ bare word → is_word word q ≡ true
+is_that_word word q e = ap (is_word word) e ∙ and_from (bytes_eq [] []) (bytes_eq word word) refl (eq_itself word)
+
+pub not_that_word : (word : List ℕ) (q : Qualified) → is_word word q ≡ false → Name q ≢ Name (bare word)
+not_that_word word q h e = let s : q ≡ bare word = cc in let wrong : false ≡ true = sym h ∙ is_that_word word q s in cc
+
+pub head_of : {X : Type 0} (x y : X) (xs ys : List X) → x ∷ xs ≡ y ∷ ys → (x ≡ y) × (xs ≡ ys)
+head_of x y xs ys e = let h : x ≡ y = cc in let t : xs ≡ ys = cc in (h, t)
+
+pub and_not_or : and_word ≢ or_word
+and_not_or e =
+    let q : bare (codes "and") ≡ bare (codes "or") = cc in
+    let wrong : true ≡ false = ap (is_word (codes "and")) q in cc
+
+-- what joins to the left joins to the right
+joins : {X : Type 0} (done : List X) (x : X) (xs : List X) → (done ++ x ∷ []) ++ xs ≡ done ++ (x ∷ xs)
+joins done x xs = append_assoc done (x ∷ []) xs
+
+module _ (scope : Scope) where
+  -- (2) tests
+
+  module _ (filter : Filter) where
+    pub any_asks : (name : Option element.Name) → AsksFor scope Any name → name ≡ None
+    any_asks None e = refl
+    any_asks (Some n) a = let e : Any ≡ Name a.0 = a.1 in cc
+
+    pub name_asks : (q : Qualified) (space : List ℕ) → space_of scope q.prefix ≡ Some space → (name : Option element.Name) → AsksFor scope (Name q) name
+        → name ≡ Some (record { space = space; local = q.local })
+    name_asks q space is None e = cc
+    name_asks q space is (Some n) (w, e, s) =
+        let same : q ≡ w = cc in
+        let there : space_of scope q.prefix ≡ Some n.space = ap (λ (v : Qualified). space_of scope v.prefix) same ∙ s.space_is in
+        let spaces : n.space ≡ space = cc in
+        let locals : n.local ≡ q.local = s.local_is ∙ ap (λ (v : Qualified). v.local) (sym same) in
+        (λ i. Some (record { space = spaces i; local = locals i }))
+
+    pub none_asks : (q : Qualified) → space_of scope q.prefix ≡ None → (name : Option element.Name) → AsksFor scope (Name q) name → ⊥
+    none_asks q is None e = cc
+    none_asks q is (Some n) (w, e, s) =
+        let same : q ≡ w = cc in
+        let there : space_of scope q.prefix ≡ Some n.space = ap (λ (v : Qualified). space_of scope v.prefix) same ∙ s.space_is in
+        cc
+
+    pub named : (done : List Test) (t : Token) (name : Option element.Name) → AsksFor scope t name
+        → ((other : Option element.Name) → AsksFor scope t other → other ≡ name)
+        → (more : List Token) → TestFirst scope filter done (t ∷ more) ↔ PredicateFirst scope filter done name more
+    named done t name asks only more = (
+      (λ (test, mid, takes, rest).
+          let same = head_of t takes.head more takes.after takes.tokens_are in
+          let is = only test.name (subst (λ (h : Token). AsksFor scope h test.name) (sym same.0) takes.asks) in (
+            test.predicate,
+            mid,
+            subst (λ (ts : List Token). TakesPredicate scope ts test.predicate mid) (sym same.1) takes.holds,
+            subst (λ (n : Option element.Name). MoreTests scope filter (done ++ test_of n test.predicate ∷ []) mid) is rest,
+          )),
+      (λ (p, mid, takes, rest).
+          (test_of name p, mid, record { head = t; after = more; tokens_are = refl; asks = asks; holds = takes }, rest)),
+    )
+
+    pub unnamed : (done : List Test) (t : Token) → ((name : Option element.Name) → AsksFor scope t name → ⊥) → (more : List Token)
+        → TestFirst scope filter done (t ∷ more) → ⊥
+    unnamed done t none more (test, mid, takes, rest) =
+        let same = head_of t takes.head more takes.after takes.tokens_are in
+        none test.name (subst (λ (h : Token). AsksFor scope h test.name) (sym same.0) takes.asks)
+
+    pub started : (t : Token) (more : List Token) → IsFilter scope (t ∷ more) filter ↔ TestFirst scope filter [] (t ∷ more)
+    started t more = (
+      (λ is. from filter.tests is refl),
+      (λ (test, mid, takes, (tests, others, is)). subst (AreTests scope (t ∷ more)) (sym is) (mid, takes, others)),
+    )
+      where
+        from : (tests : List Test) → AreTests scope (t ∷ more) tests → filter.tests ≡ tests → TestFirst scope filter [] (t ∷ more)
+        from [] e is = cc
+        from (test ∷ tests) (mid, takes, others) is = (test, mid, takes, (tests, others, is))
+
+    pub tested_or : (done : List Test) (more : List Token) → MoreTests scope filter done (or_word ∷ more) ↔ TestFirst scope filter done more
+    tested_or done more = (
+      (λ (tests, takes, is). from tests takes is),
+      (λ (test, mid, takes, (tests, others, is)). (test ∷ tests, (more, mid, refl, takes, others), is ∙ joins done test tests)),
+    )
+      where
+        from : (tests : List Test) → TakesMore or_word (TakesTest scope) (or_word ∷ more) tests [] → filter.tests ≡ done ++ tests → TestFirst scope filter done more
+        from [] e is = cc
+        from (test ∷ tests) (after, mid, e, takes, others) is =
+            let tail : after ≡ more = cc in
+            (test, mid, subst (λ (ts : List Token). TakesTest scope ts test mid) tail takes, (tests, others, is ∙ sym (joins done test tests)))
+
+    pub tested_other : (done : List Test) (t : Token) → t ≢ or_word → (more : List Token) → MoreTests scope filter done (t ∷ more) → ⊥
+    tested_other done t other more (tests, takes, is) = from tests takes
+      where
+        from : (tests : List Test) → TakesMore or_word (TakesTest scope) (t ∷ more) tests [] → ⊥
+        from [] e = cc
+        from (test ∷ tests) (after, mid, e, takes, others) = let h : t ≡ or_word = cc in other h
+
+    pub bare_named : (done : List Test) (name : Option element.Name) (t : Token) → t ≢ OpenBracket → (more : List Token)
+        → PredicateFirst scope filter done name (t ∷ more) ↔ MoreTests scope filter (done ++ test_of name None ∷ []) (t ∷ more)
+    bare_named done name t other more = ((λ (p, mid, takes, rest). from p mid takes rest), (λ rest. (None, t ∷ more, refl, rest)))
+      where
+        from : (p : Option Predicate) (mid : List Token) → TakesPredicate scope (t ∷ more) p mid → MoreTests scope filter (done ++ test_of name p ∷ []) mid
+            → MoreTests scope filter (done ++ test_of name None ∷ []) (t ∷ more)
+        from None mid e rest = subst (MoreTests scope filter (done ++ test_of name None ∷ [])) (sym e) rest
+        from (Some p) mid (inner, e, takes) rest = let h : t ≡ OpenBracket = cc in absurd (other h)
+
+  -- (3) an or-part, as its first factor and what is after it
+
+  module _ (n : ℕ) (Then : Predicate → List Token → Type 0) where
+    abbrev pub First : List Predicate → List Predicate → List Token → Type 0
+    First ors ands ts = (q : Predicate) × (mid : List Token) × TakesFactor scope n ts q mid × MoreFactors scope n Then ors (ands ++ q ∷ []) mid
+
+    pub or_part : (ts : List Token) → ((p : Predicate) × (rest : List Token) × TakesOrs (TakesFactor scope n) ts p rest × Then p rest) ↔ First [] [] ts
+    or_part ts = (
+      (λ (p, rest, takes, follow).
+          let one = takes.one in
+          let is : p ≡ joined Or (joined And one.first one.others) takes.others =
+          takes.means ∙ ap (λ f. joined Or f takes.others) one.means in (
+            one.first,
+            one.mid,
+            one.one,
+            record {
+              more_ands = one.others;
+              more_ors = takes.others;
+              mid = takes.mid;
+              rest = rest;
+              takes_ands = one.more;
+              takes_ors = takes.more;
+              followed = subst (λ f. Then f rest) is follow;
+            },
+          )),
+      (λ (q, mid, takes, more). (
+        joined Or (joined And q more.more_ands) more.more_ors,
+        more.rest,
+        record {
+          first = joined And q more.more_ands;
+          others = more.more_ors;
+          mid = more.mid;
+          one = record { first = q; others = more.more_ands; mid = mid; one = takes; more = more.takes_ands; means = refl };
+          more = more.takes_ors;
+          means = refl;
+        },
+        more.followed,
+      )),
+    )
+
+    -- (4) after a factor
+
+    abbrev pub Refuses : Token → Type 0
+    Refuses t = (p : Predicate) (more : List Token) → Then p (t ∷ more) → ⊥
+
+    module _ (ors ands : List Predicate) where
+      pub no_more : (ts : List Token) → Then (done_part ors ands) ts → MoreFactors scope n Then ors ands ts
+      no_more ts follow = record {
+        more_ands = [];
+        more_ors = [];
+        mid = ts;
+        rest = ts;
+        takes_ands = refl;
+        takes_ors = refl;
+        followed = subst (λ as'. Then (gathered Or (ors ++ (gathered And as' ∷ []))) ts) (sym (append-nil ands)) follow;
+      }
+
+      pub and_more : (more : List Token) → Refuses and_word → MoreFactors scope n Then ors ands (and_word ∷ more) ↔ First ors ands more
+      and_more more refused = (
+        (λ m. from m.more_ands m.more_ors m.mid m.rest m.takes_ands m.takes_ors m.followed),
+        (λ (q, mid, takes, m). record {
+          more_ands = q ∷ m.more_ands;
+          more_ors = m.more_ors;
+          mid = m.mid;
+          rest = m.rest;
+          takes_ands = (more, mid, refl, takes, m.takes_ands);
+          takes_ors = m.takes_ors;
+          followed = subst (λ as'. Then (gathered Or (ors ++ (gathered And as' ∷ m.more_ors))) m.rest) (joins ands q m.more_ands) m.followed;
+        }),
+      )
+        where
+          none : (xs : List Predicate) (mid rest : List Token) → and_word ∷ more ≡ mid → TakesMore or_word (TakesAnds (TakesFactor scope n)) mid xs rest
+              → (p : Predicate) → Then p rest → ⊥
+          none [] mid rest e f p follow = refused p more (subst (Then p) (sym (e ∙ f)) follow)
+          none (x ∷ xs) mid rest e (after, m, f, takes, others) p follow =
+              and_not_or (head_of and_word or_word more after (e ∙ f)).0
+
+          from : (as' os : List Predicate) (mid rest : List Token) → TakesMore and_word (TakesFactor scope n) (and_word ∷ more) as' mid
+              → TakesMore or_word (TakesAnds (TakesFactor scope n)) mid os rest → Then (gathered Or (ors ++ (gathered And (ands ++ as') ∷ os))) rest
+              → First ors ands more
+          from [] os mid rest e takes_ors follow = absurd (none os mid rest e takes_ors _ follow)
+          from (q ∷ as') os mid rest (after, m, e, takes, others) takes_ors follow =
+              let tail = (head_of and_word and_word more after e).1 in (
+                q,
+                m,
+                subst (λ (ts : List Token). TakesFactor scope n ts q m) (sym tail) takes,
+                record {
+                  more_ands = as';
+                  more_ors = os;
+                  mid = mid;
+                  rest = rest;
+                  takes_ands = others;
+                  takes_ors = takes_ors;
+                  followed = subst (λ bs. Then (gathered Or (ors ++ (gathered And bs ∷ os))) rest) (sym (joins ands q as')) follow;
+                },
+              )
+
+      pub or_more : (more : List Token) → Refuses or_word → MoreFactors scope n Then ors ands (or_word ∷ more) ↔ First (ors ++ gathered And ands ∷ []) [] more
+      or_more more refused = (
+        (λ m. from m.more_ands m.more_ors m.mid m.rest m.takes_ands m.takes_ors m.followed),
+        (λ (q, mid, takes, m). record {
+          more_ands = [];
+          more_ors = joined And q m.more_ands ∷ m.more_ors;
+          mid = or_word ∷ more;
+          rest = m.rest;
+          takes_ands = refl;
+          takes_ors = (more, m.mid, refl, record { first = q; others = m.more_ands; mid = mid; one = takes; more = m.takes_ands; means = refl }, m.takes_ors);
+          followed =
+              subst (λ as'. Then (gathered Or (ors ++ (gathered And as' ∷ (joined And q m.more_ands ∷ m.more_ors)))) m.rest) (sym (append-nil ands))
+              (subst (λ os. Then (gathered Or os) m.rest) (joins ors (gathered And ands) (joined And q m.more_ands ∷ m.more_ors)) m.followed);
+        }),
+      )
+        where
+          inner : (xs : List Predicate) (mid rest : List Token) → or_word ∷ more ≡ mid → TakesMore or_word (TakesAnds (TakesFactor scope n)) mid xs rest
+              → Then (gathered Or (ors ++ (gathered And (ands ++ []) ∷ xs))) rest → First (ors ++ gathered And ands ∷ []) [] more
+          inner [] mid rest e f follow = absurd (refused _ more (subst (Then _) (sym (e ∙ f)) follow))
+          inner (x ∷ xs) mid rest e (after, m, f, takes, others) follow =
+              let tail = (head_of or_word or_word more after (e ∙ f)).1 in (
+                takes.first,
+                takes.mid,
+                subst (λ (ts : List Token). TakesFactor scope n ts takes.first takes.mid) (sym tail) takes.one,
+                record {
+                  more_ands = takes.others;
+                  more_ors = xs;
+                  mid = m;
+                  rest = rest;
+                  takes_ands = takes.more;
+                  takes_ors = others;
+                  followed =
+                      subst (λ os. Then (gathered Or os) rest) (sym (joins ors (gathered And ands) (joined And takes.first takes.others ∷ xs)))
+                      (subst (λ y. Then (gathered Or (ors ++ (gathered And ands ∷ (y ∷ xs)))) rest) takes.means
+                      (subst (λ as'. Then (gathered Or (ors ++ (gathered And as' ∷ (x ∷ xs)))) rest) (append-nil ands) follow));
+                },
+              )
+
+          from : (as' os : List Predicate) (mid rest : List Token) → TakesMore and_word (TakesFactor scope n) (or_word ∷ more) as' mid
+              → TakesMore or_word (TakesAnds (TakesFactor scope n)) mid os rest → Then (gathered Or (ors ++ (gathered And (ands ++ as') ∷ os))) rest
+              → First (ors ++ gathered And ands ∷ []) [] more
+          from [] os mid rest e takes_ors follow = inner os mid rest e takes_ors follow
+          from (q ∷ as') os mid rest (after, m, e, takes, others) takes_ors follow =
+              absurd (and_not_or (sym (head_of or_word and_word more after e).0))
+
+      pub other_more : (t : Token) (more : List Token) → t ≢ and_word → t ≢ or_word
+          → MoreFactors scope n Then ors ands (t ∷ more) ↔ Then (done_part ors ands) (t ∷ more)
+      other_more t more no_and no_or = (
+        (λ m. from m.more_ands m.more_ors m.mid m.rest m.takes_ands m.takes_ors m.followed),
+        no_more (t ∷ more),
+      )
+        where
+          inner : (xs : List Predicate) (mid rest : List Token) → t ∷ more ≡ mid → TakesMore or_word (TakesAnds (TakesFactor scope n)) mid xs rest
+              → Then (gathered Or (ors ++ (gathered And (ands ++ []) ∷ xs))) rest → Then (done_part ors ands) (t ∷ more)
+          inner [] mid rest e f follow =
+              subst (λ as'. Then (gathered Or (ors ++ (gathered And as' ∷ []))) (t ∷ more)) (append-nil ands)
+              (subst (Then (gathered Or (ors ++ (gathered And (ands ++ []) ∷ [])))) (sym (e ∙ f)) follow)
+          inner (x ∷ xs) mid rest e (after, m, f, takes, others) follow = absurd (no_or (head_of t or_word more after (e ∙ f)).0)
+
+          from : (as' os : List Predicate) (mid rest : List Token) → TakesMore and_word (TakesFactor scope n) (t ∷ more) as' mid
+              → TakesMore or_word (TakesAnds (TakesFactor scope n)) mid os rest → Then (gathered Or (ors ++ (gathered And (ands ++ as') ∷ os))) rest
+              → Then (done_part ors ands) (t ∷ more)
+          from [] os mid rest e takes_ors follow = inner os mid rest e takes_ors follow
+          from (q ∷ as') os mid rest (after, m, e, takes, others) takes_ors follow = absurd (no_and (head_of t and_word more after e).0)

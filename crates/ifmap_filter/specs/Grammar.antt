@@ -1,0 +1,126 @@
+-- Which tokens are which filter in a scope of prefixes.
+use Rattle.std.specs.Prelude.{◌≡◌, ◌⊎◌, ℕ, zero, suc, if◌then◌else◌, List, [], ◌∷◌, codes, Option, Some, None}
+use Rattle.std.specs.Map.{lookup}
+use Rattle.std.specs.Str.{bytes_eq}
+use Rattle.ifmap_elem.specs.Scopes.{xml_space}
+use Rattle.ifmap_elem.specs.declared.elements.Name as element
+use Rattle.ifmap_elem.specs.declared.tokens.Qualified.{Qualified}
+use Rattle.ifmap_reader.specs.declared.scoping.Scope.{Scope}
+use Rattle.ifmap_filter.specs.declared.filters.Predicate.{Predicate, Attr, Child, And, Or}
+use Rattle.ifmap_filter.specs.declared.filters.Test.{Test}
+use Rattle.ifmap_filter.specs.declared.filters.Filter.{Filter}
+use Rattle.ifmap_filter.specs.declared.tokens.Token.{Token}
+use Rattle.ifmap_filter.specs.declared.tokens.Token.TheVariants.{Any, OpenBracket, CloseBracket, OpenParenthesis, CloseParenthesis, EqualsSign, At, Name, Literal}
+
+-- what a grammar rule takes from the front of tokens, and what is left
+abbrev pub Rule : Type 0 → Type 1
+Rule X = List Token → X → List Token → Type 0
+
+abbrev pub bare : List ℕ → Qualified
+bare local = record { prefix = []; local = local }
+
+-- the two names that join
+abbrev pub or_word : Token
+or_word = Name (bare (codes "or"))
+
+abbrev pub and_word : Token
+and_word = Name (bare (codes "and"))
+
+-- the namespace of a prefix: none without a prefix, that of `xml` for `xml`, and else what the first row with it says
+abbrev pub space_of : Scope → List ℕ → Option (List ℕ)
+space_of scope [] = Some []
+space_of scope (b ∷ bs) = if bytes_eq (b ∷ bs) (codes "xml") then Some xml_space else lookup (bytes_eq (b ∷ bs)) scope.rows
+
+-- the name that a qualified name stands for
+pub record StandsFor (scope : Scope) (q : Qualified) (name : element.Name) : Type 0 where
+  pub space_is : space_of scope q.prefix ≡ Some name.space
+  pub local_is : name.local ≡ q.local
+
+-- `@`, a name without a prefix, `=`, and a literal
+pub record TakesAttribute (ts : List Token) (p : Predicate) (rest : List Token) : Type 0 where
+  pub local : List ℕ
+  pub value : List ℕ
+  pub tokens_are : ts ≡ At ∷ (Name (bare local) ∷ (EqualsSign ∷ (Literal value ∷ rest)))
+  pub means : p ≡ Attr local value
+
+-- a name, `=`, and a literal
+pub record TakesChild (scope : Scope) (ts : List Token) (p : Predicate) (rest : List Token) : Type 0 where
+  pub written : Qualified
+  pub name : element.Name
+  pub value : List ℕ
+  pub tokens_are : ts ≡ Name written ∷ (EqualsSign ∷ (Literal value ∷ rest))
+  pub named : StandsFor scope written name
+  pub means : p ≡ Child name value
+
+abbrev pub TakesComparison : Scope → Rule Predicate
+TakesComparison scope ts p rest = TakesAttribute ts p rest ⊎ TakesChild scope ts p rest
+
+-- parentheses round what this rule takes
+abbrev pub TakesGroup : Rule Predicate → Rule Predicate
+TakesGroup Inner ts p rest = (inner : List Token) × (ts ≡ OpenParenthesis ∷ inner) × Inner inner p (CloseParenthesis ∷ rest)
+
+-- further parts, each after the word that joins them
+abbrev pub TakesMore : {X : Type 0} → Token → Rule X → List Token → List X → List Token → Type 0
+TakesMore word Part ts [] rest = ts ≡ rest
+TakesMore word Part ts (x ∷ xs) rest =
+    (after mid : List Token) × (ts ≡ word ∷ after) × Part after x mid × TakesMore word Part mid xs rest
+
+-- one part is that part; two or more are joined
+abbrev pub joined : (List Predicate → Predicate) → Predicate → List Predicate → Predicate
+joined join first [] = first
+joined join first (p ∷ ps) = join (first ∷ (p ∷ ps))
+
+-- parts that a word joins
+pub record TakesJoined (join : List Predicate → Predicate) (word : Token) (Part : Rule Predicate) (ts : List Token) (p : Predicate) (rest : List Token) : Type 0 where
+  pub first : Predicate
+  pub others : List Predicate
+  pub mid : List Token
+  pub one : Part ts first mid
+  pub more : TakesMore word Part mid others rest
+  pub means : p ≡ joined join first others
+
+-- factors joined by `and`; such parts joined by `or`
+abbrev pub TakesAnds : Rule Predicate → Rule Predicate
+TakesAnds Factor = TakesJoined And and_word Factor
+
+abbrev pub TakesOrs : Rule Predicate → Rule Predicate
+TakesOrs Factor = TakesJoined Or or_word (TakesAnds Factor)
+
+-- a factor in which parentheses nest at most so deep: a comparison, or parentheses in which they nest less deep
+abbrev pub TakesFactor : Scope → ℕ → Rule Predicate
+TakesFactor scope zero ts p rest = TakesComparison scope ts p rest
+TakesFactor scope (suc n) ts p rest = TakesComparison scope ts p rest ⊎ TakesGroup (TakesOrs (TakesFactor scope n)) ts p rest
+
+-- how deep parentheses may nest
+unfoldable pub deepest : ℕ
+deepest = 64
+
+-- what stands in brackets
+abbrev pub TakesOrPart : Scope → Rule Predicate
+TakesOrPart scope = TakesOrs (TakesFactor scope deepest)
+
+-- the name that a test asks for: `*` for any
+abbrev pub AsksFor : Scope → Token → Option element.Name → Type 0
+AsksFor scope t None = t ≡ Any
+AsksFor scope t (Some name) = (q : Qualified) × (t ≡ Name q) × StandsFor scope q name
+
+-- a predicate in brackets, or none
+abbrev pub TakesPredicate : Scope → Rule (Option Predicate)
+TakesPredicate scope ts None rest = ts ≡ rest
+TakesPredicate scope ts (Some p) rest = (inner : List Token) × (ts ≡ OpenBracket ∷ inner) × TakesOrPart scope inner p (CloseBracket ∷ rest)
+
+pub record TakesTest (scope : Scope) (ts : List Token) (test : Test) (rest : List Token) : Type 0 where
+  pub head : Token
+  pub after : List Token
+  pub tokens_are : ts ≡ head ∷ after
+  pub asks : AsksFor scope head test.name
+  pub holds : TakesPredicate scope after test.predicate rest
+
+-- no tests, or tests joined by `or`
+abbrev pub AreTests : Scope → List Token → List Test → Type 0
+AreTests scope ts [] = ts ≡ []
+AreTests scope ts (test ∷ tests) = (mid : List Token) × TakesTest scope ts test mid × TakesMore or_word (TakesTest scope) mid tests []
+
+-- the tokens are this filter
+abbrev pub IsFilter : Scope → List Token → Filter → Type 0
+IsFilter scope ts filter = AreTests scope ts filter.tests

@@ -1,0 +1,247 @@
+-- Where a reader of filters stands, how a filter goes on from there, and what one more token makes of it.
+use Rattle.std.specs.Prelude.{◌≡◌, ◌&&◌, ℕ, suc, Bool, if◌then◌else◌, nat_lt, List, [], ◌∷◌, ◌++◌, codes, length, reverse, Option, Some, None}
+use Rattle.std.specs.Str.{bytes_eq}
+use Rattle.ifmap_elem.specs.declared.elements.Name as element
+use Rattle.ifmap_elem.specs.declared.tokens.Qualified.{Qualified}
+use Rattle.ifmap_reader.specs.declared.scoping.Scope.{Scope}
+use Rattle.ifmap_filter.specs.declared.filters.Predicate.{Predicate, Attr, Child, And, Or}
+use Rattle.ifmap_filter.specs.declared.filters.Test.{Test}
+use Rattle.ifmap_filter.specs.declared.filters.Filter.{Filter}
+use Rattle.ifmap_filter.specs.declared.tokens.Token.{Token}
+use Rattle.ifmap_filter.specs.declared.tokens.Token.TheVariants.{Any, OpenBracket, CloseBracket, OpenParenthesis, CloseParenthesis, EqualsSign, At, Name, Literal}
+use Rattle.ifmap_filter.specs.declared.standing.Frame.{Frame}
+use Rattle.ifmap_filter.specs.declared.standing.Inside.{Inside}
+use Rattle.ifmap_filter.specs.declared.standing.Asked.{Asked}
+use Rattle.ifmap_filter.specs.declared.standing.Asked.TheVariants as asked
+use Rattle.ifmap_filter.specs.declared.standing.Standing.{Standing}
+use Rattle.ifmap_filter.specs.declared.standing.Standing.TheVariants as standing
+use Rattle.ifmap_filter.specs.Grammar.{IsFilter, TakesAnds, TakesFactor, TakesMore, TakesPredicate, TakesTest, and_word, bare, deepest, joined, or_word, space_of}
+
+-- the open or-part in a test's brackets, or in parentheses there: the tests before it, the name of its own, the or-parts round it, the innermost
+-- first, its and-parts that are done, and the factors that are done of the one that is not
+pub record Context : Type 0 where
+  pub tests : List Test
+  pub name : Option element.Name
+  pub outer : List Frame
+  pub ors : List Predicate
+  pub ands : List Predicate
+
+-- where a reader stands
+pub data Where : Type 0 where
+  Start : Where
+  TestDue : List Test → Where
+  Named : List Test → Option element.Name → Where
+  Tested : List Test → Where
+  FactorDue : Context → Where
+  LocalDue : Context → Where
+  EqualsDue : Context → Asked → Where
+  LiteralDue : Context → Asked → Where
+  FactorDone : Context → Where
+
+abbrev pub context : Inside → Context
+context i = record { tests = i.tests; name = i.name; outer = reverse i.outer; ors = i.ors; ands = i.ands }
+
+abbrev pub where_is : Standing → Where
+where_is standing.Start = Start
+where_is (standing.TestDue tests) = TestDue tests
+where_is (standing.Named tests name) = Named tests name
+where_is (standing.Tested tests) = Tested tests
+where_is (standing.FactorDue i) = FactorDue (context i)
+where_is (standing.LocalDue i) = LocalDue (context i)
+where_is (standing.EqualsDue i a) = EqualsDue (context i) a
+where_is (standing.LiteralDue i a) = LiteralDue (context i) a
+where_is (standing.FactorDone i) = FactorDone (context i)
+
+-- parts that are joined, of which there is one at least
+abbrev pub gathered : (List Predicate → Predicate) → List Predicate → Predicate
+gathered join [] = join []
+gathered join (p ∷ ps) = joined join p ps
+
+-- the parts are not one alone
+abbrev pub IsNotSingle : List Predicate → Type 0
+IsNotSingle parts = (p : Predicate) → parts ≡ p ∷ [] → ⊥
+
+-- the predicate of an or-part by what is done of it
+abbrev pub done_part : List Predicate → List Predicate → Predicate
+done_part ors ands = gathered Or (ors ++ gathered And ands ∷ [])
+
+abbrev pub compared : Asked → List ℕ → Predicate
+compared (asked.Attribute local) value = Attr local value
+compared (asked.Child name) value = Child name value
+
+abbrev pub test_of : Option element.Name → Option Predicate → Test
+test_of name predicate = record { name = name; predicate = predicate }
+
+abbrev pub with_factor : Context → Predicate → Context
+with_factor c p = record c { ands = c.ands ++ p ∷ [] }
+
+-- after a factor, where parentheses may nest so much deeper, and then as the whole or-part does
+pub record MoreFactors (scope : Scope) (n : ℕ) (Then : Predicate → List Token → Type 0) (ors ands : List Predicate) (ts : List Token) : Type 0 where
+  pub more_ands : List Predicate
+  pub more_ors : List Predicate
+  pub mid : List Token
+  pub rest : List Token
+  pub takes_ands : TakesMore and_word (TakesFactor scope n) ts more_ands mid
+  pub takes_ors : TakesMore or_word (TakesAnds (TakesFactor scope n)) mid more_ors rest
+  pub followed : Then (gathered Or (ors ++ (gathered And (ands ++ more_ands) ∷ more_ors))) rest
+
+-- how a filter goes on, in a scope
+module _ (scope : Scope) (filter : Filter) where
+  -- after these tests
+  abbrev pub MoreTests : List Test → List Token → Type 0
+  MoreTests done ts = (tests : List Test) × TakesMore or_word (TakesTest scope) ts tests [] × (filter.tests ≡ done ++ tests)
+
+  abbrev pub TestFirst : List Test → List Token → Type 0
+  TestFirst done ts = (test : Test) × (mid : List Token) × TakesTest scope ts test mid × MoreTests (done ++ test ∷ []) mid
+
+  abbrev pub PredicateFirst : List Test → Option element.Name → List Token → Type 0
+  PredicateFirst done name ts =
+      (p : Option Predicate) × (mid : List Token) × TakesPredicate scope ts p mid × MoreTests (done ++ test_of name p ∷ []) mid
+
+  -- after an or-part, whose own parentheses may nest so deep
+  abbrev pub Closes : List Test → Option element.Name → ℕ → List Frame → Predicate → List Token → Type 0
+  Closes done name n [] p ts = (after : List Token) × (ts ≡ CloseBracket ∷ after) × MoreTests (done ++ test_of name (Some p) ∷ []) after
+  Closes done name n (frame ∷ outer) p ts =
+      (after : List Token) × (ts ≡ CloseParenthesis ∷ after)
+      × MoreFactors scope (suc n) (Closes done name (suc n) outer) frame.ors (frame.ands ++ p ∷ []) after
+
+  -- after a factor in this context, of which parentheses may nest n deep
+  abbrev pub AfterFactor : ℕ → Context → List Token → Type 0
+  AfterFactor n c ts = MoreFactors scope n (Closes c.tests c.name n c.outer) c.ors c.ands ts
+
+  abbrev pub FactorFirst : ℕ → Context → List Token → Type 0
+  FactorFirst n c ts = (p : Predicate) × (mid : List Token) × TakesFactor scope n ts p mid × AfterFactor n (with_factor c p) mid
+
+  abbrev pub LiteralFirst : ℕ → Context → Asked → List Token → Type 0
+  LiteralFirst n c a ts =
+      (value : List ℕ) × (rest : List Token) × (ts ≡ Literal value ∷ rest) × AfterFactor n (with_factor c (compared a value)) rest
+
+  abbrev pub EqualsFirst : ℕ → Context → Asked → List Token → Type 0
+  EqualsFirst n c a ts = (rest : List Token) × (ts ≡ EqualsSign ∷ rest) × LiteralFirst n c a rest
+
+  abbrev pub LocalFirst : ℕ → Context → List Token → Type 0
+  LocalFirst n c ts = (local : List ℕ) × (rest : List Token) × (ts ≡ Name (bare local) ∷ rest) × EqualsFirst n c (asked.Attribute local) rest
+
+  -- from where a reader stands, where in the innermost or-part parentheses may nest n deep
+  abbrev pub GoesOn : ℕ → Where → List Token → Type 0
+  GoesOn n Start ts = IsFilter scope ts filter
+  GoesOn n (TestDue done) ts = TestFirst done ts
+  GoesOn n (Named done name) ts = PredicateFirst done name ts
+  GoesOn n (Tested done) ts = MoreTests done ts
+  GoesOn n (FactorDue c) ts = FactorFirst n c ts
+  GoesOn n (LocalDue c) ts = LocalFirst n c ts
+  GoesOn n (EqualsDue c a) ts = EqualsFirst n c a ts
+  GoesOn n (LiteralDue c a) ts = LiteralFirst n c a ts
+  GoesOn n (FactorDone c) ts = AfterFactor n c ts
+
+-- how many or-parts are round the open one
+abbrev pub nesting : Where → ℕ
+nesting Start = 0
+nesting (TestDue done) = 0
+nesting (Named done name) = 0
+nesting (Tested done) = 0
+nesting (FactorDue c) = length c.outer
+nesting (LocalDue c) = length c.outer
+nesting (EqualsDue c a) = length c.outer
+nesting (LiteralDue c a) = length c.outer
+nesting (FactorDone c) = length c.outer
+
+-- what one more token makes of it
+
+abbrev pub is_word : List ℕ → Qualified → Bool
+is_word word q = bytes_eq q.prefix [] && bytes_eq q.local word
+
+-- the name that a qualified name stands for, where there is one
+abbrev pub name_in : Option (List ℕ) → List ℕ → Option element.Name
+name_in None local = None
+name_in (Some space) local = Some (record { space = space; local = local })
+
+abbrev pub name_of : Scope → Qualified → Option element.Name
+name_of scope q = name_in (space_of scope q.prefix) q.local
+
+abbrev pub asks_named : List Test → Option element.Name → Option Where
+asks_named done None = None
+asks_named done (Some name) = Some (Named done (Some name))
+
+abbrev pub step_test : Scope → List Test → Token → Option Where
+step_test scope done Any = Some (Named done None)
+step_test scope done (Name q) = asks_named done (name_of scope q)
+step_test scope done _ = None
+
+abbrev pub step_tested : List Test → Token → Option Where
+step_tested done (Name q) = if is_word (codes "or") q then Some (TestDue done) else None
+step_tested done _ = None
+
+abbrev pub step_named : List Test → Option element.Name → Token → Option Where
+step_named done name OpenBracket = Some (FactorDue (record { tests = done; name = name; outer = []; ors = []; ands = [] }))
+step_named done name t = step_tested (done ++ test_of name None ∷ []) t
+
+abbrev pub inner_context : Context → Context
+inner_context c = record c { outer = record { ors = c.ors; ands = c.ands } ∷ c.outer; ors = []; ands = [] }
+
+abbrev pub inner_place : Context → Option Where
+inner_place c = if nat_lt (length c.outer) deepest then Some (FactorDue (inner_context c)) else None
+
+abbrev pub child_named : Context → Option element.Name → Option Where
+child_named c None = None
+child_named c (Some name) = Some (EqualsDue c (asked.Child name))
+
+abbrev pub step_factor : Scope → Context → Token → Option Where
+step_factor scope c OpenParenthesis = inner_place c
+step_factor scope c At = Some (LocalDue c)
+step_factor scope c (Name q) = child_named c (name_of scope q)
+step_factor scope c _ = None
+
+abbrev pub step_local : Context → Token → Option Where
+step_local c (Name q) = if bytes_eq q.prefix [] then Some (EqualsDue c (asked.Attribute q.local)) else None
+step_local c _ = None
+
+abbrev pub step_equals : Context → Asked → Token → Option Where
+step_equals c a EqualsSign = Some (LiteralDue c a)
+step_equals c a _ = None
+
+abbrev pub step_literal : Context → Asked → Token → Option Where
+step_literal c a (Literal value) = Some (FactorDone (with_factor c (compared a value)))
+step_literal c a _ = None
+
+-- the next and-part of the or-part
+abbrev pub next_part : Context → Context
+next_part c = record c { ors = c.ors ++ gathered And c.ands ∷ []; ands = [] }
+
+abbrev pub close_group : Context → List Frame → Option Where
+close_group c [] = None
+close_group c (frame ∷ outer) =
+    Some (FactorDone (record c { outer = outer; ors = frame.ors; ands = frame.ands ++ done_part c.ors c.ands ∷ [] }))
+
+abbrev pub close_test : Context → List Frame → Option Where
+close_test c [] = Some (Tested (c.tests ++ test_of c.name (Some (done_part c.ors c.ands)) ∷ []))
+close_test c (frame ∷ outer) = None
+
+-- `and`, or `or`, with which the next and-part begins
+abbrev pub step_joining : Context → Qualified → Option Where
+step_joining c q =
+    if is_word (codes "and") q then Some (FactorDue c) else if is_word (codes "or") q then Some (FactorDue (next_part c)) else None
+
+abbrev pub step_done : Context → Token → Option Where
+step_done c (Name q) = step_joining c q
+step_done c CloseParenthesis = close_group c c.outer
+step_done c CloseBracket = close_test c c.outer
+step_done c _ = None
+
+abbrev pub step : Scope → Where → Token → Option Where
+step scope Start t = step_test scope [] t
+step scope (TestDue done) t = step_test scope done t
+step scope (Named done name) t = step_named done name t
+step scope (Tested done) t = step_tested done t
+step scope (FactorDue c) t = step_factor scope c t
+step scope (LocalDue c) t = step_local c t
+step scope (EqualsDue c a) t = step_equals c a t
+step scope (LiteralDue c a) t = step_literal c a t
+step scope (FactorDone c) t = step_done c t
+
+-- the filter, where the text may end here
+abbrev pub whole : Where → Option Filter
+whole Start = Some (record { tests = [] })
+whole (Named done name) = Some (record { tests = done ++ test_of name None ∷ [] })
+whole (Tested done) = Some (record { tests = done })
+whole _ = None

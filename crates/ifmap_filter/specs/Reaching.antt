@@ -1,0 +1,51 @@
+-- What a reader of filters has reached.
+use Rattle.std.specs.Prelude.{◌≡◌, ◌↔◌, ◌⊎◌, ◌≤◌, ℕ, ◌+◌, List, ◌++◌, IsUtf8, chars, length, Some, None, Result, Ok, Err}
+use Rattle.ifmap_lemmas.specs.Items.{To}
+use Rattle.ifmap_reader.specs.declared.scoping.Scope.{Scope}
+use Rattle.ifmap_filter.specs.declared.errors.FilterError.{FilterError}
+use Rattle.ifmap_filter.specs.declared.errors.FilterError.TheVariants.{NotAFilter, NoMemory}
+use Rattle.ifmap_filter.specs.declared.filters.Filter.{Filter}
+use Rattle.ifmap_filter.specs.declared.tokens.Token.{Token}
+use Rattle.ifmap_filter.specs.Grammar.{IsFilter, deepest}
+use Rattle.ifmap_filter.specs.Progress.{GoesOn, Where, nesting, step, whole}
+use Rattle.ifmap_filter.specs.Tokens.{Takes, taken, token_at, without_white}
+
+-- after the tokens before these characters a reader stands there: what is a filter after them is what goes on from there
+pub record Reached (text : List ℕ) (scope : Scope) (w : Where) (cs : List ℕ) : Type 0 where
+  pub tokens : List Token
+  pub room : ℕ
+  pub room_is : room + nesting w ≡ deepest
+  pub lexed : To Takes (chars text) tokens cs
+  pub goes : (filter : Filter) (more : List Token) → IsFilter scope (tokens ++ more) filter ↔ GoesOn scope filter room w more
+
+-- the same where this is left after white space, no longer than the text
+pub record ReachedWhite (text : List ℕ) (scope : Scope) (w : Where) (rest : List ℕ) : Type 0 where
+  pub cs : List ℕ
+  pub reached : Reached text scope w cs
+  pub rest_is : chars rest ≡ without_white cs
+  pub within : length rest ≤ length text
+
+-- the token at the front leads to that place, and this is left after white space
+pub record StepsOn (scope : Scope) (w : Where) (rest : List ℕ) (next : Where) (left : List ℕ) : Type 0 where
+  pub token : Token
+  pub after : List ℕ
+  pub is_there : token_at (chars rest) ≡ Some (taken token after)
+  pub steps : step scope w token ≡ Some next
+  pub left_is : chars left ≡ without_white after
+  pub is_text : IsUtf8 left
+
+-- no token stands at the front, or one that is not allowed
+abbrev pub IsStuck : Scope → Where → List ℕ → Type 0
+IsStuck scope w rest =
+    (token_at (chars rest) ≡ None)
+    ⊎ ((t : Token) × (after : List ℕ) × (token_at (chars rest) ≡ Some (taken t after)) × (step scope w t ≡ None))
+
+abbrev pub IsRefused : Scope → Where → List ℕ → ℕ → FilterError → Type 0
+IsRefused scope w rest at (NotAFilter place) = (place ≡ at) × IsStuck scope w rest
+IsRefused scope w rest at NoMemory = Unit {0}
+
+-- the filter, where the text may end, and else its end
+abbrev pub IsEndAnswer : Where → ℕ → Result Filter FilterError → Type 0
+IsEndAnswer w at (Ok filter) = whole w ≡ Some filter
+IsEndAnswer w at (Err (NotAFilter place)) = (place ≡ at) × (whole w ≡ None)
+IsEndAnswer w at (Err NoMemory) = Unit {0}

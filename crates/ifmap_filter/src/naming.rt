@@ -1,0 +1,63 @@
+//! What names in the text of a filter stand for.
+ghost use Rattle.std.specs.Prelude.{◌≡◌, IfOk};
+ghost use Rattle.std.specs.Map.{lookup};
+ghost use Rattle.std.specs.Option.{option_copied};
+ghost use Rattle.std.specs.Str.{bytes_eq};
+ghost use Rattle.ifmap_filter.specs.Grammar.{space_of};
+ghost use Rattle.ifmap_filter.specs.Progress.{is_word, name_of};
+
+use ifmap_elem::tokens::Qualified;
+use ifmap_elem::{Name, Text};
+use ifmap_reader::Scope;
+use std::alloc::{AllocError as NoMemory, Global};
+
+const XML_SPACE: &str = "http://www.w3.org/XML/1998/namespace";
+
+// The name that a qualified name stands for; none where its prefix is not in scope.
+pub(crate) fn name_of(
+    alloc: Global,
+    scope: &Scope,
+    written: Qualified,
+) -> Result<Option<Name>, NoMemory>
+    ensures { IfOk result (λ o. o ≡ name_of scope.now written) }
+{
+    let Qualified { prefix, local } = written;
+    match space_of(scope, prefix.as_str()) {
+        Some(space) => {
+            let space = Text(String::from_str(alloc, space)?);
+            Ok(Some(Name { space, local }))
+        }
+        None => Ok(None),
+    }
+}
+
+// The namespace of a prefix. That of `xml` is the same in every scope.
+fn space_of<'a>(scope: &'a Scope, prefix: &str) -> Option<&'a str>
+    ensures { option_copied result ≡ space_of scope.now prefix.now }
+{
+    if prefix.is_empty() {
+        return Some("");
+    }
+    if prefix == "xml" {
+        return Some(XML_SPACE);
+    }
+    first_row(&scope.rows.0, prefix)
+}
+
+fn first_row<'a>(rows: &'a [(Text, Text)], prefix: &str) -> Option<&'a str>
+    ensures { option_copied result ≡ lookup (bytes_eq prefix.now) rows.now }
+{
+    for row in rows {
+        if prefix == row.0.as_str() {
+            return Some(row.1.as_str());
+        }
+    }
+    None
+}
+
+// Whether the name is this word without a prefix.
+pub(crate) fn is_word(word: &str, written: &Qualified) -> bool
+    ensures { result ≡ is_word word.now written.now }
+{
+    written.prefix.is_empty() && written.local.as_str() == word
+}

@@ -1,0 +1,67 @@
+//! Reads the text of a filter.
+ghost use Rattle.std.specs.Prelude.{IfErr, IfOk};
+ghost use Rattle.ifmap_filter.specs.Progress.{where_is};
+ghost use Rattle.ifmap_filter.specs.Reaching.{IsEndAnswer, IsRefused, StepsOn};
+ghost use Rattle.ifmap_filter.specs.Texts.{IsParsed};
+
+use crate::errors::FilterError;
+use crate::filters::Filter;
+use crate::lexing::{token_at, without_white};
+use crate::standing::{Standing, finish, take_token};
+use ifmap_elem::Text;
+use ifmap_reader::Scope;
+use std::alloc::Global;
+
+impl Filter {
+    /// The filter that the text writes, where names have the prefixes of this scope.
+    pub fn parse(alloc: Global, text: &Text, scope: &Scope) -> Result<Filter, FilterError>
+        ensures { IsParsed text.now scope.now result }
+    {
+        read_filter(alloc, text.as_str(), scope)
+    }
+}
+
+fn read_filter(alloc: Global, text: &str, scope: &Scope) -> Result<Filter, FilterError>
+    ensures { IsParsed text.now scope.now result }
+{
+    let mut standing = Standing::Start;
+    let mut rest = without_white(text);
+    while !rest.is_empty() {
+        let at = (text.len() - rest.len()) as u64;
+        let (next, left) = read_token(alloc, scope, standing, rest, at)?;
+        standing = next;
+        rest = left;
+    }
+    whole_filter(alloc, standing, text.len() as u64)
+}
+
+// Where the reader stands after the token at the front, which is at that place, and what is left after
+// white space.
+fn read_token<'a>(
+    alloc: Global,
+    scope: &Scope,
+    standing: Standing,
+    rest: &'a str,
+    at: u64,
+) -> Result<(Standing, &'a str), FilterError>
+    ensures next { IfOk result (λ n. StepsOn scope.now (where_is standing) rest.now (where_is n.0) n.1.now) }
+    ensures refused { IfErr result (λ e. IsRefused scope.now (where_is standing) rest.now at e) }
+{
+    let Some((token, after)) = token_at(alloc, rest)? else {
+        return Err(FilterError::NotAFilter { at });
+    };
+    let Some(next) = take_token(alloc, scope, standing, token)? else {
+        return Err(FilterError::NotAFilter { at });
+    };
+    Ok((next, without_white(after)))
+}
+
+// The filter, where the text may end here, at that place.
+fn whole_filter(alloc: Global, standing: Standing, at: u64) -> Result<Filter, FilterError>
+    ensures { IsEndAnswer (where_is standing) at result }
+{
+    match finish(alloc, standing)? {
+        Some(filter) => Ok(filter),
+        None => Err(FilterError::NotAFilter { at }),
+    }
+}

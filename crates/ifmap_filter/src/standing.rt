@@ -1,0 +1,409 @@
+//! Where a reader of filters stands, and what one more token makes of it.
+ghost use Rattle.std.specs.Prelude.{◌≡◌, ◌++◌, ◌∷◌, [], IfErr, IfOk};
+ghost use Rattle.std.specs.Option.{option_map};
+ghost use Rattle.ifmap_filter.specs.Progress.{IsNotSingle, compared, context, done_part, gathered, inner_place, next_part, step, step_done, step_equals, step_factor, step_joining, step_literal, step_local, step_named, step_test, step_tested, where_is, whole, with_factor};
+ghost use Rattle.ifmap_filter.specs.declared.filters.Predicate.{And, Or};
+ghost use Rattle.ifmap_filter.specs.declared.tokens.Token.TheVariants.{CloseBracket, CloseParenthesis};
+
+use crate::filters::{Filter, Predicate, Test};
+use crate::naming::{is_word, name_of};
+use crate::tokens::Token;
+use ifmap_elem::tokens::Qualified;
+use ifmap_elem::{Many, Name, Text};
+use ifmap_reader::Scope;
+use std::alloc::{AllocError as NoMemory, Global};
+
+// How deep parentheses may nest.
+const DEEPEST: usize = 64;
+
+// An or-part that is open: its and-parts that are done, and the factors that are done of the one that
+// is not.
+#[derive(Drop)]
+pub(crate) struct Frame {
+    pub(crate) ors: Many<Predicate>,
+    pub(crate) ands: Many<Predicate>,
+}
+
+// The open or-part in the brackets of a test: the tests before it, the name of its own, the or-parts
+// round it, the innermost last, and what is done of it.
+#[derive(Drop)]
+pub(crate) struct Inside {
+    pub(crate) tests: Many<Test>,
+    pub(crate) name: Option<Name>,
+    pub(crate) outer: Many<Frame>,
+    pub(crate) ors: Many<Predicate>,
+    pub(crate) ands: Many<Predicate>,
+}
+
+// What a comparison asks for, before its value.
+#[derive(Drop)]
+pub(crate) enum Asked {
+    Attribute(Text),
+    Child(Name),
+}
+
+#[derive(Drop)]
+pub(crate) enum Standing {
+    Start,
+    // After an `or` between tests.
+    TestDue(Many<Test>),
+    // After the name of a test.
+    Named(Many<Test>, Option<Name>),
+    // After the brackets of a test.
+    Tested(Many<Test>),
+    FactorDue(Inside),
+    // After `@`.
+    LocalDue(Inside),
+    EqualsDue(Inside, Asked),
+    LiteralDue(Inside, Asked),
+    FactorDone(Inside),
+}
+
+// What one more token makes of it; none where the token is not allowed there.
+pub(crate) fn take_token(
+    alloc: Global,
+    scope: &Scope,
+    standing: Standing,
+    token: Token,
+) -> Result<Option<Standing>, NoMemory>
+    ensures { IfOk result (λ o. option_map where_is o ≡ step scope.now (where_is standing) token) }
+{
+    match standing {
+        Standing::Start => take_test(alloc, scope, Many(Vec::new(alloc)), token),
+        Standing::TestDue(tests) => take_test(alloc, scope, tests, token),
+        Standing::Named(tests, name) => take_named(alloc, tests, name, token),
+        Standing::Tested(tests) => Ok(take_tested(tests, token)),
+        Standing::FactorDue(inside) => take_factor(alloc, scope, inside, token),
+        Standing::LocalDue(inside) => Ok(take_local(inside, token)),
+        Standing::EqualsDue(inside, asked) => Ok(take_equals(inside, asked, token)),
+        Standing::LiteralDue(inside, asked) => take_literal(inside, asked, token),
+        Standing::FactorDone(inside) => take_done(alloc, inside, token),
+    }
+}
+
+fn take_test(
+    alloc: Global,
+    scope: &Scope,
+    tests: Many<Test>,
+    token: Token,
+) -> Result<Option<Standing>, NoMemory>
+    ensures { IfOk result (λ o. option_map where_is o ≡ step_test scope.now tests token) }
+{
+    match token {
+        Token::Any => Ok(Some(Standing::Named(tests, None))),
+        Token::Name(written) => match name_of(alloc, scope, written)? {
+            Some(name) => Ok(Some(Standing::Named(tests, Some(name)))),
+            None => Ok(None),
+        },
+        _ => Ok(None),
+    }
+}
+
+fn take_named(
+    alloc: Global,
+    tests: Many<Test>,
+    name: Option<Name>,
+    token: Token,
+) -> Result<Option<Standing>, NoMemory>
+    ensures { IfOk result (λ o. option_map where_is o ≡ step_named tests name token) }
+{
+    match token {
+        Token::OpenBracket => {
+            let outer = Many(Vec::new(alloc));
+            let ors = Many(Vec::new(alloc));
+            let ands = Many(Vec::new(alloc));
+            Ok(Some(Standing::FactorDue(Inside {
+                tests,
+                name,
+                outer,
+                ors,
+                ands,
+            })))
+        }
+        token => {
+            let predicate = None;
+            let tests = with_test(tests, Test { name, predicate })?;
+            Ok(take_tested(tests, token))
+        }
+    }
+}
+
+fn with_test(tests: Many<Test>, test: Test) -> Result<Many<Test>, NoMemory>
+    ensures { IfOk result (λ made. made ≡ tests ++ test ∷ []) }
+{
+    let mut tests = tests;
+    tests.0.push(test)?;
+    Ok(tests)
+}
+
+fn take_tested(tests: Many<Test>, token: Token) -> Option<Standing>
+    ensures { option_map where_is result ≡ step_tested tests token }
+{
+    match token {
+        Token::Name(written) => {
+            if is_word("or", &written) {
+                Some(Standing::TestDue(tests))
+            } else {
+                None
+            }
+        }
+        _ => None,
+    }
+}
+
+fn take_factor(
+    alloc: Global,
+    scope: &Scope,
+    inside: Inside,
+    token: Token,
+) -> Result<Option<Standing>, NoMemory>
+    ensures { IfOk result (λ o. option_map where_is o ≡ step_factor scope.now (context inside) token) }
+{
+    match token {
+        Token::OpenParenthesis => open_group(alloc, inside),
+        Token::At => Ok(Some(Standing::LocalDue(inside))),
+        Token::Name(written) => match name_of(alloc, scope, written)? {
+            Some(name) => Ok(Some(Standing::EqualsDue(inside, Asked::Child(name)))),
+            None => Ok(None),
+        },
+        _ => Ok(None),
+    }
+}
+
+// After an opening parenthesis: none where it is one too deep.
+#[tactic(auto, using(crate::proofs::StandingLaws::too_deep, crate::proofs::StandingLaws::goes_deeper, crate::proofs::StandingLaws::pushed))]
+fn open_group(alloc: Global, inside: Inside) -> Result<Option<Standing>, NoMemory>
+    ensures { IfOk result (λ o. option_map where_is o ≡ inner_place (context inside)) }
+{
+    if inside.outer.0.len() >= DEEPEST {
+        return Ok(None);
+    }
+    let Inside {
+        tests,
+        name,
+        mut outer,
+        ors,
+        ands,
+    } = inside;
+    outer.0.push(Frame { ors, ands })?;
+    let ors = Many(Vec::new(alloc));
+    let ands = Many(Vec::new(alloc));
+    Ok(Some(Standing::FactorDue(Inside {
+        tests,
+        name,
+        outer,
+        ors,
+        ands,
+    })))
+}
+
+fn take_local(inside: Inside, token: Token) -> Option<Standing>
+    ensures { option_map where_is result ≡ step_local (context inside) token }
+{
+    match token {
+        Token::Name(written) => {
+            if written.prefix.is_empty() {
+                Some(Standing::EqualsDue(inside, Asked::Attribute(written.local)))
+            } else {
+                None
+            }
+        }
+        _ => None,
+    }
+}
+
+fn take_equals(inside: Inside, asked: Asked, token: Token) -> Option<Standing>
+    ensures { option_map where_is result ≡ step_equals (context inside) asked token }
+{
+    match token {
+        Token::EqualsSign => Some(Standing::LiteralDue(inside, asked)),
+        _ => None,
+    }
+}
+
+fn take_literal(inside: Inside, asked: Asked, token: Token) -> Result<Option<Standing>, NoMemory>
+    ensures { IfOk result (λ o. option_map where_is o ≡ step_literal (context inside) asked token) }
+{
+    match token {
+        Token::Literal(value) => {
+            let inside = with_factor(inside, compared(asked, value))?;
+            Ok(Some(Standing::FactorDone(inside)))
+        }
+        _ => Ok(None),
+    }
+}
+
+fn compared(asked: Asked, value: Text) -> Predicate
+    ensures { result ≡ compared asked value }
+{
+    match asked {
+        Asked::Attribute(local) => Predicate::Attr { local, value },
+        Asked::Child(name) => Predicate::Child { name, value },
+    }
+}
+
+fn with_factor(inside: Inside, factor: Predicate) -> Result<Inside, NoMemory>
+    ensures { IfOk result (λ made. context made ≡ with_factor (context inside) factor) }
+{
+    let mut inside = inside;
+    inside.ands.0.push(factor)?;
+    Ok(inside)
+}
+
+fn take_done(alloc: Global, inside: Inside, token: Token) -> Result<Option<Standing>, NoMemory>
+    ensures { IfOk result (λ o. option_map where_is o ≡ step_done (context inside) token) }
+{
+    match token {
+        Token::Name(written) => take_joining(alloc, inside, &written),
+        Token::CloseParenthesis => close_group(inside),
+        Token::CloseBracket => close_test(inside),
+        _ => Ok(None),
+    }
+}
+
+// After a name that joins: `and`, or `or`, with which the next part begins.
+fn take_joining(
+    alloc: Global,
+    inside: Inside,
+    written: &Qualified,
+) -> Result<Option<Standing>, NoMemory>
+    ensures { IfOk result (λ o. option_map where_is o ≡ step_joining (context inside) written.now) }
+{
+    if is_word("and", written) {
+        return Ok(Some(Standing::FactorDue(inside)));
+    }
+    if is_word("or", written) {
+        return Ok(Some(Standing::FactorDue(next_part(alloc, inside)?)));
+    }
+    Ok(None)
+}
+
+fn next_part(alloc: Global, inside: Inside) -> Result<Inside, NoMemory>
+    ensures { IfOk result (λ made. context made ≡ next_part (context inside)) }
+{
+    let Inside {
+        tests,
+        name,
+        outer,
+        mut ors,
+        ands,
+    } = inside;
+    ors.0.push(all_of(ands))?;
+    let ands = Many(Vec::new(alloc));
+    Ok(Inside {
+        tests,
+        name,
+        outer,
+        ors,
+        ands,
+    })
+}
+
+// After a closing parenthesis: none where none is open.
+fn close_group(inside: Inside) -> Result<Option<Standing>, NoMemory>
+    ensures { IfOk result (λ o. option_map where_is o ≡ step_done (context inside) CloseParenthesis) }
+{
+    let Inside {
+        tests,
+        name,
+        mut outer,
+        ors,
+        ands,
+    } = inside;
+    let Some(frame) = outer.0.pop() else {
+        return Ok(None);
+    };
+    let part = done_part(ors, ands)?;
+    let Frame { ors, mut ands } = frame;
+    ands.0.push(part)?;
+    Ok(Some(Standing::FactorDone(Inside {
+        tests,
+        name,
+        outer,
+        ors,
+        ands,
+    })))
+}
+
+// After a closing bracket: none where parentheses are open.
+fn close_test(inside: Inside) -> Result<Option<Standing>, NoMemory>
+    ensures { IfOk result (λ o. option_map where_is o ≡ step_done (context inside) CloseBracket) }
+{
+    let Inside {
+        tests,
+        name,
+        outer,
+        ors,
+        ands,
+    } = inside;
+    if !outer.0.is_empty() {
+        return Ok(None);
+    }
+    let predicate = Some(done_part(ors, ands)?);
+    let tests = with_test(tests, Test { name, predicate })?;
+    Ok(Some(Standing::Tested(tests)))
+}
+
+// The predicate of an or-part, by its and-parts that are done and the factors of the last.
+fn done_part(ors: Many<Predicate>, ands: Many<Predicate>) -> Result<Predicate, NoMemory>
+    ensures { IfOk result (λ made. made ≡ done_part ors ands) }
+{
+    let mut ors = ors;
+    ors.0.push(all_of(ands))?;
+    Ok(one_of(ors))
+}
+
+// One part alone is that part.
+#[tactic(auto, using(crate::proofs::StandingLaws::not_single))]
+fn all_of(parts: Many<Predicate>) -> Predicate
+    ensures { result ≡ gathered And parts }
+{
+    match single(parts) {
+        Ok(part) => part,
+        Err(parts) => Predicate::And(parts),
+    }
+}
+
+#[tactic(auto, using(crate::proofs::StandingLaws::not_single))]
+fn one_of(parts: Many<Predicate>) -> Predicate
+    ensures { result ≡ gathered Or parts }
+{
+    match single(parts) {
+        Ok(part) => part,
+        Err(parts) => Predicate::Or(parts),
+    }
+}
+
+// The only part, or all of them.
+#[tactic(auto, using(crate::proofs::StandingLaws::many_not_single))]
+fn single(parts: Many<Predicate>) -> Result<Predicate, Many<Predicate>>
+    ensures one { IfOk result (λ part. parts ≡ part ∷ []) }
+    ensures all { IfErr result (λ others. (others ≡ parts) × IsNotSingle parts) }
+{
+    let mut parts = parts;
+    if parts.0.len() != 1 {
+        return Err(parts);
+    }
+    match parts.0.pop() {
+        Some(part) => Ok(part),
+        None => Err(parts),
+    }
+}
+
+// The filter, where the text may end here.
+pub(crate) fn finish(alloc: Global, standing: Standing) -> Result<Option<Filter>, NoMemory>
+    ensures { IfOk result (λ o. o ≡ whole (where_is standing)) }
+{
+    match standing {
+        Standing::Start => Ok(Some(Filter {
+            tests: Many(Vec::new(alloc)),
+        })),
+        Standing::Named(tests, name) => {
+            let predicate = None;
+            let tests = with_test(tests, Test { name, predicate })?;
+            Ok(Some(Filter { tests }))
+        }
+        Standing::Tested(tests) => Ok(Some(Filter { tests })),
+        _ => Ok(None),
+    }
+}

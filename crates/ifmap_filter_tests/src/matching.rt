@@ -1,0 +1,124 @@
+//! Which elements meet which filters, judged by hand.
+use crate::makers::Comparison::{Attr, Child};
+use crate::makers::{Comparison, filter_of, parts_of, predicate_of, role};
+use ifmap_elem::{Copied, Equals, Many, Name};
+use ifmap_filter::{Filter, Predicate};
+use std::alloc::{AllocError as NoMemory, Global};
+use std::test::Fail;
+
+// How many cases agree, up to the first that does not.
+fn agreeing(alloc: Global, cases: &[(Comparison, bool)]) -> Result<usize, NoMemory> {
+    let element = role(alloc)?;
+    for (i, (asked, wanted)) in cases.iter().enumerate() {
+        let predicate = predicate_of(alloc, *asked)?;
+        let filter = filter_of(alloc, None, Some(predicate))?;
+        if filter.matches(&element) != *wanted {
+            return Ok(i);
+        }
+    }
+    Ok(cases.len())
+}
+
+#[test]
+fn comparisons_hold_as_judged_by_hand(rt: HostRuntime) -> Result<(), Fail> {
+    let alloc = rt.alloc();
+    let cases: [(Comparison, bool); 14] = [
+        (Attr("a", "1"), true),
+        (Attr("a", "2"), false),
+        (Attr("a", ""), false),
+        // In a namespace.
+        (Attr("b", "2"), false),
+        (Attr("c", ""), false),
+        // The text children alone, joined.
+        (Child("m", "name", "ab"), true),
+        (Child("m", "name", "acb"), false),
+        (Child("m", "name", "a"), false),
+        (Child("m", "name", "abc"), false),
+        (Child("", "name", "ab"), false),
+        (Child("m", "none", ""), true),
+        (Child("m", "none", "x"), false),
+        // Neither the element itself nor what stands deeper.
+        (Child("m", "role", "x"), false),
+        (Child("m", "inner", "c"), false),
+    ];
+    assert_eq!(rt; agreeing(alloc, &cases)?, cases.len());
+    Ok(())
+}
+
+const HOLDS: Comparison = Attr("a", "1");
+
+const FAILS: Comparison = Attr("a", "2");
+
+fn meets_joined(alloc: Global, all: bool, asked: &[Comparison]) -> Result<bool, NoMemory> {
+    let parts = parts_of(alloc, asked)?;
+    let predicate = if all {
+        Predicate::And(parts)
+    } else {
+        Predicate::Or(parts)
+    };
+    let filter = filter_of(alloc, None, Some(predicate))?;
+    Ok(filter.matches(&role(alloc)?))
+}
+
+#[test]
+fn all_parts_hold_or_one_does(rt: HostRuntime) -> Result<(), Fail> {
+    let alloc = rt.alloc();
+    let cases: [(bool, [Comparison; 2], bool); 6] = [
+        (true, [HOLDS, HOLDS], true),
+        (true, [HOLDS, FAILS], false),
+        (true, [FAILS, HOLDS], false),
+        (false, [HOLDS, FAILS], true),
+        (false, [FAILS, HOLDS], true),
+        (false, [FAILS, FAILS], false),
+    ];
+    for (all, asked, wanted) in cases {
+        assert_eq!(rt; meets_joined(alloc, all, &asked)?, wanted);
+    }
+    Ok(())
+}
+
+fn meets_name(alloc: Global, name: Option<Name>) -> Result<bool, NoMemory> {
+    let filter = filter_of(alloc, name, None)?;
+    Ok(filter.matches(&role(alloc)?))
+}
+
+#[test]
+fn names_are_met_by_their_elements_and_no_name_by_all(rt: HostRuntime) -> Result<(), Fail> {
+    let alloc = rt.alloc();
+    assert_eq!(rt; meets_name(alloc, None)?, true);
+    let cases = [
+        ("m", "role", true),
+        ("m", "name", false),
+        ("", "role", false),
+    ];
+    for (space, local, wanted) in cases {
+        let name = Name::new(alloc, space, local)?;
+        assert_eq!(rt; meets_name(alloc, Some(name))?, wanted);
+    }
+    let none = Filter {
+        tests: Many(Vec::new(alloc)),
+    };
+    assert_eq!(rt; none.matches(&role(alloc)?), false);
+    Ok(())
+}
+
+// `m:role[name='a' or @x='b' and c='d']`
+fn or_of_and(alloc: Global) -> Result<Filter, NoMemory> {
+    let both = parts_of(alloc, &[Attr("x", "b"), Child("", "c", "d")])?;
+    let mut parts = Vec::new(alloc);
+    parts.push(predicate_of(alloc, Child("", "name", "a"))?)?;
+    parts.push(Predicate::And(both))?;
+    let predicate = Predicate::Or(Many(parts));
+    filter_of(alloc, Some(Name::new(alloc, "m", "role")?), Some(predicate))
+}
+
+#[test]
+fn a_copy_equals_its_original_and_no_other_filter(rt: HostRuntime) -> Result<(), Fail> {
+    let alloc = rt.alloc();
+    let filter = or_of_and(alloc)?;
+    let copy = filter.copy(alloc)?;
+    assert_eq!(rt; copy.equals(&filter), true);
+    let other = filter_of(alloc, Some(Name::new(alloc, "m", "role")?), None)?;
+    assert_eq!(rt; copy.equals(&other), false);
+    Ok(())
+}

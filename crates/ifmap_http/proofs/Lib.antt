@@ -1,0 +1,5 @@
+pub mod Filling
+pub mod Gets
+pub mod Reading
+pub mod Sending
+pub mod Taking

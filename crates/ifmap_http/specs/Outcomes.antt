@@ -1,0 +1,56 @@
+-- What the calls of a wire answer.
+use Rattle.std.specs.Prelude.{◌≡◌, ℕ, Bool, true, false, List, take, Option, Some}
+use Rattle.std.specs.Io.KnownBytes.{Appends, Keeps}
+use Rattle.ifmap_heads.specs.Answers.{ReadsAnswer, answered, not_http, status as other_status, ended as unanswered}
+use Rattle.ifmap_heads.specs.Posts.{ReadsPost, ended, posted, status, truncated}
+use Rattle.ifmap_http.specs.declared.wires.Answered.{Answered}
+use Rattle.ifmap_http.specs.declared.wires.Answered.TheVariants as answer
+use Rattle.ifmap_http.specs.declared.wires.Got.{Got}
+use Rattle.ifmap_http.specs.declared.wires.Got.TheVariants as got
+use Rattle.ifmap_http.specs.declared.wires.Sent.{Sent}
+use Rattle.ifmap_http.specs.declared.wires.Sent.TheVariants as sent
+
+-- a wire that had left begins with what was got, and after a post has left what comes after its body
+abbrev pub GetsPost : List ℕ → Option (List ℕ) → Got → Type 0
+GetsPost left after (got.Posted post) =
+    (rest : List ℕ) × (after ≡ Some rest) × ReadsPost left (posted post.client post.body post.close rest)
+GetsPost left after got.Ended = ReadsPost left ended
+GetsPost left after got.Truncated = ReadsPost left truncated
+GetsPost left after (got.Status number) = ReadsPost left (status number) × (after ≡ Some left)
+GetsPost left after got.ReadFault = Unit {0}
+GetsPost left after got.NoMemory = Unit {0}
+
+-- a post was got
+abbrev pub is_posted : Got → Bool
+is_posted (got.Posted post) = true
+is_posted got.Ended = false
+is_posted got.Truncated = false
+is_posted (got.Status number) = false
+is_posted got.ReadFault = false
+is_posted got.NoMemory = false
+
+-- a wire that had left begins with what was answered, and has left what comes after it
+abbrev pub GetsAnswer : List ℕ → Option (List ℕ) → Answered → Type 0
+GetsAnswer left after (answer.Body body) =
+    (rest : List ℕ) × (after ≡ Some rest) × ReadsAnswer left (answered body rest)
+GetsAnswer left after (answer.Status number) =
+    (rest : List ℕ) × (after ≡ Some rest) × ReadsAnswer left (other_status number rest)
+GetsAnswer left after answer.Ended = ReadsAnswer left unanswered
+GetsAnswer left after answer.NotHttp = ReadsAnswer left not_http
+GetsAnswer left after answer.ReadFault = Unit {0}
+GetsAnswer left after answer.NoMemory = Unit {0}
+
+-- a body or a status was answered
+abbrev pub is_answered : Answered → Bool
+is_answered (answer.Body body) = true
+is_answered (answer.Status number) = true
+is_answered answer.Ended = false
+is_answered answer.NotHttp = false
+is_answered answer.ReadFault = false
+is_answered answer.NoMemory = false
+
+-- known bytes grow by the message, by a prefix of it after a fault, and by nothing for want of memory
+abbrev pub Sends : Option (List ℕ) → Option (List ℕ) → Sent → List ℕ → Type 0
+Sends old new sent.Done message = Appends old new message
+Sends old new sent.WriteFault message = (n : ℕ) × Appends old new (take n message)
+Sends old new sent.NoMemory message = Keeps old new

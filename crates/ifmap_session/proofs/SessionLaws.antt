@@ -1,0 +1,595 @@
+-- The live sessions and the clients' entries, as sessions change, end and begin.
+-- First: texts, and lists whose texts differ. Then: what a client is found to have after a session ended (`client_after`,
+-- `holder_after`, `client_gone`), began (`begun_indexed`) or changed (`client_changed`). Then: the session that an id names
+-- (`id_at`, `id_nowhere`). Last: rows and entries together, as they are kept (`kept_changed`, `kept_ended`, `kept_begun`,
+-- `kept_filled`).
+use Rattle.std.proofs.Common.{◌≡◌, refl, sym, ◌∙◌, ap, subst, ℕ, zero, suc, ◌+◌, ◌-◌, ◌<◌, ◌≤◌, ◌^◌, ◌==◌, Bool, true, false, not, cond, List, [], ◌∷◌, ◌++◌, length, map, set, Option, None, Some, Result, Ok, Err, inl, inr, arith}
+use Rattle.std.proofs.lemmas.Bool.{both_ways, cases_Bool, eqb-true, eqb-false, eq-eqb, false_from_ne_true, not-true}
+use Rattle.std.proofs.lemmas.Bool.Decides.{nat_tests}
+use Rattle.std.proofs.lemmas.Cmp.{nat_list_cmp_total, nat_list_eq_equiv}
+use Rattle.std.proofs.lemmas.List.Folds.{find-append}
+use Rattle.std.proofs.lemmas.List.Kept.{IsStrictlySortedBy-filter}
+use Rattle.std.proofs.lemmas.Map.Text.{is_eq-slice_cmp}
+use Rattle.std.specs.Cmp.Lexicographic.{same_text, slice_cmp}
+use Rattle.std.specs.Fmt.{decimal}
+use Rattle.std.specs.List.{AllByRecursion, IsDistinct, filter, find, insert, list_any, remove, slice_get}
+use Rattle.std.specs.List.Sorted.{IsStrictlySortedBy, IsBinarySearchResult, IsSearchInRange}
+use Rattle.std.specs.Option.{IfSome, IsSome, is_some, option_map, option_or, option_to_list}
+use Rattle.std.specs.Result.{IfErr, IsErr, IsOk}
+use Rattle.std.specs.Ordering.{is_eq, nat_cmp, on}
+use Rattle.std.specs.declared.cmp.Ordering.{Ordering}
+use Rattle.std.specs.declared.cmp.Ordering.TheVariants.{Less}
+use Rattle.ifmap_session.specs.declared.holders.Holder.{Holder}
+use Rattle.ifmap_session.specs.declared.rows.Row.{Row}
+use Rattle.ifmap_session.specs.Kept.{AreHolders, AreOwn, AreRows, BeginsWithSerial, IsOwn, client_order, holder_of, live_of, row_order, seats_of}
+use Rattle.ifmap_session.specs.Places.{IsPlaceFor, IsPlaceOf}
+use Rattle.ifmap_session.specs.Seats.{Seat}
+use Rattle.ifmap_session.specs.Sessions.{Session, change, is_text, most_sessions, session_of_client, session_with_id, session_with_serial, without_sessions}
+use Rattle.ifmap_session.proofs.Halving.{all_found, filter_same, find_insert, find_none, none_passes, place_for, placed}
+use Rattle.ifmap_session.proofs.RowLaws.{Own, Up, begun_last, changed, counted_filter, counted_push, counted_set, empty, ended, found, own_filter, own_push, own_set, seats_filter, taken}
+use Rattle.ifmap_lemmas.specs.Filters.{all_weaker, filter_all, filter_passes}
+
+abbrev pub session_order : Session → Session → Ordering
+session_order = on (λ (s : Session). s.serial) nat_cmp
+
+-- texts and numbers
+pub text_is : (a b : List ℕ) → is_text a b ≡ true → a ≡ b
+text_is a b e = same_text a b (sym e)
+
+pub text_itself : (a : List ℕ) → is_text a a ≡ true
+text_itself a = nat_list_eq_equiv.refl a
+
+pub text_same : (a b : List ℕ) → a ≡ b → is_text a b ≡ true
+text_same a b e = subst (λ t. is_text a t ≡ true) e (text_itself a)
+
+pub text_flip : (a b : List ℕ) → is_text a b ≡ is_text b a
+text_flip a b = nat_list_eq_equiv.symm a b
+
+pub is_number : (a b : ℕ) → (a == b) ≡ is_eq (nat_cmp a b)
+is_number a b = grind (arith, nat_tests)
+
+pub holder_placed : (holders : List Holder) (client : List ℕ) (r : Result ℕ ℕ) → IsStrictlySortedBy client_order holders
+    → IsSearchInRange r (length holders) → IsBinarySearchResult (λ (h : Holder). slice_cmp nat_cmp h.client client) holders r → IsPlaceOf
+    (λ (h : Holder). is_text h.client client) holders r
+holder_placed holders client r up within is =
+    placed Holder (List ℕ) (λ (h : Holder). h.client) (slice_cmp nat_cmp) nat_list_cmp_total is_text
+    (λ a b. sym (is_eq-slice_cmp a b)) holders client r up within is
+
+pub holder_gap : (holders : List Holder) (client : List ℕ) (i : ℕ) → IsStrictlySortedBy client_order holders → i ≤ length holders
+    → IsBinarySearchResult (λ (h : Holder). slice_cmp nat_cmp h.client client) holders (Err i) → IsPlaceFor client holders i
+holder_gap holders client i up within is =
+    λ serial. place_for Holder (List ℕ) (λ (h : Holder). h.client) (slice_cmp nat_cmp) nat_list_cmp_total is_text
+    (λ a b. sym (is_eq-slice_cmp a b)) holders i (record { client = client; serial = serial }) up within is
+
+-- the sessions without one serial
+pub without_one : (serial : ℕ) (live : List Session) → filter (λ (s : Session). not (s.serial == serial)) live
+    ≡ without_sessions (serial ∷ []) live
+without_one serial live =
+    filter_same (λ (s : Session). not (s.serial == serial)) (λ (s : Session). not (list_any (λ n. n == s.serial) (serial ∷ [])))
+    (λ s. grind (arith, nat_tests)) live
+
+-- distinct texts
+all_map_filter : {X : Type 0} (key : X → List ℕ) (p : X → Bool) (P : List ℕ → Type 0) (xs : List X) → AllByRecursion P (map key xs)
+    → AllByRecursion P (map key (filter p xs))
+all_map_filter key p P [] h = tt
+all_map_filter key p P (x ∷ xs) h =
+    elim (p x) as (λ b. AllByRecursion P (map key (cond b (x ∷ filter p xs) (filter p xs)))) [
+      | true ↦ (h.0, all_map_filter key p P xs h.1)
+      | false ↦ all_map_filter key p P xs h.1
+    ]
+
+pub distinct_filter : {X : Type 0} (key : X → List ℕ) (p : X → Bool) (xs : List X) → IsDistinct is_text (map key xs)
+    → IsDistinct is_text (map key (filter p xs))
+unfolding IsDistinct
+distinct_filter key p [] h = tt
+distinct_filter key p (x ∷ xs) h =
+    elim (p x) as (λ b. IsDistinct is_text (map key (cond b (x ∷ filter p xs) (filter p xs)))) [
+      | true ↦ (all_map_filter key p (λ k. is_text (key x) k ≡ false) xs h.0, distinct_filter key p xs h.1)
+      | false ↦ distinct_filter key p xs h.1
+    ]
+
+all_map_push : {X : Type 0} (key : X → List ℕ) (P : List ℕ → Type 0) (xs : List X) (y : X) → AllByRecursion P (map key xs) → P (key y)
+    → AllByRecursion P (map key (xs ++ y ∷ []))
+all_map_push key P [] y h k = (k, tt)
+all_map_push key P (x ∷ xs) y h k = (h.0, all_map_push key P xs y h.1 k)
+
+pub distinct_push : {X : Type 0} (key : X → List ℕ) (xs : List X) (y : X) → IsDistinct is_text (map key xs) → find
+    (λ x. is_text (key x) (key y)) xs ≡ None → IsDistinct is_text (map key (xs ++ y ∷ []))
+unfolding IsDistinct
+distinct_push key [] y h e = (tt, tt)
+distinct_push key (x ∷ xs) y h e =
+    let none : AllByRecursion (λ z. is_text (key z) (key y) ≡ false) (x ∷ xs) = none_passes (λ z. is_text (key z) (key y)) (x ∷ xs) e in (
+      all_map_push key (λ k. is_text (key x) k ≡ false) xs y h.0 none.0,
+      distinct_push key xs y h.1 (find_none (λ z. is_text (key z) (key y)) xs none.1),
+    )
+
+pub all_map_found : {X : Type 0} (key : X → List ℕ) (P : List ℕ → Type 0) (p : X → Bool) (xs : List X) (x : X)
+    → AllByRecursion P (map key xs) → find p xs ≡ Some x → P (key x)
+all_map_found key P p [] x h e = cc
+all_map_found key P p (y ∷ ys) x h e =
+    elim (cases_Bool (p y)) [
+      | inl hit ↦ let same : y ≡ x = cc (rw hit at e) in subst (λ z. P (key z)) same h.0
+      | inr miss ↦ all_map_found key P p ys x h.1 (rw miss at e)
+    ]
+
+-- none of those that follow has the text of the one before them
+pub rest_differ : {X : Type 0} (key : X → List ℕ) (x : X) (c : List ℕ) (xs : List X) → AllByRecursion
+    (λ k. is_text (key x) k ≡ false) (map key xs) → is_text (key x) c ≡ true → AllByRecursion (λ z. is_text (key z) c ≡ false) xs
+rest_differ key x c [] h e = tt
+rest_differ key x c (z ∷ zs) h e =
+    (subst (λ k. is_text (key z) k ≡ false) (text_is (key x) c e) (text_flip (key z) (key x) ∙ h.0), rest_differ key x c zs h.1 e)
+
+-- two choices in a row change places where they are not both made
+swap_choices : {A : Type 0} (a b : Bool) (u v w : A) → (a ≡ true → b ≡ true → ⊥) → cond a u (cond b v w) ≡ cond b v (cond a u w)
+swap_choices true true u v w h = absurd (h refl refl)
+swap_choices true false u v w h = refl
+swap_choices false true u v w h = refl
+swap_choices false false u v w h = refl
+
+not_both : (a b c : List ℕ) → is_text a b ≡ false → is_text a c ≡ true → is_text b c ≡ true → ⊥
+not_both a b c differ one other = both_ways (is_text a b) differ (subst (λ t. is_text a t ≡ true) (sym (text_is b c other)) one)
+
+map_choice : {A B : Type 0} (f : A → B) (a : Bool) (o : Option A) → option_map f (cond a None o) ≡ cond a None (option_map f o)
+map_choice f true o = refl
+map_choice f false o = refl
+
+map_none : {A B : Type 0} (f : A → B) (o : Option A) → option_map f o ≡ None → o ≡ None
+map_none f None e = refl
+map_none f (Some x) e = cc
+
+or_none : {A : Type 0} (o : Option A) → option_or o None ≡ o
+or_none None = refl
+or_none (Some x) = refl
+
+-- a client's session after the one of a serial ended
+later_stays : (serial : ℕ) (x t : Session) → x.serial ≡ serial → session_order x t ≡ Less → not (t.serial == serial) ≡ true
+later_stays serial x t hit less = grind (arith, nat_tests)
+
+at_first : (x : Session) (xs : List Session) (c : List ℕ) → AllByRecursion
+    (λ k. is_text x.client k ≡ false) (map (λ (t : Session). t.client) xs)
+    → session_of_client c xs ≡ cond (is_text x.client c) None (session_of_client c (x ∷ xs))
+at_first x xs c differ =
+    elim (cases_Bool (is_text x.client c)) [
+      | inl hit ↦ rw hit (find_none (λ (t : Session). is_text t.client c) xs (rest_differ (λ (t : Session). t.client) x c xs differ hit))
+      | inr miss ↦ rw miss refl
+    ]
+
+pub client_after : (live : List Session) (serial : ℕ) (s : Session) (c : List ℕ) → IsStrictlySortedBy session_order live
+    → IsDistinct is_text (map (λ (t : Session). t.client) live) → session_with_serial serial live ≡ Some s
+    → session_of_client c (filter (λ (t : Session). not (t.serial == serial)) live)
+    ≡ cond (is_text s.client c) None (session_of_client c live)
+unfolding IsStrictlySortedBy IsDistinct
+client_after [] serial s c up apart e = cc
+client_after (x ∷ xs) serial s c up apart e =
+    elim (cases_Bool (x.serial == serial)) [
+      | inl hit ↦
+          let same : x ≡ s = cc (rw hit at e) in
+          let kept : filter (λ (t : Session). not (t.serial == serial)) xs ≡ xs =
+          filter_all (λ (t : Session). not (t.serial == serial)) xs (all_weaker (λ z. session_order x z ≡ Less)
+          (λ t. not (t.serial == serial) ≡ true) (λ t l. later_stays serial x t (eqb-true x.serial serial hit) l) xs up.0) in
+          rw (hit, kept) (subst (λ t. session_of_client c xs ≡ cond (is_text t.client c) None (session_of_client c (x ∷ xs))) same
+          (at_first x xs c apart.0))
+      | inr miss ↦
+          let there : session_with_serial serial xs ≡ Some s = rw miss at e in
+          let differ : is_text x.client s.client ≡ false = all_map_found (λ (t : Session). t.client) (λ k. is_text x.client k ≡ false)
+          (λ (t : Session). t.serial == serial) xs s apart.0 there in
+          rw (miss, client_after xs serial s c up.1 apart.1 there)
+          (swap_choices (is_text x.client c) (is_text s.client c) (Some x) None (session_of_client c xs)
+          (not_both x.client s.client c differ))
+    ]
+
+no_choice : (a : Bool) → ◌≡◌ {A = Option Holder} None (cond a None None)
+no_choice true = refl
+no_choice false = refl
+
+once : {A : Type 0} (a : Bool) (u w : Option A) → cond a None w ≡ cond a None (cond a u w)
+once true u w = refl
+once false u w = refl
+
+-- a client's entry after the one of a client went
+pub holder_after : (holders : List Holder) (k c : List ℕ) → holder_of c (filter (λ (h : Holder). not (is_text h.client k)) holders)
+    ≡ cond (is_text k c) None (holder_of c holders)
+holder_after [] k c = no_choice (is_text k c)
+holder_after (x ∷ xs) k c =
+    elim (cases_Bool (is_text x.client k)) [
+      | inl hit ↦ rw (hit, holder_after xs k c) (subst (λ t. cond (is_text k c) None (holder_of c xs)
+          ≡ cond (is_text k c) None (cond (is_text t c) (Some x) (holder_of c xs))) (sym (text_is x.client k hit))
+          (once (is_text k c) (Some x) (holder_of c xs)))
+      | inr miss ↦ rw (miss, holder_after xs k c) (swap_choices (is_text x.client c) (is_text k c) (Some x) None (holder_of c xs)
+          (not_both x.client k c miss))
+    ]
+
+still_there : (serial : ℕ) (c : List ℕ) (o : Option Session) (rest : List Session) → AllByRecursion
+    (λ (t : Session). not (t.serial == serial) ≡ true) rest → session_of_client c rest ≡ o → option_map
+    (λ (t : Session). t.serial) o ≡ Some serial → ⊥
+still_there serial c None rest h e held = cc
+still_there serial c (Some t) rest h e held =
+    let same : t.serial ≡ serial = cc in
+    let other : not (t.serial == serial) ≡ true = all_found (λ (t : Session). not (t.serial == serial) ≡ true)
+    (λ (t : Session). is_text t.client c) rest t h e in
+    both_ways (t.serial == serial) (not-true (t.serial == serial) other) (eq-eqb t.serial serial same)
+
+-- the client whose session ended has none
+pub client_gone : (live : List Session) (serial : ℕ) (s : Session) (c : List ℕ) → IsStrictlySortedBy session_order live
+    → IsDistinct is_text (map (λ (t : Session). t.client) live) → session_with_serial serial live ≡ Some s → option_map
+    (λ (t : Session). t.serial) (session_of_client c live) ≡ Some serial
+    → session_of_client c (filter (λ (t : Session). not (t.serial == serial)) live) ≡ None
+client_gone live serial s c up apart e held =
+    let after = client_after live serial s c up apart e in
+    elim (cases_Bool (is_text s.client c)) [
+      | inl hit ↦ rw hit at after
+      | inr miss ↦ absurd (still_there serial c (session_of_client c live) (filter
+          (λ (t : Session). not (t.serial == serial)) live) (filter_passes
+          (λ (t : Session). not (t.serial == serial)) live) (rw miss at after) held)
+    ]
+
+-- a client's session after one began
+pub begun_indexed : (y : Session) (live : List Session) (holders : List Holder) (i : ℕ) (c : List ℕ)
+    → session_of_client y.client live ≡ None → ((k : List ℕ) → option_map (λ (h : Holder). h.serial) (holder_of k holders) ≡ option_map
+    (λ (s : Session). s.serial) (session_of_client k live)) → option_map
+    (λ (h : Holder). h.serial) (holder_of c (insert holders i (record { client = y.client; serial = y.serial }))) ≡ option_map
+    (λ (s : Session). s.serial) (session_of_client c (live ++ y ∷ []))
+begun_indexed y live holders i c none indexed =
+    let no_session : is_text y.client c ≡ true → session_of_client c live ≡ None =
+    λ e. subst (λ t. session_of_client t live ≡ None) (text_is y.client c e) none in
+    let no_holder : is_text y.client c ≡ true → holder_of c holders ≡ None =
+    λ e. map_none (λ (h : Holder). h.serial) (holder_of c holders) (indexed c
+    ∙ ap (option_map (λ (s : Session). s.serial)) (no_session e)) in
+    let entry : holder_of c (insert holders i (record { client = y.client; serial = y.serial }))
+    ≡ cond (is_text y.client c) (Some (record { client = y.client; serial = y.serial })) (holder_of c holders) =
+    find_insert (λ (h : Holder). is_text h.client c) holders i (record { client = y.client; serial = y.serial }) no_holder in
+    let session = find-append (λ (s : Session). is_text s.client c) live (y ∷ []) in
+    elim (cases_Bool (is_text y.client c)) [
+      | inl hit ↦ rw (entry, session, hit, no_session hit) refl
+      | inr miss ↦ rw (entry, session, miss, or_none (session_of_client c live)) (indexed c)
+    ]
+
+-- a client's session after one changed
+pub record Keeps (f : Session → Session) : Type 0 where
+  pub serial : (s : Session) → (f s).serial ≡ s.serial
+  pub id : (s : Session) → (f s).id ≡ s.id
+  pub client : (s : Session) → (f s).client ≡ s.client
+
+one_changed : (n : ℕ) (f : Session → Session) → Keeps f → (x : Session) → (cond (x.serial == n) (f x) x).client ≡ x.client
+one_changed n f k x = elim (cases_Bool (x.serial == n)) [ inl hit ↦ rw hit (k.client x) | inr miss ↦ rw miss refl ]
+
+one_numbered : (n : ℕ) (f : Session → Session) → Keeps f → (x : Session) → (cond (x.serial == n) (f x) x).serial ≡ x.serial
+one_numbered n f k x = elim (cases_Bool (x.serial == n)) [ inl hit ↦ rw hit (k.serial x) | inr miss ↦ rw miss refl ]
+
+pub clients_same : (n : ℕ) (f : Session → Session) → Keeps f → (live : List Session)
+    → map (λ (s : Session). s.client) (change n f live) ≡ map (λ (s : Session). s.client) live
+clients_same n f k [] = refl
+clients_same n f k (x ∷ live) = rw (one_changed n f k x, clients_same n f k live) refl
+
+pub length_same : (n : ℕ) (f : Session → Session) (live : List Session) → length (change n f live) ≡ length live
+length_same n f [] = refl
+length_same n f (x ∷ live) = ap (λ m. suc m) (length_same n f live)
+
+choose_serial : (b : Bool) (x y : Session) (o p : Option Session) → x.serial ≡ y.serial → option_map (λ (s : Session). s.serial) o ≡ option_map
+    (λ (s : Session). s.serial) p → option_map (λ (s : Session). s.serial) (cond b (Some x) o) ≡ option_map
+    (λ (s : Session). s.serial) (cond b (Some y) p)
+choose_serial true x y o p e h = ap Some e
+choose_serial false x y o p e h = h
+
+pub client_changed : (n : ℕ) (f : Session → Session) → Keeps f → (c : List ℕ) (live : List Session)
+    → option_map (λ (s : Session). s.serial) (session_of_client c (change n f live)) ≡ option_map
+    (λ (s : Session). s.serial) (session_of_client c live)
+client_changed n f k c [] = refl
+client_changed n f k c (x ∷ live) =
+    rw (one_changed n f k x) (choose_serial (is_text x.client c) (cond (x.serial == n) (f x) x) x (session_of_client c (change n f live))
+    (session_of_client c live) (one_numbered n f k x) (client_changed n f k c live))
+
+-- the session that an id names
+with_serial_none : (live : List Session) (n : ℕ) (id : List ℕ) → AllByRecursion
+    (λ (s : Session). is_text s.id id ≡ true → s.serial ≡ n) live → AllByRecursion (λ (s : Session). (s.serial == n) ≡ false) live
+    → session_with_id id live ≡ None
+with_serial_none [] n id leads none = refl
+with_serial_none (x ∷ xs) n id leads none =
+    rw (false_from_ne_true (is_text x.id id) (λ e. eqb-false x.serial n none.0 (leads.0 e))) (with_serial_none xs n id leads.1 none.1)
+
+pub id_nowhere : (live : List Session) (n : ℕ) (id : List ℕ) → AllByRecursion (λ (s : Session). is_text s.id id ≡ true → s.serial ≡ n) live
+    → session_with_serial n live ≡ None → session_with_id id live ≡ None
+id_nowhere live n id leads e = with_serial_none live n id leads (none_passes (λ (s : Session). s.serial == n) live e)
+
+pub id_at : (live : List Session) (n : ℕ) (id : List ℕ) (s : Session) → IsStrictlySortedBy session_order live → AllByRecursion
+    (λ (t : Session). is_text t.id id ≡ true → t.serial ≡ n) live → session_with_serial n live ≡ Some s
+    → session_with_id id live ≡ cond (is_text s.id id) (Some s) None
+unfolding IsStrictlySortedBy
+id_at [] n id s up leads e = cc
+id_at (x ∷ xs) n id s up leads e =
+    elim (cases_Bool (x.serial == n)) [
+      | inl hit ↦
+          let same : x ≡ s = cc (rw hit at e) in
+          let none : session_with_id id xs ≡ None = with_serial_none xs n id leads.1 (all_weaker (λ z. session_order x z ≡ Less)
+          (λ (t : Session). (t.serial == n) ≡ false) (λ t l. not-true (t.serial == n) (later_stays n x t (eqb-true x.serial n hit) l))
+          xs up.0) in
+          rw none (subst (λ t. cond (is_text x.id id) (Some x) None ≡ cond (is_text t.id id) (Some t) None) same refl)
+      | inr miss ↦
+          let there : session_with_serial n xs ≡ Some s = rw miss at e in
+          rw (false_from_ne_true (is_text x.id id) (λ h. eqb-false x.serial n miss (leads.0 h))) (id_at xs n id s up.1 leads.1 there)
+    ]
+
+-- an id that a live session has leads to that session's serial
+pub id_leads : (counter : ℕ) (live : List Session) (id : List ℕ) (r : Option ℕ) → counter < 2 ^ 64 → AllByRecursion
+    (λ (s : Session). s.serial ≤ counter) live → AllByRecursion (λ (s : Session). BeginsWithSerial s.serial s.id) live
+    → ((n : ℕ) (rest : List ℕ) → n < 2 ^ 64 → id ≡ decimal n ++ 45 ∷ rest → r ≡ Some n) → AllByRecursion
+    (λ (s : Session). is_text s.id id ≡ true → r ≡ Some s.serial) live
+id_leads counter [] id r small counted ids f = tt
+id_leads counter (x ∷ xs) id r small counted ids f = (
+  (λ e. f x.serial ids.0.0 (omega (arith, counted.0)) (sym (text_is x.id id e) ∙ ids.0.1)),
+  id_leads counter xs id r small counted.1 ids.1 f,
+)
+
+pub id_of_none : (live : List Session) (id : List ℕ) (r : Option ℕ) → AllByRecursion
+    (λ (s : Session). is_text s.id id ≡ true → r ≡ Some s.serial) live → r ≡ None → session_with_id id live ≡ None
+id_of_none [] id r leads e = refl
+id_of_none (x ∷ xs) id r leads e =
+    rw (false_from_ne_true (is_text x.id id) (λ h. let t = leads.0 h in cc)) (id_of_none xs id r leads.1 e)
+
+pub leads_to : (n : ℕ) (live : List Session) (id : List ℕ) (r : Option ℕ) → r ≡ Some n → AllByRecursion
+    (λ (s : Session). is_text s.id id ≡ true → r ≡ Some s.serial) live → AllByRecursion
+    (λ (s : Session). is_text s.id id ≡ true → s.serial ≡ n) live
+leads_to n live id r e leads = all_weaker (λ (s : Session). is_text s.id id ≡ true → r ≡ Some s.serial)
+    (λ (s : Session). is_text s.id id ≡ true → s.serial ≡ n) (λ s f h. let t = f h in cc) live leads
+
+some_none : {X : Type 0} (o : Option X) → IsSome o → o ≡ None → ⊥
+some_none None h e = both_ways false refl h
+some_none (Some x) h e = cc
+
+-- what a search answers where something, or nothing, passes
+pub place_is_ok : {X : Type 0} (test : X → Bool) (xs : List X) (r : Result ℕ ℕ) → IsPlaceOf test xs r → IsSome (find test xs) → IsOk r
+place_is_ok test xs (Ok i) place some = refl
+place_is_ok test xs (Err i) place some = absurd (some_none (find test xs) some place.1)
+
+pub place_is_err : {X : Type 0} (test : X → Bool) (xs : List X) (r : Result ℕ ℕ) → IsPlaceOf test xs r → find test xs ≡ None → IsErr r
+place_is_err test [] (Ok i) place none = absurd (omega (arith, place.0))
+place_is_err test (x ∷ xs) (Ok i) place none = let found = place.1 x in cc
+place_is_err test xs (Err i) place none = refl
+
+-- a session that passes one test is found by each test that it passes
+pub found_again : {X : Type 0} (p q : X → Bool) (xs : List X) (x : X) → find p xs ≡ Some x → q x ≡ true → IsSome (find q xs)
+found_again p q [] x e h = cc
+found_again p q (y ∷ ys) x e h =
+    elim (cases_Bool (q y)) [
+      | inl hit ↦ rw hit refl
+      | inr miss ↦
+          elim (cases_Bool (p y)) [
+            | inl here ↦ let same : y ≡ x = cc (rw here at e) in absurd (both_ways (q x) (subst (λ z. q z ≡ false) same miss) h)
+            | inr past ↦ rw miss (found_again p q ys x (rw past at e) h)
+          ]
+    ]
+
+some_alike : {X Y : Type 0} (f : X → ℕ) (g : Y → ℕ) (o : Option X) (q : Option Y) → option_map f o ≡ option_map g q → IsSome q → IsSome o
+some_alike f g (Some x) q e h = refl
+some_alike f g None (Some y) e h = cc
+some_alike f g None None e h = h
+
+-- what holds of the sessions of rows
+pub all_live : (P : Session → Type 0) (rows : List Row) → AllByRecursion (λ (r : Row). IfSome r.kept (λ (s : Seat). P s.session)) rows
+    → AllByRecursion P (live_of rows)
+all_live P [] all = tt
+all_live P (r ∷ rows) all = one r.kept all.0 (all_live P rows all.1) where
+  one : (o : Option Seat) → IfSome o (λ (s : Seat). P s.session) → AllByRecursion P (live_of rows)
+      → AllByRecursion P (map (λ (s : Seat). s.session) (option_to_list o ++ seats_of rows))
+  one None h rest = rest
+  one (Some s) h rest = (h, rest)
+
+if_some : (o : Option Seat) (P Q : Seat → Type 0) → ((s : Seat) → P s → Q s) → IfSome o P → IfSome o Q
+if_some None P Q f h = tt
+if_some (Some s) P Q f h = f s h
+
+pub live_counted : (counter : ℕ) (rows : List Row) → AllByRecursion (λ (r : Row). r.serial ≤ counter) rows → Own rows
+    → AllByRecursion (λ (s : Session). s.serial ≤ counter) (live_of rows)
+live_counted counter rows counted own = all_live (λ s. s.serial ≤ counter) rows (both rows counted own) where
+  both : (rows : List Row) → AllByRecursion (λ (r : Row). r.serial ≤ counter) rows → Own rows
+      → AllByRecursion (λ (r : Row). IfSome r.kept (λ (s : Seat). s.session.serial ≤ counter)) rows
+  both [] c o = tt
+  both (r ∷ rows) c o = (if_some r.kept (IsOwn r.serial) (λ s. s.session.serial ≤ counter) (λ s h. rw h.numbered c.0) o.0, both rows c.1 o.1)
+
+pub live_ids : (rows : List Row) → Own rows → AllByRecursion (λ (s : Session). BeginsWithSerial s.serial s.id) (live_of rows)
+live_ids rows own = all_live (λ s. BeginsWithSerial s.serial s.id) rows (all_weaker
+    (λ (r : Row). IfSome r.kept (IsOwn r.serial)) (λ (r : Row). IfSome r.kept (λ (s : Seat). BeginsWithSerial s.session.serial s.session.id))
+    (λ r h. if_some r.kept (IsOwn r.serial) (λ s. BeginsWithSerial s.session.serial s.session.id) (λ s k. rw k.numbered k.id) h) rows own)
+
+pub live_up : (rows : List Row) → Up rows → Own rows → IsStrictlySortedBy session_order (live_of rows)
+unfolding IsStrictlySortedBy
+live_up [] up own = tt
+live_up (r ∷ rows) up own = one r.kept own.0 (live_up rows up.1 own.1) where
+  above : (s : Seat) → s.session.serial ≡ r.serial → (rows : List Row) → AllByRecursion (λ z. row_order r z ≡ Less) rows → Own rows
+      → AllByRecursion (λ (z : Row). IfSome z.kept (λ (t : Seat). session_order s.session t.session ≡ Less)) rows
+  above s e [] all own = tt
+  above s e (z ∷ rows) all own = (
+    if_some z.kept (IsOwn z.serial) (λ t. session_order s.session t.session ≡ Less) (λ t h. rw (e, h.numbered) all.0) own.0,
+    above s e rows all.1 own.1,
+  )
+
+  one : (o : Option Seat) → IfSome o (IsOwn r.serial) → IsStrictlySortedBy session_order (live_of rows)
+      → IsStrictlySortedBy session_order (map (λ (s : Seat). s.session) (option_to_list o ++ seats_of rows))
+  one None h rest = rest
+  one (Some s) h rest = (all_live (λ t. session_order s.session t ≡ Less) rows (above s h.numbered rows up.0 own.1), rest)
+
+-- rows and entries, as they are kept
+pub rows_changed : (counter n : ℕ) (f : Session → Session) (rows : List Row) (i : ℕ) (a b : Seat) → Keeps f → AreRows counter rows
+    → slice_get rows i ≡ Some (taken n a) → IsOwn n a → b.session ≡ f a.session → AreRows counter (set rows i (taken n b))
+rows_changed counter n f rows i a b k kept e own is =
+    let live : live_of (set rows i (taken n b)) ≡ change n f (live_of rows) =
+    changed n f rows i a b kept.own.rising kept.own.own e is in
+    record {
+      small = kept.small;
+      own = own_set n rows i a (Some b) kept.own e (record {
+        numbered = ap (λ (s : Session). s.serial) is ∙ k.serial a.session ∙ own.numbered;
+        id = rw (is, k.id a.session) own.id;
+      });
+      counted = counted_set counter n rows i a (Some b) kept.counted e;
+      apart = rw (live, clients_same n f k (live_of rows)) kept.apart;
+      few = rw (live, length_same n f (live_of rows)) kept.few;
+    }
+
+pub holders_changed : (n : ℕ) (f : Session → Session) (rows : List Row) (holders : List Holder) (i : ℕ) (a b : Seat) → Keeps f → AreOwn rows
+    → AreHolders rows holders → slice_get rows i ≡ Some (taken n a) → b.session ≡ f a.session
+    → AreHolders (set rows i (taken n b)) holders
+holders_changed n f rows holders i a b k own h e is =
+    let live : live_of (set rows i (taken n b)) ≡ change n f (live_of rows) = changed n f rows i a b own.rising own.own e is in
+    record {
+      ordered = h.ordered;
+      indexed = λ c. h.indexed c ∙ sym (ap (λ xs. option_map (λ (s : Session). s.serial) (session_of_client c xs)) live
+          ∙ client_changed n f k c (live_of rows));
+      counts = h.counts ∙ sym (ap length live ∙ length_same n f (live_of rows));
+    }
+
+filter_length : (p : Session → Bool) (xs : List Session) → length (filter p xs) ≤ length xs
+filter_length p [] = omega arith
+filter_length p (x ∷ xs) = let h = filter_length p xs in elim (cases_Bool (p x)) [ inl hit ↦ rw hit (omega arith) | inr miss ↦ rw miss (omega arith) ]
+
+pub rows_ended : (counter n : ℕ) (rows : List Row) (i : ℕ) (a : Seat) → AreRows counter rows → slice_get rows i ≡ Some (taken n a)
+    → AreRows counter (set rows i (empty n))
+rows_ended counter n rows i a kept e =
+    let live : live_of (set rows i (empty n)) ≡ filter (λ (t : Session). not (t.serial == n)) (live_of rows) =
+    ended n rows i a kept.own.rising kept.own.own e ∙ sym (without_one n (live_of rows)) in
+    record {
+      small = kept.small;
+      own = own_set n rows i a None kept.own e tt;
+      counted = counted_set counter n rows i a None kept.counted e;
+      apart = rw live (distinct_filter (λ (t : Session). t.client) (λ (t : Session). not (t.serial == n)) (live_of rows) kept.apart);
+      few = let less = filter_length (λ (t : Session). not (t.serial == n)) (live_of rows) in let few = kept.few in rw live (omega arith);
+    }
+
+pub own_at : (n : ℕ) (rows : List Row) (i : ℕ) (a : Seat) → Own rows → slice_get rows i ≡ Some (taken n a) → IsOwn n a
+own_at n [] i a own e = cc
+own_at n (r ∷ rows) zero a own e =
+    let same : r ≡ taken n a = cc in subst (λ (x : Row). IfSome x.kept (IsOwn x.serial)) same own.0
+own_at n (r ∷ rows) (suc i) a own e = own_at n rows i a own.1 e
+
+count_less : (n : ℕ) (live : List Session) (s : Session) → IsStrictlySortedBy session_order live → session_with_serial n live ≡ Some s
+    → suc (length (filter (λ (t : Session). not (t.serial == n)) live)) ≡ length live
+unfolding IsStrictlySortedBy
+count_less n [] s up e = cc
+count_less n (x ∷ live) s up e =
+    elim (cases_Bool (x.serial == n)) [
+      | inl hit ↦
+          let kept : filter (λ (t : Session). not (t.serial == n)) live ≡ live =
+          filter_all (λ (t : Session). not (t.serial == n)) live (all_weaker (λ z. session_order x z ≡ Less)
+          (λ t. not (t.serial == n) ≡ true) (λ t l. later_stays n x t (eqb-true x.serial n hit) l) live up.0) in
+          rw (hit, kept) refl
+      | inr miss ↦
+          let there : session_with_serial n live ≡ Some s = rw miss at e in
+          rw miss (ap (λ m. suc m) (count_less n live s up.1 there))
+    ]
+
+holder_less : (k : List ℕ) (holders : List Holder) (j : ℕ) → j < length holders → suc (length (remove holders j)) ≡ length holders
+holder_less k [] j less = absurd (omega arith)
+holder_less k (x ∷ holders) zero less = refl
+holder_less k (x ∷ holders) (suc j) less = ap (λ m. suc m) (holder_less k holders j (omega arith))
+
+pub holders_ended : (n : ℕ) (rows : List Row) (holders holders2 : List Holder) (i : ℕ) (a : Seat) (q : Result ℕ ℕ) (j : ℕ)
+    → IsDistinct is_text (map (λ (t : Session). t.client) (live_of rows)) → AreOwn rows → AreHolders rows holders
+    → slice_get rows i ≡ Some (taken n a) → IsPlaceOf (λ (h : Holder). is_text h.client a.session.client) holders q → q ≡ Ok j
+    → holders2 ≡ remove holders j → AreHolders (set rows i (empty n)) holders2
+holders_ended n rows holders holders2 i a q j apart own h e place is rest =
+    let up = live_up rows own.rising own.own in
+    let there : session_with_serial n (live_of rows) ≡ Some a.session = found n rows i a own.rising own.own e in
+    let live : live_of (set rows i (empty n)) ≡ filter (λ (t : Session). not (t.serial == n)) (live_of rows) =
+    ended n rows i a own.rising own.own e ∙ sym (without_one n (live_of rows)) in
+    let at = subst (IsPlaceOf (λ (x : Holder). is_text x.client a.session.client) holders) is place in
+    let left : holders2 ≡ filter (λ (x : Holder). not (is_text x.client a.session.client)) holders = rest ∙ at.2 in
+    record {
+      ordered = rw left (IsStrictlySortedBy-filter client_order (λ (x : Holder). not (is_text x.client a.session.client)) holders h.ordered);
+      indexed = λ c.
+          rw (left, live)
+          (ap (option_map (λ (x : Holder). x.serial)) (holder_after holders a.session.client c)
+          ∙ map_choice (λ (x : Holder). x.serial) (is_text a.session.client c) (holder_of c holders)
+          ∙ ap (λ o. cond (is_text a.session.client c) None o) (h.indexed c)
+          ∙ sym (map_choice (λ (t : Session). t.serial) (is_text a.session.client c) (session_of_client c (live_of rows)))
+          ∙ sym (ap (option_map (λ (t : Session). t.serial)) (client_after (live_of rows) n a.session c up apart there)));
+      counts =
+          let one : suc (length holders2) ≡ length holders = ap (λ xs. suc (length xs)) rest ∙ holder_less a.session.client holders j at.0 in
+          let other : suc (length (live_of (set rows i (empty n)))) ≡ length (live_of rows) =
+          ap (λ xs. suc (length xs)) live ∙ count_less n (live_of rows) a.session up there in
+          let was = h.counts in
+          omega arith;
+    }
+
+pub rows_begun : (counter : ℕ) (rows : List Row) (y : Seat) → AreRows counter rows → counter < 2 ^ 64 - 1
+    → session_of_client y.session.client (live_of rows) ≡ None → length (live_of rows) < most_sessions → IsOwn (counter + 1) y
+    → AreRows (counter + 1) (rows ++ taken (counter + 1) y ∷ [])
+rows_begun counter rows y kept small none few own =
+    let live = begun_last rows (counter + 1) y in
+    record {
+      small = omega arith;
+      own = own_push counter rows (taken (counter + 1) y) kept.own kept.counted (omega arith) own;
+      counted = counted_push counter rows (taken (counter + 1) y) kept.counted refl;
+      apart = rw live (distinct_push (λ (s : Session). s.client) (live_of rows) y.session kept.apart none);
+      few = rw live (length_more (live_of rows) y.session few);
+    } where
+      length_more : (xs : List Session) (x : Session) → length xs < most_sessions → length (xs ++ x ∷ []) ≤ most_sessions
+      length_more xs x less = let e = pushed xs x in omega arith where
+        pushed : (xs : List Session) (x : Session) → length (xs ++ x ∷ []) ≡ suc (length xs)
+        pushed [] x = refl
+        pushed (z ∷ xs) x = ap (λ m. suc m) (pushed xs x)
+
+inserted_length : (holders : List Holder) (j : ℕ) (h : Holder) → j ≤ length holders → length (insert holders j h) ≡ suc (length holders)
+inserted_length [] zero h le = refl
+inserted_length [] (suc j) h le = absurd (omega arith)
+inserted_length (x ∷ holders) zero h le = refl
+inserted_length (x ∷ holders) (suc j) h le = ap (λ m. suc m) (inserted_length holders j h (omega arith))
+
+pushed_length : (xs : List Session) (x : Session) → length (xs ++ x ∷ []) ≡ suc (length xs)
+pushed_length [] x = refl
+pushed_length (z ∷ xs) x = ap (λ m. suc m) (pushed_length xs x)
+
+pub holders_begun : (n : ℕ) (rows : List Row) (holders holders2 : List Holder) (y : Seat) (j : ℕ) (r : Result ℕ ℕ) → AreHolders rows holders
+    → session_of_client y.session.client (live_of rows) ≡ None → y.session.serial ≡ n
+    → IsPlaceOf (λ (h : Holder). is_text h.client y.session.client) holders r → IfErr r (IsPlaceFor y.session.client holders) → r ≡ Err j
+    → holders2 ≡ insert holders j (record { client = y.session.client; serial = n })
+    → AreHolders (rows ++ taken n y ∷ []) holders2
+holders_begun n rows holders holders2 y j r h none same place gap is entry =
+    let live = begun_last rows n y in
+    let at = subst (IsPlaceOf (λ (x : Holder). is_text x.client y.session.client) holders) is place in
+    let open_at = subst (λ t. IfErr t (IsPlaceFor y.session.client holders)) is gap in
+    record {
+      ordered = rw entry (open_at n);
+      indexed = λ c. rw (entry, live) (subst (λ m. option_map
+          (λ (x : Holder). x.serial) (holder_of c (insert holders j (record { client = y.session.client; serial = m }))) ≡ option_map
+          (λ (s : Session). s.serial) (session_of_client c (live_of rows ++ y.session ∷ []))) same
+          (begun_indexed y.session (live_of rows) holders j c none h.indexed));
+      counts = rw (
+        entry,
+        live,
+        inserted_length holders j (record { client = y.session.client; serial = n }) at.0,
+        pushed_length (live_of rows) y.session,
+      ) (ap (λ m. suc m) h.counts);
+    }
+
+pub live_filter : (rows : List Row) → live_of (filter (λ (r : Row). is_some r.kept) rows) ≡ live_of rows
+live_filter rows = ap (map (λ (s : Seat). s.session)) (seats_filter rows)
+
+pub rows_filled : (counter : ℕ) (rows : List Row) → AreRows counter rows → AreRows counter (filter (λ (r : Row). is_some r.kept) rows)
+rows_filled counter rows kept = record {
+  small = kept.small;
+  own = own_filter rows kept.own;
+  counted = counted_filter counter rows kept.counted;
+  apart = rw (live_filter rows) kept.apart;
+  few = rw (live_filter rows) kept.few;
+}
+
+pub holders_filled : (rows : List Row) (holders : List Holder) → AreHolders rows holders
+    → AreHolders (filter (λ (r : Row). is_some r.kept) rows) holders
+holders_filled rows holders h = record {
+  ordered = h.ordered;
+  indexed = λ c. rw (live_filter rows) (h.indexed c);
+  counts = rw (live_filter rows) h.counts;
+}
+
+-- where a client has no session its entry is missing, and where it has one it is there
+pub no_holder : (rows : List Row) (holders : List Holder) (c : List ℕ) → AreHolders rows holders
+    → session_of_client c (live_of rows) ≡ None → holder_of c holders ≡ None
+no_holder rows holders c h none = map_none (λ (x : Holder). x.serial) (holder_of c holders) (h.indexed c
+    ∙ ap (option_map (λ (s : Session). s.serial)) none)
+
+pub holder_is_there : (n : ℕ) (rows : List Row) (holders : List Holder) (i : ℕ) (a : Seat) → AreOwn rows → AreHolders rows holders
+    → slice_get rows i ≡ Some (taken n a) → IsSome (holder_of a.session.client holders)
+holder_is_there n rows holders i a own h e =
+    some_alike (λ (x : Holder). x.serial) (λ (t : Session). t.serial) (holder_of a.session.client holders)
+    (session_of_client a.session.client (live_of rows)) (h.indexed a.session.client)
+    (found_again (λ (t : Session). t.serial == n) (λ (t : Session). is_text t.client a.session.client) (live_of rows) a.session
+    (found n rows i a own.rising own.own e) (text_itself a.session.client))

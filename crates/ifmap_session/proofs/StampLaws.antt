@@ -1,0 +1,302 @@
+-- The stamps of rows: as rows are stamped one by one, as one changes, and what the least and those that are due say of the
+-- sessions.
+use Rattle.std.proofs.Common.{◌≡◌, ◌≢◌, ◌⊎◌, refl, sym, ◌∙◌, ap, subst, ℕ, zero, suc, ◌+◌, ◌-◌, ◌*◌, ◌<◌, ◌≤◌, ◌==◌, nat_le, true, false, List, [], ◌∷◌, ◌++◌, length, map, set, Option, None, Some, inl, inr, arith}
+use Rattle.std.proofs.lemmas.Bool.{cases_Bool, cases_lt, both_ways}
+use Rattle.std.proofs.lemmas.Bool.Decides.{nat_tests}
+use Rattle.std.proofs.lemmas.List.Elements.{All-from_recursion}
+use Rattle.std.proofs.lemmas.Option.{slice_get_past}
+use Rattle.std.specs.List.{All, AllByRecursion, filter, list_any, slice_get}
+use Rattle.std.specs.Option.{IfSome, option_map, option_to_list, unwrap_or}
+use Rattle.ifmap_session.specs.declared.rows.Row.{Row}
+use Rattle.ifmap_session.specs.Kept.{AreStamps, IsOwn, IsStamped, due_rows, live_of, seats_of, serial_at, stamp_of}
+use Rattle.ifmap_session.specs.Seats.{Seat}
+use Rattle.ifmap_session.specs.Sessions.{Session, expired_serials, is_expired}
+use Rattle.ifmap_session.specs.Stamps.{IsPower, IsTree, Restamps, at, due_nodes, is_any_due, is_due, no_stamp, numbers_from}
+use Rattle.ifmap_session.proofs.RowLaws.{Own}
+use Rattle.ifmap_session.proofs.Trees.{root_least, root_there}
+
+pub get_set_same : {X : Type 0} (xs : List X) (i : ℕ) (y : X) → i < length xs → slice_get (set xs i y) i ≡ Some y
+get_set_same [] i y lt = absurd (omega arith)
+get_set_same (x ∷ xs) zero y lt = refl
+get_set_same (x ∷ xs) (suc i) y lt = get_set_same xs i y (omega arith)
+
+pub get_set_other : {X : Type 0} (xs : List X) (i j : ℕ) (y : X) → j ≢ i → slice_get (set xs i y) j ≡ slice_get xs j
+get_set_other [] i j y apart = refl
+get_set_other (x ∷ xs) zero zero y apart = absurd (apart refl)
+get_set_other (x ∷ xs) zero (suc j) y apart = refl
+get_set_other (x ∷ xs) (suc i) zero y apart = refl
+get_set_other (x ∷ xs) (suc i) (suc j) y apart = get_set_other xs i j y (λ e. apart (ap (λ n. suc n) e))
+
+get_push_last : {X : Type 0} (xs : List X) (y : X) → slice_get (xs ++ y ∷ []) (length xs) ≡ Some y
+get_push_last [] y = refl
+get_push_last (x ∷ xs) y = get_push_last xs y
+
+get_push_other : {X : Type 0} (xs : List X) (y : X) (j : ℕ) → j ≢ length xs → slice_get (xs ++ y ∷ []) j ≡ slice_get xs j
+get_push_other [] y zero apart = absurd (apart refl)
+get_push_other [] y (suc j) apart = refl
+get_push_other (x ∷ xs) y zero apart = refl
+get_push_other (x ∷ xs) y (suc j) apart = get_push_other xs y j (λ e. apart (ap (λ n. suc n) e))
+
+-- the stamp of what may be a row
+abbrev pub stamp_in : Option Row → ℕ
+stamp_in row = unwrap_or (option_map stamp_of row) no_stamp
+
+-- rows up to a place are stamped, and no other place has a stamp
+pub record StampedTo (rows : List Row) (width place : ℕ) (tree : List ℕ) : Type 0 where
+  pub lesser : IsTree width tree
+  pub before : (p : ℕ) → p < place → p < width → at tree (width + p) ≡ stamp_in (slice_get rows p)
+  pub after : (p : ℕ) → place ≤ p → p < width → at tree (width + p) ≡ no_stamp
+
+pub stamps_begin : (rows : List Row) (width : ℕ) (tree : List ℕ) → IsTree width tree
+    → ((node : ℕ) → width ≤ node → node < 2 * width → at tree node ≡ no_stamp) → StampedTo rows width 0 tree
+stamps_begin rows width tree t blank = record {
+  lesser = t;
+  before = λ p low high. absurd (omega arith);
+  after = λ p low high. blank (width + p) (omega arith) (omega arith);
+}
+
+kept_stamp : (width place stamp p : ℕ) (old new : List ℕ) → Restamps width place stamp old new → p < width → p ≢ place
+    → at new (width + p) ≡ at old (width + p)
+kept_stamp width place stamp p old new r less apart =
+    elim (r.others (width + p) (omega arith) (omega arith)) [ inl e ↦ absurd (apart (omega arith)) | inr e ↦ e ]
+
+pub stamps_on : (rows : List Row) (width place stamp : ℕ) (old new : List ℕ) → StampedTo rows width place old
+    → Restamps width place stamp old new → stamp ≡ stamp_in (slice_get rows place) → StampedTo rows width (place + 1) new
+stamps_on rows width place stamp old new s r is = record {
+  lesser = r.tree;
+  before = λ p low high. elim (cases_lt p place) [
+    | inl less ↦ kept_stamp width place stamp p old new r high (omega arith) ∙ s.before p less high
+    | inr here ↦ let e : p ≡ place = omega arith in
+        subst (λ q. at new (width + q) ≡ stamp_in (slice_get rows q)) (sym e) (r.there ∙ is)
+  ];
+  after = λ p low high. kept_stamp width place stamp p old new r high (omega arith) ∙ s.after p (omega arith) high;
+}
+
+pub stamps_end : (rows : List Row) (width place : ℕ) (tree : List ℕ) → StampedTo rows width place tree → length rows ≤ place
+    → IsStamped rows width tree
+stamps_end rows width place tree s all = λ p high. elim (cases_lt p place) [
+  | inl less ↦ s.before p less high
+  | inr more ↦ s.after p more high ∙ ap stamp_in (sym (slice_get_past rows p (omega arith)))
+]
+
+pub stamped_set : (rows : List Row) (width i stamp : ℕ) (q : Row) (old new : List ℕ) → IsStamped rows width old → i < length rows
+    → Restamps width i stamp old new → stamp ≡ stamp_of q → IsStamped (set rows i q) width new
+stamped_set rows width i stamp q old new s within r is = λ p high. elim (cases_lt p i) [
+  | inl less ↦ other p high (omega arith)
+  | inr not_less ↦ elim (cases_lt i p) [
+    | inl more ↦ other p high (omega arith)
+    | inr here ↦ let e : p ≡ i = omega arith in
+        subst (λ k. at new (width + k) ≡ stamp_in (slice_get (set rows i q) k)) (sym e)
+        (r.there ∙ is ∙ ap stamp_in (sym (get_set_same rows i q within)))
+  ]
+] where
+  other : (p : ℕ) → p < width → p ≢ i → at new (width + p) ≡ stamp_in (slice_get (set rows i q) p)
+  other p high apart = kept_stamp width i stamp p old new r high apart ∙ s p high ∙ ap stamp_in (sym (get_set_other rows i p q apart))
+
+pub stamped_push : (rows : List Row) (width stamp : ℕ) (q : Row) (old new : List ℕ) → IsStamped rows width old
+    → Restamps width (length rows) stamp old new → stamp ≡ stamp_of q → IsStamped (rows ++ q ∷ []) width new
+stamped_push rows width stamp q old new s r is = λ p high. elim (cases_lt p (length rows)) [
+  | inl less ↦ other p high (omega arith)
+  | inr not_less ↦ elim (cases_lt (length rows) p) [
+    | inl more ↦ other p high (omega arith)
+    | inr here ↦ let e : p ≡ length rows = omega arith in
+        subst (λ k. at new (width + k) ≡ stamp_in (slice_get (rows ++ q ∷ []) k)) (sym e)
+        (r.there ∙ is ∙ ap stamp_in (sym (get_push_last rows q)))
+  ]
+] where
+  other : (p : ℕ) → p < width → p ≢ length rows → at new (width + p) ≡ stamp_in (slice_get (rows ++ q ∷ []) p)
+  other p high apart = kept_stamp width (length rows) stamp p old new r high apart ∙ s p high
+      ∙ ap stamp_in (sym (get_push_other rows q p apart))
+
+-- a row that changes and keeps its stamp
+pub stamped_alike : (rows : List Row) (width i : ℕ) (r q : Row) (tree : List ℕ) → IsStamped rows width tree → slice_get rows i ≡ Some r
+    → i < length rows → stamp_of q ≡ stamp_of r → IsStamped (set rows i q) width tree
+stamped_alike rows width i r q tree s e within is = λ p high. elim (cases_lt p i) [
+  | inl less ↦ s p high ∙ ap stamp_in (sym (get_set_other rows i p q (omega arith)))
+  | inr not_less ↦ elim (cases_lt i p) [
+    | inl more ↦ s p high ∙ ap stamp_in (sym (get_set_other rows i p q (omega arith)))
+    | inr here ↦ let k : p ≡ i = omega arith in
+        s p high ∙ subst (λ j. stamp_in (slice_get rows j) ≡ stamp_in (slice_get (set rows i q) j)) (sym k)
+        (ap stamp_in e ∙ sym is ∙ ap stamp_in (sym (get_set_same rows i q within)))
+  ]
+]
+
+-- what the least stamp and those that are due say of the sessions
+due_at : (moment ttl limit : ℕ) (s : Session) → limit + ttl ≡ moment → is_expired moment ttl s ≡ nat_le s.last limit
+due_at moment ttl limit s e = grind (arith, nat_tests)
+
+expired_by : (moment ttl limit : ℕ) → limit + ttl ≡ moment → (sessions : List Session)
+    → filter (is_expired moment ttl) sessions ≡ filter (λ s. nat_le s.last limit) sessions
+expired_by moment ttl limit e [] = refl
+expired_by moment ttl limit e (s ∷ sessions) = rw (due_at moment ttl limit s e, expired_by moment ttl limit e sessions) refl
+
+any_by : (moment ttl limit : ℕ) → limit + ttl ≡ moment → (sessions : List Session)
+    → list_any (is_expired moment ttl) sessions ≡ list_any (λ s. nat_le s.last limit) sessions
+any_by moment ttl limit e [] = refl
+any_by moment ttl limit e (s ∷ sessions) = rw (due_at moment ttl limit s e, any_by moment ttl limit e sessions) refl
+
+not_yet : (moment ttl : ℕ) → moment < ttl → (sessions : List Session) → list_any (is_expired moment ttl) sessions ≡ false
+not_yet moment ttl early [] = refl
+not_yet moment ttl early (s ∷ sessions) =
+    let e : is_expired moment ttl s ≡ false = grind (arith, nat_tests) in rw (e, not_yet moment ttl early sessions) refl
+
+none_yet : (moment ttl : ℕ) → moment < ttl → (sessions : List Session) → filter (is_expired moment ttl) sessions ≡ []
+none_yet moment ttl early [] = refl
+none_yet moment ttl early (s ∷ sessions) =
+    let e : is_expired moment ttl s ≡ false = grind (arith, nat_tests) in rw (e, none_yet moment ttl early sessions) refl
+
+never_due : (tree : List ℕ) (limit k : ℕ) → limit < no_stamp → at tree k ≡ no_stamp → is_due tree limit k ≡ false
+never_due tree limit k low e = grind (arith, nat_tests)
+
+none_due : (tree : List ℕ) (limit base n : ℕ) → limit < no_stamp → ((p : ℕ) → p < n → at tree (base + p) ≡ no_stamp)
+    → filter (is_due tree limit) (numbers_from base n) ≡ []
+none_due tree limit base zero low blank = refl
+none_due tree limit base (suc n) low blank =
+    let first : at tree base ≡ no_stamp = subst (λ k. at tree k ≡ no_stamp) (omega arith) (blank 0 (omega arith)) in
+    rw (never_due tree limit base low first) (none_due tree limit (base + 1) n low (λ p less.
+    subst (λ k. at tree k ≡ no_stamp) (omega arith) (blank (suc p) (omega arith))))
+
+-- the serials at the nodes that are due are those of the sessions that are
+due_one : (g : ℕ → ℕ) (tree : List ℕ) (limit base : ℕ) (serial : ℕ) (kept : Option Seat) (nodes : List ℕ) (rows : List Row)
+    → limit < no_stamp → IfSome kept (IsOwn serial) → g base ≡ serial
+    → at tree base ≡ stamp_of (record { serial = serial; kept = kept })
+    → map g (filter (is_due tree limit) nodes) ≡ map (λ (s : Session). s.serial) (filter (λ s. nat_le s.last limit) (live_of rows))
+    → map g (filter (is_due tree limit) (base ∷ nodes)) ≡ map (λ (s : Session). s.serial) (filter
+    (λ s. nat_le s.last limit) (map (λ (s : Seat). s.session) (option_to_list kept ++ seats_of rows)))
+due_one g tree limit base serial None nodes rows low own named stamp rest = rw (never_due tree limit base low stamp) rest
+due_one g tree limit base serial (Some seat) nodes rows low own named stamp rest =
+    let same : is_due tree limit base ≡ nat_le seat.session.last limit = ap (λ n. nat_le n limit) stamp in
+    elim (cases_Bool (nat_le seat.session.last limit)) [
+      | inl hit ↦ rw (same, hit, named, own.numbered, rest) refl
+      | inr miss ↦ rw (same, miss) rest
+    ]
+
+due_all : (g : ℕ → ℕ) (tree : List ℕ) (limit base n : ℕ) (rows : List Row) → limit < no_stamp → Own rows → length rows ≤ n
+    → ((p : ℕ) (r : Row) → slice_get rows p ≡ Some r → g (base + p) ≡ r.serial)
+    → ((p : ℕ) → p < n → at tree (base + p) ≡ stamp_in (slice_get rows p))
+    → map g (filter (is_due tree limit) (numbers_from base n)) ≡ map (λ (s : Session). s.serial) (filter
+    (λ s. nat_le s.last limit) (live_of rows))
+due_all g tree limit base n [] low own fits named stamped =
+    ap (map g) (none_due tree limit base n low (λ p less. stamped p less))
+due_all g tree limit base zero (r ∷ rows) low own fits named stamped = absurd (omega arith)
+due_all g tree limit base (suc n) (r ∷ rows) low own fits named stamped =
+    due_one g tree limit base r.serial r.kept (numbers_from (base + 1) n) rows low own.0
+    (subst (λ k. g k ≡ r.serial) (omega arith) (named 0 r refl))
+    (subst (λ k. at tree k ≡ stamp_of r) (omega arith) (stamped 0 (omega arith)))
+    (due_all g tree limit (base + 1) n rows low own.1 (omega arith)
+    (λ p q e. subst (λ k. g k ≡ q.serial) (omega arith) (named (suc p) q e))
+    (λ p less. subst (λ k. at tree k ≡ stamp_in (slice_get rows p)) (omega arith) (stamped (suc p) (omega arith))))
+
+pub due_serials : (width : ℕ) (tree : List ℕ) (rows : List Row) (moment ttl limit : ℕ) → limit < no_stamp → limit + ttl ≡ moment
+    → Own rows → length rows ≤ width → IsStamped rows width tree
+    → map (λ node. serial_at rows (node - width)) (due_nodes width tree limit) ≡ expired_serials moment ttl (live_of rows)
+due_serials width tree rows moment ttl limit low e own fits stamped =
+    due_all (λ node. serial_at rows (node - width)) tree limit width width rows low own fits
+    (λ p r got. let back : width + p - width ≡ p = omega arith in rw (back, got) refl) stamped
+    ∙ ap (map (λ (s : Session). s.serial)) (sym (expired_by moment ttl limit e (live_of rows)))
+
+-- whether any is due
+any_at : (limit : ℕ) (rows : List Row) (p : ℕ) → limit < no_stamp → stamp_in (slice_get rows p) ≤ limit
+    → list_any (λ s. nat_le s.last limit) (live_of rows) ≡ true
+any_at limit [] p low le = absurd (omega arith)
+any_at limit (r ∷ rows) zero low le = here r.kept le where
+  here : (o : Option Seat) → unwrap_or (option_map (λ (s : Seat). s.session.last) o) no_stamp ≤ limit
+      → list_any (λ s. nat_le s.last limit) (map (λ (s : Seat). s.session) (option_to_list o ++ seats_of rows)) ≡ true
+  here None le = absurd (omega arith)
+  here (Some s) le = let e : nat_le s.session.last limit ≡ true = grind (arith, nat_tests) in rw e refl
+any_at limit (r ∷ rows) (suc p) low le = past r.kept (any_at limit rows p low le) where
+  past : (o : Option Seat) → list_any (λ s. nat_le s.last limit) (live_of rows) ≡ true
+      → list_any (λ s. nat_le s.last limit) (map (λ (s : Seat). s.session) (option_to_list o ++ seats_of rows)) ≡ true
+  past None e = e
+  past (Some s) e = elim (cases_Bool (nat_le s.session.last limit)) [ inl hit ↦ rw hit refl | inr miss ↦ rw (miss, e) refl ]
+
+none_any : (limit : ℕ) (rows : List Row) → ((p : ℕ) → p < length rows → limit < stamp_in (slice_get rows p))
+    → list_any (λ s. nat_le s.last limit) (live_of rows) ≡ false
+none_any limit [] f = refl
+none_any limit (r ∷ rows) f = one r.kept (f 0 (omega arith)) (none_any limit rows (λ p less. f (suc p) (omega arith))) where
+  one : (o : Option Seat) → limit < unwrap_or (option_map (λ (s : Seat). s.session.last) o) no_stamp
+      → list_any (λ s. nat_le s.last limit) (live_of rows) ≡ false
+      → list_any (λ s. nat_le s.last limit) (map (λ (s : Seat). s.session) (option_to_list o ++ seats_of rows)) ≡ false
+  one None low e = e
+  one (Some s) low e = let k : nat_le s.session.last limit ≡ false = grind (arith, nat_tests) in rw (k, e) refl
+
+pub root_any : (width : ℕ) (tree : List ℕ) (rows : List Row) (moment ttl limit : ℕ) → limit < no_stamp → limit + ttl ≡ moment
+    → IsTree width tree → 1 ≤ width → length rows ≤ width → IsStamped rows width tree
+    → nat_le (at tree 1) limit ≡ list_any (is_expired moment ttl) (live_of rows)
+root_any width tree rows moment ttl limit low e t some fits stamped =
+    elim (cases_lt limit (at tree 1)) [
+      | inl above ↦
+          let k : nat_le (at tree 1) limit ≡ false = grind (arith, nat_tests) in
+          k ∙ sym (any_by moment ttl limit e (live_of rows) ∙ none_any limit rows (λ p less.
+          let least = root_least width tree t (width + p) (omega arith) (omega arith) in
+          let is = stamped p (omega arith) in omega arith))
+      | inr within ↦
+          let k : nat_le (at tree 1) limit ≡ true = grind (arith, nat_tests) in
+          let there = root_there width tree t some in
+          k ∙ sym (any_by moment ttl limit e (live_of rows) ∙ any_at limit rows there.0 low
+          (let is = stamped there.0 there.1 in let at_root = there.2 in omega arith))
+    ]
+
+-- where there is no row, none is expired
+pub no_rows : (rows : List Row) (moment ttl : ℕ) → length rows ≤ 0 → (list_any (is_expired moment ttl) (live_of rows) ≡ false)
+    × (expired_serials moment ttl (live_of rows) ≡ [])
+no_rows [] moment ttl none = (refl, refl)
+no_rows (r ∷ rows) moment ttl none = absurd (omega arith)
+
+-- each node that is due is that of a row
+all_due : (width : ℕ) (tree : List ℕ) (rows : List Row) (limit base n : ℕ) → width ≤ base → base + n ≤ 2 * width → limit < no_stamp
+    → IsStamped rows width tree
+    → AllByRecursion (λ node. (width ≤ node) × (node - width < length rows)) (filter (is_due tree limit) (numbers_from base n))
+all_due width tree rows limit base zero low high small stamped = tt
+all_due width tree rows limit base (suc n) low high small stamped =
+    let rest = all_due width tree rows limit (base + 1) n (omega arith) (omega arith) small stamped in
+    elim (cases_Bool (is_due tree limit base)) [
+      | inl hit ↦ rw hit (
+        (
+          low,
+          elim (cases_lt (base - width) (length rows)) [
+            | inl less ↦ less
+            | inr past ↦
+                let is : at tree (width + (base - width)) ≡ stamp_in (slice_get rows (base - width)) = stamped (base - width) (omega arith) in
+                let none : at tree base ≡ no_stamp = subst (λ k. at tree k ≡ no_stamp) (omega arith) (is ∙ ap stamp_in
+                (slice_get_past rows (base - width) (omega arith))) in
+                absurd (both_ways (is_due tree limit base) (never_due tree limit base small none) hit)
+          ],
+        ),
+        rest,
+      )
+      | inr miss ↦ rw miss rest
+    ]
+
+pub due_within : (width : ℕ) (tree : List ℕ) (rows : List Row) (limit : ℕ) → limit < no_stamp → IsStamped rows width tree
+    → All (λ node. (width ≤ node) × (node - width < length rows)) (due_nodes width tree limit)
+due_within width tree rows limit small stamped =
+    All-from_recursion (λ node. (width ≤ node) × (node - width < length rows)) (due_nodes width tree limit)
+    (all_due width tree rows limit width width (omega arith) (omega arith) small stamped)
+
+pub is_power : (width : ℕ) → (width ≡ 0) ⊎ IsPower width → width ≢ 0 → IsPower width
+is_power width (inl none) some = absurd (some none)
+is_power width (inr p) some = p
+
+-- the same, in the words of the code
+pub any_is : (width : ℕ) (tree : List ℕ) (rows : List Row) (moment ttl limit : ℕ) → limit < no_stamp → limit + ttl ≡ moment
+    → AreStamps rows width tree → is_any_due width tree limit ≡ list_any (is_expired moment ttl) (live_of rows)
+any_is width tree rows moment ttl limit low e m =
+    elim (cases_lt 0 width) [
+      | inl some ↦
+          let there : (width == 0) ≡ false = grind (arith, nat_tests) in
+          rw there (root_any width tree rows moment ttl limit low e m.lesser (omega arith) m.within m.stamped)
+      | inr none ↦
+          let there : (width == 0) ≡ true = grind (arith, nat_tests) in
+          let fits = m.within in
+          rw there (sym (no_rows rows moment ttl (omega arith)).0)
+    ]
+
+pub due_is : (width : ℕ) (tree : List ℕ) (rows : List Row) (moment ttl limit : ℕ) → limit < no_stamp → limit + ttl ≡ moment → Own rows
+    → AreStamps rows width tree → due_rows rows width tree limit ≡ expired_serials moment ttl (live_of rows)
+due_is width tree rows moment ttl limit low e own m = due_serials width tree rows moment ttl limit low e own m.within m.stamped
+
+pub none_due_yet : (moment ttl : ℕ) → moment < ttl → (sessions : List Session)
+    → (list_any (is_expired moment ttl) sessions ≡ false) × (expired_serials moment ttl sessions ≡ [])
+none_due_yet moment ttl early sessions =
+    (not_yet moment ttl early sessions, ap (map (λ (s : Session). s.serial)) (none_yet moment ttl early sessions))

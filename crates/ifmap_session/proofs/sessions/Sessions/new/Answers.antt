@@ -1,0 +1,5 @@
+use Rattle.ifmap_session.proofs.KeptLaws.{kept_none}
+use Rattle.ifmap_session.proofs.sessions.Sessions.new.Goals as goal
+
+pub invariant_of-result : goal.invariant_of-result
+invariant_of-result c = rw (c.new.ensures.items, c.new-2.ensures.items, c.new-3.ensures.items) kept_none

@@ -1,0 +1,51 @@
+use Rattle.std.proofs.Common.{◌≡◌, refl, ap, subst, ◌+◌, ◌≤◌, length, arith}
+use Rattle.ifmap_session.specs.Sessions.{Session, overflowed}
+use Rattle.ifmap_session.proofs.KeptLaws.{moments_same, rewritten}
+use Rattle.ifmap_session.proofs.RowLaws.{found, spare_found}
+use Rattle.ifmap_session.proofs.sessions.Sessions.overflow.Goals as goal
+
+pub overflow_at-requires : goal.overflow_at-requires
+overflow_at-requires c =
+    let got = rw c.deref.ensures.value at c.place_in-place.ensures in
+    let own = c.self.invariant.sessions.own in
+    let there = found c.args.serial c.self.inside.rows.items c.place_in-place.result got.0 own.rising own.own got.1 in
+    let room = (rw (← c.self.view_is) at c.requires.room) got.0.session there in (
+      c.args.serial,
+      (
+        got.0,
+        got.1,
+        subst (λ m. 1 ≤ m + length got.0.session.queue) (spare_found c.args.serial c.self.inside.rows.items
+            c.place_in-place.result got.0 own.rising own.own got.1) room,
+      ),
+    )
+
+pub invariant_of-self : goal.invariant_of-self
+invariant_of-self c =
+    let got = rw c.deref.ensures.value at c.place_in-place.ensures in
+    let r = rewritten c.self.inside.counter c.args.serial c.self.inside.rows.items c.overflow_at.new.rows.items c.self.inside.holders.items
+    c.self.inside.width c.self.inside.stamps.items c.self.invariant c.place_in-place.result got.0 got.1 (overflowed c.args.error)
+    (λ a b. b.session ≡ overflowed c.args.error a.session) (record { serial = λ s. refl; id = λ s. refl; client = λ s. refl })
+    (λ a b h. h) c.overflow_at.ensures.rows in
+    record {
+      sessions = r.sessions;
+      clients = r.clients;
+      moments = moments_same c.self.inside.counter c.args.serial c.self.inside.rows.items c.overflow_at.new.rows.items
+          c.self.inside.holders.items c.self.inside.width c.self.inside.stamps.items c.self.invariant c.place_in-place.result got.0 got.1
+          (λ a b. b.session ≡ overflowed c.args.error a.session) (λ a b h. ap (λ (s : Session). s.last) (h)) c.overflow_at.ensures.rows;
+    }
+
+pub returns : goal.returns
+returns c =
+    let got = rw c.deref.ensures.value at c.place_in-place.ensures in
+    let r = rewritten c.self.inside.counter c.args.serial c.self.inside.rows.items c.overflow_at.new.rows.items c.self.inside.holders.items
+    c.self.inside.width c.self.inside.stamps.items c.self.invariant c.place_in-place.result got.0 got.1 (overflowed c.args.error)
+    (λ a b. b.session ≡ overflowed c.args.error a.session) (record { serial = λ s. refl; id = λ s. refl; client = λ s. refl })
+    (λ a b h. h) c.overflow_at.ensures.rows in
+    rw (← c.self.view_is) (record {
+      changes = record {
+        live = r.live;
+        counter = refl;
+        others = r.others;
+        room = let l = c.overflow_at.ensures.len in let k = c.overflow_at.ensures.capacity in omega arith;
+      };
+    })

@@ -1,0 +1,7 @@
+pub mod Kept
+pub mod Openings
+pub mod Places
+pub mod Seats
+pub mod SessionIds
+pub mod Sessions
+pub mod Stamps

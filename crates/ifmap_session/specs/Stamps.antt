@@ -1,0 +1,51 @@
+-- Stamps by place, of which the least is known.
+use Rattle.std.specs.Prelude.{◌≡◌, ◌⊎◌, ℕ, zero, suc, ◌+◌, ◌-◌, ◌*◌, ◌^◌, ◌≤◌, ◌<◌, nat_le, ◌==◌, ◌&&◌, not, Bool, List, [], ◌∷◌, filter, flat_map, length, min, slice_index_or}
+
+-- the stamp of a place that has none: no moment reaches it
+abbrev pub no_stamp : ℕ
+no_stamp = 2 ^ 64 - 1
+
+-- what stands at a node
+abbrev pub at : List ℕ → ℕ → ℕ
+at tree node = slice_index_or tree node 0
+
+-- the second half has a stamp for each place; before it stands at each node from 1 on the lesser of what stands at its two children
+pub record IsTree (width : ℕ) (tree : List ℕ) : Type 0 where
+  pub long : length tree ≡ 2 * width
+  pub lesser : (node : ℕ) → 1 ≤ node → node < width → at tree node ≡ min (at tree (2 * node)) (at tree (2 * node + 1))
+
+-- one place has another stamp
+pub record Restamps (width place stamp : ℕ) (old new : List ℕ) : Type 0 where
+  pub tree : IsTree width new
+  pub there : at new (width + place) ≡ stamp
+  pub others : (node : ℕ) → width ≤ node → node < 2 * width → (node ≡ width + place) ⊎ (at new node ≡ at old node)
+
+-- n numbers, from the first on
+abbrev pub numbers_from : ℕ → ℕ → List ℕ
+numbers_from first zero = []
+numbers_from first (suc n) = first ∷ numbers_from (first + 1) n
+
+-- whether a stamp is no later than the limit
+abbrev pub is_due : List ℕ → ℕ → ℕ → Bool
+is_due tree limit node = nat_le (at tree node) limit
+
+-- the two children of each node
+abbrev pub children_of : List ℕ → List ℕ
+children_of nodes = flat_map (λ node. (2 * node) ∷ ((2 * node + 1) ∷ [])) nodes
+
+-- the nodes of all places whose stamps are no later than the limit
+abbrev pub due_nodes : ℕ → List ℕ → ℕ → List ℕ
+due_nodes width tree limit = filter (is_due tree limit) (numbers_from width width)
+
+-- a number doubled so often
+abbrev pub doubled : ℕ → ℕ → ℕ
+doubled zero n = n
+doubled (suc times) n = doubled times (2 * n)
+
+-- a power of two
+abbrev pub IsPower : ℕ → Type 0
+IsPower width = (times : ℕ) × (width ≡ doubled times 1)
+
+-- whether the least stamp is no later than the limit
+abbrev pub is_any_due : ℕ → List ℕ → ℕ → Bool
+is_any_due width tree limit = not (width == 0) && is_due tree limit 1

@@ -1,0 +1,14 @@
+//! The limit of a queue.
+ghost use Rattle.std.specs.Prelude.{◌≡◌};
+ghost use Rattle.ifmap_session.specs.Sessions.{limit_of};
+
+/// What the size of a session's queue may be, where a client asks for so much: from 10,000 to
+/// 5,000,000, which is 5,000,000 where it asks for nothing.
+pub fn limit_of(asked: Option<u32>) -> u32
+    ensures { result ≡ limit_of asked }
+{
+    match asked {
+        Some(asked) => asked.min(5_000_000).max(10_000),
+        None => 5_000_000,
+    }
+}

@@ -1,0 +1,205 @@
+//! A session with its queue, whose size is kept.
+ghost use Rattle.std.specs.Prelude.{◌≡◌, ◌+◌, ◌-◌, ◌^◌, ◌≤◌, [], filter, length, min, not, sum_by, vec_capacity, vec_len, OnErr, OnOk, IfOk};
+ghost use Rattle.ifmap_search.specs.Sizes.{queue_size};
+ghost use Rattle.ifmap_session.specs.Seats.{counted_size};
+ghost use Rattle.ifmap_session.specs.Sessions.{emptied, is_named, overflowed, queued, renewed, without_name};
+
+use ifmap_elem::{Equals, Many, Text};
+use ifmap_io::Moment;
+use ifmap_meta::ClientName;
+use ifmap_search::{PollItem, item_size};
+use std::alloc::{AllocError as NoMemory, Global};
+use std::marker::Model;
+use std::mem;
+
+/// A live session. Contracts see it beside the room of its queue.
+#[derive(Drop)]
+pub struct Kept {
+    serial: u64,
+    id: Text,
+    client: ClientName,
+    limit: u32,
+    last: Moment,
+    queue: Vec<PollItem>,
+    // The sum of the sizes of what is queued.
+    size: u128,
+}
+
+impl Model for Kept {
+    ghost use Rattle.std.specs.Prelude.{◌≡◌, ◌-◌, sum_by, vec_capacity, vec_len};
+    ghost use Rattle.std.specs.Coded.{codes};
+    ghost use Rattle.ifmap_search.specs.contracts.results.PollItem as the_poll_item;
+    ghost use Rattle.ifmap_session.specs.Seats.{Seat, counted_size};
+
+    ghost Value = { Seat };
+
+    ghost coded = { Prim.hlevel (codes, the_poll_item.the_row.coded) };
+
+    ghost view = { λ k. record {
+      session = record {
+        serial = k.serial;
+        id = k.id;
+        client = k.client;
+        limit = k.limit;
+        last = k.last;
+        queue = k.queue.items;
+      };
+      spare = vec_capacity k.queue - vec_len k.queue;
+    } };
+
+    ghost invariant = { λ k. k.size ≡ sum_by counted_size k.queue.items };
+}
+
+impl Kept {
+    /// A session with nothing to tell. It takes no memory.
+    pub fn new(
+        alloc: Global,
+        serial: u64,
+        id: Text,
+        client: ClientName,
+        limit: u32,
+        last: Moment,
+    ) -> Kept
+        ensures { result.session ≡ record {
+          serial = serial;
+          id = id;
+          client = client;
+          limit = limit;
+          last = last;
+          queue = [];
+        } }
+    {
+        Kept {
+            serial,
+            id,
+            client,
+            limit,
+            last,
+            queue: Vec::new(alloc),
+            size: 0,
+        }
+    }
+
+    pub fn id(&self) -> &Text
+        ensures { result.now ≡ self.now.session.id }
+    {
+        &self.id
+    }
+
+    pub fn client(&self) -> &ClientName
+        ensures { result.now ≡ self.now.session.client }
+    {
+        &self.client
+    }
+
+    /// The moment of the last accepted request.
+    pub fn last(&self) -> Moment
+        ensures { result ≡ self.now.session.last }
+    {
+        self.last
+    }
+
+    /// The size of the queue, at most 2^64 - 1, and its limit.
+    pub fn size(&self) -> (u64, u32)
+        ensures size { result.0 ≡ min (queue_size self.now.session.queue) (2 ^ 64 - 1) }
+        ensures limit { result.1 ≡ self.now.session.limit }
+    {
+        (self.size.min(u64::MAX as u128) as u64, self.limit)
+    }
+
+    /// A request is accepted at that moment.
+    pub fn renew(&mut self, moment: Moment)
+        ensures session { self.new.session ≡ renewed moment self.old.session }
+        ensures spare { self.new.spare ≡ self.old.spare }
+    {
+        self.last = moment;
+    }
+
+    /// Makes room for `n` items more.
+    pub fn reserve(&mut self, n: u64) -> Result<(), NoMemory>
+        ensures session { self.new.session ≡ self.old.session }
+        ensures ok { OnOk result (n ≤ self.new.spare) }
+        ensures kept { self.old.spare ≤ self.new.spare }
+    {
+        self.queue.reserve(n as usize)
+    }
+
+    /// Queues an item. It takes no memory.
+    pub fn push(&mut self, item: PollItem)
+        requires { 1 ≤ self.old.spare }
+        ensures session { self.new.session ≡ queued item self.old.session }
+        ensures spare { self.new.spare + 1 ≡ self.old.spare }
+    {
+        self.size += item_size(&item) as u128;
+        self.queue.push_reserved(item);
+    }
+
+    /// Queues an item in place of all. It takes no memory.
+    pub fn overflow(&mut self, error: PollItem)
+        requires { 1 ≤ self.old.spare + length self.old.session.queue }
+        ensures session { self.new.session ≡ overflowed error self.old.session }
+        ensures spare { self.new.spare + 1 ≡ self.old.spare + length self.old.session.queue }
+    {
+        self.size = item_size(&error) as u128;
+        self.queue.clear();
+        self.queue.push_reserved(error);
+    }
+
+    /// Drops what is queued of the subscription of that name.
+    pub fn drop_name(&mut self, name: &Text)
+        ensures session { self.new.session ≡ without_name name.now self.old.session }
+        ensures spare { self.old.spare ≤ self.new.spare }
+    {
+        self.size -= size_of_named(&self.queue, name);
+        retain_others(&mut self.queue, name);
+    }
+
+    /// Hands out what is queued, which is then empty. It takes no memory.
+    pub fn take_all(&mut self) -> Many<PollItem>
+        ensures items { result ≡ self.old.session.queue }
+        ensures session { self.new.session ≡ emptied self.old.session }
+    {
+        let empty = Vec::new(*self.queue.allocator());
+        self.size = 0;
+        Many(mem::replace(&mut self.queue, empty))
+    }
+}
+
+// The sum of the sizes of what is queued of the subscription of that name.
+fn size_of_named(queue: &[PollItem], name: &Text) -> u128
+    ensures { result ≡ sum_by counted_size (filter (is_named name.now) queue.now) }
+{
+    let mut size = 0u128;
+    for item in queue {
+        if is_named(item, name) {
+            size += item_size(item) as u128;
+        }
+    }
+    size
+}
+
+// Drops what is queued of the subscription of that name.
+fn retain_others(queue: &mut Vec<PollItem>, name: &Text)
+    ensures items { queue.new.items ≡ filter (λ item. not (is_named name.now item)) queue.old.items }
+    ensures len { vec_len queue.new ≤ vec_len queue.old }
+    ensures capacity { vec_capacity queue.new ≡ vec_capacity queue.old }
+{
+    queue.retain(|item| !is_named(item, name));
+}
+
+// Whether the item tells of the subscription of that name.
+fn is_named(item: &PollItem, name: &Text) -> bool
+    ensures { result ≡ is_named name.now item.now }
+{
+    match item {
+        PollItem::Search { name: own, .. } => own == name,
+        PollItem::Update { name: own, .. } => own == name,
+        PollItem::Delete { name: own, .. } => own == name,
+        PollItem::Notify { name: own, .. } => own == name,
+        PollItem::Error {
+            name: Some(own),
+            ..
+        } => own == name,
+        PollItem::Error { name: None, .. } => false,
+    }
+}

@@ -1,0 +1,259 @@
+//! Sessions in the order of their serials. A session that ends leaves an empty row, so that no other
+//! moves.
+ghost use Rattle.std.specs.Prelude.{◌≡◌, ℕ, ◌+◌, ◌-◌, ◌*◌, ◌<◌, ◌≤◌, IfOk, MatchOption, None, OnErr, OnOk, Some, filter, is_some, length, map, slice_get, slice_set, vec_capacity, vec_len};
+ghost use Rattle.std.specs.List.{All};
+ghost use Rattle.ifmap_session.specs.Kept.{AreOwn, AreStamps, CanWiden, IsRowOf, IsSeatOf, IsStamped, IsTaken, Rewrites, due_rows, live_of, serial_at, stamp_of};
+ghost use Rattle.ifmap_session.specs.Seats.{Seat};
+ghost use Rattle.ifmap_session.specs.Sessions.{IsLive, emptied, overflowed, queued, renewed, session_with_serial, without_name};
+ghost use Rattle.ifmap_session.specs.Stamps.{IsTree, at, no_stamp};
+
+use crate::queues::Kept;
+use crate::stamps::{NO_STAMP, due_nodes, next_width, set_stamp};
+use ifmap_elem::{Many, Text};
+use ifmap_io::Moment;
+use ifmap_search::PollItem;
+use std::alloc::{AllocError as NoMemory, Global};
+
+/// A serial, with its session as long as that is live.
+#[derive(Drop)]
+pub struct Row {
+    pub serial: u64,
+    pub kept: Option<Kept>,
+}
+
+/// Where the session with that serial stands.
+pub fn place_of_serial(rows: &[Row], serial: u64) -> Option<usize>
+    requires { AreOwn rows.now }
+    ensures { IsRowOf serial rows.now result }
+{
+    let place = rows.binary_search_by_key(&serial, |row| row.serial).ok()?;
+    if rows[place].kept.is_some() {
+        Some(place)
+    } else {
+        None
+    }
+}
+
+/// Where the live session with that serial stands.
+pub fn place_in(rows: &[Row], serial: u64) -> usize
+    requires own { AreOwn rows.now }
+    requires live { IsLive serial (live_of rows.now) }
+    ensures { (seat : Seat) × (slice_get rows.now result
+        ≡ Some (record { serial = serial; kept = Some seat })) }
+{
+    place_of_serial(rows, serial).unwrap()
+}
+
+/// The session with that serial.
+pub fn find_kept(rows: &[Row], serial: u64) -> Option<&Kept>
+    requires { AreOwn rows.now }
+    ensures { MatchOption result (session_with_serial serial (live_of rows.now) ≡ None)
+        (λ kept. IsSeatOf serial rows.now kept.now) }
+{
+    let place = place_of_serial(rows, serial)?;
+    rows[place].kept.as_ref()
+}
+
+/// A request in the session of a row is accepted at that moment.
+pub fn renew_at(rows: &mut Vec<Row>, place: usize, moment: Moment)
+    requires { IsTaken (λ seat. Unit {0}) rows.old.items place }
+    ensures rows { Rewrites place (λ a b. (b.session ≡ renewed moment a.session)
+        × (b.spare ≡ a.spare)) rows.old.items rows.new.items }
+    ensures len { vec_len rows.new ≡ vec_len rows.old }
+    ensures capacity { vec_capacity rows.new ≡ vec_capacity rows.old }
+{
+    if let Some(kept) = &mut rows[place].kept {
+        kept.renew(moment);
+    }
+}
+
+/// Makes room for `n` items more in the queue of a row.
+pub fn reserve_at(rows: &mut Vec<Row>, place: usize, n: u64) -> Result<(), NoMemory>
+    requires { IsTaken (λ seat. Unit {0}) rows.old.items place }
+    ensures rows { Rewrites place (λ a b. (b.session ≡ a.session)
+        × ((a.spare ≤ b.spare) × OnOk result (n ≤ b.spare))) rows.old.items rows.new.items }
+    ensures len { vec_len rows.new ≡ vec_len rows.old }
+    ensures capacity { vec_capacity rows.new ≡ vec_capacity rows.old }
+{
+    match &mut rows[place].kept {
+        Some(kept) => kept.reserve(n),
+        None => Ok(()),
+    }
+}
+
+/// Queues an item in the session of a row.
+pub fn push_at(rows: &mut Vec<Row>, place: usize, item: PollItem)
+    requires { IsTaken (λ seat. 1 ≤ seat.spare) rows.old.items place }
+    ensures rows { Rewrites place (λ a b. (b.session ≡ queued item a.session)
+        × (b.spare + 1 ≡ a.spare)) rows.old.items rows.new.items }
+    ensures len { vec_len rows.new ≡ vec_len rows.old }
+    ensures capacity { vec_capacity rows.new ≡ vec_capacity rows.old }
+{
+    if let Some(kept) = &mut rows[place].kept {
+        kept.push(item);
+    }
+}
+
+/// Queues an item in the session of a row, in place of all.
+pub fn overflow_at(rows: &mut Vec<Row>, place: usize, error: PollItem)
+    requires { IsTaken (λ seat. 1 ≤ seat.spare + length seat.session.queue) rows.old.items place }
+    ensures rows { Rewrites place (λ a b. b.session ≡ overflowed error a.session)
+        rows.old.items rows.new.items }
+    ensures len { vec_len rows.new ≡ vec_len rows.old }
+    ensures capacity { vec_capacity rows.new ≡ vec_capacity rows.old }
+{
+    if let Some(kept) = &mut rows[place].kept {
+        kept.overflow(error);
+    }
+}
+
+/// Drops what is queued in the session of a row of the subscription of that name.
+pub fn drop_name_at(rows: &mut Vec<Row>, place: usize, name: &Text)
+    requires { IsTaken (λ seat. Unit {0}) rows.old.items place }
+    ensures rows { Rewrites place (λ a b. (b.session ≡ without_name name.now a.session)
+        × (a.spare ≤ b.spare)) rows.old.items rows.new.items }
+    ensures len { vec_len rows.new ≡ vec_len rows.old }
+    ensures capacity { vec_capacity rows.new ≡ vec_capacity rows.old }
+{
+    if let Some(kept) = &mut rows[place].kept {
+        kept.drop_name(name);
+    }
+}
+
+/// Hands out what is queued in the session of a row.
+pub fn take_all_at(rows: &mut Vec<Row>, place: usize) -> Many<PollItem>
+    requires { IsTaken (λ seat. Unit {0}) rows.old.items place }
+    ensures rows { Rewrites place (λ a b. (b.session ≡ emptied a.session)
+        × (result ≡ a.session.queue)) rows.old.items rows.new.items }
+    ensures len { vec_len rows.new ≡ vec_len rows.old }
+    ensures capacity { vec_capacity rows.new ≡ vec_capacity rows.old }
+{
+    match &mut rows[place].kept {
+        Some(kept) => kept.take_all(),
+        None => unreachable!(),
+    }
+}
+
+/// Takes the session of a row out, which is empty then.
+pub fn end_at(rows: &mut Vec<Row>, place: usize) -> Kept
+    requires { IsTaken (λ seat. Unit {0}) rows.old.items place }
+    ensures rows { (serial : ℕ) (seat : Seat)
+        → slice_get rows.old.items place ≡ Some (record { serial = serial; kept = Some seat })
+        → (result ≡ seat) × (rows.new.items ≡ slice_set rows.old.items place
+        (record { serial = serial; kept = None })) }
+    ensures len { vec_len rows.new ≡ vec_len rows.old }
+    ensures capacity { vec_capacity rows.new ≡ vec_capacity rows.old }
+{
+    rows[place].kept.take().unwrap()
+}
+
+/// Stamps for rows, and for how many.
+#[derive(Drop)]
+pub struct Wide {
+    pub width: usize,
+    pub stamps: Vec<u64>,
+}
+
+/// Drops the empty rows, and makes stamps for these and more. The one error is want of memory, which
+/// leaves the rows.
+pub fn widen(
+    alloc: Global,
+    rows: &mut Vec<Row>,
+    width: usize,
+    live: usize,
+) -> Result<Wide, NoMemory>
+    requires { CanWiden rows.old.items width live }
+    ensures items { OnOk result (rows.new.items
+        ≡ filter (λ row. is_some row.kept) rows.old.items) }
+    ensures err { OnErr result (rows.new.items ≡ rows.old.items) }
+    ensures len { vec_len rows.new ≤ vec_len rows.old }
+    ensures same { OnErr result (vec_len rows.new ≡ vec_len rows.old) }
+    ensures capacity { vec_capacity rows.new ≡ vec_capacity rows.old }
+    ensures stamps { IfOk result (λ w. AreStamps rows.new.items w.width w.stamps.items) }
+    ensures wide { IfOk result (λ w. length rows.new.items < w.width) }
+    ensures more { IfOk result (λ w. width ≤ w.width) }
+{
+    let width = next_width(width, live);
+    let mut stamps = Vec::from_elem(alloc, NO_STAMP, 2 * width)?;
+    drop_empty(rows);
+    stamp_rows(&mut stamps, width, rows);
+    Ok(Wide { width, stamps })
+}
+
+// Drops the empty rows.
+fn drop_empty(rows: &mut Vec<Row>)
+    ensures items { rows.new.items ≡ filter (λ row. is_some row.kept) rows.old.items }
+    ensures len { vec_len rows.new ≤ vec_len rows.old }
+    ensures capacity { vec_capacity rows.new ≡ vec_capacity rows.old }
+{
+    rows.retain(|row| row.kept.is_some());
+}
+
+// Stamps each row with the last moment of its session.
+fn stamp_rows(stamps: &mut Vec<u64>, width: usize, rows: &[Row])
+    requires tree { IsTree width stamps.old.items }
+    requires blank { (node : ℕ) → width ≤ node → node < 2 * width
+        → at stamps.old.items node ≡ no_stamp }
+    requires within { length rows.now ≤ width }
+    ensures tree { IsTree width stamps.new.items }
+    ensures stamped { IsStamped rows.now width stamps.new.items }
+{
+    for place in 0..rows.len() {
+        set_stamp(stamps, width, place, stamp_of(&rows[place]));
+    }
+}
+
+// The last moment of the row's session; what no moment reaches where it is empty.
+fn stamp_of(row: &Row) -> u64
+    ensures { result ≡ stamp_of row.now }
+{
+    match &row.kept {
+        Some(kept) => kept.last().seconds(),
+        None => NO_STAMP,
+    }
+}
+
+/// The serials of the sessions whose stamps are no later than the limit, in their order.
+pub fn due_serials(
+    alloc: Global,
+    rows: &[Row],
+    stamps: &[u64],
+    width: usize,
+    limit: u64,
+) -> Result<Many<u64>, NoMemory>
+    requires stamps { AreStamps rows.now width stamps.now }
+    requires limit { limit < no_stamp }
+    ensures { IfOk result (λ serials. serials ≡ due_rows rows.now width stamps.now limit) }
+{
+    if width == 0 {
+        return Ok(Many(Vec::new(alloc)));
+    }
+    let nodes = due_nodes(alloc, stamps, width, limit)?;
+    Ok(Many(serials_of(alloc, rows, &nodes, width)?))
+}
+
+// The serials of the rows at these nodes.
+fn serials_of(
+    alloc: Global,
+    rows: &[Row],
+    nodes: &[usize],
+    width: usize,
+) -> Result<Vec<u64>, NoMemory>
+    requires { All (λ node. (width ≤ node) × (node - width < length rows.now)) nodes.now }
+    ensures { IfOk result (λ serials. serials.items
+        ≡ map (λ node. serial_at rows.now (node - width)) nodes.now) }
+{
+    let mut serials = Vec::with_capacity(alloc, nodes.len())?;
+    for node in nodes {
+        serials.push(serial_at(rows, node - width))?;
+    }
+    Ok(serials)
+}
+
+// The serial of a row.
+fn serial_at(rows: &[Row], place: usize) -> u64
+    requires { place < length rows.now }
+    ensures { result ≡ serial_at rows.now place }
+{
+    rows[place].serial
+}

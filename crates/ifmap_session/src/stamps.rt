@@ -1,0 +1,115 @@
+//! Stamps by place, of which the least is known at once. They stand in the second half of a slice;
+//! in the first half stands at each node from 1 on the lesser of what stands at its two children, so
+//! that one stamp is changed by a walk to the root.
+ghost use Rattle.std.specs.Prelude.{◌≡◌, ◌⊎◌, ℕ, ◌+◌, ◌*◌, ◌≤◌, ◌<◌, ◌∷◌, ◌++◌, [], All, IfOk, OnOk, filter, length, min};
+ghost use Rattle.ifmap_session.specs.Stamps.{IsPower, IsTree, Restamps, at, children_of, due_nodes, is_any_due, is_due};
+
+use std::alloc::{AllocError as NoMemory, Global};
+
+/// The stamp of a place that has none, which no moment reaches.
+pub const NO_STAMP: u64 = u64::MAX;
+
+/// For how many places there are to be stamps where those of this width do not serve: twice as many
+/// where more than half of them are taken, and 64 at least.
+#[tactic(auto, using(crate::proofs::Trees::power_again, crate::proofs::Trees::first_power, crate::proofs::StampLaws::is_power))]
+pub fn next_width(width: usize, live: usize) -> usize
+    requires power { (width ≡ 0) ⊎ IsPower width }
+    requires live { live ≤ width }
+    requires most { live ≤ 10000 }
+    requires few { width < 40000 }
+    ensures power { IsPower result }
+    ensures few { result < 40000 }
+    ensures wide { live < result }
+    ensures more { width ≤ result }
+{
+    if width == 0 {
+        64
+    } else if width < 2 * live {
+        2 * width
+    } else {
+        width
+    }
+}
+
+/// Sets the stamp of a place.
+pub fn set_stamp(tree: &mut Vec<u64>, width: usize, place: usize, stamp: u64)
+    requires tree { IsTree width tree.old.items }
+    requires place { place < width }
+    ensures { Restamps width place stamp tree.old.items tree.new.items }
+{
+    let mut node = width + place;
+    tree[node] = stamp;
+    while 1 < node {
+        node /= 2;
+        tree[node] = lesser_child(tree, node);
+    }
+}
+
+// The lesser of what stands at a node's children.
+fn lesser_child(tree: &[u64], node: usize) -> u64
+    requires { 2 * node + 1 < length tree.now }
+    ensures { result ≡ min (at tree.now (2 * node)) (at tree.now (2 * node + 1)) }
+{
+    tree[2 * node].min(tree[2 * node + 1])
+}
+
+/// Whether any stamp is no later than the limit, as the least tells.
+pub fn is_any_due(tree: &[u64], width: usize, limit: u64) -> bool
+    requires { IsTree width tree.now }
+    ensures { result ≡ is_any_due width tree.now limit }
+{
+    width != 0 && tree[1] <= limit
+}
+
+/// The nodes of the places whose stamps are no later than the limit. It looks at no other places
+/// than these and what stands between them and the root.
+pub fn due_nodes(
+    alloc: Global,
+    tree: &[u64],
+    width: usize,
+    limit: u64,
+) -> Result<Vec<usize>, NoMemory>
+    requires tree { IsTree width tree.now }
+    requires power { IsPower width }
+    ensures { IfOk result (λ nodes. nodes.items ≡ due_nodes width tree.now limit) }
+{
+    let mut nodes = Vec::new(alloc);
+    push_due(&mut nodes, tree, 1, limit)?;
+    let mut first = 1;
+    while first < width {
+        nodes = due_children(alloc, tree, &nodes, limit)?;
+        first *= 2;
+    }
+    Ok(nodes)
+}
+
+// The children of these nodes that are due.
+fn due_children(
+    alloc: Global,
+    tree: &[u64],
+    nodes: &[usize],
+    limit: u64,
+) -> Result<Vec<usize>, NoMemory>
+    requires { All (λ node. 2 * node + 1 < length tree.now) nodes.now }
+    ensures { IfOk result (λ due. due.items ≡ filter (is_due tree.now limit)
+        (children_of nodes.now)) }
+{
+    let mut due = Vec::new(alloc);
+    for node in nodes {
+        push_due(&mut due, tree, 2 * node, limit)?;
+        push_due(&mut due, tree, 2 * node + 1, limit)?;
+    }
+    Ok(due)
+}
+
+// Puts the node last where it is due.
+fn push_due(nodes: &mut Vec<usize>, tree: &[u64], node: usize, limit: u64) -> Result<(), NoMemory>
+    requires { node < length tree.now }
+    ensures { OnOk result (nodes.new.items
+        ≡ nodes.old.items ++ filter (is_due tree.now limit) (node ∷ [])) }
+{
+    if tree[node] <= limit {
+        nodes.push(node)?;
+    }
+    Ok(())
+}

@@ -1,0 +1,5 @@
+//! Tests of sessions: values from worked examples, and that each call succeeds where there is memory.
+#![tactic(auto)]
+
+#[cfg(test)]
+mod tables;
