@@ -14,7 +14,7 @@ use Rattle.ifmap_ident.specs.declared.identifiers.Identifier.{Identifier}
 use Rattle.ifmap_ident.specs.declared.items.Item.{Item}
 use Rattle.ifmap_ident.specs.declared.items.Item.TheVariants.{One, Pair}
 use Rattle.ifmap_ident.specs.Canon.{IsIdentifier}
-use Rattle.ifmap_ident.specs.Items.{item_order, pair_of, same_item}
+use Rattle.ifmap_ident.specs.Items.{IsCanonItem, item_order, pair_of, same_item}
 use Rattle.ifmap_lemmas.specs.Having.{Has, any_has, has_any, has_either, has_filter, has_from, has_joined, has_left, has_map, has_mapped, has_right, joined_has, map_has, mapped_has}
 use Rattle.ifmap_meta.specs.declared.stored.Stored.{Stored}
 use Rattle.ifmap_region.specs.Walks.{AreDepths}
@@ -22,7 +22,7 @@ use Rattle.ifmap_search.specs.declared.results.Entry.{Entry}
 use Rattle.ifmap_search.specs.declared.searches.Search.{Search}
 use Rattle.ifmap_view.specs.declared.attachments.Attachment.{Attachment}
 use Rattle.ifmap_view.specs.declared.views.LinkSeen.{LinkSeen}
-use Rattle.ifmap_view.specs.Attachments.{IsCanonItem, IsGraph}
+use Rattle.ifmap_view.specs.Attachments.{IsGraph}
 use Rattle.ifmap_view.specs.Rows.{stored_between, stored_linked, stored_on}
 use Rattle.ifmap_view.specs.Views.{IsView}
 use Rattle.ifmap_fresh.specs.Collected.{AreLookedAt, alone, brought, collected, is_below, is_passed, item_along, item_to, item_where, pair_at}
@@ -162,7 +162,7 @@ module _ (tells : Tells) (rows : List Attachment) (id_at : ℕ → Option Identi
       own : (v : ℕ) (o : Option Identifier) → id_at v ≡ o → Has (alone o) item → IsCanonItem item
       own v None i h = absurd h
       own v (Some a) i (inr h) = absurd h
-      own v (Some a) i (inl e) = subst IsCanonItem e (record { ordered = tt; canon = (is.canon v a i, tt) })
+      own v (Some a) i (inl e) = subst IsCanonItem e (record { ordered = tt; identifiers = (is.canon v a i, tt) })
 
       ends : (v w : ℕ) (a b : Option Identifier) → id_at v ≡ a → id_at w ≡ b → pair_at a b ≡ Some item → IsCanonItem item
       ends v w None b i j q = absurd (none-some item q)
@@ -221,7 +221,7 @@ module _ (tells : Tells) (rows : List Attachment) (id_at : ℕ → Option Identi
 
   pub collects : (item : Item) → IsCanonItem item → is_looked_at rows s item ≡ true → Has (collected rows id_at links s mark keys) item
   collects (One a) i e =
-      let r = (reached_by_walks tells rows is.graph.items s first a i.canon.0).0 e
+      let r = (reached_by_walks tells rows is.graph.items s first a i.identifiers.0).0 e
       in let n = to_number rows id_at links s is start here r.0 a r.2
       in let m = walk_mark rows id_at links s is start here mark depths n.0 r.0 r.1 n.2
       in has_joined (brought rows id_at links s mark) keys n.0 (One a) (keyed n.0 m.0 m.1)
@@ -230,8 +230,8 @@ module _ (tells : Tells) (rows : List Attachment) (id_at : ℕ → Option Identi
   collects (Pair a b) i e =
       let p = and_parts (is_match rows s.match_links a b) (is_expanded rows s a || is_expanded rows s b) e
       in elim (or_either (is_expanded rows s a) (is_expanded rows s b) p.1) [
-        | inl x ↦ from_end a b (Pair a b) i.canon.0 p.0 (pair_is a b i.ordered) x
-        | inr x ↦ from_end b a (Pair a b) i.canon.1.0 (match_turned rows s.match_links b a ∙ p.0) (pair_turned b a ∙ pair_is a b i.ordered) x
+        | inl x ↦ from_end a b (Pair a b) i.identifiers.0 p.0 (pair_is a b i.ordered) x
+        | inr x ↦ from_end b a (Pair a b) i.identifiers.1.0 (match_turned rows s.match_links b a ∙ p.0) (pair_turned b a ∙ pair_is a b i.ordered) x
       ]
 
 -- entries item by item
@@ -286,13 +286,13 @@ carries rows r h e =
 
 all_items : (is : List Item) → ((x : Item) → Has is x → IsCanonItem x) → AllByRecursion AreCanon is
 all_items [] f = tt
-all_items (i ∷ is) f = ((f i (inl refl)).canon, all_items is (λ x h. f x (inr h)))
+all_items (i ∷ is) f = ((f i (inl refl)).identifiers, all_items is (λ x h. f x (inr h)))
 
 module _ (tells : Tells) (rows : List Attachment) (s : Search) (items : List Item) (graph : IsGraph rows) (are : AreLookedAt rows s items) where
   among : (x : Item) → IsCanonItem x → stored_on x rows ≢ [] → has_item items x ≡ is_looked_at rows s x
   among x i n = bool_is (has_item items x) (is_looked_at rows s x)
       (λ h. let f = any_has (same_item x) items h
-          in are.there x (subst (λ y. Has items y) (sym (same_item_is tells x f.0 i.canon (are.canon f.0 f.1).canon f.2)) f.1))
+          in are.there x (subst (λ y. Has items y) (sym (same_item_is tells x f.0 i.identifiers (are.canon f.0 f.1).identifiers f.2)) f.1))
       (λ e. are.back x i n e)
 
   all_among : AllByRecursion (λ r. (has_item items r.item && meeting s.result_filter r) ≡ is_found rows s r) rows

@@ -8,10 +8,10 @@ use Rattle.std.specs.Ordering.{is_eq, is_gt, ordering_reverse, ordering_then}
 use Rattle.std.specs.declared.cmp.Ordering.{Ordering}
 use Rattle.std.specs.declared.cmp.Ordering.TheVariants.{Less, Equal, Greater}
 use Rattle.ifmap_ident.specs.declared.items.Item.{Item}
-use Rattle.ifmap_ident.specs.Items.{item_order, items_tie, same_item}
+use Rattle.ifmap_ident.specs.Items.{IsCanonItem, item_order, items_tie, same_item}
 use Rattle.ifmap_meta.specs.declared.stored.Stored.{Stored}
 use Rattle.ifmap_view.specs.declared.attachments.Attachment.{Attachment}
-use Rattle.ifmap_view.specs.Attachments.{IsCanonItem, attachment_order}
+use Rattle.ifmap_view.specs.Attachments.{attachment_order}
 use Rattle.ifmap_view.specs.Rows.{stored_on}
 use Rattle.ifmap_fresh.specs.Gathered.{IsGrouped, gathered, has_item, row_at}
 use Rattle.ifmap_fresh.proofs.Orders.{items_total}
@@ -92,7 +92,7 @@ gathers tells [] items cr c g s = none items
     none [] = refl
     none (i ∷ is) = none is
 gathers tells (r ∷ rs) items cr c g s = elim (cases_Bool (has_item items r.item)) [
-    | inl t ↦ with_first tells r rs items cr.0.canon c g.0 s t ∙ ap (λ l. r ∷ l) (gathers tells rs items cr.1 c g.1 s) ∙ sym (rw t refl)
+    | inl t ↦ with_first tells r rs items cr.0.identifiers c g.0 s t ∙ ap (λ l. r ∷ l) (gathers tells rs items cr.1 c g.1 s) ∙ sym (rw t refl)
     | inr t ↦ without r rs items t ∙ gathers tells rs items cr.1 c g.1 s ∙ sym (rw t refl)
   ]
 

@@ -14,7 +14,7 @@ use Rattle.ifmap_meta.specs.declared.stored.Stored.{Stored}
 use Rattle.ifmap_region.specs.Links.{Linked, IsSymmetric}
 use Rattle.ifmap_view.specs.declared.attachments.Attachment.{Attachment}
 use Rattle.ifmap_view.specs.declared.views.LinkSeen.{LinkSeen}
-use Rattle.ifmap_view.specs.Attachments.{IsCanonItem}
+use Rattle.ifmap_ident.specs.Items.{IsCanonItem}
 use Rattle.ifmap_view.specs.Rows.{stored_between, stored_linked, stored_on, stored_where}
 use Rattle.ifmap_view.specs.Views.{IsView, others}
 use Rattle.ifmap_fresh.specs.Matching.{IsMatch, is_match, one_meets}
@@ -52,8 +52,8 @@ stands_in tells rows items a b ia ib n = by (pair_of a b) refl
         let stored = first_of (stored_on item rows) m
         in let row = map_has (λ (r : Attachment). r.stored) (filter (λ r. same_item r.item item) rows) stored.0 stored.1
         in let kept = filter_has (λ (r : Attachment). same_item r.item item) rows row.0 row.1
-        in let same : row.0.item ≡ item = same_item_is tells row.0.item item (member (λ r. IsCanonItem r.item) rows items row.0 kept.0).canon
-            (pair_canon a b item ia ib e).canon kept.1
+        in let same : row.0.item ≡ item = same_item_is tells row.0.item item (member (λ r. IsCanonItem r.item) rows items row.0 kept.0).identifiers
+            (pair_canon a b item ia ib e).identifiers kept.1
         in has_joined (λ (r : Attachment). identifiers_of r.item) rows row.0 b kept.0
             (subst (λ i. Has (identifiers_of i) b) (sym same) (elim (pair_parts a b item e) [
               | inl p ↦ subst (λ i. Has (identifiers_of i) b) (sym p) (inr (inl refl))

@@ -10,7 +10,7 @@ use Rattle.ifmap_lemmas.specs.Having.{Has, any_has, filter_has, has_any, has_eit
 use Rattle.ifmap_region.specs.Walks.{Walk, IsReached, begins, goes_on}
 use Rattle.ifmap_search.specs.declared.searches.Search.{Search}
 use Rattle.ifmap_view.specs.declared.attachments.Attachment.{Attachment}
-use Rattle.ifmap_view.specs.Attachments.{IsCanonItem}
+use Rattle.ifmap_ident.specs.Items.{IsCanonItem}
 use Rattle.ifmap_view.specs.Rows.{stored_between}
 use Rattle.ifmap_fresh.specs.Matching.{LeadsTo, is_match, is_terminal}
 use Rattle.ifmap_fresh.specs.Reached.{identifiers_in, is_below, is_expanded, is_reached, is_within, next_to, within}
@@ -40,7 +40,7 @@ module _ (tells : Tells) (rows : List Attachment) (items : AllByRecursion (λ r.
   in_canon : (a : Identifier) → Has (identifiers_in rows) a → IsIdentifier a
   in_canon a h =
       let j = joined_has (λ (r : Attachment). identifiers_of r.item) rows a h
-      in identifier_of (identifiers_of j.0.item) (member (λ r. IsCanonItem r.item) rows items j.0 j.1).canon a j.2
+      in identifier_of (identifiers_of j.0.item) (member (λ r. IsCanonItem r.item) rows items j.0 j.1).identifiers a j.2
 
   start_within : (n : ℕ) → Has (within rows s n) s.start
   start_within zero = inl refl

@@ -11,7 +11,7 @@ use Rattle.ifmap_lemmas.specs.Having.{Has}
 use Rattle.ifmap_lemmas.specs.Texts.{eq_itself, eq_tells, slice_cmp-same}
 use Rattle.ifmap_ident.specs.Canon.{IsIdentifier}
 use Rattle.ifmap_view.specs.declared.attachments.Attachment.{Attachment}
-use Rattle.ifmap_view.specs.Attachments.{IsCanonItem}
+use Rattle.ifmap_ident.specs.Items.{IsCanonItem}
 use Rattle.ifmap_ident.specs.declared.identifiers.Identifier.{Identifier}
 use Rattle.ifmap_ident.specs.declared.items.Item.{Item}
 use Rattle.ifmap_ident.specs.declared.items.Item.TheVariants.{One, Pair}
@@ -80,10 +80,10 @@ pair_canon a b item p q e = by (identifier_order a b) refl
   where
     by : (o : Ordering) → identifier_order a b ≡ o → IsCanonItem item
     by Less is = subst IsCanonItem (same_Some (Pair a b) item (sym (ap (λ o. ordered_pair o a b) is) ∙ e))
-        (record { ordered = is; canon = (p, q, tt) })
+        (record { ordered = is; identifiers = (p, (q, tt)) })
     by Equal is = absurd (none-some item (sym (ap (λ o. ordered_pair o a b) is) ∙ e))
     by Greater is = subst IsCanonItem (same_Some (Pair b a) item (sym (ap (λ o. ordered_pair o a b) is) ∙ e))
-        (record { ordered = turned_order b a ∙ ap ordering_reverse is; canon = (q, p, tt) })
+        (record { ordered = turned_order b a ∙ ap ordering_reverse is; identifiers = (q, (p, tt)) })
 
 -- what holds of all attachments holds of each
 pub member : (P : Attachment → Type 0) (rs : List Attachment) → AllByRecursion P rs → (r : Attachment) → Has rs r → P r

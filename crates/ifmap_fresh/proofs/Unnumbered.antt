@@ -9,7 +9,7 @@ use Rattle.ifmap_region.specs.Walks.{begins, goes_on}
 use Rattle.ifmap_search.specs.declared.searches.Search.{Search}
 use Rattle.ifmap_view.specs.declared.attachments.Attachment.{Attachment}
 use Rattle.ifmap_view.specs.declared.views.LinkSeen.{LinkSeen}
-use Rattle.ifmap_view.specs.Attachments.{IsCanonItem}
+use Rattle.ifmap_ident.specs.Items.{IsCanonItem}
 use Rattle.ifmap_view.specs.Rows.{stored_between, stored_on}
 use Rattle.ifmap_view.specs.Views.{IsView}
 use Rattle.ifmap_fresh.specs.Fresh.{is_looked_at}
@@ -43,10 +43,10 @@ module _ (tells : Tells) (rows : List Attachment) (id_at : ℕ → Option Identi
   on_one a (suc k) w n = no_walk k a w
 
   pub nothing : (x : Item) → IsCanonItem x → stored_on x rows ≢ [] → is_looked_at rows s x ≡ true → ⊥
-  nothing (One a) i n e = let r = (reached_by_walks tells rows is.graph.items s start a i.canon.0).0 e in on_one a r.0 r.2 n
+  nothing (One a) i n e = let r = (reached_by_walks tells rows is.graph.items s start a i.identifiers.0).0 e in on_one a r.0 r.2 n
   nothing (Pair a b) i n e =
       let p = and_parts (is_match rows s.match_links a b) (is_expanded rows s a || is_expanded rows s b) e
       in elim (either (is_expanded rows s a) (is_expanded rows s b) p.1) [
-        | inl x ↦ let w = expanded_walk tells rows is.graph.items s start a i.canon.0 x in from_match a b w.1.0 w.1.2 p.0
-        | inr x ↦ let w = expanded_walk tells rows is.graph.items s start b i.canon.1.0 x in from_match b a w.1.0 w.1.2 (match_turned rows s.match_links b a ∙ p.0)
+        | inl x ↦ let w = expanded_walk tells rows is.graph.items s start a i.identifiers.0 x in from_match a b w.1.0 w.1.2 p.0
+        | inr x ↦ let w = expanded_walk tells rows is.graph.items s start b i.identifiers.1.0 x in from_match b a w.1.0 w.1.2 (match_turned rows s.match_links b a ∙ p.0)
       ]

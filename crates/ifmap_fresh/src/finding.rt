@@ -2,11 +2,11 @@
 ghost use Rattle.std.specs.Prelude.{◌≡◌, ◌+◌, ◌++◌, Some, true, IfOk, IfSome, OnOk, length};
 ghost use Rattle.ifmap_ident.specs.declared.items.Item.{Item};
 ghost use Rattle.ifmap_ident.specs.Canon.{IsIdentifier};
-ghost use Rattle.ifmap_ident.specs.Items.{item_size};
+ghost use Rattle.ifmap_ident.specs.Items.{IsCanonItem, item_size};
 ghost use Rattle.ifmap_lemmas.specs.Having.{Has};
 ghost use Rattle.ifmap_region.specs.Bounds.{IsWithin};
 ghost use Rattle.ifmap_search.specs.Sizes.{entries_size};
-ghost use Rattle.ifmap_view.specs.Attachments.{IsCanonItem, IsGraph};
+ghost use Rattle.ifmap_view.specs.Attachments.{IsGraph};
 ghost use Rattle.ifmap_view.specs.Views.{IsView};
 ghost use Rattle.ifmap_fresh.specs.Collected.{AreLookedAt};
 ghost use Rattle.ifmap_fresh.specs.Fresh.{IsAnswer, is_looked_at};

@@ -6,9 +6,7 @@ use Rattle.std.specs.List.Sorted.{IsStrictlySortedBy}
 use Rattle.std.specs.Ordering.{nat_cmp, on, then_cmp}
 use Rattle.std.specs.declared.cmp.Ordering.{Ordering}
 use Rattle.ifmap_elem.specs.Canonical.{canonical_bytes}
-use Rattle.ifmap_ident.specs.declared.items.Item.{Item}
-use Rattle.ifmap_ident.specs.Canon.{IsIdentifier}
-use Rattle.ifmap_ident.specs.Items.{IsItem, identifiers_of, item_order, item_size, same_item}
+use Rattle.ifmap_ident.specs.Items.{IsCanonItem, item_order, item_size, same_item}
 use Rattle.ifmap_meta.specs.declared.stored.Stored.{Stored}
 use Rattle.ifmap_meta.specs.Keys.{same_key}
 use Rattle.ifmap_view.specs.declared.attachments.Attachment.{Attachment}
@@ -28,11 +26,6 @@ attachment_order = then_cmp (on (λ a. a.item) item_order) (on (λ a. a.stored) 
 -- two attachments have one key: they stand on one item, and are of one key there
 abbrev pub of_one_key : Attachment → Attachment → Bool
 of_one_key a b = same_item a.item b.item && same_key a.stored b.stored
-
--- an item that elements mean: its identifiers are such, and of two the smaller comes first
-pub record IsCanonItem (x : Item) : Type 0 where
-  pub ordered : IsItem x
-  pub canon : AllByRecursion IsIdentifier (identifiers_of x)
 
 -- what holds of every graph: its items are such, it rises strictly, and no two attachments have one key
 pub record IsGraph (rows : List Attachment) : Type 0 where
