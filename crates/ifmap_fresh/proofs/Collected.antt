@@ -202,11 +202,11 @@ module _ (tells : Tells) (rows : List Attachment) (id_at : ℕ → Option Identi
             (subst (λ c. Has (cond c (filter_map (item_along rows id_at links s mark v) (links v)) []) item) (sym p)
               (has_mapped (item_along rows id_at links s mark v) (links v) there.0 item there.1 along)))
 
-  from_end : (a b : Identifier) (item : Item) → IsIdentifier a → is_match rows s.match_links a b ≡ true → pair_of a b ≡ Some item → is_expanded rows s a ≡ true
+  from_end : (a b : Identifier) (item : Item) → IsIdentifier a → IsIdentifier b → is_match rows s.match_links a b ≡ true → pair_of a b ≡ Some item → is_expanded rows s a ≡ true
       → Has (collected rows id_at links s mark keys) item
-  from_end a b item i m e x =
+  from_end a b item i j m e x =
       let v = expanded_passed a i x
-      in let w = is.linked a b (some_there s.match_links (stored_between a b rows) m)
+      in let w = is.linked a b j (some_there s.match_links (stored_between a b rows) m)
       in elim (cases_Bool (nat_lt w.0 v.0 && passed w.0)) [
         | inr f ↦ brings v.0 w.0 a b item v.1 w.1 v.2 f m e v.3
         | inl t ↦ let p = and_parts (nat_lt w.0 v.0) (passed w.0) t
@@ -230,8 +230,8 @@ module _ (tells : Tells) (rows : List Attachment) (id_at : ℕ → Option Identi
   collects (Pair a b) i e =
       let p = and_parts (is_match rows s.match_links a b) (is_expanded rows s a || is_expanded rows s b) e
       in elim (or_either (is_expanded rows s a) (is_expanded rows s b) p.1) [
-        | inl x ↦ from_end a b (Pair a b) i.canon.0 p.0 (pair_is a b i.ordered) x
-        | inr x ↦ from_end b a (Pair a b) i.canon.1.0 (match_turned rows s.match_links b a ∙ p.0) (pair_turned b a ∙ pair_is a b i.ordered) x
+        | inl x ↦ from_end a b (Pair a b) i.canon.0 i.canon.1.0 p.0 (pair_is a b i.ordered) x
+        | inr x ↦ from_end b a (Pair a b) i.canon.1.0 i.canon.0 (match_turned rows s.match_links b a ∙ p.0) (pair_turned b a ∙ pair_is a b i.ordered) x
       ]
 
 -- entries item by item

@@ -23,7 +23,7 @@ module _ (tells : Tells) (rows : List Attachment) (id_at : ℕ → Option Identi
     (start : IsIdentifier s.start) (unnumbered : (v : ℕ) → id_at v ≡ Some s.start → ⊥) where
   no_match : (b : Identifier) → IsMatch rows s.match_links s.start b → ⊥
   no_match b m =
-      let w = is.linked b s.start (some_there s.match_links (stored_between b s.start rows) (match_turned rows s.match_links b s.start ∙ m))
+      let w = is.linked b s.start start (some_there s.match_links (stored_between b s.start rows) (match_turned rows s.match_links b s.start ∙ m))
       in unnumbered w.0 w.1
 
   no_walk : (k : ℕ) (a : Identifier) → On rows s (suc k) a → ⊥
@@ -39,7 +39,7 @@ module _ (tells : Tells) (rows : List Attachment) (id_at : ℕ → Option Identi
   either false b e = inr e
 
   on_one : (a : Identifier) (k : ℕ) → On rows s k a → stored_on (One a) rows ≢ [] → ⊥
-  on_one a zero (begins e) n = let w = is.alone a n in unnumbered w.0 (w.1 ∙ ap Some e)
+  on_one a zero (begins e) n = let w = is.alone a (subst IsIdentifier (sym e) start) n in unnumbered w.0 (w.1 ∙ ap Some e)
   on_one a (suc k) w n = no_walk k a w
 
   pub nothing : (x : Item) → IsCanonItem x → stored_on x rows ≢ [] → is_looked_at rows s x ≡ true → ⊥
