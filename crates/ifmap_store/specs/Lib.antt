@@ -1,0 +1,3 @@
+-- The inside of a graph, in reading order.
+pub mod Sides
+pub mod Shelved

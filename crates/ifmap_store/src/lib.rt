@@ -1,0 +1,7 @@
+//! The inside of a graph: shelves by item, the numbers of identifiers, and the links of each number.
+//! Each list has a draft of another beside it, so that a change is made and taken back without memory.
+#![tactic(auto)]
+
+pub mod sided;
+
+pub use sided::Sided;
