@@ -2,6 +2,8 @@
 //! Each list has a draft of another beside it, so that a change is made and taken back without memory.
 #![tactic(auto)]
 
+pub mod shelves;
 pub mod sided;
 
+pub use shelves::{Shelf, Shelves};
 pub use sided::Sided;
