@@ -2,6 +2,7 @@
 //! Each list has a draft of another beside it, so that a change is made and taken back without memory.
 #![tactic(auto)]
 
+mod after;
 pub mod shelves;
 pub mod sided;
 
