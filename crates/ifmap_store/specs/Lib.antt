@@ -2,3 +2,7 @@
 pub mod Sides
 pub mod Shelved
 pub mod After
+pub mod Named
+pub mod Linked
+pub mod Joined
+pub mod Turning

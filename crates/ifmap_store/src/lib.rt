@@ -3,8 +3,12 @@
 #![tactic(auto)]
 
 mod after;
+pub mod ends;
 pub mod shelves;
 pub mod sided;
+pub mod ways;
 
+pub use ends::Ends;
 pub use shelves::{Shelf, Shelves};
 pub use sided::Sided;
+pub use ways::Way;

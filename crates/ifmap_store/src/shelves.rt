@@ -4,6 +4,7 @@ ghost use Rattle.ifmap_store.specs.Shelved.{AreShelved, rows_of};
 ghost use Rattle.ifmap_store.specs.Sides.{next, now};
 ghost use Rattle.ifmap_view.specs.Rows.{stored_on};
 
+use crate::ends::Ends;
 use crate::sided::Sided;
 use ifmap_ident::Item;
 use ifmap_view::Row;
@@ -11,12 +12,11 @@ use slab::Slab;
 use std::alloc::Global;
 use std::collections::BTreeMap;
 
-/// What is stored on an item, the numbers of its ends (of a lone identifier its own, twice), and how
-/// many changes that are out name the item. A shelf that is empty is there only while one does.
+/// What is stored on an item, the numbers of its identifiers, and how many changes that are out name
+/// the item. A shelf that is empty is there only while one does.
 #[derive(Drop)]
 pub struct Shelf {
-    pub one: u64,
-    pub two: u64,
+    pub ends: Ends,
     pub stored: Sided<Row>,
     pub waits: u64,
 }
