@@ -1,0 +1,123 @@
+-- From lists of links to what is stored between identifiers.
+-- 1. What a slot that joins two numbers has is what is stored on the link of their identifiers, either way round.
+-- 2. So a handle leads to what is stored on its link, and a number's list names only numbers with which it has a link.
+-- 3. What is stored on a link stands at a slot that joins its two numbers, so the list names each of them.
+-- 4. With that the laws of a view hold, where bytes tell the identifiers of elements apart.
+use Rattle.std.proofs.Common.{◌≡◌, ◌≢◌, ◌⊎◌, ◌↔◌, ℕ, ◌&&◌, Bool, true, false, Option, Some, None, List, [], ◌∷◌, map, refl, ap, ◌∙◌, sym, subst, inl, inr, nat_eq}
+use Rattle.std.proofs.lemmas.Bool.{cases_Bool}
+use Rattle.std.proofs.lemmas.Option.{same_Some, none-some}
+use Rattle.std.specs.BTreeMap.{is_at}
+use Rattle.std.specs.List.{AllByRecursion, Contains, IsDistinct}
+use Rattle.std.specs.Map.{lookup}
+use Rattle.std.specs.declared.cmp.Ordering.{Ordering}
+use Rattle.std.specs.declared.cmp.Ordering.TheVariants.{Less, Equal, Greater}
+use Rattle.ifmap_lemmas.specs.Having.{Has, from_has, has_from, has_map, map_has}
+use Rattle.ifmap_ident.specs.declared.identifiers.Identifier.{Identifier}
+use Rattle.ifmap_ident.specs.declared.items.Item.{Item}
+use Rattle.ifmap_ident.specs.declared.items.Item.TheVariants.{One, Pair}
+use Rattle.ifmap_ident.specs.Identifiers.{identifier_bytes, identifier_order}
+use Rattle.ifmap_ident.specs.Items.{item_order, ordered_pair, pair_of}
+use Rattle.ifmap_meta.specs.declared.stored.Stored.{Stored}
+use Rattle.ifmap_view.specs.declared.attachments.Attachment.{Attachment}
+use Rattle.ifmap_view.specs.declared.views.LinkSeen.{LinkSeen}
+use Rattle.ifmap_view.specs.Attachments.{IsCanonItem}
+use Rattle.ifmap_view.specs.Rows.{stored_on, stored_where, stored_between, stored_linked}
+use Rattle.ifmap_view.specs.Views.{IsLink, others}
+use Rattle.ifmap_store.specs.Joined.{AreJoined, AreSingle, IsNumber, is_full}
+use Rattle.ifmap_store.specs.Linked.{AreListed, Ends}
+use Rattle.ifmap_store.specs.Shelved.{Rises, rows_by}
+use Rattle.ifmap_store.proofs.Alike.{Alike, pair_less, pair_more, pair_tied, same_pair, stored_alike, turned_order}
+use Rattle.ifmap_store.proofs.Following.{looked_up, stands}
+use Rattle.ifmap_store.proofs.Placing.{absent, found}
+
+full_is : {X : Type 0} (xs : List X) → xs ≢ [] → is_full xs ≡ true
+full_is [] n = absurd (n refl)
+full_is (x ∷ xs) n = refl
+
+is_there : {X : Type 0} (xs : List X) → is_full xs ≡ true → xs ≢ []
+is_there [] e n = let q : false ≡ true = e in cc
+is_there (x ∷ xs) e n = let q : false ≡ true = ap is_full (sym n) ∙ refl in cc
+
+pub all_has : {X : Type 0} (P : X → Type 0) (xs : List X) → AllByRecursion P xs → (x : X) → Has xs x → P x
+all_has P [] a x h = absurd h
+all_has P (y ∷ ys) a x (inl e) = subst P e a.0
+all_has P (y ∷ ys) a x (inr h) = all_has P ys a.1 x h
+
+module _ (list_of : ℕ → List Stored) (entries : List (Item × ℕ)) (id_at : ℕ → Option Identifier) (joins : ℕ → Option (ℕ × ℕ)) (links : ℕ → List LinkSeen)
+    (rising : Rises entries) (canon : AllByRecursion (λ e. IsCanonItem e.0) entries) (single : AreSingle id_at) (joined : AreJoined entries id_at joins)
+    (listed : AreListed joins (λ at. is_full (list_of at)) links) where
+  abbrev rows : List Attachment
+  rows = rows_by list_of entries
+
+  ordered : (a b : Identifier) (at : ℕ) → Has entries (Pair a b, at) → identifier_order a b ≡ Less
+  ordered a b at h = (all_has (λ e. IsCanonItem e.0) entries canon (Pair a b, at) h).ordered
+
+  -- what stands on the pair of two that are alike
+  on_pair : (a b k m : Identifier) (at : ℕ) → Has entries (Pair a b, at) → Alike k a → Alike m b → list_of at ≡ stored_on (Pair k m) rows
+  on_pair a b k m at h p q = stands list_of entries rising None (Pair a b) at h ∙ sym (stored_alike (Pair k m) (Pair a b) (same_pair a b k m p q) rows)
+
+  on_ends : (at v w : ℕ) → joins at ≡ Some (v, w) → list_of at ≡ stored_linked (id_at v) (id_at w) rows
+  on_ends at v w j =
+      let e = joined.only at v w j
+      in on_pair e.0 e.1 e.3.0 e.4.0 at e.2 e.3.2 e.4.2
+        ∙ sym (ap (λ o. stored_linked o (id_at w) rows) e.3.1 ∙ ap (λ o. stored_linked (Some e.3.0) o rows) e.4.1
+          ∙ ap (λ i. stored_where i rows) (pair_less e.0 e.1 e.3.0 e.4.0 e.3.2 e.4.2 (ordered e.0 e.1 at e.2)))
+
+  on_turned : (at v w : ℕ) → joins at ≡ Some (w, v) → list_of at ≡ stored_linked (id_at v) (id_at w) rows
+  on_turned at v w j =
+      let e = joined.only at w v j
+      in on_pair e.0 e.1 e.3.0 e.4.0 at e.2 e.3.2 e.4.2
+        ∙ sym (ap (λ o. stored_linked o (id_at w) rows) e.4.1 ∙ ap (λ o. stored_linked (Some e.4.0) o rows) e.3.1
+          ∙ ap (λ i. stored_where i rows) (pair_more e.0 e.1 e.3.0 e.4.0 e.3.2 e.4.2 (ordered e.0 e.1 at e.2)))
+
+  -- what a slot that joins two numbers has is what is stored between them
+  pub on_place : (at v w : ℕ) → Ends joins at v w → list_of at ≡ stored_linked (id_at v) (id_at w) rows
+  on_place at v w (inl j) = on_ends at v w j
+  on_place at v w (inr j) = on_turned at v w j
+
+  -- and so each handle leads to what is stored on its link
+  pub handled : (v : ℕ) (seen : LinkSeen) → Contains (links v) seen → list_of seen.at ≡ stored_linked (id_at v) (id_at seen.other) rows
+  handled v seen c = on_place seen.at v seen.other (listed.only v seen c).0
+
+  pub only : (v w : ℕ) → Contains (others (links v)) w → IsLink rows id_at v w
+  only v w c =
+      let s = map_has (λ (l : LinkSeen). l.other) (links v) w (has_from _ _ c)
+      in let l = listed.only v s.0 (from_has _ _ s.1)
+      in subst (λ x. stored_linked (id_at v) (id_at x) rows ≢ []) s.2 (λ n. is_there (list_of s.0.at) l.1 (on_place s.0.at v s.0.other l.0 ∙ n))
+
+  named : (v w at : ℕ) → Ends joins at v w → is_full (list_of at) ≡ true → Contains (others (links v)) w
+  named v w at j f = from_has _ _ (has_map (λ (l : LinkSeen). l.other) (links v) (record { other = w; at = at }) (has_from _ _ (listed.each v w at j f)))
+
+  -- what is stored on a pair stands at a slot that joins its numbers
+  placed : (k m : Identifier) → stored_on (Pair k m) rows ≢ [] → (o : Option ℕ) → lookup (is_at (item_order (Pair k m))) entries ≡ o
+      → (at : ℕ) × (v : ℕ) × (w : ℕ) × (joins at ≡ Some (v, w)) × IsNumber id_at v k × IsNumber id_at w m × (is_full (list_of at) ≡ true)
+  placed k m n None e = absurd (n (sym (absent list_of (Pair k m) entries e)))
+  placed k m n (Some at) e =
+      let h = looked_up entries (Pair k m) at e
+      in let t = pair_tied k m h.0 h.2
+      in let j = joined.pairs t.0 t.1 at (subst (λ i. Has entries (i, at)) t.2 h.1)
+      in (at, j.0, j.1, j.2, (j.3.0, j.3.1, j.3.2 ∙ t.3), (j.4.0, j.4.1, j.4.2 ∙ t.4),
+        ap is_full (found list_of (Pair k m) entries at rising e) ∙ full_is _ n)
+
+  same_number : (v w : ℕ) (a : Identifier) → IsNumber id_at v a → id_at w ≡ Some a → v ≡ w
+  same_number v w a n e = single v w n.0 a n.1 e n.2
+
+  between : (v w : ℕ) (a b : Identifier) → id_at v ≡ Some a → id_at w ≡ Some b → stored_between a b rows ≢ [] → Contains (others (links v)) w
+  between v w a b p q n = by (identifier_order a b) refl
+    where
+      by : (o : Ordering) → identifier_order a b ≡ o → Contains (others (links v)) w
+      by Less is =
+          let x = placed a b (λ m. n (ap (λ o. stored_where (ordered_pair o a b) rows) is ∙ m)) _ refl
+          in named v w x.0 (inl (x.3 ∙ ap Some (ap (λ k. (k, x.2)) (same_number x.1 v a x.4 p) ∙ ap (λ k. (v, k)) (same_number x.2 w b x.5 q)))) x.6
+      by Equal is = absurd (n (ap (λ o. stored_where (ordered_pair o a b) rows) is))
+      by Greater is =
+          let x = placed b a (λ m. n (ap (λ o. stored_where (ordered_pair o a b) rows) is ∙ m)) _ refl
+          in named v w x.0 (inr (x.3 ∙ ap Some (ap (λ k. (k, x.2)) (same_number x.1 w b x.4 q) ∙ ap (λ k. (w, k)) (same_number x.2 v a x.5 p)))) x.6
+
+  pub each : (v w : ℕ) → IsLink rows id_at v w → Contains (others (links v)) w
+  each v w l = by (id_at v) (id_at w) refl refl l
+    where
+      by : (a b : Option Identifier) → id_at v ≡ a → id_at w ≡ b → stored_linked a b rows ≢ [] → Contains (others (links v)) w
+      by None b p q n = absurd (n refl)
+      by (Some a) None p q n = absurd (n refl)
+      by (Some a) (Some b) p q n = between v w a b p q n
