@@ -7,18 +7,23 @@ use Rattle.std.specs.Ordering.{is_eq, ordering_reverse}
 use Rattle.std.specs.Str.{bytes_eq}
 use Rattle.std.specs.declared.cmp.Ordering.{Ordering}
 use Rattle.std.specs.declared.cmp.Ordering.TheVariants.{Less, Equal, Greater}
-use Rattle.ifmap_lemmas.specs.Texts.{eq_tells, same_texts, slice_cmp-same}
+use Rattle.ifmap_lemmas.specs.Texts.{eq_itself, eq_tells, same_texts, slice_cmp-same}
 use Rattle.ifmap_ident.specs.declared.identifiers.Identifier.{Identifier}
 use Rattle.ifmap_ident.specs.declared.items.Item.{Item}
 use Rattle.ifmap_ident.specs.declared.items.Item.TheVariants.{One, Pair}
+use Rattle.ifmap_ident.specs.Canon.{IsIdentifier}
 use Rattle.ifmap_ident.specs.Identifiers.{identifier_bytes, identifier_order, same_identifier}
 use Rattle.ifmap_ident.specs.Items.{item_order, ordered_pair, pair_of, same_item}
 use Rattle.ifmap_view.specs.declared.attachments.Attachment.{Attachment}
 use Rattle.ifmap_view.specs.Rows.{stored_on}
-use Rattle.ifmap_store.proofs.Ordered.{ties}
+use Rattle.ifmap_store.proofs.Ordered.{equal_is, ties}
 
 abbrev pub Alike : Identifier → Identifier → Type 0
 Alike a b = identifier_bytes a ≡ identifier_bytes b
+
+-- identifiers of one list of canonical bytes are one, where elements gave them
+abbrev pub Tells : Type 0
+Tells = (one other : Identifier) → IsIdentifier one → IsIdentifier other → identifier_bytes one ≡ identifier_bytes other → one ≡ other
 
 pub turned_order : (a b : Identifier) → identifier_order a b ≡ ordering_reverse (identifier_order b a)
 turned_order a b = nat_list_cmp_total.antisymm (identifier_bytes a) (identifier_bytes b)
@@ -81,3 +86,13 @@ one_tied k (One a) e =
 one_tied k (Pair a b) e =
     let t : same_item (Pair a b) (One k) ≡ true = sym (ties (One k) (Pair a b)) ∙ ap is_eq e
     in let r : false ≡ true = (and_parts (same_identifier a k) false t).1 in cc
+
+pair_itself : (a b : Identifier) → same_item (Pair a b) (Pair a b) ≡ true
+pair_itself a b =
+    let p : same_identifier a a ≡ true = eq_itself (identifier_bytes a)
+    in let q : same_identifier b b ≡ true = eq_itself (identifier_bytes b)
+    in rw (p, q) refl
+
+pub pairs_tie : (a b k m : Identifier) → Alike a k → Alike b m → item_order (Pair a b) (Pair k m) ≡ Equal
+pairs_tie a b k m p q =
+    equal_is (item_order (Pair a b) (Pair k m)) (ties (Pair a b) (Pair k m) ∙ same_pair k m a b p q (Pair k m) ∙ pair_itself k m)

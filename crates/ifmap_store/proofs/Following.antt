@@ -59,6 +59,14 @@ module _ {X : Type 0} where
       in let t : is_at (item_order item) e.0 ≡ false = ap is_eq (items_total.antisymm item e.0 ∙ ap ordering_reverse l)
       in rw t (entry_hits es item at (first_rises e es r).1 h)
 
+  -- what ties is looked up alike
+  pub lookup_tied : (x y : Item) (es : List (Item × X)) → item_order x y ≡ Equal → lookup (is_at (item_order x)) es ≡ lookup (is_at (item_order y)) es
+  lookup_tied x y [] t = refl
+  lookup_tied x y (e ∷ es) t = elim (cases_Bool (is_at (item_order x) e.0)) [
+      | inl p ↦ let q : is_at (item_order y) e.0 ≡ true = ap is_eq (sym (items_total.congr x y e.0 t)) ∙ p in rw (p, q) refl
+      | inr p ↦ let q : is_at (item_order y) e.0 ≡ false = ap is_eq (sym (items_total.congr x y e.0 t)) ∙ p in rw (p, q) (lookup_tied x y es t)
+    ]
+
   all_kept : (k : Item) (p : Item × X → Bool) (es : List (Item × X)) → AllByRecursion (λ y. item_order k y ≡ Less) (map (λ e. e.0) es)
       → AllByRecursion (λ y. item_order k y ≡ Less) (map (λ e. e.0) (filter p es))
   all_kept k p [] a = tt

@@ -3,3 +3,10 @@ pub mod Placing
 pub mod Shelving
 pub mod Passing
 pub mod Following
+pub mod Alike
+pub mod Graphs
+pub mod Viewed
+pub mod Links
+pub mod Apart
+pub mod Turns
+pub mod Going

@@ -3,7 +3,7 @@ use Rattle.std.specs.Prelude.{◌≡◌, ℕ, Bool, true, false, List, [], ◌�
 use Rattle.ifmap_lemmas.specs.Having.{Has}
 use Rattle.ifmap_ident.specs.declared.identifiers.Identifier.{Identifier}
 use Rattle.ifmap_ident.specs.declared.items.Item.{Item}
-use Rattle.ifmap_ident.specs.declared.items.Item.TheVariants.{Pair}
+use Rattle.ifmap_ident.specs.declared.items.Item.TheVariants.{One, Pair}
 use Rattle.ifmap_ident.specs.Identifiers.{identifier_bytes}
 use Rattle.ifmap_meta.specs.declared.stored.Stored.{Stored}
 use Rattle.ifmap_store.specs.declared.ends.Ends.{Ends}
@@ -32,8 +32,9 @@ IsNumber id_at v a = (k : Identifier) × (id_at v ≡ Some k) × (identifier_byt
 abbrev pub AreSingle : (ℕ → Option Identifier) → Type 0
 AreSingle id_at = (v w : ℕ) (a b : Identifier) → id_at v ≡ Some a → id_at w ≡ Some b → identifier_bytes a ≡ identifier_bytes b → v ≡ w
 
--- the slot of a link joins the numbers of its ends, and no other slot joins
+-- a lone identifier has a number; the slot of a link joins the numbers of its ends, and no other slot joins
 pub record AreJoined (entries : List (Item × ℕ)) (id_at : ℕ → Option Identifier) (joins : ℕ → Option (ℕ × ℕ)) : Type 0 where
+  pub ones : (a : Identifier) (at : ℕ) → Has entries (One a, at) → (v : ℕ) × IsNumber id_at v a
   pub pairs : (a b : Identifier) (at : ℕ) → Has entries (Pair a b, at)
       → (v : ℕ) × (w : ℕ) × (joins at ≡ Some (v, w)) × IsNumber id_at v a × IsNumber id_at w b
   pub only : (at v w : ℕ) → joins at ≡ Some (v, w)
