@@ -4,6 +4,7 @@ pub mod Shelving
 pub mod Passing
 pub mod Following
 pub mod Alike
+pub mod Changing
 pub mod Graphs
 pub mod Viewed
 pub mod Links

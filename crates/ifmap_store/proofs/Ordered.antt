@@ -41,3 +41,6 @@ pub above_tied : (i k : Item) (ys : List Item) → item_order i k ≡ Equal → 
     → AllByRecursion (λ y. item_order i y ≡ Less) ys
 above_tied i k [] e a = tt
 above_tied i k (y ∷ ys) e a = (items_total.congr i k y e ∙ a.0, above_tied i k ys e a.1)
+
+pub turned_tie : (x y : Item) → item_order x y ≡ Equal → item_order y x ≡ Equal
+turned_tie x y e = items_total.antisymm y x ∙ ap ordering_reverse e

@@ -18,10 +18,10 @@ use Rattle.ifmap_store.specs.Shelved.{IsPlaced, Rises, Side, list_at, row_on, ro
 use Rattle.ifmap_store.specs.Sides.{Sides}
 use Rattle.ifmap_store.proofs.Placing.{all_inserted, inserted, nothing_rises}
 
-abbrev Entries : Type 0
+abbrev pub Entries : Type 0
 Entries = List (Item × ℕ)
 
-abbrev slots_of : Entries → List ℕ
+abbrev pub slots_of : Entries → List ℕ
 slots_of es = map (λ e. e.1) es
 
 no_slots : IsDistinct nat_eq (slots_of [])
@@ -31,7 +31,7 @@ no_slots = tt
 pub nothing_placed : (look : ℕ → Option Shelf) → IsPlaced look []
 nothing_placed look = record { rising = nothing_rises; canon = tt; live = tt; apart = no_slots }
 
-slots_first : (e : Item × ℕ) (es : Entries) → IsDistinct nat_eq (slots_of (e ∷ es)) → AllByRecursion (λ y. nat_eq e.1 y ≡ false) (slots_of es) × IsDistinct nat_eq (slots_of es)
+pub slots_first : (e : Item × ℕ) (es : Entries) → IsDistinct nat_eq (slots_of (e ∷ es)) → AllByRecursion (λ y. nat_eq e.1 y ≡ false) (slots_of es) × IsDistinct nat_eq (slots_of es)
 unfolding IsDistinct
 slots_first e es d = d
 

@@ -44,6 +44,10 @@ rows_of side s = rows_by (λ at. list_at side (get s.slots at)) s.places.entries
 abbrev pub place_of : Shelves → Item → Option ℕ
 place_of s item = lookup (is_at (item_order item)) s.places.entries
 
+-- the shelf of an item has a draft
+abbrev pub HasDraft : Shelves → Item → Type 0
+HasDraft s item = (at : ℕ) × (shelf : Shelf) × (place_of s item ≡ Some at) × (get s.slots at ≡ Some shelf) × IsSome shelf.stored.draft
+
 -- each item has a shelf, no two have one, and items are such as elements mean
 pub record IsPlaced (look : ℕ → Option Shelf) (entries : List (Item × ℕ)) : Type 0 where
   pub rising : Rises entries

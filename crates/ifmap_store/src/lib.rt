@@ -3,6 +3,7 @@
 #![tactic(auto)]
 
 mod after;
+mod changing;
 pub mod ends;
 pub mod shelves;
 pub mod sided;
