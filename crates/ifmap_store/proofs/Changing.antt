@@ -1,5 +1,5 @@
 -- One shelf changes: what is stored on its item is what the shelf has then, and on no other item anything changes.
-use Rattle.std.proofs.Common.{◌≡◌, ◌≢◌, ℕ, zero, suc, ◌<◌, length, get_or, Bool, true, false, Option, Some, None, IsSome, List, [], ◌∷◌, ◌++◌, map, nat_eq, refl, ap, ◌∙◌, sym, subst, inl, inr, arith}
+use Rattle.std.proofs.Common.{◌≡◌, ◌≢◌, ℕ, zero, suc, ◌<◌, length, get_or, Bool, true, false, cond, Option, Some, None, IsSome, List, [], ◌∷◌, ◌++◌, map, nat_eq, refl, ap, ◌∙◌, sym, subst, inl, inr, arith}
 use Rattle.std.proofs.lemmas.Bool.{cases_Bool, cases_eq}
 use Rattle.std.proofs.lemmas.Bool.Decides.{nat_tests}
 use Rattle.std.proofs.lemmas.List.{get_or-set_other, get_or-set_same}
@@ -108,3 +108,45 @@ written_there slots new at s t had e = ap (λ x. get x at) e ∙ get_or-set_same
 
 pub written_elsewhere : (slots new : Slab Shelf) (at : ℕ) (t : Shelf) → new ≡ with_value slots at t → (o : ℕ) → o ≢ at → get new o ≡ get slots o
 written_elsewhere slots new at t e o n = ap (λ x. get x o) e ∙ get_or-set_other slots.slots at o (Some t) None n
+
+pub some_of : {X : Type 0} (o : Option X) → IsSome o → (x : X) × (o ≡ Some x)
+some_of {X} None s = let q : IsSome {T = X} None = s in cc
+some_of (Some x) s = (x, refl)
+
+-- a write to the shelf of an item
+module _ (slots new : Slab Shelf) (es : Entries) (is : IsPlaced (get slots) es) (item : Item) (at : ℕ) (here : lookup (is_at (item_order item)) es ≡ Some at)
+    (s t : Shelf) (had : get slots at ≡ Some s) (wrote : new ≡ with_value slots at t) where
+  has : get new at ≡ Some t
+  has = written_there slots new at s t had wrote
+
+  pub shelved : IsPlaced (get new) es
+  shelved = stays_placed (get slots) (get new) es is item at here (written_elsewhere slots new at t wrote) (subst (λ (o : Option Shelf). IsSome o) (sym has) refl)
+
+  pub side_stays : (side : Side) → side t.stored ≡ side s.stored
+      → rows_by (λ n. list_at side (get new n)) es ≡ rows_by (λ n. list_at side (get slots n)) es
+  side_stays side e =
+      same_side (get slots) (get new) es is item at here (written_elsewhere slots new at t wrote) side (ap (list_at side) has ∙ e ∙ sym (ap (list_at side) had))
+
+  -- what was stored on what ties with the item
+  pub was : (side : Side) (x : Item) → is_at (item_order item) x ≡ true → side s.stored ≡ stored_on x (rows_by (λ n. list_at side (get slots n)) es)
+  was side x e =
+      sym (ap (list_at side) had)
+      ∙ found (λ n. list_at side (get slots n)) x es at is.rising (tied_there (get slots) (get new) es is item at here (written_elsewhere slots new at t wrote) x e)
+
+  -- what is stored on each item now
+  pub shows : (side : Side) (list : List Stored) → side t.stored ≡ list → (x : Item)
+      → stored_on x (rows_by (λ n. list_at side (get new n)) es)
+        ≡ cond (is_at (item_order item) x) list (stored_on x (rows_by (λ n. list_at side (get slots n)) es))
+  shows side list e x = elim (cases_Bool (is_at (item_order item) x)) [
+      | inl y ↦ rw y (on_item (get slots) (get new) es is item at here (written_elsewhere slots new at t wrote) side x y ∙ ap (list_at side) has ∙ e)
+      | inr f ↦ rw f (on_others (get slots) (get new) es is item at here (written_elsewhere slots new at t wrote) side x f)
+    ]
+
+  -- the same, where the new list is that of a side before
+  pub comes : (side other : Side) → side t.stored ≡ other s.stored → (x : Item)
+      → stored_on x (rows_by (λ n. list_at side (get new n)) es)
+        ≡ stored_on x (cond (is_at (item_order item) x) (rows_by (λ n. list_at other (get slots n)) es) (rows_by (λ n. list_at side (get slots n)) es))
+  comes side other e x = elim (cases_Bool (is_at (item_order item) x)) [
+      | inl y ↦ rw y (on_item (get slots) (get new) es is item at here (written_elsewhere slots new at t wrote) side x y ∙ ap (list_at side) has ∙ e ∙ was other x y)
+      | inr f ↦ rw f (on_others (get slots) (get new) es is item at here (written_elsewhere slots new at t wrote) side x f)
+    ]
