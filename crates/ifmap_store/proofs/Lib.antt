@@ -11,3 +11,4 @@ pub mod Links
 pub mod Apart
 pub mod Turns
 pub mod Going
+pub mod Insides

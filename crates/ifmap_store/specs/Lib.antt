@@ -6,3 +6,4 @@ pub mod Named
 pub mod Linked
 pub mod Joined
 pub mod Turning
+pub mod Held
