@@ -1,7 +1,7 @@
 -- What a graph's parts owe to whoever views it, on either side.
-use Rattle.std.proofs.Common.{◌≡◌, ◌≢◌, ℕ, Option, Some, None, IsSome, List, [], ◌∷◌, ◌++◌, map, option_map, refl, ap, ◌∙◌, sym, subst}
+use Rattle.std.proofs.Common.{◌≡◌, ◌≢◌, ℕ, Option, Some, None, IsSome, List, [], ◌∷◌, ◌++◌, map, option_map, refl, ap, ◌∙◌, sym, subst, inl, inr}
 use Rattle.std.proofs.lemmas.Option.{same_Some, none-some}
-use Rattle.std.specs.List.{AllByRecursion}
+use Rattle.std.specs.List.{AllByRecursion, Contains}
 use Rattle.std.specs.declared.cmp.Ordering.TheVariants.{Equal}
 use Rattle.ifmap_lemmas.specs.Having.{Has}
 use Rattle.ifmap_ident.specs.declared.identifiers.Identifier.{Identifier}
@@ -12,22 +12,33 @@ use Rattle.ifmap_meta.specs.declared.stored.Stored.{Stored}
 use Rattle.ifmap_pool.specs.Holdings.{Holdings, IsPool, Names, entry_at, key_at}
 use Rattle.ifmap_view.specs.declared.views.LinkSeen.{LinkSeen}
 use Rattle.ifmap_view.specs.Attachments.{IsCanonItem}
+use Rattle.ifmap_view.specs.Rows.{stored_linked}
 use Rattle.ifmap_view.specs.Views.{IsView}
-use Rattle.ifmap_store.specs.declared.ends.Ends.{Ends}
+use Rattle.ifmap_store.specs.declared.ends.Ends as the_ends
 use Rattle.ifmap_store.specs.declared.ends.Ends.TheVariants as ends
 use Rattle.ifmap_store.specs.declared.shelves.Shelf.{Shelf}
 use Rattle.ifmap_store.specs.Held.{IsSide, shown}
 use Rattle.ifmap_store.specs.Joined.{AreJoined, AreSingle, IsNumber, is_full, joined, two_of}
+use Rattle.ifmap_store.specs.Linked.{Ends}
 use Rattle.ifmap_store.specs.Named.{AreEnds, AreIdentifiers, AreNumbered, HasEnds}
 use Rattle.ifmap_store.specs.Shelved.{IsPlaced, Side, list_at, row_on, rows_by}
 use Rattle.ifmap_store.proofs.Alike.{Tells, alike_equal, equal_alike}
 use Rattle.ifmap_store.proofs.Graphs.{graph_is}
-use Rattle.ifmap_store.proofs.Viewed.{all_has, alone, apart, each, linked, only}
+use Rattle.ifmap_store.proofs.Viewed.{all_has, alone, apart, each, handled, linked, only}
 
 -- the rows of shelves are those of their entries
 pub rows_shown : (side : Side) (look : ℕ → Option Shelf) (es : List (Item × ℕ)) → rows_by (list_at side) (shown look es) ≡ rows_by (λ at. list_at side (look at)) es
 rows_shown side look [] = refl
 rows_shown side look (e ∷ es) = ap (λ l. map (row_on e.0) (list_at side (look e.1)) ++ l) (rows_shown side look es)
+
+there : (o : Option Shelf) (v w : ℕ) → joined o ≡ Some (v, w) → IsSome o
+there None v w j = absurd (none-some _ j)
+there (Some shelf) v w j = refl
+
+-- a slot that joins numbers is live
+pub live_by : (look : ℕ → Option Shelf) (at v w : ℕ) → Ends (λ n. joined (look n)) at v w → IsSome (look at)
+live_by look at v w (inl j) = there (look at) v w j
+live_by look at v w (inr j) = there (look at) w v j
 
 module _ (names : Holdings Identifier) where
   -- the key of a number that has one
@@ -48,11 +59,16 @@ module _ (names : Holdings Identifier) where
       let x = entry_of v a (entry_at names v) refl e
       in (x.0, x.1, ap (λ k. identifier_order k b) x.2 ∙ alike_equal a b q)
 
+  -- a number that was found is that of the identifier, where the two are told apart by their bytes
+  pub number_found : (v : ℕ) (id k : Identifier) → Names identifier_order names v id → key_at names v ≡ Some k → (identifier_bytes k ≡ identifier_bytes id → k ≡ id)
+      → key_at names v ≡ Some id
+  number_found v id k n e t = e ∙ ap Some (t (ap identifier_bytes (same_Some k n.0.0 (sym e ∙ key_is v n.0 n.1)) ∙ equal_alike n.0.0 id n.2))
+
   pub single : IsPool identifier_order names → AreSingle (key_at names)
   single p v w a b e f q = p.one_to_one v w b (names_by v a b e q) (names_by w b b f refl)
 
   module _ (a b : Identifier) where
-    ones_by : (e : Ends) → AreEnds names (One a) e → (v : ℕ) × IsNumber (key_at names) v a
+    ones_by : (e : the_ends.Ends) → AreEnds names (One a) e → (v : ℕ) × IsNumber (key_at names) v a
     ones_by (ends.One v) n = (v, is_number v a n)
     ones_by (ends.Pair v w) n = absurd n
 
@@ -60,7 +76,7 @@ module _ (names : Holdings Identifier) where
     ones_of None n = absurd n
     ones_of (Some shelf) n = ones_by shelf.ends n
 
-    pairs_by : (e : Ends) → AreEnds names (Pair a b) e
+    pairs_by : (e : the_ends.Ends) → AreEnds names (Pair a b) e
         → (v : ℕ) × (w : ℕ) × (two_of e ≡ Some (v, w)) × IsNumber (key_at names) v a × IsNumber (key_at names) w b
     pairs_by (ends.One v) n = absurd n
     pairs_by (ends.Pair v w) n = (v, w, refl, is_number v a n.0, is_number w b n.1)
@@ -71,7 +87,7 @@ module _ (names : Holdings Identifier) where
     pairs_of (Some shelf) n = pairs_by shelf.ends n
 
   module _ (v w : ℕ) where
-    only_by : (item : Item) (e : Ends) → two_of e ≡ Some (v, w) → AreEnds names item e
+    only_by : (item : Item) (e : the_ends.Ends) → two_of e ≡ Some (v, w) → AreEnds names item e
         → (a : Identifier) × (b : Identifier) × (item ≡ Pair a b) × IsNumber (key_at names) v a × IsNumber (key_at names) w b
     only_by (One a) (ends.One u) j n = absurd (none-some _ j)
     only_by (Pair a b) (ends.One u) j n = absurd n
@@ -86,10 +102,6 @@ module _ (names : Holdings Identifier) where
     only_of item None j n = absurd (none-some _ j)
     only_of item (Some shelf) j n = only_by item shelf.ends j n
 
-  there : (o : Option Shelf) (v w : ℕ) → joined o ≡ Some (v, w) → IsSome o
-  there None v w j = absurd (none-some _ j)
-  there (Some shelf) v w j = refl
-
   pub are_joined : (look : ℕ → Option Shelf) (entries : List (Item × ℕ)) → ((at : ℕ) → IsSome (look at) → (item : Item) × Has entries (item, at))
       → AreNumbered names look entries → AreJoined entries (key_at names) (λ at. joined (look at))
   are_joined look entries used numbered = record {
@@ -101,22 +113,33 @@ module _ (names : Holdings Identifier) where
         in (x.0, x.1, subst (λ i. Has entries (i, at)) x.2 u.1, x.3, x.4);
     }
 
-module _ (tells : Tells) (names : Holdings Identifier) (look : ℕ → Option Shelf) (entries : List (Item × ℕ)) (links : ℕ → List LinkSeen) (side : Side)
+module _ (names : Holdings Identifier) (look : ℕ → Option Shelf) (entries : List (Item × ℕ)) (links : ℕ → List LinkSeen) (side : Side)
     (placed : IsPlaced look entries) (used : (at : ℕ) → IsSome (look at) → (item : Item) × Has entries (item, at)) (numbered : AreNumbered names look entries)
     (pool : IsPool identifier_order names) (keys : AreIdentifiers names) (is : IsSide side look entries links) where
-  -- a side is a view
-  pub view_of : IsView (rows_by (λ at. list_at side (look at)) entries) (key_at names) links
-  view_of =
-      let list : ℕ → List Stored = λ at. list_at side (look at)
-      in let j = are_joined names look entries used numbered
-      in let s = single names pool
-      in record {
-        graph = graph_is list entries placed.rising placed.canon is.lists;
-        canon = keys;
-        one_to_one = λ v w a e f. s v w a a e f refl;
-        alone = alone list entries (key_at names) (λ at. joined (look at)) links placed.rising placed.canon s j is.listed tells keys;
-        linked = linked list entries (key_at names) (λ at. joined (look at)) links placed.rising placed.canon s j is.listed tells keys;
-        apart = λ v. apart list entries (key_at names) (λ at. joined (look at)) links placed.rising placed.canon s j is.listed v (is.once v);
-        only = only list entries (key_at names) (λ at. joined (look at)) links placed.rising placed.canon s j is.listed;
-        each = each list entries (key_at names) (λ at. joined (look at)) links placed.rising placed.canon s j is.listed;
-      }
+  -- a handle leads to what is stored on its link
+  pub handle_of : (v : ℕ) (seen : LinkSeen) → Contains (links v) seen
+      → list_at side (look seen.at) ≡ stored_linked (key_at names v) (key_at names seen.other) (rows_by (list_at side) (shown look entries))
+  handle_of v seen c =
+      handled (λ at. list_at side (look at)) entries (key_at names) (λ at. joined (look at)) links placed.rising placed.canon (single names pool)
+        (are_joined names look entries used numbered) is.listed v seen c
+      ∙ sym (ap (stored_linked (key_at names v) (key_at names seen.other)) (rows_shown side look entries))
+
+  module _ (tells : Tells) where
+    -- a side is a view
+    pub view_of : IsView (rows_by (λ at. list_at side (look at)) entries) (key_at names) links
+    view_of =
+        let j = are_joined names look entries used numbered
+        in let s = single names pool
+        in record {
+          graph = graph_is (λ at. list_at side (look at)) entries placed.rising placed.canon is.lists;
+          canon = keys;
+          one_to_one = λ v w a e f. s v w a a e f refl;
+          alone = alone (λ at. list_at side (look at)) entries (key_at names) (λ at. joined (look at)) links placed.rising placed.canon s j is.listed tells keys;
+          linked = linked (λ at. list_at side (look at)) entries (key_at names) (λ at. joined (look at)) links placed.rising placed.canon s j is.listed tells keys;
+          apart = λ v. apart (λ at. list_at side (look at)) entries (key_at names) (λ at. joined (look at)) links placed.rising placed.canon s j is.listed v (is.once v);
+          only = only (λ at. list_at side (look at)) entries (key_at names) (λ at. joined (look at)) links placed.rising placed.canon s j is.listed;
+          each = each (λ at. list_at side (look at)) entries (key_at names) (λ at. joined (look at)) links placed.rising placed.canon s j is.listed;
+        }
+
+    pub shown_view : IsView (rows_by (list_at side) (shown look entries)) (key_at names) links
+    shown_view = subst (λ rows. IsView rows (key_at names) links) (sym (rows_shown side look entries)) view_of

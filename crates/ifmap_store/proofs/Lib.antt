@@ -12,3 +12,4 @@ pub mod Apart
 pub mod Turns
 pub mod Going
 pub mod Insides
+pub mod Waited

@@ -6,4 +6,5 @@ pub mod Named
 pub mod Linked
 pub mod Joined
 pub mod Turning
+pub mod Waits
 pub mod Held

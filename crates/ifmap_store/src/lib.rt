@@ -4,12 +4,16 @@
 
 mod after;
 mod changing;
+pub mod drafts;
 pub mod ends;
+pub mod graph;
 pub mod shelves;
 pub mod sided;
 pub mod ways;
 
+pub use drafts::Draft;
 pub use ends::Ends;
+pub use graph::Graph;
 pub use shelves::{Shelf, Shelves};
 pub use sided::Sided;
 pub use ways::Way;
