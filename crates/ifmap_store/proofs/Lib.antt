@@ -7,6 +7,7 @@ pub mod Alike
 pub mod Changing
 pub mod Graphs
 pub mod Viewed
+pub mod Leaving
 pub mod Links
 pub mod Apart
 pub mod Turns

@@ -1,14 +1,15 @@
 -- Entries, slots and the rows that they show, as one shelf comes, changes or goes.
-use Rattle.std.proofs.Common.{◌≡◌, ◌≢◌, ℕ, Bool, true, false, cond, Option, Some, None, IsSome, is_some, List, [], ◌∷◌, ◌++◌, map, nat_eq, refl, ap, ◌∙◌, sym, subst, inl, inr, arith}
-use Rattle.std.proofs.lemmas.Bool.{cases_Bool}
+use Rattle.std.proofs.Common.{◌≡◌, ◌≢◌, ◌⊎◌, ℕ, Bool, true, false, cond, Option, Some, None, IsSome, is_some, List, [], ◌∷◌, ◌++◌, map, nat_eq, refl, ap, ◌∙◌, sym, subst, inl, inr, arith}
+use Rattle.std.proofs.lemmas.Bool.{cases_Bool, cases_eq}
 use Rattle.std.proofs.lemmas.Bool.Decides.{nat_tests}
 use Rattle.std.proofs.lemmas.Option.{same_Some, none-some}
 use Rattle.std.specs.BTreeMap.{is_at, insert_entry}
 use Rattle.std.specs.List.{AllByRecursion, IsDistinct}
 use Rattle.std.specs.Map.{lookup, remove_entry}
-use Rattle.std.specs.Ordering.{match_ordering}
+use Rattle.std.specs.Ordering.{is_eq, match_ordering}
 use Rattle.std.specs.declared.cmp.Ordering.{Ordering}
 use Rattle.std.specs.declared.cmp.Ordering.TheVariants.{Less, Equal, Greater}
+use Rattle.ifmap_lemmas.specs.Having.{Has}
 use Rattle.ifmap_ident.specs.declared.items.Item.{Item}
 use Rattle.ifmap_ident.specs.Items.{item_order}
 use Rattle.ifmap_meta.specs.declared.stored.Stored.{Stored}
@@ -24,7 +25,7 @@ Entries = List (Item × ℕ)
 abbrev pub slots_of : Entries → List ℕ
 slots_of es = map (λ e. e.1) es
 
-no_slots : IsDistinct nat_eq (slots_of [])
+pub no_slots : IsDistinct nat_eq (slots_of [])
 unfolding IsDistinct
 no_slots = tt
 
@@ -35,7 +36,7 @@ pub slots_first : (e : Item × ℕ) (es : Entries) → IsDistinct nat_eq (slots_
 unfolding IsDistinct
 slots_first e es d = d
 
-first_slot : (e : Item × ℕ) (es : Entries) → AllByRecursion (λ y. nat_eq e.1 y ≡ false) (slots_of es) → IsDistinct nat_eq (slots_of es) → IsDistinct nat_eq (slots_of (e ∷ es))
+pub first_slot : (e : Item × ℕ) (es : Entries) → AllByRecursion (λ y. nat_eq e.1 y ≡ false) (slots_of es) → IsDistinct nat_eq (slots_of es) → IsDistinct nat_eq (slots_of (e ∷ es))
 unfolding IsDistinct
 first_slot e es a d = (a, d)
 
@@ -95,6 +96,28 @@ module _ (look later : ℕ → Option Shelf) (at : ℕ) (vacant : look at ≡ No
   live_stay [] a = tt
   live_stay (e ∷ es) a = (subst (λ (o : Option Shelf). IsSome o) (sym (stays e.1 a.0)) a.0, live_stay es a.1)
 
+-- a new entry is there, and so are the old ones
+pub inserted_itself : (es : Entries) (item : Item) (at : ℕ) → lookup (is_at (item_order item)) es ≡ None → Has (insert_entry item_order es item at) (item, at)
+inserted_itself [] item at h = inl refl
+inserted_itself (e ∷ es) item at h = by (item_order item e.0) refl (inserted_itself es item at)
+  where
+    by : (o : Ordering) → item_order item e.0 ≡ o → (lookup (is_at (item_order item)) es ≡ None → Has (insert_entry item_order es item at) (item, at))
+        → Has (match_ordering o ((item, at) ∷ e ∷ es) ((e.0, at) ∷ es) (e ∷ insert_entry item_order es item at)) (item, at)
+    by Less is rest = inl refl
+    by Equal is rest = let t : is_at (item_order item) e.0 ≡ true = ap is_eq is in absurd (none-some _ (sym (rw t at h)))
+    by Greater is rest = let t : is_at (item_order item) e.0 ≡ false = ap is_eq is in inr (rest (rw t at h))
+
+pub inserted_has : (es : Entries) (item : Item) (at : ℕ) (x : Item × ℕ) → lookup (is_at (item_order item)) es ≡ None → Has es x → Has (insert_entry item_order es item at) x
+inserted_has [] item at x h i = absurd i
+inserted_has (e ∷ es) item at x h i = by (item_order item e.0) refl (inserted_has es item at x) i
+  where
+    by : (o : Ordering) → item_order item e.0 ≡ o → (lookup (is_at (item_order item)) es ≡ None → Has es x → Has (insert_entry item_order es item at) x)
+        → (e ≡ x) ⊎ Has es x → Has (match_ordering o ((item, at) ∷ e ∷ es) ((e.0, at) ∷ es) (e ∷ insert_entry item_order es item at)) x
+    by Less is rest j = inr j
+    by Equal is rest j = let t : is_at (item_order item) e.0 ≡ true = ap is_eq is in absurd (none-some _ (sym (rw t at h)))
+    by Greater is rest (inl j) = inl j
+    by Greater is rest (inr j) = let t : is_at (item_order item) e.0 ≡ false = ap is_eq is in inr (rest (rw t at h) j)
+
 -- an item comes to have a shelf, which is still empty
 module _ (es new : Entries) (look later : ℕ → Option Shelf) (item : Item) (at place : ℕ) (shelf : Shelf)
     (is : IsPlaced look es) (canon : IsCanonItem item) (none : lookup (is_at (item_order item)) es ≡ None) (here : at ≡ place) (vacant : look at ≡ None)
@@ -119,3 +142,11 @@ module _ (es new : Entries) (look later : ℕ → Option Shelf) (item : Item) (a
       ap (rows_by (λ n. list_at side (later n))) becomes
       ∙ inserted (λ n. list_at side (later n)) item es at (ap (list_at side) later_at ∙ ap side empty ∙ nothing) none
       ∙ rows_stay look later at vacant others side es is.live
+
+  -- each shelf is an item's
+  pub still_used : ((n : ℕ) → IsSome (look n) → (k : Item) × Has es (k, n)) → (n : ℕ) → IsSome (later n) → (k : Item) × Has new (k, n)
+  still_used used n s = elim (cases_eq n at) [
+      | inl q ↦ (item, subst (λ l. Has l (item, n)) (sym becomes) (subst (λ m. Has (insert_entry item_order es item at) (item, m)) (sym q) (inserted_itself es item at none)))
+      | inr o ↦ let u = used n (subst (λ (x : Option Shelf). IsSome x) (others n o) s)
+          in (u.0, subst (λ l. Has l (u.0, n)) (sym becomes) (inserted_has es item at (u.0, n) none u.1))
+    ]
