@@ -26,6 +26,9 @@ use Rattle.ifmap_store.proofs.Ordered.{equal_is}
 use Rattle.ifmap_store.proofs.Placing.{all_left, leaves}
 use Rattle.ifmap_store.proofs.Shelving.{Entries, first_slot, no_slots, slots_first, slots_of}
 
+swapped : (x y z : ℕ) → x + (y + z) ≡ y + (x + z)
+swapped x y z = omega arith
+
 -- a new entry counts once for each identifier that it names
 pub comes : (es : Entries) (item : Item) (at : ℕ) (a : Identifier) → lookup (is_at (item_order item)) es ≡ None
     → named_in (insert_entry item_order es item at) a ≡ named_by item a + named_in es a
@@ -41,8 +44,6 @@ comes (e ∷ es) item at a h = by (item_order item e.0) refl (comes es item at a
         let t : is_at (item_order item) e.0 ≡ false = ap is_eq is
         in let q : named_in (insert_entry item_order es item at) a ≡ named_by item a + named_in es a = rest (rw t at h)
         in ap (λ n. named_by e.0 a + n) q ∙ swapped (named_by e.0 a) (named_by item a) (named_in es a)
-    swapped : (x y z : ℕ) → x + (y + z) ≡ y + (x + z)
-    swapped x y z = omega arith
 
 once_alike : (a b other : Identifier) → Alike a b → once identifier_order a other ≡ once identifier_order b other
 once_alike a b other e = by (identifier_bytes a) (identifier_bytes b) (identifier_bytes other) e
@@ -68,9 +69,6 @@ goes (e ∷ es) item at a h = elim (cases_Bool (is_at (item_order item) e.0)) [
     | inr t ↦ let q : named_by item a + named_in (remove_entry (is_at (item_order item)) es) a ≡ named_in es a = goes es item at a (rw t at h)
         in rw t (swapped (named_by item a) (named_by e.0 a) (named_in (remove_entry (is_at (item_order item)) es) a) ∙ ap (λ n. named_by e.0 a + n) q)
   ]
-  where
-    swapped : (x y z : ℕ) → x + (y + z) ≡ y + (x + z)
-    swapped x y z = omega arith
 
 differs : (a b : ℕ) → nat_eq a b ≡ false → b ≢ a
 differs a b e q = let t : nat_eq a b ≡ true = grind (arith, nat_tests) in let r : false ≡ true = sym e ∙ t in cc

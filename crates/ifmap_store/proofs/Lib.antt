@@ -14,3 +14,4 @@ pub mod Turns
 pub mod Going
 pub mod Insides
 pub mod Waited
+pub mod Holding
