@@ -15,3 +15,4 @@ pub mod Going
 pub mod Insides
 pub mod Waited
 pub mod Holding
+pub mod Empty

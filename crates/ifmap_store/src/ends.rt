@@ -1,13 +1,15 @@
 //! The numbers of an item's identifiers, held and let go with its shelf.
 ghost use Rattle.std.specs.Prelude.{◌≡◌, ℕ, ◌+◌, ◌-◌, ◌<◌, ◌≤◌, ◌^◌};
+ghost use Rattle.std.specs.List.{AllByRecursion};
 ghost use Rattle.std.specs.declared.cmp.Ordering.TheVariants.{Less};
 ghost use Rattle.ifmap_ident.specs.declared.identifiers.Identifier.{Identifier};
 ghost use Rattle.ifmap_ident.specs.declared.items.Item.{Item};
 ghost use Rattle.ifmap_ident.specs.declared.items.Item.TheVariants.{One, Pair};
 ghost use Rattle.ifmap_ident.specs.Identifiers.{identifier_order};
-ghost use Rattle.ifmap_ident.specs.Items.{IsItem};
+ghost use Rattle.ifmap_ident.specs.Canon.{IsIdentifier};
+ghost use Rattle.ifmap_ident.specs.Items.{IsItem, identifiers_of};
 ghost use Rattle.ifmap_pool.specs.Holdings.{IsHeld, IsPool, Names, holds_at, once};
-ghost use Rattle.ifmap_store.specs.Named.{AreEnds, named_by};
+ghost use Rattle.ifmap_store.specs.Named.{AreEnds, AreIdentifiers, named_by};
 
 use ifmap_ident::{Identifier, Item};
 use ifmap_pool::Pool;
@@ -28,6 +30,8 @@ fn hold_pair(names: &mut Pool<Identifier>, a: Identifier, b: Identifier) -> Ends
         → IsHeld identifier_order names.new other (count + named_by (Pair a b) other) }
     ensures kept { (number : ℕ) (other : Identifier) → Names identifier_order names.old number other
         → Names identifier_order names.new number other }
+    ensures keys { IsIdentifier a → IsIdentifier b → AreIdentifiers names.old
+        → AreIdentifiers names.new }
     ensures limit { names.new.limit ≡ names.old.limit }
     ensures whole { IsPool identifier_order names.new }
 {
@@ -45,6 +49,8 @@ pub fn hold_ends(names: &mut Pool<Identifier>, item: Item) -> Ends
         → IsHeld identifier_order names.new other (count + named_by item other) }
     ensures kept { (number : ℕ) (other : Identifier) → Names identifier_order names.old number other
         → Names identifier_order names.new number other }
+    ensures keys { AllByRecursion IsIdentifier (identifiers_of item) → AreIdentifiers names.old
+        → AreIdentifiers names.new }
     ensures limit { names.new.limit ≡ names.old.limit }
     ensures whole { IsPool identifier_order names.new }
 {

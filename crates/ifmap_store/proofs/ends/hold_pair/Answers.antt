@@ -1,7 +1,7 @@
 use Rattle.std.proofs.Common.{rules, ◌≡◌, ℕ, ◌+◌, inl, arith, subst}
 use Rattle.ifmap_ident.specs.Identifiers.{identifier_order}
 use Rattle.ifmap_pool.specs.Holdings.{IsHeld, once}
-use Rattle.ifmap_store.proofs.Holding.{add_two}
+use Rattle.ifmap_store.proofs.Holding.{add_two, still_identifiers}
 use Rattle.ifmap_store.proofs.ends.hold_pair.Goals as goal
 
 pub hold-one-requires-clause-room : goal.hold-one-requires-clause-room
@@ -27,3 +27,10 @@ returns-clause-held c = λ other count h.
 
 pub returns-clause-kept : goal.returns-clause-kept
 returns-clause-kept c = λ number other n. c.hold-two.ensures.kept number other (c.hold-one.ensures.kept number other n)
+
+pub returns-clause-keys : goal.returns-clause-keys
+returns-clause-keys c = λ i j all.
+    still_identifiers c.hold-one.new.self c.hold-two.new.self c.hold-two.result c.args.b c.hold-two.ensures.present c.hold-two.ensures.absent
+      c.hold-two.ensures.others j
+      (still_identifiers c.args.names.now c.hold-one.new.self c.hold-one.result c.args.a c.hold-one.ensures.present c.hold-one.ensures.absent
+        c.hold-one.ensures.others i all)
