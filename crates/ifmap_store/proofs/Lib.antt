@@ -16,3 +16,4 @@ pub mod Insides
 pub mod Waited
 pub mod Holding
 pub mod Empty
+pub mod Arriving

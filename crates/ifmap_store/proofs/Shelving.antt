@@ -92,6 +92,10 @@ module _ (look later : ℕ → Option Shelf) (at : ℕ) (vacant : look at ≡ No
       ap (λ o. map (row_on e.0) (list_at side o) ++ rows_by (λ n. list_at side (later n)) es) (stays e.1 a.0)
       ∙ ap (λ l. map (row_on e.0) (list_at side (look e.1)) ++ l) (rows_stay side es a.1)
 
+  pub slots_stay : (es : Entries) → AllByRecursion (λ e. IsSome (look e.1)) es → AllByRecursion (λ e. later e.1 ≡ look e.1) es
+  slots_stay [] a = tt
+  slots_stay (e ∷ es) a = (stays e.1 a.0, slots_stay es a.1)
+
   live_stay : (es : Entries) → AllByRecursion (λ e. IsSome (look e.1)) es → AllByRecursion (λ e. IsSome (later e.1)) es
   live_stay [] a = tt
   live_stay (e ∷ es) a = (subst (λ (o : Option Shelf). IsSome o) (sym (stays e.1 a.0)) a.0, live_stay es a.1)
