@@ -1,10 +1,10 @@
 -- What holding and letting go mean for the numbers of items and for the keys of a pool.
-use Rattle.std.proofs.Common.{◌≡◌, ◌≢◌, ◌⊎◌, ℕ, ◌+◌, ◌-◌, Option, Some, None, IsSome, List, [], ◌∷◌, option_map, cond, refl, ap, ◌∙◌, sym, subst, inl, inr, arith}
+use Rattle.std.proofs.Common.{◌≡◌, ◌≢◌, ◌⊎◌, ℕ, ◌+◌, ◌-◌, ◌<◌, true, unwrap_or, Option, Some, None, IsSome, List, [], ◌∷◌, option_map, cond, refl, ap, ◌∙◌, sym, subst, inl, inr, arith}
 use Rattle.std.proofs.lemmas.Bool.{cases_eq}
 use Rattle.std.proofs.lemmas.Cmp.{nat_cmp_total}
 use Rattle.std.proofs.lemmas.Option.{same_Some, none-some}
 use Rattle.std.specs.Cmp.{nat_cmp_is}
-use Rattle.std.specs.FinMap.{get, insert, get-insert}
+use Rattle.std.specs.FinMap.{get, insert, remove, get-insert, get-remove}
 use Rattle.std.specs.List.{AllByRecursion}
 use Rattle.std.specs.Ordering.{nat_cmp, is_eq}
 use Rattle.std.specs.declared.cmp.Ordering.{Ordering}
@@ -14,7 +14,7 @@ use Rattle.ifmap_ident.specs.declared.items.Item.{Item}
 use Rattle.ifmap_ident.specs.declared.items.Item.TheVariants.{One, Pair}
 use Rattle.ifmap_ident.specs.Canon.{IsIdentifier}
 use Rattle.ifmap_ident.specs.Identifiers.{identifier_bytes, identifier_order}
-use Rattle.ifmap_pool.specs.Holdings.{Holdings, HoldsAgain, IsAbsent, Names, Takes, entry_at, key_at}
+use Rattle.ifmap_pool.specs.Holdings.{Frees, Holdings, HoldsAgain, IsAbsent, LetsGo, Names, Takes, entry_at, holds_at, key_at}
 use Rattle.ifmap_store.specs.declared.ends.Ends as the_ends
 use Rattle.ifmap_store.specs.declared.ends.Ends.TheVariants as ends
 use Rattle.ifmap_store.specs.declared.shelves.Shelf.{Shelf}
@@ -97,4 +97,35 @@ module _ (old new : Holdings Identifier) (r : ℕ) (id : Identifier)
           | inr is ↦ subst IsIdentifier (sym is) i
         ]
       | inr o ↦ all v k (sym (ap (option_map (λ x. x.0)) (others v o)) ∙ e)
+    ]
+
+-- a number that has a key after a release had it before
+module _ (old new : Holdings Identifier) (r : ℕ) (live : IsSome (entry_at old r)) (kept : LetsGo old new r) (last : holds_at old r ≡ 1 → Frees old new r)
+    (counted : holds_at new r + 1 ≡ holds_at old r) (others : (o : ℕ) → o ≢ r → entry_at new o ≡ entry_at old o) where
+  holds_of : (e : Identifier × ℕ) → entry_at old r ≡ Some e → holds_at old r ≡ e.1
+  holds_of e is = ap (λ o. unwrap_or (option_map (λ x. x.1) o) 0) is
+
+  tie_test : is_eq (nat_cmp r r) ≡ true
+  tie_test = ap is_eq (sym (nat_cmp_is r r Equal refl))
+
+  -- the number has no key any more, or the same one
+  after : (e : Identifier × ℕ) → entry_at old r ≡ Some e → (entry_at new r ≡ None) ⊎ ((m : ℕ) × (entry_at new r ≡ Some (e.0, m)))
+  after e is = elim (cases_eq (holds_at old r) 1) [
+      | inl one ↦ inl (ap (λ l. get l r) (last one).live ∙ get-remove nat_cmp_total old.live r r ∙ ap (λ b. cond b None (get old.live r)) tie_test)
+      | inr more ↦ let big : 1 < e.1 = omega (arith, more, counted, holds_of e is)
+          in inr (e.1 - 1, ap (λ p. entry_at p r) (kept e is big) ∙ get-insert nat_cmp_total old.live r (e.0, e.1 - 1) r
+            ∙ ap (λ b. cond b (Some (e.0, e.1 - 1)) (get old.live r)) tie_test)
+    ]
+
+  before_there : (o : Option (Identifier × ℕ)) → entry_at old r ≡ o → (a : Identifier) → Names identifier_order new r a → Names identifier_order old r a
+  before_there None is a n = let q : IsSome {T = Identifier × ℕ} None = subst (λ (o : Option (Identifier × ℕ)). IsSome o) is live in cc
+  before_there (Some e) is a n = elim (after e is) [
+      | inl gone ↦ absurd (none-some _ (sym gone ∙ n.1))
+      | inr m ↦ let same : n.0 ≡ (e.0, m.0) = same_Some _ _ (sym n.1 ∙ m.1) in (e, is, ap (λ x. identifier_order x.0 a) (sym same) ∙ n.2)
+    ]
+
+  pub named_before : (v : ℕ) (a : Identifier) → Names identifier_order new v a → Names identifier_order old v a
+  named_before v a n = elim (cases_eq v r) [
+      | inl q ↦ subst (λ k. Names identifier_order old k a) (sym q) (before_there (entry_at old r) refl a (subst (λ k. Names identifier_order new k a) q n))
+      | inr o ↦ (n.0, sym (others v o) ∙ n.1, n.2)
     ]

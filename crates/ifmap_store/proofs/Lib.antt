@@ -17,3 +17,4 @@ pub mod Waited
 pub mod Holding
 pub mod Empty
 pub mod Arriving
+pub mod Departing

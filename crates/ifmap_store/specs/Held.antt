@@ -12,7 +12,7 @@ use Rattle.ifmap_view.specs.declared.views.LinkSeen.{LinkSeen}
 use Rattle.ifmap_store.specs.declared.shelves.Shelf.{Shelf}
 use Rattle.ifmap_store.specs.Joined.{is_full, joined}
 use Rattle.ifmap_store.specs.Linked.{AreListed, ats}
-use Rattle.ifmap_store.specs.Named.{AreIdentifiers, AreNumbered}
+use Rattle.ifmap_store.specs.Named.{AreHeld, AreIdentifiers, AreNumbered}
 use Rattle.ifmap_store.specs.Shelved.{IsList, IsPlaced, Side, list_at}
 use Rattle.ifmap_store.specs.Sides.{Sides, next, now, sides_code}
 
@@ -48,13 +48,15 @@ pub record IsSide (side : Side) (look : ℕ → Option Shelf) (entries : List (I
   pub once : (v : ℕ) → IsDistinct nat_eq (ats (links v))
 
 -- what holds of a graph's parts: each item has a shelf of its own with the numbers of its identifiers, and each shelf is an item's; the
--- numbers are a pool's, of identifiers that elements are, with a list of links each; and both sides are in order
+-- numbers are a pool's, of identifiers that elements are, each held as often as entries name it, and as somebody holds it beside that; each
+-- number has a list of links; and both sides are in order
 pub record IsInside (names : Holdings Identifier) (look : ℕ → Option Shelf) (entries : List (Item × ℕ)) (links : List (Sides LinkSeen)) : Type 0 where
   pub placed : IsPlaced look entries
   pub used : (at : ℕ) → IsSome (look at) → (item : Item) × Has entries (item, at)
   pub numbered : AreNumbered names look entries
   pub pool : IsPool identifier_order names
   pub keys : AreIdentifiers names
+  pub held : AreHeld names entries
   pub table : names.limit ≤ length links
   pub side : IsSide now look entries (links_at now links)
   pub next_side : IsSide next look entries (links_at next links)

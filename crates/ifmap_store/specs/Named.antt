@@ -1,12 +1,12 @@
 -- The numbers of an item's identifiers, and how often entries name an identifier.
-use Rattle.std.specs.Prelude.{◌≡◌, ℕ, ◌+◌, ◌≤◌, List, [], ◌∷◌, Option, Some, None}
+use Rattle.std.specs.Prelude.{◌≡◌, ℕ, ◌+◌, List, [], ◌∷◌, Option, Some, None}
 use Rattle.std.specs.List.{AllByRecursion}
 use Rattle.ifmap_ident.specs.declared.identifiers.Identifier.{Identifier}
 use Rattle.ifmap_ident.specs.declared.items.Item.{Item}
 use Rattle.ifmap_ident.specs.declared.items.Item.TheVariants.{One, Pair}
 use Rattle.ifmap_ident.specs.Canon.{IsIdentifier}
 use Rattle.ifmap_ident.specs.Identifiers.{identifier_order}
-use Rattle.ifmap_pool.specs.Holdings.{Holdings, IsHeld, IsPool, Names, key_at, once}
+use Rattle.ifmap_pool.specs.Holdings.{Holdings, IsHeld, Names, key_at, once}
 use Rattle.ifmap_store.specs.declared.ends.Ends.{Ends}
 use Rattle.ifmap_store.specs.declared.ends.Ends.TheVariants as ends
 use Rattle.ifmap_store.specs.declared.shelves.Shelf.{Shelf}
@@ -41,6 +41,6 @@ named_in (e ∷ es) other = named_by e.0 other + named_in es other
 abbrev pub AreIdentifiers : Holdings Identifier → Type 0
 AreIdentifiers names = (v : ℕ) (a : Identifier) → key_at names v ≡ Some a → IsIdentifier a
 
--- each identifier is held once for each entry that names it, and for each hold of its own
-abbrev pub AreHeld : {X : Type 0} → Holdings Identifier → List (Item × X) → (Identifier → ℕ) → Type 0
-AreHeld names entries own = (a : Identifier) → IsHeld identifier_order names a (named_in entries a + own a)
+-- each identifier is held once for each entry that names it, and as often beside that as somebody holds it
+abbrev pub AreHeld : {X : Type 0} → Holdings Identifier → List (Item × X) → Type 0
+AreHeld names entries = (a : Identifier) → (own : ℕ) × IsHeld identifier_order names a (named_in entries a + own)

@@ -48,6 +48,11 @@ place_of s item = lookup (is_at (item_order item)) s.places.entries
 abbrev pub HasDraft : Shelves → Item → Type 0
 HasDraft s item = (at : ℕ) × (shelf : Shelf) × (place_of s item ≡ Some at) × (get s.slots at ≡ Some shelf) × IsSome shelf.stored.draft
 
+-- the shelf of an item is empty, with no draft
+abbrev pub IsBare : Shelves → Item → Type 0
+IsBare s item =
+    (at : ℕ) × (shelf : Shelf) × (place_of s item ≡ Some at) × (get s.slots at ≡ Some shelf) × (shelf.stored ≡ record { now = []; draft = None })
+
 -- each item has a shelf, no two have one, and items are such as elements mean
 pub record IsPlaced (look : ℕ → Option Shelf) (entries : List (Item × ℕ)) : Type 0 where
   pub rising : Rises entries

@@ -67,6 +67,10 @@ fn release_pair(names: &mut Pool<Identifier>, one: u64, two: u64)
     ensures held { (a b other : Identifier) (count : ℕ) → Names identifier_order names.old one a
         → Names identifier_order names.old two b → IsHeld identifier_order names.old other count
         → IsHeld identifier_order names.new other (count - named_by (Pair a b) other) }
+    ensures before { (number : ℕ) (other : Identifier)
+        → Names identifier_order names.new number other
+        → Names identifier_order names.old number other }
+    ensures keys { AreIdentifiers names.old → AreIdentifiers names.new }
     ensures limit { names.new.limit ≡ names.old.limit }
     ensures spare { names.old.spare ≤ names.new.spare }
     ensures whole { IsPool identifier_order names.new }
@@ -81,6 +85,10 @@ pub fn release_ends(names: &mut Pool<Identifier>, ends: Ends)
     ensures held { (item : Item) (other : Identifier) (count : ℕ) → AreEnds names.old item ends
         → IsHeld identifier_order names.old other count
         → IsHeld identifier_order names.new other (count - named_by item other) }
+    ensures before { (number : ℕ) (other : Identifier)
+        → Names identifier_order names.new number other
+        → Names identifier_order names.old number other }
+    ensures keys { AreIdentifiers names.old → AreIdentifiers names.new }
     ensures limit { names.new.limit ≡ names.old.limit }
     ensures spare { names.old.spare ≤ names.new.spare }
     ensures whole { IsPool identifier_order names.new }

@@ -7,11 +7,12 @@ ghost use Rattle.ifmap_ident.specs.declared.items.Item.{Item};
 ghost use Rattle.ifmap_ident.specs.Identifiers.{identifier_order};
 ghost use Rattle.ifmap_pool.specs.Holdings.{IsHeld, IsPool, holds_at};
 ghost use Rattle.ifmap_view.specs.Attachments.{IsCanonItem};
-ghost use Rattle.ifmap_store.specs.Named.{AreIdentifiers, AreNumbered, named_by};
-ghost use Rattle.ifmap_store.specs.Shelved.{AreShelved, Side, place_of, rows_of};
+ghost use Rattle.ifmap_store.specs.Named.{AreHeld, AreIdentifiers, AreNumbered, named_by, named_in};
+ghost use Rattle.ifmap_store.specs.Shelved.{AreShelved, IsBare, Side, place_of, rows_of};
+ghost use Rattle.ifmap_store.specs.Sides.{next, now};
 ghost use Rattle.ifmap_store.specs.Turning.{sides_at};
 
-use crate::ends::hold_ends;
+use crate::ends::{hold_ends, release_ends};
 use crate::shelves::{Shelf, Shelves};
 use crate::sided::Sided;
 use ifmap_ident::{Identifier, Item};
@@ -74,4 +75,36 @@ pub(crate) fn place_shelf(
         waits: 1,
     });
     Ok(())
+}
+
+// An item's shelf goes, which is empty on both sides, and the numbers of its identifiers are let go.
+pub(crate) fn remove_shelf(names: &mut Pool<Identifier>, shelves: &mut Shelves, item: &Item)
+    requires shelved { AreShelved shelves.old }
+    requires used { (at : ℕ) → IsSome (get shelves.old.slots at)
+        → (k : Item) × Has shelves.old.places.entries (k, at) }
+    requires numbered { AreNumbered names.old (get shelves.old.slots) shelves.old.places.entries }
+    requires pool { IsPool identifier_order names.old }
+    requires keys { AreIdentifiers names.old }
+    requires held { AreHeld names.old shelves.old.places.entries }
+    requires empty { IsBare shelves.old item.now }
+    ensures shelved { AreShelved shelves.new }
+    ensures used { (at : ℕ) → IsSome (get shelves.new.slots at)
+        → (k : Item) × Has shelves.new.places.entries (k, at) }
+    ensures numbered { AreNumbered names.new (get shelves.new.slots) shelves.new.places.entries }
+    ensures pool { IsPool identifier_order names.new }
+    ensures keys { AreIdentifiers names.new }
+    ensures limit { names.new.limit ≡ names.old.limit }
+    ensures own { (a : Identifier) (own : ℕ)
+        → IsHeld identifier_order names.old a (named_in shelves.old.places.entries a + own)
+        → IsHeld identifier_order names.new a (named_in shelves.new.places.entries a + own) }
+    ensures now { rows_of now shelves.new ≡ rows_of now shelves.old }
+    ensures next { rows_of next shelves.new ≡ rows_of next shelves.old }
+{
+    match shelves.places.remove(item) {
+        Some(at) => {
+            let shelf = shelves.slots.remove(at);
+            release_ends(names, shelf.ends);
+        }
+        None => unreachable!(),
+    }
 }
