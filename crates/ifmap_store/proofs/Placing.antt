@@ -33,7 +33,7 @@ pub first_rises : {X : Type 0} (e : Item × X) (es : List (Item × X)) → Rises
 unfolding IsStrictlySortedBy
 first_rises e es r = r
 
-pub nothing_rises : {X : Type 0} → Rises {X} []
+pub nothing_rises : {X : Type 0} → Rises {X = X} []
 unfolding IsStrictlySortedBy
 nothing_rises = tt
 

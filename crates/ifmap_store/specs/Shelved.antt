@@ -67,7 +67,3 @@ AreShelved s = IsPlaced (get s.slots) s.places.entries
 pub record IsList (list : List Stored) : Type 0 where
   pub rising : IsStrictlySortedBy stored_order list
   pub keys : IsDistinct same_key list
-
--- so does that of each shelf, on a side
-abbrev pub AreLists : Side → Shelves → Type 0
-AreLists side s = AllByRecursion (λ e. IsList (list_at side (get s.slots e.1))) s.places.entries
