@@ -56,9 +56,9 @@ same_one a k p (Pair x y) = ap (λ c. c && false) (same_to_right x k a p)
 pub stored_alike : (x y : Item) → ((z : Item) → same_item z x ≡ same_item z y) → (rows : List Attachment) → stored_on x rows ≡ stored_on y rows
 stored_alike x y t [] = refl
 stored_alike x y t (r ∷ rs) = elim (cases_Bool (same_item r.item x)) [
-    | inl e ↦ let f : same_item r.item y ≡ true = sym (t r.item) ∙ e in rw (e, f) (ap (λ l. r.stored ∷ l) (stored_alike x y t rs))
-    | inr e ↦ let f : same_item r.item y ≡ false = sym (t r.item) ∙ e in rw (e, f) (stored_alike x y t rs)
-  ]
+  | inl e ↦ let f : same_item r.item y ≡ true = sym (t r.item) ∙ e in rw (e, f) (ap (λ l. r.stored ∷ l) (stored_alike x y t rs))
+  | inr e ↦ let f : same_item r.item y ≡ false = sym (t r.item) ∙ e in rw (e, f) (stored_alike x y t rs)
+]
 
 -- the pair of two identifiers whose like come in order, and the other way round
 pub pair_less : (a b k m : Identifier) → Alike k a → Alike m b → identifier_order a b ≡ Less → pair_of k m ≡ Some (Pair k m)

@@ -113,14 +113,17 @@ module _ (joins : ℕ → Option (ℕ × ℕ)) (before after : ℕ → Bool) (v 
 
   apart_from : (k : ℕ) (ls : List LinkSeen) → before k ≡ true → AllByRecursion (λ l. before l.at ≡ false) ls → Out k ls
   apart_from k [] full a = tt
-  apart_from k (l ∷ ls) full a = (elim (cases_Bool (nat_eq k l.at)) [
+  apart_from k (l ∷ ls) full a = (
+    elim (cases_Bool (nat_eq k l.at)) [
       | inl e ↦ let r : false ≡ true = sym a.0 ∙ ap before (sym (apart_numbers k l.at e)) ∙ full in cc
       | inr e ↦ e
-    ], apart_from k ls full a.1)
+    ],
+    apart_from k ls full a.1,
+  )
 
   pub changed_apart : (touched : List ℕ) (links : ℕ → List LinkSeen) → AreListed joins before links → IsDistinct nat_eq touched → Once (links v) → Once (changed joins before after touched links v)
   changed_apart touched links listed t d =
       once_append (filter (λ l. after l.at) (links v)) (coming joins before after touched v) (once_filter (λ l. after l.at) (links v) d) (comers_once touched t)
       (all_filter (λ l. Out l.at (coming joins before after touched v)) (λ l. after l.at) (links v)
-        (all_of (λ l. Out l.at (coming joins before after touched v)) (links v)
-          (λ l h. apart_from l.at (coming joins before after touched v) (listed.only v l (from_has (links v) l h)).1 (comers_empty touched))))
+      (all_of (λ l. Out l.at (coming joins before after touched v)) (links v)
+      (λ l h. apart_from l.at (coming joins before after touched v) (listed.only v l (from_has (links v) l h)).1 (comers_empty touched))))

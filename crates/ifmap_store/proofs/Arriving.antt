@@ -21,6 +21,6 @@ pub numbered_comes : (old new : Holdings Identifier) → ((v : ℕ) (a : Identif
     → ends ≡ item → AreEnds new ends shelf.ends → AreNumbered new later entries
 numbered_comes old new kept es entries look later item ends at place shelf live numbered none here vacant later_at others inserts same has =
     subst (λ l. AreNumbered new later l) (sym (inserts ∙ ap (λ n. insert_entry item_order es item n) (sym here)))
-      (all_inserted (λ e. HasEnds new e.0 (later e.1)) es item at none
-        (numbered_kept old new kept look later es (slots_stay look later at vacant others es live) numbered)
-        (subst (λ o. HasEnds new item o) (sym later_at) (subst (λ i. AreEnds new i shelf.ends) same has)))
+    (all_inserted (λ e. HasEnds new e.0 (later e.1)) es item at none
+    (numbered_kept old new kept look later es (slots_stay look later at vacant others es live) numbered)
+    (subst (λ o. HasEnds new item o) (sym later_at) (subst (λ i. AreEnds new i shelf.ends) same has)))

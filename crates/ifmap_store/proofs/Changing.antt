@@ -57,7 +57,7 @@ module _ (look later : ℕ → Option Shelf) (es : Entries) (is : IsPlaced look 
       in let i = looked_up es item at here
       in let same : h.0 ≡ i.0 = one_item es h.0 i.0 at is.apart (subst (λ n. Has es (h.0, n)) q h.1) i.1
       in let tie : item_order item x ≡ Equal
-          = items_total.congr item i.0 x i.2 ∙ ap (λ y. item_order y x) (sym same) ∙ turned_tie x h.0 h.2
+      = items_total.congr item i.0 x i.2 ∙ ap (λ y. item_order y x) (sym same) ∙ turned_tie x h.0 h.2
       in let r : false ≡ true = sym f ∙ ap is_eq tie in cc
 
   pub on_item : (side : Side) (x : Item) → is_at (item_order item) x ≡ true
@@ -77,10 +77,13 @@ module _ (look later : ℕ → Option Shelf) (es : Entries) (is : IsPlaced look 
 
   live_later : IsSome (later at) → (es : Entries) → AllByRecursion (λ e. IsSome (look e.1)) es → AllByRecursion (λ e. IsSome (later e.1)) es
   live_later s [] a = tt
-  live_later s (e ∷ es) a = (elim (cases_eq e.1 at) [
+  live_later s (e ∷ es) a = (
+    elim (cases_eq e.1 at) [
       | inl q ↦ subst (λ (o : Option Shelf). IsSome o) (ap later (sym q)) s
       | inr n ↦ subst (λ (o : Option Shelf). IsSome o) (sym (others e.1 n)) a.0
-    ], live_later s es a.1)
+    ],
+    live_later s es a.1,
+  )
 
   pub stays_placed : IsSome (later at) → IsPlaced later es
   stays_placed s = record { rising = is.rising; canon = is.canon; live = live_later s es is.live; apart = is.apart }
@@ -89,9 +92,9 @@ module _ (look later : ℕ → Option Shelf) (es : Entries) (is : IsPlaced look 
   pub same_side : (side : Side) → list_at side (later at) ≡ list_at side (look at)
       → rows_by (λ n. list_at side (later n)) es ≡ rows_by (λ n. list_at side (look n)) es
   same_side side e = rows_alike (λ n. list_at side (later n)) (λ n. list_at side (look n)) (λ n. elim (cases_eq n at) [
-      | inl q ↦ ap (λ m. list_at side (later m)) q ∙ e ∙ ap (λ m. list_at side (look m)) (sym q)
-      | inr q ↦ ap (list_at side) (others n q)
-    ]) es
+    | inl q ↦ ap (λ m. list_at side (later m)) q ∙ e ∙ ap (λ m. list_at side (look m)) (sym q)
+    | inr q ↦ ap (list_at side) (others n q)
+  ]) es
 
 -- the slot of an item that has a shelf is live
 pub slot_live : (look : ℕ → Option Shelf) (es : Entries) (item : Item) (at : ℕ) → IsPlaced look es → lookup (is_at (item_order item)) es ≡ Some at → IsSome (look at)
@@ -136,17 +139,17 @@ module _ (slots new : Slab Shelf) (es : Entries) (is : IsPlaced (get slots) es) 
   -- what is stored on each item now
   pub shows : (side : Side) (list : List Stored) → side t.stored ≡ list → (x : Item)
       → stored_on x (rows_by (λ n. list_at side (get new n)) es)
-        ≡ cond (is_at (item_order item) x) list (stored_on x (rows_by (λ n. list_at side (get slots n)) es))
+      ≡ cond (is_at (item_order item) x) list (stored_on x (rows_by (λ n. list_at side (get slots n)) es))
   shows side list e x = elim (cases_Bool (is_at (item_order item) x)) [
-      | inl y ↦ rw y (on_item (get slots) (get new) es is item at here (written_elsewhere slots new at t wrote) side x y ∙ ap (list_at side) has ∙ e)
-      | inr f ↦ rw f (on_others (get slots) (get new) es is item at here (written_elsewhere slots new at t wrote) side x f)
-    ]
+    | inl y ↦ rw y (on_item (get slots) (get new) es is item at here (written_elsewhere slots new at t wrote) side x y ∙ ap (list_at side) has ∙ e)
+    | inr f ↦ rw f (on_others (get slots) (get new) es is item at here (written_elsewhere slots new at t wrote) side x f)
+  ]
 
   -- the same, where the new list is that of a side before
   pub comes : (side other : Side) → side t.stored ≡ other s.stored → (x : Item)
       → stored_on x (rows_by (λ n. list_at side (get new n)) es)
-        ≡ stored_on x (cond (is_at (item_order item) x) (rows_by (λ n. list_at other (get slots n)) es) (rows_by (λ n. list_at side (get slots n)) es))
+      ≡ stored_on x (cond (is_at (item_order item) x) (rows_by (λ n. list_at other (get slots n)) es) (rows_by (λ n. list_at side (get slots n)) es))
   comes side other e x = elim (cases_Bool (is_at (item_order item) x)) [
-      | inl y ↦ rw y (on_item (get slots) (get new) es is item at here (written_elsewhere slots new at t wrote) side x y ∙ ap (list_at side) has ∙ e ∙ was other x y)
-      | inr f ↦ rw f (on_others (get slots) (get new) es is item at here (written_elsewhere slots new at t wrote) side x f)
-    ]
+    | inl y ↦ rw y (on_item (get slots) (get new) es is item at here (written_elsewhere slots new at t wrote) side x y ∙ ap (list_at side) has ∙ e ∙ was other x y)
+    | inr f ↦ rw f (on_others (get slots) (get new) es is item at here (written_elsewhere slots new at t wrote) side x f)
+  ]

@@ -50,6 +50,7 @@ module _ (old new : Holdings Identifier) (pool : IsPool identifier_order old)
   pub numbered_stay : (look later : ℕ → Option Shelf) (es : Entries) → ((e : Item × ℕ) → Has es e → Has all e)
       → AllByRecursion (λ e. later e.1 ≡ look e.1) es → AreNumbered old look es → AreNumbered new later es
   numbered_stay look later [] f s a = tt
-  numbered_stay look later (e ∷ es) f s a =
-      (subst (λ o. HasEnds new e.0 o) (sym s.0) (has_stay e (f e (inl refl)) (look e.1) a.0),
-        numbered_stay look later es (λ x h. f x (inr h)) s.1 a.1)
+  numbered_stay look later (e ∷ es) f s a = (
+    subst (λ o. HasEnds new e.0 o) (sym s.0) (has_stay e (f e (inl refl)) (look e.1) a.0),
+    numbered_stay look later es (λ x h. f x (inr h)) s.1 a.1,
+  )

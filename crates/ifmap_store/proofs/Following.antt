@@ -44,9 +44,9 @@ module _ {X : Type 0} where
       → (k : Item) × Has es (k, at) × (item_order item k ≡ Equal)
   looked_up [] item at h = absurd (none-some _ h)
   looked_up (e ∷ es) item at h = elim (cases_Bool (is_at (item_order item) e.0)) [
-      | inl t ↦ let here : e.1 ≡ at = same_Some _ _ (rw t at h) in (e.0, inl (ap (λ n. (e.0, n)) here), equal_is (item_order item e.0) t)
-      | inr t ↦ let r = looked_up es item at (rw t at h) in (r.0, inr r.1, r.2)
-    ]
+    | inl t ↦ let here : e.1 ≡ at = same_Some _ _ (rw t at h) in (e.0, inl (ap (λ n. (e.0, n)) here), equal_is (item_order item e.0) t)
+    | inr t ↦ let r = looked_up es item at (rw t at h) in (r.0, inr r.1, r.2)
+  ]
 
   -- an entry is looked up, where entries rise
   pub entry_hits : (es : List (Item × X)) (item : Item) (at : X) → Rises es → Has es (item, at) → lookup (is_at (item_order item)) es ≡ Some at
@@ -63,9 +63,9 @@ module _ {X : Type 0} where
   pub lookup_tied : (x y : Item) (es : List (Item × X)) → item_order x y ≡ Equal → lookup (is_at (item_order x)) es ≡ lookup (is_at (item_order y)) es
   lookup_tied x y [] t = refl
   lookup_tied x y (e ∷ es) t = elim (cases_Bool (is_at (item_order x) e.0)) [
-      | inl p ↦ let q : is_at (item_order y) e.0 ≡ true = ap is_eq (sym (items_total.congr x y e.0 t)) ∙ p in rw (p, q) refl
-      | inr p ↦ let q : is_at (item_order y) e.0 ≡ false = ap is_eq (sym (items_total.congr x y e.0 t)) ∙ p in rw (p, q) (lookup_tied x y es t)
-    ]
+    | inl p ↦ let q : is_at (item_order y) e.0 ≡ true = ap is_eq (sym (items_total.congr x y e.0 t)) ∙ p in rw (p, q) refl
+    | inr p ↦ let q : is_at (item_order y) e.0 ≡ false = ap is_eq (sym (items_total.congr x y e.0 t)) ∙ p in rw (p, q) (lookup_tied x y es t)
+  ]
 
   all_kept : (k : Item) (p : Item × X → Bool) (es : List (Item × X)) → AllByRecursion (λ y. item_order k y ≡ Less) (map (λ e. e.0) es)
       → AllByRecursion (λ y. item_order k y ≡ Less) (map (λ e. e.0) (filter p es))
@@ -140,16 +140,16 @@ module _ {X : Type 0} (list_of : X → List Stored) (es : List (Item × X)) (ris
         above = mine.1;
         carries = λ m. f.full (stands item f.at mine.0 ∙ m);
         least = λ other a n l.
-          let c = carried other a n _ refl
-          in let below : item_order c.0 item ≡ Less = sym (items_total.congr other c.0 item c.4) ∙ l
-          in elim (part_of f.before f.rest (item, f.at) (c.0, c.1) (subst (λ l. Has l (c.0, c.1)) f.split c.2)) [
-            | inl p ↦ c.3 (empty_of list_of f.before (c.0, c.1) f.empty p)
-            | inr q ↦ elim q [
-              | inl p ↦ never_below item (subst (λ x. item_order x item ≡ Less) (sym (ap (λ x. x.0) p)) below)
-              | inr p ↦ one_way item c.0
-                  (less_of item c.0 c.1 f.rest (rest_rises f.before f.rest (item, f.at) (subst (λ l. Rises l) f.split (after_rises after es rising))) p) below
-            ]
-          ];
+            let c = carried other a n _ refl
+            in let below : item_order c.0 item ≡ Less = sym (items_total.congr other c.0 item c.4) ∙ l
+            in elim (part_of f.before f.rest (item, f.at) (c.0, c.1) (subst (λ l. Has l (c.0, c.1)) f.split c.2)) [
+              | inl p ↦ c.3 (empty_of list_of f.before (c.0, c.1) f.empty p)
+              | inr q ↦ elim q [
+                | inl p ↦ never_below item (subst (λ x. item_order x item ≡ Less) (sym (ap (λ x. x.0) p)) below)
+                | inr p ↦ one_way item c.0
+                    (less_of item c.0 c.1 f.rest (rest_rises f.before f.rest (item, f.at) (subst (λ l. Rises l) f.split (after_rises after es rising))) p) below
+              ]
+            ];
       }
 
   pub none_is : AreEmpty list_of (entries_after after es) → NoItem (rows_by list_of es) after

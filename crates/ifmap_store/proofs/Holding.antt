@@ -33,7 +33,7 @@ pub numbers_differ : (names : Holdings Identifier) (v w : ℕ) (a b : Identifier
 numbers_differ names v w a b l n m e =
     let same : m.0 ≡ n.0 = same_Some _ _ (sym m.1 ∙ ap (entry_at names) e ∙ n.1)
     in let tie : identifier_order a b ≡ Equal
-        = alike_equal a b (sym (equal_alike n.0.0 a n.2) ∙ ap identifier_bytes (ap (λ x. x.0) (sym same)) ∙ equal_alike m.0.0 b m.2)
+    = alike_equal a b (sym (equal_alike n.0.0 a n.2) ∙ ap identifier_bytes (ap (λ x. x.0) (sym same)) ∙ equal_alike m.0.0 b m.2)
     in let q : Less ≡ Equal = sym l ∙ tie in cc
 
 -- a name that another number's change leaves
@@ -84,20 +84,20 @@ module _ (old new : Holdings Identifier) (r : ℕ) (id : Identifier)
 
   key_there : (k : Identifier) → key_at new r ≡ Some k → (key_at old r ≡ Some k) ⊎ (k ≡ id)
   key_there k e = elim (not_there (entry_at old r) refl) [
-      | inl m ↦ let now : entry_at new r ≡ Some (m.0.0, m.0.1 + 1) = ap (λ p. entry_at p r) ((present r m).1 m.0 m.1) ∙ itself r (m.0.0, m.0.1 + 1)
-          in inl (ap (option_map (λ x. x.0)) m.1 ∙ sym (ap (option_map (λ x. x.0)) now) ∙ e)
-      | inr a ↦ let now : entry_at new r ≡ Some (id, 1) = ap (λ l. get l r) (absent a).live ∙ itself r (id, 1)
-          in inr (same_Some _ _ (sym e ∙ ap (option_map (λ x. x.0)) now))
-    ]
+    | inl m ↦ let now : entry_at new r ≡ Some (m.0.0, m.0.1 + 1) = ap (λ p. entry_at p r) ((present r m).1 m.0 m.1) ∙ itself r (m.0.0, m.0.1 + 1)
+        in inl (ap (option_map (λ x. x.0)) m.1 ∙ sym (ap (option_map (λ x. x.0)) now) ∙ e)
+    | inr a ↦ let now : entry_at new r ≡ Some (id, 1) = ap (λ l. get l r) (absent a).live ∙ itself r (id, 1)
+        in inr (same_Some _ _ (sym e ∙ ap (option_map (λ x. x.0)) now))
+  ]
 
   pub still_identifiers : IsIdentifier id → AreIdentifiers old → AreIdentifiers new
   still_identifiers i all v k e = elim (cases_eq v r) [
-      | inl q ↦ elim (key_there k (ap (key_at new) (sym q) ∙ e)) [
-          | inl was ↦ all r k was
-          | inr is ↦ subst IsIdentifier (sym is) i
-        ]
-      | inr o ↦ all v k (sym (ap (option_map (λ x. x.0)) (others v o)) ∙ e)
+    | inl q ↦ elim (key_there k (ap (key_at new) (sym q) ∙ e)) [
+      | inl was ↦ all r k was
+      | inr is ↦ subst IsIdentifier (sym is) i
     ]
+    | inr o ↦ all v k (sym (ap (option_map (λ x. x.0)) (others v o)) ∙ e)
+  ]
 
 -- a number that has a key after a release had it before
 module _ (old new : Holdings Identifier) (r : ℕ) (live : IsSome (entry_at old r)) (kept : LetsGo old new r) (last : holds_at old r ≡ 1 → Frees old new r)
@@ -111,34 +111,37 @@ module _ (old new : Holdings Identifier) (r : ℕ) (live : IsSome (entry_at old 
   -- the number has no key any more, or the same one
   after : (e : Identifier × ℕ) → entry_at old r ≡ Some e → (entry_at new r ≡ None) ⊎ ((m : ℕ) × (entry_at new r ≡ Some (e.0, m)))
   after e is = elim (cases_eq (holds_at old r) 1) [
-      | inl one ↦ inl (ap (λ l. get l r) (last one).live ∙ get-remove nat_cmp_total old.live r r ∙ ap (λ b. cond b None (get old.live r)) tie_test)
-      | inr more ↦ let big : 1 < e.1 = omega (arith, more, counted, holds_of e is)
-          in inr (e.1 - 1, ap (λ p. entry_at p r) (kept e is big) ∙ get-insert nat_cmp_total old.live r (e.0, e.1 - 1) r
-            ∙ ap (λ b. cond b (Some (e.0, e.1 - 1)) (get old.live r)) tie_test)
-    ]
+    | inl one ↦ inl (ap (λ l. get l r) (last one).live ∙ get-remove nat_cmp_total old.live r r ∙ ap (λ b. cond b None (get old.live r)) tie_test)
+    | inr more ↦ let big : 1 < e.1 = omega (arith, more, counted, holds_of e is)
+        in inr (
+          e.1 - 1,
+          ap (λ p. entry_at p r) (kept e is big) ∙ get-insert nat_cmp_total old.live r (e.0, e.1 - 1) r
+              ∙ ap (λ b. cond b (Some (e.0, e.1 - 1)) (get old.live r)) tie_test,
+        )
+  ]
 
   before_there : (o : Option (Identifier × ℕ)) → entry_at old r ≡ o → (a : Identifier) → Names identifier_order new r a → Names identifier_order old r a
   before_there None is a n = let q : IsSome {T = Identifier × ℕ} None = subst (λ (o : Option (Identifier × ℕ)). IsSome o) is live in cc
   before_there (Some e) is a n = elim (after e is) [
-      | inl gone ↦ absurd (none-some _ (sym gone ∙ n.1))
-      | inr m ↦ let same : n.0 ≡ (e.0, m.0) = same_Some _ _ (sym n.1 ∙ m.1) in (e, is, ap (λ x. identifier_order x.0 a) (sym same) ∙ n.2)
-    ]
+    | inl gone ↦ absurd (none-some _ (sym gone ∙ n.1))
+    | inr m ↦ let same : n.0 ≡ (e.0, m.0) = same_Some _ _ (sym n.1 ∙ m.1) in (e, is, ap (λ x. identifier_order x.0 a) (sym same) ∙ n.2)
+  ]
 
   pub named_before : (v : ℕ) (a : Identifier) → Names identifier_order new v a → Names identifier_order old v a
   named_before v a n = elim (cases_eq v r) [
-      | inl q ↦ subst (λ k. Names identifier_order old k a) (sym q) (before_there (entry_at old r) refl a (subst (λ k. Names identifier_order new k a) q n))
-      | inr o ↦ (n.0, sym (others v o) ∙ n.1, n.2)
-    ]
+    | inl q ↦ subst (λ k. Names identifier_order old k a) (sym q) (before_there (entry_at old r) refl a (subst (λ k. Names identifier_order new k a) q n))
+    | inr o ↦ (n.0, sym (others v o) ∙ n.1, n.2)
+  ]
 
   same_key : (o : Option (Identifier × ℕ)) → entry_at old r ≡ o → (k : Identifier) → key_at new r ≡ Some k → key_at old r ≡ Some k
   same_key None is k e = let q : IsSome {T = Identifier × ℕ} None = subst (λ (o : Option (Identifier × ℕ)). IsSome o) is live in cc
   same_key (Some x) is k e = elim (after x is) [
-      | inl gone ↦ absurd (none-some _ (sym (ap (option_map (λ y. y.0)) gone) ∙ e))
-      | inr m ↦ ap (option_map (λ y. y.0)) is ∙ sym (ap (option_map (λ y. y.0)) m.1) ∙ e
-    ]
+    | inl gone ↦ absurd (none-some _ (sym (ap (option_map (λ y. y.0)) gone) ∙ e))
+    | inr m ↦ ap (option_map (λ y. y.0)) is ∙ sym (ap (option_map (λ y. y.0)) m.1) ∙ e
+  ]
 
   pub identifiers_stay : AreIdentifiers old → AreIdentifiers new
   identifiers_stay all v k e = elim (cases_eq v r) [
-      | inl q ↦ all r k (same_key (entry_at old r) refl k (ap (key_at new) (sym q) ∙ e))
-      | inr o ↦ all v k (sym (ap (option_map (λ y. y.0)) (others v o)) ∙ e)
-    ]
+    | inl q ↦ all r k (same_key (entry_at old r) refl k (ap (key_at new) (sym q) ∙ e))
+    | inr o ↦ all v k (sym (ap (option_map (λ y. y.0)) (others v o)) ∙ e)
+  ]

@@ -94,8 +94,13 @@ module _ (names : Holdings Identifier) where
     only_by (One a) (ends.Pair u t) j n = absurd n
     only_by (Pair a b) (ends.Pair u t) j n =
         let e : (u, t) ≡ (v, w) = same_Some _ _ j
-        in (a, b, refl, is_number v a (subst (λ k. Names identifier_order names k a) (ap (λ p. p.0) e) n.0),
-          is_number w b (subst (λ k. Names identifier_order names k b) (ap (λ p. p.1) e) n.1))
+        in (
+          a,
+          b,
+          refl,
+          is_number v a (subst (λ k. Names identifier_order names k a) (ap (λ p. p.0) e) n.0),
+          is_number w b (subst (λ k. Names identifier_order names k b) (ap (λ p. p.1) e) n.1),
+        )
 
     only_of : (item : Item) (o : Option Shelf) → joined o ≡ Some (v, w) → HasEnds names item o
         → (a : Identifier) × (b : Identifier) × (item ≡ Pair a b) × IsNumber (key_at names) v a × IsNumber (key_at names) w b
@@ -105,13 +110,13 @@ module _ (names : Holdings Identifier) where
   pub are_joined : (look : ℕ → Option Shelf) (entries : List (Item × ℕ)) → ((at : ℕ) → IsSome (look at) → (item : Item) × Has entries (item, at))
       → AreNumbered names look entries → AreJoined entries (key_at names) (λ at. joined (look at))
   are_joined look entries used numbered = record {
-      ones = λ a at h. ones_of a a (look at) (all_has (λ e. HasEnds names e.0 (look e.1)) entries numbered (One a, at) h);
-      pairs = λ a b at h. pairs_of a b (look at) (all_has (λ e. HasEnds names e.0 (look e.1)) entries numbered (Pair a b, at) h);
-      only = λ at v w j.
+    ones = λ a at h. ones_of a a (look at) (all_has (λ e. HasEnds names e.0 (look e.1)) entries numbered (One a, at) h);
+    pairs = λ a b at h. pairs_of a b (look at) (all_has (λ e. HasEnds names e.0 (look e.1)) entries numbered (Pair a b, at) h);
+    only = λ at v w j.
         let u = used at (there (look at) v w j)
         in let x = only_of v w u.0 (look at) j (all_has (λ e. HasEnds names e.0 (look e.1)) entries numbered (u.0, at) u.1)
         in (x.0, x.1, subst (λ i. Has entries (i, at)) x.2 u.1, x.3, x.4);
-    }
+  }
 
 module _ (names : Holdings Identifier) (look : ℕ → Option Shelf) (entries : List (Item × ℕ)) (links : ℕ → List LinkSeen) (side : Side)
     (placed : IsPlaced look entries) (used : (at : ℕ) → IsSome (look at) → (item : Item) × Has entries (item, at)) (numbered : AreNumbered names look entries)
@@ -121,7 +126,7 @@ module _ (names : Holdings Identifier) (look : ℕ → Option Shelf) (entries : 
       → list_at side (look seen.at) ≡ stored_linked (key_at names v) (key_at names seen.other) (rows_by (list_at side) (shown look entries))
   handle_of v seen c =
       handled (λ at. list_at side (look at)) entries (key_at names) (λ at. joined (look at)) links placed.rising placed.canon (single names pool)
-        (are_joined names look entries used numbered) is.listed v seen c
+      (are_joined names look entries used numbered) is.listed v seen c
       ∙ sym (ap (stored_linked (key_at names v) (key_at names seen.other)) (rows_shown side look entries))
 
   module _ (tells : Tells) where

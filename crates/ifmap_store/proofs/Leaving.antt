@@ -59,16 +59,16 @@ named_tied (One b) x a e =
 named_tied (Pair b c) x a e =
     let t = pair_tied b c x e
     in ap (λ i. named_by i a) t.2 ∙ ap (λ n. n + once identifier_order t.1 a) (once_alike t.0 b a t.3)
-      ∙ ap (λ n. once identifier_order b a + n) (once_alike t.1 c a t.4)
+    ∙ ap (λ n. once identifier_order b a + n) (once_alike t.1 c a t.4)
 
 pub goes : (es : Entries) (item : Item) (at : ℕ) (a : Identifier) → lookup (is_at (item_order item)) es ≡ Some at
     → named_by item a + named_in (remove_entry (is_at (item_order item)) es) a ≡ named_in es a
 goes [] item at a h = absurd (none-some _ h)
 goes (e ∷ es) item at a h = elim (cases_Bool (is_at (item_order item) e.0)) [
-    | inl t ↦ rw t (ap (λ n. n + named_in es a) (sym (named_tied item e.0 a (equal_is (item_order item e.0) t))))
-    | inr t ↦ let q : named_by item a + named_in (remove_entry (is_at (item_order item)) es) a ≡ named_in es a = goes es item at a (rw t at h)
-        in rw t (swapped (named_by item a) (named_by e.0 a) (named_in (remove_entry (is_at (item_order item)) es) a) ∙ ap (λ n. named_by e.0 a + n) q)
-  ]
+  | inl t ↦ rw t (ap (λ n. n + named_in es a) (sym (named_tied item e.0 a (equal_is (item_order item e.0) t))))
+  | inr t ↦ let q : named_by item a + named_in (remove_entry (is_at (item_order item)) es) a ≡ named_in es a = goes es item at a (rw t at h)
+      in rw t (swapped (named_by item a) (named_by e.0 a) (named_in (remove_entry (is_at (item_order item)) es) a) ∙ ap (λ n. named_by e.0 a + n) q)
+]
 
 differs : (a b : ℕ) → nat_eq a b ≡ false → b ≢ a
 differs a b e q = let t : nat_eq a b ≡ true = grind (arith, nat_tests) in let r : false ≡ true = sym e ∙ t in cc
@@ -81,19 +81,19 @@ others_apart at (e ∷ es) a = (differs at e.1 a.0, others_apart at es a.1)
 not_first : (k : ℕ) (test : Item → Bool) (es : Entries) (at : ℕ) → AllByRecursion (λ y. nat_eq k y ≡ false) (slots_of es) → lookup test es ≡ Some at → k ≢ at
 not_first k test [] at a h = λ q. none-some _ h
 not_first k test (e ∷ es) at a h = elim (cases_Bool (test e.0)) [
-    | inl t ↦ let here : e.1 ≡ at = same_Some _ _ (rw t at h) in λ q. differs k e.1 a.0 (here ∙ sym q)
-    | inr t ↦ not_first k test es at a.1 (rw t at h)
-  ]
+  | inl t ↦ let here : e.1 ≡ at = same_Some _ _ (rw t at h) in λ q. differs k e.1 a.0 (here ∙ sym q)
+  | inr t ↦ not_first k test es at a.1 (rw t at h)
+]
 
 -- the entries that stay have other slots
 others_left : (test : Item → Bool) (es : Entries) (at : ℕ) → IsDistinct nat_eq (slots_of es) → lookup test es ≡ Some at
     → AllByRecursion (λ e. e.1 ≢ at) (remove_entry test es)
 others_left test [] at d h = tt
 others_left test (e ∷ es) at d h = elim (cases_Bool (test e.0)) [
-    | inl t ↦ let here : e.1 ≡ at = same_Some _ _ (rw t at h)
-        in rw t (others_apart at es (subst (λ k. AllByRecursion (λ y. nat_eq k y ≡ false) (slots_of es)) here (slots_first e es d).0))
-    | inr t ↦ rw t (not_first e.1 test es at (slots_first e es d).0 (rw t at h), others_left test es at (slots_first e es d).1 (rw t at h))
-  ]
+  | inl t ↦ let here : e.1 ≡ at = same_Some _ _ (rw t at h)
+      in rw t (others_apart at es (subst (λ k. AllByRecursion (λ y. nat_eq k y ≡ false) (slots_of es)) here (slots_first e es d).0))
+  | inr t ↦ rw t (not_first e.1 test es at (slots_first e es d).0 (rw t at h), others_left test es at (slots_first e es d).1 (rw t at h))
+]
 
 out_left : (k : ℕ) (test : Item → Bool) (es : Entries) → AllByRecursion (λ y. nat_eq k y ≡ false) (slots_of es)
     → AllByRecursion (λ y. nat_eq k y ≡ false) (slots_of (remove_entry test es))
@@ -117,10 +117,10 @@ slots_left test (e ∷ es) d = by (test e.0) (slots_left test es (slots_first e 
 pub removed_has : (test : Item → Bool) (es : Entries) (at n : ℕ) (k : Item) → lookup test es ≡ Some at → n ≢ at → Has es (k, n) → Has (remove_entry test es) (k, n)
 removed_has test [] at n k h o i = absurd i
 removed_has test (e ∷ es) at n k h o i = elim (cases_Bool (test e.0)) [
-    | inl t ↦ let here : e.1 ≡ at = same_Some _ _ (rw t at h)
-        in rw t (elim i [ inl p ↦ absurd (o (sym (ap (λ x. x.1) p) ∙ here)) | inr j ↦ j ])
-    | inr t ↦ rw t (elim i [ inl p ↦ inl p | inr j ↦ inr (removed_has test es at n k (rw t at h) o j) ])
-  ]
+  | inl t ↦ let here : e.1 ≡ at = same_Some _ _ (rw t at h)
+      in rw t (elim i [ inl p ↦ absurd (o (sym (ap (λ x. x.1) p) ∙ here)) | inr j ↦ j ])
+  | inr t ↦ rw t (elim i [ inl p ↦ inl p | inr j ↦ inr (removed_has test es at n k (rw t at h) o j) ])
+]
 
 -- an item's shelf goes, which is empty
 module _ (es new : Entries) (look later : ℕ → Option Shelf) (item : Item) (at : ℕ) (is : IsPlaced look es) (here : lookup (is_at (item_order item)) es ≡ Some at)
@@ -140,12 +140,12 @@ module _ (es new : Entries) (look later : ℕ → Option Shelf) (item : Item) (a
 
   pub stays_placed : IsPlaced later new
   stays_placed = record {
-      rising = rises;
-      canon = subst (λ l. AllByRecursion (λ e. IsCanonItem e.0) l) (sym removes) (all_left (λ e. IsCanonItem e.0) (is_at (item_order item)) es is.canon);
-      live = subst (λ l. AllByRecursion (λ e. IsSome (later e.1)) l) (sym removes)
-          (live_left (remove_entry (is_at (item_order item)) es) apart_from (all_left (λ e. IsSome (look e.1)) (is_at (item_order item)) es is.live));
-      apart = subst (λ l. IsDistinct nat_eq (slots_of l)) (sym removes) (slots_left (is_at (item_order item)) es is.apart);
-    }
+    rising = rises;
+    canon = subst (λ l. AllByRecursion (λ e. IsCanonItem e.0) l) (sym removes) (all_left (λ e. IsCanonItem e.0) (is_at (item_order item)) es is.canon);
+    live = subst (λ l. AllByRecursion (λ e. IsSome (later e.1)) l) (sym removes)
+        (live_left (remove_entry (is_at (item_order item)) es) apart_from (all_left (λ e. IsSome (look e.1)) (is_at (item_order item)) es is.live));
+    apart = subst (λ l. IsDistinct nat_eq (slots_of l)) (sym removes) (slots_left (is_at (item_order item)) es is.apart);
+  }
 
   pub same_rows : (side : Side) → list_at side (look at) ≡ [] → rows_by (λ n. list_at side (later n)) new ≡ rows_by (λ n. list_at side (look n)) es
   same_rows side empty =

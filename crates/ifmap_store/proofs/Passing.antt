@@ -25,7 +25,7 @@ module _ {X : Type 0} (list_of : X → List Stored) where
 
     pub passing : IsPassing list_of es rest → list_of e.1 ≡ [] → IsPassing list_of es next
     passing p empty = record {
-        before = p.before ++ e ∷ [];
-        split = p.split ∙ ap (λ l. p.before ++ l) step ∙ sym (append_assoc p.before (e ∷ []) next);
-        empty = empty_push p.before e p.empty empty;
-      }
+      before = p.before ++ e ∷ [];
+      split = p.split ∙ ap (λ l. p.before ++ l) step ∙ sym (append_assoc p.before (e ∷ []) next);
+      empty = empty_push p.before e p.empty empty;
+    }

@@ -51,23 +51,23 @@ module _ {X : Type 0} (list_of : X → List Stored) (item : Item) where
   pub found : (es : List (Item × X)) (at : X) → Rises es → lookup (is_at (item_order item)) es ≡ Some at → list_of at ≡ stored_on item (rows_by list_of es)
   found [] at r h = absurd (none-some _ h)
   found (e ∷ es) at r h = elim (cases_Bool (is_at (item_order item) e.0)) [
-      | inl t ↦ let here : e.1 ≡ at = same_Some _ _ (rw t at h)
-          in ap list_of (sym here)
-            ∙ sym (kept_one item e.0 (list_of e.1) (rows_by list_of es) (sym (ties item e.0) ∙ t)
-              ∙ ap (λ l. list_of e.1 ++ l)
-                (none_above es (above_tied item e.0 (map (λ e. e.0) es) (equal_is (item_order item e.0) t) (first_rises e es r).0))
-              ∙ append-nil (list_of e.1))
-      | inr t ↦ found es at (first_rises e es r).1 (rw t at h)
-          ∙ sym (passed_one item e.0 (list_of e.1) (rows_by list_of es) (sym (ties item e.0) ∙ t))
-    ]
+    | inl t ↦ let here : e.1 ≡ at = same_Some _ _ (rw t at h)
+        in ap list_of (sym here)
+        ∙ sym (kept_one item e.0 (list_of e.1) (rows_by list_of es) (sym (ties item e.0) ∙ t)
+        ∙ ap (λ l. list_of e.1 ++ l)
+        (none_above es (above_tied item e.0 (map (λ e. e.0) es) (equal_is (item_order item e.0) t) (first_rises e es r).0))
+        ∙ append-nil (list_of e.1))
+    | inr t ↦ found es at (first_rises e es r).1 (rw t at h)
+        ∙ sym (passed_one item e.0 (list_of e.1) (rows_by list_of es) (sym (ties item e.0) ∙ t))
+  ]
 
   -- and where it misses, nothing is
   pub absent : (es : List (Item × X)) → lookup (is_at (item_order item)) es ≡ None → [] ≡ stored_on item (rows_by list_of es)
   absent [] h = refl
   absent (e ∷ es) h = elim (cases_Bool (is_at (item_order item) e.0)) [
-      | inl t ↦ absurd (none-some _ (sym (rw t at h)))
-      | inr t ↦ absent es (rw t at h) ∙ sym (passed_one item e.0 (list_of e.1) (rows_by list_of es) (sym (ties item e.0) ∙ t))
-    ]
+    | inl t ↦ absurd (none-some _ (sym (rw t at h)))
+    | inr t ↦ absent es (rw t at h) ∙ sym (passed_one item e.0 (list_of e.1) (rows_by list_of es) (sym (ties item e.0) ∙ t))
+  ]
 
   -- an entry that is empty changes no attachments when it comes
   pub inserted : (es : List (Item × X)) (at : X) → list_of at ≡ [] → lookup (is_at (item_order item)) es ≡ None
@@ -87,10 +87,10 @@ module _ {X : Type 0} (list_of : X → List Stored) (item : Item) where
       → rows_by list_of (remove_entry (is_at (item_order item)) es) ≡ rows_by list_of es
   leaves [] at h empty = absurd (none-some _ h)
   leaves (e ∷ es) at h empty = elim (cases_Bool (is_at (item_order item) e.0)) [
-      | inl t ↦ let here : e.1 ≡ at = same_Some _ _ (rw t at h)
-          in rw t (sym (ap (λ l. map (row_on e.0) l ++ rows_by list_of es) (ap list_of here ∙ empty)))
-      | inr t ↦ let q = leaves es at (rw t at h) empty in rw t (ap (λ l. map (row_on e.0) (list_of e.1) ++ l) q)
-    ]
+    | inl t ↦ let here : e.1 ≡ at = same_Some _ _ (rw t at h)
+        in rw t (sym (ap (λ l. map (row_on e.0) l ++ rows_by list_of es) (ap list_of here ∙ empty)))
+    | inr t ↦ let q = leaves es at (rw t at h) empty in rw t (ap (λ l. map (row_on e.0) (list_of e.1) ++ l) q)
+  ]
 
 -- each entry, and a new one
 pub all_inserted : {X : Type 0} (P : Item × X → Type 0) (es : List (Item × X)) (item : Item) (at : X) → lookup (is_at (item_order item)) es ≡ None
@@ -118,6 +118,6 @@ all_left {X} P test (e ∷ es) a = by (test e.0) (all_left P test es a.1)
 pub live_at : {X : Type 0} (P : X → Type 0) (test : Item → Bool) (es : List (Item × X)) (at : X) → AllByRecursion (λ e. P e.1) es → lookup test es ≡ Some at → P at
 live_at P test [] at a h = absurd (none-some _ h)
 live_at P test (e ∷ es) at a h = elim (cases_Bool (test e.0)) [
-    | inl t ↦ let here : e.1 ≡ at = same_Some _ _ (rw t at h) in subst P here a.0
-    | inr t ↦ live_at P test es at a.1 (rw t at h)
-  ]
+  | inl t ↦ let here : e.1 ≡ at = same_Some _ _ (rw t at h) in subst P here a.0
+  | inr t ↦ live_at P test es at a.1 (rw t at h)
+]

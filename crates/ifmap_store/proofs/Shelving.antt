@@ -72,10 +72,13 @@ same_numbers a b e = grind (arith, nat_tests)
 vacant_out : (look : ℕ → Option Shelf) (at : ℕ) (es : Entries) → look at ≡ None → AllByRecursion (λ e. IsSome (look e.1)) es
     → AllByRecursion (λ y. nat_eq at y ≡ false) (slots_of es)
 vacant_out look at [] v a = tt
-vacant_out look at (e ∷ es) v a = (elim (cases_Bool (nat_eq at e.1)) [
+vacant_out look at (e ∷ es) v a = (
+  elim (cases_Bool (nat_eq at e.1)) [
     | inl t ↦ let q : IsSome {T = Shelf} None = subst (λ (o : Option Shelf). IsSome o) (ap look (sym (same_numbers at e.1 t)) ∙ v) a.0 in cc
     | inr t ↦ t
-  ], vacant_out look at es v a.1)
+  ],
+  vacant_out look at es v a.1,
+)
 
 pub none_is : {X : Type 0} (o : Option X) → is_some o ≡ false → o ≡ None
 none_is None e = refl
@@ -132,13 +135,13 @@ module _ (es new : Entries) (look later : ℕ → Option Shelf) (item : Item) (a
 
   pub placed : IsPlaced later new
   placed = record {
-      rising = rises;
-      canon = subst (λ l. AllByRecursion (λ e. IsCanonItem e.0) l) (sym becomes) (all_inserted (λ e. IsCanonItem e.0) es item at none is.canon canon);
-      live = subst (λ l. AllByRecursion (λ e. IsSome (later e.1)) l) (sym becomes)
-          (all_inserted (λ e. IsSome (later e.1)) es item at none (live_stay look later at vacant others es is.live)
-            (subst (λ (o : Option Shelf). IsSome o) (sym later_at) refl));
-      apart = subst (λ l. IsDistinct nat_eq (slots_of l)) (sym becomes) (slots_inserted es item at is.apart (vacant_out look at es vacant is.live));
-    }
+    rising = rises;
+    canon = subst (λ l. AllByRecursion (λ e. IsCanonItem e.0) l) (sym becomes) (all_inserted (λ e. IsCanonItem e.0) es item at none is.canon canon);
+    live = subst (λ l. AllByRecursion (λ e. IsSome (later e.1)) l) (sym becomes)
+        (all_inserted (λ e. IsSome (later e.1)) es item at none (live_stay look later at vacant others es is.live)
+        (subst (λ (o : Option Shelf). IsSome o) (sym later_at) refl));
+    apart = subst (λ l. IsDistinct nat_eq (slots_of l)) (sym becomes) (slots_inserted es item at is.apart (vacant_out look at es vacant is.live));
+  }
 
   pub same_rows : (side : Side) → side (record { now = []; draft = None }) ≡ []
       → rows_by (λ n. list_at side (later n)) new ≡ rows_by (λ n. list_at side (look n)) es
@@ -150,7 +153,7 @@ module _ (es new : Entries) (look later : ℕ → Option Shelf) (item : Item) (a
   -- each shelf is an item's
   pub still_used : ((n : ℕ) → IsSome (look n) → (k : Item) × Has es (k, n)) → (n : ℕ) → IsSome (later n) → (k : Item) × Has new (k, n)
   still_used used n s = elim (cases_eq n at) [
-      | inl q ↦ (item, subst (λ l. Has l (item, n)) (sym becomes) (subst (λ m. Has (insert_entry item_order es item at) (item, m)) (sym q) (inserted_itself es item at none)))
-      | inr o ↦ let u = used n (subst (λ (x : Option Shelf). IsSome x) (others n o) s)
-          in (u.0, subst (λ l. Has l (u.0, n)) (sym becomes) (inserted_has es item at (u.0, n) none u.1))
-    ]
+    | inl q ↦ (item, subst (λ l. Has l (item, n)) (sym becomes) (subst (λ m. Has (insert_entry item_order es item at) (item, m)) (sym q) (inserted_itself es item at none)))
+    | inr o ↦ let u = used n (subst (λ (x : Option Shelf). IsSome x) (others n o) s)
+        in (u.0, subst (λ l. Has l (u.0, n)) (sym becomes) (inserted_has es item at (u.0, n) none u.1))
+  ]

@@ -66,12 +66,15 @@ distinct_nothing = tt
 others_differ : (l : LinkSeen) (ls : List LinkSeen) → AllByRecursion (λ y. nat_eq l.at y ≡ false) (ats ls)
     → ((m : LinkSeen) → Has ls m → l.other ≡ m.other → l.at ≡ m.at) → AllByRecursion (λ y. nat_eq l.other y ≡ false) (others ls)
 others_differ l [] a f = tt
-others_differ l (m ∷ ms) a f = (elim (cases_Bool (nat_eq l.other m.other)) [
+others_differ l (m ∷ ms) a f = (
+  elim (cases_Bool (nat_eq l.other m.other)) [
     | inl t ↦ let same : l.at ≡ m.at = f m (inl refl) (is_number l.other m.other t)
         in let q : nat_eq l.at l.at ≡ false = subst (λ y. nat_eq l.at y ≡ false) (sym same) a.0
         in absurd (never_other l.at q)
     | inr t ↦ t
-  ], others_differ l ms a.1 (λ x h. f x (inr h)))
+  ],
+  others_differ l ms a.1 (λ x h. f x (inr h)),
+)
 
 distinct_by : (ls : List LinkSeen) → IsDistinct nat_eq (ats ls) → ((l m : LinkSeen) → Has ls l → Has ls m → l.other ≡ m.other → l.at ≡ m.at)
     → IsDistinct nat_eq (others ls)
@@ -79,7 +82,7 @@ distinct_by [] d f = distinct_nothing
 distinct_by (l ∷ ls) d f =
     let p = distinct_parts l.at (ats ls) d
     in distinct_whole l.other (others ls) (others_differ l ls p.0 (λ m h. f l m (inl refl) (inr h)))
-      (distinct_by ls p.1 (λ x y h k. f x y (inr h) (inr k)))
+    (distinct_by ls p.1 (λ x y h k. f x y (inr h) (inr k)))
 
 module _ (list_of : ℕ → List Stored) (entries : List (Item × ℕ)) (id_at : ℕ → Option Identifier) (joins : ℕ → Option (ℕ × ℕ)) (links : ℕ → List LinkSeen)
     (rising : Rises entries) (canon : AllByRecursion (λ e. IsCanonItem e.0) entries) (single : AreSingle id_at) (joined : AreJoined entries id_at joins)
@@ -98,15 +101,15 @@ module _ (list_of : ℕ → List Stored) (entries : List (Item × ℕ)) (id_at :
   on_ends at v w j =
       let e = joined.only at v w j
       in on_pair e.0 e.1 e.3.0 e.4.0 at e.2 e.3.2 e.4.2
-        ∙ sym (ap (λ o. stored_linked o (id_at w) rows) e.3.1 ∙ ap (λ o. stored_linked (Some e.3.0) o rows) e.4.1
-          ∙ ap (λ i. stored_where i rows) (pair_less e.0 e.1 e.3.0 e.4.0 e.3.2 e.4.2 (ordered e.0 e.1 at e.2)))
+      ∙ sym (ap (λ o. stored_linked o (id_at w) rows) e.3.1 ∙ ap (λ o. stored_linked (Some e.3.0) o rows) e.4.1
+      ∙ ap (λ i. stored_where i rows) (pair_less e.0 e.1 e.3.0 e.4.0 e.3.2 e.4.2 (ordered e.0 e.1 at e.2)))
 
   on_turned : (at v w : ℕ) → joins at ≡ Some (w, v) → list_of at ≡ stored_linked (id_at v) (id_at w) rows
   on_turned at v w j =
       let e = joined.only at w v j
       in on_pair e.0 e.1 e.3.0 e.4.0 at e.2 e.3.2 e.4.2
-        ∙ sym (ap (λ o. stored_linked o (id_at w) rows) e.4.1 ∙ ap (λ o. stored_linked (Some e.4.0) o rows) e.3.1
-          ∙ ap (λ i. stored_where i rows) (pair_more e.0 e.1 e.3.0 e.4.0 e.3.2 e.4.2 (ordered e.0 e.1 at e.2)))
+      ∙ sym (ap (λ o. stored_linked o (id_at w) rows) e.4.1 ∙ ap (λ o. stored_linked (Some e.4.0) o rows) e.3.1
+      ∙ ap (λ i. stored_where i rows) (pair_more e.0 e.1 e.3.0 e.4.0 e.3.2 e.4.2 (ordered e.0 e.1 at e.2)))
 
   -- what a slot that joins two numbers has is what is stored between them
   pub on_place : (at v w : ℕ) → Ends joins at v w → list_of at ≡ stored_linked (id_at v) (id_at w) rows
@@ -134,8 +137,15 @@ module _ (list_of : ℕ → List Stored) (entries : List (Item × ℕ)) (id_at :
       let h = looked_up entries (Pair k m) at e
       in let t = pair_tied k m h.0 h.2
       in let j = joined.pairs t.0 t.1 at (subst (λ i. Has entries (i, at)) t.2 h.1)
-      in (at, j.0, j.1, j.2, (j.3.0, j.3.1, j.3.2 ∙ t.3), (j.4.0, j.4.1, j.4.2 ∙ t.4),
-        ap is_full (found list_of (Pair k m) entries at rising e) ∙ full_is _ n)
+      in (
+        at,
+        j.0,
+        j.1,
+        j.2,
+        (j.3.0, j.3.1, j.3.2 ∙ t.3),
+        (j.4.0, j.4.1, j.4.2 ∙ t.4),
+        ap is_full (found list_of (Pair k m) entries at rising e) ∙ full_is _ n,
+      )
 
   same_number : (v w : ℕ) (a : Identifier) → IsNumber id_at v a → id_at w ≡ Some a → v ≡ w
   same_number v w a n e = single v w n.0 a n.1 e n.2
@@ -194,14 +204,14 @@ module _ (list_of : ℕ → List Stored) (entries : List (Item × ℕ)) (id_at :
       in let f = joined.only bt v w k
       in let t : item_order (Pair e.0 e.1) (Pair f.0 f.1) ≡ Equal = pairs_tie e.0 e.1 f.0 f.1 (alike_of v e.0 f.0 e.3 f.3) (alike_of w e.1 f.1 e.4 f.4)
       in same_Some at bt (sym (entry_hits entries (Pair e.0 e.1) at rising e.2) ∙ lookup_tied (Pair e.0 e.1) (Pair f.0 f.1) entries t
-        ∙ entry_hits entries (Pair f.0 f.1) bt rising f.2)
+      ∙ entry_hits entries (Pair f.0 f.1) bt rising f.2)
 
   crossed : (at bt v w : ℕ) → joins at ≡ Some (v, w) → joins bt ≡ Some (w, v) → ⊥
   crossed at bt v w j k =
       let e = joined.only at v w j
       in let f = joined.only bt w v k
       in let back : identifier_order f.0 f.1 ≡ identifier_order e.1 e.0
-          = order_alike e.1 e.0 f.0 f.1 (alike_of w f.0 e.1 f.3 e.4) (alike_of v f.1 e.0 f.4 e.3)
+      = order_alike e.1 e.0 f.0 f.1 (alike_of w f.0 e.1 f.3 e.4) (alike_of v f.1 e.0 f.4 e.3)
       in let q : Less ≡ Greater = sym (ordered f.0 f.1 bt f.2) ∙ back ∙ turned_order e.1 e.0 ∙ ap ordering_reverse (ordered e.0 e.1 at e.2)
       in cc
 

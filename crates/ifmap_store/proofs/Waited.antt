@@ -14,15 +14,15 @@ module _ (old new : Item → ℕ) (item : Item) (before after : ℕ)
     (others : (x : Item) → is_at (item_order item) x ≡ false → new x ≡ old x) where
   pub raised : after ≡ before + 1 → (rest : List Item) → AreWaited rest old → AreWaited (item ∷ rest) new
   raised more rest a x = elim (cases_Bool (is_at (item_order item) x)) [
-      | inl t ↦ rw t (omega (arith, a x, had x t, has x t, more))
-      | inr t ↦ rw t (omega (arith, a x, others x t))
-    ]
+    | inl t ↦ rw t (omega (arith, a x, had x t, has x t, more))
+    | inr t ↦ rw t (omega (arith, a x, others x t))
+  ]
 
   pub lowered : after ≡ before - 1 → (rest : List Item) → AreWaited (item ∷ rest) old → AreWaited rest new
   lowered less rest a x = elim (cases_Bool (is_at (item_order item) x)) [
-      | inl t ↦ let h = rw t at (a x) in omega (arith, h, had x t, has x t, less)
-      | inr t ↦ let h = rw t at (a x) in omega (arith, h, others x t)
-    ]
+    | inl t ↦ let h = rw t at (a x) in omega (arith, h, had x t, has x t, less)
+    | inr t ↦ let h = rw t at (a x) in omega (arith, h, others x t)
+  ]
 
 pub times_append : (xs ys : List Item) (x : Item) → times_in (xs ++ ys) x ≡ times_in xs x + times_in ys x
 times_append [] ys x = omega arith

@@ -9,7 +9,7 @@ pub record Sides (T : Type 0) : Type 0 where
 abbrev pub sides_code : {T : Type 0} → Coded T → Coded (Sides T)
 sides_code {T} t =
     code_by (List T × Option (List T)) (coded× (coded_list t) (coded_option (coded_list t))) (λ s. (s.now, s.draft))
-        (λ p. record { now = p.0; draft = p.1 }) (λ _. refl)
+    (λ p. record { now = p.0; draft = p.1 }) (λ _. refl)
 
 -- the list, as it is
 abbrev pub now : {T : Type 0} → Sides T → List T

@@ -51,11 +51,7 @@ fn first_after<'a>(shelves: &'a Shelves, after: Option<&Item>) -> Option<&'a Ite
 
 impl Shelves {
     /// The least item above one, or of all, that carries an attachment. Each call is one step.
-    pub fn item_after<L: Ledger>(
-        &self,
-        item: Option<&Item>,
-        steps: &mut Steps<L>,
-    ) -> Option<&Item>
+    pub fn item_after<L: Ledger>(&self, item: Option<&Item>, steps: &mut Steps<L>) -> Option<&Item>
         requires { AreShelved self.now }
         ensures found { IfSome result (λ found.
             IsNextItem (rows_of now self.now) (option_copied item.entry) found.now) }

@@ -88,7 +88,7 @@ impl Shelves {
         ensures now { rows_of now self.new ≡ rows_of now self.old }
         ensures next { (x : Item) → stored_on x (rows_of next self.new)
             ≡ (if is_at (item_order item.now) x then list.items
-                else stored_on x (rows_of next self.old)) }
+            else stored_on x (rows_of next self.old)) }
         ensures places { self.new.places ≡ self.old.places }
     {
         let at = self.places[item];
@@ -103,7 +103,7 @@ impl Shelves {
         ensures next { rows_of next self.new ≡ rows_of next self.old }
         ensures now { (x : Item) → stored_on x (rows_of now self.new)
             ≡ stored_on x (if is_at (item_order item.now) x then rows_of next self.old
-                else rows_of now self.old) }
+            else rows_of now self.old) }
         ensures old { result.items ≡ stored_on item.now (rows_of now self.old) }
         ensures places { self.new.places ≡ self.old.places }
     {
@@ -119,7 +119,7 @@ impl Shelves {
         ensures now { rows_of now self.new ≡ rows_of now self.old }
         ensures next { (x : Item) → stored_on x (rows_of next self.new)
             ≡ stored_on x (if is_at (item_order item.now) x then rows_of now self.old
-                else rows_of next self.old) }
+            else rows_of next self.old) }
         ensures places { self.new.places ≡ self.old.places }
     {
         let at = self.places[item];

@@ -45,10 +45,10 @@ impl Model for Graph {
         the_identifier.the_row.coded the_link.the_row.coded };
 
     ghost view = { λ g. record {
-        shelves = shown (get g.shelves.slots) g.shelves.places.entries;
-        names = g.names;
-        links = g.links.items;
-        waiting = g.waiting;
+      shelves = shown (get g.shelves.slots) g.shelves.places.entries;
+      names = g.names;
+      links = g.links.items;
+      waiting = g.waiting;
     } };
 
     ghost invariant = { λ g.
@@ -114,14 +114,10 @@ impl Graph {
     }
 
     /// The least item above one, or of all, that carries an attachment. Each call is one step.
-    pub fn item_after<L: Ledger>(
-        &self,
-        item: Option<&Item>,
-        steps: &mut Steps<L>,
-    ) -> Option<&Item>
+    pub fn item_after<L: Ledger>(&self, item: Option<&Item>, steps: &mut Steps<L>) -> Option<&Item>
         ensures found { IfSome result (λ found.
             IsNextItem (rows_by (list_at now) self.now.shelves) (option_copied item.entry)
-                found.now) }
+            found.now) }
         ensures none { IfNone result
             (NoItem (rows_by (list_at now) self.now.shelves) (option_copied item.entry)) }
         ensures step { steps.new ≡ steps.old + 1 }
@@ -163,7 +159,7 @@ impl Graph {
         requires { (v : ℕ) × Contains (links_at next self.now.links v) seen }
         ensures { (v : ℕ) → Contains (links_at next self.now.links v) seen
             → result.now ≡ stored_linked (key_at self.now.names v)
-                (key_at self.now.names seen.other) (rows_by (list_at next) self.now.shelves) }
+            (key_at self.now.names seen.other) (rows_by (list_at next) self.now.shelves) }
     {
         self.shelves.slots[seen.at as usize].stored.next()
     }

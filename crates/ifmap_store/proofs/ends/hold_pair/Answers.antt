@@ -22,8 +22,8 @@ returns-clause-ends c = (c.hold-two.ensures.kept _ _ c.hold-one.ensures.named, c
 pub returns-clause-held : goal.returns-clause-held
 returns-clause-held c = λ other count h.
     subst (λ (n : ℕ). IsHeld identifier_order c.hold-two.new.self other n)
-      (add_two count (once identifier_order c.args.a other) (once identifier_order c.args.b other))
-      (c.hold-two.ensures.held other _ (c.hold-one.ensures.held other count h))
+    (add_two count (once identifier_order c.args.a other) (once identifier_order c.args.b other))
+    (c.hold-two.ensures.held other _ (c.hold-one.ensures.held other count h))
 
 pub returns-clause-kept : goal.returns-clause-kept
 returns-clause-kept c = λ number other n. c.hold-two.ensures.kept number other (c.hold-one.ensures.kept number other n)
@@ -31,6 +31,6 @@ returns-clause-kept c = λ number other n. c.hold-two.ensures.kept number other 
 pub returns-clause-keys : goal.returns-clause-keys
 returns-clause-keys c = λ i j all.
     still_identifiers c.hold-one.new.self c.hold-two.new.self c.hold-two.result c.args.b c.hold-two.ensures.present c.hold-two.ensures.absent
-      c.hold-two.ensures.others j
-      (still_identifiers c.args.names.now c.hold-one.new.self c.hold-one.result c.args.a c.hold-one.ensures.present c.hold-one.ensures.absent
-        c.hold-one.ensures.others i all)
+    c.hold-two.ensures.others j
+    (still_identifiers c.args.names.now c.hold-one.new.self c.hold-one.result c.args.a c.hold-one.ensures.present c.hold-one.ensures.absent
+    c.hold-one.ensures.others i all)

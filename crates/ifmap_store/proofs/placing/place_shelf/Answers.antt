@@ -44,39 +44,39 @@ pub returns-clause-shelved : goal.returns-clause-shelved
 returns-clause-shelved c =
     let is : IsPlaced (get c.reserve.new.self) c.args.shelves.now.places.entries = rw c.in_ok-reserve.ensures.rest_kept c.requires.shelved
     in placed c.args.shelves.now.places.entries c.insert.new.self.entries (get c.reserve.new.self) (get c.insert_reserved.new.self) c.args.item
-        c.insert_reserved.result c.vacant_key-at.result _ is c.requires.canon c.requires.absent (c.insert_reserved.ensures.key ∙ sym c.vacant_key-at.ensures.value)
-        c.insert_reserved.ensures.was_vacant c.insert_reserved.ensures.updates.changed c.new.ensures c.insert_reserved.ensures.updates.others
-        c.in_ok-insert.ensures.entries c.insert.ensures.ordered
+    c.insert_reserved.result c.vacant_key-at.result _ is c.requires.canon c.requires.absent (c.insert_reserved.ensures.key ∙ sym c.vacant_key-at.ensures.value)
+    c.insert_reserved.ensures.was_vacant c.insert_reserved.ensures.updates.changed c.new.ensures c.insert_reserved.ensures.updates.others
+    c.in_ok-insert.ensures.entries c.insert.ensures.ordered
 
 pub returns-clause-used : goal.returns-clause-used
 returns-clause-used c =
     let is : IsPlaced (get c.reserve.new.self) c.args.shelves.now.places.entries = rw c.in_ok-reserve.ensures.rest_kept c.requires.shelved
     in let used : (n : ℕ) → IsSome (get c.reserve.new.self n) → (k : Item) × Has c.args.shelves.now.places.entries (k, n)
-        = rw c.in_ok-reserve.ensures.rest_kept c.requires.used
+    = rw c.in_ok-reserve.ensures.rest_kept c.requires.used
     in still_used c.args.shelves.now.places.entries c.insert.new.self.entries (get c.reserve.new.self) (get c.insert_reserved.new.self) c.args.item
-        c.insert_reserved.result c.vacant_key-at.result _ is c.requires.canon c.requires.absent (c.insert_reserved.ensures.key ∙ sym c.vacant_key-at.ensures.value)
-        c.insert_reserved.ensures.was_vacant c.insert_reserved.ensures.updates.changed c.new.ensures c.insert_reserved.ensures.updates.others
-        c.in_ok-insert.ensures.entries c.insert.ensures.ordered used
+    c.insert_reserved.result c.vacant_key-at.result _ is c.requires.canon c.requires.absent (c.insert_reserved.ensures.key ∙ sym c.vacant_key-at.ensures.value)
+    c.insert_reserved.ensures.was_vacant c.insert_reserved.ensures.updates.changed c.new.ensures c.insert_reserved.ensures.updates.others
+    c.in_ok-insert.ensures.entries c.insert.ensures.ordered used
 
 pub returns-clause-rows : goal.returns-clause-rows
 returns-clause-rows c = λ side nothing.
     let is : IsPlaced (get c.reserve.new.self) c.args.shelves.now.places.entries = rw c.in_ok-reserve.ensures.rest_kept c.requires.shelved
     in same_rows c.args.shelves.now.places.entries c.insert.new.self.entries (get c.reserve.new.self) (get c.insert_reserved.new.self) c.args.item
-        c.insert_reserved.result c.vacant_key-at.result _ is c.requires.canon c.requires.absent (c.insert_reserved.ensures.key ∙ sym c.vacant_key-at.ensures.value)
-        c.insert_reserved.ensures.was_vacant c.insert_reserved.ensures.updates.changed c.new.ensures c.insert_reserved.ensures.updates.others
-        c.in_ok-insert.ensures.entries c.insert.ensures.ordered side nothing
-      ∙ ap (λ (s : Slab Shelf). rows_by (λ n. list_at side (get s n)) c.args.shelves.now.places.entries) c.in_ok-reserve.ensures.rest_kept
+    c.insert_reserved.result c.vacant_key-at.result _ is c.requires.canon c.requires.absent (c.insert_reserved.ensures.key ∙ sym c.vacant_key-at.ensures.value)
+    c.insert_reserved.ensures.was_vacant c.insert_reserved.ensures.updates.changed c.new.ensures c.insert_reserved.ensures.updates.others
+    c.in_ok-insert.ensures.entries c.insert.ensures.ordered side nothing
+    ∙ ap (λ (s : Slab Shelf). rows_by (λ n. list_at side (get s n)) c.args.shelves.now.places.entries) c.in_ok-reserve.ensures.rest_kept
 
 pub returns-clause-numbered : goal.returns-clause-numbered
 returns-clause-numbered c =
     let is : IsPlaced (get c.reserve.new.self) c.args.shelves.now.places.entries = rw c.in_ok-reserve.ensures.rest_kept c.requires.shelved
     in let numbered : AreNumbered c.args.names.now (get c.reserve.new.self) c.args.shelves.now.places.entries
-        = rw c.in_ok-reserve.ensures.rest_kept c.requires.numbered
+    = rw c.in_ok-reserve.ensures.rest_kept c.requires.numbered
     in numbered_comes c.args.names.now c.hold_ends-ends.new.names c.hold_ends-ends.ensures.kept c.args.shelves.now.places.entries c.insert.new.self.entries
-        (get c.reserve.new.self) (get c.insert_reserved.new.self) c.args.item c.args.ends c.insert_reserved.result c.vacant_key-at.result _ is.live numbered
-        c.requires.absent (c.insert_reserved.ensures.key ∙ sym c.vacant_key-at.ensures.value) c.insert_reserved.ensures.was_vacant
-        c.insert_reserved.ensures.updates.changed c.insert_reserved.ensures.updates.others c.in_ok-insert.ensures.entries c.requires.same
-        c.hold_ends-ends.ensures.ends
+    (get c.reserve.new.self) (get c.insert_reserved.new.self) c.args.item c.args.ends c.insert_reserved.result c.vacant_key-at.result _ is.live numbered
+    c.requires.absent (c.insert_reserved.ensures.key ∙ sym c.vacant_key-at.ensures.value) c.insert_reserved.ensures.was_vacant
+    c.insert_reserved.ensures.updates.changed c.insert_reserved.ensures.updates.others c.in_ok-insert.ensures.entries c.requires.same
+    c.hold_ends-ends.ensures.ends
 
 pub returns-clause-keys : goal.returns-clause-keys
 returns-clause-keys c =

@@ -17,11 +17,11 @@ none_weaker (Some x) P Q f h = h
 pub returns-clause-found : goal.returns-clause-found
 returns-clause-found g c =
     some_weaker c.first_after.result _ _
-      (λ item f. next_is (λ at. list_at now (get c.args.self.now.slots at)) c.args.self.now.places.entries c.requires.rising
-        (option_copied c.args.item) item.now f) c.first_after.ensures.found
+    (λ item f. next_is (λ at. list_at now (get c.args.self.now.slots at)) c.args.self.now.places.entries c.requires.rising
+    (option_copied c.args.item) item.now f) c.first_after.ensures.found
 
 pub returns-clause-none : goal.returns-clause-none
 returns-clause-none g c =
     none_weaker c.first_after.result _ _
-      (none_is (λ at. list_at now (get c.args.self.now.slots at)) c.args.self.now.places.entries c.requires.rising
-        (option_copied c.args.item)) c.first_after.ensures.none
+    (none_is (λ at. list_at now (get c.args.self.now.slots at)) c.args.self.now.places.entries c.requires.rising
+    (option_copied c.args.item)) c.first_after.ensures.none

@@ -12,20 +12,20 @@ discard_at-requires c =
 pub returns-clause-shelved : goal.returns-clause-shelved
 returns-clause-shelved c =
     let s = some_of (get c.args.self.now.slots c.index-at.result.now)
-        (slot_live (get c.args.self.now.slots) c.args.self.now.places.entries c.args.item.now c.index-at.result.now c.requires.shelved c.index-at.ensures)
+    (slot_live (get c.args.self.now.slots) c.args.self.now.places.entries c.args.item.now c.index-at.result.now c.requires.shelved c.index-at.ensures)
     in shelved c.args.self.now.slots c.discard_at.new.slots c.args.self.now.places.entries c.requires.shelved c.args.item.now c.index-at.result.now
-        c.index-at.ensures s.0 _ s.1 (c.discard_at.ensures s.0 s.1)
+    c.index-at.ensures s.0 _ s.1 (c.discard_at.ensures s.0 s.1)
 
 pub returns-clause-now : goal.returns-clause-now
 returns-clause-now c =
     let s = some_of (get c.args.self.now.slots c.index-at.result.now)
-        (slot_live (get c.args.self.now.slots) c.args.self.now.places.entries c.args.item.now c.index-at.result.now c.requires.shelved c.index-at.ensures)
+    (slot_live (get c.args.self.now.slots) c.args.self.now.places.entries c.args.item.now c.index-at.result.now c.requires.shelved c.index-at.ensures)
     in side_stays c.args.self.now.slots c.discard_at.new.slots c.args.self.now.places.entries c.requires.shelved c.args.item.now c.index-at.result.now
-        c.index-at.ensures s.0 _ s.1 (c.discard_at.ensures s.0 s.1) now refl
+    c.index-at.ensures s.0 _ s.1 (c.discard_at.ensures s.0 s.1) now refl
 
 pub returns-clause-next : goal.returns-clause-next
 returns-clause-next c =
     let s = some_of (get c.args.self.now.slots c.index-at.result.now)
-        (slot_live (get c.args.self.now.slots) c.args.self.now.places.entries c.args.item.now c.index-at.result.now c.requires.shelved c.index-at.ensures)
+    (slot_live (get c.args.self.now.slots) c.args.self.now.places.entries c.args.item.now c.index-at.result.now c.requires.shelved c.index-at.ensures)
     in comes c.args.self.now.slots c.discard_at.new.slots c.args.self.now.places.entries c.requires.shelved c.args.item.now c.index-at.result.now
-        c.index-at.ensures s.0 _ s.1 (c.discard_at.ensures s.0 s.1) next now refl
+    c.index-at.ensures s.0 _ s.1 (c.discard_at.ensures s.0 s.1) next now refl

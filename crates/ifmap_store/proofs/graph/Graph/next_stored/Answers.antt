@@ -16,6 +16,6 @@ pub returns : goal.returns
 returns c =
     rw (← c.self.view_is)
     (λ v h. c.next.ensures ∙ ap (list_at next) (sym c.index.ensures)
-      ∙ handle_of c.self.inside.names (get c.self.inside.shelves.slots) c.self.inside.shelves.places.entries
-        (links_at next c.self.inside.links.items) next c.self.invariant.placed c.self.invariant.used c.self.invariant.numbered c.self.invariant.pool
-        c.self.invariant.keys c.self.invariant.next_side v c.args.seen h)
+    ∙ handle_of c.self.inside.names (get c.self.inside.shelves.slots) c.self.inside.shelves.places.entries
+    (links_at next c.self.inside.links.items) next c.self.invariant.placed c.self.invariant.used c.self.invariant.numbered c.self.invariant.pool
+    c.self.invariant.keys c.self.invariant.next_side v c.args.seen h)

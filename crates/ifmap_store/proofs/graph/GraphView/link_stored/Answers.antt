@@ -16,6 +16,6 @@ pub returns : goal.returns
 returns c =
     rw (← c.self.view_is)
     (λ v h. c.now.ensures ∙ ap (list_at now) (sym c.index.ensures)
-      ∙ handle_of c.self.inside.names (get c.self.inside.shelves.slots) c.self.inside.shelves.places.entries
-        (links_at now c.self.inside.links.items) now c.self.invariant.placed c.self.invariant.used c.self.invariant.numbered c.self.invariant.pool
-        c.self.invariant.keys c.self.invariant.side v c.args.seen h)
+    ∙ handle_of c.self.inside.names (get c.self.inside.shelves.slots) c.self.inside.shelves.places.entries
+    (links_at now c.self.inside.links.items) now c.self.invariant.placed c.self.invariant.used c.self.invariant.numbered c.self.invariant.pool
+    c.self.invariant.keys c.self.invariant.side v c.args.seen h)

@@ -12,7 +12,7 @@ pub returns-in-Some : goal.returns-in-Some
 returns-in-Some c =
     c.now.ensures ∙ ap (list_at now) (sym c.index.ensures)
     ∙ found (λ at. list_at now (get c.args.self.now.slots at)) c.args.item.now c.args.self.now.places.entries c.in-Some.at.now c.requires.rising
-        (sym c.in-Some.ensures.value)
+    (sym c.in-Some.ensures.value)
 
 pub returns-in-None : goal.returns-in-None
 returns-in-None c = absent (λ at. list_at now (get c.args.self.now.slots at)) c.args.item.now c.args.self.now.places.entries (sym c.in-None.ensures.value)
