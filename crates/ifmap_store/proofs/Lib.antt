@@ -18,3 +18,4 @@ pub mod Holding
 pub mod Empty
 pub mod Arriving
 pub mod Departing
+pub mod Changed

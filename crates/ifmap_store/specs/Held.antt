@@ -1,5 +1,5 @@
 -- What contracts see of a graph's inside, and what holds of it.
-use Rattle.std.specs.Prelude.{◌≡◌, ℕ, ◌≤◌, List, [], map, length, Option, None, IsSome, slice_index_or, nat_eq, refl}
+use Rattle.std.specs.Prelude.{◌≡◌, ℕ, ◌<◌, List, [], map, length, Option, None, IsSome, slice_index_or, nat_eq, refl}
 use Rattle.std.specs.Coded.{Coded, code_by, coded×, coded_ℕ, coded_list, coded_option}
 use Rattle.std.specs.List.{AllByRecursion, IsDistinct}
 use Rattle.ifmap_lemmas.specs.Having.{Has}
@@ -7,7 +7,7 @@ use Rattle.ifmap_ident.specs.declared.identifiers.Identifier.{Identifier}
 use Rattle.ifmap_ident.specs.declared.items.Item.{Item}
 use Rattle.ifmap_ident.specs.Identifiers.{identifier_order}
 use Rattle.ifmap_meta.specs.declared.stored.Stored.{Stored}
-use Rattle.ifmap_pool.specs.Holdings.{Holdings, IsPool, holdings_code}
+use Rattle.ifmap_pool.specs.Holdings.{Holdings, IsPool, entry_at, holdings_code}
 use Rattle.ifmap_view.specs.declared.views.LinkSeen.{LinkSeen}
 use Rattle.ifmap_store.specs.declared.shelves.Shelf.{Shelf}
 use Rattle.ifmap_store.specs.Joined.{is_full, joined}
@@ -57,6 +57,6 @@ pub record IsInside (names : Holdings Identifier) (look : ℕ → Option Shelf) 
   pub pool : IsPool identifier_order names
   pub keys : AreIdentifiers names
   pub held : AreHeld names entries
-  pub table : names.limit ≤ length links
+  pub table : (v : ℕ) → IsSome (entry_at names v) → v < length links
   pub side : IsSide now look entries (links_at now links)
   pub next_side : IsSide next look entries (links_at next links)

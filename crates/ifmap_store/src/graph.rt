@@ -25,10 +25,10 @@ use std::sync::ledger::Ledger;
 /// its successor, where a plan is out. Contracts see the list of shelves.
 #[derive(Drop)]
 pub struct Graph {
-    names: Pool<Identifier>,
-    shelves: Shelves,
-    links: Vec<Sided<LinkSeen>>,
-    waiting: u64,
+    pub(crate) names: Pool<Identifier>,
+    pub(crate) shelves: Shelves,
+    pub(crate) links: Vec<Sided<LinkSeen>>,
+    pub(crate) waiting: u64,
 }
 
 impl Model for Graph {

@@ -7,6 +7,7 @@ mod changing;
 pub mod drafts;
 pub mod ends;
 pub mod graph;
+mod holding;
 mod placing;
 pub mod shelves;
 pub mod sided;

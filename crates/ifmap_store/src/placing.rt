@@ -21,7 +21,11 @@ use ifmap_view::LinkSeen;
 use std::alloc::{AllocError as NoMemory, Global};
 
 // Room for so many lists; the new ones are empty. Where memory runs out, some may be there.
-fn lengthen(links: &mut Vec<Sided<LinkSeen>>, alloc: Global, n: u64) -> Result<(), NoMemory>
+pub(crate) fn lengthen(
+    links: &mut Vec<Sided<LinkSeen>>,
+    alloc: Global,
+    n: u64,
+) -> Result<(), NoMemory>
     ensures same { (v : ℕ) → sides_at links.new.items v ≡ sides_at links.old.items v }
     ensures longer { length links.old.items ≤ length links.new.items }
     ensures ok { OnOk result (n ≤ length links.new.items) }
