@@ -8,6 +8,7 @@ pub mod drafts;
 pub mod ends;
 pub mod graph;
 mod holding;
+mod linking;
 mod placing;
 pub mod shelves;
 pub mod sided;
