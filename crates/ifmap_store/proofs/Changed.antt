@@ -85,3 +85,7 @@ inside_comes old new look later es entries links item at shelf is placed used nu
       side_comes next look later at (ap (list_at next) vacant) (ap (list_at next) there ∙ ap next empty) others es entries item (links_at next links) none inserts
       is.next_side;
 }
+
+-- a shelf's item names only identifiers with numbers, so one that is let go by others than items has each of its numbers still
+own_less : (n own k : ℕ) → k ≤ own → (n + own) - k ≡ n + (own - k)
+own_less n own k l = omega (arith, l)

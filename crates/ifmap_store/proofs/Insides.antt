@@ -1,5 +1,5 @@
 -- What a graph's parts owe to whoever views it, on either side.
-use Rattle.std.proofs.Common.{◌≡◌, ◌≢◌, ℕ, Option, Some, None, IsSome, List, [], ◌∷◌, ◌++◌, map, option_map, refl, ap, ◌∙◌, sym, subst, inl, inr}
+use Rattle.std.proofs.Common.{◌≡◌, ◌≢◌, ℕ, ◌+◌, Option, Some, None, IsSome, List, [], ◌∷◌, ◌++◌, map, option_map, refl, ap, ◌∙◌, sym, subst, inl, inr}
 use Rattle.std.proofs.lemmas.Option.{same_Some, none-some}
 use Rattle.std.specs.List.{AllByRecursion, Contains}
 use Rattle.std.specs.declared.cmp.Ordering.TheVariants.{Equal}
@@ -20,7 +20,7 @@ use Rattle.ifmap_store.specs.declared.shelves.Shelf.{Shelf}
 use Rattle.ifmap_store.specs.Held.{IsSide, shown}
 use Rattle.ifmap_store.specs.Joined.{AreJoined, AreSingle, IsNumber, is_full, joined, two_of}
 use Rattle.ifmap_store.specs.Linked.{Ends}
-use Rattle.ifmap_store.specs.Named.{AreEnds, AreIdentifiers, AreNumbered, HasEnds}
+use Rattle.ifmap_store.specs.Named.{AreEnds, AreIdentifiers, AreNumbered, HasEnds, named_by, named_in}
 use Rattle.ifmap_store.specs.Shelved.{IsPlaced, Side, list_at, row_on, rows_by}
 use Rattle.ifmap_store.proofs.Alike.{Tells, alike_equal, equal_alike}
 use Rattle.ifmap_store.proofs.Graphs.{graph_is}
@@ -30,6 +30,11 @@ use Rattle.ifmap_store.proofs.Viewed.{all_has, alone, apart, each, handled, link
 pub rows_shown : (side : Side) (look : ℕ → Option Shelf) (es : List (Item × ℕ)) → rows_by (list_at side) (shown look es) ≡ rows_by (λ at. list_at side (look at)) es
 rows_shown side look [] = refl
 rows_shown side look (e ∷ es) = ap (λ l. map (row_on e.0) (list_at side (look e.1)) ++ l) (rows_shown side look es)
+
+-- and they name the same
+pub named_shown : (look : ℕ → Option Shelf) (es : List (Item × ℕ)) (a : Identifier) → named_in (shown look es) a ≡ named_in es a
+named_shown look [] a = refl
+named_shown look (e ∷ es) a = ap (λ n. named_by e.0 a + n) (named_shown look es a)
 
 there : (o : Option Shelf) (v w : ℕ) → joined o ≡ Some (v, w) → IsSome o
 there None v w j = absurd (none-some _ j)

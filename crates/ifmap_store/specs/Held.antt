@@ -1,5 +1,5 @@
 -- What contracts see of a graph's inside, and what holds of it.
-use Rattle.std.specs.Prelude.{◌≡◌, ℕ, ◌<◌, List, [], map, length, Option, None, IsSome, slice_index_or, nat_eq, refl}
+use Rattle.std.specs.Prelude.{◌≡◌, ℕ, ◌+◌, ◌<◌, List, [], map, length, Option, None, IsSome, slice_index_or, nat_eq, refl}
 use Rattle.std.specs.Coded.{Coded, code_by, coded×, coded_ℕ, coded_list, coded_option}
 use Rattle.std.specs.List.{AllByRecursion, IsDistinct}
 use Rattle.ifmap_lemmas.specs.Having.{Has}
@@ -7,12 +7,12 @@ use Rattle.ifmap_ident.specs.declared.identifiers.Identifier.{Identifier}
 use Rattle.ifmap_ident.specs.declared.items.Item.{Item}
 use Rattle.ifmap_ident.specs.Identifiers.{identifier_order}
 use Rattle.ifmap_meta.specs.declared.stored.Stored.{Stored}
-use Rattle.ifmap_pool.specs.Holdings.{Holdings, IsPool, entry_at, holdings_code}
+use Rattle.ifmap_pool.specs.Holdings.{Holdings, IsHeld, IsPool, entry_at, holdings_code}
 use Rattle.ifmap_view.specs.declared.views.LinkSeen.{LinkSeen}
 use Rattle.ifmap_store.specs.declared.shelves.Shelf.{Shelf}
 use Rattle.ifmap_store.specs.Joined.{is_full, joined}
 use Rattle.ifmap_store.specs.Linked.{AreListed, ats}
-use Rattle.ifmap_store.specs.Named.{AreHeld, AreIdentifiers, AreNumbered}
+use Rattle.ifmap_store.specs.Named.{AreHeld, AreIdentifiers, AreNumbered, named_in}
 use Rattle.ifmap_store.specs.Shelved.{IsList, IsPlaced, Side, list_at}
 use Rattle.ifmap_store.specs.Sides.{Sides, next, now, sides_code}
 
@@ -60,3 +60,7 @@ pub record IsInside (names : Holdings Identifier) (look : ℕ → Option Shelf) 
   pub table : (v : ℕ) → IsSome (entry_at names v) → v < length links
   pub side : IsSide now look entries (links_at now links)
   pub next_side : IsSide next look entries (links_at next links)
+
+-- an identifier is held so often by others than the shelves of the items that name it
+abbrev pub IsOwn : Held → Identifier → ℕ → Type 0
+IsOwn h a own = IsHeld identifier_order h.names a (named_in h.shelves a + own)
