@@ -86,6 +86,6 @@ inside_comes old new look later es entries links item at shelf is placed used nu
       is.next_side;
 }
 
--- a shelf's item names only identifiers with numbers, so one that is let go by others than items has each of its numbers still
+-- what is taken from own holds
 own_less : (n own k : ℕ) → k ≤ own → (n + own) - k ≡ n + (own - k)
 own_less n own k l = omega (arith, l)

@@ -17,6 +17,7 @@ use Rattle.ifmap_meta.specs.declared.stored.Stored.{Stored}
 use Rattle.ifmap_view.specs.Rows.{stored_on}
 use Rattle.ifmap_store.specs.declared.shelves.Shelf.{Shelf}
 use Rattle.ifmap_store.specs.Shelved.{IsPlaced, Side, list_at, row_on, rows_by}
+use Rattle.ifmap_store.specs.Waits.{waits_at, waits_of, waits_there}
 use Rattle.ifmap_store.proofs.Following.{lookup_tied, looked_up}
 use Rattle.ifmap_store.proofs.Ordered.{equal_is, items_total, turned_tie}
 use Rattle.ifmap_store.proofs.Placing.{absent, found, live_at}
@@ -153,3 +154,22 @@ module _ (slots new : Slab Shelf) (es : Entries) (is : IsPlaced (get slots) es) 
     | inl y ↦ rw y (on_item (get slots) (get new) es is item at here (written_elsewhere slots new at t wrote) side x y ∙ ap (list_at side) has ∙ e ∙ was other x y)
     | inr f ↦ rw f (on_others (get slots) (get new) es is item at here (written_elsewhere slots new at t wrote) side x f)
   ]
+
+  -- how often what ties with the item was waited for, and is now; and nothing else is otherwise
+  pub waits_had : (x : Item) → is_at (item_order item) x ≡ true → waits_at (get slots) es x ≡ s.waits
+  waits_had x e =
+      ap (waits_there (get slots)) (tied_there (get slots) (get new) es is item at here (written_elsewhere slots new at t wrote) x e) ∙ ap waits_of had
+
+  pub waits_has : (x : Item) → is_at (item_order item) x ≡ true → waits_at (get new) es x ≡ t.waits
+  waits_has x e =
+      ap (waits_there (get new)) (tied_there (get slots) (get new) es is item at here (written_elsewhere slots new at t wrote) x e) ∙ ap waits_of has
+
+  pub waits_others : (x : Item) → is_at (item_order item) x ≡ false → waits_at (get new) es x ≡ waits_at (get slots) es x
+  waits_others x f = by (lookup (is_at (item_order x)) es) refl
+    where
+      by : (o : Option ℕ) → lookup (is_at (item_order x)) es ≡ o → waits_at (get new) es x ≡ waits_at (get slots) es x
+      by None e = ap (waits_there (get new)) e ∙ sym (ap (waits_there (get slots)) e)
+      by (Some bt) e =
+          ap (waits_there (get new)) e
+          ∙ ap waits_of (written_elsewhere slots new at t wrote bt (other_slot (get slots) (get new) es is item at here (written_elsewhere slots new at t wrote) x bt f e))
+          ∙ sym (ap (waits_there (get slots)) e)

@@ -48,6 +48,10 @@ place_of s item = lookup (is_at (item_order item)) s.places.entries
 abbrev pub HasDraft : Shelves → Item → Type 0
 HasDraft s item = (at : ℕ) × (shelf : Shelf) × (place_of s item ≡ Some at) × (get s.slots at ≡ Some shelf) × IsSome shelf.stored.draft
 
+-- the shelf of an item has none
+abbrev pub HasNoDraft : Shelves → Item → Type 0
+HasNoDraft s item = (at : ℕ) × (shelf : Shelf) × (place_of s item ≡ Some at) × (get s.slots at ≡ Some shelf) × (shelf.stored.draft ≡ None)
+
 -- the shelf of an item is empty, with no draft
 abbrev pub IsBare : Shelves → Item → Type 0
 IsBare s item =

@@ -4,7 +4,9 @@ use Rattle.std.specs.BTreeMap.{is_at}
 use Rattle.std.specs.Map.{lookup}
 use Rattle.ifmap_ident.specs.declared.items.Item.{Item}
 use Rattle.ifmap_ident.specs.Items.{item_order}
+use Rattle.slab.specs.Slab.{get}
 use Rattle.ifmap_store.specs.declared.shelves.Shelf.{Shelf}
+use Rattle.ifmap_store.specs.declared.shelves.Shelves.{Shelves}
 
 -- how often a shelf is waited for
 abbrev pub waits_of : Option Shelf → ℕ
@@ -18,6 +20,9 @@ waits_there look (Some at) = waits_of (look at)
 -- how often an item is waited for
 abbrev pub waits_at : (ℕ → Option Shelf) → List (Item × ℕ) → Item → ℕ
 waits_at look entries x = waits_there look (lookup (is_at (item_order x)) entries)
+
+abbrev pub waits_on : Shelves → Item → ℕ
+waits_on s x = waits_at (get s.slots) s.places.entries x
 
 -- how often an item is among some
 abbrev pub times_in : List Item → Item → ℕ

@@ -1,5 +1,5 @@
 //! What changes in one shelf: its draft, its list, and how often it is waited for. No call takes memory.
-ghost use Rattle.std.specs.Prelude.{◌≡◌, ◌+◌, ◌-◌, ◌<◌, ◌^◌, Bool, List, Some, None, IsSome, if◌then◌else◌};
+ghost use Rattle.std.specs.Prelude.{◌≡◌, ◌+◌, ◌-◌, ◌<◌, ◌^◌, List, ◌∷◌, Some, None, IsSome, if◌then◌else◌};
 ghost use Rattle.std.specs.BTreeMap.{is_at};
 ghost use Rattle.slab.specs.Slab.{get, with_value};
 ghost use Rattle.ifmap_ident.specs.declared.items.Item.{Item};
@@ -7,8 +7,9 @@ ghost use Rattle.ifmap_ident.specs.Items.{item_order};
 ghost use Rattle.ifmap_meta.specs.declared.stored.Stored.{Stored};
 ghost use Rattle.ifmap_view.specs.Rows.{stored_on};
 ghost use Rattle.ifmap_store.specs.declared.shelves.Shelf.{Shelf};
-ghost use Rattle.ifmap_store.specs.Shelved.{AreShelved, HasDraft, place_of, rows_of};
+ghost use Rattle.ifmap_store.specs.Shelved.{AreShelved, HasDraft, HasNoDraft, place_of, rows_of};
 ghost use Rattle.ifmap_store.specs.Sides.{next, now};
+ghost use Rattle.ifmap_store.specs.Waits.{AreWaited, waits_on};
 
 use crate::shelves::{Shelf, Shelves};
 use ifmap_ident::Item;
@@ -124,5 +125,56 @@ impl Shelves {
     {
         let at = self.places[item];
         discard_at(&mut self.slots, at);
+    }
+
+    /// One change more that is out names an item that has a shelf.
+    pub fn wait(&mut self, item: &Item)
+        requires shelved { AreShelved self.old }
+        requires there { IsSome (place_of self.old item.now) }
+        requires few { waits_on self.old item.now < 2 ^ 64 - 1 }
+        ensures shelved { AreShelved self.new }
+        ensures waited { (rest : List Item) → AreWaited rest (waits_on self.old)
+            → AreWaited (item.now ∷ rest) (waits_on self.new) }
+        ensures now { rows_of now self.new ≡ rows_of now self.old }
+        ensures next { rows_of next self.new ≡ rows_of next self.old }
+        ensures places { self.new.places ≡ self.old.places }
+    {
+        let at = self.places[item];
+        wait_at(&mut self.slots, at);
+    }
+
+    /// And one less. Gives how many are left.
+    pub fn unwait(&mut self, item: &Item) -> u64
+        requires shelved { AreShelved self.old }
+        requires there { IsSome (place_of self.old item.now) }
+        requires waited { 0 < waits_on self.old item.now }
+        ensures shelved { AreShelved self.new }
+        ensures left { result ≡ waits_on self.new item.now }
+        ensures waited { (rest : List Item) → AreWaited (item.now ∷ rest) (waits_on self.old)
+            → AreWaited rest (waits_on self.new) }
+        ensures now { rows_of now self.new ≡ rows_of now self.old }
+        ensures next { rows_of next self.new ≡ rows_of next self.old }
+        ensures places { self.new.places ≡ self.old.places }
+    {
+        let at = self.places[item];
+        unwait_at(&mut self.slots, at)
+    }
+
+    /// Exchanges what is stored on an item, whose shelf has no draft, with another list.
+    pub fn exchange(&mut self, item: &Item, list: &mut Vec<Row>)
+        requires shelved { AreShelved self.old }
+        requires drafted { HasNoDraft self.old item.now }
+        ensures shelved { AreShelved self.new }
+        ensures now { (x : Item) → stored_on x (rows_of now self.new)
+            ≡ (if is_at (item_order item.now) x then list.old.items
+            else stored_on x (rows_of now self.old)) }
+        ensures next { (x : Item) → stored_on x (rows_of next self.new)
+            ≡ (if is_at (item_order item.now) x then list.old.items
+            else stored_on x (rows_of next self.old)) }
+        ensures old { list.new.items ≡ stored_on item.now (rows_of now self.old) }
+        ensures places { self.new.places ≡ self.old.places }
+    {
+        let at = self.places[item];
+        exchange_at(&mut self.slots, at, list);
     }
 }
