@@ -3,7 +3,7 @@ use Rattle.std.proofs.Common.{◌≡◌, ◌≢◌, ℕ, zero, suc, ◌<◌, len
 use Rattle.std.proofs.lemmas.Bool.{cases_Bool, cases_eq}
 use Rattle.std.proofs.lemmas.Bool.Decides.{nat_tests}
 use Rattle.std.proofs.lemmas.List.{get_or-set_other, get_or-set_same}
-use Rattle.std.proofs.lemmas.Option.{none-some}
+use Rattle.std.proofs.lemmas.Option.{none-some, same_Some}
 use Rattle.std.specs.BTreeMap.{is_at}
 use Rattle.std.specs.List.{AllByRecursion, IsDistinct}
 use Rattle.std.specs.Map.{lookup}
@@ -173,3 +173,25 @@ module _ (slots new : Slab Shelf) (es : Entries) (is : IsPlaced (get slots) es) 
           ap (waits_there (get new)) e
           ∙ ap waits_of (written_elsewhere slots new at t wrote bt (other_slot (get slots) (get new) es is item at here (written_elsewhere slots new at t wrote) x bt f e))
           ∙ sym (ap (waits_there (get slots)) e)
+
+  -- a write that leaves no draft: those that are left are of other items, and were there
+  pub drafts_left : t.stored.draft ≡ None → (x : Item) → ((bt : ℕ) × (shelf : Shelf) × (lookup (is_at (item_order x)) es ≡ Some bt) × (get new bt ≡ Some shelf)
+      × IsSome shelf.stored.draft)
+      → ((bt : ℕ) × (shelf : Shelf) × (lookup (is_at (item_order x)) es ≡ Some bt) × (get slots bt ≡ Some shelf) × IsSome shelf.stored.draft)
+      × (is_at (item_order item) x ≡ false)
+  drafts_left none x d = elim (cases_Bool (is_at (item_order item) x)) [
+    | inl y ↦ let same : d.0 ≡ at
+        = same_Some _ _ (sym d.2 ∙ tied_there (get slots) (get new) es is item at here (written_elsewhere slots new at t wrote) x y)
+        in let shelf : d.1 ≡ t = same_Some _ _ (sym d.3 ∙ ap (get new) same ∙ has)
+        in let q : IsSome {T = List Stored} None = subst (λ (o : Option (List Stored)). IsSome o) (ap (λ s. s.stored.draft) shelf ∙ none) d.4 in cc
+    | inr f ↦ (
+      (
+        d.0,
+        d.1,
+        d.2,
+        sym (written_elsewhere slots new at t wrote d.0 (other_slot (get slots) (get new) es is item at here (written_elsewhere slots new at t wrote) x d.0 f d.2)) ∙ d.3,
+        d.4,
+      ),
+      f,
+    )
+  ]

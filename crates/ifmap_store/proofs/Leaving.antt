@@ -6,22 +6,21 @@ use Rattle.std.proofs.lemmas.Option.{same_Some, none-some}
 use Rattle.std.specs.BTreeMap.{is_at, insert_entry}
 use Rattle.std.specs.List.{AllByRecursion, IsDistinct}
 use Rattle.std.specs.Map.{lookup, remove_entry}
-use Rattle.std.specs.Cmp.Lexicographic.{slice_cmp}
-use Rattle.std.specs.Ordering.{is_eq, match_ordering, nat_cmp}
+use Rattle.std.specs.Ordering.{is_eq, match_ordering}
 use Rattle.std.specs.declared.cmp.Ordering.{Ordering}
 use Rattle.std.specs.declared.cmp.Ordering.TheVariants.{Less, Equal, Greater}
 use Rattle.ifmap_lemmas.specs.Having.{Has}
 use Rattle.ifmap_ident.specs.declared.identifiers.Identifier.{Identifier}
 use Rattle.ifmap_ident.specs.declared.items.Item.{Item}
 use Rattle.ifmap_ident.specs.declared.items.Item.TheVariants.{One, Pair}
-use Rattle.ifmap_ident.specs.Identifiers.{identifier_bytes, identifier_order}
+use Rattle.ifmap_ident.specs.Identifiers.{identifier_order}
 use Rattle.ifmap_ident.specs.Items.{item_order}
 use Rattle.ifmap_pool.specs.Holdings.{once}
 use Rattle.ifmap_view.specs.Attachments.{IsCanonItem}
 use Rattle.ifmap_store.specs.declared.shelves.Shelf.{Shelf}
 use Rattle.ifmap_store.specs.Named.{named_by, named_in}
 use Rattle.ifmap_store.specs.Shelved.{IsPlaced, Rises, Side, list_at, row_on, rows_by}
-use Rattle.ifmap_store.proofs.Alike.{Alike, one_tied, pair_tied}
+use Rattle.ifmap_store.proofs.Alike.{Alike, one_tied, order_alike, pair_tied}
 use Rattle.ifmap_store.proofs.Ordered.{equal_is}
 use Rattle.ifmap_store.proofs.Placing.{all_left, leaves}
 use Rattle.ifmap_store.proofs.Shelving.{Entries, first_slot, no_slots, slots_first, slots_of}
@@ -46,10 +45,7 @@ comes (e ∷ es) item at a h = by (item_order item e.0) refl (comes es item at a
         in ap (λ n. named_by e.0 a + n) q ∙ swapped (named_by e.0 a) (named_by item a) (named_in es a)
 
 once_alike : (a b other : Identifier) → Alike a b → once identifier_order a other ≡ once identifier_order b other
-once_alike a b other e = by (identifier_bytes a) (identifier_bytes b) (identifier_bytes other) e
-  where
-    by : (x y z : List ℕ) → x ≡ y → cond (is_eq (slice_cmp nat_cmp x z)) 1 0 ≡ cond (is_eq (slice_cmp nat_cmp y z)) 1 0
-    by x y z q = ap (λ l. cond (is_eq (slice_cmp nat_cmp l z)) 1 0) q
+once_alike a b other e = ap (λ o. cond (is_eq o) 1 0) (order_alike b other a other e refl)
 
 -- items that tie name the same
 pub named_tied : (item x : Item) (a : Identifier) → item_order item x ≡ Equal → named_by x a ≡ named_by item a

@@ -19,3 +19,4 @@ pub mod Empty
 pub mod Arriving
 pub mod Departing
 pub mod Changed
+pub mod Bare

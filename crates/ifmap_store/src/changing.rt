@@ -1,5 +1,5 @@
 //! What changes in one shelf: its draft, its list, and how often it is waited for. No call takes memory.
-ghost use Rattle.std.specs.Prelude.{◌≡◌, ◌+◌, ◌-◌, ◌<◌, ◌^◌, List, ◌∷◌, Some, None, IsSome, if◌then◌else◌};
+ghost use Rattle.std.specs.Prelude.{◌≡◌, ◌+◌, ◌-◌, ◌<◌, ◌^◌, List, ◌∷◌, false, Some, None, IsSome, if◌then◌else◌};
 ghost use Rattle.std.specs.BTreeMap.{is_at};
 ghost use Rattle.slab.specs.Slab.{get, with_value};
 ghost use Rattle.ifmap_ident.specs.declared.items.Item.{Item};
@@ -106,6 +106,8 @@ impl Shelves {
             ≡ stored_on x (if is_at (item_order item.now) x then rows_of next self.old
             else rows_of now self.old) }
         ensures old { result.items ≡ stored_on item.now (rows_of now self.old) }
+        ensures drafts { (x : Item) → HasDraft self.new x
+            → HasDraft self.old x × (is_at (item_order item.now) x ≡ false) }
         ensures places { self.new.places ≡ self.old.places }
     {
         let at = self.places[item];
@@ -121,6 +123,8 @@ impl Shelves {
         ensures next { (x : Item) → stored_on x (rows_of next self.new)
             ≡ stored_on x (if is_at (item_order item.now) x then rows_of now self.old
             else rows_of next self.old) }
+        ensures drafts { (x : Item) → HasDraft self.new x
+            → HasDraft self.old x × (is_at (item_order item.now) x ≡ false) }
         ensures places { self.new.places ≡ self.old.places }
     {
         let at = self.places[item];
