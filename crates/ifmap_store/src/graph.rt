@@ -1,7 +1,7 @@
 //! A graph's parts together, and the calls that read them, on either side.
 ghost use Rattle.std.specs.Prelude.{◌≡◌, ℕ, ◌<◌, List, [], Some, None, IfSome, IfNone, Contains, length, option_copied, slice_get};
 ghost use Rattle.ifmap_ident.specs.Identifiers.{identifier_bytes, identifier_order};
-ghost use Rattle.ifmap_pool.specs.Holdings.{IsPool, key_at};
+ghost use Rattle.ifmap_pool.specs.Holdings.{IsPool, Names, key_at};
 ghost use Rattle.ifmap_store.specs.After.{IsNextItem, NoItem};
 ghost use Rattle.ifmap_store.specs.Held.{links_at};
 ghost use Rattle.ifmap_store.specs.Shelved.{list_at, rows_by};
@@ -62,16 +62,26 @@ fn tell_apart(one: &Identifier, other: &Identifier)
     let _ = one.equals(other);
 }
 
+// The key of a number that was found is the identifier.
+fn tell_number(names: &Pool<Identifier>, number: u64, id: &Identifier)
+    requires { Names identifier_order names.now number id.now }
+    ensures { key_at names.now number ≡ Some id.now }
+{
+    match names.key_of(number) {
+        Some(key) => tell_apart(key, id),
+        None => unreachable!(),
+    }
+}
+
 // The number of an identifier, where it is held.
 fn number_in(names: &Pool<Identifier>, id: &Identifier) -> Option<u64>
     ensures found { IfSome result (λ v. key_at names.now v ≡ Some id.now) }
     ensures only { (v : ℕ) → key_at names.now v ≡ Some id.now → result ≡ Some v }
     ensures whole { IsPool identifier_order names.now }
 {
-    let number = names.number_of(id)?;
-    match names.key_of(number) {
-        Some(key) => {
-            tell_apart(key, id);
+    match names.number_of(id) {
+        Some(number) => {
+            tell_number(names, number, id);
             Some(number)
         }
         None => None,
