@@ -20,3 +20,4 @@ pub mod Arriving
 pub mod Departing
 pub mod Changed
 pub mod Bare
+pub mod Beginning

@@ -1,5 +1,6 @@
 //! Shelves by item: what is stored on each, and what is to be.
-ghost use Rattle.std.specs.Prelude.{◌≡◌, List, []};
+ghost use Rattle.std.specs.Prelude.{◌≡◌, ℕ, None, []};
+ghost use Rattle.slab.specs.Slab.{get};
 ghost use Rattle.ifmap_store.specs.Shelved.{AreShelved, rows_of};
 ghost use Rattle.ifmap_store.specs.Sides.{next, now};
 ghost use Rattle.ifmap_view.specs.Rows.{stored_on};
@@ -33,6 +34,7 @@ impl Shelves {
     pub fn new(alloc: Global) -> Shelves
         ensures shelved { AreShelved result }
         ensures empty { result.places.entries ≡ [] }
+        ensures vacant { (at : ℕ) → get result.slots at ≡ None }
     {
         Shelves {
             places: BTreeMap::new(alloc),
