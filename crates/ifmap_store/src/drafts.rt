@@ -1,5 +1,5 @@
 //! A graph as it is after the plan that is out.
-ghost use Rattle.std.specs.Prelude.{◌≡◌, ◌<◌, Some, Contains, length, slice_get};
+ghost use Rattle.std.specs.Prelude.{◌≡◌};
 ghost use Rattle.ifmap_pool.specs.Holdings.{key_at};
 ghost use Rattle.ifmap_store.specs.Held.{links_at};
 ghost use Rattle.ifmap_store.specs.Shelved.{list_at, rows_by};
@@ -62,12 +62,12 @@ impl<'a> View for Draft<'a> {
     }
 
     fn link_count(&self, number: u64) -> u64 {
-        self.graph.next_links(number).len() as u64
+        self.graph.next_count(number)
     }
 
     fn link_at<L: Ledger>(&self, number: u64, i: u64, steps: &mut Steps<L>) -> LinkSeen {
         steps.tick();
-        self.graph.next_links(number)[i as usize]
+        self.graph.next_link(number, i)
     }
 
     fn link_stored(&self, seen: LinkSeen) -> &[Row] {

@@ -108,6 +108,14 @@ fn links_next(links: &[Sided<LinkSeen>], number: u64) -> &[LinkSeen]
     }
 }
 
+// The link at a place.
+fn link_in(links: &[LinkSeen], i: u64) -> LinkSeen
+    requires { i < length links.now }
+    ensures { slice_get links.now i ≡ Some result }
+{
+    links[i as usize]
+}
+
 impl Graph {
     /// Nothing. It takes no memory.
     pub fn new(alloc: Global) -> Graph
@@ -159,10 +167,17 @@ impl Graph {
         self.shelves.next_at(item)
     }
 
-    pub(crate) fn next_links(&self, number: u64) -> &[LinkSeen]
-        ensures { result.now ≡ links_at next self.now.links number }
+    pub(crate) fn next_count(&self, number: u64) -> u64
+        ensures { result ≡ length (links_at next self.now.links number) }
     {
-        links_next(&self.links, number)
+        links_next(&self.links, number).len() as u64
+    }
+
+    pub(crate) fn next_link(&self, number: u64, i: u64) -> LinkSeen
+        requires { i < length (links_at next self.now.links number) }
+        ensures { slice_get (links_at next self.now.links number) i ≡ Some result }
+    {
+        link_in(links_next(&self.links, number), i)
     }
 
     pub(crate) fn next_stored(&self, seen: LinkSeen) -> &[Row]
@@ -201,7 +216,7 @@ impl View for Graph {
 
     fn link_at<L: Ledger>(&self, number: u64, i: u64, steps: &mut Steps<L>) -> LinkSeen {
         steps.tick();
-        links_now(&self.links, number)[i as usize]
+        link_in(links_now(&self.links, number), i)
     }
 
     fn link_stored(&self, seen: LinkSeen) -> &[Row] {
