@@ -134,6 +134,15 @@ module _ (es new : Entries) (look later : ℕ → Option Shelf) (item : Item) (a
       ap (λ x. map (row_on e.0) (list_at side x) ++ rows_by (λ n. list_at side (later n)) es) (others e.1 o.0)
       ∙ ap (λ l. map (row_on e.0) (list_at side (look e.1)) ++ l) (rows_left side es o.1)
 
+  same_slots : (es : Entries) → AllByRecursion (λ e. e.1 ≢ at) es → AllByRecursion (λ e. later e.1 ≡ look e.1) es
+  same_slots [] o = tt
+  same_slots (e ∷ es) o = (others e.1 o.0, same_slots es o.1)
+
+  -- the entries that are left have the shelves that they had
+  pub slots_kept : AllByRecursion (λ e. later e.1 ≡ look e.1) new
+  slots_kept =
+      subst (λ l. AllByRecursion (λ e. later e.1 ≡ look e.1) l) (sym removes) (same_slots (remove_entry (is_at (item_order item)) es) apart_from)
+
   pub stays_placed : IsPlaced later new
   stays_placed = record {
     rising = rises;

@@ -1,15 +1,15 @@
 //! A shelf for an item that has none, with the numbers of its identifiers held.
-ghost use Rattle.std.specs.Prelude.{◌≡◌, ℕ, ◌+◌, ◌<◌, ◌≤◌, ◌^◌, [], None, IsSome, OnOk, OnErr, length};
+ghost use Rattle.std.specs.Prelude.{◌≡◌, ℕ, ◌+◌, ◌<◌, ◌≤◌, ◌^◌, List, [], None, OnOk, OnErr, length};
 ghost use Rattle.slab.specs.Slab.{get};
-ghost use Rattle.ifmap_lemmas.specs.Having.{Has};
 ghost use Rattle.ifmap_ident.specs.declared.identifiers.Identifier.{Identifier};
-ghost use Rattle.ifmap_ident.specs.declared.items.Item.{Item};
 ghost use Rattle.ifmap_ident.specs.Identifiers.{identifier_order};
-ghost use Rattle.ifmap_pool.specs.Holdings.{IsHeld, IsPool, holds_at};
+ghost use Rattle.ifmap_pool.specs.Holdings.{IsHeld, holds_at};
+ghost use Rattle.ifmap_view.specs.declared.views.LinkSeen.{LinkSeen};
 ghost use Rattle.ifmap_view.specs.Attachments.{IsCanonItem};
-ghost use Rattle.ifmap_store.specs.Named.{AreHeld, AreIdentifiers, AreNumbered, named_by, named_in};
-ghost use Rattle.ifmap_store.specs.Shelved.{AreShelved, IsBare, Side, place_of, rows_of};
-ghost use Rattle.ifmap_store.specs.Sides.{next, now};
+ghost use Rattle.ifmap_store.specs.Held.{IsInside};
+ghost use Rattle.ifmap_store.specs.Named.{named_by, named_in};
+ghost use Rattle.ifmap_store.specs.Shelved.{IsBare, Side, place_of, rows_of};
+ghost use Rattle.ifmap_store.specs.Sides.{Sides, next, now};
 ghost use Rattle.ifmap_store.specs.Turning.{sides_at};
 
 use crate::ends::{hold_ends, release_ends};
@@ -45,23 +45,16 @@ pub(crate) fn place_shelf(
     item: Item,
     ends: Item,
 ) -> Result<(), NoMemory>
-    requires shelved { AreShelved shelves.old }
-    requires used { (at : ℕ) → IsSome (get shelves.old.slots at)
-        → (k : Item) × Has shelves.old.places.entries (k, at) }
-    requires numbered { AreNumbered names.old (get shelves.old.slots) shelves.old.places.entries }
-    requires keys { AreIdentifiers names.old }
+    requires inside { (links : List (Sides LinkSeen)) × IsInside names.old (get shelves.old.slots)
+        shelves.old.places.entries links }
     requires canon { IsCanonItem item }
     requires same { ends ≡ item }
     requires absent { place_of shelves.old item ≡ None }
     requires room { 2 ≤ names.old.spare }
     requires few { (v : ℕ) → holds_at names.old v < 2 ^ 64 - 2 }
-    ensures shelved { AreShelved shelves.new }
-    ensures used { (at : ℕ) → IsSome (get shelves.new.slots at)
-        → (k : Item) × Has shelves.new.places.entries (k, at) }
-    ensures numbered { AreNumbered names.new (get shelves.new.slots) shelves.new.places.entries }
-    ensures keys { AreIdentifiers names.new }
-    ensures pool { OnOk result (IsPool identifier_order names.new) }
-    ensures limit { names.new.limit ≡ names.old.limit }
+    ensures inside { (links : List (Sides LinkSeen)) → names.old.limit ≤ length links
+        → IsInside names.old (get shelves.old.slots) shelves.old.places.entries links
+        → IsInside names.new (get shelves.new.slots) shelves.new.places.entries links }
     ensures rows { (side : Side) → side (record { now = []; draft = None }) ≡ []
         → rows_of side shelves.new ≡ rows_of side shelves.old }
     ensures held { OnOk result ((a : Identifier) (count : ℕ)
@@ -83,21 +76,12 @@ pub(crate) fn place_shelf(
 
 // An item's shelf goes, which is empty on both sides, and the numbers of its identifiers are let go.
 pub(crate) fn remove_shelf(names: &mut Pool<Identifier>, shelves: &mut Shelves, item: &Item)
-    requires shelved { AreShelved shelves.old }
-    requires used { (at : ℕ) → IsSome (get shelves.old.slots at)
-        → (k : Item) × Has shelves.old.places.entries (k, at) }
-    requires numbered { AreNumbered names.old (get shelves.old.slots) shelves.old.places.entries }
-    requires pool { IsPool identifier_order names.old }
-    requires keys { AreIdentifiers names.old }
-    requires held { AreHeld names.old shelves.old.places.entries }
+    requires inside { (links : List (Sides LinkSeen)) × IsInside names.old (get shelves.old.slots)
+        shelves.old.places.entries links }
     requires empty { IsBare shelves.old item.now }
-    ensures shelved { AreShelved shelves.new }
-    ensures used { (at : ℕ) → IsSome (get shelves.new.slots at)
-        → (k : Item) × Has shelves.new.places.entries (k, at) }
-    ensures numbered { AreNumbered names.new (get shelves.new.slots) shelves.new.places.entries }
-    ensures pool { IsPool identifier_order names.new }
-    ensures keys { AreIdentifiers names.new }
-    ensures limit { names.new.limit ≡ names.old.limit }
+    ensures inside { (links : List (Sides LinkSeen))
+        → IsInside names.old (get shelves.old.slots) shelves.old.places.entries links
+        → IsInside names.new (get shelves.new.slots) shelves.new.places.entries links }
     ensures own { (a : Identifier) (own : ℕ)
         → IsHeld identifier_order names.old a (named_in shelves.old.places.entries a + own)
         → IsHeld identifier_order names.new a (named_in shelves.new.places.entries a + own) }
