@@ -1,7 +1,9 @@
 -- What a graph's parts owe to whoever views it, on either side.
-use Rattle.std.proofs.Common.{◌≡◌, ◌≢◌, ℕ, ◌+◌, Option, Some, None, IsSome, List, [], ◌∷◌, ◌++◌, map, option_map, refl, ap, ◌∙◌, sym, subst, inl, inr}
+use Rattle.std.proofs.Common.{◌≡◌, ◌≢◌, ℕ, ◌+◌, Bool, Option, Some, None, IsSome, List, [], ◌∷◌, ◌++◌, map, option_map, refl, ap, ◌∙◌, sym, subst, inl, inr}
+use Rattle.std.proofs.lemmas.Bool.{cases_Bool}
 use Rattle.std.proofs.lemmas.Option.{same_Some, none-some}
 use Rattle.std.specs.List.{AllByRecursion, Contains}
+use Rattle.std.specs.Map.{lookup}
 use Rattle.std.specs.declared.cmp.Ordering.TheVariants.{Equal}
 use Rattle.ifmap_lemmas.specs.Having.{Has}
 use Rattle.ifmap_ident.specs.declared.identifiers.Identifier.{Identifier}
@@ -35,6 +37,21 @@ rows_shown side look (e ∷ es) = ap (λ l. map (row_on e.0) (list_at side (look
 pub named_shown : (look : ℕ → Option Shelf) (es : List (Item × ℕ)) (a : Identifier) → named_in (shown look es) a ≡ named_in es a
 named_shown look [] a = refl
 named_shown look (e ∷ es) a = ap (λ n. named_by e.0 a + n) (named_shown look es a)
+
+-- an item is looked up among shelves as among entries
+pub lookup_shown : (look : ℕ → Option Shelf) (test : Item → Bool) (es : List (Item × ℕ)) → lookup test (shown look es) ≡ option_map look (lookup test es)
+lookup_shown look test [] = refl
+lookup_shown look test (e ∷ es) = elim (cases_Bool (test e.0)) [
+  | inl t ↦ rw t refl
+  | inr t ↦ rw t (lookup_shown look test es)
+]
+
+pub no_entry : (look : ℕ → Option Shelf) (test : Item → Bool) (es : List (Item × ℕ)) → lookup test (shown look es) ≡ None → lookup test es ≡ None
+no_entry look test es h = by (lookup test es) (sym (lookup_shown look test es) ∙ h)
+  where
+    by : (o : Option ℕ) → option_map look o ≡ None → o ≡ None
+    by None e = refl
+    by (Some at) e = absurd (none-some _ (sym e))
 
 there : (o : Option Shelf) (v w : ℕ) → joined o ≡ Some (v, w) → IsSome o
 there None v w j = absurd (none-some _ j)
