@@ -195,3 +195,15 @@ module _ (slots new : Slab Shelf) (es : Entries) (is : IsPlaced (get slots) es) 
       f,
     )
   ]
+
+  -- the drafts of other items stay
+  pub drafts_kept : (x : Item) → is_at (item_order item) x ≡ false
+      → ((bt : ℕ) × (shelf : Shelf) × (lookup (is_at (item_order x)) es ≡ Some bt) × (get slots bt ≡ Some shelf) × IsSome shelf.stored.draft)
+      → ((bt : ℕ) × (shelf : Shelf) × (lookup (is_at (item_order x)) es ≡ Some bt) × (get new bt ≡ Some shelf) × IsSome shelf.stored.draft)
+  drafts_kept x f d = (
+    d.0,
+    d.1,
+    d.2,
+    written_elsewhere slots new at t wrote d.0 (other_slot (get slots) (get new) es is item at here (written_elsewhere slots new at t wrote) x d.0 f d.2) ∙ d.3,
+    d.4,
+  )

@@ -108,6 +108,8 @@ impl Shelves {
         ensures old { result.items ≡ stored_on item.now (rows_of now self.old) }
         ensures drafts { (x : Item) → HasDraft self.new x
             → HasDraft self.old x × (is_at (item_order item.now) x ≡ false) }
+        ensures kept { (x : Item) → is_at (item_order item.now) x ≡ false → HasDraft self.old x
+            → HasDraft self.new x }
         ensures places { self.new.places ≡ self.old.places }
     {
         let at = self.places[item];

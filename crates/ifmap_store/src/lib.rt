@@ -12,6 +12,7 @@ mod linking;
 mod placing;
 pub mod shelves;
 pub mod sided;
+mod turning;
 pub mod ways;
 
 pub use drafts::Draft;
@@ -19,4 +20,5 @@ pub use ends::Ends;
 pub use graph::Graph;
 pub use shelves::{Shelf, Shelves};
 pub use sided::Sided;
+pub use turning::Out;
 pub use ways::Way;
