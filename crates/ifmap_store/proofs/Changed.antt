@@ -10,7 +10,7 @@ use Rattle.ifmap_ident.specs.declared.identifiers.Identifier.{Identifier}
 use Rattle.ifmap_ident.specs.declared.items.Item.{Item}
 use Rattle.ifmap_ident.specs.Identifiers.{identifier_order}
 use Rattle.ifmap_ident.specs.Items.{IsItem, item_order}
-use Rattle.ifmap_pool.specs.Holdings.{Holdings, IsHeld, IsPool, Names, entry_at}
+use Rattle.ifmap_pool.specs.Holdings.{Holdings, IsHeld, IsPool, Names, entry_at, once}
 use Rattle.ifmap_view.specs.Attachments.{IsCanonItem}
 use Rattle.ifmap_view.specs.declared.views.LinkSeen.{LinkSeen}
 use Rattle.ifmap_store.specs.declared.shelves.Shelf.{Shelf}
@@ -23,7 +23,7 @@ use Rattle.ifmap_store.proofs.Alike.{alike_equal}
 use Rattle.ifmap_store.proofs.Departing.{numbered_stay}
 use Rattle.ifmap_store.proofs.Empty.{side_comes, side_goes, side_same}
 use Rattle.ifmap_store.proofs.Following.{looked_up}
-use Rattle.ifmap_store.proofs.Holding.{numbered_kept}
+use Rattle.ifmap_store.proofs.Holding.{add_two, numbered_kept}
 use Rattle.ifmap_store.proofs.Leaving.{comes, goes, named_tied, slots_kept, stays_placed, still_used}
 use Rattle.ifmap_store.proofs.Placing.{all_left}
 use Rattle.ifmap_store.proofs.Shelving.{Entries}
@@ -153,3 +153,26 @@ module _ (old new : Holdings Identifier) (look later : ℕ → Option Shelf) (es
       next_side =
           side_goes next look later at (ap (list_at next) there ∙ ap next empty) (ap (list_at next) gone) others es entries item (links_at next links) removes is.next_side;
     }
+
+-- an identifier is held once more
+pub inside_held : (old new : Holdings Identifier) (look : ℕ → Option Shelf) (es : Entries) (links : List (Sides LinkSeen)) (id : Identifier) → IsInside old look es links
+    → ((v : ℕ) (a : Identifier) → Names identifier_order old v a → Names identifier_order new v a) → IsPool identifier_order new → AreIdentifiers new
+    → new.limit ≤ length links
+    → ((a : Identifier) (count : ℕ) → IsHeld identifier_order old a count → IsHeld identifier_order new a (count + once identifier_order id a))
+    → IsInside new look es links
+inside_held old new look es links id is kept pool keys room held = record {
+  placed = is.placed;
+  used = is.used;
+  numbered = numbered_kept old new kept look look es (all_same old old refl look es) is.numbered;
+  pool = pool;
+  keys = keys;
+  held = λ a.
+      let h = is.held a
+      in (
+        h.0 + once identifier_order id a,
+        subst (λ (n : ℕ). IsHeld identifier_order new a n) (add_two (named_in es a) h.0 (once identifier_order id a)) (held a (named_in es a + h.0) h.1),
+      );
+  table = λ v s. let k = pool.below v s in omega (arith, k, room);
+  side = is.side;
+  next_side = is.next_side;
+}
