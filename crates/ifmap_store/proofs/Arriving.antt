@@ -10,8 +10,8 @@ use Rattle.ifmap_ident.specs.Items.{item_order}
 use Rattle.ifmap_pool.specs.Holdings.{Holdings, Names}
 use Rattle.ifmap_store.specs.declared.shelves.Shelf.{Shelf}
 use Rattle.ifmap_store.specs.Named.{AreEnds, AreNumbered, HasEnds}
-use Rattle.ifmap_store.proofs.Holding.{numbered_kept}
-use Rattle.ifmap_store.proofs.Placing.{all_inserted}
+use Rattle.ifmap_store.proofs.Holds.{numbered_kept}
+use Rattle.ifmap_store.proofs.Finding.{all_inserted}
 use Rattle.ifmap_store.proofs.Shelving.{Entries, slots_stay}
 
 pub numbered_comes : (old new : Holdings Identifier) → ((v : ℕ) (a : Identifier) → Names identifier_order old v a → Names identifier_order new v a)

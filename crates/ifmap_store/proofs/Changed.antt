@@ -23,9 +23,9 @@ use Rattle.ifmap_store.proofs.Alike.{alike_equal}
 use Rattle.ifmap_store.proofs.Departing.{numbered_stay}
 use Rattle.ifmap_store.proofs.Empty.{side_comes, side_goes, side_same}
 use Rattle.ifmap_store.proofs.Following.{looked_up}
-use Rattle.ifmap_store.proofs.Holding.{add_two, numbered_kept}
+use Rattle.ifmap_store.proofs.Holds.{add_two, numbered_kept}
 use Rattle.ifmap_store.proofs.Leaving.{comes, goes, named_tied, slots_kept, stays_placed, still_used}
-use Rattle.ifmap_store.proofs.Placing.{all_left}
+use Rattle.ifmap_store.proofs.Finding.{all_left}
 use Rattle.ifmap_store.proofs.Shelving.{Entries}
 use Rattle.ifmap_store.proofs.Viewed.{all_has}
 

@@ -16,7 +16,7 @@ use Rattle.ifmap_store.specs.Held.{IsSide}
 use Rattle.ifmap_store.specs.Joined.{is_full, joined}
 use Rattle.ifmap_store.specs.Linked.{AreListed, Ends, ats}
 use Rattle.ifmap_store.specs.Shelved.{IsList, Side, list_at}
-use Rattle.ifmap_store.proofs.Placing.{all_inserted, all_left}
+use Rattle.ifmap_store.proofs.Finding.{all_inserted, all_left}
 
 no_rows_rise : IsStrictlySortedBy stored_order []
 unfolding IsStrictlySortedBy

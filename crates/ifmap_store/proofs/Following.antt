@@ -17,7 +17,7 @@ use Rattle.ifmap_view.specs.Rows.{stored_on}
 use Rattle.ifmap_store.specs.After.{AreEmpty, IsAbove, IsFirst, IsNextItem, NoItem, entries_after}
 use Rattle.ifmap_store.specs.Shelved.{Rises, rows_by}
 use Rattle.ifmap_store.proofs.Ordered.{equal_is, items_total, less_is}
-use Rattle.ifmap_store.proofs.Placing.{absent, first_rises, found, nothing_rises, rises_first}
+use Rattle.ifmap_store.proofs.Finding.{absent, first_rises, found, nothing_rises, rises_first}
 
 itself : (item : Item) → item_order item item ≡ Equal
 itself item = tied_itself items_total item

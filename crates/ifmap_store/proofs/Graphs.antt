@@ -15,7 +15,7 @@ use Rattle.ifmap_view.specs.declared.attachments.Attachment.{Attachment}
 use Rattle.ifmap_view.specs.Attachments.{IsCanonItem, IsGraph, attachment_order, of_one_key, stored_order}
 use Rattle.ifmap_store.specs.Shelved.{IsList, Rises, row_on, rows_by}
 use Rattle.ifmap_store.proofs.Ordered.{items_total}
-use Rattle.ifmap_store.proofs.Placing.{first_rises}
+use Rattle.ifmap_store.proofs.Finding.{first_rises}
 
 -- each element and those after it
 abbrev Pairwise : {X : Type 0} → (X → X → Type 0) → List X → Type 0

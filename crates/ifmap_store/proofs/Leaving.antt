@@ -22,7 +22,7 @@ use Rattle.ifmap_store.specs.Named.{named_by, named_in}
 use Rattle.ifmap_store.specs.Shelved.{IsPlaced, Rises, Side, list_at, row_on, rows_by}
 use Rattle.ifmap_store.proofs.Alike.{Alike, one_tied, order_alike, pair_tied}
 use Rattle.ifmap_store.proofs.Ordered.{equal_is}
-use Rattle.ifmap_store.proofs.Placing.{all_left, leaves}
+use Rattle.ifmap_store.proofs.Finding.{all_left, leaves}
 use Rattle.ifmap_store.proofs.Shelving.{Entries, first_slot, no_slots, slots_first, slots_of}
 
 swapped : (x y z : ℕ) → x + (y + z) ≡ y + (x + z)

@@ -1,10 +1,10 @@
 pub mod Ordered
-pub mod Placing
+pub mod Finding
 pub mod Shelving
 pub mod Passing
 pub mod Following
 pub mod Alike
-pub mod Changing
+pub mod Writes
 pub mod Graphs
 pub mod Viewed
 pub mod Leaving
@@ -14,7 +14,7 @@ pub mod Turns
 pub mod Going
 pub mod Insides
 pub mod Waited
-pub mod Holding
+pub mod Holds
 pub mod Empty
 pub mod Arriving
 pub mod Departing

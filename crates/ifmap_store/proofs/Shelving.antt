@@ -17,7 +17,7 @@ use Rattle.ifmap_view.specs.Attachments.{IsCanonItem}
 use Rattle.ifmap_store.specs.declared.shelves.Shelf.{Shelf}
 use Rattle.ifmap_store.specs.Shelved.{IsPlaced, Rises, Side, list_at, row_on, rows_by}
 use Rattle.ifmap_store.specs.Sides.{Sides}
-use Rattle.ifmap_store.proofs.Placing.{all_inserted, inserted, nothing_rises}
+use Rattle.ifmap_store.proofs.Finding.{all_inserted, inserted, nothing_rises}
 
 abbrev pub Entries : Type 0
 Entries = List (Item × ℕ)

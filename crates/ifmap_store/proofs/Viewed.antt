@@ -32,7 +32,7 @@ use Rattle.ifmap_store.specs.Linked.{AreListed, Ends, ats}
 use Rattle.ifmap_store.specs.Shelved.{Rises, rows_by}
 use Rattle.ifmap_store.proofs.Alike.{Alike, Tells, one_tied, order_alike, pair_less, pair_more, pair_tied, pairs_tie, same_pair, stored_alike, turned_order}
 use Rattle.ifmap_store.proofs.Following.{entry_hits, lookup_tied, looked_up, stands}
-use Rattle.ifmap_store.proofs.Placing.{absent, found}
+use Rattle.ifmap_store.proofs.Finding.{absent, found}
 
 full_is : {X : Type 0} (xs : List X) → xs ≢ [] → is_full xs ≡ true
 full_is [] n = absurd (n refl)

@@ -1,5 +1,5 @@
 use Rattle.std.proofs.Common.{rules, ◌≡◌, ℕ, inl, arith}
-use Rattle.ifmap_store.proofs.Holding.{still_identifiers}
+use Rattle.ifmap_store.proofs.Holds.{still_identifiers}
 use Rattle.ifmap_store.proofs.ends.hold_ends.Goals as goal
 
 pub hold-requires-clause-room : goal.hold-requires-clause-room

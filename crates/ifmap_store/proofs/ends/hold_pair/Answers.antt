@@ -1,7 +1,7 @@
 use Rattle.std.proofs.Common.{rules, ◌≡◌, ℕ, ◌+◌, inl, arith, subst}
 use Rattle.ifmap_ident.specs.Identifiers.{identifier_order}
 use Rattle.ifmap_pool.specs.Holdings.{IsHeld, once}
-use Rattle.ifmap_store.proofs.Holding.{add_two, still_identifiers}
+use Rattle.ifmap_store.proofs.Holds.{add_two, still_identifiers}
 use Rattle.ifmap_store.proofs.ends.hold_pair.Goals as goal
 
 pub hold-one-requires-clause-room : goal.hold-one-requires-clause-room

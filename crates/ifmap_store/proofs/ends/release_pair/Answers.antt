@@ -2,7 +2,7 @@ use Rattle.std.proofs.Common.{rules, ◌≡◌, ℕ, ◌-◌, Option, Some, IsSo
 use Rattle.ifmap_ident.specs.declared.identifiers.Identifier.{Identifier}
 use Rattle.ifmap_ident.specs.Identifiers.{identifier_order}
 use Rattle.ifmap_pool.specs.Holdings.{IsHeld, once}
-use Rattle.ifmap_store.proofs.Holding.{identifiers_stay, named_before, names_stay, numbers_differ, sub_two}
+use Rattle.ifmap_store.proofs.Holds.{identifiers_stay, named_before, names_stay, numbers_differ, sub_two}
 use Rattle.ifmap_store.proofs.ends.release_pair.Goals as goal
 
 pub release-requires : goal.release-requires

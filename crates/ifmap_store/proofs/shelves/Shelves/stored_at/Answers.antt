@@ -2,7 +2,7 @@ use Rattle.std.proofs.Common.{IsSome, ap, sym, ◌∙◌}
 use Rattle.slab.specs.Slab.{get}
 use Rattle.ifmap_store.specs.Shelved.{list_at}
 use Rattle.ifmap_store.specs.Sides.{now}
-use Rattle.ifmap_store.proofs.Placing.{found, absent, live_at}
+use Rattle.ifmap_store.proofs.Finding.{found, absent, live_at}
 use Rattle.ifmap_store.proofs.shelves.Shelves.stored_at.Goals as goal
 
 pub index-requires : goal.index-requires

@@ -4,7 +4,7 @@ use Rattle.slab.specs.Slab.{get}
 use Rattle.ifmap_store.specs.Shelved.{list_at}
 use Rattle.ifmap_store.specs.Sides.{now}
 use Rattle.ifmap_store.proofs.Following.{next_is, none_is}
-use Rattle.ifmap_store.proofs.after.Shelves.item_after.Goals as goal
+use Rattle.ifmap_store.proofs.shelves.Shelves.item_after.Goals as goal
 
 some_weaker : {X : Type 0} (o : Option X) (P Q : X → Type 0) → ((x : X) → P x → Q x) → IfSome o P → IfSome o Q
 some_weaker None P Q f h = h

@@ -4,9 +4,9 @@ use Rattle.slab.specs.Slab.{get}
 use Rattle.ifmap_store.specs.declared.shelves.Shelf.{Shelf}
 use Rattle.ifmap_store.specs.Shelved.{list_at}
 use Rattle.ifmap_store.specs.Sides.{next, now}
-use Rattle.ifmap_store.proofs.Changing.{shelved, shows}
-use Rattle.ifmap_store.proofs.Placing.{found}
-use Rattle.ifmap_store.proofs.changing.Shelves.exchange.Goals as goal
+use Rattle.ifmap_store.proofs.Writes.{shelved, shows}
+use Rattle.ifmap_store.proofs.Finding.{found}
+use Rattle.ifmap_store.proofs.shelves.Shelves.exchange.Goals as goal
 
 pub index-at-requires : goal.index-at-requires
 index-at-requires c = subst (λ (o : Option ℕ). IsSome o) (sym c.requires.drafted.2) refl

@@ -4,7 +4,7 @@ use Rattle.slab.specs.Slab.{get}
 use Rattle.ifmap_ident.specs.Items.{item_order}
 use Rattle.ifmap_store.proofs.Changed.{roomier}
 use Rattle.ifmap_store.proofs.Insides.{no_entry, rows_shown}
-use Rattle.ifmap_store.proofs.holding.Graph.place.Goals as goal
+use Rattle.ifmap_store.proofs.graph.Graph.place.Goals as goal
 
 pub invariant_of-self-in_err-lengthen : goal.invariant_of-self-in_err-lengthen
 invariant_of-self-in_err-lengthen c =

@@ -1,7 +1,7 @@
 use Rattle.std.proofs.Common.{rules, ◌≡◌, ℕ, ◌+◌, Option, List, length, refl, ap, sym, ◌∙◌, subst, inl, arith}
 use Rattle.slab.specs.Slab.{get}
 use Rattle.ifmap_store.proofs.Changed.{inside_held, roomier}
-use Rattle.ifmap_store.proofs.holding.Graph.hold.Goals as goal
+use Rattle.ifmap_store.proofs.graph.Graph.hold.Goals as goal
 
 pub invariant_of-self-in_err-lengthen : goal.invariant_of-self-in_err-lengthen
 invariant_of-self-in_err-lengthen c =

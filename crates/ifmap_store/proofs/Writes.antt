@@ -20,7 +20,7 @@ use Rattle.ifmap_store.specs.Shelved.{IsPlaced, Side, list_at, row_on, rows_by}
 use Rattle.ifmap_store.specs.Waits.{waits_at, waits_of, waits_there}
 use Rattle.ifmap_store.proofs.Following.{lookup_tied, looked_up}
 use Rattle.ifmap_store.proofs.Ordered.{equal_is, items_total, turned_tie}
-use Rattle.ifmap_store.proofs.Placing.{absent, found, live_at}
+use Rattle.ifmap_store.proofs.Finding.{absent, found, live_at}
 use Rattle.ifmap_store.proofs.Shelving.{Entries, slots_first, slots_of}
 
 -- a slot that no entry has is none of these entries'

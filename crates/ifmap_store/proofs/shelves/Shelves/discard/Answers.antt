@@ -2,8 +2,8 @@ use Rattle.std.proofs.Common.{Some, refl}
 use Rattle.slab.specs.Slab.{get}
 use Rattle.ifmap_store.specs.declared.shelves.Shelf.{Shelf}
 use Rattle.ifmap_store.specs.Sides.{next, now}
-use Rattle.ifmap_store.proofs.Changing.{drafts_left, shelved, comes, side_stays, slot_live, some_of}
-use Rattle.ifmap_store.proofs.changing.Shelves.discard.Goals as goal
+use Rattle.ifmap_store.proofs.Writes.{drafts_left, shelved, comes, side_stays, slot_live, some_of}
+use Rattle.ifmap_store.proofs.shelves.Shelves.discard.Goals as goal
 
 pub discard_at-requires : goal.discard_at-requires
 discard_at-requires c =
