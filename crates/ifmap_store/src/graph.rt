@@ -1,5 +1,5 @@
 //! A graph's parts together, and the calls that read them, on either side.
-ghost use Rattle.std.specs.Prelude.{◌≡◌, ℕ, ◌<◌, List, [], Some, None, IfSome, IfNone, Contains, length, option_copied, slice_get};
+ghost use Rattle.std.specs.Prelude.{◌≡◌, ℕ, ◌+◌, ◌<◌, List, [], Some, None, IfSome, IfNone, Contains, length, option_copied, slice_get};
 ghost use Rattle.ifmap_ident.specs.Identifiers.{identifier_bytes, identifier_order};
 ghost use Rattle.ifmap_pool.specs.Holdings.{IsPool, Names, key_at};
 ghost use Rattle.ifmap_store.specs.After.{IsNextItem, NoItem};

@@ -1,5 +1,5 @@
 //! A shelf for an item that has none, with the numbers of its identifiers held.
-ghost use Rattle.std.specs.Prelude.{◌≡◌, ℕ, ◌+◌, ◌<◌, ◌≤◌, ◌^◌, List, [], None, OnOk, OnErr, length};
+ghost use Rattle.std.specs.Prelude.{◌≡◌, ℕ, ◌+◌, ◌-◌, ◌<◌, ◌≤◌, ◌^◌, List, [], None, OnOk, OnErr, length};
 ghost use Rattle.slab.specs.Slab.{get};
 ghost use Rattle.ifmap_ident.specs.declared.identifiers.Identifier.{Identifier};
 ghost use Rattle.ifmap_ident.specs.Identifiers.{identifier_order};
