@@ -1,0 +1,12 @@
+pub mod Checks
+pub mod FilterTexts
+pub mod Values
+pub mod Tables
+pub mod Items
+pub mod Envelopes
+pub mod RequestForms
+pub mod ReplyForms
+pub mod Means
+pub mod Fit
+pub mod Laws
+pub mod Answers

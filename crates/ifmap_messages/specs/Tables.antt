@@ -1,0 +1,128 @@
+-- Tables of attributes and of children, each for both directions: what an element means by them, and how they are written.
+use Rattle.std.specs.Prelude.{ℕ, ◌+◌, Bool, true, false, not, ◌&&◌, nat_lt, if◌then◌else◌, List, [], ◌∷◌, ◌++◌, codes, length, map, Option, None, Some}
+use Rattle.std.specs.List.{list_all, list_any}
+use Rattle.ifmap_elem.specs.Building.{bare_attribute, bare_element, is_bare}
+use Rattle.ifmap_elem.specs.Chars.{is_white}
+use Rattle.ifmap_elem.specs.declared.elements.Attribute.{Attribute}
+use Rattle.ifmap_elem.specs.declared.elements.Child.{Child, out-Child}
+use Rattle.ifmap_elem.specs.declared.elements.Child as the
+use Rattle.ifmap_elem.specs.declared.elements.Child.TheOpen.{Child-F}
+use Rattle.ifmap_elem.specs.declared.elements.Element.{Element}
+use Rattle.ifmap_reader.specs.declared.scoping.Scope.{Scope}
+use Rattle.ifmap_ident.specs.Parts.{has_only, value_of}
+use Rattle.ifmap_ident.specs.declared.codes.Code.TheVariants.{Failure}
+use Rattle.ifmap_messages.specs.Checks.{Check, check_then, need, pass}
+use Rattle.ifmap_messages.specs.Values.{Field}
+
+-- one thing and others
+pub record Both (X Y : Type 0) : Type 0 where
+  pub first : X
+  pub others : Y
+
+abbrev pub both : {X Y : Type 0} → X → Y → Both X Y
+both x y = record { first = x; others = y }
+
+-- ---- attributes
+
+-- the names of attributes in the order in which they are checked, what an element means by them, and the attributes that are written
+pub record Table (X : Type 0) : Type 1 where
+  pub locals : List (List ℕ)
+  pub reads : Scope → Element → Check X
+  pub writes : List (List ℕ) → X → List Attribute
+
+abbrev pub no_attributes : Table (Unit {0})
+no_attributes = record { locals = []; reads = λ scope e. pass tt; writes = λ spaces none. [] }
+
+-- the attribute, where it has a value
+abbrev pub written_attribute : List ℕ → Option (List ℕ) → List Attribute
+written_attribute local None = []
+written_attribute local (Some value) = bare_attribute local value ∷ []
+
+module _ {X Y : Type 0} where
+  abbrev pub read_both : Field X → Table Y → Scope → Element → Check (Both X Y)
+  read_both field table scope e =
+      check_then (field.reads scope (value_of field.local e)) (λ x. check_then (table.reads scope e) (λ y. pass (both x y)))
+
+  abbrev pub write_both : Field X → Table Y → List (List ℕ) → Both X Y → List Attribute
+  write_both field table spaces values =
+      written_attribute field.local (field.writes spaces values.first) ++ table.writes spaces values.others
+
+  -- an attribute, and then others
+  abbrev pub beside : Field X → Table Y → Table (Both X Y)
+  beside field table =
+      record { locals = field.local ∷ table.locals; reads = read_both field table; writes = write_both field table }
+
+-- ---- children
+
+-- a child, seen as an element or a text
+abbrev pub Part : Type 0
+Part = Child-F Child Element
+
+abbrev pub parts_of : Element → List Part
+parts_of e = map out-Child e.children
+
+-- the part is a text of white space alone
+abbrev pub is_white_part : Part → Bool
+is_white_part (Child-F.Element e) = false
+is_white_part (Child-F.Text text) = list_all is_white text
+
+-- the scope at each path of child indexes from an element on
+abbrev pub Scopes : Type 0
+Scopes = List ℕ → Scope
+
+-- those from its child with that index on
+abbrev pub scopes_below : Scopes → ℕ → Scopes
+scopes_below scopes index path = scopes (index ∷ path)
+
+-- what children mean, and the children that are written
+pub record Content (X : Type 0) : Type 1 where
+  pub reads : Scopes → List Part → Check X
+  pub writes : List (List ℕ) → X → List Child
+
+-- no children but white space
+abbrev pub no_children : Content (Unit {0})
+no_children =
+    record { reads = λ scopes parts. need (list_all is_white_part parts) Failure (pass tt); writes = λ spaces none. [] }
+
+module _ {X : Type 0} where
+  -- elements from left to right, each checked whole, and nothing between them but white space
+  abbrev pub each_element : (ℕ → Element → Check X) → ℕ → List Part → Check (List X)
+  each_element one index [] = pass []
+  each_element one index (Child-F.Element e ∷ parts) =
+      check_then (one index e) (λ x. check_then (each_element one (index + 1) parts) (λ xs. pass (x ∷ xs)))
+  each_element one index (Child-F.Text text ∷ parts) = need (list_all is_white text) Failure (each_element one (index + 1) parts)
+
+  abbrev pub read_list : (Scopes → Element → Check X) → Scopes → List Part → Check (List X)
+  read_list one scopes parts = each_element (λ index e. one (scopes_below scopes index) e) 0 parts
+
+  abbrev pub write_list : (List (List ℕ) → X → Element) → List (List ℕ) → List X → List Child
+  write_list one spaces xs = map (λ x. the.Element (one spaces x)) xs
+
+  -- any number of elements, each of which means one thing
+  abbrev pub list_of : (Scopes → Element → Check X) → (List (List ℕ) → X → Element) → Content (List X)
+  list_of reads writes = record { reads = read_list reads; writes = write_list writes }
+
+-- ---- elements
+
+-- an element by the tables of its attributes and of its children
+pub record Form (A C : Type 0) : Type 1 where
+  pub local : List ℕ
+  pub attributes : Table A
+  pub content : Content C
+
+module _ {A C : Type 0} where
+  -- its attributes in the table's order, then those that are not in the table, then its children; some names are passed over
+  abbrev pub read_form : List (List ℕ) → Form A C → Scopes → Element → Check (Both A C)
+  read_form ignored form scopes e =
+      check_then (form.attributes.reads (scopes []) e)
+      (λ a. need (has_only (ignored ++ form.attributes.locals) e) Failure
+      (check_then (form.content.reads scopes (parts_of e)) (λ c. pass (both a c))))
+
+  -- the element in a namespace
+  abbrev pub write_form : List ℕ → Form A C → List (List ℕ) → A → C → Element
+  write_form space form spaces a c =
+      record {
+        name = record { space = space; local = form.local };
+        attributes = form.attributes.writes spaces a;
+        children = form.content.writes spaces c;
+      }
