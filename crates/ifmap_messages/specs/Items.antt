@@ -13,7 +13,9 @@ use Rattle.ifmap_ident.specs.declared.codes.Code.TheVariants.{Failure, InvalidId
 use Rattle.ifmap_ident.specs.declared.identifiers.Identifier.{Identifier}
 use Rattle.ifmap_ident.specs.declared.items.Item.{Item}
 use Rattle.ifmap_ident.specs.declared.items.Item.TheVariants.{One, Pair}
-use Rattle.ifmap_ident.specs.Canon.{IsCanon, IsInvalid, IsTooLong, IsWrongKind}
+use Rattle.ifmap_ident.specs.declared.errors.IdentError.{IdentError}
+use Rattle.ifmap_ident.specs.declared.errors.IdentError.TheVariants.{WrongKind, Invalid, TooLong, NoMemory}
+use Rattle.ifmap_ident.specs.Canon.{IsAnswer}
 use Rattle.ifmap_ident.specs.Identifiers.{identifier_element, same_identifier}
 use Rattle.ifmap_ident.specs.Items.{identifiers_of, pair_of}
 use Rattle.ifmap_ident.specs.Parts.{has_only}
@@ -26,16 +28,17 @@ use Rattle.ifmap_messages.specs.Tables.{Both, Content, Part, Scopes, both, each_
 
 -- ---- one identifier
 
-abbrev pub IdentifierDefect : Code → Element → Type 0
-IdentifierDefect InvalidIdentifierType e = IsWrongKind e
-IdentifierDefect InvalidIdentifier e = IsInvalid e
-IdentifierDefect IdentifierTooLong e = IsTooLong e
-IdentifierDefect _ e = ⊥
+-- the code of a refusal; want of memory has none
+abbrev pub identifier_code : IdentError → Option Code
+identifier_code WrongKind = Some InvalidIdentifierType
+identifier_code Invalid = Some InvalidIdentifier
+identifier_code TooLong = Some IdentifierTooLong
+identifier_code NoMemory = None
 
 -- an element in an identifier's place
 abbrev pub identifier_check : Element → Check Identifier
-identifier_check e (Ok i) = IsCanon e i
-identifier_check e (Err code) = IdentifierDefect code e
+identifier_check e (Ok i) = IsAnswer e (Ok i)
+identifier_check e (Err code) = (error : IdentError) × (identifier_code error ≡ Some code) × IsAnswer e (Err error)
 
 -- after these identifiers one more may stand: they are not too many, and it is none of them
 abbrev pub may_follow : ℕ → List Identifier → Identifier → Bool

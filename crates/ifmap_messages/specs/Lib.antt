@@ -10,3 +10,4 @@ pub mod Means
 pub mod Fit
 pub mod Laws
 pub mod Answers
+pub mod CheckLaws

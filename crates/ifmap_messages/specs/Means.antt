@@ -1,7 +1,9 @@
 -- What elements and bodies mean, and why they mean nothing.
-use Rattle.std.specs.Prelude.{◌≡◌, ℕ, List, [], Result, Ok, Err}
+use Rattle.std.specs.Prelude.{ℕ, ◌≤◌, List, Result, Ok, Err}
 use Rattle.ifmap_elem.specs.Canonical.{written_bytes}
 use Rattle.ifmap_elem.specs.InScope.{NamesElementAt}
+use Rattle.ifmap_elem.specs.Nesting.{nesting}
+use Rattle.ifmap_elem.specs.Spells.{Spells}
 use Rattle.ifmap_elem.specs.declared.elements.Element.{Element}
 use Rattle.ifmap_elem.specs.declared.readings.Reading.{Reading}
 use Rattle.ifmap_ident.specs.declared.codes.Code.{Code}
@@ -73,12 +75,11 @@ IsReplyAnswer e (Ok reply) = IsReply e reply
 IsReplyAnswer e (Err reply_error.NotAReply) = (reply : Reply) → IsReply e reply → ⊥
 IsReplyAnswer e (Err reply_error.NoMemory) = Unit {0}
 
--- the bytes spell an element that means the reply
+-- the bytes spell an element that means the reply, of few levels
 pub record BytesMeanReply (bytes : List ℕ) (reply : Reply) : Type 0 where
   pub reading : Reading
-  pub path : List ℕ
-  pub inner : Element
-  pub envelope : SpellsEnvelope reply_levels bytes reading path inner
+  pub spelled : Spells bytes reading
+  pub shallow : nesting reading.root ≤ reply_levels
   pub means : IsReply reading.root reply
 
 -- the answer to the bytes of a reply
