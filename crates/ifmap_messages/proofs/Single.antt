@@ -1,0 +1,179 @@
+-- Each check of a request finds one thing at most.
+-- 1. Identifiers and filters by the laws of their crates, metadata by its definition.
+-- 2. Each attribute; then tables, lists of children and forms, over what they are made of.
+-- 3. Identifiers and lists as children.
+-- 4. Operations.
+-- 5. Requests.
+use Rattle.std.proofs.Common.{◌≡◌, ◌⊎◌, ◌∙◌, ◌<◌, ◌+◌, ◌^◌, ◌++◌, ℕ, Bool, true, false, List, [], ◌∷◌, Option, None, Some, Result, Ok, Err, codes, length, min, inl, inr, refl, ap, subst, sym}
+use Rattle.std.specs.Prelude.{IsSome, ◌&&◌, nat_le, nat_lt}
+use Rattle.std.specs.List.{find, list_all}
+use Rattle.std.specs.Str.{bytes_eq}
+use Rattle.ifmap_elem.specs.Building.{is_bare}
+use Rattle.ifmap_elem.specs.Chars.{is_white}
+use Rattle.ifmap_elem.specs.declared.elements.Child.TheOpen.{Child-F}
+use Rattle.ifmap_elem.specs.declared.elements.Element.{Element}
+use Rattle.ifmap_reader.specs.declared.scoping.Scope.{Scope}
+use Rattle.ifmap_filter.specs.declared.filters.Filter.{Filter}
+use Rattle.ifmap_filter.specs.Laws.{OneFilter}
+use Rattle.ifmap_filter.specs.Texts.{Writes}
+use Rattle.ifmap_ident.specs.declared.codes.Code.{Code}
+use Rattle.ifmap_ident.specs.declared.codes.Code.TheVariants.{AccessDenied, Failure, InvalidIdentifier, InvalidIdentifierType, IdentifierTooLong, InvalidMetadata, InvalidSchemaVersion, InvalidSessionID, MetadataTooLong, SearchResultsTooBig, PollResultsTooBig, SystemError}
+use Rattle.ifmap_ident.specs.declared.errors.IdentError.{IdentError}
+use Rattle.ifmap_ident.specs.declared.errors.IdentError.TheVariants.{WrongKind, Invalid, TooLong, NoMemory}
+use Rattle.ifmap_ident.specs.declared.identifiers.Identifier.{Identifier}
+use Rattle.ifmap_ident.specs.declared.kinds.Kind.{Kind}
+use Rattle.ifmap_ident.specs.Canon.{IsAnswer}
+use Rattle.ifmap_ident.specs.Laws.{AreOneAnswer}
+use Rattle.ifmap_ident.specs.Parts.{has_only, value_of}
+use Rattle.ifmap_messages.specs.CheckLaws.{fail_single, if_single, need_single, pass_single, some_single, then_single}
+use Rattle.ifmap_messages.specs.Checks.{Check, IsSingle, check_if, check_then, fail, need, need_some, pass}
+use Rattle.ifmap_messages.specs.Items.{identifier_check, identifier_code, identifiers_check, may_follow}
+use Rattle.ifmap_messages.specs.Tables.{Both, Content, Form, Part, Scopes, Table, beside, both, each_element, list_of, no_attributes, no_children, parts_of, read_both, read_form, read_list, scopes_below}
+use Rattle.ifmap_messages.specs.Values.{Field, filter_check, kind_of, kinds_check, number_of, pieces_of, read_depth, read_filter, read_kinds, read_lifetime, read_limit, read_name, read_size, read_text, trimmed, within}
+
+-- ---- 1. what is not computed
+
+-- the same answers of another type of errors
+same_found : (i j : Identifier) → i ≡ j → ok_of i ≡ ok_of j
+same_found i j e = ap ok_of e
+
+abbrev ok_of : Identifier → Result Identifier Code
+ok_of i = Ok i
+
+module _ (one_answer : (e : Element) (one other : Result Identifier IdentError) → IsAnswer e one → IsAnswer e other → AreOneAnswer one other) where
+  abbrev answer : Identifier → Result Identifier IdentError
+  answer i = Ok i
+
+  abbrev refused : IdentError → Result Identifier IdentError
+  refused error = Err error
+
+  -- want of memory has no code
+  no_code : (code : Code) → identifier_code NoMemory ≡ Some code → ⊥
+  no_code code e = let wrong : identifier_code NoMemory ≡ Some code = e in cc
+
+  not_memory : (error : IdentError) (code : Code) → identifier_code error ≡ Some code → refused error ≡ refused NoMemory → ⊥
+  not_memory error code coded e =
+      let same : error ≡ NoMemory = cc in
+      no_code code (subst (λ (x : IdentError). identifier_code x ≡ Some code) same coded)
+
+  pub identifier_single : (e : Element) → IsSingle (identifier_check e)
+  identifier_single e (Ok i) (Ok j) a b = elim (one_answer e (answer i) (answer j) a b) [
+    | inl same ↦ let s : answer i ≡ answer j = same in let t : i ≡ j = cc in same_found i j t
+    | inr other ↦ elim other [
+      | inl m ↦ let wrong : answer i ≡ refused NoMemory = m in cc
+      | inr m ↦ let wrong : answer j ≡ refused NoMemory = m in cc
+    ]
+  ]
+  identifier_single e (Ok i) (Err c) a b = elim (one_answer e (answer i) (refused b.0) a b.2) [
+    | inl same ↦ let wrong : answer i ≡ refused b.0 = same in cc
+    | inr other ↦ elim other [
+      | inl m ↦ let wrong : answer i ≡ refused NoMemory = m in cc
+      | inr m ↦ absurd (not_memory b.0 c b.1 m)
+    ]
+  ]
+  identifier_single e (Err c) (Ok j) a b = elim (one_answer e (refused a.0) (answer j) a.2 b) [
+    | inl same ↦ let wrong : refused a.0 ≡ answer j = same in cc
+    | inr other ↦ elim other [
+      | inl m ↦ absurd (not_memory a.0 c a.1 m)
+      | inr m ↦ let wrong : answer j ≡ refused NoMemory = m in cc
+    ]
+  ]
+  identifier_single e (Err c) (Err d) a b = elim (one_answer e (refused a.0) (refused b.0) a.2 b.2) [
+    | inl same ↦
+        let s : refused a.0 ≡ refused b.0 = same in
+        let errors : a.0 ≡ b.0 = cc in
+        let coded : Some c ≡ Some d = sym a.1 ∙ (ap identifier_code errors ∙ b.1) in
+        cc
+    | inr other ↦ elim other [
+      | inl m ↦ absurd (not_memory a.0 c a.1 m)
+      | inr m ↦ absurd (not_memory b.0 d b.1 m)
+    ]
+  ]
+
+-- ---- 2. attributes, tables, children, forms
+
+abbrev pub OneOfField : {X : Type 0} → Field X → Type 0
+OneOfField field = (scope : Scope) (text : Option (List ℕ)) → IsSingle (field.reads scope text)
+
+abbrev pub OneOfTable : {X : Type 0} → Table X → Type 0
+OneOfTable table = (scope : Scope) (e : Element) → IsSingle (table.reads scope e)
+
+abbrev pub OneOfContent : {X : Type 0} → Content X → Type 0
+OneOfContent content = (scopes : Scopes) (parts : List Part) → IsSingle (content.reads scopes parts)
+
+module _ {X Y : Type 0} (field : Field X) (table : Table Y) where
+  pub beside_single : OneOfField field → OneOfTable table → OneOfTable (beside field table)
+  beside_single f t scope e =
+      then_single (field.reads scope (value_of field.local e)) (λ x. check_then (table.reads scope e) (λ y. pass (both x y)))
+      (f scope (value_of field.local e))
+      (λ x. then_single (table.reads scope e) (λ y. pass (both x y)) (t scope e) (λ y. pass_single (both x y)))
+
+module _ {A C : Type 0} (ignored : List (List ℕ)) (form : Form A C) where
+  pub form_single : OneOfTable form.attributes → OneOfContent form.content → (scopes : Scopes) (e : Element)
+      → IsSingle (read_form ignored form scopes e)
+  form_single t s scopes e =
+      then_single (form.attributes.reads (scopes []) e)
+      (λ a. need (has_only (ignored ++ form.attributes.locals) e) Failure
+      (check_then (form.content.reads scopes (parts_of e)) (λ c. pass (both a c))))
+      (t (scopes []) e)
+      (λ a. need_single (has_only (ignored ++ form.attributes.locals) e) Failure
+      (check_then (form.content.reads scopes (parts_of e)) (λ c. pass (both a c)))
+      (then_single (form.content.reads scopes (parts_of e)) (λ c. pass (both a c)) (s scopes (parts_of e))
+      (λ c. pass_single (both a c))))
+
+module _ {X : Type 0} (one : ℕ → Element → Check X) (s : (index : ℕ) (e : Element) → IsSingle (one index e)) where
+  pub each_single : (index : ℕ) (parts : List Part) → IsSingle (each_element one index parts)
+  each_single index [] = pass_single []
+  each_single index (Child-F.Element e ∷ parts) =
+      then_single (one index e) (λ x. check_then (each_element one (index + 1) parts) (λ xs. pass (x ∷ xs))) (s index e)
+      (λ x. then_single (each_element one (index + 1) parts) (λ xs. pass (x ∷ xs)) (each_single (index + 1) parts)
+      (λ xs. pass_single (x ∷ xs)))
+  each_single index (Child-F.Text text ∷ parts) =
+      need_single (list_all is_white text) Failure (each_element one (index + 1) parts) (each_single (index + 1) parts)
+
+-- ---- 3. values
+
+read_text_single : (scope : Scope) (text : Option (List ℕ)) → IsSingle (read_text scope text)
+read_text_single scope None = fail_single Failure
+read_text_single scope (Some text) = pass_single text
+
+read_name_single : (scope : Scope) (text : Option (List ℕ)) → IsSingle (read_name scope text)
+read_name_single scope None = fail_single Failure
+read_name_single scope (Some text) =
+    need_single (nat_le 1 (length text) && nat_le (length text) 1000) Failure (pass text) (pass_single text)
+
+read_limit_single : (scope : Scope) (text : Option (List ℕ)) → IsSingle (read_limit scope text)
+read_limit_single scope None = pass_single None
+read_limit_single scope (Some text) =
+    some_single Failure (number_of text) (λ n. pass (Some (within 10_000 5_000_000 n))) (λ n. pass_single (Some (within 10_000 5_000_000 n)))
+
+read_depth_single : (scope : Scope) (text : Option (List ℕ)) → IsSingle (read_depth scope text)
+read_depth_single scope None = pass_single 0
+read_depth_single scope (Some text) =
+    some_single Failure (number_of text) (λ n. need (nat_lt n (2 ^ 32)) Failure (pass n))
+    (λ n. need_single (nat_lt n (2 ^ 32)) Failure (pass n) (pass_single n))
+
+read_size_single : (scope : Scope) (text : Option (List ℕ)) → IsSingle (read_size scope text)
+read_size_single scope None = pass_single 100_000
+read_size_single scope (Some text) =
+    some_single Failure (number_of text) (λ n. pass (min n 50_000_000)) (λ n. pass_single (min n 50_000_000))
+
+read_lifetime_single : (scope : Scope) (text : Option (List ℕ)) → IsSingle (read_lifetime scope text)
+read_lifetime_single scope None = pass_single false
+read_lifetime_single scope (Some text) =
+    if_single (bytes_eq text (codes "session")) (pass false) (check_if (bytes_eq text (codes "forever")) (pass true) (fail Failure))
+    (pass_single false)
+    (if_single (bytes_eq text (codes "forever")) (pass true) (fail Failure) (pass_single true) (fail_single Failure))
+
+kinds_single : (pieces : List (List ℕ)) → IsSingle (kinds_check pieces)
+kinds_single [] = pass_single []
+kinds_single (piece ∷ pieces) =
+    some_single InvalidIdentifierType (kind_of (trimmed piece))
+    (λ kind. check_then (kinds_check pieces) (λ others. pass (kind ∷ others)))
+    (λ kind. then_single (kinds_check pieces) (λ others. pass (kind ∷ others)) (kinds_single pieces)
+    (λ others. pass_single (kind ∷ others)))
+
+read_kinds_single : (scope : Scope) (text : Option (List ℕ)) → IsSingle (read_kinds scope text)
+read_kinds_single scope None = pass_single []
+read_kinds_single scope (Some text) =
+    if_single (list_all is_white text) (pass []) (kinds_check (pieces_of text)) (pass_single []) (kinds_single (pieces_of text))
