@@ -1,9 +1,9 @@
 -- Each check of a request finds one thing at most.
--- 1. Identifiers and filters by the laws of their crates, metadata by its definition.
--- 2. Each attribute; then tables, lists of children and forms, over what they are made of.
--- 3. Identifiers and lists as children.
--- 4. Operations.
--- 5. Requests.
+-- 1. Identifiers by the law of their crate.
+-- 2. Tables, lists of children and forms, over what they are made of.
+-- 3. Each attribute; filters by the law of their crate.
+-- 4. Metadata, by their definition.
+-- 5. Not written: identifiers and lists as children, operations, requests.
 use Rattle.std.proofs.Common.{◌≡◌, ◌⊎◌, ◌∙◌, ◌<◌, ◌+◌, ◌^◌, ◌++◌, ℕ, Bool, true, false, List, [], ◌∷◌, Option, None, Some, Result, Ok, Err, codes, length, min, inl, inr, refl, ap, subst, sym}
 use Rattle.std.specs.Prelude.{IsSome, ◌&&◌, nat_le, nat_lt}
 use Rattle.std.specs.List.{find, list_all}
@@ -27,18 +27,24 @@ use Rattle.ifmap_ident.specs.Laws.{AreOneAnswer}
 use Rattle.ifmap_ident.specs.Parts.{has_only, value_of}
 use Rattle.ifmap_messages.specs.CheckLaws.{fail_single, if_single, need_single, pass_single, some_single, then_single}
 use Rattle.ifmap_messages.specs.Checks.{Check, IsSingle, check_if, check_then, fail, need, need_some, pass}
-use Rattle.ifmap_messages.specs.Items.{identifier_check, identifier_code, identifiers_check, may_follow}
+use Rattle.ifmap_messages.specs.Items.{MetadataDefect, identifier_check, identifier_code, identifiers_check, may_follow}
 use Rattle.ifmap_messages.specs.Tables.{Both, Content, Form, Part, Scopes, Table, beside, both, each_element, list_of, no_attributes, no_children, parts_of, read_both, read_form, read_list, scopes_below}
-use Rattle.ifmap_messages.specs.Values.{Field, filter_check, kind_of, kinds_check, number_of, pieces_of, read_depth, read_filter, read_kinds, read_lifetime, read_limit, read_name, read_size, read_text, trimmed, within}
+use Rattle.ifmap_messages.specs.Values.{Field, FilterDefect, filter_check, kind_of, kinds_check, number_of, pieces_of, read_depth, read_filter, read_kinds, read_lifetime, read_limit, read_name, read_size, read_text, trimmed, within}
 
--- ---- 1. what is not computed
+-- ---- 1. identifiers
+
+abbrev ok_of : Identifier → Result Identifier Code
+ok_of i = Ok i
+
+abbrev filter_found : Filter → Result Filter Code
+filter_found filter = Ok filter
+
+abbrev filter_refused : Code → Result Filter Code
+filter_refused code = Err code
 
 -- the same answers of another type of errors
 same_found : (i j : Identifier) → i ≡ j → ok_of i ≡ ok_of j
 same_found i j e = ap ok_of e
-
-abbrev ok_of : Identifier → Result Identifier Code
-ok_of i = Ok i
 
 module _ (one_answer : (e : Element) (one other : Result Identifier IdentError) → IsAnswer e one → IsAnswer e other → AreOneAnswer one other) where
   abbrev answer : Identifier → Result Identifier IdentError
@@ -90,7 +96,7 @@ module _ (one_answer : (e : Element) (one other : Result Identifier IdentError) 
     ]
   ]
 
--- ---- 2. attributes, tables, children, forms
+-- ---- 2. tables, children, forms
 
 abbrev pub OneOfField : {X : Type 0} → Field X → Type 0
 OneOfField field = (scope : Scope) (text : Option (List ℕ)) → IsSingle (field.reads scope text)
@@ -177,3 +183,56 @@ read_kinds_single : (scope : Scope) (text : Option (List ℕ)) → IsSingle (rea
 read_kinds_single scope None = pass_single []
 read_kinds_single scope (Some text) =
     if_single (list_all is_white text) (pass []) (kinds_check (pieces_of text)) (pass_single []) (kinds_single (pieces_of text))
+
+-- a text that is no filter is Failure and nothing else
+defect_is_failure : (code : Code) (scope : Scope) (text : List ℕ) → FilterDefect code scope text → code ≡ Failure
+defect_is_failure Failure scope text d = refl
+defect_is_failure AccessDenied scope text d = absurd d
+defect_is_failure InvalidIdentifier scope text d = absurd d
+defect_is_failure InvalidIdentifierType scope text d = absurd d
+defect_is_failure IdentifierTooLong scope text d = absurd d
+defect_is_failure InvalidMetadata scope text d = absurd d
+defect_is_failure InvalidSchemaVersion scope text d = absurd d
+defect_is_failure InvalidSessionID scope text d = absurd d
+defect_is_failure MetadataTooLong scope text d = absurd d
+defect_is_failure SearchResultsTooBig scope text d = absurd d
+defect_is_failure PollResultsTooBig scope text d = absurd d
+defect_is_failure SystemError scope text d = absurd d
+
+module _ (one_filter : OneFilter) where
+  filter_and_defect : (scope : Scope) (text : List ℕ) (filter : Filter) (code : Code) → Writes text scope filter
+      → FilterDefect code scope text → ⊥
+  filter_and_defect scope text filter code w d =
+      let none : FilterDefect Failure scope text =
+          subst (λ (c : Code). FilterDefect c scope text) (defect_is_failure code scope text d) d in
+      none filter w
+
+  filter_single : (scope : Scope) (text : List ℕ) → IsSingle (filter_check scope text)
+  filter_single scope text (Ok f) (Ok g) a b = ap filter_found (one_filter text scope f g a b)
+  filter_single scope text (Ok f) (Err d) a b = absurd (filter_and_defect scope text f d a b)
+  filter_single scope text (Err c) (Ok g) a b = absurd (filter_and_defect scope text g c b a)
+  filter_single scope text (Err c) (Err d) a b =
+      ap filter_refused (defect_is_failure c scope text a ∙ sym (defect_is_failure d scope text b))
+
+  pub read_filter_single : (scope : Scope) (text : Option (List ℕ)) → IsSingle (read_filter scope text)
+  read_filter_single scope None = pass_single None
+  read_filter_single scope (Some text) =
+      then_single (filter_check scope text) (λ filter. pass (Some filter)) (filter_single scope text)
+      (λ filter. pass_single (Some filter))
+
+-- ---- 4. metadata
+
+-- metadata have no code but two
+metadata_codes : (code : Code) (e : Element) → MetadataDefect code e → (code ≡ InvalidMetadata) ⊎ (code ≡ MetadataTooLong)
+metadata_codes InvalidMetadata e d = inl refl
+metadata_codes MetadataTooLong e d = inr refl
+metadata_codes AccessDenied e d = absurd d
+metadata_codes Failure e d = absurd d
+metadata_codes InvalidIdentifier e d = absurd d
+metadata_codes InvalidIdentifierType e d = absurd d
+metadata_codes IdentifierTooLong e d = absurd d
+metadata_codes InvalidSchemaVersion e d = absurd d
+metadata_codes InvalidSessionID e d = absurd d
+metadata_codes SearchResultsTooBig e d = absurd d
+metadata_codes PollResultsTooBig e d = absurd d
+metadata_codes SystemError e d = absurd d
