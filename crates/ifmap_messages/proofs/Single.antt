@@ -3,7 +3,8 @@
 -- 2. Tables, lists of children and forms, over what they are made of.
 -- 3. Each attribute; filters by the law of their crate.
 -- 4. Metadata, by their definition.
--- 5. Not written: identifiers and lists as children, operations, requests.
+-- 5. Identifiers and lists as children.
+-- 6. Operations and requests.
 use Rattle.std.proofs.Common.{◌≡◌, ◌⊎◌, ◌∙◌, ◌<◌, ◌+◌, ◌^◌, ◌++◌, ℕ, Bool, true, false, List, [], ◌∷◌, Option, None, Some, Result, Ok, Err, codes, length, min, inl, inr, refl, ap, subst, sym}
 use Rattle.std.specs.Prelude.{IsSome, ◌&&◌, nat_le, nat_lt}
 use Rattle.std.specs.List.{find, list_all}
@@ -27,9 +28,22 @@ use Rattle.ifmap_ident.specs.Laws.{AreOneAnswer}
 use Rattle.ifmap_ident.specs.Parts.{has_only, value_of}
 use Rattle.ifmap_messages.specs.CheckLaws.{fail_single, if_single, need_single, pass_single, some_single, then_single}
 use Rattle.ifmap_messages.specs.Checks.{Check, IsSingle, check_if, check_then, fail, need, need_some, pass}
-use Rattle.ifmap_messages.specs.Items.{MetadataDefect, identifier_check, identifier_code, identifiers_check, may_follow}
-use Rattle.ifmap_messages.specs.Tables.{Both, Content, Form, Part, Scopes, Table, beside, both, each_element, list_of, no_attributes, no_children, parts_of, read_both, read_form, read_list, scopes_below}
-use Rattle.ifmap_messages.specs.Values.{Field, FilterDefect, filter_check, kind_of, kinds_check, number_of, pieces_of, read_depth, read_filter, read_kinds, read_lifetime, read_limit, read_name, read_size, read_text, trimmed, within}
+use Rattle.ifmap_meta.specs.declared.metadata.Cardinality.{Cardinality}
+use Rattle.ifmap_meta.specs.declared.metadata.Metadata.{Metadata}
+use Rattle.ifmap_meta.specs.Cardinality.{cardinality_of}
+use Rattle.ifmap_meta.specs.Keys.{content_bytes}
+use Rattle.ifmap_meta.specs.Whole.{IsMadeOf, content_limit}
+use Rattle.ifmap_ident.specs.declared.items.Item.{Item}
+use Rattle.ifmap_messages.specs.declared.publishing.PublishOp.TheVariants as publish
+use Rattle.ifmap_messages.specs.declared.requests.SubscribeOp.TheVariants as subscribe
+use Rattle.ifmap_messages.specs.declared.requests.Request.{Request}
+use Rattle.ifmap_messages.specs.declared.requests.Request.TheVariants as request
+use Rattle.ifmap_messages.specs.Envelopes.{ifmap_space}
+use Rattle.ifmap_messages.specs.Items.{MetadataDefect, before_list, from_list, identifier_check, identifier_code, identifiers_check, item_content, item_of, list_at, list_check, may_follow, metadata_check, only_identifier, published_content, read_item, read_published, read_start, start_content}
+use Rattle.ifmap_messages.specs.Laws.{OneRequest}
+use Rattle.ifmap_messages.specs.RequestForms.{delete_form, end_form, end_session_form, form_or, named_request_check, new_session_form, notify_form, passed_over, poll_form, publish_form, publish_op_check, publish_op_element, purge_form, renew_form, request_check, search_attributes, search_form, search_from, session_attribute, subscribe_form, subscribe_op_check, subscribe_op_element, subscription_form, update_form}
+use Rattle.ifmap_messages.specs.Tables.{Both, Content, is_white_part, Form, Part, Scopes, Table, beside, both, each_element, list_of, no_attributes, no_children, parts_of, read_both, read_form, read_list, scopes_below}
+use Rattle.ifmap_messages.specs.Values.{Field, FilterDefect, depth_field, filter_check, filter_field, kinds_field, lifetime_field, limit_field, name_field, size_field, text_field, kind_of, kinds_check, number_of, pieces_of, read_depth, read_filter, read_kinds, read_lifetime, read_limit, read_name, read_size, read_text, trimmed, within}
 
 -- ---- 1. identifiers
 
@@ -236,3 +250,156 @@ metadata_codes InvalidSessionID e d = absurd d
 metadata_codes SearchResultsTooBig e d = absurd d
 metadata_codes PollResultsTooBig e d = absurd d
 metadata_codes SystemError e d = absurd d
+
+-- an element that can be published is made in one way
+one_metadata : (e : Element) (m n : Metadata) → IsMadeOf e m → IsMadeOf e n → m ≡ n
+one_metadata e m n a b =
+    let elements : m.element ≡ n.element = a.element ∙ sym b.element in
+    let said : Some m.cardinality ≡ Some n.cardinality = sym a.cardinality ∙ b.cardinality in
+    let cardinalities : m.cardinality ≡ n.cardinality = cc in
+    λ i. record { element = elements i; cardinality = cardinalities i }
+
+abbrev metadata_found : Metadata → Result Metadata Code
+metadata_found metadata = Ok metadata
+
+abbrev metadata_refused : Code → Result Metadata Code
+metadata_refused code = Err code
+
+-- the two causes do not stand together, and neither stands beside metadata
+invalid_has_none : (e : Element) (m : Metadata) → cardinality_of e ≡ None → IsMadeOf e m → ⊥
+invalid_has_none e m none made = let wrong : None ≡ Some m.cardinality = sym none ∙ made.cardinality in cc
+
+defect_has_none : (e : Element) (m : Metadata) (code : Code) → MetadataDefect code e → IsMadeOf e m → ⊥
+defect_has_none e m code d made = elim (metadata_codes code e d) [
+  | inl same ↦
+      let none : MetadataDefect InvalidMetadata e = subst (λ (c : Code). MetadataDefect c e) same d in
+      invalid_has_none e m none made
+  | inr same ↦
+      let long : MetadataDefect MetadataTooLong e = subst (λ (c : Code). MetadataDefect c e) same d in
+      omega (arith, long.1, made.size)
+]
+
+one_defect : (e : Element) (c d : Code) → MetadataDefect c e → MetadataDefect d e → c ≡ d
+one_defect e c d p q = elim (metadata_codes c e p) [
+  | inl invalid ↦ elim (metadata_codes d e q) [
+    | inl same ↦ invalid ∙ sym same
+    | inr long ↦ absurd (apart (subst (λ (c : Code). MetadataDefect c e) invalid p) (subst (λ (d : Code). MetadataDefect d e) long q))
+  ]
+  | inr long ↦ elim (metadata_codes d e q) [
+    | inl invalid ↦ absurd (apart (subst (λ (d : Code). MetadataDefect d e) invalid q) (subst (λ (c : Code). MetadataDefect c e) long p))
+    | inr same ↦ long ∙ sym same
+  ]
+]
+  where
+    apart : MetadataDefect InvalidMetadata e → MetadataDefect MetadataTooLong e → ⊥
+    apart none long =
+        let some : IsSome (cardinality_of e) = long.0 in
+        let wrong : IsSome {X = Cardinality} None = subst (λ (o : Option Cardinality). IsSome o) none some in
+        cc
+
+metadata_single : (e : Element) → IsSingle (metadata_check e)
+metadata_single e (Ok m) (Ok n) a b = ap metadata_found (one_metadata e m n a b)
+metadata_single e (Ok m) (Err d) a b = absurd (defect_has_none e m d b a)
+metadata_single e (Err c) (Ok n) a b = absurd (defect_has_none e n c a b)
+metadata_single e (Err c) (Err d) a b = ap metadata_refused (one_defect e c d a b)
+
+-- ---- 5. children
+
+module _ {X : Type 0} (one : Element → Check X) (s : (e : Element) → IsSingle (one e)) where
+  list_check_single : (e : Element) → IsSingle (list_check one e)
+  list_check_single e =
+      need_single (has_only [] e) Failure (each_element (λ index inner. one inner) 0 (parts_of e))
+      (each_single (λ index inner. one inner) (λ index inner. s inner) 0 (parts_of e))
+
+  list_at_single : (parts : List Part) → IsSingle (list_at one parts)
+  list_at_single [] = pass_single None
+  list_at_single (Child-F.Element e ∷ after) =
+      then_single (list_check one e) (λ xs. need (list_all is_white_part after) Failure (pass (Some xs))) (list_check_single e)
+      (λ xs. need_single (list_all is_white_part after) Failure (pass (Some xs)) (pass_single (Some xs)))
+  list_at_single (Child-F.Text text ∷ after) = fail_single Failure
+
+no_attributes_single : OneOfTable no_attributes
+no_attributes_single scope e = pass_single tt
+
+no_children_single : OneOfContent no_children
+no_children_single scopes parts = need_single (list_all is_white_part parts) Failure (pass tt) (pass_single tt)
+
+module _ (identifier_one : (e : Element) → IsSingle (identifier_check e)) where
+  identifiers_single : (most : ℕ) (before : List Identifier) (parts : List Part) → IsSingle (identifiers_check most before parts)
+  identifiers_single most before [] = pass_single []
+  identifiers_single most before (Child-F.Element e ∷ parts) =
+      then_single (identifier_check e)
+      (λ i. need (may_follow most before i) Failure
+      (check_then (identifiers_check most (before ++ i ∷ []) parts) (λ others. pass (i ∷ others))))
+      (identifier_one e)
+      (λ i. need_single (may_follow most before i) Failure
+      (check_then (identifiers_check most (before ++ i ∷ []) parts) (λ others. pass (i ∷ others)))
+      (then_single (identifiers_check most (before ++ i ∷ []) parts) (λ others. pass (i ∷ others))
+      (identifiers_single most (before ++ i ∷ []) parts) (λ others. pass_single (i ∷ others))))
+  identifiers_single most before (Child-F.Text text ∷ parts) =
+      need_single (list_all is_white text) Failure (identifiers_check most before parts) (identifiers_single most before parts)
+
+  start_single : OneOfContent start_content
+  start_single scopes parts =
+      then_single (identifiers_check 1 [] parts) (λ identifiers. need_some Failure (only_identifier identifiers) (λ i. pass i))
+      (identifiers_single 1 [] parts)
+      (λ identifiers. some_single Failure (only_identifier identifiers) (λ i. pass i) (λ i. pass_single i))
+
+  item_single : OneOfContent item_content
+  item_single scopes parts =
+      then_single (identifiers_check 2 [] parts) (λ identifiers. need_some Failure (item_of identifiers) (λ item. pass item))
+      (identifiers_single 2 [] parts)
+      (λ identifiers. some_single Failure (item_of identifiers) (λ item. pass item) (λ item. pass_single item))
+
+  published_after : List Identifier → Option (List Metadata) → Check (Both Item (List Metadata))
+  published_after identifiers list =
+      need_some Failure (item_of identifiers) (λ item. need_some Failure list (λ elements. pass (both item elements)))
+
+  published_single : OneOfContent published_content
+  unfolding published_after
+  published_single scopes parts =
+      then_single (identifiers_check 2 [] (before_list parts))
+      (λ identifiers. check_then (list_at metadata_check (from_list parts)) (λ list. published_after identifiers list))
+      (identifiers_single 2 [] (before_list parts))
+      (λ identifiers. then_single (list_at metadata_check (from_list parts)) (λ list. published_after identifiers list)
+      (list_at_single metadata_check metadata_single (from_list parts))
+      (λ list. some_single Failure (item_of identifiers) (λ item. need_some Failure list (λ elements. pass (both item elements)))
+      (λ item. some_single Failure list (λ elements. pass (both item elements)) (λ elements. pass_single (both item elements)))))
+
+-- ---- 6. operations and requests
+
+module _ (identifier_one : (e : Element) → IsSingle (identifier_check e)) (one_filter : OneFilter) where
+  search_attributes_single : OneOfTable search_attributes
+  search_attributes_single =
+      beside_single (filter_field (codes "match-links")) (beside depth_field (beside size_field
+      (beside (filter_field (codes "result-filter")) (beside kinds_field no_attributes))))
+      (read_filter_single one_filter)
+      (beside_single depth_field (beside size_field (beside (filter_field (codes "result-filter")) (beside kinds_field no_attributes)))
+      read_depth_single
+      (beside_single size_field (beside (filter_field (codes "result-filter")) (beside kinds_field no_attributes)) read_size_single
+      (beside_single (filter_field (codes "result-filter")) (beside kinds_field no_attributes) (read_filter_single one_filter)
+      (beside_single kinds_field no_attributes read_kinds_single no_attributes_single))))
+
+  publish_op_single : (scopes : Scopes) (e : Element) → IsSingle (publish_op_check scopes e)
+  publish_op_single scopes e =
+      if_single (is_bare update_form.local e.name) updates (check_if (is_bare notify_form.local e.name) notes
+      (check_if (is_bare delete_form.local e.name) deletes (fail Failure)))
+      (then_single (read_form [] update_form scopes e) (λ x. pass (publish.Update x.others.first x.others.others x.first.first))
+      (form_single [] update_form (beside_single lifetime_field no_attributes read_lifetime_single no_attributes_single)
+      (published_single identifier_one) scopes e)
+      (λ x. pass_single (publish.Update x.others.first x.others.others x.first.first)))
+      (if_single (is_bare notify_form.local e.name) notes (check_if (is_bare delete_form.local e.name) deletes (fail Failure))
+      (then_single (read_form [] notify_form scopes e) (λ x. pass (publish.Notify x.others.first x.others.others))
+      (form_single [] notify_form no_attributes_single (published_single identifier_one) scopes e)
+      (λ x. pass_single (publish.Notify x.others.first x.others.others)))
+      (if_single (is_bare delete_form.local e.name) deletes (fail Failure)
+      (then_single (read_form [] delete_form scopes e) (λ x. pass (publish.Delete x.others x.first.first))
+      (form_single [] delete_form (beside_single (filter_field (codes "filter")) no_attributes (read_filter_single one_filter)
+      no_attributes_single) (item_single identifier_one) scopes e)
+      (λ x. pass_single (publish.Delete x.others x.first.first)))
+      (fail_single Failure)))
+    where
+      updates = check_then (read_form [] update_form scopes e) (λ x. pass (publish.Update x.others.first x.others.others x.first.first))
+      notes = check_then (read_form [] notify_form scopes e) (λ x. pass (publish.Notify x.others.first x.others.others))
+      deletes = check_then (read_form [] delete_form scopes e) (λ x. pass (publish.Delete x.others x.first.first))
+
