@@ -4,12 +4,12 @@
 -- 3. Each attribute; filters by the law of their crate.
 -- 4. Metadata, by their definition.
 -- 5. Identifiers and lists as children.
--- 6. Operations and requests.
+-- 6. Operations. The requests are not written yet: each is one more form in a chain.
 use Rattle.std.proofs.Common.{◌≡◌, ◌⊎◌, ◌∙◌, ◌<◌, ◌+◌, ◌^◌, ◌++◌, ℕ, Bool, true, false, List, [], ◌∷◌, Option, None, Some, Result, Ok, Err, codes, length, min, inl, inr, refl, ap, subst, sym}
 use Rattle.std.specs.Prelude.{IsSome, ◌&&◌, nat_le, nat_lt}
 use Rattle.std.specs.List.{find, list_all}
 use Rattle.std.specs.Str.{bytes_eq}
-use Rattle.ifmap_elem.specs.Building.{is_bare}
+use Rattle.ifmap_filter.specs.Holding.{is_name}
 use Rattle.ifmap_elem.specs.Chars.{is_white}
 use Rattle.ifmap_elem.specs.declared.elements.Child.TheOpen.{Child-F}
 use Rattle.ifmap_elem.specs.declared.elements.Element.{Element}
@@ -34,15 +34,13 @@ use Rattle.ifmap_meta.specs.Cardinality.{cardinality_of}
 use Rattle.ifmap_meta.specs.Keys.{content_bytes}
 use Rattle.ifmap_meta.specs.Whole.{IsMadeOf, content_limit}
 use Rattle.ifmap_ident.specs.declared.items.Item.{Item}
+use Rattle.ifmap_messages.specs.declared.publishing.PublishOp.{PublishOp}
 use Rattle.ifmap_messages.specs.declared.publishing.PublishOp.TheVariants as publish
+use Rattle.ifmap_messages.specs.declared.requests.SubscribeOp.{SubscribeOp}
 use Rattle.ifmap_messages.specs.declared.requests.SubscribeOp.TheVariants as subscribe
-use Rattle.ifmap_messages.specs.declared.requests.Request.{Request}
-use Rattle.ifmap_messages.specs.declared.requests.Request.TheVariants as request
-use Rattle.ifmap_messages.specs.Envelopes.{ifmap_space}
 use Rattle.ifmap_messages.specs.Items.{MetadataDefect, before_list, from_list, identifier_check, identifier_code, identifiers_check, item_content, item_of, list_at, list_check, may_follow, metadata_check, only_identifier, published_content, read_item, read_published, read_start, start_content}
-use Rattle.ifmap_messages.specs.Laws.{OneRequest}
-use Rattle.ifmap_messages.specs.RequestForms.{delete_form, end_form, end_session_form, form_or, named_request_check, new_session_form, notify_form, passed_over, poll_form, publish_form, publish_op_check, publish_op_element, purge_form, renew_form, request_check, search_attributes, search_form, search_from, session_attribute, subscribe_form, subscribe_op_check, subscribe_op_element, subscription_form, update_form}
-use Rattle.ifmap_messages.specs.Tables.{Both, Content, is_white_part, Form, Part, Scopes, Table, beside, both, each_element, list_of, no_attributes, no_children, parts_of, read_both, read_form, read_list, scopes_below}
+use Rattle.ifmap_messages.specs.RequestForms.{SearchValues, delete_form, end_form, notify_form, publish_op_check, search_attributes, search_from, subscribe_op_check, subscription_form, update_form}
+use Rattle.ifmap_messages.specs.Tables.{Both, Content, Form, Part, Scopes, Table, beside, both, each_element, form_or, is_white_part, no_attributes, no_children, parts_of, read_form}
 use Rattle.ifmap_messages.specs.Values.{Field, FilterDefect, depth_field, filter_check, filter_field, kinds_field, lifetime_field, limit_field, name_field, size_field, text_field, kind_of, kinds_check, number_of, pieces_of, read_depth, read_filter, read_kinds, read_lifetime, read_limit, read_name, read_size, read_text, trimmed, within}
 
 -- ---- 1. identifiers
@@ -128,18 +126,27 @@ module _ {X Y : Type 0} (field : Field X) (table : Table Y) where
       (f scope (value_of field.local e))
       (λ x. then_single (table.reads scope e) (λ y. pass (both x y)) (t scope e) (λ y. pass_single (both x y)))
 
-module _ {A C : Type 0} (ignored : List (List ℕ)) (form : Form A C) where
-  pub form_single : OneOfTable form.attributes → OneOfContent form.content → (scopes : Scopes) (e : Element)
-      → IsSingle (read_form ignored form scopes e)
+module _ {A C : Type 0} (form : Form A C) where
+  form_single : OneOfTable form.attributes → OneOfContent form.content → (scopes : Scopes) (e : Element)
+      → IsSingle (read_form form scopes e)
   form_single t s scopes e =
       then_single (form.attributes.reads (scopes []) e)
-      (λ a. need (has_only (ignored ++ form.attributes.locals) e) Failure
+      (λ a. need (has_only (form.passed_over ++ form.attributes.locals) e) Failure
       (check_then (form.content.reads scopes (parts_of e)) (λ c. pass (both a c))))
       (t (scopes []) e)
-      (λ a. need_single (has_only (ignored ++ form.attributes.locals) e) Failure
+      (λ a. need_single (has_only (form.passed_over ++ form.attributes.locals) e) Failure
       (check_then (form.content.reads scopes (parts_of e)) (λ c. pass (both a c)))
       (then_single (form.content.reads scopes (parts_of e)) (λ c. pass (both a c)) (s scopes (parts_of e))
       (λ c. pass_single (both a c))))
+
+module _ {X A C : Type 0} (form : Form A C) (make : A → C → X) where
+  pub or_single : OneOfTable form.attributes → OneOfContent form.content → (scopes : Scopes) (e : Element) (other : Check X)
+      → IsSingle other → IsSingle (form_or form make scopes e other)
+  or_single t s scopes e other single =
+      if_single (is_name e.name form.name) (check_then (read_form form scopes e) (λ x. pass (make x.first x.others))) other
+      (then_single (read_form form scopes e) (λ x. pass (make x.first x.others)) (form_single form t s scopes e)
+      (λ x. pass_single (make x.first x.others)))
+      single
 
 module _ {X : Type 0} (one : ℕ → Element → Check X) (s : (index : ℕ) (e : Element) → IsSingle (one index e)) where
   pub each_single : (index : ℕ) (parts : List Part) → IsSingle (each_element one index parts)
@@ -366,7 +373,22 @@ module _ (identifier_one : (e : Element) → IsSingle (identifier_check e)) wher
       (λ list. some_single Failure (item_of identifiers) (λ item. need_some Failure list (λ elements. pass (both item elements)))
       (λ item. some_single Failure list (λ elements. pass (both item elements)) (λ elements. pass_single (both item elements)))))
 
--- ---- 6. operations and requests
+-- ---- 6. operations
+
+abbrev make_update : Both Bool (Unit {0}) → Both Item (List Metadata) → PublishOp
+make_update a published = publish.Update published.first published.others a.first
+
+abbrev make_notify : Unit {0} → Both Item (List Metadata) → PublishOp
+make_notify none published = publish.Notify published.first published.others
+
+abbrev make_delete : Both (Option Filter) (Unit {0}) → Item → PublishOp
+make_delete a item = publish.Delete item a.first
+
+abbrev make_subscription : Both (List ℕ) SearchValues → Identifier → SubscribeOp
+make_subscription a start = subscribe.Update a.first (search_from start a.others)
+
+abbrev make_end : Both (List ℕ) (Unit {0}) → Unit {0} → SubscribeOp
+make_end a none = subscribe.Delete a.first
 
 module _ (identifier_one : (e : Element) → IsSingle (identifier_check e)) (one_filter : OneFilter) where
   search_attributes_single : OneOfTable search_attributes
@@ -380,26 +402,22 @@ module _ (identifier_one : (e : Element) → IsSingle (identifier_check e)) (one
       (beside_single (filter_field (codes "result-filter")) (beside kinds_field no_attributes) (read_filter_single one_filter)
       (beside_single kinds_field no_attributes read_kinds_single no_attributes_single))))
 
+  -- the checks after a form in a chain
   publish_op_single : (scopes : Scopes) (e : Element) → IsSingle (publish_op_check scopes e)
   publish_op_single scopes e =
-      if_single (is_bare update_form.local e.name) updates (check_if (is_bare notify_form.local e.name) notes
-      (check_if (is_bare delete_form.local e.name) deletes (fail Failure)))
-      (then_single (read_form [] update_form scopes e) (λ x. pass (publish.Update x.others.first x.others.others x.first.first))
-      (form_single [] update_form (beside_single lifetime_field no_attributes read_lifetime_single no_attributes_single)
-      (published_single identifier_one) scopes e)
-      (λ x. pass_single (publish.Update x.others.first x.others.others x.first.first)))
-      (if_single (is_bare notify_form.local e.name) notes (check_if (is_bare delete_form.local e.name) deletes (fail Failure))
-      (then_single (read_form [] notify_form scopes e) (λ x. pass (publish.Notify x.others.first x.others.others))
-      (form_single [] notify_form no_attributes_single (published_single identifier_one) scopes e)
-      (λ x. pass_single (publish.Notify x.others.first x.others.others)))
-      (if_single (is_bare delete_form.local e.name) deletes (fail Failure)
-      (then_single (read_form [] delete_form scopes e) (λ x. pass (publish.Delete x.others x.first.first))
-      (form_single [] delete_form (beside_single (filter_field (codes "filter")) no_attributes (read_filter_single one_filter)
-      no_attributes_single) (item_single identifier_one) scopes e)
-      (λ x. pass_single (publish.Delete x.others x.first.first)))
-      (fail_single Failure)))
-    where
-      updates = check_then (read_form [] update_form scopes e) (λ x. pass (publish.Update x.others.first x.others.others x.first.first))
-      notes = check_then (read_form [] notify_form scopes e) (λ x. pass (publish.Notify x.others.first x.others.others))
-      deletes = check_then (read_form [] delete_form scopes e) (λ x. pass (publish.Delete x.others x.first.first))
+      or_single update_form make_update (beside_single lifetime_field no_attributes read_lifetime_single no_attributes_single)
+      (published_single identifier_one) scopes e
+      (form_or notify_form make_notify scopes e (form_or delete_form make_delete scopes e (fail Failure)))
+      (or_single notify_form make_notify no_attributes_single (published_single identifier_one) scopes e
+      (form_or delete_form make_delete scopes e (fail Failure))
+      (or_single delete_form make_delete
+      (beside_single (filter_field (codes "filter")) no_attributes (read_filter_single one_filter) no_attributes_single)
+      (item_single identifier_one) scopes e (fail Failure) (fail_single Failure)))
 
+  subscribe_op_single : (scopes : Scopes) (e : Element) → IsSingle (subscribe_op_check scopes e)
+  subscribe_op_single scopes e =
+      or_single subscription_form make_subscription
+      (beside_single name_field search_attributes read_name_single search_attributes_single) (start_single identifier_one) scopes e
+      (form_or end_form make_end scopes e (fail Failure))
+      (or_single end_form make_end (beside_single name_field no_attributes read_name_single no_attributes_single) no_children_single
+      scopes e (fail Failure) (fail_single Failure))

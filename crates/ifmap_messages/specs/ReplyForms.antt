@@ -19,10 +19,10 @@ use Rattle.ifmap_search.specs.declared.results.PollItem.{PollItem}
 use Rattle.ifmap_search.specs.declared.results.PollItem.TheVariants as poll
 use Rattle.ifmap_messages.specs.declared.replies.Reply.{Reply}
 use Rattle.ifmap_messages.specs.declared.replies.Reply.TheVariants as reply
-use Rattle.ifmap_messages.specs.Checks.{Check, check_if, check_then, fail, need, need_some, pass}
+use Rattle.ifmap_messages.specs.Checks.{Check, check_then, fail, need, need_some, pass}
 use Rattle.ifmap_messages.specs.Envelopes.{IsAlone, IsEnvelope, around, ifmap_space, in_envelope}
 use Rattle.ifmap_messages.specs.Items.{found_content}
-use Rattle.ifmap_messages.specs.Tables.{Both, Content, Form, Part, Scopes, Table, beside, both, each_element, list_of, no_attributes, no_children, parts_of, read_form, write_form}
+use Rattle.ifmap_messages.specs.Tables.{Both, Content, Form, Part, Scopes, bare_form, beside, both, each_element, form_or, list_of, no_attributes, no_children, parts_of, write_form}
 use Rattle.ifmap_messages.specs.Values.{code_field, optional_field, text_field, word_field}
 
 -- ---- entries on one item
@@ -52,14 +52,13 @@ abbrev pub entries_of : List Run → List Entry
 entries_of runs = flat_map (λ run. map (entry_of run.first) run.others) runs
 
 abbrev pub item_form : Form (Unit {0}) Run
-item_form = record { local = codes "resultItem"; attributes = no_attributes; content = found_content }
+item_form = bare_form (codes "resultItem") no_attributes found_content
 
 abbrev pub run_check : Scopes → Element → Check Run
-run_check scopes e =
-    need (is_bare item_form.local e.name) Failure (check_then (read_form [] item_form scopes e) (λ x. pass x.others))
+run_check scopes e = form_or item_form (λ none run. run) scopes e (fail Failure)
 
 abbrev pub run_element : List (List ℕ) → Run → Element
-run_element spaces run = write_form [] item_form spaces tt run
+run_element spaces run = write_form item_form spaces tt run
 
 -- one `resultItem` for the consecutive entries on one item
 abbrev pub read_entries : Scopes → List Part → Check (List Entry)
@@ -111,87 +110,74 @@ abbrev pub Named : Type 0
 Named = Both (List ℕ) (Unit {0})
 
 abbrev pub told_form : List ℕ → Form Named (List Entry)
-told_form local = record { local = local; attributes = beside (text_field (codes "name")) no_attributes; content = entries_content }
+told_form local = bare_form local (beside (text_field (codes "name")) no_attributes) entries_content
 
 abbrev pub told_error_form : Form (Both Code (Both (Option (List ℕ)) (Unit {0}))) (List ℕ)
-told_error_form =
-    record {
-      local = codes "errorResult";
-      attributes = beside code_field (beside (optional_field (codes "name")) no_attributes);
-      content = note_content;
-    }
-
-module _ {X A C : Type 0} where
-  -- what is meant by this form, where the element has its name, and else what another check finds
-  abbrev pub result_or : Form A C → (A → C → X) → Scopes → Element → Check X → Check X
-  result_or form make scopes e other =
-      check_if (is_bare form.local e.name) (check_then (read_form [] form scopes e) (λ x. pass (make x.first x.others))) other
+told_error_form = bare_form (codes "errorResult") (beside code_field (beside (optional_field (codes "name")) no_attributes)) note_content
 
 abbrev pub told_check : Scopes → Element → Check PollItem
 told_check scopes e =
-    result_or (told_form (codes "searchResult")) (λ a entries. poll.Search a.first entries) scopes e
-    (result_or (told_form (codes "updateResult")) (λ a entries. poll.Update a.first entries) scopes e
-    (result_or (told_form (codes "deleteResult")) (λ a entries. poll.Delete a.first entries) scopes e
-    (result_or (told_form (codes "notifyResult")) (λ a entries. poll.Notify a.first entries) scopes e
-    (result_or told_error_form (λ a note. poll.Error a.others.first a.first note) scopes e
+    form_or (told_form (codes "searchResult")) (λ a entries. poll.Search a.first entries) scopes e
+    (form_or (told_form (codes "updateResult")) (λ a entries. poll.Update a.first entries) scopes e
+    (form_or (told_form (codes "deleteResult")) (λ a entries. poll.Delete a.first entries) scopes e
+    (form_or (told_form (codes "notifyResult")) (λ a entries. poll.Notify a.first entries) scopes e
+    (form_or told_error_form (λ a note. poll.Error a.others.first a.first note) scopes e
     (fail Failure)))))
 
 abbrev pub told_element : List (List ℕ) → PollItem → Element
-told_element spaces (poll.Search name entries) = write_form [] (told_form (codes "searchResult")) spaces (both name tt) entries
-told_element spaces (poll.Update name entries) = write_form [] (told_form (codes "updateResult")) spaces (both name tt) entries
-told_element spaces (poll.Delete name entries) = write_form [] (told_form (codes "deleteResult")) spaces (both name tt) entries
-told_element spaces (poll.Notify name entries) = write_form [] (told_form (codes "notifyResult")) spaces (both name tt) entries
-told_element spaces (poll.Error name code note) = write_form [] told_error_form spaces (both code (both name tt)) note
+told_element spaces (poll.Search name entries) = write_form (told_form (codes "searchResult")) spaces (both name tt) entries
+told_element spaces (poll.Update name entries) = write_form (told_form (codes "updateResult")) spaces (both name tt) entries
+told_element spaces (poll.Delete name entries) = write_form (told_form (codes "deleteResult")) spaces (both name tt) entries
+told_element spaces (poll.Notify name entries) = write_form (told_form (codes "notifyResult")) spaces (both name tt) entries
+told_element spaces (poll.Error name code note) = write_form told_error_form spaces (both code (both name tt)) note
 
 -- ---- results
 
 abbrev pub new_session_result : Form (Both (List ℕ) (Both ℕ (Both (List ℕ) (Unit {0})))) (Unit {0})
 new_session_result =
-    record {
-      local = codes "newSessionResult";
-      attributes = beside (text_field (codes "ifmap-publisher-id")) (beside (word_field (codes "max-poll-result-size"))
-          (beside (text_field (codes "session-id")) no_attributes));
-      content = no_children;
-    }
+    bare_form (codes "newSessionResult")
+    (beside (text_field (codes "ifmap-publisher-id")) (beside (word_field (codes "max-poll-result-size"))
+    (beside (text_field (codes "session-id")) no_attributes)))
+    no_children
 
 abbrev pub bare_result : List ℕ → Form (Unit {0}) (Unit {0})
-bare_result local = record { local = local; attributes = no_attributes; content = no_children }
+bare_result local = bare_form local no_attributes no_children
 
 abbrev pub search_result : Form (Unit {0}) (List Entry)
-search_result = record { local = codes "searchResult"; attributes = no_attributes; content = entries_content }
+search_result = bare_form (codes "searchResult") no_attributes entries_content
 
 abbrev pub poll_result : Form (Unit {0}) (List PollItem)
-poll_result = record { local = codes "pollResult"; attributes = no_attributes; content = list_of told_check told_element }
+poll_result = bare_form (codes "pollResult") no_attributes (list_of told_check told_element)
 
 abbrev pub error_result : Form (Both Code (Unit {0})) (List ℕ)
-error_result = record { local = codes "errorResult"; attributes = beside code_field no_attributes; content = note_content }
+error_result = bare_form (codes "errorResult") (beside code_field no_attributes) note_content
 
 -- the reply that a result means
 abbrev pub result_check : Scopes → Element → Check Reply
 result_check scopes e =
-    result_or new_session_result (λ a none. reply.NewSession a.others.others.first a.first a.others.first) scopes e
-    (result_or (bare_result (codes "renewSessionResult")) (λ a none. reply.Renewed) scopes e
-    (result_or (bare_result (codes "endSessionResult")) (λ a none. reply.Ended) scopes e
-    (result_or (bare_result (codes "publishReceived")) (λ a none. reply.Published) scopes e
-    (result_or (bare_result (codes "subscribeReceived")) (λ a none. reply.Subscribed) scopes e
-    (result_or (bare_result (codes "purgePublisherReceived")) (λ a none. reply.Purged) scopes e
-    (result_or search_result (λ a entries. reply.Found entries) scopes e
-    (result_or poll_result (λ a items. reply.Polled items) scopes e
-    (result_or error_result (λ a note. reply.Error a.first note) scopes e
+    form_or new_session_result (λ a none. reply.NewSession a.others.others.first a.first a.others.first) scopes e
+    (form_or (bare_result (codes "renewSessionResult")) (λ a none. reply.Renewed) scopes e
+    (form_or (bare_result (codes "endSessionResult")) (λ a none. reply.Ended) scopes e
+    (form_or (bare_result (codes "publishReceived")) (λ a none. reply.Published) scopes e
+    (form_or (bare_result (codes "subscribeReceived")) (λ a none. reply.Subscribed) scopes e
+    (form_or (bare_result (codes "purgePublisherReceived")) (λ a none. reply.Purged) scopes e
+    (form_or search_result (λ a entries. reply.Found entries) scopes e
+    (form_or poll_result (λ a items. reply.Polled items) scopes e
+    (form_or error_result (λ a note. reply.Error a.first note) scopes e
     (fail Failure)))))))))
 
 -- the result that is written for a reply
 abbrev pub result_element : Reply → Element
 result_element (reply.NewSession session publisher limit) =
-    write_form [] new_session_result [] (both publisher (both limit (both session tt))) tt
-result_element reply.Renewed = write_form [] (bare_result (codes "renewSessionResult")) [] tt tt
-result_element reply.Ended = write_form [] (bare_result (codes "endSessionResult")) [] tt tt
-result_element reply.Published = write_form [] (bare_result (codes "publishReceived")) [] tt tt
-result_element reply.Subscribed = write_form [] (bare_result (codes "subscribeReceived")) [] tt tt
-result_element reply.Purged = write_form [] (bare_result (codes "purgePublisherReceived")) [] tt tt
-result_element (reply.Found entries) = write_form [] search_result [] tt entries
-result_element (reply.Polled items) = write_form [] poll_result [] tt items
-result_element (reply.Error code note) = write_form [] error_result [] (both code tt) note
+    write_form new_session_result [] (both publisher (both limit (both session tt))) tt
+result_element reply.Renewed = write_form (bare_result (codes "renewSessionResult")) [] tt tt
+result_element reply.Ended = write_form (bare_result (codes "endSessionResult")) [] tt tt
+result_element reply.Published = write_form (bare_result (codes "publishReceived")) [] tt tt
+result_element reply.Subscribed = write_form (bare_result (codes "subscribeReceived")) [] tt tt
+result_element reply.Purged = write_form (bare_result (codes "purgePublisherReceived")) [] tt tt
+result_element (reply.Found entries) = write_form search_result [] tt entries
+result_element (reply.Polled items) = write_form poll_result [] tt items
+result_element (reply.Error code note) = write_form error_result [] (both code tt) note
 
 -- the whole envelope of a reply, and its bytes
 abbrev pub reply_element : Reply → Element

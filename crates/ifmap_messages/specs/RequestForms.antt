@@ -2,7 +2,6 @@
 use Rattle.std.specs.Prelude.{ℕ, Bool, List, [], ◌∷◌, ◌++◌, codes, map, Option, None, Some}
 use Rattle.std.specs.List.{flat_map}
 use Rattle.std.specs.Str.{bytes_eq}
-use Rattle.ifmap_elem.specs.Building.{is_bare}
 use Rattle.ifmap_elem.specs.Namespaces.{declared_among}
 use Rattle.ifmap_elem.specs.declared.elements.Element.{Element}
 use Rattle.ifmap_filter.specs.declared.filters.Filter.{Filter}
@@ -18,40 +17,35 @@ use Rattle.ifmap_messages.specs.declared.requests.Request.{Request}
 use Rattle.ifmap_messages.specs.declared.requests.Request.TheVariants as request
 use Rattle.ifmap_messages.specs.declared.requests.SubscribeOp.{SubscribeOp}
 use Rattle.ifmap_messages.specs.declared.requests.SubscribeOp.TheVariants as subscribe
-use Rattle.ifmap_messages.specs.Checks.{Check, check_if, check_then, fail, need, pass}
+use Rattle.ifmap_messages.specs.Checks.{Check, fail, need}
 use Rattle.ifmap_messages.specs.Envelopes.{ifmap_space}
 use Rattle.ifmap_messages.specs.FilterTexts.{filter_names}
 use Rattle.ifmap_messages.specs.Items.{item_content, published_content, start_content}
-use Rattle.ifmap_messages.specs.Tables.{Both, Content, Form, Scopes, Table, beside, both, list_of, no_attributes, no_children, read_form, write_form}
-use Rattle.ifmap_messages.specs.Values.{depth_field, filter_field, kinds_field, lifetime_field, limit_field, name_field, size_field, text_field}
+use Rattle.ifmap_messages.specs.Tables.{Both, Content, Form, Scopes, Table, bare_form, beside, both, form_or, list_of, no_attributes, no_children, write_form}
+use Rattle.ifmap_messages.specs.Values.{Field, depth_field, filter_field, kinds_field, lifetime_field, limit_field, name_field, size_field, text_field}
 
 -- ---- the operations of a publish
 
 abbrev pub update_form : Form (Both Bool (Unit {0})) (Both Item (List Metadata))
-update_form = record { local = codes "update"; attributes = beside lifetime_field no_attributes; content = published_content }
+update_form = bare_form (codes "update") (beside lifetime_field no_attributes) published_content
 
 abbrev pub notify_form : Form (Unit {0}) (Both Item (List Metadata))
-notify_form = record { local = codes "notify"; attributes = no_attributes; content = published_content }
+notify_form = bare_form (codes "notify") no_attributes published_content
 
 abbrev pub delete_form : Form (Both (Option Filter) (Unit {0})) Item
-delete_form =
-    record { local = codes "delete"; attributes = beside (filter_field (codes "filter")) no_attributes; content = item_content }
+delete_form = bare_form (codes "delete") (beside (filter_field (codes "filter")) no_attributes) item_content
 
 abbrev pub publish_op_check : Scopes → Element → Check PublishOp
 publish_op_check scopes e =
-    check_if (is_bare update_form.local e.name)
-    (check_then (read_form [] update_form scopes e)
-    (λ x. pass (publish.Update x.others.first x.others.others x.first.first)))
-    (check_if (is_bare notify_form.local e.name)
-    (check_then (read_form [] notify_form scopes e) (λ x. pass (publish.Notify x.others.first x.others.others)))
-    (check_if (is_bare delete_form.local e.name)
-    (check_then (read_form [] delete_form scopes e) (λ x. pass (publish.Delete x.others x.first.first)))
+    form_or update_form (λ a published. publish.Update published.first published.others a.first) scopes e
+    (form_or notify_form (λ none published. publish.Notify published.first published.others) scopes e
+    (form_or delete_form (λ a item. publish.Delete item a.first) scopes e
     (fail Failure)))
 
 abbrev pub publish_op_element : List (List ℕ) → PublishOp → Element
-publish_op_element spaces (publish.Update item elements forever) = write_form [] update_form spaces (both forever tt) (both item elements)
-publish_op_element spaces (publish.Notify item elements) = write_form [] notify_form spaces tt (both item elements)
-publish_op_element spaces (publish.Delete item filter) = write_form [] delete_form spaces (both filter tt) item
+publish_op_element spaces (publish.Update item elements forever) = write_form update_form spaces (both forever tt) (both item elements)
+publish_op_element spaces (publish.Notify item elements) = write_form notify_form spaces tt (both item elements)
+publish_op_element spaces (publish.Delete item filter) = write_form delete_form spaces (both filter tt) item
 
 -- ---- searches
 
@@ -82,80 +76,71 @@ search_values search =
 -- ---- the operations of a subscribe
 
 abbrev pub subscription_form : Form (Both (List ℕ) SearchValues) Identifier
-subscription_form = record { local = codes "update"; attributes = beside name_field search_attributes; content = start_content }
+subscription_form = bare_form (codes "update") (beside name_field search_attributes) start_content
 
 abbrev pub end_form : Form (Both (List ℕ) (Unit {0})) (Unit {0})
-end_form = record { local = codes "delete"; attributes = beside name_field no_attributes; content = no_children }
+end_form = bare_form (codes "delete") (beside name_field no_attributes) no_children
 
 abbrev pub subscribe_op_check : Scopes → Element → Check SubscribeOp
 subscribe_op_check scopes e =
-    check_if (is_bare subscription_form.local e.name)
-    (check_then (read_form [] subscription_form scopes e)
-    (λ x. pass (subscribe.Update x.first.first (search_from x.others x.first.others))))
-    (check_if (is_bare end_form.local e.name)
-    (check_then (read_form [] end_form scopes e) (λ x. pass (subscribe.Delete x.first.first)))
+    form_or subscription_form (λ a start. subscribe.Update a.first (search_from start a.others)) scopes e
+    (form_or end_form (λ a none. subscribe.Delete a.first) scopes e
     (fail Failure))
 
 abbrev pub subscribe_op_element : List (List ℕ) → SubscribeOp → Element
 subscribe_op_element spaces (subscribe.Update name search) =
-    write_form [] subscription_form spaces (both name (search_values search)) search.start
-subscribe_op_element spaces (subscribe.Delete name) = write_form [] end_form spaces (both name tt) tt
+    write_form subscription_form spaces (both name (search_values search)) search.start
+subscribe_op_element spaces (subscribe.Delete name) = write_form end_form spaces (both name tt) tt
 
 -- ---- requests
+
+module _ {A C : Type 0} where
+  -- a form of a request, beside whose attributes `validation` is passed over
+  abbrev pub asking_form : List ℕ → Table A → Content C → Form A C
+  asking_form local attributes content =
+      record {
+        name = record { space = ifmap_space; local = local };
+        passed_over = codes "validation" ∷ [];
+        attributes = attributes;
+        content = content;
+      }
 
 -- what a request carries that has the id of a session alone
 abbrev pub WithSession : Type 0
 WithSession = Both (List ℕ) (Unit {0})
 
-abbrev pub session_attribute : Table WithSession
-session_attribute = beside (text_field (codes "session-id")) no_attributes
+abbrev pub session_field : Field (List ℕ)
+session_field = text_field (codes "session-id")
 
-abbrev pub session_form : List ℕ → Form WithSession (Unit {0})
-session_form local = record { local = local; attributes = session_attribute; content = no_children }
+abbrev pub session_attribute : Table WithSession
+session_attribute = beside session_field no_attributes
 
 abbrev pub new_session_form : Form (Both (Option ℕ) (Unit {0})) (Unit {0})
-new_session_form = record { local = codes "newSession"; attributes = beside limit_field no_attributes; content = no_children }
+new_session_form = asking_form (codes "newSession") (beside limit_field no_attributes) no_children
 
 abbrev pub renew_form : Form WithSession (Unit {0})
-renew_form = session_form (codes "renewSession")
+renew_form = asking_form (codes "renewSession") session_attribute no_children
 
 abbrev pub end_session_form : Form WithSession (Unit {0})
-end_session_form = session_form (codes "endSession")
+end_session_form = asking_form (codes "endSession") session_attribute no_children
 
 abbrev pub poll_form : Form WithSession (Unit {0})
-poll_form = session_form (codes "poll")
+poll_form = asking_form (codes "poll") session_attribute no_children
 
 abbrev pub publish_form : Form WithSession (List PublishOp)
-publish_form =
-    record { local = codes "publish"; attributes = session_attribute; content = list_of publish_op_check publish_op_element }
+publish_form = asking_form (codes "publish") session_attribute (list_of publish_op_check publish_op_element)
 
 abbrev pub search_form : Form (Both (List ℕ) SearchValues) Identifier
-search_form =
-    record { local = codes "search"; attributes = beside (text_field (codes "session-id")) search_attributes; content = start_content }
+search_form = asking_form (codes "search") (beside session_field search_attributes) start_content
 
 abbrev pub subscribe_form : Form WithSession (List SubscribeOp)
-subscribe_form =
-    record { local = codes "subscribe"; attributes = session_attribute; content = list_of subscribe_op_check subscribe_op_element }
+subscribe_form = asking_form (codes "subscribe") session_attribute (list_of subscribe_op_check subscribe_op_element)
 
-abbrev pub purge_form : Form (Both (List ℕ) (Both (List ℕ) (Unit {0}))) (Unit {0})
-purge_form =
-    record {
-      local = codes "purgePublisher";
-      attributes = beside (text_field (codes "session-id")) (beside (text_field (codes "ifmap-publisher-id")) no_attributes);
-      content = no_children;
-    }
+abbrev pub publisher_field : Field (List ℕ)
+publisher_field = text_field (codes "ifmap-publisher-id")
 
--- an attribute that a request element may have beside those of its table
-abbrev pub passed_over : List (List ℕ)
-passed_over = codes "validation" ∷ []
-
-module _ {A C : Type 0} where
-  -- the request of this form, where the element has its name, and else what another check finds
-  abbrev pub form_or : Form A C → (A → C → Request) → Scopes → Element → Check Request → Check Request
-  form_or form make scopes e other =
-      check_if (bytes_eq e.name.local form.local)
-      (check_then (read_form passed_over form scopes e) (λ x. pass (make x.first x.others)))
-      other
+abbrev pub purge_form : Form (Both (List ℕ) WithSession) (Unit {0})
+purge_form = asking_form (codes "purgePublisher") (beside session_field (beside publisher_field no_attributes)) no_children
 
 -- the request of an element in the namespace of requests, by its name
 abbrev pub named_request_check : Scopes → Element → Check Request
@@ -177,16 +162,16 @@ request_check scopes e = need (bytes_eq e.name.space ifmap_space) InvalidSchemaV
 
 -- the element of a request, whose filters name their namespaces by these
 abbrev pub request_element_in : List (List ℕ) → Request → Element
-request_element_in spaces (request.NewSession limit) = write_form ifmap_space new_session_form spaces (both limit tt) tt
-request_element_in spaces (request.RenewSession session) = write_form ifmap_space renew_form spaces (both session tt) tt
-request_element_in spaces (request.EndSession session) = write_form ifmap_space end_session_form spaces (both session tt) tt
-request_element_in spaces (request.Publish session ops) = write_form ifmap_space publish_form spaces (both session tt) ops
+request_element_in spaces (request.NewSession limit) = write_form new_session_form spaces (both limit tt) tt
+request_element_in spaces (request.RenewSession session) = write_form renew_form spaces (both session tt) tt
+request_element_in spaces (request.EndSession session) = write_form end_session_form spaces (both session tt) tt
+request_element_in spaces (request.Publish session ops) = write_form publish_form spaces (both session tt) ops
 request_element_in spaces (request.Search session search) =
-    write_form ifmap_space search_form spaces (both session (search_values search)) search.start
-request_element_in spaces (request.Subscribe session ops) = write_form ifmap_space subscribe_form spaces (both session tt) ops
-request_element_in spaces (request.Poll session) = write_form ifmap_space poll_form spaces (both session tt) tt
+    write_form search_form spaces (both session (search_values search)) search.start
+request_element_in spaces (request.Subscribe session ops) = write_form subscribe_form spaces (both session tt) ops
+request_element_in spaces (request.Poll session) = write_form poll_form spaces (both session tt) tt
 request_element_in spaces (request.PurgePublisher session publisher) =
-    write_form ifmap_space purge_form spaces (both session (both publisher tt)) tt
+    write_form purge_form spaces (both session (both publisher tt)) tt
 
 -- ---- the namespaces of a request's filters
 

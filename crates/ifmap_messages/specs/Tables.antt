@@ -1,17 +1,19 @@
 -- Tables of attributes and of children, each for both directions: what an element means by them, and how they are written.
-use Rattle.std.specs.Prelude.{ℕ, ◌+◌, Bool, true, false, not, ◌&&◌, nat_lt, if◌then◌else◌, List, [], ◌∷◌, ◌++◌, codes, length, map, Option, None, Some}
-use Rattle.std.specs.List.{list_all, list_any}
-use Rattle.ifmap_elem.specs.Building.{bare_attribute, bare_element, is_bare}
+use Rattle.std.specs.Prelude.{ℕ, ◌+◌, Bool, false, List, [], ◌∷◌, ◌++◌, map, Option, None, Some}
+use Rattle.std.specs.List.{list_all}
+use Rattle.ifmap_elem.specs.Building.{bare_attribute, bare_name}
 use Rattle.ifmap_elem.specs.Chars.{is_white}
 use Rattle.ifmap_elem.specs.declared.elements.Attribute.{Attribute}
 use Rattle.ifmap_elem.specs.declared.elements.Child.{Child, out-Child}
 use Rattle.ifmap_elem.specs.declared.elements.Child as the
 use Rattle.ifmap_elem.specs.declared.elements.Child.TheOpen.{Child-F}
 use Rattle.ifmap_elem.specs.declared.elements.Element.{Element}
+use Rattle.ifmap_elem.specs.declared.elements.Name.{Name}
+use Rattle.ifmap_filter.specs.Holding.{is_name}
 use Rattle.ifmap_reader.specs.declared.scoping.Scope.{Scope}
 use Rattle.ifmap_ident.specs.Parts.{has_only, value_of}
 use Rattle.ifmap_ident.specs.declared.codes.Code.TheVariants.{Failure}
-use Rattle.ifmap_messages.specs.Checks.{Check, check_then, need, pass}
+use Rattle.ifmap_messages.specs.Checks.{Check, check_if, check_then, need, pass}
 use Rattle.ifmap_messages.specs.Values.{Field}
 
 -- one thing and others
@@ -104,25 +106,33 @@ module _ {X : Type 0} where
 
 -- ---- elements
 
--- an element by the tables of its attributes and of its children
+-- an element by its name, by attributes that are passed over, and by the tables of its attributes and of its children
 pub record Form (A C : Type 0) : Type 1 where
-  pub local : List ℕ
+  pub name : Name
+  pub passed_over : List (List ℕ)
   pub attributes : Table A
   pub content : Content C
 
 module _ {A C : Type 0} where
-  -- its attributes in the table's order, then those that are not in the table, then its children; some names are passed over
-  abbrev pub read_form : List (List ℕ) → Form A C → Scopes → Element → Check (Both A C)
-  read_form ignored form scopes e =
+  -- a form of an element in no namespace, where no further attribute is passed over
+  abbrev pub bare_form : List ℕ → Table A → Content C → Form A C
+  bare_form local attributes content =
+      record { name = bare_name local; passed_over = []; attributes = attributes; content = content }
+
+  -- its attributes in the table's order, then those that are not in the table, then its children
+  abbrev pub read_form : Form A C → Scopes → Element → Check (Both A C)
+  read_form form scopes e =
       check_then (form.attributes.reads (scopes []) e)
-      (λ a. need (has_only (ignored ++ form.attributes.locals) e) Failure
+      (λ a. need (has_only (form.passed_over ++ form.attributes.locals) e) Failure
       (check_then (form.content.reads scopes (parts_of e)) (λ c. pass (both a c))))
 
-  -- the element in a namespace
-  abbrev pub write_form : List ℕ → Form A C → List (List ℕ) → A → C → Element
-  write_form space form spaces a c =
-      record {
-        name = record { space = space; local = form.local };
-        attributes = form.attributes.writes spaces a;
-        children = form.content.writes spaces c;
-      }
+  -- the element that is written
+  abbrev pub write_form : Form A C → List (List ℕ) → A → C → Element
+  write_form form spaces a c =
+      record { name = form.name; attributes = form.attributes.writes spaces a; children = form.content.writes spaces c }
+
+module _ {X A C : Type 0} where
+  -- what is meant by this form, where the element has its name, and else what another check finds
+  abbrev pub form_or : Form A C → (A → C → X) → Scopes → Element → Check X → Check X
+  form_or form make scopes e other =
+      check_if (is_name e.name form.name) (check_then (read_form form scopes e) (λ x. pass (make x.first x.others))) other
