@@ -5,7 +5,7 @@
 -- 4. Metadata, by their definition.
 -- 5. Identifiers and lists as children.
 -- 6. Operations. The requests are not written yet: each is one more form in a chain.
-use Rattle.std.proofs.Common.{◌≡◌, ◌⊎◌, ◌∙◌, ◌<◌, ◌+◌, ◌^◌, ◌++◌, ℕ, Bool, true, false, List, [], ◌∷◌, Option, None, Some, Result, Ok, Err, codes, length, min, inl, inr, refl, ap, subst, sym}
+use Rattle.std.proofs.Common.{◌≡◌, ◌⊎◌, ◌∙◌, ◌<◌, ◌+◌, ◌^◌, ◌++◌, ℕ, Bool, true, false, List, [], ◌∷◌, Option, None, Some, Result, Ok, Err, codes, length, min, inl, inr, refl, ap, arith, subst, sym}
 use Rattle.std.specs.Prelude.{IsSome, ◌&&◌, nat_le, nat_lt}
 use Rattle.std.specs.List.{find, list_all}
 use Rattle.std.specs.Str.{bytes_eq}

@@ -1,5 +1,5 @@
 -- The table of results, for both directions: IF-MAP binding for SOAP, version 2.2, section 3.
-use Rattle.std.specs.Prelude.{◌≡◌, ℕ, Bool, true, false, IsTrue, not, if◌then◌else◌, List, [], ◌∷◌, ◌++◌, codes, map, length, Option, None, Some, Result, Ok, Err}
+use Rattle.std.specs.Prelude.{◌≡◌, ℕ, Bool, true, false, IsTrue, if◌then◌else◌, List, [], ◌∷◌, ◌++◌, codes, map, Option, None, Some, Ok}
 use Rattle.std.specs.List.{flat_map, list_all}
 use Rattle.ifmap_elem.specs.Building.{bare_element, is_bare}
 use Rattle.ifmap_elem.specs.Canonical.{canonical_bytes}
@@ -7,7 +7,6 @@ use Rattle.ifmap_elem.specs.declared.elements.Child.{Child}
 use Rattle.ifmap_elem.specs.declared.elements.Child as the
 use Rattle.ifmap_elem.specs.declared.elements.Child.TheOpen.{Child-F}
 use Rattle.ifmap_elem.specs.declared.elements.Element.{Element}
-use Rattle.ifmap_reader.specs.declared.scoping.Scope.{Scope}
 use Rattle.ifmap_filter.specs.Holding.{text_among}
 use Rattle.ifmap_ident.specs.declared.codes.Code.{Code}
 use Rattle.ifmap_ident.specs.declared.codes.Code.TheVariants.{Failure}

@@ -1,6 +1,6 @@
 -- What the values of attributes mean, and how they are written: the attributes of requests and responses in the IF-MAP binding for
 -- SOAP, version 2.2, section 3.
-use Rattle.std.specs.Prelude.{◌≡◌, ℕ, ◌^◌, Bool, true, false, not, ◌&&◌, ◌==◌, nat_le, nat_lt, min, max, if◌then◌else◌, List, [], ◌∷◌, codes, length, reverse, Option, None, Some, Result, Ok, Err}
+use Rattle.std.specs.Prelude.{◌≡◌, ℕ, ◌^◌, Bool, true, false, not, ◌&&◌, ◌==◌, nat_le, nat_lt, min, max, if◌then◌else◌, List, [], ◌∷◌, codes, length, reverse, Option, None, Some, Ok, Err}
 use Rattle.std.specs.List.{find, list_all}
 use Rattle.std.specs.Str.{all_ascii_digits, byte, bytes_eq}
 use Rattle.std.specs.Str.Parse.{digits_value}
