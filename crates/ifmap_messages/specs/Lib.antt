@@ -10,4 +10,5 @@ pub mod Means
 pub mod Fit
 pub mod Laws
 pub mod Answers
+pub mod ReadBack
 pub mod CheckLaws
