@@ -4,10 +4,10 @@
 -- 3. Each attribute; filters by the law of their crate.
 -- 4. Metadata, by their definition.
 -- 5. Identifiers and lists as children.
--- 6. Operations. The requests are not written yet: each is one more form in a chain.
+-- 6. Operations and requests: each is one more form in a chain.
 use Rattle.std.proofs.Common.{◌≡◌, ◌⊎◌, ◌∙◌, ◌<◌, ◌+◌, ◌^◌, ◌++◌, ℕ, Bool, true, false, List, [], ◌∷◌, Option, None, Some, Result, Ok, Err, codes, length, min, inl, inr, refl, ap, arith, subst, sym}
 use Rattle.std.specs.Prelude.{IsSome, ◌&&◌, nat_le, nat_lt}
-use Rattle.std.specs.List.{find, list_all}
+use Rattle.std.specs.List.{list_all}
 use Rattle.std.specs.Str.{bytes_eq}
 use Rattle.ifmap_filter.specs.Holding.{is_name}
 use Rattle.ifmap_elem.specs.Chars.{is_white}
@@ -20,9 +20,8 @@ use Rattle.ifmap_filter.specs.Texts.{Writes}
 use Rattle.ifmap_ident.specs.declared.codes.Code.{Code}
 use Rattle.ifmap_ident.specs.declared.codes.Code.TheVariants.{AccessDenied, Failure, InvalidIdentifier, InvalidIdentifierType, IdentifierTooLong, InvalidMetadata, InvalidSchemaVersion, InvalidSessionID, MetadataTooLong, SearchResultsTooBig, PollResultsTooBig, SystemError}
 use Rattle.ifmap_ident.specs.declared.errors.IdentError.{IdentError}
-use Rattle.ifmap_ident.specs.declared.errors.IdentError.TheVariants.{WrongKind, Invalid, TooLong, NoMemory}
+use Rattle.ifmap_ident.specs.declared.errors.IdentError.TheVariants.{NoMemory}
 use Rattle.ifmap_ident.specs.declared.identifiers.Identifier.{Identifier}
-use Rattle.ifmap_ident.specs.declared.kinds.Kind.{Kind}
 use Rattle.ifmap_ident.specs.Canon.{IsAnswer}
 use Rattle.ifmap_ident.specs.Laws.{AreOneAnswer}
 use Rattle.ifmap_ident.specs.Parts.{has_only, value_of}
@@ -31,17 +30,19 @@ use Rattle.ifmap_messages.specs.Checks.{Check, IsSingle, check_if, check_then, f
 use Rattle.ifmap_meta.specs.declared.metadata.Cardinality.{Cardinality}
 use Rattle.ifmap_meta.specs.declared.metadata.Metadata.{Metadata}
 use Rattle.ifmap_meta.specs.Cardinality.{cardinality_of}
-use Rattle.ifmap_meta.specs.Keys.{content_bytes}
-use Rattle.ifmap_meta.specs.Whole.{IsMadeOf, content_limit}
+use Rattle.ifmap_meta.specs.Whole.{IsMadeOf}
 use Rattle.ifmap_ident.specs.declared.items.Item.{Item}
 use Rattle.ifmap_messages.specs.declared.publishing.PublishOp.{PublishOp}
 use Rattle.ifmap_messages.specs.declared.publishing.PublishOp.TheVariants as publish
+use Rattle.ifmap_messages.specs.declared.requests.Request.{Request}
+use Rattle.ifmap_messages.specs.declared.requests.Request.TheVariants as request
 use Rattle.ifmap_messages.specs.declared.requests.SubscribeOp.{SubscribeOp}
+use Rattle.ifmap_messages.specs.Envelopes.{ifmap_space}
 use Rattle.ifmap_messages.specs.declared.requests.SubscribeOp.TheVariants as subscribe
-use Rattle.ifmap_messages.specs.Items.{MetadataDefect, before_list, from_list, identifier_check, identifier_code, identifiers_check, item_content, item_of, list_at, list_check, may_follow, metadata_check, only_identifier, published_content, read_item, read_published, read_start, start_content}
-use Rattle.ifmap_messages.specs.RequestForms.{SearchValues, delete_form, end_form, notify_form, publish_op_check, search_attributes, search_from, subscribe_op_check, subscription_form, update_form}
-use Rattle.ifmap_messages.specs.Tables.{Both, Content, Form, Part, Scopes, Table, beside, both, each_element, form_or, is_white_part, no_attributes, no_children, parts_of, read_form}
-use Rattle.ifmap_messages.specs.Values.{Field, FilterDefect, depth_field, filter_check, filter_field, kinds_field, lifetime_field, limit_field, name_field, size_field, text_field, kind_of, kinds_check, number_of, pieces_of, read_depth, read_filter, read_kinds, read_lifetime, read_limit, read_name, read_size, read_text, trimmed, within}
+use Rattle.ifmap_messages.specs.Items.{MetadataDefect, before_list, from_list, identifier_check, identifier_code, identifiers_check, item_content, item_of, list_at, list_check, may_follow, metadata_check, only_identifier, published_content, start_content}
+use Rattle.ifmap_messages.specs.RequestForms.{SearchValues, WithSession, delete_form, end_form, end_session_form, named_request_check, new_session_form, notify_form, poll_form, publish_form, publish_op_check, publish_op_element, publisher_field, purge_form, renew_form, request_check, search_attributes, search_form, search_from, session_attribute, session_field, subscribe_form, subscribe_op_check, subscribe_op_element, subscription_form, update_form}
+use Rattle.ifmap_messages.specs.Tables.{Both, Content, Form, Part, Scopes, Table, beside, both, each_element, form_or, is_white_part, list_of, no_attributes, no_children, parts_of, read_form, scopes_below}
+use Rattle.ifmap_messages.specs.Values.{Field, FilterDefect, depth_field, filter_check, filter_field, kinds_field, lifetime_field, limit_field, name_field, size_field, kind_of, kinds_check, number_of, pieces_of, read_depth, read_filter, read_kinds, read_lifetime, read_limit, read_name, read_size, read_text, trimmed, within}
 
 -- ---- 1. identifiers
 
@@ -300,8 +301,7 @@ one_defect e c d p q = elim (metadata_codes c e p) [
   where
     apart : MetadataDefect InvalidMetadata e → MetadataDefect MetadataTooLong e → ⊥
     apart none long =
-        let some : IsSome (cardinality_of e) = long.0 in
-        let wrong : IsSome {X = Cardinality} None = subst (λ (o : Option Cardinality). IsSome o) none some in
+        let wrong : false ≡ true = subst (λ (o : Option Cardinality). IsSome o) none long.0 in
         cc
 
 metadata_single : (e : Element) → IsSingle (metadata_check e)
@@ -358,12 +358,11 @@ module _ (identifier_one : (e : Element) → IsSingle (identifier_check e)) wher
       (identifiers_single 2 [] parts)
       (λ identifiers. some_single Failure (item_of identifiers) (λ item. pass item) (λ item. pass_single item))
 
-  published_after : List Identifier → Option (List Metadata) → Check (Both Item (List Metadata))
+  abbrev published_after : List Identifier → Option (List Metadata) → Check (Both Item (List Metadata))
   published_after identifiers list =
       need_some Failure (item_of identifiers) (λ item. need_some Failure list (λ elements. pass (both item elements)))
 
   published_single : OneOfContent published_content
-  unfolding published_after
   published_single scopes parts =
       then_single (identifiers_check 2 [] (before_list parts))
       (λ identifiers. check_then (list_at metadata_check (from_list parts)) (λ list. published_after identifiers list))
@@ -373,7 +372,7 @@ module _ (identifier_one : (e : Element) → IsSingle (identifier_check e)) wher
       (λ list. some_single Failure (item_of identifiers) (λ item. need_some Failure list (λ elements. pass (both item elements)))
       (λ item. some_single Failure list (λ elements. pass (both item elements)) (λ elements. pass_single (both item elements)))))
 
--- ---- 6. operations
+-- ---- 6. operations and requests
 
 abbrev make_update : Both Bool (Unit {0}) → Both Item (List Metadata) → PublishOp
 make_update a published = publish.Update published.first published.others a.first
@@ -390,6 +389,30 @@ make_subscription a start = subscribe.Update a.first (search_from start a.others
 abbrev make_end : Both (List ℕ) (Unit {0}) → Unit {0} → SubscribeOp
 make_end a none = subscribe.Delete a.first
 
+abbrev make_new_session : Both (Option ℕ) (Unit {0}) → Unit {0} → Request
+make_new_session a none = request.NewSession a.first
+
+abbrev make_renew : WithSession → Unit {0} → Request
+make_renew a none = request.RenewSession a.first
+
+abbrev make_end_session : WithSession → Unit {0} → Request
+make_end_session a none = request.EndSession a.first
+
+abbrev make_publish : WithSession → List PublishOp → Request
+make_publish a ops = request.Publish a.first ops
+
+abbrev make_search : Both (List ℕ) SearchValues → Identifier → Request
+make_search a start = request.Search a.first (search_from start a.others)
+
+abbrev make_subscribe : WithSession → List SubscribeOp → Request
+make_subscribe a ops = request.Subscribe a.first ops
+
+abbrev make_poll : WithSession → Unit {0} → Request
+make_poll a none = request.Poll a.first
+
+abbrev make_purge : Both (List ℕ) WithSession → Unit {0} → Request
+make_purge a none = request.PurgePublisher a.first a.others.first
+
 module _ (identifier_one : (e : Element) → IsSingle (identifier_check e)) (one_filter : OneFilter) where
   search_attributes_single : OneOfTable search_attributes
   search_attributes_single =
@@ -402,7 +425,6 @@ module _ (identifier_one : (e : Element) → IsSingle (identifier_check e)) (one
       (beside_single (filter_field (codes "result-filter")) (beside kinds_field no_attributes) (read_filter_single one_filter)
       (beside_single kinds_field no_attributes read_kinds_single no_attributes_single))))
 
-  -- the checks after a form in a chain
   publish_op_single : (scopes : Scopes) (e : Element) → IsSingle (publish_op_check scopes e)
   publish_op_single scopes e =
       or_single update_form make_update (beside_single lifetime_field no_attributes read_lifetime_single no_attributes_single)
@@ -421,3 +443,78 @@ module _ (identifier_one : (e : Element) → IsSingle (identifier_check e)) (one
       (form_or end_form make_end scopes e (fail Failure))
       (or_single end_form make_end (beside_single name_field no_attributes read_name_single no_attributes_single) no_children_single
       scopes e (fail Failure) (fail_single Failure))
+
+  ops_single : OneOfContent (list_of publish_op_check publish_op_element)
+  ops_single scopes parts =
+      each_single (λ index e. publish_op_check (scopes_below scopes index) e) (λ index e. publish_op_single (scopes_below scopes index) e)
+      0 parts
+
+  subscriptions_single : OneOfContent (list_of subscribe_op_check subscribe_op_element)
+  subscriptions_single scopes parts =
+      each_single (λ index e. subscribe_op_check (scopes_below scopes index) e)
+      (λ index e. subscribe_op_single (scopes_below scopes index) e) 0 parts
+
+  limit_single : OneOfTable (beside limit_field no_attributes)
+  limit_single = beside_single limit_field no_attributes read_limit_single no_attributes_single
+
+  session_single : OneOfTable session_attribute
+  session_single = beside_single session_field no_attributes read_text_single no_attributes_single
+
+  purge_single : OneOfTable (beside session_field (beside publisher_field no_attributes))
+  purge_single =
+      beside_single session_field (beside publisher_field no_attributes) read_text_single
+      (beside_single publisher_field no_attributes read_text_single no_attributes_single)
+
+  module _ (scopes : Scopes) (e : Element) where
+    -- the chain from each of its forms on
+    abbrev from_purge : Check Request
+    from_purge = form_or purge_form make_purge scopes e (fail Failure)
+
+    abbrev from_poll : Check Request
+    from_poll = form_or poll_form make_poll scopes e from_purge
+
+    abbrev from_subscribe : Check Request
+    from_subscribe = form_or subscribe_form make_subscribe scopes e from_poll
+
+    abbrev from_search : Check Request
+    from_search = form_or search_form make_search scopes e from_subscribe
+
+    abbrev from_publish : Check Request
+    from_publish = form_or publish_form make_publish scopes e from_search
+
+    abbrev from_end : Check Request
+    from_end = form_or end_session_form make_end_session scopes e from_publish
+
+    abbrev from_renew : Check Request
+    from_renew = form_or renew_form make_renew scopes e from_end
+
+    purges : IsSingle from_purge
+    purges = or_single purge_form make_purge purge_single no_children_single scopes e (fail Failure) (fail_single Failure)
+
+    polls : IsSingle from_poll
+    polls = or_single poll_form make_poll session_single no_children_single scopes e from_purge purges
+
+    subscribes : IsSingle from_subscribe
+    subscribes = or_single subscribe_form make_subscribe session_single subscriptions_single scopes e from_poll polls
+
+    searches : IsSingle from_search
+    searches =
+        or_single search_form make_search (beside_single session_field search_attributes read_text_single search_attributes_single)
+        (start_single identifier_one) scopes e from_subscribe subscribes
+
+    publishes : IsSingle from_publish
+    publishes = or_single publish_form make_publish session_single ops_single scopes e from_search searches
+
+    ends : IsSingle from_end
+    ends = or_single end_session_form make_end_session session_single no_children_single scopes e from_publish publishes
+
+    renews : IsSingle from_renew
+    renews = or_single renew_form make_renew session_single no_children_single scopes e from_end ends
+
+    named_single : IsSingle (named_request_check scopes e)
+    named_single = or_single new_session_form make_new_session limit_single no_children_single scopes e from_renew renews
+
+  pub request_single : (scopes : Scopes) (e : Element) → IsSingle (request_check scopes e)
+  request_single scopes e =
+      need_single (bytes_eq e.name.space ifmap_space) InvalidSchemaVersion (named_request_check scopes e) (named_single scopes e)
+

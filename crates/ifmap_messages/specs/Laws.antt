@@ -6,11 +6,17 @@ use Rattle.ifmap_ident.specs.declared.codes.Code.{Code}
 use Rattle.ifmap_messages.specs.declared.errors.Refusal.{Refusal}
 use Rattle.ifmap_messages.specs.declared.replies.Reply.{Reply}
 use Rattle.ifmap_messages.specs.declared.requests.Request.{Request}
+use Rattle.ifmap_messages.specs.Envelopes.{IsEnvelope}
 use Rattle.ifmap_messages.specs.Fit.{IsFitReply, IsFitRequest}
 use Rattle.ifmap_messages.specs.Means.{BytesMeanReply, Means, request_bytes}
 use Rattle.ifmap_messages.specs.ReplyForms.{IsReply, reply_bytes, reply_element}
 use Rattle.ifmap_messages.specs.RequestForms.{request_check}
 use Rattle.ifmap_messages.specs.Tables.{Scopes}
+
+-- an element is an envelope of one element at one path at most
+abbrev pub OneEnvelope : Type 0
+OneEnvelope =
+    (root e f : Element) (path route : List ℕ) → IsEnvelope root path e → IsEnvelope root route f → (path ≡ route) × (e ≡ f)
 
 -- an element has one request or one code, in given scopes
 abbrev pub OneRequest : Type 0

@@ -3,6 +3,7 @@
 #![tactic(auto)]
 
 pub mod errors;
+pub mod laws;
 pub mod publishing;
 pub mod reading;
 pub mod replies;
