@@ -2,9 +2,8 @@
 -- 1. Where white space alone stands before an element in both of two splits of one list, the splits are one.
 -- 2. So an element that is alone is the only one, at its place.
 -- 3. The body is the same in both: where one split has a header before it and the other has none, a header would be a body.
-use Rattle.std.proofs.Common.{◌≡◌, ◌⊎◌, ◌∙◌, ℕ, suc, Bool, true, false, List, [], ◌∷◌, ◌++◌, codes, length, inl, inr, refl, ap, subst, sym, append_assoc}
+use Rattle.std.proofs.Common.{◌≡◌, ◌⊎◌, ◌∙◌, ℕ, true, false, List, [], ◌∷◌, ◌++◌, codes, length, inl, inr, refl, ap, arith, subst, sym, append_assoc}
 use Rattle.std.proofs.lemmas.Bool.{and_parts}
-use Rattle.std.specs.Prelude.{IsTrue}
 use Rattle.std.specs.List.{list_all}
 use Rattle.ifmap_elem.specs.Chars.{is_white}
 use Rattle.ifmap_elem.specs.declared.elements.Child.TheOpen.{Child-F}
@@ -76,7 +75,8 @@ one_alone parts i j e f a b =
 names_differ : envelope_name (codes "Header") ≡ envelope_name (codes "Body") → ⊥
 names_differ e =
     let locals : codes "Header" ≡ codes "Body" = ap (λ (n : Name). n.local) e in
-    cc
+    let lengths : 6 ≡ 4 = ap length locals in
+    omega (arith, lengths)
 
 -- a split of a list with a header in its front, as a split at the header
 at_header : (front after : List Part) (index : ℕ) (header body : Element) (h : IsAlone front index header)
