@@ -15,7 +15,8 @@ pub fn request_of(_alloc: Global, reading: &Reading, path: &[u32]) -> Result<Req
     requires { (e : Element) × NamesElementAt reading.now.root path.now e }
     ensures { IsFormAnswer reading.now path.now result }
 {
-    let _read = (reading, path);
+    let _read = reading;
+    let _path = path;
     Err(FormError::NoMemory)
 }
 
