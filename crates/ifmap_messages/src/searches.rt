@@ -41,7 +41,13 @@ fn copy_kinds(alloc: Global, kinds: &Many<Kind>) -> Result<Many<Kind>, NoMemory>
 {
     let mut made = Vec::with_capacity(alloc, kinds.0.len())?;
     for kind in &kinds.0 {
-        made.push(*kind)?;
+        made.push(copy_kind(kind)?)?;
     }
     Ok(Many(made))
+}
+
+fn copy_kind(kind: &Kind) -> Result<Kind, NoMemory>
+    ensures { IfOk result (λ made. made ≡ kind.now) }
+{
+    Ok(*kind)
 }
