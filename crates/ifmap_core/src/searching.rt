@@ -1,31 +1,36 @@
 //! What a search is answered.
-ghost use Rattle.std.specs.Prelude.{◌≡◌, ◌<◌, ◌^◌, IfOk, map};
-ghost use Rattle.ifmap_core.specs.Fresh.{entry_of, limit_note, size_of};
-ghost use Rattle.ifmap_core.specs.Step.{search_answer};
+ghost use Rattle.std.specs.Prelude.{◌≡◌, true, false, IfErr, IfOk, map};
+ghost use Rattle.ifmap_core.specs.Fresh.{entry_of, found_attachments, fresh, limit_note, size_of};
+ghost use Rattle.ifmap_core.specs.Step.{is_too_big};
 
-use crate::events::Answer;
 use ifmap_elem::{Copied, Many, Text};
 use ifmap_graph::{Graph, KeptAttachment};
-use ifmap_ident::{Code, Item};
-use ifmap_msg::{Entry, Reply, Search};
+use ifmap_ident::Item;
+use ifmap_msg::{Entry, Search};
 use std::alloc::{AllocError as NoMemory, Global};
 
-/// What the search finds in the graph, or the refusal where its size is greater than the limit.
-pub fn search_answer(alloc: Global, graph: &Graph, search: &Search) -> Result<Answer, NoMemory>
-    ensures { IfOk result (λ answer. answer ≡ search_answer graph.now.attachments search.now) }
+/// What the search finds in the graph, or the note of a refusal where its size is greater than the
+/// limit.
+pub fn find(
+    alloc: Global,
+    graph: &Graph,
+    search: &Search,
+) -> Result<Result<Many<Entry>, Text>, NoMemory>
+    ensures found { IfOk result (λ outcome. IfOk outcome (λ entries.
+        (is_too_big graph.now.attachments search.now ≡ false)
+        × (entries ≡ fresh graph.now.attachments search.now))) }
+    ensures too_big { IfOk result (λ outcome. IfErr outcome (λ note.
+        (is_too_big graph.now.attachments search.now ≡ true)
+        × (note ≡ limit_note (size_of (found_attachments graph.now.attachments search.now))
+        search.now.max_size))) }
 {
     let start = Item::One(search.start.copy(alloc)?);
     let attachments = graph.attachments_on(&start);
     let size = size_of(attachments)?;
     if search.max_size < size {
-        let note = limit_note(alloc, size, search.max_size)?;
-        return Ok(Answer::Reply(Reply::Error {
-            code: Code::SearchResultsTooBig,
-            note,
-        }));
+        return Ok(Err(limit_note(alloc, size, search.max_size)?));
     }
-    let entries = entries_of(alloc, attachments)?;
-    Ok(Answer::Reply(Reply::Found(entries)))
+    Ok(Ok(entries_of(alloc, attachments)?))
 }
 
 // The size of a result. A sum of 2^64 or more is told as want of memory.
