@@ -1,15 +1,16 @@
 -- Lists of sessions: their clients' names differ, their serials rise, and one of them is changed.
-use Rattle.std.proofs.Common.{◌≡◌, refl, sym, ◌∙◌, ap, subst, ℕ, ◌+◌, ◌<◌, ◌≤◌, ◌==◌, Bool, true, false, cond, List, [], ◌∷◌, ◌++◌, length, map, Option, None, Some, inl, inr, arith, if◌then◌else◌}
-use Rattle.std.proofs.lemmas.Bool.{cases_Bool}
+use Rattle.std.proofs.Common.{◌≡◌, refl, sym, ◌∙◌, ap, subst, ℕ, ◌+◌, ◌<◌, ◌≤◌, ◌==◌, Bool, true, false, cond, not, List, [], ◌∷◌, ◌++◌, length, map, Option, None, Some, inl, inr, arith, if◌then◌else◌}
+use Rattle.std.proofs.lemmas.Bool.{cases_Bool, eq-eqb, not_from_true, or_left}
 use Rattle.std.proofs.lemmas.Bool.Decides.{nat_tests}
 use Rattle.std.proofs.lemmas.Cmp.{nat_list_eq_equiv}
 use Rattle.std.specs.Cmp.Lexicographic.{same_text}
-use Rattle.std.specs.List.{AllByRecursion, IsDistinct, filter, find}
+use Rattle.std.specs.List.{AllByRecursion, IsDistinct, filter, find, list_any}
+use Rattle.std.specs.Option.{option_map}
 use Rattle.std.specs.List.Sorted.{IsStrictlySortedBy}
 use Rattle.std.specs.declared.cmp.Ordering.TheVariants.{Less}
 use Rattle.ifmap_lemmas.specs.Filters.{all_weaker}
 use Rattle.ifmap_lemmas.specs.Members.{all_of_map, both_all, map_of_all}
-use Rattle.ifmap_session.specs.Sessions.{Session, change, is_text, renewed, session_order, session_with_serial}
+use Rattle.ifmap_session.specs.Sessions.{Session, change, is_text, renewed, session_of_client, session_order, session_with_serial, without_sessions}
 
 -- texts
 pub text_is : (a b : List ℕ) → is_text a b ≡ true → a ≡ b
@@ -152,3 +153,36 @@ changed_found n serial moment (x ∷ xs) s e =
 pub touched_client : (serial moment : ℕ) (s : Session) (publisher : List ℕ) → s.client ≡ publisher
     → (touched serial moment s).client ≡ publisher
 touched_client serial moment s publisher e = same_client serial moment s ∙ e
+
+-- the sessions but the one of a serial
+abbrev pub remaining : ℕ → Session → Bool
+remaining serial s = not (list_any (λ n. n == s.serial) (serial ∷ []))
+
+pub shorter : {X : Type 0} (p : X → Bool) (xs : List X) → length (filter p xs) ≤ length xs
+shorter p [] = omega arith
+shorter p (x ∷ xs) = let rest = shorter p xs in elim (cases_Bool (p x))
+    [ inl hit ↦ rw hit (omega (arith, rest)) | inr miss ↦ rw miss (omega (arith, rest)) ]
+
+-- one at least goes, where what a search finds does not pass
+pub one_less : {X : Type 0} (q p : X → Bool) (xs : List X) (x : X) → find q xs ≡ Some x → p x ≡ false → length (filter p xs) < length xs
+one_less q p [] x e out = cc
+one_less q p (y ∷ ys) x e out =
+    elim (cases_Bool (q y)) [
+      | inl hit ↦ let same : y ≡ x = cc (rw hit at e) in let gone : p y ≡ false = subst (λ z. p z ≡ false) (sym same) out in let rest =
+          shorter p ys in rw gone (omega (arith, rest))
+      | inr miss ↦
+          let rest = one_less q p ys x (rw miss at e) out in
+          elim (cases_Bool (p y)) [ inl stays ↦ rw stays (omega (arith, rest)) | inr goes ↦ rw goes (omega (arith, rest)) ]
+    ]
+
+pub goes_itself : (s : Session) → remaining s.serial s ≡ false
+goes_itself s = not_from_true (list_any (λ n. n == s.serial) (s.serial ∷ []))
+    (or_left (s.serial == s.serial) false (eq-eqb s.serial s.serial refl))
+
+-- the session that a client has is one, and fewer are left without it
+pub held_less : (live : List Session) (client : List ℕ) (n : ℕ) (o : Option Session) → session_of_client client live ≡ o
+    → option_map (λ (s : Session). s.serial) o ≡ Some n → length (without_sessions (n ∷ []) live) < length live
+held_less live client n None e held = cc
+held_less live client n (Some s) e held =
+    let same : s.serial ≡ n = cc in
+    one_less (λ (t : Session). is_text t.client client) (remaining n) live s e (subst (λ m. remaining m s ≡ false) same (goes_itself s))

@@ -28,7 +28,7 @@ use Rattle.ifmap_core.specs.Legal.{AreFit, AreNumberedAfter, History, LegalFrom,
 use Rattle.ifmap_core.specs.Lives.{AllLive, IsLifeFor}
 use Rattle.ifmap_core.specs.State.{State, advance, opening}
 use Rattle.ifmap_core.specs.Step.{begin_session, end_session, end_sessions, end_former, in_session, is_full, is_too_big, next_session, publish, renew, search, step, step_ask}
-use Rattle.ifmap_core.proofs.Clients.{all_found, all_push, changed_clients, changed_counted, changed_found, changed_length, changed_rising, distinct_filter, distinct_push, find_none, rest_differ, sorted_push, text_is, text_same, touched, touched_client}
+use Rattle.ifmap_core.proofs.Clients.{all_found, all_push, changed_clients, changed_counted, changed_found, changed_length, changed_rising, distinct_filter, distinct_push, find_none, goes_itself, one_less, remaining, rest_differ, shorter, sorted_push, text_is, text_same, touched, touched_client}
 use Rattle.ifmap_core.proofs.Graphs.{all_attached, all_retracted}
 use Rattle.ifmap_lemmas.specs.Filters.{all_filter, all_weaker}
 use Rattle.ifmap_graph.specs.declared.attachments.Attachment.{Attachment}
@@ -103,27 +103,6 @@ opening_whole ttl = record { rising = tt; counted = tt; apart = tt; most = omega
 advanced_whole : (moment : ℕ) (state : State) → IsWhole state → IsWhole (advance moment state)
 advanced_whole moment state w = record { rising = w.rising; counted = w.counted; apart = w.apart; most = w.most }
 
--- the sessions but the one of a serial
-abbrev remaining : ℕ → Session → Bool
-remaining serial s = not (list_any (λ n. n == s.serial) (serial ∷ []))
-
-shorter : {X : Type 0} (p : X → Bool) (xs : List X) → length (filter p xs) ≤ length xs
-shorter p [] = omega arith
-shorter p (x ∷ xs) = let rest = shorter p xs in elim (cases_Bool (p x))
-    [ inl hit ↦ rw hit (omega (arith, rest)) | inr miss ↦ rw miss (omega (arith, rest)) ]
-
--- one at least goes, where what a search finds does not pass
-one_less : {X : Type 0} (q p : X → Bool) (xs : List X) (x : X) → find q xs ≡ Some x → p x ≡ false → length (filter p xs) < length xs
-one_less q p [] x e out = cc
-one_less q p (y ∷ ys) x e out =
-    elim (cases_Bool (q y)) [
-      | inl hit ↦ let same : y ≡ x = cc (rw hit at e) in let gone : p y ≡ false = subst (λ z. p z ≡ false) (sym same) out in let rest =
-          shorter p ys in rw gone (omega (arith, rest))
-      | inr miss ↦
-          let rest = one_less q p ys x (rw miss at e) out in
-          elim (cases_Bool (p y)) [ inl stays ↦ rw stays (omega (arith, rest)) | inr goes ↦ rw goes (omega (arith, rest)) ]
-    ]
-
 -- what a search finds among those that a filter leaves, where whatever it looks for stays
 find_kept : {X : Type 0} (q p : X → Bool) → ((x : X) → q x ≡ true → p x ≡ true) → (xs : List X) (x : X) → find q xs ≡ Some x
     → find q (filter p xs) ≡ Some x
@@ -197,12 +176,8 @@ removed (x ∷ xs) c s apart e =
           ]
     ]
 
-goes_itself : (s : Session) → remaining s.serial s ≡ false
-goes_itself s = not_from_true (list_any (λ n. n == s.serial) (s.serial ∷ []))
-    (or_left (s.serial == s.serial) false (eq-eqb s.serial s.serial refl))
-
--- where there is no room, the client has a session
-has_room : (state : State) (client : List ℕ) → is_full state client ≡ false → session_of_client client state.sessions ≡ None
+-- where a client that has no session can be given one, there is room
+pub has_room : (state : State) (client : List ℕ) → is_full state client ≡ false → session_of_client client state.sessions ≡ None
     → length state.sessions < most_sessions
 has_room state client free none =
     let parts = or_parts (nat_le most_sessions (length state.sessions) && is_none (session_of_client client state.sessions))

@@ -147,6 +147,7 @@ impl Core {
         if self.is_full(client) {
             return refusal(alloc, Code::SystemError);
         }
+        self.sessions.is_table();
         let held = self.sessions.of_client(client);
         let opening = self.sessions.prepare(alloc, client, random)?;
         let publisher = client.text().copy(alloc)?;
