@@ -5,6 +5,7 @@ pub mod DotLaws
 pub mod FindLaws
 pub mod KindLaws
 pub mod LeadingLaws
+pub mod MacLaws
 pub mod MeaningLaws
 pub mod OptionalLaws
 pub mod OrderLaws

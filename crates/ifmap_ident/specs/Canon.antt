@@ -4,6 +4,7 @@ use Rattle.ifmap_addresses.specs.IpV4.{IsIpV4}
 use Rattle.ifmap_addresses.specs.IpV6.{IsIpV6}
 use Rattle.ifmap_addresses.specs.MacAddresses.{IsMacAddress}
 use Rattle.ifmap_elem.specs.Building.{bare_name}
+use Rattle.ifmap_elem.specs.Fit.{IsFit}
 use Rattle.ifmap_elem.specs.declared.elements.Child
 use Rattle.ifmap_elem.specs.declared.elements.Element.{Element}
 use Rattle.ifmap_ident.specs.declared.errors.IdentError.{IdentError}
@@ -124,7 +125,8 @@ IsAnswer e (Err Invalid) = IsInvalid e
 IsAnswer e (Err TooLong) = IsTooLong e
 IsAnswer e (Err NoMemory) = Unit {0}
 
--- an identifier that some element is
+-- an identifier that some element is which a document can have
 pub record IsIdentifier (i : Identifier) : Type 0 where
   pub element : Element
+  pub fit : IsFit element
   pub canon : IsCanon element i

@@ -1,13 +1,14 @@
 -- Items: what metadata stands on, an identifier or a link of two.
 use Rattle.std.specs.Prelude.{◌≡◌, ℕ, Bool, List, [], ◌∷◌, Option, None, Some, length, map}
 use Rattle.std.specs.Cmp.Lexicographic.{lists_ties, pointwise, slice_cmp, texts_ties}
-use Rattle.std.specs.List.{sum}
+use Rattle.std.specs.List.{AllByRecursion, sum}
 use Rattle.std.specs.Ordering.{eq_by_cmp, on}
 use Rattle.std.specs.declared.cmp.Ordering.{Ordering}
 use Rattle.std.specs.declared.cmp.Ordering.TheVariants.{Less, Equal, Greater}
 use Rattle.ifmap_ident.specs.declared.identifiers.Identifier.{Identifier}
 use Rattle.ifmap_ident.specs.declared.items.Item.{Item}
 use Rattle.ifmap_ident.specs.declared.items.Item.TheVariants.{One, Pair}
+use Rattle.ifmap_ident.specs.Canon.{IsIdentifier}
 use Rattle.ifmap_ident.specs.Identifiers.{identifier_bytes, identifier_order, same_identifier}
 
 -- the identifiers of an item
@@ -19,6 +20,11 @@ identifiers_of (Pair a b) = a ∷ (b ∷ [])
 abbrev pub IsItem : Item → Type 0
 IsItem (One a) = Unit {0}
 IsItem (Pair a b) = identifier_order a b ≡ Less
+
+-- an item, each identifier of which some element is that a document can have
+pub record IsCanonItem (x : Item) : Type 0 where
+  pub ordered : IsItem x
+  pub identifiers : AllByRecursion IsIdentifier (identifiers_of x)
 
 -- two identifiers by how they compare, as a pair
 abbrev pub ordered_pair : Ordering → Identifier → Identifier → Option Item

@@ -4,7 +4,8 @@ ghost use Rattle.std.specs.Cmp.{partial_order_from_own_ties};
 ghost use Rattle.std.specs.Cmp.Rules.{comparing};
 ghost use Rattle.std.specs.Ordering.{as_partial_cmp};
 ghost use Rattle.std.proofs.Common.{rules};
-ghost use Rattle.ifmap_ident.specs.Canon.{IsAnswer};
+ghost use Rattle.ifmap_elem.specs.Fit.{IsFit};
+ghost use Rattle.ifmap_ident.specs.Canon.{IsAnswer, IsIdentifier};
 ghost use Rattle.ifmap_ident.specs.Identifiers.{identifier_bytes, identifier_element, identifier_kind, identifier_order, same_identifier};
 
 use crate::equality::identifiers_are_one;
@@ -63,7 +64,8 @@ impl Identifier {
     /// The identifier that an element is. An error tells why it is none; want of memory may stand in
     /// place of any answer.
     pub fn from_element(alloc: Global, element: &Element) -> Result<Identifier, IdentError>
-        ensures { IsAnswer element.now result }
+        ensures answer { IsAnswer element.now result }
+        ensures identifier { IsFit element.now → IfOk result IsIdentifier }
     {
         match read_identifier(alloc, element) {
             Ok(identifier) => {

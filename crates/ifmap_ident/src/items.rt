@@ -4,8 +4,9 @@ ghost use Rattle.std.specs.Cmp.{partial_order_from_own_ties};
 ghost use Rattle.std.specs.Cmp.Rules.{comparing};
 ghost use Rattle.std.specs.Ordering.{as_partial_cmp};
 ghost use Rattle.std.proofs.Common.{rules};
+ghost use Rattle.ifmap_ident.specs.Canon.{IsIdentifier};
 ghost use Rattle.ifmap_ident.specs.Identifiers.{identifier_bytes};
-ghost use Rattle.ifmap_ident.specs.Items.{IsItem, item_order, item_size, items_tie, pair_of, same_item};
+ghost use Rattle.ifmap_ident.specs.Items.{IsCanonItem, IsItem, item_order, item_size, items_tie, pair_of, same_item};
 
 use crate::identifiers::Identifier;
 use ifmap_elem::{Copied, Equals};
@@ -27,6 +28,7 @@ impl Item {
         ensures pair { result ≡ pair_of a b }
         ensures none { IsNone result ↔ (identifier_bytes a ≡ identifier_bytes b) }
         ensures item { IfSome result IsItem }
+        ensures canon { IsIdentifier a → IsIdentifier b → IfSome result IsCanonItem }
     {
         match a.cmp(&b) {
             Ordering::Less => Some(Item::Pair(a, b)),

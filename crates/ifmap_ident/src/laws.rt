@@ -1,10 +1,12 @@
 //! Laws on identifiers and elements: functions that do nothing, whose contracts are the laws.
-ghost use Rattle.std.specs.Prelude.{◌≡◌, Result};
+ghost use Rattle.std.specs.Prelude.{◌≡◌, ℕ, List, [], Result};
+ghost use Rattle.ifmap_addresses.specs.Values.{AreBelow};
 ghost use Rattle.ifmap_elem.specs.declared.elements.Element.{Element};
 ghost use Rattle.ifmap_ident.specs.Canon.{IsAnswer, IsCanon, IsIdentifier};
 ghost use Rattle.ifmap_ident.specs.Identifiers.{identifier_bytes, identifier_element};
 ghost use Rattle.ifmap_ident.specs.declared.errors.IdentError.{IdentError};
 ghost use Rattle.ifmap_ident.specs.declared.identifiers.Identifier.{Identifier};
+ghost use Rattle.ifmap_ident.specs.declared.identifiers.Identifier.TheVariants.{MacAddress};
 ghost use Rattle.ifmap_ident.specs.Laws.{AreOneAnswer};
 
 use ifmap_addresses::laws::addresses_have_one_size;
@@ -34,3 +36,8 @@ pub fn bytes_tell_identifiers_apart()
 {
     addresses_have_one_size();
 }
+
+/// Each MAC address is an identifier, without a domain.
+pub fn mac_addresses_are_identifiers()
+    ensures { (value : List ℕ) → AreBelow 256 6 value → IsIdentifier (MacAddress value []) }
+{}

@@ -17,3 +17,9 @@ returns-in-Greater-clause-none c = (λ e. cc, slice_cmp-greater (identifier_byte
 
 pub returns-in-Greater-clause-item : goal.returns-in-Greater-clause-item
 returns-in-Greater-clause-item c = slice_cmp-turn (identifier_bytes c.args.a) (identifier_bytes c.args.b) c.in-Greater.ensures
+
+pub returns-in-Greater-clause-canon : goal.returns-in-Greater-clause-canon
+returns-in-Greater-clause-canon c = λ a b. record {
+  ordered = slice_cmp-turn (identifier_bytes c.args.a) (identifier_bytes c.args.b) c.in-Greater.ensures;
+  identifiers = (b, (a, tt));
+}
