@@ -1,5 +1,5 @@
 -- Lists of sessions: their clients' names differ, their serials rise, and one of them is changed.
-use Rattle.std.proofs.Common.{◌≡◌, refl, sym, ◌∙◌, ap, subst, ℕ, ◌+◌, ◌<◌, ◌≤◌, ◌==◌, Bool, true, false, cond, not, List, [], ◌∷◌, ◌++◌, length, map, Option, None, Some, inl, inr, arith, if◌then◌else◌}
+use Rattle.std.proofs.Common.{◌≡◌, refl, sym, ◌∙◌, ap, subst, ℕ, suc, ◌+◌, ◌<◌, ◌≤◌, ◌==◌, Bool, true, false, cond, not, List, [], ◌∷◌, ◌++◌, length, map, Option, None, Some, inl, inr, arith, if◌then◌else◌}
 use Rattle.std.proofs.lemmas.Bool.{cases_Bool, eq-eqb, not_from_true, or_left}
 use Rattle.std.proofs.lemmas.Bool.Decides.{nat_tests}
 use Rattle.std.proofs.lemmas.Cmp.{nat_list_eq_equiv}
@@ -136,7 +136,7 @@ changed_clients serial moment (x ∷ xs) = rw (same_client serial moment x, chan
 
 pub changed_length : (serial moment : ℕ) (xs : List Session) → length (change serial (renewed moment) xs) ≡ length xs
 changed_length serial moment [] = refl
-changed_length serial moment (x ∷ xs) = ap (λ n. n + 1) (changed_length serial moment xs)
+changed_length serial moment (x ∷ xs) = ap suc (changed_length serial moment xs)
 
 -- each session is found by its serial as before, with its client
 pub changed_found : (n serial moment : ℕ) (xs : List Session) (s : Session) → session_with_serial n xs ≡ Some s

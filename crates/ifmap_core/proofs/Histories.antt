@@ -27,7 +27,7 @@ use Rattle.ifmap_core.specs.Fresh.{found_attachments, size_of}
 use Rattle.ifmap_core.specs.Legal.{AreFit, AreNumberedAfter, History, LegalFrom, ids_given_by, ids_given, live_clients, state_after}
 use Rattle.ifmap_core.specs.Lives.{AllLive, IsLifeFor}
 use Rattle.ifmap_core.specs.State.{State, advance, opening}
-use Rattle.ifmap_core.specs.Step.{begin_session, end_session, end_sessions, end_former, in_session, is_full, is_too_big, next_session, publish, renew, search, step, step_ask}
+use Rattle.ifmap_core.specs.Step.{answer_search, begin_session, end_session, end_sessions, end_former, in_session, is_full, is_too_big, next_session, publish, renew, step, step_ask}
 use Rattle.ifmap_core.proofs.Clients.{all_found, all_push, changed_clients, changed_counted, changed_found, changed_length, changed_rising, distinct_filter, distinct_push, find_none, goes_itself, one_less, remaining, rest_differ, shorter, sorted_push, text_is, text_same, touched, touched_client}
 use Rattle.ifmap_core.proofs.Graphs.{all_attached, all_retracted}
 use Rattle.ifmap_lemmas.specs.Filters.{all_filter, all_weaker}
@@ -62,8 +62,8 @@ in_session_counts state event accept (Some s) rest f h =
     elim (cases_Bool (is_text s.client event.client)) [ inl hit ↦ rw hit (f s (rw hit at h)) | inr miss ↦ rw miss (rw miss at h) ]
 
 search_begins_none : (state : State) (event : Event) (asked : Search) (s : Session) (rest : List (ℕ × List ℕ))
-    → AreNumberedAfter (search state asked s).0.counter rest
-    → AreNumberedAfter state.counter (ids_given_by event (search state asked s).1 ++ rest)
+    → AreNumberedAfter (answer_search state asked s).0.counter rest
+    → AreNumberedAfter state.counter (ids_given_by event (answer_search state asked s).1 ++ rest)
 search_begins_none state event asked s rest h =
     elim (cases_Bool (is_too_big state.graph asked)) [ inl hit ↦ rw hit (rw hit at h) | inr miss ↦ rw miss (rw miss at h) ]
 
@@ -80,7 +80,7 @@ step_counts state event (Request (the_request.EndSession id)) rest h =
 step_counts state event (Request (the_request.Publish id ops)) rest h =
     in_session_counts state event (publish state ops) (session_with_id id state.sessions) rest (λ s k. k) h
 step_counts state event (Request (the_request.Search id asked)) rest h =
-    in_session_counts state event (search state asked) (session_with_id id state.sessions) rest
+    in_session_counts state event (answer_search state asked) (session_with_id id state.sessions) rest
     (λ s k. search_begins_none state event asked s rest k) h
 
 pub numbered_from : (state : State) (history : History) → LegalFrom state history → AreNumberedAfter state.counter (ids_given history)
@@ -204,7 +204,7 @@ renewed_whole serial state w = record {
   most = subst (λ n. n ≤ most_sessions) (sym (changed_length serial state.moment state.sessions)) w.most;
 }
 
-search_whole : (state : State) (asked : Search) (s : Session) → IsWhole state → IsWhole (search state asked s).0
+search_whole : (state : State) (asked : Search) (s : Session) → IsWhole state → IsWhole (answer_search state asked s).0
 search_whole state asked s w =
     elim (cases_Bool (is_too_big state.graph asked)) [ inl hit ↦ rw hit w | inr miss ↦ rw miss (renewed_whole s.serial state w) ]
 
@@ -230,7 +230,7 @@ step_whole state event (Request (the_request.Publish id ops)) w =
       moment = state.moment;
     }) ops }) (record { rising = w.rising; counted = w.counted; apart = w.apart; most = w.most })) w
 step_whole state event (Request (the_request.Search id asked)) w =
-    in_session_whole state event.client (search state asked) (session_with_id id state.sessions) (λ s e. search_whole state asked s w) w
+    in_session_whole state event.client (answer_search state asked) (session_with_id id state.sessions) (λ s e. search_whole state asked s w) w
 
 after_whole : (state : State) (history : History) → IsWhole state → IsWhole (state_after state history)
 after_whole state [] w = w
@@ -292,7 +292,7 @@ renewed_sound serial state w = record {
       (λ a h. life_renewed serial state.moment state.sessions a.stored.publisher a.stored.life h) state.graph w.lives;
 }
 
-search_sound : (state : State) (asked : Search) (s : Session) → IsSound state → IsSound (search state asked s).0
+search_sound : (state : State) (asked : Search) (s : Session) → IsSound state → IsSound (answer_search state asked s).0
 search_sound state asked s w =
     elim (cases_Bool (is_too_big state.graph asked)) [ inl hit ↦ rw hit w | inr miss ↦ rw miss (renewed_sound s.serial state w) ]
 
@@ -390,7 +390,7 @@ module _ (attached_graph : (graph : List Attachment) (a : Attachment) → IsWhol
       (λ s e own. publish_sound state ops (λ (t : Session). is_text t.id id) s whole w e
       (subst IsClientName (sym (text_is s.client event.client own)) name) fit) w
   step_sound state event (Request (the_request.Search id asked)) name fit whole w =
-      in_session_sound state event.client (search state asked) (session_with_id id state.sessions)
+      in_session_sound state event.client (answer_search state asked) (session_with_id id state.sessions)
       (λ s e own. search_sound state asked s w) w
 
   after_sound : (state : State) (history : History) → AreFit history → IsWhole state → IsSound state → IsSound (state_after state history)

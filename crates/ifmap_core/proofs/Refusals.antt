@@ -12,7 +12,7 @@ use Rattle.ifmap_core.specs.Events.{Event}
 use Rattle.ifmap_core.specs.Causes.{AsksForNoneLeft, FindsTooMuch, IsRefusal, NamesAnothersSession, NamesNoSession}
 use Rattle.ifmap_core.specs.Fresh.{found_attachments, size_of}
 use Rattle.ifmap_core.specs.State.{State, advance}
-use Rattle.ifmap_core.specs.Step.{end_session, in_session, is_full, is_too_big, new_session, publish, search, step_ask}
+use Rattle.ifmap_core.specs.Step.{answer_search, end_session, in_session, is_full, is_too_big, new_session, publish, step_ask}
 use Rattle.ifmap_core.proofs.Clients.{text_is, text_same}
 use Rattle.ifmap_ident.specs.declared.codes.Code.{Code}
 use Rattle.ifmap_ident.specs.declared.codes.Code.TheVariants.{AccessDenied, InvalidSessionID, SearchResultsTooBig, SystemError}
@@ -21,18 +21,18 @@ use Rattle.ifmap_msg.specs.declared.requests.Search.{Search}
 use Rattle.ifmap_session.specs.Sessions.{Session, is_text, most_sessions, session_of_client, session_with_id}
 
 -- a search refuses for size alone
-search_refuses : (state : State) (asked : Search) (s : Session) (code : Code) → IsRefusal code (search state asked s).1
+search_refuses : (state : State) (asked : Search) (s : Session) (code : Code) → IsRefusal code (answer_search state asked s).1
     → (SearchResultsTooBig ≡ code) × (asked.max_size < size_of (found_attachments state.graph asked))
 search_refuses state asked s code h =
     elim (cases_Bool (is_too_big state.graph asked)) [ inl hit ↦ (rw hit at h, grind (arith, nat_tests, hit)) | inr miss ↦ absurd (rw miss at h) ]
 
 search_refused : (state : State) (asked : Search) (s : Session) → asked.max_size < size_of (found_attachments state.graph asked)
-    → IsRefusal SearchResultsTooBig (search state asked s).1
+    → IsRefusal SearchResultsTooBig (answer_search state asked s).1
 search_refused state asked s large =
     let hit : is_too_big state.graph asked ≡ true = grind (arith, nat_tests, large) in rw hit refl
 
-search_leaves : (state : State) (asked : Search) (s : Session) (code : Code) → IsRefusal code (search state asked s).1
-    → (search state asked s).0 ≡ state
+search_leaves : (state : State) (asked : Search) (s : Session) (code : Code) → IsRefusal code (answer_search state asked s).1
+    → (answer_search state asked s).0 ≡ state
 search_leaves state asked s code h =
     elim (cases_Bool (is_too_big state.graph asked)) [ inl hit ↦ rw hit refl | inr miss ↦ absurd (rw miss at h) ]
 
@@ -79,7 +79,7 @@ module _ (state : State) (client : List ℕ) (accept : Session → State × Answ
 
 -- a search in a session
 too_much : (state : State) (client : List ℕ) (o : Option Session) (asked : Search)
-    → IsRefusal SearchResultsTooBig (in_session state client o (search state asked)).1
+    → IsRefusal SearchResultsTooBig (in_session state client o (answer_search state asked)).1
     ↔ (((s : Session) × (o ≡ Some s) × (s.client ≡ client)) × (asked.max_size < size_of (found_attachments state.graph asked)))
 too_much state client None asked = ((λ h. let bad : InvalidSessionID ≡ SearchResultsTooBig = h in cc), (λ h. let bad = h.0.1 in cc))
 too_much state client (Some s) asked = (
@@ -155,7 +155,7 @@ invalid_session state event (Request (the_request.Publish id ops)) =
     missing (advance event.moment state) event.client (publish (advance event.moment state) ops) (session_with_id id state.sessions)
     (λ s h. h)
 invalid_session state event (Request (the_request.Search id asked)) =
-    missing (advance event.moment state) event.client (search (advance event.moment state) asked)
+    missing (advance event.moment state) event.client (answer_search (advance event.moment state) asked)
     (session_with_id id state.sessions)
     (λ s h. let bad : SearchResultsTooBig ≡ InvalidSessionID = (search_refuses (advance event.moment state) asked s InvalidSessionID h).0 in cc)
 
@@ -172,7 +172,7 @@ access_denied state event (Request (the_request.Publish id ops)) =
     denied (advance event.moment state) event.client (publish (advance event.moment state) ops) (session_with_id id state.sessions)
     (λ s h. h)
 access_denied state event (Request (the_request.Search id asked)) =
-    denied (advance event.moment state) event.client (search (advance event.moment state) asked)
+    denied (advance event.moment state) event.client (answer_search (advance event.moment state) asked)
     (session_with_id id state.sessions)
     (λ s h. let bad : SearchResultsTooBig ≡ AccessDenied = (search_refuses (advance event.moment state) asked s AccessDenied h).0 in cc)
 
@@ -190,7 +190,7 @@ system_error state event (Request (the_request.Publish id ops)) = (
   (λ h. absurd h),
 )
 system_error state event (Request (the_request.Search id asked)) = (
-  other (advance event.moment state) event.client (search (advance event.moment state) asked)
+  other (advance event.moment state) event.client (answer_search (advance event.moment state) asked)
       (session_with_id id state.sessions) SystemError (λ e. cc) (λ e. cc)
       (λ s h. let bad : SearchResultsTooBig ≡ SystemError = (search_refuses (advance event.moment state) asked s SystemError h).0 in cc),
   (λ h. absurd h),
@@ -229,5 +229,5 @@ refusal_leaves state event code (Request (the_request.Publish id ops)) h =
     leaves (advance event.moment state) event.client (publish (advance event.moment state) ops) (session_with_id id state.sessions) code
     (λ s k. absurd k) h
 refusal_leaves state event code (Request (the_request.Search id asked)) h =
-    leaves (advance event.moment state) event.client (search (advance event.moment state) asked)
+    leaves (advance event.moment state) event.client (answer_search (advance event.moment state) asked)
     (session_with_id id state.sessions) code (λ s k. search_leaves (advance event.moment state) asked s code k) h

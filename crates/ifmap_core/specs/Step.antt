@@ -90,8 +90,8 @@ abbrev pub is_too_big : List Attachment → Search → Bool
 is_too_big graph search = nat_lt search.max_size (size_of (found_attachments graph search))
 
 -- the client searches in a session of its own: refused where too much is found
-abbrev pub search : State → Search → Session → State × Answer
-search state asked s =
+abbrev pub answer_search : State → Search → Session → State × Answer
+answer_search state asked s =
     if is_too_big state.graph asked
     then (state, refusal_with SearchResultsTooBig (limit_note (size_of (found_attachments state.graph asked)) asked.max_size))
     else (renew s.serial state, the_answer.Reply (the_reply.Found (fresh state.graph asked)))
@@ -104,7 +104,7 @@ step_ask state event (Request (the_request.EndSession id)) =
 step_ask state event (Request (the_request.Publish id ops)) =
     in_session state event.client (session_with_id id state.sessions) (publish state ops)
 step_ask state event (Request (the_request.Search id asked)) =
-    in_session state event.client (session_with_id id state.sessions) (search state asked)
+    in_session state event.client (session_with_id id state.sessions) (answer_search state asked)
 
 -- the state after an event, and its answer: the moment is taken in before all else
 abbrev pub step : State → Event → State × Answer

@@ -5,7 +5,7 @@ ghost use Rattle.ifmap_core.specs.Apply.{apply};
 ghost use Rattle.ifmap_core.specs.Causes.{AsksForNoneLeft, FindsTooMuch, IsRefusal, NamesAnothersSession, NamesNoSession};
 ghost use Rattle.ifmap_core.specs.Attachments.{attach_all};
 ghost use Rattle.ifmap_core.specs.State.{State, advance, opening};
-ghost use Rattle.ifmap_core.specs.Step.{end_session, in_session, is_full, new_session, publish, refusal, renew, search, step, step_ask};
+ghost use Rattle.ifmap_core.specs.Step.{answer_search, end_session, in_session, is_full, new_session, publish, refusal, renew, step, step_ask};
 ghost use Rattle.ifmap_graph.specs.Graph.{IsGraph};
 ghost use Rattle.ifmap_ident.specs.declared.codes.Code.{Code};
 ghost use Rattle.ifmap_msg.specs.Fit.{AreFitOps};
@@ -251,7 +251,7 @@ impl Core {
     ) -> Result<Answer, NoMemory>
         ensures answer { IfOk result (λ answer. (self.new, answer)
             ≡ in_session self.old client.now (session_with_id id.now self.old.sessions)
-            (search self.old search.now)) }
+            (answer_search self.old search.now)) }
         ensures err { OnErr result (self.new ≡ self.old) }
     {
         match self.own_serial(id, client) {
