@@ -13,7 +13,7 @@ ghost use Rattle.ifmap_session.specs.Sessions.{IsLive, Session, session_with_id}
 
 use crate::events::{Answer, Ask, Event};
 use crate::publishing::Author;
-use crate::searching::find;
+use crate::searching::find_entries;
 use ifmap_elem::{Copied, Equals, Many, Text};
 use ifmap_graph::{Graph, KeptAttachment};
 use ifmap_ident::Code;
@@ -255,7 +255,7 @@ impl Core {
         ensures err { OnErr result (self.new ≡ self.old) }
     {
         match self.own_serial(id, client) {
-            Ok(serial) => match find(alloc, &self.graph, search)? {
+            Ok(serial) => match find_entries(alloc, &self.graph, search)? {
                 Ok(entries) => {
                     self.renew(serial);
                     Ok(Answer::Reply(Reply::Found(entries)))

@@ -11,7 +11,7 @@ use std::alloc::{AllocError as NoMemory, Global};
 
 /// What the search finds in the graph, or the note of a refusal where its size is greater than the
 /// limit.
-pub fn find(
+pub fn find_entries(
     alloc: Global,
     graph: &Graph,
     search: &Search,
