@@ -224,11 +224,13 @@ step_whole state event (Request (the_request.EndSession id)) w =
     in_session_whole state event.client (end_session state) (session_with_id id state.sessions) (λ s e. ended_whole s.serial state w) w
 step_whole state event (Request (the_request.Publish id ops)) w =
     in_session_whole state event.client (publish state ops) (session_with_id id state.sessions)
-    (λ s e. renewed_whole s.serial (record state { graph = apply state.graph (record {
-      client = s.client;
-      serial = s.serial;
-      moment = state.moment;
-    }) ops }) (record { rising = w.rising; counted = w.counted; apart = w.apart; most = w.most })) w
+    (λ s e. renewed_whole s.serial (record state {
+      graph = apply state.graph (record {
+        client = s.client;
+        serial = s.serial;
+        moment = state.moment;
+      }) ops;
+    }) (record { rising = w.rising; counted = w.counted; apart = w.apart; most = w.most })) w
 step_whole state event (Request (the_request.Search id asked)) w =
     in_session_whole state event.client (answer_search state asked) (session_with_id id state.sessions) (λ s e. search_whole state asked s w) w
 
