@@ -37,9 +37,12 @@ name_text spaces name =
     if bytes_eq name.space [] then name.local else if bytes_eq name.space xml_space then codes "xml:" ++ name.local
     else numbered_prefix (place_of name.space spaces + 1) ++ (colon ∷ name.local)
 
+abbrev pub has_single_quote : List ℕ → Bool
+has_single_quote value = list_any (λ b. b == single_quote) value
+
 -- in single quotes, or in double quotes where it has a single one
 abbrev pub quote_of : List ℕ → ℕ
-quote_of value = if list_any (λ b. b == single_quote) value then double_quote else single_quote
+quote_of value = if has_single_quote value then double_quote else single_quote
 
 abbrev pub literal_text : List ℕ → List ℕ
 literal_text value = quote_of value ∷ (value ++ (quote_of value ∷ []))

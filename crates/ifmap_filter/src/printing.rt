@@ -1,6 +1,8 @@
 //! Prints filters.
 ghost use Rattle.std.specs.Prelude.{◌≡◌, ◌<◌, ◌≤◌, ◌+◌, ◌^◌, ◌++◌, ◌∷◌, [], IfOk, OnOk, codes, length, string_bytes};
-ghost use Rattle.ifmap_filter.specs.Printing.{HasSpaces, attribute_text, brackets_text, child_text, filter_text, grouped, joined_texts, literal_text, name_text, numbered_prefix, parts_text, place_of, printed, quote_of, test_name_text, test_text, text_in, word_in};
+ghost use Rattle.ifmap_elem.specs.Chars.{colon};
+ghost use Rattle.ifmap_filter.specs.declared.printing.Around.TheVariants.{Ands, Ors};
+ghost use Rattle.ifmap_filter.specs.Printing.{HasSpaces, ands_text, attribute_text, brackets_text, child_text, filter_text, grouped, has_single_quote, joined_texts, literal_text, name_text, numbered_prefix, ors_text, parts_text, place_of, printed, quote_of, test_name_text, test_text, text_in, word_in};
 
 use crate::filters::{Filter, Predicate, Test};
 use ifmap_elem::{Many, Name, Text};
@@ -34,13 +36,11 @@ fn push_tests(out: &mut String, spaces: &[Text], tests: &[Test]) -> Result<(), N
     ensures { OnOk result (string_bytes out.new
         ≡ string_bytes out.old ++ joined_texts (codes " or ") (test_text spaces.now) tests.now) }
 {
-    let Some((first, others)) = tests.split_first() else {
-        return Ok(());
-    };
-    push_test(out, spaces, first)?;
-    for test in others {
-        out.push_str(" or ")?;
+    let mut word = "";
+    for test in tests {
+        out.push_str(word)?;
         push_test(out, spaces, test)?;
+        word = " or ";
     }
     Ok(())
 }
@@ -50,14 +50,11 @@ fn push_test(out: &mut String, spaces: &[Text], test: &Test) -> Result<(), NoMem
         ≡ string_bytes out.old ++ test_text spaces.now test.now) }
 {
     push_test_name(out, spaces, &test.name)?;
-    push_brackets(out, spaces, &test.predicate)
+    push_brackets(out, spaces, &test.predicate)?;
+    Ok(())
 }
 
-fn push_test_name(
-    out: &mut String,
-    spaces: &[Text],
-    name: &Option<Name>,
-) -> Result<(), NoMemory>
+fn push_test_name(out: &mut String, spaces: &[Text], name: &Option<Name>) -> Result<(), NoMemory>
     ensures { OnOk result (string_bytes out.new
         ≡ string_bytes out.old ++ test_name_text spaces.now name.now) }
 {
@@ -79,7 +76,8 @@ fn push_brackets(
         Some(predicate) => {
             out.push_str("[")?;
             push_predicate(out, spaces, predicate, Around::Brackets)?;
-            out.push_str("]")
+            out.push_str("]")?;
+            Ok(())
         }
         None => Ok(()),
     }
@@ -98,16 +96,42 @@ fn push_predicate(
     match predicate {
         Predicate::Attr { local, value } => push_attribute(out, local, value),
         Predicate::Child { name, value } => push_child(out, spaces, name, value),
-        Predicate::And(parts) => match around {
-            Around::Brackets => push_parts(out, spaces, parts, Around::Ands),
-            Around::Ands => push_group(out, spaces, parts, Around::Ands),
-            Around::Ors => push_parts(out, spaces, parts, Around::Ands),
-        },
-        Predicate::Or(parts) => match around {
-            Around::Brackets => push_parts(out, spaces, parts, Around::Ors),
-            Around::Ands => push_group(out, spaces, parts, Around::Ors),
-            Around::Ors => push_group(out, spaces, parts, Around::Ors),
-        },
+        Predicate::And(parts) => push_ands(out, spaces, parts, around),
+        Predicate::Or(parts) => push_ors(out, spaces, parts, around),
+    }
+}
+
+#[cycle(printing)]
+fn push_ands(
+    out: &mut String,
+    spaces: &[Text],
+    parts: &Many<Predicate>,
+    around: Around,
+) -> Result<(), NoMemory>
+    ensures { OnOk result (string_bytes out.new ≡ string_bytes out.old
+        ++ text_in around (ands_text (parts_text spaces.now Ands parts.now))) }
+{
+    match around {
+        Around::Brackets => push_parts(out, spaces, parts, Around::Ands),
+        Around::Ands => push_group(out, spaces, parts, Around::Ands),
+        Around::Ors => push_parts(out, spaces, parts, Around::Ands),
+    }
+}
+
+#[cycle(printing)]
+fn push_ors(
+    out: &mut String,
+    spaces: &[Text],
+    parts: &Many<Predicate>,
+    around: Around,
+) -> Result<(), NoMemory>
+    ensures { OnOk result (string_bytes out.new ≡ string_bytes out.old
+        ++ text_in around (ors_text (parts_text spaces.now Ors parts.now))) }
+{
+    match around {
+        Around::Brackets => push_parts(out, spaces, parts, Around::Ors),
+        Around::Ands => push_group(out, spaces, parts, Around::Ors),
+        Around::Ors => push_group(out, spaces, parts, Around::Ors),
     }
 }
 
@@ -124,7 +148,8 @@ fn push_group(
 {
     out.push_str("(")?;
     push_parts(out, spaces, parts, around)?;
-    out.push_str(")")
+    out.push_str(")")?;
+    Ok(())
 }
 
 #[cycle(printing)]
@@ -137,13 +162,11 @@ fn push_parts(
     ensures { OnOk result (string_bytes out.new
         ≡ string_bytes out.old ++ parts_text spaces.now around parts.now) }
 {
-    let Some((first, others)) = parts.0.split_first() else {
-        return Ok(());
-    };
-    push_predicate(out, spaces, first, around)?;
-    for part in others {
-        out.push_str(word_in(around))?;
+    let mut word = "";
+    for part in &parts.0 {
+        out.push_str(word)?;
         push_predicate(out, spaces, part, around)?;
+        word = word_in(around);
     }
     Ok(())
 }
@@ -166,7 +189,8 @@ fn push_attribute(out: &mut String, local: &Text, value: &Text) -> Result<(), No
     out.push_str("@")?;
     out.push_str(local.as_str())?;
     out.push_str("=")?;
-    push_literal(out, value)
+    push_literal(out, value)?;
+    Ok(())
 }
 
 fn push_child(
@@ -180,7 +204,8 @@ fn push_child(
 {
     push_name(out, spaces, name)?;
     out.push_str("=")?;
-    push_literal(out, value)
+    push_literal(out, value)?;
+    Ok(())
 }
 
 fn push_literal(out: &mut String, value: &Text) -> Result<(), NoMemory>
@@ -197,11 +222,13 @@ fn push_literal(out: &mut String, value: &Text) -> Result<(), NoMemory>
 fn quote_of(value: &[u8]) -> &'static str
     ensures { result.now ≡ quote_of value.now ∷ [] }
 {
-    if value.iter().any(|b| *b == b'\'') {
-        "\""
-    } else {
-        "'"
-    }
+    if has_single_quote(value) { "\"" } else { "'" }
+}
+
+fn has_single_quote(value: &[u8]) -> bool
+    ensures { result ≡ has_single_quote value.now }
+{
+    value.iter().any(|b| *b == b'\'')
 }
 
 fn push_name(out: &mut String, spaces: &[Text], name: &Name) -> Result<(), NoMemory>
@@ -214,26 +241,44 @@ fn push_name(out: &mut String, spaces: &[Text], name: &Name) -> Result<(), NoMem
         return out.push_str(local);
     }
     if space == XML_SPACE {
-        out.push_str("xml:")?;
-        return out.push_str(local);
+        return push_qualified(out, "xml", local);
     }
-    push_prefix(out, place_of(space, spaces))?;
-    out.push_str(":")?;
-    out.push_str(local)
+    push_numbered(out, place_of(space, spaces), local)
 }
 
-// The prefix of the namespace with this place, counted from 0.
-fn push_prefix(out: &mut String, place: usize) -> Result<(), NoMemory>
+fn push_qualified(out: &mut String, prefix: &str, local: &str) -> Result<(), NoMemory>
+    ensures { OnOk result (string_bytes out.new
+        ≡ string_bytes out.old ++ (prefix.now ++ (colon ∷ local.now))) }
+{
+    out.push_str(prefix)?;
+    out.push_str(":")?;
+    out.push_str(local)?;
+    Ok(())
+}
+
+// With the prefix of the namespace that has this place, counted from 0.
+fn push_numbered(out: &mut String, place: usize, local: &str) -> Result<(), NoMemory>
     requires { place < 2 ^ 63 }
     ensures { OnOk result (string_bytes out.new
-        ≡ string_bytes out.old ++ numbered_prefix (place + 1)) }
+        ≡ string_bytes out.old ++ (numbered_prefix (place + 1) ++ (colon ∷ local.now))) }
+{
+    push_prefix(out, place + 1)?;
+    out.push_str(":")?;
+    out.push_str(local)?;
+    Ok(())
+}
+
+fn push_prefix(out: &mut String, number: usize) -> Result<(), NoMemory>
+    ensures { OnOk result (string_bytes out.new ≡ string_bytes out.old ++ numbered_prefix number) }
 {
     let mut digits = Buffer::new();
     out.push_str("f")?;
-    out.push_str(digits.format(place + 1))
+    out.push_str(digits.format(number))?;
+    Ok(())
 }
 
 // The place of the namespace, and the end where it is not among them.
+#[tactic(auto, using(crate::proofs::PrintLaws::at_place, crate::proofs::PrintLaws::past_place, crate::proofs::PrintLaws::no_place))]
 fn place_of(space: &str, spaces: &[Text]) -> usize
     ensures place { result ≡ place_of space.now spaces.now }
     ensures within { result ≤ length spaces.now }
