@@ -2,7 +2,8 @@
 ghost use Rattle.std.specs.Prelude.{◌≡◌, ◌<◌, ◌≤◌, ◌+◌, ◌^◌, ◌++◌, ◌∷◌, [], IfOk, OnOk, codes, length, string_bytes};
 ghost use Rattle.ifmap_elem.specs.Chars.{colon};
 ghost use Rattle.ifmap_filter.specs.declared.printing.Around.TheVariants.{Ands, Ors};
-ghost use Rattle.ifmap_filter.specs.Printing.{HasSpaces, ands_text, attribute_text, brackets_text, child_text, filter_text, grouped, has_single_quote, joined_texts, literal_text, name_text, numbered_prefix, ors_text, parts_text, place_of, printed, quote_of, test_name_text, test_text, text_in, word_in};
+ghost use Rattle.ifmap_filter.specs.Printing.{CanBeParsed, HasSpaces, ands_text, attribute_text, brackets_text, child_text, filter_text, grouped, has_single_quote, joined_texts, literal_text, name_text, numbered_prefix, numbered_scope, ors_text, parts_text, place_of, printed, quote_of, test_name_text, test_text, text_in, word_in};
+ghost use Rattle.ifmap_filter.specs.Texts.{Writes};
 
 use crate::filters::{Filter, Predicate, Test};
 use ifmap_elem::{Many, Name, Text};
@@ -22,14 +23,25 @@ pub(crate) enum Around {
 
 impl Filter {
     /// The text of the filter, where its namespaces have the prefixes `f1`, `f2` and so on, in order.
+    /// In the scope of these prefixes it is parsed as the filter, where some text is.
     pub fn print(&self, alloc: Global, spaces: &Many<Text>) -> Result<Text, NoMemory>
         requires { HasSpaces spaces.now self.now }
         ensures text { IfOk result (λ text. text ≡ filter_text spaces.now self.now) }
+        ensures parsed_back { IfOk result (λ text.
+            CanBeParsed self.now → Writes text (numbered_scope spaces.now) self.now) }
     {
-        let mut out = String::new(alloc);
-        push_tests(&mut out, &spaces.0, &self.tests.0)?;
-        Ok(Text(out))
+        let text = text_of(alloc, spaces, &self.tests)?;
+        Ok(Text(text))
     }
+}
+
+fn text_of(alloc: Global, spaces: &Many<Text>, tests: &Many<Test>) -> Result<String, NoMemory>
+    ensures { IfOk result (λ text. string_bytes text
+        ≡ joined_texts (codes " or ") (test_text spaces.now) tests.now) }
+{
+    let mut out = String::new(alloc);
+    push_tests(&mut out, spaces.as_slice(), tests.as_slice())?;
+    Ok(out)
 }
 
 fn push_tests(out: &mut String, spaces: &[Text], tests: &[Test]) -> Result<(), NoMemory>
