@@ -1,12 +1,9 @@
 -- Texts whose characters are tokens, whatever stands after them. (1) Two texts in a row; (2) the tokens that are one character, and white space;
 -- (3) names and words; (4) literals; (5) what is known of the tokens of a text: a name's local part is one, and a literal has no quote of one
 -- kind.
-use Rattle.std.proofs.Common.{◌≡◌, ℕ, Bool, true, false, cond, List, [], ◌∷◌, ◌++◌, refl, ap, sym, ◌∙◌, subst, arith, ◌<◌, Some, None, append_assoc}
-use Rattle.std.specs.Prelude.{◌==◌, ◌||◌, not, if◌then◌else◌, ◌⊎◌, IsUtf8, chars, codes, encode_utf8_all}
-use Rattle.std.specs.List.{AllByRecursion, list_any}
+use Rattle.std.proofs.Common.{◌≡◌, ℕ, Bool, true, false, List, [], ◌∷◌, ◌++◌, refl, ap, sym, ◌∙◌, subst, arith, ◌<◌, Some, None, append_assoc}
+use Rattle.std.specs.Prelude.{◌==◌, if◌then◌else◌, IsUtf8, chars, codes, encode_utf8_all}
 use Rattle.std.specs.Str.{all_scalars}
-use Rattle.std.proofs.lemmas.Bool.{and_parts, cases_Bool}
-use Rattle.std.proofs.lemmas.List.{append-nil}
 use Rattle.std.proofs.lemmas.Str.{IsUtf8-append, IsUtf8-nil, chars-append, chars-nil, chars_from_encodes, encode_ascii}
 use Rattle.ifmap_lemmas.specs.Items.{To}
 use Rattle.ifmap_lemmas.specs.Members.{all_of_test}
@@ -14,15 +11,11 @@ use Rattle.ifmap_lemmas.specs.Numbers.{is_other}
 use Rattle.ifmap_lemmas.specs.Texts.{ascii_encoded, is_ascii}
 use Rattle.ifmap_elem.specs.Chars.{AllAre, colon, double_quote, is_white, single_quote, space_character}
 use Rattle.ifmap_elem.specs.Names.{is_name_character, is_name_start}
-use Rattle.ifmap_elem.specs.declared.tokens.Qualified.{Qualified}
 use Rattle.ifmap_filter.specs.declared.tokens.Token.{Token}
-use Rattle.ifmap_filter.specs.declared.tokens.Token.TheVariants.{Any, OpenBracket, CloseBracket, OpenParenthesis, CloseParenthesis, EqualsSign, At, Name, Literal}
+use Rattle.ifmap_filter.specs.declared.tokens.Token.TheVariants.{Any, OpenBracket, CloseBracket, OpenParenthesis, CloseParenthesis, EqualsSign, At, Name}
 use Rattle.ifmap_filter.specs.Grammar.{and_word, bare, or_word}
-use Rattle.ifmap_filter.specs.Printing.{literal_text, quote_of}
-use Rattle.ifmap_filter.specs.Tokens.{Taken, Takes, after_while, closed_literal, front_while, is_but, is_quote, literal_at, name_at, name_from, name_token, part_bytes, prefixed_name_at, symbol_of, taken, token_at, with_symbol, without_white}
-use Rattle.ifmap_filter.proofs.CharLaws.{same_number}
-use Rattle.ifmap_filter.proofs.Reaching.{IsAfter, IsLater, token_later, white_after}
-use Rattle.ifmap_filter.proofs.TokenLaws.{named, one_symbol, quoted}
+use Rattle.ifmap_filter.specs.Tokens.{Takes, after_while, front_while, is_quote, name_from, name_token, part_bytes, prefixed_name_at, symbol_of, taken, token_at, without_white}
+use Rattle.ifmap_filter.proofs.TokenLaws.{named, one_symbol}
 
 -- a name ends here
 abbrev pub Ends : List ℕ → Type 0
@@ -248,12 +241,24 @@ module _ (prefix local : List ℕ) (p : IsPart prefix) (q : IsPart local) where
   }
 
 pub or_part : IsPart (codes "or")
-or_part = record { first = 0x6F; others = 0x72 ∷ []; scalars = refl; bytes_are = ascii_encoded (codes "or") (all_of_test is_ascii (codes "or") refl); begins = refl;
-  goes_on = all_of_test is_name_character (codes "or") refl }
+or_part = record {
+  first = 0x6F;
+  others = 0x72 ∷ [];
+  scalars = refl;
+  bytes_are = ascii_encoded (codes "or") (all_of_test is_ascii (codes "or") refl);
+  begins = refl;
+  goes_on = all_of_test is_name_character (codes "or") refl;
+}
 
 pub and_part : IsPart (codes "and")
-and_part = record { first = 0x61; others = 0x6E ∷ (0x64 ∷ []); scalars = refl; bytes_are = ascii_encoded (codes "and") (all_of_test is_ascii (codes "and") refl);
-  begins = refl; goes_on = all_of_test is_name_character (codes "and") refl }
+and_part = record {
+  first = 0x61;
+  others = 0x6E ∷ (0x64 ∷ []);
+  scalars = refl;
+  bytes_are = ascii_encoded (codes "and") (all_of_test is_ascii (codes "and") refl);
+  begins = refl;
+  goes_on = all_of_test is_name_character (codes "and") refl;
+}
 
 -- a word between white space, which stands before further tokens
 pub record IsWord (word : List ℕ) (t : Token) : Type 0 where

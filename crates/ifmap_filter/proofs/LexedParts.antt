@@ -1,23 +1,21 @@
 -- Literals, and what is known of the tokens of a text. (1) The bytes of a quote in a text are the character; (2) a literal in the quotes that it
 -- has not; (3) the local part of a name token is a name part, and a literal has no quote of one kind.
 use Rattle.std.proofs.Common.{◌≡◌, ℕ, ◌+◌, ◌<◌, Bool, true, false, List, [], ◌∷◌, ◌++◌, length, get_or, refl, ap, sym, ◌∙◌, subst, arith, add-one, inl, inr, Option, Some, None, append_assoc}
-use Rattle.std.specs.Prelude.{◌==◌, ◌&&◌, ◌||◌, ◌⊎◌, not, if◌then◌else◌, IsUtf8, chars, codes, encode_utf8, encode_utf8_all}
+use Rattle.std.specs.Prelude.{◌==◌, ◌||◌, ◌⊎◌, not, if◌then◌else◌, IsUtf8, chars, encode_utf8, encode_utf8_all}
 use Rattle.std.specs.List.{list_any}
-use Rattle.std.specs.Str.{all_scalars, byte, NoCharPasses, NonePass}
+use Rattle.std.specs.Str.{all_scalars, byte, NonePass}
 use Rattle.std.proofs.lemmas.Bool.{and_parts, cases_Bool, false_from_ne_true}
 use Rattle.std.proofs.lemmas.Bool.Decides.{Decides-eqb}
-use Rattle.std.proofs.lemmas.List.{append-nil}
 use Rattle.std.proofs.lemmas.Str.{IsUtf8-append, NoCharPasses-byte, chars-append, chars_from_encodes, encode_ascii}
 use Rattle.ifmap_lemmas.specs.Items.{To}
 use Rattle.ifmap_elem.specs.Chars.{AllAre, colon, double_quote, equals_sign, is_white, single_quote}
 use Rattle.ifmap_elem.specs.Names.{is_name_character, is_name_start}
-use Rattle.ifmap_elem.specs.declared.tokens.Qualified.{Qualified}
 use Rattle.ifmap_filter.specs.declared.tokens.Token.{Token}
 use Rattle.ifmap_filter.specs.declared.tokens.Token.TheVariants.{Any, OpenBracket, CloseBracket, OpenParenthesis, CloseParenthesis, EqualsSign, At, Name, Literal}
 use Rattle.ifmap_filter.specs.Printing.{literal_text, quote_of}
 use Rattle.ifmap_filter.specs.Tokens.{Taken, Takes, after_while, closed_literal, front_while, is_but, is_quote, literal_at, name_at, name_from, name_token, part_bytes, prefixed_name_at, symbol_of, taken, token_at, with_symbol, without_white}
 use Rattle.ifmap_filter.proofs.CharLaws.{same_number}
-use Rattle.ifmap_filter.proofs.Lexed.{Ends, IsOne, IsPart, Lexed, Stops, after_all, after_one, front_all, not_white, one_chars, one_first, one_of}
+use Rattle.ifmap_filter.proofs.Lexed.{IsOne, IsPart, Lexed, Stops, after_all, after_one, front_all, not_white, one_chars, one_first, one_of}
 use Rattle.ifmap_filter.proofs.Reaching.{after_is, inner, token_later, white_after}
 use Rattle.ifmap_filter.proofs.TokenLaws.{quoted}
 
@@ -45,8 +43,8 @@ pub no_quote_byte : (q : ℕ) → q < 128 → (own : List ℕ) → AllAre (is_bu
 no_quote_byte q low own f =
     no_byte q low (encode_utf8_all own)
     (λ i here e.
-      let off = NoCharPasses-byte (λ c. c == q) (encode_utf8_all own) i (own, refl, none_passes q own f) here (omega (arith, e, low)) in
-      let wrong : true ≡ false = sym (same_number q) ∙ ap (λ n. n == q) (sym e) ∙ off in cc)
+    let off = NoCharPasses-byte (λ c. c == q) (encode_utf8_all own) i (own, refl, none_passes q own f) here (omega (arith, e, low)) in
+    let wrong : true ≡ false = sym (same_number q) ∙ ap (λ n. n == q) (sym e) ∙ off in cc)
 
 or_left : (a b : Bool) → (a || b) ≡ false → a ≡ false
 or_left true b e = cc
@@ -120,9 +118,12 @@ module _ (q : ℕ) (is : IsQuote q) (value : List ℕ) (w : IsWithout q value) w
   pub lexed_quoted : Lexed (q ∷ (value ++ (q ∷ []))) (Literal value ∷ [])
   lexed_quoted = record {
     is_text = after_one q is.one (value ++ (q ∷ [])) (IsUtf8-append value (q ∷ []) value_text quote_text);
-    to = λ cs e. subst (λ x. To Takes x (Literal value ∷ []) cs) (sym (literal_chars cs))
-        (cs, ap token_at (not_white q (w.own ++ (q ∷ cs)) is.no_white)
-        ∙ quoted (q ∷ (w.own ++ (q ∷ cs))) q (w.own ++ (q ∷ cs)) refl is.is ∙ literal_here cs, refl);
+    to = λ cs e. subst (λ x. To Takes x (Literal value ∷ []) cs) (sym (literal_chars cs)) (
+      cs,
+      ap token_at (not_white q (w.own ++ (q ∷ cs)) is.no_white)
+          ∙ quoted (q ∷ (w.own ++ (q ∷ cs))) q (w.own ++ (q ∷ cs)) refl is.is ∙ literal_here cs,
+      refl,
+    );
   }
 
 single_is : IsQuote single_quote

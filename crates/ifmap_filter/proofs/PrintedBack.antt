@@ -1,8 +1,8 @@
 -- What is printed of a filter is parsed as it. (1) A text that a rule takes as something; joined texts; (2) names by their prefixes, and
 -- comparisons; (3) rules in which parentheses nest deeper take what those do in which they nest less deep; (4) what is printed of a predicate where
 -- it stands as it was parsed, by the rule that took it; (5) tests and filters.
-use Rattle.std.proofs.Common.{◌≡◌, ◌≢◌, ℕ, ◌+◌, ◌≤◌, zero, suc, Bool, true, false, cond, List, [], ◌∷◌, ◌++◌, map, refl, ap, sym, ◌∙◌, subst, arith, inl, inr, Option, Some, None, append_assoc}
-use Rattle.std.specs.Prelude.{◌&&◌, ◌||◌, ◌⊎◌, ◌==◌, nat_le, not, if◌then◌else◌, IsUtf8, chars, codes}
+use Rattle.std.proofs.Common.{◌≡◌, ◌≢◌, ℕ, ◌+◌, ◌≤◌, zero, suc, Bool, true, false, List, [], ◌∷◌, ◌++◌, refl, ap, sym, ◌∙◌, subst, arith, inl, inr, Option, Some, None, append_assoc}
+use Rattle.std.specs.Prelude.{◌||◌, ◌⊎◌, ◌==◌, nat_le, chars, codes}
 use Rattle.std.specs.List.{flat_map, list_all, list_any}
 use Rattle.std.specs.Map.{lookup}
 use Rattle.std.specs.Int.{is_in_range}
@@ -32,12 +32,12 @@ use Rattle.ifmap_filter.specs.declared.filters.Test.{Test}
 use Rattle.ifmap_filter.specs.declared.filters.Filter.{Filter}
 use Rattle.ifmap_filter.specs.declared.tokens.Token.{Token}
 use Rattle.ifmap_filter.specs.declared.tokens.Token.TheVariants.{Any, OpenBracket, CloseBracket, OpenParenthesis, CloseParenthesis, EqualsSign, At, Name, Literal}
-use Rattle.ifmap_filter.specs.declared.printing.Around.TheVariants.{Brackets, Ands, Ors}
-use Rattle.ifmap_filter.specs.Grammar.{AreTests, AsksFor, IsFilter, Rule, StandsFor, TakesAnds, TakesAttribute, TakesChild, TakesComparison, TakesFactor, TakesGroup, TakesJoined, TakesMore, TakesOrPart, TakesOrs, TakesPredicate, TakesTest, and_word, bare, deepest, joined, or_word, space_of}
-use Rattle.ifmap_filter.specs.Printing.{CanBeParsed, HasSpaces, IsParsedBack, Printed, ands_text, attribute_text, brackets_text, child_text, comparison_text, filter_text, grouped, has_name_space, has_predicate_spaces, has_space, has_spaces, has_spaces_of, has_test_spaces, joined_texts, literal_text, name_text, numbered_prefix, numbered_rows, numbered_scope, ors_text, parts_text, place_of, printed, test_name_text, test_text}
+use Rattle.ifmap_filter.specs.declared.printing.Around.TheVariants.{Ands, Ors}
+use Rattle.ifmap_filter.specs.Grammar.{AreTests, AsksFor, Rule, StandsFor, TakesAnds, TakesComparison, TakesFactor, TakesJoined, TakesMore, TakesOrPart, TakesOrs, TakesPredicate, TakesTest, and_word, bare, deepest, joined, or_word}
+use Rattle.ifmap_filter.specs.Printing.{HasSpaces, IsParsedBack, Printed, ands_text, attribute_text, brackets_text, child_text, comparison_text, filter_text, grouped, has_name_space, has_predicate_spaces, has_space, has_spaces, has_spaces_of, has_test_spaces, joined_texts, literal_text, name_text, numbered_prefix, numbered_rows, numbered_scope, ors_text, parts_text, place_of, printed, test_name_text, test_text}
 use Rattle.ifmap_filter.specs.Texts.{Writes}
-use Rattle.ifmap_filter.specs.Tokens.{IsEnd, Takes, name_token, without_white}
-use Rattle.ifmap_filter.proofs.Lexed.{Ends, EndsName, IsPart, IsSymbol, IsWord, Lexed, and_is, any_is, at_is, before, both, close_bracket_is, close_is, equals_is, lexed_bare, lexed_prefixed, nothing, nothing_ends, open_bracket_is, open_is, or_is, symbol_alone, symbol_ends}
+use Rattle.ifmap_filter.specs.Tokens.{Takes, name_token}
+use Rattle.ifmap_filter.proofs.Lexed.{EndsName, IsPart, IsWord, Lexed, and_is, any_is, at_is, before, both, close_bracket_is, close_is, equals_is, lexed_bare, lexed_prefixed, nothing, nothing_ends, open_bracket_is, open_is, or_is, symbol_alone, symbol_ends}
 use Rattle.ifmap_filter.proofs.HoldLaws.{all_mapped}
 use Rattle.ifmap_filter.proofs.LexedParts.{AreTokens, IsLiteral, IsToken, are_tokens, lexed_literal}
 use Rattle.ifmap_filter.proofs.PrintLaws.{prints_and, prints_attr, prints_child, prints_or}
@@ -82,9 +82,13 @@ module _ (X : Type 0) (word : List ℕ) (wordy : Token) (is : IsWord word wordy)
         tokens = wordy ∷ (f.head ∷ (f.others ++ m.tokens));
         lexed = both (word ++ text x) (more_text xs) (wordy ∷ (f.head ∷ f.others)) m.tokens (is.stands (text x) f.head f.others f.lexed) m.lexed m.ends;
         ends = more_ends x xs;
-        takes = λ rest.
-            (f.head ∷ ((f.others ++ m.tokens) ++ rest), m.tokens ++ rest, refl,
-            subst (λ ts. Part (f.head ∷ ts) x (m.tokens ++ rest)) (sym (append_assoc f.others m.tokens rest)) (f.takes (m.tokens ++ rest)), m.takes rest);
+        takes = λ rest. (
+          f.head ∷ ((f.others ++ m.tokens) ++ rest),
+          m.tokens ++ rest,
+          refl,
+          subst (λ ts. Part (f.head ∷ ts) x (m.tokens ++ rest)) (sym (append_assoc f.others m.tokens rest)) (f.takes (m.tokens ++ rest)),
+          m.takes rest,
+        );
       }
 
   -- the first and the others
@@ -101,9 +105,11 @@ module _ (X : Type 0) (word : List ℕ) (wordy : Token) (is : IsWord word wordy)
         head = f.head;
         others = f.others ++ m.tokens;
         lexed = both (text x) (more_text xs) (f.head ∷ f.others) m.tokens f.lexed m.lexed m.ends;
-        takes = λ rest.
-            (m.tokens ++ rest,
-            subst (λ ts. Part (f.head ∷ ts) x (m.tokens ++ rest)) (sym (append_assoc f.others m.tokens rest)) (f.takes (m.tokens ++ rest)), m.takes rest);
+        takes = λ rest. (
+          m.tokens ++ rest,
+          subst (λ ts. Part (f.head ∷ ts) x (m.tokens ++ rest)) (sym (append_assoc f.others m.tokens rest)) (f.takes (m.tokens ++ rest)),
+          m.takes rest,
+        );
       }
 
 module _ (join : List Predicate → Predicate) (wordy : Token) (Part : Rule Predicate) where
@@ -178,8 +184,14 @@ prefix_part n =
     }
 
 xml_part : IsPart (codes "xml")
-xml_part = record { first = 0x78; others = 0x6D ∷ (0x6C ∷ []); scalars = refl; bytes_are = ascii_encoded (codes "xml") (all_of_test is_ascii (codes "xml") refl);
-  begins = refl; goes_on = all_of_test is_name_character (codes "xml") refl }
+xml_part = record {
+  first = 0x78;
+  others = 0x6D ∷ (0x6C ∷ []);
+  scalars = refl;
+  bytes_are = ascii_encoded (codes "xml") (all_of_test is_ascii (codes "xml") refl);
+  begins = refl;
+  goes_on = all_of_test is_name_character (codes "xml") refl;
+}
 
 row_here : (p : List ℕ → Bool) (k v : List ℕ) (rows : List (List ℕ × List ℕ)) → p k ≡ true → lookup p ((k, v) ∷ rows) ≡ Some v
 row_here p k v rows e = rw e refl
@@ -244,17 +256,17 @@ module _ (spaces : List (List ℕ)) (name : element.Name) (part : IsPart name.lo
   name_back : has_space spaces name.space ≡ true → Named spaces name
   name_back h = elim (cases_Bool (bytes_eq name.space [])) [
     | inl e ↦ record {
-        written = bare name.local;
-        stands = record { space_is = ap (λ z. Some z) (sym (eq_tells name.space [] e)); local_is = refl };
-        lexed = subst (λ t. Lexed t (Name (bare name.local) ∷ [])) (sym (bare_text e)) (lexed_bare name.local part);
-      }
+      written = bare name.local;
+      stands = record { space_is = ap (λ z. Some z) (sym (eq_tells name.space [] e)); local_is = refl };
+      lexed = subst (λ t. Lexed t (Name (bare name.local) ∷ [])) (sym (bare_text e)) (lexed_bare name.local part);
+    }
     | inr e ↦ elim (cases_Bool (bytes_eq name.space xml_space)) [
       | inl f ↦ record {
-          written = record { prefix = codes "xml"; local = name.local };
-          stands = record { space_is = ap (λ z. Some z) (sym (eq_tells name.space xml_space f)); local_is = refl };
-          lexed = subst (λ t. Lexed t (name_token (codes "xml") name.local ∷ [])) (sym (xml_text e f))
-              (lexed_prefixed (codes "xml") name.local xml_part part);
-        }
+        written = record { prefix = codes "xml"; local = name.local };
+        stands = record { space_is = ap (λ z. Some z) (sym (eq_tells name.space xml_space f)); local_is = refl };
+        lexed = subst (λ t. Lexed t (name_token (codes "xml") name.local ∷ [])) (sym (xml_text e f))
+            (lexed_prefixed (codes "xml") name.local xml_part part);
+      }
       | inr f ↦
           let place = place_of name.space spaces in
           let among = or_later (bytes_eq name.space xml_space) (list_any (bytes_eq name.space) spaces) f
@@ -418,9 +430,12 @@ module _ (spaces : List (List ℕ)) where
         (both text (codes ")") (f.head ∷ f.others) (CloseParenthesis ∷ []) f.lexed (symbol_alone 0x29 CloseParenthesis close_is)
         (symbol_ends 0x29 CloseParenthesis close_is []));
     takes = λ rest.
-        inr (f.head ∷ ((f.others ++ (CloseParenthesis ∷ [])) ++ rest), refl,
-        subst (λ ts. TakesOrs (Factor n) (f.head ∷ ts) p (CloseParenthesis ∷ rest)) (sym (append_assoc f.others (CloseParenthesis ∷ []) rest))
-        (f.takes (CloseParenthesis ∷ rest)));
+        inr (
+          f.head ∷ ((f.others ++ (CloseParenthesis ∷ [])) ++ rest),
+          refl,
+          subst (λ ts. TakesOrs (Factor n) (f.head ∷ ts) p (CloseParenthesis ∷ rest)) (sym (append_assoc f.others (CloseParenthesis ∷ []) rest))
+              (f.takes (CloseParenthesis ∷ rest)),
+        );
   }
 
   deeper_factor : (n : ℕ) (text : List ℕ) (p : Predicate) → Forms Predicate (Factor n) text p → Forms Predicate (Factor (suc n)) text p
@@ -474,17 +489,21 @@ module _ (spaces : List (List ℕ)) where
 
     comparison_back : (n : ℕ) → Known n (TakesComparison scope) (Stands n)
     comparison_back n ts p rest (inl a) v has =
-        let w : AreTokens (At ∷ (Name (bare a.local) ∷ (EqualsSign ∷ (Literal a.value ∷ rest)))) = subst AreTokens a.tokens_are v in
-        (comparison_stands n p (attribute_text a.local a.value) (ap (printed spaces) a.means ∙ prints_attr spaces a.local a.value)
-        (subst (Forms Predicate (TakesComparison (numbered_scope spaces)) (attribute_text a.local a.value)) (sym a.means)
-        (attribute_back (numbered_scope spaces) a.local a.value w.1.0 w.1.1.1.0)), w.1.1.1.1)
+        let w : AreTokens (At ∷ (Name (bare a.local) ∷ (EqualsSign ∷ (Literal a.value ∷ rest)))) = subst AreTokens a.tokens_are v in (
+          comparison_stands n p (attribute_text a.local a.value) (ap (printed spaces) a.means ∙ prints_attr spaces a.local a.value)
+              (subst (Forms Predicate (TakesComparison (numbered_scope spaces)) (attribute_text a.local a.value)) (sym a.means)
+              (attribute_back (numbered_scope spaces) a.local a.value w.1.0 w.1.1.1.0)),
+          w.1.1.1.1,
+        )
     comparison_back n ts p rest (inr c) v has =
         let w : AreTokens (Name c.written ∷ (EqualsSign ∷ (Literal c.value ∷ rest))) = subst AreTokens c.tokens_are v in
         let part : IsPart c.name.local = subst IsPart (sym c.named.local_is) w.0 in
-        let space : has_space spaces c.name.space ≡ true = sym (spaces_child spaces c.name c.value) ∙ ap (has_spaces spaces) (sym c.means) ∙ has in
-        (comparison_stands n p (child_text spaces c.name c.value) (ap (printed spaces) c.means ∙ prints_child spaces c.name c.value)
-        (subst (Forms Predicate (TakesComparison (numbered_scope spaces)) (child_text spaces c.name c.value)) (sym c.means)
-        (child_back spaces c.name c.value (name_back spaces c.name part space) w.1.1.0)), w.1.1.1)
+        let space : has_space spaces c.name.space ≡ true = sym (spaces_child spaces c.name c.value) ∙ ap (has_spaces spaces) (sym c.means) ∙ has in (
+          comparison_stands n p (child_text spaces c.name c.value) (ap (printed spaces) c.means ∙ prints_child spaces c.name c.value)
+              (subst (Forms Predicate (TakesComparison (numbered_scope spaces)) (child_text spaces c.name c.value)) (sym c.means)
+              (child_back spaces c.name c.value (name_back spaces c.name part space) w.1.1.0)),
+          w.1.1.1,
+        )
 
     module _ (n : ℕ) (factor : Known n (TakesFactor scope n) (Stands n)) where
       ands_parts : (first : Predicate) (others : List Predicate) (p : Predicate) → p ≡ joined And first others → Stands n first
@@ -576,10 +595,12 @@ module _ (spaces : List (List ℕ)) where
               (both text (codes "]") (f.head ∷ f.others) (CloseBracket ∷ []) f.lexed (symbol_alone 0x5D CloseBracket close_bracket_is)
               (symbol_ends 0x5D CloseBracket close_bracket_is []));
           ends = symbol_ends 0x5B OpenBracket open_bracket_is (text ++ codes "]");
-          takes = λ rest.
-              (f.head ∷ ((f.others ++ (CloseBracket ∷ [])) ++ rest), refl,
-              subst (λ ts. TakesOrPart (numbered_scope spaces) (f.head ∷ ts) p (CloseBracket ∷ rest)) (sym (append_assoc f.others (CloseBracket ∷ []) rest))
-              (f.takes (CloseBracket ∷ rest)));
+          takes = λ rest. (
+            f.head ∷ ((f.others ++ (CloseBracket ∷ [])) ++ rest),
+            refl,
+            subst (λ ts. TakesOrPart (numbered_scope spaces) (f.head ∷ ts) p (CloseBracket ∷ rest)) (sym (append_assoc f.others (CloseBracket ∷ []) rest))
+                (f.takes (CloseBracket ∷ rest)),
+          );
         }
 
     tail_back : (ts : List Token) (predicate : Option Predicate) (rest : List Token) → TakesPredicate scope ts predicate rest → AreTokens ts

@@ -205,12 +205,7 @@ fn push_attribute(out: &mut String, local: &Text, value: &Text) -> Result<(), No
     Ok(())
 }
 
-fn push_child(
-    out: &mut String,
-    spaces: &[Text],
-    name: &Name,
-    value: &Text,
-) -> Result<(), NoMemory>
+fn push_child(out: &mut String, spaces: &[Text], name: &Name, value: &Text) -> Result<(), NoMemory>
     ensures { OnOk result (string_bytes out.new
         ≡ string_bytes out.old ++ child_text spaces.now name.now value.now) }
 {
