@@ -7,7 +7,8 @@ ghost use Rattle.ifmap_ident.specs.Kinds.{identity_type_name, identity_types, ki
 ghost use Rattle.ifmap_ident.specs.declared.kinds.IdentityType.{IdentityType};
 ghost use Rattle.ifmap_ident.specs.declared.kinds.Kind.{Kind};
 
-use ifmap_elem::Name;
+use ifmap_elem::{Copied, Name};
+use std::alloc::{AllocError as NoMemory, Global};
 
 /// Which element an identifier is.
 #[derive(Clone, Copy, Debug, PartialEq, Eq)]
@@ -17,6 +18,12 @@ pub enum Kind {
     Identity,
     IpAddress,
     MacAddress,
+}
+
+impl Copied for Kind {
+    fn copy(&self, _alloc: Global) -> Result<Self, NoMemory> {
+        Ok(*self)
+    }
 }
 
 const KINDS: [Kind; 5] = [

@@ -2,7 +2,9 @@
 #![tactic(auto)]
 
 pub mod results;
+pub mod searches;
 pub mod sizes;
 
 pub use results::{Entry, Found, PollItem, SearchError};
+pub use searches::Search;
 pub use sizes::item_size;

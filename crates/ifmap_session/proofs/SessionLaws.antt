@@ -16,21 +16,18 @@ use Rattle.std.specs.List.{AllByRecursion, IsDistinct, filter, find, insert, lis
 use Rattle.std.specs.List.Sorted.{IsStrictlySortedBy, IsBinarySearchResult, IsSearchInRange}
 use Rattle.std.specs.Option.{IfSome, IsSome, is_some, option_map, option_or, option_to_list}
 use Rattle.std.specs.Result.{IfErr, IsErr, IsOk}
-use Rattle.std.specs.Ordering.{is_eq, nat_cmp, on}
-use Rattle.std.specs.declared.cmp.Ordering.{Ordering}
+use Rattle.std.specs.Ordering.{is_eq, nat_cmp}
 use Rattle.std.specs.declared.cmp.Ordering.TheVariants.{Less}
 use Rattle.ifmap_session.specs.declared.holders.Holder.{Holder}
 use Rattle.ifmap_session.specs.declared.rows.Row.{Row}
-use Rattle.ifmap_session.specs.Kept.{AreHolders, AreOwn, AreRows, BeginsWithSerial, IsOwn, client_order, holder_of, live_of, row_order, seats_of}
+use Rattle.ifmap_session.specs.Kept.{AreHolders, AreOwn, AreRows, IsOwn, client_order, holder_of, live_of, row_order, seats_of}
 use Rattle.ifmap_session.specs.Places.{IsPlaceFor, IsPlaceOf}
 use Rattle.ifmap_session.specs.Seats.{Seat}
-use Rattle.ifmap_session.specs.Sessions.{Session, change, is_text, most_sessions, session_of_client, session_with_id, session_with_serial, without_sessions}
+use Rattle.ifmap_session.specs.SessionIds.{BeginsWithSerial}
+use Rattle.ifmap_session.specs.Sessions.{IsLive, Session, change, is_text, most_sessions, session_of_client, session_order, session_with_id, session_with_serial, without_sessions}
 use Rattle.ifmap_session.proofs.Halving.{all_found, filter_same, find_insert, find_none, none_passes, place_for, placed}
 use Rattle.ifmap_session.proofs.RowLaws.{Own, Up, begun_last, changed, counted_filter, counted_push, counted_set, empty, ended, found, own_filter, own_push, own_set, seats_filter, taken}
 use Rattle.ifmap_lemmas.specs.Filters.{all_weaker, filter_all, filter_passes}
-
-abbrev pub session_order : Session → Session → Ordering
-session_order = on (λ (s : Session). s.serial) nat_cmp
 
 -- texts and numbers
 pub text_is : (a b : List ℕ) → is_text a b ≡ true → a ≡ b
@@ -358,6 +355,16 @@ found_again p q (y ∷ ys) x e h =
             | inr past ↦ rw miss (found_again p q ys x (rw past at e) h)
           ]
     ]
+
+-- a client's session is live by its serial
+pub client_live : (live : List Session) (c : List ℕ) (serial : ℕ) → option_map (λ (s : Session). s.serial) (session_of_client c live) ≡ Some serial
+    → IsLive serial live
+client_live live c serial e = go (session_of_client c live) refl e where
+  go : (o : Option Session) → session_of_client c live ≡ o → option_map (λ (s : Session). s.serial) o ≡ Some serial → IsLive serial live
+  go None same e = cc
+  go (Some s) same e =
+      let is : s.serial ≡ serial = cc in
+      found_again (λ (t : Session). is_text t.client c) (λ (t : Session). t.serial == serial) live s same (eq-eqb s.serial serial is)
 
 some_alike : {X Y : Type 0} (f : X → ℕ) (g : Y → ℕ) (o : Option X) (q : Option Y) → option_map f o ≡ option_map g q → IsSome q → IsSome o
 some_alike f g (Some x) q e h = refl

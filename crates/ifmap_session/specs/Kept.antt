@@ -1,7 +1,6 @@
 -- The live sessions as they are kept.
-use Rattle.std.specs.Prelude.{◌≡◌, ◌⊎◌, ℕ, ◌+◌, ◌-◌, ◌^◌, ◌≤◌, ◌<◌, List, ◌∷◌, ◌++◌, find, flat_map, length, map, IfSome, MatchOption, Option, None, Some, option_map, option_to_list, slice_get, slice_set, unwrap_or}
+use Rattle.std.specs.Prelude.{◌≡◌, ◌⊎◌, ℕ, ◌+◌, ◌-◌, ◌^◌, ◌≤◌, ◌<◌, List, find, flat_map, length, map, IfSome, MatchOption, Option, None, Some, option_map, option_to_list, slice_get, slice_set, unwrap_or}
 use Rattle.std.specs.Cmp.Lexicographic.{slice_cmp}
-use Rattle.std.specs.Fmt.{decimal}
 use Rattle.std.specs.List.{AllByRecursion, IsDistinct}
 use Rattle.std.specs.List.Sorted.{IsStrictlySortedBy}
 use Rattle.std.specs.Ordering.{nat_cmp, on}
@@ -9,7 +8,7 @@ use Rattle.std.specs.declared.cmp.Ordering.{Ordering}
 use Rattle.ifmap_session.specs.declared.holders.Holder.{Holder}
 use Rattle.ifmap_session.specs.declared.rows.Row.{Row}
 use Rattle.ifmap_session.specs.Seats.{Seat}
-use Rattle.ifmap_session.specs.SessionIds.{hyphen}
+use Rattle.ifmap_session.specs.SessionIds.{BeginsWithSerial}
 use Rattle.ifmap_session.specs.Sessions.{Session, is_text, most_sessions, session_of_client, session_with_serial}
 use Rattle.ifmap_session.specs.Stamps.{IsPower, IsTree, at, due_nodes, no_stamp}
 
@@ -33,10 +32,6 @@ client_order = on (λ (h : Holder). h.client) (slice_cmp nat_cmp)
 -- the entry of a client
 abbrev pub holder_of : List ℕ → List Holder → Option Holder
 holder_of client holders = find (λ h. is_text h.client client) holders
-
--- the serial in decimal and a hyphen stand first
-abbrev pub BeginsWithSerial : ℕ → List ℕ → Type 0
-BeginsWithSerial serial id = (rest : List ℕ) × (id ≡ decimal serial ++ hyphen ∷ rest)
 
 -- the session of a row has its serial, with which its id begins
 pub record IsOwn (serial : ℕ) (seat : Seat) : Type 0 where

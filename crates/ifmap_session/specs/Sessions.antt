@@ -1,9 +1,13 @@
 -- Live sessions, and what each call makes of their list.
-use Rattle.std.specs.Prelude.{◌≡◌, ◌≢◌, ◌≤◌, ℕ, ◌+◌, ◌==◌, nat_le, Bool, false, List, [], ◌∷◌, ◌++◌, filter, find, length, map, max, min, not, Option, None, Some, IsSome, option_map, unwrap_or, if◌then◌else◌}
+use Rattle.std.specs.Prelude.{◌≡◌, ◌≢◌, ◌≤◌, ◌<◌, ℕ, ◌+◌, ◌^◌, ◌==◌, nat_le, Bool, false, List, [], ◌∷◌, ◌++◌, filter, find, length, map, max, min, not, Option, None, Some, IsSome, option_map, unwrap_or, if◌then◌else◌}
 use Rattle.std.specs.Cmp.Lexicographic.{pointwise}
-use Rattle.std.specs.List.{list_any}
+use Rattle.std.specs.List.{AllByRecursion, IsDistinct, list_any}
+use Rattle.std.specs.List.Sorted.{IsStrictlySortedBy}
+use Rattle.std.specs.Ordering.{nat_cmp, on}
+use Rattle.std.specs.declared.cmp.Ordering.{Ordering}
 use Rattle.ifmap_search.specs.declared.results.PollItem.{PollItem}
 use Rattle.ifmap_search.specs.declared.results.PollItem.TheVariants as the_item
+use Rattle.ifmap_session.specs.SessionIds.{BeginsWithSerial}
 
 -- a live session
 pub record Session : Type 0 where
@@ -56,6 +60,22 @@ session_with_serial serial sessions = find (λ s. s.serial == serial) sessions
 -- a session with that serial is live
 abbrev pub IsLive : ℕ → List Session → Type 0
 IsLive serial sessions = IsSome (session_with_serial serial sessions)
+
+-- sessions by their serials
+abbrev pub session_order : Session → Session → Ordering
+session_order = on (λ (s : Session). s.serial) nat_cmp
+
+-- what holds of the live sessions at every moment
+pub record IsTable (table : Table) : Type 0 where
+  -- their serials rise, and none is above the one that was given last
+  pub rising : IsStrictlySortedBy session_order table.live
+  pub counted : AllByRecursion (λ (s : Session). s.serial ≤ table.counter) table.live
+  pub small : table.counter < 2 ^ 64
+  -- each id begins with its serial, so that no two are alike
+  pub ids : AllByRecursion (λ (s : Session). BeginsWithSerial s.serial s.id) table.live
+  -- a client has one session
+  pub apart : IsDistinct is_text (map (λ (s : Session). s.client) table.live)
+  pub few : length table.live ≤ most_sessions
 
 -- for how many more items the queue of a session has room
 abbrev pub spare_of : ℕ → List (ℕ × ℕ) → ℕ

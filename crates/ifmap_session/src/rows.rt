@@ -97,8 +97,8 @@ pub fn push_at(rows: &mut Vec<Row>, place: usize, item: PollItem)
 /// Queues an item in the session of a row, in place of all.
 pub fn overflow_at(rows: &mut Vec<Row>, place: usize, error: PollItem)
     requires { IsTaken (λ seat. 1 ≤ seat.spare + length seat.session.queue) rows.old.items place }
-    ensures rows { Rewrites place (λ a b. b.session ≡ overflowed error a.session)
-        rows.old.items rows.new.items }
+    ensures rows { Rewrites place (λ a b. (b.session ≡ overflowed error a.session)
+        × (b.spare + 1 ≡ a.spare + length a.session.queue)) rows.old.items rows.new.items }
     ensures len { vec_len rows.new ≡ vec_len rows.old }
     ensures capacity { vec_capacity rows.new ≡ vec_capacity rows.old }
 {

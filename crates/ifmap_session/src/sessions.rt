@@ -4,7 +4,7 @@ ghost use Rattle.std.specs.List.{list_any};
 ghost use Rattle.ifmap_search.specs.Sizes.{queue_size};
 ghost use Rattle.ifmap_session.specs.declared.errors.BeginError.TheVariants as the_error;
 ghost use Rattle.ifmap_session.specs.SessionIds.{session_id};
-ghost use Rattle.ifmap_session.specs.Sessions.{Changes, HasRoomForOne, IsAsBefore, IsLive, Session, begun, emptied, expired_serials, is_expired, most_sessions, overflowed, queued, renewed, session_of_client, session_with_id, session_with_serial, spare_of, unchanged, without_name, without_sessions};
+ghost use Rattle.ifmap_session.specs.Sessions.{Changes, HasRoomForOne, IsAsBefore, IsLive, IsTable, Session, begun, emptied, expired_serials, is_expired, most_sessions, overflowed, queued, renewed, session_of_client, session_with_id, session_with_serial, spare_of, unchanged, without_name, without_sessions};
 
 use crate::errors::BeginError;
 use crate::holders::{Holder, place_of_client};
@@ -84,11 +84,19 @@ impl Sessions {
         (self.holders.len() as u64, self.counter)
     }
 
+    /// What holds of the live sessions at every moment.
+    pub fn is_table(&self)
+        ensures { IsTable self.now }
+    {
+        let _counter = self.counter;
+    }
+
     /// The serial and the client of the live session with that id. It takes no memory.
     pub fn owner(&self, id: &Text) -> Option<(u64, &ClientName)>
         ensures some { IfSome result (λ owner. (s : Session)
             × (session_with_id id.now self.now.live ≡ Some s)
-            × (owner.0 ≡ s.serial) × (owner.1.now ≡ s.client)) }
+            × (owner.0 ≡ s.serial) × (owner.1.now ≡ s.client)
+            × (session_with_serial s.serial self.now.live ≡ Some s)) }
         ensures none { IfNone result (session_with_id id.now self.now.live ≡ None) }
     {
         let rows = &self.rows;
@@ -103,7 +111,9 @@ impl Sessions {
 
     /// The serial of the live session of that client. It takes no memory.
     pub fn of_client(&self, client: &ClientName) -> Option<u64>
-        ensures { result ≡ option_map (λ s. s.serial) (session_of_client client.now self.now.live) }
+        ensures serial { result
+            ≡ option_map (λ s. s.serial) (session_of_client client.now self.now.live) }
+        ensures live { IfSome result (λ serial. IsLive serial self.now.live) }
     {
         let place = place_of_client(&self.holders, client).ok()?;
         Some(self.holders[place].serial)
@@ -312,6 +322,9 @@ impl Sessions {
         requires live { IsLive serial self.old.live }
         requires room { HasRoomForOne serial self.old }
         ensures changes { Changes serial (overflowed error) self.old self.new }
+        ensures spare { (s : Session) → session_with_serial serial self.old.live ≡ Some s
+            → spare_of serial self.new.spare + 1
+            ≡ spare_of serial self.old.spare + length s.queue }
     {
         let place = place_in(&self.rows, serial);
         overflow_at(&mut self.rows, place, error);

@@ -49,7 +49,14 @@ fn a_session_expires_ttl_seconds_after_its_last_request(rt: HostRuntime) -> Resu
     {
         return Err(Fail::new("no session"));
     }
-    for (after, expired) in [(0, false), (179, false), (180, true), (1_000, true)] {
+    for (after, expired) in [
+        (0, false),
+        (179, false),
+        (180, true),
+        (1_000, true),
+        // An earlier moment than the one before.
+        (179, false),
+    ] {
         let at = moment(START + after)?;
         assert_eq!(rt; sessions.any_expired(at, 180), expired, "after {after}");
         let serials = sessions.expired(alloc, at, 180)?;

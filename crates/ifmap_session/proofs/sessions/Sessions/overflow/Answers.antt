@@ -1,4 +1,4 @@
-use Rattle.std.proofs.Common.{◌≡◌, refl, ap, subst, ◌+◌, ◌≤◌, length, arith}
+use Rattle.std.proofs.Common.{◌≡◌, refl, sym, ◌∙◌, ap, subst, ◌+◌, ◌≤◌, length, arith}
 use Rattle.ifmap_session.specs.Sessions.{Session, overflowed}
 use Rattle.ifmap_session.proofs.KeptLaws.{moments_same, rewritten}
 use Rattle.ifmap_session.proofs.RowLaws.{found, spare_found}
@@ -24,28 +24,39 @@ invariant_of-self c =
     let got = rw c.deref.ensures.value at c.place_in-place.ensures in
     let r = rewritten c.self.inside.counter c.args.serial c.self.inside.rows.items c.overflow_at.new.rows.items c.self.inside.holders.items
     c.self.inside.width c.self.inside.stamps.items c.self.invariant c.place_in-place.result got.0 got.1 (overflowed c.args.error)
-    (λ a b. b.session ≡ overflowed c.args.error a.session) (record { serial = λ s. refl; id = λ s. refl; client = λ s. refl })
-    (λ a b h. h) c.overflow_at.ensures.rows in
+    (λ a b. (b.session ≡ overflowed c.args.error a.session) × (b.spare + 1 ≡ a.spare + length a.session.queue)) (record { serial = λ s. refl; id = λ s. refl; client = λ s. refl })
+    (λ a b h. h.0) c.overflow_at.ensures.rows in
     record {
       sessions = r.sessions;
       clients = r.clients;
       moments = moments_same c.self.inside.counter c.args.serial c.self.inside.rows.items c.overflow_at.new.rows.items
           c.self.inside.holders.items c.self.inside.width c.self.inside.stamps.items c.self.invariant c.place_in-place.result got.0 got.1
-          (λ a b. b.session ≡ overflowed c.args.error a.session) (λ a b h. ap (λ (s : Session). s.last) (h)) c.overflow_at.ensures.rows;
+          (λ a b. (b.session ≡ overflowed c.args.error a.session) × (b.spare + 1 ≡ a.spare + length a.session.queue))
+          (λ a b h. ap (λ (s : Session). s.last) h.0) c.overflow_at.ensures.rows;
     }
 
-pub returns : goal.returns
-returns c =
+pub returns-clause-changes : goal.returns-clause-changes
+returns-clause-changes c =
     let got = rw c.deref.ensures.value at c.place_in-place.ensures in
     let r = rewritten c.self.inside.counter c.args.serial c.self.inside.rows.items c.overflow_at.new.rows.items c.self.inside.holders.items
     c.self.inside.width c.self.inside.stamps.items c.self.invariant c.place_in-place.result got.0 got.1 (overflowed c.args.error)
-    (λ a b. b.session ≡ overflowed c.args.error a.session) (record { serial = λ s. refl; id = λ s. refl; client = λ s. refl })
-    (λ a b h. h) c.overflow_at.ensures.rows in
+    (λ a b. (b.session ≡ overflowed c.args.error a.session) × (b.spare + 1 ≡ a.spare + length a.session.queue)) (record { serial = λ s. refl; id = λ s. refl; client = λ s. refl })
+    (λ a b h. h.0) c.overflow_at.ensures.rows in
     rw (← c.self.view_is) (record {
-      changes = record {
-        live = r.live;
-        counter = refl;
-        others = r.others;
-        room = let l = c.overflow_at.ensures.len in let k = c.overflow_at.ensures.capacity in omega arith;
-      };
+      live = r.live;
+      counter = refl;
+      others = r.others;
+      room = let l = c.overflow_at.ensures.len in let k = c.overflow_at.ensures.capacity in omega arith;
     })
+
+pub returns-clause-spare : goal.returns-clause-spare
+returns-clause-spare c = λ s is.
+    let got = rw c.deref.ensures.value at c.place_in-place.ensures in
+    let r = rewritten c.self.inside.counter c.args.serial c.self.inside.rows.items c.overflow_at.new.rows.items c.self.inside.holders.items
+    c.self.inside.width c.self.inside.stamps.items c.self.invariant c.place_in-place.result got.0 got.1 (overflowed c.args.error)
+    (λ a b. (b.session ≡ overflowed c.args.error a.session) × (b.spare + 1 ≡ a.spare + length a.session.queue)) (record { serial = λ s. refl; id = λ s. refl; client = λ s. refl })
+    (λ a b h. h.0) c.overflow_at.ensures.rows in
+    let same : r.before.session ≡ s = cc (sym r.there ∙ (rw (← c.self.view_is) at is)) in
+    let long : length r.before.session.queue ≡ length s.queue = ap (λ (t : Session). length t.queue) same in
+    let w = r.was in let i = r.is in let h = r.holds.1 in
+    rw (← c.self.view_is) (omega arith)

@@ -1,7 +1,7 @@
-use Rattle.std.proofs.Common.{◌≡◌, sym, ◌∙◌, false}
+use Rattle.std.proofs.Common.{◌≡◌, sym, ◌∙◌, subst, false, Some}
 use Rattle.std.proofs.lemmas.Bool.{both_ways, false_from_ne_true}
 use Rattle.ifmap_session.specs.Kept.{live_of}
-use Rattle.ifmap_session.specs.Sessions.{is_text}
+use Rattle.ifmap_session.specs.Sessions.{is_text, session_with_serial}
 use Rattle.ifmap_session.proofs.RowLaws.{found}
 use Rattle.ifmap_session.proofs.SessionLaws.{id_at, id_leads, id_nowhere, id_of_none, leads_to, live_counted, live_ids, live_up, own_at, text_is, text_same}
 use Rattle.ifmap_session.proofs.sessions.Sessions.owner.Goals as goal
@@ -43,7 +43,15 @@ returns-then-equals-clause-some c =
     (found c.in_ok-serial.serial c.self.inside.rows.items got.0 seat k.own.rising k.own.own got.1) in
     let same = sym c.id-2.ensures ∙ c.equals.ensures.0 c.if-equals.true in
     let own = own_at c.in_ok-serial.serial c.self.inside.rows.items got.0 seat k.own.own got.1 in
-    (seat.session, rw (← c.self.view_is) (rw (text_same seat.session.id c.args.id.now same) at at), sym own.numbered, c.client.ensures)
+    let there : session_with_serial seat.session.serial live ≡ Some seat.session =
+    subst (λ n. session_with_serial n live ≡ Some seat.session) (sym own.numbered)
+    (found c.in_ok-serial.serial c.self.inside.rows.items got.0 seat k.own.rising k.own.own got.1) in (
+      seat.session,
+      rw (← c.self.view_is) (rw (text_same seat.session.id c.args.id.now same) at at),
+      sym own.numbered,
+      c.client.ensures,
+      rw (← c.self.view_is) there,
+    )
 
 pub returns-else-equals-clause-none : goal.returns-else-equals-clause-none
 returns-else-equals-clause-none c =
