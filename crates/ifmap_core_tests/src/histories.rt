@@ -1,8 +1,11 @@
 //! Histories of the machine: events one after another, and what each is answered.
 ghost use Rattle.std.specs.Prelude.{◌≡◌, ◌<◌, IfOk};
+ghost use Rattle.std.specs.Char.{is_ascii_graphic};
+ghost use Rattle.std.specs.List.{list_all};
+ghost use Rattle.ifmap_elem.specs.Chars.{IsCharacters};
 ghost use Rattle.ifmap_msg.specs.Fit.{IsFitOp, IsFitRequest};
 
-use crate::roles::{mac_address, role_to_publish};
+use crate::roles::{first_address, role_to_publish};
 use ifmap_core::{Answer, Ask, Core, Event};
 use ifmap_elem::{Child, Element, Many, Text};
 use ifmap_ident::Item;
@@ -41,12 +44,29 @@ enum Asks {
 /// An event, with its random word, and the answer in words.
 type Turn = (u64, &'static str, u128, Asks, &'static str);
 
+// The text of an id of a session, of characters that can be seen.
+#[tactic(auto, using(crate::proofs::Graphic::graphic_characters))]
+fn id_text(alloc: Global, id: &str) -> Result<Text, Fail>
+    ensures { IfOk result IsCharacters }
+{
+    if !are_graphic(id.as_bytes()) {
+        return Err("an id of other characters".into());
+    }
+    Ok(Text::from_str(alloc, id)?)
+}
+
+fn are_graphic(bytes: &[u8]) -> bool
+    ensures { result ≡ list_all is_ascii_graphic bytes.now }
+{
+    bytes.iter().all(|b| b.is_ascii_graphic())
+}
+
 fn publish(alloc: Global, id: &str, update: PublishOp) -> Result<Request, Fail>
     requires { IsFitOp update }
     ensures { IfOk result IsFitRequest }
 {
     Ok(Request::Publish {
-        session: Text::from_str(alloc, id)?,
+        session: id_text(alloc, id)?,
         ops: Many(Vec::from_array(alloc, [update])?),
     })
 }
@@ -65,7 +85,7 @@ fn update(
     };
     let metadata = role_to_publish(alloc, value, name)?;
     Ok(PublishOp::Update {
-        item: Item::One(mac_address(alloc, 1)),
+        item: Item::One(first_address(alloc)?),
         elements: Many(Vec::from_array(alloc, [metadata])?),
         forever,
     })
@@ -77,7 +97,7 @@ fn request(alloc: Global, asks: Asks) -> Result<Request, Fail>
     match asks {
         Asks::New => Ok(Request::NewSession),
         Asks::End(id) => Ok(Request::EndSession {
-            session: Text::from_str(alloc, id)?,
+            session: id_text(alloc, id)?,
         }),
         Asks::Publish(id, name, cardinality) => {
             publish(alloc, id, update(alloc, name, cardinality, false)?)
@@ -86,9 +106,9 @@ fn request(alloc: Global, asks: Asks) -> Result<Request, Fail>
             publish(alloc, id, update(alloc, name, Cardinality::Multi, true)?)
         }
         Asks::Search(id, max_size) => Ok(Request::Search {
-            session: Text::from_str(alloc, id)?,
+            session: id_text(alloc, id)?,
             search: Search {
-                start: mac_address(alloc, 1),
+                start: first_address(alloc)?,
                 max_size,
             },
         }),
