@@ -347,7 +347,8 @@ module _ (addresses : (value : List ℕ) → AreBelow 256 6 value → IsIdentifi
       )
   fit_meaning body (Publish session ops) e =
       let m : Means body (Publish session ops) = meaning_is body (Publish session ops) e in
-      let item : IsCanonItem (One (MacAddress m.0.address [])) = record { ordered = tt; identifiers = (address_is m.0.address m.1.address, tt) } in (
+      let there = address_is m.0.address m.1.address in
+      let item : IsCanonItem (One (MacAddress m.0.address [])) = record { ordered = tt; identifiers = (there, tt) } in (
         subst IsCharacters (sym m.2) (id_characters m.0.session m.1.session),
         subst AreFitOps (sym m.3) ((item, (published_is_metadata m.0 m.1, tt)), tt),
       )
