@@ -13,7 +13,7 @@ use Rattle.std.proofs.lemmas.Str.{encode_ascii}
 use Rattle.ifmap_ident.specs.IdentityNames.{domain_name, without_last_dots}
 use Rattle.ifmap_lemmas.specs.Numbers.{is_number}
 
-abbrev is_dot : ℕ → Bool
+abbrev pub is_dot : ℕ → Bool
 is_dot c = c == byte "."
 
 -- ---- what is cut
@@ -44,7 +44,7 @@ no_dot_kept (b ∷ bs) f =
     (λ all. let d = dots_end b bs all in f d.0 d.1)
     (no_dot_kept bs (λ front e. f (b ∷ front) (ap (λ ys. b ∷ ys) e)))
 
-dot_encoded : encode_utf8 46 ≡ 46 ∷ []
+pub dot_encoded : encode_utf8 46 ≡ 46 ∷ []
 dot_encoded = encode_ascii 46 (lit< tt)
 
 suffix_cut : (m : List ℕ) (n : ℕ) → HasCharAt 46 m (length m - n) (length m) → m ≡ take (length m - n) m ++ 46 ∷ []

@@ -27,8 +27,8 @@ plain_is_ascii b h = grind (arith, nat_tests)
 plain_is_character : (b : ℕ) → IsAddressByte b → is_character b ≡ true
 plain_is_character b h = grind (arith, nat_tests)
 
-plain_characters : (text : List ℕ) → AllByRecursion IsAddressByte text → IsCharacters text
-plain_characters text h = (
+pub address_characters : (text : List ℕ) → AllByRecursion IsAddressByte text → IsCharacters text
+address_characters text h = (
   text,
   ascii_encoded text (all_weaker IsAddressByte (λ b. is_ascii b ≡ true) plain_is_ascii text h),
   all_weaker IsAddressByte (λ b. is_character b ≡ true) plain_is_character text h,
@@ -37,13 +37,13 @@ plain_characters text h = (
 another_text : (one other : List ℕ) → bytes_eq one one ≡ true → bytes_eq one other ≡ false → one ≢ other
 another_text one other here there e = let q : bytes_eq one one ≡ bytes_eq one other = ap (bytes_eq one) e in cc
 
-another_bare : (one : List ℕ) (n : Name) → is_bare one (bare_name one) ≡ true → is_bare one n ≡ false → bare_name one ≢ n
+pub another_bare : (one : List ℕ) (n : Name) → is_bare one (bare_name one) ≡ true → is_bare one n ≡ false → bare_name one ≢ n
 another_bare one n here there e = let q : is_bare one (bare_name one) ≡ is_bare one n = ap (is_bare one) e in cc
 
 no_namespace : IsNamespace []
 no_namespace = record { characters = ([], refl, tt); not_reserved = another_text [] xmlns_space refl refl }
 
-closed_name : (first : ℕ) (others : List ℕ) → list_all is_ascii (first ∷ others) ≡ true → is_name_start first ≡ true
+pub closed_name : (first : ℕ) (others : List ℕ) → list_all is_ascii (first ∷ others) ≡ true → is_name_start first ≡ true
     → list_all is_name_character others ≡ true → IsFitName (bare_name (first ∷ others))
 closed_name first others ascii begins goes_on = record {
   space = no_namespace;
@@ -68,7 +68,7 @@ mac_fits : (value : List ℕ) → AllByRecursion (λ b. b < 256) value → IsFit
 mac_fits value h =
     fit_whole (identifier_element (MacAddress value [])) (record {
       name = closed_name 0x6D (codes "ac-address") refl refl refl;
-      attributes = (value_fits (mac_address_text value) (plain_characters (mac_address_text value) (mac_address_plain value h)), tt);
+      attributes = (value_fits (mac_address_text value) (address_characters (mac_address_text value) (mac_address_plain value h)), tt);
       names_differ = (tt, tt);
       children = record { texts = tt; apart = tt; beside = λ any. tt };
     }) tt

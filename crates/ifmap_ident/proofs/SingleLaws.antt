@@ -38,10 +38,10 @@ use Rattle.ifmap_ident.proofs.MeaningLaws.{kind_of_meant, versions_differ}
 
 -- ---- parts
 
-one_of : (given : Option (List ℕ)) (x y : List ℕ) → given ≡ Some x → given ≡ Some y → x ≡ y
+pub one_of : (given : Option (List ℕ)) (x y : List ℕ) → given ≡ Some x → given ≡ Some y → x ≡ y
 one_of given x y p q = one_value x y (sym p ∙ q)
 
-one_definition : (kind : IdentityType) (given : Option (List ℕ)) (x y : List ℕ) → IsDefinition kind given x → IsDefinition kind given y
+pub one_definition : (kind : IdentityType) (given : Option (List ℕ)) (x y : List ℕ) → IsDefinition kind given x → IsDefinition kind given y
     → x ≡ y
 one_definition types.Other given x y p q = one_of given x y p.0 q.0
 one_definition types.AikName given x y p q = p ∙ sym q
@@ -54,7 +54,7 @@ one_definition types.Username given x y p q = p ∙ sym q
 one_definition types.SipUri given x y p q = p ∙ sym q
 one_definition types.TelUri given x y p q = p ∙ sym q
 
-one_kept : (form : NameForm) (text x y : List ℕ) → IsKept form text x → IsKept form text y → x ≡ y
+pub one_kept : (form : NameForm) (text x y : List ℕ) → IsKept form text x → IsKept form text y → x ≡ y
 one_kept Literal text x y p q = p ∙ sym q
 one_kept Domain text x y p q = p ∙ sym q
 one_kept Spelled text x y p q =
@@ -65,11 +65,11 @@ text_or : List ℕ → Child-F Child Element → List ℕ
 text_or d (Child-F.Element e) = d
 text_or d (Child-F.Text t) = t
 
-one_text : (x y : List ℕ) → the.Text x ≡ the.Text y → x ≡ y
+pub one_text : (x y : List ℕ) → the.Text x ≡ the.Text y → x ≡ y
 unfolding text_or
 one_text x y e = ap (text_or x) (sym (out_text x) ∙ ap out-Child e ∙ out_text y)
 
-one_member : {X : Type 0} (x y : X) → x ∷ [] ≡ y ∷ [] → x ≡ y
+pub one_member : {X : Type 0} (x y : X) → x ∷ [] ≡ y ∷ [] → x ≡ y
 one_member x y e = cc
 
 one_name_held : (child : Element) (x y : List ℕ) → HoldsName child x → HoldsName child y → x ≡ y
