@@ -1,10 +1,10 @@
 -- Names of domains: the full stops at the end are cut, and a name that is kept is kept as it is.
-use Rattle.std.proofs.Common.{◌≡◌, ◌≢◌, ℕ, ◌+◌, ◌-◌, ◌==◌, ◌&&◌, Bool, true, false, cond, List, [], ◌∷◌, ◌++◌, map, length, take, drop, Option, None, Some, IfSome, refl, sym, ◌∙◌, ap, subst, arith, lit<, ◌⊎◌, inl, inr}
+use Rattle.std.proofs.Common.{◌≡◌, ◌≢◌, ℕ, ◌-◌, ◌==◌, ◌&&◌, Bool, true, false, cond, List, [], ◌∷◌, ◌++◌, map, length, take, Option, None, Some, IfSome, refl, sym, ◌∙◌, ap, arith, lit<}
 use Rattle.std.specs.Prelude.{encode_utf8}
 use Rattle.std.specs.Char.{to_ascii_lowercase}
 use Rattle.std.specs.List.{list_all}
 use Rattle.std.specs.Str.{byte}
-use Rattle.std.specs.Str.Pattern.{CutsSuffixes, FindsCharSuffix, HasCharAt, IsFullyTrimmed, IsTrimEndMatches}
+use Rattle.std.specs.Str.Pattern.{CutsSuffixes, FindsCharSuffix, HasCharAt, IsTrimEndMatches}
 use Rattle.std.proofs.lemmas.Bool.Decides.{nat_tests}
 use Rattle.std.proofs.lemmas.Bool.{and_parts}
 use Rattle.std.proofs.Math.Seq.{drop-length}

@@ -1,20 +1,13 @@
 -- The element of an identifier has its attributes in order and two levels at most; and where an element gave the identifier that a
 -- document can have, a document can have this one too.
 -- 1. The attributes of each variant's element in order, and its levels.
--- 2. A value that an element gives is characters, and so is the name that is kept of it.
--- 3. An element without children fits, of attributes with names that are spelled out.
--- 4. A device's element, and the name in the one that gave it.
--- 5. The element of each variant.
-use Rattle.std.proofs.Common.{◌≡◌, ◌≢◌, ℕ, suc, ◌<◌, ◌≤◌, ◌==◌, ◌&&◌, Bool, true, false, not, cond, List, [], ◌∷◌, ◌++◌, map, length, get_or, Option, None, Some, option_map, codes, unwrap_or, refl, sym, ◌∙◌, ap, subst, inl, inr, arith, append-nil}
-use Rattle.std.specs.Prelude.{encode_utf8, encode_utf8_all}
-use Rattle.std.specs.Char.{to_ascii_lowercase}
-use Rattle.std.specs.List.{AllByRecursion, filter, find, flat_map, list_all}
-use Rattle.std.specs.Str.{byte, bytes_eq}
-use Rattle.std.proofs.lemmas.Bool.{and_from, and_parts, cases_Bool, cases_lt, not-true}
-use Rattle.std.proofs.lemmas.Bool.Decides.{nat_tests}
-use Rattle.std.proofs.lemmas.List.{map-append}
-use Rattle.std.proofs.lemmas.List.Elements.{recursion_from_All, All-from_get_or}
-use Rattle.std.proofs.lemmas.Str.{encode_ascii, inside_one}
+-- 2. An element without children fits, of attributes with names that are spelled out.
+-- 3. A device's element, and the name in the one that gave it.
+-- 4. The element of each variant.
+use Rattle.std.proofs.Common.{◌≡◌, ◌≢◌, ℕ, suc, ◌≤◌, ◌&&◌, Bool, true, false, not, List, [], ◌∷◌, ◌++◌, map, codes, refl, sym, ◌∙◌, ap, subst, arith, append-nil}
+use Rattle.std.specs.List.{AllByRecursion, filter, flat_map, list_all}
+use Rattle.std.specs.Str.{bytes_eq}
+use Rattle.std.proofs.lemmas.Bool.{and_from, and_parts, not-true}
 use Rattle.ifmap_addresses.specs.IpV4.{IsIpV4, ip_v4_text}
 use Rattle.ifmap_addresses.specs.IpV4Laws.{below_at, ip_v4_plain}
 use Rattle.ifmap_addresses.specs.IpV6.{ip_v6_text}
@@ -24,12 +17,12 @@ use Rattle.ifmap_addresses.specs.MacAddressLaws.{mac_address_plain}
 use Rattle.ifmap_addresses.specs.Values.{AreBelow}
 use Rattle.ifmap_elem.specs.Arranged.{arrange, arrange_child, sort_attributes}
 use Rattle.ifmap_elem.specs.Building.{bare_attribute, bare_element, bare_name, is_bare}
-use Rattle.ifmap_elem.specs.Chars.{AllAre, IsCharacters, is_character}
-use Rattle.ifmap_elem.specs.Fit.{AreFitChildren, HasCharacters, IsFit, IsFitAlone, IsFitAttribute, IsFitName}
+use Rattle.ifmap_elem.specs.Chars.{IsCharacters}
+use Rattle.ifmap_elem.specs.Fit.{AreFitChildren, HasCharacters, IsFit, IsFitAlone, IsFitAttribute, IsFitName, IsNamespace}
 use Rattle.ifmap_elem.specs.Folds.{at_child_element, at_child_text, at_element}
 use Rattle.ifmap_elem.specs.Names.{is_name_character, is_name_start}
 use Rattle.ifmap_elem.specs.Nesting.{child_levels, child_nesting, element_levels, greatest, nesting}
-use Rattle.ifmap_elem.specs.Scopes.{AllDiffer}
+use Rattle.ifmap_elem.specs.Scopes.{AllDiffer, xmlns_space}
 use Rattle.ifmap_elem.specs.Spells.{Spells}
 use Rattle.ifmap_elem.specs.declared.elements.Attribute.{Attribute}
 use Rattle.ifmap_elem.specs.declared.elements.Child.{Child, out-Child}
@@ -42,23 +35,17 @@ use Rattle.ifmap_elem.specs.laws.FitLaws.{elements_in, elements_of_child, elemen
 use Rattle.ifmap_ident.specs.declared.identifiers.Identifier.{Identifier}
 use Rattle.ifmap_ident.specs.declared.identifiers.Identifier.TheVariants.{AccessRequest, Device, Identity, IpV4, IpV6, MacAddress}
 use Rattle.ifmap_ident.specs.declared.kinds.IdentityType.{IdentityType}
-use Rattle.ifmap_ident.specs.declared.kinds.IdentityType.TheVariants as types
-use Rattle.ifmap_ident.specs.declared.names.NameForm.{NameForm}
-use Rattle.ifmap_ident.specs.declared.names.NameForm.TheVariants.{Literal, Domain, Spelled}
-use Rattle.ifmap_ident.specs.Canon.{HasParts, IsDefinition, IsDevice, IsIdentifier, domain_of}
-use Rattle.ifmap_ident.specs.Identifiers.{attribute_unless_empty, domain_attributes, identifier_element}
-use Rattle.ifmap_ident.specs.IdentityNames.{IsKept, domain_name, name_form, without_last_dots}
+use Rattle.ifmap_ident.specs.Canon.{HasParts, IsDevice, IsIdentifier}
+use Rattle.ifmap_ident.specs.Identifiers.{domain_attributes, identifier_element}
+use Rattle.ifmap_ident.specs.IdentityNames.{name_form}
 use Rattle.ifmap_ident.specs.Kinds.{identity_type_name}
 use Rattle.ifmap_ident.specs.Parts.{is_solid, value_of}
-use Rattle.ifmap_ident.proofs.DotLaws.{dot_encoded, is_dot}
 use Rattle.ifmap_ident.proofs.FindLaws.{bare_itself}
-use Rattle.ifmap_ident.proofs.KindLaws.{one_value}
-use Rattle.ifmap_ident.proofs.MacLaws.{another_bare, closed_name, address_characters}
 use Rattle.ifmap_ident.proofs.PrintedLaws.{arranged_outer, inner, outer}
-use Rattle.ifmap_ident.proofs.Utf8Laws.{canonical_characters, characters_both, is_plain, no_characters, plain_characters}
-use Rattle.ifmap_lemmas.specs.Members.{all_both, all_of_test, all_weaker, both_all}
-use Rattle.ifmap_lemmas.specs.Numbers.{is_number}
-use Rattle.ifmap_lemmas.specs.Texts.{eq_itself, is_ascii}
+use Rattle.ifmap_ident.proofs.ValueLaws.{address_characters, definition_characters, domain_characters, kept_characters, value_characters}
+use Rattle.ifmap_ident.proofs.Utf8Laws.{is_plain, plain_characters}
+use Rattle.ifmap_lemmas.specs.Members.{all_both, all_of_test, both_all}
+use Rattle.ifmap_lemmas.specs.Texts.{ascii_encoded, eq_itself, is_ascii}
 
 -- ---- order and levels
 
@@ -106,126 +93,29 @@ element_levels_within (IpV4 value domain) = one_level (identifier_element (IpV4 
 element_levels_within (IpV6 value domain) = one_level (identifier_element (IpV6 value domain)) refl
 element_levels_within (MacAddress value domain) = one_level (identifier_element (MacAddress value domain)) refl
 
--- ---- values
-
-found_step : (x : Attribute) (b : Bool) (rest : Option Attribute) (text : List ℕ) → IsCharacters x.value
-    → (option_map (λ a. a.value) rest ≡ Some text → IsCharacters text) → option_map (λ a. a.value) (cond b (Some x) rest) ≡ Some text
-    → IsCharacters text
-found_step x true rest text here later e = subst IsCharacters (one_value x.value text e) here
-found_step x false rest text here later e = later e
-
-found_characters : (p : Attribute → Bool) (xs : List Attribute) (text : List ℕ) → AllByRecursion IsFitAttribute xs
-    → option_map (λ a. a.value) (find p xs) ≡ Some text → IsCharacters text
-found_characters p [] text f e = absurd cc
-found_characters p (x ∷ xs) text f e = found_step x (p x) (find p xs) text f.0.value (found_characters p xs text f.1) e
-
-value_characters : (local : List ℕ) (e : Element) (text : List ℕ) → IsFit e → value_of local e ≡ Some text → IsCharacters text
-value_characters local e text fit is =
-    found_characters (λ a. is_bare local a.name) e.attributes text (fit_parts e fit).0.attributes is
-
-or_empty : (given : Option (List ℕ)) → ((text : List ℕ) → given ≡ Some text → IsCharacters text) → IsCharacters (unwrap_or given [])
-or_empty None f = no_characters
-or_empty (Some text) f = f text refl
-
-domain_characters : (e : Element) (domain : List ℕ) → IsFit e → domain ≡ domain_of e → IsCharacters domain
-domain_characters e domain fit is =
-    subst IsCharacters (sym is) (or_empty (value_of (codes "administrative-domain") e)
-    (λ text. value_characters (codes "administrative-domain") e text fit))
-
-definition_characters : (kind : IdentityType) (given : Option (List ℕ)) (other : List ℕ)
-    → ((text : List ℕ) → given ≡ Some text → IsCharacters text) → IsDefinition kind given other → IsCharacters other
-definition_characters types.Other given other f d = f other d.0
-definition_characters types.AikName given other f d = subst IsCharacters (sym d) no_characters
-definition_characters types.DistinguishedName given other f d = subst IsCharacters (sym d) no_characters
-definition_characters types.DnsName given other f d = subst IsCharacters (sym d) no_characters
-definition_characters types.EmailAddress given other f d = subst IsCharacters (sym d) no_characters
-definition_characters types.HipHit given other f d = subst IsCharacters (sym d) no_characters
-definition_characters types.KerberosPrincipal given other f d = subst IsCharacters (sym d) no_characters
-definition_characters types.Username given other f d = subst IsCharacters (sym d) no_characters
-definition_characters types.SipUri given other f d = subst IsCharacters (sym d) no_characters
-definition_characters types.TelUri given other f d = subst IsCharacters (sym d) no_characters
-
--- ---- names of domains
-
--- a test that all bytes beyond ASCII pass is passed by all bytes of a character that passes
-character_passes : (p : ℕ → Bool) → ((b : ℕ) → 128 ≤ b → p b ≡ true) → (c : ℕ) → p c ≡ true → AllAre p (encode_utf8 c)
-character_passes p high c h =
-    let P : ℕ → Type 0 = λ b. p b ≡ true in
-    recursion_from_All P (encode_utf8 c) (All-from_get_or P (encode_utf8 c) 0 (λ k l. at_place k l))
-  where
-    at_place : (k : ℕ) → k < length (encode_utf8 c) → p (get_or (encode_utf8 c) k 0) ≡ true
-    at_place k l = elim (cases_lt (get_or (encode_utf8 c) k 0) 128) [
-      | inl low ↦ subst (λ (n : ℕ). p n ≡ true) (inside_one c [] (encode_utf8 c) k (sym (append-nil (encode_utf8 c))) l low) h
-      | inr g ↦ high (get_or (encode_utf8 c) k 0) g
-    ]
-
-one_character : (c : ℕ) → is_character c ≡ true → IsCharacters (encode_utf8 c)
-one_character c h = (c ∷ [], append-nil (encode_utf8 c), (h, tt))
-
-over_step : (t u : Bool) (b : ℕ) (ys zs : List ℕ) → t ≡ false → ys ≡ zs → cond (t && u) [] (b ∷ ys) ≡ b ∷ zs
-over_step true u b ys zs e q = absurd cc
-over_step false u b ys zs e q = ap (λ x. b ∷ x) q
-
-over_others : (xs rest : List ℕ) → AllAre (λ b. not (is_dot b)) xs → without_last_dots (xs ++ rest) ≡ xs ++ without_last_dots rest
-over_others [] rest f = refl
-over_others (b ∷ xs) rest f =
-    over_step (is_dot b) (list_all is_dot (xs ++ rest)) b (without_last_dots (xs ++ rest)) (xs ++ without_last_dots rest)
-    (not-true (is_dot b) f.0) (over_others xs rest f.1)
-
-high_is_no_dot : (b : ℕ) → 128 ≤ b → not (is_dot b) ≡ true
-high_is_no_dot b h = grind (arith, nat_tests)
-
-dot_first : (t : Bool) (xs : List ℕ) → IsCharacters xs → IsCharacters (cond t [] (46 ∷ xs))
-dot_first true xs h = no_characters
-dot_first false xs h = characters_both (46 ∷ []) xs (plain_characters (46 ∷ []) (refl, tt)) h
-
-dots_cut : (cs : List ℕ) → AllAre is_character cs → IsCharacters (without_last_dots (encode_utf8_all cs))
-dots_cut [] f = no_characters
-dots_cut (c ∷ cs) f = elim (cases_Bool (is_dot c)) [
-  | inl dot ↦ subst (λ (x : List ℕ). IsCharacters (without_last_dots (x ++ encode_utf8_all cs)))
-      (sym (ap encode_utf8 (is_number c 46 dot) ∙ dot_encoded))
-      (dot_first (list_all is_dot (46 ∷ encode_utf8_all cs)) (without_last_dots (encode_utf8_all cs)) (dots_cut cs f.1))
-  | inr other ↦ subst IsCharacters
-      (sym (over_others (encode_utf8 c) (encode_utf8_all cs)
-      (character_passes (λ b. not (is_dot b)) high_is_no_dot c (ap not other))))
-      (characters_both (encode_utf8 c) (without_last_dots (encode_utf8_all cs)) (one_character c f.0) (dots_cut cs f.1))
-]
-
-abbrev is_lower : ℕ → Bool
-is_lower b = to_ascii_lowercase b == b
-
-high_is_lower : (b : ℕ) → 128 ≤ b → is_lower b ≡ true
-high_is_lower b h = grind (arith, nat_tests)
-
-lower_is_plain : (b : ℕ) → b < 128 → is_character b ≡ true → is_plain (to_ascii_lowercase b) ≡ true
-lower_is_plain b l h = grind (arith, nat_tests)
-
-lower_itself : (xs : List ℕ) → AllAre is_lower xs → map to_ascii_lowercase xs ≡ xs
-lower_itself [] f = refl
-lower_itself (b ∷ xs) f = λ i. is_number (to_ascii_lowercase b) b f.0 i ∷ lower_itself xs f.1 i
-
-lower_one : (c : ℕ) → is_character c ≡ true → IsCharacters (map to_ascii_lowercase (encode_utf8 c))
-lower_one c h = elim (cases_lt c 128) [
-  | inl l ↦ subst (λ (x : List ℕ). IsCharacters (map to_ascii_lowercase x)) (sym (encode_ascii c l))
-      (plain_characters (to_ascii_lowercase c ∷ []) (lower_is_plain c l h, tt))
-  | inr g ↦ subst IsCharacters (sym (lower_itself (encode_utf8 c) (character_passes is_lower high_is_lower c (high_is_lower c g))))
-      (one_character c h)
-]
-
-lower_all : (cs : List ℕ) → AllAre is_character cs → IsCharacters (map to_ascii_lowercase (encode_utf8_all cs))
-lower_all [] f = no_characters
-lower_all (c ∷ cs) f =
-    subst IsCharacters (sym (map-append to_ascii_lowercase (encode_utf8 c) (encode_utf8_all cs)))
-    (characters_both (map to_ascii_lowercase (encode_utf8 c)) (map to_ascii_lowercase (encode_utf8_all cs)) (lower_one c f.0)
-    (lower_all cs f.1))
-
-domain_name_characters : (text : List ℕ) → IsCharacters text → IsCharacters (domain_name text)
-domain_name_characters text i =
-    let cut : IsCharacters (without_last_dots text) =
-    subst (λ (x : List ℕ). IsCharacters (without_last_dots x)) i.1 (dots_cut i.0 i.2) in
-    subst (λ (x : List ℕ). IsCharacters (map to_ascii_lowercase x)) cut.1 (lower_all cut.0 cut.2)
-
 -- ---- elements of attributes alone
+
+another_text : (one other : List ℕ) → bytes_eq one one ≡ true → bytes_eq one other ≡ false → one ≢ other
+another_text one other here there e = let q : bytes_eq one one ≡ bytes_eq one other = ap (bytes_eq one) e in cc
+
+another_bare : (one : List ℕ) (n : Name) → is_bare one (bare_name one) ≡ true → is_bare one n ≡ false → bare_name one ≢ n
+another_bare one n here there e = let q : is_bare one (bare_name one) ≡ is_bare one n = ap (is_bare one) e in cc
+
+no_namespace : IsNamespace []
+no_namespace = record { characters = ([], refl, tt); not_reserved = another_text [] xmlns_space refl refl }
+
+closed_name : (first : ℕ) (others : List ℕ) → list_all is_ascii (first ∷ others) ≡ true → is_name_start first ≡ true
+    → list_all is_name_character others ≡ true → IsFitName (bare_name (first ∷ others))
+closed_name first others ascii begins goes_on = record {
+  space = no_namespace;
+  local = record {
+    first = first;
+    others = others;
+    bytes_are = ascii_encoded (first ∷ others) (all_of_test is_ascii (first ∷ others) ascii);
+    begins = begins;
+    goes_on = all_of_test is_name_character others goes_on;
+  };
+}
 
 is_plain_name : List ℕ → Bool
 is_plain_name [] = false
@@ -340,7 +230,7 @@ address_fits type value [] t v d =
 address_fits type value (b ∷ bs) t v d =
     attributes_fit (codes "ip-address") _ refl refl (domain_fits (b ∷ bs) d, (type_fits type t, (value_fits value v, tt)))
 
-mac_fits : (value domain : List ℕ) → IsCharacters (mac_address_text value) → IsCharacters domain
+pub mac_fits : (value domain : List ℕ) → IsCharacters (mac_address_text value) → IsCharacters domain
     → IsFit (identifier_element (MacAddress value domain))
 unfolding is_plain_name same_name names_apart
 mac_fits value [] v d = attributes_fit (codes "mac-address") _ refl refl (value_fits (mac_address_text value) v, tt)
@@ -403,12 +293,6 @@ device_name_characters e name fit p =
 
 module _ (fits : (bytes : List ℕ) (r : Reading) → Spells bytes r → IsFit r.root)
     (v4_size : (text value : List ℕ) → IsIpV4 text value → AreBelow 256 4 value) where
-  kept_characters : (form : NameForm) (text name : List ℕ) → IsCharacters text → IsKept form text name → IsCharacters name
-  kept_characters Literal text name h kept = subst IsCharacters (sym kept) h
-  kept_characters Domain text name h kept = subst IsCharacters (sym kept) (domain_name_characters text h)
-  kept_characters Spelled text name h kept =
-      subst IsCharacters (sym kept.canonical) (canonical_characters kept.reading.root (fits text kept.reading kept.spelled))
-
   parts_fit : (e : Element) (i : Identifier) → IsFit e → HasParts e i → IsFit (identifier_element i)
   parts_fit e (AccessRequest name domain) fit p =
       access_request_fits name domain (value_characters (codes "name") e name fit p.name_is)
@@ -416,7 +300,7 @@ module _ (fits : (bytes : List ℕ) (r : Reading) → Spells bytes r → IsFit r
   parts_fit e (Device name) fit p = outer_fits name (device_name_characters e name fit p) p.holds.not_empty
   parts_fit e (Identity name kind other domain) fit p =
       identity_fits name kind other domain
-      (kept_characters (name_form kind other) p.text name (value_characters (codes "name") e p.text fit p.text_is) p.kept)
+      (kept_characters fits (name_form kind other) p.text name (value_characters (codes "name") e p.text fit p.text_is) p.kept)
       (value_characters (codes "type") e (identity_type_name kind) fit p.kind_is)
       (definition_characters kind (value_of (codes "other-type-definition") e) other
       (λ text. value_characters (codes "other-type-definition") e text fit) p.definition)

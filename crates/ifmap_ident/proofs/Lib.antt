@@ -18,3 +18,4 @@ pub mod SpelledLaws
 pub mod TotalLaws
 pub mod TypedLaws
 pub mod Utf8Laws
+pub mod ValueLaws

@@ -3,7 +3,7 @@
 -- 2. So two sets of parts of one variant are those of one identifier.
 -- 3. The variants differ by the element's name, and IPv4 from IPv6 by the type.
 -- 4. Two causes, or a cause and an identifier, do not stand together.
-use Rattle.std.proofs.Common.{◌≡◌, ◌≢◌, ℕ, ◌<◌, ◌≤◌, List, [], ◌∷◌, Option, None, Some, Result, Ok, Err, codes, length, unwrap_or, refl, sym, ◌∙◌, ap, subst, ◌⊎◌, inl, inr, arith}
+use Rattle.std.proofs.Common.{◌≡◌, ℕ, ◌<◌, ◌≤◌, List, [], ◌∷◌, Option, Some, Result, Ok, Err, codes, length, refl, sym, ◌∙◌, ap, subst, inl, inr, arith}
 use Rattle.ifmap_addresses.specs.IpV4.{IsIpV4}
 use Rattle.ifmap_addresses.specs.IpV6.{IsIpV6}
 use Rattle.ifmap_addresses.specs.IpV4Laws.{one_ip_v4}
@@ -29,11 +29,11 @@ use Rattle.ifmap_ident.specs.declared.names.NameForm.{NameForm}
 use Rattle.ifmap_ident.specs.declared.names.NameForm.TheVariants.{Literal, Domain, Spelled}
 use Rattle.ifmap_ident.specs.Canon.{HasParts, HoldsName, IsAccessRequest, IsAnswer, IsCanon, IsDefinition, IsDevice, IsIdentity, IsInvalid, IsIpAddress, IsMacAddressElement, IsMeant, IsTooLong, IsWrongKind, most_bytes}
 use Rattle.ifmap_ident.specs.Identifiers.{identifier_bytes, identifier_kind}
-use Rattle.ifmap_ident.specs.IdentityNames.{IsKept, IsSpelledName, name_form}
+use Rattle.ifmap_ident.specs.IdentityNames.{IsKept, name_form}
 use Rattle.ifmap_ident.specs.Kinds.{identity_type_name}
 use Rattle.ifmap_ident.specs.Laws.{AreOneAnswer}
 use Rattle.ifmap_ident.specs.Parts.{value_of}
-use Rattle.ifmap_ident.proofs.KindLaws.{kinds_are_one, one_value, types_are_one}
+use Rattle.ifmap_ident.proofs.KindLaws.{one_value, types_are_one}
 use Rattle.ifmap_ident.proofs.MeaningLaws.{kind_of_meant, versions_differ}
 
 -- ---- parts

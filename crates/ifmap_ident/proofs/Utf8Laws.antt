@@ -4,17 +4,15 @@
 -- 3. So is each part of a token: an assignment, a tag, a setting of the declaration.
 -- 4. So is each token before such, and then a list of tokens up to the end.
 -- 5. The canonical bytes of an element that fits spell it, and begin with no byte order mark.
-use Rattle.std.proofs.Common.{◌≡◌, ℕ, ◌<◌, ◌≤◌, ◌==◌, ◌&&◌, ◌||◌, true, false, Bool, List, [], ◌∷◌, ◌++◌, map, codes, refl, sym, subst, ap, ◌∙◌, ◌⊎◌, inl, inr, arith}
+use Rattle.std.proofs.Common.{◌≡◌, ℕ, ◌≤◌, ◌==◌, ◌&&◌, ◌||◌, true, Bool, List, [], ◌∷◌, ◌++◌, map, codes, refl, sym, subst, ◌∙◌, ◌⊎◌, inl, inr, arith}
 use Rattle.std.specs.Prelude.{IsUtf8}
 use Rattle.std.specs.Char.{to_ascii_uppercase}
-use Rattle.std.specs.List.{AllByRecursion}
 use Rattle.std.specs.Str.{all_scalars}
 use Rattle.std.proofs.Math.Utf8.{low_scalar, scalar}
 use Rattle.std.proofs.lemmas.Bool.{and_from, and_parts, cases_lt}
 use Rattle.std.proofs.lemmas.Bool.Decides.{nat_tests}
 use Rattle.std.proofs.lemmas.Str.{encodes-append}
 use Rattle.ifmap_elem.specs.declared.elements.Element.{Element}
-use Rattle.ifmap_elem.specs.declared.readings.Reading.{Reading}
 use Rattle.ifmap_elem.specs.declared.tokens.Assignment.{Assignment}
 use Rattle.ifmap_elem.specs.declared.tokens.Qualified.{Qualified}
 use Rattle.ifmap_elem.specs.declared.tokens.Tag.{Tag}
@@ -26,7 +24,7 @@ use Rattle.ifmap_elem.specs.Fit.{IsFit}
 use Rattle.ifmap_elem.specs.laws.CanonicalSpells.{canonical_spelled}
 use Rattle.ifmap_elem.specs.Names.{IsNamePart, IsQualified, is_name_character, is_name_start, name_bytes, prefixed}
 use Rattle.ifmap_elem.specs.Spells.{Spells}
-use Rattle.ifmap_elem.specs.Tokens.{TakesAssignment, TakesBetween, TakesDeclaration, TakesEnd, TakesOptional, TakesQuoted, TakesSetting, TakesTag, TakesText, TakesToken}
+use Rattle.ifmap_elem.specs.Tokens.{TakesAssignment, TakesBetween, TakesDeclaration, TakesEnd, TakesOptional, TakesQuoted, TakesSetting, TakesTag, TakesToken}
 use Rattle.ifmap_lemmas.specs.Items.{To}
 use Rattle.ifmap_lemmas.specs.Members.{all_append, all_of_test, all_weaker}
 use Rattle.ifmap_lemmas.specs.Texts.{ascii_encoded, is_ascii}
