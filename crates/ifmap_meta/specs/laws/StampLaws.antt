@@ -106,8 +106,8 @@ cardinality_stays publisher moment e =
     (any_stamped is_multi_value multi_is_content publisher (moment_text moment) e.attributes refl)
 
 -- content in order
-abbrev arranged_content : Element → Element
-arranged_content e = record {
+abbrev content_in_order : Element → Element
+content_in_order e = record {
   name = e.name;
   attributes = sort_attributes (without_stamps e.attributes);
   children = map arrange_child e.children;
@@ -117,7 +117,7 @@ arranged_content e = record {
 pub content_says : (e : Element) → cardinality_of (arrange (content_of e)) ≡ cardinality_of e
 content_says e =
     ap cardinality_of (arranged_is (content_of e))
-    ∙ one_cardinality (arranged_content e) e
+    ∙ one_cardinality (content_in_order e) e
     (any_content is_single_value single_is_content e.attributes) (any_content is_multi_value multi_is_content e.attributes)
 
 -- content has no stamps
