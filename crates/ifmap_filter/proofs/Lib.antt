@@ -4,7 +4,11 @@ pub mod Deciding
 pub mod Ending
 pub mod General
 pub mod HoldLaws
+pub mod Lexed
+pub mod LexedParts
 pub mod ParseLaws
+pub mod PrintLaws
+pub mod PrintedBack
 pub mod Reaching
 pub mod StandingLaws
 pub mod Stepping

@@ -2,6 +2,7 @@
 use Rattle.std.specs.Prelude.{◌≡◌, ◌⊎◌, ℕ, List, IsUtf8}
 use Rattle.ifmap_reader.specs.declared.scoping.Scope.{Scope}
 use Rattle.ifmap_filter.specs.declared.filters.Filter.{Filter}
+use Rattle.ifmap_filter.specs.Printing.{HasSpaces, IsParsedBack}
 use Rattle.ifmap_filter.specs.Texts.{StopsAt, Writes}
 
 -- it writes a filter, or stops to write one
@@ -18,3 +19,7 @@ OneFilter = (text : List ℕ) (scope : Scope) (filter other : Filter) → Writes
 
 abbrev pub OnePlace : Type 0
 OnePlace = (text : List ℕ) (scope : Scope) (at other : ℕ) → StopsAt text scope at → StopsAt text scope other → at ≡ other
+
+-- what is printed of a filter that some text writes, with each of its namespaces among those that have a prefix, is parsed as it
+abbrev pub PrintedIsParsedBack : Type 0
+PrintedIsParsedBack = (spaces : List (List ℕ)) (filter : Filter) → HasSpaces spaces filter → IsParsedBack spaces filter

@@ -1,5 +1,5 @@
 //! Filters of searches, subscriptions and deletes: tests of an element's name, its attributes and its
-//! children, joined by `and` and `or`. `parse` reads one from text, and `matches`
+//! children, joined by `and` and `or`. `parse` reads one from text, `print` writes it, and `matches`
 //! tells whether an element meets it.
 #![tactic(auto)]
 
@@ -11,6 +11,7 @@ mod lexing;
 pub mod matching;
 mod naming;
 pub mod parsing;
+pub mod printing;
 mod standing;
 pub mod tokens;
 
