@@ -10,6 +10,7 @@ pub mod ParseLaws
 pub mod PrintLaws
 pub mod PrintedBack
 pub mod Reaching
+pub mod SpaceLaws
 pub mod StandingLaws
 pub mod Stepping
 pub mod TextLaws

@@ -2,7 +2,7 @@
 -- comparisons; (3) rules in which parentheses nest deeper take what those do in which they nest less deep; (4) what is printed of a predicate where
 -- it stands as it was parsed, by the rule that took it; (5) tests and filters.
 use Rattle.std.proofs.Common.{◌≡◌, ◌≢◌, ℕ, ◌+◌, ◌≤◌, zero, suc, Bool, true, false, List, [], ◌∷◌, ◌++◌, refl, ap, sym, ◌∙◌, subst, arith, inl, inr, Option, Some, None, append_assoc}
-use Rattle.std.specs.Prelude.{◌||◌, ◌⊎◌, ◌==◌, nat_le, chars, codes}
+use Rattle.std.specs.Prelude.{◌||◌, ◌⊎◌, ◌==◌, nat_le, chars, codes, Ok, Err}
 use Rattle.std.specs.List.{flat_map, list_all, list_any}
 use Rattle.std.specs.Map.{lookup}
 use Rattle.std.specs.Int.{is_in_range}
@@ -10,6 +10,7 @@ use Rattle.std.specs.Str.{IsAscii, all_scalars, bytes_eq}
 use Rattle.std.specs.Str.Parse.{AllDigits}
 use Rattle.std.proofs.lemmas.Bool.{and_parts, cases_Bool, false_from_ne_true}
 use Rattle.std.proofs.lemmas.List.{append-nil}
+use Rattle.std.proofs.lemmas.List.Folds.{list_all-append}
 use Rattle.std.proofs.lemmas.Bool.Decides.{nat_tests}
 use Rattle.std.proofs.lemmas.Slice.Eq.{bytes_eq-Decides}
 use Rattle.std.proofs.lemmas.Str.{IsUtf8-from_ascii, chars-IsAscii, chars-nil, encodes-IsAscii, scalars-chars}
@@ -25,22 +26,23 @@ use Rattle.ifmap_elem.specs.Scopes.{xml_space}
 use Rattle.ifmap_elem.specs.declared.elements.Name as element
 use Rattle.ifmap_elem.specs.declared.tokens.Qualified.{Qualified}
 use Rattle.ifmap_reader.specs.declared.scoping.Scope.{Scope}
-use Rattle.ifmap_filter.specs.declared.filters.Predicate.{Predicate, Attr, Child, And, Or, fold-roll-Predicate}
-use Rattle.ifmap_filter.specs.declared.filters.Predicate.TheVariants.{rolls-And, rolls-Or, rolls-Child}
-use Rattle.ifmap_filter.specs.declared.filters.Predicate.TheOpen.{Predicate-F}
+use Rattle.ifmap_filter.specs.declared.errors.FilterError.TheVariants.{NotAFilter, NoMemory}
+use Rattle.ifmap_filter.specs.declared.filters.Predicate.{Predicate, Attr, Child, And, Or}
 use Rattle.ifmap_filter.specs.declared.filters.Test.{Test}
 use Rattle.ifmap_filter.specs.declared.filters.Filter.{Filter}
 use Rattle.ifmap_filter.specs.declared.tokens.Token.{Token}
 use Rattle.ifmap_filter.specs.declared.tokens.Token.TheVariants.{Any, OpenBracket, CloseBracket, OpenParenthesis, CloseParenthesis, EqualsSign, At, Name, Literal}
 use Rattle.ifmap_filter.specs.declared.printing.Around.TheVariants.{Ands, Ors}
 use Rattle.ifmap_filter.specs.Grammar.{AreTests, AsksFor, Rule, StandsFor, TakesAnds, TakesComparison, TakesFactor, TakesJoined, TakesMore, TakesOrPart, TakesOrs, TakesPredicate, TakesTest, and_word, bare, deepest, joined, or_word}
-use Rattle.ifmap_filter.specs.Printing.{HasSpaces, IsParsedBack, Printed, ands_text, attribute_text, brackets_text, child_text, comparison_text, filter_text, grouped, has_name_space, has_predicate_spaces, has_space, has_spaces, has_spaces_of, has_test_spaces, joined_texts, literal_text, name_text, numbered_prefix, numbered_rows, numbered_scope, ors_text, parts_text, place_of, printed, test_name_text, test_text}
-use Rattle.ifmap_filter.specs.Texts.{Writes}
+use Rattle.ifmap_filter.specs.Printing.{CanBeParsed, IsAnsweredBack, NestsNoDeeper, Printed, WritesBack, ands_text, attribute_text, brackets_text, child_text, comparison_text, filter_text, grouped, joined_texts, literal_text, name_text, numbered_prefix, numbered_rows, numbered_scope, ors_text, parts_text, place_of, printed, test_name_text, test_text}
+use Rattle.ifmap_filter.specs.Spaces.{HasSpaces, brackets_spaces, has_each, has_space, name_spaces, predicate_spaces, test_spaces}
+use Rattle.ifmap_filter.specs.Texts.{WritesWithin}
 use Rattle.ifmap_filter.specs.Tokens.{Takes, name_token}
 use Rattle.ifmap_filter.proofs.Lexed.{EndsName, IsPart, IsWord, Lexed, and_is, any_is, at_is, before, both, close_bracket_is, close_is, equals_is, lexed_bare, lexed_prefixed, nothing, nothing_ends, open_bracket_is, open_is, or_is, symbol_alone, symbol_ends}
-use Rattle.ifmap_filter.proofs.HoldLaws.{all_mapped}
+use Rattle.ifmap_filter.proofs.Deciding.{one_filter, stops_where_no_filter}
 use Rattle.ifmap_filter.proofs.LexedParts.{AreTokens, IsLiteral, IsToken, are_tokens, lexed_literal}
 use Rattle.ifmap_filter.proofs.PrintLaws.{prints_and, prints_attr, prints_child, prints_or}
+use Rattle.ifmap_filter.proofs.SpaceLaws.{and_true, each_of_all, had_and, had_child, had_or}
 
 -- (1) texts that rules take
 
@@ -345,19 +347,11 @@ comparison_within scope (suc n) ts p rest h = inl h
 
 -- (4) predicates
 
-spaces_child : (spaces : List (List ℕ)) (name : element.Name) (value : List ℕ) → has_spaces spaces (Child name value) ≡ has_space spaces name.space
-spaces_child spaces name value =
-    ap (has_spaces spaces) (sym (rolls-Child name value)) ∙ fold-roll-Predicate Bool (has_spaces_of spaces) (Predicate-F.Child name value)
+abbrev has_spaces : List (List ℕ) → Predicate → Bool
+has_spaces spaces p = has_each spaces (predicate_spaces p)
 
-spaces_and : (spaces : List (List ℕ)) (parts : List Predicate) → has_spaces spaces (And parts) ≡ list_all (has_spaces spaces) parts
-spaces_and spaces parts =
-    ap (has_spaces spaces) (sym (rolls-And parts)) ∙ fold-roll-Predicate Bool (has_spaces_of spaces) (Predicate-F.And parts)
-    ∙ all_mapped (has_spaces spaces) parts
-
-spaces_or : (spaces : List (List ℕ)) (parts : List Predicate) → has_spaces spaces (Or parts) ≡ list_all (has_spaces spaces) parts
-spaces_or spaces parts =
-    ap (has_spaces spaces) (sym (rolls-Or parts)) ∙ fold-roll-Predicate Bool (has_spaces_of spaces) (Predicate-F.Or parts)
-    ∙ all_mapped (has_spaces spaces) parts
+abbrev has_test_spaces : List (List ℕ) → Test → Bool
+has_test_spaces spaces test = has_each spaces (test_spaces test)
 
 -- what a rule takes from the tokens of a text is such, and tokens of a text are left
 abbrev Gives : (X : Type 0) → Rule X → (X → Bool) → (X → Type 0) → Type 0
@@ -498,7 +492,7 @@ module _ (spaces : List (List ℕ)) where
     comparison_back n ts p rest (inr c) v has =
         let w : AreTokens (Name c.written ∷ (EqualsSign ∷ (Literal c.value ∷ rest))) = subst AreTokens c.tokens_are v in
         let part : IsPart c.name.local = subst IsPart (sym c.named.local_is) w.0 in
-        let space : has_space spaces c.name.space ≡ true = sym (spaces_child spaces c.name c.value) ∙ ap (has_spaces spaces) (sym c.means) ∙ has in (
+        let space : has_space spaces c.name.space ≡ true = sym (had_child spaces c.name c.value) ∙ ap (has_spaces spaces) (sym c.means) ∙ has in (
           comparison_stands n p (child_text spaces c.name c.value) (ap (printed spaces) c.means ∙ prints_child spaces c.name c.value)
               (subst (Forms Predicate (TakesComparison (numbered_scope spaces)) (child_text spaces c.name c.value)) (sym c.means)
               (child_back spaces c.name c.value (name_back spaces c.name part space) w.1.1.0)),
@@ -531,12 +525,12 @@ module _ (spaces : List (List ℕ)) where
       and_spaces : (first : Predicate) (others : List Predicate) → has_spaces spaces (joined And first others) ≡ true
           → list_all (has_spaces spaces) (first ∷ others) ≡ true
       and_spaces first [] e = rw e refl
-      and_spaces first (q ∷ qs) e = sym (spaces_and spaces (first ∷ (q ∷ qs))) ∙ e
+      and_spaces first (q ∷ qs) e = sym (had_and spaces (first ∷ (q ∷ qs))) ∙ e
 
       or_spaces : (first : Predicate) (others : List Predicate) → has_spaces spaces (joined Or first others) ≡ true
           → list_all (has_spaces spaces) (first ∷ others) ≡ true
       or_spaces first [] e = rw e refl
-      or_spaces first (q ∷ qs) e = sym (spaces_or spaces (first ∷ (q ∷ qs))) ∙ e
+      or_spaces first (q ∷ qs) e = sym (had_or spaces (first ∷ (q ∷ qs))) ∙ e
 
       and_back : Known n (TakesAnds (TakesFactor scope n)) (AndPart n)
       and_back ts p rest d v has =
@@ -563,30 +557,34 @@ module _ (spaces : List (List ℕ)) where
         let part = or_back n (factor_back n) inner p (CloseParenthesis ∷ rest) g w.1 has in
         (group_stands n p part.0, part.1.1)
 
-    -- (5) tests
+  -- (5) tests, where parentheses nest at most so deep
+
+  module _ (scope : Scope) (depth : ℕ) where
+    abbrev printed_scope : Scope
+    printed_scope = numbered_scope spaces
 
     record PrintsTest (test : Test) : Type 0 where
-      pub forms : Forms Test (TakesTest (numbered_scope spaces)) (test_text spaces test) test
+      pub forms : Forms Test (TakesTest printed_scope depth) (test_text spaces test) test
 
     record Head (name : Option element.Name) : Type 0 where
       pub token : Token
-      pub asks : AsksFor (numbered_scope spaces) token name
+      pub asks : AsksFor printed_scope token name
       pub lexed : Lexed (test_name_text spaces name) (token ∷ [])
 
-    head_back : (t : Token) (name : Option element.Name) → AsksFor scope t name → IsToken t → has_name_space spaces name ≡ true → Head name
+    head_back : (t : Token) (name : Option element.Name) → AsksFor scope t name → IsToken t → has_each spaces (name_spaces name) ≡ true → Head name
     head_back t None e v has = record { token = Any; asks = refl; lexed = symbol_alone 0x2A Any any_is }
     head_back t (Some name) (q, e, s) v has =
         let w : IsToken (Name q) = subst IsToken e v in
-        let n = name_back spaces name (subst IsPart (sym s.local_is) w) has in
+        let n = name_back spaces name (subst IsPart (sym s.local_is) w) (sym (and_true (has_space spaces name.space)) ∙ has) in
         record { token = Name n.written; asks = (n.written, refl, n.stands); lexed = n.lexed }
 
     record Tail (predicate : Option Predicate) : Type 0 where
       pub tokens : List Token
       pub lexed : Lexed (brackets_text spaces predicate) tokens
       pub ends : EndsName (brackets_text spaces predicate)
-      pub takes : (rest : List Token) → TakesPredicate (numbered_scope spaces) (tokens ++ rest) predicate rest
+      pub takes : (rest : List Token) → TakesPredicate printed_scope depth (tokens ++ rest) predicate rest
 
-    in_brackets : (p : Predicate) → Forms Predicate (TakesOrPart (numbered_scope spaces)) (printed spaces p).alone p → Tail (Some p)
+    in_brackets : (p : Predicate) → Forms Predicate (TakesOrPart printed_scope depth) (printed spaces p).alone p → Tail (Some p)
     in_brackets p f =
         let text = (printed spaces p).alone in
         record {
@@ -598,21 +596,21 @@ module _ (spaces : List (List ℕ)) where
           takes = λ rest. (
             f.head ∷ ((f.others ++ (CloseBracket ∷ [])) ++ rest),
             refl,
-            subst (λ ts. TakesOrPart (numbered_scope spaces) (f.head ∷ ts) p (CloseBracket ∷ rest)) (sym (append_assoc f.others (CloseBracket ∷ []) rest))
+            subst (λ ts. TakesOrPart printed_scope depth (f.head ∷ ts) p (CloseBracket ∷ rest)) (sym (append_assoc f.others (CloseBracket ∷ []) rest))
                 (f.takes (CloseBracket ∷ rest)),
           );
         }
 
-    tail_back : (ts : List Token) (predicate : Option Predicate) (rest : List Token) → TakesPredicate scope ts predicate rest → AreTokens ts
-        → has_predicate_spaces spaces predicate ≡ true → Tail predicate × AreTokens rest
+    tail_back : (ts : List Token) (predicate : Option Predicate) (rest : List Token) → TakesPredicate scope depth ts predicate rest → AreTokens ts
+        → has_each spaces (brackets_spaces predicate) ≡ true → Tail predicate × AreTokens rest
     tail_back ts None rest e v has =
         (record { tokens = []; lexed = nothing; ends = nothing_ends; takes = λ rest. refl }, subst AreTokens e v)
     tail_back ts (Some p) rest (inner, e, g) v has =
         let w : AreTokens (OpenBracket ∷ inner) = subst AreTokens e v in
-        let part = or_back deepest (factor_back deepest) inner p (CloseBracket ∷ rest) g w.1 has in
-        (in_brackets p (alone_of deepest p part.0), part.1.1)
+        let part = or_back scope depth (factor_back scope depth) inner p (CloseBracket ∷ rest) g w.1 has in
+        (in_brackets p (alone_of depth p part.0), part.1.1)
 
-    test_forms : (test : Test) → Head test.name → Tail test.predicate → Forms Test (TakesTest (numbered_scope spaces)) (test_text spaces test) test
+    test_forms : (test : Test) → Head test.name → Tail test.predicate → Forms Test (TakesTest printed_scope depth) (test_text spaces test) test
     test_forms test h t = record {
       head = h.token;
       others = t.tokens;
@@ -620,17 +618,18 @@ module _ (spaces : List (List ℕ)) where
       takes = λ rest. record { head = h.token; after = t.tokens ++ rest; tokens_are = refl; asks = h.asks; holds = t.takes rest };
     }
 
-    test_back : Gives Test (TakesTest scope) (has_test_spaces spaces)
-        (λ test. Forms Test (TakesTest (numbered_scope spaces)) (test_text spaces test) test)
+    test_back : Gives Test (TakesTest scope depth) (has_test_spaces spaces)
+        (λ test. Forms Test (TakesTest printed_scope depth) (test_text spaces test) test)
     test_back ts test rest d v has =
         let w : AreTokens (d.head ∷ d.after) = subst AreTokens d.tokens_are v in
-        let have = and_parts (has_name_space spaces test.name) (has_predicate_spaces spaces test.predicate) has in
+        let have = and_parts (has_each spaces (name_spaces test.name)) (has_each spaces (brackets_spaces test.predicate))
+        (sym (list_all-append (has_space spaces) (name_spaces test.name) (brackets_spaces test.predicate)) ∙ has) in
         let tail = tail_back d.after test.predicate rest d.holds w.1 have.1 in
         (test_forms test (head_back d.head test.name d.asks w.0 have.0) tail.0, tail.1)
 
     tests_written : (test : Test) (tests : List Test) (filter : Filter) → filter.tests ≡ test ∷ tests
-        → FormsAll Test (codes " or ") or_word or_is (TakesTest (numbered_scope spaces)) (test_text spaces) test tests
-        → Writes (filter_text spaces filter) (numbered_scope spaces) filter
+        → FormsAll Test (codes " or ") or_word or_is (TakesTest printed_scope depth) (test_text spaces) test tests
+        → WritesWithin depth (filter_text spaces filter) printed_scope filter
     tests_written test tests filter is f =
         let t = f.takes [] in
         let text = joined_texts (codes " or ") (test_text spaces) (test ∷ tests) in
@@ -641,28 +640,40 @@ module _ (spaces : List (List ℕ)) where
               (append-nil (chars text) ∙ ap (λ l. chars (joined_texts (codes " or ") (test_text spaces) l)) (sym is))
               (f.lexed.to [] tt);
           is_end = refl;
-          filter_is = subst (AreTests (numbered_scope spaces) (f.head ∷ f.others)) (sym is)
-              (t.0, subst (λ ts. TakesTest (numbered_scope spaces) (f.head ∷ ts) test t.0) (append-nil f.others) t.1, t.2);
+          filter_is = subst (AreTests printed_scope depth (f.head ∷ f.others)) (sym is)
+              (t.0, subst (λ ts. TakesTest printed_scope depth (f.head ∷ ts) test t.0) (append-nil f.others) t.1, t.2);
         }
 
-    tests_back : (ts : List Token) (tests : List Test) (filter : Filter) → filter.tests ≡ tests → AreTests scope ts tests → AreTokens ts
-        → list_all (has_test_spaces spaces) tests ≡ true → Writes (filter_text spaces filter) (numbered_scope spaces) filter
+    tests_back : (ts : List Token) (tests : List Test) (filter : Filter) → filter.tests ≡ tests → AreTests scope depth ts tests → AreTokens ts
+        → list_all (has_test_spaces spaces) tests ≡ true → WritesWithin depth (filter_text spaces filter) printed_scope filter
     tests_back ts [] filter is e v has = record {
       tokens = [];
       rest = [];
       lexed = ap (λ l. chars (joined_texts (codes " or ") (test_text spaces) l)) is ∙ chars-nil;
       is_end = refl;
-      filter_is = subst (AreTests (numbered_scope spaces) []) (sym is) refl;
+      filter_is = subst (AreTests printed_scope depth []) (sym is) refl;
     }
     tests_back ts (test ∷ tests) filter is (mid, one, more) v has =
         let have = and_parts (has_test_spaces spaces test) (list_all (has_test_spaces spaces) tests) has in
         let first = test_back ts test mid one v have.0 in
-        let others = more_given Test (TakesTest scope) (has_test_spaces spaces)
-        (λ test. Forms Test (TakesTest (numbered_scope spaces)) (test_text spaces test) test) or_word test_back mid tests [] more first.1 have.1 in
+        let others = more_given Test (TakesTest scope depth) (has_test_spaces spaces)
+        (λ test. Forms Test (TakesTest printed_scope depth) (test_text spaces test) test) or_word test_back mid tests [] more first.1 have.1 in
         tests_written test tests filter is
-        (forms_all Test (codes " or ") or_word or_is (TakesTest (numbered_scope spaces)) (test_text spaces) test tests first.0 others.0)
+        (forms_all Test (codes " or ") or_word or_is (TakesTest printed_scope depth) (test_text spaces) test tests first.0 others.0)
 
-pub printed_back : (spaces : List (List ℕ)) (filter : Filter) → HasSpaces spaces filter → IsParsedBack spaces filter
-printed_back spaces filter has can =
-    tests_back spaces can.scope can.writes.tokens filter.tests filter refl can.writes.filter_is
-    (are_tokens (chars can.text) can.writes.tokens can.writes.rest (scalars-chars can.text can.is_text) can.writes.lexed) has
+pub nests_no_deeper : (spaces : List (List ℕ)) (filter : Filter) → HasSpaces spaces filter → NestsNoDeeper (filter_text spaces filter) spaces filter
+nests_no_deeper spaces filter has depth can =
+    tests_back spaces can.scope depth can.writes.tokens filter.tests filter refl can.writes.filter_is
+    (are_tokens (chars can.text) can.writes.tokens can.writes.rest (scalars-chars can.text can.is_text) can.writes.lexed)
+    (sym (each_of_all (has_space spaces) test_spaces filter.tests) ∙ has)
+
+pub printed_back : (spaces : List (List ℕ)) (filter : Filter) → HasSpaces spaces filter → WritesBack (filter_text spaces filter) spaces filter
+printed_back spaces filter has = nests_no_deeper spaces filter has deepest
+
+pub answered_back : (spaces : List (List ℕ)) (filter : Filter) → HasSpaces spaces filter → CanBeParsed filter
+    → IsAnsweredBack (filter_text spaces filter) spaces filter
+answered_back spaces filter has can (Ok parsed) h =
+    one_filter (filter_text spaces filter) (numbered_scope spaces) parsed filter h (printed_back spaces filter has can)
+answered_back spaces filter has can (Err (NotAFilter at)) h =
+    absurd (stops_where_no_filter (filter_text spaces filter) (numbered_scope spaces) at h filter (printed_back spaces filter has can))
+answered_back spaces filter has can (Err NoMemory) h = refl

@@ -1,19 +1,22 @@
 -- The text of a filter.
-use Rattle.std.specs.Prelude.{◌≡◌, ℕ, ◌+◌, Bool, true, not, ◌==◌, ◌&&◌, ◌||◌, if◌then◌else◌, List, [], ◌∷◌, ◌++◌, IsUtf8, codes, Option, Some, None}
-use Rattle.std.specs.List.{flat_map, list_all, list_any, prefix_len}
+use Rattle.std.specs.Prelude.{◌≡◌, ℕ, ◌+◌, Bool, not, ◌==◌, if◌then◌else◌, List, [], ◌∷◌, ◌++◌, IsUtf8, codes, MatchResult, Option, Some, None, Result}
+use Rattle.std.specs.List.{flat_map, list_any, prefix_len}
 use Rattle.std.specs.Str.{bytes_eq}
 use Rattle.ifmap_lemmas.specs.Numerals.{numeral}
 use Rattle.ifmap_elem.specs.Chars.{colon, double_quote, single_quote}
 use Rattle.ifmap_elem.specs.Scopes.{xml_space}
 use Rattle.ifmap_elem.specs.declared.elements.Name.{Name}
 use Rattle.ifmap_reader.specs.declared.scoping.Scope.{Scope}
+use Rattle.ifmap_filter.specs.declared.errors.FilterError.{FilterError}
+use Rattle.ifmap_filter.specs.declared.errors.FilterError.TheVariants.{NoMemory}
 use Rattle.ifmap_filter.specs.declared.filters.Predicate.{Predicate, fold-Predicate}
 use Rattle.ifmap_filter.specs.declared.filters.Predicate.TheOpen.{Predicate-F}
 use Rattle.ifmap_filter.specs.declared.filters.Test.{Test}
 use Rattle.ifmap_filter.specs.declared.filters.Filter.{Filter}
 use Rattle.ifmap_filter.specs.declared.printing.Around.{Around}
 use Rattle.ifmap_filter.specs.declared.printing.Around.TheVariants.{Brackets, Ands, Ors}
-use Rattle.ifmap_filter.specs.Texts.{Writes}
+use Rattle.ifmap_filter.specs.Grammar.{deepest}
+use Rattle.ifmap_filter.specs.Texts.{IsParsed, Writes, WritesWithin}
 
 -- the prefix with that number: `f1`, `f2` and so on
 abbrev pub numbered_prefix : ℕ → List ℕ
@@ -99,45 +102,30 @@ test_text spaces test = test_name_text spaces test.name ++ brackets_text spaces 
 abbrev pub filter_text : List (List ℕ) → Filter → List ℕ
 filter_text spaces filter = joined_texts (codes " or ") (test_text spaces) filter.tests
 
--- some text in some scope is this filter
-pub record CanBeParsed (filter : Filter) : Type 0 where
+-- some text in some scope is this filter, with parentheses that nest at most so deep
+pub record CanBeParsedWithin (depth : ℕ) (filter : Filter) : Type 0 where
   pub text : List ℕ
   pub scope : Scope
   pub is_text : IsUtf8 text
-  pub writes : Writes text scope filter
+  pub writes : WritesWithin depth text scope filter
 
--- the namespace needs no row, or has one
-abbrev pub has_space : List (List ℕ) → List ℕ → Bool
-has_space spaces space = bytes_eq space [] || (bytes_eq space xml_space || list_any (bytes_eq space) spaces)
+abbrev pub CanBeParsed : Filter → Type 0
+CanBeParsed = CanBeParsedWithin deepest
 
--- each name in the predicate has a row, where one is needed
-abbrev pub has_spaces_of : List (List ℕ) → Predicate-F Bool → Bool
-has_spaces_of spaces (Predicate-F.Attr local value) = true
-has_spaces_of spaces (Predicate-F.Child name value) = has_space spaces name.space
-has_spaces_of spaces (Predicate-F.And parts) = list_all (λ held. held) parts
-has_spaces_of spaces (Predicate-F.Or parts) = list_all (λ held. held) parts
+-- the text writes the filter where the namespaces have the prefixes `f1`, `f2` and so on, if some text in some scope does
+abbrev pub WritesBack : List ℕ → List (List ℕ) → Filter → Type 0
+WritesBack text spaces filter = CanBeParsed filter → Writes text (numbered_scope spaces) filter
 
-abbrev pub has_spaces : List (List ℕ) → Predicate → Bool
-has_spaces spaces = fold-Predicate Bool (has_spaces_of spaces)
+-- and then its parentheses nest no deeper than those of that text
+abbrev pub NestsNoDeeper : List ℕ → List (List ℕ) → Filter → Type 0
+NestsNoDeeper text spaces filter =
+    (depth : ℕ) → CanBeParsedWithin depth filter → WritesWithin depth text (numbered_scope spaces) filter
 
-abbrev pub has_name_space : List (List ℕ) → Option Name → Bool
-has_name_space spaces None = true
-has_name_space spaces (Some name) = has_space spaces name.space
-
-abbrev pub has_predicate_spaces : List (List ℕ) → Option Predicate → Bool
-has_predicate_spaces spaces None = true
-has_predicate_spaces spaces (Some p) = has_spaces spaces p
-
-abbrev pub has_test_spaces : List (List ℕ) → Test → Bool
-has_test_spaces spaces test = has_name_space spaces test.name && has_predicate_spaces spaces test.predicate
-
--- the namespaces of the filter's names are among these, but for none and that of `xml`
-abbrev pub HasSpaces : List (List ℕ) → Filter → Type 0
-HasSpaces spaces filter = list_all (has_test_spaces spaces) filter.tests ≡ true
-
--- what is printed is parsed as the filter that it was, in the scope of its prefixes
-abbrev pub IsParsedBack : List (List ℕ) → Filter → Type 0
-IsParsedBack spaces filter = CanBeParsed filter → Writes (filter_text spaces filter) (numbered_scope spaces) filter
+-- what `parse` answers of the text in that scope: the filter, unless there is no memory for it
+abbrev pub IsAnsweredBack : List ℕ → List (List ℕ) → Filter → Type 0
+IsAnsweredBack text spaces filter =
+    (result : Result Filter FilterError) → IsParsed text (numbered_scope spaces) result
+    → MatchResult result (λ parsed. parsed ≡ filter) (λ error. error ≡ NoMemory)
 
 -- where a predicate stands: in the brackets of a test, or as a part of an `and` or of an `or`
 abbrev pub text_in : Around → Printed → List ℕ

@@ -2,15 +2,14 @@
 ghost use Rattle.std.specs.Prelude.{◌≡◌, ◌<◌, ◌≤◌, ◌+◌, ◌^◌, ◌++◌, ◌∷◌, [], IfOk, OnOk, codes, length, string_bytes};
 ghost use Rattle.ifmap_elem.specs.Chars.{colon};
 ghost use Rattle.ifmap_filter.specs.declared.printing.Around.TheVariants.{Ands, Ors};
-ghost use Rattle.ifmap_filter.specs.Printing.{CanBeParsed, HasSpaces, ands_text, attribute_text, brackets_text, child_text, filter_text, grouped, has_single_quote, joined_texts, literal_text, name_text, numbered_prefix, numbered_scope, ors_text, parts_text, place_of, printed, quote_of, test_name_text, test_text, text_in, word_in};
-ghost use Rattle.ifmap_filter.specs.Texts.{Writes};
+ghost use Rattle.ifmap_filter.specs.Printing.{NestsNoDeeper, WritesBack, ands_text, attribute_text, brackets_text, child_text, filter_text, grouped, has_single_quote, joined_texts, literal_text, name_text, numbered_prefix, ors_text, parts_text, place_of, printed, quote_of, test_name_text, test_text, text_in, word_in};
+ghost use Rattle.ifmap_filter.specs.Spaces.{HasSpaces};
 
 use crate::filters::{Filter, Predicate, Test};
+use crate::naming::XML_SPACE;
 use ifmap_elem::{Many, Name, Text};
 use itoa::Buffer;
 use std::alloc::{AllocError as NoMemory, Global};
-
-const XML_SPACE: &str = "http://www.w3.org/XML/1998/namespace";
 
 // Where a predicate stands, by which it has parentheses or none: in the brackets of a test, or as a
 // part of an `and` or of an `or`.
@@ -22,13 +21,15 @@ pub(crate) enum Around {
 }
 
 impl Filter {
-    /// The text of the filter, where its namespaces have the prefixes `f1`, `f2` and so on, in order.
-    /// In the scope of these prefixes it is parsed as the filter, where some text is.
+    /// The text of the filter, where these namespaces have the prefixes `f1`, `f2` and so on, in
+    /// order; `has_spaces` tells whether they serve. If some text writes the filter in some scope,
+    /// this one does in the scope of these prefixes, and nests no deeper. The one error is want of
+    /// memory.
     pub fn print(&self, alloc: Global, spaces: &Many<Text>) -> Result<Text, NoMemory>
         requires { HasSpaces spaces.now self.now }
         ensures text { IfOk result (λ text. text ≡ filter_text spaces.now self.now) }
-        ensures parsed_back { IfOk result (λ text.
-            CanBeParsed self.now → Writes text (numbered_scope spaces.now) self.now) }
+        ensures parsed_back { IfOk result (λ text. WritesBack text spaces.now self.now) }
+        ensures nesting { IfOk result (λ text. NestsNoDeeper text spaces.now self.now) }
     {
         let text = text_of(alloc, spaces, &self.tests)?;
         Ok(Text(text))
