@@ -62,6 +62,7 @@ had_or spaces parts = ap (has_each spaces) (spaces_or parts) ∙ each_of_all (ha
 -- (3) one more namespace
 
 any_more : (p : List ℕ → Bool) (xs ys : List (List ℕ)) → list_any p xs ≡ true → list_any p (xs ++ ys) ≡ true
+any_more p [] ys h = cc
 any_more p (x ∷ xs) ys h = elim (cases_Bool (p x)) [
   | inl e ↦ rw e refl
   | inr e ↦ rw e (any_more p xs ys (rw e at h))

@@ -16,7 +16,7 @@ pub(crate) enum Spaces {
 }
 
 // A text, the same filter as it is printed, and the namespaces whose places give the prefixes there.
-pub(crate) const FILTERS: [(&str, &str, Spaces); 72] = [
+pub(crate) const FILTERS: [(&str, &str, Spaces); 73] = [
     ("", "", Spaces::None),
     ("or", "or", Spaces::None),
     (
@@ -245,6 +245,11 @@ pub(crate) const FILTERS: [(&str, &str, Spaces); 72] = [
         "a[((b='1' or ((c='2') and d='3')) and (e='4' or f='5'))] or * or p:g[@h='6']",
         "a[(b='1' or c='2' and d='3') and (e='4' or f='5')] or * or f1:g[@h='6']",
         Spaces::U,
+    ),
+    (
+        "m:role[(name=\"a\")or @x='b' and c=\"it's\"]",
+        "f1:role[name='a' or @x='b' and c=\"it's\"]",
+        Spaces::Meta,
     ),
 ];
 
