@@ -17,8 +17,9 @@ use Rattle.ifmap_elem.specs.declared.elements.Name as element
 use Rattle.ifmap_filter.specs.declared.filters.Predicate.{Predicate, Child, And, Or, fold-roll-Predicate}
 use Rattle.ifmap_filter.specs.declared.filters.Predicate.TheVariants.{rolls-And, rolls-Child, rolls-Or}
 use Rattle.ifmap_filter.specs.declared.filters.Predicate.TheOpen.{Predicate-F}
+use Rattle.ifmap_filter.specs.declared.filters.Test.{Test}
 use Rattle.ifmap_filter.specs.declared.filters.Filter.{Filter}
-use Rattle.ifmap_filter.specs.Spaces.{HasSpaces, ListedServeEach, MoreServe, filter_spaces, has_each, has_space, predicate_spaces, predicate_spaces_of, with_each, with_space}
+use Rattle.ifmap_filter.specs.Spaces.{HasSpaces, ListedServeEach, MoreServe, filter_spaces, has_each, has_space, predicate_spaces, predicate_spaces_of, test_spaces, with_each, with_space}
 
 -- (1) joined lists
 
@@ -30,6 +31,10 @@ pub each_of_all : {X : Type 0} (p : List ℕ → Bool) (f : X → List (List ℕ
     → list_all p (flat_map f xs) ≡ list_all (λ x. list_all p (f x)) xs
 each_of_all p f [] = refl
 each_of_all p f (x ∷ xs) = list_all-append p (f x) (flat_map f xs) ∙ ap (λ b. list_all p (f x) && b) (each_of_all p f xs)
+
+pub tests_had : (spaces : List (List ℕ)) (tests : List Test)
+    → list_all (λ test. has_each spaces (test_spaces test)) tests ≡ has_each spaces (flat_map test_spaces tests)
+tests_had spaces tests = sym (each_of_all (has_space spaces) test_spaces tests)
 
 -- (2) predicates
 
@@ -60,6 +65,10 @@ pub had_or : (spaces : List (List ℕ)) (parts : List Predicate)
 had_or spaces parts = ap (has_each spaces) (spaces_or parts) ∙ each_of_all (has_space spaces) predicate_spaces parts
 
 -- (3) one more namespace
+
+pub had_among : (spaces : List (List ℕ)) (s : List ℕ) → bytes_eq s [] ≡ false → bytes_eq s xml_space ≡ false
+    → has_space spaces s ≡ list_any (bytes_eq s) spaces
+had_among spaces s e f = rw (e, f) refl
 
 any_more : (p : List ℕ → Bool) (xs ys : List (List ℕ)) → list_any p xs ≡ true → list_any p (xs ++ ys) ≡ true
 any_more p [] ys h = cc

@@ -1,6 +1,7 @@
 //! The namespaces of the names in filters, by which a caller chooses the prefixes of a print.
 ghost use Rattle.std.specs.Prelude.{◌≡◌, ◌↔◌, IfOk, IsTrue, OnOk};
-ghost use Rattle.std.specs.List.{flat_map, list_all};
+ghost use Rattle.std.specs.List.{flat_map, list_all, list_any};
+ghost use Rattle.std.specs.Str.{bytes_eq};
 ghost use Rattle.ifmap_elem.specs.Namespaces.{declared_among};
 ghost use Rattle.ifmap_elem.specs.printer.Pieces.{AddsSpaces, IsFront};
 ghost use Rattle.ifmap_filter.specs.Spaces.{HasSpaces, brackets_spaces, filter_spaces, has_each, has_space, name_spaces, predicate_spaces, test_spaces, with_each, with_space};
@@ -39,14 +40,13 @@ impl Filter {
         ensures listed { IfOk result (λ all. AddsSpaces spaces (filter_spaces self.now) all) }
         ensures serve { IfOk result (λ all. HasSpaces all self.now) }
     {
-        let mut all = spaces;
-        add_tests(alloc, &mut all.0, self.tests.as_slice())?;
+        let all = with_tests(alloc, spaces, &self.tests)?;
         Ok(all)
     }
 }
 
 fn has_tests(spaces: &[Text], tests: &[Test]) -> bool
-    ensures { result ≡ has_each spaces.now (flat_map test_spaces tests.now) }
+    ensures { result ≡ list_all (λ test. has_each spaces.now (test_spaces test)) tests.now }
 {
     tests.iter().all(|test| has_test(spaces, test))
 }
@@ -102,8 +102,28 @@ fn has_parts(spaces: &[Text], parts: &Many<Predicate>) -> bool
 fn has_space(spaces: &[Text], space: &Text) -> bool
     ensures { result ≡ has_space spaces.now space.now }
 {
-    let space = space.as_str();
-    space == "" || space == XML_SPACE || spaces.iter().any(|one| space == one.as_str())
+    let text = space.as_str();
+    if text == "" {
+        return true;
+    }
+    if text == XML_SPACE {
+        return true;
+    }
+    is_among(spaces, space)
+}
+
+fn is_among(spaces: &[Text], space: &Text) -> bool
+    ensures { result ≡ list_any (bytes_eq space.now) spaces.now }
+{
+    spaces.iter().any(|one| *space == *one)
+}
+
+fn with_tests(alloc: Global, spaces: Many<Text>, tests: &Many<Test>) -> Result<Many<Text>, NoMemory>
+    ensures { IfOk result (λ all. all ≡ with_each spaces (flat_map test_spaces tests.now)) }
+{
+    let mut all = spaces;
+    add_tests(alloc, &mut all.0, tests.as_slice())?;
+    Ok(all)
 }
 
 fn add_tests(alloc: Global, spaces: &mut Vec<Text>, tests: &[Test]) -> Result<(), NoMemory>
