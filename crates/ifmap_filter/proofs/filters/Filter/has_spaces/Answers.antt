@@ -1,4 +1,4 @@
-use Rattle.std.proofs.Common.{◌≡◌, Bool, true, sym, ◌∙◌}
+use Rattle.std.proofs.Common.{◌≡◌, sym, ◌∙◌}
 use Rattle.ifmap_filter.specs.Spaces.{has_each, filter_spaces, test_spaces}
 use Rattle.std.specs.List.{list_all}
 use Rattle.ifmap_filter.proofs.SpaceLaws.{tests_had}
