@@ -29,6 +29,7 @@ fn listed(alloc: Global, spaces: Spaces) -> Result<Many<Text>, NoMemory> {
         Spaces::MetaThenV => texts(alloc, &[META, "v"]),
         Spaces::VThenMeta => texts(alloc, &["v", META]),
         Spaces::MetaUThenV => texts(alloc, &[META, "u", "v"]),
+        Spaces::VMetaThenU => texts(alloc, &["v", META, "u"]),
     }
 }
 
@@ -67,12 +68,23 @@ fn needs_and_prints(
     Ok(needed.equals(spaces) && is_printed(alloc, filter, &needed, wanted)?)
 }
 
+// Whether the text's filter needs these namespaces and is printed so.
+fn agrees(
+    alloc: Global,
+    scope: &Scope,
+    row: &(&'static str, &'static str, Spaces),
+) -> Result<bool, FilterError> {
+    let (text, printed, spaces) = *row;
+    let filter = parsed(alloc, text, scope)?;
+    let spaces = listed(alloc, spaces)?;
+    needs_and_prints(alloc, &filter, &spaces, printed)
+}
+
 // How many rows agree, up to the first that does not.
 fn agreeing(alloc: Global) -> Result<usize, FilterError> {
     let scope = scope(alloc)?;
-    for (i, (text, printed, spaces)) in FILTERS.iter().enumerate() {
-        let filter = parsed(alloc, text, &scope)?;
-        if !needs_and_prints(alloc, &filter, &listed(alloc, *spaces)?, printed)? {
+    for (i, row) in FILTERS.iter().enumerate() {
+        if !agrees(alloc, &scope, row)? {
             return Ok(i);
         }
     }
@@ -85,6 +97,18 @@ fn filters_are_read_printed_and_read_back(rt: HostRuntime) -> Result<(), Fail> {
     Ok(())
 }
 
+// Whether a name in this namespace is printed so.
+fn name_is_printed(
+    alloc: Global,
+    spaces: &Many<Text>,
+    space: &str,
+    wanted: &str,
+) -> Result<bool, FilterError> {
+    let name = Name::new(alloc, space, "n")?;
+    let filter = filter_of(alloc, Some(name), None)?;
+    is_printed(alloc, &filter, spaces, wanted)
+}
+
 #[test]
 fn prefixes_count_the_given_namespaces(rt: HostRuntime) -> Result<(), Fail> {
     let alloc = rt.alloc();
@@ -92,44 +116,72 @@ fn prefixes_count_the_given_namespaces(rt: HostRuntime) -> Result<(), Fail> {
         alloc,
         &["a", "b", "c", "d", "e", "f", "g", "h", "i", "j", "k", "l"],
     )?;
-    let cases = [("a", "f1:n"), ("i", "f9:n"), ("j", "f10:n"), ("l", "f12:n")];
-    for (space, wanted) in cases {
-        let filter = filter_of(alloc, Some(Name::new(alloc, space, "n")?), None)?;
-        assert_eq!(rt; is_printed(alloc, &filter, &spaces, wanted)?, true);
+    let cases = [
+        ("a", "f1:n", true),
+        ("i", "f9:n", true),
+        ("j", "f10:n", true),
+        ("l", "f12:n", true),
+        ("m", "f13:n", false),
+    ];
+    for (space, wanted, there) in cases {
+        assert_eq!(rt; name_is_printed(alloc, &spaces, space, wanted)?, there);
     }
-    let other = filter_of(alloc, Some(Name::new(alloc, "m", "n")?), None)?;
-    assert_eq!(rt; other.has_spaces(&spaces), false);
     Ok(())
 }
 
-// The namespaces of two texts' filters, in one list, and whether each was there before its own were
-// added.
-fn gathered(
+// The namespaces, and after them those of the text's filter.
+fn with_spaces_of(
     alloc: Global,
-    one: &str,
-    other: &str,
-) -> Result<(Many<Text>, bool, bool), FilterError> {
-    let scope = scope(alloc)?;
-    let first = parsed(alloc, one, &scope)?;
-    let second = parsed(alloc, other, &scope)?;
-    let none = Many(Vec::new(alloc));
-    let first_there = first.has_spaces(&none);
-    let spaces = first.add_spaces(alloc, none)?;
-    let second_there = second.has_spaces(&spaces);
-    let spaces = second.add_spaces(alloc, spaces)?;
-    Ok((spaces, first_there, second_there))
+    text: &str,
+    spaces: Many<Text>,
+) -> Result<Many<Text>, FilterError> {
+    let filter = parsed(alloc, text, &scope(alloc)?)?;
+    let all = filter.add_spaces(alloc, spaces)?;
+    Ok(all)
+}
+
+fn spaces_of_both(alloc: Global, one: &str, other: &str) -> Result<Many<Text>, FilterError> {
+    let spaces = with_spaces_of(alloc, one, Many(Vec::new(alloc)))?;
+    with_spaces_of(alloc, other, spaces)
+}
+
+// Whether the namespaces of one text's filter serve the other's.
+fn serve(alloc: Global, one: &str, other: &str) -> Result<bool, FilterError> {
+    let spaces = with_spaces_of(alloc, one, Many(Vec::new(alloc)))?;
+    let filter = parsed(alloc, other, &scope(alloc)?)?;
+    Ok(filter.has_spaces(&spaces))
 }
 
 #[test]
 fn two_filters_share_a_list_of_namespaces(rt: HostRuntime) -> Result<(), Fail> {
     let alloc = rt.alloc();
-    let (spaces, first, second) = gathered(alloc, "q:a[m:b='' or c='']", "m:d or p:e or xml:f")?;
-    assert_eq!(rt; spaces.equals(&texts(alloc, &["v", META, "u"])?), true);
-    assert_eq!(rt; first, false);
-    assert_eq!(rt; second, false);
-    let (spaces, first, second) = gathered(alloc, "a or xml:b", "c[@d='']")?;
-    assert_eq!(rt; spaces.0.len(), 0);
-    assert_eq!(rt; first, true);
-    assert_eq!(rt; second, true);
+    let cases = [
+        (
+            "q:a[m:b='' or c='']",
+            "m:d or p:e or xml:f",
+            Spaces::VMetaThenU,
+        ),
+        ("a or xml:b", "c[@d='']", Spaces::None),
+        ("m:a", "m:b or xml:c", Spaces::Meta),
+    ];
+    for (one, other, wanted) in cases {
+        let both = spaces_of_both(alloc, one, other)?;
+        assert_eq!(rt; both.equals(&listed(alloc, wanted)?), true);
+    }
+    Ok(())
+}
+
+#[test]
+fn namespaces_of_one_filter_serve_another_or_not(rt: HostRuntime) -> Result<(), Fail> {
+    let alloc = rt.alloc();
+    let cases = [
+        ("q:a[m:b='' or c='']", "m:d or p:e or xml:f", false),
+        ("a or xml:b", "c[@d='']", true),
+        ("m:a or p:b", "p:c[m:d='']", true),
+        ("", "*[@a='' and q:b='']", false),
+    ];
+    for (one, other, wanted) in cases {
+        assert_eq!(rt; serve(alloc, one, other)?, wanted);
+    }
     Ok(())
 }

@@ -13,6 +13,7 @@ pub(crate) enum Spaces {
     MetaThenV,
     VThenMeta,
     MetaUThenV,
+    VMetaThenU,
 }
 
 // A text, the same filter as it is printed, and the namespaces whose places give the prefixes there.
