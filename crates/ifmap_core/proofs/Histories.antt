@@ -22,18 +22,14 @@ use Rattle.ifmap_meta.specs.ClientNames.{IsClientName}
 use Rattle.ifmap_meta.specs.Whole.{IsMetadata}
 use Rattle.ifmap_meta.specs.laws.WholeLaws.{stamped_is_whole}
 use Rattle.ifmap_msg.specs.Fit.{AreFitOps, IsFitOp}
-use Rattle.ifmap_core.specs.declared.sessions.Session.{Session}
 use Rattle.ifmap_core.specs.Apply.{Authorship, apply, apply_op, attachment_of, life_of, update}
 use Rattle.ifmap_core.specs.Fresh.{found_attachments, size_of}
 use Rattle.ifmap_core.specs.Legal.{AreFit, AreNumberedAfter, History, LegalFrom, ids_given_by, ids_given, live_clients, state_after}
 use Rattle.ifmap_core.specs.Lives.{AllLive, IsLifeFor}
-use Rattle.ifmap_core.specs.SessionIds.{session_id}
-use Rattle.ifmap_core.specs.State.{State, advance, is_text, opening, session_of_client, session_with_id, session_with_serial, without_sessions}
-use Rattle.ifmap_core.specs.Step.{begin_session, end_session, end_sessions, end_former, in_session, is_full, most_sessions, publish, search_answer, step, step_ask}
-use Rattle.ifmap_core.specs.Table.{serial_order}
+use Rattle.ifmap_core.specs.State.{State, advance, opening}
+use Rattle.ifmap_core.specs.Step.{answer_search, begin_session, end_session, end_sessions, end_former, in_session, is_full, is_too_big, next_session, publish, renew, step, step_ask}
+use Rattle.ifmap_core.proofs.Clients.{all_found, all_push, changed_clients, changed_counted, changed_found, changed_length, changed_rising, distinct_filter, distinct_push, find_none, goes_itself, one_less, remaining, rest_differ, shorter, sorted_push, text_is, text_same, touched, touched_client}
 use Rattle.ifmap_core.proofs.Graphs.{all_attached, all_retracted}
-use Rattle.ifmap_core.proofs.Halving.{all_found, all_push, find_none}
-use Rattle.ifmap_core.proofs.Kept.{distinct_filter, distinct_push, rest_differ, sorted_push, text_is, text_same}
 use Rattle.ifmap_lemmas.specs.Filters.{all_filter, all_weaker}
 use Rattle.ifmap_graph.specs.declared.attachments.Attachment.{Attachment}
 use Rattle.ifmap_graph.specs.Attachments.{ends_with}
@@ -46,6 +42,7 @@ use Rattle.ifmap_msg.specs.declared.requests.PublishOp.{PublishOp}
 use Rattle.ifmap_msg.specs.declared.requests.PublishOp.TheVariants.{Update}
 use Rattle.ifmap_msg.specs.declared.requests.Request.TheVariants as the_request
 use Rattle.ifmap_msg.specs.declared.requests.Search.{Search}
+use Rattle.ifmap_session.specs.Sessions.{Session, change, is_text, most_sessions, renewed, session_of_client, session_order, session_with_id, session_with_serial, without_sessions}
 
 -- the serials
 begun_next : (state : State) (event : Event) (o : Option Session) (rest : List (ℕ × List ℕ))
@@ -64,11 +61,11 @@ in_session_counts state event accept None rest f h = h
 in_session_counts state event accept (Some s) rest f h =
     elim (cases_Bool (is_text s.client event.client)) [ inl hit ↦ rw hit (f s (rw hit at h)) | inr miss ↦ rw miss (rw miss at h) ]
 
-search_begins_none : (state : State) (event : Event) (search : Search) (rest : List (ℕ × List ℕ)) → AreNumberedAfter state.counter rest
-    → AreNumberedAfter state.counter (ids_given_by event (search_answer state.graph search) ++ rest)
-search_begins_none state event search rest h =
-    elim (cases_Bool (nat_lt search.max_size (size_of (found_attachments state.graph search))))
-    [ inl hit ↦ rw hit h | inr miss ↦ rw miss h ]
+search_begins_none : (state : State) (event : Event) (asked : Search) (s : Session) (rest : List (ℕ × List ℕ))
+    → AreNumberedAfter (answer_search state asked s).0.counter rest
+    → AreNumberedAfter state.counter (ids_given_by event (answer_search state asked s).1 ++ rest)
+search_begins_none state event asked s rest h =
+    elim (cases_Bool (is_too_big asked.max_size (found_attachments state.graph asked))) [ inl hit ↦ rw hit (rw hit at h) | inr miss ↦ rw miss (rw miss at h) ]
 
 step_counts : (state : State) (event : Event) (ask : Ask) (rest : List (ℕ × List ℕ))
     → AreNumberedAfter (step_ask state event ask).0.counter rest
@@ -82,9 +79,9 @@ step_counts state event (Request (the_request.EndSession id)) rest h =
     in_session_counts state event (end_session state) (session_with_id id state.sessions) rest (λ s k. k) h
 step_counts state event (Request (the_request.Publish id ops)) rest h =
     in_session_counts state event (publish state ops) (session_with_id id state.sessions) rest (λ s k. k) h
-step_counts state event (Request (the_request.Search id search)) rest h =
-    in_session_counts state event (λ s. (state, search_answer state.graph search)) (session_with_id id state.sessions) rest
-    (λ s k. search_begins_none state event search rest k) h
+step_counts state event (Request (the_request.Search id asked)) rest h =
+    in_session_counts state event (answer_search state asked) (session_with_id id state.sessions) rest
+    (λ s k. search_begins_none state event asked s rest k) h
 
 pub numbered_from : (state : State) (history : History) → LegalFrom state history → AreNumberedAfter state.counter (ids_given history)
 numbered_from state [] legal = tt
@@ -94,7 +91,7 @@ numbered_from state (e ∷ history) legal =
 
 -- what holds of the sessions in every state
 record IsWhole (state : State) : Type 0 where
-  rising : IsStrictlySortedBy serial_order state.sessions
+  rising : IsStrictlySortedBy session_order state.sessions
   counted : AllByRecursion (λ (s : Session). s.serial ≤ state.counter) state.sessions
   apart : IsDistinct is_text (map (λ (s : Session). s.client) state.sessions)
   most : length state.sessions ≤ most_sessions
@@ -105,27 +102,6 @@ opening_whole ttl = record { rising = tt; counted = tt; apart = tt; most = omega
 
 advanced_whole : (moment : ℕ) (state : State) → IsWhole state → IsWhole (advance moment state)
 advanced_whole moment state w = record { rising = w.rising; counted = w.counted; apart = w.apart; most = w.most }
-
--- the sessions but the one of a serial
-abbrev remaining : ℕ → Session → Bool
-remaining serial s = not (list_any (λ n. n == s.serial) (serial ∷ []))
-
-shorter : {X : Type 0} (p : X → Bool) (xs : List X) → length (filter p xs) ≤ length xs
-shorter p [] = omega arith
-shorter p (x ∷ xs) = let rest = shorter p xs in elim (cases_Bool (p x))
-    [ inl hit ↦ rw hit (omega (arith, rest)) | inr miss ↦ rw miss (omega (arith, rest)) ]
-
--- one at least goes, where what a search finds does not pass
-one_less : {X : Type 0} (q p : X → Bool) (xs : List X) (x : X) → find q xs ≡ Some x → p x ≡ false → length (filter p xs) < length xs
-one_less q p [] x e out = cc
-one_less q p (y ∷ ys) x e out =
-    elim (cases_Bool (q y)) [
-      | inl hit ↦ let same : y ≡ x = cc (rw hit at e) in let gone : p y ≡ false = subst (λ z. p z ≡ false) (sym same) out in let rest =
-          shorter p ys in rw gone (omega (arith, rest))
-      | inr miss ↦
-          let rest = one_less q p ys x (rw miss at e) out in
-          elim (cases_Bool (p y)) [ inl stays ↦ rw stays (omega (arith, rest)) | inr goes ↦ rw goes (omega (arith, rest)) ]
-    ]
 
 -- what a search finds among those that a filter leaves, where whatever it looks for stays
 find_kept : {X : Type 0} (q p : X → Bool) → ((x : X) → q x ≡ true → p x ≡ true) → (xs : List X) (x : X) → find q xs ≡ Some x
@@ -140,7 +116,7 @@ find_kept q p f (y ∷ ys) x e =
     ]
 
 -- a session found by any test is found by its serial
-found_by_serial : (q : Session → Bool) (sessions : List Session) (s : Session) → IsStrictlySortedBy serial_order sessions
+found_by_serial : (q : Session → Bool) (sessions : List Session) (s : Session) → IsStrictlySortedBy session_order sessions
     → find q sessions ≡ Some s → session_with_serial s.serial sessions ≡ Some s
 unfolding IsStrictlySortedBy
 found_by_serial q [] s up e = cc
@@ -151,14 +127,14 @@ found_by_serial q (x ∷ xs) s up e =
           rw (eq-eqb x.serial s.serial (ap (λ (t : Session). t.serial) same)) (ap Some same)
       | inr miss ↦
           let there : find q xs ≡ Some s = rw miss at e in
-          let less : serial_order x s ≡ Less = all_found (λ z. serial_order x z ≡ Less) q xs s up.0 there in
+          let less : session_order x s ≡ Less = all_found (λ z. session_order x z ≡ Less) q xs s up.0 there in
           let other : (x.serial == s.serial) ≡ false = grind (arith, nat_tests, less) in
           rw other (found_by_serial q xs s up.1 there)
     ]
 
 ended_whole : (serial : ℕ) (state : State) → IsWhole state → IsWhole (end_sessions (serial ∷ []) state)
 ended_whole serial state w = record {
-  rising = IsStrictlySortedBy-filter serial_order (remaining serial) state.sessions w.rising;
+  rising = IsStrictlySortedBy-filter session_order (remaining serial) state.sessions w.rising;
   counted = all_filter (λ (s : Session). s.serial ≤ state.counter) (remaining serial) state.sessions w.counted;
   apart = distinct_filter (λ (s : Session). s.client) (remaining serial) state.sessions w.apart;
   most = let less = shorter (remaining serial) state.sessions in omega (arith, less, w.most);
@@ -168,7 +144,7 @@ ended_whole serial state w = record {
 begun_whole : (client : List ℕ) (random : ℕ) (state : State) → IsWhole state → session_of_client client state.sessions ≡ None
     → length state.sessions < most_sessions → IsWhole (begin_session client random state)
 begun_whole client random state w none room =
-    let s : Session = record { serial = state.counter + 1; id = session_id (state.counter + 1) random; client = client } in
+    let s : Session = next_session state client random in
     record {
       rising = sorted_push state.counter state.sessions s w.rising w.counted (omega arith);
       counted = all_push (λ (t : Session). t.serial ≤ state.counter + 1) state.sessions s
@@ -200,12 +176,8 @@ removed (x ∷ xs) c s apart e =
           ]
     ]
 
-goes_itself : (s : Session) → remaining s.serial s ≡ false
-goes_itself s = not_from_true (list_any (λ n. n == s.serial) (s.serial ∷ []))
-    (or_left (s.serial == s.serial) false (eq-eqb s.serial s.serial refl))
-
--- where there is no room, the client has a session
-has_room : (state : State) (client : List ℕ) → is_full state client ≡ false → session_of_client client state.sessions ≡ None
+-- where a client that has no session can be given one, there is room
+pub has_room : (state : State) (client : List ℕ) → is_full state client ≡ false → session_of_client client state.sessions ≡ None
     → length state.sessions < most_sessions
 has_room state client free none =
     let parts = or_parts (nat_le most_sessions (length state.sessions) && is_none (session_of_client client state.sessions))
@@ -224,6 +196,18 @@ new_whole state client random (Some s) w free e =
     begun_whole client random (end_sessions (s.serial ∷ []) state) (ended_whole s.serial state w)
     (removed state.sessions client s w.apart e) (omega (arith, less, w.most))
 
+renewed_whole : (serial : ℕ) (state : State) → IsWhole state → IsWhole (renew serial state)
+renewed_whole serial state w = record {
+  rising = changed_rising serial state.moment state.sessions w.rising;
+  counted = changed_counted state.counter serial state.moment state.sessions w.counted;
+  apart = subst (IsDistinct is_text) (sym (changed_clients serial state.moment state.sessions)) w.apart;
+  most = subst (λ n. n ≤ most_sessions) (sym (changed_length serial state.moment state.sessions)) w.most;
+}
+
+search_whole : (state : State) (asked : Search) (s : Session) → IsWhole state → IsWhole (answer_search state asked s).0
+search_whole state asked s w =
+    elim (cases_Bool (is_too_big asked.max_size (found_attachments state.graph asked))) [ inl hit ↦ rw hit w | inr miss ↦ rw miss (renewed_whole s.serial state w) ]
+
 in_session_whole : (state : State) (client : List ℕ) (accept : Session → State × Answer) (o : Option Session)
     → ((s : Session) → o ≡ Some s → IsWhole (accept s).0) → IsWhole state → IsWhole (in_session state client o accept).0
 in_session_whole state client accept None f w = w
@@ -240,9 +224,15 @@ step_whole state event (Request (the_request.EndSession id)) w =
     in_session_whole state event.client (end_session state) (session_with_id id state.sessions) (λ s e. ended_whole s.serial state w) w
 step_whole state event (Request (the_request.Publish id ops)) w =
     in_session_whole state event.client (publish state ops) (session_with_id id state.sessions)
-    (λ s e. record { rising = w.rising; counted = w.counted; apart = w.apart; most = w.most }) w
-step_whole state event (Request (the_request.Search id search)) w =
-    in_session_whole state event.client (λ s. (state, search_answer state.graph search)) (session_with_id id state.sessions) (λ s e. w) w
+    (λ s e. renewed_whole s.serial (record state {
+      graph = apply state.graph (record {
+        client = s.client;
+        serial = s.serial;
+        moment = state.moment;
+      }) ops;
+    }) (record { rising = w.rising; counted = w.counted; apart = w.apart; most = w.most })) w
+step_whole state event (Request (the_request.Search id asked)) w =
+    in_session_whole state event.client (answer_search state asked) (session_with_id id state.sessions) (λ s e. search_whole state asked s w) w
 
 after_whole : (state : State) (history : History) → IsWhole state → IsWhole (state_after state history)
 after_whole state [] w = w
@@ -287,6 +277,27 @@ life_goes_on sessions s publisher (the_life.Session n) h =
     (h.0, find-append (λ (t : Session). t.serial == n) sessions (s ∷ []) ∙ rw h.1 refl, h.2)
 life_goes_on sessions s publisher the_life.Forever h = tt
 
+life_renewed : (serial moment : ℕ) (sessions : List Session) (publisher : List ℕ) (life : Life) → IsLifeFor sessions publisher life
+    → IsLifeFor (change serial (renewed moment) sessions) publisher life
+life_renewed serial moment sessions publisher (the_life.Session n) h = (
+  touched serial moment h.0,
+  changed_found n serial moment sessions h.0 h.1,
+  touched_client serial moment h.0 publisher h.2,
+)
+life_renewed serial moment sessions publisher the_life.Forever h = tt
+
+renewed_sound : (serial : ℕ) (state : State) → IsSound state → IsSound (renew serial state)
+renewed_sound serial state w = record {
+  graph = w.graph;
+  lives = all_weaker (λ (a : Attachment). IsLifeFor state.sessions a.stored.publisher a.stored.life)
+      (λ (a : Attachment). IsLifeFor (change serial (renewed state.moment) state.sessions) a.stored.publisher a.stored.life)
+      (λ a h. life_renewed serial state.moment state.sessions a.stored.publisher a.stored.life h) state.graph w.lives;
+}
+
+search_sound : (state : State) (asked : Search) (s : Session) → IsSound state → IsSound (answer_search state asked s).0
+search_sound state asked s w =
+    elim (cases_Bool (is_too_big asked.max_size (found_attachments state.graph asked))) [ inl hit ↦ rw hit w | inr miss ↦ rw miss (renewed_sound s.serial state w) ]
+
 IsAuthor : List Session → Authorship → Type 0
 IsAuthor sessions by = (s : Session) × (session_with_serial by.serial sessions ≡ Some s) × (s.client ≡ by.client)
 
@@ -310,7 +321,7 @@ module _ (attached_graph : (graph : List Attachment) (a : Attachment) → IsWhol
 
   begun_sound : (client : List ℕ) (random : ℕ) (state : State) → IsSound state → IsSound (begin_session client random state)
   begun_sound client random state w =
-      let s : Session = record { serial = state.counter + 1; id = session_id (state.counter + 1) random; client = client } in
+      let s : Session = next_session state client random in
       record {
         graph = w.graph;
         lives = all_weaker (λ (a : Attachment). IsLifeFor state.sessions a.stored.publisher a.stored.life)
@@ -356,8 +367,9 @@ module _ (attached_graph : (graph : List Attachment) (a : Attachment) → IsWhol
       → find q state.sessions ≡ Some s → IsClientName s.client → AreFitOps ops → IsSound (publish state ops s).0
   unfolding IsAuthor
   publish_sound state ops q s whole w e name fit =
-      apply_sound state (record { client = s.client; serial = s.serial; moment = state.moment })
-      (s, found_by_serial q state.sessions s whole.rising e, refl) name ops fit state.graph w
+      let by : Authorship = record { client = s.client; serial = s.serial; moment = state.moment } in
+      renewed_sound s.serial (record state { graph = apply state.graph by ops })
+      (apply_sound state by (s, found_by_serial q state.sessions s whole.rising e, refl) name ops fit state.graph w)
 
   in_session_sound : (state : State) (client : List ℕ) (accept : Session → State × Answer) (o : Option Session)
       → ((s : Session) → o ≡ Some s → is_text s.client client ≡ true → IsSound (accept s).0)
@@ -379,8 +391,9 @@ module _ (attached_graph : (graph : List Attachment) (a : Attachment) → IsWhol
       in_session_sound state event.client (publish state ops) (session_with_id id state.sessions)
       (λ s e own. publish_sound state ops (λ (t : Session). is_text t.id id) s whole w e
       (subst IsClientName (sym (text_is s.client event.client own)) name) fit) w
-  step_sound state event (Request (the_request.Search id search)) name fit whole w =
-      in_session_sound state event.client (λ s. (state, search_answer state.graph search)) (session_with_id id state.sessions) (λ s e own. w) w
+  step_sound state event (Request (the_request.Search id asked)) name fit whole w =
+      in_session_sound state event.client (answer_search state asked) (session_with_id id state.sessions)
+      (λ s e own. search_sound state asked s w) w
 
   after_sound : (state : State) (history : History) → AreFit history → IsWhole state → IsSound state → IsSound (state_after state history)
   after_sound state [] fit whole w = w

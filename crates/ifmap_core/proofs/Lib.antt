@@ -1,6 +1,5 @@
 pub mod Attaching
+pub mod Clients
 pub mod Graphs
-pub mod Halving
 pub mod Histories
-pub mod Kept
 pub mod Refusals
