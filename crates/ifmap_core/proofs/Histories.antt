@@ -17,7 +17,7 @@ use Rattle.ifmap_core.specs.declared.events.Ask.{Ask}
 use Rattle.ifmap_core.specs.declared.events.Ask.TheVariants.{Request}
 use Rattle.ifmap_core.specs.Events.{Event, IsFitAsk}
 use Rattle.ifmap_graph.specs.Attachments.{IsWholeAttachment}
-use Rattle.ifmap_ident.specs.Items.{IsItem}
+use Rattle.ifmap_ident.specs.Items.{IsCanonItem}
 use Rattle.ifmap_meta.specs.ClientNames.{IsClientName}
 use Rattle.ifmap_meta.specs.Whole.{IsMetadata}
 use Rattle.ifmap_meta.specs.laws.WholeLaws.{stamped_is_whole}
@@ -335,7 +335,7 @@ module _ (attached_graph : (graph : List Attachment) (a : Attachment) → IsWhol
   new_sound state client random (Some s) w = begun_sound client random (end_sessions (s.serial ∷ []) state) (ended_sound s.serial state w)
 
   update_sound : (state : State) (by : Authorship) (item : Item) (forever : Bool) → IsAuthor state.sessions by
-      → IsClientName by.client → IsItem item → (elements : List Metadata) → AllByRecursion IsMetadata elements
+      → IsClientName by.client → IsCanonItem item → (elements : List Metadata) → AllByRecursion IsMetadata elements
       → (graph : List Attachment) → IsSound (record state { graph = graph })
       → IsSound (record state { graph = update graph by item forever elements })
   update_sound state by item forever h name is [] met graph w = w
@@ -390,7 +390,7 @@ module _ (attached_graph : (graph : List Attachment) (a : Attachment) → IsWhol
   step_sound state event (Request (the_request.Publish id ops)) name fit whole w =
       in_session_sound state event.client (publish state ops) (session_with_id id state.sessions)
       (λ s e own. publish_sound state ops (λ (t : Session). is_text t.id id) s whole w e
-      (subst IsClientName (sym (text_is s.client event.client own)) name) fit) w
+      (subst IsClientName (sym (text_is s.client event.client own)) name) fit.1) w
   step_sound state event (Request (the_request.Search id asked)) name fit whole w =
       in_session_sound state event.client (answer_search state asked) (session_with_id id state.sessions)
       (λ s e own. search_sound state asked s w) w
