@@ -13,12 +13,12 @@ use Rattle.ifmap_core.specs.Causes.{AsksForNoneLeft, FindsTooMuch, IsRefusal, Na
 use Rattle.ifmap_core.specs.Fresh.{found_attachments, size_of}
 use Rattle.ifmap_core.specs.State.{State, advance}
 use Rattle.ifmap_core.specs.Step.{answer_search, end_session, in_session, is_full, is_too_big, new_session, publish, step_ask}
-use Rattle.ifmap_core.proofs.Clients.{text_is, text_same}
 use Rattle.ifmap_ident.specs.declared.codes.Code.{Code}
 use Rattle.ifmap_ident.specs.declared.codes.Code.TheVariants.{AccessDenied, InvalidSessionID, SearchResultsTooBig, SystemError}
 use Rattle.ifmap_msg.specs.declared.requests.Request.TheVariants as the_request
 use Rattle.ifmap_msg.specs.declared.requests.Search.{Search}
 use Rattle.ifmap_session.specs.Sessions.{Session, is_text, most_sessions, session_of_client, session_with_id}
+use Rattle.ifmap_session.specs.laws.TextLaws.{text_is, text_same}
 
 -- a search refuses for size alone
 search_refuses : (state : State) (asked : Search) (s : Session) (code : Code) → IsRefusal code (answer_search state asked s).1

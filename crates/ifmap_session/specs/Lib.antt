@@ -5,3 +5,5 @@ pub mod Seats
 pub mod SessionIds
 pub mod Sessions
 pub mod Stamps
+-- Laws on the definitions, which crates above cite.
+pub mod laws
