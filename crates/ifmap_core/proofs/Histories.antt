@@ -2,16 +2,13 @@
 -- Two things hold in every state: `IsWhole` of the sessions and `IsSound` of the graph. Each case of the step keeps them
 -- (`step_whole`, `step_sound`), so each legal history does; the laws are read off them. The laws on the graph take what
 -- attaching and retracting keep of a graph as premises.
-use Rattle.std.proofs.Common.{◌≡◌, ◌≢◌, refl, sym, ◌∙◌, ap, subst, ℕ, ◌+◌, ◌-◌, ◌^◌, ◌<◌, ◌≤◌, ◌==◌, ◌&&◌, Bool, true, false, not, List, [], ◌∷◌, ◌++◌, length, map, Option, None, Some, inl, inr, nat_le, nat_lt, is_none, arith, length-append}
-use Rattle.std.proofs.lemmas.Bool.{and_cases, both_ways, cases_Bool, eq-eqb, not_from_true, or_left, or_parts}
+use Rattle.std.proofs.Common.{◌≡◌, ◌≢◌, refl, sym, ◌∙◌, subst, ℕ, ◌+◌, ◌-◌, ◌^◌, ◌<◌, ◌≤◌, ◌==◌, ◌&&◌, Bool, true, false, List, [], ◌∷◌, ◌++◌, length, Option, None, Some, inl, inr, nat_le, is_none, arith}
+use Rattle.std.proofs.lemmas.Bool.{and_cases, both_ways, cases_Bool, or_parts}
 use Rattle.std.proofs.lemmas.Bool.Decides.{nat_tests}
 use Rattle.std.proofs.lemmas.List.Elements.{All-from_recursion}
-use Rattle.std.proofs.lemmas.List.Folds.{find-append}
-use Rattle.std.proofs.lemmas.List.Kept.{IsStrictlySortedBy-filter}
 use Rattle.std.proofs.lemmas.Map.Made.{AllPairs-from_IsDistinct}
-use Rattle.std.specs.List.{All, AllByRecursion, AllPairs, IsDistinct, filter, find, list_any}
+use Rattle.std.specs.List.{All, AllByRecursion, AllPairs, IsDistinct, find}
 use Rattle.std.specs.List.Sorted.{IsStrictlySortedBy}
-use Rattle.std.specs.declared.cmp.Ordering.TheVariants.{Less}
 use Rattle.ifmap_core.specs.declared.events.Answer.{Answer}
 use Rattle.ifmap_core.specs.declared.events.Ask.{Ask}
 use Rattle.ifmap_core.specs.declared.events.Ask.TheVariants.{Request}
@@ -23,13 +20,13 @@ use Rattle.ifmap_meta.specs.Whole.{IsMetadata}
 use Rattle.ifmap_meta.specs.laws.WholeLaws.{stamped_is_whole}
 use Rattle.ifmap_msg.specs.Fit.{AreFitOps, IsFitOp}
 use Rattle.ifmap_core.specs.Apply.{Authorship, apply, apply_op, attachment_of, life_of, update}
-use Rattle.ifmap_core.specs.Fresh.{found_attachments, size_of}
+use Rattle.ifmap_core.specs.Fresh.{found_attachments}
 use Rattle.ifmap_core.specs.Legal.{AreFit, AreNumberedAfter, History, LegalFrom, ids_given_by, ids_given, live_clients, state_after}
 use Rattle.ifmap_core.specs.Lives.{AllLive, IsLifeFor}
 use Rattle.ifmap_core.specs.State.{State, advance, opening}
 use Rattle.ifmap_core.specs.Step.{answer_search, begin_session, end_session, end_sessions, end_former, in_session, is_full, is_too_big, next_session, publish, renew, step, step_ask}
 use Rattle.ifmap_core.proofs.Graphs.{all_attached, all_retracted}
-use Rattle.ifmap_lemmas.specs.Filters.{all_filter, all_weaker}
+use Rattle.ifmap_lemmas.specs.Filters.{all_weaker}
 use Rattle.ifmap_graph.specs.declared.attachments.Attachment.{Attachment}
 use Rattle.ifmap_graph.specs.Attachments.{ends_with}
 use Rattle.ifmap_graph.specs.Graph.{IsGraph, attach, retract}

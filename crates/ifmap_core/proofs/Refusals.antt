@@ -2,7 +2,7 @@
 -- For each code, when each case refuses with it: by `missing`, `denied`, `other` for requests in a session, and by the test of
 -- a new session and of a search for themselves. Each cause and its refusal are then tied both ways, and a refusal leaves the
 -- state (`leaves`).
-use Rattle.std.proofs.Common.{◌≡◌, ◌≢◌, ◌↔◌, refl, sym, ◌∙◌, ap, ℕ, ◌-◌, ◌^◌, ◌<◌, ◌≤◌, ◌==◌, ◌&&◌, true, List, length, Option, None, Some, inl, inr, ◌⊎◌, nat_le, nat_lt, is_none, arith}
+use Rattle.std.proofs.Common.{◌≡◌, ◌≢◌, ◌↔◌, refl, sym, ◌∙◌, ap, ℕ, ◌-◌, ◌^◌, ◌<◌, ◌≤◌, ◌==◌, ◌&&◌, true, List, length, Option, None, Some, inl, inr, ◌⊎◌, nat_le, is_none, arith}
 use Rattle.std.proofs.lemmas.Bool.{and_from, and_parts, both_ways, cases_Bool, eq-eqb, eqb-true, or_cases, or_left, or_right}
 use Rattle.std.proofs.lemmas.Bool.Decides.{nat_tests}
 use Rattle.ifmap_core.specs.declared.events.Answer.{Answer}
