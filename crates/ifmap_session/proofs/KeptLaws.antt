@@ -15,7 +15,8 @@ use Rattle.ifmap_session.specs.Seats.{Seat}
 use Rattle.ifmap_session.specs.Sessions.{Session, change, emptied, overflowed, queued, renewed, session_with_serial, spare_of, without_name}
 use Rattle.ifmap_session.specs.Stamps.{Restamps, no_stamp}
 use Rattle.ifmap_session.proofs.RowLaws.{changed, empty_row, found, spare_found, spare_other, row_of}
-use Rattle.ifmap_session.proofs.SessionLaws.{Keeps, holders_changed, own_at, rows_changed}
+use Rattle.ifmap_session.specs.laws.TableLaws.{Keeps}
+use Rattle.ifmap_session.proofs.SessionLaws.{holders_changed, own_at, rows_changed}
 use Rattle.ifmap_session.proofs.StampLaws.{stamped_alike, stamped_push, stamped_set}
 
 pub kept_none : IsKept 0 [] [] 0 []

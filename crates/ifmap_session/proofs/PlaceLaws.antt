@@ -14,7 +14,8 @@ use Rattle.ifmap_session.specs.Kept.{AreOwn, live_of, serial_at}
 use Rattle.ifmap_session.specs.Places.{IsPlaceOf}
 use Rattle.ifmap_session.specs.Seats.{Seat}
 use Rattle.ifmap_session.specs.Sessions.{session_with_serial}
-use Rattle.ifmap_session.proofs.Halving.{none_passes, placed}
+use Rattle.ifmap_session.specs.laws.TextLaws.{none_passes}
+use Rattle.ifmap_session.proofs.Halving.{placed}
 use Rattle.ifmap_session.proofs.RowLaws.{gone, none_of, row_of}
 
 is_number : (a b : ℕ) → (a == b) ≡ is_eq (nat_cmp a b)

@@ -1,16 +1,16 @@
 -- The live sessions and the clients' entries, as sessions change, end and begin.
--- First: texts, and lists whose texts differ. Then: what a client is found to have after a session ended (`client_after`,
+-- First: what a client is found to have after a session ended (`client_after`,
 -- `holder_after`, `client_gone`), began (`begun_indexed`) or changed (`client_changed`). Then: the session that an id names
 -- (`id_at`, `id_nowhere`). Last: rows and entries as they are kept, where a session changed (`rows_changed`,
 -- `holders_changed`), ended, began, or empty rows went.
 use Rattle.std.proofs.Common.{◌≡◌, refl, sym, ◌∙◌, ap, subst, ℕ, zero, suc, ◌+◌, ◌-◌, ◌<◌, ◌≤◌, ◌^◌, ◌==◌, Bool, true, false, not, cond, List, [], ◌∷◌, ◌++◌, length, map, set, Option, None, Some, Result, Ok, Err, inl, inr, arith}
 use Rattle.std.proofs.lemmas.Bool.{both_ways, cases_Bool, eqb-true, eqb-false, eq-eqb, false_from_ne_true, not-true}
 use Rattle.std.proofs.lemmas.Bool.Decides.{nat_tests}
-use Rattle.std.proofs.lemmas.Cmp.{nat_list_cmp_total, nat_list_eq_equiv}
+use Rattle.std.proofs.lemmas.Cmp.{nat_list_cmp_total}
 use Rattle.std.proofs.lemmas.List.Folds.{find-append}
 use Rattle.std.proofs.lemmas.List.Kept.{IsStrictlySortedBy-filter}
 use Rattle.std.proofs.lemmas.Map.Text.{is_eq-slice_cmp}
-use Rattle.std.specs.Cmp.Lexicographic.{same_text, slice_cmp}
+use Rattle.std.specs.Cmp.Lexicographic.{slice_cmp}
 use Rattle.std.specs.Fmt.{decimal}
 use Rattle.std.specs.List.{AllByRecursion, IsDistinct, filter, find, insert, list_any, remove, slice_get}
 use Rattle.std.specs.List.Sorted.{IsStrictlySortedBy, IsBinarySearchResult, IsSearchInRange}
@@ -25,23 +25,13 @@ use Rattle.ifmap_session.specs.Places.{IsPlaceFor, IsPlaceOf}
 use Rattle.ifmap_session.specs.Seats.{Seat}
 use Rattle.ifmap_session.specs.SessionIds.{BeginsWithSerial, hyphen}
 use Rattle.ifmap_session.specs.Sessions.{IsLive, Session, change, is_text, most_sessions, session_of_client, session_order, session_with_id, session_with_serial, without_sessions}
-use Rattle.ifmap_session.proofs.Halving.{all_found, filter_same, find_insert, find_none, none_passes, place_for, placed}
+use Rattle.ifmap_session.specs.laws.TableLaws.{Keeps, clients_same, length_same, one_changed, one_numbered, shorter}
+use Rattle.ifmap_session.specs.laws.TextLaws.{all_found, distinct_filter, distinct_push, find_none, none_passes, rest_differ, text_is, text_itself}
+use Rattle.ifmap_session.proofs.Halving.{filter_same, find_insert, place_for, placed}
 use Rattle.ifmap_session.proofs.RowLaws.{Own, Up, begun_last, changed, counted_filter, counted_push, counted_set, empty_row, ended, found, own_filter, own_push, own_set, row_of, seats_filter}
 use Rattle.ifmap_lemmas.specs.Filters.{all_weaker, filter_all, filter_passes}
 
--- texts and numbers
-pub text_is : (a b : List ℕ) → is_text a b ≡ true → a ≡ b
-text_is a b e = same_text a b (sym e)
-
-pub text_itself : (a : List ℕ) → is_text a a ≡ true
-text_itself a = nat_list_eq_equiv.refl a
-
-pub text_same : (a b : List ℕ) → a ≡ b → is_text a b ≡ true
-text_same a b e = subst (λ t. is_text a t ≡ true) e (text_itself a)
-
-pub text_flip : (a b : List ℕ) → is_text a b ≡ is_text b a
-text_flip a b = nat_list_eq_equiv.symm a b
-
+-- numbers
 pub is_number : (a b : ℕ) → (a == b) ≡ is_eq (nat_cmp a b)
 is_number a b = grind (arith, nat_tests)
 
@@ -65,41 +55,6 @@ without_one serial live =
     filter_same (λ (s : Session). not (s.serial == serial)) (λ (s : Session). not (list_any (λ n. n == s.serial) (serial ∷ [])))
     (λ s. grind (arith, nat_tests)) live
 
--- distinct texts
-all_map_filter : {X : Type 0} (key : X → List ℕ) (p : X → Bool) (P : List ℕ → Type 0) (xs : List X) → AllByRecursion P (map key xs)
-    → AllByRecursion P (map key (filter p xs))
-all_map_filter key p P [] h = tt
-all_map_filter key p P (x ∷ xs) h =
-    elim (p x) as (λ b. AllByRecursion P (map key (cond b (x ∷ filter p xs) (filter p xs)))) [
-      | true ↦ (h.0, all_map_filter key p P xs h.1)
-      | false ↦ all_map_filter key p P xs h.1
-    ]
-
-pub distinct_filter : {X : Type 0} (key : X → List ℕ) (p : X → Bool) (xs : List X) → IsDistinct is_text (map key xs)
-    → IsDistinct is_text (map key (filter p xs))
-unfolding IsDistinct
-distinct_filter key p [] h = tt
-distinct_filter key p (x ∷ xs) h =
-    elim (p x) as (λ b. IsDistinct is_text (map key (cond b (x ∷ filter p xs) (filter p xs)))) [
-      | true ↦ (all_map_filter key p (λ k. is_text (key x) k ≡ false) xs h.0, distinct_filter key p xs h.1)
-      | false ↦ distinct_filter key p xs h.1
-    ]
-
-all_map_push : {X : Type 0} (key : X → List ℕ) (P : List ℕ → Type 0) (xs : List X) (y : X) → AllByRecursion P (map key xs) → P (key y)
-    → AllByRecursion P (map key (xs ++ y ∷ []))
-all_map_push key P [] y h k = (k, tt)
-all_map_push key P (x ∷ xs) y h k = (h.0, all_map_push key P xs y h.1 k)
-
-pub distinct_push : {X : Type 0} (key : X → List ℕ) (xs : List X) (y : X) → IsDistinct is_text (map key xs) → find
-    (λ x. is_text (key x) (key y)) xs ≡ None → IsDistinct is_text (map key (xs ++ y ∷ []))
-unfolding IsDistinct
-distinct_push key [] y h e = (tt, tt)
-distinct_push key (x ∷ xs) y h e =
-    let none : AllByRecursion (λ z. is_text (key z) (key y) ≡ false) (x ∷ xs) = none_passes (λ z. is_text (key z) (key y)) (x ∷ xs) e in (
-      all_map_push key (λ k. is_text (key x) k ≡ false) xs y h.0 none.0,
-      distinct_push key xs y h.1 (find_none (λ z. is_text (key z) (key y)) xs none.1),
-    )
-
 pub all_map_found : {X : Type 0} (key : X → List ℕ) (P : List ℕ → Type 0) (p : X → Bool) (xs : List X) (x : X)
     → AllByRecursion P (map key xs) → find p xs ≡ Some x → P (key x)
 all_map_found key P p [] x h e = cc
@@ -108,13 +63,6 @@ all_map_found key P p (y ∷ ys) x h e =
       | inl hit ↦ let same : y ≡ x = cc (rw hit at e) in subst (λ z. P (key z)) same h.0
       | inr miss ↦ all_map_found key P p ys x h.1 (rw miss at e)
     ]
-
--- none of those that follow has the text of the one before them
-pub rest_differ : {X : Type 0} (key : X → List ℕ) (x : X) (c : List ℕ) (xs : List X) → AllByRecursion
-    (λ k. is_text (key x) k ≡ false) (map key xs) → is_text (key x) c ≡ true → AllByRecursion (λ z. is_text (key z) c ≡ false) xs
-rest_differ key x c [] h e = tt
-rest_differ key x c (z ∷ zs) h e =
-    (subst (λ k. is_text (key z) k ≡ false) (text_is (key x) c e) (text_flip (key z) (key x) ∙ h.0), rest_differ key x c zs h.1 e)
 
 -- two choices in a row change places where they are not both made
 swap_choices : {A : Type 0} (a b : Bool) (u v w : A) → (a ≡ true → b ≡ true → ⊥) → cond a u (cond b v w) ≡ cond b v (cond a u w)
@@ -242,26 +190,6 @@ begun_indexed y live holders i c none indexed =
     ]
 
 -- a client's session after one changed
-pub record Keeps (f : Session → Session) : Type 0 where
-  pub serial : (s : Session) → (f s).serial ≡ s.serial
-  pub id : (s : Session) → (f s).id ≡ s.id
-  pub client : (s : Session) → (f s).client ≡ s.client
-
-one_changed : (n : ℕ) (f : Session → Session) → Keeps f → (x : Session) → (cond (x.serial == n) (f x) x).client ≡ x.client
-one_changed n f k x = elim (cases_Bool (x.serial == n)) [ inl hit ↦ rw hit (k.client x) | inr miss ↦ rw miss refl ]
-
-one_numbered : (n : ℕ) (f : Session → Session) → Keeps f → (x : Session) → (cond (x.serial == n) (f x) x).serial ≡ x.serial
-one_numbered n f k x = elim (cases_Bool (x.serial == n)) [ inl hit ↦ rw hit (k.serial x) | inr miss ↦ rw miss refl ]
-
-pub clients_same : (n : ℕ) (f : Session → Session) → Keeps f → (live : List Session)
-    → map (λ (s : Session). s.client) (change n f live) ≡ map (λ (s : Session). s.client) live
-clients_same n f k [] = refl
-clients_same n f k (x ∷ live) = rw (one_changed n f k x, clients_same n f k live) refl
-
-pub length_same : (n : ℕ) (f : Session → Session) (live : List Session) → length (change n f live) ≡ length live
-length_same n f [] = refl
-length_same n f (x ∷ live) = ap (λ m. suc m) (length_same n f live)
-
 choose_serial : (b : Bool) (x y : Session) (o p : Option Session) → x.serial ≡ y.serial
     → option_map (λ (s : Session). s.serial) o ≡ option_map (λ (s : Session). s.serial) p
     → option_map (λ (s : Session). s.serial) (cond b (Some x) o) ≡ option_map (λ (s : Session). s.serial) (cond b (Some y) p)
@@ -446,12 +374,6 @@ holders_changed n f rows holders i a b k own h e is =
       counts = h.counts ∙ sym (ap length live ∙ length_same n f (live_of rows));
     }
 
-filter_length : (p : Session → Bool) (xs : List Session) → length (filter p xs) ≤ length xs
-filter_length p [] = omega arith
-filter_length p (x ∷ xs) =
-    let h = filter_length p xs in
-    elim (cases_Bool (p x)) [ inl hit ↦ rw hit (omega arith) | inr miss ↦ rw miss (omega arith) ]
-
 pub rows_ended : (counter n : ℕ) (rows : List Row) (i : ℕ) (a : Seat) → AreRows counter rows → slice_get rows i ≡ Some (row_of n a)
     → AreRows counter (set rows i (empty_row n))
 rows_ended counter n rows i a kept e =
@@ -462,7 +384,7 @@ rows_ended counter n rows i a kept e =
       own = own_set n rows i a None kept.own e tt;
       counted = counted_set counter n rows i a None kept.counted e;
       apart = rw live (distinct_filter (λ (t : Session). t.client) (λ (t : Session). not (t.serial == n)) (live_of rows) kept.apart);
-      few = let less = filter_length (λ (t : Session). not (t.serial == n)) (live_of rows) in let few = kept.few in rw live (omega arith);
+      few = let less = shorter (λ (t : Session). not (t.serial == n)) (live_of rows) in let few = kept.few in rw live (omega arith);
     }
 
 pub own_at : (n : ℕ) (rows : List Row) (i : ℕ) (a : Seat) → Own rows → slice_get rows i ≡ Some (row_of n a) → IsOwn n a

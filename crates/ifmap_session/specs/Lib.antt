@@ -7,3 +7,5 @@ pub mod Seats
 pub mod Stamps
 pub mod Kept
 pub mod Places
+-- Laws on the definitions, which crates above cite.
+pub mod laws
