@@ -1,8 +1,8 @@
 -- The live sessions and the clients' entries, as sessions change, end and begin.
 -- First: what a client is found to have after a session ended (`client_after`,
 -- `holder_after`, `client_gone`), began (`begun_indexed`) or changed (`client_changed`). Then: the session that an id names
--- (`id_at`, `id_nowhere`). Last: rows and entries together, as they are kept (`kept_changed`, `kept_ended`, `kept_begun`,
--- `kept_filled`).
+-- (`id_at`, `id_nowhere`). Last: rows and entries as they are kept, where a session changed (`rows_changed`,
+-- `holders_changed`), ended, began, or empty rows went.
 use Rattle.std.proofs.Common.{◌≡◌, refl, sym, ◌∙◌, ap, subst, ℕ, zero, suc, ◌+◌, ◌-◌, ◌<◌, ◌≤◌, ◌^◌, ◌==◌, Bool, true, false, not, cond, List, [], ◌∷◌, ◌++◌, length, map, set, Option, None, Some, Result, Ok, Err, inl, inr, arith}
 use Rattle.std.proofs.lemmas.Bool.{both_ways, cases_Bool, eqb-true, eqb-false, eq-eqb, false_from_ne_true, not-true}
 use Rattle.std.proofs.lemmas.Bool.Decides.{nat_tests}
@@ -23,12 +23,12 @@ use Rattle.ifmap_session.specs.declared.rows.Row.{Row}
 use Rattle.ifmap_session.specs.Kept.{AreHolders, AreOwn, AreRows, IsOwn, client_order, holder_of, live_of, row_order, seats_of}
 use Rattle.ifmap_session.specs.Places.{IsPlaceFor, IsPlaceOf}
 use Rattle.ifmap_session.specs.Seats.{Seat}
-use Rattle.ifmap_session.specs.SessionIds.{BeginsWithSerial}
+use Rattle.ifmap_session.specs.SessionIds.{BeginsWithSerial, hyphen}
 use Rattle.ifmap_session.specs.Sessions.{IsLive, Session, change, is_text, most_sessions, session_of_client, session_order, session_with_id, session_with_serial, without_sessions}
 use Rattle.ifmap_session.specs.laws.TableLaws.{Keeps, clients_same, length_same, one_changed, one_numbered, shorter}
 use Rattle.ifmap_session.specs.laws.TextLaws.{all_found, distinct_filter, distinct_push, find_none, none_passes, rest_differ, text_is, text_itself}
 use Rattle.ifmap_session.proofs.Halving.{filter_same, find_insert, place_for, placed}
-use Rattle.ifmap_session.proofs.RowLaws.{Own, Up, begun_last, changed, counted_filter, counted_push, counted_set, empty, ended, found, own_filter, own_push, own_set, seats_filter, taken}
+use Rattle.ifmap_session.proofs.RowLaws.{Own, Up, begun_last, changed, counted_filter, counted_push, counted_set, empty_row, ended, found, own_filter, own_push, own_set, row_of, seats_filter}
 use Rattle.ifmap_lemmas.specs.Filters.{all_weaker, filter_all, filter_passes}
 
 -- numbers
@@ -190,9 +190,9 @@ begun_indexed y live holders i c none indexed =
     ]
 
 -- a client's session after one changed
-choose_serial : (b : Bool) (x y : Session) (o p : Option Session) → x.serial ≡ y.serial → option_map (λ (s : Session). s.serial) o ≡ option_map
-    (λ (s : Session). s.serial) p → option_map (λ (s : Session). s.serial) (cond b (Some x) o) ≡ option_map
-    (λ (s : Session). s.serial) (cond b (Some y) p)
+choose_serial : (b : Bool) (x y : Session) (o p : Option Session) → x.serial ≡ y.serial
+    → option_map (λ (s : Session). s.serial) o ≡ option_map (λ (s : Session). s.serial) p
+    → option_map (λ (s : Session). s.serial) (cond b (Some x) o) ≡ option_map (λ (s : Session). s.serial) (cond b (Some y) p)
 choose_serial true x y o p e h = ap Some e
 choose_serial false x y o p e h = h
 
@@ -237,7 +237,7 @@ id_at (x ∷ xs) n id s up leads e =
 -- an id that a live session has leads to that session's serial
 pub id_leads : (counter : ℕ) (live : List Session) (id : List ℕ) (r : Option ℕ) → counter < 2 ^ 64 → AllByRecursion
     (λ (s : Session). s.serial ≤ counter) live → AllByRecursion (λ (s : Session). BeginsWithSerial s.serial s.id) live
-    → ((n : ℕ) (rest : List ℕ) → n < 2 ^ 64 → id ≡ decimal n ++ 45 ∷ rest → r ≡ Some n) → AllByRecursion
+    → ((n : ℕ) (rest : List ℕ) → n < 2 ^ 64 → id ≡ decimal n ++ hyphen ∷ rest → r ≡ Some n) → AllByRecursion
     (λ (s : Session). is_text s.id id ≡ true → r ≡ Some s.serial) live
 id_leads counter [] id r small counted ids f = tt
 id_leads counter (x ∷ xs) id r small counted ids f = (
@@ -285,8 +285,8 @@ found_again p q (y ∷ ys) x e h =
     ]
 
 -- a client's session is live by its serial
-pub client_live : (live : List Session) (c : List ℕ) (serial : ℕ) → option_map (λ (s : Session). s.serial) (session_of_client c live) ≡ Some serial
-    → IsLive serial live
+pub client_live : (live : List Session) (c : List ℕ) (serial : ℕ)
+    → option_map (λ (s : Session). s.serial) (session_of_client c live) ≡ Some serial → IsLive serial live
 client_live live c serial e = go (session_of_client c live) refl e where
   go : (o : Option Session) → session_of_client c live ≡ o → option_map (λ (s : Session). s.serial) o ≡ Some serial → IsLive serial live
   go None same e = cc
@@ -319,11 +319,13 @@ live_counted counter rows counted own = all_live (λ s. s.serial ≤ counter) ro
   both : (rows : List Row) → AllByRecursion (λ (r : Row). r.serial ≤ counter) rows → Own rows
       → AllByRecursion (λ (r : Row). IfSome r.kept (λ (s : Seat). s.session.serial ≤ counter)) rows
   both [] c o = tt
-  both (r ∷ rows) c o = (if_some r.kept (IsOwn r.serial) (λ s. s.session.serial ≤ counter) (λ s h. rw h.numbered c.0) o.0, both rows c.1 o.1)
+  both (r ∷ rows) c o =
+      (if_some r.kept (IsOwn r.serial) (λ s. s.session.serial ≤ counter) (λ s h. rw h.numbered c.0) o.0, both rows c.1 o.1)
 
 pub live_ids : (rows : List Row) → Own rows → AllByRecursion (λ (s : Session). BeginsWithSerial s.serial s.id) (live_of rows)
 live_ids rows own = all_live (λ s. BeginsWithSerial s.serial s.id) rows (all_weaker
-    (λ (r : Row). IfSome r.kept (IsOwn r.serial)) (λ (r : Row). IfSome r.kept (λ (s : Seat). BeginsWithSerial s.session.serial s.session.id))
+    (λ (r : Row). IfSome r.kept (IsOwn r.serial))
+    (λ (r : Row). IfSome r.kept (λ (s : Seat). BeginsWithSerial s.session.serial s.session.id))
     (λ r h. if_some r.kept (IsOwn r.serial) (λ s. BeginsWithSerial s.session.serial s.session.id) (λ s k. rw k.numbered k.id) h) rows own)
 
 pub live_up : (rows : List Row) → Up rows → Own rows → IsStrictlySortedBy session_order (live_of rows)
@@ -345,9 +347,9 @@ live_up (r ∷ rows) up own = one r.kept own.0 (live_up rows up.1 own.1) where
 
 -- rows and entries, as they are kept
 pub rows_changed : (counter n : ℕ) (f : Session → Session) (rows : List Row) (i : ℕ) (a b : Seat) → Keeps f → AreRows counter rows
-    → slice_get rows i ≡ Some (taken n a) → IsOwn n a → b.session ≡ f a.session → AreRows counter (set rows i (taken n b))
+    → slice_get rows i ≡ Some (row_of n a) → IsOwn n a → b.session ≡ f a.session → AreRows counter (set rows i (row_of n b))
 rows_changed counter n f rows i a b k kept e own is =
-    let live : live_of (set rows i (taken n b)) ≡ change n f (live_of rows) =
+    let live : live_of (set rows i (row_of n b)) ≡ change n f (live_of rows) =
     changed n f rows i a b kept.own.rising kept.own.own e is in
     record {
       small = kept.small;
@@ -361,10 +363,10 @@ rows_changed counter n f rows i a b k kept e own is =
     }
 
 pub holders_changed : (n : ℕ) (f : Session → Session) (rows : List Row) (holders : List Holder) (i : ℕ) (a b : Seat) → Keeps f → AreOwn rows
-    → AreHolders rows holders → slice_get rows i ≡ Some (taken n a) → b.session ≡ f a.session
-    → AreHolders (set rows i (taken n b)) holders
+    → AreHolders rows holders → slice_get rows i ≡ Some (row_of n a) → b.session ≡ f a.session
+    → AreHolders (set rows i (row_of n b)) holders
 holders_changed n f rows holders i a b k own h e is =
-    let live : live_of (set rows i (taken n b)) ≡ change n f (live_of rows) = changed n f rows i a b own.rising own.own e is in
+    let live : live_of (set rows i (row_of n b)) ≡ change n f (live_of rows) = changed n f rows i a b own.rising own.own e is in
     record {
       ordered = h.ordered;
       indexed = λ c. h.indexed c ∙ sym (ap (λ xs. option_map (λ (s : Session). s.serial) (session_of_client c xs)) live
@@ -372,10 +374,10 @@ holders_changed n f rows holders i a b k own h e is =
       counts = h.counts ∙ sym (ap length live ∙ length_same n f (live_of rows));
     }
 
-pub rows_ended : (counter n : ℕ) (rows : List Row) (i : ℕ) (a : Seat) → AreRows counter rows → slice_get rows i ≡ Some (taken n a)
-    → AreRows counter (set rows i (empty n))
+pub rows_ended : (counter n : ℕ) (rows : List Row) (i : ℕ) (a : Seat) → AreRows counter rows → slice_get rows i ≡ Some (row_of n a)
+    → AreRows counter (set rows i (empty_row n))
 rows_ended counter n rows i a kept e =
-    let live : live_of (set rows i (empty n)) ≡ filter (λ (t : Session). not (t.serial == n)) (live_of rows) =
+    let live : live_of (set rows i (empty_row n)) ≡ filter (λ (t : Session). not (t.serial == n)) (live_of rows) =
     ended n rows i a kept.own.rising kept.own.own e ∙ sym (without_one n (live_of rows)) in
     record {
       small = kept.small;
@@ -385,10 +387,10 @@ rows_ended counter n rows i a kept e =
       few = let less = shorter (λ (t : Session). not (t.serial == n)) (live_of rows) in let few = kept.few in rw live (omega arith);
     }
 
-pub own_at : (n : ℕ) (rows : List Row) (i : ℕ) (a : Seat) → Own rows → slice_get rows i ≡ Some (taken n a) → IsOwn n a
+pub own_at : (n : ℕ) (rows : List Row) (i : ℕ) (a : Seat) → Own rows → slice_get rows i ≡ Some (row_of n a) → IsOwn n a
 own_at n [] i a own e = cc
 own_at n (r ∷ rows) zero a own e =
-    let same : r ≡ taken n a = cc in subst (λ (x : Row). IfSome x.kept (IsOwn x.serial)) same own.0
+    let same : r ≡ row_of n a = cc in subst (λ (x : Row). IfSome x.kept (IsOwn x.serial)) same own.0
 own_at n (r ∷ rows) (suc i) a own e = own_at n rows i a own.1 e
 
 count_less : (n : ℕ) (live : List Session) (s : Session) → IsStrictlySortedBy session_order live → session_with_serial n live ≡ Some s
@@ -414,17 +416,18 @@ holder_less k (x ∷ holders) (suc j) less = ap (λ m. suc m) (holder_less k hol
 
 pub holders_ended : (n : ℕ) (rows : List Row) (holders holders2 : List Holder) (i : ℕ) (a : Seat) (q : Result ℕ ℕ) (j : ℕ)
     → IsDistinct is_text (map (λ (t : Session). t.client) (live_of rows)) → AreOwn rows → AreHolders rows holders
-    → slice_get rows i ≡ Some (taken n a) → IsPlaceOf (λ (h : Holder). is_text h.client a.session.client) holders q → q ≡ Ok j
-    → holders2 ≡ remove holders j → AreHolders (set rows i (empty n)) holders2
+    → slice_get rows i ≡ Some (row_of n a) → IsPlaceOf (λ (h : Holder). is_text h.client a.session.client) holders q → q ≡ Ok j
+    → holders2 ≡ remove holders j → AreHolders (set rows i (empty_row n)) holders2
 holders_ended n rows holders holders2 i a q j apart own h e place is rest =
     let up = live_up rows own.rising own.own in
     let there : session_with_serial n (live_of rows) ≡ Some a.session = found n rows i a own.rising own.own e in
-    let live : live_of (set rows i (empty n)) ≡ filter (λ (t : Session). not (t.serial == n)) (live_of rows) =
+    let live : live_of (set rows i (empty_row n)) ≡ filter (λ (t : Session). not (t.serial == n)) (live_of rows) =
     ended n rows i a own.rising own.own e ∙ sym (without_one n (live_of rows)) in
     let at = subst (IsPlaceOf (λ (x : Holder). is_text x.client a.session.client) holders) is place in
     let left : holders2 ≡ filter (λ (x : Holder). not (is_text x.client a.session.client)) holders = rest ∙ at.2 in
     record {
-      ordered = rw left (IsStrictlySortedBy-filter client_order (λ (x : Holder). not (is_text x.client a.session.client)) holders h.ordered);
+      ordered = rw left
+          (IsStrictlySortedBy-filter client_order (λ (x : Holder). not (is_text x.client a.session.client)) holders h.ordered);
       indexed = λ c.
           rw (left, live)
           (ap (option_map (λ (x : Holder). x.serial)) (holder_after holders a.session.client c)
@@ -433,8 +436,9 @@ holders_ended n rows holders holders2 i a q j apart own h e place is rest =
           ∙ sym (map_choice (λ (t : Session). t.serial) (is_text a.session.client c) (session_of_client c (live_of rows)))
           ∙ sym (ap (option_map (λ (t : Session). t.serial)) (client_after (live_of rows) n a.session c up apart there)));
       counts =
-          let one : suc (length holders2) ≡ length holders = ap (λ xs. suc (length xs)) rest ∙ holder_less a.session.client holders j at.0 in
-          let other : suc (length (live_of (set rows i (empty n)))) ≡ length (live_of rows) =
+          let one : suc (length holders2) ≡ length holders =
+          ap (λ xs. suc (length xs)) rest ∙ holder_less a.session.client holders j at.0 in
+          let other : suc (length (live_of (set rows i (empty_row n)))) ≡ length (live_of rows) =
           ap (λ xs. suc (length xs)) live ∙ count_less n (live_of rows) a.session up there in
           let was = h.counts in
           omega arith;
@@ -442,13 +446,13 @@ holders_ended n rows holders holders2 i a q j apart own h e place is rest =
 
 pub rows_begun : (counter : ℕ) (rows : List Row) (y : Seat) → AreRows counter rows → counter < 2 ^ 64 - 1
     → session_of_client y.session.client (live_of rows) ≡ None → length (live_of rows) < most_sessions → IsOwn (counter + 1) y
-    → AreRows (counter + 1) (rows ++ taken (counter + 1) y ∷ [])
+    → AreRows (counter + 1) (rows ++ row_of (counter + 1) y ∷ [])
 rows_begun counter rows y kept small none few own =
     let live = begun_last rows (counter + 1) y in
     record {
       small = omega arith;
-      own = own_push counter rows (taken (counter + 1) y) kept.own kept.counted (omega arith) own;
-      counted = counted_push counter rows (taken (counter + 1) y) kept.counted refl;
+      own = own_push counter rows (row_of (counter + 1) y) kept.own kept.counted (omega arith) own;
+      counted = counted_push counter rows (row_of (counter + 1) y) kept.counted refl;
       apart = rw live (distinct_push (λ (s : Session). s.client) (live_of rows) y.session kept.apart none);
       few = rw live (length_more (live_of rows) y.session few);
     } where
@@ -472,7 +476,7 @@ pub holders_begun : (n : ℕ) (rows : List Row) (holders holders2 : List Holder)
     → session_of_client y.session.client (live_of rows) ≡ None → y.session.serial ≡ n
     → IsPlaceOf (λ (h : Holder). is_text h.client y.session.client) holders r → IfErr r (IsPlaceFor y.session.client holders) → r ≡ Err j
     → holders2 ≡ insert holders j (record { client = y.session.client; serial = n })
-    → AreHolders (rows ++ taken n y ∷ []) holders2
+    → AreHolders (rows ++ row_of n y ∷ []) holders2
 holders_begun n rows holders holders2 y j r h none same place gap is entry =
     let live = begun_last rows n y in
     let at = subst (IsPlaceOf (λ (x : Holder). is_text x.client y.session.client) holders) is place in
@@ -518,7 +522,7 @@ no_holder rows holders c h none = map_none (λ (x : Holder). x.serial) (holder_o
     ∙ ap (option_map (λ (s : Session). s.serial)) none)
 
 pub holder_is_there : (n : ℕ) (rows : List Row) (holders : List Holder) (i : ℕ) (a : Seat) → AreOwn rows → AreHolders rows holders
-    → slice_get rows i ≡ Some (taken n a) → IsSome (holder_of a.session.client holders)
+    → slice_get rows i ≡ Some (row_of n a) → IsSome (holder_of a.session.client holders)
 holder_is_there n rows holders i a own h e =
     some_alike (λ (x : Holder). x.serial) (λ (t : Session). t.serial) (holder_of a.session.client holders)
     (session_of_client a.session.client (live_of rows)) (h.indexed a.session.client)
