@@ -9,6 +9,7 @@ use Rattle.std.proofs.lemmas.List.Elements.{All-from_recursion}
 use Rattle.std.proofs.lemmas.Map.Made.{AllPairs-from_IsDistinct}
 use Rattle.std.specs.List.{All, AllByRecursion, AllPairs, IsDistinct, find}
 use Rattle.std.specs.List.Sorted.{IsStrictlySortedBy}
+use Rattle.std.specs.Option.{option_map}
 use Rattle.ifmap_core.specs.declared.events.Answer.{Answer}
 use Rattle.ifmap_core.specs.declared.events.Ask.{Ask}
 use Rattle.ifmap_core.specs.declared.events.Ask.TheVariants.{Request}
@@ -110,6 +111,14 @@ has_room state client free none =
       | inr some ↦ let bad : is_none (session_of_client client state.sessions) ≡ true = rw none refl in
           absurd (both_ways (is_none (session_of_client client state.sessions)) some bad)
     ]
+
+-- and where it has one, there is room once that ends
+pub held_fewer : (live : List Session) (client : List ℕ) (n : ℕ) (o : Option Session) → session_of_client client live ≡ o
+    → option_map (λ (s : Session). s.serial) o ≡ Some n → length (without_sessions (n ∷ []) live) < length live
+held_fewer live client n None e held = cc
+held_fewer live client n (Some s) e held =
+    let same : s.serial ≡ n = cc in
+    subst (λ m. length (without_sessions (m ∷ []) live) < length live) same (one_fewer live client s e)
 
 -- where no session is refused, a serial is left
 pub serial_is_left : (state : State) (client : List ℕ) → IsWhole state → is_full state client ≡ false → state.counter < 2 ^ 64 - 1

@@ -1,5 +1,5 @@
 -- What the machine answers to an event, and the state after it.
-use Rattle.std.specs.Prelude.{ℕ, ◌+◌, ◌-◌, ◌^◌, ◌==◌, ◌&&◌, ◌||◌, nat_le, nat_lt, Bool, List, [], ◌∷◌, ◌++◌, length, map, Option, None, Some, is_none, if◌then◌else◌}
+use Rattle.std.specs.Prelude.{ℕ, ◌+◌, ◌-◌, ◌^◌, ◌==◌, ◌&&◌, ◌||◌, nat_le, nat_lt, Bool, List, [], ◌∷◌, ◌++◌, length, map, Option, None, Some, is_none, Result, Ok, Err, if◌then◌else◌}
 use Rattle.ifmap_core.specs.declared.events.Answer.{Answer}
 use Rattle.ifmap_core.specs.declared.events.Answer.TheVariants as the_answer
 use Rattle.ifmap_core.specs.declared.events.Ask.{Ask}
@@ -13,6 +13,7 @@ use Rattle.ifmap_graph.specs.declared.attachments.Attachment.{Attachment}
 use Rattle.ifmap_ident.specs.declared.codes.Code.{Code}
 use Rattle.ifmap_ident.specs.declared.codes.Code.TheVariants.{AccessDenied, InvalidSessionID, SearchResultsTooBig, SystemError}
 use Rattle.ifmap_ident.specs.Codes.{code_name}
+use Rattle.ifmap_msg.specs.declared.replies.Entry.{Entry}
 use Rattle.ifmap_msg.specs.declared.replies.Reply.TheVariants as the_reply
 use Rattle.ifmap_msg.specs.declared.requests.PublishOp.{PublishOp}
 use Rattle.ifmap_msg.specs.declared.requests.Request.TheVariants as the_request
@@ -89,13 +90,17 @@ publish state ops s = (
 abbrev pub is_too_big : ℕ → List Attachment → Bool
 is_too_big limit found = nat_lt limit (size_of found)
 
+-- the entries of what a search finds, or the note of a refusal where it is too big
+abbrev pub entries_within : ℕ → List Attachment → Result (List Entry) (List ℕ)
+entries_within limit found = if is_too_big limit found then Err (limit_note (size_of found) limit) else Ok (map entry_of found)
+
 -- the client searches in a session of its own: refused where too much is found
+abbrev pub answer_finding : State → Session → Result (List Entry) (List ℕ) → State × Answer
+answer_finding state s (Ok entries) = (renew s.serial state, the_answer.Reply (the_reply.Found entries))
+answer_finding state s (Err note) = (state, refusal_with SearchResultsTooBig note)
+
 abbrev pub answer_search : State → Search → Session → State × Answer
-answer_search state asked s =
-    let found = found_attachments state.graph asked in
-    if is_too_big asked.max_size found
-    then (state, refusal_with SearchResultsTooBig (limit_note (size_of found) asked.max_size))
-    else (renew s.serial state, the_answer.Reply (the_reply.Found (map entry_of found)))
+answer_search state asked s = answer_finding state s (entries_within asked.max_size (found_attachments state.graph asked))
 
 -- the case of each request
 abbrev pub step_ask : State → Event → Ask → State × Answer

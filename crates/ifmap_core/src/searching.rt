@@ -1,7 +1,7 @@
 //! What a search finds.
-ghost use Rattle.std.specs.Prelude.{◌≡◌, ◌<◌, ◌^◌, false, true, IfErr, IfOk, map};
+ghost use Rattle.std.specs.Prelude.{◌≡◌, ◌<◌, ◌^◌, IfOk, map};
 ghost use Rattle.ifmap_core.specs.Fresh.{entry_of, found_attachments, limit_note, size_of};
-ghost use Rattle.ifmap_core.specs.Step.{is_too_big};
+ghost use Rattle.ifmap_core.specs.Step.{entries_within};
 
 use ifmap_elem::{Copied, Many, Text};
 use ifmap_graph::{Graph, KeptAttachment};
@@ -16,13 +16,9 @@ pub fn find_entries(
     graph: &Graph,
     search: &Search,
 ) -> Result<Result<Many<Entry>, Text>, NoMemory>
-    ensures found { IfOk result (λ outcome. IfOk outcome (λ entries.
-        let found = found_attachments graph.now.attachments search.now in
-        (is_too_big search.now.max_size found ≡ false) × (entries ≡ map entry_of found))) }
-    ensures too_big { IfOk result (λ outcome. IfErr outcome (λ note.
-        let found = found_attachments graph.now.attachments search.now in
-        (is_too_big search.now.max_size found ≡ true)
-        × (note ≡ limit_note (size_of found) search.now.max_size))) }
+    ensures { IfOk result (λ outcome. outcome
+        ≡ entries_within search.now.max_size
+        (found_attachments graph.now.attachments search.now)) }
 {
     let start = Item::One(search.start.copy(alloc)?);
     entries_within(alloc, search.max_size, graph.attachments_on(&start))
@@ -34,11 +30,7 @@ fn entries_within(
     limit: u64,
     attachments: &[KeptAttachment],
 ) -> Result<Result<Many<Entry>, Text>, NoMemory>
-    ensures found { IfOk result (λ outcome. IfOk outcome (λ entries.
-        (is_too_big limit attachments.now ≡ false) × (entries ≡ map entry_of attachments.now))) }
-    ensures too_big { IfOk result (λ outcome. IfErr outcome (λ note.
-        (is_too_big limit attachments.now ≡ true)
-        × (note ≡ limit_note (size_of attachments.now) limit))) }
+    ensures { IfOk result (λ outcome. outcome ≡ entries_within limit attachments.now) }
 {
     let size = size_of(attachments)?;
     if limit < size {
