@@ -64,7 +64,10 @@ search_begins_none : (state : State) (event : Event) (asked : Search) (s : Sessi
     → AreNumberedAfter (answer_search state asked s).0.counter rest
     → AreNumberedAfter state.counter (ids_given_by event (answer_search state asked s).1 ++ rest)
 search_begins_none state event asked s rest h =
-    elim (cases_Bool (is_too_big asked.max_size (found_attachments state.graph asked))) [ inl hit ↦ rw hit (rw hit at h) | inr miss ↦ rw miss (rw miss at h) ]
+    elim (cases_Bool (is_too_big asked.max_size (found_attachments state.graph asked))) [
+      | inl hit ↦ rw hit (rw hit at h)
+      | inr miss ↦ rw miss (rw miss at h)
+    ]
 
 step_counts : (state : State) (event : Event) (ask : Ask) (rest : List (ℕ × List ℕ))
     → AreNumberedAfter (step_ask state event ask).0.counter rest
@@ -148,7 +151,10 @@ renewed_whole serial state w = changed_table serial (renewed state.moment) (rene
 
 search_whole : (state : State) (asked : Search) (s : Session) → IsWhole state → IsWhole (answer_search state asked s).0
 search_whole state asked s w =
-    elim (cases_Bool (is_too_big asked.max_size (found_attachments state.graph asked))) [ inl hit ↦ rw hit w | inr miss ↦ rw miss (renewed_whole s.serial state w) ]
+    elim (cases_Bool (is_too_big asked.max_size (found_attachments state.graph asked))) [
+      | inl hit ↦ rw hit w
+      | inr miss ↦ rw miss (renewed_whole s.serial state w)
+    ]
 
 in_session_whole : (state : State) (client : List ℕ) (accept : Session → State × Answer) (o : Option Session)
     → ((s : Session) → o ≡ Some s → IsWhole (accept s).0) → IsWhole state → IsWhole (in_session state client o accept).0
@@ -163,12 +169,14 @@ step_whole state event (Request the_request.NewSession) w =
       | inr miss ↦ rw miss (new_whole state event.client event.random (session_of_client event.client state.sessions) w miss refl)
     ]
 step_whole state event (Request (the_request.EndSession id)) w =
-    in_session_whole state event.client (end_session state) (session_with_id id state.sessions) (λ s e. ended_table s.serial (table_of state) w) w
+    in_session_whole state event.client (end_session state) (session_with_id id state.sessions)
+    (λ s e. ended_table s.serial (table_of state) w) w
 step_whole state event (Request (the_request.Publish id ops)) w =
     in_session_whole state event.client (publish state ops) (session_with_id id state.sessions)
     (λ s e. renewed_whole s.serial state w) w
 step_whole state event (Request (the_request.Search id asked)) w =
-    in_session_whole state event.client (answer_search state asked) (session_with_id id state.sessions) (λ s e. search_whole state asked s w) w
+    in_session_whole state event.client (answer_search state asked) (session_with_id id state.sessions)
+    (λ s e. search_whole state asked s w) w
 
 after_whole : (state : State) (history : History) → IsWhole state → IsWhole (state_after state history)
 after_whole state [] w = w
@@ -229,7 +237,10 @@ renewed_sound serial state w = record {
 
 search_sound : (state : State) (asked : Search) (s : Session) → IsSound state → IsSound (answer_search state asked s).0
 search_sound state asked s w =
-    elim (cases_Bool (is_too_big asked.max_size (found_attachments state.graph asked))) [ inl hit ↦ rw hit w | inr miss ↦ rw miss (renewed_sound s.serial state w) ]
+    elim (cases_Bool (is_too_big asked.max_size (found_attachments state.graph asked))) [
+      | inl hit ↦ rw hit w
+      | inr miss ↦ rw miss (renewed_sound s.serial state w)
+    ]
 
 IsAuthor : List Session → Authorship → Type 0
 IsAuthor sessions by = (s : Session) × (session_with_serial by.serial sessions ≡ Some s) × (s.client ≡ by.client)

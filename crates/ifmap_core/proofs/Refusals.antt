@@ -24,7 +24,10 @@ use Rattle.ifmap_session.specs.laws.TextLaws.{text_is, text_same}
 search_refuses : (state : State) (asked : Search) (s : Session) (code : Code) → IsRefusal code (answer_search state asked s).1
     → (SearchResultsTooBig ≡ code) × (asked.max_size < size_of (found_attachments state.graph asked))
 search_refuses state asked s code h =
-    elim (cases_Bool (is_too_big asked.max_size (found_attachments state.graph asked))) [ inl hit ↦ (rw hit at h, grind (arith, nat_tests, hit)) | inr miss ↦ absurd (rw miss at h) ]
+    elim (cases_Bool (is_too_big asked.max_size (found_attachments state.graph asked))) [
+      | inl hit ↦ (rw hit at h, grind (arith, nat_tests, hit))
+      | inr miss ↦ absurd (rw miss at h)
+    ]
 
 search_refused : (state : State) (asked : Search) (s : Session) → asked.max_size < size_of (found_attachments state.graph asked)
     → IsRefusal SearchResultsTooBig (answer_search state asked s).1
@@ -34,7 +37,10 @@ search_refused state asked s large =
 search_leaves : (state : State) (asked : Search) (s : Session) (code : Code) → IsRefusal code (answer_search state asked s).1
     → (answer_search state asked s).0 ≡ state
 search_leaves state asked s code h =
-    elim (cases_Bool (is_too_big asked.max_size (found_attachments state.graph asked))) [ inl hit ↦ rw hit refl | inr miss ↦ absurd (rw miss at h) ]
+    elim (cases_Bool (is_too_big asked.max_size (found_attachments state.graph asked))) [
+      | inl hit ↦ rw hit refl
+      | inr miss ↦ absurd (rw miss at h)
+    ]
 
 -- a request in a session, where what is accepted is not refused with the code in question
 module _ (state : State) (client : List ℕ) (accept : Session → State × Answer) where

@@ -71,9 +71,10 @@ impl Core {
     }
 
     /// Answers an event. The answer and the state after it are those of `step`; the one error is
-    /// want of memory, also told of a search whose result would have 2^64 bytes or more; it leaves the
-    /// state as it was. A refusal takes the event's moment in and changes nothing else. After each
-    /// event the attachments rise, their keys differ and each is whole. No link is looked at. No session expires yet, so `ttl` changes nothing.
+    /// want of memory, also told of a search whose result would have 2^64 bytes or more; it leaves
+    /// the state as it was. A refusal takes the event's moment in and changes nothing else; an
+    /// accepted request renews its session. After each event the attachments rise, their keys differ
+    /// and each is whole. No link is looked at. No session expires yet, so `ttl` changes nothing.
     pub fn step<L: Ledger>(
         &mut self,
         alloc: Global,
