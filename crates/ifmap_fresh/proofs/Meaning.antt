@@ -12,7 +12,8 @@ use Rattle.ifmap_view.specs.declared.views.LinkSeen.{LinkSeen}
 use Rattle.ifmap_view.specs.Rows.{stored_linked}
 use Rattle.ifmap_view.specs.Views.{IsView}
 use Rattle.ifmap_fresh.specs.Linking.{IsReachedAt, is_terminal_at}
-use Rattle.ifmap_fresh.specs.Matching.{IsMatch, is_terminal, one_meets}
+use Rattle.ifmap_fresh.specs.Matching.{IsMatch, LeadsTo, is_terminal, one_meets}
+use Rattle.ifmap_fresh.specs.Numbered.{KeepsWalks}
 use Rattle.ifmap_fresh.proofs.Joining.{count, link, linked_matches, matches_linked, some_there}
 use Rattle.ifmap_fresh.proofs.Levels.{On}
 
@@ -46,6 +47,37 @@ module _ (rows : List Attachment) (id_at : ℕ → Option Identifier) (links : �
           (matches_linked rows id_at links s.match_links is before.0 next.0
             (subst (λ o. one_meets s.match_links (stored_linked o (id_at next.0) rows) ≡ true) (sym before.1)
               (subst (λ o. one_meets s.match_links (stored_linked (Some a) o rows) ≡ true) (sym next.1) m.1))))
+
+  walk_of : (k v : ℕ) (a : Identifier) → id_at v ≡ Some a → Walk L T start k v → On rows s k a
+  walk_of k v a i w =
+      let x = to_identifier k v w
+      in subst (λ y. On rows s k y) (same_Some x.0 a (sym x.1 ∙ i)) x.2
+
+  walk_at : (k v : ℕ) (a : Identifier) → id_at v ≡ Some a → On rows s k a → Walk L T start k v
+  walk_at k v a i w =
+      let x = to_number k a w
+      in subst (λ y. Walk L T start k y) (is.one_to_one x.0 v a x.1 i) x.2
+
+  abbrev Leads : Identifier → Identifier → Type 0
+  Leads = LeadsTo rows s.match_links
+
+  depth_of : (top k v : ℕ) (a : Identifier) → id_at v ≡ Some a → HasDepth L T start top v k
+      → HasDepth Leads (is_terminal s.terminal) s.start top a k
+  depth_of top k v a i d =
+      record { within = d.within; walk = walk_of k v a i d.walk; least = λ j w. d.least j (walk_at j v a i w) }
+
+  depth_at : (top k v : ℕ) (a : Identifier) → id_at v ≡ Some a
+      → HasDepth Leads (is_terminal s.terminal) s.start top a k → HasDepth L T start top v k
+  depth_at top k v a i d =
+      record { within = d.within; walk = walk_at k v a i d.walk; least = λ j w. d.least j (walk_of j v a i w) }
+
+  pub keeps_walks : KeepsWalks rows id_at links s start
+  keeps_walks = record {
+    identified = λ k v w. let x = to_identifier k v w in (x.0, x.1);
+    numbered = λ k a w. let x = to_number k a w in (x.0, x.1);
+    walks = λ k v a i. (walk_of k v a i, walk_at k v a i);
+    depths = λ top k v a i. (depth_of top k v a i, depth_at top k v a i);
+  }
 
   pub reached_is : (v : ℕ) → IsReached L T start s.max_depth v → IsReachedAt rows id_at s v
   reached_is v r = let w = to_identifier r.0 v r.2 in (w.0, w.1, (r.0, r.1, w.2))

@@ -4,5 +4,6 @@ pub mod Reached
 pub mod Walked
 pub mod Fresh
 pub mod Linking
+pub mod Numbered
 pub mod Gathered
 pub mod Collected

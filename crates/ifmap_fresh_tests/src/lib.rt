@@ -1,0 +1,13 @@
+//! Tests of searches, over a view of plain lists: worked examples, by hand.
+#![tactic(auto)]
+
+pub mod checking;
+pub mod linking;
+pub mod lists;
+pub mod looking;
+pub mod shelves;
+
+#[cfg(test)]
+mod makers;
+#[cfg(test)]
+mod searches;
