@@ -86,7 +86,7 @@ module _ (tells : Tells) (rows : List Attachment) (id_at : ℕ → Option Identi
       in let same : w.0 ≡ a = same_Some w.0 a (sym w.1 ∙ i)
       in let t : is_terminal s.terminal a ≡ false = not_false (is_terminal s.terminal a) (subst (λ o. not (is_terminal_at s.terminal o) ≡ true) i p.1)
       in subst (λ x. is_expanded rows s x ≡ true) same
-          (walk_expanded tells rows is.graph.items s first w.0 m.0 (subst (λ x. is_terminal s.terminal x ≡ false) (sym same) t) m.2 w.2)
+      (walk_expanded tells rows is.graph.items s first w.0 m.0 (subst (λ x. is_terminal s.terminal x ≡ false) (sym same) t) m.2 w.2)
 
   -- the number of an expanded identifier is passed, and is among the keys
   expanded_passed : (a : Identifier) → IsIdentifier a → is_expanded rows s a ≡ true → (v : ℕ) × (id_at v ≡ Some a) × (passed v ≡ true) × Has keys v
@@ -102,11 +102,11 @@ module _ (tells : Tells) (rows : List Attachment) (id_at : ℕ → Option Identi
   linked_looked : (v w : ℕ) (a b : Identifier) (item : Item) → id_at v ≡ Some a → passed v ≡ true → is_match rows s.match_links a b ≡ true → pair_of a b ≡ Some item
       → is_looked_at rows s item ≡ true
   linked_looked v w a b item i p m e = elim (pair_parts a b item e) [
-      | inl q ↦ subst (λ x. is_looked_at rows s x ≡ true) (sym q) (rw (m, passed_expanded v a i p) refl)
-      | inr q ↦ subst (λ x. is_looked_at rows s x ≡ true) (sym q)
-          (let n : is_match rows s.match_links b a ≡ true = match_turned rows s.match_links b a ∙ m
-           in rw n (or_right (is_expanded rows s b) (is_expanded rows s a) (passed_expanded v a i p)))
-    ]
+    | inl q ↦ subst (λ x. is_looked_at rows s x ≡ true) (sym q) (rw (m, passed_expanded v a i p) refl)
+    | inr q ↦ subst (λ x. is_looked_at rows s x ≡ true) (sym q)
+        (let n : is_match rows s.match_links b a ≡ true = match_turned rows s.match_links b a ∙ m
+        in rw n (or_right (is_expanded rows s b) (is_expanded rows s a) (passed_expanded v a i p)))
+  ]
 
   along_looked : (v : ℕ) (seen : LinkSeen) (item : Item) → passed v ≡ true → item_along rows id_at links s mark v seen ≡ Some item → is_looked_at rows s item ≡ true
   along_looked v seen item p e = by_match (one_meets s.match_links (stored_linked (id_at v) (id_at seen.other) rows)) refl e
@@ -144,7 +144,7 @@ module _ (tells : Tells) (rows : List Attachment) (id_at : ℕ → Option Identi
           in let x = to_identifier rows id_at links s is start here m.0 v w.1
           in let same : x.0 ≡ a = same_Some x.0 a (sym x.1 ∙ i)
           in subst (λ y. is_looked_at rows s y ≡ true) e
-              (subst (λ y. is_reached rows s y ≡ true) same ((reached_by_walks tells rows is.graph.items s first x.0 (is.canon v x.0 x.1)).1 (m.0, w.0, x.2)))
+          (subst (λ y. is_reached rows s y ≡ true) same ((reached_by_walks tells rows is.graph.items s first x.0 (is.canon v x.0 x.1)).1 (m.0, w.0, x.2)))
 
       others : (v : ℕ) (c : Bool) → passed v ≡ c → Has (cond c (filter_map (item_along rows id_at links s mark v) (links v)) []) item → is_looked_at rows s item ≡ true
       others v true p h = let x = mapped_has (item_along rows id_at links s mark v) (links v) item h in along_looked v x.0 item p x.2
@@ -188,19 +188,19 @@ module _ (tells : Tells) (rows : List Attachment) (id_at : ℕ → Option Identi
       → is_match rows s.match_links a b ≡ true → pair_of a b ≡ Some item → Has keys v → Has (collected rows id_at links s mark keys) item
   brings v w a b item i j p first m e k =
       let linked : stored_linked (id_at v) (id_at w) rows ≡ stored_between a b rows
-          = ap (λ o. stored_linked o (id_at w) rows) i ∙ ap (λ o. stored_linked (Some a) o rows) j
+      = ap (λ o. stored_linked o (id_at w) rows) i ∙ ap (λ o. stored_linked (Some a) o rows) j
       in let matches : one_meets s.match_links (stored_linked (id_at v) (id_at w) rows) ≡ true = ap (one_meets s.match_links) linked ∙ m
       in let there = map_has (λ (l : LinkSeen). l.other) (links v) w (has_from _ w (is.each v w (some_there s.match_links (stored_linked (id_at v) (id_at w) rows) matches)))
       in let along : item_along rows id_at links s mark v there.0 ≡ Some item
-          = ap (λ b. item_where rows id_at links s mark v (cond b (Some there.0.other) None))
-              (ap (λ x. one_meets s.match_links (stored_linked (id_at v) (id_at x) rows)) there.2 ∙ matches)
-            ∙ ap (λ x. item_to rows id_at links s mark v x) there.2
-            ∙ ap (λ b. cond b None (pair_at (id_at v) (id_at w))) first
-            ∙ ap (λ o. pair_at o (id_at w)) i ∙ ap (λ o. pair_at (Some a) o) j ∙ e
+      = ap (λ b. item_where rows id_at links s mark v (cond b (Some there.0.other) None))
+      (ap (λ x. one_meets s.match_links (stored_linked (id_at v) (id_at x) rows)) there.2 ∙ matches)
+      ∙ ap (λ x. item_to rows id_at links s mark v x) there.2
+      ∙ ap (λ b. cond b None (pair_at (id_at v) (id_at w))) first
+      ∙ ap (λ o. pair_at o (id_at w)) i ∙ ap (λ o. pair_at (Some a) o) j ∙ e
       in has_joined (brought rows id_at links s mark) keys v item k
-          (has_right (alone (id_at v)) (cond (passed v) (filter_map (item_along rows id_at links s mark v) (links v)) []) item
-            (subst (λ c. Has (cond c (filter_map (item_along rows id_at links s mark v) (links v)) []) item) (sym p)
-              (has_mapped (item_along rows id_at links s mark v) (links v) there.0 item there.1 along)))
+      (has_right (alone (id_at v)) (cond (passed v) (filter_map (item_along rows id_at links s mark v) (links v)) []) item
+      (subst (λ c. Has (cond c (filter_map (item_along rows id_at links s mark v) (links v)) []) item) (sym p)
+      (has_mapped (item_along rows id_at links s mark v) (links v) there.0 item there.1 along)))
 
   from_end : (a b : Identifier) (item : Item) → IsIdentifier a → IsIdentifier b → is_match rows s.match_links a b ≡ true → pair_of a b ≡ Some item → is_expanded rows s a ≡ true
       → Has (collected rows id_at links s mark keys) item
@@ -225,8 +225,8 @@ module _ (tells : Tells) (rows : List Attachment) (id_at : ℕ → Option Identi
       in let n = to_number rows id_at links s is start here r.0 a r.2
       in let m = walk_mark rows id_at links s is start here mark depths n.0 r.0 r.1 n.2
       in has_joined (brought rows id_at links s mark) keys n.0 (One a) (keyed n.0 m.0 m.1)
-          (has_left (alone (id_at n.0)) (cond (passed n.0) (filter_map (item_along rows id_at links s mark n.0) (links n.0)) []) (One a)
-            (subst (λ o. Has (alone o) (One a)) (sym n.1) (inl refl)))
+      (has_left (alone (id_at n.0)) (cond (passed n.0) (filter_map (item_along rows id_at links s mark n.0) (links n.0)) []) (One a)
+      (subst (λ o. Has (alone o) (One a)) (sym n.1) (inl refl)))
   collects (Pair a b) i e =
       let p = and_parts (is_match rows s.match_links a b) (is_expanded rows s a || is_expanded rows s b) e
       in elim (or_either (is_expanded rows s a) (is_expanded rows s b) p.1) [
@@ -238,19 +238,19 @@ module _ (tells : Tells) (rows : List Attachment) (id_at : ℕ → Option Identi
 filter_twice : {X : Type 0} (p q : X → Bool) (xs : List X) → filter q (filter p xs) ≡ filter (λ x. p x && q x) xs
 filter_twice p q [] = refl
 filter_twice p q (x ∷ xs) = elim (cases_Bool (p x)) [
-    | inl t ↦ elim (cases_Bool (q x)) [
-        | inl u ↦ rw (t, u) (ap (λ l. x ∷ l) (filter_twice p q xs))
-        | inr u ↦ rw (t, u) (filter_twice p q xs)
-      ]
-    | inr t ↦ rw t (filter_twice p q xs)
+  | inl t ↦ elim (cases_Bool (q x)) [
+    | inl u ↦ rw (t, u) (ap (λ l. x ∷ l) (filter_twice p q xs))
+    | inr u ↦ rw (t, u) (filter_twice p q xs)
   ]
+  | inr t ↦ rw t (filter_twice p q xs)
+]
 
 filter_same : (p q : Attachment → Bool) (xs : List Attachment) → AllByRecursion (λ r. p r ≡ q r) xs → filter p xs ≡ filter q xs
 filter_same p q [] a = refl
 filter_same p q (x ∷ xs) a = elim (cases_Bool (q x)) [
-    | inl t ↦ rw (a.0 ∙ t, t) (ap (λ l. x ∷ l) (filter_same p q xs a.1))
-    | inr t ↦ rw (a.0 ∙ t, t) (filter_same p q xs a.1)
-  ]
+  | inl t ↦ rw (a.0 ∙ t, t) (ap (λ l. x ∷ l) (filter_same p q xs a.1))
+  | inr t ↦ rw (a.0 ∙ t, t) (filter_same p q xs a.1)
+]
 
 abbrev entry_of : Attachment → Entry
 entry_of r = record { item = r.item; element = r.stored.element }
@@ -262,9 +262,9 @@ module _ (by : Option Filter) where
   one_item : (i : Item) (xs : List Stored) → entries_of by i xs ≡ map entry_of (filter meeting (map (row_at i) xs))
   one_item i [] = refl
   one_item i (x ∷ xs) = elim (cases_Bool (meets_optional by x.element)) [
-      | inl t ↦ rw t (ap (λ l. entry_at i x ∷ l) (one_item i xs))
-      | inr t ↦ rw t (one_item i xs)
-    ]
+    | inl t ↦ rw t (ap (λ l. entry_at i x ∷ l) (one_item i xs))
+    | inr t ↦ rw t (one_item i xs)
+  ]
 
   pub entries_gathered : (rows : List Attachment) (items : List Item) → entries_on by rows items ≡ map entry_of (filter meeting (gathered rows items))
   entries_gathered rows [] = refl
@@ -292,7 +292,7 @@ module _ (tells : Tells) (rows : List Attachment) (s : Search) (items : List Ite
   among : (x : Item) → IsCanonItem x → stored_on x rows ≢ [] → has_item items x ≡ is_looked_at rows s x
   among x i n = bool_is (has_item items x) (is_looked_at rows s x)
       (λ h. let f = any_has (same_item x) items h
-          in are.there x (subst (λ y. Has items y) (sym (same_item_is tells x f.0 i.identifiers (are.canon f.0 f.1).identifiers f.2)) f.1))
+      in are.there x (subst (λ y. Has items y) (sym (same_item_is tells x f.0 i.identifiers (are.canon f.0 f.1).identifiers f.2)) f.1))
       (λ e. are.back x i n e)
 
   all_among : AllByRecursion (λ r. (has_item items r.item && meeting s.result_filter r) ≡ is_found rows s r) rows
@@ -305,4 +305,4 @@ module _ (tells : Tells) (rows : List Attachment) (s : Search) (items : List Ite
       entries_gathered s.result_filter rows items
       ∙ ap (λ l. map entry_of (filter (meeting s.result_filter) l)) (gathers tells rows items graph.items (all_items items are.canon) (grouped rows graph.rising) are.rising)
       ∙ ap (map entry_of) (filter_twice (λ r. has_item items r.item) (meeting s.result_filter) rows
-        ∙ filter_same (λ r. has_item items r.item && meeting s.result_filter r) (is_found rows s) rows all_among)
+      ∙ filter_same (λ r. has_item items r.item && meeting s.result_filter r) (is_found rows s) rows all_among)

@@ -56,9 +56,9 @@ among_above : Tells → (i : Item) (is : List Item) → AllByRecursion AreCanon 
     → has_item is k ≡ true → item_order i k ≡ Less
 among_above tells i [] c k ck a h = let q : false ≡ true = h in cc
 among_above tells i (j ∷ is) c k ck a h = elim (cases_Bool (same_item k j)) [
-    | inl t ↦ subst (λ x. item_order i x ≡ Less) (sym (same_item_is tells k j ck c.0 t)) a.0
-    | inr t ↦ among_above tells i is c.1 k ck a.1 (rw t at h)
-  ]
+  | inl t ↦ subst (λ x. item_order i x ≡ Less) (sym (same_item_is tells k j ck c.0 t)) a.0
+  | inr t ↦ among_above tells i is c.1 k ck a.1 (rw t at h)
+]
 
 -- one attachment more changes nothing where its item is not among them
 without : (r : Attachment) (rs : List Attachment) (is : List Item) → has_item is r.item ≡ false → gathered (r ∷ rs) is ≡ gathered rs is
@@ -73,16 +73,16 @@ with_first : Tells → (r : Attachment) (rs : List Attachment) (is : List Item) 
     → has_item is r.item ≡ true → gathered (r ∷ rs) is ≡ r ∷ gathered rs is
 with_first tells r rs [] cr c a s h = let q : false ≡ true = h in cc
 with_first tells r rs (i ∷ is) cr c a s h = elim (cases_Bool (same_item r.item i)) [
-    | inl t ↦ let same : r.item ≡ i = same_item_is tells r.item i cr c.0 t
-        in let rest : gathered (r ∷ rs) is ≡ gathered rs is = without r rs is (not_among r.item is (subst (λ k. AllByRecursion (λ y. item_order k y ≡ Less) is) (sym same) (first_rises i is s).0))
-        in rw t (ap (λ x. record { item = x; stored = r.stored } ∷ (map (row_at i) (stored_on i rs) ++ gathered (r ∷ rs) is)) (sym same)
-          ∙ ap (λ l. r ∷ (map (row_at i) (stored_on i rs) ++ l)) rest)
-    | inr t ↦ let more : has_item is r.item ≡ true = rw t at h
-        in let nothing : stored_on i rs ≡ [] = nothing_below i r.item rs (among_above tells i is c.1 r.item cr (first_rises i is s).0 more) a
-        in rw t (ap (λ l. map (row_at i) l ++ gathered (r ∷ rs) is) nothing
-          ∙ with_first tells r rs is cr c.1 a (first_rises i is s).1 more
-          ∙ ap (λ l. r ∷ (map (row_at i) l ++ gathered rs is)) (sym nothing))
-  ]
+  | inl t ↦ let same : r.item ≡ i = same_item_is tells r.item i cr c.0 t
+      in let rest : gathered (r ∷ rs) is ≡ gathered rs is = without r rs is (not_among r.item is (subst (λ k. AllByRecursion (λ y. item_order k y ≡ Less) is) (sym same) (first_rises i is s).0))
+      in rw t (ap (λ x. record { item = x; stored = r.stored } ∷ (map (row_at i) (stored_on i rs) ++ gathered (r ∷ rs) is)) (sym same)
+      ∙ ap (λ l. r ∷ (map (row_at i) (stored_on i rs) ++ l)) rest)
+  | inr t ↦ let more : has_item is r.item ≡ true = rw t at h
+      in let nothing : stored_on i rs ≡ [] = nothing_below i r.item rs (among_above tells i is c.1 r.item cr (first_rises i is s).0 more) a
+      in rw t (ap (λ l. map (row_at i) l ++ gathered (r ∷ rs) is) nothing
+      ∙ with_first tells r rs is cr c.1 a (first_rises i is s).1 more
+      ∙ ap (λ l. r ∷ (map (row_at i) l ++ gathered rs is)) (sym nothing))
+]
 
 pub gathers : Tells → (rows : List Attachment) (items : List Item) → AllByRecursion (λ r. IsCanonItem r.item) rows → AllByRecursion AreCanon items
     → IsGrouped rows → IsStrictlySortedBy item_order items → gathered rows items ≡ filter (λ r. has_item items r.item) rows
@@ -92,9 +92,9 @@ gathers tells [] items cr c g s = none items
     none [] = refl
     none (i ∷ is) = none is
 gathers tells (r ∷ rs) items cr c g s = elim (cases_Bool (has_item items r.item)) [
-    | inl t ↦ with_first tells r rs items cr.0.identifiers c g.0 s t ∙ ap (λ l. r ∷ l) (gathers tells rs items cr.1 c g.1 s) ∙ sym (rw t refl)
-    | inr t ↦ without r rs items t ∙ gathers tells rs items cr.1 c g.1 s ∙ sym (rw t refl)
-  ]
+  | inl t ↦ with_first tells r rs items cr.0.identifiers c g.0 s t ∙ ap (λ l. r ∷ l) (gathers tells rs items cr.1 c g.1 s) ∙ sym (rw t refl)
+  | inr t ↦ without r rs items t ∙ gathers tells rs items cr.1 c g.1 s ∙ sym (rw t refl)
+]
 
 -- attachments that rise do not fall by their items
 pub grouped : (rows : List Attachment) → IsStrictlySortedBy attachment_order rows → IsGrouped rows

@@ -53,12 +53,12 @@ stands_in tells rows items a b ia ib n = by (pair_of a b) refl
         in let row = map_has (λ (r : Attachment). r.stored) (filter (λ r. same_item r.item item) rows) stored.0 stored.1
         in let kept = filter_has (λ (r : Attachment). same_item r.item item) rows row.0 row.1
         in let same : row.0.item ≡ item = same_item_is tells row.0.item item (member (λ r. IsCanonItem r.item) rows items row.0 kept.0).identifiers
-            (pair_canon a b item ia ib e).identifiers kept.1
+        (pair_canon a b item ia ib e).identifiers kept.1
         in has_joined (λ (r : Attachment). identifiers_of r.item) rows row.0 b kept.0
-            (subst (λ i. Has (identifiers_of i) b) (sym same) (elim (pair_parts a b item e) [
-              | inl p ↦ subst (λ i. Has (identifiers_of i) b) (sym p) (inr (inl refl))
-              | inr p ↦ subst (λ i. Has (identifiers_of i) b) (sym p) (inl refl)
-            ]))
+        (subst (λ i. Has (identifiers_of i) b) (sym same) (elim (pair_parts a b item e) [
+          | inl p ↦ subst (λ i. Has (identifiers_of i) b) (sym p) (inr (inl refl))
+          | inr p ↦ subst (λ i. Has (identifiers_of i) b) (sym p) (inl refl)
+        ]))
 
     by : (o : Option Item) → pair_of a b ≡ o → Has (identifiers_in rows) b
     by None e = absurd (n (ap (λ i. stored_where i rows) e))
@@ -92,10 +92,13 @@ module _ (rows : List Attachment) (id_at : ℕ → Option Identifier) (links : �
         in let within : c.0 < length (links v) = subst (λ n. c.0 < n) (length-map (links v) (λ l. l.other)) c.1
         in let seen : LinkSeen = get_or (links v) c.0 (record { other = w; at = 0 })
         in let other : seen.other ≡ w = sym (get_or-map (λ l. l.other) (links v) c.0 (record { other = w; at = 0 }) w within) ∙ c.2
-        in (c.0, within,
-            ap (λ o. end_where rows id_at filter v o) (slice_get-get_or (links v) c.0 (record { other = w; at = 0 }) within)
-            ∙ ap (λ b. cond b (Some seen.other) None) (subst (λ x. Matches v x) (sym other) m)
-            ∙ ap Some other)
+        in (
+          c.0,
+          within,
+          ap (λ o. end_where rows id_at filter v o) (slice_get-get_or (links v) c.0 (record { other = w; at = 0 }) within)
+              ∙ ap (λ b. cond b (Some seen.other) None) (subst (λ x. Matches v x) (sym other) m)
+              ∙ ap Some other,
+        )
 
     pub symmetric : IsSymmetric (Linked count link)
     symmetric v w l =

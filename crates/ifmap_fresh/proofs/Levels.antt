@@ -49,7 +49,7 @@ module _ (tells : Tells) (rows : List Attachment) (items : AllByRecursion (λ r.
   next_has : (a b : Identifier) → IsIdentifier a → T a ≡ false → M a b → Has (next_to rows s a) b
   next_has a b i t m =
       rw t (has_filter (is_match rows s.match_links a) (identifiers_in rows) b
-        (stands_in tells rows items a b i m.0 (some_there s.match_links (stored_between a b rows) m.1)) m.1)
+      (stands_in tells rows items a b i m.0 (some_there s.match_links (stored_between a b rows) m.1)) m.1)
 
   has_next : (a b : Identifier) → Has (next_to rows s a) b → (T a ≡ false) × M a b
   has_next a b h = by (T a) refl h
@@ -69,12 +69,12 @@ module _ (tells : Tells) (rows : List Attachment) (items : AllByRecursion (λ r.
   within_walk zero a (inl e) = (zero, omega arith, begins (sym e))
   within_walk zero a (inr h) = absurd h
   within_walk (suc n) a h = elim (has_either (within rows s n) (flat_map (next_to rows s) (within rows s n)) a h) [
-      | inl p ↦ let r = within_walk n a p in (r.0, omega (arith, r.1), r.2)
-      | inr p ↦ let j = joined_has (next_to rows s) (within rows s n) a p
-          in let r = within_walk n j.0 j.1
-          in let x = has_next j.0 a j.2
-          in (suc r.0, omega (arith, r.1), goes_on r.2 x.0 x.1)
-    ]
+    | inl p ↦ let r = within_walk n a p in (r.0, omega (arith, r.1), r.2)
+    | inr p ↦ let j = joined_has (next_to rows s) (within rows s n) a p
+        in let r = within_walk n j.0 j.1
+        in let x = has_next j.0 a j.2
+        in (suc r.0, omega (arith, r.1), goes_on r.2 x.0 x.1)
+  ]
 
   pub is_within_walk : (n : ℕ) (a : Identifier) → IsIdentifier a → is_within rows s n a ≡ true → (k : ℕ) × (k ≤ n) × On rows s k a
   is_within_walk n a i e =

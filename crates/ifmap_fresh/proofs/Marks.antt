@@ -18,19 +18,19 @@ itself a b e = grind (arith, nat_tests)
 row_has : (es : List (ℕ × Option ℕ)) (v : ℕ) (r : Option ℕ) → row_of es v ≡ Some r → Has (numbers_of es) v
 row_has [] v r e = absurd (none-some r e)
 row_has (x ∷ xs) v r e = elim (cases_Bool (nat_eq v x.0)) [
-    | inl t ↦ inl (equal v x.0 t)
-    | inr t ↦ inr (row_has xs v r (rw t at e))
-  ]
+  | inl t ↦ inl (equal v x.0 t)
+  | inr t ↦ inr (row_has xs v r (rw t at e))
+]
 
 has_row : (es : List (ℕ × Option ℕ)) (v : ℕ) → Has (numbers_of es) v → (r : Option ℕ) × (row_of es v ≡ Some r)
 has_row [] v h = absurd h
 has_row (x ∷ xs) v h = elim (cases_Bool (nat_eq v x.0)) [
-    | inl t ↦ (x.1, rw t refl)
-    | inr t ↦ elim h [
-        | inl e ↦ let q : false ≡ true = sym t ∙ itself v x.0 e in cc
-        | inr k ↦ let r = has_row xs v k in (r.0, rw t r.1)
-      ]
+  | inl t ↦ (x.1, rw t refl)
+  | inr t ↦ elim h [
+    | inl e ↦ let q : false ≡ true = sym t ∙ itself v x.0 e in cc
+    | inr k ↦ let r = has_row xs v k in (r.0, rw t r.1)
   ]
+]
 
 pub keyed : (es : List (ℕ × Option ℕ)) (v k : ℕ) → mark_of es v ≡ Some k → Has (numbers_of es) v
 keyed es v k e = by (row_of es v) refl

@@ -43,10 +43,14 @@ module _ (rows : List Attachment) (id_at : ℕ → Option Identifier) (links : �
   to_number (suc k) b (goes_on {u = a} w t m) =
       let before = to_number k a w
       in let next = is.linked a b m.0 (some_there s.match_links _ m.1)
-      in (next.0, next.1, goes_on before.2 (subst (λ o. is_terminal_at s.terminal o ≡ false) (sym before.1) t)
-          (matches_linked rows id_at links s.match_links is before.0 next.0
+      in (
+        next.0,
+        next.1,
+        goes_on before.2 (subst (λ o. is_terminal_at s.terminal o ≡ false) (sym before.1) t)
+            (matches_linked rows id_at links s.match_links is before.0 next.0
             (subst (λ o. one_meets s.match_links (stored_linked o (id_at next.0) rows) ≡ true) (sym before.1)
-              (subst (λ o. one_meets s.match_links (stored_linked (Some a) o rows) ≡ true) (sym next.1) m.1))))
+            (subst (λ o. one_meets s.match_links (stored_linked (Some a) o rows) ≡ true) (sym next.1) m.1))),
+      )
 
   walk_of : (k v : ℕ) (a : Identifier) → id_at v ≡ Some a → Walk L T start k v → On rows s k a
   walk_of k v a i w =

@@ -25,7 +25,7 @@ module _ (old sorted new : List Item) (moved : IsPermutation old sorted) (in_ord
   pub came : (x : Item) → Has new x → Has old x
   came x h =
       has_from old x (Contains-permutation sorted old x (IsPermutation-sym old sorted moved)
-        (Contains-from_dedup same_item sorted x (subst (λ l. Contains l x) new_is (from_has new x h))))
+      (Contains-from_dedup same_item sorted x (subst (λ l. Contains l x) new_is (from_has new x h))))
 
   pub stays : (x : Item) → Has old x → has_item new x ≡ true
   stays x h =

@@ -28,9 +28,7 @@ impl<'a, V: View> Looking<'a, V> {
             (mark_of self.now.region.marks.entries) number }
     {
         match self.region.mark(number) {
-            Some(mark) => {
-                mark < self.links.search.max_depth && !self.links.is_terminal(number)
-            }
+            Some(mark) => { mark < self.links.search.max_depth && !self.links.is_terminal(number) }
             None => false,
         }
     }
@@ -58,8 +56,8 @@ impl<'a, V: View> Looking<'a, V> {
     ) -> Result<(), NoMemory>
         ensures items { OnOk result (items.new.items ≡ items.old.items ++ filter_map
             (item_along (V.rows self.now.links.view.now) (V.id_at self.now.links.view.now)
-                (V.links self.now.links.view.now) self.now.links.search.now
-                (mark_of self.now.region.marks.entries) number)
+            (V.links self.now.links.view.now) self.now.links.search.now
+            (mark_of self.now.region.marks.entries) number)
             (V.links self.now.links.view.now number)) }
         ensures steps { steps.new ≤ steps.old + length (V.links self.now.links.view.now number) }
     {
@@ -81,9 +79,9 @@ impl<'a, V: View> Looking<'a, V> {
         requires { i < length (V.links self.now.links.view.now number) }
         ensures items { OnOk result (items.new.items ≡ items.old.items ++ added
             (item_at (V.rows self.now.links.view.now) (V.id_at self.now.links.view.now)
-                (V.links self.now.links.view.now) self.now.links.search.now
-                (mark_of self.now.region.marks.entries) number
-                (slice_get (V.links self.now.links.view.now number) i))) }
+            (V.links self.now.links.view.now) self.now.links.search.now
+            (mark_of self.now.region.marks.entries) number
+            (slice_get (V.links self.now.links.view.now number) i))) }
         ensures step { steps.new ≡ steps.old + 1 }
     {
         if let Some(other) = self.links.at(number, i, steps) {

@@ -22,7 +22,7 @@ pub fn levels_are_walks()
     ensures reached { (rows : List Attachment) (s : Search) (a : Identifier)
         → IsGraph rows → IsIdentifier s.start → IsIdentifier a
         → (is_reached rows s a ≡ true) ↔ IsReached (LeadsTo rows s.match_links)
-            (is_terminal s.terminal) s.start s.max_depth a }
+        (is_terminal s.terminal) s.start s.max_depth a }
     ensures expanded { (rows : List Attachment) (s : Search) (a : Identifier)
         → IsGraph rows → IsIdentifier s.start → IsIdentifier a
         → (is_expanded rows s a ≡ true) ↔ IsExpanded rows s a }

@@ -20,6 +20,5 @@ pub fn meets_optional(filter: &Option<Filter>, element: &Element) -> bool
 pub fn one_meets(filter: &Option<Filter>, rows: &[Row]) -> bool
     ensures { result ≡ one_meets filter.now rows.now }
 {
-    rows.iter()
-        .any(|row| meets_optional(filter, row.stored().element.element()))
+    rows.iter().any(|row| meets_optional(filter, row.stored().element.element()))
 }

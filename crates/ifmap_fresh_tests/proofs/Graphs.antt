@@ -68,7 +68,7 @@ on_shelf P f ss a =
 pub graph_is : (ss : List Shelf) → AllByRecursion (λ s. IsCanonItem s.item) ss → all_pairs item_below ss ≡ true → are_lists ss ≡ true → IsGraph (rows_of ss)
 graph_is ss c r l =
     let rise = pairwise_turned (λ s t. item_below s t ≡ true) (λ s t. item_order s.item t.item ≡ Less) ss
-        (λ s t e. less_is (item_order s.item t.item) e) (pairs_of item_below ss r)
+    (λ s t e. less_is (item_order s.item t.item) e) (pairs_of item_below ss r)
     in let lists = all_of_test (λ s. all_pairs row_below s.rows.items) ss l
     in record {
       items = all_rows (λ x. IsCanonItem x.item) (λ s. IsCanonItem s.item) (λ s x p. p) ss c;

@@ -52,7 +52,9 @@ fn rise(shelves: &[Shelf]) -> bool
 fn is_item_below(shelf: &Shelf, others: &[Shelf]) -> bool
     ensures { result ≡ list_all (item_below shelf.now) others.now }
 {
-    others.iter().all(|other| shelf.item.cmp(&other.item).is_lt())
+    others
+        .iter()
+        .all(|other| shelf.item.cmp(&other.item).is_lt())
 }
 
 fn are_lists(shelves: &[Shelf]) -> bool

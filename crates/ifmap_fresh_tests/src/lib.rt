@@ -5,9 +5,8 @@ pub mod checking;
 pub mod linking;
 pub mod lists;
 pub mod looking;
-pub mod shelves;
-
 #[cfg(test)]
 mod makers;
 #[cfg(test)]
 mod searches;
+pub mod shelves;

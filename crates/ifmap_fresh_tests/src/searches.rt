@@ -72,12 +72,7 @@ fn found_in(alloc: Global, lists: &Lists, search: &Search) -> Result<String, NoM
     }
 }
 
-fn found_from(
-    alloc: Global,
-    lists: &Lists,
-    start: u8,
-    max_depth: u32,
-) -> Result<String, NoMemory> {
+fn found_from(alloc: Global, lists: &Lists, start: u8, max_depth: u32) -> Result<String, NoMemory> {
     found_in(alloc, lists, &search_from(alloc, start, max_depth))
 }
 
@@ -107,20 +102,34 @@ fn a_link_between_two_at_the_greatest_depth_is_not_found(rt: HostRuntime) -> Res
 #[test]
 fn no_walk_goes_on_from_a_terminal_start(rt: HostRuntime) -> Result<(), Fail> {
     let alloc = rt.alloc();
-    let lists = lists_of(alloc, 3, &[at(1, &["a"]), link(1, 2, &["b"]), at(2, &["c"])])?;
+    let lists = lists_of(
+        alloc,
+        3,
+        &[at(1, &["a"]), link(1, 2, &["b"]), at(2, &["c"])],
+    )?;
     let mut search = search_from(alloc, 1, 3);
-    assert_eq!(rt; found_in(alloc, &lists, &search)?.as_str(), "1 a, 1-2 b, 2 c, ");
+    assert_eq!(rt;
+        found_in(alloc, &lists, &search)?.as_str(),
+        "1 a, 1-2 b, 2 c, "
+    );
     search.terminal = Many(vec![in alloc; Kind::MacAddress]?);
     assert_eq!(rt; found_in(alloc, &lists, &search)?.as_str(), "1 a, ");
     search.terminal = Many(vec![in alloc; Kind::Device]?);
-    assert_eq!(rt; found_in(alloc, &lists, &search)?.as_str(), "1 a, 1-2 b, 2 c, ");
+    assert_eq!(rt;
+        found_in(alloc, &lists, &search)?.as_str(),
+        "1 a, 1-2 b, 2 c, "
+    );
     Ok(())
 }
 
 #[test]
 fn an_empty_filter_is_met_by_nothing(rt: HostRuntime) -> Result<(), Fail> {
     let alloc = rt.alloc();
-    let lists = lists_of(alloc, 3, &[at(1, &["a"]), link(1, 2, &["b"]), at(2, &["c"])])?;
+    let lists = lists_of(
+        alloc,
+        3,
+        &[at(1, &["a"]), link(1, 2, &["b"]), at(2, &["c"])],
+    )?;
     let mut search = search_from(alloc, 1, 3);
     search.match_links = Some(filter_of(alloc, "")?);
     assert_eq!(rt; found_in(alloc, &lists, &search)?.as_str(), "1 a, ");
@@ -137,7 +146,10 @@ fn a_link_that_matches_is_found_with_its_other_elements(rt: HostRuntime) -> Resu
     let lists = lists_of(alloc, 4, &spots)?;
     let mut search = search_from(alloc, 1, 3);
     search.match_links = Some(filter_of(alloc, "m:b")?);
-    assert_eq!(rt; found_in(alloc, &lists, &search)?.as_str(), "1-2 a, 1-2 b, 2 a, ");
+    assert_eq!(rt;
+        found_in(alloc, &lists, &search)?.as_str(),
+        "1-2 a, 1-2 b, 2 a, "
+    );
     search.result_filter = Some(filter_of(alloc, "m:a")?);
     assert_eq!(rt; found_in(alloc, &lists, &search)?.as_str(), "1-2 a, 2 a, ");
     Ok(())
@@ -153,7 +165,10 @@ fn a_cycle_is_found_while_a_link_leads_to_it(rt: HostRuntime) -> Result<(), Fail
         link(3, 4, &["d"]),
     ];
     let lists = lists_of(alloc, 5, &spots)?;
-    assert_eq!(rt; found_from(alloc, &lists, 1, 5)?.as_str(), "1-2 a, 2-3 b, 2-4 c, 3-4 d, ");
+    assert_eq!(rt;
+        found_from(alloc, &lists, 1, 5)?.as_str(),
+        "1-2 a, 2-3 b, 2-4 c, 3-4 d, "
+    );
     let lists = lists_of(alloc, 5, &spots[1..])?;
     assert_eq!(rt; found_from(alloc, &lists, 1, 5)?.as_str(), "");
     Ok(())

@@ -19,13 +19,13 @@ pub returns-in_default-clause-items : goal.returns-in_default-clause-items
 returns-in_default-clause-items g c =
     let view = c.args.view.now
     in subst (λ l. AreLookedAt (g.V.View.rows view) c.args.search.now l) (sym c.new.ensures.items)
-        (record {
-          rising = none_rise;
-          there = λ x h. absurd h;
-          canon = λ x h. absurd h;
-          back = λ x i n e. absurd (nothing c.bytes_tell_identifiers_apart.ensures (g.V.View.rows view) (g.V.View.id_at view) (g.V.View.links view) c.args.search.now
-            c.in_default.ensures.whole c.requires (λ v f. c.in_default.not-Some v (c.in_default.ensures.only v f)) x n e);
-        })
+    (record {
+      rising = none_rise;
+      there = λ x h. absurd h;
+      canon = λ x h. absurd h;
+      back = λ x i n e. absurd (nothing c.bytes_tell_identifiers_apart.ensures (g.V.View.rows view) (g.V.View.id_at view) (g.V.View.links view) c.args.search.now
+          c.in_default.ensures.whole c.requires (λ v f. c.in_default.not-Some v (c.in_default.ensures.only v f)) x n e);
+    })
 
 pub returns-in_default-clause-steps : goal.returns-in_default-clause-steps
 returns-in_default-clause-steps g c =
@@ -38,8 +38,8 @@ returns-clause-items g c =
     in let sorted = c.sort_unstable.new.self.items
     in let new = c.dedup.new.self.items
     in record {
-        rising = rises old sorted new c.sort_unstable.ensures.permutation c.sort_unstable.ensures.sorted c.dedup.ensures.filtered;
-        there = λ x h. c.in_ok-items.ensures.there x (came old sorted new c.sort_unstable.ensures.permutation c.sort_unstable.ensures.sorted c.dedup.ensures.filtered x h);
-        canon = λ x h. c.in_ok-items.ensures.canon x (came old sorted new c.sort_unstable.ensures.permutation c.sort_unstable.ensures.sorted c.dedup.ensures.filtered x h);
-        back = λ x i n e. stays old sorted new c.sort_unstable.ensures.permutation c.sort_unstable.ensures.sorted c.dedup.ensures.filtered x (c.in_ok-items.ensures.back x i e);
-      }
+      rising = rises old sorted new c.sort_unstable.ensures.permutation c.sort_unstable.ensures.sorted c.dedup.ensures.filtered;
+      there = λ x h. c.in_ok-items.ensures.there x (came old sorted new c.sort_unstable.ensures.permutation c.sort_unstable.ensures.sorted c.dedup.ensures.filtered x h);
+      canon = λ x h. c.in_ok-items.ensures.canon x (came old sorted new c.sort_unstable.ensures.permutation c.sort_unstable.ensures.sorted c.dedup.ensures.filtered x h);
+      back = λ x i n e. stays old sorted new c.sort_unstable.ensures.permutation c.sort_unstable.ensures.sorted c.dedup.ensures.filtered x (c.in_ok-items.ensures.back x i e);
+    }
