@@ -1,6 +1,6 @@
 -- Entries and items, one more at a time.
 use Rattle.std.proofs.Common.{◌≡◌, ℕ, ◌+◌, ◌<◌, Bool, true, false, cond, List, [], ◌∷◌, ◌++◌, map, flat_map, Option, None, Some, IfSome, length, take, get_or, refl, ap, ◌∙◌, sym, arith}
-use Rattle.std.proofs.lemmas.Bool.{cases_Bool}
+use Rattle.std.proofs.Math.Nat.{add-zero}
 use Rattle.std.proofs.lemmas.Grind.{flat_map-append}
 use Rattle.std.proofs.lemmas.List.{append-nil, map-append, take_more}
 use Rattle.std.proofs.lemmas.List.Elements.{filter-append}
@@ -25,6 +25,17 @@ split by i xs k s h e =
     ∙ ap (map (entry_at i)) (filter-append (λ x. meets_optional by x.element) (take k xs) (s ∷ []))
     ∙ map-append (entry_at i) (filter (λ x. meets_optional by x.element) (take k xs)) (filter (λ x. meets_optional by x.element) (s ∷ []))
 
+size_is : (i : Item) (s : Stored) → entry_size (entry_at i s) ≡ item_size i + length (canonical_bytes s.element)
+unfolding entry_size
+size_is i s = refl
+
+-- the size of one entry
+one_size : (i : Item) (own : ℕ) (s : Stored) → own ≡ item_size i
+    → entries_size (entry_at i s ∷ []) ≡ own + length (canonical_bytes s.element)
+one_size i own s o =
+    sum_by-cons entry_size (entry_at i s) [] ∙ add-zero (entry_size (entry_at i s)) ∙ size_is i s
+    ∙ ap (λ n. n + length (canonical_bytes s.element)) (sym o)
+
 -- one row more
 pub rows_more : (by : Option Filter) (i : Item) (own : ℕ) (xs : List Stored) (k : ℕ) (s : Stored) → own ≡ item_size i → k < length xs → s ≡ get_or xs k s
     → entries_size (entries_of by i (take (k + 1) xs)) ≡ entries_size (entries_of by i (take k xs)) + row_size own by s
@@ -34,7 +45,7 @@ rows_more by i own xs k s o h e =
     ∙ ap (λ n. entries_size (entries_of by i (take k xs)) + n) (at (meets_optional by s.element))
   where
     at : (b : Bool) → entries_size (map (entry_at i) (cond b (s ∷ []) [])) ≡ cond b (own + length (canonical_bytes s.element)) 0
-    at true = sum_by-cons entry_size (entry_at i s) [] ∙ omega (arith, o)
+    at true = one_size i own s o
     at false = refl
 
 -- one item more

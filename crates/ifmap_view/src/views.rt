@@ -60,5 +60,5 @@ pub trait View {
         requires { (v : ℕ) × Contains (links self.now v) seen }
         ensures { (v : ℕ) → Contains (links self.now v) seen
             → result.now ≡ stored_linked (id_at self.now v) (id_at self.now seen.other)
-                (rows self.now) };
+            (rows self.now) };
 }

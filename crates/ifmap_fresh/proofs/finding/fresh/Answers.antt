@@ -21,4 +21,4 @@ returns-in-Ok-entries_on-clause-answer g c =
     in let are = entries_are c.bytes_tell_identifiers_apart.ensures rows search c.in-Ok.items.items c.in-Ok.ensures.graph c.in-Ok.ensures.items
     in let is : c.in-Some.size ≡ fresh_size rows search
     = c.in-Some.ensures ∙ ap (λ l. entries_size (entries_on search.result_filter rows l)) c.deref.ensures.value ∙ ap entries_size are
-    in (c.in-Ok-entries_on.ensures ∙ are, (is, omega (arith, is, c.if-size-search.false)))
+    in (c.in-Ok-entries_on.ensures ∙ are, is, omega (arith, is, c.if-size-search.false))

@@ -1,14 +1,11 @@
-use Rattle.std.proofs.Common.{rules, ◌≡◌, ℕ, true, length, subst, sym, arith}
+use Rattle.std.proofs.Common.{ℕ, length, subst, sym, arith}
 use Rattle.std.proofs.lemmas.Result.{IfOk-weaker}
 use Rattle.std.proofs.lemmas.List.Elements.{All-contains_itself, All-weaker}
 use Rattle.std.specs.List.{Contains}
-use Rattle.ifmap_ident.specs.declared.items.Item.{Item}
-use Rattle.ifmap_ident.specs.Items.{IsItem}
 use Rattle.ifmap_lemmas.specs.Having.{Has, has_from}
-use Rattle.ifmap_region.specs.Bounds.{IsWithin, within_both, within_more}
+use Rattle.ifmap_region.specs.Bounds.{within_both, within_more}
 use Rattle.ifmap_region.specs.Marks.{mark_of}
 use Rattle.ifmap_fresh.specs.Collected.{numbers_of}
-use Rattle.ifmap_fresh.specs.Fresh.{is_looked_at}
 use Rattle.ifmap_fresh.specs.Linking.{IsReachedAt}
 use Rattle.ifmap_fresh.proofs.Collected.{canon_of, collects, looked_at}
 use Rattle.ifmap_fresh.proofs.Marks.{keyed, marked}

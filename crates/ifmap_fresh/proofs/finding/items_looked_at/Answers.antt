@@ -24,7 +24,7 @@ returns-in_default-clause-items g c =
       there = λ x h. absurd h;
       canon = λ x h. absurd h;
       back = λ x i n e. absurd (nothing c.bytes_tell_identifiers_apart.ensures (g.V.View.rows view) (g.V.View.id_at view) (g.V.View.links view) c.args.search.now
-          c.in_default.ensures.whole c.requires (λ v f. c.in_default.not-Some v (c.in_default.ensures.only v f)) x n e);
+          c.in_default.ensures.whole c.requires.start (λ v f. c.in_default.not-Some v (c.number.ensures.only v f)) x i n e);
     })
 
 pub returns-in_default-clause-steps : goal.returns-in_default-clause-steps

@@ -1,4 +1,4 @@
-use Rattle.std.proofs.Common.{rules, ◌++◌, length, ap, ◌∙◌, sym, arith}
+use Rattle.std.proofs.Common.{◌++◌, length, ap, ◌∙◌, sym, arith}
 use Rattle.ifmap_region.specs.Marks.{mark_of}
 use Rattle.ifmap_fresh.specs.Collected.{brought, numbers_of}
 use Rattle.ifmap_fresh.proofs.Along.{brought_more}
