@@ -2,17 +2,15 @@
 use Rattle.std.proofs.Common.{◌≡◌, not, ◌&&◌, Bool, true, false, List, [], ◌∷◌, ◌++◌, map, refl, ap, ◌∙◌}
 use Rattle.std.proofs.lemmas.Bool.{and_parts}
 use Rattle.std.proofs.lemmas.Cmp.{tied_itself}
-use Rattle.std.specs.Cmp.Lexicographic.{slice_cmp}
 use Rattle.std.specs.List.{AllByRecursion}
-use Rattle.std.specs.Ordering.{is_eq, is_lt, nat_cmp, ordering_then}
+use Rattle.std.specs.Ordering.{is_eq, is_lt, ordering_then}
 use Rattle.std.specs.declared.cmp.Ordering.TheVariants.{Less}
-use Rattle.ifmap_elem.specs.Canonical.{canonical_bytes}
 use Rattle.ifmap_lemmas.specs.Members.{all_of_test, both_all, map_of_all}
 use Rattle.ifmap_ident.specs.Items.{IsCanonItem, item_order, items_tie, same_item}
 use Rattle.ifmap_meta.specs.declared.stored.Stored.{Stored}
 use Rattle.ifmap_meta.specs.Keys.{same_key, same_type}
 use Rattle.ifmap_view.specs.declared.attachments.Attachment.{Attachment}
-use Rattle.ifmap_view.specs.Attachments.{IsGraph, attachment_order, of_one_key, stored_bytes, stored_order}
+use Rattle.ifmap_view.specs.Attachments.{IsGraph, attachment_order, of_one_key, stored_order}
 use Rattle.ifmap_fresh_tests.specs.declared.shelves.Shelf.{Shelf}
 use Rattle.ifmap_fresh_tests.specs.Lists.{all_pairs, are_lists, item_below, row_below, row_on, rows_of}
 use Rattle.ifmap_fresh_tests.proofs.Finding.{items_total, less_is}
@@ -45,17 +43,12 @@ and_false : (b : Bool) → (b && false) ≡ false
 and_false true = refl
 and_false false = refl
 
-rises : (x y : Stored) → is_lt (slice_cmp nat_cmp (canonical_bytes x.element) (canonical_bytes y.element)) ≡ true → stored_order x y ≡ Less
-unfolding stored_bytes
-rises x y e = less_is _ e
-
 row_rises : (x y : Stored) → row_below x y ≡ true → stored_order x y ≡ Less
-row_rises x y e =
-    rises x y (and_parts (is_lt (slice_cmp nat_cmp (canonical_bytes x.element) (canonical_bytes y.element))) (not (same_type x.element y.element)) e).0
+row_rises x y e = less_is (stored_order x y) (and_parts (is_lt (stored_order x y)) (not (same_type x.element y.element)) e).0
 
 row_differs : (x y : Stored) → row_below x y ≡ true → same_key x y ≡ false
 row_differs x y e =
-    let p = and_parts (is_lt (slice_cmp nat_cmp (canonical_bytes x.element) (canonical_bytes y.element))) (not (same_type x.element y.element)) e
+    let p = and_parts (is_lt (stored_order x y)) (not (same_type x.element y.element)) e
     in let f : same_type x.element y.element ≡ false = not_true (same_type x.element y.element) p.1
     in rw f refl
 

@@ -38,6 +38,9 @@ below_has (suc n) w h = elim (has_either (below n) (n ∷ []) w h) [
 other_number : (a b : ℕ) → a < b → nat_eq a b ≡ false
 other_number a b h = grind (arith, nat_tests)
 
+pub number_itself : (a : ℕ) → nat_eq a a ≡ true
+number_itself a = grind (arith, nat_tests)
+
 all_less : (m n : ℕ) → n ≤ m → AllByRecursion (λ x. AllByRecursion (λ y. nat_eq x y ≡ false) (m ∷ [])) (below n)
 all_less m zero h = tt
 all_less m (suc n) h =
@@ -76,7 +79,7 @@ module _ (test : ℕ → Bool) where
   pub count_more : (n : ℕ) → count_below test (n + 1) ≡ count_below test n + cond (test n) 1 0
   count_more n = ap (count_below test) (add-one n) ∙ one_more n
 
-  at_most_one : (b : Bool) → cond b 1 0 ≤ 1
+  pub at_most_one : (b : Bool) → cond b 1 0 ≤ 1
   at_most_one true = omega arith
   at_most_one false = omega arith
 

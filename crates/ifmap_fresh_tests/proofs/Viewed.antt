@@ -113,6 +113,12 @@ others_are : (v : ℕ) (ws : List ℕ) → others (map (link_to v) ws) ≡ ws
 others_are v [] = refl
 others_are v (w ∷ ws) = ap (λ l. w ∷ l) (others_are v ws)
 
+-- a link that a number has keeps the number
+pub kept_number : (names : List Identifier) (ss : List Shelf) (v : ℕ) (seen : LinkSeen) → Contains (links_of names ss v) seen → seen.at ≡ v
+kept_number names ss v seen c =
+    let h = map_has (link_to v) (filter (is_linked names ss v) (below (length names))) seen (has_from _ seen c)
+    in sym (ap (λ (l : LinkSeen). l.at) h.2)
+
 -- the four checks
 pub record AreSound (names : List Identifier) (ss : List Shelf) : Type 0 where
   pub apart : all_pairs differ names ≡ true
@@ -198,9 +204,3 @@ module _ (tells : Tells) (names : List Identifier) (ss : List Shelf) (named : Al
     only = only;
     each = each;
   }
-
-  -- a link that a number has keeps the number
-  pub kept_number : (v : ℕ) (seen : LinkSeen) → Contains (links v) seen → seen.at ≡ v
-  kept_number v seen c =
-      let h = map_has (link_to v) (filter (linked_to v) (below (length names))) seen (has_from _ seen c)
-      in sym (ap (λ (l : LinkSeen). l.at) h.2)

@@ -1,10 +1,8 @@
 -- Plain lists as a view: identifiers by their places, what is stored on items, and what both show.
 use Rattle.std.specs.Prelude.{◌≡◌, ℕ, Bool, true, false, not, ◌&&◌, List, [], ◌∷◌, ◌++◌, map, length, Option, None, Some, nat_eq}
 use Rattle.std.proofs.Common.{zero, suc}
-use Rattle.std.specs.Cmp.Lexicographic.{slice_cmp}
 use Rattle.std.specs.List.{AllByRecursion, filter, flat_map, list_all, list_any, slice_get}
-use Rattle.std.specs.Ordering.{is_lt, nat_cmp}
-use Rattle.ifmap_elem.specs.Canonical.{canonical_bytes}
+use Rattle.std.specs.Ordering.{is_lt}
 use Rattle.ifmap_ident.specs.declared.identifiers.Identifier.{Identifier}
 use Rattle.ifmap_ident.specs.declared.items.Item.{Item}
 use Rattle.ifmap_ident.specs.declared.items.Item.TheVariants.{One, Pair}
@@ -15,6 +13,7 @@ use Rattle.ifmap_meta.specs.declared.stored.Stored.{Stored}
 use Rattle.ifmap_meta.specs.Keys.{same_type}
 use Rattle.ifmap_view.specs.declared.attachments.Attachment.{Attachment}
 use Rattle.ifmap_view.specs.declared.views.LinkSeen.{LinkSeen}
+use Rattle.ifmap_view.specs.Attachments.{stored_order}
 use Rattle.ifmap_view.specs.Rows.{stored_linked}
 use Rattle.ifmap_fresh_tests.specs.declared.shelves.Shelf.{Shelf}
 
@@ -75,7 +74,7 @@ item_below s t = is_lt (item_order s.item t.item)
 
 -- one element is below the other by its bytes, and of another type
 abbrev pub row_below : Stored → Stored → Bool
-row_below a b = is_lt (slice_cmp nat_cmp (canonical_bytes a.element) (canonical_bytes b.element)) && not (same_type a.element b.element)
+row_below a b = is_lt (stored_order a b) && not (same_type a.element b.element)
 
 abbrev pub are_lists : List Shelf → Bool
 are_lists shelves = list_all (λ s. all_pairs row_below s.rows.items) shelves

@@ -1,7 +1,10 @@
 //! Whether lists are a view.
-ghost use Rattle.std.specs.Prelude.{◌≡◌};
+ghost use Rattle.std.specs.Prelude.{◌≡◌, not};
 ghost use Rattle.std.specs.List.{list_all, list_any};
+ghost use Rattle.std.specs.Ordering.{is_lt};
 ghost use Rattle.ifmap_ident.specs.Identifiers.{same_identifier};
+ghost use Rattle.ifmap_meta.specs.Keys.{same_type};
+ghost use Rattle.ifmap_view.specs.Attachments.{stored_bytes, stored_order};
 ghost use Rattle.ifmap_fresh_tests.specs.Lists.{all_pairs, are_lists, are_sound, differ, is_known, item_below, row_below};
 
 use crate::shelves::Shelf;
@@ -85,8 +88,29 @@ fn is_below_all(row: &Row, others: &[Row]) -> bool
 fn is_below(row: &Row, other: &Row) -> bool
     ensures { result ≡ row_below row.now other.now }
 {
-    let (a, b) = (&row.stored().element, &other.stored().element);
-    a.bytes().cmp(b.bytes()).is_lt() && !same_type(a.element(), b.element())
+    is_less(row, other) && is_other_type(row, other)
+}
+
+fn is_less(row: &Row, other: &Row) -> bool
+    ensures { result ≡ is_lt (stored_order row.now other.now) }
+{
+    bytes_of(row).cmp(bytes_of(other)).is_lt()
+}
+
+#[tactic(auto, unfolding(ifmap_view::specs::Attachments::stored_bytes))]
+fn bytes_of(row: &Row) -> &[u8]
+    ensures { result.now ≡ stored_bytes row.now }
+{
+    row.stored().element.bytes()
+}
+
+fn is_other_type(row: &Row, other: &Row) -> bool
+    ensures { result ≡ not (same_type row.now.element other.now.element) }
+{
+    !same_type(
+        row.stored().element.element(),
+        other.stored().element.element(),
+    )
 }
 
 fn are_known(names: &[Identifier], shelves: &[Shelf]) -> bool
