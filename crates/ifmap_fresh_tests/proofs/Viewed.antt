@@ -2,7 +2,7 @@
 -- 1. Where something is stored on an item, a shelf has that item, so each of its identifiers stands among the names.
 -- 2. Names differ, so an identifier has one number.
 -- 3. A number's links are those of the numbers below the count of names with which it has one: each once, and no other.
-use Rattle.std.proofs.Common.{◌≡◌, ◌≢◌, ℕ, zero, suc, ◌<◌, ◌||◌, ◌&&◌, not, Bool, true, false, List, [], ◌∷◌, ◌++◌, map, length, Option, None, Some, slice_get, nat_eq, refl, ap, ◌∙◌, sym, subst, inl, inr}
+use Rattle.std.proofs.Common.{◌≡◌, ◌≢◌, ℕ, zero, suc, ◌<◌, ◌&&◌, not, Bool, true, false, List, [], ◌∷◌, map, length, Option, None, Some, slice_get, nat_eq, refl, ap, ◌∙◌, sym, subst, inl, inr}
 use Rattle.std.proofs.lemmas.Bool.{and_parts}
 use Rattle.std.proofs.lemmas.Option.{same_Some, none-some, slice_get_within}
 use Rattle.std.specs.List.{AllByRecursion, Contains, IsDistinct, filter, list_all, list_any}
@@ -13,8 +13,8 @@ use Rattle.ifmap_ident.specs.declared.items.Item.{Item}
 use Rattle.ifmap_ident.specs.declared.items.Item.TheVariants.{One, Pair}
 use Rattle.ifmap_ident.specs.Canon.{IsIdentifier}
 use Rattle.ifmap_ident.specs.Identifiers.{identifier_bytes, identifier_order, same_identifier}
-use Rattle.ifmap_ident.specs.Items.{IsCanonItem, identifiers_of, ordered_pair, pair_of, same_item}
-use Rattle.ifmap_lemmas.specs.Having.{Has, any_has, filter_has, from_has, has_filter, has_from, has_map, joined_has, map_has}
+use Rattle.ifmap_ident.specs.Items.{IsCanonItem, identifiers_of, ordered_pair, same_item}
+use Rattle.ifmap_lemmas.specs.Having.{Has, any_has, filter_has, from_has, has_filter, has_from, joined_has, map_has}
 use Rattle.ifmap_lemmas.specs.Members.{all_of_test}
 use Rattle.ifmap_lemmas.specs.Texts.{eq_itself, eq_tells}
 use Rattle.ifmap_meta.specs.declared.stored.Stored.{Stored}
@@ -23,9 +23,9 @@ use Rattle.ifmap_view.specs.declared.views.LinkSeen.{LinkSeen}
 use Rattle.ifmap_view.specs.Rows.{stored_between, stored_linked, stored_on, stored_where}
 use Rattle.ifmap_view.specs.Views.{IsLink, IsView, others}
 use Rattle.ifmap_fresh_tests.specs.declared.shelves.Shelf.{Shelf}
-use Rattle.ifmap_fresh_tests.specs.Lists.{AreLists, Held, all_pairs, are_lists, are_sound, below, differ, is_full, is_known, is_linked, item_below, link_to, links_in, links_of, row_on, rows_of}
+use Rattle.ifmap_fresh_tests.specs.Lists.{all_pairs, are_lists, are_sound, below, differ, is_full, is_known, is_linked, item_below, link_to, links_of, row_on, rows_of}
 use Rattle.ifmap_fresh_tests.proofs.Graphs.{graph_is}
-use Rattle.ifmap_fresh_tests.proofs.Numbers.{below_differ, below_has, has_below, pairwise_kept}
+use Rattle.ifmap_fresh_tests.proofs.Numbers.{below_differ, has_below, pairwise_kept}
 use Rattle.ifmap_fresh_tests.proofs.Pairs.{Pairwise, pairs_of, to_distinct}
 
 -- identifiers of one list of canonical bytes are one, where elements are them

@@ -1,5 +1,5 @@
 -- Plain lists as a view: identifiers by their places, what is stored on items, and what both show.
-use Rattle.std.specs.Prelude.{◌≡◌, ℕ, Bool, true, false, not, ◌&&◌, List, [], ◌∷◌, ◌++◌, map, length, Option, None, Some, nat_eq}
+use Rattle.std.specs.Prelude.{◌≡◌, ℕ, Bool, true, false, not, ◌&&◌, List, [], ◌∷◌, ◌++◌, map, length, nat_eq}
 use Rattle.std.proofs.Common.{zero, suc}
 use Rattle.std.specs.List.{AllByRecursion, filter, flat_map, list_all, list_any, slice_get}
 use Rattle.std.specs.Ordering.{is_lt}

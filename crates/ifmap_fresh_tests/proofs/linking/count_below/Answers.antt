@@ -1,4 +1,4 @@
-use Rattle.std.proofs.Common.{rules, arith}
+use Rattle.std.proofs.Common.{arith}
 use Rattle.ifmap_fresh_tests.specs.Lists.{is_linked}
 use Rattle.ifmap_fresh_tests.proofs.Numbers.{at_most_one, count_fits}
 use Rattle.ifmap_fresh_tests.proofs.linking.count_below.Goals as goal

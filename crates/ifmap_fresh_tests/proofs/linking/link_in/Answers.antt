@@ -1,10 +1,10 @@
-use Rattle.std.proofs.Common.{rules, ◌≡◌, ◌<◌, ℕ, true, Some, length, slice_get, nat_eq, refl, ap, ◌∙◌, sym, subst, arith, option_map}
+use Rattle.std.proofs.Common.{rules, ◌≡◌, ◌<◌, Some, length, slice_get, nat_eq, ap, ◌∙◌, sym, subst, arith, option_map}
 use Rattle.std.proofs.lemmas.Bool.{and_parts}
 use Rattle.std.proofs.lemmas.List.{length-map}
 use Rattle.std.proofs.lemmas.Option.{slice_get-map}
 use Rattle.std.specs.List.{filter}
 use Rattle.ifmap_lemmas.specs.Numbers.{is_number}
-use Rattle.ifmap_fresh_tests.specs.Lists.{below, count_below, is_linked, is_place, link_to}
+use Rattle.ifmap_fresh_tests.specs.Lists.{below, count_below, is_linked, link_to}
 use Rattle.ifmap_fresh_tests.proofs.Numbers.{at_place, number_itself, place_of}
 use Rattle.ifmap_fresh_tests.proofs.linking.link_in.Goals as goal
 

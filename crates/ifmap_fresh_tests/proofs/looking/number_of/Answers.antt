@@ -1,6 +1,5 @@
-use Rattle.std.proofs.Common.{rules, ◌≡◌, ℕ, ◌<◌, true, false, Some, length, slice_get, refl, ap, ◌∙◌, sym, arith, below_more}
+use Rattle.std.proofs.Common.{rules, ◌≡◌, ◌<◌, true, false, Some, length, slice_get, refl, ap, ◌∙◌, sym, below_more}
 use Rattle.std.proofs.lemmas.Option.{same_Some, slice_get_read, slice_get_within}
-use Rattle.ifmap_ident.specs.declared.identifiers.Identifier.{Identifier}
 use Rattle.ifmap_fresh_tests.specs.Lists.{differ}
 use Rattle.ifmap_fresh_tests.proofs.Pairs.{pairs_of}
 use Rattle.ifmap_fresh_tests.proofs.Viewed.{one_place}

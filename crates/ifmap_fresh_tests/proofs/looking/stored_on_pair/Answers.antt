@@ -1,4 +1,4 @@
-use Rattle.std.proofs.Common.{rules, ◌≡◌, true, List, ◌∷◌, ap, ◌∙◌, sym, subst}
+use Rattle.std.proofs.Common.{◌≡◌, true, List, ap, ◌∙◌, sym, subst}
 use Rattle.std.proofs.lemmas.Bool.{and_parts}
 use Rattle.std.specs.List.{list_all}
 use Rattle.ifmap_ident.specs.declared.items.Item.TheVariants.{Pair}

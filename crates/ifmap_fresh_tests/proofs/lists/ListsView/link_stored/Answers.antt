@@ -1,4 +1,4 @@
-use Rattle.std.proofs.Common.{rules, ◌≡◌, ℕ, List, slice_get, ap, ◌∙◌}
+use Rattle.std.proofs.Common.{ℕ, List, slice_get, ap, ◌∙◌}
 use Rattle.ifmap_ident.specs.declared.identifiers.Identifier.{Identifier}
 use Rattle.ifmap_view.specs.Rows.{stored_linked}
 use Rattle.ifmap_fresh_tests.specs.declared.shelves.Shelf.{Shelf}

@@ -1,4 +1,3 @@
-use Rattle.std.proofs.Common.{rules}
 use Rattle.ifmap_fresh_tests.proofs.Viewed.{sound_parts, view_is}
 use Rattle.ifmap_fresh_tests.proofs.lists.ListsView.number.Goals as goal
 
