@@ -1,3 +1,4 @@
+mod Deciding
 mod Dotted
 mod Grouped
 mod Joined

@@ -9,7 +9,8 @@ use std::alloc::AllocError as NoMemory;
 use std::cmp::Ordering;
 use std::net::Ipv4Addr;
 
-/// The address that a text is; `None` exactly where it is none.
+/// The address that a text is; `None` exactly where it is none. A text is one in the dotted decimal
+/// form of RFC 3986, section 3.2.2, without leading zeros.
 pub fn ip_v4_of(text: &str) -> Option<[u8; 4]>
     ensures found { IfSome result (IsIpV4 text.now) }
     ensures none { IsNone result → (value : List ℕ) → ¬ (IsIpV4 text.now value) }
@@ -20,7 +21,8 @@ pub fn ip_v4_of(text: &str) -> Option<[u8; 4]>
     }
 }
 
-/// Appends the text of an address. The one error is want of memory.
+/// Appends the text of an address. The one error is want of memory; the text may then have a part of
+/// it.
 pub fn push_ip_v4(value: &[u8; 4], text: &mut String) -> Result<(), NoMemory>
     ensures { OnOk result (string_bytes text.new ≡ string_bytes text.old ++ ip_v4_text value.now) }
 {

@@ -11,7 +11,8 @@ use std::alloc::AllocError as NoMemory;
 use std::cmp::Ordering;
 use std::net::Ipv6Addr;
 
-/// The address that a text is; `None` exactly where it is none.
+/// The address that a text is; `None` exactly where it is none. A text is one in the first two forms
+/// of RFC 4291, section 2.2: not in the third, which ends as an IPv4 address.
 pub fn ip_v6_of(text: &str) -> Option<[u16; 8]>
     ensures found { IfSome result (IsIpV6 text.now) }
     ensures none { IsNone result → (value : List ℕ) → ¬ (IsIpV6 text.now value) }
@@ -25,7 +26,9 @@ pub fn ip_v6_of(text: &str) -> Option<[u16; 8]>
     }
 }
 
-/// Appends the text of an address. The one error is want of memory.
+/// Appends the text of an address: all eight groups, in lower case and without leading zeros as in
+/// RFC 5952, sections 4.1 and 4.3, but never with `::`. The one error is want of memory; the text may
+/// then have a part of it.
 pub fn push_ip_v6(value: &[u16; 8], text: &mut String) -> Result<(), NoMemory>
     ensures { OnOk result (string_bytes text.new ≡ string_bytes text.old ++ ip_v6_text value.now) }
 {

@@ -1,5 +1,6 @@
 //! Laws on addresses and their texts: functions that do nothing, whose contracts are the laws.
 ghost use Rattle.std.specs.Prelude.{◌≡◌, ◌^◌, ℕ, List};
+ghost use Rattle.ifmap_lemmas.specs.Deciding.{Decided};
 ghost use Rattle.ifmap_addresses.specs.IpV4.{IsIpV4, ip_v4_text};
 ghost use Rattle.ifmap_addresses.specs.IpV6.{IsIpV6, ip_v6_text};
 ghost use Rattle.ifmap_addresses.specs.Values.{AreBelow};
@@ -13,6 +14,13 @@ pub fn texts_are_one_address()
         IsIpV6 text one → IsIpV6 text other → one ≡ other }
     ensures mac_address { (text one other : List ℕ) →
         IsMacAddress text one → IsMacAddress text other → one ≡ other }
+{}
+
+/// A text is an address of a kind, or it is none.
+pub fn texts_are_addresses_or_none()
+    ensures ip_v4 { (text : List ℕ) → Decided ((value : List ℕ) × IsIpV4 text value) }
+    ensures ip_v6 { (text : List ℕ) → Decided ((value : List ℕ) × IsIpV6 text value) }
+    ensures mac_address { (text : List ℕ) → Decided ((value : List ℕ) × IsMacAddress text value) }
 {}
 
 /// An IPv4 address is four bytes, an IPv6 address eight numbers of sixteen bits, a MAC address six

@@ -9,7 +9,8 @@ use crate::digits::hex_digit;
 use std::alloc::AllocError as NoMemory;
 use std::cmp::Ordering;
 
-/// The address that a text is; `None` exactly where it is none.
+/// The address that a text is; `None` exactly where it is none. A text is one of six bytes (EUI-48 of
+/// IEEE Std 802, section 8.1) as two hexadecimal digits each, in either case, with colons.
 pub fn mac_address_of(text: &str) -> Option<[u8; 6]>
     ensures found { IfSome result (IsMacAddress text.now) }
     ensures none { IsNone result → (value : List ℕ) → ¬ (IsMacAddress text.now value) }
@@ -54,7 +55,8 @@ fn next_pair(text: &[u8]) -> Option<(u8, &[u8])>
     }
 }
 
-/// Appends the text of an address. The one error is want of memory.
+/// Appends the text of an address, in lower case. The one error is want of memory; the text may then
+/// have a part of it.
 pub fn push_mac_address(value: &[u8; 6], text: &mut String) -> Result<(), NoMemory>
     ensures { OnOk result (string_bytes text.new
         ≡ string_bytes text.old ++ mac_address_text value.now) }

@@ -1,40 +1,33 @@
 -- What holds over all histories, by the definition of the step.
--- Two records hold in every state: `IsWhole` of the sessions and `IsSound` of the graph. Each case of the step keeps them
+-- Two things hold in every state: `IsWhole` of the sessions and `IsSound` of the graph. Each case of the step keeps them
 -- (`step_whole`, `step_sound`), so each legal history does; the laws are read off them. The laws on the graph take what
 -- attaching and retracting keep of a graph as premises.
-use Rattle.std.proofs.Common.{◌≡◌, ◌≢◌, refl, sym, ◌∙◌, ap, subst, ℕ, ◌+◌, ◌-◌, ◌^◌, ◌<◌, ◌≤◌, ◌==◌, ◌&&◌, Bool, true, false, not, List, [], ◌∷◌, ◌++◌, length, map, Option, None, Some, inl, inr, nat_le, nat_lt, is_none, arith, length-append}
-use Rattle.std.proofs.lemmas.Bool.{and_cases, both_ways, cases_Bool, eq-eqb, not_from_true, or_left, or_parts}
+use Rattle.std.proofs.Common.{◌≡◌, ◌≢◌, refl, sym, ◌∙◌, subst, ℕ, ◌+◌, ◌-◌, ◌^◌, ◌<◌, ◌≤◌, ◌==◌, ◌&&◌, Bool, true, false, List, [], ◌∷◌, ◌++◌, length, Option, None, Some, inl, inr, nat_le, is_none, arith}
+use Rattle.std.proofs.lemmas.Bool.{and_cases, both_ways, cases_Bool, or_parts}
 use Rattle.std.proofs.lemmas.Bool.Decides.{nat_tests}
 use Rattle.std.proofs.lemmas.List.Elements.{All-from_recursion}
-use Rattle.std.proofs.lemmas.List.Folds.{find-append}
-use Rattle.std.proofs.lemmas.List.Kept.{IsStrictlySortedBy-filter}
 use Rattle.std.proofs.lemmas.Map.Made.{AllPairs-from_IsDistinct}
-use Rattle.std.specs.List.{All, AllByRecursion, AllPairs, IsDistinct, filter, find, list_any}
+use Rattle.std.specs.List.{All, AllByRecursion, AllPairs, IsDistinct, find}
 use Rattle.std.specs.List.Sorted.{IsStrictlySortedBy}
-use Rattle.std.specs.declared.cmp.Ordering.TheVariants.{Less}
+use Rattle.std.specs.Option.{option_map}
 use Rattle.ifmap_core.specs.declared.events.Answer.{Answer}
 use Rattle.ifmap_core.specs.declared.events.Ask.{Ask}
 use Rattle.ifmap_core.specs.declared.events.Ask.TheVariants.{Request}
 use Rattle.ifmap_core.specs.Events.{Event, IsFitAsk}
 use Rattle.ifmap_graph.specs.Attachments.{IsWholeAttachment}
-use Rattle.ifmap_ident.specs.Items.{IsItem}
+use Rattle.ifmap_ident.specs.Items.{IsCanonItem}
 use Rattle.ifmap_meta.specs.ClientNames.{IsClientName}
 use Rattle.ifmap_meta.specs.Whole.{IsMetadata}
 use Rattle.ifmap_meta.specs.laws.WholeLaws.{stamped_is_whole}
 use Rattle.ifmap_msg.specs.Fit.{AreFitOps, IsFitOp}
-use Rattle.ifmap_core.specs.declared.sessions.Session.{Session}
 use Rattle.ifmap_core.specs.Apply.{Authorship, apply, apply_op, attachment_of, life_of, update}
-use Rattle.ifmap_core.specs.Fresh.{found_attachments, size_of}
+use Rattle.ifmap_core.specs.Fresh.{found_attachments}
 use Rattle.ifmap_core.specs.Legal.{AreFit, AreNumberedAfter, History, LegalFrom, ids_given_by, ids_given, live_clients, state_after}
 use Rattle.ifmap_core.specs.Lives.{AllLive, IsLifeFor}
-use Rattle.ifmap_core.specs.SessionIds.{session_id}
-use Rattle.ifmap_core.specs.State.{State, advance, is_text, opening, session_of_client, session_with_id, session_with_serial, without_sessions}
-use Rattle.ifmap_core.specs.Step.{begin_session, end_session, end_sessions, end_former, in_session, is_full, most_sessions, publish, search_answer, step, step_ask}
-use Rattle.ifmap_core.specs.Table.{serial_order}
+use Rattle.ifmap_core.specs.State.{State, advance, opening}
+use Rattle.ifmap_core.specs.Step.{answer_search, begin_session, end_session, end_sessions, end_former, in_session, is_full, is_too_big, next_session, publish, renew, step, step_ask}
 use Rattle.ifmap_core.proofs.Graphs.{all_attached, all_retracted}
-use Rattle.ifmap_core.proofs.Halving.{all_found, all_push, find_none}
-use Rattle.ifmap_core.proofs.Kept.{distinct_filter, distinct_push, rest_differ, sorted_push, text_is, text_same}
-use Rattle.ifmap_lemmas.specs.Filters.{all_filter, all_weaker}
+use Rattle.ifmap_lemmas.specs.Filters.{all_weaker}
 use Rattle.ifmap_graph.specs.declared.attachments.Attachment.{Attachment}
 use Rattle.ifmap_graph.specs.Attachments.{ends_with}
 use Rattle.ifmap_graph.specs.Graph.{IsGraph, attach, retract}
@@ -46,6 +39,9 @@ use Rattle.ifmap_msg.specs.declared.requests.PublishOp.{PublishOp}
 use Rattle.ifmap_msg.specs.declared.requests.PublishOp.TheVariants.{Update}
 use Rattle.ifmap_msg.specs.declared.requests.Request.TheVariants as the_request
 use Rattle.ifmap_msg.specs.declared.requests.Search.{Search}
+use Rattle.ifmap_session.specs.Sessions.{IsTable, Session, Table, change, is_text, most_sessions, renewed, session_of_client, session_with_id, session_with_serial, without_sessions}
+use Rattle.ifmap_session.specs.laws.TableLaws.{begun_table, changed_one, changed_table, client_freed, ended_table, found_beside_begun, found_beside_ended, found_by_serial, found_changed, id_begins, one_changed, one_fewer, renewed_keeps}
+use Rattle.ifmap_session.specs.laws.TextLaws.{text_is, text_same}
 
 -- the serials
 begun_next : (state : State) (event : Event) (o : Option Session) (rest : List (ℕ × List ℕ))
@@ -64,11 +60,14 @@ in_session_counts state event accept None rest f h = h
 in_session_counts state event accept (Some s) rest f h =
     elim (cases_Bool (is_text s.client event.client)) [ inl hit ↦ rw hit (f s (rw hit at h)) | inr miss ↦ rw miss (rw miss at h) ]
 
-search_begins_none : (state : State) (event : Event) (search : Search) (rest : List (ℕ × List ℕ)) → AreNumberedAfter state.counter rest
-    → AreNumberedAfter state.counter (ids_given_by event (search_answer state.graph search) ++ rest)
-search_begins_none state event search rest h =
-    elim (cases_Bool (nat_lt search.max_size (size_of (found_attachments state.graph search))))
-    [ inl hit ↦ rw hit h | inr miss ↦ rw miss h ]
+search_begins_none : (state : State) (event : Event) (asked : Search) (s : Session) (rest : List (ℕ × List ℕ))
+    → AreNumberedAfter (answer_search state asked s).0.counter rest
+    → AreNumberedAfter state.counter (ids_given_by event (answer_search state asked s).1 ++ rest)
+search_begins_none state event asked s rest h =
+    elim (cases_Bool (is_too_big asked.max_size (found_attachments state.graph asked))) [
+      | inl hit ↦ rw hit (rw hit at h)
+      | inr miss ↦ rw miss (rw miss at h)
+    ]
 
 step_counts : (state : State) (event : Event) (ask : Ask) (rest : List (ℕ × List ℕ))
     → AreNumberedAfter (step_ask state event ask).0.counter rest
@@ -82,9 +81,9 @@ step_counts state event (Request (the_request.EndSession id)) rest h =
     in_session_counts state event (end_session state) (session_with_id id state.sessions) rest (λ s k. k) h
 step_counts state event (Request (the_request.Publish id ops)) rest h =
     in_session_counts state event (publish state ops) (session_with_id id state.sessions) rest (λ s k. k) h
-step_counts state event (Request (the_request.Search id search)) rest h =
-    in_session_counts state event (λ s. (state, search_answer state.graph search)) (session_with_id id state.sessions) rest
-    (λ s k. search_begins_none state event search rest k) h
+step_counts state event (Request (the_request.Search id asked)) rest h =
+    in_session_counts state event (answer_search state asked) (session_with_id id state.sessions) rest
+    (λ s k. search_begins_none state event asked s rest k) h
 
 pub numbered_from : (state : State) (history : History) → LegalFrom state history → AreNumberedAfter state.counter (ids_given history)
 numbered_from state [] legal = tt
@@ -92,120 +91,20 @@ numbered_from state (e ∷ history) legal =
     subst (λ answer. AreNumberedAfter state.counter (ids_given_by e.0 answer ++ ids_given history)) (sym legal.0)
     (step_counts (advance e.0.moment state) e.0 e.0.ask (ids_given history) (numbered_from (step state e.0).0 history legal.1))
 
+-- the sessions of a state, as a table without room
+abbrev table_of : State → Table
+table_of state = record { counter = state.counter; live = state.sessions; spare = []; room = 0 }
+
 -- what holds of the sessions in every state
-record IsWhole (state : State) : Type 0 where
-  rising : IsStrictlySortedBy serial_order state.sessions
-  counted : AllByRecursion (λ (s : Session). s.serial ≤ state.counter) state.sessions
-  apart : IsDistinct is_text (map (λ (s : Session). s.client) state.sessions)
-  most : length state.sessions ≤ most_sessions
+abbrev IsWhole : State → Type 0
+IsWhole state = IsTable (table_of state)
 
 opening_whole : (ttl : ℕ) → IsWhole (opening ttl)
 unfolding IsStrictlySortedBy IsDistinct
-opening_whole ttl = record { rising = tt; counted = tt; apart = tt; most = omega arith }
+opening_whole ttl = record { rising = tt; counted = tt; small = omega arith; ids = tt; apart = tt; few = omega arith }
 
-advanced_whole : (moment : ℕ) (state : State) → IsWhole state → IsWhole (advance moment state)
-advanced_whole moment state w = record { rising = w.rising; counted = w.counted; apart = w.apart; most = w.most }
-
--- the sessions but the one of a serial
-abbrev remaining : ℕ → Session → Bool
-remaining serial s = not (list_any (λ n. n == s.serial) (serial ∷ []))
-
-shorter : {X : Type 0} (p : X → Bool) (xs : List X) → length (filter p xs) ≤ length xs
-shorter p [] = omega arith
-shorter p (x ∷ xs) = let rest = shorter p xs in elim (cases_Bool (p x))
-    [ inl hit ↦ rw hit (omega (arith, rest)) | inr miss ↦ rw miss (omega (arith, rest)) ]
-
--- one at least goes, where what a search finds does not pass
-one_less : {X : Type 0} (q p : X → Bool) (xs : List X) (x : X) → find q xs ≡ Some x → p x ≡ false → length (filter p xs) < length xs
-one_less q p [] x e out = cc
-one_less q p (y ∷ ys) x e out =
-    elim (cases_Bool (q y)) [
-      | inl hit ↦ let same : y ≡ x = cc (rw hit at e) in let gone : p y ≡ false = subst (λ z. p z ≡ false) (sym same) out in let rest =
-          shorter p ys in rw gone (omega (arith, rest))
-      | inr miss ↦
-          let rest = one_less q p ys x (rw miss at e) out in
-          elim (cases_Bool (p y)) [ inl stays ↦ rw stays (omega (arith, rest)) | inr goes ↦ rw goes (omega (arith, rest)) ]
-    ]
-
--- what a search finds among those that a filter leaves, where whatever it looks for stays
-find_kept : {X : Type 0} (q p : X → Bool) → ((x : X) → q x ≡ true → p x ≡ true) → (xs : List X) (x : X) → find q xs ≡ Some x
-    → find q (filter p xs) ≡ Some x
-find_kept q p f [] x e = cc
-find_kept q p f (y ∷ ys) x e =
-    elim (cases_Bool (q y)) [
-      | inl hit ↦ rw (f y hit, hit) (rw hit at e)
-      | inr miss ↦
-          let rest = find_kept q p f ys x (rw miss at e) in
-          elim (cases_Bool (p y)) [ inl stays ↦ rw (stays, miss) rest | inr goes ↦ rw goes rest ]
-    ]
-
--- a session found by any test is found by its serial
-found_by_serial : (q : Session → Bool) (sessions : List Session) (s : Session) → IsStrictlySortedBy serial_order sessions
-    → find q sessions ≡ Some s → session_with_serial s.serial sessions ≡ Some s
-unfolding IsStrictlySortedBy
-found_by_serial q [] s up e = cc
-found_by_serial q (x ∷ xs) s up e =
-    elim (cases_Bool (q x)) [
-      | inl hit ↦
-          let same : x ≡ s = cc (rw hit at e) in
-          rw (eq-eqb x.serial s.serial (ap (λ (t : Session). t.serial) same)) (ap Some same)
-      | inr miss ↦
-          let there : find q xs ≡ Some s = rw miss at e in
-          let less : serial_order x s ≡ Less = all_found (λ z. serial_order x z ≡ Less) q xs s up.0 there in
-          let other : (x.serial == s.serial) ≡ false = grind (arith, nat_tests, less) in
-          rw other (found_by_serial q xs s up.1 there)
-    ]
-
-ended_whole : (serial : ℕ) (state : State) → IsWhole state → IsWhole (end_sessions (serial ∷ []) state)
-ended_whole serial state w = record {
-  rising = IsStrictlySortedBy-filter serial_order (remaining serial) state.sessions w.rising;
-  counted = all_filter (λ (s : Session). s.serial ≤ state.counter) (remaining serial) state.sessions w.counted;
-  apart = distinct_filter (λ (s : Session). s.client) (remaining serial) state.sessions w.apart;
-  most = let less = shorter (remaining serial) state.sessions in omega (arith, less, w.most);
-}
-
--- a session more
-begun_whole : (client : List ℕ) (random : ℕ) (state : State) → IsWhole state → session_of_client client state.sessions ≡ None
-    → length state.sessions < most_sessions → IsWhole (begin_session client random state)
-begun_whole client random state w none room =
-    let s : Session = record { serial = state.counter + 1; id = session_id (state.counter + 1) random; client = client } in
-    record {
-      rising = sorted_push state.counter state.sessions s w.rising w.counted (omega arith);
-      counted = all_push (λ (t : Session). t.serial ≤ state.counter + 1) state.sessions s
-          (all_weaker (λ (t : Session). t.serial ≤ state.counter) (λ (t : Session). t.serial ≤ state.counter + 1)
-          (λ t h. omega (arith, h)) state.sessions w.counted) (omega arith);
-      apart = distinct_push (λ (t : Session). t.client) state.sessions s w.apart none;
-      most = let long = length-append state.sessions (s ∷ []) in omega (arith, long, room);
-    }
-
--- the client's session goes, and none of its remains
-removed : (sessions : List Session) (c : List ℕ) (s : Session) → IsDistinct is_text (map (λ (t : Session). t.client) sessions)
-    → session_of_client c sessions ≡ Some s → session_of_client c (without_sessions (s.serial ∷ []) sessions) ≡ None
-unfolding IsDistinct
-removed [] c s apart e = refl
-removed (x ∷ xs) c s apart e =
-    elim (cases_Bool (is_text x.client c)) [
-      | inl hit ↦
-          let same : x ≡ s = cc (rw hit at e) in
-          let goes : remaining s.serial x ≡ false = not_from_true (list_any
-          (λ n. n == x.serial) (s.serial ∷ [])) (or_left (s.serial == x.serial) false
-          (eq-eqb s.serial x.serial (sym (ap (λ (t : Session). t.serial) same)))) in
-          rw goes (find_none (λ (t : Session). is_text t.client c) (filter (remaining s.serial) xs) (all_filter
-          (λ (t : Session). is_text t.client c ≡ false) (remaining s.serial) xs (rest_differ
-          (λ (t : Session). t.client) x c xs apart.0 hit)))
-      | inr miss ↦
-          elim (cases_Bool (remaining s.serial x)) [
-            | inl stays ↦ rw (stays, miss) (removed xs c s apart.1 (rw miss at e))
-            | inr goes ↦ rw goes (removed xs c s apart.1 (rw miss at e))
-          ]
-    ]
-
-goes_itself : (s : Session) → remaining s.serial s ≡ false
-goes_itself s = not_from_true (list_any (λ n. n == s.serial) (s.serial ∷ []))
-    (or_left (s.serial == s.serial) false (eq-eqb s.serial s.serial refl))
-
--- where there is no room, the client has a session
-has_room : (state : State) (client : List ℕ) → is_full state client ≡ false → session_of_client client state.sessions ≡ None
+-- where a client that has no session can be given one, there is room
+pub has_room : (state : State) (client : List ℕ) → is_full state client ≡ false → session_of_client client state.sessions ≡ None
     → length state.sessions < most_sessions
 has_room state client free none =
     let parts = or_parts (nat_le most_sessions (length state.sessions) && is_none (session_of_client client state.sessions))
@@ -216,13 +115,46 @@ has_room state client free none =
           absurd (both_ways (is_none (session_of_client client state.sessions)) some bad)
     ]
 
+-- and where it has one, there is room once that ends
+pub held_fewer : (live : List Session) (client : List ℕ) (n : ℕ) (o : Option Session) → session_of_client client live ≡ o
+    → option_map (λ (s : Session). s.serial) o ≡ Some n → length (without_sessions (n ∷ []) live) < length live
+held_fewer live client n None e held = cc
+held_fewer live client n (Some s) e held =
+    let same : s.serial ≡ n = cc in
+    subst (λ m. length (without_sessions (m ∷ []) live) < length live) same (one_fewer live client s e)
+
+-- where no session is refused, a serial is left
+pub serial_is_left : (state : State) (client : List ℕ) → IsWhole state → is_full state client ≡ false → state.counter < 2 ^ 64 - 1
+serial_is_left state client w free =
+    let parts = or_parts (nat_le most_sessions (length state.sessions) && is_none (session_of_client client state.sessions))
+    (state.counter == 2 ^ 64 - 1) free in
+    let small : state.counter < 2 ^ 64 = w.small in
+    grind (arith, nat_tests, parts.1, small)
+
+-- a session more
+begun_whole : (client : List ℕ) (random : ℕ) (state : State) → IsWhole state → state.counter < 2 ^ 64 - 1
+    → session_of_client client state.sessions ≡ None → length state.sessions < most_sessions → IsWhole (begin_session client random state)
+begun_whole client random state w small none room =
+    begun_table (table_of state) (next_session state client random) w refl (id_begins (state.counter + 1) random) small none room
+
 new_whole : (state : State) (client : List ℕ) (random : ℕ) (o : Option Session) → IsWhole state → is_full state client ≡ false
     → session_of_client client state.sessions ≡ o → IsWhole (begin_session client random (end_former o state))
-new_whole state client random None w free e = begun_whole client random state w e (has_room state client free e)
+new_whole state client random None w free e =
+    begun_whole client random state w (serial_is_left state client w free) e (has_room state client free e)
 new_whole state client random (Some s) w free e =
-    let less = one_less (λ (t : Session). is_text t.client client) (remaining s.serial) state.sessions s e (goes_itself s) in
-    begun_whole client random (end_sessions (s.serial ∷ []) state) (ended_whole s.serial state w)
-    (removed state.sessions client s w.apart e) (omega (arith, less, w.most))
+    let less = one_fewer state.sessions client s e in
+    begun_whole client random (end_sessions (s.serial ∷ []) state) (ended_table s.serial (table_of state) w)
+    (serial_is_left state client w free) (client_freed state.sessions client s w.apart e) (omega (arith, less, w.few))
+
+renewed_whole : (serial : ℕ) (state : State) → IsWhole state → IsWhole (renew serial state)
+renewed_whole serial state w = changed_table serial (renewed state.moment) (renewed_keeps state.moment) (table_of state) w
+
+search_whole : (state : State) (asked : Search) (s : Session) → IsWhole state → IsWhole (answer_search state asked s).0
+search_whole state asked s w =
+    elim (cases_Bool (is_too_big asked.max_size (found_attachments state.graph asked))) [
+      | inl hit ↦ rw hit w
+      | inr miss ↦ rw miss (renewed_whole s.serial state w)
+    ]
 
 in_session_whole : (state : State) (client : List ℕ) (accept : Session → State × Answer) (o : Option Session)
     → ((s : Session) → o ≡ Some s → IsWhole (accept s).0) → IsWhole state → IsWhole (in_session state client o accept).0
@@ -237,17 +169,19 @@ step_whole state event (Request the_request.NewSession) w =
       | inr miss ↦ rw miss (new_whole state event.client event.random (session_of_client event.client state.sessions) w miss refl)
     ]
 step_whole state event (Request (the_request.EndSession id)) w =
-    in_session_whole state event.client (end_session state) (session_with_id id state.sessions) (λ s e. ended_whole s.serial state w) w
+    in_session_whole state event.client (end_session state) (session_with_id id state.sessions)
+    (λ s e. ended_table s.serial (table_of state) w) w
 step_whole state event (Request (the_request.Publish id ops)) w =
     in_session_whole state event.client (publish state ops) (session_with_id id state.sessions)
-    (λ s e. record { rising = w.rising; counted = w.counted; apart = w.apart; most = w.most }) w
-step_whole state event (Request (the_request.Search id search)) w =
-    in_session_whole state event.client (λ s. (state, search_answer state.graph search)) (session_with_id id state.sessions) (λ s e. w) w
+    (λ s e. renewed_whole s.serial state w) w
+step_whole state event (Request (the_request.Search id asked)) w =
+    in_session_whole state event.client (answer_search state asked) (session_with_id id state.sessions)
+    (λ s e. search_whole state asked s w) w
 
 after_whole : (state : State) (history : History) → IsWhole state → IsWhole (state_after state history)
 after_whole state [] w = w
 after_whole state (e ∷ history) w = after_whole (step state e.0).0 history
-    (step_whole (advance e.0.moment state) e.0 e.0.ask (advanced_whole e.0.moment state w))
+    (step_whole (advance e.0.moment state) e.0 e.0.ask w)
 
 whole_after : (ttl : ℕ) (history : History) → IsWhole (state_after (opening ttl) history)
 whole_after ttl history = after_whole (opening ttl) history (opening_whole ttl)
@@ -264,7 +198,7 @@ serials_counted ttl history =
     (state_after (opening ttl) history).sessions (whole_after ttl history).counted
 
 pub few_sessions : (ttl : ℕ) (history : History) → length (state_after (opening ttl) history).sessions ≤ most_sessions
-few_sessions ttl history = (whole_after ttl history).most
+few_sessions ttl history = (whole_after ttl history).few
 
 -- what holds of the graph in every state
 record IsSound (state : State) : Type 0 where
@@ -272,20 +206,41 @@ record IsSound (state : State) : Type 0 where
   lives : AllByRecursion (λ (a : Attachment). IsLifeFor state.sessions a.stored.publisher a.stored.life) state.graph
 
 -- a life outlasts the end of another session
-other_stays : (serial n : ℕ) (s : Session) → (n == serial) ≡ false → (s.serial == n) ≡ true → remaining serial s ≡ true
-other_stays serial n s other is = grind (arith, nat_tests, other, is)
-
 life_stays : (serial : ℕ) (sessions : List Session) (publisher : List ℕ) (life : Life) → ends_with serial life ≡ false
     → IsLifeFor sessions publisher life → IsLifeFor (without_sessions (serial ∷ []) sessions) publisher life
 life_stays serial sessions publisher (the_life.Session n) other h =
-    (h.0, find_kept (λ (s : Session). s.serial == n) (remaining serial) (λ s. other_stays serial n s other) sessions h.0 h.1, h.2)
+    (h.0, found_beside_ended serial n sessions h.0 other h.1, h.2)
 life_stays serial sessions publisher the_life.Forever other h = tt
 
 life_goes_on : (sessions : List Session) (s : Session) (publisher : List ℕ) (life : Life) → IsLifeFor sessions publisher life
     → IsLifeFor (sessions ++ s ∷ []) publisher life
 life_goes_on sessions s publisher (the_life.Session n) h =
-    (h.0, find-append (λ (t : Session). t.serial == n) sessions (s ∷ []) ∙ rw h.1 refl, h.2)
+    (h.0, found_beside_begun n sessions s h.0 h.1, h.2)
 life_goes_on sessions s publisher the_life.Forever h = tt
+
+life_renewed : (serial moment : ℕ) (sessions : List Session) (publisher : List ℕ) (life : Life) → IsLifeFor sessions publisher life
+    → IsLifeFor (change serial (renewed moment) sessions) publisher life
+life_renewed serial moment sessions publisher (the_life.Session n) h = (
+  changed_one serial (renewed moment) h.0,
+  found_changed serial (renewed moment) (renewed_keeps moment) n sessions h.0 h.1,
+  one_changed serial (renewed moment) (renewed_keeps moment) h.0 ∙ h.2,
+)
+life_renewed serial moment sessions publisher the_life.Forever h = tt
+
+renewed_sound : (serial : ℕ) (state : State) → IsSound state → IsSound (renew serial state)
+renewed_sound serial state w = record {
+  graph = w.graph;
+  lives = all_weaker (λ (a : Attachment). IsLifeFor state.sessions a.stored.publisher a.stored.life)
+      (λ (a : Attachment). IsLifeFor (change serial (renewed state.moment) state.sessions) a.stored.publisher a.stored.life)
+      (λ a h. life_renewed serial state.moment state.sessions a.stored.publisher a.stored.life h) state.graph w.lives;
+}
+
+search_sound : (state : State) (asked : Search) (s : Session) → IsSound state → IsSound (answer_search state asked s).0
+search_sound state asked s w =
+    elim (cases_Bool (is_too_big asked.max_size (found_attachments state.graph asked))) [
+      | inl hit ↦ rw hit w
+      | inr miss ↦ rw miss (renewed_sound s.serial state w)
+    ]
 
 IsAuthor : List Session → Authorship → Type 0
 IsAuthor sessions by = (s : Session) × (session_with_serial by.serial sessions ≡ Some s) × (s.client ≡ by.client)
@@ -310,7 +265,7 @@ module _ (attached_graph : (graph : List Attachment) (a : Attachment) → IsWhol
 
   begun_sound : (client : List ℕ) (random : ℕ) (state : State) → IsSound state → IsSound (begin_session client random state)
   begun_sound client random state w =
-      let s : Session = record { serial = state.counter + 1; id = session_id (state.counter + 1) random; client = client } in
+      let s : Session = next_session state client random in
       record {
         graph = w.graph;
         lives = all_weaker (λ (a : Attachment). IsLifeFor state.sessions a.stored.publisher a.stored.life)
@@ -324,7 +279,7 @@ module _ (attached_graph : (graph : List Attachment) (a : Attachment) → IsWhol
   new_sound state client random (Some s) w = begun_sound client random (end_sessions (s.serial ∷ []) state) (ended_sound s.serial state w)
 
   update_sound : (state : State) (by : Authorship) (item : Item) (forever : Bool) → IsAuthor state.sessions by
-      → IsClientName by.client → IsItem item → (elements : List Metadata) → AllByRecursion IsMetadata elements
+      → IsClientName by.client → IsCanonItem item → (elements : List Metadata) → AllByRecursion IsMetadata elements
       → (graph : List Attachment) → IsSound (record state { graph = graph })
       → IsSound (record state { graph = update graph by item forever elements })
   update_sound state by item forever h name is [] met graph w = w
@@ -356,8 +311,9 @@ module _ (attached_graph : (graph : List Attachment) (a : Attachment) → IsWhol
       → find q state.sessions ≡ Some s → IsClientName s.client → AreFitOps ops → IsSound (publish state ops s).0
   unfolding IsAuthor
   publish_sound state ops q s whole w e name fit =
-      apply_sound state (record { client = s.client; serial = s.serial; moment = state.moment })
-      (s, found_by_serial q state.sessions s whole.rising e, refl) name ops fit state.graph w
+      let by : Authorship = record { client = s.client; serial = s.serial; moment = state.moment } in
+      renewed_sound s.serial (record state { graph = apply state.graph by ops })
+      (apply_sound state by (s, found_by_serial q state.sessions s whole.rising e, refl) name ops fit state.graph w)
 
   in_session_sound : (state : State) (client : List ℕ) (accept : Session → State × Answer) (o : Option Session)
       → ((s : Session) → o ≡ Some s → is_text s.client client ≡ true → IsSound (accept s).0)
@@ -378,16 +334,17 @@ module _ (attached_graph : (graph : List Attachment) (a : Attachment) → IsWhol
   step_sound state event (Request (the_request.Publish id ops)) name fit whole w =
       in_session_sound state event.client (publish state ops) (session_with_id id state.sessions)
       (λ s e own. publish_sound state ops (λ (t : Session). is_text t.id id) s whole w e
-      (subst IsClientName (sym (text_is s.client event.client own)) name) fit) w
-  step_sound state event (Request (the_request.Search id search)) name fit whole w =
-      in_session_sound state event.client (λ s. (state, search_answer state.graph search)) (session_with_id id state.sessions) (λ s e own. w) w
+      (subst IsClientName (sym (text_is s.client event.client own)) name) fit.1) w
+  step_sound state event (Request (the_request.Search id asked)) name fit whole w =
+      in_session_sound state event.client (answer_search state asked) (session_with_id id state.sessions)
+      (λ s e own. search_sound state asked s w) w
 
   after_sound : (state : State) (history : History) → AreFit history → IsWhole state → IsSound state → IsSound (state_after state history)
   after_sound state [] fit whole w = w
   after_sound state (e ∷ history) fit whole w =
       after_sound (step state e.0).0 history fit.1
-      (step_whole (advance e.0.moment state) e.0 e.0.ask (advanced_whole e.0.moment state whole))
-      (step_sound (advance e.0.moment state) e.0 e.0.ask fit.0.client fit.0.ask (advanced_whole e.0.moment state whole)
+      (step_whole (advance e.0.moment state) e.0 e.0.ask whole)
+      (step_sound (advance e.0.moment state) e.0 e.0.ask fit.0.client fit.0.ask whole
       (record { graph = w.graph; lives = w.lives }))
 
   sound_after : (empty : IsGraph []) (ttl : ℕ) (history : History) → AreFit history → IsSound (state_after (opening ttl) history)

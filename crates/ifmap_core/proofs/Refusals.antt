@@ -2,38 +2,45 @@
 -- For each code, when each case refuses with it: by `missing`, `denied`, `other` for requests in a session, and by the test of
 -- a new session and of a search for themselves. Each cause and its refusal are then tied both ways, and a refusal leaves the
 -- state (`leaves`).
-use Rattle.std.proofs.Common.{◌≡◌, ◌≢◌, ◌↔◌, refl, sym, ◌∙◌, ap, ℕ, ◌-◌, ◌^◌, ◌<◌, ◌≤◌, ◌==◌, ◌&&◌, true, List, length, Option, None, Some, inl, inr, ◌⊎◌, nat_le, nat_lt, is_none, arith}
+use Rattle.std.proofs.Common.{◌≡◌, ◌≢◌, ◌↔◌, refl, sym, ◌∙◌, ap, ℕ, ◌-◌, ◌^◌, ◌<◌, ◌≤◌, ◌==◌, ◌&&◌, true, List, length, Option, None, Some, inl, inr, ◌⊎◌, nat_le, is_none, arith}
 use Rattle.std.proofs.lemmas.Bool.{and_from, and_parts, both_ways, cases_Bool, eq-eqb, eqb-true, or_cases, or_left, or_right}
 use Rattle.std.proofs.lemmas.Bool.Decides.{nat_tests}
 use Rattle.ifmap_core.specs.declared.events.Answer.{Answer}
 use Rattle.ifmap_core.specs.declared.events.Ask.{Ask}
 use Rattle.ifmap_core.specs.declared.events.Ask.TheVariants.{Request}
 use Rattle.ifmap_core.specs.Events.{Event}
-use Rattle.ifmap_core.specs.declared.sessions.Session.{Session}
 use Rattle.ifmap_core.specs.Causes.{AsksForNoneLeft, FindsTooMuch, IsRefusal, NamesAnothersSession, NamesNoSession}
 use Rattle.ifmap_core.specs.Fresh.{found_attachments, size_of}
-use Rattle.ifmap_core.specs.State.{State, advance, is_text, session_of_client, session_with_id}
-use Rattle.ifmap_core.specs.Step.{end_session, in_session, is_full, most_sessions, new_session, publish, search_answer, step_ask}
-use Rattle.ifmap_core.proofs.Kept.{text_is, text_same}
-use Rattle.ifmap_graph.specs.declared.attachments.Attachment.{Attachment}
+use Rattle.ifmap_core.specs.State.{State, advance}
+use Rattle.ifmap_core.specs.Step.{answer_search, end_session, in_session, is_full, is_too_big, new_session, publish, step_ask}
 use Rattle.ifmap_ident.specs.declared.codes.Code.{Code}
 use Rattle.ifmap_ident.specs.declared.codes.Code.TheVariants.{AccessDenied, InvalidSessionID, SearchResultsTooBig, SystemError}
 use Rattle.ifmap_msg.specs.declared.requests.Request.TheVariants as the_request
 use Rattle.ifmap_msg.specs.declared.requests.Search.{Search}
+use Rattle.ifmap_session.specs.Sessions.{Session, is_text, most_sessions, session_of_client, session_with_id}
+use Rattle.ifmap_session.specs.laws.TextLaws.{text_is, text_same}
 
--- what a search is answered refuses for size alone
-search_refuses : (graph : List Attachment) (search : Search) (code : Code) → IsRefusal code (search_answer graph search)
-    → (SearchResultsTooBig ≡ code) × (search.max_size < size_of (found_attachments graph search))
-search_refuses graph search code h =
-    elim (cases_Bool (nat_lt search.max_size (size_of (found_attachments graph search)))) [
+-- a search refuses for size alone
+search_refuses : (state : State) (asked : Search) (s : Session) (code : Code) → IsRefusal code (answer_search state asked s).1
+    → (SearchResultsTooBig ≡ code) × (asked.max_size < size_of (found_attachments state.graph asked))
+search_refuses state asked s code h =
+    elim (cases_Bool (is_too_big asked.max_size (found_attachments state.graph asked))) [
       | inl hit ↦ (rw hit at h, grind (arith, nat_tests, hit))
       | inr miss ↦ absurd (rw miss at h)
     ]
 
-search_refused : (graph : List Attachment) (search : Search) → search.max_size < size_of (found_attachments graph search)
-    → IsRefusal SearchResultsTooBig (search_answer graph search)
-search_refused graph search large =
-    let hit : nat_lt search.max_size (size_of (found_attachments graph search)) ≡ true = grind (arith, nat_tests, large) in rw hit refl
+search_refused : (state : State) (asked : Search) (s : Session) → asked.max_size < size_of (found_attachments state.graph asked)
+    → IsRefusal SearchResultsTooBig (answer_search state asked s).1
+search_refused state asked s large =
+    let hit : is_too_big asked.max_size (found_attachments state.graph asked) ≡ true = grind (arith, nat_tests, large) in rw hit refl
+
+search_leaves : (state : State) (asked : Search) (s : Session) (code : Code) → IsRefusal code (answer_search state asked s).1
+    → (answer_search state asked s).0 ≡ state
+search_leaves state asked s code h =
+    elim (cases_Bool (is_too_big asked.max_size (found_attachments state.graph asked))) [
+      | inl hit ↦ rw hit refl
+      | inr miss ↦ absurd (rw miss at h)
+    ]
 
 -- a request in a session, where what is accepted is not refused with the code in question
 module _ (state : State) (client : List ℕ) (accept : Session → State × Answer) where
@@ -77,19 +84,19 @@ module _ (state : State) (client : List ℕ) (accept : Session → State × Answ
   leaves (Some s) code f h = elim (cases_Bool (is_text s.client client)) [ inl hit ↦ rw hit (f s (rw hit at h)) | inr miss ↦ rw miss refl ]
 
 -- a search in a session
-too_much : (state : State) (client : List ℕ) (o : Option Session) (search : Search)
-    → IsRefusal SearchResultsTooBig (in_session state client o (λ s. (state, search_answer state.graph search))).1
-    ↔ (((s : Session) × (o ≡ Some s) × (s.client ≡ client)) × (search.max_size < size_of (found_attachments state.graph search)))
-too_much state client None search = ((λ h. let bad : InvalidSessionID ≡ SearchResultsTooBig = h in cc), (λ h. let bad = h.0.1 in cc))
-too_much state client (Some s) search = (
+too_much : (state : State) (client : List ℕ) (o : Option Session) (asked : Search)
+    → IsRefusal SearchResultsTooBig (in_session state client o (answer_search state asked)).1
+    ↔ (((s : Session) × (o ≡ Some s) × (s.client ≡ client)) × (asked.max_size < size_of (found_attachments state.graph asked)))
+too_much state client None asked = ((λ h. let bad : InvalidSessionID ≡ SearchResultsTooBig = h in cc), (λ h. let bad = h.0.1 in cc))
+too_much state client (Some s) asked = (
   (λ h. elim (cases_Bool (is_text s.client client)) [
-    | inl hit ↦ ((s, refl, text_is s.client client hit), (search_refuses state.graph search SearchResultsTooBig (rw hit at h)).1)
+    | inl hit ↦ ((s, refl, text_is s.client client hit), (search_refuses state asked s SearchResultsTooBig (rw hit at h)).1)
     | inr miss ↦ let bad : AccessDenied ≡ SearchResultsTooBig = rw miss at h in cc
   ]),
   (λ h.
       let same : s ≡ h.0.0 = let e = h.0.1 in cc in
       let own : is_text s.client client ≡ true = text_same s.client client (ap (λ (t : Session). t.client) same ∙ h.0.2) in
-      rw own (search_refused state.graph search h.1)),
+      rw own (search_refused state asked s h.1)),
 )
 
 -- a new session
@@ -153,10 +160,10 @@ invalid_session state event (Request (the_request.EndSession id)) =
 invalid_session state event (Request (the_request.Publish id ops)) =
     missing (advance event.moment state) event.client (publish (advance event.moment state) ops) (session_with_id id state.sessions)
     (λ s h. h)
-invalid_session state event (Request (the_request.Search id search)) =
-    missing (advance event.moment state) event.client (λ s. (advance event.moment state, search_answer state.graph search))
+invalid_session state event (Request (the_request.Search id asked)) =
+    missing (advance event.moment state) event.client (answer_search (advance event.moment state) asked)
     (session_with_id id state.sessions)
-    (λ s h. let bad : SearchResultsTooBig ≡ InvalidSessionID = (search_refuses state.graph search InvalidSessionID h).0 in cc)
+    (λ s h. let bad : SearchResultsTooBig ≡ InvalidSessionID = (search_refuses (advance event.moment state) asked s InvalidSessionID h).0 in cc)
 
 pub access_denied : (state : State) (event : Event) (ask : Ask) → IsRefusal AccessDenied (step_ask (advance event.moment state) event ask).1
     ↔ NamesAnothersSession state event.client ask
@@ -170,10 +177,10 @@ access_denied state event (Request (the_request.EndSession id)) =
 access_denied state event (Request (the_request.Publish id ops)) =
     denied (advance event.moment state) event.client (publish (advance event.moment state) ops) (session_with_id id state.sessions)
     (λ s h. h)
-access_denied state event (Request (the_request.Search id search)) =
-    denied (advance event.moment state) event.client (λ s. (advance event.moment state, search_answer state.graph search))
+access_denied state event (Request (the_request.Search id asked)) =
+    denied (advance event.moment state) event.client (answer_search (advance event.moment state) asked)
     (session_with_id id state.sessions)
-    (λ s h. let bad : SearchResultsTooBig ≡ AccessDenied = (search_refuses state.graph search AccessDenied h).0 in cc)
+    (λ s h. let bad : SearchResultsTooBig ≡ AccessDenied = (search_refuses (advance event.moment state) asked s AccessDenied h).0 in cc)
 
 pub system_error : (state : State) (event : Event) (ask : Ask) → IsRefusal SystemError (step_ask (advance event.moment state) event ask).1
     ↔ AsksForNoneLeft state event.client ask
@@ -188,10 +195,10 @@ system_error state event (Request (the_request.Publish id ops)) = (
       (λ e. cc) (λ e. cc) (λ s h. h),
   (λ h. absurd h),
 )
-system_error state event (Request (the_request.Search id search)) = (
-  other (advance event.moment state) event.client (λ s. (advance event.moment state, search_answer state.graph search))
+system_error state event (Request (the_request.Search id asked)) = (
+  other (advance event.moment state) event.client (answer_search (advance event.moment state) asked)
       (session_with_id id state.sessions) SystemError (λ e. cc) (λ e. cc)
-      (λ s h. let bad : SearchResultsTooBig ≡ SystemError = (search_refuses state.graph search SystemError h).0 in cc),
+      (λ s h. let bad : SearchResultsTooBig ≡ SystemError = (search_refuses (advance event.moment state) asked s SystemError h).0 in cc),
   (λ h. absurd h),
 )
 
@@ -212,8 +219,8 @@ too_big state event (Request (the_request.Publish id ops)) = (
       SearchResultsTooBig (λ e. cc) (λ e. cc) (λ s h. h),
   (λ h. absurd h),
 )
-too_big state event (Request (the_request.Search id search)) = too_much (advance event.moment state) event.client
-    (session_with_id id state.sessions) search
+too_big state event (Request (the_request.Search id asked)) = too_much (advance event.moment state) event.client
+    (session_with_id id state.sessions) asked
 
 -- a refusal takes in the moment, and changes nothing else
 pub refusal_leaves : (state : State) (event : Event) (code : Code) (ask : Ask)
@@ -227,6 +234,6 @@ refusal_leaves state event code (Request (the_request.EndSession id)) h =
 refusal_leaves state event code (Request (the_request.Publish id ops)) h =
     leaves (advance event.moment state) event.client (publish (advance event.moment state) ops) (session_with_id id state.sessions) code
     (λ s k. absurd k) h
-refusal_leaves state event code (Request (the_request.Search id search)) h =
-    leaves (advance event.moment state) event.client (λ s. (advance event.moment state, search_answer state.graph search))
-    (session_with_id id state.sessions) code (λ s k. refl) h
+refusal_leaves state event code (Request (the_request.Search id asked)) h =
+    leaves (advance event.moment state) event.client (answer_search (advance event.moment state) asked)
+    (session_with_id id state.sessions) code (λ s k. search_leaves (advance event.moment state) asked s code k) h

@@ -4,13 +4,12 @@ use Rattle.ifmap_core.specs.declared.events.Answer.{Answer}
 use Rattle.ifmap_core.specs.declared.events.Answer.TheVariants as the_answer
 use Rattle.ifmap_core.specs.declared.events.Ask.{Ask}
 use Rattle.ifmap_core.specs.declared.events.Ask.TheVariants.{Request}
-use Rattle.ifmap_core.specs.declared.sessions.Session.{Session}
 use Rattle.ifmap_core.specs.Fresh.{found_attachments, size_of}
-use Rattle.ifmap_core.specs.State.{State, session_of_client, session_with_id}
-use Rattle.ifmap_core.specs.Step.{most_sessions}
+use Rattle.ifmap_core.specs.State.{State}
 use Rattle.ifmap_ident.specs.declared.codes.Code.{Code}
 use Rattle.ifmap_msg.specs.declared.replies.Reply.TheVariants as the_reply
 use Rattle.ifmap_msg.specs.declared.requests.Request.TheVariants as the_request
+use Rattle.ifmap_session.specs.Sessions.{Session, most_sessions, session_of_client, session_with_id}
 
 -- the answer refuses with that code
 abbrev pub IsRefusal : Code → Answer → Type 0

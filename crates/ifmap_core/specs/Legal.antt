@@ -4,11 +4,11 @@ use Rattle.std.specs.List.{AllByRecursion}
 use Rattle.ifmap_core.specs.declared.events.Answer.{Answer}
 use Rattle.ifmap_core.specs.declared.events.Answer.TheVariants as the_answer
 use Rattle.ifmap_core.specs.Events.{Event, IsFitEvent}
-use Rattle.ifmap_core.specs.declared.sessions.Session.{Session}
-use Rattle.ifmap_core.specs.SessionIds.{session_id}
 use Rattle.ifmap_core.specs.State.{State, opening}
 use Rattle.ifmap_core.specs.Step.{step}
 use Rattle.ifmap_msg.specs.declared.replies.Reply.TheVariants.{NewSession, Ended, Error, Found, Published}
+use Rattle.ifmap_session.specs.SessionIds.{session_id}
+use Rattle.ifmap_session.specs.Sessions.{Session}
 
 -- events with their answers, in order
 abbrev pub History : Type 0

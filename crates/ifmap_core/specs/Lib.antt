@@ -6,7 +6,5 @@ pub mod Fresh
 pub mod Legal
 pub mod Lives
 pub mod Retract
-pub mod SessionIds
 pub mod State
 pub mod Step
-pub mod Table

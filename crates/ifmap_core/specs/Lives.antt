@@ -4,8 +4,8 @@ use Rattle.std.specs.List.{All}
 use Rattle.ifmap_graph.specs.declared.attachments.Attachment.{Attachment}
 use Rattle.ifmap_meta.specs.declared.stored.Life.{Life}
 use Rattle.ifmap_meta.specs.declared.stored.Life.TheVariants as the_life
-use Rattle.ifmap_core.specs.declared.sessions.Session.{Session}
-use Rattle.ifmap_core.specs.State.{State, session_with_serial}
+use Rattle.ifmap_core.specs.State.{State}
+use Rattle.ifmap_session.specs.Sessions.{Session, session_with_serial}
 
 -- what is to stay as long as a session belongs to a live one, of the client that published it
 abbrev pub IsLifeFor : List Session → List ℕ → Life → Type 0

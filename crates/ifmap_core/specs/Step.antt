@@ -1,28 +1,25 @@
 -- What the machine answers to an event, and the state after it.
-use Rattle.std.specs.Prelude.{ℕ, ◌+◌, ◌-◌, ◌^◌, ◌==◌, ◌&&◌, ◌||◌, nat_le, nat_lt, Bool, List, [], ◌∷◌, ◌++◌, length, map, Option, None, Some, is_none, if◌then◌else◌}
+use Rattle.std.specs.Prelude.{ℕ, ◌+◌, ◌-◌, ◌^◌, ◌==◌, ◌&&◌, ◌||◌, nat_le, nat_lt, Bool, List, [], ◌∷◌, ◌++◌, length, map, Option, None, Some, is_none, Result, Ok, Err, if◌then◌else◌}
 use Rattle.ifmap_core.specs.declared.events.Answer.{Answer}
 use Rattle.ifmap_core.specs.declared.events.Answer.TheVariants as the_answer
 use Rattle.ifmap_core.specs.declared.events.Ask.{Ask}
 use Rattle.ifmap_core.specs.declared.events.Ask.TheVariants.{Request}
 use Rattle.ifmap_core.specs.Events.{Event}
-use Rattle.ifmap_core.specs.declared.sessions.Session.{Session}
 use Rattle.ifmap_core.specs.Apply.{apply}
 use Rattle.ifmap_core.specs.Fresh.{entry_of, found_attachments, limit_note, size_of}
 use Rattle.ifmap_core.specs.Retract.{retract_sessions}
-use Rattle.ifmap_core.specs.SessionIds.{session_id}
-use Rattle.ifmap_core.specs.State.{State, advance, is_text, session_of_client, session_with_id, without_sessions}
+use Rattle.ifmap_core.specs.State.{State, advance}
 use Rattle.ifmap_graph.specs.declared.attachments.Attachment.{Attachment}
 use Rattle.ifmap_ident.specs.declared.codes.Code.{Code}
 use Rattle.ifmap_ident.specs.declared.codes.Code.TheVariants.{AccessDenied, InvalidSessionID, SearchResultsTooBig, SystemError}
 use Rattle.ifmap_ident.specs.Codes.{code_name}
+use Rattle.ifmap_msg.specs.declared.replies.Entry.{Entry}
 use Rattle.ifmap_msg.specs.declared.replies.Reply.TheVariants as the_reply
 use Rattle.ifmap_msg.specs.declared.requests.PublishOp.{PublishOp}
 use Rattle.ifmap_msg.specs.declared.requests.Request.TheVariants as the_request
 use Rattle.ifmap_msg.specs.declared.requests.Search.{Search}
-
--- how many sessions may live
-abbrev pub most_sessions : ℕ
-most_sessions = 10000
+use Rattle.ifmap_session.specs.SessionIds.{session_id}
+use Rattle.ifmap_session.specs.Sessions.{Session, begun, change, is_text, limit_of, most_sessions, renewed, session_of_client, session_with_id, without_sessions}
 
 -- a refusal with a note
 abbrev pub refusal_with : Code → List ℕ → Answer
@@ -47,15 +44,20 @@ abbrev pub is_full : State → List ℕ → Bool
 is_full state client =
     (nat_le most_sessions (length state.sessions) && is_none (session_of_client client state.sessions)) || (state.counter == 2 ^ 64 - 1)
 
+-- the session that begins in a state, with the limit of one that asks for none
+abbrev pub next_session : State → List ℕ → ℕ → Session
+next_session state client random =
+    let serial = state.counter + 1 in
+    begun (record { serial = serial; id = session_id serial random; client = client }) (limit_of None) state.moment
+
 -- the state with one more session
 abbrev pub begin_session : List ℕ → ℕ → State → State
 begin_session client random state =
-    let serial = state.counter + 1 in
-    record state {
-      counter = serial;
-      sessions = state.sessions ++ record { serial = serial; id = session_id serial random; client = client }
-          ∷ [];
-    }
+    record state { counter = state.counter + 1; sessions = state.sessions ++ next_session state client random ∷ [] }
+
+-- the state where a request in a session was accepted
+abbrev pub renew : ℕ → State → State
+renew serial state = record state { sessions = change serial (renewed state.moment) state.sessions }
 
 -- a new session takes the place of the one that the client has
 abbrev pub new_session : State → List ℕ → ℕ → State × Answer
@@ -79,21 +81,26 @@ end_session state s = (end_sessions (s.serial ∷ []) state, the_answer.Reply th
 -- the client publishes in a session of its own, at the state's moment
 abbrev pub publish : State → List PublishOp → Session → State × Answer
 publish state ops s = (
-  record state { graph = apply state.graph (record { client = s.client; serial = s.serial; moment = state.moment }) ops },
+  renew s.serial
+      (record state { graph = apply state.graph (record { client = s.client; serial = s.serial; moment = state.moment }) ops }),
   the_answer.Reply the_reply.Published,
 )
 
--- what is answered for the attachments found: their entries, or a refusal where their size is greater than the limit
-abbrev pub answer_of : ℕ → List Attachment → Answer
-answer_of limit found =
-    let size = size_of found in
-    if nat_lt limit size
-    then refusal_with SearchResultsTooBig (limit_note size limit)
-    else the_answer.Reply (the_reply.Found (map entry_of found))
+-- whether the size of what a search finds is greater than its limit
+abbrev pub is_too_big : ℕ → List Attachment → Bool
+is_too_big limit found = nat_lt limit (size_of found)
 
--- what a search is answered
-abbrev pub search_answer : List Attachment → Search → Answer
-search_answer graph search = answer_of search.max_size (found_attachments graph search)
+-- the entries of what a search finds, or the note of a refusal where it is too big
+abbrev pub entries_within : ℕ → List Attachment → Result (List Entry) (List ℕ)
+entries_within limit found = if is_too_big limit found then Err (limit_note (size_of found) limit) else Ok (map entry_of found)
+
+-- the client searches in a session of its own: refused where too much is found
+abbrev pub answer_finding : State → Session → Result (List Entry) (List ℕ) → State × Answer
+answer_finding state s (Ok entries) = (renew s.serial state, the_answer.Reply (the_reply.Found entries))
+answer_finding state s (Err note) = (state, refusal_with SearchResultsTooBig note)
+
+abbrev pub answer_search : State → Search → Session → State × Answer
+answer_search state asked s = answer_finding state s (entries_within asked.max_size (found_attachments state.graph asked))
 
 -- the case of each request
 abbrev pub step_ask : State → Event → Ask → State × Answer
@@ -102,8 +109,8 @@ step_ask state event (Request (the_request.EndSession id)) =
     in_session state event.client (session_with_id id state.sessions) (end_session state)
 step_ask state event (Request (the_request.Publish id ops)) =
     in_session state event.client (session_with_id id state.sessions) (publish state ops)
-step_ask state event (Request (the_request.Search id search)) =
-    in_session state event.client (session_with_id id state.sessions) (λ s. (state, search_answer state.graph search))
+step_ask state event (Request (the_request.Search id asked)) =
+    in_session state event.client (session_with_id id state.sessions) (answer_search state asked)
 
 -- the state after an event, and its answer: the moment is taken in before all else
 abbrev pub step : State → Event → State × Answer

@@ -12,7 +12,7 @@ pub enum Ask {
 }
 
 /// One event: a request with all that its answer depends on beside the state. The request is fit:
-/// what it publishes can be published.
+/// what it publishes can be published, and its identifiers and ids are ones that a document can have.
 #[derive(Debug, Drop)]
 pub struct Event {
     /// When the request came. Where the state's moment is later, that one stands.

@@ -3,8 +3,8 @@ ghost use Rattle.std.specs.Prelude.{◌≢◌, ◌≤◌, ℕ, All, AllPairs, le
 ghost use Rattle.ifmap_core.specs.Legal.{AreFit, AreNumberedAfter, History, Legal, ids_given, live_clients, state_after};
 ghost use Rattle.ifmap_core.specs.Lives.{AllLive};
 ghost use Rattle.ifmap_core.specs.State.{opening};
-ghost use Rattle.ifmap_core.specs.Step.{most_sessions};
 ghost use Rattle.ifmap_graph.specs.Graph.{IsGraph};
+ghost use Rattle.ifmap_session.specs.Sessions.{most_sessions};
 
 use ifmap_graph::laws::graphs_stay_graphs;
 

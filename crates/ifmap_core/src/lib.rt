@@ -7,8 +7,6 @@ pub mod laws;
 pub mod machine;
 mod publishing;
 mod searching;
-mod sessions;
 
 pub use events::{Answer, Ask, Event};
 pub use machine::Core;
-pub use sessions::Session;

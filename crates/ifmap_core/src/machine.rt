@@ -4,29 +4,27 @@ ghost use Rattle.std.specs.Bool.{OnFalse};
 ghost use Rattle.ifmap_core.specs.Apply.{apply};
 ghost use Rattle.ifmap_core.specs.Causes.{AsksForNoneLeft, FindsTooMuch, IsRefusal, NamesAnothersSession, NamesNoSession};
 ghost use Rattle.ifmap_core.specs.Attachments.{attach_all};
-ghost use Rattle.ifmap_core.specs.State.{State, advance, opening, session_with_id};
-ghost use Rattle.ifmap_core.specs.Step.{end_session, in_session, is_full, new_session, publish, refusal, search_answer, step, step_ask};
+ghost use Rattle.ifmap_core.specs.State.{State, advance, opening};
+ghost use Rattle.ifmap_core.specs.Step.{answer_search, end_session, in_session, is_full, new_session, publish, refusal, renew, step, step_ask};
 ghost use Rattle.ifmap_graph.specs.Graph.{IsGraph};
 ghost use Rattle.ifmap_ident.specs.declared.codes.Code.{Code};
 ghost use Rattle.ifmap_msg.specs.Fit.{AreFitOps};
+ghost use Rattle.ifmap_session.specs.Sessions.{IsLive, Session, session_with_id};
 
 use crate::events::{Answer, Ask, Event};
 use crate::publishing::Author;
-use crate::searching::search_answer;
-use crate::sessions::{Session, Sessions};
+use crate::searching::find_entries;
 use ifmap_elem::{Copied, Equals, Many, Text};
 use ifmap_graph::{Graph, KeptAttachment};
 use ifmap_ident::Code;
 use ifmap_io::Moment;
 use ifmap_meta::ClientName;
 use ifmap_msg::{PublishOp, Reply, Request, Search};
+use ifmap_session::{MOST_SESSIONS, Sessions, limit_of};
 use ifmap_steps::Steps;
 use std::alloc::{AllocError as NoMemory, Global};
 use std::marker::Model;
 use std::sync::ledger::Ledger;
-
-/// How many sessions may live at a time.
-pub const MOST_SESSIONS: usize = 10_000;
 
 /// The machine. Contracts see its state: the moment, `ttl`, the counter of serials, the graph and the
 /// live sessions.
@@ -42,10 +40,11 @@ impl Model for Core {
     ghost use Rattle.std.specs.Coded.{codes};
     ghost use Rattle.ifmap_core.specs.State.{State};
     ghost use Rattle.ifmap_graph.specs.contracts.attachments.Attachment as the_attachment;
+    ghost use Rattle.ifmap_search.specs.contracts.results.PollItem as the_poll_item;
 
     ghost Value = { State };
 
-    ghost coded = { Prim.hlevel (codes, the_attachment.the_row.coded) };
+    ghost coded = { Prim.hlevel (codes, the_attachment.the_row.coded, the_poll_item.the_row.coded) };
 
     ghost view = { λ core. record {
       moment = core.moment;
@@ -72,9 +71,10 @@ impl Core {
     }
 
     /// Answers an event. The answer and the state after it are those of `step`; the one error is
-    /// want of memory, also told of a search whose result would have 2^64 bytes or more; it leaves the
-    /// state as it was. A refusal takes the event's moment in and changes nothing else. After each
-    /// event the attachments rise, their keys differ and each is whole. No link is looked at. No session expires yet, so `ttl` changes nothing.
+    /// want of memory, also told of a search whose result would have 2^64 bytes or more; it leaves
+    /// the state as it was. A refusal takes the event's moment in and changes nothing else; an
+    /// accepted request renews its session. After each event the attachments rise, their keys differ
+    /// and each is whole. No link is looked at. No session expires yet, so `ttl` changes nothing.
     pub fn step<L: Ledger>(
         &mut self,
         alloc: Global,
@@ -146,16 +146,19 @@ impl Core {
         if self.is_full(client) {
             return refusal(alloc, Code::SystemError);
         }
+        self.sessions.is_table();
         let held = self.sessions.of_client(client);
         let opening = self.sessions.prepare(alloc, client, random)?;
-        let session = opening.id.copy(alloc)?;
         let publisher = client.text().copy(alloc)?;
         if let Some(former) = held {
             self.sessions.end(former);
             self.graph.retract_session(former);
         }
-        self.sessions.open(opening);
-        Ok(Answer::Reply(Reply::NewSession { session, publisher }))
+        let begun = self.sessions.open(opening, limit_of(None), self.moment);
+        Ok(Answer::Reply(Reply::NewSession {
+            session: begun.id,
+            publisher,
+        }))
     }
 
     // Whether the client can be given no session.
@@ -163,9 +166,9 @@ impl Core {
         ensures full { result ≡ is_full self.now client.now }
         ensures next { OnFalse result (self.now.counter < 2 ^ 64 - 1) }
     {
-        let is_taken = MOST_SESSIONS <= self.sessions.len();
-        (is_taken && self.sessions.of_client(client).is_none())
-            || self.sessions.counter() == u64::MAX
+        let (live, counter) = self.sessions.counts();
+        let is_taken = MOST_SESSIONS as u64 <= live;
+        (is_taken && self.sessions.of_client(client).is_none()) || counter == u64::MAX
     }
 
     fn end_session(
@@ -205,6 +208,7 @@ impl Core {
         match self.own_serial(id, client) {
             Ok(serial) => {
                 self.apply(alloc, ops, client, serial)?;
+                self.renew(serial);
                 Ok(Answer::Reply(Reply::Published))
             }
             Err(code) => refusal(alloc, code),
@@ -238,35 +242,54 @@ impl Core {
     }
 
     fn search(
-        &self,
+        &mut self,
         alloc: Global,
         id: &Text,
         search: &Search,
         client: &ClientName,
     ) -> Result<Answer, NoMemory>
-        ensures { IfOk result (λ answer. (self.now, answer)
-            ≡ in_session self.now client.now (session_with_id id.now self.now.sessions)
-            (λ s. (self.now, search_answer self.now.graph search.now))) }
+        ensures answer { IfOk result (λ answer. (self.new, answer)
+            ≡ in_session self.old client.now (session_with_id id.now self.old.sessions)
+            (answer_search self.old search.now)) }
+        ensures err { OnErr result (self.new ≡ self.old) }
     {
         match self.own_serial(id, client) {
-            Ok(_) => search_answer(alloc, &self.graph, search),
+            Ok(serial) => match find_entries(alloc, &self.graph, search)? {
+                Ok(entries) => {
+                    self.renew(serial);
+                    Ok(Answer::Reply(Reply::Found(entries)))
+                }
+                Err(note) => Ok(Answer::Reply(Reply::Error {
+                    code: Code::SearchResultsTooBig,
+                    note,
+                })),
+            },
             Err(code) => refusal(alloc, code),
         }
+    }
+
+    // A request in a live session is accepted. It takes no memory.
+    fn renew(&mut self, serial: u64)
+        requires { IsLive serial self.old.sessions }
+        ensures { self.new ≡ renew serial self.old }
+    {
+        self.sessions.renew(serial, self.moment);
     }
 
     // The serial of the live session with that id, where it is the client's.
     fn own_serial(&self, id: &Text, client: &ClientName) -> Result<u64, Code>
         ensures own { IfOk result (λ serial. (s : Session) × (s.serial ≡ serial)
             × (session_with_id id.now self.now.sessions ≡ Some s) × (s.client ≡ client.now)) }
+        ensures live { IfOk result (λ serial. IsLive serial self.now.sessions) }
         ensures refusal { IfErr result (λ code. (accept : Session → State × Answer)
             → in_session self.now client.now (session_with_id id.now self.now.sessions) accept
             ≡ (self.now, refusal code)) }
     {
-        let Some(session) = self.sessions.with_id(id) else {
+        let Some((serial, owner)) = self.sessions.owner(id) else {
             return Err(Code::InvalidSessionID);
         };
-        if session.client.equals(client) {
-            Ok(session.serial)
+        if owner.equals(client) {
+            Ok(serial)
         } else {
             Err(Code::AccessDenied)
         }

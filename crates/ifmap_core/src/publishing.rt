@@ -3,7 +3,7 @@ ghost use Rattle.std.specs.Prelude.{◌≡◌, ◌++◌, IfOk, OnOk};
 ghost use Rattle.std.specs.List.{AllByRecursion};
 ghost use Rattle.ifmap_core.specs.Apply.{attachment_of, life_of};
 ghost use Rattle.ifmap_core.specs.Attachments.{authorship, attachments_of, attachments_of_op, attachments_of_update};
-ghost use Rattle.ifmap_ident.specs.Items.{IsItem};
+ghost use Rattle.ifmap_ident.specs.Items.{IsCanonItem};
 ghost use Rattle.ifmap_meta.specs.Whole.{IsMetadata};
 ghost use Rattle.ifmap_msg.specs.Fit.{AreFitOps, IsFitOp};
 
@@ -69,7 +69,7 @@ impl<'a> Author<'a> {
         forever: bool,
         attachments: &mut Vec<KeptAttachment>,
     ) -> Result<(), NoMemory>
-        requires item { IsItem item.now }
+        requires item { IsCanonItem item.now }
         requires elements { AllByRecursion IsMetadata elements.now }
         ensures { OnOk result (attachments.new.items
             ≡ attachments.old.items ++ attachments_of_update (authorship self.now) item.now forever
@@ -89,7 +89,7 @@ impl<'a> Author<'a> {
         metadata: &Metadata,
         forever: bool,
     ) -> Result<KeptAttachment, NoMemory>
-        requires item { IsItem item.now }
+        requires item { IsCanonItem item.now }
         requires metadata { IsMetadata metadata.now }
         ensures { IfOk result (λ attachment. attachment
             ≡ attachment_of (authorship self.now) item.now forever

@@ -1,37 +1,42 @@
-//! What a search is answered.
+//! What a search finds.
 ghost use Rattle.std.specs.Prelude.{◌≡◌, ◌<◌, ◌^◌, IfOk, map};
-ghost use Rattle.ifmap_core.specs.Fresh.{entry_of, limit_note, size_of};
-ghost use Rattle.ifmap_core.specs.Step.{answer_of, search_answer};
+ghost use Rattle.ifmap_core.specs.Fresh.{entry_of, found_attachments, limit_note, size_of};
+ghost use Rattle.ifmap_core.specs.Step.{entries_within};
 
-use crate::events::Answer;
 use ifmap_elem::{Copied, Many, Text};
 use ifmap_graph::{Graph, KeptAttachment};
-use ifmap_ident::{Code, Item};
-use ifmap_msg::{Entry, Reply, Search};
+use ifmap_ident::Item;
+use ifmap_msg::{Entry, Search};
 use std::alloc::{AllocError as NoMemory, Global};
 
-/// What the search finds in the graph, or the refusal where its size is greater than the limit.
-pub fn search_answer(alloc: Global, graph: &Graph, search: &Search) -> Result<Answer, NoMemory>
-    ensures { IfOk result (λ answer. answer ≡ search_answer graph.now.attachments search.now) }
+/// What the search finds in the graph, or the note of a refusal where its size is greater than the
+/// limit.
+pub fn find_entries(
+    alloc: Global,
+    graph: &Graph,
+    search: &Search,
+) -> Result<Result<Many<Entry>, Text>, NoMemory>
+    ensures { IfOk result (λ outcome. outcome
+        ≡ entries_within search.now.max_size
+        (found_attachments graph.now.attachments search.now)) }
 {
     let start = Item::One(search.start.copy(alloc)?);
-    answer_of(alloc, search.max_size, graph.attachments_on(&start))
+    entries_within(alloc, search.max_size, graph.attachments_on(&start))
 }
 
-// The result, or the refusal where its size is greater than the limit.
-fn answer_of(alloc: Global, limit: u64, attachments: &[KeptAttachment]) -> Result<Answer, NoMemory>
-    ensures { IfOk result (λ answer. answer ≡ answer_of limit attachments.now) }
+// The entries, or the note where their size is greater than the limit.
+fn entries_within(
+    alloc: Global,
+    limit: u64,
+    attachments: &[KeptAttachment],
+) -> Result<Result<Many<Entry>, Text>, NoMemory>
+    ensures { IfOk result (λ outcome. outcome ≡ entries_within limit attachments.now) }
 {
     let size = size_of(attachments)?;
     if limit < size {
-        let note = limit_note(alloc, size, limit)?;
-        return Ok(Answer::Reply(Reply::Error {
-            code: Code::SearchResultsTooBig,
-            note,
-        }));
+        return Ok(Err(limit_note(alloc, size, limit)?));
     }
-    let entries = entries_of(alloc, attachments)?;
-    Ok(Answer::Reply(Reply::Found(entries)))
+    Ok(Ok(entries_of(alloc, attachments)?))
 }
 
 // The size of a result. A sum of 2^64 or more is told as want of memory.

@@ -1,13 +1,16 @@
 //! Histories of the machine: events one after another, and what each is answered.
 ghost use Rattle.std.specs.Prelude.{◌≡◌, ◌<◌, IfOk};
+ghost use Rattle.std.specs.Char.{is_ascii_graphic};
+ghost use Rattle.std.specs.List.{list_all};
+ghost use Rattle.ifmap_elem.specs.Chars.{IsCharacters};
 ghost use Rattle.ifmap_msg.specs.Fit.{IsFitOp, IsFitRequest};
 
-use crate::roles::{mac_address, role_to_publish};
+use crate::roles::{first_address, role_to_publish};
 use ifmap_core::{Answer, Ask, Core, Event};
 use ifmap_elem::{Child, Element, Many, Text};
 use ifmap_ident::Item;
 use ifmap_io::Moment;
-use ifmap_meta::{Cardinality, ClientName};
+use ifmap_meta::ClientName;
 use ifmap_msg::{Entry, PublishOp, Reply, Request, Search};
 use ifmap_steps::Steps;
 use std::alloc::Global;
@@ -16,24 +19,40 @@ use std::process::Abort;
 use std::sync::ledger::{Blank, Ledger};
 use std::test::Fail;
 
+// Ids of sessions, and what is answered where they begin.
 const FIRST: &str = "1-00000000-0000-0000-0000-000000000001";
+
+const FIRST_OF_C1: &str = "1-00000000-0000-0000-0000-000000000001 of c1";
 
 const SECOND: &str = "2-00000000-0000-0000-0000-000000000005";
 
+const SECOND_OF_C2: &str = "2-00000000-0000-0000-0000-000000000005 of c2";
+
 const THIRD: &str = "3-00000000-0000-0000-0000-00000000000e";
 
+const THIRD_OF_C2: &str = "3-00000000-0000-0000-0000-00000000000e of c2";
+
+// Refusals.
 const MISSING: &str = "InvalidSessionID: InvalidSessionID";
+
+const DENIED: &str = "AccessDenied: AccessDenied";
 
 const FULL: &str = "SystemError: SystemError";
 
-/// What a client asks; the text is the id of its session.
+const TOO_BIG: &str = "SearchResultsTooBig: 237 of 236";
+
+/// What a client asks; the first text is the id of its session. It publishes a role of that name, on
+/// the first address.
 #[derive(Clone, Copy)]
 enum Asks {
     New,
     End(&'static str),
-    /// The role of that name, on the first address.
-    Publish(&'static str, &'static str, Cardinality),
-    PublishForever(&'static str, &'static str),
+    /// A multiValue role.
+    Multi(&'static str, &'static str),
+    /// A singleValue role.
+    Single(&'static str, &'static str),
+    /// A multiValue role that outlives the session.
+    Forever(&'static str, &'static str),
     /// What is on the first address, up to that size.
     Search(&'static str, u64),
 }
@@ -41,33 +60,54 @@ enum Asks {
 /// An event, with its random word, and the answer in words.
 type Turn = (u64, &'static str, u128, Asks, &'static str);
 
-fn publish(alloc: Global, id: &str, update: PublishOp) -> Result<Request, Fail>
-    requires { IsFitOp update }
-    ensures { IfOk result IsFitRequest }
+// The text of an id of a session, of characters that can be seen.
+#[tactic(auto, using(crate::proofs::Graphic::graphic_characters))]
+fn id_text(alloc: Global, id: &str) -> Result<Text, Fail>
+    ensures { IfOk result IsCharacters }
 {
-    Ok(Request::Publish {
-        session: Text::from_str(alloc, id)?,
-        ops: Many(Vec::from_array(alloc, [update])?),
+    if !are_graphic(id.as_bytes()) {
+        return Err("an id of other characters".into());
+    }
+    Ok(Text::from_str(alloc, id)?)
+}
+
+fn are_graphic(bytes: &[u8]) -> bool
+    ensures { result ≡ list_all is_ascii_graphic bytes.now }
+{
+    bytes.iter().all(|b| b.is_ascii_graphic())
+}
+
+// A role on the first address.
+fn update(alloc: Global, name: &str, value: &str, forever: bool) -> Result<PublishOp, Fail>
+    ensures { IfOk result IsFitOp }
+{
+    let metadata = role_to_publish(alloc, value, name)?;
+    let elements = Many(Vec::from_array(alloc, [metadata])?);
+    let item = Item::One(first_address(alloc)?);
+    Ok(PublishOp::Update {
+        item,
+        elements,
+        forever,
     })
 }
 
-fn update(
-    alloc: Global,
-    name: &str,
-    cardinality: Cardinality,
-    forever: bool,
-) -> Result<PublishOp, Fail>
-    ensures { IfOk result IsFitOp }
+fn publish(alloc: Global, id: &str, name: &str, value: &str, forever: bool) -> Result<Request, Fail>
+    ensures { IfOk result IsFitRequest }
 {
-    let value = match cardinality {
-        Cardinality::Single => "singleValue",
-        Cardinality::Multi => "multiValue",
-    };
-    let metadata = role_to_publish(alloc, value, name)?;
-    Ok(PublishOp::Update {
-        item: Item::One(mac_address(alloc, 1)),
-        elements: Many(Vec::from_array(alloc, [metadata])?),
-        forever,
+    let session = id_text(alloc, id)?;
+    let op = update(alloc, name, value, forever)?;
+    let ops = Many(Vec::from_array(alloc, [op])?);
+    Ok(Request::Publish { session, ops })
+}
+
+fn search(alloc: Global, id: &str, max_size: u64) -> Result<Request, Fail>
+    ensures { IfOk result IsFitRequest }
+{
+    let session = id_text(alloc, id)?;
+    let start = first_address(alloc)?;
+    Ok(Request::Search {
+        session,
+        search: Search { start, max_size },
     })
 }
 
@@ -77,21 +117,12 @@ fn request(alloc: Global, asks: Asks) -> Result<Request, Fail>
     match asks {
         Asks::New => Ok(Request::NewSession),
         Asks::End(id) => Ok(Request::EndSession {
-            session: Text::from_str(alloc, id)?,
+            session: id_text(alloc, id)?,
         }),
-        Asks::Publish(id, name, cardinality) => {
-            publish(alloc, id, update(alloc, name, cardinality, false)?)
-        }
-        Asks::PublishForever(id, name) => {
-            publish(alloc, id, update(alloc, name, Cardinality::Multi, true)?)
-        }
-        Asks::Search(id, max_size) => Ok(Request::Search {
-            session: Text::from_str(alloc, id)?,
-            search: Search {
-                start: mac_address(alloc, 1),
-                max_size,
-            },
-        }),
+        Asks::Multi(id, name) => publish(alloc, id, name, "multiValue", false),
+        Asks::Single(id, name) => publish(alloc, id, name, "singleValue", false),
+        Asks::Forever(id, name) => publish(alloc, id, name, "multiValue", true),
+        Asks::Search(id, max_size) => search(alloc, id, max_size),
     }
 }
 
@@ -221,77 +252,31 @@ fn words_after<L: Ledger>(
 #[test]
 fn a_session_is_answered_by_its_id_to_its_client_alone(rt: HostRuntime) -> Result<(), Fail> {
     let at = 1_000_000_000;
-    let first = "2-12345678-9abc-def0-fedc-ba9876543210";
     let word = 0x123456789abcdef0fedcba9876543210;
+    let worded = "2-12345678-9abc-def0-fedc-ba9876543210";
+    let worded_of_c1 = "2-12345678-9abc-def0-fedc-ba9876543210 of c1";
+    let third = "3-00000000-0000-0000-0000-000000000006";
+    let third_of_c2 = "3-00000000-0000-0000-0000-000000000006 of c2";
+    let fourth = "4-00000000-0000-0000-0000-000000000007";
+    let fourth_of_c1 = "4-00000000-0000-0000-0000-000000000007 of c1";
+    let other_word = "4-00000000-0000-0000-0000-000000000006";
+    let with_sign = "+4-00000000-0000-0000-0000-000000000007";
+    let with_zero = "04-00000000-0000-0000-0000-000000000007";
     let turns: [Turn; 14] = [
-        (
-            at,
-            "c1",
-            1,
-            Asks::New,
-            "1-00000000-0000-0000-0000-000000000001 of c1",
-        ),
+        (at, "c1", 1, Asks::New, FIRST_OF_C1),
         (at, "c1", 2, Asks::End(FIRST), "ended"),
         (at, "c1", 3, Asks::End(FIRST), MISSING),
-        (
-            at,
-            "c1",
-            word,
-            Asks::New,
-            "2-12345678-9abc-def0-fedc-ba9876543210 of c1",
-        ),
-        (at, "c2", 5, Asks::End(first), "AccessDenied: AccessDenied"),
-        (
-            at,
-            "c2",
-            6,
-            Asks::New,
-            "3-00000000-0000-0000-0000-000000000006 of c2",
-        ),
-        (
-            at,
-            "c1",
-            7,
-            Asks::New,
-            "4-00000000-0000-0000-0000-000000000007 of c1",
-        ),
-        (at, "c1", 8, Asks::End(first), MISSING),
-        (
-            at,
-            "c1",
-            9,
-            Asks::End("4-00000000-0000-0000-0000-000000000006"),
-            MISSING,
-        ),
-        (
-            at,
-            "c1",
-            10,
-            Asks::End("+4-00000000-0000-0000-0000-000000000007"),
-            MISSING,
-        ),
-        (
-            at,
-            "c1",
-            11,
-            Asks::End("04-00000000-0000-0000-0000-000000000007"),
-            MISSING,
-        ),
+        (at, "c1", word, Asks::New, worded_of_c1),
+        (at, "c2", 5, Asks::End(worded), DENIED),
+        (at, "c2", 6, Asks::New, third_of_c2),
+        (at, "c1", 7, Asks::New, fourth_of_c1),
+        (at, "c1", 8, Asks::End(worded), MISSING),
+        (at, "c1", 9, Asks::End(other_word), MISSING),
+        (at, "c1", 10, Asks::End(with_sign), MISSING),
+        (at, "c1", 11, Asks::End(with_zero), MISSING),
         (at, "c1", 12, Asks::End(""), MISSING),
-        (
-            at,
-            "c1",
-            13,
-            Asks::End("4-00000000-0000-0000-0000-000000000007"),
-            "ended",
-        ),
-        (
-            at,
-            "c2",
-            14,
-            Asks::End("3-00000000-0000-0000-0000-000000000006"),
-            "ended",
-        ),
+        (at, "c1", 13, Asks::End(fourth), "ended"),
+        (at, "c2", 14, Asks::End(third), "ended"),
     ];
     expect_history(&rt, 0, &turns)
 }
@@ -299,30 +284,15 @@ fn a_session_is_answered_by_its_id_to_its_client_alone(rt: HostRuntime) -> Resul
 #[test]
 fn at_10000_sessions_only_a_client_that_has_one_gets_another(rt: HostRuntime) -> Result<(), Fail> {
     let at = 1_000_000_000;
+    let next_of_c7 = "10001-00000000-0000-0000-0000-000000000002 of c7";
+    let tenth = "10-00000000-0000-0000-0000-000000000000";
+    let next_of_late = "10002-00000000-0000-0000-0000-000000000005 of late";
     let turns: [Turn; 6] = [
         (at, "late", 1, Asks::New, FULL),
-        (
-            at,
-            "c7",
-            2,
-            Asks::New,
-            "10001-00000000-0000-0000-0000-000000000002 of c7",
-        ),
+        (at, "c7", 2, Asks::New, next_of_c7),
         (at, "late", 3, Asks::New, FULL),
-        (
-            at,
-            "c9",
-            4,
-            Asks::End("10-00000000-0000-0000-0000-000000000000"),
-            "ended",
-        ),
-        (
-            at,
-            "late",
-            5,
-            Asks::New,
-            "10002-00000000-0000-0000-0000-000000000005 of late",
-        ),
+        (at, "c9", 4, Asks::End(tenth), "ended"),
+        (at, "late", 5, Asks::New, next_of_late),
         (at, "c9", 6, Asks::New, FULL),
     ];
     expect_history(&rt, 10_000, &turns)
@@ -332,89 +302,33 @@ fn at_10000_sessions_only_a_client_that_has_one_gets_another(rt: HostRuntime) ->
 fn metadata_is_found_until_it_is_replaced_or_its_session_ends(rt: HostRuntime) -> Result<(), Fail> {
     let at = 1_000_000_000;
     let early = 900_000_000;
-    let multi = Cardinality::Multi;
-    let single = Cardinality::Single;
     let r = "multiValue c1 2001-09-09T01:46:40Z r;";
     let u = "multiValue c2 2001-09-09T01:46:41Z u;";
     let r_and_s = "multiValue c1 2001-09-09T01:46:40Z r;singleValue c2 2001-09-09T01:46:40Z s;";
     let r_u_and_t =
         "multiValue c1 2001-09-09T01:46:40Z r;multiValue c2 2001-09-09T01:46:41Z u;singleValue c1 2001-09-09T01:46:41Z t;";
     let turns: [Turn; 18] = [
-        (
-            at,
-            "c1",
-            1,
-            Asks::New,
-            "1-00000000-0000-0000-0000-000000000001 of c1",
-        ),
-        (at, "c1", 2, Asks::Publish(FIRST, "r", multi), "published"),
+        (at, "c1", 1, Asks::New, FIRST_OF_C1),
+        (at, "c1", 2, Asks::Multi(FIRST, "r"), "published"),
         (at, "c1", 3, Asks::Search(FIRST, 237), r),
-        (
-            at,
-            "c1",
-            4,
-            Asks::Search(FIRST, 236),
-            "SearchResultsTooBig: 237 of 236",
-        ),
+        (at, "c1", 4, Asks::Search(FIRST, 236), TOO_BIG),
         // An earlier moment changes nothing.
-        (
-            early,
-            "c2",
-            5,
-            Asks::New,
-            "2-00000000-0000-0000-0000-000000000005 of c2",
-        ),
-        (
-            early,
-            "c2",
-            6,
-            Asks::Publish(SECOND, "s", single),
-            "published",
-        ),
+        (early, "c2", 5, Asks::New, SECOND_OF_C2),
+        (early, "c2", 6, Asks::Single(SECOND, "s"), "published"),
         (early, "c2", 7, Asks::Search(SECOND, 1000), r_and_s),
         // A refusal takes the moment in.
-        (
-            at + 1,
-            "c2",
-            8,
-            Asks::Publish(FIRST, "x", multi),
-            "AccessDenied: AccessDenied",
-        ),
-        (
-            early,
-            "c1",
-            9,
-            Asks::Publish(FIRST, "t", single),
-            "published",
-        ),
-        (
-            early,
-            "c2",
-            10,
-            Asks::PublishForever(SECOND, "u"),
-            "published",
-        ),
+        (at + 1, "c2", 8, Asks::Multi(FIRST, "x"), DENIED),
+        (early, "c1", 9, Asks::Single(FIRST, "t"), "published"),
+        (early, "c2", 10, Asks::Forever(SECOND, "u"), "published"),
         (early, "c2", 11, Asks::Search(SECOND, 1000), r_u_and_t),
         (early, "c1", 12, Asks::End(FIRST), "ended"),
         (early, "c2", 13, Asks::Search(SECOND, 1000), u),
-        (
-            early,
-            "c2",
-            14,
-            Asks::Publish(SECOND, "v", multi),
-            "published",
-        ),
+        (early, "c2", 14, Asks::Multi(SECOND, "v"), "published"),
         // A new session ends the former one.
-        (
-            early,
-            "c2",
-            14,
-            Asks::New,
-            "3-00000000-0000-0000-0000-00000000000e of c2",
-        ),
+        (early, "c2", 14, Asks::New, THIRD_OF_C2),
         (early, "c2", 15, Asks::Search(THIRD, 1000), u),
         (early, "c2", 16, Asks::Search(SECOND, 1000), MISSING),
-        (early, "c2", 17, Asks::Publish(SECOND, "w", multi), MISSING),
+        (early, "c2", 17, Asks::Multi(SECOND, "w"), MISSING),
     ];
     expect_history(&rt, 0, &turns)
 }

@@ -14,7 +14,7 @@ use Rattle.ifmap_filter.specs.declared.filters.Test.{Test}
 use Rattle.ifmap_filter.specs.declared.filters.Filter.{Filter}
 use Rattle.ifmap_filter.specs.declared.tokens.Token.{Token}
 use Rattle.ifmap_filter.specs.declared.tokens.Token.TheVariants.{Any, OpenBracket, Name}
-use Rattle.ifmap_filter.specs.Grammar.{AreTests, AsksFor, IsFilter, TakesAnds, TakesFactor, TakesMore, TakesOrs, TakesPredicate, TakesTest, and_word, bare, joined, or_word, space_of}
+use Rattle.ifmap_filter.specs.Grammar.{AreTests, AsksFor, IsFilter, TakesAnds, TakesFactor, TakesMore, TakesOrs, TakesPredicate, TakesTest, and_word, bare, deepest, joined, or_word, space_of}
 use Rattle.ifmap_filter.specs.Progress.{MoreFactors, MoreTests, PredicateFirst, TestFirst, done_part, gathered, is_word, test_of}
 
 -- (1) words
@@ -78,7 +78,7 @@ module _ (scope : Scope) where
           let is = only test.name (subst (λ (h : Token). AsksFor scope h test.name) (sym same.0) takes.asks) in (
             test.predicate,
             mid,
-            subst (λ (ts : List Token). TakesPredicate scope ts test.predicate mid) (sym same.1) takes.holds,
+            subst (λ (ts : List Token). TakesPredicate scope deepest ts test.predicate mid) (sym same.1) takes.holds,
             subst (λ (n : Option element.Name). MoreTests scope filter (done ++ test_of n test.predicate ∷ []) mid) is rest,
           )),
       (λ (p, mid, takes, rest).
@@ -94,10 +94,10 @@ module _ (scope : Scope) where
     pub started : (t : Token) (more : List Token) → IsFilter scope (t ∷ more) filter ↔ TestFirst scope filter [] (t ∷ more)
     started t more = (
       (λ is. from filter.tests is refl),
-      (λ (test, mid, takes, (tests, others, is)). subst (AreTests scope (t ∷ more)) (sym is) (mid, takes, others)),
+      (λ (test, mid, takes, (tests, others, is)). subst (AreTests scope deepest (t ∷ more)) (sym is) (mid, takes, others)),
     )
       where
-        from : (tests : List Test) → AreTests scope (t ∷ more) tests → filter.tests ≡ tests → TestFirst scope filter [] (t ∷ more)
+        from : (tests : List Test) → AreTests scope deepest (t ∷ more) tests → filter.tests ≡ tests → TestFirst scope filter [] (t ∷ more)
         from [] e is = cc
         from (test ∷ tests) (mid, takes, others) is = (test, mid, takes, (tests, others, is))
 
@@ -107,16 +107,16 @@ module _ (scope : Scope) where
       (λ (test, mid, takes, (tests, others, is)). (test ∷ tests, (more, mid, refl, takes, others), is ∙ joins done test tests)),
     )
       where
-        from : (tests : List Test) → TakesMore or_word (TakesTest scope) (or_word ∷ more) tests [] → filter.tests ≡ done ++ tests → TestFirst scope filter done more
+        from : (tests : List Test) → TakesMore or_word (TakesTest scope deepest) (or_word ∷ more) tests [] → filter.tests ≡ done ++ tests → TestFirst scope filter done more
         from [] e is = cc
         from (test ∷ tests) (after, mid, e, takes, others) is =
             let tail : after ≡ more = cc in
-            (test, mid, subst (λ (ts : List Token). TakesTest scope ts test mid) tail takes, (tests, others, is ∙ sym (joins done test tests)))
+            (test, mid, subst (λ (ts : List Token). TakesTest scope deepest ts test mid) tail takes, (tests, others, is ∙ sym (joins done test tests)))
 
     pub tested_other : (done : List Test) (t : Token) → t ≢ or_word → (more : List Token) → MoreTests scope filter done (t ∷ more) → ⊥
     tested_other done t other more (tests, takes, is) = from tests takes
       where
-        from : (tests : List Test) → TakesMore or_word (TakesTest scope) (t ∷ more) tests [] → ⊥
+        from : (tests : List Test) → TakesMore or_word (TakesTest scope deepest) (t ∷ more) tests [] → ⊥
         from [] e = cc
         from (test ∷ tests) (after, mid, e, takes, others) = let h : t ≡ or_word = cc in other h
 
@@ -124,7 +124,7 @@ module _ (scope : Scope) where
         → PredicateFirst scope filter done name (t ∷ more) ↔ MoreTests scope filter (done ++ test_of name None ∷ []) (t ∷ more)
     bare_named done name t other more = ((λ (p, mid, takes, rest). from p mid takes rest), (λ rest. (None, t ∷ more, refl, rest)))
       where
-        from : (p : Option Predicate) (mid : List Token) → TakesPredicate scope (t ∷ more) p mid → MoreTests scope filter (done ++ test_of name p ∷ []) mid
+        from : (p : Option Predicate) (mid : List Token) → TakesPredicate scope deepest (t ∷ more) p mid → MoreTests scope filter (done ++ test_of name p ∷ []) mid
             → MoreTests scope filter (done ++ test_of name None ∷ []) (t ∷ more)
         from None mid e rest = subst (MoreTests scope filter (done ++ test_of name None ∷ [])) (sym e) rest
         from (Some p) mid (inner, e, takes) rest = let h : t ≡ OpenBracket = cc in absurd (other h)

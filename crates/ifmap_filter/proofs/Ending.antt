@@ -12,7 +12,7 @@ use Rattle.ifmap_filter.specs.declared.standing.Asked.{Asked}
 use Rattle.ifmap_filter.specs.declared.standing.Asked.TheVariants as asked
 use Rattle.ifmap_filter.specs.declared.tokens.Token.{Token}
 use Rattle.ifmap_filter.specs.declared.tokens.Token.TheVariants.{Any, CloseBracket, CloseParenthesis, EqualsSign, At, Name, Literal}
-use Rattle.ifmap_filter.specs.Grammar.{AreTests, IsFilter, TakesAnds, TakesFactor, TakesMore, TakesPredicate, TakesTest, and_word, bare, or_word}
+use Rattle.ifmap_filter.specs.Grammar.{AreTests, IsFilter, TakesAnds, TakesFactor, TakesMore, TakesPredicate, TakesTest, and_word, bare, deepest, or_word}
 use Rattle.ifmap_filter.specs.Progress.{Closes, Context, Where, Start, TestDue, Named, Tested, FactorDue, LocalDue, EqualsDue, LiteralDue, FactorDone, AfterFactor, GoesOn, MoreTests, PredicateFirst, TestFirst, compared, done_part, gathered, test_of, whole, with_factor}
 use Rattle.ifmap_filter.proofs.Continuing.{no_more}
 
@@ -30,7 +30,7 @@ module _ (scope : Scope) where
     (λ e. ([], refl, ap (λ (f : Filter). f.tests) e ∙ sym (append-nil done))),
   )
     where
-      from : (tests : List Test) → TakesMore or_word (TakesTest scope) [] tests [] → filter.tests ≡ done ++ tests → filter ≡ record { tests = done }
+      from : (tests : List Test) → TakesMore or_word (TakesTest scope deepest) [] tests [] → filter.tests ≡ done ++ tests → filter ≡ record { tests = done }
       from [] e is = let same : filter.tests ≡ done = is ∙ append-nil done in (λ i. record { tests = same i })
       from (test ∷ tests) (after, mid, e, takes, others) is = cc
 
@@ -44,7 +44,7 @@ module _ (scope : Scope) where
     (λ e. (None, [], refl, (nothing_more filter (done ++ test_of name None ∷ [])).1 e)),
   )
     where
-      from : (p : Option Predicate) (mid : List Token) → TakesPredicate scope [] p mid → MoreTests scope filter (done ++ test_of name p ∷ []) mid
+      from : (p : Option Predicate) (mid : List Token) → TakesPredicate scope deepest [] p mid → MoreTests scope filter (done ++ test_of name p ∷ []) mid
           → filter ≡ record { tests = done ++ test_of name None ∷ [] }
       from None mid e rest =
           (nothing_more filter (done ++ test_of name None ∷ [])).0 (subst (MoreTests scope filter (done ++ test_of name None ∷ [])) (sym e) rest)
@@ -53,10 +53,10 @@ module _ (scope : Scope) where
   nothing_started : (filter : Filter) → IsFilter scope [] filter ↔ (filter ≡ record { tests = [] })
   nothing_started filter = (
     (λ is. from filter.tests is refl),
-    (λ e. subst (AreTests scope []) (sym (ap (λ (f : Filter). f.tests) e)) refl),
+    (λ e. subst (AreTests scope deepest []) (sym (ap (λ (f : Filter). f.tests) e)) refl),
   )
     where
-      from : (tests : List Test) → AreTests scope [] tests → filter.tests ≡ tests → filter ≡ record { tests = [] }
+      from : (tests : List Test) → AreTests scope deepest [] tests → filter.tests ≡ tests → filter ≡ record { tests = [] }
       from [] e is = (λ i. record { tests = is i })
       from (test ∷ tests) (mid, takes, others) is = let e : [] ≡ takes.head ∷ takes.after = takes.tokens_are in cc
 

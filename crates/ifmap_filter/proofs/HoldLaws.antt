@@ -8,7 +8,7 @@ use Rattle.ifmap_filter.specs.declared.filters.Predicate.TheVariants.{rolls-And,
 use Rattle.ifmap_filter.specs.declared.filters.Predicate.TheOpen.{Predicate-F}
 use Rattle.ifmap_filter.specs.Meets.{holds, holds_of}
 
-all_mapped : {X : Type 0} (p : X → Bool) (xs : List X) → list_all (λ b. b) (map p xs) ≡ list_all p xs
+pub all_mapped : {X : Type 0} (p : X → Bool) (xs : List X) → list_all (λ b. b) (map p xs) ≡ list_all p xs
 all_mapped p [] = refl
 all_mapped p (x ∷ xs) = ap (λ b. p x && b) (all_mapped p xs)
 

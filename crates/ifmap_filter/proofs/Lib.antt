@@ -4,8 +4,13 @@ pub mod Deciding
 pub mod Ending
 pub mod General
 pub mod HoldLaws
+pub mod Lexed
+pub mod LexedParts
 pub mod ParseLaws
+pub mod PrintLaws
+pub mod PrintedBack
 pub mod Reaching
+pub mod SpaceLaws
 pub mod StandingLaws
 pub mod Stepping
 pub mod TextLaws

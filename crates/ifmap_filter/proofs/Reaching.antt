@@ -27,7 +27,7 @@ IsAfter cs rest = (front : List ℕ) × (cs ≡ front ++ rest)
 abbrev pub IsLater : List ℕ → List ℕ → Type 0
 IsLater cs rest = (c : ℕ) × (front : List ℕ) × (cs ≡ c ∷ (front ++ rest))
 
-after_is : (p : ℕ → Bool) (cs : List ℕ) → IsAfter cs (after_while p cs)
+pub after_is : (p : ℕ → Bool) (cs : List ℕ) → IsAfter cs (after_while p cs)
 after_is p [] = ([], refl)
 after_is p (c ∷ cs) = by (after_is p cs) (p c)
   where
@@ -50,7 +50,7 @@ after_later cs mid rest (x ∷ front, e) (c, more, f) =
 some_inj : (t : Token) (rest : List ℕ) (k : Taken) → Some k ≡ Some (taken t rest) → k.rest ≡ rest
 some_inj t rest k e = let same : k ≡ taken t rest = cc in ap (λ (x : Taken). x.rest) same
 
-inner : (c : ℕ) → is_name_start c ≡ true → is_name_character c ≡ true
+pub inner : (c : ℕ) → is_name_start c ≡ true → is_name_character c ≡ true
 inner c starts = rw starts refl
 
 part_later : (c : ℕ) (cs : List ℕ) → is_name_start c ≡ true → IsLater (c ∷ cs) (after_while is_name_character (c ∷ cs))

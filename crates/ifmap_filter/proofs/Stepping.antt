@@ -94,14 +94,14 @@ module _ (scope : Scope) where
     opens (Some p, mid, (inner, e, takes), rest) =
         let tail : inner ≡ more = cc in
         (or_part scope deepest (Closes scope filter done name deepest []) more).0
-        (p, CloseBracket ∷ mid, subst (λ (ts : List Token). TakesOrPart scope ts p (CloseBracket ∷ mid)) tail takes, (mid, refl, rest))
+        (p, CloseBracket ∷ mid, subst (λ (ts : List Token). TakesOrPart scope deepest ts p (CloseBracket ∷ mid)) tail takes, (mid, refl, rest))
 
     opened : FactorFirst scope filter deepest (record { tests = done; name = name; outer = []; ors = []; ands = [] }) more
         → PredicateFirst scope filter done name (OpenBracket ∷ more)
     opened first =
         let part = (or_part scope deepest (Closes scope filter done name deepest []) more).1 first in
         let e = part.3.1 in
-        (Some part.0, part.3.0, (more, refl, subst (λ (ts : List Token). TakesOrPart scope more part.0 ts) e part.2), part.3.2)
+        (Some part.0, part.3.0, (more, refl, subst (λ (ts : List Token). TakesOrPart scope deepest more part.0 ts) e part.2), part.3.2)
 
   right_named : (n : ℕ) (done : List Test) (name : Option element.Name) → n + 0 ≡ deepest → (t : Token)
       → IsRight n (Named done name) t (step_named done name t)

@@ -91,13 +91,13 @@ abbrev pub TakesFactor : Scope → ℕ → Rule Predicate
 TakesFactor scope zero ts p rest = TakesComparison scope ts p rest
 TakesFactor scope (suc n) ts p rest = TakesComparison scope ts p rest ⊎ TakesGroup (TakesOrs (TakesFactor scope n)) ts p rest
 
--- how deep parentheses may nest
+-- how deep parentheses may nest in a filter
 unfoldable pub deepest : ℕ
 deepest = 64
 
--- what stands in brackets
-abbrev pub TakesOrPart : Scope → Rule Predicate
-TakesOrPart scope = TakesOrs (TakesFactor scope deepest)
+-- what stands in brackets, where parentheses nest at most so deep
+abbrev pub TakesOrPart : Scope → ℕ → Rule Predicate
+TakesOrPart scope depth = TakesOrs (TakesFactor scope depth)
 
 -- the name that a test asks for: `*` for any
 abbrev pub AsksFor : Scope → Token → Option element.Name → Type 0
@@ -105,22 +105,28 @@ AsksFor scope t None = t ≡ Any
 AsksFor scope t (Some name) = (q : Qualified) × (t ≡ Name q) × StandsFor scope q name
 
 -- a predicate in brackets, or none
-abbrev pub TakesPredicate : Scope → Rule (Option Predicate)
-TakesPredicate scope ts None rest = ts ≡ rest
-TakesPredicate scope ts (Some p) rest = (inner : List Token) × (ts ≡ OpenBracket ∷ inner) × TakesOrPart scope inner p (CloseBracket ∷ rest)
+abbrev pub TakesPredicate : Scope → ℕ → Rule (Option Predicate)
+TakesPredicate scope depth ts None rest = ts ≡ rest
+TakesPredicate scope depth ts (Some p) rest =
+    (inner : List Token) × (ts ≡ OpenBracket ∷ inner) × TakesOrPart scope depth inner p (CloseBracket ∷ rest)
 
-pub record TakesTest (scope : Scope) (ts : List Token) (test : Test) (rest : List Token) : Type 0 where
+pub record TakesTest (scope : Scope) (depth : ℕ) (ts : List Token) (test : Test) (rest : List Token) : Type 0 where
   pub head : Token
   pub after : List Token
   pub tokens_are : ts ≡ head ∷ after
   pub asks : AsksFor scope head test.name
-  pub holds : TakesPredicate scope after test.predicate rest
+  pub holds : TakesPredicate scope depth after test.predicate rest
 
 -- no tests, or tests joined by `or`
-abbrev pub AreTests : Scope → List Token → List Test → Type 0
-AreTests scope ts [] = ts ≡ []
-AreTests scope ts (test ∷ tests) = (mid : List Token) × TakesTest scope ts test mid × TakesMore or_word (TakesTest scope) mid tests []
+abbrev pub AreTests : Scope → ℕ → List Token → List Test → Type 0
+AreTests scope depth ts [] = ts ≡ []
+AreTests scope depth ts (test ∷ tests) =
+    (mid : List Token) × TakesTest scope depth ts test mid × TakesMore or_word (TakesTest scope depth) mid tests []
+
+-- the tokens are this filter, with parentheses that nest at most so deep
+abbrev pub IsFilterWithin : ℕ → Scope → List Token → Filter → Type 0
+IsFilterWithin depth scope ts filter = AreTests scope depth ts filter.tests
 
 -- the tokens are this filter
 abbrev pub IsFilter : Scope → List Token → Filter → Type 0
-IsFilter scope ts filter = AreTests scope ts filter.tests
+IsFilter = IsFilterWithin deepest

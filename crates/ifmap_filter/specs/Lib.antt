@@ -4,6 +4,8 @@ pub mod Meets
 pub mod Tokens
 pub mod Grammar
 pub mod Texts
+pub mod Spaces
+pub mod Printing
 pub mod Lexing
 pub mod Laws
 pub mod Progress

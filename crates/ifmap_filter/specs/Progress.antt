@@ -1,5 +1,6 @@
 -- Where a reader of filters stands, how a filter goes on from there, and what one more token makes of it.
 use Rattle.std.specs.Prelude.{◌≡◌, ◌&&◌, ℕ, suc, Bool, if◌then◌else◌, nat_lt, List, [], ◌∷◌, ◌++◌, codes, length, reverse, Option, Some, None}
+use Rattle.std.specs.Option.{option_map}
 use Rattle.std.specs.Str.{bytes_eq}
 use Rattle.ifmap_elem.specs.declared.elements.Name as element
 use Rattle.ifmap_elem.specs.declared.tokens.Qualified.{Qualified}
@@ -52,6 +53,10 @@ where_is (standing.EqualsDue i a) = EqualsDue (context i) a
 where_is (standing.LiteralDue i a) = LiteralDue (context i) a
 where_is (standing.FactorDone i) = FactorDone (context i)
 
+-- the reader stands at this place; or it stands nowhere and there is none
+abbrev pub StandsAt : Option Standing → Option Where → Type 0
+StandsAt standing place = option_map where_is standing ≡ place
+
 -- parts that are joined, of which there is one at least
 abbrev pub gathered : (List Predicate → Predicate) → List Predicate → Predicate
 gathered join [] = join []
@@ -89,14 +94,14 @@ pub record MoreFactors (scope : Scope) (n : ℕ) (Then : Predicate → List Toke
 module _ (scope : Scope) (filter : Filter) where
   -- after these tests
   abbrev pub MoreTests : List Test → List Token → Type 0
-  MoreTests done ts = (tests : List Test) × TakesMore or_word (TakesTest scope) ts tests [] × (filter.tests ≡ done ++ tests)
+  MoreTests done ts = (tests : List Test) × TakesMore or_word (TakesTest scope deepest) ts tests [] × (filter.tests ≡ done ++ tests)
 
   abbrev pub TestFirst : List Test → List Token → Type 0
-  TestFirst done ts = (test : Test) × (mid : List Token) × TakesTest scope ts test mid × MoreTests (done ++ test ∷ []) mid
+  TestFirst done ts = (test : Test) × (mid : List Token) × TakesTest scope deepest ts test mid × MoreTests (done ++ test ∷ []) mid
 
   abbrev pub PredicateFirst : List Test → Option element.Name → List Token → Type 0
   PredicateFirst done name ts =
-      (p : Option Predicate) × (mid : List Token) × TakesPredicate scope ts p mid × MoreTests (done ++ test_of name p ∷ []) mid
+      (p : Option Predicate) × (mid : List Token) × TakesPredicate scope deepest ts p mid × MoreTests (done ++ test_of name p ∷ []) mid
 
   -- after an or-part, whose own parentheses may nest so deep
   abbrev pub Closes : List Test → Option element.Name → ℕ → List Frame → Predicate → List Token → Type 0

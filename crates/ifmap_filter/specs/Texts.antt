@@ -6,16 +6,20 @@ use Rattle.ifmap_filter.specs.declared.errors.FilterError.{FilterError}
 use Rattle.ifmap_filter.specs.declared.errors.FilterError.TheVariants.{NotAFilter, NoMemory}
 use Rattle.ifmap_filter.specs.declared.filters.Filter.{Filter}
 use Rattle.ifmap_filter.specs.declared.tokens.Token.{Token}
-use Rattle.ifmap_filter.specs.Grammar.{IsFilter}
+use Rattle.ifmap_filter.specs.Grammar.{IsFilter, IsFilterWithin, deepest}
 use Rattle.ifmap_filter.specs.Tokens.{IsEnd, Takes, without_white}
 
--- the text is tokens, and the tokens are this filter
-pub record Writes (text : List ℕ) (scope : Scope) (filter : Filter) : Type 0 where
+-- the text is tokens, and the tokens are this filter, with parentheses that nest at most so deep
+pub record WritesWithin (depth : ℕ) (text : List ℕ) (scope : Scope) (filter : Filter) : Type 0 where
   pub tokens : List Token
   pub rest : List ℕ
   pub lexed : To Takes (chars text) tokens rest
   pub is_end : IsEnd rest
-  pub filter_is : IsFilter scope tokens filter
+  pub filter_is : IsFilterWithin depth scope tokens filter
+
+-- the text writes this filter
+abbrev pub Writes : List ℕ → Scope → Filter → Type 0
+Writes = WritesWithin deepest
 
 -- some filter begins with these tokens
 pub record BeginsFilter (scope : Scope) (ts : List Token) : Type 0 where

@@ -1,9 +1,9 @@
 //! The token at the front of a text.
-ghost use Rattle.std.specs.Prelude.{◌≡◌, ◌∷◌, [], chars, IfNone, IfOk, IfSome, Some, None};
+ghost use Rattle.std.specs.Prelude.{◌≡◌, ◌∷◌, [], chars, IfNone, IfOk, IfSome, None};
 ghost use Rattle.ifmap_elem.specs.Chars.{is_white};
 ghost use Rattle.ifmap_elem.specs.Names.{is_name_character, is_name_start};
-ghost use Rattle.ifmap_filter.specs.Lexing.{Cuts};
-ghost use Rattle.ifmap_filter.specs.Tokens.{is_but, is_quote, literal_at, name_at, name_token, prefixed_name_at, symbol_of, taken, token_at, without_white};
+ghost use Rattle.ifmap_filter.specs.Lexing.{Cuts, IsTaken};
+ghost use Rattle.ifmap_filter.specs.Tokens.{is_but, is_quote, literal_at, name_at, name_token, prefixed_name_at, symbol_of, token_at, without_white};
 
 use crate::tokens::Token;
 use ifmap_elem::Text;
@@ -12,7 +12,8 @@ use std::alloc::{AllocError as NoMemory, Global};
 
 // The token at the front, and what is left; none where no token stands there.
 pub(crate) fn token_at(alloc: Global, text: &str) -> Result<Option<(Token, &str)>, NoMemory>
-    ensures found { IfOk result (λ o. IfSome o (λ f. token_at (chars text.now) ≡ Some (taken f.0 (chars f.1.now)))) }
+    ensures found { IfOk result (λ o.
+        IfSome o (λ f. IsTaken (token_at (chars text.now)) f.0 f.1.now)) }
     ensures none { IfOk result (λ o. IfNone o (token_at (chars text.now) ≡ None)) }
 {
     let Some((first, rest)) = first_character(text) else {
@@ -97,7 +98,8 @@ fn is_white(character: char) -> bool
 
 // The literal after its first quote, and what is left.
 fn literal_at(alloc: Global, quote: char, text: &str) -> Result<Option<(Token, &str)>, NoMemory>
-    ensures found { IfOk result (λ o. IfSome o (λ f. literal_at quote (chars text.now) ≡ Some (taken f.0 (chars f.1.now)))) }
+    ensures found { IfOk result (λ o.
+        IfSome o (λ f. IsTaken (literal_at quote (chars text.now)) f.0 f.1.now)) }
     ensures none { IfOk result (λ o. IfNone o (literal_at quote (chars text.now) ≡ None)) }
 {
     let (own, closed) = split_literal(quote, text);
@@ -122,7 +124,8 @@ fn split_literal(quote: char, text: &str) -> (&str, &str)
 
 // The name at the front, and what is left: a colon after its first part makes that a prefix.
 fn name_at(alloc: Global, text: &str) -> Result<Option<(Token, &str)>, NoMemory>
-    ensures found { IfOk result (λ o. IfSome o (λ f. name_at (chars text.now) ≡ Some (taken f.0 (chars f.1.now)))) }
+    ensures found { IfOk result (λ o.
+        IfSome o (λ f. IsTaken (name_at (chars text.now)) f.0 f.1.now)) }
     ensures none { IfOk result (λ o. IfNone o (name_at (chars text.now) ≡ None)) }
 {
     let (part, after) = split_name(text);
@@ -160,8 +163,10 @@ fn prefixed_name_at<'a>(
     prefix: &str,
     text: &'a str,
 ) -> Result<Option<(Token, &'a str)>, NoMemory>
-    ensures found { IfOk result (λ o. IfSome o (λ f. prefixed_name_at prefix.now (chars text.now) ≡ Some (taken f.0 (chars f.1.now)))) }
-    ensures none { IfOk result (λ o. IfNone o (prefixed_name_at prefix.now (chars text.now) ≡ None)) }
+    ensures found { IfOk result (λ o.
+        IfSome o (λ f. IsTaken (prefixed_name_at prefix.now (chars text.now)) f.0 f.1.now)) }
+    ensures none { IfOk result (λ o.
+        IfNone o (prefixed_name_at prefix.now (chars text.now) ≡ None)) }
 {
     match first_character(text) {
         Some((first, _rest)) => {

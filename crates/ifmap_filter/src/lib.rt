@@ -1,6 +1,6 @@
-//! Filters of searches, subscriptions and deletes: tests of an element's name, its attributes and its
-//! children, joined by `and` and `or`. `parse` reads one from text, and `matches`
-//! tells whether an element meets it.
+//! Filters of searches, subscriptions and deletes: tests of an element's name, its attributes and
+//! its children, joined by `and` and `or`. `parse` reads one from text, `print` writes it, `spaces`
+//! gives the namespaces that a print needs, and `matches` tells whether an element meets it.
 #![tactic(auto)]
 
 pub mod errors;
@@ -11,6 +11,8 @@ mod lexing;
 pub mod matching;
 mod naming;
 pub mod parsing;
+pub mod printing;
+pub mod spaces;
 mod standing;
 pub mod tokens;
 

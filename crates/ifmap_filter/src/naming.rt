@@ -11,7 +11,7 @@ use ifmap_elem::{Name, Text};
 use ifmap_reader::Scope;
 use std::alloc::{AllocError as NoMemory, Global};
 
-const XML_SPACE: &str = "http://www.w3.org/XML/1998/namespace";
+pub(crate) const XML_SPACE: &str = "http://www.w3.org/XML/1998/namespace";
 
 // The name that a qualified name stands for; none where its prefix is not in scope.
 pub(crate) fn name_of(

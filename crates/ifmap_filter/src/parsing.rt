@@ -44,7 +44,8 @@ fn read_token<'a>(
     rest: &'a str,
     at: u64,
 ) -> Result<(Standing, &'a str), FilterError>
-    ensures next { IfOk result (λ n. StepsOn scope.now (where_is standing) rest.now (where_is n.0) n.1.now) }
+    ensures next { IfOk result (λ n.
+        StepsOn scope.now (where_is standing) rest.now (where_is n.0) n.1.now) }
     ensures refused { IfErr result (λ e. IsRefused scope.now (where_is standing) rest.now at e) }
 {
     let Some((token, after)) = token_at(alloc, rest)? else {

@@ -1,7 +1,6 @@
 //! Where a reader of filters stands, and what one more token makes of it.
 ghost use Rattle.std.specs.Prelude.{◌≡◌, ◌++◌, ◌∷◌, [], IfErr, IfOk};
-ghost use Rattle.std.specs.Option.{option_map};
-ghost use Rattle.ifmap_filter.specs.Progress.{IsNotSingle, compared, context, done_part, gathered, inner_place, next_part, step, step_done, step_equals, step_factor, step_joining, step_literal, step_local, step_named, step_test, step_tested, where_is, whole, with_factor};
+ghost use Rattle.ifmap_filter.specs.Progress.{IsNotSingle, StandsAt, compared, context, done_part, gathered, inner_place, next_part, step, step_done, step_equals, step_factor, step_joining, step_literal, step_local, step_named, step_test, step_tested, where_is, whole, with_factor};
 ghost use Rattle.ifmap_filter.specs.declared.filters.Predicate.{And, Or};
 ghost use Rattle.ifmap_filter.specs.declared.tokens.Token.TheVariants.{CloseBracket, CloseParenthesis};
 
@@ -66,7 +65,7 @@ pub(crate) fn take_token(
     standing: Standing,
     token: Token,
 ) -> Result<Option<Standing>, NoMemory>
-    ensures { IfOk result (λ o. option_map where_is o ≡ step scope.now (where_is standing) token) }
+    ensures { IfOk result (λ o. StandsAt o (step scope.now (where_is standing) token)) }
 {
     match standing {
         Standing::Start => take_test(alloc, scope, Many(Vec::new(alloc)), token),
@@ -87,7 +86,7 @@ fn take_test(
     tests: Many<Test>,
     token: Token,
 ) -> Result<Option<Standing>, NoMemory>
-    ensures { IfOk result (λ o. option_map where_is o ≡ step_test scope.now tests token) }
+    ensures { IfOk result (λ o. StandsAt o (step_test scope.now tests token)) }
 {
     match token {
         Token::Any => Ok(Some(Standing::Named(tests, None))),
@@ -105,7 +104,7 @@ fn take_named(
     name: Option<Name>,
     token: Token,
 ) -> Result<Option<Standing>, NoMemory>
-    ensures { IfOk result (λ o. option_map where_is o ≡ step_named tests name token) }
+    ensures { IfOk result (λ o. StandsAt o (step_named tests name token)) }
 {
     match token {
         Token::OpenBracket => {
@@ -137,7 +136,7 @@ fn with_test(tests: Many<Test>, test: Test) -> Result<Many<Test>, NoMemory>
 }
 
 fn take_tested(tests: Many<Test>, token: Token) -> Option<Standing>
-    ensures { option_map where_is result ≡ step_tested tests token }
+    ensures { StandsAt result (step_tested tests token) }
 {
     match token {
         Token::Name(written) => {
@@ -157,7 +156,7 @@ fn take_factor(
     inside: Inside,
     token: Token,
 ) -> Result<Option<Standing>, NoMemory>
-    ensures { IfOk result (λ o. option_map where_is o ≡ step_factor scope.now (context inside) token) }
+    ensures { IfOk result (λ o. StandsAt o (step_factor scope.now (context inside) token)) }
 {
     match token {
         Token::OpenParenthesis => open_group(alloc, inside),
@@ -173,7 +172,7 @@ fn take_factor(
 // After an opening parenthesis: none where it is one too deep.
 #[tactic(auto, using(crate::proofs::StandingLaws::too_deep, crate::proofs::StandingLaws::goes_deeper, crate::proofs::StandingLaws::pushed))]
 fn open_group(alloc: Global, inside: Inside) -> Result<Option<Standing>, NoMemory>
-    ensures { IfOk result (λ o. option_map where_is o ≡ inner_place (context inside)) }
+    ensures { IfOk result (λ o. StandsAt o (inner_place (context inside))) }
 {
     if inside.outer.0.len() >= DEEPEST {
         return Ok(None);
@@ -198,7 +197,7 @@ fn open_group(alloc: Global, inside: Inside) -> Result<Option<Standing>, NoMemor
 }
 
 fn take_local(inside: Inside, token: Token) -> Option<Standing>
-    ensures { option_map where_is result ≡ step_local (context inside) token }
+    ensures { StandsAt result (step_local (context inside) token) }
 {
     match token {
         Token::Name(written) => {
@@ -213,7 +212,7 @@ fn take_local(inside: Inside, token: Token) -> Option<Standing>
 }
 
 fn take_equals(inside: Inside, asked: Asked, token: Token) -> Option<Standing>
-    ensures { option_map where_is result ≡ step_equals (context inside) asked token }
+    ensures { StandsAt result (step_equals (context inside) asked token) }
 {
     match token {
         Token::EqualsSign => Some(Standing::LiteralDue(inside, asked)),
@@ -222,7 +221,7 @@ fn take_equals(inside: Inside, asked: Asked, token: Token) -> Option<Standing>
 }
 
 fn take_literal(inside: Inside, asked: Asked, token: Token) -> Result<Option<Standing>, NoMemory>
-    ensures { IfOk result (λ o. option_map where_is o ≡ step_literal (context inside) asked token) }
+    ensures { IfOk result (λ o. StandsAt o (step_literal (context inside) asked token)) }
 {
     match token {
         Token::Literal(value) => {
@@ -251,7 +250,7 @@ fn with_factor(inside: Inside, factor: Predicate) -> Result<Inside, NoMemory>
 }
 
 fn take_done(alloc: Global, inside: Inside, token: Token) -> Result<Option<Standing>, NoMemory>
-    ensures { IfOk result (λ o. option_map where_is o ≡ step_done (context inside) token) }
+    ensures { IfOk result (λ o. StandsAt o (step_done (context inside) token)) }
 {
     match token {
         Token::Name(written) => take_joining(alloc, inside, &written),
@@ -267,7 +266,7 @@ fn take_joining(
     inside: Inside,
     written: &Qualified,
 ) -> Result<Option<Standing>, NoMemory>
-    ensures { IfOk result (λ o. option_map where_is o ≡ step_joining (context inside) written.now) }
+    ensures { IfOk result (λ o. StandsAt o (step_joining (context inside) written.now)) }
 {
     if is_word("and", written) {
         return Ok(Some(Standing::FactorDue(inside)));
@@ -301,7 +300,7 @@ fn next_part(alloc: Global, inside: Inside) -> Result<Inside, NoMemory>
 
 // After a closing parenthesis: none where none is open.
 fn close_group(inside: Inside) -> Result<Option<Standing>, NoMemory>
-    ensures { IfOk result (λ o. option_map where_is o ≡ step_done (context inside) CloseParenthesis) }
+    ensures { IfOk result (λ o. StandsAt o (step_done (context inside) CloseParenthesis)) }
 {
     let Inside {
         tests,
@@ -327,7 +326,7 @@ fn close_group(inside: Inside) -> Result<Option<Standing>, NoMemory>
 
 // After a closing bracket: none where parentheses are open.
 fn close_test(inside: Inside) -> Result<Option<Standing>, NoMemory>
-    ensures { IfOk result (λ o. option_map where_is o ≡ step_done (context inside) CloseBracket) }
+    ensures { IfOk result (λ o. StandsAt o (step_done (context inside) CloseBracket)) }
 {
     let Inside {
         tests,

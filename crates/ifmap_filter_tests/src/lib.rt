@@ -1,5 +1,5 @@
-//! Tests of filters: which texts write which, which elements meet which, by cases that were judged by
-//! hand or by another program, and copies.
+//! Tests of filters: which texts write which and what is printed of them, which elements meet which,
+//! by cases that were judged by hand or by another program, and copies.
 #![tactic(auto)]
 
 #[cfg(test)]
@@ -8,5 +8,7 @@ mod makers;
 mod matching;
 #[cfg(test)]
 mod parsing;
+#[cfg(test)]
+mod printing;
 #[cfg(test)]
 mod rows;

@@ -95,3 +95,20 @@ pub(crate) fn role(alloc: Global) -> Result<Element, NoMemory> {
     children.push(Child::Element(none))?;
     element_of(alloc, "role", attributes, children)
 }
+
+// `m:role[name='a' or @x='b' and c='d']`, where `m` is this namespace.
+pub(crate) fn or_of_and(alloc: Global, space: &str) -> Result<Filter, NoMemory> {
+    let both = parts_of(
+        alloc,
+        &[Comparison::Attr("x", "b"), Comparison::Child("", "c", "d")],
+    )?;
+    let mut parts = Vec::new(alloc);
+    parts.push(predicate_of(alloc, Comparison::Child("", "name", "a"))?)?;
+    parts.push(Predicate::And(both))?;
+    let predicate = Predicate::Or(Many(parts));
+    filter_of(
+        alloc,
+        Some(Name::new(alloc, space, "role")?),
+        Some(predicate),
+    )
+}

@@ -1,6 +1,6 @@
 //! Which elements meet which filters, judged by hand.
 use crate::makers::Comparison::{Attr, Child};
-use crate::makers::{Comparison, filter_of, parts_of, predicate_of, role};
+use crate::makers::{Comparison, filter_of, or_of_and, parts_of, predicate_of, role};
 use ifmap_elem::{Copied, Equals, Many, Name};
 use ifmap_filter::{Filter, Predicate};
 use std::alloc::{AllocError as NoMemory, Global};
@@ -102,20 +102,10 @@ fn names_are_met_by_their_elements_and_no_name_by_all(rt: HostRuntime) -> Result
     Ok(())
 }
 
-// `m:role[name='a' or @x='b' and c='d']`
-fn or_of_and(alloc: Global) -> Result<Filter, NoMemory> {
-    let both = parts_of(alloc, &[Attr("x", "b"), Child("", "c", "d")])?;
-    let mut parts = Vec::new(alloc);
-    parts.push(predicate_of(alloc, Child("", "name", "a"))?)?;
-    parts.push(Predicate::And(both))?;
-    let predicate = Predicate::Or(Many(parts));
-    filter_of(alloc, Some(Name::new(alloc, "m", "role")?), Some(predicate))
-}
-
 #[test]
 fn a_copy_equals_its_original_and_no_other_filter(rt: HostRuntime) -> Result<(), Fail> {
     let alloc = rt.alloc();
-    let filter = or_of_and(alloc)?;
+    let filter = or_of_and(alloc, "m")?;
     let copy = filter.copy(alloc)?;
     assert_eq!(rt; copy.equals(&filter), true);
     let other = filter_of(alloc, Some(Name::new(alloc, "m", "role")?), None)?;

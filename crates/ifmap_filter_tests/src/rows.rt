@@ -1,5 +1,6 @@
 //! Texts with the filters that they write, or where they stop to write one: tables, in the scope of
-//! `scope` in parsing.rt. Expected values come from another program over the same definitions, and from hand.
+//! `scope` in parsing.rt. Expected values come from another program over the same definitions, and
+//! from hand.
 pub(crate) const META: &str = "http://www.trustedcomputinggroup.org/2010/IFMAP-METADATA/2";
 
 // The namespaces of a filter, in order of their first use.
@@ -11,10 +12,12 @@ pub(crate) enum Spaces {
     V,
     MetaThenV,
     VThenMeta,
+    MetaUThenV,
+    VMetaThenU,
 }
 
 // A text, the same filter as it is printed, and the namespaces whose places give the prefixes there.
-pub(crate) const FILTERS: [(&str, &str, Spaces); 55] = [
+pub(crate) const FILTERS: [(&str, &str, Spaces); 73] = [
     ("", "", Spaces::None),
     ("or", "or", Spaces::None),
     (
@@ -173,6 +176,81 @@ pub(crate) const FILTERS: [(&str, &str, Spaces); 55] = [
         "a[((((((((((((((((((((((((((((((((((((((((((((((((((((((((((((((((b='c'))))))))))))))))))))))))))))))))))))))))))))))))))))))))))))))))]",
         "a[b='c']",
         Spaces::None,
+    ),
+    // From hand: what is printed of it.
+    (
+        "m:a or p:b or q:c",
+        "f1:a or f2:b or f3:c",
+        Spaces::MetaUThenV,
+    ),
+    (
+        "q:a or m:b or q:c",
+        "f1:a or f2:b or f1:c",
+        Spaces::VThenMeta,
+    ),
+    (
+        "a[q:b='1' and m:c='2'] or m:d",
+        "a[f1:b='1' and f2:c='2'] or f2:d",
+        Spaces::VThenMeta,
+    ),
+    ("*[@b='1' or q:c='2']", "*[@b='1' or f1:c='2']", Spaces::V),
+    (
+        "xml:a[m:b='' or xml:c='']",
+        "xml:a[f1:b='' or xml:c='']",
+        Spaces::Meta,
+    ),
+    (
+        "a[ (b='1' or c='2')and d='3' ]",
+        "a[(b='1' or c='2') and d='3']",
+        Spaces::None,
+    ),
+    (
+        "a[b='1' and (c='2' and d='3')]",
+        "a[b='1' and (c='2' and d='3')]",
+        Spaces::None,
+    ),
+    (
+        "a[b='1' or (c='2' or d='3')]",
+        "a[b='1' or (c='2' or d='3')]",
+        Spaces::None,
+    ),
+    (
+        "a[(b='1' and c='2') or d='3']",
+        "a[b='1' and c='2' or d='3']",
+        Spaces::None,
+    ),
+    ("a[((b='1' or c='2'))]", "a[b='1' or c='2']", Spaces::None),
+    (
+        "a[((b='1') and (c='2'))]",
+        "a[b='1' and c='2']",
+        Spaces::None,
+    ),
+    ("a[b=\"it's\"]", "a[b=\"it's\"]", Spaces::None),
+    (
+        "a[b='say \"x\"' or c=\"\"]",
+        "a[b='say \"x\"' or c='']",
+        Spaces::None,
+    ),
+    (
+        "or[or='or' or and='and']",
+        "or[or='or' or and='and']",
+        Spaces::None,
+    ),
+    (
+        "and[and='or' and @or='and']",
+        "and[and='or' and @or='and']",
+        Spaces::None,
+    ),
+    ("*", "*", Spaces::None),
+    (
+        "a[((b='1' or ((c='2') and d='3')) and (e='4' or f='5'))] or * or p:g[@h='6']",
+        "a[(b='1' or c='2' and d='3') and (e='4' or f='5')] or * or f1:g[@h='6']",
+        Spaces::U,
+    ),
+    (
+        "m:role[(name=\"a\")or @x='b' and c=\"it's\"]",
+        "f1:role[name='a' or @x='b' and c=\"it's\"]",
+        Spaces::Meta,
     ),
 ];
 

@@ -4,7 +4,7 @@ use Rattle.std.specs.Cmp.Lexicographic.{slice_cmp}
 use Rattle.std.specs.Ordering.{nat_cmp, on, then_cmp}
 use Rattle.std.specs.declared.cmp.Ordering.{Ordering}
 use Rattle.ifmap_elem.specs.Canonical.{canonical_bytes}
-use Rattle.ifmap_ident.specs.Items.{IsItem, item_order, item_size, same_item}
+use Rattle.ifmap_ident.specs.Items.{IsCanonItem, item_order, item_size, same_item}
 use Rattle.ifmap_meta.specs.declared.stored.Life.{Life}
 use Rattle.ifmap_meta.specs.declared.stored.Life.TheVariants.{Session, Forever}
 use Rattle.ifmap_meta.specs.Keys as stored
@@ -32,7 +32,7 @@ abbrev pub ends_with : ℕ → Life → Bool
 ends_with serial (Session own) = own == serial
 ends_with serial Forever = false
 
--- it is whole: what is stored is, and it stands on an item
+-- it is whole: what is stored is, and it stands on an item of identifiers that elements of documents are
 pub record IsWholeAttachment (a : Attachment) : Type 0 where
-  pub item : IsItem a.item
+  pub item : IsCanonItem a.item
   pub stored : IsWhole a.stored

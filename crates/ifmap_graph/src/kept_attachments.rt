@@ -1,6 +1,6 @@
 //! Attachments made ready to stand in a graph.
 ghost use Rattle.std.specs.Prelude.{◌≡◌, not, IfOk};
-ghost use Rattle.ifmap_ident.specs.Items.{IsItem};
+ghost use Rattle.ifmap_ident.specs.Items.{IsCanonItem};
 ghost use Rattle.ifmap_meta.specs.Keys.{same_key};
 ghost use Rattle.ifmap_meta.specs.Whole.{IsWhole};
 ghost use Rattle.ifmap_graph.specs.Attachments.{IsWholeAttachment, attachment_order, ends_with, entry_size, stored_bytes};
@@ -42,7 +42,7 @@ impl Model for KeptAttachment {
 impl KeptAttachment {
     /// Takes all the memory that the attachment needs to be compared. The one error is want of memory.
     pub fn new(alloc: Global, item: Item, stored: Stored) -> Result<KeptAttachment, NoMemory>
-        requires item { IsItem item }
+        requires item { IsCanonItem item }
         requires stored { IsWhole stored }
         ensures { IfOk result (λ attachment. attachment ≡ record { item = item; stored = stored }) }
     {

@@ -1,12 +1,13 @@
 //! What stands on an item after attachments came and went.
 ghost use Rattle.std.specs.Prelude.{IfOk};
-ghost use Rattle.ifmap_ident.specs.Items.{IsItem};
+ghost use Rattle.ifmap_ident.specs.Canon.{IsIdentifier};
+ghost use Rattle.ifmap_ident.specs.Items.{IsCanonItem};
 ghost use Rattle.ifmap_meta.specs.Whole.{IsWhole};
 
-use crate::makers::{address_of, client_of, metadata_in};
+use crate::makers::{client_of, identifier_in, metadata_in};
 use ifmap_elem::Element;
 use ifmap_graph::{Graph, KeptAttachment};
-use ifmap_ident::Item;
+use ifmap_ident::{Identifier, Item};
 use ifmap_io::Moment;
 use ifmap_meta::{Life, Stored};
 use std::alloc::{AllocError as NoMemory, Global};
@@ -55,13 +56,23 @@ fn published_of(
     }
 }
 
+// The address `00:00:5e:00:53:0.` that ends in this digit.
+fn address_in(alloc: Global, last: u8) -> Result<Identifier, NoMemory>
+    ensures { IfOk result IsIdentifier }
+{
+    let text = format!(in alloc; "<mac-address value=\"00:00:5e:00:53:0{last}\"/>")?;
+    identifier_in(alloc, text.as_str())
+}
+
 fn item_at(alloc: Global, place: Place) -> Result<Item, NoMemory>
-    ensures { IfOk result IsItem }
+    ensures { IfOk result IsCanonItem }
 {
     match place {
-        Place::At(last) => Ok(Item::One(address_of(alloc, last, "")?)),
+        Place::At(last) => Ok(Item::One(address_in(alloc, last)?)),
         Place::Link => {
-            Item::pair(address_of(alloc, 2, "")?, address_of(alloc, 1, "")?).ok_or(NoMemory)
+            let second = address_in(alloc, 2)?;
+            let first = address_in(alloc, 1)?;
+            Item::pair(second, first).ok_or(NoMemory)
         }
     }
 }

@@ -2,6 +2,7 @@
 ghost use Rattle.std.specs.Prelude.{◌≤◌, IfOk};
 ghost use Rattle.ifmap_elem.specs.Fit.{IsFit};
 ghost use Rattle.ifmap_elem.specs.Nesting.{nesting};
+ghost use Rattle.ifmap_ident.specs.Canon.{IsIdentifier};
 ghost use Rattle.ifmap_meta.specs.Whole.{IsMetadata, level_limit};
 
 use ifmap_elem::{Attribute, Child, Element, Many, Name, Text};
@@ -68,6 +69,16 @@ pub(crate) fn element_in(alloc: Global, text: &str) -> Result<Element, NoMemory>
 {
     match read(alloc, text.as_bytes(), 64) {
         Ok(reading) => Ok(reading.root),
+        Err(_) => Err(NoMemory),
+    }
+}
+
+// The identifier of the element that a text spells.
+pub(crate) fn identifier_in(alloc: Global, text: &str) -> Result<Identifier, NoMemory>
+    ensures { IfOk result IsIdentifier }
+{
+    match Identifier::from_element(alloc, &element_in(alloc, text)?) {
+        Ok(identifier) => Ok(identifier),
         Err(_) => Err(NoMemory),
     }
 }

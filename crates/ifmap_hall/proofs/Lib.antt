@@ -12,3 +12,4 @@ pub mod Opening
 pub mod Turning
 pub mod Sighting
 pub mod Taking
+pub mod Lying

@@ -172,6 +172,7 @@ module _ {M E R : Type 0} (next : M → E → M) (weight : E → ℕ) (holds_on 
               reply
                   (run next v.terms.opening.value h.log) e.1,
             )) xs) gained ∙ append-nil v.said;
+            alone = λ lone. g.all ∙ append-nil h.log ∙ sym (ap (λ (k : History E). k.log) (found.lone lone));
           }
 
       said_by : (number place : ℕ) (event : E) (r : R) → Grew ((number, event) ∷ []) → place ≡ length h.log → place < 2 ^ 64 - 1
@@ -192,6 +193,7 @@ module _ {M E R : Type 0} (next : M → E → M) (weight : E → ℕ) (holds_on 
             reply_is = answer;
             settled = omega arith;
             later = omega arith;
+            alone = λ lone. sym (ap (λ (k : History E). k.log) (found.lone lone));
             mine = ap (λ (xs : List (ℕ × E)). v.mine ++ map (λ _. length h.log) xs) gained ∙ ap (λ n. v.mine ++ n ∷ []) (sym at);
             said =
                 ap (λ (xs : List (ℕ × E)). v.said ++ map (λ (e : ℕ × E). (e.1, reply (run next v.terms.opening.value h.log) e.1)) xs) gained

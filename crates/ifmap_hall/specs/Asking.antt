@@ -22,14 +22,15 @@ module _ {M E R : Type 0} where
     -- if it was never split from, it had seen all entries that are in the base now
     pub near : v.lone ≡ true → w.history.from ≤ length v.history.log
 
-  -- nothing of the pass's own was entered
+  -- nothing of the pass's own was entered, and nothing at all if it was never split from
   pub record SaidNothing (v w : View M E R) : Type 0 where
     pub mine : w.mine ≡ v.mine
     pub said : w.said ≡ v.said
+    pub alone : v.lone ≡ true → w.history.log ≡ v.history.log
 
   module _ (next : M → E → M) (holds_on : M → E → Bool) (reply : M → E → R) where
     -- the event is the last entry of the history, at this place, with the reply of the machine after the entries before it, which
-    -- would not have held on it
+    -- would not have held on it; if the pass was never split from, these are the entries that it had seen
     pub record Said (v w : View M E R) (number : ℕ) (event : E) (place : ℕ) (r : R) : Type 0 where
       pub before : List (ℕ × E)
       pub entry : w.history.log ≡ before ++ (number, event) ∷ []
@@ -39,6 +40,7 @@ module _ {M E R : Type 0} where
       pub reply_is : r ≡ reply (run next v.terms.opening.value before) event
       pub settled : w.history.from ≤ place
       pub later : length v.history.log ≤ place
+      pub alone : v.lone ≡ true → before ≡ v.history.log
       pub mine : w.mine ≡ v.mine ++ place ∷ []
       pub said : w.said ≡ v.said ++ (event, r) ∷ []
 

@@ -74,3 +74,11 @@ module _ {M E R : Type 0} where
     -- the rule of a table
     abbrev pub Keeps : Terms M → State (Option (Book M E R)) (SeatView M E R) → Type 0
     Keeps terms t = IsInTurn terms t.words t.homes t.views
+
+    -- the table keeps its rule, and the book lies in its slot
+    abbrev pub Keeping : Terms M → State (Option (Book M E R)) (SeatView M E R) → Book M E R → Type 0
+    Keeping terms t b = Keeps terms t × (t.homes ≡ some (Some b) ∷ [])
+
+  -- each of the first so many places stands once in the lists of all seats, and no other place does
+  abbrev pub AreSharedOut : List (SeatView M E R) → ℕ → Type 0
+  AreSharedOut seats count = (x : ℕ) → sum_by (λ (s : SeatView M E R). times x s.view.mine) seats ≡ once_below x count

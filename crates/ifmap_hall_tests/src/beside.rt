@@ -3,7 +3,7 @@ ghost use Rattle.std.specs.Prelude.{◌≡◌, ◌+◌, ◌*◌, ◌<◌, ◌≤
 ghost use Rattle.ifmap_hall.specs.Passes.{IsOf, view_of};
 
 use crate::till::{Payment, Till, Told, pay, tell};
-use ifmap_hall::{Hall, Pass};
+use ifmap_hall::{Book, Hall, Pass};
 use std::alloc::{AllocError as NoMemory, Global};
 use std::sync::Wait;
 use std::sync::atomic::{AtomicU64, Ordering};
@@ -24,6 +24,8 @@ struct Stand {
     pass: Pass<Till>,
     // How many workers must have been answered before this one asks.
     after: u64,
+    // How many pauses each of its payments takes.
+    pauses: u32,
     // The place and the reply of each of its payments.
     answers: Vec<(u64, u64)>,
 }
@@ -55,6 +57,7 @@ fn work<R: Wait + Clock>(
     let Stand {
         pass,
         after,
+        pauses,
         answers,
     } = stand;
     if !wait_for(rt, answered, *after) {
@@ -65,6 +68,7 @@ fn work<R: Wait + Clock>(
             amount: round % 3,
             level: 0,
             weight: 600,
+            pauses: *pauses,
         };
         let answer = tell(pay(rt, alloc, hall, pass, payment));
         if let Told::Done(place, reply) = answer
@@ -106,7 +110,12 @@ fn run_all<R: Threads + Wait + Clock + Sync>(
 
 // Four stands. Each but the last waits for all those after it, so that workers one after the other
 // would wait for nobody.
-fn hand_out(alloc: Global, hall: &Hall<Till>, pass: &mut Pass<Till>) -> Result<Vec<Stand>, NoMemory>
+fn hand_out(
+    alloc: Global,
+    hall: &Hall<Till>,
+    pass: &mut Pass<Till>,
+    pauses: u32,
+) -> Result<Vec<Stand>, NoMemory>
     requires hall { IsOf hall.now pass.old }
     requires light { 600 ≤ (view_of pass.old).terms.heaviest }
     ensures hall { IsOf hall.now pass.new }
@@ -120,6 +129,7 @@ fn hand_out(alloc: Global, hall: &Hall<Till>, pass: &mut Pass<Till>) -> Result<V
         stands.push(Stand {
             pass: own,
             after,
+            pauses,
             answers,
         })?;
     }
@@ -137,27 +147,49 @@ fn gather(alloc: Global, stands: &[Stand]) -> Result<Vec<(u64, u64)>, NoMemory> 
     Ok(all)
 }
 
-#[test]
-fn four_workers_ask_beside_each_other(rt: HostRuntime) -> Result<(), Fail> {
-    let alloc = rt.alloc();
-    let (hall, mut pass) = Hall::begin(alloc, Till { sum: 0 }, Till { sum: 0 }, 600_000, 600)?;
-    let mut stands = hand_out(alloc, &hall, &mut pass)?;
-    let answered = AtomicU64::new(0);
-    assert!(rt; !stands.is_empty());
-    run_all(&rt, alloc, &hall, &answered, stands.as_mut_slice());
-    let mut answers = gather(alloc, stands.as_slice())?;
-    let book = hall.close(&rt, pass);
-    answers.sort()?;
-    assert!(rt; answered.into_inner() == 4 && answers.len() as u64 == 4 * ASKS);
-    assert!(rt; book.from == 0 && book.journal.len() == answers.len());
-    // The places are all there, each once, with the sum of the entries before it as its reply.
+// The places are all there, each once, with the sum of the entries before it as its reply.
+fn are_in_order(answers: &[(u64, u64)], book: &Book<Till>) -> bool {
     let mut place = 0u64;
     let mut sum = 0u64;
     for ((own, reply), entry) in answers.iter().copied().zip(book.journal.iter()) {
-        assert!(rt; own == place && reply == sum);
+        if own != place || reply != sum {
+            return false;
+        }
         place = place.wrapping_add(1);
         sum = sum.wrapping_add(entry.1.amount);
     }
-    assert!(rt; book.machine.sum == sum);
+    book.from == 0 && book.journal.len() == answers.len() && book.machine.sum == sum
+}
+
+// Whether four workers are all answered, as one after the other would be.
+fn are_served<R: Threads + Wait + Clock + Sync>(
+    rt: &R,
+    alloc: Global,
+    pauses: u32,
+) -> Result<bool, NoMemory> {
+    let (hall, mut pass) = Hall::begin(alloc, Till { sum: 0 }, Till { sum: 0 }, 600_000, 600)?;
+    let mut stands = hand_out(alloc, &hall, &mut pass, pauses)?;
+    if stands.is_empty() {
+        return Ok(false);
+    }
+    let answered = AtomicU64::new(0);
+    run_all(rt, alloc, &hall, &answered, stands.as_mut_slice());
+    let mut answers = gather(alloc, stands.as_slice())?;
+    answers.sort()?;
+    let book = hall.close(rt, pass);
+    let all = answered.into_inner() == 4 && answers.len() as u64 == 4 * ASKS;
+    Ok(all && are_in_order(answers.as_slice(), &book))
+}
+
+#[test]
+fn four_workers_ask_beside_each_other(rt: HostRuntime) -> Result<(), Fail> {
+    assert!(rt; are_served(&rt, rt.alloc(), 0)?);
+    Ok(())
+}
+
+// A step takes a millisecond or more, so those that wait fall asleep; nobody would wake by itself.
+#[test]
+fn workers_that_wait_long_sleep_and_are_woken(rt: HostRuntime) -> Result<(), Fail> {
+    assert!(rt; are_served(&rt, rt.alloc(), 100_000)?);
     Ok(())
 }

@@ -3,7 +3,9 @@ ghost use Rattle.std.specs.Prelude.{◌≡◌, ◌+◌, ◌*◌, ◌<◌, ◌≤
 ghost use Rattle.ifmap_hall.specs.Books.{IsBook};
 
 use crate::till::{Payment, Till, Told, heavy, light, pay, tell};
-use ifmap_hall::{Asked, Book, Hall, Machine, carries_itself, carries_through};
+use ifmap_hall::{
+    Asked, Book, Hall, Machine, carries_itself, carries_through, the_book_lies_in_order,
+};
 use std::alloc::{AllocError as NoMemory, Global};
 use std::collections::VecDeque;
 use std::test::Fail;
@@ -56,6 +58,7 @@ fn last_book(alloc: Global) -> Result<Book<Till>, NoMemory>
         amount: 1,
         level: 0,
         weight: 600,
+        pauses: 0,
     };
     journal.push_back((7, payment))?;
     Ok(Book {
@@ -77,12 +80,14 @@ fn a_book_without_numbers_says_so(rt: HostRuntime) -> Result<(), Fail> {
         amount: 1,
         level: 100,
         weight: 600,
+        pauses: 0,
     };
     let answer = book.turn(rt.alloc(), 0, payment);
     assert!(rt; tell(answer) == Told::Spent(u64::MAX));
     assert!(rt; book.from == u64::MAX - 1 && book.journal.len() == 1 && book.machine.sum == 6);
     carries_itself::<Till>();
     carries_through::<Till>();
+    the_book_lies_in_order::<Till>();
     Ok(())
 }
 
@@ -112,5 +117,19 @@ fn two_passes_ask_one_history(rt: HostRuntime) -> Result<(), Fail> {
     }
     // The passes have numbers of their own.
     assert!(rt; numbers == [0, 1, 0, 0]);
+    Ok(())
+}
+
+// Each gets a 65,536th of the parts of the one before it, so the fifth has one.
+#[test]
+fn a_pass_with_one_part_is_not_split(rt: HostRuntime) -> Result<(), Fail> {
+    let alloc = rt.alloc();
+    let (hall, mut first) = Hall::begin(alloc, Till { sum: 0 }, Till { sum: 0 }, 1200, 600)?;
+    let mut second = hall.split(&mut first)?;
+    let mut third = hall.split(&mut second)?;
+    let mut fourth = hall.split(&mut third)?;
+    let mut fifth = hall.split(&mut fourth)?;
+    assert!(rt; hall.split(&mut fifth).is_err());
+    assert!(rt; hall.split(&mut fourth).is_ok());
     Ok(())
 }

@@ -68,6 +68,7 @@ fn payment_of(row: Row) -> Payment {
         amount,
         level,
         weight: weight.min(600),
+        pauses: 0,
     }
 }
 

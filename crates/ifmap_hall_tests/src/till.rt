@@ -4,14 +4,17 @@ ghost use Rattle.ifmap_hall.specs.Passes.{IsOf, view_of};
 
 use ifmap_hall::{Asked, Hall, Machine, Pass};
 use std::alloc::{AllocError as NoMemory, Global};
+use std::hint;
 use std::sync::Wait;
 
-/// An amount that is paid in as soon as the till has a sum of at least `level`.
+/// An amount that is paid in as soon as the till has a sum of at least `level`. Paying it in takes so
+/// many pauses of the processor.
 #[derive(Drop)]
 pub(crate) struct Payment {
     pub(crate) amount: u64,
     pub(crate) level: u64,
     pub(crate) weight: u64,
+    pub(crate) pauses: u32,
     ghost light: { weight ≤ 600 },
 }
 
@@ -45,6 +48,9 @@ impl Machine for Till {
     }
 
     fn step(&mut self, _alloc: Global, event: &Payment) -> Result<u64, NoMemory> {
+        for _ in 0..event.pauses {
+            hint::spin_loop();
+        }
         let before = self.sum;
         self.sum = before.wrapping_add(event.amount);
         Ok(before)
@@ -96,6 +102,7 @@ pub(crate) fn heavy(amount: u64) -> Payment {
         amount,
         level: 0,
         weight: 600,
+        pauses: 0,
     }
 }
 
@@ -105,5 +112,6 @@ pub(crate) fn light(amount: u64) -> Payment {
         amount,
         level: 0,
         weight: 300,
+        pauses: 0,
     }
 }

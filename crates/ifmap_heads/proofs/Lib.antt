@@ -1,5 +1,6 @@
 pub mod AnswerHeads
 pub mod AnswersOnce
+pub mod ClientTests
 pub mod Found
 pub mod General
 pub mod Lines

@@ -21,7 +21,7 @@ lacks_length fields =
     || not (list_all (λ v. bytes_eq v (codes "identity")) (values (codes "content-encoding") fields))
     || not (has_field (codes "content-length") fields)
 
--- the name of a client: 1 to 40 letters, digits, full stops, low lines and hyphens
+-- the test of `IsClientName`, for what computes: that it is this test is a law
 abbrev pub is_client_name : List ℕ → Bool
 is_client_name name = nat_le 1 (length name) && nat_le (length name) 40 && list_all is_client_byte name
 

@@ -72,8 +72,8 @@ fn after_empty_lines(bytes: &[u8]) -> &[u8]
     ensures none { BeginsNoLineEnd result.now }
 {
     let mut rest = bytes;
-    'lines: while let Some(behind) = after_line_end(rest) {
-        rest = behind;
+    'lines: while let Some(after) = after_line_end(rest) {
+        rest = after;
     }
     rest
 }

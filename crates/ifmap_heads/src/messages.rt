@@ -4,7 +4,7 @@ ghost use Rattle.ifmap_heads.specs.Messages.{answer_bytes, close_field, is_answe
 
 use http::StatusCode;
 use itoa::Buffer;
-use std::alloc::{AllocError, Global};
+use std::alloc::{AllocError as NoMemory, Global};
 
 // What the head of a message takes beside its host and its client.
 const HEAD_ROOM: usize = 256;
@@ -16,7 +16,7 @@ pub fn answer_message(
     status: StatusCode,
     body: &[u8],
     close: bool,
-) -> Result<Vec<u8>, AllocError>
+) -> Result<Vec<u8>, NoMemory>
     requires { IsTrue (is_answer_status status) }
     ensures { IfOk result (λ message. message.items ≡ answer_bytes status body.now close) }
 {
@@ -37,7 +37,7 @@ pub fn post_message(
     host: &[u8],
     client: &[u8],
     body: &[u8],
-) -> Result<Vec<u8>, AllocError>
+) -> Result<Vec<u8>, NoMemory>
     ensures { IfOk result (λ message. message.items ≡ post_bytes host.now client.now body.now) }
 {
     let names = host.len().saturating_add(client.len());
@@ -57,7 +57,7 @@ pub fn post_message(
 }
 
 // Appends the first line of an answer.
-fn write_status_line(status: StatusCode, message: &mut Vec<u8>) -> Result<(), AllocError>
+fn write_status_line(status: StatusCode, message: &mut Vec<u8>) -> Result<(), NoMemory>
     requires { IsTrue (is_answer_status status) }
     ensures { OnOk result (message.new.items ≡ message.old.items ++ status_line status) }
 {
@@ -69,7 +69,7 @@ fn write_status_line(status: StatusCode, message: &mut Vec<u8>) -> Result<(), Al
 }
 
 // Appends the field that tells the length of a body.
-fn write_length(body: &[u8], message: &mut Vec<u8>) -> Result<(), AllocError>
+fn write_length(body: &[u8], message: &mut Vec<u8>) -> Result<(), NoMemory>
     ensures { OnOk result (message.new.items ≡ message.old.items ++ length_field body.now) }
 {
     message.extend_from_slice(b"content-length: ")?;

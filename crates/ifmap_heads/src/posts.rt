@@ -17,7 +17,7 @@ use http_header::{CONNECTION, CONTENT_ENCODING, CONTENT_LENGTH, TRANSFER_ENCODIN
 use httparse::{EMPTY_HEADER, Header, Request, Status};
 use ifmap_elem::Text;
 use ifmap_meta::ClientName;
-use std::alloc::{AllocError, Global};
+use std::alloc::{AllocError as NoMemory, Global};
 
 // The field that names the client.
 const IFMAP_CLIENT: &[u8] = b"ifmap-client";
@@ -55,7 +55,7 @@ pub enum Judged {
 }
 
 /// What the bytes of a post so far begin. They are parsed once, from their start.
-pub fn read_post_head(alloc: Global, bytes: &[u8]) -> Result<PostStart, AllocError>
+pub fn read_post_head(alloc: Global, bytes: &[u8]) -> Result<PostStart, NoMemory>
     ensures { IfOk result (StartsPost bytes.now) }
 {
     let mut room = [EMPTY_HEADER; MOST_FIELDS];
@@ -108,7 +108,7 @@ fn judge_parts(
     method: &[u8],
     minor: u8,
     headers: &[Header<'_>],
-) -> Result<Judged, AllocError>
+) -> Result<Judged, NoMemory>
     ensures { IfOk result
         (λ j. judgement_of j ≡ judge_parts method.now minor (map header_parts headers.now)) }
 {
@@ -159,7 +159,7 @@ fn has_length(headers: &[Header<'_>]) -> bool
 }
 
 // The client, where it is named once and by a name.
-fn only_client(alloc: Global, headers: &[Header<'_>]) -> Result<Option<ClientName>, AllocError>
+fn only_client(alloc: Global, headers: &[Header<'_>]) -> Result<Option<ClientName>, NoMemory>
     ensures { IfOk result
         (λ client. client
         ≡ only_client (values (codes "ifmap-client") (map header_parts headers.now))) }
@@ -174,7 +174,7 @@ fn only_client(alloc: Global, headers: &[Header<'_>]) -> Result<Option<ClientNam
 }
 
 // The value as a client's name, where it is one.
-fn client_of(alloc: Global, value: &[u8]) -> Result<Option<ClientName>, AllocError>
+fn client_of(alloc: Global, value: &[u8]) -> Result<Option<ClientName>, NoMemory>
     ensures { IfOk result
         (λ client. client ≡ (if is_client_name value.now then Some value.now else None)) }
 {

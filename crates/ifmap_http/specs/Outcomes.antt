@@ -1,7 +1,9 @@
 -- What the calls of a wire answer.
-use Rattle.std.specs.Prelude.{◌≡◌, ℕ, Bool, true, false, List, take, Option, Some}
+use Rattle.std.specs.Prelude.{◌≡◌, ℕ, ◌≤◌, Bool, true, false, IsTrue, List, length, take, Option, Some}
 use Rattle.std.specs.Io.KnownBytes.{Appends, Keeps}
 use Rattle.ifmap_heads.specs.Answers.{ReadsAnswer, answered, not_http, status as other_status, ended as unanswered}
+use Rattle.ifmap_heads.specs.Limits.{longest_post}
+use Rattle.ifmap_heads.specs.Messages.{is_answer_status}
 use Rattle.ifmap_heads.specs.Posts.{ReadsPost, ended, posted, status, truncated}
 use Rattle.ifmap_http.specs.declared.wires.Answered.{Answered}
 use Rattle.ifmap_http.specs.declared.wires.Answered.TheVariants as answer
@@ -19,6 +21,15 @@ GetsPost left after got.Truncated = ReadsPost left truncated
 GetsPost left after (got.Status number) = ReadsPost left (status number) × (after ≡ Some left)
 GetsPost left after got.ReadFault = Unit {0}
 GetsPost left after got.NoMemory = Unit {0}
+
+-- whatever the link tells, the body of a post is within its limit, and a status is one that answers have
+abbrev pub IsAnswerable : Got → Type 0
+IsAnswerable (got.Posted post) = length post.body ≤ longest_post
+IsAnswerable got.Ended = Unit {0}
+IsAnswerable got.Truncated = Unit {0}
+IsAnswerable (got.Status number) = IsTrue (is_answer_status number)
+IsAnswerable got.ReadFault = Unit {0}
+IsAnswerable got.NoMemory = Unit {0}
 
 -- a post was got
 abbrev pub is_posted : Got → Bool

@@ -6,7 +6,7 @@ ghost use Rattle.ifmap_http.specs.Buffers.{LacksBody, TakesBody};
 
 use crate::buffers::Buffer;
 use ifmap_io::{Failed, Source};
-use std::alloc::{AllocError, Global};
+use std::alloc::{AllocError as NoMemory, Global};
 
 // How much of a body's room is cleared at once: a length that lies costs no more than this.
 const STEP: usize = 65_536;
@@ -83,7 +83,7 @@ fn fill_body<S: Source>(mut body: Vec<u8>, source: &mut S, size: usize) -> Resul
 }
 
 // Clears some more of the body's room where all of it is filled.
-fn make_room(body: &mut Vec<u8>, filled: usize, size: usize) -> Result<(), AllocError>
+fn make_room(body: &mut Vec<u8>, filled: usize, size: usize) -> Result<(), NoMemory>
     requires within { filled ≤ vec_len body.old }
     requires short { vec_len body.old ≤ size }
     requires lacks { filled < size }

@@ -7,7 +7,7 @@ ghost use Rattle.ifmap_http.specs.Buffers.{Takes};
 
 use crate::bodies::Unread;
 use ifmap_io::Source;
-use std::alloc::{AllocError, Global};
+use std::alloc::{AllocError as NoMemory, Global};
 use std::marker::Model;
 
 // How many bytes one read takes at most.
@@ -97,7 +97,7 @@ impl Buffer {
 }
 
 // Makes room for a read, where there is none yet.
-fn clear_chunk(chunk: &mut Vec<u8>) -> Result<(), AllocError>
+fn clear_chunk(chunk: &mut Vec<u8>) -> Result<(), NoMemory>
     ensures { OnOk result (0 < vec_len chunk.new) }
 {
     if !chunk.is_empty() {

@@ -5,9 +5,9 @@ ghost use Rattle.ifmap_heads.specs.Limits.{longest_head};
 
 use ifmap_heads::LONGEST_HEAD;
 
-// How far the bytes of a head were looked at. A head is parsed where its empty line may have come,
-// where it has grown to twice what was parsed, and past its limit: so a client that sends a byte at a
-// time costs a time that is linear in the head.
+// How far the bytes of a head were looked at. A head is parsed where a line of it has ended, where it
+// has grown to twice what was parsed, and past its limit. It has at most 66 lines, so a client that
+// sends a byte at a time costs a time that is linear in the head.
 #[derive(Clone, Copy)]
 pub(crate) struct Progress {
     // The line ends in front, as far as they were seen.
@@ -38,7 +38,7 @@ impl Progress {
         self.seen = bytes.len();
         self.blank = blank_end(bytes, self.blank);
         let has_grown = !bytes.is_empty() && bytes.len() / 2 >= self.parsed;
-        if has_grown || bytes.len() > LONGEST_HEAD || has_empty_line(bytes, self.blank, from) {
+        if has_grown || bytes.len() > LONGEST_HEAD || has_line_end(bytes, from.max(self.blank)) {
             self.parsed = bytes.len();
             return true;
         }
@@ -57,10 +57,7 @@ fn is_line_end(byte: u8) -> bool {
     byte == b'\r' || byte == b'\n'
 }
 
-// An empty line ends at one of the bytes from that place on, past the line ends in front.
-fn has_empty_line(bytes: &[u8], blank: usize, from: usize) -> bool {
-    let start = blank.max(from.saturating_sub(2));
-    let rest = bytes.get(start..).unwrap_or(b"");
-    rest.windows(2).any(|pair| pair == b"\n\n".as_slice())
-        || rest.windows(3).any(|triple| triple == b"\n\r\n".as_slice())
+// A line ends at one of the bytes from that place on.
+fn has_line_end(bytes: &[u8], from: usize) -> bool {
+    bytes.get(from..).unwrap_or(b"").contains(&b'\n')
 }

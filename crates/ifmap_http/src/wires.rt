@@ -6,7 +6,7 @@ ghost use Rattle.ifmap_heads.specs.Answers.{sized};
 ghost use Rattle.ifmap_heads.specs.Messages.{answer_bytes, is_answer_status, is_visible, post_bytes};
 ghost use Rattle.ifmap_heads.specs.Posts.{ReadsPost, posted};
 ghost use Rattle.ifmap_heads.specs.Starts.{HasAnswerHead, HasPostHead};
-ghost use Rattle.ifmap_http.specs.Outcomes.{GetsAnswer, GetsPost, Sends, is_answered, is_posted};
+ghost use Rattle.ifmap_http.specs.Outcomes.{GetsAnswer, GetsPost, IsAnswerable, Sends, is_answered, is_posted};
 
 use crate::bodies::{Unread, take_body};
 use crate::buffers::Buffer;
@@ -121,12 +121,14 @@ impl<L: Link> Wire<L> {
     }
 
     /// Reads a post: a head of at most 16,384 bytes and 64 fields, and a body of at most 10,000,000.
-    /// After any other answer the wire is spent. A post that was taken whole before is handed out with
-    /// no call of the link.
+    /// After any other answer the wire is spent. Over a link that tells no bytes too, the body is
+    /// within this limit, and a status is one that `write_answer` writes. A post that was taken whole
+    /// before is handed out with no call of the link.
     pub fn read_post(&mut self, alloc: Global) -> Got
         requires { IsFalse self.old.spent }
         ensures reads { IfSome (prepend_known self.old.taken (L.left self.old.link))
             (λ left. GetsPost left (prepend_known self.new.taken (L.left self.new.link)) result) }
+        ensures answerable { IsAnswerable result }
         ensures fault { result ≡ Got.ReadFault
             → Rose (L.Source.faults self.old.link) (L.Source.faults self.new.link) }
         ensures later { L.Source.faults self.old.link ≤ L.Source.faults self.new.link }
@@ -209,6 +211,7 @@ impl<L: Link> Wire<L> {
     fn take_post(&mut self, alloc: Global) -> Got
         ensures reads { IfSome (prepend_known self.old.taken (L.left self.old.link))
             (λ left. GetsPost left (prepend_known self.new.taken (L.left self.new.link)) result) }
+        ensures answerable { IsAnswerable result }
         ensures fault { result ≡ Got.ReadFault
             → Rose (L.Source.faults self.old.link) (L.Source.faults self.new.link) }
         ensures later { L.Source.faults self.old.link ≤ L.Source.faults self.new.link }
@@ -234,6 +237,7 @@ impl<L: Link> Wire<L> {
         ensures reads { (all : List ℕ) → L.left self.old.link ≡ Some all
             → GetsPost (self.old.taken ++ all) (prepend_known self.new.taken
             (L.left self.new.link)) result }
+        ensures answerable { IsAnswerable result }
         ensures fault { result ≡ Got.ReadFault
             → Rose (L.Source.faults self.old.link) (L.Source.faults self.new.link) }
         ensures later { L.Source.faults self.old.link ≤ L.Source.faults self.new.link }

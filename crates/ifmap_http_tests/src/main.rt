@@ -4,7 +4,7 @@
 
 use ifmap_http::{Answered, Got, Wire};
 use ifmap_io::MemoryLink;
-use std::alloc::{AllocError, Global};
+use std::alloc::{AllocError as NoMemory, Global};
 use std::io;
 use std::io::{BufRead, BufReader};
 
@@ -26,7 +26,7 @@ fn main(rt: HostRuntime) -> io::Result<()> {
     Ok(())
 }
 
-fn show_row(alloc: Global, row: &str) -> Result<String, AllocError> {
+fn show_row(alloc: Global, row: &str) -> Result<String, NoMemory> {
     let Some((word, digits)) = row.split_once(' ') else {
         return String::from_str(alloc, "no row");
     };
@@ -42,7 +42,7 @@ fn show_row(alloc: Global, row: &str) -> Result<String, AllocError> {
     }
 }
 
-fn show_posts(alloc: Global, wire: Wire<MemoryLink>) -> Result<String, AllocError> {
+fn show_posts(alloc: Global, wire: Wire<MemoryLink>) -> Result<String, NoMemory> {
     let mut wire = wire;
     let mut shown = String::new(alloc);
     for _ in 0..MOST_POSTS {
@@ -58,7 +58,7 @@ fn show_posts(alloc: Global, wire: Wire<MemoryLink>) -> Result<String, AllocErro
     Ok(shown)
 }
 
-fn show_post(alloc: Global, got: &Got) -> Result<String, AllocError> {
+fn show_post(alloc: Global, got: &Got) -> Result<String, NoMemory> {
     match got {
         Got::Posted(post) => {
             let mut shown = String::from_str(alloc, "Posted ")?;
@@ -75,7 +75,7 @@ fn show_post(alloc: Global, got: &Got) -> Result<String, AllocError> {
     }
 }
 
-fn show_answer(alloc: Global, answered: &Answered) -> Result<String, AllocError> {
+fn show_answer(alloc: Global, answered: &Answered) -> Result<String, NoMemory> {
     match answered {
         Answered::Body(body) => {
             let mut shown = String::from_str(alloc, "Body ")?;
@@ -90,7 +90,7 @@ fn show_answer(alloc: Global, answered: &Answered) -> Result<String, AllocError>
     }
 }
 
-fn show_bytes(alloc: Global, bytes: &[u8]) -> Result<String, AllocError> {
+fn show_bytes(alloc: Global, bytes: &[u8]) -> Result<String, NoMemory> {
     if bytes.is_empty() {
         return String::from_str(alloc, "-");
     }

@@ -2,12 +2,12 @@
 //! over sockets.
 ghost use Rattle.std.specs.Prelude.{IfOk, IsFalse, None};
 
-use crate::{show_answer, show_post};
+use crate::{show_answer, show_post, show_posts};
 use ifmap_elem::Text;
 use ifmap_http::{Sent, Wire};
 use ifmap_io::{Door, Failed, Link, MemoryLink, Sink, Source, TcpDoor, TcpLink};
 use ifmap_meta::ClientName;
-use std::alloc::{AllocError, Global};
+use std::alloc::{AllocError as NoMemory, Global};
 use std::net::{TcpListener, TcpStream};
 use std::test::Fail;
 
@@ -15,6 +15,10 @@ const POST: &[u8] =
     b"POST /ifmap HTTP/1.1\r\nhost: h\r\nifmap-client: c1\r\ncontent-type: application/soap+xml\r\ncontent-length: 4\r\n\r\nbody";
 
 const POSTED: &str = "Posted c1 stays 626f6479";
+
+// An answer as it is written.
+const TOLD: &[u8] =
+    b"HTTP/1.1 200 OK\r\ncontent-type: application/soap+xml\r\ncontent-length: 1\r\n\r\nx";
 
 const ANSWER: &[u8] = b"HTTP/1.1 200 OK\r\ncontent-length: 2\r\n\r\nok";
 
@@ -63,22 +67,22 @@ impl Link for Drip {
     ghost incoming_is = { λ link. refl };
 }
 
-fn link_of(alloc: Global, left: &[u8], fails: &[u64]) -> Result<MemoryLink, AllocError> {
+fn link_of(alloc: Global, left: &[u8], fails: &[u64]) -> Result<MemoryLink, NoMemory> {
     Ok(MemoryLink::new(left.to_vec(alloc)?, Vec::new(alloc), fails.to_vec(alloc)?))
 }
 
-fn wire_of(alloc: Global, left: &[u8], fails: &[u64]) -> Result<Wire<MemoryLink>, AllocError>
+fn wire_of(alloc: Global, left: &[u8], fails: &[u64]) -> Result<Wire<MemoryLink>, NoMemory>
     ensures { IfOk result (λ wire. IsFalse wire.spent) }
 {
     Ok(Wire::new(alloc, link_of(alloc, left, fails)?))
 }
 
 // What `read_post` gets of these bytes.
-fn post_in(alloc: Global, left: &[u8], fails: &[u64]) -> Result<String, AllocError> {
+fn post_in(alloc: Global, left: &[u8], fails: &[u64]) -> Result<String, NoMemory> {
     show_post(alloc, &wire_of(alloc, left, fails)?.read_post(alloc))
 }
 
-fn drip_of(alloc: Global, left: &[u8], fails: &[u64]) -> Result<Wire<Drip>, AllocError>
+fn drip_of(alloc: Global, left: &[u8], fails: &[u64]) -> Result<Wire<Drip>, NoMemory>
     ensures { IfOk result (λ wire. IsFalse wire.spent) }
 {
     let link = link_of(alloc, left, fails)?;
@@ -86,30 +90,30 @@ fn drip_of(alloc: Global, left: &[u8], fails: &[u64]) -> Result<Wire<Drip>, Allo
 }
 
 // The same over a link that reads a byte at a time.
-fn drip_in(alloc: Global, left: &[u8], fails: &[u64]) -> Result<String, AllocError> {
+fn drip_in(alloc: Global, left: &[u8], fails: &[u64]) -> Result<String, NoMemory> {
     show_post(alloc, &drip_of(alloc, left, fails)?.read_post(alloc))
 }
 
-fn drip_answer_in(alloc: Global, left: &[u8], fails: &[u64]) -> Result<String, AllocError> {
+fn drip_answer_in(alloc: Global, left: &[u8], fails: &[u64]) -> Result<String, NoMemory> {
     show_answer(alloc, &drip_of(alloc, left, fails)?.read_answer(alloc))
 }
 
 // The post that comes next, where the wire can give one.
-fn next_post<L: Link>(alloc: Global, wire: &mut Wire<L>) -> Result<String, AllocError> {
+fn next_post<L: Link>(alloc: Global, wire: &mut Wire<L>) -> Result<String, NoMemory> {
     if wire.is_spent() {
         return String::from_str(alloc, "spent");
     }
     show_post(alloc, &wire.read_post(alloc))
 }
 
-fn next_answer<L: Link>(alloc: Global, wire: &mut Wire<L>) -> Result<String, AllocError> {
+fn next_answer<L: Link>(alloc: Global, wire: &mut Wire<L>) -> Result<String, NoMemory> {
     if wire.is_spent() {
         return String::from_str(alloc, "spent");
     }
     show_answer(alloc, &wire.read_answer(alloc))
 }
 
-fn answer_in(alloc: Global, left: &[u8], fails: &[u64]) -> Result<String, AllocError> {
+fn answer_in(alloc: Global, left: &[u8], fails: &[u64]) -> Result<String, NoMemory> {
     show_answer(alloc, &wire_of(alloc, left, fails)?.read_answer(alloc))
 }
 
@@ -155,7 +159,7 @@ fn a_post_that_is_cut_is_truncated_and_ended_at_its_start(rt: HostRuntime) -> Re
 #[test]
 fn a_post_comes_a_byte_at_a_time_and_waits_for_no_more(rt: HostRuntime) -> Result<(), Fail> {
     let alloc = rt.alloc();
-    let rows: [(&[u8], &str); 7] = [
+    let rows: [(&[u8], &str); 9] = [
         (POST, POSTED),
         (
             b"\n\r\n\nPOST / HTTP/1.0\nifmap-client: c\ncontent-length: 1\n\nx",
@@ -172,6 +176,9 @@ fn a_post_comes_a_byte_at_a_time_and_waits_for_no_more(rt: HostRuntime) -> Resul
         (b"GET / HTTP/1.1\n\n", "Status 405"),
         (b"POST / HTTP/1.1\n\r\n", "Status 411"),
         (b"\r\n\nGET / HTTP/1.1\r\n\r\n", "Status 405"),
+        // At fault before there is an empty line.
+        (b"POST / HTTP/1.1\r\nbad header\r\n", "Status 400"),
+        (b"POST / HTTP/1.1\na: b\n: c\n", "Status 400"),
     ];
     for (bytes, shown) in rows {
         let next = bytes.len() as u64;
@@ -203,7 +210,7 @@ fn a_length_that_lies_is_a_post_that_is_cut(rt: HostRuntime) -> Result<(), Fail>
 }
 
 // A head of that many bytes, with that many fields, none of which is refused but for its limits.
-fn head_of(alloc: Global, size: usize, fields: usize) -> Result<Vec<u8>, AllocError> {
+fn head_of(alloc: Global, size: usize, fields: usize) -> Result<Vec<u8>, NoMemory> {
     let mut head = b"POST / HTTP/1.1\r\nifmap-client: c\r\ncontent-length: 0\r\n".to_vec(alloc)?;
     for _ in 3..fields {
         head.extend_from_slice(b"a:\r\n")?;
@@ -261,6 +268,41 @@ fn a_head_that_is_cut_at_a_limit_is_truncated_before_it(rt: HostRuntime) -> Resu
     Ok(())
 }
 
+// The samples that are too long for the table: bytes, a byte that stands so many times, and bytes after
+// it.
+#[test]
+fn long_samples_are_got_as_told(rt: HostRuntime) -> Result<(), Fail> {
+    let alloc = rt.alloc();
+    let start = b"POST /ifmap HTTP/1.1\r\nhost: ".as_slice();
+    let cut = b"\r\nIFMAP-Client: c1\r\nContent-Length: 2\r\n".as_slice();
+    let whole = b"\r\nIFMAP-Client: c1\r\nContent-Length: 2\r\n\r\nab".as_slice();
+    let two =
+        b"\r\nIFMAP-Client: c1\r\nContent-Length: 2\r\n\r\nabPOST / HTTP/1.1\r\nIFMAP-Client: z\r\nContent-Length: 1\r\n\r\ny".as_slice();
+    let rows: [(&[u8], u8, usize, &[u8], &str); 7] = [
+        (b"", b'\n', 16_383, b"", "Truncated"),
+        (start, b'h', 16_315, whole, "Posted c1 stays 6162; Ended"),
+        (
+            start,
+            b'h',
+            16_315,
+            two,
+            "Posted c1 stays 6162; Posted z stays 79; Ended",
+        ),
+        (start, b'h', 16_315, cut, "Truncated"),
+        (start, b'h', 16_316, whole, "Status 400"),
+        (b"", b'\n', 16_385, b"", "Status 400"),
+        (start, b'h', 16_931, cut, "Status 400"),
+    ];
+    for (before, byte, count, after, shown) in rows {
+        let mut sample = before.to_vec(alloc)?;
+        sample.resize(before.len().saturating_add(count), byte)?;
+        sample.extend_from_slice(after)?;
+        let got = show_posts(alloc, wire_of(alloc, &sample, &[])?)?;
+        assert_eq!(rt; got.as_str(), shown);
+    }
+    Ok(())
+}
+
 #[test]
 fn one_read_serves_a_post_that_came_whole(rt: HostRuntime) -> Result<(), Fail> {
     let alloc = rt.alloc();
@@ -299,19 +341,20 @@ fn each_write_that_fails_is_told(rt: HostRuntime) -> Result<(), Fail> {
     let client = client_of(alloc)?.ok_or("a name")?;
     let host = Text(String::from_str(alloc, "h")?);
     // The write, and then the flush.
-    let rows: [(u64, &[u8]); 2] = [(0, b""), (1, POST)];
-    for (fail, held) in rows {
-        let mut wire = wire_of(alloc, b"", &[fail])?;
+    let rows: [(u64, &[u8], &[u8]); 2] = [(0, b"", b""), (1, TOLD, POST)];
+    for (fail, told, asked) in rows {
+        let mut server = wire_of(alloc, b"", &[fail])?;
         assert_eq!(rt;
-            wire.write_answer(alloc, 200, b"x", false),
+            server.write_answer(alloc, 200, b"x", false),
             Sent::WriteFault
         );
-        let mut wire = wire_of(alloc, b"", &[fail])?;
+        assert!(rt; server.into_link().held() == told);
+        let mut asking = wire_of(alloc, b"", &[fail])?;
         assert_eq!(rt;
-            wire.send_post(alloc, &host, &client, b"body"),
+            asking.send_post(alloc, &host, &client, b"body"),
             Sent::WriteFault
         );
-        assert!(rt; wire.into_link().held() == held);
+        assert!(rt; asking.into_link().held() == asked);
     }
     Ok(())
 }
@@ -350,7 +393,7 @@ fn answers_are_written_in_one_piece(rt: HostRuntime) -> Result<(), Fail> {
     Ok(())
 }
 
-fn client_of(alloc: Global) -> Result<Option<ClientName>, AllocError> {
+fn client_of(alloc: Global) -> Result<Option<ClientName>, NoMemory> {
     Ok(ClientName::new(Text(String::from_str(alloc, "c1")?)))
 }
 
@@ -370,7 +413,7 @@ fn serve_post(
     alloc: Global,
     client: &mut Wire<TcpLink>,
     server: Wire<TcpLink>,
-) -> Result<String, AllocError> {
+) -> Result<String, NoMemory> {
     let mut server = server;
     if send_ask(alloc, client)? != Sent::Done {
         return String::from_str(alloc, "not sent");
@@ -383,7 +426,7 @@ fn serve_post(
     }
 }
 
-fn send_ask(alloc: Global, client: &mut Wire<TcpLink>) -> Result<Sent, AllocError> {
+fn send_ask(alloc: Global, client: &mut Wire<TcpLink>) -> Result<Sent, NoMemory> {
     let Some(name) = client_of(alloc)? else {
         return Ok(Sent::NoMemory);
     };

@@ -3,16 +3,16 @@
 -- 2. What an element gives where an attribute is left out or not.
 -- 3. The parts of each variant's element, with and without a domain.
 -- 4. The attributes and the kind, and the length, which is the same.
-use Rattle.std.proofs.Common.{◌≡◌, ◌≢◌, ℕ, List, [], ◌∷◌, ◌++◌, Option, None, Some, IsTrue, true, not, codes, unwrap_or, refl, sym, ◌∙◌, ap, subst}
+use Rattle.std.proofs.Common.{◌≡◌, ◌≢◌, ℕ, List, [], ◌∷◌, Option, None, Some, IsTrue, true, not, codes, unwrap_or, refl, sym, ◌∙◌, ap, subst}
 use Rattle.std.specs.List.{filter}
 use Rattle.ifmap_addresses.specs.IpV4.{IsIpV4, ip_v4_text}
 use Rattle.ifmap_addresses.specs.IpV6.{IsIpV6, ip_v6_text}
-use Rattle.ifmap_addresses.specs.MacAddresses.{IsMacAddress, mac_address_text}
+use Rattle.ifmap_addresses.specs.MacAddresses.{mac_address_text}
 use Rattle.ifmap_addresses.specs.Values.{AreBelow}
 use Rattle.ifmap_addresses.specs.IpV4Laws.{ip_v4_spelled}
 use Rattle.ifmap_addresses.specs.IpV6Laws.{ip_v6_fits, ip_v6_spelled}
 use Rattle.ifmap_addresses.specs.MacAddressLaws.{mac_address_spelled}
-use Rattle.ifmap_elem.specs.Building.{bare_attribute, bare_element, bare_name}
+use Rattle.ifmap_elem.specs.Building.{bare_element, bare_name}
 use Rattle.ifmap_elem.specs.Fit.{IsFit}
 use Rattle.ifmap_elem.specs.Spells.{Spells}
 use Rattle.ifmap_elem.specs.declared.elements.Child.{Child, out-Child}
@@ -26,8 +26,8 @@ use Rattle.ifmap_ident.specs.declared.kinds.IdentityType.{IdentityType}
 use Rattle.ifmap_ident.specs.declared.kinds.IdentityType.TheVariants as types
 use Rattle.ifmap_ident.specs.declared.names.NameForm.{NameForm}
 use Rattle.ifmap_ident.specs.declared.names.NameForm.TheVariants.{Literal, Domain, Spelled}
-use Rattle.ifmap_ident.specs.Canon.{HasParts, HoldsName, IsAccessRequest, IsCanon, IsDefinition, IsDevice, IsIdentifier, IsIdentity, IsIpAddress, IsMacAddressElement, IsMeant, domain_of}
-use Rattle.ifmap_ident.specs.Identifiers.{attribute_unless_empty, domain_attributes, identifier_element, identifier_kind}
+use Rattle.ifmap_ident.specs.Canon.{HasParts, IsAccessRequest, IsCanon, IsDefinition, IsDevice, IsIdentifier, IsIdentity, IsIpAddress, IsMacAddressElement, domain_of}
+use Rattle.ifmap_ident.specs.Identifiers.{identifier_element, identifier_kind}
 use Rattle.ifmap_ident.specs.IdentityNames.{IsKept, domain_name, name_form}
 use Rattle.ifmap_ident.specs.Kinds.{allowed_attributes, identity_type_name, kind_name}
 use Rattle.ifmap_ident.specs.Parts.{has_only, is_blank_inside, is_blank_part, is_solid, value_of}

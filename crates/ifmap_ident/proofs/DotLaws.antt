@@ -1,10 +1,10 @@
 -- Names of domains: the full stops at the end are cut, and a name that is kept is kept as it is.
-use Rattle.std.proofs.Common.{◌≡◌, ◌≢◌, ℕ, ◌+◌, ◌-◌, ◌==◌, ◌&&◌, Bool, true, false, cond, List, [], ◌∷◌, ◌++◌, map, length, take, drop, Option, None, Some, IfSome, refl, sym, ◌∙◌, ap, subst, arith, lit<, ◌⊎◌, inl, inr}
+use Rattle.std.proofs.Common.{◌≡◌, ◌≢◌, ℕ, ◌-◌, ◌==◌, ◌&&◌, Bool, true, false, cond, List, [], ◌∷◌, ◌++◌, map, length, take, Option, None, Some, IfSome, refl, sym, ◌∙◌, ap, arith, lit<}
 use Rattle.std.specs.Prelude.{encode_utf8}
 use Rattle.std.specs.Char.{to_ascii_lowercase}
 use Rattle.std.specs.List.{list_all}
 use Rattle.std.specs.Str.{byte}
-use Rattle.std.specs.Str.Pattern.{CutsSuffixes, FindsCharSuffix, HasCharAt, IsFullyTrimmed, IsTrimEndMatches}
+use Rattle.std.specs.Str.Pattern.{CutsSuffixes, FindsCharSuffix, HasCharAt, IsTrimEndMatches}
 use Rattle.std.proofs.lemmas.Bool.Decides.{nat_tests}
 use Rattle.std.proofs.lemmas.Bool.{and_parts}
 use Rattle.std.proofs.Math.Seq.{drop-length}
@@ -13,7 +13,7 @@ use Rattle.std.proofs.lemmas.Str.{encode_ascii}
 use Rattle.ifmap_ident.specs.IdentityNames.{domain_name, without_last_dots}
 use Rattle.ifmap_lemmas.specs.Numbers.{is_number}
 
-abbrev is_dot : ℕ → Bool
+abbrev pub is_dot : ℕ → Bool
 is_dot c = c == byte "."
 
 -- ---- what is cut
@@ -44,7 +44,7 @@ no_dot_kept (b ∷ bs) f =
     (λ all. let d = dots_end b bs all in f d.0 d.1)
     (no_dot_kept bs (λ front e. f (b ∷ front) (ap (λ ys. b ∷ ys) e)))
 
-dot_encoded : encode_utf8 46 ≡ 46 ∷ []
+pub dot_encoded : encode_utf8 46 ≡ 46 ∷ []
 dot_encoded = encode_ascii 46 (lit< tt)
 
 suffix_cut : (m : List ℕ) (n : ℕ) → HasCharAt 46 m (length m - n) (length m) → m ≡ take (length m - n) m ++ 46 ∷ []

@@ -1,5 +1,5 @@
 -- What the first that passes tells of all.
-use Rattle.std.proofs.Common.{◌≡◌, ◌&&◌, ℕ, suc, ◌<◌, ◌++◌, take, drop, length, get_or, option_to_list, Bool, true, false, List, [], ◌∷◌, Option, None, Some, IfSome, IsNone, cond, is_some, refl, sym, ◌∙◌, ap, subst, ◌⊎◌, inl, inr, rules, arith}
+use Rattle.std.proofs.Common.{◌≡◌, ℕ, suc, ◌<◌, ◌++◌, take, drop, length, get_or, option_to_list, Bool, true, false, List, [], ◌∷◌, Option, None, Some, IsNone, cond, is_some, refl, sym, ◌∙◌, ap, subst, ◌⊎◌, inl, inr}
 use Rattle.std.specs.List.{AllByRecursion, filter, find}
 use Rattle.std.proofs.lemmas.Bool.{and_parts}
 use Rattle.std.proofs.lemmas.List.{take-append-drop}

@@ -1,5 +1,5 @@
 -- Kinds and types of identities are told by their names.
-use Rattle.std.proofs.Common.{◌≡◌, ℕ, true, false, List, Option, None, Some, IfSome, IsNone, refl, sym, ◌∙◌, ap}
+use Rattle.std.proofs.Common.{◌≡◌, ℕ, false, List, Option, None, Some, IfSome, IsNone, refl, sym, ◌∙◌, ap}
 use Rattle.std.specs.List.{AllByRecursion, find}
 use Rattle.std.specs.Str.{bytes_eq}
 use Rattle.ifmap_elem.specs.Building.{bare_name, is_bare}

@@ -2,6 +2,7 @@ pub mod AgainLaws
 pub mod AlikeLaws
 pub mod BackLaws
 pub mod DotLaws
+pub mod ElementLaws
 pub mod FindLaws
 pub mod KindLaws
 pub mod LeadingLaws
@@ -14,5 +15,7 @@ pub mod PrintedLaws
 pub mod SingleLaws
 pub mod SizeLaws
 pub mod SpelledLaws
+pub mod TotalLaws
 pub mod TypedLaws
 pub mod Utf8Laws
+pub mod ValueLaws

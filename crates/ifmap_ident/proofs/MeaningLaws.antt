@@ -1,5 +1,5 @@
 -- An element that has the parts of no identifier of one variant has those of no identifier of its kind.
-use Rattle.std.proofs.Common.{◌≡◌, ◌≢◌, ℕ, ◌<◌, ◌≤◌, ◌-◌, ◌^◌, min, Bool, true, false, List, Option, None, Some, IfSome, IsNone, IsTrue, Result, Ok, Err, codes, length, unwrap_or, option_copied, refl, sym, ◌∙◌, ap, subst, arith}
+use Rattle.std.proofs.Common.{◌≡◌, ℕ, ◌<◌, ◌≤◌, ◌-◌, ◌^◌, min, Bool, true, false, List, Option, None, Some, IsTrue, Result, Ok, Err, codes, length, sym, ◌∙◌, ap, subst, arith}
 use Rattle.std.specs.Str.{bytes_eq}
 use Rattle.ifmap_addresses.specs.IpV4.{IsIpV4}
 use Rattle.ifmap_addresses.specs.IpV6.{IsIpV6}

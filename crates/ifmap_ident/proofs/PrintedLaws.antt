@@ -129,10 +129,10 @@ identity_printed name kind (o ∷ os) (b ∷ d) =
     (attribute_written other_name (o ∷ os)) (attribute_written (codes "type") (identity_type_name kind)))
 
 -- a name as text in an element in another
-abbrev inner : List ℕ → Element
+abbrev pub inner : List ℕ → Element
 inner name = bare_element (codes "name") [] (Child.Text name ∷ [])
 
-abbrev outer : List ℕ → Element
+abbrev pub outer : List ℕ → Element
 outer name = bare_element (codes "device") [] (Child.Element (inner name) ∷ [])
 
 abbrev Spaces : Type 0
@@ -143,7 +143,7 @@ arranged_inner name =
     at_element Child.Child Element arrange_child_of arrange_element_of (inner name)
     ∙ ap (λ child. bare_element (codes "name") [] (child ∷ [])) (at_child_text Child.Child Element arrange_child_of arrange_element_of name)
 
-arranged_outer : (name : List ℕ) → arrange (outer name) ≡ outer name
+pub arranged_outer : (name : List ℕ) → arrange (outer name) ≡ outer name
 arranged_outer name =
     at_element Child.Child Element arrange_child_of arrange_element_of (outer name)
     ∙ ap (λ child. bare_element (codes "device") [] (child ∷ []))

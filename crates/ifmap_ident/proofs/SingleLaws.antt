@@ -3,7 +3,7 @@
 -- 2. So two sets of parts of one variant are those of one identifier.
 -- 3. The variants differ by the element's name, and IPv4 from IPv6 by the type.
 -- 4. Two causes, or a cause and an identifier, do not stand together.
-use Rattle.std.proofs.Common.{◌≡◌, ◌≢◌, ℕ, ◌<◌, ◌≤◌, List, [], ◌∷◌, Option, None, Some, Result, Ok, Err, codes, length, unwrap_or, refl, sym, ◌∙◌, ap, subst, ◌⊎◌, inl, inr, arith}
+use Rattle.std.proofs.Common.{◌≡◌, ℕ, ◌<◌, ◌≤◌, List, [], ◌∷◌, Option, Some, Result, Ok, Err, codes, length, refl, sym, ◌∙◌, ap, subst, inl, inr, arith}
 use Rattle.ifmap_addresses.specs.IpV4.{IsIpV4}
 use Rattle.ifmap_addresses.specs.IpV6.{IsIpV6}
 use Rattle.ifmap_addresses.specs.IpV4Laws.{one_ip_v4}
@@ -29,19 +29,19 @@ use Rattle.ifmap_ident.specs.declared.names.NameForm.{NameForm}
 use Rattle.ifmap_ident.specs.declared.names.NameForm.TheVariants.{Literal, Domain, Spelled}
 use Rattle.ifmap_ident.specs.Canon.{HasParts, HoldsName, IsAccessRequest, IsAnswer, IsCanon, IsDefinition, IsDevice, IsIdentity, IsInvalid, IsIpAddress, IsMacAddressElement, IsMeant, IsTooLong, IsWrongKind, most_bytes}
 use Rattle.ifmap_ident.specs.Identifiers.{identifier_bytes, identifier_kind}
-use Rattle.ifmap_ident.specs.IdentityNames.{IsKept, IsSpelledName, name_form}
+use Rattle.ifmap_ident.specs.IdentityNames.{IsKept, name_form}
 use Rattle.ifmap_ident.specs.Kinds.{identity_type_name}
 use Rattle.ifmap_ident.specs.Laws.{AreOneAnswer}
 use Rattle.ifmap_ident.specs.Parts.{value_of}
-use Rattle.ifmap_ident.proofs.KindLaws.{kinds_are_one, one_value, types_are_one}
+use Rattle.ifmap_ident.proofs.KindLaws.{one_value, types_are_one}
 use Rattle.ifmap_ident.proofs.MeaningLaws.{kind_of_meant, versions_differ}
 
 -- ---- parts
 
-one_of : (given : Option (List ℕ)) (x y : List ℕ) → given ≡ Some x → given ≡ Some y → x ≡ y
+pub one_of : (given : Option (List ℕ)) (x y : List ℕ) → given ≡ Some x → given ≡ Some y → x ≡ y
 one_of given x y p q = one_value x y (sym p ∙ q)
 
-one_definition : (kind : IdentityType) (given : Option (List ℕ)) (x y : List ℕ) → IsDefinition kind given x → IsDefinition kind given y
+pub one_definition : (kind : IdentityType) (given : Option (List ℕ)) (x y : List ℕ) → IsDefinition kind given x → IsDefinition kind given y
     → x ≡ y
 one_definition types.Other given x y p q = one_of given x y p.0 q.0
 one_definition types.AikName given x y p q = p ∙ sym q
@@ -54,7 +54,7 @@ one_definition types.Username given x y p q = p ∙ sym q
 one_definition types.SipUri given x y p q = p ∙ sym q
 one_definition types.TelUri given x y p q = p ∙ sym q
 
-one_kept : (form : NameForm) (text x y : List ℕ) → IsKept form text x → IsKept form text y → x ≡ y
+pub one_kept : (form : NameForm) (text x y : List ℕ) → IsKept form text x → IsKept form text y → x ≡ y
 one_kept Literal text x y p q = p ∙ sym q
 one_kept Domain text x y p q = p ∙ sym q
 one_kept Spelled text x y p q =
@@ -65,11 +65,11 @@ text_or : List ℕ → Child-F Child Element → List ℕ
 text_or d (Child-F.Element e) = d
 text_or d (Child-F.Text t) = t
 
-one_text : (x y : List ℕ) → the.Text x ≡ the.Text y → x ≡ y
+pub one_text : (x y : List ℕ) → the.Text x ≡ the.Text y → x ≡ y
 unfolding text_or
 one_text x y e = ap (text_or x) (sym (out_text x) ∙ ap out-Child e ∙ out_text y)
 
-one_member : {X : Type 0} (x y : X) → x ∷ [] ≡ y ∷ [] → x ≡ y
+pub one_member : {X : Type 0} (x y : X) → x ∷ [] ≡ y ∷ [] → x ≡ y
 one_member x y e = cc
 
 one_name_held : (child : Element) (x y : List ℕ) → HoldsName child x → HoldsName child y → x ≡ y

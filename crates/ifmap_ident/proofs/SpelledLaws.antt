@@ -1,11 +1,8 @@
 -- Names that spell elements.
-use Rattle.std.proofs.Common.{◌≡◌, ℕ, ◌≤◌, List, Result, Err, refl, sym, ◌∙◌, ap, subst}
-use Rattle.ifmap_elem.specs.Arranged.{arrange}
-use Rattle.ifmap_elem.specs.Canonical.{canonical_bytes, canonical_reading}
+use Rattle.std.proofs.Common.{◌≡◌, ℕ, ◌≤◌, List, Result, Err, sym, ◌∙◌, subst}
+use Rattle.ifmap_elem.specs.Canonical.{canonical_reading}
 use Rattle.ifmap_elem.specs.Fit.{IsFit}
-use Rattle.ifmap_elem.specs.Nesting.{nesting}
 use Rattle.ifmap_elem.specs.Spells.{Spells}
-use Rattle.ifmap_elem.specs.declared.elements.Element.{Element}
 use Rattle.ifmap_elem.specs.declared.readings.Reading.{Reading}
 use Rattle.ifmap_elem.specs.laws.CanonicalSpells.{canonical_spelled}
 use Rattle.ifmap_elem.specs.laws.FitLaws.{nesting_arranged}

@@ -2,7 +2,8 @@
 ghost use Rattle.std.specs.Prelude.{◌≡◌};
 ghost use Rattle.ifmap_ident.specs.Codes.{code_name};
 
-/// Why a request was refused: the error codes of the IF-MAP binding for SOAP, version 2.2.
+/// Why a request was refused: the error codes of the IF-MAP binding for SOAP, version 2.2, `errorCode`
+/// of its schema.
 #[derive(Clone, Copy, Debug, PartialEq, Eq)]
 pub enum Code {
     /// The session belongs to another client.

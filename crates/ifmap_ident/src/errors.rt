@@ -11,9 +11,10 @@ pub enum IdentError {
     /// The element lacks a part, or has one that is not of its form.
     #[error("the identifier lacks a part or has one that is not of its form")]
     Invalid,
-    /// The identifier has too many canonical bytes.
+    /// The identifier has more than 4,096 canonical bytes.
     #[error("the identifier has more than 4096 canonical bytes")]
     TooLong,
+    /// Memory ran out.
     #[error("out of memory")]
     NoMemory,
 }

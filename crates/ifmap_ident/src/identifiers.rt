@@ -19,40 +19,53 @@ use ifmap_elem::{Copied, Element, Equals, Text};
 use std::alloc::{AllocError as NoMemory, Global};
 use std::cmp::Ordering;
 
-/// What metadata is said of. Its parts are in their canonical form, and the empty domain is no
-/// domain.
+/// What metadata is said of: IF-MAP binding for SOAP, version 2.2, section 3.2. Its parts are in their
+/// canonical form, and the empty domain is no domain.
 #[derive(Debug, Drop)]
 pub enum Identifier {
     /// A client's request for access to the network.
     AccessRequest {
+        /// The name that it was given.
         name: Text,
+        /// The administrative domain in which the name is meant.
         domain: Text,
     },
     /// A device, by a name that its owner chose.
     Device {
+        /// This name.
         name: Text,
     },
     /// A user or another party. With the type `Other` and only there, `other` tells the type, and
     /// an extended identifier has the canonical bytes of an element as its name.
     Identity {
+        /// The name, in the form in which its type keeps it.
         name: Text,
+        /// What the name is.
         kind: IdentityType,
+        /// What the type `Other` is defined as; empty with every other type.
         other: Text,
+        /// The administrative domain in which the name is meant.
         domain: Text,
     },
     /// An address of version 4 of the Internet Protocol.
     IpV4 {
+        /// Its four bytes.
         value: [u8; 4],
+        /// The administrative domain in which the address is meant.
         domain: Text,
     },
     /// An address of version 6 of the Internet Protocol.
     IpV6 {
+        /// Its eight groups.
         value: [u16; 8],
+        /// The administrative domain in which the address is meant.
         domain: Text,
     },
     /// The address of a network interface.
     MacAddress {
+        /// Its six bytes.
         value: [u8; 6],
+        /// The administrative domain in which the address is meant.
         domain: Text,
     },
 }
@@ -86,7 +99,7 @@ impl Identifier {
         write_identifier(alloc, self)
     }
 
-    /// Which of the five elements the identifier is.
+    /// Which of the five elements the identifier is. It takes no memory.
     pub fn kind(&self) -> Kind
         ensures { result ≡ identifier_kind self.now }
     {
@@ -100,7 +113,7 @@ impl Identifier {
     }
 
     /// How many canonical bytes the identifier has. Where they are more than a `u64` can tell, which
-    /// no identifier of a document has, it stands at the greatest.
+    /// no identifier of a document has, it stands at the greatest. It takes no memory.
     pub fn size(&self) -> u64
         ensures size { result ≡ min (length (identifier_bytes self.now)) (2 ^ 64 - 1) }
         ensures exact { length (identifier_bytes self.now) < 2 ^ 64

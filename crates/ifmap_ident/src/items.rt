@@ -23,7 +23,7 @@ pub enum Item {
 }
 
 impl Item {
-    /// The link of two identifiers; `None` exactly where they are equal.
+    /// The link of two identifiers; `None` exactly where they are equal. It takes no memory.
     pub fn pair(a: Identifier, b: Identifier) -> Option<Item>
         ensures pair { result ≡ pair_of a b }
         ensures none { IsNone result ↔ (identifier_bytes a ≡ identifier_bytes b) }
@@ -37,7 +37,7 @@ impl Item {
         }
     }
 
-    /// How many canonical bytes the identifiers have together; at most 2^64 - 1.
+    /// How many canonical bytes the identifiers have together; at most 2^64 - 1. It takes no memory.
     pub fn size(&self) -> u64
         ensures size { result ≡ min (item_size self.now) (2 ^ 64 - 1) }
         ensures exact { item_size self.now < 2 ^ 64 → result ≡ item_size self.now }

@@ -13,10 +13,15 @@ use std::alloc::{AllocError as NoMemory, Global};
 /// Which element an identifier is.
 #[derive(Clone, Copy, Debug, PartialEq, Eq)]
 pub enum Kind {
+    /// `access-request`.
     AccessRequest,
+    /// `device`.
     Device,
+    /// `identity`.
     Identity,
+    /// `ip-address`, of either version.
     IpAddress,
+    /// `mac-address`.
     MacAddress,
 }
 
@@ -35,7 +40,7 @@ const KINDS: [Kind; 5] = [
 ];
 
 impl Kind {
-    /// The name of its element.
+    /// The name of its element. It takes no memory.
     pub fn name(self) -> &'static str
         ensures { result.now ≡ kind_name self }
     {
@@ -67,14 +72,23 @@ fn kind_of(name: &Name) -> Option<Kind>
 /// What the name of an identity is.
 #[derive(Clone, Copy, Debug, PartialEq, Eq)]
 pub enum IdentityType {
+    /// The name of an attestation identity key.
     AikName,
+    /// A distinguished name of X.500.
     DistinguishedName,
+    /// The name of a domain, which is kept in lower case and without the dots at its end.
     DnsName,
+    /// An address of electronic mail.
     EmailAddress,
+    /// A host identity tag.
     HipHit,
+    /// A principal of Kerberos.
     KerberosPrincipal,
+    /// The name of a user.
     Username,
+    /// A URI of SIP.
     SipUri,
+    /// A telephone number as a URI.
     TelUri,
     /// As `other-type-definition` says.
     Other,

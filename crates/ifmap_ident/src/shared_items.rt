@@ -41,22 +41,21 @@ impl SharedItem {
         Ok(SharedItem(Arc::new(alloc, Measured { item, size })?))
     }
 
-    /// The same item once more; nothing is copied. The one error is told where its holders can be
-    /// counted no further.
+    /// The same item once more: nothing is copied. It may fail.
     pub fn share(&self) -> Result<SharedItem, NoMemory>
         ensures { IfOk result (λ shared. shared ≡ self.now) }
     {
         Ok(SharedItem(Arc::try_clone(&self.0)?))
     }
 
-    /// The item.
+    /// The item. It takes no memory.
     pub fn item(&self) -> &Item
         ensures { result.now ≡ self.now }
     {
         &self.0.item
     }
 
-    /// How many canonical bytes its identifiers have together; at most 2^64 - 1.
+    /// How many canonical bytes its identifiers have together; at most 2^64 - 1. It takes no memory.
     pub fn size(&self) -> u64
         ensures { result ≡ min (item_size self.now) (2 ^ 64 - 1) }
     {

@@ -1,6 +1,6 @@
 //! Each public call once, with ample memory.
 use ifmap_elem::{Copied, Equals};
-use ifmap_ident::{IdentError, Identifier, IdentityType, Item, Kind};
+use ifmap_ident::{IdentError, Identifier, IdentityType, Item, Kind, SharedItem};
 use ifmap_reader::read;
 use std::alloc::Global;
 use std::cmp::Ordering;
@@ -38,6 +38,43 @@ fn identifiers_are_ordered_by_their_canonical_bytes(rt: HostRuntime) -> Result<(
             assert!(rt; order == Some(i.cmp(&j)), "{i} {j}");
         }
     }
+    Ok(())
+}
+
+// Two spellings each of one address and of one extended identity, with the number of its canonical bytes.
+const SPELLINGS: [(&str, &str, u64); 2] = [
+    (
+        "<ip-address type='IPv6' value='2001:DB8::1'/>",
+        "<ip-address type='IPv6' value='2001:db8:0:0:0:0:0:1'/>",
+        54,
+    ),
+    (
+        "<identity type='other' other-type-definition='extended' \
+        name='&lt;a xmlns=\"u\" y=\"1\" x=&apos;2&apos;/>'/>",
+        "<identity type='other' other-type-definition='extended' \
+        name='&lt;p:a xmlns:p=\"u\" x=\"2\" y=\"1\">&lt;/p:a>'/>",
+        130,
+    ),
+];
+
+fn are_equal(alloc: Global, one: &str, other: &str) -> Option<bool> {
+    let one = identifier_of(alloc, one)?;
+    let other = identifier_of(alloc, other)?;
+    Some(one == other)
+}
+
+fn size_of(alloc: Global, document: &str) -> Option<u64> {
+    Some(identifier_of(alloc, document)?.size())
+}
+
+#[test]
+fn spellings_of_one_identifier_are_equal(rt: HostRuntime) -> Result<(), Fail> {
+    let alloc = rt.alloc();
+    for (one, other, size) in &SPELLINGS {
+        assert!(rt; are_equal(alloc, one, other) == Some(true), "{one}");
+        assert!(rt; size_of(alloc, one) == Some(*size), "{one}");
+    }
+    assert!(rt; are_equal(alloc, SPELLINGS[0].0, SPELLINGS[1].0) == Some(false));
     Ok(())
 }
 
@@ -101,6 +138,43 @@ fn links_are_of_two_identifiers(rt: HostRuntime) -> Result<(), Fail> {
     assert!(rt; size_of_link(alloc, mac, ip) == Some(83));
     assert!(rt; size_of_link(alloc, ip, mac) == Some(83));
     assert!(rt; size_of_link(alloc, mac, capitals).is_none());
+    Ok(())
+}
+
+// Whether an item is the same after it was shared, shared again and copied, with this size.
+fn is_shared(alloc: Global, identifier: Identifier, size: u64) -> bool {
+    match SharedItem::new(alloc, Item::One(identifier)) {
+        Ok(shared) => is_shared_again(alloc, &shared, size),
+        Err(_) => false,
+    }
+}
+
+fn is_shared_again(alloc: Global, shared: &SharedItem, size: u64) -> bool {
+    match shared.share() {
+        Ok(again) => shared.item() == again.item() && is_copied_again(alloc, &again, size),
+        Err(_) => false,
+    }
+}
+
+fn is_copied_again(alloc: Global, shared: &SharedItem, size: u64) -> bool {
+    match shared.copy(alloc) {
+        Ok(copy) => shared.item() == copy.item() && copy.size() == size,
+        Err(_) => false,
+    }
+}
+
+fn is_item_shared(alloc: Global, document: &str, size: u64) -> bool {
+    match identifier_of(alloc, document) {
+        Some(identifier) => is_shared(alloc, identifier, size),
+        None => false,
+    }
+}
+
+#[test]
+fn shared_items_are_the_same_in_each_place(rt: HostRuntime) -> Result<(), Fail> {
+    let alloc = rt.alloc();
+    let mac = "<mac-address value='00:00:5E:00:53:01'/>";
+    assert!(rt; is_item_shared(alloc, mac, 40));
     Ok(())
 }
 

@@ -1,4 +1,4 @@
--- How many elements of one type an item can carry (IF-MAP binding for SOAP 2.2, metadata cardinality).
+-- How many elements of one type an item can carry (IF-MAP binding for SOAP, version 2.2: `ifmap-cardinality`).
 use Rattle.std.specs.Prelude.{Bool, cond, ◌&&◌, codes, Option, None, Some}
 use Rattle.std.specs.List.{list_any}
 use Rattle.std.specs.Str.{bytes_eq}

@@ -30,7 +30,7 @@ characters_of = fold-Element (List ℕ) (List ℕ) child_characters_of element_c
 abbrev pub characters_of_child : Child → List ℕ
 characters_of_child = fold-Child (List ℕ) (List ℕ) child_characters_of element_characters_of
 
--- the word after one more byte (FNV, in its order of multiplying first)
+-- the word after one more byte: the word times a prime, and the byte added, within 64 bits
 abbrev pub mix : ℕ → ℕ → ℕ
 mix word b = (word * 1_099_511_628_211 % 2 ^ 64 + b) % 2 ^ 64
 

@@ -1,4 +1,5 @@
--- Which stored elements take each other's place on an item (IF-MAP binding for SOAP 2.2, metadata cardinality).
+-- Which stored elements take each other's place on an item (IF-MAP binding for SOAP, version 2.2: `singleValue`
+-- and `multiValue`, and IF-MAP Metadata for Network Security, version 1.1, whose elements say one of them).
 use Rattle.std.specs.Prelude.{◌≡◌, ◌⊎◌, ℕ, List, Bool, IsTrue, ◌&&◌, ◌||◌}
 use Rattle.std.specs.Str.{bytes_eq}
 use Rattle.std.proofs.Math.Bool.{beq}

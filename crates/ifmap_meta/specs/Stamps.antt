@@ -1,5 +1,5 @@
--- What the server says of a published element: who published it, and when (IF-MAP binding for SOAP 2.2,
--- the operational attributes of metadata).
+-- What the server says of a published element: who published it, and when (IF-MAP binding for SOAP, version 2.2:
+-- `ifmap-publisher-id` and `ifmap-timestamp`, operational attributes of metadata).
 use Rattle.std.specs.Prelude.{ℕ, List, [], ◌∷◌, ◌++◌, Bool, not, ◌||◌, codes}
 use Rattle.std.specs.List.{filter}
 use Rattle.ifmap_elem.specs.Arranged.{sort_attributes}

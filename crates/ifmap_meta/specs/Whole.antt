@@ -44,7 +44,7 @@ pub record IsMetadata (metadata : Metadata) : Type 0 where
   pub cardinality : cardinality_of metadata.element ≡ Some metadata.cardinality
   pub size : length (canonical_bytes metadata.element) ≤ content_limit
 
--- its stamps are this publisher and some moment's text
+-- its stamps are this publisher and any text in place of the moment
 abbrev pub IsStampedBy : List ℕ → Element → Type 0
 IsStampedBy publisher e = (moment : List ℕ) × (filter is_stamp e.attributes ≡ stamps_of publisher moment)
 

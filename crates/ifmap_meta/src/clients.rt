@@ -30,7 +30,7 @@ impl Model for ClientName {
 }
 
 impl ClientName {
-    /// The text as a name; `None` exactly where it is none.
+    /// The text as a name; `None` exactly where it is none. It takes no memory.
     pub fn new(text: Text) -> Option<ClientName>
         ensures some { IsSome result ↔ IsClientName text }
         ensures text { IfSome result (λ name. name ≡ text) }
@@ -42,7 +42,7 @@ impl ClientName {
         }
     }
 
-    /// The name's text.
+    /// The name's text. It takes no memory.
     pub fn text(&self) -> &Text
         ensures text { result.now ≡ self.now }
         ensures form { IsClientName self.now }

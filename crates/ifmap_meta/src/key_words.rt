@@ -41,7 +41,8 @@ fn mix_attribute(word: u64, attribute: &Attribute) -> u64
 // The attributes that are no stamps.
 #[tactic(auto, using(crate::specs::laws::KeyWordLaws::mix_append))]
 fn mix_content(word: u64, attributes: &Many<Attribute>) -> u64
-    ensures { result ≡ mix_all word (flat_map attribute_characters (without_stamps attributes.now)) }
+    ensures { result
+        ≡ mix_all word (flat_map attribute_characters (without_stamps attributes.now)) }
 {
     let mut mixed = word;
     for attribute in &attributes.0 {

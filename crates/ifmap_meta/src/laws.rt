@@ -29,6 +29,11 @@ pub fn stamped_metadata_are_whole()
         → IsWhole (stored_as metadata.element publisher moment life) }
 {}
 
+/// Metadata that can be published are what is made of their own element.
+pub fn metadata_are_made_of_their_element()
+    ensures { (metadata : Metadata) → IsMetadata metadata → IsMadeOf metadata.element metadata }
+{}
+
 /// Stamping keeps what keys compare: the content, the name and the cardinality.
 pub fn stamping_keeps_what_keys_compare()
     ensures content { (publisher : List ℕ) (moment : ℕ) (element : Element)

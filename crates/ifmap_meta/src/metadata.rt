@@ -12,7 +12,8 @@ use crate::errors::MetaError;
 use ifmap_elem::{Attribute, Copied, Element, canonical};
 use std::alloc::{AllocError as NoMemory, Global};
 
-/// How many elements of one type an item can carry.
+/// How many elements of one type an item can carry: `ifmap-cardinality` of the IF-MAP binding for
+/// SOAP, version 2.2, which the elements of IF-MAP Metadata for Network Security, version 1.1, say.
 #[derive(Clone, Copy, Debug, PartialEq, Eq)]
 pub enum Cardinality {
     /// One: the next takes its place, whoever published it.
@@ -30,7 +31,9 @@ impl Copied for Cardinality {
 /// An element that is to be published: its content, without the server's stamps.
 #[derive(Debug, Drop)]
 pub struct Metadata {
+    /// What is published, its attributes in order.
     pub element: Element,
+    /// How many of its type an item can carry, as the element itself says.
     pub cardinality: Cardinality,
 }
 
@@ -111,7 +114,8 @@ fn is_multi_value(attribute: &Attribute) -> bool
 
 // Whether the element has more canonical bytes than content can have.
 fn is_too_long(alloc: Global, element: &Element) -> Result<bool, NoMemory>
-    ensures { IfOk result (λ long. IsTrue long ↔ (content_limit < length (canonical_bytes element.now))) }
+    ensures { IfOk result (λ long.
+        IsTrue long ↔ (content_limit < length (canonical_bytes element.now))) }
 {
     Ok(canonical(alloc, element)?.len() > CONTENT_LIMIT)
 }

@@ -52,8 +52,7 @@ impl SharedElement {
         Ok(SharedElement(Arc::new(alloc, printed)?))
     }
 
-    /// The same element once more, which takes no memory: nothing is copied. It fails only where it
-    /// stands in 2^63 places.
+    /// The same element once more: nothing is copied. It may fail.
     pub fn share(&self) -> Result<SharedElement, NoMemory>
         ensures { IfOk result (λ shared. shared ≡ self.now) }
     {

@@ -33,8 +33,11 @@ impl Copied for Life {
 /// An element as it is stored, with its stamps.
 #[derive(Debug, Drop)]
 pub struct Stored {
+    /// What is stored, with its stamps.
     pub element: SharedElement,
+    /// The client that published it.
     pub publisher: ClientName,
+    /// How long it is stored.
     pub life: Life,
 }
 

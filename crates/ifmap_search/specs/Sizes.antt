@@ -1,4 +1,5 @@
--- The sizes of results and of what a poll is told.
+-- The sizes of results and of what a poll is told, in bytes: what max-size and max-poll-result-size are compared with (IF-MAP
+-- binding for SOAP 2.2, search, newSession and poll).
 use Rattle.std.specs.Prelude.{ℕ, ◌+◌, List, length, sum_by}
 use Rattle.ifmap_elem.specs.Canonical.{canonical_bytes}
 use Rattle.ifmap_ident.specs.Items.{item_size}

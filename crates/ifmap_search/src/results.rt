@@ -8,7 +8,9 @@ use thiserror::Error;
 /// What a search found at one place: an element, and the identifier or link that it is attached to.
 #[derive(Debug, Drop)]
 pub struct Entry {
+    /// The identifier or the link.
     pub item: SharedItem,
+    /// The element as it is stored, or as it was notified.
     pub element: SharedElement,
 }
 
@@ -21,10 +23,13 @@ impl Copied for Entry {
     }
 }
 
-/// What a search found, with its size.
+/// What a search found.
 #[derive(Debug, Drop)]
 pub struct Found {
+    /// In the order of their items, and on one item of the canonical bytes of their elements.
     pub entries: Many<Entry>,
+    /// The canonical bytes of the identifiers and elements of the entries, each printed alone, as
+    /// `Search::max_size` limits them.
     pub size: u64,
 }
 
@@ -60,7 +65,8 @@ pub enum PollItem {
         name: Text,
         entries: Many<Entry>,
     },
-    /// That it ended, or that all did where none is named, with a note for a reader.
+    /// That it ended, or that all did where none is named, with a note for a reader. For the codes
+    /// of results that are too big the note is the size and its limit.
     Error {
         name: Option<Text>,
         code: Code,

@@ -1,8 +1,9 @@
--- Every request that a body means is fit: the one element that a body publishes can be published.
+-- Every request that a body means is fit: the one element that a body publishes can be published, on an address that is an
+-- identifier, and the ids of sessions are of characters.
 -- 1. The characters and names of the element are those of a document.
 -- 2. It fits, has two levels, stands in order and has no stamps.
 -- 3. Its bytes are spelled out up to the name and the text, whose lengths are limited.
--- 4. So what a body publishes is metadata, and each request that a body means is fit.
+-- 4. So what a body publishes is metadata, and each request that a body means is fit, where addresses are identifiers.
 use Rattle.std.proofs.Common.{rules, ◌≡◌, ◌≢◌, ℕ, suc, max, ◌+◌, ◌*◌, ◌≤◌, ◌==◌, Bool, true, false, ◌&&◌, ◌||◌, IsTrue, List, [], ◌∷◌, ◌++◌, map, length, codes, get_or, Some, refl, ap, sym, ◌∙◌, subst, arith, length-append, inl, inr}
 use Rattle.std.specs.Prelude.{nat_le, encode_utf8_all}
 use Rattle.std.specs.List.{AllByRecursion, flat_map, list_all}
@@ -10,6 +11,7 @@ use Rattle.std.specs.Str.{bytes_eq}
 use Rattle.std.proofs.lemmas.Bool.{and_parts, cases_Bool}
 use Rattle.std.proofs.lemmas.List.{append-nil}
 use Rattle.std.proofs.lemmas.Bool.Decides.{nat_tests}
+use Rattle.ifmap_addresses.specs.Values.{AreBelow}
 use Rattle.ifmap_elem.specs.declared.elements.Attribute.{Attribute}
 use Rattle.ifmap_elem.specs.declared.elements.Child.{Child, out-Child}
 use Rattle.ifmap_elem.specs.declared.elements.Child as the
@@ -30,6 +32,10 @@ use Rattle.ifmap_elem.specs.Scopes.{xmlns_space}
 use Rattle.ifmap_elem.specs.laws.ArrangedLaws.{arranged_in, arranged_is, arranged_text}
 use Rattle.ifmap_elem.specs.laws.FitLaws.{elements_in, elements_of_child, elements_text, fit_whole, out_element, out_text}
 use Rattle.ifmap_elem.specs.laws.PrintedElements.{spaces_is}
+use Rattle.ifmap_ident.specs.declared.identifiers.Identifier.TheVariants.{MacAddress}
+use Rattle.ifmap_ident.specs.declared.items.Item.TheVariants.{One}
+use Rattle.ifmap_ident.specs.Canon.{IsIdentifier}
+use Rattle.ifmap_ident.specs.Items.{IsCanonItem}
 use Rattle.ifmap_lemmas.specs.Members.{all_of_test, all_weaker}
 use Rattle.ifmap_lemmas.specs.Texts.{ascii_encoded, is_ascii}
 use Rattle.ifmap_meta.specs.declared.metadata.Cardinality.{Cardinality}
@@ -40,9 +46,11 @@ use Rattle.ifmap_meta.specs.Stamps.{content_of}
 use Rattle.ifmap_meta.specs.Whole.{IsMetadata, content_limit, level_limit}
 use Rattle.ifmap_msg.specs.declared.requests.Request.{Request}
 use Rattle.ifmap_msg.specs.declared.requests.Request.TheVariants.{NewSession, EndSession, Publish, Search}
+use Rattle.ifmap_msg.specs.declared.requests.Search as searches
 use Rattle.ifmap_msg.specs.Fit.{AreFitOps, IsFitRequest}
 use Rattle.ifmap_server.specs.Bodies.{Means, meaning}
-use Rattle.ifmap_server.specs.Publications.{Publication, IsPublication, cardinality_text, is_local, is_local_byte, is_lower, is_value, is_value_byte, metadata_space, operations_of, published_element}
+use Rattle.ifmap_server.specs.Ids.{is_id, is_id_byte}
+use Rattle.ifmap_server.specs.Publications.{IsAddress, Publication, IsPublication, cardinality_text, is_local, is_local_byte, is_lower, is_value, is_value_byte, metadata_space, operations_of, published_element}
 use Rattle.ifmap_server.proofs.Meanings.{meaning_is}
 
 -- characters and names
@@ -314,10 +322,33 @@ published_is_metadata p is = record {
 }
 
 -- each request that a body means is fit
-pub fit_meaning : (body : List ℕ) (r : Request) → meaning body ≡ Some r → IsFitRequest r
-fit_meaning body NewSession e = tt
-fit_meaning body (EndSession id) e = tt
-fit_meaning body (Search session search) e = tt
-fit_meaning body (Publish session ops) e =
-    let m : Means body (Publish session ops) = meaning_is body (Publish session ops) e in
-    subst AreFitOps (sym m.3) ((tt, (published_is_metadata m.0 m.1, tt)), tt)
+
+id_is_both : (b : ℕ) → is_id_byte b ≡ true → is_both b ≡ true
+id_is_both b h = grind (arith, nat_tests)
+
+id_characters : (id : List ℕ) → is_id id ≡ true → IsCharacters id
+id_characters id h =
+    both_are id (all_weaker is_id_byte is_both id_is_both id (all_of_test is_id_byte id
+    (and_parts (nat_le 1 (length id) && nat_le (length id) 57) (list_all is_id_byte id) h).1))
+
+module _ (addresses : (value : List ℕ) → AreBelow 256 6 value → IsIdentifier (MacAddress value [])) where
+  address_is : (address : List ℕ) → IsAddress address → IsIdentifier (MacAddress address [])
+  address_is address six = addresses address (record { number = six.0; below = six.1 })
+
+  pub fit_meaning : (body : List ℕ) (r : Request) → meaning body ≡ Some r → IsFitRequest r
+  fit_meaning body NewSession e = tt
+  fit_meaning body (EndSession id) e =
+      let m : Means body (EndSession id) = meaning_is body (EndSession id) e in
+      id_characters id m.0
+  fit_meaning body (Search session search) e =
+      let m : Means body (Search session search) = meaning_is body (Search session search) e in (
+        subst IsCharacters (sym m.2) (id_characters m.0.session m.1.session),
+        subst (λ (s : searches.Search). IsIdentifier s.start) (sym m.3) (address_is m.0.address m.1.address),
+      )
+  fit_meaning body (Publish session ops) e =
+      let m : Means body (Publish session ops) = meaning_is body (Publish session ops) e in
+      let there = address_is m.0.address m.1.address in
+      let item : IsCanonItem (One (MacAddress m.0.address [])) = record { ordered = tt; identifiers = (there, tt) } in (
+        subst IsCharacters (sym m.2) (id_characters m.0.session m.1.session),
+        subst AreFitOps (sym m.3) ((item, (published_is_metadata m.0 m.1, tt)), tt),
+      )

@@ -18,6 +18,7 @@ use crate::input::Input;
 use crate::replies::AnswerText;
 use crate::sending::send;
 use ifmap_core::{Ask, Core, Event};
+use ifmap_ident::laws::mac_addresses_are_identifiers;
 use ifmap_io::{Sink, Source};
 use ifmap_steps::Steps;
 use std::alloc::{AllocError as NoMemory, Global};
@@ -92,6 +93,7 @@ pub fn answer_frame<L: Ledger>(
     ensures text { IfOk result (λ text. text ≡ (step_frame core.old (frame_of header body.now)).1) }
     ensures cause { IfErr result (λ e. e ≡ ReplayError.NoMemory) }
 {
+    mac_addresses_are_identifiers();
     let Some(request) = request_of(alloc, body)? else {
         return Ok(AnswerText::unreadable(alloc)?);
     };

@@ -1,5 +1,5 @@
 -- Searches by halving, in lists that rise strictly by a key.
-use Rattle.std.proofs.Common.{◌≡◌, refl, sym, ◌∙◌, ap, subst, ℕ, suc, zero, ◌<◌, ◌≤◌, Bool, true, false, not, cond, List, [], ◌∷◌, ◌++◌, length, get_or, None, Some, Result, Ok, Err, Ordering, inl, inr, arith, add-one}
+use Rattle.std.proofs.Common.{◌≡◌, refl, sym, ◌∙◌, ap, ℕ, suc, zero, ◌<◌, ◌≤◌, Bool, true, false, not, cond, List, [], ◌∷◌, length, get_or, None, Some, Result, Ok, Err, Ordering, inl, inr, arith, add-one}
 use Rattle.std.proofs.lemmas.Bool.{cases_Bool, cases_lt}
 use Rattle.std.proofs.lemmas.Cmp.{alike_right}
 use Rattle.std.proofs.lemmas.List.Elements.{recursion_from_All}
@@ -10,46 +10,14 @@ use Rattle.std.specs.List.Sorted.{IsStrictlySortedBy, IsSortedBy, IsPartitionPoi
 use Rattle.std.specs.Ordering.{is_eq, is_lt, on, ordering_reverse}
 use Rattle.std.specs.declared.cmp.Ordering.TheVariants.{Less, Equal, Greater}
 use Rattle.ifmap_session.specs.Places.{IsPlaceOf}
+use Rattle.ifmap_session.specs.laws.TextLaws.{find_none}
 use Rattle.ifmap_lemmas.specs.Filters.{all_at, all_weaker, filter_all}
-
-pub all_push : {X : Type 0} (P : X → Type 0) (xs : List X) (y : X) → AllByRecursion P xs → P y → AllByRecursion P (xs ++ y ∷ [])
-all_push P [] y h k = (k, tt)
-all_push P (x ∷ xs) y h k = (h.0, all_push P xs y h.1 k)
 
 pub all_insert : {X : Type 0} (P : X → Type 0) (xs : List X) (i : ℕ) (y : X) → AllByRecursion P xs → P y → AllByRecursion P (insert xs i y)
 all_insert P [] zero y h k = (k, tt)
 all_insert P [] (suc i) y h k = (k, tt)
 all_insert P (x ∷ xs) zero y h k = (k, h)
 all_insert P (x ∷ xs) (suc i) y h k = (h.0, all_insert P xs i y h.1 k)
-
--- what a search finds passes, and is among the elements
-pub all_found : {X : Type 0} (P : X → Type 0) (p : X → Bool) (xs : List X) (x : X) → AllByRecursion P xs → find p xs ≡ Some x → P x
-all_found P p [] x h e = cc
-all_found P p (y ∷ ys) x h e =
-    elim (cases_Bool (p y)) [
-      | inl hit ↦ let same : y ≡ x = cc (rw hit at e) in subst P same h.0
-      | inr miss ↦ all_found P p ys x h.1 (rw miss at e)
-    ]
-
-pub found_passes : {X : Type 0} (p : X → Bool) (xs : List X) (x : X) → find p xs ≡ Some x → p x ≡ true
-found_passes p [] x e = cc
-found_passes p (y ∷ ys) x e =
-    elim (cases_Bool (p y)) [
-      | inl hit ↦ let same : y ≡ x = cc (rw hit at e) in subst (λ z. p z ≡ true) same hit
-      | inr miss ↦ found_passes p ys x (rw miss at e)
-    ]
-
-pub find_none : {X : Type 0} (p : X → Bool) (xs : List X) → AllByRecursion (λ x. p x ≡ false) xs → find p xs ≡ None
-find_none p [] h = refl
-find_none p (x ∷ xs) h = rw h.0 (find_none p xs h.1)
-
-pub none_passes : {X : Type 0} (p : X → Bool) (xs : List X) → find p xs ≡ None → AllByRecursion (λ x. p x ≡ false) xs
-none_passes p [] e = tt
-none_passes p (x ∷ xs) e =
-    elim (cases_Bool (p x)) [
-      | inl hit ↦ let bad : Some x ≡ None = rw hit at e in cc
-      | inr miss ↦ (miss, none_passes p xs (rw miss at e))
-    ]
 
 pub filter_same : {X : Type 0} (p q : X → Bool) → ((x : X) → p x ≡ q x) → (xs : List X) → filter p xs ≡ filter q xs
 filter_same p q e [] = refl

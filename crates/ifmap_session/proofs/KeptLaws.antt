@@ -1,20 +1,22 @@
 -- All that is kept, as calls change it.
--- First: the session of one row changes, and its queue with it (`rewritten`), which leaves its stamp (`moments_same`) or sets
--- it (`moments_set`). Then: a session ends (`kept_ended`) or begins (`kept_begun`), and empty rows go (`kept_filled`).
-use Rattle.std.proofs.Common.{◌≡◌, ◌≢◌, refl, sym, ◌∙◌, ap, ℕ, zero, suc, ◌<◌, ◌≤◌, List, [], ◌∷◌, ◌++◌, length, set, Some, inl, arith}
+-- First: the session of one row changes (`rewritten`), in its queue alone (`kept_queue`) or in its last moment, which sets
+-- its stamp (`kept_renewed`). Then: what holds of the stamps as a session ends (`moments_ended`) or begins (`moments_begun`).
+use Rattle.std.proofs.Common.{◌≡◌, ◌≢◌, refl, sym, ◌∙◌, ap, ℕ, zero, suc, ◌<◌, ◌≤◌, ◌==◌, Bool, true, false, cond, List, [], ◌∷◌, ◌++◌, length, set, Some, inl, arith}
 use Rattle.std.proofs.lemmas.List.{length-set}
 use Rattle.std.proofs.lemmas.Option.{slice_get_within}
 use Rattle.std.specs.List.{IsDistinct, slice_get}
 use Rattle.std.specs.List.Sorted.{IsStrictlySortedBy}
+use Rattle.ifmap_search.specs.declared.results.PollItem.{PollItem}
 use Rattle.ifmap_session.specs.declared.holders.Holder.{Holder}
 use Rattle.ifmap_session.specs.declared.rows.Row.{Row}
 use Rattle.ifmap_session.specs.SessionIds.{session_id}
-use Rattle.ifmap_session.specs.Kept.{AreHolders, AreRows, AreStamps, IsKept, IsOwn, Rewrites, live_of, spare_in}
+use Rattle.ifmap_session.specs.Kept.{AreHolders, AreRows, AreStamps, ChangesSeat, IsKept, IsOwn, Rewrites, live_of, spare_in}
 use Rattle.ifmap_session.specs.Seats.{Seat}
-use Rattle.ifmap_session.specs.Sessions.{Session, change, session_with_serial, spare_of}
+use Rattle.ifmap_session.specs.Sessions.{Session, change, emptied, overflowed, queued, renewed, session_with_serial, spare_of, without_name}
 use Rattle.ifmap_session.specs.Stamps.{Restamps, no_stamp}
-use Rattle.ifmap_session.proofs.RowLaws.{changed, empty, found, spare_found, spare_other, taken}
-use Rattle.ifmap_session.proofs.SessionLaws.{Keeps, holders_changed, own_at, rows_changed}
+use Rattle.ifmap_session.proofs.RowLaws.{changed, empty_row, found, spare_found, spare_other, row_of}
+use Rattle.ifmap_session.specs.laws.TableLaws.{Keeps}
+use Rattle.ifmap_session.proofs.SessionLaws.{holders_changed, own_at, rows_changed}
 use Rattle.ifmap_session.proofs.StampLaws.{stamped_alike, stamped_push, stamped_set}
 
 pub kept_none : IsKept 0 [] [] 0 []
@@ -32,7 +34,8 @@ kept_none = record {
 }
 
 -- the session of a row changed by f
-pub record Rewritten (counter n : ℕ) (f : Session → Session) (P : Seat → Seat → Type 0) (rows new : List Row) (holders : List Holder) : Type 0 where
+pub record Rewritten (counter n : ℕ) (f : Session → Session) (P : Seat → Seat → Type 0) (rows new : List Row)
+    (holders : List Holder) : Type 0 where
   pub before : Seat
   pub after : Seat
   pub holds : P before after
@@ -44,82 +47,130 @@ pub record Rewritten (counter n : ℕ) (f : Session → Session) (P : Seat → S
   pub was : spare_of n (spare_in rows) ≡ before.spare
   pub is : spare_of n (spare_in new) ≡ after.spare
 
+-- f changes no more of a session than its queue
+pub record ChangesQueue (f : Session → Session) : Type 0 where
+  pub names : Keeps f
+  pub last : (s : Session) → (f s).last ≡ s.last
+
+pub queue_stays : ChangesQueue (λ s. s)
+queue_stays = record { names = record { serial = λ s. refl; id = λ s. refl; client = λ s. refl }; last = λ s. refl }
+
+pub item_queued : (item : PollItem) → ChangesQueue (queued item)
+item_queued item = record { names = record { serial = λ s. refl; id = λ s. refl; client = λ s. refl }; last = λ s. refl }
+
+pub queue_overflowed : (error : PollItem) → ChangesQueue (overflowed error)
+queue_overflowed error = record { names = record { serial = λ s. refl; id = λ s. refl; client = λ s. refl }; last = λ s. refl }
+
+pub name_dropped : (name : List ℕ) → ChangesQueue (without_name name)
+name_dropped name = record { names = record { serial = λ s. refl; id = λ s. refl; client = λ s. refl }; last = λ s. refl }
+
+pub queue_emptied : ChangesQueue emptied
+queue_emptied = record { names = record { serial = λ s. refl; id = λ s. refl; client = λ s. refl }; last = λ s. refl }
+
+pub moment_renewed : (moment : ℕ) → Keeps (renewed moment)
+moment_renewed moment = record { serial = λ s. refl; id = λ s. refl; client = λ s. refl }
+
+-- a list in which nothing is changed
+either_way : (b : Bool) (s : Session) → cond b s s ≡ s
+either_way true s = refl
+either_way false s = refl
+
+pub change_none : (n : ℕ) (live : List Session) → change n (λ s. s) live ≡ live
+change_none n [] = refl
+change_none n (s ∷ live) = rw (either_way (s.serial == n) s, change_none n live) refl
+
 set_got : {X : Type 0} (xs : List X) (i : ℕ) (x y : X) → slice_get xs i ≡ Some x → slice_get (set xs i y) i ≡ Some y
 set_got [] i x y e = cc
 set_got (z ∷ xs) zero x y e = refl
 set_got (z ∷ xs) (suc i) x y e = set_got xs i x y e
 
-module _ (counter n : ℕ) (rows new : List Row) (holders : List Holder) (width : ℕ) (tree : List ℕ) (k : IsKept counter rows holders width tree)
-    (place : ℕ) (a : Seat) (e : slice_get rows place ≡ Some (taken n a)) where
-  pub rewritten : (f : Session → Session) (P : Seat → Seat → Type 0) → Keeps f → ((a b : Seat) → P a b → b.session ≡ f a.session)
-      → Rewrites place P rows new → Rewritten counter n f P rows new holders
-  rewritten f P keeps by w =
+module _ {counter : ℕ} {rows : List Row} {holders : List Holder} {width : ℕ} {tree : List ℕ}
+    (k : IsKept counter rows holders width tree) (n place : ℕ) (a : Seat) (e : slice_get rows place ≡ Some (row_of n a)) where
+  pub rewritten : (new : List Row) (f : Session → Session) (P : Seat → Seat → Type 0) → Keeps f
+      → Rewrites place (ChangesSeat f P) rows new → Rewritten counter n f P rows new holders
+  rewritten new f P keeps w =
       let r = w n a e in
       let b : Seat = r.0 in
       let own = own_at n rows place a k.sessions.own.own e in
-      let is : b.session ≡ f a.session = by a b r.1 in
-      let kept : AreRows counter (set rows place (taken n b)) =
+      let is : b.session ≡ f a.session = r.1.0 in
+      let kept : AreRows counter (set rows place (row_of n b)) =
       rows_changed counter n f rows place a b keeps k.sessions e own is in
       let own_b : b.session.serial ≡ n = ap (λ (s : Session). s.serial) is ∙ keeps.serial a.session ∙ own.numbered in
       record {
         before = a;
         after = b;
-        holds = r.1;
+        holds = r.1.1;
         there = found n rows place a k.sessions.own.rising k.sessions.own.own e;
         sessions = rw r.2 kept;
         clients = rw r.2 (holders_changed n f rows holders place a b keeps k.sessions.own k.clients e is);
         live = rw r.2 (changed n f rows place a b k.sessions.own.rising k.sessions.own.own e is);
         others = λ other apart. rw r.2 (spare_other n rows place a (Some b) k.sessions.own.own e own_b other apart);
         was = spare_found n rows place a k.sessions.own.rising k.sessions.own.own e;
-        is = rw r.2 (spare_found n (set rows place (taken n b)) place b kept.own.rising kept.own.own
-            (set_got rows place (taken n a) (taken n b) e));
+        is = rw r.2 (spare_found n (set rows place (row_of n b)) place b kept.own.rising kept.own.own
+            (set_got rows place (row_of n a) (row_of n b) e));
       }
 
   -- its stamp stays
-  pub moments_same : (P : Seat → Seat → Type 0) → ((a b : Seat) → P a b → b.session.last ≡ a.session.last) → Rewrites place P rows new
-      → AreStamps new width tree
-  moments_same P by w =
+  moments_same : (new : List Row) (f : Session → Session) (P : Seat → Seat → Type 0) → ((s : Session) → (f s).last ≡ s.last)
+      → Rewrites place (ChangesSeat f P) rows new → AreStamps new width tree
+  moments_same new f P last w =
       let r = w n a e in
       let b : Seat = r.0 in
-      let within = slice_get_within rows place (taken n a) e in
+      let within = slice_get_within rows place (row_of n a) e in
       rw r.2 (record {
         lesser = k.moments.lesser;
         power = k.moments.power;
         few = k.moments.few;
-        within = rw (length-set rows place (taken n b)) k.moments.within;
-        stamped = stamped_alike rows width place (taken n a) (taken n b) tree k.moments.stamped e within (by a b r.1);
+        within = rw (length-set rows place (row_of n b)) k.moments.within;
+        stamped = stamped_alike rows width place (row_of n a) (row_of n b) tree k.moments.stamped e within
+            (ap (λ (s : Session). s.last) r.1.0 ∙ last a.session);
       })
 
+  pub kept_queue : (new : List Row) (f : Session → Session) (P : Seat → Seat → Type 0) → ChangesQueue f
+      → Rewrites place (ChangesSeat f P) rows new → IsKept counter new holders width tree
+  kept_queue new f P c w =
+      let r = rewritten new f P c.names w in
+      record { sessions = r.sessions; clients = r.clients; moments = moments_same new f P c.last w }
+
   -- it is set
-  pub moments_set : (P : Seat → Seat → Type 0) (stamp : ℕ) (tree2 : List ℕ) → ((a b : Seat) → P a b → b.session.last ≡ stamp)
-      → Rewrites place P rows new → Restamps width place stamp tree tree2 → AreStamps new width tree2
-  moments_set P stamp tree2 by w restamped =
+  moments_set : (new : List Row) (P : Seat → Seat → Type 0) (moment : ℕ) (tree2 : List ℕ)
+      → Rewrites place (ChangesSeat (renewed moment) P) rows new → Restamps width place moment tree tree2 → AreStamps new width tree2
+  moments_set new P moment tree2 w restamped =
       let r = w n a e in
       let b : Seat = r.0 in
-      let within = slice_get_within rows place (taken n a) e in
+      let within = slice_get_within rows place (row_of n a) e in
       rw r.2 (record {
         lesser = restamped.tree;
         power = k.moments.power;
         few = k.moments.few;
-        within = rw (length-set rows place (taken n b)) k.moments.within;
-        stamped = stamped_set rows width place stamp (taken n b) tree tree2 k.moments.stamped within restamped (sym (by a b r.1));
+        within = rw (length-set rows place (row_of n b)) k.moments.within;
+        stamped = stamped_set rows width place moment (row_of n b) tree tree2 k.moments.stamped within restamped
+            (sym (ap (λ (s : Session). s.last) r.1.0));
       })
+
+  pub kept_renewed : (new : List Row) (P : Seat → Seat → Type 0) (moment : ℕ) (tree2 : List ℕ)
+      → Rewrites place (ChangesSeat (renewed moment) P) rows new → Restamps width place moment tree tree2
+      → IsKept counter new holders width tree2
+  kept_renewed new P moment tree2 w restamped =
+      let r = rewritten new (renewed moment) P (moment_renewed moment) w in
+      record { sessions = r.sessions; clients = r.clients; moments = moments_set new P moment tree2 w restamped }
 
   -- a place is one that stamps are for
   pub place_within : place < width
-  place_within = let less = slice_get_within rows place (taken n a) e in let within = k.moments.within in omega arith
+  place_within = let less = slice_get_within rows place (row_of n a) e in let within = k.moments.within in omega arith
 
 -- a session ends
 pub moments_ended : (n : ℕ) (rows : List Row) (width : ℕ) (tree tree2 : List ℕ) (place : ℕ) (a : Seat) → AreStamps rows width tree
-    → slice_get rows place ≡ Some (taken n a) → Restamps width place no_stamp tree tree2 → AreStamps (set rows place (empty n)) width tree2
+    → slice_get rows place ≡ Some (row_of n a) → Restamps width place no_stamp tree tree2
+    → AreStamps (set rows place (empty_row n)) width tree2
 moments_ended n rows width tree tree2 place a m e restamped =
-    let within = slice_get_within rows place (taken n a) e in
+    let within = slice_get_within rows place (row_of n a) e in
     record {
       lesser = restamped.tree;
       power = m.power;
       few = m.few;
-      within = rw (length-set rows place (empty n)) m.within;
-      stamped = stamped_set rows width place no_stamp (empty n) tree tree2 m.stamped within restamped refl;
+      within = rw (length-set rows place (empty_row n)) m.within;
+      stamped = stamped_set rows width place no_stamp (empty_row n) tree tree2 m.stamped within restamped refl;
     }
 
 -- one begins
@@ -129,13 +180,13 @@ push_length (x ∷ rows) r = ap (λ m. suc m) (push_length rows r)
 
 pub moments_begun : (n : ℕ) (rows : List Row) (width stamp : ℕ) (tree tree2 : List ℕ) (y : Seat) → AreStamps rows width tree
     → length rows < width → Restamps width (length rows) stamp tree tree2 → y.session.last ≡ stamp
-    → AreStamps (rows ++ taken n y ∷ []) width tree2
+    → AreStamps (rows ++ row_of n y ∷ []) width tree2
 moments_begun n rows width stamp tree tree2 y m less restamped is = record {
   lesser = restamped.tree;
   power = m.power;
   few = m.few;
-  within = let l = push_length rows (taken n y) in omega arith;
-  stamped = stamped_push rows width stamp (taken n y) tree tree2 m.stamped restamped (sym is);
+  within = let l = push_length rows (row_of n y) in omega arith;
+  stamped = stamped_push rows width stamp (row_of n y) tree tree2 m.stamped restamped (sym is);
 }
 
 -- where a session is expired there is a row

@@ -1,8 +1,11 @@
+-- Searches by halving, and trees of stamps.
 pub mod Halving
-pub mod KeptLaws
-pub mod PlaceLaws
-pub mod QueueLaws
-pub mod RowLaws
-pub mod SessionLaws
-pub mod StampLaws
 pub mod Trees
+-- Rows, where they stand, and their stamps.
+pub mod RowLaws
+pub mod PlaceLaws
+pub mod StampLaws
+-- Sessions and clients, the sizes of queues, and all that is kept.
+pub mod SessionLaws
+pub mod QueueLaws
+pub mod KeptLaws

@@ -14,8 +14,9 @@ use Rattle.ifmap_session.specs.Kept.{AreOwn, live_of, serial_at}
 use Rattle.ifmap_session.specs.Places.{IsPlaceOf}
 use Rattle.ifmap_session.specs.Seats.{Seat}
 use Rattle.ifmap_session.specs.Sessions.{session_with_serial}
-use Rattle.ifmap_session.proofs.Halving.{none_passes, placed}
-use Rattle.ifmap_session.proofs.RowLaws.{gone, none_of, taken}
+use Rattle.ifmap_session.specs.laws.TextLaws.{none_passes}
+use Rattle.ifmap_session.proofs.Halving.{placed}
+use Rattle.ifmap_session.proofs.RowLaws.{gone, none_of, row_of}
 
 is_number : (a b : ℕ) → (a == b) ≡ is_eq (nat_cmp a b)
 is_number a b = grind (arith, nat_tests)
@@ -45,13 +46,13 @@ module _ (rows : List Row) (n : ℕ) (o : AreOwn rows) where
       (low, slice_get-get_or rows i x low ∙ ap Some (sym at) ∙ ap (λ s. Some (record { serial = s; kept = x.kept })) serial)
 
   some_at : (i : ℕ) (kept : Option Seat) → is_some kept ≡ true → slice_get rows i ≡ Some (record { serial = n; kept = kept })
-      → (seat : Seat) × (slice_get rows i ≡ Some (taken n seat))
+      → (seat : Seat) × (slice_get rows i ≡ Some (row_of n seat))
   some_at i None some e = cc
   some_at i (Some seat) some e = (seat, e)
 
   pub row_there : (r : Result ℕ ℕ) (i : ℕ) (x : Row) → IsSearchInRange r (length rows)
       → IsBinarySearchResult (λ (x : Row). nat_cmp x.serial n) rows r → result_ok r ≡ Some i → x ≡ get_or rows i x
-      → is_some (get_or rows i x).kept ≡ true → (i < length rows) × ((seat : Seat) × (slice_get rows i ≡ Some (taken n seat)))
+      → is_some (get_or rows i x).kept ≡ true → (i < length rows) × ((seat : Seat) × (slice_get rows i ≡ Some (row_of n seat)))
   row_there r i x within is e at some = let p = at_place r i x within is e at in
       (p.0, some_at i x.kept (subst (λ (y : Row). is_some y.kept ≡ true) (sym at) some) p.1)
 

@@ -17,9 +17,11 @@ use Rattle.ifmap_session.specs.Kept.{AreOwn, IsOwn, live_of, row_order, seats_of
 use Rattle.ifmap_session.specs.Seats.{Seat}
 use Rattle.ifmap_session.specs.Sessions.{Session, change, session_with_serial, spare_of, without_sessions}
 
+-- rows rise by their serials
 abbrev pub Up : List Row → Type 0
 Up rows = IsStrictlySortedBy row_order rows
 
+-- each row's session has its serial, with which its id begins
 abbrev pub Own : List Row → Type 0
 Own rows = AllByRecursion (λ (r : Row). IfSome r.kept (IsOwn r.serial)) rows
 
@@ -27,15 +29,19 @@ Own rows = AllByRecursion (λ (r : Row). IfSome r.kept (IsOwn r.serial)) rows
 abbrev pub Others : ℕ → List Row → Type 0
 Others n rows = AllByRecursion (λ (r : Row). (r.serial == n) ≡ false) rows
 
-abbrev pub taken : ℕ → Seat → Row
-taken n seat = record { serial = n; kept = Some seat }
+-- the row of a live session
+abbrev pub row_of : ℕ → Seat → Row
+row_of n seat = record { serial = n; kept = Some seat }
 
-abbrev pub empty : ℕ → Row
-empty n = record { serial = n; kept = None }
+-- a row whose session ended
+abbrev pub empty_row : ℕ → Row
+empty_row n = record { serial = n; kept = None }
 
+-- the session of a seat
 abbrev pub the_session : Seat → Session
 the_session s = s.session
 
+-- the room of its queue, beside its serial
 abbrev pub the_spare : Seat → ℕ × ℕ
 the_spare s = (s.session.serial, s.spare)
 
@@ -81,7 +87,8 @@ pub above_differ : (r : Row) (rows : List Row) → AllByRecursion (λ z. row_ord
 above_differ r [] up n e = tt
 above_differ r (z ∷ rows) up n e = (grind (arith, nat_tests, up.0), above_differ r rows up.1 n e)
 
-serial_is : (z : Row) (n : ℕ) (kept : Option Seat) → ◌≡◌ {A = Option Row} (Some z) (Some (record { serial = n; kept = kept })) → z.serial ≡ n
+serial_is : (z : Row) (n : ℕ) (kept : Option Seat) → ◌≡◌ {A = Option Row} (Some z) (Some (record { serial = n; kept = kept }))
+    → z.serial ≡ n
 serial_is z n kept e = ap (λ (o : Option Row). unwrap_or (option_map (λ (x : Row). x.serial) o) n) e
 
 below_differs : (r : Row) (rows : List Row) (i n : ℕ) (kept : Option Seat) → AllByRecursion (λ z. row_order r z ≡ Less) rows
@@ -100,15 +107,15 @@ none_of n (r ∷ rows) own others =
     ∙ none_of n rows own.1 others.1
 
 module _ (n : ℕ) where
-  own_is : (r : Row) (a : Seat) → IfSome r.kept (IsOwn r.serial) → r ≡ taken n a → IsOwn n a
+  own_is : (r : Row) (a : Seat) → IfSome r.kept (IsOwn r.serial) → r ≡ row_of n a → IsOwn n a
   own_is r a own same = subst (λ (x : Row). IfSome x.kept (IsOwn x.serial)) same own
 
-  pub found : (rows : List Row) (i : ℕ) (a : Seat) → Up rows → Own rows → slice_get rows i ≡ Some (taken n a)
+  pub found : (rows : List Row) (i : ℕ) (a : Seat) → Up rows → Own rows → slice_get rows i ≡ Some (row_of n a)
       → session_with_serial n (live_of rows) ≡ Some a.session
   unfolding IsStrictlySortedBy
   found [] i a up own e = cc
   found (r ∷ rows) zero a up own e =
-      let same : r ≡ taken n a = cc in
+      let same : r ≡ row_of n a = cc in
       let mine = own_is r a own.0 same in
       rw (same, eq-eqb a.session.serial n mine.numbered) refl
   found (r ∷ rows) (suc i) a up own e =
@@ -116,12 +123,12 @@ module _ (n : ℕ) where
       (differs n r.serial r.kept own.0 (below_differs r rows i n (Some a) up.0 e))
       ∙ found rows i a up.1 own.1 e
 
-  pub gone : (rows : List Row) (i : ℕ) → Up rows → Own rows → slice_get rows i ≡ Some (empty n)
+  pub gone : (rows : List Row) (i : ℕ) → Up rows → Own rows → slice_get rows i ≡ Some (empty_row n)
       → session_with_serial n (live_of rows) ≡ None
   unfolding IsStrictlySortedBy
   gone [] i up own e = cc
   gone (r ∷ rows) zero up own e =
-      let same : r ≡ empty n = cc in
+      let same : r ≡ empty_row n = cc in
       let serial : r.serial ≡ n = serial_is r n None e in
       rw same (none_of n rows own.1 (above_differ r rows up.0 n serial))
   gone (r ∷ rows) (suc i) up own e =
@@ -139,18 +146,18 @@ module _ (n : ℕ) where
         (λ s is. rw (is, others.0) refl) r.kept own.0) (others_stay rows own.1 others.1)
         ∙ sym (front_is the_session r.kept (seats_of rows))
 
-    pub changed : (rows : List Row) (i : ℕ) (a b : Seat) → Up rows → Own rows → slice_get rows i ≡ Some (taken n a)
-        → b.session ≡ f a.session → live_of (set rows i (taken n b)) ≡ change n f (live_of rows)
+    pub changed : (rows : List Row) (i : ℕ) (a b : Seat) → Up rows → Own rows → slice_get rows i ≡ Some (row_of n a)
+        → b.session ≡ f a.session → live_of (set rows i (row_of n b)) ≡ change n f (live_of rows)
     unfolding IsStrictlySortedBy
     changed [] i a b up own e is = cc
     changed (r ∷ rows) zero a b up own e is =
-        let same : r ≡ taken n a = cc in
+        let same : r ≡ row_of n a = cc in
         let mine = own_is r a own.0 same in
         let serial : r.serial ≡ n = serial_is r n (Some a) e in
         rw (same, eq-eqb a.session.serial n mine.numbered, is)
         (ap (λ xs. f a.session ∷ xs) (sym (others_stay rows own.1 (above_differ r rows up.0 n serial))))
     changed (r ∷ rows) (suc i) a b up own e is =
-        front_is the_session r.kept (seats_of (set rows i (taken n b)))
+        front_is the_session r.kept (seats_of (set rows i (row_of n b)))
         ∙ ap (λ xs. map the_session (option_to_list r.kept) ++ xs) (changed rows i a b up.1 own.1 e is)
         ∙ sym (map_past the_session (λ s. cond (s.serial == n) (f s) s) r.kept (seats_of rows) (change n f (live_of rows))
         (weaker_own r.serial (λ s. cond (s.session.serial == n) (f s.session) s.session ≡ s.session)
@@ -171,17 +178,17 @@ module _ (n : ℕ) where
       (λ s is. stays s.session (rw is others.0)) r.kept own.0) (others_left rows own.1 others.1)
       ∙ sym (front_is the_session r.kept (seats_of rows))
 
-  pub ended : (rows : List Row) (i : ℕ) (a : Seat) → Up rows → Own rows → slice_get rows i ≡ Some (taken n a)
-      → live_of (set rows i (empty n)) ≡ without_sessions (n ∷ []) (live_of rows)
+  pub ended : (rows : List Row) (i : ℕ) (a : Seat) → Up rows → Own rows → slice_get rows i ≡ Some (row_of n a)
+      → live_of (set rows i (empty_row n)) ≡ without_sessions (n ∷ []) (live_of rows)
   unfolding IsStrictlySortedBy
   ended [] i a up own e = cc
   ended (r ∷ rows) zero a up own e =
-      let same : r ≡ taken n a = cc in
+      let same : r ≡ row_of n a = cc in
       let mine = own_is r a own.0 same in
       let serial : r.serial ≡ n = serial_is r n (Some a) e in
       rw (same, goes a.session mine.numbered) (sym (others_left rows own.1 (above_differ r rows up.0 n serial)))
   ended (r ∷ rows) (suc i) a up own e =
-      front_is the_session r.kept (seats_of (set rows i (empty n)))
+      front_is the_session r.kept (seats_of (set rows i (empty_row n)))
       ∙ ap (λ xs. map the_session (option_to_list r.kept) ++ xs) (ended rows i a up.1 own.1 e)
       ∙ sym (filter_past the_session (λ s. not (list_any (λ m. m == s.serial) (n ∷ []))) r.kept (seats_of rows)
       (without_sessions (n ∷ []) (live_of rows))
@@ -189,15 +196,15 @@ module _ (n : ℕ) where
       (λ s is. stays s.session (rw is (below_differs r rows i n (Some a) up.0 e))) r.kept own.0) refl)
 
   -- the room of queues
-  pub spare_found : (rows : List Row) (i : ℕ) (a : Seat) → Up rows → Own rows → slice_get rows i ≡ Some (taken n a)
+  pub spare_found : (rows : List Row) (i : ℕ) (a : Seat) → Up rows → Own rows → slice_get rows i ≡ Some (row_of n a)
       → spare_of n (spare_in rows) ≡ a.spare
   unfolding IsStrictlySortedBy
   spare_found rows i a up own e = ap (λ (o : Option (ℕ × ℕ)). unwrap_or (option_map (λ p. p.1) o) 0) (pair rows i up own e) where
-    pair : (rows : List Row) (i : ℕ) → Up rows → Own rows → slice_get rows i ≡ Some (taken n a)
+    pair : (rows : List Row) (i : ℕ) → Up rows → Own rows → slice_get rows i ≡ Some (row_of n a)
         → find (λ p. p.0 == n) (spare_in rows) ≡ Some (the_spare a)
     pair [] i up own e = cc
     pair (r ∷ rows) zero up own e =
-        let same : r ≡ taken n a = cc in
+        let same : r ≡ row_of n a = cc in
         let mine = own_is r a own.0 same in
         rw (same, eq-eqb a.session.serial n mine.numbered) refl
     pair (r ∷ rows) (suc i) up own e =
@@ -205,7 +212,7 @@ module _ (n : ℕ) where
         (differs n r.serial r.kept own.0 (below_differs r rows i n (Some a) up.0 e))
         ∙ pair rows i up.1 own.1 e
 
-  pub spare_other : (rows : List Row) (i : ℕ) (a : Seat) (kept : Option Seat) → Own rows → slice_get rows i ≡ Some (taken n a)
+  pub spare_other : (rows : List Row) (i : ℕ) (a : Seat) (kept : Option Seat) → Own rows → slice_get rows i ≡ Some (row_of n a)
       → IfSome kept (λ s. s.session.serial ≡ n) → (other : ℕ) → other ≢ n
       → spare_of other (spare_in (set rows i (record { serial = n; kept = kept }))) ≡ spare_of other (spare_in rows)
   spare_other rows i a kept own e mine other apart =
@@ -217,11 +224,12 @@ module _ (n : ℕ) where
         mine_differs None h = tt
         mine_differs (Some s) h = not_other s.session.serial h
 
-        pair : (rows : List Row) (i : ℕ) → Own rows → slice_get rows i ≡ Some (taken n a)
-            → find (λ p. p.0 == other) (spare_in (set rows i (record { serial = n; kept = kept }))) ≡ find (λ p. p.0 == other) (spare_in rows)
+        pair : (rows : List Row) (i : ℕ) → Own rows → slice_get rows i ≡ Some (row_of n a)
+            → find (λ p. p.0 == other) (spare_in (set rows i (record { serial = n; kept = kept })))
+            ≡ find (λ p. p.0 == other) (spare_in rows)
         pair [] i own e = cc
         pair (r ∷ rows) zero own e =
-            let same : r ≡ taken n a = cc in
+            let same : r ≡ row_of n a = cc in
             let its = own_is r a own.0 same in
             find_past the_spare (λ p. p.0 == other) kept (seats_of rows) (mine_differs kept mine)
             ∙ rw (same, not_other a.session.serial its.numbered) refl
@@ -234,13 +242,13 @@ module _ (n : ℕ) where
   map_alike g None seats others e = e
   map_alike g (Some s) seats others e = ap (λ xs. g s ∷ xs) e
 
-  pub spare_same : (rows : List Row) (i : ℕ) (a b : Seat) → slice_get rows i ≡ Some (taken n a) → the_spare b ≡ the_spare a
-      → spare_in (set rows i (taken n b)) ≡ spare_in rows
+  pub spare_same : (rows : List Row) (i : ℕ) (a b : Seat) → slice_get rows i ≡ Some (row_of n a) → the_spare b ≡ the_spare a
+      → spare_in (set rows i (row_of n b)) ≡ spare_in rows
   spare_same [] i a b e same = cc
   spare_same (r ∷ rows) zero a b e same =
-      let is : r ≡ taken n a = cc in rw is (ap (λ p. p ∷ spare_in rows) same)
+      let is : r ≡ row_of n a = cc in rw is (ap (λ p. p ∷ spare_in rows) same)
   spare_same (r ∷ rows) (suc i) a b e same =
-      map_alike the_spare r.kept (seats_of (set rows i (taken n b))) (seats_of rows) (spare_same rows i a b e same)
+      map_alike the_spare r.kept (seats_of (set rows i (row_of n b))) (seats_of rows) (spare_same rows i a b e same)
 
 -- order
 all_set : {X : Type 0} (P : X → Type 0) (xs : List X) (i : ℕ) (y : X) → AllByRecursion P xs → P y → AllByRecursion P (set xs i y)
@@ -270,19 +278,19 @@ up_set (x ∷ rows) (suc i) r q up e same = (
   up_set rows i r q up.1 e same,
 )
 
-pub own_set : (n : ℕ) (rows : List Row) (i : ℕ) (a : Seat) (kept : Option Seat) → AreOwn rows → slice_get rows i ≡ Some (taken n a)
+pub own_set : (n : ℕ) (rows : List Row) (i : ℕ) (a : Seat) (kept : Option Seat) → AreOwn rows → slice_get rows i ≡ Some (row_of n a)
     → IfSome kept (IsOwn n) → AreOwn (set rows i (record { serial = n; kept = kept }))
 own_set n rows i a kept o e mine = record {
-  rising = up_set rows i (taken n a) (record { serial = n; kept = kept }) o.rising e refl;
+  rising = up_set rows i (row_of n a) (record { serial = n; kept = kept }) o.rising e refl;
   own = all_set (λ (r : Row). IfSome r.kept (IsOwn r.serial)) rows i (record { serial = n; kept = kept }) o.own mine;
 }
 
 pub counted_set : (counter n : ℕ) (rows : List Row) (i : ℕ) (a : Seat) (kept : Option Seat)
-    → AllByRecursion (λ (r : Row). r.serial ≤ counter) rows → slice_get rows i ≡ Some (taken n a)
+    → AllByRecursion (λ (r : Row). r.serial ≤ counter) rows → slice_get rows i ≡ Some (row_of n a)
     → AllByRecursion (λ (r : Row). r.serial ≤ counter) (set rows i (record { serial = n; kept = kept }))
 counted_set counter n rows i a kept all e =
     all_set (λ (r : Row). r.serial ≤ counter) rows i (record { serial = n; kept = kept }) all
-    (all_got (λ (r : Row). r.serial ≤ counter) rows i (taken n a) all e)
+    (all_got (λ (r : Row). r.serial ≤ counter) rows i (row_of n a) all e)
 
 -- a row more
 all_push : {X : Type 0} (P : X → Type 0) (xs : List X) (y : X) → AllByRecursion P xs → P y → AllByRecursion P (xs ++ y ∷ [])
@@ -309,10 +317,11 @@ counted_push counter rows y counted e =
     all_push (λ (r : Row). r.serial ≤ counter + 1) rows y
     (all_weaker (λ (r : Row). r.serial ≤ counter) (λ (r : Row). r.serial ≤ counter + 1) (λ r h. omega arith) rows counted) (omega arith)
 
-seats_push : (rows : List Row) (n : ℕ) (a : Seat) → seats_of (rows ++ taken n a ∷ []) ≡ seats_of rows ++ a ∷ []
+seats_push : (rows : List Row) (n : ℕ) (a : Seat) → seats_of (rows ++ row_of n a ∷ []) ≡ seats_of rows ++ a ∷ []
 seats_push [] n a = refl
 seats_push (r ∷ rows) n a =
-    elim r.kept as (λ (o : Option Seat). option_to_list o ++ seats_of (rows ++ taken n a ∷ []) ≡ (option_to_list o ++ seats_of rows) ++ a ∷ []) [
+    elim r.kept as (λ (o : Option Seat). option_to_list o ++ seats_of (rows ++ row_of n a ∷ [])
+    ≡ (option_to_list o ++ seats_of rows) ++ a ∷ []) [
       | None ↦ seats_push rows n a
       | Some s ↦ ap (λ xs. s ∷ xs) (seats_push rows n a)
     ]
@@ -321,7 +330,7 @@ map_push : {X : Type 0} (g : Seat → X) (seats : List Seat) (a : Seat) → map 
 map_push g [] a = refl
 map_push g (s ∷ seats) a = ap (λ xs. g s ∷ xs) (map_push g seats a)
 
-pub begun_last : (rows : List Row) (n : ℕ) (a : Seat) → live_of (rows ++ taken n a ∷ []) ≡ live_of rows ++ a.session ∷ []
+pub begun_last : (rows : List Row) (n : ℕ) (a : Seat) → live_of (rows ++ row_of n a ∷ []) ≡ live_of rows ++ a.session ∷ []
 begun_last rows n a = ap (map the_session) (seats_push rows n a) ∙ map_push the_session (seats_of rows) a
 
 find_push : (p : (ℕ × ℕ) → Bool) (xs : List (ℕ × ℕ)) (y : ℕ × ℕ) → p y ≡ false → find p (xs ++ y ∷ []) ≡ find p xs
@@ -329,7 +338,7 @@ find_push p [] y e = rw e refl
 find_push p (x ∷ xs) y e = ap (λ o. cond (p x) (Some x) o) (find_push p xs y e)
 
 pub spare_begun : (rows : List Row) (n : ℕ) (a : Seat) → a.session.serial ≡ n → (other : ℕ) → other ≢ n
-    → spare_of other (spare_in (rows ++ taken n a ∷ [])) ≡ spare_of other (spare_in rows)
+    → spare_of other (spare_in (rows ++ row_of n a ∷ [])) ≡ spare_of other (spare_in rows)
 spare_begun rows n a mine other apart =
     ap (spare_of other) (ap (map the_spare) (seats_push rows n a) ∙ map_push the_spare (seats_of rows) a)
     ∙ ap (λ (o : Option (ℕ × ℕ)). unwrap_or (option_map (λ p. p.1) o) 0) (find_push (λ p. p.0 == other) (spare_in rows) (the_spare a)

@@ -1,16 +1,16 @@
 -- The live sessions and the clients' entries, as sessions change, end and begin.
--- First: texts, and lists whose texts differ. Then: what a client is found to have after a session ended (`client_after`,
+-- First: what a client is found to have after a session ended (`client_after`,
 -- `holder_after`, `client_gone`), began (`begun_indexed`) or changed (`client_changed`). Then: the session that an id names
--- (`id_at`, `id_nowhere`). Last: rows and entries together, as they are kept (`kept_changed`, `kept_ended`, `kept_begun`,
--- `kept_filled`).
+-- (`id_at`, `id_nowhere`). Last: rows and entries as they are kept, where a session changed (`rows_changed`,
+-- `holders_changed`), ended, began, or empty rows went.
 use Rattle.std.proofs.Common.{◌≡◌, refl, sym, ◌∙◌, ap, subst, ℕ, zero, suc, ◌+◌, ◌-◌, ◌<◌, ◌≤◌, ◌^◌, ◌==◌, Bool, true, false, not, cond, List, [], ◌∷◌, ◌++◌, length, map, set, Option, None, Some, Result, Ok, Err, inl, inr, arith}
 use Rattle.std.proofs.lemmas.Bool.{both_ways, cases_Bool, eqb-true, eqb-false, eq-eqb, false_from_ne_true, not-true}
 use Rattle.std.proofs.lemmas.Bool.Decides.{nat_tests}
-use Rattle.std.proofs.lemmas.Cmp.{nat_list_cmp_total, nat_list_eq_equiv}
+use Rattle.std.proofs.lemmas.Cmp.{nat_list_cmp_total}
 use Rattle.std.proofs.lemmas.List.Folds.{find-append}
 use Rattle.std.proofs.lemmas.List.Kept.{IsStrictlySortedBy-filter}
 use Rattle.std.proofs.lemmas.Map.Text.{is_eq-slice_cmp}
-use Rattle.std.specs.Cmp.Lexicographic.{same_text, slice_cmp}
+use Rattle.std.specs.Cmp.Lexicographic.{slice_cmp}
 use Rattle.std.specs.Fmt.{decimal}
 use Rattle.std.specs.List.{AllByRecursion, IsDistinct, filter, find, insert, list_any, remove, slice_get}
 use Rattle.std.specs.List.Sorted.{IsStrictlySortedBy, IsBinarySearchResult, IsSearchInRange}
@@ -23,25 +23,15 @@ use Rattle.ifmap_session.specs.declared.rows.Row.{Row}
 use Rattle.ifmap_session.specs.Kept.{AreHolders, AreOwn, AreRows, IsOwn, client_order, holder_of, live_of, row_order, seats_of}
 use Rattle.ifmap_session.specs.Places.{IsPlaceFor, IsPlaceOf}
 use Rattle.ifmap_session.specs.Seats.{Seat}
-use Rattle.ifmap_session.specs.SessionIds.{BeginsWithSerial}
+use Rattle.ifmap_session.specs.SessionIds.{BeginsWithSerial, hyphen}
 use Rattle.ifmap_session.specs.Sessions.{IsLive, Session, change, is_text, most_sessions, session_of_client, session_order, session_with_id, session_with_serial, without_sessions}
-use Rattle.ifmap_session.proofs.Halving.{all_found, filter_same, find_insert, find_none, none_passes, place_for, placed}
-use Rattle.ifmap_session.proofs.RowLaws.{Own, Up, begun_last, changed, counted_filter, counted_push, counted_set, empty, ended, found, own_filter, own_push, own_set, seats_filter, taken}
+use Rattle.ifmap_session.specs.laws.TableLaws.{Keeps, clients_same, length_same, one_changed, one_numbered, shorter}
+use Rattle.ifmap_session.specs.laws.TextLaws.{all_found, distinct_filter, distinct_push, find_none, none_passes, rest_differ, text_is, text_itself}
+use Rattle.ifmap_session.proofs.Halving.{filter_same, find_insert, place_for, placed}
+use Rattle.ifmap_session.proofs.RowLaws.{Own, Up, begun_last, changed, counted_filter, counted_push, counted_set, empty_row, ended, found, own_filter, own_push, own_set, row_of, seats_filter}
 use Rattle.ifmap_lemmas.specs.Filters.{all_weaker, filter_all, filter_passes}
 
--- texts and numbers
-pub text_is : (a b : List ℕ) → is_text a b ≡ true → a ≡ b
-text_is a b e = same_text a b (sym e)
-
-pub text_itself : (a : List ℕ) → is_text a a ≡ true
-text_itself a = nat_list_eq_equiv.refl a
-
-pub text_same : (a b : List ℕ) → a ≡ b → is_text a b ≡ true
-text_same a b e = subst (λ t. is_text a t ≡ true) e (text_itself a)
-
-pub text_flip : (a b : List ℕ) → is_text a b ≡ is_text b a
-text_flip a b = nat_list_eq_equiv.symm a b
-
+-- numbers
 pub is_number : (a b : ℕ) → (a == b) ≡ is_eq (nat_cmp a b)
 is_number a b = grind (arith, nat_tests)
 
@@ -65,41 +55,6 @@ without_one serial live =
     filter_same (λ (s : Session). not (s.serial == serial)) (λ (s : Session). not (list_any (λ n. n == s.serial) (serial ∷ [])))
     (λ s. grind (arith, nat_tests)) live
 
--- distinct texts
-all_map_filter : {X : Type 0} (key : X → List ℕ) (p : X → Bool) (P : List ℕ → Type 0) (xs : List X) → AllByRecursion P (map key xs)
-    → AllByRecursion P (map key (filter p xs))
-all_map_filter key p P [] h = tt
-all_map_filter key p P (x ∷ xs) h =
-    elim (p x) as (λ b. AllByRecursion P (map key (cond b (x ∷ filter p xs) (filter p xs)))) [
-      | true ↦ (h.0, all_map_filter key p P xs h.1)
-      | false ↦ all_map_filter key p P xs h.1
-    ]
-
-pub distinct_filter : {X : Type 0} (key : X → List ℕ) (p : X → Bool) (xs : List X) → IsDistinct is_text (map key xs)
-    → IsDistinct is_text (map key (filter p xs))
-unfolding IsDistinct
-distinct_filter key p [] h = tt
-distinct_filter key p (x ∷ xs) h =
-    elim (p x) as (λ b. IsDistinct is_text (map key (cond b (x ∷ filter p xs) (filter p xs)))) [
-      | true ↦ (all_map_filter key p (λ k. is_text (key x) k ≡ false) xs h.0, distinct_filter key p xs h.1)
-      | false ↦ distinct_filter key p xs h.1
-    ]
-
-all_map_push : {X : Type 0} (key : X → List ℕ) (P : List ℕ → Type 0) (xs : List X) (y : X) → AllByRecursion P (map key xs) → P (key y)
-    → AllByRecursion P (map key (xs ++ y ∷ []))
-all_map_push key P [] y h k = (k, tt)
-all_map_push key P (x ∷ xs) y h k = (h.0, all_map_push key P xs y h.1 k)
-
-pub distinct_push : {X : Type 0} (key : X → List ℕ) (xs : List X) (y : X) → IsDistinct is_text (map key xs) → find
-    (λ x. is_text (key x) (key y)) xs ≡ None → IsDistinct is_text (map key (xs ++ y ∷ []))
-unfolding IsDistinct
-distinct_push key [] y h e = (tt, tt)
-distinct_push key (x ∷ xs) y h e =
-    let none : AllByRecursion (λ z. is_text (key z) (key y) ≡ false) (x ∷ xs) = none_passes (λ z. is_text (key z) (key y)) (x ∷ xs) e in (
-      all_map_push key (λ k. is_text (key x) k ≡ false) xs y h.0 none.0,
-      distinct_push key xs y h.1 (find_none (λ z. is_text (key z) (key y)) xs none.1),
-    )
-
 pub all_map_found : {X : Type 0} (key : X → List ℕ) (P : List ℕ → Type 0) (p : X → Bool) (xs : List X) (x : X)
     → AllByRecursion P (map key xs) → find p xs ≡ Some x → P (key x)
 all_map_found key P p [] x h e = cc
@@ -108,13 +63,6 @@ all_map_found key P p (y ∷ ys) x h e =
       | inl hit ↦ let same : y ≡ x = cc (rw hit at e) in subst (λ z. P (key z)) same h.0
       | inr miss ↦ all_map_found key P p ys x h.1 (rw miss at e)
     ]
-
--- none of those that follow has the text of the one before them
-pub rest_differ : {X : Type 0} (key : X → List ℕ) (x : X) (c : List ℕ) (xs : List X) → AllByRecursion
-    (λ k. is_text (key x) k ≡ false) (map key xs) → is_text (key x) c ≡ true → AllByRecursion (λ z. is_text (key z) c ≡ false) xs
-rest_differ key x c [] h e = tt
-rest_differ key x c (z ∷ zs) h e =
-    (subst (λ k. is_text (key z) k ≡ false) (text_is (key x) c e) (text_flip (key z) (key x) ∙ h.0), rest_differ key x c zs h.1 e)
 
 -- two choices in a row change places where they are not both made
 swap_choices : {A : Type 0} (a b : Bool) (u v w : A) → (a ≡ true → b ≡ true → ⊥) → cond a u (cond b v w) ≡ cond b v (cond a u w)
@@ -242,29 +190,9 @@ begun_indexed y live holders i c none indexed =
     ]
 
 -- a client's session after one changed
-pub record Keeps (f : Session → Session) : Type 0 where
-  pub serial : (s : Session) → (f s).serial ≡ s.serial
-  pub id : (s : Session) → (f s).id ≡ s.id
-  pub client : (s : Session) → (f s).client ≡ s.client
-
-one_changed : (n : ℕ) (f : Session → Session) → Keeps f → (x : Session) → (cond (x.serial == n) (f x) x).client ≡ x.client
-one_changed n f k x = elim (cases_Bool (x.serial == n)) [ inl hit ↦ rw hit (k.client x) | inr miss ↦ rw miss refl ]
-
-one_numbered : (n : ℕ) (f : Session → Session) → Keeps f → (x : Session) → (cond (x.serial == n) (f x) x).serial ≡ x.serial
-one_numbered n f k x = elim (cases_Bool (x.serial == n)) [ inl hit ↦ rw hit (k.serial x) | inr miss ↦ rw miss refl ]
-
-pub clients_same : (n : ℕ) (f : Session → Session) → Keeps f → (live : List Session)
-    → map (λ (s : Session). s.client) (change n f live) ≡ map (λ (s : Session). s.client) live
-clients_same n f k [] = refl
-clients_same n f k (x ∷ live) = rw (one_changed n f k x, clients_same n f k live) refl
-
-pub length_same : (n : ℕ) (f : Session → Session) (live : List Session) → length (change n f live) ≡ length live
-length_same n f [] = refl
-length_same n f (x ∷ live) = ap (λ m. suc m) (length_same n f live)
-
-choose_serial : (b : Bool) (x y : Session) (o p : Option Session) → x.serial ≡ y.serial → option_map (λ (s : Session). s.serial) o ≡ option_map
-    (λ (s : Session). s.serial) p → option_map (λ (s : Session). s.serial) (cond b (Some x) o) ≡ option_map
-    (λ (s : Session). s.serial) (cond b (Some y) p)
+choose_serial : (b : Bool) (x y : Session) (o p : Option Session) → x.serial ≡ y.serial
+    → option_map (λ (s : Session). s.serial) o ≡ option_map (λ (s : Session). s.serial) p
+    → option_map (λ (s : Session). s.serial) (cond b (Some x) o) ≡ option_map (λ (s : Session). s.serial) (cond b (Some y) p)
 choose_serial true x y o p e h = ap Some e
 choose_serial false x y o p e h = h
 
@@ -309,7 +237,7 @@ id_at (x ∷ xs) n id s up leads e =
 -- an id that a live session has leads to that session's serial
 pub id_leads : (counter : ℕ) (live : List Session) (id : List ℕ) (r : Option ℕ) → counter < 2 ^ 64 → AllByRecursion
     (λ (s : Session). s.serial ≤ counter) live → AllByRecursion (λ (s : Session). BeginsWithSerial s.serial s.id) live
-    → ((n : ℕ) (rest : List ℕ) → n < 2 ^ 64 → id ≡ decimal n ++ 45 ∷ rest → r ≡ Some n) → AllByRecursion
+    → ((n : ℕ) (rest : List ℕ) → n < 2 ^ 64 → id ≡ decimal n ++ hyphen ∷ rest → r ≡ Some n) → AllByRecursion
     (λ (s : Session). is_text s.id id ≡ true → r ≡ Some s.serial) live
 id_leads counter [] id r small counted ids f = tt
 id_leads counter (x ∷ xs) id r small counted ids f = (
@@ -357,8 +285,8 @@ found_again p q (y ∷ ys) x e h =
     ]
 
 -- a client's session is live by its serial
-pub client_live : (live : List Session) (c : List ℕ) (serial : ℕ) → option_map (λ (s : Session). s.serial) (session_of_client c live) ≡ Some serial
-    → IsLive serial live
+pub client_live : (live : List Session) (c : List ℕ) (serial : ℕ)
+    → option_map (λ (s : Session). s.serial) (session_of_client c live) ≡ Some serial → IsLive serial live
 client_live live c serial e = go (session_of_client c live) refl e where
   go : (o : Option Session) → session_of_client c live ≡ o → option_map (λ (s : Session). s.serial) o ≡ Some serial → IsLive serial live
   go None same e = cc
@@ -391,11 +319,13 @@ live_counted counter rows counted own = all_live (λ s. s.serial ≤ counter) ro
   both : (rows : List Row) → AllByRecursion (λ (r : Row). r.serial ≤ counter) rows → Own rows
       → AllByRecursion (λ (r : Row). IfSome r.kept (λ (s : Seat). s.session.serial ≤ counter)) rows
   both [] c o = tt
-  both (r ∷ rows) c o = (if_some r.kept (IsOwn r.serial) (λ s. s.session.serial ≤ counter) (λ s h. rw h.numbered c.0) o.0, both rows c.1 o.1)
+  both (r ∷ rows) c o =
+      (if_some r.kept (IsOwn r.serial) (λ s. s.session.serial ≤ counter) (λ s h. rw h.numbered c.0) o.0, both rows c.1 o.1)
 
 pub live_ids : (rows : List Row) → Own rows → AllByRecursion (λ (s : Session). BeginsWithSerial s.serial s.id) (live_of rows)
 live_ids rows own = all_live (λ s. BeginsWithSerial s.serial s.id) rows (all_weaker
-    (λ (r : Row). IfSome r.kept (IsOwn r.serial)) (λ (r : Row). IfSome r.kept (λ (s : Seat). BeginsWithSerial s.session.serial s.session.id))
+    (λ (r : Row). IfSome r.kept (IsOwn r.serial))
+    (λ (r : Row). IfSome r.kept (λ (s : Seat). BeginsWithSerial s.session.serial s.session.id))
     (λ r h. if_some r.kept (IsOwn r.serial) (λ s. BeginsWithSerial s.session.serial s.session.id) (λ s k. rw k.numbered k.id) h) rows own)
 
 pub live_up : (rows : List Row) → Up rows → Own rows → IsStrictlySortedBy session_order (live_of rows)
@@ -417,9 +347,9 @@ live_up (r ∷ rows) up own = one r.kept own.0 (live_up rows up.1 own.1) where
 
 -- rows and entries, as they are kept
 pub rows_changed : (counter n : ℕ) (f : Session → Session) (rows : List Row) (i : ℕ) (a b : Seat) → Keeps f → AreRows counter rows
-    → slice_get rows i ≡ Some (taken n a) → IsOwn n a → b.session ≡ f a.session → AreRows counter (set rows i (taken n b))
+    → slice_get rows i ≡ Some (row_of n a) → IsOwn n a → b.session ≡ f a.session → AreRows counter (set rows i (row_of n b))
 rows_changed counter n f rows i a b k kept e own is =
-    let live : live_of (set rows i (taken n b)) ≡ change n f (live_of rows) =
+    let live : live_of (set rows i (row_of n b)) ≡ change n f (live_of rows) =
     changed n f rows i a b kept.own.rising kept.own.own e is in
     record {
       small = kept.small;
@@ -433,10 +363,10 @@ rows_changed counter n f rows i a b k kept e own is =
     }
 
 pub holders_changed : (n : ℕ) (f : Session → Session) (rows : List Row) (holders : List Holder) (i : ℕ) (a b : Seat) → Keeps f → AreOwn rows
-    → AreHolders rows holders → slice_get rows i ≡ Some (taken n a) → b.session ≡ f a.session
-    → AreHolders (set rows i (taken n b)) holders
+    → AreHolders rows holders → slice_get rows i ≡ Some (row_of n a) → b.session ≡ f a.session
+    → AreHolders (set rows i (row_of n b)) holders
 holders_changed n f rows holders i a b k own h e is =
-    let live : live_of (set rows i (taken n b)) ≡ change n f (live_of rows) = changed n f rows i a b own.rising own.own e is in
+    let live : live_of (set rows i (row_of n b)) ≡ change n f (live_of rows) = changed n f rows i a b own.rising own.own e is in
     record {
       ordered = h.ordered;
       indexed = λ c. h.indexed c ∙ sym (ap (λ xs. option_map (λ (s : Session). s.serial) (session_of_client c xs)) live
@@ -444,27 +374,23 @@ holders_changed n f rows holders i a b k own h e is =
       counts = h.counts ∙ sym (ap length live ∙ length_same n f (live_of rows));
     }
 
-filter_length : (p : Session → Bool) (xs : List Session) → length (filter p xs) ≤ length xs
-filter_length p [] = omega arith
-filter_length p (x ∷ xs) = let h = filter_length p xs in elim (cases_Bool (p x)) [ inl hit ↦ rw hit (omega arith) | inr miss ↦ rw miss (omega arith) ]
-
-pub rows_ended : (counter n : ℕ) (rows : List Row) (i : ℕ) (a : Seat) → AreRows counter rows → slice_get rows i ≡ Some (taken n a)
-    → AreRows counter (set rows i (empty n))
+pub rows_ended : (counter n : ℕ) (rows : List Row) (i : ℕ) (a : Seat) → AreRows counter rows → slice_get rows i ≡ Some (row_of n a)
+    → AreRows counter (set rows i (empty_row n))
 rows_ended counter n rows i a kept e =
-    let live : live_of (set rows i (empty n)) ≡ filter (λ (t : Session). not (t.serial == n)) (live_of rows) =
+    let live : live_of (set rows i (empty_row n)) ≡ filter (λ (t : Session). not (t.serial == n)) (live_of rows) =
     ended n rows i a kept.own.rising kept.own.own e ∙ sym (without_one n (live_of rows)) in
     record {
       small = kept.small;
       own = own_set n rows i a None kept.own e tt;
       counted = counted_set counter n rows i a None kept.counted e;
       apart = rw live (distinct_filter (λ (t : Session). t.client) (λ (t : Session). not (t.serial == n)) (live_of rows) kept.apart);
-      few = let less = filter_length (λ (t : Session). not (t.serial == n)) (live_of rows) in let few = kept.few in rw live (omega arith);
+      few = let less = shorter (λ (t : Session). not (t.serial == n)) (live_of rows) in let few = kept.few in rw live (omega arith);
     }
 
-pub own_at : (n : ℕ) (rows : List Row) (i : ℕ) (a : Seat) → Own rows → slice_get rows i ≡ Some (taken n a) → IsOwn n a
+pub own_at : (n : ℕ) (rows : List Row) (i : ℕ) (a : Seat) → Own rows → slice_get rows i ≡ Some (row_of n a) → IsOwn n a
 own_at n [] i a own e = cc
 own_at n (r ∷ rows) zero a own e =
-    let same : r ≡ taken n a = cc in subst (λ (x : Row). IfSome x.kept (IsOwn x.serial)) same own.0
+    let same : r ≡ row_of n a = cc in subst (λ (x : Row). IfSome x.kept (IsOwn x.serial)) same own.0
 own_at n (r ∷ rows) (suc i) a own e = own_at n rows i a own.1 e
 
 count_less : (n : ℕ) (live : List Session) (s : Session) → IsStrictlySortedBy session_order live → session_with_serial n live ≡ Some s
@@ -490,17 +416,18 @@ holder_less k (x ∷ holders) (suc j) less = ap (λ m. suc m) (holder_less k hol
 
 pub holders_ended : (n : ℕ) (rows : List Row) (holders holders2 : List Holder) (i : ℕ) (a : Seat) (q : Result ℕ ℕ) (j : ℕ)
     → IsDistinct is_text (map (λ (t : Session). t.client) (live_of rows)) → AreOwn rows → AreHolders rows holders
-    → slice_get rows i ≡ Some (taken n a) → IsPlaceOf (λ (h : Holder). is_text h.client a.session.client) holders q → q ≡ Ok j
-    → holders2 ≡ remove holders j → AreHolders (set rows i (empty n)) holders2
+    → slice_get rows i ≡ Some (row_of n a) → IsPlaceOf (λ (h : Holder). is_text h.client a.session.client) holders q → q ≡ Ok j
+    → holders2 ≡ remove holders j → AreHolders (set rows i (empty_row n)) holders2
 holders_ended n rows holders holders2 i a q j apart own h e place is rest =
     let up = live_up rows own.rising own.own in
     let there : session_with_serial n (live_of rows) ≡ Some a.session = found n rows i a own.rising own.own e in
-    let live : live_of (set rows i (empty n)) ≡ filter (λ (t : Session). not (t.serial == n)) (live_of rows) =
+    let live : live_of (set rows i (empty_row n)) ≡ filter (λ (t : Session). not (t.serial == n)) (live_of rows) =
     ended n rows i a own.rising own.own e ∙ sym (without_one n (live_of rows)) in
     let at = subst (IsPlaceOf (λ (x : Holder). is_text x.client a.session.client) holders) is place in
     let left : holders2 ≡ filter (λ (x : Holder). not (is_text x.client a.session.client)) holders = rest ∙ at.2 in
     record {
-      ordered = rw left (IsStrictlySortedBy-filter client_order (λ (x : Holder). not (is_text x.client a.session.client)) holders h.ordered);
+      ordered = rw left
+          (IsStrictlySortedBy-filter client_order (λ (x : Holder). not (is_text x.client a.session.client)) holders h.ordered);
       indexed = λ c.
           rw (left, live)
           (ap (option_map (λ (x : Holder). x.serial)) (holder_after holders a.session.client c)
@@ -509,8 +436,9 @@ holders_ended n rows holders holders2 i a q j apart own h e place is rest =
           ∙ sym (map_choice (λ (t : Session). t.serial) (is_text a.session.client c) (session_of_client c (live_of rows)))
           ∙ sym (ap (option_map (λ (t : Session). t.serial)) (client_after (live_of rows) n a.session c up apart there)));
       counts =
-          let one : suc (length holders2) ≡ length holders = ap (λ xs. suc (length xs)) rest ∙ holder_less a.session.client holders j at.0 in
-          let other : suc (length (live_of (set rows i (empty n)))) ≡ length (live_of rows) =
+          let one : suc (length holders2) ≡ length holders =
+          ap (λ xs. suc (length xs)) rest ∙ holder_less a.session.client holders j at.0 in
+          let other : suc (length (live_of (set rows i (empty_row n)))) ≡ length (live_of rows) =
           ap (λ xs. suc (length xs)) live ∙ count_less n (live_of rows) a.session up there in
           let was = h.counts in
           omega arith;
@@ -518,13 +446,13 @@ holders_ended n rows holders holders2 i a q j apart own h e place is rest =
 
 pub rows_begun : (counter : ℕ) (rows : List Row) (y : Seat) → AreRows counter rows → counter < 2 ^ 64 - 1
     → session_of_client y.session.client (live_of rows) ≡ None → length (live_of rows) < most_sessions → IsOwn (counter + 1) y
-    → AreRows (counter + 1) (rows ++ taken (counter + 1) y ∷ [])
+    → AreRows (counter + 1) (rows ++ row_of (counter + 1) y ∷ [])
 rows_begun counter rows y kept small none few own =
     let live = begun_last rows (counter + 1) y in
     record {
       small = omega arith;
-      own = own_push counter rows (taken (counter + 1) y) kept.own kept.counted (omega arith) own;
-      counted = counted_push counter rows (taken (counter + 1) y) kept.counted refl;
+      own = own_push counter rows (row_of (counter + 1) y) kept.own kept.counted (omega arith) own;
+      counted = counted_push counter rows (row_of (counter + 1) y) kept.counted refl;
       apart = rw live (distinct_push (λ (s : Session). s.client) (live_of rows) y.session kept.apart none);
       few = rw live (length_more (live_of rows) y.session few);
     } where
@@ -548,7 +476,7 @@ pub holders_begun : (n : ℕ) (rows : List Row) (holders holders2 : List Holder)
     → session_of_client y.session.client (live_of rows) ≡ None → y.session.serial ≡ n
     → IsPlaceOf (λ (h : Holder). is_text h.client y.session.client) holders r → IfErr r (IsPlaceFor y.session.client holders) → r ≡ Err j
     → holders2 ≡ insert holders j (record { client = y.session.client; serial = n })
-    → AreHolders (rows ++ taken n y ∷ []) holders2
+    → AreHolders (rows ++ row_of n y ∷ []) holders2
 holders_begun n rows holders holders2 y j r h none same place gap is entry =
     let live = begun_last rows n y in
     let at = subst (IsPlaceOf (λ (x : Holder). is_text x.client y.session.client) holders) is place in
@@ -594,7 +522,7 @@ no_holder rows holders c h none = map_none (λ (x : Holder). x.serial) (holder_o
     ∙ ap (option_map (λ (s : Session). s.serial)) none)
 
 pub holder_is_there : (n : ℕ) (rows : List Row) (holders : List Holder) (i : ℕ) (a : Seat) → AreOwn rows → AreHolders rows holders
-    → slice_get rows i ≡ Some (taken n a) → IsSome (holder_of a.session.client holders)
+    → slice_get rows i ≡ Some (row_of n a) → IsSome (holder_of a.session.client holders)
 holder_is_there n rows holders i a own h e =
     some_alike (λ (x : Holder). x.serial) (λ (t : Session). t.serial) (holder_of a.session.client holders)
     (session_of_client a.session.client (live_of rows)) (h.indexed a.session.client)

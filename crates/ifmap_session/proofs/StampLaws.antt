@@ -257,7 +257,8 @@ all_due width tree rows limit base (suc n) low high small stamped =
           elim (cases_lt (base - width) (length rows)) [
             | inl less ↦ less
             | inr past ↦
-                let is : at tree (width + (base - width)) ≡ stamp_in (slice_get rows (base - width)) = stamped (base - width) (omega arith) in
+                let is : at tree (width + (base - width)) ≡ stamp_in (slice_get rows (base - width)) =
+                stamped (base - width) (omega arith) in
                 let none : at tree base ≡ no_stamp = subst (λ k. at tree k ≡ no_stamp) (omega arith) (is ∙ ap stamp_in
                 (slice_get_past rows (base - width) (omega arith))) in
                 absurd (both_ways (is_due tree limit base) (never_due tree limit base small none) hit)

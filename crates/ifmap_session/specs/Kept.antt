@@ -1,4 +1,4 @@
--- The live sessions as they are kept.
+-- The live sessions as they are kept: rows, clients' entries and stamps, and what ties them.
 use Rattle.std.specs.Prelude.{◌≡◌, ◌⊎◌, ℕ, ◌+◌, ◌-◌, ◌^◌, ◌≤◌, ◌<◌, List, find, flat_map, length, map, IfSome, MatchOption, Option, None, Some, option_map, option_to_list, slice_get, slice_set, unwrap_or}
 use Rattle.std.specs.Cmp.Lexicographic.{slice_cmp}
 use Rattle.std.specs.List.{AllByRecursion, IsDistinct}
@@ -10,22 +10,25 @@ use Rattle.ifmap_session.specs.declared.rows.Row.{Row}
 use Rattle.ifmap_session.specs.Seats.{Seat}
 use Rattle.ifmap_session.specs.SessionIds.{BeginsWithSerial}
 use Rattle.ifmap_session.specs.Sessions.{Session, is_text, most_sessions, session_of_client, session_with_serial}
-use Rattle.ifmap_session.specs.Stamps.{IsPower, IsTree, at, due_nodes, no_stamp}
+use Rattle.ifmap_session.specs.Stamps.{IsPower, IsTree, at, due_nodes, no_stamp, width_bound}
 
 -- the sessions of rows: an empty row has none
 abbrev pub seats_of : List Row → List Seat
 seats_of rows = flat_map (λ (r : Row). option_to_list r.kept) rows
 
+-- the live sessions of rows
 abbrev pub live_of : List Row → List Session
 live_of rows = map (λ (s : Seat). s.session) (seats_of rows)
 
+-- for how many more items the queue of each has room
 abbrev pub spare_in : List Row → List (ℕ × ℕ)
 spare_in rows = map (λ (s : Seat). (s.session.serial, s.spare)) (seats_of rows)
 
--- rows by their serials, and holders by their clients' names
+-- rows by their serials
 abbrev pub row_order : Row → Row → Ordering
 row_order = on (λ (r : Row). r.serial) nat_cmp
 
+-- holders by their clients' names
 abbrev pub client_order : Holder → Holder → Ordering
 client_order = on (λ (h : Holder). h.client) (slice_cmp nat_cmp)
 
@@ -84,7 +87,7 @@ IsStamped rows width tree =
 pub record AreStamps (rows : List Row) (width : ℕ) (tree : List ℕ) : Type 0 where
   pub lesser : IsTree width tree
   pub power : (width ≡ 0) ⊎ IsPower width
-  pub few : width < 40000
+  pub few : width < width_bound
   pub within : length rows ≤ width
   pub stamped : IsStamped rows width tree
 
@@ -94,11 +97,15 @@ pub record IsKept (counter : ℕ) (rows : List Row) (holders : List Holder) (wid
   pub clients : AreHolders rows holders
   pub moments : AreStamps rows width tree
 
--- the session of a row is changed, and P holds of it before and after
+-- the seat of a row is another, and P holds of it before and after; the other rows stay
 abbrev pub Rewrites : ℕ → (Seat → Seat → Type 0) → List Row → List Row → Type 0
 Rewrites place P old new =
     (serial : ℕ) (seat : Seat) → slice_get old place ≡ Some (record { serial = serial; kept = Some seat })
     → (after : Seat) × P seat after × (new ≡ slice_set old place (record { serial = serial; kept = Some after }))
+
+-- a session is changed by f, and P holds of its seat before and after
+abbrev pub ChangesSeat : (Session → Session) → (Seat → Seat → Type 0) → Seat → Seat → Type 0
+ChangesSeat f P before after = (after.session ≡ f before.session) × P before after
 
 -- a row has a session, of which P holds
 abbrev pub IsTaken : (Seat → Type 0) → List Row → ℕ → Type 0
@@ -116,7 +123,7 @@ due_rows rows width tree limit = map (λ node. serial_at rows (node - width)) (d
 -- stamps for these rows may be made anew: they have so many sessions
 pub record CanWiden (rows : List Row) (width live : ℕ) : Type 0 where
   pub power : (width ≡ 0) ⊎ IsPower width
-  pub few : width < 40000
+  pub few : width < width_bound
   pub within : live ≤ width
   pub most : live ≤ most_sessions
   pub counts : live ≡ length (live_of rows)

@@ -1,7 +1,11 @@
-pub mod Kept
-pub mod Openings
-pub mod Places
-pub mod Seats
+-- Sessions, and what each call makes of them, in reading order.
 pub mod SessionIds
 pub mod Sessions
+pub mod Openings
+-- How they are kept.
+pub mod Seats
 pub mod Stamps
+pub mod Kept
+pub mod Places
+-- Laws on the definitions, which crates above cite.
+pub mod laws

@@ -1,9 +1,10 @@
--- A live session beside the room of its queue.
+-- Live sessions beside the room of their queues.
 use Rattle.std.specs.Prelude.{ℕ, ◌-◌, ◌^◌, min}
 use Rattle.ifmap_search.specs.declared.results.PollItem.{PollItem}
 use Rattle.ifmap_search.specs.Sizes.{poll_size}
 use Rattle.ifmap_session.specs.Sessions.{Session}
 
+-- a live session, and the room of its queue
 pub record Seat : Type 0 where
   pub session : Session
   -- for how many more items the queue has room

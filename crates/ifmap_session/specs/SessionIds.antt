@@ -1,11 +1,13 @@
--- The ids of sessions.
+-- The ids of sessions, as newSession tells them (IF-MAP binding for SOAP 2.2, sessions).
 use Rattle.std.specs.Prelude.{◌≡◌, ℕ, List, ◌∷◌, ◌++◌}
 use Rattle.std.specs.Int.{to_be_bytes, w128}
 use Rattle.std.specs.Fmt.{decimal}
+use Rattle.std.specs.Str.{byte}
 use Rattle.uuid.specs.Text.{hyphenated_text, lower}
 
+-- what stands after the serial
 abbrev pub hyphen : ℕ
-hyphen = 45
+hyphen = byte "-"
 
 -- the serial in decimal, a hyphen, and the random word as the text of a UUID in lower case (RFC 9562, section 4)
 abbrev pub session_id : ℕ → ℕ → List ℕ

@@ -1,4 +1,5 @@
--- Live sessions, and what each call makes of their list.
+-- Live sessions, and what each call makes of their list (IF-MAP binding for SOAP 2.2, sessions: newSession, renewSession and
+-- endSession, and what poll hands out).
 use Rattle.std.specs.Prelude.{◌≡◌, ◌≢◌, ◌≤◌, ◌<◌, ℕ, ◌+◌, ◌^◌, ◌==◌, nat_le, Bool, false, List, [], ◌∷◌, ◌++◌, filter, find, length, map, max, min, not, Option, None, Some, IsSome, option_map, unwrap_or, if◌then◌else◌}
 use Rattle.std.specs.Cmp.Lexicographic.{pointwise}
 use Rattle.std.specs.List.{AllByRecursion, IsDistinct, list_any}
@@ -13,10 +14,11 @@ use Rattle.ifmap_session.specs.SessionIds.{BeginsWithSerial}
 pub record Session : Type 0 where
   -- its number, counted from 1 over all sessions that were begun
   pub serial : ℕ
+  -- the session-id of the protocol
   pub id : List ℕ
   -- the name of the client whose it is
   pub client : List ℕ
-  -- what the size of its queue may be
+  -- what the size of its queue may be, in bytes
   pub limit : ℕ
   -- the moment of its last accepted request
   pub last : ℕ
@@ -65,7 +67,7 @@ IsLive serial sessions = IsSome (session_with_serial serial sessions)
 abbrev pub session_order : Session → Session → Ordering
 session_order = on (λ (s : Session). s.serial) nat_cmp
 
--- what holds of the live sessions at every moment
+-- what holds of the live sessions at every moment (one session a client: IF-MAP binding for SOAP 2.2, newSession)
 pub record IsTable (table : Table) : Type 0 where
   -- their serials rise, and none is above the one that was given last
   pub rising : IsStrictlySortedBy session_order table.live
@@ -96,6 +98,13 @@ pub record Changes (serial : ℕ) (f : Session → Session) (old new : Table) : 
   pub others : (other : ℕ) → other ≢ serial → spare_of other new.spare ≡ spare_of other old.spare
   pub room : old.room ≤ new.room
 
+-- only room changes: the sessions, the counter and the room of the other queues stay, and the room for more is no less
+pub record ChangesRoom (serial : ℕ) (old new : Table) : Type 0 where
+  pub live : new.live ≡ old.live
+  pub counter : new.counter ≡ old.counter
+  pub others : (other : ℕ) → other ≢ serial → spare_of other new.spare ≡ spare_of other old.spare
+  pub room : old.room ≤ new.room
+
 -- the same sessions, room of their queues and counter; the room for more is no less
 pub record IsAsBefore (old new : Table) : Type 0 where
   pub live : new.live ≡ old.live
@@ -107,10 +116,6 @@ pub record IsAsBefore (old new : Table) : Type 0 where
 abbrev pub HasRoomForOne : ℕ → Table → Type 0
 HasRoomForOne serial table =
     (s : Session) → session_with_serial serial table.live ≡ Some s → 1 ≤ spare_of serial table.spare + length s.queue
-
--- a session stays as it is
-abbrev pub unchanged : Session → Session
-unchanged s = s
 
 -- a session that was ready begins, with nothing to tell
 abbrev pub begun : Opening → ℕ → ℕ → Session
@@ -154,7 +159,8 @@ is_expired moment ttl s = nat_le (s.last + ttl) moment
 abbrev pub expired_serials : ℕ → ℕ → List Session → List ℕ
 expired_serials moment ttl sessions = map (λ s. s.serial) (filter (is_expired moment ttl) sessions)
 
--- the limit of a queue: what is asked for, put into the range from 10,000 to 5,000,000, which is 5,000,000 where nothing is
+-- the limit of a queue in bytes (max-poll-result-size of newSession): what is asked for, put into the range from 10,000 to
+-- 5,000,000; 5,000,000 where nothing is asked for
 abbrev pub limit_of : Option ℕ → ℕ
 limit_of None = 5000000
 limit_of (Some asked) = max 10000 (min asked 5000000)

@@ -1,5 +1,6 @@
 -- Stamps by place, of which the least is known.
 use Rattle.std.specs.Prelude.{◌≡◌, ◌⊎◌, ℕ, zero, suc, ◌+◌, ◌-◌, ◌*◌, ◌^◌, ◌≤◌, ◌<◌, nat_le, ◌==◌, ◌&&◌, not, Bool, List, [], ◌∷◌, filter, flat_map, length, min, slice_index_or}
+use Rattle.ifmap_session.specs.Sessions.{most_sessions}
 
 -- the stamp of a place that has none: no moment reaches it
 abbrev pub no_stamp : ℕ
@@ -37,14 +38,18 @@ children_of nodes = flat_map (λ node. (2 * node) ∷ ((2 * node + 1) ∷ [])) n
 abbrev pub due_nodes : ℕ → List ℕ → ℕ → List ℕ
 due_nodes width tree limit = filter (is_due tree limit) (numbers_from width width)
 
--- a number doubled so often
-abbrev pub doubled : ℕ → ℕ → ℕ
-doubled zero n = n
-doubled (suc times) n = doubled times (2 * n)
+-- what a number is once it was doubled so often
+abbrev pub doubling : ℕ → ℕ → ℕ
+doubling zero n = n
+doubling (suc times) n = doubling times (2 * n)
 
 -- a power of two
 abbrev pub IsPower : ℕ → Type 0
-IsPower width = (times : ℕ) × (width ≡ doubled times 1)
+IsPower width = (times : ℕ) × (width ≡ doubling times 1)
+
+-- what no width comes up to: four times as many places as sessions may live
+abbrev pub width_bound : ℕ
+width_bound = 4 * most_sessions
 
 -- whether the least stamp is no later than the limit
 abbrev pub is_any_due : ℕ → List ℕ → ℕ → Bool

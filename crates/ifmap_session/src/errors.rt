@@ -8,7 +8,8 @@ pub enum BeginError {
     /// 10,000 sessions are live.
     #[error("too many sessions")]
     TooMany,
-    /// The serials are used up.
+    /// The serials are used up: the counter stands at 2^64 - 1, and fewer than 10,000 sessions are
+    /// live.
     #[error("no serial is left")]
     Counted,
     /// Memory is wanting.

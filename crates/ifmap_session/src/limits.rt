@@ -2,8 +2,9 @@
 ghost use Rattle.std.specs.Prelude.{◌≡◌};
 ghost use Rattle.ifmap_session.specs.Sessions.{limit_of};
 
-/// What the size of a session's queue may be, where a client asks for so much: from 10,000 to
-/// 5,000,000, which is 5,000,000 where it asks for nothing.
+/// What the size of a session's queue may be in bytes, as `Sessions::queue_size` counts them, where
+/// a client asks for so many: no fewer than 10,000 and no more than 5,000,000, and 5,000,000 where
+/// it asks for none.
 pub fn limit_of(asked: Option<u32>) -> u32
     ensures { result ≡ limit_of asked }
 {

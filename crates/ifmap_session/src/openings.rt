@@ -5,15 +5,18 @@ use ifmap_elem::Text;
 use ifmap_meta::ClientName;
 use std::marker::Model;
 
-/// A session that began: its serial and its id.
+/// A session that began.
 #[derive(Debug, Drop)]
 pub struct Begun {
+    /// Its number, counted from 1 over all sessions that were begun; no other has it.
     pub serial: u64,
+    /// The id that its client is told, and names it by: the serial in decimal, a hyphen, and the
+    /// random word as the text of a UUID in lower case.
     pub id: Text,
 }
 
-/// A session that is ready to begin, with all the memory that it takes. Contracts see its serial, its
-/// id and the name of its client.
+/// A session that is ready to begin, with all the memory that it takes. Contracts see its serial,
+/// its id and the name of its client.
 #[derive(Drop)]
 pub struct Opening {
     pub(crate) serial: u64,

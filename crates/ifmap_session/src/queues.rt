@@ -80,12 +80,14 @@ impl Kept {
         }
     }
 
+    /// Its id.
     pub fn id(&self) -> &Text
         ensures { result.now ≡ self.now.session.id }
     {
         &self.id
     }
 
+    /// The name of its client.
     pub fn client(&self) -> &ClientName
         ensures { result.now ≡ self.now.session.client }
     {
@@ -99,7 +101,7 @@ impl Kept {
         self.last
     }
 
-    /// The size of the queue, at most 2^64 - 1, and its limit.
+    /// The size of the queue in bytes, at most 2^64 - 1, and its limit.
     pub fn size(&self) -> (u64, u32)
         ensures size { result.0 ≡ min (queue_size self.now.session.queue) (2 ^ 64 - 1) }
         ensures limit { result.1 ≡ self.now.session.limit }
@@ -107,7 +109,7 @@ impl Kept {
         (self.size.min(u64::MAX as u128) as u64, self.limit)
     }
 
-    /// A request is accepted at that moment.
+    /// Keeps that moment as that of the last accepted request.
     pub fn renew(&mut self, moment: Moment)
         ensures session { self.new.session ≡ renewed moment self.old.session }
         ensures spare { self.new.spare ≡ self.old.spare }
@@ -115,7 +117,7 @@ impl Kept {
         self.last = moment;
     }
 
-    /// Makes room for `n` items more.
+    /// Makes room for `n` items more. The one error is want of memory, which leaves the queue.
     pub fn reserve(&mut self, n: u64) -> Result<(), NoMemory>
         ensures session { self.new.session ≡ self.old.session }
         ensures ok { OnOk result (n ≤ self.new.spare) }
@@ -154,10 +156,11 @@ impl Kept {
         retain_others(&mut self.queue, name);
     }
 
-    /// Hands out what is queued, which is then empty. It takes no memory.
+    /// Hands out what is queued; the queue is empty then, and has no room. It takes no memory.
     pub fn take_all(&mut self) -> Many<PollItem>
         ensures items { result ≡ self.old.session.queue }
         ensures session { self.new.session ≡ emptied self.old.session }
+        ensures spare { self.new.spare ≡ 0 }
     {
         let empty = Vec::new(*self.queue.allocator());
         self.size = 0;
@@ -180,7 +183,8 @@ fn size_of_named(queue: &[PollItem], name: &Text) -> u128
 
 // Drops what is queued of the subscription of that name.
 fn retain_others(queue: &mut Vec<PollItem>, name: &Text)
-    ensures items { queue.new.items ≡ filter (λ item. not (is_named name.now item)) queue.old.items }
+    ensures items { queue.new.items
+        ≡ filter (λ item. not (is_named name.now item)) queue.old.items }
     ensures len { vec_len queue.new ≤ vec_len queue.old }
     ensures capacity { vec_capacity queue.new ≡ vec_capacity queue.old }
 {

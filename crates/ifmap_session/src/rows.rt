@@ -1,8 +1,8 @@
-//! Sessions in the order of their serials. A session that ends leaves an empty row, so that no other
-//! moves.
+//! Sessions in the order of their serials. A session that ends leaves an empty row, so that no
+//! other moves.
 ghost use Rattle.std.specs.Prelude.{◌≡◌, ℕ, ◌+◌, ◌-◌, ◌*◌, ◌<◌, ◌≤◌, IfOk, MatchOption, None, OnErr, OnOk, Some, filter, is_some, length, map, slice_get, slice_set, vec_capacity, vec_len};
 ghost use Rattle.std.specs.List.{All};
-ghost use Rattle.ifmap_session.specs.Kept.{AreOwn, AreStamps, CanWiden, IsRowOf, IsSeatOf, IsStamped, IsTaken, Rewrites, due_rows, live_of, serial_at, stamp_of};
+ghost use Rattle.ifmap_session.specs.Kept.{AreOwn, AreStamps, CanWiden, ChangesSeat, IsRowOf, IsSeatOf, IsStamped, IsTaken, Rewrites, due_rows, live_of, serial_at, stamp_of};
 ghost use Rattle.ifmap_session.specs.Seats.{Seat};
 ghost use Rattle.ifmap_session.specs.Sessions.{IsLive, emptied, overflowed, queued, renewed, session_with_serial, without_name};
 ghost use Rattle.ifmap_session.specs.Stamps.{IsTree, at, no_stamp};
@@ -54,11 +54,11 @@ pub fn find_kept(rows: &[Row], serial: u64) -> Option<&Kept>
     rows[place].kept.as_ref()
 }
 
-/// A request in the session of a row is accepted at that moment.
+/// Keeps that moment as that of the last accepted request in the session of a row.
 pub fn renew_at(rows: &mut Vec<Row>, place: usize, moment: Moment)
     requires { IsTaken (λ seat. Unit {0}) rows.old.items place }
-    ensures rows { Rewrites place (λ a b. (b.session ≡ renewed moment a.session)
-        × (b.spare ≡ a.spare)) rows.old.items rows.new.items }
+    ensures rows { Rewrites place (ChangesSeat (renewed moment) (λ a b. b.spare ≡ a.spare))
+        rows.old.items rows.new.items }
     ensures len { vec_len rows.new ≡ vec_len rows.old }
     ensures capacity { vec_capacity rows.new ≡ vec_capacity rows.old }
 {
@@ -67,11 +67,12 @@ pub fn renew_at(rows: &mut Vec<Row>, place: usize, moment: Moment)
     }
 }
 
-/// Makes room for `n` items more in the queue of a row.
+/// Makes room for `n` items more in the queue of a row. The one error is want of memory, which
+/// leaves all as it was.
 pub fn reserve_at(rows: &mut Vec<Row>, place: usize, n: u64) -> Result<(), NoMemory>
     requires { IsTaken (λ seat. Unit {0}) rows.old.items place }
-    ensures rows { Rewrites place (λ a b. (b.session ≡ a.session)
-        × ((a.spare ≤ b.spare) × OnOk result (n ≤ b.spare))) rows.old.items rows.new.items }
+    ensures rows { Rewrites place (ChangesSeat (λ s. s)
+        (λ a b. (a.spare ≤ b.spare) × OnOk result (n ≤ b.spare))) rows.old.items rows.new.items }
     ensures len { vec_len rows.new ≡ vec_len rows.old }
     ensures capacity { vec_capacity rows.new ≡ vec_capacity rows.old }
 {
@@ -84,8 +85,8 @@ pub fn reserve_at(rows: &mut Vec<Row>, place: usize, n: u64) -> Result<(), NoMem
 /// Queues an item in the session of a row.
 pub fn push_at(rows: &mut Vec<Row>, place: usize, item: PollItem)
     requires { IsTaken (λ seat. 1 ≤ seat.spare) rows.old.items place }
-    ensures rows { Rewrites place (λ a b. (b.session ≡ queued item a.session)
-        × (b.spare + 1 ≡ a.spare)) rows.old.items rows.new.items }
+    ensures rows { Rewrites place (ChangesSeat (queued item) (λ a b. b.spare + 1 ≡ a.spare))
+        rows.old.items rows.new.items }
     ensures len { vec_len rows.new ≡ vec_len rows.old }
     ensures capacity { vec_capacity rows.new ≡ vec_capacity rows.old }
 {
@@ -97,8 +98,8 @@ pub fn push_at(rows: &mut Vec<Row>, place: usize, item: PollItem)
 /// Queues an item in the session of a row, in place of all.
 pub fn overflow_at(rows: &mut Vec<Row>, place: usize, error: PollItem)
     requires { IsTaken (λ seat. 1 ≤ seat.spare + length seat.session.queue) rows.old.items place }
-    ensures rows { Rewrites place (λ a b. (b.session ≡ overflowed error a.session)
-        × (b.spare + 1 ≡ a.spare + length a.session.queue)) rows.old.items rows.new.items }
+    ensures rows { Rewrites place (ChangesSeat (overflowed error)
+        (λ a b. b.spare + 1 ≡ a.spare + length a.session.queue)) rows.old.items rows.new.items }
     ensures len { vec_len rows.new ≡ vec_len rows.old }
     ensures capacity { vec_capacity rows.new ≡ vec_capacity rows.old }
 {
@@ -110,8 +111,8 @@ pub fn overflow_at(rows: &mut Vec<Row>, place: usize, error: PollItem)
 /// Drops what is queued in the session of a row of the subscription of that name.
 pub fn drop_name_at(rows: &mut Vec<Row>, place: usize, name: &Text)
     requires { IsTaken (λ seat. Unit {0}) rows.old.items place }
-    ensures rows { Rewrites place (λ a b. (b.session ≡ without_name name.now a.session)
-        × (a.spare ≤ b.spare)) rows.old.items rows.new.items }
+    ensures rows { Rewrites place (ChangesSeat (without_name name.now)
+        (λ a b. a.spare ≤ b.spare)) rows.old.items rows.new.items }
     ensures len { vec_len rows.new ≡ vec_len rows.old }
     ensures capacity { vec_capacity rows.new ≡ vec_capacity rows.old }
 {
@@ -120,11 +121,11 @@ pub fn drop_name_at(rows: &mut Vec<Row>, place: usize, name: &Text)
     }
 }
 
-/// Hands out what is queued in the session of a row.
+/// Hands out what is queued in the session of a row; the queue is empty then, and has no room.
 pub fn take_all_at(rows: &mut Vec<Row>, place: usize) -> Many<PollItem>
     requires { IsTaken (λ seat. Unit {0}) rows.old.items place }
-    ensures rows { Rewrites place (λ a b. (b.session ≡ emptied a.session)
-        × (result ≡ a.session.queue)) rows.old.items rows.new.items }
+    ensures rows { Rewrites place (ChangesSeat emptied
+        (λ a b. (b.spare ≡ 0) × (result ≡ a.session.queue))) rows.old.items rows.new.items }
     ensures len { vec_len rows.new ≡ vec_len rows.old }
     ensures capacity { vec_capacity rows.new ≡ vec_capacity rows.old }
 {
@@ -134,7 +135,7 @@ pub fn take_all_at(rows: &mut Vec<Row>, place: usize) -> Many<PollItem>
     }
 }
 
-/// Takes the session of a row out, which is empty then.
+/// Takes the session of a row out, and leaves the row empty.
 pub fn end_at(rows: &mut Vec<Row>, place: usize) -> Kept
     requires { IsTaken (λ seat. Unit {0}) rows.old.items place }
     ensures rows { (serial : ℕ) (seat : Seat)
@@ -147,15 +148,17 @@ pub fn end_at(rows: &mut Vec<Row>, place: usize) -> Kept
     rows[place].kept.take().unwrap()
 }
 
-/// Stamps for rows, and for how many.
+/// Stamps for rows.
 #[derive(Drop)]
 pub struct Wide {
+    /// For how many rows they are.
     pub width: usize,
+    /// The tree of the last moments by row.
     pub stamps: Vec<u64>,
 }
 
-/// Drops the empty rows, and makes stamps for these and more. The one error is want of memory, which
-/// leaves the rows.
+/// Drops the empty rows, and makes stamps for these and more. The one error is want of memory,
+/// which leaves the rows.
 pub fn widen(
     alloc: Global,
     rows: &mut Vec<Row>,
@@ -213,7 +216,8 @@ fn stamp_of(row: &Row) -> u64
     }
 }
 
-/// The serials of the sessions whose stamps are no later than the limit, in their order.
+/// The serials of the sessions whose stamps are no later than the limit, in their order. The one
+/// error is want of memory.
 pub fn due_serials(
     alloc: Global,
     rows: &[Row],
@@ -232,7 +236,7 @@ pub fn due_serials(
     Ok(Many(serials_of(alloc, rows, &nodes, width)?))
 }
 
-// The serials of the rows at these nodes.
+// The serials of the rows at these nodes. The one error is want of memory.
 fn serials_of(
     alloc: Global,
     rows: &[Row],

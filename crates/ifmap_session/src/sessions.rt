@@ -4,7 +4,7 @@ ghost use Rattle.std.specs.List.{list_any};
 ghost use Rattle.ifmap_search.specs.Sizes.{queue_size};
 ghost use Rattle.ifmap_session.specs.declared.errors.BeginError.TheVariants as the_error;
 ghost use Rattle.ifmap_session.specs.SessionIds.{session_id};
-ghost use Rattle.ifmap_session.specs.Sessions.{Changes, HasRoomForOne, IsAsBefore, IsLive, IsTable, Session, begun, emptied, expired_serials, is_expired, most_sessions, overflowed, queued, renewed, session_of_client, session_with_id, session_with_serial, spare_of, unchanged, without_name, without_sessions};
+ghost use Rattle.ifmap_session.specs.Sessions.{Changes, ChangesRoom, HasRoomForOne, IsAsBefore, IsLive, IsTable, Session, begun, emptied, expired_serials, is_expired, most_sessions, overflowed, queued, renewed, session_of_client, session_with_id, session_with_serial, spare_of, without_name, without_sessions};
 
 use crate::errors::BeginError;
 use crate::holders::{Holder, place_of_client};
@@ -119,7 +119,12 @@ impl Sessions {
         Some(self.holders[place].serial)
     }
 
-    /// Begins a session of a client that has none. After an error all is as before.
+    /// Begins a session of a client that has none, with an empty queue. `limit` is what the size of
+    /// the queue may be in bytes, as `queue_size` counts them; `limit_of` gives one that is within
+    /// its range. `moment` is that of the request which begins the session, from which it expires;
+    /// any moment will do, an earlier one than those before too. The errors are `TooMany` where
+    /// 10,000 sessions are live, `Counted` where fewer are and the counter stands at 2^64 - 1, and
+    /// `NoMemory`; after each the sessions and their queues are as before.
     pub fn begin(
         &mut self,
         alloc: Global,
@@ -163,6 +168,7 @@ impl Sessions {
     }
 
     /// Takes all the memory that the client's next session needs, and changes nothing but the room.
+    /// The one error is want of memory, after which too nothing but the room has changed.
     pub fn prepare(
         &mut self,
         alloc: Global,
@@ -188,7 +194,8 @@ impl Sessions {
         })
     }
 
-    /// Begins a session that was prepared, with the next serial. It takes no memory.
+    /// Begins a session that was prepared, with the next serial; `limit` and `moment` are as those
+    /// of `begin`. It takes no memory.
     pub fn open(&mut self, opening: Opening, limit: u32, moment: Moment) -> Begun
         requires room { 1 ≤ self.old.room }
         requires none { session_of_client opening.client self.old.live ≡ None }
@@ -233,7 +240,8 @@ impl Sessions {
         Begun { serial, id: told }
     }
 
-    /// A request in a live session is accepted at that moment. It takes no memory.
+    /// Keeps that moment as that of the last accepted request in a live session, also where it is
+    /// an earlier one. It takes no memory.
     pub fn renew(&mut self, serial: u64, moment: Moment)
         requires { IsLive serial self.old.live }
         ensures changes { Changes serial (renewed moment) self.old self.new }
@@ -263,8 +271,8 @@ impl Sessions {
         set_stamp(&mut self.stamps, self.width, place, NO_STAMP);
     }
 
-    /// The serials of the sessions that are expired at that moment: whose last request lies at least
-    /// `ttl` seconds before it.
+    /// The serials of the sessions that are expired at that moment, in their order: whose last
+    /// request lies at least `ttl` seconds before it. The one error is want of memory.
     pub fn expired(&self, alloc: Global, moment: Moment, ttl: u32) -> Result<Many<u64>, NoMemory>
         ensures { IfOk result (λ serials. serials ≡ expired_serials moment ttl self.now.live) }
     {
@@ -285,10 +293,11 @@ impl Sessions {
         }
     }
 
-    /// Makes room for `n` items in the queue of a live session.
+    /// Makes room for `n` items more in the queue of a live session. The one error is want of
+    /// memory. Whether it succeeds or not, nothing but that room changes.
     pub fn queue_room(&mut self, serial: u64, n: u64) -> Result<(), NoMemory>
         requires { IsLive serial self.old.live }
-        ensures changes { Changes serial unchanged self.old self.new }
+        ensures changes { ChangesRoom serial self.old self.new }
         ensures ok { OnOk result (n ≤ spare_of serial self.new.spare) }
         ensures spare { spare_of serial self.old.spare ≤ spare_of serial self.new.spare }
     {
@@ -307,7 +316,9 @@ impl Sessions {
         push_at(&mut self.rows, place, item);
     }
 
-    /// The size of the queue of a live session, at most 2^64 - 1, and its limit. It takes no memory.
+    /// The size of the queue of a live session, at most 2^64 - 1, and its limit, both in bytes:
+    /// those of the canonical identifiers and elements of its entries, and 100 for each item. It
+    /// takes no memory.
     pub fn queue_size(&self, serial: u64) -> (u64, u32)
         requires { IsLive serial self.now.live }
         ensures { (s : Session) → session_with_serial serial self.now.live ≡ Some s
@@ -316,8 +327,8 @@ impl Sessions {
         find_kept(&self.rows, serial).unwrap().size()
     }
 
-    /// Queues an item in a live session in place of all that is queued, where there is room for one.
-    /// It takes no memory.
+    /// Queues an item in a live session in place of all that is queued, where there is room for
+    /// one, what is queued counted as room. It takes no memory.
     pub fn overflow(&mut self, serial: u64, error: PollItem)
         requires live { IsLive serial self.old.live }
         requires room { HasRoomForOne serial self.old }
@@ -340,18 +351,21 @@ impl Sessions {
         drop_name_at(&mut self.rows, place, name);
     }
 
-    /// Hands out all that is queued in a live session. Nothing is copied, and it takes no memory.
+    /// Hands out all that is queued in a live session, whose queue is empty then and has no room.
+    /// Nothing is copied, and it takes no memory.
     pub fn take_all(&mut self, serial: u64) -> Many<PollItem>
         requires { IsLive serial self.old.live }
         ensures items { (s : Session) → session_with_serial serial self.old.live ≡ Some s
             → result ≡ s.queue }
         ensures changes { Changes serial emptied self.old self.new }
+        ensures spare { spare_of serial self.new.spare ≡ 0 }
     {
         let place = place_in(&self.rows, serial);
         take_all_at(&mut self.rows, place)
     }
 
-    // Makes room for one session more. Only the room changes.
+    // Makes room for one session more. Only the room changes, also after want of memory, which is
+    // the one error.
     fn make_room(&mut self, alloc: Global) -> Result<(), NoMemory>
         ensures same { IsAsBefore self.old self.new }
         ensures room { OnOk result (1 ≤ self.new.room) }
@@ -367,7 +381,8 @@ impl Sessions {
     }
 }
 
-// Makes room for one row and one entry more.
+// Makes room for one row and one entry more. The one error is want of memory, which may leave more
+// room.
 fn reserve_one(rows: &mut Vec<Row>, holders: &mut Vec<Holder>) -> Result<(), NoMemory>
     ensures rows { rows.new.items ≡ rows.old.items }
     ensures holders { holders.new.items ≡ holders.old.items }

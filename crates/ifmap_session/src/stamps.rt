@@ -1,8 +1,9 @@
 //! Stamps by place, of which the least is known at once. They stand in the second half of a slice;
-//! in the first half stands at each node from 1 on the lesser of what stands at its two children, so
-//! that one stamp is changed by a walk to the root.
+//! in the first half stands at each node from 1 on the lesser of what stands at its two children,
+//! so that one stamp is changed by a walk to the root.
 ghost use Rattle.std.specs.Prelude.{◌≡◌, ◌⊎◌, ℕ, ◌+◌, ◌*◌, ◌≤◌, ◌<◌, ◌∷◌, ◌++◌, [], All, IfOk, OnOk, filter, length, min};
-ghost use Rattle.ifmap_session.specs.Stamps.{IsPower, IsTree, Restamps, at, children_of, due_nodes, is_any_due, is_due};
+ghost use Rattle.ifmap_session.specs.Stamps.{IsPower, IsTree, Restamps, at, children_of, due_nodes, is_any_due, is_due, width_bound};
+ghost use Rattle.ifmap_session.specs.Sessions.{most_sessions};
 
 use std::alloc::{AllocError as NoMemory, Global};
 
@@ -15,10 +16,10 @@ pub const NO_STAMP: u64 = u64::MAX;
 pub fn next_width(width: usize, live: usize) -> usize
     requires power { (width ≡ 0) ⊎ IsPower width }
     requires live { live ≤ width }
-    requires most { live ≤ 10000 }
-    requires few { width < 40000 }
+    requires most { live ≤ most_sessions }
+    requires few { width < width_bound }
     ensures power { IsPower result }
-    ensures few { result < 40000 }
+    ensures few { result < width_bound }
     ensures wide { live < result }
     ensures more { width ≤ result }
 {
@@ -62,7 +63,7 @@ pub fn is_any_due(tree: &[u64], width: usize, limit: u64) -> bool
 }
 
 /// The nodes of the places whose stamps are no later than the limit. It looks at no other places
-/// than these and what stands between them and the root.
+/// than these and what stands between them and the root. The one error is want of memory.
 pub fn due_nodes(
     alloc: Global,
     tree: &[u64],
@@ -83,7 +84,7 @@ pub fn due_nodes(
     Ok(nodes)
 }
 
-// The children of these nodes that are due.
+// The children of these nodes that are due. The one error is want of memory.
 fn due_children(
     alloc: Global,
     tree: &[u64],
@@ -102,7 +103,7 @@ fn due_children(
     Ok(due)
 }
 
-// Puts the node last where it is due.
+// Puts the node last where it is due. The one error is want of memory.
 fn push_due(nodes: &mut Vec<usize>, tree: &[u64], node: usize, limit: u64) -> Result<(), NoMemory>
     requires { node < length tree.now }
     ensures { OnOk result (nodes.new.items

@@ -1,5 +1,10 @@
-//! Tests of sessions: values from worked examples, and that each call succeeds where there is memory.
+//! Tests of sessions: values from worked examples, and that each call succeeds where there is
+//! memory.
 #![tactic(auto)]
 
 #[cfg(test)]
-mod tables;
+mod expiring;
+#[cfg(test)]
+mod lives;
+#[cfg(test)]
+mod makers;

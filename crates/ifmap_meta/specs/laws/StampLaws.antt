@@ -62,7 +62,8 @@ never_both true = refl
 never_both false = refl
 
 -- what tells the cardinality is no stamp
-named_so : (a : Attribute) (value : List ℕ) → (is_bare (codes "ifmap-cardinality") a.name && bytes_eq a.value value) ≡ true → is_content a ≡ true
+named_so : (a : Attribute) (value : List ℕ) → (is_bare (codes "ifmap-cardinality") a.name && bytes_eq a.value value) ≡ true
+    → is_content a ≡ true
 named_so a value e =
     let l = (bytes_eq-Decides a.name.local (codes "ifmap-cardinality")).0 (and_parts _ _ (and_parts _ _ e).0).1 in
     let first : bytes_eq a.name.local (codes "ifmap-publisher-id") ≡ false = rw l refl in
@@ -104,11 +105,19 @@ cardinality_stays publisher moment e =
     one_cardinality (stamp publisher moment e) e (single_stays publisher moment e)
     (any_stamped is_multi_value multi_is_content publisher (moment_text moment) e.attributes refl)
 
--- content in order says the cardinality that the element says
+-- content in order
+abbrev content_in_order : Element → Element
+content_in_order e = record {
+  name = e.name;
+  attributes = sort_attributes (without_stamps e.attributes);
+  children = map arrange_child e.children;
+}
+
+-- it says the cardinality that the element says
 pub content_says : (e : Element) → cardinality_of (arrange (content_of e)) ≡ cardinality_of e
 content_says e =
     ap cardinality_of (arranged_is (content_of e))
-    ∙ one_cardinality (record { name = e.name; attributes = sort_attributes (without_stamps e.attributes); children = map arrange_child e.children }) e
+    ∙ one_cardinality (content_in_order e) e
     (any_content is_single_value single_is_content e.attributes) (any_content is_multi_value multi_is_content e.attributes)
 
 -- content has no stamps

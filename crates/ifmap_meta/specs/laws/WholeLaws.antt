@@ -76,7 +76,8 @@ made_is_metadata e m fit levels made =
     let content = arrange (content_of e) in
     let sent : IsSent content = record {
       fit = fit_arranged (content_of e) (fit_content e fit);
-      levels = subst (λ (n : ℕ). n ≤ level_limit) (sym (nesting_arranged (content_of e) ∙ nested_alike e (without_stamps e.attributes))) levels;
+      levels = subst (λ (n : ℕ). n ≤ level_limit)
+          (sym (nesting_arranged (content_of e) ∙ nested_alike e (without_stamps e.attributes))) levels;
       arranged = arranged_again (content_of e);
     } in
     let size : length (canonical_bytes content) ≤ content_limit = subst
@@ -142,7 +143,8 @@ timestamp_part = record {
 another_bare : (one : List ℕ) (n : Name) → is_bare one (bare_name one) ≡ true → is_bare one n ≡ false → bare_name one ≢ n
 another_bare one n here there e = let q : is_bare one (bare_name one) ≡ is_bare one n = ap (is_bare one) e in cc
 
-stamps_fit : (publisher text : List ℕ) → IsCharacters publisher → IsCharacters text → AllByRecursion IsFitAttribute (stamps_of publisher text)
+stamps_fit : (publisher text : List ℕ) → IsCharacters publisher → IsCharacters text
+    → AllByRecursion IsFitAttribute (stamps_of publisher text)
 stamps_fit publisher text who when = (
   record {
     name = record { space = no_namespace; local = publisher_part };
@@ -170,9 +172,12 @@ another_name a n content stamped e =
     let q : is_stamp_name a.name ≡ is_stamp_name n = ap is_stamp_name e in
     cc
 
-differ_stamped : (publisher text : List ℕ) (xs : List Attribute) → AllDiffer (map name_of xs) → AllByRecursion (λ a. not (is_stamp a) ≡ true) xs
-    → AllDiffer (map name_of (xs ++ stamps_of publisher text))
-differ_stamped publisher text [] d content = ((another_bare (codes "ifmap-publisher-id") (bare_name (codes "ifmap-timestamp")) refl refl, tt), (tt, tt))
+differ_stamped : (publisher text : List ℕ) (xs : List Attribute) → AllDiffer (map name_of xs)
+    → AllByRecursion (λ a. not (is_stamp a) ≡ true) xs → AllDiffer (map name_of (xs ++ stamps_of publisher text))
+differ_stamped publisher text [] d content = (
+  (another_bare (codes "ifmap-publisher-id") (bare_name (codes "ifmap-timestamp")) refl refl, tt),
+  (tt, tt),
+)
 differ_stamped publisher text (x ∷ xs) d content = (
   map_of_all (λ n. x.name ≢ n) name_of (xs ++ stamps_of publisher text)
       (both_all (λ a. x.name ≢ a.name) xs (stamps_of publisher text) (all_of_map (λ n. x.name ≢ n) name_of xs d.0) (
@@ -186,7 +191,8 @@ differ_stamped publisher text (x ∷ xs) d content = (
 abbrev unsorted : List ℕ → List ℕ → Element → Element
 unsorted publisher text e = with_attributes e (without_stamps e.attributes ++ stamps_of publisher text)
 
-unsorted_fits : (publisher text : List ℕ) (e : Element) → IsFit e → IsCharacters publisher → IsCharacters text → IsFit (unsorted publisher text e)
+unsorted_fits : (publisher text : List ℕ) (e : Element) → IsFit e → IsCharacters publisher → IsCharacters text
+    → IsFit (unsorted publisher text e)
 unsorted_fits publisher text e fit who when =
     let parts = fit_parts e fit in
     let content : Attribute → Bool = λ a. not (is_stamp a) in
@@ -209,6 +215,14 @@ stamped_is publisher moment e arranged =
 content_is : (e : Element) → content_of e ≡ e → content_bytes e ≡ canonical_bytes e
 unfolding content_bytes
 content_is e bare = ap canonical_bytes bare
+
+-- metadata that can be published are what is made of their own element
+pub metadata_is_made : (m : Metadata) → IsMetadata m → IsMadeOf m.element m
+metadata_is_made m met = record {
+  element = sym (ap arrange met.bare ∙ met.sent.arranged);
+  cardinality = met.cardinality;
+  size = subst (λ (bytes : List ℕ). length bytes ≤ content_limit) (sym (content_is m.element met.bare)) met.size;
+}
 
 -- what is stamped of metadata that can be published is whole
 pub stamped_is_whole : (m : Metadata) (publisher : List ℕ) (moment : ℕ) (life : Life) → IsMetadata m → IsClientName publisher

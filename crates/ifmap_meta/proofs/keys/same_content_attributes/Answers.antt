@@ -24,5 +24,6 @@ ended one rest i r P l h e = (
 pub returns : goal.returns
 returns c =
     ended c.args.one.now c.loop-attribute.rest.now c.loop-attribute.attribute-index c.are_stamps.result
-    (without_stamps c.args.one.now ≡ without_stamps c.args.other.now) (omega (arith, c.loop-attribute-test.false, c.loop-attribute.auto.attribute-index-end)) c.loop-attribute.invariant
+    (without_stamps c.args.one.now ≡ without_stamps c.args.other.now)
+    (omega (arith, c.loop-attribute-test.false, c.loop-attribute.auto.attribute-index-end)) c.loop-attribute.invariant
     c.are_stamps.ensures

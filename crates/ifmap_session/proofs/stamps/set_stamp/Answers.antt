@@ -3,8 +3,8 @@ use Rattle.ifmap_session.proofs.stamps.set_stamp.Goals as goal
 
 pub loop-node-preserved : goal.loop-node-preserved
 loop-node-preserved c =
-    walk_on c.args.width c.args.place c.args.stamp c.args.tree.now.items c.loop-node.tree.items c.loop-node.node c.lesser_child.result c.loop-node.invariant
-    c.loop-node-test.true (rw c.deref.ensures.value at c.lesser_child.ensures)
+    walk_on c.args.width c.args.place c.args.stamp c.args.tree.now.items c.loop-node.tree.items c.loop-node.node
+    c.lesser_child.result c.loop-node.invariant c.loop-node-test.true (rw c.deref.ensures.value at c.lesser_child.ensures)
 
 pub returns : goal.returns
 returns c =

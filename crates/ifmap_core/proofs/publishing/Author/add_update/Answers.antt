@@ -1,4 +1,4 @@
-use Rattle.std.proofs.Common.{rules, ◌≡◌, List, sym, ◌∙◌, subst, arith}
+use Rattle.std.proofs.Common.{sym, ◌∙◌, subst, arith}
 use Rattle.std.specs.List.{AllByRecursion}
 use Rattle.ifmap_lemmas.specs.Filters.{all_at}
 use Rattle.ifmap_meta.specs.declared.metadata.Metadata.{Metadata}

@@ -1,5 +1,6 @@
 use Rattle.std.proofs.Common.{◌++◌, ◌∙◌}
 use Rattle.std.specs.Io.KnownBytes.{prepend_known}
+use Rattle.ifmap_http.proofs.Bounds.{status_fits}
 use Rattle.ifmap_http.proofs.Gets.{gets_ended, gets_nothing, gets_refused, gets_taken, gets_truncated}
 use Rattle.ifmap_http.proofs.Reading.{post_is_there}
 use Rattle.ifmap_http.proofs.wires.Wire.take_post.Goals as goal
@@ -44,3 +45,7 @@ returns-in-Taken-clause-quiet g c =
     (post_is_there c.self.inside.buffer c.await_post.new.buffer c.in-Taken.size c.in-Taken.terms head client body close rest
     quiet.1 c.in-Taken.ensures.is is says)
     ∙ quiet.0)
+
+pub returns-in-Refused-clause-answerable : goal.returns-in-Refused-clause-answerable
+returns-in-Refused-clause-answerable g c =
+    status_fits c.in-Refused.status c.await_post.new.buffer (g.L.Source.left c.await_post.new.source) c.in-Refused.ensures.is

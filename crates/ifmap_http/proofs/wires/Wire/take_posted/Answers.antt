@@ -1,3 +1,4 @@
+use Rattle.ifmap_http.proofs.Bounds.{body_fits}
 use Rattle.ifmap_http.proofs.Reading.{post_lacks, post_read}
 use Rattle.ifmap_http.proofs.wires.Wire.take_posted.Goals as goal
 
@@ -16,3 +17,8 @@ returns-in-Err-Truncated-clause-reads g c =
     post_lacks c.self.inside.buffer c.args.size c.args.terms (g.L.Source.left c.self.inside.link)
     (g.L.Source.left c.take_body.new.source) all
     (rw (← c.self.view_is) at c.requires) told (rw c.advance.ensures at (c.in-Err-Truncated.ensures.truncated (cc))))
+
+pub returns-in-Ok-clause-answerable : goal.returns-in-Ok-clause-answerable
+returns-in-Ok-clause-answerable g c =
+    body_fits c.requires.head c.args.terms.client c.args.terms.size c.args.terms.close c.in-Ok.body.items c.requires.says
+    c.in-Ok.ensures.size

@@ -8,4 +8,5 @@ returns-clause-stored c = search rules
 
 pub returns-clause-whole : goal.returns-clause-whole
 returns-clause-whole c met =
-    subst IsWhole (sym (returns-clause-stored c)) (stamped_is_whole c.args.self.now c.args.publisher.now c.args.moment c.args.life met c.text.ensures.form)
+    subst IsWhole (sym (returns-clause-stored c))
+    (stamped_is_whole c.args.self.now c.args.publisher.now c.args.moment c.args.life met c.text.ensures.form)

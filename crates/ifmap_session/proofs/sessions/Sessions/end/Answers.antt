@@ -21,8 +21,7 @@ unwrap-holder-requires c =
 pub set_stamp-requires-clause-place : goal.set_stamp-requires-clause-place
 set_stamp-requires-clause-place c =
     let got = rw c.deref.ensures.value at c.place_in-place.ensures in
-    place_within c.self.inside.counter c.args.serial c.self.inside.rows.items c.end_at-ended.new.rows.items c.self.inside.holders.items
-    c.self.inside.width c.self.inside.stamps.items c.self.invariant c.place_in-place.result got.0 got.1
+    place_within c.self.invariant c.args.serial c.place_in-place.result got.0 got.1
 
 pub invariant_of-self : goal.invariant_of-self
 invariant_of-self c =

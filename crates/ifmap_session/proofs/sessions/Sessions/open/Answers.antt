@@ -32,8 +32,8 @@ invariant_of-self c =
     let room = rw (← c.self.view_is) at c.requires.room in
     let id = ap (λ (s : Session). s.id) c.new-kept.ensures ∙ c.opening.invariant.named.1
     ∙ ap (λ n. session_id n c.opening.invariant.named.0) same in
-    let place = subst (λ t. IsPlaceOf (λ (h : Holder). is_text h.client t) c.self.inside.holders.items c.place_of_client.result) (sym client)
-    (rw c.deref.ensures.value at c.place_of_client.ensures.place) in
+    let place = subst (λ t. IsPlaceOf (λ (h : Holder). is_text h.client t) c.self.inside.holders.items c.place_of_client.result)
+    (sym client) (rw c.deref.ensures.value at c.place_of_client.ensures.place) in
     let gap = subst (λ t. IfErr c.place_of_client.result (IsPlaceFor t c.self.inside.holders.items)) (sym client)
     (rw c.deref.ensures.value at c.place_of_client.ensures.gap) in
     let entry = rw (c.unwrap.ensures, c.opening.invariant.one_client) at c.insert.ensures.items in
@@ -42,7 +42,8 @@ invariant_of-self c =
     ∙ ap (λ k. insert c.self.inside.holders.items c.unwrap_err-place.result (record { client = k; serial = c.self.inside.counter + 1 }))
     (sym client) in
     let restamped : Restamps c.self.inside.width (length c.self.inside.rows.items) c.seconds.result c.self.inside.stamps.items
-    c.set_stamp.new.tree.items = subst (λ p. Restamps c.self.inside.width p c.seconds.result c.self.inside.stamps.items c.set_stamp.new.tree.items)
+    c.set_stamp.new.tree.items =
+    subst (λ p. Restamps c.self.inside.width p c.seconds.result c.self.inside.stamps.items c.set_stamp.new.tree.items)
     (let l = c.len.ensures in omega arith) c.set_stamp.ensures in
     rw (c.push_reserved.ensures.items, same) (record {
       sessions = rows_begun c.self.inside.counter c.self.inside.rows.items y c.self.invariant.sessions small none_of_its few

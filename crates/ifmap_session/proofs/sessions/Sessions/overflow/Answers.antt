@@ -1,6 +1,6 @@
 use Rattle.std.proofs.Common.{◌≡◌, refl, sym, ◌∙◌, ap, subst, ◌+◌, ◌≤◌, length, arith}
 use Rattle.ifmap_session.specs.Sessions.{Session, overflowed}
-use Rattle.ifmap_session.proofs.KeptLaws.{moments_same, rewritten}
+use Rattle.ifmap_session.proofs.KeptLaws.{kept_queue, queue_overflowed, rewritten}
 use Rattle.ifmap_session.proofs.RowLaws.{found, spare_found}
 use Rattle.ifmap_session.proofs.sessions.Sessions.overflow.Goals as goal
 
@@ -22,26 +22,15 @@ overflow_at-requires c =
 pub invariant_of-self : goal.invariant_of-self
 invariant_of-self c =
     let got = rw c.deref.ensures.value at c.place_in-place.ensures in
-    let r = rewritten c.self.inside.counter c.args.serial c.self.inside.rows.items c.overflow_at.new.rows.items c.self.inside.holders.items
-    c.self.inside.width c.self.inside.stamps.items c.self.invariant c.place_in-place.result got.0 got.1 (overflowed c.args.error)
-    (λ a b. (b.session ≡ overflowed c.args.error a.session) × (b.spare + 1 ≡ a.spare + length a.session.queue)) (record { serial = λ s. refl; id = λ s. refl; client = λ s. refl })
-    (λ a b h. h.0) c.overflow_at.ensures.rows in
-    record {
-      sessions = r.sessions;
-      clients = r.clients;
-      moments = moments_same c.self.inside.counter c.args.serial c.self.inside.rows.items c.overflow_at.new.rows.items
-          c.self.inside.holders.items c.self.inside.width c.self.inside.stamps.items c.self.invariant c.place_in-place.result got.0 got.1
-          (λ a b. (b.session ≡ overflowed c.args.error a.session) × (b.spare + 1 ≡ a.spare + length a.session.queue))
-          (λ a b h. ap (λ (s : Session). s.last) h.0) c.overflow_at.ensures.rows;
-    }
+    kept_queue c.self.invariant c.args.serial c.place_in-place.result got.0 got.1 c.overflow_at.new.rows.items (overflowed c.args.error)
+    (λ a b. b.spare + 1 ≡ a.spare + length a.session.queue) (queue_overflowed c.args.error) c.overflow_at.ensures.rows
 
 pub returns-clause-changes : goal.returns-clause-changes
 returns-clause-changes c =
     let got = rw c.deref.ensures.value at c.place_in-place.ensures in
-    let r = rewritten c.self.inside.counter c.args.serial c.self.inside.rows.items c.overflow_at.new.rows.items c.self.inside.holders.items
-    c.self.inside.width c.self.inside.stamps.items c.self.invariant c.place_in-place.result got.0 got.1 (overflowed c.args.error)
-    (λ a b. (b.session ≡ overflowed c.args.error a.session) × (b.spare + 1 ≡ a.spare + length a.session.queue)) (record { serial = λ s. refl; id = λ s. refl; client = λ s. refl })
-    (λ a b h. h.0) c.overflow_at.ensures.rows in
+    let r = rewritten c.self.invariant c.args.serial c.place_in-place.result got.0 got.1 c.overflow_at.new.rows.items
+    (overflowed c.args.error) (λ a b. b.spare + 1 ≡ a.spare + length a.session.queue)
+    (queue_overflowed c.args.error).names c.overflow_at.ensures.rows in
     rw (← c.self.view_is) (record {
       live = r.live;
       counter = refl;
@@ -52,11 +41,10 @@ returns-clause-changes c =
 pub returns-clause-spare : goal.returns-clause-spare
 returns-clause-spare c = λ s is.
     let got = rw c.deref.ensures.value at c.place_in-place.ensures in
-    let r = rewritten c.self.inside.counter c.args.serial c.self.inside.rows.items c.overflow_at.new.rows.items c.self.inside.holders.items
-    c.self.inside.width c.self.inside.stamps.items c.self.invariant c.place_in-place.result got.0 got.1 (overflowed c.args.error)
-    (λ a b. (b.session ≡ overflowed c.args.error a.session) × (b.spare + 1 ≡ a.spare + length a.session.queue)) (record { serial = λ s. refl; id = λ s. refl; client = λ s. refl })
-    (λ a b h. h.0) c.overflow_at.ensures.rows in
+    let r = rewritten c.self.invariant c.args.serial c.place_in-place.result got.0 got.1 c.overflow_at.new.rows.items
+    (overflowed c.args.error) (λ a b. b.spare + 1 ≡ a.spare + length a.session.queue)
+    (queue_overflowed c.args.error).names c.overflow_at.ensures.rows in
     let same : r.before.session ≡ s = cc (sym r.there ∙ (rw (← c.self.view_is) at is)) in
     let long : length r.before.session.queue ≡ length s.queue = ap (λ (t : Session). length t.queue) same in
-    let w = r.was in let i = r.is in let h = r.holds.1 in
+    let w = r.was in let i = r.is in let h = r.holds in
     rw (← c.self.view_is) (omega arith)

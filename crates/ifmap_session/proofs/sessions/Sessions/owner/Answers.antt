@@ -3,7 +3,8 @@ use Rattle.std.proofs.lemmas.Bool.{both_ways, false_from_ne_true}
 use Rattle.ifmap_session.specs.Kept.{live_of}
 use Rattle.ifmap_session.specs.Sessions.{is_text, session_with_serial}
 use Rattle.ifmap_session.proofs.RowLaws.{found}
-use Rattle.ifmap_session.proofs.SessionLaws.{id_at, id_leads, id_nowhere, id_of_none, leads_to, live_counted, live_ids, live_up, own_at, text_is, text_same}
+use Rattle.ifmap_session.specs.laws.TextLaws.{text_is, text_same}
+use Rattle.ifmap_session.proofs.SessionLaws.{id_at, id_leads, id_nowhere, id_of_none, leads_to, live_counted, live_ids, live_up, own_at}
 use Rattle.ifmap_session.proofs.sessions.Sessions.owner.Goals as goal
 
 pub returns-in_err-serial-clause-none : goal.returns-in_err-serial-clause-none

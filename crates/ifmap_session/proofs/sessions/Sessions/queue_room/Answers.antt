@@ -1,7 +1,7 @@
-use Rattle.std.proofs.Common.{◌≡◌, refl, sym, ap, subst, ◌≤◌, arith}
+use Rattle.std.proofs.Common.{refl, sym, ◌∙◌, subst, ◌≤◌, arith}
 use Rattle.std.specs.Result.{OnOk}
-use Rattle.ifmap_session.specs.Sessions.{Session, unchanged}
-use Rattle.ifmap_session.proofs.KeptLaws.{moments_same, rewritten}
+use Rattle.ifmap_session.specs.Kept.{live_of}
+use Rattle.ifmap_session.proofs.KeptLaws.{change_none, kept_queue, queue_stays, rewritten}
 use Rattle.ifmap_session.proofs.sessions.Sessions.queue_room.Goals as goal
 
 pub reserve_at-requires : goal.reserve_at-requires
@@ -12,27 +12,17 @@ reserve_at-requires c =
 pub invariant_of-self : goal.invariant_of-self
 invariant_of-self c =
     let got = rw c.deref.ensures.value at c.place_in-place.ensures in
-    let r = rewritten c.self.inside.counter c.args.serial c.self.inside.rows.items c.reserve_at.new.rows.items c.self.inside.holders.items
-    c.self.inside.width c.self.inside.stamps.items c.self.invariant c.place_in-place.result got.0 got.1 (unchanged)
-    (λ a b. (b.session ≡ a.session) × ((a.spare ≤ b.spare) × OnOk c.reserve_at.result (c.args.n ≤ b.spare))) (record { serial = λ s. refl; id = λ s. refl; client = λ s. refl })
-    (λ a b h. h.0) c.reserve_at.ensures.rows in
-    record {
-      sessions = r.sessions;
-      clients = r.clients;
-      moments = moments_same c.self.inside.counter c.args.serial c.self.inside.rows.items c.reserve_at.new.rows.items
-          c.self.inside.holders.items c.self.inside.width c.self.inside.stamps.items c.self.invariant c.place_in-place.result got.0 got.1
-          (λ a b. (b.session ≡ a.session) × ((a.spare ≤ b.spare) × OnOk c.reserve_at.result (c.args.n ≤ b.spare))) (λ a b h. ap (λ (s : Session). s.last) (h.0)) c.reserve_at.ensures.rows;
-    }
+    kept_queue c.self.invariant c.args.serial c.place_in-place.result got.0 got.1 c.reserve_at.new.rows.items (λ s. s)
+    (λ a b. (a.spare ≤ b.spare) × OnOk c.reserve_at.result (c.args.n ≤ b.spare)) queue_stays c.reserve_at.ensures.rows
 
 pub returns-clause-changes : goal.returns-clause-changes
 returns-clause-changes c =
     let got = rw c.deref.ensures.value at c.place_in-place.ensures in
-    let r = rewritten c.self.inside.counter c.args.serial c.self.inside.rows.items c.reserve_at.new.rows.items c.self.inside.holders.items
-    c.self.inside.width c.self.inside.stamps.items c.self.invariant c.place_in-place.result got.0 got.1 (unchanged)
-    (λ a b. (b.session ≡ a.session) × ((a.spare ≤ b.spare) × OnOk c.reserve_at.result (c.args.n ≤ b.spare))) (record { serial = λ s. refl; id = λ s. refl; client = λ s. refl })
-    (λ a b h. h.0) c.reserve_at.ensures.rows in
+    let r = rewritten c.self.invariant c.args.serial c.place_in-place.result got.0 got.1 c.reserve_at.new.rows.items
+    (λ s. s) (λ a b. (a.spare ≤ b.spare) × OnOk c.reserve_at.result (c.args.n ≤ b.spare))
+    queue_stays.names c.reserve_at.ensures.rows in
     rw (← c.self.view_is) (record {
-      live = r.live;
+      live = r.live ∙ change_none c.args.serial (live_of c.self.inside.rows.items);
       counter = refl;
       others = r.others;
       room = let l = c.reserve_at.ensures.len in let k = c.reserve_at.ensures.capacity in omega arith;
@@ -41,18 +31,16 @@ returns-clause-changes c =
 pub returns-clause-ok : goal.returns-clause-ok
 returns-clause-ok c =
     let got = rw c.deref.ensures.value at c.place_in-place.ensures in
-    let r = rewritten c.self.inside.counter c.args.serial c.self.inside.rows.items c.reserve_at.new.rows.items c.self.inside.holders.items
-    c.self.inside.width c.self.inside.stamps.items c.self.invariant c.place_in-place.result got.0 got.1 (unchanged)
-    (λ a b. (b.session ≡ a.session) × ((a.spare ≤ b.spare) × OnOk c.reserve_at.result (c.args.n ≤ b.spare))) (record { serial = λ s. refl; id = λ s. refl; client = λ s. refl })
-    (λ a b h. h.0) c.reserve_at.ensures.rows in
-    subst (λ m. OnOk c.reserve_at.result (c.args.n ≤ m)) (sym r.is) r.holds.1.1
+    let r = rewritten c.self.invariant c.args.serial c.place_in-place.result got.0 got.1 c.reserve_at.new.rows.items
+    (λ s. s) (λ a b. (a.spare ≤ b.spare) × OnOk c.reserve_at.result (c.args.n ≤ b.spare))
+    queue_stays.names c.reserve_at.ensures.rows in
+    subst (λ m. OnOk c.reserve_at.result (c.args.n ≤ m)) (sym r.is) r.holds.1
 
 pub returns-clause-spare : goal.returns-clause-spare
 returns-clause-spare c =
     let got = rw c.deref.ensures.value at c.place_in-place.ensures in
-    let r = rewritten c.self.inside.counter c.args.serial c.self.inside.rows.items c.reserve_at.new.rows.items c.self.inside.holders.items
-    c.self.inside.width c.self.inside.stamps.items c.self.invariant c.place_in-place.result got.0 got.1 (unchanged)
-    (λ a b. (b.session ≡ a.session) × ((a.spare ≤ b.spare) × OnOk c.reserve_at.result (c.args.n ≤ b.spare))) (record { serial = λ s. refl; id = λ s. refl; client = λ s. refl })
-    (λ a b h. h.0) c.reserve_at.ensures.rows in
-    let w = r.was in let i = r.is in let h = r.holds.1.0 in
+    let r = rewritten c.self.invariant c.args.serial c.place_in-place.result got.0 got.1 c.reserve_at.new.rows.items
+    (λ s. s) (λ a b. (a.spare ≤ b.spare) × OnOk c.reserve_at.result (c.args.n ≤ b.spare))
+    queue_stays.names c.reserve_at.ensures.rows in
+    let w = r.was in let i = r.is in let h = r.holds.0 in
     rw (← c.self.view_is) (omega arith)

@@ -1,6 +1,7 @@
-use Rattle.std.proofs.Common.{◌≡◌, refl, ◌∙◌, sym, ap, arith}
-use Rattle.ifmap_session.specs.Sessions.{Session, renewed}
-use Rattle.ifmap_session.proofs.KeptLaws.{moments_set, place_within, rewritten}
+use Rattle.std.proofs.Common.{◌≡◌, refl, subst, arith}
+use Rattle.ifmap_session.specs.Sessions.{renewed}
+use Rattle.ifmap_session.specs.Stamps.{Restamps}
+use Rattle.ifmap_session.proofs.KeptLaws.{kept_renewed, moment_renewed, place_within, rewritten}
 use Rattle.ifmap_session.proofs.RowLaws.{spare_same}
 use Rattle.ifmap_session.proofs.sessions.Sessions.renew.Goals as goal
 
@@ -12,26 +13,17 @@ renew_at-requires c =
 pub invariant_of-self : goal.invariant_of-self
 invariant_of-self c =
     let got = rw c.deref.ensures.value at c.place_in-place.ensures in
-    let r = rewritten c.self.inside.counter c.args.serial c.self.inside.rows.items c.renew_at.new.rows.items c.self.inside.holders.items
-    c.self.inside.width c.self.inside.stamps.items c.self.invariant c.place_in-place.result got.0 got.1 (renewed c.args.moment)
-    (λ a b. (b.session ≡ renewed c.args.moment a.session) × (b.spare ≡ a.spare)) (record { serial = λ s. refl; id = λ s. refl; client = λ s. refl })
-    (λ a b h. h.0) c.renew_at.ensures.rows in
-    record {
-      sessions = r.sessions;
-      clients = r.clients;
-      moments = moments_set c.self.inside.counter c.args.serial c.self.inside.rows.items c.renew_at.new.rows.items
-          c.self.inside.holders.items c.self.inside.width c.self.inside.stamps.items c.self.invariant c.place_in-place.result got.0 got.1
-          (λ a b. (b.session ≡ renewed c.args.moment a.session) × (b.spare ≡ a.spare)) c.seconds.result c.set_stamp.new.tree.items (λ a b h. ap (λ (s : Session). s.last) (h.0) ∙ sym c.seconds.ensures.value) c.renew_at.ensures.rows
-          c.set_stamp.ensures;
-    }
+    kept_renewed c.self.invariant c.args.serial c.place_in-place.result got.0 got.1 c.renew_at.new.rows.items
+    (λ a b. b.spare ≡ a.spare) c.args.moment c.set_stamp.new.tree.items c.renew_at.ensures.rows
+    (subst (λ m. Restamps c.self.inside.width c.place_in-place.result m c.self.inside.stamps.items c.set_stamp.new.tree.items)
+    c.seconds.ensures.value c.set_stamp.ensures)
 
 pub returns-clause-changes : goal.returns-clause-changes
 returns-clause-changes c =
     let got = rw c.deref.ensures.value at c.place_in-place.ensures in
-    let r = rewritten c.self.inside.counter c.args.serial c.self.inside.rows.items c.renew_at.new.rows.items c.self.inside.holders.items
-    c.self.inside.width c.self.inside.stamps.items c.self.invariant c.place_in-place.result got.0 got.1 (renewed c.args.moment)
-    (λ a b. (b.session ≡ renewed c.args.moment a.session) × (b.spare ≡ a.spare)) (record { serial = λ s. refl; id = λ s. refl; client = λ s. refl })
-    (λ a b h. h.0) c.renew_at.ensures.rows in
+    let r = rewritten c.self.invariant c.args.serial c.place_in-place.result got.0 got.1 c.renew_at.new.rows.items
+    (renewed c.args.moment) (λ a b. b.spare ≡ a.spare)
+    (moment_renewed c.args.moment) c.renew_at.ensures.rows in
     rw (← c.self.view_is) (record {
       live = r.live;
       counter = refl;
@@ -42,8 +34,7 @@ returns-clause-changes c =
 pub set_stamp-requires-clause-place : goal.set_stamp-requires-clause-place
 set_stamp-requires-clause-place c =
     let got = rw c.deref.ensures.value at c.place_in-place.ensures in
-    place_within c.self.inside.counter c.args.serial c.self.inside.rows.items c.renew_at.new.rows.items c.self.inside.holders.items
-    c.self.inside.width c.self.inside.stamps.items c.self.invariant c.place_in-place.result got.0 got.1
+    place_within c.self.invariant c.args.serial c.place_in-place.result got.0 got.1
 
 pub returns-clause-spare : goal.returns-clause-spare
 returns-clause-spare c =

@@ -1,6 +1,6 @@
 use Rattle.std.proofs.Common.{◌≡◌, refl, ◌∙◌, sym, ap, arith}
 use Rattle.ifmap_session.specs.Sessions.{Session, emptied}
-use Rattle.ifmap_session.proofs.KeptLaws.{moments_same, rewritten}
+use Rattle.ifmap_session.proofs.KeptLaws.{kept_queue, queue_emptied, rewritten}
 use Rattle.ifmap_session.proofs.sessions.Sessions.take_all.Goals as goal
 
 pub take_all_at-requires : goal.take_all_at-requires
@@ -11,25 +11,15 @@ take_all_at-requires c =
 pub invariant_of-self : goal.invariant_of-self
 invariant_of-self c =
     let got = rw c.deref.ensures.value at c.place_in-place.ensures in
-    let r = rewritten c.self.inside.counter c.args.serial c.self.inside.rows.items c.take_all_at.new.rows.items c.self.inside.holders.items
-    c.self.inside.width c.self.inside.stamps.items c.self.invariant c.place_in-place.result got.0 got.1 (emptied)
-    (λ a b. (b.session ≡ emptied a.session) × (c.take_all_at.result ≡ a.session.queue)) (record { serial = λ s. refl; id = λ s. refl; client = λ s. refl })
-    (λ a b h. h.0) c.take_all_at.ensures.rows in
-    record {
-      sessions = r.sessions;
-      clients = r.clients;
-      moments = moments_same c.self.inside.counter c.args.serial c.self.inside.rows.items c.take_all_at.new.rows.items
-          c.self.inside.holders.items c.self.inside.width c.self.inside.stamps.items c.self.invariant c.place_in-place.result got.0 got.1
-          (λ a b. (b.session ≡ emptied a.session) × (c.take_all_at.result ≡ a.session.queue)) (λ a b h. ap (λ (s : Session). s.last) (h.0)) c.take_all_at.ensures.rows;
-    }
+    kept_queue c.self.invariant c.args.serial c.place_in-place.result got.0 got.1 c.take_all_at.new.rows.items (emptied)
+    (λ a b. (b.spare ≡ 0) × (c.take_all_at.result ≡ a.session.queue)) queue_emptied c.take_all_at.ensures.rows
 
 pub returns-clause-changes : goal.returns-clause-changes
 returns-clause-changes c =
     let got = rw c.deref.ensures.value at c.place_in-place.ensures in
-    let r = rewritten c.self.inside.counter c.args.serial c.self.inside.rows.items c.take_all_at.new.rows.items c.self.inside.holders.items
-    c.self.inside.width c.self.inside.stamps.items c.self.invariant c.place_in-place.result got.0 got.1 (emptied)
-    (λ a b. (b.session ≡ emptied a.session) × (c.take_all_at.result ≡ a.session.queue)) (record { serial = λ s. refl; id = λ s. refl; client = λ s. refl })
-    (λ a b h. h.0) c.take_all_at.ensures.rows in
+    let r = rewritten c.self.invariant c.args.serial c.place_in-place.result got.0 got.1 c.take_all_at.new.rows.items
+    (emptied) (λ a b. (b.spare ≡ 0) × (c.take_all_at.result ≡ a.session.queue))
+    queue_emptied.names c.take_all_at.ensures.rows in
     rw (← c.self.view_is) (record {
       live = r.live;
       counter = refl;
@@ -40,9 +30,16 @@ returns-clause-changes c =
 pub returns-clause-items : goal.returns-clause-items
 returns-clause-items c = λ s is.
     let got = rw c.deref.ensures.value at c.place_in-place.ensures in
-    let r = rewritten c.self.inside.counter c.args.serial c.self.inside.rows.items c.take_all_at.new.rows.items c.self.inside.holders.items
-    c.self.inside.width c.self.inside.stamps.items c.self.invariant c.place_in-place.result got.0 got.1 (emptied)
-    (λ a b. (b.session ≡ emptied a.session) × (c.take_all_at.result ≡ a.session.queue)) (record { serial = λ s. refl; id = λ s. refl; client = λ s. refl })
-    (λ a b h. h.0) c.take_all_at.ensures.rows in
+    let r = rewritten c.self.invariant c.args.serial c.place_in-place.result got.0 got.1 c.take_all_at.new.rows.items
+    (emptied) (λ a b. (b.spare ≡ 0) × (c.take_all_at.result ≡ a.session.queue))
+    queue_emptied.names c.take_all_at.ensures.rows in
     let same : r.before.session ≡ s = cc (sym r.there ∙ (rw (← c.self.view_is) at is)) in
     r.holds.1 ∙ ap (λ (t : Session). t.queue) same
+
+pub returns-clause-spare : goal.returns-clause-spare
+returns-clause-spare c =
+    let got = rw c.deref.ensures.value at c.place_in-place.ensures in
+    let r = rewritten c.self.invariant c.args.serial c.place_in-place.result got.0 got.1 c.take_all_at.new.rows.items
+    (emptied) (λ a b. (b.spare ≡ 0) × (c.take_all_at.result ≡ a.session.queue))
+    queue_emptied.names c.take_all_at.ensures.rows in
+    r.is ∙ r.holds.0
