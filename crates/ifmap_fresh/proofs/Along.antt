@@ -18,7 +18,8 @@ along_more f ls i h =
     ∙ filter_map-append (λ l. f (Some l)) (take i ls) (get_or ls i none ∷ [])
     ∙ ap (λ o. filter_map (λ l. f (Some l)) (take i ls) ++ cons_option (f o) []) (sym (slice_get-get_or ls i none h))
 
-pub brought_more : (f : ℕ → List Item) (ns : List ℕ) (i n : ℕ) → slice_get ns i ≡ Some n → flat_map f (take (i + 1) ns) ≡ flat_map f (take i ns) ++ f n
+pub brought_more : (f : ℕ → List Item) (ns : List ℕ) (i n : ℕ) → slice_get ns i ≡ Some n
+    → flat_map f (take (i + 1) ns) ≡ flat_map f (take i ns) ++ f n
 brought_more f ns i n e =
     ap (flat_map f) (take_more ns i 0 (slice_get_within ns i n e))
     ∙ flat_map-append f (take i ns) (get_or ns i 0 ∷ [])

@@ -67,7 +67,8 @@ not_false : (b : Bool) → not b ≡ true → b ≡ false
 not_false true e = let q : false ≡ true = e in cc
 not_false false e = refl
 
-module _ (tells : Tells) (rows : List Attachment) (id_at : ℕ → Option Identifier) (links : ℕ → List LinkSeen) (s : Search) (is : IsView rows id_at links)
+module _ (tells : Tells) (rows : List Attachment) (id_at : ℕ → Option Identifier) (links : ℕ → List LinkSeen) (s : Search)
+    (is : IsView rows id_at links)
     (first : IsIdentifier s.start) (start : ℕ) (here : id_at start ≡ Some s.start) (mark : ℕ → Option ℕ)
     (depths : AreDepths (L rows id_at links s is start here) (T rows id_at links s is start here) start s.max_depth mark)
     (keys : List ℕ) (keyed : (v k : ℕ) → mark v ≡ Some k → Has keys v) (marked : (v : ℕ) → Has keys v → (k : ℕ) × (mark v ≡ Some k)) where
@@ -84,22 +85,26 @@ module _ (tells : Tells) (rows : List Attachment) (id_at : ℕ → Option Identi
       in let m = below_mark (mark v) p.0
       in let w = to_identifier rows id_at links s is start here m.0 v (mark_walk rows id_at links s is start here mark depths v m.0 m.1).1
       in let same : w.0 ≡ a = same_Some w.0 a (sym w.1 ∙ i)
-      in let t : is_terminal s.terminal a ≡ false = not_false (is_terminal s.terminal a) (subst (λ o. not (is_terminal_at s.terminal o) ≡ true) i p.1)
+      in let t : is_terminal s.terminal a ≡ false = not_false (is_terminal s.terminal a)
+      (subst (λ o. not (is_terminal_at s.terminal o) ≡ true) i p.1)
       in subst (λ x. is_expanded rows s x ≡ true) same
       (walk_expanded tells rows is.graph.items s first w.0 m.0 (subst (λ x. is_terminal s.terminal x ≡ false) (sym same) t) m.2 w.2)
 
   -- the number of an expanded identifier is passed, and is among the keys
-  expanded_passed : (a : Identifier) → IsIdentifier a → is_expanded rows s a ≡ true → (v : ℕ) × (id_at v ≡ Some a) × (passed v ≡ true) × Has keys v
+  expanded_passed : (a : Identifier) → IsIdentifier a → is_expanded rows s a ≡ true → (v : ℕ) × (id_at v ≡ Some a) × (passed v ≡ true)
+      × Has keys v
   expanded_passed a i e =
       let x = expanded_walk tells rows is.graph.items s first a i e
       in let n = to_number rows id_at links s is start here x.1.0 a x.1.2
       in let m = walk_mark rows id_at links s is start here mark depths n.0 x.1.0 (omega (arith, x.1.1)) n.2
-      in let low : is_below s.max_depth (mark n.0) ≡ true = subst (λ o. is_below s.max_depth o ≡ true) (sym m.1) (lt_true m.0 s.max_depth (omega (arith, m.2, x.1.1)))
+      in let low : is_below s.max_depth (mark n.0) ≡ true = subst (λ o. is_below s.max_depth o ≡ true) (sym m.1)
+      (lt_true m.0 s.max_depth (omega (arith, m.2, x.1.1)))
       in let t : is_terminal_at s.terminal (id_at n.0) ≡ false = subst (λ o. is_terminal_at s.terminal o ≡ false) (sym n.1) x.0
       in (n.0, n.1, rw (low, t) refl, keyed n.0 m.0 m.1)
 
   -- an item of a link that is brought is looked at
-  linked_looked : (v w : ℕ) (a b : Identifier) (item : Item) → id_at v ≡ Some a → passed v ≡ true → is_match rows s.match_links a b ≡ true → pair_of a b ≡ Some item
+  linked_looked : (v w : ℕ) (a b : Identifier) (item : Item) → id_at v ≡ Some a → passed v ≡ true
+      → is_match rows s.match_links a b ≡ true → pair_of a b ≡ Some item
       → is_looked_at rows s item ≡ true
   linked_looked v w a b item i p m e = elim (pair_parts a b item e) [
     | inl q ↦ subst (λ x. is_looked_at rows s x ≡ true) (sym q) (rw (m, passed_expanded v a i p) refl)
@@ -108,7 +113,8 @@ module _ (tells : Tells) (rows : List Attachment) (id_at : ℕ → Option Identi
         in rw n (or_right (is_expanded rows s b) (is_expanded rows s a) (passed_expanded v a i p)))
   ]
 
-  along_looked : (v : ℕ) (seen : LinkSeen) (item : Item) → passed v ≡ true → item_along rows id_at links s mark v seen ≡ Some item → is_looked_at rows s item ≡ true
+  along_looked : (v : ℕ) (seen : LinkSeen) (item : Item) → passed v ≡ true → item_along rows id_at links s mark v seen ≡ Some item
+      → is_looked_at rows s item ≡ true
   along_looked v seen item p e = by_match (one_meets s.match_links (stored_linked (id_at v) (id_at seen.other) rows)) refl e
     where
       by_ends : (a b : Option Identifier) → id_at v ≡ a → id_at seen.other ≡ b → one_meets s.match_links (stored_linked a b rows) ≡ true
@@ -130,7 +136,8 @@ module _ (tells : Tells) (rows : List Attachment) (id_at : ℕ → Option Identi
   pub looked_at : (item : Item) → Has (collected rows id_at links s mark keys) item → is_looked_at rows s item ≡ true
   looked_at item h =
       let j = joined_has (brought rows id_at links s mark) keys item h
-      in elim (has_either (alone (id_at j.0)) (cond (passed j.0) (filter_map (item_along rows id_at links s mark j.0) (links j.0)) []) item j.2) [
+      in elim (has_either (alone (id_at j.0)) (cond (passed j.0)
+      (filter_map (item_along rows id_at links s mark j.0) (links j.0)) []) item j.2) [
         | inl p ↦ own j.0 (id_at j.0) refl j.1 p
         | inr p ↦ others j.0 (passed j.0) refl p
       ]
@@ -144,9 +151,11 @@ module _ (tells : Tells) (rows : List Attachment) (id_at : ℕ → Option Identi
           in let x = to_identifier rows id_at links s is start here m.0 v w.1
           in let same : x.0 ≡ a = same_Some x.0 a (sym x.1 ∙ i)
           in subst (λ y. is_looked_at rows s y ≡ true) e
-          (subst (λ y. is_reached rows s y ≡ true) same ((reached_by_walks tells rows is.graph.items s first x.0 (is.canon v x.0 x.1)).1 (m.0, w.0, x.2)))
+          (subst (λ y. is_reached rows s y ≡ true) same ((reached_by_walks tells rows is.graph.items s first x.0 (is.canon v x.0 x.1)).1
+          (m.0, w.0, x.2)))
 
-      others : (v : ℕ) (c : Bool) → passed v ≡ c → Has (cond c (filter_map (item_along rows id_at links s mark v) (links v)) []) item → is_looked_at rows s item ≡ true
+      others : (v : ℕ) (c : Bool) → passed v ≡ c → Has (cond c (filter_map (item_along rows id_at links s mark v) (links v)) []) item
+          → is_looked_at rows s item ≡ true
       others v true p h = let x = mapped_has (item_along rows id_at links s mark v) (links v) item h in along_looked v x.0 item p x.2
       others v false p h = absurd h
 
@@ -154,7 +163,8 @@ module _ (tells : Tells) (rows : List Attachment) (id_at : ℕ → Option Identi
   pub canon_of : (item : Item) → Has (collected rows id_at links s mark keys) item → IsCanonItem item
   canon_of item h =
       let j = joined_has (brought rows id_at links s mark) keys item h
-      in elim (has_either (alone (id_at j.0)) (cond (passed j.0) (filter_map (item_along rows id_at links s mark j.0) (links j.0)) []) item j.2) [
+      in elim (has_either (alone (id_at j.0)) (cond (passed j.0)
+      (filter_map (item_along rows id_at links s mark j.0) (links j.0)) []) item j.2) [
         | inl p ↦ own j.0 (id_at j.0) refl p
         | inr p ↦ others j.0 (passed j.0) p
       ]
@@ -184,13 +194,15 @@ module _ (tells : Tells) (rows : List Attachment) (id_at : ℕ → Option Identi
       others v false h = absurd h
 
   -- a number that is passed brings the item of a matching link, where no lesser number does
-  brings : (v w : ℕ) (a b : Identifier) (item : Item) → id_at v ≡ Some a → id_at w ≡ Some b → passed v ≡ true → (nat_lt w v && passed w) ≡ false
+  brings : (v w : ℕ) (a b : Identifier) (item : Item) → id_at v ≡ Some a → id_at w ≡ Some b → passed v ≡ true
+      → (nat_lt w v && passed w) ≡ false
       → is_match rows s.match_links a b ≡ true → pair_of a b ≡ Some item → Has keys v → Has (collected rows id_at links s mark keys) item
   brings v w a b item i j p first m e k =
       let linked : stored_linked (id_at v) (id_at w) rows ≡ stored_between a b rows
       = ap (λ o. stored_linked o (id_at w) rows) i ∙ ap (λ o. stored_linked (Some a) o rows) j
       in let matches : one_meets s.match_links (stored_linked (id_at v) (id_at w) rows) ≡ true = ap (one_meets s.match_links) linked ∙ m
-      in let there = map_has (λ (l : LinkSeen). l.other) (links v) w (has_from _ w (is.each v w (some_there s.match_links (stored_linked (id_at v) (id_at w) rows) matches)))
+      in let there = map_has (λ (l : LinkSeen). l.other) (links v) w
+      (has_from _ w (is.each v w (some_there s.match_links (stored_linked (id_at v) (id_at w) rows) matches)))
       in let along : item_along rows id_at links s mark v there.0 ≡ Some item
       = ap (λ b. item_where rows id_at links s mark v (cond b (Some there.0.other) None))
       (ap (λ x. one_meets s.match_links (stored_linked (id_at v) (id_at x) rows)) there.2 ∙ matches)
@@ -202,7 +214,8 @@ module _ (tells : Tells) (rows : List Attachment) (id_at : ℕ → Option Identi
       (subst (λ c. Has (cond c (filter_map (item_along rows id_at links s mark v) (links v)) []) item) (sym p)
       (has_mapped (item_along rows id_at links s mark v) (links v) there.0 item there.1 along)))
 
-  from_end : (a b : Identifier) (item : Item) → IsIdentifier a → IsIdentifier b → is_match rows s.match_links a b ≡ true → pair_of a b ≡ Some item → is_expanded rows s a ≡ true
+  from_end : (a b : Identifier) (item : Item) → IsIdentifier a → IsIdentifier b → is_match rows s.match_links a b ≡ true
+      → pair_of a b ≡ Some item → is_expanded rows s a ≡ true
       → Has (collected rows id_at links s mark keys) item
   from_end a b item i j m e x =
       let v = expanded_passed a i x
@@ -231,7 +244,8 @@ module _ (tells : Tells) (rows : List Attachment) (id_at : ℕ → Option Identi
       let p = and_parts (is_match rows s.match_links a b) (is_expanded rows s a || is_expanded rows s b) e
       in elim (or_either (is_expanded rows s a) (is_expanded rows s b) p.1) [
         | inl x ↦ from_end a b (Pair a b) i.identifiers.0 i.identifiers.1.0 p.0 (pair_is a b i.ordered) x
-        | inr x ↦ from_end b a (Pair a b) i.identifiers.1.0 i.identifiers.0 (match_turned rows s.match_links b a ∙ p.0) (pair_turned b a ∙ pair_is a b i.ordered) x
+        | inr x ↦ from_end b a (Pair a b) i.identifiers.1.0 i.identifiers.0 (match_turned rows s.match_links b a ∙ p.0)
+            (pair_turned b a ∙ pair_is a b i.ordered) x
       ]
 
 -- entries item by item
@@ -266,7 +280,8 @@ module _ (by : Option Filter) where
     | inr t ↦ rw t (one_item i xs)
   ]
 
-  pub entries_gathered : (rows : List Attachment) (items : List Item) → entries_on by rows items ≡ map entry_of (filter meeting (gathered rows items))
+  pub entries_gathered : (rows : List Attachment) (items : List Item)
+      → entries_on by rows items ≡ map entry_of (filter meeting (gathered rows items))
   entries_gathered rows [] = refl
   entries_gathered rows (i ∷ is) =
       ap (λ l. l ++ entries_on by rows is) (one_item i (stored_on i rows))
@@ -282,13 +297,15 @@ all_of P (r ∷ rs) f = (f r (inl refl), all_of P rs (λ x h. f x (inr h)))
 carries : (rows : List Attachment) (r : Attachment) → Has rows r → stored_on r.item rows ≢ []
 carries rows r h e =
     subst (λ l. Has l r.stored) e
-    (has_map (λ (x : Attachment). x.stored) (filter (λ x. same_item x.item r.item) rows) r (has_filter (λ x. same_item x.item r.item) rows r h (item_itself r.item)))
+    (has_map (λ (x : Attachment). x.stored) (filter (λ x. same_item x.item r.item) rows) r
+    (has_filter (λ x. same_item x.item r.item) rows r h (item_itself r.item)))
 
 all_items : (is : List Item) → ((x : Item) → Has is x → IsCanonItem x) → AllByRecursion AreCanon is
 all_items [] f = tt
 all_items (i ∷ is) f = ((f i (inl refl)).identifiers, all_items is (λ x h. f x (inr h)))
 
-module _ (tells : Tells) (rows : List Attachment) (s : Search) (items : List Item) (graph : IsGraph rows) (are : AreLookedAt rows s items) where
+module _ (tells : Tells) (rows : List Attachment) (s : Search) (items : List Item) (graph : IsGraph rows)
+    (are : AreLookedAt rows s items) where
   among : (x : Item) → IsCanonItem x → stored_on x rows ≢ [] → has_item items x ≡ is_looked_at rows s x
   among x i n = bool_is (has_item items x) (is_looked_at rows s x)
       (λ h. let f = any_has (same_item x) items h
@@ -297,12 +314,14 @@ module _ (tells : Tells) (rows : List Attachment) (s : Search) (items : List Ite
 
   all_among : AllByRecursion (λ r. (has_item items r.item && meeting s.result_filter r) ≡ is_found rows s r) rows
   all_among = all_of (λ r. (has_item items r.item && meeting s.result_filter r) ≡ is_found rows s r) rows
-      (λ r h. ap (λ b. b && meeting s.result_filter r) (among r.item (member (λ r. IsCanonItem r.item) rows graph.items r h) (carries rows r h)))
+      (λ r h. ap (λ b. b && meeting s.result_filter r) (among r.item (member (λ r. IsCanonItem r.item) rows graph.items r h)
+      (carries rows r h)))
 
   -- what stands on the items and meets the filter is the result
   pub entries_are : entries_on s.result_filter rows items ≡ fresh rows s
   entries_are =
       entries_gathered s.result_filter rows items
-      ∙ ap (λ l. map entry_of (filter (meeting s.result_filter) l)) (gathers tells rows items graph.items (all_items items are.canon) (grouped rows graph.rising) are.rising)
+      ∙ ap (λ l. map entry_of (filter (meeting s.result_filter) l))
+      (gathers tells rows items graph.items (all_items items are.canon) (grouped rows graph.rising) are.rising)
       ∙ ap (map entry_of) (filter_twice (λ r. has_item items r.item) (meeting s.result_filter) rows
       ∙ filter_same (λ r. has_item items r.item && meeting s.result_filter r) (is_found rows s) rows all_among)

@@ -19,7 +19,8 @@ use Rattle.ifmap_fresh.specs.Gathered.{entries_of, entries_on, entry_at, row_siz
 use Rattle.ifmap_fresh.specs.Matching.{meets_optional}
 
 split : (by : Option Filter) (i : Item) (xs : List Stored) (k : ℕ) (s : Stored) → k < length xs → s ≡ get_or xs k s
-    → entries_of by i (take (k + 1) xs) ≡ entries_of by i (take k xs) ++ map (entry_at i) (filter (λ x. meets_optional by x.element) (s ∷ []))
+    → entries_of by i (take (k + 1) xs) ≡ entries_of by i (take k xs) ++ map (entry_at i)
+    (filter (λ x. meets_optional by x.element) (s ∷ []))
 split by i xs k s h e =
     ap (entries_of by i) (take_more xs k s h ∙ ap (λ x. take k xs ++ x ∷ []) (sym e))
     ∙ ap (map (entry_at i)) (filter-append (λ x. meets_optional by x.element) (take k xs) (s ∷ []))
@@ -37,7 +38,8 @@ one_size i own s o =
     ∙ ap (λ n. n + length (canonical_bytes s.element)) (sym o)
 
 -- one row more
-pub rows_more : (by : Option Filter) (i : Item) (own : ℕ) (xs : List Stored) (k : ℕ) (s : Stored) → own ≡ item_size i → k < length xs → s ≡ get_or xs k s
+pub rows_more : (by : Option Filter) (i : Item) (own : ℕ) (xs : List Stored) (k : ℕ) (s : Stored) → own ≡ item_size i → k < length xs
+    → s ≡ get_or xs k s
     → entries_size (entries_of by i (take (k + 1) xs)) ≡ entries_size (entries_of by i (take k xs)) + row_size own by s
 rows_more by i own xs k s o h e =
     ap entries_size (split by i xs k s h e)
@@ -60,7 +62,8 @@ pub sizes_more : (xs ys : List Entry) → entries_size (xs ++ ys) ≡ entries_si
 sizes_more xs ys = sum_by-append entry_size xs ys
 
 -- what a row adds that meets the filter
-pub met_size : (own n : ℕ) (by : Option Filter) (s : Stored) → n ≡ length (canonical_bytes s.element) → meets_optional by s.element ≡ true → own + n ≡ row_size own by s
+pub met_size : (own n : ℕ) (by : Option Filter) (s : Stored) → n ≡ length (canonical_bytes s.element)
+    → meets_optional by s.element ≡ true → own + n ≡ row_size own by s
 met_size own n by s e t = ap (λ m. own + m) e ∙ sym (ap (λ b. cond b (own + length (canonical_bytes s.element)) 0) t)
 
 pub some_weaker : {X : Type 0} (o : Option X) (P Q : X → Type 0) → ((x : X) → P x → Q x) → IfSome o P → IfSome o Q

@@ -30,15 +30,18 @@ below i k s l g = by (item_order k s) refl g
 
     by : (o : Ordering) → item_order k s ≡ o → is_gt o ≡ false → same_item s i ≡ false
     by Less e h = later (items_total.trans i k s l e)
-    by Equal e h = later (items_total.antisymm i s ∙ ap ordering_reverse (sym (items_total.congr k s i e) ∙ items_total.antisymm k i ∙ ap ordering_reverse l))
+    by Equal e h = later (items_total.antisymm i s ∙ ap ordering_reverse
+        (sym (items_total.congr k s i e) ∙ items_total.antisymm k i ∙ ap ordering_reverse l))
     by Greater e h = let q : true ≡ false = h in cc
 
-first_rises : (i : Item) (is : List Item) → IsStrictlySortedBy item_order (i ∷ is) → AllByRecursion (λ y. item_order i y ≡ Less) is × IsStrictlySortedBy item_order is
+first_rises : (i : Item) (is : List Item) → IsStrictlySortedBy item_order (i ∷ is) → AllByRecursion (λ y. item_order i y ≡ Less) is
+    × IsStrictlySortedBy item_order is
 unfolding IsStrictlySortedBy
 first_rises i is r = r
 
 -- nothing stands on an item that is below all
-nothing_below : (i k : Item) (rs : List Attachment) → item_order i k ≡ Less → AllByRecursion (λ s. is_gt (item_order k s.item) ≡ false) rs → stored_on i rs ≡ []
+nothing_below : (i k : Item) (rs : List Attachment) → item_order i k ≡ Less
+    → AllByRecursion (λ s. is_gt (item_order k s.item) ≡ false) rs → stored_on i rs ≡ []
 nothing_below i k [] l a = refl
 nothing_below i k (s ∷ ss) l a = rw (below i k s.item l a.0) (nothing_below i k ss l a.1)
 
@@ -52,7 +55,8 @@ or_false true b e = let q : true ≡ false = e in cc
 or_false false b e = (refl, e)
 
 -- what is among items that are all above another is above it
-among_above : Tells → (i : Item) (is : List Item) → AllByRecursion AreCanon is → (k : Item) → AreCanon k → AllByRecursion (λ y. item_order i y ≡ Less) is
+among_above : Tells → (i : Item) (is : List Item) → AllByRecursion AreCanon is → (k : Item) → AreCanon k
+    → AllByRecursion (λ y. item_order i y ≡ Less) is
     → has_item is k ≡ true → item_order i k ≡ Less
 among_above tells i [] c k ck a h = let q : false ≡ true = h in cc
 among_above tells i (j ∷ is) c k ck a h = elim (cases_Bool (same_item k j)) [
@@ -74,7 +78,8 @@ with_first : Tells → (r : Attachment) (rs : List Attachment) (is : List Item) 
 with_first tells r rs [] cr c a s h = let q : false ≡ true = h in cc
 with_first tells r rs (i ∷ is) cr c a s h = elim (cases_Bool (same_item r.item i)) [
   | inl t ↦ let same : r.item ≡ i = same_item_is tells r.item i cr c.0 t
-      in let rest : gathered (r ∷ rs) is ≡ gathered rs is = without r rs is (not_among r.item is (subst (λ k. AllByRecursion (λ y. item_order k y ≡ Less) is) (sym same) (first_rises i is s).0))
+      in let rest : gathered (r ∷ rs) is ≡ gathered rs is = without r rs is
+      (not_among r.item is (subst (λ k. AllByRecursion (λ y. item_order k y ≡ Less) is) (sym same) (first_rises i is s).0))
       in rw t (ap (λ x. record { item = x; stored = r.stored } ∷ (map (row_at i) (stored_on i rs) ++ gathered (r ∷ rs) is)) (sym same)
       ∙ ap (λ l. r ∷ (map (row_at i) (stored_on i rs) ++ l)) rest)
   | inr t ↦ let more : has_item is r.item ≡ true = rw t at h
@@ -84,7 +89,8 @@ with_first tells r rs (i ∷ is) cr c a s h = elim (cases_Bool (same_item r.item
       ∙ ap (λ l. r ∷ (map (row_at i) l ++ gathered rs is)) (sym nothing))
 ]
 
-pub gathers : Tells → (rows : List Attachment) (items : List Item) → AllByRecursion (λ r. IsCanonItem r.item) rows → AllByRecursion AreCanon items
+pub gathers : Tells → (rows : List Attachment) (items : List Item) → AllByRecursion (λ r. IsCanonItem r.item) rows
+    → AllByRecursion AreCanon items
     → IsGrouped rows → IsStrictlySortedBy item_order items → gathered rows items ≡ filter (λ r. has_item items r.item) rows
 gathers tells [] items cr c g s = none items
   where
@@ -107,6 +113,7 @@ grouped (x ∷ xs) r = (all_level xs r.0, grouped xs r.1)
     level Equal p e = refl
     level Greater p e = let q : Greater ≡ Less = e in cc
 
-    all_level : (ys : List Attachment) → AllByRecursion (λ y. attachment_order x y ≡ Less) ys → AllByRecursion (λ s. is_gt (item_order x.item s.item) ≡ false) ys
+    all_level : (ys : List Attachment) → AllByRecursion (λ y. attachment_order x y ≡ Less) ys
+        → AllByRecursion (λ s. is_gt (item_order x.item s.item) ≡ false) ys
     all_level [] a = tt
     all_level (y ∷ ys) a = (level (item_order x.item y.item) _ a.0, all_level ys a.1)

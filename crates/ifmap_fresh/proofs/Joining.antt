@@ -28,7 +28,8 @@ turned None (Some b) rows = refl
 turned (Some a) None rows = refl
 turned (Some a) (Some b) rows = ap (λ i. stored_where i rows) (pair_turned a b)
 
-pub match_turned : (rows : List Attachment) (filter : Option Filter) (a b : Identifier) → is_match rows filter a b ≡ is_match rows filter b a
+pub match_turned : (rows : List Attachment) (filter : Option Filter) (a b : Identifier)
+    → is_match rows filter a b ≡ is_match rows filter b a
 match_turned rows filter a b = ap (λ i. one_meets filter (stored_where i rows)) (pair_turned a b)
 
 pub none_to_itself : (a : Option Identifier) (rows : List Attachment) → stored_linked a a rows ≡ []
@@ -43,7 +44,8 @@ first_of [] n = absurd (n refl)
 first_of (x ∷ xs) n = (x, inl refl)
 
 -- where something is stored on the pair of two identifiers, the second stands in an item
-pub stands_in : Tells → (rows : List Attachment) → AllByRecursion (λ r. IsCanonItem r.item) rows → (a b : Identifier) → IsIdentifier a → IsIdentifier b
+pub stands_in : Tells → (rows : List Attachment) → AllByRecursion (λ r. IsCanonItem r.item) rows → (a b : Identifier) → IsIdentifier a
+    → IsIdentifier b
     → stored_between a b rows ≢ [] → Has (identifiers_in rows) b
 stands_in tells rows items a b ia ib n = by (pair_of a b) refl
   where
@@ -52,7 +54,8 @@ stands_in tells rows items a b ia ib n = by (pair_of a b) refl
         let stored = first_of (stored_on item rows) m
         in let row = map_has (λ (r : Attachment). r.stored) (filter (λ r. same_item r.item item) rows) stored.0 stored.1
         in let kept = filter_has (λ (r : Attachment). same_item r.item item) rows row.0 row.1
-        in let same : row.0.item ≡ item = same_item_is tells row.0.item item (member (λ r. IsCanonItem r.item) rows items row.0 kept.0).identifiers
+        in let same : row.0.item ≡ item = same_item_is tells row.0.item item
+        (member (λ r. IsCanonItem r.item) rows items row.0 kept.0).identifiers
         (pair_canon a b item ia ib e).identifiers kept.1
         in has_joined (λ (r : Attachment). identifiers_of r.item) rows row.0 b kept.0
         (subst (λ i. Has (identifiers_of i) b) (sym same) (elim (pair_parts a b item e) [
@@ -78,7 +81,8 @@ module _ (rows : List Attachment) (id_at : ℕ → Option Identifier) (links : �
   ended v w None e = absurd (none-some w e)
   ended v w (Some seen) e = taken (one_meets filter (stored_linked (id_at v) (id_at seen.other) rows)) refl e
     where
-      taken : (b : Bool) → one_meets filter (stored_linked (id_at v) (id_at seen.other) rows) ≡ b → cond b (Some seen.other) None ≡ Some w → Matches v w
+      taken : (b : Bool) → one_meets filter (stored_linked (id_at v) (id_at seen.other) rows) ≡ b
+          → cond b (Some seen.other) None ≡ Some w → Matches v w
       taken true is k = subst (λ x. Matches v x) (same_Some seen.other w k) is
       taken false is k = absurd (none-some w k)
 

@@ -25,7 +25,8 @@ pub on_canon : (rows : List Attachment) (s : Search) → IsIdentifier s.start �
 on_canon rows s i zero a (begins e) = subst IsIdentifier (sym e) i
 on_canon rows s i (suc k) a (goes_on w t l) = l.0
 
-module _ (tells : Tells) (rows : List Attachment) (items : AllByRecursion (λ r. IsCanonItem r.item) rows) (s : Search) (start : IsIdentifier s.start) where
+module _ (tells : Tells) (rows : List Attachment) (items : AllByRecursion (λ r. IsCanonItem r.item) rows) (s : Search)
+    (start : IsIdentifier s.start) where
   abbrev M : Identifier → Identifier → Type 0
   M = LeadsTo rows s.match_links
 
@@ -63,7 +64,8 @@ module _ (tells : Tells) (rows : List Attachment) (items : AllByRecursion (λ r.
   walk_within zero (suc k) a h w = absurd (omega (arith, h))
   walk_within (suc n) (suc k) a h (goes_on {u = u} w t l) =
       has_right (within rows s n) (flat_map (next_to rows s) (within rows s n)) a
-      (has_joined (next_to rows s) (within rows s n) u a (walk_within n k u (omega (arith, h)) w) (next_has u a (on_canon rows s start k u w) t l))
+      (has_joined (next_to rows s) (within rows s n) u a (walk_within n k u (omega (arith, h)) w)
+      (next_has u a (on_canon rows s start k u w) t l))
 
   pub within_walk : (n : ℕ) (a : Identifier) → Has (within rows s n) a → (k : ℕ) × (k ≤ n) × On rows s k a
   within_walk zero a (inl e) = (zero, omega arith, begins (sym e))
@@ -102,7 +104,8 @@ module _ (tells : Tells) (rows : List Attachment) (items : AllByRecursion (λ r.
   not_of false e = refl
 
   -- and expanded exactly where it is not terminal and a walk of fewer links than the most ends in it
-  pub expanded_walk : (a : Identifier) → IsIdentifier a → is_expanded rows s a ≡ true → (T a ≡ false) × ((k : ℕ) × (k < s.max_depth) × On rows s k a)
+  pub expanded_walk : (a : Identifier) → IsIdentifier a → is_expanded rows s a ≡ true → (T a ≡ false)
+      × ((k : ℕ) × (k < s.max_depth) × On rows s k a)
   expanded_walk a i e =
       let p = and_parts (not (T a)) (is_below rows s s.max_depth a) e
       in (not_of (T a) p.0, below_walk s.max_depth a i p.1)

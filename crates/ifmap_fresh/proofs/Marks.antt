@@ -53,4 +53,5 @@ weight_more w ns i n e =
 
 pub weight_within : (w : ℕ → ℕ) (ns : List ℕ) (i n : ℕ) → slice_get ns i ≡ Some n → sum_by w (take i ns) + w n ≤ sum_by w ns
 weight_within w ns i n e =
-    subst (λ x. sum_by w (take i ns) + w x ≤ sum_by w ns) (get_or_from_slice_get ns i n 0 e) (sum_by_more_le w ns i 0 (slice_get_within ns i n e))
+    subst (λ x. sum_by w (take i ns) + w x ≤ sum_by w ns) (get_or_from_slice_get ns i n 0 e)
+    (sum_by_more_le w ns i 0 (slice_get_within ns i n e))

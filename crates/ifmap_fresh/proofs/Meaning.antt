@@ -86,9 +86,11 @@ module _ (rows : List Attachment) (id_at : ℕ → Option Identifier) (links : �
   pub reached_is : (v : ℕ) → IsReached L T start s.max_depth v → IsReachedAt rows id_at s v
   reached_is v r = let w = to_identifier r.0 v r.2 in (w.0, w.1, (r.0, r.1, w.2))
 
-  pub steps_are : (times before after : ℕ) → IsWithin (count rows id_at links s.match_links) (IsReached L T start s.max_depth) times before after
+  pub steps_are : (times before after : ℕ) → IsWithin (count rows id_at links s.match_links)
+      (IsReached L T start s.max_depth) times before after
       → IsWithin (λ v. length (links v)) (IsReachedAt rows id_at s) times before after
-  steps_are times before after w = within_wider _ (IsReached L T start s.max_depth) (IsReachedAt rows id_at s) times before after reached_is w
+  steps_are times before after w = within_wider _ (IsReached L T start s.max_depth)
+      (IsReachedAt rows id_at s) times before after reached_is w
 
   module _ (mark : ℕ → Option ℕ) (depths : AreDepths L T start s.max_depth mark) where
     -- a mark is the length of a walk

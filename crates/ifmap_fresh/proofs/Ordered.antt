@@ -15,7 +15,8 @@ use Rattle.ifmap_fresh.specs.Gathered.{has_item}
 any_test : (p : Item → Bool) (xs : List Item) → Any (λ y. p y ≡ true) xs → list_any p xs ≡ true
 any_test p xs a = has_any p xs a.1 (has_from xs a.1 (a.0, a.2, a.3)) a.4
 
-module _ (old sorted new : List Item) (moved : IsPermutation old sorted) (in_order : IsSorted item_order sorted) (kept : IsFiltered (DiffersFromLast same_item) [] sorted new) where
+module _ (old sorted new : List Item) (moved : IsPermutation old sorted) (in_order : IsSorted item_order sorted)
+    (kept : IsFiltered (DiffersFromLast same_item) [] sorted new) where
   new_is : new ≡ dedup same_item sorted
   new_is = dedup_is same_item sorted new kept
 
@@ -30,4 +31,5 @@ module _ (old sorted new : List Item) (moved : IsPermutation old sorted) (in_ord
   pub stays : (x : Item) → Has old x → has_item new x ≡ true
   stays x h =
       subst (λ l. has_item l x ≡ true) (sym new_is)
-      (any_test (same_item x) (dedup same_item sorted) (Any-dedup items_alike sorted x (Contains-permutation old sorted x moved (from_has old x h))))
+      (any_test (same_item x) (dedup same_item sorted) (Any-dedup items_alike sorted x
+      (Contains-permutation old sorted x moved (from_has old x h))))

@@ -19,11 +19,13 @@ use Rattle.ifmap_fresh.proofs.Joining.{match_turned, some_there}
 use Rattle.ifmap_fresh.proofs.Levels.{On, expanded_walk, reached_by_walks}
 use Rattle.ifmap_fresh.proofs.Same.{Tells}
 
-module _ (tells : Tells) (rows : List Attachment) (id_at : ℕ → Option Identifier) (links : ℕ → List LinkSeen) (s : Search) (is : IsView rows id_at links)
+module _ (tells : Tells) (rows : List Attachment) (id_at : ℕ → Option Identifier) (links : ℕ → List LinkSeen) (s : Search)
+    (is : IsView rows id_at links)
     (start : IsIdentifier s.start) (unnumbered : (v : ℕ) → id_at v ≡ Some s.start → ⊥) where
   no_match : (b : Identifier) → IsMatch rows s.match_links s.start b → ⊥
   no_match b m =
-      let w = is.linked b s.start start (some_there s.match_links (stored_between b s.start rows) (match_turned rows s.match_links b s.start ∙ m))
+      let w = is.linked b s.start start (some_there s.match_links (stored_between b s.start rows)
+      (match_turned rows s.match_links b s.start ∙ m))
       in unnumbered w.0 w.1
 
   no_walk : (k : ℕ) (a : Identifier) → On rows s (suc k) a → ⊥
@@ -48,5 +50,6 @@ module _ (tells : Tells) (rows : List Attachment) (id_at : ℕ → Option Identi
       let p = and_parts (is_match rows s.match_links a b) (is_expanded rows s a || is_expanded rows s b) e
       in elim (either (is_expanded rows s a) (is_expanded rows s b) p.1) [
         | inl x ↦ let w = expanded_walk tells rows is.graph.items s start a i.identifiers.0 x in from_match a b w.1.0 w.1.2 p.0
-        | inr x ↦ let w = expanded_walk tells rows is.graph.items s start b i.identifiers.1.0 x in from_match b a w.1.0 w.1.2 (match_turned rows s.match_links b a ∙ p.0)
+        | inr x ↦ let w = expanded_walk tells rows is.graph.items s start b i.identifiers.1.0 x in from_match b a w.1.0 w.1.2
+            (match_turned rows s.match_links b a ∙ p.0)
       ]

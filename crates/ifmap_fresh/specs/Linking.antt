@@ -13,7 +13,8 @@ use Rattle.ifmap_fresh.specs.Matching.{LeadsTo, is_terminal, one_meets}
 -- the other end of a link of a number, where it matches
 abbrev pub end_where : List Attachment → (ℕ → Option Identifier) → Option Filter → ℕ → Option LinkSeen → Option ℕ
 end_where rows id_at filter v None = None
-end_where rows id_at filter v (Some seen) = if one_meets filter (stored_linked (id_at v) (id_at seen.other) rows) then Some seen.other else None
+end_where rows id_at filter v (Some seen) = if one_meets filter
+    (stored_linked (id_at v) (id_at seen.other) rows) then Some seen.other else None
 
 -- no walk goes on from the identifier of a number
 abbrev pub is_terminal_at : List Kind → Option Identifier → Bool

@@ -30,4 +30,5 @@ module _ (rows : List Attachment) (id_at : ℕ → Option Identifier) (links : �
     pub numbered : (k : ℕ) (a : Identifier) → SearchWalk rows s k a → (v : ℕ) × (id_at v ≡ Some a)
     pub walks : (k v : ℕ) (a : Identifier) → id_at v ≡ Some a → NumberWalk start k v ↔ SearchWalk rows s k a
     pub depths : (top k v : ℕ) (a : Identifier) → id_at v ≡ Some a
-        → HasDepth AreLinked is_terminal_number start top v k ↔ HasDepth (LeadsTo rows s.match_links) (is_terminal s.terminal) s.start top a k
+        → HasDepth AreLinked is_terminal_number start top v k ↔ HasDepth (LeadsTo rows s.match_links)
+        (is_terminal s.terminal) s.start top a k

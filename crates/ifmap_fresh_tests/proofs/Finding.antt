@@ -60,5 +60,6 @@ found item s ss r e =
     ∙ append-nil s.rows.items)
 
 -- another shelf has nothing of it
-pub past : (item : Item) (s : Shelf) (ss : List Shelf) → same_item s.item item ≡ false → stored_on item (rows_of (s ∷ ss)) ≡ stored_on item (rows_of ss)
+pub past : (item : Item) (s : Shelf) (ss : List Shelf) → same_item s.item item ≡ false
+    → stored_on item (rows_of (s ∷ ss)) ≡ stored_on item (rows_of ss)
 past item s ss e = passed item s.item s.rows.items (rows_of ss) e

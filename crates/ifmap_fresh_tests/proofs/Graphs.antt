@@ -52,13 +52,16 @@ row_differs x y e =
     in let f : same_type x.element y.element ≡ false = not_true (same_type x.element y.element) p.1
     in rw f refl
 
-on_shelf : (P : Attachment → Attachment → Type 0) → ((s : Shelf) (x y : Stored) → row_below x y ≡ true → P (row_on s.item x) (row_on s.item y))
-    → (ss : List Shelf) → AllByRecursion (λ s. all_pairs row_below s.rows.items ≡ true) ss → AllByRecursion (λ s. Pairwise P (map (row_on s.item) s.rows.items)) ss
+on_shelf : (P : Attachment → Attachment → Type 0) → ((s : Shelf) (x y : Stored) → row_below x y ≡ true
+    → P (row_on s.item x) (row_on s.item y))
+    → (ss : List Shelf) → AllByRecursion (λ s. all_pairs row_below s.rows.items ≡ true) ss
+    → AllByRecursion (λ s. Pairwise P (map (row_on s.item) s.rows.items)) ss
 on_shelf P f ss a =
     all_turned (λ s. all_pairs row_below s.rows.items ≡ true) (λ s. Pairwise P (map (row_on s.item) s.rows.items)) ss
     (λ s e. pairwise_onto (λ x y. row_below x y ≡ true) P (row_on s.item) s.rows.items (f s) (pairs_of row_below s.rows.items e)) a
 
-pub graph_is : (ss : List Shelf) → AllByRecursion (λ s. IsCanonItem s.item) ss → all_pairs item_below ss ≡ true → are_lists ss ≡ true → IsGraph (rows_of ss)
+pub graph_is : (ss : List Shelf) → AllByRecursion (λ s. IsCanonItem s.item) ss → all_pairs item_below ss ≡ true → are_lists ss ≡ true
+    → IsGraph (rows_of ss)
 graph_is ss c r l =
     let rise = pairwise_turned (λ s t. item_below s t ≡ true) (λ s t. item_order s.item t.item ≡ Less) ss
     (λ s t e. less_is (item_order s.item t.item) e) (pairs_of item_below ss r)

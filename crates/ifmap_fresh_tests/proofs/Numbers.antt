@@ -93,7 +93,8 @@ module _ (test : ℕ → Bool) where
   at_place (suc n) w h t = elim (cases_lt w n) [
     | inl l ↦ ap (λ xs. slice_get xs (count_below test w)) (filter-append test (below n) (n ∷ []))
         ∙ get_left (filter test (below n)) (filter test (n ∷ [])) (count_below test w) w (at_place n w l t)
-    | inr g ↦ let same : n ≡ w = omega (arith, h, g) in subst (λ x. slice_get (filter test (below (suc x))) (count_below test w) ≡ Some w) (sym same) last
+    | inr g ↦ let same : n ≡ w = omega (arith, h, g) in subst
+        (λ x. slice_get (filter test (below (suc x))) (count_below test w) ≡ Some w) (sym same) last
   ]
     where
       last : slice_get (filter test (below (suc w))) (count_below test w) ≡ Some w

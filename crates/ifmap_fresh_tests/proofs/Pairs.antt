@@ -21,7 +21,8 @@ pub all_any : {X : Type 0} (P : X → Type 0) (xs : List X) → ((x : X) → P x
 all_any P [] f = tt
 all_any P (x ∷ xs) f = (f x, all_any P xs f)
 
-pub all_onto : {X Y : Type 0} (P : X → Type 0) (Q : Y → Type 0) (f : X → Y) (xs : List X) → ((x : X) → P x → Q (f x)) → AllByRecursion P xs → AllByRecursion Q (map f xs)
+pub all_onto : {X Y : Type 0} (P : X → Type 0) (Q : Y → Type 0) (f : X → Y) (xs : List X) → ((x : X) → P x → Q (f x))
+    → AllByRecursion P xs → AllByRecursion Q (map f xs)
 all_onto P Q f [] g a = tt
 all_onto P Q f (x ∷ xs) g a = (g x a.0, all_onto P Q f xs g a.1)
 
@@ -40,7 +41,8 @@ pub pairwise_onto : {X Y : Type 0} (P : X → X → Type 0) (Q : Y → Y → Typ
 pairwise_onto P Q f [] g p = tt
 pairwise_onto P Q f (x ∷ xs) g p = (all_onto (P x) (Q (f x)) f xs (g x) p.0, pairwise_onto P Q f xs g p.1)
 
-pub pairwise_both : {X : Type 0} (P : X → X → Type 0) (xs ys : List X) → Pairwise P xs → Pairwise P ys → AllByRecursion (λ x. AllByRecursion (P x) ys) xs
+pub pairwise_both : {X : Type 0} (P : X → X → Type 0) (xs ys : List X) → Pairwise P xs → Pairwise P ys
+    → AllByRecursion (λ x. AllByRecursion (P x) ys) xs
     → Pairwise P (xs ++ ys)
 pairwise_both P [] ys p q a = q
 pairwise_both P (x ∷ xs) ys p q a = (both_all (P x) xs ys p.0 a.0, pairwise_both P xs ys p.1 q a.1)

@@ -70,7 +70,8 @@ carried x ss n =
     in (shelf.0, shelf.1, ap (λ (r : Attachment). same_item r.item x) on.2 ∙ kept.1)
 
 -- an item that is the same as another has the same identifiers
-ends : (y x : Item) → same_item y x ≡ true → (b : Identifier) → Has (identifiers_of x) b → (c : Identifier) × Has (identifiers_of y) c × (same_identifier c b ≡ true)
+ends : (y x : Item) → same_item y x ≡ true → (b : Identifier) → Has (identifiers_of x) b → (c : Identifier) × Has (identifiers_of y) c
+    × (same_identifier c b ≡ true)
 ends (One c) (One a) e b (inr h) = absurd h
 ends (One c) (One a) e b (inl q) = (c, inl refl, subst (λ i. same_identifier c i ≡ true) q (and_parts (same_identifier c a) true e).0)
 ends (One c) (Pair a d) e b h = let r : false ≡ true = (and_parts (same_identifier c a) false e).1 in cc
@@ -104,9 +105,11 @@ pub one_place : (names : List Identifier) → Pairwise (λ x y. differ x y ≡ t
 one_place [] p v w a e f = absurd (none-some a e)
 one_place (n ∷ ns) p zero zero a e f = refl
 one_place (n ∷ ns) p zero (suc w) a e f =
-    absurd (never_itself a (subst (λ x. differ x a ≡ true) (same_Some n a e) (all_has (λ y. differ n y ≡ true) ns p.0 a (has_got ns w a f))))
+    absurd (never_itself a (subst (λ x. differ x a ≡ true) (same_Some n a e)
+    (all_has (λ y. differ n y ≡ true) ns p.0 a (has_got ns w a f))))
 one_place (n ∷ ns) p (suc v) zero a e f =
-    absurd (never_itself a (subst (λ x. differ x a ≡ true) (same_Some n a f) (all_has (λ y. differ n y ≡ true) ns p.0 a (has_got ns v a e))))
+    absurd (never_itself a (subst (λ x. differ x a ≡ true) (same_Some n a f)
+    (all_has (λ y. differ n y ≡ true) ns p.0 a (has_got ns v a e))))
 one_place (n ∷ ns) p (suc v) (suc w) a e f = ap (λ k. suc k) (one_place ns p.1 v w a e f)
 
 others_are : (v : ℕ) (ws : List ℕ) → others (map (link_to v) ws) ≡ ws
@@ -133,7 +136,8 @@ sound_parts names ss e =
     in let r = and_parts (all_pairs differ names) (all_pairs item_below ss) q.0
     in record { apart = r.0; rising = r.1; lists = q.1; known = p.1 }
 
-module _ (tells : Tells) (names : List Identifier) (ss : List Shelf) (named : AllByRecursion IsIdentifier names) (canon : AllByRecursion (λ s. IsCanonItem s.item) ss)
+module _ (tells : Tells) (names : List Identifier) (ss : List Shelf) (named : AllByRecursion IsIdentifier names)
+    (canon : AllByRecursion (λ s. IsCanonItem s.item) ss)
     (sound : AreSound names ss) where
   abbrev rows : List Attachment
   rows = rows_of ss
@@ -156,7 +160,8 @@ module _ (tells : Tells) (names : List Identifier) (ss : List Shelf) (named : Al
       let s = carried x ss n
       in let c = ends s.0.item x s.2 b h
       in let ci = all_has IsIdentifier (identifiers_of s.0.item) (all_has (λ s. IsCanonItem s.item) ss canon s.0 s.1).identifiers c.0 c.1
-      in let k = known_end names s.0.item (all_has (λ s. is_known names s.item ≡ true) ss (all_of_test (λ s. is_known names s.item) ss sound.known) s.0 s.1) c.0 c.1
+      in let k = known_end names s.0.item (all_has (λ s. is_known names s.item ≡ true) ss
+      (all_of_test (λ s. is_known names s.item) ss sound.known) s.0 s.1) c.0 c.1
       in let ki = all_has IsIdentifier names named k.0 k.1
       in let same : k.0 ≡ b = sym (same_is c.0 k.0 ci ki k.2) ∙ same_is c.0 b ci i c.2
       in got_has names b (subst (λ z. Has names z) same k.1)
@@ -191,7 +196,8 @@ module _ (tells : Tells) (names : List Identifier) (ss : List Shelf) (named : Al
   each : (v w : ℕ) → IsLink rows id_at v w → Contains (others (links v)) w
   each v w n =
       from_has _ w (subst (λ l. Has l w) (sym (others_are v (filter (linked_to v) (below (length names)))))
-      (has_filter (linked_to v) (below (length names)) w (has_below (length names) w (within v w n)) (full_is (stored_linked (id_at v) (id_at w) rows) n)))
+      (has_filter (linked_to v) (below (length names)) w (has_below (length names) w (within v w n))
+      (full_is (stored_linked (id_at v) (id_at w) rows) n)))
 
   pub view_is : IsView rows id_at links
   view_is = record {

@@ -15,8 +15,10 @@ use Rattle.ifmap_fresh.proofs.finding.items_from.Goals as goal
 pub returns-in_err-region-clause-steps : goal.returns-in_err-region-clause-steps
 returns-in_err-region-clause-steps g c =
     let view = c.args.view.now
-    in within_more (λ v. length (g.V.View.links view v)) (IsReachedAt (g.V.View.rows view) (g.V.View.id_at view) c.args.search.now) 1 2 c.args.steps.now c.build.new.steps (omega arith)
-    (steps_are (g.V.View.rows view) (g.V.View.id_at view) (g.V.View.links view) c.args.search.now c.requires.whole c.args.start c.requires.start
+    in within_more (λ v. length (g.V.View.links view v)) (IsReachedAt (g.V.View.rows view)
+    (g.V.View.id_at view) c.args.search.now) 1 2 c.args.steps.now c.build.new.steps (omega arith)
+    (steps_are (g.V.View.rows view) (g.V.View.id_at view) (g.V.View.links view) c.args.search.now c.requires.whole c.args.start
+    c.requires.start
     1 c.args.steps.now c.build.new.steps c.build.ensures.steps)
 
 pub returns-clause-there : goal.returns-clause-there
@@ -25,8 +27,10 @@ returns-clause-there g c =
     in let es = c.in_ok-region.region.marks.entries
     in IfOk-weaker c.collect.result _ _
     (λ items e x h.
-    looked_at c.bytes_tell_identifiers_apart.ensures (g.V.View.rows view) (g.V.View.id_at view) (g.V.View.links view) c.args.search.now c.requires.whole c.requires.identifier c.args.start c.requires.start
-    (mark_of es) c.in_ok-region.ensures.depths (numbers_of es) (keyed es) (marked es c.in_ok-region.ensures.rows) x (subst (λ l. Has l x) e h))
+    looked_at c.bytes_tell_identifiers_apart.ensures (g.V.View.rows view) (g.V.View.id_at view)
+    (g.V.View.links view) c.args.search.now c.requires.whole c.requires.identifier c.args.start c.requires.start
+    (mark_of es) c.in_ok-region.ensures.depths (numbers_of es) (keyed es) (marked es c.in_ok-region.ensures.rows) x
+    (subst (λ l. Has l x) e h))
     c.collect.ensures.items
 
 pub returns-clause-back : goal.returns-clause-back
@@ -36,7 +40,8 @@ returns-clause-back g c =
     in IfOk-weaker c.collect.result _ _
     (λ items e x i l.
     subst (λ l. Has l x) (sym e)
-    (collects c.bytes_tell_identifiers_apart.ensures (g.V.View.rows view) (g.V.View.id_at view) (g.V.View.links view) c.args.search.now c.requires.whole c.requires.identifier c.args.start c.requires.start
+    (collects c.bytes_tell_identifiers_apart.ensures (g.V.View.rows view) (g.V.View.id_at view)
+    (g.V.View.links view) c.args.search.now c.requires.whole c.requires.identifier c.args.start c.requires.start
     (mark_of es) c.in_ok-region.ensures.depths (numbers_of es) (keyed es) (marked es c.in_ok-region.ensures.rows) x i l))
     c.collect.ensures.items
 
@@ -48,16 +53,20 @@ returns-clause-steps g c =
     in let Among : ℕ → Type 0 = IsReachedAt (g.V.View.rows view) (g.V.View.id_at view) c.args.search.now
     in let reached : (v : ℕ) → Has (numbers_of es) v → Among v = λ v h.
     let m = marked es c.in_ok-region.ensures.rows v h
-    in let w = mark_walk (g.V.View.rows view) (g.V.View.id_at view) (g.V.View.links view) c.args.search.now c.requires.whole c.args.start c.requires.start
+    in let w = mark_walk (g.V.View.rows view) (g.V.View.id_at view)
+    (g.V.View.links view) c.args.search.now c.requires.whole c.args.start c.requires.start
     (mark_of es) c.in_ok-region.ensures.depths v m.0 m.1
-    in reached_is (g.V.View.rows view) (g.V.View.id_at view) (g.V.View.links view) c.args.search.now c.requires.whole c.args.start c.requires.start v (m.0, w.0, w.1)
+    in reached_is (g.V.View.rows view) (g.V.View.id_at view)
+    (g.V.View.links view) c.args.search.now c.requires.whole c.args.start c.requires.start v (m.0, w.0, w.1)
     in within_both weight Among 1 1 c.args.steps.now c.build.new.steps c.collect.new.steps
-    (steps_are (g.V.View.rows view) (g.V.View.id_at view) (g.V.View.links view) c.args.search.now c.requires.whole c.args.start c.requires.start
+    (steps_are (g.V.View.rows view) (g.V.View.id_at view) (g.V.View.links view) c.args.search.now c.requires.whole c.args.start
+    c.requires.start
     1 c.args.steps.now c.build.new.steps c.build.ensures.steps)
     (record {
       numbers = numbers_of es;
       distinct = c.collect.ensures.apart;
-      among = All-weaker (Contains (numbers_of es)) Among (λ v k. reached v (has_from (numbers_of es) v k)) (numbers_of es) (All-contains_itself (numbers_of es));
+      among = All-weaker (Contains (numbers_of es)) Among (λ v k. reached v (has_from (numbers_of es) v k)) (numbers_of es)
+          (All-contains_itself (numbers_of es));
       bound = omega (arith, c.collect.ensures.steps);
     })
 
@@ -67,7 +76,9 @@ returns-clause-canon g c =
     in let es = c.in_ok-region.region.marks.entries
     in IfOk-weaker c.collect.result _ _
     (λ items e x h.
-    canon_of c.bytes_tell_identifiers_apart.ensures (g.V.View.rows view) (g.V.View.id_at view) (g.V.View.links view) c.args.search.now c.requires.whole c.requires.identifier
+    canon_of c.bytes_tell_identifiers_apart.ensures (g.V.View.rows view) (g.V.View.id_at view)
+    (g.V.View.links view) c.args.search.now c.requires.whole c.requires.identifier
     c.args.start c.requires.start
-    (mark_of es) c.in_ok-region.ensures.depths (numbers_of es) (keyed es) (marked es c.in_ok-region.ensures.rows) x (subst (λ l. Has l x) e h))
+    (mark_of es) c.in_ok-region.ensures.depths (numbers_of es) (keyed es) (marked es c.in_ok-region.ensures.rows) x
+    (subst (λ l. Has l x) e h))
     c.collect.ensures.items

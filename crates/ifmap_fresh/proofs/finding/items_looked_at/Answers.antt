@@ -23,23 +23,28 @@ returns-in_default-clause-items g c =
       rising = none_rise;
       there = λ x h. absurd h;
       canon = λ x h. absurd h;
-      back = λ x i n e. absurd (nothing c.bytes_tell_identifiers_apart.ensures (g.V.View.rows view) (g.V.View.id_at view) (g.V.View.links view) c.args.search.now
+      back = λ x i n e. absurd (nothing c.bytes_tell_identifiers_apart.ensures (g.V.View.rows view) (g.V.View.id_at view)
+          (g.V.View.links view) c.args.search.now
           c.in_default.ensures.whole c.requires.start (λ v f. c.in_default.not-Some v (c.number.ensures.only v f)) x i n e);
     })
 
 pub returns-in_default-clause-steps : goal.returns-in_default-clause-steps
 returns-in_default-clause-steps g c =
     let view = c.args.view.now
-    in within_nothing (λ v. length (g.V.View.links view v)) (IsReachedAt (g.V.View.rows view) (g.V.View.id_at view) c.args.search.now) 2 c.args.steps.now
+    in within_nothing (λ v. length (g.V.View.links view v)) (IsReachedAt (g.V.View.rows view)
+    (g.V.View.id_at view) c.args.search.now) 2 c.args.steps.now
 
 pub returns-clause-items : goal.returns-clause-items
 returns-clause-items g c =
     let old = c.in_ok-items.items.items
     in let sorted = c.sort_unstable.new.self.items
     in let new = c.dedup.new.self.items
+    in let moved = c.sort_unstable.ensures.permutation
+    in let ordered = c.sort_unstable.ensures.sorted
+    in let kept = c.dedup.ensures.filtered
     in record {
-      rising = rises old sorted new c.sort_unstable.ensures.permutation c.sort_unstable.ensures.sorted c.dedup.ensures.filtered;
-      there = λ x h. c.in_ok-items.ensures.there x (came old sorted new c.sort_unstable.ensures.permutation c.sort_unstable.ensures.sorted c.dedup.ensures.filtered x h);
-      canon = λ x h. c.in_ok-items.ensures.canon x (came old sorted new c.sort_unstable.ensures.permutation c.sort_unstable.ensures.sorted c.dedup.ensures.filtered x h);
-      back = λ x i n e. stays old sorted new c.sort_unstable.ensures.permutation c.sort_unstable.ensures.sorted c.dedup.ensures.filtered x (c.in_ok-items.ensures.back x i e);
+      rising = rises old sorted new moved ordered kept;
+      there = λ x h. c.in_ok-items.ensures.there x (came old sorted new moved ordered kept x h);
+      canon = λ x h. c.in_ok-items.ensures.canon x (came old sorted new moved ordered kept x h);
+      back = λ x i n e. stays old sorted new moved ordered kept x (c.in_ok-items.ensures.back x i e);
     }

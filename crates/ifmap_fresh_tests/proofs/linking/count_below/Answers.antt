@@ -6,4 +6,10 @@ use Rattle.ifmap_fresh_tests.proofs.linking.count_below.Goals as goal
 pub overflow_add-count : goal.overflow_add-count
 overflow_add-count c =
     let test = is_linked c.args.names.now c.args.shelves.now c.args.number
-    in omega (arith, count_fits test c.loop-other.other, at_most_one test (test c.loop-other.other), c.count_link-count.ensures, c.loop-other.invariant)
+    in omega (
+      arith,
+      count_fits test c.loop-other.other,
+      at_most_one test (test c.loop-other.other),
+      c.count_link-count.ensures,
+      c.loop-other.invariant,
+    )

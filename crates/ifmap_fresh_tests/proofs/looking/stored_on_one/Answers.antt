@@ -20,6 +20,8 @@ pub loop-shelf-preserved : goal.loop-shelf-preserved
 loop-shelf-preserved c =
     let split = c.in-Some.ensures.cases.0
     in let rising = subst (λ (l : List Shelf). all_pairs item_below l ≡ true) split c.loop-shelf.invariant.1
-    in (sym (past (One c.args.id.now) c.in-Some.shelf.now c.in-Some.after.now (sym c.is_one.ensures ∙ c.if-is_one.false))
-        ∙ sym (ap (λ (l : List Shelf). stored_on (One c.args.id.now) (rows_of l)) split) ∙ c.loop-shelf.invariant.0,
-        (and_parts (list_all (item_below c.in-Some.shelf.now) c.in-Some.after.now) (all_pairs item_below c.in-Some.after.now) rising).1)
+    in (
+      sym (past (One c.args.id.now) c.in-Some.shelf.now c.in-Some.after.now (sym c.is_one.ensures ∙ c.if-is_one.false))
+          ∙ sym (ap (λ (l : List Shelf). stored_on (One c.args.id.now) (rows_of l)) split) ∙ c.loop-shelf.invariant.0,
+      (and_parts (list_all (item_below c.in-Some.shelf.now) c.in-Some.after.now) (all_pairs item_below c.in-Some.after.now) rising).1,
+    )

@@ -13,6 +13,7 @@ returns c =
     in let seen = c.args.seen
     in rw (← c.self.view_is)
     (λ v h. c.stored_linked.ensures
-    ∙ ap (λ (l : List Identifier). stored_linked (slice_get l seen.at) (slice_get l seen.other) (rows_of c.deref-2.result.now)) c.deref.ensures.value
+    ∙ ap (λ (l : List Identifier). stored_linked (slice_get l seen.at) (slice_get l seen.other)
+    (rows_of c.deref-2.result.now)) c.deref.ensures.value
     ∙ ap (λ (l : List Shelf). stored_linked (slice_get names seen.at) (slice_get names seen.other) (rows_of l)) c.deref-2.ensures.value
     ∙ ap (λ (k : ℕ). stored_linked (slice_get names k) (slice_get names seen.other) (rows_of shelves)) (kept_number names shelves v seen h))
