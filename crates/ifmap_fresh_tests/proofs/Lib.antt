@@ -1,0 +1,5 @@
+pub mod Pairs
+pub mod Numbers
+pub mod Finding
+pub mod Graphs
+pub mod Viewed

@@ -1,0 +1,2 @@
+-- What plain lists show.
+pub mod Lists

@@ -1,0 +1,12 @@
+//! Tests of searches, over a view of plain lists: worked examples, by hand.
+#![tactic(auto)]
+
+pub mod checking;
+pub mod linking;
+pub mod lists;
+pub mod looking;
+#[cfg(test)]
+mod makers;
+#[cfg(test)]
+mod searches;
+pub mod shelves;
