@@ -1,0 +1,7 @@
+pub mod Published
+pub mod Envelopes
+pub mod RequestForms
+pub mod Means
+pub mod Answers
+pub mod Fit
+pub mod Laws
