@@ -16,6 +16,8 @@ use Rattle.ifmap_ident.specs.Canon.{IsAnswer}
 use Rattle.ifmap_ident.specs.Identifiers.{same_identifier}
 use Rattle.ifmap_ident.specs.Items.{pair_of}
 use Rattle.ifmap_ident.specs.Parts.{has_only}
+use Rattle.ifmap_forms.specs.declared.errors.FormError.{FormError}
+use Rattle.ifmap_forms.specs.declared.errors.FormError.TheVariants as form
 use Rattle.ifmap_forms.specs.Checks.{Check, check_then, fail, need, need_some, pass}
 use Rattle.ifmap_forms.specs.Tables.{Content, Part, each_element, is_white_part, parts_of}
 
@@ -27,6 +29,13 @@ identifier_code WrongKind = Some InvalidIdentifierType
 identifier_code Invalid = Some InvalidIdentifier
 identifier_code TooLong = Some IdentifierTooLong
 identifier_code NoMemory = None
+
+-- as an answer
+abbrev pub identifier_refusal : IdentError → FormError
+identifier_refusal WrongKind = form.Named InvalidIdentifierType
+identifier_refusal Invalid = form.Named InvalidIdentifier
+identifier_refusal TooLong = form.Named IdentifierTooLong
+identifier_refusal NoMemory = form.NoMemory
 
 -- an element in an identifier's place
 abbrev pub identifier_check : Element → Check Identifier
@@ -59,14 +68,20 @@ only_identifier [] = None
 only_identifier (a ∷ []) = Some a
 only_identifier (a ∷ (b ∷ more)) = None
 
-abbrev pub start_content : Content Identifier
-start_content scopes parts =
+abbrev pub start_check : List Part → Check Identifier
+start_check parts =
     check_then (identifiers_check 1 [] parts) (λ identifiers. need_some Failure (only_identifier identifiers) (λ i. pass i))
 
+abbrev pub start_content : Content Identifier
+start_content scopes = start_check
+
 -- one identifier or two
-abbrev pub item_content : Content Item
-item_content scopes parts =
+abbrev pub item_check : List Part → Check Item
+item_check parts =
     check_then (identifiers_check 2 [] parts) (λ identifiers. need_some Failure (item_of identifiers) (λ item. pass item))
+
+abbrev pub item_content : Content Item
+item_content scopes = item_check
 
 -- ---- identifiers, and then a list of elements
 

@@ -5,3 +5,5 @@ pub mod Values
 pub mod Scopes
 pub mod Tables
 pub mod Items
+pub mod Gathering
+pub mod AnswerLaws

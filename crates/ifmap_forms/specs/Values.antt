@@ -1,7 +1,8 @@
 -- What the values of attributes mean: the attributes of requests in the IF-MAP binding for SOAP, version 2.2, section 3.
 use Rattle.std.specs.Prelude.{◌≡◌, ℕ, ◌^◌, Bool, true, false, not, ◌&&◌, ◌==◌, nat_le, nat_lt, min, max, if◌then◌else◌, List, [], ◌∷◌, codes, length, reverse, Option, None, Some, Ok, Err}
 use Rattle.std.specs.List.{find, list_all}
-use Rattle.std.specs.Str.{all_ascii_digits, byte, bytes_eq}
+use Rattle.std.specs.Char.{is_ascii_digit}
+use Rattle.std.specs.Str.{byte, bytes_eq}
 use Rattle.std.specs.Str.Parse.{digits_value}
 use Rattle.ifmap_elem.specs.Chars.{is_white}
 use Rattle.ifmap_elem.specs.declared.elements.Element.{Element}
@@ -47,7 +48,7 @@ name_field = record { local = codes "name"; reads = λ scope. read_name }
 
 -- one digit or more
 abbrev pub is_number : List ℕ → Bool
-is_number text = not (bytes_eq text []) && all_ascii_digits text
+is_number text = not (bytes_eq text []) && list_all is_ascii_digit text
 
 abbrev pub number_of : List ℕ → Option ℕ
 number_of text = if is_number text then Some (digits_value 10 text) else None
@@ -120,6 +121,11 @@ abbrev pub pieces_of : List ℕ → List (List ℕ)
 pieces_of [] = [] ∷ []
 pieces_of (b ∷ bs) = if b == byte "," then [] ∷ pieces_of bs else with_first b (pieces_of bs)
 
+-- white space is at the front
+abbrev pub begins_white : List ℕ → Bool
+begins_white [] = false
+begins_white (b ∷ bs) = is_white b
+
 -- the text without white space at its ends
 abbrev pub trimmed : List ℕ → List ℕ
 trimmed text = reverse (without_white (reverse (without_white text)))
@@ -127,11 +133,13 @@ trimmed text = reverse (without_white (reverse (without_white text)))
 abbrev pub kind_of : List ℕ → Option Kind
 kind_of text = find (λ kind. bytes_eq (kind_name kind) text) kinds
 
+abbrev pub piece_check : List ℕ → Check Kind
+piece_check piece = need_some InvalidIdentifierType (kind_of (trimmed piece)) (λ kind. pass kind)
+
 abbrev pub kinds_check : List (List ℕ) → Check (List Kind)
 kinds_check [] = pass []
 kinds_check (piece ∷ pieces) =
-    need_some InvalidIdentifierType (kind_of (trimmed piece))
-    (λ kind. check_then (kinds_check pieces) (λ others. pass (kind ∷ others)))
+    check_then (piece_check piece) (λ kind. check_then (kinds_check pieces) (λ others. pass (kind ∷ others)))
 
 -- the kinds from which no walk goes on; a blank text names none
 abbrev pub read_kinds : Option (List ℕ) → Check (List Kind)

@@ -1,12 +1,15 @@
 //! Identifiers as children of an element.
 ghost use Rattle.std.specs.Prelude.{◌≡◌, ◌≤◌, List, [], drop, length, take};
+ghost use Rattle.std.specs.List.{list_any, position};
+ghost use Rattle.ifmap_ident.specs.Identifiers.{same_identifier};
 ghost use Rattle.ifmap_elem.specs.declared.elements.Child.{out-Child};
-ghost use Rattle.ifmap_forms.specs.Answers.{IsChecked};
-ghost use Rattle.ifmap_forms.specs.Items.{before_list, from_list, identifier_check, identifiers_check, is_list, item_content, item_of, may_follow, only_identifier, start_content};
-ghost use Rattle.ifmap_forms.specs.Scopes.{Scopes};
+ghost use Rattle.ifmap_forms.specs.Answers.{IsChecked, IsCheckedAs};
+ghost use Rattle.ifmap_forms.specs.Gathering.{following_check, part_check};
+ghost use Rattle.ifmap_forms.specs.Items.{before_list, from_list, identifier_check, identifier_refusal, identifiers_check, is_list, item_check, item_of, may_follow, only_identifier, start_check};
 ghost use Rattle.ifmap_forms.specs.Tables.{parts_in};
 
 use crate::errors::FormError;
+use crate::gathering::keep_found;
 use crate::parts::is_white_alone;
 use ifmap_elem::{Child, Element};
 use ifmap_ident::{Code, IdentError, Identifier, Item};
@@ -14,20 +17,31 @@ use std::alloc::Global;
 
 /// The one identifier among children.
 pub fn read_start(alloc: Global, children: &[Child]) -> Result<Identifier, FormError>
-    ensures { (scopes : Scopes) → IsChecked (start_content scopes (parts_in children.now)) result }
+    ensures { IsChecked (start_check (parts_in children.now)) result }
 {
-    let mut identifiers = read_identifiers(alloc, 1, children)?;
-    match identifiers.pop() {
+    let identifiers = read_identifiers(alloc, 1, children)?;
+    match only_identifier(identifiers) {
         Some(identifier) => Ok(identifier),
         None => Err(FormError::Named(Code::Failure)),
     }
 }
 
+// The identifier, where it is one alone.
+fn only_identifier(mut identifiers: Vec<Identifier>) -> Option<Identifier>
+    ensures { result ≡ only_identifier identifiers.items }
+{
+    if identifiers.len() != 1 {
+        return None;
+    }
+    identifiers.pop()
+}
+
 /// The identifier or the two identifiers among children, as an item.
 pub fn read_item(alloc: Global, children: &[Child]) -> Result<Item, FormError>
-    ensures { (scopes : Scopes) → IsChecked (item_content scopes (parts_in children.now)) result }
+    ensures { IsChecked (item_check (parts_in children.now)) result }
 {
-    match item_of(read_identifiers(alloc, 2, children)?) {
+    let identifiers = read_identifiers(alloc, 2, children)?;
+    match item_of(identifiers) {
         Some(item) => Ok(item),
         None => Err(FormError::Named(Code::Failure)),
     }
@@ -57,9 +71,8 @@ pub fn read_identifiers(
 {
     let mut made = Vec::new(alloc);
     for child in children {
-        if let Some(identifier) = next_identifier(alloc, most, &made, child)? {
-            made.push(identifier)?;
-        }
+        let found = next_identifier(alloc, most, &made, child)?;
+        keep_found(&mut made, found)?;
     }
     Ok(made)
 }
@@ -70,7 +83,9 @@ fn next_identifier(
     most: usize,
     before: &[Identifier],
     child: &Child,
-) -> Result<Option<Identifier>, FormError> {
+) -> Result<Option<Identifier>, FormError>
+    ensures { IsChecked (part_check (following_check most before.now) (out-Child child.now)) result }
+{
     match child {
         Child::Element(element) => Ok(Some(following_identifier(alloc, most, before, element)?)),
         Child::Text(text) => {
@@ -88,7 +103,9 @@ fn following_identifier(
     most: usize,
     before: &[Identifier],
     element: &Element,
-) -> Result<Identifier, FormError> {
+) -> Result<Identifier, FormError>
+    ensures { IsChecked (following_check most before.now element.now) result }
+{
     let identifier = read_identifier(alloc, element)?;
     if may_follow(most, before, &identifier) {
         Ok(identifier)
@@ -100,7 +117,13 @@ fn following_identifier(
 fn may_follow(most: usize, before: &[Identifier], identifier: &Identifier) -> bool
     ensures { result ≡ may_follow most before.now identifier.now }
 {
-    before.len() < most && !before.iter().any(|other| identifier == other)
+    before.len() < most && !is_among(before, identifier)
+}
+
+fn is_among(before: &[Identifier], identifier: &Identifier) -> bool
+    ensures { result ≡ list_any (same_identifier identifier.now) before.now }
+{
+    before.iter().any(|other| *identifier == *other)
 }
 
 fn read_identifier(alloc: Global, element: &Element) -> Result<Identifier, FormError>
@@ -112,7 +135,9 @@ fn read_identifier(alloc: Global, element: &Element) -> Result<Identifier, FormE
     }
 }
 
-fn refusal_of(error: IdentError) -> FormError {
+fn refusal_of(error: IdentError) -> FormError
+    ensures { result ≡ identifier_refusal error }
+{
     match error {
         IdentError::WrongKind => FormError::Named(Code::InvalidIdentifierType),
         IdentError::Invalid => FormError::Named(Code::InvalidIdentifier),
@@ -127,10 +152,16 @@ pub fn list_index(children: &[Child]) -> usize
     ensures after { drop result (parts_in children.now) ≡ from_list (parts_in children.now) }
     ensures within { result ≤ length children.now }
 {
-    match children.iter().position(is_list) {
+    match list_place(children) {
         Some(index) => index,
         None => children.len(),
     }
+}
+
+fn list_place(children: &[Child]) -> Option<usize>
+    ensures { result ≡ position (λ child. is_list (out-Child child)) children.now }
+{
+    children.iter().position(is_list)
 }
 
 fn is_list(child: &Child) -> bool

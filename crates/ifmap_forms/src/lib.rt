@@ -4,6 +4,7 @@
 #![tactic(auto)]
 
 pub mod errors;
+pub mod gathering;
 pub mod identifiers;
 pub mod kinds;
 pub mod numbers;

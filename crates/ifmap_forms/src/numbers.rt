@@ -1,6 +1,8 @@
 //! Numbers in decimal digits.
-ghost use Rattle.std.specs.Prelude.{◌≡◌, ◌-◌, ◌^◌, min, option_map};
-ghost use Rattle.std.specs.Str.{all_ascii_digits};
+ghost use Rattle.std.specs.Prelude.{◌≡◌, ◌-◌, ◌^◌, min, option_map, true};
+ghost use Rattle.std.specs.Char.{is_ascii_digit};
+ghost use Rattle.std.specs.List.{list_all};
+ghost use Rattle.std.specs.Str.Parse.{digits_value};
 ghost use Rattle.ifmap_forms.specs.Values.{is_number, number_of};
 
 /// The number that one digit or more write; numbers that a `u64` cannot hold stand at its greatest.
@@ -21,7 +23,7 @@ fn is_number(text: &str) -> bool
 }
 
 fn are_digits(bytes: &[u8]) -> bool
-    ensures { result ≡ all_ascii_digits bytes.now }
+    ensures { result ≡ list_all is_ascii_digit bytes.now }
 {
     bytes.iter().all(|byte| byte.is_ascii_digit())
 }

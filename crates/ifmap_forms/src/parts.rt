@@ -49,12 +49,24 @@ fn is_known(attribute: &Attribute, locals: &[&str]) -> bool
 fn is_listed(locals: &[&str], local: &str) -> bool
     ensures { result ≡ list_any (bytes_eq local.now) (map (λ l. l.now) locals.now) }
 {
+    is_among(locals, local)
+}
+
+fn is_among(locals: &[&str], local: &str) -> bool
+    ensures { result ≡ list_any (λ l. bytes_eq local.now l.now) locals.now }
+{
     locals.iter().any(|listed| local == *listed)
 }
 
 /// Whether all these children are texts of white space alone.
 pub fn are_blank(children: &[Child]) -> bool
     ensures { result ≡ list_all is_white_part (parts_in children.now) }
+{
+    all_blank(children)
+}
+
+fn all_blank(children: &[Child]) -> bool
+    ensures { result ≡ list_all (λ child. is_white_part (out-Child child)) children.now }
 {
     children.iter().all(is_blank)
 }

@@ -1,9 +1,11 @@
 //! Where an element stands, and the prefixes in scope there.
-ghost use Rattle.std.specs.Prelude.{◌≡◌, ◌==◌, ◌++◌, IfOk};
+ghost use Rattle.std.specs.Prelude.{◌≡◌, ◌==◌, ◌++◌, IfErr, IfOk};
 ghost use Rattle.std.specs.List.{starts_with};
-ghost use Rattle.ifmap_forms.specs.Scopes.{child_path, scope_by};
+ghost use Rattle.ifmap_forms.specs.Scopes.{child_path, place_scope, row_told, scope_by};
 
-use ifmap_elem::{Copied, Declared, Many};
+use crate::errors::FormError;
+use crate::gathering::keep_found;
+use ifmap_elem::{Copied, Declared, Many, Text};
 use ifmap_reader::Scope;
 use std::alloc::{AllocError as NoMemory, Global};
 
@@ -12,55 +14,83 @@ use std::alloc::{AllocError as NoMemory, Global};
 pub struct Place<'a> {
     /// The declarations of prefixes in the document.
     pub declared: &'a [Declared],
-    pub path: &'a [usize],
+    pub path: &'a [u32],
     /// The index of the child, where it is one.
-    pub child: Option<usize>,
+    pub child: Option<u32>,
+}
+
+impl<'a> Place<'a> {
+    /// The place of the child with that index of the element at the path. Want of memory is answered
+    /// where the index is greater than those that a path can have.
+    pub fn of_child(&self, index: usize) -> Result<Place<'a>, FormError>
+        ensures declared { IfOk result (λ place. place.declared.now ≡ self.now.declared.now) }
+        ensures path { IfOk result (λ place. place.path.now ≡ self.now.path.now) }
+        ensures child { IfOk result (λ place. place.child ≡ Some index) }
+        ensures refused { IfErr result (λ error. error ≡ FormError.NoMemory) }
+    {
+        let index = narrow(index)?;
+        Ok(Place {
+            declared: self.declared,
+            path: self.path,
+            child: Some(index),
+        })
+    }
+}
+
+/// The index of a child as paths have it. Want of memory is answered where no path can have it.
+pub fn narrow(index: usize) -> Result<u32, FormError>
+    ensures same { IfOk result (λ n. n ≡ index) }
+    ensures refused { IfErr result (λ error. error ≡ FormError.NoMemory) }
+{
+    match u32::try_from(index) {
+        Ok(index) => Ok(index),
+        Err(_) => Err(FormError::NoMemory),
+    }
 }
 
 /// The prefixes in scope at a place. The one error is want of memory.
 pub fn scope_of(alloc: Global, place: &Place<'_>) -> Result<Scope, NoMemory>
-    ensures { IfOk result (λ scope. scope ≡ scope_by place.now.declared.now
-        (place.now.path.now ++ child_path place.now.child)) }
+    ensures { IfOk result (λ scope. scope ≡ place_scope place.now.declared.now place.now.path.now
+        place.now.child) }
 {
     let path = full_path(alloc, place)?;
     scope_by(alloc, place.declared, &path)
 }
 
-fn full_path(alloc: Global, place: &Place<'_>) -> Result<Vec<usize>, NoMemory>
+fn full_path(alloc: Global, place: &Place<'_>) -> Result<Vec<u32>, NoMemory>
     ensures { IfOk result (λ path. path.items ≡ place.now.path.now ++ child_path place.now.child) }
 {
     let mut path = Vec::with_capacity(alloc, place.path.len())?;
     path.extend_from_slice(place.path)?;
-    if let Some(index) = place.child {
-        path.push(index)?;
-    }
+    keep_found(&mut path, place.child)?;
     Ok(path)
 }
 
-fn scope_by(alloc: Global, declared: &[Declared], path: &[usize]) -> Result<Scope, NoMemory>
+fn scope_by(alloc: Global, declared: &[Declared], path: &[u32]) -> Result<Scope, NoMemory>
     ensures { IfOk result (λ scope. scope ≡ scope_by declared.now path.now) }
 {
     let mut rows = Vec::new(alloc);
     for declaration in declared {
-        if is_round(&declaration.path.0, path) {
-            rows.push((
-                declaration.prefix.copy(alloc)?,
-                declaration.space.copy(alloc)?,
-            ))?;
-        }
+        let row = row_of(alloc, declaration, path)?;
+        keep_found(&mut rows, row)?;
     }
     rows.reverse();
     Ok(Scope { rows: Many(rows) })
 }
 
-// Whether the element with that path stands at or round the one with this path.
-fn is_round(at: &[u32], path: &[usize]) -> bool
-    ensures { result ≡ starts_with ◌==◌ path.now at.now }
+// What a declaration adds to the scope at a path.
+fn row_of(
+    alloc: Global,
+    declaration: &Declared,
+    path: &[u32],
+) -> Result<Option<(Text, Text)>, NoMemory>
+    ensures { IfOk result (λ row. row ≡ row_told path.now declaration.now) }
 {
-    if path.len() < at.len() {
-        return false;
+    if !path.starts_with(&declaration.path.0) {
+        return Ok(None);
     }
-    at.iter()
-        .zip(path)
-        .all(|(index, own)| *index as usize == *own)
+    Ok(Some((
+        declaration.prefix.copy(alloc)?,
+        declaration.space.copy(alloc)?,
+    )))
 }

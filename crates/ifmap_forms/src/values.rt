@@ -1,10 +1,11 @@
 //! Readers of attributes, each of which answers what its value means, or what an absent one means.
-ghost use Rattle.std.specs.Prelude.{◌++◌};
+ghost use Rattle.std.specs.Prelude.{◌≡◌, ◌&&◌, ◌^◌, nat_le, nat_lt, Some};
 ghost use Rattle.ifmap_ident.specs.Parts.{value_of};
+ghost use Rattle.ifmap_ident.specs.declared.codes.Code.TheVariants.{Failure};
 ghost use Rattle.ifmap_forms.specs.Answers.{IsChecked};
-ghost use Rattle.ifmap_forms.specs.Scopes.{child_path, scope_by};
-ghost use Rattle.ifmap_forms.specs.Values.{depth_field, field_check, kinds_field, lifetime_field, limit_field, name_field, read_filter, read_text, size_field};
-ghost use Rattle.ifmap_reader.specs.declared.scoping.Scope.{Scope};
+ghost use Rattle.ifmap_forms.specs.Checks.{need, pass};
+ghost use Rattle.ifmap_forms.specs.Scopes.{place_scope};
+ghost use Rattle.ifmap_forms.specs.Values.{depth_field, filter_check, kinds_field, lifetime_field, limit_field, name_field, read_depth, read_filter, read_kinds, read_lifetime, read_limit, read_name, read_size, read_text, size_field};
 
 use crate::errors::FormError;
 use crate::kinds::kinds_in;
@@ -12,6 +13,7 @@ use crate::numbers::number_of;
 use crate::parts::value_of;
 use crate::places::{Place, scope_of};
 use ifmap_elem::{Copied, Element, Many, Text};
+use ifmap_filter::laws::text_is_filter_or_stops;
 use ifmap_filter::{Filter, FilterError};
 use ifmap_ident::{Code, Kind};
 use std::alloc::Global;
@@ -28,21 +30,26 @@ pub fn read_text(alloc: Global, element: &Element, local: &str) -> Result<Text, 
 
 /// The name of a subscription.
 pub fn read_name(alloc: Global, element: &Element) -> Result<Text, FormError>
-    ensures { (scope : Scope) → IsChecked (field_check name_field scope element.now) result }
+    ensures { IsChecked (read_name (value_of name_field.local element.now)) result }
 {
-    match value_of(element, "name") {
-        Some(name) if is_name_length(name.len()) => Ok(name.copy(alloc)?),
-        _ => Err(FormError::Named(Code::Failure)),
+    let Some(name) = value_of(element, "name") else {
+        return Err(FormError::Named(Code::Failure));
+    };
+    if !is_name_length(name.len()) {
+        return Err(FormError::Named(Code::Failure));
     }
+    Ok(name.copy(alloc)?)
 }
 
-fn is_name_length(length: usize) -> bool {
+fn is_name_length(length: usize) -> bool
+    ensures { result ≡ (nat_le 1 length && nat_le length 1000) }
+{
     1 <= length && length <= 1000
 }
 
 /// How large a poll's result may be, where it is said.
 pub fn read_limit(element: &Element) -> Result<Option<u32>, FormError>
-    ensures { (scope : Scope) → IsChecked (field_check limit_field scope element.now) result }
+    ensures { IsChecked (read_limit (value_of limit_field.local element.now)) result }
 {
     let Some(text) = value_of(element, "max-poll-result-size") else {
         return Ok(None);
@@ -55,20 +62,29 @@ pub fn read_limit(element: &Element) -> Result<Option<u32>, FormError>
 
 /// The most links of a walk.
 pub fn read_depth(element: &Element) -> Result<u32, FormError>
-    ensures { (scope : Scope) → IsChecked (field_check depth_field scope element.now) result }
+    ensures { IsChecked (read_depth (value_of depth_field.local element.now)) result }
 {
     let Some(text) = value_of(element, "max-depth") else {
         return Ok(0);
     };
     match number_of(text.as_str()) {
-        Some(number) if number <= u32::MAX as u64 => Ok(number as u32),
-        _ => Err(FormError::Named(Code::Failure)),
+        Some(number) => depth_of(number),
+        None => Err(FormError::Named(Code::Failure)),
+    }
+}
+
+fn depth_of(number: u64) -> Result<u32, FormError>
+    ensures { IsChecked (need (nat_lt number (2 ^ 32)) Failure (pass number)) result }
+{
+    match u32::try_from(number) {
+        Ok(depth) => Ok(depth),
+        Err(_) => Err(FormError::Named(Code::Failure)),
     }
 }
 
 /// The greatest size of a result.
 pub fn read_size(element: &Element) -> Result<u64, FormError>
-    ensures { (scope : Scope) → IsChecked (field_check size_field scope element.now) result }
+    ensures { IsChecked (read_size (value_of size_field.local element.now)) result }
 {
     let Some(text) = value_of(element, "max-size") else {
         return Ok(100_000);
@@ -81,7 +97,7 @@ pub fn read_size(element: &Element) -> Result<u64, FormError>
 
 /// Whether what is published stays when the session ends.
 pub fn read_lifetime(element: &Element) -> Result<bool, FormError>
-    ensures { (scope : Scope) → IsChecked (field_check lifetime_field scope element.now) result }
+    ensures { IsChecked (read_lifetime (value_of lifetime_field.local element.now)) result }
 {
     match value_of(element, "lifetime") {
         Some(text) => lifetime_of(text.as_str()),
@@ -106,8 +122,8 @@ pub fn read_filter(
     element: &Element,
     local: &str,
 ) -> Result<Option<Filter>, FormError>
-    ensures { IsChecked (read_filter (scope_by place.now.declared.now
-        (place.now.path.now ++ child_path place.now.child)) (value_of local.now element.now)) result }
+    ensures { IsChecked (read_filter (place_scope place.now.declared.now place.now.path.now
+        place.now.child) (value_of local.now element.now)) result }
 {
     match value_of(element, local) {
         Some(text) => Ok(Some(filter_of(alloc, place, text)?)),
@@ -116,9 +132,10 @@ pub fn read_filter(
 }
 
 fn filter_of(alloc: Global, place: &Place<'_>, text: &Text) -> Result<Filter, FormError>
-    ensures { IsChecked (filter_check (scope_by place.now.declared.now
-        (place.now.path.now ++ child_path place.now.child)) text.now) result }
+    ensures { IsChecked (filter_check (place_scope place.now.declared.now place.now.path.now
+        place.now.child) text.now) result }
 {
+    text_is_filter_or_stops();
     let scope = scope_of(alloc, place)?;
     match Filter::parse(alloc, text, &scope) {
         Ok(filter) => Ok(filter),
@@ -129,7 +146,7 @@ fn filter_of(alloc: Global, place: &Place<'_>, text: &Text) -> Result<Filter, Fo
 
 /// The kinds of identifiers from which no walk goes on.
 pub fn read_kinds(alloc: Global, element: &Element) -> Result<Many<Kind>, FormError>
-    ensures { (scope : Scope) → IsChecked (field_check kinds_field scope element.now) result }
+    ensures { IsChecked (read_kinds (value_of kinds_field.local element.now)) result }
 {
     match value_of(element, "terminal-identifier-type") {
         Some(text) => kinds_in(alloc, text.as_bytes()),

@@ -1,0 +1,6 @@
+pub mod Single
+pub mod Alone
+pub mod EnvelopeLaws
+pub mod PublishedLaws
+pub mod FormLaws
+pub mod ReadingLaws

@@ -3,5 +3,4 @@ pub mod Envelopes
 pub mod RequestForms
 pub mod Means
 pub mod Answers
-pub mod Fit
 pub mod Laws

@@ -9,7 +9,7 @@ use Rattle.ifmap_forms.specs.declared.errors.FormError.TheVariants as form
 use Rattle.ifmap_requests.specs.declared.errors.Refusal.{Refusal}
 use Rattle.ifmap_requests.specs.declared.errors.Refusal.TheVariants as refusal
 use Rattle.ifmap_requests.specs.declared.requests.Request.{Request}
-use Rattle.ifmap_requests.specs.Envelopes.{SpellsEnvelope, SpellsNone, request_levels, scopes_from}
+use Rattle.ifmap_requests.specs.Envelopes.{IsEnvelope, SpellsEnvelope, SpellsNone, request_levels, scopes_from}
 use Rattle.ifmap_requests.specs.RequestForms.{request_check}
 
 -- the path names an element of the reading, for which the check finds this
@@ -53,3 +53,17 @@ IsBodyAnswer bytes (Ok request) = Means bytes (Ok request)
 IsBodyAnswer bytes (Err (refusal.Named code)) = Means bytes (Err (refusal.Named code))
 IsBodyAnswer bytes (Err refusal.Unreadable) = Means bytes (Err refusal.Unreadable)
 IsBodyAnswer bytes (Err refusal.NoMemory) = Unit {0}
+
+-- the reading is an envelope of an element for which the check finds this
+pub record ReadingFinds (reading : Reading) (found : Result Request Code) : Type 0 where
+  pub path : List ℕ
+  pub inner : Element
+  pub envelope : IsEnvelope reading.root path inner
+  pub checked : request_check (scopes_from reading path) inner found
+
+-- the answer to what was read
+abbrev pub IsReadingAnswer : Reading → Result Request Refusal → Type 0
+IsReadingAnswer reading (Ok request) = ReadingFinds reading (Ok request)
+IsReadingAnswer reading (Err (refusal.Named code)) = ReadingFinds reading (Err code)
+IsReadingAnswer reading (Err refusal.Unreadable) = (path : List ℕ) (inner : Element) → IsEnvelope reading.root path inner → ⊥
+IsReadingAnswer reading (Err refusal.NoMemory) = Unit {0}

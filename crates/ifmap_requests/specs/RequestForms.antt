@@ -1,7 +1,9 @@
 -- The table of requests: IF-MAP binding for SOAP, version 2.2, section 3.
-use Rattle.std.specs.Prelude.{ℕ, Bool, List, [], ◌∷◌, codes, Option}
+use Rattle.std.specs.Prelude.{ℕ, Bool, if◌then◌else◌, List, [], ◌∷◌, codes, Option, None, Some}
 use Rattle.std.specs.Str.{bytes_eq}
+use Rattle.ifmap_elem.specs.Building.{is_bare}
 use Rattle.ifmap_elem.specs.declared.elements.Element.{Element}
+use Rattle.ifmap_elem.specs.declared.elements.Name.{Name}
 use Rattle.ifmap_filter.specs.declared.filters.Filter.{Filter}
 use Rattle.ifmap_ident.specs.declared.codes.Code.TheVariants.{Failure, InvalidSchemaVersion}
 use Rattle.ifmap_ident.specs.declared.identifiers.Identifier.{Identifier}
@@ -9,11 +11,16 @@ use Rattle.ifmap_ident.specs.declared.items.Item.{Item}
 use Rattle.ifmap_ident.specs.declared.kinds.Kind.{Kind}
 use Rattle.ifmap_meta.specs.declared.metadata.Metadata.{Metadata}
 use Rattle.ifmap_search.specs.declared.searches.Search.{Search}
-use Rattle.ifmap_forms.specs.Checks.{Check, fail, need}
-use Rattle.ifmap_forms.specs.Items.{item_content, start_content}
+use Rattle.ifmap_reader.specs.declared.scoping.Scope.{Scope}
+use Rattle.ifmap_ident.specs.Parts.{has_only}
+use Rattle.ifmap_requests.specs.declared.searching.Bounds.{Bounds}
+use Rattle.ifmap_forms.specs.Checks.{Check, check_then, fail, need, pass}
+use Rattle.ifmap_forms.specs.Items.{item_content, start_check, start_content}
 use Rattle.ifmap_forms.specs.Scopes.{Scopes}
-use Rattle.ifmap_forms.specs.Tables.{Both, Content, Form, Table, bare_form, beside, form_or, list_of, no_attributes, no_children}
+use Rattle.ifmap_forms.specs.Tables.{Both, Content, Form, Table, bare_form, beside, both, form_or, list_of, no_attributes, no_children, parts_of}
 use Rattle.ifmap_forms.specs.Values.{Field, depth_field, filter_field, kinds_field, lifetime_field, limit_field, name_field, size_field, text_field}
+use Rattle.ifmap_requests.specs.declared.operations.Operation.{Operation}
+use Rattle.ifmap_requests.specs.declared.operations.Operation.TheVariants as operation
 use Rattle.ifmap_requests.specs.declared.publishing.PublishOp.{PublishOp}
 use Rattle.ifmap_requests.specs.declared.publishing.PublishOp.TheVariants as publish
 use Rattle.ifmap_requests.specs.declared.requests.Request.{Request}
@@ -34,11 +41,24 @@ notify_form = bare_form (codes "notify") no_attributes published_content
 abbrev pub delete_form : Form (Both (Option Filter) (Unit {0})) Item
 delete_form = bare_form (codes "delete") (beside (filter_field (codes "filter")) no_attributes) item_content
 
+abbrev pub update_of : Both Bool (Unit {0}) → Both Item (List Metadata) → PublishOp
+update_of a published = publish.Update published.first published.others a.first
+
+abbrev pub notify_of : Unit {0} → Both Item (List Metadata) → PublishOp
+notify_of none published = publish.Notify published.first published.others
+
+abbrev pub delete_of : Both (Option Filter) (Unit {0}) → Item → PublishOp
+delete_of a item = publish.Delete item a.first
+
+-- the operation that is so named
+abbrev pub operation_of : Name → Option Operation
+operation_of name =
+    if is_bare (codes "update") name then Some operation.Update else if is_bare (codes "notify") name then Some operation.Notify
+    else if is_bare (codes "delete") name then Some operation.Delete else None
+
 abbrev pub publish_op_check : Scopes → Element → Check PublishOp
 publish_op_check scopes e =
-    form_or update_form (λ a published. publish.Update published.first published.others a.first) scopes e
-    (form_or notify_form (λ none published. publish.Notify published.first published.others) scopes e
-    (form_or delete_form (λ a item. publish.Delete item a.first) scopes e
+    form_or update_form update_of scopes e (form_or notify_form notify_of scopes e (form_or delete_form delete_of scopes e
     (fail Failure)))
 
 -- ---- searches
@@ -63,6 +83,18 @@ search_from start values =
       terminal = values.others.others.others.others.first;
     }
 
+-- a search: its attributes, then those that an element may have, then its start
+abbrev pub search_check : List (List ℕ) → Scope → Element → Check Search
+search_check locals scope e =
+    check_then (search_attributes.reads scope e)
+    (λ values. need (has_only locals e) Failure
+    (check_then (start_check (parts_of e)) (λ start. pass (search_from start values))))
+
+-- the values of what the code keeps of the attributes
+abbrev pub values_of : Bounds → SearchValues
+values_of bounds =
+    both bounds.match_links (both bounds.max_depth (both bounds.max_size (both bounds.result_filter (both bounds.terminal tt))))
+
 -- ---- the operations of a subscribe
 
 abbrev pub subscription_form : Form (Both (List ℕ) SearchValues) Identifier
@@ -71,11 +103,15 @@ subscription_form = bare_form (codes "update") (beside name_field search_attribu
 abbrev pub end_form : Form (Both (List ℕ) (Unit {0})) (Unit {0})
 end_form = bare_form (codes "delete") (beside name_field no_attributes) no_children
 
+abbrev pub subscription_of : Both (List ℕ) SearchValues → Identifier → SubscribeOp
+subscription_of a start = subscribe.Update a.first (search_from start a.others)
+
+abbrev pub end_of : Both (List ℕ) (Unit {0}) → Unit {0} → SubscribeOp
+end_of a none = subscribe.Delete a.first
+
 abbrev pub subscribe_op_check : Scopes → Element → Check SubscribeOp
 subscribe_op_check scopes e =
-    form_or subscription_form (λ a start. subscribe.Update a.first (search_from start a.others)) scopes e
-    (form_or end_form (λ a none. subscribe.Delete a.first) scopes e
-    (fail Failure))
+    form_or subscription_form subscription_of scopes e (form_or end_form end_of scopes e (fail Failure))
 
 -- ---- requests
 
@@ -127,18 +163,45 @@ publisher_field = text_field (codes "ifmap-publisher-id")
 abbrev pub purge_form : Form (Both (List ℕ) WithSession) (Unit {0})
 purge_form = asking_form (codes "purgePublisher") (beside session_field (beside publisher_field no_attributes)) no_children
 
+-- what the request of that session carries
+abbrev pub session_alone : List ℕ → Both WithSession (Unit {0})
+session_alone session = both (both session tt) tt
+
+abbrev pub new_session_of : Both (Option ℕ) (Unit {0}) → Unit {0} → Request
+new_session_of a none = request.NewSession a.first
+
+abbrev pub renewal_of : WithSession → Unit {0} → Request
+renewal_of a none = request.RenewSession a.first
+
+abbrev pub end_session_of : WithSession → Unit {0} → Request
+end_session_of a none = request.EndSession a.first
+
+abbrev pub publish_of : WithSession → List PublishOp → Request
+publish_of a ops = request.Publish a.first ops
+
+abbrev pub search_of : Both (List ℕ) SearchValues → Identifier → Request
+search_of a start = request.Search a.first (search_from start a.others)
+
+abbrev pub subscribe_of : WithSession → List SubscribeOp → Request
+subscribe_of a ops = request.Subscribe a.first ops
+
+abbrev pub poll_of : WithSession → Unit {0} → Request
+poll_of a none = request.Poll a.first
+
+abbrev pub purge_of : Both (List ℕ) WithSession → Unit {0} → Request
+purge_of a none = request.PurgePublisher a.first a.others.first
+
+-- the request of an element by its name, where it is no publish
+abbrev pub other_request_check : Scopes → Element → Check Request
+other_request_check scopes e =
+    form_or new_session_form new_session_of scopes e (form_or renew_form renewal_of scopes e
+    (form_or end_session_form end_session_of scopes e (form_or poll_form poll_of scopes e
+    (form_or search_form search_of scopes e (form_or subscribe_form subscribe_of scopes e
+    (form_or purge_form purge_of scopes e (fail Failure)))))))
+
 -- the request of an element in the namespace of requests, by its name
 abbrev pub named_request_check : Scopes → Element → Check Request
-named_request_check scopes e =
-    form_or new_session_form (λ a none. request.NewSession a.first) scopes e
-    (form_or renew_form (λ a none. request.RenewSession a.first) scopes e
-    (form_or end_session_form (λ a none. request.EndSession a.first) scopes e
-    (form_or publish_form (λ a ops. request.Publish a.first ops) scopes e
-    (form_or search_form (λ a start. request.Search a.first (search_from start a.others)) scopes e
-    (form_or subscribe_form (λ a ops. request.Subscribe a.first ops) scopes e
-    (form_or poll_form (λ a none. request.Poll a.first) scopes e
-    (form_or purge_form (λ a none. request.PurgePublisher a.first a.others.first) scopes e
-    (fail Failure))))))))
+named_request_check scopes e = form_or publish_form publish_of scopes e (other_request_check scopes e)
 
 -- the request that an element means, where its scopes are these, or the code of its first defect in the order of the document;
 -- another namespace comes before all others

@@ -1,15 +1,19 @@
 //! The element of a request.
+ghost use Rattle.std.specs.Prelude.{◌≡◌, None};
+ghost use Rattle.ifmap_forms.specs.Answers.{IsChecked, IsCheckedAs};
+ghost use Rattle.ifmap_forms.specs.Scopes.{Scopes, scopes_by};
+ghost use Rattle.ifmap_forms.specs.Tables.{form_check, read_form};
+ghost use Rattle.ifmap_requests.specs.RequestForms.{new_session_form, new_session_of, other_request_check, publish_form, publish_of, purge_form, purge_of, renew_form, request_check, search_form, search_of, session_alone, subscribe_form, subscribe_of};
+
 use crate::operations::read_publish_ops;
 use crate::requests::Request;
-use crate::searching::{read_bounds, search_from};
+use crate::searching::read_search;
 use crate::subscribing::read_subscribe_ops;
 use ifmap_elem::{Element, Many, Text};
-use ifmap_forms::identifiers::read_start;
 use ifmap_forms::parts::{are_blank, has_only};
 use ifmap_forms::values::{read_limit, read_text};
 use ifmap_forms::{FormError, Place};
 use ifmap_ident::Code;
-use ifmap_search::Search;
 use std::alloc::Global;
 
 const SPACE: &str = "http://www.trustedcomputinggroup.org/2010/IFMAP/2";
@@ -19,7 +23,11 @@ pub(crate) fn read_element(
     alloc: Global,
     place: &Place<'_>,
     element: Element,
-) -> Result<Request, FormError> {
+) -> Result<Request, FormError>
+    requires { place.now.child ≡ None }
+    ensures { IsChecked (request_check (scopes_by place.now.declared.now place.now.path.now) element)
+        result }
+{
     if element.name.space.as_str() != SPACE {
         return Err(FormError::Named(Code::InvalidSchemaVersion));
     }
@@ -30,7 +38,11 @@ pub(crate) fn read_element(
 }
 
 // The request that an element means which is no publish.
-fn read_named(alloc: Global, place: &Place<'_>, element: &Element) -> Result<Request, FormError> {
+fn read_named(alloc: Global, place: &Place<'_>, element: &Element) -> Result<Request, FormError>
+    requires { place.now.child ≡ None }
+    ensures { IsChecked (other_request_check (scopes_by place.now.declared.now place.now.path.now)
+        element.now) result }
+{
     match element.name.local.as_str() {
         "newSession" => read_new_session(element),
         "renewSession" => {
@@ -45,14 +57,17 @@ fn read_named(alloc: Global, place: &Place<'_>, element: &Element) -> Result<Req
             let session = read_session(alloc, element)?;
             Ok(Request::Poll { session })
         }
-        "search" => read_search(alloc, place, element),
+        "search" => read_asked_search(alloc, place, element),
         "subscribe" => read_subscribe(alloc, place, element),
         "purgePublisher" => read_purge(alloc, element),
         _ => Err(FormError::Named(Code::Failure)),
     }
 }
 
-fn read_new_session(element: &Element) -> Result<Request, FormError> {
+fn read_new_session(element: &Element) -> Result<Request, FormError>
+    ensures { (scopes : Scopes) → IsChecked (form_check new_session_form new_session_of scopes
+        element.now) result }
+{
     let limit = read_limit(element)?;
     if !has_only(element, &["validation", "max-poll-result-size"]) {
         return Err(FormError::Named(Code::Failure));
@@ -65,7 +80,10 @@ fn read_new_session(element: &Element) -> Result<Request, FormError> {
 }
 
 // The id of the session in a request that has nothing else.
-fn read_session(alloc: Global, element: &Element) -> Result<Text, FormError> {
+fn read_session(alloc: Global, element: &Element) -> Result<Text, FormError>
+    ensures { (scopes : Scopes) → IsCheckedAs session_alone (read_form renew_form scopes element.now)
+        result }
+{
     let session = read_text(alloc, element, "session-id")?;
     if !has_only(element, &["validation", "session-id"]) {
         return Err(FormError::Named(Code::Failure));
@@ -87,20 +105,19 @@ fn read_publish(alloc: Global, place: &Place<'_>, element: Element) -> Result<Re
     Ok(Request::Publish { session, ops })
 }
 
-fn read_search(alloc: Global, place: &Place<'_>, element: &Element) -> Result<Request, FormError> {
-    let session = read_text(alloc, element, "session-id")?;
-    let search = read_session_search(alloc, place, element)?;
-    Ok(Request::Search { session, search })
-}
-
-// What a session searches.
-fn read_session_search(
+fn read_asked_search(
     alloc: Global,
     place: &Place<'_>,
     element: &Element,
-) -> Result<Search, FormError> {
-    let bounds = read_bounds(alloc, place, element)?;
-    if !has_only(
+) -> Result<Request, FormError>
+    requires { place.now.child ≡ None }
+    ensures { IsChecked (form_check search_form search_of (scopes_by place.now.declared.now
+        place.now.path.now) element.now) result }
+{
+    let session = read_text(alloc, element, "session-id")?;
+    let search = read_search(
+        alloc,
+        place,
         element,
         &[
             "validation",
@@ -111,19 +128,19 @@ fn read_session_search(
             "result-filter",
             "terminal-identifier-type",
         ],
-    ) {
-        return Err(FormError::Named(Code::Failure));
-    }
-    let children = &element.children;
-    let start = read_start(alloc, &children.0)?;
-    Ok(search_from(start, bounds))
+    )?;
+    Ok(Request::Search { session, search })
 }
 
 fn read_subscribe(
     alloc: Global,
     place: &Place<'_>,
     element: &Element,
-) -> Result<Request, FormError> {
+) -> Result<Request, FormError>
+    requires { place.now.child ≡ None }
+    ensures { IsChecked (form_check subscribe_form subscribe_of (scopes_by place.now.declared.now
+        place.now.path.now) element.now) result }
+{
     let session = read_text(alloc, element, "session-id")?;
     if !has_only(element, &["validation", "session-id"]) {
         return Err(FormError::Named(Code::Failure));
@@ -133,7 +150,9 @@ fn read_subscribe(
     Ok(Request::Subscribe { session, ops })
 }
 
-fn read_purge(alloc: Global, element: &Element) -> Result<Request, FormError> {
+fn read_purge(alloc: Global, element: &Element) -> Result<Request, FormError>
+    ensures { (scopes : Scopes) → IsChecked (form_check purge_form purge_of scopes element.now) result }
+{
     let session = read_text(alloc, element, "session-id")?;
     let publisher = read_text(alloc, element, "ifmap-publisher-id")?;
     if !has_only(element, &["validation", "session-id", "ifmap-publisher-id"]) {

@@ -5,6 +5,7 @@
 mod asking;
 mod envelopes;
 pub mod errors;
+pub mod laws;
 mod metadata;
 mod operations;
 pub mod publishing;

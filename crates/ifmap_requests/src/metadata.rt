@@ -1,14 +1,15 @@
 //! What is published: identifiers, and then a list of metadata. The elements of metadata are moved.
-ghost use Rattle.std.specs.Prelude.{◌≡◌, ◌≤◌, drop, length};
+ghost use Rattle.std.specs.Prelude.{◌≡◌, ◌∷◌, drop};
 ghost use Rattle.ifmap_elem.specs.declared.elements.Child.{out-Child};
 ghost use Rattle.ifmap_forms.specs.Answers.{IsChecked, IsCheckedAs};
+ghost use Rattle.ifmap_forms.specs.Gathering.{part_check};
 ghost use Rattle.ifmap_forms.specs.Items.{list_at, list_check};
-ghost use Rattle.ifmap_forms.specs.Scopes.{Scopes};
-ghost use Rattle.ifmap_forms.specs.Tables.{parts_in};
-ghost use Rattle.ifmap_requests.specs.Published.{metadata_check, published_content, published_parts};
+ghost use Rattle.ifmap_forms.specs.Tables.{each_element, parts_in};
+ghost use Rattle.ifmap_requests.specs.Published.{metadata_check, published_check, published_from, published_parts};
 
 use ifmap_elem::{Child, Element, Many};
 use ifmap_forms::FormError;
+use ifmap_forms::gathering::keep_found;
 use ifmap_forms::identifiers::{item_of, list_index, read_identifiers};
 use ifmap_forms::parts::{are_blank, has_only, is_white_alone};
 use ifmap_ident::{Code, Identifier, Item};
@@ -24,8 +25,7 @@ pub struct Published {
 
 // What the children of an update or of a notify say.
 pub(crate) fn read_published(alloc: Global, children: Vec<Child>) -> Result<Published, FormError>
-    ensures { (scopes : Scopes) → IsCheckedAs published_parts
-        (published_content scopes (parts_in children.items)) result }
+    ensures { IsCheckedAs published_parts (published_check (parts_in children.items)) result }
 {
     let index = list_index(&children);
     let identifiers = read_identifiers(alloc, 2, &children[..index])?;
@@ -36,11 +36,16 @@ pub(crate) fn read_published(alloc: Global, children: Vec<Child>) -> Result<Publ
 fn published_of(
     identifiers: Vec<Identifier>,
     list: Option<Many<Metadata>>,
-) -> Result<Published, FormError> {
-    match (item_of(identifiers), list) {
-        (Some(item), Some(elements)) => Ok(Published { item, elements }),
-        _ => Err(FormError::Named(Code::Failure)),
-    }
+) -> Result<Published, FormError>
+    ensures { IsCheckedAs published_parts (published_from identifiers.items list) result }
+{
+    let Some(item) = item_of(identifiers) else {
+        return Err(FormError::Named(Code::Failure));
+    };
+    let Some(elements) = list else {
+        return Err(FormError::Named(Code::Failure));
+    };
+    Ok(Published { item, elements })
 }
 
 // The metadata of the list at that index, if there is one.
@@ -87,17 +92,20 @@ fn read_elements(alloc: Global, list: Element) -> Result<Many<Metadata>, FormErr
     read_each(alloc, children)
 }
 
-fn read_each(alloc: Global, children: Vec<Child>) -> Result<Many<Metadata>, FormError> {
+fn read_each(alloc: Global, children: Vec<Child>) -> Result<Many<Metadata>, FormError>
+    ensures { IsChecked (each_element (λ index e. metadata_check e) 0 (parts_in children.items)) result }
+{
     let mut made = Vec::new(alloc);
     for child in children {
-        if let Some(metadata) = next_metadata(alloc, child)? {
-            made.push(metadata)?;
-        }
+        let found = next_metadata(alloc, child)?;
+        keep_found(&mut made, found)?;
     }
     Ok(Many(made))
 }
 
-fn next_metadata(alloc: Global, child: Child) -> Result<Option<Metadata>, FormError> {
+fn next_metadata(alloc: Global, child: Child) -> Result<Option<Metadata>, FormError>
+    ensures { IsChecked (part_check metadata_check (out-Child child)) result }
+{
     match child {
         Child::Element(element) => Ok(Some(read_metadata(alloc, element)?)),
         Child::Text(text) => {

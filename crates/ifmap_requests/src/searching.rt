@@ -1,9 +1,16 @@
-//! The attributes of a search.
+//! Searches, read from elements.
+ghost use Rattle.std.specs.Prelude.{◌≡◌, map};
+ghost use Rattle.ifmap_forms.specs.Answers.{IsChecked, IsCheckedAs};
+ghost use Rattle.ifmap_forms.specs.Scopes.{place_scope};
+ghost use Rattle.ifmap_requests.specs.RequestForms.{search_attributes, search_check, search_from, values_of};
+
 use ifmap_elem::{Element, Many};
 use ifmap_filter::Filter;
+use ifmap_forms::identifiers::read_start;
+use ifmap_forms::parts::has_only;
 use ifmap_forms::values::{read_depth, read_filter, read_kinds, read_size};
 use ifmap_forms::{FormError, Place};
-use ifmap_ident::{Identifier, Kind};
+use ifmap_ident::{Code, Identifier, Kind};
 use ifmap_search::Search;
 use std::alloc::Global;
 
@@ -17,11 +24,33 @@ pub struct Bounds {
     pub terminal: Many<Kind>,
 }
 
-pub(crate) fn read_bounds(
+// The search of an element that may have these attributes and no others.
+pub(crate) fn read_search(
     alloc: Global,
     place: &Place<'_>,
     element: &Element,
-) -> Result<Bounds, FormError> {
+    locals: &[&str],
+) -> Result<Search, FormError>
+    ensures { IsChecked (search_check (map (λ local. local.now) locals.now) (place_scope
+        place.now.declared.now place.now.path.now place.now.child) element.now) result }
+{
+    let bounds = read_bounds(alloc, place, element)?;
+    if !has_only(element, locals) {
+        return Err(FormError::Named(Code::Failure));
+    }
+    let children = &element.children;
+    let start = read_start(alloc, &children.0)?;
+    Ok(search_from(start, bounds))
+}
+
+fn read_bounds(
+    alloc: Global,
+    place: &Place<'_>,
+    element: &Element,
+) -> Result<Bounds, FormError>
+    ensures { IsCheckedAs values_of (search_attributes.reads (place_scope place.now.declared.now
+        place.now.path.now place.now.child) element.now) result }
+{
     let match_links = read_filter(alloc, place, element, "match-links")?;
     let max_depth = read_depth(element)?;
     let max_size = read_size(element)?;
@@ -36,8 +65,9 @@ pub(crate) fn read_bounds(
     })
 }
 
-// The search from an identifier.
-pub(crate) fn search_from(start: Identifier, bounds: Bounds) -> Search {
+fn search_from(start: Identifier, bounds: Bounds) -> Search
+    ensures { result ≡ search_from start (values_of bounds) }
+{
     Search {
         start,
         match_links: bounds.match_links,

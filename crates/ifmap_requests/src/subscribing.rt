@@ -1,13 +1,20 @@
 //! The operations of a subscribe.
+ghost use Rattle.std.specs.Prelude.{◌≡◌, None};
+ghost use Rattle.ifmap_elem.specs.declared.elements.Child.{out-Child};
+ghost use Rattle.ifmap_forms.specs.Answers.{IsChecked};
+ghost use Rattle.ifmap_forms.specs.Gathering.{part_check};
+ghost use Rattle.ifmap_forms.specs.Scopes.{Scopes, place_scopes, scopes_below, scopes_by};
+ghost use Rattle.ifmap_forms.specs.Tables.{form_check, list_of, parts_in};
+ghost use Rattle.ifmap_requests.specs.RequestForms.{end_form, end_of, subscribe_op_check, subscription_form, subscription_of};
+
 use crate::requests::SubscribeOp;
-use crate::searching::{read_bounds, search_from};
-use ifmap_elem::{Child, Element, Many, Text};
-use ifmap_forms::identifiers::read_start;
+use crate::searching::read_search;
+use ifmap_elem::{Child, Element, Many};
+use ifmap_forms::gathering::keep_found;
 use ifmap_forms::parts::{are_blank, has_only, is_white_alone};
 use ifmap_forms::values::read_name;
 use ifmap_forms::{FormError, Place};
 use ifmap_ident::Code;
-use ifmap_search::Search;
 use std::alloc::Global;
 
 // The operations that the children of a subscribe are, where the place is that of the subscribe.
@@ -15,12 +22,15 @@ pub(crate) fn read_subscribe_ops(
     alloc: Global,
     place: &Place<'_>,
     children: &[Child],
-) -> Result<Many<SubscribeOp>, FormError> {
+) -> Result<Many<SubscribeOp>, FormError>
+    requires { place.now.child ≡ None }
+    ensures { IsChecked (list_of subscribe_op_check (scopes_by place.now.declared.now place.now.path.now)
+        (parts_in children.now)) result }
+{
     let mut ops = Vec::new(alloc);
     for (index, child) in children.iter().enumerate() {
-        if let Some(op) = next_op(alloc, place, index, child)? {
-            ops.push(op)?;
-        }
+        let found = next_op(alloc, place, index, child)?;
+        keep_found(&mut ops, found)?;
     }
     Ok(Many(ops))
 }
@@ -30,14 +40,13 @@ fn next_op(
     place: &Place<'_>,
     index: usize,
     child: &Child,
-) -> Result<Option<SubscribeOp>, FormError> {
+) -> Result<Option<SubscribeOp>, FormError>
+    ensures { IsChecked (part_check (subscribe_op_check (scopes_below (scopes_by
+        place.now.declared.now place.now.path.now) index)) (out-Child child.now)) result }
+{
     match child {
         Child::Element(element) => {
-            let place = Place {
-                declared: place.declared,
-                path: place.path,
-                child: Some(index),
-            };
+            let place = place.of_child(index)?;
             Ok(Some(read_op(alloc, &place, element)?))
         }
         Child::Text(text) => {
@@ -50,7 +59,10 @@ fn next_op(
     }
 }
 
-fn read_op(alloc: Global, place: &Place<'_>, element: &Element) -> Result<SubscribeOp, FormError> {
+fn read_op(alloc: Global, place: &Place<'_>, element: &Element) -> Result<SubscribeOp, FormError>
+    ensures { IsChecked (subscribe_op_check (place_scopes place.now.declared.now place.now.path.now
+        place.now.child) element.now) result }
+{
     if element.name.is_bare("update") {
         return read_subscription(alloc, place, element);
     }
@@ -64,20 +76,14 @@ fn read_subscription(
     alloc: Global,
     place: &Place<'_>,
     element: &Element,
-) -> Result<SubscribeOp, FormError> {
+) -> Result<SubscribeOp, FormError>
+    ensures { IsChecked (form_check subscription_form subscription_of (place_scopes
+        place.now.declared.now place.now.path.now place.now.child) element.now) result }
+{
     let name = read_name(alloc, element)?;
-    let search = read_named_search(alloc, place, element)?;
-    Ok(SubscribeOp::Update { name, search })
-}
-
-// What a subscription with a name searches.
-fn read_named_search(
-    alloc: Global,
-    place: &Place<'_>,
-    element: &Element,
-) -> Result<Search, FormError> {
-    let bounds = read_bounds(alloc, place, element)?;
-    if !has_only(
+    let search = read_search(
+        alloc,
+        place,
         element,
         &[
             "name",
@@ -87,15 +93,13 @@ fn read_named_search(
             "result-filter",
             "terminal-identifier-type",
         ],
-    ) {
-        return Err(FormError::Named(Code::Failure));
-    }
-    let children = &element.children;
-    let start = read_start(alloc, &children.0)?;
-    Ok(search_from(start, bounds))
+    )?;
+    Ok(SubscribeOp::Update { name, search })
 }
 
-fn read_end(alloc: Global, element: &Element) -> Result<SubscribeOp, FormError> {
+fn read_end(alloc: Global, element: &Element) -> Result<SubscribeOp, FormError>
+    ensures { (scopes : Scopes) → IsChecked (form_check end_form end_of scopes element.now) result }
+{
     let name = read_name(alloc, element)?;
     if !has_only(element, &["name"]) {
         return Err(FormError::Named(Code::Failure));
