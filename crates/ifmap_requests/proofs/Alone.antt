@@ -93,16 +93,16 @@ module _ (before other after rest : List Part) (body twin : Element)
   one_body (inl blank) (inl blank') = one_split before after other rest body twin same blank blank'
   one_body (inl blank) (inr h) =
       let one = one_split before after h.3.before (h.3.after ++ (part_of twin ∷ rest)) body h.1
-          (same ∙ at_header other rest h.0 h.1 twin h.3) blank h.3.blank_before in
+      (same ∙ at_header other rest h.0 h.1 twin h.3) blank h.3.blank_before in
       absurd (names_differ (sym h.2 ∙ (ap (λ (e : Element). e.name) (sym one.elements) ∙ named)))
   one_body (inr h) (inl blank') =
       let one = one_split h.3.before (h.3.after ++ (part_of body ∷ after)) other rest h.1 twin
-          (sym (at_header before after h.0 h.1 body h.3) ∙ same) h.3.blank_before blank' in
+      (sym (at_header before after h.0 h.1 body h.3) ∙ same) h.3.blank_before blank' in
       absurd (names_differ (sym h.2 ∙ (ap (λ (e : Element). e.name) one.elements ∙ twin_named)))
   one_body (inr h) (inr k) =
       let headers = one_split h.3.before (h.3.after ++ (part_of body ∷ after)) k.3.before (k.3.after ++ (part_of twin ∷ rest)) h.1 k.1
-          (sym (at_header before after h.0 h.1 body h.3) ∙ (same ∙ at_header other rest k.0 k.1 twin k.3))
-          h.3.blank_before k.3.blank_before in
+      (sym (at_header before after h.0 h.1 body h.3) ∙ (same ∙ at_header other rest k.0 k.1 twin k.3))
+      h.3.blank_before k.3.blank_before in
       let bodies = one_split h.3.after after k.3.after rest body twin headers.afters h.3.blank_after k.3.blank_after in
       record {
         befores = h.3.parts_are ∙ ((λ i. headers.befores i ++ (part_of (headers.elements i) ∷ bodies.befores i)) ∙ sym k.3.parts_are);
@@ -123,5 +123,5 @@ pub one_envelope : (root e f : Element) (path route : List ℕ) → IsEnvelope r
 one_envelope root e f path route a b =
     let bodies = one_body_at (parts_of root) a.place b.place a.body b.body a.body_at b.body_at in
     let inner = one_alone (parts_of a.body) a.index b.index e f a.alone
-        (subst (λ (body : Element). IsAlone (parts_of body) b.index f) (sym bodies.1) b.alone) in
+    (subst (λ (body : Element). IsAlone (parts_of body) b.index f) (sym bodies.1) b.alone) in
     (a.path_is ∙ ((λ i. bodies.0 i ∷ (inner.0 i ∷ [])) ∙ sym b.path_is), inner.1)

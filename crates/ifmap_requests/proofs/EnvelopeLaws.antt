@@ -46,8 +46,8 @@ front_is_blank (part ∷ parts) = step (is_white_part part) refl
     step true e =
         let one : 1 + blank_front parts ≡ suc (blank_front parts) = omega arith in
         let whole : list_all is_white_part (take (1 + blank_front parts) (part ∷ parts))
-            ≡ (is_white_part part && list_all is_white_part (take (blank_front parts) parts)) =
-            ap (λ n. list_all is_white_part (take n (part ∷ parts))) one in
+        ≡ (is_white_part part && list_all is_white_part (take (blank_front parts) parts)) =
+        ap (λ n. list_all is_white_part (take n (part ∷ parts))) one in
         whole ∙ ((λ i. sym e i && front_is_blank parts i))
     step false e = refl
 
@@ -93,25 +93,27 @@ module _ (parts : List Part) (index : ℕ) (is : index ≡ blank_front parts) wh
   pub alone_there : is_last is_element (drop index parts) ≡ true → (e : Element) × IsAlone parts index e
   alone_there h =
       let o = open_last is_element (drop index parts) h in
-      let e = element_there o.0 o.3 in
-      (e.0, record {
-        before = take index parts;
-        after = o.1;
-        parts_are = sym (take-append-drop index parts) ∙ ap (λ (ps : List Part). take index parts ++ ps)
-            (o.2 ∙ ap (λ (part : Part). part ∷ o.1) e.1);
-        blank_before = front_blank;
-        blank_after = o.4;
-        index_is = sym (length-take-le index parts within);
-      })
+      let e = element_there o.0 o.3 in (
+        e.0,
+        record {
+          before = take index parts;
+          after = o.1;
+          parts_are = sym (take-append-drop index parts) ∙ ap (λ (ps : List Part). take index parts ++ ps)
+              (o.2 ∙ ap (λ (part : Part). part ∷ o.1) e.1);
+          blank_before = front_blank;
+          blank_after = o.4;
+          index_is = sym (length-take-le index parts within);
+        },
+      )
 
   pub none_alone : is_last is_element (drop index parts) ≡ false → (j : ℕ) (e : Element) → IsAlone parts j e → ⊥
   none_alone h j e a =
       let there : index ≡ length a.before =
-          is ∙ (ap blank_front a.parts_are ∙ front_of a.before a.after e a.blank_before) in
+      is ∙ (ap blank_front a.parts_are ∙ front_of a.before a.after e a.blank_before) in
       let rest : drop index parts ≡ part_of e ∷ a.after =
-          (λ i. drop (there i) (a.parts_are i)) ∙ drop-append_seam a.before (part_of e ∷ a.after) in
+      (λ i. drop (there i) (a.parts_are i)) ∙ drop-append_seam a.before (part_of e ∷ a.after) in
       let passes : is_last is_element (drop index parts) ≡ true =
-          ap (is_last is_element) rest ∙ close_last is_element (part_of e) a.after refl a.blank_after in
+      ap (is_last is_element) rest ∙ close_last is_element (part_of e) a.after refl a.blank_after in
       let wrong : false ≡ true = sym h ∙ passes in
       cc
 
@@ -127,17 +129,19 @@ module _ (parts : List Part) (first : ℕ) (is : first ≡ blank_front parts) wh
   pub body_first : is_last is_body (drop first parts) ≡ true → (body : Element) × IsBodyAt parts first body
   body_first h =
       let o = open_last is_body (drop first parts) h in
-      let e = element_named (codes "Body") o.0 o.3 in
-      (e.0, record {
-        before = take first parts;
-        after = o.1;
-        parts_are = sym (take-append-drop first parts) ∙ ap (λ (ps : List Part). take first parts ++ ps)
-            (o.2 ∙ ap (λ (part : Part). part ∷ o.1) e.1);
-        header = inl (front_blank parts first is);
-        blank = o.4;
-        named = e.2;
-        index_is = sym (length-take-le first parts (within parts first is));
-      })
+      let e = element_named (codes "Body") o.0 o.3 in (
+        e.0,
+        record {
+          before = take first parts;
+          after = o.1;
+          parts_are = sym (take-append-drop first parts) ∙ ap (λ (ps : List Part). take first parts ++ ps)
+              (o.2 ∙ ap (λ (part : Part). part ∷ o.1) e.1);
+          header = inl (front_blank parts first is);
+          blank = o.4;
+          named = e.2;
+          index_is = sym (length-take-le first parts (within parts first is));
+        },
+      )
 
   -- what begins at the front: a header and the parts after it
   pub record IsHeaded (header : Element) (rest : List Part) : Type 0 where
@@ -151,12 +155,15 @@ module _ (parts : List Part) (first : ℕ) (is : first ≡ blank_front parts) wh
           → (header : Element) × (rest : List Part) × IsHeaded header rest
       from [] e h = let wrong : false ≡ true = h in cc
       from (part ∷ rest) e h =
-          let n = element_named (codes "Header") part h in
-          (n.0, rest, record {
-            parts_are = sym (take-append-drop first parts)
-                ∙ ap (λ (ps : List Part). take first parts ++ ps) (e ∙ ap (λ (p : Part). p ∷ rest) n.1);
-            named = n.2;
-          })
+          let n = element_named (codes "Header") part h in (
+            n.0,
+            rest,
+            record {
+              parts_are = sym (take-append-drop first parts)
+                  ∙ ap (λ (ps : List Part). take first parts ++ ps) (e ∙ ap (λ (p : Part). p ∷ rest) n.1);
+              named = n.2;
+            },
+          )
 
   front_length : length (take first parts) ≡ first
   front_length = length-take-le first parts (within parts first is)
@@ -183,36 +190,43 @@ module _ (parts : List Part) (first : ℕ) (is : first ≡ blank_front parts) wh
         let low : k ≤ length rest = prefix_len-le-length is_white_part rest in
         let before : List Part = take first parts ++ (part_of header ∷ take k rest) in
         let split : rest ≡ take k rest ++ (part_of e.0 ∷ o.1) =
-            sym (take-append-drop k rest) ∙ ap (λ (ps : List Part). take k rest ++ ps)
-            (o.2 ∙ ap (λ (part : Part). part ∷ o.1) e.1) in
-        (e.0, record {
-          before = before;
-          after = o.1;
-          parts_are = head.parts_are ∙ ap (λ (ps : List Part). take first parts ++ (part_of header ∷ ps)) split
-              ∙ sym (append_assoc (take first parts) (part_of header ∷ take k rest) (part_of e.0 ∷ o.1));
-          header = inr (first, header, head.named, record {
-            before = take first parts;
-            after = take k rest;
-            parts_are = refl;
-            blank_before = front_blank parts first is;
-            blank_after = front_is_blank rest;
-            index_is = sym front_length;
-          });
-          blank = o.4;
-          named = e.2;
-          index_is =
-              let front = front_length in
-              let back : length (take k rest) ≡ k = length-take-le k rest low in
-              let both = length-append (take first parts) (part_of header ∷ take k rest) in
-              omega (arith, at, front, back, both);
-        })
+        sym (take-append-drop k rest) ∙ ap (λ (ps : List Part). take k rest ++ ps)
+        (o.2 ∙ ap (λ (part : Part). part ∷ o.1) e.1) in (
+          e.0,
+          record {
+            before = before;
+            after = o.1;
+            parts_are = head.parts_are ∙ ap (λ (ps : List Part). take first parts ++ (part_of header ∷ ps)) split
+                ∙ sym (append_assoc (take first parts) (part_of header ∷ take k rest) (part_of e.0 ∷ o.1));
+            header = inr (
+              first,
+              header,
+              head.named,
+              record {
+                before = take first parts;
+                after = take k rest;
+                parts_are = refl;
+                blank_before = front_blank parts first is;
+                blank_after = front_is_blank rest;
+                index_is = sym front_length;
+              },
+            );
+            blank = o.4;
+            named = e.2;
+            index_is =
+                let front = front_length in
+                let back : length (take k rest) ≡ k = length-take-le k rest low in
+                let both = length-append (take first parts) (part_of header ∷ take k rest) in
+                omega (arith, at, front, back, both);
+          },
+        )
 
   -- a body beside which no header stands is the first
   body_is_first : (j : ℕ) (body : Element) (b : IsBodyAt parts j body) → AreBlank b.before → is_last is_body (drop first parts) ≡ true
   body_is_first j body b blank =
       let there : first ≡ length b.before = is ∙ (ap blank_front b.parts_are ∙ front_of b.before b.after body blank) in
       let rest : drop first parts ≡ part_of body ∷ b.after =
-          (λ i. drop (there i) (b.parts_are i)) ∙ drop-append_seam b.before (part_of body ∷ b.after) in
+      (λ i. drop (there i) (b.parts_are i)) ∙ drop-append_seam b.before (part_of body ∷ b.after) in
       ap (is_last is_body) rest ∙ close_last is_body (part_of body) b.after (names_itself body.name (envelope_name (codes "Body")) b.named)
       b.blank
 
@@ -229,11 +243,11 @@ module _ (parts : List Part) (first : ℕ) (is : first ≡ blank_front parts) wh
       → header.name ≡ envelope_name (codes "Header") → IsAlone b.before index header → HasHeader b.after body
   has_header j body b index header named h =
       let split : parts ≡ h.before ++ (part_of header ∷ (h.after ++ (part_of body ∷ b.after))) =
-          b.parts_are ∙ at_header b.before b.after index header body h in
+      b.parts_are ∙ at_header b.before b.after index header body h in
       let there : first ≡ length h.before =
-          is ∙ (ap blank_front split ∙ front_of h.before (h.after ++ (part_of body ∷ b.after)) header h.blank_before) in
+      is ∙ (ap blank_front split ∙ front_of h.before (h.after ++ (part_of body ∷ b.after)) header h.blank_before) in
       let rest : drop first parts ≡ part_of header ∷ (h.after ++ (part_of body ∷ b.after)) =
-          (λ i. drop (there i) (split i)) ∙ drop-append_seam h.before (part_of header ∷ (h.after ++ (part_of body ∷ b.after))) in
+      (λ i. drop (there i) (split i)) ∙ drop-append_seam h.before (part_of header ∷ (h.after ++ (part_of body ∷ b.after))) in
       record {
         header = header;
         between = h.after;
@@ -271,10 +285,10 @@ module _ (parts : List Part) (first : ℕ) (is : first ≡ blank_front parts) wh
           let rest : List Part = h.between ++ (part_of body ∷ b.after) in
           let head : IsHeaded h.header rest = record { parts_are = h.parts_are; named = h.named } in
           let k : blank_front (drop (first + 1) parts) ≡ length h.between =
-              ap blank_front (after_header h.header rest head) ∙ front_of h.between b.after body h.blank in
+          ap blank_front (after_header h.header rest head) ∙ front_of h.between b.after body h.blank in
           let left : drop index parts ≡ part_of body ∷ b.after =
-              ap (λ n. drop n parts) (at ∙ ap (λ n. first + 1 + n) k) ∙ after_blank h.header rest head (length h.between)
-              ∙ drop-append_seam h.between (part_of body ∷ b.after) in
+          ap (λ n. drop n parts) (at ∙ ap (λ n. first + 1 + n) k) ∙ after_blank h.header rest head (length h.between)
+          ∙ drop-append_seam h.between (part_of body ∷ b.after) in
           contrary (is_last is_body (drop index parts)) g
           (ap (is_last is_body) left
           ∙ close_last is_body (part_of body) b.after (names_itself body.name (envelope_name (codes "Body")) b.named) b.blank)

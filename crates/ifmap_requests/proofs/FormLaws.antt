@@ -74,12 +74,16 @@ module _ {X : Type 0} (field : Field (List ℕ)) (name : Name) (passed : List (L
           opened : (b : Bool) → b ≡ has_only locals e
               → need b Failure (check_then (start_check (parts_of e)) (λ start. pass (search_from start values))) (Ok search)
               → form_check searching make_from scopes e (Ok (make text search))
-          opened true is (start, s, same) =
-              (both (both text values) start,
-              ((both text values), (text, f, (values, g, refl)),
-              found_after (inside values) (has_only locals e) Failure (Ok (both (both text values) start)) (sym is) (start, s, refl)),
-              (let one : one_search search ≡ one_search (search_from start values) = same in
-              let it : search ≡ search_from start values = cc in ap (λ (x : Search). Ok (make text x)) it))
+          opened true is (start, s, same) = (
+            both (both text values) start,
+            (
+              (both text values),
+              (text, f, (values, g, refl)),
+              found_after (inside values) (has_only locals e) Failure (Ok (both (both text values) start)) (sym is) (start, s, refl),
+            ),
+            (let one : one_search search ≡ one_search (search_from start values) = same in
+                let it : search ≡ search_from start values = cc in ap (λ (x : Search). Ok (make text x)) it),
+          )
           opened false is h = let wrong : one_search search ≡ no_search Failure = h in cc
 
       pub refused_search : (error : FormError) → IsRefused (search_check locals (scopes []) e) error
@@ -94,8 +98,11 @@ module _ {X : Type 0} (field : Field (List ℕ)) (name : Name) (passed : List (L
               → need b Failure (check_then (start_check (parts_of e)) (λ start. pass (search_from start values))) (Err code)
               → IsRefused (form_check searching make_from scopes e) (Named code)
           opened values v true is h = elim h [
-            | inl s ↦ inl (inr (both text values, (text, f, (values, v, refl)),
-                found_after (inside values) (has_only locals e) Failure (Err code) (sym is) (inl s)))
+            | inl s ↦ inl (inr (
+              both text values,
+              (text, f, (values, v, refl)),
+              found_after (inside values) (has_only locals e) Failure (Err code) (sym is) (inl s),
+            ))
             | inr s ↦ let wrong : no_search code ≡ one_search (search_from s.0 values) = s.2 in cc
           ]
           opened values v false is h =
@@ -190,6 +197,8 @@ module _ (allowed : List (List ℕ)) (scope : Scope) (e : Element) where
 
     pub whole_search : (start : Identifier) → has_only allowed e ≡ true → start_check (parts_of e) (Ok start)
         → search_check allowed scope e (Ok (search_from start (values_of bounds)))
-    whole_search start is f =
-        (values_of bounds, a,
-        found_after from_bounds (has_only allowed e) Failure (Ok (search_from start (values_of bounds))) is (start, f, refl))
+    whole_search start is f = (
+      values_of bounds,
+      a,
+      found_after from_bounds (has_only allowed e) Failure (Ok (search_from start (values_of bounds))) is (start, f, refl),
+    )

@@ -82,10 +82,10 @@ pub list_parts : (cs left : List Child) (index : ℕ) (child : Child) → index 
 list_parts cs left index child low is removed =
     let front : length (take index cs) ≡ index = length-take-le index cs (omega arith) in
     let others : drop index left ≡ drop (suc index) cs =
-        (λ i. drop (sym front i) (removed i)) ∙ drop-append_seam (take index cs) (drop (suc index) cs) in
+    (λ i. drop (sym front i) (removed i)) ∙ drop-append_seam (take index cs) (drop (suc index) cs) in
     let one : suc index ≡ index + 1 = omega arith in
     let here : drop index cs ≡ child ∷ drop (suc index) cs =
-        drop_more cs index child low ∙ (λ i. sym is i ∷ drop (sym one i) cs) in
+    drop_more cs index child low ∙ (λ i. sym is i ∷ drop (sym one i) cs) in
     (λ i. out-Child child ∷ parts_in (others i)) ∙ (sym (ap parts_in here) ∙ sym (drop-map out-Child index cs))
 
 pub no_child : (xs : List Child) → length xs ≡ 0 → xs ≡ []

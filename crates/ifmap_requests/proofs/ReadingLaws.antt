@@ -29,7 +29,7 @@ module _ (path : List ℕ) (i index : ℕ) (below : i < length path) (is : index
   pub one_further : (inner : Element) → NamesElementAt child (drop (i + 1) path) inner → NamesElementAt e (drop i path) inner
   one_further inner names =
       let left : drop i path ≡ index ∷ drop (i + 1) path =
-          drop_more path i index below ∙ ap (λ (n : ℕ). n ∷ drop (i + 1) path) (sym is) in
+      drop_more path i index below ∙ ap (λ (n : ℕ). n ∷ drop (i + 1) path) (sym is) in
       subst (λ (p : List ℕ). NamesElementAt e p inner) (sym left) (child, there, names)
 
 pub path_ends : (path : List ℕ) (i : ℕ) (e : Element) → length path ≤ i → NamesElementAt e (drop i path) e

@@ -223,7 +223,7 @@ module _ (one_filter : OneFilter) where
       → FilterDefect code scope text → ⊥
   filter_and_defect scope text filter code w d =
       let none : FilterDefect Failure scope text =
-          subst (λ (c : Code). FilterDefect c scope text) (defect_is_failure code scope text d) d in
+      subst (λ (c : Code). FilterDefect c scope text) (defect_is_failure code scope text d) d in
       none filter w
 
   filter_single : (scope : Scope) (text : List ℕ) → IsSingle (filter_check scope text)
@@ -468,4 +468,3 @@ module _ (identifier_one : (e : Element) → IsSingle (identifier_check e)) (one
   pub request_single : (scopes : Scopes) (e : Element) → IsSingle (request_check scopes e)
   request_single scopes e =
       need_single (bytes_eq e.name.space ifmap_space) InvalidSchemaVersion (named_request_check scopes e) (named_single scopes e)
-

@@ -19,6 +19,8 @@ use Rattle.ifmap_forms.specs.Items.{item_content, start_check, start_content}
 use Rattle.ifmap_forms.specs.Scopes.{Scopes}
 use Rattle.ifmap_forms.specs.Tables.{Both, Content, Form, Table, bare_form, beside, both, form_or, list_of, no_attributes, no_children, parts_of}
 use Rattle.ifmap_forms.specs.Values.{Field, depth_field, filter_field, kinds_field, lifetime_field, limit_field, name_field, size_field, text_field}
+use Rattle.ifmap_requests.specs.declared.asking.Asking.{Asking}
+use Rattle.ifmap_requests.specs.declared.asking.Asking.TheVariants as asking
 use Rattle.ifmap_requests.specs.declared.operations.Operation.{Operation}
 use Rattle.ifmap_requests.specs.declared.operations.Operation.TheVariants as operation
 use Rattle.ifmap_requests.specs.declared.publishing.PublishOp.{PublishOp}
@@ -115,6 +117,16 @@ subscribe_op_check scopes e =
 
 -- ---- requests
 
+-- the names of requests but for a publish
+abbrev pub asking_name : Asking → List ℕ
+asking_name asking.NewSession = codes "newSession"
+asking_name asking.RenewSession = codes "renewSession"
+asking_name asking.EndSession = codes "endSession"
+asking_name asking.Poll = codes "poll"
+asking_name asking.Search = codes "search"
+asking_name asking.Subscribe = codes "subscribe"
+asking_name asking.PurgePublisher = codes "purgePublisher"
+
 module _ {A C : Type 0} where
   -- a form of a request, beside whose attributes `validation` is passed over
   abbrev pub asking_form : List ℕ → Table A → Content C → Form A C
@@ -137,31 +149,31 @@ abbrev pub session_attribute : Table WithSession
 session_attribute = beside session_field no_attributes
 
 abbrev pub new_session_form : Form (Both (Option ℕ) (Unit {0})) (Unit {0})
-new_session_form = asking_form (codes "newSession") (beside limit_field no_attributes) no_children
+new_session_form = asking_form (asking_name asking.NewSession) (beside limit_field no_attributes) no_children
 
 abbrev pub renew_form : Form WithSession (Unit {0})
-renew_form = asking_form (codes "renewSession") session_attribute no_children
+renew_form = asking_form (asking_name asking.RenewSession) session_attribute no_children
 
 abbrev pub end_session_form : Form WithSession (Unit {0})
-end_session_form = asking_form (codes "endSession") session_attribute no_children
+end_session_form = asking_form (asking_name asking.EndSession) session_attribute no_children
 
 abbrev pub poll_form : Form WithSession (Unit {0})
-poll_form = asking_form (codes "poll") session_attribute no_children
+poll_form = asking_form (asking_name asking.Poll) session_attribute no_children
 
 abbrev pub publish_form : Form WithSession (List PublishOp)
 publish_form = asking_form (codes "publish") session_attribute (list_of publish_op_check)
 
 abbrev pub search_form : Form (Both (List ℕ) SearchValues) Identifier
-search_form = asking_form (codes "search") (beside session_field search_attributes) start_content
+search_form = asking_form (asking_name asking.Search) (beside session_field search_attributes) start_content
 
 abbrev pub subscribe_form : Form WithSession (List SubscribeOp)
-subscribe_form = asking_form (codes "subscribe") session_attribute (list_of subscribe_op_check)
+subscribe_form = asking_form (asking_name asking.Subscribe) session_attribute (list_of subscribe_op_check)
 
 abbrev pub publisher_field : Field (List ℕ)
 publisher_field = text_field (codes "ifmap-publisher-id")
 
 abbrev pub purge_form : Form (Both (List ℕ) WithSession) (Unit {0})
-purge_form = asking_form (codes "purgePublisher") (beside session_field (beside publisher_field no_attributes)) no_children
+purge_form = asking_form (asking_name asking.PurgePublisher) (beside session_field (beside publisher_field no_attributes)) no_children
 
 -- what the request of that session carries
 abbrev pub session_alone : List ℕ → Both WithSession (Unit {0})

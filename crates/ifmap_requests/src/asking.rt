@@ -1,15 +1,19 @@
 //! The element of a request.
-ghost use Rattle.std.specs.Prelude.{◌≡◌, None};
+ghost use Rattle.std.specs.Prelude.{◌≡◌, true, IfSome, IsNone, None};
+ghost use Rattle.std.specs.Str.{bytes_eq};
+ghost use Rattle.ifmap_filter.specs.Holding.{is_name};
+ghost use Rattle.ifmap_requests.specs.declared.asking.Asking.{Asking};
+ghost use Rattle.ifmap_requests.specs.Envelopes.{ifmap_space};
 ghost use Rattle.ifmap_forms.specs.Answers.{IsChecked, IsCheckedAs};
 ghost use Rattle.ifmap_forms.specs.Scopes.{Scopes, scopes_by};
 ghost use Rattle.ifmap_forms.specs.Tables.{form_check, read_form};
-ghost use Rattle.ifmap_requests.specs.RequestForms.{new_session_form, new_session_of, other_request_check, publish_form, publish_of, purge_form, purge_of, renew_form, request_check, search_form, search_of, session_alone, subscribe_form, subscribe_of};
+ghost use Rattle.ifmap_requests.specs.RequestForms.{asking_name, end_session_form, end_session_of, new_session_form, new_session_of, other_request_check, poll_form, poll_of, publish_form, publish_of, purge_form, purge_of, renew_form, renewal_of, request_check, search_form, search_of, session_alone, subscribe_form, subscribe_of};
 
 use crate::operations::read_publish_ops;
 use crate::requests::Request;
 use crate::searching::read_search;
 use crate::subscribing::read_subscribe_ops;
-use ifmap_elem::{Element, Many, Text};
+use ifmap_elem::{Element, Many, Name, Text};
 use ifmap_forms::parts::{are_blank, has_only};
 use ifmap_forms::values::{read_limit, read_text};
 use ifmap_forms::{FormError, Place};
@@ -28,40 +32,95 @@ pub(crate) fn read_element(
     ensures { IsChecked (request_check (scopes_by place.now.declared.now place.now.path.now) element)
         result }
 {
-    if element.name.space.as_str() != SPACE {
+    if !is_asked(&element.name) {
         return Err(FormError::Named(Code::InvalidSchemaVersion));
     }
-    if element.name.local.as_str() == "publish" {
+    if is_publish(&element.name) {
         return read_publish(alloc, place, element);
     }
     read_named(alloc, place, &element)
 }
 
+// Whether the name is in the namespace of requests.
+fn is_asked(name: &Name) -> bool
+    ensures { result ≡ bytes_eq name.now.space ifmap_space }
+{
+    name.space.as_str() == SPACE
+}
+
+fn is_publish(name: &Name) -> bool
+    ensures { result ≡ is_name name.now publish_form.name }
+{
+    is_asked(name) && name.local.as_str() == "publish"
+}
+
+/// The name of a request that is no publish.
+pub enum Asking {
+    NewSession,
+    RenewSession,
+    EndSession,
+    Poll,
+    Search,
+    Subscribe,
+    PurgePublisher,
+}
+
+fn asking_of(local: &str) -> Option<Asking>
+    ensures found { IfSome result (λ asking. local.now ≡ asking_name asking) }
+    ensures none { IsNone result → (asking : Asking) → local.now ≡ asking_name asking → ⊥ }
+{
+    match local {
+        "newSession" => Some(Asking::NewSession),
+        "renewSession" => Some(Asking::RenewSession),
+        "endSession" => Some(Asking::EndSession),
+        "poll" => Some(Asking::Poll),
+        "search" => Some(Asking::Search),
+        "subscribe" => Some(Asking::Subscribe),
+        "purgePublisher" => Some(Asking::PurgePublisher),
+        _ => None,
+    }
+}
+
 // The request that an element means which is no publish.
 fn read_named(alloc: Global, place: &Place<'_>, element: &Element) -> Result<Request, FormError>
-    requires { place.now.child ≡ None }
+    requires place { place.now.child ≡ None }
+    requires space { bytes_eq element.now.name.space ifmap_space ≡ true }
     ensures { IsChecked (other_request_check (scopes_by place.now.declared.now place.now.path.now)
         element.now) result }
 {
-    match element.name.local.as_str() {
-        "newSession" => read_new_session(element),
-        "renewSession" => {
-            let session = read_session(alloc, element)?;
-            Ok(Request::RenewSession { session })
-        }
-        "endSession" => {
-            let session = read_session(alloc, element)?;
-            Ok(Request::EndSession { session })
-        }
-        "poll" => {
-            let session = read_session(alloc, element)?;
-            Ok(Request::Poll { session })
-        }
-        "search" => read_asked_search(alloc, place, element),
-        "subscribe" => read_subscribe(alloc, place, element),
-        "purgePublisher" => read_purge(alloc, element),
-        _ => Err(FormError::Named(Code::Failure)),
+    match asking_of(element.name.local.as_str()) {
+        Some(Asking::NewSession) => read_new_session(element),
+        Some(Asking::RenewSession) => read_renewal(alloc, element),
+        Some(Asking::EndSession) => read_end_session(alloc, element),
+        Some(Asking::Poll) => read_poll(alloc, element),
+        Some(Asking::Search) => read_asked_search(alloc, place, element),
+        Some(Asking::Subscribe) => read_subscribe(alloc, place, element),
+        Some(Asking::PurgePublisher) => read_purge(alloc, element),
+        None => Err(FormError::Named(Code::Failure)),
     }
+}
+
+fn read_renewal(alloc: Global, element: &Element) -> Result<Request, FormError>
+    ensures { (scopes : Scopes) → IsChecked (form_check renew_form renewal_of scopes element.now)
+        result }
+{
+    let session = read_session(alloc, element)?;
+    Ok(Request::RenewSession { session })
+}
+
+fn read_end_session(alloc: Global, element: &Element) -> Result<Request, FormError>
+    ensures { (scopes : Scopes) → IsChecked (form_check end_session_form end_session_of scopes
+        element.now) result }
+{
+    let session = read_session(alloc, element)?;
+    Ok(Request::EndSession { session })
+}
+
+fn read_poll(alloc: Global, element: &Element) -> Result<Request, FormError>
+    ensures { (scopes : Scopes) → IsChecked (form_check poll_form poll_of scopes element.now) result }
+{
+    let session = read_session(alloc, element)?;
+    Ok(Request::Poll { session })
 }
 
 fn read_new_session(element: &Element) -> Result<Request, FormError>
@@ -132,11 +191,7 @@ fn read_asked_search(
     Ok(Request::Search { session, search })
 }
 
-fn read_subscribe(
-    alloc: Global,
-    place: &Place<'_>,
-    element: &Element,
-) -> Result<Request, FormError>
+fn read_subscribe(alloc: Global, place: &Place<'_>, element: &Element) -> Result<Request, FormError>
     requires { place.now.child ≡ None }
     ensures { IsChecked (form_check subscribe_form subscribe_of (scopes_by place.now.declared.now
         place.now.path.now) element.now) result }

@@ -122,11 +122,7 @@ fn read_notify(alloc: Global, element: Element) -> Result<PublishOp, FormError>
     Ok(PublishOp::Notify { item, elements })
 }
 
-fn read_delete(
-    alloc: Global,
-    place: &Place<'_>,
-    element: &Element,
-) -> Result<PublishOp, FormError>
+fn read_delete(alloc: Global, place: &Place<'_>, element: &Element) -> Result<PublishOp, FormError>
     ensures { IsChecked (form_check delete_form delete_of (place_scopes place.now.declared.now
         place.now.path.now place.now.child) element.now) result }
 {

@@ -43,11 +43,7 @@ pub(crate) fn read_search(
     Ok(search_from(start, bounds))
 }
 
-fn read_bounds(
-    alloc: Global,
-    place: &Place<'_>,
-    element: &Element,
-) -> Result<Bounds, FormError>
+fn read_bounds(alloc: Global, place: &Place<'_>, element: &Element) -> Result<Bounds, FormError>
     ensures { IsCheckedAs values_of (search_attributes.reads (place_scope place.now.declared.now
         place.now.path.now place.now.child) element.now) result }
 {
