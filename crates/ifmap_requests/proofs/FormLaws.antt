@@ -4,6 +4,7 @@
 -- 3. The attributes of a search.
 use Rattle.std.proofs.Common.{◌≡◌, ◌⊎◌, ◌∙◌, ℕ, ◌++◌, Bool, true, false, List, [], ◌∷◌, Option, None, Some, Result, Ok, Err, codes, inl, inr, refl, ap, subst, sym}
 use Rattle.std.specs.Prelude.{◌&&◌}
+use Rattle.std.specs.List.{list_all}
 use Rattle.std.specs.Str.{bytes_eq}
 use Rattle.ifmap_elem.specs.declared.elements.Element.{Element}
 use Rattle.ifmap_elem.specs.declared.elements.Name.{Name}
@@ -23,7 +24,7 @@ use Rattle.ifmap_forms.specs.Answers.{IsChecked, IsCheckedAs, IsRefused}
 use Rattle.ifmap_forms.specs.Checks.{Check, check_if, check_then, need, pass}
 use Rattle.ifmap_forms.specs.Items.{start_check, start_content}
 use Rattle.ifmap_forms.specs.Scopes.{Scopes}
-use Rattle.ifmap_forms.specs.Tables.{Both, Content, Form, Table, beside, both, form_check, form_or, no_attributes, parts_of}
+use Rattle.ifmap_forms.specs.Tables.{Both, Content, Form, Table, beside, both, form_check, form_or, is_white_part, no_attributes, no_children, parts_of, read_form}
 use Rattle.ifmap_forms.specs.Values.{Field, depth_field, field_check, filter_field, kinds_field, size_field}
 use Rattle.ifmap_requests.specs.declared.searching.Bounds.{Bounds}
 use Rattle.ifmap_requests.specs.RequestForms.{SearchValues, search_attributes, search_check, search_from, values_of}
@@ -202,3 +203,46 @@ module _ (allowed : List (List ℕ)) (scope : Scope) (e : Element) where
       a,
       found_after from_bounds (has_only allowed e) Failure (Ok (search_from start (values_of bounds))) is (start, f, refl),
     )
+
+-- ---- 5. a form that is read, before something is made of it
+
+module _ {A C : Type 0} (form : Form A C) (scopes : Scopes) (e : Element) where
+  abbrev only : Bool
+  only = has_only (form.passed_over ++ form.attributes.locals) e
+
+  pub read_no_attributes : (error : FormError) → IsRefused (form.attributes.reads (scopes []) e) error
+      → IsRefused (read_form form scopes e) error
+  read_no_attributes (Named code) f = inl f
+  read_no_attributes NoMemory f = tt
+
+  module _ (a : A) (f : form.attributes.reads (scopes []) e (Ok a)) where
+    abbrev children_of : Check (Both A C)
+    children_of = check_then (form.content scopes (parts_of e)) (λ c. pass (both a c))
+
+    pub read_others : only ≡ false → read_form form scopes e (Err Failure)
+    read_others is = inr (a, f, refused_test children_of only Failure is)
+
+    pub read_no_content : (error : FormError) → only ≡ true → IsRefused (form.content scopes (parts_of e)) error
+        → IsRefused (read_form form scopes e) error
+    read_no_content (Named code) is g = inr (a, f, found_after children_of only Failure (Err code) is (inl g))
+    read_no_content NoMemory is g = tt
+
+    pub read_whole : (c : C) → only ≡ true → form.content scopes (parts_of e) (Ok c) → read_form form scopes e (Ok (both a c))
+    read_whole c is g = (a, f, found_after children_of only Failure (Ok (both a c)) is (c, g, refl))
+
+-- no children but white space
+pub blank_children : (scopes : Scopes) (e : Element) → list_all is_white_part (parts_of e) ≡ true → no_children scopes (parts_of e) (Ok tt)
+blank_children scopes e is = found_after (pass tt) (list_all is_white_part (parts_of e)) Failure (Ok tt) is refl
+
+pub other_children : (scopes : Scopes) (e : Element) → list_all is_white_part (parts_of e) ≡ false
+    → no_children scopes (parts_of e) (Err Failure)
+other_children scopes e is = refused_test (pass tt) (list_all is_white_part (parts_of e)) Failure is
+
+-- what is made of a form that is read
+module _ {X A C : Type 0} (form : Form A C) (make : A → C → X) (scopes : Scopes) (e : Element) where
+  pub made_of_form : (a : A) (c : C) → read_form form scopes e (Ok (both a c)) → form_check form make scopes e (Ok (make a c))
+  made_of_form a c f = (both a c, f, refl)
+
+  pub refused_form : (error : FormError) → IsRefused (read_form form scopes e) error → IsRefused (form_check form make scopes e) error
+  refused_form (Named code) f = inl f
+  refused_form NoMemory f = tt

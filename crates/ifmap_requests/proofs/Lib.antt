@@ -1,6 +1,4 @@
 pub mod Single
-pub mod Alone
-pub mod EnvelopeLaws
 pub mod PublishedLaws
 pub mod FormLaws
 pub mod NameLaws

@@ -23,8 +23,7 @@ use Rattle.ifmap_requests.specs.declared.operations.Operation.{Operation}
 use Rattle.ifmap_requests.specs.declared.operations.Operation.TheVariants as operation
 use Rattle.ifmap_requests.specs.declared.publishing.PublishOp.{PublishOp}
 use Rattle.ifmap_requests.specs.declared.requests.Request.{Request}
-use Rattle.ifmap_requests.specs.Envelopes.{ifmap_space}
-use Rattle.ifmap_requests.specs.RequestForms.{asking_name, delete_form, delete_of, end_session_form, end_session_of, new_session_form, new_session_of, notify_form, notify_of, operation_of, other_request_check, poll_form, poll_of, publish_op_check, purge_form, purge_of, renew_form, renewal_of, search_form, search_of, subscribe_form, subscribe_of, update_form, update_of}
+use Rattle.ifmap_requests.specs.RequestForms.{ifmap_space, asking_name, delete_form, delete_of, end_session_form, end_session_of, new_session_form, new_session_of, notify_form, notify_of, operation_of, other_request_check, poll_form, poll_of, publish_op_check, purge_form, purge_of, renew_form, renewal_of, search_form, search_of, subscribe_form, subscribe_of, update_form, update_of}
 use Rattle.ifmap_requests.proofs.FormLaws.{by_form, past_form}
 
 -- ---- 1. operations

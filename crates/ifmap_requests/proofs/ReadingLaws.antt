@@ -18,8 +18,8 @@ use Rattle.ifmap_requests.specs.declared.errors.Refusal.{Refusal}
 use Rattle.ifmap_requests.specs.declared.errors.Refusal.TheVariants as refusal
 use Rattle.ifmap_requests.specs.declared.requests.Request.{Request}
 use Rattle.ifmap_requests.specs.Answers.{as_refusal}
-use Rattle.ifmap_requests.specs.Envelopes.{IsEnvelope, SpellsEnvelope, SpellsNone, request_levels, scopes_from}
-use Rattle.ifmap_requests.specs.Means.{IsBodyAnswer, IsFormAnswer, IsReadingAnswer, ReadingFinds}
+use Rattle.ifmap_envelopes.specs.Envelopes.{IsEnvelope, SpellsEnvelope, SpellsNone}
+use Rattle.ifmap_requests.specs.Means.{IsBodyAnswer, IsFormAnswer, IsReadingAnswer, ReadingFinds, request_levels, scopes_from}
 use Rattle.ifmap_requests.specs.RequestForms.{request_check}
 
 -- ---- paths

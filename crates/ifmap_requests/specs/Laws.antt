@@ -5,15 +5,9 @@ use Rattle.ifmap_elem.specs.declared.elements.Element.{Element}
 use Rattle.ifmap_ident.specs.declared.codes.Code.{Code}
 use Rattle.ifmap_requests.specs.declared.errors.Refusal.{Refusal}
 use Rattle.ifmap_requests.specs.declared.requests.Request.{Request}
-use Rattle.ifmap_requests.specs.Envelopes.{IsEnvelope}
 use Rattle.ifmap_requests.specs.Means.{Means}
 use Rattle.ifmap_requests.specs.RequestForms.{request_check}
 use Rattle.ifmap_forms.specs.Scopes.{Scopes}
-
--- an element is an envelope of one element at one path at most
-abbrev pub OneEnvelope : Type 0
-OneEnvelope =
-    (root e f : Element) (path route : List ℕ) → IsEnvelope root path e → IsEnvelope root route f → (path ≡ route) × (e ≡ f)
 
 -- an element has one request or one code, in given scopes
 abbrev pub OneRequest : Type 0

@@ -1,5 +1,4 @@
 pub mod Published
-pub mod Envelopes
 pub mod RequestForms
 pub mod Means
 pub mod Answers

@@ -9,8 +9,17 @@ use Rattle.ifmap_forms.specs.declared.errors.FormError.TheVariants as form
 use Rattle.ifmap_requests.specs.declared.errors.Refusal.{Refusal}
 use Rattle.ifmap_requests.specs.declared.errors.Refusal.TheVariants as refusal
 use Rattle.ifmap_requests.specs.declared.requests.Request.{Request}
-use Rattle.ifmap_requests.specs.Envelopes.{IsEnvelope, SpellsEnvelope, SpellsNone, request_levels, scopes_from}
+use Rattle.ifmap_envelopes.specs.Envelopes.{IsEnvelope, SpellsEnvelope, SpellsNone}
+use Rattle.ifmap_forms.specs.Scopes.{Scopes, scopes_by}
 use Rattle.ifmap_requests.specs.RequestForms.{request_check}
+
+-- how many levels a request can have
+abbrev pub request_levels : ℕ
+request_levels = 64
+
+-- the scopes from the element at a path on
+abbrev pub scopes_from : Reading → List ℕ → Scopes
+scopes_from reading path = scopes_by reading.declared path
 
 -- the path names an element of the reading, for which the check finds this
 pub record Finds (reading : Reading) (path : List ℕ) (found : Result Request Code) : Type 0 where

@@ -29,8 +29,11 @@ use Rattle.ifmap_requests.specs.declared.requests.Request.{Request}
 use Rattle.ifmap_requests.specs.declared.requests.Request.TheVariants as request
 use Rattle.ifmap_requests.specs.declared.requests.SubscribeOp.{SubscribeOp}
 use Rattle.ifmap_requests.specs.declared.requests.SubscribeOp.TheVariants as subscribe
-use Rattle.ifmap_requests.specs.Envelopes.{ifmap_space}
 use Rattle.ifmap_requests.specs.Published.{published_content}
+
+-- the namespace of requests and of responses
+abbrev pub ifmap_space : List ℕ
+ifmap_space = codes "http://www.trustedcomputinggroup.org/2010/IFMAP/2"
 
 -- ---- the operations of a publish
 

@@ -3,11 +3,10 @@ ghost use Rattle.std.specs.Prelude.{◌≡◌, true, IfSome, IsNone, None};
 ghost use Rattle.std.specs.Str.{bytes_eq};
 ghost use Rattle.ifmap_filter.specs.Holding.{is_name};
 ghost use Rattle.ifmap_requests.specs.declared.asking.Asking.{Asking};
-ghost use Rattle.ifmap_requests.specs.Envelopes.{ifmap_space};
 ghost use Rattle.ifmap_forms.specs.Answers.{IsChecked, IsCheckedAs};
 ghost use Rattle.ifmap_forms.specs.Scopes.{Scopes, scopes_by};
 ghost use Rattle.ifmap_forms.specs.Tables.{form_check, read_form};
-ghost use Rattle.ifmap_requests.specs.RequestForms.{asking_name, end_session_form, end_session_of, new_session_form, new_session_of, other_request_check, poll_form, poll_of, publish_form, publish_of, purge_form, purge_of, renew_form, renewal_of, request_check, search_form, search_of, session_alone, subscribe_form, subscribe_of};
+ghost use Rattle.ifmap_requests.specs.RequestForms.{asking_name, end_session_form, end_session_of, ifmap_space, new_session_form, new_session_of, other_request_check, poll_form, poll_of, publish_form, publish_of, purge_form, purge_of, renew_form, renewal_of, request_check, search_form, search_of, session_alone, subscribe_form, subscribe_of};
 
 use crate::operations::read_publish_ops;
 use crate::requests::Request;
@@ -131,8 +130,7 @@ fn read_new_session(element: &Element) -> Result<Request, FormError>
     if !has_only(element, &["validation", "max-poll-result-size"]) {
         return Err(FormError::Named(Code::Failure));
     }
-    let children = &element.children;
-    if !are_blank(&children.0) {
+    if !are_blank(element.children.as_slice()) {
         return Err(FormError::Named(Code::Failure));
     }
     Ok(Request::NewSession { limit })
@@ -147,8 +145,7 @@ fn read_session(alloc: Global, element: &Element) -> Result<Text, FormError>
     if !has_only(element, &["validation", "session-id"]) {
         return Err(FormError::Named(Code::Failure));
     }
-    let children = &element.children;
-    if !are_blank(&children.0) {
+    if !are_blank(element.children.as_slice()) {
         return Err(FormError::Named(Code::Failure));
     }
     Ok(session)
@@ -159,8 +156,8 @@ fn read_publish(alloc: Global, place: &Place<'_>, element: Element) -> Result<Re
     if !has_only(&element, &["validation", "session-id"]) {
         return Err(FormError::Named(Code::Failure));
     }
-    let Many(children) = element.children;
-    let ops = read_publish_ops(alloc, place, children)?;
+    let children = element.children;
+    let ops = read_publish_ops(alloc, place, children.0)?;
     Ok(Request::Publish { session, ops })
 }
 
@@ -200,8 +197,7 @@ fn read_subscribe(alloc: Global, place: &Place<'_>, element: &Element) -> Result
     if !has_only(element, &["validation", "session-id"]) {
         return Err(FormError::Named(Code::Failure));
     }
-    let children = &element.children;
-    let ops = read_subscribe_ops(alloc, place, &children.0)?;
+    let ops = read_subscribe_ops(alloc, place, element.children.as_slice())?;
     Ok(Request::Subscribe { session, ops })
 }
 
@@ -213,8 +209,7 @@ fn read_purge(alloc: Global, element: &Element) -> Result<Request, FormError>
     if !has_only(element, &["validation", "session-id", "ifmap-publisher-id"]) {
         return Err(FormError::Named(Code::Failure));
     }
-    let children = &element.children;
-    if !are_blank(&children.0) {
+    if !are_blank(element.children.as_slice()) {
         return Err(FormError::Named(Code::Failure));
     }
     Ok(Request::PurgePublisher { session, publisher })

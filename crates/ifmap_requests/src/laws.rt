@@ -1,13 +1,8 @@
 //! Laws on messages: functions that do nothing, whose contracts are the laws.
-ghost use Rattle.ifmap_requests.specs.Laws.{OneEnvelope, OneRequest};
+ghost use Rattle.ifmap_requests.specs.Laws.{OneRequest};
 
 use ifmap_filter::laws::text_is_one_filter;
 use ifmap_ident::laws::elements_have_one_answer;
-
-/// An element is an envelope of one element at most.
-pub fn envelopes_hold_one_element()
-    ensures { OneEnvelope }
-{}
 
 /// An element means one request, or has one code, in given scopes.
 pub fn elements_have_one_request_or_code()

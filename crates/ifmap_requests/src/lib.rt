@@ -3,7 +3,6 @@
 #![tactic(auto)]
 
 mod asking;
-mod envelopes;
 pub mod errors;
 pub mod laws;
 mod metadata;

@@ -88,8 +88,8 @@ fn read_elements(alloc: Global, list: Element) -> Result<Many<Metadata>, FormErr
     if !has_only(&list, &[]) {
         return Err(FormError::Named(Code::Failure));
     }
-    let Many(children) = list.children;
-    read_each(alloc, children)
+    let children = list.children;
+    read_each(alloc, children.0)
 }
 
 fn read_each(alloc: Global, children: Vec<Child>) -> Result<Many<Metadata>, FormError>

@@ -102,8 +102,8 @@ fn read_update(alloc: Global, element: Element) -> Result<PublishOp, FormError>
     if !has_only(&element, &["lifetime"]) {
         return Err(FormError::Named(Code::Failure));
     }
-    let Many(children) = element.children;
-    let Published { item, elements } = read_published(alloc, children)?;
+    let children = element.children;
+    let Published { item, elements } = read_published(alloc, children.0)?;
     Ok(PublishOp::Update {
         item,
         elements,
@@ -117,8 +117,8 @@ fn read_notify(alloc: Global, element: Element) -> Result<PublishOp, FormError>
     if !has_only(&element, &[]) {
         return Err(FormError::Named(Code::Failure));
     }
-    let Many(children) = element.children;
-    let Published { item, elements } = read_published(alloc, children)?;
+    let children = element.children;
+    let Published { item, elements } = read_published(alloc, children.0)?;
     Ok(PublishOp::Notify { item, elements })
 }
 
@@ -130,7 +130,6 @@ fn read_delete(alloc: Global, place: &Place<'_>, element: &Element) -> Result<Pu
     if !has_only(element, &["filter"]) {
         return Err(FormError::Named(Code::Failure));
     }
-    let children = &element.children;
-    let item = read_item(alloc, &children.0)?;
+    let item = read_item(alloc, element.children.as_slice())?;
     Ok(PublishOp::Delete { item, filter })
 }

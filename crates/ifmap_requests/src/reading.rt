@@ -10,11 +10,11 @@ ghost use Rattle.ifmap_requests.specs.Means.{IsBodyAnswer, IsFormAnswer, IsReadi
 ghost use Rattle.ifmap_requests.specs.RequestForms.{request_check};
 
 use crate::asking::read_element;
-use crate::envelopes::{Inner, open_envelope};
 use crate::errors::Refusal;
 use crate::requests::Request;
 use ifmap_elem::laws::bytes_spell_one_element;
 use ifmap_elem::{Child, Copied, Declared, Element, Reading};
+use ifmap_envelopes::{Inner, open_envelope};
 use ifmap_forms::places::narrow;
 use ifmap_forms::{FormError, Place};
 use ifmap_reader::{ReadError, read};

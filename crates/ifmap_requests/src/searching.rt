@@ -38,8 +38,7 @@ pub(crate) fn read_search(
     if !has_only(element, locals) {
         return Err(FormError::Named(Code::Failure));
     }
-    let children = &element.children;
-    let start = read_start(alloc, &children.0)?;
+    let start = read_start(alloc, element.children.as_slice())?;
     Ok(search_from(start, bounds))
 }
 

@@ -104,8 +104,7 @@ fn read_end(alloc: Global, element: &Element) -> Result<SubscribeOp, FormError>
     if !has_only(element, &["name"]) {
         return Err(FormError::Named(Code::Failure));
     }
-    let children = &element.children;
-    if !are_blank(&children.0) {
+    if !are_blank(element.children.as_slice()) {
         return Err(FormError::Named(Code::Failure));
     }
     Ok(SubscribeOp::Delete { name })

@@ -9,7 +9,7 @@ use Rattle.ifmap_elem.specs.Chars.{is_white}
 use Rattle.ifmap_elem.specs.declared.elements.Child.TheOpen.{Child-F}
 use Rattle.ifmap_elem.specs.declared.elements.Element.{Element}
 use Rattle.ifmap_elem.specs.declared.elements.Name.{Name}
-use Rattle.ifmap_requests.specs.Envelopes.{IsAlone, IsBodyAt, IsEnvelope, MayHoldHeader, envelope_name}
+use Rattle.ifmap_envelopes.specs.Envelopes.{IsAlone, IsBodyAt, IsEnvelope, MayHoldHeader, envelope_name}
 use Rattle.ifmap_forms.specs.Tables.{Part, is_white_part, parts_of}
 
 abbrev pub part_of : Element → Part

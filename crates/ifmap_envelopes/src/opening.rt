@@ -1,11 +1,12 @@
-//! Envelopes: what stands in one, and the way to it.
-ghost use Rattle.std.specs.Prelude.{◌≡◌, ◌∷◌, [], ◌≤◌, ℕ, List, codes, length, IfSome, IsNone};
+//! The way to the element in an envelope.
+ghost use Rattle.std.specs.Prelude.{◌≡◌, ◌∷◌, [], ◌<◌, ◌≤◌, ℕ, List, codes, drop, length, IfSome, IsNone};
+ghost use Rattle.std.specs.Bool.{OnTrue};
 ghost use Rattle.std.specs.List.{position};
 ghost use Rattle.ifmap_elem.specs.declared.elements.Child.{out-Child};
 ghost use Rattle.ifmap_elem.specs.declared.elements.Element.{Element};
 ghost use Rattle.ifmap_filter.specs.Holding.{is_name};
 ghost use Rattle.ifmap_forms.specs.Tables.{parts_in, parts_of};
-ghost use Rattle.ifmap_requests.specs.Envelopes.{IsAlone, IsBodyAt, IsEnvelope, IsPartAt, blank_front, envelope_name, is_element, is_first, is_last, is_part_named, is_solid_part};
+ghost use Rattle.ifmap_envelopes.specs.Envelopes.{IsAlone, IsBodyAt, IsEnvelope, IsPartAt, blank_front, envelope_name, is_element, is_first, is_last, is_part_named, is_solid_part};
 
 use ifmap_elem::{Child, Element, Name};
 use ifmap_forms::parts::{are_blank, is_blank};
@@ -20,8 +21,8 @@ pub struct Inner {
     pub element: Element,
 }
 
-// The element in an envelope, moved out of it; `None` exactly where the element is no envelope.
-pub(crate) fn open_envelope(root: Element) -> Option<Inner>
+/// The element in an envelope, moved out of it; `None` exactly where the element is no envelope.
+pub fn open_envelope(root: Element) -> Option<Inner>
     ensures found { IfSome result (λ inner.
         IsEnvelope root (inner.body ∷ (inner.index ∷ [])) inner.element) }
     ensures none { IsNone result → (path : List ℕ) (e : Element) → IsEnvelope root path e → ⊥ }
@@ -77,14 +78,15 @@ fn body_index(children: &[Child]) -> Option<usize>
         IsBodyAt (parts_in children.now) index body → ⊥ }
 {
     let first = blank_front(children);
-    if is_last_body(&children[first..]) {
+    let left = children_from(children, first);
+    if is_last_body(left) {
         return Some(first);
     }
-    if !begins_with_header(&children[first..]) {
+    if !begins_with_header(left) {
         return None;
     }
-    let index = first + 1 + blank_front(&children[first + 1..]);
-    if is_last_body(&children[index..]) {
+    let index = first + 1 + blank_front(children_from(children, first + 1));
+    if is_last_body(children_from(children, index)) {
         Some(index)
     } else {
         None
@@ -98,11 +100,18 @@ fn alone_index(children: &[Child]) -> Option<usize>
         IsAlone (parts_in children.now) index e → ⊥ }
 {
     let index = blank_front(children);
-    if is_last_element(&children[index..]) {
+    if is_last_element(children_from(children, index)) {
         Some(index)
     } else {
         None
     }
+}
+
+fn children_from(children: &[Child], start: usize) -> &[Child]
+    requires { start ≤ length children.now }
+    ensures { result.now ≡ drop start children.now }
+{
+    &children[start..]
 }
 
 // How many children of white space stand before the others.
@@ -143,7 +152,8 @@ fn is_last_element(children: &[Child]) -> bool
 }
 
 fn begins_with_header(children: &[Child]) -> bool
-    ensures { result ≡ is_first (is_part_named (codes "Header")) (parts_in children.now) }
+    ensures some { OnTrue result (0 < length children.now) }
+    ensures header { result ≡ is_first (is_part_named (codes "Header")) (parts_in children.now) }
 {
     match children.first() {
         Some(first) => is_element_named(first, "Header"),

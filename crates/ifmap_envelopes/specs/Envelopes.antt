@@ -1,5 +1,5 @@
 -- Envelopes of SOAP 1.2 (part 1, section 5) round one element.
-use Rattle.std.specs.Prelude.{◌≡◌, ◌⊎◌, ℕ, ◌<◌, ◌≤◌, Bool, true, false, not, ◌&&◌, Some, IsTrue, List, [], ◌∷◌, ◌++◌, codes, length}
+use Rattle.std.specs.Prelude.{◌≡◌, ◌⊎◌, ℕ, ◌≤◌, Bool, true, false, not, ◌&&◌, Some, IsTrue, List, [], ◌∷◌, ◌++◌, codes, length}
 use Rattle.std.specs.List.{list_all, prefix_len, slice_get}
 use Rattle.ifmap_elem.specs.Nesting.{nesting}
 use Rattle.ifmap_elem.specs.Spells.{Spells}
@@ -8,15 +8,10 @@ use Rattle.ifmap_elem.specs.declared.elements.Element.{Element}
 use Rattle.ifmap_elem.specs.declared.elements.Name.{Name}
 use Rattle.ifmap_elem.specs.declared.readings.Reading.{Reading}
 use Rattle.ifmap_filter.specs.Holding.{is_name}
-use Rattle.ifmap_forms.specs.Scopes.{Scopes, scopes_by}
 use Rattle.ifmap_forms.specs.Tables.{Part, is_white_part, parts_of}
 
 abbrev pub envelope_space : List ℕ
 envelope_space = codes "http://www.w3.org/2003/05/soap-envelope"
-
--- the namespace of requests and of responses
-abbrev pub ifmap_space : List ℕ
-ifmap_space = codes "http://www.trustedcomputinggroup.org/2010/IFMAP/2"
 
 abbrev pub envelope_name : List ℕ → Name
 envelope_name local = record { space = envelope_space; local = local }
@@ -56,10 +51,6 @@ pub record IsEnvelope (root : Element) (path : List ℕ) (inner : Element) : Typ
   pub alone : IsAlone (parts_of body) index inner
   pub path_is : path ≡ place ∷ (index ∷ [])
 
--- how many levels a request can have
-abbrev pub request_levels : ℕ
-request_levels = 64
-
 -- the bytes spell an envelope of so many levels at most, of the element at this path
 pub record SpellsEnvelope (levels : ℕ) (bytes : List ℕ) (reading : Reading) (path : List ℕ) (inner : Element) : Type 0 where
   pub spelled : Spells bytes reading
@@ -69,9 +60,8 @@ pub record SpellsEnvelope (levels : ℕ) (bytes : List ℕ) (reading : Reading) 
 -- ---- how an envelope is found
 
 -- the element stands there among the parts
-pub record IsPartAt (parts : List Part) (index : ℕ) (e : Element) : Type 0 where
-  pub inside : index < length parts
-  pub there : slice_get parts index ≡ Some (Child-F.Element e)
+abbrev pub IsPartAt : List Part → ℕ → Element → Type 0
+IsPartAt parts index e = slice_get parts index ≡ Some (Child-F.Element e)
 
 abbrev pub is_solid_part : Part → Bool
 is_solid_part part = not (is_white_part part)
@@ -103,6 +93,7 @@ blank_front parts = prefix_len is_white_part parts
 abbrev pub SpellsNone : ℕ → List ℕ → Type 0
 SpellsNone levels bytes = (reading : Reading) (path : List ℕ) (inner : Element) → SpellsEnvelope levels bytes reading path inner → ⊥
 
--- the scopes from the element at a path on
-abbrev pub scopes_from : Reading → List ℕ → Scopes
-scopes_from reading path = scopes_by reading.declared path
+-- an element is an envelope of one element at one path at most
+abbrev pub OneEnvelope : Type 0
+OneEnvelope =
+    (root e f : Element) (path route : List ℕ) → IsEnvelope root path e → IsEnvelope root route f → (path ≡ route) × (e ≡ f)

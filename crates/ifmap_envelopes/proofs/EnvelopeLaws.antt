@@ -3,24 +3,27 @@
 -- 2. The one element in a body.
 -- 3. The body, after a header or none.
 -- 4. What stands at an index.
-use Rattle.std.proofs.Common.{◌≡◌, ◌⊎◌, ◌∙◌, ℕ, ◌+◌, ◌-◌, ◌<◌, ◌≤◌, suc, Bool, true, false, not, cond, List, [], ◌∷◌, ◌++◌, Option, None, Some, IsTrue, codes, length, map, take, drop, inl, inr, refl, ap, arith, subst, sym, append_assoc}
-use Rattle.std.specs.Prelude.{◌&&◌, nat_lt}
+use Rattle.std.proofs.Common.{◌≡◌, ◌⊎◌, ◌∙◌, ℕ, ◌+◌, ◌-◌, ◌<◌, ◌≤◌, suc, Bool, true, false, not, cond, List, [], ◌∷◌, ◌++◌, Option, None, Some, IsTrue, codes, length, get_or, map, take, drop, inl, inr, refl, ap, arith, subst, sym, append_assoc}
+use Rattle.std.specs.Prelude.{◌&&◌, nat_lt, option_map}
 use Rattle.std.specs.List.{list_all, position, position_or_len, prefix_len, slice_get}
 use Rattle.std.specs.Str.{bytes_eq}
 use Rattle.std.proofs.lemmas.Bool.{and_parts, cases_Bool}
 use Rattle.std.proofs.lemmas.Bool.Decides.{nat_tests}
-use Rattle.std.proofs.lemmas.List.{take-append-drop, length-append, length-take-le, length-map}
+use Rattle.std.proofs.lemmas.List.{drop-map, take-append-drop, length-append, length-take-le, length-map}
+use Rattle.std.proofs.lemmas.Option.{slice_get-map, slice_get_past, slice_get_read}
 use Rattle.std.proofs.lemmas.List.Sums.{prefix_len-le-length}
 use Rattle.std.proofs.Math.Seq.{drop-append_seam, drop-append-add}
+use Rattle.ifmap_elem.specs.declared.elements.Child as the
 use Rattle.ifmap_elem.specs.declared.elements.Child.{Child, out-Child}
 use Rattle.ifmap_elem.specs.declared.elements.Child.TheOpen.{Child-F}
 use Rattle.ifmap_elem.specs.declared.elements.Element.{Element}
 use Rattle.ifmap_elem.specs.declared.elements.Name.{Name}
+use Rattle.ifmap_elem.specs.laws.FitLaws.{out_element, out_text}
 use Rattle.ifmap_filter.specs.Holding.{is_name}
 use Rattle.ifmap_forms.specs.Tables.{Part, is_white_part, parts_in}
 use Rattle.ifmap_lemmas.specs.Texts.{eq_itself, eq_tells}
-use Rattle.ifmap_requests.specs.Envelopes.{IsAlone, IsBodyAt, IsPartAt, MayHoldHeader, blank_front, envelope_name, is_element, is_first, is_last, is_part_named, is_solid_part}
-use Rattle.ifmap_requests.proofs.Alone.{AreBlank, part_of, text_of, no_element, after_text}
+use Rattle.ifmap_envelopes.specs.Envelopes.{IsAlone, IsBodyAt, IsPartAt, MayHoldHeader, blank_front, envelope_name, is_element, is_first, is_last, is_part_named, is_solid_part}
+use Rattle.ifmap_envelopes.proofs.Alone.{AreBlank, part_of, text_of, no_element, after_text}
 
 -- ---- names
 
@@ -301,13 +304,7 @@ seam (p ∷ before) part after = seam before part after
 
 stands : (parts before after : List Part) (index : ℕ) (e : Element) → parts ≡ before ++ (part_of e ∷ after) → index ≡ length before
     → IsPartAt parts index e
-stands parts before after index e is at = record {
-  inside =
-      let lengths : length parts ≡ length (before ++ (part_of e ∷ after)) = ap length is in
-      let both = length-append before (part_of e ∷ after) in
-      omega (arith, at, lengths, both);
-  there = (λ i. slice_get (is i) (at i)) ∙ seam before (part_of e) after;
-}
+stands parts before after index e is at = (λ i. slice_get (is i) (at i)) ∙ seam before (part_of e) after
 
 pub body_stands : (parts : List Part) (index : ℕ) (body : Element) → IsBodyAt parts index body → IsPartAt parts index body
 body_stands parts index body b = stands parts b.before b.after index body b.parts_are b.index_is
@@ -317,7 +314,7 @@ alone_stands parts index e a = stands parts a.before a.after index e a.parts_are
 
 one_part : (parts : List Part) (index : ℕ) (e f : Element) → IsPartAt parts index e → IsPartAt parts index f → e ≡ f
 one_part parts index e f a b =
-    let same : Some (part_of e) ≡ Some (part_of f) = sym a.there ∙ b.there in
+    let same : Some (part_of e) ≡ Some (part_of f) = sym a ∙ b in
     let parts_same : part_of e ≡ part_of f = cc in
     cc
 
@@ -330,3 +327,75 @@ pub alone_taken : (parts : List Part) (index : ℕ) (e : Element) → ((f : Elem
     → IsAlone parts index e
 alone_taken parts index e a there =
     subst (λ (f : Element). IsAlone parts index f) (one_part parts index a.0 e (alone_stands parts index a.0 a.1) there) a.1
+
+-- a child that is taken out
+
+module _ (cs : List Child) (index : ℕ) where
+  module _ (child : Child) (low : index < length cs) (is : child ≡ get_or cs index child) where
+    taken : slice_get (parts_in cs) index ≡ Some (out-Child child)
+    taken = slice_get-map out-Child cs index ∙ ap (option_map out-Child) (slice_get_read cs (length cs) index child refl low is)
+
+    pub element_taken : (e : Element) → child ≡ the.Element e → IsPartAt (parts_in cs) index e
+    element_taken e named = taken ∙ ap (λ (part : Part). Some part) (ap out-Child named ∙ out_element e)
+
+    pub text_taken : (text : List ℕ) → child ≡ the.Text text → (e : Element) → IsPartAt (parts_in cs) index e → ⊥
+    text_taken text named e there =
+        let wrong : Some (text_of text) ≡ Some (part_of e) =
+        sym (taken ∙ ap (λ (part : Part). Some part) (ap out-Child named ∙ out_text text)) ∙ there in
+        let apart : text_of text ≡ part_of e = cc in
+        cc
+
+  pub nothing_taken : length cs ≤ index → (e : Element) → IsPartAt (parts_in cs) index e → ⊥
+  nothing_taken high e there =
+      let none : slice_get (parts_in cs) index ≡ None =
+      slice_get_past (parts_in cs) index (let same = length-map cs out-Child in omega (arith, high, same)) in
+      let wrong : None ≡ Some (part_of e) = sym none ∙ there in
+      cc
+
+-- ---- 5. white space, as the code finds it
+
+front_step : (t : Bool) (n m : ℕ) → n ≡ m → cond (not (not t)) (1 + n) 0 ≡ cond t (1 + m) 0
+front_step true n m e = ap (λ k. 1 + k) e
+front_step false n m e = refl
+
+solid_places : (cs : List Child) → position_or_len (λ (c : Child). is_solid_part (out-Child c)) cs ≡ blank_front (parts_in cs)
+solid_places [] = refl
+solid_places (c ∷ cs) =
+    front_step (is_white_part (out-Child c)) (position_or_len (λ (c : Child). is_solid_part (out-Child c)) cs) (blank_front (parts_in cs))
+    (solid_places cs)
+
+abbrev at_place : ℕ → Option ℕ
+at_place n = Some n
+
+placed : (b : Bool) (k index : ℕ) → at_place index ≡ cond b (at_place k) None → index ≡ k
+placed true k index h = cc
+placed false k index h = cc
+
+unplaced : (b : Bool) (k : ℕ) → None ≡ cond b (at_place k) None → b ≡ false
+unplaced true k h = cc
+unplaced false k h = refl
+
+module _ (cs : List Child) where
+  abbrev place : ℕ
+  place = position_or_len (λ (c : Child). is_solid_part (out-Child c)) cs
+
+  pub solid_found : (index : ℕ) → at_place index ≡ position (λ (c : Child). is_solid_part (out-Child c)) cs
+      → index ≡ blank_front (parts_in cs)
+  solid_found index h = placed (nat_lt place (length cs)) place index h ∙ solid_places cs
+
+  pub no_solid : None ≡ position (λ (c : Child). is_solid_part (out-Child c)) cs → length cs ≡ blank_front (parts_in cs)
+  no_solid h =
+      let not_below : nat_lt place (length cs) ≡ false = unplaced (nat_lt place (length cs)) place h in
+      let above : length cs ≤ place = grind (arith, nat_tests) in
+      let low : place ≤ length cs = prefix_len-le-length (λ (c : Child). not (is_solid_part (out-Child c))) cs in
+      let same : length cs ≡ place = omega (arith, above, low) in
+      same ∙ solid_places cs
+
+  pub front_within : (index : ℕ) → index ≡ blank_front (parts_in cs) → index ≤ length cs
+  front_within index is =
+      let low = prefix_len-le-length is_white_part (parts_in cs) in
+      let same = length-map cs out-Child in
+      omega (arith, is, low, same)
+
+  pub parts_from : (left : List Child) (start : ℕ) → left ≡ drop start cs → parts_in left ≡ drop start (parts_in cs)
+  parts_from left start is = ap parts_in is ∙ sym (drop-map out-Child start cs)
