@@ -23,7 +23,8 @@ use Rattle.ifmap_filter.specs.Holding.{is_name}
 use Rattle.ifmap_forms.specs.Tables.{Part, is_white_part, parts_in}
 use Rattle.ifmap_lemmas.specs.Texts.{eq_itself, eq_tells}
 use Rattle.ifmap_envelopes.specs.Envelopes.{IsAlone, IsBodyAt, IsPartAt, MayHoldHeader, blank_front, envelope_name, is_element, is_first, is_last, is_part_named, is_solid_part}
-use Rattle.ifmap_envelopes.proofs.Alone.{AreBlank, part_of, text_of, no_element, after_text}
+use Rattle.ifmap_elem.specs.Chars.{is_white}
+use Rattle.ifmap_envelopes.proofs.Alone.{at_header, AreBlank, part_of, text_of, no_element, after_text}
 
 -- ---- names
 
@@ -41,18 +42,18 @@ names_itself n m e =
 
 -- ---- 1. white space at the front
 
+blank_step : (t : Bool) (part : Part) (parts : List Part) (n : ℕ) → is_white_part part ≡ t → AreBlank (take n parts)
+    → AreBlank (take (cond t (1 + n) 0) (part ∷ parts))
+blank_step true part parts n white blank =
+    let one : 1 + n ≡ suc n = omega arith in
+    let whole : list_all is_white_part (take (1 + n) (part ∷ parts)) ≡ (is_white_part part && list_all is_white_part (take n parts)) =
+    ap (λ k. list_all is_white_part (take k (part ∷ parts))) one in
+    whole ∙ (λ i. white i && blank i)
+blank_step false part parts n white blank = refl
+
 front_is_blank : (parts : List Part) → AreBlank (take (blank_front parts) parts)
 front_is_blank [] = refl
-front_is_blank (part ∷ parts) = step (is_white_part part) refl
-  where
-    step : (t : Bool) → t ≡ is_white_part part → AreBlank (take (cond t (1 + blank_front parts) 0) (part ∷ parts))
-    step true e =
-        let one : 1 + blank_front parts ≡ suc (blank_front parts) = omega arith in
-        let whole : list_all is_white_part (take (1 + blank_front parts) (part ∷ parts))
-        ≡ (is_white_part part && list_all is_white_part (take (blank_front parts) parts)) =
-        ap (λ n. list_all is_white_part (take n (part ∷ parts))) one in
-        whole ∙ ((λ i. sym e i && front_is_blank parts i))
-    step false e = refl
+front_is_blank (part ∷ parts) = blank_step (is_white_part part) part parts (blank_front parts) refl (front_is_blank parts)
 
 -- blank parts before an element are the whole front
 pub front_of : (before after : List Part) (e : Element) → AreBlank before

@@ -3,5 +3,5 @@ use Rattle.ifmap_envelopes.proofs.opening.take_child.Goals as goal
 
 pub returns-in-Element-clause-found : goal.returns-in-Element-clause-found
 returns-in-Element-clause-found c =
-    element_taken c.args.children.items c.args.index c.swap_remove.result c.if-index-ge.false c.swap_remove.ensures.value c.in-Element.child
+    element_taken c.args.children.items c.args.index c.swap_remove.result c.if-index-len.false c.swap_remove.ensures.value c.in-Element.child
     c.in-Element.is
