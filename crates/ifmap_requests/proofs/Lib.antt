@@ -3,3 +3,4 @@ pub mod PublishedLaws
 pub mod FormLaws
 pub mod NameLaws
 pub mod ReadingLaws
+pub mod PlaceLaws

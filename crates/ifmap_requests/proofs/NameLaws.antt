@@ -9,12 +9,13 @@ use Rattle.ifmap_elem.specs.Building.{is_bare}
 use Rattle.ifmap_elem.specs.declared.elements.Element.{Element}
 use Rattle.ifmap_elem.specs.declared.elements.Name.{Name}
 use Rattle.ifmap_filter.specs.Holding.{is_name}
-use Rattle.ifmap_ident.specs.declared.codes.Code.TheVariants.{Failure}
+use Rattle.ifmap_ident.specs.declared.codes.Code.TheVariants.{Failure, InvalidSchemaVersion}
 use Rattle.ifmap_lemmas.specs.Texts.{eq_tells}
 use Rattle.ifmap_forms.specs.declared.errors.FormError.{FormError}
 use Rattle.ifmap_forms.specs.declared.errors.FormError.TheVariants.{Named}
 use Rattle.ifmap_forms.specs.Answers.{IsChecked}
-use Rattle.ifmap_forms.specs.Checks.{Check, fail}
+use Rattle.ifmap_forms.specs.AnswerLaws.{refused_test}
+use Rattle.ifmap_forms.specs.Checks.{Check, fail, need}
 use Rattle.ifmap_forms.specs.Scopes.{Scopes}
 use Rattle.ifmap_forms.specs.Tables.{form_check, form_or}
 use Rattle.ifmap_requests.specs.declared.asking.Asking.{Asking}
@@ -23,7 +24,7 @@ use Rattle.ifmap_requests.specs.declared.operations.Operation.{Operation}
 use Rattle.ifmap_requests.specs.declared.operations.Operation.TheVariants as operation
 use Rattle.ifmap_requests.specs.declared.publishing.PublishOp.{PublishOp}
 use Rattle.ifmap_requests.specs.declared.requests.Request.{Request}
-use Rattle.ifmap_requests.specs.RequestForms.{ifmap_space, asking_name, delete_form, delete_of, end_session_form, end_session_of, new_session_form, new_session_of, notify_form, notify_of, operation_of, other_request_check, poll_form, poll_of, publish_op_check, purge_form, purge_of, renew_form, renewal_of, search_form, search_of, subscribe_form, subscribe_of, update_form, update_of}
+use Rattle.ifmap_requests.specs.RequestForms.{ifmap_space, asking_name, delete_form, delete_of, end_session_form, end_session_of, named_request_check, new_session_form, new_session_of, notify_form, notify_of, operation_of, other_request_check, poll_form, poll_of, publish_form, publish_of, publish_op_check, purge_form, purge_of, renew_form, renewal_of, request_check, search_form, search_of, subscribe_form, subscribe_of, update_form, update_of}
 use Rattle.ifmap_requests.proofs.FormLaws.{by_form, past_form}
 
 -- ---- 1. operations
@@ -211,3 +212,22 @@ module _ (scopes : Scopes) (e : Element) (space : bytes_eq e.name.space ifmap_sp
         (past_form search_form search_of scopes e from_subscribe (unnamed asking.Search) r
         (past_form subscribe_form subscribe_of scopes e from_purge (unnamed asking.Subscribe) r
         (past_form purge_form purge_of scopes e (fail Failure) (unnamed asking.PurgePublisher) r refl))))))
+
+-- in the namespace of requests, the name decides
+pub in_space : (scopes : Scopes) (e : Element) → bytes_eq e.name.space ifmap_space ≡ true → (r : Result Request FormError)
+    → IsChecked (named_request_check scopes e) r → IsChecked (request_check scopes e) r
+in_space scopes e is r f =
+    subst (λ (b : Bool). IsChecked (need b InvalidSchemaVersion (named_request_check scopes e)) r) (sym is) f
+
+pub in_other_space : (scopes : Scopes) (e : Element) → bytes_eq e.name.space ifmap_space ≡ false
+    → request_check scopes e (Err InvalidSchemaVersion)
+in_other_space scopes e is =
+    refused_test (named_request_check scopes e) (bytes_eq e.name.space ifmap_space) InvalidSchemaVersion is
+
+pub at_publish : (scopes : Scopes) (e : Element) → is_name e.name publish_form.name ≡ true → (r : Result Request FormError)
+    → IsChecked (form_check publish_form publish_of scopes e) r → IsChecked (named_request_check scopes e) r
+at_publish scopes e is r f = by_form publish_form publish_of scopes e (other_request_check scopes e) is r f
+
+pub past_publish : (scopes : Scopes) (e : Element) → is_name e.name publish_form.name ≡ false → (r : Result Request FormError)
+    → IsChecked (other_request_check scopes e) r → IsChecked (named_request_check scopes e) r
+past_publish scopes e is r f = past_form publish_form publish_of scopes e (other_request_check scopes e) is r f

@@ -1,9 +1,9 @@
 //! What is published: identifiers, and then a list of metadata. The elements of metadata are moved.
-ghost use Rattle.std.specs.Prelude.{◌≡◌, ◌∷◌, drop};
+ghost use Rattle.std.specs.Prelude.{◌≡◌, ◌≤◌, ◌∷◌, [], drop, length, take};
 ghost use Rattle.ifmap_elem.specs.declared.elements.Child.{out-Child};
 ghost use Rattle.ifmap_forms.specs.Answers.{IsChecked, IsCheckedAs};
 ghost use Rattle.ifmap_forms.specs.Gathering.{part_check};
-ghost use Rattle.ifmap_forms.specs.Items.{list_at, list_check};
+ghost use Rattle.ifmap_forms.specs.Items.{before_list, identifiers_check, list_at, list_check};
 ghost use Rattle.ifmap_forms.specs.Tables.{each_element, parts_in};
 ghost use Rattle.ifmap_requests.specs.Published.{metadata_check, published_check, published_from, published_parts};
 
@@ -27,10 +27,28 @@ pub struct Published {
 pub(crate) fn read_published(alloc: Global, children: Vec<Child>) -> Result<Published, FormError>
     ensures { IsCheckedAs published_parts (published_check (parts_in children.items)) result }
 {
-    let index = list_index(&children);
-    let identifiers = read_identifiers(alloc, 2, &children[..index])?;
+    let all = children.as_slice();
+    let index = list_index(all);
+    let identifiers = read_front(alloc, all, index)?;
     let list = read_list(alloc, children, index)?;
     published_of(identifiers, list)
+}
+
+// The identifiers before the list at that index.
+fn read_front(alloc: Global, children: &[Child], index: usize) -> Result<Vec<Identifier>, FormError>
+    requires cut { take index (parts_in children.now) ≡ before_list (parts_in children.now) }
+    requires within { index ≤ length children.now }
+    ensures { IsCheckedAs (λ made. made.items) (identifiers_check 2 [] (before_list (parts_in
+        children.now))) result }
+{
+    read_identifiers(alloc, 2, front(children, index))
+}
+
+fn front(children: &[Child], index: usize) -> &[Child]
+    requires { index ≤ length children.now }
+    ensures { result.now ≡ take index children.now }
+{
+    &children[..index]
 }
 
 fn published_of(

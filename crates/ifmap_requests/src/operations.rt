@@ -7,7 +7,7 @@ ghost use Rattle.ifmap_forms.specs.Scopes.{Scopes, place_scopes, scopes_below, s
 ghost use Rattle.ifmap_forms.specs.Tables.{form_check, list_of, parts_in};
 ghost use Rattle.ifmap_requests.specs.RequestForms.{delete_form, delete_of, notify_form, notify_of, operation_of, publish_op_check, update_form, update_of};
 
-use crate::metadata::{Published, read_published};
+use crate::metadata::read_published;
 use crate::publishing::PublishOp;
 use ifmap_elem::{Child, Element, Many, Name};
 use ifmap_forms::gathering::keep_found;
@@ -103,10 +103,10 @@ fn read_update(alloc: Global, element: Element) -> Result<PublishOp, FormError>
         return Err(FormError::Named(Code::Failure));
     }
     let children = element.children;
-    let Published { item, elements } = read_published(alloc, children.0)?;
+    let published = read_published(alloc, children.0)?;
     Ok(PublishOp::Update {
-        item,
-        elements,
+        item: published.item,
+        elements: published.elements,
         forever,
     })
 }
@@ -118,8 +118,11 @@ fn read_notify(alloc: Global, element: Element) -> Result<PublishOp, FormError>
         return Err(FormError::Named(Code::Failure));
     }
     let children = element.children;
-    let Published { item, elements } = read_published(alloc, children.0)?;
-    Ok(PublishOp::Notify { item, elements })
+    let published = read_published(alloc, children.0)?;
+    Ok(PublishOp::Notify {
+        item: published.item,
+        elements: published.elements,
+    })
 }
 
 fn read_delete(alloc: Global, place: &Place<'_>, element: &Element) -> Result<PublishOp, FormError>
