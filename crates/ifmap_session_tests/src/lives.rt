@@ -51,8 +51,8 @@ fn queue_error(
     name: Option<&str>,
 ) -> Result<(), Fail> {
     let serial = serial_of(sessions, client)?;
-    let error = error_of(alloc, name, Code::SearchResultsTooBig)?;
     sessions.queue_room(serial, 1)?;
+    let error = error_of(alloc, name, Code::SearchResultsTooBig)?;
     sessions.push(serial, error);
     Ok(())
 }
@@ -64,8 +64,8 @@ fn overflow_with_error(
     client: &ClientName,
 ) -> Result<(), Fail> {
     let serial = serial_of(sessions, client)?;
-    let error = error_of(alloc, None, Code::PollResultsTooBig)?;
     sessions.queue_room(serial, 1)?;
+    let error = error_of(alloc, None, Code::PollResultsTooBig)?;
     sessions.overflow(serial, error);
     Ok(())
 }
@@ -87,25 +87,36 @@ fn size_of(sessions: &Sessions, client: &ClientName) -> Result<(u64, u32), Fail>
     Ok(sessions.queue_size(serial))
 }
 
-fn take_of(sessions: &mut Sessions, client: &ClientName) -> Result<Many<PollItem>, Fail> {
-    let serial = serial_of(sessions, client)?;
-    Ok(sessions.take_all(serial))
+// Adds an error's name and code, with a semicolon after them; of what is no error, nothing.
+fn add_words(words: &mut String, item: &PollItem) -> Result<(), NoMemory> {
+    if let PollItem::Error { name, code, .. } = item {
+        if let Some(name) = name {
+            words.push_str(name.as_str())?;
+        }
+        words.push_str(" ")?;
+        words.push_str(code.name())?;
+        words.push_str(";")?;
+    }
+    Ok(())
 }
 
-// The names and codes of errors, each before a semicolon.
 fn words_of(alloc: Global, items: &Many<PollItem>) -> Result<String, NoMemory> {
     let mut words = String::new(alloc);
     for item in &items.0 {
-        if let PollItem::Error { name, code, .. } = item {
-            if let Some(name) = name {
-                words.push_str(name.as_str())?;
-            }
-            words.push_str(" ")?;
-            words.push_str(code.name())?;
-            words.push_str(";")?;
-        }
+        add_words(&mut words, item)?;
     }
     Ok(words)
+}
+
+// Takes all that is queued for a client's session, and tells the errors.
+fn take_words(
+    alloc: Global,
+    sessions: &mut Sessions,
+    client: &ClientName,
+) -> Result<String, Fail> {
+    let serial = serial_of(sessions, client)?;
+    let words = words_of(alloc, &sessions.take_all(serial));
+    Ok(words?)
 }
 
 #[test]
@@ -123,11 +134,8 @@ fn a_queue_is_filled_and_handed_out_in_order(rt: HostRuntime) -> Result<(), Fail
     assert_eq!(rt; size_of(&sessions, &client)?.0, 400);
     drop_of(alloc, &mut sessions, &client, "s")?;
     assert_eq!(rt; size_of(&sessions, &client)?.0, 200);
-    let taken = take_of(&mut sessions, &client)?;
-    assert_eq!(rt;
-        words_of(alloc, &taken)?.as_str(),
-        " SearchResultsTooBig;t SearchResultsTooBig;"
-    );
+    let words = take_words(alloc, &mut sessions, &client)?;
+    assert_eq!(rt; words.as_str(), " SearchResultsTooBig;t SearchResultsTooBig;");
     assert_eq!(rt; size_of(&sessions, &client)?.0, 0);
     Ok(())
 }
@@ -143,8 +151,8 @@ fn one_error_stands_in_place_of_a_queue(rt: HostRuntime) -> Result<(), Fail> {
     }
     overflow_with_error(alloc, &mut sessions, &client)?;
     assert_eq!(rt; size_of(&sessions, &client)?.0, 100);
-    let taken = take_of(&mut sessions, &client)?;
-    assert_eq!(rt; words_of(alloc, &taken)?.as_str(), " PollResultsTooBig;");
+    let words = take_words(alloc, &mut sessions, &client)?;
+    assert_eq!(rt; words.as_str(), " PollResultsTooBig;");
     Ok(())
 }
 
@@ -162,16 +170,24 @@ fn owner_of<'a>(
 }
 
 #[test]
-fn an_ended_session_is_nobodys(rt: HostRuntime) -> Result<(), Fail> {
+fn ids_are_compared_whole(rt: HostRuntime) -> Result<(), Fail> {
     let alloc = rt.alloc();
     let mut sessions = Sessions::new(alloc);
     let client = client_of(alloc, "c1")?;
     begin_for(alloc, &mut sessions, &client, 1, 0)?;
     assert_eq!(rt; owner_of(alloc, &sessions, FIRST)?, Some((1, "c1")));
-    // Ids are compared whole.
     for id in ["", "1", "1-", "2-00000000-0000-0000-0000-000000000001"] {
         assert_eq!(rt; owner_of(alloc, &sessions, id)?, None, "of {id}");
     }
+    Ok(())
+}
+
+#[test]
+fn an_ended_session_is_nobodys(rt: HostRuntime) -> Result<(), Fail> {
+    let alloc = rt.alloc();
+    let mut sessions = Sessions::new(alloc);
+    let client = client_of(alloc, "c1")?;
+    begin_for(alloc, &mut sessions, &client, 1, 0)?;
     assert_eq!(rt; sessions.of_client(&client), Some(1));
     let serial = serial_of(&sessions, &client)?;
     sessions.end(serial);
