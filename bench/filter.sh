@@ -16,7 +16,7 @@ cat > "$work/crates/filter_bench/src/main.rt" <<'RATTLE'
 use ifmap_elem::{Attribute, Child, Element, Many, Name, Text};
 use ifmap_filter::{Filter, Predicate, Test};
 use ifmap_reader::Scope;
-use std::alloc::{AllocError, Global};
+use std::alloc::{AllocError as NoMemory, Global};
 use std::rt::Runtime;
 use std::time::Instant;
 use std::{env, io};
@@ -29,13 +29,13 @@ const NAMES: usize = 10_000;
 
 const CALLS: usize = 10_000;
 
-fn leaf(alloc: Global, local: &str) -> Result<Child, AllocError> {
+fn leaf(alloc: Global, local: &str) -> Result<Child, NoMemory> {
     let mut members = Vec::new(alloc);
     members.push(Child::Text(Text::from_str(alloc, "some words that a sensor wrote")?))?;
     Ok(Child::Element(Element::bare(alloc, local, Vec::new(alloc), members)?))
 }
 
-fn metadata(alloc: Global) -> Result<Element, AllocError> {
+fn metadata(alloc: Global) -> Result<Element, NoMemory> {
     let mut attributes = Vec::new(alloc);
     let mut members = Vec::new(alloc);
     for local in LOCALS {
@@ -48,19 +48,19 @@ fn metadata(alloc: Global) -> Result<Element, AllocError> {
     Ok(Element { name, attributes, children })
 }
 
-fn attribute_asked(alloc: Global, value: &str) -> Result<Predicate, AllocError> {
+fn attribute_asked(alloc: Global, value: &str) -> Result<Predicate, NoMemory> {
     let local = Text::from_str(alloc, "vulnerability-uri")?;
     let value = Text::from_str(alloc, value)?;
     Ok(Predicate::Attr { local, value })
 }
 
-fn child_asked(alloc: Global) -> Result<Predicate, AllocError> {
+fn child_asked(alloc: Global) -> Result<Predicate, NoMemory> {
     let name = Name::bare(alloc, "vulnerability-uri")?;
     let value = Text::from_str(alloc, "some words that nobody wrote")?;
     Ok(Predicate::Child { name, value })
 }
 
-fn ten(alloc: Global) -> Result<Filter, AllocError> {
+fn ten(alloc: Global) -> Result<Filter, NoMemory> {
     let mut parts = Vec::new(alloc);
     for _ in 0..3 {
         parts.push(attribute_asked(alloc, "other")?)?;
@@ -76,7 +76,7 @@ fn ten(alloc: Global) -> Result<Filter, AllocError> {
     Ok(Filter { tests })
 }
 
-fn names(alloc: Global) -> Result<Text, AllocError> {
+fn names(alloc: Global) -> Result<Text, NoMemory> {
     let mut text = Text::from_str(alloc, "m:event")?;
     for _ in 1..NAMES {
         text.push_str(" or m:event")?;
@@ -84,7 +84,7 @@ fn names(alloc: Global) -> Result<Text, AllocError> {
     Ok(text)
 }
 
-fn scope(alloc: Global) -> Result<Scope, AllocError> {
+fn scope(alloc: Global) -> Result<Scope, NoMemory> {
     let mut rows = Vec::new(alloc);
     rows.push((Text::from_str(alloc, "m")?, Text::from_str(alloc, META)?))?;
     Ok(Scope { rows: Many(rows) })

@@ -17,26 +17,26 @@ use ifmap_ident::{Identifier, Item};
 use ifmap_io::Moment;
 use ifmap_meta::{ClientName, Life, Metadata};
 use ifmap_reader::read;
-use std::alloc::{AllocError, Global};
+use std::alloc::{AllocError as NoMemory, Global};
 use std::io;
 use std::rt::Runtime;
 use std::time::Instant;
 
 const ROLE: &str = "<m:role xmlns:m=\"http://www.trustedcomputinggroup.org/2010/IFMAP-METADATA/2\" ifmap-cardinality=\"multiValue\"><name>employee</name></m:role>";
 
-fn role(alloc: Global) -> Result<Metadata, AllocError>
+fn role(alloc: Global) -> Result<Metadata, NoMemory>
     ensures { IfOk result IsMetadata }
 {
     let Ok(reading) = read(alloc, ROLE.as_bytes(), 64) else {
-        return Err(AllocError);
+        return Err(NoMemory);
     };
     match Metadata::from_element(alloc, reading.root) {
         Ok(metadata) => Ok(metadata),
-        Err(_) => Err(AllocError),
+        Err(_) => Err(NoMemory),
     }
 }
 
-fn item(alloc: Global, number: u32) -> Result<Item, AllocError>
+fn item(alloc: Global, number: u32) -> Result<Item, NoMemory>
     ensures { IfOk result IsItem }
 {
     let [a, b, c, d] = number.wrapping_mul(2_654_435_761).to_be_bytes();
@@ -44,15 +44,15 @@ fn item(alloc: Global, number: u32) -> Result<Item, AllocError>
     Ok(Item::One(Identifier::MacAddress { value: [0, 2, a, b, c, d], domain }))
 }
 
-fn attachment_of(alloc: Global, number: u32) -> Result<KeptAttachment, AllocError> {
-    let publisher = ClientName::new(Text::from_str(alloc, "pdp-17")?).ok_or(AllocError)?;
-    let moment = Moment::new(1_000_000_000).ok_or(AllocError)?;
+fn attachment_of(alloc: Global, number: u32) -> Result<KeptAttachment, NoMemory> {
+    let publisher = ClientName::new(Text::from_str(alloc, "pdp-17")?).ok_or(NoMemory)?;
+    let moment = Moment::new(1_000_000_000).ok_or(NoMemory)?;
     let life = Life::Session(u64::from(number % 2));
     let stored = role(alloc)?.stamp(alloc, &publisher, moment, life)?;
     KeptAttachment::new(alloc, item(alloc, number)?, stored)
 }
 
-fn attachments_of(alloc: Global, count: u32) -> Result<Vec<KeptAttachment>, AllocError> {
+fn attachments_of(alloc: Global, count: u32) -> Result<Vec<KeptAttachment>, NoMemory> {
     let mut attachments = Vec::new(alloc);
     for number in 0..count {
         attachments.push(attachment_of(alloc, number)?)?;
@@ -60,7 +60,7 @@ fn attachments_of(alloc: Global, count: u32) -> Result<Vec<KeptAttachment>, Allo
     Ok(attachments)
 }
 
-fn attach(graph: &mut Graph, attachments: Vec<KeptAttachment>) -> Result<(), AllocError> {
+fn attach(graph: &mut Graph, attachments: Vec<KeptAttachment>) -> Result<(), NoMemory> {
     for attachment in attachments {
         graph.reserve(1)?;
         graph.attach(attachment);
@@ -76,7 +76,7 @@ fn count_found(graph: &Graph, items: &[Item]) -> usize {
     found
 }
 
-fn items(alloc: Global, count: u32) -> Result<Vec<Item>, AllocError> {
+fn items(alloc: Global, count: u32) -> Result<Vec<Item>, NoMemory> {
     let mut items = Vec::new(alloc);
     for number in 0..count {
         items.push(item(alloc, number)?)?;

@@ -34,7 +34,7 @@ ghost use Rattle.std.specs.Prelude.{◌≡◌, ◌+◌, ◌*◌, ◌%◌, ◌^�
 ghost use Rattle.ifmap_hall.specs.Passes.{IsOf, view_of};
 
 use ifmap_hall::{Asked, Hall, Machine, Pass};
-use std::alloc::{AllocError, Global};
+use std::alloc::{AllocError as NoMemory, Global};
 use std::rt::Runtime;
 use std::sync::Wait;
 use std::thread::Threads;
@@ -70,7 +70,7 @@ impl Machine for Counter {
         false
     }
 
-    fn step(&mut self, _alloc: Global, event: &u64) -> Result<u64, AllocError> {
+    fn step(&mut self, _alloc: Global, event: &u64) -> Result<u64, NoMemory> {
         pause(*event);
         let before = self.count;
         self.count = before.wrapping_add(1);
@@ -134,7 +134,7 @@ fn hand_out(
     count: u64,
     asks: u64,
     pauses: u64,
-) -> Result<Vec<Worker>, AllocError>
+) -> Result<Vec<Worker>, NoMemory>
     requires pass { IsOf hall.now pass.old × (1 ≤ (view_of pass.old).terms.heaviest) }
     ensures { IfOk result (λ v. All (λ s. IsOf hall.now s.pass
         × (1 ≤ (view_of s.pass).terms.heaviest)) v.items) }

@@ -12,7 +12,7 @@ cat > "$work/crates/http_bench/src/main.rt" <<'RATTLE'
 use httparse::{EMPTY_HEADER, Request};
 use ifmap_http::{Got, Sent, Wire};
 use ifmap_io::{Door, Failed, Link, MemoryLink, Sink, Source, TcpDoor, TcpLink};
-use std::alloc::{AllocError, Global};
+use std::alloc::{AllocError as NoMemory, Global};
 use std::io;
 use std::net::{TcpListener, TcpStream};
 use std::time::{Clock, Instant};
@@ -22,13 +22,13 @@ const POSTS: u32 = 200_000;
 const EXCHANGES: u32 = 20_000;
 const DRIPS: u32 = 200;
 
-fn post(alloc: Global) -> Result<Vec<u8>, AllocError> {
+fn post(alloc: Global) -> Result<Vec<u8>, NoMemory> {
     let mut post = HEAD.to_vec(alloc)?;
     post.resize(HEAD.len() + 134, b'x')?;
     Ok(post)
 }
 
-fn posts(alloc: Global, count: u32) -> Result<Vec<u8>, AllocError> {
+fn posts(alloc: Global, count: u32) -> Result<Vec<u8>, NoMemory> {
     let one = post(alloc)?;
     let mut all = Vec::new(alloc);
     for _ in 0..count {

@@ -17,7 +17,7 @@ use ifmap_ident::{Identifier, Item};
 use ifmap_io::Moment;
 use ifmap_meta::{ClientName, Life, Metadata, Stored};
 use ifmap_reader::read;
-use std::alloc::{AllocError, Global};
+use std::alloc::{AllocError as NoMemory, Global};
 use std::fs;
 use std::io;
 use std::rt::Runtime;
@@ -25,19 +25,19 @@ use std::time::Instant;
 
 const ROLE: &str = "<m:role xmlns:m=\"http://www.trustedcomputinggroup.org/2010/IFMAP-METADATA/2\" ifmap-cardinality=\"multiValue\"><name>employee</name></m:role>";
 
-fn role(alloc: Global) -> Result<Metadata, AllocError>
+fn role(alloc: Global) -> Result<Metadata, NoMemory>
     ensures { IfOk result IsMetadata }
 {
     let Ok(reading) = read(alloc, ROLE.as_bytes(), 64) else {
-        return Err(AllocError);
+        return Err(NoMemory);
     };
     match Metadata::from_element(alloc, reading.root) {
         Ok(metadata) => Ok(metadata),
-        Err(_) => Err(AllocError),
+        Err(_) => Err(NoMemory),
     }
 }
 
-fn item(alloc: Global, number: u32) -> Result<Item, AllocError>
+fn item(alloc: Global, number: u32) -> Result<Item, NoMemory>
     ensures { IfOk result IsItem }
 {
     let [a, b, c, d] = number.wrapping_mul(2_654_435_761).to_be_bytes();
@@ -45,13 +45,13 @@ fn item(alloc: Global, number: u32) -> Result<Item, AllocError>
     Ok(Item::One(Identifier::MacAddress { value: [0, 2, a, b, c, d], domain }))
 }
 
-fn stored(alloc: Global, metadata: &Metadata, publisher: &ClientName) -> Result<Stored, AllocError> {
-    let moment = Moment::new(1_000_000_000).ok_or(AllocError)?;
+fn stored(alloc: Global, metadata: &Metadata, publisher: &ClientName) -> Result<Stored, NoMemory> {
+    let moment = Moment::new(1_000_000_000).ok_or(NoMemory)?;
     metadata.stamp(alloc, publisher, moment, Life::Session(1))
 }
 
-fn attachment(alloc: Global, number: u32, publisher: &ClientName) -> Result<KeptAttachment, AllocError> {
-    let moment = Moment::new(1_000_000_000).ok_or(AllocError)?;
+fn attachment(alloc: Global, number: u32, publisher: &ClientName) -> Result<KeptAttachment, NoMemory> {
+    let moment = Moment::new(1_000_000_000).ok_or(NoMemory)?;
     let kept = role(alloc)?.stamp(alloc, publisher, moment, Life::Session(1))?;
     KeptAttachment::new(alloc, item(alloc, number)?, kept)
 }
@@ -64,7 +64,7 @@ fn resident<R: Runtime>(rt: &R) -> io::Result<u64> {
     Ok(words.next().and_then(|word| word.parse::<u64>().ok()).unwrap_or(0))
 }
 
-fn attachments(alloc: Global, publisher: &ClientName, count: u32) -> Result<Vec<KeptAttachment>, AllocError> {
+fn attachments(alloc: Global, publisher: &ClientName, count: u32) -> Result<Vec<KeptAttachment>, NoMemory> {
     let mut all = Vec::with_capacity(alloc, count as usize)?;
     for number in 0..count {
         all.push(attachment(alloc, number, publisher)?)?;
@@ -72,7 +72,7 @@ fn attachments(alloc: Global, publisher: &ClientName, count: u32) -> Result<Vec<
     Ok(all)
 }
 
-fn made(alloc: Global, count: u32) -> Result<u64, AllocError> {
+fn made(alloc: Global, count: u32) -> Result<u64, NoMemory> {
     let mut bytes = 0u64;
     for _ in 0..count {
         bytes = bytes.wrapping_add(role(alloc)?.element.attributes.0.len() as u64);
@@ -90,7 +90,7 @@ fn only_read(alloc: Global, count: u32) -> u64 {
     parts
 }
 
-fn stamped(alloc: Global, metadata: &Metadata, publisher: &ClientName, count: u32) -> Result<u64, AllocError> {
+fn stamped(alloc: Global, metadata: &Metadata, publisher: &ClientName, count: u32) -> Result<u64, NoMemory> {
     let mut bytes = 0u64;
     for _ in 0..count {
         bytes = bytes.wrapping_add(stored(alloc, metadata, publisher)?.size());
@@ -112,7 +112,7 @@ fn main(rt: HostRuntime) -> io::Result<()> {
     let alloc = rt.alloc();
     let count = 40_000u32;
     let publisher = ClientName::new(Text::from_str(alloc, "c1").map_err(io::Error::from)?)
-        .ok_or(AllocError).map_err(io::Error::from)?;
+        .ok_or(NoMemory).map_err(io::Error::from)?;
     let start = Instant::now(&rt)?;
     let parts = only_read(alloc, count);
     let reading = start.elapsed(&rt)?.as_nanos() / u128::from(count);

@@ -12,7 +12,7 @@ cat > "$work/crates/printer_bench/src/main.rt" <<'RATTLE'
 #![tactic(auto)]
 
 use ifmap_elem::{Attribute, Child, Copied, Element, Many, Name, Text, canonical, same};
-use std::alloc::{AllocError, Global};
+use std::alloc::{AllocError as NoMemory, Global};
 use std::io;
 use std::rt::Runtime;
 use std::time::Instant;
@@ -20,12 +20,12 @@ use std::fs;
 
 const META: &str = "http://www.trustedcomputinggroup.org/2010/IFMAP-METADATA/2";
 
-fn attribute(alloc: Global, local: &str, value: &str) -> Result<Attribute, AllocError> {
+fn attribute(alloc: Global, local: &str, value: &str) -> Result<Attribute, NoMemory> {
     let value = Text::from_str(alloc, value)?;
     Attribute::bare(alloc, local, value)
 }
 
-fn leaf(alloc: Global, space: &str, local: &str, words: &str) -> Result<Element, AllocError> {
+fn leaf(alloc: Global, space: &str, local: &str, words: &str) -> Result<Element, NoMemory> {
     let name = Name::new(alloc, space, local)?;
     let attributes = Many(Vec::new(alloc));
     let mut members = Vec::with_capacity(alloc, 1)?;
@@ -34,7 +34,7 @@ fn leaf(alloc: Global, space: &str, local: &str, words: &str) -> Result<Element,
     Ok(Element { name, attributes, children })
 }
 
-fn metadata(alloc: Global) -> Result<Element, AllocError> {
+fn metadata(alloc: Global) -> Result<Element, NoMemory> {
     let name = Name::new(alloc, META, "event")?;
     let mut attributes = Vec::with_capacity(alloc, 3)?;
     attributes.push(attribute(alloc, "ifmap-cardinality", "multiValue")?)?;
@@ -49,7 +49,7 @@ fn metadata(alloc: Global) -> Result<Element, AllocError> {
     Ok(Element { name, attributes, children })
 }
 
-fn thousand(alloc: Global) -> Result<Element, AllocError> {
+fn thousand(alloc: Global) -> Result<Element, NoMemory> {
     let name = Name::new(alloc, "http://www.trustedcomputinggroup.org/2010/IFMAP/2", "response")?;
     let attributes = Many(Vec::new(alloc));
     let mut members = Vec::with_capacity(alloc, 1000)?;
@@ -60,7 +60,7 @@ fn thousand(alloc: Global) -> Result<Element, AllocError> {
     Ok(Element { name, attributes, children })
 }
 
-fn long_text(alloc: Global) -> Result<Element, AllocError> {
+fn long_text(alloc: Global) -> Result<Element, NoMemory> {
     let mut words = String::new(alloc);
     for _ in 0..16000 {
         words.push_str("sixty-three bytes of plain text, as the log of a scanner has it")?;
@@ -68,7 +68,7 @@ fn long_text(alloc: Global) -> Result<Element, AllocError> {
     leaf(alloc, "", "a", words.as_str())
 }
 
-fn spaces(alloc: Global) -> Result<Element, AllocError> {
+fn spaces(alloc: Global) -> Result<Element, NoMemory> {
     let name = Name::new(alloc, "", "a")?;
     let attributes = Many(Vec::new(alloc));
     let mut members = Vec::new(alloc);
@@ -80,7 +80,7 @@ fn spaces(alloc: Global) -> Result<Element, AllocError> {
     Ok(Element { name, attributes, children })
 }
 
-fn prefixed(alloc: Global) -> Result<Element, AllocError> {
+fn prefixed(alloc: Global) -> Result<Element, NoMemory> {
     let name = Name::new(alloc, META, "a")?;
     let attributes = Many(Vec::new(alloc));
     let mut members = Vec::new(alloc);

@@ -14,7 +14,7 @@ ghost use Rattle.std.specs.Prelude.{◌≡◌, ◌<◌, ℕ, Option, Bool};
 
 use ifmap_region::{Flip, LinkSource, Region, build, repair};
 use ifmap_steps::Steps;
-use std::alloc::{AllocError, Global};
+use std::alloc::Global;
 use std::io;
 use std::marker::Brand;
 use std::rt::Runtime;

@@ -26,7 +26,7 @@ use ifmap_elem::Text;
 use ifmap_io::Moment;
 use ifmap_meta::ClientName;
 use ifmap_session::{Sessions, limit_of};
-use std::alloc::{AllocError, Global};
+use std::alloc::{AllocError as NoMemory, Global};
 use std::env;
 use std::io;
 use std::rt::Runtime;
@@ -34,17 +34,17 @@ use std::time::Instant;
 
 const TTL: u32 = 180;
 
-fn moment_after(seconds: u64) -> Result<Moment, AllocError> {
-    Moment::new(1_000_000_000u64.saturating_add(seconds)).ok_or(AllocError)
+fn moment_after(seconds: u64) -> Result<Moment, NoMemory> {
+    Moment::new(1_000_000_000u64.saturating_add(seconds)).ok_or(NoMemory)
 }
 
 // Names in no order.
-fn clients_of(alloc: Global, count: u32) -> Result<Vec<ClientName>, AllocError> {
+fn clients_of(alloc: Global, count: u32) -> Result<Vec<ClientName>, NoMemory> {
     let mut clients = Vec::with_capacity(alloc, count as usize)?;
     for number in 0..count {
         let word = number.wrapping_mul(2_654_435_761);
         let text = Text(format!(in alloc; "client-{word}")?);
-        clients.push(ClientName::new(text).ok_or(AllocError)?)?;
+        clients.push(ClientName::new(text).ok_or(NoMemory)?)?;
     }
     Ok(clients)
 }
@@ -54,13 +54,13 @@ fn begin_for(
     sessions: &mut Sessions,
     client: &ClientName,
     moment: Moment,
-) -> Result<Text, AllocError> {
+) -> Result<Text, NoMemory> {
     if sessions.of_client(client).is_some() {
-        return Err(AllocError);
+        return Err(NoMemory);
     }
     match sessions.begin(alloc, client, 1, limit_of(None), moment) {
         Ok(begun) => Ok(begun.id),
-        Err(_) => Err(AllocError),
+        Err(_) => Err(NoMemory),
     }
 }
 
@@ -69,7 +69,7 @@ fn begin_all(
     sessions: &mut Sessions,
     clients: &[ClientName],
     moment: Moment,
-) -> Result<Vec<Text>, AllocError> {
+) -> Result<Vec<Text>, NoMemory> {
     let mut ids = Vec::with_capacity(alloc, clients.len())?;
     for client in clients {
         ids.push(begin_for(alloc, sessions, client, moment)?)?;
