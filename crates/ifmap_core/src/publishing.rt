@@ -18,13 +18,17 @@ use std::alloc::{AllocError as NoMemory, Global};
 /// Who publishes, in the session of which serial, and at which moment.
 #[derive(Clone, Copy)]
 pub struct Author<'a> {
+    /// The client, whose name is that of the publisher.
     pub client: &'a ClientName,
+    /// The serial of its session, with which what is not forever ends.
     pub serial: u64,
+    /// The moment that each attachment is stamped with.
     pub moment: Moment,
 }
 
 impl<'a> Author<'a> {
-    /// The attachments that the operations attach, in order. All the memory of a publish is taken here.
+    /// The attachments that the operations attach, in order. All the memory of a publish is taken
+    /// here, and want of it is the one error.
     pub fn attachments_of(
         &self,
         alloc: Global,

@@ -9,8 +9,9 @@ use ifmap_ident::Item;
 use ifmap_msg::{Entry, Search};
 use std::alloc::{AllocError as NoMemory, Global};
 
-/// What the search finds in the graph, or the note of a refusal where its size is greater than the
-/// limit.
+/// What the search finds in the graph, in the graph's order, or the note of a refusal where its size
+/// in bytes is greater than the search's `max_size`. The one error is want of memory, also told of a
+/// result of 2^64 bytes or more.
 pub fn find_entries(
     alloc: Global,
     graph: &Graph,

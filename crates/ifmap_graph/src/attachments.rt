@@ -8,7 +8,9 @@ use std::alloc::{AllocError as NoMemory, Global};
 /// Metadata on an item.
 #[derive(Debug, Drop)]
 pub struct Attachment {
+    /// The identifier or link that they are on.
     pub item: Item,
+    /// The metadata, with their publisher, their moment and how long they stay.
     pub stored: Stored,
 }
 

@@ -12,7 +12,9 @@ use std::alloc::{AllocError as NoMemory, Global};
 use std::marker::Model;
 use std::ops::Range;
 
-/// The attachments that are there. It is changed without memory, where room was made before.
+/// The attachments that are there, in the order of their items and, on one item, of their canonical
+/// bytes; no two have one key. It is changed without memory, where room was made before. Contracts
+/// see it beside that room.
 #[derive(Drop)]
 pub struct Graph {
     attachments: Vec<KeptAttachment>,
@@ -46,7 +48,8 @@ impl Graph {
         }
     }
 
-    /// Makes room for `n` attachments more.
+    /// Makes room for `n` attachments more. The one error is want of memory. Whether it succeeds or
+    /// not, nothing but the room changes, and that is no less.
     pub fn reserve(&mut self, n: usize) -> Result<(), NoMemory>
         ensures room { OnOk result (n ≤ self.new.room) }
         ensures attachments { self.new.attachments ≡ self.old.attachments }
@@ -55,7 +58,8 @@ impl Graph {
         self.attachments.reserve(n)
     }
 
-    /// Puts an attachment in its place, instead of the one with its key. It takes no memory.
+    /// Puts an attachment in its place, instead of the one with its key if there is one, where there
+    /// is room for one more. It takes no memory.
     pub fn attach(&mut self, attachment: KeptAttachment)
         requires { 1 ≤ self.old.room }
         ensures attachments { self.new.attachments ≡ attach self.old.attachments attachment }
@@ -67,7 +71,8 @@ impl Graph {
         put_in_place(&mut self.attachments, attachment);
     }
 
-    /// Takes out the attachments that end with the session of that serial. It takes no memory.
+    /// Takes out the attachments that end with the session of that serial, if there are any; the room
+    /// is no less then. It takes no memory.
     pub fn retract_session(&mut self, serial: u64)
         ensures attachments { self.new.attachments ≡ retract serial self.old.attachments }
         ensures room { self.old.room ≤ self.new.room }
@@ -83,7 +88,8 @@ impl Graph {
         let _attachments = &self.attachments;
     }
 
-    /// The attachments on an item, in their order. It takes no memory.
+    /// The attachments on an item, in their order; none where nothing is attached to it. They are
+    /// found by halving. It takes no memory.
     pub fn attachments_on(&self, item: &Item) -> &[KeptAttachment]
         ensures attachments { result.now ≡ on_item item.now self.now.attachments }
         ensures graph { IsGraph self.now.attachments }

@@ -40,7 +40,8 @@ impl Model for KeptAttachment {
 }
 
 impl KeptAttachment {
-    /// Takes all the memory that the attachment needs to be compared. The one error is want of memory.
+    /// An attachment of what is stored on an item, with all the memory that it needs to be compared.
+    /// The one error is want of memory, also told of an entry of 2^64 - 1 bytes or more.
     pub fn new(alloc: Global, item: Item, stored: Stored) -> Result<KeptAttachment, NoMemory>
         requires item { IsCanonItem item }
         requires stored { IsWhole stored }
@@ -51,7 +52,7 @@ impl KeptAttachment {
         Ok(KeptAttachment(Box::new(alloc, Prepared { attachment, size })?))
     }
 
-    /// Where it stands.
+    /// The identifier or link that it is on.
     pub fn item(&self) -> &Item
         ensures { result.now ≡ self.now.item }
     {
@@ -65,7 +66,8 @@ impl KeptAttachment {
         &self.0.attachment.stored
     }
 
-    /// The size of its entry in a result: the canonical bytes of its identifiers and of its element.
+    /// The size of its entry in a result, in bytes: the canonical bytes of its identifiers and of its
+    /// element. It is kept, not counted again.
     pub fn size(&self) -> u64
         ensures { result ≡ entry_size self.now }
     {

@@ -6,7 +6,9 @@ use std::alloc::{AllocError as NoMemory, Global};
 /// What a search found at one place: an element, and the identifier or link that it is attached to.
 #[derive(Debug, Drop)]
 pub struct Entry {
+    /// The identifier or link that the element is attached to.
     pub item: Item,
+    /// The element as it is stored, with its publisher and its moment among its attributes.
     pub element: Element,
 }
 
@@ -22,16 +24,26 @@ impl Copied for Entry {
 /// What a client is answered.
 #[derive(Debug, Drop)]
 pub enum Reply {
-    /// A session began: its id, and the client's name as the id of the publisher.
-    NewSession { session: Text, publisher: Text },
+    /// A session began.
+    NewSession {
+        /// The id of the session, by which the client names it from then on.
+        session: Text,
+        /// The client's name, as the id of the publisher that it is.
+        publisher: Text,
+    },
     /// The session ended.
     Ended,
     /// What was asked is published.
     Published,
-    /// What a search found.
+    /// What a search found, in the order in which it is told; nothing is no error.
     Found(Many<Entry>),
-    /// The request was refused, with a note for a reader.
-    Error { code: Code, note: Text },
+    /// The request was refused.
+    Error {
+        /// Why.
+        code: Code,
+        /// A note for a reader.
+        note: Text,
+    },
 }
 
 impl Copied for Reply {

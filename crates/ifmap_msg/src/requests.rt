@@ -7,10 +7,13 @@ use std::alloc::{AllocError as NoMemory, Global};
 /// One operation of a publish.
 #[derive(Debug, Drop)]
 pub enum PublishOp {
-    /// Metadata are put on an identifier or a link: for good, or for as long as the session lives.
+    /// Metadata are put on an identifier or a link.
     Update {
+        /// The identifier or link.
         item: Item,
+        /// What is put there, one after another.
         elements: Many<Metadata>,
+        /// Whether they stay when the session ends.
         forever: bool,
     },
 }
@@ -34,7 +37,10 @@ impl Copied for PublishOp {
 /// What is searched: where it starts, and how large the result may be.
 #[derive(Debug, Drop)]
 pub struct Search {
+    /// The identifier that it starts from.
     pub start: Identifier,
+    /// What the size of the result may be in bytes: the canonical bytes of each entry's identifiers
+    /// and of its element. A result of more is refused.
     pub max_size: u64,
 }
 
@@ -47,17 +53,31 @@ impl Copied for Search {
     }
 }
 
-/// What a client asks.
+/// What a client asks. A session is named by the id that the client was told; whether it lives, and
+/// whose it is, is not known yet.
 #[derive(Debug, Drop)]
 pub enum Request {
     /// A new session, in place of the one that the client has.
     NewSession,
     /// The end of a session.
-    EndSession { session: Text },
-    /// Changes of what is published, one after another.
-    Publish { session: Text, ops: Many<PublishOp> },
+    EndSession {
+        /// The id of the session.
+        session: Text,
+    },
+    /// Changes of what is published.
+    Publish {
+        /// The id of the session.
+        session: Text,
+        /// The changes, one after another.
+        ops: Many<PublishOp>,
+    },
     /// What is published around an identifier.
-    Search { session: Text, search: Search },
+    Search {
+        /// The id of the session.
+        session: Text,
+        /// What is searched.
+        search: Search,
+    },
 }
 
 impl Copied for Request {

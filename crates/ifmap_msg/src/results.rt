@@ -12,7 +12,7 @@ const ENVELOPE_SPACE: &str = "http://www.w3.org/2003/05/soap-envelope";
 
 const IFMAP_SPACE: &str = "http://www.trustedcomputinggroup.org/2010/IFMAP/2";
 
-/// The whole envelope of a reply. The one error is want of memory.
+/// The whole envelope of a reply, as it is sent to the client. The one error is want of memory.
 pub fn element_of(alloc: Global, reply: Reply) -> Result<Element, NoMemory>
     ensures { IfOk result (λ element. element ≡ reply_element reply) }
 {

@@ -58,7 +58,7 @@ impl Run {
         self.item == *item
     }
 
-    /// The `resultItem` of the run.
+    /// The `resultItem` of the run. The one error is want of memory.
     pub fn into_element(self, alloc: Global) -> Result<Element, NoMemory>
         ensures { IfOk result (λ element. element ≡ item_element self) }
     {
@@ -79,7 +79,8 @@ fn result_item(alloc: Global, item: &Item, backwards: Vec<Element>) -> Result<El
     Element::bare(alloc, "resultItem", Vec::new(alloc), children)
 }
 
-/// The runs of consecutive entries on one item, of which the last comes first.
+/// The runs of consecutive entries on one item, of which the last comes first. The one error is want
+/// of memory.
 pub fn runs_of(alloc: Global, entries: Vec<Entry>) -> Result<Vec<Run>, NoMemory>
     ensures { IfOk result (λ runs. reverse runs.items ≡ runs_of entries.items) }
 {
