@@ -7,4 +7,4 @@ pub mod sizes;
 
 pub use results::{Entry, Found, PollItem, SearchError};
 pub use searches::Search;
-pub use sizes::item_size;
+pub use sizes::poll_size;

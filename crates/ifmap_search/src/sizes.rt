@@ -7,7 +7,7 @@ use ifmap_elem::Many;
 
 /// The size of an item that a poll is told: 100, and the canonical bytes of the identifiers and
 /// elements of its entries; at most 2^64 - 1. It takes no memory.
-pub fn item_size(item: &PollItem) -> u64
+pub fn poll_size(item: &PollItem) -> u64
     ensures { result ≡ min (poll_size item.now) (2 ^ 64 - 1) }
 {
     match item {

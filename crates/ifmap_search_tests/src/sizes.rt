@@ -1,6 +1,6 @@
 //! The sizes of items that a poll is told.
 use crate::makers::{ALL_TOLD, Told, item_of};
-use ifmap_search::{SearchError, item_size};
+use ifmap_search::{SearchError, poll_size};
 use std::test::Fail;
 
 #[test]
@@ -8,7 +8,7 @@ fn the_size_is_100_and_that_of_the_entries(rt: HostRuntime) -> Result<(), Fail> 
     let alloc = rt.alloc();
     for told in ALL_TOLD {
         for (count, entries_size) in [(0, 0), (1, 237), (2, 474)] {
-            let size = item_size(&item_of(alloc, told, count)?);
+            let size = poll_size(&item_of(alloc, told, count)?);
             let wanted = match told {
                 Told::NamedError | Told::Error => 100,
                 _ => 100 + entries_size,

@@ -10,7 +10,7 @@ use Rattle.ifmap_search.specs.declared.results.PollItem.{PollItem}
 use Rattle.ifmap_session.specs.declared.holders.Holder.{Holder}
 use Rattle.ifmap_session.specs.declared.rows.Row.{Row}
 use Rattle.ifmap_session.specs.SessionIds.{session_id}
-use Rattle.ifmap_session.specs.Kept.{AreHolders, AreRows, AreStamps, ChangesSeat, IsKept, IsOwn, Rewrites, live_of, spare_in}
+use Rattle.ifmap_session.specs.Rows.{AreHolders, AreRows, AreStamps, ChangesSeat, AreTied, IsOwn, Rewrites, live_of, spare_in}
 use Rattle.ifmap_session.specs.Seats.{Seat}
 use Rattle.ifmap_session.specs.Sessions.{Session, change, emptied, overflowed, queued, renewed, session_with_serial, spare_of, without_name}
 use Rattle.ifmap_session.specs.Stamps.{Restamps, no_stamp}
@@ -19,7 +19,7 @@ use Rattle.ifmap_session.specs.laws.TableLaws.{Keeps}
 use Rattle.ifmap_session.proofs.SessionLaws.{holders_changed, own_at, rows_changed}
 use Rattle.ifmap_session.proofs.StampLaws.{stamped_alike, stamped_push, stamped_set}
 
-pub kept_none : IsKept 0 [] [] 0 []
+pub kept_none : AreTied 0 [] [] 0 []
 unfolding IsStrictlySortedBy IsDistinct
 kept_none = record {
   sessions = record { small = omega arith; own = record { rising = tt; own = tt }; counted = tt; apart = tt; few = omega arith };
@@ -85,7 +85,7 @@ set_got (z ∷ xs) zero x y e = refl
 set_got (z ∷ xs) (suc i) x y e = set_got xs i x y e
 
 module _ {counter : ℕ} {rows : List Row} {holders : List Holder} {width : ℕ} {tree : List ℕ}
-    (k : IsKept counter rows holders width tree) (n place : ℕ) (a : Seat) (e : slice_get rows place ≡ Some (row_of n a)) where
+    (k : AreTied counter rows holders width tree) (n place : ℕ) (a : Seat) (e : slice_get rows place ≡ Some (row_of n a)) where
   pub rewritten : (new : List Row) (f : Session → Session) (P : Seat → Seat → Type 0) → Keeps f
       → Rewrites place (ChangesSeat f P) rows new → Rewritten counter n f P rows new holders
   rewritten new f P keeps w =
@@ -127,7 +127,7 @@ module _ {counter : ℕ} {rows : List Row} {holders : List Holder} {width : ℕ}
       })
 
   pub kept_queue : (new : List Row) (f : Session → Session) (P : Seat → Seat → Type 0) → ChangesQueue f
-      → Rewrites place (ChangesSeat f P) rows new → IsKept counter new holders width tree
+      → Rewrites place (ChangesSeat f P) rows new → AreTied counter new holders width tree
   kept_queue new f P c w =
       let r = rewritten new f P c.names w in
       record { sessions = r.sessions; clients = r.clients; moments = moments_same new f P c.last w }
@@ -150,7 +150,7 @@ module _ {counter : ℕ} {rows : List Row} {holders : List Holder} {width : ℕ}
 
   pub kept_renewed : (new : List Row) (P : Seat → Seat → Type 0) (moment : ℕ) (tree2 : List ℕ)
       → Rewrites place (ChangesSeat (renewed moment) P) rows new → Restamps width place moment tree tree2
-      → IsKept counter new holders width tree2
+      → AreTied counter new holders width tree2
   kept_renewed new P moment tree2 w restamped =
       let r = rewritten new (renewed moment) P (moment_renewed moment) w in
       record { sessions = r.sessions; clients = r.clients; moments = moments_set new P moment tree2 w restamped }

@@ -13,7 +13,7 @@ use Rattle.std.specs.Option.{IfSome, is_some, option_map, option_to_list, unwrap
 use Rattle.std.specs.declared.cmp.Ordering.TheVariants.{Less}
 use Rattle.ifmap_lemmas.specs.Filters.{all_filter, all_weaker}
 use Rattle.ifmap_session.specs.declared.rows.Row.{Row}
-use Rattle.ifmap_session.specs.Kept.{AreOwn, IsOwn, live_of, row_order, seats_of, spare_in}
+use Rattle.ifmap_session.specs.Rows.{AreOwn, IsOwn, live_of, row_order, seats_of, spare_in}
 use Rattle.ifmap_session.specs.Seats.{Seat}
 use Rattle.ifmap_session.specs.Sessions.{Session, change, session_with_serial, spare_of, without_sessions}
 

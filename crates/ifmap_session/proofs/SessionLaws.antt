@@ -1,7 +1,7 @@
--- The live sessions and the clients' entries, as sessions change, end and begin.
+-- The live sessions and the holders, as sessions change, end and begin.
 -- First: what a client is found to have after a session ended (`client_after`,
 -- `holder_after`, `client_gone`), began (`begun_indexed`) or changed (`client_changed`). Then: the session that an id names
--- (`id_at`, `id_nowhere`). Last: rows and entries as they are kept, where a session changed (`rows_changed`,
+-- (`id_at`, `id_nowhere`). Last: rows and holders as they are kept, where a session changed (`rows_changed`,
 -- `holders_changed`), ended, began, or empty rows went.
 use Rattle.std.proofs.Common.{◌≡◌, refl, sym, ◌∙◌, ap, subst, ℕ, zero, suc, ◌+◌, ◌-◌, ◌<◌, ◌≤◌, ◌^◌, ◌==◌, Bool, true, false, not, cond, List, [], ◌∷◌, ◌++◌, length, map, set, Option, None, Some, Result, Ok, Err, inl, inr, arith}
 use Rattle.std.proofs.lemmas.Bool.{both_ways, cases_Bool, eqb-true, eqb-false, eq-eqb, false_from_ne_true, not-true}
@@ -20,7 +20,7 @@ use Rattle.std.specs.Ordering.{is_eq, nat_cmp}
 use Rattle.std.specs.declared.cmp.Ordering.TheVariants.{Less}
 use Rattle.ifmap_session.specs.declared.holders.Holder.{Holder}
 use Rattle.ifmap_session.specs.declared.rows.Row.{Row}
-use Rattle.ifmap_session.specs.Kept.{AreHolders, AreOwn, AreRows, IsOwn, client_order, holder_of, live_of, row_order, seats_of}
+use Rattle.ifmap_session.specs.Rows.{AreHolders, AreOwn, AreRows, IsOwn, client_order, holder_of, live_of, row_order, seats_of}
 use Rattle.ifmap_session.specs.Places.{IsPlaceFor, IsPlaceOf}
 use Rattle.ifmap_session.specs.Seats.{Seat}
 use Rattle.ifmap_session.specs.SessionIds.{BeginsWithSerial, hyphen}
@@ -131,7 +131,7 @@ once : {A : Type 0} (a : Bool) (u w : Option A) → cond a None w ≡ cond a Non
 once true u w = refl
 once false u w = refl
 
--- a client's entry after the one of a client went
+-- a client's holder after the one of a client went
 pub holder_after : (holders : List Holder) (k c : List ℕ) → holder_of c (filter (λ (h : Holder). not (is_text h.client k)) holders)
     ≡ cond (is_text k c) None (holder_of c holders)
 holder_after [] k c = no_choice (is_text k c)
@@ -345,7 +345,7 @@ live_up (r ∷ rows) up own = one r.kept own.0 (live_up rows up.1 own.1) where
   one None h rest = rest
   one (Some s) h rest = (all_live (λ t. session_order s.session t ≡ Less) rows (above s h.numbered rows up.0 own.1), rest)
 
--- rows and entries, as they are kept
+-- rows and holders, as they are kept
 pub rows_changed : (counter n : ℕ) (f : Session → Session) (rows : List Row) (i : ℕ) (a b : Seat) → Keeps f → AreRows counter rows
     → slice_get rows i ≡ Some (row_of n a) → IsOwn n a → b.session ≡ f a.session → AreRows counter (set rows i (row_of n b))
 rows_changed counter n f rows i a b k kept e own is =
@@ -515,7 +515,7 @@ holders_filled rows holders h = record {
   counts = rw (live_filter rows) h.counts;
 }
 
--- where a client has no session its entry is missing, and where it has one it is there
+-- where a client has no session its holder is missing, and where it has one it is there
 pub no_holder : (rows : List Row) (holders : List Holder) (c : List ℕ) → AreHolders rows holders
     → session_of_client c (live_of rows) ≡ None → holder_of c holders ≡ None
 no_holder rows holders c h none = map_none (λ (x : Holder). x.serial) (holder_of c holders) (h.indexed c

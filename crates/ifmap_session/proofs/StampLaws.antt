@@ -8,7 +8,7 @@ use Rattle.std.proofs.lemmas.Option.{slice_get_past}
 use Rattle.std.specs.List.{All, AllByRecursion, filter, list_any, slice_get}
 use Rattle.std.specs.Option.{IfSome, option_map, option_to_list, unwrap_or}
 use Rattle.ifmap_session.specs.declared.rows.Row.{Row}
-use Rattle.ifmap_session.specs.Kept.{AreStamps, IsOwn, IsStamped, due_rows, live_of, seats_of, serial_at, stamp_of}
+use Rattle.ifmap_session.specs.Rows.{AreStamps, IsOwn, IsStamped, due_rows, live_of, seats_of, serial_at, stamp_of}
 use Rattle.ifmap_session.specs.Seats.{Seat}
 use Rattle.ifmap_session.specs.Sessions.{Session, expired_serials, is_expired}
 use Rattle.ifmap_session.specs.Stamps.{IsPower, IsTree, Restamps, at, due_nodes, is_any_due, is_due, no_stamp, numbers_from}

@@ -5,7 +5,7 @@ pub mod Openings
 -- How they are kept.
 pub mod Seats
 pub mod Stamps
-pub mod Kept
+pub mod Rows
 pub mod Places
 -- Laws on the definitions, which crates above cite.
 pub mod laws

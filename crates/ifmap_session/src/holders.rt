@@ -2,7 +2,7 @@
 ghost use Rattle.std.specs.Prelude.{◌≡◌, IfErr};
 ghost use Rattle.std.specs.List.Sorted.{IsStrictlySortedBy};
 ghost use Rattle.ifmap_session.specs.Places.{IsPlaceFor, IsPlaceOf};
-ghost use Rattle.ifmap_session.specs.Kept.{client_order};
+ghost use Rattle.ifmap_session.specs.Rows.{client_order};
 ghost use Rattle.ifmap_session.specs.Sessions.{is_text};
 
 use ifmap_meta::ClientName;
@@ -14,7 +14,7 @@ pub struct Holder {
     pub serial: u64,
 }
 
-/// Where the client's entry stands, or is to stand.
+/// Where the holder of that client stands, or is to stand.
 pub fn place_of_client(holders: &[Holder], client: &ClientName) -> Result<usize, usize>
     requires { IsStrictlySortedBy client_order holders.now }
     ensures place { IsPlaceOf (λ h. is_text h.client client.now) holders.now result }

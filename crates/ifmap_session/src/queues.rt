@@ -7,14 +7,14 @@ ghost use Rattle.ifmap_session.specs.Sessions.{emptied, is_named, overflowed, qu
 use ifmap_elem::{Equals, Many, Text};
 use ifmap_io::Moment;
 use ifmap_meta::ClientName;
-use ifmap_search::{PollItem, item_size};
+use ifmap_search::{PollItem, poll_size};
 use std::alloc::{AllocError as NoMemory, Global};
 use std::marker::Model;
 use std::mem;
 
 /// A live session. Contracts see it beside the room of its queue.
 #[derive(Drop)]
-pub struct Kept {
+pub struct LiveSession {
     serial: u64,
     id: Text,
     client: ClientName,
@@ -25,7 +25,7 @@ pub struct Kept {
     size: u128,
 }
 
-impl Model for Kept {
+impl Model for LiveSession {
     ghost use Rattle.std.specs.Prelude.{◌≡◌, ◌-◌, sum_by, vec_capacity, vec_len};
     ghost use Rattle.std.specs.Coded.{codes};
     ghost use Rattle.ifmap_search.specs.contracts.results.PollItem as the_poll_item;
@@ -50,7 +50,7 @@ impl Model for Kept {
     ghost invariant = { λ k. k.size ≡ sum_by counted_size k.queue.items };
 }
 
-impl Kept {
+impl LiveSession {
     /// A session with nothing to tell. It takes no memory.
     pub fn new(
         alloc: Global,
@@ -59,7 +59,7 @@ impl Kept {
         client: ClientName,
         limit: u32,
         last: Moment,
-    ) -> Kept
+    ) -> LiveSession
         ensures { result.session ≡ record {
           serial = serial;
           id = id;
@@ -69,7 +69,7 @@ impl Kept {
           queue = [];
         } }
     {
-        Kept {
+        LiveSession {
             serial,
             id,
             client,
@@ -132,7 +132,7 @@ impl Kept {
         ensures session { self.new.session ≡ queued item self.old.session }
         ensures spare { self.new.spare + 1 ≡ self.old.spare }
     {
-        self.size += item_size(&item) as u128;
+        self.size += poll_size(&item) as u128;
         self.queue.push_reserved(item);
     }
 
@@ -142,7 +142,7 @@ impl Kept {
         ensures session { self.new.session ≡ overflowed error self.old.session }
         ensures spare { self.new.spare + 1 ≡ self.old.spare + length self.old.session.queue }
     {
-        self.size = item_size(&error) as u128;
+        self.size = poll_size(&error) as u128;
         self.queue.clear();
         self.queue.push_reserved(error);
     }
@@ -175,7 +175,7 @@ fn size_of_named(queue: &[PollItem], name: &Text) -> u128
     let mut size = 0u128;
     for item in queue {
         if is_named(item, name) {
-            size += item_size(item) as u128;
+            size += poll_size(item) as u128;
         }
     }
     size

@@ -2,12 +2,12 @@
 //! other moves.
 ghost use Rattle.std.specs.Prelude.{◌≡◌, ℕ, ◌+◌, ◌-◌, ◌*◌, ◌<◌, ◌≤◌, IfOk, MatchOption, None, OnErr, OnOk, Some, filter, is_some, length, map, slice_get, slice_set, vec_capacity, vec_len};
 ghost use Rattle.std.specs.List.{All};
-ghost use Rattle.ifmap_session.specs.Kept.{AreOwn, AreStamps, CanWiden, ChangesSeat, IsRowOf, IsSeatOf, IsStamped, IsTaken, Rewrites, due_rows, live_of, serial_at, stamp_of};
+ghost use Rattle.ifmap_session.specs.Rows.{AreOwn, AreStamps, CanWiden, ChangesSeat, IsRowOf, IsSeatOf, IsStamped, IsTaken, Rewrites, due_rows, live_of, serial_at, stamp_of};
 ghost use Rattle.ifmap_session.specs.Seats.{Seat};
 ghost use Rattle.ifmap_session.specs.Sessions.{IsLive, emptied, overflowed, queued, renewed, session_with_serial, without_name};
 ghost use Rattle.ifmap_session.specs.Stamps.{IsTree, at, no_stamp};
 
-use crate::queues::Kept;
+use crate::queues::LiveSession;
 use crate::stamps::{NO_STAMP, due_nodes, next_width, set_stamp};
 use ifmap_elem::{Many, Text};
 use ifmap_io::Moment;
@@ -18,7 +18,7 @@ use std::alloc::{AllocError as NoMemory, Global};
 #[derive(Drop)]
 pub struct Row {
     pub serial: u64,
-    pub kept: Option<Kept>,
+    pub kept: Option<LiveSession>,
 }
 
 /// Where the session with that serial stands.
@@ -45,7 +45,7 @@ pub fn place_in(rows: &[Row], serial: u64) -> usize
 }
 
 /// The session with that serial.
-pub fn find_kept(rows: &[Row], serial: u64) -> Option<&Kept>
+pub fn find_live(rows: &[Row], serial: u64) -> Option<&LiveSession>
     requires { AreOwn rows.now }
     ensures { MatchOption result (session_with_serial serial (live_of rows.now) ≡ None)
         (λ kept. IsSeatOf serial rows.now kept.now) }
@@ -136,7 +136,7 @@ pub fn take_all_at(rows: &mut Vec<Row>, place: usize) -> Many<PollItem>
 }
 
 /// Takes the session of a row out, and leaves the row empty.
-pub fn end_at(rows: &mut Vec<Row>, place: usize) -> Kept
+pub fn end_at(rows: &mut Vec<Row>, place: usize) -> LiveSession
     requires { IsTaken (λ seat. Unit {0}) rows.old.items place }
     ensures rows { (serial : ℕ) (seat : Seat)
         → slice_get rows.old.items place ≡ Some (record { serial = serial; kept = Some seat })

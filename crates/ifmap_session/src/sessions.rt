@@ -10,9 +10,9 @@ use crate::errors::BeginError;
 use crate::holders::{Holder, place_of_client};
 use crate::ids::{new_id, serial_of};
 use crate::openings::{Begun, Opening};
-use crate::queues::Kept;
+use crate::queues::LiveSession;
 use crate::rows::{
-    Row, drop_name_at, due_serials, end_at, find_kept, overflow_at, place_in, push_at, renew_at,
+    Row, drop_name_at, due_serials, end_at, find_live, overflow_at, place_in, push_at, renew_at,
     reserve_at, take_all_at, widen,
 };
 use crate::stamps::{NO_STAMP, is_any_due, set_stamp};
@@ -43,7 +43,7 @@ impl Model for Sessions {
     ghost use Rattle.std.specs.Prelude.{◌-◌, min, vec_capacity, vec_len};
     ghost use Rattle.std.specs.Coded.{codes};
     ghost use Rattle.ifmap_search.specs.contracts.results.PollItem as the_poll_item;
-    ghost use Rattle.ifmap_session.specs.Kept.{IsKept, live_of, spare_in};
+    ghost use Rattle.ifmap_session.specs.Rows.{AreTied, live_of, spare_in};
     ghost use Rattle.ifmap_session.specs.Sessions.{Table};
 
     ghost Value = { Table };
@@ -58,7 +58,7 @@ impl Model for Sessions {
           (vec_capacity s.holders - vec_len s.holders);
     } };
 
-    ghost invariant = { λ s. IsKept s.counter s.rows.items s.holders.items s.width s.stamps.items };
+    ghost invariant = { λ s. AreTied s.counter s.rows.items s.holders.items s.width s.stamps.items };
 }
 
 impl Sessions {
@@ -101,7 +101,7 @@ impl Sessions {
     {
         let rows = &self.rows;
         let serial = serial_of(id.0.as_str())?;
-        let kept = find_kept(rows, serial)?;
+        let kept = find_live(rows, serial)?;
         if kept.id().equals(id) {
             Some((serial, kept.client()))
         } else {
@@ -231,7 +231,7 @@ impl Sessions {
             self.rows.len(),
             moment.seconds(),
         );
-        let kept = Kept::new(*self.rows.allocator(), serial, id, client, limit, moment);
+        let kept = LiveSession::new(*self.rows.allocator(), serial, id, client, limit, moment);
         self.rows.push_reserved(Row {
             serial,
             kept: Some(kept),
@@ -324,7 +324,7 @@ impl Sessions {
         ensures { (s : Session) → session_with_serial serial self.now.live ≡ Some s
             → (result.0 ≡ min (queue_size s.queue) (2 ^ 64 - 1)) × (result.1 ≡ s.limit) }
     {
-        find_kept(&self.rows, serial).unwrap().size()
+        find_live(&self.rows, serial).unwrap().size()
     }
 
     /// Queues an item in a live session in place of all that is queued, where there is room for
@@ -381,7 +381,7 @@ impl Sessions {
     }
 }
 
-// Makes room for one row and one entry more. The one error is want of memory, which may leave more
+// Makes room for one row and one holder more. The one error is want of memory, which may leave more
 // room.
 fn reserve_one(rows: &mut Vec<Row>, holders: &mut Vec<Holder>) -> Result<(), NoMemory>
     ensures rows { rows.new.items ≡ rows.old.items }

@@ -5,7 +5,7 @@ use Rattle.std.specs.List.Sorted.{IsBinarySearchResult, IsSearchInRange, IsStric
 use Rattle.std.specs.Ordering.{nat_cmp}
 use Rattle.std.specs.Result.{IfErr}
 use Rattle.ifmap_session.specs.declared.holders.Holder.{Holder}
-use Rattle.ifmap_session.specs.Kept.{client_order}
+use Rattle.ifmap_session.specs.Rows.{client_order}
 use Rattle.ifmap_session.specs.Places.{IsPlaceFor}
 use Rattle.ifmap_session.proofs.SessionLaws.{holder_gap, holder_placed}
 use Rattle.ifmap_session.proofs.holders.place_of_client.Goals as goal

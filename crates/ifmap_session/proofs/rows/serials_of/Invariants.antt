@@ -1,5 +1,5 @@
 use Rattle.std.proofs.Common.{◌≡◌, ◌-◌, map, take}
-use Rattle.ifmap_session.specs.Kept.{serial_at}
+use Rattle.ifmap_session.specs.Rows.{serial_at}
 use Rattle.ifmap_session.proofs.rows.serials_of.Given as goal
 
 abbrev pub invariant-loop-node : goal.invariant-loop-node

@@ -1,6 +1,6 @@
 use Rattle.std.proofs.Common.{sym, ◌∙◌, ap, ◌<◌, inl, inr, arith}
 use Rattle.std.proofs.lemmas.Bool.{cases_lt}
-use Rattle.ifmap_session.specs.Kept.{live_of}
+use Rattle.ifmap_session.specs.Rows.{live_of}
 use Rattle.ifmap_session.specs.Stamps.{is_any_due}
 use Rattle.ifmap_session.proofs.StampLaws.{any_is, none_due_yet}
 use Rattle.ifmap_session.proofs.sessions.Sessions.any_expired.Goals as goal

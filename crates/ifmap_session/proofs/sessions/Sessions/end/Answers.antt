@@ -1,7 +1,7 @@
 use Rattle.std.proofs.Common.{◌∙◌, sym, ap, subst, None}
 use Rattle.ifmap_session.specs.Places.{IsPlaceOf}
 use Rattle.ifmap_session.specs.declared.holders.Holder.{Holder}
-use Rattle.ifmap_session.specs.Kept.{live_of}
+use Rattle.ifmap_session.specs.Rows.{live_of}
 use Rattle.ifmap_session.specs.Seats.{Seat}
 use Rattle.ifmap_session.specs.Sessions.{is_text, session_of_client}
 use Rattle.ifmap_session.proofs.KeptLaws.{moments_ended, place_within}

@@ -1,7 +1,7 @@
 use Rattle.std.proofs.Common.{◌≡◌, sym, ◌∙◌, ◌<◌, inl, inr, arith}
 use Rattle.std.proofs.lemmas.Bool.{cases_lt}
 use Rattle.std.proofs.lemmas.Result.{IfOk-weaker}
-use Rattle.ifmap_session.specs.Kept.{due_rows, live_of}
+use Rattle.ifmap_session.specs.Rows.{due_rows, live_of}
 use Rattle.ifmap_session.specs.Sessions.{expired_serials}
 use Rattle.ifmap_session.proofs.StampLaws.{due_is, none_due_yet}
 use Rattle.ifmap_session.proofs.sessions.Sessions.expired.Goals as goal

@@ -1,5 +1,5 @@
 use Rattle.std.proofs.Common.{refl, ◌∙◌, ap, map, arith}
-use Rattle.ifmap_session.specs.Kept.{live_of, spare_in}
+use Rattle.ifmap_session.specs.Rows.{live_of, spare_in}
 use Rattle.ifmap_session.specs.Seats.{Seat}
 use Rattle.ifmap_session.proofs.RowLaws.{live_few, seats_filter}
 use Rattle.ifmap_session.proofs.SessionLaws.{holders_filled, live_filter, rows_filled}

@@ -2,7 +2,7 @@ use Rattle.std.proofs.Common.{◌≡◌, None, ◌∙◌, sym, ap, subst, ◌+�
 use Rattle.std.specs.List.{insert}
 use Rattle.std.specs.Result.{IfErr}
 use Rattle.ifmap_session.specs.declared.holders.Holder.{Holder}
-use Rattle.ifmap_session.specs.Kept.{live_of}
+use Rattle.ifmap_session.specs.Rows.{live_of}
 use Rattle.ifmap_session.specs.Places.{IsPlaceFor, IsPlaceOf}
 use Rattle.ifmap_session.specs.SessionIds.{session_id}
 use Rattle.ifmap_session.specs.Sessions.{Session, is_text, session_of_client}

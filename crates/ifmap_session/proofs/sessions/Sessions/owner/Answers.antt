@@ -1,6 +1,6 @@
 use Rattle.std.proofs.Common.{◌≡◌, sym, ◌∙◌, subst, false, Some}
 use Rattle.std.proofs.lemmas.Bool.{both_ways, false_from_ne_true}
-use Rattle.ifmap_session.specs.Kept.{live_of}
+use Rattle.ifmap_session.specs.Rows.{live_of}
 use Rattle.ifmap_session.specs.Sessions.{is_text, session_with_serial}
 use Rattle.ifmap_session.proofs.RowLaws.{found}
 use Rattle.ifmap_session.specs.laws.TextLaws.{text_is, text_same}
@@ -25,7 +25,7 @@ returns-in_err-kept-clause-none c =
     let leads = id_leads c.self.inside.counter live c.args.id.now c.serial_of.result k.small
     (live_counted c.self.inside.counter c.self.inside.rows.items k.counted k.own.own) (live_ids c.self.inside.rows.items k.own.own)
     (λ n rest small e. c.serial_of.ensures n rest small (id ∙ e)) in
-    let none = rw (c.in_err-kept.was, c.deref.ensures.value) at c.find_kept.ensures in
+    let none = rw (c.in_err-kept.was, c.deref.ensures.value) at c.find_live.ensures in
     rw (c.from_residual-in_err-kept.ensures, ← c.self.view_is) (id_nowhere live c.in_ok-serial.serial c.args.id.now
     (leads_to c.in_ok-serial.serial live c.args.id.now c.serial_of.result c.in_ok-serial.was leads) none)
 
@@ -37,7 +37,7 @@ returns-then-equals-clause-some c =
     let leads = id_leads c.self.inside.counter live c.args.id.now c.serial_of.result k.small
     (live_counted c.self.inside.counter c.self.inside.rows.items k.counted k.own.own) (live_ids c.self.inside.rows.items k.own.own)
     (λ n rest small e. c.serial_of.ensures n rest small (id ∙ e)) in
-    let got = rw (c.in_ok-kept.was, c.deref.ensures.value) at c.find_kept.ensures in
+    let got = rw (c.in_ok-kept.was, c.deref.ensures.value) at c.find_live.ensures in
     let seat = c.in_ok-kept.kept.now in
     let at = id_at live c.in_ok-serial.serial c.args.id.now seat.session (live_up c.self.inside.rows.items k.own.rising k.own.own)
     (leads_to c.in_ok-serial.serial live c.args.id.now c.serial_of.result c.in_ok-serial.was leads)
@@ -62,7 +62,7 @@ returns-else-equals-clause-none c =
     let leads = id_leads c.self.inside.counter live c.args.id.now c.serial_of.result k.small
     (live_counted c.self.inside.counter c.self.inside.rows.items k.counted k.own.own) (live_ids c.self.inside.rows.items k.own.own)
     (λ n rest small e. c.serial_of.ensures n rest small (id ∙ e)) in
-    let got = rw (c.in_ok-kept.was, c.deref.ensures.value) at c.find_kept.ensures in
+    let got = rw (c.in_ok-kept.was, c.deref.ensures.value) at c.find_live.ensures in
     let seat = c.in_ok-kept.kept.now in
     let at = id_at live c.in_ok-serial.serial c.args.id.now seat.session (live_up c.self.inside.rows.items k.own.rising k.own.own)
     (leads_to c.in_ok-serial.serial live c.args.id.now c.serial_of.result c.in_ok-serial.was leads)

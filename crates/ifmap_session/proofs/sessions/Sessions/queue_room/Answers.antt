@@ -1,6 +1,6 @@
 use Rattle.std.proofs.Common.{refl, sym, ◌∙◌, subst, ◌≤◌, arith}
 use Rattle.std.specs.Result.{OnOk}
-use Rattle.ifmap_session.specs.Kept.{live_of}
+use Rattle.ifmap_session.specs.Rows.{live_of}
 use Rattle.ifmap_session.proofs.KeptLaws.{change_none, kept_queue, queue_stays, rewritten}
 use Rattle.ifmap_session.proofs.sessions.Sessions.queue_room.Goals as goal
 

@@ -6,7 +6,7 @@ use Rattle.ifmap_session.proofs.sessions.Sessions.queue_size.Goals as goal
 
 pub returns : goal.returns
 returns c = λ s is.
-    let got = rw (c.unwrap.ensures, c.deref.ensures.value) at c.find_kept.ensures in
+    let got = rw (c.unwrap.ensures, c.deref.ensures.value) at c.find_live.ensures in
     let own = c.self.invariant.sessions.own in
     let there = found c.args.serial c.self.inside.rows.items got.0 c.unwrap.result.now own.rising own.own got.1 in
     let live = rw (← c.self.view_is) at is in

@@ -1,6 +1,6 @@
 use Rattle.std.proofs.Common.{◌∙◌, ap, ◌-◌, ◌^◌, min}
 use Rattle.ifmap_session.proofs.QueueLaws.{counted_whole}
-use Rattle.ifmap_session.proofs.queues.Kept.size.Goals as goal
+use Rattle.ifmap_session.proofs.queues.LiveSession.size.Goals as goal
 
 pub returns-clause-size : goal.returns-clause-size
 returns-clause-size c =

@@ -1,6 +1,6 @@
 use Rattle.ifmap_session.specs.Sessions.{is_named}
 use Rattle.ifmap_session.proofs.QueueLaws.{named_within, rest_size}
-use Rattle.ifmap_session.proofs.queues.Kept.drop_name.Goals as goal
+use Rattle.ifmap_session.proofs.queues.LiveSession.drop_name.Goals as goal
 
 pub overflow_sub-self : goal.overflow_sub-self
 overflow_sub-self c =

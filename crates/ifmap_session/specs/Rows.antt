@@ -1,4 +1,4 @@
--- The live sessions as they are kept: rows, clients' entries and stamps, and what ties them.
+-- The live sessions as they are kept: rows, holders and stamps, and what ties them.
 use Rattle.std.specs.Prelude.{◌≡◌, ◌⊎◌, ℕ, ◌+◌, ◌-◌, ◌^◌, ◌≤◌, ◌<◌, List, find, flat_map, length, map, IfSome, MatchOption, Option, None, Some, option_map, option_to_list, slice_get, slice_set, unwrap_or}
 use Rattle.std.specs.Cmp.Lexicographic.{slice_cmp}
 use Rattle.std.specs.List.{AllByRecursion, IsDistinct}
@@ -32,7 +32,7 @@ row_order = on (λ (r : Row). r.serial) nat_cmp
 abbrev pub client_order : Holder → Holder → Ordering
 client_order = on (λ (h : Holder). h.client) (slice_cmp nat_cmp)
 
--- the entry of a client
+-- the holder of a client
 abbrev pub holder_of : List ℕ → List Holder → Option Holder
 holder_of client holders = find (λ h. is_text h.client client) holders
 
@@ -71,7 +71,7 @@ pub record AreRows (counter : ℕ) (rows : List Row) : Type 0 where
   pub apart : IsDistinct is_text (map (λ (s : Session). s.client) (live_of rows))
   pub few : length (live_of rows) ≤ most_sessions
 
--- what holds of the clients' entries: they are in order, and each leads to its client's session
+-- what holds of the holders: they are in order, and each leads to its client's session
 pub record AreHolders (rows : List Row) (holders : List Holder) : Type 0 where
   pub ordered : IsStrictlySortedBy client_order holders
   pub indexed : (client : List ℕ) → option_map (λ (h : Holder). h.serial) (holder_of client holders) ≡ option_map
@@ -92,7 +92,7 @@ pub record AreStamps (rows : List Row) (width : ℕ) (tree : List ℕ) : Type 0 
   pub stamped : IsStamped rows width tree
 
 -- all of these
-pub record IsKept (counter : ℕ) (rows : List Row) (holders : List Holder) (width : ℕ) (tree : List ℕ) : Type 0 where
+pub record AreTied (counter : ℕ) (rows : List Row) (holders : List Holder) (width : ℕ) (tree : List ℕ) : Type 0 where
   pub sessions : AreRows counter rows
   pub clients : AreHolders rows holders
   pub moments : AreStamps rows width tree
