@@ -42,7 +42,8 @@ module _ (p t : ℕ → Bool) (turns : (c : ℕ) → t c ≡ not (p c)) where
         rest_is = chars-nil ∙ sym (ap (after_while p) (sym are ∙ sym (append-nil cs)) ∙ after_more cs [] none);
       }
 
-  pub cuts_at : (text : List ℕ) (i j c : ℕ) → IsUtf8 text → IsCharBoundary text i → NoCharPasses t (take i text) → t c ≡ true → HasCharAt c text i j
+  pub cuts_at : (text : List ℕ) (i j c : ℕ) → IsUtf8 text → IsCharBoundary text i → NoCharPasses t (take i text) → t c ≡ true
+      → HasCharAt c text i j
       → Cuts p text (take i text) (drop i text)
   cuts_at text i j c u bound (cs, e, none) stop has =
       let v : IsUtf8 (drop i text) = IsUtf8-drop text i u bound in
@@ -72,7 +73,8 @@ pub twice : (b : Bool) → b ≡ not (not b)
 twice true = refl
 twice false = refl
 
-pub cuts_from : (p t : ℕ → Bool) → ((c : ℕ) → t c ≡ not (p c)) → (text : List ℕ) (i j : ℕ) (front rest : List ℕ) → IsUtf8 text → IsCharBoundary text i
+pub cuts_from : (p t : ℕ → Bool) → ((c : ℕ) → t c ≡ not (p c)) → (text : List ℕ) (i j : ℕ) (front rest : List ℕ) → IsUtf8 text
+    → IsCharBoundary text i
     → FindsBy t text (Some (i, j)) → front ≡ take i text → rest ≡ drop i text → Cuts p text front rest
 cuts_from p t turns text i j front rest u bound (none, has) e f =
     let cuts = cuts_at p t turns text i j has.0 u bound none has.1 has.2 in

@@ -1,5 +1,8 @@
--- How a filter goes on, by one more token. (1) Words that join are told by their parts; (2) tests: what names ask for, and what is after a
--- test; (3) an or-part is its first factor and what is after it; (4) what is after a factor, by `and`, `or` and any other token.
+-- How a filter goes on, by one more token. Plan:
+-- (1) words that join are told by their parts, and are not one another;
+-- (2) tests: what names ask for, and what is after a test: the end, `or`, or a bracket after its name;
+-- (3) an or-part is its first factor and what is after it;
+-- (4) what is after a factor, by `and`, by `or` and by any other token.
 use Rattle.std.proofs.Common.{◌≡◌, ◌≢◌, ℕ, true, false, List, [], ◌∷◌, ◌++◌, refl, ap, sym, ◌∙◌, subst, Option, Some, None, append_assoc, codes}
 use Rattle.std.specs.Prelude.{◌↔◌}
 use Rattle.std.specs.Str.{bytes_eq}
@@ -14,30 +17,30 @@ use Rattle.ifmap_filter.specs.declared.filters.Test.{Test}
 use Rattle.ifmap_filter.specs.declared.filters.Filter.{Filter}
 use Rattle.ifmap_filter.specs.declared.tokens.Token.{Token}
 use Rattle.ifmap_filter.specs.declared.tokens.Token.TheVariants.{Any, OpenBracket, Name}
-use Rattle.ifmap_filter.specs.Grammar.{AreTests, AsksFor, IsFilter, TakesAnds, TakesFactor, TakesMore, TakesOrs, TakesPredicate, TakesTest, and_word, bare, deepest, joined, or_word, space_of}
-use Rattle.ifmap_filter.specs.Progress.{MoreFactors, MoreTests, PredicateFirst, TestFirst, done_part, gathered, is_word, test_of}
+use Rattle.ifmap_filter.specs.Grammar.{AreTests, AsksFor, IsFilter, TakesAnds, TakesFactor, TakesMore, TakesOrs, TakesPredicate, TakesTest, and_word, bare_name, deepest, join_of, or_word, space_of}
+use Rattle.ifmap_filter.specs.Progress.{MoreFactors, MoreTests, PredicateFirst, TestFirst, done_part, join_parts, is_word, test_of}
 
 -- (1) words
 
-pub word_is : (word : List ℕ) (q : Qualified) → is_word word q ≡ true → q ≡ bare word
+pub word_is : (word : List ℕ) (q : Qualified) → is_word word q ≡ true → q ≡ bare_name word
 word_is word q h =
     let both = and_parts (bytes_eq q.prefix []) (bytes_eq q.local word) h in
     let p : q.prefix ≡ [] = eq_tells q.prefix [] both.0 in
     let l : q.local ≡ word = eq_tells q.local word both.1 in
     (λ i. record { prefix = p i; local = l i })
 
-pub is_that_word : (word : List ℕ) (q : Qualified) → q ≡ bare word → is_word word q ≡ true
+pub is_that_word : (word : List ℕ) (q : Qualified) → q ≡ bare_name word → is_word word q ≡ true
 is_that_word word q e = ap (is_word word) e ∙ and_from (bytes_eq [] []) (bytes_eq word word) refl (eq_itself word)
 
-pub not_that_word : (word : List ℕ) (q : Qualified) → is_word word q ≡ false → Name q ≢ Name (bare word)
-not_that_word word q h e = let s : q ≡ bare word = cc in let wrong : false ≡ true = sym h ∙ is_that_word word q s in cc
+pub not_that_word : (word : List ℕ) (q : Qualified) → is_word word q ≡ false → Name q ≢ Name (bare_name word)
+not_that_word word q h e = let s : q ≡ bare_name word = cc in let wrong : false ≡ true = sym h ∙ is_that_word word q s in cc
 
 pub head_of : {X : Type 0} (x y : X) (xs ys : List X) → x ∷ xs ≡ y ∷ ys → (x ≡ y) × (xs ≡ ys)
 head_of x y xs ys e = let h : x ≡ y = cc in let t : xs ≡ ys = cc in (h, t)
 
 pub and_not_or : and_word ≢ or_word
 and_not_or e =
-    let q : bare (codes "and") ≡ bare (codes "or") = cc in
+    let q : bare_name (codes "and") ≡ bare_name (codes "or") = cc in
     let wrong : true ≡ false = ap (is_word (codes "and")) q in cc
 
 -- what joins to the left joins to the right
@@ -52,7 +55,8 @@ module _ (scope : Scope) where
     any_asks None e = refl
     any_asks (Some n) a = let e : Any ≡ Name a.0 = a.1 in cc
 
-    pub name_asks : (q : Qualified) (space : List ℕ) → space_of scope q.prefix ≡ Some space → (name : Option element.Name) → AsksFor scope (Name q) name
+    pub name_asks : (q : Qualified) (space : List ℕ) → space_of scope q.prefix ≡ Some space → (name : Option element.Name)
+        → AsksFor scope (Name q) name
         → name ≡ Some (record { space = space; local = q.local })
     name_asks q space is None e = cc
     name_asks q space is (Some n) (w, e, s) =
@@ -107,11 +111,16 @@ module _ (scope : Scope) where
       (λ (test, mid, takes, (tests, others, is)). (test ∷ tests, (more, mid, refl, takes, others), is ∙ joins done test tests)),
     )
       where
-        from : (tests : List Test) → TakesMore or_word (TakesTest scope deepest) (or_word ∷ more) tests [] → filter.tests ≡ done ++ tests → TestFirst scope filter done more
+        from : (tests : List Test) → TakesMore or_word (TakesTest scope deepest) (or_word ∷ more) tests [] → filter.tests ≡ done ++ tests
+            → TestFirst scope filter done more
         from [] e is = cc
         from (test ∷ tests) (after, mid, e, takes, others) is =
-            let tail : after ≡ more = cc in
-            (test, mid, subst (λ (ts : List Token). TakesTest scope deepest ts test mid) tail takes, (tests, others, is ∙ sym (joins done test tests)))
+            let tail : after ≡ more = cc in (
+              test,
+              mid,
+              subst (λ (ts : List Token). TakesTest scope deepest ts test mid) tail takes,
+              (tests, others, is ∙ sym (joins done test tests)),
+            )
 
     pub tested_other : (done : List Test) (t : Token) → t ≢ or_word → (more : List Token) → MoreTests scope filter done (t ∷ more) → ⊥
     tested_other done t other more (tests, takes, is) = from tests takes
@@ -124,7 +133,8 @@ module _ (scope : Scope) where
         → PredicateFirst scope filter done name (t ∷ more) ↔ MoreTests scope filter (done ++ test_of name None ∷ []) (t ∷ more)
     bare_named done name t other more = ((λ (p, mid, takes, rest). from p mid takes rest), (λ rest. (None, t ∷ more, refl, rest)))
       where
-        from : (p : Option Predicate) (mid : List Token) → TakesPredicate scope deepest (t ∷ more) p mid → MoreTests scope filter (done ++ test_of name p ∷ []) mid
+        from : (p : Option Predicate) (mid : List Token) → TakesPredicate scope deepest (t ∷ more) p mid
+            → MoreTests scope filter (done ++ test_of name p ∷ []) mid
             → MoreTests scope filter (done ++ test_of name None ∷ []) (t ∷ more)
         from None mid e rest = subst (MoreTests scope filter (done ++ test_of name None ∷ [])) (sym e) rest
         from (Some p) mid (inner, e, takes) rest = let h : t ≡ OpenBracket = cc in absurd (other h)
@@ -133,14 +143,16 @@ module _ (scope : Scope) where
 
   module _ (n : ℕ) (Then : Predicate → List Token → Type 0) where
     abbrev pub First : List Predicate → List Predicate → List Token → Type 0
-    First ors ands ts = (q : Predicate) × (mid : List Token) × TakesFactor scope n ts q mid × MoreFactors scope n Then ors (ands ++ q ∷ []) mid
+    First ors ands ts =
+        (q : Predicate) × (mid : List Token) × TakesFactor scope n ts q mid × MoreFactors scope n Then ors (ands ++ q ∷ []) mid
 
-    pub or_part : (ts : List Token) → ((p : Predicate) × (rest : List Token) × TakesOrs (TakesFactor scope n) ts p rest × Then p rest) ↔ First [] [] ts
+    pub or_part : (ts : List Token) → ((p : Predicate) × (rest : List Token) × TakesOrs (TakesFactor scope n) ts p rest × Then p rest) ↔
+        First [] [] ts
     or_part ts = (
       (λ (p, rest, takes, follow).
           let one = takes.one in
-          let is : p ≡ joined Or (joined And one.first one.others) takes.others =
-          takes.means ∙ ap (λ f. joined Or f takes.others) one.means in (
+          let is : p ≡ join_of Or (join_of And one.first one.others) takes.others =
+          takes.means ∙ ap (λ f. join_of Or f takes.others) one.means in (
             one.first,
             one.mid,
             one.one,
@@ -155,10 +167,10 @@ module _ (scope : Scope) where
             },
           )),
       (λ (q, mid, takes, more). (
-        joined Or (joined And q more.more_ands) more.more_ors,
+        join_of Or (join_of And q more.more_ands) more.more_ors,
         more.rest,
         record {
-          first = joined And q more.more_ands;
+          first = join_of And q more.more_ands;
           others = more.more_ors;
           mid = more.mid;
           one = record { first = q; others = more.more_ands; mid = mid; one = takes; more = more.takes_ands; means = refl };
@@ -183,7 +195,7 @@ module _ (scope : Scope) where
         rest = ts;
         takes_ands = refl;
         takes_ors = refl;
-        followed = subst (λ as'. Then (gathered Or (ors ++ (gathered And as' ∷ []))) ts) (sym (append-nil ands)) follow;
+        followed = subst (λ as'. Then (join_parts Or (ors ++ (join_parts And as' ∷ []))) ts) (sym (append-nil ands)) follow;
       }
 
       pub and_more : (more : List Token) → Refuses and_word → MoreFactors scope n Then ors ands (and_word ∷ more) ↔ First ors ands more
@@ -196,18 +208,21 @@ module _ (scope : Scope) where
           rest = m.rest;
           takes_ands = (more, mid, refl, takes, m.takes_ands);
           takes_ors = m.takes_ors;
-          followed = subst (λ as'. Then (gathered Or (ors ++ (gathered And as' ∷ m.more_ors))) m.rest) (joins ands q m.more_ands) m.followed;
+          followed = subst (λ as'. Then (join_parts Or (ors ++ (join_parts And as' ∷ m.more_ors))) m.rest) (joins ands q m.more_ands)
+              m.followed;
         }),
       )
         where
-          none : (xs : List Predicate) (mid rest : List Token) → and_word ∷ more ≡ mid → TakesMore or_word (TakesAnds (TakesFactor scope n)) mid xs rest
+          none : (xs : List Predicate) (mid rest : List Token) → and_word ∷ more ≡ mid
+              → TakesMore or_word (TakesAnds (TakesFactor scope n)) mid xs rest
               → (p : Predicate) → Then p rest → ⊥
           none [] mid rest e f p follow = refused p more (subst (Then p) (sym (e ∙ f)) follow)
           none (x ∷ xs) mid rest e (after, m, f, takes, others) p follow =
               and_not_or (head_of and_word or_word more after (e ∙ f)).0
 
           from : (as' os : List Predicate) (mid rest : List Token) → TakesMore and_word (TakesFactor scope n) (and_word ∷ more) as' mid
-              → TakesMore or_word (TakesAnds (TakesFactor scope n)) mid os rest → Then (gathered Or (ors ++ (gathered And (ands ++ as') ∷ os))) rest
+              → TakesMore or_word (TakesAnds (TakesFactor scope n)) mid os rest
+              → Then (join_parts Or (ors ++ (join_parts And (ands ++ as') ∷ os))) rest
               → First ors ands more
           from [] os mid rest e takes_ors follow = absurd (none os mid rest e takes_ors _ follow)
           from (q ∷ as') os mid rest (after, m, e, takes, others) takes_ors follow =
@@ -222,28 +237,46 @@ module _ (scope : Scope) where
                   rest = rest;
                   takes_ands = others;
                   takes_ors = takes_ors;
-                  followed = subst (λ bs. Then (gathered Or (ors ++ (gathered And bs ∷ os))) rest) (sym (joins ands q as')) follow;
+                  followed = subst (λ bs. Then (join_parts Or (ors ++ (join_parts And bs ∷ os))) rest) (sym (joins ands q as')) follow;
                 },
               )
 
-      pub or_more : (more : List Token) → Refuses or_word → MoreFactors scope n Then ors ands (or_word ∷ more) ↔ First (ors ++ gathered And ands ∷ []) [] more
+      pub or_more : (more : List Token) → Refuses or_word
+          → MoreFactors scope n Then ors ands (or_word ∷ more) ↔ First (ors ++ join_parts And ands ∷ []) [] more
       or_more more refused = (
         (λ m. from m.more_ands m.more_ors m.mid m.rest m.takes_ands m.takes_ors m.followed),
         (λ (q, mid, takes, m). record {
           more_ands = [];
-          more_ors = joined And q m.more_ands ∷ m.more_ors;
+          more_ors = join_of And q m.more_ands ∷ m.more_ors;
           mid = or_word ∷ more;
           rest = m.rest;
           takes_ands = refl;
-          takes_ors = (more, m.mid, refl, record { first = q; others = m.more_ands; mid = mid; one = takes; more = m.takes_ands; means = refl }, m.takes_ors);
+          takes_ors = (
+            more,
+            m.mid,
+            refl,
+            record {
+              first = q;
+              others = m.more_ands;
+              mid = mid;
+              one = takes;
+              more = m.takes_ands;
+              means =
+                  refl;
+            },
+            m.takes_ors,
+          );
           followed =
-              subst (λ as'. Then (gathered Or (ors ++ (gathered And as' ∷ (joined And q m.more_ands ∷ m.more_ors)))) m.rest) (sym (append-nil ands))
-              (subst (λ os. Then (gathered Or os) m.rest) (joins ors (gathered And ands) (joined And q m.more_ands ∷ m.more_ors)) m.followed);
+              subst (λ as'. Then (join_parts Or (ors ++ (join_parts And as' ∷ (join_of And q m.more_ands ∷ m.more_ors)))) m.rest)
+              (sym (append-nil ands))
+              (subst (λ os. Then (join_parts Or os) m.rest) (joins ors (join_parts And ands) (join_of And q m.more_ands ∷ m.more_ors))
+              m.followed);
         }),
       )
         where
-          inner : (xs : List Predicate) (mid rest : List Token) → or_word ∷ more ≡ mid → TakesMore or_word (TakesAnds (TakesFactor scope n)) mid xs rest
-              → Then (gathered Or (ors ++ (gathered And (ands ++ []) ∷ xs))) rest → First (ors ++ gathered And ands ∷ []) [] more
+          inner : (xs : List Predicate) (mid rest : List Token) → or_word ∷ more ≡ mid
+              → TakesMore or_word (TakesAnds (TakesFactor scope n)) mid xs rest
+              → Then (join_parts Or (ors ++ (join_parts And (ands ++ []) ∷ xs))) rest → First (ors ++ join_parts And ands ∷ []) [] more
           inner [] mid rest e f follow = absurd (refused _ more (subst (Then _) (sym (e ∙ f)) follow))
           inner (x ∷ xs) mid rest e (after, m, f, takes, others) follow =
               let tail = (head_of or_word or_word more after (e ∙ f)).1 in (
@@ -258,15 +291,17 @@ module _ (scope : Scope) where
                   takes_ands = takes.more;
                   takes_ors = others;
                   followed =
-                      subst (λ os. Then (gathered Or os) rest) (sym (joins ors (gathered And ands) (joined And takes.first takes.others ∷ xs)))
-                      (subst (λ y. Then (gathered Or (ors ++ (gathered And ands ∷ (y ∷ xs)))) rest) takes.means
-                      (subst (λ as'. Then (gathered Or (ors ++ (gathered And as' ∷ (x ∷ xs)))) rest) (append-nil ands) follow));
+                      subst (λ os. Then (join_parts Or os) rest) (sym (joins ors (join_parts And ands)
+                      (join_of And takes.first takes.others ∷ xs)))
+                      (subst (λ y. Then (join_parts Or (ors ++ (join_parts And ands ∷ (y ∷ xs)))) rest) takes.means
+                      (subst (λ as'. Then (join_parts Or (ors ++ (join_parts And as' ∷ (x ∷ xs)))) rest) (append-nil ands) follow));
                 },
               )
 
           from : (as' os : List Predicate) (mid rest : List Token) → TakesMore and_word (TakesFactor scope n) (or_word ∷ more) as' mid
-              → TakesMore or_word (TakesAnds (TakesFactor scope n)) mid os rest → Then (gathered Or (ors ++ (gathered And (ands ++ as') ∷ os))) rest
-              → First (ors ++ gathered And ands ∷ []) [] more
+              → TakesMore or_word (TakesAnds (TakesFactor scope n)) mid os rest
+              → Then (join_parts Or (ors ++ (join_parts And (ands ++ as') ∷ os))) rest
+              → First (ors ++ join_parts And ands ∷ []) [] more
           from [] os mid rest e takes_ors follow = inner os mid rest e takes_ors follow
           from (q ∷ as') os mid rest (after, m, e, takes, others) takes_ors follow =
               absurd (and_not_or (sym (head_of or_word and_word more after e).0))
@@ -278,15 +313,17 @@ module _ (scope : Scope) where
         no_more (t ∷ more),
       )
         where
-          inner : (xs : List Predicate) (mid rest : List Token) → t ∷ more ≡ mid → TakesMore or_word (TakesAnds (TakesFactor scope n)) mid xs rest
-              → Then (gathered Or (ors ++ (gathered And (ands ++ []) ∷ xs))) rest → Then (done_part ors ands) (t ∷ more)
+          inner : (xs : List Predicate) (mid rest : List Token) → t ∷ more ≡ mid
+              → TakesMore or_word (TakesAnds (TakesFactor scope n)) mid xs rest
+              → Then (join_parts Or (ors ++ (join_parts And (ands ++ []) ∷ xs))) rest → Then (done_part ors ands) (t ∷ more)
           inner [] mid rest e f follow =
-              subst (λ as'. Then (gathered Or (ors ++ (gathered And as' ∷ []))) (t ∷ more)) (append-nil ands)
-              (subst (Then (gathered Or (ors ++ (gathered And (ands ++ []) ∷ [])))) (sym (e ∙ f)) follow)
+              subst (λ as'. Then (join_parts Or (ors ++ (join_parts And as' ∷ []))) (t ∷ more)) (append-nil ands)
+              (subst (Then (join_parts Or (ors ++ (join_parts And (ands ++ []) ∷ [])))) (sym (e ∙ f)) follow)
           inner (x ∷ xs) mid rest e (after, m, f, takes, others) follow = absurd (no_or (head_of t or_word more after (e ∙ f)).0)
 
           from : (as' os : List Predicate) (mid rest : List Token) → TakesMore and_word (TakesFactor scope n) (t ∷ more) as' mid
-              → TakesMore or_word (TakesAnds (TakesFactor scope n)) mid os rest → Then (gathered Or (ors ++ (gathered And (ands ++ as') ∷ os))) rest
+              → TakesMore or_word (TakesAnds (TakesFactor scope n)) mid os rest
+              → Then (join_parts Or (ors ++ (join_parts And (ands ++ as') ∷ os))) rest
               → Then (done_part ors ands) (t ∷ more)
           from [] os mid rest e takes_ors follow = inner os mid rest e takes_ors follow
           from (q ∷ as') os mid rest (after, m, e, takes, others) takes_ors follow = absurd (no_and (head_of t and_word more after e).0)

@@ -1,5 +1,5 @@
--- Each text writes one filter, or stops at one place. (1) Reading goes on while tokens stand there; (2) a filter's tokens are one filter: reading them
--- leads to one place; (3) two readings of one text: one goes on from the other.
+-- Each text writes one filter, or stops at one place. (1) Reading goes on while tokens stand there;
+-- (2) a filter's tokens are one filter: reading them leads to one place; (3) two readings of one text: one goes on from the other.
 use Rattle.std.proofs.Common.{◌≡◌, ℕ, ◌+◌, ◌<◌, List, [], ◌∷◌, ◌++◌, length, refl, ap, sym, ◌∙◌, subst, arith, inl, inr, Option, Some, None, append_assoc}
 use Rattle.std.specs.Prelude.{◌⊎◌, chars}
 use Rattle.std.proofs.lemmas.List.{append-nil}
@@ -10,10 +10,10 @@ use Rattle.ifmap_filter.specs.declared.filters.Filter.{Filter}
 use Rattle.ifmap_filter.specs.declared.tokens.Token.{Token}
 use Rattle.ifmap_filter.specs.Grammar.{IsFilter, deepest}
 use Rattle.ifmap_filter.specs.Laws.{FilterOrStop, OneFilter, OnePlace, StopsWhereNone}
-use Rattle.ifmap_filter.specs.Progress.{GoesOn, Where, Start, nesting, step, whole}
-use Rattle.ifmap_filter.specs.Reaching.{Reached}
+use Rattle.ifmap_filter.specs.Progress.{GoesOn, Where, Start, nesting, step, filter_at}
+use Rattle.ifmap_filter.specs.Reaching.{Reaches}
 use Rattle.ifmap_filter.specs.Texts.{BeginsFilter, StopsAt, Writes, offset}
-use Rattle.ifmap_filter.specs.Tokens.{IsEnd, Taken, Takes, token_at, without_white}
+use Rattle.ifmap_filter.specs.Tokens.{IsEnd, FrontToken, Takes, token_at, without_white}
 use Rattle.ifmap_filter.proofs.Ending.{EndsAt, ends}
 use Rattle.ifmap_filter.proofs.Stepping.{IsRight, right}
 use Rattle.ifmap_filter.proofs.Reaching.{at_start, later_length, next_place, only_taken, not_end, stops_at_end, stops_at_token, stops_where_none, taken_later, whole_text}
@@ -25,23 +25,25 @@ module _ (text : List ℕ) (scope : Scope) where
   Outcome = ((filter : Filter) × Writes text scope filter) ⊎ ((at : ℕ) × StopsAt text scope at)
 
   abbrev Reads : List ℕ → Type 0
-  Reads cs = (w : Where) → Reached text scope w cs → Outcome
+  Reads cs = (w : Where) → Reaches text scope w cs → Outcome
 
-  module _ (cs : List ℕ) (shorter : (ds : List ℕ) → length ds < length cs → Reads ds) (w : Where) (r : Reached text scope w cs) where
-    at_token : (t : Token) (rest : List ℕ) → Takes cs t rest → ((next : Where) × (step scope w t ≡ Some next)) ⊎ (step scope w t ≡ None) → Outcome
+  module _ (cs : List ℕ) (shorter : (ds : List ℕ) → length ds < length cs → Reads ds) (w : Where) (r : Reaches text scope w cs) where
+    at_token : (t : Token) (rest : List ℕ) → Takes cs t rest → ((next : Where) × (step scope w t ≡ Some next)) ⊎ (step scope w t ≡ None)
+        → Outcome
     at_token t rest takes (inl (next, is)) =
         shorter rest (later_length cs rest (taken_later cs t rest takes)) next (next_place text scope w cs r t rest takes next is)
     at_token t rest takes (inr none) = inr (offset text cs, stops_at_token text scope w cs r t rest takes none)
 
-    at_end : IsEnd cs → ((filter : Filter) × (whole w ≡ Some filter)) ⊎ (whole w ≡ None) → Outcome
+    at_end : IsEnd cs → ((filter : Filter) × (filter_at w ≡ Some filter)) ⊎ (filter_at w ≡ None) → Outcome
     at_end end (inl (filter, is)) = inl (filter, whole_text text scope w cs r end filter is)
     at_end end (inr none) = inr (offset text cs, stops_at_end text scope w cs r end none)
 
     at_none : token_at (without_white cs) ≡ None → (ds : List ℕ) → without_white cs ≡ ds → Outcome
-    at_none none [] end = at_end end (value_or_none (whole w))
-    at_none none (d ∷ ds) some = inr (offset text cs, stops_where_none text scope w cs r none (λ e. let wrong : [] ≡ d ∷ ds = sym e ∙ some in cc))
+    at_none none [] end = at_end end (value_or_none (filter_at w))
+    at_none none (d ∷ ds) some =
+        inr (offset text cs, stops_where_none text scope w cs r none (λ e. let wrong : [] ≡ d ∷ ds = sym e ∙ some in cc))
 
-    reads_on : ((k : Taken) × (token_at (without_white cs) ≡ Some k)) ⊎ (token_at (without_white cs) ≡ None) → Outcome
+    reads_on : ((k : FrontToken) × (token_at (without_white cs) ≡ Some k)) ⊎ (token_at (without_white cs) ≡ None) → Outcome
     reads_on (inl (k, is)) = at_token k.token k.rest is (value_or_none (step scope w k.token))
     reads_on (inr none) = at_none none (without_white cs) refl
 
@@ -67,7 +69,7 @@ module _ (scope : Scope) where
   one_after n w t ts (Some next) others (m, e, is) f g a b = others m next e f g ((is f ts).0 a) ((is g ts).0 b)
 
   one : (ts : List Token) (n : ℕ) (w : Where) → n + nesting w ≡ deepest → IsOne n w ts
-  one [] n w e = one_at_end n w (whole w) (ends scope n w)
+  one [] n w e = one_at_end n w (filter_at w) (ends scope n w)
   one (t ∷ ts) n w e = one_after n w t ts (step scope w t) (λ m next f. one ts m next f) (right scope n w e t)
 
   pub tokens_are_one : (ts : List Token) (f g : Filter) → IsFilter scope ts f → IsFilter scope ts g → f ≡ g
@@ -77,7 +79,8 @@ module _ (scope : Scope) where
 
 -- one goes on from the other, or both stand at one place
 abbrev IsFurther : List Token → List ℕ → List Token → List ℕ → Type 0
-IsFurther ts rest us after = (t : Token) × (mid : List ℕ) × (more : List Token) × (us ≡ ts ++ (t ∷ more)) × Takes rest t mid × To Takes mid more after
+IsFurther ts rest us after =
+    (t : Token) × (mid : List ℕ) × (more : List Token) × (us ≡ ts ++ (t ∷ more)) × Takes rest t mid × To Takes mid more after
 
 compare : (cs : List ℕ) (ts us : List Token) (rest after : List ℕ) → To Takes cs ts rest → To Takes cs us after
     → ((ts ≡ us) × (rest ≡ after)) ⊎ (IsFurther ts rest us after ⊎ IsFurther us after ts rest)
@@ -95,7 +98,8 @@ compare cs (t ∷ ts) (u ∷ us) rest after (mid, takes, others) (mid', also, mo
     ]
 
 -- tokens that go on from a stop begin no filter
-past_stop : (text : List ℕ) (scope : Scope) (at : ℕ) (s : StopsAt text scope at) (us : List Token) (after : List ℕ) → IsFurther s.tokens s.rest us after
+past_stop : (text : List ℕ) (scope : Scope) (at : ℕ) (s : StopsAt text scope at) (us : List Token) (after : List ℕ)
+    → IsFurther s.tokens s.rest us after
     → BeginsFilter scope us → ⊥
 past_stop text scope at s us after (t, mid, more, e, takes, others) b =
     let all : us ++ b.more ≡ (s.tokens ++ t ∷ []) ++ (more ++ b.more) =
@@ -104,7 +108,8 @@ past_stop text scope at s us after (t, mid, more, e, takes, others) b =
     (record { more = more ++ b.more; filter = b.filter; filter_is = subst (λ ts. IsFilter scope ts b.filter) all b.filter_is })
 
 filter_begins : (scope : Scope) (ts : List Token) (filter : Filter) → IsFilter scope ts filter → BeginsFilter scope ts
-filter_begins scope ts filter is = record { more = []; filter = filter; filter_is = subst (λ us. IsFilter scope us filter) (sym (append-nil ts)) is }
+filter_begins scope ts filter is =
+    record { more = []; filter = filter; filter_is = subst (λ us. IsFilter scope us filter) (sym (append-nil ts)) is }
 
 pub stops_where_no_filter : StopsWhereNone
 stops_where_no_filter text scope at s filter w = elim (compare (chars text) s.tokens w.tokens s.rest w.rest s.lexed w.lexed) [

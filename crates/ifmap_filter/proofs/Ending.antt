@@ -7,13 +7,13 @@ use Rattle.ifmap_reader.specs.declared.scoping.Scope.{Scope}
 use Rattle.ifmap_filter.specs.declared.filters.Predicate.{Predicate, And, Attr, Or}
 use Rattle.ifmap_filter.specs.declared.filters.Test.{Test}
 use Rattle.ifmap_filter.specs.declared.filters.Filter.{Filter}
-use Rattle.ifmap_filter.specs.declared.standing.Frame.{Frame}
-use Rattle.ifmap_filter.specs.declared.standing.Asked.{Asked}
-use Rattle.ifmap_filter.specs.declared.standing.Asked.TheVariants as asked
+use Rattle.ifmap_filter.specs.declared.standing.OuterPart.{OuterPart}
+use Rattle.ifmap_filter.specs.declared.standing.Operand.{Operand}
+use Rattle.ifmap_filter.specs.declared.standing.Operand.TheVariants as operand
 use Rattle.ifmap_filter.specs.declared.tokens.Token.{Token}
 use Rattle.ifmap_filter.specs.declared.tokens.Token.TheVariants.{Any, CloseBracket, CloseParenthesis, EqualsSign, At, Name, Literal}
-use Rattle.ifmap_filter.specs.Grammar.{AreTests, IsFilter, TakesAnds, TakesFactor, TakesMore, TakesPredicate, TakesTest, and_word, bare, deepest, or_word}
-use Rattle.ifmap_filter.specs.Progress.{Closes, Context, Where, Start, TestDue, Named, Tested, FactorDue, LocalDue, EqualsDue, LiteralDue, FactorDone, AfterFactor, GoesOn, MoreTests, PredicateFirst, TestFirst, compared, done_part, gathered, test_of, whole, with_factor}
+use Rattle.ifmap_filter.specs.Grammar.{AreTests, IsFilter, TakesAnds, TakesFactor, TakesMore, TakesPredicate, TakesTest, and_word, bare_name, deepest, or_word}
+use Rattle.ifmap_filter.specs.Progress.{Closes, Context, Where, Start, TestDue, Named, Tested, FactorDue, LocalDue, EqualsDue, LiteralDue, FactorDone, AfterFactor, GoesOn, MoreTests, PredicateFirst, TestFirst, comparison_of, done_part, join_parts, test_of, filter_at, with_factor}
 use Rattle.ifmap_filter.proofs.Continuing.{no_more}
 
 module _ (scope : Scope) where
@@ -30,7 +30,8 @@ module _ (scope : Scope) where
     (λ e. ([], refl, ap (λ (f : Filter). f.tests) e ∙ sym (append-nil done))),
   )
     where
-      from : (tests : List Test) → TakesMore or_word (TakesTest scope deepest) [] tests [] → filter.tests ≡ done ++ tests → filter ≡ record { tests = done }
+      from : (tests : List Test) → TakesMore or_word (TakesTest scope deepest) [] tests [] → filter.tests ≡ done ++ tests
+          → filter ≡ record { tests = done }
       from [] e is = let same : filter.tests ≡ done = is ∙ append-nil done in (λ i. record { tests = same i })
       from (test ∷ tests) (after, mid, e, takes, others) is = cc
 
@@ -44,10 +45,12 @@ module _ (scope : Scope) where
     (λ e. (None, [], refl, (nothing_more filter (done ++ test_of name None ∷ [])).1 e)),
   )
     where
-      from : (p : Option Predicate) (mid : List Token) → TakesPredicate scope deepest [] p mid → MoreTests scope filter (done ++ test_of name p ∷ []) mid
+      from : (p : Option Predicate) (mid : List Token) → TakesPredicate scope deepest [] p mid
+          → MoreTests scope filter (done ++ test_of name p ∷ []) mid
           → filter ≡ record { tests = done ++ test_of name None ∷ [] }
       from None mid e rest =
-          (nothing_more filter (done ++ test_of name None ∷ [])).0 (subst (MoreTests scope filter (done ++ test_of name None ∷ [])) (sym e) rest)
+          (nothing_more filter (done ++ test_of name None ∷ [])).0
+          (subst (MoreTests scope filter (done ++ test_of name None ∷ [])) (sym e) rest)
       from (Some p) mid (inner, e, takes) rest = cc
 
   nothing_started : (filter : Filter) → IsFilter scope [] filter ↔ (filter ≡ record { tests = [] })
@@ -67,10 +70,10 @@ module _ (scope : Scope) where
   no_factor (suc m) p mid (inl (inr ch)) = let e : [] ≡ Name ch.written ∷ _ = ch.tokens_are in cc
   no_factor (suc m) p mid (inr (inner, e, takes)) = cc
 
-  no_close : (filter : Filter) (tests : List Test) (name : Option element.Name) (n : ℕ) (outer : List Frame) (p : Predicate)
+  no_close : (filter : Filter) (tests : List Test) (name : Option element.Name) (n : ℕ) (outer : List OuterPart) (p : Predicate)
       → Closes scope filter tests name n outer p [] → ⊥
   no_close filter tests name n [] p (after, e, rest) = cc
-  no_close filter tests name n (frame ∷ outer) p (after, e, rest) = cc
+  no_close filter tests name n (outer_part ∷ outer) p (after, e, rest) = cc
 
   no_end : (n : ℕ) (filter : Filter) (c : Context) → AfterFactor scope filter n c [] → ⊥
   no_end n filter c m = from m.more_ands m.more_ors m.mid m.rest m.takes_ands m.takes_ors m.followed
@@ -83,17 +86,17 @@ module _ (scope : Scope) where
 
       from : (as' os : List Predicate) (mid rest : List Token) → TakesMore and_word (TakesFactor scope n) [] as' mid
           → TakesMore or_word (TakesAnds (TakesFactor scope n)) mid os rest
-          → Closes scope filter c.tests c.name n c.outer (gathered Or (c.ors ++ (gathered And (c.ands ++ as') ∷ os))) rest → ⊥
+          → Closes scope filter c.tests c.name n c.outer (join_parts Or (c.ors ++ (join_parts And (c.ands ++ as') ∷ os))) rest → ⊥
       from [] os mid rest e takes_ors close = inner os mid rest e takes_ors _ close
       from (a ∷ as') os mid rest (after, m, e, takes, others) takes_ors close = cc
 
-  pub ends : (n : ℕ) (w : Where) → EndsAt n w (whole w)
+  pub ends : (n : ℕ) (w : Where) → EndsAt n w (filter_at w)
   ends n Start = nothing_started
   ends n (TestDue done) = λ filter goes. no_test filter done goes
   ends n (Named done name) = λ filter. nothing_named filter done name
   ends n (Tested done) = λ filter. nothing_more filter done
   ends n (FactorDue c) = λ filter goes. no_factor n goes.0 goes.1 goes.2
-  ends n (LocalDue c) = λ filter goes. let e : [] ≡ Name (bare goes.0) ∷ goes.1 = goes.2 in cc
+  ends n (LocalDue c) = λ filter goes. let e : [] ≡ Name (bare_name goes.0) ∷ goes.1 = goes.2 in cc
   ends n (EqualsDue c a) = λ filter goes. let e : [] ≡ EqualsSign ∷ goes.0 = goes.1 in cc
   ends n (LiteralDue c a) = λ filter goes. let e : [] ≡ Literal goes.0 ∷ goes.1 = goes.2 in cc
   ends n (FactorDone c) = λ filter goes. no_end n filter c goes
@@ -103,18 +106,18 @@ module _ (scope : Scope) where
   abbrev SomeFilter : (Filter → List Token → Type 0) → Type 0
   SomeFilter Goes = (filter : Filter) × (ts : List Token) × Goes filter ts
 
-  closable : (tests : List Test) (name : Option element.Name) (n : ℕ) (outer : List Frame) (p : Predicate)
+  closable : (tests : List Test) (name : Option element.Name) (n : ℕ) (outer : List OuterPart) (p : Predicate)
       → SomeFilter (λ filter ts. Closes scope filter tests name n outer p ts)
   closable tests name n [] p = (
     record { tests = tests ++ test_of name (Some p) ∷ [] },
     CloseBracket ∷ [],
     ([], refl, ([], refl, sym (append-nil (tests ++ test_of name (Some p) ∷ [])))),
   )
-  closable tests name n (frame ∷ outer) p =
-      let c = closable tests name (suc n) outer (done_part frame.ors (frame.ands ++ p ∷ [])) in (
+  closable tests name n (outer_part ∷ outer) p =
+      let c = closable tests name (suc n) outer (done_part outer_part.ors (outer_part.ands ++ p ∷ [])) in (
         c.0,
         CloseParenthesis ∷ c.1,
-        (c.1, refl, no_more scope (suc n) (Closes scope c.0 tests name (suc n) outer) frame.ors (frame.ands ++ p ∷ []) c.1 c.2),
+        (c.1, refl, no_more scope (suc n) (Closes scope c.0 tests name (suc n) outer) outer_part.ors (outer_part.ands ++ p ∷ []) c.1 c.2),
       )
 
   after_factor : (n : ℕ) (c : Context) → SomeFilter (λ filter ts. AfterFactor scope filter n c ts)
@@ -122,13 +125,13 @@ module _ (scope : Scope) where
       let closed = closable c.tests c.name n c.outer (done_part c.ors c.ands) in
       (closed.0, closed.1, no_more scope n (Closes scope closed.0 c.tests c.name n c.outer) c.ors c.ands closed.1 closed.2)
 
-  literal : (n : ℕ) (c : Context) (a : Asked) → SomeFilter (λ filter ts. GoesOn scope filter n (LiteralDue c a) ts)
-  literal n c a = let f = after_factor n (with_factor c (compared a [])) in (f.0, Literal [] ∷ f.1, ([], f.1, refl, f.2))
+  literal : (n : ℕ) (c : Context) (a : Operand) → SomeFilter (λ filter ts. GoesOn scope filter n (LiteralDue c a) ts)
+  literal n c a = let f = after_factor n (with_factor c (comparison_of a [])) in (f.0, Literal [] ∷ f.1, ([], f.1, refl, f.2))
 
-  equals : (n : ℕ) (c : Context) (a : Asked) → SomeFilter (λ filter ts. GoesOn scope filter n (EqualsDue c a) ts)
+  equals : (n : ℕ) (c : Context) (a : Operand) → SomeFilter (λ filter ts. GoesOn scope filter n (EqualsDue c a) ts)
   equals n c a = let f = literal n c a in (f.0, EqualsSign ∷ f.1, (f.1, refl, f.2))
 
-  attribute_first : (n : ℕ) (ts mid : List Token) → ts ≡ At ∷ (Name (bare []) ∷ (EqualsSign ∷ (Literal [] ∷ mid)))
+  attribute_first : (n : ℕ) (ts mid : List Token) → ts ≡ At ∷ (Name (bare_name []) ∷ (EqualsSign ∷ (Literal [] ∷ mid)))
       → TakesFactor scope n ts (Attr [] []) mid
   attribute_first zero ts mid e = inl (record { local = []; value = []; tokens_are = e; means = refl })
   attribute_first (suc n) ts mid e = inl (inl (record { local = []; value = []; tokens_are = e; means = refl }))
@@ -148,14 +151,17 @@ module _ (scope : Scope) where
   pub goes_on : (n : ℕ) (w : Where) → SomeFilter (λ filter ts. GoesOn scope filter n w ts)
   goes_on n Start = (record { tests = [] }, [], refl)
   goes_on n (TestDue done) = test_first done
-  goes_on n (Named done name) =
-      (record { tests = done ++ test_of name None ∷ [] }, [], (None, [], refl, ([], refl, sym (append-nil (done ++ test_of name None ∷ [])))))
+  goes_on n (Named done name) = (
+    record { tests = done ++ test_of name None ∷ [] },
+    [],
+    (None, [], refl, ([], refl, sym (append-nil (done ++ test_of name None ∷ [])))),
+  )
   goes_on n (Tested done) = (record { tests = done }, [], ([], refl, sym (append-nil done)))
   goes_on n (FactorDue c) =
       let f = after_factor n (with_factor c (Attr [] [])) in
-      (f.0, At ∷ (Name (bare []) ∷ (EqualsSign ∷ (Literal [] ∷ f.1))), (Attr [] [], f.1, attribute_first n _ f.1 refl, f.2))
+      (f.0, At ∷ (Name (bare_name []) ∷ (EqualsSign ∷ (Literal [] ∷ f.1))), (Attr [] [], f.1, attribute_first n _ f.1 refl, f.2))
   goes_on n (LocalDue c) =
-      let f = equals n c (asked.Attribute []) in (f.0, Name (bare []) ∷ f.1, ([], f.1, refl, f.2))
+      let f = equals n c (operand.Attribute []) in (f.0, Name (bare_name []) ∷ f.1, ([], f.1, refl, f.2))
   goes_on n (EqualsDue c a) = equals n c a
   goes_on n (LiteralDue c a) = literal n c a
   goes_on n (FactorDone c) = after_factor n c

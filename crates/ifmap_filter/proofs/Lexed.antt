@@ -1,6 +1,8 @@
--- Texts whose characters are tokens, whatever stands after them. (1) Two texts in a row; (2) the tokens that are one character, and white space;
--- (3) names and words; (4) literals; (5) what is known of the tokens of a text: a name's local part is one, and a literal has no quote of one
--- kind.
+-- Texts whose characters are tokens, whatever stands after them. Plan:
+-- (1) two texts in a row are the tokens of the one and then those of the other, where a name of the first ends before the second;
+-- (2) the tokens that are one character, and white space before a token;
+-- (3) names with a prefix and without, and the words that join; (4) literals;
+-- (5) what is known of the tokens of a text: a name's local part is a name part, and a literal has no quote of one kind.
 use Rattle.std.proofs.Common.{◌≡◌, ℕ, Bool, true, false, List, [], ◌∷◌, ◌++◌, refl, ap, sym, ◌∙◌, subst, arith, ◌<◌, Some, None, append_assoc}
 use Rattle.std.specs.Prelude.{◌==◌, if◌then◌else◌, IsUtf8, chars, codes, encode_utf8_all}
 use Rattle.std.specs.Str.{all_scalars}
@@ -13,8 +15,8 @@ use Rattle.ifmap_elem.specs.Chars.{AllAre, colon, double_quote, is_white, single
 use Rattle.ifmap_elem.specs.Names.{is_name_character, is_name_start}
 use Rattle.ifmap_filter.specs.declared.tokens.Token.{Token}
 use Rattle.ifmap_filter.specs.declared.tokens.Token.TheVariants.{Any, OpenBracket, CloseBracket, OpenParenthesis, CloseParenthesis, EqualsSign, At, Name}
-use Rattle.ifmap_filter.specs.Grammar.{and_word, bare, or_word}
-use Rattle.ifmap_filter.specs.Tokens.{Takes, after_while, front_while, is_quote, name_from, name_token, part_bytes, prefixed_name_at, symbol_of, taken, token_at, without_white}
+use Rattle.ifmap_filter.specs.Grammar.{and_word, bare_name, or_word}
+use Rattle.ifmap_filter.specs.Tokens.{Takes, after_while, front_while, is_quote, name_from, name_token, part_bytes, prefixed_name_at, symbol_of, front_token, token_at, without_white}
 use Rattle.ifmap_filter.proofs.TokenLaws.{named, one_symbol}
 
 -- a name ends here
@@ -23,7 +25,7 @@ Ends [] = Unit {0}
 Ends (c ∷ cs) = (is_name_character c ≡ false) × ((c == colon) ≡ false)
 
 -- the text's characters are these tokens, whatever stands after them at which a name ends
-pub record Lexed (text : List ℕ) (ts : List Token) : Type 0 where
+pub record Lexes (text : List ℕ) (ts : List Token) : Type 0 where
   pub is_text : IsUtf8 text
   pub to : (cs : List ℕ) → Ends cs → To Takes (chars text ++ cs) ts cs
 
@@ -37,14 +39,15 @@ to_both : (bs mid end : List ℕ) (xs ys : List Token) → To Takes bs xs mid �
 to_both bs mid end [] ys l m = subst (λ b. To Takes b ys end) (sym l) m
 to_both bs mid end (x ∷ xs) ys l m = (l.0, l.1, to_both l.0 mid end xs ys l.2 m)
 
-pub both : (a b : List ℕ) (s t : List Token) → Lexed a s → Lexed b t → EndsName b → Lexed (a ++ b) (s ++ t)
+pub both : (a b : List ℕ) (s t : List Token) → Lexes a s → Lexes b t → EndsName b → Lexes (a ++ b) (s ++ t)
 both a b s t l m ends = record {
   is_text = IsUtf8-append a b l.is_text m.is_text;
-  to = λ cs e. subst (λ x. To Takes x (s ++ t) cs) (sym (ap (λ x. x ++ cs) (chars-append a b l.is_text) ∙ append_assoc (chars a) (chars b) cs))
+  to = λ cs e. subst (λ x. To Takes x (s ++ t) cs) (sym
+      (ap (λ x. x ++ cs) (chars-append a b l.is_text) ∙ append_assoc (chars a) (chars b) cs))
       (to_both (chars a ++ (chars b ++ cs)) (chars b ++ cs) cs s t (l.to (chars b ++ cs) (ends cs e)) (m.to cs e));
 }
 
-pub nothing : Lexed [] []
+pub nothing : Lexes [] []
 nothing = record { is_text = IsUtf8-nil; to = λ cs e. ap (λ x. x ++ cs) chars-nil }
 
 pub nothing_ends : EndsName []
@@ -90,14 +93,14 @@ module _ (c : ℕ) (t : Token) (s : IsSymbol c t) where
   symbol_takes : (more : List ℕ) → Takes (c ∷ more) t more
   symbol_takes more = ap token_at (not_white c more s.no_white) ∙ one_symbol (c ∷ more) c more refl s.no_quote s.no_start t s.is
 
-  pub before : (text : List ℕ) (ts : List Token) → Lexed text ts → Lexed (c ∷ text) (t ∷ ts)
+  pub before : (text : List ℕ) (ts : List Token) → Lexes text ts → Lexes (c ∷ text) (t ∷ ts)
   before text ts l = record {
     is_text = after_one c s.one text l.is_text;
     to = λ cs e. subst (λ x. To Takes x (t ∷ ts) cs) (sym (ap (λ x. x ++ cs) (one_first c s.one text)))
         (chars text ++ cs, symbol_takes (chars text ++ cs), l.to cs e);
   }
 
-  pub symbol_alone : Lexed (c ∷ []) (t ∷ [])
+  pub symbol_alone : Lexes (c ∷ []) (t ∷ [])
   symbol_alone = before [] [] nothing
 
   pub symbol_ends : (text : List ℕ) → EndsName (c ∷ text)
@@ -107,25 +110,88 @@ pub one_of : (c : ℕ) → all_scalars (c ∷ []) ≡ true → c < 128 → IsOne
 one_of c a low = record { scalar = a; one = ap (λ l. l ++ []) (encode_ascii c low) }
 
 pub any_is : IsSymbol 0x2A Any
-any_is = record { one = one_of 0x2A refl (omega arith); no_quote = refl; no_start = refl; no_character = refl; no_colon = refl; no_white = refl; is = refl }
+any_is =
+    record {
+      one = one_of 0x2A refl (omega arith);
+      no_quote = refl;
+      no_start = refl;
+      no_character = refl;
+      no_colon = refl;
+      no_white = refl;
+      is = refl;
+    }
 
 pub open_bracket_is : IsSymbol 0x5B OpenBracket
-open_bracket_is = record { one = one_of 0x5B refl (omega arith); no_quote = refl; no_start = refl; no_character = refl; no_colon = refl; no_white = refl; is = refl }
+open_bracket_is =
+    record {
+      one = one_of 0x5B refl (omega arith);
+      no_quote = refl;
+      no_start = refl;
+      no_character = refl;
+      no_colon = refl;
+      no_white = refl;
+      is = refl;
+    }
 
 pub close_bracket_is : IsSymbol 0x5D CloseBracket
-close_bracket_is = record { one = one_of 0x5D refl (omega arith); no_quote = refl; no_start = refl; no_character = refl; no_colon = refl; no_white = refl; is = refl }
+close_bracket_is =
+    record {
+      one = one_of 0x5D refl (omega arith);
+      no_quote = refl;
+      no_start = refl;
+      no_character = refl;
+      no_colon = refl;
+      no_white = refl;
+      is = refl;
+    }
 
 pub open_is : IsSymbol 0x28 OpenParenthesis
-open_is = record { one = one_of 0x28 refl (omega arith); no_quote = refl; no_start = refl; no_character = refl; no_colon = refl; no_white = refl; is = refl }
+open_is =
+    record {
+      one = one_of 0x28 refl (omega arith);
+      no_quote = refl;
+      no_start = refl;
+      no_character = refl;
+      no_colon = refl;
+      no_white = refl;
+      is = refl;
+    }
 
 pub close_is : IsSymbol 0x29 CloseParenthesis
-close_is = record { one = one_of 0x29 refl (omega arith); no_quote = refl; no_start = refl; no_character = refl; no_colon = refl; no_white = refl; is = refl }
+close_is =
+    record {
+      one = one_of 0x29 refl (omega arith);
+      no_quote = refl;
+      no_start = refl;
+      no_character = refl;
+      no_colon = refl;
+      no_white = refl;
+      is = refl;
+    }
 
 pub equals_is : IsSymbol 0x3D EqualsSign
-equals_is = record { one = one_of 0x3D refl (omega arith); no_quote = refl; no_start = refl; no_character = refl; no_colon = refl; no_white = refl; is = refl }
+equals_is =
+    record {
+      one = one_of 0x3D refl (omega arith);
+      no_quote = refl;
+      no_start = refl;
+      no_character = refl;
+      no_colon = refl;
+      no_white = refl;
+      is = refl;
+    }
 
 pub at_is : IsSymbol 0x40 At
-at_is = record { one = one_of 0x40 refl (omega arith); no_quote = refl; no_start = refl; no_character = refl; no_colon = refl; no_white = refl; is = refl }
+at_is =
+    record {
+      one = one_of 0x40 refl (omega arith);
+      no_quote = refl;
+      no_start = refl;
+      no_character = refl;
+      no_colon = refl;
+      no_white = refl;
+      is = refl;
+    }
 
 white_is : IsOne space_character
 white_is = one_of space_character refl (omega arith)
@@ -133,7 +199,7 @@ white_is = one_of space_character refl (omega arith)
 pub white_ends : (text : List ℕ) → EndsName (space_character ∷ text)
 white_ends = one_ends space_character white_is refl refl
 
-pub spaced : (text : List ℕ) (t : Token) (ts : List Token) → Lexed text (t ∷ ts) → Lexed (space_character ∷ text) (t ∷ ts)
+pub spaced : (text : List ℕ) (t : Token) (ts : List Token) → Lexes text (t ∷ ts) → Lexes (space_character ∷ text) (t ∷ ts)
 spaced text t ts l = record {
   is_text = after_one space_character white_is text l.is_text;
   to = λ cs e. subst (λ x. To Takes x (t ∷ ts) cs) (sym (ap (λ x. x ++ cs) (one_first space_character white_is text))) (l.to cs e);
@@ -170,7 +236,8 @@ start_is_other : (c n : ℕ) → is_name_start n ≡ false → is_name_start c �
 start_is_other c n off on = is_other c n (λ e. let wrong : false ≡ true = sym off ∙ subst (λ (m : ℕ). is_name_start m ≡ true) e on in cc)
 
 start_no_white : (c : ℕ) → is_name_start c ≡ true → is_white c ≡ false
-start_no_white c h = rw (start_is_other c 0x20 refl h, start_is_other c 0x9 refl h, start_is_other c 0xD refl h, start_is_other c 0xA refl h) refl
+start_no_white c h =
+    rw (start_is_other c 0x20 refl h, start_is_other c 0x9 refl h, start_is_other c 0xD refl h, start_is_other c 0xA refl h) refl
 
 start_no_quote : (c : ℕ) → is_name_start c ≡ true → is_quote c ≡ false
 start_no_quote c h = rw (start_is_other c double_quote refl h, start_is_other c single_quote refl h) refl
@@ -179,7 +246,7 @@ stops_at_end : (cs : List ℕ) → Ends cs → Stops is_name_character cs
 stops_at_end [] e = tt
 stops_at_end (c ∷ cs) e = e.0
 
-from_end : (part cs : List ℕ) → Ends cs → name_from part cs ≡ Some (taken (Name (bare part)) cs)
+from_end : (part cs : List ℕ) → Ends cs → name_from part cs ≡ Some (front_token (Name (bare_name part)) cs)
 from_end part [] e = refl
 from_end part (c ∷ cs) e = rw (e.1) refl
 
@@ -204,10 +271,10 @@ module _ (bytes : List ℕ) (p : IsPart bytes) where
       ∙ named (p.first ∷ (p.others ++ rest)) p.first (p.others ++ rest) refl (start_no_quote p.first p.begins) p.begins
       ∙ (λ i. name_from (part_front rest s i) (part_after rest s i))
 
-  pub lexed_bare : Lexed bytes (Name (bare bytes) ∷ [])
+  pub lexed_bare : Lexes bytes (Name (bare_name bytes) ∷ [])
   lexed_bare = record {
     is_text = part_text;
-    to = λ cs e. subst (λ x. To Takes x (Name (bare bytes) ∷ []) cs) (sym (ap (λ x. x ++ cs) part_chars))
+    to = λ cs e. subst (λ x. To Takes x (Name (bare_name bytes) ∷ []) cs) (sym (ap (λ x. x ++ cs) part_chars))
         (cs, part_token cs (stops_at_end cs e) ∙ from_end bytes cs e, refl);
   }
 
@@ -216,14 +283,17 @@ colon_is = one_of colon refl (omega arith)
 
 module _ (prefix local : List ℕ) (p : IsPart prefix) (q : IsPart local) where
   prefixed_here : (rest : List ℕ) → Stops is_name_character rest
-      → prefixed_name_at prefix ((q.first ∷ q.others) ++ rest) ≡ Some (taken (name_token prefix local) rest)
-  prefixed_here rest s = by ∙ (λ i. Some (taken (name_token prefix (part_front local q rest s i)) (part_after local q rest s i)))
+      → prefixed_name_at prefix ((q.first ∷ q.others) ++ rest) ≡ Some (front_token (name_token prefix local) rest)
+  prefixed_here rest s = by ∙ (λ i. Some (front_token (name_token prefix (part_front local q rest s i)) (part_after local q rest s i)))
     where
       by : prefixed_name_at prefix ((q.first ∷ q.others) ++ rest)
-          ≡ Some (taken (name_token prefix (part_bytes ((q.first ∷ q.others) ++ rest))) (after_while is_name_character ((q.first ∷ q.others) ++ rest)))
+          ≡ Some (front_token (name_token prefix (part_bytes ((q.first ∷ q.others) ++ rest)))
+          (after_while is_name_character ((q.first ∷ q.others) ++ rest)))
       by = subst
-          (λ b. (if b then Some (taken (name_token prefix (part_bytes ((q.first ∷ q.others) ++ rest))) (after_while is_name_character ((q.first ∷ q.others) ++ rest))) else None)
-          ≡ Some (taken (name_token prefix (part_bytes ((q.first ∷ q.others) ++ rest))) (after_while is_name_character ((q.first ∷ q.others) ++ rest))))
+          (λ b. (if b then Some (front_token (name_token prefix (part_bytes ((q.first ∷ q.others) ++ rest)))
+          (after_while is_name_character ((q.first ∷ q.others) ++ rest))) else None)
+          ≡ Some (front_token (name_token prefix (part_bytes ((q.first ∷ q.others) ++ rest)))
+          (after_while is_name_character ((q.first ∷ q.others) ++ rest))))
           (sym q.begins) refl
 
   prefixed_chars : (cs : List ℕ) → chars (prefix ++ (colon ∷ local)) ++ cs ≡ (p.first ∷ p.others) ++ (colon ∷ ((q.first ∷ q.others) ++ cs))
@@ -233,7 +303,7 @@ module _ (prefix local : List ℕ) (p : IsPart prefix) (q : IsPart local) where
       ∙ (λ i. part_chars prefix p i ++ (one_first colon colon_is local i ++ cs))
       ∙ ap (λ x. (p.first ∷ p.others) ++ (colon ∷ (x ++ cs))) (part_chars local q)
 
-  pub lexed_prefixed : Lexed (prefix ++ (colon ∷ local)) (name_token prefix local ∷ [])
+  pub lexed_prefixed : Lexes (prefix ++ (colon ∷ local)) (name_token prefix local ∷ [])
   lexed_prefixed = record {
     is_text = IsUtf8-append prefix (colon ∷ local) (part_text prefix p) (after_one colon colon_is local (part_text local q));
     to = λ cs e. subst (λ x. To Takes x (name_token prefix local ∷ []) cs) (sym (prefixed_chars cs))
@@ -262,14 +332,15 @@ and_part = record {
 
 -- a word between white space, which stands before further tokens
 pub record IsWord (word : List ℕ) (t : Token) : Type 0 where
-  pub stands : (text : List ℕ) (head : Token) (ts : List Token) → Lexed text (head ∷ ts) → Lexed (word ++ text) (t ∷ (head ∷ ts))
+  pub stands : (text : List ℕ) (head : Token) (ts : List Token) → Lexes text (head ∷ ts) → Lexes (word ++ text) (t ∷ (head ∷ ts))
   pub ends : (text : List ℕ) → EndsName (word ++ text)
 
-word_stands : (part : List ℕ) → IsPart part → (text : List ℕ) (head : Token) (ts : List Token) → Lexed text (head ∷ ts)
-    → Lexed (space_character ∷ (part ++ (space_character ∷ text))) (Name (bare part) ∷ (head ∷ ts))
+word_stands : (part : List ℕ) → IsPart part → (text : List ℕ) (head : Token) (ts : List Token) → Lexes text (head ∷ ts)
+    → Lexes (space_character ∷ (part ++ (space_character ∷ text))) (Name (bare_name part) ∷ (head ∷ ts))
 word_stands part p text head ts l =
-    spaced (part ++ (space_character ∷ text)) (Name (bare part)) (head ∷ ts)
-    (both part (space_character ∷ text) (Name (bare part) ∷ []) (head ∷ ts) (lexed_bare part p) (spaced text head ts l) (white_ends text))
+    spaced (part ++ (space_character ∷ text)) (Name (bare_name part)) (head ∷ ts)
+    (both part (space_character ∷ text) (Name (bare_name part) ∷ []) (head ∷ ts) (lexed_bare part p) (spaced text head ts l)
+    (white_ends text))
 
 pub or_is : IsWord (codes " or ") or_word
 or_is = record { stands = word_stands (codes "or") or_part; ends = λ text. white_ends (codes "or " ++ text) }

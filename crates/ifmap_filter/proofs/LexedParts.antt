@@ -1,5 +1,8 @@
--- Literals, and what is known of the tokens of a text. (1) The bytes of a quote in a text are the character; (2) a literal in the quotes that it
--- has not; (3) the local part of a name token is a name part, and a literal has no quote of one kind.
+-- Literals, and what is known of the tokens of a text. Plan:
+-- (1) the bytes of a quote in a text are the character: a text without these bytes has no such character;
+-- (2) so a literal in the quotes that it has not is that literal, whatever stands after it;
+-- (3) a name token's local part is a name part, and a literal has no quote of one kind,
+-- by the rule of the tokenizer that gave the token.
 use Rattle.std.proofs.Common.{◌≡◌, ℕ, ◌+◌, ◌<◌, Bool, true, false, List, [], ◌∷◌, ◌++◌, length, get_or, refl, ap, sym, ◌∙◌, subst, arith, add-one, inl, inr, Option, Some, None, append_assoc}
 use Rattle.std.specs.Prelude.{◌==◌, ◌||◌, ◌⊎◌, not, if◌then◌else◌, IsUtf8, chars, encode_utf8, encode_utf8_all}
 use Rattle.std.specs.List.{list_any}
@@ -13,9 +16,9 @@ use Rattle.ifmap_elem.specs.Names.{is_name_character, is_name_start}
 use Rattle.ifmap_filter.specs.declared.tokens.Token.{Token}
 use Rattle.ifmap_filter.specs.declared.tokens.Token.TheVariants.{Any, OpenBracket, CloseBracket, OpenParenthesis, CloseParenthesis, EqualsSign, At, Name, Literal}
 use Rattle.ifmap_filter.specs.Printing.{literal_text, quote_of}
-use Rattle.ifmap_filter.specs.Tokens.{Taken, Takes, after_while, closed_literal, front_while, is_but, is_quote, literal_at, name_at, name_from, name_token, part_bytes, prefixed_name_at, symbol_of, taken, token_at, with_symbol, without_white}
+use Rattle.ifmap_filter.specs.Tokens.{FrontToken, Takes, after_while, closed_literal, front_while, is_but, is_quote, literal_at, name_at, name_from, name_token, part_bytes, prefixed_name_at, symbol_of, front_token, token_at, with_symbol, without_white}
 use Rattle.ifmap_filter.proofs.CharLaws.{same_number}
-use Rattle.ifmap_filter.proofs.Lexed.{IsOne, IsPart, Lexed, Stops, after_all, after_one, front_all, not_white, one_chars, one_first, one_of}
+use Rattle.ifmap_filter.proofs.Lexed.{IsOne, IsPart, Lexes, Stops, after_all, after_one, front_all, not_white, one_chars, one_first, one_of}
 use Rattle.ifmap_filter.proofs.Reaching.{after_is, inner, token_later, white_after}
 use Rattle.ifmap_filter.proofs.TokenLaws.{quoted}
 
@@ -29,7 +32,8 @@ none_passes q (c ∷ cs) f = (by (c == q) refl f.0, none_passes q cs f.1)
     by false e h = e
     by true e h = cc
 
-no_byte : (q : ℕ) → q < 128 → (bytes : List ℕ) → ((i : ℕ) → i < length bytes → get_or bytes i 0 ≡ q → ⊥) → list_any (λ b. b == q) bytes ≡ false
+no_byte : (q : ℕ) → q < 128 → (bytes : List ℕ) → ((i : ℕ) → i < length bytes → get_or bytes i 0 ≡ q → ⊥)
+    → list_any (λ b. b == q) bytes ≡ false
 no_byte q low [] none = refl
 no_byte q low (b ∷ bs) none =
     let first : (b == q) ≡ false = false_from_ne_true (b == q) (λ e. none 0 (omega arith) ((Decides-eqb b q).0 e)) in
@@ -110,12 +114,13 @@ module _ (q : ℕ) (is : IsQuote q) (value : List ℕ) (w : IsWithout q value) w
   stops : (cs : List ℕ) → Stops (is_but q) (q ∷ cs)
   stops cs = ap not (same_number q)
 
-  literal_here : (cs : List ℕ) → literal_at q (w.own ++ (q ∷ cs)) ≡ Some (taken (Literal value) cs)
+  literal_here : (cs : List ℕ) → literal_at q (w.own ++ (q ∷ cs)) ≡ Some (front_token (Literal value) cs)
   literal_here cs =
-      (λ i. closed_literal (front_all (is_but q) w.own (q ∷ cs) w.without (stops cs) i) (after_all (is_but q) w.own (q ∷ cs) w.without (stops cs) i))
-      ∙ ap (λ v. Some (taken (Literal v) cs)) w.bytes_are
+      (λ i. closed_literal (front_all (is_but q) w.own (q ∷ cs) w.without (stops cs) i)
+      (after_all (is_but q) w.own (q ∷ cs) w.without (stops cs) i))
+      ∙ ap (λ v. Some (front_token (Literal v) cs)) w.bytes_are
 
-  pub lexed_quoted : Lexed (q ∷ (value ++ (q ∷ []))) (Literal value ∷ [])
+  pub lexed_quoted : Lexes (q ∷ (value ++ (q ∷ []))) (Literal value ∷ [])
   lexed_quoted = record {
     is_text = after_one q is.one (value ++ (q ∷ [])) (IsUtf8-append value (q ∷ []) value_text quote_text);
     to = λ cs e. subst (λ x. To Takes x (Literal value ∷ []) cs) (sym (literal_chars cs)) (
@@ -149,14 +154,16 @@ quote_kinds q e = by (q == double_quote) refl
     by true is = inl ((Decides-eqb q double_quote).0 is)
     by false is = other (q == single_quote) refl (sym (ap (λ b. b || (q == single_quote)) is) ∙ e)
 
-pub lexed_literal : (value : List ℕ) → IsLiteral value → Lexed (literal_text value) (Literal value ∷ [])
+pub lexed_literal : (value : List ℕ) → IsLiteral value → Lexes (literal_text value) (Literal value ∷ [])
 lexed_literal value l = elim (cases_Bool (list_any (λ b. b == single_quote) value)) [
   | inl some ↦
       let quote : quote_of value ≡ double_quote = rw some refl in
-      subst (λ q. Lexed (q ∷ (value ++ (q ∷ []))) (Literal value ∷ [])) (sym quote) (lexed_quoted double_quote double_is value (of_double some))
+      subst (λ q. Lexes (q ∷ (value ++ (q ∷ []))) (Literal value ∷ [])) (sym quote)
+      (lexed_quoted double_quote double_is value (of_double some))
   | inr none ↦
       let quote : quote_of value ≡ single_quote = rw none refl in
-      subst (λ q. Lexed (q ∷ (value ++ (q ∷ []))) (Literal value ∷ [])) (sym quote) (lexed_quoted single_quote single_is value (of_single none))
+      subst (λ q. Lexes (q ∷ (value ++ (q ∷ []))) (Literal value ∷ [])) (sym quote)
+      (lexed_quoted single_quote single_is value (of_single none))
 ]
   where
     w : IsWithout l.quote value
@@ -234,61 +241,72 @@ plain_symbol c =
     (plain_if (c == byte "(") _ OpenParenthesis tt (plain_if (c == byte ")") _ CloseParenthesis tt
     (plain_if (c == equals_sign) _ EqualsSign tt (plain_if (c == byte "@") None At tt (λ s e. let wrong : None ≡ Some s = e in cc)))))))
 
-token_of : (t : Token) (rest : List ℕ) (k : Taken) → Some k ≡ Some (taken t rest) → k.token ≡ t
-token_of t rest k e = let same : k ≡ taken t rest = cc in ap (λ (x : Taken). x.token) same
+token_of : (t : Token) (rest : List ℕ) (k : FrontToken) → Some k ≡ Some (front_token t rest) → k.token ≡ t
+token_of t rest k e = let same : k ≡ front_token t rest = cc in ap (λ (x : FrontToken). x.token) same
 
 module _ (t : Token) (rest : List ℕ) where
-  prefixed_is : (prefix cs : List ℕ) → all_scalars cs ≡ true → prefixed_name_at prefix cs ≡ Some (taken t rest) → IsToken t
+  prefixed_is : (prefix cs : List ℕ) → all_scalars cs ≡ true → prefixed_name_at prefix cs ≡ Some (front_token t rest) → IsToken t
   prefixed_is prefix [] u e = cc
   prefixed_is prefix (c ∷ cs) u e = by (is_name_start c) refl e
     where
       by : (b : Bool) → is_name_start c ≡ b
-          → (if b then Some (taken (name_token prefix (part_bytes (c ∷ cs))) (after_while is_name_character (c ∷ cs))) else None) ≡ Some (taken t rest)
+          → (if b then Some (front_token (name_token prefix (part_bytes (c ∷ cs))) (after_while is_name_character (c ∷ cs))) else
+          None) ≡ Some (front_token t rest)
           → IsToken t
       by true starts f = subst IsToken (token_of t rest _ f) (part_front_is c cs u starts)
       by false starts f = cc
 
-  from_is : (part cs : List ℕ) → IsPart part → all_scalars cs ≡ true → name_from part cs ≡ Some (taken t rest) → IsToken t
+  from_is : (part cs : List ℕ) → IsPart part → all_scalars cs ≡ true → name_from part cs ≡ Some (front_token t rest) → IsToken t
   from_is part [] p u e = subst IsToken (token_of t rest _ e) p
   from_is part (c ∷ cs) p u e = by (c == colon) e
     where
-      by : (b : Bool) → (if b then prefixed_name_at part cs else Some (taken (name_token [] part) (c ∷ cs))) ≡ Some (taken t rest) → IsToken t
+      by : (b : Bool) → (if b then prefixed_name_at part cs else Some (front_token (name_token [] part) (c ∷ cs)))
+          ≡ Some (front_token t rest) → IsToken t
       by true f = prefixed_is part cs (scalars_rest (c ∷ []) cs u) f
       by false f = subst IsToken (token_of t rest _ f) p
 
-  literal_is : (quote : ℕ) (cs : List ℕ) → is_quote quote ≡ true → all_scalars cs ≡ true → literal_at quote cs ≡ Some (taken t rest) → IsToken t
+  literal_is : (quote : ℕ) (cs : List ℕ) → is_quote quote ≡ true → all_scalars cs ≡ true → literal_at quote cs ≡ Some (front_token t rest)
+      → IsToken t
   literal_is quote cs kind u e = from (after_while (is_but quote) cs) e
     where
       own : List ℕ
       own = front_while (is_but quote) cs
 
-      from : (closed : List ℕ) → closed_literal own closed ≡ Some (taken t rest) → IsToken t
+      from : (closed : List ℕ) → closed_literal own closed ≡ Some (front_token t rest) → IsToken t
       from [] f = cc
       from (q ∷ after) f = subst IsToken (token_of t rest _ f) (record {
         quote = quote;
         kind = kind;
-        without = record { own = own; scalars = scalars_front (is_but quote) cs u; bytes_are = refl; without = all_front (is_but quote) cs };
+        without = record {
+          own = own;
+          scalars = scalars_front (is_but quote) cs u;
+          bytes_are = refl;
+          without = all_front (is_but quote) cs;
+        };
       })
 
-  symbol_is : (c : ℕ) (cs : List ℕ) → with_symbol cs (symbol_of c) ≡ Some (taken t rest) → IsToken t
+  symbol_is : (c : ℕ) (cs : List ℕ) → with_symbol cs (symbol_of c) ≡ Some (front_token t rest) → IsToken t
   symbol_is c cs e = by (symbol_of c) refl e
     where
-      by : (o : Option Token) → symbol_of c ≡ o → with_symbol cs o ≡ Some (taken t rest) → IsToken t
+      by : (o : Option Token) → symbol_of c ≡ o → with_symbol cs o ≡ Some (front_token t rest) → IsToken t
       by None is f = cc
       by (Some s) is f = subst IsToken (token_of t rest _ f) (plain_symbol c s is)
 
-  pub token_is : (cs : List ℕ) → all_scalars cs ≡ true → token_at cs ≡ Some (taken t rest) → IsToken t
+  pub token_is : (cs : List ℕ) → all_scalars cs ≡ true → token_at cs ≡ Some (front_token t rest) → IsToken t
   token_is [] u e = cc
   token_is (c ∷ cs) u e = by (is_quote c) refl e
     where
-      by_name : (b : Bool) → is_name_start c ≡ b → (if b then name_at (c ∷ cs) else with_symbol cs (symbol_of c)) ≡ Some (taken t rest) → IsToken t
+      by_name : (b : Bool) → is_name_start c ≡ b → (if b then name_at (c ∷ cs) else with_symbol cs (symbol_of c))
+          ≡ Some (front_token t rest) → IsToken t
       by_name true starts f =
           from_is (part_bytes (c ∷ cs)) (after_while is_name_character (c ∷ cs)) (part_front_is c cs u starts)
-          (let l = after_is is_name_character (c ∷ cs) in scalars_rest l.0 (after_while is_name_character (c ∷ cs)) (ap all_scalars (sym l.1) ∙ u)) f
+          (let l = after_is is_name_character (c ∷ cs) in scalars_rest l.0 (after_while is_name_character (c ∷ cs))
+          (ap all_scalars (sym l.1) ∙ u)) f
       by_name false starts f = symbol_is c cs f
 
       by : (b : Bool) → is_quote c ≡ b
-          → (if b then literal_at c cs else (if is_name_start c then name_at (c ∷ cs) else with_symbol cs (symbol_of c))) ≡ Some (taken t rest) → IsToken t
+          → (if b then literal_at c cs else (if is_name_start c then name_at (c ∷ cs) else with_symbol cs (symbol_of c)))
+          ≡ Some (front_token t rest) → IsToken t
       by true kind f = literal_is c cs kind (scalars_rest (c ∷ []) cs u) f
       by false kind f = by_name (is_name_start c) refl f
 

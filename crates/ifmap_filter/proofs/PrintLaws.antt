@@ -18,9 +18,10 @@ use Rattle.ifmap_filter.specs.declared.filters.Predicate.TheVariants.{rolls-Attr
 use Rattle.ifmap_filter.specs.declared.filters.Predicate.TheOpen.{Predicate-F}
 use Rattle.ifmap_filter.specs.declared.printing.Around.{Around}
 use Rattle.ifmap_filter.specs.declared.printing.Around.TheVariants.{Brackets, Ands, Ors}
-use Rattle.ifmap_filter.specs.Printing.{Printed, ands_text, attribute_text, child_text, comparison_text, joined_texts, numbered_prefix, ors_text, has_single_quote, name_text, parts_text, place_of, printed, printed_of, quote_of, text_in}
+use Rattle.ifmap_filter.specs.Printing.{PredicateText, ands_text, attribute_text, child_text, comparison_text, joined_texts, numbered_prefix, ors_text, has_single_quote, name_text, parts_text, place_of, predicate_text, predicate_text_of, quote_of, text_in}
 
-module _ (space : List ℕ) (spaces : List (List ℕ)) (i : ℕ) (other : List ℕ) (here : i < length spaces) (is : other ≡ get_or spaces i other) where
+module _ (space : List ℕ) (spaces : List (List ℕ)) (i : ℕ) (other : List ℕ) (here : i < length spaces)
+    (is : other ≡ get_or spaces i other) where
   left : place_of space (drop i spaces) ≡ cond (not (bytes_eq other space)) (1 + place_of space (drop (i + 1) spaces)) 0
   left =
       ap (place_of space) (drop-cons spaces i other here) ∙ ap (λ o. place_of space (o ∷ drop (suc i) spaces)) (sym is)
@@ -38,7 +39,8 @@ pub no_place : (space : List ℕ) (spaces : List (List ℕ)) (i : ℕ) → lengt
     → place_of space spaces ≡ i + place_of space (drop i spaces) → length spaces ≡ place_of space spaces
 no_place space spaces i past within was =
     let end : i ≡ length spaces = omega arith in
-    let none : place_of space (drop i spaces) ≡ 0 = ap (λ k. place_of space (drop k spaces)) end ∙ ap (place_of space) (drop-length spaces) in
+    let none : place_of space (drop i spaces) ≡ 0 = ap (λ k. place_of space (drop k spaces)) end
+    ∙ ap (place_of space) (drop-length spaces) in
     omega (arith, was, none)
 
 -- words before all but the first
@@ -48,10 +50,12 @@ word_at word zero = []
 word_at word (suc i) = word
 
 module _ {X : Type 0} (word : List ℕ) (text : X → List ℕ) where
-  joined_last : (ys : List X) (x : X) → joined_texts word text (ys ++ x ∷ []) ≡ joined_texts word text ys ++ (word_at word (length ys) ++ text x)
+  joined_last : (ys : List X) (x : X)
+      → joined_texts word text (ys ++ x ∷ []) ≡ joined_texts word text ys ++ (word_at word (length ys) ++ text x)
   joined_last [] x = append-nil (text x)
   joined_last (y ∷ ys) x =
-      ap (λ l. text y ++ l) (flat_map-append (λ z. word ++ text z) ys (x ∷ []) ∙ ap (λ l. flat_map (λ z. word ++ text z) ys ++ l) (append-nil (word ++ text x)))
+      ap (λ l. text y ++ l) (flat_map-append (λ z. word ++ text z) ys (x ∷ [])
+      ∙ ap (λ l. flat_map (λ z. word ++ text z) ys ++ l) (append-nil (word ++ text x)))
       ∙ sym (append_assoc (text y) (flat_map (λ z. word ++ text z) ys) (word ++ text x))
 
   pub joined_more : (xs : List X) (i : ℕ) (x : X) (out now mid new first : List ℕ) → i < length xs → x ≡ get_or xs i x
@@ -73,7 +77,8 @@ word_later word i = ap (word_at word) (sym (add-one i))
 pub or_text : IsUtf8 (codes " or ")
 or_text = (codes " or ", (refl, ascii_encoded (codes " or ") (all_of_test is_ascii (codes " or ") refl)))
 
-pub prefix_printed : (out first new digits : List ℕ) (n : ℕ) → n < 2 ^ 64 → first ≡ out ++ codes "f" → new ≡ first ++ digits → digits ≡ decimal n
+pub prefix_printed : (out first new digits : List ℕ) (n : ℕ) → n < 2 ^ 64 → first ≡ out ++ codes "f" → new ≡ first ++ digits
+    → digits ≡ decimal n
     → new ≡ out ++ numbered_prefix n
 prefix_printed out first new digits n held a b c =
     b ∙ (λ i. a i ++ (c ∙ sym (numeral_is_decimal n held)) i) ∙ append_assoc out (codes "f") (numeral n)
@@ -85,7 +90,8 @@ pub single_else : (value : List ℕ) → has_single_quote value ≡ false → co
 single_else value e = rw e refl
 
 -- a name, where what is printed after its namespace was looked at has P
-module _ (spaces : List (List ℕ)) (name : Name) (local : List ℕ) (P : List ℕ → Type 0) (own : local ≡ name.local) (some : bytes_eq name.space [] ≡ false) where
+module _ (spaces : List (List ℕ)) (name : Name) (local : List ℕ) (P : List ℕ → Type 0) (own : local ≡ name.local)
+    (some : bytes_eq name.space [] ≡ false) where
   pub name_by_xml : bytes_eq name.space xml_space ≡ true → P (codes "xml" ++ (colon ∷ local)) → P (name_text spaces name)
   name_by_xml is h = subst P (ap (λ l. codes "xml" ++ (colon ∷ l)) own ∙ by) h
     where
@@ -102,20 +108,25 @@ module _ (spaces : List (List ℕ)) (name : Name) (local : List ℕ) (P : List �
 
 -- what is printed of a predicate, by what it is
 
-pub prints_attr : (spaces : List (List ℕ)) (local value : List ℕ) → printed spaces (Attr local value) ≡ comparison_text (attribute_text local value)
+pub prints_attr : (spaces : List (List ℕ)) (local value : List ℕ)
+    → predicate_text spaces (Attr local value) ≡ comparison_text (attribute_text local value)
 prints_attr spaces local value =
-    ap (printed spaces) (sym (rolls-Attr local value)) ∙ fold-roll-Predicate Printed (printed_of spaces) (Predicate-F.Attr local value)
+    ap (predicate_text spaces) (sym (rolls-Attr local value))
+    ∙ fold-roll-Predicate PredicateText (predicate_text_of spaces) (Predicate-F.Attr local value)
 
-pub prints_child : (spaces : List (List ℕ)) (name : Name) (value : List ℕ) → printed spaces (Child name value) ≡ comparison_text (child_text spaces name value)
+pub prints_child : (spaces : List (List ℕ)) (name : Name) (value : List ℕ)
+    → predicate_text spaces (Child name value) ≡ comparison_text (child_text spaces name value)
 prints_child spaces name value =
-    ap (printed spaces) (sym (rolls-Child name value)) ∙ fold-roll-Predicate Printed (printed_of spaces) (Predicate-F.Child name value)
+    ap (predicate_text spaces) (sym (rolls-Child name value))
+    ∙ fold-roll-Predicate PredicateText (predicate_text_of spaces) (Predicate-F.Child name value)
 
 pub alike_anywhere : (around : Around) (text : List ℕ) → text_in around (comparison_text text) ≡ text
 alike_anywhere Brackets text = refl
 alike_anywhere Ands text = refl
 alike_anywhere Ors text = refl
 
-joined_mapped : {X Y : Type 0} (word : List ℕ) (text : Y → List ℕ) (f : X → Y) (xs : List X) → joined_texts word text (map f xs) ≡ joined_texts word (λ x. text (f x)) xs
+joined_mapped : {X Y : Type 0} (word : List ℕ) (text : Y → List ℕ) (f : X → Y) (xs : List X)
+    → joined_texts word text (map f xs) ≡ joined_texts word (λ x. text (f x)) xs
 joined_mapped word text f [] = refl
 joined_mapped word text f (x ∷ xs) = ap (λ l. text (f x) ++ l) (others xs)
   where
@@ -123,12 +134,15 @@ joined_mapped word text f (x ∷ xs) = ap (λ l. text (f x) ++ l) (others xs)
     others [] = refl
     others (y ∷ ys) = ap (λ l. (word ++ text (f y)) ++ l) (others ys)
 
-pub prints_and : (spaces : List (List ℕ)) (parts : List Predicate) → printed spaces (And parts) ≡ ands_text (parts_text spaces Ands parts)
+pub prints_and : (spaces : List (List ℕ)) (parts : List Predicate)
+    → predicate_text spaces (And parts) ≡ ands_text (parts_text spaces Ands parts)
 prints_and spaces parts =
-    ap (printed spaces) (sym (rolls-And parts)) ∙ fold-roll-Predicate Printed (printed_of spaces) (Predicate-F.And parts)
-    ∙ ap ands_text (joined_mapped (codes " and ") (λ p. p.in_and) (printed spaces) parts)
+    ap (predicate_text spaces) (sym (rolls-And parts)) ∙ fold-roll-Predicate PredicateText (predicate_text_of spaces)
+    (Predicate-F.And parts)
+    ∙ ap ands_text (joined_mapped (codes " and ") (λ p. p.in_and) (predicate_text spaces) parts)
 
-pub prints_or : (spaces : List (List ℕ)) (parts : List Predicate) → printed spaces (Or parts) ≡ ors_text (parts_text spaces Ors parts)
+pub prints_or : (spaces : List (List ℕ)) (parts : List Predicate)
+    → predicate_text spaces (Or parts) ≡ ors_text (parts_text spaces Ors parts)
 prints_or spaces parts =
-    ap (printed spaces) (sym (rolls-Or parts)) ∙ fold-roll-Predicate Printed (printed_of spaces) (Predicate-F.Or parts)
-    ∙ ap ors_text (joined_mapped (codes " or ") (λ p. p.in_or) (printed spaces) parts)
+    ap (predicate_text spaces) (sym (rolls-Or parts)) ∙ fold-roll-Predicate PredicateText (predicate_text_of spaces) (Predicate-F.Or parts)
+    ∙ ap ors_text (joined_mapped (codes " or ") (λ p. p.in_or) (predicate_text spaces) parts)

@@ -1,6 +1,8 @@
--- What is printed of a filter is parsed as it. (1) A text that a rule takes as something; joined texts; (2) names by their prefixes, and
--- comparisons; (3) rules in which parentheses nest deeper take what those do in which they nest less deep; (4) what is printed of a predicate where
--- it stands as it was parsed, by the rule that took it; (5) tests and filters.
+-- What is printed of a filter is parsed as it. Plan:
+-- (1) a text that a rule takes as something, and joined texts; (2) names by their prefixes, and comparisons;
+-- (3) rules in which parentheses nest deeper take what those do in which they nest less deep;
+-- (4) what is printed of a predicate where it stands as it was parsed, by the rule that took it;
+-- (5) tests and filters.
 use Rattle.std.proofs.Common.{◌≡◌, ◌≢◌, ℕ, ◌+◌, ◌≤◌, zero, suc, Bool, true, false, List, [], ◌∷◌, ◌++◌, refl, ap, sym, ◌∙◌, subst, arith, inl, inr, Option, Some, None, append_assoc}
 use Rattle.std.specs.Prelude.{◌||◌, ◌⊎◌, ◌==◌, nat_le, chars, codes, Ok, Err}
 use Rattle.std.specs.List.{flat_map, list_all, list_any}
@@ -33,12 +35,12 @@ use Rattle.ifmap_filter.specs.declared.filters.Filter.{Filter}
 use Rattle.ifmap_filter.specs.declared.tokens.Token.{Token}
 use Rattle.ifmap_filter.specs.declared.tokens.Token.TheVariants.{Any, OpenBracket, CloseBracket, OpenParenthesis, CloseParenthesis, EqualsSign, At, Name, Literal}
 use Rattle.ifmap_filter.specs.declared.printing.Around.TheVariants.{Ands, Ors}
-use Rattle.ifmap_filter.specs.Grammar.{AreTests, AsksFor, Rule, StandsFor, TakesAnds, TakesComparison, TakesFactor, TakesJoined, TakesMore, TakesOrPart, TakesOrs, TakesPredicate, TakesTest, and_word, bare, deepest, joined, or_word}
-use Rattle.ifmap_filter.specs.Printing.{CanBeParsed, IsAnsweredBack, NestsNoDeeper, Printed, WritesBack, ands_text, attribute_text, brackets_text, child_text, comparison_text, filter_text, grouped, joined_texts, literal_text, name_text, numbered_prefix, numbered_rows, numbered_scope, ors_text, parts_text, place_of, printed, test_name_text, test_text}
+use Rattle.ifmap_filter.specs.Grammar.{AreTests, AsksFor, Rule, StandsFor, TakesAnds, TakesComparison, TakesFactor, TakesJoined, TakesMore, TakesOrPart, TakesOrs, TakesPredicate, TakesTest, and_word, bare_name, deepest, join_of, or_word}
+use Rattle.ifmap_filter.specs.Printing.{CanBeParsed, IsAnsweredBack, NestsNoDeeper, PredicateText, WritesBack, ands_text, attribute_text, brackets_text, child_text, comparison_text, filter_text, group_text, joined_texts, literal_text, name_text, numbered_prefix, numbered_rows, numbered_scope, ors_text, parts_text, place_of, predicate_text, test_name_text, test_text}
 use Rattle.ifmap_filter.specs.Spaces.{HasSpaces, brackets_spaces, has_each, has_space, name_spaces, predicate_spaces, test_spaces}
 use Rattle.ifmap_filter.specs.Texts.{WritesWithin}
 use Rattle.ifmap_filter.specs.Tokens.{Takes, name_token}
-use Rattle.ifmap_filter.proofs.Lexed.{EndsName, IsPart, IsWord, Lexed, and_is, any_is, at_is, before, both, close_bracket_is, close_is, equals_is, lexed_bare, lexed_prefixed, nothing, nothing_ends, open_bracket_is, open_is, or_is, symbol_alone, symbol_ends}
+use Rattle.ifmap_filter.proofs.Lexed.{EndsName, IsPart, IsWord, Lexes, and_is, any_is, at_is, before, both, close_bracket_is, close_is, equals_is, lexed_bare, lexed_prefixed, nothing, nothing_ends, open_bracket_is, open_is, or_is, symbol_alone, symbol_ends}
 use Rattle.ifmap_filter.proofs.Deciding.{one_filter, stops_where_no_filter}
 use Rattle.ifmap_filter.proofs.LexedParts.{AreTokens, IsLiteral, IsToken, are_tokens, lexed_literal}
 use Rattle.ifmap_filter.proofs.PrintLaws.{prints_and, prints_attr, prints_child, prints_or}
@@ -50,7 +52,7 @@ use Rattle.ifmap_filter.proofs.SpaceLaws.{and_true, each_of_all, had_and, had_ch
 pub record Forms (X : Type 0) (R : Rule X) (text : List ℕ) (x : X) : Type 0 where
   pub head : Token
   pub others : List Token
-  pub lexed : Lexed text (head ∷ others)
+  pub lexed : Lexes text (head ∷ others)
   pub takes : (rest : List Token) → R (head ∷ (others ++ rest)) x rest
 
 abbrev Each : {X : Type 0} → (X → Type 0) → List X → Type 0
@@ -67,7 +69,7 @@ module _ (X : Type 0) (word : List ℕ) (wordy : Token) (is : IsWord word wordy)
 
   record FormsMore (xs : List X) : Type 0 where
     pub tokens : List Token
-    pub lexed : Lexed (more_text xs) tokens
+    pub lexed : Lexes (more_text xs) tokens
     pub ends : EndsName (more_text xs)
     pub takes : (rest : List Token) → TakesMore wordy Part (tokens ++ rest) xs rest
 
@@ -82,7 +84,8 @@ module _ (X : Type 0) (word : List ℕ) (wordy : Token) (is : IsWord word wordy)
       let m = forms_more xs h.1 in
       record {
         tokens = wordy ∷ (f.head ∷ (f.others ++ m.tokens));
-        lexed = both (word ++ text x) (more_text xs) (wordy ∷ (f.head ∷ f.others)) m.tokens (is.stands (text x) f.head f.others f.lexed) m.lexed m.ends;
+        lexed = both (word ++ text x) (more_text xs) (wordy ∷ (f.head ∷ f.others)) m.tokens (is.stands (text x) f.head f.others f.lexed)
+            m.lexed m.ends;
         ends = more_ends x xs;
         takes = λ rest. (
           f.head ∷ ((f.others ++ m.tokens) ++ rest),
@@ -97,7 +100,7 @@ module _ (X : Type 0) (word : List ℕ) (wordy : Token) (is : IsWord word wordy)
   record FormsAll (x : X) (xs : List X) : Type 0 where
     pub head : Token
     pub others : List Token
-    pub lexed : Lexed (joined_texts word text (x ∷ xs)) (head ∷ others)
+    pub lexed : Lexes (joined_texts word text (x ∷ xs)) (head ∷ others)
     pub takes : (rest : List Token) → (mid : List Token) × Part (head ∷ (others ++ rest)) x mid × TakesMore wordy Part mid xs rest
 
   forms_all : (x : X) (xs : List X) → Forms X Part (text x) x → Each (λ x. Forms X Part (text x) x) xs → FormsAll x xs
@@ -136,7 +139,8 @@ module _ (join : List Predicate → Predicate) (wordy : Token) (Part : Rule Pred
             let t = all.takes rest in record { first = p; others = q ∷ ps; mid = t.0; one = t.1; more = t.2; means = refl };
       }
 
-forms_within : (X : Type 0) (R S : Rule X) → ((ts : List Token) (x : X) (rest : List Token) → R ts x rest → S ts x rest) → (text : List ℕ) (x : X)
+forms_within : (X : Type 0) (R S : Rule X) → ((ts : List Token) (x : X) (rest : List Token) → R ts x rest → S ts x rest)
+    → (text : List ℕ) (x : X)
     → Forms X R text x → Forms X S text x
 forms_within X R S leads text x f = record {
   head = f.head;
@@ -203,14 +207,17 @@ row_later p k v rows e = rw e refl
 
 other_prefix : (m n : ℕ) → m ≢ n → bytes_eq (numbered_prefix m) (numbered_prefix n) ≡ false
 other_prefix m n apart =
-    false_from_ne_true _ (λ e. let same = eq_tells (numbered_prefix m) (numbered_prefix n) e in let d : numeral m ≡ numeral n = cc in apart (one_number m n d))
+    false_from_ne_true _ (λ e. let same = eq_tells (numbered_prefix m) (numbered_prefix n) e in let d : numeral m ≡ numeral n = cc in apart
+    (one_number m n d))
 
 or_later : (a b : Bool) → a ≡ false → (a || b) ≡ true → b ≡ true
 or_later true b e h = cc
 or_later false b e h = h
 
 turned : (x y : List ℕ) → bytes_eq x y ≡ false → bytes_eq y x ≡ false
-turned x y e = false_from_ne_true (bytes_eq y x) (λ h. let same : x ≡ y = sym (eq_tells y x h) in let k : bytes_eq x y ≡ true = (bytes_eq-Decides x y).1 same in cc)
+turned x y e =
+    false_from_ne_true (bytes_eq y x) (λ h. let same : x ≡ y = sym (eq_tells y x h) in let k : bytes_eq x y ≡ true =
+    (bytes_eq-Decides x y).1 same in cc)
 
 module _ (space : List ℕ) where
   first_place : (s : List ℕ) (ss : List (List ℕ)) → bytes_eq s space ≡ true → place_of space (s ∷ ss) ≡ 0
@@ -242,13 +249,14 @@ module _ (space : List ℕ) where
 record Named (spaces : List (List ℕ)) (name : element.Name) : Type 0 where
   pub written : Qualified
   pub stands : StandsFor (numbered_scope spaces) written name
-  pub lexed : Lexed (name_text spaces name) (Name written ∷ [])
+  pub lexed : Lexes (name_text spaces name) (Name written ∷ [])
 
 module _ (spaces : List (List ℕ)) (name : element.Name) (part : IsPart name.local) where
   bare_text : bytes_eq name.space [] ≡ true → name_text spaces name ≡ name.local
   bare_text e = rw e refl
 
-  xml_text : bytes_eq name.space [] ≡ false → bytes_eq name.space xml_space ≡ true → name_text spaces name ≡ codes "xml" ++ (colon ∷ name.local)
+  xml_text : bytes_eq name.space [] ≡ false → bytes_eq name.space xml_space ≡ true
+      → name_text spaces name ≡ codes "xml" ++ (colon ∷ name.local)
   xml_text e f = rw (e, f) refl
 
   numbered_text : bytes_eq name.space [] ≡ false → bytes_eq name.space xml_space ≡ false
@@ -258,15 +266,15 @@ module _ (spaces : List (List ℕ)) (name : element.Name) (part : IsPart name.lo
   name_back : has_space spaces name.space ≡ true → Named spaces name
   name_back h = elim (cases_Bool (bytes_eq name.space [])) [
     | inl e ↦ record {
-      written = bare name.local;
+      written = bare_name name.local;
       stands = record { space_is = ap (λ z. Some z) (sym (eq_tells name.space [] e)); local_is = refl };
-      lexed = subst (λ t. Lexed t (Name (bare name.local) ∷ [])) (sym (bare_text e)) (lexed_bare name.local part);
+      lexed = subst (λ t. Lexes t (Name (bare_name name.local) ∷ [])) (sym (bare_text e)) (lexed_bare name.local part);
     }
     | inr e ↦ elim (cases_Bool (bytes_eq name.space xml_space)) [
       | inl f ↦ record {
         written = record { prefix = codes "xml"; local = name.local };
         stands = record { space_is = ap (λ z. Some z) (sym (eq_tells name.space xml_space f)); local_is = refl };
-        lexed = subst (λ t. Lexed t (name_token (codes "xml") name.local ∷ [])) (sym (xml_text e f))
+        lexed = subst (λ t. Lexes t (name_token (codes "xml") name.local ∷ [])) (sym (xml_text e f))
             (lexed_prefixed (codes "xml") name.local xml_part part);
       }
       | inr f ↦
@@ -276,13 +284,13 @@ module _ (spaces : List (List ℕ)) (name : element.Name) (part : IsPart name.lo
           record {
             written = record { prefix = numbered_prefix (place + 1); local = name.local };
             stands = record { space_is = place_found name.space spaces 1 among; local_is = refl };
-            lexed = subst (λ t. Lexed t (name_token (numbered_prefix (place + 1)) name.local ∷ [])) (sym (numbered_text e f))
+            lexed = subst (λ t. Lexes t (name_token (numbered_prefix (place + 1)) name.local ∷ [])) (sym (numbered_text e f))
                 (lexed_prefixed (numbered_prefix (place + 1)) name.local (prefix_part (place + 1)) part);
           }
     ]
   ]
 
-equals_literal : (value : List ℕ) → IsLiteral value → Lexed (codes "=" ++ literal_text value) (EqualsSign ∷ (Literal value ∷ []))
+equals_literal : (value : List ℕ) → IsLiteral value → Lexes (codes "=" ++ literal_text value) (EqualsSign ∷ (Literal value ∷ []))
 equals_literal value l = before 0x3D EqualsSign equals_is (literal_text value) (Literal value ∷ []) (lexed_literal value l)
 
 equals_ends : (value : List ℕ) → EndsName (codes "=" ++ literal_text value)
@@ -292,9 +300,9 @@ attribute_back : (scope : Scope) (local value : List ℕ) → IsPart local → I
     → Forms Predicate (TakesComparison scope) (attribute_text local value) (Attr local value)
 attribute_back scope local value p l = record {
   head = At;
-  others = Name (bare local) ∷ (EqualsSign ∷ (Literal value ∷ []));
-  lexed = before 0x40 At at_is (local ++ (codes "=" ++ literal_text value)) (Name (bare local) ∷ (EqualsSign ∷ (Literal value ∷ [])))
-      (both local (codes "=" ++ literal_text value) (Name (bare local) ∷ []) (EqualsSign ∷ (Literal value ∷ []))
+  others = Name (bare_name local) ∷ (EqualsSign ∷ (Literal value ∷ []));
+  lexed = before 0x40 At at_is (local ++ (codes "=" ++ literal_text value)) (Name (bare_name local) ∷ (EqualsSign ∷ (Literal value ∷ [])))
+      (both local (codes "=" ++ literal_text value) (Name (bare_name local) ∷ []) (EqualsSign ∷ (Literal value ∷ []))
       (lexed_bare local p) (equals_literal value l) (equals_ends value));
   takes = λ rest. inl (record { local = local; value = value; tokens_are = refl; means = refl });
 }
@@ -315,7 +323,8 @@ abbrev Within : {X : Type 0} → Rule X → Rule X → Type 0
 Within {X} R S = (ts : List Token) (x : X) (rest : List Token) → R ts x rest → S ts x rest
 
 module _ (R S : Rule Predicate) (leads : Within R S) where
-  more_within : (word : Token) (ts : List Token) (xs : List Predicate) (rest : List Token) → TakesMore word R ts xs rest → TakesMore word S ts xs rest
+  more_within : (word : Token) (ts : List Token) (xs : List Predicate) (rest : List Token) → TakesMore word R ts xs rest
+      → TakesMore word S ts xs rest
   more_within word ts [] rest h = h
   more_within word ts (x ∷ xs) rest h = (h.0, h.1, h.2, leads h.0 x h.1 h.3, more_within word h.1 xs rest h.4)
 
@@ -373,9 +382,9 @@ module _ (spaces : List (List ℕ)) where
 
   -- what is printed of the predicate is parsed as it in each place
   record Stands (n : ℕ) (p : Predicate) : Type 0 where
-    pub alone : Forms Predicate (TakesOrs (Factor n)) (printed spaces p).alone p
-    pub in_or : Forms Predicate (TakesAnds (Factor n)) (printed spaces p).in_or p
-    pub in_and : Forms Predicate (Factor n) (printed spaces p).in_and p
+    pub alone : Forms Predicate (TakesOrs (Factor n)) (predicate_text spaces p).alone p
+    pub in_or : Forms Predicate (TakesAnds (Factor n)) (predicate_text spaces p).in_or p
+    pub in_and : Forms Predicate (Factor n) (predicate_text spaces p).in_and p
 
   -- the same of parts that `and` and `or` join, without parentheses round them
   record IsAnds (n : ℕ) (p : Predicate) : Type 0 where
@@ -397,26 +406,28 @@ module _ (spaces : List (List ℕ)) where
   one_and : (n : ℕ) (text : List ℕ) (p : Predicate) → Forms Predicate (Factor n) text p → Forms Predicate (TakesAnds (Factor n)) text p
   one_and n = forms_one And and_word (Factor n)
 
-  one_or : (n : ℕ) (text : List ℕ) (p : Predicate) → Forms Predicate (TakesAnds (Factor n)) text p → Forms Predicate (TakesOrs (Factor n)) text p
+  one_or : (n : ℕ) (text : List ℕ) (p : Predicate) → Forms Predicate (TakesAnds (Factor n)) text p
+      → Forms Predicate (TakesOrs (Factor n)) text p
   one_or n = forms_one Or or_word (TakesAnds (Factor n))
 
   -- by what is printed in each place
-  stands_by : (n : ℕ) (p : Predicate) (is : Printed) → printed spaces p ≡ is → Forms Predicate (TakesOrs (Factor n)) is.alone p
+  stands_by : (n : ℕ) (p : Predicate) (is : PredicateText) → predicate_text spaces p ≡ is → Forms Predicate (TakesOrs (Factor n)) is.alone p
       → Forms Predicate (TakesAnds (Factor n)) is.in_or p → Forms Predicate (Factor n) is.in_and p → Stands n p
   stands_by n p is e a b c = record {
-    alone = subst (λ (t : Printed). Forms Predicate (TakesOrs (Factor n)) t.alone p) (sym e) a;
-    in_or = subst (λ (t : Printed). Forms Predicate (TakesAnds (Factor n)) t.in_or p) (sym e) b;
-    in_and = subst (λ (t : Printed). Forms Predicate (Factor n) t.in_and p) (sym e) c;
+    alone = subst (λ (t : PredicateText). Forms Predicate (TakesOrs (Factor n)) t.alone p) (sym e) a;
+    in_or = subst (λ (t : PredicateText). Forms Predicate (TakesAnds (Factor n)) t.in_or p) (sym e) b;
+    in_and = subst (λ (t : PredicateText). Forms Predicate (Factor n) t.in_and p) (sym e) c;
   }
 
-  comparison_stands : (n : ℕ) (p : Predicate) (text : List ℕ) → printed spaces p ≡ comparison_text text
+  comparison_stands : (n : ℕ) (p : Predicate) (text : List ℕ) → predicate_text spaces p ≡ comparison_text text
       → Forms Predicate (TakesComparison (numbered_scope spaces)) text p → Stands n p
   comparison_stands n p text e f =
-      let factor = forms_within Predicate (TakesComparison (numbered_scope spaces)) (Factor n) (comparison_within (numbered_scope spaces) n) text p f in
+      let factor = forms_within Predicate (TakesComparison (numbered_scope spaces)) (Factor n) (comparison_within (numbered_scope spaces) n)
+      text p f in
       stands_by n p (comparison_text text) e (one_or n text p (one_and n text p factor)) (one_and n text p factor) factor
 
   group_forms : (n : ℕ) (text : List ℕ) (p : Predicate) → Forms Predicate (TakesOrs (Factor n)) text p
-      → Forms Predicate (Factor (suc n)) (grouped text) p
+      → Forms Predicate (Factor (suc n)) (group_text text) p
   group_forms n text p f = record {
     head = OpenParenthesis;
     others = f.head ∷ (f.others ++ (CloseParenthesis ∷ []));
@@ -427,7 +438,8 @@ module _ (spaces : List (List ℕ)) where
         inr (
           f.head ∷ ((f.others ++ (CloseParenthesis ∷ [])) ++ rest),
           refl,
-          subst (λ ts. TakesOrs (Factor n) (f.head ∷ ts) p (CloseParenthesis ∷ rest)) (sym (append_assoc f.others (CloseParenthesis ∷ []) rest))
+          subst (λ ts. TakesOrs (Factor n) (f.head ∷ ts) p (CloseParenthesis ∷ rest))
+              (sym (append_assoc f.others (CloseParenthesis ∷ []) rest))
               (f.takes (CloseParenthesis ∷ rest)),
         );
   }
@@ -450,32 +462,35 @@ module _ (spaces : List (List ℕ)) where
   -- in parentheses one level more is open
   group_stands : (n : ℕ) (p : Predicate) → OrPart n p → Stands (suc n) p
   group_stands n p (inl (inl s)) = record {
-    alone = deeper_ors n (printed spaces p).alone p s.alone;
-    in_or = deeper_ands n (printed spaces p).in_or p s.in_or;
-    in_and = deeper_factor n (printed spaces p).in_and p s.in_and;
+    alone = deeper_ors n (predicate_text spaces p).alone p s.alone;
+    in_or = deeper_ands n (predicate_text spaces p).in_or p s.in_or;
+    in_and = deeper_factor n (predicate_text spaces p).in_and p s.in_and;
   }
   group_stands n p (inl (inr a)) =
       let text = parts_text spaces Ands a.parts in
-      stands_by (suc n) p (ands_text text) (ap (printed spaces) a.is ∙ prints_and spaces a.parts)
+      stands_by (suc n) p (ands_text text) (ap (predicate_text spaces) a.is ∙ prints_and spaces a.parts)
       (one_or (suc n) text p (deeper_ands n text p a.forms)) (deeper_ands n text p a.forms) (group_forms n text p (one_or n text p a.forms))
   group_stands n p (inr o) =
       let text = parts_text spaces Ors o.parts in
       let group = group_forms n text p o.forms in
-      stands_by (suc n) p (ors_text text) (ap (printed spaces) o.is ∙ prints_or spaces o.parts) (deeper_ors n text p o.forms)
-      (one_and (suc n) (grouped text) p group) group
+      stands_by (suc n) p (ors_text text) (ap (predicate_text spaces) o.is ∙ prints_or spaces o.parts) (deeper_ors n text p o.forms)
+      (one_and (suc n) (group_text text) p group) group
 
-  in_or_of : (n : ℕ) (p : Predicate) → AndPart n p → Forms Predicate (TakesAnds (Factor n)) (printed spaces p).in_or p
+  in_or_of : (n : ℕ) (p : Predicate) → AndPart n p → Forms Predicate (TakesAnds (Factor n)) (predicate_text spaces p).in_or p
   in_or_of n p (inl s) = s.in_or
   in_or_of n p (inr a) =
-      subst (λ (t : Printed). Forms Predicate (TakesAnds (Factor n)) t.in_or p) (sym (ap (printed spaces) a.is ∙ prints_and spaces a.parts)) a.forms
+      subst (λ (t : PredicateText). Forms Predicate (TakesAnds (Factor n)) t.in_or p)
+      (sym (ap (predicate_text spaces) a.is ∙ prints_and spaces a.parts)) a.forms
 
-  alone_of : (n : ℕ) (p : Predicate) → OrPart n p → Forms Predicate (TakesOrs (Factor n)) (printed spaces p).alone p
+  alone_of : (n : ℕ) (p : Predicate) → OrPart n p → Forms Predicate (TakesOrs (Factor n)) (predicate_text spaces p).alone p
   alone_of n p (inl (inl s)) = s.alone
   alone_of n p (inl (inr a)) =
-      subst (λ (t : Printed). Forms Predicate (TakesOrs (Factor n)) t.alone p) (sym (ap (printed spaces) a.is ∙ prints_and spaces a.parts))
+      subst (λ (t : PredicateText). Forms Predicate (TakesOrs (Factor n)) t.alone p)
+      (sym (ap (predicate_text spaces) a.is ∙ prints_and spaces a.parts))
       (one_or n (parts_text spaces Ands a.parts) p a.forms)
   alone_of n p (inr o) =
-      subst (λ (t : Printed). Forms Predicate (TakesOrs (Factor n)) t.alone p) (sym (ap (printed spaces) o.is ∙ prints_or spaces o.parts)) o.forms
+      subst (λ (t : PredicateText). Forms Predicate (TakesOrs (Factor n)) t.alone p)
+      (sym (ap (predicate_text spaces) o.is ∙ prints_or spaces o.parts)) o.forms
 
   module _ (scope : Scope) where
     abbrev Known : (n : ℕ) → Rule Predicate → (Predicate → Type 0) → Type 0
@@ -483,8 +498,8 @@ module _ (spaces : List (List ℕ)) where
 
     comparison_back : (n : ℕ) → Known n (TakesComparison scope) (Stands n)
     comparison_back n ts p rest (inl a) v has =
-        let w : AreTokens (At ∷ (Name (bare a.local) ∷ (EqualsSign ∷ (Literal a.value ∷ rest)))) = subst AreTokens a.tokens_are v in (
-          comparison_stands n p (attribute_text a.local a.value) (ap (printed spaces) a.means ∙ prints_attr spaces a.local a.value)
+        let w : AreTokens (At ∷ (Name (bare_name a.local) ∷ (EqualsSign ∷ (Literal a.value ∷ rest)))) = subst AreTokens a.tokens_are v in (
+          comparison_stands n p (attribute_text a.local a.value) (ap (predicate_text spaces) a.means ∙ prints_attr spaces a.local a.value)
               (subst (Forms Predicate (TakesComparison (numbered_scope spaces)) (attribute_text a.local a.value)) (sym a.means)
               (attribute_back (numbered_scope spaces) a.local a.value w.1.0 w.1.1.1.0)),
           w.1.1.1.1,
@@ -492,42 +507,45 @@ module _ (spaces : List (List ℕ)) where
     comparison_back n ts p rest (inr c) v has =
         let w : AreTokens (Name c.written ∷ (EqualsSign ∷ (Literal c.value ∷ rest))) = subst AreTokens c.tokens_are v in
         let part : IsPart c.name.local = subst IsPart (sym c.named.local_is) w.0 in
-        let space : has_space spaces c.name.space ≡ true = sym (had_child spaces c.name c.value) ∙ ap (has_spaces spaces) (sym c.means) ∙ has in (
-          comparison_stands n p (child_text spaces c.name c.value) (ap (printed spaces) c.means ∙ prints_child spaces c.name c.value)
+        let space : has_space spaces c.name.space ≡ true = sym (had_child spaces c.name c.value) ∙ ap (has_spaces spaces) (sym c.means)
+        ∙ has in (
+          comparison_stands n p (child_text spaces c.name c.value) (ap (predicate_text spaces) c.means ∙ prints_child spaces c.name c.value)
               (subst (Forms Predicate (TakesComparison (numbered_scope spaces)) (child_text spaces c.name c.value)) (sym c.means)
               (child_back spaces c.name c.value (name_back spaces c.name part space) w.1.1.0)),
           w.1.1.1,
         )
 
     module _ (n : ℕ) (factor : Known n (TakesFactor scope n) (Stands n)) where
-      ands_parts : (first : Predicate) (others : List Predicate) (p : Predicate) → p ≡ joined And first others → Stands n first
+      ands_parts : (first : Predicate) (others : List Predicate) (p : Predicate) → p ≡ join_of And first others → Stands n first
           → Each (Stands n) others → AndPart n p
       ands_parts first [] p e s h = inl (subst (Stands n) (sym e) s)
       ands_parts first (q ∷ qs) p e s h = inr (record {
         parts = first ∷ (q ∷ qs);
         is = e;
         forms = subst (Forms Predicate (TakesAnds (Factor n)) (parts_text spaces Ands (first ∷ (q ∷ qs)))) (sym e)
-            (forms_joined And and_word (Factor n) (codes " and ") and_is (λ x. (printed spaces x).in_and) first q qs
-            (each_from (Stands n) (λ x. Forms Predicate (Factor n) (printed spaces x).in_and x) (λ x k. k.in_and) (first ∷ (q ∷ qs)) (s, h)));
+            (forms_joined And and_word (Factor n) (codes " and ") and_is (λ x. (predicate_text spaces x).in_and) first q qs
+            (each_from (Stands n) (λ x. Forms Predicate (Factor n) (predicate_text spaces x).in_and x) (λ x k. k.in_and) (first ∷ (q ∷ qs))
+            (s, h)));
       })
 
-      ors_parts : (first : Predicate) (others : List Predicate) (p : Predicate) → p ≡ joined Or first others → AndPart n first
+      ors_parts : (first : Predicate) (others : List Predicate) (p : Predicate) → p ≡ join_of Or first others → AndPart n first
           → Each (AndPart n) others → OrPart n p
       ors_parts first [] p e s h = inl (subst (AndPart n) (sym e) s)
       ors_parts first (q ∷ qs) p e s h = inr (record {
         parts = first ∷ (q ∷ qs);
         is = e;
         forms = subst (Forms Predicate (TakesOrs (Factor n)) (parts_text spaces Ors (first ∷ (q ∷ qs)))) (sym e)
-            (forms_joined Or or_word (TakesAnds (Factor n)) (codes " or ") or_is (λ x. (printed spaces x).in_or) first q qs
-            (each_from (AndPart n) (λ x. Forms Predicate (TakesAnds (Factor n)) (printed spaces x).in_or x) (in_or_of n) (first ∷ (q ∷ qs)) (s, h)));
+            (forms_joined Or or_word (TakesAnds (Factor n)) (codes " or ") or_is (λ x. (predicate_text spaces x).in_or) first q qs
+            (each_from (AndPart n) (λ x. Forms Predicate (TakesAnds (Factor n)) (predicate_text spaces x).in_or x) (in_or_of n)
+            (first ∷ (q ∷ qs)) (s, h)));
       })
 
-      and_spaces : (first : Predicate) (others : List Predicate) → has_spaces spaces (joined And first others) ≡ true
+      and_spaces : (first : Predicate) (others : List Predicate) → has_spaces spaces (join_of And first others) ≡ true
           → list_all (has_spaces spaces) (first ∷ others) ≡ true
       and_spaces first [] e = rw e refl
       and_spaces first (q ∷ qs) e = sym (had_and spaces (first ∷ (q ∷ qs))) ∙ e
 
-      or_spaces : (first : Predicate) (others : List Predicate) → has_spaces spaces (joined Or first others) ≡ true
+      or_spaces : (first : Predicate) (others : List Predicate) → has_spaces spaces (join_of Or first others) ≡ true
           → list_all (has_spaces spaces) (first ∷ others) ≡ true
       or_spaces first [] e = rw e refl
       or_spaces first (q ∷ qs) e = sym (had_or spaces (first ∷ (q ∷ qs))) ∙ e
@@ -537,7 +555,8 @@ module _ (spaces : List (List ℕ)) where
           let all = and_parts (has_spaces spaces d.first) (list_all (has_spaces spaces) d.others)
           (and_spaces d.first d.others (ap (has_spaces spaces) (sym d.means) ∙ has)) in
           let one = factor ts d.first d.mid d.one v all.0 in
-          let more = more_given Predicate (TakesFactor scope n) (has_spaces spaces) (Stands n) and_word factor d.mid d.others rest d.more one.1 all.1 in
+          let more = more_given Predicate (TakesFactor scope n) (has_spaces spaces) (Stands n) and_word factor d.mid d.others rest d.more
+          one.1 all.1 in
           (ands_parts d.first d.others p d.means one.0 more.0, more.1)
 
       or_back : Known n (TakesOrs (TakesFactor scope n)) (OrPart n)
@@ -545,7 +564,8 @@ module _ (spaces : List (List ℕ)) where
           let all = and_parts (has_spaces spaces d.first) (list_all (has_spaces spaces) d.others)
           (or_spaces d.first d.others (ap (has_spaces spaces) (sym d.means) ∙ has)) in
           let one = and_back ts d.first d.mid d.one v all.0 in
-          let more = more_given Predicate (TakesAnds (TakesFactor scope n)) (has_spaces spaces) (AndPart n) or_word and_back d.mid d.others rest d.more
+          let more = more_given Predicate (TakesAnds (TakesFactor scope n)) (has_spaces spaces) (AndPart n) or_word and_back d.mid d.others
+          rest d.more
           one.1 all.1 in
           (ors_parts d.first d.others p d.means one.0 more.0, more.1)
 
@@ -569,9 +589,10 @@ module _ (spaces : List (List ℕ)) where
     record Head (name : Option element.Name) : Type 0 where
       pub token : Token
       pub asks : AsksFor printed_scope token name
-      pub lexed : Lexed (test_name_text spaces name) (token ∷ [])
+      pub lexed : Lexes (test_name_text spaces name) (token ∷ [])
 
-    head_back : (t : Token) (name : Option element.Name) → AsksFor scope t name → IsToken t → has_each spaces (name_spaces name) ≡ true → Head name
+    head_back : (t : Token) (name : Option element.Name) → AsksFor scope t name → IsToken t → has_each spaces (name_spaces name) ≡ true
+        → Head name
     head_back t None e v has = record { token = Any; asks = refl; lexed = symbol_alone 0x2A Any any_is }
     head_back t (Some name) (q, e, s) v has =
         let w : IsToken (Name q) = subst IsToken e v in
@@ -580,13 +601,13 @@ module _ (spaces : List (List ℕ)) where
 
     record Tail (predicate : Option Predicate) : Type 0 where
       pub tokens : List Token
-      pub lexed : Lexed (brackets_text spaces predicate) tokens
+      pub lexed : Lexes (brackets_text spaces predicate) tokens
       pub ends : EndsName (brackets_text spaces predicate)
       pub takes : (rest : List Token) → TakesPredicate printed_scope depth (tokens ++ rest) predicate rest
 
-    in_brackets : (p : Predicate) → Forms Predicate (TakesOrPart printed_scope depth) (printed spaces p).alone p → Tail (Some p)
+    in_brackets : (p : Predicate) → Forms Predicate (TakesOrPart printed_scope depth) (predicate_text spaces p).alone p → Tail (Some p)
     in_brackets p f =
-        let text = (printed spaces p).alone in
+        let text = (predicate_text spaces p).alone in
         record {
           tokens = OpenBracket ∷ (f.head ∷ (f.others ++ (CloseBracket ∷ [])));
           lexed = before 0x5B OpenBracket open_bracket_is (text ++ codes "]") (f.head ∷ (f.others ++ (CloseBracket ∷ [])))
@@ -596,12 +617,14 @@ module _ (spaces : List (List ℕ)) where
           takes = λ rest. (
             f.head ∷ ((f.others ++ (CloseBracket ∷ [])) ++ rest),
             refl,
-            subst (λ ts. TakesOrPart printed_scope depth (f.head ∷ ts) p (CloseBracket ∷ rest)) (sym (append_assoc f.others (CloseBracket ∷ []) rest))
+            subst (λ ts. TakesOrPart printed_scope depth (f.head ∷ ts) p (CloseBracket ∷ rest))
+                (sym (append_assoc f.others (CloseBracket ∷ []) rest))
                 (f.takes (CloseBracket ∷ rest)),
           );
         }
 
-    tail_back : (ts : List Token) (predicate : Option Predicate) (rest : List Token) → TakesPredicate scope depth ts predicate rest → AreTokens ts
+    tail_back : (ts : List Token) (predicate : Option Predicate) (rest : List Token) → TakesPredicate scope depth ts predicate rest
+        → AreTokens ts
         → has_each spaces (brackets_spaces predicate) ≡ true → Tail predicate × AreTokens rest
     tail_back ts None rest e v has =
         (record { tokens = []; lexed = nothing; ends = nothing_ends; takes = λ rest. refl }, subst AreTokens e v)
@@ -610,7 +633,8 @@ module _ (spaces : List (List ℕ)) where
         let part = or_back scope depth (factor_back scope depth) inner p (CloseBracket ∷ rest) g w.1 has in
         (in_brackets p (alone_of depth p part.0), part.1.1)
 
-    test_forms : (test : Test) → Head test.name → Tail test.predicate → Forms Test (TakesTest printed_scope depth) (test_text spaces test) test
+    test_forms : (test : Test) → Head test.name → Tail test.predicate
+        → Forms Test (TakesTest printed_scope depth) (test_text spaces test) test
     test_forms test h t = record {
       head = h.token;
       others = t.tokens;
@@ -644,7 +668,8 @@ module _ (spaces : List (List ℕ)) where
               (t.0, subst (λ ts. TakesTest printed_scope depth (f.head ∷ ts) test t.0) (append-nil f.others) t.1, t.2);
         }
 
-    tests_back : (ts : List Token) (tests : List Test) (filter : Filter) → filter.tests ≡ tests → AreTests scope depth ts tests → AreTokens ts
+    tests_back : (ts : List Token) (tests : List Test) (filter : Filter) → filter.tests ≡ tests → AreTests scope depth ts tests
+        → AreTokens ts
         → list_all (has_test_spaces spaces) tests ≡ true → WritesWithin depth (filter_text spaces filter) printed_scope filter
     tests_back ts [] filter is e v has = record {
       tokens = [];
@@ -657,17 +682,20 @@ module _ (spaces : List (List ℕ)) where
         let have = and_parts (has_test_spaces spaces test) (list_all (has_test_spaces spaces) tests) has in
         let first = test_back ts test mid one v have.0 in
         let others = more_given Test (TakesTest scope depth) (has_test_spaces spaces)
-        (λ test. Forms Test (TakesTest printed_scope depth) (test_text spaces test) test) or_word test_back mid tests [] more first.1 have.1 in
+        (λ test. Forms Test (TakesTest printed_scope depth) (test_text spaces test) test) or_word test_back mid tests [] more first.1
+        have.1 in
         tests_written test tests filter is
         (forms_all Test (codes " or ") or_word or_is (TakesTest printed_scope depth) (test_text spaces) test tests first.0 others.0)
 
-pub nests_no_deeper : (spaces : List (List ℕ)) (filter : Filter) → HasSpaces spaces filter → NestsNoDeeper (filter_text spaces filter) spaces filter
+pub nests_no_deeper : (spaces : List (List ℕ)) (filter : Filter) → HasSpaces spaces filter
+    → NestsNoDeeper (filter_text spaces filter) spaces filter
 nests_no_deeper spaces filter has depth can =
     tests_back spaces can.scope depth can.writes.tokens filter.tests filter refl can.writes.filter_is
     (are_tokens (chars can.text) can.writes.tokens can.writes.rest (scalars-chars can.text can.is_text) can.writes.lexed)
     (sym (each_of_all (has_space spaces) test_spaces filter.tests) ∙ has)
 
-pub printed_back : (spaces : List (List ℕ)) (filter : Filter) → HasSpaces spaces filter → WritesBack (filter_text spaces filter) spaces filter
+pub printed_back : (spaces : List (List ℕ)) (filter : Filter) → HasSpaces spaces filter
+    → WritesBack (filter_text spaces filter) spaces filter
 printed_back spaces filter has = nests_no_deeper spaces filter has deepest
 
 pub answered_back : (spaces : List (List ℕ)) (filter : Filter) → HasSpaces spaces filter → CanBeParsed filter

@@ -1,5 +1,8 @@
--- What a reader has reached in the characters of a text: (1) tokens take characters from the front; (2) the next place, the stop at a token, the
--- stop where no token stands and the end; (3) each text is a filter or stops to be one, and (4) at one place alone.
+-- What a reader has reached in the characters of a text. Plan:
+-- (1) each token takes characters from the front, so that what is left is an end of the text;
+-- (2) the next place after a token for which there is a step; the stop at a token without one, the stop where no token stands, and the end;
+-- (3) each text is a filter or stops to be one,
+-- (4) and at one place alone.
 use Rattle.std.proofs.Common.{◌≡◌, ◌≢◌, ℕ, ◌<◌, ◌≤◌, Bool, true, false, List, [], ◌∷◌, ◌++◌, length, refl, ap, sym, ◌∙◌, subst, arith, Option, Some, None, append_assoc, length-append}
 use Rattle.std.specs.Prelude.{◌==◌, if◌then◌else◌, encode_utf8_all, chars}
 use Rattle.std.proofs.lemmas.Str.{encodes-append, length-le-encodes}
@@ -11,10 +14,10 @@ use Rattle.ifmap_reader.specs.declared.scoping.Scope.{Scope}
 use Rattle.ifmap_filter.specs.declared.filters.Filter.{Filter}
 use Rattle.ifmap_filter.specs.declared.tokens.Token.{Token}
 use Rattle.ifmap_filter.specs.Grammar.{IsFilter, deepest}
-use Rattle.ifmap_filter.specs.Progress.{GoesOn, Where, Start, step, whole}
-use Rattle.ifmap_filter.specs.Reaching.{Reached}
+use Rattle.ifmap_filter.specs.Progress.{GoesOn, Where, Start, step, filter_at}
+use Rattle.ifmap_filter.specs.Reaching.{Reaches}
 use Rattle.ifmap_filter.specs.Texts.{BeginsFilter, StopsAt, Writes, offset}
-use Rattle.ifmap_filter.specs.Tokens.{IsEnd, Taken, Takes, after_while, closed_literal, front_while, is_but, is_quote, literal_at, name_at, name_from, name_token, part_bytes, prefixed_name_at, symbol_of, taken, token_at, with_symbol, without_white}
+use Rattle.ifmap_filter.specs.Tokens.{IsEnd, FrontToken, Takes, after_while, closed_literal, front_while, is_but, is_quote, literal_at, name_at, name_from, name_token, part_bytes, prefixed_name_at, symbol_of, front_token, token_at, with_symbol, without_white}
 use Rattle.ifmap_filter.proofs.Ending.{EndsAt, ends, goes_on}
 use Rattle.ifmap_filter.proofs.Stepping.{IsRight, right}
 
@@ -47,8 +50,8 @@ after_later cs mid rest ([], e) l = subst (λ xs. IsLater xs rest) (sym e) l
 after_later cs mid rest (x ∷ front, e) (c, more, f) =
     (x, front ++ (c ∷ more), e ∙ ap (λ xs. x ∷ (front ++ xs)) f ∙ ap (λ xs. x ∷ xs) (sym (append_assoc front (c ∷ more) rest)))
 
-some_inj : (t : Token) (rest : List ℕ) (k : Taken) → Some k ≡ Some (taken t rest) → k.rest ≡ rest
-some_inj t rest k e = let same : k ≡ taken t rest = cc in ap (λ (x : Taken). x.rest) same
+some_inj : (t : Token) (rest : List ℕ) (k : FrontToken) → Some k ≡ Some (front_token t rest) → k.rest ≡ rest
+some_inj t rest k e = let same : k ≡ front_token t rest = cc in ap (λ (x : FrontToken). x.rest) same
 
 pub inner : (c : ℕ) → is_name_start c ≡ true → is_name_character c ≡ true
 inner c starts = rw starts refl
@@ -59,47 +62,52 @@ part_later c cs starts =
     (later_from c cs (after_while is_name_character cs) (after_is is_name_character cs))
 
 module _ (t : Token) (rest : List ℕ) where
-  prefixed_later : (prefix cs : List ℕ) → prefixed_name_at prefix cs ≡ Some (taken t rest) → IsAfter cs rest
+  prefixed_later : (prefix cs : List ℕ) → prefixed_name_at prefix cs ≡ Some (front_token t rest) → IsAfter cs rest
   prefixed_later prefix [] e = cc
   prefixed_later prefix (c ∷ cs) e = by (is_name_start c) e
     where
-      by : (b : Bool) → (if b then Some (taken (name_token prefix (part_bytes (c ∷ cs))) (after_while is_name_character (c ∷ cs))) else None) ≡ Some (taken t rest)
+      by : (b : Bool) → (if b then Some (front_token (name_token prefix (part_bytes (c ∷ cs))) (after_while is_name_character (c ∷ cs)))
+          else None) ≡ Some (front_token t rest)
           → IsAfter (c ∷ cs) rest
       by true f = subst (IsAfter (c ∷ cs)) (some_inj t rest _ f) (after_is is_name_character (c ∷ cs))
       by false f = cc
 
-  from_later : (part cs : List ℕ) → name_from part cs ≡ Some (taken t rest) → IsAfter cs rest
+  from_later : (part cs : List ℕ) → name_from part cs ≡ Some (front_token t rest) → IsAfter cs rest
   from_later part [] e = subst (IsAfter []) (some_inj t rest _ e) ([], refl)
   from_later part (c ∷ cs) e = by (c == colon) e
     where
-      by : (b : Bool) → (if b then prefixed_name_at part cs else Some (taken (name_token [] part) (c ∷ cs))) ≡ Some (taken t rest) → IsAfter (c ∷ cs) rest
+      by : (b : Bool) → (if b then prefixed_name_at part cs else Some (front_token (name_token [] part) (c ∷ cs)))
+          ≡ Some (front_token t rest) → IsAfter (c ∷ cs) rest
       by true f = let l = prefixed_later part cs f in (c ∷ l.0, ap (λ xs. c ∷ xs) l.1)
       by false f = subst (IsAfter (c ∷ cs)) (some_inj t rest _ f) ([], refl)
 
-  literal_later : (quote : ℕ) (cs : List ℕ) → literal_at quote cs ≡ Some (taken t rest) → IsAfter cs rest
+  literal_later : (quote : ℕ) (cs : List ℕ) → literal_at quote cs ≡ Some (front_token t rest) → IsAfter cs rest
   literal_later quote cs e = from (after_while (is_but quote) cs) (after_is (is_but quote) cs) e
     where
-      from : (closed : List ℕ) → IsAfter cs closed → closed_literal (front_while (is_but quote) cs) closed ≡ Some (taken t rest) → IsAfter cs rest
+      from : (closed : List ℕ) → IsAfter cs closed → closed_literal (front_while (is_but quote) cs) closed ≡ Some (front_token t rest)
+          → IsAfter cs rest
       from [] l f = cc
       from (q ∷ after) (front, l) f =
           let same : after ≡ rest = some_inj t rest _ f in
           (front ++ q ∷ [], l ∙ sym (append_assoc front (q ∷ []) after) ∙ ap (λ xs. (front ++ q ∷ []) ++ xs) same)
 
-  symbol_later : (cs : List ℕ) (o : Option Token) → with_symbol cs o ≡ Some (taken t rest) → IsAfter cs rest
+  symbol_later : (cs : List ℕ) (o : Option Token) → with_symbol cs o ≡ Some (front_token t rest) → IsAfter cs rest
   symbol_later cs None e = cc
   symbol_later cs (Some s) e = subst (IsAfter cs) (some_inj t rest _ e) ([], refl)
 
-  pub token_later : (cs : List ℕ) → token_at cs ≡ Some (taken t rest) → IsLater cs rest
+  pub token_later : (cs : List ℕ) → token_at cs ≡ Some (front_token t rest) → IsLater cs rest
   token_later [] e = cc
   token_later (c ∷ cs) e = by (is_quote c) e
     where
-      by_name : (b : Bool) → is_name_start c ≡ b → (if b then name_at (c ∷ cs) else with_symbol cs (symbol_of c)) ≡ Some (taken t rest) → IsLater (c ∷ cs) rest
+      by_name : (b : Bool) → is_name_start c ≡ b → (if b then name_at (c ∷ cs) else with_symbol cs (symbol_of c))
+          ≡ Some (front_token t rest) → IsLater (c ∷ cs) rest
       by_name true starts f =
           later_after (c ∷ cs) (after_while is_name_character (c ∷ cs)) rest (part_later c cs starts)
           (from_later (part_bytes (c ∷ cs)) (after_while is_name_character (c ∷ cs)) f)
       by_name false starts f = later_from c cs rest (symbol_later cs (symbol_of c) f)
 
-      by : (b : Bool) → (if b then literal_at c cs else (if is_name_start c then name_at (c ∷ cs) else with_symbol cs (symbol_of c))) ≡ Some (taken t rest)
+      by : (b : Bool) → (if b then literal_at c cs else (if is_name_start c then name_at (c ∷ cs) else with_symbol cs (symbol_of c)))
+          ≡ Some (front_token t rest)
           → IsLater (c ∷ cs) rest
       by true f = later_from c cs rest (literal_later c cs f)
       by false f = by_name (is_name_start c) refl f
@@ -132,15 +140,15 @@ taken_later cs t rest takes = after_later cs (without_white cs) rest (white_afte
 
 pub only_taken : (cs : List ℕ) (t u : Token) (rest after : List ℕ) → Takes cs t rest → Takes cs u after → (t ≡ u) × (rest ≡ after)
 only_taken cs t u rest after one other =
-    let both : Some (taken t rest) ≡ Some (taken u after) = sym one ∙ other in
-    let same : taken t rest ≡ taken u after = cc in
-    (ap (λ (k : Taken). k.token) same, ap (λ (k : Taken). k.rest) same)
+    let both : Some (front_token t rest) ≡ Some (front_token u after) = sym one ∙ other in
+    let same : front_token t rest ≡ front_token u after = cc in
+    (ap (λ (k : FrontToken). k.token) same, ap (λ (k : FrontToken). k.rest) same)
 
 pub not_end : (cs : List ℕ) (t : Token) (rest : List ℕ) → Takes cs t rest → IsEnd cs → ⊥
-not_end cs t rest takes end = let wrong : None ≡ Some (taken t rest) = sym (ap token_at end) ∙ takes in cc
+not_end cs t rest takes end = let wrong : None ≡ Some (front_token t rest) = sym (ap token_at end) ∙ takes in cc
 
 module _ (text : List ℕ) (scope : Scope) where
-  pub at_start : Reached text scope Start (chars text)
+  pub at_start : Reaches text scope Start (chars text)
   at_start = record {
     tokens = [];
     room = deepest;
@@ -149,13 +157,14 @@ module _ (text : List ℕ) (scope : Scope) where
     goes = (λ filter more. ((λ is. is), (λ is. is)));
   }
 
-  module _ (w : Where) (cs : List ℕ) (r : Reached text scope w cs) where
+  module _ (w : Where) (cs : List ℕ) (r : Reaches text scope w cs) where
     begins : BeginsFilter scope r.tokens
     begins =
         let g = goes_on scope r.room w in
         record { more = g.1; filter = g.0; filter_is = (r.goes g.0 g.1).1 g.2 }
 
-    pub next_place : (t : Token) (rest : List ℕ) → Takes cs t rest → (next : Where) → step scope w t ≡ Some next → Reached text scope next rest
+    pub next_place : (t : Token) (rest : List ℕ) → Takes cs t rest → (next : Where) → step scope w t ≡ Some next
+        → Reaches text scope next rest
     next_place t rest takes next is =
         let ok = subst (IsRight scope r.room w t) is (right scope r.room w r.room_is t) in
         record {
@@ -164,8 +173,10 @@ module _ (text : List ℕ) (scope : Scope) where
           room_is = ok.1;
           lexed = to_last Takes (chars text) r.tokens cs t rest r.lexed takes;
           goes = (λ filter more. (
-            (λ is. (ok.2 filter more).0 ((r.goes filter (t ∷ more)).0 (subst (λ ts. IsFilter scope ts filter) (append_assoc r.tokens (t ∷ []) more) is))),
-            (λ g. subst (λ ts. IsFilter scope ts filter) (sym (append_assoc r.tokens (t ∷ []) more)) ((r.goes filter (t ∷ more)).1 ((ok.2 filter more).1 g))),
+            (λ is. (ok.2 filter more).0 ((r.goes filter (t ∷ more)).0
+                (subst (λ ts. IsFilter scope ts filter) (append_assoc r.tokens (t ∷ []) more) is))),
+            (λ g. subst (λ ts. IsFilter scope ts filter) (sym (append_assoc r.tokens (t ∷ []) more))
+                ((r.goes filter (t ∷ more)).1 ((ok.2 filter more).1 g))),
           ));
         }
 
@@ -179,8 +190,10 @@ module _ (text : List ℕ) (scope : Scope) where
           begins = begins;
           no_further = (λ u after other b.
               let same : t ≡ u = (only_taken cs t u rest after takes other).0 in
-              let is : IsFilter scope (r.tokens ++ (u ∷ b.more)) b.filter = subst (λ ts. IsFilter scope ts b.filter) (append_assoc r.tokens (u ∷ []) b.more) b.filter_is in
-              none b.filter b.more (subst (λ v. GoesOn scope b.filter r.room w (v ∷ b.more)) (sym same) ((r.goes b.filter (u ∷ b.more)).0 is)));
+              let is : IsFilter scope (r.tokens ++ (u ∷ b.more)) b.filter = subst (λ ts. IsFilter scope ts b.filter)
+              (append_assoc r.tokens (u ∷ []) b.more) b.filter_is in
+              none b.filter b.more (subst (λ v. GoesOn scope b.filter r.room w (v ∷ b.more)) (sym same)
+              ((r.goes b.filter (u ∷ b.more)).0 is)));
           unfinished = (λ filter end is. not_end cs t rest takes end);
           at_is = refl;
         }
@@ -191,12 +204,12 @@ module _ (text : List ℕ) (scope : Scope) where
       rest = cs;
       lexed = r.lexed;
       begins = begins;
-      no_further = (λ t after takes b. let wrong : None ≡ Some (taken t after) = sym none ∙ takes in cc);
+      no_further = (λ t after takes b. let wrong : None ≡ Some (front_token t after) = sym none ∙ takes in cc);
       unfinished = (λ filter end is. some end);
       at_is = refl;
     }
 
-    pub whole_text : IsEnd cs → (filter : Filter) → whole w ≡ Some filter → Writes text scope filter
+    pub whole_text : IsEnd cs → (filter : Filter) → filter_at w ≡ Some filter → Writes text scope filter
     whole_text end filter is =
         let ok = subst (EndsAt scope r.room w) is (ends scope r.room w) in
         record {
@@ -207,7 +220,7 @@ module _ (text : List ℕ) (scope : Scope) where
           filter_is = subst (λ ts. IsFilter scope ts filter) (append-nil r.tokens) ((r.goes filter []).1 ((ok filter).1 refl));
         }
 
-    pub stops_at_end : IsEnd cs → whole w ≡ None → StopsAt text scope (offset text cs)
+    pub stops_at_end : IsEnd cs → filter_at w ≡ None → StopsAt text scope (offset text cs)
     stops_at_end end is =
         let none = subst (EndsAt scope r.room w) is (ends scope r.room w) in
         record {
@@ -216,6 +229,7 @@ module _ (text : List ℕ) (scope : Scope) where
           lexed = r.lexed;
           begins = begins;
           no_further = (λ t after takes b. not_end cs t after takes end);
-          unfinished = (λ filter e is. none filter ((r.goes filter []).0 (subst (λ ts. IsFilter scope ts filter) (sym (append-nil r.tokens)) is)));
+          unfinished = (λ filter e is. none filter ((r.goes filter []).0
+              (subst (λ ts. IsFilter scope ts filter) (sym (append-nil r.tokens)) is)));
           at_is = refl;
         }

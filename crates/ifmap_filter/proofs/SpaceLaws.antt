@@ -1,5 +1,8 @@
--- Which namespaces are had, and what is made of a list to which others are added. (1) Tests of joined lists; (2) what a predicate's parts
--- have; (3) one more namespace, and several; (4) the namespaces of several filters serve each of them.
+-- Which namespaces are had, and what is made of a list to which others are added. Plan:
+-- (1) tests of joined lists;
+-- (2) what the parts of a predicate have;
+-- (3) one more namespace at the end, and several;
+-- (4) the namespaces of several filters serve each of them.
 use Rattle.std.proofs.Common.{◌≡◌, ℕ, ◌+◌, ◌<◌, Bool, true, false, List, [], ◌∷◌, ◌++◌, get_or, length, take, refl, ap, sym, ◌∙◌, subst, inl, inr, append_assoc}
 use Rattle.std.specs.Prelude.{◌&&◌}
 use Rattle.std.specs.List.{AllByRecursion, flat_map, list_all, list_any}
@@ -40,7 +43,8 @@ tests_had spaces tests = sym (each_of_all (has_space spaces) test_spaces tests)
 
 pub spaces_child : (name : element.Name) (value : List ℕ) → predicate_spaces (Child name value) ≡ name.space ∷ []
 spaces_child name value =
-    ap predicate_spaces (sym (rolls-Child name value)) ∙ fold-roll-Predicate (List (List ℕ)) predicate_spaces_of (Predicate-F.Child name value)
+    ap predicate_spaces (sym (rolls-Child name value)) ∙ fold-roll-Predicate (List (List ℕ)) predicate_spaces_of
+    (Predicate-F.Child name value)
 
 pub spaces_and : (parts : List Predicate) → predicate_spaces (And parts) ≡ flat_map predicate_spaces parts
 spaces_and parts =
@@ -138,7 +142,8 @@ serve_each spaces [] = refl
 serve_each spaces (s ∷ these) =
     let all = with_each (with_space spaces s) these in
     let front = front_each (with_space spaces s) these in
-    let first : has_space all s ≡ true = subst (λ l. has_space l s ≡ true) (sym front.1) (had_more (with_space spaces s) front.0 s (had_with spaces s)) in
+    let first : has_space all s ≡ true = subst (λ l. has_space l s ≡ true) (sym front.1)
+    (had_more (with_space spaces s) front.0 s (had_with spaces s)) in
     rw (first, serve_each (with_space spaces s) these) refl
 
 none_declared : (s : List ℕ) → bytes_eq s [] ≡ true → is_declared s ≡ false

@@ -11,34 +11,34 @@ use Rattle.ifmap_elem.specs.declared.tokens.Qualified.{Qualified}
 use Rattle.ifmap_reader.specs.declared.scoping.Scope.{Scope}
 use Rattle.ifmap_filter.specs.declared.filters.Predicate.{Predicate}
 use Rattle.ifmap_filter.specs.declared.filters.Test.{Test}
-use Rattle.ifmap_filter.specs.declared.standing.Frame.{Frame}
-use Rattle.ifmap_filter.specs.declared.standing.Inside.{Inside}
-use Rattle.ifmap_filter.specs.declared.standing.Asked.{Asked}
+use Rattle.ifmap_filter.specs.declared.standing.OuterPart.{OuterPart}
+use Rattle.ifmap_filter.specs.declared.standing.OpenPart.{OpenPart}
+use Rattle.ifmap_filter.specs.declared.standing.Operand.{Operand}
 use Rattle.ifmap_filter.specs.declared.tokens.Token.{Token}
 use Rattle.ifmap_filter.specs.declared.tokens.Token.TheVariants.{Any, OpenBracket, CloseBracket, OpenParenthesis, CloseParenthesis, EqualsSign, At, Name, Literal}
 use Rattle.ifmap_filter.specs.Grammar.{deepest}
-use Rattle.ifmap_filter.specs.Progress.{Context, FactorDue, context, gathered, inner_context, inner_place, IsNotSingle, step_done, step_equals, step_factor, step_literal, step_local, step_named, step_test, step_tested, test_of}
+use Rattle.ifmap_filter.specs.Progress.{Context, FactorDue, context, join_parts, inner_context, inner_place, IsNotSingle, step_done, step_equals, step_factor, step_literal, step_local, step_named, step_test, step_tested, test_of}
 
 pub deepest_is : deepest ≡ 64
 unfolding deepest
 deepest_is = refl
 
-pub too_deep : (i : Inside) → 64 ≤ length i.outer → inner_place (context i) ≡ None
+pub too_deep : (i : OpenPart) → 64 ≤ length i.outer → inner_place (context i) ≡ None
 too_deep i far =
     let e : nat_lt (length (reverse i.outer)) deepest ≡ false =
     (let l = length-reverse i.outer in let d = deepest_is in grind (arith, nat_tests, l, d, far)) in
     rw e refl
 
-pub goes_deeper : (i : Inside) → length i.outer < 64 → inner_place (context i) ≡ Some (FactorDue (inner_context (context i)))
+pub goes_deeper : (i : OpenPart) → length i.outer < 64 → inner_place (context i) ≡ Some (FactorDue (inner_context (context i)))
 goes_deeper i near =
     let e : nat_lt (length (reverse i.outer)) deepest ≡ true =
     (let l = length-reverse i.outer in let d = deepest_is in grind (arith, nat_tests, l, d, near)) in
     rw e refl
 
-pub pushed : (outer : List Frame) (frame : Frame) → reverse (outer ++ frame ∷ []) ≡ frame ∷ reverse outer
-pushed outer frame = reverse-append outer (frame ∷ [])
+pub pushed : (outer : List OuterPart) (outer_part : OuterPart) → reverse (outer ++ outer_part ∷ []) ≡ outer_part ∷ reverse outer
+pushed outer outer_part = reverse-append outer (outer_part ∷ [])
 
-pub not_single : (join : List Predicate → Predicate) (parts : List Predicate) → IsNotSingle parts → gathered join parts ≡ join parts
+pub not_single : (join : List Predicate → Predicate) (parts : List Predicate) → IsNotSingle parts → join_parts join parts ≡ join parts
 not_single join [] other = refl
 not_single join (p ∷ []) other = absurd (other p refl)
 not_single join (p ∷ (q ∷ ps)) other = refl
@@ -70,7 +70,8 @@ tested_refused done At no_name = refl
 tested_refused done (Name q) no_name = absurd (no_name q refl)
 tested_refused done (Literal v) no_name = refl
 
-pub factor_refused : (scope : Scope) (c : Context) (t : Token) → t ≢ OpenParenthesis → t ≢ At → ((q : Qualified) → t ≢ Name q) → None ≡ step_factor scope c t
+pub factor_refused : (scope : Scope) (c : Context) (t : Token) → t ≢ OpenParenthesis → t ≢ At → ((q : Qualified) → t ≢ Name q)
+    → None ≡ step_factor scope c t
 factor_refused scope c Any no_OpenParenthesis no_At no_name = refl
 factor_refused scope c OpenBracket no_OpenParenthesis no_At no_name = refl
 factor_refused scope c CloseBracket no_OpenParenthesis no_At no_name = refl
@@ -92,7 +93,7 @@ local_refused c At no_name = refl
 local_refused c (Name q) no_name = absurd (no_name q refl)
 local_refused c (Literal v) no_name = refl
 
-pub equals_refused : (c : Context) (a : Asked) (t : Token) → t ≢ EqualsSign → None ≡ step_equals c a t
+pub equals_refused : (c : Context) (a : Operand) (t : Token) → t ≢ EqualsSign → None ≡ step_equals c a t
 equals_refused c a Any no_EqualsSign = refl
 equals_refused c a OpenBracket no_EqualsSign = refl
 equals_refused c a CloseBracket no_EqualsSign = refl
@@ -103,7 +104,7 @@ equals_refused c a At no_EqualsSign = refl
 equals_refused c a (Name q) no_EqualsSign = refl
 equals_refused c a (Literal v) no_EqualsSign = refl
 
-pub literal_refused : (c : Context) (a : Asked) (t : Token) → ((v : List ℕ) → t ≢ Literal v) → None ≡ step_literal c a t
+pub literal_refused : (c : Context) (a : Operand) (t : Token) → ((v : List ℕ) → t ≢ Literal v) → None ≡ step_literal c a t
 literal_refused c a Any no_literal = refl
 literal_refused c a OpenBracket no_literal = refl
 literal_refused c a CloseBracket no_literal = refl
@@ -114,7 +115,8 @@ literal_refused c a At no_literal = refl
 literal_refused c a (Name q) no_literal = refl
 literal_refused c a (Literal v) no_literal = absurd (no_literal v refl)
 
-pub done_refused : (c : Context) (t : Token) → ((q : Qualified) → t ≢ Name q) → t ≢ CloseParenthesis → t ≢ CloseBracket → None ≡ step_done c t
+pub done_refused : (c : Context) (t : Token) → ((q : Qualified) → t ≢ Name q) → t ≢ CloseParenthesis → t ≢ CloseBracket
+    → None ≡ step_done c t
 done_refused c Any no_name no_CloseParenthesis no_CloseBracket = refl
 done_refused c OpenBracket no_name no_CloseParenthesis no_CloseBracket = refl
 done_refused c CloseBracket no_name no_CloseParenthesis no_CloseBracket = absurd (no_CloseBracket refl)

@@ -1,6 +1,8 @@
--- Each step of a reader is right: what goes on with the token from the place before is what goes on from the next place, or nothing does. By
--- where the reader stands: (1) between tests; (2) at a factor, by its first token; (3) within a comparison; (4) after a factor; (5) all together;
--- (6) what ends at a place; (7) from each place some filter goes on.
+-- Each step of a reader is right: what goes on with the token from the place before is what goes on from the next place, or nothing does.
+-- Plan, by where the reader stands: (1) between tests, by whether the token is a name or a word that joins;
+-- (2) where a factor is due, by its first token: a parenthesis, `@`, or the name of a child;
+-- (3) within a comparison: the local name, the equals sign and the literal; (4) after a factor: `and`, `or`, and what closes;
+-- (5) all together, by the place; (6) what ends at a place; (7) from each place some filter goes on.
 use Rattle.std.proofs.Common.{◌≡◌, ◌≢◌, ℕ, ◌+◌, zero, suc, Bool, true, false, List, [], ◌∷◌, ◌++◌, length, refl, ap, sym, ◌∙◌, subst, arith, inl, inr, Option, Some, None, codes, add-zero}
 use Rattle.std.specs.Prelude.{◌↔◌, nat_lt, if◌then◌else◌}
 use Rattle.std.specs.Str.{bytes_eq}
@@ -14,11 +16,11 @@ use Rattle.ifmap_filter.specs.declared.filters.Test.{Test}
 use Rattle.ifmap_filter.specs.declared.filters.Filter.{Filter}
 use Rattle.ifmap_filter.specs.declared.tokens.Token.{Token}
 use Rattle.ifmap_filter.specs.declared.tokens.Token.TheVariants.{Any, OpenBracket, CloseBracket, OpenParenthesis, CloseParenthesis, EqualsSign, At, Name, Literal}
-use Rattle.ifmap_filter.specs.declared.standing.Frame.{Frame}
-use Rattle.ifmap_filter.specs.declared.standing.Asked.{Asked}
-use Rattle.ifmap_filter.specs.declared.standing.Asked.TheVariants as asked
-use Rattle.ifmap_filter.specs.Grammar.{AsksFor, StandsFor, TakesComparison, TakesFactor, TakesOrPart, TakesOrs, and_word, bare, deepest, or_word, space_of}
-use Rattle.ifmap_filter.specs.Progress.{Closes, Context, Where, Start, TestDue, Named, Tested, FactorDue, LocalDue, EqualsDue, LiteralDue, FactorDone, AfterFactor, EqualsFirst, FactorFirst, GoesOn, LiteralFirst, LocalFirst, MoreFactors, MoreTests, PredicateFirst, TestFirst, asks_named, child_named, close_group, close_test, compared, done_part, inner_context, is_word, name_in, nesting, next_part, step, step_done, step_equals, step_factor, step_literal, step_local, step_named, step_test, step_tested, test_of, with_factor}
+use Rattle.ifmap_filter.specs.declared.standing.OuterPart.{OuterPart}
+use Rattle.ifmap_filter.specs.declared.standing.Operand.{Operand}
+use Rattle.ifmap_filter.specs.declared.standing.Operand.TheVariants as operand
+use Rattle.ifmap_filter.specs.Grammar.{AsksFor, StandsFor, TakesComparison, TakesFactor, TakesOrPart, TakesOrs, and_word, bare_name, deepest, or_word, space_of}
+use Rattle.ifmap_filter.specs.Progress.{Closes, Context, Where, Start, TestDue, Named, Tested, FactorDue, LocalDue, EqualsDue, LiteralDue, FactorDone, AfterFactor, EqualsFirst, FactorFirst, GoesOn, LiteralFirst, LocalFirst, MoreFactors, MoreTests, PredicateFirst, TestFirst, asks_named, child_named, close_group, close_test, comparison_of, done_part, inner_context, is_word, name_in, nesting, next_part, step, step_done, step_equals, step_factor, step_literal, step_local, step_named, step_test, step_tested, test_of, with_factor}
 use Rattle.ifmap_filter.proofs.Continuing.{Refuses, and_more, any_asks, bare_named, head_of, name_asks, named, none_asks, not_that_word, or_more, or_part, other_more, started, tested_or, tested_other, unnamed, word_is}
 
 module _ (scope : Scope) where
@@ -34,8 +36,14 @@ module _ (scope : Scope) where
       → ((filter : Filter) (more : List Token) → GoesOn scope filter n w (t ∷ more) ↔ GoesOn scope filter n v (t ∷ more))
       → (o : Option Where) → IsRight n v t o → IsRight n w t o
   through n w v t same None right = λ filter more goes. right filter more ((same filter more).0 goes)
-  through n w v t same (Some next) (m, e, right) =
-      (m, e, (λ filter more. ((λ g. (right filter more).0 ((same filter more).0 g)), (λ g. (same filter more).1 ((right filter more).1 g)))))
+  through n w v t same (Some next) (m, e, right) = (
+    m,
+    e,
+    (λ filter more. (
+      (λ g. (right filter more).0 ((same filter more).0 g)),
+      (λ g. (same filter more).1 ((right filter more).1 g)),
+    )),
+  )
 
   -- (1) between tests
 
@@ -49,7 +57,8 @@ module _ (scope : Scope) where
   test_named n done q e (Some space) is = (
     n,
     e,
-    (λ filter more. named scope filter done (Name q) (Some (record { space = space; local = q.local })) (q, refl, record { space_is = is; local_is = refl })
+    (λ filter more. named scope filter done (Name q) (Some (record { space = space; local = q.local }))
+        (q, refl, record { space_is = is; local_is = refl })
         (name_asks scope filter q space is) more),
   )
 
@@ -58,8 +67,10 @@ module _ (scope : Scope) where
   right_test n done e (Name q) = test_named n done q e (space_of scope q.prefix) refl
   right_test n done e OpenBracket = λ filter more. unnamed scope filter done OpenBracket (no_asks OpenBracket (λ e. cc) (λ q e. cc)) more
   right_test n done e CloseBracket = λ filter more. unnamed scope filter done CloseBracket (no_asks CloseBracket (λ e. cc) (λ q e. cc)) more
-  right_test n done e OpenParenthesis = λ filter more. unnamed scope filter done OpenParenthesis (no_asks OpenParenthesis (λ e. cc) (λ q e. cc)) more
-  right_test n done e CloseParenthesis = λ filter more. unnamed scope filter done CloseParenthesis (no_asks CloseParenthesis (λ e. cc) (λ q e. cc)) more
+  right_test n done e OpenParenthesis =
+      λ filter more. unnamed scope filter done OpenParenthesis (no_asks OpenParenthesis (λ e. cc) (λ q e. cc)) more
+  right_test n done e CloseParenthesis =
+      λ filter more. unnamed scope filter done CloseParenthesis (no_asks CloseParenthesis (λ e. cc) (λ q e. cc)) more
   right_test n done e EqualsSign = λ filter more. unnamed scope filter done EqualsSign (no_asks EqualsSign (λ e. cc) (λ q e. cc)) more
   right_test n done e At = λ filter more. unnamed scope filter done At (no_asks At (λ e. cc) (λ q e. cc)) more
   right_test n done e (Literal v) = λ filter more. unnamed scope filter done (Literal v) (no_asks (Literal v) (λ e. cc) (λ q e. cc)) more
@@ -69,7 +80,8 @@ module _ (scope : Scope) where
   tested_name n done q e true is = (
     n,
     e,
-    (λ filter more. subst (λ (v : Qualified). MoreTests scope filter done (Name v ∷ more) ↔ TestFirst scope filter done more) (sym (word_is (codes "or") q is))
+    (λ filter more. subst (λ (v : Qualified). MoreTests scope filter done (Name v ∷ more) ↔ TestFirst scope filter done more)
+        (sym (word_is (codes "or") q is))
         (tested_or scope filter done more)),
   )
   tested_name n done q e false is = λ filter more. tested_other scope filter done (Name q) (not_that_word (codes "or") q is) more
@@ -93,8 +105,12 @@ module _ (scope : Scope) where
         (subst (MoreTests scope filter (done ++ test_of name None ∷ [])) (sym e) rest))
     opens (Some p, mid, (inner, e, takes), rest) =
         let tail : inner ≡ more = cc in
-        (or_part scope deepest (Closes scope filter done name deepest []) more).0
-        (p, CloseBracket ∷ mid, subst (λ (ts : List Token). TakesOrPart scope deepest ts p (CloseBracket ∷ mid)) tail takes, (mid, refl, rest))
+        (or_part scope deepest (Closes scope filter done name deepest []) more).0 (
+          p,
+          CloseBracket ∷ mid,
+          subst (λ (ts : List Token). TakesOrPart scope deepest ts p (CloseBracket ∷ mid)) tail takes,
+          (mid, refl, rest),
+        )
 
     opened : FactorFirst scope filter deepest (record { tests = done; name = name; outer = []; ors = []; ands = [] }) more
         → PredicateFirst scope filter done name (OpenBracket ∷ more)
@@ -105,30 +121,39 @@ module _ (scope : Scope) where
 
   right_named : (n : ℕ) (done : List Test) (name : Option element.Name) → n + 0 ≡ deepest → (t : Token)
       → IsRight n (Named done name) t (step_named done name t)
-  right_named n done name e OpenBracket = (deepest, add-zero deepest, (λ filter more. (opens filter done name more, opened filter done name more)))
+  right_named n done name e OpenBracket =
+      (deepest, add-zero deepest, (λ filter more. (opens filter done name more, opened filter done name more)))
   right_named n done name e Any =
-      through n (Named done name) (Tested (done ++ test_of name None ∷ [])) Any (λ filter more. bare_named scope filter done name Any (λ e. cc) more)
+      through n (Named done name) (Tested (done ++ test_of name None ∷ [])) Any
+      (λ filter more. bare_named scope filter done name Any (λ e. cc) more)
       (step_tested (done ++ test_of name None ∷ []) Any) (right_tested n (done ++ test_of name None ∷ []) e Any)
   right_named n done name e CloseBracket =
-      through n (Named done name) (Tested (done ++ test_of name None ∷ [])) CloseBracket (λ filter more. bare_named scope filter done name CloseBracket (λ e. cc) more)
+      through n (Named done name) (Tested (done ++ test_of name None ∷ [])) CloseBracket
+      (λ filter more. bare_named scope filter done name CloseBracket (λ e. cc) more)
       (step_tested (done ++ test_of name None ∷ []) CloseBracket) (right_tested n (done ++ test_of name None ∷ []) e CloseBracket)
   right_named n done name e OpenParenthesis =
-      through n (Named done name) (Tested (done ++ test_of name None ∷ [])) OpenParenthesis (λ filter more. bare_named scope filter done name OpenParenthesis (λ e. cc) more)
+      through n (Named done name) (Tested (done ++ test_of name None ∷ [])) OpenParenthesis
+      (λ filter more. bare_named scope filter done name OpenParenthesis (λ e. cc) more)
       (step_tested (done ++ test_of name None ∷ []) OpenParenthesis) (right_tested n (done ++ test_of name None ∷ []) e OpenParenthesis)
   right_named n done name e CloseParenthesis =
-      through n (Named done name) (Tested (done ++ test_of name None ∷ [])) CloseParenthesis (λ filter more. bare_named scope filter done name CloseParenthesis (λ e. cc) more)
+      through n (Named done name) (Tested (done ++ test_of name None ∷ [])) CloseParenthesis
+      (λ filter more. bare_named scope filter done name CloseParenthesis (λ e. cc) more)
       (step_tested (done ++ test_of name None ∷ []) CloseParenthesis) (right_tested n (done ++ test_of name None ∷ []) e CloseParenthesis)
   right_named n done name e EqualsSign =
-      through n (Named done name) (Tested (done ++ test_of name None ∷ [])) EqualsSign (λ filter more. bare_named scope filter done name EqualsSign (λ e. cc) more)
+      through n (Named done name) (Tested (done ++ test_of name None ∷ [])) EqualsSign
+      (λ filter more. bare_named scope filter done name EqualsSign (λ e. cc) more)
       (step_tested (done ++ test_of name None ∷ []) EqualsSign) (right_tested n (done ++ test_of name None ∷ []) e EqualsSign)
   right_named n done name e At =
-      through n (Named done name) (Tested (done ++ test_of name None ∷ [])) At (λ filter more. bare_named scope filter done name At (λ e. cc) more)
+      through n (Named done name) (Tested (done ++ test_of name None ∷ [])) At
+      (λ filter more. bare_named scope filter done name At (λ e. cc) more)
       (step_tested (done ++ test_of name None ∷ []) At) (right_tested n (done ++ test_of name None ∷ []) e At)
   right_named n done name e (Name q) =
-      through n (Named done name) (Tested (done ++ test_of name None ∷ [])) (Name q) (λ filter more. bare_named scope filter done name (Name q) (λ e. cc) more)
+      through n (Named done name) (Tested (done ++ test_of name None ∷ [])) (Name q)
+      (λ filter more. bare_named scope filter done name (Name q) (λ e. cc) more)
       (step_tested (done ++ test_of name None ∷ []) (Name q)) (right_tested n (done ++ test_of name None ∷ []) e (Name q))
   right_named n done name e (Literal v) =
-      through n (Named done name) (Tested (done ++ test_of name None ∷ [])) (Literal v) (λ filter more. bare_named scope filter done name (Literal v) (λ e. cc) more)
+      through n (Named done name) (Tested (done ++ test_of name None ∷ [])) (Literal v)
+      (λ filter more. bare_named scope filter done name (Literal v) (λ e. cc) more)
       (step_tested (done ++ test_of name None ∷ []) (Literal v)) (right_tested n (done ++ test_of name None ∷ []) e (Literal v))
 
   -- (2) at a factor
@@ -148,7 +173,7 @@ module _ (scope : Scope) where
       at_local : FactorFirst scope filter n c (At ∷ more) → LocalFirst scope filter n c more
       at_local (p, mid, takes, rest) = elim (comparison_only At (λ e. cc) n more p mid takes) [
         | inl a ↦
-            let tail : more ≡ Name (bare a.local) ∷ (EqualsSign ∷ (Literal a.value ∷ mid)) = (head_of At At more _ a.tokens_are).1 in
+            let tail : more ≡ Name (bare_name a.local) ∷ (EqualsSign ∷ (Literal a.value ∷ mid)) = (head_of At At more _ a.tokens_are).1 in
             let after : AfterFactor scope filter n (with_factor c (Attr a.local a.value)) mid =
             subst (λ f. AfterFactor scope filter n (with_factor c f) mid) a.means rest in
             (a.local, EqualsSign ∷ (Literal a.value ∷ mid), tail, (Literal a.value ∷ mid, refl, (a.value, mid, refl, after)))
@@ -157,8 +182,8 @@ module _ (scope : Scope) where
 
       local_at : LocalFirst scope filter n c more → FactorFirst scope filter n c (At ∷ more)
       local_at (local, rest, e, (others, f, (value, end, g, after))) =
-          let all : more ≡ Name (bare local) ∷ (EqualsSign ∷ (Literal value ∷ end)) =
-          e ∙ ap (λ ts. Name (bare local) ∷ ts) (f ∙ ap (λ ts. EqualsSign ∷ ts) g) in (
+          let all : more ≡ Name (bare_name local) ∷ (EqualsSign ∷ (Literal value ∷ end)) =
+          e ∙ ap (λ ts. Name (bare_name local) ∷ ts) (f ∙ ap (λ ts. EqualsSign ∷ ts) g) in (
             Attr local value,
             end,
             as_factor n (At ∷ more) (Attr local value) end
@@ -167,7 +192,7 @@ module _ (scope : Scope) where
           )
 
       child_equals : (q : Qualified) (name : element.Name) → ((other : element.Name) → StandsFor scope q other → other ≡ name)
-          → FactorFirst scope filter n c (Name q ∷ more) → EqualsFirst scope filter n c (asked.Child name) more
+          → FactorFirst scope filter n c (Name q ∷ more) → EqualsFirst scope filter n c (operand.Child name) more
       child_equals q name only (p, mid, takes, rest) = elim (comparison_only (Name q) (λ e. cc) n more p mid takes) [
         | inl a ↦ let wrong : Name q ≡ At = (head_of (Name q) At more _ a.tokens_are).0 in cc
         | inr ch ↦
@@ -181,7 +206,7 @@ module _ (scope : Scope) where
       ]
 
       equals_child : (q : Qualified) (name : element.Name) → StandsFor scope q name
-          → EqualsFirst scope filter n c (asked.Child name) more → FactorFirst scope filter n c (Name q ∷ more)
+          → EqualsFirst scope filter n c (operand.Child name) more → FactorFirst scope filter n c (Name q ∷ more)
       equals_child q name stands (rest, e, (value, end, f, after)) = (
         Child name value,
         end,
@@ -213,7 +238,8 @@ module _ (scope : Scope) where
 
     factor_name : (q : Qualified) → n + length c.outer ≡ deepest → (o : Option (List ℕ)) → space_of scope q.prefix ≡ o
         → IsRight n (FactorDue c) (Name q) (child_named c (name_in o q.local))
-    factor_name q e None is = λ filter more. no_child filter more q (λ name stands. let wrong : None ≡ Some name.space = sym is ∙ stands.space_is in cc)
+    factor_name q e None is =
+        λ filter more. no_child filter more q (λ name stands. let wrong : None ≡ Some name.space = sym is ∙ stands.space_is in cc)
     factor_name q e (Some space) is = (
       n,
       e,
@@ -248,8 +274,12 @@ module _ (scope : Scope) where
     ]),
     (λ first.
         let part = (or_part scope m (InnerThen m c filter) more).1 first in
-        let e = part.3.1 in
-        (part.0, part.3.0, inr (more, refl, subst (λ (ts : List Token). TakesOrs (TakesFactor scope m) more part.0 ts) e part.2), part.3.2)),
+        let e = part.3.1 in (
+          part.0,
+          part.3.0,
+          inr (more, refl, subst (λ (ts : List Token). TakesOrs (TakesFactor scope m) more part.0 ts) e part.2),
+          part.3.2,
+        )),
   )
 
   room : (n k : ℕ) → suc n + k ≡ deepest → nat_lt k deepest ≡ true
@@ -258,9 +288,11 @@ module _ (scope : Scope) where
   no_room : (k : ℕ) → 0 + k ≡ deepest → nat_lt k deepest ≡ false
   no_room k e = grind (arith, nat_tests)
 
-  right_open : (n : ℕ) (c : Context) → n + length c.outer ≡ deepest → IsRight n (FactorDue c) OpenParenthesis (step_factor scope c OpenParenthesis)
+  right_open : (n : ℕ) (c : Context) → n + length c.outer ≡ deepest
+      → IsRight n (FactorDue c) OpenParenthesis (step_factor scope c OpenParenthesis)
   right_open zero c e =
-      subst (λ b. IsRight zero (FactorDue c) OpenParenthesis (if b then Some (FactorDue (inner_context c)) else None)) (sym (no_room (length c.outer) e))
+      subst (λ b. IsRight zero (FactorDue c) OpenParenthesis (if b then Some (FactorDue (inner_context c)) else None))
+      (sym (no_room (length c.outer) e))
       (λ filter more first. none filter more first)
     where
       none : (filter : Filter) (more : List Token) → FactorFirst scope filter zero c (OpenParenthesis ∷ more) → ⊥
@@ -268,7 +300,8 @@ module _ (scope : Scope) where
       none filter more (p, mid, inr ch, rest) =
           let wrong : OpenParenthesis ≡ Name ch.written = (head_of OpenParenthesis (Name ch.written) more _ ch.tokens_are).0 in cc
   right_open (suc m) c e =
-      subst (λ b. IsRight (suc m) (FactorDue c) OpenParenthesis (if b then Some (FactorDue (inner_context c)) else None)) (sym (room m (length c.outer) e))
+      subst (λ b. IsRight (suc m) (FactorDue c) OpenParenthesis (if b then Some (FactorDue (inner_context c)) else None))
+      (sym (room m (length c.outer) e))
       (m, omega (arith, e), (λ filter more. open_inner m c filter more))
 
   right_factor : (n : ℕ) (c : Context) → n + length c.outer ≡ deepest → (t : Token) → IsRight n (FactorDue c) t (step_factor scope c t)
@@ -285,35 +318,37 @@ module _ (scope : Scope) where
   -- (3) within a comparison
 
   local_name : (n : ℕ) (c : Context) (q : Qualified) → n + length c.outer ≡ deepest → (b : Bool) → bytes_eq q.prefix [] ≡ b
-      → IsRight n (LocalDue c) (Name q) (if b then Some (EqualsDue c (asked.Attribute q.local)) else None)
+      → IsRight n (LocalDue c) (Name q) (if b then Some (EqualsDue c (operand.Attribute q.local)) else None)
   local_name n c q e true is = (n, e, (λ filter more. (to filter more, back filter more)))
     where
-      same : q ≡ bare q.local
+      same : q ≡ bare_name q.local
       same = let p : q.prefix ≡ [] = eq_tells q.prefix [] is in (λ i. record { prefix = p i; local = q.local })
 
-      to : (filter : Filter) (more : List Token) → LocalFirst scope filter n c (Name q ∷ more) → EqualsFirst scope filter n c (asked.Attribute q.local) more
+      to : (filter : Filter) (more : List Token) → LocalFirst scope filter n c (Name q ∷ more)
+          → EqualsFirst scope filter n c (operand.Attribute q.local) more
       to filter more (local, rest, f, equals) =
-          let both = head_of (Name q) (Name (bare local)) more rest f in
-          let first : Name q ≡ Name (bare local) = both.0 in
-          let is : q ≡ bare local = cc in
+          let both = head_of (Name q) (Name (bare_name local)) more rest f in
+          let first : Name q ≡ Name (bare_name local) = both.0 in
+          let is : q ≡ bare_name local = cc in
           let locals : local ≡ q.local = sym (ap (λ (v : Qualified). v.local) is) in
-          subst (λ l. EqualsFirst scope filter n c (asked.Attribute l) more) locals
-          (subst (EqualsFirst scope filter n c (asked.Attribute local)) (sym both.1) equals)
+          subst (λ l. EqualsFirst scope filter n c (operand.Attribute l) more) locals
+          (subst (EqualsFirst scope filter n c (operand.Attribute local)) (sym both.1) equals)
 
-      back : (filter : Filter) (more : List Token) → EqualsFirst scope filter n c (asked.Attribute q.local) more → LocalFirst scope filter n c (Name q ∷ more)
+      back : (filter : Filter) (more : List Token) → EqualsFirst scope filter n c (operand.Attribute q.local) more
+          → LocalFirst scope filter n c (Name q ∷ more)
       back filter more equals = (q.local, more, ap (λ (v : Qualified). Name v ∷ more) same, equals)
   local_name n c q e false is = λ filter more first. none filter more first
     where
       none : (filter : Filter) (more : List Token) → LocalFirst scope filter n c (Name q ∷ more) → ⊥
       none filter more (local, rest, f, equals) =
-          let first : Name q ≡ Name (bare local) = (head_of (Name q) (Name (bare local)) more rest f).0 in
-          let same : q ≡ bare local = cc in
+          let first : Name q ≡ Name (bare_name local) = (head_of (Name q) (Name (bare_name local)) more rest f).0 in
+          let same : q ≡ bare_name local = cc in
           let wrong : false ≡ true = sym is ∙ ap (λ (v : Qualified). bytes_eq v.prefix []) same in
           cc
 
   no_local : (n : ℕ) (c : Context) (t : Token) → ((q : Qualified) → t ≢ Name q) → (filter : Filter) (more : List Token)
       → LocalFirst scope filter n c (t ∷ more) → ⊥
-  no_local n c t other filter more (local, rest, e, equals) = other (bare local) (head_of t (Name (bare local)) more rest e).0
+  no_local n c t other filter more (local, rest, e, equals) = other (bare_name local) (head_of t (Name (bare_name local)) more rest e).0
 
   right_local : (n : ℕ) (c : Context) → n + length c.outer ≡ deepest → (t : Token) → IsRight n (LocalDue c) t (step_local c t)
   right_local n c e (Name q) = local_name n c q e (bytes_eq q.prefix []) refl
@@ -326,18 +361,19 @@ module _ (scope : Scope) where
   right_local n c e At = no_local n c At (λ q e. cc)
   right_local n c e (Literal v) = no_local n c (Literal v) (λ q e. cc)
 
-  no_equals : (n : ℕ) (c : Context) (a : Asked) (t : Token) → t ≢ EqualsSign → (filter : Filter) (more : List Token)
+  no_equals : (n : ℕ) (c : Context) (a : Operand) (t : Token) → t ≢ EqualsSign → (filter : Filter) (more : List Token)
       → EqualsFirst scope filter n c a (t ∷ more) → ⊥
   no_equals n c a t other filter more (rest, e, literal) = other (head_of t EqualsSign more rest e).0
 
-  equals : (n : ℕ) (c : Context) (a : Asked) (filter : Filter) (more : List Token)
+  equals : (n : ℕ) (c : Context) (a : Operand) (filter : Filter) (more : List Token)
       → EqualsFirst scope filter n c a (EqualsSign ∷ more) ↔ LiteralFirst scope filter n c a more
   equals n c a filter more = (
     (λ (rest, e, literal). subst (LiteralFirst scope filter n c a) (sym (head_of EqualsSign EqualsSign more rest e).1) literal),
     (λ literal. (more, refl, literal)),
   )
 
-  right_equals : (n : ℕ) (c : Context) (a : Asked) → n + length c.outer ≡ deepest → (t : Token) → IsRight n (EqualsDue c a) t (step_equals c a t)
+  right_equals : (n : ℕ) (c : Context) (a : Operand) → n + length c.outer ≡ deepest → (t : Token)
+      → IsRight n (EqualsDue c a) t (step_equals c a t)
   right_equals n c a e EqualsSign = (n, e, equals n c a)
   right_equals n c a e Any = no_equals n c a Any (λ e. cc)
   right_equals n c a e OpenBracket = no_equals n c a OpenBracket (λ e. cc)
@@ -348,23 +384,24 @@ module _ (scope : Scope) where
   right_equals n c a e At = no_equals n c a At (λ e. cc)
   right_equals n c a e (Literal v) = no_equals n c a (Literal v) (λ e. cc)
 
-  no_literal : (n : ℕ) (c : Context) (a : Asked) (t : Token) → ((v : List ℕ) → t ≢ Literal v) → (filter : Filter) (more : List Token)
+  no_literal : (n : ℕ) (c : Context) (a : Operand) (t : Token) → ((v : List ℕ) → t ≢ Literal v) → (filter : Filter) (more : List Token)
       → LiteralFirst scope filter n c a (t ∷ more) → ⊥
   no_literal n c a t other filter more (value, rest, e, after) = other value (head_of t (Literal value) more rest e).0
 
-  literal : (n : ℕ) (c : Context) (a : Asked) (v : List ℕ) (filter : Filter) (more : List Token)
-      → LiteralFirst scope filter n c a (Literal v ∷ more) ↔ AfterFactor scope filter n (with_factor c (compared a v)) more
+  literal : (n : ℕ) (c : Context) (a : Operand) (v : List ℕ) (filter : Filter) (more : List Token)
+      → LiteralFirst scope filter n c a (Literal v ∷ more) ↔ AfterFactor scope filter n (with_factor c (comparison_of a v)) more
   literal n c a v filter more = (
     (λ (value, rest, e, after).
         let both = head_of (Literal v) (Literal value) more rest e in
         let first : Literal v ≡ Literal value = both.0 in
         let same : value ≡ v = cc in
-        subst (λ x. AfterFactor scope filter n (with_factor c (compared a x)) more) same
-        (subst (AfterFactor scope filter n (with_factor c (compared a value))) (sym both.1) after)),
+        subst (λ x. AfterFactor scope filter n (with_factor c (comparison_of a x)) more) same
+        (subst (AfterFactor scope filter n (with_factor c (comparison_of a value))) (sym both.1) after)),
     (λ after. (v, more, refl, after)),
   )
 
-  right_literal : (n : ℕ) (c : Context) (a : Asked) → n + length c.outer ≡ deepest → (t : Token) → IsRight n (LiteralDue c a) t (step_literal c a t)
+  right_literal : (n : ℕ) (c : Context) (a : Operand) → n + length c.outer ≡ deepest → (t : Token)
+      → IsRight n (LiteralDue c a) t (step_literal c a t)
   right_literal n c a e (Literal v) = (n, e, literal n c a v)
   right_literal n c a e Any = no_literal n c a Any (λ v e. cc)
   right_literal n c a e OpenBracket = no_literal n c a OpenBracket (λ v e. cc)
@@ -377,10 +414,11 @@ module _ (scope : Scope) where
 
   -- (4) after a factor
 
-  no_close : (filter : Filter) (tests : List Test) (name : Option element.Name) (n : ℕ) (outer : List Frame) (t : Token) → t ≢ CloseBracket
+  no_close : (filter : Filter) (tests : List Test) (name : Option element.Name) (n : ℕ) (outer : List OuterPart) (t : Token)
+      → t ≢ CloseBracket
       → t ≢ CloseParenthesis → Refuses scope n (Closes scope filter tests name n outer) t
   no_close filter tests name n [] t no_bracket no_parenthesis p more (after, e, rest) = no_bracket (head_of t CloseBracket more after e).0
-  no_close filter tests name n (frame ∷ outer) t no_bracket no_parenthesis p more (after, e, rest) =
+  no_close filter tests name n (outer_part ∷ outer) t no_bracket no_parenthesis p more (after, e, rest) =
       no_parenthesis (head_of t CloseParenthesis more after e).0
 
   after_or : (n : ℕ) (c : Context) (q : Qualified) → n + length c.outer ≡ deepest → is_word (codes "and") q ≡ false → (b : Bool)
@@ -389,7 +427,8 @@ module _ (scope : Scope) where
     n,
     e,
     (λ filter more.
-        subst (λ (v : Qualified). AfterFactor scope filter n c (Name v ∷ more) ↔ FactorFirst scope filter n (next_part c) more) (sym (word_is (codes "or") q is))
+        subst (λ (v : Qualified). AfterFactor scope filter n c (Name v ∷ more) ↔ FactorFirst scope filter n (next_part c) more)
+        (sym (word_is (codes "or") q is))
         (or_more scope n (Closes scope filter c.tests c.name n c.outer) c.ors c.ands more
         (no_close filter c.tests c.name n c.outer or_word (λ e. cc) (λ e. cc)))),
   )
@@ -405,7 +444,8 @@ module _ (scope : Scope) where
     n,
     e,
     (λ filter more.
-        subst (λ (v : Qualified). AfterFactor scope filter n c (Name v ∷ more) ↔ FactorFirst scope filter n c more) (sym (word_is (codes "and") q is))
+        subst (λ (v : Qualified). AfterFactor scope filter n c (Name v ∷ more) ↔ FactorFirst scope filter n c more)
+        (sym (word_is (codes "and") q is))
         (and_more scope n (Closes scope filter c.tests c.name n c.outer) c.ors c.ands more
         (no_close filter c.tests c.name n c.outer and_word (λ e. cc) (λ e. cc)))),
   )
@@ -414,34 +454,40 @@ module _ (scope : Scope) where
   closing : (n : ℕ) (c : Context) (t : Token) → ((q : Qualified) → t ≢ Name q) → (filter : Filter) (more : List Token)
       → AfterFactor scope filter n c (t ∷ more) ↔ Closes scope filter c.tests c.name n c.outer (done_part c.ors c.ands) (t ∷ more)
   closing n c t other filter more =
-      other_more scope n (Closes scope filter c.tests c.name n c.outer) c.ors c.ands t more (other (bare (codes "and"))) (other (bare (codes "or")))
+      other_more scope n (Closes scope filter c.tests c.name n c.outer) c.ors c.ands t more (other (bare_name (codes "and")))
+      (other (bare_name (codes "or")))
 
   module _ (n : ℕ) (tests : List Test) (name : Option element.Name) (ors ands : List Predicate) where
-    abbrev within : List Frame → Context
+    abbrev within : List OuterPart → Context
     within outer = record { tests = tests; name = name; outer = outer; ors = ors; ands = ands }
 
-    closes_group : (outer : List Frame) → n + length outer ≡ deepest
+    closes_group : (outer : List OuterPart) → n + length outer ≡ deepest
         → IsRight n (FactorDone (within outer)) CloseParenthesis (close_group (within outer) outer)
     closes_group [] e = λ filter more after. none filter more ((closing n (within []) CloseParenthesis (λ q e. cc) filter more).0 after)
       where
-        none : (filter : Filter) (more : List Token) → Closes scope filter tests name n [] (done_part ors ands) (CloseParenthesis ∷ more) → ⊥
-        none filter more (after, f, rest) = let wrong : CloseParenthesis ≡ CloseBracket = (head_of CloseParenthesis CloseBracket more after f).0 in cc
-    closes_group (frame ∷ outer) e = (
+        none : (filter : Filter) (more : List Token) → Closes scope filter tests name n [] (done_part ors ands) (CloseParenthesis ∷ more)
+            → ⊥
+        none filter more (after, f, rest) =
+            let wrong : CloseParenthesis ≡ CloseBracket = (head_of CloseParenthesis CloseBracket more after f).0 in cc
+    closes_group (outer_part ∷ outer) e = (
       suc n,
       omega (arith, e),
       (λ filter more. (
-        (λ after. to filter more ((closing n (within (frame ∷ outer)) CloseParenthesis (λ q e. cc) filter more).0 after)),
-        (λ after. (closing n (within (frame ∷ outer)) CloseParenthesis (λ q e. cc) filter more).1 (more, refl, after)),
+        (λ after. to filter more ((closing n (within (outer_part ∷ outer)) CloseParenthesis (λ q e. cc) filter more).0 after)),
+        (λ after. (closing n (within (outer_part ∷ outer)) CloseParenthesis (λ q e. cc) filter more).1 (more, refl, after)),
       )),
     )
       where
-        to : (filter : Filter) (more : List Token) → Closes scope filter tests name n (frame ∷ outer) (done_part ors ands) (CloseParenthesis ∷ more)
-            → MoreFactors scope (suc n) (Closes scope filter tests name (suc n) outer) frame.ors (frame.ands ++ done_part ors ands ∷ []) more
+        to : (filter : Filter) (more : List Token) → Closes scope filter tests name n (outer_part ∷ outer) (done_part ors ands)
+            (CloseParenthesis ∷ more)
+            → MoreFactors scope (suc n) (Closes scope filter tests name (suc n) outer) outer_part.ors
+            (outer_part.ands ++ done_part ors ands ∷ []) more
         to filter more (after, f, rest) =
-            subst (MoreFactors scope (suc n) (Closes scope filter tests name (suc n) outer) frame.ors (frame.ands ++ done_part ors ands ∷ []))
+            subst (MoreFactors scope (suc n) (Closes scope filter tests name (suc n) outer) outer_part.ors
+            (outer_part.ands ++ done_part ors ands ∷ []))
             (sym (head_of CloseParenthesis CloseParenthesis more after f).1) rest
 
-    closes_test : (outer : List Frame) → n + length outer ≡ deepest
+    closes_test : (outer : List OuterPart) → n + length outer ≡ deepest
         → IsRight n (FactorDone (within outer)) CloseBracket (close_test (within outer) outer)
     closes_test [] e = (
       n,
@@ -457,15 +503,19 @@ module _ (scope : Scope) where
         to filter more (after, f, rest) =
             subst (MoreTests scope filter (tests ++ test_of name (Some (done_part ors ands)) ∷ []))
             (sym (head_of CloseBracket CloseBracket more after f).1) rest
-    closes_test (frame ∷ outer) e = λ filter more after. none filter more ((closing n (within (frame ∷ outer)) CloseBracket (λ q e. cc) filter more).0 after)
+    closes_test (outer_part ∷ outer) e =
+        λ filter more after. none filter more ((closing n (within (outer_part ∷ outer)) CloseBracket (λ q e. cc) filter more).0 after)
       where
-        none : (filter : Filter) (more : List Token) → Closes scope filter tests name n (frame ∷ outer) (done_part ors ands) (CloseBracket ∷ more) → ⊥
-        none filter more (after, f, rest) = let wrong : CloseBracket ≡ CloseParenthesis = (head_of CloseBracket CloseParenthesis more after f).0 in cc
+        none : (filter : Filter) (more : List Token) → Closes scope filter tests name n (outer_part ∷ outer) (done_part ors ands)
+            (CloseBracket ∷ more) → ⊥
+        none filter more (after, f, rest) =
+            let wrong : CloseBracket ≡ CloseParenthesis = (head_of CloseBracket CloseParenthesis more after f).0 in cc
 
   nothing_closes : (n : ℕ) (c : Context) (t : Token) → ((q : Qualified) → t ≢ Name q) → t ≢ CloseBracket → t ≢ CloseParenthesis
       → (filter : Filter) (more : List Token) → AfterFactor scope filter n c (t ∷ more) → ⊥
   nothing_closes n c t other no_bracket no_parenthesis filter more after =
-      no_close filter c.tests c.name n c.outer t no_bracket no_parenthesis (done_part c.ors c.ands) more ((closing n c t other filter more).0 after)
+      no_close filter c.tests c.name n c.outer t no_bracket no_parenthesis (done_part c.ors c.ands) more
+      ((closing n c t other filter more).0 after)
 
   right_done : (n : ℕ) (c : Context) → n + length c.outer ≡ deepest → (t : Token) → IsRight n (FactorDone c) t (step_done c t)
   right_done n c e (Name q) = after_name n c q e (is_word (codes "and") q) refl
@@ -481,7 +531,8 @@ module _ (scope : Scope) where
   -- (5) all together
 
   pub right : (n : ℕ) (w : Where) → n + nesting w ≡ deepest → (t : Token) → IsRight n w t (step scope w t)
-  right n Start e t = through n Start (TestDue []) t (λ filter more. started scope filter t more) (step_test scope [] t) (right_test n [] e t)
+  right n Start e t =
+      through n Start (TestDue []) t (λ filter more. started scope filter t more) (step_test scope [] t) (right_test n [] e t)
   right n (TestDue done) e t = right_test n done e t
   right n (Named done name) e t = right_named n done name e t
   right n (Tested done) e t = right_tested n done e t

@@ -39,8 +39,10 @@ module _ (children : List Child) (i : ℕ) (child : Child) (here : i < length ch
   one_child_more left rest taken =
       ap (λ text. bytes_eq text left) among ∙ cancelled (own_text child) (text_among (drop (i + 1) children)) left rest taken
 
-  pub another_child : (left : List ℕ) → ((rest : List ℕ) → left ≡ own_text child ++ rest → ⊥) → bytes_eq (text_among (drop i children)) left ≡ false
-  another_child left none = ap (λ text. bytes_eq text left) among ∙ differing (own_text child) (text_among (drop (i + 1) children)) left none
+  pub another_child : (left : List ℕ) → ((rest : List ℕ) → left ≡ own_text child ++ rest → ⊥)
+      → bytes_eq (text_among (drop i children)) left ≡ false
+  another_child left none =
+      ap (λ text. bytes_eq text left) among ∙ differing (own_text child) (text_among (drop (i + 1) children)) left none
 
 none_left : (left : List ℕ) → nat_eq (length left) 0 ≡ bytes_eq [] left
 none_left [] = refl

@@ -1,4 +1,4 @@
--- Which tokens are which filter in a scope of prefixes.
+-- Which tokens are which filter in a scope of prefixes: a grammar made after the filters of the IF-MAP binding for SOAP, version 2.2.
 use Rattle.std.specs.Prelude.{◌≡◌, ◌⊎◌, ℕ, zero, suc, if◌then◌else◌, List, [], ◌∷◌, codes, Option, Some, None}
 use Rattle.std.specs.Map.{lookup}
 use Rattle.std.specs.Str.{bytes_eq}
@@ -16,17 +16,18 @@ use Rattle.ifmap_filter.specs.declared.tokens.Token.TheVariants.{Any, OpenBracke
 abbrev pub Rule : Type 0 → Type 1
 Rule X = List Token → X → List Token → Type 0
 
-abbrev pub bare : List ℕ → Qualified
-bare local = record { prefix = []; local = local }
+abbrev pub bare_name : List ℕ → Qualified
+bare_name local = record { prefix = []; local = local }
 
 -- the two names that join
 abbrev pub or_word : Token
-or_word = Name (bare (codes "or"))
+or_word = Name (bare_name (codes "or"))
 
 abbrev pub and_word : Token
-and_word = Name (bare (codes "and"))
+and_word = Name (bare_name (codes "and"))
 
--- the namespace of a prefix: none without a prefix, that of `xml` for `xml`, and else what the first row with it says
+-- the namespace of a prefix: none without a prefix, its own for `xml` in every scope (Namespaces in XML 1.0, section 3), and else what the
+-- first row with it says
 abbrev pub space_of : Scope → List ℕ → Option (List ℕ)
 space_of scope [] = Some []
 space_of scope (b ∷ bs) = if bytes_eq (b ∷ bs) (codes "xml") then Some xml_space else lookup (bytes_eq (b ∷ bs)) scope.rows
@@ -40,7 +41,7 @@ pub record StandsFor (scope : Scope) (q : Qualified) (name : element.Name) : Typ
 pub record TakesAttribute (ts : List Token) (p : Predicate) (rest : List Token) : Type 0 where
   pub local : List ℕ
   pub value : List ℕ
-  pub tokens_are : ts ≡ At ∷ (Name (bare local) ∷ (EqualsSign ∷ (Literal value ∷ rest)))
+  pub tokens_are : ts ≡ At ∷ (Name (bare_name local) ∷ (EqualsSign ∷ (Literal value ∷ rest)))
   pub means : p ≡ Attr local value
 
 -- a name, `=`, and a literal
@@ -66,18 +67,19 @@ TakesMore word Part ts (x ∷ xs) rest =
     (after mid : List Token) × (ts ≡ word ∷ after) × Part after x mid × TakesMore word Part mid xs rest
 
 -- one part is that part; two or more are joined
-abbrev pub joined : (List Predicate → Predicate) → Predicate → List Predicate → Predicate
-joined join first [] = first
-joined join first (p ∷ ps) = join (first ∷ (p ∷ ps))
+abbrev pub join_of : (List Predicate → Predicate) → Predicate → List Predicate → Predicate
+join_of join first [] = first
+join_of join first (p ∷ ps) = join (first ∷ (p ∷ ps))
 
 -- parts that a word joins
-pub record TakesJoined (join : List Predicate → Predicate) (word : Token) (Part : Rule Predicate) (ts : List Token) (p : Predicate) (rest : List Token) : Type 0 where
+pub record TakesJoined (join : List Predicate → Predicate) (word : Token) (Part : Rule Predicate) (ts : List Token) (p : Predicate)
+    (rest : List Token) : Type 0 where
   pub first : Predicate
   pub others : List Predicate
   pub mid : List Token
   pub one : Part ts first mid
   pub more : TakesMore word Part mid others rest
-  pub means : p ≡ joined join first others
+  pub means : p ≡ join_of join first others
 
 -- factors joined by `and`; such parts joined by `or`
 abbrev pub TakesAnds : Rule Predicate → Rule Predicate

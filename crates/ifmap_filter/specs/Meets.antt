@@ -1,4 +1,4 @@
--- Which elements meet which filters.
+-- Which elements meet which filters (IF-MAP binding for SOAP, version 2.2: match-links, result-filter and the filter of a delete).
 use Rattle.std.specs.Prelude.{Bool, true, ◌&&◌, Option, Some, None}
 use Rattle.std.specs.List.{list_all, list_any}
 use Rattle.ifmap_elem.specs.declared.elements.Name.{Name}
@@ -35,3 +35,8 @@ meets_test element test = has_name element test.name && holds_optional element t
 -- the element meets one of the filter's tests
 abbrev pub meets : Filter → Element → Bool
 meets filter element = list_any (meets_test element) filter.tests
+
+-- the element meets the filter; an absent one is met by each
+abbrev pub meets_optional : Option Filter → Element → Bool
+meets_optional None element = true
+meets_optional (Some filter) element = meets filter element

@@ -34,7 +34,8 @@ numbered_scope spaces = record { rows = numbered_rows 1 spaces }
 abbrev pub place_of : List ℕ → List (List ℕ) → ℕ
 place_of space spaces = prefix_len (λ s. not (bytes_eq s space)) spaces
 
--- a name: without a prefix where it is in no namespace, with `xml` where it is in that of `xml`, and else with the prefix of its namespace's place
+-- a name: without a prefix where it is in no namespace, with `xml` where it is in that of `xml`, and else with the prefix of the place
+-- of its namespace
 abbrev pub name_text : List (List ℕ) → Name → List ℕ
 name_text spaces name =
     if bytes_eq name.space [] then name.local else if bytes_eq name.space xml_space then codes "xml:" ++ name.local
@@ -56,22 +57,22 @@ joined_texts word text [] = []
 joined_texts word text (x ∷ xs) = text x ++ flat_map (λ y. word ++ text y) xs
 
 -- a predicate alone, as a part of an `and`, and as a part of an `or`
-pub record Printed : Type 0 where
+pub record PredicateText : Type 0 where
   pub alone : List ℕ
   pub in_and : List ℕ
   pub in_or : List ℕ
 
-abbrev pub comparison_text : List ℕ → Printed
+abbrev pub comparison_text : List ℕ → PredicateText
 comparison_text text = record { alone = text; in_and = text; in_or = text }
 
-abbrev pub grouped : List ℕ → List ℕ
-grouped text = codes "(" ++ (text ++ codes ")")
+abbrev pub group_text : List ℕ → List ℕ
+group_text text = codes "(" ++ (text ++ codes ")")
 
-abbrev pub ands_text : List ℕ → Printed
-ands_text text = record { alone = text; in_and = grouped text; in_or = text }
+abbrev pub ands_text : List ℕ → PredicateText
+ands_text text = record { alone = text; in_and = group_text text; in_or = text }
 
-abbrev pub ors_text : List ℕ → Printed
-ors_text text = record { alone = text; in_and = grouped text; in_or = grouped text }
+abbrev pub ors_text : List ℕ → PredicateText
+ors_text text = record { alone = text; in_and = group_text text; in_or = group_text text }
 
 abbrev pub attribute_text : List ℕ → List ℕ → List ℕ
 attribute_text local value = codes "@" ++ (local ++ (codes "=" ++ literal_text value))
@@ -79,14 +80,14 @@ attribute_text local value = codes "@" ++ (local ++ (codes "=" ++ literal_text v
 abbrev pub child_text : List (List ℕ) → Name → List ℕ → List ℕ
 child_text spaces name value = name_text spaces name ++ (codes "=" ++ literal_text value)
 
-abbrev pub printed_of : List (List ℕ) → Predicate-F Printed → Printed
-printed_of spaces (Predicate-F.Attr local value) = comparison_text (attribute_text local value)
-printed_of spaces (Predicate-F.Child name value) = comparison_text (child_text spaces name value)
-printed_of spaces (Predicate-F.And parts) = ands_text (joined_texts (codes " and ") (λ p. p.in_and) parts)
-printed_of spaces (Predicate-F.Or parts) = ors_text (joined_texts (codes " or ") (λ p. p.in_or) parts)
+abbrev pub predicate_text_of : List (List ℕ) → Predicate-F PredicateText → PredicateText
+predicate_text_of spaces (Predicate-F.Attr local value) = comparison_text (attribute_text local value)
+predicate_text_of spaces (Predicate-F.Child name value) = comparison_text (child_text spaces name value)
+predicate_text_of spaces (Predicate-F.And parts) = ands_text (joined_texts (codes " and ") (λ p. p.in_and) parts)
+predicate_text_of spaces (Predicate-F.Or parts) = ors_text (joined_texts (codes " or ") (λ p. p.in_or) parts)
 
-abbrev pub printed : List (List ℕ) → Predicate → Printed
-printed spaces = fold-Predicate Printed (printed_of spaces)
+abbrev pub predicate_text : List (List ℕ) → Predicate → PredicateText
+predicate_text spaces = fold-Predicate PredicateText (predicate_text_of spaces)
 
 abbrev pub test_name_text : List (List ℕ) → Option Name → List ℕ
 test_name_text spaces None = codes "*"
@@ -94,7 +95,7 @@ test_name_text spaces (Some name) = name_text spaces name
 
 abbrev pub brackets_text : List (List ℕ) → Option Predicate → List ℕ
 brackets_text spaces None = []
-brackets_text spaces (Some p) = codes "[" ++ ((printed spaces p).alone ++ codes "]")
+brackets_text spaces (Some p) = codes "[" ++ ((predicate_text spaces p).alone ++ codes "]")
 
 abbrev pub test_text : List (List ℕ) → Test → List ℕ
 test_text spaces test = test_name_text spaces test.name ++ brackets_text spaces test.predicate
@@ -128,7 +129,7 @@ IsAnsweredBack text spaces filter =
     → MatchResult result (λ parsed. parsed ≡ filter) (λ error. error ≡ NoMemory)
 
 -- where a predicate stands: in the brackets of a test, or as a part of an `and` or of an `or`
-abbrev pub text_in : Around → Printed → List ℕ
+abbrev pub text_in : Around → PredicateText → List ℕ
 text_in Brackets p = p.alone
 text_in Ands p = p.in_and
 text_in Ors p = p.in_or
@@ -140,4 +141,4 @@ word_in Ands = codes " and "
 word_in Ors = codes " or "
 
 abbrev pub parts_text : List (List ℕ) → Around → List Predicate → List ℕ
-parts_text spaces around parts = joined_texts (word_in around) (λ p. text_in around (printed spaces p)) parts
+parts_text spaces around parts = joined_texts (word_in around) (λ p. text_in around (predicate_text spaces p)) parts

@@ -10,20 +10,20 @@ use Rattle.ifmap_filter.specs.declared.filters.Test.{Test}
 use Rattle.ifmap_filter.specs.declared.filters.Filter.{Filter}
 use Rattle.ifmap_filter.specs.declared.tokens.Token.{Token}
 use Rattle.ifmap_filter.specs.declared.tokens.Token.TheVariants.{Any, OpenBracket, CloseBracket, OpenParenthesis, CloseParenthesis, EqualsSign, At, Name, Literal}
-use Rattle.ifmap_filter.specs.declared.standing.Frame.{Frame}
-use Rattle.ifmap_filter.specs.declared.standing.Inside.{Inside}
-use Rattle.ifmap_filter.specs.declared.standing.Asked.{Asked}
-use Rattle.ifmap_filter.specs.declared.standing.Asked.TheVariants as asked
+use Rattle.ifmap_filter.specs.declared.standing.OuterPart.{OuterPart}
+use Rattle.ifmap_filter.specs.declared.standing.OpenPart.{OpenPart}
+use Rattle.ifmap_filter.specs.declared.standing.Operand.{Operand}
+use Rattle.ifmap_filter.specs.declared.standing.Operand.TheVariants as operand
 use Rattle.ifmap_filter.specs.declared.standing.Standing.{Standing}
 use Rattle.ifmap_filter.specs.declared.standing.Standing.TheVariants as standing
-use Rattle.ifmap_filter.specs.Grammar.{IsFilter, TakesAnds, TakesFactor, TakesMore, TakesPredicate, TakesTest, and_word, bare, deepest, joined, or_word, space_of}
+use Rattle.ifmap_filter.specs.Grammar.{IsFilter, TakesAnds, TakesFactor, TakesMore, TakesPredicate, TakesTest, and_word, bare_name, deepest, join_of, or_word, space_of}
 
--- the open or-part in a test's brackets, or in parentheses there: the tests before it, the name of its own, the or-parts round it, the innermost
--- first, its and-parts that are done, and the factors that are done of the one that is not
+-- the open or-part in a test's brackets, or in parentheses there: the tests before it, the name of its own, the or-parts round it, the
+-- innermost first, its and-parts that are done, and the factors that are done of the one that is not
 pub record Context : Type 0 where
   pub tests : List Test
   pub name : Option element.Name
-  pub outer : List Frame
+  pub outer : List OuterPart
   pub ors : List Predicate
   pub ands : List Predicate
 
@@ -35,11 +35,11 @@ pub data Where : Type 0 where
   Tested : List Test → Where
   FactorDue : Context → Where
   LocalDue : Context → Where
-  EqualsDue : Context → Asked → Where
-  LiteralDue : Context → Asked → Where
+  EqualsDue : Context → Operand → Where
+  LiteralDue : Context → Operand → Where
   FactorDone : Context → Where
 
-abbrev pub context : Inside → Context
+abbrev pub context : OpenPart → Context
 context i = record { tests = i.tests; name = i.name; outer = reverse i.outer; ors = i.ors; ands = i.ands }
 
 abbrev pub where_is : Standing → Where
@@ -58,9 +58,9 @@ abbrev pub StandsAt : Option Standing → Option Where → Type 0
 StandsAt standing place = option_map where_is standing ≡ place
 
 -- parts that are joined, of which there is one at least
-abbrev pub gathered : (List Predicate → Predicate) → List Predicate → Predicate
-gathered join [] = join []
-gathered join (p ∷ ps) = joined join p ps
+abbrev pub join_parts : (List Predicate → Predicate) → List Predicate → Predicate
+join_parts join [] = join []
+join_parts join (p ∷ ps) = join_of join p ps
 
 -- the parts are not one alone
 abbrev pub IsNotSingle : List Predicate → Type 0
@@ -68,11 +68,11 @@ IsNotSingle parts = (p : Predicate) → parts ≡ p ∷ [] → ⊥
 
 -- the predicate of an or-part by what is done of it
 abbrev pub done_part : List Predicate → List Predicate → Predicate
-done_part ors ands = gathered Or (ors ++ gathered And ands ∷ [])
+done_part ors ands = join_parts Or (ors ++ join_parts And ands ∷ [])
 
-abbrev pub compared : Asked → List ℕ → Predicate
-compared (asked.Attribute local) value = Attr local value
-compared (asked.Child name) value = Child name value
+abbrev pub comparison_of : Operand → List ℕ → Predicate
+comparison_of (operand.Attribute local) value = Attr local value
+comparison_of (operand.Child name) value = Child name value
 
 abbrev pub test_of : Option element.Name → Option Predicate → Test
 test_of name predicate = record { name = name; predicate = predicate }
@@ -81,14 +81,15 @@ abbrev pub with_factor : Context → Predicate → Context
 with_factor c p = record c { ands = c.ands ++ p ∷ [] }
 
 -- after a factor, where parentheses may nest so much deeper, and then as the whole or-part does
-pub record MoreFactors (scope : Scope) (n : ℕ) (Then : Predicate → List Token → Type 0) (ors ands : List Predicate) (ts : List Token) : Type 0 where
+pub record MoreFactors (scope : Scope) (n : ℕ) (Then : Predicate → List Token → Type 0) (ors ands : List Predicate)
+    (ts : List Token) : Type 0 where
   pub more_ands : List Predicate
   pub more_ors : List Predicate
   pub mid : List Token
   pub rest : List Token
   pub takes_ands : TakesMore and_word (TakesFactor scope n) ts more_ands mid
   pub takes_ors : TakesMore or_word (TakesAnds (TakesFactor scope n)) mid more_ors rest
-  pub followed : Then (gathered Or (ors ++ (gathered And (ands ++ more_ands) ∷ more_ors))) rest
+  pub followed : Then (join_parts Or (ors ++ (join_parts And (ands ++ more_ands) ∷ more_ors))) rest
 
 -- how a filter goes on, in a scope
 module _ (scope : Scope) (filter : Filter) where
@@ -104,11 +105,11 @@ module _ (scope : Scope) (filter : Filter) where
       (p : Option Predicate) × (mid : List Token) × TakesPredicate scope deepest ts p mid × MoreTests (done ++ test_of name p ∷ []) mid
 
   -- after an or-part, whose own parentheses may nest so deep
-  abbrev pub Closes : List Test → Option element.Name → ℕ → List Frame → Predicate → List Token → Type 0
+  abbrev pub Closes : List Test → Option element.Name → ℕ → List OuterPart → Predicate → List Token → Type 0
   Closes done name n [] p ts = (after : List Token) × (ts ≡ CloseBracket ∷ after) × MoreTests (done ++ test_of name (Some p) ∷ []) after
-  Closes done name n (frame ∷ outer) p ts =
+  Closes done name n (outer_part ∷ outer) p ts =
       (after : List Token) × (ts ≡ CloseParenthesis ∷ after)
-      × MoreFactors scope (suc n) (Closes done name (suc n) outer) frame.ors (frame.ands ++ p ∷ []) after
+      × MoreFactors scope (suc n) (Closes done name (suc n) outer) outer_part.ors (outer_part.ands ++ p ∷ []) after
 
   -- after a factor in this context, of which parentheses may nest n deep
   abbrev pub AfterFactor : ℕ → Context → List Token → Type 0
@@ -117,15 +118,16 @@ module _ (scope : Scope) (filter : Filter) where
   abbrev pub FactorFirst : ℕ → Context → List Token → Type 0
   FactorFirst n c ts = (p : Predicate) × (mid : List Token) × TakesFactor scope n ts p mid × AfterFactor n (with_factor c p) mid
 
-  abbrev pub LiteralFirst : ℕ → Context → Asked → List Token → Type 0
+  abbrev pub LiteralFirst : ℕ → Context → Operand → List Token → Type 0
   LiteralFirst n c a ts =
-      (value : List ℕ) × (rest : List Token) × (ts ≡ Literal value ∷ rest) × AfterFactor n (with_factor c (compared a value)) rest
+      (value : List ℕ) × (rest : List Token) × (ts ≡ Literal value ∷ rest) × AfterFactor n (with_factor c (comparison_of a value)) rest
 
-  abbrev pub EqualsFirst : ℕ → Context → Asked → List Token → Type 0
+  abbrev pub EqualsFirst : ℕ → Context → Operand → List Token → Type 0
   EqualsFirst n c a ts = (rest : List Token) × (ts ≡ EqualsSign ∷ rest) × LiteralFirst n c a rest
 
   abbrev pub LocalFirst : ℕ → Context → List Token → Type 0
-  LocalFirst n c ts = (local : List ℕ) × (rest : List Token) × (ts ≡ Name (bare local) ∷ rest) × EqualsFirst n c (asked.Attribute local) rest
+  LocalFirst n c ts =
+      (local : List ℕ) × (rest : List Token) × (ts ≡ Name (bare_name local) ∷ rest) × EqualsFirst n c (operand.Attribute local) rest
 
   -- from where a reader stands, where in the innermost or-part parentheses may nest n deep
   abbrev pub GoesOn : ℕ → Where → List Token → Type 0
@@ -189,7 +191,7 @@ inner_place c = if nat_lt (length c.outer) deepest then Some (FactorDue (inner_c
 
 abbrev pub child_named : Context → Option element.Name → Option Where
 child_named c None = None
-child_named c (Some name) = Some (EqualsDue c (asked.Child name))
+child_named c (Some name) = Some (EqualsDue c (operand.Child name))
 
 abbrev pub step_factor : Scope → Context → Token → Option Where
 step_factor scope c OpenParenthesis = inner_place c
@@ -198,29 +200,29 @@ step_factor scope c (Name q) = child_named c (name_of scope q)
 step_factor scope c _ = None
 
 abbrev pub step_local : Context → Token → Option Where
-step_local c (Name q) = if bytes_eq q.prefix [] then Some (EqualsDue c (asked.Attribute q.local)) else None
+step_local c (Name q) = if bytes_eq q.prefix [] then Some (EqualsDue c (operand.Attribute q.local)) else None
 step_local c _ = None
 
-abbrev pub step_equals : Context → Asked → Token → Option Where
+abbrev pub step_equals : Context → Operand → Token → Option Where
 step_equals c a EqualsSign = Some (LiteralDue c a)
 step_equals c a _ = None
 
-abbrev pub step_literal : Context → Asked → Token → Option Where
-step_literal c a (Literal value) = Some (FactorDone (with_factor c (compared a value)))
+abbrev pub step_literal : Context → Operand → Token → Option Where
+step_literal c a (Literal value) = Some (FactorDone (with_factor c (comparison_of a value)))
 step_literal c a _ = None
 
 -- the next and-part of the or-part
 abbrev pub next_part : Context → Context
-next_part c = record c { ors = c.ors ++ gathered And c.ands ∷ []; ands = [] }
+next_part c = record c { ors = c.ors ++ join_parts And c.ands ∷ []; ands = [] }
 
-abbrev pub close_group : Context → List Frame → Option Where
+abbrev pub close_group : Context → List OuterPart → Option Where
 close_group c [] = None
-close_group c (frame ∷ outer) =
-    Some (FactorDone (record c { outer = outer; ors = frame.ors; ands = frame.ands ++ done_part c.ors c.ands ∷ [] }))
+close_group c (outer_part ∷ outer) =
+    Some (FactorDone (record c { outer = outer; ors = outer_part.ors; ands = outer_part.ands ++ done_part c.ors c.ands ∷ [] }))
 
-abbrev pub close_test : Context → List Frame → Option Where
+abbrev pub close_test : Context → List OuterPart → Option Where
 close_test c [] = Some (Tested (c.tests ++ test_of c.name (Some (done_part c.ors c.ands)) ∷ []))
-close_test c (frame ∷ outer) = None
+close_test c (outer_part ∷ outer) = None
 
 -- `and`, or `or`, with which the next and-part begins
 abbrev pub step_joining : Context → Qualified → Option Where
@@ -245,8 +247,8 @@ step scope (LiteralDue c a) t = step_literal c a t
 step scope (FactorDone c) t = step_done c t
 
 -- the filter, where the text may end here
-abbrev pub whole : Where → Option Filter
-whole Start = Some (record { tests = [] })
-whole (Named done name) = Some (record { tests = done ++ test_of name None ∷ [] })
-whole (Tested done) = Some (record { tests = done })
-whole _ = None
+abbrev pub filter_at : Where → Option Filter
+filter_at Start = Some (record { tests = [] })
+filter_at (Named done name) = Some (record { tests = done ++ test_of name None ∷ [] })
+filter_at (Tested done) = Some (record { tests = done })
+filter_at _ = None

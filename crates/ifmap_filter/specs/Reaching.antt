@@ -7,11 +7,11 @@ use Rattle.ifmap_filter.specs.declared.errors.FilterError.TheVariants.{NotAFilte
 use Rattle.ifmap_filter.specs.declared.filters.Filter.{Filter}
 use Rattle.ifmap_filter.specs.declared.tokens.Token.{Token}
 use Rattle.ifmap_filter.specs.Grammar.{IsFilter, deepest}
-use Rattle.ifmap_filter.specs.Progress.{GoesOn, Where, nesting, step, whole}
-use Rattle.ifmap_filter.specs.Tokens.{Takes, taken, token_at, without_white}
+use Rattle.ifmap_filter.specs.Progress.{GoesOn, Where, nesting, step, filter_at}
+use Rattle.ifmap_filter.specs.Tokens.{Takes, front_token, token_at, without_white}
 
 -- after the tokens before these characters a reader stands there: what is a filter after them is what goes on from there
-pub record Reached (text : List ℕ) (scope : Scope) (w : Where) (cs : List ℕ) : Type 0 where
+pub record Reaches (text : List ℕ) (scope : Scope) (w : Where) (cs : List ℕ) : Type 0 where
   pub tokens : List Token
   pub room : ℕ
   pub room_is : room + nesting w ≡ deepest
@@ -19,9 +19,9 @@ pub record Reached (text : List ℕ) (scope : Scope) (w : Where) (cs : List ℕ)
   pub goes : (filter : Filter) (more : List Token) → IsFilter scope (tokens ++ more) filter ↔ GoesOn scope filter room w more
 
 -- the same where this is left after white space, no longer than the text
-pub record ReachedWhite (text : List ℕ) (scope : Scope) (w : Where) (rest : List ℕ) : Type 0 where
+pub record ReachesWhite (text : List ℕ) (scope : Scope) (w : Where) (rest : List ℕ) : Type 0 where
   pub cs : List ℕ
-  pub reached : Reached text scope w cs
+  pub reached : Reaches text scope w cs
   pub rest_is : chars rest ≡ without_white cs
   pub within : length rest ≤ length text
 
@@ -29,7 +29,7 @@ pub record ReachedWhite (text : List ℕ) (scope : Scope) (w : Where) (rest : Li
 pub record StepsOn (scope : Scope) (w : Where) (rest : List ℕ) (next : Where) (left : List ℕ) : Type 0 where
   pub token : Token
   pub after : List ℕ
-  pub is_there : token_at (chars rest) ≡ Some (taken token after)
+  pub is_there : token_at (chars rest) ≡ Some (front_token token after)
   pub steps : step scope w token ≡ Some next
   pub left_is : chars left ≡ without_white after
   pub is_text : IsUtf8 left
@@ -38,7 +38,7 @@ pub record StepsOn (scope : Scope) (w : Where) (rest : List ℕ) (next : Where) 
 abbrev pub IsStuck : Scope → Where → List ℕ → Type 0
 IsStuck scope w rest =
     (token_at (chars rest) ≡ None)
-    ⊎ ((t : Token) × (after : List ℕ) × (token_at (chars rest) ≡ Some (taken t after)) × (step scope w t ≡ None))
+    ⊎ ((t : Token) × (after : List ℕ) × (token_at (chars rest) ≡ Some (front_token t after)) × (step scope w t ≡ None))
 
 abbrev pub IsRefused : Scope → Where → List ℕ → ℕ → FilterError → Type 0
 IsRefused scope w rest at (NotAFilter place) = (place ≡ at) × IsStuck scope w rest
@@ -46,6 +46,6 @@ IsRefused scope w rest at NoMemory = Unit {0}
 
 -- the filter, where the text may end, and else its end
 abbrev pub IsEndAnswer : Where → ℕ → Result Filter FilterError → Type 0
-IsEndAnswer w at (Ok filter) = whole w ≡ Some filter
-IsEndAnswer w at (Err (NotAFilter place)) = (place ≡ at) × (whole w ≡ None)
+IsEndAnswer w at (Ok filter) = filter_at w ≡ Some filter
+IsEndAnswer w at (Err (NotAFilter place)) = (place ≡ at) × (filter_at w ≡ None)
 IsEndAnswer w at (Err NoMemory) = Unit {0}

@@ -31,8 +31,8 @@ pub record BeginsFilter (scope : Scope) (ts : List Token) : Type 0 where
 abbrev pub offset : List ℕ → List ℕ → ℕ
 offset text rest = length text - length (encode_utf8_all (without_white rest))
 
--- the place of the first token that is not allowed after the tokens before it or is malformed, or of the text's end where the tokens are
--- no filter yet
+-- the place of the first token that is not allowed after the tokens before it or is malformed, or of the text's end where the tokens
+-- are no filter yet
 pub record StopsAt (text : List ℕ) (scope : Scope) (at : ℕ) : Type 0 where
   pub tokens : List Token
   pub rest : List ℕ

@@ -1,5 +1,5 @@
--- The tokens of a filter, by the characters of its text. Names are those of XML 1.0 (fifth edition), section 2.3, and of Namespaces in XML 1.0,
--- section 4; white space is that of XML 1.0, section 2.3.
+-- The tokens of a filter, by the characters of its text. Names are those of XML 1.0 (fifth edition), section 2.3, and of Namespaces in
+-- XML 1.0, section 4; white space is that of XML 1.0, section 2.3.
 use Rattle.std.specs.Prelude.{◌≡◌, ℕ, Bool, not, ◌==◌, ◌||◌, if◌then◌else◌, List, [], ◌∷◌, encode_utf8_all, Option, Some, None}
 use Rattle.std.specs.Str.{byte}
 use Rattle.ifmap_elem.specs.Chars.{colon, double_quote, equals_sign, is_white, single_quote}
@@ -8,12 +8,12 @@ use Rattle.ifmap_filter.specs.declared.tokens.Token.{Token}
 use Rattle.ifmap_filter.specs.declared.tokens.Token.TheVariants.{Any, OpenBracket, CloseBracket, OpenParenthesis, CloseParenthesis, EqualsSign, At, Name, Literal}
 
 -- a token at the front of characters, and what is left
-pub record Taken : Type 0 where
+pub record FrontToken : Type 0 where
   pub token : Token
   pub rest : List ℕ
 
-abbrev pub taken : Token → List ℕ → Taken
-taken t cs = record { token = t; rest = cs }
+abbrev pub front_token : Token → List ℕ → FrontToken
+front_token t cs = record { token = t; rest = cs }
 
 -- the characters at the front that pass, and what is left after them
 abbrev pub front_while : (ℕ → Bool) → List ℕ → List ℕ
@@ -34,20 +34,20 @@ symbol_of c =
     else if c == byte "(" then Some OpenParenthesis else if c == byte ")" then Some CloseParenthesis
     else if c == equals_sign then Some EqualsSign else if c == byte "@" then Some At else None
 
-abbrev pub with_symbol : List ℕ → Option Token → Option Taken
+abbrev pub with_symbol : List ℕ → Option Token → Option FrontToken
 with_symbol cs None = None
-with_symbol cs (Some t) = Some (taken t cs)
+with_symbol cs (Some t) = Some (front_token t cs)
 
 -- a literal of these characters, where a character ends it, which is its quote
-abbrev pub closed_literal : List ℕ → List ℕ → Option Taken
+abbrev pub closed_literal : List ℕ → List ℕ → Option FrontToken
 closed_literal own [] = None
-closed_literal own (quote ∷ rest) = Some (taken (Literal (encode_utf8_all own)) rest)
+closed_literal own (quote ∷ rest) = Some (front_token (Literal (encode_utf8_all own)) rest)
 
 abbrev pub is_but : ℕ → ℕ → Bool
 is_but quote c = not (c == quote)
 
 -- the literal after its first quote: all up to the next quote of that kind
-abbrev pub literal_at : ℕ → List ℕ → Option Taken
+abbrev pub literal_at : ℕ → List ℕ → Option FrontToken
 literal_at quote cs = closed_literal (front_while (is_but quote) cs) (after_while (is_but quote) cs)
 
 -- the bytes of the name characters at the front
@@ -58,32 +58,32 @@ abbrev pub name_token : List ℕ → List ℕ → Token
 name_token prefix local = Name (record { prefix = prefix; local = local })
 
 -- the name of this prefix, after its colon: where no part begins there, none
-abbrev pub prefixed_name_at : List ℕ → List ℕ → Option Taken
+abbrev pub prefixed_name_at : List ℕ → List ℕ → Option FrontToken
 prefixed_name_at prefix [] = None
 prefixed_name_at prefix (c ∷ cs) =
-    if is_name_start c then Some (taken (name_token prefix (part_bytes (c ∷ cs))) (after_while is_name_character (c ∷ cs))) else None
+    if is_name_start c then Some (front_token (name_token prefix (part_bytes (c ∷ cs))) (after_while is_name_character (c ∷ cs))) else None
 
 -- the name whose first part this is: a colon after it makes it a prefix
-abbrev pub name_from : List ℕ → List ℕ → Option Taken
-name_from part [] = Some (taken (name_token [] part) [])
-name_from part (c ∷ cs) = if c == colon then prefixed_name_at part cs else Some (taken (name_token [] part) (c ∷ cs))
+abbrev pub name_from : List ℕ → List ℕ → Option FrontToken
+name_from part [] = Some (front_token (name_token [] part) [])
+name_from part (c ∷ cs) = if c == colon then prefixed_name_at part cs else Some (front_token (name_token [] part) (c ∷ cs))
 
 -- the name at the front, whose parts are as long as can be
-abbrev pub name_at : List ℕ → Option Taken
+abbrev pub name_at : List ℕ → Option FrontToken
 name_at cs = name_from (part_bytes cs) (after_while is_name_character cs)
 
 abbrev pub is_quote : ℕ → Bool
 is_quote c = c == double_quote || c == single_quote
 
 -- the token at the front, by its first character; none where it is malformed, or nothing is there
-abbrev pub token_at : List ℕ → Option Taken
+abbrev pub token_at : List ℕ → Option FrontToken
 token_at [] = None
 token_at (c ∷ cs) =
     if is_quote c then literal_at c cs else if is_name_start c then name_at (c ∷ cs) else with_symbol cs (symbol_of c)
 
 -- the token stands at the front, after white space or none, and this is left
 abbrev pub Takes : List ℕ → Token → List ℕ → Type 0
-Takes cs t rest = token_at (without_white cs) ≡ Some (taken t rest)
+Takes cs t rest = token_at (without_white cs) ≡ Some (front_token t rest)
 
 -- no token is left
 abbrev pub IsEnd : List ℕ → Type 0

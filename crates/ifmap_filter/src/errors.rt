@@ -5,8 +5,8 @@ use thiserror::Error;
 /// Why a text is not read as a filter.
 #[derive(Debug, Drop, Error)]
 pub enum FilterError {
-    /// The text is no filter: the token at this byte is not allowed after those before it, no token
-    /// stands there, or the text ends there too soon.
+    /// The text is no filter: the token at this byte of its UTF-8, counted from 0, is not allowed
+    /// after those before it, no token stands there, or the text ends there too soon.
     #[error("no filter: byte {at} begins nothing that is allowed there")]
     NotAFilter { at: u64 },
     #[error("out of memory")]

@@ -46,7 +46,8 @@ fn is_text_element(element: &Element, name: &Name, value: &Text) -> bool
     element.name == *name && has_text(&children.0, value.0.as_bytes())
 }
 
-// Whether the text among these children is this one. The texts are not joined: each is taken off what is left.
+// Whether the text among these children is this one. The texts are not joined: each is taken off what
+// is left.
 fn has_text(children: &[Child], value: &[u8]) -> bool
     ensures { result ≡ has_text value.now children.now }
 {

@@ -2,7 +2,7 @@
 ghost use Rattle.std.specs.Prelude.{◌≡◌, ◌∷◌, [], chars, IfNone, IfOk, IfSome, None};
 ghost use Rattle.ifmap_elem.specs.Chars.{is_white};
 ghost use Rattle.ifmap_elem.specs.Names.{is_name_character, is_name_start};
-ghost use Rattle.ifmap_filter.specs.Lexing.{Cuts, IsTaken};
+ghost use Rattle.ifmap_filter.specs.Lexing.{Cuts, IsFrontToken};
 ghost use Rattle.ifmap_filter.specs.Tokens.{is_but, is_quote, literal_at, name_at, name_token, prefixed_name_at, symbol_of, token_at, without_white};
 
 use crate::tokens::Token;
@@ -13,7 +13,7 @@ use std::alloc::{AllocError as NoMemory, Global};
 // The token at the front, and what is left; none where no token stands there.
 pub(crate) fn token_at(alloc: Global, text: &str) -> Result<Option<(Token, &str)>, NoMemory>
     ensures found { IfOk result (λ o.
-        IfSome o (λ f. IsTaken (token_at (chars text.now)) f.0 f.1.now)) }
+        IfSome o (λ f. IsFrontToken (token_at (chars text.now)) f.0 f.1.now)) }
     ensures none { IfOk result (λ o. IfNone o (token_at (chars text.now) ≡ None)) }
 {
     let Some((first, rest)) = first_character(text) else {
@@ -99,7 +99,7 @@ fn is_white(character: char) -> bool
 // The literal after its first quote, and what is left.
 fn literal_at(alloc: Global, quote: char, text: &str) -> Result<Option<(Token, &str)>, NoMemory>
     ensures found { IfOk result (λ o.
-        IfSome o (λ f. IsTaken (literal_at quote (chars text.now)) f.0 f.1.now)) }
+        IfSome o (λ f. IsFrontToken (literal_at quote (chars text.now)) f.0 f.1.now)) }
     ensures none { IfOk result (λ o. IfNone o (literal_at quote (chars text.now) ≡ None)) }
 {
     let (own, closed) = split_literal(quote, text);
@@ -125,7 +125,7 @@ fn split_literal(quote: char, text: &str) -> (&str, &str)
 // The name at the front, and what is left: a colon after its first part makes that a prefix.
 fn name_at(alloc: Global, text: &str) -> Result<Option<(Token, &str)>, NoMemory>
     ensures found { IfOk result (λ o.
-        IfSome o (λ f. IsTaken (name_at (chars text.now)) f.0 f.1.now)) }
+        IfSome o (λ f. IsFrontToken (name_at (chars text.now)) f.0 f.1.now)) }
     ensures none { IfOk result (λ o. IfNone o (name_at (chars text.now) ≡ None)) }
 {
     let (part, after) = split_name(text);
@@ -134,14 +134,14 @@ fn name_at(alloc: Global, text: &str) -> Result<Option<(Token, &str)>, NoMemory>
             if next == ':' {
                 prefixed_name_at(alloc, part, rest)
             } else {
-                Ok(Some((bare_name(alloc, part)?, after)))
+                Ok(Some((bare_name_token(alloc, part)?, after)))
             }
         }
-        None => Ok(Some((bare_name(alloc, part)?, after))),
+        None => Ok(Some((bare_name_token(alloc, part)?, after))),
     }
 }
 
-fn bare_name(alloc: Global, part: &str) -> Result<Token, NoMemory>
+fn bare_name_token(alloc: Global, part: &str) -> Result<Token, NoMemory>
     ensures { IfOk result (λ token. token ≡ name_token [] part.now) }
 {
     let prefix = Text(String::new(alloc));
@@ -149,7 +149,7 @@ fn bare_name(alloc: Global, part: &str) -> Result<Token, NoMemory>
     Ok(Token::Name(Qualified { prefix, local }))
 }
 
-fn prefixed_name(alloc: Global, prefix: &str, part: &str) -> Result<Token, NoMemory>
+fn prefixed_name_token(alloc: Global, prefix: &str, part: &str) -> Result<Token, NoMemory>
     ensures { IfOk result (λ token. token ≡ name_token prefix.now part.now) }
 {
     let prefix = Text(String::from_str(alloc, prefix)?);
@@ -164,7 +164,7 @@ fn prefixed_name_at<'a>(
     text: &'a str,
 ) -> Result<Option<(Token, &'a str)>, NoMemory>
     ensures found { IfOk result (λ o.
-        IfSome o (λ f. IsTaken (prefixed_name_at prefix.now (chars text.now)) f.0 f.1.now)) }
+        IfSome o (λ f. IsFrontToken (prefixed_name_at prefix.now (chars text.now)) f.0 f.1.now)) }
     ensures none { IfOk result (λ o.
         IfNone o (prefixed_name_at prefix.now (chars text.now) ≡ None)) }
 {
@@ -172,7 +172,7 @@ fn prefixed_name_at<'a>(
         Some((first, _rest)) => {
             if is_name_start(first) {
                 let (part, rest) = split_name(text);
-                Ok(Some((prefixed_name(alloc, prefix, part)?, rest)))
+                Ok(Some((prefixed_name_token(alloc, prefix, part)?, rest)))
             } else {
                 Ok(None)
             }

@@ -18,3 +18,4 @@ pub mod tokens;
 
 pub use errors::FilterError;
 pub use filters::{Filter, Predicate, Test};
+pub use matching::meets_optional;

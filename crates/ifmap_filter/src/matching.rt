@@ -1,7 +1,7 @@
 //! Whether an element meets a filter.
 ghost use Rattle.std.specs.Prelude.{◌≡◌, map};
 ghost use Rattle.std.specs.List.{list_all, list_any};
-ghost use Rattle.ifmap_filter.specs.Meets.{holds, meets, meets_test, has_name, holds_optional};
+ghost use Rattle.ifmap_filter.specs.Meets.{has_name, holds, holds_optional, meets, meets_optional, meets_test};
 
 use crate::filters::{Filter, Predicate, Test};
 use crate::holding::{has_attribute, has_child};
@@ -14,6 +14,17 @@ impl Filter {
         ensures { result ≡ meets self.now element.now }
     {
         self.tests.0.iter().any(|test| meets_test(test, element))
+    }
+}
+
+/// Whether the element meets the filter; an absent one is met by each element, while the filter
+/// without tests is met by none. It takes no memory.
+pub fn meets_optional(filter: &Option<Filter>, element: &Element) -> bool
+    ensures { result ≡ meets_optional filter.now element.now }
+{
+    match filter {
+        Some(filter) => filter.matches(element),
+        None => true,
     }
 }
 

@@ -7,13 +7,27 @@ ghost use Rattle.ifmap_filter.specs.Texts.{IsParsed};
 use crate::errors::FilterError;
 use crate::filters::Filter;
 use crate::lexing::{token_at, without_white};
-use crate::standing::{Standing, finish, take_token};
+use crate::standing::{Standing, filter_at, take_token};
 use ifmap_elem::Text;
 use ifmap_reader::Scope;
 use std::alloc::Global;
 
 impl Filter {
-    /// The filter that the text writes, where names have the prefixes of this scope.
+    /// The filter that the text writes, where names have the prefixes of this scope. The grammar
+    /// (docs/FORMATS.md) is made after the filters of the IF-MAP binding for SOAP, version 2.2:
+    /// tests of names, attributes and children, joined by `or` and `and`. Names are those of
+    /// Namespaces in XML 1.0, section 4, and white space that of XML 1.0, section 2.3.
+    ///
+    /// The namespace of a prefix is what the first row of the scope with that prefix says. The
+    /// prefix `xml` is bound for good (Namespaces in XML 1.0, section 3) and not looked up. A name
+    /// without a prefix is in no namespace, whatever the default is. Parentheses nest 64 deep at
+    /// most. A text that is empty or all white space is the filter without tests, which no element
+    /// meets; that is another thing than no filter.
+    ///
+    /// `NotAFilter { at }` has the one place at which the text stops to write a filter: that of the
+    /// first token that is not allowed after those before it, or that is malformed, or the end of
+    /// the text where it ends too soon. It is counted in bytes of the text as UTF-8, from 0; a name
+    /// counts from its prefix on. The other error is want of memory.
     pub fn parse(alloc: Global, text: &Text, scope: &Scope) -> Result<Filter, FilterError>
         ensures { IsParsed text.now scope.now result }
     {
@@ -35,8 +49,8 @@ fn read_filter(alloc: Global, text: &str, scope: &Scope) -> Result<Filter, Filte
     whole_filter(alloc, standing, text.len() as u64)
 }
 
-// Where the reader stands after the token at the front, which is at that place, and what is left after
-// white space.
+// Where the reader stands after the token at the front, which is at that place, and what is left
+// after white space.
 fn read_token<'a>(
     alloc: Global,
     scope: &Scope,
@@ -61,7 +75,7 @@ fn read_token<'a>(
 fn whole_filter(alloc: Global, standing: Standing, at: u64) -> Result<Filter, FilterError>
     ensures { IsEndAnswer (where_is standing) at result }
 {
-    match finish(alloc, standing)? {
+    match filter_at(alloc, standing)? {
         Some(filter) => Ok(filter),
         None => Err(FilterError::NotAFilter { at }),
     }

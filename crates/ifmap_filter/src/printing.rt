@@ -2,7 +2,7 @@
 ghost use Rattle.std.specs.Prelude.{◌≡◌, ◌<◌, ◌≤◌, ◌+◌, ◌^◌, ◌++◌, ◌∷◌, [], IfOk, OnOk, codes, length, string_bytes};
 ghost use Rattle.ifmap_elem.specs.Chars.{colon};
 ghost use Rattle.ifmap_filter.specs.declared.printing.Around.TheVariants.{Ands, Ors};
-ghost use Rattle.ifmap_filter.specs.Printing.{NestsNoDeeper, WritesBack, ands_text, attribute_text, brackets_text, child_text, filter_text, grouped, has_single_quote, joined_texts, literal_text, name_text, numbered_prefix, ors_text, parts_text, place_of, printed, quote_of, test_name_text, test_text, text_in, word_in};
+ghost use Rattle.ifmap_filter.specs.Printing.{NestsNoDeeper, WritesBack, ands_text, attribute_text, brackets_text, child_text, filter_text, group_text, has_single_quote, joined_texts, literal_text, name_text, numbered_prefix, ors_text, parts_text, place_of, predicate_text, quote_of, test_name_text, test_text, text_in, word_in};
 ghost use Rattle.ifmap_filter.specs.Spaces.{HasSpaces};
 
 use crate::filters::{Filter, Predicate, Test};
@@ -104,7 +104,7 @@ fn push_predicate(
     around: Around,
 ) -> Result<(), NoMemory>
     ensures { OnOk result (string_bytes out.new
-        ≡ string_bytes out.old ++ text_in around (printed spaces.now predicate.now)) }
+        ≡ string_bytes out.old ++ text_in around (predicate_text spaces.now predicate.now)) }
 {
     match predicate {
         Predicate::Attr { local, value } => push_attribute(out, local, value),
@@ -157,7 +157,7 @@ fn push_group(
     around: Around,
 ) -> Result<(), NoMemory>
     ensures { OnOk result (string_bytes out.new
-        ≡ string_bytes out.old ++ grouped (parts_text spaces.now around parts.now)) }
+        ≡ string_bytes out.old ++ group_text (parts_text spaces.now around parts.now)) }
 {
     out.push_str("(")?;
     push_parts(out, spaces, parts, around)?;

@@ -31,9 +31,9 @@ impl Filter {
         Ok(spaces)
     }
 
-    /// These namespaces, and after them those of the filter that are not among them, in the order of
-    /// first occurrence: so a list that serves several filters is made by one after the other. The
-    /// one error is want of memory.
+    /// These namespaces, and after them those of the filter that are not among them, in the order
+    /// of first occurrence: so a list that serves several filters is made by one after the other.
+    /// The one error is want of memory.
     pub fn add_spaces(&self, alloc: Global, spaces: Many<Text>) -> Result<Many<Text>, NoMemory>
         ensures added { IfOk result (λ all. all ≡ with_each spaces (filter_spaces self.now)) }
         ensures begins { IfOk result (λ all. IsFront spaces all) }

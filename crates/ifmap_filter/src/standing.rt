@@ -1,6 +1,6 @@
 //! Where a reader of filters stands, and what one more token makes of it.
 ghost use Rattle.std.specs.Prelude.{◌≡◌, ◌++◌, ◌∷◌, [], IfErr, IfOk};
-ghost use Rattle.ifmap_filter.specs.Progress.{IsNotSingle, StandsAt, compared, context, done_part, gathered, inner_place, next_part, step, step_done, step_equals, step_factor, step_joining, step_literal, step_local, step_named, step_test, step_tested, where_is, whole, with_factor};
+ghost use Rattle.ifmap_filter.specs.Progress.{IsNotSingle, StandsAt, comparison_of, context, done_part, join_parts, inner_place, next_part, step, step_done, step_equals, step_factor, step_joining, step_literal, step_local, step_named, step_test, step_tested, where_is, filter_at, with_factor};
 ghost use Rattle.ifmap_filter.specs.declared.filters.Predicate.{And, Or};
 ghost use Rattle.ifmap_filter.specs.declared.tokens.Token.TheVariants.{CloseBracket, CloseParenthesis};
 
@@ -15,28 +15,28 @@ use std::alloc::{AllocError as NoMemory, Global};
 // How deep parentheses may nest.
 const DEEPEST: usize = 64;
 
-// An or-part that is open: its and-parts that are done, and the factors that are done of the one that
-// is not.
+// An or-part that is open round another: its and-parts that are done, and the factors that are done
+// of the one that is not.
 #[derive(Drop)]
-pub(crate) struct Frame {
+pub(crate) struct OuterPart {
     pub(crate) ors: Many<Predicate>,
     pub(crate) ands: Many<Predicate>,
 }
 
-// The open or-part in the brackets of a test: the tests before it, the name of its own, the or-parts
-// round it, the innermost last, and what is done of it.
+// The open or-part in the brackets of a test: the tests before it, the name of its own, the
+// or-parts round it, the innermost last, and what is done of it.
 #[derive(Drop)]
-pub(crate) struct Inside {
+pub(crate) struct OpenPart {
     pub(crate) tests: Many<Test>,
     pub(crate) name: Option<Name>,
-    pub(crate) outer: Many<Frame>,
+    pub(crate) outer: Many<OuterPart>,
     pub(crate) ors: Many<Predicate>,
     pub(crate) ands: Many<Predicate>,
 }
 
 // What a comparison asks for, before its value.
 #[derive(Drop)]
-pub(crate) enum Asked {
+pub(crate) enum Operand {
     Attribute(Text),
     Child(Name),
 }
@@ -50,12 +50,12 @@ pub(crate) enum Standing {
     Named(Many<Test>, Option<Name>),
     // After the brackets of a test.
     Tested(Many<Test>),
-    FactorDue(Inside),
+    FactorDue(OpenPart),
     // After `@`.
-    LocalDue(Inside),
-    EqualsDue(Inside, Asked),
-    LiteralDue(Inside, Asked),
-    FactorDone(Inside),
+    LocalDue(OpenPart),
+    EqualsDue(OpenPart, Operand),
+    LiteralDue(OpenPart, Operand),
+    FactorDone(OpenPart),
 }
 
 // What one more token makes of it; none where the token is not allowed there.
@@ -72,11 +72,11 @@ pub(crate) fn take_token(
         Standing::TestDue(tests) => take_test(alloc, scope, tests, token),
         Standing::Named(tests, name) => take_named(alloc, tests, name, token),
         Standing::Tested(tests) => Ok(take_tested(tests, token)),
-        Standing::FactorDue(inside) => take_factor(alloc, scope, inside, token),
-        Standing::LocalDue(inside) => Ok(take_local(inside, token)),
-        Standing::EqualsDue(inside, asked) => Ok(take_equals(inside, asked, token)),
-        Standing::LiteralDue(inside, asked) => take_literal(inside, asked, token),
-        Standing::FactorDone(inside) => take_done(alloc, inside, token),
+        Standing::FactorDue(open_part) => take_factor(alloc, scope, open_part, token),
+        Standing::LocalDue(open_part) => Ok(take_local(open_part, token)),
+        Standing::EqualsDue(open_part, operand) => Ok(take_equals(open_part, operand, token)),
+        Standing::LiteralDue(open_part, operand) => take_literal(open_part, operand, token),
+        Standing::FactorDone(open_part) => take_done(alloc, open_part, token),
     }
 }
 
@@ -111,7 +111,7 @@ fn take_named(
             let outer = Many(Vec::new(alloc));
             let ors = Many(Vec::new(alloc));
             let ands = Many(Vec::new(alloc));
-            Ok(Some(Standing::FactorDue(Inside {
+            Ok(Some(Standing::FactorDue(OpenPart {
                 tests,
                 name,
                 outer,
@@ -153,16 +153,16 @@ fn take_tested(tests: Many<Test>, token: Token) -> Option<Standing>
 fn take_factor(
     alloc: Global,
     scope: &Scope,
-    inside: Inside,
+    open_part: OpenPart,
     token: Token,
 ) -> Result<Option<Standing>, NoMemory>
-    ensures { IfOk result (λ o. StandsAt o (step_factor scope.now (context inside) token)) }
+    ensures { IfOk result (λ o. StandsAt o (step_factor scope.now (context open_part) token)) }
 {
     match token {
-        Token::OpenParenthesis => open_group(alloc, inside),
-        Token::At => Ok(Some(Standing::LocalDue(inside))),
+        Token::OpenParenthesis => open_group(alloc, open_part),
+        Token::At => Ok(Some(Standing::LocalDue(open_part))),
         Token::Name(written) => match name_of(alloc, scope, written)? {
-            Some(name) => Ok(Some(Standing::EqualsDue(inside, Asked::Child(name)))),
+            Some(name) => Ok(Some(Standing::EqualsDue(open_part, Operand::Child(name)))),
             None => Ok(None),
         },
         _ => Ok(None),
@@ -171,23 +171,23 @@ fn take_factor(
 
 // After an opening parenthesis: none where it is one too deep.
 #[tactic(auto, using(crate::proofs::StandingLaws::too_deep, crate::proofs::StandingLaws::goes_deeper, crate::proofs::StandingLaws::pushed))]
-fn open_group(alloc: Global, inside: Inside) -> Result<Option<Standing>, NoMemory>
-    ensures { IfOk result (λ o. StandsAt o (inner_place (context inside))) }
+fn open_group(alloc: Global, open_part: OpenPart) -> Result<Option<Standing>, NoMemory>
+    ensures { IfOk result (λ o. StandsAt o (inner_place (context open_part))) }
 {
-    if inside.outer.0.len() >= DEEPEST {
+    if open_part.outer.0.len() >= DEEPEST {
         return Ok(None);
     }
-    let Inside {
+    let OpenPart {
         tests,
         name,
         mut outer,
         ors,
         ands,
-    } = inside;
-    outer.0.push(Frame { ors, ands })?;
+    } = open_part;
+    outer.0.push(OuterPart { ors, ands })?;
     let ors = Many(Vec::new(alloc));
     let ands = Many(Vec::new(alloc));
-    Ok(Some(Standing::FactorDue(Inside {
+    Ok(Some(Standing::FactorDue(OpenPart {
         tests,
         name,
         outer,
@@ -196,13 +196,13 @@ fn open_group(alloc: Global, inside: Inside) -> Result<Option<Standing>, NoMemor
     })))
 }
 
-fn take_local(inside: Inside, token: Token) -> Option<Standing>
-    ensures { StandsAt result (step_local (context inside) token) }
+fn take_local(open_part: OpenPart, token: Token) -> Option<Standing>
+    ensures { StandsAt result (step_local (context open_part) token) }
 {
     match token {
         Token::Name(written) => {
             if written.prefix.is_empty() {
-                Some(Standing::EqualsDue(inside, Asked::Attribute(written.local)))
+                Some(Standing::EqualsDue(open_part, Operand::Attribute(written.local)))
             } else {
                 None
             }
@@ -211,51 +211,55 @@ fn take_local(inside: Inside, token: Token) -> Option<Standing>
     }
 }
 
-fn take_equals(inside: Inside, asked: Asked, token: Token) -> Option<Standing>
-    ensures { StandsAt result (step_equals (context inside) asked token) }
+fn take_equals(open_part: OpenPart, operand: Operand, token: Token) -> Option<Standing>
+    ensures { StandsAt result (step_equals (context open_part) operand token) }
 {
     match token {
-        Token::EqualsSign => Some(Standing::LiteralDue(inside, asked)),
+        Token::EqualsSign => Some(Standing::LiteralDue(open_part, operand)),
         _ => None,
     }
 }
 
-fn take_literal(inside: Inside, asked: Asked, token: Token) -> Result<Option<Standing>, NoMemory>
-    ensures { IfOk result (λ o. StandsAt o (step_literal (context inside) asked token)) }
+fn take_literal(
+    open_part: OpenPart,
+    operand: Operand,
+    token: Token,
+) -> Result<Option<Standing>, NoMemory>
+    ensures { IfOk result (λ o. StandsAt o (step_literal (context open_part) operand token)) }
 {
     match token {
         Token::Literal(value) => {
-            let inside = with_factor(inside, compared(asked, value))?;
-            Ok(Some(Standing::FactorDone(inside)))
+            let open_part = with_factor(open_part, comparison_of(operand, value))?;
+            Ok(Some(Standing::FactorDone(open_part)))
         }
         _ => Ok(None),
     }
 }
 
-fn compared(asked: Asked, value: Text) -> Predicate
-    ensures { result ≡ compared asked value }
+fn comparison_of(operand: Operand, value: Text) -> Predicate
+    ensures { result ≡ comparison_of operand value }
 {
-    match asked {
-        Asked::Attribute(local) => Predicate::Attr { local, value },
-        Asked::Child(name) => Predicate::Child { name, value },
+    match operand {
+        Operand::Attribute(local) => Predicate::Attr { local, value },
+        Operand::Child(name) => Predicate::Child { name, value },
     }
 }
 
-fn with_factor(inside: Inside, factor: Predicate) -> Result<Inside, NoMemory>
-    ensures { IfOk result (λ made. context made ≡ with_factor (context inside) factor) }
+fn with_factor(open_part: OpenPart, factor: Predicate) -> Result<OpenPart, NoMemory>
+    ensures { IfOk result (λ made. context made ≡ with_factor (context open_part) factor) }
 {
-    let mut inside = inside;
-    inside.ands.0.push(factor)?;
-    Ok(inside)
+    let mut open_part = open_part;
+    open_part.ands.0.push(factor)?;
+    Ok(open_part)
 }
 
-fn take_done(alloc: Global, inside: Inside, token: Token) -> Result<Option<Standing>, NoMemory>
-    ensures { IfOk result (λ o. StandsAt o (step_done (context inside) token)) }
+fn take_done(alloc: Global, open_part: OpenPart, token: Token) -> Result<Option<Standing>, NoMemory>
+    ensures { IfOk result (λ o. StandsAt o (step_done (context open_part) token)) }
 {
     match token {
-        Token::Name(written) => take_joining(alloc, inside, &written),
-        Token::CloseParenthesis => close_group(inside),
-        Token::CloseBracket => close_test(inside),
+        Token::Name(written) => take_joining(alloc, open_part, &written),
+        Token::CloseParenthesis => close_group(open_part),
+        Token::CloseBracket => close_test(open_part),
         _ => Ok(None),
     }
 }
@@ -263,33 +267,33 @@ fn take_done(alloc: Global, inside: Inside, token: Token) -> Result<Option<Stand
 // After a name that joins: `and`, or `or`, with which the next part begins.
 fn take_joining(
     alloc: Global,
-    inside: Inside,
+    open_part: OpenPart,
     written: &Qualified,
 ) -> Result<Option<Standing>, NoMemory>
-    ensures { IfOk result (λ o. StandsAt o (step_joining (context inside) written.now)) }
+    ensures { IfOk result (λ o. StandsAt o (step_joining (context open_part) written.now)) }
 {
     if is_word("and", written) {
-        return Ok(Some(Standing::FactorDue(inside)));
+        return Ok(Some(Standing::FactorDue(open_part)));
     }
     if is_word("or", written) {
-        return Ok(Some(Standing::FactorDue(next_part(alloc, inside)?)));
+        return Ok(Some(Standing::FactorDue(next_part(alloc, open_part)?)));
     }
     Ok(None)
 }
 
-fn next_part(alloc: Global, inside: Inside) -> Result<Inside, NoMemory>
-    ensures { IfOk result (λ made. context made ≡ next_part (context inside)) }
+fn next_part(alloc: Global, open_part: OpenPart) -> Result<OpenPart, NoMemory>
+    ensures { IfOk result (λ made. context made ≡ next_part (context open_part)) }
 {
-    let Inside {
+    let OpenPart {
         tests,
         name,
         outer,
         mut ors,
         ands,
-    } = inside;
+    } = open_part;
     ors.0.push(all_of(ands))?;
     let ands = Many(Vec::new(alloc));
-    Ok(Inside {
+    Ok(OpenPart {
         tests,
         name,
         outer,
@@ -299,23 +303,23 @@ fn next_part(alloc: Global, inside: Inside) -> Result<Inside, NoMemory>
 }
 
 // After a closing parenthesis: none where none is open.
-fn close_group(inside: Inside) -> Result<Option<Standing>, NoMemory>
-    ensures { IfOk result (λ o. StandsAt o (step_done (context inside) CloseParenthesis)) }
+fn close_group(open_part: OpenPart) -> Result<Option<Standing>, NoMemory>
+    ensures { IfOk result (λ o. StandsAt o (step_done (context open_part) CloseParenthesis)) }
 {
-    let Inside {
+    let OpenPart {
         tests,
         name,
         mut outer,
         ors,
         ands,
-    } = inside;
-    let Some(frame) = outer.0.pop() else {
+    } = open_part;
+    let Some(outer_part) = outer.0.pop() else {
         return Ok(None);
     };
     let part = done_part(ors, ands)?;
-    let Frame { ors, mut ands } = frame;
+    let OuterPart { ors, mut ands } = outer_part;
     ands.0.push(part)?;
-    Ok(Some(Standing::FactorDone(Inside {
+    Ok(Some(Standing::FactorDone(OpenPart {
         tests,
         name,
         outer,
@@ -325,16 +329,16 @@ fn close_group(inside: Inside) -> Result<Option<Standing>, NoMemory>
 }
 
 // After a closing bracket: none where parentheses are open.
-fn close_test(inside: Inside) -> Result<Option<Standing>, NoMemory>
-    ensures { IfOk result (λ o. StandsAt o (step_done (context inside) CloseBracket)) }
+fn close_test(open_part: OpenPart) -> Result<Option<Standing>, NoMemory>
+    ensures { IfOk result (λ o. StandsAt o (step_done (context open_part) CloseBracket)) }
 {
-    let Inside {
+    let OpenPart {
         tests,
         name,
         outer,
         ors,
         ands,
-    } = inside;
+    } = open_part;
     if !outer.0.is_empty() {
         return Ok(None);
     }
@@ -355,9 +359,9 @@ fn done_part(ors: Many<Predicate>, ands: Many<Predicate>) -> Result<Predicate, N
 // One part alone is that part.
 #[tactic(auto, using(crate::proofs::StandingLaws::not_single))]
 fn all_of(parts: Many<Predicate>) -> Predicate
-    ensures { result ≡ gathered And parts }
+    ensures { result ≡ join_parts And parts }
 {
-    match single(parts) {
+    match only_part(parts) {
         Ok(part) => part,
         Err(parts) => Predicate::And(parts),
     }
@@ -365,9 +369,9 @@ fn all_of(parts: Many<Predicate>) -> Predicate
 
 #[tactic(auto, using(crate::proofs::StandingLaws::not_single))]
 fn one_of(parts: Many<Predicate>) -> Predicate
-    ensures { result ≡ gathered Or parts }
+    ensures { result ≡ join_parts Or parts }
 {
-    match single(parts) {
+    match only_part(parts) {
         Ok(part) => part,
         Err(parts) => Predicate::Or(parts),
     }
@@ -375,7 +379,7 @@ fn one_of(parts: Many<Predicate>) -> Predicate
 
 // The only part, or all of them.
 #[tactic(auto, using(crate::proofs::StandingLaws::many_not_single))]
-fn single(parts: Many<Predicate>) -> Result<Predicate, Many<Predicate>>
+fn only_part(parts: Many<Predicate>) -> Result<Predicate, Many<Predicate>>
     ensures one { IfOk result (λ part. parts ≡ part ∷ []) }
     ensures all { IfErr result (λ others. (others ≡ parts) × IsNotSingle parts) }
 {
@@ -390,8 +394,8 @@ fn single(parts: Many<Predicate>) -> Result<Predicate, Many<Predicate>>
 }
 
 // The filter, where the text may end here.
-pub(crate) fn finish(alloc: Global, standing: Standing) -> Result<Option<Filter>, NoMemory>
-    ensures { IfOk result (λ o. o ≡ whole (where_is standing)) }
+pub(crate) fn filter_at(alloc: Global, standing: Standing) -> Result<Option<Filter>, NoMemory>
+    ensures { IfOk result (λ o. o ≡ filter_at (where_is standing)) }
 {
     match standing {
         Standing::Start => Ok(Some(Filter {

@@ -2,7 +2,7 @@
 use crate::makers::Comparison::{Attr, Child};
 use crate::makers::{Comparison, filter_of, or_of_and, parts_of, predicate_of, role};
 use ifmap_elem::{Copied, Equals, Many, Name};
-use ifmap_filter::{Filter, Predicate};
+use ifmap_filter::{Filter, Predicate, meets_optional};
 use std::alloc::{AllocError as NoMemory, Global};
 use std::test::Fail;
 
@@ -99,6 +99,21 @@ fn names_are_met_by_their_elements_and_no_name_by_all(rt: HostRuntime) -> Result
         tests: Many(Vec::new(alloc)),
     };
     assert_eq!(rt; none.matches(&role(alloc)?), false);
+    Ok(())
+}
+
+fn meets_role(alloc: Global, filter: &Option<Filter>) -> Result<bool, NoMemory> {
+    Ok(meets_optional(filter, &role(alloc)?))
+}
+
+#[test]
+fn an_absent_filter_is_met_and_one_without_tests_is_not(rt: HostRuntime) -> Result<(), Fail> {
+    let alloc = rt.alloc();
+    assert_eq!(rt; meets_role(alloc, &None)?, true);
+    let blank = Some(Filter {
+        tests: Many(Vec::new(alloc)),
+    });
+    assert_eq!(rt; meets_role(alloc, &blank)?, false);
     Ok(())
 }
 

@@ -10,6 +10,7 @@ use Rattle.std.proofs.lemmas.Option.{same_Some, none-some}
 use Rattle.std.specs.List.{AllByRecursion, filter, filter_map}
 use Rattle.std.specs.List.Sorted.{IsStrictlySortedBy}
 use Rattle.ifmap_filter.specs.declared.filters.Filter.{Filter}
+use Rattle.ifmap_filter.specs.Meets.{meets_optional}
 use Rattle.ifmap_ident.specs.declared.identifiers.Identifier.{Identifier}
 use Rattle.ifmap_ident.specs.declared.items.Item.{Item}
 use Rattle.ifmap_ident.specs.declared.items.Item.TheVariants.{One, Pair}
@@ -29,7 +30,7 @@ use Rattle.ifmap_fresh.specs.Collected.{AreLookedAt, alone, brought, collected, 
 use Rattle.ifmap_fresh.specs.Fresh.{fresh, is_found, is_looked_at}
 use Rattle.ifmap_fresh.specs.Gathered.{entries_of, entries_on, entry_at, gathered, has_item, row_at}
 use Rattle.ifmap_fresh.specs.Linking.{end_where, is_terminal_at}
-use Rattle.ifmap_fresh.specs.Matching.{is_match, is_terminal, meets_optional, one_meets}
+use Rattle.ifmap_fresh.specs.Matching.{is_match, is_terminal, one_meets}
 use Rattle.ifmap_fresh.specs.Reached.{is_expanded, is_reached}
 use Rattle.ifmap_fresh.proofs.Gathering.{gathers, grouped}
 use Rattle.ifmap_fresh.proofs.Joining.{match_turned, some_there}

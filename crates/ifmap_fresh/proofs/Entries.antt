@@ -7,6 +7,7 @@ use Rattle.std.proofs.lemmas.List.Elements.{filter-append}
 use Rattle.std.proofs.lemmas.List.Sums.{sum_by-append, sum_by-cons}
 use Rattle.std.specs.List.{filter}
 use Rattle.ifmap_filter.specs.declared.filters.Filter.{Filter}
+use Rattle.ifmap_filter.specs.Meets.{meets_optional}
 use Rattle.ifmap_ident.specs.declared.items.Item.{Item}
 use Rattle.ifmap_meta.specs.declared.stored.Stored.{Stored}
 use Rattle.ifmap_search.specs.declared.results.Entry.{Entry}
@@ -16,7 +17,6 @@ use Rattle.ifmap_view.specs.Rows.{stored_on}
 use Rattle.ifmap_elem.specs.Canonical.{canonical_bytes}
 use Rattle.ifmap_ident.specs.Items.{item_size}
 use Rattle.ifmap_fresh.specs.Gathered.{entries_of, entries_on, entry_at, row_size}
-use Rattle.ifmap_fresh.specs.Matching.{meets_optional}
 
 split : (by : Option Filter) (i : Item) (xs : List Stored) (k : ℕ) (s : Stored) → k < length xs → s ≡ get_or xs k s
     → entries_of by i (take (k + 1) xs) ≡ entries_of by i (take k xs) ++ map (entry_at i)

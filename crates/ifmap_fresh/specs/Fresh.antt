@@ -1,6 +1,7 @@
 -- The result of a search.
 use Rattle.std.specs.Prelude.{◌≡◌, ℕ, ◌<◌, ◌≤◌, Bool, ◌&&◌, ◌||◌, List, map, Result, Ok, Err}
 use Rattle.std.specs.List.{filter}
+use Rattle.ifmap_filter.specs.Meets.{meets_optional}
 use Rattle.ifmap_ident.specs.declared.items.Item.{Item}
 use Rattle.ifmap_ident.specs.declared.items.Item.TheVariants.{One, Pair}
 use Rattle.ifmap_search.specs.declared.results.Entry.{Entry}
@@ -10,7 +11,7 @@ use Rattle.ifmap_search.specs.declared.results.SearchError.TheVariants.{TooBig, 
 use Rattle.ifmap_search.specs.declared.searches.Search.{Search}
 use Rattle.ifmap_search.specs.Sizes.{entries_size}
 use Rattle.ifmap_view.specs.declared.attachments.Attachment.{Attachment}
-use Rattle.ifmap_fresh.specs.Matching.{is_match, meets_optional}
+use Rattle.ifmap_fresh.specs.Matching.{is_match}
 use Rattle.ifmap_fresh.specs.Reached.{is_expanded, is_reached}
 
 module _ (rows : List Attachment) (s : Search) where

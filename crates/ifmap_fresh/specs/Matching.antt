@@ -1,9 +1,8 @@
 -- Which links a search goes along, and from which identifiers it goes on.
-use Rattle.std.specs.Prelude.{◌≡◌, Bool, true, false, List, Option, None, Some}
+use Rattle.std.specs.Prelude.{◌≡◌, Bool, true, false, List, Option}
 use Rattle.std.specs.List.{list_any}
-use Rattle.ifmap_elem.specs.declared.elements.Element.{Element}
 use Rattle.ifmap_filter.specs.declared.filters.Filter.{Filter}
-use Rattle.ifmap_filter.specs.Meets.{meets}
+use Rattle.ifmap_filter.specs.Meets.{meets_optional}
 use Rattle.ifmap_ident.specs.declared.identifiers.Identifier.{Identifier}
 use Rattle.ifmap_ident.specs.declared.kinds.Kind.{Kind}
 use Rattle.ifmap_ident.specs.declared.kinds.Kind.TheVariants.{AccessRequest, Device, Identity, IpAddress, MacAddress}
@@ -12,11 +11,6 @@ use Rattle.ifmap_ident.specs.Identifiers.{identifier_kind}
 use Rattle.ifmap_meta.specs.declared.stored.Stored.{Stored}
 use Rattle.ifmap_view.specs.declared.attachments.Attachment.{Attachment}
 use Rattle.ifmap_view.specs.Rows.{stored_between}
-
--- the element meets the filter; an absent one is met by each
-abbrev pub meets_optional : Option Filter → Element → Bool
-meets_optional None element = true
-meets_optional (Some filter) element = meets filter element
 
 -- some of what is stored meets the filter
 abbrev pub one_meets : Option Filter → List Stored → Bool

@@ -15,9 +15,8 @@ ghost use Rattle.ifmap_fresh.specs.Linking.{IsReachedAt};
 
 use crate::collecting::Looking;
 use crate::links::LinksOf;
-use crate::matching::meets_optional;
 use ifmap_elem::Many;
-use ifmap_filter::Filter;
+use ifmap_filter::{Filter, meets_optional};
 use ifmap_ident::laws::bytes_tell_identifiers_apart;
 use ifmap_ident::{Item, SharedItem};
 use ifmap_region::build;

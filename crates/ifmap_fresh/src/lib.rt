@@ -10,4 +10,4 @@ mod matching;
 
 pub use finding::fresh;
 pub use links::LinksOf;
-pub use matching::{meets_optional, one_meets};
+pub use matching::one_meets;

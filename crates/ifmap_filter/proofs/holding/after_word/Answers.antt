@@ -4,7 +4,11 @@ use Rattle.ifmap_filter.proofs.General.{some_of, none_of}
 use Rattle.ifmap_filter.proofs.holding.after_word.Goals as goal
 
 pub returns-clause-found : goal.returns-clause-found
-returns-clause-found c = some_of c.strip_prefix.result _ _ (strip_prefix_is Decides-eqb c.args.bytes.now c.args.word.now c.strip_prefix.result c.strip_prefix.ensures.cases)
+returns-clause-found c =
+    some_of c.strip_prefix.result _ _ (strip_prefix_is Decides-eqb c.args.bytes.now c.args.word.now c.strip_prefix.result
+    c.strip_prefix.ensures.cases)
 
 pub returns-clause-none : goal.returns-clause-none
-returns-clause-none c = none_of c.strip_prefix.result _ _ (strip_prefix_is Decides-eqb c.args.bytes.now c.args.word.now c.strip_prefix.result c.strip_prefix.ensures.cases)
+returns-clause-none c =
+    none_of c.strip_prefix.result _ _ (strip_prefix_is Decides-eqb c.args.bytes.now c.args.word.now c.strip_prefix.result
+    c.strip_prefix.ensures.cases)

@@ -17,4 +17,5 @@ returns-in_default c =
 pub returns : goal.returns
 returns c =
     c.is_empty.ensures
-    ∙ sym (c.loop-child.invariant ∙ no_child_more c.args.children.now c.loop-child.child-index c.loop-child.left.now c.loop-child-test.false c.loop-child.auto.child-index-end)
+    ∙ sym (c.loop-child.invariant ∙ no_child_more c.args.children.now c.loop-child.child-index c.loop-child.left.now c.loop-child-test.false
+    c.loop-child.auto.child-index-end)

@@ -17,4 +17,6 @@ returns-then-eq c =
     (ap (bytes_eq c.args.prefix.now) (sym c.as_str.ensures) ∙ sym c.eq.ensures ∙ c.if-eq.true))
 
 pub returns : goal.returns
-returns c = sym (c.loop-row.invariant ∙ no_row c.args.prefix.now c.args.rows.now c.loop-row.row-index c.loop-row-test.false c.loop-row.auto.row-index-end)
+returns c =
+    sym (c.loop-row.invariant ∙ no_row c.args.prefix.now c.args.rows.now c.loop-row.row-index c.loop-row-test.false
+    c.loop-row.auto.row-index-end)

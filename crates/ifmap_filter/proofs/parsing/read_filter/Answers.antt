@@ -34,10 +34,12 @@ returns c =
 pub returns-in_err-next : goal.returns-in_err-next
 returns-in_err-next c =
     let p = err_from_is_err_and c.from_residual.result c.from_residual.ensures.1 in
-    let stuck : IsRefused c.args.scope.now (where_is c.loop-rest.standing) c.loop-rest.rest.now (length c.args.text.now - length c.loop-rest.rest.now) c.in_err-next.field-0.0 =
+    let stuck : IsRefused c.args.scope.now (where_is c.loop-rest.standing) c.loop-rest.rest.now
+    (length c.args.text.now - length c.loop-rest.rest.now) c.in_err-next.field-0.0 =
     c.in_err-next.ensures.refused in
     subst (IsParsed c.args.text.now c.args.scope.now) (sym p.1)
     (refused c.args.text.now c.args.scope.now c.utf8.text (where_is c.loop-rest.standing) c.loop-rest.rest.now c.loop-rest.invariant.0
     c.loop-rest.invariant.1 (some_left c.loop-rest.rest.now (sym c.is_empty.ensures ∙ c.loop-rest-test.true))
     (length c.args.text.now - length c.loop-rest.rest.now) refl p.0
-    (subst (IsRefused c.args.scope.now (where_is c.loop-rest.standing) c.loop-rest.rest.now (length c.args.text.now - length c.loop-rest.rest.now)) (sym p.2) stuck))
+    (subst (IsRefused c.args.scope.now (where_is c.loop-rest.standing) c.loop-rest.rest.now
+    (length c.args.text.now - length c.loop-rest.rest.now)) (sym p.2) stuck))

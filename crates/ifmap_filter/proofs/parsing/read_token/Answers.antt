@@ -2,14 +2,15 @@ use Rattle.std.proofs.Common.{◌≡◌, ◌∙◌, ap, inl, refl, subst, sym, S
 use Rattle.std.specs.Prelude.{IfNone, IfSome, chars}
 use Rattle.std.specs.Option.{option_map}
 use Rattle.ifmap_filter.specs.Progress.{where_is}
-use Rattle.ifmap_filter.specs.Tokens.{taken, token_at}
+use Rattle.ifmap_filter.specs.Tokens.{front_token, token_at}
 use Rattle.ifmap_filter.proofs.parsing.read_token.Goals as goal
 
 pub returns-clause-next : goal.returns-clause-next
 returns-clause-next c = record {
   token = c.in-Some.token;
   after = chars c.in-Some.after.now;
-  is_there = subst (λ o. IfSome o (λ f. token_at (chars c.args.rest.now) ≡ Some (taken f.0 (chars f.1.now)))) c.in-Some.is c.in_ok-token.ensures.found;
+  is_there = subst (λ o. IfSome o (λ f. token_at (chars c.args.rest.now) ≡ Some (front_token f.0 (chars f.1.now)))) c.in-Some.is
+      c.in_ok-token.ensures.found;
   steps = sym c.in_ok-next.ensures ∙ ap (option_map where_is) c.in-Some-2.is;
   left_is = c.without_white.ensures;
   is_text = c.without_white.utf8;

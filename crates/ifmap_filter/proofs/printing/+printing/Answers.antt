@@ -3,14 +3,14 @@ use Rattle.std.proofs.lemmas.List.{append-nil, take_all}
 use Rattle.std.proofs.lemmas.Str.{IsUtf8-nil}
 use Rattle.std.specs.Prelude.{OnOk, string_bytes}
 use Rattle.ifmap_filter.specs.declared.filters.Predicate.{Predicate}
-use Rattle.ifmap_filter.specs.Printing.{Printed, attribute_text, child_text, joined_texts, printed, text_in, word_in}
+use Rattle.ifmap_filter.specs.Printing.{PredicateText, attribute_text, child_text, joined_texts, predicate_text, text_in, word_in}
 use Rattle.ifmap_filter.proofs.PrintLaws.{alike_anywhere, joined_more, prints_and, prints_attr, prints_child, prints_or, word_later}
 use Rattle.ifmap_filter.proofs.printing.+printing.Goals as goal
 
 pub push_predicate-returns-in-Attr : goal.push_predicate-returns-in-Attr
 push_predicate-returns-in-Attr t c =
     subst (λ w. OnOk c.push_attribute.result (string_bytes c.push_attribute.new.out ≡ string_bytes c.args.out.now ++ w))
-    (sym (ap (λ p. text_in c.args.around (printed c.args.spaces.now p)) c.in-Attr.is
+    (sym (ap (λ p. text_in c.args.around (predicate_text c.args.spaces.now p)) c.in-Attr.is
     ∙ ap (text_in c.args.around) (prints_attr c.args.spaces.now c.in-Attr.local c.in-Attr.value)
     ∙ alike_anywhere c.args.around (attribute_text c.in-Attr.local c.in-Attr.value)))
     c.push_attribute.ensures
@@ -18,28 +18,31 @@ push_predicate-returns-in-Attr t c =
 pub push_predicate-returns-in-Child : goal.push_predicate-returns-in-Child
 push_predicate-returns-in-Child t c =
     subst (λ w. OnOk c.push_child.result (string_bytes c.push_child.new.out ≡ string_bytes c.args.out.now ++ w))
-    (sym (ap (λ p. text_in c.args.around (printed c.args.spaces.now p)) c.in-Child.is
+    (sym (ap (λ p. text_in c.args.around (predicate_text c.args.spaces.now p)) c.in-Child.is
     ∙ ap (text_in c.args.around) (prints_child c.args.spaces.now c.in-Child.name c.in-Child.value)
     ∙ alike_anywhere c.args.around (child_text c.args.spaces.now c.in-Child.name c.in-Child.value)))
     c.push_child.ensures
 
 pub push_predicate-returns-in-And : goal.push_predicate-returns-in-And
 push_predicate-returns-in-And t c =
-    subst (λ (w : Printed). OnOk c.push_ands.result (string_bytes c.push_ands.new.out ≡ string_bytes c.args.out.now ++ text_in c.args.around w))
-    (sym (ap (printed c.args.spaces.now) c.in-And.is ∙ prints_and c.args.spaces.now c.in-And.parts))
+    subst (λ (w : PredicateText). OnOk c.push_ands.result
+    (string_bytes c.push_ands.new.out ≡ string_bytes c.args.out.now ++ text_in c.args.around w))
+    (sym (ap (predicate_text c.args.spaces.now) c.in-And.is ∙ prints_and c.args.spaces.now c.in-And.parts))
     c.push_ands.ensures
 
 pub push_predicate-returns-in-Or : goal.push_predicate-returns-in-Or
 push_predicate-returns-in-Or t c =
-    subst (λ (w : Printed). OnOk c.push_ors.result (string_bytes c.push_ors.new.out ≡ string_bytes c.args.out.now ++ text_in c.args.around w))
-    (sym (ap (printed c.args.spaces.now) c.in-Or.is ∙ prints_or c.args.spaces.now c.in-Or.parts))
+    subst (λ (w : PredicateText). OnOk c.push_ors.result
+    (string_bytes c.push_ors.new.out ≡ string_bytes c.args.out.now ++ text_in c.args.around w))
+    (sym (ap (predicate_text c.args.spaces.now) c.in-Or.is ∙ prints_or c.args.spaces.now c.in-Or.parts))
     c.push_ors.ensures
 
 pub push_parts-loop-part-preserved : goal.push_parts-loop-part-preserved
 push_parts-loop-part-preserved t c =
     let list = c.deref-part-items.ensures.value ∙ c.parts.view_is in (
       c.word_in-word.utf8,
-      joined_more (word_in c.args.around) (λ p. text_in c.args.around (printed c.args.spaces.now p)) c.args.parts.now c.loop-part.part-index
+      joined_more (word_in c.args.around) (λ p. text_in c.args.around (predicate_text c.args.spaces.now p)) c.args.parts.now
+          c.loop-part.part-index
           c.part-item.result (string_bytes c.args.out.now) (string_bytes c.loop-part.out) (string_bytes c.push_str.new.self)
           (string_bytes c.push_predicate.new.out) c.loop-part.word.now (omega (arith, c.loop-part-test.true, ap length list))
           (c.part-item.is ∙ ap (λ (l : List Predicate). get_or l c.loop-part.part-index c.part-item.result) list)
@@ -53,5 +56,7 @@ push_parts-loop-part-init t c = (IsUtf8-nil, sym (append-nil (string_bytes c.arg
 pub push_parts-returns : goal.push_parts-returns
 push_parts-returns t c =
     c.loop-part.invariant.1
-    ∙ ap (λ l. string_bytes c.args.out.now ++ joined_texts (word_in c.args.around) (λ p. text_in c.args.around (printed c.args.spaces.now p)) l)
-    (take_all c.loop-part.part-index c.args.parts.now (omega (arith, c.loop-part-test.false, ap length (c.deref-part-items.ensures.value ∙ c.parts.view_is))))
+    ∙ ap (λ l. string_bytes c.args.out.now ++ joined_texts (word_in c.args.around)
+    (λ p. text_in c.args.around (predicate_text c.args.spaces.now p)) l)
+    (take_all c.loop-part.part-index c.args.parts.now
+    (omega (arith, c.loop-part-test.false, ap length (c.deref-part-items.ensures.value ∙ c.parts.view_is))))

@@ -11,7 +11,8 @@ loop-test-preserved c = (
   or_text,
   joined_more (codes " or ") (test_text c.args.spaces.now) c.args.tests.now c.loop-test.test-index c.test-item.result
       (string_bytes c.args.out.now) (string_bytes c.loop-test.out) (string_bytes c.push_str.new.self) (string_bytes c.push_test.new.out)
-      c.loop-test.word.now c.loop-test-test.true c.test-item.is c.loop-test.invariant.1 c.loop-test.invariant.2 c.in_ok-push_str.ensures.bytes
+      c.loop-test.word.now c.loop-test-test.true c.test-item.is c.loop-test.invariant.1 c.loop-test.invariant.2
+      c.in_ok-push_str.ensures.bytes
       c.in_ok-push_test.ensures,
   word_later (codes " or ") c.loop-test.test-index,
 )
