@@ -2,7 +2,7 @@
 -- 1. Where white space alone stands before an element in both of two splits of one list, the splits are one.
 -- 2. So an element that is alone is the only one, at its place.
 -- 3. The body is the same in both: where one split has a header before it and the other has none, a header would be a body.
-use Rattle.std.proofs.Common.{◌≡◌, ◌⊎◌, ◌∙◌, ℕ, true, false, List, [], ◌∷◌, ◌++◌, codes, length, inl, inr, refl, ap, arith, subst, sym, append_assoc}
+use Rattle.std.proofs.Common.{◌≡◌, ◌∙◌, ℕ, true, false, List, [], ◌∷◌, ◌++◌, codes, length, inl, inr, refl, ap, arith, subst, sym, append_assoc}
 use Rattle.std.proofs.lemmas.Bool.{and_parts}
 use Rattle.std.specs.List.{list_all}
 use Rattle.ifmap_elem.specs.Chars.{is_white}

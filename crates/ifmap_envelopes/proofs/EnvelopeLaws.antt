@@ -4,13 +4,13 @@
 -- 3. The body, after a header or none.
 -- 4. What stands at an index.
 -- 5. White space at the front, as the code finds it.
-use Rattle.std.proofs.Common.{◌≡◌, ◌⊎◌, ◌∙◌, ℕ, ◌+◌, ◌-◌, ◌<◌, ◌≤◌, suc, Bool, true, false, not, cond, List, [], ◌∷◌, ◌++◌, Option, None, Some, IsTrue, codes, length, get_or, map, take, drop, inl, inr, refl, ap, arith, subst, sym, append_assoc}
-use Rattle.std.specs.Prelude.{◌&&◌, nat_lt, option_map}
-use Rattle.std.specs.List.{list_all, position, position_or_len, prefix_len, slice_get}
+use Rattle.std.proofs.Common.{◌≡◌, ◌∙◌, ℕ, ◌+◌, ◌-◌, ◌<◌, ◌≤◌, suc, Bool, true, false, not, cond, List, [], ◌∷◌, ◌++◌, None, Some, codes, length, get_or, take, drop, inl, inr, refl, ap, arith, subst, sym, append_assoc}
+use Rattle.std.specs.Prelude.{◌&&◌, option_map}
+use Rattle.std.specs.List.{list_all, position, position_or_len, slice_get}
 use Rattle.std.specs.Str.{bytes_eq}
-use Rattle.std.proofs.lemmas.Bool.{and_parts, cases_Bool}
+use Rattle.std.proofs.lemmas.Bool.{and_parts}
 use Rattle.std.proofs.lemmas.List.{drop-map, take-append-drop, length-append, length-take-le, length-map}
-use Rattle.std.proofs.lemmas.Option.{slice_get-map, slice_get_past, slice_get_read}
+use Rattle.std.proofs.lemmas.Option.{slice_get-map, slice_get_read}
 use Rattle.std.proofs.lemmas.List.Sums.{prefix_len-le-length}
 use Rattle.std.proofs.Math.Seq.{drop-append_seam, drop-append-add}
 use Rattle.ifmap_elem.specs.declared.elements.Child as the
@@ -18,12 +18,12 @@ use Rattle.ifmap_elem.specs.declared.elements.Child.{Child, out-Child}
 use Rattle.ifmap_elem.specs.declared.elements.Child.TheOpen.{Child-F}
 use Rattle.ifmap_elem.specs.declared.elements.Element.{Element}
 use Rattle.ifmap_elem.specs.declared.elements.Name.{Name}
-use Rattle.ifmap_elem.specs.laws.FitLaws.{out_element, out_text}
+use Rattle.ifmap_elem.specs.laws.FitLaws.{out_element}
 use Rattle.ifmap_filter.specs.Holding.{is_name}
 use Rattle.ifmap_forms.specs.PositionLaws.{at_place, no_place, place_is}
 use Rattle.ifmap_forms.specs.Tables.{Part, is_white_part, parts_in}
 use Rattle.ifmap_lemmas.specs.Texts.{eq_itself, eq_tells}
-use Rattle.ifmap_envelopes.specs.Envelopes.{IsAlone, IsBodyAt, IsPartAt, MayHoldHeader, blank_front, envelope_name, is_element, is_first, is_last, is_part_named, is_solid_part}
+use Rattle.ifmap_envelopes.specs.Envelopes.{IsAlone, IsBodyAt, IsPartAt, blank_front, envelope_name, is_element, is_first, is_last, is_part_named, is_solid_part}
 use Rattle.ifmap_elem.specs.Chars.{is_white}
 use Rattle.ifmap_envelopes.proofs.Alone.{at_header, AreBlank, part_of, text_of, no_element, after_text}
 

@@ -1,5 +1,5 @@
 -- The first list among parts, and its index among children.
-use Rattle.std.proofs.Common.{◌≡◌, ◌∙◌, ℕ, ◌+◌, Bool, true, false, not, cond, List, [], ◌∷◌, None, length, take, drop, suc, refl, ap, arith, sym, subst}
+use Rattle.std.proofs.Common.{◌≡◌, ◌∙◌, ℕ, ◌+◌, Bool, true, false, not, cond, List, [], ◌∷◌, None, length, take, drop, suc, refl, ap, arith, subst}
 use Rattle.std.specs.List.{position, position_or_len}
 use Rattle.ifmap_elem.specs.declared.elements.Child.{Child, out-Child}
 use Rattle.ifmap_forms.specs.Items.{before_list, from_list, is_list}

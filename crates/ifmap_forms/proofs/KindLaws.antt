@@ -2,15 +2,12 @@
 -- 1. White space at the front and at the end.
 -- 2. The first comma cuts the first piece off.
 -- 3. What is found of the other pieces comes after the first.
-use Rattle.std.proofs.Common.{◌≡◌, ◌⊎◌, ◌∙◌, ℕ, ◌+◌, ◌-◌, ◌<◌, ◌≤◌, suc, Bool, true, false, not, cond, List, [], ◌∷◌, ◌++◌, Option, None, Some, Result, Ok, Err, length, get_or, take, drop, reverse, inl, inr, refl, ap, arith, subst, sym, rules}
-use Rattle.std.specs.Prelude.{nat_lt, ◌==◌}
+use Rattle.std.proofs.Common.{◌≡◌, ◌∙◌, ℕ, ◌+◌, ◌-◌, ◌<◌, suc, Bool, true, false, not, cond, List, [], ◌∷◌, None, Result, Ok, Err, length, get_or, take, drop, reverse, inl, inr, refl, ap, arith, subst, sym}
+use Rattle.std.specs.Prelude.{◌==◌}
 use Rattle.std.specs.List.{position, position_or_len}
 use Rattle.std.specs.Str.{byte}
-use Rattle.std.proofs.lemmas.Bool.{cases_Bool}
-use Rattle.std.proofs.lemmas.Bool.Decides.{nat_tests}
 use Rattle.std.proofs.lemmas.List.{reverse-append, reverse-reverse}
 use Rattle.std.proofs.Math.Seq.{take-length, take-suc}
-use Rattle.std.proofs.lemmas.List.Sums.{prefix_len-le-length}
 use Rattle.ifmap_filter.specs.Tokens.{without_white}
 use Rattle.ifmap_elem.specs.Chars.{is_white}
 use Rattle.ifmap_ident.specs.declared.codes.Code.{Code}
@@ -18,7 +15,6 @@ use Rattle.ifmap_ident.specs.declared.kinds.Kind.{Kind}
 use Rattle.ifmap_forms.specs.declared.errors.FormError.{FormError}
 use Rattle.ifmap_forms.specs.declared.errors.FormError.TheVariants.{Named, NoMemory}
 use Rattle.ifmap_forms.specs.Answers.{IsRefused}
-use Rattle.ifmap_forms.specs.Checks.{Check}
 use Rattle.ifmap_forms.specs.Gathering.{after}
 use Rattle.ifmap_forms.specs.PositionLaws.{at_place, no_place, place_inside, place_is}
 use Rattle.ifmap_forms.specs.Values.{begins_white, kinds_check, piece_check, pieces_of, with_first}

@@ -1,10 +1,8 @@
 -- The rows of a scope, gathered along the declarations and then turned round.
-use Rattle.std.proofs.Common.{◌≡◌, ◌∙◌, ℕ, ◌+◌, ◌<◌, Bool, true, false, cond, List, [], ◌∷◌, ◌++◌, Option, None, Some, length, get_or, map, reverse, take, suc, refl, ap, arith, sym}
+use Rattle.std.proofs.Common.{◌≡◌, ◌∙◌, ℕ, ◌+◌, Bool, true, false, cond, List, [], ◌∷◌, ◌++◌, None, Some, map, reverse, refl, ap, sym}
 use Rattle.std.specs.Prelude.{◌==◌}
 use Rattle.std.specs.List.{filter, flat_map, starts_with}
-use Rattle.std.proofs.lemmas.Grind.{flat_map-append}
-use Rattle.std.proofs.lemmas.List.{append-nil, reverse-append}
-use Rattle.std.proofs.Math.Seq.{take-suc}
+use Rattle.std.proofs.lemmas.List.{reverse-append}
 use Rattle.ifmap_elem.specs.InScope.{binding_told, declared_at}
 use Rattle.ifmap_elem.specs.Scopes.{Binding}
 use Rattle.ifmap_elem.specs.declared.readings.Declared.{Declared}

@@ -1,7 +1,7 @@
 -- How the answers to the parts of a check are answers to the whole.
-use Rattle.std.specs.Prelude.{◌≡◌, ℕ, Bool, true, false, List, [], ◌++◌, Option, None, Some, Result, Ok, Err, refl}
+use Rattle.std.specs.Prelude.{◌≡◌, Bool, true, false, [], ◌++◌, Result, Ok, Err, refl}
 use Rattle.std.specs.Result.{IsErrAnd}
-use Rattle.std.proofs.Common.{◌⊎◌, ◌∙◌, inl, inr, ap, sym, subst}
+use Rattle.std.proofs.Common.{inl, inr, sym, subst}
 use Rattle.ifmap_elem.specs.declared.elements.Element.{Element}
 use Rattle.ifmap_ident.specs.Parts.{has_only}
 use Rattle.ifmap_ident.specs.declared.codes.Code.{Code}
@@ -10,9 +10,9 @@ use Rattle.ifmap_reader.specs.declared.scoping.Scope.{Scope}
 use Rattle.ifmap_forms.specs.declared.errors.FormError.{FormError}
 use Rattle.ifmap_forms.specs.declared.errors.FormError.TheVariants.{Named, NoMemory}
 use Rattle.ifmap_forms.specs.Answers.{IsChecked, IsCheckedAs, IsRefused}
-use Rattle.ifmap_forms.specs.Checks.{Check, check_if, check_then, fail, need, need_some, pass}
+use Rattle.ifmap_forms.specs.Checks.{Check, check_then, need, pass}
 use Rattle.ifmap_forms.specs.Scopes.{Scopes}
-use Rattle.ifmap_forms.specs.Tables.{Both, Content, Form, Table, beside, both, form_check, form_or, no_attributes, parts_of, read_form}
+use Rattle.ifmap_forms.specs.Tables.{Both, Form, Table, beside, both, form_check, no_attributes, parts_of}
 use Rattle.ifmap_forms.specs.Values.{Field, field_check}
 
 module _ {X Y : Type 0} (first : Check X) (second : X → Check Y) where

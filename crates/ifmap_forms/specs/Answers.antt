@@ -1,6 +1,5 @@
 -- What readers answer to what checks find.
 use Rattle.std.specs.Prelude.{Result, Ok, Err}
-use Rattle.ifmap_ident.specs.declared.codes.Code.{Code}
 use Rattle.ifmap_forms.specs.declared.errors.FormError.{FormError}
 use Rattle.ifmap_forms.specs.declared.errors.FormError.TheVariants.{Named, NoMemory}
 use Rattle.ifmap_forms.specs.Checks.{Check}

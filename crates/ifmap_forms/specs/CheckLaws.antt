@@ -1,6 +1,6 @@
 -- Checks find one thing: what is composed of checks that find one thing at most does so too, and what is composed of checks that find
 -- something finds something. So it is enough to know it of the smallest ones.
-use Rattle.std.specs.Prelude.{◌≡◌, ◌⊎◌, Bool, true, false, Option, None, Some, Result, Ok, Err, refl}
+use Rattle.std.specs.Prelude.{◌≡◌, Bool, true, false, Option, None, Some, Result, Ok, Err, refl}
 use Rattle.std.proofs.Common.{◌∙◌, inl, inr, subst, sym}
 use Rattle.ifmap_ident.specs.declared.codes.Code.{Code}
 use Rattle.ifmap_forms.specs.Checks.{Check, IsDone, IsSingle, check_if, check_then, fail, need, need_some, pass}

@@ -6,7 +6,7 @@
 -- 3. The same of a child as the code has it, and the turns of a loop along children.
 use Rattle.std.specs.Prelude.{◌≡◌, ℕ, ◌+◌, Bool, true, false, List, [], ◌∷◌, ◌++◌, Option, None, Some, Result, Ok, Err, refl}
 use Rattle.std.specs.List.{list_all}
-use Rattle.std.proofs.Common.{◌⊎◌, ◌∙◌, inl, inr, ap, sym, subst, append_assoc, append-nil}
+use Rattle.std.proofs.Common.{◌∙◌, inl, inr, ap, sym, subst, append_assoc, append-nil}
 use Rattle.ifmap_elem.specs.Chars.{is_white}
 use Rattle.ifmap_elem.specs.declared.elements.Child as the
 use Rattle.ifmap_elem.specs.declared.elements.Child.{Child, out-Child}
@@ -18,8 +18,8 @@ use Rattle.ifmap_ident.specs.declared.codes.Code.TheVariants.{Failure}
 use Rattle.ifmap_ident.specs.declared.identifiers.Identifier.{Identifier}
 use Rattle.ifmap_forms.specs.declared.errors.FormError.{FormError}
 use Rattle.ifmap_forms.specs.declared.errors.FormError.TheVariants.{Named, NoMemory}
-use Rattle.ifmap_forms.specs.Answers.{IsChecked, IsRefused}
-use Rattle.ifmap_forms.specs.Checks.{Check, check_then, fail, need, pass}
+use Rattle.ifmap_forms.specs.Answers.{IsRefused}
+use Rattle.ifmap_forms.specs.Checks.{Check, check_then, need, pass}
 use Rattle.ifmap_forms.specs.Items.{identifier_check, identifiers_check, may_follow}
 use Rattle.ifmap_forms.specs.Tables.{Part, each_element, parts_in}
 

@@ -1,4 +1,4 @@
-use Rattle.std.proofs.Common.{◌≡◌, ◌∙◌, ap, sym}
+use Rattle.std.proofs.Common.{◌∙◌, ap, sym}
 use Rattle.ifmap_forms.specs.Tables.{parts_in}
 use Rattle.ifmap_envelopes.specs.Envelopes.{is_element, is_last}
 use Rattle.ifmap_envelopes.proofs.EnvelopeLaws.{alone_there, none_alone, parts_from}

@@ -1,4 +1,4 @@
-use Rattle.std.proofs.Common.{◌≡◌, ◌+◌, ◌∙◌, ap, codes, drop, false, sym, true}
+use Rattle.std.proofs.Common.{◌≡◌, ◌+◌, ◌∙◌, ap, codes, false, sym, true}
 use Rattle.ifmap_forms.specs.Tables.{parts_in}
 use Rattle.ifmap_envelopes.specs.Envelopes.{blank_front, is_first, is_last, is_part_named}
 use Rattle.ifmap_envelopes.proofs.EnvelopeLaws.{after_header, body_after, body_first, headed, no_body_after, no_body_first, parts_from}

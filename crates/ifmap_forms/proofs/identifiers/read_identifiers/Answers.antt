@@ -7,7 +7,6 @@ use Rattle.ifmap_forms.specs.Answers.{IsRefused}
 use Rattle.ifmap_forms.specs.Gathering.{following_check, identifiers_end, identifiers_further, identifiers_stop, one_found, part_check}
 use Rattle.ifmap_forms.specs.Items.{identifiers_check}
 use Rattle.ifmap_forms.specs.Tables.{parts_in}
-use Rattle.std.specs.Prelude.{Some}
 use Rattle.ifmap_forms.proofs.identifiers.read_identifiers.Goals as goal
 
 pub returns-in_err-found : goal.returns-in_err-found

@@ -1,4 +1,4 @@
-use Rattle.std.proofs.Common.{List, ap, subst, sym}
+use Rattle.std.proofs.Common.{subst, sym}
 use Rattle.ifmap_reader.specs.declared.scoping.Scope.{Scope}
 use Rattle.ifmap_filter.specs.Texts.{Writes}
 use Rattle.ifmap_forms.proofs.values.filter_of.Goals as goal
