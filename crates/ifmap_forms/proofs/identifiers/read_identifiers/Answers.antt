@@ -1,4 +1,4 @@
-use Rattle.std.proofs.Common.{◌≡◌, ◌+◌, ◌∙◌, ◌∷◌, [], List, ap, drop, subst, sym}
+use Rattle.std.proofs.Common.{◌≡◌, ℕ, ◌+◌, ◌<◌, ◌∙◌, ◌∷◌, [], List, ap, drop, get_or, length, subst, sym}
 use Rattle.std.proofs.lemmas.List.{drop_all, drop_more}
 use Rattle.ifmap_elem.specs.declared.elements.Child.{Child, out-Child}
 use Rattle.ifmap_ident.specs.declared.identifiers.Identifier.{Identifier}
@@ -9,6 +9,12 @@ use Rattle.ifmap_forms.specs.Items.{identifiers_check}
 use Rattle.ifmap_forms.specs.Tables.{parts_in}
 use Rattle.ifmap_forms.proofs.identifiers.read_identifiers.Goals as goal
 
+-- the child with an index, and those after it, are what is left there
+left_at : (children : List Child) (i : ℕ) (child : Child) → i < length children → child ≡ get_or children i child
+    → drop i children ≡ child ∷ drop (i + 1) children
+left_at children i child below is =
+    drop_more children i child below ∙ ap (λ (x : Child). x ∷ drop (i + 1) children) (sym is)
+
 pub returns-in_err-found : goal.returns-in_err-found
 returns-in_err-found c =
     let children = c.args.children.now in
@@ -16,8 +22,7 @@ returns-in_err-found c =
     let child = c.child-item.result in
     let made = c.loop-child.made.items in
     let whole = identifiers_check c.args.most [] (parts_in children) in
-    let left : drop i children ≡ child ∷ drop (i + 1) children =
-    drop_more children i child c.loop-child-test.true ∙ ap (λ (x : Child). x ∷ drop (i + 1) children) (sym c.child-item.is) in
+    let left = left_at children i child c.loop-child-test.true c.child-item.is in
     let error = c.in_err-found.field-0.0 in
     let stops : IsRefused (part_check (following_check c.args.most made) (out-Child child)) error =
     subst (λ (before : List Identifier). IsRefused (part_check (following_check c.args.most before) (out-Child child)) error)
@@ -32,8 +37,7 @@ loop-child-preserved c =
     let child = c.child-item.result in
     let made = c.loop-child.made.items in
     let whole = identifiers_check c.args.most [] (parts_in children) in
-    let left : drop i children ≡ child ∷ drop (i + 1) children =
-    drop_more children i child c.loop-child-test.true ∙ ap (λ (x : Child). x ∷ drop (i + 1) children) (sym c.child-item.is) in
+    let left = left_at children i child c.loop-child-test.true c.child-item.is in
     let there : part_check (following_check c.args.most made) (out-Child child) (one_found c.in_ok-found.found) =
     subst (λ (before : List Identifier). part_check (following_check c.args.most before) (out-Child child) (one_found c.in_ok-found.found))
     c.deref.ensures.value c.in_ok-found.ensures in
