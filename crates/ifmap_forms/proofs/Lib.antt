@@ -1,0 +1,5 @@
+pub mod PartLaws
+pub mod NumberLaws
+pub mod KindLaws
+pub mod ScopeLaws
+pub mod ItemLaws
