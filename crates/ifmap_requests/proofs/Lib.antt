@@ -4,3 +4,4 @@ pub mod FormLaws
 pub mod NameLaws
 pub mod ReadingLaws
 pub mod PlaceLaws
+pub mod OneMeanings

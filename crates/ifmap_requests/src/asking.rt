@@ -151,7 +151,11 @@ fn read_session(alloc: Global, element: &Element) -> Result<Text, FormError>
     Ok(session)
 }
 
-fn read_publish(alloc: Global, place: &Place<'_>, element: Element) -> Result<Request, FormError> {
+fn read_publish(alloc: Global, place: &Place<'_>, element: Element) -> Result<Request, FormError>
+    requires { place.now.child ≡ None }
+    ensures { IsChecked (form_check publish_form publish_of (scopes_by place.now.declared.now
+        place.now.path.now) element) result }
+{
     let session = read_text(alloc, &element, "session-id")?;
     if !has_only(&element, &["validation", "session-id"]) {
         return Err(FormError::Named(Code::Failure));

@@ -1,6 +1,8 @@
 //! Laws on messages: functions that do nothing, whose contracts are the laws.
-ghost use Rattle.ifmap_requests.specs.Laws.{OneRequest};
+ghost use Rattle.ifmap_requests.specs.Laws.{OneMeaning, OneRequest};
 
+use ifmap_elem::laws::bytes_spell_one_element;
+use ifmap_envelopes::laws::envelopes_hold_one_element;
 use ifmap_filter::laws::text_is_one_filter;
 use ifmap_ident::laws::elements_have_one_answer;
 
@@ -10,4 +12,13 @@ pub fn elements_have_one_request_or_code()
 {
     text_is_one_filter();
     elements_have_one_answer();
+}
+
+/// A body means one thing at most.
+pub fn bodies_have_one_meaning()
+    ensures { OneMeaning }
+{
+    bytes_spell_one_element();
+    envelopes_hold_one_element();
+    elements_have_one_request_or_code();
 }

@@ -46,6 +46,18 @@ fn read_copy(
     ensures { IsChecked (request_check (scopes_by declared.now path.now) element.now) result }
 {
     let element = element.copy(alloc)?;
+    read_at(alloc, declared, path, element)
+}
+
+// The request that the element with this path means.
+fn read_at(
+    alloc: Global,
+    declared: &[Declared],
+    path: &[u32],
+    element: Element,
+) -> Result<Request, FormError>
+    ensures { IsChecked (request_check (scopes_by declared.now path.now) element) result }
+{
     let place = Place {
         declared,
         path,
@@ -103,11 +115,7 @@ fn read_inner(alloc: Global, declared: &[Declared], inner: Inner) -> Result<Requ
     ensures { IsChecked (request_check (scopes_by declared.now (inner.body ∷ (inner.index ∷ [])))
         inner.element) result }
 {
-    let path = [narrow(inner.body)?, narrow(inner.index)?];
-    let place = Place {
-        declared,
-        path: &path,
-        child: None,
-    };
-    read_element(alloc, &place, inner.element)
+    let body = narrow(inner.body)?;
+    let index = narrow(inner.index)?;
+    read_at(alloc, declared, &[body, index], inner.element)
 }
