@@ -4,4 +4,5 @@ pub mod FormLaws
 pub mod NameLaws
 pub mod ReadingLaws
 pub mod PlaceLaws
-pub mod OneMeanings
+pub mod MeaningLaws
+pub mod FitLaws

@@ -1,8 +1,6 @@
 //! Requests, read from elements and bodies.
-ghost use Rattle.std.specs.Prelude.{◌≡◌, ◌∷◌, [], IfOk, IfSome, Some};
-ghost use Rattle.std.specs.List.{slice_get};
+ghost use Rattle.std.specs.Prelude.{◌≡◌, ◌∷◌, [], IfSome, Some, slice_get};
 ghost use Rattle.ifmap_elem.specs.InScope.{NamesElementAt};
-ghost use Rattle.ifmap_elem.specs.declared.elements.Child as the;
 ghost use Rattle.ifmap_elem.specs.declared.elements.Element.{Element};
 ghost use Rattle.ifmap_forms.specs.Answers.{IsChecked};
 ghost use Rattle.ifmap_forms.specs.Scopes.{scopes_by};
@@ -78,7 +76,7 @@ fn element_at<'a>(root: &'a Element, path: &[u32]) -> Option<&'a Element>
 
 fn child_at(element: &Element, index: usize) -> Option<&Element>
     ensures { IfSome result (λ child.
-        slice_get element.now.children index ≡ Some (the.Element child.now)) }
+        slice_get element.now.children index ≡ Some (Child.Element child.now)) }
 {
     let children = &element.children;
     match children.0.get(index) {

@@ -1,4 +1,4 @@
-use Rattle.std.proofs.Common.{◌≡◌, ◌∙◌, Bool, List, ap, false, sym, true}
+use Rattle.std.proofs.Common.{[], ◌≡◌, ◌∙◌, Bool, List, ap, false, sym, true}
 use Rattle.std.specs.List.{list_all}
 use Rattle.ifmap_elem.specs.declared.elements.Child.{Child}
 use Rattle.ifmap_ident.specs.declared.codes.Code.TheVariants.{Failure}

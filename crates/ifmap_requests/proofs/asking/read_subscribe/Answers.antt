@@ -1,4 +1,4 @@
-use Rattle.std.proofs.Common.{◌≡◌, ◌∙◌, Bool, List, Ok, ap, codes, false, refl, subst, sym, true}
+use Rattle.std.proofs.Common.{[], ◌≡◌, ◌∙◌, Bool, List, Ok, ap, codes, false, refl, subst, sym, true}
 use Rattle.std.specs.List.{list_all}
 use Rattle.ifmap_elem.specs.declared.elements.Child.{Child}
 use Rattle.ifmap_filter.specs.declared.filters.Filter.{Filter}

@@ -21,8 +21,8 @@ loop-child-init c =
     let scopes = scopes_by c.args.place.now.declared.now c.args.place.now.path.now in
     let whole = each_element (one scopes) 0 (parts_in c.args.children.items) in (
       subst (λ (cs : List Child). GoesOn whole (each_element (one scopes) 0 (parts_in cs)) c.new-ops.result.items)
-          (sym c.into_iter.ensures.rest) (begins whole c.new-ops.result.items c.new-ops.ensures.items),
-      omega (arith, ap length c.into_iter.ensures.rest),
+          (sym c.into_iter-child-iterator.ensures.into_iter_gives.0) (begins whole c.new-ops.result.items c.new-ops.ensures.items),
+      omega (arith, ap length c.into_iter-child-iterator.ensures.into_iter_gives.0),
     )
 
 pub returns-in_err-found : goal.returns-in_err-found
@@ -52,3 +52,8 @@ returns c =
     c.loop-child.invariant.0
     (no_child (into_iter_items c.loop-child.child-iterator)
     (omega (arith, c.loop-child.child-iterator.rest.ok.0, c.in-None.ensures.steps.0)))
+
+pub overflow_add-index : goal.overflow_add-index
+overflow_add-index c =
+    let gives = c.into_iter-child-iterator.ensures.into_iter_gives in
+    omega (arith, c.loop-child.invariant.1, ap length c.in-Some.ensures.steps.0, gives.1, gives.2, c.args.children.ok.0)
