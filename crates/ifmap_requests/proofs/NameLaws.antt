@@ -1,6 +1,7 @@
 -- Which form an element has, by its name.
 -- 1. The operations of a publish.
--- 2. Requests.
+-- 2. The operations of a subscribe.
+-- 3. Requests.
 use Rattle.std.proofs.Common.{◌≡◌, ◌∙◌, Bool, true, false, cond, List, ℕ, Option, None, Some, Result, Err, codes, inl, inr, refl, ap, sym, subst}
 use Rattle.std.specs.Prelude.{◌&&◌}
 use Rattle.std.specs.Str.{bytes_eq}
@@ -24,7 +25,8 @@ use Rattle.ifmap_requests.specs.declared.operations.Operation.{Operation}
 use Rattle.ifmap_requests.specs.declared.operations.Operation.TheVariants as operation
 use Rattle.ifmap_requests.specs.declared.publishing.PublishOp.{PublishOp}
 use Rattle.ifmap_requests.specs.declared.requests.Request.{Request}
-use Rattle.ifmap_requests.specs.RequestForms.{ifmap_space, asking_name, delete_form, delete_of, end_session_form, end_session_of, named_request_check, new_session_form, new_session_of, notify_form, notify_of, operation_of, other_request_check, poll_form, poll_of, publish_form, publish_of, publish_op_check, purge_form, purge_of, renew_form, renewal_of, request_check, search_form, search_of, subscribe_form, subscribe_of, update_form, update_of}
+use Rattle.ifmap_requests.specs.declared.requests.SubscribeOp.{SubscribeOp}
+use Rattle.ifmap_requests.specs.RequestForms.{ifmap_space, asking_name, delete_form, delete_of, end_form, end_of, end_session_form, end_session_of, named_request_check, new_session_form, new_session_of, notify_form, notify_of, operation_of, other_request_check, poll_form, poll_of, publish_form, publish_of, publish_op_check, purge_form, purge_of, renew_form, renewal_of, request_check, search_form, search_of, subscribe_form, subscribe_of, subscribe_op_check, subscription_form, subscription_of, update_form, update_of}
 use Rattle.ifmap_requests.proofs.FormLaws.{by_form, past_form}
 
 -- ---- 1. operations
@@ -99,7 +101,23 @@ module _ (scopes : Scopes) (e : Element) where
       past_form update_form update_of scopes e from_notify n.0 r
       (past_form notify_form notify_of scopes e from_delete n.1 r (past_form delete_form delete_of scopes e (fail Failure) n.2 r refl))
 
--- ---- 2. requests
+-- ---- 2. operations of a subscribe
+
+module _ (scopes : Scopes) (e : Element) where
+  abbrev from_subscription_end : Check SubscribeOp
+  from_subscription_end = form_or end_form end_of scopes e (fail Failure)
+
+  pub at_subscription : is_bare (codes "update") e.name ≡ true → (r : Result SubscribeOp FormError)
+      → IsChecked (form_check subscription_form subscription_of scopes e) r → IsChecked (subscribe_op_check scopes e) r
+  at_subscription is r f = by_form subscription_form subscription_of scopes e from_subscription_end is r f
+
+  pub at_end : is_bare (codes "update") e.name ≡ false → is_bare (codes "delete") e.name ≡ true → (r : Result SubscribeOp FormError)
+      → IsChecked (form_check end_form end_of scopes e) r → IsChecked (subscribe_op_check scopes e) r
+  at_end past is r f =
+      past_form subscription_form subscription_of scopes e from_subscription_end past r
+      (by_form end_form end_of scopes e (fail Failure) is r f)
+
+-- ---- 3. requests
 
 module _ (scopes : Scopes) (e : Element) (space : bytes_eq e.name.space ifmap_space ≡ true) where
   -- the name of the element beside that of a form, where its local name is this
@@ -131,23 +149,23 @@ module _ (scopes : Scopes) (e : Element) (space : bytes_eq e.name.space ifmap_sp
 
     past_new_session : beside asking.NewSession ≡ false → (r : Result Request FormError) → IsChecked from_renewal r
         → IsChecked (other_request_check scopes e) r
-    past_new_session no = past_form new_session_form new_session_of scopes e from_renewal (tested (asking_name a) same (asking_name asking.NewSession) ∙ no)
+    past_new_session apart = past_form new_session_form new_session_of scopes e from_renewal (tested (asking_name a) same (asking_name asking.NewSession) ∙ apart)
 
     past_renewal : beside asking.RenewSession ≡ false → (r : Result Request FormError) → IsChecked from_end r → IsChecked from_renewal r
-    past_renewal no = past_form renew_form renewal_of scopes e from_end (tested (asking_name a) same (asking_name asking.RenewSession) ∙ no)
+    past_renewal apart = past_form renew_form renewal_of scopes e from_end (tested (asking_name a) same (asking_name asking.RenewSession) ∙ apart)
 
     past_end : beside asking.EndSession ≡ false → (r : Result Request FormError) → IsChecked from_poll r → IsChecked from_end r
-    past_end no = past_form end_session_form end_session_of scopes e from_poll (tested (asking_name a) same (asking_name asking.EndSession) ∙ no)
+    past_end apart = past_form end_session_form end_session_of scopes e from_poll (tested (asking_name a) same (asking_name asking.EndSession) ∙ apart)
 
     past_poll : beside asking.Poll ≡ false → (r : Result Request FormError) → IsChecked from_search r → IsChecked from_poll r
-    past_poll no = past_form poll_form poll_of scopes e from_search (tested (asking_name a) same (asking_name asking.Poll) ∙ no)
+    past_poll apart = past_form poll_form poll_of scopes e from_search (tested (asking_name a) same (asking_name asking.Poll) ∙ apart)
 
     past_search : beside asking.Search ≡ false → (r : Result Request FormError) → IsChecked from_subscribe r → IsChecked from_search r
-    past_search no = past_form search_form search_of scopes e from_subscribe (tested (asking_name a) same (asking_name asking.Search) ∙ no)
+    past_search apart = past_form search_form search_of scopes e from_subscribe (tested (asking_name a) same (asking_name asking.Search) ∙ apart)
 
     past_subscribe : beside asking.Subscribe ≡ false → (r : Result Request FormError) → IsChecked from_purge r → IsChecked from_subscribe r
-    past_subscribe no =
-        past_form subscribe_form subscribe_of scopes e from_purge (tested (asking_name a) same (asking_name asking.Subscribe) ∙ no)
+    past_subscribe apart =
+        past_form subscribe_form subscribe_of scopes e from_purge (tested (asking_name a) same (asking_name asking.Subscribe) ∙ apart)
 
   pub at_new_session : e.name.local ≡ asking_name asking.NewSession → (r : Result Request FormError)
       → IsChecked (form_check new_session_form new_session_of scopes e) r → IsChecked (other_request_check scopes e) r

@@ -1,9 +1,9 @@
 -- What updates and notifies publish.
 -- 1. Identifiers, then the list, then what is made of both.
 -- 2. The list, cut out of the children.
-use Rattle.std.proofs.Common.{◌≡◌, ◌⊎◌, ◌∙◌, ℕ, ◌+◌, ◌<◌, ◌≤◌, suc, List, [], ◌∷◌, ◌++◌, Option, None, Some, Result, Ok, Err, length, get_or, take, drop, map, min, inl, inr, refl, ap, arith, subst, sym}
+use Rattle.std.proofs.Common.{◌≡◌, ◌⊎◌, ◌∙◌, ℕ, ◌+◌, ◌-◌, ◌<◌, ◌≤◌, suc, List, [], ◌∷◌, ◌++◌, Option, None, Some, Result, Ok, Err, length, get_or, take, drop, map, min, inl, inr, refl, ap, arith, subst, sym}
 use Rattle.std.specs.List.{remove}
-use Rattle.std.proofs.lemmas.List.{drop-map, drop_all, drop_more, length-take-le, take-map}
+use Rattle.std.proofs.lemmas.List.{drop-map, drop_all, drop_more, length-drop, length-take-le, take-map, take_all}
 use Rattle.std.proofs.Math.Seq.{drop-append_seam}
 use Rattle.ifmap_elem.specs.declared.elements.Child.{Child, out-Child}
 use Rattle.ifmap_ident.specs.declared.codes.Code.{Code}
@@ -87,6 +87,12 @@ list_parts cs left index child low is removed =
     let here : drop index cs ≡ child ∷ drop (suc index) cs =
     drop_more cs index child low ∙ (λ i. sym is i ∷ drop (sym one i) cs) in
     (λ i. out-Child child ∷ parts_in (others i)) ∙ (sym (ap parts_in here) ∙ sym (drop-map out-Child index cs))
+
+-- what follows an index, cut at the end
+pub tail_whole : (cs : List Child) (index : ℕ) → take (length cs - index) (drop index cs) ≡ drop index cs
+tail_whole cs index =
+    let e = length-drop index cs in
+    take_all (length cs - index) (drop index cs) (omega (arith, e))
 
 pub no_child : (xs : List Child) → length xs ≡ 0 → xs ≡ []
 no_child [] e = refl

@@ -24,13 +24,11 @@ use Rattle.ifmap_requests.specs.RequestForms.{request_check}
 
 -- ---- paths
 
-module _ (path : List ℕ) (i index : ℕ) (below : i < length path) (is : index ≡ get_or path i index) (e child : Element)
-    (there : slice_get e.children index ≡ Some (the.Element child)) where
+module _ (path : List ℕ) (i : ℕ) (below : i < length path) (e child : Element)
+    (there : slice_get e.children (get_or path i 0) ≡ Some (the.Element child)) where
   pub one_further : (inner : Element) → NamesElementAt child (drop (i + 1) path) inner → NamesElementAt e (drop i path) inner
   one_further inner names =
-      let left : drop i path ≡ index ∷ drop (i + 1) path =
-      drop_more path i index below ∙ ap (λ (n : ℕ). n ∷ drop (i + 1) path) (sym is) in
-      subst (λ (p : List ℕ). NamesElementAt e p inner) (sym left) (child, there, names)
+      subst (λ (p : List ℕ). NamesElementAt e p inner) (sym (drop_more path i 0 below)) (child, there, names)
 
 pub path_ends : (path : List ℕ) (i : ℕ) (e : Element) → length path ≤ i → NamesElementAt e (drop i path) e
 path_ends path i e high = subst (λ (p : List ℕ). NamesElementAt e p e) (sym (drop_all i path high)) refl

@@ -22,9 +22,9 @@ returns-in_err-found c =
     let children = c.args.children.now in
     let whole = each_element (one scopes) 0 (parts_in children) in
     let i = c.loop-index.index in
-    let child = c.index-item.result in
+    let child = c.index-children-index.result in
     let left : drop i children ≡ child ∷ drop (i + 1) children =
-    drop_more children i child c.loop-index-test.true ∙ ap (λ (x : Child). x ∷ drop (i + 1) children) (sym c.index-item.is) in
+    drop_more children i child c.loop-index-test.true ∙ ap (λ (x : Child). x ∷ drop (i + 1) children) (sym c.index-children-index.is) in
     refused_exit whole c.from_residual.result c.in_err-found.field-0.0 c.from_residual.ensures.1
     (elements_stop whole (one scopes) i (drop i children) c.loop-index.ops.items c.loop-index.invariant child (drop (i + 1) children) left
     c.in_err-found.field-0.0 c.in_err-found.ensures)
@@ -35,9 +35,9 @@ loop-index-preserved c =
     let children = c.args.children.now in
     let whole = each_element (one scopes) 0 (parts_in children) in
     let i = c.loop-index.index in
-    let child = c.index-item.result in
+    let child = c.index-children-index.result in
     let left : drop i children ≡ child ∷ drop (i + 1) children =
-    drop_more children i child c.loop-index-test.true ∙ ap (λ (x : Child). x ∷ drop (i + 1) children) (sym c.index-item.is) in
+    drop_more children i child c.loop-index-test.true ∙ ap (λ (x : Child). x ∷ drop (i + 1) children) (sym c.index-children-index.is) in
     elements_further whole (one scopes) i (drop i children) c.loop-index.ops.items c.loop-index.invariant child (drop (i + 1) children) left
     c.in_ok-found.found c.keep_found.new.members.items c.in_ok-found.ensures c.in_ok-keep_found.ensures
 
