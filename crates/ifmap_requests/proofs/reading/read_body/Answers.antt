@@ -1,10 +1,13 @@
-use Rattle.std.proofs.Common.{◌∷◌, [], List, Ok, subst}
+use Rattle.std.proofs.Common.{◌∷◌, [], List, Ok, refl, subst}
 use Rattle.ifmap_elem.specs.declared.readings.Declared.{Declared}
 use Rattle.ifmap_forms.specs.Answers.{IsRefused}
 use Rattle.ifmap_forms.specs.Scopes.{scopes_by}
 use Rattle.ifmap_requests.specs.RequestForms.{request_check}
 use Rattle.ifmap_requests.proofs.ReadingLaws.{refused_reading, request_read, request_refused}
 use Rattle.ifmap_requests.proofs.reading.read_body.Goals as goal
+
+pub returns-in_default : goal.returns-in_default
+returns-in_default c = c.in_default.ensures.none refl
 
 pub returns-in_err-read_inner : goal.returns-in_err-read_inner
 returns-in_err-read_inner c =
