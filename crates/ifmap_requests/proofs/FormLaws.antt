@@ -2,15 +2,13 @@
 -- 1. A form by the name of its element.
 -- 2. Searches with a text before their attributes.
 -- 3. The attributes of a search.
-use Rattle.std.proofs.Common.{◌≡◌, ◌⊎◌, ◌∙◌, ℕ, ◌++◌, Bool, true, false, List, [], ◌∷◌, Option, None, Some, Result, Ok, Err, codes, inl, inr, refl, ap, subst, sym}
-use Rattle.std.specs.Prelude.{◌&&◌}
+use Rattle.std.proofs.Common.{◌≡◌, ℕ, ◌++◌, Bool, true, false, List, [], ◌∷◌, Option, Result, Ok, Err, codes, inl, inr, refl, ap, subst, sym}
 use Rattle.std.specs.List.{list_all}
-use Rattle.std.specs.Str.{bytes_eq}
 use Rattle.ifmap_elem.specs.declared.elements.Element.{Element}
 use Rattle.ifmap_elem.specs.declared.elements.Name.{Name}
 use Rattle.ifmap_filter.specs.declared.filters.Filter.{Filter}
 use Rattle.ifmap_filter.specs.Holding.{is_name}
-use Rattle.ifmap_ident.specs.Parts.{has_only, value_of}
+use Rattle.ifmap_ident.specs.Parts.{has_only}
 use Rattle.ifmap_ident.specs.declared.codes.Code.{Code}
 use Rattle.ifmap_ident.specs.declared.codes.Code.TheVariants.{Failure}
 use Rattle.ifmap_ident.specs.declared.identifiers.Identifier.{Identifier}
@@ -20,11 +18,11 @@ use Rattle.ifmap_search.specs.declared.searches.Search.{Search}
 use Rattle.ifmap_forms.specs.declared.errors.FormError.{FormError}
 use Rattle.ifmap_forms.specs.declared.errors.FormError.TheVariants.{Named, NoMemory}
 use Rattle.ifmap_forms.specs.AnswerLaws.{found_after, found_alone, found_beside, refused_alone, refused_at_field, refused_beside, refused_test}
-use Rattle.ifmap_forms.specs.Answers.{IsChecked, IsCheckedAs, IsRefused}
+use Rattle.ifmap_forms.specs.Answers.{IsChecked, IsRefused}
 use Rattle.ifmap_forms.specs.Checks.{Check, check_if, check_then, need, pass}
 use Rattle.ifmap_forms.specs.Items.{start_check, start_content}
 use Rattle.ifmap_forms.specs.Scopes.{Scopes}
-use Rattle.ifmap_forms.specs.Tables.{Both, Content, Form, Table, beside, both, form_check, form_or, is_white_part, no_attributes, no_children, parts_of, read_form}
+use Rattle.ifmap_forms.specs.Tables.{Both, Form, Table, beside, both, form_check, form_or, is_white_part, no_attributes, no_children, parts_of, read_form}
 use Rattle.ifmap_forms.specs.Values.{Field, depth_field, field_check, filter_field, kinds_field, size_field}
 use Rattle.ifmap_requests.specs.declared.searching.Bounds.{Bounds}
 use Rattle.ifmap_requests.specs.RequestForms.{SearchValues, search_attributes, search_check, search_from, values_of}
@@ -110,7 +108,12 @@ module _ {X : Type 0} (field : Field (List ℕ)) (name : Name) (passed : List (L
               let same : no_search code ≡ no_search Failure = h in
               let one : code ≡ Failure = cc in
               subst (λ (c : Code). IsRefused (form_check searching make_from scopes e) (Named c)) (sym one)
-              (inl (inr (both text values, (text, f, (values, v, refl)), refused_test (inside values) (has_only locals e) Failure (sym is))))
+              (inl (inr (
+                both text values,
+                (text, f, (values, v, refl)),
+                refused_test (inside values) (has_only locals e) Failure
+                    (sym is),
+              )))
 
 -- ---- 3. the attributes
 

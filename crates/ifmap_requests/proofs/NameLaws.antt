@@ -2,13 +2,12 @@
 -- 1. The operations of a publish.
 -- 2. The operations of a subscribe.
 -- 3. Requests.
-use Rattle.std.proofs.Common.{◌≡◌, ◌∙◌, Bool, true, false, cond, List, ℕ, Option, None, Some, Result, Err, codes, inl, inr, refl, ap, sym, subst}
+use Rattle.std.proofs.Common.{◌≡◌, ◌∙◌, Bool, true, false, cond, List, ℕ, Option, None, Some, Result, Err, codes, inl, inr, refl, sym, subst}
 use Rattle.std.specs.Prelude.{◌&&◌}
 use Rattle.std.specs.Str.{bytes_eq}
 use Rattle.std.proofs.lemmas.Bool.{cases_Bool}
 use Rattle.ifmap_elem.specs.Building.{is_bare}
 use Rattle.ifmap_elem.specs.declared.elements.Element.{Element}
-use Rattle.ifmap_elem.specs.declared.elements.Name.{Name}
 use Rattle.ifmap_filter.specs.Holding.{is_name}
 use Rattle.ifmap_ident.specs.declared.codes.Code.TheVariants.{Failure, InvalidSchemaVersion}
 use Rattle.ifmap_lemmas.specs.Texts.{eq_tells}
@@ -149,19 +148,23 @@ module _ (scopes : Scopes) (e : Element) (space : bytes_eq e.name.space ifmap_sp
 
     past_new_session : beside asking.NewSession ≡ false → (r : Result Request FormError) → IsChecked from_renewal r
         → IsChecked (other_request_check scopes e) r
-    past_new_session apart = past_form new_session_form new_session_of scopes e from_renewal (tested (asking_name a) same (asking_name asking.NewSession) ∙ apart)
+    past_new_session apart = past_form new_session_form new_session_of scopes e from_renewal
+        (tested (asking_name a) same (asking_name asking.NewSession) ∙ apart)
 
     past_renewal : beside asking.RenewSession ≡ false → (r : Result Request FormError) → IsChecked from_end r → IsChecked from_renewal r
-    past_renewal apart = past_form renew_form renewal_of scopes e from_end (tested (asking_name a) same (asking_name asking.RenewSession) ∙ apart)
+    past_renewal apart = past_form renew_form renewal_of scopes e from_end
+        (tested (asking_name a) same (asking_name asking.RenewSession) ∙ apart)
 
     past_end : beside asking.EndSession ≡ false → (r : Result Request FormError) → IsChecked from_poll r → IsChecked from_end r
-    past_end apart = past_form end_session_form end_session_of scopes e from_poll (tested (asking_name a) same (asking_name asking.EndSession) ∙ apart)
+    past_end apart = past_form end_session_form end_session_of scopes e from_poll
+        (tested (asking_name a) same (asking_name asking.EndSession) ∙ apart)
 
     past_poll : beside asking.Poll ≡ false → (r : Result Request FormError) → IsChecked from_search r → IsChecked from_poll r
     past_poll apart = past_form poll_form poll_of scopes e from_search (tested (asking_name a) same (asking_name asking.Poll) ∙ apart)
 
     past_search : beside asking.Search ≡ false → (r : Result Request FormError) → IsChecked from_subscribe r → IsChecked from_search r
-    past_search apart = past_form search_form search_of scopes e from_subscribe (tested (asking_name a) same (asking_name asking.Search) ∙ apart)
+    past_search apart = past_form search_form search_of scopes e from_subscribe
+        (tested (asking_name a) same (asking_name asking.Search) ∙ apart)
 
     past_subscribe : beside asking.Subscribe ≡ false → (r : Result Request FormError) → IsChecked from_purge r → IsChecked from_subscribe r
     past_subscribe apart =
@@ -170,19 +173,22 @@ module _ (scopes : Scopes) (e : Element) (space : bytes_eq e.name.space ifmap_sp
   pub at_new_session : e.name.local ≡ asking_name asking.NewSession → (r : Result Request FormError)
       → IsChecked (form_check new_session_form new_session_of scopes e) r → IsChecked (other_request_check scopes e) r
   at_new_session same r f =
-      by_form new_session_form new_session_of scopes e from_renewal (tested (asking_name asking.NewSession) same (asking_name asking.NewSession)) r f
+      by_form new_session_form new_session_of scopes e from_renewal
+      (tested (asking_name asking.NewSession) same (asking_name asking.NewSession)) r f
 
   pub at_renewal : e.name.local ≡ asking_name asking.RenewSession → (r : Result Request FormError)
       → IsChecked (form_check renew_form renewal_of scopes e) r → IsChecked (other_request_check scopes e) r
   at_renewal same r f =
       past_new_session asking.RenewSession same refl r
-      (by_form renew_form renewal_of scopes e from_end (tested (asking_name asking.RenewSession) same (asking_name asking.RenewSession)) r f)
+      (by_form renew_form renewal_of scopes e from_end
+      (tested (asking_name asking.RenewSession) same (asking_name asking.RenewSession)) r f)
 
   pub at_end_session : e.name.local ≡ asking_name asking.EndSession → (r : Result Request FormError)
       → IsChecked (form_check end_session_form end_session_of scopes e) r → IsChecked (other_request_check scopes e) r
   at_end_session same r f =
       past_new_session asking.EndSession same refl r (past_renewal asking.EndSession same refl r
-      (by_form end_session_form end_session_of scopes e from_poll (tested (asking_name asking.EndSession) same (asking_name asking.EndSession)) r f))
+      (by_form end_session_form end_session_of scopes e from_poll
+      (tested (asking_name asking.EndSession) same (asking_name asking.EndSession)) r f))
 
   pub at_poll : e.name.local ≡ asking_name asking.Poll → (r : Result Request FormError)
       → IsChecked (form_check poll_form poll_of scopes e) r → IsChecked (other_request_check scopes e) r
@@ -202,7 +208,8 @@ module _ (scopes : Scopes) (e : Element) (space : bytes_eq e.name.space ifmap_sp
   at_subscribe same r f =
       past_new_session asking.Subscribe same refl r (past_renewal asking.Subscribe same refl r (past_end asking.Subscribe same refl r
       (past_poll asking.Subscribe same refl r (past_search asking.Subscribe same refl r
-      (by_form subscribe_form subscribe_of scopes e from_purge (tested (asking_name asking.Subscribe) same (asking_name asking.Subscribe)) r f)))))
+      (by_form subscribe_form subscribe_of scopes e from_purge
+      (tested (asking_name asking.Subscribe) same (asking_name asking.Subscribe)) r f)))))
 
   pub at_purge : e.name.local ≡ asking_name asking.PurgePublisher → (r : Result Request FormError)
       → IsChecked (form_check purge_form purge_of scopes e) r → IsChecked (other_request_check scopes e) r
@@ -210,7 +217,8 @@ module _ (scopes : Scopes) (e : Element) (space : bytes_eq e.name.space ifmap_sp
       past_new_session asking.PurgePublisher same refl r (past_renewal asking.PurgePublisher same refl r
       (past_end asking.PurgePublisher same refl r (past_poll asking.PurgePublisher same refl r
       (past_search asking.PurgePublisher same refl r (past_subscribe asking.PurgePublisher same refl r
-      (by_form purge_form purge_of scopes e (fail Failure) (tested (asking_name asking.PurgePublisher) same (asking_name asking.PurgePublisher)) r f))))))
+      (by_form purge_form purge_of scopes e (fail Failure)
+      (tested (asking_name asking.PurgePublisher) same (asking_name asking.PurgePublisher)) r f))))))
 
   -- a name that is no name of a request
   module _ (none : (a : Asking) → e.name.local ≡ asking_name a → ⊥) where

@@ -8,7 +8,8 @@ use Rattle.ifmap_forms.specs.Checks.{Check}
 use Rattle.ifmap_forms.specs.Scopes.{place_scope, place_scopes, scopes_below, scopes_by}
 
 -- the scope at a place is the first of those from there on
-pub here : (declared : List Declared) (path : List ℕ) (child : Option ℕ) → place_scope declared path child ≡ place_scopes declared path child []
+pub here : (declared : List Declared) (path : List ℕ) (child : Option ℕ) → place_scope declared path child
+    ≡ place_scopes declared path child []
 here declared path None = refl
 here declared path (Some index) = refl
 

@@ -1,12 +1,11 @@
 -- What updates and notifies publish.
 -- 1. Identifiers, then the list, then what is made of both.
 -- 2. The list, cut out of the children.
-use Rattle.std.proofs.Common.{◌≡◌, ◌⊎◌, ◌∙◌, ℕ, ◌+◌, ◌-◌, ◌<◌, ◌≤◌, suc, List, [], ◌∷◌, ◌++◌, Option, None, Some, Result, Ok, Err, length, get_or, take, drop, map, min, inl, inr, refl, ap, arith, subst, sym}
+use Rattle.std.proofs.Common.{◌≡◌, ◌∙◌, ℕ, ◌+◌, ◌-◌, ◌<◌, ◌≤◌, suc, List, [], ◌∷◌, Option, None, Some, Result, Ok, Err, length, get_or, take, drop, inl, inr, refl, ap, arith, subst, sym}
 use Rattle.std.specs.List.{remove}
 use Rattle.std.proofs.lemmas.List.{drop-map, drop_all, drop_more, length-drop, length-take-le, take-map, take_all}
 use Rattle.std.proofs.Math.Seq.{drop-append_seam}
 use Rattle.ifmap_elem.specs.declared.elements.Child.{Child, out-Child}
-use Rattle.ifmap_ident.specs.declared.codes.Code.{Code}
 use Rattle.ifmap_ident.specs.declared.codes.Code.TheVariants.{Failure}
 use Rattle.ifmap_ident.specs.declared.identifiers.Identifier.{Identifier}
 use Rattle.ifmap_ident.specs.declared.items.Item.{Item}

@@ -1,5 +1,5 @@
 -- From an element that is read to the answer to a body.
-use Rattle.std.proofs.Common.{◌≡◌, ◌∙◌, ℕ, ◌+◌, ◌<◌, ◌≤◌, List, [], ◌∷◌, Option, Some, Result, Ok, Err, length, get_or, drop, refl, ap, arith, subst, sym}
+use Rattle.std.proofs.Common.{◌≡◌, ℕ, ◌+◌, ◌<◌, ◌≤◌, List, Some, Result, Ok, Err, length, get_or, drop, refl, arith, subst, sym}
 use Rattle.std.specs.List.{slice_get}
 use Rattle.std.specs.Result.{IsErrAnd}
 use Rattle.std.proofs.lemmas.List.{drop_all, drop_more}
@@ -9,7 +9,6 @@ use Rattle.ifmap_elem.specs.Spells.{Spells}
 use Rattle.ifmap_elem.specs.declared.elements.Child as the
 use Rattle.ifmap_elem.specs.declared.elements.Element.{Element}
 use Rattle.ifmap_elem.specs.declared.readings.Reading.{Reading}
-use Rattle.ifmap_ident.specs.declared.codes.Code.{Code}
 use Rattle.ifmap_reader.specs.Reads.{IsTooDeep, IsUnreadable}
 use Rattle.ifmap_forms.specs.declared.errors.FormError.{FormError}
 use Rattle.ifmap_forms.specs.declared.errors.FormError.TheVariants as form
@@ -18,7 +17,7 @@ use Rattle.ifmap_requests.specs.declared.errors.Refusal.{Refusal}
 use Rattle.ifmap_requests.specs.declared.errors.Refusal.TheVariants as refusal
 use Rattle.ifmap_requests.specs.declared.requests.Request.{Request}
 use Rattle.ifmap_requests.specs.Answers.{as_refusal}
-use Rattle.ifmap_envelopes.specs.Envelopes.{IsEnvelope, SpellsEnvelope, SpellsNone}
+use Rattle.ifmap_envelopes.specs.Envelopes.{IsEnvelope, SpellsNone}
 use Rattle.ifmap_requests.specs.Means.{IsBodyAnswer, IsFormAnswer, IsReadingAnswer, ReadingFinds, request_levels, scopes_from}
 use Rattle.ifmap_requests.specs.RequestForms.{request_check}
 

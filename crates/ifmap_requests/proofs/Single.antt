@@ -55,7 +55,8 @@ filter_refused code = Err code
 same_found : (i j : Identifier) → i ≡ j → ok_of i ≡ ok_of j
 same_found i j e = ap ok_of e
 
-module _ (one_answer : (e : Element) (one other : Result Identifier IdentError) → IsAnswer e one → IsAnswer e other → AreOneAnswer one other) where
+module _ (one_answer : (e : Element) (one other : Result Identifier IdentError) → IsAnswer e one → IsAnswer e other
+    → AreOneAnswer one other) where
   abbrev answer : Identifier → Result Identifier IdentError
   answer i = Ok i
 
@@ -169,7 +170,8 @@ read_name_single scope (Some text) =
 read_limit_single : (scope : Scope) (text : Option (List ℕ)) → IsSingle (read_limit text)
 read_limit_single scope None = pass_single None
 read_limit_single scope (Some text) =
-    some_single Failure (number_of text) (λ n. pass (Some (within 10_000 5_000_000 n))) (λ n. pass_single (Some (within 10_000 5_000_000 n)))
+    some_single Failure (number_of text) (λ n. pass (Some (within 10_000 5_000_000 n)))
+    (λ n. pass_single (Some (within 10_000 5_000_000 n)))
 
 read_depth_single : (scope : Scope) (text : Option (List ℕ)) → IsSingle (read_depth text)
 read_depth_single scope None = pass_single 0

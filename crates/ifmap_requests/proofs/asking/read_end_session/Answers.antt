@@ -12,4 +12,5 @@ returns-in_err-session c = λ scopes.
 
 pub returns : goal.returns
 returns c = λ scopes.
-    made_of_form end_session_form end_session_of scopes c.args.element.now (both c.in_ok-session.session tt) tt (c.in_ok-session.ensures scopes)
+    made_of_form end_session_form end_session_of scopes c.args.element.now (both c.in_ok-session.session tt) tt
+    (c.in_ok-session.ensures scopes)

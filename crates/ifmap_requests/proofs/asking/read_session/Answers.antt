@@ -1,12 +1,12 @@
-use Rattle.std.proofs.Common.{[], ◌≡◌, ◌∙◌, Bool, List, ap, false, sym, true}
+use Rattle.std.proofs.Common.{[], ◌∙◌, List, ap, sym}
 use Rattle.std.specs.List.{list_all}
 use Rattle.ifmap_elem.specs.declared.elements.Child.{Child}
 use Rattle.ifmap_ident.specs.declared.codes.Code.TheVariants.{Failure}
 use Rattle.ifmap_forms.specs.declared.errors.FormError.TheVariants.{Named}
-use Rattle.ifmap_forms.specs.AnswerLaws.{found_alone, refused_alone, refused_exit, refused_exit_as}
-use Rattle.ifmap_forms.specs.Tables.{both, form_check, is_white_part, parts_in, parts_of, read_form}
+use Rattle.ifmap_forms.specs.AnswerLaws.{found_alone, refused_alone, refused_exit_as}
+use Rattle.ifmap_forms.specs.Tables.{both, is_white_part, parts_in, read_form}
 use Rattle.ifmap_requests.specs.RequestForms.{renew_form, session_alone, session_field}
-use Rattle.ifmap_requests.proofs.FormLaws.{blank_children, made_of_form, other_children, read_no_attributes, read_no_content, read_others, read_whole, refused_form}
+use Rattle.ifmap_requests.proofs.FormLaws.{blank_children, other_children, read_no_attributes, read_no_content, read_others, read_whole}
 use Rattle.ifmap_requests.proofs.asking.read_session.Goals as goal
 
 pub returns-in_err-session : goal.returns-in_err-session

@@ -1,5 +1,5 @@
 use Rattle.std.proofs.Common.{sym}
-use Rattle.ifmap_requests.proofs.PublishedLaws.{all_there, no_elements, no_item}
+use Rattle.ifmap_requests.proofs.PublishedLaws.{all_there}
 use Rattle.ifmap_requests.proofs.metadata.published_of.Goals as goal
 
 pub returns : goal.returns

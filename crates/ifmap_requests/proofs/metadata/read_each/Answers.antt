@@ -18,7 +18,8 @@ pub loop-child-init : goal.loop-child-init
 loop-child-init c =
     let whole = each_element one 0 (parts_in c.args.children.items) in (
       0,
-      subst (λ (cs : List Child). GoesOn whole (each_element one 0 (parts_in cs)) c.new-made.result.items) (sym c.into_iter-child-iterator.ensures.into_iter_gives.0)
+      subst (λ (cs : List Child). GoesOn whole (each_element one 0 (parts_in cs)) c.new-made.result.items)
+          (sym c.into_iter-child-iterator.ensures.into_iter_gives.0)
           (begins whole c.new-made.result.items c.new-made.ensures.items),
     )
 

@@ -1,12 +1,11 @@
 use Rattle.std.proofs.Common.{◌≡◌, ◌∙◌, [], Bool, List, subst, sym, true}
 use Rattle.ifmap_elem.specs.declared.elements.Child.{Child}
-use Rattle.ifmap_elem.specs.declared.elements.Element.{Element}
 use Rattle.ifmap_ident.specs.Parts.{has_only}
 use Rattle.ifmap_ident.specs.declared.codes.Code.TheVariants.{Failure}
 use Rattle.ifmap_meta.specs.declared.metadata.Metadata.{Metadata}
 use Rattle.ifmap_forms.specs.Answers.{IsChecked}
 use Rattle.ifmap_forms.specs.Checks.{Check, need}
-use Rattle.ifmap_forms.specs.Tables.{each_element, parts_in, parts_of}
+use Rattle.ifmap_forms.specs.Tables.{each_element, parts_in}
 use Rattle.ifmap_requests.specs.Published.{metadata_check}
 use Rattle.ifmap_requests.proofs.metadata.read_elements.Goals as goal
 

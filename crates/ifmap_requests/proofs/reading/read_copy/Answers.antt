@@ -1,10 +1,8 @@
 use Rattle.std.proofs.Common.{subst}
 use Rattle.ifmap_elem.specs.declared.elements.Element.{Element}
-use Rattle.ifmap_forms.specs.AnswerLaws.{refused_exit}
 use Rattle.ifmap_forms.specs.Answers.{IsChecked}
 use Rattle.ifmap_forms.specs.Scopes.{scopes_by}
 use Rattle.ifmap_requests.specs.RequestForms.{request_check}
-use Rattle.ifmap_requests.proofs.PlaceLaws.{out_of_memory}
 use Rattle.ifmap_requests.proofs.reading.read_copy.Goals as goal
 
 pub returns : goal.returns

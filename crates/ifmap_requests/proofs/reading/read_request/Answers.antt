@@ -1,4 +1,3 @@
-use Rattle.std.proofs.Common.{Err, sym}
 use Rattle.ifmap_requests.proofs.ReadingLaws.{body_answer, spells_nothing, spells_too_deep}
 use Rattle.ifmap_requests.proofs.reading.read_request.Goals as goal
 

@@ -1,4 +1,4 @@
-use Rattle.std.proofs.Common.{◌≡◌, List, Ok, subst}
+use Rattle.std.proofs.Common.{◌≡◌, Ok, subst}
 use Rattle.ifmap_elem.specs.declared.elements.Child.{out-Child}
 use Rattle.ifmap_forms.specs.AnswerLaws.{refused_exit}
 use Rattle.ifmap_forms.specs.Answers.{IsRefused}

@@ -1,16 +1,14 @@
-use Rattle.std.proofs.Common.{◌≡◌, ◌+◌, ◌∙◌, ◌∷◌, ℕ, List, ap, arith, drop, length, subst, sym}
-use Rattle.std.specs.Vec.Iter.{into_iter_items}
+use Rattle.std.proofs.Common.{◌≡◌, ◌+◌, ◌∙◌, ◌∷◌, ℕ, ap, drop, sym}
 use Rattle.std.proofs.lemmas.List.{drop_all, drop_more}
 use Rattle.ifmap_elem.specs.declared.elements.Child.{Child}
 use Rattle.ifmap_elem.specs.declared.elements.Element.{Element}
 use Rattle.ifmap_forms.specs.AnswerLaws.{refused_exit}
 use Rattle.ifmap_forms.specs.Checks.{Check}
-use Rattle.ifmap_forms.specs.Gathering.{GoesOn, begins, elements_end, elements_further, elements_stop}
+use Rattle.ifmap_forms.specs.Gathering.{elements_end, elements_further, elements_stop}
 use Rattle.ifmap_forms.specs.Scopes.{Scopes, scopes_below, scopes_by}
 use Rattle.ifmap_forms.specs.Tables.{each_element, parts_in}
 use Rattle.ifmap_requests.specs.declared.requests.SubscribeOp.{SubscribeOp}
 use Rattle.ifmap_requests.specs.RequestForms.{subscribe_op_check}
-use Rattle.ifmap_requests.proofs.PublishedLaws.{no_child}
 use Rattle.ifmap_requests.proofs.subscribing.read_subscribe_ops.Goals as goal
 
 abbrev one : Scopes → ℕ → Element → Check SubscribeOp
