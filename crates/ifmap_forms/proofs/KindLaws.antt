@@ -1,0 +1,137 @@
+-- Kinds in a text.
+-- 1. White space at the front and at the end.
+-- 2. The first comma cuts the first piece off.
+-- 3. What is found of the other pieces comes after the first.
+use Rattle.std.proofs.Common.{◌≡◌, ◌⊎◌, ◌∙◌, ℕ, ◌+◌, ◌-◌, ◌<◌, ◌≤◌, suc, Bool, true, false, not, cond, List, [], ◌∷◌, ◌++◌, Option, None, Some, Result, Ok, Err, length, get_or, take, drop, reverse, inl, inr, refl, ap, arith, subst, sym, rules}
+use Rattle.std.specs.Prelude.{nat_lt, ◌==◌}
+use Rattle.std.specs.List.{position, position_or_len}
+use Rattle.std.specs.Str.{byte}
+use Rattle.std.proofs.lemmas.Bool.{cases_Bool}
+use Rattle.std.proofs.lemmas.Bool.Decides.{nat_tests}
+use Rattle.std.proofs.lemmas.List.{reverse-append, reverse-reverse}
+use Rattle.std.proofs.Math.Seq.{take-length, take-suc}
+use Rattle.std.proofs.lemmas.List.Sums.{prefix_len-le-length}
+use Rattle.ifmap_filter.specs.Tokens.{without_white}
+use Rattle.ifmap_elem.specs.Chars.{is_white}
+use Rattle.ifmap_ident.specs.declared.codes.Code.{Code}
+use Rattle.ifmap_ident.specs.declared.kinds.Kind.{Kind}
+use Rattle.ifmap_forms.specs.declared.errors.FormError.{FormError}
+use Rattle.ifmap_forms.specs.declared.errors.FormError.TheVariants.{Named, NoMemory}
+use Rattle.ifmap_forms.specs.Answers.{IsRefused}
+use Rattle.ifmap_forms.specs.Checks.{Check}
+use Rattle.ifmap_forms.specs.Gathering.{after}
+use Rattle.ifmap_forms.specs.Values.{begins_white, kinds_check, piece_check, pieces_of, with_first}
+
+-- ---- 1. white space
+
+pub white_front : (text : List ℕ) → begins_white text ≡ true → without_white (drop 1 text) ≡ without_white text
+white_front [] h = let wrong : false ≡ true = h in cc
+white_front (b ∷ bs) h = sym (ap (λ t. cond t (without_white bs) (b ∷ bs)) h)
+
+pub solid_front : (text : List ℕ) → begins_white text ≡ false → text ≡ without_white text
+solid_front [] h = refl
+solid_front (b ∷ bs) h = sym (ap (λ t. cond t (without_white bs) (b ∷ bs)) h)
+
+pub reversed : (text : List ℕ) → 0 < length text
+    → reverse text ≡ get_or text (length text - 1) 0 ∷ reverse (take (length text - 1) text)
+reversed text some =
+    let n = length text - 1 in
+    let below : n < length text = omega arith in
+    let whole : take (suc n) text ≡ text = let same : suc n ≡ length text = omega arith in rw same (take-length text) in
+    ap reverse (sym whole ∙ take-suc text n 0 below) ∙ reverse-append (take n text) (get_or text n 0 ∷ [])
+
+pub white_back : (text : List ℕ) → begins_white (reverse text) ≡ true
+    → reverse (without_white (reverse (take (length text - 1) text))) ≡ reverse (without_white (reverse text))
+white_back [] h = let wrong : false ≡ true = h in cc
+white_back (b ∷ bs) h =
+    let text : List ℕ = b ∷ bs in
+    let turned = reversed text (omega arith) in
+    let white : is_white (get_or text (length text - 1) 0) ≡ true = sym (ap begins_white turned) ∙ h in
+    ap reverse (sym (ap without_white turned
+    ∙ ap (λ t. cond t (without_white (reverse (take (length text - 1) text)))
+    (get_or text (length text - 1) 0 ∷ reverse (take (length text - 1) text))) white))
+
+pub solid_back : (text : List ℕ) → begins_white (reverse text) ≡ false → text ≡ reverse (without_white (reverse text))
+solid_back text h = sym (reverse-reverse text) ∙ ap reverse (solid_front (reverse text) h)
+
+-- ---- 2. commas
+
+abbrev is_comma : ℕ → Bool
+is_comma b = b == byte ","
+
+cut_step : (t : Bool) (b : ℕ) (bs : List ℕ) (k : ℕ) → cond (not t) (1 + k) 0 < length (b ∷ bs)
+    → (k < length bs → pieces_of bs ≡ take k bs ∷ pieces_of (drop (k + 1) bs))
+    → cond t ([] ∷ pieces_of bs) (with_first b (pieces_of bs))
+    ≡ take (cond (not t) (1 + k) 0) (b ∷ bs) ∷ pieces_of (drop (cond (not t) (1 + k) 0 + 1) (b ∷ bs))
+cut_step true b bs k some ih = refl
+cut_step false b bs k some ih =
+    let below : k < length bs = omega arith in
+    let one : suc k ≡ 1 + k = omega arith in
+    let two : suc (k + 1) ≡ 1 + k + 1 = omega arith in
+    ap (with_first b) (ih below) ∙ (λ i. take (one i) (b ∷ bs) ∷ pieces_of (drop (two i) (b ∷ bs)))
+
+cut_at : (text : List ℕ) → position_or_len is_comma text < length text
+    → pieces_of text ≡ take (position_or_len is_comma text) text ∷ pieces_of (drop (position_or_len is_comma text + 1) text)
+cut_at [] some = absurd (omega arith)
+cut_at (b ∷ bs) some = cut_step (is_comma b) b bs (position_or_len is_comma bs) some (λ below. cut_at bs below)
+
+whole_step : (t : Bool) (b : ℕ) (bs : List ℕ) (k : ℕ) → cond (not t) (1 + k) 0 ≡ length (b ∷ bs) → (k ≡ length bs → pieces_of bs ≡ bs ∷ [])
+    → cond t ([] ∷ pieces_of bs) (with_first b (pieces_of bs)) ≡ (b ∷ bs) ∷ []
+whole_step true b bs k none ih = absurd (omega arith)
+whole_step false b bs k none ih = let same : k ≡ length bs = omega arith in ap (with_first b) (ih same)
+
+whole_piece : (text : List ℕ) → position_or_len is_comma text ≡ length text → pieces_of text ≡ text ∷ []
+whole_piece [] none = refl
+whole_piece (b ∷ bs) none = whole_step (is_comma b) b bs (position_or_len is_comma bs) none (λ same. whole_piece bs same)
+
+abbrev at_place : ℕ → Option ℕ
+at_place n = Some n
+
+placed : (b : Bool) (k end : ℕ) → at_place end ≡ cond b (at_place k) None → (b ≡ true) × (k ≡ end)
+placed true k end h = (refl, cc)
+placed false k end h = cc
+
+unplaced : (b : Bool) (k : ℕ) → None ≡ cond b (at_place k) None → b ≡ false
+unplaced true k h = cc
+unplaced false k h = refl
+
+-- what the first comma cuts off
+pub record IsCut (text : List ℕ) (end : ℕ) : Type 0 where
+  pub inside : end < length text
+  pub pieces : pieces_of text ≡ take end text ∷ pieces_of (drop (end + 1) text)
+
+pub comma_found : (text : List ℕ) (end : ℕ) → at_place end ≡ position is_comma text → IsCut text end
+comma_found text end h =
+    let k = position_or_len is_comma text in
+    let p = placed (nat_lt k (length text)) k end h in
+    let below : k < length text = let lt = p.0 in grind (arith, nat_tests) in
+    record {
+      inside = subst (λ (n : ℕ). n < length text) p.1 below;
+      pieces = subst (λ (n : ℕ). pieces_of text ≡ take n text ∷ pieces_of (drop (n + 1) text)) p.1 (cut_at text below);
+    }
+
+pub no_comma : (text : List ℕ) → None ≡ position is_comma text → pieces_of text ≡ text ∷ []
+no_comma text h =
+    let k = position_or_len is_comma text in
+    let not_below : nat_lt k (length text) ≡ false = unplaced (nat_lt k (length text)) k h in
+    let above : length text ≤ k = grind (arith, nat_tests) in
+    let within : k ≤ length text = prefix_len-le-length (λ (b : ℕ). not (is_comma b)) text in
+    whole_piece text (omega (arith, above, within))
+
+-- ---- 3. kinds
+
+abbrev good : Kind → Result Kind Code
+good kind = Ok kind
+
+pub kind_goes_on : (piece : List ℕ) (pieces : List (List ℕ)) (kind : Kind) → piece_check piece (good kind)
+    → (found : Result (List Kind) Code) → kinds_check pieces found → kinds_check (piece ∷ pieces) (after (kind ∷ []) found)
+kind_goes_on piece pieces kind is (Ok kinds) f = (kind, is, (kinds, f, refl))
+kind_goes_on piece pieces kind is (Err code) f = inr (kind, is, inl f)
+
+pub kind_stops : (piece : List ℕ) (pieces : List (List ℕ)) (error : FormError) → IsRefused (piece_check piece) error
+    → IsRefused (kinds_check (piece ∷ pieces)) error
+kind_stops piece pieces (Named code) f = inl f
+kind_stops piece pieces NoMemory f = tt
+
+pub last_kind : (piece : List ℕ) (kind : Kind) → piece_check piece (good kind) → kinds_check (piece ∷ []) (Ok (kind ∷ []))
+last_kind piece kind is = (kind, is, ([], refl, refl))

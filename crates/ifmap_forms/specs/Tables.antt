@@ -1,0 +1,111 @@
+-- Tables of attributes and of children: what an element means by them.
+use Rattle.std.specs.Prelude.{ℕ, ◌+◌, Bool, false, List, [], ◌∷◌, ◌++◌, map}
+use Rattle.std.specs.List.{list_all}
+use Rattle.ifmap_elem.specs.Building.{bare_name}
+use Rattle.ifmap_elem.specs.Chars.{is_white}
+use Rattle.ifmap_elem.specs.declared.elements.Child.{Child, out-Child}
+use Rattle.ifmap_elem.specs.declared.elements.Child.TheOpen.{Child-F}
+use Rattle.ifmap_elem.specs.declared.elements.Element.{Element}
+use Rattle.ifmap_elem.specs.declared.elements.Name.{Name}
+use Rattle.ifmap_filter.specs.Holding.{is_name}
+use Rattle.ifmap_reader.specs.declared.scoping.Scope.{Scope}
+use Rattle.ifmap_ident.specs.Parts.{has_only}
+use Rattle.ifmap_ident.specs.declared.codes.Code.TheVariants.{Failure}
+use Rattle.ifmap_forms.specs.Checks.{Check, check_if, check_then, need, pass}
+use Rattle.ifmap_forms.specs.Scopes.{Scopes, scopes_below}
+use Rattle.ifmap_forms.specs.Values.{Field, field_check}
+
+-- one thing and others
+pub record Both (X Y : Type 0) : Type 0 where
+  pub first : X
+  pub others : Y
+
+abbrev pub both : {X Y : Type 0} → X → Y → Both X Y
+both x y = record { first = x; others = y }
+
+-- ---- attributes
+
+-- the names of attributes in the order in which they are checked, and what an element means by them
+pub record Table (X : Type 0) : Type 1 where
+  pub locals : List (List ℕ)
+  pub reads : Scope → Element → Check X
+
+abbrev pub no_attributes : Table (Unit {0})
+no_attributes = record { locals = []; reads = λ scope e. pass tt }
+
+module _ {X Y : Type 0} where
+  abbrev pub read_both : Field X → Table Y → Scope → Element → Check (Both X Y)
+  read_both field table scope e =
+      check_then (field_check field scope e) (λ x. check_then (table.reads scope e) (λ y. pass (both x y)))
+
+  -- an attribute, and then others
+  abbrev pub beside : Field X → Table Y → Table (Both X Y)
+  beside field table = record { locals = field.local ∷ table.locals; reads = read_both field table }
+
+-- ---- children
+
+-- a child, seen as an element or a text
+abbrev pub Part : Type 0
+Part = Child-F Child Element
+
+abbrev pub parts_in : List Child → List Part
+parts_in children = map out-Child children
+
+abbrev pub parts_of : Element → List Part
+parts_of e = parts_in e.children
+
+-- the part is a text of white space alone
+abbrev pub is_white_part : Part → Bool
+is_white_part (Child-F.Element e) = false
+is_white_part (Child-F.Text text) = list_all is_white text
+
+-- what children mean
+abbrev pub Content : Type 0 → Type 1
+Content X = Scopes → List Part → Check X
+
+-- no children but white space
+abbrev pub no_children : Content (Unit {0})
+no_children scopes parts = need (list_all is_white_part parts) Failure (pass tt)
+
+module _ {X : Type 0} where
+  -- elements from left to right, each checked whole, and nothing between them but white space
+  abbrev pub each_element : (ℕ → Element → Check X) → ℕ → List Part → Check (List X)
+  each_element one index [] = pass []
+  each_element one index (Child-F.Element e ∷ parts) =
+      check_then (one index e) (λ x. check_then (each_element one (index + 1) parts) (λ xs. pass (x ∷ xs)))
+  each_element one index (Child-F.Text text ∷ parts) = need (list_all is_white text) Failure (each_element one (index + 1) parts)
+
+  -- any number of elements, each of which means one thing
+  abbrev pub list_of : (Scopes → Element → Check X) → Content (List X)
+  list_of one scopes parts = each_element (λ index e. one (scopes_below scopes index) e) 0 parts
+
+-- ---- elements
+
+-- an element by its name, by attributes that are passed over, and by the tables of its attributes and of its children
+pub record Form (A C : Type 0) : Type 1 where
+  pub name : Name
+  pub passed_over : List (List ℕ)
+  pub attributes : Table A
+  pub content : Content C
+
+module _ {A C : Type 0} where
+  -- a form of an element in no namespace, where no further attribute is passed over
+  abbrev pub bare_form : List ℕ → Table A → Content C → Form A C
+  bare_form local attributes content =
+      record { name = bare_name local; passed_over = []; attributes = attributes; content = content }
+
+  -- its attributes in the table's order, then those that are not in the table, then its children
+  abbrev pub read_form : Form A C → Scopes → Element → Check (Both A C)
+  read_form form scopes e =
+      check_then (form.attributes.reads (scopes []) e)
+      (λ a. need (has_only (form.passed_over ++ form.attributes.locals) e) Failure
+      (check_then (form.content scopes (parts_of e)) (λ c. pass (both a c))))
+
+module _ {X A C : Type 0} where
+  -- what is made of what an element means by its attributes and its children
+  abbrev pub form_check : Form A C → (A → C → X) → Scopes → Element → Check X
+  form_check form make scopes e = check_then (read_form form scopes e) (λ x. pass (make x.first x.others))
+
+  -- what is meant by this form, where the element has its name, and else what another check finds
+  abbrev pub form_or : Form A C → (A → C → X) → Scopes → Element → Check X → Check X
+  form_or form make scopes e other = check_if (is_name e.name form.name) (form_check form make scopes e) other

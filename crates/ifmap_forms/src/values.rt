@@ -1,0 +1,155 @@
+//! Readers of attributes, each of which answers what its value means, or what an absent one means.
+ghost use Rattle.std.specs.Prelude.{◌≡◌, ◌&&◌, ◌^◌, nat_le, nat_lt, Some};
+ghost use Rattle.ifmap_ident.specs.Parts.{value_of};
+ghost use Rattle.ifmap_ident.specs.declared.codes.Code.TheVariants.{Failure};
+ghost use Rattle.ifmap_forms.specs.Answers.{IsChecked};
+ghost use Rattle.ifmap_forms.specs.Checks.{need, pass};
+ghost use Rattle.ifmap_forms.specs.Scopes.{place_scope};
+ghost use Rattle.ifmap_forms.specs.Values.{depth_field, filter_check, kinds_field, lifetime_field, limit_field, name_field, read_depth, read_filter, read_kinds, read_lifetime, read_limit, read_name, read_size, read_text, size_field};
+
+use crate::errors::FormError;
+use crate::kinds::kinds_in;
+use crate::numbers::number_of;
+use crate::parts::value_of;
+use crate::places::{Place, scope_of};
+use ifmap_elem::{Copied, Element, Many, Text};
+use ifmap_filter::laws::text_is_filter_or_stops;
+use ifmap_filter::{Filter, FilterError};
+use ifmap_ident::{Code, Kind};
+use std::alloc::Global;
+
+/// The text of an attribute that must be there.
+pub fn read_text(alloc: Global, element: &Element, local: &str) -> Result<Text, FormError>
+    ensures { IsChecked (read_text (value_of local.now element.now)) result }
+{
+    match value_of(element, local) {
+        Some(text) => Ok(text.copy(alloc)?),
+        None => Err(FormError::Named(Code::Failure)),
+    }
+}
+
+/// The name of a subscription.
+pub fn read_name(alloc: Global, element: &Element) -> Result<Text, FormError>
+    ensures { IsChecked (read_name (value_of name_field.local element.now)) result }
+{
+    let Some(name) = value_of(element, "name") else {
+        return Err(FormError::Named(Code::Failure));
+    };
+    if !is_name_length(name.len()) {
+        return Err(FormError::Named(Code::Failure));
+    }
+    Ok(name.copy(alloc)?)
+}
+
+fn is_name_length(length: usize) -> bool
+    ensures { result ≡ (nat_le 1 length && nat_le length 1000) }
+{
+    1 <= length && length <= 1000
+}
+
+/// How large a poll's result may be, where it is said.
+pub fn read_limit(element: &Element) -> Result<Option<u32>, FormError>
+    ensures { IsChecked (read_limit (value_of limit_field.local element.now)) result }
+{
+    let Some(text) = value_of(element, "max-poll-result-size") else {
+        return Ok(None);
+    };
+    match number_of(text.as_str()) {
+        Some(number) => Ok(Some(number.clamp(10_000, 5_000_000) as u32)),
+        None => Err(FormError::Named(Code::Failure)),
+    }
+}
+
+/// The most links of a walk.
+pub fn read_depth(element: &Element) -> Result<u32, FormError>
+    ensures { IsChecked (read_depth (value_of depth_field.local element.now)) result }
+{
+    let Some(text) = value_of(element, "max-depth") else {
+        return Ok(0);
+    };
+    match number_of(text.as_str()) {
+        Some(number) => depth_of(number),
+        None => Err(FormError::Named(Code::Failure)),
+    }
+}
+
+fn depth_of(number: u64) -> Result<u32, FormError>
+    ensures { IsChecked (need (nat_lt number (2 ^ 32)) Failure (pass number)) result }
+{
+    match u32::try_from(number) {
+        Ok(depth) => Ok(depth),
+        Err(_) => Err(FormError::Named(Code::Failure)),
+    }
+}
+
+/// The greatest size of a result.
+pub fn read_size(element: &Element) -> Result<u64, FormError>
+    ensures { IsChecked (read_size (value_of size_field.local element.now)) result }
+{
+    let Some(text) = value_of(element, "max-size") else {
+        return Ok(100_000);
+    };
+    match number_of(text.as_str()) {
+        Some(number) => Ok(number.min(50_000_000)),
+        None => Err(FormError::Named(Code::Failure)),
+    }
+}
+
+/// Whether what is published stays when the session ends.
+pub fn read_lifetime(element: &Element) -> Result<bool, FormError>
+    ensures { IsChecked (read_lifetime (value_of lifetime_field.local element.now)) result }
+{
+    match value_of(element, "lifetime") {
+        Some(text) => lifetime_of(text.as_str()),
+        None => Ok(false),
+    }
+}
+
+fn lifetime_of(text: &str) -> Result<bool, FormError>
+    ensures { IsChecked (read_lifetime (Some text.now)) result }
+{
+    match text {
+        "session" => Ok(false),
+        "forever" => Ok(true),
+        _ => Err(FormError::Named(Code::Failure)),
+    }
+}
+
+/// The filter of an attribute of an element at a place, where there is one.
+pub fn read_filter(
+    alloc: Global,
+    place: &Place<'_>,
+    element: &Element,
+    local: &str,
+) -> Result<Option<Filter>, FormError>
+    ensures { IsChecked (read_filter (place_scope place.now.declared.now place.now.path.now
+        place.now.child) (value_of local.now element.now)) result }
+{
+    match value_of(element, local) {
+        Some(text) => Ok(Some(filter_of(alloc, place, text)?)),
+        None => Ok(None),
+    }
+}
+
+fn filter_of(alloc: Global, place: &Place<'_>, text: &Text) -> Result<Filter, FormError>
+    ensures { IsChecked (filter_check (place_scope place.now.declared.now place.now.path.now
+        place.now.child) text.now) result }
+{
+    text_is_filter_or_stops();
+    let scope = scope_of(alloc, place)?;
+    match Filter::parse(alloc, text, &scope) {
+        Ok(filter) => Ok(filter),
+        Err(FilterError::NotAFilter { .. }) => Err(FormError::Named(Code::Failure)),
+        Err(FilterError::NoMemory) => Err(FormError::NoMemory),
+    }
+}
+
+/// The kinds of identifiers from which no walk goes on.
+pub fn read_kinds(alloc: Global, element: &Element) -> Result<Many<Kind>, FormError>
+    ensures { IsChecked (read_kinds (value_of kinds_field.local element.now)) result }
+{
+    match value_of(element, "terminal-identifier-type") {
+        Some(text) => kinds_in(alloc, text.as_bytes()),
+        None => Ok(Many(Vec::new(alloc))),
+    }
+}

@@ -1,0 +1,6 @@
+pub mod Single
+pub mod PublishedLaws
+pub mod FormLaws
+pub mod NameLaws
+pub mod ReadingLaws
+pub mod PlaceLaws

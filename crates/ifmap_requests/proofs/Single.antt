@@ -1,0 +1,469 @@
+-- Each check of a request finds one thing at most.
+-- 1. Identifiers by the law of their crate.
+-- 2. Tables, lists of children and forms, over what they are made of.
+-- 3. Each attribute; filters by the law of their crate.
+-- 4. Metadata, by their definition.
+-- 5. Identifiers and lists as children.
+-- 6. Operations and requests: each is one more form in a chain.
+use Rattle.std.proofs.Common.{◌≡◌, ◌⊎◌, ◌∙◌, ◌<◌, ◌+◌, ◌^◌, ◌++◌, ℕ, Bool, true, false, List, [], ◌∷◌, Option, None, Some, Result, Ok, Err, codes, length, min, inl, inr, refl, ap, arith, subst, sym}
+use Rattle.std.specs.Prelude.{IsSome, ◌&&◌, nat_le, nat_lt}
+use Rattle.std.specs.List.{list_all}
+use Rattle.std.specs.Str.{bytes_eq}
+use Rattle.ifmap_filter.specs.Holding.{is_name}
+use Rattle.ifmap_elem.specs.Chars.{is_white}
+use Rattle.ifmap_elem.specs.declared.elements.Child.TheOpen.{Child-F}
+use Rattle.ifmap_elem.specs.declared.elements.Element.{Element}
+use Rattle.ifmap_reader.specs.declared.scoping.Scope.{Scope}
+use Rattle.ifmap_filter.specs.declared.filters.Filter.{Filter}
+use Rattle.ifmap_filter.specs.Laws.{OneFilter}
+use Rattle.ifmap_filter.specs.Texts.{Writes}
+use Rattle.ifmap_ident.specs.declared.codes.Code.{Code}
+use Rattle.ifmap_ident.specs.declared.codes.Code.TheVariants.{AccessDenied, Failure, InvalidIdentifier, InvalidIdentifierType, IdentifierTooLong, InvalidMetadata, InvalidSchemaVersion, InvalidSessionID, MetadataTooLong, SearchResultsTooBig, PollResultsTooBig, SystemError}
+use Rattle.ifmap_ident.specs.declared.errors.IdentError.{IdentError}
+use Rattle.ifmap_ident.specs.declared.errors.IdentError.TheVariants.{NoMemory}
+use Rattle.ifmap_ident.specs.declared.identifiers.Identifier.{Identifier}
+use Rattle.ifmap_ident.specs.Canon.{IsAnswer}
+use Rattle.ifmap_ident.specs.Laws.{AreOneAnswer}
+use Rattle.ifmap_ident.specs.Parts.{has_only, value_of}
+use Rattle.ifmap_meta.specs.declared.metadata.Cardinality.{Cardinality}
+use Rattle.ifmap_meta.specs.declared.metadata.Metadata.{Metadata}
+use Rattle.ifmap_meta.specs.Cardinality.{cardinality_of}
+use Rattle.ifmap_meta.specs.Whole.{IsMadeOf}
+use Rattle.ifmap_ident.specs.declared.items.Item.{Item}
+use Rattle.ifmap_forms.specs.CheckLaws.{fail_single, if_single, need_single, pass_single, some_single, then_single}
+use Rattle.ifmap_forms.specs.Checks.{Check, IsSingle, check_if, check_then, fail, need, need_some, pass}
+use Rattle.ifmap_forms.specs.Items.{before_list, from_list, identifier_check, identifier_code, identifiers_check, item_content, item_of, list_at, list_check, may_follow, only_identifier, start_content}
+use Rattle.ifmap_forms.specs.Scopes.{Scopes, scopes_below}
+use Rattle.ifmap_forms.specs.Tables.{Both, Content, Form, Part, Table, beside, both, each_element, form_or, is_white_part, list_of, no_attributes, no_children, parts_of, read_form}
+use Rattle.ifmap_forms.specs.Values.{Field, FilterDefect, depth_field, field_check, filter_check, filter_field, kinds_field, lifetime_field, limit_field, name_field, size_field, kind_of, kinds_check, number_of, piece_check, pieces_of, read_depth, read_filter, read_kinds, read_lifetime, read_limit, read_name, read_size, read_text, trimmed, within}
+use Rattle.ifmap_requests.specs.declared.requests.Request.{Request}
+use Rattle.ifmap_requests.specs.Published.{MetadataDefect, metadata_check, published_content, published_from}
+use Rattle.ifmap_requests.specs.RequestForms.{ifmap_space, delete_form, delete_of, end_form, end_of, end_session_form, end_session_of, named_request_check, new_session_form, new_session_of, notify_form, notify_of, other_request_check, poll_form, poll_of, publish_form, publish_of, publish_op_check, publisher_field, purge_form, purge_of, renew_form, renewal_of, request_check, search_attributes, search_form, search_of, session_attribute, session_field, subscribe_form, subscribe_of, subscribe_op_check, subscription_form, subscription_of, update_form, update_of}
+
+-- ---- 1. identifiers
+
+abbrev ok_of : Identifier → Result Identifier Code
+ok_of i = Ok i
+
+abbrev filter_found : Filter → Result Filter Code
+filter_found filter = Ok filter
+
+abbrev filter_refused : Code → Result Filter Code
+filter_refused code = Err code
+
+-- the same answers of another type of errors
+same_found : (i j : Identifier) → i ≡ j → ok_of i ≡ ok_of j
+same_found i j e = ap ok_of e
+
+module _ (one_answer : (e : Element) (one other : Result Identifier IdentError) → IsAnswer e one → IsAnswer e other → AreOneAnswer one other) where
+  abbrev answer : Identifier → Result Identifier IdentError
+  answer i = Ok i
+
+  abbrev refused : IdentError → Result Identifier IdentError
+  refused error = Err error
+
+  -- want of memory has no code
+  no_code : (code : Code) → identifier_code NoMemory ≡ Some code → ⊥
+  no_code code e = let wrong : identifier_code NoMemory ≡ Some code = e in cc
+
+  not_memory : (error : IdentError) (code : Code) → identifier_code error ≡ Some code → refused error ≡ refused NoMemory → ⊥
+  not_memory error code coded e =
+      let same : error ≡ NoMemory = cc in
+      no_code code (subst (λ (x : IdentError). identifier_code x ≡ Some code) same coded)
+
+  pub identifier_single : (e : Element) → IsSingle (identifier_check e)
+  identifier_single e (Ok i) (Ok j) a b = elim (one_answer e (answer i) (answer j) a b) [
+    | inl same ↦ let s : answer i ≡ answer j = same in let t : i ≡ j = cc in same_found i j t
+    | inr other ↦ elim other [
+      | inl m ↦ let wrong : answer i ≡ refused NoMemory = m in cc
+      | inr m ↦ let wrong : answer j ≡ refused NoMemory = m in cc
+    ]
+  ]
+  identifier_single e (Ok i) (Err c) a b = elim (one_answer e (answer i) (refused b.0) a b.2) [
+    | inl same ↦ let wrong : answer i ≡ refused b.0 = same in cc
+    | inr other ↦ elim other [
+      | inl m ↦ let wrong : answer i ≡ refused NoMemory = m in cc
+      | inr m ↦ absurd (not_memory b.0 c b.1 m)
+    ]
+  ]
+  identifier_single e (Err c) (Ok j) a b = elim (one_answer e (refused a.0) (answer j) a.2 b) [
+    | inl same ↦ let wrong : refused a.0 ≡ answer j = same in cc
+    | inr other ↦ elim other [
+      | inl m ↦ absurd (not_memory a.0 c a.1 m)
+      | inr m ↦ let wrong : answer j ≡ refused NoMemory = m in cc
+    ]
+  ]
+  identifier_single e (Err c) (Err d) a b = elim (one_answer e (refused a.0) (refused b.0) a.2 b.2) [
+    | inl same ↦
+        let s : refused a.0 ≡ refused b.0 = same in
+        let errors : a.0 ≡ b.0 = cc in
+        let coded : Some c ≡ Some d = sym a.1 ∙ (ap identifier_code errors ∙ b.1) in
+        cc
+    | inr other ↦ elim other [
+      | inl m ↦ absurd (not_memory a.0 c a.1 m)
+      | inr m ↦ absurd (not_memory b.0 d b.1 m)
+    ]
+  ]
+
+-- ---- 2. tables, children, forms
+
+abbrev pub OneOfField : {X : Type 0} → Field X → Type 0
+OneOfField field = (scope : Scope) (text : Option (List ℕ)) → IsSingle (field.reads scope text)
+
+abbrev pub OneOfTable : {X : Type 0} → Table X → Type 0
+OneOfTable table = (scope : Scope) (e : Element) → IsSingle (table.reads scope e)
+
+abbrev pub OneOfContent : {X : Type 0} → Content X → Type 0
+OneOfContent content = (scopes : Scopes) (parts : List Part) → IsSingle (content scopes parts)
+
+module _ {X Y : Type 0} (field : Field X) (table : Table Y) where
+  pub beside_single : OneOfField field → OneOfTable table → OneOfTable (beside field table)
+  beside_single f t scope e =
+      then_single (field_check field scope e) (λ x. check_then (table.reads scope e) (λ y. pass (both x y)))
+      (f scope (value_of field.local e))
+      (λ x. then_single (table.reads scope e) (λ y. pass (both x y)) (t scope e) (λ y. pass_single (both x y)))
+
+module _ {A C : Type 0} (form : Form A C) where
+  form_single : OneOfTable form.attributes → OneOfContent form.content → (scopes : Scopes) (e : Element)
+      → IsSingle (read_form form scopes e)
+  form_single t s scopes e =
+      then_single (form.attributes.reads (scopes []) e)
+      (λ a. need (has_only (form.passed_over ++ form.attributes.locals) e) Failure
+      (check_then (form.content scopes (parts_of e)) (λ c. pass (both a c))))
+      (t (scopes []) e)
+      (λ a. need_single (has_only (form.passed_over ++ form.attributes.locals) e) Failure
+      (check_then (form.content scopes (parts_of e)) (λ c. pass (both a c)))
+      (then_single (form.content scopes (parts_of e)) (λ c. pass (both a c)) (s scopes (parts_of e))
+      (λ c. pass_single (both a c))))
+
+module _ {X A C : Type 0} (form : Form A C) (make : A → C → X) where
+  pub or_single : OneOfTable form.attributes → OneOfContent form.content → (scopes : Scopes) (e : Element) (other : Check X)
+      → IsSingle other → IsSingle (form_or form make scopes e other)
+  or_single t s scopes e other single =
+      if_single (is_name e.name form.name) (check_then (read_form form scopes e) (λ x. pass (make x.first x.others))) other
+      (then_single (read_form form scopes e) (λ x. pass (make x.first x.others)) (form_single form t s scopes e)
+      (λ x. pass_single (make x.first x.others)))
+      single
+
+module _ {X : Type 0} (one : ℕ → Element → Check X) (s : (index : ℕ) (e : Element) → IsSingle (one index e)) where
+  pub each_single : (index : ℕ) (parts : List Part) → IsSingle (each_element one index parts)
+  each_single index [] = pass_single []
+  each_single index (Child-F.Element e ∷ parts) =
+      then_single (one index e) (λ x. check_then (each_element one (index + 1) parts) (λ xs. pass (x ∷ xs))) (s index e)
+      (λ x. then_single (each_element one (index + 1) parts) (λ xs. pass (x ∷ xs)) (each_single (index + 1) parts)
+      (λ xs. pass_single (x ∷ xs)))
+  each_single index (Child-F.Text text ∷ parts) =
+      need_single (list_all is_white text) Failure (each_element one (index + 1) parts) (each_single (index + 1) parts)
+
+-- ---- 3. values
+
+read_text_single : (scope : Scope) (text : Option (List ℕ)) → IsSingle (read_text text)
+read_text_single scope None = fail_single Failure
+read_text_single scope (Some text) = pass_single text
+
+read_name_single : (scope : Scope) (text : Option (List ℕ)) → IsSingle (read_name text)
+read_name_single scope None = fail_single Failure
+read_name_single scope (Some text) =
+    need_single (nat_le 1 (length text) && nat_le (length text) 1000) Failure (pass text) (pass_single text)
+
+read_limit_single : (scope : Scope) (text : Option (List ℕ)) → IsSingle (read_limit text)
+read_limit_single scope None = pass_single None
+read_limit_single scope (Some text) =
+    some_single Failure (number_of text) (λ n. pass (Some (within 10_000 5_000_000 n))) (λ n. pass_single (Some (within 10_000 5_000_000 n)))
+
+read_depth_single : (scope : Scope) (text : Option (List ℕ)) → IsSingle (read_depth text)
+read_depth_single scope None = pass_single 0
+read_depth_single scope (Some text) =
+    some_single Failure (number_of text) (λ n. need (nat_lt n (2 ^ 32)) Failure (pass n))
+    (λ n. need_single (nat_lt n (2 ^ 32)) Failure (pass n) (pass_single n))
+
+read_size_single : (scope : Scope) (text : Option (List ℕ)) → IsSingle (read_size text)
+read_size_single scope None = pass_single 100_000
+read_size_single scope (Some text) =
+    some_single Failure (number_of text) (λ n. pass (min n 50_000_000)) (λ n. pass_single (min n 50_000_000))
+
+read_lifetime_single : (scope : Scope) (text : Option (List ℕ)) → IsSingle (read_lifetime text)
+read_lifetime_single scope None = pass_single false
+read_lifetime_single scope (Some text) =
+    if_single (bytes_eq text (codes "session")) (pass false) (check_if (bytes_eq text (codes "forever")) (pass true) (fail Failure))
+    (pass_single false)
+    (if_single (bytes_eq text (codes "forever")) (pass true) (fail Failure) (pass_single true) (fail_single Failure))
+
+kinds_single : (pieces : List (List ℕ)) → IsSingle (kinds_check pieces)
+kinds_single [] = pass_single []
+kinds_single (piece ∷ pieces) =
+    then_single (piece_check piece) (λ kind. check_then (kinds_check pieces) (λ others. pass (kind ∷ others)))
+    (some_single InvalidIdentifierType (kind_of (trimmed piece)) (λ kind. pass kind) (λ kind. pass_single kind))
+    (λ kind. then_single (kinds_check pieces) (λ others. pass (kind ∷ others)) (kinds_single pieces)
+    (λ others. pass_single (kind ∷ others)))
+
+read_kinds_single : (scope : Scope) (text : Option (List ℕ)) → IsSingle (read_kinds text)
+read_kinds_single scope None = pass_single []
+read_kinds_single scope (Some text) =
+    if_single (list_all is_white text) (pass []) (kinds_check (pieces_of text)) (pass_single []) (kinds_single (pieces_of text))
+
+-- a text that is no filter is Failure and nothing else
+defect_is_failure : (code : Code) (scope : Scope) (text : List ℕ) → FilterDefect code scope text → code ≡ Failure
+defect_is_failure Failure scope text d = refl
+defect_is_failure AccessDenied scope text d = absurd d
+defect_is_failure InvalidIdentifier scope text d = absurd d
+defect_is_failure InvalidIdentifierType scope text d = absurd d
+defect_is_failure IdentifierTooLong scope text d = absurd d
+defect_is_failure InvalidMetadata scope text d = absurd d
+defect_is_failure InvalidSchemaVersion scope text d = absurd d
+defect_is_failure InvalidSessionID scope text d = absurd d
+defect_is_failure MetadataTooLong scope text d = absurd d
+defect_is_failure SearchResultsTooBig scope text d = absurd d
+defect_is_failure PollResultsTooBig scope text d = absurd d
+defect_is_failure SystemError scope text d = absurd d
+
+module _ (one_filter : OneFilter) where
+  filter_and_defect : (scope : Scope) (text : List ℕ) (filter : Filter) (code : Code) → Writes text scope filter
+      → FilterDefect code scope text → ⊥
+  filter_and_defect scope text filter code w d =
+      let none : FilterDefect Failure scope text =
+      subst (λ (c : Code). FilterDefect c scope text) (defect_is_failure code scope text d) d in
+      none filter w
+
+  filter_single : (scope : Scope) (text : List ℕ) → IsSingle (filter_check scope text)
+  filter_single scope text (Ok f) (Ok g) a b = ap filter_found (one_filter text scope f g a b)
+  filter_single scope text (Ok f) (Err d) a b = absurd (filter_and_defect scope text f d a b)
+  filter_single scope text (Err c) (Ok g) a b = absurd (filter_and_defect scope text g c b a)
+  filter_single scope text (Err c) (Err d) a b =
+      ap filter_refused (defect_is_failure c scope text a ∙ sym (defect_is_failure d scope text b))
+
+  pub read_filter_single : (scope : Scope) (text : Option (List ℕ)) → IsSingle (read_filter scope text)
+  read_filter_single scope None = pass_single None
+  read_filter_single scope (Some text) =
+      then_single (filter_check scope text) (λ filter. pass (Some filter)) (filter_single scope text)
+      (λ filter. pass_single (Some filter))
+
+-- ---- 4. metadata
+
+-- metadata have no code but two
+metadata_codes : (code : Code) (e : Element) → MetadataDefect code e → (code ≡ InvalidMetadata) ⊎ (code ≡ MetadataTooLong)
+metadata_codes InvalidMetadata e d = inl refl
+metadata_codes MetadataTooLong e d = inr refl
+metadata_codes AccessDenied e d = absurd d
+metadata_codes Failure e d = absurd d
+metadata_codes InvalidIdentifier e d = absurd d
+metadata_codes InvalidIdentifierType e d = absurd d
+metadata_codes IdentifierTooLong e d = absurd d
+metadata_codes InvalidSchemaVersion e d = absurd d
+metadata_codes InvalidSessionID e d = absurd d
+metadata_codes SearchResultsTooBig e d = absurd d
+metadata_codes PollResultsTooBig e d = absurd d
+metadata_codes SystemError e d = absurd d
+
+-- an element that can be published is made in one way
+one_metadata : (e : Element) (m n : Metadata) → IsMadeOf e m → IsMadeOf e n → m ≡ n
+one_metadata e m n a b =
+    let elements : m.element ≡ n.element = a.element ∙ sym b.element in
+    let said : Some m.cardinality ≡ Some n.cardinality = sym a.cardinality ∙ b.cardinality in
+    let cardinalities : m.cardinality ≡ n.cardinality = cc in
+    λ i. record { element = elements i; cardinality = cardinalities i }
+
+abbrev metadata_found : Metadata → Result Metadata Code
+metadata_found metadata = Ok metadata
+
+abbrev metadata_refused : Code → Result Metadata Code
+metadata_refused code = Err code
+
+-- the two causes do not stand together, and neither stands beside metadata
+invalid_has_none : (e : Element) (m : Metadata) → cardinality_of e ≡ None → IsMadeOf e m → ⊥
+invalid_has_none e m none made = let wrong : None ≡ Some m.cardinality = sym none ∙ made.cardinality in cc
+
+defect_has_none : (e : Element) (m : Metadata) (code : Code) → MetadataDefect code e → IsMadeOf e m → ⊥
+defect_has_none e m code d made = elim (metadata_codes code e d) [
+  | inl same ↦
+      let none : MetadataDefect InvalidMetadata e = subst (λ (c : Code). MetadataDefect c e) same d in
+      invalid_has_none e m none made
+  | inr same ↦
+      let long : MetadataDefect MetadataTooLong e = subst (λ (c : Code). MetadataDefect c e) same d in
+      omega (arith, long.1, made.size)
+]
+
+one_defect : (e : Element) (c d : Code) → MetadataDefect c e → MetadataDefect d e → c ≡ d
+one_defect e c d p q = elim (metadata_codes c e p) [
+  | inl invalid ↦ elim (metadata_codes d e q) [
+    | inl same ↦ invalid ∙ sym same
+    | inr long ↦ absurd (apart (subst (λ (c : Code). MetadataDefect c e) invalid p) (subst (λ (d : Code). MetadataDefect d e) long q))
+  ]
+  | inr long ↦ elim (metadata_codes d e q) [
+    | inl invalid ↦ absurd (apart (subst (λ (d : Code). MetadataDefect d e) invalid q) (subst (λ (c : Code). MetadataDefect c e) long p))
+    | inr same ↦ long ∙ sym same
+  ]
+]
+  where
+    apart : MetadataDefect InvalidMetadata e → MetadataDefect MetadataTooLong e → ⊥
+    apart none long =
+        let wrong : false ≡ true = subst (λ (o : Option Cardinality). IsSome o) none long.0 in
+        cc
+
+metadata_single : (e : Element) → IsSingle (metadata_check e)
+metadata_single e (Ok m) (Ok n) a b = ap metadata_found (one_metadata e m n a b)
+metadata_single e (Ok m) (Err d) a b = absurd (defect_has_none e m d b a)
+metadata_single e (Err c) (Ok n) a b = absurd (defect_has_none e n c a b)
+metadata_single e (Err c) (Err d) a b = ap metadata_refused (one_defect e c d a b)
+
+-- ---- 5. children
+
+module _ {X : Type 0} (one : Element → Check X) (s : (e : Element) → IsSingle (one e)) where
+  list_check_single : (e : Element) → IsSingle (list_check one e)
+  list_check_single e =
+      need_single (has_only [] e) Failure (each_element (λ index inner. one inner) 0 (parts_of e))
+      (each_single (λ index inner. one inner) (λ index inner. s inner) 0 (parts_of e))
+
+  list_at_single : (parts : List Part) → IsSingle (list_at one parts)
+  list_at_single [] = pass_single None
+  list_at_single (Child-F.Element e ∷ after) =
+      then_single (list_check one e) (λ xs. need (list_all is_white_part after) Failure (pass (Some xs))) (list_check_single e)
+      (λ xs. need_single (list_all is_white_part after) Failure (pass (Some xs)) (pass_single (Some xs)))
+  list_at_single (Child-F.Text text ∷ after) = fail_single Failure
+
+no_attributes_single : OneOfTable no_attributes
+no_attributes_single scope e = pass_single tt
+
+no_children_single : OneOfContent no_children
+no_children_single scopes parts = need_single (list_all is_white_part parts) Failure (pass tt) (pass_single tt)
+
+module _ (identifier_one : (e : Element) → IsSingle (identifier_check e)) where
+  identifiers_single : (most : ℕ) (before : List Identifier) (parts : List Part) → IsSingle (identifiers_check most before parts)
+  identifiers_single most before [] = pass_single []
+  identifiers_single most before (Child-F.Element e ∷ parts) =
+      then_single (identifier_check e)
+      (λ i. need (may_follow most before i) Failure
+      (check_then (identifiers_check most (before ++ i ∷ []) parts) (λ others. pass (i ∷ others))))
+      (identifier_one e)
+      (λ i. need_single (may_follow most before i) Failure
+      (check_then (identifiers_check most (before ++ i ∷ []) parts) (λ others. pass (i ∷ others)))
+      (then_single (identifiers_check most (before ++ i ∷ []) parts) (λ others. pass (i ∷ others))
+      (identifiers_single most (before ++ i ∷ []) parts) (λ others. pass_single (i ∷ others))))
+  identifiers_single most before (Child-F.Text text ∷ parts) =
+      need_single (list_all is_white text) Failure (identifiers_check most before parts) (identifiers_single most before parts)
+
+  start_single : OneOfContent start_content
+  start_single scopes parts =
+      then_single (identifiers_check 1 [] parts) (λ identifiers. need_some Failure (only_identifier identifiers) (λ i. pass i))
+      (identifiers_single 1 [] parts)
+      (λ identifiers. some_single Failure (only_identifier identifiers) (λ i. pass i) (λ i. pass_single i))
+
+  item_single : OneOfContent item_content
+  item_single scopes parts =
+      then_single (identifiers_check 2 [] parts) (λ identifiers. need_some Failure (item_of identifiers) (λ item. pass item))
+      (identifiers_single 2 [] parts)
+      (λ identifiers. some_single Failure (item_of identifiers) (λ item. pass item) (λ item. pass_single item))
+
+  published_single : OneOfContent published_content
+  published_single scopes parts =
+      then_single (identifiers_check 2 [] (before_list parts))
+      (λ identifiers. check_then (list_at metadata_check (from_list parts)) (λ list. published_from identifiers list))
+      (identifiers_single 2 [] (before_list parts))
+      (λ identifiers. then_single (list_at metadata_check (from_list parts)) (λ list. published_from identifiers list)
+      (list_at_single metadata_check metadata_single (from_list parts))
+      (λ list. some_single Failure (item_of identifiers) (λ item. need_some Failure list (λ elements. pass (both item elements)))
+      (λ item. some_single Failure list (λ elements. pass (both item elements)) (λ elements. pass_single (both item elements)))))
+
+-- ---- 6. operations and requests
+
+module _ (identifier_one : (e : Element) → IsSingle (identifier_check e)) (one_filter : OneFilter) where
+  search_attributes_single : OneOfTable search_attributes
+  search_attributes_single =
+      beside_single (filter_field (codes "match-links")) (beside depth_field (beside size_field
+      (beside (filter_field (codes "result-filter")) (beside kinds_field no_attributes))))
+      (read_filter_single one_filter)
+      (beside_single depth_field (beside size_field (beside (filter_field (codes "result-filter")) (beside kinds_field no_attributes)))
+      read_depth_single
+      (beside_single size_field (beside (filter_field (codes "result-filter")) (beside kinds_field no_attributes)) read_size_single
+      (beside_single (filter_field (codes "result-filter")) (beside kinds_field no_attributes) (read_filter_single one_filter)
+      (beside_single kinds_field no_attributes read_kinds_single no_attributes_single))))
+
+  publish_op_single : (scopes : Scopes) (e : Element) → IsSingle (publish_op_check scopes e)
+  publish_op_single scopes e =
+      or_single update_form update_of (beside_single lifetime_field no_attributes read_lifetime_single no_attributes_single)
+      (published_single identifier_one) scopes e
+      (form_or notify_form notify_of scopes e (form_or delete_form delete_of scopes e (fail Failure)))
+      (or_single notify_form notify_of no_attributes_single (published_single identifier_one) scopes e
+      (form_or delete_form delete_of scopes e (fail Failure))
+      (or_single delete_form delete_of
+      (beside_single (filter_field (codes "filter")) no_attributes (read_filter_single one_filter) no_attributes_single)
+      (item_single identifier_one) scopes e (fail Failure) (fail_single Failure)))
+
+  subscribe_op_single : (scopes : Scopes) (e : Element) → IsSingle (subscribe_op_check scopes e)
+  subscribe_op_single scopes e =
+      or_single subscription_form subscription_of
+      (beside_single name_field search_attributes read_name_single search_attributes_single) (start_single identifier_one) scopes e
+      (form_or end_form end_of scopes e (fail Failure))
+      (or_single end_form end_of (beside_single name_field no_attributes read_name_single no_attributes_single) no_children_single
+      scopes e (fail Failure) (fail_single Failure))
+
+  ops_single : OneOfContent (list_of publish_op_check)
+  ops_single scopes parts =
+      each_single (λ index e. publish_op_check (scopes_below scopes index) e) (λ index e. publish_op_single (scopes_below scopes index) e)
+      0 parts
+
+  subscriptions_single : OneOfContent (list_of subscribe_op_check)
+  subscriptions_single scopes parts =
+      each_single (λ index e. subscribe_op_check (scopes_below scopes index) e)
+      (λ index e. subscribe_op_single (scopes_below scopes index) e) 0 parts
+
+  limit_single : OneOfTable (beside limit_field no_attributes)
+  limit_single = beside_single limit_field no_attributes read_limit_single no_attributes_single
+
+  session_single : OneOfTable session_attribute
+  session_single = beside_single session_field no_attributes read_text_single no_attributes_single
+
+  purge_single : OneOfTable (beside session_field (beside publisher_field no_attributes))
+  purge_single =
+      beside_single session_field (beside publisher_field no_attributes) read_text_single
+      (beside_single publisher_field no_attributes read_text_single no_attributes_single)
+
+  module _ (scopes : Scopes) (e : Element) where
+    -- the chain from each of its forms on
+    abbrev from_purge : Check Request
+    from_purge = form_or purge_form purge_of scopes e (fail Failure)
+
+    abbrev from_subscribe : Check Request
+    from_subscribe = form_or subscribe_form subscribe_of scopes e from_purge
+
+    abbrev from_search : Check Request
+    from_search = form_or search_form search_of scopes e from_subscribe
+
+    abbrev from_poll : Check Request
+    from_poll = form_or poll_form poll_of scopes e from_search
+
+    abbrev from_end : Check Request
+    from_end = form_or end_session_form end_session_of scopes e from_poll
+
+    abbrev from_renew : Check Request
+    from_renew = form_or renew_form renewal_of scopes e from_end
+
+    purges : IsSingle from_purge
+    purges = or_single purge_form purge_of purge_single no_children_single scopes e (fail Failure) (fail_single Failure)
+
+    subscribes : IsSingle from_subscribe
+    subscribes = or_single subscribe_form subscribe_of session_single subscriptions_single scopes e from_purge purges
+
+    searches : IsSingle from_search
+    searches =
+        or_single search_form search_of (beside_single session_field search_attributes read_text_single search_attributes_single)
+        (start_single identifier_one) scopes e from_subscribe subscribes
+
+    polls : IsSingle from_poll
+    polls = or_single poll_form poll_of session_single no_children_single scopes e from_search searches
+
+    ends : IsSingle from_end
+    ends = or_single end_session_form end_session_of session_single no_children_single scopes e from_poll polls
+
+    renews : IsSingle from_renew
+    renews = or_single renew_form renewal_of session_single no_children_single scopes e from_end ends
+
+    others : IsSingle (other_request_check scopes e)
+    others = or_single new_session_form new_session_of limit_single no_children_single scopes e from_renew renews
+
+    named_single : IsSingle (named_request_check scopes e)
+    named_single = or_single publish_form publish_of session_single ops_single scopes e (other_request_check scopes e) others
+
+  pub request_single : (scopes : Scopes) (e : Element) → IsSingle (request_check scopes e)
+  request_single scopes e =
+      need_single (bytes_eq e.name.space ifmap_space) InvalidSchemaVersion (named_request_check scopes e) (named_single scopes e)

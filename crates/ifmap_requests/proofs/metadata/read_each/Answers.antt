@@ -1,0 +1,47 @@
+use Rattle.std.proofs.Common.{◌+◌, ℕ, List, arith, subst, sym}
+use Rattle.std.specs.Vec.Iter.{into_iter_items}
+use Rattle.ifmap_elem.specs.declared.elements.Child.{Child}
+use Rattle.ifmap_elem.specs.declared.elements.Element.{Element}
+use Rattle.ifmap_meta.specs.declared.metadata.Metadata.{Metadata}
+use Rattle.ifmap_forms.specs.AnswerLaws.{refused_exit}
+use Rattle.ifmap_forms.specs.Checks.{Check}
+use Rattle.ifmap_forms.specs.Gathering.{GoesOn, begins, elements_end, elements_further, elements_stop}
+use Rattle.ifmap_forms.specs.Tables.{each_element, parts_in}
+use Rattle.ifmap_requests.specs.Published.{metadata_check}
+use Rattle.ifmap_requests.proofs.PublishedLaws.{no_child}
+use Rattle.ifmap_requests.proofs.metadata.read_each.Goals as goal
+
+abbrev one : ℕ → Element → Check Metadata
+one index e = metadata_check e
+
+pub loop-child-init : goal.loop-child-init
+loop-child-init c =
+    let whole = each_element one 0 (parts_in c.args.children.items) in (
+      0,
+      subst (λ (cs : List Child). GoesOn whole (each_element one 0 (parts_in cs)) c.new-made.result.items) (sym c.into_iter.ensures.rest)
+          (begins whole c.new-made.result.items c.new-made.ensures.items),
+    )
+
+pub returns-in_err-found : goal.returns-in_err-found
+returns-in_err-found c =
+    let whole = each_element one 0 (parts_in c.args.children.items) in
+    refused_exit whole c.from_residual.result c.in_err-found.field-0.0 c.from_residual.ensures.1
+    (elements_stop whole one c.loop-child.invariant.0 (into_iter_items c.loop-child.child-iterator) c.loop-child.made.items
+    c.loop-child.invariant.1 c.in-Some.child (into_iter_items c.next.new.self) c.in-Some.ensures.steps.0 c.in_err-found.field-0.0
+    c.in_err-found.ensures)
+
+pub loop-child-preserved : goal.loop-child-preserved
+loop-child-preserved c =
+    let whole = each_element one 0 (parts_in c.args.children.items) in (
+      c.loop-child.invariant.0 + 1,
+      elements_further whole one c.loop-child.invariant.0 (into_iter_items c.loop-child.child-iterator) c.loop-child.made.items
+          c.loop-child.invariant.1 c.in-Some.child (into_iter_items c.next.new.self) c.in-Some.ensures.steps.0 c.in_ok-found.found
+          c.keep_found.new.members.items c.in_ok-found.ensures c.in_ok-keep_found.ensures,
+    )
+
+pub returns : goal.returns
+returns c =
+    elements_end (each_element one 0 (parts_in c.args.children.items)) one c.loop-child.invariant.0
+    (into_iter_items c.loop-child.child-iterator) c.loop-child.made.items c.loop-child.invariant.1
+    (no_child (into_iter_items c.loop-child.child-iterator)
+    (omega (arith, c.loop-child.child-iterator.rest.ok.0, c.in-None.ensures.steps.0)))

@@ -1,0 +1,39 @@
+use Rattle.std.proofs.Common.{◌≡◌, ◌∙◌, Bool, List, Ok, ap, codes, false, refl, subst, sym, true}
+use Rattle.std.specs.List.{list_all}
+use Rattle.ifmap_elem.specs.declared.elements.Child.{Child}
+use Rattle.ifmap_filter.specs.declared.filters.Filter.{Filter}
+use Rattle.ifmap_ident.specs.Parts.{value_of}
+use Rattle.ifmap_ident.specs.declared.codes.Code.TheVariants.{Failure}
+use Rattle.ifmap_reader.specs.declared.scoping.Scope.{Scope}
+use Rattle.ifmap_forms.specs.declared.errors.FormError.TheVariants.{Named}
+use Rattle.ifmap_forms.specs.AnswerLaws.{found_alone, found_beside, refused_alone, refused_at_field, refused_beside, refused_exit}
+use Rattle.ifmap_forms.specs.Answers.{IsRefused}
+use Rattle.ifmap_forms.specs.Items.{item_check}
+use Rattle.ifmap_forms.specs.Scopes.{place_scopes, scopes_by}
+use Rattle.ifmap_forms.specs.Tables.{beside, both, form_check, is_white_part, list_of, no_attributes, parts_in}
+use Rattle.ifmap_forms.specs.Values.{field_check, filter_field, lifetime_field, read_filter}
+use Rattle.ifmap_requests.specs.Published.{published_check, published_parts}
+use Rattle.ifmap_requests.specs.RequestForms.{delete_form, delete_of, notify_form, notify_of, publish_form, publish_of, publish_op_check, publisher_field, purge_form, purge_of, session_field, subscribe_form, subscribe_of, subscribe_op_check, update_form, update_of}
+use Rattle.ifmap_requests.proofs.FormLaws.{blank_children, made_of_form, other_children, read_no_attributes, read_no_content, read_others, read_whole, refused_form}
+use Rattle.ifmap_requests.proofs.PlaceLaws.{here}
+use Rattle.ifmap_requests.proofs.operations.read_notify.Goals as goal
+
+pub returns-then-not-has_only : goal.returns-then-not-has_only
+returns-then-not-has_only c = λ scopes.
+    let e = c.args.element in
+    refused_form notify_form notify_of scopes e (Named Failure) (read_others notify_form scopes e tt refl (sym c.has_only.ensures ∙ c.if-not-has_only.true))
+
+pub returns-in_err-published : goal.returns-in_err-published
+returns-in_err-published c = λ scopes.
+    let e = c.args.element in
+    let error = c.in_err-published.field-0.0 in
+    refused_exit (form_check notify_form notify_of scopes e) c.from_residual.result error c.from_residual.ensures.1
+    (refused_form notify_form notify_of scopes e error (read_no_content notify_form scopes e tt refl error (sym c.has_only.ensures ∙ c.if-not-has_only.false)
+    (subst (λ (cs : List Child). IsRefused (published_check (parts_in cs)) error) c.children.view_is c.in_err-published.ensures)))
+
+pub returns : goal.returns
+returns c = λ scopes.
+    let e = c.args.element in
+    made_of_form notify_form notify_of scopes e tt (published_parts c.in_ok-published.published)
+    (read_whole notify_form scopes e tt refl (published_parts c.in_ok-published.published) (sym c.has_only.ensures ∙ c.if-not-has_only.false)
+    (subst (λ (cs : List Child). published_check (parts_in cs) (Ok (published_parts c.in_ok-published.published))) c.children.view_is c.in_ok-published.ensures))

@@ -1,0 +1,5 @@
+pub mod Published
+pub mod RequestForms
+pub mod Means
+pub mod Answers
+pub mod Laws

@@ -1,0 +1,224 @@
+-- The table of requests: IF-MAP binding for SOAP, version 2.2, section 3.
+use Rattle.std.specs.Prelude.{ℕ, Bool, if◌then◌else◌, List, [], ◌∷◌, codes, Option, None, Some}
+use Rattle.std.specs.Str.{bytes_eq}
+use Rattle.ifmap_elem.specs.Building.{is_bare}
+use Rattle.ifmap_elem.specs.declared.elements.Element.{Element}
+use Rattle.ifmap_elem.specs.declared.elements.Name.{Name}
+use Rattle.ifmap_filter.specs.declared.filters.Filter.{Filter}
+use Rattle.ifmap_ident.specs.declared.codes.Code.TheVariants.{Failure, InvalidSchemaVersion}
+use Rattle.ifmap_ident.specs.declared.identifiers.Identifier.{Identifier}
+use Rattle.ifmap_ident.specs.declared.items.Item.{Item}
+use Rattle.ifmap_ident.specs.declared.kinds.Kind.{Kind}
+use Rattle.ifmap_meta.specs.declared.metadata.Metadata.{Metadata}
+use Rattle.ifmap_search.specs.declared.searches.Search.{Search}
+use Rattle.ifmap_reader.specs.declared.scoping.Scope.{Scope}
+use Rattle.ifmap_ident.specs.Parts.{has_only}
+use Rattle.ifmap_requests.specs.declared.searching.Bounds.{Bounds}
+use Rattle.ifmap_forms.specs.Checks.{Check, check_then, fail, need, pass}
+use Rattle.ifmap_forms.specs.Items.{item_content, start_check, start_content}
+use Rattle.ifmap_forms.specs.Scopes.{Scopes}
+use Rattle.ifmap_forms.specs.Tables.{Both, Content, Form, Table, bare_form, beside, both, form_or, list_of, no_attributes, no_children, parts_of}
+use Rattle.ifmap_forms.specs.Values.{Field, depth_field, filter_field, kinds_field, lifetime_field, limit_field, name_field, size_field, text_field}
+use Rattle.ifmap_requests.specs.declared.asking.Asking.{Asking}
+use Rattle.ifmap_requests.specs.declared.asking.Asking.TheVariants as asking
+use Rattle.ifmap_requests.specs.declared.operations.Operation.{Operation}
+use Rattle.ifmap_requests.specs.declared.operations.Operation.TheVariants as operation
+use Rattle.ifmap_requests.specs.declared.publishing.PublishOp.{PublishOp}
+use Rattle.ifmap_requests.specs.declared.publishing.PublishOp.TheVariants as publish
+use Rattle.ifmap_requests.specs.declared.requests.Request.{Request}
+use Rattle.ifmap_requests.specs.declared.requests.Request.TheVariants as request
+use Rattle.ifmap_requests.specs.declared.requests.SubscribeOp.{SubscribeOp}
+use Rattle.ifmap_requests.specs.declared.requests.SubscribeOp.TheVariants as subscribe
+use Rattle.ifmap_requests.specs.Published.{published_content}
+
+-- the namespace of requests and of responses
+abbrev pub ifmap_space : List ℕ
+ifmap_space = codes "http://www.trustedcomputinggroup.org/2010/IFMAP/2"
+
+-- ---- the operations of a publish
+
+abbrev pub update_form : Form (Both Bool (Unit {0})) (Both Item (List Metadata))
+update_form = bare_form (codes "update") (beside lifetime_field no_attributes) published_content
+
+abbrev pub notify_form : Form (Unit {0}) (Both Item (List Metadata))
+notify_form = bare_form (codes "notify") no_attributes published_content
+
+abbrev pub delete_form : Form (Both (Option Filter) (Unit {0})) Item
+delete_form = bare_form (codes "delete") (beside (filter_field (codes "filter")) no_attributes) item_content
+
+abbrev pub update_of : Both Bool (Unit {0}) → Both Item (List Metadata) → PublishOp
+update_of a published = publish.Update published.first published.others a.first
+
+abbrev pub notify_of : Unit {0} → Both Item (List Metadata) → PublishOp
+notify_of none published = publish.Notify published.first published.others
+
+abbrev pub delete_of : Both (Option Filter) (Unit {0}) → Item → PublishOp
+delete_of a item = publish.Delete item a.first
+
+-- the operation that is so named
+abbrev pub operation_of : Name → Option Operation
+operation_of name =
+    if is_bare (codes "update") name then Some operation.Update else if is_bare (codes "notify") name then Some operation.Notify
+    else if is_bare (codes "delete") name then Some operation.Delete else None
+
+abbrev pub publish_op_check : Scopes → Element → Check PublishOp
+publish_op_check scopes e =
+    form_or update_form update_of scopes e (form_or notify_form notify_of scopes e (form_or delete_form delete_of scopes e
+    (fail Failure)))
+
+-- ---- searches
+
+-- what the attributes of a search say, in the table's order
+abbrev pub SearchValues : Type 0
+SearchValues = Both (Option Filter) (Both ℕ (Both ℕ (Both (Option Filter) (Both (List Kind) (Unit {0})))))
+
+abbrev pub search_attributes : Table SearchValues
+search_attributes =
+    beside (filter_field (codes "match-links")) (beside depth_field (beside size_field
+    (beside (filter_field (codes "result-filter")) (beside kinds_field no_attributes))))
+
+abbrev pub search_from : Identifier → SearchValues → Search
+search_from start values =
+    record {
+      start = start;
+      match_links = values.first;
+      max_depth = values.others.first;
+      max_size = values.others.others.first;
+      result_filter = values.others.others.others.first;
+      terminal = values.others.others.others.others.first;
+    }
+
+-- a search: its attributes, then those that an element may have, then its start
+abbrev pub search_check : List (List ℕ) → Scope → Element → Check Search
+search_check locals scope e =
+    check_then (search_attributes.reads scope e)
+    (λ values. need (has_only locals e) Failure
+    (check_then (start_check (parts_of e)) (λ start. pass (search_from start values))))
+
+-- the values of what the code keeps of the attributes
+abbrev pub values_of : Bounds → SearchValues
+values_of bounds =
+    both bounds.match_links (both bounds.max_depth (both bounds.max_size (both bounds.result_filter (both bounds.terminal tt))))
+
+-- ---- the operations of a subscribe
+
+abbrev pub subscription_form : Form (Both (List ℕ) SearchValues) Identifier
+subscription_form = bare_form (codes "update") (beside name_field search_attributes) start_content
+
+abbrev pub end_form : Form (Both (List ℕ) (Unit {0})) (Unit {0})
+end_form = bare_form (codes "delete") (beside name_field no_attributes) no_children
+
+abbrev pub subscription_of : Both (List ℕ) SearchValues → Identifier → SubscribeOp
+subscription_of a start = subscribe.Update a.first (search_from start a.others)
+
+abbrev pub end_of : Both (List ℕ) (Unit {0}) → Unit {0} → SubscribeOp
+end_of a none = subscribe.Delete a.first
+
+abbrev pub subscribe_op_check : Scopes → Element → Check SubscribeOp
+subscribe_op_check scopes e =
+    form_or subscription_form subscription_of scopes e (form_or end_form end_of scopes e (fail Failure))
+
+-- ---- requests
+
+-- the names of requests but for a publish
+abbrev pub asking_name : Asking → List ℕ
+asking_name asking.NewSession = codes "newSession"
+asking_name asking.RenewSession = codes "renewSession"
+asking_name asking.EndSession = codes "endSession"
+asking_name asking.Poll = codes "poll"
+asking_name asking.Search = codes "search"
+asking_name asking.Subscribe = codes "subscribe"
+asking_name asking.PurgePublisher = codes "purgePublisher"
+
+module _ {A C : Type 0} where
+  -- a form of a request, beside whose attributes `validation` is passed over
+  abbrev pub asking_form : List ℕ → Table A → Content C → Form A C
+  asking_form local attributes content =
+      record {
+        name = record { space = ifmap_space; local = local };
+        passed_over = codes "validation" ∷ [];
+        attributes = attributes;
+        content = content;
+      }
+
+-- what a request carries that has the id of a session alone
+abbrev pub WithSession : Type 0
+WithSession = Both (List ℕ) (Unit {0})
+
+abbrev pub session_field : Field (List ℕ)
+session_field = text_field (codes "session-id")
+
+abbrev pub session_attribute : Table WithSession
+session_attribute = beside session_field no_attributes
+
+abbrev pub new_session_form : Form (Both (Option ℕ) (Unit {0})) (Unit {0})
+new_session_form = asking_form (asking_name asking.NewSession) (beside limit_field no_attributes) no_children
+
+abbrev pub renew_form : Form WithSession (Unit {0})
+renew_form = asking_form (asking_name asking.RenewSession) session_attribute no_children
+
+abbrev pub end_session_form : Form WithSession (Unit {0})
+end_session_form = asking_form (asking_name asking.EndSession) session_attribute no_children
+
+abbrev pub poll_form : Form WithSession (Unit {0})
+poll_form = asking_form (asking_name asking.Poll) session_attribute no_children
+
+abbrev pub publish_form : Form WithSession (List PublishOp)
+publish_form = asking_form (codes "publish") session_attribute (list_of publish_op_check)
+
+abbrev pub search_form : Form (Both (List ℕ) SearchValues) Identifier
+search_form = asking_form (asking_name asking.Search) (beside session_field search_attributes) start_content
+
+abbrev pub subscribe_form : Form WithSession (List SubscribeOp)
+subscribe_form = asking_form (asking_name asking.Subscribe) session_attribute (list_of subscribe_op_check)
+
+abbrev pub publisher_field : Field (List ℕ)
+publisher_field = text_field (codes "ifmap-publisher-id")
+
+abbrev pub purge_form : Form (Both (List ℕ) WithSession) (Unit {0})
+purge_form = asking_form (asking_name asking.PurgePublisher) (beside session_field (beside publisher_field no_attributes)) no_children
+
+-- what the request of that session carries
+abbrev pub session_alone : List ℕ → Both WithSession (Unit {0})
+session_alone session = both (both session tt) tt
+
+abbrev pub new_session_of : Both (Option ℕ) (Unit {0}) → Unit {0} → Request
+new_session_of a none = request.NewSession a.first
+
+abbrev pub renewal_of : WithSession → Unit {0} → Request
+renewal_of a none = request.RenewSession a.first
+
+abbrev pub end_session_of : WithSession → Unit {0} → Request
+end_session_of a none = request.EndSession a.first
+
+abbrev pub publish_of : WithSession → List PublishOp → Request
+publish_of a ops = request.Publish a.first ops
+
+abbrev pub search_of : Both (List ℕ) SearchValues → Identifier → Request
+search_of a start = request.Search a.first (search_from start a.others)
+
+abbrev pub subscribe_of : WithSession → List SubscribeOp → Request
+subscribe_of a ops = request.Subscribe a.first ops
+
+abbrev pub poll_of : WithSession → Unit {0} → Request
+poll_of a none = request.Poll a.first
+
+abbrev pub purge_of : Both (List ℕ) WithSession → Unit {0} → Request
+purge_of a none = request.PurgePublisher a.first a.others.first
+
+-- the request of an element by its name, where it is no publish
+abbrev pub other_request_check : Scopes → Element → Check Request
+other_request_check scopes e =
+    form_or new_session_form new_session_of scopes e (form_or renew_form renewal_of scopes e
+    (form_or end_session_form end_session_of scopes e (form_or poll_form poll_of scopes e
+    (form_or search_form search_of scopes e (form_or subscribe_form subscribe_of scopes e
+    (form_or purge_form purge_of scopes e (fail Failure)))))))
+
+-- the request of an element in the namespace of requests, by its name
+abbrev pub named_request_check : Scopes → Element → Check Request
+named_request_check scopes e = form_or publish_form publish_of scopes e (other_request_check scopes e)
+
+-- the request that an element means, where its scopes are these, or the code of its first defect in the order of the document;
+-- another namespace comes before all others
+abbrev pub request_check : Scopes → Element → Check Request
+request_check scopes e = need (bytes_eq e.name.space ifmap_space) InvalidSchemaVersion (named_request_check scopes e)

@@ -1,0 +1,216 @@
+//! The element of a request.
+ghost use Rattle.std.specs.Prelude.{◌≡◌, true, IfSome, IsNone, None};
+ghost use Rattle.std.specs.Str.{bytes_eq};
+ghost use Rattle.ifmap_filter.specs.Holding.{is_name};
+ghost use Rattle.ifmap_requests.specs.declared.asking.Asking.{Asking};
+ghost use Rattle.ifmap_forms.specs.Answers.{IsChecked, IsCheckedAs};
+ghost use Rattle.ifmap_forms.specs.Scopes.{Scopes, scopes_by};
+ghost use Rattle.ifmap_forms.specs.Tables.{form_check, read_form};
+ghost use Rattle.ifmap_requests.specs.RequestForms.{asking_name, end_session_form, end_session_of, ifmap_space, new_session_form, new_session_of, other_request_check, poll_form, poll_of, publish_form, publish_of, purge_form, purge_of, renew_form, renewal_of, request_check, search_form, search_of, session_alone, subscribe_form, subscribe_of};
+
+use crate::operations::read_publish_ops;
+use crate::requests::Request;
+use crate::searching::read_search;
+use crate::subscribing::read_subscribe_ops;
+use ifmap_elem::{Element, Many, Name, Text};
+use ifmap_forms::parts::{are_blank, has_only};
+use ifmap_forms::values::{read_limit, read_text};
+use ifmap_forms::{FormError, Place};
+use ifmap_ident::Code;
+use std::alloc::Global;
+
+const SPACE: &str = "http://www.trustedcomputinggroup.org/2010/IFMAP/2";
+
+// The request that an element at a place means.
+pub(crate) fn read_element(
+    alloc: Global,
+    place: &Place<'_>,
+    element: Element,
+) -> Result<Request, FormError>
+    requires { place.now.child ≡ None }
+    ensures { IsChecked (request_check (scopes_by place.now.declared.now place.now.path.now) element)
+        result }
+{
+    if !is_asked(&element.name) {
+        return Err(FormError::Named(Code::InvalidSchemaVersion));
+    }
+    if is_publish(&element.name) {
+        return read_publish(alloc, place, element);
+    }
+    read_named(alloc, place, &element)
+}
+
+// Whether the name is in the namespace of requests.
+fn is_asked(name: &Name) -> bool
+    ensures { result ≡ bytes_eq name.now.space ifmap_space }
+{
+    name.space.as_str() == SPACE
+}
+
+fn is_publish(name: &Name) -> bool
+    ensures { result ≡ is_name name.now publish_form.name }
+{
+    is_asked(name) && name.local.as_str() == "publish"
+}
+
+/// The name of a request that is no publish.
+pub enum Asking {
+    NewSession,
+    RenewSession,
+    EndSession,
+    Poll,
+    Search,
+    Subscribe,
+    PurgePublisher,
+}
+
+fn asking_of(local: &str) -> Option<Asking>
+    ensures found { IfSome result (λ asking. local.now ≡ asking_name asking) }
+    ensures none { IsNone result → (asking : Asking) → local.now ≡ asking_name asking → ⊥ }
+{
+    match local {
+        "newSession" => Some(Asking::NewSession),
+        "renewSession" => Some(Asking::RenewSession),
+        "endSession" => Some(Asking::EndSession),
+        "poll" => Some(Asking::Poll),
+        "search" => Some(Asking::Search),
+        "subscribe" => Some(Asking::Subscribe),
+        "purgePublisher" => Some(Asking::PurgePublisher),
+        _ => None,
+    }
+}
+
+// The request that an element means which is no publish.
+fn read_named(alloc: Global, place: &Place<'_>, element: &Element) -> Result<Request, FormError>
+    requires place { place.now.child ≡ None }
+    requires space { bytes_eq element.now.name.space ifmap_space ≡ true }
+    ensures { IsChecked (other_request_check (scopes_by place.now.declared.now place.now.path.now)
+        element.now) result }
+{
+    match asking_of(element.name.local.as_str()) {
+        Some(Asking::NewSession) => read_new_session(element),
+        Some(Asking::RenewSession) => read_renewal(alloc, element),
+        Some(Asking::EndSession) => read_end_session(alloc, element),
+        Some(Asking::Poll) => read_poll(alloc, element),
+        Some(Asking::Search) => read_asked_search(alloc, place, element),
+        Some(Asking::Subscribe) => read_subscribe(alloc, place, element),
+        Some(Asking::PurgePublisher) => read_purge(alloc, element),
+        None => Err(FormError::Named(Code::Failure)),
+    }
+}
+
+fn read_renewal(alloc: Global, element: &Element) -> Result<Request, FormError>
+    ensures { (scopes : Scopes) → IsChecked (form_check renew_form renewal_of scopes element.now)
+        result }
+{
+    let session = read_session(alloc, element)?;
+    Ok(Request::RenewSession { session })
+}
+
+fn read_end_session(alloc: Global, element: &Element) -> Result<Request, FormError>
+    ensures { (scopes : Scopes) → IsChecked (form_check end_session_form end_session_of scopes
+        element.now) result }
+{
+    let session = read_session(alloc, element)?;
+    Ok(Request::EndSession { session })
+}
+
+fn read_poll(alloc: Global, element: &Element) -> Result<Request, FormError>
+    ensures { (scopes : Scopes) → IsChecked (form_check poll_form poll_of scopes element.now) result }
+{
+    let session = read_session(alloc, element)?;
+    Ok(Request::Poll { session })
+}
+
+fn read_new_session(element: &Element) -> Result<Request, FormError>
+    ensures { (scopes : Scopes) → IsChecked (form_check new_session_form new_session_of scopes
+        element.now) result }
+{
+    let limit = read_limit(element)?;
+    if !has_only(element, &["validation", "max-poll-result-size"]) {
+        return Err(FormError::Named(Code::Failure));
+    }
+    if !are_blank(element.children.as_slice()) {
+        return Err(FormError::Named(Code::Failure));
+    }
+    Ok(Request::NewSession { limit })
+}
+
+// The id of the session in a request that has nothing else.
+fn read_session(alloc: Global, element: &Element) -> Result<Text, FormError>
+    ensures { (scopes : Scopes) → IsCheckedAs session_alone (read_form renew_form scopes element.now)
+        result }
+{
+    let session = read_text(alloc, element, "session-id")?;
+    if !has_only(element, &["validation", "session-id"]) {
+        return Err(FormError::Named(Code::Failure));
+    }
+    if !are_blank(element.children.as_slice()) {
+        return Err(FormError::Named(Code::Failure));
+    }
+    Ok(session)
+}
+
+fn read_publish(alloc: Global, place: &Place<'_>, element: Element) -> Result<Request, FormError> {
+    let session = read_text(alloc, &element, "session-id")?;
+    if !has_only(&element, &["validation", "session-id"]) {
+        return Err(FormError::Named(Code::Failure));
+    }
+    let children = element.children;
+    let ops = read_publish_ops(alloc, place, children.0)?;
+    Ok(Request::Publish { session, ops })
+}
+
+fn read_asked_search(
+    alloc: Global,
+    place: &Place<'_>,
+    element: &Element,
+) -> Result<Request, FormError>
+    requires { place.now.child ≡ None }
+    ensures { IsChecked (form_check search_form search_of (scopes_by place.now.declared.now
+        place.now.path.now) element.now) result }
+{
+    let session = read_text(alloc, element, "session-id")?;
+    let search = read_search(
+        alloc,
+        place,
+        element,
+        &[
+            "validation",
+            "session-id",
+            "match-links",
+            "max-depth",
+            "max-size",
+            "result-filter",
+            "terminal-identifier-type",
+        ],
+    )?;
+    Ok(Request::Search { session, search })
+}
+
+fn read_subscribe(alloc: Global, place: &Place<'_>, element: &Element) -> Result<Request, FormError>
+    requires { place.now.child ≡ None }
+    ensures { IsChecked (form_check subscribe_form subscribe_of (scopes_by place.now.declared.now
+        place.now.path.now) element.now) result }
+{
+    let session = read_text(alloc, element, "session-id")?;
+    if !has_only(element, &["validation", "session-id"]) {
+        return Err(FormError::Named(Code::Failure));
+    }
+    let ops = read_subscribe_ops(alloc, place, element.children.as_slice())?;
+    Ok(Request::Subscribe { session, ops })
+}
+
+fn read_purge(alloc: Global, element: &Element) -> Result<Request, FormError>
+    ensures { (scopes : Scopes) → IsChecked (form_check purge_form purge_of scopes element.now) result }
+{
+    let session = read_text(alloc, element, "session-id")?;
+    let publisher = read_text(alloc, element, "ifmap-publisher-id")?;
+    if !has_only(element, &["validation", "session-id", "ifmap-publisher-id"]) {
+        return Err(FormError::Named(Code::Failure));
+    }
+    if !are_blank(element.children.as_slice()) {
+        return Err(FormError::Named(Code::Failure));
+    }
+    Ok(Request::PurgePublisher { session, publisher })
+}
