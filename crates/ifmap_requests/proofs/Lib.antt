@@ -4,3 +4,5 @@ pub mod FormLaws
 pub mod NameLaws
 pub mod ReadingLaws
 pub mod PlaceLaws
+pub mod MeaningLaws
+pub mod FitLaws

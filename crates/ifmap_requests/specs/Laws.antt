@@ -1,10 +1,11 @@
 -- What holds of every request.
-use Rattle.std.specs.Prelude.{◌≡◌, ℕ, List, Result}
+use Rattle.std.specs.Prelude.{◌≡◌, ℕ, List, Result, Ok}
 use Rattle.ifmap_elem.specs.Fit.{IsFit}
 use Rattle.ifmap_elem.specs.declared.elements.Element.{Element}
 use Rattle.ifmap_ident.specs.declared.codes.Code.{Code}
 use Rattle.ifmap_requests.specs.declared.errors.Refusal.{Refusal}
 use Rattle.ifmap_requests.specs.declared.requests.Request.{Request}
+use Rattle.ifmap_requests.specs.Fit.{IsFitRequest}
 use Rattle.ifmap_requests.specs.Means.{Means}
 use Rattle.ifmap_requests.specs.RequestForms.{request_check}
 use Rattle.ifmap_forms.specs.Scopes.{Scopes}
@@ -25,3 +26,7 @@ OneMeaning = (bytes : List ℕ) (one other : Result Request Refusal) → Means b
 
 abbrev pub SomeMeaning : Type 0
 SomeMeaning = (bytes : List ℕ) → (meaning : Result Request Refusal) × Means bytes meaning
+
+-- every request that a body means is fit
+abbrev pub FitMeaning : Type 0
+FitMeaning = (bytes : List ℕ) (request : Request) → Means bytes (Ok request) → IsFitRequest request

@@ -2,4 +2,5 @@ pub mod Published
 pub mod RequestForms
 pub mod Means
 pub mod Answers
+pub mod Fit
 pub mod Laws
