@@ -3,8 +3,7 @@
 -- 2. What checks give, for what is composed of checks: it is enough to know it of the smallest ones.
 -- 3. Attributes, 4. identifiers and items, 5. metadata.
 -- 6. Operations and requests: each is one more form in a chain. 7. Bodies.
-use Rattle.std.proofs.Common.{◌≡◌, ◌⊎◌, ◌∙◌, ◌<◌, ◌≤◌, ◌+◌, ◌++◌, ℕ, suc, max, min, Bool, true, false, List, [], ◌∷◌, map, Option, None, Some, IfSome, Result, Ok, Err, codes, length, inl, inr, refl, ap, arith, subst, sym}
-use Rattle.std.proofs.lemmas.Bool.{cases_Bool}
+use Rattle.std.proofs.Common.{◌≡◌, ◌≤◌, ◌+◌, ◌++◌, ℕ, suc, Bool, true, false, List, [], ◌∷◌, map, Option, None, Some, IfSome, Result, Ok, Err, length, refl, arith, subst, sym}
 use Rattle.std.specs.Prelude.{◌&&◌, nat_le, option_map, if◌then◌else◌}
 use Rattle.std.specs.List.{AllByRecursion, find, flat_map, list_all}
 use Rattle.std.specs.Str.{bytes_eq}
@@ -20,24 +19,20 @@ use Rattle.ifmap_elem.specs.Nesting.{child_levels, child_nesting, element_levels
 use Rattle.ifmap_elem.specs.Spells.{Spells}
 use Rattle.ifmap_elem.specs.declared.elements.Attribute.{Attribute}
 use Rattle.ifmap_elem.specs.declared.elements.Child.{Child, out-Child}
-use Rattle.ifmap_elem.specs.declared.elements.Child as the
 use Rattle.ifmap_elem.specs.declared.elements.Child.TheOpen.{Child-F}
 use Rattle.ifmap_elem.specs.declared.elements.Element.{Element}
 use Rattle.ifmap_elem.specs.declared.readings.Reading.{Reading}
 use Rattle.ifmap_elem.specs.laws.FitLaws.{elements_in, elements_of_child, fit_parts, out_element, out_text}
-use Rattle.ifmap_envelopes.specs.Envelopes.{IsAlone, IsEnvelope}
+use Rattle.ifmap_envelopes.specs.Envelopes.{IsEnvelope}
 use Rattle.ifmap_filter.specs.Holding.{is_name}
-use Rattle.ifmap_filter.specs.declared.filters.Filter.{Filter}
 use Rattle.ifmap_reader.specs.declared.scoping.Scope.{Scope}
 use Rattle.ifmap_ident.specs.declared.codes.Code.{Code}
 use Rattle.ifmap_ident.specs.declared.codes.Code.TheVariants.{Failure, InvalidSchemaVersion}
 use Rattle.ifmap_ident.specs.declared.identifiers.Identifier.{Identifier}
 use Rattle.ifmap_ident.specs.declared.items.Item.{Item}
-use Rattle.ifmap_ident.specs.declared.items.Item.TheVariants.{One, Pair}
-use Rattle.ifmap_ident.specs.declared.kinds.Kind.{Kind}
 use Rattle.ifmap_ident.specs.Canon.{IsIdentifier}
 use Rattle.ifmap_ident.specs.Identifiers.{identifier_bytes, identifier_order}
-use Rattle.ifmap_ident.specs.Items.{IsCanonItem, ordered_pair, pair_of}
+use Rattle.ifmap_ident.specs.Items.{IsCanonItem, ordered_pair}
 use Rattle.ifmap_ident.specs.Parts.{has_only, value_of}
 use Rattle.ifmap_meta.specs.declared.metadata.Metadata.{Metadata}
 use Rattle.ifmap_meta.specs.Whole.{IsMadeOf, IsMetadata, level_limit}
@@ -45,14 +40,12 @@ use Rattle.ifmap_forms.specs.Checks.{Check, check_if, check_then, fail, need, ne
 use Rattle.ifmap_forms.specs.Items.{before_list, from_list, identifier_check, identifiers_check, is_list, item_content, item_of, list_at, list_check, may_follow, only_identifier, start_content}
 use Rattle.ifmap_forms.specs.Scopes.{Scopes, scopes_below}
 use Rattle.ifmap_forms.specs.Tables.{Both, Content, Form, Part, Table, beside, both, each_element, form_check, form_or, is_white_part, list_of, no_attributes, no_children, parts_in, parts_of, read_form}
-use Rattle.ifmap_forms.specs.Values.{Field, depth_field, field_check, filter_field, kinds_field, lifetime_field, limit_field, name_field, number_of, size_field, text_field, within}
-use Rattle.ifmap_requests.specs.declared.publishing.PublishOp.{PublishOp}
+use Rattle.ifmap_forms.specs.Values.{Field, field_check, limit_field, name_field, number_of, text_field, within}
 use Rattle.ifmap_requests.specs.declared.requests.Request.{Request}
-use Rattle.ifmap_requests.specs.declared.requests.SubscribeOp.{SubscribeOp}
 use Rattle.ifmap_requests.specs.Fit.{IsFitLimit, IsFitOp, IsFitRequest, IsFitSubscribeOp}
-use Rattle.ifmap_requests.specs.Means.{BodyFinds, Means, scopes_from}
+use Rattle.ifmap_requests.specs.Means.{Means, scopes_from}
 use Rattle.ifmap_requests.specs.Published.{metadata_check, published_content, published_from}
-use Rattle.ifmap_requests.specs.RequestForms.{SearchValues, WithSession, delete_form, delete_of, end_form, end_of, end_session_form, end_session_of, ifmap_space, named_request_check, new_session_form, new_session_of, notify_form, notify_of, other_request_check, poll_form, poll_of, publish_form, publish_of, publish_op_check, publisher_field, purge_form, purge_of, renew_form, renewal_of, request_check, search_attributes, search_form, search_of, session_attribute, session_field, subscribe_form, subscribe_of, subscribe_op_check, subscription_form, subscription_of, update_form, update_of}
+use Rattle.ifmap_requests.specs.RequestForms.{WithSession, delete_form, delete_of, end_form, end_of, end_session_form, end_session_of, ifmap_space, named_request_check, new_session_form, new_session_of, notify_form, notify_of, other_request_check, poll_form, poll_of, publish_form, publish_of, publish_op_check, publisher_field, purge_form, purge_of, renew_form, renewal_of, request_check, search_attributes, search_form, search_of, session_attribute, session_field, subscribe_form, subscribe_of, subscribe_op_check, subscription_form, subscription_of, update_form, update_of}
 
 -- ---- 1. what is in an element
 
@@ -103,10 +96,10 @@ first_value : (b : Bool) (a : Attribute) (rest : Option Attribute) (text : List 
 first_value true a rest text fit later e = let same : a.value ≡ text = cc in subst IsCharacters same fit.value
 first_value false a rest text fit later e = later e
 
-found_value : (p : Attribute → Bool) (as : List Attribute) → AllByRecursion IsFitAttribute as → (text : List ℕ)
-    → value_in (find p as) ≡ Some text → IsCharacters text
+found_value : (p : Attribute → Bool) (attributes : List Attribute) → AllByRecursion IsFitAttribute attributes → (text : List ℕ)
+    → value_in (find p attributes) ≡ Some text → IsCharacters text
 found_value p [] fit text e = cc
-found_value p (a ∷ as) fit text e = first_value (p a) a (find p as) text fit.0 (found_value p as fit.1 text) e
+found_value p (a ∷ attributes) fit text e = first_value (p a) a (find p attributes) text fit.0 (found_value p attributes fit.1 text) e
 
 value_sound : (local : List ℕ) (e : Element) → IsSound e → (text : Option (List ℕ)) → value_of local e ≡ text → IfSome text IsCharacters
 value_sound local e s None is = tt
@@ -275,7 +268,7 @@ ordered_fit : (o : Ordering) (a b : Identifier) → identifier_order a b ≡ o �
 ordered_fit Less a b is p q = record { ordered = is; identifiers = (p, (q, tt)) }
 ordered_fit Equal a b is p q = tt
 ordered_fit Greater a b is p q =
-    record { ordered = slice_cmp-turn (identifier_bytes a) (identifier_bytes b) is; identifiers = (q, (p, tt)) }
+    record { ordered = slice_cmp-turn (identifier_bytes a) (identifier_bytes b) (sym is); identifiers = (q, (p, tt)) }
 
 item_fit : (identifiers : List Identifier) → AreIdentifiers identifiers → IfSome (item_of identifiers) IsCanonItem
 item_fit [] s = tt

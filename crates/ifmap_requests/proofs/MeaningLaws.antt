@@ -4,7 +4,6 @@ use Rattle.ifmap_elem.specs.Spells.{Spells}
 use Rattle.ifmap_elem.specs.declared.elements.Element.{Element}
 use Rattle.ifmap_elem.specs.declared.readings.Reading.{Reading}
 use Rattle.ifmap_envelopes.specs.Envelopes.{IsEnvelope, OneEnvelope}
-use Rattle.ifmap_forms.specs.Scopes.{Scopes}
 use Rattle.ifmap_ident.specs.declared.codes.Code.{Code}
 use Rattle.ifmap_requests.specs.declared.errors.Refusal.{Refusal}
 use Rattle.ifmap_requests.specs.declared.errors.Refusal.TheVariants.{Named, Unreadable, NoMemory}

@@ -1,6 +1,6 @@
 -- Requests that are fit: each text in them is one that a document can have, each identifier and item is one that elements of a
 -- document are, what they publish can be published, and a limit is within its range. What filters are is not said here yet.
-use Rattle.std.specs.Prelude.{ℕ, ◌≤◌, List, Option, IfSome}
+use Rattle.std.specs.Prelude.{ℕ, ◌≤◌, Option, IfSome}
 use Rattle.std.specs.List.{AllByRecursion}
 use Rattle.ifmap_elem.specs.Chars.{IsCharacters}
 use Rattle.ifmap_ident.specs.Canon.{IsIdentifier}
