@@ -1,5 +1,5 @@
 -- What a frame asks of the machine, by what its body means; and that it is fit.
-use Rattle.std.proofs.Common.{◌≡◌, ℕ, List, [], ◌∷◌, length, Option, None, Some, Result, Ok, Err, OnOk, IfOk, refl, ap, subst, sym, ◌∙◌, false}
+use Rattle.std.proofs.Common.{◌≡◌, ℕ, List, [], ◌∷◌, length, Option, None, Some, Result, Ok, Err, OnOk, IfOk, refl, ap, subst, ◌∙◌, false}
 use Rattle.std.specs.Prelude.{Bool, true, option_and_then, option_map, if◌then◌else◌}
 use Rattle.std.specs.List.{AllByRecursion}
 use Rattle.ifmap_core.specs.declared.events.Ask.TheVariants as ask
@@ -9,7 +9,6 @@ use Rattle.ifmap_ident.specs.declared.codes.Code.{Code}
 use Rattle.ifmap_msg.specs.Fit as machine
 use Rattle.ifmap_msg.specs.declared.requests.PublishOp.{PublishOp as MachineOp}
 use Rattle.ifmap_msg.specs.declared.requests.PublishOp.TheVariants as machine_op
-use Rattle.ifmap_msg.specs.declared.requests.Request.{Request as MachineRequest}
 use Rattle.ifmap_msg.specs.declared.requests.Request.TheVariants as machine_request
 use Rattle.ifmap_msg.specs.declared.requests.Search.{Search as MachineSearch}
 use Rattle.ifmap_requests.specs.declared.errors.Refusal.TheVariants.{Named, Unreadable}
@@ -44,8 +43,8 @@ moved_by P Q f (Some x) m g y e = let same : f x ≡ y = cc in subst Q same (g x
 op_fit : (op : PublishOp) → IsFitOp op → Moved machine.IsFitOp (machine_op_of op)
 op_fit (Update item elements forever) fit x e =
     let same : machine_op.Update item elements forever ≡ x = cc in subst machine.IsFitOp same fit
-op_fit (Notify item elements) fit = none_moved machine.IsFitOp
-op_fit (Delete item filter) fit = none_moved machine.IsFitOp
+op_fit (Notify item elements) fit x e = none_moved machine.IsFitOp x e
+op_fit (Delete item filter) fit x e = none_moved machine.IsFitOp x e
 
 one_more : (o : Option MachineOp) (rest : Option (List MachineOp)) → Moved machine.IsFitOp o → Moved machine.AreFitOps rest
     → Moved machine.AreFitOps (option_and_then (λ one. option_map (λ others. one ∷ others) rest) o)
@@ -55,38 +54,38 @@ one_more (Some one) rest m later =
 
 ops_fit : (ops : List PublishOp) → AllByRecursion IsFitOp ops → Moved machine.AreFitOps (machine_ops_of ops)
 ops_fit [] fit x e = let same : [] ≡ x = cc in subst machine.AreFitOps same tt
-ops_fit (op ∷ ops) fit = one_more (machine_op_of op) (machine_ops_of ops) (op_fit op fit.0) (ops_fit ops fit.1)
+ops_fit (op ∷ ops) fit x e = one_more (machine_op_of op) (machine_ops_of ops) (op_fit op fit.0) (ops_fit ops fit.1) x e
 
-module _ (search : the.Search) where
-  abbrev IsOfStart : MachineSearch → Type 0
-  IsOfStart x = x.start ≡ search.start
+module _ (asked : the.Search) where
+  abbrev StartsThere : MachineSearch → Type 0
+  StartsThere x = x.start ≡ asked.start
 
   abbrev moved_search : MachineSearch
-  moved_search = record { start = search.start; max_size = search.max_size }
+  moved_search = record { start = asked.start; max_size = asked.max_size }
 
-  moved_where : (b : Bool) → Moved IsOfStart (if b then Some moved_search else None)
-  moved_where true x e = let same : moved_search ≡ x = cc in subst IsOfStart same refl
+  moved_where : (b : Bool) → Moved StartsThere (if b then Some moved_search else None)
+  moved_where true x e = let same : moved_search ≡ x = cc in subst StartsThere same refl
   moved_where false x e = cc
 
-  search_moved : Moved IsOfStart (machine_search_of search)
-  search_moved = moved_where (is_of_start search)
+  search_moved : Moved StartsThere (machine_search_of asked)
+  search_moved = moved_where (is_of_start asked)
 
 pub request_fit : (request : Request) → IsFitRequest request → Moved machine.IsFitRequest (machine_request_of request)
 request_fit (NewSession None) fit x e =
     let same : machine_request.NewSession ≡ x = cc in subst machine.IsFitRequest same tt
-request_fit (NewSession (Some limit)) fit = none_moved machine.IsFitRequest
-request_fit (RenewSession session) fit = none_moved machine.IsFitRequest
+request_fit (NewSession (Some limit)) fit x e = none_moved machine.IsFitRequest x e
+request_fit (RenewSession session) fit x e = none_moved machine.IsFitRequest x e
 request_fit (EndSession session) fit x e =
     let same : machine_request.EndSession session ≡ x = cc in subst machine.IsFitRequest same fit
-request_fit (Publish session ops) fit =
+request_fit (Publish session ops) fit x e =
     moved_by machine.AreFitOps machine.IsFitRequest (λ (moved : List MachineOp). machine_request.Publish session moved)
-    (machine_ops_of ops) (ops_fit ops fit.1) (λ moved p. (fit.0, p))
-request_fit (Search session search) fit =
-    moved_by (IsOfStart search) machine.IsFitRequest (λ (moved : MachineSearch). machine_request.Search session moved)
-    (machine_search_of search) (search_moved search) (λ moved p. (fit.0, rw p fit.1))
-request_fit (Subscribe session ops) fit = none_moved machine.IsFitRequest
-request_fit (Poll session) fit = none_moved machine.IsFitRequest
-request_fit (PurgePublisher session publisher) fit = none_moved machine.IsFitRequest
+    (machine_ops_of ops) (ops_fit ops fit.1) (λ moved p. (fit.0, p)) x e
+request_fit (Search session asked) fit x e =
+    moved_by (StartsThere asked) machine.IsFitRequest (λ (moved : MachineSearch). machine_request.Search session moved)
+    (machine_search_of asked) (search_moved asked) (λ moved p. (fit.0, rw p fit.1)) x e
+request_fit (Subscribe session ops) fit x e = none_moved machine.IsFitRequest x e
+request_fit (Poll session) fit x e = none_moved machine.IsFitRequest x e
+request_fit (PurgePublisher session publisher) fit x e = none_moved machine.IsFitRequest x e
 
 -- ---- what is answered
 

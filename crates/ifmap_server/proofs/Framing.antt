@@ -13,7 +13,7 @@ use Rattle.ifmap_requests.specs.declared.errors.Refusal.TheVariants.{Unreadable}
 use Rattle.ifmap_server.specs.declared.headers.Header.{Header}
 use Rattle.ifmap_server.specs.declared.replaying.Framed.{Framed}
 use Rattle.ifmap_server.specs.Frames.{Frame, IsHeader, Meaning, frame_text}
-use Rattle.ifmap_server.specs.Awaited.{AwaitsBody, AwaitsLine, HasNoLine, IsAwaited}
+use Rattle.ifmap_server.specs.Awaited.{AwaitsBody, HasNoLine, IsAwaited}
 use Rattle.ifmap_server.specs.Pending.{IsLineEnd, Takes}
 use Rattle.ifmap_server.specs.Script.{Begins, longest_script}
 use Rattle.ifmap_server.specs.Turns.{BeginsNone, IsFramed, frame_within}
@@ -157,6 +157,7 @@ framed offset bytes place there is header start end within ends =
       begins = λ meaning.
           line_begins offset bytes (take place bytes) body (drop there.end bytes) h text header size (omega arith) meaning;
       end = λ meaning. end;
+      ends = ends;
       size = sym size;
       order = omega arith;
       within = within;

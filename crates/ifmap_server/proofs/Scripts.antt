@@ -2,7 +2,7 @@
 -- A reader of a frame that is total and pure (`read_header`) goes back over each frame that begins, so that one frame begins
 -- at most but for its meaning (`begins_alike`); its body has one meaning. From this: bytes are one script (`script_one`), and where
 -- a frame begins, each script begins with it (`script_begins`).
-use Rattle.std.proofs.Common.{◌≡◌, ◌≢◌, ℕ, ◌+◌, ◌≤◌, List, [], ◌∷◌, ◌++◌, length, length-append, get_or, take, drop, Option, Some, None, arith, refl, sym, ap, subst, ◌∙◌}
+use Rattle.std.proofs.Common.{◌≡◌, ◌≢◌, ℕ, ◌+◌, ◌<◌, ◌≤◌, List, [], ◌∷◌, ◌++◌, length, length-append, get_or, take, drop, Option, Some, None, arith, refl, sym, ap, subst, ◌∙◌}
 use Rattle.std.proofs.lemmas.List.{append_assoc, take_at, drop_at}
 use Rattle.ifmap_requests.specs.Laws.{OneMeaning}
 use Rattle.ifmap_requests.specs.Means.{Means}
@@ -70,7 +70,8 @@ line_begins offset bytes line body rest h text is size ends meaning =
     record {
       fits = record { moment = is.moment; client = is.client; random = is.random; body = rw size is.size };
       text = text ∙ sym (ap (λ (t : List ℕ). t ++ rest) (frame_line (frame_of h body meaning))
-          ∙ cut_line (line_text (header_of_frame (frame_of h body meaning))) body rest ∙ ap (λ (l : List ℕ). l ++ 10 ∷ (body ++ rest)) (sym here));
+          ∙ cut_line (line_text (header_of_frame (frame_of h body meaning))) body rest
+          ∙ ap (λ (l : List ℕ). l ++ 10 ∷ (body ++ rest)) (sym here));
       ends = omega arith;
     }
 

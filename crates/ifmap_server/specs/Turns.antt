@@ -14,7 +14,7 @@ use Rattle.ifmap_server.specs.Awaited.{IsAwaited}
 use Rattle.ifmap_server.specs.Frames.{Frame, Meaning, frame_text}
 use Rattle.ifmap_server.specs.Output.{AppendsPrefix, Asking, step_frame, session_seconds}
 use Rattle.ifmap_server.specs.Pending.{Takes}
-use Rattle.ifmap_server.specs.Script.{Begins}
+use Rattle.ifmap_server.specs.Script.{Begins, longest_script}
 use Rattle.ifmap_server.specs.Ends.{ReadFailed, Ends, WriteFailed}
 
 -- a replay: the state of the machine, what is pending, and the offset of the next frame
@@ -50,6 +50,7 @@ frame_within framed pending meaning = frame_of framed.header (slice_range pendin
 pub record IsFramed (offset : ℕ) (pending : List ℕ) (framed : Framed) : Type 0 where
   pub begins : (meaning : Meaning) → Begins offset pending (frame_within framed pending meaning) (drop framed.end pending)
   pub end : (meaning : Meaning) → framed.end ≡ length (frame_text (frame_within framed pending meaning))
+  pub ends : offset + framed.end ≤ longest_script
   pub size : framed.header.size ≡ length (slice_range pending framed.start framed.end)
   pub order : framed.start ≤ framed.end
   pub within : framed.end ≤ length pending

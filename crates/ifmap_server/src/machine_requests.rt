@@ -8,7 +8,8 @@ use ifmap_requests::{PublishOp, Request};
 use ifmap_search::Search;
 use std::alloc::{AllocError as NoMemory, Global};
 
-/// What the machine is asked for a request; `None` where it cannot be asked it yet. Nothing is copied.
+/// What the machine is asked for a request; `None` where it cannot be asked it yet. What the request
+/// holds is moved, and not copied.
 pub fn machine_request_of(
     alloc: Global,
     request: Request,
@@ -50,10 +51,7 @@ fn machine_publish_of(
 }
 
 // The operations, where the machine can be asked each of them.
-fn machine_ops_of(
-    alloc: Global,
-    ops: Vec<PublishOp>,
-) -> Result<Option<Many<MachineOp>>, NoMemory>
+fn machine_ops_of(alloc: Global, ops: Vec<PublishOp>) -> Result<Option<Many<MachineOp>>, NoMemory>
     ensures { IfOk result (λ moved. moved ≡ machine_ops_of ops.items) }
 {
     let mut moved = Vec::with_capacity(alloc, ops.len())?;

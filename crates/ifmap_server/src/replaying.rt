@@ -83,7 +83,8 @@ pub fn next_frame<S: Source>(
     Ok(Some(Framed { header, start, end }))
 }
 
-/// The text of the answer to a frame: the machine's, or what is written for a body that is no request.
+/// The text of the answer to a frame: the machine's to a request, the code of a defect, or that the
+/// body is unreadable.
 pub fn answer_frame<L: Ledger>(
     alloc: Global,
     core: &mut Core,

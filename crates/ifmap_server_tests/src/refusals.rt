@@ -1,6 +1,9 @@
 //! Bodies that are answered with a code, or as unreadable.
 use crate::replays::expect_replay;
-use crate::scripts::{FIRST_ANSWER, FOUND, NEW_SESSION, PUBLISH_AND_FIND, answer_of, body_of, frame_of, refusal_of, script_of};
+use crate::scripts::{
+    FIRST_ANSWER, FOUND, NEW_SESSION, PUBLISH_AND_FIND, answer_of, body_of, frame_of, refusal_of,
+    script_of,
+};
 use std::alloc::Global;
 use std::process::Abort;
 use std::test::Fail;
@@ -9,11 +12,7 @@ use std::test::Fail;
 const IN_SESSION: &str = "session-id=\"1-00000000-0000-0000-0000-000000000001\"";
 
 // The request is answered with the code.
-fn expect_code(
-    rt: &(impl Abort + AllocGlobal),
-    request: &str,
-    code: &str,
-) -> Result<(), Fail> {
+fn expect_code(rt: &(impl Abort + AllocGlobal), request: &str, code: &str) -> Result<(), Fail> {
     let alloc = rt.alloc();
     let request = request.replace(alloc, "SESSION", IN_SESSION)?;
     let body = body_of(alloc, request.as_str())?;
@@ -139,7 +138,9 @@ fn a_code_moves_no_moment(rt: HostRuntime) -> Result<(), Fail> {
         .ok_or("a short script")?;
     let late = frame_of(alloc, 2_000_000_000, "c1", refused.as_str())?;
     let script = format!(in alloc; "{first}{late}{others}")?;
-    let (answer, answers) = FOUND.split_at_checked(FIRST_ANSWER).ok_or("a short output")?;
+    let (answer, answers) = FOUND
+        .split_at_checked(FIRST_ANSWER)
+        .ok_or("a short output")?;
     let failure = refusal_of(alloc, "Failure")?;
     let written = format!(in alloc; "{answer}{failure}{answers}")?;
     expect_replay(&rt, script.as_str(), 0, written.as_str())

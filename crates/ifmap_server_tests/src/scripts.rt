@@ -35,9 +35,7 @@ pub fn body_of(alloc: Global, request: &str) -> Result<String, Fail> {
 /// The frame of a client with this body.
 pub fn frame_of(alloc: Global, moment: u64, client: &str, body: &str) -> Result<String, Fail> {
     let length = body.len();
-    Ok(format!(in alloc;
-        "@{moment} {client} 00000000000000000000000000000001 {length}\n{body}"
-    )?)
+    Ok(format!(in alloc; "@{moment} {client} 00000000000000000000000000000001 {length}\n{body}")?)
 }
 
 /// The script of the client `c1` with these bodies, all at the moment 1000000000.

@@ -60,3 +60,9 @@ returns-clause-turn g c =
       wrote = subst (Appends (g.K.Sink.held c.args.sink.now) (g.K.Sink.held c.send.new.sink)) answered.wrote
           c.in_ok-send.ensures.bytes;
     })
+
+pub invariant_of-self-2 : goal.invariant_of-self-2
+invariant_of-self-2 g c =
+    let is : IsFramed c.self.inside.offset c.next_frame.new.input c.in-Some.framed =
+    rw c.in-Some.is at c.in_ok-framed.ensures.frame in
+    is.ends
