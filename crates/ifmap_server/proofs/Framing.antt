@@ -2,22 +2,23 @@
 -- Where a frame begins, the line that is there is that of its header (`line_place`, `its_header`), so it ends where the
 -- header says. From this: no frame begins where no line is, where the line is no header, where the frame is too long or cut;
 -- a whole one does where its bytes are there (`whole`). At the end: what is told of a fault, and which reads are due.
-use Rattle.std.proofs.Common.{◌≡◌, ◌≢◌, ℕ, suc, ◌+◌, ◌-◌, ◌<◌, ◌≤◌, List, [], ◌∷◌, ◌++◌, length, length-append, get_or, take, drop, replicate, Option, None, Some, IfSome, inl, inr, arith, append-nil, append_assoc, refl, sym, ap, subst, ◌∙◌, add-one, take-append-drop}
+use Rattle.std.proofs.Common.{◌≡◌, ◌≢◌, ℕ, suc, ◌+◌, ◌-◌, ◌<◌, ◌≤◌, List, [], ◌∷◌, ◌++◌, length, length-append, get_or, take, drop, replicate, Option, None, Some, IfSome, Err, inl, inr, arith, append-nil, append_assoc, refl, sym, ap, subst, ◌∙◌, add-one, take-append-drop}
 use Rattle.std.proofs.lemmas.Bool.{cases_lt}
 use Rattle.std.proofs.lemmas.List.{get_or_append_left, take-append-le}
 use Rattle.std.proofs.lemmas.List.{drop_all, length-drop, length-replicate, length-take-le}
 use Rattle.std.proofs.Math.Seq.{drop-cons, drop-drop, get_or-append_seam, take-append_seam}
 use Rattle.std.specs.Io.KnownBytes.{IsAtEnd}
 use Rattle.std.specs.Prelude.{slice_range}
+use Rattle.ifmap_requests.specs.declared.errors.Refusal.TheVariants.{Unreadable}
 use Rattle.ifmap_server.specs.declared.headers.Header.{Header}
 use Rattle.ifmap_server.specs.declared.replaying.Framed.{Framed}
-use Rattle.ifmap_server.specs.Frames.{Frame, IsHeader, frame_text}
-use Rattle.ifmap_server.specs.Awaited.{AwaitsBody, AwaitsLine, HasNoLine, IsAwaited}
+use Rattle.ifmap_server.specs.Frames.{Frame, IsHeader, Meaning, frame_text}
+use Rattle.ifmap_server.specs.Awaited.{AwaitsBody, HasNoLine, IsAwaited}
 use Rattle.ifmap_server.specs.Pending.{IsLineEnd, Takes}
 use Rattle.ifmap_server.specs.Script.{Begins, longest_script}
 use Rattle.ifmap_server.specs.Turns.{BeginsNone, IsFramed, frame_within}
 use Rattle.ifmap_server.proofs.HeaderLines.{header_of_line_one, line_of, line_text}
-use Rattle.ifmap_server.proofs.Scripts.{BeginsWith, begins_line, begins_one, frame_length, header_of_frame, line_begins}
+use Rattle.ifmap_server.proofs.Scripts.{BeginsWith, begins_alike, begins_line, frame_length, header_of_frame, line_begins}
 
 -- the newline of a frame's header, in the bytes that it begins
 newline_at : (line bytes : List ℕ) (f : Frame) (rest : List ℕ) → BeginsWith line bytes f rest → get_or bytes (length line) 0 ≡ 10
@@ -128,6 +129,10 @@ cut_body bytes start end order =
     sym (take-append-drop (end - start) (drop start bytes)) ∙ ap
     (λ (b : List ℕ). take (end - start) (drop start bytes) ++ b) (drop-drop (end - start) start bytes ∙ ap (λ (n : ℕ). drop n bytes) e)
 
+-- any meaning
+abbrev unread : Meaning
+unread = Err Unreadable
+
 pub framed : (offset : ℕ) (bytes : List ℕ) (place : ℕ) (there : Framed) → IsLineEnd bytes place → IsHeader (take place bytes) there.header
     → there.start ≡ place + 1 → there.end ≡ there.start + there.header.size
     → there.end ≤ length bytes → offset + there.end ≤ longest_script → IsFramed offset bytes there
@@ -141,14 +146,18 @@ framed offset bytes place there is header start end within ends =
     let text : bytes ≡ take place bytes ++ 10 ∷ (body ++ drop there.end bytes) =
     cut_at bytes place early is.there ∙ ap (λ (b : List ℕ). take place bytes ++ 10 ∷ b) (ap
     (λ (n : ℕ). drop n bytes) (sym start) ∙ cut_body bytes there.start there.end (omega arith)) in
-    let same : header_of_frame (frame_within there bytes) ≡ h =
+    let frame : Frame = frame_within there bytes unread in
+    let same : header_of_frame frame ≡ h =
     ap (λ (n : ℕ). record { moment = h.moment; client = h.client; random = h.random; size = n }) size in
-    let line : length (line_text (header_of_frame (frame_within there bytes))) ≡ place =
+    let line : length (line_text (header_of_frame frame)) ≡ place =
     ap (λ (x : Header). length (line_text x)) same ∙ ap length (sym (line_of (take place bytes) h header)) ∙ long in
-    let whole = frame_length (frame_within there bytes) in
+    let whole = frame_length frame in
+    let end : there.end ≡ length (frame_text frame) = omega arith in
     record {
-      begins = line_begins offset bytes (take place bytes) body (drop there.end bytes) h text header size (omega arith);
-      end = omega arith;
+      begins = λ meaning.
+          line_begins offset bytes (take place bytes) body (drop there.end bytes) h text header size (omega arith) meaning;
+      end = λ meaning. end;
+      ends = ends;
       size = sym size;
       order = omega arith;
       within = within;
@@ -236,10 +245,10 @@ module _ (offset : ℕ) (left_old left : Option (List ℕ)) (mid new : List ℕ)
       } in
       let w = whole offset None None mid (new ++ missing) place h more is header (omega arith) ends in
       record {
-        frame = frame_within (record { header = h; start = place + 1; end = place + 1 + h.size }) (new ++ missing);
+        frame = frame_within (record { header = h; start = place + 1; end = place + 1 + h.size }) (new ++ missing) unread;
         more = missing;
         some = λ e. let l : length missing ≡ 0 = ap length e in omega arith;
-        begins = subst (Begins offset (new ++ missing) _) (drop_all (place + 1 + h.size) (new ++ missing) (omega arith)) w.begins;
+        begins = subst (Begins offset (new ++ missing) _) (drop_all (place + 1 + h.size) (new ++ missing) (omega arith)) (w.begins unread);
       }
 
 nil_right : (a b : List ℕ) → a ++ b ≡ [] → b ≡ []
@@ -255,5 +264,5 @@ awaited_none offset bytes (inr body) = λ f rest b.
       text = ap (λ (x : List ℕ). x ++ body.more) b.text ∙ append_assoc (frame_text f) rest body.more;
       ends = b.ends;
     } in
-    let same = begins_one offset (bytes ++ body.more) f body.frame (rest ++ body.more) [] on body.begins in
-    body.some (nil_right rest body.more same.1)
+    let alike = begins_alike offset (bytes ++ body.more) f body.frame (rest ++ body.more) [] on body.begins in
+    body.some (nil_right rest body.more alike.rests)

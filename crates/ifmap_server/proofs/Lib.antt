@@ -1,14 +1,12 @@
+pub mod AskedRequests
 pub mod Cuts
 pub mod Endings
-pub mod FitRequests
 pub mod Forms
 pub mod Framing
 pub mod HeaderLines
-pub mod Meanings
-pub mod PartLaws
+pub mod MovedOps
 pub mod Pieces
 pub mod Progress
-pub mod RequestLaws
 pub mod SameErrors
 pub mod Scripts
 pub mod Splits

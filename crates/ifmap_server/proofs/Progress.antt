@@ -1,4 +1,7 @@
--- A replay so far: the frames that were step_frame, and what they make of the frames that are left.
+-- A replay so far: the frames that were answered, and what they make of the frames that are left.
+-- `framed` and `unframed` go from a script of what is left to one of all bytes, and back: back because bodies have one meaning. So
+-- what ends in all bytes read speaks of the frames that were answered (`over`, `unread`, `fault_told`), and what ends before speaks
+-- of each output of the bytes (`unwritten`, `part`, `fault_part`).
 use Rattle.std.proofs.Common.{◌≡◌, ◌≢◌, ℕ, ◌+◌, List, [], ◌∷◌, ◌++◌, length, drop, None, Some, IfSome, refl, sym, ap, subst, ◌∙◌, append_assoc, append-nil, arith}
 use Rattle.std.specs.Prelude.{Option}
 use Rattle.std.proofs.KnownBytes.{Appends-nil, Appends-trans, Consumes-nil, Consumes-trans, Keeps-refl}
@@ -6,6 +9,8 @@ use Rattle.std.proofs.Math.Seq.{drop-drop}
 use Rattle.std.proofs.lemmas.List.{drop_at}
 use Rattle.std.specs.Io.KnownBytes.{Appends, Consumes, IsAtEnd, Keeps}
 use Rattle.ifmap_core.specs.State.{State}
+use Rattle.ifmap_requests.specs.Laws.{OneMeaning}
+use Rattle.ifmap_requests.specs.Means.{Means}
 use Rattle.ifmap_server.specs.Awaited.{IsAwaited}
 use Rattle.ifmap_server.specs.Frames.{Frame, frame_text}
 use Rattle.ifmap_server.specs.Output.{AppendsPrefix, IsOutput, step_frame, answers, answers_from, fault_line}
@@ -14,27 +19,37 @@ use Rattle.ifmap_server.specs.Script.{Begins, IsScript, IsScriptFrom}
 use Rattle.ifmap_server.specs.Ends.{IsLater, Ends}
 use Rattle.ifmap_server.specs.Turns.{Answers, BeginsNone, IsFaulty, IsOver, IsUnread, IsUnwritten, Replaying, beginning}
 use Rattle.ifmap_server.proofs.Framing.{awaited_none}
-use Rattle.ifmap_server.proofs.Scripts.{script_exists}
+use Rattle.ifmap_server.proofs.Scripts.{script_begins, script_one}
 use Rattle.ifmap_server.proofs.Pieces.{appends_kept, appends_prefix, keeps_prefix}
 
+-- a script of all bytes is the frames that were answered, and then a script of what is left
+abbrev Unframed : List Frame → List ℕ → Replaying → Type 0
+Unframed done taken now =
+    (more : List ℕ) (frames : List Frame) (fault : Option ℕ) → IsScript (taken ++ more) frames fault
+    → (others : List Frame) × (frames ≡ done ++ others) × IsScriptFrom now.offset (now.pending ++ more) others fault
+
 pub record Progress (before mid : Ends) (now : Replaying) : Type 0 where
+  pub one : OneMeaning
   pub done : List Frame
   pub taken : List ℕ
   pub consumed : Consumes before.left mid.left taken
   pub framed : (more : List ℕ) (frames : List Frame) (fault : Option ℕ) → IsScriptFrom now.offset (now.pending ++ more) frames fault
       → IsScript (taken ++ more) (done ++ frames) fault
+  pub unframed : Unframed done taken now
   pub place : (more : List ℕ) → drop now.offset (taken ++ more) ≡ now.pending ++ more
   pub told : (frames : List Frame) → answers (done ++ frames) ≡ answers done ++ answers_from now.state frames
   pub wrote : Appends before.held mid.held (answers done)
   pub later : IsLater before mid
 
-pub begin : (before : Ends) (now : Replaying) → now ≡ beginning → Progress before before now
-begin before now is =
+pub begin : OneMeaning → (before : Ends) (now : Replaying) → now ≡ beginning → Progress before before now
+begin one before now is =
     subst (λ (r : Replaying). Progress before before r) (sym is) (record {
+      one = one;
       done = [];
       taken = [];
       consumed = Consumes-nil before.left;
       framed = λ more frames fault script. script;
+      unframed = λ more frames fault script. (frames, refl, script);
       place = λ more. refl;
       told = λ frames. refl;
       wrote = Appends-nil before.held;
@@ -65,12 +80,30 @@ begins_more offset pending got more taken rest f grown begins =
     record { fits = begins.fits; text = grown_text pending got more taken (frame_text f) rest grown begins.text; ends = begins.ends }
 
 module _ (before mid after : Ends) (now : Replaying) (p : Progress before mid now) where
-  -- the frames that were step_frame, and these
+  -- the frames that were answered, and these
   framed_on : (got more : List ℕ) (frames : List Frame) (fault : Option ℕ)
       → IsScriptFrom now.offset (now.pending ++ (got ++ more)) frames fault → IsScript (p.taken ++ got ++ more) (p.done ++ frames) fault
   framed_on got more frames fault script =
       subst (λ (bytes : List ℕ). IsScript bytes (p.done ++ frames) fault) (sym (append_assoc p.taken got more))
       (p.framed (got ++ more) frames fault script)
+
+  -- a script of all bytes, and what more was taken, is the frames that were answered and then one of what is left
+  unframed_on : (got more : List ℕ) (frames : List Frame) (fault : Option ℕ) → IsScript (p.taken ++ got ++ more) frames fault
+      → (others : List Frame) × (frames ≡ p.done ++ others) × IsScriptFrom now.offset (now.pending ++ (got ++ more)) others fault
+  unframed_on got more frames fault script =
+      p.unframed (got ++ more) frames fault
+      (subst (λ (bytes : List ℕ). IsScript bytes frames fault) (append_assoc p.taken got more) script)
+
+  -- and where a frame begins with what was taken, it is the next of them
+  unframed_one : (f : Frame) (got more taken rest : List ℕ) → taken ≡ now.pending ++ got → Begins now.offset taken f rest
+      → Means f.body f.meaning → (frames : List Frame) (fault : Option ℕ) → IsScript (p.taken ++ got ++ more) frames fault
+      → (others : List Frame) × (frames ≡ p.done ++ f ∷ others)
+      × IsScriptFrom (now.offset + length (frame_text f)) (rest ++ more) others fault
+  unframed_one f got more taken rest grown begins means frames fault script =
+      let left = unframed_on got more frames fault script in
+      let next = script_begins p.one now.offset (now.pending ++ (got ++ more)) f (rest ++ more)
+      (begins_more now.offset now.pending got more taken rest f grown begins) means left.0 fault left.2 in
+      (next.0, left.1 ∙ ap (λ (fs : List Frame). p.done ++ fs) next.1, next.2)
 
   told_one : (f : Frame) → answers (p.done ++ f ∷ []) ≡ answers p.done ++ ((step_frame now.state f).1 ++ [])
   told_one f = p.told (f ∷ [])
@@ -92,6 +125,7 @@ module _ (before mid after : Ends) (now : Replaying) (p : Progress before mid no
       let f = a.frame in
       let got = a.takes.got in
       record {
+        one = p.one;
         done = p.done ++ f ∷ [];
         taken = p.taken ++ got;
         consumed = Consumes-trans before.left mid.left after.left p.taken got p.consumed a.takes.consumed;
@@ -100,8 +134,15 @@ module _ (before mid after : Ends) (now : Replaying) (p : Progress before mid no
             (framed_on got more (f ∷ frames) fault (
               new.pending ++ more,
               begins_more now.offset now.pending got more a.taken new.pending f a.takes.grown a.begins,
+              a.means,
               subst (λ (o : ℕ). IsScriptFrom o (new.pending ++ more) frames fault) a.offset script,
             ));
+        unframed = λ more frames fault script.
+            let left = unframed_one f got more a.taken new.pending a.takes.grown a.begins a.means frames fault script in (
+              left.0,
+              left.1 ∙ sym (append_assoc p.done (f ∷ []) left.0),
+              subst (λ (o : ℕ). IsScriptFrom o (new.pending ++ more) left.0 fault) (sym a.offset) left.2,
+            );
         place = λ more. placed_on new a more;
         told = λ frames.
             ap answers (append_assoc p.done (f ∷ []) frames) ∙ p.told (f ∷ frames)
@@ -139,6 +180,10 @@ some_for None P f = tt
 some_for (Some x) P f = f x
 
 -- ---- how a replay ends
+
+-- a prefix was written of each output of these bytes
+abbrev IsPart : (before after : Ends) → List ℕ → Type 0
+IsPart before after bytes = (text : List ℕ) → IsOutput bytes text → AppendsPrefix before.held after.held text
 
 -- a read is due here, so the script ends here, or goes on with what is awaited
 script_here : (offset : ℕ) (whole bytes : List ℕ) → drop offset whole ≡ bytes → IsAwaited offset bytes
@@ -191,41 +236,30 @@ module _ (before mid after : Ends) (now : Replaying) (p : Progress before mid no
       let got = u.takes.got in
       let f = u.frame in
       let b = (step_frame now.state f).1 in
-      taken_and_rest before.left after.left (p.taken ++ got) (λ bytes. (text : List ℕ) × IsOutput bytes text
-      × AppendsPrefix before.held after.held text) (took_more got u.takes.consumed)
-      (some_for after.left _ (λ more.
-      let s = script_exists (now.offset + length (frame_text f)) (u.rest ++ more) in
-      let script : IsScript (p.taken ++ got ++ more) (p.done ++ f ∷ s.0) s.1 =
-      framed_on before mid after now p got more (f ∷ s.0) s.1 (
-        u.rest ++ more,
-        begins_more now.offset now.pending got more u.taken u.rest f u.takes.grown u.begins,
-        s.2,
-      ) in
-      let text = answers (p.done ++ f ∷ s.0) ++ fault_line s.1 in
-      let c = answers_from (step_frame now.state f).0 s.0 ++ fault_line s.1 in
+      taken_and_rest before.left after.left (p.taken ++ got) (λ bytes. IsPart before after bytes) (took_more got u.takes.consumed)
+      (some_for after.left _ (λ more text output.
+      let left = unframed_one before mid after now p f got more u.taken u.rest u.takes.grown u.begins u.means output.0 output.1
+      output.2 in
+      let fault = output.1 in
+      let c = answers_from (step_frame now.state f).0 left.0 ++ fault_line fault in
       let is : text ≡ answers p.done ++ (b ++ c) =
-      rest_text (f ∷ s.0) s.1 ∙ ap (λ (x : List ℕ). answers p.done ++ x)
-      (append_assoc b (answers_from (step_frame now.state f).0 s.0) (fault_line s.1)) in (
-        text,
-        (p.done ++ f ∷ s.0, s.1, script, refl),
-        appends_prefix before.held mid.held after.held (answers p.done) b c text is p.wrote
-            u.wrote,
-      )))
+      output.3 ∙ ap (λ (fs : List Frame). answers fs ++ fault_line fault) left.1 ∙ rest_text (f ∷ left.0) fault
+      ∙ ap (λ (x : List ℕ). answers p.done ++ x) (append_assoc b (answers_from (step_frame now.state f).0 left.0) (fault_line fault))
+      in
+      appends_prefix before.held mid.held after.held (answers p.done) b c text is p.wrote u.wrote))
 
   -- where the memory ran out, or the line of a fault was not written
   pub part : Keeps mid.held after.held → AnswersPart before after
   part kept =
-      taken_and_rest before.left mid.left p.taken (λ bytes. (text : List ℕ) × IsOutput bytes text
-      × AppendsPrefix before.held after.held text) p.consumed
-      (some_for mid.left _ (λ more.
-      let s = script_exists now.offset (now.pending ++ more) in
-      let text = answers (p.done ++ s.0) ++ fault_line s.1 in
-      let c = answers_from now.state s.0 ++ fault_line s.1 in (
-        text,
-        (p.done ++ s.0, s.1, p.framed more s.0 s.1 s.2, refl),
-        appends_prefix before.held mid.held after.held (answers p.done) [] c text (rest_text s.0 s.1) p.wrote
-            (keeps_prefix mid.held after.held [] kept),
-      )))
+      taken_and_rest before.left mid.left p.taken (λ bytes. IsPart before after bytes) p.consumed
+      (some_for mid.left _ (λ more text output.
+      let left = p.unframed more output.0 output.1 output.2 in
+      let fault = output.1 in
+      let c = answers_from now.state left.0 ++ fault_line fault in
+      let is : text ≡ answers p.done ++ c =
+      output.3 ∙ ap (λ (fs : List Frame). answers fs ++ fault_line fault) left.1 ∙ rest_text left.0 fault in
+      appends_prefix before.held mid.held after.held (answers p.done) [] c text is p.wrote
+      (keeps_prefix mid.held after.held [] kept)))
 
   -- ---- a fault
 
@@ -255,19 +289,21 @@ module _ (before mid after : Ends) (now : Replaying) (p : Progress before mid no
   pub fault_part : (last : Ends) → IsFaulty mid after now → AppendsPrefix after.held last.held (fault_line (Some now.offset))
       → AnswersPart before last
   fault_part last f told =
-      taken_and_rest before.left after.left (p.taken ++ f.takes.got)
-      (λ bytes. (text : List ℕ) × IsOutput bytes text × AppendsPrefix before.held last.held text)
+      taken_and_rest before.left after.left (p.taken ++ f.takes.got) (λ bytes. IsPart before last bytes)
       (took_more f.takes.got f.takes.consumed)
-      (for_some after.left _ _ (λ rest h.
+      (for_some after.left _ _ (λ rest h text output.
       let line = fault_line (Some now.offset) in
-      let text = answers (p.done ++ []) ++ line in (
-        text,
-        (p.done ++ [], Some now.offset, faulty_script f rest h, refl),
-        appends_prefix before.held after.held last.held (answers p.done) line [] text
-            (ap (λ (x : List ℕ). x ++ line) same_done ∙ ap (λ (x : List ℕ). answers p.done ++ x) (sym (append-nil line)))
-            (wrote_kept f.kept) told,
-      )) f.fault)
+      let bytes = p.taken ++ f.takes.got ++ rest in
+      let same = script_one p.one 0 bytes output.0 (p.done ++ []) output.1 (Some now.offset) output.2 (faulty_script f rest h) in
+      let is : text ≡ answers (p.done ++ []) ++ line =
+      output.3 ∙ ap (λ (fs : List Frame). answers fs ++ fault_line output.1) same.0
+      ∙ ap (λ (o : Option ℕ). answers (p.done ++ []) ++ fault_line o) same.1 in
+      appends_prefix before.held after.held last.held (answers p.done) line [] text
+      (is ∙ ap (λ (x : List ℕ). x ++ line) same_done ∙ ap (λ (x : List ℕ). answers p.done ++ x) (sym (append-nil line)))
+      (wrote_kept f.kept) told) f.fault)
 
 -- nothing was read or written
 pub nothing_done : (before : Ends) → AnswersPart before before
-nothing_done before = part before before before beginning (begin before beginning refl) (Keeps-refl before.held)
+nothing_done before =
+    some_for before.left (λ bytes. IsPart before before bytes)
+    (λ bytes text output. keeps_prefix before.held before.held text (Keeps-refl before.held))

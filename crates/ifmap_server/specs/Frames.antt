@@ -1,20 +1,27 @@
 -- The frames of a script.
-use Rattle.std.specs.Prelude.{◌≡◌, ℕ, ◌≤◌, ◌<◌, ◌^◌, List, [], ◌∷◌, ◌++◌, length}
+use Rattle.std.specs.Prelude.{◌≡◌, ℕ, ◌≤◌, ◌<◌, ◌^◌, List, [], ◌∷◌, ◌++◌, length, Result}
 use Rattle.std.specs.Fmt.{decimal}
 use Rattle.std.specs.Int.{to_be_bytes, w128}
 use Rattle.uuid.specs.Text.{lower, simple_text}
 use Rattle.ifmap_meta.specs.ClientNames.{IsClientName}
+use Rattle.ifmap_requests.specs.declared.errors.Refusal.{Refusal}
+use Rattle.ifmap_requests.specs.declared.requests.Request.{Request}
 use Rattle.ifmap_server.specs.declared.headers.Header.{Header}
 use Rattle.ifmap_server.specs.Characters.{at_sign, blank, newline}
 
--- a request as it came: when, from whom, with which random word, and its bytes
+-- what a body can mean: a request, or why it is none
+abbrev pub Meaning : Type 0
+Meaning = Result Request Refusal
+
+-- a request as it came: when, from whom, with which random word, its bytes, and what they mean, which no function of them gives
 pub record Frame : Type 0 where
   pub moment : ℕ
   pub client : List ℕ
   pub random : ℕ
   pub body : List ℕ
+  pub meaning : Meaning
 
--- a frame keeps to these limits
+-- a frame keeps to these limits, whatever its meaning
 pub record IsFrame (f : Frame) : Type 0 where
   pub moment : f.moment ≤ 253402300799
   pub client : IsClientName f.client

@@ -1,14 +1,11 @@
 pub mod Awaited
-pub mod Bodies
 pub mod Characters
 pub mod Ends
 pub mod Frames
-pub mod Ids
 pub mod Lines
+pub mod MachineRequests
 pub mod Output
-pub mod Parts
 pub mod Pending
-pub mod Publications
 pub mod Replayed
 pub mod Runs
 pub mod Script

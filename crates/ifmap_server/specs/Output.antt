@@ -1,5 +1,5 @@
 -- What is written for a script.
-use Rattle.std.specs.Prelude.{◌≡◌, ℕ, List, [], ◌∷◌, ◌++◌, codes, length, Option, None, Some, false, take}
+use Rattle.std.specs.Prelude.{◌≡◌, ℕ, List, [], ◌∷◌, ◌++◌, codes, length, Option, None, Some, Ok, Err, false, take}
 use Rattle.std.specs.Fmt.{decimal}
 use Rattle.std.specs.Io.KnownBytes.{Appends}
 use Rattle.ifmap_core.specs.declared.events.Answer.{Answer}
@@ -7,19 +7,24 @@ use Rattle.ifmap_core.specs.declared.events.Answer.TheVariants.{Reply}
 use Rattle.ifmap_core.specs.declared.events.Ask.TheVariants as ask
 use Rattle.ifmap_core.specs.Events.{Event}
 use Rattle.ifmap_core.specs.State.{State, opening}
-use Rattle.ifmap_core.specs.Step.{step}
+use Rattle.ifmap_core.specs.Step.{refusal, step}
 use Rattle.ifmap_msg.specs.declared.requests.Request.{Request}
 use Rattle.ifmap_msg.specs.Replies.{reply_bytes}
-use Rattle.ifmap_server.specs.Bodies.{meaning}
-use Rattle.ifmap_server.specs.Frames.{Frame}
+use Rattle.ifmap_requests.specs.declared.errors.Refusal.TheVariants.{Named, Unreadable, NoMemory}
+use Rattle.ifmap_server.specs.Frames.{Frame, Meaning}
+use Rattle.ifmap_server.specs.MachineRequests.{machine_request_of}
 use Rattle.ifmap_server.specs.Script.{IsScript}
 
 -- after how many seconds without a request a session is expired
 abbrev pub session_seconds : ℕ
 session_seconds = 180
 
+-- what is asked of the machine, by the request
+abbrev pub Asking : Type 0
+Asking = Request → Event
+
 -- the event of a frame that asks a request
-abbrev pub event_of : Frame → Request → Event
+abbrev pub event_of : Frame → Asking
 event_of f request =
     record { moment = f.moment; client = f.client; random = f.random; again = false; bytes = length f.body; ask = ask.Request request }
 
@@ -27,13 +32,25 @@ event_of f request =
 abbrev pub answer_text : Answer → List ℕ
 answer_text (Reply reply) = codes "=" ++ decimal (length (reply_bytes reply)) ++ codes "\n" ++ reply_bytes reply
 
--- the state after a frame that asks this, if anything, and what is written for it
-abbrev pub step_request : State → Frame → Option Request → State × List ℕ
-step_request state f None = (state, codes "unreadable\n")
-step_request state f (Some request) = ((step state (event_of f request)).0, answer_text (step state (event_of f request)).1)
+-- what is written for a body that is no request, and for a request that the machine cannot be asked yet
+abbrev pub unreadable_text : List ℕ
+unreadable_text = codes "unreadable\n"
+
+-- the state after what the machine is asked, if anything, and what is written for it
+abbrev pub step_request : State → Asking → Option Request → State × List ℕ
+step_request state event None = (state, unreadable_text)
+step_request state event (Some request) = ((step state (event request)).0, answer_text (step state (event request)).1)
+
+-- the same of a meaning: a code is told, with its name as the note, and nothing is asked, so that the state's moment stays too; no
+-- body means a want of memory
+abbrev pub step_meaning : State → Asking → Meaning → State × List ℕ
+step_meaning state event (Ok request) = step_request state event (machine_request_of request)
+step_meaning state event (Err (Named code)) = (state, answer_text (refusal code))
+step_meaning state event (Err Unreadable) = (state, unreadable_text)
+step_meaning state event (Err NoMemory) = (state, unreadable_text)
 
 abbrev pub step_frame : State → Frame → State × List ℕ
-step_frame state f = step_request state f (meaning f.body)
+step_frame state f = step_meaning state (event_of f) f.meaning
 
 -- what is written for frames, one after another, from a state on
 abbrev pub answers_from : State → List Frame → List ℕ

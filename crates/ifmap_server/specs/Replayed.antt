@@ -30,10 +30,10 @@ AnswersTaken before after =
     × ((frames : List Frame) × (fault : Option ℕ) × IsScript taken frames fault
     × IfSome fault (λ place. IsAwaited place (drop place taken)) × Appends before.held after.held (answers frames))
 
--- a prefix of the output was written
+-- a prefix of the output was written: of each that the bytes have, since what was not read may mean anything
 abbrev pub AnswersPart : (before after : Ends) → Type 0
 AnswersPart before after =
-    IfSome before.left (λ bytes. (text : List ℕ) × IsOutput bytes text × AppendsPrefix before.held after.held text)
+    IfSome before.left (λ bytes. (text : List ℕ) → IsOutput bytes text → AppendsPrefix before.held after.held text)
 
 -- what a replay promises, by how it ends; a fault of the source or the sink is told only where it has counted one
 abbrev pub Promises : Result (Unit {0}) ReplayError → (before after : Ends) → Type 0

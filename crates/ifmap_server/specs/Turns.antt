@@ -1,6 +1,7 @@
 -- One turn of a replay: a frame is taken and answered, or the replay ends. No public clause cites this file.
-use Rattle.std.specs.Prelude.{◌≡◌, ◌≢◌, ℕ, ◌+◌, ◌≤◌, List, [], ◌++◌, drop, length, slice_range, IfSome, Result, Ok, Err}
+use Rattle.std.specs.Prelude.{◌≡◌, ◌≢◌, ℕ, ◌+◌, ◌≤◌, List, [], ◌++◌, drop, length, slice_range, IfSome, Result, Ok, Err, false}
 use Rattle.std.specs.Io.KnownBytes.{Appends, IsAtEnd, Keeps}
+use Rattle.ifmap_core.specs.declared.events.Ask.TheVariants as ask
 use Rattle.ifmap_core.specs.State.{State, opening}
 use Rattle.ifmap_server.specs.declared.errors.ReplayError.{ReplayError}
 use Rattle.ifmap_server.specs.declared.errors.ReplayError.TheVariants.{FrameFault, NoMemory, ReadFault, WriteFault}
@@ -8,11 +9,12 @@ use Rattle.ifmap_server.specs.declared.headers.Header.{Header}
 use Rattle.ifmap_server.specs.declared.replaying.Framed.{Framed}
 use Rattle.ifmap_server.specs.declared.replaying.Turn.{Turn}
 use Rattle.ifmap_server.specs.declared.replaying.Turn.TheVariants.{Answered, Ended}
+use Rattle.ifmap_requests.specs.Means.{Means}
 use Rattle.ifmap_server.specs.Awaited.{IsAwaited}
-use Rattle.ifmap_server.specs.Frames.{Frame, frame_text}
-use Rattle.ifmap_server.specs.Output.{AppendsPrefix, step_frame, session_seconds}
+use Rattle.ifmap_server.specs.Frames.{Frame, Meaning, frame_text}
+use Rattle.ifmap_server.specs.Output.{AppendsPrefix, Asking, step_frame, session_seconds}
 use Rattle.ifmap_server.specs.Pending.{Takes}
-use Rattle.ifmap_server.specs.Script.{Begins}
+use Rattle.ifmap_server.specs.Script.{Begins, longest_script}
 use Rattle.ifmap_server.specs.Ends.{ReadFailed, Ends, WriteFailed}
 
 -- a replay: the state of the machine, what is pending, and the offset of the next frame
@@ -24,21 +26,41 @@ pub record Replaying : Type 0 where
 abbrev pub beginning : Replaying
 beginning = record { state = opening session_seconds; pending = []; offset = 0 }
 
--- the frame of a header and a body
-abbrev pub frame_of : Header → List ℕ → Frame
-frame_of header body = record { moment = header.moment; client = header.client; random = header.random; body = body }
+-- what is asked of the machine by a request that came with a header
+abbrev pub asking_of : Header → Asking
+asking_of header request = record {
+  moment = header.moment;
+  client = header.client;
+  random = header.random;
+  again = false;
+  bytes = header.size;
+  ask = ask.Request request;
+}
 
--- the frame that stands at the front of what is pending
-abbrev pub frame_within : Framed → List ℕ → Frame
-frame_within framed pending = frame_of framed.header (slice_range pending framed.start framed.end)
+-- the frame of a header and a body, with a meaning
+abbrev pub frame_of : Header → List ℕ → Meaning → Frame
+frame_of header body meaning =
+    record { moment = header.moment; client = header.client; random = header.random; body = body; meaning = meaning }
 
--- a whole frame stands at the front of what is pending, and its body from `start` to `end`
+-- the frame that stands at the front of what is pending, with a meaning
+abbrev pub frame_within : Framed → List ℕ → Meaning → Frame
+frame_within framed pending meaning = frame_of framed.header (slice_range pending framed.start framed.end) meaning
+
+-- a whole frame stands at the front of what is pending, and its body from `start` to `end`, whatever its meaning
 pub record IsFramed (offset : ℕ) (pending : List ℕ) (framed : Framed) : Type 0 where
-  pub begins : Begins offset pending (frame_within framed pending) (drop framed.end pending)
-  pub end : framed.end ≡ length (frame_text (frame_within framed pending))
+  pub begins : (meaning : Meaning) → Begins offset pending (frame_within framed pending meaning) (drop framed.end pending)
+  pub end : (meaning : Meaning) → framed.end ≡ length (frame_text (frame_within framed pending meaning))
+  pub ends : offset + framed.end ≤ longest_script
   pub size : framed.header.size ≡ length (slice_range pending framed.start framed.end)
   pub order : framed.start ≤ framed.end
   pub within : framed.end ≤ length pending
+
+-- the machine was asked what the body of a frame means, and the text is to be written for it
+pub record IsAnswered (old new : State) (header : Header) (body text : List ℕ) : Type 0 where
+  pub meaning : Meaning
+  pub means : Means body meaning
+  pub state : new ≡ (step_frame old (frame_of header body meaning)).0
+  pub wrote : text ≡ (step_frame old (frame_of header body meaning)).1
 
 -- no frame begins here
 abbrev pub BeginsNone : ℕ → List ℕ → Type 0
@@ -51,6 +73,7 @@ module _ (before after : Ends) (old : Replaying) where
     pub taken : List ℕ
     pub takes : Takes before.left after.left old.pending taken
     pub begins : Begins old.offset taken frame new.pending
+    pub means : Means frame.body frame.meaning
     pub state : new.state ≡ (step_frame old.state frame).0
     pub offset : new.offset ≡ old.offset + length (frame_text frame)
     pub wrote : Appends before.held after.held (step_frame old.state frame).1
@@ -83,6 +106,7 @@ module _ (before after : Ends) (old : Replaying) where
     pub rest : List ℕ
     pub takes : Takes before.left after.left old.pending taken
     pub begins : Begins old.offset taken frame rest
+    pub means : Means frame.body frame.meaning
     pub wrote : AppendsPrefix before.held after.held (step_frame old.state frame).1
     pub cause : WriteFailed before after
 

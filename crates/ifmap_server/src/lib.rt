@@ -2,14 +2,11 @@
 //! program makes.
 #![tactic(auto)]
 
-mod bodies;
 mod errors;
 mod headers;
-mod ids;
 mod input;
 mod laws;
-mod parts;
-mod publications;
+mod machine_requests;
 mod replaying;
 mod replies;
 mod running;
@@ -17,6 +14,6 @@ mod sending;
 pub mod statuses;
 mod words;
 
-pub use laws::{bodies_mean_one_request, bytes_are_one_script};
+pub use laws::bytes_are_one_script;
 pub use running::{replay, run};
 pub use words::{Form, form_of};

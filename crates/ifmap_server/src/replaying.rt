@@ -4,22 +4,25 @@ ghost use Rattle.std.specs.Io.KnownBytes.{Appends, IsAtEnd, Keeps};
 ghost use Rattle.ifmap_io.specs.Causes.{Rose};
 ghost use Rattle.ifmap_server.specs.declared.headers.Header.{Header};
 ghost use Rattle.ifmap_server.specs.Awaited.{IsAwaited};
-ghost use Rattle.ifmap_server.specs.Output.{AppendsPrefix, fault_line, step_frame};
+ghost use Rattle.ifmap_requests.specs.Fit.{IsFitRequest};
+ghost use Rattle.ifmap_server.specs.MachineRequests.{machine_request_of};
+ghost use Rattle.ifmap_server.specs.Output.{AppendsPrefix, fault_line, step_request};
 ghost use Rattle.ifmap_server.specs.Pending.{Takes};
 ghost use Rattle.ifmap_server.specs.Replayed.{Promises};
 ghost use Rattle.ifmap_server.specs.Script.{longest_script};
 ghost use Rattle.ifmap_server.specs.Ends.{IsLater, ends};
-ghost use Rattle.ifmap_server.specs.Turns.{BeginsNone, IsFramed, Turns, beginning, frame_of};
+ghost use Rattle.ifmap_server.specs.Turns.{BeginsNone, IsAnswered, IsFramed, Turns, asking_of, beginning};
 
-use crate::bodies::request_of;
 use crate::errors::ReplayError;
 use crate::headers::{Header, header_of};
 use crate::input::Input;
+use crate::machine_requests::machine_request_of;
 use crate::replies::AnswerText;
 use crate::sending::send;
 use ifmap_core::{Ask, Core, Event};
-use ifmap_ident::laws::mac_addresses_are_identifiers;
 use ifmap_io::{Sink, Source};
+use ifmap_requests::laws::{bodies_have_one_meaning, bodies_mean_fit_requests};
+use ifmap_requests::{Refusal, Request, read_request};
 use ifmap_steps::Steps;
 use std::alloc::{AllocError as NoMemory, Global};
 use std::marker::Model;
@@ -80,7 +83,8 @@ pub fn next_frame<S: Source>(
     Ok(Some(Framed { header, start, end }))
 }
 
-/// The text of the answer to a frame, by the machine.
+/// The text of the answer to a frame: the machine's to a request, the code of a defect, or that the
+/// body is unreadable.
 pub fn answer_frame<L: Ledger>(
     alloc: Global,
     core: &mut Core,
@@ -89,12 +93,34 @@ pub fn answer_frame<L: Ledger>(
     steps: &mut Steps<L>,
 ) -> Result<AnswerText, ReplayError>
     requires { header.size ≡ length body.now }
-    ensures state { OnOk result (core.new ≡ (step_frame core.old (frame_of header body.now)).0) }
-    ensures text { IfOk result (λ text. text ≡ (step_frame core.old (frame_of header body.now)).1) }
+    ensures answered { IfOk result (λ text. IsAnswered core.old core.new header body.now text) }
     ensures cause { IfErr result (λ e. e ≡ ReplayError.NoMemory) }
 {
-    mac_addresses_are_identifiers();
-    let Some(request) = request_of(alloc, body)? else {
+    bodies_mean_fit_requests();
+    match read_request(alloc, body) {
+        Ok(request) => answer_request(alloc, core, header, request, steps),
+        Err(Refusal::Named(code)) => Ok(AnswerText::refusal(alloc, code)?),
+        Err(Refusal::Unreadable) => Ok(AnswerText::unreadable(alloc)?),
+        Err(Refusal::NoMemory) => Err(ReplayError::NoMemory),
+    }
+}
+
+// The text of the answer to a request that came with a header.
+fn answer_request<L: Ledger>(
+    alloc: Global,
+    core: &mut Core,
+    header: Header,
+    request: Request,
+    steps: &mut Steps<L>,
+) -> Result<AnswerText, ReplayError>
+    requires { IsFitRequest request }
+    ensures state { OnOk result (core.new
+        ≡ (step_request core.old (asking_of header) (machine_request_of request)).0) }
+    ensures text { IfOk result (λ text.
+        text ≡ (step_request core.old (asking_of header) (machine_request_of request)).1) }
+    ensures cause { IfErr result (λ e. e ≡ ReplayError.NoMemory) }
+{
+    let Some(request) = machine_request_of(alloc, request)? else {
         return Ok(AnswerText::unreadable(alloc)?);
     };
     let Header {
@@ -205,6 +231,7 @@ impl Replay {
             (ends (S.left source.old) (S.faults source.old) (K.held sink.old) (K.faults sink.old))
             (ends (S.left source.new) (S.faults source.new) (K.held sink.new) (K.faults sink.new)) }
     {
+        bodies_have_one_meaning();
         'frames: loop {
             match self.turn(alloc, source, sink, steps) {
                 Ok(Turn::Answered) => {}

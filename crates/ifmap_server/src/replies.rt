@@ -1,14 +1,16 @@
 //! Answers as they are sent.
-ghost use Rattle.std.specs.Prelude.{◌≡◌, ◌++◌, codes, IfErr, IfOk};
+ghost use Rattle.std.specs.Prelude.{◌≡◌, ◌++◌, IfErr, IfOk};
+ghost use Rattle.ifmap_core.specs.Step.{refusal};
 ghost use Rattle.ifmap_io.specs.Causes.{HasCause};
 ghost use Rattle.ifmap_io.specs.Written.{WritesAll};
 ghost use Rattle.ifmap_msg.specs.Replies.{reply_bytes};
-ghost use Rattle.ifmap_server.specs.Output.{answer_text};
+ghost use Rattle.ifmap_server.specs.Output.{answer_text, unreadable_text};
 
 use crate::errors::ReplayError;
 use crate::sending::{hand_on, write};
 use ifmap_core::Answer;
-use ifmap_elem::{Many, canonical};
+use ifmap_elem::{Many, Text, canonical};
+use ifmap_ident::Code;
 use ifmap_io::Sink;
 use ifmap_msg::{Reply, element_of};
 use std::alloc::{AllocError as NoMemory, Global};
@@ -31,15 +33,24 @@ impl Model for AnswerText {
 }
 
 impl AnswerText {
-    /// What is written for a body that means no request.
+    /// What is written for a body that is no request, and for a request that the machine cannot be
+    /// asked yet.
     pub fn unreadable(alloc: Global) -> Result<AnswerText, NoMemory>
-        ensures { IfOk result (λ text. text ≡ codes "unreadable\n") }
+        ensures { IfOk result (λ text. text ≡ unreadable_text) }
     {
         let line = String::from_str(alloc, "unreadable\n")?;
         Ok(AnswerText {
             line,
             reply: Many(Vec::new(alloc)),
         })
+    }
+
+    /// The answer to a request with a defect: its code, with the code's name as the note.
+    pub fn refusal(alloc: Global, code: Code) -> Result<AnswerText, NoMemory>
+        ensures { IfOk result (λ text. text ≡ answer_text (refusal code)) }
+    {
+        let note = Text::from_str(alloc, code.name())?;
+        AnswerText::new(alloc, Answer::Reply(Reply::Error { code, note }))
     }
 
     /// `=`, the length of the reply, a newline and the reply.

@@ -1,12 +1,14 @@
-//! Tests of scripts: their answers from outside, the forms of headers and bodies, and sources and
-//! sinks that fail.
+//! Tests of scripts: their answers from outside, the forms of headers, requests in any spelling and
+//! with defects, and sources and sinks that fail.
 #![tactic(auto)]
 
 #[cfg(test)]
-mod bodies;
-#[cfg(test)]
 mod pacing;
+#[cfg(test)]
+mod refusals;
 #[cfg(test)]
 mod replays;
 #[cfg(test)]
 mod scripts;
+#[cfg(test)]
+mod spellings;

@@ -1,4 +1,6 @@
 //! Scripts and what is written for them.
+use std::alloc::Global;
+use std::test::Fail;
 
 /// A session begins and ends, and is asked to end again.
 pub const THREE_FRAMES: &str =
@@ -20,14 +22,44 @@ pub const FOUND: &str =
 pub const NEW_SESSION: &str =
     "<n1:Envelope xmlns:n1=\"http://www.w3.org/2003/05/soap-envelope\" xmlns:n2=\"http://www.trustedcomputinggroup.org/2010/IFMAP/2\"><n1:Body><n2:newSession/></n1:Body></n1:Envelope>";
 
-/// The body that ends one.
-pub const END_SESSION: &str =
-    "<n1:Envelope xmlns:n1=\"http://www.w3.org/2003/05/soap-envelope\" xmlns:n2=\"http://www.trustedcomputinggroup.org/2010/IFMAP/2\"><n1:Body><n2:endSession session-id=\"1-00000000-0000-0000-0000-000000000001\"/></n1:Body></n1:Envelope>";
+/// The length of the first answer of [`FOUND`], with its line.
+pub const FIRST_ANSWER: usize = 316;
 
-/// The body that publishes the role.
-pub const PUBLISH: &str =
-    "<n1:Envelope xmlns:n1=\"http://www.w3.org/2003/05/soap-envelope\" xmlns:n2=\"http://www.trustedcomputinggroup.org/2010/IFMAP/2\" xmlns:n3=\"http://www.trustedcomputinggroup.org/2010/IFMAP-METADATA/2\"><n1:Body><n2:publish session-id=\"1-00000000-0000-0000-0000-000000000001\"><update><mac-address value=\"00:00:5e:00:53:01\"/><metadata><n3:role ifmap-cardinality=\"multiValue\"><name>r</name></n3:role></metadata></update></n2:publish></n1:Body></n1:Envelope>";
+/// The body with this request in it.
+pub fn body_of(alloc: Global, request: &str) -> Result<String, Fail> {
+    Ok(format!(in alloc;
+        "<n1:Envelope xmlns:n1=\"http://www.w3.org/2003/05/soap-envelope\" xmlns:n2=\"http://www.trustedcomputinggroup.org/2010/IFMAP/2\" xmlns:n3=\"http://www.trustedcomputinggroup.org/2010/IFMAP-METADATA/2\"><n1:Body>{request}</n1:Body></n1:Envelope>"
+    )?)
+}
 
-/// The body that searches.
-pub const SEARCH: &str =
-    "<n1:Envelope xmlns:n1=\"http://www.w3.org/2003/05/soap-envelope\" xmlns:n2=\"http://www.trustedcomputinggroup.org/2010/IFMAP/2\"><n1:Body><n2:search session-id=\"1-00000000-0000-0000-0000-000000000001\"><mac-address value=\"00:00:5e:00:53:01\"/></n2:search></n1:Body></n1:Envelope>";
+/// The frame of a client with this body.
+pub fn frame_of(alloc: Global, moment: u64, client: &str, body: &str) -> Result<String, Fail> {
+    let length = body.len();
+    Ok(format!(in alloc; "@{moment} {client} 00000000000000000000000000000001 {length}\n{body}")?)
+}
+
+/// The script of the client `c1` with these bodies, all at the moment 1000000000.
+pub fn script_of(alloc: Global, bodies: &[&str]) -> Result<String, Fail> {
+    let mut script = String::new(alloc);
+    for body in bodies {
+        script.push_str(frame_of(alloc, 1_000_000_000, "c1", body)?.as_str())?;
+    }
+    Ok(script)
+}
+
+/// What is written for a reply with this result in its response.
+pub fn answer_of(alloc: Global, inner: &str) -> Result<String, Fail> {
+    let reply = format!(in alloc;
+        "<n1:Envelope xmlns:n1=\"http://www.w3.org/2003/05/soap-envelope\" xmlns:n2=\"http://www.trustedcomputinggroup.org/2010/IFMAP/2\"><n1:Body><n2:response>{inner}</n2:response></n1:Body></n1:Envelope>"
+    )?;
+    let length = reply.len();
+    Ok(format!(in alloc; "={length}\n{reply}")?)
+}
+
+/// What is written for a request with a defect.
+pub fn refusal_of(alloc: Global, code: &str) -> Result<String, Fail> {
+    let result = format!(in alloc;
+        "<errorResult errorCode=\"{code}\"><errorString>{code}</errorString></errorResult>"
+    )?;
+    answer_of(alloc, result.as_str())
+}

@@ -5,7 +5,7 @@ use Rattle.ifmap_server.proofs.Progress.{begin, next, over}
 use Rattle.ifmap_server.proofs.replaying.Replay.run.Goals as goal
 
 pub frames-init : goal.frames-init
-frames-init g c = begin _ _ c.requires
+frames-init g c = begin c.bodies_have_one_meaning.ensures _ _ c.requires
 
 pub frames-preserved : goal.frames-preserved
 frames-preserved g c =

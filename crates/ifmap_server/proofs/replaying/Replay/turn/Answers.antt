@@ -29,14 +29,16 @@ returns-in_err-send-clause-turn g c =
     let framed = c.in-Some.framed in
     let pending = c.next_frame.new.input in
     let is : IsFramed c.self.inside.offset pending framed = rw c.in-Some.is at c.in_ok-framed.ensures.frame in
-    let text = rw c.pending.ensures at c.in_ok-text.ensures.text in
+    let answered = rw c.pending.ensures at c.in_ok-text.ensures.answered in
     rw (p.1, p.2, fault, ← c.self.view_is) (record {
-      frame = frame_within framed pending;
+      frame = frame_within framed pending answered.meaning;
       taken = pending;
       rest = drop framed.end pending;
       takes = c.in_ok-framed.ensures.taken;
-      begins = is.begins;
-      wrote = subst (AppendsPrefix (g.K.Sink.held c.args.sink.now) (g.K.Sink.held c.send.new.sink)) text c.in_err-send.ensures.bytes;
+      begins = is.begins answered.meaning;
+      means = answered.means;
+      wrote = subst (AppendsPrefix (g.K.Sink.held c.args.sink.now) (g.K.Sink.held c.send.new.sink)) answered.wrote
+          c.in_err-send.ensures.bytes;
       cause = c.in_err-send.ensures.fault.failed;
     })
 
@@ -45,14 +47,22 @@ returns-clause-turn g c =
     let framed = c.in-Some.framed in
     let pending = c.next_frame.new.input in
     let is : IsFramed c.self.inside.offset pending framed = rw c.in-Some.is at c.in_ok-framed.ensures.frame in
-    let text = rw c.pending.ensures at c.in_ok-text.ensures.text in
-    let state = rw c.pending.ensures at c.in_ok-text.ensures.state in
+    let answered = rw c.pending.ensures at c.in_ok-text.ensures.answered in
+    let frame = frame_within framed pending answered.meaning in
     rw (← c.self.view_is) (record {
-      frame = frame_within framed pending;
+      frame = frame;
       taken = pending;
       takes = c.in_ok-framed.ensures.taken;
-      begins = subst (Begins c.self.inside.offset pending (frame_within framed pending)) (sym c.advance.ensures) is.begins;
-      state = state;
-      offset = ap (λ (n : ℕ). c.self.inside.offset + n) is.end;
-      wrote = subst (Appends (g.K.Sink.held c.args.sink.now) (g.K.Sink.held c.send.new.sink)) text c.in_ok-send.ensures.bytes;
+      begins = subst (Begins c.self.inside.offset pending frame) (sym c.advance.ensures) (is.begins answered.meaning);
+      means = answered.means;
+      state = answered.state;
+      offset = ap (λ (n : ℕ). c.self.inside.offset + n) (is.end answered.meaning);
+      wrote = subst (Appends (g.K.Sink.held c.args.sink.now) (g.K.Sink.held c.send.new.sink)) answered.wrote
+          c.in_ok-send.ensures.bytes;
     })
+
+pub invariant_of-self-2 : goal.invariant_of-self-2
+invariant_of-self-2 g c =
+    let is : IsFramed c.self.inside.offset c.next_frame.new.input c.in-Some.framed =
+    rw c.in-Some.is at c.in_ok-framed.ensures.frame in
+    is.ends
