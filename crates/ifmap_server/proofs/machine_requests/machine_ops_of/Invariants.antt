@@ -1,5 +1,4 @@
 use Rattle.std.specs.Vec.Iter.{into_iter_items}
-use Rattle.ifmap_server.specs.MachineRequests.{machine_ops_of}
 use Rattle.ifmap_server.proofs.MovedOps.{Moves}
 use Rattle.ifmap_server.proofs.machine_requests.machine_ops_of.Given as goal
 

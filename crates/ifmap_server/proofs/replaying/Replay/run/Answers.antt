@@ -1,5 +1,5 @@
 -- Turn by turn to the end of the replay.
-use Rattle.ifmap_server.specs.Ends.{Ends, ends}
+use Rattle.ifmap_server.specs.Ends.{ends}
 use Rattle.ifmap_server.proofs.Endings.{error_ends, fault_ends}
 use Rattle.ifmap_server.proofs.Progress.{begin, next, over}
 use Rattle.ifmap_server.proofs.replaying.Replay.run.Goals as goal

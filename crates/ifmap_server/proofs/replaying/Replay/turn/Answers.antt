@@ -1,9 +1,9 @@
 -- A frame that was taken is answered, or the turn tells how the replay ends.
-use Rattle.std.proofs.Common.{◌≡◌, ◌∙◌, ◌+◌, ℕ, Err, refl, sym, ap, subst, drop}
+use Rattle.std.proofs.Common.{◌≡◌, ◌+◌, ℕ, Err, refl, sym, ap, subst, drop}
 use Rattle.std.proofs.lemmas.Result.{err_from_is_err_and}
 use Rattle.std.specs.Io.KnownBytes.{Appends}
 use Rattle.ifmap_server.specs.declared.errors.ReplayError.TheVariants.{WriteFault}
-use Rattle.ifmap_server.specs.Output.{AppendsPrefix, step_frame}
+use Rattle.ifmap_server.specs.Output.{AppendsPrefix}
 use Rattle.ifmap_server.specs.Script.{Begins}
 use Rattle.ifmap_server.specs.Turns.{IsFramed, frame_within}
 use Rattle.ifmap_server.proofs.Endings.{untaken}
