@@ -3,7 +3,7 @@
 use ifmap_ident::Code;
 
 /// Requests with a defect, and the code of the first.
-pub const REFUSED: [(&str, Code); 62] = [
+pub static REFUSED: [(&str, Code); 62] = [
     // Another namespace comes before all others.
     ("<newSession/>", Code::InvalidSchemaVersion),
     (
@@ -215,7 +215,7 @@ pub const REFUSED: [(&str, Code); 62] = [
 ];
 
 /// Requests, and the form in which they are written.
-pub const MEANT: [(&str, &str); 14] = [
+pub static MEANT: [(&str, &str); 14] = [
     (
         "<i:newSession validation='All' max-poll-result-size='007'/>",
         "<n2:newSession max-poll-result-size=\"10000\"/>",
@@ -272,7 +272,7 @@ pub const MEANT: [(&str, &str); 14] = [
 ];
 
 /// Envelopes that are none of one element: the root's name, and what stands after its declarations.
-pub const UNREADABLE: [(&str, &str); 9] = [
+pub static UNREADABLE: [(&str, &str); 9] = [
     ("<e:Envelope", "/>"),
     ("<e:Envelope", "><e:Body/></e:Envelope>"),
     (

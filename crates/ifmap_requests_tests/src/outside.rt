@@ -3,7 +3,7 @@
 use ifmap_ident::Code;
 
 /// A spelling of a request, and another of the same request.
-pub const MEANT: [(&str, &str); 32] = [
+pub static MEANT: [(&str, &str); 32] = [
     (
         "<x:Envelope xmlns:x=\"http://www.w3.org/2003/05/soap-envelope\"><x:Body><meta:newSession xmlns:meta=\"http://www.trustedcomputinggroup.org/2010/IFMAP/2\"/></x:Body></x:Envelope>",
         "<n1:Envelope xmlns:n1=\"http://www.w3.org/2003/05/soap-envelope\" xmlns:n2=\"http://www.trustedcomputinggroup.org/2010/IFMAP/2\"><n1:Body><n2:newSession/></n1:Body></n1:Envelope>",
@@ -135,7 +135,7 @@ pub const MEANT: [(&str, &str); 32] = [
 ];
 
 /// Bodies that are no envelope of one element.
-pub const UNREADABLE: [&str; 24] = [
+pub static UNREADABLE: [&str; 24] = [
     "x",
     " ",
     "<f1:Envelope\nxmlns:f1=\"http://www.w3.org/2003/05/soap-envelope\"/>",
@@ -163,7 +163,7 @@ pub const UNREADABLE: [&str; 24] = [
 ];
 
 /// Bodies with a defect, and the code of the first.
-pub const REFUSED: [(&str, Code); 26] = [
+pub static REFUSED: [(&str, Code); 26] = [
     (
         "<n2:Envelope xmlns:n2=\"http://www.w3.org/2003/05/soap-envelope\"><n2:Body><x:purgePublisher xmlns:x=\"urn:x\" ifmap-publisher-id=\"d.e-f_G7\"/></n2:Body></n2:Envelope>",
         Code::InvalidSchemaVersion,
