@@ -2,8 +2,8 @@
 //! which code.
 use ifmap_ident::Code;
 
-/// A spelling of a request, and another of the same request.
-pub static MEANT: [(&str, &str); 32] = [
+/// A spelling of a request about sessions, and another of the same request.
+pub static ASKED: [(&str, &str); 10] = [
     (
         "<x:Envelope xmlns:x=\"http://www.w3.org/2003/05/soap-envelope\"><x:Body><meta:newSession xmlns:meta=\"http://www.trustedcomputinggroup.org/2010/IFMAP/2\"/></x:Body></x:Envelope>",
         "<n1:Envelope xmlns:n1=\"http://www.w3.org/2003/05/soap-envelope\" xmlns:n2=\"http://www.trustedcomputinggroup.org/2010/IFMAP/2\"><n1:Body><n2:newSession/></n1:Body></n1:Envelope>",
@@ -17,24 +17,12 @@ pub static MEANT: [(&str, &str); 32] = [
         "<n1:Envelope xmlns:n1=\"http://www.w3.org/2003/05/soap-envelope\" xmlns:n2=\"http://www.trustedcomputinggroup.org/2010/IFMAP/2\"><n1:Body><n2:poll session-id=\"5-00000000-0000-0000-0000-000000000000\"/></n1:Body></n1:Envelope>",
     ),
     (
-        "<Envelope xmlns='http:/&#x2F;www.w3.org/2003/05/soap-env&#x65;lope'><Body><x:subscribe xmlns:x='http://www.trustedcomputinggroup.org/2010/IFMAP/2' session-id='2-00000000-0000-0000-0000-00000000005b'/></Body>\n </Envelope>",
-        "<n1:Envelope xmlns:n1=\"http://www.w3.org/2003/05/soap-envelope\" xmlns:n2=\"http://www.trustedcomputinggroup.org/2010/IFMAP/2\"><n1:Body><n2:subscribe session-id=\"2-00000000-0000-0000-0000-00000000005b\"/></n1:Body></n1:Envelope>",
-    ),
-    (
-        "<n1:Envelope xmlns:n1=\"http://www.w3.org/2003/05/soap-envelope\"><n1:Body><x:subscribe xmlns:x=\"http://www.trustedcomputinggroup.org/2010/IFMAP/2\" session-id=\"7-00000000-0000-0000-0000-000000000001\"/></n1:Body></n1:Envelope>",
-        "<n1:Envelope xmlns:n1=\"http://www.w3.org/2003/05/soap-envelope\" xmlns:n2=\"http://www.trustedcomputinggroup.org/2010/IFMAP/2\"><n1:Body><n2:subscribe session-id=\"7-00000000-0000-0000-0000-000000000001\"/></n1:Body></n1:Envelope>",
-    ),
-    (
         "<n2:Envelope xmlns:n2=\"http://www.w3.org/2003/05/soap-envelope\"><n2:Body><\u{e9}:endSession\t  xmlns:\u{e9}=\"http://www.trustedcomputinggroup.org/2010/IFMAP/2\" session-id=\"1-00000000-0000-0000-0000-000000000001\"/></n2:Body></n2:Envelope>",
         "<n1:Envelope xmlns:n1=\"http://www.w3.org/2003/05/soap-envelope\" xmlns:n2=\"http://www.trustedcomputinggroup.org/2010/IFMAP/2\"><n1:Body><n2:endSession session-id=\"1-00000000-0000-0000-0000-000000000001\"/></n1:Body></n1:Envelope>",
     ),
     (
         "<Envelope   xmlns=\"http://www.w3.org/2003/05/soap-envelope\">\n <Body><x:poll session-id=\"4-15decf57-f2fd-cbfb-5f03-b2b9cf9e29dd\"  xmlns:x=\r'http://www.trustedcomp&#x00075;tinggroup.org/2010/IFMAP/2'/></Body></Envelope> <!-- x --> ",
         "<n1:Envelope xmlns:n1=\"http://www.w3.org/2003/05/soap-envelope\" xmlns:n2=\"http://www.trustedcomputinggroup.org/2010/IFMAP/2\"><n1:Body><n2:poll session-id=\"4-15decf57-f2fd-cbfb-5f03-b2b9cf9e29dd\"/></n1:Body></n1:Envelope>",
-    ),
-    (
-        "<ifmap:Envelope xmlns:ifmap=\"http://www.w3.org/2003/05/soap-envelope\"><ifmap:Body><n1:publish xmlns:n1=\"http://www.trustedcomputinggroup.org/2010/IFMAP/2\" session-id=\"2-ffffffff-ffff-ffff-ffff-ffffffffffff\"/></ifmap:Body></ifmap:Envelope>",
-        "<n1:Envelope xmlns:n1=\"http://www.w3.org/2003/05/soap-envelope\" xmlns:n2=\"http://www.trustedcomputinggroup.org/2010/IFMAP/2\"><n1:Body><n2:publish session-id=\"2-ffffffff-ffff-ffff-ffff-ffffffffffff\"/></n1:Body></n1:Envelope>",
     ),
     (
         "<p:Envelope xmlns:\u{e9}=\"http://www.trustedcomputinggroup.org/2010/IFMAP/2\" xmlns:p=\"http://www.w3.org/2003/05/soap-envelope\" xmlns:f1=\"urn:x\">\n <p:Body>\n <\u{e9}:endSession session-id=\"1-00000000-0000-0000-0000-000000000001\"/></p:Body></p:Envelope>",
@@ -56,9 +44,17 @@ pub static MEANT: [(&str, &str); 32] = [
         "<p:Envelope xmlns:p=\"http://www.w3.org/2003/05/soap-envelope\" xmlns:_=\"http://www.trustedcomputinggroup.org/2010/IFMAP/2\" xmlns:x=\"urn:x\"><p:Body><_:purgePublisher session-id=\"3-d6456d2b-357c-3ce7-a47c-f1dea95ad855\" ifmap-publisher-id=\"c3\"/></p:Body></p:Envelope>",
         "<n1:Envelope xmlns:n1=\"http://www.w3.org/2003/05/soap-envelope\" xmlns:n2=\"http://www.trustedcomputinggroup.org/2010/IFMAP/2\"><n1:Body><n2:purgePublisher ifmap-publisher-id=\"c3\" session-id=\"3-d6456d2b-357c-3ce7-a47c-f1dea95ad855\"/></n1:Body></n1:Envelope>",
     ),
+];
+
+/// The same of searches and subscriptions.
+pub static SEARCHED: [(&str, &str); 8] = [
     (
-        "<?xml version=\"1.0\" encoding=\"UTF-8\"?>\r\n<Envelope xmlns=\"http://www.w3.org/2003/05/soap-envelope\"><Body> <x:publish\n  xmlns:x=\"http://www.trustedcomp&#x75;tinggroup.org/2010/IFMAP/2\" session-id='1-ffffffff-ffff-ffff-ffff-ffffffffffff'>\n </x:publish> <!-- x --></Body></Envelope>",
-        "<n1:Envelope xmlns:n1=\"http://www.w3.org/2003/05/soap-envelope\" xmlns:n2=\"http://www.trustedcomputinggroup.org/2010/IFMAP/2\"><n1:Body><n2:publish session-id=\"1-ffffffff-ffff-ffff-ffff-ffffffffffff\"/></n1:Body></n1:Envelope>",
+        "<Envelope xmlns='http:/&#x2F;www.w3.org/2003/05/soap-env&#x65;lope'><Body><x:subscribe xmlns:x='http://www.trustedcomputinggroup.org/2010/IFMAP/2' session-id='2-00000000-0000-0000-0000-00000000005b'/></Body>\n </Envelope>",
+        "<n1:Envelope xmlns:n1=\"http://www.w3.org/2003/05/soap-envelope\" xmlns:n2=\"http://www.trustedcomputinggroup.org/2010/IFMAP/2\"><n1:Body><n2:subscribe session-id=\"2-00000000-0000-0000-0000-00000000005b\"/></n1:Body></n1:Envelope>",
+    ),
+    (
+        "<n1:Envelope xmlns:n1=\"http://www.w3.org/2003/05/soap-envelope\"><n1:Body><x:subscribe xmlns:x=\"http://www.trustedcomputinggroup.org/2010/IFMAP/2\" session-id=\"7-00000000-0000-0000-0000-000000000001\"/></n1:Body></n1:Envelope>",
+        "<n1:Envelope xmlns:n1=\"http://www.w3.org/2003/05/soap-envelope\" xmlns:n2=\"http://www.trustedcomputinggroup.org/2010/IFMAP/2\"><n1:Body><n2:subscribe session-id=\"7-00000000-0000-0000-0000-000000000001\"/></n1:Body></n1:Envelope>",
     ),
     (
         "<meta:Envelope xmlns:meta=\"http://www.w3.org/2003/05/soap-envelope\" xmlns:f1=\"http://www.trustedcomputinggroup.org/2010/IFMAP/2\"><meta:Body><f1:search  max-size=\"1\" session-id=\"4-00000000-0000-0000-0000-000000000001\" max-depth=\"5\">\n <identity type=\"tel-uri\" name=\"a@b7\"/></f1:search></meta:Body></meta:Envelope>",
@@ -73,10 +69,6 @@ pub static MEANT: [(&str, &str); 32] = [
         "<n1:Envelope xmlns:n1=\"http://www.w3.org/2003/05/soap-envelope\" xmlns:n2=\"http://www.trustedcomputinggroup.org/2010/IFMAP/2\"><n1:Body><n2:search max-depth=\"0\" max-size=\"200\" session-id=\"2-20b2ff19-02e2-6346-9f5d-7e19941d09af\"><ip-address type=\"IPv6\" value=\"0:0:3:0:0:1:0:0\"/></n2:search></n1:Body></n1:Envelope>",
     ),
     (
-        "<_:Envelope xmlns:_=\"http://www.w3.org/2003/05/soap-envelope\">\n <_:Body>\n <q:publish session-id=\"6-00000000-0000-0000-0000-000000000000\" xmlns:q=\"http://www.trustedcomputinggroup.org/2010/IFMAP/2\"><delete><identity name=\"www4.example.org\" type=\"dns-name\"/><access-request name=\"111:1\"/></delete></q:publish>\n </_:Body></_:Envelope>",
-        "<n1:Envelope xmlns:n1=\"http://www.w3.org/2003/05/soap-envelope\" xmlns:n2=\"http://www.trustedcomputinggroup.org/2010/IFMAP/2\"><n1:Body><n2:publish session-id=\"6-00000000-0000-0000-0000-000000000000\"><delete><access-request name=\"111:1\"/><identity name=\"www4.example.org\" type=\"dns-name\"/></delete></n2:publish></n1:Body></n1:Envelope>",
-    ),
-    (
         "<SOAP-ENV:Envelope xmlns:SOAP-ENV=\"http://www.w3.org/2003/05/soap-envelope\"><SOAP-ENV:Body><_:subscribe xmlns:_=\"http://www.trustedcomputinggroup.org/2010/IFMAP/2\" session-id=\"2-efabb0e7-f103-2234-9132-5686a59f7cde\"><update max-depth=\"1\" max-size=\"100000\" name=\" \"><access-request name=\"111:5\"/></update></_:subscribe></SOAP-ENV:Body></SOAP-ENV:Envelope>",
         "<n1:Envelope xmlns:n1=\"http://www.w3.org/2003/05/soap-envelope\" xmlns:n2=\"http://www.trustedcomputinggroup.org/2010/IFMAP/2\"><n1:Body><n2:subscribe session-id=\"2-efabb0e7-f103-2234-9132-5686a59f7cde\"><update max-depth=\"1\" max-size=\"100000\" name=\" \"><access-request name=\"111:5\"/></update></n2:subscribe></n1:Body></n1:Envelope>",
     ),
@@ -85,8 +77,24 @@ pub static MEANT: [(&str, &str); 32] = [
         "<n1:Envelope xmlns:n1=\"http://www.w3.org/2003/05/soap-envelope\" xmlns:n2=\"http://www.trustedcomputinggroup.org/2010/IFMAP/2\"><n1:Body><n2:subscribe session-id=\"3-00000000-0000-0000-0000-000000000000\"><delete name=\"t\"/></n2:subscribe></n1:Body></n1:Envelope>",
     ),
     (
-        "<_:Envelope xmlns:_=\"http://www.w3.org/2003/05/soap-envelope\"><_:Body><p:publish xmlns:p=\"http://www.trustedcomputinggroup.org/2010/IFMAP/2\" session-id=\"1-fcf8fe60-b3a5-7a38-aadd-5a57a63ff933\"><notify><identity name=\"X6\" type=\"other\" other-type-definition=\"vendor\" administrative-domain=\"d\u{fc}\"/><mac-address value=\"00:00:5e:00:53:07\"/><metadata/></notify></p:publish></_:Body></_:Envelope>",
-        "<n1:Envelope xmlns:n1=\"http://www.w3.org/2003/05/soap-envelope\" xmlns:n2=\"http://www.trustedcomputinggroup.org/2010/IFMAP/2\"><n1:Body><n2:publish session-id=\"1-fcf8fe60-b3a5-7a38-aadd-5a57a63ff933\"><notify><identity administrative-domain=\"d\u{fc}\" name=\"X6\" other-type-definition=\"vendor\" type=\"other\"/><mac-address value=\"00:00:5e:00:53:07\"/><metadata/></notify></n2:publish></n1:Body></n1:Envelope>",
+        "<Envelope\rany=\"x\" \r\n\txmlns\n='http://www.w3.org/2003&#47;05/soap-envelope' xmlns:n2=\"htt&#0112;://www.trustedcomputinggroup.org/2010/IFMAP/2\" xmlns:\u{e9}=\"urn:x\" xmlns:f1='http://www.trustedcomputinggroup.org/2010/IFMAP-METADATA/2'>\n  <Body><n2:subscribe session-id='2-00000000-0000-0000-0000-000000000024'><update name='s' xmlns=\"\" max-size=\"50\"><identity name=\"WWW4.example.OrG..\" type='dns-name'>\n  </identity></update></n2:subscribe> \n </Body></Envelope>",
+        "<n1:Envelope xmlns:n1=\"http://www.w3.org/2003/05/soap-envelope\" xmlns:n2=\"http://www.trustedcomputinggroup.org/2010/IFMAP/2\"><n1:Body><n2:subscribe session-id=\"2-00000000-0000-0000-0000-000000000024\"><update max-depth=\"0\" max-size=\"50\" name=\"s\"><identity name=\"www4.example.org\" type=\"dns-name\"/></update></n2:subscribe></n1:Body></n1:Envelope>",
+    ),
+];
+
+/// The same of short publishes.
+pub static PUBLISHED: [(&str, &str); 8] = [
+    (
+        "<ifmap:Envelope xmlns:ifmap=\"http://www.w3.org/2003/05/soap-envelope\"><ifmap:Body><n1:publish xmlns:n1=\"http://www.trustedcomputinggroup.org/2010/IFMAP/2\" session-id=\"2-ffffffff-ffff-ffff-ffff-ffffffffffff\"/></ifmap:Body></ifmap:Envelope>",
+        "<n1:Envelope xmlns:n1=\"http://www.w3.org/2003/05/soap-envelope\" xmlns:n2=\"http://www.trustedcomputinggroup.org/2010/IFMAP/2\"><n1:Body><n2:publish session-id=\"2-ffffffff-ffff-ffff-ffff-ffffffffffff\"/></n1:Body></n1:Envelope>",
+    ),
+    (
+        "<?xml version=\"1.0\" encoding=\"UTF-8\"?>\r\n<Envelope xmlns=\"http://www.w3.org/2003/05/soap-envelope\"><Body> <x:publish\n  xmlns:x=\"http://www.trustedcomp&#x75;tinggroup.org/2010/IFMAP/2\" session-id='1-ffffffff-ffff-ffff-ffff-ffffffffffff'>\n </x:publish> <!-- x --></Body></Envelope>",
+        "<n1:Envelope xmlns:n1=\"http://www.w3.org/2003/05/soap-envelope\" xmlns:n2=\"http://www.trustedcomputinggroup.org/2010/IFMAP/2\"><n1:Body><n2:publish session-id=\"1-ffffffff-ffff-ffff-ffff-ffffffffffff\"/></n1:Body></n1:Envelope>",
+    ),
+    (
+        "<_:Envelope xmlns:_=\"http://www.w3.org/2003/05/soap-envelope\">\n <_:Body>\n <q:publish session-id=\"6-00000000-0000-0000-0000-000000000000\" xmlns:q=\"http://www.trustedcomputinggroup.org/2010/IFMAP/2\"><delete><identity name=\"www4.example.org\" type=\"dns-name\"/><access-request name=\"111:1\"/></delete></q:publish>\n </_:Body></_:Envelope>",
+        "<n1:Envelope xmlns:n1=\"http://www.w3.org/2003/05/soap-envelope\" xmlns:n2=\"http://www.trustedcomputinggroup.org/2010/IFMAP/2\"><n1:Body><n2:publish session-id=\"6-00000000-0000-0000-0000-000000000000\"><delete><access-request name=\"111:1\"/><identity name=\"www4.example.org\" type=\"dns-name\"/></delete></n2:publish></n1:Body></n1:Envelope>",
     ),
     (
         "<x:Envelope\r\nxmlns:x=\n'http://w&#x00077;w.w3.org/2003/05/soap-envelope'><x:Body>&#x9;<publish session-id=\" \" xmlns='http://www.trustedcomputinggroup.org/2010/IFMAP/2'><update\txmlns:meta=\"urn:noise\" xmlns=\"\"> <!----><mac-address value=\"00:00:5e:00:53:00\"\r\nxmlns:n1=\n\"urn:noise\"/><access-request name=\"111:1\">\n </access-request> <metadata></metadata>\r\n&#x9;</update>\n </publish></x:Body></x:Envelope>\r\n",
@@ -97,8 +105,8 @@ pub static MEANT: [(&str, &str); 32] = [
         "<n1:Envelope xmlns:n1=\"http://www.w3.org/2003/05/soap-envelope\" xmlns:n2=\"http://www.trustedcomputinggroup.org/2010/IFMAP/2\"><n1:Body><n2:publish session-id=\"2-bc9e909a-796e-086a-05e7-dccc7f505c44\"><delete><device><name>dev 5</name></device><identity name=\"www0.example.org\" type=\"dns-name\"/></delete></n2:publish></n1:Body></n1:Envelope>",
     ),
     (
-        "<Envelope\rany=\"x\" \r\n\txmlns\n='http://www.w3.org/2003&#47;05/soap-envelope' xmlns:n2=\"htt&#0112;://www.trustedcomputinggroup.org/2010/IFMAP/2\" xmlns:\u{e9}=\"urn:x\" xmlns:f1='http://www.trustedcomputinggroup.org/2010/IFMAP-METADATA/2'>\n  <Body><n2:subscribe session-id='2-00000000-0000-0000-0000-000000000024'><update name='s' xmlns=\"\" max-size=\"50\"><identity name=\"WWW4.example.OrG..\" type='dns-name'>\n  </identity></update></n2:subscribe> \n </Body></Envelope>",
-        "<n1:Envelope xmlns:n1=\"http://www.w3.org/2003/05/soap-envelope\" xmlns:n2=\"http://www.trustedcomputinggroup.org/2010/IFMAP/2\"><n1:Body><n2:subscribe session-id=\"2-00000000-0000-0000-0000-000000000024\"><update max-depth=\"0\" max-size=\"50\" name=\"s\"><identity name=\"www4.example.org\" type=\"dns-name\"/></update></n2:subscribe></n1:Body></n1:Envelope>",
+        "<_:Envelope xmlns:_=\"http://www.w3.org/2003/05/soap-envelope\"><_:Body><p:publish xmlns:p=\"http://www.trustedcomputinggroup.org/2010/IFMAP/2\" session-id=\"1-fcf8fe60-b3a5-7a38-aadd-5a57a63ff933\"><notify><identity name=\"X6\" type=\"other\" other-type-definition=\"vendor\" administrative-domain=\"d\u{fc}\"/><mac-address value=\"00:00:5e:00:53:07\"/><metadata/></notify></p:publish></_:Body></_:Envelope>",
+        "<n1:Envelope xmlns:n1=\"http://www.w3.org/2003/05/soap-envelope\" xmlns:n2=\"http://www.trustedcomputinggroup.org/2010/IFMAP/2\"><n1:Body><n2:publish session-id=\"1-fcf8fe60-b3a5-7a38-aadd-5a57a63ff933\"><notify><identity administrative-domain=\"d\u{fc}\" name=\"X6\" other-type-definition=\"vendor\" type=\"other\"/><mac-address value=\"00:00:5e:00:53:07\"/><metadata/></notify></n2:publish></n1:Body></n1:Envelope>",
     ),
     (
         "<\u{e9}:Envelope xmlns:\u{e9}=\"http://www.w3.org/2003/05/soap-envelope\"><\u{e9}:Body><q:publish session-id=\"4-00000000-0000-0000-0000-000000000001\" xmlns:q=\"http://www.trustedcomputinggroup.org/2010/IFMAP/2\"><update lifetime=\"session\"><access-request name=\"111:1\"/><ip-address type=\"IPv6\" value=\"2001:db8:0:0:0:0:0:7\"/><metadata><f1:role ifmap-cardinality=\"singleValue\" xmlns:f1=\"http://www.trustedcomputinggroup.org/2010/IFMAP-METADATA/2\" xml:lang=\"tab&#x0009;here\"><name>q</name></f1:role></metadata></update></q:publish></\u{e9}:Body></\u{e9}:Envelope>",
@@ -108,6 +116,10 @@ pub static MEANT: [(&str, &str); 32] = [
         "<SOAP-ENV:Envelope xmlns:meta=\"urn:x\" xmlns:SOAP-ENV=\"http://www.w3.org/2003/05/soap-envelope\">\n <SOAP-ENV:Body>\n <_:publish xmlns:_=\"http://www.trustedcomputinggroup.org/2010/IFMAP/2\" session-id=\"1-4929fff0-1d7f-b7b2-c146-e1e20398781c\"><notify><identity other-type-definition=\"vendor\" name=\"X7\" type=\"other\">\n </identity>\n <access-request name=\"&amp;&lt;&quot;>'&#x9;2\u{e9}\"/><metadata><\u{e9}:ip-mac ifmap-cardinality=\"singleValue\" xmlns:\u{e9}=\"http://www.trustedcomputinggroup.org/2010/IFMAP-METADATA/2\"> lead<name>r</name>a b</\u{e9}:ip-mac></metadata>\n </notify></_:publish></SOAP-ENV:Body></SOAP-ENV:Envelope> ",
         "<n1:Envelope xmlns:n1=\"http://www.w3.org/2003/05/soap-envelope\" xmlns:n2=\"http://www.trustedcomputinggroup.org/2010/IFMAP/2\" xmlns:n3=\"http://www.trustedcomputinggroup.org/2010/IFMAP-METADATA/2\"><n1:Body><n2:publish session-id=\"1-4929fff0-1d7f-b7b2-c146-e1e20398781c\"><notify><access-request name=\"&amp;&lt;&quot;>'&#9;2\u{e9}\"/><identity name=\"X7\" other-type-definition=\"vendor\" type=\"other\"/><metadata><n3:ip-mac ifmap-cardinality=\"singleValue\"> lead<name>r</name>a b</n3:ip-mac></metadata></notify></n2:publish></n1:Body></n1:Envelope>",
     ),
+];
+
+/// The same of long publishes.
+pub static PUBLISHED_AT_LENGTH: [(&str, &str); 6] = [
     (
         "<ns-73:Envelope xmlns:ns-73=\"http://www.w3.org/2003/05/soap-envelope\"><ns-73:Body><meta:publish xmlns:meta=\"http://www.trustedcomputinggroup.org/2010/IFMAP/2\" session-id=\"2-848fff8d-4c45-bc59-dbf7-42674d423254\"><notify><mac-address value=\"00:00:5e:00:53:05\"/><ip-address value=\"0:0:2:0:0:1:0:0\" type=\"IPv6\" administrative-domain=\"a&amp;b\"/><metadata><n2:access-request-mac xmlns:n2=\"http://www.trustedcomputinggroup.org/2010/IFMAP-METADATA/2\" ifmap-cardinality=\"singleValue\" xml:ifmap-publisher-id=\" lead\"><name>q</name></n2:access-request-mac></metadata></notify><update><mac-address value=\"00:00:5e:00:53:05\"/><metadata/></update></meta:publish></ns-73:Body></ns-73:Envelope>",
         "<n1:Envelope xmlns:n1=\"http://www.w3.org/2003/05/soap-envelope\" xmlns:n2=\"http://www.trustedcomputinggroup.org/2010/IFMAP/2\" xmlns:n3=\"http://www.trustedcomputinggroup.org/2010/IFMAP-METADATA/2\"><n1:Body><n2:publish session-id=\"2-848fff8d-4c45-bc59-dbf7-42674d423254\"><notify><ip-address administrative-domain=\"a&amp;b\" type=\"IPv6\" value=\"0:0:2:0:0:1:0:0\"/><mac-address value=\"00:00:5e:00:53:05\"/><metadata><n3:access-request-mac ifmap-cardinality=\"singleValue\" xml:ifmap-publisher-id=\" lead\"><name>q</name></n3:access-request-mac></metadata></notify><update><mac-address value=\"00:00:5e:00:53:05\"/><metadata/></update></n2:publish></n1:Body></n1:Envelope>",

@@ -65,14 +65,39 @@ fn is_unreadable(alloc: Global, body: &str) -> bool {
     }
 }
 
-#[test]
-fn spellings_of_one_request_are_one(rt: HostRuntime) -> Result<(), Fail> {
-    let alloc = rt.alloc();
-    for (one, other) in &outside::MEANT {
+// Whether the two bodies of each row mean one request.
+fn are_alike(alloc: Global, rows: &[(&str, &str)]) -> bool {
+    for (one, other) in rows {
         let one = shown(alloc, one);
         let other = shown(alloc, other);
-        assert!(rt; one.is_some() && one == other);
+        if one.is_none() || one != other {
+            return false;
+        }
     }
+    true
+}
+
+#[test]
+fn spellings_of_one_asking_are_one(rt: HostRuntime) -> Result<(), Fail> {
+    assert!(rt; are_alike(rt.alloc(), &outside::ASKED));
+    Ok(())
+}
+
+#[test]
+fn spellings_of_one_search_are_one(rt: HostRuntime) -> Result<(), Fail> {
+    assert!(rt; are_alike(rt.alloc(), &outside::SEARCHED));
+    Ok(())
+}
+
+#[test]
+fn spellings_of_one_publish_are_one(rt: HostRuntime) -> Result<(), Fail> {
+    assert!(rt; are_alike(rt.alloc(), &outside::PUBLISHED));
+    Ok(())
+}
+
+#[test]
+fn spellings_of_one_long_publish_are_one(rt: HostRuntime) -> Result<(), Fail> {
+    assert!(rt; are_alike(rt.alloc(), &outside::PUBLISHED_AT_LENGTH));
     Ok(())
 }
 
