@@ -70,7 +70,8 @@ fn are_alike(alloc: Global, rows: &[(&str, &str)]) -> bool {
     for (one, other) in rows {
         let one = shown(alloc, one);
         let other = shown(alloc, other);
-        if one.is_none() || one != other {
+        let alike = one.is_some() && one == other;
+        if !alike {
             return false;
         }
     }
