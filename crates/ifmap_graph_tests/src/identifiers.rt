@@ -1,94 +1,161 @@
 //! Identifiers and items beside bytes that were written by hand.
-use crate::makers::address_of;
-use ifmap_elem::{Copied, Equals, canonical};
-use ifmap_ident::{Code, Item};
+use crate::makers::{address_at, address_of};
+use ifmap_elem::{Copied, Element, Equals, canonical};
+use ifmap_ident::{Code, Identifier, Item};
 use std::alloc::{AllocError as NoMemory, Global};
 use std::cmp::Ordering;
-use std::test::Fail;
 
-#[test]
-fn identifiers_print_as_written_by_hand(rt: HostRuntime) -> Result<(), Fail> {
-    let alloc = rt.alloc();
-    let cases: [(u8, &str, &str); 2] = [
-        (0x01, "", "<mac-address value=\"00:00:5e:00:53:01\"/>"),
-        (
-            0xaf,
-            "a&\"b<\t\n\r>",
-            "<mac-address administrative-domain=\"a&amp;&quot;b&lt;&#9;&#10;&#13;>\" value=\"00:00:5e:00:53:af\"/>",
-        ),
-    ];
-    for (last, domain, bytes) in &cases {
-        let identifier = address_of(alloc, *last, domain)?;
-        let element = identifier.copy(alloc)?.element(alloc)?;
-        let printed = canonical(alloc, &element)?;
-        assert_eq!(rt; printed.0.as_slice(), bytes.as_bytes());
-        assert_eq!(rt; identifier.size(), bytes.len() as u64);
+fn element_of_copy(alloc: Global, identifier: &Identifier) -> Result<Element, NoMemory> {
+    let copy = identifier.copy(alloc)?;
+    copy.element(alloc)
+}
+
+fn is_printed(alloc: Global, element: &Element, bytes: &str) -> bool {
+    match canonical(alloc, element) {
+        Ok(printed) => printed.0.as_slice() == bytes.as_bytes(),
+        Err(_) => false,
     }
-    Ok(())
 }
 
-#[test]
-fn identifiers_are_ordered_by_their_bytes(rt: HostRuntime) -> Result<(), Fail> {
-    let alloc = rt.alloc();
-    // `!` stands before the closing quote, and `&#9;` before `&amp;`.
-    let rising: [(u8, &str); 9] = [
-        (0x01, "a!"),
-        (0x01, "a"),
-        (0x02, "a"),
-        (0x00, "a\t"),
-        (0x00, "a&"),
-        (0x00, "aa"),
-        (0x00, ""),
-        (0x0a, ""),
-        (0xa0, ""),
-    ];
-    for i in 1..rising.len() {
-        let (last, domain) = rising[i - 1];
-        let one = address_of(alloc, last, domain)?;
-        let (last, domain) = rising[i];
-        let other = address_of(alloc, last, domain)?;
-        assert_eq!(rt; one.cmp(&other), Ordering::Less);
-        assert!(rt; one != other && one == one.copy(alloc)?);
+fn prints(alloc: Global, identifier: &Identifier, bytes: &str) -> bool {
+    match element_of_copy(alloc, identifier) {
+        Ok(element) => is_printed(alloc, &element, bytes),
+        Err(_) => false,
     }
-    Ok(())
 }
 
-fn link_of(alloc: Global, ends: Option<(u8, u8)>) -> Result<Option<Item>, NoMemory> {
-    let Some((a, b)) = ends else {
-        return Ok(None);
-    };
-    let a = address_of(alloc, a, "")?;
-    let b = address_of(alloc, b, "")?;
-    Ok(Some(Item::Pair(a, b)))
+fn size_of(identifier: &Identifier) -> u64 {
+    identifier.size()
 }
 
-#[test]
-fn a_link_is_two_identifiers_the_smaller_first(rt: HostRuntime) -> Result<(), Fail> {
-    let alloc = rt.alloc();
-    // The last bytes of the ends, and of those of the link in order where there is one.
-    let cases: [(u8, u8, Option<(u8, u8)>); 3] = [
-        (1, 1, None),
-        (1, 2, Some((1, 2))),
-        (2, 1, Some((1, 2))),
-    ];
-    for (a, b, wanted) in &cases {
-        let link = Item::pair(address_of(alloc, *a, "")?, address_of(alloc, *b, "")?);
-        let wanted = link_of(alloc, *wanted)?;
-        assert!(rt; link == wanted);
+// Whether the address of that last byte in a domain is written with these bytes.
+fn is_written(alloc: Global, last: u8, domain: &str, bytes: &str) -> bool {
+    match address_of(alloc, last, domain) {
+        Ok(identifier) => {
+            prints(alloc, &identifier, bytes) && size_of(&identifier) == bytes.len() as u64
+        }
+        Err(_) => false,
     }
-    Ok(())
+}
+
+const BARE: &str = "<mac-address value=\"00:00:5e:00:53:01\"/>";
+
+const ESCAPED: &str =
+    "<mac-address administrative-domain=\"a&amp;&quot;b&lt;&#9;&#10;&#13;>\" value=\"00:00:5e:00:53:af\"/>";
+
+#[test]
+fn identifiers_print_as_written_by_hand(rt: HostRuntime) {
+    let alloc = rt.alloc();
+    assert!(rt; is_written(alloc, 0x01, "", BARE));
+    assert!(rt; is_written(alloc, 0xaf, "a&\"b<\t\n\r>", ESCAPED));
+}
+
+// `!` stands before the closing quote, and `&#9;` before `&amp;`.
+static RISING: [(u8, &str); 9] = [
+    (0x01, "a!"),
+    (0x01, "a"),
+    (0x02, "a"),
+    (0x00, "a\t"),
+    (0x00, "a&"),
+    (0x00, "aa"),
+    (0x00, ""),
+    (0x0a, ""),
+    (0xa0, ""),
+];
+
+fn is_copied(alloc: Global, one: &Identifier) -> bool {
+    match one.copy(alloc) {
+        Ok(copy) => *one == copy,
+        Err(_) => false,
+    }
+}
+
+fn is_less(one: &Identifier, other: &Identifier) -> bool {
+    one.cmp(other) == Ordering::Less && one != other
+}
+
+fn is_below(alloc: Global, one: &Identifier, other: (u8, &str)) -> bool {
+    match address_of(alloc, other.0, other.1) {
+        Ok(other) => is_less(one, &other),
+        Err(_) => false,
+    }
+}
+
+// Whether the first address is less than the other and the same as its copy.
+fn rise(alloc: Global, one: (u8, &str), other: (u8, &str)) -> bool {
+    match address_of(alloc, one.0, one.1) {
+        Ok(one) => is_below(alloc, &one, other) && is_copied(alloc, &one),
+        Err(_) => false,
+    }
 }
 
 #[test]
-fn an_identifier_comes_before_its_links(rt: HostRuntime) -> Result<(), Fail> {
+fn identifiers_are_ordered_by_their_bytes(rt: HostRuntime) {
     let alloc = rt.alloc();
-    let one = Item::One(address_of(alloc, 1, "")?);
-    let link = Item::Pair(address_of(alloc, 1, "")?, address_of(alloc, 2, "")?);
-    let other = Item::One(address_of(alloc, 2, "")?);
-    let orders = [one.cmp(&link), link.cmp(&other), other.cmp(&one)];
-    assert_eq!(rt; orders, [Ordering::Less, Ordering::Less, Ordering::Greater]);
-    assert!(rt; link.copy(alloc)?.equals(&link));
-    assert_eq!(rt; link.size(), 80);
-    assert_eq!(rt; Code::IdentifierTooLong.name(), "IdentifierTooLong");
-    Ok(())
+    for i in 1..RISING.len() {
+        assert!(rt; rise(alloc, RISING[i - 1], RISING[i]), "at {i}");
+    }
+}
+
+fn one_at(alloc: Global, last: u8) -> Item {
+    Item::One(address_at(alloc, last))
+}
+
+fn link_at(alloc: Global, first: u8, second: u8) -> Item {
+    Item::Pair(address_at(alloc, first), address_at(alloc, second))
+}
+
+fn pair_of(alloc: Global, one: u8, other: u8) -> Option<Item> {
+    Item::pair(address_at(alloc, one), address_at(alloc, other))
+}
+
+fn have_link(alloc: Global, one: u8, other: u8) -> bool {
+    pair_of(alloc, one, other).is_some()
+}
+
+// Whether the link of the addresses that end in these bytes is that one.
+fn is_link(alloc: Global, one: u8, other: u8, wanted: &Item) -> bool {
+    match pair_of(alloc, one, other) {
+        Some(link) => link == *wanted,
+        None => false,
+    }
+}
+
+#[test]
+fn a_link_is_two_identifiers_the_smaller_first(rt: HostRuntime) {
+    let alloc = rt.alloc();
+    let link = link_at(alloc, 1, 2);
+    assert!(rt; is_link(alloc, 1, 2, &link));
+    assert!(rt; is_link(alloc, 2, 1, &link));
+    assert!(rt; !have_link(alloc, 1, 1));
+}
+
+fn comes_before(one: Item, other: Item) -> bool {
+    one.cmp(&other) == Ordering::Less && other.cmp(&one) == Ordering::Greater
+}
+
+fn is_item_copied(alloc: Global, item: &Item) -> bool {
+    match item.copy(alloc) {
+        Ok(copy) => copy.equals(item),
+        Err(_) => false,
+    }
+}
+
+// Whether an item has this size, and is the same as its copy.
+fn is_item(alloc: Global, item: Item, size: u64) -> bool {
+    is_item_copied(alloc, &item) && item.size() == size
+}
+
+#[test]
+fn an_identifier_comes_before_its_links(rt: HostRuntime) {
+    let alloc = rt.alloc();
+    assert!(rt; comes_before(one_at(alloc, 1), link_at(alloc, 1, 2)));
+    assert!(rt; comes_before(link_at(alloc, 1, 2), one_at(alloc, 2)));
+    assert!(rt; comes_before(one_at(alloc, 1), one_at(alloc, 2)));
+    assert!(rt; is_item(alloc, link_at(alloc, 1, 2), 80));
+}
+
+#[test]
+fn a_code_has_its_name(rt: HostRuntime) {
+    assert!(rt; Code::IdentifierTooLong.name() == "IdentifierTooLong");
 }
