@@ -9,9 +9,9 @@ use crate::shelves::Shelf;
 use ifmap_elem::{Element, Many, Text};
 use ifmap_filter::Filter;
 use ifmap_ident::laws::mac_addresses_are_identifiers;
-use ifmap_ident::{Identifier, Item};
+use ifmap_ident::{Identifier, Item, Kind};
 use ifmap_io::Moment;
-use ifmap_meta::{ClientName, Life, Metadata};
+use ifmap_meta::{ClientName, Life, Metadata, Stored};
 use ifmap_reader::{Scope, read};
 use ifmap_search::Search;
 use ifmap_view::Row;
@@ -29,21 +29,6 @@ pub(crate) enum Place {
 pub(crate) struct Spot {
     pub(crate) place: Place,
     pub(crate) names: &'static [&'static str],
-}
-
-// An address with elements of these names; so the next one of a link.
-pub(crate) fn at(last: u8, names: &'static [&'static str]) -> Spot {
-    Spot {
-        place: Place::At(last),
-        names,
-    }
-}
-
-pub(crate) fn link(one: u8, other: u8, names: &'static [&'static str]) -> Spot {
-    Spot {
-        place: Place::Link(one, other),
-        names,
-    }
 }
 
 // The MAC address `00:00:5e:00:53:..` that ends in this byte.
@@ -75,21 +60,37 @@ fn element_in(alloc: Global, text: &str) -> Result<Element, NoMemory> {
     }
 }
 
-// What is stored of a `role` with the name `r`, or of another element of the same namespace, where the
-// client `c1` publishes it at 1000000000.
-fn row_of(alloc: Global, name: &str) -> Result<Row, NoMemory> {
+// A `role` with the name `r`, or another element of the same namespace.
+fn metadata_of(alloc: Global, name: &str) -> Result<Metadata, NoMemory> {
     let text = format!(in alloc;
         "<{name} xmlns=\"http://www.trustedcomputinggroup.org/2010/IFMAP-METADATA/2\" ifmap-cardinality=\"multiValue\"><name xmlns=\"\">r</name></{name}>"
     )?;
-    let Ok(metadata) = Metadata::from_element(alloc, element_in(alloc, text.as_str())?) else {
-        return Err(NoMemory);
-    };
-    let client = ClientName::new(Text::from_str(alloc, "c1")?).ok_or(NoMemory)?;
-    let moment = Moment::new(1_000_000_000).ok_or(NoMemory)?;
-    Row::new(
-        alloc,
-        metadata.stamp(alloc, &client, moment, Life::Forever)?,
-    )
+    match Metadata::from_element(alloc, element_in(alloc, text.as_str())?) {
+        Ok(metadata) => Ok(metadata),
+        Err(_) => Err(NoMemory),
+    }
+}
+
+fn client_of(alloc: Global) -> Result<ClientName, NoMemory> {
+    match ClientName::new(Text::from_str(alloc, "c1")?) {
+        Some(client) => Ok(client),
+        None => Err(NoMemory),
+    }
+}
+
+fn stamp(alloc: Global, metadata: &Metadata) -> Result<Stored, NoMemory> {
+    let client = client_of(alloc)?;
+    match Moment::new(1_000_000_000) {
+        Some(moment) => metadata.stamp(alloc, &client, moment, Life::Forever),
+        None => Err(NoMemory),
+    }
+}
+
+// What is stored of such an element, where the client `c1` publishes it at 1000000000.
+fn row_of(alloc: Global, name: &str) -> Result<Row, NoMemory> {
+    let metadata = metadata_of(alloc, name)?;
+    let stored = stamp(alloc, &metadata)?;
+    Row::new(alloc, stored)
 }
 
 fn rows_of(alloc: Global, names: &[&str]) -> Result<Vec<Row>, NoMemory> {
@@ -149,15 +150,56 @@ pub(crate) fn search_from(alloc: Global, start: u8, max_depth: u32) -> Search
     }
 }
 
-// The filter of this text, in which the prefix `m` stands for the metadata's namespace.
-pub(crate) fn filter_of(alloc: Global, text: &str) -> Result<Filter, NoMemory> {
-    let space = "http://www.trustedcomputinggroup.org/2010/IFMAP-METADATA/2";
-    let row = (Text::from_str(alloc, "m")?, Text::from_str(alloc, space)?);
-    let scope = Scope {
-        rows: Many(vec![in alloc; row]?),
-    };
-    match Filter::parse(alloc, &Text::from_str(alloc, text)?, &scope) {
+// What is within three links of the first address, with these filters of links and of results.
+pub(crate) fn search_with(
+    alloc: Global,
+    filters: (Option<Filter>, Option<Filter>),
+    terminal: Many<Kind>,
+    max_size: u64,
+) -> Search
+    ensures { IsIdentifier result.start }
+{
+    let (match_links, result_filter) = filters;
+    Search {
+        start: address_of(alloc, 1),
+        match_links,
+        max_depth: 3,
+        max_size,
+        result_filter,
+        terminal,
+    }
+}
+
+// The prefix `m` for the metadata's namespace.
+fn scope_of(alloc: Global) -> Result<Scope, NoMemory> {
+    let prefix = Text::from_str(alloc, "m")?;
+    let space = Text::from_str(
+        alloc,
+        "http://www.trustedcomputinggroup.org/2010/IFMAP-METADATA/2",
+    )?;
+    let mut rows = Vec::new(alloc);
+    rows.push((prefix, space))?;
+    Ok(Scope { rows: Many(rows) })
+}
+
+fn parse(alloc: Global, text: &Text, scope: &Scope) -> Result<Filter, NoMemory> {
+    match Filter::parse(alloc, text, scope) {
         Ok(filter) => Ok(filter),
         Err(_) => Err(NoMemory),
+    }
+}
+
+fn filter_of(alloc: Global, text: &str) -> Result<Filter, NoMemory> {
+    let scope = scope_of(alloc)?;
+    let text = Text::from_str(alloc, text)?;
+    parse(alloc, &text, &scope)
+}
+
+// The filter of this text, if there is one, in which the prefix `m` stands for the metadata's
+// namespace.
+pub(crate) fn filter_in(alloc: Global, text: Option<&str>) -> Result<Option<Filter>, NoMemory> {
+    match text {
+        Some(text) => Ok(Some(filter_of(alloc, text)?)),
+        None => Ok(None),
     }
 }

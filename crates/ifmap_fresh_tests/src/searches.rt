@@ -3,8 +3,9 @@ ghost use Rattle.std.specs.Prelude.{◌≡◌, ◌<◌};
 ghost use Rattle.ifmap_ident.specs.Canon.{IsIdentifier};
 
 use crate::lists::Lists;
-use crate::makers::{at, filter_of, link, lists_of, search_from};
+use crate::makers::{Place, Spot, filter_in, lists_of, search_from, search_with};
 use ifmap_elem::Many;
+use ifmap_filter::Filter;
 use ifmap_fresh::fresh;
 use ifmap_ident::{Identifier, Item, Kind};
 use ifmap_search::{Entry, Found, Search, SearchError};
@@ -12,7 +13,6 @@ use ifmap_steps::Steps;
 use std::alloc::{AllocError as NoMemory, Global};
 use std::marker::Brand;
 use std::sync::ledger::{Blank, Ledger};
-use std::test::Fail;
 
 fn find_with<L: Ledger>(
     alloc: Global,
@@ -49,14 +49,19 @@ fn place_of(alloc: Global, item: &Item) -> Result<String, NoMemory> {
     }
 }
 
+fn push_entry(alloc: Global, out: &mut String, entry: &Entry) -> Result<(), NoMemory> {
+    let place = place_of(alloc, entry.item.item())?;
+    out.push_str(place.as_str())?;
+    out.push_str(" ")?;
+    out.push_str(entry.element.element().name.local.0.as_str())?;
+    out.push_str(", ")
+}
+
 // The entries in their order: their places, and the local names of their elements.
 fn told(alloc: Global, entries: &Many<Entry>) -> Result<String, NoMemory> {
     let mut out = String::new(alloc);
     for entry in &entries.0 {
-        out.push_str(place_of(alloc, entry.item.item())?.as_str())?;
-        out.push_str(" ")?;
-        out.push_str(entry.element.element().name.local.0.as_str())?;
-        out.push_str(", ")?;
+        push_entry(alloc, &mut out, entry)?;
     }
     Ok(out)
 }
@@ -72,117 +77,212 @@ fn found_in(alloc: Global, lists: &Lists, search: &Search) -> Result<String, NoM
     }
 }
 
-fn found_from(alloc: Global, lists: &Lists, start: u8, max_depth: u32) -> Result<String, NoMemory> {
-    found_in(alloc, lists, &search_from(alloc, start, max_depth))
-}
-
-#[test]
-fn a_link_between_two_at_the_greatest_depth_is_not_found(rt: HostRuntime) -> Result<(), Fail> {
-    let alloc = rt.alloc();
-    let spots = [
-        at(1, &["a"]),
-        link(1, 2, &["b"]),
-        link(1, 3, &["c"]),
-        at(2, &["d"]),
-        link(2, 3, &["e"]),
-    ];
-    let lists = lists_of(alloc, 4, &spots)?;
-    for (max_depth, wanted) in [
-        (0, "1 a, "),
-        (1, "1 a, 1-2 b, 1-3 c, 2 d, "),
-        (2, "1 a, 1-2 b, 1-3 c, 2 d, 2-3 e, "),
-    ] {
-        assert_eq!(rt; found_from(alloc, &lists, 1, max_depth)?.as_str(), wanted);
+fn is_found(alloc: Global, lists: &Lists, search: &Search, wanted: &str) -> bool
+    requires { IsIdentifier search.now.start }
+{
+    match found_in(alloc, lists, search) {
+        Ok(told) => told.as_str() == wanted,
+        Err(_) => false,
     }
+}
+
+fn is_found_from(alloc: Global, lists: &Lists, start: u8, max_depth: u32, wanted: &str) -> bool {
+    let search = search_from(alloc, start, max_depth);
+    is_found(alloc, lists, &search, wanted)
+}
+
+static TRIANGLE: [Spot; 5] = [
+    Spot {
+        place: Place::At(1),
+        names: &["a"],
+    },
+    Spot {
+        place: Place::Link(1, 2),
+        names: &["b"],
+    },
+    Spot {
+        place: Place::Link(1, 3),
+        names: &["c"],
+    },
+    Spot {
+        place: Place::At(2),
+        names: &["d"],
+    },
+    Spot {
+        place: Place::Link(2, 3),
+        names: &["e"],
+    },
+];
+
+#[test]
+fn a_link_between_two_at_the_greatest_depth_is_not_found(rt: HostRuntime) {
+    let alloc = rt.alloc();
+    let Ok(lists) = lists_of(alloc, 4, &TRIANGLE) else {
+        panic!(rt; "no lists");
+    };
+    assert!(rt; is_found_from(alloc, &lists, 1, 0, "1 a, "));
+    assert!(rt; is_found_from(alloc, &lists, 1, 1, "1 a, 1-2 b, 1-3 c, 2 d, "));
+    assert!(rt; is_found_from(alloc, &lists, 1, 2, "1 a, 1-2 b, 1-3 c, 2 d, 2-3 e, "));
     // Nothing is found from an address that the lists do not know.
-    assert_eq!(rt; found_from(alloc, &lists, 9, 3)?.as_str(), "");
-    Ok(())
+    assert!(rt; is_found_from(alloc, &lists, 9, 3, ""));
+}
+
+static LINKED: [Spot; 3] = [
+    Spot {
+        place: Place::At(1),
+        names: &["a"],
+    },
+    Spot {
+        place: Place::Link(1, 2),
+        names: &["b"],
+    },
+    Spot {
+        place: Place::At(2),
+        names: &["c"],
+    },
+];
+
+fn one_kind(alloc: Global, kind: Kind) -> Result<Many<Kind>, NoMemory> {
+    let mut kinds = Vec::new(alloc);
+    kinds.push(kind)?;
+    Ok(Many(kinds))
+}
+
+// Whether this is found from the first address, where such identifiers are terminal.
+fn is_found_to(alloc: Global, lists: &Lists, terminal: Kind, wanted: &str) -> bool {
+    let Ok(terminal) = one_kind(alloc, terminal) else {
+        return false;
+    };
+    let search = search_with(alloc, (None, None), terminal, 100_000);
+    is_found(alloc, lists, &search, wanted)
 }
 
 #[test]
-fn no_walk_goes_on_from_a_terminal_start(rt: HostRuntime) -> Result<(), Fail> {
+fn no_walk_goes_on_from_a_terminal_start(rt: HostRuntime) {
     let alloc = rt.alloc();
-    let lists = lists_of(
-        alloc,
-        3,
-        &[at(1, &["a"]), link(1, 2, &["b"]), at(2, &["c"])],
-    )?;
-    let mut search = search_from(alloc, 1, 3);
-    assert_eq!(rt;
-        found_in(alloc, &lists, &search)?.as_str(),
-        "1 a, 1-2 b, 2 c, "
-    );
-    search.terminal = Many(vec![in alloc; Kind::MacAddress]?);
-    assert_eq!(rt; found_in(alloc, &lists, &search)?.as_str(), "1 a, ");
-    search.terminal = Many(vec![in alloc; Kind::Device]?);
-    assert_eq!(rt;
-        found_in(alloc, &lists, &search)?.as_str(),
-        "1 a, 1-2 b, 2 c, "
-    );
-    Ok(())
+    let Ok(lists) = lists_of(alloc, 3, &LINKED) else {
+        panic!(rt; "no lists");
+    };
+    assert!(rt; is_found_from(alloc, &lists, 1, 3, "1 a, 1-2 b, 2 c, "));
+    assert!(rt; is_found_to(alloc, &lists, Kind::MacAddress, "1 a, "));
+    assert!(rt; is_found_to(alloc, &lists, Kind::Device, "1 a, 1-2 b, 2 c, "));
+}
+
+// The filters of links and of results, where there are some.
+type Filters = (Option<Filter>, Option<Filter>);
+
+fn filters_of(
+    alloc: Global,
+    links: Option<&str>,
+    results: Option<&str>,
+) -> Result<Filters, NoMemory> {
+    let links = filter_in(alloc, links)?;
+    let results = filter_in(alloc, results)?;
+    Ok((links, results))
+}
+
+// Whether this is found from the first address with these filters.
+fn is_found_by(
+    alloc: Global,
+    lists: &Lists,
+    links: Option<&str>,
+    results: Option<&str>,
+    wanted: &str,
+) -> bool {
+    let Ok(filters) = filters_of(alloc, links, results) else {
+        return false;
+    };
+    let search = search_with(alloc, filters, Many(Vec::new(alloc)), 100_000);
+    is_found(alloc, lists, &search, wanted)
 }
 
 #[test]
-fn an_empty_filter_is_met_by_nothing(rt: HostRuntime) -> Result<(), Fail> {
+fn an_empty_filter_is_met_by_nothing(rt: HostRuntime) {
     let alloc = rt.alloc();
-    let lists = lists_of(
-        alloc,
-        3,
-        &[at(1, &["a"]), link(1, 2, &["b"]), at(2, &["c"])],
-    )?;
-    let mut search = search_from(alloc, 1, 3);
-    search.match_links = Some(filter_of(alloc, "")?);
-    assert_eq!(rt; found_in(alloc, &lists, &search)?.as_str(), "1 a, ");
-    search.match_links = None;
-    search.result_filter = Some(filter_of(alloc, "")?);
-    assert_eq!(rt; found_in(alloc, &lists, &search)?.as_str(), "");
-    Ok(())
+    let Ok(lists) = lists_of(alloc, 3, &LINKED) else {
+        panic!(rt; "no lists");
+    };
+    assert!(rt; is_found_by(alloc, &lists, Some(""), None, "1 a, "));
+    assert!(rt; is_found_by(alloc, &lists, None, Some(""), ""));
+}
+
+static TWO_LINKS: [Spot; 3] = [
+    Spot {
+        place: Place::Link(1, 2),
+        names: &["a", "b"],
+    },
+    Spot {
+        place: Place::Link(1, 3),
+        names: &["a"],
+    },
+    Spot {
+        place: Place::At(2),
+        names: &["a"],
+    },
+];
+
+#[test]
+fn a_link_that_matches_is_found_with_its_other_elements(rt: HostRuntime) {
+    let alloc = rt.alloc();
+    let Ok(lists) = lists_of(alloc, 4, &TWO_LINKS) else {
+        panic!(rt; "no lists");
+    };
+    assert!(rt; is_found_by(alloc, &lists, Some("m:b"), None, "1-2 a, 1-2 b, 2 a, "));
+    assert!(rt; is_found_by(alloc, &lists, Some("m:b"), Some("m:a"), "1-2 a, 2 a, "));
+}
+
+static CYCLE: [Spot; 4] = [
+    Spot {
+        place: Place::Link(1, 2),
+        names: &["a"],
+    },
+    Spot {
+        place: Place::Link(2, 3),
+        names: &["b"],
+    },
+    Spot {
+        place: Place::Link(2, 4),
+        names: &["c"],
+    },
+    Spot {
+        place: Place::Link(3, 4),
+        names: &["d"],
+    },
+];
+
+// Whether this is found from the first address among these.
+fn is_found_in(alloc: Global, count: u8, spots: &[Spot], wanted: &str) -> bool {
+    match lists_of(alloc, count, spots) {
+        Ok(lists) => is_found_from(alloc, &lists, 1, 5, wanted),
+        Err(_) => false,
+    }
 }
 
 #[test]
-fn a_link_that_matches_is_found_with_its_other_elements(rt: HostRuntime) -> Result<(), Fail> {
+fn a_cycle_is_found_while_a_link_leads_to_it(rt: HostRuntime) {
     let alloc = rt.alloc();
-    let spots = [link(1, 2, &["a", "b"]), link(1, 3, &["a"]), at(2, &["a"])];
-    let lists = lists_of(alloc, 4, &spots)?;
-    let mut search = search_from(alloc, 1, 3);
-    search.match_links = Some(filter_of(alloc, "m:b")?);
-    assert_eq!(rt;
-        found_in(alloc, &lists, &search)?.as_str(),
-        "1-2 a, 1-2 b, 2 a, "
-    );
-    search.result_filter = Some(filter_of(alloc, "m:a")?);
-    assert_eq!(rt; found_in(alloc, &lists, &search)?.as_str(), "1-2 a, 2 a, ");
-    Ok(())
+    assert!(rt; is_found_in(alloc, 5, &CYCLE, "1-2 a, 2-3 b, 2-4 c, 3-4 d, "));
+    assert!(rt; is_found_in(alloc, 5, &CYCLE[1..], ""));
 }
 
-#[test]
-fn a_cycle_is_found_while_a_link_leads_to_it(rt: HostRuntime) -> Result<(), Fail> {
-    let alloc = rt.alloc();
-    let spots = [
-        link(1, 2, &["a"]),
-        link(2, 3, &["b"]),
-        link(2, 4, &["c"]),
-        link(3, 4, &["d"]),
-    ];
-    let lists = lists_of(alloc, 5, &spots)?;
-    assert_eq!(rt;
-        found_from(alloc, &lists, 1, 5)?.as_str(),
-        "1-2 a, 2-3 b, 2-4 c, 3-4 d, "
-    );
-    let lists = lists_of(alloc, 5, &spots[1..])?;
-    assert_eq!(rt; found_from(alloc, &lists, 1, 5)?.as_str(), "");
-    Ok(())
+static ONE_ROLE: [Spot; 1] = [Spot {
+    place: Place::At(1),
+    names: &["role"],
+}];
+
+// Whether this is told from the first address up to that size.
+fn is_told(alloc: Global, lists: &Lists, max_size: u64, wanted: &str) -> bool {
+    let search = search_with(alloc, (None, None), Many(Vec::new(alloc)), max_size);
+    is_found(alloc, lists, &search, wanted)
 }
 
+// 40 bytes for the address, and 197 for the role.
 #[test]
-fn a_size_above_the_limit_is_told(rt: HostRuntime) -> Result<(), Fail> {
+fn a_size_above_the_limit_is_told(rt: HostRuntime) {
     let alloc = rt.alloc();
-    // 40 bytes for the address, and 197 for the role.
-    let lists = lists_of(alloc, 2, &[at(1, &["role"])])?;
-    let mut search = search_from(alloc, 1, 0);
-    search.max_size = 237;
-    assert_eq!(rt; found_in(alloc, &lists, &search)?.as_str(), "1 role, ");
-    search.max_size = 236;
-    assert_eq!(rt; found_in(alloc, &lists, &search)?.as_str(), "237");
-    Ok(())
+    let Ok(lists) = lists_of(alloc, 2, &ONE_ROLE) else {
+        panic!(rt; "no lists");
+    };
+    assert!(rt; is_told(alloc, &lists, 237, "1 role, "));
+    assert!(rt; is_told(alloc, &lists, 236, "237"));
 }
