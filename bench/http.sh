@@ -154,12 +154,13 @@ fn time_parser(rt: &impl Clock) -> io::Result<u128> {
 fn time_bare(rt: &impl Clock, near: &mut TcpLink, far: &mut TcpLink, one: &[u8]) -> io::Result<u128> {
     let mut room = [0u8; 4096];
     let mut there = [0u8; 4096];
+    let answer = [0u8; 84];
     let began = Instant::now(rt)?;
     let mut moved = 0u32;
     for _ in 0..EXCHANGES {
         if near.write_all(one).is_ok()
             && far.read(&mut there).is_ok()
-            && far.write_all(&there[..84]).is_ok()
+            && far.write_all(&answer).is_ok()
             && near.read(&mut room).is_ok()
         {
             moved = moved.saturating_add(1);
