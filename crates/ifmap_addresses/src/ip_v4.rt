@@ -24,7 +24,8 @@ pub fn ip_v4_of(text: &str) -> Option<[u8; 4]>
 /// Appends the text of an address. The one error is want of memory; the text may then have a part of
 /// it.
 pub fn push_ip_v4(value: &[u8; 4], text: &mut String) -> Result<(), NoMemory>
-    ensures { OnOk result (string_bytes text.new ≡ string_bytes text.old ++ ip_v4_text value.now) }
+    ensures { OnOk result (
+        string_bytes text.new ≡ string_bytes text.old ++ ip_v4_text value.now) }
 {
     let [a, b, c, d] = *value;
     text.push_str(Buffer::new().format(a))?;

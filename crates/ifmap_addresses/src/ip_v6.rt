@@ -30,14 +30,16 @@ pub fn ip_v6_of(text: &str) -> Option<[u16; 8]>
 /// RFC 5952, sections 4.1 and 4.3, but never with `::`. The one error is want of memory; the text may
 /// then have a part of it.
 pub fn push_ip_v6(value: &[u16; 8], text: &mut String) -> Result<(), NoMemory>
-    ensures { OnOk result (string_bytes text.new ≡ string_bytes text.old ++ ip_v6_text value.now) }
+    ensures { OnOk result (
+        string_bytes text.new ≡ string_bytes text.old ++ ip_v6_text value.now) }
 {
     push_groups(value, text)
 }
 
 // Appends groups, with a colon between each two.
 fn push_groups(groups: &[u16], text: &mut String) -> Result<(), NoMemory>
-    ensures { OnOk result (string_bytes text.new ≡ string_bytes text.old ++ ip_v6_text groups.now) }
+    ensures { OnOk result (
+        string_bytes text.new ≡ string_bytes text.old ++ ip_v6_text groups.now) }
 {
     let Some((first, rest)) = groups.split_first() else {
         return Ok(());

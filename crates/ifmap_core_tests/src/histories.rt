@@ -5,7 +5,8 @@ ghost use Rattle.std.specs.List.{list_all};
 ghost use Rattle.ifmap_elem.specs.Chars.{IsCharacters};
 ghost use Rattle.ifmap_msg.specs.Fit.{IsFitOp, IsFitRequest};
 
-use crate::roles::{first_address, role_to_publish};
+use crate::addresses::{address_of, printed_address};
+use crate::roles::role_to_publish;
 use ifmap_core::{Answer, Ask, Core, Event};
 use ifmap_elem::{Child, Element, Many, Text};
 use ifmap_ident::Item;
@@ -55,6 +56,10 @@ enum Asks {
     Forever(&'static str, &'static str),
     /// What is on the first address, up to that size.
     Search(&'static str, u64),
+    /// A multiValue role on the IPv6 address that is spelled so.
+    On(&'static str, &'static str, &'static str),
+    /// What is on the IPv6 address that is spelled so.
+    SearchOn(&'static str, &'static str),
 }
 
 /// An event, with its random word, and the answer in words.
@@ -77,34 +82,52 @@ fn are_graphic(bytes: &[u8]) -> bool
     bytes.iter().all(|b| b.is_ascii_graphic())
 }
 
-// A role on the first address.
-fn update(alloc: Global, name: &str, value: &str, forever: bool) -> Result<PublishOp, Fail>
+// A role of that name and cardinality, and where it is to stand: on an IPv6 address, or else on the
+// first address.
+#[derive(Clone, Copy)]
+struct Role {
+    on: Option<&'static str>,
+    name: &'static str,
+    cardinality: &'static str,
+    forever: bool,
+}
+
+fn multi_role(on: Option<&'static str>, name: &'static str) -> Role {
+    Role {
+        on,
+        name,
+        cardinality: "multiValue",
+        forever: false,
+    }
+}
+
+fn update(alloc: Global, role: Role) -> Result<PublishOp, Fail>
     ensures { IfOk result IsFitOp }
 {
-    let metadata = role_to_publish(alloc, value, name)?;
+    let metadata = role_to_publish(alloc, role.cardinality, role.name)?;
     let elements = Many(Vec::from_array(alloc, [metadata])?);
-    let item = Item::One(first_address(alloc)?);
+    let item = Item::One(address_of(alloc, role.on)?);
     Ok(PublishOp::Update {
         item,
         elements,
-        forever,
+        forever: role.forever,
     })
 }
 
-fn publish(alloc: Global, id: &str, name: &str, value: &str, forever: bool) -> Result<Request, Fail>
+fn publish(alloc: Global, id: &str, role: Role) -> Result<Request, Fail>
     ensures { IfOk result IsFitRequest }
 {
     let session = id_text(alloc, id)?;
-    let op = update(alloc, name, value, forever)?;
+    let op = update(alloc, role)?;
     let ops = Many(Vec::from_array(alloc, [op])?);
     Ok(Request::Publish { session, ops })
 }
 
-fn search(alloc: Global, id: &str, max_size: u64) -> Result<Request, Fail>
+fn search(alloc: Global, id: &str, on: Option<&'static str>, max_size: u64) -> Result<Request, Fail>
     ensures { IfOk result IsFitRequest }
 {
     let session = id_text(alloc, id)?;
-    let start = first_address(alloc)?;
+    let start = address_of(alloc, on)?;
     Ok(Request::Search {
         session,
         search: Search { start, max_size },
@@ -119,10 +142,26 @@ fn request(alloc: Global, asks: Asks) -> Result<Request, Fail>
         Asks::End(id) => Ok(Request::EndSession {
             session: id_text(alloc, id)?,
         }),
-        Asks::Multi(id, name) => publish(alloc, id, name, "multiValue", false),
-        Asks::Single(id, name) => publish(alloc, id, name, "singleValue", false),
-        Asks::Forever(id, name) => publish(alloc, id, name, "multiValue", true),
-        Asks::Search(id, max_size) => search(alloc, id, max_size),
+        Asks::Multi(id, name) => publish(alloc, id, multi_role(None, name)),
+        Asks::Single(id, name) => publish(
+            alloc,
+            id,
+            Role {
+                cardinality: "singleValue",
+                ..multi_role(None, name)
+            },
+        ),
+        Asks::Forever(id, name) => publish(
+            alloc,
+            id,
+            Role {
+                forever: true,
+                ..multi_role(None, name)
+            },
+        ),
+        Asks::Search(id, max_size) => search(alloc, id, None, max_size),
+        Asks::On(id, address, name) => publish(alloc, id, multi_role(Some(address), name)),
+        Asks::SearchOn(id, address) => search(alloc, id, Some(address), 1_000),
     }
 }
 
@@ -144,10 +183,11 @@ fn name_of(element: &Element) -> &str {
     }
 }
 
-// The attributes' values and the name of each role.
+// The IPv6 address that each role is on, if it is on one, the attributes' values and the name.
 fn roles_of(alloc: Global, entries: &Many<Entry>) -> Result<String, Fail> {
     let mut words = String::new(alloc);
     for entry in &entries.0 {
+        words.push_str(printed_address(alloc, &entry.item)?.as_str())?;
         for attribute in &entry.element.attributes.0 {
             words.push_str(attribute.value.0.as_str())?;
             words.push(' ')?;
@@ -329,6 +369,37 @@ fn metadata_is_found_until_it_is_replaced_or_its_session_ends(rt: HostRuntime) -
         (early, "c2", 15, Asks::Search(THIRD, 1000), u),
         (early, "c2", 16, Asks::Search(SECOND, 1000), MISSING),
         (early, "c2", 17, Asks::Multi(SECOND, "w"), MISSING),
+    ];
+    expect_history(&rt, 0, &turns)
+}
+
+#[test]
+fn spellings_of_one_address_name_one_identifier(rt: HostRuntime) -> Result<(), Fail> {
+    let at = 1_000_000_000;
+    let plain = "2001:db8:0:0:0:0:0:1";
+    let r =
+        "<ip-address type=\"IPv6\" value=\"2001:db8:0:0:0:0:0:1\"/>multiValue c1 2001-09-09T01:46:40Z r;";
+    let turns: [Turn; 7] = [
+        (at, "c1", 1, Asks::New, FIRST_OF_C1),
+        (
+            at,
+            "c1",
+            2,
+            Asks::On(FIRST, "2001:DB8::1", "r"),
+            "published",
+        ),
+        (at, "c1", 3, Asks::SearchOn(FIRST, plain), r),
+        (at, "c1", 4, Asks::SearchOn(FIRST, "2001:0DB8:0::0:0001"), r),
+        (at, "c1", 5, Asks::SearchOn(FIRST, "2001:db8::2"), ""),
+        // A third spelling gives the role again, and not one more.
+        (
+            at,
+            "c1",
+            6,
+            Asks::On(FIRST, "2001:db8:0:0::1", "r"),
+            "published",
+        ),
+        (at, "c1", 7, Asks::SearchOn(FIRST, plain), r),
     ];
     expect_history(&rt, 0, &turns)
 }

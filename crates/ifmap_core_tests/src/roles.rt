@@ -1,6 +1,5 @@
 //! The elements of the tests: `role` of the standard's metadata.
 ghost use Rattle.std.specs.Prelude.{IfOk};
-ghost use Rattle.ifmap_ident.specs.Canon.{IsIdentifier};
 ghost use Rattle.ifmap_meta.specs.Whole.{IsMetadata};
 
 use ifmap_elem::{Attribute, Child, Element, Many, Name, Text};
@@ -36,20 +35,6 @@ pub fn role_to_publish(alloc: Global, cardinality: &str, name: &str) -> Result<M
     match Metadata::from_element(alloc, reading.root) {
         Ok(metadata) => Ok(metadata),
         Err(_) => Err("the role is no metadata".into()),
-    }
-}
-
-/// The first MAC address of the block for documents, as it is read.
-pub fn first_address(alloc: Global) -> Result<Identifier, Fail>
-    ensures { IfOk result IsIdentifier }
-{
-    let text = b"<mac-address value=\"00:00:5e:00:53:01\"/>";
-    let Ok(reading) = read(alloc, text.as_slice(), 64) else {
-        return Err("the address is not read".into());
-    };
-    match Identifier::from_element(alloc, &reading.root) {
-        Ok(identifier) => Ok(identifier),
-        Err(_) => Err("the address is no identifier".into()),
     }
 }
 

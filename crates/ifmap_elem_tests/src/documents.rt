@@ -1,8 +1,7 @@
 //! Documents and what is wanted of them: worked rows, and the answers of another program.
-use ifmap_elem::{Copied, canonical};
-use ifmap_reader::{ReadError, read, scope_at};
+use ifmap_elem::{Copied, Element, Reading, Text, canonical};
+use ifmap_reader::{ReadError, Scope, read, scope_at};
 use std::alloc::{AllocError as NoMemory, Global};
-use std::test::Fail;
 
 // Rows that end at `~`: the levels allowed, the canonical bytes or the place that are wanted, and
 // the document.
@@ -232,15 +231,25 @@ fn is_place(wanted: &str, words: &str, at: u64) -> bool {
     }
 }
 
+fn is_printed(alloc: Global, element: &Element, wanted: &str) -> bool {
+    match canonical(alloc, element) {
+        Ok(printed) => printed.0.as_slice() == wanted.as_bytes(),
+        Err(_) => false,
+    }
+}
+
+fn is_refused(error: &ReadError, wanted: &str) -> bool {
+    match error {
+        ReadError::Unreadable { at } => is_place(wanted, "unreadable ", *at),
+        ReadError::TooDeep { at } => is_place(wanted, "too deep ", *at),
+        ReadError::NoMemory => false,
+    }
+}
+
 fn is_answer(alloc: Global, wanted: &str, document: &[u8], depth: u32) -> bool {
     match read(alloc, document, depth) {
-        Ok(reading) => match canonical(alloc, &reading.root) {
-            Ok(printed) => printed.0.as_slice() == wanted.as_bytes(),
-            Err(_) => false,
-        },
-        Err(ReadError::Unreadable { at }) => is_place(wanted, "unreadable ", at),
-        Err(ReadError::TooDeep { at }) => is_place(wanted, "too deep ", at),
-        Err(ReadError::NoMemory) => false,
+        Ok(reading) => is_printed(alloc, &reading.root, wanted),
+        Err(error) => is_refused(&error, wanted),
     }
 }
 
@@ -258,57 +267,73 @@ fn is_as_wanted(alloc: Global, row: &str) -> bool {
 }
 
 #[test]
-fn documents_are_read_as_another_program_reads_them(rt: HostRuntime) -> Result<(), Fail> {
+fn documents_are_read_as_another_program_reads_them(rt: HostRuntime) {
     let alloc = rt.alloc();
     for row in ROWS.split('~') {
         assert!(rt; is_as_wanted(alloc, row), "{row}");
     }
-    Ok(())
+}
+
+fn is_unreadable(alloc: Global, document: &[u8], depth: u32, place: u64) -> bool {
+    match read(alloc, document, depth) {
+        Err(ReadError::Unreadable { at }) => at == place,
+        _ => false,
+    }
 }
 
 #[test]
-fn documents_that_are_no_texts_are_unreadable(rt: HostRuntime) -> Result<(), Fail> {
+fn documents_that_are_no_texts_are_unreadable(rt: HostRuntime) {
     let alloc = rt.alloc();
     for (document, depth, place) in &NO_TEXTS {
-        let found = match read(alloc, document, *depth) {
-            Err(ReadError::Unreadable { at }) => at == *place,
-            _ => false,
-        };
-        assert!(rt; found, "{place}");
+        assert!(rt; is_unreadable(alloc, document, *depth, *place), "{place}");
     }
-    Ok(())
 }
 
-// The prefixes in scope at the element with this path, each with its namespace.
-fn text_of_scope(alloc: Global, document: &str, path: &[u32]) -> Result<String, NoMemory> {
-    let Ok(reading) = read(alloc, document.as_bytes(), 64) else {
-        return String::from_str(alloc, "unread");
-    };
-    let scope = scope_at(alloc, &reading, path)?.copy(alloc)?;
+fn push_row(out: &mut String, prefix: &Text, space: &Text) -> Result<(), NoMemory> {
+    out.push_str(prefix.0.as_str())?;
+    out.push('=')?;
+    out.push_str(space.0.as_str())?;
+    out.push(';')
+}
+
+// The prefixes, each with its namespace.
+fn text_of_rows(alloc: Global, rows: &[(Text, Text)]) -> Result<String, NoMemory> {
     let mut out = String::new(alloc);
-    for (prefix, space) in &scope.rows.0 {
-        out.push_str(prefix.0.as_str())?;
-        out.push('=')?;
-        out.push_str(space.0.as_str())?;
-        out.push(';')?;
+    for (prefix, space) in rows {
+        push_row(&mut out, prefix, space)?;
     }
     Ok(out)
 }
 
-#[test]
-fn the_innermost_declaration_of_a_prefix_is_in_scope(rt: HostRuntime) -> Result<(), Fail> {
-    let alloc = rt.alloc();
-    let document =
-        "<a xmlns='d' xmlns:p='u' xmlns:xml='http://www.w3.org/XML/1998/namespace'><b xmlns:p='v' xmlns:q='w'/><c/></a>";
-    let cases: [(&[u32], &str); 4] = [
-        (&[], "p=u;"),
-        (&[0], "p=v;q=w;"),
-        (&[1], "p=u;"),
-        (&[7, 1], "p=u;"),
-    ];
-    for (path, wanted) in &cases {
-        let got = text_of_scope(alloc, document, path)?;
-        assert_eq!(rt; got.as_str(), *wanted);
+fn text_of_copy(alloc: Global, scope: &Scope) -> Result<String, NoMemory> {
+    let copy = scope.copy(alloc)?;
+    text_of_rows(alloc, &copy.rows.0)
+}
+
+// The prefixes in scope at the element with this path.
+fn text_of_scope(alloc: Global, reading: &Reading, path: &[u32]) -> Result<String, NoMemory> {
+    let scope = scope_at(alloc, reading, path)?;
+    text_of_copy(alloc, &scope)
+}
+
+fn is_in_scope(alloc: Global, path: &[u32], wanted: &str) -> bool {
+    match read(alloc, SCOPED.as_bytes(), 64) {
+        Ok(reading) => match text_of_scope(alloc, &reading, path) {
+            Ok(text) => text.as_str() == wanted,
+            Err(_) => false,
+        },
+        Err(_) => false,
     }
-    Ok(())
+}
+
+const SCOPED: &str =
+    "<a xmlns='d' xmlns:p='u' xmlns:xml='http://www.w3.org/XML/1998/namespace'><b xmlns:p='v' xmlns:q='w'/><c/></a>";
+
+#[test]
+fn the_innermost_declaration_of_a_prefix_is_in_scope(rt: HostRuntime) {
+    let alloc = rt.alloc();
+    assert!(rt; is_in_scope(alloc, &[], "p=u;"));
+    assert!(rt; is_in_scope(alloc, &[0], "p=v;q=w;"));
+    assert!(rt; is_in_scope(alloc, &[1], "p=u;"));
+    assert!(rt; is_in_scope(alloc, &[7, 1], "p=u;"));
 }

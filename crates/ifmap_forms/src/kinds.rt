@@ -10,16 +10,9 @@ ghost use Rattle.ifmap_forms.specs.Values.{begins_white, kind_of, kinds_check, p
 use crate::errors::FormError;
 use crate::parts::{is_white, is_white_alone};
 use ifmap_elem::Many;
+use ifmap_ident::kinds::KINDS;
 use ifmap_ident::{Code, Kind};
 use std::alloc::Global;
-
-const KINDS: [Kind; 5] = [
-    Kind::AccessRequest,
-    Kind::Device,
-    Kind::Identity,
-    Kind::IpAddress,
-    Kind::MacAddress,
-];
 
 /// The kinds of identifiers that a text names, in its order: names of kinds with commas between
 /// them and white space round each, or a blank text, which names none. A text between two commas

@@ -1,33 +1,13 @@
 //! What an element of a message has in it.
-ghost use Rattle.std.specs.Prelude.{◌≡◌, ℕ, List, map, option_copied};
-ghost use Rattle.std.specs.List.{find, list_all, list_any};
+ghost use Rattle.std.specs.Prelude.{◌≡◌, ℕ, List, map};
+ghost use Rattle.std.specs.List.{list_all, list_any};
 ghost use Rattle.std.specs.Str.{bytes_eq};
-ghost use Rattle.ifmap_elem.specs.Building.{is_bare};
 ghost use Rattle.ifmap_elem.specs.Chars.{is_white};
 ghost use Rattle.ifmap_elem.specs.declared.elements.Child.{out-Child};
-ghost use Rattle.ifmap_ident.specs.Parts.{has_only, is_known, value_of};
+ghost use Rattle.ifmap_ident.specs.Parts.{has_only, is_known};
 ghost use Rattle.ifmap_forms.specs.Tables.{is_white_part, parts_in};
 
-use ifmap_elem::{Attribute, Child, Element, Text};
-
-/// The value of the attribute of this local name in no namespace, if there is one.
-pub fn value_of<'a>(element: &'a Element, local: &str) -> Option<&'a Text>
-    ensures { option_copied result ≡ value_of local.now element.now }
-{
-    let attributes = &element.attributes;
-    match attribute_of(&attributes.0, local) {
-        Some(attribute) => Some(&attribute.value),
-        None => None,
-    }
-}
-
-fn attribute_of<'a>(attributes: &'a [Attribute], local: &str) -> Option<&'a Attribute>
-    ensures { option_copied result ≡ find (λ a. is_bare local.now a.name) attributes.now }
-{
-    attributes
-        .iter()
-        .find(|attribute| attribute.name.is_bare(local))
-}
+use ifmap_elem::{Attribute, Child, Element};
 
 /// Whether each attribute of the element has one of these local names or is in a namespace.
 pub fn has_only(element: &Element, locals: &[&str]) -> bool

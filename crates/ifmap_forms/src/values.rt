@@ -12,12 +12,11 @@ ghost use Rattle.ifmap_forms.specs.Values.{depth_field, filter_check, kinds_fiel
 use crate::errors::FormError;
 use crate::kinds::kinds_in;
 use crate::numbers::number_of;
-use crate::parts::value_of;
 use crate::places::{Place, scope_of};
 use ifmap_elem::{Copied, Element, Many, Text};
 use ifmap_filter::laws::text_is_filter_or_stops;
 use ifmap_filter::{Filter, FilterError};
-use ifmap_ident::{Code, Kind};
+use ifmap_ident::{Code, Kind, value_of};
 use std::alloc::Global;
 
 /// The text of the attribute of this name, whatever it is; Failure where there is none.

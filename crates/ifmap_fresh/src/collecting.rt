@@ -23,7 +23,8 @@ pub(crate) struct Looking<'a, V> {
 impl<'a, V: View> Looking<'a, V> {
     // Whether walks go on from the number.
     fn is_passed(&self, number: u64) -> bool
-        ensures { result ≡ is_passed (V.rows self.now.links.view.now) (V.id_at self.now.links.view.now)
+        ensures { result ≡ is_passed
+            (V.rows self.now.links.view.now) (V.id_at self.now.links.view.now)
             (V.links self.now.links.view.now) self.now.links.search.now
             (mark_of self.now.region.marks.entries) number }
     {
@@ -134,7 +135,8 @@ impl<'a, V: View> Looking<'a, V> {
             (V.rows self.now.links.view.now) (V.id_at self.now.links.view.now)
             (V.links self.now.links.view.now) self.now.links.search.now
             (mark_of self.now.region.marks.entries) (numbers_of self.now.region.marks.entries)) }
-        ensures steps { steps.new ≤ steps.old + sum_by (λ v. length (V.links self.now.links.view.now v))
+        ensures steps { steps.new ≤ steps.old
+            + sum_by (λ v. length (V.links self.now.links.view.now v))
             (numbers_of self.now.region.marks.entries) }
         ensures apart { IsDistinct nat_eq (numbers_of self.now.region.marks.entries) }
     {

@@ -122,7 +122,8 @@ fn size_on<V: View>(view: &V, filter: &Option<Filter>, items: &[Item]) -> Option
 
 // The size of what of these rows of an item meets the filter; `None` where a `u64` cannot tell it.
 fn size_of(filter: &Option<Filter>, item: &Item, rows: &[Row]) -> Option<u64>
-    ensures { IfSome result (λ size. size ≡ entries_size (entries_of filter.now item.now rows.now)) }
+    ensures { IfSome result (λ size.
+        size ≡ entries_size (entries_of filter.now item.now rows.now)) }
 {
     let own = exact_size(item)?;
     let mut size: u64 = 0;

@@ -34,7 +34,8 @@ pub graph_put : (a : Attachment) (graph : List Attachment) → IsWholeAttachment
 graph_put a graph w g differ = record {
   rising = put_sorted Attachment attachment_order attachments_total a graph g.rising;
   keys = put_distinct Attachment attachment_order attachments_total same_key keys_equiv a graph g.rising g.keys differ;
-  whole = all_around IsWholeAttachment (filter (λ b. is_lt (attachment_order b a)) graph) a (filter (λ b. is_gt (attachment_order b a)) graph)
+  whole = all_around IsWholeAttachment (filter (λ b. is_lt (attachment_order b a)) graph) a (filter (λ b. is_gt
+      (attachment_order b a)) graph)
       (all_filter IsWholeAttachment (λ b. is_lt (attachment_order b a)) graph g.whole) w
       (all_filter IsWholeAttachment (λ b. is_gt (attachment_order b a)) graph g.whole);
 }

@@ -31,7 +31,8 @@ impl Copied for Kind {
     }
 }
 
-const KINDS: [Kind; 5] = [
+/// Every kind, in the order of their names.
+pub const KINDS: [Kind; 5] = [
     Kind::AccessRequest,
     Kind::Device,
     Kind::Identity,

@@ -26,4 +26,5 @@ pub use errors::IdentError;
 pub use identifiers::Identifier;
 pub use items::Item;
 pub use kinds::{IdentityType, Kind};
+pub use parts::value_of;
 pub use shared_items::SharedItem;

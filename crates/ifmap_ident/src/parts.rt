@@ -14,8 +14,9 @@ use crate::kinds::Kind;
 use ifmap_elem::{Attribute, Child, Copied, Element, Text};
 use std::alloc::{AllocError as NoMemory, Global};
 
-// The value of the attribute of this local name in no namespace, if there is one.
-pub(crate) fn value_of<'a>(element: &'a Element, local: &str) -> Option<&'a Text>
+/// The value of the attribute of this local name in no namespace; `None` where there is none. It takes
+/// no memory.
+pub fn value_of<'a>(element: &'a Element, local: &str) -> Option<&'a Text>
     ensures { option_copied result ≡ value_of local.now element.now }
 {
     let attributes = &element.attributes;

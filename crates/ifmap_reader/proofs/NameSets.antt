@@ -52,7 +52,8 @@ differ_not : (ns : List Name) (n : Name) (more : List Name) → list_any (same n
 differ_not [] n more some d = cc
 differ_not (m ∷ ms) n more some d = elim (cases_Bool (same n m)) [
   | inl e ↦ all_middle (λ y. m ≢ y) ms n more d.0 (sym (same_tells n m e))
-  | inr e ↦ differ_not ms n more (let k : (false || list_any (same n) ms) ≡ true = ap (λ b. b || list_any (same n) ms) (sym e) ∙ some in k) d.1
+  | inr e ↦ differ_not ms n more (let k : (false || list_any (same n) ms) ≡ true = ap (λ b. b || list_any (same n)
+      ms) (sym e) ∙ some in k) d.1
 ]
 
 or_last : (b c : Bool) → cond b true c ≡ (c || (b || false))

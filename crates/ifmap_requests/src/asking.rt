@@ -28,7 +28,8 @@ pub(crate) fn read_element(
     element: Element,
 ) -> Result<Request, FormError>
     requires { place.now.child ≡ None }
-    ensures { IsChecked (request_check (scopes_by place.now.declared.now place.now.path.now) element)
+    ensures { IsChecked
+        (request_check (scopes_by place.now.declared.now place.now.path.now) element)
         result }
 {
     if !is_asked(&element.name) {
@@ -116,7 +117,8 @@ fn read_end_session(alloc: Global, element: &Element) -> Result<Request, FormErr
 }
 
 fn read_poll(alloc: Global, element: &Element) -> Result<Request, FormError>
-    ensures { (scopes : Scopes) → IsChecked (form_check poll_form poll_of scopes element.now) result }
+    ensures { (scopes : Scopes) →
+        IsChecked (form_check poll_form poll_of scopes element.now) result }
 {
     let session = read_session(alloc, element)?;
     Ok(Request::Poll { session })
@@ -138,7 +140,8 @@ fn read_new_session(element: &Element) -> Result<Request, FormError>
 
 // The id of the session in a request that has nothing else.
 fn read_session(alloc: Global, element: &Element) -> Result<Text, FormError>
-    ensures { (scopes : Scopes) → IsCheckedAs session_alone (read_form renew_form scopes element.now)
+    ensures { (scopes : Scopes) →
+        IsCheckedAs session_alone (read_form renew_form scopes element.now)
         result }
 {
     let session = read_text(alloc, element, "session-id")?;
@@ -206,7 +209,8 @@ fn read_subscribe(alloc: Global, place: &Place<'_>, element: &Element) -> Result
 }
 
 fn read_purge(alloc: Global, element: &Element) -> Result<Request, FormError>
-    ensures { (scopes : Scopes) → IsChecked (form_check purge_form purge_of scopes element.now) result }
+    ensures { (scopes : Scopes) →
+        IsChecked (form_check purge_form purge_of scopes element.now) result }
 {
     let session = read_text(alloc, element, "session-id")?;
     let publisher = read_text(alloc, element, "ifmap-publisher-id")?;

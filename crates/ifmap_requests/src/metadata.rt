@@ -111,7 +111,8 @@ fn read_elements(alloc: Global, list: Element) -> Result<Many<Metadata>, FormErr
 }
 
 fn read_each(alloc: Global, children: Vec<Child>) -> Result<Many<Metadata>, FormError>
-    ensures { IsChecked (each_element (λ index e. metadata_check e) 0 (parts_in children.items)) result }
+    ensures { IsChecked
+        (each_element (λ index e. metadata_check e) 0 (parts_in children.items)) result }
 {
     let mut made = Vec::new(alloc);
     for child in children {

@@ -25,7 +25,8 @@ pub(crate) fn read_publish_ops(
     children: Vec<Child>,
 ) -> Result<Many<PublishOp>, FormError>
     requires { place.now.child ≡ None }
-    ensures { IsChecked (list_of publish_op_check (scopes_by place.now.declared.now place.now.path.now)
+    ensures { IsChecked (list_of publish_op_check
+        (scopes_by place.now.declared.now place.now.path.now)
         (parts_in children.items)) result }
 {
     let mut ops = Vec::new(alloc);
@@ -96,7 +97,8 @@ fn read_op(alloc: Global, place: &Place<'_>, element: Element) -> Result<Publish
 }
 
 fn read_update(alloc: Global, element: Element) -> Result<PublishOp, FormError>
-    ensures { (scopes : Scopes) → IsChecked (form_check update_form update_of scopes element) result }
+    ensures { (scopes : Scopes) →
+        IsChecked (form_check update_form update_of scopes element) result }
 {
     let forever = read_lifetime(&element)?;
     if !has_only(&element, &["lifetime"]) {
@@ -112,7 +114,8 @@ fn read_update(alloc: Global, element: Element) -> Result<PublishOp, FormError>
 }
 
 fn read_notify(alloc: Global, element: Element) -> Result<PublishOp, FormError>
-    ensures { (scopes : Scopes) → IsChecked (form_check notify_form notify_of scopes element) result }
+    ensures { (scopes : Scopes) →
+        IsChecked (form_check notify_form notify_of scopes element) result }
 {
     if !has_only(&element, &[]) {
         return Err(FormError::Named(Code::Failure));

@@ -24,7 +24,8 @@ pub(crate) fn read_subscribe_ops(
     children: &[Child],
 ) -> Result<Many<SubscribeOp>, FormError>
     requires { place.now.child ≡ None }
-    ensures { IsChecked (list_of subscribe_op_check (scopes_by place.now.declared.now place.now.path.now)
+    ensures { IsChecked (list_of subscribe_op_check
+        (scopes_by place.now.declared.now place.now.path.now)
         (parts_in children.now)) result }
 {
     let mut ops = Vec::new(alloc);

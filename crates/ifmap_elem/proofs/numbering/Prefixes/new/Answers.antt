@@ -15,5 +15,6 @@ invariant_of-result c =
           ∙ ap (λ b. cond b (Some c.copy.result) (get key_order c.new-labels.result q)) (key_ties c.new-key.result q))
           (c.new-key.ensures ∙ c.as_bytes-last.ensures.value) (c.copy.ensures ∙ c.xml-xml.ensures) none,
       none_first (bytes_of c.new-order.result.items) none,
-      first_prefix (bytes_of c.new-order.result.items) c.as_bytes-last.result.now c.xml-xml.result none c.as_bytes-last.ensures.value c.xml-xml.ensures,
+      first_prefix (bytes_of c.new-order.result.items) c.as_bytes-last.result.now c.xml-xml.result none
+          c.as_bytes-last.ensures.value c.xml-xml.ensures,
     )
