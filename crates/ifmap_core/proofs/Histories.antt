@@ -331,7 +331,7 @@ module _ (attached_graph : (graph : List Attachment) (a : Attachment) → IsWhol
       ]
   step_sound state event (Request (the_request.EndSession id)) name fit whole w =
       in_session_sound state event.client (end_session state) (session_with_id id state.sessions) (λ s e own.
-          ended_sound s.serial state w) w
+      ended_sound s.serial state w) w
   step_sound state event (Request (the_request.Publish id ops)) name fit whole w =
       in_session_sound state event.client (publish state ops) (session_with_id id state.sessions)
       (λ s e own. publish_sound state ops (λ (t : Session). is_text t.id id) s whole w e

@@ -164,7 +164,7 @@ invalid_session state event (Request (the_request.Search id asked)) =
     missing (advance event.moment state) event.client (answer_search (advance event.moment state) asked)
     (session_with_id id state.sessions)
     (λ s h. let bad : SearchResultsTooBig ≡ InvalidSessionID = (search_refuses (advance event.moment state) asked s
-        InvalidSessionID h).0 in cc)
+    InvalidSessionID h).0 in cc)
 
 pub access_denied : (state : State) (event : Event) (ask : Ask) → IsRefusal AccessDenied (step_ask (advance event.moment state) event ask).1
     ↔ NamesAnothersSession state event.client ask

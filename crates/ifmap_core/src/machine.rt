@@ -44,8 +44,7 @@ impl Model for Core {
 
     ghost Value = { State };
 
-    ghost coded = {
-        Prim.hlevel (codes, the_attachment.the_row.coded, the_poll_item.the_row.coded) };
+    ghost coded = { Prim.hlevel (codes, the_attachment.the_row.coded, the_poll_item.the_row.coded) };
 
     ghost view = { λ core. record {
       moment = core.moment;

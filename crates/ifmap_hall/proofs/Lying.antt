@@ -18,7 +18,7 @@ use Rattle.ifmap_hall.proofs.Sighting.{found_carries}
 module _ {M E R : Type 0} (next : M → E → M) (weight : E → ℕ) where
   stands_there : (terms : Terms M) (h : History E) (homes : Homes M E R) (seats : List (SeatView M E R)) (b : Book M E R)
       → homes ≡ some (Some b) ∷ [] → AtHome next weight terms h homes seats ⊎ IsOut next weight homes seats
-          → StandsFor next weight terms h b
+      → StandsFor next weight terms h b
   stands_there terms h homes seats b lies (inl home) =
       let same : home.book ≡ b = cc (home.there, lies) in subst (λ (x : Book M E R). StandsFor next weight terms h x) same home.stands
   stands_there terms h homes seats b lies (inr out) = cc (out.gone, lies)

@@ -121,7 +121,10 @@ module _ (host client body : List ℕ) (seen : list_all is_visible_byte host ≡
       let client_short : length client ≤ 40 = grind (arith, nat_tests, named.0) in
       let digits_short : length size ≤ 9 = length-decimal-le 9 (length body) (omega arith) (omega arith) (omega arith) in (
         head_of host client size,
-        record { reads = (head_is, bytes_are host client body rest);
-            short = head_is_short host client size near client_short digits_short; few = omega arith },
+        record {
+          reads = (head_is, bytes_are host client body rest);
+          short = head_is_short host client size near client_short digits_short;
+          few = omega arith;
+        },
         says,
       )

@@ -51,7 +51,7 @@ parts_are method minor fields =
     (if lacks_length fields then refused 411 else judge_length minor fields size)
     (refused_is 405 refl)
     (λ _. by_test (lacks_length fields) (refused 411) (judge_length minor fields size) (refused_is 411 refl) (λ _.
-        length_is minor fields size))
+    length_is minor fields size))
 
 head_is : (head : RequestHead) → IsBounded (judge_post head)
 head_is head = parts_are head.method head.minor (map name_and_value head.fields)

@@ -24,7 +24,7 @@ use Rattle.ifmap_reader.proofs.Items.{words_close, close_words, inner_closes, cl
 module _ (scope : Scope) (f : OpenElement) (ts : List Token) (Then : Element → List Declared → List Token → Type 0) where
   -- a comment
   comment_off : (c : Pieces) (rest : List Token) (items : List Item) (e : Element) (d : List Declared)
-        → Comment ∷ ts ≡ tokens_of c ++ (End (written_name f) ∷ rest)
+      → Comment ∷ ts ≡ tokens_of c ++ (End (written_name f) ∷ rest)
       → AreItems scope c items → Closes f items e d → Then e d rest → Ends scope f ts Then
   comment_off (piece.Comment after) rest items e d is m c t =
       record { inside = after; rest = rest; items = items; element = e; declared = d; tokens_are = cc; means = m; closes = c; goes_on = t }
@@ -37,16 +37,24 @@ module _ (scope : Scope) (f : OpenElement) (ts : List Token) (Then : Element →
   pub ends_comment : Ends scope f (Comment ∷ ts) Then ↔ Ends scope f ts Then
   ends_comment = (
     λ x. comment_off x.inside x.rest x.items x.element x.declared x.tokens_are x.means x.closes x.goes_on,
-    λ x. record { inside = piece.Comment x.inside; rest = x.rest; items = x.items; element = x.element;
-        declared = x.declared; tokens_are = ap (λ us. Comment ∷ us) x.tokens_are; means = x.means;
-        closes = x.closes; goes_on = x.goes_on },
+    λ x. record {
+      inside = piece.Comment x.inside;
+      rest = x.rest;
+      items = x.items;
+      element = x.element;
+      declared = x.declared;
+      tokens_are = ap (λ us. Comment ∷ us) x.tokens_are;
+      means = x.means;
+      closes = x.closes;
+      goes_on = x.goes_on;
+    },
   )
 
   -- a text
   text_off : (text more : List ℕ) (after : Pieces) (rest : List Token) (items : List Item) (e : Element)
-        (d : List Declared) → text ≡ more → ts ≡ tokens_of after ++ (End (written_name f) ∷ rest)
+      (d : List Declared) → text ≡ more → ts ≡ tokens_of after ++ (End (written_name f) ∷ rest)
       → ((others : List Item) × (items ≡ Run more ∷ others) × AreItems scope after others) → Closes f items e d
-          → Then e d rest → Ends scope (with_characters f text) ts Then
+      → Then e d rest → Ends scope (with_characters f text) ts Then
   text_off text more after rest items e d same is m c th = record {
     inside = after;
     rest = rest;
@@ -60,7 +68,7 @@ module _ (scope : Scope) (f : OpenElement) (ts : List Token) (Then : Element →
   }
 
   words_off : (t : Token) (blank : Bool) (text : List ℕ) → IsCharacterData blank text t
-        → (c : Pieces) (rest : List Token) (items : List Item) (e : Element) (d : List Declared)
+      → (c : Pieces) (rest : List Token) (items : List Item) (e : Element) (d : List Declared)
       → t ∷ ts ≡ tokens_of c ++ (End (written_name f) ∷ rest)
       → AreItems scope c items → Closes f items e d → Then e d rest → Ends scope (with_characters f text) ts Then
   words_off t blank text w Nothing rest items e d is m c th = elim w [ inl k ↦ cc | inr k ↦ let h = k.1 in cc ]
@@ -73,7 +81,7 @@ module _ (scope : Scope) (f : OpenElement) (ts : List Token) (Then : Element →
   words_off t blank text w (piece.Start tag inside after) rest items e d is m c th = elim w [ inl k ↦ cc | inr k ↦ let h = k.1 in cc ]
 
   words_on : (t : Token) (blank : Bool) (text : List ℕ) → IsCharacterData blank text t
-        → Ends scope (with_characters f text) ts Then → Ends scope f (t ∷ ts) Then
+      → Ends scope (with_characters f text) ts Then → Ends scope f (t ∷ ts) Then
   words_on t blank text w x = elim w [
     | inl k ↦ record {
       inside = piece.Characters blank text x.inside;
@@ -100,9 +108,12 @@ module _ (scope : Scope) (f : OpenElement) (ts : List Token) (Then : Element →
   ]
 
   pub ends_words : (t : Token) (blank : Bool) (text : List ℕ) → IsCharacterData blank text t
-        → Ends scope f (t ∷ ts) Then ↔ Ends scope (with_characters f text) ts Then
-  ends_words t blank text w = (λ x. words_off t blank text w x.inside x.rest x.items x.element x.declared
-      x.tokens_are x.means x.closes x.goes_on, words_on t blank text w)
+      → Ends scope f (t ∷ ts) Then ↔ Ends scope (with_characters f text) ts Then
+  ends_words t blank text w = (
+    λ x. words_off t blank text w x.inside x.rest x.items x.element x.declared
+        x.tokens_are x.means x.closes x.goes_on,
+    words_on t blank text w,
+  )
 
   -- a declaration
   declaration_off : (c : Pieces) (rest : List Token) → Declaration ∷ ts ≡ tokens_of c ++ (End (written_name f) ∷ rest) → ⊥
@@ -118,7 +129,7 @@ module _ (scope : Scope) (f : OpenElement) (ts : List Token) (Then : Element →
 
   -- an end tag
   end_off : (name : Qualified) (c : Pieces) (rest : List Token) (items : List Item) (e : Element)
-        (d : List Declared) → End name ∷ ts ≡ tokens_of c ++ (End (written_name f) ∷ rest)
+      (d : List Declared) → End name ∷ ts ≡ tokens_of c ++ (End (written_name f) ∷ rest)
       → AreItems scope c items → Closes f items e d → Then e d rest → (name ≡ written_name f) × Closes f [] e d × Then e d ts
   end_off name Nothing rest items e d is m c t =
       let same : ts ≡ rest = cc in
@@ -134,23 +145,32 @@ module _ (scope : Scope) (f : OpenElement) (ts : List Token) (Then : Element →
   no_other_end name other x = other (end_off name x.inside x.rest x.items x.element x.declared x.tokens_are x.means x.closes x.goes_on).0
 
   pub ends_here : (name : Qualified) (e : Element) (d : List Declared) → name ≡ written_name f → Closes f [] e d
-        → Ends scope f (End name ∷ ts) Then ↔ Then e d ts
+      → Ends scope f (End name ∷ ts) Then ↔ Then e d ts
   ends_here name e d is c = (
     λ x.
         let h = end_off name x.inside x.rest x.items x.element x.declared x.tokens_are x.means x.closes x.goes_on in
         let same : x.element ≡ e = h.1.element_is ∙ sym c.element_is in
         let told : x.declared ≡ d = h.1.declared_is ∙ sym c.declared_is in
         subst (λ (y : Element). Then y d ts) same (subst (λ (y : List Declared). Then x.element y ts) told h.2),
-    λ t. record { inside = Nothing; rest = ts; items = []; element = e; declared = d;
-        tokens_are = ap (λ (n : Qualified). End n ∷ ts) is; means = refl; closes = c; goes_on = t },
+    λ t. record {
+      inside = Nothing;
+      rest = ts;
+      items = [];
+      element = e;
+      declared = d;
+      tokens_are = ap (λ (n : Qualified). End n ∷ ts) is;
+      means = refl;
+      closes = c;
+      goes_on = t;
+    },
   )
 
   -- a tag
   module _ (tag : Tag) (new : OpenElement) (o : OpensElement scope tag new) where
     empty_off : (c : Pieces) (rest : List Token) (items : List Item) (e : Element) (d : List Declared)
-          → Empty tag ∷ ts ≡ tokens_of c ++ (End (written_name f) ∷ rest)
+        → Empty tag ∷ ts ≡ tokens_of c ++ (End (written_name f) ∷ rest)
         → AreItems scope c items → Closes f items e d → Then e d rest → (inner : Element) (below : List Declared)
-            → Closes new [] inner below → Ends scope (with_inner f inner below) ts Then
+        → Closes new [] inner below → Ends scope (with_inner f inner below) ts Then
     empty_off (piece.Empty other after) rest items e d is m c t inner below k =
         let same : other ≡ tag = cc in
         let made : IsElement scope tag [] m.0 m.1 = subst (λ (u : Tag). IsElement scope u [] m.0 m.1) same m.4 in
@@ -165,7 +185,7 @@ module _ (scope : Scope) (f : OpenElement) (ts : List Token) (Then : Element →
           means = m.5;
           closes = (inner_closes f inner below m.2 e d (subst (λ (is : List Item). Closes f is e d)
               (m.3 ∙ ap (λ (y : Element). Inner y m.1 ∷ m.2) (h.element_is ∙ sym k.element_is)
-                  ∙ ap (λ (y : List Declared). Inner inner y ∷ m.2) (h.declared_is ∙ sym k.declared_is)) c));
+              ∙ ap (λ (y : List Declared). Inner inner y ∷ m.2) (h.declared_is ∙ sym k.declared_is)) c));
           goes_on = t;
         }
     empty_off Nothing rest items e d is m c t inner below k = cc
@@ -175,7 +195,7 @@ module _ (scope : Scope) (f : OpenElement) (ts : List Token) (Then : Element →
     empty_off (piece.Start other inside after) rest items e d is m c t inner below k = cc
 
     pub ends_empty : (inner : Element) (below : List Declared) → Closes new [] inner below
-          → Ends scope f (Empty tag ∷ ts) Then ↔ Ends scope (with_inner f inner below) ts Then
+        → Ends scope f (Empty tag ∷ ts) Then ↔ Ends scope (with_inner f inner below) ts Then
     ends_empty inner below k = (
       λ x. empty_off x.inside x.rest x.items x.element x.declared x.tokens_are x.means x.closes x.goes_on inner below k,
       λ x. record {
@@ -192,10 +212,10 @@ module _ (scope : Scope) (f : OpenElement) (ts : List Token) (Then : Element →
     )
 
     branch_off : (c : Pieces) (rest : List Token) (items : List Item) (e : Element) (d : List Declared)
-          → Start tag ∷ ts ≡ tokens_of c ++ (End (written_name f) ∷ rest)
+        → Start tag ∷ ts ≡ tokens_of c ++ (End (written_name f) ∷ rest)
         → AreItems scope c items → Closes f items e d → Then e d rest
-            → Ends (new.bindings ++ scope) new ts
-                (λ inner below rest. Ends scope (with_inner f inner below) rest Then)
+        → Ends (new.bindings ++ scope) new ts
+        (λ inner below rest. Ends scope (with_inner f inner below) rest Then)
     branch_off (piece.Start other inside after) rest items e d is m c t =
         let same : other ≡ tag = cc in
         let tail : ts ≡ (tokens_of inside ++ (End other.name ∷ tokens_of after)) ++ (End (written_name f) ∷ rest) = cc in
@@ -207,7 +227,7 @@ module _ (scope : Scope) (f : OpenElement) (ts : List Token) (Then : Element →
           declared = m.2;
           tokens_are = tail ∙ append_assoc (tokens_of inside) (End other.name ∷ tokens_of after) (End (written_name f) ∷ rest)
               ∙ ap (λ (n : Qualified). tokens_of inside ++ (End n ∷ (tokens_of after
-                  ++ (End (written_name f) ∷ rest)))) (ap (λ (u : Tag). u.name) same ∙ o.name_is);
+              ++ (End (written_name f) ∷ rest)))) (ap (λ (u : Tag). u.name) same ∙ o.name_is);
           means = subst (λ (s : Scope). AreItems s inside m.0) (ap (λ (u : Tag). bindings u ++ scope) same
               ∙ ap (λ bs. bs ++ scope) (sym o.bindings_are)) m.5;
           closes = opened_closes scope tag new o m.0 m.1 m.2 (subst (λ (u : Tag). IsElement scope u m.0 m.1 m.2) same m.6);
@@ -230,7 +250,7 @@ module _ (scope : Scope) (f : OpenElement) (ts : List Token) (Then : Element →
     branch_off (piece.Empty other after) rest items e d is m c t = cc
 
     branch_on : Ends (new.bindings ++ scope) new ts
-          (λ inner below rest. Ends scope (with_inner f inner below) rest Then) → Ends scope f (Start tag ∷ ts) Then
+        (λ inner below rest. Ends scope (with_inner f inner below) rest Then) → Ends scope f (Start tag ∷ ts) Then
     branch_on x =
         let y = x.goes_on in
         record {
@@ -241,7 +261,7 @@ module _ (scope : Scope) (f : OpenElement) (ts : List Token) (Then : Element →
           declared = y.declared;
           tokens_are = ap (λ us. Start tag ∷ us) (x.tokens_are ∙ ap (λ us. tokens_of x.inside ++ (End (written_name new) ∷ us)) y.tokens_are
               ∙ ap (λ (n : Qualified). tokens_of x.inside ++ (End n ∷ (tokens_of y.inside ++ (End (written_name f)
-                  ∷ y.rest)))) (sym o.name_is)
+              ∷ y.rest)))) (sym o.name_is)
               ∙ sym (append_assoc (tokens_of x.inside) (End tag.name ∷ tokens_of y.inside) (End (written_name f) ∷ y.rest)));
           means = (
             x.items,
@@ -258,14 +278,14 @@ module _ (scope : Scope) (f : OpenElement) (ts : List Token) (Then : Element →
         }
 
     pub ends_start : Ends scope f (Start tag ∷ ts) Then ↔ Ends (new.bindings ++ scope) new ts (λ inner below rest.
-            Ends scope (with_inner f inner below) rest Then)
+        Ends scope (with_inner f inner below) rest Then)
     ends_start = (λ x. branch_off x.inside x.rest x.items x.element x.declared x.tokens_are x.means x.closes x.goes_on, branch_on)
 
 -- a tag that is not allowed
 module _ (scope : Scope) (f : OpenElement) (ts : List Token) (Then : Element → List Declared → List Token → Type 0)
     (tag : Tag) (none : (name : Name) (attributes : List Attribute) → NamesElement scope tag name attributes → ⊥) where
   start_off : (c : Pieces) (rest : List Token) (items : List Item)
-        → Start tag ∷ ts ≡ tokens_of c ++ (End (written_name f) ∷ rest) → AreItems scope c items → ⊥
+      → Start tag ∷ ts ≡ tokens_of c ++ (End (written_name f) ∷ rest) → AreItems scope c items → ⊥
   start_off (piece.Start other inside after) rest items is m =
       let same : other ≡ tag = cc in
       none m.1.name m.1.attributes (subst (λ (u : Tag). NamesElement scope u m.1.name m.1.attributes) same m.6.named)
@@ -279,7 +299,7 @@ module _ (scope : Scope) (f : OpenElement) (ts : List Token) (Then : Element →
   start_named x = start_off x.inside x.rest x.items x.tokens_are x.means
 
   leaf_off : (c : Pieces) (rest : List Token) (items : List Item)
-        → Empty tag ∷ ts ≡ tokens_of c ++ (End (written_name f) ∷ rest) → AreItems scope c items → ⊥
+      → Empty tag ∷ ts ≡ tokens_of c ++ (End (written_name f) ∷ rest) → AreItems scope c items → ⊥
   leaf_off (piece.Empty other after) rest items is m =
       let same : other ≡ tag = cc in
       none m.0.name m.0.attributes (subst (λ (u : Tag). NamesElement scope u m.0.name m.0.attributes) same m.4.named)

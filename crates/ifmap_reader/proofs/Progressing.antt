@@ -126,7 +126,7 @@ module _ (bytes : List ℕ) (depth : ℕ) (w : Where) (rest : List ℕ) (at : At
     begins_so_far = let s = some_way w in record { more = s.0; reading = s.1.0; document = (at.goes s.0 s.1.0).1 s.1.1 }
 
     pub step_refused : (place : ℕ) → place ≡ offset bytes rest → ((ts : List Token) (r : Reading)
-          → GoesOn w (t ∷ ts) r → ⊥) → IsUnreadable bytes depth place
+        → GoesOn w (t ∷ ts) r → ⊥) → IsUnreadable bytes depth place
     step_refused place is refused =
         unreadable bytes depth place
         (record {

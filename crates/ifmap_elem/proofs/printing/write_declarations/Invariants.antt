@@ -9,4 +9,4 @@ abbrev pub invariant-loop-space : goal.invariant-loop-space
 invariant-loop-space l =
     (l.count ≡ l.space-index)
     × (l.out.items ≡ l.initial.out.items ++ flat_map declaration_bytes (numbered_prefixes l.letter 1 (take
-        l.space-index (bytes_of l.spaces))))
+    l.space-index (bytes_of l.spaces))))

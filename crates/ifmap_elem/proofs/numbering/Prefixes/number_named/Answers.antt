@@ -14,7 +14,7 @@ use Rattle.ifmap_elem.proofs.numbering.Prefixes.number_named.Goals as goal
 pub returns-in-Some-clause-added : goal.returns-in-Some-clause-added
 returns-in-Some-clause-added c =
     let known = ap (get key_order c.self.inside.labels) (sym (c.new-key.ensures ∙ c.as_bytes-bytes.ensures))
-        ∙ sym c.in_ok-prefix.ensures.found ∙ c.in-Some.is in
+    ∙ sym c.in_ok-prefix.ensures.found ∙ c.in-Some.is in
     subst (λ xs. AddsSpaces c.args.self.now (c.args.space.now ∷ []) xs) (sym c.self.view_is ∙ ap bytes_of (sym c.reserve.ensures.items))
     (adds_prefixed c.args.self.now c.args.space.now (ap is_some (ap (λ xs. lookup (bytes_eq c.args.space.now) (name_prefixes xs))
     (sym c.self.view_is) ∙ sym (c.self.invariant.0 c.args.space.now) ∙ known)))
@@ -24,7 +24,7 @@ invariant_of-self-2 c =
     let p = placed (get key_order c.self.inside.labels) (get key_order c.label_of.new.labels) c.args.self.now c.self.inside.order.items
     c.reserve.new.self.items c.push_reserved.new.self.items c.args.space c.new-key.result c.copy.result c.in_ok-prefix.field-0 c.len.result
     c.requires.some c.self.view_is c.self.invariant.0 c.self.invariant.1 (c.new-key.ensures
-        ∙ c.as_bytes-bytes.ensures) c.in_ok-prefix.ensures.found c.in_default.not-Some
+    ∙ c.as_bytes-bytes.ensures) c.in_ok-prefix.ensures.found c.in_default.not-Some
     (λ none q. c.in_ok-prefix.ensures.put.0 q ∙ ap (λ o. cond (is_eq (key_order c.new-key.result q)) (Some (unwrap_or o c.copy.result))
     (get key_order c.self.inside.labels q)) none) c.reserve.ensures.items c.push_reserved.ensures.items
     (omega (arith, c.len.ensures, c.self.inside.order.ok.0)) (c.copy.ensures ∙ c.of_number-next.ensures) in (
@@ -39,7 +39,7 @@ returns-clause-added c =
     let p = placed (get key_order c.self.inside.labels) (get key_order c.label_of.new.labels) c.args.self.now c.self.inside.order.items
     c.reserve.new.self.items c.push_reserved.new.self.items c.args.space c.new-key.result c.copy.result c.in_ok-prefix.field-0 c.len.result
     c.requires.some c.self.view_is c.self.invariant.0 c.self.invariant.1 (c.new-key.ensures
-        ∙ c.as_bytes-bytes.ensures) c.in_ok-prefix.ensures.found c.in_default.not-Some
+    ∙ c.as_bytes-bytes.ensures) c.in_ok-prefix.ensures.found c.in_default.not-Some
     (λ none q. c.in_ok-prefix.ensures.put.0 q ∙ ap (λ o. cond (is_eq (key_order c.new-key.result q)) (Some (unwrap_or o c.copy.result))
     (get key_order c.self.inside.labels q)) none) c.reserve.ensures.items c.push_reserved.ensures.items
     (omega (arith, c.len.ensures, c.self.inside.order.ok.0)) (c.copy.ensures ∙ c.of_number-next.ensures) in
@@ -50,7 +50,7 @@ returns-clause-behind c =
     let p = placed (get key_order c.self.inside.labels) (get key_order c.label_of.new.labels) c.args.self.now c.self.inside.order.items
     c.reserve.new.self.items c.push_reserved.new.self.items c.args.space c.new-key.result c.copy.result c.in_ok-prefix.field-0 c.len.result
     c.requires.some c.self.view_is c.self.invariant.0 c.self.invariant.1 (c.new-key.ensures
-        ∙ c.as_bytes-bytes.ensures) c.in_ok-prefix.ensures.found c.in_default.not-Some
+    ∙ c.as_bytes-bytes.ensures) c.in_ok-prefix.ensures.found c.in_default.not-Some
     (λ none q. c.in_ok-prefix.ensures.put.0 q ∙ ap (λ o. cond (is_eq (key_order c.new-key.result q)) (Some (unwrap_or o c.copy.result))
     (get key_order c.self.inside.labels q)) none) c.reserve.ensures.items c.push_reserved.ensures.items
     (omega (arith, c.len.ensures, c.self.inside.order.ok.0)) (c.copy.ensures ∙ c.of_number-next.ensures) in
@@ -61,7 +61,7 @@ returns-clause-numbered c =
     let p = placed (get key_order c.self.inside.labels) (get key_order c.label_of.new.labels) c.args.self.now c.self.inside.order.items
     c.reserve.new.self.items c.push_reserved.new.self.items c.args.space c.new-key.result c.copy.result c.in_ok-prefix.field-0 c.len.result
     c.requires.some c.self.view_is c.self.invariant.0 c.self.invariant.1 (c.new-key.ensures
-        ∙ c.as_bytes-bytes.ensures) c.in_ok-prefix.ensures.found c.in_default.not-Some
+    ∙ c.as_bytes-bytes.ensures) c.in_ok-prefix.ensures.found c.in_default.not-Some
     (λ none q. c.in_ok-prefix.ensures.put.0 q ∙ ap (λ o. cond (is_eq (key_order c.new-key.result q)) (Some (unwrap_or o c.copy.result))
     (get key_order c.self.inside.labels q)) none) c.reserve.ensures.items c.push_reserved.ensures.items
     (omega (arith, c.len.ensures, c.self.inside.order.ok.0)) (c.copy.ensures ∙ c.of_number-next.ensures) in
@@ -72,7 +72,7 @@ returns-clause-prefix c =
     let p = placed (get key_order c.self.inside.labels) (get key_order c.label_of.new.labels) c.args.self.now c.self.inside.order.items
     c.reserve.new.self.items c.push_reserved.new.self.items c.args.space c.new-key.result c.copy.result c.in_ok-prefix.field-0 c.len.result
     c.requires.some c.self.view_is c.self.invariant.0 c.self.invariant.1 (c.new-key.ensures
-        ∙ c.as_bytes-bytes.ensures) c.in_ok-prefix.ensures.found c.in_default.not-Some
+    ∙ c.as_bytes-bytes.ensures) c.in_ok-prefix.ensures.found c.in_default.not-Some
     (λ none q. c.in_ok-prefix.ensures.put.0 q ∙ ap (λ o. cond (is_eq (key_order c.new-key.result q)) (Some (unwrap_or o c.copy.result))
     (get key_order c.self.inside.labels q)) none) c.reserve.ensures.items c.push_reserved.ensures.items
     (omega (arith, c.len.ensures, c.self.inside.order.ok.0)) (c.copy.ensures ∙ c.of_number-next.ensures) in
