@@ -1,6 +1,7 @@
 -- Envelopes of SOAP 1.2 (part 1, section 5) round one element.
 use Rattle.std.specs.Prelude.{◌≡◌, ◌⊎◌, ℕ, ◌≤◌, Bool, true, false, not, ◌&&◌, Some, IsTrue, List, [], ◌∷◌, ◌++◌, codes, length}
 use Rattle.std.specs.List.{list_all, prefix_len, slice_get}
+use Rattle.ifmap_lemmas.specs.Deciding.{Decided}
 use Rattle.ifmap_elem.specs.Nesting.{nesting}
 use Rattle.ifmap_elem.specs.Spells.{Spells}
 use Rattle.ifmap_elem.specs.declared.elements.Child.TheOpen.{Child-F}
@@ -97,3 +98,7 @@ SpellsNone levels bytes = (reading : Reading) (path : List ℕ) (inner : Element
 abbrev pub OneEnvelope : Type 0
 OneEnvelope =
     (root e f : Element) (path route : List ℕ) → IsEnvelope root path e → IsEnvelope root route f → (path ≡ route) × (e ≡ f)
+
+-- an element is an envelope of some element at some path, or of none
+abbrev pub EnvelopeOrNone : Type 0
+EnvelopeOrNone = (root : Element) → Decided ((path : List ℕ) × (inner : Element) × IsEnvelope root path inner)

@@ -1,29 +1,21 @@
 -- Each request that a body means is fit.
--- 1. What is in an element that a document can have, of 64 levels at most: values of characters, and such elements again.
--- 2. What checks give, for what is composed of checks: it is enough to know it of the smallest ones.
--- 3. Attributes, 4. identifiers and items, 5. metadata.
--- 6. Operations and requests: each is one more form in a chain. 7. Bodies.
-use Rattle.std.proofs.Common.{◌≡◌, ◌≤◌, ◌+◌, ◌++◌, ℕ, suc, Bool, true, false, List, [], ◌∷◌, map, Option, None, Some, IfSome, Result, Ok, Err, length, refl, arith, subst, sym}
-use Rattle.std.specs.Prelude.{◌&&◌, nat_le, option_map, if◌then◌else◌}
-use Rattle.std.specs.List.{AllByRecursion, find, flat_map, list_all}
+-- 1. What checks give, for what is composed of checks: it is enough to know it of the smallest ones.
+-- 2. Attributes, 3. identifiers and items, 4. metadata.
+-- 5. Operations and requests: each is one more form in a chain. 6. Bodies.
+use Rattle.std.proofs.Common.{◌≡◌, ◌≤◌, ◌+◌, ◌++◌, ℕ, Bool, true, false, List, [], ◌∷◌, Option, None, Some, IfSome, Result, Ok, Err, length, refl, arith, subst, sym}
+use Rattle.std.specs.Prelude.{◌&&◌, nat_le, if◌then◌else◌}
+use Rattle.std.specs.List.{AllByRecursion, list_all}
 use Rattle.std.specs.Str.{bytes_eq}
 use Rattle.std.specs.declared.cmp.Ordering.{Ordering}
 use Rattle.std.specs.declared.cmp.Ordering.TheVariants.{Less, Equal, Greater}
-use Rattle.ifmap_lemmas.specs.Members.{all_both}
 use Rattle.ifmap_lemmas.specs.Texts.{slice_cmp-turn}
-use Rattle.ifmap_elem.specs.Building.{is_bare}
 use Rattle.ifmap_elem.specs.Chars.{IsCharacters, is_white}
-use Rattle.ifmap_elem.specs.Fit.{IsFit, IsFitAlone, IsFitAttribute}
-use Rattle.ifmap_elem.specs.Folds.{at_child_element, at_element, each_child}
-use Rattle.ifmap_elem.specs.Nesting.{child_levels, child_nesting, element_levels, greatest, nesting}
+use Rattle.ifmap_elem.specs.Fit.{IsFit}
+use Rattle.ifmap_elem.specs.Nesting.{nesting}
 use Rattle.ifmap_elem.specs.Spells.{Spells}
-use Rattle.ifmap_elem.specs.declared.elements.Attribute.{Attribute}
-use Rattle.ifmap_elem.specs.declared.elements.Child.{Child, out-Child}
 use Rattle.ifmap_elem.specs.declared.elements.Child.TheOpen.{Child-F}
 use Rattle.ifmap_elem.specs.declared.elements.Element.{Element}
 use Rattle.ifmap_elem.specs.declared.readings.Reading.{Reading}
-use Rattle.ifmap_elem.specs.laws.FitLaws.{elements_in, elements_of_child, fit_parts, out_element, out_text}
-use Rattle.ifmap_envelopes.specs.Envelopes.{IsEnvelope}
 use Rattle.ifmap_filter.specs.Holding.{is_name}
 use Rattle.ifmap_reader.specs.declared.scoping.Scope.{Scope}
 use Rattle.ifmap_ident.specs.declared.codes.Code.{Code}
@@ -37,76 +29,18 @@ use Rattle.ifmap_ident.specs.Parts.{has_only, value_of}
 use Rattle.ifmap_meta.specs.declared.metadata.Metadata.{Metadata}
 use Rattle.ifmap_meta.specs.Whole.{IsMadeOf, IsMetadata, level_limit}
 use Rattle.ifmap_forms.specs.Checks.{Check, check_if, check_then, fail, need, need_some, pass}
-use Rattle.ifmap_forms.specs.Items.{before_list, from_list, identifier_check, identifiers_check, is_list, item_content, item_of, list_at, list_check, may_follow, only_identifier, start_content}
+use Rattle.ifmap_forms.specs.Items.{before_list, from_list, identifier_check, identifiers_check, item_content, item_of, list_at, list_check, may_follow, only_identifier, start_content}
 use Rattle.ifmap_forms.specs.Scopes.{Scopes, scopes_below}
-use Rattle.ifmap_forms.specs.Tables.{Both, Content, Form, Part, Table, beside, both, each_element, form_check, form_or, is_white_part, list_of, no_attributes, no_children, parts_in, parts_of, read_form}
+use Rattle.ifmap_forms.specs.Tables.{Both, Content, Form, Part, Table, beside, both, each_element, form_check, form_or, is_white_part, list_of, no_attributes, no_children, parts_of, read_form}
 use Rattle.ifmap_forms.specs.Values.{Field, field_check, limit_field, name_field, number_of, text_field, within}
 use Rattle.ifmap_requests.specs.declared.requests.Request.{Request}
 use Rattle.ifmap_requests.specs.Fit.{IsFitLimit, IsFitOp, IsFitRequest, IsFitSubscribeOp}
 use Rattle.ifmap_requests.specs.Means.{Means, scopes_from}
 use Rattle.ifmap_requests.specs.Published.{metadata_check, published_content, published_from}
 use Rattle.ifmap_requests.specs.RequestForms.{WithSession, delete_form, delete_of, end_form, end_of, end_session_form, end_session_of, ifmap_space, named_request_check, new_session_form, new_session_of, notify_form, notify_of, other_request_check, poll_form, poll_of, publish_form, publish_of, publish_op_check, publisher_field, purge_form, purge_of, renew_form, renewal_of, request_check, search_attributes, search_form, search_of, session_attribute, session_field, subscribe_form, subscribe_of, subscribe_op_check, subscription_form, subscription_of, update_form, update_of}
+use Rattle.ifmap_requests.proofs.Sound.{AreSound, IsSound, before_sound, from_sound, inner_sound, parts_sound, value_fit}
 
--- ---- 1. what is in an element
-
--- a document can have the element, and it has 64 levels at most
-record IsSound (e : Element) : Type 0 where
-  fit : IsFit e
-  levels : nesting e ≤ level_limit
-
-abbrev IsSoundPart : Part → Type 0
-IsSoundPart (Child-F.Element e) = IsSound e
-IsSoundPart (Child-F.Text text) = Unit {0}
-
-abbrev AreSound : List Part → Type 0
-AreSound parts = AllByRecursion IsSoundPart parts
-
-abbrev IsSoundChild : Child → Type 0
-IsSoundChild c = AllByRecursion IsFitAlone (elements_of_child c) → child_nesting c ≤ level_limit → IsSoundPart (out-Child c)
-
-child_sound : (c : Child) → IsSoundChild c
-child_sound = each_child IsSoundChild (λ e. Unit {0})
-    (λ e none fit levels. subst IsSoundPart (sym (out_element e)) (record {
-      fit = subst (AllByRecursion IsFitAlone) (elements_in e) fit;
-      levels = subst (λ (n : ℕ). n ≤ level_limit) (at_child_element ℕ ℕ child_levels element_levels e) levels;
-    }))
-    (λ t fit levels. subst IsSoundPart (sym (out_text t)) tt)
-    (λ e each. tt)
-
-children_sound : (cs : List Child) → AllByRecursion IsFitAlone (flat_map elements_of_child cs)
-    → greatest (map child_nesting cs) ≤ level_limit → AreSound (parts_in cs)
-children_sound [] fit levels = tt
-children_sound (c ∷ cs) fit levels =
-    let fits = all_both IsFitAlone (elements_of_child c) (flat_map elements_of_child cs) fit in (
-      child_sound c fits.0 (omega arith),
-      children_sound cs fits.1 (omega arith),
-    )
-
-parts_sound : (e : Element) → IsSound e → AreSound (parts_of e)
-parts_sound e s =
-    let deep : nesting e ≡ suc (greatest (map child_nesting e.children)) = at_element ℕ ℕ child_levels element_levels e in
-    let levels = s.levels in
-    children_sound e.children (fit_parts e s.fit).1 (omega arith)
-
-abbrev value_in : Option Attribute → Option (List ℕ)
-value_in o = option_map (λ a. a.value) o
-
-first_value : (b : Bool) (a : Attribute) (rest : Option Attribute) (text : List ℕ) → IsFitAttribute a
-    → (value_in rest ≡ Some text → IsCharacters text) → value_in (if b then Some a else rest) ≡ Some text → IsCharacters text
-first_value true a rest text fit later e = let same : a.value ≡ text = cc in subst IsCharacters same fit.value
-first_value false a rest text fit later e = later e
-
-found_value : (p : Attribute → Bool) (attributes : List Attribute) → AllByRecursion IsFitAttribute attributes → (text : List ℕ)
-    → value_in (find p attributes) ≡ Some text → IsCharacters text
-found_value p [] fit text e = cc
-found_value p (a ∷ attributes) fit text e = first_value (p a) a (find p attributes) text fit.0 (found_value p attributes fit.1 text) e
-
-value_sound : (local : List ℕ) (e : Element) → IsSound e → (text : Option (List ℕ)) → value_of local e ≡ text → IfSome text IsCharacters
-value_sound local e s None is = tt
-value_sound local e s (Some text) is =
-    found_value (λ (a : Attribute). is_bare local a.name) e.attributes (fit_parts e s.fit).0.attributes text is
-
--- ---- 2. what checks give
+-- ---- 1. what checks give
 
 module _ {X : Type 0} where
   -- each value that the check finds is such
@@ -144,17 +78,17 @@ module _ {X Y : Type 0} (P : X → Type 0) (Q : Y → Type 0) where
   some_gives code None check p h = fail_gives Q code
   some_gives code (Some x) check p h = h x p
 
--- ---- 3. attributes
+-- ---- 2. attributes
 
 -- each value of the attribute whose text is of characters is such
 abbrev FieldGives : {X : Type 0} → Field X → (X → Type 0) → Type 0
 FieldGives field P = (scope : Scope) (text : Option (List ℕ)) → IfSome text IsCharacters → Gives (field.reads scope text) P
 
 abbrev TableGives : {X : Type 0} → Table X → (X → Type 0) → Type 0
-TableGives table P = (scope : Scope) (e : Element) → IsSound e → Gives (table.reads scope e) P
+TableGives table P = (scope : Scope) (e : Element) → IsSound level_limit e → Gives (table.reads scope e) P
 
 abbrev ContentGives : {X : Type 0} → Content X → (X → Type 0) → Type 0
-ContentGives content P = (scopes : Scopes) (parts : List Part) → AreSound parts → Gives (content scopes parts) P
+ContentGives content P = (scopes : Scopes) (parts : List Part) → AreSound level_limit parts → Gives (content scopes parts) P
 
 abbrev Any : {X : Type 0} → X → Type 0
 Any x = Unit {0}
@@ -166,7 +100,7 @@ module _ {X Y : Type 0} (P : X → Type 0) (Q : Y → Type 0) (field : Field X) 
   beside_gives : FieldGives field P → TableGives table Q → TableGives (beside field table) (AreBoth P Q)
   beside_gives f t scope e s =
       then_gives P (AreBoth P Q) (field_check field scope e) (λ x. check_then (table.reads scope e) (λ y. pass (both x y)))
-      (f scope (value_of field.local e) (value_sound field.local e s (value_of field.local e) refl))
+      (f scope (value_of field.local e) (value_fit field.local e s.fit))
       (λ x p. then_gives Q (AreBoth P Q) (table.reads scope e) (λ y. pass (both x y)) (t scope e s)
       (λ y q. pass_gives (AreBoth P Q) (both x y) (p, q)))
 
@@ -206,7 +140,7 @@ limit_gives scope (Some text) is =
 
 module _ {X A C : Type 0} (P : A → Type 0) (Q : C → Type 0) (R : X → Type 0) (form : Form A C) (make : A → C → X) where
   form_gives : TableGives form.attributes P → ContentGives form.content Q → ((a : A) (c : C) → P a → Q c → R (make a c))
-      → (scopes : Scopes) (e : Element) → IsSound e → Gives (form_check form make scopes e) R
+      → (scopes : Scopes) (e : Element) → IsSound level_limit e → Gives (form_check form make scopes e) R
   form_gives t s r scopes e sound =
       then_gives (AreBoth P Q) R (read_form form scopes e) (λ x. pass (make x.first x.others))
       (then_gives P (AreBoth P Q) (form.attributes.reads (scopes []) e)
@@ -216,19 +150,19 @@ module _ {X A C : Type 0} (P : A → Type 0) (Q : C → Type 0) (R : X → Type 
       (λ a p. need_gives (AreBoth P Q) (has_only (form.passed_over ++ form.attributes.locals) e) Failure
       (check_then (form.content scopes (parts_of e)) (λ c. pass (both a c)))
       (then_gives Q (AreBoth P Q) (form.content scopes (parts_of e)) (λ c. pass (both a c))
-      (s scopes (parts_of e) (parts_sound e sound))
+      (s scopes (parts_of e) (parts_sound level_limit e sound))
       (λ c q. pass_gives (AreBoth P Q) (both a c) (p, q)))))
       (λ x pq. pass_gives R (make x.first x.others) (r x.first x.others pq.0 pq.1))
 
   or_gives : TableGives form.attributes P → ContentGives form.content Q → ((a : A) (c : C) → P a → Q c → R (make a c))
-      → (scopes : Scopes) (e : Element) → IsSound e → (other : Check X) → Gives other R
+      → (scopes : Scopes) (e : Element) → IsSound level_limit e → (other : Check X) → Gives other R
       → Gives (form_or form make scopes e other) R
   or_gives t s r scopes e sound other g =
       if_gives R (is_name e.name form.name) (form_check form make scopes e) other (form_gives t s r scopes e sound) g
 
 module _ {X : Type 0} (P : X → Type 0) (one : ℕ → Element → Check X)
-    (g : (index : ℕ) (e : Element) → IsSound e → Gives (one index e) P) where
-  each_gives : (index : ℕ) (parts : List Part) → AreSound parts → Gives (each_element one index parts) (AllByRecursion P)
+    (g : (index : ℕ) (e : Element) → IsSound level_limit e → Gives (one index e) P) where
+  each_gives : (index : ℕ) (parts : List Part) → AreSound level_limit parts → Gives (each_element one index parts) (AllByRecursion P)
   each_gives index [] s = pass_gives (AllByRecursion P) [] tt
   each_gives index (Child-F.Element e ∷ parts) s =
       then_gives P (AllByRecursion P) (one index e)
@@ -239,15 +173,15 @@ module _ {X : Type 0} (P : X → Type 0) (one : ℕ → Element → Check X)
       need_gives (AllByRecursion P) (list_all is_white text) Failure (each_element one (index + 1) parts)
       (each_gives (index + 1) parts s.1)
 
--- ---- 4. identifiers and items
+-- ---- 3. identifiers and items
 
 abbrev AreIdentifiers : List Identifier → Type 0
 AreIdentifiers identifiers = AllByRecursion IsIdentifier identifiers
 
-identifier_gives : (e : Element) → IsSound e → Gives (identifier_check e) IsIdentifier
+identifier_gives : (e : Element) → IsSound level_limit e → Gives (identifier_check e) IsIdentifier
 identifier_gives e s i f = record { element = e; fit = s.fit; canon = f }
 
-identifiers_gives : (most : ℕ) (before : List Identifier) (parts : List Part) → AreSound parts
+identifiers_gives : (most : ℕ) (before : List Identifier) (parts : List Part) → AreSound level_limit parts
     → Gives (identifiers_check most before parts) AreIdentifiers
 identifiers_gives most before [] s = pass_gives AreIdentifiers [] tt
 identifiers_gives most before (Child-F.Element e ∷ parts) s =
@@ -295,7 +229,7 @@ item_gives scopes parts s =
     (λ identifiers p. some_gives IsCanonItem IsCanonItem Failure (item_of identifiers) (λ item. pass item) (item_fit identifiers p)
     (λ item q. pass_gives IsCanonItem item q))
 
--- ---- 5. metadata
+-- ---- 4. metadata
 
 -- what is made of an element that a document can have, of so many levels, can be published
 abbrev MakesMetadata : Type 0
@@ -310,29 +244,17 @@ MayBeMetadata list = IfSome list AreMetadata
 abbrev ArePublished : Both Item (List Metadata) → Type 0
 ArePublished = AreBoth IsCanonItem AreMetadata
 
-one_sound : (b : Bool) (one other : List Part) → AreSound one → AreSound other → AreSound (if b then one else other)
-one_sound true one other s t = s
-one_sound false one other s t = t
-
-before_sound : (parts : List Part) → AreSound parts → AreSound (before_list parts)
-before_sound [] s = tt
-before_sound (part ∷ parts) s = one_sound (is_list part) [] (part ∷ before_list parts) tt (s.0, before_sound parts s.1)
-
-from_sound : (parts : List Part) → AreSound parts → AreSound (from_list parts)
-from_sound [] s = tt
-from_sound (part ∷ parts) s = one_sound (is_list part) (part ∷ parts) (from_list parts) s (from_sound parts s.1)
-
 module _ (made : MakesMetadata) where
-  metadata_gives : (e : Element) → IsSound e → Gives (metadata_check e) IsMetadata
+  metadata_gives : (e : Element) → IsSound level_limit e → Gives (metadata_check e) IsMetadata
   metadata_gives e s metadata f = made e metadata s.fit s.levels f
 
-  list_gives : (e : Element) → IsSound e → Gives (list_check metadata_check e) AreMetadata
+  list_gives : (e : Element) → IsSound level_limit e → Gives (list_check metadata_check e) AreMetadata
   list_gives e s =
       need_gives AreMetadata (has_only [] e) Failure (each_element (λ index inner. metadata_check inner) 0 (parts_of e))
       (each_gives IsMetadata (λ index inner. metadata_check inner) (λ index inner sound. metadata_gives inner sound) 0 (parts_of e)
-      (parts_sound e s))
+      (parts_sound level_limit e s))
 
-  list_at_gives : (parts : List Part) → AreSound parts → Gives (list_at metadata_check parts) MayBeMetadata
+  list_at_gives : (parts : List Part) → AreSound level_limit parts → Gives (list_at metadata_check parts) MayBeMetadata
   list_at_gives [] s = pass_gives MayBeMetadata None tt
   list_at_gives (Child-F.Element e ∷ after) s =
       then_gives AreMetadata MayBeMetadata (list_check metadata_check e)
@@ -352,14 +274,14 @@ module _ (made : MakesMetadata) where
   published_gives scopes parts s =
       then_gives AreIdentifiers ArePublished (identifiers_check 2 [] (before_list parts))
       (λ identifiers. check_then (list_at metadata_check (from_list parts)) (λ list. published_from identifiers list))
-      (identifiers_gives 2 [] (before_list parts) (before_sound parts s))
+      (identifiers_gives 2 [] (before_list parts) (before_sound level_limit parts s))
       (λ identifiers p. then_gives MayBeMetadata ArePublished (list_at metadata_check (from_list parts))
-      (λ list. published_from identifiers list) (list_at_gives (from_list parts) (from_sound parts s))
+      (λ list. published_from identifiers list) (list_at_gives (from_list parts) (from_sound level_limit parts s))
       (λ list q. from_gives identifiers list p q))
 
-  -- ---- 6. operations and requests
+  -- ---- 5. operations and requests
 
-  publish_op_gives : (scopes : Scopes) (e : Element) → IsSound e → Gives (publish_op_check scopes e) IsFitOp
+  publish_op_gives : (scopes : Scopes) (e : Element) → IsSound level_limit e → Gives (publish_op_check scopes e) IsFitOp
   publish_op_gives scopes e s =
       or_gives Any ArePublished IsFitOp update_form update_of (any_table update_form.attributes) published_gives (λ a c p q. q) scopes e s
       (form_or notify_form notify_of scopes e (form_or delete_form delete_of scopes e (fail Failure)))
@@ -371,7 +293,7 @@ module _ (made : MakesMetadata) where
   abbrev HasName : {Y : Type 0} → Both (List ℕ) Y → Type 0
   HasName a = IsCharacters a.first × Unit {0}
 
-  subscribe_op_gives : (scopes : Scopes) (e : Element) → IsSound e → Gives (subscribe_op_check scopes e) IsFitSubscribeOp
+  subscribe_op_gives : (scopes : Scopes) (e : Element) → IsSound level_limit e → Gives (subscribe_op_check scopes e) IsFitSubscribeOp
   subscribe_op_gives scopes e s =
       or_gives HasName IsIdentifier IsFitSubscribeOp subscription_form subscription_of
       (beside_gives IsCharacters Any name_field search_attributes name_gives (any_table search_attributes)) start_gives
@@ -412,7 +334,7 @@ module _ (made : MakesMetadata) where
       beside_gives IsCharacters HasName session_field (beside publisher_field no_attributes) (text_gives session_field.local)
       (beside_gives IsCharacters Any publisher_field no_attributes (text_gives publisher_field.local) (any_table no_attributes))
 
-  module _ (scopes : Scopes) (e : Element) (s : IsSound e) where
+  module _ (scopes : Scopes) (e : Element) (s : IsSound level_limit e) where
     purge_gives : Gives (form_or purge_form purge_of scopes e (fail Failure)) IsFitRequest
     purge_gives =
         or_gives HasTexts Any IsFitRequest purge_form purge_of purge_table_gives (any_content no_children) (λ a c p q. (p.0, p.1.0))
@@ -475,24 +397,12 @@ module _ (made : MakesMetadata) where
     request_gives =
         need_gives IsFitRequest (bytes_eq e.name.space ifmap_space) InvalidSchemaVersion (named_request_check scopes e) named_gives
 
-  -- ---- 7. bodies
-
-  sound_within : (before after parts : List Part) (e : Element) → parts ≡ before ++ (Child-F.Element e ∷ after) → AreSound parts
-      → IsSound e
-  sound_within before after parts e is s =
-      (all_both IsSoundPart before (Child-F.Element e ∷ after) (subst AreSound is s)).1.0
-
-  inner_sound : (root : Element) (path : List ℕ) (inner : Element) → IsEnvelope root path inner → IsSound root → IsSound inner
-  inner_sound root path inner envelope s =
-      let at = envelope.body_at in
-      let alone = envelope.alone in
-      let body = sound_within at.before at.after (parts_of root) envelope.body at.parts_are (parts_sound root s) in
-      sound_within alone.before alone.after (parts_of envelope.body) inner alone.parts_are (parts_sound envelope.body body)
+  -- ---- 6. bodies
 
   pub meaning_fit : ((bytes : List ℕ) (reading : Reading) → Spells bytes reading → IsFit reading.root) → (bytes : List ℕ)
       (request : Request) → Means bytes (Ok request) → IsFitRequest request
   meaning_fit fits bytes request m =
-      let root : IsSound m.reading.root =
+      let root : IsSound level_limit m.reading.root =
       record { fit = fits bytes m.reading m.envelope.spelled; levels = m.envelope.shallow } in
-      request_gives (scopes_from m.reading m.path) m.inner (inner_sound m.reading.root m.path m.inner m.envelope.envelope root) request
-      m.checked
+      let inner = inner_sound level_limit m.reading.root m.path m.inner m.envelope.envelope root in
+      request_gives (scopes_from m.reading m.path) m.inner inner request m.checked

@@ -1,8 +1,11 @@
+pub mod Sound
 pub mod Single
+pub mod Done
 pub mod PublishedLaws
 pub mod FormLaws
 pub mod NameLaws
 pub mod ReadingLaws
 pub mod PlaceLaws
 pub mod MeaningLaws
+pub mod Meant
 pub mod FitLaws

@@ -21,7 +21,7 @@ good request = Ok request
 abbrev bad : Code → Found
 bad code = Err code
 
-abbrev OneReading : Type 0
+abbrev pub OneReading : Type 0
 OneReading = (bytes : List ℕ) (one other : Reading) → Spells bytes one → Spells bytes other → one ≡ other
 
 module _ (readings : OneReading) (envelopes : OneEnvelope) (requests : OneRequest) where

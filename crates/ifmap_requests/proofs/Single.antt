@@ -5,7 +5,7 @@
 -- 4. Metadata, by their definition.
 -- 5. Identifiers and lists as children.
 -- 6. Operations and requests: each is one more form in a chain.
-use Rattle.std.proofs.Common.{◌≡◌, ◌⊎◌, ◌∙◌, ◌<◌, ◌+◌, ◌^◌, ◌++◌, ℕ, Bool, true, false, List, [], ◌∷◌, Option, None, Some, Result, Ok, Err, codes, length, min, inl, inr, refl, ap, arith, subst, sym}
+use Rattle.std.proofs.Common.{◌≡◌, ◌⊎◌, ◌∙◌, ◌+◌, ◌^◌, ◌++◌, ℕ, true, false, List, [], ◌∷◌, Option, None, Some, Result, Ok, Err, codes, length, min, inl, inr, refl, ap, arith, subst, sym}
 use Rattle.std.specs.Prelude.{IsSome, ◌&&◌, nat_le, nat_lt}
 use Rattle.std.specs.List.{list_all}
 use Rattle.std.specs.Str.{bytes_eq}
@@ -29,12 +29,11 @@ use Rattle.ifmap_meta.specs.declared.metadata.Cardinality.{Cardinality}
 use Rattle.ifmap_meta.specs.declared.metadata.Metadata.{Metadata}
 use Rattle.ifmap_meta.specs.Cardinality.{cardinality_of}
 use Rattle.ifmap_meta.specs.Whole.{IsMadeOf}
-use Rattle.ifmap_ident.specs.declared.items.Item.{Item}
 use Rattle.ifmap_forms.specs.CheckLaws.{fail_single, if_single, need_single, pass_single, some_single, then_single}
 use Rattle.ifmap_forms.specs.Checks.{Check, IsSingle, check_if, check_then, fail, need, need_some, pass}
 use Rattle.ifmap_forms.specs.Items.{before_list, from_list, identifier_check, identifier_code, identifiers_check, item_content, item_of, list_at, list_check, may_follow, only_identifier, start_content}
 use Rattle.ifmap_forms.specs.Scopes.{Scopes, scopes_below}
-use Rattle.ifmap_forms.specs.Tables.{Both, Content, Form, Part, Table, beside, both, each_element, form_or, is_white_part, list_of, no_attributes, no_children, parts_of, read_form}
+use Rattle.ifmap_forms.specs.Tables.{Content, Form, Part, Table, beside, both, each_element, form_or, is_white_part, list_of, no_attributes, no_children, parts_of, read_form}
 use Rattle.ifmap_forms.specs.Values.{Field, FilterDefect, depth_field, field_check, filter_check, filter_field, kinds_field, lifetime_field, limit_field, name_field, size_field, kind_of, kinds_check, number_of, piece_check, pieces_of, read_depth, read_filter, read_kinds, read_lifetime, read_limit, read_name, read_size, read_text, trimmed, within}
 use Rattle.ifmap_requests.specs.declared.requests.Request.{Request}
 use Rattle.ifmap_requests.specs.Published.{MetadataDefect, metadata_check, published_content, published_from}

@@ -1,28 +1,42 @@
 //! Laws on messages: functions that do nothing, whose contracts are the laws.
-ghost use Rattle.ifmap_requests.specs.Laws.{FitMeaning, OneMeaning, OneRequest};
+ghost use Rattle.ifmap_requests.specs.Laws.{FitMeaning, OneMeaning, OneRequest, RequestOrCode, SomeMeaning};
 
 use ifmap_elem::laws::bytes_spell_one_element;
-use ifmap_envelopes::laws::envelopes_hold_one_element;
-use ifmap_filter::laws::text_is_one_filter;
+use ifmap_envelopes::laws::{elements_are_envelopes_or_none, envelopes_hold_one_element};
+use ifmap_filter::laws::{text_is_filter_or_stops, text_is_one_filter};
 use ifmap_ident::laws::elements_have_one_answer;
 use ifmap_meta::laws::stamped_metadata_are_whole;
-use ifmap_reader::laws::what_bytes_spell_fits;
+use ifmap_reader::laws::{bytes_spell_an_element_or_none, what_bytes_spell_fits};
 
-/// An element means one request, or has one code, in given scopes.
+/// An element means one request at most, or has one code at most, in given scopes; and an element
+/// that a document can have has one of both.
 pub fn elements_have_one_request_or_code()
-    ensures { OneRequest }
+    ensures one { OneRequest }
+    ensures some { RequestOrCode }
 {
     text_is_one_filter();
+    text_is_filter_or_stops();
     elements_have_one_answer();
 }
 
-/// A body means one request, or has one code, or is no envelope.
+/// A body means one thing at most: a request, a code, or that it is no envelope.
 pub fn bodies_have_one_meaning()
     ensures { OneMeaning }
 {
     elements_have_one_request_or_code();
     bytes_spell_one_element();
     envelopes_hold_one_element();
+}
+
+/// And it means one of these.
+pub fn bodies_mean_something()
+    ensures { SomeMeaning }
+{
+    elements_have_one_request_or_code();
+    bytes_spell_one_element();
+    bytes_spell_an_element_or_none();
+    what_bytes_spell_fits();
+    elements_are_envelopes_or_none();
 }
 
 /// A request that a body means has texts of characters, identifiers and items that elements of a

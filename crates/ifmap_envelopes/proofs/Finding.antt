@@ -1,0 +1,91 @@
+-- An element is an envelope or is none: what is looked at from the front tells it, as the code does.
+use Rattle.std.proofs.Common.{◌≡◌, ℕ, ◌+◌, Bool, true, false, List, [], ◌∷◌, codes, drop, inl, inr, refl, ap, subst, sym}
+use Rattle.std.specs.Prelude.{◌⊎◌}
+use Rattle.ifmap_lemmas.specs.Deciding.{Decided, decided_by, decided_test}
+use Rattle.ifmap_elem.specs.declared.elements.Element.{Element}
+use Rattle.ifmap_elem.specs.declared.elements.Name.{Name}
+use Rattle.ifmap_filter.specs.Holding.{is_name}
+use Rattle.ifmap_forms.specs.Tables.{Part, parts_of}
+use Rattle.ifmap_envelopes.specs.Envelopes.{IsAlone, IsBodyAt, IsEnvelope, blank_front, envelope_name, is_element, is_first, is_last, is_part_named}
+use Rattle.ifmap_envelopes.proofs.Alone.{one_body_at}
+use Rattle.ifmap_envelopes.proofs.EnvelopeLaws.{after_header, alone_there, body_after, body_first, headed, named, names_itself, no_body_after, no_body_first, none_alone}
+
+-- a test's two answers
+tells : (b : Bool) → (b ≡ true) ⊎ (b ≡ false)
+tells true = inl refl
+tells false = inr refl
+
+name_or_not : (n m : Name) → Decided (n ≡ m)
+name_or_not n m = decided_by (named n m) (names_itself n m) (decided_test (is_name n m))
+
+module _ (parts : List Part) where
+  abbrev first : ℕ
+  first = blank_front parts
+
+  abbrev HasAlone : Type 0
+  HasAlone = (index : ℕ) × (e : Element) × IsAlone parts index e
+
+  alone_or_none : Decided HasAlone
+  alone_or_none = elim (tells (is_last is_element (drop first parts))) [
+    | inl h ↦ let a = alone_there parts first refl h in inl (first, a.0, a.1)
+    | inr h ↦ inr (λ a. none_alone parts first refl h a.0 a.1 a.2)
+  ]
+
+  abbrev HasBody : Type 0
+  HasBody = (index : ℕ) × (body : Element) × IsBodyAt parts index body
+
+  abbrev is_body : Part → Bool
+  is_body = is_part_named (codes "Body")
+
+  abbrev is_header : Part → Bool
+  is_header = is_part_named (codes "Header")
+
+  -- after a header and white space
+  abbrev later : ℕ
+  later = first + 1 + blank_front (drop (first + 1) parts)
+
+  later_or_none : is_last is_body (drop first parts) ≡ false → is_first is_header (drop first parts) ≡ true → Decided HasBody
+  later_or_none f g = elim (tells (is_last is_body (drop later parts))) [
+    | inl h ↦
+        let o = headed parts first refl g in
+        let at = ap (λ (ps : List Part). first + 1 + blank_front ps) (after_header parts first refl o.0 o.1 o.2) in
+        let b = body_after parts first refl o.0 o.1 o.2 later at h in
+        inl (later, b.0, b.1)
+    | inr h ↦ inr (λ b. no_body_after parts first refl f later refl h b.0 b.1 b.2)
+  ]
+
+  body_or_none : Decided HasBody
+  body_or_none = elim (tells (is_last is_body (drop first parts))) [
+    | inl h ↦ let b = body_first parts first refl h in inl (first, b.0, b.1)
+    | inr f ↦ elim (tells (is_first is_header (drop first parts))) [
+      | inl g ↦ later_or_none f g
+      | inr g ↦ inr (λ b. no_body_first parts first refl f g b.0 b.1 b.2)
+    ]
+  ]
+
+module _ (root : Element) where
+  abbrev HasEnvelope : Type 0
+  HasEnvelope = (path : List ℕ) × (inner : Element) × IsEnvelope root path inner
+
+  -- where the body is found, and what it holds or not
+  module _ (named : root.name ≡ envelope_name (codes "Envelope")) (b : HasBody (parts_of root)) where
+    inner_or_none : Decided (HasAlone (parts_of b.1)) → Decided HasEnvelope
+    inner_or_none (inl a) = inl (
+      b.0 ∷ (a.0 ∷ []),
+      a.1,
+      record { named = named; place = b.0; body = b.1; body_at = b.2; index = a.0; alone = a.2; path_is = refl },
+    )
+    inner_or_none (inr none) = inr (λ h.
+        let e = h.2 in
+        let one = one_body_at (parts_of root) b.0 e.place b.1 e.body b.2 e.body_at in
+        none (e.index, h.1, subst (λ (body : Element). IsAlone (parts_of body) e.index h.1) (sym one.1) e.alone))
+
+  named_or_none : root.name ≡ envelope_name (codes "Envelope") → Decided (HasBody (parts_of root)) → Decided HasEnvelope
+  named_or_none named (inl b) = inner_or_none named b (alone_or_none (parts_of b.1))
+  named_or_none named (inr none) = inr (λ h. let e = h.2 in none (e.place, e.body, e.body_at))
+
+  pub envelope_or_none : Decided HasEnvelope
+  envelope_or_none = elim (name_or_not root.name (envelope_name (codes "Envelope"))) [
+    | inl named ↦ named_or_none named (body_or_none (parts_of root))
+    | inr fails ↦ inr (λ h. let e = h.2 in fails e.named)
+  ]

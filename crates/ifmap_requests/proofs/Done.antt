@@ -1,0 +1,378 @@
+-- Each check of a request finds something, in elements that a document can have.
+-- 1. Identifiers by the law of their crate.
+-- 2. Tables, lists of children and forms, over what they are made of.
+-- 3. Each attribute; filters by the law of their crate.
+-- 4. Metadata: the cardinality and the size are computed.
+-- 5. Identifiers and lists as children.
+-- 6. Operations and requests: each is one more form in a chain.
+use Rattle.std.proofs.Common.{◌≡◌, ◌⊎◌, ◌<◌, ◌≤◌, ◌+◌, ◌^◌, ◌++◌, ℕ, true, false, List, [], ◌∷◌, Option, None, Some, IfSome, Result, Ok, Err, codes, length, min, inl, inr, refl, arith}
+use Rattle.std.specs.Prelude.{IsUtf8, ◌&&◌, nat_le, nat_lt}
+use Rattle.std.specs.List.{list_all}
+use Rattle.std.specs.Str.{all_scalars, bytes_eq}
+use Rattle.std.proofs.Math.Utf8.{low_scalar, scalar}
+use Rattle.std.proofs.lemmas.Bool.{and_from, cases_lt}
+use Rattle.std.proofs.lemmas.Bool.Decides.{nat_tests}
+use Rattle.ifmap_elem.specs.Arranged.{arrange}
+use Rattle.ifmap_elem.specs.Chars.{AllAre, IsCharacters, is_character, is_white}
+use Rattle.ifmap_elem.specs.Fit.{IsFit}
+use Rattle.ifmap_elem.specs.Nesting.{nesting}
+use Rattle.ifmap_elem.specs.declared.elements.Child.TheOpen.{Child-F}
+use Rattle.ifmap_elem.specs.declared.elements.Element.{Element}
+use Rattle.ifmap_reader.specs.declared.scoping.Scope.{Scope}
+use Rattle.ifmap_filter.specs.declared.filters.Filter.{Filter}
+use Rattle.ifmap_filter.specs.Holding.{is_name}
+use Rattle.ifmap_filter.specs.Laws.{FilterOrStop, StopsWhereNone}
+use Rattle.ifmap_filter.specs.Texts.{StopsAt, Writes}
+use Rattle.ifmap_ident.specs.declared.codes.Code.TheVariants.{Failure, IdentifierTooLong, InvalidIdentifier, InvalidIdentifierType, InvalidMetadata, InvalidSchemaVersion, MetadataTooLong}
+use Rattle.ifmap_ident.specs.declared.errors.IdentError.{IdentError}
+use Rattle.ifmap_ident.specs.declared.errors.IdentError.TheVariants.{WrongKind, Invalid, TooLong, NoMemory}
+use Rattle.ifmap_ident.specs.declared.identifiers.Identifier.{Identifier}
+use Rattle.ifmap_ident.specs.Canon.{IsAnswer}
+use Rattle.ifmap_ident.specs.Laws.{HasAnswer}
+use Rattle.ifmap_ident.specs.Parts.{has_only, value_of}
+use Rattle.ifmap_meta.specs.declared.metadata.Cardinality.{Cardinality}
+use Rattle.ifmap_meta.specs.declared.metadata.Metadata.{Metadata}
+use Rattle.ifmap_meta.specs.Cardinality.{cardinality_of}
+use Rattle.ifmap_meta.specs.Keys.{content_bytes}
+use Rattle.ifmap_meta.specs.Stamps.{content_of}
+use Rattle.ifmap_meta.specs.Whole.{content_limit}
+use Rattle.ifmap_forms.specs.CheckLaws.{fail_done, if_done, need_done, pass_done, some_done, then_done}
+use Rattle.ifmap_forms.specs.Checks.{Check, IsDone, check_if, check_then, fail, need, need_some, pass}
+use Rattle.ifmap_forms.specs.Items.{before_list, from_list, identifier_check, identifiers_check, item_content, item_of, list_at, list_check, may_follow, only_identifier, start_content}
+use Rattle.ifmap_forms.specs.Scopes.{Scopes, scopes_below}
+use Rattle.ifmap_forms.specs.Tables.{Content, Form, Part, Table, beside, both, each_element, form_or, is_white_part, list_of, no_attributes, no_children, parts_of, read_form}
+use Rattle.ifmap_forms.specs.Values.{Field, depth_field, field_check, filter_check, filter_field, kind_of, kinds_check, kinds_field, lifetime_field, limit_field, name_field, number_of, piece_check, pieces_of, size_field, text_field, trimmed, within}
+use Rattle.ifmap_requests.specs.declared.requests.Request.{Request}
+use Rattle.ifmap_requests.specs.Published.{metadata_check, published_content, published_from}
+use Rattle.ifmap_requests.specs.RequestForms.{delete_form, delete_of, end_form, end_of, end_session_form, end_session_of, ifmap_space, named_request_check, new_session_form, new_session_of, notify_form, notify_of, other_request_check, poll_form, poll_of, publish_form, publish_of, publish_op_check, publisher_field, purge_form, purge_of, renew_form, renewal_of, request_check, search_attributes, search_form, search_of, session_attribute, session_field, subscribe_form, subscribe_of, subscribe_op_check, subscription_form, subscription_of, update_form, update_of}
+use Rattle.ifmap_requests.proofs.Sound.{AreSound, IsSound, from_sound, parts_sound, value_fit}
+
+-- ---- 1. identifiers
+
+identifier_found : (e : Element) (result : Result Identifier IdentError) → IsAnswer e result → (result ≡ Err NoMemory → ⊥)
+    → IsDone (identifier_check e)
+identifier_found e (Ok i) a memory = (Ok i, a)
+identifier_found e (Err WrongKind) a memory = (Err InvalidIdentifierType, (WrongKind, refl, a))
+identifier_found e (Err Invalid) a memory = (Err InvalidIdentifier, (Invalid, refl, a))
+identifier_found e (Err TooLong) a memory = (Err IdentifierTooLong, (TooLong, refl, a))
+identifier_found e (Err NoMemory) a memory = absurd (memory refl)
+
+pub identifier_done : ((e : Element) → HasAnswer e) → (e : Element) → IsDone (identifier_check e)
+identifier_done some e = let a = some e in identifier_found e a.0 a.1 a.2
+
+-- ---- 2. tables, children, forms
+
+abbrev FieldDone : {X : Type 0} → Field X → Type 0
+FieldDone field = (scope : Scope) (text : Option (List ℕ)) → IfSome text IsCharacters → IsDone (field.reads scope text)
+
+abbrev TableDone : {X : Type 0} → Table X → Type 0
+TableDone table = (scope : Scope) (e : Element) → IsFit e → IsDone (table.reads scope e)
+
+module _ {X Y : Type 0} (field : Field X) (table : Table Y) where
+  beside_done : FieldDone field → TableDone table → TableDone (beside field table)
+  beside_done f t scope e fit =
+      then_done (field_check field scope e) (λ x. check_then (table.reads scope e) (λ y. pass (both x y)))
+      (λ x found. then_done (table.reads scope e) (λ y. pass (both x y)) (λ y got. pass_done (both x y)) (t scope e fit))
+      (f scope (value_of field.local e) (value_fit field.local e fit))
+
+no_attributes_done : TableDone no_attributes
+no_attributes_done scope e fit = pass_done tt
+
+module _ (most : ℕ) where
+  abbrev ContentDone : {X : Type 0} → Content X → Type 0
+  ContentDone content = (scopes : Scopes) (parts : List Part) → AreSound most parts → IsDone (content scopes parts)
+
+  abbrev ElementDone : {X : Type 0} → (Element → Check X) → Type 0
+  ElementDone check = (e : Element) → IsSound most e → IsDone (check e)
+
+  module _ {A C : Type 0} (form : Form A C) where
+    form_done : TableDone form.attributes → ContentDone form.content → (scopes : Scopes) → ElementDone (read_form form scopes)
+    form_done t s scopes e sound =
+        then_done (form.attributes.reads (scopes []) e)
+        (λ a. need (has_only (form.passed_over ++ form.attributes.locals) e) Failure
+        (check_then (form.content scopes (parts_of e)) (λ c. pass (both a c))))
+        (λ a found. need_done (has_only (form.passed_over ++ form.attributes.locals) e) Failure
+        (check_then (form.content scopes (parts_of e)) (λ c. pass (both a c)))
+        (then_done (form.content scopes (parts_of e)) (λ c. pass (both a c)) (λ c got. pass_done (both a c))
+        (s scopes (parts_of e) (parts_sound most e sound))))
+        (t (scopes []) e sound.fit)
+
+  module _ {X A C : Type 0} (form : Form A C) (make : A → C → X) where
+    or_done : TableDone form.attributes → ContentDone form.content → (scopes : Scopes) (e : Element) → IsSound most e → (other : Check X)
+        → IsDone other → IsDone (form_or form make scopes e other)
+    or_done t s scopes e sound other done =
+        if_done (is_name e.name form.name) (check_then (read_form form scopes e) (λ x. pass (make x.first x.others))) other
+        (then_done (read_form form scopes e) (λ x. pass (make x.first x.others)) (λ x found. pass_done (make x.first x.others))
+        (form_done form t s scopes e sound))
+        done
+
+  module _ {X : Type 0} (one : ℕ → Element → Check X) (s : (index : ℕ) → ElementDone (one index)) where
+    each_done : (index : ℕ) (parts : List Part) → AreSound most parts → IsDone (each_element one index parts)
+    each_done index [] sound = pass_done []
+    each_done index (Child-F.Element e ∷ parts) sound =
+        then_done (one index e) (λ x. check_then (each_element one (index + 1) parts) (λ xs. pass (x ∷ xs)))
+        (λ x found. then_done (each_element one (index + 1) parts) (λ xs. pass (x ∷ xs)) (λ xs got. pass_done (x ∷ xs))
+        (each_done (index + 1) parts sound.1))
+        (s index e sound.0)
+    each_done index (Child-F.Text text ∷ parts) sound =
+        need_done (list_all is_white text) Failure (each_element one (index + 1) parts) (each_done (index + 1) parts sound.1)
+
+  no_children_done : ContentDone no_children
+  no_children_done scopes parts sound = need_done (list_all is_white_part parts) Failure (pass tt) (pass_done tt)
+
+-- ---- 3. values
+
+text_done : (local : List ℕ) → FieldDone (text_field local)
+text_done local scope None is = fail_done Failure
+text_done local scope (Some text) is = pass_done text
+
+name_done : FieldDone name_field
+name_done scope None is = fail_done Failure
+name_done scope (Some text) is =
+    need_done (nat_le 1 (length text) && nat_le (length text) 1000) Failure (pass text) (pass_done text)
+
+limit_done : FieldDone limit_field
+limit_done scope None is = pass_done None
+limit_done scope (Some text) is =
+    some_done Failure (number_of text) (λ n. pass (Some (within 10_000 5_000_000 n))) (λ n. pass_done (Some (within 10_000 5_000_000 n)))
+
+depth_done : FieldDone depth_field
+depth_done scope None is = pass_done 0
+depth_done scope (Some text) is =
+    some_done Failure (number_of text) (λ n. need (nat_lt n (2 ^ 32)) Failure (pass n))
+    (λ n. need_done (nat_lt n (2 ^ 32)) Failure (pass n) (pass_done n))
+
+size_done : FieldDone size_field
+size_done scope None is = pass_done 100_000
+size_done scope (Some text) is =
+    some_done Failure (number_of text) (λ n. pass (min n 50_000_000)) (λ n. pass_done (min n 50_000_000))
+
+lifetime_done : FieldDone lifetime_field
+lifetime_done scope None is = pass_done false
+lifetime_done scope (Some text) is =
+    if_done (bytes_eq text (codes "session")) (pass false) (check_if (bytes_eq text (codes "forever")) (pass true) (fail Failure))
+    (pass_done false)
+    (if_done (bytes_eq text (codes "forever")) (pass true) (fail Failure) (pass_done true) (fail_done Failure))
+
+pieces_done : (pieces : List (List ℕ)) → IsDone (kinds_check pieces)
+pieces_done [] = pass_done []
+pieces_done (piece ∷ pieces) =
+    then_done (piece_check piece) (λ kind. check_then (kinds_check pieces) (λ others. pass (kind ∷ others)))
+    (λ kind found. then_done (kinds_check pieces) (λ others. pass (kind ∷ others)) (λ others got. pass_done (kind ∷ others))
+    (pieces_done pieces))
+    (some_done InvalidIdentifierType (kind_of (trimmed piece)) (λ kind. pass kind) (λ kind. pass_done kind))
+
+kinds_done : FieldDone kinds_field
+kinds_done scope None is = pass_done []
+kinds_done scope (Some text) is =
+    if_done (list_all is_white text) (pass []) (kinds_check (pieces_of text)) (pass_done []) (pieces_done (pieces_of text))
+
+-- characters of a document are UTF-8
+
+high_character : (c : ℕ) → 55296 ≤ c → is_character c ≡ true → scalar c ≡ true
+high_character c g h = grind (arith, nat_tests)
+
+character_scalar : (c : ℕ) → is_character c ≡ true → scalar c ≡ true
+character_scalar c h = elim (cases_lt c 55296) [ inl l ↦ low_scalar c l | inr g ↦ high_character c g h ]
+
+character_scalars : (cs : List ℕ) → AllAre is_character cs → all_scalars cs ≡ true
+character_scalars [] f = refl
+character_scalars (c ∷ cs) f = and_from (scalar c) (all_scalars cs) (character_scalar c f.0) (character_scalars cs f.1)
+
+characters_utf8 : (bytes : List ℕ) → IsCharacters bytes → IsUtf8 bytes
+characters_utf8 bytes i = (i.0, (character_scalars i.0 i.2, i.1))
+
+module _ (decided : FilterOrStop) (apart : StopsWhereNone) where
+  filter_found : (scope : Scope) (text : List ℕ) → ((filter : Filter) × Writes text scope filter) ⊎ ((at : ℕ) × StopsAt text scope at)
+      → IsDone (filter_check scope text)
+  filter_found scope text (inl w) = (Ok w.0, w.1)
+  filter_found scope text (inr stops) = (Err Failure, apart text scope stops.0 stops.1)
+
+  filter_done : (local : List ℕ) → FieldDone (filter_field local)
+  filter_done local scope None is = pass_done None
+  filter_done local scope (Some text) is =
+      then_done (filter_check scope text) (λ filter. pass (Some filter)) (λ filter found. pass_done (Some filter))
+      (filter_found scope text (decided text scope (characters_utf8 text is)))
+
+-- ---- 4. metadata
+
+made_of : (e : Element) (cardinality : Cardinality) → cardinality_of e ≡ Some cardinality
+    → (length (content_bytes e) ≤ content_limit) ⊎ (content_limit < length (content_bytes e)) → IsDone (metadata_check e)
+made_of e cardinality is (inl low) = (
+  Ok (record { element = arrange (content_of e); cardinality = cardinality }),
+  record { element = refl; cardinality = is; size = low },
+)
+made_of e cardinality is (inr high) = (Err MetadataTooLong, (rw is refl, high))
+
+metadata_by : (e : Element) (o : Option Cardinality) → cardinality_of e ≡ o → IsDone (metadata_check e)
+metadata_by e None is = (Err InvalidMetadata, is)
+metadata_by e (Some cardinality) is = made_of e cardinality is (elim (cases_lt content_limit (length (content_bytes e))) [
+  | inl high ↦ inr high
+  | inr low ↦ inl low
+])
+
+metadata_done : (e : Element) → IsDone (metadata_check e)
+metadata_done e = metadata_by e (cardinality_of e) refl
+
+-- ---- 5. children
+
+module _ (most : ℕ) where
+  list_done : ElementDone most (list_check metadata_check)
+  list_done e sound =
+      need_done (has_only [] e) Failure (each_element (λ index inner. metadata_check inner) 0 (parts_of e))
+      (each_done most (λ index inner. metadata_check inner) (λ index inner s. metadata_done inner) 0 (parts_of e)
+      (parts_sound most e sound))
+
+  list_at_done : (parts : List Part) → AreSound most parts → IsDone (list_at metadata_check parts)
+  list_at_done [] sound = pass_done None
+  list_at_done (Child-F.Element e ∷ after) sound =
+      then_done (list_check metadata_check e) (λ xs. need (list_all is_white_part after) Failure (pass (Some xs)))
+      (λ xs found. need_done (list_all is_white_part after) Failure (pass (Some xs)) (pass_done (Some xs)))
+      (list_done e sound.0)
+  list_at_done (Child-F.Text text ∷ after) sound = fail_done Failure
+
+  module _ (identifier : (e : Element) → IsDone (identifier_check e)) where
+    identifiers_done : (number : ℕ) (before : List Identifier) (parts : List Part) → IsDone (identifiers_check number before parts)
+    identifiers_done number before [] = pass_done []
+    identifiers_done number before (Child-F.Element e ∷ parts) =
+        then_done (identifier_check e)
+        (λ i. need (may_follow number before i) Failure
+        (check_then (identifiers_check number (before ++ i ∷ []) parts) (λ others. pass (i ∷ others))))
+        (λ i found. need_done (may_follow number before i) Failure
+        (check_then (identifiers_check number (before ++ i ∷ []) parts) (λ others. pass (i ∷ others)))
+        (then_done (identifiers_check number (before ++ i ∷ []) parts) (λ others. pass (i ∷ others))
+        (λ others got. pass_done (i ∷ others)) (identifiers_done number (before ++ i ∷ []) parts)))
+        (identifier e)
+    identifiers_done number before (Child-F.Text text ∷ parts) =
+        need_done (list_all is_white text) Failure (identifiers_check number before parts) (identifiers_done number before parts)
+
+    start_done : ContentDone most start_content
+    start_done scopes parts sound =
+        then_done (identifiers_check 1 [] parts) (λ identifiers. need_some Failure (only_identifier identifiers) (λ i. pass i))
+        (λ identifiers found. some_done Failure (only_identifier identifiers) (λ i. pass i) (λ i. pass_done i))
+        (identifiers_done 1 [] parts)
+
+    item_done : ContentDone most item_content
+    item_done scopes parts sound =
+        then_done (identifiers_check 2 [] parts) (λ identifiers. need_some Failure (item_of identifiers) (λ item. pass item))
+        (λ identifiers found. some_done Failure (item_of identifiers) (λ item. pass item) (λ item. pass_done item))
+        (identifiers_done 2 [] parts)
+
+    published_done : ContentDone most published_content
+    published_done scopes parts sound =
+        then_done (identifiers_check 2 [] (before_list parts))
+        (λ identifiers. check_then (list_at metadata_check (from_list parts)) (λ list. published_from identifiers list))
+        (λ identifiers found. then_done (list_at metadata_check (from_list parts)) (λ list. published_from identifiers list)
+        (λ list got. some_done Failure (item_of identifiers)
+        (λ item. need_some Failure list (λ elements. pass (both item elements)))
+        (λ item. some_done Failure list (λ elements. pass (both item elements)) (λ elements. pass_done (both item elements))))
+        (list_at_done (from_list parts) (from_sound most parts sound)))
+        (identifiers_done 2 [] (before_list parts))
+
+-- ---- 6. operations and requests
+
+module _ (identifier : (e : Element) → IsDone (identifier_check e)) (decided : FilterOrStop) (apart : StopsWhereNone) where
+  search_attributes_done : TableDone search_attributes
+  search_attributes_done =
+      beside_done (filter_field (codes "match-links")) (beside depth_field (beside size_field
+      (beside (filter_field (codes "result-filter")) (beside kinds_field no_attributes))))
+      (filter_done decided apart (codes "match-links"))
+      (beside_done depth_field (beside size_field (beside (filter_field (codes "result-filter")) (beside kinds_field no_attributes)))
+      depth_done
+      (beside_done size_field (beside (filter_field (codes "result-filter")) (beside kinds_field no_attributes)) size_done
+      (beside_done (filter_field (codes "result-filter")) (beside kinds_field no_attributes)
+      (filter_done decided apart (codes "result-filter"))
+      (beside_done kinds_field no_attributes kinds_done no_attributes_done))))
+
+  session_done : TableDone session_attribute
+  session_done = beside_done session_field no_attributes (text_done session_field.local) no_attributes_done
+
+  purge_done : TableDone purge_form.attributes
+  purge_done =
+      beside_done session_field (beside publisher_field no_attributes) (text_done session_field.local)
+      (beside_done publisher_field no_attributes (text_done publisher_field.local) no_attributes_done)
+
+  module _ (most : ℕ) where
+    publish_op_done : (scopes : Scopes) → ElementDone most (publish_op_check scopes)
+    publish_op_done scopes e sound =
+        or_done most update_form update_of (beside_done lifetime_field no_attributes lifetime_done no_attributes_done)
+        (published_done most identifier) scopes e sound
+        (form_or notify_form notify_of scopes e (form_or delete_form delete_of scopes e (fail Failure)))
+        (or_done most notify_form notify_of no_attributes_done (published_done most identifier) scopes e sound
+        (form_or delete_form delete_of scopes e (fail Failure))
+        (or_done most delete_form delete_of
+        (beside_done (filter_field (codes "filter")) no_attributes (filter_done decided apart (codes "filter")) no_attributes_done)
+        (item_done most identifier) scopes e sound (fail Failure) (fail_done Failure)))
+
+    subscribe_op_done : (scopes : Scopes) → ElementDone most (subscribe_op_check scopes)
+    subscribe_op_done scopes e sound =
+        or_done most subscription_form subscription_of
+        (beside_done name_field search_attributes name_done search_attributes_done) (start_done most identifier) scopes e sound
+        (form_or end_form end_of scopes e (fail Failure))
+        (or_done most end_form end_of (beside_done name_field no_attributes name_done no_attributes_done) (no_children_done most)
+        scopes e sound (fail Failure) (fail_done Failure))
+
+    publish_ops_done : ContentDone most (list_of publish_op_check)
+    publish_ops_done scopes parts sound =
+        each_done most (λ index e. publish_op_check (scopes_below scopes index) e)
+        (λ index e s. publish_op_done (scopes_below scopes index) e s) 0 parts sound
+
+    subscribe_ops_done : ContentDone most (list_of subscribe_op_check)
+    subscribe_ops_done scopes parts sound =
+        each_done most (λ index e. subscribe_op_check (scopes_below scopes index) e)
+        (λ index e s. subscribe_op_done (scopes_below scopes index) e s) 0 parts sound
+
+    module _ (scopes : Scopes) (e : Element) (sound : IsSound most e) where
+      -- the chain from each of its forms on
+      abbrev from_purge : Check Request
+      from_purge = form_or purge_form purge_of scopes e (fail Failure)
+
+      abbrev from_subscribe : Check Request
+      from_subscribe = form_or subscribe_form subscribe_of scopes e from_purge
+
+      abbrev from_search : Check Request
+      from_search = form_or search_form search_of scopes e from_subscribe
+
+      abbrev from_poll : Check Request
+      from_poll = form_or poll_form poll_of scopes e from_search
+
+      abbrev from_end : Check Request
+      from_end = form_or end_session_form end_session_of scopes e from_poll
+
+      abbrev from_renew : Check Request
+      from_renew = form_or renew_form renewal_of scopes e from_end
+
+      purges : IsDone from_purge
+      purges = or_done most purge_form purge_of purge_done (no_children_done most) scopes e sound (fail Failure) (fail_done Failure)
+
+      subscribes : IsDone from_subscribe
+      subscribes = or_done most subscribe_form subscribe_of session_done subscribe_ops_done scopes e sound from_purge purges
+
+      searches : IsDone from_search
+      searches =
+          or_done most search_form search_of
+          (beside_done session_field search_attributes (text_done session_field.local) search_attributes_done)
+          (start_done most identifier) scopes e sound from_subscribe subscribes
+
+      polls : IsDone from_poll
+      polls = or_done most poll_form poll_of session_done (no_children_done most) scopes e sound from_search searches
+
+      ends : IsDone from_end
+      ends = or_done most end_session_form end_session_of session_done (no_children_done most) scopes e sound from_poll polls
+
+      renews : IsDone from_renew
+      renews = or_done most renew_form renewal_of session_done (no_children_done most) scopes e sound from_end ends
+
+      others : IsDone (other_request_check scopes e)
+      others =
+          or_done most new_session_form new_session_of (beside_done limit_field no_attributes limit_done no_attributes_done)
+          (no_children_done most) scopes e sound from_renew renews
+
+      named_done : IsDone (named_request_check scopes e)
+      named_done =
+          or_done most publish_form publish_of session_done publish_ops_done scopes e sound (other_request_check scopes e) others
+
+  pub request_done : (scopes : Scopes) (e : Element) → IsFit e → IsDone (request_check scopes e)
+  request_done scopes e fit =
+      need_done (bytes_eq e.name.space ifmap_space) InvalidSchemaVersion (named_request_check scopes e)
+      (named_done (nesting e) scopes e (record { fit = fit; levels = omega arith }))
