@@ -9,5 +9,6 @@ pub mod Pieces
 pub mod Progress
 pub mod SameErrors
 pub mod Scripts
+pub mod SomeScript
 pub mod Splits
 pub mod Taking

@@ -77,14 +77,14 @@ line_begins offset bytes line body rest h text is size ends meaning =
 
 -- ---- a frame that begins is the only one but for its meaning
 
-read_header : List ℕ → Header
+pub read_header : List ℕ → Header
 read_header bytes = read_line (before 10 bytes)
 
 -- what a reader finds is the frame's
-record Reads (bytes : List ℕ) (f : Frame) (rest : List ℕ) : Type 0 where
-  header : read_header bytes ≡ header_of_frame f
-  body : take (read_header bytes).size (after 10 bytes) ≡ f.body
-  rest_is : drop (read_header bytes).size (after 10 bytes) ≡ rest
+pub record Reads (bytes : List ℕ) (f : Frame) (rest : List ℕ) : Type 0 where
+  pub header : read_header bytes ≡ header_of_frame f
+  pub body : take (read_header bytes).size (after 10 bytes) ≡ f.body
+  pub rest_is : drop (read_header bytes).size (after 10 bytes) ≡ rest
 
 read_is : (bytes : List ℕ) (f : Frame) (rest : List ℕ) → read_header bytes ≡ header_of_frame f → after 10 bytes ≡ f.body ++ rest
     → Reads bytes f rest
@@ -94,7 +94,7 @@ read_is bytes f rest e b = record {
   rest_is = rw (e, b) (drop_at f.body rest (length f.body) refl);
 }
 
-reads : (offset : ℕ) (bytes : List ℕ) (f : Frame) (rest : List ℕ) → Begins offset bytes f rest → Reads bytes f rest
+pub reads : (offset : ℕ) (bytes : List ℕ) (f : Frame) (rest : List ℕ) → Begins offset bytes f rest → Reads bytes f rest
 unfolding read_header
 reads offset bytes f rest b =
     let w = frame_within f b.fits in

@@ -30,7 +30,7 @@ AnswersTaken before after =
     × ((frames : List Frame) × (fault : Option ℕ) × IsScript taken frames fault
     × IfSome fault (λ place. IsAwaited place (drop place taken)) × Appends before.held after.held (answers frames))
 
--- a prefix of the output was written: of each that the bytes have, since what was not read may mean anything
+-- a prefix of the output was written: of each that the bytes have, and they have exactly one
 abbrev pub AnswersPart : (before after : Ends) → Type 0
 AnswersPart before after =
     IfSome before.left (λ bytes. (text : List ℕ) → IsOutput bytes text → AppendsPrefix before.held after.held text)

@@ -1,9 +1,10 @@
-//! A law of scripts, over all bytes.
+//! Laws of scripts, over all bytes.
 ghost use Rattle.std.specs.Prelude.{◌≡◌, ℕ, List, Option};
 ghost use Rattle.ifmap_server.specs.Frames.{Frame};
+ghost use Rattle.ifmap_server.specs.Output.{IsOutput};
 ghost use Rattle.ifmap_server.specs.Script.{IsScript};
 
-use ifmap_requests::laws::bodies_have_one_meaning;
+use ifmap_requests::laws::{bodies_have_one_meaning, bodies_mean_something};
 
 /// Any bytes are the text of one list of frames at most, and of one fault or of none.
 pub fn bytes_are_one_script()
@@ -12,4 +13,13 @@ pub fn bytes_are_one_script()
         → (frames ≡ others) × (fault ≡ other) }
 {
     bodies_have_one_meaning();
+}
+
+/// And they are the text of one, so that they have an output.
+pub fn bytes_have_some_output()
+    ensures script { (bytes : List ℕ) →
+        (frames : List Frame) × (fault : Option ℕ) × IsScript bytes frames fault }
+    ensures output { (bytes : List ℕ) → (text : List ℕ) × IsOutput bytes text }
+{
+    bodies_mean_something();
 }

@@ -14,6 +14,6 @@ mod sending;
 pub mod statuses;
 mod words;
 
-pub use laws::bytes_are_one_script;
+pub use laws::{bytes_are_one_script, bytes_have_some_output};
 pub use running::{replay, run};
 pub use words::{Form, form_of};
