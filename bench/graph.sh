@@ -8,11 +8,12 @@ cat > "$work/crates/graph_bench/src/main.rt" <<'RATTLE'
 #![tactic(auto)]
 
 ghost use Rattle.std.specs.Prelude.{IfOk};
-ghost use Rattle.ifmap_ident.specs.Items.{IsItem};
+ghost use Rattle.ifmap_ident.specs.Items.{IsCanonItem};
 ghost use Rattle.ifmap_meta.specs.Whole.{IsMetadata};
 
 use ifmap_elem::Text;
 use ifmap_graph::{Graph, KeptAttachment};
+use ifmap_ident::laws::mac_addresses_are_identifiers;
 use ifmap_ident::{Identifier, Item};
 use ifmap_io::Moment;
 use ifmap_meta::{ClientName, Life, Metadata};
@@ -37,8 +38,9 @@ fn role(alloc: Global) -> Result<Metadata, NoMemory>
 }
 
 fn item(alloc: Global, number: u32) -> Result<Item, NoMemory>
-    ensures { IfOk result IsItem }
+    ensures { IfOk result IsCanonItem }
 {
+    mac_addresses_are_identifiers();
     let [a, b, c, d] = number.wrapping_mul(2_654_435_761).to_be_bytes();
     let domain = Text(String::new(alloc));
     Ok(Item::One(Identifier::MacAddress { value: [0, 2, a, b, c, d], domain }))
