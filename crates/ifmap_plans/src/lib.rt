@@ -5,5 +5,5 @@
 pub mod lists;
 pub mod plans;
 
-pub use lists::next_list;
+pub use lists::{next_list, place_of, put_row, row_order};
 pub use plans::{ItemChange, Note, Plan};
