@@ -19,8 +19,9 @@ pub fn row_order(one: &Row, other: &Row) -> Ordering
     bytes_of(one).cmp(bytes_of(other))
 }
 
+/// The canonical bytes of what is stored.
 #[tactic(auto, unfolding(ifmap_view::specs::Attachments::stored_bytes))]
-fn bytes_of(row: &Row) -> &[u8]
+pub fn bytes_of(row: &Row) -> &[u8]
     ensures { result.now ≡ stored_bytes row.now }
 {
     row.stored().element.bytes()

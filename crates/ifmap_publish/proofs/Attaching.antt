@@ -1,8 +1,8 @@
 -- One element in place of the one with its key.
-use Rattle.std.proofs.Common.{◌≡◌, ◌∙◌, refl, sym, ap, subst, ℕ, ◌+◌, ◌<◌, ◌≤◌, zero, Bool, true, false, not, List, [], ◌∷◌, drop, length, get_or, arith}
+use Rattle.std.proofs.Common.{◌≡◌, ◌∙◌, refl, sym, ap, subst, ℕ, ◌+◌, ◌<◌, ◌≤◌, zero, suc, Bool, true, false, not, List, [], ◌∷◌, drop, length, get_or, arith}
 use Rattle.std.proofs.lemmas.Bool.{not-true}
 use Rattle.std.proofs.lemmas.List.{drop_more}
-use Rattle.std.proofs.lemmas.List.Elements.{AllWithin-upto, recursion_from_All}
+use Rattle.std.proofs.lemmas.List.Elements.{AllWithin-more, recursion_from_All}
 use Rattle.std.specs.List.{AllByRecursion, AllWithin, filter, remove}
 use Rattle.std.specs.Ordering.{is_gt, is_lt}
 use Rattle.ifmap_lemmas.specs.Filters.{all_around, all_at, all_filter, all_weaker, filter_all, filter_passes}
@@ -13,6 +13,8 @@ use Rattle.ifmap_meta.specs.Whole.{IsWhole}
 use Rattle.ifmap_plans.specs.laws.KeyLaws.{stored_equiv}
 use Rattle.ifmap_plans.specs.laws.ListLaws.{list_filter, list_put}
 use Rattle.ifmap_plans.specs.laws.PlacingLaws.{remove_one}
+use Rattle.ifmap_requests.specs.declared.publishing.PublishOp.{PublishOp}
+use Rattle.ifmap_requests.specs.Fit.{IsFitOp}
 use Rattle.ifmap_view.specs.Attachments.{stored_order}
 use Rattle.ifmap_publish.specs.Apply.{Authorship, stored_of}
 use Rattle.ifmap_publish.specs.OnItems.{attach_on, update_on}
@@ -37,24 +39,22 @@ sound_attached row list w s =
     }
 
 -- where a search for the key ends
+at_any : (xs : List Stored) (k : ℕ) → k < length xs → (d e : Stored) → get_or xs k d ≡ get_or xs k e
+at_any [] k l d e = absurd (omega (arith, l))
+at_any (x ∷ xs) zero l d e = refl
+at_any (x ∷ xs) (suc k) l d e = at_any xs k (omega (arith, l)) d e
+
 pub key_at : (row other : Stored) (list : List Stored) (i : ℕ) → IsSound list → i < length list → other ≡ get_or list i other
     → same_key row other ≡ true → remove list i ≡ filter (λ t. not (same_key row t)) list
 key_at row other list i s low at is =
-    remove_one Stored same_key stored_equiv row list i s.keyed.keys low (λ d. ap (same_key row) (same_at d) ∙ is)
-  where
-    same_at : (d : Stored) → get_or list i d ≡ other
-    same_at d = at_any list i low d other ∙ sym at
-      where
-        at_any : (xs : List Stored) (k : ℕ) → k < length xs → (d e : Stored) → get_or xs k d ≡ get_or xs k e
-        at_any [] k l d e = absurd (omega arith)
-        at_any (x ∷ xs) zero l d e = refl
-        at_any (x ∷ xs) (suc k) l d e = at_any xs k (omega arith) d e
+    remove_one Stored same_key stored_equiv row list i s.keyed.keys low
+    (λ d. ap (same_key row) (at_any list i low d other ∙ sym at) ∙ is)
 
-pub key_nowhere : (row : Stored) (list : List Stored) (i : ℕ) → (i < length list → ⊥) → AllWithin (λ t. same_key row t ≡ false) list 0 i
-    → list ≡ filter (λ t. not (same_key row t)) list
+pub key_nowhere : (row : Stored) (list : List Stored) (i : ℕ) → length list ≤ i → AllWithin (λ t. same_key row t ≡ false) list 0 i
+    → filter (λ t. not (same_key row t)) list ≡ list
 key_nowhere row list i end none =
-    sym (filter_all (λ t. not (same_key row t)) list (all_weaker (λ t. same_key row t ≡ false) (λ t. not (same_key row t) ≡ true)
-    (λ t e. ap not e) list (recursion_from_All (λ t. same_key row t ≡ false) list (λ j d h. none j d (omega arith) (omega (arith, end, h))))))
+    filter_all (λ t. not (same_key row t)) list (all_weaker (λ t. same_key row t ≡ false) (λ t. not (same_key row t) ≡ true)
+    (λ t e. ap not e) list (recursion_from_All (λ t. same_key row t ≡ false) list (λ j d h. none j d (omega arith) (omega (arith, end, h)))))
 
 -- one more of the elements of an update
 module _ (by : Authorship) (forever : Bool) (ms : List Metadata) (i : ℕ) (m : Metadata) (low : i < length ms) (at : m ≡ get_or ms i m) where
@@ -62,8 +62,16 @@ module _ (by : Authorship) (forever : Bool) (ms : List Metadata) (i : ℕ) (m : 
       → update_on (attach_on list row) by forever (drop (i + 1) ms) ≡ all
   update_next row list all is so =
       let front : drop i ms ≡ m ∷ drop (i + 1) ms =
-          subst (λ y. drop i ms ≡ y ∷ drop (i + 1) ms) (sym at) (drop_more ms i m low) in
+      subst (λ y. drop i ms ≡ y ∷ drop (i + 1) ms) (sym at) (drop_more ms i m low) in
       ap (λ r. update_on (attach_on list r) by forever (drop (i + 1) ms)) is ∙ sym (ap (update_on list by forever) front) ∙ so
 
   pub one_of : (P : Metadata → Type 0) → AllByRecursion P ms → P m
   one_of P all = subst P (sym at) (all_at P ms i m all low)
+
+pub one_of_ops : (ops : List PublishOp) (i : ℕ) (op : PublishOp) → i < length ops → op ≡ get_or ops i op → AllByRecursion IsFitOp ops → IsFitOp op
+one_of_ops ops i op low at all = subst IsFitOp (sym at) (all_at IsFitOp ops i op all low)
+
+pub none_more : (row other : Stored) (list : List Stored) (i : ℕ) → i < length list → other ≡ get_or list i other
+    → same_key row other ≡ false → AllWithin (λ t. same_key row t ≡ false) list 0 i → AllWithin (λ t. same_key row t ≡ false) list 0 (i + 1)
+none_more row other list i low at is none =
+    AllWithin-more (λ t. same_key row t ≡ false) list 0 i none (λ d. ap (same_key row) (at_any list i low d other ∙ sym at) ∙ is)

@@ -1,8 +1,10 @@
 -- The changes of items on which something goes or comes.
-use Rattle.std.proofs.Common.{◌≡◌, ◌≢◌, ◌∙◌, refl, sym, ap, subst, Bool, true, false, cond, not, List, [], ◌∷◌, ◌++◌, map, Option, Some, None, inl, inr}
+use Rattle.std.proofs.Common.{◌≡◌, ◌≢◌, ◌∙◌, refl, sym, ap, subst, Bool, true, false, cond, not, List, [], ◌∷◌, ◌++◌, ◌==◌, arith, length, map, Option, Some, None, inl, inr}
 use Rattle.std.proofs.lemmas.Bool.{cases_Bool}
+use Rattle.std.proofs.lemmas.List.{append-nil, append_assoc}
 use Rattle.std.proofs.lemmas.List.Kept.{IsStrictlySortedBy-filter}
 use Rattle.std.specs.BTreeMap.{is_at}
+use Rattle.std.specs.Bool.{OnFalse, OnTrue}
 use Rattle.std.specs.List.{AllByRecursion, IsDistinct, filter, find, list_any}
 use Rattle.std.specs.List.Sorted.{IsStrictlySortedBy}
 use Rattle.std.specs.Map.{keys_of, lookup}
@@ -12,6 +14,7 @@ use Rattle.ifmap_ident.specs.declared.items.Item.{Item}
 use Rattle.ifmap_ident.specs.Items.{item_order, same_item}
 use Rattle.ifmap_lemmas.specs.Filters.{all_filter, all_weaker}
 use Rattle.ifmap_lemmas.specs.Having.{Has, filter_has}
+use Rattle.ifmap_lemmas.specs.Numbers.{is_number}
 use Rattle.ifmap_meta.specs.declared.stored.Stored.{Stored}
 use Rattle.ifmap_meta.specs.Whole.{IsWhole}
 use Rattle.ifmap_plans.specs.declared.plans.ItemChange.{ItemChange}
@@ -171,15 +174,15 @@ module _ (rows : List Attachment) where
           | inl is ↦
               let alike : stored_on x rows ≡ stored_on e.0 rows = stored_alike e.0 x is rows in
               let hit : lookup (is_at (item_order x)) (e ∷ es) ≡ Some e.1 =
-                  ap (λ b. cond b (Some e.1) (lookup (is_at (item_order x)) es)) (sym (items_tied x e.0) ∙ items_equiv.symm x e.0 ∙ is) in
+              ap (λ b. cond b (Some e.1) (lookup (is_at (item_order x)) es)) (sym (items_tied x e.0) ∙ items_equiv.symm x e.0 ∙ is) in
               let others : AllByRecursion (λ y. same_item y x ≡ false) (keys_of es) =
-                  all_weaker (λ y. item_order e.0 y ≡ Less) (λ y. same_item y x ≡ false)
-                  (λ y l. items_equiv.symm y x ∙ sym (items_equiv.congr e.0 x y is) ∙ other_item e.0 y l) (keys_of es) parts.0 in
+              all_weaker (λ y. item_order e.0 y ≡ Less) (λ y. same_item y x ≡ false)
+              (λ y l. items_equiv.symm y x ∙ sym (items_equiv.congr e.0 x y is) ∙ other_item e.0 y l) (keys_of es) parts.0 in
               at ((change_to rows e).removed ++ (change_to rows e).added) refl is alike (nothing_found x es others)
               ∙ sym (ap (λ o. list_or o (stored_on x rows)) hit)
           | inr is ↦
               let miss : lookup (is_at (item_order x)) (e ∷ es) ≡ lookup (is_at (item_order x)) es =
-                  ap (λ b. cond b (Some e.1) (lookup (is_at (item_order x)) es)) (sym (items_tied x e.0) ∙ items_equiv.symm x e.0 ∙ is) in
+              ap (λ b. cond b (Some e.1) (lookup (is_at (item_order x)) es)) (sym (items_tied x e.0) ∙ items_equiv.symm x e.0 ∙ is) in
               past ((change_to rows e).removed ++ (change_to rows e).added) is
               ∙ rest ∙ sym (ap (λ o. list_or o (stored_on x rows)) miss)
         ]
@@ -225,3 +228,58 @@ module _ (rows : List Attachment) where
           exact y hit =
               let is : y.1 ≡ stored_on y.0 after = ap (λ o. list_or o (stored_on y.0 rows)) (sym hit) ∙ applied y.0 in
               (ap (difference (stored_on y.0 rows)) is, ap (λ l. difference l (stored_on y.0 rows)) is)
+
+-- one entry more
+module _ (rows : List Attachment) (item : Item) (list removed added : List Stored) (made : List ItemChange)
+    (gone : removed ≡ difference (stored_on item rows) list) (come : added ≡ difference list (stored_on item rows)) where
+  with_it : (r : List ItemChange) → ((c : ItemChange) → kept_change c (removed ++ added) ≡ r)
+      → changes_to rows ((item, list) ∷ []) ≡ r
+  with_it r is =
+      append-nil (kept_change (change_to rows (item, list)) ((change_to rows (item, list)).removed ++ (change_to rows (item, list)).added))
+      ∙ (λ i. kept_change (change_to rows (item, list)) (sym gone i ++ sym come i)) ∙ is (change_to rows (item, list))
+
+  pub none_added : ((c : ItemChange) → kept_change c (removed ++ added) ≡ []) → made ≡ made ++ changes_to rows ((item, list) ∷ [])
+  none_added is = sym (ap (λ l. made ++ l) (with_it [] is) ∙ append-nil made)
+
+  pub one_added : ((c : ItemChange) → kept_change c (removed ++ added) ≡ c ∷ [])
+      → made ++ record { item = item; removed = removed; added = added } ∷ [] ≡ made ++ changes_to rows ((item, list) ∷ [])
+  one_added is =
+      (λ i. made ++ record { item = item; removed = gone i; added = come i } ∷ [])
+      ∙ ap (λ l. made ++ l) (sym (
+      append-nil (kept_change (change_to rows (item, list)) ((change_to rows (item, list)).removed ++ (change_to rows (item, list)).added))
+      ∙ (λ i. kept_change (change_to rows (item, list)) (sym gone i ++ sym come i)) ∙ is (change_to rows (item, list))
+      ))
+
+pub entries_next : (rows : List Attachment) (made : List ItemChange) (e : Entry) (es : List Entry)
+    → (made ++ changes_to rows (e ∷ [])) ++ changes_to rows es ≡ made ++ changes_to rows (e ∷ es)
+entries_next rows made e es =
+    let kept = kept_change (change_to rows e) ((change_to rows e).removed ++ (change_to rows e).added) in
+    ap (λ l. (made ++ l) ++ changes_to rows es) (append-nil kept) ∙ append_assoc made kept (changes_to rows es)
+
+pub filled_first : (c : ItemChange) (xs ys : List Stored) → (length xs == 0) ≡ false → kept_change c (xs ++ ys) ≡ c ∷ []
+filled_first c [] ys e = let q : true ≡ false = e in cc
+filled_first c (x ∷ xs) ys e = refl
+
+not_none : (x : Stored) (xs : List Stored) → (length (x ∷ xs) == 0) ≡ true → ⊥
+not_none x xs e = let q = is_number (length (x ∷ xs)) 0 e in omega (arith, q)
+
+pub filled_second : (c : ItemChange) (xs ys : List Stored) → (length xs == 0) ≡ true → (length ys == 0) ≡ false
+    → kept_change c (xs ++ ys) ≡ c ∷ []
+filled_second c [] [] e f = let q : true ≡ false = f in cc
+filled_second c [] (y ∷ ys) e f = refl
+filled_second c (x ∷ xs) ys e f = absurd (not_none x xs e)
+
+pub filled_not : (c : ItemChange) (xs ys : List Stored) → (length xs == 0) ≡ true → (length ys == 0) ≡ true
+    → kept_change c (xs ++ ys) ≡ []
+filled_not c [] [] e f = refl
+filled_not c [] (y ∷ ys) e f = absurd (not_none y ys f)
+filled_not c (x ∷ xs) ys e f = absurd (not_none x xs e)
+
+-- what holds where a test is turned round
+pub on_true_not : (r : Bool) (P : Type 0) → (r ≡ false → P) → OnTrue (not r) P
+on_true_not true P f = tt
+on_true_not false P f = f refl
+
+pub on_false_not : (r : Bool) (P : Type 0) → (r ≡ true → P) → OnFalse (not r) P
+on_false_not true P f = f refl
+on_false_not false P f = tt

@@ -1,5 +1,5 @@
 -- Lists by item, as one operation after another is applied.
-use Rattle.std.proofs.Common.{◌≡◌, ◌∙◌, refl, sym, ap, subst, ℕ, ◌+◌, ◌<◌, Bool, true, false, cond, List, [], ◌∷◌, ◌++◌, Option, Some, None, take, length, get_or, inl, inr}
+use Rattle.std.proofs.Common.{◌≡◌, ◌∙◌, refl, sym, ap, subst, ℕ, ◌+◌, ◌<◌, Bool, true, false, cond, List, [], ◌∷◌, ◌++◌, Option, Some, None, Result, Ok, Err, IfOk, take, length, get_or, inl, inr}
 use Rattle.std.proofs.lemmas.Bool.{cases_Bool}
 use Rattle.std.proofs.lemmas.List.{take_more}
 use Rattle.std.proofs.lemmas.Option.{same_Some, none-some}
@@ -14,6 +14,8 @@ use Rattle.ifmap_ident.specs.Items.{IsCanonItem, item_order, same_item}
 use Rattle.ifmap_meta.specs.declared.stored.Stored.{Stored}
 use Rattle.ifmap_plans.specs.laws.KeyLaws.{items_equiv, items_tied, items_total}
 use Rattle.ifmap_requests.specs.declared.publishing.PublishOp.{PublishOp}
+use Rattle.ifmap_requests.specs.declared.publishing.PublishOp.TheVariants.{Update, Notify, Delete}
+use Rattle.ifmap_requests.specs.Fit.{IsFitOp}
 use Rattle.ifmap_view.specs.declared.attachments.Attachment.{Attachment}
 use Rattle.ifmap_view.specs.Rows.{stored_on}
 use Rattle.ifmap_publish.specs.Apply.{Authorship, apply, apply_op}
@@ -62,7 +64,7 @@ module _ (item x : Item) (same : same_item item x ≡ true) where
   pub stored_alike : (rows : List Attachment) → stored_on x rows ≡ stored_on item rows
   stored_alike [] = refl
   stored_alike (r ∷ rows) =
-      let told : same_item r.item x ≡ same_item r.item item = sym (told_as item r.item x (sym (items_equiv.symm item x) ∙ same)) in
+      let told : same_item r.item x ≡ same_item r.item item = told_as item r.item x (sym (items_equiv.symm item x) ∙ same) in
       elim (cases_Bool (same_item r.item item)) [
         | inl is ↦ rw (told, is) (ap (λ l. r.stored ∷ l) (stored_alike rows))
         | inr is ↦ rw (told, is) (stored_alike rows)
@@ -82,8 +84,8 @@ module _ (rows : List Attachment) (by : Authorship) (op : PublishOp) (es : List 
       → working rows new x ≡ apply_op_on x by op (working rows (λ q. lookup (is_at (item_order q)) es) x)
   op_applied x =
       let hit : new x ≡ cond (same_item (item_of op) x) (Some after) (mid x) =
-          put x ∙ ap (λ k. cond (is_eq (item_order k x)) (Some after) (mid x)) is_key
-          ∙ ap (λ b. cond b (Some after) (mid x)) (sym (items_tied (item_of op) x)) in
+      put x ∙ ap (λ k. cond (is_eq (item_order k x)) (Some after) (mid x)) is_key
+      ∙ ap (λ b. cond b (Some after) (mid x)) (sym (items_tied (item_of op) x)) in
       elim (cases_Bool (same_item (item_of op) x)) [
         | inl is ↦
             ap (λ o. list_or o (stored_on x rows)) (hit ∙ ap (λ b. cond b (Some after) (mid x)) is)
@@ -109,7 +111,7 @@ pub one_more : (rows : List Attachment) (by : Authorship) (ops : List PublishOp)
     → (x : Item) → new x ≡ stored_on x (apply rows by (take (i + 1) ops))
 one_more rows by ops i op low at old new so now x =
     let more : take (i + 1) ops ≡ take i ops ++ op ∷ [] =
-        take_more ops i op low ∙ ap (λ (y : PublishOp). take i ops ++ y ∷ []) (sym at) in
+    take_more ops i op low ∙ ap (λ (y : PublishOp). take i ops ++ y ∷ []) (sym at) in
     now x ∙ ap (apply_op_on x by op) (so x) ∙ sym (op_told x (apply rows by (take i ops)) by op)
     ∙ ap (stored_on x) (sym (ap (apply rows by) more ∙ apply_push rows by (take i ops) op))
 
@@ -119,3 +121,21 @@ unchanged by op x list stays = elim (cases_Bool (same_item (item_of op) x)) [
   | inl is ↦ rw is (sym (stays list))
   | inr is ↦ rw is refl
 ]
+
+-- before the first operation
+pub nothing_made : (rows : List Attachment) (by : Authorship) (ops : List PublishOp) (es : List Entry) → es ≡ []
+    → record {
+      sound : AreSound es;
+      applied : (x : Item) → working rows (λ q. lookup (is_at (item_order q)) es) x ≡ stored_on x (apply rows by (take 0 ops));
+    }
+nothing_made rows by ops [] is = record { sound = tt; applied = λ x. refl }
+nothing_made rows by ops (e ∷ es) is = cc
+
+pub fit_item : (op : PublishOp) → IsFitOp op → IsCanonItem (item_of op)
+fit_item (Update item elements forever) f = f.0
+fit_item (Notify item elements) f = f.0
+fit_item (Delete item f) fit = fit
+
+pub ok_weaker : {X E : Type 0} (r : Result X E) (P Q : X → Type 0) → ((x : X) → P x → Q x) → IfOk r P → IfOk r Q
+ok_weaker (Ok x) P Q f h = f x h
+ok_weaker (Err e) P Q f h = tt

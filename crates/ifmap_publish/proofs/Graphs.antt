@@ -130,8 +130,10 @@ module _ (x : Item) where
   unfolding IsStrictlySortedBy
   rising_on [] up = tt
   rising_on (r ∷ rows) up = elim (cases_Bool (same_item r.item x)) [
-    | inl is ↦ rw is (all_of (λ s. stored_order r.stored s ≡ Less) (λ s. attachment_order r s ≡ Less) (λ s j e. ordered r s is j e) rows up.0,
-        rising_on rows up.1)
+    | inl is ↦ rw is (
+      all_of (λ s. stored_order r.stored s ≡ Less) (λ s. attachment_order r s ≡ Less) (λ s j e. ordered r s is j e) rows up.0,
+      rising_on rows up.1,
+    )
     | inr is ↦ rw is (rising_on rows up.1)
   ]
 
@@ -139,8 +141,10 @@ module _ (x : Item) where
   unfolding IsDistinct
   keys_on [] d = tt
   keys_on (r ∷ rows) d = elim (cases_Bool (same_item r.item x)) [
-    | inl is ↦ rw is (all_of (λ s. same_key r.stored s ≡ false) (λ s. of_one_key r s ≡ false) (λ s j e. keyed r s is j e) rows d.0,
-        keys_on rows d.1)
+    | inl is ↦ rw is (
+      all_of (λ s. same_key r.stored s ≡ false) (λ s. of_one_key r s ≡ false) (λ s j e. keyed r s is j e) rows d.0,
+      keys_on rows d.1,
+    )
     | inr is ↦ rw is (keys_on rows d.1)
   ]
 

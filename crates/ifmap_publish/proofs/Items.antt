@@ -100,11 +100,11 @@ module _ (x : Item) where
   attach_here rows a is =
       let others = filter (λ b. not (of_one_key a b)) rows in
       let kept : stored_on x others ≡ filter (λ t. not (same_key a.stored t)) (stored_on x rows) =
-          on_filter (λ b. not (of_one_key a b)) (λ t. not (same_key a.stored t))
-          (λ r t. ap (λ b. not (b && same_key a.stored r.stored)) (told_as x a.item r.item t ∙ is)) rows in
+      on_filter (λ b. not (of_one_key a b)) (λ t. not (same_key a.stored t))
+      (λ r t. ap (λ b. not (b && same_key a.stored r.stored)) (told_as x a.item r.item t ∙ is)) rows in
       let order : (r : Attachment) → here r ≡ true → attachment_order r a ≡ stored_order r.stored a.stored =
-          λ r t. ap (λ o. ordering_then o (stored_order r.stored a.stored))
-          (ordered_as x a.item r.item t ∙ tied x a.item (items_equiv.symm x a.item ∙ is)) in
+      λ r t. ap (λ o. ordering_then o (stored_order r.stored a.stored))
+      (ordered_as x a.item r.item t ∙ tied x a.item (items_equiv.symm x a.item ∙ is)) in
       on_between a is (filter (λ r. is_lt (attachment_order r a)) others) (filter (λ r. is_gt (attachment_order r a)) others)
       ∙ ap (λ l. l ++ a.stored ∷ stored_on x (filter (λ r. is_gt (attachment_order r a)) others))
       (on_filter (λ r. is_lt (attachment_order r a)) (λ s. is_lt (stored_order s a.stored)) (λ r t. ap is_lt (order r t)) others)
@@ -117,8 +117,8 @@ module _ (x : Item) where
   attach_there rows a is =
       let others = filter (λ b. not (of_one_key a b)) rows in
       let kept : stored_on x others ≡ stored_on x rows =
-          on_filter (λ b. not (of_one_key a b)) (λ t. true)
-          (λ r t. ap (λ b. not (b && same_key a.stored r.stored)) (told_as x a.item r.item t ∙ is)) rows ∙ all_pass (stored_on x rows) in
+      on_filter (λ b. not (of_one_key a b)) (λ t. true)
+      (λ r t. ap (λ b. not (b && same_key a.stored r.stored)) (told_as x a.item r.item t ∙ is)) rows ∙ all_pass (stored_on x rows) in
       off_between a is (filter (λ r. is_lt (attachment_order r a)) others) (filter (λ r. is_gt (attachment_order r a)) others)
       ∙ by (item_order x a.item) refl others
       ∙ kept

@@ -22,7 +22,7 @@ use Rattle.ifmap_view.specs.Attachments.{stored_bytes, stored_order}
 differ_by : (a b : Stored) (o : Ordering) → stored_order a b ≡ o → is_eq o ≡ false → same_stored a b ≡ false
 differ_by a b o e d =
     let bytes : bytes_eq (stored_bytes a) (stored_bytes b) ≡ false =
-        sym (is_eq-slice_cmp (stored_bytes a) (stored_bytes b)) ∙ ap is_eq e ∙ d in
+    sym (is_eq-slice_cmp (stored_bytes a) (stored_bytes b)) ∙ ap is_eq e ∙ d in
     rw bytes refl
 
 pub less_differs : (a b : Stored) → stored_order a b ≡ Less → same_stored a b ≡ false

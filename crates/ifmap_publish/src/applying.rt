@@ -110,7 +110,8 @@ fn attach(list: &mut Vec<Row>, row: Row) -> Result<(), NoMemory>
     ensures sound { OnOk result (IsSound list.new.items) }
 {
     drop_key(list, &row);
-    put_row(list, row)
+    put_row(list, row)?;
+    Ok(())
 }
 
 // Takes out the row with the key of this one.
@@ -119,9 +120,10 @@ fn drop_key(list: &mut Vec<Row>, row: &Row)
     requires sound { IsSound list.old.items }
     ensures { list.new.items ≡ filter (λ t. not (same_key row.now t)) list.old.items }
 {
-    if let Some(place) = place_of_key(list, row) {
-        list.remove(place);
-    }
+    let Some(place) = place_of_key(list, row) else {
+        return;
+    };
+    list.remove(place);
 }
 
 // Where the row with the key of this one stands.
@@ -129,21 +131,32 @@ fn place_of_key(list: &[Row], row: &Row) -> Option<usize>
     requires whole { IsWhole row.now }
     requires sound { IsSound list.now }
     ensures { MatchOption result
-        (list.now ≡ filter (λ t. not (same_key row.now t)) list.now)
+        (filter (λ t. not (same_key row.now t)) list.now ≡ list.now)
         (λ i. (i < length list.now)
         × (remove list.now i ≡ filter (λ t. not (same_key row.now t)) list.now)) }
 {
     for i in 0..list.len() {
-        if row.stored().same_key(list[i].stored()) {
+        if has_key_of(row, &list[i]) {
             return Some(i);
         }
     }
     None
 }
 
+// Whether both have one key: most are told apart by a word.
+fn has_key_of(one: &Row, other: &Row) -> bool
+    requires one { IsWhole one.now }
+    requires other { IsWhole other.now }
+    ensures { result ≡ same_key one.now other.now }
+{
+    one.stored().same_key(other.stored())
+}
+
 // Takes out what meets the filter.
 fn delete(list: &mut Vec<Row>, filter: &Option<Filter>)
-    ensures { list.new.items ≡ delete_on list.old.items filter.now }
+    requires { IsSound list.old.items }
+    ensures list { list.new.items ≡ delete_on list.old.items filter.now }
+    ensures sound { IsSound list.new.items }
 {
     list.retain(|row| !meets_optional(filter, row.stored().element.element()));
 }

@@ -10,7 +10,7 @@ ghost use Rattle.ifmap_plans.specs.Lists.{difference, same_life, same_stored};
 ghost use Rattle.ifmap_view.specs.Attachments.{stored_bytes, stored_order};
 
 use ifmap_meta::{Life, Stored};
-use ifmap_plans::row_order;
+use ifmap_plans::{bytes_of, row_order};
 use ifmap_view::Row;
 use std::alloc::{AllocError as NoMemory, Global};
 use std::cmp::Ordering;
@@ -54,7 +54,7 @@ fn after_below<'a>(rows: &'a [Row], row: &Row) -> Option<&'a [Row]>
     ensures { MatchOption result
         (AllByRecursion (λ s. is_lt (stored_order s row.now) ≡ false) rows.now)
         (λ after. (first : Stored) × (rows.now ≡ first ∷ after.now)
-            × (stored_order first row.now ≡ Less)) }
+        × (stored_order first row.now ≡ Less)) }
 {
     let (first, after) = rows.split_first()?;
     match row_order(first, row) {
@@ -64,7 +64,7 @@ fn after_below<'a>(rows: &'a [Row], row: &Row) -> Option<&'a [Row]>
 }
 
 // Whether the first of them is this one, with its publisher and lifetime.
-#[tactic(auto, using(crate::proofs::Passing::first_tells, crate::proofs::Passing::none_first))]
+#[tactic(auto, using(crate::proofs::Passing::none_first))]
 fn begins_with(rows: &[Row], row: &Row) -> bool
     requires rising { IsStrictlySortedBy stored_order rows.now }
     requires from { AllByRecursion (λ s. is_lt (stored_order s row.now) ≡ false) rows.now }
@@ -85,11 +85,10 @@ fn same_stored(one: &Row, other: &Row) -> bool
         && same_life(one.stored().life, other.stored().life)
 }
 
-#[tactic(auto, unfolding(ifmap_view::specs::Attachments::stored_bytes))]
 fn same_bytes(one: &Row, other: &Row) -> bool
     ensures { result ≡ bytes_eq (stored_bytes one.now) (stored_bytes other.now) }
 {
-    one.stored().element.bytes() == other.stored().element.bytes()
+    bytes_of(one) == bytes_of(other)
 }
 
 fn same_publisher(one: &Stored, other: &Stored) -> bool

@@ -20,14 +20,30 @@ pub(crate) fn notes_of(
 {
     let mut notes = Vec::new(alloc);
     for op in ops {
-        if let PublishOp::Notify { item, elements } = op {
-            add_notes(alloc, author, item, &elements.0, &mut notes)?;
-        }
+        add_notes_of(alloc, author, op, &mut notes)?;
     }
     Ok(notes)
 }
 
-// Appends the elements of one operation.
+// Appends what one operation notifies.
+fn add_notes_of(
+    alloc: Global,
+    author: &Author,
+    op: &PublishOp,
+    notes: &mut Vec<Note>,
+) -> Result<(), NoMemory>
+    ensures { OnOk result (notes.new.items ≡ notes.old.items ++ notes_of_op author.now op.now) }
+{
+    match op {
+        PublishOp::Notify { item, elements } => {
+            add_notes(alloc, author, item, &elements.0, notes)
+        }
+        PublishOp::Update { .. } => Ok(()),
+        PublishOp::Delete { .. } => Ok(()),
+    }
+}
+
+// Appends elements on one item.
 fn add_notes(
     alloc: Global,
     author: &Author,

@@ -1,12 +1,17 @@
 //! What a publish changes.
 ghost use Rattle.std.specs.Prelude.{◌≡◌, [], ◌∷◌, ◌++◌, IfOk, OnOk};
+ghost use Rattle.std.specs.Bool.{OnFalse, OnTrue};
 ghost use Rattle.std.specs.List.{AllByRecursion};
+ghost use Rattle.std.specs.List.Sorted.{IsStrictlySortedBy};
+ghost use Rattle.std.specs.Map.{keys_of};
+ghost use Rattle.ifmap_ident.specs.Items.{item_order};
+ghost use Rattle.ifmap_plans.specs.declared.plans.ItemChange.{ItemChange};
 ghost use Rattle.ifmap_plans.specs.Plans.{AreExact, AreWhole, Fits, IsAfter, IsChange};
 ghost use Rattle.ifmap_requests.specs.Fit.{IsFitOp};
 ghost use Rattle.ifmap_view.specs.Attachments.{IsGraph};
 ghost use Rattle.ifmap_publish.specs.Apply.{apply};
 ghost use Rattle.ifmap_publish.specs.Notes.{notes_of};
-ghost use Rattle.ifmap_publish.specs.Working.{AreSound, IsSound, changes_to};
+ghost use Rattle.ifmap_publish.specs.Working.{AreSound, IsSound, IsSoundEntry, changes_to, kept_change};
 
 use crate::authors::Author;
 use crate::differences::difference;
@@ -57,17 +62,33 @@ fn changes_to<V: View>(
 ) -> Result<Vec<ItemChange>, NoMemory>
     requires graph { IsGraph (V.rows view.now) }
     requires sound { AreSound lists.entries }
-    ensures { IfOk result (λ changes.
+    ensures changes { IfOk result (λ changes.
         changes.items ≡ changes_to (V.rows view.now) lists.entries) }
+    ensures ordered { IsStrictlySortedBy item_order (keys_of lists.entries) }
 {
-    let mut changes = Vec::new(alloc);
-    for (item, list) in lists {
-        add_change(alloc, view, item, &list.0, &mut changes)?;
+    let mut changes = Vec::with_capacity(alloc, lists.len())?;
+    for entry in lists {
+        add_entry(alloc, view, entry, &mut changes)?;
     }
     Ok(changes)
 }
 
 // Appends the change of an item, where something goes or comes.
+fn add_entry<V: View>(
+    alloc: Global,
+    view: &V,
+    entry: (Item, Many<Row>),
+    changes: &mut Vec<ItemChange>,
+) -> Result<(), NoMemory>
+    requires graph { IsGraph (V.rows view.now) }
+    requires sound { IsSoundEntry entry }
+    ensures { OnOk result (changes.new.items
+        ≡ changes.old.items ++ changes_to (V.rows view.now) (entry ∷ [])) }
+{
+    let (item, list) = entry;
+    add_change(alloc, view, item, &list.0, changes)
+}
+
 fn add_change<V: View>(
     alloc: Global,
     view: &V,
@@ -83,7 +104,7 @@ fn add_change<V: View>(
     let stored = view.stored_at(&item);
     let removed = difference(alloc, stored, list)?;
     let added = difference(alloc, list, stored)?;
-    if removed.is_empty() && added.is_empty() {
+    if !moves_something(&removed, &added) {
         return Ok(());
     }
     changes.push(ItemChange {
@@ -92,4 +113,17 @@ fn add_change<V: View>(
         added: Many(added),
     })?;
     Ok(())
+}
+
+// Whether something goes or comes.
+fn moves_something(removed: &[Row], added: &[Row]) -> bool
+    ensures yes { OnTrue result ((c : ItemChange)
+        → kept_change c (removed.now ++ added.now) ≡ c ∷ []) }
+    ensures no { OnFalse result ((c : ItemChange)
+        → kept_change c (removed.now ++ added.now) ≡ []) }
+{
+    if removed.is_empty() {
+        return !added.is_empty();
+    }
+    true
 }
