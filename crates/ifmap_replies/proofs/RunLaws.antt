@@ -1,13 +1,14 @@
 -- Runs from the front: the entry in front with those that go on with its run, and the runs of the rest.
-use Rattle.std.proofs.Common.{◌≡◌, ◌∙◌, ℕ, ◌+◌, ◌<◌, ◌≤◌, suc, Bool, true, false, List, [], ◌∷◌, ◌++◌, map, length, get_or, take, drop, refl, ap, sym, arith}
+use Rattle.std.proofs.Common.{◌≡◌, ◌∙◌, ℕ, ◌+◌, ◌-◌, ◌<◌, ◌≤◌, suc, Bool, true, false, List, [], ◌∷◌, ◌++◌, map, length, get_or, take, drop, refl, ap, sym, arith, append_assoc}
 use Rattle.std.specs.Prelude.{if◌then◌else◌}
-use Rattle.std.proofs.lemmas.List.{drop_all, drop_more}
+use Rattle.std.proofs.lemmas.List.{drop_all, drop_more, length-drop, take_all}
 use Rattle.ifmap_elem.specs.declared.elements.Child.{Child}
 use Rattle.ifmap_elem.specs.declared.elements.Child as the
 use Rattle.ifmap_elem.specs.declared.elements.Element.{Element}
 use Rattle.ifmap_ident.specs.Items.{same_item}
 use Rattle.ifmap_search.specs.declared.results.Entry.{Entry}
 use Rattle.ifmap_replies.specs.declared.runs.Run.{Run}
+use Rattle.ifmap_replies.specs.Results.{as_children, entry_children, run_element}
 use Rattle.ifmap_replies.specs.Runs.{before, elements_of, run_length, run_on, runs_of}
 
 -- ---- how long a run is
@@ -53,3 +54,24 @@ front_is first (entry ∷ entries) =
     ap (before first) all
     ∙ joined first entry entries (front_run entry entries n) (runs_of (drop n entries)) n (same_item first.item entry.item) refl refl
     refl all
+
+-- ---- one run more
+
+-- what follows an index, cut at the end
+tail_whole : {X : Type 0} (xs : List X) (index : ℕ) → take (length xs - index) (drop index xs) ≡ drop index xs
+tail_whole xs index =
+    let e = length-drop index xs in
+    take_all (length xs - index) (drop index xs) (omega (arith, e))
+
+pub one_run : (all made more : List Child) (rest others : List Entry) (first : Entry) (run : Element) (n : ℕ) → rest ≡ first ∷ others
+    → n ≡ run_length first others → run ≡ run_element (run_on first.item (first.element ∷ elements_of (take n others)))
+    → more ≡ made ++ the.Element run ∷ [] → made ++ entry_children rest ≡ all
+    → more ++ entry_children (take (length others - n) (drop n others)) ≡ all
+one_run all made more rest others first run n r long is pushed before =
+    let left = tail_whole others n in
+    let front : runs_of rest ≡ front_run first others n ∷ runs_of (drop n others) =
+    ap runs_of r ∙ front_is first others ∙ (λ i. front_run first others (sym long i) ∷ runs_of (drop (sym long i) others)) in
+    let split : entry_children rest ≡ the.Element run ∷ entry_children (drop n others) =
+    ap (λ runs. as_children (map run_element runs)) front ∙ (λ i. the.Element (sym is i) ∷ entry_children (drop n others)) in
+    (λ i. pushed i ++ entry_children (left i)) ∙ append_assoc made (the.Element run ∷ []) (entry_children (drop n others))
+    ∙ ap (λ cs. made ++ cs) (sym split) ∙ before

@@ -4,7 +4,7 @@ ghost use Rattle.ifmap_elem.specs.declared.elements.Child.{out-Child};
 ghost use Rattle.ifmap_forms.specs.Answers.{IsChecked, IsCheckedAs};
 ghost use Rattle.ifmap_forms.specs.Items.{before_list, identifiers_check, list_at, list_check};
 ghost use Rattle.ifmap_forms.specs.Tables.{form_check, parts_in};
-ghost use Rattle.ifmap_replies.specs.ResultForms.{element_check, entries_check, no_scopes, run_check, run_form, run_from, run_made, run_parts};
+ghost use Rattle.ifmap_replies.specs.ResultForms.{element_check, entries_check, no_scopes, or_none, run_check, run_form, run_from, run_made, run_parts};
 ghost use Rattle.ifmap_replies.specs.Runs.{entries_of, run_entries};
 
 use crate::arranging::arrange;
@@ -118,8 +118,17 @@ fn run_from(
         return Err(FormError::Named(Code::Failure));
     };
     let item = SharedItem::new(alloc, item)?;
-    let elements = list.unwrap_or(Many(Vec::new(alloc)));
+    let elements = or_none(alloc, list);
     Ok(Run { item, elements })
+}
+
+fn or_none(alloc: Global, list: Option<Many<SharedElement>>) -> Many<SharedElement>
+    ensures { result ≡ or_none list }
+{
+    match list {
+        Some(elements) => elements,
+        None => Many(Vec::new(alloc)),
+    }
 }
 
 // The elements of the list at that index, if there is one.
