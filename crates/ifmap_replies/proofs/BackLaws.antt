@@ -56,7 +56,8 @@ use Rattle.ifmap_replies.specs.declared.runs.Run.{Run}
 use Rattle.ifmap_replies.specs.Fields.{code_of, read_code, read_word}
 use Rattle.ifmap_replies.specs.Fit.{AreFitEntries, IsFitEntry, IsFitPollItem, IsFitReply, IsWord}
 use Rattle.ifmap_replies.specs.Means.{IsReplyOf}
-use Rattle.ifmap_replies.specs.ResultForms.{element_check, entries_check, entries_local, error_form, error_made, found_form as form_of_found, found_made, is_text, members_check, new_session_form, new_session_made, no_scopes, note_check, only_check, or_none, plain_check, plain_form, plain_made, poll_check, polled_form, polled_made, response_check, response_form, response_made, result_check, result_local, run_check, run_form, run_from, run_made, run_parts, told_error_form, told_error_made, told_form, told_made}
+use Rattle.ifmap_replies.specs.ResultForms as forms
+use Rattle.ifmap_replies.specs.ResultForms.{element_check, entries_check, entries_local, error_form, error_made, found_made, is_text, members_check, new_session_form, new_session_made, no_scopes, note_check, only_check, or_none, plain_check, plain_form, plain_made, poll_check, polled_form, polled_made, response_check, response_form, response_made, result_check, result_local, run_check, run_form, run_from, run_made, run_parts, told_error_form, told_error_made, told_form, told_made}
 use Rattle.ifmap_replies.specs.Results.{around, as_children, entry_children, error_element, in_envelope, new_session_element, poll_element, reply_element, response_name, result_element, run_element, text_children, told_element}
 use Rattle.ifmap_replies.specs.Runs.{before, entries_of, entry_on, run_entries, run_on, runs_of}
 use Rattle.ifmap_replies.proofs.GoodLaws.{element_part, parts_are}
@@ -109,7 +110,8 @@ numeral_is_digits = numeral_by_digits (λ n ds. AreDigits ds) (λ n few. (refl, 
 numeral_is_number : (n : ℕ) → is_number (numeral n) ≡ true
 numeral_is_number n =
     let is = numeral_is_digits n in
-    and_from (not (bytes_eq (numeral n) [])) (list_all is_ascii_digit (numeral n)) (ap not is.0) (all_tested is_ascii_digit (numeral n) is.1)
+    and_from (not (bytes_eq (numeral n) [])) (list_all is_ascii_digit (numeral n)) (ap not is.0)
+    (all_tested is_ascii_digit (numeral n) is.1)
 
 number_back : (n : ℕ) → number_of (numeral n) ≡ Some n
 number_back n =
@@ -243,147 +245,160 @@ envelope_back response = record {
 
 module _ (again : (i : Identifier) → IsIdentifier i → IsCanon (identifier_element i) i)
     (apart : (one other : Identifier) → IsIdentifier one → IsIdentifier other → identifier_bytes one ≡ identifier_bytes other → one ≡ other)
-    where
-  identifiers_back : (item : Item) → IsCanonItem item
-      → identifiers_check 2 [] (map element_part (map identifier_element (identifiers_of item))) (Ok (identifiers_of item))
-  identifiers_back (One a) f = (a, again a f.identifiers.0, ([], refl, refl))
-  identifiers_back (Pair a b) f =
-      let may : may_follow 2 (a ∷ []) b ≡ true = ap (λ (t : Bool). not (t || false)) (differ_back a b f.ordered) in
-      let others : Check (List Identifier) =
-      check_then (identifiers_check 2 (a ∷ (b ∷ [])) []) (λ more. pass (b ∷ more)) in
-      (a, again a f.identifiers.0, (b ∷ [],
-      (b, again b f.identifiers.1.0, found_after others (may_follow 2 (a ∷ []) b) Failure (Ok (b ∷ [])) may ([], refl, refl)), refl))
+  where
+    identifiers_back : (item : Item) → IsCanonItem item
+        → identifiers_check 2 [] (map element_part (map identifier_element (identifiers_of item))) (Ok (identifiers_of item))
+    identifiers_back (One a) f = (a, again a f.identifiers.0, ([], refl, refl))
+    identifiers_back (Pair a b) f =
+        let may : may_follow 2 (a ∷ []) b ≡ true = ap (λ (t : Bool). not (t || false)) (differ_back a b f.ordered) in
+        let others : Check (List Identifier) =
+        check_then (identifiers_check 2 (a ∷ (b ∷ [])) []) (λ more. pass (b ∷ more)) in (
+          a,
+          again a f.identifiers.0,
+          (
+            b ∷ [],
+            (b, again b f.identifiers.1.0, found_after others (may_follow 2 (a ∷ []) b) Failure (Ok (b ∷ [])) may ([], refl, refl)),
+            refl,
+          ),
+        )
 
-  item_back : (item : Item) → IsCanonItem item → item_of (identifiers_of item) ≡ Some item
-  item_back (One a) f = refl
-  item_back (Pair a b) f = ap (λ (o : Ordering). ordered_pair o a b) f.ordered
+    item_back : (item : Item) → IsCanonItem item → item_of (identifiers_of item) ≡ Some item
+    item_back (One a) f = refl
+    item_back (Pair a b) f = ap (λ (o : Ordering). ordered_pair o a b) f.ordered
 
-  same_back : (a b : Identifier) → IsIdentifier a → IsIdentifier b → same_identifier a b ≡ true → a ≡ b
-  same_back a b f g same = apart a b f g (eq_tells (identifier_bytes a) (identifier_bytes b) same)
+    same_back : (a b : Identifier) → IsIdentifier a → IsIdentifier b → same_identifier a b ≡ true → a ≡ b
+    same_back a b f g same = apart a b f g (eq_tells (identifier_bytes a) (identifier_bytes b) same)
 
-  -- items that are the same are one
-  items_back : (x y : Item) → IsCanonItem x → IsCanonItem y → same_item x y ≡ true → x ≡ y
-  items_back (One a) (One c) f g same =
-      let parts = and_parts (same_identifier a c) true same in
-      ap (λ (i : Identifier). One i) (same_back a c f.identifiers.0 g.identifiers.0 parts.0)
-  items_back (One a) (Pair c d) f g same = absurd (no_pair (same_identifier a c) same)
-    where
-      no_pair : (t : Bool) → (t && false) ≡ true → ⊥
-      no_pair true h = cc
-      no_pair false h = cc
-  items_back (Pair a b) (One c) f g same = absurd (no_pair (same_identifier a c) same)
-    where
-      no_pair : (t : Bool) → (t && false) ≡ true → ⊥
-      no_pair true h = cc
-      no_pair false h = cc
-  items_back (Pair a b) (Pair c d) f g same =
-      let parts = and_parts (same_identifier a c) (same_identifier b d && true) same in
-      let second = and_parts (same_identifier b d) true parts.1 in
-      let one = same_back a c f.identifiers.0 g.identifiers.0 parts.0 in
-      let other = same_back b d f.identifiers.1.0 g.identifiers.1.0 second.0 in
-      λ i. Pair (one i) (other i)
+    -- items that are the same are one
+    items_back : (x y : Item) → IsCanonItem x → IsCanonItem y → same_item x y ≡ true → x ≡ y
+    items_back (One a) (One c) f g same =
+        let parts = and_parts (same_identifier a c) true same in
+        ap (λ (i : Identifier). One i) (same_back a c f.identifiers.0 g.identifiers.0 parts.0)
+    items_back (One a) (Pair c d) f g same = absurd (no_pair (same_identifier a c) same)
+      where
+        no_pair : (t : Bool) → (t && false) ≡ true → ⊥
+        no_pair true h = cc
+        no_pair false h = cc
+    items_back (Pair a b) (One c) f g same = absurd (no_pair (same_identifier a c) same)
+      where
+        no_pair : (t : Bool) → (t && false) ≡ true → ⊥
+        no_pair true h = cc
+        no_pair false h = cc
+    items_back (Pair a b) (Pair c d) f g same =
+        let parts = and_parts (same_identifier a c) (same_identifier b d && true) same in
+        let second = and_parts (same_identifier b d) true parts.1 in
+        let one = same_back a c f.identifiers.0 g.identifiers.0 parts.0 in
+        let other = same_back b d f.identifiers.1.0 g.identifiers.1.0 second.0 in
+        λ i. Pair (one i) (other i)
 
-  -- an entry before runs is told first
-  first_back : (entry : Entry) (runs : List Run) → IsFitEntry entry → AllByRecursion IsFitRun runs
-      → entries_of (before entry runs) ≡ entry ∷ entries_of runs
-  first_back entry [] e f = refl
-  first_back entry (run ∷ runs) e f = joined (same_item entry.item run.item) refl
-    where
-      joined : (t : Bool) → same_item entry.item run.item ≡ t
-          → entries_of (if t
-          then run_on entry.item (entry.element ∷ run.elements) ∷ runs
-          else run_on entry.item (entry.element ∷ []) ∷ (run ∷ runs))
-          ≡ entry ∷ entries_of (run ∷ runs)
-      joined true same =
-          let item = items_back entry.item run.item e.item f.0.item same in
-          λ i. entry ∷ (map (entry_on (item i)) run.elements ++ entries_of runs)
-      joined false other = refl
+    -- an entry before runs is told first
+    first_back : (entry : Entry) (runs : List Run) → IsFitEntry entry → AllByRecursion IsFitRun runs
+        → entries_of (before entry runs) ≡ entry ∷ entries_of runs
+    first_back entry [] e f = refl
+    first_back entry (run ∷ runs) e f = joined (same_item entry.item run.item) refl
+      where
+        joined : (t : Bool) → same_item entry.item run.item ≡ t
+            → entries_of (if t
+            then run_on entry.item (entry.element ∷ run.elements) ∷ runs
+            else run_on entry.item (entry.element ∷ []) ∷ (run ∷ runs))
+            ≡ entry ∷ entries_of (run ∷ runs)
+        joined true same =
+            let item = items_back entry.item run.item e.item f.0.item same in
+            λ i. entry ∷ (map (entry_on (item i)) run.elements ++ entries_of runs)
+        joined false other = refl
 
-  entries_back : (entries : List Entry) → AreFitEntries entries → entries_of (runs_of entries) ≡ entries
-  entries_back [] f = refl
-  entries_back (entry ∷ entries) f =
-      first_back entry (runs_of entries) f.0 (fit_runs entries f.1) ∙ ap (λ es. entry ∷ es) (entries_back entries f.1)
+    entries_back : (entries : List Entry) → AreFitEntries entries → entries_of (runs_of entries) ≡ entries
+    entries_back [] f = refl
+    entries_back (entry ∷ entries) f =
+        first_back entry (runs_of entries) f.0 (fit_runs entries f.1) ∙ ap (λ es. entry ∷ es) (entries_back entries f.1)
 
-  run_back : (run : Run) → IsFitRun run → run_check (run_element run) (Ok run)
-  run_back run f =
-      let ids = identifiers_of run.item in
-      let list = list_element run.elements in
-      let front : identifiers_check 2 [] (before_list (parts_with list refl ids)) (Ok ids) =
-      subst (λ (ps : List Part). identifiers_check 2 [] ps (Ok ids)) (sym (before_back list refl ids)) (identifiers_back run.item f.item) in
-      let rest : list_at element_check (from_list (parts_with list refl ids)) (Ok (Some run.elements)) =
-      subst (λ (ps : List Part). list_at element_check ps (Ok (Some run.elements))) (sym (from_back list refl ids))
-      (list_back run.elements f.elements) in
-      let made : run_from ids (Some run.elements) (Ok run) =
-      subst (λ (o : Option Item). need_some Failure o (λ item. pass (run_on item (or_none (Some run.elements)))) (Ok run))
-      (sym (item_back run.item f.item)) refl in
-      let parts : run_parts (parts_of (run_element run)) (Ok run) =
-      subst (λ (ps : List Part). run_parts ps (Ok run)) (sym (parts_are (map identifier_element ids ++ list ∷ [])))
-      (ids, front, (Some run.elements, rest, made)) in
-      found_form run_form run_made no_scopes (run_element run) tt refl run refl parts
+    run_back : (run : Run) → IsFitRun run → run_check (run_element run) (Ok run)
+    run_back run f =
+        let ids = identifiers_of run.item in
+        let list = list_element run.elements in
+        let front : identifiers_check 2 [] (before_list (parts_with list refl ids)) (Ok ids) =
+        subst (λ (ps : List Part). identifiers_check 2 [] ps (Ok ids)) (sym (before_back list refl ids)) (identifiers_back run.item f.item) in
+        let rest : list_at element_check (from_list (parts_with list refl ids)) (Ok (Some run.elements)) =
+        subst (λ (ps : List Part). list_at element_check ps (Ok (Some run.elements))) (sym (from_back list refl ids))
+        (list_back run.elements f.elements) in
+        let made : run_from ids (Some run.elements) (Ok run) =
+        subst (λ (o : Option Item). need_some Failure o (λ item. pass (run_on item (or_none (Some run.elements)))) (Ok run))
+        (sym (item_back run.item f.item)) refl in
+        let parts : run_parts (parts_of (run_element run)) (Ok run) =
+        subst (λ (ps : List Part). run_parts ps (Ok run)) (sym (parts_are (map identifier_element ids ++ list ∷ [])))
+        (ids, front, (Some run.elements, rest, made)) in
+        found_form run_form run_made no_scopes (run_element run) tt refl run refl parts
 
-  entries_checked : (entries : List Entry) → AreFitEntries entries → entries_check (parts_in (entry_children entries)) (Ok entries)
-  entries_checked entries f = (
-    runs_of entries,
-    members_back IsFitRun run_check run_element run_back (runs_of entries) (fit_runs entries f),
-    ap (λ es. Ok es) (sym (entries_back entries f)),
-  )
+    entries_checked : (entries : List Entry) → AreFitEntries entries → entries_check (parts_in (entry_children entries)) (Ok entries)
+    entries_checked entries f = (
+      runs_of entries,
+      members_back IsFitRun run_check run_element run_back (runs_of entries) (fit_runs entries f),
+      ap (λ es. Ok es) (sym (entries_back entries f)),
+    )
 
-  -- ---- 4. results
+    -- ---- 4. results
 
-  told_back : (kind : EntriesKind) (name : List ℕ) (entries : List Entry) → AreFitEntries entries
-      → form_check (told_form kind) (told_made kind) no_scopes (told_element (entries_local kind) name entries)
-      (Ok (told_made kind (both name tt) entries))
-  told_back kind name entries f =
-      found_form (told_form kind) (told_made kind) no_scopes (told_element (entries_local kind) name entries) (both name tt)
-      (name, refl, (tt, refl, refl)) entries refl (entries_checked entries f)
+    told_back : (kind : EntriesKind) (name : List ℕ) (entries : List Entry) → AreFitEntries entries
+        → form_check (told_form kind) (told_made kind) no_scopes (told_element (entries_local kind) name entries)
+        (Ok (told_made kind (both name tt) entries))
+    told_back kind name entries f =
+        found_form (told_form kind) (told_made kind) no_scopes (told_element (entries_local kind) name entries) (both name tt)
+        (name, refl, (tt, refl, refl)) entries refl (entries_checked entries f)
 
-  poll_back : (item : PollItem) → IsFitPollItem item → poll_check (poll_element item) (Ok item)
-  poll_back (poll.Search name entries) f = told_back entries_kind.Search name entries f.1
-  poll_back (poll.Update name entries) f = told_back entries_kind.Update name entries f.1
-  poll_back (poll.Delete name entries) f = told_back entries_kind.Delete name entries f.1
-  poll_back (poll.Notify name entries) f = told_back entries_kind.Notify name entries f.1
-  poll_back (poll.Error None code note) f =
-      found_form told_error_form told_error_made no_scopes (error_element code None note) (both code (both None tt))
-      (code, read_code_back code, (both None tt, (None, refl, (tt, refl, refl)), refl)) note refl
-      (only_back note_check (note_element note) note (note_back note))
-  poll_back (poll.Error (Some name) code note) f =
-      found_form told_error_form told_error_made no_scopes (error_element code (Some name) note) (both code (both (Some name) tt))
-      (code, read_code_back code, (both (Some name) tt, (Some name, refl, (tt, refl, refl)), refl)) note refl
-      (only_back note_check (note_element note) note (note_back note))
+    poll_back : (item : PollItem) → IsFitPollItem item → poll_check (poll_element item) (Ok item)
+    poll_back (poll.Search name entries) f = told_back entries_kind.Search name entries f.1
+    poll_back (poll.Update name entries) f = told_back entries_kind.Update name entries f.1
+    poll_back (poll.Delete name entries) f = told_back entries_kind.Delete name entries f.1
+    poll_back (poll.Notify name entries) f = told_back entries_kind.Notify name entries f.1
+    poll_back (poll.Error None code note) f =
+        found_form told_error_form told_error_made no_scopes (error_element code None note) (both code (both None tt))
+        (code, read_code_back code, (both None tt, (None, refl, (tt, refl, refl)), refl)) note refl
+        (only_back note_check (note_element note) note (note_back note))
+    poll_back (poll.Error (Some name) code note) f =
+        found_form told_error_form told_error_made no_scopes (error_element code (Some name) note) (both code (both (Some name) tt))
+        (code, read_code_back code, (both (Some name) tt, (Some name, refl, (tt, refl, refl)), refl)) note refl
+        (only_back note_check (note_element note) note (note_back note))
 
-  result_back : (answer : Reply) → IsFitReply answer → result_check (result_element answer) (Ok answer)
-  result_back (reply.NewSession session publisher limit) f =
-      found_form new_session_form new_session_made no_scopes (new_session_element session publisher limit)
-      (both publisher (both limit (both session tt)))
-      (publisher, refl, (both limit (both session tt),
-      (limit, word_back limit f.1.1, (both session tt, (session, refl, (tt, refl, refl)), refl)), refl)) tt refl refl
-  result_back reply.Renewed f = plain_back result.Renewed reply.Renewed
-  result_back reply.Ended f = plain_back result.Ended reply.Ended
-  result_back reply.Published f = plain_back result.Published reply.Published
-  result_back reply.Subscribed f = plain_back result.Subscribed reply.Subscribed
-  result_back reply.Purged f = plain_back result.Purged reply.Purged
-  result_back (reply.Found entries) f =
-      found_form form_of_found found_made no_scopes (result_element (reply.Found entries)) tt refl entries refl (entries_checked entries f)
-  result_back (reply.Polled items) f =
-      found_form polled_form polled_made no_scopes (result_element (reply.Polled items)) tt refl items refl
-      (members_back IsFitPollItem poll_check poll_element poll_back items f)
-  result_back (reply.Error code note) f =
-      found_form error_form error_made no_scopes (error_element code None note) (both code tt)
-      (code, read_code_back code, (tt, refl, refl)) note refl (only_back note_check (note_element note) note (note_back note))
+    result_back : (answer : Reply) → IsFitReply answer → result_check (result_element answer) (Ok answer)
+    result_back (reply.NewSession session publisher limit) f =
+        found_form new_session_form new_session_made no_scopes (new_session_element session publisher limit)
+        (both publisher (both limit (both session tt))) (
+          publisher,
+          refl,
+          (
+            both limit (both session tt),
+            (limit, word_back limit f.1.1, (both session tt, (session, refl, (tt, refl, refl)), refl)),
+            refl,
+          ),
+        ) tt refl refl
+    result_back reply.Renewed f = plain_back result.Renewed reply.Renewed
+    result_back reply.Ended f = plain_back result.Ended reply.Ended
+    result_back reply.Published f = plain_back result.Published reply.Published
+    result_back reply.Subscribed f = plain_back result.Subscribed reply.Subscribed
+    result_back reply.Purged f = plain_back result.Purged reply.Purged
+    result_back (reply.Found entries) f =
+        found_form forms.found_form found_made no_scopes (result_element (reply.Found entries)) tt refl entries refl
+        (entries_checked entries f)
+    result_back (reply.Polled items) f =
+        found_form polled_form polled_made no_scopes (result_element (reply.Polled items)) tt refl items refl
+        (members_back IsFitPollItem poll_check poll_element poll_back items f)
+    result_back (reply.Error code note) f =
+        found_form error_form error_made no_scopes (error_element code None note) (both code tt)
+        (code, read_code_back code, (tt, refl, refl)) note refl (only_back note_check (note_element note) note (note_back note))
 
-  -- ---- 5. responses and envelopes
+    -- ---- 5. responses and envelopes
 
-  response_back : (answer : Reply) → IsFitReply answer → response_check (around response_name (result_element answer)) (Ok answer)
-  response_back answer f =
-      found_form response_form response_made no_scopes (around response_name (result_element answer)) tt refl answer refl
-      (only_back result_check (result_element answer) answer (result_back answer f))
+    response_back : (answer : Reply) → IsFitReply answer → response_check (around response_name (result_element answer)) (Ok answer)
+    response_back answer f =
+        found_form response_form response_made no_scopes (around response_name (result_element answer)) tt refl answer refl
+        (only_back result_check (result_element answer) answer (result_back answer f))
 
-  pub element_back : (answer : Reply) → IsFitReply answer → IsReplyOf (reply_element answer) answer
-  element_back answer f =
-      let response = around response_name (result_element answer) in
-      record {
-        path = 0 ∷ (0 ∷ []);
-        response = response;
-        envelope = envelope_back response;
-        checked = response_back answer f;
-      }
+    pub element_back : (answer : Reply) → IsFitReply answer → IsReplyOf (reply_element answer) answer
+    element_back answer f =
+        let response = around response_name (result_element answer) in
+        record {
+          path = 0 ∷ (0 ∷ []);
+          response = response;
+          envelope = envelope_back response;
+          checked = response_back answer f;
+        }

@@ -111,7 +111,11 @@ pub record IsGood (levels : ℕ) (e : Element) : Type 0 where
   pub within : nesting e ≤ levels
 
 pub good_within : (one more : ℕ) (e : Element) → one ≤ more → IsGood one e → IsGood more e
-good_within one more e le g = record { fit = g.fit; arranged = g.arranged; within = let w : nesting e ≤ one = g.within in omega (arith, w, le) }
+good_within one more e le g = record {
+  fit = g.fit;
+  arranged = g.arranged;
+  within = let w : nesting e ≤ one = g.within in omega (arith, w, le);
+}
 
 pub all_within : (one more : ℕ) (es : List Element) → one ≤ more → AllByRecursion (IsGood one) es → AllByRecursion (IsGood more) es
 all_within one more [] le f = tt
@@ -206,7 +210,7 @@ good_text name fits (b ∷ bs) h =
     }
   where
     no_element : IsTrue (list_any is_element (Child-F.Text (b ∷ bs) ∷ [])) → ⊥
-    no_element any = cc
+    no_element any = let wrong : false ≡ true = any in cc
 
     nothing_inside : (text : List ℕ) → flat_map elements_of_child (the.Text text ∷ []) ≡ []
     nothing_inside text = ap (λ (xs : List Element). xs ++ []) (elements_text text)

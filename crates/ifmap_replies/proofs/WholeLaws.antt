@@ -9,10 +9,11 @@ use Rattle.std.proofs.lemmas.Bool.Decides.{nat_tests}
 use Rattle.ifmap_lemmas.specs.Members.{all_append, all_of_test, both_all, map_of_all}
 use Rattle.ifmap_lemmas.specs.Numerals.{digit, numeral, numeral_by_digits}
 use Rattle.ifmap_elem.specs.Arranged.{arrange}
-use Rattle.ifmap_elem.specs.Building.{bare_name}
+use Rattle.ifmap_elem.specs.Building.{bare_attribute, bare_element, bare_name}
 use Rattle.ifmap_elem.specs.Chars.{AllAre, IsCharacters}
 use Rattle.ifmap_elem.specs.Fit.{IsFit, IsFitName}
 use Rattle.ifmap_elem.specs.Nesting.{nesting}
+use Rattle.ifmap_elem.specs.declared.elements.Attribute.{Attribute}
 use Rattle.ifmap_elem.specs.declared.elements.Element.{Element}
 use Rattle.ifmap_elem.specs.declared.elements.Name.{Name}
 use Rattle.ifmap_envelopes.specs.Envelopes.{envelope_name, envelope_space}
@@ -31,7 +32,7 @@ use Rattle.ifmap_replies.specs.declared.replies.Reply.{Reply}
 use Rattle.ifmap_replies.specs.declared.replies.Reply.TheVariants as reply
 use Rattle.ifmap_replies.specs.declared.runs.Run.{Run}
 use Rattle.ifmap_replies.specs.Fit.{AreFitEntries, IsFitEntry, IsFitPollItem, IsFitReply}
-use Rattle.ifmap_replies.specs.Results.{around, as_children, entry_children, error_element, ifmap_space, in_envelope, new_session_element, plain_element, poll_element, reply_element, response_name, result_element, run_element, text_children, told_element}
+use Rattle.ifmap_replies.specs.Results.{around, as_children, entry_children, error_element, ifmap_space, name_attribute, new_session_element, plain_element, poll_element, reply_element, response_name, result_element, run_element, text_children, told_element}
 use Rattle.ifmap_replies.specs.Runs.{before, run_on, runs_of}
 use Rattle.ifmap_replies.proofs.GoodLaws.{IsGood, IsPlainPart, all_within, attribute_fits, bare_fits, good_elements, good_text, good_within, is_plain, is_plain_part, plain_characters, plain_name, plain_space, three_differ, two_differ}
 
@@ -75,7 +76,8 @@ pub record IsFitRun (run : Run) : Type 0 where
   pub item : IsCanonItem run.item
   pub elements : AllByRecursion IsSent run.elements
 
-fit_before : (entry : Entry) (runs : List Run) → IsFitEntry entry → AllByRecursion IsFitRun runs → AllByRecursion IsFitRun (before entry runs)
+fit_before : (entry : Entry) (runs : List Run) → IsFitEntry entry → AllByRecursion IsFitRun runs
+    → AllByRecursion IsFitRun (before entry runs)
 fit_before entry [] e f = (record { item = e.item; elements = (e.element, tt) }, tt)
 fit_before entry (run ∷ runs) e f = joined (same_item entry.item run.item)
   where
@@ -108,8 +110,10 @@ module _ (fits : (i : Identifier) → IsIdentifier i → IsFit (identifier_eleme
   run_good run f =
       let metadata = good_elements (bare_name (codes "metadata")) [] (local_of (codes "metadata") refl) tt tt refl 64 run.elements
       (sent_good run.elements f.elements) in
-      good_elements (bare_name (codes "resultItem")) [] (local_of (codes "resultItem") refl) tt tt refl 65 _
-      (both_all (IsGood 65) (map identifier_element (identifiers_of run.item)) _
+      let list = bare_element (codes "metadata") [] (as_children run.elements) in
+      good_elements (bare_name (codes "resultItem")) [] (local_of (codes "resultItem") refl) tt tt refl 65
+      (map identifier_element (identifiers_of run.item) ++ list ∷ [])
+      (both_all (IsGood 65) (map identifier_element (identifiers_of run.item)) (list ∷ [])
       (all_within 2 65 (map identifier_element (identifiers_of run.item)) (omega arith)
       (identifiers_good (identifiers_of run.item) f.item.identifiers)) (metadata, tt))
 
@@ -126,28 +130,37 @@ module _ (fits : (i : Identifier) → IsIdentifier i → IsFit (identifier_eleme
       → IsGood 67 (told_element local name entries)
   unfolding is_plain_part
   told_good local name entries plain n f =
-      good_elements (bare_name local) _ (local_of local plain) (attribute_fits (codes "name") name refl refl n, tt) (tt, tt) refl 66 _
-      (entries_good entries f)
+      good_elements (bare_name local) (name_attribute name ∷ []) (local_of local plain)
+      (attribute_fits (codes "name") name refl refl n, tt) (tt, tt) refl 66 (map run_element (runs_of entries)) (entries_good entries f)
+
+  abbrev note_element : List ℕ → Element
+  note_element note = bare_element (codes "errorString") [] (text_children note)
+
+  abbrev code_attribute : Code → Attribute
+  code_attribute code = bare_attribute (codes "errorCode") (code_name code)
 
   note_good : (note : List ℕ) → IsCharacters note
-      → IsGood 1 (record { name = bare_name (codes "errorString"); attributes = []; children = text_children note })
+      → IsGood 1 (note_element note)
   unfolding is_plain_part
   note_good note h = good_text (bare_name (codes "errorString")) (local_of (codes "errorString") refl) note h
 
   error_good : (code : Code) (note : List ℕ) → IsCharacters note → IsGood 2 (error_element code None note)
   unfolding is_plain_part
   error_good code note h =
-      good_elements (bare_name (codes "errorResult")) _ (local_of (codes "errorResult") refl)
-      (attribute_fits (codes "errorCode") (code_name code) refl refl (code_characters code), tt) (tt, tt) refl 1 _ (note_good note h, tt)
+      good_elements (bare_name (codes "errorResult")) (code_attribute code ∷ []) (local_of (codes "errorResult") refl)
+      (attribute_fits (codes "errorCode") (code_name code) refl refl (code_characters code), tt) (tt, tt) refl 1 (note_element note ∷ [])
+      (note_good note h, tt)
 
   named_error_good : (code : Code) (name note : List ℕ) → IsCharacters name → IsCharacters note
       → IsGood 2 (error_element code (Some name) note)
   unfolding is_plain_part
   named_error_good code name note n h =
-      good_elements (bare_name (codes "errorResult")) _ (local_of (codes "errorResult") refl)
-      (attribute_fits (codes "errorCode") (code_name code) refl refl (code_characters code),
-      (attribute_fits (codes "name") name refl refl n, tt)) (two_differ (codes "errorCode") (codes "name") refl) refl 1 _
-      (note_good note h, tt)
+      good_elements (bare_name (codes "errorResult")) (code_attribute code ∷ (name_attribute name ∷ []))
+      (local_of (codes "errorResult") refl) (
+        attribute_fits (codes "errorCode") (code_name code) refl refl (code_characters code),
+        (attribute_fits (codes "name") name refl refl n, tt),
+      ) (two_differ (codes "errorCode") (codes "name") refl) refl 1
+      (note_element note ∷ []) (note_good note h, tt)
 
   poll_good : (item : PollItem) → IsFitPollItem item → IsGood 67 (poll_element item)
   unfolding is_plain_part
@@ -155,41 +168,51 @@ module _ (fits : (i : Identifier) → IsIdentifier i → IsFit (identifier_eleme
   poll_good (poll.Update name entries) f = told_good (codes "updateResult") name entries refl f.0 f.1
   poll_good (poll.Delete name entries) f = told_good (codes "deleteResult") name entries refl f.0 f.1
   poll_good (poll.Notify name entries) f = told_good (codes "notifyResult") name entries refl f.0 f.1
-  poll_good (poll.Error None code note) f = good_within 2 67 _ (omega arith) (error_good code note f.1)
-  poll_good (poll.Error (Some name) code note) f = good_within 2 67 _ (omega arith) (named_error_good code name note f.0 f.1)
+  poll_good (poll.Error None code note) f = good_within 2 67 (error_element code None note) (omega arith) (error_good code note f.1)
+  poll_good (poll.Error (Some name) code note) f =
+      good_within 2 67 (error_element code (Some name) note) (omega arith) (named_error_good code name note f.0 f.1)
 
   polls_good : (items : List PollItem) → AllByRecursion IsFitPollItem items → AllByRecursion (IsGood 67) (map poll_element items)
   polls_good [] f = tt
   polls_good (item ∷ items) f = (poll_good item f.0, polls_good items f.1)
 
   plain_good : (local : List ℕ) → IsPlainPart local → IsGood 68 (plain_element local [])
-  plain_good local plain = good_within 1 68 _ (omega arith) (good_elements (bare_name local) [] (local_of local plain) tt tt refl 0 [] tt)
+  plain_good local plain = good_within 1 68 (plain_element local []) (omega arith)
+      (good_elements (bare_name local) [] (local_of local plain) tt tt refl 0 [] tt)
 
   session_good : (session publisher : List ℕ) (limit : ℕ) → IsCharacters session → IsCharacters publisher
       → IsGood 1 (new_session_element session publisher limit)
   unfolding is_plain_part
   session_good session publisher limit s p =
-      good_elements (bare_name (codes "newSessionResult")) _ (local_of (codes "newSessionResult") refl)
-      (attribute_fits (codes "ifmap-publisher-id") publisher refl refl p,
-      (attribute_fits (codes "max-poll-result-size") (numeral limit) refl refl (numeral_characters limit),
-      (attribute_fits (codes "session-id") session refl refl s, tt)))
+      good_elements (bare_name (codes "newSessionResult"))
+      (bare_attribute (codes "ifmap-publisher-id") publisher ∷ (bare_attribute (codes "max-poll-result-size") (numeral limit)
+      ∷ (bare_attribute (codes "session-id") session ∷ [])))
+      (local_of (codes "newSessionResult") refl) (
+        attribute_fits (codes "ifmap-publisher-id") publisher refl refl p,
+        (
+          attribute_fits (codes "max-poll-result-size") (numeral limit) refl refl (numeral_characters limit),
+          (attribute_fits (codes "session-id") session refl refl s, tt),
+        ),
+      )
       (three_differ (codes "ifmap-publisher-id") (codes "max-poll-result-size") (codes "session-id") refl refl refl) refl 0 [] tt
 
   result_good : (answer : Reply) → IsFitReply answer → IsGood 68 (result_element answer)
   unfolding is_plain_part
   result_good (reply.NewSession session publisher limit) f =
-      good_within 1 68 _ (omega arith) (session_good session publisher limit f.0 f.1.0)
+      good_within 1 68 (new_session_element session publisher limit) (omega arith) (session_good session publisher limit f.0 f.1.0)
   result_good reply.Renewed f = plain_good (codes "renewSessionResult") refl
   result_good reply.Ended f = plain_good (codes "endSessionResult") refl
   result_good reply.Published f = plain_good (codes "publishReceived") refl
   result_good reply.Subscribed f = plain_good (codes "subscribeReceived") refl
   result_good reply.Purged f = plain_good (codes "purgePublisherReceived") refl
   result_good (reply.Found entries) f =
-      good_within 67 68 _ (omega arith)
-      (good_elements (bare_name (codes "searchResult")) [] (local_of (codes "searchResult") refl) tt tt refl 66 _ (entries_good entries f))
+      good_within 67 68 (result_element (reply.Found entries)) (omega arith)
+      (good_elements (bare_name (codes "searchResult")) [] (local_of (codes "searchResult") refl) tt tt refl 66
+      (map run_element (runs_of entries)) (entries_good entries f))
   result_good (reply.Polled items) f =
-      good_elements (bare_name (codes "pollResult")) [] (local_of (codes "pollResult") refl) tt tt refl 67 _ (polls_good items f)
-  result_good (reply.Error code note) f = good_within 2 68 _ (omega arith) (error_good code note f)
+      good_elements (bare_name (codes "pollResult")) [] (local_of (codes "pollResult") refl) tt tt refl 67
+      (map poll_element items) (polls_good items f)
+  result_good (reply.Error code note) f = good_within 2 68 (error_element code None note) (omega arith) (error_good code note f)
 
   around_good : (n : ℕ) (name : Name) (inner : Element) → IsFitName name → IsGood n inner → IsGood (n + 1) (around name inner)
   around_good n name inner fit g = good_elements name [] fit tt tt refl n (inner ∷ []) (g, tt)
@@ -204,4 +227,6 @@ module _ (fits : (i : Identifier) → IsIdentifier i → IsFit (identifier_eleme
       (plain_name ifmap_space (codes "response") (plain_space ifmap_space refl refl) refl) (result_good answer f) in
       let body = around_good 69 (envelope_name (codes "Body")) (around response_name (result_element answer))
       (envelope_fits (codes "Body") refl) response in
-      around_good 70 (envelope_name (codes "Envelope")) _ (envelope_fits (codes "Envelope") refl) body
+      around_good 70 (envelope_name (codes "Envelope"))
+      (around (envelope_name (codes "Body")) (around response_name (result_element answer)))
+      (envelope_fits (codes "Envelope") refl) body

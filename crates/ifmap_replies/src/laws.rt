@@ -3,7 +3,9 @@ ghost use Rattle.ifmap_replies.specs.Laws.{BytesReadBack, ElementsReadBack, NoRe
 
 use ifmap_elem::laws::{bytes_spell_one_element, canonical_bytes_spell_the_element};
 use ifmap_envelopes::laws::envelopes_hold_one_element;
-use ifmap_ident::laws::{bytes_tell_identifiers_apart, elements_have_one_answer, identifiers_are_read_back};
+use ifmap_ident::laws::{
+    bytes_tell_identifiers_apart, elements_have_one_answer, identifiers_are_read_back,
+};
 
 /// An element means one reply at most, and none where its response has a defect.
 pub fn elements_have_one_reply()

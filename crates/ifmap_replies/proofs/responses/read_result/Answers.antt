@@ -12,4 +12,5 @@ returns-in-Some c =
 
 pub returns-in-None : goal.returns-in-None
 returns-in-None c =
-    refused_none Failure (result_kind_of c.args.element.name) (λ (kind : ResultKind). result_kind_check kind c.args.element) (sym c.in-None.ensures)
+    refused_none Failure (result_kind_of c.args.element.name) (λ (kind : ResultKind). result_kind_check kind c.args.element)
+    (sym c.in-None.ensures)
