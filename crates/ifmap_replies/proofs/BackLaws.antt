@@ -367,7 +367,7 @@ module _ (again : (i : Identifier) → IsIdentifier i → IsCanon (identifier_el
           refl,
           (
             both limit (both session tt),
-            (limit, word_back limit f.1.1, (both session tt, (session, refl, (tt, refl, refl)), refl)),
+            (limit, word_back limit f.2, (both session tt, (session, refl, (tt, refl, refl)), refl)),
             refl,
           ),
         ) tt refl refl

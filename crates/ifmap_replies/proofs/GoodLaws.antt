@@ -49,7 +49,7 @@ plain_space space plain other = record {
   not_reserved = another_text space xmlns_space (eq_itself space) other;
 }
 
-pub is_plain_part : List ℕ → Bool
+unfoldable pub is_plain_part : List ℕ → Bool
 is_plain_part [] = false
 is_plain_part (first ∷ others) = (list_all is_ascii (first ∷ others) && is_name_start first) && list_all is_name_character others
 

@@ -199,7 +199,7 @@ module _ (fits : (i : Identifier) → IsIdentifier i → IsFit (identifier_eleme
   result_good : (answer : Reply) → IsFitReply answer → IsGood 68 (result_element answer)
   unfolding is_plain_part
   result_good (reply.NewSession session publisher limit) f =
-      good_within 1 68 (new_session_element session publisher limit) (omega arith) (session_good session publisher limit f.0 f.1.0)
+      good_within 1 68 (new_session_element session publisher limit) (omega arith) (session_good session publisher limit f.0 f.1)
   result_good reply.Renewed f = plain_good (codes "renewSessionResult") refl
   result_good reply.Ended f = plain_good (codes "endSessionResult") refl
   result_good reply.Published f = plain_good (codes "publishReceived") refl
