@@ -317,7 +317,8 @@ module _ (again : (i : Identifier) → IsIdentifier i → IsCanon (identifier_el
         let ids = identifiers_of run.item in
         let list = list_element run.elements in
         let front : identifiers_check 2 [] (before_list (parts_with list refl ids)) (Ok ids) =
-        subst (λ (ps : List Part). identifiers_check 2 [] ps (Ok ids)) (sym (before_back list refl ids)) (identifiers_back run.item f.item) in
+        subst (λ (ps : List Part). identifiers_check 2 [] ps (Ok ids)) (sym (before_back list refl ids))
+        (identifiers_back run.item f.item) in
         let rest : list_at element_check (from_list (parts_with list refl ids)) (Ok (Some run.elements)) =
         subst (λ (ps : List Part). list_at element_check ps (Ok (Some run.elements))) (sym (from_back list refl ids))
         (list_back run.elements f.elements) in

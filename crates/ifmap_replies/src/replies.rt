@@ -7,11 +7,13 @@ use std::alloc::{AllocError as NoMemory, Global};
 /// What a client is answered.
 #[derive(Debug, Drop)]
 pub enum Reply {
-    /// A session began: its id, the client's name as the id of the publisher, and how large a poll's
-    /// result may be.
+    /// A session began.
     NewSession {
+        /// The id of the session, by which the client names it from then on.
         session: Text,
+        /// The client's name, as the id of the publisher that it is.
         publisher: Text,
+        /// How large the result of a poll may be, in bytes as `poll_size` counts them.
         limit: u32,
     },
     /// The session lives on.
@@ -24,13 +26,15 @@ pub enum Reply {
     Subscribed,
     /// Nothing is left that the publisher published.
     Purged,
-    /// What a search found.
+    /// What a search found, in the order in which it is told; nothing is no error.
     Found(Many<Entry>),
-    /// What a poll is told.
+    /// What a poll is told, the oldest first.
     Polled(Many<PollItem>),
-    /// The request was refused, with a note for a reader.
+    /// The request was refused.
     Error {
+        /// Why.
         code: Code,
+        /// A note for a reader. For the codes of results that are too big it is the size and its limit.
         note: Text,
     },
 }

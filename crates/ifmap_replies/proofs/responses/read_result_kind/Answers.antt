@@ -17,13 +17,13 @@ returns-in-Ended c =
 
 pub returns-in-Published : goal.returns-in-Published
 returns-in-Published c =
-    subst (λ (kind : ResultKind). IsChecked (result_kind_check kind c.args.element) c.read_plain-in-Published.result) (sym c.in-Published.is)
-    (c.read_plain-in-Published.ensures kinds.Published)
+    subst (λ (kind : ResultKind). IsChecked (result_kind_check kind c.args.element) c.read_plain-in-Published.result)
+    (sym c.in-Published.is) (c.read_plain-in-Published.ensures kinds.Published)
 
 pub returns-in-Subscribed : goal.returns-in-Subscribed
 returns-in-Subscribed c =
-    subst (λ (kind : ResultKind). IsChecked (result_kind_check kind c.args.element) c.read_plain-in-Subscribed.result) (sym c.in-Subscribed.is)
-    (c.read_plain-in-Subscribed.ensures kinds.Subscribed)
+    subst (λ (kind : ResultKind). IsChecked (result_kind_check kind c.args.element) c.read_plain-in-Subscribed.result)
+    (sym c.in-Subscribed.is) (c.read_plain-in-Subscribed.ensures kinds.Subscribed)
 
 pub returns-in-Purged : goal.returns-in-Purged
 returns-in-Purged c =
