@@ -7,7 +7,7 @@
 use Rattle.std.proofs.Common.{◌≡◌, ◌∙◌, ℕ, ◌+◌, ◌<◌, ◌≤◌, ◌%◌, ◌^◌, ◌&&◌, Bool, true, false, not, List, [], ◌∷◌, ◌++◌, Option, None, Some, Ok, map, codes, refl, ap, arith, inl, subst, sym, append-nil}
 use Rattle.std.specs.Prelude.{◌||◌, if◌then◌else◌, nat_lt}
 use Rattle.std.specs.Char.{is_ascii_digit}
-use Rattle.std.specs.List.{AllByRecursion, find, list_all}
+use Rattle.std.specs.List.{AllByRecursion, list_all}
 use Rattle.std.specs.Str.{bytes_eq}
 use Rattle.std.specs.Str.Parse.{digits_value}
 use Rattle.std.specs.declared.cmp.Ordering.{Ordering}
@@ -17,7 +17,6 @@ use Rattle.std.proofs.lemmas.Bool.Decides.{nat_tests}
 use Rattle.ifmap_lemmas.specs.Members.{all_append}
 use Rattle.ifmap_lemmas.specs.Numerals.{digit, numeral, numeral_by_digits, numeral_value}
 use Rattle.ifmap_lemmas.specs.Texts.{eq_tells, slice_cmp-less}
-use Rattle.ifmap_elem.specs.Arranged.{arrange}
 use Rattle.ifmap_elem.specs.Building.{bare_element}
 use Rattle.ifmap_elem.specs.declared.elements.Child.{Child, out-Child}
 use Rattle.ifmap_elem.specs.declared.elements.Child as the
@@ -36,14 +35,13 @@ use Rattle.ifmap_ident.specs.Canon.{IsCanon, IsIdentifier}
 use Rattle.ifmap_ident.specs.Codes.{code_name}
 use Rattle.ifmap_ident.specs.Identifiers.{identifier_bytes, identifier_element, identifier_order, same_identifier}
 use Rattle.ifmap_ident.specs.Items.{IsCanonItem, identifiers_of, ordered_pair, same_item}
-use Rattle.ifmap_ident.specs.Parts.{has_only}
 use Rattle.ifmap_meta.specs.Whole.{IsSent}
 use Rattle.ifmap_search.specs.declared.results.Entry.{Entry}
 use Rattle.ifmap_search.specs.declared.results.PollItem.{PollItem}
 use Rattle.ifmap_search.specs.declared.results.PollItem.TheVariants as poll
 use Rattle.ifmap_forms.specs.AnswerLaws.{found_after, found_form}
 use Rattle.ifmap_forms.specs.Checks.{Check, check_then, need, need_some, pass}
-use Rattle.ifmap_forms.specs.Items.{before_list, from_list, identifiers_check, is_list, item_of, list_at, list_check, may_follow}
+use Rattle.ifmap_forms.specs.Items.{before_list, from_list, identifiers_check, is_list, item_of, list_at, may_follow}
 use Rattle.ifmap_forms.specs.Tables.{Part, both, each_element, form_check, parts_in, parts_of}
 use Rattle.ifmap_forms.specs.Values.{is_number, number_of}
 use Rattle.ifmap_replies.specs.declared.kinds.EntriesKind.{EntriesKind}
@@ -59,7 +57,7 @@ use Rattle.ifmap_replies.specs.Means.{IsReplyOf}
 use Rattle.ifmap_replies.specs.ResultForms as forms
 use Rattle.ifmap_replies.specs.ResultForms.{element_check, entries_check, entries_local, error_form, error_made, found_made, is_text, members_check, new_session_form, new_session_made, no_scopes, note_check, only_check, or_none, plain_check, plain_form, plain_made, poll_check, polled_form, polled_made, response_check, response_form, response_made, result_check, result_local, run_check, run_form, run_from, run_made, run_parts, told_error_form, told_error_made, told_form, told_made}
 use Rattle.ifmap_replies.specs.Results.{around, as_children, entry_children, error_element, in_envelope, new_session_element, poll_element, reply_element, response_name, result_element, run_element, text_children, told_element}
-use Rattle.ifmap_replies.specs.Runs.{before, entries_of, entry_on, run_entries, run_on, runs_of}
+use Rattle.ifmap_replies.specs.Runs.{before, entries_of, entry_on, run_on, runs_of}
 use Rattle.ifmap_replies.proofs.GoodLaws.{element_part, parts_are}
 use Rattle.ifmap_replies.proofs.WholeLaws.{IsFitRun, fit_runs}
 

@@ -6,7 +6,6 @@ use Rattle.ifmap_elem.specs.Nesting.{nesting}
 use Rattle.ifmap_elem.specs.Spells.{Spells}
 use Rattle.ifmap_elem.specs.declared.elements.Element.{Element}
 use Rattle.ifmap_replies.specs.declared.replies.Reply.{Reply}
-use Rattle.ifmap_replies.specs.Fit.{IsFitReply}
 use Rattle.ifmap_replies.specs.Means.{IsReplyOf, Means}
 use Rattle.ifmap_replies.specs.Results.{reply_bytes, reply_element}
 use Rattle.ifmap_replies.proofs.GoodLaws.{IsGood}

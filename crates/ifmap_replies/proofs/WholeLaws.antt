@@ -2,11 +2,11 @@
 -- 1. Texts: codes and numerals.
 -- 2. Entries, by runs.
 -- 3. Results, and the envelope.
-use Rattle.std.proofs.Common.{◌≡◌, ℕ, ◌+◌, ◌<◌, ◌≤◌, ◌%◌, Bool, true, false, List, [], ◌∷◌, ◌++◌, None, Some, map, codes, refl, ap, arith, subst, sym}
+use Rattle.std.proofs.Common.{◌≡◌, ℕ, ◌+◌, ◌<◌, ◌≤◌, ◌%◌, Bool, true, false, List, [], ◌∷◌, ◌++◌, None, Some, map, codes, refl, arith}
 use Rattle.std.specs.Prelude.{if◌then◌else◌}
 use Rattle.std.specs.List.{AllByRecursion}
 use Rattle.std.proofs.lemmas.Bool.Decides.{nat_tests}
-use Rattle.ifmap_lemmas.specs.Members.{all_append, all_of_test, both_all, map_of_all}
+use Rattle.ifmap_lemmas.specs.Members.{all_append, all_of_test, both_all}
 use Rattle.ifmap_lemmas.specs.Numerals.{digit, numeral, numeral_by_digits}
 use Rattle.ifmap_elem.specs.Arranged.{arrange}
 use Rattle.ifmap_elem.specs.Building.{bare_attribute, bare_element, bare_name}
@@ -32,7 +32,7 @@ use Rattle.ifmap_replies.specs.declared.replies.Reply.{Reply}
 use Rattle.ifmap_replies.specs.declared.replies.Reply.TheVariants as reply
 use Rattle.ifmap_replies.specs.declared.runs.Run.{Run}
 use Rattle.ifmap_replies.specs.Fit.{AreFitEntries, IsFitEntry, IsFitPollItem, IsFitReply}
-use Rattle.ifmap_replies.specs.Results.{around, as_children, entry_children, error_element, ifmap_space, name_attribute, new_session_element, plain_element, poll_element, reply_element, response_name, result_element, run_element, text_children, told_element}
+use Rattle.ifmap_replies.specs.Results.{around, as_children, error_element, ifmap_space, name_attribute, new_session_element, plain_element, poll_element, reply_element, response_name, result_element, run_element, text_children, told_element}
 use Rattle.ifmap_replies.specs.Runs.{before, run_on, runs_of}
 use Rattle.ifmap_replies.proofs.GoodLaws.{IsGood, IsPlainPart, all_within, attribute_fits, bare_fits, good_elements, good_text, good_within, is_plain, is_plain_part, plain_characters, plain_name, plain_space, three_differ, two_differ}
 
