@@ -1,0 +1,216 @@
+-- Elements that a document can have, arranged, of so many levels at most.
+-- 1. Names and attributes that are spelled out.
+-- 2. An element of elements, and one of a text.
+use Rattle.std.proofs.Common.{◌≡◌, ◌≢◌, ◌∙◌, ◌&&◌, ℕ, ◌+◌, ◌≤◌, suc, Bool, true, false, List, [], ◌∷◌, ◌++◌, map, codes, refl, ap, arith, subst, sym}
+use Rattle.std.specs.Prelude.{IsTrue}
+use Rattle.std.specs.List.{AllByRecursion, flat_map, list_all, list_any}
+use Rattle.std.specs.Str.{bytes_eq}
+use Rattle.std.proofs.lemmas.Bool.{and_parts}
+use Rattle.ifmap_elem.specs.Arranged.{arrange, arrange_child, sort_attributes}
+use Rattle.ifmap_elem.specs.Building.{bare_attribute, bare_name}
+use Rattle.ifmap_elem.specs.Chars.{AllAre, IsCharacters, is_character}
+use Rattle.ifmap_elem.specs.Fit.{AreApart, AreFitChildren, HasCharacters, IsFit, IsFitAlone, IsFitAttribute, IsFitName, IsNamespace, IsNotBlank, is_element}
+use Rattle.ifmap_elem.specs.Folds.{at_child_element, at_child_text, at_element}
+use Rattle.ifmap_elem.specs.Names.{is_name_character, is_name_start}
+use Rattle.ifmap_elem.specs.Nesting.{child_levels, child_nesting, element_levels, greatest, nesting}
+use Rattle.ifmap_elem.specs.Scopes.{AllDiffer, xmlns_space}
+use Rattle.ifmap_elem.specs.declared.elements.Attribute.{Attribute}
+use Rattle.ifmap_elem.specs.declared.elements.Child.{Child, out-Child}
+use Rattle.ifmap_elem.specs.declared.elements.Child as the
+use Rattle.ifmap_elem.specs.declared.elements.Child.TheOpen.{Child-F}
+use Rattle.ifmap_elem.specs.declared.elements.Element.{Element}
+use Rattle.ifmap_elem.specs.declared.elements.Name.{Name}
+use Rattle.ifmap_elem.specs.laws.ArrangedLaws.{arranged_in, arranged_is, arranged_text}
+use Rattle.ifmap_elem.specs.laws.FitLaws.{elements_in, elements_of_child, elements_text, fit_whole, out_element, out_text}
+use Rattle.ifmap_lemmas.specs.Members.{all_of_test, all_weaker, both_all}
+use Rattle.ifmap_lemmas.specs.Texts.{ascii_encoded, eq_itself, is_ascii}
+use Rattle.ifmap_replies.specs.Results.{as_children, text_children}
+
+-- ---- 1. names and attributes
+
+-- a byte of ASCII that is a character
+abbrev pub is_plain : ℕ → Bool
+is_plain b = is_ascii b && is_character b
+
+pub plain_characters : (bs : List ℕ) → AllAre is_plain bs → IsCharacters bs
+plain_characters bs f = (
+  bs,
+  ascii_encoded bs (all_weaker is_plain is_ascii (λ b h. (and_parts (is_ascii b) (is_character b) h).0) bs f),
+  all_weaker is_plain is_character (λ b h. (and_parts (is_ascii b) (is_character b) h).1) bs f,
+)
+
+another_text : (one other : List ℕ) → bytes_eq one one ≡ true → bytes_eq one other ≡ false → one ≢ other
+another_text one other here there e = let q : bytes_eq one one ≡ bytes_eq one other = ap (bytes_eq one) e in cc
+
+-- a namespace, and a name part, that are spelled out
+pub plain_space : (space : List ℕ) → list_all is_plain space ≡ true → bytes_eq space xmlns_space ≡ false → IsNamespace space
+plain_space space plain other = record {
+  characters = plain_characters space (all_of_test is_plain space plain);
+  not_reserved = another_text space xmlns_space (eq_itself space) other;
+}
+
+unfoldable pub is_plain_part : List ℕ → Bool
+is_plain_part [] = false
+is_plain_part (first ∷ others) = (list_all is_ascii (first ∷ others) && is_name_start first) && list_all is_name_character others
+
+plain_name_of : (space local : List ℕ) → IsNamespace space → is_plain_part local ≡ true
+    → IsFitName (record { space = space; local = local })
+unfolding is_plain_part
+plain_name_of space [] s h = absurd cc
+plain_name_of space (first ∷ others) s h =
+    let parts = and_parts (list_all is_ascii (first ∷ others) && is_name_start first) (list_all is_name_character others) h in
+    let front = and_parts (list_all is_ascii (first ∷ others)) (is_name_start first) parts.0 in
+    record {
+      space = s;
+      local = record {
+        first = first;
+        others = others;
+        bytes_are = ascii_encoded (first ∷ others) (all_of_test is_ascii (first ∷ others) front.0);
+        begins = front.1;
+        goes_on = all_of_test is_name_character others parts.1;
+      };
+    }
+
+-- the test of a spelled-out name part, where it may be computed
+abbrev pub IsPlainPart : List ℕ → Type 0
+IsPlainPart local = is_plain_part local ≡ true
+
+pub plain_name : (space local : List ℕ) → IsNamespace space → IsPlainPart local → IsFitName (record { space = space; local = local })
+plain_name space local s h = plain_name_of space local s h
+
+no_namespace : IsNamespace []
+no_namespace = plain_space [] refl refl
+
+pub bare_fits : (local : List ℕ) → IsPlainPart local → IsFitName (bare_name local)
+bare_fits local h = plain_name [] local no_namespace h
+
+same_local : (one other : List ℕ) → bytes_eq one other ≡ false → bare_name one ≢ bare_name other
+same_local one other apart e = another_text one other (eq_itself one) apart (ap (λ (n : Name). n.local) e)
+
+pub attribute_fits : (local value : List ℕ) → IsPlainPart local → bytes_eq local (codes "xmlns") ≡ false → IsCharacters value
+    → IsFitAttribute (bare_attribute local value)
+attribute_fits local value plain other h = record {
+  name = bare_fits local plain;
+  no_declaration = same_local local (codes "xmlns") other;
+  value = h;
+}
+
+-- two, and three, names that differ
+pub two_differ : (a b : List ℕ) → bytes_eq a b ≡ false → AllDiffer (bare_name a ∷ (bare_name b ∷ []))
+two_differ a b ab = ((same_local a b ab, tt), (tt, tt))
+
+pub three_differ : (a b c : List ℕ) → bytes_eq a b ≡ false → bytes_eq a c ≡ false → bytes_eq b c ≡ false
+    → AllDiffer (bare_name a ∷ (bare_name b ∷ (bare_name c ∷ [])))
+three_differ a b c ab ac bc = ((same_local a b ab, (same_local a c ac, tt)), two_differ b c bc)
+
+-- ---- 2. elements
+
+pub record IsGood (levels : ℕ) (e : Element) : Type 0 where
+  pub fit : IsFit e
+  pub arranged : arrange e ≡ e
+  pub within : nesting e ≤ levels
+
+pub good_within : (one more : ℕ) (e : Element) → one ≤ more → IsGood one e → IsGood more e
+good_within one more e le g = record {
+  fit = g.fit;
+  arranged = g.arranged;
+  within = let w : nesting e ≤ one = g.within in omega (arith, w, le);
+}
+
+pub all_within : (one more : ℕ) (es : List Element) → one ≤ more → AllByRecursion (IsGood one) es → AllByRecursion (IsGood more) es
+all_within one more [] le f = tt
+all_within one more (e ∷ es) le f = (good_within one more e le f.0, all_within one more es le f.1)
+
+abbrev pub element_part : Element → Child-F Child Element
+element_part e = Child-F.Element e
+
+pub parts_are : (es : List Element) → map out-Child (as_children es) ≡ map element_part es
+parts_are [] = refl
+parts_are (e ∷ es) = λ i. out_element e i ∷ parts_are es i
+
+texts_of : (es : List Element) → AllByRecursion HasCharacters (map element_part es)
+texts_of [] = tt
+texts_of (e ∷ es) = (tt, texts_of es)
+
+apart_of : (es : List Element) → AreApart (map element_part es)
+apart_of [] = tt
+apart_of (e ∷ es) = apart_of es
+
+beside_of : (es : List Element) → AllByRecursion IsNotBlank (map element_part es)
+beside_of [] = tt
+beside_of (e ∷ es) = (tt, beside_of es)
+
+children_fit : (es : List Element) → AreFitChildren (map out-Child (as_children es))
+children_fit es =
+    subst AreFitChildren (sym (parts_are es)) (record { texts = texts_of es; apart = apart_of es; beside = λ any. beside_of es })
+
+inside_fit : (levels : ℕ) (es : List Element) → AllByRecursion (IsGood levels) es
+    → AllByRecursion IsFitAlone (flat_map elements_of_child (as_children es))
+inside_fit levels [] f = tt
+inside_fit levels (e ∷ es) f =
+    both_all IsFitAlone (elements_of_child (the.Element e)) (flat_map elements_of_child (as_children es))
+    (subst (AllByRecursion IsFitAlone) (sym (elements_in e)) f.0.fit) (inside_fit levels es f.1)
+
+arranged_children : (levels : ℕ) (es : List Element) → AllByRecursion (IsGood levels) es
+    → map arrange_child (as_children es) ≡ as_children es
+arranged_children levels [] f = refl
+arranged_children levels (e ∷ es) f =
+    λ i. (arranged_in e ∙ ap (λ (x : Element). the.Element x) f.0.arranged) i ∷ arranged_children levels es f.1 i
+
+levels_within : (levels : ℕ) (es : List Element) → AllByRecursion (IsGood levels) es
+    → greatest (map child_nesting (as_children es)) ≤ levels
+levels_within levels [] f = omega arith
+levels_within levels (e ∷ es) f =
+    let here : child_nesting (the.Element e) ≡ nesting e = at_child_element ℕ ℕ child_levels element_levels e in
+    let first : nesting e ≤ levels = f.0.within in
+    let others = levels_within levels es f.1 in
+    omega (arith, here, first, others)
+
+module _ (name : Name) (attributes : List Attribute) (fits : IsFitName name) (all : AllByRecursion IsFitAttribute attributes)
+    (differ : AllDiffer (map (λ a. a.name) attributes)) (sorted : sort_attributes attributes ≡ attributes) where
+  abbrev pub with_children : List Child → Element
+  with_children children = record { name = name; attributes = attributes; children = children }
+
+  -- of elements
+  pub good_elements : (levels : ℕ) (es : List Element) → AllByRecursion (IsGood levels) es
+      → IsGood (levels + 1) (with_children (as_children es))
+  good_elements levels es f =
+      let e = with_children (as_children es) in
+      record {
+        fit = fit_whole e (record { name = fits; attributes = all; names_differ = differ; children = children_fit es })
+            (inside_fit levels es f);
+        arranged = arranged_is e ∙ (λ i. record { name = name; attributes = sorted i; children = arranged_children levels es f i });
+        within =
+            let is : nesting e ≡ suc (greatest (map child_nesting (as_children es))) = at_element ℕ ℕ child_levels element_levels e in
+            let most = levels_within levels es f in
+            omega (arith, is, most);
+      }
+
+some_text : (b : ℕ) (bs : List ℕ) → (b ∷ bs) ≢ []
+some_text b bs e = cc
+
+-- of a text
+pub good_text : (name : Name) → IsFitName name → (text : List ℕ) → IsCharacters text
+    → IsGood 1 (record { name = name; attributes = []; children = text_children text })
+good_text name fits [] h = good_elements name [] fits tt tt refl 0 [] tt
+good_text name fits (b ∷ bs) h =
+    let text = b ∷ bs in
+    let e : Element = record { name = name; attributes = []; children = the.Text text ∷ [] } in
+    let parts : map out-Child (the.Text text ∷ []) ≡ Child-F.Text text ∷ [] = λ i. out_text text i ∷ [] in
+    let children : AreFitChildren (Child-F.Text text ∷ []) =
+    record { texts = ((some_text b bs, h), tt); apart = tt; beside = λ any. absurd (no_element any) } in
+    record {
+      fit = fit_whole e (record { name = fits; attributes = tt; names_differ = tt; children = subst AreFitChildren (sym parts) children })
+          (subst (AllByRecursion IsFitAlone) (sym (nothing_inside text)) tt);
+      arranged = arranged_is e ∙ (λ i. record { name = name; attributes = []; children = arranged_text text i ∷ [] });
+      within =
+          let is : nesting e ≡ suc (greatest (child_nesting (the.Text text) ∷ [])) = at_element ℕ ℕ child_levels element_levels e in
+          let none : child_nesting (the.Text text) ≡ 0 = at_child_text ℕ ℕ child_levels element_levels text in
+          omega (arith, is, none);
+    }
+  where
+    no_element : IsTrue (list_any is_element (Child-F.Text (b ∷ bs) ∷ [])) → ⊥
+    no_element any = let wrong : false ≡ true = any in cc
+
+    nothing_inside : (text : List ℕ) → flat_map elements_of_child (the.Text text ∷ []) ≡ []
+    nothing_inside text = ap (λ (xs : List Element). xs ++ []) (elements_text text)

@@ -1,0 +1,11 @@
+pub mod RunLaws
+pub mod InPlace
+pub mod FormLaws
+pub mod FoundLaws
+pub mod ReadingLaws
+pub mod Single
+pub mod GoodLaws
+pub mod WholeLaws
+pub mod BackLaws
+pub mod PrintedBack
+pub mod Deciding

@@ -1,0 +1,16 @@
+use Rattle.std.proofs.Common.{sym}
+use Rattle.ifmap_ident.specs.declared.codes.Code.TheVariants.{Failure}
+use Rattle.ifmap_replies.specs.declared.kinds.PollKind.{PollKind}
+use Rattle.ifmap_replies.specs.ResultForms.{poll_kind_check, poll_kind_of}
+use Rattle.ifmap_replies.proofs.FormLaws.{checked_some, refused_none}
+use Rattle.ifmap_replies.proofs.polls.read_poll_item.Goals as goal
+
+pub returns-in-Some : goal.returns-in-Some
+returns-in-Some c =
+    checked_some Failure (poll_kind_of c.args.element.name) (λ (kind : PollKind). poll_kind_check kind c.args.element) c.in-Some.kind
+    (sym c.in-Some.ensures) c.read_poll_kind.result c.read_poll_kind.ensures
+
+pub returns-in-None : goal.returns-in-None
+returns-in-None c =
+    refused_none Failure (poll_kind_of c.args.element.name) (λ (kind : PollKind). poll_kind_check kind c.args.element)
+    (sym c.in-None.ensures)
