@@ -1,0 +1,9 @@
+pub mod Tables
+pub mod Standing
+pub mod Folding
+pub mod Ids
+pub mod Agreeing
+pub mod Histories
+pub mod Lives
+pub mod Goods
+pub mod Graphs
