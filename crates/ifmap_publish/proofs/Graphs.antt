@@ -1,5 +1,5 @@
 -- Graphs stay graphs, and what is stored on an item of one is a list of it.
-use Rattle.std.proofs.Common.{◌≡◌, ◌∙◌, refl, sym, ap, Bool, true, false, not, ◌&&◌, List, [], ◌∷◌, ℕ, inl, inr}
+use Rattle.std.proofs.Common.{◌≡◌, ◌∙◌, sym, ap, Bool, true, false, not, ◌&&◌, List, [], ◌∷◌, inl, inr}
 use Rattle.std.proofs.lemmas.Bool.{cases_Bool, not-true}
 use Rattle.std.proofs.lemmas.List.Kept.{IsStrictlySortedBy-filter}
 use Rattle.std.specs.List.{AllByRecursion, IsDistinct, filter}
@@ -7,7 +7,7 @@ use Rattle.std.specs.List.Sorted.{IsStrictlySortedBy}
 use Rattle.std.specs.Ordering.{is_gt, is_lt, ordering_then}
 use Rattle.std.specs.declared.cmp.Ordering.TheVariants.{Less}
 use Rattle.ifmap_ident.specs.declared.items.Item.{Item}
-use Rattle.ifmap_ident.specs.Items.{IsCanonItem, item_order, same_item}
+use Rattle.ifmap_ident.specs.Items.{IsCanonItem, same_item}
 use Rattle.ifmap_lemmas.specs.Filters.{all_around, all_filter, all_weaker, distinct_filter, filter_passes}
 use Rattle.ifmap_meta.specs.declared.metadata.Metadata.{Metadata}
 use Rattle.ifmap_meta.specs.declared.stored.Stored.{Stored}
@@ -29,7 +29,6 @@ use Rattle.ifmap_view.specs.Rows.{stored_on}
 use Rattle.ifmap_publish.specs.Apply.{Authorship, apply, apply_op, attach, attachment_of, life_of, update}
 use Rattle.ifmap_publish.specs.Working.{IsSound}
 use Rattle.ifmap_publish.proofs.Items.{tied, told_as}
-use Rattle.ifmap_plans.specs.laws.KeyLaws.{items_equiv}
 
 pub graph_filter : (p : Attachment → Bool) (rows : List Attachment) → IsGraph rows → IsGraph (filter p rows)
 graph_filter p rows g = record {

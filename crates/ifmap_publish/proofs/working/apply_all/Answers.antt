@@ -1,4 +1,3 @@
-use Rattle.std.proofs.Common.{refl}
 use Rattle.std.specs.BTreeMap.{get}
 use Rattle.ifmap_ident.specs.Items.{item_order}
 use Rattle.ifmap_publish.specs.Working.{working}
