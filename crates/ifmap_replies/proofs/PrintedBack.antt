@@ -1,5 +1,5 @@
 -- The bytes of a reply that is fit mean it.
-use Rattle.std.proofs.Common.{◌≤◌, subst, sym}
+use Rattle.std.proofs.Common.{◌≤◌, arith, subst, sym}
 use Rattle.ifmap_elem.specs.Canonical.{canonical_bytes, canonical_reading}
 use Rattle.ifmap_elem.specs.Fit.{IsFit}
 use Rattle.ifmap_elem.specs.Nesting.{nesting}
@@ -19,6 +19,7 @@ module _ (spelled : (e : Element) → IsFit e → Spells (canonical_bytes e) (ca
       record {
         reading = canonical_reading e;
         spelled = spelled e good.fit;
-        shallow = subst (λ (x : Element). nesting x ≤ 71) (sym good.arranged) good.within;
+        shallow = let within = good.within in
+            subst (λ (x : Element). nesting x ≤ 80) (sym good.arranged) (omega (arith, within));
         reply = subst (λ (x : Element). IsReplyOf x answer) (sym good.arranged) meant;
       }

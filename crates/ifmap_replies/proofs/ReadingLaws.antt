@@ -37,16 +37,16 @@ refused_answer Meant (Err e) error is f = subst (λ (x : ReplyError). IsAnswer M
 -- ---- bodies
 
 module _ (bytes : List ℕ) where
-  pub spells_nothing : (at : ℕ) → IsUnreadable bytes 71 at → (answer : Reply) → Means bytes answer → ⊥
+  pub spells_nothing : (at : ℕ) → IsUnreadable bytes 80 at → (answer : Reply) → Means bytes answer → ⊥
   spells_nothing at u answer m = u.none m.reading m.spelled
 
-  pub spells_too_deep : (at : ℕ) → IsTooDeep bytes 71 at → (answer : Reply) → Means bytes answer → ⊥
+  pub spells_too_deep : (at : ℕ) → IsTooDeep bytes 80 at → (answer : Reply) → Means bytes answer → ⊥
   spells_too_deep at u answer m =
-      let deep : 71 < nesting m.reading.root = u.deeper m.reading m.spelled in
-      let shallow : nesting m.reading.root ≤ 71 = m.shallow in
+      let deep : 80 < nesting m.reading.root = u.deeper m.reading m.spelled in
+      let shallow : nesting m.reading.root ≤ 80 = m.shallow in
       omega (arith, deep, shallow)
 
-  module _ (reading : Reading) (spelled : Spells bytes reading) (shallow : nesting reading.root ≤ 71)
+  module _ (reading : Reading) (spelled : Spells bytes reading) (shallow : nesting reading.root ≤ 80)
       (one : (other : Reading) → Spells bytes other → reading ≡ other) where
     pub body_answer : (r : Result Reply ReplyError) → IsAnswer (IsReplyOf reading.root) r → IsAnswer (Means bytes) r
     body_answer (Ok answer) f = record { reading = reading; spelled = spelled; shallow = shallow; reply = f }

@@ -15,9 +15,9 @@ pub record IsReplyOf (e : Element) (answer : Reply) : Type 0 where
   pub envelope : IsEnvelope e path response
   pub checked : response_check response (Ok answer)
 
--- how many levels a reply can have: an element of 64 levels stands in the seventh at most
+-- how many levels a reply that is read can have; one that is fit has 71 at most, as an element of 64 stands below seven others
 abbrev pub reply_levels : ℕ
-reply_levels = 71
+reply_levels = 80
 
 -- the bytes spell an element of so many levels at most that means this reply
 pub record Means (bytes : List ℕ) (answer : Reply) : Type 0 where

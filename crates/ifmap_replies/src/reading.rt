@@ -13,7 +13,7 @@ use ifmap_reader::{ReadError, read};
 use std::alloc::Global;
 
 // How many levels a reply can have.
-const LEVELS: u32 = 71;
+const LEVELS: u32 = 80;
 
 /// The reply that an element means, an envelope of a response with one result; `NotAReply` exactly
 /// where it means none.
@@ -25,7 +25,7 @@ pub fn reply_of(alloc: Global, element: &Element) -> Result<Reply, ReplyError>
 }
 
 /// The reply that a body means in any spelling of its element; `NotAReply` exactly where it means
-/// none, or has more than 71 levels.
+/// none, or has more than 80 levels.
 pub fn read_reply(alloc: Global, body: &[u8]) -> Result<Reply, ReplyError>
     ensures { IsAnswer (Means body.now) result }
 {
