@@ -40,7 +40,7 @@ pub none_same : (s : Stored) (xs : List Stored) → AllAbove s xs → list_any (
 none_same s [] all = refl
 none_same s (x ∷ xs) all = ap (λ b. b || list_any (same_stored s) xs) (less_differs s x all.0) ∙ none_same s xs all.1
 
-filter_alike : {X : Type 0} (p q : X → Bool) (xs : List X) → AllByRecursion (λ x. p x ≡ q x) xs → filter p xs ≡ filter q xs
+pub filter_alike : {X : Type 0} (p q : X → Bool) (xs : List X) → AllByRecursion (λ x. p x ≡ q x) xs → filter p xs ≡ filter q xs
 filter_alike p q [] all = refl
 filter_alike p q (x ∷ xs) all =
     ap (λ b. cond b (x ∷ filter p xs) (filter p xs)) all.0 ∙ ap (λ ys. cond (q x) (x ∷ ys) ys) (filter_alike p q xs all.1)

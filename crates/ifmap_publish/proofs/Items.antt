@@ -41,7 +41,7 @@ told_as x a b e = items_equiv.symm a b ∙ items_equiv.congr b x a e ∙ items_e
 pub ordered_as : (x a b : Item) → same_item b x ≡ true → item_order b a ≡ item_order x a
 ordered_as x a b e = items_total.congr b x a (tied b x e)
 
-every : {X : Type 0} (xs : List X) → AllByRecursion (λ x. true ≡ true) xs
+pub every : {X : Type 0} (xs : List X) → AllByRecursion (λ x. true ≡ true) xs
 every [] = tt
 every (x ∷ xs) = (refl, every xs)
 

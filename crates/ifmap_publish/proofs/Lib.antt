@@ -5,4 +5,5 @@ pub mod Entries
 pub mod Graphs
 pub mod Items
 pub mod Passing
+pub mod Retracted
 pub mod Same

@@ -67,3 +67,14 @@ same_is a b v w e =
     let publisher = eq_tells a.publisher b.publisher texts.1 in
     let life = life_tells a.life b.life parts.1 in
     (λ i. record { element = element i; publisher = publisher i; life = life i })
+
+-- and of one lifetime and publisher, whole or not
+pub life_same : (a b : Stored) → same_stored a b ≡ true → a.life ≡ b.life
+life_same a b e =
+    life_tells a.life b.life
+    (and_parts (bytes_eq (stored_bytes a) (stored_bytes b) && bytes_eq a.publisher b.publisher) (same_life a.life b.life) e).1
+
+pub publisher_same : (a b : Stored) → same_stored a b ≡ true → a.publisher ≡ b.publisher
+publisher_same a b e =
+    let parts = and_parts (bytes_eq (stored_bytes a) (stored_bytes b) && bytes_eq a.publisher b.publisher) (same_life a.life b.life) e in
+    eq_tells a.publisher b.publisher (and_parts (bytes_eq (stored_bytes a) (stored_bytes b)) (bytes_eq a.publisher b.publisher) parts.0).1

@@ -8,9 +8,11 @@ mod differences;
 pub mod laws;
 mod notes;
 pub mod publishing;
+pub mod retracting;
 pub mod who;
 mod working;
 
 pub use authors::Author;
 pub use publishing::plan;
+pub use retracting::retract;
 pub use who::Who;

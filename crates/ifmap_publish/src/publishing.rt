@@ -116,7 +116,7 @@ fn add_change<V: View>(
 }
 
 // Whether something goes or comes.
-fn moves_something(removed: &[Row], added: &[Row]) -> bool
+pub(crate) fn moves_something(removed: &[Row], added: &[Row]) -> bool
     ensures yes { OnTrue result ((c : ItemChange)
         → kept_change c (removed.now ++ added.now) ≡ c ∷ []) }
     ensures no { OnFalse result ((c : ItemChange)
