@@ -2,3 +2,4 @@
 pub mod Differences
 pub mod Notes
 pub mod Folds
+pub mod laws

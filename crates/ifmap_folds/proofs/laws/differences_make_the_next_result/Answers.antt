@@ -3,7 +3,7 @@ use Rattle.ifmap_lemmas.specs.Texts.{eq_itself}
 use Rattle.ifmap_search.specs.declared.results.Entry.{Entry}
 use Rattle.ifmap_folds.specs.Differences.{difference}
 use Rattle.ifmap_folds.specs.Folds.{with_entries}
-use Rattle.ifmap_folds.proofs.Folding.{next_made}
+use Rattle.ifmap_folds.specs.laws.FoldingLaws.{next_made}
 use Rattle.ifmap_folds.proofs.laws.differences_make_the_next_result.Goals as goal
 
 pub returns : goal.returns

@@ -1,0 +1,16 @@
+pub mod Same
+pub mod Orders
+pub mod Joining
+pub mod Gathering
+pub mod Ordered
+pub mod Marking
+pub mod Telling
+pub mod Sizing
+pub mod Flipping
+pub mod Walking
+pub mod Settling
+pub mod Along
+pub mod Keeping
+pub mod Ties
+pub mod Repairing
+pub mod Showing

@@ -1,0 +1,3 @@
+-- Laws on the definitions, which crates above cite.
+pub mod RisingLaws
+pub mod FoldingLaws
