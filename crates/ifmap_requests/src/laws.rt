@@ -10,8 +10,8 @@ use ifmap_reader::laws::{
     bytes_spell_an_element_or_none, what_bytes_declare_fits, what_bytes_spell_fits,
 };
 
-/// An element means one request at most, or has one code at most, in given scopes; and an element
-/// that a document can have has one of both.
+/// In given scopes an element has one request or one code, and not both; and an element that a
+/// document can have has one of them.
 pub fn elements_have_one_request_or_code()
     ensures one { OneRequest }
     ensures some { RequestOrCode }
@@ -30,7 +30,7 @@ pub fn bodies_have_one_meaning()
     envelopes_hold_one_element();
 }
 
-/// And it means one of these.
+/// A body means something: a request, a code, or that it is no envelope.
 pub fn bodies_mean_something()
     ensures { SomeMeaning }
 {
