@@ -33,9 +33,9 @@ pub first_rises : {X : Type 0} (e : Item × X) (es : List (Item × X)) → Rises
 unfolding IsStrictlySortedBy
 first_rises e es r = r
 
-pub nothing_rises : {X : Type 0} → Rises {X = X} []
+pub nothing_rises : (X : Type 0) → Rises {X = X} []
 unfolding IsStrictlySortedBy
-nothing_rises = tt
+nothing_rises X = tt
 
 pub rises_first : {X : Type 0} (e : Item × X) (es : List (Item × X)) → AllByRecursion (λ y. item_order e.0 y ≡ Less) (map (λ e. e.0) es)
     → Rises es → Rises (e ∷ es)

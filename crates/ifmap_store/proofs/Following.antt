@@ -78,7 +78,7 @@ module _ {X : Type 0} where
       at false rest = rest
 
   kept_rises : (p : Item × X → Bool) (es : List (Item × X)) → Rises es → Rises (filter p es)
-  kept_rises p [] r = nothing_rises
+  kept_rises p [] r = nothing_rises X
   kept_rises p (e ∷ es) r = at (p e) (kept_rises p es (first_rises e es r).1)
     where
       at : (b : Bool) → Rises (filter p es) → Rises (cond b (e ∷ filter p es) (filter p es))

@@ -14,11 +14,12 @@ use Rattle.ifmap_ident.specs.declared.items.Item.{Item}
 use Rattle.ifmap_ident.specs.declared.items.Item.TheVariants.{One, Pair}
 use Rattle.ifmap_ident.specs.Canon.{IsIdentifier}
 use Rattle.ifmap_ident.specs.Identifiers.{identifier_bytes, identifier_order}
-use Rattle.ifmap_pool.specs.Holdings.{Frees, Holdings, HoldsAgain, IsAbsent, LetsGo, Names, Takes, entry_at, holds_at, key_at}
+use Rattle.ifmap_ident.specs.Items.{IsItem}
+use Rattle.ifmap_pool.specs.Holdings.{Frees, Holdings, HoldsAgain, IsAbsent, IsHeld, LetsGo, Names, Takes, entry_at, holds_at, key_at, once}
 use Rattle.ifmap_store.specs.declared.ends.Ends as the_ends
 use Rattle.ifmap_store.specs.declared.ends.Ends.TheVariants as ends
 use Rattle.ifmap_store.specs.declared.shelves.Shelf.{Shelf}
-use Rattle.ifmap_store.specs.Named.{AreEnds, AreIdentifiers, AreNumbered, HasEnds}
+use Rattle.ifmap_store.specs.Named.{AreEnds, AreIdentifiers, AreNumbered, HasEnds, named_by}
 use Rattle.ifmap_store.proofs.Alike.{alike_equal, equal_alike}
 
 pub add_two : (n x y : ℕ) → (n + x) + y ≡ n + (x + y)
@@ -145,3 +146,30 @@ module _ (old new : Holdings Identifier) (r : ℕ) (live : IsSome (entry_at old 
     | inl q ↦ all r k (same_key (entry_at old r) refl k (ap (key_at new) (sym q) ∙ e))
     | inr o ↦ all v k (sym (ap (option_map (λ y. y.0)) (others v o)) ∙ e)
   ]
+
+-- a lone identifier's number is let go
+module _ (old new : Holdings Identifier) (v : ℕ) where
+  pub one_live : (item : Item) → AreEnds old item (ends.One v) → IsSome (entry_at old v)
+  one_live (One a) n = subst (λ (o : Option (Identifier × ℕ)). IsSome o) (sym n.1) refl
+  one_live (Pair a b) n = absurd n
+
+  pub one_released : ((a other : Identifier) (count : ℕ) → Names identifier_order old v a → IsHeld identifier_order old other count
+          → IsHeld identifier_order new other (count - once identifier_order a other))
+      → (item : Item) (other : Identifier) (count : ℕ) → AreEnds old item (ends.One v) → IsHeld identifier_order old other count
+      → IsHeld identifier_order new other (count - named_by item other)
+  one_released held (One a) other count n h = held a other count n h
+  one_released held (Pair a b) other count n h = absurd n
+
+-- the numbers of a link are let go
+module _ (old new : Holdings Identifier) (v w : ℕ) where
+  pub pair_live : (item : Item) → IsItem item → AreEnds old item (ends.Pair v w)
+      → (a : Identifier) × (b : Identifier) × (identifier_order a b ≡ Less) × Names identifier_order old v a × Names identifier_order old w b
+  pair_live (One a) i n = absurd n
+  pair_live (Pair a b) i n = (a, b, i, n.0, n.1)
+
+  pub pair_released : ((a b other : Identifier) (count : ℕ) → Names identifier_order old v a → Names identifier_order old w b
+          → IsHeld identifier_order old other count → IsHeld identifier_order new other (count - named_by (Pair a b) other))
+      → (item : Item) (other : Identifier) (count : ℕ) → AreEnds old item (ends.Pair v w) → IsHeld identifier_order old other count
+      → IsHeld identifier_order new other (count - named_by item other)
+  pair_released held (One a) other count n h = absurd n
+  pair_released held (Pair a b) other count n h = held a b other count n.0 n.1 h

@@ -13,9 +13,9 @@ use Rattle.ifmap_ident.specs.Identifiers.{identifier_bytes, identifier_order}
 use Rattle.ifmap_meta.specs.declared.stored.Stored.{Stored}
 use Rattle.ifmap_pool.specs.Holdings.{Holdings, IsPool, Names, entry_at, key_at}
 use Rattle.ifmap_view.specs.declared.views.LinkSeen.{LinkSeen}
-use Rattle.ifmap_view.specs.Attachments.{IsCanonItem}
 use Rattle.ifmap_view.specs.Rows.{stored_linked}
 use Rattle.ifmap_view.specs.Views.{IsView}
+use Rattle.ifmap_ident.specs.Items.{IsCanonItem}
 use Rattle.ifmap_store.specs.declared.ends.Ends as the_ends
 use Rattle.ifmap_store.specs.declared.ends.Ends.TheVariants as ends
 use Rattle.ifmap_store.specs.declared.shelves.Shelf.{Shelf}

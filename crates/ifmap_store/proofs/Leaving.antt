@@ -14,9 +14,8 @@ use Rattle.ifmap_ident.specs.declared.identifiers.Identifier.{Identifier}
 use Rattle.ifmap_ident.specs.declared.items.Item.{Item}
 use Rattle.ifmap_ident.specs.declared.items.Item.TheVariants.{One, Pair}
 use Rattle.ifmap_ident.specs.Identifiers.{identifier_order}
-use Rattle.ifmap_ident.specs.Items.{item_order}
+use Rattle.ifmap_ident.specs.Items.{IsCanonItem, item_order}
 use Rattle.ifmap_pool.specs.Holdings.{once}
-use Rattle.ifmap_view.specs.Attachments.{IsCanonItem}
 use Rattle.ifmap_store.specs.declared.shelves.Shelf.{Shelf}
 use Rattle.ifmap_store.specs.Named.{named_by, named_in}
 use Rattle.ifmap_store.specs.Shelved.{IsPlaced, Rises, Side, list_at, row_on, rows_by}

@@ -11,9 +11,8 @@ use Rattle.std.specs.declared.cmp.Ordering.{Ordering}
 use Rattle.std.specs.declared.cmp.Ordering.TheVariants.{Less, Equal, Greater}
 use Rattle.ifmap_lemmas.specs.Having.{Has}
 use Rattle.ifmap_ident.specs.declared.items.Item.{Item}
-use Rattle.ifmap_ident.specs.Items.{item_order}
+use Rattle.ifmap_ident.specs.Items.{IsCanonItem, item_order}
 use Rattle.ifmap_meta.specs.declared.stored.Stored.{Stored}
-use Rattle.ifmap_view.specs.Attachments.{IsCanonItem}
 use Rattle.ifmap_store.specs.declared.shelves.Shelf.{Shelf}
 use Rattle.ifmap_store.specs.Shelved.{IsPlaced, Rises, Side, list_at, row_on, rows_by}
 use Rattle.ifmap_store.specs.Sides.{Sides}
@@ -30,7 +29,7 @@ unfolding IsDistinct
 no_slots = tt
 
 pub nothing_placed : (look : ℕ → Option Shelf) → IsPlaced look []
-nothing_placed look = record { rising = nothing_rises; canon = tt; live = tt; apart = no_slots }
+nothing_placed look = record { rising = nothing_rises ℕ; canon = tt; live = tt; apart = no_slots }
 
 pub slots_first : (e : Item × ℕ) (es : Entries) → IsDistinct nat_eq (slots_of (e ∷ es)) → AllByRecursion (λ y. nat_eq e.1 y ≡ false) (slots_of es) × IsDistinct nat_eq (slots_of es)
 unfolding IsDistinct

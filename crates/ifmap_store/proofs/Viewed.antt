@@ -20,11 +20,10 @@ use Rattle.ifmap_ident.specs.declared.items.Item.{Item}
 use Rattle.ifmap_ident.specs.declared.items.Item.TheVariants.{One, Pair}
 use Rattle.ifmap_ident.specs.Canon.{IsIdentifier}
 use Rattle.ifmap_ident.specs.Identifiers.{identifier_bytes, identifier_order}
-use Rattle.ifmap_ident.specs.Items.{item_order, ordered_pair, pair_of}
+use Rattle.ifmap_ident.specs.Items.{IsCanonItem, item_order, ordered_pair, pair_of}
 use Rattle.ifmap_meta.specs.declared.stored.Stored.{Stored}
 use Rattle.ifmap_view.specs.declared.attachments.Attachment.{Attachment}
 use Rattle.ifmap_view.specs.declared.views.LinkSeen.{LinkSeen}
-use Rattle.ifmap_view.specs.Attachments.{IsCanonItem}
 use Rattle.ifmap_view.specs.Rows.{stored_on, stored_where, stored_between, stored_linked}
 use Rattle.ifmap_view.specs.Views.{IsLink, others}
 use Rattle.ifmap_store.specs.Joined.{AreJoined, AreSingle, IsNumber, is_full}

@@ -3,9 +3,9 @@ ghost use Rattle.std.specs.Prelude.{◌≡◌, ℕ, ◌+◌, ◌-◌, ◌<◌, �
 ghost use Rattle.slab.specs.Slab.{get};
 ghost use Rattle.ifmap_ident.specs.declared.identifiers.Identifier.{Identifier};
 ghost use Rattle.ifmap_ident.specs.Identifiers.{identifier_order};
+ghost use Rattle.ifmap_ident.specs.Items.{IsCanonItem};
 ghost use Rattle.ifmap_pool.specs.Holdings.{IsHeld, holds_at};
 ghost use Rattle.ifmap_view.specs.declared.views.LinkSeen.{LinkSeen};
-ghost use Rattle.ifmap_view.specs.Attachments.{IsCanonItem};
 ghost use Rattle.ifmap_store.specs.Held.{IsInside};
 ghost use Rattle.ifmap_store.specs.Named.{named_by, named_in};
 ghost use Rattle.ifmap_store.specs.Shelved.{IsBare, Side, place_of, rows_of};
@@ -30,7 +30,7 @@ pub(crate) fn lengthen(
     ensures longer { length links.old.items ≤ length links.new.items }
     ensures ok { OnOk result (n ≤ length links.new.items) }
 {
-    while (links.len() as u64) < n {
+    'room: while (links.len() as u64) < n {
         links.push(Sided::new(alloc))?;
     }
     Ok(())

@@ -8,8 +8,8 @@ use Rattle.ifmap_store.proofs.ends.release_pair.Goals as goal
 pub release-requires : goal.release-requires
 release-requires c = subst (λ (o : Option (Identifier × ℕ)). IsSome o) (sym c.requires.3.1) refl
 
-pub release-2-requires : goal.release-2-requires
-release-2-requires c =
+pub release-requires-2 : goal.release-requires-2
+release-requires-2 c =
     let d = numbers_differ c.args.names.now c.args.one c.args.two c.requires.0 c.requires.1 c.requires.2 c.requires.3 c.requires.4
     in subst (λ (o : Option (Identifier × ℕ)). IsSome o) (sym (c.release.ensures.others c.args.two d ∙ c.requires.4.1)) refl
 
