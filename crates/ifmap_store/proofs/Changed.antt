@@ -30,10 +30,10 @@ use Rattle.ifmap_store.proofs.Viewed.{all_has}
 
 -- what lives is the same
 module _ (old new : Holdings Identifier) (live : new.live ≡ old.live) where
-  names_alike : (v : ℕ) (a : Identifier) → Names identifier_order old v a → Names identifier_order new v a
+  pub names_alike : (v : ℕ) (a : Identifier) → Names identifier_order old v a → Names identifier_order new v a
   names_alike v a n = (n.0, ap (λ l. get l v) live ∙ n.1, n.2)
 
-  all_same : (look : ℕ → Option Shelf) (es : Entries) → AllByRecursion (λ e. look e.1 ≡ look e.1) es
+  pub all_same : (look : ℕ → Option Shelf) (es : Entries) → AllByRecursion (λ e. look e.1 ≡ look e.1) es
   all_same look [] = tt
   all_same look (e ∷ es) = (refl, all_same look es)
 
@@ -93,7 +93,7 @@ inside_comes old new look later es entries links item at shelf is placed used nu
 }
 
 -- what is taken from own holds
-own_less : (n own k : ℕ) → k ≤ own → (n + own) - k ≡ n + (own - k)
+pub own_less : (n own k : ℕ) → k ≤ own → (n + own) - k ≡ n + (own - k)
 own_less n own k l = omega (arith, l)
 
 -- what is named and held is less by what goes

@@ -19,5 +19,7 @@ pub mod Empty
 pub mod Arriving
 pub mod Departing
 pub mod Changed
+pub mod Own
+pub mod Joining
 pub mod Bare
 pub mod Beginning

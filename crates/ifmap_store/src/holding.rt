@@ -16,6 +16,7 @@ ghost use Rattle.ifmap_store.specs.Turning.{sides_at};
 use crate::graph::Graph;
 use crate::placing::{lengthen, place_shelf};
 use ifmap_elem::Copied;
+use ifmap_ident::laws::bytes_tell_identifiers_apart;
 use ifmap_ident::{Identifier, Item};
 use std::alloc::{AllocError as NoMemory, Global};
 
@@ -56,6 +57,7 @@ impl Graph {
         ensures waiting { self.new.waiting ≡ self.old.waiting }
         ensures err { OnErr result (self.new.names.live ≡ self.old.names.live) }
     {
+        bytes_tell_identifiers_apart();
         let key = id.copy(alloc)?;
         self.names.reserve(1)?;
         lengthen(&mut self.links, alloc, self.names.limit())?;

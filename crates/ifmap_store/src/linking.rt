@@ -1,7 +1,7 @@
 //! The links of a number as they are to be, once the drafts of shelves are set: those that stay, and
 //! those that come.
-ghost use Rattle.std.specs.Prelude.{◌≡◌, ◌&&◌, ◌++◌, not, IfOk, Some, None, OnOk, cond};
-ghost use Rattle.std.specs.List.{filter, filter_map};
+ghost use Rattle.std.specs.Prelude.{◌≡◌, ◌&&◌, ◌++◌, not, IfOk, [], Some, None, OnOk, cond};
+ghost use Rattle.std.specs.List.{cons_option, filter, filter_map};
 ghost use Rattle.slab.specs.Slab.{get};
 ghost use Rattle.ifmap_store.specs.Joined.{is_full, joined, two_of};
 ghost use Rattle.ifmap_store.specs.Linked.{changed, far_of, seen_at};
@@ -88,6 +88,16 @@ fn keep_links(
     Ok(())
 }
 
+// A link, where one was found.
+fn add_found(list: &mut Vec<LinkSeen>, found: Option<LinkSeen>) -> Result<(), NoMemory>
+    ensures { OnOk result (list.new.items ≡ list.old.items ++ cons_option found []) }
+{
+    if let Some(seen) = found {
+        list.push(seen)?;
+    }
+    Ok(())
+}
+
 // The links that come from slots that were touched.
 fn add_links(
     list: &mut Vec<LinkSeen>,
@@ -100,9 +110,7 @@ fn add_links(
         (seen_at at (far_of (joined (get slots.now at)) number)) None) touched.now) }
 {
     for at in touched {
-        if let Some(seen) = coming_link(slots, *at, number) {
-            list.push(seen)?;
-        }
+        add_found(list, coming_link(slots, *at, number))?;
     }
     Ok(())
 }
