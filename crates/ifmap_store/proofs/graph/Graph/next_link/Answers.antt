@@ -5,7 +5,11 @@ use Rattle.ifmap_store.specs.Sides.{next}
 use Rattle.ifmap_store.proofs.graph.Graph.next_link.Goals as goal
 
 pub link_in-requires : goal.link_in-requires
-link_in-requires c = subst (λ (l : List LinkSeen). c.args.i < length l) (sym c.links_next.ensures) (rw (← c.self.view_is) at c.requires)
+link_in-requires c =
+    subst (λ (l : List LinkSeen). c.args.i < length l) (sym (c.links_next.ensures ∙ ap (λ l. links_at next l c.args.number) c.deref.ensures.value))
+    (rw (← c.self.view_is) at c.requires)
 
 pub returns : goal.returns
-returns c = rw (← c.self.view_is) (ap (λ l. slice_get l c.args.i) (sym c.links_next.ensures) ∙ c.link_in.ensures)
+returns c =
+    rw (← c.self.view_is)
+    (ap (λ l. slice_get l c.args.i) (sym (c.links_next.ensures ∙ ap (λ l. links_at next l c.args.number) c.deref.ensures.value)) ∙ c.link_in.ensures)
