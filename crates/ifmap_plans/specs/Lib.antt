@@ -1,0 +1,6 @@
+-- What changes of a graph mean, in reading order.
+pub mod Placing
+pub mod Lists
+pub mod Plans
+pub mod After
+pub mod laws
