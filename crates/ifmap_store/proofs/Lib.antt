@@ -22,4 +22,5 @@ pub mod Changed
 pub mod Own
 pub mod Joining
 pub mod Bare
+pub mod Accepting
 pub mod Beginning

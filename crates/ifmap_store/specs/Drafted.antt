@@ -1,11 +1,11 @@
 -- Where drafts stand.
 use Rattle.std.specs.Prelude.{◌≡◌, ℕ, List, Option, Some, None}
-use Rattle.std.specs.List.{AllByRecursion}
+use Rattle.std.specs.List.{AllByRecursion, IsDistinct}
 use Rattle.std.specs.declared.cmp.Ordering.TheVariants.{Equal}
 use Rattle.slab.specs.Slab.{get}
 use Rattle.ifmap_lemmas.specs.Having.{Has}
 use Rattle.ifmap_ident.specs.declared.items.Item.{Item}
-use Rattle.ifmap_ident.specs.Items.{item_order}
+use Rattle.ifmap_ident.specs.Items.{item_order, same_item}
 use Rattle.ifmap_store.specs.declared.shelves.Shelf.{Shelf}
 use Rattle.ifmap_store.specs.declared.shelves.Shelves.{Shelves}
 use Rattle.ifmap_store.specs.Shelved.{HasDraft}
@@ -22,3 +22,9 @@ AreBare s = AllByRecursion (λ e. NoDraft (get s.slots e.1)) s.places.entries
 -- shelves with a draft are those of these items alone
 abbrev pub DraftsWithin : List Item → Shelves → Type 0
 DraftsWithin items s = (x : Item) → HasDraft s x → (i : Item) × Has items i × (item_order i x ≡ Equal)
+
+-- a change of these items is out: no two are the same, and the shelves of these have drafts, and no others
+pub record AreOut (items : List Item) (s : Shelves) : Type 0 where
+  pub drafted : AllByRecursion (HasDraft s) items
+  pub within : DraftsWithin items s
+  pub apart : IsDistinct same_item items

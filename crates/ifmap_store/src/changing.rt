@@ -1,5 +1,5 @@
 //! What changes in one shelf: its draft, its list, and how often it is waited for. No call takes memory.
-ghost use Rattle.std.specs.Prelude.{◌≡◌, ◌+◌, ◌-◌, ◌<◌, ◌^◌, List, ◌∷◌, false, Some, None, IsSome, if◌then◌else◌};
+ghost use Rattle.std.specs.Prelude.{◌≡◌, ℕ, ◌+◌, ◌-◌, ◌<◌, ◌^◌, List, ◌∷◌, false, Some, None, IsSome, if◌then◌else◌};
 ghost use Rattle.std.specs.BTreeMap.{is_at};
 ghost use Rattle.slab.specs.Slab.{get, with_value};
 ghost use Rattle.ifmap_ident.specs.declared.items.Item.{Item};
@@ -7,7 +7,7 @@ ghost use Rattle.ifmap_ident.specs.Items.{item_order};
 ghost use Rattle.ifmap_meta.specs.declared.stored.Stored.{Stored};
 ghost use Rattle.ifmap_view.specs.Rows.{stored_on};
 ghost use Rattle.ifmap_store.specs.declared.shelves.Shelf.{Shelf};
-ghost use Rattle.ifmap_store.specs.Shelved.{AreShelved, HasDraft, HasNoDraft, place_of, rows_of};
+ghost use Rattle.ifmap_store.specs.Shelved.{AreShelved, HasDraft, HasNoDraft, ends_at, place_of, rows_of};
 ghost use Rattle.ifmap_store.specs.Sides.{next, now};
 ghost use Rattle.ifmap_store.specs.Waits.{AreWaited, waits_on};
 
@@ -90,6 +90,8 @@ impl Shelves {
         ensures next { (x : Item) → stored_on x (rows_of next self.new)
             ≡ (if is_at (item_order item.now) x then list.items
             else stored_on x (rows_of next self.old)) }
+        ensures ends { (at : ℕ) → ends_at self.new at ≡ ends_at self.old at }
+        ensures waits { (x : Item) → waits_on self.new x ≡ waits_on self.old x }
         ensures places { self.new.places ≡ self.old.places }
     {
         let at = self.places[item];
@@ -110,6 +112,8 @@ impl Shelves {
             → HasDraft self.old x × (is_at (item_order item.now) x ≡ false) }
         ensures kept { (x : Item) → is_at (item_order item.now) x ≡ false → HasDraft self.old x
             → HasDraft self.new x }
+        ensures ends { (at : ℕ) → ends_at self.new at ≡ ends_at self.old at }
+        ensures waits { (x : Item) → waits_on self.new x ≡ waits_on self.old x }
         ensures places { self.new.places ≡ self.old.places }
     {
         let at = self.places[item];
@@ -127,6 +131,8 @@ impl Shelves {
             else rows_of next self.old) }
         ensures drafts { (x : Item) → HasDraft self.new x
             → HasDraft self.old x × (is_at (item_order item.now) x ≡ false) }
+        ensures ends { (at : ℕ) → ends_at self.new at ≡ ends_at self.old at }
+        ensures waits { (x : Item) → waits_on self.new x ≡ waits_on self.old x }
         ensures places { self.new.places ≡ self.old.places }
     {
         let at = self.places[item];
@@ -143,6 +149,7 @@ impl Shelves {
             → AreWaited (item.now ∷ rest) (waits_on self.new) }
         ensures now { rows_of now self.new ≡ rows_of now self.old }
         ensures next { rows_of next self.new ≡ rows_of next self.old }
+        ensures ends { (at : ℕ) → ends_at self.new at ≡ ends_at self.old at }
         ensures places { self.new.places ≡ self.old.places }
     {
         let at = self.places[item];
@@ -160,6 +167,7 @@ impl Shelves {
             → AreWaited rest (waits_on self.new) }
         ensures now { rows_of now self.new ≡ rows_of now self.old }
         ensures next { rows_of next self.new ≡ rows_of next self.old }
+        ensures ends { (at : ℕ) → ends_at self.new at ≡ ends_at self.old at }
         ensures places { self.new.places ≡ self.old.places }
     {
         let at = self.places[item];
@@ -178,6 +186,8 @@ impl Shelves {
             ≡ (if is_at (item_order item.now) x then list.old.items
             else stored_on x (rows_of next self.old)) }
         ensures old { list.new.items ≡ stored_on item.now (rows_of now self.old) }
+        ensures ends { (at : ℕ) → ends_at self.new at ≡ ends_at self.old at }
+        ensures waits { (x : Item) → waits_on self.new x ≡ waits_on self.old x }
         ensures places { self.new.places ≡ self.old.places }
     {
         let at = self.places[item];

@@ -20,5 +20,4 @@ pub use ends::Ends;
 pub use graph::Graph;
 pub use shelves::{Shelf, Shelves};
 pub use sided::Sided;
-pub use turning::Out;
 pub use ways::Way;

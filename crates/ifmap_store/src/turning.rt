@@ -1,50 +1,117 @@
-//! The items of a change that is out: their drafts are accepted, or taken back. No call takes memory.
-ghost use Rattle.std.specs.Prelude.{◌≡◌, false};
+//! The items of a change that is out, one after another: their drafts are accepted, or taken back. No call takes
+//! memory.
+ghost use Rattle.std.specs.Prelude.{◌≡◌, ℕ, ◌<◌, false, IsSome, length, map, set, slice_index_or};
 ghost use Rattle.ifmap_ident.specs.declared.items.Item.{Item};
 ghost use Rattle.ifmap_ident.specs.Items.{same_item};
+ghost use Rattle.ifmap_plans.specs.declared.plans.ItemChange.{ItemChange};
 ghost use Rattle.ifmap_view.specs.Rows.{stored_on};
-ghost use Rattle.ifmap_store.specs.Shelved.{AreShelved, HasDraft, rows_of};
+ghost use Rattle.ifmap_store.specs.Drafted.{AreBare, AreOut};
+ghost use Rattle.ifmap_store.specs.Shelved.{AreShelved, HasDraft, ends_at, place_of, rows_of};
 ghost use Rattle.ifmap_store.specs.Sides.{next, now};
+ghost use Rattle.ifmap_store.specs.Waits.{waits_on};
 
 use crate::shelves::Shelves;
+use ifmap_elem::Many;
 use ifmap_ident::Item;
+use ifmap_plans::ItemChange;
 use ifmap_view::Row;
-use std::marker::Model;
 
-/// An item of a change, with room for the list that was there.
-#[derive(Drop)]
-pub struct Out {
-    pub(crate) item: Item,
-    pub(crate) list: Vec<Row>,
-}
-
-impl Model for Out {
-    ghost use Rattle.std.specs.Prelude.{List};
-    ghost use Rattle.std.specs.Coded.{coded×, coded_list};
-    ghost use Rattle.ifmap_ident.specs.contracts.items.Item as the_item;
-    ghost use Rattle.ifmap_ident.specs.declared.items.Item.{Item};
-    ghost use Rattle.ifmap_meta.specs.contracts.stored.Stored as the_stored;
-    ghost use Rattle.ifmap_meta.specs.declared.stored.Stored.{Stored};
-
-    ghost Value = { Item × List Stored };
-
-    ghost coded = { coded× the_item.the_row.coded (coded_list the_stored.the_row.coded) };
-
-    ghost view = { λ o. (o.item, o.list.items) };
-}
-
-// The draft of one item is accepted, and the list that was there stands in its place.
-fn accept_one(shelves: &mut Shelves, out: &mut Out)
+// The draft of one item is accepted, and the list that was there comes in place of the one given.
+fn accept_one(shelves: &mut Shelves, item: &Item, list: &mut Many<Row>)
     requires shelved { AreShelved shelves.old }
-    requires drafted { HasDraft shelves.old out.old.0 }
+    requires drafted { HasDraft shelves.old item.now }
     ensures shelved { AreShelved shelves.new }
     ensures next { rows_of next shelves.new ≡ rows_of next shelves.old }
-    ensures out { out.new ≡ (out.old.0, stored_on out.old.0 (rows_of now shelves.old)) }
+    ensures list { list.new ≡ stored_on item.now (rows_of now shelves.old) }
     ensures drafts { (x : Item) → HasDraft shelves.new x
-        → HasDraft shelves.old x × (same_item x out.old.0 ≡ false) }
-    ensures others { (x : Item) → same_item x out.old.0 ≡ false
+        → HasDraft shelves.old x × (same_item x item.now ≡ false) }
+    ensures others { (x : Item) → same_item x item.now ≡ false
         → (HasDraft shelves.old x → HasDraft shelves.new x)
         × (stored_on x (rows_of now shelves.new) ≡ stored_on x (rows_of now shelves.old)) }
+    ensures ends { (at : ℕ) → ends_at shelves.new at ≡ ends_at shelves.old at }
+    ensures waits { (x : Item) → waits_on shelves.new x ≡ waits_on shelves.old x }
+    ensures places { shelves.new.places ≡ shelves.old.places }
 {
-    out.list = shelves.accept(&out.item);
+    list.0 = shelves.accept(item);
+}
+
+// The draft of the item at a place is accepted.
+fn accept_at(shelves: &mut Shelves, changes: &[ItemChange], lists: &mut [Many<Row>], i: usize)
+    requires shelved { AreShelved shelves.old }
+    requires place { i < length changes.now }
+    requires room { i < length lists.old }
+    requires drafted { (c : ItemChange) → HasDraft shelves.old (slice_index_or changes.now i c).item }
+    ensures shelved { AreShelved shelves.new }
+    ensures next { rows_of next shelves.new ≡ rows_of next shelves.old }
+    ensures lists { (c : ItemChange) → lists.new ≡ set lists.old i
+        (stored_on (slice_index_or changes.now i c).item (rows_of now shelves.old)) }
+    ensures drafts { (c : ItemChange) (x : Item) → HasDraft shelves.new x
+        → HasDraft shelves.old x × (same_item x (slice_index_or changes.now i c).item ≡ false) }
+    ensures others { (c : ItemChange) (x : Item)
+        → same_item x (slice_index_or changes.now i c).item ≡ false
+        → (HasDraft shelves.old x → HasDraft shelves.new x)
+        × (stored_on x (rows_of now shelves.new) ≡ stored_on x (rows_of now shelves.old)) }
+    ensures ends { (at : ℕ) → ends_at shelves.new at ≡ ends_at shelves.old at }
+    ensures waits { (x : Item) → waits_on shelves.new x ≡ waits_on shelves.old x }
+    ensures places { shelves.new.places ≡ shelves.old.places }
+{
+    accept_one(shelves, &changes[i].item, &mut lists[i]);
+}
+
+// What was to be stored is stored, and the lists that were there come in the places of those given.
+pub(crate) fn accept_changes(
+    shelves: &mut Shelves,
+    changes: &[ItemChange],
+    lists: &mut [Many<Row>],
+)
+    requires shelved { AreShelved shelves.old }
+    requires out { AreOut (map (λ c. c.item) changes.now) shelves.old }
+    requires long { length lists.old ≡ length changes.now }
+    ensures shelved { AreShelved shelves.new }
+    ensures bare { AreBare shelves.new }
+    ensures next { rows_of next shelves.new ≡ rows_of next shelves.old }
+    ensures now { rows_of now shelves.new ≡ rows_of next shelves.old }
+    ensures lists { lists.new
+        ≡ map (λ c. stored_on c.item (rows_of now shelves.old)) changes.now }
+    ensures ends { (at : ℕ) → ends_at shelves.new at ≡ ends_at shelves.old at }
+    ensures waits { (x : Item) → waits_on shelves.new x ≡ waits_on shelves.old x }
+    ensures places { shelves.new.places ≡ shelves.old.places }
+{
+    for i in 0..changes.len() {
+        accept_at(shelves, changes, lists, i);
+    }
+}
+
+// The draft of the item at a place is taken back.
+fn discard_at(shelves: &mut Shelves, changes: &[ItemChange], i: usize)
+    requires shelved { AreShelved shelves.old }
+    requires place { i < length changes.now }
+    requires there { (c : ItemChange)
+        → IsSome (place_of shelves.old (slice_index_or changes.now i c).item) }
+    ensures shelved { AreShelved shelves.new }
+    ensures now { rows_of now shelves.new ≡ rows_of now shelves.old }
+    ensures drafts { (c : ItemChange) (x : Item) → HasDraft shelves.new x
+        → HasDraft shelves.old x × (same_item x (slice_index_or changes.now i c).item ≡ false) }
+    ensures ends { (at : ℕ) → ends_at shelves.new at ≡ ends_at shelves.old at }
+    ensures waits { (x : Item) → waits_on shelves.new x ≡ waits_on shelves.old x }
+    ensures places { shelves.new.places ≡ shelves.old.places }
+{
+    shelves.discard(&changes[i].item);
+}
+
+// What is stored is what is to be: the drafts are taken back.
+pub(crate) fn discard_changes(shelves: &mut Shelves, changes: &[ItemChange])
+    requires shelved { AreShelved shelves.old }
+    requires out { AreOut (map (λ c. c.item) changes.now) shelves.old }
+    ensures shelved { AreShelved shelves.new }
+    ensures bare { AreBare shelves.new }
+    ensures now { rows_of now shelves.new ≡ rows_of now shelves.old }
+    ensures next { rows_of next shelves.new ≡ rows_of now shelves.old }
+    ensures ends { (at : ℕ) → ends_at shelves.new at ≡ ends_at shelves.old at }
+    ensures waits { (x : Item) → waits_on shelves.new x ≡ waits_on shelves.old x }
+    ensures places { shelves.new.places ≡ shelves.old.places }
+{
+    for i in 0..changes.len() {
+        discard_at(shelves, changes, i);
+    }
 }

@@ -2,7 +2,7 @@ use Rattle.std.proofs.Common.{Some, refl}
 use Rattle.slab.specs.Slab.{get}
 use Rattle.ifmap_store.specs.declared.shelves.Shelf.{Shelf}
 use Rattle.ifmap_store.specs.Sides.{next, now}
-use Rattle.ifmap_store.proofs.Writes.{drafts_left, shelved, comes, side_stays, slot_live, some_of}
+use Rattle.ifmap_store.proofs.Writes.{comes, drafts_left, ends_stay, shelved, side_stays, slot_live, some_of, waits_stay}
 use Rattle.ifmap_store.proofs.shelves.Shelves.discard.Goals as goal
 
 pub discard_at-requires : goal.discard_at-requires
@@ -35,4 +35,18 @@ returns-clause-drafts c =
     let s = some_of (get c.args.self.now.slots c.index-at.result.now)
     (slot_live (get c.args.self.now.slots) c.args.self.now.places.entries c.args.item.now c.index-at.result.now c.requires.shelved c.index-at.ensures)
     in drafts_left c.args.self.now.slots c.discard_at.new.slots c.args.self.now.places.entries c.requires.shelved c.args.item.now c.index-at.result.now
+    c.index-at.ensures s.0 _ s.1 (c.discard_at.ensures s.0 s.1) refl
+
+pub returns-clause-ends : goal.returns-clause-ends
+returns-clause-ends c =
+    let s = some_of (get c.args.self.now.slots c.index-at.result.now)
+    (slot_live (get c.args.self.now.slots) c.args.self.now.places.entries c.args.item.now c.index-at.result.now c.requires.shelved c.index-at.ensures)
+    in ends_stay c.args.self.now.slots c.discard_at.new.slots c.args.self.now.places.entries c.requires.shelved c.args.item.now c.index-at.result.now
+    c.index-at.ensures s.0 _ s.1 (c.discard_at.ensures s.0 s.1) refl
+
+pub returns-clause-waits : goal.returns-clause-waits
+returns-clause-waits c =
+    let s = some_of (get c.args.self.now.slots c.index-at.result.now)
+    (slot_live (get c.args.self.now.slots) c.args.self.now.places.entries c.args.item.now c.index-at.result.now c.requires.shelved c.index-at.ensures)
+    in waits_stay c.args.self.now.slots c.discard_at.new.slots c.args.self.now.places.entries c.requires.shelved c.args.item.now c.index-at.result.now
     c.index-at.ensures s.0 _ s.1 (c.discard_at.ensures s.0 s.1) refl

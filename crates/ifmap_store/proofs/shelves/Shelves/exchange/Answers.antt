@@ -4,7 +4,7 @@ use Rattle.slab.specs.Slab.{get}
 use Rattle.ifmap_store.specs.declared.shelves.Shelf.{Shelf}
 use Rattle.ifmap_store.specs.Shelved.{list_at}
 use Rattle.ifmap_store.specs.Sides.{next, now}
-use Rattle.ifmap_store.proofs.Writes.{shelved, shows}
+use Rattle.ifmap_store.proofs.Writes.{ends_stay, shelved, shows, waits_stay}
 use Rattle.ifmap_store.proofs.Finding.{found}
 use Rattle.ifmap_store.proofs.shelves.Shelves.exchange.Goals as goal
 
@@ -44,3 +44,17 @@ returns-clause-old c =
     in let had : get c.args.self.now.slots c.index-at.result.now ≡ Some c.requires.drafted.1 = ap (get c.args.self.now.slots) same ∙ c.requires.drafted.3
     in c.exchange_at.ensures.old c.requires.drafted.1 had ∙ sym (ap (list_at now) had)
     ∙ found (λ at. list_at now (get c.args.self.now.slots at)) c.args.item.now c.args.self.now.places.entries c.index-at.result.now c.requires.shelved.rising c.index-at.ensures
+
+pub returns-clause-ends : goal.returns-clause-ends
+returns-clause-ends c =
+    let same : c.index-at.result.now ≡ c.requires.drafted.0 = same_Some _ _ (sym c.index-at.ensures ∙ c.requires.drafted.2)
+    in let had : get c.args.self.now.slots c.index-at.result.now ≡ Some c.requires.drafted.1 = ap (get c.args.self.now.slots) same ∙ c.requires.drafted.3
+    in ends_stay c.args.self.now.slots c.exchange_at.new.slots c.args.self.now.places.entries c.requires.shelved c.args.item.now c.index-at.result.now
+    c.index-at.ensures c.requires.drafted.1 _ had (c.exchange_at.ensures.slots c.requires.drafted.1 had) refl
+
+pub returns-clause-waits : goal.returns-clause-waits
+returns-clause-waits c =
+    let same : c.index-at.result.now ≡ c.requires.drafted.0 = same_Some _ _ (sym c.index-at.ensures ∙ c.requires.drafted.2)
+    in let had : get c.args.self.now.slots c.index-at.result.now ≡ Some c.requires.drafted.1 = ap (get c.args.self.now.slots) same ∙ c.requires.drafted.3
+    in waits_stay c.args.self.now.slots c.exchange_at.new.slots c.args.self.now.places.entries c.requires.shelved c.args.item.now c.index-at.result.now
+    c.index-at.ensures c.requires.drafted.1 _ had (c.exchange_at.ensures.slots c.requires.drafted.1 had) refl

@@ -8,7 +8,7 @@ use Rattle.ifmap_ident.specs.Items.{item_order}
 use Rattle.ifmap_store.specs.declared.shelves.Shelf.{Shelf}
 use Rattle.ifmap_store.specs.Sides.{next, now}
 use Rattle.ifmap_store.specs.Waits.{waits_at, waits_of, waits_there}
-use Rattle.ifmap_store.proofs.Writes.{shelved, side_stays, slot_live, some_of, waits_had, waits_has, waits_others}
+use Rattle.ifmap_store.proofs.Writes.{ends_stay, shelved, side_stays, slot_live, some_of, waits_had, waits_has, waits_others}
 use Rattle.ifmap_store.proofs.Ordered.{items_total}
 use Rattle.ifmap_store.proofs.Waited.{raised}
 use Rattle.ifmap_store.proofs.shelves.Shelves.wait.Goals as goal
@@ -54,3 +54,10 @@ returns-clause-waited c =
     c.index-at.ensures s.0 _ s.1 (c.wait_at.ensures s.0 s.1))
     (waits_others c.args.self.now.slots c.wait_at.new.slots c.args.self.now.places.entries c.requires.shelved c.args.item.now c.index-at.result.now
     c.index-at.ensures s.0 _ s.1 (c.wait_at.ensures s.0 s.1)) refl
+
+pub returns-clause-ends : goal.returns-clause-ends
+returns-clause-ends c =
+    let s = some_of (get c.args.self.now.slots c.index-at.result.now)
+    (slot_live (get c.args.self.now.slots) c.args.self.now.places.entries c.args.item.now c.index-at.result.now c.requires.shelved c.index-at.ensures)
+    in ends_stay c.args.self.now.slots c.wait_at.new.slots c.args.self.now.places.entries c.requires.shelved c.args.item.now c.index-at.result.now
+    c.index-at.ensures s.0 _ s.1 (c.wait_at.ensures s.0 s.1) refl
