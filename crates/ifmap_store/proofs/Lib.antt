@@ -23,4 +23,5 @@ pub mod Own
 pub mod Joining
 pub mod Bare
 pub mod Accepting
+pub mod Moved
 pub mod Beginning
