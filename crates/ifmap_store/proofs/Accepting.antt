@@ -8,8 +8,8 @@ use Rattle.ifmap_ident.specs.Items.{item_order, items_tie, same_item}
 use Rattle.ifmap_meta.specs.declared.stored.Stored.{Stored}
 use Rattle.ifmap_view.specs.Rows.{stored_on}
 use Rattle.ifmap_store.specs.declared.shelves.Shelves.{Shelves}
-use Rattle.ifmap_store.specs.Drafted.{AreBare, DraftsWithin}
-use Rattle.ifmap_store.specs.Shelved.{AreShelved, HasDraft, ends_at, place_of, rows_of}
+use Rattle.ifmap_store.specs.Drafted.{AreBare, DraftsWithin, ends_at}
+use Rattle.ifmap_store.specs.Shelved.{AreShelved, HasDraft, place_of, rows_of}
 use Rattle.ifmap_store.specs.Sides.{next, now}
 use Rattle.ifmap_store.specs.Waits.{waits_on}
 use Rattle.ifmap_store.proofs.Bare.{none_left, one_gone, sides_same}

@@ -8,10 +8,11 @@ module _ {T : Type 0} (all : List (ℕ × List T)) (first : List (Sides T)) wher
   pub record Going (ways : List (ℕ × List T)) (lists : List (Sides T)) (i : ℕ) : Type 0 where
     pub drafted : AreDrafted (drop i ways) lists
     pub same : accept_each (drop i ways) lists ≡ accept_each all first
+    pub long : length ways ≡ length all
     pub made : take i ways ++ backs (drop i ways) lists ≡ backs all first
 
   pub begins : AreDrafted all first → Going all first 0
-  begins d = record { drafted = d; same = refl; made = refl }
+  begins d = record { drafted = d; same = refl; long = refl; made = refl }
 
   module _ (ways : List (ℕ × List T)) (lists : List (Sides T)) (i : ℕ) (h : i < length ways) (g : Going ways lists i) (w : ℕ × List T) where
     here : drop i ways ≡ get_or ways i w ∷ drop (i + 1) ways
@@ -42,6 +43,7 @@ module _ {T : Type 0} (all : List (ℕ × List T)) (first : List (Sides T)) wher
       goes_on = record {
         drafted = subst (λ l. AreDrafted l lists') (sym rest) (subst (λ l. AreDrafted (drop (i + 1) ways) l) (sym ls) now_drafted.2);
         same = ap (λ l. accept_each l lists') rest ∙ ap (λ l. accept_each (drop (i + 1) ways) l) ls ∙ sym (ap (λ l. accept_each l lists) here) ∙ g.same;
+        long = ap length ws ∙ length-set ways i ((get_or ways i w).0, (sides_at lists (get_or ways i w).0).now) ∙ g.long;
         made = ap (λ l. l ++ backs (drop (i + 1) ways') lists') front ∙ append_assoc (take i ways) (((get_or ways i w).0, (sides_at lists (get_or ways i w).0).now) ∷ []) (backs (drop (i + 1) ways') lists')
             ∙ ap (λ l. take i ways ++ ((get_or ways i w).0, (sides_at lists (get_or ways i w).0).now) ∷ backs l lists') rest
             ∙ ap (λ l. take i ways ++ ((get_or ways i w).0, (sides_at lists (get_or ways i w).0).now) ∷ backs (drop (i + 1) ways) l) ls

@@ -154,7 +154,7 @@ module _ (old new : Holdings Identifier) (v : ℕ) where
   one_live (Pair a b) n = absurd n
 
   pub one_released : ((a other : Identifier) (count : ℕ) → Names identifier_order old v a → IsHeld identifier_order old other count
-          → IsHeld identifier_order new other (count - once identifier_order a other))
+      → IsHeld identifier_order new other (count - once identifier_order a other))
       → (item : Item) (other : Identifier) (count : ℕ) → AreEnds old item (ends.One v) → IsHeld identifier_order old other count
       → IsHeld identifier_order new other (count - named_by item other)
   one_released held (One a) other count n h = held a other count n h
@@ -168,7 +168,7 @@ module _ (old new : Holdings Identifier) (v w : ℕ) where
   pair_live (Pair a b) i n = (a, b, i, n.0, n.1)
 
   pub pair_released : ((a b other : Identifier) (count : ℕ) → Names identifier_order old v a → Names identifier_order old w b
-          → IsHeld identifier_order old other count → IsHeld identifier_order new other (count - named_by (Pair a b) other))
+      → IsHeld identifier_order old other count → IsHeld identifier_order new other (count - named_by (Pair a b) other))
       → (item : Item) (other : Identifier) (count : ℕ) → AreEnds old item (ends.Pair v w) → IsHeld identifier_order old other count
       → IsHeld identifier_order new other (count - named_by item other)
   pair_released held (One a) other count n h = absurd n

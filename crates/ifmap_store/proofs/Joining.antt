@@ -3,6 +3,7 @@ use Rattle.std.proofs.Common.{◌≡◌, ℕ, zero, suc, ◌+◌, ◌<◌, Optio
 use Rattle.std.specs.List.{cons_option, filter_map}
 use Rattle.ifmap_store.specs.Sides.{Sides}
 use Rattle.ifmap_store.specs.Turning.{no_list, sides_at}
+use Rattle.ifmap_store.proofs.Empty.{one_pushed}
 
 cons_append : {Y : Type 0} (o : Option Y) (xs ys : List Y) → cons_option o (xs ++ ys) ≡ cons_option o xs ++ ys
 cons_append None xs ys = refl
@@ -29,16 +30,6 @@ pub grown : {Y : Type 0} (first second third f g : List Y) → first ≡ [] → 
 grown first second third f g a b c = c ∙ ap (λ l. l ++ g) (b ∙ ap (λ l. l ++ f) a)
 
 -- an empty list more changes no place
-module _ {T : Type 0} where
-  nowhere : (v : ℕ) → sides_at {T = T} [] v ≡ no_list
-  nowhere zero = refl
-  nowhere (suc v) = refl
-
-  at_end : (lists : List (Sides T)) (v : ℕ) → sides_at (lists ++ (no_list ∷ [])) v ≡ sides_at lists v
-  at_end [] zero = refl
-  at_end [] (suc v) = nowhere v ∙ sym (nowhere (suc v))
-  at_end (x ∷ xs) zero = refl
-  at_end (x ∷ xs) (suc v) = at_end xs v
-
-  pub one_longer : (lists longer : List (Sides T)) (x : Sides T) → longer ≡ lists ++ (x ∷ []) → x ≡ no_list → (v : ℕ) → sides_at longer v ≡ sides_at lists v
-  one_longer lists longer x e n v = ap (λ l. sides_at l v) (e ∙ ap (λ y. lists ++ (y ∷ [])) n) ∙ at_end lists v
+pub one_longer : {T : Type 0} (lists longer : List (Sides T)) (x : Sides T) → longer ≡ lists ++ (x ∷ []) → x ≡ no_list → (v : ℕ)
+    → sides_at longer v ≡ sides_at lists v
+one_longer lists longer x e n v = ap (λ l. sides_at l v) (e ∙ ap (λ y. lists ++ (y ∷ [])) n) ∙ one_pushed lists v no_list

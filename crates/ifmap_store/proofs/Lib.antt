@@ -22,6 +22,8 @@ pub mod Changed
 pub mod Own
 pub mod Joining
 pub mod Bare
+pub mod Staying
 pub mod Accepting
 pub mod Moved
+pub mod Outs
 pub mod Beginning

@@ -10,22 +10,19 @@ use Rattle.ifmap_meta.specs.declared.stored.Stored.{Stored}
 use Rattle.ifmap_pool.specs.Holdings.{Holdings}
 use Rattle.ifmap_view.specs.declared.views.LinkSeen.{LinkSeen}
 use Rattle.ifmap_view.specs.Rows.{stored_on}
-use Rattle.ifmap_store.specs.declared.ends.Ends as the_ends
 use Rattle.ifmap_store.specs.declared.shelves.Shelf.{Shelf}
 use Rattle.ifmap_store.specs.declared.shelves.Shelves.{Shelves}
+use Rattle.ifmap_store.specs.Drafted.{ends_at}
 use Rattle.ifmap_store.specs.Held.{IsInside, IsSide, links_at}
 use Rattle.ifmap_store.specs.Joined.{is_full, joined, two_of}
 use Rattle.ifmap_store.specs.Linked.{AreListed, Ends, ats}
 use Rattle.ifmap_store.specs.Named.{AreEnds, AreNumbered, HasEnds}
-use Rattle.ifmap_store.specs.Shelved.{AreShelved, IsList, IsPlaced, Side, ends_at, list_at, place_of, rows_of}
+use Rattle.ifmap_store.specs.Shelved.{AreShelved, IsList, IsPlaced, Side, list_at, place_of, rows_of}
 use Rattle.ifmap_store.specs.Sides.{Sides, next, now}
 use Rattle.ifmap_store.proofs.Finding.{found}
 use Rattle.ifmap_store.proofs.Following.{entry_hits}
 use Rattle.ifmap_store.proofs.Shelving.{Entries}
-
--- the numbers that a shelf has
-abbrev pub ends_of : Option Shelf → Option the_ends.Ends
-ends_of o = option_map (λ (s : Shelf). s.ends) o
+use Rattle.ifmap_store.proofs.Staying.{ends_of}
 
 joined_by : (o p : Option Shelf) → ends_of o ≡ ends_of p → joined o ≡ joined p
 joined_by None None e = refl

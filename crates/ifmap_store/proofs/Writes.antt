@@ -1,5 +1,5 @@
 -- One shelf changes: what is stored on its item is what the shelf has then, and on no other item anything changes.
-use Rattle.std.proofs.Common.{◌≡◌, ◌≢◌, ℕ, zero, suc, ◌<◌, length, get_or, Bool, true, false, cond, Option, Some, None, IsSome, List, [], ◌∷◌, ◌++◌, map, nat_eq, option_map, refl, ap, ◌∙◌, sym, subst, inl, inr, arith}
+use Rattle.std.proofs.Common.{◌≡◌, ◌≢◌, ℕ, zero, suc, ◌<◌, length, get_or, Bool, true, false, cond, Option, Some, None, IsSome, List, [], ◌∷◌, ◌++◌, map, nat_eq, refl, ap, ◌∙◌, sym, subst, inl, inr, arith}
 use Rattle.std.proofs.lemmas.Bool.{cases_Bool, cases_eq}
 use Rattle.std.proofs.lemmas.Bool.Decides.{nat_tests}
 use Rattle.std.proofs.lemmas.List.{get_or-set_other, get_or-set_same}
@@ -173,21 +173,6 @@ module _ (slots new : Slab Shelf) (es : Entries) (is : IsPlaced (get slots) es) 
           ap (waits_there (get new)) e
           ∙ ap waits_of (written_elsewhere slots new at t wrote bt (other_slot (get slots) (get new) es is item at here (written_elsewhere slots new at t wrote) x bt f e))
           ∙ sym (ap (waits_there (get slots)) e)
-
-  -- the numbers of each slot stay
-  pub ends_stay : t.ends ≡ s.ends → (o : ℕ) → option_map (λ (x : Shelf). x.ends) (get new o) ≡ option_map (λ (x : Shelf). x.ends) (get slots o)
-  ends_stay e o = elim (cases_eq o at) [
-    | inl q ↦ ap (λ n. option_map (λ (x : Shelf). x.ends) (get new n)) q ∙ ap (option_map (λ (x : Shelf). x.ends)) has ∙ ap Some e
-        ∙ sym (ap (option_map (λ (x : Shelf). x.ends)) had) ∙ ap (λ n. option_map (λ (x : Shelf). x.ends) (get slots n)) (sym q)
-    | inr n ↦ ap (option_map (λ (x : Shelf). x.ends)) (written_elsewhere slots new at t wrote o n)
-  ]
-
-  -- how often each item is waited for stays
-  pub waits_stay : t.waits ≡ s.waits → (x : Item) → waits_at (get new) es x ≡ waits_at (get slots) es x
-  waits_stay e x = elim (cases_Bool (is_at (item_order item) x)) [
-    | inl y ↦ waits_has x y ∙ e ∙ sym (waits_had x y)
-    | inr f ↦ waits_others x f
-  ]
 
   -- a write that leaves no draft: those that are left are of other items, and were there
   pub drafts_left : t.stored.draft ≡ None → (x : Item) → ((bt : ℕ) × (shelf : Shelf) × (lookup (is_at (item_order x)) es ≡ Some bt) × (get new bt ≡ Some shelf)

@@ -1,14 +1,19 @@
--- Where drafts stand.
-use Rattle.std.specs.Prelude.{◌≡◌, ℕ, List, Option, Some, None}
+-- Where drafts stand, and what a write to a shelf leaves.
+use Rattle.std.specs.Prelude.{◌≡◌, ℕ, List, Option, Some, None, option_map}
 use Rattle.std.specs.List.{AllByRecursion, IsDistinct}
 use Rattle.std.specs.declared.cmp.Ordering.TheVariants.{Equal}
 use Rattle.slab.specs.Slab.{get}
 use Rattle.ifmap_lemmas.specs.Having.{Has}
 use Rattle.ifmap_ident.specs.declared.items.Item.{Item}
 use Rattle.ifmap_ident.specs.Items.{item_order, same_item}
+use Rattle.ifmap_store.specs.declared.ends.Ends.{Ends}
 use Rattle.ifmap_store.specs.declared.shelves.Shelf.{Shelf}
 use Rattle.ifmap_store.specs.declared.shelves.Shelves.{Shelves}
 use Rattle.ifmap_store.specs.Shelved.{HasDraft}
+
+-- the numbers that the shelf of a slot has
+abbrev pub ends_at : Shelves → ℕ → Option Ends
+ends_at s at = option_map (λ shelf. shelf.ends) (get s.slots at)
 
 -- a shelf, where there is one, has no draft
 abbrev pub NoDraft : Option Shelf → Type 0

@@ -9,3 +9,4 @@ pub mod Drafted
 pub mod Turning
 pub mod Waits
 pub mod Held
+pub mod Out

@@ -1,5 +1,5 @@
 -- Shelves by item: a map from items to slots, and the slots. An empty shelf adds nothing to the attachments.
-use Rattle.std.specs.Prelude.{◌≡◌, ℕ, List, [], map, flat_map, Option, Some, None, IsSome, nat_eq, option_map}
+use Rattle.std.specs.Prelude.{◌≡◌, ℕ, List, [], map, flat_map, Option, Some, None, IsSome, nat_eq}
 use Rattle.std.specs.BTreeMap.{is_at}
 use Rattle.std.specs.List.{AllByRecursion, IsDistinct}
 use Rattle.std.specs.List.Sorted.{IsStrictlySortedBy}
@@ -11,7 +11,6 @@ use Rattle.ifmap_meta.specs.declared.stored.Stored.{Stored}
 use Rattle.ifmap_meta.specs.Keys.{same_key}
 use Rattle.ifmap_view.specs.declared.attachments.Attachment.{Attachment}
 use Rattle.ifmap_view.specs.Attachments.{stored_order}
-use Rattle.ifmap_store.specs.declared.ends.Ends.{Ends}
 use Rattle.ifmap_store.specs.declared.shelves.Shelf.{Shelf}
 use Rattle.ifmap_store.specs.declared.shelves.Shelves.{Shelves}
 use Rattle.ifmap_store.specs.Sides.{Sides}
@@ -44,10 +43,6 @@ rows_of side s = rows_by (λ at. list_at side (get s.slots at)) s.places.entries
 -- the slot of an item
 abbrev pub place_of : Shelves → Item → Option ℕ
 place_of s item = lookup (is_at (item_order item)) s.places.entries
-
--- the numbers that the shelf of a slot has
-abbrev pub ends_at : Shelves → ℕ → Option Ends
-ends_at s at = option_map (λ shelf. shelf.ends) (get s.slots at)
 
 -- the shelf of an item has a draft
 abbrev pub HasDraft : Shelves → Item → Type 0

@@ -7,7 +7,8 @@ ghost use Rattle.ifmap_ident.specs.Items.{item_order};
 ghost use Rattle.ifmap_meta.specs.declared.stored.Stored.{Stored};
 ghost use Rattle.ifmap_view.specs.Rows.{stored_on};
 ghost use Rattle.ifmap_store.specs.declared.shelves.Shelf.{Shelf};
-ghost use Rattle.ifmap_store.specs.Shelved.{AreShelved, HasDraft, HasNoDraft, ends_at, place_of, rows_of};
+ghost use Rattle.ifmap_store.specs.Drafted.{ends_at};
+ghost use Rattle.ifmap_store.specs.Shelved.{AreShelved, HasDraft, HasNoDraft, place_of, rows_of};
 ghost use Rattle.ifmap_store.specs.Sides.{next, now};
 ghost use Rattle.ifmap_store.specs.Waits.{AreWaited, waits_on};
 

@@ -3,7 +3,9 @@
 #![tactic(auto)]
 
 mod after;
+pub mod changes;
 mod changing;
+mod committing;
 pub mod drafts;
 pub mod ends;
 pub mod graph;
@@ -15,6 +17,7 @@ pub mod sided;
 mod turning;
 pub mod ways;
 
+pub use changes::{Ready, Undo};
 pub use drafts::Draft;
 pub use ends::Ends;
 pub use graph::Graph;

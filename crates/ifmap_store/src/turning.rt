@@ -5,8 +5,8 @@ ghost use Rattle.ifmap_ident.specs.declared.items.Item.{Item};
 ghost use Rattle.ifmap_ident.specs.Items.{same_item};
 ghost use Rattle.ifmap_plans.specs.declared.plans.ItemChange.{ItemChange};
 ghost use Rattle.ifmap_view.specs.Rows.{stored_on};
-ghost use Rattle.ifmap_store.specs.Drafted.{AreBare, AreOut};
-ghost use Rattle.ifmap_store.specs.Shelved.{AreShelved, HasDraft, ends_at, place_of, rows_of};
+ghost use Rattle.ifmap_store.specs.Drafted.{AreBare, AreOut, ends_at};
+ghost use Rattle.ifmap_store.specs.Shelved.{AreShelved, HasDraft, place_of, rows_of};
 ghost use Rattle.ifmap_store.specs.Sides.{next, now};
 ghost use Rattle.ifmap_store.specs.Waits.{waits_on};
 
@@ -36,14 +36,14 @@ fn accept_one(shelves: &mut Shelves, item: &Item, list: &mut Many<Row>)
 }
 
 // The draft of the item at a place is accepted.
-fn accept_at(shelves: &mut Shelves, changes: &[ItemChange], lists: &mut [Many<Row>], i: usize)
+fn accept_at(shelves: &mut Shelves, changes: &[ItemChange], lists: &mut Vec<Many<Row>>, i: usize)
     requires shelved { AreShelved shelves.old }
     requires place { i < length changes.now }
-    requires room { i < length lists.old }
+    requires room { i < length lists.old.items }
     requires drafted { (c : ItemChange) → HasDraft shelves.old (slice_index_or changes.now i c).item }
     ensures shelved { AreShelved shelves.new }
     ensures next { rows_of next shelves.new ≡ rows_of next shelves.old }
-    ensures lists { (c : ItemChange) → lists.new ≡ set lists.old i
+    ensures lists { (c : ItemChange) → lists.new.items ≡ set lists.old.items i
         (stored_on (slice_index_or changes.now i c).item (rows_of now shelves.old)) }
     ensures drafts { (c : ItemChange) (x : Item) → HasDraft shelves.new x
         → HasDraft shelves.old x × (same_item x (slice_index_or changes.now i c).item ≡ false) }
@@ -62,16 +62,16 @@ fn accept_at(shelves: &mut Shelves, changes: &[ItemChange], lists: &mut [Many<Ro
 pub(crate) fn accept_changes(
     shelves: &mut Shelves,
     changes: &[ItemChange],
-    lists: &mut [Many<Row>],
+    lists: &mut Vec<Many<Row>>,
 )
     requires shelved { AreShelved shelves.old }
     requires out { AreOut (map (λ c. c.item) changes.now) shelves.old }
-    requires long { length lists.old ≡ length changes.now }
+    requires long { length lists.old.items ≡ length changes.now }
     ensures shelved { AreShelved shelves.new }
     ensures bare { AreBare shelves.new }
     ensures next { rows_of next shelves.new ≡ rows_of next shelves.old }
     ensures now { rows_of now shelves.new ≡ rows_of next shelves.old }
-    ensures lists { lists.new
+    ensures lists { lists.new.items
         ≡ map (λ c. stored_on c.item (rows_of now shelves.old)) changes.now }
     ensures ends { (at : ℕ) → ends_at shelves.new at ≡ ends_at shelves.old at }
     ensures waits { (x : Item) → waits_on shelves.new x ≡ waits_on shelves.old x }

@@ -60,22 +60,22 @@ impl<T> Way<T> {
     }
 }
 
-fn accept_at<T: Drop>(lists: &mut [Sided<T>], ways: &mut [Way<T>], i: usize)
-    requires place { i < length ways.old }
-    requires within { (w : ℕ × List T) → (slice_index_or ways.old i w).0 < length lists.old }
-    requires drafted { (w : ℕ × List T) → IsSome (sides_at lists.old (slice_index_or ways.old i w).0).draft }
-    ensures lists { (w : ℕ × List T) → let at = (slice_index_or ways.old i w).0 in lists.new ≡ set lists.old at (accepted (sides_at lists.old at)) }
-    ensures ways { (w : ℕ × List T) → let at = (slice_index_or ways.old i w).0 in ways.new ≡ set ways.old i (at, (sides_at lists.old at).now) }
+fn accept_at<T: Drop>(lists: &mut Vec<Sided<T>>, ways: &mut Vec<Way<T>>, i: usize)
+    requires place { i < length ways.old.items }
+    requires within { (w : ℕ × List T) → (slice_index_or ways.old.items i w).0 < length lists.old.items }
+    requires drafted { (w : ℕ × List T) → IsSome (sides_at lists.old.items (slice_index_or ways.old.items i w).0).draft }
+    ensures lists { (w : ℕ × List T) → let at = (slice_index_or ways.old.items i w).0 in lists.new.items ≡ set lists.old.items at (accepted (sides_at lists.old.items at)) }
+    ensures ways { (w : ℕ × List T) → let at = (slice_index_or ways.old.items i w).0 in ways.new.items ≡ set ways.old.items i (at, (sides_at lists.old.items at).now) }
 {
     let at = ways[i].at();
     ways[i].accept(&mut lists[at]);
 }
 
 /// The drafts at these places take the places of the lists, which come to stand in the ways.
-pub fn accept_all<T: Drop>(lists: &mut [Sided<T>], ways: &mut [Way<T>])
-    requires { AreDrafted ways.old lists.old }
-    ensures lists { lists.new ≡ accept_each ways.old lists.old }
-    ensures ways { ways.new ≡ backs ways.old lists.old }
+pub fn accept_all<T: Drop>(lists: &mut Vec<Sided<T>>, ways: &mut Vec<Way<T>>)
+    requires { AreDrafted ways.old.items lists.old.items }
+    ensures lists { lists.new.items ≡ accept_each ways.old.items lists.old.items }
+    ensures ways { ways.new.items ≡ backs ways.old.items lists.old.items }
 {
     for i in 0..ways.len() {
         accept_at(lists, ways, i);

@@ -4,7 +4,8 @@ use Rattle.slab.specs.Slab.{get}
 use Rattle.ifmap_store.specs.declared.shelves.Shelf.{Shelf}
 use Rattle.ifmap_store.specs.Shelved.{list_at}
 use Rattle.ifmap_store.specs.Sides.{next, now}
-use Rattle.ifmap_store.proofs.Writes.{comes, drafts_kept, drafts_left, ends_stay, shelved, side_stays, waits_stay}
+use Rattle.ifmap_store.proofs.Staying.{ends_stay, waits_stay}
+use Rattle.ifmap_store.proofs.Writes.{comes, drafts_kept, drafts_left, shelved, side_stays}
 use Rattle.ifmap_store.proofs.Finding.{found}
 use Rattle.ifmap_store.proofs.shelves.Shelves.accept.Goals as goal
 

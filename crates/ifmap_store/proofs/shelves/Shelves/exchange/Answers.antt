@@ -4,7 +4,8 @@ use Rattle.slab.specs.Slab.{get}
 use Rattle.ifmap_store.specs.declared.shelves.Shelf.{Shelf}
 use Rattle.ifmap_store.specs.Shelved.{list_at}
 use Rattle.ifmap_store.specs.Sides.{next, now}
-use Rattle.ifmap_store.proofs.Writes.{ends_stay, shelved, shows, waits_stay}
+use Rattle.ifmap_store.proofs.Staying.{ends_stay, waits_stay}
+use Rattle.ifmap_store.proofs.Writes.{shelved, shows}
 use Rattle.ifmap_store.proofs.Finding.{found}
 use Rattle.ifmap_store.proofs.shelves.Shelves.exchange.Goals as goal
 

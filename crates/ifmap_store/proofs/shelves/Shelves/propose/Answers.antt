@@ -2,7 +2,8 @@ use Rattle.std.proofs.Common.{Some, refl}
 use Rattle.slab.specs.Slab.{get}
 use Rattle.ifmap_store.specs.declared.shelves.Shelf.{Shelf}
 use Rattle.ifmap_store.specs.Sides.{next, now}
-use Rattle.ifmap_store.proofs.Writes.{ends_stay, shelved, shows, side_stays, slot_live, some_of, waits_stay}
+use Rattle.ifmap_store.proofs.Staying.{ends_stay, waits_stay}
+use Rattle.ifmap_store.proofs.Writes.{shelved, shows, side_stays, slot_live, some_of}
 use Rattle.ifmap_store.proofs.shelves.Shelves.propose.Goals as goal
 
 pub propose_at-requires : goal.propose_at-requires

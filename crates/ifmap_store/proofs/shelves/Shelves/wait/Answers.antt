@@ -8,7 +8,8 @@ use Rattle.ifmap_ident.specs.Items.{item_order}
 use Rattle.ifmap_store.specs.declared.shelves.Shelf.{Shelf}
 use Rattle.ifmap_store.specs.Sides.{next, now}
 use Rattle.ifmap_store.specs.Waits.{waits_at, waits_of, waits_there}
-use Rattle.ifmap_store.proofs.Writes.{ends_stay, shelved, side_stays, slot_live, some_of, waits_had, waits_has, waits_others}
+use Rattle.ifmap_store.proofs.Staying.{ends_stay}
+use Rattle.ifmap_store.proofs.Writes.{shelved, side_stays, slot_live, some_of, waits_had, waits_has, waits_others}
 use Rattle.ifmap_store.proofs.Ordered.{items_total}
 use Rattle.ifmap_store.proofs.Waited.{raised}
 use Rattle.ifmap_store.proofs.shelves.Shelves.wait.Goals as goal
