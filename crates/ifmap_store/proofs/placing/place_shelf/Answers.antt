@@ -50,7 +50,7 @@ returns-clause-inside c = λ links room old.
     c.in_ok-insert.ensures.entries c.requires.same c.hold_ends-ends.ensures.ends)
     c.hold_ends-ends.ensures.whole
     (c.hold_ends-ends.ensures.keys
-    (subst (λ (i : Item). AllByRecursion IsIdentifier (identifiers_of i)) (sym c.requires.same) c.requires.canon.canon) all.keys)
+    (subst (λ (i : Item). AllByRecursion IsIdentifier (identifiers_of i)) (sym c.requires.same) c.requires.canon.identifiers) all.keys)
     (subst (λ (n : ℕ). n ≤ length links) (sym c.hold_ends-ends.ensures.limit) room)
     (λ a count h. subst (λ (i : Item). IsHeld identifier_order c.hold_ends-ends.new.names a (count + named_by i a)) c.requires.same
     (c.hold_ends-ends.ensures.held a count h))
