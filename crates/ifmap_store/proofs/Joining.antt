@@ -1,5 +1,5 @@
 -- A list that grows by what is found at one place after another.
-use Rattle.std.proofs.Common.{◌≡◌, ℕ, zero, suc, ◌+◌, ◌<◌, Option, Some, None, List, [], ◌∷◌, ◌++◌, length, get_or, take, refl, ap, ◌∙◌, sym, arith, append_assoc, add-one}
+use Rattle.std.proofs.Common.{◌≡◌, ℕ, zero, suc, ◌+◌, ◌<◌, Option, Some, None, List, [], ◌∷◌, ◌++◌, length, get_or, take, Result, Ok, Err, OnOk, OnErr, refl, ap, ◌∙◌, sym, arith, append_assoc, add-one}
 use Rattle.std.specs.List.{cons_option, filter_map}
 use Rattle.ifmap_store.specs.Sides.{Sides}
 use Rattle.ifmap_store.specs.Turning.{no_list, sides_at}
@@ -33,3 +33,13 @@ grown first second third f g a b c = c ∙ ap (λ l. l ++ g) (b ∙ ap (λ l. l 
 pub one_longer : {T : Type 0} (lists longer : List (Sides T)) (x : Sides T) → longer ≡ lists ++ (x ∷ []) → x ≡ no_list → (v : ℕ)
     → sides_at longer v ≡ sides_at lists v
 one_longer lists longer x e n v = ap (λ l. sides_at l v) (e ∙ ap (λ y. lists ++ (y ∷ [])) n) ∙ one_pushed lists v no_list
+
+-- what holds where a call succeeds, or fails, and what follows from it
+module _ {T E : Type 0} {P Q : Type 0} where
+  pub on_ok : (r : Result T E) → (P → Q) → OnOk r P → OnOk r Q
+  on_ok (Ok x) f h = f h
+  on_ok (Err e) f h = h
+
+  pub on_err : (r : Result T E) → (P → Q) → OnErr r P → OnErr r Q
+  on_err (Ok x) f h = h
+  on_err (Err e) f h = f h

@@ -34,8 +34,8 @@ release_ends-requires c =
           c.requires.inside.0 c.args.item.now c.in-Some.at c.remove-shelf.result c.requires.inside.1 here c.remove-shelf.ensures.value empty,
     )
 
-pub returns-in-Some-clause-inside : goal.returns-in-Some-clause-inside
-returns-in-Some-clause-inside c = λ links is.
+pub returns-clause-inside : goal.returns-clause-inside
+returns-clause-inside c = λ links is.
     let here : lookup (is_at (item_order c.args.item.now)) c.args.shelves.now.places.entries ≡ Some c.in-Some.at = sym c.in-Some.ensures.value
     in let had : get c.args.shelves.now.slots c.in-Some.at ≡ Some c.requires.empty.1
     = ap (get c.args.shelves.now.slots) (same_Some _ _ (sym here ∙ c.requires.empty.2)) ∙ c.requires.empty.3
@@ -46,8 +46,8 @@ returns-in-Some-clause-inside c = λ links is.
     c.remove-shelf.ensures.updates.changed c.remove-shelf.ensures.updates.others c.remove.ensures.entries c.remove.ensures.ordered c.release_ends.ensures.whole
     (c.release_ends.ensures.keys is.keys) c.release_ends.ensures.before c.release_ends.ensures.held
 
-pub returns-in-Some-clause-own : goal.returns-in-Some-clause-own
-returns-in-Some-clause-own c =
+pub returns-clause-own : goal.returns-clause-own
+returns-clause-own c =
     let here : lookup (is_at (item_order c.args.item.now)) c.args.shelves.now.places.entries ≡ Some c.in-Some.at = sym c.in-Some.ensures.value
     in let had : get c.args.shelves.now.slots c.in-Some.at ≡ Some c.requires.empty.1
     = ap (get c.args.shelves.now.slots) (same_Some _ _ (sym here ∙ c.requires.empty.2)) ∙ c.requires.empty.3
@@ -58,8 +58,8 @@ returns-in-Some-clause-own c =
     c.remove-shelf.ensures.updates.changed c.remove-shelf.ensures.updates.others c.remove.ensures.entries c.remove.ensures.ordered c.release_ends.ensures.whole
     (c.release_ends.ensures.keys c.requires.inside.1.keys) c.release_ends.ensures.before c.release_ends.ensures.held
 
-pub returns-in-Some-clause-now : goal.returns-in-Some-clause-now
-returns-in-Some-clause-now c =
+pub returns-clause-now : goal.returns-clause-now
+returns-clause-now c =
     let here : lookup (is_at (item_order c.args.item.now)) c.args.shelves.now.places.entries ≡ Some c.in-Some.at = sym c.in-Some.ensures.value
     in let had : get c.args.shelves.now.slots c.in-Some.at ≡ Some c.requires.empty.1
     = ap (get c.args.shelves.now.slots) (same_Some _ _ (sym here ∙ c.requires.empty.2)) ∙ c.requires.empty.3
@@ -69,8 +69,8 @@ returns-in-Some-clause-now c =
     c.requires.inside.1.placed here c.remove-shelf.ensures.updates.changed c.remove-shelf.ensures.updates.others c.remove.ensures.entries c.remove.ensures.ordered now
     (ap (list_at now) had ∙ ap now c.requires.empty.4)
 
-pub returns-in-Some-clause-next : goal.returns-in-Some-clause-next
-returns-in-Some-clause-next c =
+pub returns-clause-next : goal.returns-clause-next
+returns-clause-next c =
     let here : lookup (is_at (item_order c.args.item.now)) c.args.shelves.now.places.entries ≡ Some c.in-Some.at = sym c.in-Some.ensures.value
     in let had : get c.args.shelves.now.slots c.in-Some.at ≡ Some c.requires.empty.1
     = ap (get c.args.shelves.now.slots) (same_Some _ _ (sym here ∙ c.requires.empty.2)) ∙ c.requires.empty.3
