@@ -26,4 +26,5 @@ pub mod Staying
 pub mod Accepting
 pub mod Moved
 pub mod Outs
+pub mod Committed
 pub mod Beginning

@@ -84,7 +84,7 @@ module _ {T : Type 0} where
       step-xs : ((w.0 ≡ v) × (sides_at xs1 v ≡ restored (sides_at xs w.0) (sides_at ls w.0).now)) ⊎ ((w.0 ≡ v → ⊥) × (sides_at xs1 v ≡ sides_at xs v))
       step-xs = at_set xs w.0 v (restored (sides_at xs w.0) (sides_at ls w.0).now) (subst (λ n. w.0 < n) (sym e) d.0)
 
-  same_length : (ws : List (ℕ × List T)) (ls : List (Sides T)) → length (accept_each ws ls) ≡ length ls
+  pub same_length : (ws : List (ℕ × List T)) (ls : List (Sides T)) → length (accept_each ws ls) ≡ length ls
   same_length [] ls = refl
   same_length (w ∷ ws) ls = same_length ws (set ls w.0 (accepted (sides_at ls w.0))) ∙ length-set ls w.0 (accepted (sides_at ls w.0))
 
