@@ -40,7 +40,7 @@ eq_turned Less = refl
 eq_turned Equal = refl
 eq_turned Greater = refl
 
-same_turned : (x y : Entry) → same_entry x y ≡ same_entry y x
+pub same_turned : (x y : Entry) → same_entry x y ≡ same_entry y x
 same_turned x y =
     entries_tie x y ∙ ap is_eq (entries_total.antisymm x y) ∙ eq_turned (entry_order y x) ∙ sym (entries_tie y x)
 

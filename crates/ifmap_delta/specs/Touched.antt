@@ -72,11 +72,14 @@ pub record AreTouched (old new : Sight) (s : Search) (items : List Item) : Type 
   pub canon : (x : Item) → Has items x → IsCanonItem x
   pub others : (x : Item) → IsCanonItem x → has_item items x ≡ false → IsSettled old new s x
 
--- what of these has the canonical bytes of none of the others and meets the filter, as entries of an item
+-- one of the rows has the canonical bytes of what is stored, and meets the filter
+abbrev pub has_met : Option Filter → List Stored → Stored → Bool
+has_met filter_by rows t = list_any (λ o. eq_by_cmp stored_order o t && meets_optional filter_by o.element) rows
+
+-- what of these meets the filter, and of whose canonical bytes none of the others is that meets it, as entries of an item
 abbrev pub left_out : Option Filter → Item → List Stored → List Stored → List Entry
 left_out filter_by x these others =
-    map (entry_at x) (filter (λ t. meets_optional filter_by t.element
-    && not (list_any (λ o. eq_by_cmp stored_order o t) others)) these)
+    map (entry_at x) (filter (λ t. meets_optional filter_by t.element && not (has_met filter_by others t)) these)
 
 -- what the first shows of some items, and the second does not
 abbrev pub left_out_on : Sight → Sight → Search → List Item → List Entry

@@ -1,11 +1,9 @@
 //! What one side of a change shows and the other does not, as entries, and their sizes.
 ghost use Rattle.std.specs.Prelude.{◌≡◌, ◌+◌, ◌++◌, ◌-◌, ◌<◌, ◌^◌, OnOk, IfOk, IfSome};
-ghost use Rattle.std.specs.List.{list_any};
 ghost use Rattle.std.specs.List.Sorted.{IsStrictlySortedBy};
-ghost use Rattle.std.specs.Ordering.{eq_by_cmp};
 ghost use Rattle.ifmap_delta.specs.Sights.{HaveMarks, sight_of};
 ghost use Rattle.ifmap_delta.specs.Shown.{patched, shown_on};
-ghost use Rattle.ifmap_delta.specs.Touched.{left_out, left_out_on};
+ghost use Rattle.ifmap_delta.specs.Touched.{has_met, left_out, left_out_on};
 ghost use Rattle.ifmap_ident.specs.Items.{IsCanonItem};
 ghost use Rattle.ifmap_ident.specs.declared.items.Item.{Item};
 ghost use Rattle.ifmap_lemmas.specs.Having.{Has};
@@ -30,12 +28,16 @@ pub(crate) struct Told {
     pub(crate) updated: Vec<Entry>,
 }
 
-// Whether one of some rows that rise has the canonical bytes of a row: it is found by halving.
-fn is_among(rows: &[Row], row: &Row) -> bool
+// Whether one of some rows that rise has the canonical bytes of a row, and meets the filter: it is found
+// by halving.
+fn has_met(rows: &[Row], row: &Row, filter: &Option<Filter>) -> bool
     requires { IsStrictlySortedBy stored_order rows.now }
-    ensures { result ≡ list_any (λ r. eq_by_cmp stored_order r row.now) rows.now }
+    ensures { result ≡ has_met filter.now rows.now row.now }
 {
-    rows.binary_search_by(|other| row_order(other, row)).is_ok()
+    match rows.binary_search_by(|other| row_order(other, row)) {
+        Ok(place) => meets_optional(filter, rows[place].stored().element.element()),
+        Err(_) => false,
+    }
 }
 
 // Appends those of some rows of an item that the others have not and that meet the filter.
@@ -52,7 +54,7 @@ fn add_left_out(
 {
     for row in these {
         let element = &row.stored().element;
-        if meets_optional(filter, element.element()) && !is_among(others, row) {
+        if meets_optional(filter, element.element()) && !has_met(others, row, filter) {
             entries.push(Entry {
                 item: item.share()?,
                 element: element.share()?,

@@ -1,5 +1,6 @@
 //! The links of a change that match in just one of two views.
-ghost use Rattle.std.specs.Prelude.{◌≡◌, ℕ, Some, IfOk, IfSome};
+ghost use Rattle.std.specs.Prelude.{◌≡◌, ◌++◌, ℕ, [], Some, IfOk, OnOk, IfSome};
+ghost use Rattle.std.specs.List.{cons_option};
 ghost use Rattle.ifmap_delta.specs.Flipped.{AreFlipsOf, IsFlipAt};
 ghost use Rattle.ifmap_delta.specs.Sights.{sight_of};
 ghost use Rattle.ifmap_region.specs.declared.flips.Flip.{Flip};
@@ -33,6 +34,16 @@ fn flip_of<G: View, D: View>(graph: &G, draft: &D, search: &Search, item: &Item)
     Some(Flip { a, b, added: now })
 }
 
+// Appends a flip, where there is one.
+fn offer(flips: &mut Vec<Flip>, flip: Option<Flip>) -> Result<(), NoMemory>
+    ensures { OnOk result (flips.new.items ≡ flips.old.items ++ cons_option flip []) }
+{
+    if let Some(flip) = flip {
+        flips.push(flip)?;
+    }
+    Ok(())
+}
+
 // The flips of the items that change.
 pub(crate) fn flips_of<G: View, D: View>(
     alloc: Global,
@@ -46,9 +57,7 @@ pub(crate) fn flips_of<G: View, D: View>(
 {
     let mut flips = Vec::new(alloc);
     for change in changes {
-        if let Some(flip) = flip_of(graph, draft, search, &change.item) {
-            flips.push(flip)?;
-        }
+        offer(&mut flips, flip_of(graph, draft, search, &change.item))?;
     }
     Ok(flips)
 }

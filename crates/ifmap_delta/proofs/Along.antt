@@ -1,0 +1,75 @@
+-- Items of links and of marks, flips and weights, one more at a time.
+use Rattle.std.proofs.Common.{◌≡◌, ℕ, ◌+◌, ◌<◌, ◌≤◌, Option, Some, None, IfSome, List, [], ◌∷◌, ◌++◌, flat_map, length, take, get_or, slice_get, sum_by, refl, ap, ◌∙◌, sym, subst, inl, inr}
+use Rattle.std.proofs.lemmas.Grind.{flat_map-append}
+use Rattle.std.proofs.lemmas.List.{append-nil, take_more}
+use Rattle.std.proofs.lemmas.List.Elements.{filter_map-append}
+use Rattle.std.proofs.lemmas.Option.{get_or_from_slice_get, slice_get-get_or, slice_get_within}
+use Rattle.std.proofs.lemmas.List.Sums.{sum_by_more, sum_by_more_le}
+use Rattle.std.specs.List.{AllByRecursion, cons_option, filter_map}
+use Rattle.ifmap_ident.specs.declared.items.Item.{Item}
+use Rattle.ifmap_lemmas.specs.Filters.{all_at}
+use Rattle.ifmap_lemmas.specs.Having.{Has, has_either, has_left, has_right}
+use Rattle.ifmap_plans.specs.declared.plans.ItemChange.{ItemChange}
+use Rattle.ifmap_region.specs.declared.flips.Flip.{Flip}
+use Rattle.ifmap_search.specs.declared.searches.Search.{Search}
+use Rattle.ifmap_view.specs.declared.views.LinkSeen.{LinkSeen}
+use Rattle.ifmap_delta.specs.Flipped.{AreFlipsOf, IsFlipAt}
+use Rattle.ifmap_delta.specs.Sights.{Sight}
+
+none : LinkSeen
+none = record { other = 0; at = 0 }
+
+pub along_more : (f : Option LinkSeen → Option Item) (ls : List LinkSeen) (i : ℕ) → i < length ls
+    → filter_map (λ l. f (Some l)) (take (i + 1) ls) ≡ filter_map (λ l. f (Some l)) (take i ls) ++ cons_option (f (slice_get ls i)) []
+along_more f ls i h =
+    ap (filter_map (λ l. f (Some l))) (take_more ls i none h)
+    ∙ filter_map-append (λ l. f (Some l)) (take i ls) (get_or ls i none ∷ [])
+    ∙ ap (λ o. filter_map (λ l. f (Some l)) (take i ls) ++ cons_option (f o) []) (sym (slice_get-get_or ls i none h))
+
+pub brought_more : (f : ℕ → List Item) (ns : List ℕ) (i n : ℕ) → slice_get ns i ≡ Some n
+    → flat_map f (take (i + 1) ns) ≡ flat_map f (take i ns) ++ f n
+brought_more f ns i n e =
+    ap (flat_map f) (take_more ns i 0 (slice_get_within ns i n e))
+    ∙ flat_map-append f (take i ns) (get_or ns i 0 ∷ [])
+    ∙ ap (λ l. flat_map f (take i ns) ++ l) (append-nil (f (get_or ns i 0)))
+    ∙ ap (λ x. flat_map f (take i ns) ++ f x) (get_or_from_slice_get ns i n 0 e)
+
+-- the weight of one number more
+pub weight_more : (w : ℕ → ℕ) (ns : List ℕ) (i n : ℕ) → slice_get ns i ≡ Some n → sum_by w (take (i + 1) ns) ≡ sum_by w (take i ns) + w n
+weight_more w ns i n e =
+    sum_by_more w ns i 0 (slice_get_within ns i n e) ∙ ap (λ x. sum_by w (take i ns) + w x) (get_or_from_slice_get ns i n 0 e)
+
+pub weight_within : (w : ℕ → ℕ) (ns : List ℕ) (i n : ℕ) → slice_get ns i ≡ Some n → sum_by w (take i ns) + w n ≤ sum_by w ns
+weight_within w ns i n e =
+    subst (λ x. sum_by w (take i ns) + w x ≤ sum_by w ns) (get_or_from_slice_get ns i n 0 e)
+    (sum_by_more_le w ns i 0 (slice_get_within ns i n e))
+
+-- flips of one change more
+pub flips_more : (old new : Sight) (s : Search) (cs : List ItemChange) (fs : List Flip) (i : ℕ) (c : ItemChange) (r : Option Flip)
+    → i < length cs → c ≡ get_or cs i c → AreFlipsOf old new s (take i cs) fs → IfSome r (IsFlipAt old new s c.item)
+    → ((f : Flip) → IsFlipAt old new s c.item f → r ≡ Some f) → AreFlipsOf old new s (take (i + 1) cs) (fs ++ cons_option r [])
+flips_more old new s cs fs i c r h e are some each =
+    subst (λ l. AreFlipsOf old new s l (fs ++ cons_option r [])) (sym (take_more cs i c h ∙ ap (λ x. take i cs ++ x ∷ []) (sym e)))
+    (record {
+      only = λ f k. elim (has_either fs (cons_option r []) f k) [
+        | inl p ↦ let o = are.only f p in (o.0, has_left (take i cs) (c ∷ []) o.0 o.1, o.2)
+        | inr p ↦ (c, has_right (take i cs) (c ∷ []) c (inl refl), one r f some p)
+      ];
+      each = λ d f k at. elim (has_either (take i cs) (c ∷ []) d k) [
+        | inl p ↦ has_left fs (cons_option r []) f (are.each d f p at)
+        | inr p ↦ elim p [
+          | inl q ↦ has_right fs (cons_option r []) f (subst (λ o. Has (cons_option o []) f)
+              (sym (each f (subst (λ y. IsFlipAt old new s y.item f) (sym q) at))) (inl refl))
+          | inr q ↦ absurd q
+        ]
+      ];
+    })
+  where
+    one : (r : Option Flip) (f : Flip) → IfSome r (IsFlipAt old new s c.item) → Has (cons_option r []) f → IsFlipAt old new s c.item f
+    one None f p k = absurd k
+    one (Some g) f p (inl q) = subst (λ y. IsFlipAt old new s c.item y) q p
+    one (Some g) f p (inr k) = absurd k
+
+-- what holds of all, at a place
+pub item_holds : {X : Type 0} (P : X → Type 0) (xs : List X) (i : ℕ) (x : X) → AllByRecursion P xs → i < length xs → x ≡ get_or xs i x → P x
+item_holds P xs i x a h e = subst P (sym e) (all_at P xs i x a h)
