@@ -1,19 +1,23 @@
 -- Items of links and of marks, flips and weights, one more at a time.
-use Rattle.std.proofs.Common.{◌≡◌, ℕ, ◌+◌, ◌<◌, ◌≤◌, Option, Some, None, IfSome, List, [], ◌∷◌, ◌++◌, flat_map, length, take, get_or, slice_get, sum_by, refl, ap, ◌∙◌, sym, subst, inl, inr}
+use Rattle.std.proofs.Common.{◌≡◌, ℕ, ◌+◌, ◌<◌, ◌≤◌, Option, Some, None, IfSome, List, [], ◌∷◌, ◌++◌, flat_map, map, length, take, get_or, slice_get, sum_by, refl, ap, ◌∙◌, sym, subst, inl, inr}
 use Rattle.std.proofs.lemmas.Grind.{flat_map-append}
-use Rattle.std.proofs.lemmas.List.{append-nil, take_more}
-use Rattle.std.proofs.lemmas.List.Elements.{filter_map-append}
+use Rattle.std.proofs.lemmas.List.{append-nil, map-append, take_more}
+use Rattle.std.proofs.lemmas.List.Elements.{filter-append, filter_map-append}
 use Rattle.std.proofs.lemmas.Option.{get_or_from_slice_get, slice_get-get_or, slice_get_within}
 use Rattle.std.proofs.lemmas.List.Sums.{sum_by_more, sum_by_more_le}
-use Rattle.std.specs.List.{AllByRecursion, cons_option, filter_map}
+use Rattle.std.specs.List.{AllByRecursion, cons_option, filter, filter_map}
 use Rattle.ifmap_ident.specs.declared.items.Item.{Item}
 use Rattle.ifmap_lemmas.specs.Filters.{all_at}
 use Rattle.ifmap_lemmas.specs.Having.{Has, has_either, has_left, has_right}
 use Rattle.ifmap_plans.specs.declared.plans.ItemChange.{ItemChange}
+use Rattle.ifmap_plans.specs.declared.plans.Note.{Note}
 use Rattle.ifmap_region.specs.declared.flips.Flip.{Flip}
+use Rattle.ifmap_search.specs.declared.results.Entry.{Entry}
 use Rattle.ifmap_search.specs.declared.searches.Search.{Search}
+use Rattle.ifmap_view.specs.declared.attachments.Attachment.{Attachment}
 use Rattle.ifmap_view.specs.declared.views.LinkSeen.{LinkSeen}
 use Rattle.ifmap_delta.specs.Flipped.{AreFlipsOf, IsFlipAt}
+use Rattle.ifmap_delta.specs.Notes.{is_told, told_notes}
 use Rattle.ifmap_delta.specs.Sights.{Sight}
 
 none : LinkSeen
@@ -73,3 +77,12 @@ flips_more old new s cs fs i c r h e are some each =
 -- what holds of all, at a place
 pub item_holds : {X : Type 0} (P : X → Type 0) (xs : List X) (i : ℕ) (x : X) → AllByRecursion P xs → i < length xs → x ≡ get_or xs i x → P x
 item_holds P xs i x a h e = subst P (sym e) (all_at P xs i x a h)
+
+-- what is told of one note more
+pub notes_more : (rows : List Attachment) (s : Search) (ns : List Note) (i : ℕ) (n : Note) → i < length ns → n ≡ get_or ns i n
+    → told_notes rows s (take (i + 1) ns) ≡ told_notes rows s (take i ns) ++ told_notes rows s (n ∷ [])
+notes_more rows s ns i n h e =
+    let entry : Note → Entry = λ m. record { item = m.item; element = m.element }
+    in ap (told_notes rows s) (take_more ns i n h ∙ ap (λ x. take i ns ++ x ∷ []) (sym e))
+    ∙ ap (map entry) (filter-append (is_told rows s) (take i ns) (n ∷ []))
+    ∙ map-append entry (filter (is_told rows s) (take i ns)) (filter (is_told rows s) (n ∷ []))

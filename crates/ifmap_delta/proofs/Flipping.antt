@@ -24,7 +24,7 @@ use Rattle.ifmap_view.specs.Rows.{stored_between, stored_linked, stored_on, stor
 use Rattle.ifmap_view.specs.Views.{IsView}
 use Rattle.ifmap_fresh.specs.Matching.{is_match, one_meets}
 use Rattle.ifmap_delta.specs.Bounds.{IsFlip, Mid}
-use Rattle.ifmap_delta.specs.Changes.{IsChange}
+use Rattle.ifmap_delta.specs.Changes.{ShowsAfter}
 use Rattle.ifmap_delta.specs.Flipped.{AreFlipsOf, IsFlipAt}
 use Rattle.ifmap_delta.specs.Sights.{Links, Sight}
 use Rattle.ifmap_delta.proofs.Joining.{linked_matches, match_turned, matches_linked, some_there}
@@ -59,7 +59,7 @@ module _ (g : Sight) (s : Search) where
       (subst (λ o. one_meets s.match_links (stored_linked (Some a) o g.rows) ≡ true) (sym j) m))
 
 module _ (tells : Tells) (old new : Sight) (s : Search) (was : IsView old.rows old.id_at old.links)
-    (is : IsView new.rows new.id_at new.links) (changes : List ItemChange) (change : IsChange old new changes) where
+    (is : IsView new.rows new.id_at new.links) (changes : List ItemChange) (change : ShowsAfter old new changes) where
   -- an identifier with a match before has the number that it has afterwards
   pub number_before : (w : ℕ) (a b : Identifier) → new.id_at w ≡ Some b → is_match old.rows s.match_links a b ≡ true
       → old.id_at w ≡ Some b
@@ -109,14 +109,22 @@ module _ (tells : Tells) (old new : Sight) (s : Search) (was : IsView old.rows o
             let flip : Flip = record { a = v; b = w; added = added }
             in let here : IsFlipAt old new s (Pair a b) flip =
             (i, j, sym (match_at old.rows a b (Pair a b) (e ∙ ap Some q)) ∙ m, sym (match_at new.rows a b (Pair a b) (e ∙ ap Some q)) ∙ n)
-            in (flip, from_has flips flip (are.each c flip h (subst (λ y. IsFlipAt old new s y flip) (sym (at ∙ q)) here)), refl,
-            inl (refl, refl))
+            in (
+              flip,
+              from_has flips flip (are.each c flip h (subst (λ y. IsFlipAt old new s y flip) (sym (at ∙ q)) here)),
+              refl,
+              inl (refl, refl),
+            )
         at_pair x e c h at (inr q) =
             let flip : Flip = record { a = w; b = v; added = added }
             in let here : IsFlipAt old new s (Pair b a) flip =
             (j, i, sym (match_at old.rows a b (Pair b a) (e ∙ ap Some q)) ∙ m, sym (match_at new.rows a b (Pair b a) (e ∙ ap Some q)) ∙ n)
-            in (flip, from_has flips flip (are.each c flip h (subst (λ y. IsFlipAt old new s y flip) (sym (at ∙ q)) here)), refl,
-            inr (refl, refl))
+            in (
+              flip,
+              from_has flips flip (are.each c flip h (subst (λ y. IsFlipAt old new s y flip) (sym (at ∙ q)) here)),
+              refl,
+              inr (refl, refl),
+            )
 
         differs : (c : Bool) → c ≡ not c → ⊥
         differs true e = let q : true ≡ false = e in cc
@@ -144,7 +152,7 @@ module _ (tells : Tells) (old new : Sight) (s : Search) (was : IsView old.rows o
     pub flip_of : (v w : ℕ) (added : Bool) → IsFlipped flips added v w → Named added v w
     flip_of v w added f =
         let o = are.only f.0 (has_from flips f.0 f.1)
-        in by (o.0).item (member_of (λ d. IsCanonItem d.item) changes change.canon o.0 o.1) f.0 f.2 f.3 o.2
+        in by o.0.item (member_of (λ d. IsCanonItem d.item) changes change.canon o.0 o.1) f.0 f.2 f.3 o.2
       where
         by : (x : Item) → IsCanonItem x → (flip : Flip) → flip.added ≡ added → Joins flip v w → IsFlipAt old new s x flip → Named added v w
         by (One a) i flip e (inl p) at = absurd at
@@ -194,11 +202,11 @@ module _ (tells : Tells) (old new : Sight) (s : Search) (was : IsView old.rows o
 
     -- a link of the new view that is not added was there
     pub stayed : (v w : ℕ) → Links new s v w → ¬ IsFlipped flips true v w → Links old s v w
-    stayed v w l no =
+    stayed v w l apart =
         let n = named new s v w l
         in elim (cases_Bool (is_match old.rows s.match_links n.0 n.1)) [
           | inl t ↦ linked_before v w n.0 n.1 n.2 n.3 t
-          | inr t ↦ absurd (no (flipped v w n.0 n.1 true n.2 n.3 t n.4))
+          | inr t ↦ absurd (apart (flipped v w n.0 n.1 true n.2 n.3 t n.4))
         ]
 
     -- the region's old links are those of the old view

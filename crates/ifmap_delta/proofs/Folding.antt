@@ -1,10 +1,10 @@
 -- What is told of a change makes the next result of the one before.
-use Rattle.std.proofs.Common.{rules, ◌≡◌, ◌⊎◌, inl, inr, Bool, true, false, not, ◌&&◌, Option, Some, List, [], ◌∷◌, ◌++◌, unwrap_or, refl, ap, ◌∙◌, sym, subst}
+use Rattle.std.proofs.Common.{◌≡◌, ◌⊎◌, inl, inr, Bool, true, false, not, ◌&&◌, Option, Some, List, [], ◌∷◌, ◌++◌, unwrap_or, refl, ap, ◌∙◌, sym, subst}
 use Rattle.std.proofs.lemmas.Bool.{cases_Bool}
+use Rattle.std.proofs.lemmas.Cmp.{nat_list_cmp_total, on_total, then_total}
 use Rattle.std.proofs.lemmas.List.Kept.{IsStrictlySortedBy-filter}
 use Rattle.std.specs.Cmp.{IsTotalOrder, tied_itself}
 use Rattle.std.specs.Cmp.Lexicographic.{slice_cmp, texts_ties}
-use Rattle.std.specs.Cmp.Rules.{comparing}
 use Rattle.std.specs.List.{filter, list_any}
 use Rattle.std.specs.List.Sorted.{IsStrictlySortedBy}
 use Rattle.std.specs.Ordering.{is_eq, nat_cmp, ordering_reverse, ordering_then}
@@ -15,13 +15,14 @@ use Rattle.ifmap_ident.specs.Items.{item_order, items_tie, same_item}
 use Rattle.ifmap_lemmas.specs.Having.{Has, any_has, filter_has, has_any, has_filter}
 use Rattle.ifmap_lemmas.specs.Texts.{eq_itself}
 use Rattle.ifmap_plans.specs.Placing.{put}
+use Rattle.ifmap_plans.specs.laws.KeyLaws.{items_total}
 use Rattle.ifmap_search.specs.declared.results.Entry.{Entry}
 use Rattle.ifmap_delta.specs.Differences.{difference, entry_bytes, entry_order, has_entry, same_entry}
 use Rattle.ifmap_delta.specs.Folds.{Sets, with_entries}
 use Rattle.ifmap_delta.proofs.Rising.{has_put, has_still, head_rises, member_of, put_has, put_rises, rising_same, tail_rises}
 
 pub entries_total : IsTotalOrder entry_order
-entries_total = search (comparing, rules)
+entries_total = then_total (on_total (λ (e : Entry). e.item) items_total) (on_total entry_bytes nat_list_cmp_total)
 
 eq_then : (o p : Ordering) → is_eq (ordering_then o p) ≡ (is_eq o && is_eq p)
 eq_then Less p = refl

@@ -13,3 +13,6 @@ pub mod Walking
 pub mod Settling
 pub mod Along
 pub mod Keeping
+pub mod Ties
+pub mod Repairing
+pub mod Showing

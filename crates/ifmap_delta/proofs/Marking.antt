@@ -67,6 +67,10 @@ bool_is true false f g = sym (f refl)
 bool_is false true f g = g refl
 bool_is false false f g = refl
 
+pub both_true : (a b : Bool) → a ≡ true → b ≡ true → (a && b) ≡ true
+both_true true b e f = f
+both_true false b e f = e
+
 not_false : (b : Bool) → not b ≡ true → b ≡ false
 not_false true e = let q : false ≡ true = e in cc
 not_false false e = refl
@@ -143,8 +147,8 @@ module _ (reach : LevelsReach) (expand : LevelsExpand) (g : Sight) (s : Search) 
       (λ e. let k = some_of (mark v) e in marked_reached v k.0 a i k.1)
 
   pub not_reached : (a : Identifier) → IsIdentifier a → ((v : ℕ) → g.id_at v ≡ Some a → ⊥) → is_reached g.rows s a ≡ false
-  not_reached a i no = bool_is (is_reached g.rows s a) false
-      (λ e. let r = reached_marked a i e in absurd (no r.0 r.1)) (λ e. let q : false ≡ true = e in cc)
+  not_reached a i none = bool_is (is_reached g.rows s a) false
+      (λ e. let r = reached_marked a i e in absurd (none r.0 r.1)) (λ e. let q : false ≡ true = e in cc)
 
   pub expanded_marked : (a : Identifier) → IsIdentifier a → is_expanded g.rows s a ≡ true
       → (v : ℕ) × (g.id_at v ≡ Some a) × (goes_on s (g.id_at v) (mark v) ≡ true)
@@ -155,7 +159,7 @@ module _ (reach : LevelsReach) (expand : LevelsExpand) (g : Sight) (s : Search) 
       in let low : is_below s.max_depth (mark n.0) ≡ true = subst (λ o. is_below s.max_depth o ≡ true) (sym m.1)
       (lt_true m.0 s.max_depth (omega (arith, m.2, x.1.1)))
       in let t : is_terminal_at s.terminal (g.id_at n.0) ≡ false = subst (λ o. is_terminal_at s.terminal o ≡ false) (sym n.1) x.0
-      in (n.0, n.1, rw (low, t) refl)
+      in (n.0, n.1, both_true (is_below s.max_depth (mark n.0)) (not (is_terminal_at s.terminal (g.id_at n.0))) low (ap not t))
 
   pub marked_expanded : (v : ℕ) (a : Identifier) → g.id_at v ≡ Some a → goes_on s (g.id_at v) (mark v) ≡ true
       → is_expanded g.rows s a ≡ true
@@ -175,5 +179,5 @@ module _ (reach : LevelsReach) (expand : LevelsExpand) (g : Sight) (s : Search) 
       (marked_expanded v a i)
 
   pub not_expanded : (a : Identifier) → IsIdentifier a → ((v : ℕ) → g.id_at v ≡ Some a → ⊥) → is_expanded g.rows s a ≡ false
-  not_expanded a i no = bool_is (is_expanded g.rows s a) false
-      (λ e. let r = expanded_marked a i e in absurd (no r.0 r.1)) (λ e. let q : false ≡ true = e in cc)
+  not_expanded a i none = bool_is (is_expanded g.rows s a) false
+      (λ e. let r = expanded_marked a i e in absurd (none r.0 r.1)) (λ e. let q : false ≡ true = e in cc)

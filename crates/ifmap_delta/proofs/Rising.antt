@@ -58,8 +58,8 @@ module _ {X : Type 0} (order : X → X → Ordering) (total : IsTotalOrder order
   rising_same [] (y ∷ ys) r q f g = absurd (g y (inl refl))
   rising_same (x ∷ xs) [] r q f g = absurd (f x (inl refl))
   rising_same (x ∷ xs) (y ∷ ys) r q f g =
-      let below = λ z (h : Has xs z). member_of (λ w. order x w ≡ Less) xs (head_rises x xs r) z h
-      in let above = λ z (h : Has ys z). member_of (λ w. order y w ≡ Less) ys (head_rises y ys q) z h
+      let below : (z : X) → Has xs z → order x z ≡ Less = λ z h. member_of (λ w. order x w ≡ Less) xs (head_rises x xs r) z h
+      in let above : (z : X) → Has ys z → order y z ≡ Less = λ z h. member_of (λ w. order y w ≡ Less) ys (head_rises y ys q) z h
       in let one : y ≡ x = elim (f x (inl refl)) [
         | inl e ↦ e
         | inr h ↦ elim (g y (inl refl)) [
@@ -116,13 +116,9 @@ module _ {X : Type 0} (order : X → X → Ordering) (total : IsTotalOrder order
   pub has_still : (x : X) (xs : List X) (z : X) → Has xs z → is_eq (order z x) ≡ false → Has (put order x xs) z
   has_still x xs z h d = by (order z x) refl d
     where
-      low : List X
-      low = filter (λ y. is_lt (order y x)) xs
-
-      high : List X
-      high = filter (λ y. is_gt (order y x)) xs
-
-      by : (o : Ordering) → order z x ≡ o → is_eq o ≡ false → Has (low ++ x ∷ high) z
-      by Less e f = has_left low (x ∷ high) z (has_filter (λ y. is_lt (order y x)) xs z h (ap is_lt e))
+      by : (o : Ordering) → order z x ≡ o → is_eq o ≡ false → Has (put order x xs) z
+      by Less e f = has_left (filter (λ y. is_lt (order y x)) xs) (x ∷ filter (λ y. is_gt (order y x)) xs) z
+          (has_filter (λ y. is_lt (order y x)) xs z h (ap is_lt e))
       by Equal e f = let q : true ≡ false = f in cc
-      by Greater e f = has_right low (x ∷ high) z (inr (has_filter (λ y. is_gt (order y x)) xs z h (ap is_gt e)))
+      by Greater e f = has_right (filter (λ y. is_lt (order y x)) xs) (x ∷ filter (λ y. is_gt (order y x)) xs) z
+          (inr (has_filter (λ y. is_gt (order y x)) xs z h (ap is_gt e)))

@@ -25,10 +25,10 @@ use Rattle.ifmap_fresh.specs.Linking.{end_where}
 use Rattle.ifmap_fresh.specs.Matching.{is_match, one_meets}
 use Rattle.ifmap_fresh.specs.Numbered.{KeepsWalks}
 use Rattle.ifmap_fresh.specs.Reached.{is_expanded, is_reached}
-use Rattle.ifmap_delta.specs.Changes.{IsChange}
+use Rattle.ifmap_delta.specs.Changes.{ShowsAfter}
 use Rattle.ifmap_delta.specs.Shown.{goes_on}
 use Rattle.ifmap_delta.specs.Sights.{AreMarks, Sight}
-use Rattle.ifmap_delta.specs.Touched.{IsSettled, brought, item_at, item_where, linked, moved, planned, turns}
+use Rattle.ifmap_delta.specs.Touched.{IsSettled, brought, item_at, item_where, is_looked_at_either, linked, moved, planned, turns}
 use Rattle.ifmap_delta.proofs.Flipping.{change_at, unchanged}
 use Rattle.ifmap_delta.proofs.Joining.{match_turned, some_there}
 use Rattle.ifmap_delta.proofs.Marking.{LevelsExpand, LevelsReach, bool_is, expanded_is, expanded_marked, mark_named, marked_expanded, marked_reached, reached_is, reached_marked}
@@ -42,7 +42,7 @@ same_or true false = inr refl
 same_or false true = inr refl
 same_or false false = inl refl
 
-same_not : (p q : Bool) → p ≡ q → not (beq p q) ≡ true → ⊥
+pub same_not : (p q : Bool) → p ≡ q → not (beq p q) ≡ true → ⊥
 same_not true true e f = let q : false ≡ true = f in cc
 same_not true false e f = let q : true ≡ false = e in cc
 same_not false true e f = let q : false ≡ true = e in cc
@@ -77,7 +77,7 @@ in_patch patch below v differ = by (row_of patch v) refl
 
 module _ (tells : Tells) (reach : LevelsReach) (expand : LevelsExpand) (old new : Sight) (s : Search)
     (was : IsView old.rows old.id_at old.links) (is : IsView new.rows new.id_at new.links) (changes : List ItemChange)
-    (change : IsChange old new changes) (start top start' top' : ℕ) (mark mark' : ℕ → Option ℕ)
+    (change : ShowsAfter old new changes) (start top start' top' : ℕ) (mark mark' : ℕ → Option ℕ)
     (before : AreMarks old s start top mark) (now : AreMarks new s start' top' mark')
     (keeps : KeepsWalks old.rows old.id_at old.links s start) (keeps' : KeepsWalks new.rows new.id_at new.links s start') where
   -- an identifier is reached before the change exactly where its number has a mark, which is the one that it has afterwards
@@ -112,14 +112,15 @@ module _ (tells : Tells) (reach : LevelsReach) (expand : LevelsExpand) (old new 
 
   module _ (numbers : List ℕ) (all : (v : ℕ) → mark v ≢ mark' v → Has numbers v) where
     abbrev gathered : List Item
-    gathered = planned old new s changes ++ moved new s mark mark' numbers
+    gathered = planned (is_looked_at_either old new s) changes ++ moved new s mark mark' numbers
 
     abbrev brings : ℕ → List Item
     brings v = brought new s v (mark v) (mark' v)
 
     by_moved : (v : ℕ) (x : Item) → mark v ≢ mark' v → Has (brings v) x → Has gathered x
     by_moved v x differ h =
-        has_right (planned old new s changes) (moved new s mark mark' numbers) x (has_joined brings numbers v x (all v differ) h)
+        has_right (planned (is_looked_at_either old new s) changes) (moved new s mark mark' numbers) x
+        (has_joined brings numbers v x (all v differ) h)
 
     reached_changes : (v : ℕ) (a : Identifier) → new.id_at v ≡ Some a → not (beq (is_some (mark v)) (is_some (mark' v))) ≡ true
         → Has gathered (One a)
@@ -144,7 +145,8 @@ module _ (tells : Tells) (reach : LevelsReach) (expand : LevelsExpand) (old new 
         (ap (λ y. one_meets s.match_links (stored_linked (new.id_at v) (new.id_at y) new.rows)) there.2 ∙ matches)
         ∙ ap (λ y. pair_at (new.id_at v) (new.id_at y)) there.2
         ∙ ap (λ o. pair_at o (new.id_at w)) i ∙ ap (λ o. pair_at (Some a) o) j ∙ e
-        in by_moved v x (λ q. same_not (goes_on s (new.id_at v) (mark v)) (goes_on s (new.id_at v) (mark' v)) (ap (goes_on s (new.id_at v)) q) t)
+        in by_moved v x
+        (λ q. same_not (goes_on s (new.id_at v) (mark v)) (goes_on s (new.id_at v) (mark' v)) (ap (goes_on s (new.id_at v)) q) t)
         (has_right (cond (not (beq (is_some (mark v)) (is_some (mark' v)))) (alone (new.id_at v)) [])
         (cond (turns new s v (mark v) (mark' v)) (linked new s v) []) x
         (subst (λ b. Has (cond b (linked new s v) []) x) (sym t)
@@ -165,7 +167,8 @@ module _ (tells : Tells) (reach : LevelsReach) (expand : LevelsExpand) (old new 
 
         either : not (beq (is_reached old.rows s a) (is_reached new.rows s a)) ≡ true → ⊥
         either t = elim (cases_Bool (is_reached old.rows s a)) [
-          | inl e ↦ let r = reached_marked reach expand old s was start top mark before keeps a i e in differs t r.0 (change.numbers r.0 a r.1)
+          | inl e ↦ let r = reached_marked reach expand old s was start top mark before keeps a i e
+              in differs t r.0 (change.numbers r.0 a r.1)
           | inr e ↦ elim (cases_Bool (is_reached new.rows s a)) [
             | inl f ↦ let r = reached_marked reach expand new s is start' top' mark' now keeps' a i f in differs t r.0 r.1
             | inr f ↦ same_not (is_reached old.rows s a) (is_reached new.rows s a) (e ∙ sym f) t
@@ -229,13 +232,13 @@ module _ (tells : Tells) (reach : LevelsReach) (expand : LevelsExpand) (old new 
             in record { looked = still x i out same; stored = λ h. sym same }
         by (Some c) e =
             let at = change_at tells old new s was is changes change x c i e
-            in let looks : ItemChange → Bool = λ d. is_looked_at old.rows s d.item || is_looked_at new.rows s d.item
-            in let no = or_false (is_looked_at old.rows s c.item) (is_looked_at new.rows s c.item)
-            (λ t. out (has_left (planned old new s changes) (moved new s mark mark' numbers) x
-            (subst (λ y. Has (planned old new s changes) y) at.1
+            in let looks : ItemChange → Bool = λ d. is_looked_at_either old new s d.item
+            in let none = or_false (is_looked_at old.rows s c.item) (is_looked_at new.rows s c.item)
+            (λ t. out (has_left (planned (is_looked_at_either old new s) changes) (moved new s mark mark' numbers) x
+            (subst (λ y. Has (planned (is_looked_at_either old new s) changes) y) at.1
             (has_map (λ (d : ItemChange). d.item) (filter looks changes) c (has_filter looks changes c at.0 t)))))
-            in let p : is_looked_at old.rows s x ≡ false = subst (λ y. is_looked_at old.rows s y ≡ false) at.1 no.0
-            in let q : is_looked_at new.rows s x ≡ false = subst (λ y. is_looked_at new.rows s y ≡ false) at.1 no.1
+            in let p : is_looked_at old.rows s x ≡ false = subst (λ y. is_looked_at old.rows s y ≡ false) at.1 none.0
+            in let q : is_looked_at new.rows s x ≡ false = subst (λ y. is_looked_at new.rows s y ≡ false) at.1 none.1
             in record { looked = p ∙ sym q; stored = λ h. let f : false ≡ true = sym p ∙ h in cc }
 
 -- what is gathered is an item that elements mean
@@ -263,9 +266,10 @@ module _ (old new : Sight) (s : Search) (is : IsView new.rows new.id_at new.link
       let m = mapped_has (λ seen. item_at new s v (Some seen)) (new.links v) x h
       in along_canon v (end_where new.rows new.id_at s.match_links v (Some m.0)) x m.2
 
-  pub gathered_canon : (x : Item) → Has (planned old new s changes ++ moved new s mark mark' numbers) x → IsCanonItem x
-  gathered_canon x h = elim (has_either (planned old new s changes) (moved new s mark mark' numbers) x h) [
-    | inl k ↦ let looks : ItemChange → Bool = λ d. is_looked_at old.rows s d.item || is_looked_at new.rows s d.item
+  pub gathered_canon : (x : Item) → Has (planned (is_looked_at_either old new s) changes ++ moved new s mark mark' numbers) x
+      → IsCanonItem x
+  gathered_canon x h = elim (has_either (planned (is_looked_at_either old new s) changes) (moved new s mark mark' numbers) x h) [
+    | inl k ↦ let looks : ItemChange → Bool = λ d. is_looked_at_either old new s d.item
         in let m = map_has (λ (d : ItemChange). d.item) (filter looks changes) x k
         in subst IsCanonItem m.2 (member_of (λ d. IsCanonItem d.item) changes canon m.0 (filter_has looks changes m.0 m.1).0)
     | inr k ↦ let j = joined_has (λ v. brought new s v (mark v) (mark' v)) numbers x k

@@ -6,7 +6,7 @@ use Rattle.std.proofs.lemmas.List.Kept.{IsStrictlySortedBy-filter}
 use Rattle.std.proofs.lemmas.List.Sums.{sum_by-cons}
 use Rattle.std.specs.Cmp.{IsTotalOrder, tied_itself}
 use Rattle.std.specs.Cmp.Lexicographic.{slice_cmp}
-use Rattle.std.specs.List.{AllByRecursion, filter, list_any}
+use Rattle.std.specs.List.{AllByRecursion, filter, list_any, sum}
 use Rattle.std.specs.List.Sorted.{IsStrictlySortedBy}
 use Rattle.std.specs.Ordering.{is_eq, nat_cmp, ordering_reverse}
 use Rattle.std.specs.Str.{bytes_eq}
@@ -78,26 +78,31 @@ module _ {X : Type 0} (order : X → X → Ordering) (total : IsTotalOrder order
   one_sum [] (y ∷ ys) r q a b = absurd (b y (inl refl)).1
   one_sum (x ∷ xs) [] r q a b = absurd (a x (inl refl)).1
   one_sum (x ∷ xs) (y ∷ ys) r q a b =
-      let below = λ z (h : Has xs z). member_of (λ w. order x w ≡ Less) xs (head_rises order total x xs r) z h
-      in let above = λ z (h : Has ys z). member_of (λ w. order y w ≡ Less) ys (head_rises order total y ys q) z h
+      let below : (z : X) → Has xs z → order x z ≡ Less = λ z h. member_of (λ w. order x w ≡ Less) xs (head_rises order total x xs r) z h
+      in let above : (z : X) → Has ys z → order y z ≡ Less = λ z h. member_of (λ w. order y w ≡ Less) ys (head_rises order total y ys q) z h
       in let heads : order x y ≡ Equal = first x y below above (a x (inl refl)) (b y (inl refl))
       in let rest : sum_by f xs ≡ sum_by f ys = one_sum xs ys (tail_rises order total x xs r) (tail_rises order total y ys q)
-      (λ z h. later x y heads z (below z h) (a z (inr h)))
-      (λ z h. later y x (equal_turned x y heads) z (above z h) (b z (inr h)))
+      (λ z h. later ys x y heads z (below z h) (a z (inr h)))
+      (λ z h. later xs y x (equal_turned x y heads) z (above z h) (b z (inr h)))
       in omega (arith, alike x y heads, rest, sum_by-cons f x xs, sum_by-cons f y ys)
     where
       first : (x y : X) → ((z : X) → Has xs z → order x z ≡ Less) → ((z : X) → Has ys z → order y z ≡ Less)
           → (z : X) × Has (y ∷ ys) z × (order x z ≡ Equal) → (z : X) × Has (x ∷ xs) z × (order y z ≡ Equal) → order x y ≡ Equal
-      first x y below above (z, inl e, t) w = subst (λ v. order x v ≡ Equal) (sym e) t
-      first x y below above (z, inr h, t) (v, inl e, u) = equal_turned y x (subst (λ w. order y w ≡ Equal) (sym e) u)
-      first x y below above (z, inr h, t) (v, inr k, u) =
-          absurd (not_both x y (less_right x v y (equal_turned y v u) (below v k)) (less_right y z x (equal_turned x z t) (above z h)))
+      first x y below above p q = elim p.1 [
+        | inl e ↦ subst (λ v. order x v ≡ Equal) (sym e) p.2
+        | inr h ↦ elim q.1 [
+          | inl e ↦ equal_turned y x (subst (λ w. order y w ≡ Equal) (sym e) q.2)
+          | inr k ↦ absurd (not_both x y (less_right x q.0 y (equal_turned y q.0 q.2) (below q.0 k))
+              (less_right y p.0 x (equal_turned x p.0 p.2) (above p.0 h)))
+        ]
+      ]
 
-      later : {ys : List X} (x y : X) → order x y ≡ Equal → (z : X) → order x z ≡ Less → (w : X) × Has (y ∷ ys) w × (order z w ≡ Equal)
+      later : (ys : List X) (x y : X) → order x y ≡ Equal → (z : X) → order x z ≡ Less → (w : X) × Has (y ∷ ys) w × (order z w ≡ Equal)
           → (w : X) × Has ys w × (order z w ≡ Equal)
-      later x y heads z l (w, inl e, t) =
-          absurd (not_equal x y (less_right x z y (subst (λ v. order z v ≡ Equal) (sym e) t) l) heads)
-      later x y heads z l (w, inr h, t) = (w, h, t)
+      later ys x y heads z l p = elim p.1 [
+        | inl e ↦ absurd (not_equal x y (less_right x z y (subst (λ v. order z v ≡ Equal) (sym e) p.2) l) heads)
+        | inr h ↦ (p.0, h, p.2)
+      ]
 
 -- identifiers and items that are the same have one size
 same_lengths : (a b : List ℕ) → bytes_eq a b ≡ true → length a ≡ length b
@@ -106,7 +111,7 @@ same_lengths a b e = ap length (eq_tells a b e)
 same_sizes : (x y : Item) → same_item x y ≡ true → item_size x ≡ item_size y
 same_sizes (One a) (One b) e =
     let p = same_lengths (identifier_bytes a) (identifier_bytes b) (and_parts (same_identifier a b) true e).0
-    in rw p refl
+    in ap (λ n. sum (n ∷ [])) p
 same_sizes (One a) (Pair b c) e = let q : false ≡ true = (and_parts (same_identifier a b) false e).1 in cc
 same_sizes (Pair a b) (One c) e = let q : false ≡ true = (and_parts (same_identifier a c) false e).1 in cc
 same_sizes (Pair a b) (Pair c d) e =
@@ -114,10 +119,10 @@ same_sizes (Pair a b) (Pair c d) e =
     in let g = and_parts (same_identifier b d) true f.1
     in let p = same_lengths (identifier_bytes a) (identifier_bytes c) f.0
     in let q = same_lengths (identifier_bytes b) (identifier_bytes d) g.0
-    in rw (p, q) refl
+    in ap (λ n. sum (n ∷ (length (identifier_bytes b) ∷ []))) p ∙ ap (λ n. sum (length (identifier_bytes c) ∷ (n ∷ []))) q
 
 same_size : (x y : Entry) → same_entry x y ≡ true → entry_size x ≡ entry_size y
-unfolding entry_size, entry_bytes
+unfolding entry_size entry_bytes
 same_size x y e =
     let p = and_parts (same_item x.item y.item) (bytes_eq (canonical_bytes x.element) (canonical_bytes y.element)) e
     in let i = same_sizes x.item y.item p.0
@@ -126,7 +131,7 @@ same_size x y e =
 
 -- results are in the order of entries
 order_is : (x y : Attachment) → attachment_order x y ≡ Less → entry_order (entry_of x) (entry_of y) ≡ Less
-unfolding stored_bytes, entry_bytes
+unfolding stored_bytes entry_bytes
 order_is x y e = e
 
 all_rise : (x : Attachment) (ys : List Attachment) → AllByRecursion (λ y. attachment_order x y ≡ Less) ys

@@ -32,7 +32,7 @@ use Rattle.ifmap_delta.specs.Shown.{shown_on}
 use Rattle.ifmap_delta.specs.Sights.{Sight}
 use Rattle.ifmap_delta.specs.Touched.{has_met, left_out_on}
 use Rattle.ifmap_delta.proofs.Gathering.{gathers, grouped}
-use Rattle.ifmap_delta.proofs.Marking.{bool_is}
+use Rattle.ifmap_delta.proofs.Marking.{bool_is, both_true}
 use Rattle.ifmap_delta.proofs.Rising.{all_of}
 use Rattle.ifmap_delta.proofs.Same.{AreCanon, Tells, item_itself, member, same_item_is}
 
@@ -47,13 +47,13 @@ is_equal Greater e = let q : false ≡ true = e in cc
 -- rows of one list of canonical bytes are one entry
 bytes_tie : (a b : Attachment) → bytes_eq (entry_bytes (entry_of a)) (entry_bytes (entry_of b)) ≡ true
     → eq_by_cmp stored_order b.stored a.stored ≡ true
-unfolding entry_bytes, stored_bytes
+unfolding entry_bytes stored_bytes
 bytes_tie a b e = ap is_eq (slice_cmp-same (canonical_bytes b.stored.element) (canonical_bytes a.stored.element)
     (sym (eq_tells (canonical_bytes a.stored.element) (canonical_bytes b.stored.element) e)))
 
 tie_bytes : (a b : Attachment) → eq_by_cmp stored_order b.stored a.stored ≡ true
     → bytes_eq (entry_bytes (entry_of a)) (entry_bytes (entry_of b)) ≡ true
-unfolding entry_bytes, stored_bytes
+unfolding entry_bytes stored_bytes
 tie_bytes a b e =
     subst (λ l. bytes_eq (canonical_bytes a.stored.element) l ≡ true)
     (sym (same_texts (canonical_bytes b.stored.element) (canonical_bytes a.stored.element) (is_equal _ e)))
@@ -122,13 +122,19 @@ module _ (tells : Tells) (one other : Sight) (s : Search) (graph : IsGraph one.r
   abbrev met : Stored → Bool
   met t = meets_optional s.result_filter t.element
 
+  abbrev ties : Attachment → Stored → Bool
+  ties r o = eq_by_cmp stored_order o r.stored && met o
+
   abbrev told : Attachment → Bool
   told r = is_looked_at one.rows s r.item && (met r.stored && not (has_met s.result_filter (shown_on other.rows s r.item) r.stored))
 
-  joined : (is : List Item) → left_out_on one other s is ≡ map entry_of (filter told (gathered one.rows is))
+  abbrev left : List Item → List Entry
+  left = left_out_on s.result_filter (shown_on one.rows s) (shown_on other.rows s)
+
+  joined : (is : List Item) → left is ≡ map entry_of (filter told (gathered one.rows is))
   joined [] = refl
   joined (x ∷ xs) =
-      ap (λ l. l ++ left_out_on one other s xs)
+      ap (λ l. l ++ left xs)
       (one_item x (is_looked_at one.rows s x) (λ t. met t && not (has_met s.result_filter (shown_on other.rows s x) t)) told (λ t. refl)
       (stored_on x one.rows))
       ∙ ap (λ l. map entry_of (filter told (map (row_at x) (stored_on x one.rows))) ++ l) (joined xs)
@@ -140,9 +146,6 @@ module _ (tells : Tells) (one other : Sight) (s : Search) (graph : IsGraph one.r
   in_other r i = bool_is (has_entry (fresh other.rows s) (entry_of r)) (has_met s.result_filter (shown_on other.rows s r.item) r.stored)
       forward (λ h. backward (is_looked_at other.rows s r.item) refl h)
     where
-      ties : Stored → Bool
-      ties o = eq_by_cmp stored_order o r.stored && met o
-
       forward : has_entry (fresh other.rows s) (entry_of r) ≡ true
           → has_met s.result_filter (shown_on other.rows s r.item) r.stored ≡ true
       forward h =
@@ -159,15 +162,16 @@ module _ (tells : Tells) (one other : Sight) (s : Search) (graph : IsGraph one.r
           = has_map (λ (x : Attachment). x.stored) (filter (λ x. same_item x.item r.item) other.rows) m.0
           (has_filter (λ x. same_item x.item r.item) other.rows m.0 f.0
           (subst (λ x. same_item m.0.item x ≡ true) (sym at) (item_itself m.0.item)))
-          in subst (λ b. list_any ties (cond b (stored_on r.item other.rows) []) ≡ true) (sym looked)
-          (has_any ties (stored_on r.item other.rows) m.0.stored there (rw (bytes_tie r m.0 k.1, p.1) refl))
+          in subst (λ b. list_any (ties r) (cond b (stored_on r.item other.rows) []) ≡ true) (sym looked)
+          (has_any (ties r) (stored_on r.item other.rows) m.0.stored there
+          (both_true (eq_by_cmp stored_order m.0.stored r.stored) (met m.0.stored) (bytes_tie r m.0 k.1) p.1))
 
       backward : (b : Bool) → is_looked_at other.rows s r.item ≡ b
           → has_met s.result_filter (cond b (stored_on r.item other.rows) []) r.stored ≡ true
           → has_entry (fresh other.rows s) (entry_of r) ≡ true
       backward false looked h = let q : false ≡ true = h in cc
       backward true looked h =
-          let t = any_has ties (stored_on r.item other.rows) h
+          let t = any_has (ties r) (stored_on r.item other.rows) h
           in let p = and_parts (eq_by_cmp stored_order t.0 r.stored) (met t.0) t.2
           in let m = map_has (λ (x : Attachment). x.stored) (filter (λ x. same_item x.item r.item) other.rows) t.0 t.1
           in let f = filter_has (λ (x : Attachment). same_item x.item r.item) other.rows m.0 m.1
@@ -175,13 +179,13 @@ module _ (tells : Tells) (one other : Sight) (s : Search) (graph : IsGraph one.r
           (member (λ r. IsCanonItem r.item) other.rows beside.items m.0 f.0).identifiers i.identifiers f.1
           in let seen : is_looked_at other.rows s m.0.item ≡ true = subst (λ x. is_looked_at other.rows s x ≡ true) (sym at) looked
           in let meets : met m.0.stored ≡ true = subst (λ y. met y ≡ true) (sym m.2) p.1
-          in let is : is_found other.rows s m.0 ≡ true = rw (seen, meets) refl
+          in let is : is_found other.rows s m.0 ≡ true = both_true (is_looked_at other.rows s m.0.item) (met m.0.stored) seen meets
           in let bytes : bytes_eq (entry_bytes (entry_of r)) (entry_bytes (entry_of m.0)) ≡ true
           = tie_bytes r m.0 (subst (λ y. eq_by_cmp stored_order y r.stored ≡ true) (sym m.2) p.0)
           in let item : same_item r.item m.0.item ≡ true = subst (λ x. same_item r.item x ≡ true) (sym at) (item_itself r.item)
           in has_any (same_entry (entry_of r)) (fresh other.rows s) (entry_of m.0)
           (has_map entry_of (filter (is_found other.rows s) other.rows) m.0 (has_filter (is_found other.rows s) other.rows m.0 f.0 is))
-          (rw (item, bytes) refl)
+          (both_true (same_item r.item m.0.item) (bytes_eq (entry_bytes (entry_of r)) (entry_bytes (entry_of m.0))) item bytes)
 
   module _ (items : List Item) (rising : IsStrictlySortedBy item_order items) (canon : (x : Item) → Has items x → IsCanonItem x)
       (settled : (x : Item) → IsCanonItem x → has_item items x ≡ false
@@ -211,16 +215,17 @@ module _ (tells : Tells) (one other : Sight) (s : Search) (graph : IsGraph one.r
             in other_has ∙ subst (λ b. list_any (λ o. eq_by_cmp stored_order o r.stored && met o) (cond b (stored_on r.item other.rows) [])
             ≡ true) (sym seen)
             (has_any (λ o. eq_by_cmp stored_order o r.stored && met o) (stored_on r.item other.rows) r.stored there
-            (rw (tied_itself r.stored, m) refl))
+            (both_true (eq_by_cmp stored_order r.stored r.stored) (met r.stored) (tied_itself r.stored) m))
 
         by : (b : Bool) → has_item items r.item ≡ b → (b && told r) ≡ (is_found one.rows s r && kept r)
         by true e =
-            and_joined (is_looked_at one.rows s r.item) (met r.stored) (not (has_met s.result_filter (shown_on other.rows s r.item) r.stored))
+            and_joined (is_looked_at one.rows s r.item) (met r.stored)
+            (not (has_met s.result_filter (shown_on other.rows s r.item) r.stored))
             ∙ ap (λ a. (is_looked_at one.rows s r.item && met r.stored) && not a) (sym other_has)
         by false e = sym (outside (is_looked_at one.rows s r.item) (met r.stored) (has_entry (fresh other.rows s) (entry_of r)) (stays e))
 
     -- what is left out item by item is the difference of the results
-    pub difference_is : left_out_on one other s items ≡ difference (fresh one.rows s) (fresh other.rows s)
+    pub difference_is : left items ≡ difference (fresh one.rows s) (fresh other.rows s)
     difference_is =
         joined items
         ∙ ap (λ l. map entry_of (filter told l))

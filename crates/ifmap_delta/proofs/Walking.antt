@@ -22,7 +22,7 @@ use Rattle.ifmap_search.specs.declared.searches.Search.{Search}
 use Rattle.ifmap_view.specs.Views.{IsView}
 use Rattle.ifmap_fresh.specs.Linking.{is_terminal_at}
 use Rattle.ifmap_delta.specs.Bounds.{IsFlip, IsNear, IsTouched, Mid, links_of}
-use Rattle.ifmap_delta.specs.Changes.{IsChange}
+use Rattle.ifmap_delta.specs.Changes.{ShowsAfter}
 use Rattle.ifmap_delta.specs.Flipped.{AreFlipsOf}
 use Rattle.ifmap_delta.specs.Sights.{Links, Sight, is_terminal_in}
 use Rattle.ifmap_delta.proofs.Flipping.{added_flip, mid_there, named, old_there, removed_flip, there_mid, there_old}
@@ -70,8 +70,15 @@ sum_passed p f g le [] = omega arith
 sum_passed p f g le (n ∷ ns) = elim (cases_Bool (p n)) [
   | inl t ↦ let e : cond (p n) (f n) 0 ≡ f n = ap (λ b. cond b (f n) 0) t
       in let q : filter p (n ∷ ns) ≡ n ∷ filter p ns = ap (λ b. cond b (n ∷ filter p ns) (filter p ns)) t
-      in omega (arith, le n, e, ap (sum_by g) q, sum_passed p f g le ns, sum_by-cons (λ v. cond (p v) (f v) 0) n ns,
-      sum_by-cons g n (filter p ns))
+      in omega (
+        arith,
+        le n,
+        e,
+        ap (sum_by g) q,
+        sum_passed p f g le ns,
+        sum_by-cons (λ v. cond (p v) (f v) 0) n ns,
+        sum_by-cons g n (filter p ns),
+      )
   | inr t ↦ let e : cond (p n) (f n) 0 ≡ 0 = ap (λ b. cond b (f n) 0) t
       in let q : filter p (n ∷ ns) ≡ filter p ns = ap (λ b. cond b (n ∷ filter p ns) (filter p ns)) t
       in omega (arith, e, ap (sum_by g) q, sum_passed p f g le ns, sum_by-cons (λ v. cond (p v) (f v) 0) n ns)
@@ -89,7 +96,7 @@ turned_within p f g Among ns before after le apart among bound = record {
 }
 
 module _ (tells : Tells) (old new : Sight) (s : Search) (was : IsView old.rows old.id_at old.links)
-    (is : IsView new.rows new.id_at new.links) (changes : List ItemChange) (change : IsChange old new changes) where
+    (is : IsView new.rows new.id_at new.links) (changes : List ItemChange) (change : ShowsAfter old new changes) where
   abbrev T : ℕ → Bool
   T = is_terminal_in old s
 

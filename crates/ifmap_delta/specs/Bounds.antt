@@ -1,4 +1,4 @@
--- How many steps a change may take: ten times the links of what is near the links that came and went.
+-- How many steps a change may take: ten times the links of what is near links that came and went.
 use Rattle.std.specs.Prelude.{ℕ, ◌+◌, ◌⊎◌, length}
 use Rattle.ifmap_region.specs.Bounds.{IsWithin}
 use Rattle.ifmap_region.specs.Near.{Near, SameDepth}

@@ -11,7 +11,8 @@ use Rattle.ifmap_fresh.specs.Matching.{one_meets}
 use Rattle.ifmap_delta.specs.Sights.{Sight}
 
 module _ (old new : Sight) (s : Search) where
-  -- the flip joins the numbers of the item's identifiers, and the item's link matches in one of the two alone
+  -- the flip joins the numbers of the item's identifiers, and its link matches in one of the two
+  -- alone
   abbrev pub IsFlipAt : Item → Flip → Type 0
   IsFlipAt (One a) flip = ⊥
   IsFlipAt (Pair a b) flip =
@@ -21,5 +22,7 @@ module _ (old new : Sight) (s : Search) where
 
   -- flips are those of the items that change
   pub record AreFlipsOf (changes : List ItemChange) (flips : List Flip) : Type 0 where
-    pub only : (flip : Flip) → Has flips flip → (c : ItemChange) × Has changes c × IsFlipAt c.item flip
-    pub each : (c : ItemChange) (flip : Flip) → Has changes c → IsFlipAt c.item flip → Has flips flip
+    pub only : (flip : Flip) → Has flips flip
+        → (c : ItemChange) × Has changes c × IsFlipAt c.item flip
+    pub each : (c : ItemChange) (flip : Flip) → Has changes c → IsFlipAt c.item flip
+        → Has flips flip

@@ -25,12 +25,14 @@ with_entries (e ∷ entries) set = with_entries entries (put entry_order e set)
 abbrev pub set_under : List ℕ → Option (List Entry) → Sets → Sets
 set_under name set sets = update bytes_eq sets name set
 
--- the sets after one item: a result begins a set, what came is added and what went is taken out, what was notified
--- changes nothing, and an error ends the set that it names, or all
+-- the sets after one item: a result begins a set, what came is added and what went is taken out,
+-- what was notified changes nothing, and an error ends the set that it names, or all
 abbrev pub fold_item : PollItem → Sets → Sets
 fold_item (the_item.Search name entries) sets = set_under name (Some (with_entries entries [])) sets
-fold_item (the_item.Update name entries) sets = set_under name (Some (with_entries entries (unwrap_or (sets name) []))) sets
-fold_item (the_item.Delete name entries) sets = set_under name (option_map (λ set. difference set entries) (sets name)) sets
+fold_item (the_item.Update name entries) sets =
+    set_under name (Some (with_entries entries (unwrap_or (sets name) []))) sets
+fold_item (the_item.Delete name entries) sets =
+    set_under name (option_map (λ set. difference set entries) (sets name)) sets
 fold_item (the_item.Notify name entries) sets = sets
 fold_item (the_item.Error (Some name) code note) sets = set_under name None sets
 fold_item (the_item.Error None code note) sets = no_sets

@@ -14,8 +14,8 @@ use Rattle.ifmap_fresh.specs.Reached.{is_expanded, is_reached}
 
 -- by the attachments after the change
 module _ (after : List Attachment) (s : Search) where
-  -- what is notified on the item counts: the identifier is reached, or an end of the link is expanded and the link matches
-  -- with the notified element added
+  -- what is notified on the item counts: the identifier is reached, or an end of the link is
+  -- expanded and the link matches with the notified element added
   abbrev pub counts_on : Item → Element → Bool
   counts_on (One a) element = is_reached after s a
   counts_on (Pair a b) element = (is_expanded after s a || is_expanded after s b)

@@ -1,4 +1,5 @@
--- What a search shows of an item, and from which numbers its walks go on. No public clause cites this module.
+-- What a search shows of an item, and from which numbers its walks go on. No public clause cites
+-- this module.
 use Rattle.std.specs.Prelude.{ℕ, Bool, not, ◌&&◌, List, [], Option, if◌then◌else◌}
 use Rattle.ifmap_ident.specs.declared.identifiers.Identifier.{Identifier}
 use Rattle.ifmap_ident.specs.declared.items.Item.{Item}

@@ -18,7 +18,8 @@ pub record Sight : Type 0 where
   pub links : ℕ → List LinkSeen
 
 -- what this view shows, where its members are these
-abbrev pub sight_of : {X : Type 0} → (X → List Attachment) → (X → ℕ → Option Identifier) → (X → ℕ → List LinkSeen) → X → Sight
+abbrev pub sight_of : {X : Type 0} → (X → List Attachment) → (X → ℕ → Option Identifier)
+    → (X → ℕ → List LinkSeen) → X → Sight
 sight_of rows id_at links view = record { rows = rows view; id_at = id_at view; links = links view }
 
 -- a number has a link with another that the search goes along
@@ -29,8 +30,8 @@ Links g s = AreLinked g.rows g.id_at g.links s
 abbrev pub is_terminal_in : Sight → Search → ℕ → Bool
 is_terminal_in g s = is_terminal_number g.rows g.id_at g.links s
 
--- a region's start, greatest depth and marks are those of a search: each number that a walk reaches has a mark, and it is
--- the least number of links of such a walk
+-- a region's start, greatest depth and marks are those of a search: each number that a walk reaches
+-- has a mark, and it is the least number of links of such a walk
 pub record AreMarks (g : Sight) (s : Search) (start top : ℕ) (mark : ℕ → Option ℕ) : Type 0 where
   pub identifier : IsIdentifier s.start
   pub here : g.id_at start ≡ Some s.start
@@ -39,7 +40,8 @@ pub record AreMarks (g : Sight) (s : Search) (start top : ℕ) (mark : ℕ → O
 
 -- the marks of a subscription are those of the view
 abbrev pub HasMarks : Sight → Subscription → Type 0
-HasMarks g sub = AreMarks g sub.search sub.region.start sub.region.max_depth (mark_of sub.region.marks.entries)
+HasMarks g sub = AreMarks g sub.search sub.region.start sub.region.max_depth
+    (mark_of sub.region.marks.entries)
 
 -- a subscription keeps what the view has: the marks, and the size of the result
 pub record IsKept (g : Sight) (sub : Subscription) : Type 0 where

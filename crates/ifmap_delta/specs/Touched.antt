@@ -1,4 +1,5 @@
--- The items on which a change may tell something, as they are gathered. No public clause cites this module.
+-- The items on which a change may tell something, as they are gathered. No public clause cites this
+-- module.
 use Rattle.std.specs.Prelude.{◌≡◌, ◌≢◌, ℕ, Bool, true, false, ◌&&◌, ◌||◌, not, ◌⊎◌, List, [], ◌++◌, length, map, Option, None, Some, is_some, if◌then◌else◌}
 use Rattle.std.specs.List.{cons_option, filter, filter_map, flat_map}
 use Rattle.std.specs.List.Sorted.{IsStrictlySortedBy}
@@ -24,10 +25,13 @@ use Rattle.ifmap_fresh.specs.Linking.{end_where}
 use Rattle.ifmap_delta.specs.Shown.{goes_on, shown_on}
 use Rattle.ifmap_delta.specs.Sights.{Sight}
 
--- the items of a plan's changes at which the search looks before or afterwards
-abbrev pub planned : Sight → Sight → Search → List ItemChange → List Item
-planned old new s changes =
-    map (λ c. c.item) (filter (λ c. is_looked_at old.rows s c.item || is_looked_at new.rows s c.item) changes)
+-- the items of a plan's changes that pass a test
+abbrev pub planned : (Item → Bool) → List ItemChange → List Item
+planned p changes = map (λ c. c.item) (filter (λ c. p c.item) changes)
+
+-- the search looks at the item before or afterwards
+abbrev pub is_looked_at_either : Sight → Sight → Search → Item → Bool
+is_looked_at_either old new s x = is_looked_at old.rows s x || is_looked_at new.rows s x
 
 module _ (new : Sight) (s : Search) where
   -- the item of a link, where there is one
@@ -50,8 +54,8 @@ module _ (new : Sight) (s : Search) where
   abbrev pub looked_along : ℕ → Option ℕ → Option ℕ → ℕ
   looked_along v was now = if turns v was now then length (new.links v) else 0
 
-  -- the items that a number brings whose mark changes: its own, where it has just one of the marks, and those of its
-  -- links, where walks go on from it with one of them alone
+  -- the items that a number brings whose mark changes: its own, where it has just one of the marks,
+  -- and those of its links, where walks go on from it with one of them alone
   abbrev pub brought : ℕ → Option ℕ → Option ℕ → List Item
   brought v was now =
       (if not (beq (is_some was) (is_some now)) then alone (new.id_at v) else [])
@@ -61,7 +65,8 @@ module _ (new : Sight) (s : Search) where
   abbrev pub moved : (ℕ → Option ℕ) → (ℕ → Option ℕ) → List ℕ → List Item
   moved was now numbers = flat_map (λ v. brought v (was v) (now v)) numbers
 
--- an item tells nothing: the search looks at it before and afterwards with the same stored on it, or at neither
+-- an item tells nothing: the search looks at it before and afterwards with the same stored on it,
+-- or at neither
 pub record IsSettled (old new : Sight) (s : Search) (x : Item) : Type 0 where
   pub looked : is_looked_at old.rows s x ≡ is_looked_at new.rows s x
   pub stored : is_looked_at old.rows s x ≡ true → stored_on x old.rows ≡ stored_on x new.rows
@@ -74,14 +79,17 @@ pub record AreTouched (old new : Sight) (s : Search) (items : List Item) : Type 
 
 -- one of the rows has the canonical bytes of what is stored, and meets the filter
 abbrev pub has_met : Option Filter → List Stored → Stored → Bool
-has_met filter_by rows t = list_any (λ o. eq_by_cmp stored_order o t && meets_optional filter_by o.element) rows
+has_met filter_by rows t =
+    list_any (λ o. eq_by_cmp stored_order o t && meets_optional filter_by o.element) rows
 
--- what of these meets the filter, and of whose canonical bytes none of the others is that meets it, as entries of an item
+-- what of these meets the filter, and of whose canonical bytes none of the others is that meets it,
+-- as entries of an item
 abbrev pub left_out : Option Filter → Item → List Stored → List Stored → List Entry
 left_out filter_by x these others =
-    map (entry_at x) (filter (λ t. meets_optional filter_by t.element && not (has_met filter_by others t)) these)
+    map (entry_at x)
+    (filter (λ t. meets_optional filter_by t.element && not (has_met filter_by others t)) these)
 
--- what the first shows of some items, and the second does not
-abbrev pub left_out_on : Sight → Sight → Search → List Item → List Entry
-left_out_on one other s items =
-    flat_map (λ x. left_out s.result_filter x (shown_on one.rows s x) (shown_on other.rows s x)) items
+-- what the first shows of some items, and the other does not
+abbrev pub left_out_on : Option Filter → (Item → List Stored) → (Item → List Stored) → List Item
+    → List Entry
+left_out_on filter_by one other items = flat_map (λ x. left_out filter_by x (one x) (other x)) items

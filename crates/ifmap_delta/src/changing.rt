@@ -1,7 +1,7 @@
 //! What a change of the graph does to a subscription.
 ghost use Rattle.std.specs.Prelude.{IfOk};
 ghost use Rattle.ifmap_delta.specs.Bounds.{IsNear, IsWithinBound, links_of};
-ghost use Rattle.ifmap_delta.specs.Changes.{IsChange, IsMoved};
+ghost use Rattle.ifmap_delta.specs.Changes.{ShowsAfter, IsMoved};
 ghost use Rattle.ifmap_delta.specs.Sights.{AreMarks, HasMarks, IsKept, sight_of};
 ghost use Rattle.ifmap_region.specs.Bounds.{IsWithin};
 ghost use Rattle.ifmap_region.specs.Marks.{mark_of, over};
@@ -15,7 +15,7 @@ use crate::subscriptions::{Moved, Subscription};
 use crate::touched::touched_items;
 use ifmap_elem::Many;
 use ifmap_fresh::LinksOf;
-use ifmap_fresh::laws::{levels_are_walks, links_go_both_ways, numbers_keep_walks};
+use ifmap_fresh::laws::links_go_both_ways;
 use ifmap_ident::laws::bytes_tell_identifiers_apart;
 use ifmap_plans::Plan;
 use ifmap_region::{Patch, repair};
@@ -42,7 +42,7 @@ pub fn change<G: View, D: View, L: Ledger>(
     steps: &mut Steps<L>,
 ) -> Result<Moved, NoMemory>
     requires kept { IsKept (sight_of G.rows G.id_at G.links graph.now) subscription.now }
-    requires change { IsChange (sight_of G.rows G.id_at G.links graph.now)
+    requires change { ShowsAfter (sight_of G.rows G.id_at G.links graph.now)
         (sight_of D.rows D.id_at D.links draft.now) plan.now.changes }
     ensures moved { IfOk result (IsMoved (sight_of G.rows G.id_at G.links graph.now)
         (sight_of D.rows D.id_at D.links draft.now) subscription.now) }
@@ -52,6 +52,7 @@ pub fn change<G: View, D: View, L: Ledger>(
         (sight_of D.rows D.id_at D.links draft.now) subscription.now.search
         subscription.now.region.start steps.old steps.new }
 {
+    bytes_tell_identifiers_apart();
     let patch = patch_for(alloc, subscription, graph, draft, plan, steps)?;
     let search = &subscription.search;
     let before = Side {
@@ -91,7 +92,7 @@ fn patch_for<G: View, D: View, L: Ledger>(
     steps: &mut Steps<L>,
 ) -> Result<Patch, NoMemory>
     requires marks { HasMarks (sight_of G.rows G.id_at G.links graph.now) subscription.now }
-    requires change { IsChange (sight_of G.rows G.id_at G.links graph.now)
+    requires change { ShowsAfter (sight_of G.rows G.id_at G.links graph.now)
         (sight_of D.rows D.id_at D.links draft.now) plan.now.changes }
     ensures graph { IsView (G.rows graph.now) (G.id_at graph.now) (G.links graph.now) }
     ensures draft { IsView (D.rows draft.now) (D.id_at draft.now) (D.links draft.now) }
@@ -106,7 +107,6 @@ fn patch_for<G: View, D: View, L: Ledger>(
 {
     bytes_tell_identifiers_apart();
     links_go_both_ways();
-    numbers_keep_walks();
     let search = &subscription.search;
     // what holds of every view
     let _ = graph.number(&search.start);

@@ -9,7 +9,7 @@ ghost use Rattle.ifmap_ident.specs.declared.items.Item.{Item};
 ghost use Rattle.ifmap_lemmas.specs.Having.{Has};
 ghost use Rattle.ifmap_region.specs.Marks.{mark_of};
 ghost use Rattle.ifmap_search.specs.Sizes.{entries_size, entry_size};
-ghost use Rattle.ifmap_view.specs.Attachments.{stored_order};
+ghost use Rattle.ifmap_view.specs.Attachments.{IsGraph, stored_order};
 
 use crate::marks::Patched;
 use crate::sides::Side;
@@ -72,7 +72,8 @@ fn add_differences<G: View, D: View>(
     item: Item,
     told: &mut Told,
 ) -> Result<(), NoMemory>
-    requires search { before.now.search.now ≡ after.now.search.now }
+    requires graph { IsGraph (G.rows before.now.view.now) }
+    requires draft { IsGraph (D.rows after.now.view.now) }
     requires before { HaveMarks (sight_of G.rows G.id_at G.links before.now.view.now)
         before.now.search.now (mark_of before.now.marks.now.marks.entries) }
     requires after { HaveMarks (sight_of D.rows D.id_at D.links after.now.view.now)
@@ -80,12 +81,12 @@ fn add_differences<G: View, D: View>(
     requires canon { IsCanonItem item }
     ensures deleted { OnOk result (told.new.deleted.items ≡ told.old.deleted.items ++ left_out
         after.now.search.now.result_filter item
-        (shown_on (G.rows before.now.view.now) after.now.search.now item)
+        (shown_on (G.rows before.now.view.now) before.now.search.now item)
         (shown_on (D.rows after.now.view.now) after.now.search.now item)) }
     ensures updated { OnOk result (told.new.updated.items ≡ told.old.updated.items ++ left_out
         after.now.search.now.result_filter item
         (shown_on (D.rows after.now.view.now) after.now.search.now item)
-        (shown_on (G.rows before.now.view.now) after.now.search.now item)) }
+        (shown_on (G.rows before.now.view.now) before.now.search.now item)) }
 {
     let was = before.rows_shown(&item);
     let now = after.rows_shown(&item);
@@ -102,18 +103,21 @@ pub(crate) fn differences_on<G: View, D: View>(
     after: &Side<'_, D, Patched<'_>>,
     items: Vec<Item>,
 ) -> Result<Told, NoMemory>
-    requires search { before.now.search.now ≡ after.now.search.now }
+    requires graph { IsGraph (G.rows before.now.view.now) }
+    requires draft { IsGraph (D.rows after.now.view.now) }
     requires before { HaveMarks (sight_of G.rows G.id_at G.links before.now.view.now)
         before.now.search.now (mark_of before.now.marks.now.marks.entries) }
     requires after { HaveMarks (sight_of D.rows D.id_at D.links after.now.view.now)
         after.now.search.now (patched after.now.marks.now) }
     requires canon { (x : Item) → Has items.items x → IsCanonItem x }
     ensures deleted { IfOk result (λ told. told.deleted.items ≡ left_out_on
-        (sight_of G.rows G.id_at G.links before.now.view.now)
-        (sight_of D.rows D.id_at D.links after.now.view.now) after.now.search.now items.items) }
+        after.now.search.now.result_filter
+        (shown_on (G.rows before.now.view.now) before.now.search.now)
+        (shown_on (D.rows after.now.view.now) after.now.search.now) items.items) }
     ensures updated { IfOk result (λ told. told.updated.items ≡ left_out_on
-        (sight_of D.rows D.id_at D.links after.now.view.now)
-        (sight_of G.rows G.id_at G.links before.now.view.now) after.now.search.now items.items) }
+        after.now.search.now.result_filter
+        (shown_on (D.rows after.now.view.now) after.now.search.now)
+        (shown_on (G.rows before.now.view.now) before.now.search.now) items.items) }
 {
     let mut told = Told {
         deleted: Vec::new(alloc),

@@ -1,5 +1,6 @@
 //! The depths of numbers, as a region has them and as they are after a patch.
 ghost use Rattle.std.specs.Prelude.{◌≡◌, ℕ, Option};
+ghost use Rattle.ifmap_region.specs.Marks.{mark_of, over};
 
 use ifmap_region::{Patch, Region};
 
@@ -35,9 +36,16 @@ impl<'a> Marks for Patched<'a> {
     ghost mark = { λ p. over p.patch.now (mark_of p.region.now.marks.entries) };
 
     fn mark_at(&self, number: u64) -> Option<u32> {
-        match self.patch.row(number) {
-            Some(mark) => mark,
-            None => self.region.mark(number),
-        }
+        mark_after(self.region, self.patch, number)
+    }
+}
+
+// The depth of a number after a patch of a region, where it has one.
+pub(crate) fn mark_after(region: &Region, patch: &Patch, number: u64) -> Option<u32>
+    ensures { result ≡ over patch.now (mark_of region.now.marks.entries) number }
+{
+    match patch.row(number) {
+        Some(mark) => mark,
+        None => region.mark(number),
     }
 }

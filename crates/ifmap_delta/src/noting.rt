@@ -1,5 +1,5 @@
 //! What a subscription is told of notified elements.
-ghost use Rattle.std.specs.Prelude.{◌≡◌, ◌&&◌, IfOk};
+ghost use Rattle.std.specs.Prelude.{◌≡◌, ◌&&◌, ◌++◌, ◌∷◌, [], IfOk, OnOk};
 ghost use Rattle.std.specs.List.{AllByRecursion};
 ghost use Rattle.ifmap_delta.specs.Notes.{is_told, told_notes};
 ghost use Rattle.ifmap_delta.specs.Sights.{HasMarks, HaveMarks, sight_of};
@@ -38,16 +38,48 @@ pub fn notes<D: View>(
         search: &subscription.search,
         marks: &subscription.region,
     };
-    let mut entries = Vec::new(alloc);
-    for note in &plan.notes.0 {
-        if is_told(&after, note) {
-            entries.push(Entry {
-                item: note.item.share()?,
-                element: note.element.share()?,
-            })?;
-        }
+    let told = told_of(alloc, &after, &plan.notes.0)?;
+    Ok(Many(told))
+}
+
+// Those of some notes that are told, in their order.
+fn told_of<D: View>(
+    alloc: Global,
+    after: &Side<'_, D, Region>,
+    notes: &[Note],
+) -> Result<Vec<Entry>, NoMemory>
+    requires marks { HaveMarks (sight_of D.rows D.id_at D.links after.now.view.now)
+        after.now.search.now (mark_of after.now.marks.now.marks.entries) }
+    requires canon { AllByRecursion (λ n. IsCanonItem n.item) notes.now }
+    ensures { IfOk result (λ told. told.items ≡ told_notes (D.rows after.now.view.now)
+        after.now.search.now notes.now) }
+{
+    let mut told = Vec::new(alloc);
+    for note in notes {
+        add_told(after, note, &mut told)?;
     }
-    Ok(Many(entries))
+    Ok(told)
+}
+
+// Appends a note, where it is told.
+fn add_told<D: View>(
+    after: &Side<'_, D, Region>,
+    note: &Note,
+    told: &mut Vec<Entry>,
+) -> Result<(), NoMemory>
+    requires marks { HaveMarks (sight_of D.rows D.id_at D.links after.now.view.now)
+        after.now.search.now (mark_of after.now.marks.now.marks.entries) }
+    requires canon { IsCanonItem note.now.item }
+    ensures { OnOk result (told.new.items ≡ told.old.items ++ told_notes
+        (D.rows after.now.view.now) after.now.search.now (note.now ∷ [])) }
+{
+    if is_told(after, note) {
+        told.push(Entry {
+            item: note.item.share()?,
+            element: note.element.share()?,
+        })?;
+    }
+    Ok(())
 }
 
 // Whether a note is told.

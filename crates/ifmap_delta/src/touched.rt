@@ -1,15 +1,17 @@
 //! The items on which a change may tell something.
-ghost use Rattle.std.specs.Prelude.{◌≡◌, ◌≤◌, ◌<◌, ◌+◌, [], ◌++◌, ℕ, Some, OnOk, IfOk, length, option_copied, slice_get, sum_by, nat_eq};
+ghost use Rattle.std.specs.Prelude.{◌≡◌, ◌≤◌, ◌<◌, ◌+◌, [], ◌++◌, ◌||◌, ℕ, Some, OnOk, IfOk, length, option_copied, slice_get, sum_by, nat_eq};
 ghost use Rattle.std.specs.List.{AllByRecursion, IsDistinct, cons_option};
-ghost use Rattle.ifmap_delta.specs.Changes.{IsChange};
+ghost use Rattle.ifmap_delta.specs.Changes.{ShowsAfter};
 ghost use Rattle.ifmap_delta.specs.Sights.{HaveMarks, sight_of};
 ghost use Rattle.ifmap_delta.specs.Shown.{patched};
 ghost use Rattle.ifmap_delta.specs.Touched.{AreTouched, brought, item_at, linked, looked_along, moved, planned};
 ghost use Rattle.ifmap_fresh.specs.Collected.{alone, numbers_of, pair_at};
-ghost use Rattle.ifmap_region.specs.Marks.{mark_of};
+ghost use Rattle.ifmap_fresh.specs.Fresh.{is_looked_at};
+ghost use Rattle.ifmap_region.specs.Marks.{mark_of, over};
 ghost use Rattle.ifmap_ident.specs.Items.{IsCanonItem};
+ghost use Rattle.ifmap_view.specs.Views.{IsView};
 
-use crate::marks::{Marks, Patched};
+use crate::marks::{Marks, Patched, mark_after};
 use crate::sides::Side;
 use ifmap_elem::Copied;
 use ifmap_fresh::LinksOf;
@@ -91,22 +93,21 @@ fn add_linked<V: View, L: Ledger>(
 }
 
 // Appends the items of changes at which the search looks before or afterwards.
-fn add_planned<G: View, D: View>(
+fn add_planned<G: View, D: View, M: Marks, N: Marks>(
     alloc: Global,
-    before: &Side<'_, G, Region>,
-    after: &Side<'_, D, Patched<'_>>,
+    before: &Side<'_, G, M>,
+    after: &Side<'_, D, N>,
     changes: &[ItemChange],
     items: &mut Vec<Item>,
 ) -> Result<(), NoMemory>
-    requires search { before.now.search.now ≡ after.now.search.now }
     requires before { HaveMarks (sight_of G.rows G.id_at G.links before.now.view.now)
-        before.now.search.now (mark_of before.now.marks.now.marks.entries) }
+        before.now.search.now (M.mark before.now.marks.now) }
     requires after { HaveMarks (sight_of D.rows D.id_at D.links after.now.view.now)
-        after.now.search.now (patched after.now.marks.now) }
+        after.now.search.now (N.mark after.now.marks.now) }
     requires canon { AllByRecursion (λ c. IsCanonItem c.item) changes.now }
     ensures { OnOk result (items.new.items ≡ items.old.items ++ planned
-        (sight_of G.rows G.id_at G.links before.now.view.now)
-        (sight_of D.rows D.id_at D.links after.now.view.now) after.now.search.now changes.now) }
+        (λ x. is_looked_at (G.rows before.now.view.now) before.now.search.now x
+        || is_looked_at (D.rows after.now.view.now) after.now.search.now x) changes.now) }
 {
     for change in changes {
         if before.looks_at(&change.item) || after.looks_at(&change.item) {
@@ -116,29 +117,32 @@ fn add_planned<G: View, D: View>(
     Ok(())
 }
 
-// Appends the items that a number brings whose mark changes: its own, where it comes or goes, and those
-// of its links, where walks go on from it before or afterwards alone.
+// Appends the items that a number of a patch brings: its own, where its mark comes or goes, and those of
+// its links, where walks go on from it before or afterwards alone.
 fn add_brought<D: View, L: Ledger>(
     alloc: Global,
-    after: &Side<'_, D, Patched<'_>>,
+    side: &Side<'_, D, Region>,
+    patch: &Patch,
     number: u64,
-    was: Option<u32>,
     items: &mut Vec<Item>,
     steps: &mut Steps<L>,
 ) -> Result<(), NoMemory>
-    ensures items { let sight = sight_of D.rows D.id_at D.links after.now.view.now in
-        OnOk result (items.new.items ≡ items.old.items ++ brought sight after.now.search.now
-        number was (patched after.now.marks.now number)) }
-    ensures steps { let sight = sight_of D.rows D.id_at D.links after.now.view.now in
-        steps.new ≤ steps.old + looked_along sight after.now.search.now number was
-        (patched after.now.marks.now number) }
+    ensures items { let sight = sight_of D.rows D.id_at D.links side.now.view.now in
+        let mark = mark_of side.now.marks.now.marks.entries in
+        OnOk result (items.new.items ≡ items.old.items ++ brought sight side.now.search.now
+        number (mark number) (over patch.now mark number)) }
+    ensures steps { let sight = sight_of D.rows D.id_at D.links side.now.view.now in
+        let mark = mark_of side.now.marks.now.marks.entries in
+        steps.new ≤ steps.old + looked_along sight side.now.search.now number (mark number)
+        (over patch.now mark number) }
 {
-    let now = after.marks.mark_at(number);
+    let was = side.marks.mark(number);
+    let now = mark_after(side.marks, patch, number);
     if was.is_some() != now.is_some() {
-        add_alone(alloc, after.view.identifier(number), items)?;
+        add_alone(alloc, side.view.identifier(number), items)?;
     }
-    if after.goes_on(number, was) != after.goes_on(number, now) {
-        add_linked(alloc, &after.links(), number, items, steps)?;
+    if side.goes_on(number, was) != side.goes_on(number, now) {
+        add_linked(alloc, &side.links(), number, items, steps)?;
     }
     Ok(())
 }
@@ -146,25 +150,23 @@ fn add_brought<D: View, L: Ledger>(
 // Appends the items that the numbers of a patch bring.
 fn add_moved<D: View, L: Ledger>(
     alloc: Global,
-    after: &Side<'_, D, Patched<'_>>,
+    side: &Side<'_, D, Region>,
+    patch: &Patch,
     items: &mut Vec<Item>,
     steps: &mut Steps<L>,
 ) -> Result<(), NoMemory>
-    ensures items { let sight = sight_of D.rows D.id_at D.links after.now.view.now in
-        OnOk result (items.new.items ≡ items.old.items ++ moved sight after.now.search.now
-        (mark_of after.now.marks.now.region.now.marks.entries) (patched after.now.marks.now)
-        (numbers_of after.now.marks.now.patch.now)) }
-    ensures steps { let sight = sight_of D.rows D.id_at D.links after.now.view.now in
-        steps.new ≤ steps.old + sum_by (λ v. looked_along sight after.now.search.now v
-        (mark_of after.now.marks.now.region.now.marks.entries v) (patched after.now.marks.now v))
-        (numbers_of after.now.marks.now.patch.now) }
-    ensures apart { IsDistinct nat_eq (numbers_of after.now.marks.now.patch.now) }
+    ensures items { let sight = sight_of D.rows D.id_at D.links side.now.view.now in
+        let mark = mark_of side.now.marks.now.marks.entries in
+        OnOk result (items.new.items ≡ items.old.items ++ moved sight side.now.search.now mark
+        (over patch.now mark) (numbers_of patch.now)) }
+    ensures steps { let sight = sight_of D.rows D.id_at D.links side.now.view.now in
+        let mark = mark_of side.now.marks.now.marks.entries in
+        steps.new ≤ steps.old + sum_by (λ v. looked_along sight side.now.search.now v (mark v)
+        (over patch.now mark v)) (numbers_of patch.now) }
+    ensures apart { IsDistinct nat_eq (numbers_of patch.now) }
 {
-    let patch = after.marks.patch;
     for i in 0..patch.len() {
-        let number = number_at(patch, i);
-        let was = after.marks.region.mark(number);
-        add_brought(alloc, after, number, was, items, steps)?;
+        add_brought(alloc, side, patch, number_at(patch, i), items, steps)?;
     }
     Ok(())
 }
@@ -194,7 +196,11 @@ pub(crate) fn touched_items<G: View, D: View, L: Ledger>(
         before.now.search.now (mark_of before.now.marks.now.marks.entries) }
     requires after { HaveMarks (sight_of D.rows D.id_at D.links after.now.view.now)
         after.now.search.now (patched after.now.marks.now) }
-    requires change { IsChange (sight_of G.rows G.id_at G.links before.now.view.now)
+    requires graph { IsView (G.rows before.now.view.now) (G.id_at before.now.view.now)
+        (G.links before.now.view.now) }
+    requires draft { IsView (D.rows after.now.view.now) (D.id_at after.now.view.now)
+        (D.links after.now.view.now) }
+    requires change { ShowsAfter (sight_of G.rows G.id_at G.links before.now.view.now)
         (sight_of D.rows D.id_at D.links after.now.view.now) changes.now }
     ensures touched { IfOk result (λ items. AreTouched
         (sight_of G.rows G.id_at G.links before.now.view.now)
@@ -208,9 +214,16 @@ pub(crate) fn touched_items<G: View, D: View, L: Ledger>(
     bytes_tell_identifiers_apart();
     levels_are_walks();
     numbers_keep_walks();
+    // each number stands once in a patch
+    let _ = after.marks.patch.len();
     let mut items = Vec::new(alloc);
     add_planned(alloc, before, after, changes, &mut items)?;
-    add_moved(alloc, after, &mut items, steps)?;
+    let side = Side {
+        view: after.view,
+        search: after.search,
+        marks: after.marks.region,
+    };
+    add_moved(alloc, &side, after.marks.patch, &mut items, steps)?;
     items.sort_unstable();
     items.dedup();
     Ok(items)

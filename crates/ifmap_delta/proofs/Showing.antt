@@ -1,0 +1,64 @@
+-- What is stored on an item rises.
+use Rattle.std.proofs.Common.{◌≡◌, Bool, true, false, cond, List, [], ◌∷◌, map, refl, ap, ◌∙◌, sym}
+use Rattle.std.proofs.lemmas.List.Kept.{IsStrictlySortedBy-filter}
+use Rattle.std.specs.List.{AllByRecursion, filter}
+use Rattle.std.specs.List.Sorted.{IsStrictlySortedBy}
+use Rattle.std.specs.Ordering.{is_eq, ordering_reverse, ordering_then}
+use Rattle.std.specs.declared.cmp.Ordering.{Ordering}
+use Rattle.std.specs.declared.cmp.Ordering.TheVariants.{Less, Equal, Greater}
+use Rattle.ifmap_ident.specs.declared.items.Item.{Item}
+use Rattle.ifmap_ident.specs.Items.{item_order, items_tie, same_item}
+use Rattle.ifmap_lemmas.specs.Having.{Has, filter_has}
+use Rattle.ifmap_plans.specs.laws.KeyLaws.{items_total}
+use Rattle.ifmap_search.specs.declared.searches.Search.{Search}
+use Rattle.ifmap_view.specs.declared.attachments.Attachment.{Attachment}
+use Rattle.ifmap_view.specs.Attachments.{IsGraph, attachment_order, stored_order}
+use Rattle.ifmap_view.specs.Rows.{stored_on}
+use Rattle.ifmap_fresh.specs.Fresh.{is_looked_at}
+use Rattle.ifmap_delta.specs.Shown.{shown_on}
+use Rattle.ifmap_delta.proofs.Rising.{all_of}
+
+is_equal : (o : Ordering) → is_eq o ≡ true → o ≡ Equal
+is_equal Less e = let q : false ≡ true = e in cc
+is_equal Equal e = refl
+is_equal Greater e = let q : false ≡ true = e in cc
+
+tied : (x y : Item) → same_item x y ≡ true → item_order x y ≡ Equal
+tied x y e = is_equal (item_order x y) (sym (items_tie x y) ∙ e)
+
+-- on one item, attachments are in the order of what is stored
+less_stored : (x : Item) (a b : Attachment) → same_item a.item x ≡ true → same_item b.item x ≡ true → attachment_order a b ≡ Less
+    → stored_order a.stored b.stored ≡ Less
+less_stored x a b p q l =
+    let e : item_order a.item b.item ≡ Equal
+    = items_total.congr a.item x b.item (tied a.item x p) ∙ items_total.antisymm x b.item ∙ ap ordering_reverse (tied b.item x q)
+    in sym (ap (λ o. ordering_then o (stored_order a.stored b.stored)) e) ∙ l
+
+all_less : (x : Item) (a : Attachment) (bs : List Attachment) → same_item a.item x ≡ true
+    → AllByRecursion (λ b. same_item b.item x ≡ true) bs → AllByRecursion (λ b. attachment_order a b ≡ Less) bs
+    → AllByRecursion (λ t. stored_order a.stored t ≡ Less) (map (λ r. r.stored) bs)
+all_less x a [] p q l = tt
+all_less x a (b ∷ bs) p q l = (less_stored x a b p q.0 l.0, all_less x a bs p q.1 l.1)
+
+map_rises : (x : Item) (rs : List Attachment) → AllByRecursion (λ b. same_item b.item x ≡ true) rs
+    → IsStrictlySortedBy attachment_order rs → IsStrictlySortedBy stored_order (map (λ r. r.stored) rs)
+unfolding IsStrictlySortedBy
+map_rises x [] q r = tt
+map_rises x (a ∷ bs) q r = (all_less x a bs q.0 q.1 r.0, map_rises x bs q.1 r.1)
+
+nothing_rises : IsStrictlySortedBy stored_order []
+unfolding IsStrictlySortedBy
+nothing_rises = tt
+
+pub stored_rises : (rows : List Attachment) (x : Item) → IsGraph rows → IsStrictlySortedBy stored_order (stored_on x rows)
+stored_rises rows x graph =
+    let on : Attachment → Bool = λ r. same_item r.item x
+    in map_rises x (filter on rows) (all_of (λ b. same_item b.item x ≡ true) (filter on rows) (λ b h. (filter_has on rows b h).1))
+    (IsStrictlySortedBy-filter attachment_order on rows graph.rising)
+
+pub shown_rises : (rows : List Attachment) (s : Search) (x : Item) → IsGraph rows → IsStrictlySortedBy stored_order (shown_on rows s x)
+shown_rises rows s x graph = by (is_looked_at rows s x)
+  where
+    by : (b : Bool) → IsStrictlySortedBy stored_order (cond b (stored_on x rows) [])
+    by true = stored_rises rows x graph
+    by false = nothing_rises
