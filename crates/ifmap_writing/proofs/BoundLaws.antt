@@ -1,12 +1,11 @@
 -- A request that a body means is within its bounds. Plan: (1) what checks find, taken apart; (2) values of attributes; (3) how deep parts
 -- nest; (4) metadata; (5) operations and requests; (6) bodies.
-use Rattle.std.proofs.Common.{◌≡◌, ◌⊎◌, ◌∙◌, ◌++◌, ◌+◌, ◌<◌, ◌≤◌, ◌^◌, ◌&&◌, ℕ, suc, max, min, Bool, true, false, List, [], ◌∷◌, Option, None, Some, IfSome, Result, Ok, Err, codes, length, map, refl, ap, sym, subst, inl, inr, arith}
+use Rattle.std.proofs.Common.{◌≡◌, ◌⊎◌, ◌∙◌, ◌++◌, ◌+◌, ◌<◌, ◌≤◌, ◌^◌, ◌&&◌, ℕ, suc, min, Bool, true, false, List, [], ◌∷◌, Option, None, Some, IfSome, Result, Ok, Err, codes, length, map, refl, ap, sym, subst, inl, inr, arith}
 use Rattle.std.specs.Prelude.{if◌then◌else◌, nat_le, nat_lt}
 use Rattle.std.specs.List.{AllByRecursion, list_all}
 use Rattle.std.specs.Str.{bytes_eq}
 use Rattle.std.proofs.lemmas.Bool.{and_parts}
 use Rattle.std.proofs.lemmas.Bool.Decides.{nat_tests}
-use Rattle.ifmap_elem.specs.Arranged.{arrange}
 use Rattle.ifmap_elem.specs.Chars.{is_white}
 use Rattle.ifmap_elem.specs.Folds.{at_child_element, at_element, each_child}
 use Rattle.ifmap_elem.specs.Nesting.{child_levels, child_nesting, element_levels, greatest, nesting}
@@ -27,19 +26,17 @@ use Rattle.ifmap_ident.specs.declared.kinds.Kind.{Kind}
 use Rattle.ifmap_ident.specs.Parts.{has_only, value_of}
 use Rattle.ifmap_meta.specs.declared.metadata.Metadata.{Metadata}
 use Rattle.ifmap_meta.specs.Stamps.{content_of}
-use Rattle.ifmap_meta.specs.Whole.{IsMadeOf}
 use Rattle.ifmap_forms.specs.Checks.{Check, check_if, check_then, fail, need, need_some, pass}
 use Rattle.ifmap_forms.specs.Items.{from_list, is_list, item_of, list_at, list_check}
 use Rattle.ifmap_forms.specs.Scopes.{Scopes, scopes_below}
-use Rattle.ifmap_forms.specs.Tables.{Both, Form, Part, Table, beside, both, each_element, form_check, form_or, list_of, no_attributes, parts_in, parts_of}
+use Rattle.ifmap_forms.specs.Tables.{Both, Form, Part, Table, beside, both, each_element, form_check, form_or, no_attributes, parts_in, parts_of}
 use Rattle.ifmap_forms.specs.Values.{Field, depth_field, field_check, filter_field, kinds_field, name_field, number_of, read_depth, read_name, read_size, size_field}
 use Rattle.ifmap_requests.specs.declared.publishing.PublishOp.{PublishOp}
-use Rattle.ifmap_requests.specs.declared.publishing.PublishOp.TheVariants as publish
 use Rattle.ifmap_requests.specs.declared.requests.Request.{Request}
 use Rattle.ifmap_requests.specs.declared.requests.SubscribeOp.{SubscribeOp}
 use Rattle.ifmap_requests.specs.Means.{Means, scopes_from}
 use Rattle.ifmap_requests.specs.Published.{metadata_check, published_check}
-use Rattle.ifmap_requests.specs.RequestForms.{SearchValues, WithSession, delete_form, delete_of, end_form, end_of, end_session_form, end_session_of, ifmap_space, named_request_check, new_session_form, new_session_of, notify_form, notify_of, other_request_check, poll_form, poll_of, publish_form, publish_of, publish_op_check, purge_form, purge_of, renew_form, renewal_of, request_check, search_attributes, search_form, search_from, search_of, session_field, subscribe_form, subscribe_of, subscribe_op_check, subscription_form, subscription_of, update_form, update_of}
+use Rattle.ifmap_requests.specs.RequestForms.{SearchValues, delete_form, delete_of, end_form, end_of, end_session_form, end_session_of, ifmap_space, named_request_check, new_session_form, new_session_of, notify_form, notify_of, other_request_check, poll_form, poll_of, publish_form, publish_of, publish_op_check, purge_form, purge_of, renew_form, renewal_of, request_check, search_attributes, search_form, search_from, search_of, session_field, subscribe_form, subscribe_of, subscribe_op_check, subscription_form, subscription_of, update_form, update_of}
 use Rattle.ifmap_writing.specs.Bounds.{IsBounded, IsBoundedMetadata, IsBoundedName, IsBoundedPublish, IsBoundedSearch, IsBoundedSubscribe}
 
 -- ---- (1) checks taken apart
@@ -92,7 +89,8 @@ module _ {X A C : Type 0} (form : Form A C) (make : A → C → X) (scopes : Sco
       }
 
 module _ {X Y : Type 0} (field : Field X) (table : Table Y) (scope : Scope) (e : Element) (b : Both X Y) where
-  beside_parts : (beside field table).reads scope e (good b) → field_check field scope e (good b.first) × table.reads scope e (good b.others)
+  beside_parts : (beside field table).reads scope e (good b)
+      → field_check field scope e (good b.first) × table.reads scope e (good b.others)
   beside_parts h =
       let is : both h.0 h.2.0 ≡ b = sym (passed b (both h.0 h.2.0) h.2.2) in (
         subst (λ (c : Both X Y). field_check field scope e (good c.first)) is h.1,
@@ -245,20 +243,21 @@ published_bounded parts b low h =
 
 publish_bounded : (scopes : Scopes) (e : Element) (op : PublishOp) → nesting e ≤ 61 → publish_op_check scopes e (good op)
     → IsBoundedPublish op
-publish_bounded scopes e op low h = elim (either_found (is_name e.name update_form.name) (form_check update_form update_of scopes e) _ op h) [
-  | inl found ↦
-      let p = form_parts update_form update_of scopes e op found in
-      subst IsBoundedPublish (sym p.made) (published_bounded (parts_of e) p.others (parts_low 60 e low) p.content)
-  | inr later ↦ elim (either_found (is_name e.name notify_form.name) (form_check notify_form notify_of scopes e) _ op later) [
-    | inl found ↦
-        let p = form_parts notify_form notify_of scopes e op found in
-        subst IsBoundedPublish (sym p.made) (published_bounded (parts_of e) p.others (parts_low 60 e low) p.content)
-    | inr last ↦ elim (either_found (is_name e.name delete_form.name) (form_check delete_form delete_of scopes e) (fail Failure) op last) [
-      | inl found ↦ let p = form_parts delete_form delete_of scopes e op found in subst IsBoundedPublish (sym p.made) tt
-      | inr wrong ↦ let apart : good op ≡ bad Failure = wrong in cc
+publish_bounded scopes e op low h = elim (either_found (is_name e.name update_form.name) (form_check update_form update_of scopes e) _ op
+    h) [
+      | inl found ↦
+          let p = form_parts update_form update_of scopes e op found in
+          subst IsBoundedPublish (sym p.made) (published_bounded (parts_of e) p.others (parts_low 60 e low) p.content)
+      | inr later ↦ elim (either_found (is_name e.name notify_form.name) (form_check notify_form notify_of scopes e) _ op later) [
+        | inl found ↦
+            let p = form_parts notify_form notify_of scopes e op found in
+            subst IsBoundedPublish (sym p.made) (published_bounded (parts_of e) p.others (parts_low 60 e low) p.content)
+        | inr last ↦ elim (either_found (is_name e.name delete_form.name) (form_check delete_form delete_of scopes e) (fail Failure) op last) [
+          | inl found ↦ let p = form_parts delete_form delete_of scopes e op found in subst IsBoundedPublish (sym p.made) tt
+          | inr wrong ↦ let apart : good op ≡ bad Failure = wrong in cc
+        ]
+      ]
     ]
-  ]
-]
 
 bounded_of : (start : Identifier) (v : SearchValues) → (v.others.first < 2 ^ 32) × (v.others.others.first ≤ 50_000_000)
     → IsBoundedSearch (search_from start v)

@@ -15,11 +15,10 @@ use Rattle.ifmap_filter.specs.declared.filters.Predicate.TheVariants.{rolls-Attr
 use Rattle.ifmap_filter.specs.declared.filters.Predicate.TheOpen.{Predicate-F}
 use Rattle.ifmap_filter.specs.declared.filters.Test.{Test}
 use Rattle.ifmap_filter.specs.declared.filters.Filter.{Filter}
-use Rattle.ifmap_filter.specs.Printing.{PredicateText, ands_text, attribute_text, brackets_text, child_text, comparison_text, filter_text, group_text, has_single_quote, joined_texts, literal_text, name_text, numbered_prefix, ors_text, place_of, predicate_text, predicate_text_of, quote_of, test_name_text, test_text}
+use Rattle.ifmap_filter.specs.Printing.{PredicateText, attribute_text, brackets_text, child_text, comparison_text, filter_text, group_text, has_single_quote, joined_texts, literal_text, name_text, numbered_prefix, place_of, predicate_text, predicate_text_of, quote_of, test_name_text, test_text}
 use Rattle.ifmap_filter.specs.Spaces.{brackets_spaces, filter_spaces, name_spaces, predicate_spaces, predicate_spaces_of, test_spaces}
 use Rattle.ifmap_requests.specs.FitFilters.{Comparison, IsFitComparison, IsFitFilter, IsFitPredicate, IsFitTest, comparison, comparisons, comparisons_of}
 use Rattle.ifmap_writing.proofs.CharacterLaws.{characters_both, joined_characters, part_characters, plain_characters}
-use Rattle.ifmap_writing.proofs.RowLaws.{no_namespace}
 use Rattle.ifmap_writing.proofs.ValueLaws.{numeral_characters}
 
 -- ---- (1) induction

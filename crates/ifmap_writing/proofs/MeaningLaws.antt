@@ -1,6 +1,6 @@
 -- The bytes that are written of a request that is fit and within its bounds mean that request. Plan: (1) its filters are read back in
 -- each scope of what is written; (2) the envelope; (3) the bytes.
-use Rattle.std.proofs.Common.{◌≡◌, ◌≤◌, ℕ, List, [], ◌∷◌, Option, None, Some, Ok, codes, map, refl, ap, subst, sym, inl}
+use Rattle.std.proofs.Common.{◌≡◌, ◌≤◌, ℕ, List, [], ◌∷◌, Option, None, Some, Ok, codes, refl, subst, inl}
 use Rattle.std.specs.List.{AllByRecursion}
 use Rattle.ifmap_elem.specs.Arranged.{arrange}
 use Rattle.ifmap_elem.specs.Canonical.{root_declarations, written_bytes, written_reading}

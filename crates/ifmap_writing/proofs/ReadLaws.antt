@@ -1,21 +1,20 @@
 -- What is written of a request is read back as that request. Plan: (1) attributes; (2) identifiers as children; (3) what is published;
 -- (4) searches; (5) operations; (6) requests.
-use Rattle.std.proofs.Common.{◌≡◌, ◌≢◌, ◌∙◌, ◌++◌, ◌&&◌, ◌||◌, ◌+◌, ◌<◌, ◌≤◌, ◌^◌, ℕ, Bool, true, false, not, List, [], ◌∷◌, Option, None, Some, IfSome, Result, Ok, Err, codes, length, map, refl, ap, sym, subst, inl, inr}
-use Rattle.std.specs.Prelude.{if◌then◌else◌, nat_lt}
-use Rattle.std.specs.List.{AllByRecursion, list_all}
+use Rattle.std.proofs.Common.{◌≡◌, ◌∙◌, ◌&&◌, ◌||◌, ◌+◌, ◌≤◌, ℕ, Bool, true, false, not, List, [], ◌∷◌, Option, None, Some, IfSome, Result, Ok, codes, map, refl, ap, sym, subst}
+use Rattle.std.specs.Prelude.{nat_lt}
+use Rattle.std.specs.List.{AllByRecursion}
 use Rattle.std.specs.declared.cmp.Ordering.{Ordering}
-use Rattle.std.specs.declared.cmp.Ordering.TheVariants.{Less, Equal, Greater}
+use Rattle.std.specs.declared.cmp.Ordering.TheVariants.{Less, Equal}
 use Rattle.std.proofs.lemmas.Bool.{false_from_ne_true}
 use Rattle.ifmap_lemmas.specs.Texts.{eq_tells, slice_cmp-same}
 use Rattle.ifmap_elem.specs.Building.{bare_name, is_bare}
-use Rattle.ifmap_elem.specs.declared.elements.Child as the
-use Rattle.ifmap_elem.specs.declared.elements.Child.{Child, out-Child}
+use Rattle.ifmap_elem.specs.declared.elements.Child.{Child}
 use Rattle.ifmap_elem.specs.declared.elements.Child.TheOpen.{Child-F}
 use Rattle.ifmap_elem.specs.declared.elements.Element.{Element}
 use Rattle.ifmap_elem.specs.declared.elements.Name.{Name}
 use Rattle.ifmap_reader.specs.declared.scoping.Scope.{Scope}
 use Rattle.ifmap_filter.specs.declared.filters.Filter.{Filter}
-use Rattle.ifmap_filter.specs.Printing.{filter_text, numbered_scope}
+use Rattle.ifmap_filter.specs.Printing.{filter_text}
 use Rattle.ifmap_filter.specs.Texts.{Writes}
 use Rattle.ifmap_ident.specs.declared.codes.Code.{Code}
 use Rattle.ifmap_ident.specs.declared.codes.Code.TheVariants.{Failure}
@@ -31,23 +30,23 @@ use Rattle.ifmap_meta.specs.declared.metadata.Metadata.{Metadata}
 use Rattle.ifmap_meta.specs.Whole.{IsMadeOf, IsMetadata}
 use Rattle.ifmap_search.specs.declared.searches.Search as search
 use Rattle.ifmap_forms.specs.AnswerLaws.{found_after, found_alone, found_beside, found_form}
-use Rattle.ifmap_forms.specs.Checks.{Check, check_then, need, need_some, pass}
+use Rattle.ifmap_forms.specs.Checks.{Check, check_then, need_some, pass}
 use Rattle.ifmap_forms.specs.Items.{before_list, from_list, identifiers_check, item_check, item_of, list_at, list_check, may_follow, start_check}
 use Rattle.ifmap_forms.specs.Scopes.{Scopes, scopes_below}
-use Rattle.ifmap_forms.specs.Tables.{Both, Part, both, each_element, form_check, list_of, no_attributes, parts_in}
-use Rattle.ifmap_forms.specs.Values.{Field, depth_field, field_check, filter_field, kinds_field, lifetime_field, limit_field, name_field, read_filter, size_field, text_field}
+use Rattle.ifmap_forms.specs.Tables.{Part, both, each_element, list_of, parts_in}
+use Rattle.ifmap_forms.specs.Values.{Field, depth_field, field_check, filter_field, kinds_field, lifetime_field, limit_field, name_field, read_filter, size_field}
 use Rattle.ifmap_requests.specs.declared.publishing.PublishOp.{PublishOp}
 use Rattle.ifmap_requests.specs.declared.publishing.PublishOp.TheVariants as publish
 use Rattle.ifmap_requests.specs.declared.requests.Request.{Request}
 use Rattle.ifmap_requests.specs.declared.requests.Request.TheVariants.{NewSession, RenewSession, EndSession, Publish, Search, Subscribe, Poll, PurgePublisher}
 use Rattle.ifmap_requests.specs.declared.requests.SubscribeOp.{SubscribeOp}
 use Rattle.ifmap_requests.specs.declared.requests.SubscribeOp.TheVariants as subscribe
-use Rattle.ifmap_requests.specs.Published.{metadata_check, published_check, published_from}
-use Rattle.ifmap_requests.specs.RequestForms.{SearchValues, WithSession, delete_form, delete_of, end_form, end_of, end_session_form, end_session_of, new_session_form, new_session_of, notify_form, notify_of, poll_form, poll_of, publish_form, publish_of, publish_op_check, publisher_field, purge_form, purge_of, renew_form, renewal_of, request_check, search_attributes, search_form, search_of, session_field, subscribe_form, subscribe_of, subscribe_op_check, subscription_form, subscription_of, update_form, update_of}
-use Rattle.ifmap_requests.specs.Fit.{IsFitLimit, IsFitOp, IsFitRequest, IsFitSearch, IsFitSubscribeOp}
+use Rattle.ifmap_requests.specs.Published.{metadata_check, published_check}
+use Rattle.ifmap_requests.specs.RequestForms.{SearchValues, delete_form, delete_of, end_form, end_of, end_session_form, end_session_of, new_session_form, new_session_of, notify_form, notify_of, poll_form, poll_of, publish_form, publish_of, publish_op_check, publisher_field, purge_form, purge_of, renew_form, renewal_of, request_check, search_attributes, search_form, search_of, session_field, subscribe_form, subscribe_of, subscribe_op_check, subscription_form, subscription_of, update_form, update_of}
+use Rattle.ifmap_requests.specs.Fit.{IsFitLimit, IsFitOp, IsFitRequest, IsFitSubscribeOp}
 use Rattle.ifmap_writing.specs.Attributes.{Row, attributes_of, filter_rows, filter_value, kinds_value, lifetime_rows, lifetime_value, limit_rows, limit_value, name_rows, number_value, purge_rows, search_rows, session_rows, subscription_rows}
-use Rattle.ifmap_writing.specs.Bounds.{IsBounded, IsBoundedPublish, IsBoundedSearch, IsBoundedSubscribe}
-use Rattle.ifmap_writing.specs.RequestElements.{as_children, asking_element, element_in, identifier_children, item_children, list_element, part_element, publish_element, published_children, subscribe_element}
+use Rattle.ifmap_writing.specs.Bounds.{IsBounded, IsBoundedSearch, IsBoundedSubscribe}
+use Rattle.ifmap_writing.specs.RequestElements.{as_children, element_in, identifier_children, item_children, list_element, publish_element, published_children, subscribe_element}
 use Rattle.ifmap_writing.proofs.RowLaws.{only_rows, or_none, row_value, value_found}
 use Rattle.ifmap_writing.proofs.SoundLaws.{as_parts, parts_are}
 use Rattle.ifmap_writing.proofs.ValueLaws.{depth_back, kinds_back, lifetime_back, limit_back, name_back, size_back}
@@ -295,8 +294,8 @@ module _ (canon : (i : Identifier) → IsIdentifier i → IsCanon (identifier_el
         let e : Element = publish_element spaces (publish.Delete item filter) in
         found_form delete_form delete_of scopes e (both filter tt)
         (found_alone (filter_field (codes "filter")) (scopes []) e filter
-        (field_back (filter_field (codes "filter")) (scopes []) (bare_name (codes "delete")) (filter_rows spaces filter) (item_children item)
-        (filter_value spaces filter) filter (or_none (filter_value spaces filter)) (filter_back spaces (scopes []) filter w)))
+        (field_back (filter_field (codes "filter")) (scopes []) (bare_name (codes "delete")) (filter_rows spaces filter)
+        (item_children item) (filter_value spaces filter) filter (or_none (filter_value spaces filter)) (filter_back spaces (scopes []) filter w)))
         item (only_rows (codes "filter" ∷ []) (filter_rows spaces filter) refl) (item_back canon item f.0)
 
     subscribe_back : (scopes : Scopes) (op : SubscribeOp) → IsFitSubscribeOp op → IsBoundedSubscribe op
@@ -354,8 +353,8 @@ module _ (canon : (i : Identifier) → IsIdentifier i → IsCanon (identifier_el
         each index [] f w = tt
         each index (op ∷ ops) f w = (publish_back (scopes_below scopes index) op f.0 w.0, each index ops f.1 w.1)
 
-    subscribes_back : (scopes : Scopes) (ops : List SubscribeOp) → AllByRecursion IsFitSubscribeOp ops → AllByRecursion IsBoundedSubscribe ops
-        → ((path : List ℕ) → AreSubscribeRead spaces ops (scopes path))
+    subscribes_back : (scopes : Scopes) (ops : List SubscribeOp) → AllByRecursion IsFitSubscribeOp ops
+        → AllByRecursion IsBoundedSubscribe ops → ((path : List ℕ) → AreSubscribeRead spaces ops (scopes path))
         → list_of subscribe_op_check scopes (parts_in (as_children (map (subscribe_element spaces) ops))) (good ops)
     subscribes_back scopes ops f within w =
         subst (λ (parts : List Part). list_of subscribe_op_check scopes parts (good ops))

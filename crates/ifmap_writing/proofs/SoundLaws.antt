@@ -1,6 +1,6 @@
 -- Elements that are written fit, have their attributes in order and nest as deep as they may: what holds of the elements in an element
 -- whose attributes are rows holds of it, one level higher.
-use Rattle.std.proofs.Common.{◌≡◌, ◌≤◌, ◌∙◌, ◌++◌, ℕ, suc, max, List, [], ◌∷◌, map, refl, ap, sym, subst, arith}
+use Rattle.std.proofs.Common.{◌≡◌, ◌≤◌, ◌∙◌, ℕ, suc, true, List, [], ◌∷◌, map, refl, ap, sym, subst, arith}
 use Rattle.std.specs.List.{AllByRecursion, flat_map}
 use Rattle.ifmap_lemmas.specs.Members.{both_all}
 use Rattle.ifmap_elem.specs.Arranged.{arrange, arrange_child}
@@ -17,7 +17,6 @@ use Rattle.ifmap_elem.specs.laws.FitLaws.{elements_in, elements_of_child, fit_wh
 use Rattle.ifmap_writing.specs.Attributes.{Row, attributes_of}
 use Rattle.ifmap_writing.specs.RequestElements.{as_children}
 use Rattle.ifmap_writing.proofs.RowLaws.{HasFitValue, rises, rows_differ, rows_fit, rows_plain, rows_sorted}
-use Rattle.std.proofs.Common.{true}
 
 -- a document can have the element, it is arranged, and it nests at most so deep
 pub record IsSound (levels : ℕ) (e : Element) : Type 0 where
@@ -100,7 +99,8 @@ module _ (levels : ℕ) where
       arranged = arranged_is whole
           ∙ (λ i. record { name = name; attributes = rows_sorted rows f.rise i; children = inside_arranged es s i });
       within = (
-          let are : nesting whole ≡ suc (greatest (map child_nesting (as_children es))) = at_element ℕ ℕ child_levels element_levels whole in
+          let are : nesting whole ≡ suc (greatest (map child_nesting (as_children es))) =
+          at_element ℕ ℕ child_levels element_levels whole in
           let low = inside_within es s in
           omega (arith, are, low));
     }

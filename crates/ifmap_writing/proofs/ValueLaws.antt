@@ -1,6 +1,6 @@
 -- Values of attributes are read back. Plan: (1) numbers; (2) kinds: the pieces between commas are their names.
-use Rattle.std.proofs.Common.{◌≡◌, ◌≢◌, ◌≤◌, ◌<◌, ◌^◌, ◌+◌, ◌%◌, ◌∙◌, ◌++◌, ◌&&◌, ℕ, Bool, true, false, not, List, [], ◌∷◌, Option, None, Some, Result, Ok, Err, codes, length, map, max, min, inl, inr, refl, ap, sym, subst, arith}
-use Rattle.std.specs.Prelude.{if◌then◌else◌, nat_le, nat_lt, reverse}
+use Rattle.std.proofs.Common.{◌≡◌, ◌≢◌, ◌≤◌, ◌<◌, ◌^◌, ◌+◌, ◌%◌, ◌∙◌, ◌++◌, ℕ, Bool, true, false, not, List, [], ◌∷◌, Option, None, Some, Result, Ok, codes, length, map, min, refl, ap, sym, subst, arith}
+use Rattle.std.specs.Prelude.{if◌then◌else◌, nat_le, nat_lt}
 use Rattle.std.specs.List.{flat_map, list_all}
 use Rattle.std.specs.Char.{is_ascii_digit}
 use Rattle.std.specs.Str.{bytes_eq}
@@ -128,7 +128,8 @@ pieces_more Identity rest = refl
 pieces_more IpAddress rest = refl
 pieces_more MacAddress rest = refl
 
-pieces_back : (kind : Kind) (others : List Kind) → pieces_of (joined_texts (codes ",") kind_name (kind ∷ others)) ≡ map kind_name (kind ∷ others)
+pieces_back : (kind : Kind) (others : List Kind)
+    → pieces_of (joined_texts (codes ",") kind_name (kind ∷ others)) ≡ map kind_name (kind ∷ others)
 pieces_back kind [] = pieces_end kind
 pieces_back kind (other ∷ others) =
     pieces_more kind (joined_texts (codes ",") kind_name (other ∷ others))

@@ -1,5 +1,5 @@
 -- What a text writes in one scope it writes in each scope in which names that stand for something stand for the same: rule by rule.
-use Rattle.std.proofs.Common.{◌≡◌, ◌⊎◌, ℕ, zero, suc, List, [], ◌∷◌, Option, None, Some, inl, inr}
+use Rattle.std.proofs.Common.{ℕ, zero, suc, List, [], ◌∷◌, Option, None, Some, inl, inr}
 use Rattle.ifmap_elem.specs.declared.elements.Name as element
 use Rattle.ifmap_elem.specs.declared.tokens.Qualified.{Qualified}
 use Rattle.ifmap_reader.specs.declared.scoping.Scope.{Scope}
@@ -12,7 +12,8 @@ use Rattle.ifmap_filter.specs.Grammar.{AreTests, AsksFor, Rule, StandsFor, Takes
 use Rattle.ifmap_filter.specs.Texts.{Writes}
 
 more_in : {X : Type 0} (word : Token) (Part Other : Rule X) → ((ts : List Token) (x : X) (rest : List Token) → Part ts x rest
-    → Other ts x rest) → (ts : List Token) (xs : List X) (rest : List Token) → TakesMore word Part ts xs rest → TakesMore word Other ts xs rest
+    → Other ts x rest) → (ts : List Token) (xs : List X) (rest : List Token) → TakesMore word Part ts xs rest
+    → TakesMore word Other ts xs rest
 more_in word Part Other f ts [] rest m = m
 more_in word Part Other f ts (x ∷ xs) rest m =
     (m.0, m.1, m.2, f m.0 x m.1 m.3, more_in word Part Other f m.1 xs rest m.4)

@@ -1,6 +1,6 @@
 -- What is written of a request that is fit and within its bounds is sound. Plan: (1) names; (2) values; (3) rows; (4) identifiers and
 -- metadata; (5) operations; (6) requests; (7) the envelope, and the namespaces that it declares.
-use Rattle.std.proofs.Common.{◌≡◌, ◌≤◌, ◌++◌, ℕ, suc, Bool, true, false, List, [], ◌∷◌, Option, None, Some, IfSome, codes, map, refl, sym, subst, arith}
+use Rattle.std.proofs.Common.{◌≡◌, ◌≤◌, ℕ, Bool, true, false, List, [], ◌∷◌, Option, None, Some, IfSome, codes, map, refl, sym, subst, arith}
 use Rattle.std.specs.List.{AllByRecursion, flat_map}
 use Rattle.ifmap_lemmas.specs.Members.{both_all}
 use Rattle.ifmap_elem.specs.Arranged.{arrange}
@@ -9,10 +9,8 @@ use Rattle.ifmap_elem.specs.Chars.{IsCharacters}
 use Rattle.ifmap_elem.specs.Fit.{IsDeclarable, IsFit, IsFitName, IsNamespace}
 use Rattle.ifmap_elem.specs.Nesting.{nesting}
 use Rattle.ifmap_elem.specs.Scopes.{xmlns_space}
-use Rattle.ifmap_elem.specs.declared.elements.Child as the
 use Rattle.ifmap_elem.specs.declared.elements.Child.{Child}
 use Rattle.ifmap_elem.specs.declared.elements.Element.{Element}
-use Rattle.ifmap_elem.specs.declared.elements.Name.{Name}
 use Rattle.ifmap_elem.specs.laws.PrintedScopes.{are_declared}
 use Rattle.ifmap_envelopes.specs.Envelopes.{envelope_name, envelope_space}
 use Rattle.ifmap_filter.specs.declared.filters.Filter.{Filter}
@@ -38,14 +36,14 @@ use Rattle.ifmap_requests.specs.declared.requests.SubscribeOp.TheVariants as sub
 use Rattle.ifmap_requests.specs.RequestForms.{ifmap_space}
 use Rattle.ifmap_requests.specs.Fit.{IsFitOp, IsFitRequest, IsFitSearch, IsFitSubscribeOp, MayBeFitFilter}
 use Rattle.ifmap_requests.specs.FitFilters.{IsFitFilter}
-use Rattle.ifmap_writing.specs.Attributes.{Row, filter_rows, filter_value, kinds_value, lifetime_rows, lifetime_value, limit_rows, limit_value, name_rows, number_value, purge_rows, search_rows, session_rows, subscription_rows}
+use Rattle.ifmap_writing.specs.Attributes.{Row, filter_rows, filter_value, kinds_value, lifetime_rows, lifetime_value, limit_rows, limit_value, name_rows, purge_rows, search_rows, session_rows, subscription_rows}
 use Rattle.ifmap_writing.specs.Bounds.{IsBounded, IsBoundedMetadata, IsBoundedPublish}
-use Rattle.ifmap_writing.specs.RequestElements.{around, as_children, asking_element, element_in, identifier_children, in_envelope, item_children, list_element, part_element, publish_element, published_children, request_element, subscribe_element}
+use Rattle.ifmap_writing.specs.RequestElements.{around, as_children, asking_element, element_in, in_envelope, list_element, part_element, publish_element, published_children, request_element, subscribe_element}
 use Rattle.ifmap_writing.specs.RequestSpaces.{optional_filter, publish_filters, request_filters, request_spaces, search_filters, subscribe_filters}
 use Rattle.ifmap_writing.proofs.CharacterLaws.{joined_characters, plain_characters}
 use Rattle.ifmap_writing.proofs.FilterLaws.{filter_characters, filter_namespaces}
 use Rattle.ifmap_writing.proofs.RowLaws.{is_plain_local, no_namespace, plain_fits, told_apart}
-use Rattle.ifmap_writing.proofs.SoundLaws.{AreFitRows, IsSound, all_higher, higher, sound_whole}
+use Rattle.ifmap_writing.proofs.SoundLaws.{AreFitRows, IsSound, higher, sound_whole}
 use Rattle.ifmap_writing.proofs.ValueLaws.{numeral_characters}
 
 -- ---- (1) names
@@ -110,7 +108,10 @@ search_fit spaces session s c f = record {
   plain = refl;
   values = (
     filter_fits spaces s.match_links f.match_links,
-    (numeral_characters s.max_depth, (numeral_characters s.max_size, (filter_fits spaces s.result_filter f.result_filter, (c, (kinds_fit s.terminal, tt))))),
+    (
+      numeral_characters s.max_depth,
+      (numeral_characters s.max_size, (filter_fits spaces s.result_filter f.result_filter, (c, (kinds_fit s.terminal, tt)))),
+    ),
   );
 }
 
@@ -121,7 +122,10 @@ subscription_fit spaces name s c f = record {
   plain = refl;
   values = (
     filter_fits spaces s.match_links f.match_links,
-    (numeral_characters s.max_depth, (numeral_characters s.max_size, (c, (filter_fits spaces s.result_filter f.result_filter, (kinds_fit s.terminal, tt))))),
+    (
+      numeral_characters s.max_depth,
+      (numeral_characters s.max_size, (c, (filter_fits spaces s.result_filter f.result_filter, (kinds_fit s.terminal, tt)))),
+    ),
   );
 }
 
@@ -132,7 +136,8 @@ abbrev pub published_elements : Item → List Metadata → List Element
 published_elements (One a) elements = identifier_element a ∷ (list_element elements ∷ [])
 published_elements (Pair a b) elements = identifier_element a ∷ (identifier_element b ∷ (list_element elements ∷ []))
 
-pub published_are : (item : Item) (elements : List Metadata) → published_children item elements ≡ as_children (published_elements item elements)
+pub published_are : (item : Item) (elements : List Metadata)
+    → published_children item elements ≡ as_children (published_elements item elements)
 published_are (One a) elements = refl
 published_are (Pair a b) elements = refl
 
@@ -244,7 +249,8 @@ module _ (fits : (i : Identifier) → IsIdentifier i → IsFit (identifier_eleme
   envelope_sound r f within =
       let inner = element_sound (request_spaces r) r f within in
       let body : Element = around (envelope_name (codes "Body")) (request_element r) in
-      let b = sound_whole 62 (envelope_name (codes "Body")) [] (request_element r ∷ []) (envelope_fits (codes "Body") refl) no_rows (inner, tt) in
+      let b = sound_whole 62 (envelope_name (codes "Body")) [] (request_element r ∷ []) (envelope_fits (codes "Body") refl) no_rows
+      (inner, tt) in
       sound_whole 63 (envelope_name (codes "Envelope")) [] (body ∷ []) (envelope_fits (codes "Envelope") refl) no_rows (b, tt)
 
 -- the namespaces of a request's filters
@@ -252,7 +258,8 @@ module _ (fits : (i : Identifier) → IsIdentifier i → IsFit (identifier_eleme
 each_namespaces : (filters : List Filter) → AllByRecursion IsFitFilter filters → AllByRecursion IsNamespace (flat_map filter_spaces filters)
 each_namespaces [] f = tt
 each_namespaces (filter ∷ filters) f =
-    both_all IsNamespace (filter_spaces filter) (flat_map filter_spaces filters) (filter_namespaces filter f.0) (each_namespaces filters f.1)
+    both_all IsNamespace (filter_spaces filter) (flat_map filter_spaces filters) (filter_namespaces filter f.0)
+    (each_namespaces filters f.1)
 
 optional_fits : (filter : Option Filter) → MayBeFitFilter filter → AllByRecursion IsFitFilter (optional_filter filter)
 optional_fits None f = tt

@@ -15,7 +15,8 @@ use std::alloc::{AllocError as NoMemory, Global};
 
 // The attribute of a session's id, alone.
 pub(crate) fn session_attributes(alloc: Global, session: &Text) -> Result<Vec<Attribute>, NoMemory>
-    ensures { IfOk result (λ attributes. attributes.items ≡ attributes_of (session_rows session.now)) }
+    ensures { IfOk result (λ attributes.
+        attributes.items ≡ attributes_of (session_rows session.now)) }
 {
     let mut attributes = Vec::new(alloc);
     push_text(alloc, "session-id", session, &mut attributes)?;
@@ -187,8 +188,8 @@ fn push_filter(
     attributes: &mut Vec<Attribute>,
 ) -> Result<(), NoMemory>
     requires { ServeFilter spaces.now filter.now }
-    ensures { OnOk result (attributes.new.items
-        ≡ attributes.old.items ++ written_attribute local.now (filter_value spaces.now filter.now)) }
+    ensures { OnOk result (attributes.new.items ≡ attributes.old.items
+        ++ written_attribute local.now (filter_value spaces.now filter.now)) }
 {
     match filter {
         Some(filter) => push_attribute(alloc, local, filter.print(alloc, spaces)?, attributes),

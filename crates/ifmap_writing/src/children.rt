@@ -1,6 +1,5 @@
 //! What operations carry, as children: identifiers, and lists of metadata.
-ghost use Rattle.std.specs.Prelude.{◌≡◌, ◌++◌, ◌∷◌, [], map, IfOk};
-ghost use Rattle.ifmap_ident.specs.Identifiers.{identifier_element};
+ghost use Rattle.std.specs.Prelude.{◌≡◌, ◌∷◌, [], map, IfOk};
 ghost use Rattle.ifmap_writing.specs.RequestElements.{as_children, identifier_children, item_children, list_element, published_children};
 
 use ifmap_elem::{Child, Copied, Element, Many};

@@ -1,4 +1,4 @@
-use Rattle.std.proofs.Common.{◌∙◌, arith, sym}
+use Rattle.std.proofs.Common.{◌∙◌, sym}
 use Rattle.std.proofs.lemmas.Result.{IfOk-weaker}
 use Rattle.ifmap_lemmas.specs.Numerals.{numeral_is_decimal}
 use Rattle.ifmap_writing.proofs.attributes.decimal_text.Goals as goal
