@@ -252,10 +252,11 @@ publish_bounded scopes e op low h = elim (either_found (is_name e.name update_fo
         | inl found ↦
             let p = form_parts notify_form notify_of scopes e op found in
             subst IsBoundedPublish (sym p.made) (published_bounded (parts_of e) p.others (parts_low 60 e low) p.content)
-        | inr last ↦ elim (either_found (is_name e.name delete_form.name) (form_check delete_form delete_of scopes e) (fail Failure) op last) [
-          | inl found ↦ let p = form_parts delete_form delete_of scopes e op found in subst IsBoundedPublish (sym p.made) tt
-          | inr wrong ↦ let apart : good op ≡ bad Failure = wrong in cc
-        ]
+        | inr last ↦ elim (either_found (is_name e.name delete_form.name) (form_check delete_form delete_of scopes e) (fail Failure) op
+            last) [
+              | inl found ↦ let p = form_parts delete_form delete_of scopes e op found in subst IsBoundedPublish (sym p.made) tt
+              | inr wrong ↦ let apart : good op ≡ bad Failure = wrong in cc
+            ]
       ]
     ]
 

@@ -295,7 +295,8 @@ module _ (canon : (i : Identifier) → IsIdentifier i → IsCanon (identifier_el
         found_form delete_form delete_of scopes e (both filter tt)
         (found_alone (filter_field (codes "filter")) (scopes []) e filter
         (field_back (filter_field (codes "filter")) (scopes []) (bare_name (codes "delete")) (filter_rows spaces filter)
-        (item_children item) (filter_value spaces filter) filter (or_none (filter_value spaces filter)) (filter_back spaces (scopes []) filter w)))
+        (item_children item) (filter_value spaces filter) filter (or_none (filter_value spaces filter))
+        (filter_back spaces (scopes []) filter w)))
         item (only_rows (codes "filter" ∷ []) (filter_rows spaces filter) refl) (item_back canon item f.0)
 
     subscribe_back : (scopes : Scopes) (op : SubscribeOp) → IsFitSubscribeOp op → IsBoundedSubscribe op

@@ -8,8 +8,8 @@ use ifmap_meta::laws::metadata_are_made_of_their_element;
 use ifmap_requests::laws::bodies_mean_fit_requests;
 
 /// The bytes that are written of a request which some body means are a body that means it. So are
-/// those of each request that is fit and within the bounds of what can be read; and a request that a
-/// body means is within them.
+/// those of each request that is fit and within the bounds of what can be read; and a request that
+/// a body means is within them.
 pub fn requests_are_read_back()
     ensures written { WrittenIsReadBack }
     ensures fit { FitIsReadBack }

@@ -21,8 +21,8 @@ const ENVELOPE_SPACE: &str = "http://www.w3.org/2003/05/soap-envelope";
 const IFMAP_SPACE: &str = "http://www.trustedcomputinggroup.org/2010/IFMAP/2";
 
 /// The element of a request, its attributes in order at every level, and the namespaces of its
-/// filters, each once, in the order of first occurrence, but for none and that of `xml`: the filters
-/// name them by the prefixes `f1`, `f2` and so on. The one error is want of memory.
+/// filters, each once, in the order of first occurrence, but for none and that of `xml`: by the
+/// prefixes `f1`, `f2` and so on the filters name them. The one error is want of memory.
 #[tactic(auto, using(crate::proofs::SpaceLaws::own_serve))]
 pub fn request_element(alloc: Global, request: &Request) -> Result<(Element, Many<Text>), NoMemory>
     ensures element { IfOk result (λ made. made.0 ≡ request_element request.now) }
