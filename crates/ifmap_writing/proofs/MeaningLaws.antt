@@ -1,6 +1,7 @@
 -- The bytes that are written of a request that is fit and within its bounds mean that request. Plan: (1) its filters are read back in
--- each scope of what is written; (2) the envelope; (3) the bytes.
+-- each scope of what is written; (2) the envelope; (3) the bytes; (4) what is answered to them.
 use Rattle.std.proofs.Common.{◌≡◌, ◌≤◌, ℕ, List, [], ◌∷◌, Option, None, Some, Ok, codes, refl, subst, inl}
+use Rattle.std.specs.Prelude.{MatchResult, Result, Err}
 use Rattle.std.specs.List.{AllByRecursion}
 use Rattle.ifmap_elem.specs.Arranged.{arrange}
 use Rattle.ifmap_elem.specs.Canonical.{root_declarations, written_bytes, written_reading}
@@ -31,7 +32,10 @@ use Rattle.ifmap_requests.specs.declared.requests.Request.{Request}
 use Rattle.ifmap_requests.specs.declared.requests.Request.TheVariants.{NewSession, RenewSession, EndSession, Publish, Search, Subscribe, Poll, PurgePublisher}
 use Rattle.ifmap_requests.specs.declared.requests.SubscribeOp.{SubscribeOp}
 use Rattle.ifmap_requests.specs.declared.requests.SubscribeOp.TheVariants as subscribe
-use Rattle.ifmap_requests.specs.Means.{Means, scopes_from}
+use Rattle.ifmap_requests.specs.declared.errors.Refusal.{Refusal}
+use Rattle.ifmap_requests.specs.declared.errors.Refusal.TheVariants as refusal
+use Rattle.ifmap_requests.specs.Laws.{OneMeaning}
+use Rattle.ifmap_requests.specs.Means.{IsBodyAnswer, Means, scopes_from}
 use Rattle.ifmap_requests.specs.Fit.{IsFitOp, IsFitRequest, IsFitSearch, IsFitSubscribeOp, MayBeFitFilter}
 use Rattle.ifmap_writing.specs.Bounds.{IsBounded}
 use Rattle.ifmap_writing.specs.RequestElements.{around, in_envelope, request_bytes, request_element}
@@ -149,3 +153,21 @@ module _ (canon : (i : Identifier) → IsIdentifier i → IsCanon (identifier_el
                 (λ inner. written_there (namespaces (arrange envelope)) (request_spaces r) path inner) r
                 (own_serve each r (request_spaces r) refl) f);
           }
+
+-- ---- (4) answers
+
+abbrev good : Request → Result Request Refusal
+good r = Ok r
+
+abbrev bad : Refusal → Result Request Refusal
+bad refused = Err refused
+
+-- what is answered to bytes that mean a request
+pub answered : OneMeaning → (bytes : List ℕ) (r : Request) → Means bytes (Ok r) → (result : Result Request Refusal)
+    → IsBodyAnswer bytes result → MatchResult result (λ read. read ≡ r) (λ error. error ≡ refusal.NoMemory)
+answered one bytes r m (Ok other) a = let same : good other ≡ good r = one bytes (good other) (good r) a m in cc
+answered one bytes r m (Err (refusal.Named code)) a =
+    let wrong : bad (refusal.Named code) ≡ good r = one bytes (bad (refusal.Named code)) (good r) a m in cc
+answered one bytes r m (Err refusal.Unreadable) a =
+    let wrong : bad refusal.Unreadable ≡ good r = one bytes (bad refusal.Unreadable) (good r) a m in cc
+answered one bytes r m (Err refusal.NoMemory) a = refl
