@@ -1,0 +1,3 @@
+pub mod Diff
+pub mod Notes
+pub mod Fold
