@@ -1,0 +1,4 @@
+-- What changes of a graph mean, in reading order.
+pub mod Placing
+pub mod Lists
+pub mod Plans
