@@ -1,3 +1,4 @@
-pub mod Diff
+-- Stub.
+pub mod Differences
 pub mod Notes
-pub mod Fold
+pub mod Folds

@@ -1,6 +1,6 @@
 -- What a client folds of the answers to its polls, beside the graph.
 use Rattle.std.specs.Prelude.{◌≡◌, ℕ, List, [], ◌∷◌, ◌++◌, flat_map, Some, if◌then◌else◌}
-use Rattle.ifmap_delta.specs.Fold.{fold_items, no_sets}
+use Rattle.ifmap_delta.specs.Folds.{Sets, fold_items, no_sets}
 use Rattle.ifmap_fresh.specs.Fresh.{fresh}
 use Rattle.ifmap_lemmas.specs.Having.{Has}
 use Rattle.ifmap_machine.specs.declared.events.Answer.{Answer}
@@ -16,3 +16,68 @@ use Rattle.ifmap_requests.specs.declared.requests.Request.{Request as Asked}
 use Rattle.ifmap_requests.specs.declared.requests.Request.TheVariants as the_request
 use Rattle.ifmap_search.specs.declared.results.PollItem.{PollItem}
 use Rattle.ifmap_session.specs.Sessions.{Session, is_text, session_with_id}
+
+-- what a poll's answer tells
+abbrev pub items_of : Answer → List PollItem
+items_of (the_answer.Reply (the_reply.Polled items)) = items
+items_of (the_answer.Reply (the_reply.NewSession session publisher limit)) = []
+items_of (the_answer.Reply the_reply.Renewed) = []
+items_of (the_answer.Reply the_reply.Ended) = []
+items_of (the_answer.Reply the_reply.Published) = []
+items_of (the_answer.Reply the_reply.Subscribed) = []
+items_of (the_answer.Reply the_reply.Purged) = []
+items_of (the_answer.Reply (the_reply.Found entries)) = []
+items_of (the_answer.Reply (the_reply.Error code note)) = []
+items_of the_answer.Held = []
+items_of the_answer.Heard = []
+
+-- what is told of a poll in the session of an id, where one is asked
+abbrev pub polled_by : List ℕ → Ask → List PollItem → List PollItem
+polled_by id (Request (the_request.Poll own)) items = if is_text own id then items else []
+polled_by id (Request (the_request.NewSession limit)) items = []
+polled_by id (Request (the_request.RenewSession own)) items = []
+polled_by id (Request (the_request.EndSession own)) items = []
+polled_by id (Request (the_request.Publish own ops)) items = []
+polled_by id (Request (the_request.Search own search)) items = []
+polled_by id (Request (the_request.Subscribe own ops)) items = []
+polled_by id (Request (the_request.PurgePublisher own publisher)) items = []
+polled_by id (Lost own) items = []
+
+-- all that polls in the session of an id were told, in order
+abbrev pub all_polled : List ℕ → History → List PollItem
+all_polled id history = flat_map (λ (e : Event × Answer). polled_by id e.0.ask (items_of e.1)) history
+
+-- what a client folds of that
+abbrev pub client_sets : List ℕ → History → Sets
+client_sets id history = fold_items (all_polled id history) no_sets
+
+-- a poll in the session of an id, which is answered with what there is to tell, or held
+abbrev pub IsTold : Answer → Type 0
+IsTold (the_answer.Reply (the_reply.Polled items)) = Unit {0}
+IsTold (the_answer.Reply (the_reply.NewSession session publisher limit)) = ⊥
+IsTold (the_answer.Reply the_reply.Renewed) = ⊥
+IsTold (the_answer.Reply the_reply.Ended) = ⊥
+IsTold (the_answer.Reply the_reply.Published) = ⊥
+IsTold (the_answer.Reply the_reply.Subscribed) = ⊥
+IsTold (the_answer.Reply the_reply.Purged) = ⊥
+IsTold (the_answer.Reply (the_reply.Found entries)) = ⊥
+IsTold (the_answer.Reply (the_reply.Error code note)) = ⊥
+IsTold the_answer.Held = Unit {0}
+IsTold the_answer.Heard = ⊥
+
+abbrev pub is_poll_of : List ℕ → Ask → Type 0
+is_poll_of id ask = ask ≡ Request (the_request.Poll id)
+
+-- after a poll that was told, each subscription that its session keeps has the set that the client folded: the fresh result of its
+-- search
+abbrev pub AgreesAfter : ℕ → History → List ℕ → Type 0
+AgreesAfter ttl history id =
+    (s : Session) (x : Standing) → session_with_id id (state_after ttl history).sessions ≡ Some s
+    → Has (state_after ttl history).standing x → x.serial ≡ s.serial
+    → client_sets id history x.name ≡ Some (fresh (state_after ttl history).graph x.search)
+
+-- so it is after each such poll of a history
+abbrev pub Agrees : ℕ → History → Type 0
+Agrees ttl history =
+    (before rest : History) (event : Event) (answer : Answer) (id : List ℕ) → history ≡ before ++ ((event, answer) ∷ rest)
+    → is_poll_of id event.ask → IsTold answer → AgreesAfter ttl (before ++ ((event, answer) ∷ [])) id

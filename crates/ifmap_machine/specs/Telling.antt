@@ -3,8 +3,8 @@
 use Rattle.std.specs.Prelude.{ℕ, ◌==◌, ◌&&◌, nat_lt, Bool, List, [], ◌∷◌, ◌++◌, codes, filter, flat_map, map, not, None, Some, if◌then◌else◌}
 use Rattle.std.specs.Fmt.{decimal}
 use Rattle.std.specs.List.{list_any}
-use Rattle.ifmap_delta.specs.Diff.{diff}
-use Rattle.ifmap_delta.specs.Notes.{notes_told}
+use Rattle.ifmap_delta.specs.Differences.{difference}
+use Rattle.ifmap_delta.specs.Notes.{told_notes}
 use Rattle.ifmap_fresh.specs.Fresh.{fresh, fresh_size}
 use Rattle.ifmap_ident.specs.declared.codes.Code.TheVariants.{PollResultsTooBig, SearchResultsTooBig}
 use Rattle.ifmap_machine.specs.State.{Standing, State, standing_in}
@@ -38,7 +38,7 @@ too_big_item name rows search =
 -- what went, what came, and what was notified, each where there is something
 abbrev pub differences : List ℕ → List Entry → List Entry → List Entry → List PollItem
 differences name before after notes =
-    item_where (the_item.Delete name) (diff before after) ++ item_where (the_item.Update name) (diff after before)
+    item_where (the_item.Delete name) (difference before after) ++ item_where (the_item.Update name) (difference after before)
     ++ item_where (the_item.Notify name) notes
 
 -- what is told to one subscription
@@ -46,7 +46,7 @@ abbrev pub told_to : List Attachment → List Attachment → List Note → Stand
 told_to before after notes x =
     if is_too_big after x.search
     then too_big_item x.name after x.search ∷ []
-    else differences x.name (fresh before x.search) (fresh after x.search) (notes_told after x.search notes)
+    else differences x.name (fresh before x.search) (fresh after x.search) (told_notes after x.search notes)
 
 -- and to all of a session
 abbrev pub told_in : List Attachment → List Attachment → List Note → List Standing → ℕ → List PollItem

@@ -2,3 +2,4 @@
 pub mod Placing
 pub mod Lists
 pub mod Plans
+pub mod laws

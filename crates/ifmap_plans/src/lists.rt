@@ -1,9 +1,9 @@
 //! What is stored on an item after a change.
-ghost use Rattle.std.specs.Prelude.{◌≡◌, IfOk, OnOk};
+ghost use Rattle.std.specs.Prelude.{◌≡◌, IfOk, OnOk, is_ok};
 ghost use Rattle.std.specs.List.{list_any};
 ghost use Rattle.std.specs.List.Sorted.{IsStrictlySortedBy};
 ghost use Rattle.std.specs.Ordering.{eq_by_cmp};
-ghost use Rattle.ifmap_plans.specs.Lists.{IsList, next_on, put_each, without};
+ghost use Rattle.ifmap_plans.specs.Lists.{IsPlace, next_on, put_each, without};
 ghost use Rattle.ifmap_plans.specs.Placing.{put};
 ghost use Rattle.ifmap_view.specs.Attachments.{stored_bytes, stored_order};
 
@@ -53,12 +53,22 @@ fn keep_others(alloc: Global, stored: &[Row], removed: &[Row]) -> Result<Vec<Row
     Ok(kept)
 }
 
-// Whether a row of the same canonical bytes is among some that rise: it is found by halving.
+// Whether a row of the same canonical bytes is among some that rise.
 fn is_among(rows: &[Row], row: &Row) -> bool
     requires { IsStrictlySortedBy stored_order rows.now }
     ensures { result ≡ list_any (λ r. eq_by_cmp stored_order r row.now) rows.now }
 {
-    rows.binary_search_by(|other| row_order(other, row)).is_ok()
+    place_of(rows, row).is_ok()
+}
+
+/// Where a row stands among some that rise, by its canonical bytes, or where it would: it is found by
+/// halving.
+pub fn place_of(rows: &[Row], row: &Row) -> Result<usize, usize>
+    requires { IsStrictlySortedBy stored_order rows.now }
+    ensures place { IsPlace row.now rows.now result }
+    ensures found { is_ok result ≡ list_any (λ r. eq_by_cmp stored_order r row.now) rows.now }
+{
+    rows.binary_search_by(|other| row_order(other, row))
 }
 
 // Each row in its place, one after the other.
@@ -72,12 +82,13 @@ fn put_each(list: &mut Vec<Row>, added: &[Row]) -> Result<(), NoMemory>
     Ok(())
 }
 
-// One row in its place, instead of the one with its canonical bytes, if there is one.
-fn put_row(list: &mut Vec<Row>, row: Row) -> Result<(), NoMemory>
+/// Puts a row in its place, instead of the one with its canonical bytes, if there is one. The one error
+/// is want of memory.
+pub fn put_row(list: &mut Vec<Row>, row: Row) -> Result<(), NoMemory>
     requires { IsStrictlySortedBy stored_order list.old.items }
     ensures { OnOk result (list.new.items ≡ put stored_order row list.old.items) }
 {
-    match list.binary_search_by(|other| row_order(other, &row)) {
+    match place_of(list, &row) {
         Ok(place) => list[place] = row,
         Err(place) => list.insert(place, row)?,
     }

@@ -1,0 +1,292 @@
+-- What holds of the subscriptions that stand in every state: they rise by session and name, and a session has 1,000 at most.
+-- First: how many of a filtered list, and of a list with one put in (`fewer_kept`, `put_counted`, `one_gone`). Then what filters and
+-- a new subscription keep (`stood_filter`, `stood_begun`), the fold of a subscribe (`stood_ops`), and each case of the step.
+use Rattle.std.proofs.Common.{◌≡◌, refl, sym, ◌∙◌, ap, subst, ℕ, suc, ◌+◌, ◌<◌, ◌≤◌, ◌==◌, ◌&&◌, Bool, true, false, not, List, [], ◌∷◌, ◌++◌, length, Option, None, Some, option_and_then, inl, inr, nat_le, arith, length-append}
+use Rattle.std.proofs.lemmas.Bool.{and_cases, and_parts, cases_Bool}
+use Rattle.std.proofs.lemmas.Bool.Decides.{nat_tests}
+use Rattle.std.proofs.lemmas.Cmp.{nat_cmp_total, nat_list_cmp_total, on_total, then_total}
+use Rattle.std.proofs.lemmas.List.Kept.{IsStrictlySortedBy-filter}
+use Rattle.std.specs.Cmp.{IsTotalOrder}
+use Rattle.std.specs.List.{filter, list_any}
+use Rattle.std.specs.List.Sorted.{IsStrictlySortedBy}
+use Rattle.std.specs.Ordering.{is_gt, is_lt}
+use Rattle.std.specs.declared.cmp.Ordering.{Ordering}
+use Rattle.std.specs.declared.cmp.Ordering.TheVariants.{Less, Equal, Greater}
+use Rattle.ifmap_machine.specs.declared.events.Answer.{Answer}
+use Rattle.ifmap_machine.specs.declared.events.Ask.{Ask}
+use Rattle.ifmap_machine.specs.declared.events.Ask.TheVariants.{Request, Lost}
+use Rattle.ifmap_machine.specs.Ending.{end_former, end_some, expire}
+use Rattle.ifmap_machine.specs.Events.{Event}
+use Rattle.ifmap_machine.specs.Legal.{History, state_from}
+use Rattle.ifmap_machine.specs.State.{Standing, State, advance, opening, standing_in, standing_order}
+use Rattle.ifmap_machine.specs.Step.{answer_subscribed, end_session, in_session, is_full, lose, poll, poll_in, poll_queue, publish, purge, renew_first, renew_session, search, step, step_ask, subscribe}
+use Rattle.ifmap_machine.specs.Subscribing.{Told, begin_name, drop_name, is_full_for, is_of_name, most_names, subscribe_op, subscribe_ops}
+use Rattle.ifmap_machine.specs.Telling.{is_too_big}
+use Rattle.ifmap_plans.specs.Placing.{put}
+use Rattle.ifmap_plans.specs.laws.PlacingLaws.{put_sorted}
+use Rattle.ifmap_requests.specs.declared.requests.Request.TheVariants as the_request
+use Rattle.ifmap_requests.specs.declared.requests.SubscribeOp.{SubscribeOp}
+use Rattle.ifmap_requests.specs.declared.requests.SubscribeOp.TheVariants.{Update, Delete}
+use Rattle.ifmap_search.specs.declared.results.PollItem.{PollItem}
+use Rattle.ifmap_search.specs.declared.searches.Search.{Search}
+use Rattle.ifmap_session.specs.Sessions.{Session, is_text, session_of_client, session_with_id}
+use Rattle.ifmap_session.specs.laws.TableLaws.{shorter}
+use Rattle.ifmap_view.specs.declared.attachments.Attachment.{Attachment}
+
+pub standing_total : IsTotalOrder standing_order
+standing_total =
+    then_total (on_total (λ (x : Standing). x.serial) nat_cmp_total) (on_total (λ (x : Standing). x.name) nat_list_cmp_total)
+
+-- ---- how many
+
+module _ {X : Type 0} (q : X → Bool) where
+  -- no more of a filtered list
+  pub fewer_kept : (p : X → Bool) (xs : List X) → length (filter q (filter p xs)) ≤ length (filter q xs)
+  fewer_kept p [] = omega arith
+  fewer_kept p (x ∷ xs) =
+      let rest = fewer_kept p xs in
+      elim (cases_Bool (p x)) [
+        | inl stays ↦ elim (cases_Bool (q x)) [
+          | inl counts ↦ rw (stays, counts) (omega (arith, rest))
+          | inr other ↦ rw (stays, other) rest
+        ]
+        | inr goes ↦ elim (cases_Bool (q x)) [
+          | inl counts ↦ rw (goes, counts) (omega (arith, rest))
+          | inr other ↦ rw (goes, other) rest
+        ]
+      ]
+
+  -- one less at least, where one that counts goes
+  pub one_gone : (r : X → Bool) → ((x : X) → r x ≡ true → q x ≡ true) → (xs : List X) → list_any r xs ≡ true
+      → length (filter q (filter (λ x. not (r x)) xs)) < length (filter q xs)
+  one_gone r counts [] some = let bad : false ≡ true = some in cc
+  one_gone r counts (x ∷ xs) some =
+      elim (cases_Bool (r x)) [
+        | inl goes ↦
+            let rest = fewer_kept (λ y. not (r y)) xs in
+            rw (goes, counts x goes) (omega (arith, rest))
+        | inr stays ↦
+            let rest = one_gone r counts xs (rw stays at some) in
+            elim (cases_Bool (q x)) [ inl is ↦ rw (stays, is) (omega (arith, rest)) | inr other ↦ rw (stays, other) rest ]
+      ]
+
+  pub filter_joined : (xs ys : List X) → filter q (xs ++ ys) ≡ filter q xs ++ filter q ys
+  filter_joined [] ys = refl
+  filter_joined (x ∷ xs) ys = elim (cases_Bool (q x)) [
+    | inl hit ↦ rw hit (ap (λ zs. x ∷ zs) (filter_joined xs ys))
+    | inr miss ↦ rw miss (filter_joined xs ys)
+  ]
+
+  -- those below and those above one are no more than all
+  two_sides : (C : X → X → Ordering) (a : X) (xs : List X)
+      → length (filter q (filter (λ y. is_lt (C y a)) xs)) + length (filter q (filter (λ y. is_gt (C y a)) xs)) ≤ length (filter q xs)
+  two_sides C a [] = omega arith
+  two_sides C a (x ∷ xs) = at (C x a) refl (two_sides C a xs)
+    where
+      at : (o : Ordering) → C x a ≡ o
+          → length (filter q (filter (λ y. is_lt (C y a)) xs)) + length (filter q (filter (λ y. is_gt (C y a)) xs)) ≤ length (filter q xs)
+          → length (filter q (filter (λ y. is_lt (C y a)) (x ∷ xs))) + length (filter q (filter (λ y. is_gt (C y a)) (x ∷ xs)))
+          ≤ length (filter q (x ∷ xs))
+      at Less e rest = rw e (elim (cases_Bool (q x)) [ inl h ↦ rw h (omega (arith, rest)) | inr h ↦ rw h rest ])
+      at Equal e rest = rw e (elim (cases_Bool (q x)) [ inl h ↦ rw h (omega (arith, rest)) | inr h ↦ rw h rest ])
+      at Greater e rest = rw e (elim (cases_Bool (q x)) [ inl h ↦ rw h (omega (arith, rest)) | inr h ↦ rw h rest ])
+
+  one_more : (a : X) (xs : List X) → length (filter q (a ∷ xs)) ≤ length (filter q xs) + 1
+  one_more a xs = elim (cases_Bool (q a)) [ inl h ↦ rw h (omega arith) | inr h ↦ rw h (omega arith) ]
+
+  -- one more at most, where one is put in; no more, where it does not count
+  pub put_counted : (C : X → X → Ordering) (a : X) (xs : List X) → length (filter q (put C a xs)) ≤ length (filter q xs) + 1
+  put_counted C a xs =
+      let below : List X = filter (λ y. is_lt (C y a)) xs in
+      let above : List X = filter (λ y. is_gt (C y a)) xs in
+      let sides = two_sides C a xs in
+      let more = one_more a above in
+      let joined : length (filter q (below ++ a ∷ above)) ≡ length (filter q below) + length (filter q (a ∷ above)) =
+          ap length (filter_joined below (a ∷ above)) ∙ length-append (filter q below) (filter q (a ∷ above)) in
+      omega (arith, sides, more, joined)
+
+  pub put_passed : (C : X → X → Ordering) (a : X) (xs : List X) → q a ≡ false → length (filter q (put C a xs)) ≤ length (filter q xs)
+  put_passed C a xs other =
+      let below : List X = filter (λ y. is_lt (C y a)) xs in
+      let above : List X = filter (λ y. is_gt (C y a)) xs in
+      let sides = two_sides C a xs in
+      let same : length (filter q (a ∷ above)) ≡ length (filter q above) = rw other refl in
+      let joined : length (filter q (below ++ a ∷ above)) ≡ length (filter q below) + length (filter q (a ∷ above)) =
+          ap length (filter_joined below (a ∷ above)) ∙ length-append (filter q below) (filter q (a ∷ above)) in
+      omega (arith, sides, same, joined)
+
+-- ---- subscriptions
+
+-- what holds of the subscriptions in every state
+pub record AreStood (standing : List Standing) : Type 0 where
+  pub rising : IsStrictlySortedBy standing_order standing
+  pub few : (n : ℕ) → length (standing_in n standing) ≤ most_names
+
+pub stood_none : AreStood []
+unfolding IsStrictlySortedBy
+stood_none = record { rising = tt; few = λ n. omega arith }
+
+pub stood_filter : (p : Standing → Bool) (xs : List Standing) → AreStood xs → AreStood (filter p xs)
+stood_filter p xs w = record {
+  rising = IsStrictlySortedBy-filter standing_order p xs w.rising;
+  few = λ n. let less = fewer_kept (λ (x : Standing). x.serial == n) p xs in let most = w.few n in omega (arith, less, most);
+}
+
+-- a name for which there is room leaves fewer than 1,000 once it is dropped
+room_left : (serial : ℕ) (name : List ℕ) (xs : List Standing) → AreStood xs → is_full_for serial name xs ≡ false
+    → length (standing_in serial (filter (λ x. not (is_of_name serial name x)) xs)) < most_names
+room_left serial name xs w free =
+    elim (and_cases (nat_le most_names (length (standing_in serial xs))) (not (list_any (is_of_name serial name) xs)) free) [
+      | inl low ↦
+          let less = fewer_kept (λ (x : Standing). x.serial == serial) (λ x. not (is_of_name serial name x)) xs in
+          let under : length (standing_in serial xs) < most_names = grind (arith, nat_tests, low) in
+          omega (arith, less, under)
+      | inr there ↦
+          let some : list_any (is_of_name serial name) xs ≡ true = grind (arith, there) in
+          let gone = one_gone (λ (x : Standing). x.serial == serial) (is_of_name serial name)
+              (λ x is. (and_parts _ _ is).0) xs some in
+          let most = w.few serial in
+          omega (arith, gone, most)
+    ]
+
+stood_begun : (serial : ℕ) (name : List ℕ) (asked : Search) (xs : List Standing) → AreStood xs → is_full_for serial name xs ≡ false
+    → AreStood (put standing_order (record { serial = serial; name = name; search = asked })
+    (filter (λ x. not (is_of_name serial name x)) xs))
+stood_begun serial name asked xs w free =
+    let kept : List Standing = filter (λ x. not (is_of_name serial name x)) xs in
+    let x : Standing = record { serial = serial; name = name; search = asked } in
+    let left = stood_filter (λ y. not (is_of_name serial name y)) xs w in
+    record {
+      rising = put_sorted Standing standing_order standing_total x kept left.rising;
+      few = λ n. elim (cases_Bool (serial == n)) [
+        | inl own ↦
+            let same : serial ≡ n = grind (arith, nat_tests, own) in
+            let room = room_left serial name xs w free in
+            subst (λ m. length (standing_in m (put standing_order x kept)) ≤ most_names) same
+            (let more = put_counted (λ (y : Standing). y.serial == serial) standing_order x kept in omega (arith, more, room))
+        | inr other ↦
+            let less = put_passed (λ (y : Standing). y.serial == n) standing_order x kept other in
+            let most = left.few n in
+            omega (arith, less, most)
+      ];
+    }
+
+abbrev pub Stood : Option Told → Type 0
+Stood None = Unit {0}
+Stood (Some t) = AreStood t.standing
+
+op_stood : (rows : List Attachment) (serial : ℕ) (op : SubscribeOp) (t : Told) → AreStood t.standing
+    → Stood (subscribe_op rows serial op t)
+op_stood rows serial (Update name asked) t w =
+    elim (cases_Bool (is_full_for serial name t.standing)) [
+      | inl full ↦ rw full tt
+      | inr free ↦ elim (cases_Bool (is_too_big rows asked)) [
+        | inl big ↦ rw (free, big) (stood_filter (λ x. not (is_of_name serial name x)) t.standing w)
+        | inr fits ↦ rw (free, fits) (stood_begun serial name asked t.standing w free)
+      ]
+    ]
+op_stood rows serial (Delete name) t w = stood_filter (λ x. not (is_of_name serial name x)) t.standing w
+
+pub stood_ops : (rows : List Attachment) (serial : ℕ) (ops : List SubscribeOp) (t : Told) → AreStood t.standing
+    → Stood (subscribe_ops rows serial ops t)
+stood_ops rows serial [] t w = w
+stood_ops rows serial (op ∷ ops) t w =
+    at (subscribe_op rows serial op t) (op_stood rows serial op t w) (λ u h. stood_ops rows serial ops u h)
+  where
+    at : (o : Option Told) → Stood o → ((u : Told) → AreStood u.standing → Stood (subscribe_ops rows serial ops u))
+        → Stood (option_and_then (subscribe_ops rows serial ops) o)
+    at None h rest = tt
+    at (Some u) h rest = rest u h
+
+-- ---- the cases of the step
+
+abbrev pub IsStood : State → Type 0
+IsStood state = AreStood state.standing
+
+pub ended_stood : (serials : List ℕ) (state : State) → IsStood state → IsStood (end_some serials state)
+ended_stood [] state w = w
+ended_stood (serial ∷ serials) state w = stood_filter _ _ (stood_filter _ _ (stood_filter _ state.standing w))
+
+former_stood : (o : Option Session) (state : State) → IsStood state → IsStood (end_former o state)
+former_stood None state w = w
+former_stood (Some s) state w = ended_stood (s.serial ∷ []) state w
+
+in_session_stood : (state : State) (client : List ℕ) (accept : Session → State × Answer) (o : Option Session)
+    → ((s : Session) → IsStood (accept s).0) → IsStood state → IsStood (in_session state client o accept).0
+in_session_stood state client accept None f w = w
+in_session_stood state client accept (Some s) f w =
+    elim (cases_Bool (is_text s.client client)) [ inl hit ↦ rw hit (f s) | inr miss ↦ rw miss w ]
+
+search_stood : (state : State) (asked : Search) (s : Session) → IsStood state → IsStood (search state asked s).0
+search_stood state asked s w =
+    elim (cases_Bool (is_too_big state.graph asked)) [ inl hit ↦ rw hit w | inr miss ↦ rw miss w ]
+
+purge_stood : (state : State) (publisher : List ℕ) (s : Session) → IsStood state → IsStood (purge state publisher s).0
+purge_stood state publisher s w =
+    elim (cases_Bool (is_text publisher s.client)) [
+      | inl hit ↦ rw hit (stood_filter _ _ (stood_filter _ state.standing w))
+      | inr miss ↦ rw miss w
+    ]
+
+subscribed_stood : (state : State) (s : Session) (o : Option Told) → Stood o → IsStood state → IsStood (answer_subscribed state s o).0
+subscribed_stood state s None h w = w
+subscribed_stood state s (Some t) h w = stood_filter _ t.standing h
+
+first_stood : (again : Bool) (serial : ℕ) (state : State) → IsStood state → IsStood (renew_first again serial state)
+first_stood true serial state w = w
+first_stood false serial state w = w
+
+queue_stood : (state : State) (again : Bool) (s : Session) (queue : List PollItem) → IsStood state
+    → IsStood (poll_queue state again s queue).0
+queue_stood state again s [] w = first_stood again s.serial state w
+queue_stood state again s (item ∷ items) w = first_stood again s.serial _ w
+
+poll_stood : (state : State) (client : List ℕ) (again : Bool) (o : Option Session) → IsStood state → IsStood (poll state client again o).0
+poll_stood state client true None w = w
+poll_stood state client true (Some s) w = in_session_stood state client (poll_in state true) (Some s)
+    (λ t. queue_stood state true t t.queue w) w
+poll_stood state client false o w = in_session_stood state client (poll_in state false) o
+    (λ t. queue_stood state false t t.queue w) w
+
+lost_stood : (state : State) (client : List ℕ) (o : Option Session) → IsStood state → IsStood (lose state client o).0
+lost_stood state client None w = w
+lost_stood state client (Some s) w =
+    elim (cases_Bool (is_text s.client client)) [
+      | inl hit ↦ rw hit (ended_stood (s.serial ∷ []) state w)
+      | inr miss ↦ rw miss w
+    ]
+
+pub step_stood : (state : State) (event : Event) (ask : Ask) → IsStood state → IsStood (step_ask state event ask).0
+step_stood state event (Lost id) w = lost_stood state event.client (session_with_id id state.sessions) w
+step_stood state event (Request (the_request.NewSession limit)) w =
+    elim (cases_Bool (is_full state event.client)) [
+      | inl hit ↦ rw hit w
+      | inr miss ↦ rw miss (former_stood (session_of_client event.client state.sessions) state w)
+    ]
+step_stood state event (Request (the_request.RenewSession id)) w =
+    in_session_stood state event.client (renew_session state) (session_with_id id state.sessions) (λ s. w) w
+step_stood state event (Request (the_request.EndSession id)) w =
+    in_session_stood state event.client (end_session state) (session_with_id id state.sessions)
+    (λ s. ended_stood (s.serial ∷ []) state w) w
+step_stood state event (Request (the_request.Publish id ops)) w =
+    in_session_stood state event.client (publish state ops) (session_with_id id state.sessions)
+    (λ s. stood_filter _ _ (stood_filter _ state.standing w)) w
+step_stood state event (Request (the_request.Search id asked)) w =
+    in_session_stood state event.client (search state asked) (session_with_id id state.sessions) (λ s. search_stood state asked s w) w
+step_stood state event (Request (the_request.Subscribe id ops)) w =
+    in_session_stood state event.client (subscribe state ops) (session_with_id id state.sessions)
+    (λ s. subscribed_stood state s (subscribe_ops state.graph s.serial ops (record { queue = s.queue; standing = state.standing }))
+    (stood_ops state.graph s.serial ops (record { queue = s.queue; standing = state.standing }) w) w) w
+step_stood state event (Request (the_request.Poll id)) w =
+    poll_stood state event.client event.again (session_with_id id state.sessions) w
+step_stood state event (Request (the_request.PurgePublisher id publisher)) w =
+    in_session_stood state event.client (purge state publisher) (session_with_id id state.sessions)
+    (λ s. purge_stood state publisher s w) w
+
+pub event_stood : (state : State) (event : Event) → IsStood state → IsStood (step state event).0
+event_stood state event w = step_stood (expire (advance event.moment state)) event event.ask
+    (ended_stood _ (advance event.moment state) w)
+
+pub stood_after : (state : State) (history : History) → IsStood state → IsStood (state_from state history)
+stood_after state [] w = w
+stood_after state (e ∷ history) w = stood_after (step state e.0).0 history (event_stood state e.0 w)

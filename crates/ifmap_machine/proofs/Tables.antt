@@ -1,0 +1,283 @@
+-- What holds of the sessions in every state: `IsTable`, kept by each case of the step.
+-- First: a function of each session that keeps its serial, id and client keeps it (`mapped_table`); so telling and overflowing do.
+-- Then: some sessions end (`dropped_table`). Then the cases of the step (`step_table`), and histories (`table_after`).
+use Rattle.std.proofs.Common.{◌≡◌, refl, sym, ◌∙◌, ap, subst, ℕ, suc, ◌+◌, ◌-◌, ◌^◌, ◌<◌, ◌≤◌, ◌==◌, ◌&&◌, ◌||◌, Bool, true, false, not, List, [], ◌∷◌, ◌++◌, length, map, Option, None, Some, inl, inr, nat_le, is_none, arith}
+use Rattle.std.proofs.lemmas.Bool.{and_cases, both_ways, cases_Bool, or_parts}
+use Rattle.std.proofs.lemmas.Bool.Decides.{nat_tests}
+use Rattle.std.proofs.lemmas.List.Kept.{IsStrictlySortedBy-filter}
+use Rattle.std.specs.List.{AllByRecursion, IsDistinct, filter, list_any}
+use Rattle.std.specs.List.Sorted.{IsStrictlySortedBy}
+use Rattle.std.specs.declared.cmp.Ordering.TheVariants.{Less}
+use Rattle.ifmap_lemmas.specs.Filters.{all_filter, all_weaker}
+use Rattle.ifmap_lemmas.specs.Members.{map_of_all}
+use Rattle.ifmap_machine.specs.declared.events.Answer.{Answer}
+use Rattle.ifmap_machine.specs.declared.events.Ask.{Ask}
+use Rattle.ifmap_machine.specs.declared.events.Ask.TheVariants.{Request, Lost}
+use Rattle.ifmap_machine.specs.Ending.{drop_sessions, end_former, end_sessions, end_some, expire}
+use Rattle.ifmap_machine.specs.Events.{Event}
+use Rattle.ifmap_machine.specs.Legal.{History, state_from}
+use Rattle.ifmap_machine.specs.State.{State, advance, opening}
+use Rattle.ifmap_machine.specs.Step.{answer_subscribed, begin_session, end_session, in_session, is_full, lose, new_session, next_session, poll, poll_in, poll_queue, publish, purge, renew, renew_first, renew_session, search, step, step_ask, subscribe, with_told}
+use Rattle.ifmap_machine.specs.Subscribing.{Told, subscribe_ops}
+use Rattle.ifmap_machine.specs.Telling.{is_overfull, is_too_big, overflow, overflow_session, tell, tell_session, told_in}
+use Rattle.ifmap_plans.specs.declared.plans.Note.{Note}
+use Rattle.ifmap_requests.specs.declared.requests.Request.TheVariants as the_request
+use Rattle.ifmap_requests.specs.declared.requests.SubscribeOp.{SubscribeOp}
+use Rattle.ifmap_search.specs.declared.results.PollItem.{PollItem}
+use Rattle.ifmap_search.specs.declared.searches.Search.{Search}
+use Rattle.ifmap_session.specs.SessionIds.{BeginsWithSerial}
+use Rattle.ifmap_session.specs.Sessions.{IsTable, Session, Table, change, emptied, is_text, most_sessions, session_of_client, session_order, session_with_id, without_sessions}
+use Rattle.ifmap_session.specs.laws.TableLaws.{Keeps, begun_table, changed_table, client_freed, id_begins, one_fewer, renewed_keeps, shorter}
+use Rattle.ifmap_session.specs.laws.TextLaws.{distinct_filter, find_none}
+use Rattle.ifmap_view.specs.declared.attachments.Attachment.{Attachment}
+
+-- the sessions of a state, as a table without room
+abbrev pub table_of : State → Table
+table_of state = record { counter = state.counter; live = state.sessions; spare = []; room = 0 }
+
+-- what holds of the sessions in every state
+abbrev pub IsTabled : State → Type 0
+IsTabled state = IsTable (table_of state)
+
+-- ---- a function of each session
+
+module _ (f : Session → Session) (k : Keeps f) where
+  all_mapped : (P Q : Session → Type 0) → ((s : Session) → P s → Q (f s)) → (live : List Session) → AllByRecursion P live
+      → AllByRecursion Q (map f live)
+  all_mapped P Q g live h = map_of_all Q f live (all_weaker P (λ s. Q (f s)) g live h)
+
+  pub clients_mapped : (live : List Session) → map (λ (s : Session). s.client) (map f live) ≡ map (λ (s : Session). s.client) live
+  clients_mapped [] = refl
+  clients_mapped (x ∷ live) = rw (k.client x, clients_mapped live) refl
+
+  pub length_mapped : (live : List Session) → length (map f live) ≡ length live
+  length_mapped [] = refl
+  length_mapped (x ∷ live) = ap (λ m. suc m) (length_mapped live)
+
+  pub none_mapped : (client : List ℕ) (live : List Session) → session_of_client client live ≡ None
+      → session_of_client client (map f live) ≡ None
+  none_mapped client [] e = refl
+  none_mapped client (x ∷ live) e =
+      elim (cases_Bool (is_text x.client client)) [
+        | inl hit ↦ let bad : Some x ≡ None = rw hit at e in cc
+        | inr miss ↦ rw (k.client x, miss) (none_mapped client live (rw miss at e))
+      ]
+
+  mapped_rising : (live : List Session) → IsStrictlySortedBy session_order live → IsStrictlySortedBy session_order (map f live)
+  unfolding IsStrictlySortedBy
+  mapped_rising [] up = tt
+  mapped_rising (x ∷ live) up = (
+    all_mapped (λ z. session_order x z ≡ Less) (λ z. session_order (f x) z ≡ Less)
+        (λ z l. rw (k.serial x, k.serial z) l) live up.0,
+    mapped_rising live up.1,
+  )
+
+  pub mapped_table : (table : Table) → IsTable table → IsTable (record table { live = map f table.live })
+  mapped_table table h = record {
+    rising = mapped_rising table.live h.rising;
+    counted = all_mapped (λ (s : Session). s.serial ≤ table.counter) (λ (s : Session). s.serial ≤ table.counter)
+        (λ s le. subst (λ m. m ≤ table.counter) (sym (k.serial s)) le) table.live h.counted;
+    small = h.small;
+    ids = all_mapped (λ (s : Session). BeginsWithSerial s.serial s.id) (λ (s : Session). BeginsWithSerial s.serial s.id)
+        (λ s id. rw (k.serial s, k.id s) id) table.live h.ids;
+    apart = subst (IsDistinct is_text) (sym (clients_mapped table.live)) h.apart;
+    few = subst (λ m. m ≤ most_sessions) (sym (length_mapped table.live)) h.few;
+  }
+
+-- telling and overflowing keep serials, ids and clients
+pub told_keeps : (before after : List Attachment) (notes : List Note) (state : State)
+    → Keeps (λ (s : Session). tell_session (told_in before after notes state.standing s.serial) s)
+told_keeps before after notes state = record { serial = λ s. refl; id = λ s. refl; client = λ s. refl }
+
+pub overflow_keeps : Keeps overflow_session
+overflow_keeps = record {
+  serial = λ s. elim (cases_Bool (is_overfull s)) [ inl hit ↦ rw hit refl | inr miss ↦ rw miss refl ];
+  id = λ s. elim (cases_Bool (is_overfull s)) [ inl hit ↦ rw hit refl | inr miss ↦ rw miss refl ];
+  client = λ s. elim (cases_Bool (is_overfull s)) [ inl hit ↦ rw hit refl | inr miss ↦ rw miss refl ];
+}
+
+pub tell_table : (after : List Attachment) (notes : List Note) (state : State) → IsTabled state → IsTabled (tell after notes state)
+tell_table after notes state w = mapped_table _ (told_keeps state.graph after notes state) (table_of state) w
+
+pub overflow_table : (state : State) → IsTabled state → IsTabled (overflow state)
+overflow_table state w = mapped_table overflow_session overflow_keeps (table_of state) w
+
+-- ---- some sessions end
+
+abbrev pub remains : List ℕ → Session → Bool
+remains serials s = not (list_any (λ n. n == s.serial) serials)
+
+pub dropped_table : (serials : List ℕ) (table : Table) → IsTable table
+    → IsTable (record table { live = without_sessions serials table.live })
+dropped_table serials table h = record {
+  rising = IsStrictlySortedBy-filter session_order (remains serials) table.live h.rising;
+  counted = all_filter (λ (s : Session). s.serial ≤ table.counter) (remains serials) table.live h.counted;
+  small = h.small;
+  ids = all_filter (λ (s : Session). BeginsWithSerial s.serial s.id) (remains serials) table.live h.ids;
+  apart = distinct_filter (λ (s : Session). s.client) (remains serials) table.live h.apart;
+  few = let less = shorter (remains serials) table.live in omega (arith, less, h.few);
+}
+
+pub ended_table : (serials : List ℕ) (state : State) → IsTabled state → IsTabled (end_some serials state)
+ended_table [] state w = w
+ended_table (serial ∷ serials) state w =
+    let dropped : IsTabled (drop_sessions (serial ∷ serials) state) = dropped_table (serial ∷ serials) (table_of state) w in
+    overflow_table (end_sessions (serial ∷ serials) state) (mapped_table _
+    (told_keeps state.graph _ [] (drop_sessions (serial ∷ serials) state)) (table_of (drop_sessions (serial ∷ serials) state)) dropped)
+
+expired_table : (state : State) → IsTabled state → IsTabled (expire state)
+expired_table state w = ended_table _ state w
+
+-- the client of a session that ended has none, and fewer are left
+former_freed : (state : State) (client : List ℕ) (s : Session) → IsTabled state → session_of_client client state.sessions ≡ Some s
+    → session_of_client client (end_some (s.serial ∷ []) state).sessions ≡ None
+former_freed state client s w e =
+    none_mapped overflow_session overflow_keeps client _ (none_mapped _
+    (told_keeps state.graph _ [] (drop_sessions (s.serial ∷ []) state)) client _ (client_freed state.sessions client s w.apart e))
+
+fewer_left : (state : State) (client : List ℕ) (s : Session) → session_of_client client state.sessions ≡ Some s
+    → length (end_some (s.serial ∷ []) state).sessions < length state.sessions
+fewer_left state client s e =
+    let less = one_fewer state.sessions client s e in
+    let one = length_mapped _ (told_keeps state.graph _ [] (drop_sessions (s.serial ∷ []) state))
+        (without_sessions (s.serial ∷ []) state.sessions) in
+    let two = length_mapped overflow_session overflow_keeps (end_sessions (s.serial ∷ []) state).sessions in
+    subst (λ n. n < length state.sessions) (sym (two ∙ one)) less
+
+-- ---- the cases of the step
+
+-- where a client that has no session can be given one, there is room
+has_room : (state : State) (client : List ℕ) → is_full state client ≡ false → session_of_client client state.sessions ≡ None
+    → length state.sessions < most_sessions
+has_room state client free none =
+    let parts = or_parts (nat_le most_sessions (length state.sessions) && is_none (session_of_client client state.sessions))
+    (state.counter == 2 ^ 64 - 1) free in
+    elim (and_cases (nat_le most_sessions (length state.sessions)) (is_none (session_of_client client state.sessions)) parts.0) [
+      | inl low ↦ grind (arith, nat_tests, low)
+      | inr some ↦ let bad : is_none (session_of_client client state.sessions) ≡ true = rw none refl in
+          absurd (both_ways (is_none (session_of_client client state.sessions)) some bad)
+    ]
+
+-- where no session is refused, a serial is left
+serial_is_left : (state : State) (client : List ℕ) → IsTabled state → is_full state client ≡ false → state.counter < 2 ^ 64 - 1
+serial_is_left state client w free =
+    let parts = or_parts (nat_le most_sessions (length state.sessions) && is_none (session_of_client client state.sessions))
+    (state.counter == 2 ^ 64 - 1) free in
+    let small : state.counter < 2 ^ 64 = w.small in
+    grind (arith, nat_tests, parts.1, small)
+
+begun_tabled : (client : List ℕ) (random : ℕ) (limit : Option ℕ) (state : State) → IsTabled state → state.counter < 2 ^ 64 - 1
+    → session_of_client client state.sessions ≡ None → length state.sessions < most_sessions
+    → IsTabled (begin_session client random limit state)
+begun_tabled client random limit state w small none room =
+    begun_table (table_of state) (next_session state client random limit) w refl (id_begins (state.counter + 1) random) small none room
+
+new_table : (state : State) (client : List ℕ) (random : ℕ) (limit : Option ℕ) (o : Option Session) → IsTabled state
+    → is_full state client ≡ false → session_of_client client state.sessions ≡ o
+    → IsTabled (begin_session client random limit (end_former o state))
+new_table state client random limit None w free e =
+    begun_tabled client random limit state w (serial_is_left state client w free) e (has_room state client free e)
+new_table state client random limit (Some s) w free e =
+    let less = fewer_left state client s e in
+    begun_tabled client random limit (end_some (s.serial ∷ []) state) (ended_table (s.serial ∷ []) state w)
+    (serial_is_left state client w free) (former_freed state client s w e) (omega (arith, less, w.few))
+
+pub renewed_table : (serial : ℕ) (state : State) → IsTabled state → IsTabled (renew serial state)
+renewed_table serial state w = changed_table serial _ (renewed_keeps state.moment) (table_of state) w
+
+first_table : (again : Bool) (serial : ℕ) (state : State) → IsTabled state → IsTabled (renew_first again serial state)
+first_table true serial state w = w
+first_table false serial state w = renewed_table serial state w
+
+in_session_table : (state : State) (client : List ℕ) (accept : Session → State × Answer) (o : Option Session)
+    → ((s : Session) → IsTabled (accept s).0) → IsTabled state → IsTabled (in_session state client o accept).0
+in_session_table state client accept None f w = w
+in_session_table state client accept (Some s) f w =
+    elim (cases_Bool (is_text s.client client)) [ inl hit ↦ rw hit (f s) | inr miss ↦ rw miss w ]
+
+search_table : (state : State) (asked : Search) (s : Session) → IsTabled state → IsTabled (search state asked s).0
+search_table state asked s w =
+    elim (cases_Bool (is_too_big state.graph asked)) [
+      | inl hit ↦ rw hit w
+      | inr miss ↦ rw miss (renewed_table s.serial state w)
+    ]
+
+changed_tell : (serial : ℕ) (after : List Attachment) (notes : List Note) (state : State) → IsTabled state
+    → IsTabled (renew serial (overflow (tell after notes state)))
+changed_tell serial after notes state w =
+    renewed_table serial (overflow (tell after notes state)) (overflow_table (tell after notes state) (tell_table after notes state w))
+
+purge_table : (state : State) (publisher : List ℕ) (s : Session) → IsTabled state → IsTabled (purge state publisher s).0
+purge_table state publisher s w =
+    elim (cases_Bool (is_text publisher s.client)) [
+      | inl hit ↦ rw hit (changed_tell s.serial _ [] state w)
+      | inr miss ↦ rw miss w
+    ]
+
+subscribed_table : (state : State) (s : Session) (o : Option Told) → IsTabled state → IsTabled (answer_subscribed state s o).0
+subscribed_table state s None w = w
+subscribed_table state s (Some t) w =
+    let told : IsTabled (with_told s.serial t state) = changed_table s.serial (λ (x : Session). record x { queue = t.queue })
+        (record { serial = λ x. refl; id = λ x. refl; client = λ x. refl }) (table_of state) w in
+    renewed_table s.serial (overflow (with_told s.serial t state)) (overflow_table (with_told s.serial t state) told)
+
+queue_table : (state : State) (again : Bool) (s : Session) (queue : List PollItem) → IsTabled state
+    → IsTabled (poll_queue state again s queue).0
+queue_table state again s [] w = first_table again s.serial state w
+queue_table state again s (item ∷ items) w =
+    first_table again s.serial (record state { sessions = change s.serial emptied state.sessions })
+    (changed_table s.serial emptied (record { serial = λ x. refl; id = λ x. refl; client = λ x. refl }) (table_of state) w)
+
+poll_table : (state : State) (client : List ℕ) (again : Bool) (o : Option Session) → IsTabled state
+    → IsTabled (poll state client again o).0
+poll_table state client true None w = w
+poll_table state client true (Some s) w = in_session_table state client (poll_in state true) (Some s)
+    (λ t. queue_table state true t t.queue w) w
+poll_table state client false o w = in_session_table state client (poll_in state false) o
+    (λ t. queue_table state false t t.queue w) w
+
+lost_table : (state : State) (client : List ℕ) (o : Option Session) → IsTabled state → IsTabled (lose state client o).0
+lost_table state client None w = w
+lost_table state client (Some s) w =
+    elim (cases_Bool (is_text s.client client)) [
+      | inl hit ↦ rw hit (ended_table (s.serial ∷ []) state w)
+      | inr miss ↦ rw miss w
+    ]
+
+pub step_table : (state : State) (event : Event) (ask : Ask) → IsTabled state → IsTabled (step_ask state event ask).0
+step_table state event (Lost id) w = lost_table state event.client (session_with_id id state.sessions) w
+step_table state event (Request (the_request.NewSession limit)) w =
+    elim (cases_Bool (is_full state event.client)) [
+      | inl hit ↦ rw hit w
+      | inr miss ↦ rw miss (new_table state event.client event.random limit (session_of_client event.client state.sessions) w miss refl)
+    ]
+step_table state event (Request (the_request.RenewSession id)) w =
+    in_session_table state event.client (renew_session state) (session_with_id id state.sessions) (λ s. renewed_table s.serial state w) w
+step_table state event (Request (the_request.EndSession id)) w =
+    in_session_table state event.client (end_session state) (session_with_id id state.sessions)
+    (λ s. ended_table (s.serial ∷ []) state w) w
+step_table state event (Request (the_request.Publish id ops)) w =
+    in_session_table state event.client (publish state ops) (session_with_id id state.sessions)
+    (λ s. changed_tell s.serial _ _ state w) w
+step_table state event (Request (the_request.Search id asked)) w =
+    in_session_table state event.client (search state asked) (session_with_id id state.sessions) (λ s. search_table state asked s w) w
+step_table state event (Request (the_request.Subscribe id ops)) w =
+    in_session_table state event.client (subscribe state ops) (session_with_id id state.sessions)
+    (λ s. subscribed_table state s _ w) w
+step_table state event (Request (the_request.Poll id)) w =
+    poll_table state event.client event.again (session_with_id id state.sessions) w
+step_table state event (Request (the_request.PurgePublisher id publisher)) w =
+    in_session_table state event.client (purge state publisher) (session_with_id id state.sessions)
+    (λ s. purge_table state publisher s w) w
+
+pub event_table : (state : State) (event : Event) → IsTabled state → IsTabled (step state event).0
+event_table state event w = step_table (expire (advance event.moment state)) event event.ask
+    (expired_table (advance event.moment state) w)
+
+pub opening_table : (ttl : ℕ) → IsTabled (opening ttl)
+unfolding IsStrictlySortedBy IsDistinct
+opening_table ttl = record { rising = tt; counted = tt; small = omega arith; ids = tt; apart = tt; few = omega arith }
+
+pub table_after : (state : State) (history : History) → IsTabled state → IsTabled (state_from state history)
+table_after state [] w = w
+table_after state (e ∷ history) w = table_after (step state e.0).0 history (event_table state e.0 w)

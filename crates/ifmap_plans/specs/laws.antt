@@ -1,0 +1,5 @@
+-- Laws on the definitions, which crates above cite.
+pub mod KeepingLaws
+pub mod KeyLaws
+pub mod ListLaws
+pub mod PlacingLaws

@@ -1,0 +1,173 @@
+-- Putting in, taking out and finding, in lists that rise strictly.
+use Rattle.std.proofs.Common.{◌≡◌, refl, sym, ◌∙◌, ap, subst, ℕ, suc, zero, ◌+◌, ◌<◌, ◌≤◌, Bool, true, false, not, List, [], ◌∷◌, ◌++◌, length, get_or, Ordering, arith, Ok, Err, add-one, set}
+use Rattle.std.proofs.lemmas.Cmp.{alike_right}
+use Rattle.std.proofs.lemmas.List.Elements.{recursion_from_All}
+use Rattle.std.proofs.lemmas.List.Folds.{list_any_at}
+use Rattle.std.proofs.lemmas.List.Kept.{IsStrictlySortedBy-filter}
+use Rattle.std.proofs.lemmas.List.Sorted.{searchable_from_sorted}
+use Rattle.std.specs.Cmp.{IsEquivalence, IsTotalOrder}
+use Rattle.std.specs.List.{AllByRecursion, IsDistinct, filter, insert, list_any, remove}
+use Rattle.std.specs.List.Sorted.{IsBinarySearchResult, IsPartitionPoint, IsSearchInRange, IsSortedBy, IsStrictlySortedBy}
+use Rattle.std.specs.Ordering.{eq_by_cmp, is_eq, is_gt, is_lt, ordering_reverse}
+use Rattle.std.specs.declared.cmp.Ordering.TheVariants.{Less, Equal, Greater}
+use Rattle.ifmap_lemmas.specs.Filters.{all_around, all_at, all_filter, all_weaker, filter_all, filter_none, filter_passes}
+use Rattle.ifmap_lemmas.specs.Orderings.{is_greater, is_less}
+use Rattle.ifmap_plans.specs.Placing.{put}
+
+module _ (X : Type 0) (E : X → X → Bool) (e : IsEquivalence E) where
+  -- those that follow one of a key have other keys
+  later_differ : (a x : X) (xs : List X) → E a x ≡ true → AllByRecursion (λ y. E x y ≡ false) xs
+      → AllByRecursion (λ y. not (E a y) ≡ true) xs
+  later_differ a x xs is h = all_weaker (λ y. E x y ≡ false) (λ y. not (E a y) ≡ true) (λ y n. ap not (e.congr a x y is ∙ n)) xs h
+
+  -- where keys are distinct, taking out one of a key leaves those of other keys
+  pub remove_one : (a : X) (xs : List X) (i : ℕ) → IsDistinct E xs → i < length xs → ((d : X) → E a (get_or xs i d) ≡ true)
+      → remove xs i ≡ filter (λ y. not (E a y)) xs
+  unfolding IsDistinct
+  remove_one a [] i apart lt is = absurd (omega arith)
+  remove_one a (x ∷ xs) zero apart lt is = rw (is x) (sym (filter_all (λ y. not (E a y)) xs (later_differ a x xs (is x) apart.0)))
+  remove_one a (x ∷ xs) (suc i) apart lt is =
+      let there : E x (get_or xs i x) ≡ false = all_at (λ y. E x y ≡ false) xs i x apart.0 (omega arith) in
+      let other : E a x ≡ false = e.congr a (get_or xs i x) x (is x) ∙ e.symm (get_or xs i x) x ∙ there in
+      rw other (ap (λ t. x ∷ t) (remove_one a xs i apart.1 (omega arith) is))
+
+module _ (X : Type 0) (C : X → X → Ordering) (o : IsTotalOrder C) where
+  greater_of_less : (a b : X) → C a b ≡ Less → C b a ≡ Greater
+  greater_of_less a b e = o.antisymm b a ∙ ap ordering_reverse e
+
+  less_of_greater : (a b : X) → C a b ≡ Greater → C b a ≡ Less
+  less_of_greater a b e = o.antisymm b a ∙ ap ordering_reverse e
+
+  -- all that follow one that is not less are greater
+  greater_next : (a x : X) (xs : List X) → C x a ≡ Greater → AllByRecursion (λ y. C x y ≡ Less) xs
+      → AllByRecursion (λ y. C y a ≡ Greater) xs
+  greater_next a x xs h up = all_weaker (λ y. C x y ≡ Less) (λ y. C y a ≡ Greater)
+      (λ y l. greater_of_less a y (o.trans a x y (less_of_greater x a h) l)) xs up
+
+  greater_after : (a x : X) (xs : List X) → C x a ≡ Equal → AllByRecursion (λ y. C x y ≡ Less) xs → AllByRecursion (λ y. C y a ≡ Greater) xs
+  greater_after a x xs h up = all_weaker (λ y. C x y ≡ Less) (λ y. C y a ≡ Greater)
+      (λ y l. greater_of_less a y (sym (o.congr x a y h) ∙ l)) xs up
+
+  -- where all are greater, it goes in front
+  put_front : (a : X) (xs : List X) → AllByRecursion (λ y. C y a ≡ Greater) xs → put C a xs ≡ a ∷ xs
+  put_front a xs h =
+      rw (
+        filter_none (λ y. is_lt (C y a)) xs (all_weaker (λ y. C y a ≡ Greater) (λ y. is_lt (C y a) ≡ false) (λ y g. ap is_lt g) xs h),
+        filter_all (λ y. is_gt (C y a)) xs (all_weaker (λ y. C y a ≡ Greater) (λ y. is_gt (C y a) ≡ true) (λ y g. ap is_gt g) xs h),
+      ) refl
+
+  put_less : (a x : X) (xs : List X) → C x a ≡ Less → put C a (x ∷ xs) ≡ x ∷ put C a xs
+  put_less a x xs h = rw h refl
+
+  put_equal : (a x : X) (xs : List X) → C x a ≡ Equal → put C a (x ∷ xs) ≡ put C a xs
+  put_equal a x xs h = rw h refl
+
+  -- where a search ends at one that is equal, it is put there
+  pub set_is_put : (a : X) (xs : List X) (i : ℕ) → IsStrictlySortedBy C xs → i < length xs → ((d : X) → C (get_or xs i d) a ≡ Equal)
+      → set xs i a ≡ put C a xs
+  unfolding IsStrictlySortedBy
+  set_is_put a [] i up lt is = absurd (omega arith)
+  set_is_put a (x ∷ xs) zero up lt is = sym (put_equal a x xs (is x) ∙ put_front a xs (greater_after a x xs (is x) up.0))
+  set_is_put a (x ∷ xs) (suc i) up lt is =
+      let less : C x a ≡ Less = sym (alike_right o (get_or xs i x) a x (is x)) ∙ all_at (λ y. C x y ≡ Less) xs i x up.0 (omega arith) in
+      ap (λ t. x ∷ t) (set_is_put a xs i up.1 (omega arith) is) ∙ sym (put_less a x xs less)
+
+  -- and where it ends between two, it goes in there
+  pub insert_is_put : (a : X) (xs : List X) (i : ℕ) → i ≤ length xs → IsPartitionPoint (λ y. C y a ≡ Less) (λ y. C y a ≡ Greater) xs i
+      → insert xs i a ≡ put C a xs
+  insert_is_put a [] zero le p = refl
+  insert_is_put a [] (suc i) le p = refl
+  insert_is_put a (x ∷ xs) zero le p = sym (put_front a (x ∷ xs) (recursion_from_All (λ y. C y a ≡ Greater) (x ∷ xs)
+      (λ j d h. p.1 j d (omega arith) h)))
+  insert_is_put a (x ∷ xs) (suc i) le p =
+      ap (λ t. x ∷ t) (insert_is_put a xs i (omega arith) (
+        (λ j d low h. p.0 (suc j) d (omega arith) (omega arith)),
+        (λ j d low h. p.1 (suc j) d (omega arith) (omega arith)),
+      ))
+      ∙ sym (put_less a x xs (p.0 0 x (omega arith) (omega arith)))
+
+  rises_next : (xs : List X) → IsStrictlySortedBy C xs → (j : ℕ) (d : X) → suc j < length xs
+      → is_lt (C (get_or xs (suc j) d) (get_or xs j d)) ≡ false
+  unfolding IsStrictlySortedBy
+  rises_next [] up j d lt = absurd (omega arith)
+  rises_next (x ∷ xs) up zero d lt = ap is_lt (greater_of_less x (get_or xs 0 d) (all_at (λ z. C x z ≡ Less) xs 0 d up.0 (omega arith)))
+  rises_next (x ∷ xs) up (suc j) d lt = rises_next xs up.1 j d (omega arith)
+
+  rises : (xs : List X) → IsStrictlySortedBy C xs → IsSortedBy (λ a b. is_lt (C a b)) xs
+  rises xs up j d low lt = rw (add-one j) (rises_next xs up j d (omega arith))
+
+  pub found_is_put : (a : X) (xs : List X) (i : ℕ) → IsStrictlySortedBy C xs → IsSearchInRange (Ok i) (length xs)
+      → IsBinarySearchResult (λ y. C y a) xs (Ok i) → (i < length xs) × (set xs i a ≡ put C a xs)
+  found_is_put a xs i up within is = (within, set_is_put a xs i up within is)
+
+  pub gap_is_put : (a : X) (xs : List X) (i : ℕ) → IsStrictlySortedBy C xs → IsSearchInRange (Err i) (length xs)
+      → IsBinarySearchResult (λ y. C y a) xs (Err i) → (i ≤ length xs) × (insert xs i a ≡ put C a xs)
+  gap_is_put a xs i up within is = (within, insert_is_put a xs i within (is (searchable_from_sorted o (λ y. y) xs a (rises xs up))))
+
+  -- a search that ends at one that is equal has found one, and one that ends between two has not
+  pub found_any : (a : X) (xs : List X) (i : ℕ) → IsSearchInRange (Ok i) (length xs) → IsBinarySearchResult (λ y. C y a) xs (Ok i)
+      → list_any (λ y. eq_by_cmp C y a) xs ≡ true
+  found_any a xs i within is = list_any_at (λ y. eq_by_cmp C y a) xs i a within (ap is_eq (is a))
+
+  none_at : (a : X) (xs : List X) (i : ℕ) → i ≤ length xs → IsPartitionPoint (λ y. C y a ≡ Less) (λ y. C y a ≡ Greater) xs i
+      → list_any (λ y. eq_by_cmp C y a) xs ≡ false
+  none_at a [] i le p = refl
+  none_at a (x ∷ xs) zero le p =
+      rw (p.1 0 x (omega arith) (omega arith)) (none_at a xs zero (omega arith) (
+        (λ j d low h. absurd (omega (arith, h))),
+        (λ j d low h. p.1 (suc j) d (omega arith) (omega (arith, h))),
+      ))
+  none_at a (x ∷ xs) (suc i) le p =
+      rw (p.0 0 x (omega arith) (omega arith)) (none_at a xs i (omega arith) (
+        (λ j d low h. p.0 (suc j) d (omega arith) (omega (arith, h))),
+        (λ j d low h. p.1 (suc j) d (omega (arith, low)) (omega (arith, h))),
+      ))
+
+  pub gap_none : (a : X) (xs : List X) (i : ℕ) → IsStrictlySortedBy C xs → IsSearchInRange (Err i) (length xs)
+      → IsBinarySearchResult (λ y. C y a) xs (Err i) → list_any (λ y. eq_by_cmp C y a) xs ≡ false
+  gap_none a xs i up within is = none_at a xs i within (is (searchable_from_sorted o (λ y. y) xs a (rises xs up)))
+
+  -- a list stays in strict order
+  sorted_around : (xs : List X) (a : X) (zs : List X) → IsStrictlySortedBy C xs → IsStrictlySortedBy C zs
+      → AllByRecursion (λ y. C y a ≡ Less) xs → AllByRecursion (λ y. C a y ≡ Less) zs → IsStrictlySortedBy C (xs ++ a ∷ zs)
+  unfolding IsStrictlySortedBy
+  sorted_around [] a zs up over below above = (above, over)
+  sorted_around (x ∷ xs) a zs up over below above = (
+    all_around (λ y. C x y ≡ Less) xs a zs up.0 below.0 (all_weaker (λ y. C a y ≡ Less) (λ y. C x y ≡ Less)
+        (λ y l. o.trans x a y below.0 l) zs above),
+    sorted_around xs a zs up.1 over below.1 above,
+  )
+
+  pub put_sorted : (a : X) (xs : List X) → IsStrictlySortedBy C xs → IsStrictlySortedBy C (put C a xs)
+  put_sorted a xs up =
+      sorted_around (filter (λ y. is_lt (C y a)) xs) a (filter (λ y. is_gt (C y a)) xs)
+      (IsStrictlySortedBy-filter C (λ y. is_lt (C y a)) xs up) (IsStrictlySortedBy-filter C (λ y. is_gt (C y a)) xs up)
+      (all_weaker (λ y. is_lt (C y a) ≡ true) (λ y. C y a ≡ Less) (λ y h. is_less (C y a) h) _ (filter_passes (λ y. is_lt (C y a)) xs))
+      (all_weaker (λ y. is_gt (C y a) ≡ true) (λ y. C a y ≡ Less)
+      (λ y h. less_of_greater y a (is_greater (C y a) h)) _ (filter_passes (λ y. is_gt (C y a)) xs))
+
+  module _ (E : X → X → Bool) (e : IsEquivalence E) (a : X) where
+    -- with the first member less than, equal to or greater than the one that is put in
+    distinct_at : (x : X) (xs : List X) (r : Ordering) → C x a ≡ r → AllByRecursion (λ y. C x y ≡ Less) xs
+        → AllByRecursion (λ y. E x y ≡ false) xs → IsDistinct E xs → E a x ≡ false → AllByRecursion (λ y. E a y ≡ false) xs
+        → IsDistinct E (put C a xs)
+        → IsDistinct E (put C a (x ∷ xs))
+    unfolding IsDistinct
+    distinct_at x xs Less is up others apart differs differ rest =
+        subst (IsDistinct E) (sym (put_less a x xs is)) (
+          all_around (λ y. E x y ≡ false) (filter (λ y. is_lt (C y a)) xs) a (filter (λ y. is_gt (C y a)) xs)
+              (all_filter (λ y. E x y ≡ false) (λ y. is_lt (C y a)) xs others) (e.symm x a ∙ differs) (all_filter (λ y. E x y ≡ false)
+              (λ y. is_gt (C y a)) xs others),
+          rest,
+        )
+    distinct_at x xs Equal is up others apart differs differ rest = subst (IsDistinct E) (sym (put_equal a x xs is)) rest
+    distinct_at x xs Greater is up others apart differs differ rest =
+        subst (IsDistinct E) (sym (put_front a (x ∷ xs) (is, greater_next a x xs is up))) ((differs, differ), (others, apart))
+
+    -- and its keys stay distinct where none is that of the new member
+    pub put_distinct : (xs : List X) → IsStrictlySortedBy C xs → IsDistinct E xs → AllByRecursion (λ y. E a y ≡ false) xs
+        → IsDistinct E (put C a xs)
+    unfolding IsStrictlySortedBy IsDistinct
+    put_distinct [] up apart differ = (tt, tt)
+    put_distinct (x ∷ xs) up apart differ = distinct_at x xs (C x a) refl up.0 apart.0 apart.1 differ.0 differ.1
+        (put_distinct xs up.1 apart.1 differ.1)
