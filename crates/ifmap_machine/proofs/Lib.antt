@@ -1,2 +1,5 @@
 pub mod Tables
 pub mod Standing
+pub mod Folding
+pub mod Ids
+pub mod Agreeing

@@ -125,7 +125,7 @@ ended_table (serial ∷ serials) state w =
     overflow_table (end_sessions (serial ∷ serials) state) (mapped_table _
     (told_keeps state.graph _ [] (drop_sessions (serial ∷ serials) state)) (table_of (drop_sessions (serial ∷ serials) state)) dropped)
 
-expired_table : (state : State) → IsTabled state → IsTabled (expire state)
+pub expired_table : (state : State) → IsTabled state → IsTabled (expire state)
 expired_table state w = ended_table _ state w
 
 -- the client of a session that ended has none, and fewer are left

@@ -38,8 +38,8 @@ too_big_item name rows search =
 -- what went, what came, and what was notified, each where there is something
 abbrev pub differences : List ℕ → List Entry → List Entry → List Entry → List PollItem
 differences name before after notes =
-    item_where (the_item.Delete name) (difference before after) ++ item_where (the_item.Update name) (difference after before)
-    ++ item_where (the_item.Notify name) notes
+    item_where (the_item.Delete name) (difference before after)
+    ++ (item_where (the_item.Update name) (difference after before) ++ item_where (the_item.Notify name) notes)
 
 -- what is told to one subscription
 abbrev pub told_to : List Attachment → List Attachment → List Note → Standing → List PollItem
