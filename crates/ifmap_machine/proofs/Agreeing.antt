@@ -68,21 +68,21 @@ same_follows f k done state w = record {
   below = w.below;
 }
 
-renewed_follows : (serial : ℕ) (done : List ℕ → Sets) (state : State) → Follows done state → Follows done (renew serial state)
+pub renewed_follows : (serial : ℕ) (done : List ℕ → Sets) (state : State) → Follows done state → Follows done (renew serial state)
 renewed_follows serial done state w = same_follows _ (record {
   serial = λ s. elim (cases_Bool (s.serial == serial)) [ inl h ↦ rw h refl | inr h ↦ rw h refl ];
   id = λ s. elim (cases_Bool (s.serial == serial)) [ inl h ↦ rw h refl | inr h ↦ rw h refl ];
   queue = λ s. elim (cases_Bool (s.serial == serial)) [ inl h ↦ rw h refl | inr h ↦ rw h refl ];
 }) done state w
 
-first_follows : (again : Bool) (serial : ℕ) (done : List ℕ → Sets) (state : State) → Follows done state
+pub first_follows : (again : Bool) (serial : ℕ) (done : List ℕ → Sets) (state : State) → Follows done state
     → Follows done (renew_first again serial state)
 first_follows true serial done state w = w
 first_follows false serial done state w = renewed_follows serial done state w
 
 -- ---- telling and overflowing
 
-tell_follows : (after : List Attachment) (notes : List Note) (done : List ℕ → Sets) (state : State)
+pub tell_follows : (after : List Attachment) (notes : List Note) (done : List ℕ → Sets) (state : State)
     → ((s : Search) → Folds state.graph after s) → IsStood state → Follows done state → Follows done (tell after notes state)
 tell_follows after notes done state folds stood w = record {
   folded = λ s x hs hx same.
@@ -106,7 +106,7 @@ tell_follows after notes done state folds stood w = record {
   below = λ x hx. w.below x (filter_has (λ y. not (is_too_big after y.search)) state.standing x hx).0;
 }
 
-overflow_follows : (done : List ℕ → Sets) (state : State) → Follows done state → Follows done (overflow state)
+pub overflow_follows : (done : List ℕ → Sets) (state : State) → Follows done state → Follows done (overflow state)
 overflow_follows done state w = record {
   folded = λ s x hs hx same.
       let from = map_has overflow_session state.sessions s hs in
@@ -130,14 +130,14 @@ overflow_follows done state w = record {
 
 -- ---- sessions end and begin
 
-drop_follows : (serials : List ℕ) (done : List ℕ → Sets) (state : State) → Follows done state
+pub drop_follows : (serials : List ℕ) (done : List ℕ → Sets) (state : State) → Follows done state
     → Follows done (drop_sessions serials state)
 drop_follows serials done state w = record {
   folded = λ s x hs hx same. w.folded s x (filter_has _ state.sessions s hs).0 (filter_has _ state.standing x hx).0 same;
   below = λ x hx. w.below x (filter_has _ state.standing x hx).0;
 }
 
-begun_follows : (client : List ℕ) (random : ℕ) (limit : Option ℕ) (done : List ℕ → Sets) (state : State) → Follows done state
+pub begun_follows : (client : List ℕ) (random : ℕ) (limit : Option ℕ) (done : List ℕ → Sets) (state : State) → Follows done state
     → Follows done (begin_session client random limit state)
 begun_follows client random limit done state w = record {
   folded = λ s x hs hx same.
@@ -165,17 +165,17 @@ put_has a xs x h =
     ]
 
 -- along the fold: the session's queue makes the fresh results of its subscriptions, and those of others stay
-record Tells (rows : List Attachment) (serial counter : ℕ) (sets : Sets) (standing : List Standing) (t : Told) : Type 0 where
-  mine : (x : Standing) → Has t.standing x → x.serial ≡ serial → fold_items t.queue sets x.name ≡ Some (fresh rows x.search)
-  others : (x : Standing) → Has t.standing x → (x.serial == serial) ≡ false → Has standing x
-  below : (x : Standing) → Has t.standing x → x.serial ≤ counter
+pub record Tells (rows : List Attachment) (serial counter : ℕ) (sets : Sets) (standing : List Standing) (t : Told) : Type 0 where
+  pub mine : (x : Standing) → Has t.standing x → x.serial ≡ serial → fold_items t.queue sets x.name ≡ Some (fresh rows x.search)
+  pub others : (x : Standing) → Has t.standing x → (x.serial == serial) ≡ false → Has standing x
+  pub below : (x : Standing) → Has t.standing x → x.serial ≤ counter
 
 module _ (rows : List Attachment) (serial counter : ℕ) (sets : Sets) (standing : List Standing) (in_range : serial ≤ counter) (begins :
     (s : Search) → with_entries (fresh rows s) [] ≡ fresh rows s) where
   Tell : Told → Type 0
   Tell t = Tells rows serial counter sets standing t
 
-  abbrev TellSome : Option Told → Type 0
+  abbrev pub TellSome : Option Told → Type 0
   TellSome None = Unit {0}
   TellSome (Some t) = Tells rows serial counter sets standing t
 
@@ -243,7 +243,7 @@ module _ (rows : List Attachment) (serial counter : ℕ) (sets : Sets) (standing
       elim (cases_Bool (is_full_for serial name t.standing)) [ inl full ↦ rw full tt | inr free ↦ rw free (begun_tells name asked t w) ]
   op_tells (Delete name) t w = dropped_tells name t w
 
-  ops_tell : (ops : List SubscribeOp) (t : Told) → Tells rows serial counter sets standing t
+  pub ops_tell : (ops : List SubscribeOp) (t : Told) → Tells rows serial counter sets standing t
       → TellSome (subscribe_ops rows serial ops t)
   ops_tell [] t w = w
   ops_tell (op ∷ ops) t w = at (subscribe_op rows serial op t) (op_tells op t w) (λ u h. ops_tell ops u h)
@@ -263,7 +263,7 @@ is_found : (state : State) (q : Session → Bool) (s u : Session) → IsTabled s
 is_found state q s u tabled found h same =
     one_of_serial state.sessions u s tabled.rising h (find_has q state.sessions s found).0 (numbers_same u.serial s.serial same)
 
-told_follows : (done : List ℕ → Sets) (state : State) (q : Session → Bool) (s : Session) (t : Told) → IsTabled state
+pub told_follows : (done : List ℕ → Sets) (state : State) (q : Session → Bool) (s : Session) (t : Told) → IsTabled state
     → find q state.sessions ≡ Some s → Tells state.graph s.serial state.counter (done s.id) state.standing t → Follows done state
     → Follows done (with_told s.serial t state)
 told_follows done state q s t tabled found tells w = record {
@@ -294,7 +294,7 @@ told_follows done state q s t tabled found tells w = record {
 -- ---- a poll
 
 -- what polls of an id were told, with these items more
-abbrev polled_more : List ℕ → List PollItem → (List ℕ → Sets) → List ℕ → Sets
+abbrev pub polled_more : List ℕ → List PollItem → (List ℕ → Sets) → List ℕ → Sets
 polled_more own items done id = fold_items (cond (is_text own id) items []) (done id)
 
 follows_same : (done other : List ℕ → Sets) (state : State) → ((id : List ℕ) → other id ≡ done id) → Follows done state → Follows other state
@@ -377,7 +377,7 @@ in_poll_follows done state client own again (Some s) tabled found w =
       | inr miss ↦ rw miss (nothing_more own done state w)
     ]
 
-poll_follows : (done : List ℕ → Sets) (state : State) (client own : List ℕ) (again : Bool) (o : Option Session) → IsTabled state
+pub poll_follows : (done : List ℕ → Sets) (state : State) (client own : List ℕ) (again : Bool) (o : Option Session) → IsTabled state
     → session_with_id own state.sessions ≡ o → Follows done state
     → Follows (polled_more own (items_of (poll state client again o).1) done) (poll state client again o).0
 poll_follows done state client own true None tabled found w = nothing_more own done state w

@@ -3,3 +3,4 @@ pub mod Standing
 pub mod Folding
 pub mod Ids
 pub mod Agreeing
+pub mod Histories

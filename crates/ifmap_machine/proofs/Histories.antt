@@ -1,0 +1,364 @@
+-- That every legal history of fit events agrees with what its clients fold.
+-- What holds of every state (`Holds`) is kept by each event (`event_holds`), so it holds after each history (`history_holds`). After a
+-- poll that was told the session's queue is empty (`told_empties`), and so its client's sets are the fresh results (`histories_agree`).
+-- What is stated of graphs alone comes in as premises: `Good` of a graph, which publishes and retractions keep, and that results
+-- fold.
+use Rattle.std.proofs.Common.{◌≡◌, refl, sym, ◌∙◌, ap, subst, ℕ, ◌==◌, ◌≤◌, Bool, true, false, cond, List, [], ◌∷◌, ◌++◌, map, Option, None, Some, inl, inr}
+use Rattle.std.proofs.lemmas.Bool.{cases_Bool, eq-eqb}
+use Rattle.std.specs.List.{AllByRecursion, find}
+use Rattle.std.specs.Option.{option_map}
+use Rattle.ifmap_delta.specs.Folds.{Sets, fold_items, no_sets, with_entries}
+use Rattle.ifmap_fresh.specs.Fresh.{fresh}
+use Rattle.ifmap_lemmas.specs.Having.{Has}
+use Rattle.ifmap_machine.specs.declared.events.Answer.{Answer}
+use Rattle.ifmap_machine.specs.declared.events.Ask.{Ask}
+use Rattle.ifmap_machine.specs.declared.events.Ask.TheVariants.{Request, Lost}
+use Rattle.ifmap_machine.specs.Agreeing.{Agrees, AgreesAfter, IsTold, all_polled, client_sets, items_of, polled_by}
+use Rattle.ifmap_machine.specs.Ending.{drop_sessions, end_former, end_some, expire}
+use Rattle.ifmap_machine.specs.Events.{Event, IsFitAsk, IsFitEvent}
+use Rattle.ifmap_machine.specs.Legal.{AreFit, History, Legal, LegalFrom, state_after, state_from}
+use Rattle.ifmap_machine.specs.State.{Standing, State, advance, opening}
+use Rattle.ifmap_machine.specs.Step.{answer_subscribed, author_in, begin_session, end_session, in_session, is_full, lose, poll, poll_in, poll_queue, publish, purge, renew, renew_first, renew_session, search, step, step_ask, subscribe, with_told}
+use Rattle.ifmap_machine.specs.Subscribing.{Told, subscribe_ops}
+use Rattle.ifmap_machine.specs.Telling.{is_too_big, overflow, tell}
+use Rattle.ifmap_machine.proofs.Agreeing.{Follows, Tells, begun_follows, drop_follows, first_follows, ops_tell, overflow_follows, poll_follows, renewed_follows, tell_follows, told_follows}
+use Rattle.ifmap_machine.proofs.Folding.{Folds, fold_joined}
+use Rattle.ifmap_machine.proofs.Ids.{all_has, find_has}
+use Rattle.ifmap_machine.proofs.Standing.{AreStood, IsStood, ended_stood, event_stood, stood_filter, stood_none}
+use Rattle.ifmap_machine.proofs.Tables.{IsTabled, dropped_table, ended_table, event_table, expired_table, opening_table}
+use Rattle.ifmap_meta.specs.ClientNames.{IsClientName}
+use Rattle.ifmap_plans.specs.declared.plans.Note.{Note}
+use Rattle.ifmap_publish.specs.Apply.{Authorship, apply}
+use Rattle.ifmap_publish.specs.Notes.{notes_of}
+use Rattle.ifmap_publish.specs.Retract.{retract_publisher, retract_sessions}
+use Rattle.ifmap_requests.specs.declared.publishing.PublishOp.{PublishOp}
+use Rattle.ifmap_requests.specs.declared.requests.Request.TheVariants as the_request
+use Rattle.ifmap_requests.specs.declared.requests.SubscribeOp.{SubscribeOp}
+use Rattle.ifmap_requests.specs.Fit.{IsFitOp}
+use Rattle.ifmap_search.specs.declared.results.PollItem.{PollItem}
+use Rattle.ifmap_search.specs.declared.searches.Search.{Search}
+use Rattle.ifmap_session.specs.Sessions.{Session, change, emptied, is_text, renewed, session_of_client, session_with_id}
+use Rattle.ifmap_session.specs.laws.TextLaws.{text_is, text_itself, text_same}
+use Rattle.ifmap_view.specs.declared.attachments.Attachment.{Attachment}
+
+-- ---- after a poll that was told
+
+-- what a function that keeps ids makes of the session that is found
+find_mapped : (id : List ℕ) (f : Session → Session) → ((s : Session) → (f s).id ≡ s.id) → (live : List Session)
+    → session_with_id id (map f live) ≡ option_map f (session_with_id id live)
+find_mapped id f k [] = refl
+find_mapped id f k (x ∷ live) =
+    elim (cases_Bool (is_text x.id id)) [
+      | inl hit ↦ let now : is_text (f x).id id ≡ true = ap (λ t. is_text t id) (k x) ∙ hit in rw (now, hit) refl
+      | inr miss ↦ let now : is_text (f x).id id ≡ false = ap (λ t. is_text t id) (k x) ∙ miss in
+          rw (now, miss) (find_mapped id f k live)
+    ]
+
+changed_id : (n : ℕ) (f : Session → Session) → ((s : Session) → (f s).id ≡ s.id) → (s : Session) → (cond (s.serial == n) (f s) s).id ≡ s.id
+changed_id n f k s = elim (cases_Bool (s.serial == n)) [ inl h ↦ rw h (k s) | inr h ↦ rw h refl ]
+
+IsEmptied : List ℕ → State → Type 0
+IsEmptied id state = (s : Session) → session_with_id id state.sessions ≡ Some s → s.queue ≡ []
+
+renewed_empty : (id : List ℕ) (again : Bool) (n : ℕ) (state : State) → ((s : Session) → session_with_id id state.sessions ≡ Some s → s.queue ≡ [])
+    → (s : Session) → session_with_id id (renew_first again n state).sessions ≡ Some s → s.queue ≡ []
+renewed_empty id true n state h s found = h s found
+renewed_empty id false n state h s found =
+    at (session_with_id id state.sessions) refl (sym (find_mapped id (λ (u : Session). cond (u.serial == n) (renewed state.moment u) u)
+    (changed_id n (renewed state.moment) (λ u. refl)) state.sessions) ∙ found)
+  where
+    at : (o : Option Session) → session_with_id id state.sessions ≡ o
+        → option_map (λ (u : Session). cond (u.serial == n) (renewed state.moment u) u) o ≡ Some s → s.queue ≡ []
+    at None there e = cc
+    at (Some u) there e =
+        let is : cond (u.serial == n) (renewed state.moment u) u ≡ s = cc e in
+        let queue : (cond (u.serial == n) (renewed state.moment u) u).queue ≡ u.queue =
+            elim (cases_Bool (u.serial == n)) [ inl k ↦ rw k refl | inr k ↦ rw k refl ] in
+        ap (λ (y : Session). y.queue) (sym is) ∙ queue ∙ h u there
+
+emptied_empty : (id : List ℕ) (state : State) (own : Session) → session_with_id id state.sessions ≡ Some own → (s : Session)
+    → session_with_id id (change own.serial emptied state.sessions) ≡ Some s → s.queue ≡ []
+emptied_empty id state own there s found =
+    let f : Session → Session = λ u. cond (u.serial == own.serial) (emptied u) u in
+    let mapped : session_with_id id (map f state.sessions) ≡ option_map f (session_with_id id state.sessions) =
+        find_mapped id f (changed_id own.serial emptied (λ u. refl)) state.sessions in
+    let one : option_map f (session_with_id id state.sessions) ≡ Some (f own) = ap (option_map f) there in
+    let is : Some (f own) ≡ Some s = sym one ∙ sym mapped ∙ found in
+    let same : f own ≡ s = cc is in
+    let hit : (own.serial == own.serial) ≡ true = eq-eqb own.serial own.serial refl in
+    let empty : (f own).queue ≡ [] = rw hit refl in
+    ap (λ (y : Session). y.queue) (sym same) ∙ empty
+
+queue_empties : (id : List ℕ) (state : State) (again : Bool) (own : Session) (queue : List PollItem) → own.queue ≡ queue
+    → session_with_id id state.sessions ≡ Some own → (s : Session)
+    → session_with_id id (poll_queue state again own queue).0.sessions ≡ Some s → s.queue ≡ []
+queue_empties id state again own [] is there =
+    renewed_empty id again own.serial state (λ s found. let same : own ≡ s = cc (sym there ∙ found) in
+    ap (λ (y : Session). y.queue) (sym same) ∙ is)
+queue_empties id state again own (item ∷ items) is there =
+    renewed_empty id again own.serial (record state { sessions = change own.serial emptied state.sessions })
+    (emptied_empty id state own there)
+
+in_session_empties : (id client : List ℕ) (state : State) (again : Bool) (o : Option Session) → session_with_id id state.sessions ≡ o
+    → IsTold (in_session state client o (poll_in state again)).1 → (s : Session)
+    → session_with_id id (in_session state client o (poll_in state again)).0.sessions ≡ Some s → s.queue ≡ []
+in_session_empties id client state again None there told = absurd told
+in_session_empties id client state again (Some own) there told =
+    elim (cases_Bool (is_text own.client client)) [
+      | inl hit ↦ rw hit (queue_empties id state again own own.queue refl there)
+      | inr miss ↦ absurd (rw miss at told)
+    ]
+
+told_empties : (id client : List ℕ) (state : State) (again : Bool) (o : Option Session) → session_with_id id state.sessions ≡ o
+    → IsTold (poll state client again o).1 → (s : Session)
+    → session_with_id id (poll state client again o).0.sessions ≡ Some s → s.queue ≡ []
+told_empties id client state true None there told = absurd told
+told_empties id client state true (Some own) there told = in_session_empties id client state true (Some own) there told
+told_empties id client state false o there told = in_session_empties id client state false o there told
+
+-- ---- what holds of every state
+
+module _ (Good : List Attachment → Type 0) (good_none : Good []) (good_retracted : (serials : List ℕ) (rows : List Attachment) → Good rows
+    → Good (retract_sessions serials rows)) (good_purged : (publisher : List ℕ) (rows : List Attachment) → Good rows
+    → Good (retract_publisher publisher rows)) (good_applied : (rows : List Attachment) (by : Authorship) (ops : List PublishOp)
+    → IsClientName by.client → AllByRecursion IsFitOp ops → Good rows → Good (apply rows by ops)) (folds : (before after : List Attachment)
+    (s : Search) → Good before → Good after → Folds before after s) (begins : (rows : List Attachment) (s : Search) → Good rows
+    → with_entries (fresh rows s) [] ≡ fresh rows s) where
+  record Holds (done : List ℕ → Sets) (state : State) : Type 0 where
+    tabled : IsTabled state
+    stood : IsStood state
+    good : Good state.graph
+    follows : Follows done state
+
+  -- the ends of sessions
+  ended_follows : (serials : List ℕ) (done : List ℕ → Sets) (state : State) → IsStood state → Good state.graph → Follows done state
+      → Good (end_some serials state).graph × Follows done (end_some serials state)
+  ended_follows [] done state stood good w = (good, w)
+  ended_follows (serial ∷ serials) done state stood good w =
+      let left : State = drop_sessions (serial ∷ serials) state in
+      let after : List Attachment = retract_sessions (serial ∷ serials) state.graph in
+      let good_after = good_retracted (serial ∷ serials) state.graph good in
+      (
+        good_after,
+        overflow_follows done (tell after [] left) (tell_follows after [] done left
+            (λ s. folds state.graph after s good good_after) (stood_filter _ state.standing stood)
+            (drop_follows (serial ∷ serials) done state w)),
+      )
+
+  former_follows : (o : Option Session) (done : List ℕ → Sets) (state : State) → IsStood state → Good state.graph → Follows done state
+      → Good (end_former o state).graph × Follows done (end_former o state)
+  former_follows None done state stood good w = (good, w)
+  former_follows (Some s) done state stood good w = ended_follows (s.serial ∷ []) done state stood good w
+
+  changed_follows : (serial : ℕ) (after : List Attachment) (notes : List Note) (done : List ℕ → Sets) (state : State) → IsStood state
+      → Good state.graph → Good after → Follows done state → Follows done (renew serial (overflow (tell after notes state)))
+  changed_follows serial after notes done state stood good good_after w =
+      renewed_follows serial done (overflow (tell after notes state)) (overflow_follows done (tell after notes state)
+      (tell_follows after notes done state (λ s. folds state.graph after s good good_after) stood w))
+
+  in_session_follows : (done : List ℕ → Sets) (state : State) (client : List ℕ) (accept : Session → State × Answer) (o : Option Session)
+      → ((s : Session) → o ≡ Some s → is_text s.client client ≡ true → Good (accept s).0.graph × Follows done (accept s).0)
+      → Good state.graph → Follows done state
+      → Good (in_session state client o accept).0.graph × Follows done (in_session state client o accept).0
+  in_session_follows done state client accept None f good w = (good, w)
+  in_session_follows done state client accept (Some s) f good w =
+      elim (cases_Bool (is_text s.client client)) [ inl hit ↦ rw hit (f s refl hit) | inr miss ↦ rw miss (good, w) ]
+
+  subscribed_follows : (done : List ℕ → Sets) (state : State) (q : Session → Bool) (s : Session) (ops : List SubscribeOp)
+      → IsTabled state → Good state.graph → Follows done state → find q state.sessions ≡ Some s
+      → Good (subscribe state ops s).0.graph × Follows done (subscribe state ops s).0
+  subscribed_follows done state q s ops tabled good w found =
+      let there = (find_has q state.sessions s found).0 in
+      let low = all_has (λ (y : Session). y.serial ≤ state.counter) state.sessions s tabled.counted there in
+      at (subscribe_ops state.graph s.serial ops (record { queue = s.queue; standing = state.standing }))
+      (ops_tell state.graph s.serial state.counter (done s.id) state.standing low (λ a. begins state.graph a good) ops
+      (record { queue = s.queue; standing = state.standing }) (record {
+        mine = λ x hx own. w.folded s x there hx own;
+        others = λ x hx other. hx;
+        below = w.below;
+      }))
+    where
+      TellSome : Option Told → Type 0
+      TellSome None = Unit {0}
+      TellSome (Some t) = Tells state.graph s.serial state.counter (done s.id) state.standing t
+      at : (o : Option Told) → TellSome o → Good (answer_subscribed state s o).0.graph × Follows done (answer_subscribed state s o).0
+      at None h = (good, w)
+      at (Some t) h = (good, renewed_follows s.serial done _ (overflow_follows done (with_told s.serial t state)
+          (told_follows done state q s t tabled found h w)))
+
+  -- what is told after one more ask
+  abbrev done_after : Ask → Answer → (List ℕ → Sets) → List ℕ → Sets
+  done_after ask answer done id = fold_items (polled_by id ask (items_of answer)) (done id)
+
+  step_follows : (done : List ℕ → Sets) (state : State) (event : Event) (ask : Ask) → IsClientName event.client → IsFitAsk ask
+      → IsTabled state → IsStood state → Good state.graph → Follows done state
+      → Good (step_ask state event ask).0.graph × Follows (done_after ask (step_ask state event ask).1 done) (step_ask state event ask).0
+  step_follows done state event (Lost id) name fit tabled stood good w = lost (session_with_id id state.sessions)
+    where
+      lost : (o : Option Session) → Good (lose state event.client o).0.graph × Follows done (lose state event.client o).0
+      lost None = (good, w)
+      lost (Some s) = elim (cases_Bool (is_text s.client event.client)) [
+        | inl hit ↦ rw hit (ended_follows (s.serial ∷ []) done state stood good w)
+        | inr miss ↦ rw miss (good, w)
+      ]
+  step_follows done state event (Request (the_request.NewSession limit)) name fit tabled stood good w =
+      elim (cases_Bool (is_full state event.client)) [
+        | inl hit ↦ rw hit (good, w)
+        | inr miss ↦
+            let ended = former_follows (session_of_client event.client state.sessions) done state stood good w in
+            rw miss (ended.0, begun_follows event.client event.random limit done _ ended.1)
+      ]
+  step_follows done state event (Request (the_request.RenewSession id)) name fit tabled stood good w =
+      in_session_follows done state event.client (renew_session state) (session_with_id id state.sessions)
+      (λ s found own. (good, renewed_follows s.serial done state w)) good w
+  step_follows done state event (Request (the_request.EndSession id)) name fit tabled stood good w =
+      in_session_follows done state event.client (end_session state) (session_with_id id state.sessions)
+      (λ s found own. ended_follows (s.serial ∷ []) done state stood good w) good w
+  step_follows done state event (Request (the_request.Publish id ops)) name fit tabled stood good w =
+      in_session_follows done state event.client (publish state ops) (session_with_id id state.sessions)
+      (λ s found own.
+      let author : IsClientName s.client = subst IsClientName (sym (text_is s.client event.client own)) name in
+      let good_after = good_applied state.graph (author_in state s) ops author fit.1 good in
+      (good_after, changed_follows s.serial (apply state.graph (author_in state s) ops) (notes_of (author_in state s) ops) done state stood
+      good good_after w)) good w
+  step_follows done state event (Request (the_request.Search id asked)) name fit tabled stood good w =
+      in_session_follows done state event.client (search state asked) (session_with_id id state.sessions)
+      (λ s found own. elim (cases_Bool (is_too_big state.graph asked)) [
+        | inl hit ↦ rw hit (good, w)
+        | inr miss ↦ rw miss (good, renewed_follows s.serial done state w)
+      ]) good w
+  step_follows done state event (Request (the_request.Subscribe id ops)) name fit tabled stood good w =
+      in_session_follows done state event.client (subscribe state ops) (session_with_id id state.sessions)
+      (λ s found own. subscribed_follows done state (λ (y : Session). is_text y.id id) s ops tabled good w found) good w
+  step_follows done state event (Request (the_request.Poll id)) name fit tabled stood good w = (
+    polled event.again (session_with_id id state.sessions),
+    poll_follows done state event.client id event.again (session_with_id id state.sessions) tabled refl w,
+  )
+    where
+      first : (again : Bool) (n : ℕ) (one : State) → Good one.graph → Good (renew_first again n one).graph
+      first true n one g = g
+      first false n one g = g
+      queued : (again : Bool) (s : Session) (queue : List PollItem) → Good (poll_queue state again s queue).0.graph
+      queued again s [] = first again s.serial state good
+      queued again s (item ∷ items) = first again s.serial _ good
+      in_one : (again : Bool) (o : Option Session) → Good (in_session state event.client o (poll_in state again)).0.graph
+      in_one again None = good
+      in_one again (Some s) = elim (cases_Bool (is_text s.client event.client)) [
+        | inl hit ↦ rw hit (queued again s s.queue)
+        | inr miss ↦ rw miss good
+      ]
+      polled : (again : Bool) (o : Option Session) → Good (poll state event.client again o).0.graph
+      polled true None = good
+      polled true (Some s) = in_one true (Some s)
+      polled false o = in_one false o
+  step_follows done state event (Request (the_request.PurgePublisher id publisher)) name fit tabled stood good w =
+      in_session_follows done state event.client (purge state publisher) (session_with_id id state.sessions)
+      (λ s found own. elim (cases_Bool (is_text publisher s.client)) [
+        | inl hit ↦
+            let good_after = good_purged publisher state.graph good in
+            rw hit (good_after, changed_follows s.serial (retract_publisher publisher state.graph) [] done state stood good good_after w)
+        | inr miss ↦ rw miss (good, w)
+      ]) good w
+
+  event_holds : (done : List ℕ → Sets) (state : State) (event : Event) → IsFitEvent event → Holds done state
+      → Holds (done_after event.ask (step state event).1 done) (step state event).0
+  event_holds done state event fit h =
+      let now : State = advance event.moment state in
+      let moved : Follows done now = record { folded = h.follows.folded; below = h.follows.below } in
+      let expired = ended_follows _ done now h.stood h.good moved in
+      let after = step_follows done (expire now) event event.ask fit.client fit.ask (expired_table now h.tabled)
+          (ended_stood _ now h.stood) expired.0 expired.1 in
+      record {
+        tabled = event_table state event h.tabled;
+        stood = event_stood state event h.stood;
+        good = after.0;
+        follows = after.1;
+      }
+
+  -- ---- histories
+
+  abbrev done_with : History → (List ℕ → Sets) → List ℕ → Sets
+  done_with history done id = fold_items (all_polled id history) (done id)
+
+  history_holds : (history : History) (done : List ℕ → Sets) (state : State) → LegalFrom state history → AreFit history
+      → Holds done state → Holds (done_with history done) (state_from state history)
+  history_holds [] done state legal fit h = h
+  history_holds (e ∷ history) done state legal fit h =
+      let one : Holds (done_after e.0.ask e.1 done) (step state e.0).0 =
+          subst (λ answer. Holds (done_after e.0.ask answer done) (step state e.0).0) (sym legal.0) (event_holds done state e.0 fit.0 h) in
+      let rest = history_holds history (done_after e.0.ask e.1 done) (step state e.0).0 legal.1 fit.1 one in
+      record {
+        tabled = rest.tabled;
+        stood = rest.stood;
+        good = rest.good;
+        follows = record {
+          folded = λ s x hs hx same.
+              ap (λ (g : Sets). fold_items s.queue g x.name)
+              (fold_joined (polled_by s.id e.0.ask (items_of e.1)) (all_polled s.id history) (done s.id))
+              ∙ rest.follows.folded s x hs hx same;
+          below = rest.follows.below;
+        };
+      }
+
+  opening_holds : (ttl : ℕ) → Holds (λ _. no_sets) (opening ttl)
+  opening_holds ttl = record {
+    tabled = opening_table ttl;
+    stood = stood_none;
+    good = good_none;
+    follows = record { folded = λ s x hs hx same. absurd hs; below = λ x hx. absurd hx };
+  }
+
+  state_joined : (state : State) (before rest : History) → state_from state (before ++ rest) ≡ state_from (state_from state before) rest
+  state_joined state [] rest = refl
+  state_joined state (e ∷ before) rest = state_joined (step state e.0).0 before rest
+
+  legal_before : (state : State) (before rest : History) → LegalFrom state (before ++ rest)
+      → LegalFrom state before × LegalFrom (state_from state before) rest
+  legal_before state [] rest legal = (tt, legal)
+  legal_before state (e ∷ before) rest legal =
+      let more = legal_before (step state e.0).0 before rest legal.1 in ((legal.0, more.0), more.1)
+
+  legal_joined : (state : State) (before rest : History) → LegalFrom state before → LegalFrom (state_from state before) rest
+      → LegalFrom state (before ++ rest)
+  legal_joined state [] rest legal more = more
+  legal_joined state (e ∷ before) rest legal more = (legal.0, legal_joined (step state e.0).0 before rest legal.1 more)
+
+  fit_before : (before rest : History) → AreFit (before ++ rest) → AreFit before × AreFit rest
+  fit_before [] rest fit = (tt, fit)
+  fit_before (e ∷ before) rest fit = let more = fit_before before rest fit.1 in ((fit.0, more.0), more.1)
+
+  fit_joined : (before rest : History) → AreFit before → AreFit rest → AreFit (before ++ rest)
+  fit_joined [] rest fit more = more
+  fit_joined (e ∷ before) rest fit more = (fit.0, fit_joined before rest fit.1 more)
+
+  after_one : (ttl : ℕ) (before : History) (event : Event) (answer : Answer) (id : List ℕ) → Legal ttl (before ++ ((event, answer) ∷ []))
+      → AreFit (before ++ ((event, answer) ∷ [])) → event.ask ≡ Request (the_request.Poll id) → IsTold answer
+      → AgreesAfter ttl (before ++ ((event, answer) ∷ [])) id
+  after_one ttl before event answer id legal fit asked told s x found hx same =
+      let history : History = before ++ ((event, answer) ∷ []) in
+      let held = history_holds history (λ _. no_sets) (opening ttl) legal fit (opening_holds ttl) in
+      let there = find_has (λ (y : Session). is_text y.id id) (state_after ttl history).sessions s found in
+      let own : s.id ≡ id = text_is s.id id there.1 in
+      let state : State = state_from (opening ttl) before in
+      let parts = legal_before (opening ttl) before ((event, answer) ∷ []) legal in
+      let joined = state_joined (opening ttl) before ((event, answer) ∷ []) in
+      let now : State = expire (advance event.moment state) in
+      let answered : IsTold (step_ask now event (Request (the_request.Poll id))).1 =
+          subst (λ ask. IsTold (step_ask now event ask).1) asked (subst IsTold parts.1.0 told) in
+      let found_now : session_with_id id (step_ask now event (Request (the_request.Poll id))).0.sessions ≡ Some s =
+          subst (λ ask. session_with_id id (step_ask now event ask).0.sessions ≡ Some s) asked
+          (ap (λ (y : State). session_with_id id y.sessions) (sym joined) ∙ found) in
+      let empty : s.queue ≡ [] =
+          told_empties id event.client now event.again (session_with_id id now.sessions) refl answered s found_now in
+      let folded = held.follows.folded s x there.0 hx same in
+      subst (λ i. client_sets i history x.name ≡ Some (fresh (state_after ttl history).graph x.search)) own
+      (subst (λ q. fold_items q (client_sets s.id history) x.name ≡ Some (fresh (state_after ttl history).graph x.search)) empty folded)
+
+  pub histories_agree : (ttl : ℕ) (history : History) → Legal ttl history → AreFit history → Agrees ttl history
+  histories_agree ttl history legal fit before rest event answer id is asked told =
+      let all_legal : LegalFrom (opening ttl) (before ++ ((event, answer) ∷ rest)) = subst (λ h. Legal ttl h) is legal in
+      let all_fit : AreFit (before ++ ((event, answer) ∷ rest)) = subst AreFit is fit in
+      let parts = legal_before (opening ttl) before ((event, answer) ∷ rest) all_legal in
+      let fits = fit_before before ((event, answer) ∷ rest) all_fit in
+      after_one ttl before event answer id (legal_joined (opening ttl) before ((event, answer) ∷ []) parts.0 (parts.1.0, tt))
+      (fit_joined before ((event, answer) ∷ []) fits.0 (fits.1.0, tt)) asked told
