@@ -1,5 +1,5 @@
 //! Asking what posts mean.
-ghost use Rattle.std.specs.Prelude.{◌≡◌, ◌≢◌, ◌≤◌, ◌∷◌, ℕ, List, IfOk, OnErr, []};
+ghost use Rattle.std.specs.Prelude.{◌≡◌, ◌≢◌, ◌≤◌, ◌∷◌, ℕ, List, false, IfOk, OnErr, []};
 ghost use Rattle.ifmap_elem.specs.Chars.{IsCharacters};
 ghost use Rattle.ifmap_heads.specs.Limits.{longest_post};
 ghost use Rattle.ifmap_requests.specs.Fit.{IsFitRequest};
@@ -7,7 +7,7 @@ ghost use Rattle.ifmap_requests.specs.declared.requests.Request.TheVariants.{Pol
 ghost use Rattle.ifmap_dialogue.specs.Answers.{ending_heard};
 ghost use Rattle.ifmap_dialogue.specs.Desks.{Tells, Turn, desk_seen, heaviest, outcome_of, weight};
 ghost use Rattle.ifmap_dialogue.specs.Findings.{FindsQuestion, FindsRequest, finding_of};
-ghost use Rattle.ifmap_dialogue.specs.Turns.{AsksLost, IsFirst, question_of};
+ghost use Rattle.ifmap_dialogue.specs.Turns.{AsksLost, IsFirst, event_of, question_of};
 ghost use Rattle.ifmap_dialogue.specs.Words.{after_random, random_word};
 
 use crate::desks::{BEFORE_ASK, Desk, Gate, Outcome};
@@ -91,6 +91,33 @@ pub(crate) fn ask_request<K: Desk, C: Clock, G: Gate>(
     }
 }
 
+// The event by which a request is asked first.
+fn first_event<C: Clock>(
+    setting: &Setting<'_, C>,
+    client: ClientName,
+    random: u128,
+    bytes: u32,
+    request: Request,
+) -> Event
+    requires { IsFitRequest request }
+    ensures { (moment : ℕ) × C.gives setting.now.clock.now moment
+        × (result ≡ event_of (record {
+          client = client;
+          request = request;
+          bytes = bytes;
+          random = random;
+        }) false moment) }
+{
+    Event {
+        moment: setting.clock.now(),
+        client,
+        random,
+        again: false,
+        bytes,
+        ask: Ask::Request(request),
+    }
+}
+
 // Asks a request that is no poll, which no desk holds.
 fn ask_once<K: Desk, C: Clock, G: Gate>(
     setting: &Setting<'_, C>,
@@ -114,14 +141,9 @@ fn ask_once<K: Desk, C: Clock, G: Gate>(
           after = words.new;
         }) result }
 {
-    let event = Event {
-        moment: setting.clock.now(),
-        client: asker.client,
-        random: draw_word(words),
-        again: false,
-        bytes: asker.bytes,
-        ask: Ask::Request(request),
-    };
+    let Asker { client, bytes } = asker;
+    let random = draw_word(words);
+    let event = first_event(setting, client, random, bytes, request);
     match take_turn(desk, gate, event) {
         Outcome::Replied(reply) => Finding::Replied(reply),
         Outcome::Spent { entries } => Finding::Spent { entries },
@@ -177,21 +199,18 @@ fn begin_poll<C: Clock>(
     ensures drawn { IfOk result (λ _. words.new ≡ after_random words.old) }
     ensures none { OnErr result (words.new ≡ words.old) }
 {
-    let client = asker.client.copy(setting.alloc)?;
-    let copied = session.copy(setting.alloc)?;
-    let poll = Poll {
-        client: asker.client,
-        session,
-        random: draw_word(words),
-        bytes: asker.bytes,
+    let Asker { client, bytes } = asker;
+    let named = client.copy(setting.alloc)?;
+    let request = Request::Poll {
+        session: session.copy(setting.alloc)?,
     };
-    let event = Event {
-        moment: setting.clock.now(),
+    let random = draw_word(words);
+    let event = first_event(setting, named, random, bytes, request);
+    let poll = Poll {
         client,
-        random: poll.random,
-        again: false,
-        bytes: poll.bytes,
-        ask: Ask::Request(Request::Poll { session: copied }),
+        session,
+        random,
+        bytes,
     };
     Ok((poll, event))
 }
@@ -259,17 +278,11 @@ pub(crate) fn tell_lost<K: Desk, C: Clock, G: Gate>(
         (desk_seen K.said K.held K.spent K.home K.loan desk.new) (turn ∷ [])
         × (result ≡ ending_heard due (outcome_of turn.asked)) }
 {
-    let event = Event {
-        moment: setting.clock.now(),
-        client: poll.client,
-        random: poll.random,
-        again: false,
-        bytes: 0,
-        ask: Ask::Lost(poll.session),
-    };
-    match take_turn(desk, gate, event) {
+    match take_turn(desk, gate, poll.lost_event(setting)) {
         Outcome::Spent { entries } => Ending::Unheard { entries },
         Outcome::NoMemory => Ending::NoMemory,
-        Outcome::Replied(_) | Outcome::Heard | Outcome::Held => due,
+        Outcome::Replied(_) => due,
+        Outcome::Heard => due,
+        Outcome::Held => due,
     }
 }

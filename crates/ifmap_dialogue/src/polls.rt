@@ -1,7 +1,7 @@
 //! Polls that may be asked again.
 ghost use Rattle.std.specs.Prelude.{◌≡◌, ℕ, true, IfOk};
 ghost use Rattle.ifmap_elem.specs.Chars.{IsCharacters};
-ghost use Rattle.ifmap_dialogue.specs.Turns.{event_of, question_of};
+ghost use Rattle.ifmap_dialogue.specs.Turns.{event_of, lost_event, question_of};
 
 use crate::settings::Setting;
 use ifmap_elem::{Copied, Text};
@@ -44,5 +44,26 @@ impl Poll {
             bytes: self.bytes,
             ask: Ask::Request(Request::Poll { session }),
         })
+    }
+    // The event that tells that the answer to it was lost.
+    pub(crate) fn lost_event<C: Clock>(self, setting: &Setting<'_, C>) -> Event
+        requires { IsCharacters self.session }
+        ensures { (moment : ℕ) × C.gives setting.now.clock.now moment
+            × (result ≡ lost_event self moment) }
+    {
+        let Poll {
+            client,
+            session,
+            random,
+            bytes: _,
+        } = self;
+        Event {
+            moment: setting.clock.now(),
+            client,
+            random,
+            again: false,
+            bytes: 0,
+            ask: Ask::Lost(session),
+        }
     }
 }

@@ -1,0 +1,95 @@
+-- What comes of questions, of requests and of posts.
+use Rattle.std.proofs.Common.{◌≡◌, ◌≢◌, ℕ, List, [], ◌∷◌, ◌++◌, length, Ok, Err, inl, inr, refl, sym, ap, subst, ◌∙◌}
+use Rattle.ifmap_elem.specs.Chars.{IsCharacters}
+use Rattle.ifmap_ident.specs.declared.codes.Code.{Code}
+use Rattle.ifmap_machine.specs.Events.{Event}
+use Rattle.ifmap_replies.specs.declared.replies.Reply.{Reply}
+use Rattle.ifmap_requests.specs.Laws.{FitMeaning}
+use Rattle.ifmap_requests.specs.Means.{Means}
+use Rattle.ifmap_requests.specs.declared.errors.Refusal.TheVariants.{Named, Unreadable}
+use Rattle.ifmap_requests.specs.declared.requests.Request.{Request}
+use Rattle.ifmap_requests.specs.declared.requests.Request.TheVariants.{Poll as Polling}
+use Rattle.ifmap_dialogue.specs.declared.desks.Outcome.TheVariants as outcome
+use Rattle.ifmap_dialogue.specs.declared.findings.Finding.{Finding}
+use Rattle.ifmap_dialogue.specs.declared.findings.Finding.TheVariants as finding
+use Rattle.ifmap_dialogue.specs.declared.polls.Poll.{Poll}
+use Rattle.ifmap_dialogue.specs.Desks.{DeskSeen, Tells, Turn, outcome_of}
+use Rattle.ifmap_dialogue.specs.Findings.{Asking, Finds, FindsPost, FindsQuestion, FindsRequest, Posting, posting, refusal}
+use Rattle.ifmap_dialogue.specs.Scenes.{HasFitPoll}
+use Rattle.ifmap_dialogue.specs.Turns.{Question, event_of, question_of}
+use Rattle.ifmap_dialogue.specs.Words.{after_random, random_word}
+use Rattle.ifmap_dialogue.proofs.Telling.{fits_one, tells_none}
+use Rattle.ifmap_dialogue.proofs.Turning.{Waits, finds_replied, finds_spent, finds_wanting, not_heard, not_held, not_told, waits_first}
+
+module _ {H : Type 0} (gives : ℕ → Type 0) (before after : DeskSeen H) where
+  -- what comes of a question comes of the request that asks it
+  pub as_request : (a : Asking) (found : Finding)
+      → FindsQuestion gives before after (record { client = a.client; request = a.request; bytes = a.bytes; random = random_word a.words }) found
+      → a.after ≡ after_random a.words → FindsRequest gives before after a found
+  as_request a found f drawn = record {
+    turns = f.turns;
+    tells = f.tells;
+    finds = λ body short means. f.finds (posting a body)
+        (record { client = refl; bytes = short; means = means; random = refl; drawn = drawn });
+  }
+
+  -- of a request nothing comes where memory is wanting before it is asked
+  pub none_asked : (a : Asking) → after ≡ before → a.after ≡ a.words → FindsRequest gives before after a finding.NoMemory
+  none_asked a same kept = record {
+    turns = [];
+    tells = subst (λ (d : DeskSeen H). Tells before d []) (sym same) (tells_none before);
+    finds = λ body short means. inl (refl, kept);
+  }
+
+  -- what comes of a request comes of a post that means it
+  pub as_post : (a : Asking) (body : List ℕ) (found : Finding) → FindsRequest gives before after a found → a.bytes ≡ length body
+      → Means body (Ok a.request) → FindsPost gives before after (posting a body) found
+  as_post a body found f short means = record { turns = f.turns; tells = f.tells; finds = f.finds body short means }
+
+  -- a post for which nothing is asked
+  pub unasked : (p : Posting) (found : Finding) → after ≡ before → Finds gives p [] found → FindsPost gives before after p found
+  unasked p found same finds = record {
+    turns = [];
+    tells = subst (λ (d : DeskSeen H). Tells before d []) (sym same) (tells_none before);
+    finds = finds;
+  }
+
+-- ---- a request that is asked once
+
+module _ {H : Type 0} (gives : ℕ → Type 0) (before after : DeskSeen H) (question : Question) (event : Event) (first : (moment : ℕ) × gives moment × (event ≡ event_of question false moment)) (other : (session : List ℕ) → question.request ≢ Polling session) (turn : Turn) (asks : turn.event ≡ event) (tells : Tells before after (turn ∷ [])) where
+  begun : Waits gives before before question 0 event
+  begun = waits_first gives before question event first
+
+  is_ask : turn.event.ask ≡ (event_of question false 0).ask
+  is_ask = let (moment, given, is) = first in ap (λ (e : Event). e.ask) asks ∙ ap (λ (e : Event). e.ask) is
+
+  pub once_replied : (the_reply : Reply) → outcome_of turn.asked ≡ outcome.Replied the_reply
+      → FindsQuestion gives before after question (finding.Replied the_reply)
+  once_replied the_reply is =
+      finds_replied gives before before after question 0 event begun turn asks tells the_reply is
+      (not_told turn.event question.request turn.asked the_reply is_ask other (fits_one before after turn tells) is)
+
+  pub once_spent : (entries : ℕ) → outcome_of turn.asked ≡ outcome.Spent entries
+      → FindsQuestion gives before after question (finding.Spent entries)
+  once_spent entries is = finds_spent gives before before after question 0 event begun turn asks tells entries is
+
+  pub once_wanting : outcome_of turn.asked ≡ outcome.NoMemory → FindsQuestion gives before after question finding.NoMemory
+  once_wanting is = finds_wanting gives before before after question 0 event begun turn asks tells is
+
+  pub once_not_held : outcome_of turn.asked ≢ outcome.Held
+  once_not_held = not_held turn.event question.request turn.asked is_ask other (fits_one before after turn tells)
+
+  pub once_not_heard : outcome_of turn.asked ≢ outcome.Heard
+  once_not_heard = not_heard turn.event question.request turn.asked is_ask (fits_one before after turn tells)
+
+-- ---- the poll that was told something
+
+-- its session is named by characters, since its body means it
+pub told_fits : FitMeaning → (gives : ℕ → Type 0) (p : Posting) (turns : List Turn) (found : Finding) → Finds gives p turns found
+    → HasFitPoll found
+told_fits fit gives p turns (finding.Told the_reply poll) (puts, rest) = fit p.body (Polling poll.session) puts.posed.means
+told_fits fit gives p turns (finding.Replied the_reply) f = tt
+told_fits fit gives p turns finding.Unreadable f = tt
+told_fits fit gives p turns (finding.HeldOut many) f = tt
+told_fits fit gives p turns (finding.Spent entries) f = tt
+told_fits fit gives p turns finding.NoMemory f = tt
