@@ -20,7 +20,8 @@ use Rattle.ifmap_dialogue.specs.Answers.{Answers, IsLostWith, LosesUnlessDone, c
 use Rattle.ifmap_dialogue.specs.Desks.{DeskSeen, Tells, Turn, outcome_of}
 use Rattle.ifmap_dialogue.specs.Findings.{FindsPost}
 use Rattle.ifmap_dialogue.specs.Scenes.{Answered, HasCauses, ServesAnswer, ServesPost, scene}
-use Rattle.ifmap_dialogue.specs.Wires.{GainsBytes, IsGivenUp, WireSeen, Writes}
+use Rattle.ifmap_dialogue.specs.Turns.{AsksLost}
+use Rattle.ifmap_dialogue.specs.Wires.{GainsBytes, IsGivenUp, WireSeen, Writes, bare_answer}
 use Rattle.ifmap_dialogue.proofs.Telling.{tells_more, tells_none}
 
 -- an ending that tells of no fault
@@ -99,11 +100,13 @@ module _ (before after : WireSeen) (output : List ℕ) (g : GainsBytes before af
       (causes_quiet (Some (ending_heard ending.NoMemory (outcome_of turn.asked))) (quiet_heard (outcome_of turn.asked)))
 
 module _ {H : Type 0} (gives : ℕ → Type 0) (desk : DeskSeen H) (before after : WireSeen) (words : ChaCha) (found : Finding) (close : Bool) where
+  abbrev Serving : Option Ending → Type 0
+  Serving next = ServesAnswer gives (scene desk before words) (scene desk after words) (record { finding = found; close = close; next = next })
+
   -- an answer was written, and nothing was asked
-  pub sends_answer : (the_sent : Sent) (due next : Option Ending) (output : List ℕ) → GainsBytes before after output
+  sends_answer : (the_sent : Sent) (due next : Option Ending) (output : List ℕ) → GainsBytes before after output
       → Counts the_sent before after → IsQuiet due → next ≡ next_after the_sent due
-      → Answers gives found (record { close = close; turns = []; output = output; next = next })
-      → ServesAnswer gives (scene desk before words) (scene desk after words) (record { finding = found; close = close; next = next })
+      → Answers gives found (record { close = close; turns = []; output = output; next = next }) → Serving next
   sends_answer the_sent due next output g counts quiet is answers = record {
     turns = [];
     output = output;
@@ -114,34 +117,90 @@ module _ {H : Type 0} (gives : ℕ → Type 0) (desk : DeskSeen H) (before after
     answers = answers;
   }
 
-  -- the connection ends, and nothing was asked
-  pub ends_answer : (end : Ending) (output : List ℕ) → GainsBytes before after output → IsQuiet (Some end)
-      → Answers gives found (record { close = close; turns = []; output = output; next = Some end })
-      → ServesAnswer gives (scene desk before words) (scene desk after words) (record { finding = found; close = close; next = Some end })
-  ends_answer end output g quiet answers = record {
+  pub replied_answer : (reply : Reply) → found ≡ finding.Replied reply → (the_sent : Sent) (due next : Option Ending) (output : List ℕ)
+      → Writes (reply_answer reply close) the_sent output → GainsBytes before after output → Counts the_sent before after
+      → due ≡ closing close → next ≡ next_after the_sent due → Serving next
+  replied_answer reply is the_sent due next output writes g counts closes follows =
+      let ends : next ≡ next_after the_sent (closing close) = follows ∙ ap (next_after the_sent) closes in
+      sends_answer the_sent (closing close) next output g counts (quiet_closing close) ends
+      (subst (λ (f : Finding). Answers gives f (record { close = close; turns = []; output = output; next = next })) (sym is)
+      (refl, (the_sent, writes, ends)))
+
+  pub unreadable_answer : found ≡ finding.Unreadable → (the_sent : Sent) (next : Option Ending) (output : List ℕ)
+      → Writes (bare_answer 400) the_sent output → GainsBytes before after output → Counts the_sent before after
+      → next ≡ next_after the_sent (Some (ending.Refused 400)) → Serving next
+  unreadable_answer is the_sent next output writes g counts ends =
+      sends_answer the_sent (Some (ending.Refused 400)) next output g counts (quiet_refused 400) ends
+      (subst (λ (f : Finding). Answers gives f (record { close = close; turns = []; output = output; next = next })) (sym is)
+      (refl, (the_sent, writes, ends)))
+
+  pub spent_answer : (entries : ℕ) → found ≡ finding.Spent entries → (the_sent : Sent) (next : Option Ending) (output : List ℕ)
+      → Writes (bare_answer 507) the_sent output → GainsBytes before after output → Counts the_sent before after
+      → next ≡ next_after the_sent (Some (ending.Spent entries)) → Serving next
+  spent_answer entries is the_sent next output writes g counts ends =
+      sends_answer the_sent (Some (ending.Spent entries)) next output g counts (quiet_spent entries) ends
+      (subst (λ (f : Finding). Answers gives f (record { close = close; turns = []; output = output; next = next })) (sym is)
+      (refl, (the_sent, writes, ends)))
+
+  pub wanting_answer : found ≡ finding.NoMemory → (output : List ℕ) → IsGivenUp output → GainsBytes before after output
+      → Serving (Some ending.NoMemory)
+  wanting_answer is output given g = record {
     turns = [];
     output = output;
     tells = tells_none desk;
     gains = g;
-    causes = causes_quiet before after output g (Some end) quiet;
+    causes = causes_quiet before after output g (Some ending.NoMemory) quiet_wanting;
     words = refl;
-    answers = answers;
+    answers = subst (λ (f : Finding). Answers gives f (record { close = close; turns = []; output = output; next = Some ending.NoMemory }))
+        (sym is) (refl, given, refl);
   }
 
+-- a poll was held as often as can be
+pub held_out_answer : {H : Type 0} (gives : ℕ → Type 0) (desk : DeskSeen H) (wire : WireSeen) (words : ChaCha) (found : Finding) (close : Bool) (many : ℕ)
+    → found ≡ finding.HeldOut many
+    → ServesAnswer gives (scene desk wire words) (scene desk wire words)
+    (record { finding = found; close = close; next = Some (ending.HeldOut many) })
+held_out_answer gives desk wire words found close many is = record {
+  turns = [];
+  output = [];
+  tells = tells_none desk;
+  gains = gains_none wire;
+  causes = causes_quiet wire wire [] (gains_none wire) (Some (ending.HeldOut many)) (quiet_held_out many);
+  words = refl;
+  answers = subst (λ (f : Finding). Answers gives f (record { close = close; turns = []; output = []; next = Some (ending.HeldOut many) }))
+      (sym is) (refl, refl, refl);
+}
+
 -- what a poll is told was answered
-pub told_answer : {H : Type 0} (gives : ℕ → Type 0) (one other : DeskSeen H) (before after : WireSeen) (words : ChaCha) (reply : Reply) (poll : Poll) (close : Bool) (the_sent : Sent) (turns : List Turn) (output : List ℕ) (next : Option Ending)
-    → Writes (reply_answer reply close) the_sent output → GainsBytes before after output → Counts the_sent before after
-    → Tells one other turns → LosesUnlessDone gives poll close the_sent turns next
-    → ServesAnswer gives (scene one before words) (scene other after words) (record { finding = finding.Told reply poll; close = close; next = next })
-told_answer gives one other before after words reply poll close the_sent turns output next writes g counts tells loses = record {
+pub told_answer : {H : Type 0} (gives : ℕ → Type 0) (one other : DeskSeen H) (before after : WireSeen) (words : ChaCha) (found : Finding) (reply : Reply) (poll : Poll) (close : Bool) (the_sent : Sent) (turns : List Turn) (output : List ℕ) (next : Option Ending)
+    → found ≡ finding.Told reply poll → Writes (reply_answer reply close) the_sent output → GainsBytes before after output
+    → Counts the_sent before after → Tells one other turns → LosesUnlessDone gives poll close the_sent turns next
+    → ServesAnswer gives (scene one before words) (scene other after words) (record { finding = found; close = close; next = next })
+told_answer gives one other before after words found reply poll close the_sent turns output next is writes g counts tells loses = record {
   turns = turns;
   output = output;
   tells = tells;
   gains = g;
   causes = causes_lost before after output g gives poll close the_sent turns next loses counts;
   words = refl;
-  answers = (the_sent, writes, loses);
+  answers = subst (λ (f : Finding). Answers gives f (record { close = close; turns = turns; output = output; next = next })) (sym is)
+      (the_sent, writes, loses);
 }
+
+-- the desk was told nothing where the answer was written whole, and of the loss of it where it was not
+module _ (gives : ℕ → Type 0) (poll : Poll) (close : Bool) (the_sent : Sent) where
+  pub lost_none : (next : Option Ending) → the_sent ≡ sent.Done → next ≡ closing close → LosesUnlessDone gives poll close the_sent [] next
+  lost_none next is closes = subst (λ (s : Sent). LosesUnlessDone gives poll close s [] next) (sym is) (refl, closes)
+
+  pub lost_by_fault : (turn : Turn) (end : Ending) → the_sent ≡ sent.WriteFault → AsksLost gives poll turn
+      → end ≡ ending_heard ending.WriteFault (outcome_of turn.asked) → LosesUnlessDone gives poll close the_sent (turn ∷ []) (Some end)
+  lost_by_fault turn end is asks heard =
+      subst (λ (s : Sent). LosesUnlessDone gives poll close s (turn ∷ []) (Some end)) (sym is) (turn, refl, asks, ap Some heard)
+
+  pub lost_by_want : (turn : Turn) (end : Ending) → the_sent ≡ sent.NoMemory → AsksLost gives poll turn
+      → end ≡ ending_heard ending.NoMemory (outcome_of turn.asked) → LosesUnlessDone gives poll close the_sent (turn ∷ []) (Some end)
+  lost_by_want turn end is asks heard =
+      subst (λ (s : Sent). LosesUnlessDone gives poll close s (turn ∷ []) (Some end)) (sym is) (turn, refl, asks, ap Some heard)
 
 -- a post was answered
 pub serves_post : {H : Type 0} (gives : ℕ → Type 0) (a b c : DeskSeen H) (before after : WireSeen) (words now : ChaCha) (post : Post) (found : Finding) (next : Option Ending)

@@ -1,7 +1,7 @@
 -- Rounds one after another, until the connection ends.
 use Rattle.std.proofs.Common.{◌≡◌, ◌≢◌, ℕ, ◌+◌, ◌≤◌, ◌<◌, ◌==◌, ◌||◌, Bool, true, false, List, [], ◌∷◌, ◌++◌, length, None, Some, IfSome, refl, sym, ap, subst, ◌∙◌, append-nil, length-append, arith}
 use Rattle.std.proofs.lemmas.Bool.Decides.{nat_tests}
-use Rattle.std.specs.Prelude.{Option, flat_map, IsFalse}
+use Rattle.std.specs.Prelude.{Option, flat_map, IfNone, IsFalse}
 use Rattle.std.specs.Io.KnownBytes.{Appends}
 use Rattle.std.proofs.KnownBytes.{Appends-nil, Appends-trans}
 use Rattle.std.proofs.lemmas.Grind.{flat_map-append}
@@ -13,6 +13,8 @@ use Rattle.ifmap_http.specs.declared.wires.Sent.{Sent}
 use Rattle.ifmap_http.specs.declared.wires.Sent.TheVariants as sent
 use Rattle.ifmap_http.specs.Outcomes.{GetsPost}
 use Rattle.ifmap_io.specs.Causes.{Rose}
+use Rattle.ifmap_io.specs.Links.{Side}
+use Rattle.ifmap_http.specs.Wires.{Wired}
 use Rattle.ifmap_dialogue.specs.declared.endings.Ending.{Ending}
 use Rattle.ifmap_dialogue.specs.declared.endings.Ending.TheVariants as ending
 use Rattle.ifmap_dialogue.specs.declared.findings.Finding.{Finding}
@@ -25,7 +27,7 @@ use Rattle.ifmap_dialogue.specs.Desks.{DeskSeen, Tells, Turn, outcome_of}
 use Rattle.ifmap_dialogue.specs.Dialogue.{GoesOn, Serves}
 use Rattle.ifmap_dialogue.specs.Rounds.{Follows, IsRound, Round, Standing, is_last, most_posts}
 use Rattle.ifmap_dialogue.specs.Scenes.{HasCauses, Scene, ServesPost, ServesRound, scene, standing}
-use Rattle.ifmap_dialogue.specs.Wires.{GainsBytes, IsGivenUp, WireSeen, Writes, bare_answer}
+use Rattle.ifmap_dialogue.specs.Wires.{GainsBytes, IsGivenUp, WireSeen, Writes, bare_answer, wire_seen}
 use Rattle.ifmap_dialogue.proofs.Answering.{Counts, IsQuiet, causes_after, causes_quiet, quiet_closing, quiet_refused, quiet_spent, quiet_wanting}
 use Rattle.ifmap_dialogue.proofs.Telling.{tells_more, tells_none}
 
@@ -368,3 +370,22 @@ module _ {H : Type 0} (gives : ℕ → Type 0) (before now after : Scene H) (num
       output_is = refl;
     };
   }
+
+-- ---- one round as it is read
+
+-- reading of a wire left what was written alone
+pub has_read : {L : Type 0} (left held : L → Option (List ℕ)) (reading writing : L → ℕ) (outgoing : L → Side)
+    → ((link : L) → outgoing link ≡ record { bytes = held link; faults = writing link }) → (old new : Wired L)
+    → outgoing new.link ≡ outgoing old.link → reading old.link ≤ reading new.link
+    → HasRead (wire_seen left held reading writing old) (wire_seen left held reading writing new)
+has_read left held reading writing outgoing is old new same later =
+    let sides = sym (is new.link) ∙ same ∙ is old.link in
+    record { reads = later; held = ap (λ (s : Side). s.bytes) sides; writes = ap (λ (s : Side). s.faults) sides }
+
+pub more_if_none : (next : Option Ending) (P : Type 0) → (next ≡ None → P) → IfNone next P
+more_if_none None P f = f refl
+more_if_none (Some end) P f = tt
+
+-- after a refusal the connection does not go on
+pub refusal_ends : (the_sent : Sent) (end : Ending) (next : Option Ending) (P : Type 0) → next ≡ next_after the_sent (Some end) → IfNone next P
+refusal_ends the_sent end next P is = more_if_none next P (λ e. absurd (never_on the_sent end (sym e ∙ is)))

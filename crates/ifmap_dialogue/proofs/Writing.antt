@@ -55,3 +55,7 @@ pub given_up : (the_sent : Sent) (output : List ℕ) → WritesOnce (bare_answer
 given_up sent.Done output is = (length (bare_answer 503), is ∙ sym (take-length (bare_answer 503)))
 given_up sent.WriteFault output is = is
 given_up sent.NoMemory output is = (0, is)
+
+-- nothing was written before want of memory was answered
+pub gave_up : (a b c : WireSeen) (none output : List ℕ) → none ≡ [] → GainsBytes a b none → GainsBytes b c output → GainsBytes a c output
+gave_up a b c none output is first then = gains_more a b c [] output (subst (GainsBytes a b) is first) then

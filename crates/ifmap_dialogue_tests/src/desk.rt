@@ -1,7 +1,7 @@
 //! A desk of plain values, which answers as it was told before, and keeps what it was asked.
-ghost use Rattle.std.specs.Prelude.{◌≡◌, ℕ, List, None};
-ghost use Rattle.ifmap_machine.specs.declared.events.Ask.TheVariants.{Lost, Request as Asking};
-ghost use Rattle.ifmap_requests.specs.declared.requests.Request as the_request;
+ghost use Rattle.std.specs.Prelude.{◌≡◌};
+ghost use Rattle.ifmap_dialogue.specs.Desks.{FitsAnswer};
+ghost use Rattle.ifmap_dialogue_tests.specs.Kinds.{IsKind};
 
 use ifmap_dialogue::{Desk, Gate};
 use ifmap_elem::Many;
@@ -123,11 +123,7 @@ fn is_lost_in_s(ask: &Ask) -> bool {
 
 // What is asked.
 fn kind_of(ask: &Ask) -> Kind
-    ensures poll { result ≡ Kind.Poll
-        → (session : List ℕ) × (ask.now ≡ Asking (the_request.Poll session)) }
-    ensures other { result ≡ Kind.Other
-        → (request : the_request.Request) × (ask.now ≡ Asking request) }
-    ensures lost { result ≡ Kind.Lost → (session : List ℕ) × (ask.now ≡ Lost session) }
+    ensures { IsKind ask.now result }
 {
     match ask {
         Ask::Lost(_) => Kind::Lost,
@@ -156,33 +152,36 @@ impl Desk for PlainDesk {
         if self.note(&event, kind).is_err() {
             return Asked::NoMemory { event };
         }
-        match (self.plan_for(kind), kind) {
-            (Plan::Spent, _) => {
-                self.spent = self.spent.saturating_add(1);
-                Asked::Spent { entries: 7, event }
-            }
-            (Plan::NoMemory, _) => Asked::NoMemory { event },
-            (_, Kind::Lost) => Asked::Done {
-                place: 0,
-                reply: Answer::Heard,
-            },
-            (Plan::Held, Kind::Poll) => {
-                self.held = self.held.saturating_add(1);
-                Asked::Held { place: 0, event }
-            }
-            (Plan::StillHeld, Kind::Poll) => Asked::Done {
-                place: 0,
-                reply: Answer::Held,
-            },
-            (Plan::Told, Kind::Poll) => Asked::Done {
-                place: 0,
-                reply: Answer::Reply(Reply::Polled(Many(Vec::new(self.alloc)))),
-            },
-            _ => Asked::Done {
-                place: 0,
-                reply: Answer::Reply(Reply::Renewed),
-            },
+        let plan = self.plan_for(kind);
+        if plan == Plan::Spent {
+            self.spent = self.spent.saturating_add(1);
+            return Asked::Spent { entries: 7, event };
         }
+        if plan == Plan::NoMemory {
+            return Asked::NoMemory { event };
+        }
+        if kind == Kind::Poll && plan == Plan::Held {
+            self.held = self.held.saturating_add(1);
+            return Asked::Held { place: 0, event };
+        }
+        let reply = answer_by(self.alloc, plan, kind, &event);
+        Asked::Done { place: 0, reply }
+    }
+}
+
+// The answer to an ask of that kind by a plan.
+fn answer_by(alloc: Global, plan: Plan, kind: Kind, event: &Event) -> Answer
+    requires { IsKind event.now.ask kind }
+    ensures { FitsAnswer event.now result }
+{
+    match kind {
+        Kind::Lost => Answer::Heard,
+        Kind::Other => Answer::Reply(Reply::Renewed),
+        Kind::Poll => match plan {
+            Plan::StillHeld => Answer::Held,
+            Plan::Told => Answer::Reply(Reply::Polled(Many(Vec::new(alloc)))),
+            _ => Answer::Reply(Reply::Renewed),
+        },
     }
 }
 

@@ -215,7 +215,7 @@ fn is_poll_at(noted: &Noted, place: u64, random: u128) -> bool {
         && noted.again == (place > 0)
         && noted.moment == 1_000_000_000 + place
         && noted.random == random
-        && noted.bytes == 199
+        && noted.bytes == 176
 }
 
 fn are_polls(noted: &[Noted], random: u128) -> bool {

@@ -1,6 +1,7 @@
 -- What comes of questions, of requests and of posts.
-use Rattle.std.proofs.Common.{◌≡◌, ◌≢◌, ℕ, List, [], ◌∷◌, ◌++◌, length, Ok, Err, inl, inr, refl, sym, ap, subst, ◌∙◌}
-use Rattle.ifmap_elem.specs.Chars.{IsCharacters}
+use Rattle.std.proofs.Common.{◌≡◌, ◌≢◌, ℕ, ◌+◌, ◌*◌, ◌≤◌, Bool, false, arith, List, [], ◌∷◌, ◌++◌, length, Ok, Err, inl, inr, refl, sym, ap, subst, ◌∙◌}
+use Rattle.ifmap_heads.specs.Limits.{longest_post}
+use Rattle.rand_chacha.specs.ChaCha.{ChaCha}
 use Rattle.ifmap_ident.specs.declared.codes.Code.{Code}
 use Rattle.ifmap_machine.specs.Events.{Event}
 use Rattle.ifmap_replies.specs.declared.replies.Reply.{Reply}
@@ -13,10 +14,10 @@ use Rattle.ifmap_dialogue.specs.declared.desks.Outcome.TheVariants as outcome
 use Rattle.ifmap_dialogue.specs.declared.findings.Finding.{Finding}
 use Rattle.ifmap_dialogue.specs.declared.findings.Finding.TheVariants as finding
 use Rattle.ifmap_dialogue.specs.declared.polls.Poll.{Poll}
-use Rattle.ifmap_dialogue.specs.Desks.{DeskSeen, Tells, Turn, outcome_of}
+use Rattle.ifmap_dialogue.specs.Desks.{DeskSeen, Tells, Turn, heaviest, outcome_of, weight}
 use Rattle.ifmap_dialogue.specs.Findings.{Asking, Finds, FindsPost, FindsQuestion, FindsRequest, Posting, posting, refusal}
 use Rattle.ifmap_dialogue.specs.Scenes.{HasFitPoll}
-use Rattle.ifmap_dialogue.specs.Turns.{Question, event_of, question_of}
+use Rattle.ifmap_dialogue.specs.Turns.{Question, event_of, lost_event, question_of}
 use Rattle.ifmap_dialogue.specs.Words.{after_random, random_word}
 use Rattle.ifmap_dialogue.proofs.Telling.{fits_one, tells_none}
 use Rattle.ifmap_dialogue.proofs.Turning.{Waits, finds_replied, finds_spent, finds_wanting, not_heard, not_held, not_told, waits_first}
@@ -93,3 +94,37 @@ told_fits fit gives p turns finding.Unreadable f = tt
 told_fits fit gives p turns (finding.HeldOut many) f = tt
 told_fits fit gives p turns (finding.Spent entries) f = tt
 told_fits fit gives p turns finding.NoMemory f = tt
+
+-- ---- weights
+
+-- an event of a post weighs at most as much as can be asked
+pub light_by : (question : Question) (again : Bool) (moment : ℕ) (event : Event) → event ≡ event_of question again moment
+    → question.bytes ≤ longest_post → weight event ≤ heaviest
+light_by question again moment event is short =
+    subst (λ (e : Event). weight e ≤ heaviest) (sym is)
+    (let short_weight : 1000 + 8 * question.bytes ≤ 80_001_000 = omega (arith, short) in short_weight)
+
+pub light_lost : (poll : Poll) (moment : ℕ) (event : Event) → event ≡ lost_event poll moment → weight event ≤ heaviest
+light_lost poll moment event is = subst (λ (e : Event). weight e ≤ heaviest) (sym is) (omega arith)
+
+-- ---- requests as they are matched
+
+-- what comes of a request comes of the same request
+pub request_is : {H : Type 0} (gives : ℕ → Type 0) (before after : DeskSeen H) (client : List ℕ) (bytes : ℕ) (one other : Request) (words now : ChaCha) (found : Finding)
+    → one ≡ other → FindsRequest gives before after (record { client = client; bytes = bytes; request = other; words = words; after = now }) found
+    → FindsRequest gives before after (record { client = client; bytes = bytes; request = one; words = words; after = now }) found
+request_is gives before after client bytes one other words now found is f =
+    subst
+    (λ (r : Request). FindsRequest gives before after (record { client = client; bytes = bytes; request = r; words = words; after = now }) found)
+    (sym is) f
+
+-- what comes of a poll comes of the request
+pub poll_request : {H : Type 0} (gives : ℕ → Type 0) (before after : DeskSeen H) (client session : List ℕ) (bytes : ℕ) (words now : ChaCha) (poll : Poll) (found : Finding)
+    → poll ≡ record { client = client; session = session; random = random_word words; bytes = bytes } → now ≡ after_random words
+    → FindsQuestion gives before after (question_of poll) found
+    → FindsRequest gives before after
+    (record { client = client; bytes = bytes; request = Polling session; words = words; after = now }) found
+poll_request gives before after client session bytes words now poll found is drawn f =
+    as_request gives before after
+    (record { client = client; bytes = bytes; request = Polling session; words = words; after = now }) found
+    (subst (λ (p : Poll). FindsQuestion gives before after (question_of p) found) is f) drawn
