@@ -39,7 +39,7 @@ pub record HasRead (before after : WireSeen) : Type 0 where
   pub held : after.held ≡ before.held
   pub writes : after.write_faults ≡ before.write_faults
 
-module _ {H : Type 0} (gives : ℕ → Type 0) (number : ℕ) (before mid after : WireSeen) (r : HasRead before mid) where
+module _ (before mid after : WireSeen) (r : HasRead before mid) where
   joined_causes : (next : Option Ending) → next ≢ Some ending.ReadFault → HasCauses mid after next → HasCauses before after next
   joined_causes next quiet c = record {
     reads = omega (arith, r.reads, c.reads);
@@ -70,11 +70,11 @@ round_posted gives number a b before mid after words now post last next r reads 
       turns = s.turns;
       output = s.output;
       tells = s.tells;
-      gains = joined_gains gives number before mid after r s.output s.gains.gained;
-      causes = joined_causes gives number before mid after r next quiet s.causes;
+      gains = joined_gains before mid after r s.output s.gains.gained;
+      causes = joined_causes before mid after r next quiet s.causes;
       round = (
         got.Posted post,
-        still_left gives number before mid after r s.output (got.Posted post) s.gains reads,
+        still_left before mid after r s.output (got.Posted post) s.gains reads,
         record {
           finding = x.finding;
           asked = x.asked;
@@ -96,13 +96,13 @@ module _ {H : Type 0} (gives : ℕ → Type 0) (number : ℕ) (desk : DeskSeen H
     turns = [];
     output = output;
     tells = tells_none desk;
-    gains = joined_gains gives number before mid after r output g.gained;
+    gains = joined_gains before mid after r output g.gained;
     causes = subst (HasCauses before after) (sym is)
-        (joined_causes gives number before mid after r (next_after the_sent (Some (ending.Refused status))) (unread the_sent)
+        (joined_causes before mid after r (next_after the_sent (Some (ending.Refused status))) (unread the_sent)
         (causes_after mid after output g the_sent (Some (ending.Refused status)) (quiet_refused status) counts));
     round = (
       got.Status status,
-      still_left gives number before mid after r output (got.Status status) g reads,
+      still_left before mid after r output (got.Status status) g reads,
       ((refl, refl), (the_sent, writes, is)),
     );
   } where
@@ -118,10 +118,10 @@ module _ {H : Type 0} (gives : ℕ → Type 0) (number : ℕ) (desk : DeskSeen H
     turns = [];
     output = output;
     tells = tells_none desk;
-    gains = joined_gains gives number before mid after r output g.gained;
-    causes = joined_causes gives number before mid after r (Some ending.NoMemory) (λ e. cc)
+    gains = joined_gains before mid after r output g.gained;
+    causes = joined_causes before mid after r (Some ending.NoMemory) (λ e. cc)
         (causes_quiet mid after output g (Some ending.NoMemory) quiet_wanting);
-    round = (got.NoMemory, still_left gives number before mid after r output got.NoMemory g reads, ((refl, refl), given, refl));
+    round = (got.NoMemory, still_left before mid after r output got.NoMemory g reads, ((refl, refl), given, refl));
   }
 
 module _ {H : Type 0} (gives : ℕ → Type 0) (number : ℕ) (desk : DeskSeen H) (words : ChaCha) (before after : WireSeen) (r : HasRead before after) where

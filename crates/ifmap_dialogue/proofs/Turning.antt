@@ -14,6 +14,7 @@ use Rattle.ifmap_requests.specs.declared.requests.Request.{Request}
 use Rattle.ifmap_requests.specs.declared.requests.Request.TheVariants.{Poll as Polling}
 use Rattle.ifmap_dialogue.specs.declared.desks.Outcome.{Outcome}
 use Rattle.ifmap_dialogue.specs.declared.desks.Outcome.TheVariants as outcome
+use Rattle.ifmap_dialogue.specs.declared.findings.Finding.{Finding}
 use Rattle.ifmap_dialogue.specs.declared.findings.Finding.TheVariants as finding
 use Rattle.ifmap_dialogue.specs.declared.polls.Poll.{Poll}
 use Rattle.ifmap_dialogue.specs.Desks.{DeskSeen, Fits, IsAsked, Tells, Turn, outcome_of}
@@ -123,9 +124,6 @@ waits_first gives desk question event first = record {
 }
 
 module _ {H : Type 0} (gives : ℕ → Type 0) (before now after : DeskSeen H) (question : Question) (many : ℕ) (event : Event) (w : Waits gives before now question many event) (turn : Turn) (asks : turn.event ≡ event) (tells : Tells now after (turn ∷ [])) where
-  abbrev turns_now : List Turn
-  turns_now = w.turns ++ turn ∷ []
-
   pub tells_now : Tells before after (w.turns ++ turn ∷ [])
   tells_now = tells_more before now after w.turns (turn ∷ []) w.tells tells
 
@@ -205,7 +203,7 @@ module _ {H : Type 0} (gives : ℕ → Type 0) (before now after : DeskSeen H) (
 
 -- a poll was answered
 module _ {H : Type 0} (gives : ℕ → Type 0) (before now after : DeskSeen H) (poll : Poll) (many : ℕ) (event : Event) (w : Waits gives before now (question_of poll) many event) (turn : Turn) (asks : turn.event ≡ event) (tells : Tells now after (turn ∷ [])) where
-  abbrev plain : (the_reply : Reply) → outcome_of turn.asked ≡ outcome.Replied the_reply → IsNotPolled the_reply
+  plain : (the_reply : Reply) → outcome_of turn.asked ≡ outcome.Replied the_reply → IsNotPolled the_reply
       → FindsQuestion gives before after (question_of poll) (finding.Replied the_reply)
   plain = finds_replied gives before now after (question_of poll) many event w turn asks tells
 
@@ -228,3 +226,9 @@ module _ {H : Type 0} (gives : ℕ → Type 0) (before now after : DeskSeen H) (
   finds_answered reply.Purged is = plain reply.Purged is (λ items e. cc)
   finds_answered (reply.Found entries) is = plain (reply.Found entries) is (λ items e. cc)
   finds_answered (reply.Error code note) is = plain (reply.Error code note) is (λ items e. cc)
+
+  -- what came of the poll, as it is told apart by the reply
+  pub finds_polled : (the_reply : Reply) (found : Finding) → found ≡ finding_of the_reply poll
+      → outcome_of turn.asked ≡ outcome.Replied the_reply → FindsQuestion gives before after (question_of poll) found
+  finds_polled the_reply found same is =
+      subst (FindsQuestion gives before after (question_of poll)) (sym same) (finds_answered the_reply is)
