@@ -13,5 +13,5 @@ returns-in-WriteFault g c =
 
 pub returns-in-NoMemory : goal.returns-in-NoMemory
 returns-in-NoMemory g c =
-    let (turn, asks, tells, heard) = c.tell_lost.ensures in
+    let (turn, asks, tells, heard) = c.tell_lost-in-NoMemory.ensures in
     (turn ∷ [], tells, lost_by_want _ c.args.poll c.args.close c.args.sent turn _ c.in-NoMemory.is asks heard)
