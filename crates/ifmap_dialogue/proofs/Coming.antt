@@ -17,7 +17,7 @@ use Rattle.ifmap_dialogue.specs.declared.polls.Poll.{Poll}
 use Rattle.ifmap_dialogue.specs.Desks.{DeskSeen, Tells, Turn, heaviest, outcome_of, weight}
 use Rattle.ifmap_dialogue.specs.Findings.{Asking, Finds, FindsPost, FindsQuestion, FindsRequest, Posting, posting, refusal}
 use Rattle.ifmap_dialogue.specs.Scenes.{HasFitPoll}
-use Rattle.ifmap_dialogue.specs.Turns.{Question, event_of, lost_event, question_of}
+use Rattle.ifmap_dialogue.specs.Turns.{IsFirst, Question, event_of, lost_event, question_of}
 use Rattle.ifmap_dialogue.specs.Words.{after_random, random_word}
 use Rattle.ifmap_dialogue.proofs.Telling.{fits_one, tells_none}
 use Rattle.ifmap_dialogue.proofs.Turning.{Waits, finds_replied, finds_spent, finds_wanting, not_heard, not_held, not_told, waits_first}
@@ -128,3 +128,13 @@ poll_request gives before after client session bytes words now poll found is dra
     as_request gives before after
     (record { client = client; bytes = bytes; request = Polling session; words = words; after = now }) found
     (subst (λ (p : Poll). FindsQuestion gives before after (question_of p) found) is f) drawn
+
+-- the first event of a poll, by copies of its parts
+pub first_is : (gives : ℕ → Type 0) (client named session copied : List ℕ) (bytes random : ℕ) (event : Event) → named ≡ client → copied ≡ session
+    → ((moment : ℕ) × gives moment
+    × (event ≡ event_of (record { client = named; request = Polling copied; bytes = bytes; random = random }) false moment))
+    → IsFirst gives (record { client = client; session = session; random = random; bytes = bytes }) event
+first_is gives client named session copied bytes random event same_client same_session (moment, given, is) =
+    (moment, given, is
+    ∙ ap (λ (c : List ℕ). event_of (record { client = c; request = Polling copied; bytes = bytes; random = random }) false moment) same_client
+    ∙ ap (λ (s : List ℕ). event_of (record { client = client; request = Polling s; bytes = bytes; random = random }) false moment) same_session)

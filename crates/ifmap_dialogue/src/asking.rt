@@ -201,9 +201,8 @@ fn begin_poll<C: Clock>(
 {
     let Asker { client, bytes } = asker;
     let named = client.copy(setting.alloc)?;
-    let request = Request::Poll {
-        session: session.copy(setting.alloc)?,
-    };
+    let copied = session.copy(setting.alloc)?;
+    let request = Request::Poll { session: copied };
     let random = draw_word(words);
     let event = first_event(setting, named, random, bytes, request);
     let poll = Poll {
