@@ -1,5 +1,5 @@
 -- What comes of questions, of requests and of posts.
-use Rattle.std.proofs.Common.{◌≡◌, ◌≢◌, ℕ, ◌+◌, ◌*◌, ◌≤◌, Bool, false, arith, List, [], ◌∷◌, ◌++◌, length, Ok, Err, inl, inr, refl, sym, ap, subst, ◌∙◌}
+use Rattle.std.proofs.Common.{◌≡◌, ◌≢◌, ◌⊎◌, ℕ, ◌+◌, ◌*◌, ◌≤◌, Bool, false, arith, List, [], ◌∷◌, ◌++◌, length, Ok, Err, inl, inr, refl, sym, ap, subst, ◌∙◌}
 use Rattle.ifmap_heads.specs.Limits.{longest_post}
 use Rattle.rand_chacha.specs.ChaCha.{ChaCha}
 use Rattle.ifmap_ident.specs.declared.codes.Code.{Code}
@@ -134,7 +134,31 @@ pub first_is : (gives : ℕ → Type 0) (client named session copied : List ℕ)
     → ((moment : ℕ) × gives moment
     × (event ≡ event_of (record { client = named; request = Polling copied; bytes = bytes; random = random }) false moment))
     → IsFirst gives (record { client = client; session = session; random = random; bytes = bytes }) event
-first_is gives client named session copied bytes random event same_client same_session (moment, given, is) =
-    (moment, given, is
-    ∙ ap (λ (c : List ℕ). event_of (record { client = c; request = Polling copied; bytes = bytes; random = random }) false moment) same_client
-    ∙ ap (λ (s : List ℕ). event_of (record { client = client; request = Polling s; bytes = bytes; random = random }) false moment) same_session)
+first_is gives client named session copied bytes random event same_client same_session (moment, given, is) = (
+  moment,
+  given,
+  is
+      ∙ ap (λ (c : List ℕ). event_of (record { client = c; request = Polling copied; bytes = bytes; random = random }) false moment) same_client
+      ∙ ap (λ (s : List ℕ). event_of (record { client = client; request = Polling s; bytes = bytes; random = random }) false moment) same_session,
+)
+
+-- ---- posts for which nothing is asked
+
+-- a body that means a code
+pub refused_post : {H : Type 0} (gives : ℕ → Type 0) (desk : DeskSeen H) (p : Posting) (code : Code) (found : Finding)
+    → Means p.body (Err (Named code)) → p.after ≡ p.words
+    → (found ≡ finding.Replied (refusal code)) ⊎ (found ≡ finding.NoMemory) → FindsPost gives desk desk p found
+refused_post gives desk p code found means same (inl is) =
+    unasked gives desk desk p found refl (subst (Finds gives p []) (sym is) (inl (code, means, (refl, same), refl)))
+refused_post gives desk p code found means same (inr is) =
+    unasked gives desk desk p found refl (subst (Finds gives p []) (sym is) (inl (refl, same)))
+
+-- a body that is no envelope
+pub unreadable_post : {H : Type 0} (gives : ℕ → Type 0) (desk : DeskSeen H) (p : Posting) → Means p.body (Err Unreadable)
+    → p.after ≡ p.words → FindsPost gives desk desk p finding.Unreadable
+unreadable_post gives desk p means same = unasked gives desk desk p finding.Unreadable refl (means, (refl, same))
+
+-- want of memory before anything is asked
+pub wanting_post : {H : Type 0} (gives : ℕ → Type 0) (desk : DeskSeen H) (p : Posting) → p.after ≡ p.words
+    → FindsPost gives desk desk p finding.NoMemory
+wanting_post gives desk p same = unasked gives desk desk p finding.NoMemory refl (inl (refl, same))

@@ -19,6 +19,7 @@ use crate::sending::{closing, give_up, next_after, send_bare, send_reply};
 use crate::settings::Setting;
 use ifmap_http::{Got, Post, Sent, Wire};
 use ifmap_io::{Clock, Link};
+use ifmap_requests::laws::bodies_mean_fit_requests;
 use rand_chacha::ChaCha20Rng;
 
 /// The most posts of a connection.
@@ -98,6 +99,7 @@ fn answer_post<K: Desk, L: Link, C: Clock, G: Gate>(
         body,
         close,
     } = post;
+    bodies_mean_fit_requests();
     let finding = consult(setting, desk, words, gate, client, &body);
     answer(setting, desk, wire, gate, finding, close)
 }
