@@ -33,14 +33,14 @@ returns-in-NoMemory g c =
     (once_wanting _ _ _ _ c.first_event-event.result first c.requires.other turn asks tells (sym is ∙ c.in-NoMemory.is))
     c.draw_word-random.ensures.after
 
-pub prove-unreachable-requires : goal.prove-unreachable-requires
-prove-unreachable-requires g c =
+pub unreachable-requires : goal.unreachable-requires
+unreachable-requires g c =
     let (turn, asks, is, tells) = c.take_turn.ensures in
     let first = rw c.draw_word-random.ensures.word at c.first_event-event.ensures in
     once_not_held _ _ _ _ c.first_event-event.result first c.requires.other turn asks tells (sym is ∙ c.in-Held.is)
 
-pub prove-unreachable-2-requires : goal.prove-unreachable-2-requires
-prove-unreachable-2-requires g c =
+pub unreachable-requires-in-Heard : goal.unreachable-requires-in-Heard
+unreachable-requires-in-Heard g c =
     let (turn, asks, is, tells) = c.take_turn.ensures in
     let first = rw c.draw_word-random.ensures.word at c.first_event-event.ensures in
     once_not_heard _ _ _ _ c.first_event-event.result first c.requires.other turn asks tells (sym is ∙ c.in-Heard.is)

@@ -1,6 +1,8 @@
-use Rattle.std.proofs.Common.{sym, ◌∙◌}
+use Rattle.std.proofs.Common.{ap, sym, ◌∙◌}
+use Rattle.ifmap_machine.specs.Events.{Event}
 use Rattle.ifmap_dialogue.proofs.Coming.{light_by}
-use Rattle.ifmap_dialogue.proofs.Turning.{finds_polled, finds_spent, finds_unasked, finds_wanting, waits_first, waits_more}
+use Rattle.ifmap_dialogue.proofs.Turning.{finds_polled, finds_spent, finds_unasked, finds_wanting, not_heard, waits_first, waits_more}
+use Rattle.ifmap_dialogue.proofs.Telling.{fits_one}
 use Rattle.ifmap_dialogue.proofs.asking.await_reply.Goals as goal
 
 pub turns-init : goal.turns-init
@@ -26,3 +28,9 @@ pub returns-in-NoMemory : goal.returns-in-NoMemory
 returns-in-NoMemory g c =
     let (turn, asks, is, tells) = c.take_turn.ensures in
     finds_wanting _ _ _ _ _ c.turns.turns c.turns.event c.turns.invariant turn asks tells (sym is ∙ c.in-NoMemory.is)
+
+pub unreachable-requires : goal.unreachable-requires
+unreachable-requires g c =
+    let (turn, asks, is, tells) = c.take_turn.ensures in
+    let (moment, given, same) = c.turns.invariant.due in
+    not_heard turn.event _ turn.asked (ap (λ (e : Event). e.ask) (asks ∙ same)) (fits_one _ _ turn tells) (sym is ∙ c.in-Heard.is)
