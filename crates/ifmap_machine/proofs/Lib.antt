@@ -4,3 +4,4 @@ pub mod Folding
 pub mod Ids
 pub mod Agreeing
 pub mod Histories
+pub mod Lives

@@ -6,4 +6,5 @@ pub mod Ending
 pub mod Subscribing
 pub mod Step
 pub mod Legal
+pub mod Lives
 pub mod Agreeing
