@@ -122,7 +122,7 @@ told_named before after notes x =
           (where_named x.name (the_item.Notify x.name) (λ entries. own) (told_notes after x.search notes))))
     ]
 
-difference_none : (a : List Entry) → difference a [] ≡ a
+pub difference_none : (a : List Entry) → difference a [] ≡ a
 difference_none [] = refl
 difference_none (e ∷ a) = ap (λ rest. e ∷ rest) (difference_none a)
 

@@ -30,7 +30,9 @@ use Rattle.ifmap_meta.specs.ClientNames.{IsClientName}
 use Rattle.ifmap_plans.specs.declared.plans.Note.{Note}
 use Rattle.ifmap_publish.specs.Apply.{Authorship, apply}
 use Rattle.ifmap_publish.specs.Notes.{notes_of}
-use Rattle.ifmap_publish.specs.Retract.{retract_publisher, retract_sessions}
+use Rattle.ifmap_publish.specs.declared.who.Who.{Who}
+use Rattle.ifmap_publish.specs.declared.who.Who.TheVariants.{Sessions, Publisher}
+use Rattle.ifmap_publish.specs.Retract.{retract}
 use Rattle.ifmap_requests.specs.declared.publishing.PublishOp.{PublishOp}
 use Rattle.ifmap_requests.specs.declared.requests.Request.TheVariants as the_request
 use Rattle.ifmap_requests.specs.declared.requests.SubscribeOp.{SubscribeOp}
@@ -118,11 +120,10 @@ told_empties id client state false o there told = in_session_empties id client s
 
 -- ---- what holds of every state
 
-module _ (Good : List Attachment → Type 0) (good_none : Good []) (good_retracted : (serials : List ℕ) (rows : List Attachment) → Good rows
-    → Good (retract_sessions serials rows)) (good_purged : (publisher : List ℕ) (rows : List Attachment) → Good rows
-    → Good (retract_publisher publisher rows)) (good_applied : (rows : List Attachment) (by : Authorship) (ops : List PublishOp)
-    → IsClientName by.client → AllByRecursion IsFitOp ops → Good rows → Good (apply rows by ops)) (folds : (before after : List Attachment)
-    (s : Search) → Good before → Good after → Folds before after s) (begins : (rows : List Attachment) (s : Search) → Good rows
+module _ (Good : List Attachment → Type 0) (good_none : Good []) (good_retracted : (who : Who) (rows : List Attachment) → Good rows
+    → Good (retract who rows)) (good_applied : (rows : List Attachment) (by : Authorship) (ops : List PublishOp) → IsClientName by.client
+    → AllByRecursion IsFitOp ops → Good rows → Good (apply rows by ops)) (folds : (before after : List Attachment) (s : Search)
+    → Good before → Good after → Folds before after s) (begins : (rows : List Attachment) (s : Search) → Good rows
     → with_entries (fresh rows s) [] ≡ fresh rows s) where
   record Holds (done : List ℕ → Sets) (state : State) : Type 0 where
     tabled : IsTabled state
@@ -136,8 +137,8 @@ module _ (Good : List Attachment → Type 0) (good_none : Good []) (good_retract
   ended_follows [] done state stood good w = (good, w)
   ended_follows (serial ∷ serials) done state stood good w =
       let left : State = drop_sessions (serial ∷ serials) state in
-      let after : List Attachment = retract_sessions (serial ∷ serials) state.graph in
-      let good_after = good_retracted (serial ∷ serials) state.graph good in
+      let after : List Attachment = retract (Sessions (serial ∷ serials)) state.graph in
+      let good_after = good_retracted (Sessions (serial ∷ serials)) state.graph good in
       (
         good_after,
         overflow_follows done (tell after [] left) (tell_follows after [] done left
@@ -255,8 +256,8 @@ module _ (Good : List Attachment → Type 0) (good_none : Good []) (good_retract
       in_session_follows done state event.client (purge state publisher) (session_with_id id state.sessions)
       (λ s found own. elim (cases_Bool (is_text publisher s.client)) [
         | inl hit ↦
-            let good_after = good_purged publisher state.graph good in
-            rw hit (good_after, changed_follows s.serial (retract_publisher publisher state.graph) [] done state stood good good_after w)
+            let good_after = good_retracted (Publisher publisher) state.graph good in
+            rw hit (good_after, changed_follows s.serial (retract (Publisher publisher) state.graph) [] done state stood good good_after w)
         | inr miss ↦ rw miss (good, w)
       ]) good w
 

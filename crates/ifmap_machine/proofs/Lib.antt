@@ -5,3 +5,4 @@ pub mod Ids
 pub mod Agreeing
 pub mod Histories
 pub mod Lives
+pub mod Goods

@@ -28,7 +28,8 @@ use Rattle.ifmap_plans.specs.declared.plans.Note.{Note}
 use Rattle.ifmap_plans.specs.Placing.{put}
 use Rattle.ifmap_publish.specs.Apply.{Authorship, apply, apply_op, attach, attachment_of, delete, life_of, update}
 use Rattle.ifmap_publish.specs.Notes.{notes_of}
-use Rattle.ifmap_publish.specs.Retract.{ends_with, retract_publisher, retract_sessions}
+use Rattle.ifmap_publish.specs.declared.who.Who.TheVariants.{Sessions, Publisher}
+use Rattle.ifmap_publish.specs.Retract.{ends_with, retract}
 use Rattle.ifmap_requests.specs.declared.publishing.PublishOp.{PublishOp}
 use Rattle.ifmap_requests.specs.declared.publishing.PublishOp.TheVariants.{Update, Notify, Delete}
 use Rattle.ifmap_requests.specs.declared.requests.Request.TheVariants as the_request
@@ -100,7 +101,7 @@ lives_filter p sessions rows w = all_filter (λ (a : Attachment). IsLifeFor sess
 
 -- what is left where sessions end
 lives_left : (serials : List ℕ) (sessions : List Session) (rows : List Attachment) → Live sessions rows
-    → Live (without_sessions serials sessions) (retract_sessions serials rows)
+    → Live (without_sessions serials sessions) (retract (Sessions serials) rows)
 lives_left serials sessions [] w = tt
 lives_left serials sessions (a ∷ rows) w =
     elim (cases_Bool (ends_with serials a.stored.life)) [
@@ -178,7 +179,7 @@ pub ended_lives : (serials : List ℕ) (state : State) → AllLive state → All
 ended_lives [] state w = w
 ended_lives (serial ∷ serials) state w =
     overflow_lives (end_sessions (serial ∷ serials) state)
-    (tell_lives (retract_sessions (serial ∷ serials) state.graph) [] (drop_sessions (serial ∷ serials) state)
+    (tell_lives (retract (Sessions (serial ∷ serials)) state.graph) [] (drop_sessions (serial ∷ serials) state)
     (lives_left (serial ∷ serials) state.sessions state.graph w))
 
 former_lives : (o : Option Session) (state : State) → AllLive state → AllLive (end_former o state)
@@ -265,7 +266,7 @@ step_lives state event (Request (the_request.Poll id)) tabled w =
 step_lives state event (Request (the_request.PurgePublisher id publisher)) tabled w =
     in_session_lives state event.client (purge state publisher) (session_with_id id state.sessions)
     (λ s e. elim (cases_Bool (is_text publisher s.client)) [
-      | inl hit ↦ rw hit (changed_lives s.serial (retract_publisher publisher state.graph) [] state
+      | inl hit ↦ rw hit (changed_lives s.serial (retract (Publisher publisher) state.graph) [] state
           (lives_filter _ state.sessions state.graph w))
       | inr miss ↦ rw miss w
     ]) w

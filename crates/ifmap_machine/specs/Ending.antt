@@ -3,7 +3,8 @@ use Rattle.std.specs.Prelude.{ℕ, ◌==◌, List, [], ◌∷◌, filter, not, O
 use Rattle.std.specs.List.{list_any}
 use Rattle.ifmap_machine.specs.State.{Standing, State}
 use Rattle.ifmap_machine.specs.Telling.{overflow, tell}
-use Rattle.ifmap_publish.specs.Retract.{retract_sessions}
+use Rattle.ifmap_publish.specs.declared.who.Who.TheVariants.{Sessions}
+use Rattle.ifmap_publish.specs.Retract.{retract}
 use Rattle.ifmap_session.specs.Sessions.{Session, expired_serials, without_sessions}
 
 -- the subscriptions without those of these sessions
@@ -19,7 +20,7 @@ drop_sessions serials state = record state {
 
 -- and then without what was to stay as long as they, which the other sessions are told
 abbrev pub end_sessions : List ℕ → State → State
-end_sessions serials state = tell (retract_sessions serials state.graph) [] (drop_sessions serials state)
+end_sessions serials state = tell (retract (Sessions serials) state.graph) [] (drop_sessions serials state)
 
 -- the same, where some end, with queues within their limits
 abbrev pub end_some : List ℕ → State → State

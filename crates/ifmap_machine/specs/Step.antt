@@ -15,7 +15,8 @@ use Rattle.ifmap_machine.specs.Subscribing.{Told, subscribe_ops}
 use Rattle.ifmap_machine.specs.Telling.{is_too_big, limit_note, overflow, tell}
 use Rattle.ifmap_publish.specs.Apply.{Authorship, apply}
 use Rattle.ifmap_publish.specs.Notes.{notes_of}
-use Rattle.ifmap_publish.specs.Retract.{retract_publisher}
+use Rattle.ifmap_publish.specs.declared.who.Who.TheVariants.{Publisher}
+use Rattle.ifmap_publish.specs.Retract.{retract}
 use Rattle.ifmap_replies.specs.declared.replies.Reply.TheVariants as the_reply
 use Rattle.ifmap_requests.specs.declared.publishing.PublishOp.{PublishOp}
 use Rattle.ifmap_requests.specs.declared.requests.Request.TheVariants as the_request
@@ -89,7 +90,7 @@ publish state ops s =
 abbrev pub purge : State → List ℕ → Session → State × Answer
 purge state publisher s =
     if is_text publisher s.client
-    then (renew s.serial (overflow (tell (retract_publisher publisher state.graph) [] state)), the_answer.Reply the_reply.Purged)
+    then (renew s.serial (overflow (tell (retract (Publisher publisher) state.graph) [] state)), the_answer.Reply the_reply.Purged)
     else (state, refusal AccessDenied)
 
 -- the client searches in a session of its own: refused where too much is found

@@ -1,15 +1,23 @@
--- What a publish notifies.
-use Rattle.std.specs.Prelude.{ℕ, List, [], ◌∷◌, flat_map, map}
+-- What a publish notifies: the elements of its notify operations, in their order, with their author's stamps.
+use Rattle.std.specs.Prelude.{List, [], map, flat_map}
+use Rattle.ifmap_ident.specs.declared.items.Item.{Item}
+use Rattle.ifmap_meta.specs.declared.metadata.Metadata.{Metadata}
 use Rattle.ifmap_meta.specs.Stamps.{stamp}
 use Rattle.ifmap_plans.specs.declared.plans.Note.{Note}
-use Rattle.ifmap_publish.specs.Apply.{Authorship}
 use Rattle.ifmap_requests.specs.declared.publishing.PublishOp.{PublishOp}
 use Rattle.ifmap_requests.specs.declared.publishing.PublishOp.TheVariants.{Update, Notify, Delete}
+use Rattle.ifmap_publish.specs.Apply.{Authorship}
 
+-- one element on an item
+abbrev pub note_of : Authorship → Item → Metadata → Note
+note_of by item m = record { item = item; element = stamp by.client by.moment m.element }
+
+-- the elements of one operation
 abbrev pub notes_of_op : Authorship → PublishOp → List Note
+notes_of_op by (Notify item elements) = map (note_of by item) elements
 notes_of_op by (Update item elements forever) = []
-notes_of_op by (Notify item elements) = map (λ m. record { item = item; element = stamp by.client by.moment m.element }) elements
-notes_of_op by (Delete item chosen) = []
+notes_of_op by (Delete item f) = []
 
+-- all of them
 abbrev pub notes_of : Authorship → List PublishOp → List Note
 notes_of by ops = flat_map (notes_of_op by) ops

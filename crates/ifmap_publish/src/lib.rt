@@ -1,2 +1,6 @@
 //! Stub.
 #![tactic(auto)]
+
+pub mod who;
+
+pub use who::Who;

@@ -1,0 +1,136 @@
+-- Graphs whose attachments are whole, and the results of searches in them.
+-- Entries of such graphs are told apart by bytes (`entries_told`), results rise (`fresh_rises`), and so one result and what went and
+-- came make the next (`results_fold`, `results_begin`). What the crates below state of bytes and differences comes in as premises.
+use Rattle.std.proofs.Common.{◌≡◌, refl, sym, ◌∙◌, ap, subst, ℕ, ◌&&◌, Bool, true, false, not, List, [], ◌∷◌, map, Some, ◌↔◌}
+use Rattle.std.proofs.lemmas.Bool.{and_parts, cases_Bool}
+use Rattle.std.proofs.lemmas.List.Kept.{IsStrictlySortedBy-filter}
+use Rattle.std.specs.List.{AllByRecursion, filter}
+use Rattle.std.specs.List.Sorted.{IsStrictlySortedBy}
+use Rattle.std.specs.Str.{bytes_eq}
+use Rattle.std.specs.declared.cmp.Ordering.TheVariants.{Less}
+use Rattle.ifmap_delta.specs.Differences.{difference, entry_bytes, entry_order, same_entry}
+use Rattle.ifmap_delta.specs.Folds.{Sets, fold_items, with_entries}
+use Rattle.ifmap_elem.specs.Arranged.{IsSame}
+use Rattle.ifmap_elem.specs.Canonical.{canonical_bytes}
+use Rattle.ifmap_elem.specs.declared.elements.Element.{Element}
+use Rattle.ifmap_elem.specs.Fit.{IsFit}
+use Rattle.ifmap_fresh.specs.Fresh.{fresh, is_found}
+use Rattle.ifmap_ident.specs.Canon.{IsIdentifier}
+use Rattle.ifmap_ident.specs.declared.identifiers.Identifier.{Identifier}
+use Rattle.ifmap_ident.specs.declared.items.Item.{Item}
+use Rattle.ifmap_ident.specs.declared.items.Item.TheVariants.{One, Pair}
+use Rattle.ifmap_ident.specs.Identifiers.{identifier_bytes, same_identifier}
+use Rattle.ifmap_ident.specs.Items.{IsCanonItem, same_item}
+use Rattle.ifmap_lemmas.specs.Filters.{all_weaker}
+use Rattle.ifmap_lemmas.specs.Having.{Has, filter_has, map_has}
+use Rattle.ifmap_lemmas.specs.Members.{map_of_all}
+use Rattle.ifmap_machine.proofs.Folding.{Folds, difference_none}
+use Rattle.ifmap_machine.proofs.Ids.{all_has}
+use Rattle.ifmap_meta.specs.Whole.{IsWhole}
+use Rattle.ifmap_search.specs.declared.results.Entry.{Entry}
+use Rattle.ifmap_search.specs.declared.results.PollItem.TheVariants.{Delete, Update}
+use Rattle.ifmap_search.specs.declared.searches.Search.{Search}
+use Rattle.ifmap_session.specs.laws.TextLaws.{text_is}
+use Rattle.ifmap_view.specs.declared.attachments.Attachment.{Attachment}
+use Rattle.ifmap_view.specs.Attachments.{IsGraph, attachment_order, stored_bytes}
+
+-- a graph whose attachments are whole
+pub record IsWholeGraph (rows : List Attachment) : Type 0 where
+  pub graph : IsGraph rows
+  pub whole : AllByRecursion (λ (a : Attachment). IsWhole a.stored) rows
+
+abbrev entry_of : Attachment → Entry
+entry_of r = record { item = r.item; element = r.stored.element }
+
+-- ---- results rise
+
+entries_order : (a b : Attachment) → attachment_order a b ≡ entry_order (entry_of a) (entry_of b)
+unfolding stored_bytes entry_bytes
+entries_order a b = refl
+
+mapped_rising : (rows : List Attachment) → IsStrictlySortedBy attachment_order rows → IsStrictlySortedBy entry_order (map entry_of rows)
+unfolding IsStrictlySortedBy
+mapped_rising [] up = tt
+mapped_rising (a ∷ rows) up = (
+  map_of_all (λ e. entry_order (entry_of a) e ≡ Less) entry_of rows (all_weaker (λ b. attachment_order a b ≡ Less)
+      (λ b. entry_order (entry_of a) (entry_of b) ≡ Less) (λ b l. sym (entries_order a b) ∙ l) rows up.0),
+  mapped_rising rows up.1,
+)
+
+pub fresh_rises : (rows : List Attachment) (s : Search) → IsGraph rows → IsStrictlySortedBy entry_order (fresh rows s)
+fresh_rises rows s g = mapped_rising (filter (is_found rows s) rows)
+    (IsStrictlySortedBy-filter attachment_order (is_found rows s) rows g.rising)
+
+empty_rises : IsStrictlySortedBy entry_order []
+unfolding IsStrictlySortedBy
+empty_rises = tt
+
+-- ---- entries are told apart by bytes
+
+module _ (tell_ids : (one other : Identifier) → IsIdentifier one → IsIdentifier other → identifier_bytes one ≡ identifier_bytes other
+    → one ≡ other) (tell_elements : (one other : Element) → IsFit one → IsFit other
+    → ((canonical_bytes one ≡ canonical_bytes other) ↔ IsSame one other)) where
+  ids_told : (a b : Identifier) → IsIdentifier a → IsIdentifier b → same_identifier a b ≡ true → a ≡ b
+  ids_told a b ca cb same = tell_ids a b ca cb (text_is (identifier_bytes a) (identifier_bytes b) same)
+
+  items_told : (x y : Item) → IsCanonItem x → IsCanonItem y → same_item x y ≡ true → x ≡ y
+  items_told (One a) (One b) cx cy same =
+      ap (λ i. One i) (ids_told a b cx.identifiers.0 cy.identifiers.0 (and_parts _ _ same).0)
+  items_told (Pair a b) (Pair c d) cx cy same =
+      let parts = and_parts _ _ same in
+      let first = ids_told a c cx.identifiers.0 cy.identifiers.0 parts.0 in
+      let second = ids_told b d cx.identifiers.1.0 cy.identifiers.1.0 (and_parts _ _ parts.1).0 in
+      ap (λ i. Pair i b) first ∙ ap (λ i. Pair c i) second
+  items_told (One a) (Pair c d) cx cy same = let bad : false ≡ true = (and_parts _ _ same).1 in cc
+  items_told (Pair a b) (One c) cx cy same = let bad : false ≡ true = (and_parts _ _ same).1 in cc
+
+  elements_told : (one other : Element) → IsFit one → IsFit other → canonical_bytes one ≡ canonical_bytes other → IsSame one other
+  elements_told one other f g same = (tell_elements one other f g).0 same
+
+  attachments_told : (a b : Attachment) → IsCanonItem a.item → IsCanonItem b.item → IsWhole a.stored → IsWhole b.stored
+      → same_entry (entry_of a) (entry_of b) ≡ true → entry_of a ≡ entry_of b
+  unfolding entry_bytes
+  attachments_told a b ca cb wa wb same =
+      let parts = and_parts _ _ same in
+      let items = items_told a.item b.item ca cb parts.0 in
+      let bytes : canonical_bytes a.stored.element ≡ canonical_bytes b.stored.element =
+          text_is (canonical_bytes a.stored.element) (canonical_bytes b.stored.element) parts.1 in
+      let arranged = elements_told a.stored.element b.stored.element wa.sent.fit wb.sent.fit bytes in
+      let elements : a.stored.element ≡ b.stored.element = sym wa.sent.arranged ∙ arranged ∙ wb.sent.arranged in
+      ap (λ i. record { item = i; element = a.stored.element }) items ∙ ap (λ e. record { item = b.item; element = e }) elements
+
+  pub entries_told : (before after : List Attachment) (s : Search) → IsWholeGraph before → IsWholeGraph after → (x y : Entry)
+      → Has (fresh before s) x → Has (fresh after s) y → same_entry x y ≡ true → x ≡ y
+  entries_told before after s g k x y hx hy same =
+      let a = map_has entry_of (filter (is_found before s) before) x hx in
+      let b = map_has entry_of (filter (is_found after s) after) y hy in
+      let has_a = (filter_has (is_found before s) before a.0 a.1).0 in
+      let has_b = (filter_has (is_found after s) after b.0 b.1).0 in
+      let told = attachments_told a.0 b.0 (all_has (λ (r : Attachment). IsCanonItem r.item) before a.0 g.graph.items has_a)
+          (all_has (λ (r : Attachment). IsCanonItem r.item) after b.0 k.graph.items has_b)
+          (all_has (λ (r : Attachment). IsWhole r.stored) before a.0 g.whole has_a)
+          (all_has (λ (r : Attachment). IsWhole r.stored) after b.0 k.whole has_b)
+          (subst (λ e. same_entry e (entry_of b.0) ≡ true) (sym a.2) (subst (λ e. same_entry x e ≡ true) (sym b.2) same)) in
+      sym a.2 ∙ told ∙ b.2
+
+  -- ---- results fold
+
+  module _ (next : (sets : Sets) (name : List ℕ) (a b : List Entry) → sets name ≡ Some a
+      → ((x y : Entry) → Has a x → Has b y → same_entry x y ≡ true → x ≡ y) → IsStrictlySortedBy entry_order a
+      → IsStrictlySortedBy entry_order b
+      → fold_items (Delete name (difference a b) ∷ (Update name (difference b a) ∷ [])) sets name ≡ Some b) where
+    folded : (a b : List Entry) → ((x y : Entry) → Has a x → Has b y → same_entry x y ≡ true → x ≡ y)
+        → IsStrictlySortedBy entry_order a → IsStrictlySortedBy entry_order b
+        → with_entries (difference b a) (difference a (difference a b)) ≡ b
+    folded a b told up next_up =
+        let made : Some (with_entries (difference b a) (difference a (difference a b))) ≡ Some b = next (λ _. Some a) [] a b refl told up next_up in
+        cc made
+
+    pub results_fold : (before after : List Attachment) (s : Search) → IsWholeGraph before → IsWholeGraph after → Folds before after s
+    results_fold before after s g k =
+        folded (fresh before s) (fresh after s) (entries_told before after s g k) (fresh_rises before s g.graph) (fresh_rises after s k.graph)
+
+    pub results_begin : (rows : List Attachment) (s : Search) → IsWholeGraph rows → with_entries (fresh rows s) [] ≡ fresh rows s
+    results_begin rows s g =
+        ap (λ entries. with_entries entries []) (sym (difference_none (fresh rows s)))
+        ∙ folded [] (fresh rows s) (λ x y hx. absurd hx) empty_rises (fresh_rises rows s g.graph)
