@@ -1,2 +1,4 @@
 //! Stub.
 #![tactic(auto)]
+
+pub mod laws;

@@ -94,13 +94,13 @@ tell_follows after notes done state folds stood w = record {
       let there = w.folded u x from.1 kept.0 own in
       let mine : List Standing = standing_in u.serial state.standing in
       let up : IsStrictlySortedBy standing_order mine =
-          IsStrictlySortedBy-filter standing_order (λ (y : Standing). y.serial == u.serial) state.standing stood.rising in
+      IsStrictlySortedBy-filter standing_order (λ (y : Standing). y.serial == u.serial) state.standing stood.rising in
       let are : AreOf u.serial mine =
-          all_weaker (λ (y : Standing). (y.serial == u.serial) ≡ true) (λ (y : Standing). y.serial ≡ u.serial)
-          (λ y e. numbers_same y.serial u.serial e) mine (filter_passes (λ (y : Standing). y.serial == u.serial) state.standing) in
+      all_weaker (λ (y : Standing). (y.serial == u.serial) ≡ true) (λ (y : Standing). y.serial ≡ u.serial)
+      (λ y e. numbers_same y.serial u.serial e) mine (filter_passes (λ (y : Standing). y.serial == u.serial) state.standing) in
       let has : Has mine x = has_filter (λ (y : Standing). y.serial == u.serial) state.standing x kept.0 (eq-eqb x.serial u.serial own) in
       let told = told_all state.graph after notes u.serial mine x (fold_items u.queue (done u.id)) up are has (folds x.search)
-          (not-true (is_too_big after x.search) kept.1) there in
+      (not-true (is_too_big after x.search) kept.1) there in
       subst (λ (t : Session). fold_items t.queue (done t.id) x.name ≡ Some (fresh after x.search)) from.2
       (ap (λ g. g x.name) (fold_joined u.queue (told_in state.graph after notes state.standing u.serial) (done u.id)) ∙ told);
   below = λ x hx. w.below x (filter_has (λ y. not (is_too_big after y.search)) state.standing x hx).0;
@@ -276,7 +276,7 @@ told_follows done state q s t tabled found tells w = record {
             let mine : record u { queue = t.queue } ≡ one = sym is ∙ from.2 in
             let found_one : u ≡ s = is_found state q s u tabled found from.1 hit in
             let serials : x.serial ≡ s.serial =
-                same ∙ ap (λ (y : Session). y.serial) (sym mine) ∙ ap (λ (y : Session). y.serial) found_one in
+            same ∙ ap (λ (y : Session). y.serial) (sym mine) ∙ ap (λ (y : Session). y.serial) found_one in
             subst (λ (y : Session). fold_items y.queue (done y.id) x.name ≡ Some (fresh state.graph x.search)) mine
             (subst (λ (y : Session). fold_items t.queue (done y.id) x.name ≡ Some (fresh state.graph x.search)) (sym found_one)
             (tells.mine x hx serials))
@@ -335,11 +335,11 @@ polled_follows done state own s items tabled found queue w =
                 let mine : record u { queue = [] } ≡ one = sym is ∙ from.2 in
                 let found_one : u ≡ s = one_of_serial state.sessions u s tabled.rising from.1 there.0 (numbers_same u.serial s.serial hit) in
                 let serials : x.serial ≡ s.serial =
-                    same ∙ ap (λ (y : Session). y.serial) (sym mine) ∙ ap (λ (y : Session). y.serial) found_one in
+                same ∙ ap (λ (y : Session). y.serial) (sym mine) ∙ ap (λ (y : Session). y.serial) found_one in
                 let named : is_text own s.id ≡ true = text_same own s.id (sym own_is) in
                 let told : fold_items items (done s.id) x.name ≡ Some (fresh state.graph x.search) =
-                    subst (λ q. fold_items q (done s.id) x.name ≡ Some (fresh state.graph x.search)) queue
-                    (w.folded s x there.0 hx serials) in
+                subst (λ q. fold_items q (done s.id) x.name ≡ Some (fresh state.graph x.search)) queue
+                (w.folded s x there.0 hx serials) in
                 subst (λ (y : Session). fold_items y.queue (polled_more own items done y.id) x.name ≡ Some (fresh state.graph x.search)) mine
                 (subst (λ (y : Session). polled_more own items done y.id x.name ≡ Some (fresh state.graph x.search)) (sym found_one)
                 (rw named told))

@@ -226,15 +226,15 @@ told_all before after notes serial [] x sets up are h folds fits is = absurd h
 told_all before after notes serial (y ∷ xs) x sets up are (inl e) folds fits is =
     let told = told_own before after notes x sets folds fits is in
     let same : fold_items (told_to before after notes y) sets x.name ≡ Some (fresh after x.search) =
-        subst (λ z. fold_items (told_to before after notes z) sets x.name ≡ Some (fresh after x.search)) (sym e) told in
+    subst (λ z. fold_items (told_to before after notes z) sets x.name ≡ Some (fresh after x.search)) (sym e) told in
     let apart : AllByRecursion (λ (z : Standing). is_text z.name x.name ≡ false) xs =
-        subst (λ (w : Standing). AllByRecursion (λ (z : Standing). is_text z.name w.name ≡ false) xs) e
-        (others_named serial y xs are.0 are.1 up.0) in
+    subst (λ (w : Standing). AllByRecursion (λ (z : Standing). is_text z.name w.name ≡ false) xs) e
+    (others_named serial y xs are.0 are.1 up.0) in
     ap (λ f. f x.name) (fold_joined (told_to before after notes y) (flat_map (told_to before after notes) xs) sets)
     ∙ told_others before after notes xs (fold_items (told_to before after notes y) sets) x.name apart ∙ same
 told_all before after notes serial (y ∷ xs) x sets up are (inr h) folds fits is =
     let other : is_text y.name x.name ≡ false =
-        names_apart y x (are.0 ∙ sym (of_all serial x xs are.1 h)) (less_all y x xs up.0 h) in
+    names_apart y x (are.0 ∙ sym (of_all serial x xs are.1 h)) (less_all y x xs up.0 h) in
     ap (λ f. f x.name) (fold_joined (told_to before after notes y) (flat_map (told_to before after notes) xs) sets)
     ∙ told_all before after notes serial xs x (fold_items (told_to before after notes y) sets) up.1 are.1 h folds fits
     (others_stay (told_to before after notes y) sets y.name x.name (told_named before after notes y) other ∙ is)

@@ -4,7 +4,7 @@
 use Rattle.std.proofs.Common.{◌≡◌, refl, sym, ◌∙◌, ap, subst, ℕ, ◌&&◌, Bool, true, false, not, List, [], ◌∷◌, map, Some, ◌↔◌}
 use Rattle.std.proofs.lemmas.Bool.{and_parts, cases_Bool}
 use Rattle.std.proofs.lemmas.List.Kept.{IsStrictlySortedBy-filter}
-use Rattle.std.specs.List.{AllByRecursion, filter}
+use Rattle.std.specs.List.{AllByRecursion, IsDistinct, filter}
 use Rattle.std.specs.List.Sorted.{IsStrictlySortedBy}
 use Rattle.std.specs.Str.{bytes_eq}
 use Rattle.std.specs.declared.cmp.Ordering.TheVariants.{Less}
@@ -27,6 +27,7 @@ use Rattle.ifmap_lemmas.specs.Members.{map_of_all}
 use Rattle.ifmap_machine.proofs.Folding.{Folds, difference_none}
 use Rattle.ifmap_machine.proofs.Ids.{all_has}
 use Rattle.ifmap_meta.specs.Whole.{IsWhole}
+use Rattle.ifmap_plans.specs.Plans.{AreWhole}
 use Rattle.ifmap_search.specs.declared.results.Entry.{Entry}
 use Rattle.ifmap_search.specs.declared.results.PollItem.TheVariants.{Delete, Update}
 use Rattle.ifmap_search.specs.declared.searches.Search.{Search}
@@ -37,7 +38,11 @@ use Rattle.ifmap_view.specs.Attachments.{IsGraph, attachment_order, stored_bytes
 -- a graph whose attachments are whole
 pub record IsWholeGraph (rows : List Attachment) : Type 0 where
   pub graph : IsGraph rows
-  pub whole : AllByRecursion (λ (a : Attachment). IsWhole a.stored) rows
+  pub whole : AreWhole rows
+
+pub graph_none : IsGraph []
+unfolding IsStrictlySortedBy IsDistinct
+graph_none = record { items = tt; rising = tt; keys = tt }
 
 abbrev entry_of : Attachment → Entry
 entry_of r = record { item = r.item; element = r.stored.element }
@@ -81,8 +86,8 @@ module _ (tell_ids : (one other : Identifier) → IsIdentifier one → IsIdentif
       let first = ids_told a c cx.identifiers.0 cy.identifiers.0 parts.0 in
       let second = ids_told b d cx.identifiers.1.0 cy.identifiers.1.0 (and_parts _ _ parts.1).0 in
       ap (λ i. Pair i b) first ∙ ap (λ i. Pair c i) second
-  items_told (One a) (Pair c d) cx cy same = let bad : false ≡ true = (and_parts _ _ same).1 in cc
-  items_told (Pair a b) (One c) cx cy same = let bad : false ≡ true = (and_parts _ _ same).1 in cc
+  items_told (One a) (Pair c d) cx cy same = let bad : false ≡ true = (and_parts (same_identifier a c) false same).1 in cc
+  items_told (Pair a b) (One c) cx cy same = let bad : false ≡ true = (and_parts (same_identifier a c) false same).1 in cc
 
   elements_told : (one other : Element) → IsFit one → IsFit other → canonical_bytes one ≡ canonical_bytes other → IsSame one other
   elements_told one other f g same = (tell_elements one other f g).0 same
@@ -94,7 +99,7 @@ module _ (tell_ids : (one other : Identifier) → IsIdentifier one → IsIdentif
       let parts = and_parts _ _ same in
       let items = items_told a.item b.item ca cb parts.0 in
       let bytes : canonical_bytes a.stored.element ≡ canonical_bytes b.stored.element =
-          text_is (canonical_bytes a.stored.element) (canonical_bytes b.stored.element) parts.1 in
+      text_is (canonical_bytes a.stored.element) (canonical_bytes b.stored.element) parts.1 in
       let arranged = elements_told a.stored.element b.stored.element wa.sent.fit wb.sent.fit bytes in
       let elements : a.stored.element ≡ b.stored.element = sym wa.sent.arranged ∙ arranged ∙ wb.sent.arranged in
       ap (λ i. record { item = i; element = a.stored.element }) items ∙ ap (λ e. record { item = b.item; element = e }) elements
@@ -107,10 +112,10 @@ module _ (tell_ids : (one other : Identifier) → IsIdentifier one → IsIdentif
       let has_a = (filter_has (is_found before s) before a.0 a.1).0 in
       let has_b = (filter_has (is_found after s) after b.0 b.1).0 in
       let told = attachments_told a.0 b.0 (all_has (λ (r : Attachment). IsCanonItem r.item) before a.0 g.graph.items has_a)
-          (all_has (λ (r : Attachment). IsCanonItem r.item) after b.0 k.graph.items has_b)
-          (all_has (λ (r : Attachment). IsWhole r.stored) before a.0 g.whole has_a)
-          (all_has (λ (r : Attachment). IsWhole r.stored) after b.0 k.whole has_b)
-          (subst (λ e. same_entry e (entry_of b.0) ≡ true) (sym a.2) (subst (λ e. same_entry x e ≡ true) (sym b.2) same)) in
+      (all_has (λ (r : Attachment). IsCanonItem r.item) after b.0 k.graph.items has_b)
+      (all_has (λ (r : Attachment). IsWhole r.stored) before a.0 g.whole has_a)
+      (all_has (λ (r : Attachment). IsWhole r.stored) after b.0 k.whole has_b)
+      (subst (λ e. same_entry e (entry_of b.0) ≡ true) (sym a.2) (subst (λ e. same_entry x e ≡ true) (sym b.2) same)) in
       sym a.2 ∙ told ∙ b.2
 
   -- ---- results fold

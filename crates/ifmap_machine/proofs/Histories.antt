@@ -75,7 +75,7 @@ renewed_empty id false n state h s found =
     at (Some u) there e =
         let is : cond (u.serial == n) (renewed state.moment u) u ≡ s = cc e in
         let queue : (cond (u.serial == n) (renewed state.moment u) u).queue ≡ u.queue =
-            elim (cases_Bool (u.serial == n)) [ inl k ↦ rw k refl | inr k ↦ rw k refl ] in
+        elim (cases_Bool (u.serial == n)) [ inl k ↦ rw k refl | inr k ↦ rw k refl ] in
         ap (λ (y : Session). y.queue) (sym is) ∙ queue ∙ h u there
 
 emptied_empty : (id : List ℕ) (state : State) (own : Session) → session_with_id id state.sessions ≡ Some own → (s : Session)
@@ -83,7 +83,7 @@ emptied_empty : (id : List ℕ) (state : State) (own : Session) → session_with
 emptied_empty id state own there s found =
     let f : Session → Session = λ u. cond (u.serial == own.serial) (emptied u) u in
     let mapped : session_with_id id (map f state.sessions) ≡ option_map f (session_with_id id state.sessions) =
-        find_mapped id f (changed_id own.serial emptied (λ u. refl)) state.sessions in
+    find_mapped id f (changed_id own.serial emptied (λ u. refl)) state.sessions in
     let one : option_map f (session_with_id id state.sessions) ≡ Some (f own) = ap (option_map f) there in
     let is : Some (f own) ≡ Some s = sym one ∙ sym mapped ∙ found in
     let same : f own ≡ s = cc is in
@@ -138,8 +138,7 @@ module _ (Good : List Attachment → Type 0) (good_none : Good []) (good_retract
   ended_follows (serial ∷ serials) done state stood good w =
       let left : State = drop_sessions (serial ∷ serials) state in
       let after : List Attachment = retract (Sessions (serial ∷ serials)) state.graph in
-      let good_after = good_retracted (Sessions (serial ∷ serials)) state.graph good in
-      (
+      let good_after = good_retracted (Sessions (serial ∷ serials)) state.graph good in (
         good_after,
         overflow_follows done (tell after [] left) (tell_follows after [] done left
             (λ s. folds state.graph after s good good_after) (stood_filter _ state.standing stood)
@@ -182,10 +181,14 @@ module _ (Good : List Attachment → Type 0) (good_none : Good []) (good_retract
       TellSome : Option Told → Type 0
       TellSome None = Unit {0}
       TellSome (Some t) = Tells state.graph s.serial state.counter (done s.id) state.standing t
+
       at : (o : Option Told) → TellSome o → Good (answer_subscribed state s o).0.graph × Follows done (answer_subscribed state s o).0
       at None h = (good, w)
-      at (Some t) h = (good, renewed_follows s.serial done _ (overflow_follows done (with_told s.serial t state)
-          (told_follows done state q s t tabled found h w)))
+      at (Some t) h = (
+        good,
+        renewed_follows s.serial done _ (overflow_follows done (with_told s.serial t state)
+            (told_follows done state q s t tabled found h w)),
+      )
 
   -- what is told after one more ask
   abbrev done_after : Ask → Answer → (List ℕ → Sets) → List ℕ → Sets
@@ -219,9 +222,11 @@ module _ (Good : List Attachment → Type 0) (good_none : Good []) (good_retract
       in_session_follows done state event.client (publish state ops) (session_with_id id state.sessions)
       (λ s found own.
       let author : IsClientName s.client = subst IsClientName (sym (text_is s.client event.client own)) name in
-      let good_after = good_applied state.graph (author_in state s) ops author fit.1 good in
-      (good_after, changed_follows s.serial (apply state.graph (author_in state s) ops) (notes_of (author_in state s) ops) done state stood
-      good good_after w)) good w
+      let good_after = good_applied state.graph (author_in state s) ops author fit.1 good in (
+        good_after,
+        changed_follows s.serial (apply state.graph (author_in state s) ops) (notes_of (author_in state s) ops) done state stood
+            good good_after w,
+      )) good w
   step_follows done state event (Request (the_request.Search id asked)) name fit tabled stood good w =
       in_session_follows done state event.client (search state asked) (session_with_id id state.sessions)
       (λ s found own. elim (cases_Bool (is_too_big state.graph asked)) [
@@ -239,15 +244,18 @@ module _ (Good : List Attachment → Type 0) (good_none : Good []) (good_retract
       first : (again : Bool) (n : ℕ) (one : State) → Good one.graph → Good (renew_first again n one).graph
       first true n one g = g
       first false n one g = g
+
       queued : (again : Bool) (s : Session) (queue : List PollItem) → Good (poll_queue state again s queue).0.graph
       queued again s [] = first again s.serial state good
       queued again s (item ∷ items) = first again s.serial _ good
+
       in_one : (again : Bool) (o : Option Session) → Good (in_session state event.client o (poll_in state again)).0.graph
       in_one again None = good
       in_one again (Some s) = elim (cases_Bool (is_text s.client event.client)) [
         | inl hit ↦ rw hit (queued again s s.queue)
         | inr miss ↦ rw miss good
       ]
+
       polled : (again : Bool) (o : Option Session) → Good (poll state event.client again o).0.graph
       polled true None = good
       polled true (Some s) = in_one true (Some s)
@@ -268,7 +276,7 @@ module _ (Good : List Attachment → Type 0) (good_none : Good []) (good_retract
       let moved : Follows done now = record { folded = h.follows.folded; below = h.follows.below } in
       let expired = ended_follows _ done now h.stood h.good moved in
       let after = step_follows done (expire now) event event.ask fit.client fit.ask (expired_table now h.tabled)
-          (ended_stood _ now h.stood) expired.0 expired.1 in
+      (ended_stood _ now h.stood) expired.0 expired.1 in
       record {
         tabled = event_table state event h.tabled;
         stood = event_stood state event h.stood;
@@ -286,7 +294,7 @@ module _ (Good : List Attachment → Type 0) (good_none : Good []) (good_retract
   history_holds [] done state legal fit h = h
   history_holds (e ∷ history) done state legal fit h =
       let one : Holds (done_after e.0.ask e.1 done) (step state e.0).0 =
-          subst (λ answer. Holds (done_after e.0.ask answer done) (step state e.0).0) (sym legal.0) (event_holds done state e.0 fit.0 h) in
+      subst (λ answer. Holds (done_after e.0.ask answer done) (step state e.0).0) (sym legal.0) (event_holds done state e.0 fit.0 h) in
       let rest = history_holds history (done_after e.0.ask e.1 done) (step state e.0).0 legal.1 fit.1 one in
       record {
         tabled = rest.tabled;
@@ -345,12 +353,12 @@ module _ (Good : List Attachment → Type 0) (good_none : Good []) (good_retract
       let joined = state_joined (opening ttl) before ((event, answer) ∷ []) in
       let now : State = expire (advance event.moment state) in
       let answered : IsTold (step_ask now event (Request (the_request.Poll id))).1 =
-          subst (λ ask. IsTold (step_ask now event ask).1) asked (subst IsTold parts.1.0 told) in
+      subst (λ ask. IsTold (step_ask now event ask).1) asked (subst IsTold parts.1.0 told) in
       let found_now : session_with_id id (step_ask now event (Request (the_request.Poll id))).0.sessions ≡ Some s =
-          subst (λ ask. session_with_id id (step_ask now event ask).0.sessions ≡ Some s) asked
-          (ap (λ (y : State). session_with_id id y.sessions) (sym joined) ∙ found) in
+      subst (λ ask. session_with_id id (step_ask now event ask).0.sessions ≡ Some s) asked
+      (ap (λ (y : State). session_with_id id y.sessions) (sym joined) ∙ found) in
       let empty : s.queue ≡ [] =
-          told_empties id event.client now event.again (session_with_id id now.sessions) refl answered s found_now in
+      told_empties id event.client now event.again (session_with_id id now.sessions) refl answered s found_now in
       let folded = held.follows.folded s x there.0 hx same in
       subst (λ i. client_sets i history x.name ≡ Some (fresh (state_after ttl history).graph x.search)) own
       (subst (λ q. fold_items q (client_sets s.id history) x.name ≡ Some (fresh (state_after ttl history).graph x.search)) empty folded)

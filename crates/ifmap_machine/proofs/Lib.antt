@@ -6,3 +6,4 @@ pub mod Agreeing
 pub mod Histories
 pub mod Lives
 pub mod Goods
+pub mod Graphs

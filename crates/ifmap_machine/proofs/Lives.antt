@@ -106,8 +106,10 @@ lives_left serials sessions [] w = tt
 lives_left serials sessions (a ∷ rows) w =
     elim (cases_Bool (ends_with serials a.stored.life)) [
       | inl goes ↦ rw goes (lives_left serials sessions rows w.1)
-      | inr stays ↦ rw stays (life_dropped serials sessions a.stored.publisher a.stored.life stays w.0,
-          lives_left serials sessions rows w.1)
+      | inr stays ↦ rw stays (
+        life_dropped serials sessions a.stored.publisher a.stored.life stays w.0,
+        lives_left serials sessions rows w.1,
+      )
     ]
 
 lives_attached : (sessions : List Session) (rows : List Attachment) (a : Attachment)

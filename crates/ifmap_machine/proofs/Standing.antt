@@ -102,7 +102,7 @@ module _ {X : Type 0} (q : X → Bool) where
       let sides = two_sides C a xs in
       let more = one_more a above in
       let joined : length (filter q (below ++ a ∷ above)) ≡ length (filter q below) + length (filter q (a ∷ above)) =
-          ap length (filter_joined below (a ∷ above)) ∙ length-append (filter q below) (filter q (a ∷ above)) in
+      ap length (filter_joined below (a ∷ above)) ∙ length-append (filter q below) (filter q (a ∷ above)) in
       omega (arith, sides, more, joined)
 
   pub put_passed : (C : X → X → Ordering) (a : X) (xs : List X) → q a ≡ false → length (filter q (put C a xs)) ≤ length (filter q xs)
@@ -112,7 +112,7 @@ module _ {X : Type 0} (q : X → Bool) where
       let sides = two_sides C a xs in
       let same : length (filter q (a ∷ above)) ≡ length (filter q above) = rw other refl in
       let joined : length (filter q (below ++ a ∷ above)) ≡ length (filter q below) + length (filter q (a ∷ above)) =
-          ap length (filter_joined below (a ∷ above)) ∙ length-append (filter q below) (filter q (a ∷ above)) in
+      ap length (filter_joined below (a ∷ above)) ∙ length-append (filter q below) (filter q (a ∷ above)) in
       omega (arith, sides, same, joined)
 
 -- ---- subscriptions
@@ -144,7 +144,7 @@ room_left serial name xs w free =
       | inr there ↦
           let some : list_any (is_of_name serial name) xs ≡ true = grind (arith, there) in
           let gone = one_gone (λ (x : Standing). x.serial == serial) (is_of_name serial name)
-              (λ x is. (and_parts _ _ is).0) xs some in
+          (λ x is. (and_parts _ _ is).0) xs some in
           let most = w.few serial in
           omega (arith, gone, most)
     ]

@@ -140,7 +140,7 @@ fewer_left : (state : State) (client : List ℕ) (s : Session) → session_of_cl
 fewer_left state client s e =
     let less = one_fewer state.sessions client s e in
     let one = length_mapped _ (told_keeps state.graph _ [] (drop_sessions (s.serial ∷ []) state))
-        (without_sessions (s.serial ∷ []) state.sessions) in
+    (without_sessions (s.serial ∷ []) state.sessions) in
     let two = length_mapped overflow_session overflow_keeps (end_sessions (s.serial ∷ []) state).sessions in
     subst (λ n. n < length state.sessions) (sym (two ∙ one)) less
 
@@ -218,7 +218,7 @@ subscribed_table : (state : State) (s : Session) (o : Option Told) → IsTabled 
 subscribed_table state s None w = w
 subscribed_table state s (Some t) w =
     let told : IsTabled (with_told s.serial t state) = changed_table s.serial (λ (x : Session). record x { queue = t.queue })
-        (record { serial = λ x. refl; id = λ x. refl; client = λ x. refl }) (table_of state) w in
+    (record { serial = λ x. refl; id = λ x. refl; client = λ x. refl }) (table_of state) w in
     renewed_table s.serial (overflow (with_told s.serial t state)) (overflow_table (with_told s.serial t state) told)
 
 queue_table : (state : State) (again : Bool) (s : Session) (queue : List PollItem) → IsTabled state

@@ -1,10 +1,19 @@
 //! Laws of the machine, over all its histories: functions that do nothing, whose contracts are the laws.
 ghost use Rattle.std.specs.Prelude.{◌≢◌, ◌≤◌, ℕ, All, AllPairs, length};
-ghost use Rattle.ifmap_machine.specs.Legal.{History, live_clients, state_after};
+ghost use Rattle.std.specs.List.Sorted.{IsStrictlySortedBy};
+ghost use Rattle.ifmap_machine.specs.Agreeing.{Agrees};
+ghost use Rattle.ifmap_machine.specs.Legal.{AreFit, History, Legal, live_clients, state_after};
+ghost use Rattle.ifmap_machine.specs.Lives.{AllLive};
 ghost use Rattle.ifmap_machine.specs.State.{standing_in, standing_order};
 ghost use Rattle.ifmap_machine.specs.Subscribing.{most_names};
-ghost use Rattle.std.specs.List.Sorted.{IsStrictlySortedBy};
+ghost use Rattle.ifmap_plans.specs.Plans.{AreWhole};
 ghost use Rattle.ifmap_session.specs.Sessions.{most_sessions};
+ghost use Rattle.ifmap_view.specs.Attachments.{IsGraph};
+
+use ifmap_delta::laws::differences_make_the_next_result;
+use ifmap_elem::laws::canonical_bytes_tell_elements_apart;
+use ifmap_ident::laws::bytes_tell_identifiers_apart;
+use ifmap_publish::laws::graphs_stay_graphs;
 
 /// After every history no two live sessions have one client, no live session has a serial above the
 /// counter, and at most 10,000 sessions live.
@@ -25,3 +34,29 @@ pub fn subscriptions_are_apart()
     ensures few { (ttl : ℕ) (history : History) (serial : ℕ) →
         length (standing_in serial (state_after ttl history).standing) ≤ most_names }
 {}
+
+/// After every history what is to stay as long as a session belongs to a live session of the client
+/// that published it; and after every legal history of fit events the graph rises strictly, its keys
+/// are distinct, and its attachments are whole.
+pub fn attachments_are_apart_and_live()
+    ensures lives { (ttl : ℕ) (history : History) → AllLive (state_after ttl history) }
+    ensures graph { (ttl : ℕ) (history : History) → Legal ttl history → AreFit history →
+        IsGraph (state_after ttl history).graph }
+    ensures whole { (ttl : ℕ) (history : History) → Legal ttl history → AreFit history →
+        AreWhole (state_after ttl history).graph }
+{
+    graphs_stay_graphs();
+}
+
+/// In every legal history of fit events, after each poll that is told something or held, what its client
+/// folds of all that it was told is, for each subscription that the session keeps, the fresh result of
+/// its search.
+pub fn clients_fold_fresh_results()
+    ensures { (ttl : ℕ) (history : History) → Legal ttl history → AreFit history →
+        Agrees ttl history }
+{
+    graphs_stay_graphs();
+    bytes_tell_identifiers_apart();
+    canonical_bytes_tell_elements_apart();
+    differences_make_the_next_result();
+}

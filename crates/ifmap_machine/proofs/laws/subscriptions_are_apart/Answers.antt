@@ -1,9 +1,6 @@
 use Rattle.std.proofs.Common.{ℕ}
 use Rattle.ifmap_machine.specs.Legal.{History}
 use Rattle.ifmap_machine.specs.State.{opening}
-use Rattle.ifmap_machine.proofs.Histories.{histories_agree}
-use Rattle.ifmap_machine.proofs.Goods.{results_begin}
-use Rattle.ifmap_machine.proofs.Lives.{lives_after}
 use Rattle.ifmap_machine.proofs.Standing.{stood_after, stood_none}
 use Rattle.ifmap_machine.proofs.laws.subscriptions_are_apart.Goals as goal
 

@@ -1,0 +1,24 @@
+use Rattle.std.proofs.Common.{ℕ, List, []}
+use Rattle.std.specs.List.{IsDistinct}
+use Rattle.std.specs.List.Sorted.{IsStrictlySortedBy}
+use Rattle.ifmap_machine.specs.Legal.{History}
+use Rattle.ifmap_machine.specs.State.{opening}
+use Rattle.ifmap_machine.proofs.Goods.{graph_none}
+use Rattle.ifmap_machine.proofs.Graphs.{history_good}
+use Rattle.ifmap_machine.proofs.Lives.{lives_after}
+use Rattle.ifmap_machine.proofs.laws.attachments_are_apart_and_live.Goals as goal
+use Rattle.ifmap_plans.specs.Plans.{AreWhole}
+use Rattle.ifmap_view.specs.Attachments.{IsGraph}
+
+pub returns-clause-lives : goal.returns-clause-lives
+returns-clause-lives c = λ ttl history. lives_after ttl history
+
+pub returns-clause-graph : goal.returns-clause-graph
+returns-clause-graph c = λ ttl history legal fit.
+    history_good IsGraph graph_none (λ who rows g. c.graphs_stay_graphs.ensures.retracted rows who g)
+    (λ rows by ops name f g. c.graphs_stay_graphs.ensures.applied rows by ops f g) (opening ttl) history fit graph_none
+
+pub returns-clause-whole : goal.returns-clause-whole
+returns-clause-whole c = λ ttl history legal fit.
+    history_good AreWhole tt (λ who rows g. c.graphs_stay_graphs.ensures.whole_retracted rows who g)
+    (λ rows by ops name f g. c.graphs_stay_graphs.ensures.whole rows by ops name f g) (opening ttl) history fit tt

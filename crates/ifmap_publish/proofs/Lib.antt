@@ -1,0 +1,4 @@
+pub mod Differing
+pub mod Graphs
+pub mod Items
+pub mod Same
