@@ -8,7 +8,7 @@ use Rattle.std.proofs.lemmas.Bool.Decides.{nat_tests}
 use Rattle.std.proofs.lemmas.List.Kept.{IsStrictlySortedBy-filter}
 use Rattle.std.specs.List.{AllByRecursion, filter, find}
 use Rattle.std.specs.List.Sorted.{IsStrictlySortedBy}
-use Rattle.ifmap_delta.specs.Folds.{Sets, fold_item, fold_items, no_sets, with_entries}
+use Rattle.ifmap_folds.specs.Folds.{Sets, fold_item, fold_items, no_sets, with_entries}
 use Rattle.ifmap_fresh.specs.Fresh.{fresh}
 use Rattle.ifmap_lemmas.specs.Filters.{all_weaker, filter_passes}
 use Rattle.ifmap_lemmas.specs.Having.{Has, filter_has, has_any, has_either, has_filter, map_has}

@@ -11,9 +11,9 @@ use Rattle.std.specs.List.{AllByRecursion, filter}
 use Rattle.std.specs.List.Sorted.{IsStrictlySortedBy}
 use Rattle.std.specs.Str.{bytes_eq}
 use Rattle.std.specs.declared.cmp.Ordering.TheVariants.{Less, Equal}
-use Rattle.ifmap_delta.specs.Differences.{difference, has_entry}
-use Rattle.ifmap_delta.specs.Folds.{Sets, fold_item, fold_items, with_entries}
-use Rattle.ifmap_delta.specs.Notes.{told_notes}
+use Rattle.ifmap_folds.specs.Differences.{difference, has_entry}
+use Rattle.ifmap_folds.specs.Folds.{Sets, fold_item, fold_items, with_entries}
+use Rattle.ifmap_folds.specs.Notes.{told_notes}
 use Rattle.ifmap_fresh.specs.Fresh.{fresh}
 use Rattle.ifmap_lemmas.specs.Filters.{all_weaker}
 use Rattle.ifmap_lemmas.specs.Having.{Has}

@@ -8,8 +8,8 @@ use Rattle.std.specs.List.{AllByRecursion, IsDistinct, filter}
 use Rattle.std.specs.List.Sorted.{IsStrictlySortedBy}
 use Rattle.std.specs.Str.{bytes_eq}
 use Rattle.std.specs.declared.cmp.Ordering.TheVariants.{Less}
-use Rattle.ifmap_delta.specs.Differences.{difference, entry_bytes, entry_order, same_entry}
-use Rattle.ifmap_delta.specs.Folds.{Sets, fold_items, with_entries}
+use Rattle.ifmap_folds.specs.Differences.{difference, entry_bytes, entry_order, same_entry}
+use Rattle.ifmap_folds.specs.Folds.{Sets, fold_items, with_entries}
 use Rattle.ifmap_elem.specs.Arranged.{IsSame}
 use Rattle.ifmap_elem.specs.Canonical.{canonical_bytes}
 use Rattle.ifmap_elem.specs.declared.elements.Element.{Element}

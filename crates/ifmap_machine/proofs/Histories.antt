@@ -7,7 +7,7 @@ use Rattle.std.proofs.Common.{◌≡◌, refl, sym, ◌∙◌, ap, subst, ℕ, �
 use Rattle.std.proofs.lemmas.Bool.{cases_Bool, eq-eqb}
 use Rattle.std.specs.List.{AllByRecursion, find}
 use Rattle.std.specs.Option.{option_map}
-use Rattle.ifmap_delta.specs.Folds.{Sets, fold_items, no_sets, with_entries}
+use Rattle.ifmap_folds.specs.Folds.{Sets, fold_items, no_sets, with_entries}
 use Rattle.ifmap_fresh.specs.Fresh.{fresh}
 use Rattle.ifmap_lemmas.specs.Having.{Has}
 use Rattle.ifmap_machine.specs.declared.events.Answer.{Answer}

@@ -1,6 +1,6 @@
 -- What a client folds of the answers to its polls, beside the graph.
 use Rattle.std.specs.Prelude.{◌≡◌, ℕ, List, [], ◌∷◌, ◌++◌, flat_map, Some, if◌then◌else◌}
-use Rattle.ifmap_delta.specs.Folds.{Sets, fold_items, no_sets}
+use Rattle.ifmap_folds.specs.Folds.{Sets, fold_items, no_sets}
 use Rattle.ifmap_fresh.specs.Fresh.{fresh}
 use Rattle.ifmap_lemmas.specs.Having.{Has}
 use Rattle.ifmap_machine.specs.declared.events.Answer.{Answer}

@@ -3,8 +3,8 @@
 use Rattle.std.specs.Prelude.{ℕ, ◌==◌, ◌&&◌, nat_lt, Bool, List, [], ◌∷◌, ◌++◌, codes, filter, flat_map, map, not, None, Some, if◌then◌else◌}
 use Rattle.std.specs.Fmt.{decimal}
 use Rattle.std.specs.List.{list_any}
-use Rattle.ifmap_delta.specs.Differences.{difference}
-use Rattle.ifmap_delta.specs.Notes.{told_notes}
+use Rattle.ifmap_folds.specs.Differences.{difference}
+use Rattle.ifmap_folds.specs.Notes.{told_notes}
 use Rattle.ifmap_fresh.specs.Fresh.{fresh, fresh_size}
 use Rattle.ifmap_ident.specs.declared.codes.Code.TheVariants.{PollResultsTooBig, SearchResultsTooBig}
 use Rattle.ifmap_machine.specs.State.{Standing, State, standing_in}

@@ -10,8 +10,8 @@ ghost use Rattle.ifmap_plans.specs.Plans.{AreWhole};
 ghost use Rattle.ifmap_session.specs.Sessions.{most_sessions};
 ghost use Rattle.ifmap_view.specs.Attachments.{IsGraph};
 
-use ifmap_delta::laws::differences_make_the_next_result;
 use ifmap_elem::laws::canonical_bytes_tell_elements_apart;
+use ifmap_folds::laws::differences_make_the_next_result;
 use ifmap_ident::laws::bytes_tell_identifiers_apart;
 use ifmap_publish::laws::graphs_stay_graphs;
 

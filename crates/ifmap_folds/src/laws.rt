@@ -1,8 +1,8 @@
 //! Laws on what subscriptions are told: functions that do nothing, whose contracts are the laws.
 ghost use Rattle.std.specs.Prelude.{◌≡◌, true, List, [], ◌∷◌, ℕ, Some};
 ghost use Rattle.std.specs.List.Sorted.{IsStrictlySortedBy};
-ghost use Rattle.ifmap_delta.specs.Differences.{difference, entry_order, same_entry};
-ghost use Rattle.ifmap_delta.specs.Folds.{Sets, fold_items};
+ghost use Rattle.ifmap_folds.specs.Differences.{difference, entry_order, same_entry};
+ghost use Rattle.ifmap_folds.specs.Folds.{Sets, fold_items};
 ghost use Rattle.ifmap_lemmas.specs.Having.{Has};
 ghost use Rattle.ifmap_search.specs.declared.results.Entry.{Entry};
 ghost use Rattle.ifmap_search.specs.declared.results.PollItem.TheVariants.{Delete, Update};

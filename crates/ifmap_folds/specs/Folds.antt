@@ -6,7 +6,7 @@ use Rattle.ifmap_plans.specs.Placing.{put}
 use Rattle.ifmap_search.specs.declared.results.Entry.{Entry}
 use Rattle.ifmap_search.specs.declared.results.PollItem.{PollItem}
 use Rattle.ifmap_search.specs.declared.results.PollItem.TheVariants as the_item
-use Rattle.ifmap_delta.specs.Differences.{difference, entry_order}
+use Rattle.ifmap_folds.specs.Differences.{difference, entry_order}
 
 -- a set for each name that has one, in the order of entries
 abbrev pub Sets : Type 0

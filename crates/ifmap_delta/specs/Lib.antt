@@ -1,4 +1,0 @@
--- Stub.
-pub mod Differences
-pub mod Notes
-pub mod Folds
