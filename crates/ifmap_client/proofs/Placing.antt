@@ -71,9 +71,12 @@ placed e entries (Ok i) up within is =
     let p = found_is_put Entry entry_order entries_total e entries i up within is in
     (p.0, p.1, remove_equal Entry entry_order entries_total e entries i up within is)
 placed e entries (Err i) up within is =
-    let p = gap_is_put Entry entry_order entries_total e entries i up within is in
-    (p.0, p.1, any_none (λ y. eq_by_cmp entry_order y e) entries
-      (gap_none Entry entry_order entries_total e entries i up within is))
+    let p = gap_is_put Entry entry_order entries_total e entries i up within is in (
+      p.0,
+      p.1,
+      any_none (λ y. eq_by_cmp entry_order y e) entries
+          (gap_none Entry entry_order entries_total e entries i up within is),
+    )
 
 -- ---- one after the other
 

@@ -26,7 +26,11 @@ static REQUESTS: [(&str, &str, Form); 22] = [
     ("<i:newSession", "/>", Form::NewSession),
     ("<i:newSession", "></i:newSession>", Form::NewSession),
     (" <!-- --><i:newSession", "/> ", Form::NewSession),
-    ("<i:newSession max-poll-result-size='20000'", "/>", Form::NewSession),
+    (
+        "<i:newSession max-poll-result-size='20000'",
+        "/>",
+        Form::NewSession,
+    ),
     ("<i:renewSession session-id='*'", "/>", Form::RenewSession),
     ("<i:endSession session-id='1-2'", "/>", Form::EndSession),
     ("<i:poll session-id='*'", "/>", Form::Poll),
@@ -41,13 +45,21 @@ static REQUESTS: [(&str, &str, Form); 22] = [
         "><update><device><name>d</name></device><metadata><m:a ifmap-cardinality='singleValue'/></metadata></update></i:publish>",
         Form::Publish,
     ),
-    ("<i:search session-id='*'", "><device><name>d</name></device></i:search>", Form::Search),
+    (
+        "<i:search session-id='*'",
+        "><device><name>d</name></device></i:search>",
+        Form::Search,
+    ),
     (
         "<i:search session-id='*' max-depth='3' match-links='*'",
         "><identity name='a' type='username'/></i:search>",
         Form::Search,
     ),
-    ("<i:subscribe session-id='*'", "><delete name='s'/></i:subscribe>", Form::Subscribe),
+    (
+        "<i:subscribe session-id='*'",
+        "><delete name='s'/></i:subscribe>",
+        Form::Subscribe,
+    ),
     (
         "<i:subscribe session-id='*'",
         "><update name='s'><device><name>d</name></device></update></i:subscribe>",
@@ -134,7 +146,11 @@ fn form_of_parts(alloc: Global, front: &str, back: &str) -> Result<Form, NoMemor
 #[test]
 fn requests_have_their_forms(rt: HostRuntime) {
     for (front, back, form) in &REQUESTS {
-        assert_eq!(rt; form_of_parts(rt.alloc(), front, back), Ok(*form), "{front} {back}");
+        assert_eq!(rt;
+            form_of_parts(rt.alloc(), front, back),
+            Ok(*form),
+            "{front} {back}"
+        );
     }
 }
 
@@ -170,20 +186,19 @@ fn an_element_nests_62_levels_at_most(rt: HostRuntime) {
 }
 
 // `set ` and a name, of so many bytes together.
-fn long_line(alloc: Global, length: usize) -> Result<Text, NoMemory> {
-    let mut text = Text::from_str(alloc, "set ")?;
-    for _ in 4..length {
-        text.push_str("n")?;
-    }
-    Ok(text)
+fn long_line(alloc: Global, length: usize) -> Result<Vec<u8>, NoMemory> {
+    let mut line = Vec::with_capacity(alloc, length)?;
+    line.extend_from_slice(b"set ")?;
+    line.resize(length, b'n')?;
+    Ok(line)
 }
 
 #[test]
 fn a_line_has_a_million_bytes_at_most(rt: HostRuntime) {
     let whole = long_line(rt.alloc(), 1_000_000).unwrap();
     let long = long_line(rt.alloc(), 1_000_001).unwrap();
-    assert_eq!(rt; form_of(rt.alloc(), whole.as_bytes()), Ok(Form::Set));
-    assert_eq!(rt; form_of(rt.alloc(), long.as_bytes()), Ok(Form::Bad));
+    assert_eq!(rt; form_of(rt.alloc(), &whole), Ok(Form::Set));
+    assert_eq!(rt; form_of(rt.alloc(), &long), Ok(Form::Bad));
 }
 
 #[test]

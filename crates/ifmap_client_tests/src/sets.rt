@@ -6,7 +6,9 @@ use ifmap_search::Entry;
 use std::alloc::{AllocError as NoMemory, Global};
 
 const E1: Told = Told(1, "<a/>");
+
 const E2: Told = Told(1, "<b/>");
+
 const E3: Told = Told(2, "<a/>");
 
 // What polls were told, a name, and what its set is then.
@@ -17,16 +19,27 @@ struct Case {
 }
 
 static CASES: [Case; 13] = [
-    Case { steps: &[], name: "s", set: None },
+    Case {
+        steps: &[],
+        name: "s",
+        set: None,
+    },
     // What came is added, and what went is taken out.
     Case {
-        steps: &[Step::Search("s", &[E1]), Step::Update("s", &[E2]), Step::Delete("s", &[E1])],
+        steps: &[
+            Step::Search("s", &[E1]),
+            Step::Update("s", &[E2]),
+            Step::Delete("s", &[E1]),
+        ],
         name: "s",
         set: Some(&[E2]),
     },
     // Sets are kept in the order of entries, each entry once.
     Case {
-        steps: &[Step::Search("s", &[E3, E1, E1]), Step::Update("s", &[E2, E3])],
+        steps: &[
+            Step::Search("s", &[E3, E1, E1]),
+            Step::Update("s", &[E2, E3]),
+        ],
         name: "s",
         set: Some(&[E1, E2, E3]),
     },
@@ -35,11 +48,27 @@ static CASES: [Case; 13] = [
         name: "s",
         set: Some(&[E3]),
     },
-    Case { steps: &[Step::Search("s", &[])], name: "s", set: Some(&[]) },
-    Case { steps: &[Step::Search("s", &[E1])], name: "t", set: None },
+    Case {
+        steps: &[Step::Search("s", &[])],
+        name: "s",
+        set: Some(&[]),
+    },
+    Case {
+        steps: &[Step::Search("s", &[E1])],
+        name: "t",
+        set: None,
+    },
     // Where there is no set, what came begins one, and nothing can go.
-    Case { steps: &[Step::Update("s", &[E1])], name: "s", set: Some(&[E1]) },
-    Case { steps: &[Step::Delete("s", &[E1])], name: "s", set: None },
+    Case {
+        steps: &[Step::Update("s", &[E1])],
+        name: "s",
+        set: Some(&[E1]),
+    },
+    Case {
+        steps: &[Step::Delete("s", &[E1])],
+        name: "s",
+        set: None,
+    },
     Case {
         steps: &[Step::Search("s", &[E1]), Step::Delete("s", &[E1, E2])],
         name: "s",
@@ -52,17 +81,29 @@ static CASES: [Case; 13] = [
     },
     // An error ends the set that it names, or all.
     Case {
-        steps: &[Step::Search("s", &[E1]), Step::Search("t", &[E2]), Step::NamedError("s")],
+        steps: &[
+            Step::Search("s", &[E1]),
+            Step::Search("t", &[E2]),
+            Step::NamedError("s"),
+        ],
         name: "s",
         set: None,
     },
     Case {
-        steps: &[Step::Search("s", &[E1]), Step::Search("t", &[E2]), Step::NamedError("s")],
+        steps: &[
+            Step::Search("s", &[E1]),
+            Step::Search("t", &[E2]),
+            Step::NamedError("s"),
+        ],
         name: "t",
         set: Some(&[E2]),
     },
     Case {
-        steps: &[Step::Search("s", &[E1]), Step::Search("t", &[E2]), Step::Error],
+        steps: &[
+            Step::Search("s", &[E1]),
+            Step::Search("t", &[E2]),
+            Step::Error,
+        ],
         name: "t",
         set: None,
     },
