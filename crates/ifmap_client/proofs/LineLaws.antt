@@ -1,5 +1,5 @@
 -- A line means one thing, and what is of no form.
-use Rattle.std.proofs.Common.{◌≡◌, refl, ap, ◌∙◌, sym, subst, ℕ, codes, List, [], ◌∷◌, ◌++◌, Ok, Result}
+use Rattle.std.proofs.Common.{◌≡◌, refl, ap, ◌∙◌, sym, subst, ℕ, codes, List, [], ◌∷◌, ◌++◌, Ok, Err, Result}
 use Rattle.ifmap_elem.specs.Spells.{Spells}
 use Rattle.ifmap_elem.specs.declared.elements.Element.{Element}
 use Rattle.ifmap_elem.specs.declared.readings.Reading.{Reading}
@@ -21,6 +21,10 @@ pub root_finds : OneRequest → (r : Reading) (one other : Result Request Code) 
 root_finds law r one other l m =
     law (scopes_from r []) l.element one other l.checked
     (subst (λ (e : Element). request_check (scopes_from r []) e other) (m.named ∙ sym l.named) m.checked)
+
+pub defect_is_no_request : OneRequest → (r : Reading) (code : Code) → Finds r [] (Err code) → (request : Request)
+    → IsRequest r [] request → ⊥
+defect_is_no_request law r code f request m = let both : Ok request ≡ Err code = root_finds law r (Ok request) (Err code) m f in cc
 
 -- no bytes are a request, and nor are those that ask for a set
 blank_is_no_request : (bytes : List ℕ) (request : Request) → bytes ≡ [] → SpellsRequest bytes request → ⊥

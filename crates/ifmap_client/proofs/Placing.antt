@@ -1,7 +1,7 @@
 -- Where entries go and are taken out, in sets that rise.
 use Rattle.std.proofs.Common.{rules, ◌≡◌, refl, ap, ◌∙◌, sym, subst, ℕ, zero, suc, ◌+◌, ◌<◌, ◌≤◌, Bool, true, false, not, ◌&&◌, ◌||◌, cond, List, [], ◌∷◌, length, get_or, drop, Result, Ok, Err, Ordering, arith}
 use Rattle.std.proofs.lemmas.Cmp.{alike_right}
-use Rattle.std.proofs.lemmas.List.{drop_more}
+use Rattle.std.proofs.lemmas.List.{drop_all, drop_more}
 use Rattle.std.proofs.lemmas.List.Kept.{IsStrictlySortedBy-filter}
 use Rattle.std.specs.Cmp.{IsTotalOrder}
 use Rattle.std.specs.Cmp.Lexicographic.{slice_cmp, texts_ties}
@@ -57,12 +57,12 @@ module _ (X : Type 0) (C : X → X → Ordering) (o : IsTotalOrder C) where
 -- where none passes, none is taken out
 any_none : {X : Type 0} (p : X → Bool) (xs : List X) → list_any p xs ≡ false → xs ≡ filter (λ y. not (p y)) xs
 any_none p [] h = refl
-any_none {X} p (x ∷ xs) h = at (p x) h
+any_none {X} p (x ∷ xs) h = at (p x) h (any_none p xs)
   where
-    at : (b : Bool) → (b || list_any p xs) ≡ false
+    at : (b : Bool) → (b || list_any p xs) ≡ false → (list_any p xs ≡ false → xs ≡ filter (λ y. not (p y)) xs)
         → (x ∷ xs) ≡ cond (not b) (x ∷ filter (λ y. not (p y)) xs) (filter (λ y. not (p y)) xs)
-    at true q = let r : true ≡ false = q in cc
-    at false q = ap (λ t. x ∷ t) (any_none p xs q)
+    at true q rest = let r : true ≡ false = q in cc
+    at false q rest = ap (λ t. x ∷ t) (rest q)
 
 -- where the search for a place ends
 pub placed : (e : Entry) (entries : List Entry) (r : Result ℕ ℕ) → IsStrictlySortedBy entry_order entries
@@ -80,6 +80,10 @@ placed e entries (Err i) up within is =
 
 -- ---- one after the other
 
+pub nothing_rises : IsStrictlySortedBy entry_order []
+unfolding IsStrictlySortedBy
+nothing_rises = tt
+
 pub put_rises : (e : Entry) (entries : List Entry) → IsStrictlySortedBy entry_order entries
     → IsStrictlySortedBy entry_order (put entry_order e entries)
 put_rises e entries up = put_sorted Entry entry_order entries_total e entries up
@@ -91,19 +95,24 @@ without_rises e entries up = IsStrictlySortedBy-filter entry_order (λ x. not (e
 filter_both : {X : Type 0} (p q r : X → Bool) → ((x : X) → (p x && q x) ≡ r x) → (xs : List X)
     → filter q (filter p xs) ≡ filter r xs
 filter_both p q r h [] = refl
-filter_both {X} p q r h (x ∷ xs) = at (p x) (q x) refl refl
+filter_both {X} p q r h (x ∷ xs) = at (p x) (q x) refl refl (filter_both p q r h xs)
   where
-    rest : filter q (filter p xs) ≡ filter r xs
-    rest = filter_both p q r h xs
+    by : (b : Bool) → filter q (filter p xs) ≡ filter r xs
+        → cond b (x ∷ filter q (filter p xs)) (filter q (filter p xs)) ≡ cond b (x ∷ filter r xs) (filter r xs)
+    by true rest = ap (λ t. x ∷ t) rest
+    by false rest = rest
 
-    at : (a b : Bool) → p x ≡ a → q x ≡ b → filter q (cond (p x) (x ∷ filter p xs) (filter p xs))
-        ≡ cond (r x) (x ∷ filter r xs) (filter r xs)
-    at true b e f = rw (e, f, sym (h x), e, f) (by b)
-      where
-        by : (c : Bool) → cond c (x ∷ filter q (filter p xs)) (filter q (filter p xs)) ≡ cond c (x ∷ filter r xs) (filter r xs)
-        by true = ap (λ t. x ∷ t) rest
-        by false = rest
-    at false b e f = rw (e, sym (h x), e) rest
+    at : (a b : Bool) → p x ≡ a → q x ≡ b → filter q (filter p xs) ≡ filter r xs
+        → filter q (cond (p x) (x ∷ filter p xs) (filter p xs)) ≡ cond (r x) (x ∷ filter r xs) (filter r xs)
+    at true b e f rest =
+        ap (λ t. filter q (cond t (x ∷ filter p xs) (filter p xs))) e
+        ∙ ap (λ t. cond t (x ∷ filter q (filter p xs)) (filter q (filter p xs))) f
+        ∙ by b rest
+        ∙ ap (λ t. cond t (x ∷ filter r xs) (filter r xs)) (sym f ∙ sym (ap (λ t. t && q x) e) ∙ h x)
+    at false b e f rest =
+        ap (λ t. filter q (cond t (x ∷ filter p xs) (filter p xs))) e
+        ∙ rest
+        ∙ ap (λ t. cond t (x ∷ filter r xs) (filter r xs)) (sym (ap (λ t. t && q x) e) ∙ h x)
 
 not_either : (a b : Bool) → (not a && not b) ≡ not (a || b)
 not_either true b = refl
@@ -126,3 +135,9 @@ remove_next removed i e entries all low at so =
 pub none_removed : (entries : List Entry) → difference entries [] ≡ entries
 none_removed [] = refl
 none_removed (e ∷ entries) = ap (λ t. e ∷ t) (none_removed entries)
+
+-- where all were taken out
+pub removed_all : (removed : List Entry) (i : ℕ) (entries all : List Entry) → length removed ≤ i
+    → difference entries (drop i removed) ≡ all → entries ≡ all
+removed_all removed i entries all high so =
+    sym (none_removed entries) ∙ ap (λ l. difference entries l) (sym (drop_all i removed high)) ∙ so

@@ -1,0 +1,6 @@
+use Rattle.std.proofs.Common.{None}
+use Rattle.ifmap_client.proofs.Following.{updated}
+use Rattle.ifmap_client.proofs.client_sets.end_sets.Goals as goal
+
+pub returns-in-Some : goal.returns-in-Some
+returns-in-Some c = updated _ c.remove.new.self c.in-Some.name.now None c.remove.ensures.updates
