@@ -3,7 +3,7 @@ use Rattle.std.proofs.Common.{◌≡◌, refl, ap, ◌∙◌, sym, ℕ, Bool, tr
 use Rattle.std.specs.BTreeMap.{BTreeMap, Updates, WritesThrough, get}
 use Rattle.std.specs.Cmp.Lexicographic.{slice_cmp, texts_ties}
 use Rattle.std.specs.Ordering.{nat_cmp}
-use Rattle.std.specs.Prelude.{IsSome}
+use Rattle.std.specs.Prelude.{is_some}
 use Rattle.std.specs.Str.{bytes_eq}
 use Rattle.ifmap_folds.specs.Folds.{Sets, set_under, with_entries}
 use Rattle.ifmap_lemmas.specs.Texts.{eq_tells}
@@ -17,11 +17,11 @@ module _ (m n : BTreeMap (List ℕ) (List Entry)) (name : List ℕ) where
   updated set u = λ i q. (u.0 q ∙ ap (λ b. cond b set (get (slice_cmp nat_cmp) m q)) (sym (texts_ties name q))) i
 
   -- a map in which a set was written through what it lent
-  pub written : (w : List Entry) (set : Option (List Entry)) → IsSome (get (slice_cmp nat_cmp) m name)
+  pub written : (old w : List Entry) (set : Option (List Entry)) → Some old ≡ get (slice_cmp nat_cmp) m name
       → WritesThrough (slice_cmp nat_cmp) (slice_cmp nat_cmp name) m w n → Some w ≡ set
       → kept_sets n ≡ set_under name set (kept_sets m)
-  written w set there through is =
-      updated (Some w) (through.3 there) ∙ ap (λ o. set_under name o (kept_sets m)) is
+  written old w set found through is =
+      updated (Some w) (through.3 (ap is_some (sym found))) ∙ ap (λ o. set_under name o (kept_sets m)) is
 
   -- a set that is begun, under a copy of its name
   pub begun : (key : List ℕ) (entries set : List Entry) → Updates (slice_cmp nat_cmp) m n key (Some set) → key ≡ name

@@ -128,7 +128,7 @@ pub remove_next : (removed : List Entry) (i : ℕ) (e : Entry) (entries all : Li
     → difference entries (drop i removed) ≡ all → difference (without e entries) (drop (i + 1) removed) ≡ all
 remove_next removed i e entries all low at so =
     let front : drop i removed ≡ e ∷ drop (i + 1) removed =
-    subst (λ y. drop i removed ≡ y ∷ drop (i + 1) removed) (sym at) (drop_more removed e i low) in
+    subst (λ y. drop i removed ≡ y ∷ drop (i + 1) removed) (sym at) (drop_more removed i e low) in
     difference_step e (drop (i + 1) removed) entries ∙ sym (ap (λ l. difference entries l) front) ∙ so
 
 -- nothing is taken out

@@ -3,4 +3,4 @@ use Rattle.ifmap_client.proofs.Following.{updated}
 use Rattle.ifmap_client.proofs.client_sets.end_sets.Goals as goal
 
 pub returns-in-Some : goal.returns-in-Some
-returns-in-Some c = updated _ c.remove.new.self c.in-Some.name.now None c.remove.ensures.updates
+returns-in-Some c = updated c.args.sets.now c.remove.new.self c.in-Some.name None c.remove.ensures.updates

@@ -7,5 +7,5 @@ use Rattle.ifmap_client.proofs.entry_sets.remove_each.Given as goal
 abbrev pub invariant-loop-entry : goal.invariant-loop-entry
 invariant-loop-entry l = record {
   rising : IsStrictlySortedBy entry_order l.set.items;
-  rest : difference l.set.items (drop l.entry-index l.removed) ≡ difference l.fn.set.items l.fn.removed.now;
+  rest : difference l.set.items (drop l.entry-index l.removed) ≡ difference l.fn.set.items l.removed;
 }
