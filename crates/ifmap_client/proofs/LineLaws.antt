@@ -1,18 +1,21 @@
 -- A line means one thing, and what is of no form.
-use Rattle.std.proofs.Common.{◌≡◌, refl, ap, ◌∙◌, sym, subst, ℕ, codes, List, [], ◌∷◌, ◌++◌, Ok, Err, Result}
+use Rattle.std.proofs.Common.{◌≡◌, refl, ap, ◌∙◌, sym, subst, ℕ, codes, List, [], ◌∷◌, ◌++◌, ◌≤◌, Ok, Err, Option, Some, None, Result}
+use Rattle.ifmap_elem.specs.Nesting.{nesting}
 use Rattle.ifmap_elem.specs.Spells.{Spells}
 use Rattle.ifmap_elem.specs.declared.elements.Element.{Element}
 use Rattle.ifmap_elem.specs.declared.readings.Reading.{Reading}
 use Rattle.ifmap_ident.specs.declared.codes.Code.{Code}
+use Rattle.ifmap_reader.specs.Reads.{IsUnreadable}
 use Rattle.ifmap_requests.specs.Laws.{OneRequest}
 use Rattle.ifmap_requests.specs.Means.{Finds, IsRequest, scopes_from}
 use Rattle.ifmap_requests.specs.RequestForms.{request_check}
 use Rattle.ifmap_requests.specs.declared.requests.Request.{Request}
-use Rattle.ifmap_client.specs.Lines.{IsForm, IsLine, NamesSet, OneLine, SpellsRequest}
+use Rattle.ifmap_client.specs.Lines.{IsForm, IsLine, IsReadRequest, IsRequestAnswer, NamesSet, OneLine, SpellsRequest, line_levels}
 use Rattle.ifmap_client.specs.declared.lines.Line.{Line}
 use Rattle.ifmap_client.specs.declared.lines.Line.TheVariants as the_line
 use Rattle.ifmap_client.proofs.Fronts.{black_spelled, nothing_spelled}
 
+-- bytes spell one element at most
 abbrev pub OneSpelled : Type 0
 OneSpelled = (bytes : List ℕ) (one other : Reading) → Spells bytes one → Spells bytes other → one ≡ other
 
@@ -63,3 +66,17 @@ module _ (spelled : OneSpelled) (found : OneRequest) where
 
   pub one_line : OneLine
   one_line bytes one other l m = one_form bytes one other l.1 m.1
+
+-- ---- what bytes that were read are
+
+module _ (spelled : OneSpelled) (bytes : List ℕ) (reading : Reading) (read : Spells bytes reading)
+    (shallow : nesting reading.root ≤ line_levels) where
+  pub request_answer : {E : Type 0} (r : Result (Option Request) E) → IsReadRequest reading r → IsRequestAnswer bytes r
+  request_answer (Ok (Some request)) h = record { reading = reading; spelled = read; shallow = shallow; means = h }
+  request_answer (Ok None) h = λ request m.
+      h request (subst (λ (r : Reading). IsRequest r [] request) (spelled bytes m.reading reading m.spelled read) m.means)
+  request_answer (Err e) h = tt
+
+pub spells_no_request : (bytes : List ℕ) (at : ℕ) → IsUnreadable bytes line_levels at → (request : Request)
+    → SpellsRequest bytes request → ⊥
+spells_no_request bytes at u request m = u.none m.reading m.spelled
