@@ -1,12 +1,12 @@
-//! The machine: a plain, deterministic answer to each event, and the state after it. Its one step is
-//! the definition in specs/Step.antt.
+//! The machine over an indexed graph: it answers each event by plans, drafts and differences, and no
+//! event computes a fresh result but a search and a subscribe.
 #![tactic(auto)]
 
-pub mod events;
-pub mod laws;
-pub mod machine;
-mod publishing;
-mod searching;
+pub mod core;
+mod changes;
+mod standing;
+mod subscribing;
+mod telling;
+mod work;
 
-pub use events::{Answer, Ask, Event};
-pub use machine::Core;
+pub use core::Core;

@@ -1,4 +1,11 @@
--- Stub.
+-- What subscriptions keep and are told, in reading order.
+pub mod Sights
 pub mod Differences
-pub mod Notes
 pub mod Folds
+pub mod Notes
+pub mod Bounds
+pub mod Changes
+pub mod Ways
+pub mod Shown
+pub mod Flipped
+pub mod Touched

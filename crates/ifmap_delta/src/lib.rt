@@ -1,2 +1,18 @@
-//! Stub.
+//! Subscriptions: what one keeps, and the exact difference that a change of the graph makes to it.
 #![tactic(auto)]
+
+mod changing;
+mod differing;
+mod flips;
+pub mod laws;
+mod marks;
+mod noting;
+mod sides;
+mod subscribing;
+pub mod subscriptions;
+mod touched;
+
+pub use changing::change;
+pub use noting::notes;
+pub use subscribing::subscribe;
+pub use subscriptions::{Moved, SubUndo, Subscribed, Subscription};

@@ -10,5 +10,5 @@ pub put_next : (added : List Stored) (i : ℕ) (x : Stored) (list all : List Sto
     → put_each (drop i added) list ≡ all → put_each (drop (i + 1) added) (put stored_order x list) ≡ all
 put_next added i x list all low at so =
     let front : drop i added ≡ x ∷ drop (i + 1) added =
-        subst (λ y. drop i added ≡ y ∷ drop (i + 1) added) (sym at) (drop_more added i x low) in
+    subst (λ y. drop i added ≡ y ∷ drop (i + 1) added) (sym at) (drop_more added i x low) in
     sym (ap (λ l. put_each l list) front) ∙ so

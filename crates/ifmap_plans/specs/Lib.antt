@@ -2,4 +2,5 @@
 pub mod Placing
 pub mod Lists
 pub mod Plans
+pub mod After
 pub mod laws

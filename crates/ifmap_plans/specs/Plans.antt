@@ -1,5 +1,5 @@
 -- Changes of a graph, item by item.
-use Rattle.std.specs.Prelude.{◌≡◌, List, [], ◌∷◌, map, Option, Some, None}
+use Rattle.std.specs.Prelude.{◌≡◌, ◌≢◌, List, [], ◌++◌, map, Option, Some, None}
 use Rattle.std.specs.List.{AllByRecursion, IsDistinct, find}
 use Rattle.std.specs.List.Sorted.{IsStrictlySortedBy}
 use Rattle.ifmap_ident.specs.declared.items.Item.{Item}
@@ -25,6 +25,14 @@ changed_by (Some c) stored = next_on c.removed c.added stored
 -- what is stored on an item after these changes, of what is stored there before
 abbrev pub after_on : List ItemChange → Item → List Stored → List Stored
 after_on changes x stored = changed_by (change_of changes x) stored
+
+-- what is stored is whole everywhere
+abbrev pub AreWhole : List Attachment → Type 0
+AreWhole rows = AllByRecursion (λ r. IsWhole r.stored) rows
+
+-- a change takes something or puts something
+abbrev pub IsChange : ItemChange → Type 0
+IsChange c = c.removed ++ c.added ≢ []
 
 -- the attachments after these changes of those before, item by item
 abbrev pub IsAfter : List ItemChange → List Attachment → List Attachment → Type 0

@@ -2,8 +2,10 @@
 //! makes a plan, whoever carries it out and whoever tells others of it speak by the same words.
 #![tactic(auto)]
 
+pub mod items;
 pub mod lists;
 pub mod plans;
 
-pub use lists::next_list;
+pub use items::Items;
+pub use lists::{next_list, place_of, put_row, row_order};
 pub use plans::{ItemChange, Note, Plan};

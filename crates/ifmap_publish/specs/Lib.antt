@@ -1,3 +1,6 @@
+-- What publishing makes of attachments, in reading order.
 pub mod Apply
 pub mod Notes
 pub mod Retract
+pub mod OnItems
+pub mod Working

@@ -1,6 +1,17 @@
-//! Stub.
+//! Publishing: what a list of operations makes of a graph, and what is left of it when sessions end or a
+//! publisher is purged. Both are told as plans, and no graph is changed here.
 #![tactic(auto)]
 
+mod applying;
+pub mod authors;
+mod differences;
+mod notes;
+mod retracting;
+pub mod publishing;
 pub mod who;
+mod working;
 
+pub use authors::Author;
+pub use publishing::plan;
+pub use retracting::retract;
 pub use who::Who;

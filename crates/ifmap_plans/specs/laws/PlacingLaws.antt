@@ -1,5 +1,5 @@
 -- Putting in, taking out and finding, in lists that rise strictly.
-use Rattle.std.proofs.Common.{◌≡◌, refl, sym, ◌∙◌, ap, subst, ℕ, suc, zero, ◌+◌, ◌<◌, ◌≤◌, Bool, true, false, not, List, [], ◌∷◌, ◌++◌, length, get_or, Ordering, arith, Ok, Err, add-one, set}
+use Rattle.std.proofs.Common.{◌≡◌, refl, sym, ◌∙◌, ap, subst, ℕ, suc, zero, ◌<◌, ◌≤◌, Bool, true, false, not, List, [], ◌∷◌, ◌++◌, length, get_or, Ordering, arith, Ok, Err, add-one, set}
 use Rattle.std.proofs.lemmas.Cmp.{alike_right}
 use Rattle.std.proofs.lemmas.List.Elements.{recursion_from_All}
 use Rattle.std.proofs.lemmas.List.Folds.{list_any_at}
@@ -32,10 +32,10 @@ module _ (X : Type 0) (E : X → X → Bool) (e : IsEquivalence E) where
       rw other (ap (λ t. x ∷ t) (remove_one a xs i apart.1 (omega arith) is))
 
 module _ (X : Type 0) (C : X → X → Ordering) (o : IsTotalOrder C) where
-  greater_of_less : (a b : X) → C a b ≡ Less → C b a ≡ Greater
+  pub greater_of_less : (a b : X) → C a b ≡ Less → C b a ≡ Greater
   greater_of_less a b e = o.antisymm b a ∙ ap ordering_reverse e
 
-  less_of_greater : (a b : X) → C a b ≡ Greater → C b a ≡ Less
+  pub less_of_greater : (a b : X) → C a b ≡ Greater → C b a ≡ Less
   less_of_greater a b e = o.antisymm b a ∙ ap ordering_reverse e
 
   -- all that follow one that is not less are greater
@@ -49,14 +49,14 @@ module _ (X : Type 0) (C : X → X → Ordering) (o : IsTotalOrder C) where
       (λ y l. greater_of_less a y (sym (o.congr x a y h) ∙ l)) xs up
 
   -- where all are greater, it goes in front
-  put_front : (a : X) (xs : List X) → AllByRecursion (λ y. C y a ≡ Greater) xs → put C a xs ≡ a ∷ xs
+  pub put_front : (a : X) (xs : List X) → AllByRecursion (λ y. C y a ≡ Greater) xs → put C a xs ≡ a ∷ xs
   put_front a xs h =
       rw (
         filter_none (λ y. is_lt (C y a)) xs (all_weaker (λ y. C y a ≡ Greater) (λ y. is_lt (C y a) ≡ false) (λ y g. ap is_lt g) xs h),
         filter_all (λ y. is_gt (C y a)) xs (all_weaker (λ y. C y a ≡ Greater) (λ y. is_gt (C y a) ≡ true) (λ y g. ap is_gt g) xs h),
       ) refl
 
-  put_less : (a x : X) (xs : List X) → C x a ≡ Less → put C a (x ∷ xs) ≡ x ∷ put C a xs
+  pub put_less : (a x : X) (xs : List X) → C x a ≡ Less → put C a (x ∷ xs) ≡ x ∷ put C a xs
   put_less a x xs h = rw h refl
 
   put_equal : (a x : X) (xs : List X) → C x a ≡ Equal → put C a (x ∷ xs) ≡ put C a xs

@@ -1,7 +1,4 @@
-use Rattle.std.proofs.Common.{rules, not}
 use Rattle.std.proofs.lemmas.List.Kept.{IsStrictlySortedBy-filter}
-use Rattle.std.specs.List.{list_any}
-use Rattle.std.specs.Ordering.{eq_by_cmp}
 use Rattle.ifmap_view.specs.Attachments.{stored_order}
 use Rattle.ifmap_plans.proofs.lists.next_list.Goals as goal
 

@@ -1,14 +1,11 @@
-use Rattle.std.proofs.Common.{◌≡◌, ◌∙◌, ap, sym, subst}
-use Rattle.std.specs.List.Sorted.{IsStrictlySortedBy}
-use Rattle.ifmap_view.specs.Attachments.{stored_order}
 use Rattle.ifmap_plans.specs.laws.ListLaws.{rising_put}
 use Rattle.ifmap_plans.proofs.Putting.{put_next}
 use Rattle.ifmap_plans.proofs.lists.put_each.Goals as goal
 
 pub loop-row-preserved : goal.loop-row-preserved
-loop-row-preserved c =
-    let x = c.row-item.result in
-    record {
-      rising = ?;
-      rest = ?;
-    }
+loop-row-preserved c = record {
+  rising = rw c.in_ok-put_row.ensures (rising_put c.in_ok-share.field-0 c.loop-row.list.items c.loop-row.invariant.rising);
+  rest = rw (c.in_ok-put_row.ensures, c.in_ok-share.ensures)
+      (put_next c.args.added.now c.loop-row.row-index c.row-item.result c.loop-row.list.items _ c.loop-row-test.true c.row-item.is
+      c.loop-row.invariant.rest);
+}

@@ -1,0 +1,129 @@
+-- What is told of a change makes the next result of the one before.
+use Rattle.std.proofs.Common.{rules, ◌≡◌, ◌⊎◌, inl, inr, Bool, true, false, not, ◌&&◌, Option, Some, List, [], ◌∷◌, ◌++◌, unwrap_or, refl, ap, ◌∙◌, sym, subst}
+use Rattle.std.proofs.lemmas.Bool.{cases_Bool}
+use Rattle.std.proofs.lemmas.List.Kept.{IsStrictlySortedBy-filter}
+use Rattle.std.specs.Cmp.{IsTotalOrder, tied_itself}
+use Rattle.std.specs.Cmp.Lexicographic.{slice_cmp, texts_ties}
+use Rattle.std.specs.Cmp.Rules.{comparing}
+use Rattle.std.specs.List.{filter, list_any}
+use Rattle.std.specs.List.Sorted.{IsStrictlySortedBy}
+use Rattle.std.specs.Ordering.{is_eq, nat_cmp, ordering_reverse, ordering_then}
+use Rattle.std.specs.Str.{bytes_eq}
+use Rattle.std.specs.declared.cmp.Ordering.{Ordering}
+use Rattle.std.specs.declared.cmp.Ordering.TheVariants.{Less, Equal, Greater}
+use Rattle.ifmap_ident.specs.Items.{item_order, items_tie, same_item}
+use Rattle.ifmap_lemmas.specs.Having.{Has, any_has, filter_has, has_any, has_filter}
+use Rattle.ifmap_lemmas.specs.Texts.{eq_itself}
+use Rattle.ifmap_plans.specs.Placing.{put}
+use Rattle.ifmap_search.specs.declared.results.Entry.{Entry}
+use Rattle.ifmap_delta.specs.Differences.{difference, entry_bytes, entry_order, has_entry, same_entry}
+use Rattle.ifmap_delta.specs.Folds.{Sets, with_entries}
+use Rattle.ifmap_delta.proofs.Rising.{has_put, has_still, head_rises, member_of, put_has, put_rises, rising_same, tail_rises}
+
+pub entries_total : IsTotalOrder entry_order
+entries_total = search (comparing, rules)
+
+eq_then : (o p : Ordering) → is_eq (ordering_then o p) ≡ (is_eq o && is_eq p)
+eq_then Less p = refl
+eq_then Equal p = refl
+eq_then Greater p = refl
+
+-- entries are one exactly where the order does not tell them apart
+pub entries_tie : (x y : Entry) → same_entry x y ≡ is_eq (entry_order x y)
+entries_tie x y =
+    ap (λ b. b && bytes_eq (entry_bytes x) (entry_bytes y)) (items_tie x.item y.item)
+    ∙ ap (λ b. is_eq (item_order x.item y.item) && b) (texts_ties (entry_bytes x) (entry_bytes y))
+    ∙ sym (eq_then (item_order x.item y.item) (slice_cmp nat_cmp (entry_bytes x) (entry_bytes y)))
+
+eq_turned : (o : Ordering) → is_eq (ordering_reverse o) ≡ is_eq o
+eq_turned Less = refl
+eq_turned Equal = refl
+eq_turned Greater = refl
+
+pub same_turned : (x y : Entry) → same_entry x y ≡ same_entry y x
+same_turned x y =
+    entries_tie x y ∙ ap is_eq (entries_total.antisymm x y) ∙ eq_turned (entry_order y x) ∙ sym (entries_tie y x)
+
+same_itself : (x : Entry) → same_entry x x ≡ true
+same_itself x = entries_tie x x ∙ ap is_eq (tied_itself entries_total x)
+
+not_of : (b : Bool) → not b ≡ true → b ≡ true → ⊥
+not_of true e f = let q : false ≡ true = e in cc
+not_of false e f = let q : false ≡ true = f in cc
+
+with_rises : (es set : List Entry) → IsStrictlySortedBy entry_order set → IsStrictlySortedBy entry_order (with_entries es set)
+with_rises [] set r = r
+with_rises (e ∷ es) set r = with_rises es (put entry_order e set) (put_rises entry_order entries_total e set r)
+
+with_has : (es set : List Entry) (z : Entry) → Has (with_entries es set) z → Has es z ⊎ Has set z
+with_has [] set z h = inr h
+with_has (e ∷ es) set z h = elim (with_has es (put entry_order e set) z h) [
+  | inl k ↦ inl (inr k)
+  | inr k ↦ elim (put_has entry_order entries_total e set z k) [
+    | inl q ↦ inl (inl q)
+    | inr m ↦ inr m
+  ]
+]
+
+has_kept : (es set : List Entry) (z : Entry) → Has set z → ((e : Entry) → Has es e → is_eq (entry_order z e) ≡ false)
+    → Has (with_entries es set) z
+has_kept [] set z h d = h
+has_kept (e ∷ es) set z h d =
+    has_kept es (put entry_order e set) z (has_still entry_order entries_total e set z h (d e (inl refl))) (λ x k. d x (inr k))
+
+has_with : (es set : List Entry) (z : Entry) → IsStrictlySortedBy entry_order es → Has es z → Has (with_entries es set) z
+has_with [] set z r h = absurd h
+has_with (e ∷ es) set z r (inl q) =
+    subst (λ x. Has (with_entries es (put entry_order e set)) x) q
+    (has_kept es (put entry_order e set) e (has_put entry_order entries_total e set)
+    (λ x k. ap is_eq (member_of (λ y. entry_order e y ≡ Less) es (head_rises entry_order entries_total e es r) x k)))
+has_with (e ∷ es) set z r (inr k) = has_with es (put entry_order e set) z (tail_rises entry_order entries_total e es r) k
+
+module _ (a b : List Entry) (apart : (x y : Entry) → Has a x → Has b y → same_entry x y ≡ true → x ≡ y)
+    (rises : IsStrictlySortedBy entry_order a) (next : IsStrictlySortedBy entry_order b) where
+  abbrev gone : List Entry
+  gone = difference a b
+
+  abbrev come : List Entry
+  come = difference b a
+
+  abbrev rest : List Entry
+  rest = difference a gone
+
+  there : (z : Entry) → Has (with_entries come rest) z → Has b z
+  there z h = elim (with_has come rest z h) [
+    | inl k ↦ (filter_has (λ e. not (has_entry a e)) b z k).0
+    | inr k ↦ let f = filter_has (λ e. not (has_entry gone e)) a z k
+        in elim (cases_Bool (has_entry b z)) [
+          | inl t ↦ let y = any_has (same_entry z) b t in subst (λ x. Has b x) (sym (apart z y.0 f.0 y.1 y.2)) y.1
+          | inr t ↦ absurd (not_of (has_entry gone z) f.1
+              (has_any (same_entry z) gone z (has_filter (λ e. not (has_entry b e)) a z f.0 (ap not t)) (same_itself z)))
+        ]
+  ]
+
+  back : (z : Entry) → Has b z → Has (with_entries come rest) z
+  back z h = elim (cases_Bool (has_entry a z)) [
+    | inl t ↦ let x = any_has (same_entry z) a t
+        in let same : x.0 ≡ z = apart x.0 z x.1 h (same_turned x.0 z ∙ x.2)
+        in let here : Has a z = subst (λ y. Has a y) same x.1
+        in has_kept come rest z
+        (has_filter (λ e. not (has_entry gone e)) a z here
+        (elim (cases_Bool (has_entry gone z)) [
+          | inl u ↦ let w = any_has (same_entry z) gone u
+              in let f = filter_has (λ e. not (has_entry b e)) a w.0 w.1
+              in absurd (not_of (has_entry b w.0) f.1 (has_any (same_entry w.0) b z h (same_turned w.0 z ∙ w.2)))
+          | inr u ↦ ap not u
+        ]))
+        (λ e k. elim (cases_Bool (is_eq (entry_order z e))) [
+          | inl u ↦ let f = filter_has (λ e. not (has_entry a e)) b e k
+              in absurd (not_of (has_entry a e) f.1
+              (has_any (same_entry e) a z here (same_turned e z ∙ entries_tie z e ∙ u)))
+          | inr u ↦ u
+        ])
+    | inr t ↦ has_with come rest z (IsStrictlySortedBy-filter entry_order (λ e. not (has_entry a e)) b next)
+        (has_filter (λ e. not (has_entry a e)) b z h (ap not t))
+  ]
+
+  pub next_made : with_entries come rest ≡ b
+  next_made = rising_same entry_order entries_total (with_entries come rest) b
+      (with_rises come rest (IsStrictlySortedBy-filter entry_order (λ e. not (has_entry gone e)) a rises)) next there back

@@ -1,0 +1,13 @@
+pub mod Same
+pub mod Orders
+pub mod Rising
+pub mod Folding
+pub mod Joining
+pub mod Gathering
+pub mod Ordered
+pub mod Marking
+pub mod Telling
+pub mod Sizing
+pub mod Flipping
+pub mod Walking
+pub mod Settling

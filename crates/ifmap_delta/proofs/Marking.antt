@@ -1,0 +1,179 @@
+-- Marks over the numbers of a view, and what they tell of identifiers.
+use Rattle.std.proofs.Common.{◌≡◌, ◌↔◌, ℕ, zero, suc, ◌<◌, ◌≤◌, Bool, true, false, not, ◌&&◌, Option, Some, None, List, Result, Ok, Err, IfOk, is_some, length, nat_lt, refl, ap, ◌∙◌, sym, subst, inl, inr, arith}
+use Rattle.std.proofs.lemmas.Bool.{and_parts, cases_lt}
+use Rattle.std.proofs.lemmas.Bool.Decides.{nat_tests}
+use Rattle.std.proofs.lemmas.Option.{same_Some, none-some}
+use Rattle.std.specs.declared.alloc.AllocError.{AllocError}
+use Rattle.ifmap_ident.specs.declared.identifiers.Identifier.{Identifier}
+use Rattle.ifmap_ident.specs.Canon.{IsIdentifier}
+use Rattle.ifmap_region.specs.declared.region.Region.{Region}
+use Rattle.ifmap_region.specs.Bounds.{IsWithin, within_wider}
+use Rattle.ifmap_region.specs.Marks.{mark_of}
+use Rattle.ifmap_region.specs.Walks.{AreDepths, HasDepth, IsReached, Walk}
+use Rattle.ifmap_search.specs.declared.searches.Search.{Search}
+use Rattle.ifmap_view.specs.declared.attachments.Attachment.{Attachment}
+use Rattle.ifmap_view.specs.Attachments.{IsGraph}
+use Rattle.ifmap_view.specs.Views.{IsView}
+use Rattle.ifmap_fresh.specs.Collected.{is_below}
+use Rattle.ifmap_fresh.specs.Linking.{IsReachedAt, is_terminal_at}
+use Rattle.ifmap_fresh.specs.Matching.{LeadsTo, is_terminal}
+use Rattle.ifmap_fresh.specs.Numbered.{KeepsWalks}
+use Rattle.ifmap_fresh.specs.Reached.{is_expanded, is_reached}
+use Rattle.ifmap_fresh.specs.Walked.{IsExpanded, SearchWalk}
+use Rattle.ifmap_delta.specs.Shown.{goes_on}
+use Rattle.ifmap_delta.specs.Sights.{AreMarks, Links, Sight, is_terminal_in}
+
+-- the region of a search has its marks
+pub marks_are : (g : Sight) (s : Search) (start : ℕ) → IsIdentifier s.start → g.id_at start ≡ Some s.start → (r : Result Region AllocError)
+    → IfOk r (λ region. region.start ≡ start) → IfOk r (λ region. region.max_depth ≡ s.max_depth)
+    → IfOk r (λ region. AreDepths (Links g s) (is_terminal_in g s) start s.max_depth (mark_of region.marks.entries))
+    → IfOk r (λ region. AreMarks g s region.start region.max_depth (mark_of region.marks.entries))
+marks_are g s start i here (Ok region) a m d = record {
+  identifier = i;
+  here = ap g.id_at a ∙ here;
+  most = m;
+  depths = subst (λ n. AreDepths (Links g s) (is_terminal_in g s) n s.max_depth (mark_of region.marks.entries)) (sym a) d;
+}
+marks_are g s start i here (Err e) a m d = a
+
+module _ (g : Sight) (s : Search) (start : ℕ) (keeps : KeepsWalks g.rows g.id_at g.links s start) where
+  abbrev L : ℕ → ℕ → Type 0
+  L = Links g s
+
+  abbrev T : ℕ → Bool
+  T = is_terminal_in g s
+
+  -- a number that a walk reaches has an identifier that a walk reaches
+  pub reached_at : (v : ℕ) → IsReached L T start s.max_depth v → IsReachedAt g.rows g.id_at s v
+  reached_at v r = let i = keeps.identified r.0 v r.2 in (i.0, i.1, (r.0, r.1, (keeps.walks r.0 v i.0 i.1).0 r.2))
+
+  pub steps_at : (times before after : ℕ) → IsWithin (λ v. length (g.links v)) (IsReached L T start s.max_depth) times before after
+      → IsWithin (λ v. length (g.links v)) (IsReachedAt g.rows g.id_at s) times before after
+  steps_at times before after w = within_wider (λ v. length (g.links v)) (IsReached L T start s.max_depth)
+      (IsReachedAt g.rows g.id_at s) times before after reached_at w
+
+-- what the laws of searches say
+abbrev pub LevelsReach : Type 0
+LevelsReach = (rows : List Attachment) (s : Search) (a : Identifier) → IsGraph rows → IsIdentifier s.start → IsIdentifier a
+    → (is_reached rows s a ≡ true) ↔ IsReached (LeadsTo rows s.match_links) (is_terminal s.terminal) s.start s.max_depth a
+
+abbrev pub LevelsExpand : Type 0
+LevelsExpand = (rows : List Attachment) (s : Search) (a : Identifier) → IsGraph rows → IsIdentifier s.start → IsIdentifier a
+    → (is_expanded rows s a ≡ true) ↔ IsExpanded rows s a
+
+pub bool_is : (a b : Bool) → (a ≡ true → b ≡ true) → (b ≡ true → a ≡ true) → a ≡ b
+bool_is true true f g = refl
+bool_is true false f g = sym (f refl)
+bool_is false true f g = g refl
+bool_is false false f g = refl
+
+not_false : (b : Bool) → not b ≡ true → b ≡ false
+not_false true e = let q : false ≡ true = e in cc
+not_false false e = refl
+
+lt_true : (a b : ℕ) → a < b → nat_lt a b ≡ true
+lt_true a b h = grind (arith, nat_tests)
+
+true_lt : (a b : ℕ) → nat_lt a b ≡ true → a < b
+true_lt a b e = grind (arith, nat_tests)
+
+below_mark : (top : ℕ) (o : Option ℕ) → is_below top o ≡ true → (k : ℕ) × (o ≡ Some k) × (k < top)
+below_mark top None e = let q : false ≡ true = e in cc
+below_mark top (Some k) e = (k, refl, true_lt k top e)
+
+some_of : {X : Type 0} (o : Option X) → is_some o ≡ true → (x : X) × (o ≡ Some x)
+some_of None e = let q : false ≡ true = e in cc
+some_of (Some x) e = (x, refl)
+
+module _ (reach : LevelsReach) (expand : LevelsExpand) (g : Sight) (s : Search) (is : IsView g.rows g.id_at g.links)
+    (start top : ℕ) (mark : ℕ → Option ℕ) (are : AreMarks g s start top mark) (keeps : KeepsWalks g.rows g.id_at g.links s start) where
+  abbrev M : ℕ → ℕ → Type 0
+  M = Links g s
+
+  abbrev E : ℕ → Bool
+  E = is_terminal_in g s
+
+  -- a mark is the length of a walk
+  pub mark_walk : (v k : ℕ) → mark v ≡ Some k → (k ≤ s.max_depth) × Walk M E start k v
+  mark_walk v k e = let d = (are.depths v k).0 e in (d.within, d.walk)
+
+  -- and where a walk ends there is a mark, that is no greater
+  pub walk_mark : (v k : ℕ) → k ≤ s.max_depth → Walk M E start k v → (j : ℕ) × (mark v ≡ Some j) × (j ≤ k)
+  walk_mark v k h w = by (mark v) refl
+    where
+      never : (n : ℕ) → n ≤ suc k → mark v ≡ None → (j : ℕ) → j < n → Walk M E start j v → ⊥
+      never zero b e j l x = omega (arith, l)
+      never (suc n) b e j l x =
+          none-some j (sym e ∙ (are.depths v j).1 (record {
+            within = omega (arith, l, b, h);
+            walk = x;
+            least = λ i y. elim (cases_lt i j) [
+              | inl p ↦ absurd (never n (omega (arith, b)) e i (omega (arith, p, l)) y)
+              | inr p ↦ p
+            ];
+          }))
+
+      by : (o : Option ℕ) → mark v ≡ o → (j : ℕ) × (mark v ≡ Some j) × (j ≤ k)
+      by None e = absurd (never (suc k) (omega arith) e k (omega arith) w)
+      by (Some j) e = (j, e, ((are.depths v j).0 e).least k w)
+
+  -- a number with a mark has an identifier
+  pub mark_named : (v k : ℕ) → mark v ≡ Some k → (a : Identifier) × (g.id_at v ≡ Some a)
+  mark_named v k e = keeps.identified k v (mark_walk v k e).1
+
+  pub reached_marked : (a : Identifier) → IsIdentifier a → is_reached g.rows s a ≡ true
+      → (v : ℕ) × (g.id_at v ≡ Some a) × ((k : ℕ) × (mark v ≡ Some k))
+  reached_marked a i e =
+      let r = (reach g.rows s a is.graph are.identifier i).0 e
+      in let n = keeps.numbered r.0 a r.2
+      in let m = walk_mark n.0 r.0 r.1 ((keeps.walks r.0 n.0 a n.1).1 r.2)
+      in (n.0, n.1, (m.0, m.1))
+
+  pub marked_reached : (v k : ℕ) (a : Identifier) → g.id_at v ≡ Some a → mark v ≡ Some k → is_reached g.rows s a ≡ true
+  marked_reached v k a i e =
+      let w = mark_walk v k e
+      in (reach g.rows s a is.graph are.identifier (is.canon v a i)).1 (k, w.0, (keeps.walks k v a i).0 w.1)
+
+  -- an identifier of a number is reached exactly where the number has a mark
+  pub reached_is : (v : ℕ) (a : Identifier) → g.id_at v ≡ Some a → is_reached g.rows s a ≡ is_some (mark v)
+  reached_is v a i = bool_is (is_reached g.rows s a) (is_some (mark v))
+      (λ e. let r = reached_marked a (is.canon v a i) e
+      in let m : mark v ≡ Some r.2.0 = ap mark (is.one_to_one v r.0 a i r.1) ∙ r.2.1
+      in ap is_some m)
+      (λ e. let k = some_of (mark v) e in marked_reached v k.0 a i k.1)
+
+  pub not_reached : (a : Identifier) → IsIdentifier a → ((v : ℕ) → g.id_at v ≡ Some a → ⊥) → is_reached g.rows s a ≡ false
+  not_reached a i no = bool_is (is_reached g.rows s a) false
+      (λ e. let r = reached_marked a i e in absurd (no r.0 r.1)) (λ e. let q : false ≡ true = e in cc)
+
+  pub expanded_marked : (a : Identifier) → IsIdentifier a → is_expanded g.rows s a ≡ true
+      → (v : ℕ) × (g.id_at v ≡ Some a) × (goes_on s (g.id_at v) (mark v) ≡ true)
+  expanded_marked a i e =
+      let x = (expand g.rows s a is.graph are.identifier i).0 e
+      in let n = keeps.numbered x.1.0 a x.1.2
+      in let m = walk_mark n.0 x.1.0 (omega (arith, x.1.1)) ((keeps.walks x.1.0 n.0 a n.1).1 x.1.2)
+      in let low : is_below s.max_depth (mark n.0) ≡ true = subst (λ o. is_below s.max_depth o ≡ true) (sym m.1)
+      (lt_true m.0 s.max_depth (omega (arith, m.2, x.1.1)))
+      in let t : is_terminal_at s.terminal (g.id_at n.0) ≡ false = subst (λ o. is_terminal_at s.terminal o ≡ false) (sym n.1) x.0
+      in (n.0, n.1, rw (low, t) refl)
+
+  pub marked_expanded : (v : ℕ) (a : Identifier) → g.id_at v ≡ Some a → goes_on s (g.id_at v) (mark v) ≡ true
+      → is_expanded g.rows s a ≡ true
+  marked_expanded v a i e =
+      let p = and_parts (is_below s.max_depth (mark v)) (not (is_terminal_at s.terminal (g.id_at v))) e
+      in let m = below_mark s.max_depth (mark v) p.0
+      in let w = mark_walk v m.0 m.1
+      in let t : is_terminal s.terminal a ≡ false = not_false (is_terminal s.terminal a)
+      (subst (λ o. not (is_terminal_at s.terminal o) ≡ true) i p.1)
+      in (expand g.rows s a is.graph are.identifier (is.canon v a i)).1 (t, (m.0, m.2, (keeps.walks m.0 v a i).0 w.1))
+
+  -- an identifier of a number is expanded exactly where walks go on from the number
+  pub expanded_is : (v : ℕ) (a : Identifier) → g.id_at v ≡ Some a → is_expanded g.rows s a ≡ goes_on s (g.id_at v) (mark v)
+  expanded_is v a i = bool_is (is_expanded g.rows s a) (goes_on s (g.id_at v) (mark v))
+      (λ e. let r = expanded_marked a (is.canon v a i) e
+      in subst (λ w. goes_on s (g.id_at w) (mark w) ≡ true) (is.one_to_one r.0 v a r.1 i) r.2)
+      (marked_expanded v a i)
+
+  pub not_expanded : (a : Identifier) → IsIdentifier a → ((v : ℕ) → g.id_at v ≡ Some a → ⊥) → is_expanded g.rows s a ≡ false
+  not_expanded a i no = bool_is (is_expanded g.rows s a) false
+      (λ e. let r = expanded_marked a i e in absurd (no r.0 r.1)) (λ e. let q : false ≡ true = e in cc)

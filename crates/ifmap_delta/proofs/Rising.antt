@@ -1,0 +1,128 @@
+-- Lists that rise strictly: two with the same members are one, and how a member is put in its place.
+use Rattle.std.proofs.Common.{◌≡◌, ◌⊎◌, inl, inr, Bool, true, false, not, List, [], ◌∷◌, ◌++◌, refl, ap, ◌∙◌, sym, subst}
+use Rattle.std.proofs.lemmas.Bool.{cases_Bool}
+use Rattle.std.proofs.lemmas.List.Kept.{IsStrictlySortedBy-filter}
+use Rattle.std.specs.Cmp.{IsTotalOrder, tied_itself}
+use Rattle.std.specs.List.{AllByRecursion, filter}
+use Rattle.std.specs.List.Sorted.{IsStrictlySortedBy}
+use Rattle.std.specs.Ordering.{is_eq, is_gt, is_lt, ordering_reverse}
+use Rattle.std.specs.declared.cmp.Ordering.{Ordering}
+use Rattle.std.specs.declared.cmp.Ordering.TheVariants.{Less, Equal, Greater}
+use Rattle.ifmap_lemmas.specs.Having.{Has, filter_has, has_either, has_filter, has_left, has_right}
+use Rattle.ifmap_lemmas.specs.Members.{both_all}
+use Rattle.ifmap_lemmas.specs.Orderings.{is_greater, is_less}
+use Rattle.ifmap_plans.specs.Placing.{put}
+
+pub all_of : {X : Type 0} (P : X → Type 0) (xs : List X) → ((x : X) → Has xs x → P x) → AllByRecursion P xs
+all_of P [] f = tt
+all_of P (x ∷ xs) f = (f x (inl refl), all_of P xs (λ y h. f y (inr h)))
+
+pub member_of : {X : Type 0} (P : X → Type 0) (xs : List X) → AllByRecursion P xs → (x : X) → Has xs x → P x
+member_of P [] a x h = absurd h
+member_of P (y ∷ ys) a x (inl e) = subst P e a.0
+member_of P (y ∷ ys) a x (inr h) = member_of P ys a.1 x h
+
+module _ {X : Type 0} (order : X → X → Ordering) (total : IsTotalOrder order) where
+  pub head_rises : (x : X) (xs : List X) → IsStrictlySortedBy order (x ∷ xs) → AllByRecursion (λ y. order x y ≡ Less) xs
+  unfolding IsStrictlySortedBy
+  head_rises x xs r = r.0
+
+  pub tail_rises : (x : X) (xs : List X) → IsStrictlySortedBy order (x ∷ xs) → IsStrictlySortedBy order xs
+  unfolding IsStrictlySortedBy
+  tail_rises x xs r = r.1
+
+  pub rises_from : (x : X) (xs : List X) → AllByRecursion (λ y. order x y ≡ Less) xs → IsStrictlySortedBy order xs
+      → IsStrictlySortedBy order (x ∷ xs)
+  unfolding IsStrictlySortedBy
+  rises_from x xs a r = (a, r)
+
+  nothing_rises : IsStrictlySortedBy order []
+  unfolding IsStrictlySortedBy
+  nothing_rises = tt
+
+  not_itself : (x : X) → order x x ≡ Less → ⊥
+  not_itself x e = let q : Equal ≡ Less = sym (tied_itself total x) ∙ e in cc
+
+  turned : (x y : X) → order x y ≡ Less → order y x ≡ Greater
+  turned x y e = total.antisymm y x ∙ ap ordering_reverse e
+
+  turned_back : (x y : X) → order x y ≡ Greater → order y x ≡ Less
+  turned_back x y e = total.antisymm y x ∙ ap ordering_reverse e
+
+  not_both : (x y : X) → order x y ≡ Less → order y x ≡ Less → ⊥
+  not_both x y e f = let q : Greater ≡ Less = sym (turned x y e) ∙ f in cc
+
+  pub rising_same : (xs ys : List X) → IsStrictlySortedBy order xs → IsStrictlySortedBy order ys
+      → ((x : X) → Has xs x → Has ys x) → ((y : X) → Has ys y → Has xs y) → xs ≡ ys
+  rising_same [] [] r q f g = refl
+  rising_same [] (y ∷ ys) r q f g = absurd (g y (inl refl))
+  rising_same (x ∷ xs) [] r q f g = absurd (f x (inl refl))
+  rising_same (x ∷ xs) (y ∷ ys) r q f g =
+      let below = λ z (h : Has xs z). member_of (λ w. order x w ≡ Less) xs (head_rises x xs r) z h
+      in let above = λ z (h : Has ys z). member_of (λ w. order y w ≡ Less) ys (head_rises y ys q) z h
+      in let one : y ≡ x = elim (f x (inl refl)) [
+        | inl e ↦ e
+        | inr h ↦ elim (g y (inl refl)) [
+          | inl e ↦ sym e
+          | inr k ↦ absurd (not_both x y (below y k) (above x h))
+        ]
+      ]
+      in let rest : xs ≡ ys = rising_same xs ys (tail_rises x xs r) (tail_rises y ys q)
+      (λ z h. elim (f z (inr h)) [
+        | inl e ↦ absurd (not_itself x (subst (λ w. order x w ≡ Less) (sym e ∙ one) (below z h)))
+        | inr k ↦ k
+      ])
+      (λ z h. elim (g z (inr h)) [
+        | inl e ↦ absurd (not_itself y (subst (λ w. order y w ≡ Less) (sym e ∙ sym one) (above z h)))
+        | inr k ↦ k
+      ])
+      in ap (λ w. w ∷ xs) (sym one) ∙ ap (λ l. y ∷ l) rest
+
+  joined_rises : (xs ys : List X) → IsStrictlySortedBy order xs → IsStrictlySortedBy order ys
+      → ((x y : X) → Has xs x → Has ys y → order x y ≡ Less) → IsStrictlySortedBy order (xs ++ ys)
+  joined_rises [] ys r q f = q
+  joined_rises (x ∷ xs) ys r q f =
+      rises_from x (xs ++ ys)
+      (both_all (λ z. order x z ≡ Less) xs ys (head_rises x xs r) (all_of (λ z. order x z ≡ Less) ys (λ y h. f x y (inl refl) h)))
+      (joined_rises xs ys (tail_rises x xs r) q (λ z y h k. f z y (inr h) k))
+
+  pub put_rises : (x : X) (xs : List X) → IsStrictlySortedBy order xs → IsStrictlySortedBy order (put order x xs)
+  put_rises x xs r =
+      let low = filter (λ y. is_lt (order y x)) xs
+      in let high = filter (λ y. is_gt (order y x)) xs
+      in let after : (z : X) → Has high z → order x z ≡ Less
+      = λ z h. turned_back z x (is_greater (order z x) (filter_has (λ y. is_gt (order y x)) xs z h).1)
+      in let before : (z : X) → Has low z → order z x ≡ Less = λ z h. is_less (order z x) (filter_has (λ y. is_lt (order y x)) xs z h).1
+      in joined_rises low (x ∷ high) (IsStrictlySortedBy-filter order (λ y. is_lt (order y x)) xs r)
+      (rises_from x high (all_of (λ z. order x z ≡ Less) high after) (IsStrictlySortedBy-filter order (λ y. is_gt (order y x)) xs r))
+      (λ y z h k. elim k [
+        | inl e ↦ subst (λ w. order y w ≡ Less) e (before y h)
+        | inr m ↦ total.trans y x z (before y h) (after z m)
+      ])
+
+  pub put_has : (x : X) (xs : List X) (z : X) → Has (put order x xs) z → (x ≡ z) ⊎ Has xs z
+  put_has x xs z h = elim (has_either (filter (λ y. is_lt (order y x)) xs) (x ∷ filter (λ y. is_gt (order y x)) xs) z h) [
+    | inl k ↦ inr (filter_has (λ y. is_lt (order y x)) xs z k).0
+    | inr k ↦ elim k [
+      | inl e ↦ inl e
+      | inr m ↦ inr (filter_has (λ y. is_gt (order y x)) xs z m).0
+    ]
+  ]
+
+  pub has_put : (x : X) (xs : List X) → Has (put order x xs) x
+  has_put x xs = has_right (filter (λ y. is_lt (order y x)) xs) (x ∷ filter (λ y. is_gt (order y x)) xs) x (inl refl)
+
+  -- what is not the same stays
+  pub has_still : (x : X) (xs : List X) (z : X) → Has xs z → is_eq (order z x) ≡ false → Has (put order x xs) z
+  has_still x xs z h d = by (order z x) refl d
+    where
+      low : List X
+      low = filter (λ y. is_lt (order y x)) xs
+
+      high : List X
+      high = filter (λ y. is_gt (order y x)) xs
+
+      by : (o : Ordering) → order z x ≡ o → is_eq o ≡ false → Has (low ++ x ∷ high) z
+      by Less e f = has_left low (x ∷ high) z (has_filter (λ y. is_lt (order y x)) xs z h (ap is_lt e))
+      by Equal e f = let q : true ≡ false = f in cc
+      by Greater e f = has_right low (x ∷ high) z (inr (has_filter (λ y. is_gt (order y x)) xs z h (ap is_gt e)))

@@ -1,0 +1,92 @@
+-- Identifiers and items that compare as the same are the same.
+use Rattle.std.proofs.Common.{◌≡◌, ◌⊎◌, inl, inr, true, false, ◌&&◌, Some, None, List, [], ◌∷◌, refl, ap, ◌∙◌, sym, subst}
+use Rattle.std.specs.Cmp.Lexicographic.{nat_list_cmp_total}
+use Rattle.std.specs.List.{AllByRecursion}
+use Rattle.std.specs.Ordering.{ordering_reverse}
+use Rattle.std.specs.declared.cmp.Ordering.{Ordering}
+use Rattle.std.specs.declared.cmp.Ordering.TheVariants.{Less, Equal, Greater}
+use Rattle.std.proofs.lemmas.Bool.{and_parts}
+use Rattle.std.proofs.lemmas.Option.{same_Some, none-some}
+use Rattle.ifmap_lemmas.specs.Having.{Has}
+use Rattle.ifmap_lemmas.specs.Texts.{eq_itself, eq_tells, slice_cmp-same}
+use Rattle.ifmap_ident.specs.Canon.{IsIdentifier}
+use Rattle.ifmap_view.specs.declared.attachments.Attachment.{Attachment}
+use Rattle.ifmap_ident.specs.Items.{IsCanonItem}
+use Rattle.ifmap_ident.specs.declared.identifiers.Identifier.{Identifier}
+use Rattle.ifmap_ident.specs.declared.items.Item.{Item}
+use Rattle.ifmap_ident.specs.declared.items.Item.TheVariants.{One, Pair}
+use Rattle.ifmap_ident.specs.Identifiers.{identifier_bytes, identifier_order, same_identifier}
+use Rattle.ifmap_ident.specs.Items.{IsItem, identifiers_of, ordered_pair, pair_of, same_item}
+
+-- the order the other way round
+pub turned_order : (a b : Identifier) → identifier_order a b ≡ ordering_reverse (identifier_order b a)
+turned_order a b = nat_list_cmp_total.antisymm (identifier_bytes a) (identifier_bytes b)
+
+-- the pair of two identifiers is that of them the other way round, and of one there is none
+pub pair_turned : (a b : Identifier) → pair_of a b ≡ pair_of b a
+pair_turned a b = by (identifier_order b a) refl
+  where
+    by : (o : Ordering) → identifier_order b a ≡ o → ordered_pair (identifier_order a b) a b ≡ ordered_pair (identifier_order b a) b a
+    by Less is = ap (λ o. ordered_pair o a b) (turned_order a b ∙ ap ordering_reverse is) ∙ sym (ap (λ o. ordered_pair o b a) is)
+    by Equal is = ap (λ o. ordered_pair o a b) (turned_order a b ∙ ap ordering_reverse is) ∙ sym (ap (λ o. ordered_pair o b a) is)
+    by Greater is = ap (λ o. ordered_pair o a b) (turned_order a b ∙ ap ordering_reverse is) ∙ sym (ap (λ o. ordered_pair o b a) is)
+
+pub pair_of_one : (a : Identifier) → pair_of a a ≡ None
+pair_of_one a = ap (λ o. ordered_pair o a a) (slice_cmp-same (identifier_bytes a) (identifier_bytes a) refl)
+
+-- an item of two is the pair of them
+pub pair_is : (a b : Identifier) → IsItem (Pair a b) → pair_of a b ≡ Some (Pair a b)
+pair_is a b i = ap (λ o. ordered_pair o a b) i
+
+-- the pair of two identifiers is one of them and the other
+pub pair_parts : (a b : Identifier) (item : Item) → pair_of a b ≡ Some item → (item ≡ Pair a b) ⊎ (item ≡ Pair b a)
+pair_parts a b item e = by (identifier_order a b) refl
+  where
+    by : (o : Ordering) → identifier_order a b ≡ o → (item ≡ Pair a b) ⊎ (item ≡ Pair b a)
+    by Less is = inl (same_Some item (Pair a b) (sym e ∙ ap (λ o. ordered_pair o a b) is))
+    by Equal is = absurd (none-some item (sym (ap (λ o. ordered_pair o a b) is) ∙ e))
+    by Greater is = inr (same_Some item (Pair b a) (sym e ∙ ap (λ o. ordered_pair o a b) is))
+
+-- identifiers of one list of canonical bytes are one
+abbrev pub Tells : Type 0
+Tells = (one other : Identifier) → IsIdentifier one → IsIdentifier other → identifier_bytes one ≡ identifier_bytes other → one ≡ other
+
+abbrev pub AreCanon : Item → Type 0
+AreCanon x = AllByRecursion IsIdentifier (identifiers_of x)
+
+pub same_itself : (a : Identifier) → same_identifier a a ≡ true
+same_itself a = eq_itself (identifier_bytes a)
+
+pub item_itself : (x : Item) → same_item x x ≡ true
+item_itself (One a) = rw (same_itself a) refl
+item_itself (Pair a b) = rw (same_itself a, same_itself b) refl
+
+module _ (tells : Tells) where
+  pub same_is : (a b : Identifier) → IsIdentifier a → IsIdentifier b → same_identifier a b ≡ true → a ≡ b
+  same_is a b p q e = tells a b p q (eq_tells (identifier_bytes a) (identifier_bytes b) e)
+
+  pub same_item_is : (x y : Item) → AreCanon x → AreCanon y → same_item x y ≡ true → x ≡ y
+  same_item_is (One a) (One b) p q e = ap One (same_is a b p.0 q.0 (and_parts (same_identifier a b) true e).0)
+  same_item_is (One a) (Pair b c) p q e = let r : false ≡ true = (and_parts (same_identifier a b) false e).1 in cc
+  same_item_is (Pair a b) (One c) p q e = let r : false ≡ true = (and_parts (same_identifier a c) false e).1 in cc
+  same_item_is (Pair a b) (Pair c d) p q e =
+      let f = and_parts (same_identifier a c) (same_identifier b d && true) e
+      in let g = and_parts (same_identifier b d) true f.1
+      in ap (λ x. Pair x b) (same_is a c p.0 q.0 f.0) ∙ ap (λ x. Pair c x) (same_is b d p.1.0 q.1.0 g.0)
+
+-- the pair of two identifiers is an item
+pub pair_canon : (a b : Identifier) (item : Item) → IsIdentifier a → IsIdentifier b → pair_of a b ≡ Some item → IsCanonItem item
+pair_canon a b item p q e = by (identifier_order a b) refl
+  where
+    by : (o : Ordering) → identifier_order a b ≡ o → IsCanonItem item
+    by Less is = subst IsCanonItem (same_Some (Pair a b) item (sym (ap (λ o. ordered_pair o a b) is) ∙ e))
+        (record { ordered = is; identifiers = (p, (q, tt)) })
+    by Equal is = absurd (none-some item (sym (ap (λ o. ordered_pair o a b) is) ∙ e))
+    by Greater is = subst IsCanonItem (same_Some (Pair b a) item (sym (ap (λ o. ordered_pair o a b) is) ∙ e))
+        (record { ordered = turned_order b a ∙ ap ordering_reverse is; identifiers = (q, (p, tt)) })
+
+-- what holds of all attachments holds of each
+pub member : (P : Attachment → Type 0) (rs : List Attachment) → AllByRecursion P rs → (r : Attachment) → Has rs r → P r
+member P [] a r h = absurd h
+member P (x ∷ xs) a r (inl e) = subst P e a.0
+member P (x ∷ xs) a r (inr h) = member P xs a.1 r h

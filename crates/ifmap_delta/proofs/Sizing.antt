@@ -1,0 +1,180 @@
+-- The size of the next result: that of the one before, without what went and with what came. The two results share what
+-- neither loses nor gains, and that has one size in both.
+use Rattle.std.proofs.Common.{◌≡◌, ◌⊎◌, inl, inr, ℕ, ◌+◌, Bool, true, false, not, ◌&&◌, List, [], ◌∷◌, map, length, sum_by, refl, ap, ◌∙◌, sym, subst, arith}
+use Rattle.std.proofs.lemmas.Bool.{and_parts, cases_Bool}
+use Rattle.std.proofs.lemmas.List.Kept.{IsStrictlySortedBy-filter}
+use Rattle.std.proofs.lemmas.List.Sums.{sum_by-cons}
+use Rattle.std.specs.Cmp.{IsTotalOrder, tied_itself}
+use Rattle.std.specs.Cmp.Lexicographic.{slice_cmp}
+use Rattle.std.specs.List.{AllByRecursion, filter, list_any}
+use Rattle.std.specs.List.Sorted.{IsStrictlySortedBy}
+use Rattle.std.specs.Ordering.{is_eq, nat_cmp, ordering_reverse}
+use Rattle.std.specs.Str.{bytes_eq}
+use Rattle.std.specs.declared.cmp.Ordering.{Ordering}
+use Rattle.std.specs.declared.cmp.Ordering.TheVariants.{Less, Equal, Greater}
+use Rattle.ifmap_elem.specs.Canonical.{canonical_bytes}
+use Rattle.ifmap_ident.specs.declared.items.Item.{Item}
+use Rattle.ifmap_ident.specs.declared.items.Item.TheVariants.{One, Pair}
+use Rattle.ifmap_ident.specs.Identifiers.{identifier_bytes, same_identifier}
+use Rattle.ifmap_ident.specs.Items.{item_size, same_item}
+use Rattle.ifmap_lemmas.specs.Having.{Has, any_has, filter_has, has_any, has_filter}
+use Rattle.ifmap_lemmas.specs.Members.{map_of_all}
+use Rattle.ifmap_lemmas.specs.Texts.{eq_tells}
+use Rattle.ifmap_search.specs.declared.results.Entry.{Entry}
+use Rattle.ifmap_search.specs.declared.searches.Search.{Search}
+use Rattle.ifmap_search.specs.Sizes.{entries_size, entry_size}
+use Rattle.ifmap_view.specs.declared.attachments.Attachment.{Attachment}
+use Rattle.ifmap_view.specs.Attachments.{IsGraph, attachment_order, stored_bytes}
+use Rattle.ifmap_fresh.specs.Fresh.{fresh, fresh_size, is_found}
+use Rattle.ifmap_delta.specs.Differences.{difference, entry_bytes, entry_order, has_entry, same_entry}
+use Rattle.ifmap_delta.proofs.Folding.{entries_tie, entries_total, same_turned}
+use Rattle.ifmap_delta.proofs.Rising.{head_rises, member_of, rises_from, tail_rises}
+use Rattle.ifmap_delta.proofs.Telling.{entry_of}
+
+-- a sum over a list, in two parts
+parts : {X : Type 0} (f : X → ℕ) (p : X → Bool) (xs : List X)
+    → sum_by f xs ≡ sum_by f (filter p xs) + sum_by f (filter (λ x. not (p x)) xs)
+parts f p [] = refl
+parts f p (x ∷ xs) = elim (cases_Bool (p x)) [
+  | inl t ↦ rw t (omega (
+    arith,
+    parts f p xs,
+    sum_by-cons f x xs,
+    sum_by-cons f x (filter p xs),
+  ))
+  | inr t ↦ rw t (omega (
+    arith,
+    parts f p xs,
+    sum_by-cons f x xs,
+    sum_by-cons f x (filter (λ y. not (p y)) xs),
+  ))
+]
+
+-- two rising lists, of which each has what ties with a member of the other, have one sum of what ties give alike
+module _ {X : Type 0} (order : X → X → Ordering) (total : IsTotalOrder order) (f : X → ℕ)
+    (alike : (x y : X) → order x y ≡ Equal → f x ≡ f y) where
+  equal_turned : (x y : X) → order x y ≡ Equal → order y x ≡ Equal
+  equal_turned x y e = total.antisymm y x ∙ ap ordering_reverse e
+
+  less_left : (x y z : X) → order x y ≡ Equal → order x z ≡ Less → order y z ≡ Less
+  less_left x y z e l = sym (total.congr x y z e) ∙ l
+
+  less_right : (x y z : X) → order y z ≡ Equal → order x y ≡ Less → order x z ≡ Less
+  less_right x y z e l =
+      total.antisymm x z ∙ ap ordering_reverse (sym (total.congr y z x e) ∙ total.antisymm y x ∙ ap ordering_reverse l)
+
+  not_both : (x y : X) → order x y ≡ Less → order y x ≡ Less → ⊥
+  not_both x y e g = let q : Greater ≡ Less = sym (total.antisymm y x ∙ ap ordering_reverse e) ∙ g in cc
+
+  not_equal : (x y : X) → order x y ≡ Less → order x y ≡ Equal → ⊥
+  not_equal x y e g = let q : Less ≡ Equal = sym e ∙ g in cc
+
+  abbrev Meets : List X → List X → Type 0
+  Meets xs ys = (x : X) → Has xs x → (y : X) × Has ys y × (order x y ≡ Equal)
+
+  pub one_sum : (xs ys : List X) → IsStrictlySortedBy order xs → IsStrictlySortedBy order ys → Meets xs ys → Meets ys xs
+      → sum_by f xs ≡ sum_by f ys
+  one_sum [] [] r q a b = refl
+  one_sum [] (y ∷ ys) r q a b = absurd (b y (inl refl)).1
+  one_sum (x ∷ xs) [] r q a b = absurd (a x (inl refl)).1
+  one_sum (x ∷ xs) (y ∷ ys) r q a b =
+      let below = λ z (h : Has xs z). member_of (λ w. order x w ≡ Less) xs (head_rises order total x xs r) z h
+      in let above = λ z (h : Has ys z). member_of (λ w. order y w ≡ Less) ys (head_rises order total y ys q) z h
+      in let heads : order x y ≡ Equal = first x y below above (a x (inl refl)) (b y (inl refl))
+      in let rest : sum_by f xs ≡ sum_by f ys = one_sum xs ys (tail_rises order total x xs r) (tail_rises order total y ys q)
+      (λ z h. later x y heads z (below z h) (a z (inr h)))
+      (λ z h. later y x (equal_turned x y heads) z (above z h) (b z (inr h)))
+      in omega (arith, alike x y heads, rest, sum_by-cons f x xs, sum_by-cons f y ys)
+    where
+      first : (x y : X) → ((z : X) → Has xs z → order x z ≡ Less) → ((z : X) → Has ys z → order y z ≡ Less)
+          → (z : X) × Has (y ∷ ys) z × (order x z ≡ Equal) → (z : X) × Has (x ∷ xs) z × (order y z ≡ Equal) → order x y ≡ Equal
+      first x y below above (z, inl e, t) w = subst (λ v. order x v ≡ Equal) (sym e) t
+      first x y below above (z, inr h, t) (v, inl e, u) = equal_turned y x (subst (λ w. order y w ≡ Equal) (sym e) u)
+      first x y below above (z, inr h, t) (v, inr k, u) =
+          absurd (not_both x y (less_right x v y (equal_turned y v u) (below v k)) (less_right y z x (equal_turned x z t) (above z h)))
+
+      later : {ys : List X} (x y : X) → order x y ≡ Equal → (z : X) → order x z ≡ Less → (w : X) × Has (y ∷ ys) w × (order z w ≡ Equal)
+          → (w : X) × Has ys w × (order z w ≡ Equal)
+      later x y heads z l (w, inl e, t) =
+          absurd (not_equal x y (less_right x z y (subst (λ v. order z v ≡ Equal) (sym e) t) l) heads)
+      later x y heads z l (w, inr h, t) = (w, h, t)
+
+-- identifiers and items that are the same have one size
+same_lengths : (a b : List ℕ) → bytes_eq a b ≡ true → length a ≡ length b
+same_lengths a b e = ap length (eq_tells a b e)
+
+same_sizes : (x y : Item) → same_item x y ≡ true → item_size x ≡ item_size y
+same_sizes (One a) (One b) e =
+    let p = same_lengths (identifier_bytes a) (identifier_bytes b) (and_parts (same_identifier a b) true e).0
+    in rw p refl
+same_sizes (One a) (Pair b c) e = let q : false ≡ true = (and_parts (same_identifier a b) false e).1 in cc
+same_sizes (Pair a b) (One c) e = let q : false ≡ true = (and_parts (same_identifier a c) false e).1 in cc
+same_sizes (Pair a b) (Pair c d) e =
+    let f = and_parts (same_identifier a c) (same_identifier b d && true) e
+    in let g = and_parts (same_identifier b d) true f.1
+    in let p = same_lengths (identifier_bytes a) (identifier_bytes c) f.0
+    in let q = same_lengths (identifier_bytes b) (identifier_bytes d) g.0
+    in rw (p, q) refl
+
+same_size : (x y : Entry) → same_entry x y ≡ true → entry_size x ≡ entry_size y
+unfolding entry_size, entry_bytes
+same_size x y e =
+    let p = and_parts (same_item x.item y.item) (bytes_eq (canonical_bytes x.element) (canonical_bytes y.element)) e
+    in let i = same_sizes x.item y.item p.0
+    in let l = same_lengths (canonical_bytes x.element) (canonical_bytes y.element) p.1
+    in ap (λ n. n + length (canonical_bytes x.element)) i ∙ ap (λ n. item_size y.item + n) l
+
+-- results are in the order of entries
+order_is : (x y : Attachment) → attachment_order x y ≡ Less → entry_order (entry_of x) (entry_of y) ≡ Less
+unfolding stored_bytes, entry_bytes
+order_is x y e = e
+
+all_rise : (x : Attachment) (ys : List Attachment) → AllByRecursion (λ y. attachment_order x y ≡ Less) ys
+    → AllByRecursion (λ y. entry_order (entry_of x) y ≡ Less) (map entry_of ys)
+all_rise x [] a = tt
+all_rise x (y ∷ ys) a = (order_is x y a.0, all_rise x ys a.1)
+
+map_rises : (xs : List Attachment) → IsStrictlySortedBy attachment_order xs → IsStrictlySortedBy entry_order (map entry_of xs)
+unfolding IsStrictlySortedBy
+map_rises [] r = tt
+map_rises (x ∷ xs) r = (all_rise x xs r.0, map_rises xs r.1)
+
+pub fresh_rises : (rows : List Attachment) (s : Search) → IsGraph rows → IsStrictlySortedBy entry_order (fresh rows s)
+fresh_rises rows s graph =
+    map_rises (filter (is_found rows s) rows) (IsStrictlySortedBy-filter attachment_order (is_found rows s) rows graph.rising)
+
+tied_size : (x y : Entry) → entry_order x y ≡ Equal → entry_size x ≡ entry_size y
+tied_size x y e = same_size x y (entries_tie x y ∙ ap is_eq e)
+
+is_equal : (o : Ordering) → is_eq o ≡ true → o ≡ Equal
+is_equal Less e = let q : false ≡ true = e in cc
+is_equal Equal e = refl
+is_equal Greater e = let q : false ≡ true = e in cc
+
+-- what one list shares with another meets what that one shares with it
+shared : (a b : List Entry) (x : Entry) → Has (filter (has_entry b) a) x
+    → (y : Entry) × Has (filter (has_entry a) b) y × (entry_order x y ≡ Equal)
+shared a b x h =
+    let f = filter_has (has_entry b) a x h
+    in let y = any_has (same_entry x) b f.1
+    in let turned : same_entry y.0 x ≡ true = same_turned y.0 x ∙ y.2
+    in (
+      y.0,
+      has_filter (has_entry a) b y.0 y.1 (has_any (same_entry y.0) a x f.0 turned),
+      is_equal (entry_order x y.0) (sym (entries_tie x y.0) ∙ y.2),
+    )
+
+pub sizes_differ : (a b : List Entry) → IsStrictlySortedBy entry_order a → IsStrictlySortedBy entry_order b → (before after : ℕ)
+    → before ≡ entries_size a → after + entries_size (difference a b) ≡ before + entries_size (difference b a)
+    → after ≡ entries_size b
+sizes_differ a b r q before after is sums =
+    omega (
+      arith,
+      is,
+      sums,
+      parts entry_size (has_entry b) a,
+      parts entry_size (has_entry a) b,
+      one_sum entry_order entries_total entry_size tied_size (filter (has_entry b) a) (filter (has_entry a) b)
+          (IsStrictlySortedBy-filter entry_order (has_entry b) a r) (IsStrictlySortedBy-filter entry_order (has_entry a) b q)
+          (shared a b) (shared b a),
+    )

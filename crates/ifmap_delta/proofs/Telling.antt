@@ -1,0 +1,232 @@
+-- What is told item by item is the difference of the results. In order: entries of items, one after the other, are a filtered
+-- list of attachments (`joined`); whether a result has the entry of an attachment (`in_other`); the two filters agree
+-- (`pointwise`); `difference_is`.
+use Rattle.std.proofs.Common.{◌≡◌, ◌⊎◌, inl, inr, Bool, true, false, cond, not, ◌&&◌, List, [], ◌∷◌, ◌++◌, map, flat_map, refl, ap, ◌∙◌, sym, subst}
+use Rattle.std.proofs.lemmas.Bool.{and_parts, cases_Bool}
+use Rattle.std.proofs.lemmas.List.{map-append}
+use Rattle.std.proofs.lemmas.List.Elements.{filter-append}
+use Rattle.std.specs.Cmp.Lexicographic.{slice_cmp}
+use Rattle.std.specs.List.{AllByRecursion, filter, list_any}
+use Rattle.std.specs.List.Sorted.{IsStrictlySortedBy}
+use Rattle.std.specs.Ordering.{eq_by_cmp, is_eq, nat_cmp}
+use Rattle.std.specs.Str.{bytes_eq}
+use Rattle.std.specs.declared.cmp.Ordering.{Ordering}
+use Rattle.std.specs.declared.cmp.Ordering.TheVariants.{Less, Equal, Greater}
+use Rattle.ifmap_elem.specs.Canonical.{canonical_bytes}
+use Rattle.ifmap_filter.specs.declared.filters.Filter.{Filter}
+use Rattle.ifmap_filter.specs.Meets.{meets_optional}
+use Rattle.ifmap_ident.specs.declared.items.Item.{Item}
+use Rattle.ifmap_ident.specs.Items.{IsCanonItem, item_order, same_item}
+use Rattle.ifmap_lemmas.specs.Having.{Has, any_has, filter_has, has_any, has_filter, has_map, map_has}
+use Rattle.ifmap_lemmas.specs.Texts.{eq_itself, eq_tells, same_texts, slice_cmp-same}
+use Rattle.ifmap_meta.specs.declared.stored.Stored.{Stored}
+use Rattle.ifmap_search.specs.declared.results.Entry.{Entry}
+use Rattle.ifmap_search.specs.declared.searches.Search.{Search}
+use Rattle.ifmap_view.specs.declared.attachments.Attachment.{Attachment}
+use Rattle.ifmap_view.specs.Attachments.{IsGraph, stored_bytes, stored_order}
+use Rattle.ifmap_view.specs.Rows.{stored_on}
+use Rattle.ifmap_fresh.specs.Fresh.{fresh, is_found, is_looked_at}
+use Rattle.ifmap_fresh.specs.Gathered.{entry_at, gathered, has_item, row_at}
+use Rattle.ifmap_delta.specs.Differences.{difference, entry_bytes, has_entry, same_entry}
+use Rattle.ifmap_delta.specs.Shown.{shown_on}
+use Rattle.ifmap_delta.specs.Sights.{Sight}
+use Rattle.ifmap_delta.specs.Touched.{has_met, left_out_on}
+use Rattle.ifmap_delta.proofs.Gathering.{gathers, grouped}
+use Rattle.ifmap_delta.proofs.Marking.{bool_is}
+use Rattle.ifmap_delta.proofs.Rising.{all_of}
+use Rattle.ifmap_delta.proofs.Same.{AreCanon, Tells, item_itself, member, same_item_is}
+
+abbrev pub entry_of : Attachment → Entry
+entry_of r = record { item = r.item; element = r.stored.element }
+
+is_equal : (o : Ordering) → is_eq o ≡ true → o ≡ Equal
+is_equal Less e = let q : false ≡ true = e in cc
+is_equal Equal e = refl
+is_equal Greater e = let q : false ≡ true = e in cc
+
+-- rows of one list of canonical bytes are one entry
+bytes_tie : (a b : Attachment) → bytes_eq (entry_bytes (entry_of a)) (entry_bytes (entry_of b)) ≡ true
+    → eq_by_cmp stored_order b.stored a.stored ≡ true
+unfolding entry_bytes, stored_bytes
+bytes_tie a b e = ap is_eq (slice_cmp-same (canonical_bytes b.stored.element) (canonical_bytes a.stored.element)
+    (sym (eq_tells (canonical_bytes a.stored.element) (canonical_bytes b.stored.element) e)))
+
+tie_bytes : (a b : Attachment) → eq_by_cmp stored_order b.stored a.stored ≡ true
+    → bytes_eq (entry_bytes (entry_of a)) (entry_bytes (entry_of b)) ≡ true
+unfolding entry_bytes, stored_bytes
+tie_bytes a b e =
+    subst (λ l. bytes_eq (canonical_bytes a.stored.element) l ≡ true)
+    (sym (same_texts (canonical_bytes b.stored.element) (canonical_bytes a.stored.element) (is_equal _ e)))
+    (eq_itself (canonical_bytes a.stored.element))
+
+tied_itself : (t : Stored) → eq_by_cmp stored_order t t ≡ true
+tied_itself t = ap is_eq (slice_cmp-same (stored_bytes t) (stored_bytes t) refl)
+
+filter_twice : {X : Type 0} (p q : X → Bool) (xs : List X) → filter q (filter p xs) ≡ filter (λ x. p x && q x) xs
+filter_twice p q [] = refl
+filter_twice p q (x ∷ xs) = elim (cases_Bool (p x)) [
+  | inl t ↦ elim (cases_Bool (q x)) [
+    | inl u ↦ rw (t, u) (ap (λ l. x ∷ l) (filter_twice p q xs))
+    | inr u ↦ rw (t, u) (filter_twice p q xs)
+  ]
+  | inr t ↦ rw t (filter_twice p q xs)
+]
+
+filter_same : {X : Type 0} (p q : X → Bool) (xs : List X) → AllByRecursion (λ r. p r ≡ q r) xs → filter p xs ≡ filter q xs
+filter_same p q [] a = refl
+filter_same p q (x ∷ xs) a = elim (cases_Bool (q x)) [
+  | inl t ↦ rw (a.0 ∙ t, t) (ap (λ l. x ∷ l) (filter_same p q xs a.1))
+  | inr t ↦ rw (a.0 ∙ t, t) (filter_same p q xs a.1)
+]
+
+filter_of_map : {X Y : Type 0} (f : X → Y) (q : Y → Bool) (xs : List X) → filter q (map f xs) ≡ map f (filter (λ x. q (f x)) xs)
+filter_of_map f q [] = refl
+filter_of_map f q (x ∷ xs) = elim (cases_Bool (q (f x))) [
+  | inl t ↦ rw t (ap (λ l. f x ∷ l) (filter_of_map f q xs))
+  | inr t ↦ rw t (filter_of_map f q xs)
+]
+
+-- what is left out on one item, as a filter of what is stored there
+none_left : (x : Item) (q : Stored → Bool) (p : Attachment → Bool) → ((t : Stored) → p (row_at x t) ≡ false) → (xs : List Stored)
+    → [] ≡ map entry_of (filter p (map (row_at x) xs))
+none_left x q p e [] = refl
+none_left x q p e (t ∷ ts) = rw (e t) (none_left x q p e ts)
+
+some_left : (x : Item) (q : Stored → Bool) (p : Attachment → Bool) → ((t : Stored) → p (row_at x t) ≡ q t) → (xs : List Stored)
+    → map (entry_at x) (filter q xs) ≡ map entry_of (filter p (map (row_at x) xs))
+some_left x q p e [] = refl
+some_left x q p e (t ∷ ts) = elim (cases_Bool (q t)) [
+  | inl u ↦ rw (u, e t ∙ u) (ap (λ l. entry_at x t ∷ l) (some_left x q p e ts))
+  | inr u ↦ rw (u, e t ∙ u) (some_left x q p e ts)
+]
+
+one_item : (x : Item) (b : Bool) (q : Stored → Bool) (p : Attachment → Bool) → ((t : Stored) → p (row_at x t) ≡ (b && q t))
+    → (xs : List Stored) → map (entry_at x) (filter q (cond b xs [])) ≡ map entry_of (filter p (map (row_at x) xs))
+one_item x true q p e xs = some_left x q p e xs
+one_item x false q p e xs = none_left x q p e xs
+
+all_items : (is : List Item) → ((x : Item) → Has is x → IsCanonItem x) → AllByRecursion AreCanon is
+all_items [] f = tt
+all_items (i ∷ is) f = ((f i (inl refl)).identifiers, all_items is (λ x h. f x (inr h)))
+
+and_joined : (b m n : Bool) → (b && (m && n)) ≡ ((b && m) && n)
+and_joined true m n = refl
+and_joined false m n = refl
+
+outside : (b m a : Bool) → (b ≡ true → m ≡ true → a ≡ true) → ((b && m) && not a) ≡ false
+outside false m a f = refl
+outside true false a f = refl
+outside true true a f = ap not (f refl refl)
+
+module _ (tells : Tells) (one other : Sight) (s : Search) (graph : IsGraph one.rows) (beside : IsGraph other.rows) where
+  abbrev met : Stored → Bool
+  met t = meets_optional s.result_filter t.element
+
+  abbrev told : Attachment → Bool
+  told r = is_looked_at one.rows s r.item && (met r.stored && not (has_met s.result_filter (shown_on other.rows s r.item) r.stored))
+
+  joined : (is : List Item) → left_out_on one other s is ≡ map entry_of (filter told (gathered one.rows is))
+  joined [] = refl
+  joined (x ∷ xs) =
+      ap (λ l. l ++ left_out_on one other s xs)
+      (one_item x (is_looked_at one.rows s x) (λ t. met t && not (has_met s.result_filter (shown_on other.rows s x) t)) told (λ t. refl)
+      (stored_on x one.rows))
+      ∙ ap (λ l. map entry_of (filter told (map (row_at x) (stored_on x one.rows))) ++ l) (joined xs)
+      ∙ sym (map-append entry_of (filter told (map (row_at x) (stored_on x one.rows))) (filter told (gathered one.rows xs)))
+      ∙ sym (ap (map entry_of) (filter-append told (map (row_at x) (stored_on x one.rows)) (gathered one.rows xs)))
+
+  in_other : (r : Attachment) → IsCanonItem r.item
+      → has_entry (fresh other.rows s) (entry_of r) ≡ has_met s.result_filter (shown_on other.rows s r.item) r.stored
+  in_other r i = bool_is (has_entry (fresh other.rows s) (entry_of r)) (has_met s.result_filter (shown_on other.rows s r.item) r.stored)
+      forward (λ h. backward (is_looked_at other.rows s r.item) refl h)
+    where
+      ties : Stored → Bool
+      ties o = eq_by_cmp stored_order o r.stored && met o
+
+      forward : has_entry (fresh other.rows s) (entry_of r) ≡ true
+          → has_met s.result_filter (shown_on other.rows s r.item) r.stored ≡ true
+      forward h =
+          let e = any_has (same_entry (entry_of r)) (fresh other.rows s) h
+          in let m = map_has entry_of (filter (is_found other.rows s) other.rows) e.0 e.1
+          in let f = filter_has (is_found other.rows s) other.rows m.0 m.1
+          in let p = and_parts (is_looked_at other.rows s m.0.item) (met m.0.stored) f.1
+          in let q : same_entry (entry_of r) (entry_of m.0) ≡ true = subst (λ y. same_entry (entry_of r) y ≡ true) (sym m.2) e.2
+          in let k = and_parts (same_item r.item m.0.item) (bytes_eq (entry_bytes (entry_of r)) (entry_bytes (entry_of m.0))) q
+          in let at : r.item ≡ m.0.item = same_item_is tells r.item m.0.item i.identifiers
+          (member (λ r. IsCanonItem r.item) other.rows beside.items m.0 f.0).identifiers k.0
+          in let looked : is_looked_at other.rows s r.item ≡ true = subst (λ x. is_looked_at other.rows s x ≡ true) (sym at) p.0
+          in let there : Has (stored_on r.item other.rows) m.0.stored
+          = has_map (λ (x : Attachment). x.stored) (filter (λ x. same_item x.item r.item) other.rows) m.0
+          (has_filter (λ x. same_item x.item r.item) other.rows m.0 f.0
+          (subst (λ x. same_item m.0.item x ≡ true) (sym at) (item_itself m.0.item)))
+          in subst (λ b. list_any ties (cond b (stored_on r.item other.rows) []) ≡ true) (sym looked)
+          (has_any ties (stored_on r.item other.rows) m.0.stored there (rw (bytes_tie r m.0 k.1, p.1) refl))
+
+      backward : (b : Bool) → is_looked_at other.rows s r.item ≡ b
+          → has_met s.result_filter (cond b (stored_on r.item other.rows) []) r.stored ≡ true
+          → has_entry (fresh other.rows s) (entry_of r) ≡ true
+      backward false looked h = let q : false ≡ true = h in cc
+      backward true looked h =
+          let t = any_has ties (stored_on r.item other.rows) h
+          in let p = and_parts (eq_by_cmp stored_order t.0 r.stored) (met t.0) t.2
+          in let m = map_has (λ (x : Attachment). x.stored) (filter (λ x. same_item x.item r.item) other.rows) t.0 t.1
+          in let f = filter_has (λ (x : Attachment). same_item x.item r.item) other.rows m.0 m.1
+          in let at : m.0.item ≡ r.item = same_item_is tells m.0.item r.item
+          (member (λ r. IsCanonItem r.item) other.rows beside.items m.0 f.0).identifiers i.identifiers f.1
+          in let seen : is_looked_at other.rows s m.0.item ≡ true = subst (λ x. is_looked_at other.rows s x ≡ true) (sym at) looked
+          in let meets : met m.0.stored ≡ true = subst (λ y. met y ≡ true) (sym m.2) p.1
+          in let is : is_found other.rows s m.0 ≡ true = rw (seen, meets) refl
+          in let bytes : bytes_eq (entry_bytes (entry_of r)) (entry_bytes (entry_of m.0)) ≡ true
+          = tie_bytes r m.0 (subst (λ y. eq_by_cmp stored_order y r.stored ≡ true) (sym m.2) p.0)
+          in let item : same_item r.item m.0.item ≡ true = subst (λ x. same_item r.item x ≡ true) (sym at) (item_itself r.item)
+          in has_any (same_entry (entry_of r)) (fresh other.rows s) (entry_of m.0)
+          (has_map entry_of (filter (is_found other.rows s) other.rows) m.0 (has_filter (is_found other.rows s) other.rows m.0 f.0 is))
+          (rw (item, bytes) refl)
+
+  module _ (items : List Item) (rising : IsStrictlySortedBy item_order items) (canon : (x : Item) → Has items x → IsCanonItem x)
+      (settled : (x : Item) → IsCanonItem x → has_item items x ≡ false
+      → (is_looked_at one.rows s x ≡ is_looked_at other.rows s x)
+      × (is_looked_at one.rows s x ≡ true → stored_on x one.rows ≡ stored_on x other.rows)) where
+    abbrev kept : Attachment → Bool
+    kept r = not (has_entry (fresh other.rows s) (entry_of r))
+
+    pointwise : (r : Attachment) → Has one.rows r → (has_item items r.item && told r) ≡ (is_found one.rows s r && kept r)
+    pointwise r h = by (has_item items r.item) refl
+      where
+        canon_r : IsCanonItem r.item
+        canon_r = member (λ r. IsCanonItem r.item) one.rows graph.items r h
+
+        other_has : has_entry (fresh other.rows s) (entry_of r) ≡ has_met s.result_filter (shown_on other.rows s r.item) r.stored
+        other_has = in_other r canon_r
+
+        stays : has_item items r.item ≡ false → is_looked_at one.rows s r.item ≡ true → met r.stored ≡ true
+            → has_entry (fresh other.rows s) (entry_of r) ≡ true
+        stays f looked m =
+            let q = settled r.item canon_r f
+            in let seen : is_looked_at other.rows s r.item ≡ true = sym q.0 ∙ looked
+            in let own : Has (stored_on r.item one.rows) r.stored
+            = has_map (λ (x : Attachment). x.stored) (filter (λ x. same_item x.item r.item) one.rows) r
+            (has_filter (λ x. same_item x.item r.item) one.rows r h (item_itself r.item))
+            in let there : Has (stored_on r.item other.rows) r.stored = subst (λ l. Has l r.stored) (q.1 looked) own
+            in other_has ∙ subst (λ b. list_any (λ o. eq_by_cmp stored_order o r.stored && met o) (cond b (stored_on r.item other.rows) [])
+            ≡ true) (sym seen)
+            (has_any (λ o. eq_by_cmp stored_order o r.stored && met o) (stored_on r.item other.rows) r.stored there
+            (rw (tied_itself r.stored, m) refl))
+
+        by : (b : Bool) → has_item items r.item ≡ b → (b && told r) ≡ (is_found one.rows s r && kept r)
+        by true e =
+            and_joined (is_looked_at one.rows s r.item) (met r.stored) (not (has_met s.result_filter (shown_on other.rows s r.item) r.stored))
+            ∙ ap (λ a. (is_looked_at one.rows s r.item && met r.stored) && not a) (sym other_has)
+        by false e = sym (outside (is_looked_at one.rows s r.item) (met r.stored) (has_entry (fresh other.rows s) (entry_of r)) (stays e))
+
+    -- what is left out item by item is the difference of the results
+    pub difference_is : left_out_on one other s items ≡ difference (fresh one.rows s) (fresh other.rows s)
+    difference_is =
+        joined items
+        ∙ ap (λ l. map entry_of (filter told l))
+        (gathers tells one.rows items graph.items (all_items items canon) (grouped one.rows graph.rising) rising)
+        ∙ ap (map entry_of) (filter_twice (λ (r : Attachment). has_item items r.item) told one.rows
+        ∙ filter_same (λ (r : Attachment). has_item items r.item && told r) (λ r. is_found one.rows s r && kept r) one.rows
+        (all_of (λ (r : Attachment). (has_item items r.item && told r) ≡ (is_found one.rows s r && kept r)) one.rows pointwise)
+        ∙ sym (filter_twice (is_found one.rows s) kept one.rows))
+        ∙ sym (filter_of_map entry_of (λ e. not (has_entry (fresh other.rows s) e)) (filter (is_found one.rows s) one.rows))

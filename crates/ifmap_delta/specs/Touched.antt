@@ -1,0 +1,87 @@
+-- The items on which a change may tell something, as they are gathered. No public clause cites this module.
+use Rattle.std.specs.Prelude.{◌≡◌, ◌≢◌, ℕ, Bool, true, false, ◌&&◌, ◌||◌, not, ◌⊎◌, List, [], ◌++◌, length, map, Option, None, Some, is_some, if◌then◌else◌}
+use Rattle.std.specs.List.{cons_option, filter, filter_map, flat_map}
+use Rattle.std.specs.List.Sorted.{IsStrictlySortedBy}
+use Rattle.std.proofs.Math.Bool.{beq}
+use Rattle.ifmap_filter.specs.declared.filters.Filter.{Filter}
+use Rattle.ifmap_filter.specs.Meets.{meets_optional}
+use Rattle.ifmap_ident.specs.declared.items.Item.{Item}
+use Rattle.ifmap_ident.specs.Items.{IsCanonItem, item_order}
+use Rattle.ifmap_lemmas.specs.Having.{Has}
+use Rattle.ifmap_meta.specs.declared.stored.Stored.{Stored}
+use Rattle.ifmap_plans.specs.declared.plans.ItemChange.{ItemChange}
+use Rattle.ifmap_search.specs.declared.results.Entry.{Entry}
+use Rattle.ifmap_search.specs.declared.searches.Search.{Search}
+use Rattle.ifmap_view.specs.declared.views.LinkSeen.{LinkSeen}
+use Rattle.ifmap_view.specs.Attachments.{stored_order}
+use Rattle.ifmap_view.specs.Rows.{stored_on}
+use Rattle.std.specs.Ordering.{eq_by_cmp}
+use Rattle.std.specs.List.{list_any}
+use Rattle.ifmap_fresh.specs.Collected.{alone, pair_at}
+use Rattle.ifmap_fresh.specs.Fresh.{is_looked_at}
+use Rattle.ifmap_fresh.specs.Gathered.{entry_at, has_item}
+use Rattle.ifmap_fresh.specs.Linking.{end_where}
+use Rattle.ifmap_delta.specs.Shown.{goes_on, shown_on}
+use Rattle.ifmap_delta.specs.Sights.{Sight}
+
+-- the items of a plan's changes at which the search looks before or afterwards
+abbrev pub planned : Sight → Sight → Search → List ItemChange → List Item
+planned old new s changes =
+    map (λ c. c.item) (filter (λ c. is_looked_at old.rows s c.item || is_looked_at new.rows s c.item) changes)
+
+module _ (new : Sight) (s : Search) where
+  -- the item of a link, where there is one
+  abbrev pub item_where : ℕ → Option ℕ → Option Item
+  item_where v None = None
+  item_where v (Some w) = pair_at (new.id_at v) (new.id_at w)
+
+  abbrev pub item_at : ℕ → Option LinkSeen → Option Item
+  item_at v seen = item_where v (end_where new.rows new.id_at s.match_links v seen)
+
+  -- the items of the matching links of a number
+  abbrev pub linked : ℕ → List Item
+  linked v = filter_map (λ seen. item_at v (Some seen)) (new.links v)
+
+  -- walks go on from the number with one of the marks alone
+  abbrev pub turns : ℕ → Option ℕ → Option ℕ → Bool
+  turns v was now = not (beq (goes_on s (new.id_at v) was) (goes_on s (new.id_at v) now))
+
+  -- how many links are looked at of a number whose mark changes
+  abbrev pub looked_along : ℕ → Option ℕ → Option ℕ → ℕ
+  looked_along v was now = if turns v was now then length (new.links v) else 0
+
+  -- the items that a number brings whose mark changes: its own, where it has just one of the marks, and those of its
+  -- links, where walks go on from it with one of them alone
+  abbrev pub brought : ℕ → Option ℕ → Option ℕ → List Item
+  brought v was now =
+      (if not (beq (is_some was) (is_some now)) then alone (new.id_at v) else [])
+      ++ (if turns v was now then linked v else [])
+
+  -- the items that some numbers bring
+  abbrev pub moved : (ℕ → Option ℕ) → (ℕ → Option ℕ) → List ℕ → List Item
+  moved was now numbers = flat_map (λ v. brought v (was v) (now v)) numbers
+
+-- an item tells nothing: the search looks at it before and afterwards with the same stored on it, or at neither
+pub record IsSettled (old new : Sight) (s : Search) (x : Item) : Type 0 where
+  pub looked : is_looked_at old.rows s x ≡ is_looked_at new.rows s x
+  pub stored : is_looked_at old.rows s x ≡ true → stored_on x old.rows ≡ stored_on x new.rows
+
+-- items in order, which elements mean; all others tell nothing
+pub record AreTouched (old new : Sight) (s : Search) (items : List Item) : Type 0 where
+  pub rising : IsStrictlySortedBy item_order items
+  pub canon : (x : Item) → Has items x → IsCanonItem x
+  pub others : (x : Item) → IsCanonItem x → has_item items x ≡ false → IsSettled old new s x
+
+-- one of the rows has the canonical bytes of what is stored, and meets the filter
+abbrev pub has_met : Option Filter → List Stored → Stored → Bool
+has_met filter_by rows t = list_any (λ o. eq_by_cmp stored_order o t && meets_optional filter_by o.element) rows
+
+-- what of these meets the filter, and of whose canonical bytes none of the others is that meets it, as entries of an item
+abbrev pub left_out : Option Filter → Item → List Stored → List Stored → List Entry
+left_out filter_by x these others =
+    map (entry_at x) (filter (λ t. meets_optional filter_by t.element && not (has_met filter_by others t)) these)
+
+-- what the first shows of some items, and the second does not
+abbrev pub left_out_on : Sight → Sight → Search → List Item → List Entry
+left_out_on one other s items =
+    flat_map (λ x. left_out s.result_filter x (shown_on one.rows s x) (shown_on other.rows s x)) items

@@ -1,0 +1,120 @@
+//! What a change of the graph does to a subscription.
+ghost use Rattle.std.specs.Prelude.{IfOk};
+ghost use Rattle.ifmap_delta.specs.Bounds.{IsNear, IsWithinBound, links_of};
+ghost use Rattle.ifmap_delta.specs.Changes.{IsChange, IsMoved};
+ghost use Rattle.ifmap_delta.specs.Sights.{AreMarks, HasMarks, IsKept, sight_of};
+ghost use Rattle.ifmap_region.specs.Bounds.{IsWithin};
+ghost use Rattle.ifmap_region.specs.Marks.{mark_of, over};
+ghost use Rattle.ifmap_view.specs.Views.{IsView};
+
+use crate::differing::{differences_on, size_after};
+use crate::flips::flips_of;
+use crate::marks::Patched;
+use crate::sides::Side;
+use crate::subscriptions::{Moved, Subscription};
+use crate::touched::touched_items;
+use ifmap_elem::Many;
+use ifmap_fresh::LinksOf;
+use ifmap_fresh::laws::{levels_are_walks, links_go_both_ways, numbers_keep_walks};
+use ifmap_ident::laws::bytes_tell_identifiers_apart;
+use ifmap_plans::Plan;
+use ifmap_region::{Patch, repair};
+use ifmap_steps::Steps;
+use ifmap_view::View;
+use std::alloc::{AllocError as NoMemory, Global};
+use std::sync::ledger::Ledger;
+
+/// What a change of the graph does to a subscription that keeps what the graph has: what its result
+/// loses and what it gains, each in the order of results, the new size, also where the search does
+/// not allow it, and the patch that brings its marks to those of the draft.
+///
+/// The draft shows the graph after the plan, with the same numbers. The only error is want of memory,
+/// also where the new size passes 2^64 - 1. Nothing of the subscription changes.
+///
+/// It takes at most ten times the links of what is near the links that came and went. A change that
+/// touches nothing near costs a look at the plan's items.
+pub fn change<G: View, D: View, L: Ledger>(
+    alloc: Global,
+    subscription: &Subscription,
+    graph: &G,
+    draft: &D,
+    plan: &Plan,
+    steps: &mut Steps<L>,
+) -> Result<Moved, NoMemory>
+    requires kept { IsKept (sight_of G.rows G.id_at G.links graph.now) subscription.now }
+    requires change { IsChange (sight_of G.rows G.id_at G.links graph.now)
+        (sight_of D.rows D.id_at D.links draft.now) plan.now.changes }
+    ensures moved { IfOk result (IsMoved (sight_of G.rows G.id_at G.links graph.now)
+        (sight_of D.rows D.id_at D.links draft.now) subscription.now) }
+
+    // Also where memory runs out.
+    ensures steps { IsWithinBound (sight_of G.rows G.id_at G.links graph.now)
+        (sight_of D.rows D.id_at D.links draft.now) subscription.now.search
+        subscription.now.region.start steps.old steps.new }
+{
+    let patch = patch_for(alloc, subscription, graph, draft, plan, steps)?;
+    let search = &subscription.search;
+    let before = Side {
+        view: graph,
+        search,
+        marks: &subscription.region,
+    };
+    let patched = Patched {
+        region: &subscription.region,
+        patch: &patch,
+    };
+    let after = Side {
+        view: draft,
+        search,
+        marks: &patched,
+    };
+    let items = touched_items(alloc, &before, &after, &plan.changes.0, steps)?;
+    let told = differences_on(alloc, &before, &after, items)?;
+    let Some(new_size) = size_after(subscription.size, &told) else {
+        return Err(NoMemory);
+    };
+    Ok(Moved {
+        deleted: Many(told.deleted),
+        updated: Many(told.updated),
+        patch,
+        new_size,
+    })
+}
+
+// The patch that brings a subscription's marks to those of the draft.
+fn patch_for<G: View, D: View, L: Ledger>(
+    alloc: Global,
+    subscription: &Subscription,
+    graph: &G,
+    draft: &D,
+    plan: &Plan,
+    steps: &mut Steps<L>,
+) -> Result<Patch, NoMemory>
+    requires marks { HasMarks (sight_of G.rows G.id_at G.links graph.now) subscription.now }
+    requires change { IsChange (sight_of G.rows G.id_at G.links graph.now)
+        (sight_of D.rows D.id_at D.links draft.now) plan.now.changes }
+    ensures graph { IsView (G.rows graph.now) (G.id_at graph.now) (G.links graph.now) }
+    ensures draft { IsView (D.rows draft.now) (D.id_at draft.now) (D.links draft.now) }
+    ensures marks { IfOk result (λ patch. AreMarks (sight_of D.rows D.id_at D.links draft.now)
+        subscription.now.search subscription.now.region.start subscription.now.region.max_depth
+        (over patch (mark_of subscription.now.region.marks.entries))) }
+    ensures steps { let old = sight_of G.rows G.id_at G.links graph.now in
+        let new = sight_of D.rows D.id_at D.links draft.now in
+        IsWithin (links_of old new subscription.now.search)
+        (IsNear old new subscription.now.search subscription.now.region.start) 5
+        steps.old steps.new }
+{
+    bytes_tell_identifiers_apart();
+    links_go_both_ways();
+    numbers_keep_walks();
+    let search = &subscription.search;
+    // what holds of every view
+    let _ = graph.number(&search.start);
+    let _ = draft.number(&search.start);
+    let flips = flips_of(alloc, graph, draft, search, &plan.changes.0)?;
+    let links = LinksOf {
+        view: draft,
+        search,
+    };
+    repair(alloc, &subscription.region, &links, &flips, steps)
+}

@@ -1,0 +1,14 @@
+use Rattle.std.proofs.Common.{◌≡◌, false}
+use Rattle.std.specs.List.{list_any}
+use Rattle.std.specs.List.Sorted.{IsStrictlySortedBy}
+use Rattle.std.specs.Ordering.{is_lt}
+use Rattle.ifmap_meta.specs.declared.stored.Stored.{Stored}
+use Rattle.ifmap_plans.specs.Lists.{same_stored}
+use Rattle.ifmap_view.specs.Attachments.{stored_order}
+use Rattle.ifmap_publish.proofs.differences.from_row.Given as goal
+
+abbrev pub invariant-loop : goal.invariant-loop
+invariant-loop l = record {
+  rising : IsStrictlySortedBy stored_order l.rest;
+  same : (s : Stored) → is_lt (stored_order s l.row) ≡ false → list_any (same_stored s) l.rest ≡ list_any (same_stored s) l.rows;
+}

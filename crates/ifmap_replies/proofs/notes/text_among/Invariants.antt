@@ -1,0 +1,6 @@
+use Rattle.std.proofs.Common.{◌≡◌, take}
+use Rattle.ifmap_filter.specs.Holding.{text_among}
+use Rattle.ifmap_replies.proofs.notes.text_among.Given as goal
+
+abbrev pub invariant-loop-child : goal.invariant-loop-child
+invariant-loop-child l = l.text ≡ text_among (take l.child-index l.children)

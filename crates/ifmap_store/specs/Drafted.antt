@@ -1,0 +1,24 @@
+-- Where drafts stand.
+use Rattle.std.specs.Prelude.{◌≡◌, ℕ, List, Option, Some, None}
+use Rattle.std.specs.List.{AllByRecursion}
+use Rattle.std.specs.declared.cmp.Ordering.TheVariants.{Equal}
+use Rattle.slab.specs.Slab.{get}
+use Rattle.ifmap_lemmas.specs.Having.{Has}
+use Rattle.ifmap_ident.specs.declared.items.Item.{Item}
+use Rattle.ifmap_ident.specs.Items.{item_order}
+use Rattle.ifmap_store.specs.declared.shelves.Shelf.{Shelf}
+use Rattle.ifmap_store.specs.declared.shelves.Shelves.{Shelves}
+use Rattle.ifmap_store.specs.Shelved.{HasDraft}
+
+-- a shelf, where there is one, has no draft
+abbrev pub NoDraft : Option Shelf → Type 0
+NoDraft None = Unit {0}
+NoDraft (Some shelf) = shelf.stored.draft ≡ None
+
+-- no shelf has one: what is stored is what is to be
+abbrev pub AreBare : Shelves → Type 0
+AreBare s = AllByRecursion (λ e. NoDraft (get s.slots e.1)) s.places.entries
+
+-- shelves with a draft are those of these items alone
+abbrev pub DraftsWithin : List Item → Shelves → Type 0
+DraftsWithin items s = (x : Item) → HasDraft s x → (i : Item) × Has items i × (item_order i x ≡ Equal)
