@@ -97,3 +97,10 @@ SpellsNone levels bytes = (reading : Reading) (path : List ℕ) (inner : Element
 abbrev pub OneEnvelope : Type 0
 OneEnvelope =
     (root e f : Element) (path route : List ℕ) → IsEnvelope root path e → IsEnvelope root route f → (path ≡ route) × (e ≡ f)
+
+-- an element is an envelope of some element or of none
+abbrev pub EnvelopeOrNone : Type 0
+EnvelopeOrNone =
+    (root : Element)
+    → ((path : List ℕ) × (inner : Element) × IsEnvelope root path inner)
+    ⊎ ((path : List ℕ) (inner : Element) → IsEnvelope root path inner → ⊥)

@@ -1,4 +1,4 @@
--- Each check of a reply finds something: a value or a defect. So a response has a reply or none.
+-- Each check of a reply finds something: a value or a defect. So an element means a reply or none.
 use Rattle.std.proofs.Common.{◌≢◌, ◌⊎◌, ◌+◌, ◌^◌, ◌++◌, ℕ, List, [], ◌∷◌, Option, None, Some, Result, Ok, Err, codes, inl, inr, refl}
 use Rattle.std.specs.Prelude.{nat_lt}
 use Rattle.std.specs.List.{list_all}
@@ -7,7 +7,7 @@ use Rattle.ifmap_elem.specs.Building.{is_bare}
 use Rattle.ifmap_elem.specs.Chars.{is_white}
 use Rattle.ifmap_elem.specs.declared.elements.Child.TheOpen.{Child-F}
 use Rattle.ifmap_elem.specs.declared.elements.Element.{Element}
-use Rattle.ifmap_envelopes.specs.Envelopes.{IsEnvelope}
+use Rattle.ifmap_envelopes.specs.Envelopes.{EnvelopeOrNone, IsEnvelope}
 use Rattle.ifmap_filter.specs.Holding.{is_name, text_among}
 use Rattle.ifmap_ident.specs.declared.codes.Code.{Code}
 use Rattle.ifmap_ident.specs.declared.codes.Code.TheVariants.{Failure, InvalidIdentifier, InvalidIdentifierType, IdentifierTooLong}
@@ -244,7 +244,10 @@ module _ (e : Element) (path : List ℕ) (response : Element) (envelope : IsEnve
   decided (Ok answer) f = inl (answer, record { path = path; response = response; envelope = envelope; checked = f })
   decided (Err code) f = inr (none e path response code envelope f)
 
-pub reply_or_none : ((e : Element) → HasAnswer e) → NoReplyWithDefect → ReplyOrNone
-reply_or_none answers none e path response envelope =
-    let found = response_done (identifier_done answers) response in
-    decided e path response envelope none found.0 found.1
+pub reply_or_none : ((e : Element) → HasAnswer e) → NoReplyWithDefect → EnvelopeOrNone → ReplyOrNone
+reply_or_none answers none envelopes e = elim (envelopes e) [
+  | inl found ↦
+      let response = response_done (identifier_done answers) found.1 in
+      decided e found.0 found.1 found.2 none response.0 response.1
+  | inr other ↦ inr (λ answer m. other m.path m.response m.envelope)
+]

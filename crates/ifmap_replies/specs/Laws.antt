@@ -23,11 +23,9 @@ NoReplyWithDefect =
 abbrev pub OneMeaning : Type 0
 OneMeaning = (bytes : List ℕ) (one other : Reply) → Means bytes one → Means bytes other → one ≡ other
 
--- an envelope means a reply or none
+-- an element means a reply or none
 abbrev pub ReplyOrNone : Type 0
-ReplyOrNone =
-    (e : Element) (path : List ℕ) (response : Element) → IsEnvelope e path response
-    → ((answer : Reply) × IsReplyOf e answer) ⊎ ((answer : Reply) → IsReplyOf e answer → ⊥)
+ReplyOrNone = (e : Element) → ((answer : Reply) × IsReplyOf e answer) ⊎ ((answer : Reply) → IsReplyOf e answer → ⊥)
 
 -- the element of a reply that is fit means it, and so do its bytes
 abbrev pub ElementsReadBack : Type 0

@@ -2,7 +2,7 @@
 ghost use Rattle.ifmap_replies.specs.Laws.{BytesReadBack, ElementsReadBack, NoReplyWithDefect, OneMeaning, OneReply, ReplyOrNone};
 
 use ifmap_elem::laws::{bytes_spell_one_element, canonical_bytes_spell_the_element};
-use ifmap_envelopes::laws::envelopes_hold_one_element;
+use ifmap_envelopes::laws::{elements_are_envelopes_or_none, envelopes_hold_one_element};
 use ifmap_ident::laws::{
     bytes_tell_identifiers_apart, elements_have_one_answer, identifiers_are_read_back,
 };
@@ -16,12 +16,13 @@ pub fn elements_have_one_reply()
     envelopes_hold_one_element();
 }
 
-/// An envelope means a reply or none.
-pub fn envelopes_mean_a_reply_or_none()
+/// An element means a reply or none.
+pub fn elements_mean_a_reply_or_none()
     ensures { ReplyOrNone }
 {
     elements_have_one_answer();
     elements_have_one_reply();
+    elements_are_envelopes_or_none();
 }
 
 /// A body means one reply at most.
