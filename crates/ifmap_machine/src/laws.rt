@@ -13,7 +13,7 @@ ghost use Rattle.ifmap_view.specs.Attachments.{IsGraph};
 use ifmap_elem::laws::canonical_bytes_tell_elements_apart;
 use ifmap_folds::laws::differences_make_the_next_result;
 use ifmap_ident::laws::bytes_tell_identifiers_apart;
-use ifmap_publish::laws::graphs_stay_graphs;
+use ifmap_publish::laws::{publishing_keeps_graphs, retracting_keeps_graphs};
 
 /// After every history no two live sessions have one client, no live session has a serial above the
 /// counter, and at most 10,000 sessions live.
@@ -45,7 +45,8 @@ pub fn attachments_are_apart_and_live()
     ensures whole { (ttl : ℕ) (history : History) → Legal ttl history → AreFit history →
         AreWhole (state_after ttl history).graph }
 {
-    graphs_stay_graphs();
+    publishing_keeps_graphs();
+    retracting_keeps_graphs();
 }
 
 /// In every legal history of fit events, after each poll that is told something or held, what its client
@@ -55,7 +56,8 @@ pub fn clients_fold_fresh_results()
     ensures { (ttl : ℕ) (history : History) → Legal ttl history → AreFit history →
         Agrees ttl history }
 {
-    graphs_stay_graphs();
+    publishing_keeps_graphs();
+    retracting_keeps_graphs();
     bytes_tell_identifiers_apart();
     canonical_bytes_tell_elements_apart();
     differences_make_the_next_result();

@@ -23,6 +23,8 @@ use Rattle.ifmap_view.specs.declared.attachments.Attachment.{Attachment}
 use Rattle.ifmap_view.specs.Attachments.{attachment_order, of_one_key, stored_order}
 use Rattle.ifmap_view.specs.Rows.{stored_on}
 use Rattle.ifmap_publish.specs.Apply.{Authorship, apply, apply_op, attach, attachment_of, delete, stored_of, update}
+use Rattle.ifmap_publish.specs.declared.who.Who.{Who}
+use Rattle.ifmap_publish.specs.Retract.{is_of, retract, retract_on}
 use Rattle.ifmap_publish.specs.OnItems.{apply_on, apply_op_on, attach_on, delete_on, item_of, op_on, update_on}
 
 is_equal : (o : Ordering) → is_eq o ≡ true → o ≡ Equal
@@ -200,3 +202,7 @@ module _ (x : Item) where
       → stored_on x (apply rows by ops) ≡ apply_on x by ops (stored_on x rows)
   apply_told rows by [] = refl
   apply_told rows by (op ∷ ops) = apply_told (apply_op rows by op) by ops ∙ ap (apply_on x by ops) (op_told rows by op)
+
+-- and what is left by a retraction
+pub retract_told : (x : Item) (who : Who) (rows : List Attachment) → stored_on x (retract who rows) ≡ retract_on who (stored_on x rows)
+retract_told x who rows = on_filter x (λ a. not (is_of who a.stored)) (λ s. not (is_of who s)) (λ r t. refl) rows

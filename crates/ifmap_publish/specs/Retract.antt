@@ -22,3 +22,7 @@ is_of (Publisher name) s = bytes_eq s.publisher name
 -- without what is of these
 abbrev pub retract : Who → List Attachment → List Attachment
 retract who rows = filter (λ a. not (is_of who a.stored)) rows
+
+-- on one item
+abbrev pub retract_on : Who → List Stored → List Stored
+retract_on who list = filter (λ s. not (is_of who s)) list

@@ -48,6 +48,7 @@ fn from_row<'a>(rows: &'a [Row], row: &Row) -> &'a [Row]
 }
 
 // What follows the first row, where that is below this one.
+#[tactic(auto, using(crate::proofs::Passing::all_from, crate::proofs::Passing::none_from))]
 fn after_below<'a>(rows: &'a [Row], row: &Row) -> Option<&'a [Row]>
     requires { IsStrictlySortedBy stored_order rows.now }
     ensures { MatchOption result
@@ -63,13 +64,14 @@ fn after_below<'a>(rows: &'a [Row], row: &Row) -> Option<&'a [Row]>
 }
 
 // Whether the first of them is this one, with its publisher and lifetime.
+#[tactic(auto, using(crate::proofs::Passing::first_tells, crate::proofs::Passing::none_first))]
 fn begins_with(rows: &[Row], row: &Row) -> bool
     requires rising { IsStrictlySortedBy stored_order rows.now }
     requires from { AllByRecursion (λ s. is_lt (stored_order s row.now) ≡ false) rows.now }
     ensures { result ≡ list_any (same_stored row.now) rows.now }
 {
-    match rows.first() {
-        Some(first) => same_stored(row, first),
+    match rows.split_first() {
+        Some((first, _)) => same_stored(row, first),
         None => false,
     }
 }

@@ -15,10 +15,10 @@ returns-clause-lives c = λ ttl history. lives_after ttl history
 
 pub returns-clause-graph : goal.returns-clause-graph
 returns-clause-graph c = λ ttl history legal fit.
-    history_good IsGraph graph_none (λ who rows g. c.graphs_stay_graphs.ensures.retracted rows who g)
-    (λ rows by ops name f g. c.graphs_stay_graphs.ensures.applied rows by ops f g) (opening ttl) history fit graph_none
+    history_good IsGraph graph_none (λ who rows g. c.retracting_keeps_graphs.ensures.graph who rows g)
+    (λ rows by ops name f g. c.publishing_keeps_graphs.ensures.graph rows by ops f g) (opening ttl) history fit graph_none
 
 pub returns-clause-whole : goal.returns-clause-whole
 returns-clause-whole c = λ ttl history legal fit.
-    history_good AreWhole tt (λ who rows g. c.graphs_stay_graphs.ensures.whole_retracted rows who g)
-    (λ rows by ops name f g. c.graphs_stay_graphs.ensures.whole rows by ops name f g) (opening ttl) history fit tt
+    history_good AreWhole tt (λ who rows g. c.retracting_keeps_graphs.ensures.whole who rows g)
+    (λ rows by ops name f g. c.publishing_keeps_graphs.ensures.whole rows by ops name f g) (opening ttl) history fit tt

@@ -1,0 +1,227 @@
+-- The changes of items on which something goes or comes.
+use Rattle.std.proofs.Common.{◌≡◌, ◌≢◌, ◌∙◌, refl, sym, ap, subst, Bool, true, false, cond, not, List, [], ◌∷◌, ◌++◌, map, Option, Some, None, inl, inr}
+use Rattle.std.proofs.lemmas.Bool.{cases_Bool}
+use Rattle.std.proofs.lemmas.List.Kept.{IsStrictlySortedBy-filter}
+use Rattle.std.specs.BTreeMap.{is_at}
+use Rattle.std.specs.List.{AllByRecursion, IsDistinct, filter, find, list_any}
+use Rattle.std.specs.List.Sorted.{IsStrictlySortedBy}
+use Rattle.std.specs.Map.{keys_of, lookup}
+use Rattle.std.specs.Ordering.{is_eq}
+use Rattle.std.specs.declared.cmp.Ordering.TheVariants.{Less, Equal, Greater}
+use Rattle.ifmap_ident.specs.declared.items.Item.{Item}
+use Rattle.ifmap_ident.specs.Items.{item_order, same_item}
+use Rattle.ifmap_lemmas.specs.Filters.{all_filter, all_weaker}
+use Rattle.ifmap_lemmas.specs.Having.{Has, filter_has}
+use Rattle.ifmap_meta.specs.declared.stored.Stored.{Stored}
+use Rattle.ifmap_meta.specs.Whole.{IsWhole}
+use Rattle.ifmap_plans.specs.declared.plans.ItemChange.{ItemChange}
+use Rattle.ifmap_plans.specs.Lists.{IsList, difference, next_on, same_stored}
+use Rattle.ifmap_plans.specs.Plans.{AreExact, AreWhole, Fits, FitsItem, IsAfter, IsChange, change_of, changed_by}
+use Rattle.ifmap_plans.specs.laws.KeyLaws.{items_equiv, items_tied, items_total}
+use Rattle.ifmap_plans.specs.laws.PlacingLaws.{greater_of_less}
+use Rattle.ifmap_view.specs.declared.attachments.Attachment.{Attachment}
+use Rattle.ifmap_view.specs.Attachments.{IsGraph, stored_order}
+use Rattle.ifmap_view.specs.Rows.{stored_on}
+use Rattle.ifmap_publish.specs.Working.{AreSound, IsSoundEntry, change_to, changes_to, kept_change, list_or, working}
+use Rattle.ifmap_publish.proofs.Differing.{differences_make}
+use Rattle.ifmap_publish.proofs.Entries.{stored_alike}
+use Rattle.ifmap_publish.proofs.Graphs.{sound_on}
+
+abbrev Entry : Type 0
+Entry = Item × List Stored
+
+abbrev AllOver : Item → List Entry → Type 0
+AllOver k es = AllByRecursion (λ y. item_order k y ≡ Less) (keys_of es)
+
+first_key : (e : Entry) (es : List Entry) → IsStrictlySortedBy item_order (keys_of (e ∷ es)) → AllOver e.0 es
+    × IsStrictlySortedBy item_order (keys_of es)
+unfolding IsStrictlySortedBy
+first_key e es up = up
+
+other_item : (a b : Item) → item_order a b ≡ Less → same_item a b ≡ false
+other_item a b e = items_tied a b ∙ ap is_eq e
+
+-- each entry is found by its key
+found_first : (e : Entry) (es : List Entry) → lookup (is_at (item_order e.0)) (e ∷ es) ≡ Some e.1
+found_first e es = ap (λ b. cond b (Some e.1) (lookup (is_at (item_order e.0)) es)) (sym (items_tied e.0 e.0) ∙ items_equiv.refl e.0)
+
+found_later : (e : Entry) (es ys : List Entry) → AllOver e.0 ys
+    → AllByRecursion (λ y. lookup (is_at (item_order y.0)) es ≡ Some y.1) ys
+    → AllByRecursion (λ y. lookup (is_at (item_order y.0)) (e ∷ es) ≡ Some y.1) ys
+found_later e es [] over all = tt
+found_later e es (y ∷ ys) over all = (
+  ap (λ o. cond (is_eq o) (Some e.1) (lookup (is_at (item_order y.0)) es)) (greater_of_less Item item_order items_total e.0 y.0 over.0) ∙ all.0,
+  found_later e es ys over.1 all.1,
+)
+
+all_found : (es : List Entry) → IsStrictlySortedBy item_order (keys_of es)
+    → AllByRecursion (λ y. lookup (is_at (item_order y.0)) es ≡ Some y.1) es
+all_found [] up = tt
+all_found (e ∷ es) up =
+    let parts = first_key e es up in
+    (found_first e es, found_later e es es parts.0 (all_found es parts.1))
+
+module _ (rows : List Attachment) where
+  -- what holds of each change holds of those that are kept
+  all_kept : (P : ItemChange → Type 0) (es : List Entry) → AllByRecursion (λ e. P (change_to rows e)) es
+      → AllByRecursion P (changes_to rows es)
+  all_kept P [] all = tt
+  all_kept P (e ∷ es) all = by ((change_to rows e).removed ++ (change_to rows e).added) (all_kept P es all.1)
+    where
+      by : (l : List Stored) → AllByRecursion P (changes_to rows es)
+          → AllByRecursion P (kept_change (change_to rows e) l ++ changes_to rows es)
+      by [] rest = rest
+      by (s ∷ l) rest = (all.0, rest)
+
+  -- and of their items
+  all_items : (P : Item → Type 0) (es : List Entry) → AllByRecursion P (keys_of es)
+      → AllByRecursion P (map (λ c. c.item) (changes_to rows es))
+  all_items P [] all = tt
+  all_items P (e ∷ es) all = by ((change_to rows e).removed ++ (change_to rows e).added) (all_items P es all.1)
+    where
+      by : (l : List Stored) → AllByRecursion P (map (λ c. c.item) (changes_to rows es))
+          → AllByRecursion P (map (λ c. c.item) (kept_change (change_to rows e) l ++ changes_to rows es))
+      by [] rest = rest
+      by (s ∷ l) rest = (all.0, rest)
+
+  pub items_apart : (es : List Entry) → IsStrictlySortedBy item_order (keys_of es)
+      → IsDistinct same_item (map (λ c. c.item) (changes_to rows es))
+  unfolding IsDistinct
+  items_apart [] up = tt
+  items_apart (e ∷ es) up =
+      let parts = first_key e es up in
+      by ((change_to rows e).removed ++ (change_to rows e).added)
+      (all_items (λ y. same_item e.0 y ≡ false) es
+      (all_weaker (λ y. item_order e.0 y ≡ Less) (λ y. same_item e.0 y ≡ false) (λ y l. other_item e.0 y l) (keys_of es) parts.0))
+      (items_apart es parts.1)
+    where
+      by : (l : List Stored) → AllByRecursion (λ y. same_item e.0 y ≡ false) (map (λ c. c.item) (changes_to rows es))
+          → IsDistinct same_item (map (λ c. c.item) (changes_to rows es))
+          → IsDistinct same_item (map (λ c. c.item) (kept_change (change_to rows e) l ++ changes_to rows es))
+      by [] differ rest = rest
+      by (s ∷ l) differ rest = (differ, rest)
+
+  -- each kept change takes something or puts something
+  pub are_changes : (es : List Entry) → AllByRecursion IsChange (changes_to rows es)
+  are_changes [] = tt
+  are_changes (e ∷ es) = by ((change_to rows e).removed ++ (change_to rows e).added) refl (are_changes es)
+    where
+      full : (l : List Stored) (s : Stored) (t : List Stored) → l ≡ s ∷ t → l ≢ []
+      full [] s t is none = cc
+      full (x ∷ xs) s t is none = cc
+
+      by : (l : List Stored) → (change_to rows e).removed ++ (change_to rows e).added ≡ l → AllByRecursion IsChange (changes_to rows es)
+          → AllByRecursion IsChange (kept_change (change_to rows e) l ++ changes_to rows es)
+      by [] is rest = rest
+      by (s ∷ l) is rest = (full ((change_to rows e).removed ++ (change_to rows e).added) s l is, rest)
+
+  module _ (graph : IsGraph rows) (whole : AreWhole rows) where
+    -- what comes is whole, and what goes is there
+
+    have_all : (p : Stored → Bool) (xs : List Stored) → AllByRecursion (λ s. Has xs s) (filter p xs)
+    have_all p xs = each (filter p xs) (λ s h. (filter_has p xs s h).0)
+      where
+        each : (ys : List Stored) → ((s : Stored) → Has ys s → Has xs s) → AllByRecursion (λ s. Has xs s) ys
+        each [] h = tt
+        each (y ∷ ys) h = (h y (inl refl), each ys (λ s q. h s (inr q)))
+
+    made : (e : Entry) → IsSoundEntry e
+        → next_on (difference (stored_on e.0 rows) e.1) (difference e.1 (stored_on e.0 rows)) (stored_on e.0 rows) ≡ e.1
+    made e s =
+        let there = sound_on e.0 rows graph whole in
+        differences_make (stored_on e.0 rows) e.1 there.keyed.rising s.sound.keyed.rising there.whole s.sound.whole
+
+    fits : (e : Entry) → IsSoundEntry e → FitsItem rows (change_to rows e)
+    fits e s = record {
+      canon = s.canon;
+      order = IsStrictlySortedBy-filter stored_order (λ r. not (list_any (same_stored r) e.1)) (stored_on e.0 rows)
+          (sound_on e.0 rows graph whole).keyed.rising;
+      there = have_all (λ r. not (list_any (same_stored r) e.1)) (stored_on e.0 rows);
+      whole = all_filter IsWhole (λ r. not (list_any (same_stored r) (stored_on e.0 rows))) e.1 s.sound.whole;
+      list = subst IsList (sym (made e s)) s.sound.keyed;
+    }
+
+    pub all_fit : (es : List Entry) → AreSound es → IsStrictlySortedBy item_order (keys_of es) → Fits rows (changes_to rows es)
+    all_fit es sound up = record {
+      apart = items_apart es up;
+      each = all_kept (FitsItem rows) es (all_weaker IsSoundEntry (λ e. FitsItem rows (change_to rows e)) fits es sound);
+    }
+
+    -- what is stored on an item after the changes
+    nothing_found : (x : Item) (es : List Entry) → AllByRecursion (λ y. same_item y x ≡ false) (keys_of es)
+        → change_of (changes_to rows es) x ≡ None
+    nothing_found x es all = none (changes_to rows es) (all_items (λ y. same_item y x ≡ false) es all)
+      where
+        none : (cs : List ItemChange) → AllByRecursion (λ y. same_item y x ≡ false) (map (λ c. c.item) cs) → change_of cs x ≡ None
+        none [] a = refl
+        none (c ∷ cs) a = rw a.0 (none cs a.1)
+
+    both_empty : (xs ys : List Stored) → xs ++ ys ≡ [] → (xs ≡ []) × (ys ≡ [])
+    both_empty [] ys e = (refl, e)
+    both_empty (x ∷ xs) ys e = cc
+
+    pub changed : (x : Item) (es : List Entry) → AreSound es → IsStrictlySortedBy item_order (keys_of es)
+        → changed_by (change_of (changes_to rows es) x) (stored_on x rows)
+        ≡ list_or (lookup (is_at (item_order x)) es) (stored_on x rows)
+    changed x [] sound up = refl
+    changed x (e ∷ es) sound up =
+        let parts = first_key e es up in
+        let rest = changed x es sound.1 parts.1 in
+        elim (cases_Bool (same_item e.0 x)) [
+          | inl is ↦
+              let alike : stored_on x rows ≡ stored_on e.0 rows = stored_alike e.0 x is rows in
+              let hit : lookup (is_at (item_order x)) (e ∷ es) ≡ Some e.1 =
+                  ap (λ b. cond b (Some e.1) (lookup (is_at (item_order x)) es)) (sym (items_tied x e.0) ∙ items_equiv.symm x e.0 ∙ is) in
+              let others : AllByRecursion (λ y. same_item y x ≡ false) (keys_of es) =
+                  all_weaker (λ y. item_order e.0 y ≡ Less) (λ y. same_item y x ≡ false)
+                  (λ y l. items_equiv.symm y x ∙ sym (items_equiv.congr e.0 x y is) ∙ other_item e.0 y l) (keys_of es) parts.0 in
+              at ((change_to rows e).removed ++ (change_to rows e).added) refl is alike (nothing_found x es others)
+              ∙ sym (ap (λ o. list_or o (stored_on x rows)) hit)
+          | inr is ↦
+              let miss : lookup (is_at (item_order x)) (e ∷ es) ≡ lookup (is_at (item_order x)) es =
+                  ap (λ b. cond b (Some e.1) (lookup (is_at (item_order x)) es)) (sym (items_tied x e.0) ∙ items_equiv.symm x e.0 ∙ is) in
+              past ((change_to rows e).removed ++ (change_to rows e).added) is
+              ∙ rest ∙ sym (ap (λ o. list_or o (stored_on x rows)) miss)
+        ]
+      where
+        at : (l : List Stored) → (change_to rows e).removed ++ (change_to rows e).added ≡ l → same_item e.0 x ≡ true
+            → stored_on x rows ≡ stored_on e.0 rows → change_of (changes_to rows es) x ≡ None
+            → changed_by (change_of (kept_change (change_to rows e) l ++ changes_to rows es) x) (stored_on x rows) ≡ e.1
+        at [] is same alike none =
+            let empty = both_empty (change_to rows e).removed (change_to rows e).added is in
+            ap (λ o. changed_by o (stored_on x rows)) none ∙ alike ∙ sym (unmoved (stored_on e.0 rows))
+            ∙ (λ i. next_on (sym empty.0 i) (sym empty.1 i) (stored_on e.0 rows)) ∙ made e sound.0
+          where
+            unmoved : (xs : List Stored) → next_on [] [] xs ≡ xs
+            unmoved [] = refl
+            unmoved (y ∷ ys) = ap (λ l. y ∷ l) (unmoved ys)
+        at (s ∷ l) is same alike none =
+            ap (λ b. changed_by (cond b (Some (change_to rows e)) (change_of (changes_to rows es) x)) (stored_on x rows)) same
+            ∙ ap (next_on (change_to rows e).removed (change_to rows e).added) alike ∙ made e sound.0
+
+        past : (l : List Stored) → same_item e.0 x ≡ false
+            → changed_by (change_of (kept_change (change_to rows e) l ++ changes_to rows es) x) (stored_on x rows)
+            ≡ changed_by (change_of (changes_to rows es) x) (stored_on x rows)
+        past [] differ = refl
+        past (s ∷ l) differ =
+            ap (λ b. changed_by (cond b (Some (change_to rows e)) (change_of (changes_to rows es) x)) (stored_on x rows)) differ
+
+    -- the attachments after the changes, where the lists are what stands on each item
+    module _ (after : List Attachment) (es : List Entry) (sound : AreSound es) (up : IsStrictlySortedBy item_order (keys_of es))
+        (applied : (x : Item) → working rows (λ q. lookup (is_at (item_order q)) es) x ≡ stored_on x after) where
+      pub is_after : IsAfter (changes_to rows es) rows after
+      is_after x = sym (applied x) ∙ sym (changed x es sound up)
+
+      pub are_exact : AreExact rows after (changes_to rows es)
+      are_exact = all_kept (λ c. (c.removed ≡ difference (stored_on c.item rows) (stored_on c.item after))
+          × (c.added ≡ difference (stored_on c.item after) (stored_on c.item rows))) es
+          (all_weaker (λ y. lookup (is_at (item_order y.0)) es ≡ Some y.1)
+          (λ y. ((change_to rows y).removed ≡ difference (stored_on y.0 rows) (stored_on y.0 after))
+          × ((change_to rows y).added ≡ difference (stored_on y.0 after) (stored_on y.0 rows))) exact es (all_found es up))
+        where
+          exact : (y : Entry) → lookup (is_at (item_order y.0)) es ≡ Some y.1
+              → ((change_to rows y).removed ≡ difference (stored_on y.0 rows) (stored_on y.0 after))
+              × ((change_to rows y).added ≡ difference (stored_on y.0 after) (stored_on y.0 rows))
+          exact y hit =
+              let is : y.1 ≡ stored_on y.0 after = ap (λ o. list_or o (stored_on y.0 rows)) (sym hit) ∙ applied y.0 in
+              (ap (difference (stored_on y.0 rows)) is, ap (λ l. difference l (stored_on y.0 rows)) is)
