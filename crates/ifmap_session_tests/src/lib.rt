@@ -8,3 +8,5 @@ mod expiring;
 mod lives;
 #[cfg(test)]
 mod makers;
+#[cfg(test)]
+mod queues;
