@@ -154,10 +154,10 @@ fn deep_body(alloc: Global, levels: usize) -> Result<String, NoMemory> {
 }
 
 #[test]
-fn an_element_has_64_levels(rt: HostRuntime) -> Result<(), Fail> {
+fn a_reply_has_80_levels(rt: HostRuntime) -> Result<(), Fail> {
     let alloc = rt.alloc();
-    let body = deep_body(alloc, 64)?;
+    let body = deep_body(alloc, 73)?;
     assert!(rt; is(&written_again(alloc, body.as_str()), body.as_str()));
-    assert!(rt; is_refused(alloc, deep_body(alloc, 65)?.as_str()));
+    assert!(rt; is_refused(alloc, deep_body(alloc, 74)?.as_str()));
     Ok(())
 }
