@@ -18,7 +18,7 @@ use Rattle.ifmap_reader.specs.Reads.{AreCanonical, GivesBack, IsRead}
 
 module _ (bytes : List ℕ) (depth : ℕ) where
   pub fit : (a : Result Reading ReadError) → IsRead bytes depth a → IfOk a (λ r. IsFit r.root)
-  fit (Ok r) h = spelled_fits bytes r h.0
+  fit (Ok r) h = (spelled_fits bytes r h.0).0
   fit (Err (Unreadable at)) h = tt
   fit (Err (TooDeep at)) h = tt
   fit (Err NoMemory) h = tt

@@ -1,14 +1,14 @@
--- The element that fit tokens mean is fit.
--- First what scopes bind (`bound_fits`), then the attributes that a tag gives, then the children among items, and last an induction over
--- pieces: what the tokens of a document give (`FitTokens`) makes each element in it one that fits.
-use Rattle.std.proofs.Common.{◌≡◌, ◌≢◌, ℕ, Bool, true, false, List, [], ◌∷◌, map, refl, ap, sym, ◌∙◌, subst, inl, inr}
+-- The element that fit tokens mean is fit, and so is what it declares.
+-- First what scopes bind (`bound_fits`), then the attributes that a tag gives, then the children among items and the declarations, and last
+-- an induction over pieces: what the tokens of a document give (`FitTokens`) makes each element in it one that fits.
+use Rattle.std.proofs.Common.{◌≡◌, ◌≢◌, ℕ, ◌+◌, Bool, true, false, List, [], ◌∷◌, map, refl, ap, sym, ◌∙◌, subst, inl, inr}
 use Rattle.std.specs.Prelude.{◌&&◌, if◌then◌else◌, codes, filter, Option, Some, None, IfSome, is_none}
 use Rattle.std.specs.List.{AllByRecursion, cons_option, filter_map, flat_map, list_all, list_any}
 use Rattle.std.specs.Str.{bytes_eq}
 use Rattle.std.proofs.lemmas.Bool.{and_from, cases_Bool}
 use Rattle.ifmap_elem.specs.Chars.{IsCharacters, IsWhite, is_character, is_white}
 use Rattle.ifmap_elem.specs.Document as piece
-use Rattle.ifmap_elem.specs.Document.{Pieces, Nothing, tokens_of, Item, Inner, Run, child_of, heading, is_inner, is_child, joined, children_among, put_before, IsElement, AreItems}
+use Rattle.ifmap_elem.specs.Document.{Pieces, Nothing, tokens_of, Item, Inner, Run, child_of, declared_below, declared_here, from_above, heading, is_inner, is_child, joined, children_among, put_before, IsElement, AreItems}
 use Rattle.ifmap_elem.specs.laws.Roots.{BeginsWithRoot, root_begins}
 use Rattle.ifmap_elem.specs.Fit.{IsNamespace, IsFitAttribute, HasCharacters, IsNotBlank, AreApart, is_element, AreFitChildren, IsFitAlone, IsFit}
 use Rattle.ifmap_elem.specs.Names.{IsNamePart}
@@ -149,8 +149,15 @@ attributes_fit scope f (a ∷ as') g ts h = elim (cases_Bool (is_none (binding_o
 
 -- children
 
+-- each namespace that is declared is one that a document can declare, or none
+abbrev pub IsFitDeclared : Declared → Type 0
+IsFitDeclared d = IsNamespace d.space
+
+abbrev pub AreFitDeclared : List Declared → Type 0
+AreFitDeclared declared = AllByRecursion IsFitDeclared declared
+
 abbrev IsFitItem : Item → Type 0
-IsFitItem (Inner e declared) = IsFit e
+IsFitItem (Inner e declared) = IsFit e × AreFitDeclared declared
 IsFitItem (Run text) = IsCharacters text
 
 abbrev item_child : Item → Child-F Child Element
@@ -264,8 +271,34 @@ inner_fit : (items : List Item) → AllByRecursion IsFitItem items
     → AllByRecursion IsFitAlone (flat_map elements_of_child (map child_of items))
 inner_fit [] f = tt
 inner_fit (Inner e d ∷ items) f =
-    both_all IsFitAlone _ _ (subst (AllByRecursion IsFitAlone) (sym (elements_in e)) f.0) (inner_fit items f.1)
+    both_all IsFitAlone _ _ (subst (AllByRecursion IsFitAlone) (sym (elements_in e)) f.0.0) (inner_fit items f.1)
 inner_fit (Run t ∷ items) f = both_all IsFitAlone _ _ (subst (AllByRecursion IsFitAlone) (sym (elements_text t)) tt) (inner_fit items f.1)
+
+-- declarations
+
+here_fit : (bs : List Binding) → IsFitScope bs → AreFitDeclared (declared_here bs)
+here_fit [] f = tt
+here_fit (b ∷ bs) f = (f.0.space, here_fit bs f.1)
+
+above_fit : (index : ℕ) (declared : List Declared) → AreFitDeclared declared → AreFitDeclared (map (from_above index) declared)
+above_fit index [] f = tt
+above_fit index (d ∷ declared) f = (f.0, above_fit index declared f.1)
+
+below_fit : (index : ℕ) (items : List Item) → AllByRecursion IsFitItem items → AreFitDeclared (declared_below index items)
+below_fit index [] f = tt
+below_fit index (Inner e declared ∷ items) f =
+    both_all IsFitDeclared (map (from_above index) declared) (declared_below (index + 1) items) (above_fit index declared f.0.1)
+    (below_fit (index + 1) items f.1)
+below_fit index (Run t ∷ items) f = below_fit (index + 1) items f.1
+
+declared_fit : (outer : Scope) (tag : Tag) (items : List Item) (e : Element) (declared : List Declared) → IsFitTag tag
+    → AllByRecursion IsFitItem items → IsElement outer tag items e declared → AreFitDeclared declared
+declared_fit outer tag items e declared t i is =
+    let here = here_fit (bindings tag) (bindings_fit tag.assignments t.assignments is.named.binds) in
+    let among = left_fits (list_any is_inner items) (joined items) (joined_fits items i) in
+    let below = below_fit 0 (children_among items) among in
+    subst AreFitDeclared (sym is.declared_are)
+    (both_all IsFitDeclared (declared_here (bindings tag)) (declared_below 0 (children_among items)) here below)
 
 -- elements
 
@@ -290,6 +323,11 @@ element_fits outer tag items e declared f t i is =
     })
     (subst (λ (cs : List Child). AllByRecursion IsFitAlone (flat_map elements_of_child cs)) (sym is.children_are) inner)
 
+item_fits : (outer : Scope) (tag : Tag) (items : List Item) (e : Element) (declared : List Declared) → IsFitScope outer → IsFitTag tag
+    → AllByRecursion IsFitItem items → IsElement outer tag items e declared → IsFitItem (Inner e declared)
+item_fits outer tag items e declared f t i is =
+    (element_fits outer tag items e declared f t i is, declared_fit outer tag items e declared t i is)
+
 means_fit : (scope : Scope) (c : Pieces) (items : List Item) → IsFitScope scope → AllByRecursion IsFitToken (tokens_of c)
     → AreItems scope c items → AllByRecursion IsFitItem items
 means_fit scope Nothing items f t m = subst (AllByRecursion IsFitItem) (sym m) tt
@@ -299,29 +337,30 @@ means_fit scope (piece.Characters blank text after) items f t m =
 means_fit scope (piece.Section text after) items f t m =
     subst (AllByRecursion IsFitItem) (sym m.1) (t.0, means_fit scope after m.0 f t.1 m.2)
 means_fit scope (piece.Empty tag after) items f t m =
-    subst (AllByRecursion IsFitItem) (sym m.3) (element_fits scope tag [] m.0 m.1 f t.0 tt m.4, means_fit scope after m.2 f t.1 m.5)
+    subst (AllByRecursion IsFitItem) (sym m.3) (item_fits scope tag [] m.0 m.1 f t.0 tt m.4, means_fit scope after m.2 f t.1 m.5)
 means_fit scope (piece.Start tag inside after) items f t m =
     let parts = all_both IsFitToken (tokens_of inside) (End tag.name ∷ tokens_of after) t.1 in
     let inner = means_fit (scope_within scope tag) inside m.0 (within_fits scope tag f t.0 m.6.named.binds) parts.0 m.5 in
     subst (AllByRecursion IsFitItem) (sym m.4) (
-      element_fits scope tag m.0 m.1 m.2 f t.0 inner m.6,
+      item_fits scope tag m.0 m.1 m.2 f t.0 inner m.6,
       means_fit scope after m.3 f parts.1.1
           m.7,
     )
 
-rooted_fits : (c : Pieces) (r : Reading) → AllByRecursion IsFitToken (tokens_of c) → BeginsWithRoot c r → IsFit r.root
+rooted_fits : (c : Pieces) (r : Reading) → AllByRecursion IsFitToken (tokens_of c) → BeginsWithRoot c r
+    → IsFit r.root × AreFitDeclared r.declared
 rooted_fits Nothing r t m = absurd m
 rooted_fits (piece.Comment after) r t m = rooted_fits after r t.1 m
 rooted_fits (piece.Characters blank text after) r t m = rooted_fits after r t.1 m.1
 rooted_fits (piece.Section text after) r t m = absurd m
-rooted_fits (piece.Empty tag after) r t m = element_fits root_scope tag [] r.root r.declared root_fits t.0 tt m.0
+rooted_fits (piece.Empty tag after) r t m = item_fits root_scope tag [] r.root r.declared root_fits t.0 tt m.0
 rooted_fits (piece.Start tag inside after) r t m =
     let parts = all_both IsFitToken (tokens_of inside) (End tag.name ∷ tokens_of after) t.1 in
     let inner = means_fit (scope_within root_scope tag) inside m.0 (within_fits root_scope tag root_fits t.0 m.2.named.binds) parts.0 m.1 in
-    element_fits root_scope tag m.0 r.root r.declared root_fits t.0 inner m.2
+    item_fits root_scope tag m.0 r.root r.declared root_fits t.0 inner m.2
 
--- what bytes spell is fit
-pub spelled_fits : (bytes : List ℕ) (r : Reading) → Spells bytes r → IsFit r.root
+-- what bytes spell is fit, and so is what they declare
+pub spelled_fits : (bytes : List ℕ) (r : Reading) → Spells bytes r → IsFit r.root × AreFitDeclared r.declared
 spelled_fits bytes r s =
     let tokens = tokens_fit (without_byte_order_mark bytes) s.tokens [] s.lexed in
     let here = subst (AllByRecursion IsFitToken) s.document.tokens_are tokens in

@@ -1,9 +1,10 @@
 //! Laws on what bytes spell and on the places at which they are refused: functions that do nothing,
 //! whose contracts are the laws.
 ghost use Rattle.std.specs.Prelude.{ℕ, List};
+ghost use Rattle.std.specs.List.{AllByRecursion};
 ghost use Rattle.ifmap_lemmas.specs.Deciding.{Decided};
 ghost use Rattle.ifmap_elem.specs.declared.readings.Reading.{Reading};
-ghost use Rattle.ifmap_elem.specs.Fit.{IsFit};
+ghost use Rattle.ifmap_elem.specs.Fit.{IsFit, IsNamespace};
 ghost use Rattle.ifmap_elem.specs.Places.{Deep, Stop};
 ghost use Rattle.ifmap_elem.specs.Spells.{Spells};
 ghost use Rattle.ifmap_reader.specs.Reads.{AtMostOne};
@@ -23,6 +24,12 @@ pub fn bytes_nest_too_deep_at_one_place()
 /// What bytes spell is an element that a document can have.
 pub fn what_bytes_spell_fits()
     ensures { (bytes : List ℕ) (reading : Reading) → Spells bytes reading → IsFit reading.root }
+{}
+
+/// Each namespace that bytes declare is one that a document can declare, or none.
+pub fn what_bytes_declare_fits()
+    ensures { (bytes : List ℕ) (reading : Reading) → Spells bytes reading →
+        AllByRecursion (λ d. IsNamespace d.space) reading.declared }
 {}
 
 /// There is a place where bytes cease to begin a document.

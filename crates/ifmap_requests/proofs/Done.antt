@@ -6,14 +6,12 @@
 -- 5. Identifiers and lists as children.
 -- 6. Operations and requests: each is one more form in a chain.
 use Rattle.std.proofs.Common.{◌≡◌, ◌⊎◌, ◌<◌, ◌≤◌, ◌+◌, ◌^◌, ◌++◌, ℕ, true, false, List, [], ◌∷◌, Option, None, Some, IfSome, Result, Ok, Err, codes, length, min, inl, inr, refl, arith}
-use Rattle.std.specs.Prelude.{IsUtf8, ◌&&◌, nat_le, nat_lt}
+use Rattle.std.specs.Prelude.{◌&&◌, nat_le, nat_lt}
 use Rattle.std.specs.List.{list_all}
-use Rattle.std.specs.Str.{all_scalars, bytes_eq}
-use Rattle.std.proofs.Math.Utf8.{low_scalar, scalar}
-use Rattle.std.proofs.lemmas.Bool.{and_from, cases_lt}
-use Rattle.std.proofs.lemmas.Bool.Decides.{nat_tests}
+use Rattle.std.specs.Str.{bytes_eq}
+use Rattle.std.proofs.lemmas.Bool.{cases_lt}
 use Rattle.ifmap_elem.specs.Arranged.{arrange}
-use Rattle.ifmap_elem.specs.Chars.{AllAre, IsCharacters, is_character, is_white}
+use Rattle.ifmap_elem.specs.Chars.{IsCharacters, is_white}
 use Rattle.ifmap_elem.specs.Fit.{IsFit}
 use Rattle.ifmap_elem.specs.Nesting.{nesting}
 use Rattle.ifmap_elem.specs.declared.elements.Child.TheOpen.{Child-F}
@@ -31,7 +29,6 @@ use Rattle.ifmap_ident.specs.Canon.{IsAnswer}
 use Rattle.ifmap_ident.specs.Laws.{HasAnswer}
 use Rattle.ifmap_ident.specs.Parts.{has_only, value_of}
 use Rattle.ifmap_meta.specs.declared.metadata.Cardinality.{Cardinality}
-use Rattle.ifmap_meta.specs.declared.metadata.Metadata.{Metadata}
 use Rattle.ifmap_meta.specs.Cardinality.{cardinality_of}
 use Rattle.ifmap_meta.specs.Keys.{content_bytes}
 use Rattle.ifmap_meta.specs.Stamps.{content_of}
@@ -45,6 +42,7 @@ use Rattle.ifmap_forms.specs.Values.{Field, depth_field, field_check, filter_che
 use Rattle.ifmap_requests.specs.declared.requests.Request.{Request}
 use Rattle.ifmap_requests.specs.Published.{metadata_check, published_content, published_from}
 use Rattle.ifmap_requests.specs.RequestForms.{delete_form, delete_of, end_form, end_of, end_session_form, end_session_of, ifmap_space, named_request_check, new_session_form, new_session_of, notify_form, notify_of, other_request_check, poll_form, poll_of, publish_form, publish_of, publish_op_check, publisher_field, purge_form, purge_of, renew_form, renewal_of, request_check, search_attributes, search_form, search_of, session_attribute, session_field, subscribe_form, subscribe_of, subscribe_op_check, subscription_form, subscription_of, update_form, update_of}
+use Rattle.ifmap_requests.proofs.Characters.{characters_utf8}
 use Rattle.ifmap_requests.proofs.Sound.{AreSound, IsSound, from_sound, parts_sound, value_fit}
 
 -- ---- 1. identifiers
@@ -166,21 +164,6 @@ kinds_done : FieldDone kinds_field
 kinds_done scope None is = pass_done []
 kinds_done scope (Some text) is =
     if_done (list_all is_white text) (pass []) (kinds_check (pieces_of text)) (pass_done []) (pieces_done (pieces_of text))
-
--- characters of a document are UTF-8
-
-high_character : (c : ℕ) → 55296 ≤ c → is_character c ≡ true → scalar c ≡ true
-high_character c g h = grind (arith, nat_tests)
-
-character_scalar : (c : ℕ) → is_character c ≡ true → scalar c ≡ true
-character_scalar c h = elim (cases_lt c 55296) [ inl l ↦ low_scalar c l | inr g ↦ high_character c g h ]
-
-character_scalars : (cs : List ℕ) → AllAre is_character cs → all_scalars cs ≡ true
-character_scalars [] f = refl
-character_scalars (c ∷ cs) f = and_from (scalar c) (all_scalars cs) (character_scalar c f.0) (character_scalars cs f.1)
-
-characters_utf8 : (bytes : List ℕ) → IsCharacters bytes → IsUtf8 bytes
-characters_utf8 bytes i = (i.0, (character_scalars i.0 i.2, i.1))
 
 module _ (decided : FilterOrStop) (apart : StopsWhereNone) where
   filter_found : (scope : Scope) (text : List ℕ) → ((filter : Filter) × Writes text scope filter) ⊎ ((at : ℕ) × StopsAt text scope at)

@@ -2,8 +2,8 @@
 -- 1. What checks give, for what is composed of checks: it is enough to know it of the smallest ones.
 -- 2. Attributes, 3. identifiers and items, 4. metadata.
 -- 5. Operations and requests: each is one more form in a chain. 6. Bodies.
-use Rattle.std.proofs.Common.{◌≡◌, ◌≤◌, ◌+◌, ◌++◌, ℕ, Bool, true, false, List, [], ◌∷◌, Option, None, Some, IfSome, Result, Ok, Err, length, refl, arith, subst, sym}
-use Rattle.std.specs.Prelude.{◌&&◌, nat_le, if◌then◌else◌}
+use Rattle.std.proofs.Common.{◌≡◌, ◌≤◌, ◌+◌, ◌++◌, ℕ, Bool, true, false, List, [], ◌∷◌, Option, None, Some, IfSome, Result, Ok, Err, codes, length, refl, arith, subst, sym}
+use Rattle.std.specs.Prelude.{◌&&◌, nat_le}
 use Rattle.std.specs.List.{AllByRecursion, list_all}
 use Rattle.std.specs.Str.{bytes_eq}
 use Rattle.std.specs.declared.cmp.Ordering.{Ordering}
@@ -32,12 +32,16 @@ use Rattle.ifmap_forms.specs.Checks.{Check, check_if, check_then, fail, need, ne
 use Rattle.ifmap_forms.specs.Items.{before_list, from_list, identifier_check, identifiers_check, item_content, item_of, list_at, list_check, may_follow, only_identifier, start_content}
 use Rattle.ifmap_forms.specs.Scopes.{Scopes, scopes_below}
 use Rattle.ifmap_forms.specs.Tables.{Both, Content, Form, Part, Table, beside, both, each_element, form_check, form_or, is_white_part, list_of, no_attributes, no_children, parts_of, read_form}
-use Rattle.ifmap_forms.specs.Values.{Field, field_check, limit_field, name_field, number_of, text_field, within}
+use Rattle.ifmap_filter.specs.declared.filters.Filter.{Filter}
+use Rattle.ifmap_ident.specs.declared.kinds.Kind.{Kind}
+use Rattle.ifmap_forms.specs.Values.{depth_field, filter_check, filter_field, kinds_field, size_field, Field, field_check, limit_field, name_field, number_of, text_field, within}
 use Rattle.ifmap_requests.specs.declared.requests.Request.{Request}
-use Rattle.ifmap_requests.specs.Fit.{IsFitLimit, IsFitOp, IsFitRequest, IsFitSubscribeOp}
+use Rattle.ifmap_requests.specs.Fit.{IsFitLimit, IsFitOp, IsFitRequest, IsFitSearch, IsFitSubscribeOp, MayBeFitFilter}
+use Rattle.ifmap_requests.specs.FitFilters.{IsFitFilter}
 use Rattle.ifmap_requests.specs.Means.{Means, scopes_from}
 use Rattle.ifmap_requests.specs.Published.{metadata_check, published_content, published_from}
-use Rattle.ifmap_requests.specs.RequestForms.{WithSession, delete_form, delete_of, end_form, end_of, end_session_form, end_session_of, ifmap_space, named_request_check, new_session_form, new_session_of, notify_form, notify_of, other_request_check, poll_form, poll_of, publish_form, publish_of, publish_op_check, publisher_field, purge_form, purge_of, renew_form, renewal_of, request_check, search_attributes, search_form, search_of, session_attribute, session_field, subscribe_form, subscribe_of, subscribe_op_check, subscription_form, subscription_of, update_form, update_of}
+use Rattle.ifmap_requests.specs.RequestForms.{SearchValues, WithSession, search_from, delete_form, delete_of, end_form, end_of, end_session_form, end_session_of, ifmap_space, named_request_check, new_session_form, new_session_of, notify_form, notify_of, other_request_check, poll_form, poll_of, publish_form, publish_of, publish_op_check, publisher_field, purge_form, purge_of, renew_form, renewal_of, request_check, search_attributes, search_form, search_of, session_attribute, session_field, subscribe_form, subscribe_of, subscribe_op_check, subscription_form, subscription_of, update_form, update_of}
+use Rattle.ifmap_requests.proofs.FilterLaws.{AreFitDeclared, IsFitScope, filter_fit, scopes_fit}
 use Rattle.ifmap_requests.proofs.Sound.{AreSound, IsSound, before_sound, from_sound, inner_sound, parts_sound, value_fit}
 
 -- ---- 1. what checks give
@@ -80,15 +84,21 @@ module _ {X Y : Type 0} (P : X → Type 0) (Q : Y → Type 0) where
 
 -- ---- 2. attributes
 
+-- each namespace in scope, at each path, is one that a document can have
+abbrev AreFitScopes : Scopes → Type 0
+AreFitScopes scopes = (path : List ℕ) → IsFitScope (scopes path)
+
 -- each value of the attribute whose text is of characters is such
 abbrev FieldGives : {X : Type 0} → Field X → (X → Type 0) → Type 0
-FieldGives field P = (scope : Scope) (text : Option (List ℕ)) → IfSome text IsCharacters → Gives (field.reads scope text) P
+FieldGives field P =
+    (scope : Scope) (text : Option (List ℕ)) → IsFitScope scope → IfSome text IsCharacters → Gives (field.reads scope text) P
 
 abbrev TableGives : {X : Type 0} → Table X → (X → Type 0) → Type 0
-TableGives table P = (scope : Scope) (e : Element) → IsSound level_limit e → Gives (table.reads scope e) P
+TableGives table P = (scope : Scope) (e : Element) → IsFitScope scope → IsSound level_limit e → Gives (table.reads scope e) P
 
 abbrev ContentGives : {X : Type 0} → Content X → (X → Type 0) → Type 0
-ContentGives content P = (scopes : Scopes) (parts : List Part) → AreSound level_limit parts → Gives (content scopes parts) P
+ContentGives content P =
+    (scopes : Scopes) (parts : List Part) → AreFitScopes scopes → AreSound level_limit parts → Gives (content scopes parts) P
 
 abbrev Any : {X : Type 0} → X → Type 0
 Any x = Unit {0}
@@ -98,29 +108,29 @@ AreBoth P Q b = P b.first × Q b.others
 
 module _ {X Y : Type 0} (P : X → Type 0) (Q : Y → Type 0) (field : Field X) (table : Table Y) where
   beside_gives : FieldGives field P → TableGives table Q → TableGives (beside field table) (AreBoth P Q)
-  beside_gives f t scope e s =
+  beside_gives f t scope e fit s =
       then_gives P (AreBoth P Q) (field_check field scope e) (λ x. check_then (table.reads scope e) (λ y. pass (both x y)))
-      (f scope (value_of field.local e) (value_fit field.local e s.fit))
-      (λ x p. then_gives Q (AreBoth P Q) (table.reads scope e) (λ y. pass (both x y)) (t scope e s)
+      (f scope (value_of field.local e) fit (value_fit field.local e s.fit))
+      (λ x p. then_gives Q (AreBoth P Q) (table.reads scope e) (λ y. pass (both x y)) (t scope e fit s)
       (λ y q. pass_gives (AreBoth P Q) (both x y) (p, q)))
 
 -- of any value nothing need be known
 any_field : {X : Type 0} (field : Field X) → FieldGives field Any
-any_field field scope text is x f = tt
+any_field field scope text fit is x f = tt
 
 any_table : {X : Type 0} (table : Table X) → TableGives table Any
-any_table table scope e s x f = tt
+any_table table scope e fit s x f = tt
 
 any_content : {X : Type 0} (content : Content X) → ContentGives content Any
-any_content content scopes parts s x f = tt
+any_content content scopes parts fit s x f = tt
 
 text_gives : (local : List ℕ) → FieldGives (text_field local) IsCharacters
-text_gives local scope None is = fail_gives IsCharacters Failure
-text_gives local scope (Some text) is = pass_gives IsCharacters text is
+text_gives local scope None fit is = fail_gives IsCharacters Failure
+text_gives local scope (Some text) fit is = pass_gives IsCharacters text is
 
 name_gives : FieldGives name_field IsCharacters
-name_gives scope None is = fail_gives IsCharacters Failure
-name_gives scope (Some text) is =
+name_gives scope None fit is = fail_gives IsCharacters Failure
+name_gives scope (Some text) fit is =
     need_gives IsCharacters (nat_le 1 (length text) && nat_le (length text) 1000) Failure (pass text) (pass_gives IsCharacters text is)
 
 limit_within : (n : ℕ) → IsFitLimit (Some (within 10_000 5_000_000 n))
@@ -131,34 +141,40 @@ any_number None = tt
 any_number (Some n) = tt
 
 limit_gives : FieldGives limit_field IsFitLimit
-limit_gives scope None is = pass_gives IsFitLimit None tt
-limit_gives scope (Some text) is =
+limit_gives scope None fit is = pass_gives IsFitLimit None tt
+limit_gives scope (Some text) fit is =
     some_gives Any IsFitLimit Failure (number_of text) (λ n. pass (Some (within 10_000 5_000_000 n))) (any_number (number_of text))
     (λ n any. pass_gives IsFitLimit (Some (within 10_000 5_000_000 n)) (limit_within n))
+
+filter_gives : (local : List ℕ) → FieldGives (filter_field local) MayBeFitFilter
+filter_gives local scope None fit is = pass_gives MayBeFitFilter None tt
+filter_gives local scope (Some text) fit is =
+    then_gives IsFitFilter MayBeFitFilter (filter_check scope text) (λ filter. pass (Some filter))
+    (λ filter w. filter_fit scope fit text filter is w) (λ filter f. pass_gives MayBeFitFilter (Some filter) f)
 
 -- ---- forms
 
 module _ {X A C : Type 0} (P : A → Type 0) (Q : C → Type 0) (R : X → Type 0) (form : Form A C) (make : A → C → X) where
   form_gives : TableGives form.attributes P → ContentGives form.content Q → ((a : A) (c : C) → P a → Q c → R (make a c))
-      → (scopes : Scopes) (e : Element) → IsSound level_limit e → Gives (form_check form make scopes e) R
-  form_gives t s r scopes e sound =
+      → (scopes : Scopes) (e : Element) → AreFitScopes scopes → IsSound level_limit e → Gives (form_check form make scopes e) R
+  form_gives t s r scopes e fit sound =
       then_gives (AreBoth P Q) R (read_form form scopes e) (λ x. pass (make x.first x.others))
       (then_gives P (AreBoth P Q) (form.attributes.reads (scopes []) e)
       (λ a. need (has_only (form.passed_over ++ form.attributes.locals) e) Failure
       (check_then (form.content scopes (parts_of e)) (λ c. pass (both a c))))
-      (t (scopes []) e sound)
+      (t (scopes []) e (fit []) sound)
       (λ a p. need_gives (AreBoth P Q) (has_only (form.passed_over ++ form.attributes.locals) e) Failure
       (check_then (form.content scopes (parts_of e)) (λ c. pass (both a c)))
       (then_gives Q (AreBoth P Q) (form.content scopes (parts_of e)) (λ c. pass (both a c))
-      (s scopes (parts_of e) (parts_sound level_limit e sound))
+      (s scopes (parts_of e) fit (parts_sound level_limit e sound))
       (λ c q. pass_gives (AreBoth P Q) (both a c) (p, q)))))
       (λ x pq. pass_gives R (make x.first x.others) (r x.first x.others pq.0 pq.1))
 
   or_gives : TableGives form.attributes P → ContentGives form.content Q → ((a : A) (c : C) → P a → Q c → R (make a c))
-      → (scopes : Scopes) (e : Element) → IsSound level_limit e → (other : Check X) → Gives other R
+      → (scopes : Scopes) (e : Element) → AreFitScopes scopes → IsSound level_limit e → (other : Check X) → Gives other R
       → Gives (form_or form make scopes e other) R
-  or_gives t s r scopes e sound other g =
-      if_gives R (is_name e.name form.name) (form_check form make scopes e) other (form_gives t s r scopes e sound) g
+  or_gives t s r scopes e fit sound other g =
+      if_gives R (is_name e.name form.name) (form_check form make scopes e) other (form_gives t s r scopes e fit sound) g
 
 module _ {X : Type 0} (P : X → Type 0) (one : ℕ → Element → Check X)
     (g : (index : ℕ) (e : Element) → IsSound level_limit e → Gives (one index e) P) where
@@ -216,14 +232,14 @@ only_fit (a ∷ []) s = s.0
 only_fit (a ∷ (b ∷ more)) s = tt
 
 start_gives : ContentGives start_content IsIdentifier
-start_gives scopes parts s =
+start_gives scopes parts fit s =
     then_gives AreIdentifiers IsIdentifier (identifiers_check 1 [] parts)
     (λ identifiers. need_some Failure (only_identifier identifiers) (λ i. pass i)) (identifiers_gives 1 [] parts s)
     (λ identifiers p. some_gives IsIdentifier IsIdentifier Failure (only_identifier identifiers) (λ i. pass i) (only_fit identifiers p)
     (λ i q. pass_gives IsIdentifier i q))
 
 item_gives : ContentGives item_content IsCanonItem
-item_gives scopes parts s =
+item_gives scopes parts fit s =
     then_gives AreIdentifiers IsCanonItem (identifiers_check 2 [] parts)
     (λ identifiers. need_some Failure (item_of identifiers) (λ item. pass item)) (identifiers_gives 2 [] parts s)
     (λ identifiers p. some_gives IsCanonItem IsCanonItem Failure (item_of identifiers) (λ item. pass item) (item_fit identifiers p)
@@ -271,7 +287,7 @@ module _ (made : MakesMetadata) where
       (λ elements u. pass_gives ArePublished (both item elements) (r, u)))
 
   published_gives : ContentGives published_content ArePublished
-  published_gives scopes parts s =
+  published_gives scopes parts fit s =
       then_gives AreIdentifiers ArePublished (identifiers_check 2 [] (before_list parts))
       (λ identifiers. check_then (list_at metadata_check (from_list parts)) (λ list. published_from identifiers list))
       (identifiers_gives 2 [] (before_list parts) (before_sound level_limit parts s))
@@ -281,40 +297,76 @@ module _ (made : MakesMetadata) where
 
   -- ---- 5. operations and requests
 
-  publish_op_gives : (scopes : Scopes) (e : Element) → IsSound level_limit e → Gives (publish_op_check scopes e) IsFitOp
-  publish_op_gives scopes e s =
-      or_gives Any ArePublished IsFitOp update_form update_of (any_table update_form.attributes) published_gives (λ a c p q. q) scopes e s
-      (form_or notify_form notify_of scopes e (form_or delete_form delete_of scopes e (fail Failure)))
+  abbrev HasFilter : Both (Option Filter) (Unit {0}) → Type 0
+  HasFilter = AreBoth MayBeFitFilter Any
+
+  delete_table_gives : TableGives delete_form.attributes HasFilter
+  delete_table_gives =
+      beside_gives MayBeFitFilter Any (filter_field (codes "filter")) no_attributes (filter_gives (codes "filter"))
+      (any_table no_attributes)
+
+  publish_op_gives : (scopes : Scopes) (e : Element) → AreFitScopes scopes → IsSound level_limit e
+      → Gives (publish_op_check scopes e) IsFitOp
+  publish_op_gives scopes e f s =
+      or_gives Any ArePublished IsFitOp update_form update_of (any_table update_form.attributes) published_gives (λ a c p q. q) scopes
+      e f s (form_or notify_form notify_of scopes e (form_or delete_form delete_of scopes e (fail Failure)))
       (or_gives Any ArePublished IsFitOp notify_form notify_of (any_table notify_form.attributes) published_gives (λ a c p q. q) scopes
-      e s (form_or delete_form delete_of scopes e (fail Failure))
-      (or_gives Any IsCanonItem IsFitOp delete_form delete_of (any_table delete_form.attributes) item_gives (λ a c p q. q) scopes e s
+      e f s (form_or delete_form delete_of scopes e (fail Failure))
+      (or_gives HasFilter IsCanonItem IsFitOp delete_form delete_of delete_table_gives item_gives (λ a c p q. (q, p.0)) scopes e f s
       (fail Failure) (fail_gives IsFitOp Failure)))
 
   abbrev HasName : {Y : Type 0} → Both (List ℕ) Y → Type 0
   HasName a = IsCharacters a.first × Unit {0}
 
-  subscribe_op_gives : (scopes : Scopes) (e : Element) → IsSound level_limit e → Gives (subscribe_op_check scopes e) IsFitSubscribeOp
-  subscribe_op_gives scopes e s =
-      or_gives HasName IsIdentifier IsFitSubscribeOp subscription_form subscription_of
-      (beside_gives IsCharacters Any name_field search_attributes name_gives (any_table search_attributes)) start_gives
-      (λ a c p q. (p.0, q)) scopes e s (form_or end_form end_of scopes e (fail Failure))
+  -- the filters of a search, among its attributes
+  abbrev AfterLinks : Both ℕ (Both ℕ (Both (Option Filter) (Both (List Kind) (Unit {0})))) → Type 0
+  AfterLinks = AreBoth Any (AreBoth Any (AreBoth MayBeFitFilter Any))
+
+  abbrev HasFilters : SearchValues → Type 0
+  HasFilters = AreBoth MayBeFitFilter AfterLinks
+
+  search_attributes_give : TableGives search_attributes HasFilters
+  search_attributes_give =
+      beside_gives MayBeFitFilter AfterLinks (filter_field (codes "match-links"))
+      (beside depth_field (beside size_field (beside (filter_field (codes "result-filter")) (beside kinds_field no_attributes))))
+      (filter_gives (codes "match-links"))
+      (beside_gives Any (AreBoth Any (AreBoth MayBeFitFilter Any)) depth_field
+      (beside size_field (beside (filter_field (codes "result-filter")) (beside kinds_field no_attributes))) (any_field depth_field)
+      (beside_gives Any (AreBoth MayBeFitFilter Any) size_field
+      (beside (filter_field (codes "result-filter")) (beside kinds_field no_attributes)) (any_field size_field)
+      (beside_gives MayBeFitFilter Any (filter_field (codes "result-filter")) (beside kinds_field no_attributes)
+      (filter_gives (codes "result-filter")) (any_table (beside kinds_field no_attributes)))))
+
+  search_fit : (start : Identifier) (values : SearchValues) → IsIdentifier start → HasFilters values
+      → IsFitSearch (search_from start values)
+  search_fit start values p q = record { start = p; match_links = q.0; result_filter = q.1.1.1.0 }
+
+  abbrev HasSearch : Both (List ℕ) SearchValues → Type 0
+  HasSearch = AreBoth IsCharacters HasFilters
+
+  subscribe_op_gives : (scopes : Scopes) (e : Element) → AreFitScopes scopes → IsSound level_limit e
+      → Gives (subscribe_op_check scopes e) IsFitSubscribeOp
+  subscribe_op_gives scopes e f s =
+      or_gives HasSearch IsIdentifier IsFitSubscribeOp subscription_form subscription_of
+      (beside_gives IsCharacters HasFilters name_field search_attributes name_gives search_attributes_give) start_gives
+      (λ a c p q. (p.0, search_fit c a.others q p.1)) scopes e f s (form_or end_form end_of scopes e (fail Failure))
       (or_gives HasName Any IsFitSubscribeOp end_form end_of
       (beside_gives IsCharacters Any name_field no_attributes name_gives (any_table no_attributes)) (any_content no_children)
-      (λ a c p q. p.0) scopes e s (fail Failure) (fail_gives IsFitSubscribeOp Failure))
+      (λ a c p q. p.0) scopes e f s (fail Failure) (fail_gives IsFitSubscribeOp Failure))
 
   session_gives : TableGives session_attribute HasName
   session_gives =
       beside_gives IsCharacters Any session_field no_attributes (text_gives session_field.local) (any_table no_attributes)
 
   publish_ops_give : ContentGives (list_of publish_op_check) (AllByRecursion IsFitOp)
-  publish_ops_give scopes parts s =
+  publish_ops_give scopes parts f s =
       each_gives IsFitOp (λ index e. publish_op_check (scopes_below scopes index) e)
-      (λ index e sound. publish_op_gives (scopes_below scopes index) e sound) 0 parts s
+      (λ index e sound. publish_op_gives (scopes_below scopes index) e (λ path. f (index ∷ path)) sound) 0 parts s
 
   subscribe_ops_give : ContentGives (list_of subscribe_op_check) (AllByRecursion IsFitSubscribeOp)
-  subscribe_ops_give scopes parts s =
+  subscribe_ops_give scopes parts f s =
       each_gives IsFitSubscribeOp (λ index e. subscribe_op_check (scopes_below scopes index) e)
-      (λ index e sound. subscribe_op_gives (scopes_below scopes index) e sound) 0 parts s
+      (λ index e sound. subscribe_op_gives (scopes_below scopes index) e (λ path. f (index ∷ path)) sound) 0 parts s
 
   abbrev HasLimit : Both (Option ℕ) (Unit {0}) → Type 0
   HasLimit a = IsFitLimit a.first × Unit {0}
@@ -325,20 +377,20 @@ module _ (made : MakesMetadata) where
   limit_table_gives : TableGives new_session_form.attributes HasLimit
   limit_table_gives = beside_gives IsFitLimit Any limit_field no_attributes limit_gives (any_table no_attributes)
 
-  search_table_gives : TableGives search_form.attributes HasName
+  search_table_gives : TableGives search_form.attributes HasSearch
   search_table_gives =
-      beside_gives IsCharacters Any session_field search_attributes (text_gives session_field.local) (any_table search_attributes)
+      beside_gives IsCharacters HasFilters session_field search_attributes (text_gives session_field.local) search_attributes_give
 
   purge_table_gives : TableGives purge_form.attributes HasTexts
   purge_table_gives =
       beside_gives IsCharacters HasName session_field (beside publisher_field no_attributes) (text_gives session_field.local)
       (beside_gives IsCharacters Any publisher_field no_attributes (text_gives publisher_field.local) (any_table no_attributes))
 
-  module _ (scopes : Scopes) (e : Element) (s : IsSound level_limit e) where
+  module _ (scopes : Scopes) (e : Element) (f : AreFitScopes scopes) (s : IsSound level_limit e) where
     purge_gives : Gives (form_or purge_form purge_of scopes e (fail Failure)) IsFitRequest
     purge_gives =
         or_gives HasTexts Any IsFitRequest purge_form purge_of purge_table_gives (any_content no_children) (λ a c p q. (p.0, p.1.0))
-        scopes e s (fail Failure) (fail_gives IsFitRequest Failure)
+        scopes e f s (fail Failure) (fail_gives IsFitRequest Failure)
 
     abbrev from_purge : Check Request
     from_purge = form_or purge_form purge_of scopes e (fail Failure)
@@ -361,37 +413,37 @@ module _ (made : MakesMetadata) where
     subscribe_gives : Gives from_subscribe IsFitRequest
     subscribe_gives =
         or_gives HasName (AllByRecursion IsFitSubscribeOp) IsFitRequest subscribe_form subscribe_of session_gives subscribe_ops_give
-        (λ a c p q. (p.0, q)) scopes e s from_purge purge_gives
+        (λ a c p q. (p.0, q)) scopes e f s from_purge purge_gives
 
     search_gives : Gives from_search IsFitRequest
     search_gives =
-        or_gives HasName IsIdentifier IsFitRequest search_form search_of search_table_gives start_gives (λ a c p q. (p.0, q)) scopes e
-        s from_subscribe subscribe_gives
+        or_gives HasSearch IsIdentifier IsFitRequest search_form search_of search_table_gives start_gives
+        (λ a c p q. (p.0, search_fit c a.others q p.1)) scopes e f s from_subscribe subscribe_gives
 
     poll_gives : Gives from_poll IsFitRequest
     poll_gives =
-        or_gives HasName Any IsFitRequest poll_form poll_of session_gives (any_content no_children) (λ a c p q. p.0) scopes e s
+        or_gives HasName Any IsFitRequest poll_form poll_of session_gives (any_content no_children) (λ a c p q. p.0) scopes e f s
         from_search search_gives
 
     end_gives : Gives from_end IsFitRequest
     end_gives =
         or_gives HasName Any IsFitRequest end_session_form end_session_of session_gives (any_content no_children) (λ a c p q. p.0)
-        scopes e s from_poll poll_gives
+        scopes e f s from_poll poll_gives
 
     renewal_gives : Gives from_renewal IsFitRequest
     renewal_gives =
-        or_gives HasName Any IsFitRequest renew_form renewal_of session_gives (any_content no_children) (λ a c p q. p.0) scopes e s
+        or_gives HasName Any IsFitRequest renew_form renewal_of session_gives (any_content no_children) (λ a c p q. p.0) scopes e f s
         from_end end_gives
 
     other_gives : Gives (other_request_check scopes e) IsFitRequest
     other_gives =
         or_gives HasLimit Any IsFitRequest new_session_form new_session_of limit_table_gives (any_content no_children) (λ a c p q. p.0)
-        scopes e s from_renewal renewal_gives
+        scopes e f s from_renewal renewal_gives
 
     named_gives : Gives (named_request_check scopes e) IsFitRequest
     named_gives =
         or_gives HasName (AllByRecursion IsFitOp) IsFitRequest publish_form publish_of session_gives publish_ops_give
-        (λ a c p q. (p.0, q)) scopes e s (other_request_check scopes e) other_gives
+        (λ a c p q. (p.0, q)) scopes e f s (other_request_check scopes e) other_gives
 
     request_gives : Gives (request_check scopes e) IsFitRequest
     request_gives =
@@ -399,10 +451,17 @@ module _ (made : MakesMetadata) where
 
   -- ---- 6. bodies
 
-  pub meaning_fit : ((bytes : List ℕ) (reading : Reading) → Spells bytes reading → IsFit reading.root) → (bytes : List ℕ)
-      (request : Request) → Means bytes (Ok request) → IsFitRequest request
-  meaning_fit fits bytes request m =
+  -- what bytes spell is fit, and so is what they declare
+  abbrev pub SpellFit : Type 0
+  SpellFit = (bytes : List ℕ) (reading : Reading) → Spells bytes reading → IsFit reading.root
+
+  abbrev pub DeclareFit : Type 0
+  DeclareFit = (bytes : List ℕ) (reading : Reading) → Spells bytes reading → AreFitDeclared reading.declared
+
+  pub meaning_fit : SpellFit → DeclareFit → (bytes : List ℕ) (request : Request) → Means bytes (Ok request) → IsFitRequest request
+  meaning_fit fits declares bytes request m =
       let root : IsSound level_limit m.reading.root =
       record { fit = fits bytes m.reading m.envelope.spelled; levels = m.envelope.shallow } in
       let inner = inner_sound level_limit m.reading.root m.path m.inner m.envelope.envelope root in
-      request_gives (scopes_from m.reading m.path) m.inner inner request m.checked
+      let scopes = scopes_fit m.reading.declared (declares bytes m.reading m.envelope.spelled) m.path in
+      request_gives (scopes_from m.reading m.path) m.inner scopes inner request m.checked

@@ -1,4 +1,6 @@
 pub mod Sound
+pub mod Characters
+pub mod FilterLaws
 pub mod Single
 pub mod Done
 pub mod PublishedLaws

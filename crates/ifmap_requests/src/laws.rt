@@ -6,10 +6,12 @@ use ifmap_envelopes::laws::{elements_are_envelopes_or_none, envelopes_hold_one_e
 use ifmap_filter::laws::{text_is_filter_or_stops, text_is_one_filter};
 use ifmap_ident::laws::elements_have_one_answer;
 use ifmap_meta::laws::stamped_metadata_are_whole;
-use ifmap_reader::laws::{bytes_spell_an_element_or_none, what_bytes_spell_fits};
+use ifmap_reader::laws::{
+    bytes_spell_an_element_or_none, what_bytes_declare_fits, what_bytes_spell_fits,
+};
 
-/// An element means one request at most, or has one code at most, in given scopes; and an element
-/// that a document can have has one of both.
+/// In given scopes an element has one request or one code, and not both; and an element that a
+/// document can have has one of them.
 pub fn elements_have_one_request_or_code()
     ensures one { OneRequest }
     ensures some { RequestOrCode }
@@ -28,7 +30,7 @@ pub fn bodies_have_one_meaning()
     envelopes_hold_one_element();
 }
 
-/// And it means one of these.
+/// A body means something: a request, a code, or that it is no envelope.
 pub fn bodies_mean_something()
     ensures { SomeMeaning }
 {
@@ -40,10 +42,12 @@ pub fn bodies_mean_something()
 }
 
 /// A request that a body means has texts of characters, identifiers and items that elements of a
-/// document are, metadata that can be published, and a limit within its range.
+/// document are, metadata that can be published, filters that ask for what a document can have and
+/// can be printed, and a limit within its range.
 pub fn bodies_mean_fit_requests()
     ensures { FitMeaning }
 {
     what_bytes_spell_fits();
+    what_bytes_declare_fits();
     stamped_metadata_are_whole();
 }

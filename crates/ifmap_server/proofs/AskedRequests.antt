@@ -82,7 +82,7 @@ request_fit (Publish session ops) fit x e =
     (machine_ops_of ops) (ops_fit ops fit.1) (λ moved p. (fit.0, p)) x e
 request_fit (Search session asked) fit x e =
     moved_by (StartsThere asked) machine.IsFitRequest (λ (moved : MachineSearch). machine_request.Search session moved)
-    (machine_search_of asked) (search_moved asked) (λ moved p. (fit.0, rw p fit.1)) x e
+    (machine_search_of asked) (search_moved asked) (λ moved p. (fit.0, rw p fit.1.start)) x e
 request_fit (Subscribe session ops) fit x e = none_moved machine.IsFitRequest x e
 request_fit (Poll session) fit x e = none_moved machine.IsFitRequest x e
 request_fit (PurgePublisher session publisher) fit x e = none_moved machine.IsFitRequest x e
