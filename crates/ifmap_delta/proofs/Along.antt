@@ -1,12 +1,11 @@
--- Items of links and of marks, flips and weights, one more at a time.
-use Rattle.std.proofs.Common.{◌≡◌, ℕ, ◌+◌, ◌<◌, ◌≤◌, Option, Some, None, IfSome, List, [], ◌∷◌, ◌++◌, flat_map, map, length, take, get_or, slice_get, sum_by, refl, ap, ◌∙◌, sym, subst, inl, inr}
-use Rattle.std.proofs.lemmas.Grind.{flat_map-append}
-use Rattle.std.proofs.lemmas.List.{append-nil, map-append, take_more}
-use Rattle.std.proofs.lemmas.List.Elements.{filter-append, filter_map-append}
-use Rattle.std.proofs.lemmas.Option.{get_or_from_slice_get, slice_get-get_or, slice_get_within}
+-- Weights, flips and notes, one more at a time.
+use Rattle.std.proofs.Common.{◌≡◌, ℕ, ◌+◌, ◌<◌, ◌≤◌, Option, Some, None, IfSome, List, [], ◌∷◌, ◌++◌, map, length, take, get_or, slice_get}
+use Rattle.std.proofs.Common.{sum_by, refl, ap, ◌∙◌, sym, subst, inl, inr}
+use Rattle.std.proofs.lemmas.List.{map-append, take_more}
+use Rattle.std.proofs.lemmas.List.Elements.{filter-append}
+use Rattle.std.proofs.lemmas.Option.{get_or_from_slice_get, slice_get_within}
 use Rattle.std.proofs.lemmas.List.Sums.{sum_by_more, sum_by_more_le}
-use Rattle.std.specs.List.{AllByRecursion, cons_option, filter, filter_map}
-use Rattle.ifmap_ident.specs.declared.items.Item.{Item}
+use Rattle.std.specs.List.{AllByRecursion, cons_option, filter}
 use Rattle.ifmap_lemmas.specs.Filters.{all_at}
 use Rattle.ifmap_lemmas.specs.Having.{Has, has_either, has_left, has_right}
 use Rattle.ifmap_plans.specs.declared.plans.ItemChange.{ItemChange}
@@ -15,28 +14,9 @@ use Rattle.ifmap_region.specs.declared.flips.Flip.{Flip}
 use Rattle.ifmap_search.specs.declared.results.Entry.{Entry}
 use Rattle.ifmap_search.specs.declared.searches.Search.{Search}
 use Rattle.ifmap_view.specs.declared.attachments.Attachment.{Attachment}
-use Rattle.ifmap_view.specs.declared.views.LinkSeen.{LinkSeen}
 use Rattle.ifmap_delta.specs.Flipped.{AreFlipsOf, IsFlipAt}
 use Rattle.ifmap_folds.specs.Notes.{is_told, told_notes}
 use Rattle.ifmap_delta.specs.Sights.{Sight}
-
-none : LinkSeen
-none = record { other = 0; at = 0 }
-
-pub along_more : (f : Option LinkSeen → Option Item) (ls : List LinkSeen) (i : ℕ) → i < length ls
-    → filter_map (λ l. f (Some l)) (take (i + 1) ls) ≡ filter_map (λ l. f (Some l)) (take i ls) ++ cons_option (f (slice_get ls i)) []
-along_more f ls i h =
-    ap (filter_map (λ l. f (Some l))) (take_more ls i none h)
-    ∙ filter_map-append (λ l. f (Some l)) (take i ls) (get_or ls i none ∷ [])
-    ∙ ap (λ o. filter_map (λ l. f (Some l)) (take i ls) ++ cons_option (f o) []) (sym (slice_get-get_or ls i none h))
-
-pub brought_more : (f : ℕ → List Item) (ns : List ℕ) (i n : ℕ) → slice_get ns i ≡ Some n
-    → flat_map f (take (i + 1) ns) ≡ flat_map f (take i ns) ++ f n
-brought_more f ns i n e =
-    ap (flat_map f) (take_more ns i 0 (slice_get_within ns i n e))
-    ∙ flat_map-append f (take i ns) (get_or ns i 0 ∷ [])
-    ∙ ap (λ l. flat_map f (take i ns) ++ l) (append-nil (f (get_or ns i 0)))
-    ∙ ap (λ x. flat_map f (take i ns) ++ f x) (get_or_from_slice_get ns i n 0 e)
 
 -- the weight of one number more
 pub weight_more : (w : ℕ → ℕ) (ns : List ℕ) (i n : ℕ) → slice_get ns i ≡ Some n → sum_by w (take (i + 1) ns) ≡ sum_by w (take i ns) + w n

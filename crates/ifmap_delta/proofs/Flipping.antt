@@ -2,7 +2,8 @@
 -- In order: links by identifiers (`named`, `linked_by`); those before the change by the numbers afterwards; an item whose
 -- match changes is a flip (`flipped`), and a flip is of such an item (`flip_of`); the links of the region's words are those of
 -- the two views (`old_links`, `mid_links`, `flip_ends`).
-use Rattle.std.proofs.Common.{◌≡◌, ◌≢◌, ◌↔◌, ◌⊎◌, inl, inr, ℕ, Bool, true, false, not, Option, Some, None, List, [], ◌∷◌, refl, ap, ◌∙◌, sym, subst}
+use Rattle.std.proofs.Common.{◌≡◌, ◌≢◌, ◌↔◌, ◌⊎◌, inl, inr, ℕ, Bool, true, false, not, Option, Some, None, List, [], ◌∷◌, refl, ap, ◌∙◌}
+use Rattle.std.proofs.Common.{sym, subst}
 use Rattle.std.proofs.lemmas.Bool.{cases_Bool}
 use Rattle.std.proofs.lemmas.Option.{none-some, same_Some}
 use Rattle.std.specs.List.{AllByRecursion, find}
@@ -27,9 +28,9 @@ use Rattle.ifmap_delta.specs.Bounds.{IsFlip, Mid}
 use Rattle.ifmap_delta.specs.Changes.{ShowsAfter}
 use Rattle.ifmap_delta.specs.Flipped.{AreFlipsOf, IsFlipAt}
 use Rattle.ifmap_delta.specs.Sights.{Links, Sight}
-use Rattle.ifmap_delta.proofs.Joining.{linked_matches, match_turned, matches_linked, some_there}
+use Rattle.ifmap_fresh.specs.laws.JoiningLaws.{linked_matches, match_turned, matches_linked, some_there}
 use Rattle.ifmap_folds.specs.laws.RisingLaws.{member_of}
-use Rattle.ifmap_delta.proofs.Same.{Tells, pair_canon, pair_is, pair_parts, pair_turned, same_item_is}
+use Rattle.ifmap_fresh.specs.laws.SameLaws.{Tells, pair_canon, pair_is, pair_parts, pair_turned, same_item_is}
 
 pub found_change : (p : ItemChange → Bool) (cs : List ItemChange) (c : ItemChange) → find p cs ≡ Some c → Has cs c × (p c ≡ true)
 found_change p [] c e = absurd (none-some c e)

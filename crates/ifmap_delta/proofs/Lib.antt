@@ -1,8 +1,3 @@
-pub mod Same
-pub mod Orders
-pub mod Joining
-pub mod Gathering
-pub mod Ordered
 pub mod Marking
 pub mod Telling
 pub mod Sizing

@@ -15,7 +15,7 @@ use Rattle.ifmap_delta.specs.Flipped.{AreFlipsOf}
 use Rattle.ifmap_delta.specs.Shown.{goes_on}
 use Rattle.ifmap_delta.specs.Sights.{AreMarks, Links, Sight, is_terminal_in}
 use Rattle.ifmap_delta.specs.Touched.{looked_along, turns}
-use Rattle.ifmap_delta.proofs.Same.{Tells}
+use Rattle.ifmap_fresh.specs.laws.SameLaws.{Tells}
 use Rattle.ifmap_delta.proofs.Settling.{same_not}
 use Rattle.ifmap_delta.proofs.Walking.{moved_near, old_depths, repaired_within, turned_within}
 

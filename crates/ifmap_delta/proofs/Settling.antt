@@ -1,6 +1,7 @@
 -- Items that are not gathered tell nothing. In order: marks before the change by the numbers afterwards (`reached_before`,
 -- `expanded_before`); a number whose marks differ is in the patch; one identifier (`one_settled`), one link (`pair_settled`).
-use Rattle.std.proofs.Common.{◌≡◌, ◌≢◌, ◌⊎◌, inl, inr, ℕ, Bool, true, false, cond, not, ◌&&◌, ◌||◌, Option, Some, None, List, [], ◌∷◌, ◌++◌, map, flat_map, is_some, unwrap_or, nat_eq, refl, ap, ◌∙◌, sym, subst, arith}
+use Rattle.std.proofs.Common.{◌≡◌, ◌≢◌, ◌⊎◌, inl, inr, ℕ, Bool, true, false, cond, not, ◌&&◌, ◌||◌, Option, Some, None, List, [], ◌∷◌, ◌++◌}
+use Rattle.std.proofs.Common.{map, flat_map, is_some, unwrap_or, nat_eq, refl, ap, ◌∙◌, sym, subst, arith}
 use Rattle.std.proofs.Math.Bool.{beq}
 use Rattle.std.proofs.lemmas.Bool.{cases_Bool}
 use Rattle.std.proofs.lemmas.Bool.Decides.{nat_tests}
@@ -11,7 +12,8 @@ use Rattle.ifmap_ident.specs.declared.items.Item.{Item}
 use Rattle.ifmap_ident.specs.declared.items.Item.TheVariants.{One, Pair}
 use Rattle.ifmap_ident.specs.Canon.{IsIdentifier}
 use Rattle.ifmap_ident.specs.Items.{IsCanonItem, pair_of}
-use Rattle.ifmap_lemmas.specs.Having.{Has, filter_has, has_either, has_filter, has_from, has_joined, has_left, has_map, has_mapped, has_right, joined_has, map_has, mapped_has}
+use Rattle.ifmap_lemmas.specs.Having.{Has, filter_has, has_either, has_filter, has_from, has_joined, has_left, has_map, has_mapped}
+use Rattle.ifmap_lemmas.specs.Having.{has_right, joined_has, map_has, mapped_has}
 use Rattle.ifmap_plans.specs.declared.plans.ItemChange.{ItemChange}
 use Rattle.ifmap_plans.specs.Plans.{change_of}
 use Rattle.ifmap_region.specs.Marks.{mark_of, over, row_of}
@@ -30,10 +32,11 @@ use Rattle.ifmap_delta.specs.Shown.{goes_on}
 use Rattle.ifmap_delta.specs.Sights.{AreMarks, Sight}
 use Rattle.ifmap_delta.specs.Touched.{IsSettled, brought, item_at, item_where, is_looked_at_either, linked, moved, planned, turns}
 use Rattle.ifmap_delta.proofs.Flipping.{change_at, unchanged}
-use Rattle.ifmap_delta.proofs.Joining.{match_turned, some_there}
-use Rattle.ifmap_delta.proofs.Marking.{LevelsExpand, LevelsReach, bool_is, expanded_is, expanded_marked, mark_named, marked_expanded, marked_reached, reached_is, reached_marked}
+use Rattle.ifmap_fresh.specs.laws.JoiningLaws.{match_turned, some_there}
+use Rattle.ifmap_delta.proofs.Marking.{LevelsExpand, LevelsReach, bool_is, expanded_is, expanded_marked, mark_named, marked_expanded}
+use Rattle.ifmap_delta.proofs.Marking.{marked_reached, reached_is, reached_marked}
 use Rattle.ifmap_folds.specs.laws.RisingLaws.{member_of}
-use Rattle.ifmap_delta.proofs.Same.{Tells, pair_canon, pair_is, pair_turned}
+use Rattle.ifmap_fresh.specs.laws.SameLaws.{Tells, pair_canon, pair_is, pair_turned}
 
 -- two tests agree, or are told apart
 same_or : (p q : Bool) → (p ≡ q) ⊎ (not (beq p q) ≡ true)

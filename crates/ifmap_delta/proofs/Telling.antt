@@ -1,7 +1,8 @@
 -- What is told item by item is the difference of the results. In order: entries of items, one after the other, are a filtered
 -- list of attachments (`joined`); whether a result has the entry of an attachment (`in_other`); the two filters agree
 -- (`pointwise`); `difference_is`.
-use Rattle.std.proofs.Common.{◌≡◌, ◌⊎◌, inl, inr, Bool, true, false, cond, not, ◌&&◌, List, [], ◌∷◌, ◌++◌, map, flat_map, refl, ap, ◌∙◌, sym, subst}
+use Rattle.std.proofs.Common.{◌≡◌, ◌⊎◌, inl, inr, Bool, true, false, cond, not, ◌&&◌, List, [], ◌∷◌, ◌++◌, map, flat_map, refl, ap, ◌∙◌}
+use Rattle.std.proofs.Common.{sym, subst}
 use Rattle.std.proofs.lemmas.Bool.{and_parts, cases_Bool}
 use Rattle.std.proofs.lemmas.List.{map-append}
 use Rattle.std.proofs.lemmas.List.Elements.{filter-append}
@@ -31,10 +32,10 @@ use Rattle.ifmap_folds.specs.Differences.{difference, entry_bytes, has_entry, sa
 use Rattle.ifmap_delta.specs.Shown.{shown_on}
 use Rattle.ifmap_delta.specs.Sights.{Sight}
 use Rattle.ifmap_delta.specs.Touched.{has_met, left_out_on}
-use Rattle.ifmap_delta.proofs.Gathering.{gathers, grouped}
+use Rattle.ifmap_fresh.specs.laws.GatheringLaws.{gathers, grouped}
 use Rattle.ifmap_delta.proofs.Marking.{bool_is, both_true}
 use Rattle.ifmap_folds.specs.laws.RisingLaws.{all_of}
-use Rattle.ifmap_delta.proofs.Same.{AreCanon, Tells, item_itself, member, same_item_is}
+use Rattle.ifmap_fresh.specs.laws.SameLaws.{AreCanon, Tells, item_itself, member, same_item_is}
 
 abbrev pub entry_of : Attachment → Entry
 entry_of r = record { item = r.item; element = r.stored.element }

@@ -1,7 +1,8 @@
 -- Depths over a view's links are those over the region's words for them, and what the region says is near is near. In order:
 -- walks along links that are the same (`depth_over`); the marks before the change (`old_depths`); what is near (`near_there`); a
 -- number whose mark changes is touched (`moved_touched`); the steps of looking along what turned (`turned_within`).
-use Rattle.std.proofs.Common.{◌≡◌, ◌≢◌, ◌↔◌, ◌⊎◌, inl, inr, ℕ, zero, suc, ◌+◌, ◌*◌, ◌<◌, ◌≤◌, Bool, true, false, cond, not, Option, Some, None, List, [], ◌∷◌, All, length, sum_by, nat_eq, refl, ap, ◌∙◌, sym, subst, arith}
+use Rattle.std.proofs.Common.{◌≡◌, ◌≢◌, ◌↔◌, ◌⊎◌, inl, inr, ℕ, zero, suc, ◌+◌, ◌*◌, ◌<◌, ◌≤◌, Bool, true, false, cond, not, Option, Some}
+use Rattle.std.proofs.Common.{None, List, [], ◌∷◌, All, length, sum_by, nat_eq, refl, ap, ◌∙◌, sym, subst, arith}
 use Rattle.std.proofs.lemmas.Bool.{cases_Bool}
 use Rattle.std.proofs.lemmas.Option.{none-some, same_Some}
 use Rattle.std.proofs.lemmas.List.Elements.{All-contains_itself, All-weaker}
@@ -26,7 +27,7 @@ use Rattle.ifmap_delta.specs.Changes.{ShowsAfter}
 use Rattle.ifmap_delta.specs.Flipped.{AreFlipsOf}
 use Rattle.ifmap_delta.specs.Sights.{Links, Sight, is_terminal_in}
 use Rattle.ifmap_delta.proofs.Flipping.{added_flip, mid_there, named, old_there, removed_flip, there_mid, there_old}
-use Rattle.ifmap_delta.proofs.Same.{Tells}
+use Rattle.ifmap_fresh.specs.laws.SameLaws.{Tells}
 
 -- walks along links that go on alike
 pub walk_over : (L M : ℕ → ℕ → Type 0) (T U : ℕ → Bool) (start : ℕ)

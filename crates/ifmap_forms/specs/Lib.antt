@@ -6,5 +6,7 @@ pub mod Scopes
 pub mod Tables
 pub mod Items
 pub mod Gathering
+pub mod SingleLaws
+pub mod CutLaws
 pub mod AnswerLaws
 pub mod PositionLaws

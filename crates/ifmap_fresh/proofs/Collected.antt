@@ -1,7 +1,8 @@
 -- The items that are collected number by number are those that the search looks at, and what is found on them is the
 -- result. In order: which numbers are passed; from an item that is collected to one that is looked at (`looked_at`);
 -- the other way (`collects`); then lists: entries item by item are the filtered list (`entries_are`).
-use Rattle.std.proofs.Common.{◌≡◌, ◌≢◌, ◌↔◌, ◌⊎◌, ℕ, ◌<◌, ◌≤◌, Bool, true, false, cond, not, ◌&&◌, ◌||◌, Option, Some, None, List, [], ◌∷◌, ◌++◌, map, flat_map, length, nat_lt, refl, ap, ◌∙◌, sym, subst, inl, inr, arith}
+use Rattle.std.proofs.Common.{◌≡◌, ◌≢◌, ◌↔◌, ◌⊎◌, ℕ, ◌<◌, ◌≤◌, Bool, true, false, cond, not, ◌&&◌, ◌||◌, Option, Some, None, List, [], ◌∷◌}
+use Rattle.std.proofs.Common.{◌++◌, map, flat_map, length, nat_lt, refl, ap, ◌∙◌, sym, subst, inl, inr, arith}
 use Rattle.std.proofs.lemmas.Bool.{and_parts, cases_Bool}
 use Rattle.std.proofs.lemmas.Bool.Decides.{nat_tests}
 use Rattle.std.proofs.lemmas.List.{map-append}
@@ -16,7 +17,8 @@ use Rattle.ifmap_ident.specs.declared.items.Item.{Item}
 use Rattle.ifmap_ident.specs.declared.items.Item.TheVariants.{One, Pair}
 use Rattle.ifmap_ident.specs.Canon.{IsIdentifier}
 use Rattle.ifmap_ident.specs.Items.{IsCanonItem, item_order, pair_of, same_item}
-use Rattle.ifmap_lemmas.specs.Having.{Has, any_has, has_any, has_either, has_filter, has_from, has_joined, has_left, has_map, has_mapped, has_right, joined_has, map_has, mapped_has}
+use Rattle.ifmap_lemmas.specs.Having.{Has, any_has, has_any, has_either, has_filter, has_from, has_joined, has_left, has_map, has_mapped}
+use Rattle.ifmap_lemmas.specs.Having.{has_right, joined_has, map_has, mapped_has}
 use Rattle.ifmap_meta.specs.declared.stored.Stored.{Stored}
 use Rattle.ifmap_region.specs.Walks.{AreDepths}
 use Rattle.ifmap_search.specs.declared.results.Entry.{Entry}
@@ -26,17 +28,19 @@ use Rattle.ifmap_view.specs.declared.views.LinkSeen.{LinkSeen}
 use Rattle.ifmap_view.specs.Attachments.{IsGraph}
 use Rattle.ifmap_view.specs.Rows.{stored_between, stored_linked, stored_on}
 use Rattle.ifmap_view.specs.Views.{IsView}
-use Rattle.ifmap_fresh.specs.Collected.{AreLookedAt, alone, brought, collected, is_below, is_passed, item_along, item_to, item_where, pair_at}
+use Rattle.ifmap_fresh.specs.Collected.{AreLookedAt, alone, brought, collected, is_below, is_passed, item_along, item_to, item_where}
+use Rattle.ifmap_fresh.specs.Collected.{pair_at}
 use Rattle.ifmap_fresh.specs.Fresh.{fresh, is_found, is_looked_at}
 use Rattle.ifmap_fresh.specs.Gathered.{entries_of, entries_on, entry_at, gathered, has_item, row_at}
 use Rattle.ifmap_fresh.specs.Linking.{end_where, is_terminal_at}
 use Rattle.ifmap_fresh.specs.Matching.{is_match, is_terminal, one_meets}
 use Rattle.ifmap_fresh.specs.Reached.{is_expanded, is_reached}
-use Rattle.ifmap_fresh.proofs.Gathering.{gathers, grouped}
-use Rattle.ifmap_fresh.proofs.Joining.{match_turned, some_there}
+use Rattle.ifmap_fresh.specs.laws.GatheringLaws.{gathers, grouped}
+use Rattle.ifmap_fresh.specs.laws.JoiningLaws.{match_turned, some_there}
 use Rattle.ifmap_fresh.proofs.Levels.{expanded_walk, reached_by_walks, walk_expanded}
 use Rattle.ifmap_fresh.proofs.Meaning.{L, T, mark_walk, to_identifier, to_number, walk_mark}
-use Rattle.ifmap_fresh.proofs.Same.{AreCanon, Tells, item_itself, member, pair_canon, pair_is, pair_parts, pair_turned, same_item_is}
+use Rattle.ifmap_fresh.specs.laws.SameLaws.{AreCanon, Tells, item_itself, member, pair_canon, pair_is, pair_parts, pair_turned}
+use Rattle.ifmap_fresh.specs.laws.SameLaws.{same_item_is}
 
 lt_true : (a b : ℕ) → a < b → nat_lt a b ≡ true
 lt_true a b h = grind (arith, nat_tests)

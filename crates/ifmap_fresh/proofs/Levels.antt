@@ -1,12 +1,14 @@
 -- The levels of a search are its walks.
-use Rattle.std.proofs.Common.{◌≡◌, ◌↔◌, ℕ, zero, suc, ◌<◌, ◌≤◌, Bool, true, false, cond, not, ◌&&◌, List, [], ◌∷◌, ◌++◌, flat_map, refl, ap, ◌∙◌, sym, subst, inl, inr, arith}
+use Rattle.std.proofs.Common.{◌≡◌, ◌↔◌, ℕ, zero, suc, ◌<◌, ◌≤◌, Bool, true, false, cond, not, ◌&&◌, List, [], ◌∷◌, ◌++◌, flat_map, refl, ap}
+use Rattle.std.proofs.Common.{◌∙◌, sym, subst, inl, inr, arith}
 use Rattle.std.proofs.lemmas.Bool.{and_parts}
 use Rattle.std.specs.List.{AllByRecursion, filter}
 use Rattle.ifmap_ident.specs.declared.identifiers.Identifier.{Identifier}
 use Rattle.ifmap_ident.specs.Canon.{IsIdentifier}
 use Rattle.ifmap_ident.specs.Identifiers.{same_identifier}
 use Rattle.ifmap_ident.specs.Items.{identifiers_of}
-use Rattle.ifmap_lemmas.specs.Having.{Has, any_has, filter_has, has_any, has_either, has_filter, has_joined, has_left, has_right, joined_has}
+use Rattle.ifmap_lemmas.specs.Having.{Has, any_has, filter_has, has_any, has_either, has_filter, has_joined, has_left, has_right}
+use Rattle.ifmap_lemmas.specs.Having.{joined_has}
 use Rattle.ifmap_region.specs.Walks.{Walk, IsReached, begins, goes_on}
 use Rattle.ifmap_search.specs.declared.searches.Search.{Search}
 use Rattle.ifmap_view.specs.declared.attachments.Attachment.{Attachment}
@@ -14,8 +16,8 @@ use Rattle.ifmap_ident.specs.Items.{IsCanonItem}
 use Rattle.ifmap_view.specs.Rows.{stored_between}
 use Rattle.ifmap_fresh.specs.Matching.{LeadsTo, is_match, is_terminal}
 use Rattle.ifmap_fresh.specs.Reached.{identifiers_in, is_below, is_expanded, is_reached, is_within, next_to, within}
-use Rattle.ifmap_fresh.proofs.Joining.{some_there, stands_in}
-use Rattle.ifmap_fresh.proofs.Same.{Tells, member, same_is, same_itself}
+use Rattle.ifmap_fresh.specs.laws.JoiningLaws.{some_there, stands_in}
+use Rattle.ifmap_fresh.specs.laws.SameLaws.{Tells, member, same_is, same_itself}
 
 -- a walk of the search
 abbrev pub On : List Attachment → Search → ℕ → Identifier → Type 0

@@ -1,12 +1,6 @@
-pub mod Same
-pub mod Orders
-pub mod Joining
 pub mod Levels
 pub mod Meaning
-pub mod Gathering
 pub mod Collected
 pub mod Unnumbered
-pub mod Ordered
 pub mod Marks
-pub mod Along
 pub mod Entries

@@ -1,5 +1,6 @@
 -- Walks over numbers are walks over their identifiers.
-use Rattle.std.proofs.Common.{◌≡◌, ◌↔◌, ℕ, zero, suc, ◌<◌, ◌≤◌, Bool, true, false, Option, Some, None, List, length, refl, ap, ◌∙◌, sym, subst, inl, inr, arith}
+use Rattle.std.proofs.Common.{◌≡◌, ◌↔◌, ℕ, zero, suc, ◌<◌, ◌≤◌, Bool, true, false, Option, Some, None, List, length, refl, ap, ◌∙◌, sym}
+use Rattle.std.proofs.Common.{subst, inl, inr, arith}
 use Rattle.std.proofs.lemmas.Bool.{cases_lt}
 use Rattle.std.proofs.lemmas.Option.{same_Some, none-some}
 use Rattle.ifmap_ident.specs.declared.identifiers.Identifier.{Identifier}
@@ -14,7 +15,7 @@ use Rattle.ifmap_view.specs.Views.{IsView}
 use Rattle.ifmap_fresh.specs.Linking.{IsReachedAt, is_terminal_at}
 use Rattle.ifmap_fresh.specs.Matching.{IsMatch, LeadsTo, is_terminal, one_meets}
 use Rattle.ifmap_fresh.specs.Numbered.{KeepsWalks}
-use Rattle.ifmap_fresh.proofs.Joining.{count, link, linked_matches, matches_linked, some_there}
+use Rattle.ifmap_fresh.specs.laws.JoiningLaws.{count, link, linked_matches, matches_linked, some_there}
 use Rattle.ifmap_fresh.proofs.Levels.{On}
 
 module _ (rows : List Attachment) (id_at : ℕ → Option Identifier) (links : ℕ → List LinkSeen) (s : Search) (is : IsView rows id_at links)

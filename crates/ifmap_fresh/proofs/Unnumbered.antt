@@ -1,5 +1,6 @@
 -- A search from an identifier without a number finds nothing.
-use Rattle.std.proofs.Common.{◌≡◌, ◌≢◌, ◌⊎◌, ℕ, zero, suc, ◌&&◌, ◌||◌, Bool, true, false, Option, Some, List, [], refl, ap, ◌∙◌, sym, subst, inl, inr}
+use Rattle.std.proofs.Common.{◌≡◌, ◌≢◌, ◌⊎◌, ℕ, zero, suc, ◌&&◌, ◌||◌, Bool, true, false, Option, Some, List, [], refl, ap, ◌∙◌, sym, subst}
+use Rattle.std.proofs.Common.{inl, inr}
 use Rattle.std.proofs.lemmas.Bool.{and_parts}
 use Rattle.ifmap_ident.specs.declared.identifiers.Identifier.{Identifier}
 use Rattle.ifmap_ident.specs.declared.items.Item.{Item}
@@ -15,9 +16,9 @@ use Rattle.ifmap_view.specs.Views.{IsView}
 use Rattle.ifmap_fresh.specs.Fresh.{is_looked_at}
 use Rattle.ifmap_fresh.specs.Matching.{IsMatch, is_match}
 use Rattle.ifmap_fresh.specs.Reached.{is_expanded}
-use Rattle.ifmap_fresh.proofs.Joining.{match_turned, some_there}
+use Rattle.ifmap_fresh.specs.laws.JoiningLaws.{match_turned, some_there}
 use Rattle.ifmap_fresh.proofs.Levels.{On, expanded_walk, reached_by_walks}
-use Rattle.ifmap_fresh.proofs.Same.{Tells}
+use Rattle.ifmap_fresh.specs.laws.SameLaws.{Tells}
 
 module _ (tells : Tells) (rows : List Attachment) (id_at : ℕ → Option Identifier) (links : ℕ → List LinkSeen) (s : Search)
     (is : IsView rows id_at links)

@@ -7,3 +7,4 @@ pub mod Linking
 pub mod Numbered
 pub mod Gathered
 pub mod Collected
+pub mod laws

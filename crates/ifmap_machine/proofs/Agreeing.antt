@@ -2,7 +2,8 @@
 -- `Follows` holds in every state: what is queued for a session, folded onto what its polls were told, is the fresh result of each of
 -- its subscriptions. First: telling, overflowing, and the ends and beginnings of sessions keep it. Then: the fold of a subscribe
 -- (`ops_tell`, `told_follows`), polls (`polled_follows`), each case of the step, and histories.
-use Rattle.std.proofs.Common.{◌≡◌, refl, sym, ◌∙◌, ap, subst, ℕ, ◌+◌, ◌^◌, ◌<◌, ◌≤◌, ◌==◌, ◌&&◌, ◌⊎◌, Bool, true, false, not, cond, List, [], ◌∷◌, ◌++◌, map, flat_map, Option, None, Some, option_and_then, option_map, inl, inr, arith}
+use Rattle.std.proofs.Common.{◌≡◌, refl, sym, ◌∙◌, ap, subst, ℕ, ◌+◌, ◌^◌, ◌<◌, ◌≤◌, ◌==◌, ◌&&◌, ◌⊎◌, Bool, true, false, not, cond, List}
+use Rattle.std.proofs.Common.{[], ◌∷◌, ◌++◌, map, flat_map, Option, None, Some, option_and_then, option_map, inl, inr, arith}
 use Rattle.std.proofs.lemmas.Bool.{and_cases, both_ways, cases_Bool, eq-eqb, not-true}
 use Rattle.std.proofs.lemmas.Bool.Decides.{nat_tests}
 use Rattle.std.proofs.lemmas.List.Kept.{IsStrictlySortedBy-filter}
@@ -20,9 +21,12 @@ use Rattle.ifmap_machine.specs.Ending.{drop_sessions, end_former, end_sessions, 
 use Rattle.ifmap_machine.specs.Events.{Event, IsFitAsk}
 use Rattle.ifmap_machine.specs.Legal.{AreFit, History, Legal, LegalFrom, state_after, state_from}
 use Rattle.ifmap_machine.specs.State.{Standing, State, advance, opening, standing_in, standing_order}
-use Rattle.ifmap_machine.specs.Step.{answer_subscribed, author_in, begin_session, end_session, in_session, is_full, lose, next_session, poll, poll_in, poll_queue, publish, purge, renew, renew_first, renew_session, search, step, step_ask, subscribe, with_told}
+use Rattle.ifmap_machine.specs.Step.{answer_subscribed, author_in, begin_session, end_session, in_session, is_full, lose, next_session}
+use Rattle.ifmap_machine.specs.Step.{poll, poll_in, poll_queue, publish, purge, renew, renew_first, renew_session, search, step, step_ask}
+use Rattle.ifmap_machine.specs.Step.{subscribe, with_told}
 use Rattle.ifmap_machine.specs.Subscribing.{Told, begin_name, drop_name, is_full_for, is_of_name, subscribe_op, subscribe_ops}
-use Rattle.ifmap_machine.specs.Telling.{is_overfull, is_overrun, is_too_big, overflow, overflow_session, tell, tell_session, told_in, too_big_item}
+use Rattle.ifmap_machine.specs.Telling.{is_overfull, is_overrun, is_too_big, overflow, overflow_session, tell, tell_session, told_in}
+use Rattle.ifmap_machine.specs.Telling.{too_big_item}
 use Rattle.ifmap_machine.proofs.Folding.{AreOf, Folds, dropped_stay, fold_joined, other_stays, told_all}
 use Rattle.ifmap_machine.proofs.Ids.{all_has, find_has, ids_tell, one_of_serial}
 use Rattle.ifmap_machine.proofs.Standing.{AreStood, IsStood, ended_stood, event_stood, stood_filter}
@@ -297,7 +301,8 @@ told_follows done state q s t tabled found tells w = record {
 abbrev pub polled_more : List ℕ → List PollItem → (List ℕ → Sets) → List ℕ → Sets
 polled_more own items done id = fold_items (cond (is_text own id) items []) (done id)
 
-follows_same : (done other : List ℕ → Sets) (state : State) → ((id : List ℕ) → other id ≡ done id) → Follows done state → Follows other state
+follows_same : (done other : List ℕ → Sets) (state : State) → ((id : List ℕ) → other id ≡ done id) → Follows done state
+    → Follows other state
 follows_same done other state same w = record {
   folded = λ s x hs hx serials. ap (λ (g : Sets). fold_items s.queue g x.name) (same s.id) ∙ w.folded s x hs hx serials;
   below = w.below;
@@ -333,14 +338,16 @@ polled_follows done state own s items tabled found queue w =
             | inl hit ↦
                 let is : queue_one s.serial [] u ≡ record u { queue = [] } = rw hit refl in
                 let mine : record u { queue = [] } ≡ one = sym is ∙ from.2 in
-                let found_one : u ≡ s = one_of_serial state.sessions u s tabled.rising from.1 there.0 (numbers_same u.serial s.serial hit) in
+                let found_one : u ≡ s =
+                one_of_serial state.sessions u s tabled.rising from.1 there.0 (numbers_same u.serial s.serial hit) in
                 let serials : x.serial ≡ s.serial =
                 same ∙ ap (λ (y : Session). y.serial) (sym mine) ∙ ap (λ (y : Session). y.serial) found_one in
                 let named : is_text own s.id ≡ true = text_same own s.id (sym own_is) in
                 let told : fold_items items (done s.id) x.name ≡ Some (fresh state.graph x.search) =
                 subst (λ q. fold_items q (done s.id) x.name ≡ Some (fresh state.graph x.search)) queue
                 (w.folded s x there.0 hx serials) in
-                subst (λ (y : Session). fold_items y.queue (polled_more own items done y.id) x.name ≡ Some (fresh state.graph x.search)) mine
+                subst (λ (y : Session). fold_items y.queue (polled_more own items done y.id) x.name ≡ Some (fresh state.graph x.search))
+                mine
                 (subst (λ (y : Session). polled_more own items done y.id x.name ≡ Some (fresh state.graph x.search)) (sym found_one)
                 (rw named told))
             | inr miss ↦
@@ -352,7 +359,8 @@ polled_follows done state own s items tabled found queue w =
                       (id_tells state s u tabled there.0 from.1 (own_is ∙ text_is own u.id hit)))
                   | inr apart ↦ apart
                 ] in
-                subst (λ (y : Session). fold_items y.queue (polled_more own items done y.id) x.name ≡ Some (fresh state.graph x.search)) one_is
+                subst (λ (y : Session). fold_items y.queue (polled_more own items done y.id) x.name ≡ Some (fresh state.graph x.search))
+                one_is
                 (rw other (w.folded u x from.1 hx serials))
           ];
       below = w.below;

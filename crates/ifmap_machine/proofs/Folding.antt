@@ -3,7 +3,8 @@
 -- after an item depends on what stands there before it alone (`item_local`, `items_local`, `dropped_stay`). Then: what one
 -- subscription is told of a change makes its set the fresh result after it (`told_own`), and so does what all of a session are told
 -- (`told_all`).
-use Rattle.std.proofs.Common.{◌≡◌, refl, sym, ◌∙◌, ap, subst, ℕ, ◌==◌, Bool, true, false, not, cond, List, [], ◌∷◌, ◌++◌, Option, None, Some, inl, inr, flat_map, option_map, unwrap_or}
+use Rattle.std.proofs.Common.{◌≡◌, refl, sym, ◌∙◌, ap, subst, ℕ, ◌==◌, Bool, true, false, not, cond, List, [], ◌∷◌, ◌++◌, Option, None}
+use Rattle.std.proofs.Common.{Some, inl, inr, flat_map, option_map, unwrap_or}
 use Rattle.std.proofs.lemmas.Bool.{cases_Bool}
 use Rattle.std.proofs.lemmas.Cmp.{tied_itself}
 use Rattle.std.specs.Cmp.{IsTotalOrder}
@@ -143,7 +144,8 @@ updated name (e ∷ entries) sets a is =
     own_set name (Some (with_entries (e ∷ entries) (unwrap_or (sets name) []))) (sets name)
     ∙ ap (λ set. Some (with_entries (e ∷ entries) (unwrap_or set []))) is
 
-notified : (name : List ℕ) (entries : List Entry) (sets : Sets) → fold_items (item_where (the_item.Notify name) entries) sets name ≡ sets name
+notified : (name : List ℕ) (entries : List Entry) (sets : Sets)
+    → fold_items (item_where (the_item.Notify name) entries) sets name ≡ sets name
 notified name [] sets = refl
 notified name (e ∷ entries) sets = refl
 

@@ -128,12 +128,14 @@ module _ (tell_ids : (one other : Identifier) → IsIdentifier one → IsIdentif
         → IsStrictlySortedBy entry_order a → IsStrictlySortedBy entry_order b
         → with_entries (difference b a) (difference a (difference a b)) ≡ b
     folded a b told up next_up =
-        let made : Some (with_entries (difference b a) (difference a (difference a b))) ≡ Some b = next (λ _. Some a) [] a b refl told up next_up in
+        let made : Some (with_entries (difference b a) (difference a (difference a b))) ≡ Some b =
+        next (λ _. Some a) [] a b refl told up next_up in
         cc made
 
     pub results_fold : (before after : List Attachment) (s : Search) → IsWholeGraph before → IsWholeGraph after → Folds before after s
     results_fold before after s g k =
-        folded (fresh before s) (fresh after s) (entries_told before after s g k) (fresh_rises before s g.graph) (fresh_rises after s k.graph)
+        folded (fresh before s) (fresh after s) (entries_told before after s g k) (fresh_rises before s g.graph)
+        (fresh_rises after s k.graph)
 
     pub results_begin : (rows : List Attachment) (s : Search) → IsWholeGraph rows → with_entries (fresh rows s) [] ≡ fresh rows s
     results_begin rows s g =

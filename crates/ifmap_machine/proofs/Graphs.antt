@@ -9,7 +9,8 @@ use Rattle.ifmap_machine.specs.Ending.{end_former, end_some, expire}
 use Rattle.ifmap_machine.specs.Events.{Event, IsFitAsk}
 use Rattle.ifmap_machine.specs.Legal.{AreFit, History, state_from}
 use Rattle.ifmap_machine.specs.State.{State, advance, opening}
-use Rattle.ifmap_machine.specs.Step.{answer_subscribed, author_in, end_session, in_session, is_full, lose, poll, poll_in, poll_queue, publish, purge, renew_first, renew_session, search, step, step_ask, subscribe}
+use Rattle.ifmap_machine.specs.Step.{answer_subscribed, author_in, end_session, in_session, is_full, lose, poll, poll_in, poll_queue}
+use Rattle.ifmap_machine.specs.Step.{publish, purge, renew_first, renew_session, search, step, step_ask, subscribe}
 use Rattle.ifmap_machine.specs.Subscribing.{Told, subscribe_ops}
 use Rattle.ifmap_machine.specs.Telling.{is_too_big}
 use Rattle.ifmap_meta.specs.ClientNames.{IsClientName}

@@ -3,7 +3,8 @@
 -- poll that was told the session's queue is empty (`told_empties`), and so its client's sets are the fresh results (`histories_agree`).
 -- What is stated of graphs alone comes in as premises: `Good` of a graph, which publishes and retractions keep, and that results
 -- fold.
-use Rattle.std.proofs.Common.{◌≡◌, refl, sym, ◌∙◌, ap, subst, ℕ, ◌==◌, ◌≤◌, Bool, true, false, cond, List, [], ◌∷◌, ◌++◌, map, Option, None, Some, inl, inr}
+use Rattle.std.proofs.Common.{◌≡◌, refl, sym, ◌∙◌, ap, subst, ℕ, ◌==◌, ◌≤◌, Bool, true, false, cond, List, [], ◌∷◌, ◌++◌, map, Option, None}
+use Rattle.std.proofs.Common.{Some, inl, inr}
 use Rattle.std.proofs.lemmas.Bool.{cases_Bool, eq-eqb}
 use Rattle.std.specs.List.{AllByRecursion, find}
 use Rattle.std.specs.Option.{option_map}
@@ -18,10 +19,13 @@ use Rattle.ifmap_machine.specs.Ending.{drop_sessions, end_former, end_some, expi
 use Rattle.ifmap_machine.specs.Events.{Event, IsFitAsk, IsFitEvent}
 use Rattle.ifmap_machine.specs.Legal.{AreFit, History, Legal, LegalFrom, state_after, state_from}
 use Rattle.ifmap_machine.specs.State.{Standing, State, advance, opening}
-use Rattle.ifmap_machine.specs.Step.{answer_subscribed, author_in, begin_session, end_session, in_session, is_full, lose, poll, poll_in, poll_queue, publish, purge, renew, renew_first, renew_session, search, step, step_ask, subscribe, with_told}
+use Rattle.ifmap_machine.specs.Step.{answer_subscribed, author_in, begin_session, end_session, in_session, is_full, lose, poll, poll_in}
+use Rattle.ifmap_machine.specs.Step.{poll_queue, publish, purge, renew, renew_first, renew_session, search, step, step_ask, subscribe}
+use Rattle.ifmap_machine.specs.Step.{with_told}
 use Rattle.ifmap_machine.specs.Subscribing.{Told, subscribe_ops}
 use Rattle.ifmap_machine.specs.Telling.{is_too_big, overflow, tell}
-use Rattle.ifmap_machine.proofs.Agreeing.{Follows, Tells, begun_follows, drop_follows, first_follows, ops_tell, overflow_follows, poll_follows, renewed_follows, tell_follows, told_follows}
+use Rattle.ifmap_machine.proofs.Agreeing.{Follows, Tells, begun_follows, drop_follows, first_follows, ops_tell, overflow_follows}
+use Rattle.ifmap_machine.proofs.Agreeing.{poll_follows, renewed_follows, tell_follows, told_follows}
 use Rattle.ifmap_machine.proofs.Folding.{Folds, fold_joined}
 use Rattle.ifmap_machine.proofs.Ids.{all_has, find_has}
 use Rattle.ifmap_machine.proofs.Standing.{AreStood, IsStood, ended_stood, event_stood, stood_filter, stood_none}
@@ -62,7 +66,8 @@ changed_id n f k s = elim (cases_Bool (s.serial == n)) [ inl h ↦ rw h (k s) | 
 IsEmptied : List ℕ → State → Type 0
 IsEmptied id state = (s : Session) → session_with_id id state.sessions ≡ Some s → s.queue ≡ []
 
-renewed_empty : (id : List ℕ) (again : Bool) (n : ℕ) (state : State) → ((s : Session) → session_with_id id state.sessions ≡ Some s → s.queue ≡ [])
+renewed_empty : (id : List ℕ) (again : Bool) (n : ℕ) (state : State)
+    → ((s : Session) → session_with_id id state.sessions ≡ Some s → s.queue ≡ [])
     → (s : Session) → session_with_id id (renew_first again n state).sessions ≡ Some s → s.queue ≡ []
 renewed_empty id true n state h s found = h s found
 renewed_empty id false n state h s found =

@@ -1,7 +1,8 @@
 -- That what is to stay as long as a session belongs to a live session of the client that published it.
 -- First: a life outlasts what is done to other sessions (`life_mapped`, `life_dropped`, `life_begun`). Then each case of the step keeps
 -- it (`step_lives`), and so does each history.
-use Rattle.std.proofs.Common.{◌≡◌, refl, sym, ◌∙◌, ap, subst, ℕ, ◌==◌, Bool, true, false, not, List, [], ◌∷◌, ◌++◌, map, Option, None, Some, inl, inr, arith, if◌then◌else◌}
+use Rattle.std.proofs.Common.{◌≡◌, refl, sym, ◌∙◌, ap, subst, ℕ, ◌==◌, Bool, true, false, not, List, [], ◌∷◌, ◌++◌, map, Option, None, Some}
+use Rattle.std.proofs.Common.{inl, inr, arith, if◌then◌else◌}
 use Rattle.std.proofs.lemmas.Bool.{cases_Bool, not-true}
 use Rattle.std.proofs.lemmas.Bool.Decides.{nat_tests}
 use Rattle.std.specs.List.{AllByRecursion, filter, find, list_any}
@@ -17,7 +18,9 @@ use Rattle.ifmap_machine.specs.Events.{Event}
 use Rattle.ifmap_machine.specs.Legal.{History, state_from}
 use Rattle.ifmap_machine.specs.Lives.{AllLive, IsLifeFor}
 use Rattle.ifmap_machine.specs.State.{State, advance, opening}
-use Rattle.ifmap_machine.specs.Step.{answer_subscribed, author_in, begin_session, end_session, in_session, is_full, lose, next_session, poll, poll_in, poll_queue, publish, purge, renew, renew_first, renew_session, search, step, step_ask, subscribe, with_told}
+use Rattle.ifmap_machine.specs.Step.{answer_subscribed, author_in, begin_session, end_session, in_session, is_full, lose, next_session}
+use Rattle.ifmap_machine.specs.Step.{poll, poll_in, poll_queue, publish, purge, renew, renew_first, renew_session, search, step, step_ask}
+use Rattle.ifmap_machine.specs.Step.{subscribe, with_told}
 use Rattle.ifmap_machine.specs.Subscribing.{Told, subscribe_ops}
 use Rattle.ifmap_machine.specs.Telling.{is_too_big, overflow, overflow_session, tell, tell_session, told_in}
 use Rattle.ifmap_machine.proofs.Tables.{IsTabled, event_table, expired_table, opening_table, overflow_keeps, told_keeps}
@@ -35,7 +38,8 @@ use Rattle.ifmap_requests.specs.declared.publishing.PublishOp.TheVariants.{Updat
 use Rattle.ifmap_requests.specs.declared.requests.Request.TheVariants as the_request
 use Rattle.ifmap_search.specs.declared.results.PollItem.{PollItem}
 use Rattle.ifmap_search.specs.declared.searches.Search.{Search}
-use Rattle.ifmap_session.specs.Sessions.{Session, change, emptied, is_text, renewed, session_of_client, session_with_id, session_with_serial, without_sessions}
+use Rattle.ifmap_session.specs.Sessions.{Session, change, emptied, is_text, renewed, session_of_client, session_with_id}
+use Rattle.ifmap_session.specs.Sessions.{session_with_serial, without_sessions}
 use Rattle.ifmap_session.specs.laws.TableLaws.{Keeps, found_by_serial, found_beside_begun, renewed_keeps}
 use Rattle.ifmap_session.specs.laws.TextLaws.{find_kept}
 use Rattle.ifmap_view.specs.declared.attachments.Attachment.{Attachment}

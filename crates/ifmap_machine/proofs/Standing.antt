@@ -1,7 +1,8 @@
 -- What holds of the subscriptions that stand in every state: they rise by session and name, and a session has 1,000 at most.
 -- First: how many of a filtered list, and of a list with one put in (`fewer_kept`, `put_counted`, `one_gone`). Then what filters and
 -- a new subscription keep (`stood_filter`, `stood_begun`), the fold of a subscribe (`stood_ops`), and each case of the step.
-use Rattle.std.proofs.Common.{◌≡◌, refl, sym, ◌∙◌, ap, subst, ℕ, suc, ◌+◌, ◌<◌, ◌≤◌, ◌==◌, ◌&&◌, Bool, true, false, not, List, [], ◌∷◌, ◌++◌, length, Option, None, Some, option_and_then, inl, inr, nat_le, arith, length-append}
+use Rattle.std.proofs.Common.{◌≡◌, refl, sym, ◌∙◌, ap, subst, ℕ, suc, ◌+◌, ◌<◌, ◌≤◌, ◌==◌, ◌&&◌, Bool, true, false, not, List, [], ◌∷◌}
+use Rattle.std.proofs.Common.{◌++◌, length, Option, None, Some, option_and_then, inl, inr, nat_le, arith, length-append}
 use Rattle.std.proofs.lemmas.Bool.{and_cases, and_parts, cases_Bool}
 use Rattle.std.proofs.lemmas.Bool.Decides.{nat_tests}
 use Rattle.std.proofs.lemmas.Cmp.{nat_cmp_total, nat_list_cmp_total, on_total, then_total}
@@ -19,7 +20,8 @@ use Rattle.ifmap_machine.specs.Ending.{end_former, end_some, expire}
 use Rattle.ifmap_machine.specs.Events.{Event}
 use Rattle.ifmap_machine.specs.Legal.{History, state_from}
 use Rattle.ifmap_machine.specs.State.{Standing, State, advance, opening, standing_in, standing_order}
-use Rattle.ifmap_machine.specs.Step.{answer_subscribed, end_session, in_session, is_full, lose, poll, poll_in, poll_queue, publish, purge, renew_first, renew_session, search, step, step_ask, subscribe}
+use Rattle.ifmap_machine.specs.Step.{answer_subscribed, end_session, in_session, is_full, lose, poll, poll_in, poll_queue, publish, purge}
+use Rattle.ifmap_machine.specs.Step.{renew_first, renew_session, search, step, step_ask, subscribe}
 use Rattle.ifmap_machine.specs.Subscribing.{Told, begin_name, drop_name, is_full_for, is_of_name, most_names, subscribe_op, subscribe_ops}
 use Rattle.ifmap_machine.specs.Telling.{is_too_big}
 use Rattle.ifmap_plans.specs.Placing.{put}

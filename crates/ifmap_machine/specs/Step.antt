@@ -1,5 +1,6 @@
 -- What the machine answers to an event, and the state after it.
-use Rattle.std.specs.Prelude.{ℕ, ◌+◌, ◌-◌, ◌^◌, ◌==◌, ◌&&◌, ◌||◌, nat_le, Bool, true, false, List, [], ◌∷◌, ◌++◌, length, Option, None, Some, is_none, if◌then◌else◌}
+use Rattle.std.specs.Prelude.{ℕ, ◌+◌, ◌-◌, ◌^◌, ◌==◌, ◌&&◌, ◌||◌, nat_le, Bool, true, false, List, [], ◌∷◌, ◌++◌, length, Option, None}
+use Rattle.std.specs.Prelude.{Some, is_none, if◌then◌else◌}
 use Rattle.ifmap_fresh.specs.Fresh.{fresh, fresh_size}
 use Rattle.ifmap_ident.specs.declared.codes.Code.{Code}
 use Rattle.ifmap_ident.specs.declared.codes.Code.TheVariants.{AccessDenied, InvalidSessionID, SearchResultsTooBig, SystemError}
@@ -24,7 +25,8 @@ use Rattle.ifmap_requests.specs.declared.requests.SubscribeOp.{SubscribeOp}
 use Rattle.ifmap_search.specs.declared.results.PollItem.{PollItem}
 use Rattle.ifmap_search.specs.declared.searches.Search.{Search}
 use Rattle.ifmap_session.specs.SessionIds.{session_id}
-use Rattle.ifmap_session.specs.Sessions.{Session, begun, change, emptied, is_text, limit_of, most_sessions, renewed, session_of_client, session_with_id}
+use Rattle.ifmap_session.specs.Sessions.{Session, begun, change, emptied, is_text, limit_of, most_sessions, renewed, session_of_client}
+use Rattle.ifmap_session.specs.Sessions.{session_with_id}
 
 -- a refusal with a note
 abbrev pub refusal_with : Code → List ℕ → Answer

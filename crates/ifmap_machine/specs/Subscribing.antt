@@ -1,5 +1,6 @@
 -- What a subscribe makes of a session's subscriptions and of its queue.
-use Rattle.std.specs.Prelude.{ℕ, ◌==◌, ◌&&◌, nat_le, Bool, List, [], ◌∷◌, ◌++◌, filter, length, not, Option, None, Some, option_and_then, if◌then◌else◌}
+use Rattle.std.specs.Prelude.{ℕ, ◌==◌, ◌&&◌, nat_le, Bool, List, [], ◌∷◌, ◌++◌, filter, length, not, Option, None, Some, option_and_then}
+use Rattle.std.specs.Prelude.{if◌then◌else◌}
 use Rattle.std.specs.List.{list_any}
 use Rattle.ifmap_fresh.specs.Fresh.{fresh}
 use Rattle.ifmap_machine.specs.State.{Standing, standing_in, standing_order}

@@ -1,6 +1,7 @@
 -- What the sessions are told of a change of the graph (IF-MAP binding for SOAP 2.2, subscribe and poll: search, update, delete and
 -- notify results, and results that are too big).
-use Rattle.std.specs.Prelude.{ℕ, ◌==◌, ◌&&◌, nat_lt, Bool, List, [], ◌∷◌, ◌++◌, codes, filter, flat_map, map, not, None, Some, if◌then◌else◌}
+use Rattle.std.specs.Prelude.{ℕ, ◌==◌, ◌&&◌, nat_lt, Bool, List, [], ◌∷◌, ◌++◌, codes, filter, flat_map, map, not, None, Some}
+use Rattle.std.specs.Prelude.{if◌then◌else◌}
 use Rattle.std.specs.Fmt.{decimal}
 use Rattle.std.specs.List.{list_any}
 use Rattle.ifmap_folds.specs.Differences.{difference}

@@ -38,7 +38,8 @@ IsChange c = c.removed ++ c.added ≢ []
 abbrev pub IsAfter : List ItemChange → List Attachment → List Attachment → Type 0
 IsAfter changes before after = (x : Item) → stored_on x after ≡ after_on changes x (stored_on x before)
 
--- a change can be made: its item is one that elements are, what goes is there and told in order, what comes is whole, and what is stored then
+-- a change can be made: its item is one that elements are, what goes is there and told in order, what comes is whole, and what is stored
+-- then
 -- is in order with its keys apart
 pub record FitsItem (rows : List Attachment) (c : ItemChange) : Type 0 where
   pub canon : IsCanonItem c.item

@@ -1,5 +1,6 @@
 -- One element in place of the one with its key.
-use Rattle.std.proofs.Common.{◌≡◌, ◌∙◌, refl, sym, ap, subst, ℕ, ◌+◌, ◌<◌, ◌≤◌, zero, suc, Bool, true, false, not, List, [], ◌∷◌, drop, length, get_or, arith}
+use Rattle.std.proofs.Common.{◌≡◌, ◌∙◌, refl, sym, ap, subst, ℕ, ◌+◌, ◌<◌, ◌≤◌, zero, suc, Bool, true, false, not, List, [], ◌∷◌, drop}
+use Rattle.std.proofs.Common.{length, get_or, arith}
 use Rattle.std.proofs.lemmas.Bool.{not-true}
 use Rattle.std.proofs.lemmas.List.{drop_more}
 use Rattle.std.proofs.lemmas.List.Elements.{AllWithin-more, recursion_from_All}
@@ -54,7 +55,8 @@ pub key_nowhere : (row : Stored) (list : List Stored) (i : ℕ) → length list 
     → filter (λ t. not (same_key row t)) list ≡ list
 key_nowhere row list i end none =
     filter_all (λ t. not (same_key row t)) list (all_weaker (λ t. same_key row t ≡ false) (λ t. not (same_key row t) ≡ true)
-    (λ t e. ap not e) list (recursion_from_All (λ t. same_key row t ≡ false) list (λ j d h. none j d (omega arith) (omega (arith, end, h)))))
+    (λ t e. ap not e) list
+    (recursion_from_All (λ t. same_key row t ≡ false) list (λ j d h. none j d (omega arith) (omega (arith, end, h)))))
 
 -- one more of the elements of an update
 module _ (by : Authorship) (forever : Bool) (ms : List Metadata) (i : ℕ) (m : Metadata) (low : i < length ms) (at : m ≡ get_or ms i m) where
@@ -68,7 +70,8 @@ module _ (by : Authorship) (forever : Bool) (ms : List Metadata) (i : ℕ) (m : 
   pub one_of : (P : Metadata → Type 0) → AllByRecursion P ms → P m
   one_of P all = subst P (sym at) (all_at P ms i m all low)
 
-pub one_of_ops : (ops : List PublishOp) (i : ℕ) (op : PublishOp) → i < length ops → op ≡ get_or ops i op → AllByRecursion IsFitOp ops → IsFitOp op
+pub one_of_ops : (ops : List PublishOp) (i : ℕ) (op : PublishOp) → i < length ops → op ≡ get_or ops i op → AllByRecursion IsFitOp ops
+    → IsFitOp op
 one_of_ops ops i op low at all = subst IsFitOp (sym at) (all_at IsFitOp ops i op all low)
 
 pub none_more : (row other : Stored) (list : List Stored) (i : ℕ) → i < length list → other ≡ get_or list i other

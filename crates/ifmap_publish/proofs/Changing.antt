@@ -1,5 +1,6 @@
 -- The changes of items on which something goes or comes.
-use Rattle.std.proofs.Common.{◌≡◌, ◌≢◌, ◌∙◌, refl, sym, ap, subst, Bool, true, false, cond, not, List, [], ◌∷◌, ◌++◌, ◌==◌, arith, length, map, Some, None, inl, inr}
+use Rattle.std.proofs.Common.{◌≡◌, ◌≢◌, ◌∙◌, refl, sym, ap, subst, Bool, true, false, cond, not, List, [], ◌∷◌, ◌++◌, ◌==◌, arith, length}
+use Rattle.std.proofs.Common.{map, Some, None, inl, inr}
 use Rattle.std.proofs.lemmas.Bool.{cases_Bool}
 use Rattle.std.proofs.lemmas.List.{append-nil, append_assoc}
 use Rattle.std.proofs.lemmas.List.Kept.{IsStrictlySortedBy-filter}
@@ -53,7 +54,8 @@ found_later : (e : Entry) (es ys : List Entry) → AllOver e.0 ys
     → AllByRecursion (λ y. lookup (is_at (item_order y.0)) (e ∷ es) ≡ Some y.1) ys
 found_later e es [] over all = tt
 found_later e es (y ∷ ys) over all = (
-  ap (λ o. cond (is_eq o) (Some e.1) (lookup (is_at (item_order y.0)) es)) (greater_of_less Item item_order items_total e.0 y.0 over.0) ∙ all.0,
+  ap (λ o. cond (is_eq o) (Some e.1) (lookup (is_at (item_order y.0)) es)) (greater_of_less Item item_order items_total e.0 y.0 over.0)
+      ∙ all.0,
   found_later e es ys over.1 all.1,
 )
 

@@ -60,7 +60,8 @@ first_kept o os ns all = ap (λ b. cond (not b) (o ∷ difference os ns) (differ
 tied_first : (o n : Stored) (os ns : List Stored) (b : Bool) → same_stored o n ≡ b → AllAbove o ns → AllAbove n os
     → difference (o ∷ os) (n ∷ ns) ≡ cond b (difference os ns) (o ∷ difference os ns)
 tied_first o n os ns true e up over =
-    ap (λ b. cond (not (b || list_any (same_stored o) ns)) (o ∷ difference os (n ∷ ns)) (difference os (n ∷ ns))) e ∙ other_passed n ns os over
+    ap (λ b. cond (not (b || list_any (same_stored o) ns)) (o ∷ difference os (n ∷ ns)) (difference os (n ∷ ns))) e
+    ∙ other_passed n ns os over
 tied_first o n os ns false e up over =
     ap (λ b. cond (not (b || list_any (same_stored o) ns)) (o ∷ difference os (n ∷ ns)) (difference os (n ∷ ns))) e
     ∙ ap (λ b. cond (not b) (o ∷ difference os (n ∷ ns)) (difference os (n ∷ ns))) (none_same o ns up)
@@ -72,8 +73,10 @@ itself s = tied_itself stored_total s
 -- the first goes, with those that go after it
 first_gone : (o : Stored) (gone os : List Stored) → AllAbove o os → without (o ∷ gone) (o ∷ os) ≡ without gone os
 first_gone o gone os all =
-    ap (λ c. cond (not (is_eq c || list_any (λ r. eq_by_cmp stored_order r o) gone)) (o ∷ without (o ∷ gone) os) (without (o ∷ gone) os)) (itself o)
-    ∙ filter_alike (λ s. not (list_any (λ r. eq_by_cmp stored_order r s) (o ∷ gone))) (λ s. not (list_any (λ r. eq_by_cmp stored_order r s) gone)) os
+    ap (λ c. cond (not (is_eq c || list_any (λ r. eq_by_cmp stored_order r o) gone)) (o ∷ without (o ∷ gone) os) (without (o ∷ gone) os))
+    (itself o)
+    ∙ filter_alike (λ s. not (list_any (λ r. eq_by_cmp stored_order r s) (o ∷ gone)))
+    (λ s. not (list_any (λ r. eq_by_cmp stored_order r s) gone)) os
     (all_weaker (λ y. stored_order o y ≡ Less)
     (λ s. not (list_any (λ r. eq_by_cmp stored_order r s) (o ∷ gone)) ≡ not (list_any (λ r. eq_by_cmp stored_order r s) gone))
     (λ s l. ap (λ c. not (is_eq c || list_any (λ r. eq_by_cmp stored_order r s) gone)) l) os all)

@@ -129,7 +129,8 @@ module _ (x : Item) where
       parts : (b c : Bool) (others : List Attachment)
           → ((r : Attachment) → here r ≡ true → is_lt (attachment_order r a) ≡ b)
           → ((r : Attachment) → here r ≡ true → is_gt (attachment_order r a) ≡ c)
-          → stored_on x (filter (λ r. is_lt (attachment_order r a)) others) ++ stored_on x (filter (λ r. is_gt (attachment_order r a)) others)
+          → stored_on x (filter (λ r. is_lt (attachment_order r a)) others)
+          ++ stored_on x (filter (λ r. is_gt (attachment_order r a)) others)
           ≡ filter (λ s. b) (stored_on x others) ++ filter (λ s. c) (stored_on x others)
       parts b c others l g =
           ap (λ l. l ++ stored_on x (filter (λ r. is_gt (attachment_order r a)) others))
@@ -138,7 +139,8 @@ module _ (x : Item) where
           (on_filter (λ r. is_gt (attachment_order r a)) (λ s. c) g others)
 
       by : (o : Ordering) → item_order x a.item ≡ o → (others : List Attachment)
-          → stored_on x (filter (λ r. is_lt (attachment_order r a)) others) ++ stored_on x (filter (λ r. is_gt (attachment_order r a)) others)
+          → stored_on x (filter (λ r. is_lt (attachment_order r a)) others)
+          ++ stored_on x (filter (λ r. is_gt (attachment_order r a)) others)
           ≡ stored_on x others
       by Less e others =
           parts true false others (λ r t. ap is_lt (order Less e r t)) (λ r t. ap is_gt (order Less e r t))

@@ -1,5 +1,6 @@
 -- One pass over two lists that rise.
-use Rattle.std.proofs.Common.{◌≡◌, ◌∙◌, refl, sym, ap, subst, ℕ, ◌+◌, ◌<◌, zero, suc, Bool, true, false, ◌||◌, List, [], ◌∷◌, drop, length, get_or}
+use Rattle.std.proofs.Common.{◌≡◌, ◌∙◌, refl, sym, ap, subst, ℕ, ◌+◌, ◌<◌, zero, suc, Bool, true, false, ◌||◌, List, [], ◌∷◌, drop, length}
+use Rattle.std.proofs.Common.{get_or}
 use Rattle.std.proofs.lemmas.Cmp.{alike_right}
 use Rattle.std.proofs.lemmas.List.{drop_more}
 use Rattle.std.specs.Cmp.{tied_itself}

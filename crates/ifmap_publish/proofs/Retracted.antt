@@ -1,5 +1,6 @@
 -- A walk over the items that carry attachments, from each of which what is retracted goes.
-use Rattle.std.proofs.Common.{◌≡◌, ◌≢◌, ◌∙◌, ◌⊎◌, refl, sym, ap, subst, ℕ, ◌+◌, ◌≤◌, ◌<◌, Bool, true, false, cond, not, ◌||◌, List, [], ◌∷◌, ◌++◌, map, length, Option, Some, None, inl, inr, arith}
+use Rattle.std.proofs.Common.{◌≡◌, ◌≢◌, ◌∙◌, ◌⊎◌, refl, sym, ap, subst, ℕ, ◌+◌, ◌≤◌, ◌<◌, Bool, true, false, cond, not, ◌||◌, List, [], ◌∷◌}
+use Rattle.std.proofs.Common.{◌++◌, map, length, Option, Some, None, inl, inr, arith}
 use Rattle.std.proofs.lemmas.Bool.{cases_Bool}
 use Rattle.std.proofs.lemmas.List.{append_assoc, length-append, map-append}
 use Rattle.std.proofs.lemmas.List.Folds.{list_any-append}
@@ -149,7 +150,8 @@ so_far_none who rows changes before is = record {
   count = omega arith;
 }
 
-pub so_far_next : (who : Who) (rows : List Attachment) (changes more : List ItemChange) (last : Option Item) (before steps after : ℕ) (k : Item)
+pub so_far_next : (who : Who) (rows : List Attachment) (changes more : List ItemChange) (last : Option Item) (before steps after : ℕ)
+    (k : Item)
     → IsSoFar who rows changes last before steps → IsNextItem rows last k → IsCanonItem k → after ≡ steps + 1
     → more ≡ changes ++ changes_to rows (entry_of who rows k ∷ []) → IsSoFar who rows more (Some k) before after
 so_far_next who rows changes more last before steps after k so next canon one is =
@@ -308,7 +310,8 @@ among_items k (r ∷ rows) full = elim (cases_Bool (same_item k r.item)) [
 pub steps_are : (who : Who) (rows : List Attachment) (changes : List ItemChange) (last : Option Item) (before steps : ℕ)
     → IsSoFar who rows changes last before steps → steps ≤ before + length (items_of rows)
 steps_are who rows changes last before steps so =
-    let n = counted so.keys (items_of rows) so.up (all_weaker (λ k. stored_on k rows ≢ []) (λ k. list_any (same_item k) (items_of rows) ≡ true)
+    let n = counted so.keys (items_of rows) so.up
+    (all_weaker (λ k. stored_on k rows ≢ []) (λ k. list_any (same_item k) (items_of rows) ≡ true)
     (λ k full. among_items k rows full) so.keys so.carry) in
     omega (arith, n, so.count)
 
@@ -340,7 +343,8 @@ falls last k (r ∷ rows) up full = elim (cases_Bool (same_item r.item k)) [
     same_above None up t = refl
     same_above (Some a) up t = ap is_lt (alike_right items_total r.item k a (tied r.item k t) ∙ up)
 
-    by : (a b : Bool) → (a ≡ true → b ≡ true) → length (filter (λ s. is_above (Some k) s.item) rows) < length (filter (λ s. is_above last s.item) rows)
+    by : (a b : Bool) → (a ≡ true → b ≡ true)
+        → length (filter (λ s. is_above (Some k) s.item) rows) < length (filter (λ s. is_above last s.item) rows)
         → length (cond a (r ∷ filter (λ s. is_above (Some k) s.item) rows) (filter (λ s. is_above (Some k) s.item) rows))
         < length (cond b (r ∷ filter (λ s. is_above last s.item) rows) (filter (λ s. is_above last s.item) rows))
     by true true h l = omega (arith, l)

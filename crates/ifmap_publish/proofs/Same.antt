@@ -38,7 +38,8 @@ life_turned Forever Forever = refl
 
 pub same_turned : (a b : Stored) → same_stored a b ≡ same_stored b a
 same_turned a b =
-    rw (nat_list_eq_equiv.symm (stored_bytes a) (stored_bytes b), nat_list_eq_equiv.symm a.publisher b.publisher, life_turned a.life b.life) refl
+    rw (nat_list_eq_equiv.symm (stored_bytes a) (stored_bytes b), nat_list_eq_equiv.symm a.publisher b.publisher, life_turned a.life b.life)
+    refl
 
 life_tells : (a b : Life) → same_life a b ≡ true → a ≡ b
 life_tells (Session a) (Session b) e = ap Session (is_number a b e)

@@ -4,7 +4,8 @@
 -- 3. Entries: runs, identifiers, items.
 -- 4. Results.
 -- 5. Responses and envelopes.
-use Rattle.std.proofs.Common.{◌≡◌, ◌∙◌, ℕ, ◌+◌, ◌<◌, ◌≤◌, ◌%◌, ◌^◌, ◌&&◌, Bool, true, false, not, List, [], ◌∷◌, ◌++◌, Option, None, Some, Ok, map, codes, refl, ap, arith, inl, subst, sym, append-nil}
+use Rattle.std.proofs.Common.{◌≡◌, ◌∙◌, ℕ, ◌+◌, ◌<◌, ◌≤◌, ◌%◌, ◌^◌, ◌&&◌, Bool, true, false, not, List, [], ◌∷◌, ◌++◌, Option, None, Some}
+use Rattle.std.proofs.Common.{Ok, map, codes, refl, ap, arith, inl, subst, sym, append-nil}
 use Rattle.std.specs.Prelude.{◌||◌, if◌then◌else◌, nat_lt}
 use Rattle.std.specs.Char.{is_ascii_digit}
 use Rattle.std.specs.List.{AllByRecursion, list_all}
@@ -26,7 +27,9 @@ use Rattle.ifmap_elem.specs.laws.FitLaws.{out_element, out_text}
 use Rattle.ifmap_envelopes.specs.Envelopes.{IsAlone, IsEnvelope, envelope_name}
 use Rattle.ifmap_filter.specs.Holding.{own_text_of, text_among}
 use Rattle.ifmap_ident.specs.declared.codes.Code.{Code}
-use Rattle.ifmap_ident.specs.declared.codes.Code.TheVariants.{AccessDenied, Failure, InvalidIdentifier, InvalidIdentifierType, IdentifierTooLong, InvalidMetadata, InvalidSchemaVersion, InvalidSessionID, MetadataTooLong, SearchResultsTooBig, PollResultsTooBig, SystemError}
+use Rattle.ifmap_ident.specs.declared.codes.Code.TheVariants.{AccessDenied, Failure, InvalidIdentifier, InvalidIdentifierType}
+use Rattle.ifmap_ident.specs.declared.codes.Code.TheVariants.{IdentifierTooLong, InvalidMetadata, InvalidSchemaVersion, InvalidSessionID}
+use Rattle.ifmap_ident.specs.declared.codes.Code.TheVariants.{MetadataTooLong, SearchResultsTooBig, PollResultsTooBig, SystemError}
 use Rattle.ifmap_ident.specs.declared.identifiers.Identifier.{Identifier}
 use Rattle.ifmap_ident.specs.declared.identifiers.Identifier.TheVariants.{AccessRequest, Device, Identity, IpV4, IpV6, MacAddress}
 use Rattle.ifmap_ident.specs.declared.items.Item.{Item}
@@ -55,8 +58,13 @@ use Rattle.ifmap_replies.specs.Fields.{code_of, read_code, read_word}
 use Rattle.ifmap_replies.specs.Fit.{AreFitEntries, IsFitEntry, IsFitPollItem, IsFitReply, IsWord}
 use Rattle.ifmap_replies.specs.Means.{IsReplyOf}
 use Rattle.ifmap_replies.specs.ResultForms as forms
-use Rattle.ifmap_replies.specs.ResultForms.{element_check, entries_check, entries_local, error_form, error_made, found_made, is_text, members_check, new_session_form, new_session_made, no_scopes, note_check, only_check, or_none, plain_check, plain_form, plain_made, poll_check, polled_form, polled_made, response_check, response_form, response_made, result_check, result_local, run_check, run_form, run_from, run_made, run_parts, told_error_form, told_error_made, told_form, told_made}
-use Rattle.ifmap_replies.specs.Results.{around, as_children, entry_children, error_element, in_envelope, new_session_element, poll_element, reply_element, response_name, result_element, run_element, text_children, told_element}
+use Rattle.ifmap_replies.specs.ResultForms.{element_check, entries_check, entries_local, error_form, error_made, found_made, is_text}
+use Rattle.ifmap_replies.specs.ResultForms.{members_check, new_session_form, new_session_made, no_scopes, note_check, only_check, or_none}
+use Rattle.ifmap_replies.specs.ResultForms.{plain_check, plain_form, plain_made, poll_check, polled_form, polled_made, response_check}
+use Rattle.ifmap_replies.specs.ResultForms.{response_form, response_made, result_check, result_local, run_check, run_form, run_from}
+use Rattle.ifmap_replies.specs.ResultForms.{run_made, run_parts, told_error_form, told_error_made, told_form, told_made}
+use Rattle.ifmap_replies.specs.Results.{around, as_children, entry_children, error_element, in_envelope, new_session_element, poll_element}
+use Rattle.ifmap_replies.specs.Results.{reply_element, response_name, result_element, run_element, text_children, told_element}
 use Rattle.ifmap_replies.specs.Runs.{before, entries_of, entry_on, run_on, runs_of}
 use Rattle.ifmap_replies.proofs.GoodLaws.{element_part, parts_are}
 use Rattle.ifmap_replies.proofs.WholeLaws.{IsFitRun, fit_runs}

@@ -22,7 +22,8 @@ use Rattle.ifmap_forms.specs.CheckLaws.{fail_done, need_done, pass_done, some_do
 use Rattle.ifmap_forms.specs.Checks.{Check, IsDone, check_then, need, need_some, pass}
 use Rattle.ifmap_forms.specs.Items.{before_list, from_list, identifier_check, identifiers_check, item_of, list_at, list_check, may_follow}
 use Rattle.ifmap_forms.specs.Scopes.{Scopes}
-use Rattle.ifmap_forms.specs.Tables.{Content, Form, Part, Table, beside, both, each_element, form_check, is_white_part, no_attributes, no_children, parts_of, read_form}
+use Rattle.ifmap_forms.specs.Tables.{Content, Form, Part, Table, beside, both, each_element, form_check, is_white_part, no_attributes}
+use Rattle.ifmap_forms.specs.Tables.{no_children, parts_of, read_form}
 use Rattle.ifmap_forms.specs.Values.{Field, field_check, number_of, read_text, text_field}
 use Rattle.ifmap_replies.specs.declared.kinds.PollKind.{PollKind}
 use Rattle.ifmap_replies.specs.declared.kinds.PollKind.TheVariants as told
@@ -33,7 +34,12 @@ use Rattle.ifmap_replies.specs.declared.replies.Reply.TheVariants as reply
 use Rattle.ifmap_replies.specs.Fields.{code_field, code_of, optional_field, read_code, read_optional, read_word, word_field}
 use Rattle.ifmap_replies.specs.Laws.{NoReplyWithDefect, ReplyOrNone}
 use Rattle.ifmap_replies.specs.Means.{IsReplyOf}
-use Rattle.ifmap_replies.specs.ResultForms.{element_check, entries_check, error_form, error_made, found_form, found_made, is_text, members_check, new_session_form, new_session_made, no_scopes, note_check, only_check, only_member, or_none, plain_check, plain_form, plain_made, poll_check, poll_kind_check, poll_kind_of, polled_form, polled_made, response_check, response_form, response_made, result_check, result_kind_check, result_kind_of, run_check, run_form, run_from, run_made, run_parts, told_error_form, told_error_made, told_form, told_made}
+use Rattle.ifmap_replies.specs.ResultForms.{element_check, entries_check, error_form, error_made, found_form, found_made, is_text}
+use Rattle.ifmap_replies.specs.ResultForms.{members_check, new_session_form, new_session_made, no_scopes, note_check, only_check}
+use Rattle.ifmap_replies.specs.ResultForms.{only_member, or_none, plain_check, plain_form, plain_made, poll_check, poll_kind_check}
+use Rattle.ifmap_replies.specs.ResultForms.{poll_kind_of, polled_form, polled_made, response_check, response_form, response_made}
+use Rattle.ifmap_replies.specs.ResultForms.{result_check, result_kind_check, result_kind_of, run_check, run_form, run_from, run_made}
+use Rattle.ifmap_replies.specs.ResultForms.{run_parts, told_error_form, told_error_made, told_form, told_made}
 use Rattle.ifmap_replies.specs.Results.{response_name}
 use Rattle.ifmap_replies.specs.Runs.{entries_of, run_on}
 

@@ -1,7 +1,8 @@
 -- Elements that a document can have, arranged, of so many levels at most.
 -- 1. Names and attributes that are spelled out.
 -- 2. An element of elements, and one of a text.
-use Rattle.std.proofs.Common.{◌≡◌, ◌≢◌, ◌∙◌, ◌&&◌, ℕ, ◌+◌, ◌≤◌, suc, Bool, true, false, List, [], ◌∷◌, ◌++◌, map, codes, refl, ap, arith, subst, sym}
+use Rattle.std.proofs.Common.{◌≡◌, ◌≢◌, ◌∙◌, ◌&&◌, ℕ, ◌+◌, ◌≤◌, suc, Bool, true, false, List, [], ◌∷◌, ◌++◌, map, codes, refl, ap, arith}
+use Rattle.std.proofs.Common.{subst, sym}
 use Rattle.std.specs.Prelude.{IsTrue}
 use Rattle.std.specs.List.{AllByRecursion, flat_map, list_all, list_any}
 use Rattle.std.specs.Str.{bytes_eq}
@@ -9,7 +10,8 @@ use Rattle.std.proofs.lemmas.Bool.{and_parts}
 use Rattle.ifmap_elem.specs.Arranged.{arrange, arrange_child, sort_attributes}
 use Rattle.ifmap_elem.specs.Building.{bare_attribute, bare_name}
 use Rattle.ifmap_elem.specs.Chars.{AllAre, IsCharacters, is_character}
-use Rattle.ifmap_elem.specs.Fit.{AreApart, AreFitChildren, HasCharacters, IsFit, IsFitAlone, IsFitAttribute, IsFitName, IsNamespace, IsNotBlank, is_element}
+use Rattle.ifmap_elem.specs.Fit.{AreApart, AreFitChildren, HasCharacters, IsFit, IsFitAlone, IsFitAttribute, IsFitName, IsNamespace}
+use Rattle.ifmap_elem.specs.Fit.{IsNotBlank, is_element}
 use Rattle.ifmap_elem.specs.Folds.{at_child_element, at_child_text, at_element}
 use Rattle.ifmap_elem.specs.Names.{is_name_character, is_name_start}
 use Rattle.ifmap_elem.specs.Nesting.{child_levels, child_nesting, element_levels, greatest, nesting}

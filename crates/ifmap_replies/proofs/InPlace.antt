@@ -1,5 +1,6 @@
 -- Children that are arranged one after the other.
-use Rattle.std.proofs.Common.{◌≡◌, ℕ, zero, suc, ◌+◌, ◌<◌, List, [], ◌∷◌, ◌++◌, map, take, drop, length, get_or, slice_set, refl, ap, sym, ◌∙◌, arith, add-one}
+use Rattle.std.proofs.Common.{◌≡◌, ℕ, zero, suc, ◌+◌, ◌<◌, List, [], ◌∷◌, ◌++◌, map, take, drop, length, get_or, slice_set, refl, ap, sym}
+use Rattle.std.proofs.Common.{◌∙◌, arith, add-one}
 
 module _ {X : Type 0} (f : X → X) where
   abbrev so_far : ℕ → List X → List X

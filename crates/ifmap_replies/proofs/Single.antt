@@ -1,37 +1,28 @@
 -- Each check of a reply finds one thing at most.
--- 1. Identifiers by the law of their crate.
--- 2. Tables, lists of children and forms, over what they are made of.
--- 3. Each attribute.
--- 4. Children: lists of elements, and identifiers.
--- 5. Results and responses.
--- 6. Elements and bodies.
-use Rattle.std.proofs.Common.{◌≡◌, ◌∙◌, ◌+◌, ◌^◌, ◌++◌, ℕ, List, [], ◌∷◌, Option, None, Some, Result, Ok, Err, codes, inl, inr, ap, subst, sym}
+-- 1. Each attribute.
+-- 2. Results and responses, over what they are made of.
+-- 3. Elements and bodies.
+use Rattle.std.proofs.Common.{◌≡◌, ◌^◌, ℕ, List, [], Option, None, Some, Result, Ok, Err, codes, subst, sym}
 use Rattle.std.specs.Prelude.{nat_lt}
 use Rattle.std.specs.List.{list_all}
 use Rattle.ifmap_elem.specs.Arranged.{arrange}
 use Rattle.ifmap_elem.specs.Building.{is_bare}
-use Rattle.ifmap_elem.specs.Chars.{is_white}
 use Rattle.ifmap_elem.specs.Spells.{Spells}
-use Rattle.ifmap_elem.specs.declared.elements.Child.TheOpen.{Child-F}
 use Rattle.ifmap_elem.specs.declared.elements.Element.{Element}
 use Rattle.ifmap_elem.specs.declared.readings.Reading.{Reading}
 use Rattle.ifmap_envelopes.specs.Envelopes.{IsEnvelope, OneEnvelope}
 use Rattle.ifmap_filter.specs.Holding.{is_name, text_among}
 use Rattle.ifmap_ident.specs.declared.codes.Code.{Code}
 use Rattle.ifmap_ident.specs.declared.codes.Code.TheVariants.{Failure}
-use Rattle.ifmap_ident.specs.declared.errors.IdentError.{IdentError}
-use Rattle.ifmap_ident.specs.declared.errors.IdentError.TheVariants.{NoMemory}
-use Rattle.ifmap_ident.specs.declared.identifiers.Identifier.{Identifier}
-use Rattle.ifmap_ident.specs.Canon.{IsAnswer}
-use Rattle.ifmap_ident.specs.Laws.{AreOneAnswer}
-use Rattle.ifmap_ident.specs.Parts.{has_only, value_of}
+use Rattle.ifmap_ident.specs.Parts.{has_only}
 use Rattle.ifmap_reader.specs.declared.scoping.Scope.{Scope}
 use Rattle.ifmap_forms.specs.CheckLaws.{fail_single, need_single, pass_single, some_single, then_single}
 use Rattle.ifmap_forms.specs.Checks.{Check, IsSingle, check_then, need, need_some, pass}
-use Rattle.ifmap_forms.specs.Items.{before_list, from_list, identifier_check, identifier_code, identifiers_check, item_of, list_at, list_check, may_follow}
-use Rattle.ifmap_forms.specs.Scopes.{Scopes}
-use Rattle.ifmap_forms.specs.Tables.{Content, Form, Part, Table, beside, both, each_element, form_check, is_white_part, no_attributes, no_children, parts_of, read_form}
-use Rattle.ifmap_forms.specs.Values.{Field, field_check, number_of, read_text, text_field}
+use Rattle.ifmap_forms.specs.Items.{before_list, from_list, identifier_check, identifiers_check, item_of, list_at}
+use Rattle.ifmap_forms.specs.SingleLaws.{beside_single, made_single, each_single, read_text_single, list_at_single, no_attributes_single}
+use Rattle.ifmap_forms.specs.SingleLaws.{no_children_single, identifiers_single}
+use Rattle.ifmap_forms.specs.Tables.{Part, beside, form_check, no_attributes, parts_of}
+use Rattle.ifmap_forms.specs.Values.{number_of, text_field}
 use Rattle.ifmap_replies.specs.declared.kinds.PollKind.{PollKind}
 use Rattle.ifmap_replies.specs.declared.kinds.PollKind.TheVariants as told
 use Rattle.ifmap_replies.specs.declared.kinds.ResultKind.{ResultKind}
@@ -41,123 +32,16 @@ use Rattle.ifmap_replies.specs.declared.replies.Reply.TheVariants as reply
 use Rattle.ifmap_replies.specs.Fields.{code_field, code_of, optional_field, read_code, read_optional, read_word, word_field}
 use Rattle.ifmap_replies.specs.Laws.{NoReplyWithDefect, OneMeaning, OneReply}
 use Rattle.ifmap_replies.specs.Means.{IsReplyOf}
-use Rattle.ifmap_replies.specs.ResultForms.{element_check, entries_check, error_form, error_made, found_form, found_made, is_text, members_check, new_session_form, new_session_made, no_scopes, note_check, only_check, only_member, or_none, plain_check, plain_form, plain_made, poll_check, poll_kind_check, poll_kind_of, polled_form, polled_made, response_check, response_form, response_made, result_check, result_kind_check, result_kind_of, run_check, run_form, run_from, run_made, run_parts, told_error_form, told_error_made, told_form, told_made}
+use Rattle.ifmap_replies.specs.ResultForms.{element_check, entries_check, error_form, error_made, found_form, found_made, is_text}
+use Rattle.ifmap_replies.specs.ResultForms.{members_check, new_session_form, new_session_made, no_scopes, note_check, only_check}
+use Rattle.ifmap_replies.specs.ResultForms.{only_member, or_none, plain_check, plain_form, plain_made, poll_check, poll_kind_check}
+use Rattle.ifmap_replies.specs.ResultForms.{poll_kind_of, polled_form, polled_made, response_check, response_form, response_made}
+use Rattle.ifmap_replies.specs.ResultForms.{result_check, result_kind_check, result_kind_of, run_check, run_form, run_from, run_made}
+use Rattle.ifmap_replies.specs.ResultForms.{run_parts, told_error_form, told_error_made, told_form, told_made}
 use Rattle.ifmap_replies.specs.Results.{response_name}
 use Rattle.ifmap_replies.specs.Runs.{entries_of, run_on}
 
--- ---- 1. identifiers
-
-abbrev ok_of : Identifier → Result Identifier Code
-ok_of i = Ok i
-
--- the same answers of another type of errors
-same_found : (i j : Identifier) → i ≡ j → ok_of i ≡ ok_of j
-same_found i j e = ap ok_of e
-
-module _ (one_answer : (e : Element) (one other : Result Identifier IdentError) → IsAnswer e one → IsAnswer e other
-    → AreOneAnswer one other) where
-  abbrev answer : Identifier → Result Identifier IdentError
-  answer i = Ok i
-
-  abbrev refused : IdentError → Result Identifier IdentError
-  refused error = Err error
-
-  -- want of memory has no code
-  no_code : (code : Code) → identifier_code NoMemory ≡ Some code → ⊥
-  no_code code e = let wrong : identifier_code NoMemory ≡ Some code = e in cc
-
-  not_memory : (error : IdentError) (code : Code) → identifier_code error ≡ Some code → refused error ≡ refused NoMemory → ⊥
-  not_memory error code coded e =
-      let same : error ≡ NoMemory = cc in
-      no_code code (subst (λ (x : IdentError). identifier_code x ≡ Some code) same coded)
-
-  pub identifier_single : (e : Element) → IsSingle (identifier_check e)
-  identifier_single e (Ok i) (Ok j) a b = elim (one_answer e (answer i) (answer j) a b) [
-    | inl same ↦ let s : answer i ≡ answer j = same in let t : i ≡ j = cc in same_found i j t
-    | inr other ↦ elim other [
-      | inl m ↦ let wrong : answer i ≡ refused NoMemory = m in cc
-      | inr m ↦ let wrong : answer j ≡ refused NoMemory = m in cc
-    ]
-  ]
-  identifier_single e (Ok i) (Err c) a b = elim (one_answer e (answer i) (refused b.0) a b.2) [
-    | inl same ↦ let wrong : answer i ≡ refused b.0 = same in cc
-    | inr other ↦ elim other [
-      | inl m ↦ let wrong : answer i ≡ refused NoMemory = m in cc
-      | inr m ↦ absurd (not_memory b.0 c b.1 m)
-    ]
-  ]
-  identifier_single e (Err c) (Ok j) a b = elim (one_answer e (refused a.0) (answer j) a.2 b) [
-    | inl same ↦ let wrong : refused a.0 ≡ answer j = same in cc
-    | inr other ↦ elim other [
-      | inl m ↦ absurd (not_memory a.0 c a.1 m)
-      | inr m ↦ let wrong : answer j ≡ refused NoMemory = m in cc
-    ]
-  ]
-  identifier_single e (Err c) (Err d) a b = elim (one_answer e (refused a.0) (refused b.0) a.2 b.2) [
-    | inl same ↦
-        let s : refused a.0 ≡ refused b.0 = same in
-        let errors : a.0 ≡ b.0 = cc in
-        let coded : Some c ≡ Some d = sym a.1 ∙ (ap identifier_code errors ∙ b.1) in
-        cc
-    | inr other ↦ elim other [
-      | inl m ↦ absurd (not_memory a.0 c a.1 m)
-      | inr m ↦ absurd (not_memory b.0 d b.1 m)
-    ]
-  ]
-
--- ---- 2. tables, children, forms
-
-abbrev pub OneOfField : {X : Type 0} → Field X → Type 0
-OneOfField field = (scope : Scope) (text : Option (List ℕ)) → IsSingle (field.reads scope text)
-
-abbrev pub OneOfTable : {X : Type 0} → Table X → Type 0
-OneOfTable table = (scope : Scope) (e : Element) → IsSingle (table.reads scope e)
-
-abbrev pub OneOfContent : {X : Type 0} → Content X → Type 0
-OneOfContent content = (scopes : Scopes) (parts : List Part) → IsSingle (content scopes parts)
-
-module _ {X Y : Type 0} (field : Field X) (table : Table Y) where
-  pub beside_single : OneOfField field → OneOfTable table → OneOfTable (beside field table)
-  beside_single f t scope e =
-      then_single (field_check field scope e) (λ x. check_then (table.reads scope e) (λ y. pass (both x y)))
-      (f scope (value_of field.local e))
-      (λ x. then_single (table.reads scope e) (λ y. pass (both x y)) (t scope e) (λ y. pass_single (both x y)))
-
-module _ {A C : Type 0} (form : Form A C) where
-  form_single : OneOfTable form.attributes → OneOfContent form.content → (scopes : Scopes) (e : Element)
-      → IsSingle (read_form form scopes e)
-  form_single t s scopes e =
-      then_single (form.attributes.reads (scopes []) e)
-      (λ a. need (has_only (form.passed_over ++ form.attributes.locals) e) Failure
-      (check_then (form.content scopes (parts_of e)) (λ c. pass (both a c))))
-      (t (scopes []) e)
-      (λ a. need_single (has_only (form.passed_over ++ form.attributes.locals) e) Failure
-      (check_then (form.content scopes (parts_of e)) (λ c. pass (both a c)))
-      (then_single (form.content scopes (parts_of e)) (λ c. pass (both a c)) (s scopes (parts_of e))
-      (λ c. pass_single (both a c))))
-
-module _ {X A C : Type 0} (form : Form A C) (make : A → C → X) where
-  made_single : OneOfTable form.attributes → OneOfContent form.content → (scopes : Scopes) (e : Element)
-      → IsSingle (form_check form make scopes e)
-  made_single t s scopes e =
-      then_single (read_form form scopes e) (λ x. pass (make x.first x.others)) (form_single form t s scopes e)
-      (λ x. pass_single (make x.first x.others))
-
-module _ {X : Type 0} (one : ℕ → Element → Check X) (s : (index : ℕ) (e : Element) → IsSingle (one index e)) where
-  pub each_single : (index : ℕ) (parts : List Part) → IsSingle (each_element one index parts)
-  each_single index [] = pass_single []
-  each_single index (Child-F.Element e ∷ parts) =
-      then_single (one index e) (λ x. check_then (each_element one (index + 1) parts) (λ xs. pass (x ∷ xs))) (s index e)
-      (λ x. then_single (each_element one (index + 1) parts) (λ xs. pass (x ∷ xs)) (each_single (index + 1) parts)
-      (λ xs. pass_single (x ∷ xs)))
-  each_single index (Child-F.Text text ∷ parts) =
-      need_single (list_all is_white text) Failure (each_element one (index + 1) parts) (each_single (index + 1) parts)
-
--- ---- 3. values
-
-read_text_single : (scope : Scope) (text : Option (List ℕ)) → IsSingle (read_text text)
-read_text_single scope None = fail_single Failure
-read_text_single scope (Some text) = pass_single text
+-- ---- 1. values
 
 read_word_single : (scope : Scope) (text : Option (List ℕ)) → IsSingle (read_word text)
 read_word_single scope None = fail_single Failure
@@ -172,43 +56,7 @@ read_code_single scope (Some text) = some_single Failure (code_of text) (λ code
 read_optional_single : (scope : Scope) (text : Option (List ℕ)) → IsSingle (read_optional text)
 read_optional_single scope text = pass_single text
 
--- ---- 4. children
-
-module _ {X : Type 0} (one : Element → Check X) (s : (e : Element) → IsSingle (one e)) where
-  list_check_single : (e : Element) → IsSingle (list_check one e)
-  list_check_single e =
-      need_single (has_only [] e) Failure (each_element (λ index inner. one inner) 0 (parts_of e))
-      (each_single (λ index inner. one inner) (λ index inner. s inner) 0 (parts_of e))
-
-  list_at_single : (parts : List Part) → IsSingle (list_at one parts)
-  list_at_single [] = pass_single None
-  list_at_single (Child-F.Element e ∷ after) =
-      then_single (list_check one e) (λ xs. need (list_all is_white_part after) Failure (pass (Some xs))) (list_check_single e)
-      (λ xs. need_single (list_all is_white_part after) Failure (pass (Some xs)) (pass_single (Some xs)))
-  list_at_single (Child-F.Text text ∷ after) = fail_single Failure
-
-no_attributes_single : OneOfTable no_attributes
-no_attributes_single scope e = pass_single tt
-
-no_children_single : OneOfContent no_children
-no_children_single scopes parts = need_single (list_all is_white_part parts) Failure (pass tt) (pass_single tt)
-
-module _ (identifier_one : (e : Element) → IsSingle (identifier_check e)) where
-  identifiers_single : (most : ℕ) (before : List Identifier) (parts : List Part) → IsSingle (identifiers_check most before parts)
-  identifiers_single most before [] = pass_single []
-  identifiers_single most before (Child-F.Element e ∷ parts) =
-      then_single (identifier_check e)
-      (λ i. need (may_follow most before i) Failure
-      (check_then (identifiers_check most (before ++ i ∷ []) parts) (λ others. pass (i ∷ others))))
-      (identifier_one e)
-      (λ i. need_single (may_follow most before i) Failure
-      (check_then (identifiers_check most (before ++ i ∷ []) parts) (λ others. pass (i ∷ others)))
-      (then_single (identifiers_check most (before ++ i ∷ []) parts) (λ others. pass (i ∷ others))
-      (identifiers_single most (before ++ i ∷ []) parts) (λ others. pass_single (i ∷ others))))
-  identifiers_single most before (Child-F.Text text ∷ parts) =
-      need_single (list_all is_white text) Failure (identifiers_check most before parts) (identifiers_single most before parts)
-
--- ---- 5. results and responses
+-- ---- 2. results and responses
 
 module _ {X : Type 0} (one : Element → Check X) (s : (e : Element) → IsSingle (one e)) where
   members_single : (parts : List Part) → IsSingle (members_check one parts)
@@ -296,7 +144,7 @@ module _ (identifier_one : (e : Element) → IsSingle (identifier_check e)) wher
       need_single (is_name e.name response_name) Failure (form_check response_form response_made no_scopes e)
       (made_single response_form response_made no_attributes_single (λ scopes. only_single result_check result_single) no_scopes e)
 
--- ---- 6. elements and bodies
+-- ---- 3. elements and bodies
 
 abbrev good : Reply → Result Reply Code
 good answer = Ok answer

@@ -18,7 +18,9 @@ use Rattle.ifmap_elem.specs.declared.elements.Element.{Element}
 use Rattle.ifmap_elem.specs.declared.elements.Name.{Name}
 use Rattle.ifmap_envelopes.specs.Envelopes.{envelope_name, envelope_space}
 use Rattle.ifmap_ident.specs.declared.codes.Code.{Code}
-use Rattle.ifmap_ident.specs.declared.codes.Code.TheVariants.{AccessDenied, Failure, InvalidIdentifier, InvalidIdentifierType, IdentifierTooLong, InvalidMetadata, InvalidSchemaVersion, InvalidSessionID, MetadataTooLong, SearchResultsTooBig, PollResultsTooBig, SystemError}
+use Rattle.ifmap_ident.specs.declared.codes.Code.TheVariants.{AccessDenied, Failure, InvalidIdentifier, InvalidIdentifierType}
+use Rattle.ifmap_ident.specs.declared.codes.Code.TheVariants.{IdentifierTooLong, InvalidMetadata, InvalidSchemaVersion, InvalidSessionID}
+use Rattle.ifmap_ident.specs.declared.codes.Code.TheVariants.{MetadataTooLong, SearchResultsTooBig, PollResultsTooBig, SystemError}
 use Rattle.ifmap_ident.specs.declared.identifiers.Identifier.{Identifier}
 use Rattle.ifmap_ident.specs.Canon.{IsIdentifier}
 use Rattle.ifmap_ident.specs.Codes.{code_name}
@@ -32,9 +34,12 @@ use Rattle.ifmap_replies.specs.declared.replies.Reply.{Reply}
 use Rattle.ifmap_replies.specs.declared.replies.Reply.TheVariants as reply
 use Rattle.ifmap_replies.specs.declared.runs.Run.{Run}
 use Rattle.ifmap_replies.specs.Fit.{AreFitEntries, IsFitEntry, IsFitPollItem, IsFitReply}
-use Rattle.ifmap_replies.specs.Results.{around, as_children, error_element, ifmap_space, name_attribute, new_session_element, plain_element, poll_element, reply_element, response_name, result_element, run_element, text_children, told_element}
+use Rattle.ifmap_replies.specs.Results.{around, as_children, error_element, ifmap_space, name_attribute, new_session_element, plain_element}
+use Rattle.ifmap_replies.specs.Results.{poll_element, reply_element, response_name, result_element, run_element, text_children}
+use Rattle.ifmap_replies.specs.Results.{told_element}
 use Rattle.ifmap_replies.specs.Runs.{before, run_on, runs_of}
-use Rattle.ifmap_replies.proofs.GoodLaws.{IsGood, IsPlainPart, all_within, attribute_fits, bare_fits, good_elements, good_text, good_within, is_plain, is_plain_part, plain_characters, plain_name, plain_space, three_differ, two_differ}
+use Rattle.ifmap_replies.proofs.GoodLaws.{IsGood, IsPlainPart, all_within, attribute_fits, bare_fits, good_elements, good_text, good_within}
+use Rattle.ifmap_replies.proofs.GoodLaws.{is_plain, is_plain_part, plain_characters, plain_name, plain_space, three_differ, two_differ}
 
 -- ---- 1. texts
 

@@ -3,7 +3,9 @@ use Rattle.std.specs.Prelude.{ℕ, ◌^◌, nat_lt, List, [], ◌∷◌, codes, 
 use Rattle.std.specs.List.{find}
 use Rattle.std.specs.Str.{bytes_eq}
 use Rattle.ifmap_ident.specs.declared.codes.Code.{Code}
-use Rattle.ifmap_ident.specs.declared.codes.Code.TheVariants.{AccessDenied, Failure, InvalidIdentifier, InvalidIdentifierType, IdentifierTooLong, InvalidMetadata, InvalidSchemaVersion, InvalidSessionID, MetadataTooLong, SearchResultsTooBig, PollResultsTooBig, SystemError}
+use Rattle.ifmap_ident.specs.declared.codes.Code.TheVariants.{AccessDenied, Failure, InvalidIdentifier, InvalidIdentifierType}
+use Rattle.ifmap_ident.specs.declared.codes.Code.TheVariants.{IdentifierTooLong, InvalidMetadata, InvalidSchemaVersion, InvalidSessionID}
+use Rattle.ifmap_ident.specs.declared.codes.Code.TheVariants.{MetadataTooLong, SearchResultsTooBig, PollResultsTooBig, SystemError}
 use Rattle.ifmap_ident.specs.Codes.{code_name}
 use Rattle.ifmap_forms.specs.Checks.{Check, fail, need, need_some, pass}
 use Rattle.ifmap_forms.specs.Values.{Field, number_of}

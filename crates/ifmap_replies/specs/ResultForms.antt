@@ -17,7 +17,8 @@ use Rattle.ifmap_search.specs.declared.results.PollItem.TheVariants as poll
 use Rattle.ifmap_forms.specs.Checks.{Check, check_then, need, need_some, pass}
 use Rattle.ifmap_forms.specs.Items.{before_list, from_list, identifiers_check, item_of, list_at}
 use Rattle.ifmap_forms.specs.Scopes.{Scopes}
-use Rattle.ifmap_forms.specs.Tables.{Both, Content, Form, Part, bare_form, beside, each_element, form_check, no_attributes, no_children, parts_of}
+use Rattle.ifmap_forms.specs.Tables.{Both, Content, Form, Part, bare_form, beside, each_element, form_check, no_attributes, no_children}
+use Rattle.ifmap_forms.specs.Tables.{parts_of}
 use Rattle.ifmap_forms.specs.Values.{text_field}
 use Rattle.ifmap_replies.specs.declared.kinds.EntriesKind.{EntriesKind}
 use Rattle.ifmap_replies.specs.declared.kinds.EntriesKind.TheVariants as entries

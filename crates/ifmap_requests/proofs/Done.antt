@@ -5,7 +5,8 @@
 -- 4. Metadata: the cardinality and the size are computed.
 -- 5. Identifiers and lists as children.
 -- 6. Operations and requests: each is one more form in a chain.
-use Rattle.std.proofs.Common.{◌≡◌, ◌⊎◌, ◌<◌, ◌≤◌, ◌+◌, ◌^◌, ◌++◌, ℕ, true, false, List, [], ◌∷◌, Option, None, Some, IfSome, Result, Ok, Err, codes, length, min, inl, inr, refl, arith}
+use Rattle.std.proofs.Common.{◌≡◌, ◌⊎◌, ◌<◌, ◌≤◌, ◌+◌, ◌^◌, ◌++◌, ℕ, true, false, List, [], ◌∷◌, Option, None, Some, IfSome, Result, Ok}
+use Rattle.std.proofs.Common.{Err, codes, length, min, inl, inr, refl, arith}
 use Rattle.std.specs.Prelude.{◌&&◌, nat_le, nat_lt}
 use Rattle.std.specs.List.{list_all}
 use Rattle.std.specs.Str.{bytes_eq}
@@ -21,7 +22,8 @@ use Rattle.ifmap_filter.specs.declared.filters.Filter.{Filter}
 use Rattle.ifmap_filter.specs.Holding.{is_name}
 use Rattle.ifmap_filter.specs.Laws.{FilterOrStop, StopsWhereNone}
 use Rattle.ifmap_filter.specs.Texts.{StopsAt, Writes}
-use Rattle.ifmap_ident.specs.declared.codes.Code.TheVariants.{Failure, IdentifierTooLong, InvalidIdentifier, InvalidIdentifierType, InvalidMetadata, InvalidSchemaVersion, MetadataTooLong}
+use Rattle.ifmap_ident.specs.declared.codes.Code.TheVariants.{Failure, IdentifierTooLong, InvalidIdentifier, InvalidIdentifierType}
+use Rattle.ifmap_ident.specs.declared.codes.Code.TheVariants.{InvalidMetadata, InvalidSchemaVersion, MetadataTooLong}
 use Rattle.ifmap_ident.specs.declared.errors.IdentError.{IdentError}
 use Rattle.ifmap_ident.specs.declared.errors.IdentError.TheVariants.{WrongKind, Invalid, TooLong, NoMemory}
 use Rattle.ifmap_ident.specs.declared.identifiers.Identifier.{Identifier}
@@ -35,13 +37,22 @@ use Rattle.ifmap_meta.specs.Stamps.{content_of}
 use Rattle.ifmap_meta.specs.Whole.{content_limit}
 use Rattle.ifmap_forms.specs.CheckLaws.{fail_done, if_done, need_done, pass_done, some_done, then_done}
 use Rattle.ifmap_forms.specs.Checks.{Check, IsDone, check_if, check_then, fail, need, need_some, pass}
-use Rattle.ifmap_forms.specs.Items.{before_list, from_list, identifier_check, identifiers_check, item_content, item_of, list_at, list_check, may_follow, only_identifier, start_content}
+use Rattle.ifmap_forms.specs.Items.{before_list, from_list, identifier_check, identifiers_check, item_content, item_of, list_at, list_check}
+use Rattle.ifmap_forms.specs.Items.{may_follow, only_identifier, start_content}
 use Rattle.ifmap_forms.specs.Scopes.{Scopes, scopes_below}
-use Rattle.ifmap_forms.specs.Tables.{Content, Form, Part, Table, beside, both, each_element, form_or, is_white_part, list_of, no_attributes, no_children, parts_of, read_form}
-use Rattle.ifmap_forms.specs.Values.{Field, depth_field, field_check, filter_check, filter_field, kind_of, kinds_check, kinds_field, lifetime_field, limit_field, name_field, number_of, piece_check, pieces_of, size_field, text_field, trimmed, within}
+use Rattle.ifmap_forms.specs.Tables.{Content, Form, Part, Table, beside, both, each_element, form_or, is_white_part, list_of, no_attributes}
+use Rattle.ifmap_forms.specs.Tables.{no_children, parts_of, read_form}
+use Rattle.ifmap_forms.specs.Values.{Field, depth_field, field_check, filter_check, filter_field, kind_of, kinds_check, kinds_field}
+use Rattle.ifmap_forms.specs.Values.{lifetime_field, limit_field, name_field, number_of, piece_check, pieces_of, size_field, text_field}
+use Rattle.ifmap_forms.specs.Values.{trimmed, within}
 use Rattle.ifmap_requests.specs.declared.requests.Request.{Request}
 use Rattle.ifmap_requests.specs.Published.{metadata_check, published_content, published_from}
-use Rattle.ifmap_requests.specs.RequestForms.{delete_form, delete_of, end_form, end_of, end_session_form, end_session_of, ifmap_space, named_request_check, new_session_form, new_session_of, notify_form, notify_of, other_request_check, poll_form, poll_of, publish_form, publish_of, publish_op_check, publisher_field, purge_form, purge_of, renew_form, renewal_of, request_check, search_attributes, search_form, search_of, session_attribute, session_field, subscribe_form, subscribe_of, subscribe_op_check, subscription_form, subscription_of, update_form, update_of}
+use Rattle.ifmap_requests.specs.RequestForms.{delete_form, delete_of, end_form, end_of, end_session_form, end_session_of, ifmap_space}
+use Rattle.ifmap_requests.specs.RequestForms.{named_request_check, new_session_form, new_session_of, notify_form, notify_of}
+use Rattle.ifmap_requests.specs.RequestForms.{other_request_check, poll_form, poll_of, publish_form, publish_of, publish_op_check}
+use Rattle.ifmap_requests.specs.RequestForms.{publisher_field, purge_form, purge_of, renew_form, renewal_of, request_check}
+use Rattle.ifmap_requests.specs.RequestForms.{search_attributes, search_form, search_of, session_attribute, session_field, subscribe_form}
+use Rattle.ifmap_requests.specs.RequestForms.{subscribe_of, subscribe_op_check, subscription_form, subscription_of, update_form, update_of}
 use Rattle.ifmap_requests.proofs.Characters.{characters_utf8}
 use Rattle.ifmap_requests.proofs.Sound.{AreSound, IsSound, from_sound, parts_sound, value_fit}
 

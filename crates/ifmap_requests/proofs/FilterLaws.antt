@@ -3,7 +3,8 @@
 -- (2) what is in scope, and the names that stand for something there; (3) the comparisons in a predicate, by what it is;
 -- (4) what a rule takes of fit tokens is fit, and so are the tokens that are left: comparisons, groups, joined parts, tests;
 -- (5) the filter.
-use Rattle.std.proofs.Common.{◌≡◌, ◌≢◌, ◌∙◌, ℕ, zero, suc, Bool, true, false, cond, List, [], ◌∷◌, ◌++◌, Option, None, Some, IfSome, codes, map, reverse, inl, inr, refl, ap, subst, sym}
+use Rattle.std.proofs.Common.{◌≡◌, ◌≢◌, ◌∙◌, ℕ, zero, suc, Bool, true, false, cond, List, [], ◌∷◌, ◌++◌, Option, None, Some, IfSome, codes}
+use Rattle.std.proofs.Common.{map, reverse, inl, inr, refl, ap, subst, sym}
 use Rattle.std.specs.Prelude.{◌==◌, encode_utf8_all, if◌then◌else◌}
 use Rattle.std.specs.List.{AllByRecursion, filter, flat_map, starts_with}
 use Rattle.std.specs.Map.{lookup}
@@ -29,12 +30,17 @@ use Rattle.ifmap_filter.specs.declared.filters.Predicate.TheOpen.{Predicate-F}
 use Rattle.ifmap_filter.specs.declared.filters.Test.{Test}
 use Rattle.ifmap_filter.specs.declared.filters.Filter.{Filter}
 use Rattle.ifmap_filter.specs.declared.tokens.Token.{Token}
-use Rattle.ifmap_filter.specs.declared.tokens.Token.TheVariants.{Any, OpenBracket, CloseBracket, OpenParenthesis, CloseParenthesis, EqualsSign, At, Name, Literal}
-use Rattle.ifmap_filter.specs.Grammar.{AreTests, AsksFor, Rule, StandsFor, TakesAnds, TakesComparison, TakesFactor, TakesGroup, TakesJoined, TakesMore, TakesOrs, TakesPredicate, TakesTest, and_word, join_of, or_word, space_of}
+use Rattle.ifmap_filter.specs.declared.tokens.Token.TheVariants.{Any, OpenBracket, CloseBracket, OpenParenthesis, CloseParenthesis}
+use Rattle.ifmap_filter.specs.declared.tokens.Token.TheVariants.{EqualsSign, At, Name, Literal}
+use Rattle.ifmap_filter.specs.Grammar.{AreTests, AsksFor, Rule, StandsFor, TakesAnds, TakesComparison, TakesFactor, TakesGroup, TakesJoined}
+use Rattle.ifmap_filter.specs.Grammar.{TakesMore, TakesOrs, TakesPredicate, TakesTest, and_word, join_of, or_word, space_of}
 use Rattle.ifmap_filter.specs.Texts.{Writes}
-use Rattle.ifmap_filter.specs.Tokens.{FrontToken, Takes, after_while, closed_literal, front_token, front_while, is_but, is_quote, literal_at, name_at, name_from, name_token, part_bytes, prefixed_name_at, symbol_of, token_at, with_symbol, without_white}
+use Rattle.ifmap_filter.specs.Tokens.{FrontToken, Takes, after_while, closed_literal, front_token, front_while, is_but, is_quote}
+use Rattle.ifmap_filter.specs.Tokens.{literal_at, name_at, name_from, name_token, part_bytes, prefixed_name_at, symbol_of, token_at}
+use Rattle.ifmap_filter.specs.Tokens.{with_symbol, without_white}
 use Rattle.ifmap_forms.specs.Scopes.{scopes_by}
-use Rattle.ifmap_requests.specs.FitFilters.{Comparison, IsFitComparison, IsFitFilter, IsFitPredicate, IsFitTest, comparison, comparisons, comparisons_of}
+use Rattle.ifmap_requests.specs.FitFilters.{Comparison, IsFitComparison, IsFitFilter, IsFitPredicate, IsFitTest, comparison, comparisons}
+use Rattle.ifmap_requests.specs.FitFilters.{comparisons_of}
 use Rattle.ifmap_requests.proofs.Characters.{are_characters, characters_utf8}
 
 -- ---- (1) tokens

@@ -2,7 +2,8 @@
 -- 1. What checks give, for what is composed of checks: it is enough to know it of the smallest ones.
 -- 2. Attributes, 3. identifiers and items, 4. metadata.
 -- 5. Operations and requests: each is one more form in a chain. 6. Bodies.
-use Rattle.std.proofs.Common.{◌≡◌, ◌≤◌, ◌+◌, ◌++◌, ℕ, Bool, true, false, List, [], ◌∷◌, Option, None, Some, IfSome, Result, Ok, Err, codes, length, refl, arith, subst, sym}
+use Rattle.std.proofs.Common.{◌≡◌, ◌≤◌, ◌+◌, ◌++◌, ℕ, Bool, true, false, List, [], ◌∷◌, Option, None, Some, IfSome, Result, Ok, Err, codes}
+use Rattle.std.proofs.Common.{length, refl, arith, subst, sym}
 use Rattle.std.specs.Prelude.{◌&&◌, nat_le}
 use Rattle.std.specs.List.{AllByRecursion, list_all}
 use Rattle.std.specs.Str.{bytes_eq}
@@ -29,18 +30,27 @@ use Rattle.ifmap_ident.specs.Parts.{has_only, value_of}
 use Rattle.ifmap_meta.specs.declared.metadata.Metadata.{Metadata}
 use Rattle.ifmap_meta.specs.Whole.{IsMadeOf, IsMetadata, level_limit}
 use Rattle.ifmap_forms.specs.Checks.{Check, check_if, check_then, fail, need, need_some, pass}
-use Rattle.ifmap_forms.specs.Items.{before_list, from_list, identifier_check, identifiers_check, item_content, item_of, list_at, list_check, may_follow, only_identifier, start_content}
+use Rattle.ifmap_forms.specs.Items.{before_list, from_list, identifier_check, identifiers_check, item_content, item_of, list_at, list_check}
+use Rattle.ifmap_forms.specs.Items.{may_follow, only_identifier, start_content}
 use Rattle.ifmap_forms.specs.Scopes.{Scopes, scopes_below}
-use Rattle.ifmap_forms.specs.Tables.{Both, Content, Form, Part, Table, beside, both, each_element, form_check, form_or, is_white_part, list_of, no_attributes, no_children, parts_of, read_form}
+use Rattle.ifmap_forms.specs.Tables.{Both, Content, Form, Part, Table, beside, both, each_element, form_check, form_or, is_white_part}
+use Rattle.ifmap_forms.specs.Tables.{list_of, no_attributes, no_children, parts_of, read_form}
 use Rattle.ifmap_filter.specs.declared.filters.Filter.{Filter}
 use Rattle.ifmap_ident.specs.declared.kinds.Kind.{Kind}
-use Rattle.ifmap_forms.specs.Values.{depth_field, filter_check, filter_field, kinds_field, size_field, Field, field_check, limit_field, name_field, number_of, text_field, within}
+use Rattle.ifmap_forms.specs.Values.{depth_field, filter_check, filter_field, kinds_field, size_field, Field, field_check, limit_field}
+use Rattle.ifmap_forms.specs.Values.{name_field, number_of, text_field, within}
 use Rattle.ifmap_requests.specs.declared.requests.Request.{Request}
 use Rattle.ifmap_requests.specs.Fit.{IsFitLimit, IsFitOp, IsFitRequest, IsFitSearch, IsFitSubscribeOp, MayBeFitFilter}
 use Rattle.ifmap_requests.specs.FitFilters.{IsFitFilter}
 use Rattle.ifmap_requests.specs.Means.{Means, scopes_from}
 use Rattle.ifmap_requests.specs.Published.{metadata_check, published_content, published_from}
-use Rattle.ifmap_requests.specs.RequestForms.{SearchValues, WithSession, search_from, delete_form, delete_of, end_form, end_of, end_session_form, end_session_of, ifmap_space, named_request_check, new_session_form, new_session_of, notify_form, notify_of, other_request_check, poll_form, poll_of, publish_form, publish_of, publish_op_check, publisher_field, purge_form, purge_of, renew_form, renewal_of, request_check, search_attributes, search_form, search_of, session_attribute, session_field, subscribe_form, subscribe_of, subscribe_op_check, subscription_form, subscription_of, update_form, update_of}
+use Rattle.ifmap_requests.specs.RequestForms.{SearchValues, WithSession, search_from, delete_form, delete_of, end_form, end_of}
+use Rattle.ifmap_requests.specs.RequestForms.{end_session_form, end_session_of, ifmap_space, named_request_check, new_session_form}
+use Rattle.ifmap_requests.specs.RequestForms.{new_session_of, notify_form, notify_of, other_request_check, poll_form, poll_of, publish_form}
+use Rattle.ifmap_requests.specs.RequestForms.{publish_of, publish_op_check, publisher_field, purge_form, purge_of, renew_form, renewal_of}
+use Rattle.ifmap_requests.specs.RequestForms.{request_check, search_attributes, search_form, search_of, session_attribute, session_field}
+use Rattle.ifmap_requests.specs.RequestForms.{subscribe_form, subscribe_of, subscribe_op_check, subscription_form, subscription_of}
+use Rattle.ifmap_requests.specs.RequestForms.{update_form, update_of}
 use Rattle.ifmap_requests.proofs.FilterLaws.{AreFitDeclared, IsFitScope, filter_fit, scopes_fit}
 use Rattle.ifmap_requests.proofs.Sound.{AreSound, IsSound, before_sound, from_sound, inner_sound, parts_sound, value_fit}
 

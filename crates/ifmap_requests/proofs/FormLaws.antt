@@ -2,7 +2,8 @@
 -- 1. A form by the name of its element.
 -- 2. Searches with a text before their attributes.
 -- 3. The attributes of a search.
-use Rattle.std.proofs.Common.{◌≡◌, ℕ, ◌++◌, Bool, true, false, List, [], ◌∷◌, Option, Result, Ok, Err, codes, inl, inr, refl, ap, subst, sym}
+use Rattle.std.proofs.Common.{◌≡◌, ℕ, ◌++◌, Bool, true, false, List, [], ◌∷◌, Option, Result, Ok, Err, codes, inl, inr, refl, ap, subst}
+use Rattle.std.proofs.Common.{sym}
 use Rattle.std.specs.List.{list_all}
 use Rattle.ifmap_elem.specs.declared.elements.Element.{Element}
 use Rattle.ifmap_elem.specs.declared.elements.Name.{Name}
@@ -17,12 +18,14 @@ use Rattle.ifmap_reader.specs.declared.scoping.Scope.{Scope}
 use Rattle.ifmap_search.specs.declared.searches.Search.{Search}
 use Rattle.ifmap_forms.specs.declared.errors.FormError.{FormError}
 use Rattle.ifmap_forms.specs.declared.errors.FormError.TheVariants.{Named, NoMemory}
-use Rattle.ifmap_forms.specs.AnswerLaws.{found_after, found_alone, found_beside, refused_alone, refused_at_field, refused_beside, refused_test}
+use Rattle.ifmap_forms.specs.AnswerLaws.{found_after, found_alone, found_beside, refused_alone, refused_at_field, refused_beside}
+use Rattle.ifmap_forms.specs.AnswerLaws.{refused_test}
 use Rattle.ifmap_forms.specs.Answers.{IsChecked, IsRefused}
 use Rattle.ifmap_forms.specs.Checks.{Check, check_if, check_then, need, pass}
 use Rattle.ifmap_forms.specs.Items.{start_check, start_content}
 use Rattle.ifmap_forms.specs.Scopes.{Scopes}
-use Rattle.ifmap_forms.specs.Tables.{Both, Form, Table, beside, both, form_check, form_or, is_white_part, no_attributes, no_children, parts_of, read_form}
+use Rattle.ifmap_forms.specs.Tables.{Both, Form, Table, beside, both, form_check, form_or, is_white_part, no_attributes, no_children}
+use Rattle.ifmap_forms.specs.Tables.{parts_of, read_form}
 use Rattle.ifmap_forms.specs.Values.{Field, depth_field, field_check, filter_field, kinds_field, size_field}
 use Rattle.ifmap_requests.specs.declared.searching.Bounds.{Bounds}
 use Rattle.ifmap_requests.specs.RequestForms.{SearchValues, search_attributes, search_check, search_from, values_of}

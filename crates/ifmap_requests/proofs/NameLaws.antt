@@ -2,7 +2,8 @@
 -- 1. The operations of a publish.
 -- 2. The operations of a subscribe.
 -- 3. Requests.
-use Rattle.std.proofs.Common.{◌≡◌, ◌∙◌, Bool, true, false, cond, List, ℕ, Option, None, Some, Result, Err, codes, inl, inr, refl, sym, subst}
+use Rattle.std.proofs.Common.{◌≡◌, ◌∙◌, Bool, true, false, cond, List, ℕ, Option, None, Some, Result, Err, codes, inl, inr, refl, sym}
+use Rattle.std.proofs.Common.{subst}
 use Rattle.std.specs.Prelude.{◌&&◌}
 use Rattle.std.specs.Str.{bytes_eq}
 use Rattle.std.proofs.lemmas.Bool.{cases_Bool}
@@ -25,7 +26,12 @@ use Rattle.ifmap_requests.specs.declared.operations.Operation.TheVariants as ope
 use Rattle.ifmap_requests.specs.declared.publishing.PublishOp.{PublishOp}
 use Rattle.ifmap_requests.specs.declared.requests.Request.{Request}
 use Rattle.ifmap_requests.specs.declared.requests.SubscribeOp.{SubscribeOp}
-use Rattle.ifmap_requests.specs.RequestForms.{ifmap_space, asking_name, delete_form, delete_of, end_form, end_of, end_session_form, end_session_of, named_request_check, new_session_form, new_session_of, notify_form, notify_of, operation_of, other_request_check, poll_form, poll_of, publish_form, publish_of, publish_op_check, purge_form, purge_of, renew_form, renewal_of, request_check, search_form, search_of, subscribe_form, subscribe_of, subscribe_op_check, subscription_form, subscription_of, update_form, update_of}
+use Rattle.ifmap_requests.specs.RequestForms.{ifmap_space, asking_name, delete_form, delete_of, end_form, end_of, end_session_form}
+use Rattle.ifmap_requests.specs.RequestForms.{end_session_of, named_request_check, new_session_form, new_session_of, notify_form, notify_of}
+use Rattle.ifmap_requests.specs.RequestForms.{operation_of, other_request_check, poll_form, poll_of, publish_form, publish_of}
+use Rattle.ifmap_requests.specs.RequestForms.{publish_op_check, purge_form, purge_of, renew_form, renewal_of, request_check, search_form}
+use Rattle.ifmap_requests.specs.RequestForms.{search_of, subscribe_form, subscribe_of, subscribe_op_check, subscription_form}
+use Rattle.ifmap_requests.specs.RequestForms.{subscription_of, update_form, update_of}
 use Rattle.ifmap_requests.proofs.FormLaws.{by_form, past_form}
 
 -- ---- 1. operations

@@ -1,165 +1,53 @@
 -- Each check of a request finds one thing at most.
--- 1. Identifiers by the law of their crate.
--- 2. Tables, lists of children and forms, over what they are made of.
--- 3. Each attribute; filters by the law of their crate.
--- 4. Metadata, by their definition.
--- 5. Identifiers and lists as children.
--- 6. Operations and requests: each is one more form in a chain.
-use Rattle.std.proofs.Common.{◌≡◌, ◌⊎◌, ◌∙◌, ◌+◌, ◌^◌, ◌++◌, ℕ, true, false, List, [], ◌∷◌, Option, None, Some, Result, Ok, Err, codes, length, min, inl, inr, refl, ap, arith, subst, sym}
+-- 1. Each attribute; filters by the law of their crate.
+-- 2. Metadata, by their definition.
+-- 3. What is published, over what it is made of.
+-- 4. Operations and requests: each is one more form in a chain.
+use Rattle.std.proofs.Common.{◌≡◌, ◌⊎◌, ◌∙◌, ◌^◌, ℕ, true, false, List, [], ◌∷◌, Option, None, Some, Result, Ok, Err, codes, length, min}
+use Rattle.std.proofs.Common.{inl, inr, refl, ap, arith, subst, sym}
 use Rattle.std.specs.Prelude.{IsSome, ◌&&◌, nat_le, nat_lt}
 use Rattle.std.specs.List.{list_all}
 use Rattle.std.specs.Str.{bytes_eq}
-use Rattle.ifmap_filter.specs.Holding.{is_name}
 use Rattle.ifmap_elem.specs.Chars.{is_white}
-use Rattle.ifmap_elem.specs.declared.elements.Child.TheOpen.{Child-F}
 use Rattle.ifmap_elem.specs.declared.elements.Element.{Element}
 use Rattle.ifmap_reader.specs.declared.scoping.Scope.{Scope}
 use Rattle.ifmap_filter.specs.declared.filters.Filter.{Filter}
 use Rattle.ifmap_filter.specs.Laws.{OneFilter}
 use Rattle.ifmap_filter.specs.Texts.{Writes}
 use Rattle.ifmap_ident.specs.declared.codes.Code.{Code}
-use Rattle.ifmap_ident.specs.declared.codes.Code.TheVariants.{AccessDenied, Failure, InvalidIdentifier, InvalidIdentifierType, IdentifierTooLong, InvalidMetadata, InvalidSchemaVersion, InvalidSessionID, MetadataTooLong, SearchResultsTooBig, PollResultsTooBig, SystemError}
-use Rattle.ifmap_ident.specs.declared.errors.IdentError.{IdentError}
-use Rattle.ifmap_ident.specs.declared.errors.IdentError.TheVariants.{NoMemory}
-use Rattle.ifmap_ident.specs.declared.identifiers.Identifier.{Identifier}
-use Rattle.ifmap_ident.specs.Canon.{IsAnswer}
-use Rattle.ifmap_ident.specs.Laws.{AreOneAnswer}
-use Rattle.ifmap_ident.specs.Parts.{has_only, value_of}
+use Rattle.ifmap_ident.specs.declared.codes.Code.TheVariants.{AccessDenied, Failure, InvalidIdentifier, InvalidIdentifierType}
+use Rattle.ifmap_ident.specs.declared.codes.Code.TheVariants.{IdentifierTooLong, InvalidMetadata, InvalidSchemaVersion, InvalidSessionID}
+use Rattle.ifmap_ident.specs.declared.codes.Code.TheVariants.{MetadataTooLong, SearchResultsTooBig, PollResultsTooBig, SystemError}
 use Rattle.ifmap_meta.specs.declared.metadata.Cardinality.{Cardinality}
 use Rattle.ifmap_meta.specs.declared.metadata.Metadata.{Metadata}
 use Rattle.ifmap_meta.specs.Cardinality.{cardinality_of}
 use Rattle.ifmap_meta.specs.Whole.{IsMadeOf}
 use Rattle.ifmap_forms.specs.CheckLaws.{fail_single, if_single, need_single, pass_single, some_single, then_single}
 use Rattle.ifmap_forms.specs.Checks.{Check, IsSingle, check_if, check_then, fail, need, need_some, pass}
-use Rattle.ifmap_forms.specs.Items.{before_list, from_list, identifier_check, identifier_code, identifiers_check, item_content, item_of, list_at, list_check, may_follow, only_identifier, start_content}
+use Rattle.ifmap_forms.specs.Items.{before_list, from_list, identifier_check, identifiers_check, item_of, list_at}
 use Rattle.ifmap_forms.specs.Scopes.{Scopes, scopes_below}
-use Rattle.ifmap_forms.specs.Tables.{Content, Form, Part, Table, beside, both, each_element, form_or, is_white_part, list_of, no_attributes, no_children, parts_of, read_form}
-use Rattle.ifmap_forms.specs.Values.{Field, FilterDefect, depth_field, field_check, filter_check, filter_field, kinds_field, lifetime_field, limit_field, name_field, size_field, kind_of, kinds_check, number_of, piece_check, pieces_of, read_depth, read_filter, read_kinds, read_lifetime, read_limit, read_name, read_size, read_text, trimmed, within}
+use Rattle.ifmap_forms.specs.SingleLaws.{OneOfTable, OneOfContent, beside_single, or_single, each_single, read_text_single, list_at_single}
+use Rattle.ifmap_forms.specs.SingleLaws.{no_attributes_single, no_children_single, identifiers_single, start_single, item_single}
+use Rattle.ifmap_forms.specs.Tables.{beside, both, form_or, list_of, no_attributes}
+use Rattle.ifmap_forms.specs.Values.{FilterDefect, depth_field, filter_check, filter_field, kinds_field, lifetime_field, limit_field}
+use Rattle.ifmap_forms.specs.Values.{name_field, size_field, kind_of, kinds_check, number_of, piece_check, pieces_of, read_depth}
+use Rattle.ifmap_forms.specs.Values.{read_filter, read_kinds, read_lifetime, read_limit, read_name, read_size, trimmed, within}
 use Rattle.ifmap_requests.specs.declared.requests.Request.{Request}
 use Rattle.ifmap_requests.specs.Published.{MetadataDefect, metadata_check, published_content, published_from}
-use Rattle.ifmap_requests.specs.RequestForms.{ifmap_space, delete_form, delete_of, end_form, end_of, end_session_form, end_session_of, named_request_check, new_session_form, new_session_of, notify_form, notify_of, other_request_check, poll_form, poll_of, publish_form, publish_of, publish_op_check, publisher_field, purge_form, purge_of, renew_form, renewal_of, request_check, search_attributes, search_form, search_of, session_attribute, session_field, subscribe_form, subscribe_of, subscribe_op_check, subscription_form, subscription_of, update_form, update_of}
+use Rattle.ifmap_requests.specs.RequestForms.{ifmap_space, delete_form, delete_of, end_form, end_of, end_session_form, end_session_of}
+use Rattle.ifmap_requests.specs.RequestForms.{named_request_check, new_session_form, new_session_of, notify_form, notify_of}
+use Rattle.ifmap_requests.specs.RequestForms.{other_request_check, poll_form, poll_of, publish_form, publish_of, publish_op_check}
+use Rattle.ifmap_requests.specs.RequestForms.{publisher_field, purge_form, purge_of, renew_form, renewal_of, request_check}
+use Rattle.ifmap_requests.specs.RequestForms.{search_attributes, search_form, search_of, session_attribute, session_field, subscribe_form}
+use Rattle.ifmap_requests.specs.RequestForms.{subscribe_of, subscribe_op_check, subscription_form, subscription_of, update_form, update_of}
 
--- ---- 1. identifiers
-
-abbrev ok_of : Identifier → Result Identifier Code
-ok_of i = Ok i
+-- ---- 1. values
 
 abbrev filter_found : Filter → Result Filter Code
 filter_found filter = Ok filter
 
 abbrev filter_refused : Code → Result Filter Code
 filter_refused code = Err code
-
--- the same answers of another type of errors
-same_found : (i j : Identifier) → i ≡ j → ok_of i ≡ ok_of j
-same_found i j e = ap ok_of e
-
-module _ (one_answer : (e : Element) (one other : Result Identifier IdentError) → IsAnswer e one → IsAnswer e other
-    → AreOneAnswer one other) where
-  abbrev answer : Identifier → Result Identifier IdentError
-  answer i = Ok i
-
-  abbrev refused : IdentError → Result Identifier IdentError
-  refused error = Err error
-
-  -- want of memory has no code
-  no_code : (code : Code) → identifier_code NoMemory ≡ Some code → ⊥
-  no_code code e = let wrong : identifier_code NoMemory ≡ Some code = e in cc
-
-  not_memory : (error : IdentError) (code : Code) → identifier_code error ≡ Some code → refused error ≡ refused NoMemory → ⊥
-  not_memory error code coded e =
-      let same : error ≡ NoMemory = cc in
-      no_code code (subst (λ (x : IdentError). identifier_code x ≡ Some code) same coded)
-
-  pub identifier_single : (e : Element) → IsSingle (identifier_check e)
-  identifier_single e (Ok i) (Ok j) a b = elim (one_answer e (answer i) (answer j) a b) [
-    | inl same ↦ let s : answer i ≡ answer j = same in let t : i ≡ j = cc in same_found i j t
-    | inr other ↦ elim other [
-      | inl m ↦ let wrong : answer i ≡ refused NoMemory = m in cc
-      | inr m ↦ let wrong : answer j ≡ refused NoMemory = m in cc
-    ]
-  ]
-  identifier_single e (Ok i) (Err c) a b = elim (one_answer e (answer i) (refused b.0) a b.2) [
-    | inl same ↦ let wrong : answer i ≡ refused b.0 = same in cc
-    | inr other ↦ elim other [
-      | inl m ↦ let wrong : answer i ≡ refused NoMemory = m in cc
-      | inr m ↦ absurd (not_memory b.0 c b.1 m)
-    ]
-  ]
-  identifier_single e (Err c) (Ok j) a b = elim (one_answer e (refused a.0) (answer j) a.2 b) [
-    | inl same ↦ let wrong : refused a.0 ≡ answer j = same in cc
-    | inr other ↦ elim other [
-      | inl m ↦ absurd (not_memory a.0 c a.1 m)
-      | inr m ↦ let wrong : answer j ≡ refused NoMemory = m in cc
-    ]
-  ]
-  identifier_single e (Err c) (Err d) a b = elim (one_answer e (refused a.0) (refused b.0) a.2 b.2) [
-    | inl same ↦
-        let s : refused a.0 ≡ refused b.0 = same in
-        let errors : a.0 ≡ b.0 = cc in
-        let coded : Some c ≡ Some d = sym a.1 ∙ (ap identifier_code errors ∙ b.1) in
-        cc
-    | inr other ↦ elim other [
-      | inl m ↦ absurd (not_memory a.0 c a.1 m)
-      | inr m ↦ absurd (not_memory b.0 d b.1 m)
-    ]
-  ]
-
--- ---- 2. tables, children, forms
-
-abbrev pub OneOfField : {X : Type 0} → Field X → Type 0
-OneOfField field = (scope : Scope) (text : Option (List ℕ)) → IsSingle (field.reads scope text)
-
-abbrev pub OneOfTable : {X : Type 0} → Table X → Type 0
-OneOfTable table = (scope : Scope) (e : Element) → IsSingle (table.reads scope e)
-
-abbrev pub OneOfContent : {X : Type 0} → Content X → Type 0
-OneOfContent content = (scopes : Scopes) (parts : List Part) → IsSingle (content scopes parts)
-
-module _ {X Y : Type 0} (field : Field X) (table : Table Y) where
-  pub beside_single : OneOfField field → OneOfTable table → OneOfTable (beside field table)
-  beside_single f t scope e =
-      then_single (field_check field scope e) (λ x. check_then (table.reads scope e) (λ y. pass (both x y)))
-      (f scope (value_of field.local e))
-      (λ x. then_single (table.reads scope e) (λ y. pass (both x y)) (t scope e) (λ y. pass_single (both x y)))
-
-module _ {A C : Type 0} (form : Form A C) where
-  form_single : OneOfTable form.attributes → OneOfContent form.content → (scopes : Scopes) (e : Element)
-      → IsSingle (read_form form scopes e)
-  form_single t s scopes e =
-      then_single (form.attributes.reads (scopes []) e)
-      (λ a. need (has_only (form.passed_over ++ form.attributes.locals) e) Failure
-      (check_then (form.content scopes (parts_of e)) (λ c. pass (both a c))))
-      (t (scopes []) e)
-      (λ a. need_single (has_only (form.passed_over ++ form.attributes.locals) e) Failure
-      (check_then (form.content scopes (parts_of e)) (λ c. pass (both a c)))
-      (then_single (form.content scopes (parts_of e)) (λ c. pass (both a c)) (s scopes (parts_of e))
-      (λ c. pass_single (both a c))))
-
-module _ {X A C : Type 0} (form : Form A C) (make : A → C → X) where
-  pub or_single : OneOfTable form.attributes → OneOfContent form.content → (scopes : Scopes) (e : Element) (other : Check X)
-      → IsSingle other → IsSingle (form_or form make scopes e other)
-  or_single t s scopes e other single =
-      if_single (is_name e.name form.name) (check_then (read_form form scopes e) (λ x. pass (make x.first x.others))) other
-      (then_single (read_form form scopes e) (λ x. pass (make x.first x.others)) (form_single form t s scopes e)
-      (λ x. pass_single (make x.first x.others)))
-      single
-
-module _ {X : Type 0} (one : ℕ → Element → Check X) (s : (index : ℕ) (e : Element) → IsSingle (one index e)) where
-  pub each_single : (index : ℕ) (parts : List Part) → IsSingle (each_element one index parts)
-  each_single index [] = pass_single []
-  each_single index (Child-F.Element e ∷ parts) =
-      then_single (one index e) (λ x. check_then (each_element one (index + 1) parts) (λ xs. pass (x ∷ xs))) (s index e)
-      (λ x. then_single (each_element one (index + 1) parts) (λ xs. pass (x ∷ xs)) (each_single (index + 1) parts)
-      (λ xs. pass_single (x ∷ xs)))
-  each_single index (Child-F.Text text ∷ parts) =
-      need_single (list_all is_white text) Failure (each_element one (index + 1) parts) (each_single (index + 1) parts)
-
--- ---- 3. values
-
-read_text_single : (scope : Scope) (text : Option (List ℕ)) → IsSingle (read_text text)
-read_text_single scope None = fail_single Failure
-read_text_single scope (Some text) = pass_single text
 
 read_name_single : (scope : Scope) (text : Option (List ℕ)) → IsSingle (read_name text)
 read_name_single scope None = fail_single Failure
@@ -239,7 +127,7 @@ module _ (one_filter : OneFilter) where
       then_single (filter_check scope text) (λ filter. pass (Some filter)) (filter_single scope text)
       (λ filter. pass_single (Some filter))
 
--- ---- 4. metadata
+-- ---- 2. metadata
 
 -- metadata have no code but two
 metadata_codes : (code : Code) (e : Element) → MetadataDefect code e → (code ≡ InvalidMetadata) ⊎ (code ≡ MetadataTooLong)
@@ -307,65 +195,20 @@ metadata_single e (Ok m) (Err d) a b = absurd (defect_has_none e m d b a)
 metadata_single e (Err c) (Ok n) a b = absurd (defect_has_none e n c a b)
 metadata_single e (Err c) (Err d) a b = ap metadata_refused (one_defect e c d a b)
 
--- ---- 5. children
-
-module _ {X : Type 0} (one : Element → Check X) (s : (e : Element) → IsSingle (one e)) where
-  list_check_single : (e : Element) → IsSingle (list_check one e)
-  list_check_single e =
-      need_single (has_only [] e) Failure (each_element (λ index inner. one inner) 0 (parts_of e))
-      (each_single (λ index inner. one inner) (λ index inner. s inner) 0 (parts_of e))
-
-  list_at_single : (parts : List Part) → IsSingle (list_at one parts)
-  list_at_single [] = pass_single None
-  list_at_single (Child-F.Element e ∷ after) =
-      then_single (list_check one e) (λ xs. need (list_all is_white_part after) Failure (pass (Some xs))) (list_check_single e)
-      (λ xs. need_single (list_all is_white_part after) Failure (pass (Some xs)) (pass_single (Some xs)))
-  list_at_single (Child-F.Text text ∷ after) = fail_single Failure
-
-no_attributes_single : OneOfTable no_attributes
-no_attributes_single scope e = pass_single tt
-
-no_children_single : OneOfContent no_children
-no_children_single scopes parts = need_single (list_all is_white_part parts) Failure (pass tt) (pass_single tt)
+-- ---- 3. what is published
 
 module _ (identifier_one : (e : Element) → IsSingle (identifier_check e)) where
-  identifiers_single : (most : ℕ) (before : List Identifier) (parts : List Part) → IsSingle (identifiers_check most before parts)
-  identifiers_single most before [] = pass_single []
-  identifiers_single most before (Child-F.Element e ∷ parts) =
-      then_single (identifier_check e)
-      (λ i. need (may_follow most before i) Failure
-      (check_then (identifiers_check most (before ++ i ∷ []) parts) (λ others. pass (i ∷ others))))
-      (identifier_one e)
-      (λ i. need_single (may_follow most before i) Failure
-      (check_then (identifiers_check most (before ++ i ∷ []) parts) (λ others. pass (i ∷ others)))
-      (then_single (identifiers_check most (before ++ i ∷ []) parts) (λ others. pass (i ∷ others))
-      (identifiers_single most (before ++ i ∷ []) parts) (λ others. pass_single (i ∷ others))))
-  identifiers_single most before (Child-F.Text text ∷ parts) =
-      need_single (list_all is_white text) Failure (identifiers_check most before parts) (identifiers_single most before parts)
-
-  start_single : OneOfContent start_content
-  start_single scopes parts =
-      then_single (identifiers_check 1 [] parts) (λ identifiers. need_some Failure (only_identifier identifiers) (λ i. pass i))
-      (identifiers_single 1 [] parts)
-      (λ identifiers. some_single Failure (only_identifier identifiers) (λ i. pass i) (λ i. pass_single i))
-
-  item_single : OneOfContent item_content
-  item_single scopes parts =
-      then_single (identifiers_check 2 [] parts) (λ identifiers. need_some Failure (item_of identifiers) (λ item. pass item))
-      (identifiers_single 2 [] parts)
-      (λ identifiers. some_single Failure (item_of identifiers) (λ item. pass item) (λ item. pass_single item))
-
   published_single : OneOfContent published_content
   published_single scopes parts =
       then_single (identifiers_check 2 [] (before_list parts))
       (λ identifiers. check_then (list_at metadata_check (from_list parts)) (λ list. published_from identifiers list))
-      (identifiers_single 2 [] (before_list parts))
+      (identifiers_single identifier_one 2 [] (before_list parts))
       (λ identifiers. then_single (list_at metadata_check (from_list parts)) (λ list. published_from identifiers list)
       (list_at_single metadata_check metadata_single (from_list parts))
       (λ list. some_single Failure (item_of identifiers) (λ item. need_some Failure list (λ elements. pass (both item elements)))
       (λ item. some_single Failure list (λ elements. pass (both item elements)) (λ elements. pass_single (both item elements)))))
 
--- ---- 6. operations and requests
+-- ---- 4. operations and requests
 
 module _ (identifier_one : (e : Element) → IsSingle (identifier_check e)) (one_filter : OneFilter) where
   search_attributes_single : OneOfTable search_attributes

@@ -1,5 +1,6 @@
 -- What is in an element that a document can have, of so many levels at most: values of characters, and such elements again.
-use Rattle.std.proofs.Common.{◌≡◌, ◌≤◌, ◌++◌, ℕ, suc, Bool, true, false, List, [], ◌∷◌, map, Option, None, Some, IfSome, refl, arith, subst, sym}
+use Rattle.std.proofs.Common.{◌≡◌, ◌≤◌, ◌++◌, ℕ, suc, Bool, true, false, List, [], ◌∷◌, map, Option, None, Some, IfSome, refl, arith, subst}
+use Rattle.std.proofs.Common.{sym}
 use Rattle.std.specs.Prelude.{option_map, if◌then◌else◌}
 use Rattle.std.specs.List.{AllByRecursion, find, flat_map}
 use Rattle.ifmap_lemmas.specs.Members.{all_both}

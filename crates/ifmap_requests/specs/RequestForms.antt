@@ -17,8 +17,10 @@ use Rattle.ifmap_requests.specs.declared.searching.Bounds.{Bounds}
 use Rattle.ifmap_forms.specs.Checks.{Check, check_then, fail, need, pass}
 use Rattle.ifmap_forms.specs.Items.{item_content, start_check, start_content}
 use Rattle.ifmap_forms.specs.Scopes.{Scopes}
-use Rattle.ifmap_forms.specs.Tables.{Both, Content, Form, Table, bare_form, beside, both, form_or, list_of, no_attributes, no_children, parts_of}
-use Rattle.ifmap_forms.specs.Values.{Field, depth_field, filter_field, kinds_field, lifetime_field, limit_field, name_field, size_field, text_field}
+use Rattle.ifmap_forms.specs.Tables.{Both, Content, Form, Table, bare_form, beside, both, form_or, list_of, no_attributes, no_children}
+use Rattle.ifmap_forms.specs.Tables.{parts_of}
+use Rattle.ifmap_forms.specs.Values.{Field, depth_field, filter_field, kinds_field, lifetime_field, limit_field, name_field, size_field}
+use Rattle.ifmap_forms.specs.Values.{text_field}
 use Rattle.ifmap_requests.specs.declared.asking.Asking.{Asking}
 use Rattle.ifmap_requests.specs.declared.asking.Asking.TheVariants as asking
 use Rattle.ifmap_requests.specs.declared.operations.Operation.{Operation}

@@ -1,7 +1,8 @@
 -- The order of attachments is total, and having one key is an equivalence.
 use Rattle.std.proofs.Common.{◌≡◌, refl, sym, Bool, true, false, ◌&&◌, ◌||◌, inl, inr}
 use Rattle.std.proofs.lemmas.Bool.{and_parts, cases_Bool}
-use Rattle.std.proofs.lemmas.Cmp.{and_equiv, lists_equiv, lists_total, nat_list_cmp_total, nat_list_eq_equiv, on_equiv, on_total, then_total}
+use Rattle.std.proofs.lemmas.Cmp.{and_equiv, lists_equiv, lists_total, nat_list_cmp_total, nat_list_eq_equiv, on_equiv, on_total}
+use Rattle.std.proofs.lemmas.Cmp.{then_total}
 use Rattle.std.proofs.lemmas.Map.Text.{is_eq-slice_cmp}
 use Rattle.std.specs.Cmp.{IsEquivalence, IsTotalOrder, bool_eq_equiv}
 use Rattle.std.specs.Cmp.Lexicographic.{lists_ties}

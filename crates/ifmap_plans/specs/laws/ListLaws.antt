@@ -20,7 +20,8 @@ list_filter p list l = record {
   keys = distinct_filter same_key p list l.keys;
 }
 
-pub rising_put : (s : Stored) (list : List Stored) → IsStrictlySortedBy stored_order list → IsStrictlySortedBy stored_order (put stored_order s list)
+pub rising_put : (s : Stored) (list : List Stored) → IsStrictlySortedBy stored_order list
+    → IsStrictlySortedBy stored_order (put stored_order s list)
 rising_put s list up = put_sorted Stored stored_order stored_total s list up
 
 -- where nothing has its key

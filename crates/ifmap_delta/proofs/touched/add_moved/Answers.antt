@@ -3,7 +3,8 @@ use Rattle.ifmap_fresh.specs.Collected.{numbers_of}
 use Rattle.ifmap_region.specs.Marks.{mark_of, over}
 use Rattle.ifmap_delta.specs.Sights.{sight_of}
 use Rattle.ifmap_delta.specs.Touched.{brought, looked_along}
-use Rattle.ifmap_delta.proofs.Along.{brought_more, weight_more, weight_within}
+use Rattle.ifmap_delta.proofs.Along.{weight_more, weight_within}
+use Rattle.ifmap_fresh.specs.laws.AlongLaws.{brought_more}
 use Rattle.ifmap_delta.proofs.touched.add_moved.Goals as goal
 
 pub returns-in_err-add_brought-clause-steps : goal.returns-in_err-add_brought-clause-steps

@@ -7,7 +7,7 @@ use Rattle.ifmap_region.specs.Marks.{mark_of}
 use Rattle.ifmap_delta.specs.Shown.{patched}
 use Rattle.ifmap_delta.specs.Sights.{HaveMarks, sight_of}
 use Rattle.ifmap_delta.specs.Touched.{is_looked_at_either, moved, planned}
-use Rattle.ifmap_delta.proofs.Ordered.{came, rises, stays}
+use Rattle.ifmap_fresh.specs.laws.OrderedLaws.{came, rises, stays}
 use Rattle.ifmap_delta.proofs.Settling.{gathered_canon, in_patch, settled}
 use Rattle.ifmap_delta.proofs.touched.touched_items.Goals as goal
 

@@ -7,7 +7,7 @@ use Rattle.ifmap_lemmas.specs.Having.{Has}
 use Rattle.ifmap_region.specs.Bounds.{within_nothing}
 use Rattle.ifmap_fresh.specs.Collected.{AreLookedAt}
 use Rattle.ifmap_fresh.specs.Linking.{IsReachedAt}
-use Rattle.ifmap_fresh.proofs.Ordered.{came, rises, stays}
+use Rattle.ifmap_fresh.specs.laws.OrderedLaws.{came, rises, stays}
 use Rattle.ifmap_fresh.proofs.Unnumbered.{nothing}
 use Rattle.ifmap_fresh.proofs.finding.items_looked_at.Goals as goal
 

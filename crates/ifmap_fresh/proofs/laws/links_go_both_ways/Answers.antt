@@ -1,4 +1,4 @@
-use Rattle.ifmap_fresh.proofs.Joining.{no_loop, symmetric}
+use Rattle.ifmap_fresh.specs.laws.JoiningLaws.{no_loop, symmetric}
 use Rattle.ifmap_fresh.proofs.laws.links_go_both_ways.Goals as goal
 
 pub returns-clause-symmetric : goal.returns-clause-symmetric

@@ -14,7 +14,8 @@ loop-row-preserved c =
     let x : Stored = c.row-item.result in
     elim c.if-not-is_among.branch [
       | then-not-is_among+in_ok-share+in_ok-push w ↦
-          ap (λ v. v.items) w.kept-is ∙ w.in_ok-push.ensures.items ∙ ap (λ (y : Stored). c.loop-row.kept.items ++ y ∷ []) w.in_ok-share.ensures
+          ap (λ v. v.items) w.kept-is ∙ w.in_ok-push.ensures.items
+          ∙ ap (λ (y : Stored). c.loop-row.kept.items ++ y ∷ []) w.in_ok-share.ensures
           ∙ kept_more p c.args.stored.now i x c.loop-row-test.true c.row-item.is c.loop-row.kept.items c.loop-row.invariant
           (ap not (sym c.is_among.ensures ∙ w.if-not-is_among.true))
       | else-not-is_among w ↦

@@ -6,7 +6,8 @@ use Rattle.ifmap_publish.proofs.applying.place_of_key.Goals as goal
 
 pub has_key_of-requires-clause-other : goal.has_key_of-requires-clause-other
 has_key_of-requires-clause-other c =
-    subst IsWhole (sym c.index-list-i.is) (all_at IsWhole c.args.list.now c.loop-i.i c.index-list-i.result c.requires.sound.whole c.loop-i-test.true)
+    subst IsWhole (sym c.index-list-i.is)
+    (all_at IsWhole c.args.list.now c.loop-i.i c.index-list-i.result c.requires.sound.whole c.loop-i-test.true)
 
 pub returns-then-has_key_of : goal.returns-then-has_key_of
 returns-then-has_key_of c = (

@@ -28,11 +28,13 @@ loop-row-preserved c =
     let rest : List Stored = c.loop-row.rest.now in
     let next : List Stored = c.from_row-rest.result.now in
     let now : list_any (same_stored x) next ≡ list_any (same_stored x) other =
-    tells_now one other rest next i x c.requires.one c.loop-row-test.true c.row-item.is c.loop-row.invariant.same c.from_row-rest.ensures.same in
+    tells_now one other rest next i x c.requires.one c.loop-row-test.true c.row-item.is c.loop-row.invariant.same
+    c.from_row-rest.ensures.same in
     record {
       made = elim c.if-not-begins_with.branch [
         | then-not-begins_with+in_ok-share+in_ok-push w ↦
-            ap (λ v. v.items) w.made-is ∙ w.in_ok-push.ensures.items ∙ ap (λ (y : Stored). c.loop-row.made.items ++ y ∷ []) w.in_ok-share.ensures
+            ap (λ v. v.items) w.made-is ∙ w.in_ok-push.ensures.items
+            ∙ ap (λ (y : Stored). c.loop-row.made.items ++ y ∷ []) w.in_ok-share.ensures
             ∙ kept_more p one i x c.loop-row-test.true c.row-item.is c.loop-row.made.items c.loop-row.invariant.made
             (ap not (sym now ∙ sym c.begins_with.ensures ∙ w.if-not-begins_with.true))
         | else-not-begins_with w ↦

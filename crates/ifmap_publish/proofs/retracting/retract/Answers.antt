@@ -5,15 +5,18 @@ use Rattle.ifmap_publish.proofs.Retracted.{all_sound, all_told, all_up, entry_of
 use Rattle.ifmap_publish.proofs.retracting.retract.Goals as goal
 
 pub loop-item-init : goal.loop-item-init
-loop-item-init g c = so_far_none c.args.who.now (g.G.View.rows c.args.graph.now) c.new-changes.result.items c.args.steps.now c.new-changes.ensures.items
+loop-item-init g c = so_far_none c.args.who.now (g.G.View.rows c.args.graph.now) c.new-changes.result.items c.args.steps.now
+    c.new-changes.ensures.items
 
 pub loop-item-preserved : goal.loop-item-preserved
-loop-item-preserved g c = so_far_next c.args.who.now (g.G.View.rows c.args.graph.now) c.loop-item.changes.items c.add_retracted.new.changes.items
+loop-item-preserved g c =
+    so_far_next c.args.who.now (g.G.View.rows c.args.graph.now) c.loop-item.changes.items c.add_retracted.new.changes.items
     (option_copied c.loop-item.last) c.args.steps.now c.loop-item.steps c.item_after.new.steps c.in-Some.item.now c.loop-item.invariant
     c.in-Some.ensures.found c.in-Some.ensures.canon c.item_after.ensures.step c.in_ok-add_retracted.ensures
 
 pub loop-item-smaller : goal.loop-item-smaller
-loop-item-smaller g c = falls (option_copied c.loop-item.last) c.in-Some.item.now (g.G.View.rows c.args.graph.now) c.in-Some.ensures.found.above
+loop-item-smaller g c =
+    falls (option_copied c.loop-item.last) c.in-Some.item.now (g.G.View.rows c.args.graph.now) c.in-Some.ensures.found.above
     c.in-Some.ensures.found.carries
 
 pub returns-clause-fits : goal.returns-clause-fits
@@ -21,9 +24,11 @@ returns-clause-fits g c =
     rw c.loop-item.invariant.made
     (all_fit (g.G.View.rows c.args.graph.now) c.requires.graph c.requires.whole
     (map (entry_of c.args.who.now (g.G.View.rows c.args.graph.now)) c.loop-item.invariant.keys)
-    (all_sound c.args.who.now (g.G.View.rows c.args.graph.now) c.loop-item.changes.items (option_copied c.loop-item.last) c.args.steps.now c.loop-item.steps
+    (all_sound c.args.who.now (g.G.View.rows c.args.graph.now) c.loop-item.changes.items (option_copied c.loop-item.last) c.args.steps.now
+    c.loop-item.steps
     c.loop-item.invariant c.in_default.ensures.none c.requires.graph c.requires.whole)
-    (all_up c.args.who.now (g.G.View.rows c.args.graph.now) c.loop-item.changes.items (option_copied c.loop-item.last) c.args.steps.now c.loop-item.steps
+    (all_up c.args.who.now (g.G.View.rows c.args.graph.now) c.loop-item.changes.items (option_copied c.loop-item.last) c.args.steps.now
+    c.loop-item.steps
     c.loop-item.invariant c.in_default.ensures.none))
 
 pub returns-clause-applies : goal.returns-clause-applies
@@ -32,11 +37,14 @@ returns-clause-applies g c =
     (is_after (g.G.View.rows c.args.graph.now) c.requires.graph c.requires.whole
     (retract c.args.who.now (g.G.View.rows c.args.graph.now))
     (map (entry_of c.args.who.now (g.G.View.rows c.args.graph.now)) c.loop-item.invariant.keys)
-    (all_sound c.args.who.now (g.G.View.rows c.args.graph.now) c.loop-item.changes.items (option_copied c.loop-item.last) c.args.steps.now c.loop-item.steps
+    (all_sound c.args.who.now (g.G.View.rows c.args.graph.now) c.loop-item.changes.items (option_copied c.loop-item.last) c.args.steps.now
+    c.loop-item.steps
     c.loop-item.invariant c.in_default.ensures.none c.requires.graph c.requires.whole)
-    (all_up c.args.who.now (g.G.View.rows c.args.graph.now) c.loop-item.changes.items (option_copied c.loop-item.last) c.args.steps.now c.loop-item.steps
+    (all_up c.args.who.now (g.G.View.rows c.args.graph.now) c.loop-item.changes.items (option_copied c.loop-item.last) c.args.steps.now
+    c.loop-item.steps
     c.loop-item.invariant c.in_default.ensures.none)
-    (all_told c.args.who.now (g.G.View.rows c.args.graph.now) c.loop-item.changes.items (option_copied c.loop-item.last) c.args.steps.now c.loop-item.steps
+    (all_told c.args.who.now (g.G.View.rows c.args.graph.now) c.loop-item.changes.items (option_copied c.loop-item.last) c.args.steps.now
+    c.loop-item.steps
     c.loop-item.invariant c.in_default.ensures.none))
 
 pub returns-clause-exact : goal.returns-clause-exact
@@ -45,11 +53,14 @@ returns-clause-exact g c =
     (are_exact (g.G.View.rows c.args.graph.now) c.requires.graph c.requires.whole
     (retract c.args.who.now (g.G.View.rows c.args.graph.now))
     (map (entry_of c.args.who.now (g.G.View.rows c.args.graph.now)) c.loop-item.invariant.keys)
-    (all_sound c.args.who.now (g.G.View.rows c.args.graph.now) c.loop-item.changes.items (option_copied c.loop-item.last) c.args.steps.now c.loop-item.steps
+    (all_sound c.args.who.now (g.G.View.rows c.args.graph.now) c.loop-item.changes.items (option_copied c.loop-item.last) c.args.steps.now
+    c.loop-item.steps
     c.loop-item.invariant c.in_default.ensures.none c.requires.graph c.requires.whole)
-    (all_up c.args.who.now (g.G.View.rows c.args.graph.now) c.loop-item.changes.items (option_copied c.loop-item.last) c.args.steps.now c.loop-item.steps
+    (all_up c.args.who.now (g.G.View.rows c.args.graph.now) c.loop-item.changes.items (option_copied c.loop-item.last) c.args.steps.now
+    c.loop-item.steps
     c.loop-item.invariant c.in_default.ensures.none)
-    (all_told c.args.who.now (g.G.View.rows c.args.graph.now) c.loop-item.changes.items (option_copied c.loop-item.last) c.args.steps.now c.loop-item.steps
+    (all_told c.args.who.now (g.G.View.rows c.args.graph.now) c.loop-item.changes.items (option_copied c.loop-item.last) c.args.steps.now
+    c.loop-item.steps
     c.loop-item.invariant c.in_default.ensures.none))
 
 pub returns-clause-changes : goal.returns-clause-changes
@@ -60,12 +71,14 @@ returns-clause-changes g c =
 
 pub returns-clause-steps : goal.returns-clause-steps
 returns-clause-steps g c =
-    let n = steps_are c.args.who.now (g.G.View.rows c.args.graph.now) c.loop-item.changes.items (option_copied c.loop-item.last) c.args.steps.now c.loop-item.steps
+    let n = steps_are c.args.who.now (g.G.View.rows c.args.graph.now) c.loop-item.changes.items (option_copied c.loop-item.last)
+    c.args.steps.now c.loop-item.steps
     c.loop-item.invariant in
     omega (arith, n, c.item_after.ensures.step)
 
 pub returns-in_err-add_retracted-clause-steps : goal.returns-in_err-add_retracted-clause-steps
 returns-in_err-add_retracted-clause-steps g c =
-    let n = steps_are c.args.who.now (g.G.View.rows c.args.graph.now) c.loop-item.changes.items (option_copied c.loop-item.last) c.args.steps.now c.loop-item.steps
+    let n = steps_are c.args.who.now (g.G.View.rows c.args.graph.now) c.loop-item.changes.items (option_copied c.loop-item.last)
+    c.args.steps.now c.loop-item.steps
     c.loop-item.invariant in
     omega (arith, n, c.item_after.ensures.step)

@@ -13,7 +13,8 @@ loop-row-preserved c =
     let told : p x ≡ c.is_of.result = sym (c.is_of.ensures ∙ ap p c.stored.ensures) in
     elim c.if-is_of.branch [
       | then-is_of+in_ok-share+in_ok-push w ↦
-          ap (λ v. v.items) w.list-is ∙ w.in_ok-push.ensures.items ∙ ap (λ (y : Stored). c.loop-row.list.items ++ y ∷ []) w.in_ok-share.ensures
+          ap (λ v. v.items) w.list-is ∙ w.in_ok-push.ensures.items
+          ∙ ap (λ (y : Stored). c.loop-row.list.items ++ y ∷ []) w.in_ok-share.ensures
           ∙ kept_more p c.args.rows.now i x c.loop-row-test.true c.row-item.is c.loop-row.list.items c.loop-row.invariant
           (told ∙ w.if-is_of.true)
       | else-is_of w ↦

@@ -6,7 +6,8 @@ use Rattle.ifmap_publish.proofs.Entries.{one_more, nothing_made}
 use Rattle.ifmap_publish.proofs.working.apply_all.Goals as goal
 
 pub loop-op-init : goal.loop-op-init
-loop-op-init g c = nothing_made (g.V.View.rows c.args.view.now) c.args.author.now c.args.ops.now c.new-lists.result.entries c.new-lists.ensures.empty
+loop-op-init g c = nothing_made (g.V.View.rows c.args.view.now) c.args.author.now c.args.ops.now c.new-lists.result.entries
+    c.new-lists.ensures.empty
 
 pub apply_one-requires-clause-fit : goal.apply_one-requires-clause-fit
 apply_one-requires-clause-fit g c =

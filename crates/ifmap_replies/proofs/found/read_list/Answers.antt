@@ -4,7 +4,7 @@ use Rattle.ifmap_forms.specs.Answers.{IsChecked}
 use Rattle.ifmap_forms.specs.Items.{list_at}
 use Rattle.ifmap_forms.specs.Tables.{Part, parts_in}
 use Rattle.ifmap_replies.specs.ResultForms.{element_check}
-use Rattle.ifmap_replies.proofs.FoundLaws.{list_parts, no_parts, tail_whole}
+use Rattle.ifmap_forms.specs.CutLaws.{list_parts, no_parts, tail_whole}
 use Rattle.ifmap_replies.proofs.found.read_list.Goals as goal
 
 pub returns-then-index-len : goal.returns-then-index-len

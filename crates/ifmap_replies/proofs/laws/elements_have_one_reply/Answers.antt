@@ -1,4 +1,5 @@
-use Rattle.ifmap_replies.proofs.Single.{identifier_single, no_reply_with_defect, one_reply}
+use Rattle.ifmap_forms.specs.SingleLaws.{identifier_single}
+use Rattle.ifmap_replies.proofs.Single.{no_reply_with_defect, one_reply}
 use Rattle.ifmap_replies.proofs.laws.elements_have_one_reply.Goals as goal
 
 pub returns-clause-one : goal.returns-clause-one

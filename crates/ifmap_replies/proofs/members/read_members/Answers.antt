@@ -4,7 +4,7 @@ use Rattle.ifmap_elem.specs.declared.elements.Child.{Child}
 use Rattle.ifmap_forms.specs.AnswerLaws.{refused_exit_as}
 use Rattle.ifmap_forms.specs.Gathering.{GoesOn, begins, elements_end, elements_further, elements_stop}
 use Rattle.ifmap_forms.specs.Tables.{each_element, parts_in}
-use Rattle.ifmap_replies.proofs.FoundLaws.{no_member}
+use Rattle.ifmap_forms.specs.CutLaws.{no_member}
 use Rattle.ifmap_replies.proofs.members.read_members.Goals as goal
 
 pub loop-child-init : goal.loop-child-init

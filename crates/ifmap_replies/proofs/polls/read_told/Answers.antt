@@ -1,6 +1,7 @@
 use Rattle.std.proofs.Common.{[], ◌∙◌, List, Ok, codes, subst, sym}
 use Rattle.ifmap_elem.specs.declared.elements.Child.{Child}
-use Rattle.ifmap_forms.specs.AnswerLaws.{found_alone, found_form, refused_alone, refused_at_attributes, refused_at_content, refused_at_others, refused_exit}
+use Rattle.ifmap_forms.specs.AnswerLaws.{found_alone, found_form, refused_alone, refused_at_attributes, refused_at_content}
+use Rattle.ifmap_forms.specs.AnswerLaws.{refused_at_others, refused_exit}
 use Rattle.ifmap_forms.specs.Answers.{IsRefused}
 use Rattle.ifmap_forms.specs.Tables.{both, form_check, parts_in}
 use Rattle.ifmap_forms.specs.Values.{text_field}

@@ -4,7 +4,8 @@ use Rattle.ifmap_elem.specs.declared.elements.Child.{Child}
 use Rattle.ifmap_elem.specs.declared.elements.Element.{Element}
 use Rattle.ifmap_ident.specs.declared.codes.Code.TheVariants.{Failure}
 use Rattle.ifmap_forms.specs.declared.errors.FormError.TheVariants.{Named}
-use Rattle.ifmap_forms.specs.AnswerLaws.{found_alone, found_beside, found_form, refused_alone, refused_at_attributes, refused_at_content, refused_at_field, refused_at_others, refused_beside, refused_exit}
+use Rattle.ifmap_forms.specs.AnswerLaws.{found_alone, found_beside, found_form, refused_alone, refused_at_attributes, refused_at_content}
+use Rattle.ifmap_forms.specs.AnswerLaws.{refused_at_field, refused_at_others, refused_beside, refused_exit}
 use Rattle.ifmap_forms.specs.Tables.{beside, both, form_check, is_white_part, no_attributes, parts_in}
 use Rattle.ifmap_forms.specs.Values.{Field, field_check, text_field}
 use Rattle.ifmap_replies.specs.Fields.{word_field}

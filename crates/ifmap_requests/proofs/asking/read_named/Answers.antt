@@ -1,6 +1,7 @@
 use Rattle.std.proofs.Common.{◌∙◌, sym, rules}
 use Rattle.ifmap_forms.specs.Scopes.{scopes_by}
-use Rattle.ifmap_requests.proofs.NameLaws.{at_end_session, at_new_session, at_no_request, at_poll, at_purge, at_renewal, at_search, at_subscribe}
+use Rattle.ifmap_requests.proofs.NameLaws.{at_end_session, at_new_session, at_no_request, at_poll, at_purge, at_renewal, at_search}
+use Rattle.ifmap_requests.proofs.NameLaws.{at_subscribe}
 use Rattle.ifmap_requests.proofs.asking.read_named.Goals as goal
 
 pub returns-in-Some-NewSession : goal.returns-in-Some-NewSession

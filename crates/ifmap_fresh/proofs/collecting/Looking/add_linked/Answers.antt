@@ -2,7 +2,7 @@ use Rattle.std.proofs.Common.{rules, Some, ◌++◌, [], slice_get, take, ap, �
 use Rattle.std.specs.List.{cons_option, filter_map}
 use Rattle.ifmap_region.specs.Marks.{mark_of}
 use Rattle.ifmap_fresh.specs.Collected.{item_at}
-use Rattle.ifmap_fresh.proofs.Along.{along_more}
+use Rattle.ifmap_fresh.specs.laws.AlongLaws.{along_more}
 use Rattle.ifmap_fresh.proofs.collecting.Looking.add_linked.Goals as goal
 
 pub loop-i-preserved : goal.loop-i-preserved

@@ -1,7 +1,7 @@
 use Rattle.std.proofs.Common.{◌++◌, length, ap, ◌∙◌, sym, arith}
 use Rattle.ifmap_region.specs.Marks.{mark_of}
 use Rattle.ifmap_fresh.specs.Collected.{brought, numbers_of}
-use Rattle.ifmap_fresh.proofs.Along.{brought_more}
+use Rattle.ifmap_fresh.specs.laws.AlongLaws.{brought_more}
 use Rattle.ifmap_fresh.proofs.Marks.{weight_more, weight_within}
 use Rattle.ifmap_fresh.proofs.collecting.Looking.collect.Goals as goal
 

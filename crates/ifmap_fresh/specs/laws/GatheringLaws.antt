@@ -1,5 +1,6 @@
 -- What is gathered item by item is a filter of the list.
-use Rattle.std.proofs.Common.{◌≡◌, ℕ, ◌&&◌, ◌||◌, Bool, true, false, cond, List, [], ◌∷◌, ◌++◌, map, flat_map, refl, ap, ◌∙◌, sym, subst, inl, inr}
+use Rattle.std.proofs.Common.{◌≡◌, ℕ, ◌&&◌, ◌||◌, Bool, true, false, cond, List, [], ◌∷◌, ◌++◌, map, flat_map, refl, ap, ◌∙◌, sym, subst}
+use Rattle.std.proofs.Common.{inl, inr}
 use Rattle.std.proofs.lemmas.Bool.{cases_Bool}
 use Rattle.std.specs.Cmp.{IsTotalOrder, tied_itself}
 use Rattle.std.specs.List.{AllByRecursion, filter, list_any}
@@ -14,8 +15,8 @@ use Rattle.ifmap_view.specs.declared.attachments.Attachment.{Attachment}
 use Rattle.ifmap_view.specs.Attachments.{attachment_order}
 use Rattle.ifmap_view.specs.Rows.{stored_on}
 use Rattle.ifmap_fresh.specs.Gathered.{IsGrouped, gathered, has_item, row_at}
-use Rattle.ifmap_fresh.proofs.Orders.{items_total}
-use Rattle.ifmap_fresh.proofs.Same.{AreCanon, Tells, same_item_is}
+use Rattle.ifmap_fresh.specs.laws.OrderLaws.{items_total}
+use Rattle.ifmap_fresh.specs.laws.SameLaws.{AreCanon, Tells, same_item_is}
 
 -- items that the order tells apart are not the same
 pub apart : (x y : Item) (o : Ordering) → item_order x y ≡ o → is_eq o ≡ false → same_item x y ≡ false

@@ -9,7 +9,7 @@ use Rattle.std.specs.List.Sorted.{IsPermutation, IsSorted, IsStrictlySortedBy}
 use Rattle.ifmap_ident.specs.declared.items.Item.{Item}
 use Rattle.ifmap_ident.specs.Items.{item_order, items_tie, same_item}
 use Rattle.ifmap_lemmas.specs.Having.{Has, from_has, has_any, has_from}
-use Rattle.ifmap_fresh.proofs.Orders.{items_alike, items_total}
+use Rattle.ifmap_fresh.specs.laws.OrderLaws.{items_alike, items_total}
 use Rattle.ifmap_fresh.specs.Gathered.{has_item}
 
 any_test : (p : Item → Bool) (xs : List Item) → Any (λ y. p y ≡ true) xs → list_any p xs ≡ true

@@ -1,5 +1,6 @@
 -- Links of numbers that match, and those of identifiers.
-use Rattle.std.proofs.Common.{◌≡◌, ◌≢◌, ℕ, ◌<◌, Bool, true, false, cond, Option, Some, None, List, [], ◌∷◌, map, length, get_or, slice_get, refl, ap, ◌∙◌, sym, subst, inl, inr}
+use Rattle.std.proofs.Common.{◌≡◌, ◌≢◌, ℕ, ◌<◌, Bool, true, false, cond, Option, Some, None, List, [], ◌∷◌, map, length, get_or, slice_get}
+use Rattle.std.proofs.Common.{refl, ap, ◌∙◌, sym, subst, inl, inr}
 use Rattle.std.proofs.lemmas.List.{get_or-map, length-map}
 use Rattle.std.proofs.lemmas.Option.{slice_get-get_or, same_Some, none-some}
 use Rattle.std.specs.List.{AllByRecursion, Contains, filter}
@@ -20,7 +21,7 @@ use Rattle.ifmap_view.specs.Views.{IsView, others}
 use Rattle.ifmap_fresh.specs.Matching.{IsMatch, is_match, one_meets}
 use Rattle.ifmap_fresh.specs.Linking.{end_where}
 use Rattle.ifmap_fresh.specs.Reached.{identifiers_in}
-use Rattle.ifmap_delta.proofs.Same.{Tells, member, pair_canon, pair_of_one, pair_parts, pair_turned, same_item_is}
+use Rattle.ifmap_fresh.specs.laws.SameLaws.{Tells, member, pair_canon, pair_of_one, pair_parts, pair_turned, same_item_is}
 
 pub turned : (a b : Option Identifier) (rows : List Attachment) → stored_linked a b rows ≡ stored_linked b a rows
 turned None None rows = refl
@@ -38,6 +39,34 @@ none_to_itself (Some a) rows = ap (λ i. stored_where i rows) (pair_of_one a)
 
 pub some_there : (filter : Option Filter) (xs : List Stored) → one_meets filter xs ≡ true → xs ≢ []
 some_there filter xs e n = let p : one_meets filter [] ≡ true = subst (λ ys. one_meets filter ys ≡ true) n e in cc
+
+first_of : {X : Type 0} (xs : List X) → xs ≢ [] → (x : X) × Has xs x
+first_of [] n = absurd (n refl)
+first_of (x ∷ xs) n = (x, inl refl)
+
+-- where something is stored on the pair of two identifiers, the second stands in an item
+pub stands_in : Tells → (rows : List Attachment) → AllByRecursion (λ r. IsCanonItem r.item) rows → (a b : Identifier) → IsIdentifier a
+    → IsIdentifier b
+    → stored_between a b rows ≢ [] → Has (identifiers_in rows) b
+stands_in tells rows items a b ia ib n = by (pair_of a b) refl
+  where
+    on : (item : Item) → pair_of a b ≡ Some item → stored_on item rows ≢ [] → Has (identifiers_in rows) b
+    on item e m =
+        let stored = first_of (stored_on item rows) m
+        in let row = map_has (λ (r : Attachment). r.stored) (filter (λ r. same_item r.item item) rows) stored.0 stored.1
+        in let kept = filter_has (λ (r : Attachment). same_item r.item item) rows row.0 row.1
+        in let same : row.0.item ≡ item = same_item_is tells row.0.item item
+        (member (λ r. IsCanonItem r.item) rows items row.0 kept.0).identifiers
+        (pair_canon a b item ia ib e).identifiers kept.1
+        in has_joined (λ (r : Attachment). identifiers_of r.item) rows row.0 b kept.0
+        (subst (λ i. Has (identifiers_of i) b) (sym same) (elim (pair_parts a b item e) [
+          | inl p ↦ subst (λ i. Has (identifiers_of i) b) (sym p) (inr (inl refl))
+          | inr p ↦ subst (λ i. Has (identifiers_of i) b) (sym p) (inl refl)
+        ]))
+
+    by : (o : Option Item) → pair_of a b ≡ o → Has (identifiers_in rows) b
+    by None e = absurd (n (ap (λ i. stored_where i rows) e))
+    by (Some item) e = on item e (λ m. n (ap (λ i. stored_where i rows) e ∙ m))
 
 module _ (rows : List Attachment) (id_at : ℕ → Option Identifier) (links : ℕ → List LinkSeen) (filter : Option Filter) where
   abbrev pub count : ℕ → ℕ
@@ -75,3 +104,10 @@ module _ (rows : List Attachment) (id_at : ℕ → Option Identifier) (links : �
               ∙ ap (λ b. cond b (Some seen.other) None) (subst (λ x. Matches v x) (sym other) m)
               ∙ ap Some other,
         )
+
+    pub symmetric : IsSymmetric (Linked count link)
+    symmetric v w l =
+        matches_linked w v (subst (λ xs. one_meets filter xs ≡ true) (turned (id_at v) (id_at w) rows) (linked_matches v w l))
+
+    pub no_loop : (v : ℕ) → Linked count link v v → ⊥
+    no_loop v l = some_there filter (stored_linked (id_at v) (id_at v) rows) (linked_matches v v l) (none_to_itself (id_at v) rows)

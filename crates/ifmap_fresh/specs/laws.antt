@@ -1,0 +1,7 @@
+-- Laws on the definitions, which crates above cite.
+pub mod OrderLaws
+pub mod SameLaws
+pub mod OrderedLaws
+pub mod GatheringLaws
+pub mod JoiningLaws
+pub mod AlongLaws
