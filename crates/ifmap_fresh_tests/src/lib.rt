@@ -7,6 +7,7 @@ pub mod lists;
 pub mod looking;
 #[cfg(test)]
 mod makers;
+pub mod places;
 #[cfg(test)]
 mod searches;
 pub mod shelves;

@@ -1,5 +1,5 @@
 //! Plain lists as a view: all is looked for from the front, and nothing is kept beside what is there.
-ghost use Rattle.std.specs.Prelude.{◌≡◌};
+ghost use Rattle.std.specs.Prelude.{◌≡◌, IfSome};
 ghost use Rattle.std.specs.List.{AllByRecursion, slice_get};
 ghost use Rattle.ifmap_ident.specs.Canon.{IsIdentifier};
 ghost use Rattle.ifmap_ident.specs.Items.{IsCanonItem};
@@ -44,6 +44,7 @@ impl Lists {
     pub fn new(names: Vec<Identifier>, shelves: Vec<Shelf>) -> Option<Lists>
         requires named { AllByRecursion IsIdentifier names.items }
         requires canon { AllByRecursion (λ s. IsCanonItem s.item) shelves.items }
+        ensures { IfSome result (λ lists. lists.shelves ≡ shelves.items) }
     {
         if are_sound(&names, &shelves) {
             Some(Lists { names, shelves })
