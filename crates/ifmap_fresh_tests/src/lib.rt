@@ -2,6 +2,7 @@
 #![tactic(auto)]
 
 pub mod checking;
+pub mod items;
 pub mod linking;
 pub mod lists;
 pub mod looking;

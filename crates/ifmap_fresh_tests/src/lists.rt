@@ -3,7 +3,7 @@ ghost use Rattle.std.specs.Prelude.{◌≡◌, IfSome};
 ghost use Rattle.std.specs.List.{AllByRecursion, slice_get};
 ghost use Rattle.ifmap_ident.specs.Canon.{IsIdentifier};
 ghost use Rattle.ifmap_ident.specs.Items.{IsCanonItem};
-ghost use Rattle.ifmap_fresh_tests.specs.Lists.{links_in, rows_of};
+ghost use Rattle.ifmap_fresh_tests.specs.Lists.{AreLists, links_in, rows_of};
 
 use crate::checking::are_sound;
 use crate::linking::{count_links, link_in, stored_linked};
@@ -51,6 +51,14 @@ impl Lists {
         } else {
             None
         }
+    }
+
+    /// What stands on items, in their order.
+    pub fn shelves(&self) -> &[Shelf]
+        ensures shelves { result.now ≡ self.now.shelves }
+        ensures lists { AreLists self.now }
+    {
+        &self.shelves
     }
 }
 
