@@ -8,4 +8,6 @@ mod outside;
 #[cfg(test)]
 mod plans;
 #[cfg(test)]
+mod retractions;
+#[cfg(test)]
 mod telling;

@@ -1,19 +1,20 @@
 //! What the tests make their cases of.
-ghost use Rattle.std.specs.Prelude.{IfOk, IfSome};
+ghost use Rattle.std.specs.Prelude.{◌≤◌, IfOk, IfSome};
 ghost use Rattle.std.specs.List.{AllByRecursion};
+ghost use Rattle.ifmap_elem.specs.Fit.{IsFit};
+ghost use Rattle.ifmap_elem.specs.Nesting.{nesting};
 ghost use Rattle.ifmap_ident.specs.Items.{IsCanonItem};
-ghost use Rattle.ifmap_meta.specs.Whole.{IsMetadata, IsWhole};
+ghost use Rattle.ifmap_meta.specs.Whole.{IsMetadata, IsWhole, level_limit};
 ghost use Rattle.ifmap_plans.specs.Plans.{AreWhole};
 ghost use Rattle.ifmap_requests.specs.Fit.{IsFitOp, IsFitRequest};
 ghost use Rattle.ifmap_fresh_tests.specs.Lists.{rows_of};
 
-use ifmap_elem::{Many, Text};
+use ifmap_elem::{Element, Many, Text};
 use ifmap_fresh_tests::lists::Lists;
 use ifmap_fresh_tests::places::{Place, addresses, item_at};
 use ifmap_fresh_tests::shelves::Shelf;
 use ifmap_io::Moment;
 use ifmap_meta::{ClientName, Life, Metadata, Stored};
-use ifmap_reader::laws::what_bytes_spell_fits;
 use ifmap_reader::read;
 use ifmap_requests::laws::bodies_mean_fit_requests;
 use ifmap_requests::{PublishOp, Request, read_request};
@@ -39,27 +40,43 @@ pub(crate) fn client_of(alloc: Global, name: &str) -> Result<ClientName, NoMemor
     ClientName::new(Text::from_str(alloc, name)?).ok_or(NoMemory)
 }
 
-// The element of a text can be published.
-fn metadata_of(alloc: Global, text: &str) -> Result<Metadata, NoMemory>
+// The element that a text spells.
+fn element_in(alloc: Global, text: &str) -> Result<Element, NoMemory>
+    ensures fit { IfOk result IsFit }
+    ensures levels { IfOk result (λ element. nesting element ≤ level_limit) }
+{
+    match read(alloc, text.as_bytes(), 64) {
+        Ok(reading) => Ok(reading.root),
+        Err(_) => Err(NoMemory),
+    }
+}
+
+// The metadata of the element that a text spells.
+fn metadata_in(alloc: Global, text: &str) -> Result<Metadata, NoMemory>
     ensures { IfOk result IsMetadata }
 {
-    what_bytes_spell_fits();
-    let Ok(reading) = read(alloc, text.as_bytes(), 59) else {
-        return Err(NoMemory);
-    };
-    match Metadata::from_element(alloc, reading.root) {
+    match Metadata::from_element(alloc, element_in(alloc, text)?) {
         Ok(metadata) => Ok(metadata),
         Err(_) => Err(NoMemory),
     }
 }
 
-fn stored_of(alloc: Global, given: Given) -> Result<Stored, NoMemory>
+fn store(alloc: Global, metadata: &Metadata, given: Given) -> Result<Stored, NoMemory>
+    requires { IsMetadata metadata.now }
     ensures { IfOk result IsWhole }
 {
-    let metadata = metadata_of(alloc, given.element)?;
-    let client = client_of(alloc, given.client)?;
-    let moment = Moment::new(1_000_000_000).ok_or(NoMemory)?;
-    metadata.stamp(alloc, &client, moment, given.life)
+    let publisher = client_of(alloc, given.client)?;
+    match Moment::new(1_000_000_000) {
+        Some(moment) => metadata.stamp(alloc, &publisher, moment, given.life),
+        None => Err(NoMemory),
+    }
+}
+
+fn row_of(alloc: Global, given: Given) -> Result<Row, NoMemory>
+    ensures { IfOk result IsWhole }
+{
+    let metadata = metadata_in(alloc, given.element)?;
+    Row::new(alloc, store(alloc, &metadata, given)?)
 }
 
 fn rows_of(alloc: Global, given: &[Given]) -> Result<Vec<Row>, NoMemory>
@@ -67,7 +84,7 @@ fn rows_of(alloc: Global, given: &[Given]) -> Result<Vec<Row>, NoMemory>
 {
     let mut rows = Vec::new(alloc);
     for one in given {
-        rows.push(Row::new(alloc, stored_of(alloc, *one)?)?)?;
+        rows.push(row_of(alloc, *one)?)?;
     }
     Ok(rows)
 }
@@ -83,6 +100,7 @@ fn shelf_of(alloc: Global, spot: Spot) -> Result<Shelf, NoMemory>
     })
 }
 
+#[tactic(auto, using(crate::proofs::Whole::whole_rows))]
 fn shelves_of(alloc: Global, spots: &[Spot]) -> Result<Vec<Shelf>, NoMemory>
     ensures canon { IfOk result (λ shelves.
         AllByRecursion (λ s. IsCanonItem s.item) shelves.items) }

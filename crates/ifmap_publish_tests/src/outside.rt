@@ -13,6 +13,18 @@ pub(crate) struct Case {
     pub(crate) wanted: &'static str,
 }
 
+// Whose attachments go.
+pub(crate) enum Whose {
+    Sessions(&'static [u64]),
+    Publisher(&'static str),
+}
+
+// Whose attachments go, and what is told of them.
+pub(crate) struct Gone {
+    pub(crate) whose: Whose,
+    pub(crate) wanted: &'static str,
+}
+
 pub(crate) static STATE: [Spot; 3] = [
     Spot {
         place: Place::At(1),
@@ -257,5 +269,40 @@ pub(crate) static PUBLISHED: [Case; 29] = [
         moment: 1000000005,
         ops: "<notify><mac-address value='00:00:5e:00:53:03'/><metadata><u:e ifmap-cardinality='multiValue'>1</u:e></metadata></notify><delete><mac-address value='00:00:5e:00:53:03'/></delete>",
         wanted: "[3] !e(1) 2001-09-09T01:46:45Z\n",
+    },
+];
+
+pub(crate) static RETRACTED: [Gone; 8] = [
+    Gone {
+        whose: Whose::Sessions(&[]),
+        wanted: "",
+    },
+    Gone {
+        whose: Whose::Sessions(&[5]),
+        wanted: "[1] -b(1) 2001-09-09T01:46:40Z c1 5\n[2] -d(z) 2001-09-09T01:46:40Z c1 5\n",
+    },
+    Gone {
+        whose: Whose::Sessions(&[6]),
+        wanted: "[1-2] -l(e) 2001-09-09T01:46:40Z c2 6\n",
+    },
+    Gone {
+        whose: Whose::Sessions(&[6, 5]),
+        wanted: "[1] -b(1) 2001-09-09T01:46:40Z c1 5\n[1-2] -l(e) 2001-09-09T01:46:40Z c2 6\n[2] -d(z) 2001-09-09T01:46:40Z c1 5\n",
+    },
+    Gone {
+        whose: Whose::Sessions(&[7]),
+        wanted: "",
+    },
+    Gone {
+        whose: Whose::Publisher("c1"),
+        wanted: "[1] -a(x) 2001-09-09T01:46:40Z c1 forever -b(1) 2001-09-09T01:46:40Z c1 5\n[2] -d(z) 2001-09-09T01:46:40Z c1 5\n",
+    },
+    Gone {
+        whose: Whose::Publisher("c2"),
+        wanted: "[1-2] -l(e) 2001-09-09T01:46:40Z c2 6\n[2] -c(y) 2001-09-09T01:46:40Z c2 forever\n",
+    },
+    Gone {
+        whose: Whose::Publisher("c3"),
+        wanted: "",
     },
 ];

@@ -6,7 +6,7 @@ ghost use Rattle.ifmap_fresh_tests.specs.Lists.{rows_of};
 
 use crate::makers::{client_of, lists_of, ops_in};
 use crate::outside::{Case, PUBLISHED, STATE};
-use crate::telling::told;
+use crate::telling::is_told;
 use ifmap_elem::Many;
 use ifmap_fresh_tests::lists::Lists;
 use ifmap_fresh_tests::places::address_of;
@@ -46,13 +46,6 @@ fn plan_by(alloc: Global, client: &ClientName, case: &Case) -> Option<Plan> {
 fn plan_of(alloc: Global, case: &Case) -> Option<Plan> {
     let client = client_of(alloc, case.client).ok()?;
     plan_by(alloc, &client, case)
-}
-
-fn is_told(alloc: Global, plan: &Plan, wanted: &str) -> bool {
-    match told(alloc, plan) {
-        Ok(text) => text.as_str() == wanted,
-        Err(_) => false,
-    }
 }
 
 fn is_as_wanted(alloc: Global, case: &Case) -> bool {
