@@ -7,7 +7,7 @@ ghost use Rattle.ifmap_machine.specs.Step.{step};
 use ifmap_io::Moment;
 use ifmap_machine::{Answer, Event};
 use ifmap_session::Sessions;
-use ifmapsteps::Steps;
+use ifmap_steps::Steps;
 use std::alloc::{AllocError as NoMemory, Global};
 use std::marker::Model;
 use std::sync::ledger::Ledger;
