@@ -47,11 +47,19 @@ pub fn script_of(alloc: Global, bodies: &[&str]) -> Result<String, Fail> {
     Ok(script)
 }
 
-/// What is written for a reply with this result in its response.
+/// What is written for a reply with this result in its response. The prefix `n3` is declared where
+/// the result uses it.
 pub fn answer_of(alloc: Global, inner: &str) -> Result<String, Fail> {
-    let reply = format!(in alloc;
-        "<n1:Envelope xmlns:n1=\"http://www.w3.org/2003/05/soap-envelope\" xmlns:n2=\"http://www.trustedcomputinggroup.org/2010/IFMAP/2\"><n1:Body><n2:response>{inner}</n2:response></n1:Body></n1:Envelope>"
+    let mut reply = String::from_str(
+        alloc,
+        "<n1:Envelope xmlns:n1=\"http://www.w3.org/2003/05/soap-envelope\" xmlns:n2=\"http://www.trustedcomputinggroup.org/2010/IFMAP/2\"",
     )?;
+    if inner.contains("n3:") {
+        reply.push_str(" xmlns:n3=\"http://www.trustedcomputinggroup.org/2010/IFMAP-METADATA/2\"")?;
+    }
+    reply.push_str("><n1:Body><n2:response>")?;
+    reply.push_str(inner)?;
+    reply.push_str("</n2:response></n1:Body></n1:Envelope>")?;
     let length = reply.len();
     Ok(format!(in alloc; "={length}\n{reply}")?)
 }
