@@ -2,22 +2,20 @@
 # Times metadata, and tells the memory of an attachment: `role` with one child, of 208 canonical bytes as it is stored.
 # Run from anywhere: sh bench/meta.sh. It needs `rt`, and builds in a new folder under TMPDIR.
 . "$(dirname "$0")/common.sh"
-prepare meta_bench 'ifmap_elem ifmap_graph ifmap_ident ifmap_io ifmap_meta ifmap_reader'
+prepare meta_bench 'ifmap_elem ifmap_ident ifmap_io ifmap_meta ifmap_reader ifmap_view'
 cat > "$work/crates/meta_bench/src/main.rt" <<'RATTLE'
 //! Makes metadata of elements that were read, stamps them, compares their keys, and keeps attachments.
 #![tactic(auto)]
 
 ghost use Rattle.std.specs.Prelude.{IfOk};
-ghost use Rattle.ifmap_ident.specs.Items.{IsCanonItem};
-ghost use Rattle.ifmap_meta.specs.Whole.{IsMetadata, IsWhole};
+ghost use Rattle.ifmap_meta.specs.Whole.{IsMetadata};
 
 use ifmap_elem::Text;
-use ifmap_graph::KeptAttachment;
-use ifmap_ident::laws::mac_addresses_are_identifiers;
 use ifmap_ident::{Identifier, Item};
 use ifmap_io::Moment;
 use ifmap_meta::{ClientName, Life, Metadata, Stored};
 use ifmap_reader::read;
+use ifmap_view::Attachment;
 use std::alloc::{AllocError as NoMemory, Global};
 use std::fs;
 use std::io;
@@ -38,10 +36,7 @@ fn role(alloc: Global) -> Result<Metadata, NoMemory>
     }
 }
 
-fn item(alloc: Global, number: u32) -> Result<Item, NoMemory>
-    ensures { IfOk result IsCanonItem }
-{
-    mac_addresses_are_identifiers();
+fn item(alloc: Global, number: u32) -> Result<Item, NoMemory> {
     let [a, b, c, d] = number.wrapping_mul(2_654_435_761).to_be_bytes();
     let domain = Text(String::new(alloc));
     Ok(Item::One(Identifier::MacAddress { value: [0, 2, a, b, c, d], domain }))
@@ -52,10 +47,10 @@ fn stored(alloc: Global, metadata: &Metadata, publisher: &ClientName) -> Result<
     metadata.stamp(alloc, publisher, moment, Life::Session(1))
 }
 
-fn attachment(alloc: Global, number: u32, publisher: &ClientName) -> Result<KeptAttachment, NoMemory> {
+fn attachment(alloc: Global, number: u32, publisher: &ClientName) -> Result<Attachment, NoMemory> {
     let moment = Moment::new(1_000_000_000).ok_or(NoMemory)?;
-    let kept = role(alloc)?.stamp(alloc, publisher, moment, Life::Session(1))?;
-    KeptAttachment::new(alloc, item(alloc, number)?, kept)
+    let stored = role(alloc)?.stamp(alloc, publisher, moment, Life::Session(1))?;
+    Ok(Attachment { item: item(alloc, number)?, stored })
 }
 
 // The resident pages, from the second word of the file.
@@ -66,7 +61,7 @@ fn resident<R: Runtime>(rt: &R) -> io::Result<u64> {
     Ok(words.next().and_then(|word| word.parse::<u64>().ok()).unwrap_or(0))
 }
 
-fn attachments(alloc: Global, publisher: &ClientName, count: u32) -> Result<Vec<KeptAttachment>, NoMemory> {
+fn attachments(alloc: Global, publisher: &ClientName, count: u32) -> Result<Vec<Attachment>, NoMemory> {
     let mut all = Vec::with_capacity(alloc, count as usize)?;
     for number in 0..count {
         all.push(attachment(alloc, number, publisher)?)?;

@@ -1,10 +1,2 @@
-pub mod Apply
-pub mod Attachments
-pub mod Causes
-pub mod Events
-pub mod Fresh
-pub mod Legal
-pub mod Lives
-pub mod Retract
-pub mod State
-pub mod Step
+-- The machine as it is built.
+pub mod Built

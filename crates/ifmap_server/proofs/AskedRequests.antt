@@ -1,91 +1,64 @@
--- What a frame asks of the machine, by what its body means; and that it is fit.
-use Rattle.std.proofs.Common.{◌≡◌, ℕ, List, [], ◌∷◌, length, Option, None, Some, Result, Ok, Err, OnOk, IfOk, refl, ap, subst, ◌∙◌, false}
-use Rattle.std.specs.Prelude.{Bool, true, option_and_then, option_map, if◌then◌else◌}
-use Rattle.std.specs.List.{AllByRecursion}
-use Rattle.ifmap_core.specs.declared.events.Ask.TheVariants as ask
-use Rattle.ifmap_core.specs.State.{State}
-use Rattle.ifmap_core.specs.Step.{refusal}
+-- What a frame asks of the machine, by what its body means: that it is built and fit, and what is answered.
+use Rattle.std.proofs.Common.{◌≡◌, ◌≢◌, ℕ, List, length, Some, Ok, Err, OnOk, IfOk, refl, ap, subst, ◌∙◌, false}
+use Rattle.std.specs.Prelude.{Result}
+use Rattle.ifmap_core.specs.Built.{IsBuilt}
 use Rattle.ifmap_ident.specs.declared.codes.Code.{Code}
-use Rattle.ifmap_msg.specs.Fit as machine
-use Rattle.ifmap_msg.specs.declared.requests.PublishOp.{PublishOp as MachineOp}
-use Rattle.ifmap_msg.specs.declared.requests.PublishOp.TheVariants as machine_op
-use Rattle.ifmap_msg.specs.declared.requests.Request.TheVariants as machine_request
-use Rattle.ifmap_msg.specs.declared.requests.Search.{Search as MachineSearch}
+use Rattle.ifmap_machine.specs.declared.events.Ask.TheVariants as ask
+use Rattle.ifmap_machine.specs.State.{State}
+use Rattle.ifmap_machine.specs.Step.{refusal}
 use Rattle.ifmap_requests.specs.declared.errors.Refusal.TheVariants.{Named, Unreadable}
-use Rattle.ifmap_requests.specs.declared.publishing.PublishOp.{PublishOp}
-use Rattle.ifmap_requests.specs.declared.publishing.PublishOp.TheVariants.{Update, Notify, Delete}
 use Rattle.ifmap_requests.specs.declared.requests.Request.{Request}
 use Rattle.ifmap_requests.specs.declared.requests.Request.TheVariants.{NewSession, RenewSession, EndSession, Publish, Search, Subscribe, Poll, PurgePublisher}
-use Rattle.ifmap_requests.specs.Fit.{IsFitOp, IsFitRequest}
+use Rattle.ifmap_requests.specs.declared.requests.SubscribeOp.{SubscribeOp}
+use Rattle.ifmap_requests.specs.Fit.{IsFitRequest}
 use Rattle.ifmap_requests.specs.Means.{Means}
-use Rattle.ifmap_search.specs.declared.searches.Search as the
 use Rattle.ifmap_server.specs.declared.errors.ReplayError.{ReplayError}
 use Rattle.ifmap_server.specs.declared.headers.Header.{Header}
-use Rattle.ifmap_server.specs.MachineRequests.{is_of_start, machine_op_of, machine_ops_of, machine_request_of, machine_search_of}
+use Rattle.ifmap_server.specs.BuiltRequests.{built_request_of}
 use Rattle.ifmap_server.specs.Output.{Asking, answer_text, step_frame, step_request, unreadable_text}
 use Rattle.ifmap_server.specs.Turns.{IsAnswered, asking_of, frame_of}
 
--- ---- what is moved is fit
+-- ---- what can be asked
 
-module _ {X : Type 0} where
-  -- whatever is moved is such
-  abbrev pub Moved : (X → Type 0) → Option X → Type 0
-  Moved P o = (x : X) → o ≡ Some x → P x
+-- each request but a subscribe is moved as it is
+pub others_moved : (request : Request) → ((session : List ℕ) (ops : List SubscribeOp) → request ≢ Subscribe session ops)
+    → Some request ≡ built_request_of request
+others_moved (NewSession limit) other = refl
+others_moved (RenewSession session) other = refl
+others_moved (EndSession session) other = refl
+others_moved (Publish session ops) other = refl
+others_moved (Search session asked) other = refl
+others_moved (Subscribe session ops) other = absurd (other session ops refl)
+others_moved (Poll session) other = refl
+others_moved (PurgePublisher session publisher) other = refl
 
-  none_moved : (P : X → Type 0) → Moved P None
-  none_moved P x e = cc
+module _ (P : Request → Type 0) where
+  -- what is moved is the request itself
+  moved : (request other : Request) → Some request ≡ Some other → P request → P other
+  moved request other e p = let same : request ≡ other = cc in subst P same p
 
-moved_by : {X Y : Type 0} (P : X → Type 0) (Q : Y → Type 0) (f : X → Y) (o : Option X) → Moved P o → ((x : X) → P x → Q (f x))
-    → Moved Q (option_map f o)
-moved_by P Q f None m g y e = cc
-moved_by P Q f (Some x) m g y e = let same : f x ≡ y = cc in subst Q same (g x (m x refl))
+-- what is moved is built
+pub request_built : (request other : Request) → built_request_of request ≡ Some other → IsBuilt (ask.Request other)
+request_built (NewSession limit) other e = moved (λ r. IsBuilt (ask.Request r)) (NewSession limit) other e tt
+request_built (RenewSession session) other e = moved (λ r. IsBuilt (ask.Request r)) (RenewSession session) other e tt
+request_built (EndSession session) other e = moved (λ r. IsBuilt (ask.Request r)) (EndSession session) other e tt
+request_built (Publish session ops) other e = moved (λ r. IsBuilt (ask.Request r)) (Publish session ops) other e tt
+request_built (Search session asked) other e = moved (λ r. IsBuilt (ask.Request r)) (Search session asked) other e tt
+request_built (Subscribe session ops) other e = cc
+request_built (Poll session) other e = moved (λ r. IsBuilt (ask.Request r)) (Poll session) other e tt
+request_built (PurgePublisher session publisher) other e =
+    moved (λ r. IsBuilt (ask.Request r)) (PurgePublisher session publisher) other e tt
 
-op_fit : (op : PublishOp) → IsFitOp op → Moved machine.IsFitOp (machine_op_of op)
-op_fit (Update item elements forever) fit x e =
-    let same : machine_op.Update item elements forever ≡ x = cc in subst machine.IsFitOp same fit
-op_fit (Notify item elements) fit x e = none_moved machine.IsFitOp x e
-op_fit (Delete item filter) fit x e = none_moved machine.IsFitOp x e
-
-one_more : (o : Option MachineOp) (rest : Option (List MachineOp)) → Moved machine.IsFitOp o → Moved machine.AreFitOps rest
-    → Moved machine.AreFitOps (option_and_then (λ one. option_map (λ others. one ∷ others) rest) o)
-one_more None rest m later = none_moved machine.AreFitOps
-one_more (Some one) rest m later =
-    moved_by machine.AreFitOps machine.AreFitOps (λ (others : List MachineOp). one ∷ others) rest later (λ others p. (m one refl, p))
-
-ops_fit : (ops : List PublishOp) → AllByRecursion IsFitOp ops → Moved machine.AreFitOps (machine_ops_of ops)
-ops_fit [] fit x e = let same : [] ≡ x = cc in subst machine.AreFitOps same tt
-ops_fit (op ∷ ops) fit x e = one_more (machine_op_of op) (machine_ops_of ops) (op_fit op fit.0) (ops_fit ops fit.1) x e
-
-module _ (asked : the.Search) where
-  abbrev StartsThere : MachineSearch → Type 0
-  StartsThere x = x.start ≡ asked.start
-
-  abbrev moved_search : MachineSearch
-  moved_search = record { start = asked.start; max_size = asked.max_size }
-
-  moved_where : (b : Bool) → Moved StartsThere (if b then Some moved_search else None)
-  moved_where true x e = let same : moved_search ≡ x = cc in subst StartsThere same refl
-  moved_where false x e = cc
-
-  search_moved : Moved StartsThere (machine_search_of asked)
-  search_moved = moved_where (is_of_start asked)
-
-pub request_fit : (request : Request) → IsFitRequest request → Moved machine.IsFitRequest (machine_request_of request)
-request_fit (NewSession None) fit x e =
-    let same : machine_request.NewSession ≡ x = cc in subst machine.IsFitRequest same tt
-request_fit (NewSession (Some limit)) fit x e = none_moved machine.IsFitRequest x e
-request_fit (RenewSession session) fit x e = none_moved machine.IsFitRequest x e
-request_fit (EndSession session) fit x e =
-    let same : machine_request.EndSession session ≡ x = cc in subst machine.IsFitRequest same fit
-request_fit (Publish session ops) fit x e =
-    moved_by machine.AreFitOps machine.IsFitRequest (λ (moved : List MachineOp). machine_request.Publish session moved)
-    (machine_ops_of ops) (ops_fit ops fit.1) (λ moved p. (fit.0, p)) x e
-request_fit (Search session asked) fit x e =
-    moved_by (StartsThere asked) machine.IsFitRequest (λ (moved : MachineSearch). machine_request.Search session moved)
-    (machine_search_of asked) (search_moved asked) (λ moved p. (fit.0, rw p fit.1.start)) x e
-request_fit (Subscribe session ops) fit x e = none_moved machine.IsFitRequest x e
-request_fit (Poll session) fit x e = none_moved machine.IsFitRequest x e
-request_fit (PurgePublisher session publisher) fit x e = none_moved machine.IsFitRequest x e
+-- and fit, where the request is
+pub request_fit : (request other : Request) → built_request_of request ≡ Some other → IsFitRequest request → IsFitRequest other
+request_fit (NewSession limit) other e = moved IsFitRequest (NewSession limit) other e
+request_fit (RenewSession session) other e = moved IsFitRequest (RenewSession session) other e
+request_fit (EndSession session) other e = moved IsFitRequest (EndSession session) other e
+request_fit (Publish session ops) other e = moved IsFitRequest (Publish session ops) other e
+request_fit (Search session asked) other e = moved IsFitRequest (Search session asked) other e
+request_fit (Subscribe session ops) other e = cc
+request_fit (Poll session) other e = moved IsFitRequest (Poll session) other e
+request_fit (PurgePublisher session publisher) other e = moved IsFitRequest (PurgePublisher session publisher) other e
 
 -- ---- what is answered
 
@@ -102,12 +75,12 @@ module _ (old : State) (header : Header) (body : List ℕ) where
   }
 
   module _ (new : State) (size : header.size ≡ length body) (request : Request) (means : Means body (Ok request)) where
-    asked : step_request old (asking_of header) (machine_request_of request) ≡ step_frame old (frame_of header body (Ok request))
-    asked = ap (λ (n : ℕ). step_request old (asking_at n) (machine_request_of request)) size
+    asked : step_request old (asking_of header) (built_request_of request) ≡ step_frame old (frame_of header body (Ok request))
+    asked = ap (λ (n : ℕ). step_request old (asking_at n) (built_request_of request)) size
 
     pub request_answered : (result : Result (List ℕ) ReplayError)
-        → OnOk result (new ≡ (step_request old (asking_of header) (machine_request_of request)).0)
-        → IfOk result (λ text. text ≡ (step_request old (asking_of header) (machine_request_of request)).1)
+        → OnOk result (new ≡ (step_request old (asking_of header) (built_request_of request)).0)
+        → IfOk result (λ text. text ≡ (step_request old (asking_of header) (built_request_of request)).1)
         → IfOk result (λ text. IsAnswered old new header body text)
     request_answered (Ok text) state wrote = record {
       meaning = Ok request;

@@ -4,7 +4,6 @@ pub mod Endings
 pub mod Forms
 pub mod Framing
 pub mod HeaderLines
-pub mod MovedOps
 pub mod Pieces
 pub mod Progress
 pub mod SameErrors

@@ -8,7 +8,7 @@ use Rattle.std.proofs.KnownBytes.{Appends-nil, Appends-trans, Consumes-nil, Cons
 use Rattle.std.proofs.Math.Seq.{drop-drop}
 use Rattle.std.proofs.lemmas.List.{drop_at}
 use Rattle.std.specs.Io.KnownBytes.{Appends, Consumes, IsAtEnd, Keeps}
-use Rattle.ifmap_core.specs.State.{State}
+use Rattle.ifmap_machine.specs.State.{State}
 use Rattle.ifmap_requests.specs.Laws.{OneMeaning}
 use Rattle.ifmap_requests.specs.Means.{Means}
 use Rattle.ifmap_server.specs.Awaited.{IsAwaited}

@@ -1,9 +1,9 @@
 pub mod Awaited
+pub mod BuiltRequests
 pub mod Characters
 pub mod Ends
 pub mod Frames
 pub mod Lines
-pub mod MachineRequests
 pub mod Output
 pub mod Pending
 pub mod Replayed

@@ -2,17 +2,17 @@
 use Rattle.std.specs.Prelude.{◌≡◌, ℕ, List, [], ◌∷◌, ◌++◌, codes, length, Option, None, Some, Ok, Err, false, take}
 use Rattle.std.specs.Fmt.{decimal}
 use Rattle.std.specs.Io.KnownBytes.{Appends}
-use Rattle.ifmap_core.specs.declared.events.Answer.{Answer}
-use Rattle.ifmap_core.specs.declared.events.Answer.TheVariants.{Reply}
-use Rattle.ifmap_core.specs.declared.events.Ask.TheVariants as ask
-use Rattle.ifmap_core.specs.Events.{Event}
-use Rattle.ifmap_core.specs.State.{State, opening}
-use Rattle.ifmap_core.specs.Step.{refusal, step}
-use Rattle.ifmap_msg.specs.declared.requests.Request.{Request}
-use Rattle.ifmap_msg.specs.Replies.{reply_bytes}
+use Rattle.ifmap_machine.specs.declared.events.Answer.{Answer}
+use Rattle.ifmap_machine.specs.declared.events.Answer.TheVariants.{Reply, Held, Heard}
+use Rattle.ifmap_machine.specs.declared.events.Ask.TheVariants as ask
+use Rattle.ifmap_machine.specs.Events.{Event}
+use Rattle.ifmap_machine.specs.State.{State, opening}
+use Rattle.ifmap_machine.specs.Step.{refusal, step}
+use Rattle.ifmap_replies.specs.Results.{reply_bytes}
 use Rattle.ifmap_requests.specs.declared.errors.Refusal.TheVariants.{Named, Unreadable, NoMemory}
+use Rattle.ifmap_requests.specs.declared.requests.Request.{Request}
+use Rattle.ifmap_server.specs.BuiltRequests.{built_request_of}
 use Rattle.ifmap_server.specs.Frames.{Frame, Meaning}
-use Rattle.ifmap_server.specs.MachineRequests.{machine_request_of}
 use Rattle.ifmap_server.specs.Script.{IsScript}
 
 -- after how many seconds without a request a session is expired
@@ -28,9 +28,12 @@ abbrev pub event_of : Frame → Asking
 event_of f request =
     record { moment = f.moment; client = f.client; random = f.random; again = false; bytes = length f.body; ask = ask.Request request }
 
--- `=`, the length of the reply, a newline and the reply
+-- `=`, the length of the reply, a newline and the reply; or that nothing is told to a poll yet. That an answer was lost is heard and
+-- not written: no frame says so, since each asks a request
 abbrev pub answer_text : Answer → List ℕ
 answer_text (Reply reply) = codes "=" ++ decimal (length (reply_bytes reply)) ++ codes "\n" ++ reply_bytes reply
+answer_text Held = codes "held\n"
+answer_text Heard = []
 
 -- what is written for a body that is no request, and for a request that the machine cannot be asked yet
 abbrev pub unreadable_text : List ℕ
@@ -44,7 +47,7 @@ step_request state event (Some request) = ((step state (event request)).0, answe
 -- the same of a meaning: a code is told, with its name as the note, and nothing is asked, so that the state's moment stays too; no
 -- body means a want of memory
 abbrev pub step_meaning : State → Asking → Meaning → State × List ℕ
-step_meaning state event (Ok request) = step_request state event (machine_request_of request)
+step_meaning state event (Ok request) = step_request state event (built_request_of request)
 step_meaning state event (Err (Named code)) = (state, answer_text (refusal code))
 step_meaning state event (Err Unreadable) = (state, unreadable_text)
 step_meaning state event (Err NoMemory) = (state, unreadable_text)

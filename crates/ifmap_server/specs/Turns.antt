@@ -1,8 +1,8 @@
 -- One turn of a replay: a frame is taken and answered, or the replay ends. No public clause cites this file.
 use Rattle.std.specs.Prelude.{◌≡◌, ◌≢◌, ℕ, ◌+◌, ◌≤◌, List, [], ◌++◌, drop, length, slice_range, IfSome, Result, Ok, Err, false}
 use Rattle.std.specs.Io.KnownBytes.{Appends, IsAtEnd, Keeps}
-use Rattle.ifmap_core.specs.declared.events.Ask.TheVariants as ask
-use Rattle.ifmap_core.specs.State.{State, opening}
+use Rattle.ifmap_machine.specs.declared.events.Ask.TheVariants as ask
+use Rattle.ifmap_machine.specs.State.{State, opening}
 use Rattle.ifmap_server.specs.declared.errors.ReplayError.{ReplayError}
 use Rattle.ifmap_server.specs.declared.errors.ReplayError.TheVariants.{FrameFault, NoMemory, ReadFault, WriteFault}
 use Rattle.ifmap_server.specs.declared.headers.Header.{Header}

@@ -2,11 +2,11 @@
 //! program makes.
 #![tactic(auto)]
 
+mod built_requests;
 mod errors;
 mod headers;
 mod input;
 mod laws;
-mod machine_requests;
 mod replaying;
 mod replies;
 mod running;

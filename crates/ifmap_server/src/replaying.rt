@@ -5,7 +5,7 @@ ghost use Rattle.ifmap_io.specs.Causes.{Rose};
 ghost use Rattle.ifmap_server.specs.declared.headers.Header.{Header};
 ghost use Rattle.ifmap_server.specs.Awaited.{IsAwaited};
 ghost use Rattle.ifmap_requests.specs.Fit.{IsFitRequest};
-ghost use Rattle.ifmap_server.specs.MachineRequests.{machine_request_of};
+ghost use Rattle.ifmap_server.specs.BuiltRequests.{built_request_of};
 ghost use Rattle.ifmap_server.specs.Output.{AppendsPrefix, fault_line, step_request};
 ghost use Rattle.ifmap_server.specs.Pending.{Takes};
 ghost use Rattle.ifmap_server.specs.Replayed.{Promises};
@@ -13,14 +13,15 @@ ghost use Rattle.ifmap_server.specs.Script.{longest_script};
 ghost use Rattle.ifmap_server.specs.Ends.{IsLater, ends};
 ghost use Rattle.ifmap_server.specs.Turns.{BeginsNone, IsAnswered, IsFramed, Turns, asking_of, beginning};
 
+use crate::built_requests::built_request_of;
 use crate::errors::ReplayError;
 use crate::headers::{Header, header_of};
 use crate::input::Input;
-use crate::machine_requests::machine_request_of;
 use crate::replies::AnswerText;
 use crate::sending::send;
-use ifmap_core::{Ask, Core, Event};
+use ifmap_core::Core;
 use ifmap_io::{Sink, Source};
+use ifmap_machine::{Ask, Event};
 use ifmap_requests::laws::{bodies_have_one_meaning, bodies_mean_fit_requests};
 use ifmap_requests::{Refusal, Request, read_request};
 use ifmap_steps::Steps;
@@ -115,12 +116,12 @@ fn answer_request<L: Ledger>(
 ) -> Result<AnswerText, ReplayError>
     requires { IsFitRequest request }
     ensures state { OnOk result (core.new
-        ≡ (step_request core.old (asking_of header) (machine_request_of request)).0) }
+        ≡ (step_request core.old (asking_of header) (built_request_of request)).0) }
     ensures text { IfOk result (λ text.
-        text ≡ (step_request core.old (asking_of header) (machine_request_of request)).1) }
+        text ≡ (step_request core.old (asking_of header) (built_request_of request)).1) }
     ensures cause { IfErr result (λ e. e ≡ ReplayError.NoMemory) }
 {
-    let Some(request) = machine_request_of(alloc, request)? else {
+    let Some(request) = built_request_of(request) else {
         return Ok(AnswerText::unreadable(alloc)?);
     };
     let Header {
@@ -129,6 +130,8 @@ fn answer_request<L: Ledger>(
         random,
         size,
     } = header;
+    // The look tells the proof that the client has a name, as the event asks.
+    let _ = client.text();
     let event = Event {
         moment,
         client,
@@ -138,7 +141,7 @@ fn answer_request<L: Ledger>(
         ask: Ask::Request(request),
     };
     let answer = core.step(alloc, &event, steps)?;
-    Ok(AnswerText::new(alloc, answer)?)
+    Ok(AnswerText::new(alloc, &answer)?)
 }
 
 /// What a turn did.

@@ -1,23 +1,22 @@
 //! Answers as they are sent.
-ghost use Rattle.std.specs.Prelude.{◌≡◌, ◌++◌, IfErr, IfOk};
-ghost use Rattle.ifmap_core.specs.Step.{refusal};
+ghost use Rattle.std.specs.Prelude.{◌≡◌, IfErr, IfOk};
 ghost use Rattle.ifmap_io.specs.Causes.{HasCause};
 ghost use Rattle.ifmap_io.specs.Written.{WritesAll};
-ghost use Rattle.ifmap_msg.specs.Replies.{reply_bytes};
+ghost use Rattle.ifmap_machine.specs.Step.{refusal};
 ghost use Rattle.ifmap_server.specs.Output.{answer_text, unreadable_text};
 
 use crate::errors::ReplayError;
 use crate::sending::{hand_on, write};
-use ifmap_core::Answer;
-use ifmap_elem::{Many, Text, canonical};
+use ifmap_elem::{Many, Text};
 use ifmap_ident::Code;
 use ifmap_io::Sink;
-use ifmap_msg::{Reply, element_of};
+use ifmap_machine::Answer;
+use ifmap_replies::{Reply, write_reply};
 use std::alloc::{AllocError as NoMemory, Global};
 use std::marker::Model;
 
-/// The text of an answer: its first line, and the reply, which stays where it was printed. Contracts
-/// see all of it.
+/// The text of an answer: its first line, and the reply where there is one, which stays where it was
+/// printed. Contracts see all of it.
 #[derive(Drop)]
 pub struct AnswerText {
     line: String,
@@ -38,11 +37,7 @@ impl AnswerText {
     pub fn unreadable(alloc: Global) -> Result<AnswerText, NoMemory>
         ensures { IfOk result (λ text. text ≡ unreadable_text) }
     {
-        let line = String::from_str(alloc, "unreadable\n")?;
-        Ok(AnswerText {
-            line,
-            reply: Many(Vec::new(alloc)),
-        })
+        AnswerText::of_line(alloc, "unreadable\n")
     }
 
     /// The answer to a request with a defect: its code, with the code's name as the note.
@@ -50,18 +45,39 @@ impl AnswerText {
         ensures { IfOk result (λ text. text ≡ answer_text (refusal code)) }
     {
         let note = Text::from_str(alloc, code.name())?;
-        AnswerText::new(alloc, Answer::Reply(Reply::Error { code, note }))
+        AnswerText::of_reply(alloc, &Reply::Error { code, note })
     }
 
-    /// `=`, the length of the reply, a newline and the reply.
-    pub fn new(alloc: Global, answer: Answer) -> Result<AnswerText, NoMemory>
-        ensures { IfOk result (λ text. text ≡ answer_text answer) }
+    /// What is written for an answer of the machine.
+    pub fn new(alloc: Global, answer: &Answer) -> Result<AnswerText, NoMemory>
+        ensures { IfOk result (λ text. text ≡ answer_text answer.now) }
     {
-        let Answer::Reply(reply) = answer;
-        let reply = reply_bytes(alloc, reply)?;
+        match answer {
+            Answer::Reply(reply) => AnswerText::of_reply(alloc, reply),
+            Answer::Held => AnswerText::of_line(alloc, "held\n"),
+            Answer::Heard => AnswerText::of_line(alloc, ""),
+        }
+    }
+
+    // `=`, the length of the reply, a newline and the reply.
+    fn of_reply(alloc: Global, reply: &Reply) -> Result<AnswerText, NoMemory>
+        ensures { IfOk result (λ text. text ≡ answer_text (Answer.Reply reply.now)) }
+    {
+        let reply = write_reply(alloc, reply)?;
         let length = reply.0.len();
         let line = format!(in alloc; "={length}\n")?;
         Ok(AnswerText { line, reply })
+    }
+
+    // A line and no reply.
+    fn of_line(alloc: Global, line: &str) -> Result<AnswerText, NoMemory>
+        ensures { IfOk result (λ text. text ≡ line.now) }
+    {
+        let line = String::from_str(alloc, line)?;
+        Ok(AnswerText {
+            line,
+            reply: Many(Vec::new(alloc)),
+        })
     }
 
     /// Writes the text, and hands it on.
@@ -74,12 +90,4 @@ impl AnswerText {
         write(sink, self.reply.0.as_slice())?;
         hand_on(sink)
     }
-}
-
-// A reply as it is sent.
-fn reply_bytes(alloc: Global, reply: Reply) -> Result<Many<u8>, NoMemory>
-    ensures { IfOk result (λ bytes. bytes ≡ reply_bytes reply) }
-{
-    let element = element_of(alloc, reply)?;
-    canonical(alloc, &element)
 }

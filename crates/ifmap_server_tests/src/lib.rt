@@ -1,7 +1,11 @@
-//! Tests of scripts: their answers from outside, the forms of headers, requests in any spelling and
-//! with defects, and sources and sinks that fail.
+//! Tests of scripts: their answers from outside, worked examples, the forms of headers, requests in any
+//! spelling and with defects, and sources and sinks that fail.
 #![tactic(auto)]
 
+#[cfg(test)]
+mod examples;
+#[cfg(test)]
+mod outside;
 #[cfg(test)]
 mod pacing;
 #[cfg(test)]

@@ -146,13 +146,27 @@ fn a_code_moves_no_moment(rt: HostRuntime) -> Result<(), Fail> {
     expect_replay(&rt, script.as_str(), 0, written.as_str())
 }
 
-const NOT_BUILT: [&str; 12] = [
-    "<n2:newSession max-poll-result-size='10000'/>",
-    "<n2:renewSession SESSION/>",
-    "<n2:poll SESSION/>",
-    "<n2:purgePublisher SESSION ifmap-publisher-id='c1'/>",
+const NOT_BUILT: [&str; 2] = [
     "<n2:subscribe SESSION/>",
     "<n2:subscribe SESSION><update name='s'><mac-address value='00:00:5e:00:53:01'/></update></n2:subscribe>",
+];
+
+#[test]
+fn what_the_machine_cannot_be_asked_is_unreadable(rt: HostRuntime) -> Result<(), Fail> {
+    let alloc = rt.alloc();
+    for request in NOT_BUILT {
+        let request = request.replace(alloc, "SESSION", IN_SESSION)?;
+        expect_unreadable(&rt, body_of(alloc, request.as_str())?.as_str())?;
+    }
+    Ok(())
+}
+
+const IN_A_SESSION: [&str; 11] = [
+    "<n2:renewSession SESSION/>",
+    "<n2:endSession SESSION/>",
+    "<n2:poll SESSION/>",
+    "<n2:purgePublisher SESSION ifmap-publisher-id='c1'/>",
+    "<n2:publish SESSION/>",
     "<n2:publish SESSION><delete><mac-address value='00:00:5e:00:53:01'/></delete></n2:publish>",
     "<n2:publish SESSION><update><mac-address value='00:00:5e:00:53:01'/><metadata/></update><notify><mac-address value='00:00:5e:00:53:01'/><metadata/></notify></n2:publish>",
     "<n2:search SESSION max-depth='1'><mac-address value='00:00:5e:00:53:01'/></n2:search>",
@@ -162,11 +176,55 @@ const NOT_BUILT: [&str; 12] = [
 ];
 
 #[test]
-fn what_the_machine_cannot_be_asked_is_unreadable(rt: HostRuntime) -> Result<(), Fail> {
+fn without_a_session_nothing_is_done_in_it(rt: HostRuntime) -> Result<(), Fail> {
+    for request in IN_A_SESSION {
+        expect_code(&rt, request, "InvalidSessionID")?;
+    }
+    Ok(())
+}
+
+// The session is the client `c1`'s, and `c2` asks in it.
+#[test]
+fn nobody_asks_in_the_session_of_another(rt: HostRuntime) -> Result<(), Fail> {
     let alloc = rt.alloc();
-    for request in NOT_BUILT {
+    let begun = FOUND.get(..FIRST_ANSWER).ok_or("a short output")?;
+    let denied = refusal_of(alloc, "AccessDenied")?;
+    let written = format!(in alloc; "{begun}{denied}")?;
+    for request in IN_A_SESSION {
         let request = request.replace(alloc, "SESSION", IN_SESSION)?;
-        expect_unreadable(&rt, body_of(alloc, request.as_str())?.as_str())?;
+        let body = body_of(alloc, request.as_str())?;
+        let mut script = frame_of(alloc, 1_000_000_000, "c1", NEW_SESSION)?;
+        script.push_str(frame_of(alloc, 1_000_000_000, "c2", body.as_str())?.as_str())?;
+        expect_replay(&rt, script.as_str(), 0, written.as_str())?;
+    }
+    Ok(())
+}
+
+// The limit that is asked for, and the one that the session has.
+const LIMITS: [(&str, &str); 5] = [
+    ("0", "10000"),
+    ("10000", "10000"),
+    ("0010001", "10001"),
+    ("5000000", "5000000"),
+    ("99999999999999999999", "5000000"),
+];
+
+#[test]
+fn limits_are_put_into_their_range(rt: HostRuntime) -> Result<(), Fail> {
+    let alloc = rt.alloc();
+    for (asked, limit) in LIMITS {
+        let request = format!(in alloc; "<n2:newSession max-poll-result-size='{asked}'/>")?;
+        let body = body_of(alloc, request.as_str())?;
+        let script = script_of(alloc, &[body.as_str()])?;
+        let result = format!(in alloc;
+            "<newSessionResult ifmap-publisher-id=\"c1\" max-poll-result-size=\"{limit}\" {IN_SESSION}/>"
+        )?;
+        expect_replay(
+            &rt,
+            script.as_str(),
+            0,
+            answer_of(alloc, result.as_str())?.as_str(),
+        )?;
     }
     Ok(())
 }

@@ -1,5 +1,5 @@
 //! Replays of scripts over memory.
-use crate::scripts::{FOUND, PUBLISH_AND_FIND, THREE_ANSWERS, THREE_FRAMES};
+use crate::scripts::{FOUND, PUBLISH_AND_FIND, THREE_ANSWERS, THREE_FRAMES, WHO_IS_IT, WHO_IT_IS};
 use ifmap_io::{MemorySink, MemorySource};
 use ifmap_server::{Form, form_of, replay, run};
 use std::alloc::Global;
@@ -43,6 +43,11 @@ fn three_frames_are_answered(rt: HostRuntime) -> Result<(), Fail> {
 #[test]
 fn what_is_published_is_found(rt: HostRuntime) -> Result<(), Fail> {
     expect_replay(&rt, PUBLISH_AND_FIND, 0, FOUND)
+}
+
+#[test]
+fn what_is_linked_with_an_address_is_found(rt: HostRuntime) -> Result<(), Fail> {
+    expect_replay(&rt, WHO_IS_IT, 0, WHO_IT_IS)
 }
 
 #[test]

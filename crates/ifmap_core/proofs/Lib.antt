@@ -1,4 +1,0 @@
-pub mod Attaching
-pub mod Graphs
-pub mod Histories
-pub mod Refusals

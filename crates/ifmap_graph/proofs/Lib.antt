@@ -1,4 +1,0 @@
-pub mod GraphLaws
-pub mod Keys
-pub mod Placing
-pub mod Ranges

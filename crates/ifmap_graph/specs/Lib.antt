@@ -1,4 +1,0 @@
-pub mod Attachments
-pub mod Graph
-pub mod Places
-pub mod Placing

@@ -1,0 +1,46 @@
+-- The order of items, as entries of a map meet it.
+use Rattle.std.proofs.Common.{rules, ◌≡◌, Bool, true, false, List, [], ◌∷◌, ap, ◌∙◌, sym, refl}
+use Rattle.std.specs.BTreeMap.{is_at}
+use Rattle.std.specs.Cmp.{IsTotalOrder}
+use Rattle.std.specs.Cmp.Rules.{comparing}
+use Rattle.std.specs.List.{AllByRecursion}
+use Rattle.std.specs.Ordering.{is_eq, is_lt, ordering_reverse}
+use Rattle.std.specs.declared.cmp.Ordering.{Ordering}
+use Rattle.std.specs.declared.cmp.Ordering.TheVariants.{Less, Equal, Greater}
+use Rattle.ifmap_ident.specs.declared.items.Item.{Item}
+use Rattle.ifmap_ident.specs.Items.{item_order, items_tie, same_item}
+
+pub items_total : IsTotalOrder item_order
+items_total = search (comparing, rules)
+
+eq_turned : (o : Ordering) → is_eq (ordering_reverse o) ≡ is_eq o
+eq_turned Less = refl
+eq_turned Equal = refl
+eq_turned Greater = refl
+
+pub equal_is : (o : Ordering) → is_eq o ≡ true → o ≡ Equal
+equal_is Less e = let q : false ≡ true = e in cc
+equal_is Equal e = refl
+equal_is Greater e = let q : false ≡ true = e in cc
+
+pub less_is : (o : Ordering) → is_lt o ≡ true → o ≡ Less
+less_is Less e = refl
+less_is Equal e = let q : false ≡ true = e in cc
+less_is Greater e = let q : false ≡ true = e in cc
+
+-- the test of a look-up is that of what is stored on an item
+pub ties : (item other : Item) → is_at (item_order item) other ≡ same_item other item
+ties item other = sym (items_tie other item ∙ ap is_eq (items_total.antisymm other item) ∙ eq_turned (item_order item other))
+
+-- an item below another is not the same
+pub apart : (i y : Item) → item_order i y ≡ Less → same_item y i ≡ false
+apart i y e = sym (ties i y) ∙ ap is_eq e
+
+-- what is above an item is above those that tie with it
+pub above_tied : (i k : Item) (ys : List Item) → item_order i k ≡ Equal → AllByRecursion (λ y. item_order k y ≡ Less) ys
+    → AllByRecursion (λ y. item_order i y ≡ Less) ys
+above_tied i k [] e a = tt
+above_tied i k (y ∷ ys) e a = (items_total.congr i k y e ∙ a.0, above_tied i k ys e a.1)
+
+pub turned_tie : (x y : Item) → item_order x y ≡ Equal → item_order y x ≡ Equal
+turned_tie x y e = items_total.antisymm y x ∙ ap ordering_reverse e

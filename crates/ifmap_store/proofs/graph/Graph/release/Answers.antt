@@ -1,0 +1,22 @@
+use Rattle.std.proofs.Common.{rules}
+use Rattle.slab.specs.Slab.{get}
+use Rattle.ifmap_store.proofs.Own.{inside_released, live_key, own_released}
+use Rattle.ifmap_store.proofs.graph.Graph.release.Goals as goal
+
+pub release-requires : goal.release-requires
+release-requires c = let q = rw (← c.self.view_is) at c.requires in live_key c.self.inside.names c.args.number q.0 q.2
+
+pub invariant_of-self : goal.invariant_of-self
+invariant_of-self c =
+    let q = rw (← c.self.view_is) at c.requires
+    in inside_released c.self.inside.names c.release.new.self (get c.self.inside.shelves.slots) c.self.inside.shelves.places.entries
+    c.self.inside.links.items c.self.invariant c.args.number c.release.ensures.kept c.release.ensures.last c.release.ensures.counted
+    c.release.ensures.others c.release.ensures.whole c.release.ensures.held q.0 q.1 q.2 q.3 q.4
+
+pub returns-clause-own : goal.returns-clause-own
+returns-clause-own c =
+    let q = rw (← c.self.view_is) at c.requires
+    in rw (← c.self.view_is)
+    (own_released c.self.inside.names c.release.new.self (get c.self.inside.shelves.slots) c.self.inside.shelves.places.entries
+    c.self.inside.links.items c.self.invariant c.args.number c.release.ensures.kept c.release.ensures.last c.release.ensures.counted
+    c.release.ensures.others c.release.ensures.whole c.release.ensures.held q.0 q.1 q.2 q.3 q.4)

@@ -1,0 +1,12 @@
+-- The inside of a graph, in reading order.
+pub mod Sides
+pub mod Shelved
+pub mod After
+pub mod Named
+pub mod Linked
+pub mod Joined
+pub mod Drafted
+pub mod Turning
+pub mod Waits
+pub mod Held
+pub mod Out

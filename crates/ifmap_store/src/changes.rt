@@ -1,0 +1,27 @@
+//! Changes that are out, and changes that can be taken back.
+use crate::ways::Way;
+use ifmap_elem::Many;
+use ifmap_plans::Plan;
+use ifmap_view::{LinkSeen, Row};
+
+/// A change that is out: all memory that it needs is taken.
+#[derive(Drop)]
+pub struct Ready {
+    /// What changes.
+    pub plan: Plan,
+    /// Room for the list that gives way, for each item of the plan.
+    pub lists: Many<Many<Row>>,
+    /// The numbers whose links come or go.
+    pub ways: Many<Way<LinkSeen>>,
+}
+
+/// A change that was made, with what was there before.
+#[derive(Drop)]
+pub struct Undo {
+    /// What changed.
+    pub plan: Plan,
+    /// The list that was there, for each item of the plan.
+    pub lists: Many<Many<Row>>,
+    /// The numbers whose links came or went, with those that were there.
+    pub ways: Many<Way<LinkSeen>>,
+}
