@@ -17,20 +17,20 @@ use Rattle.ifmap_store.specs.Shelved.{IsList, IsPlaced, Side, list_at}
 use Rattle.ifmap_store.specs.Sides.{Sides, next, now, sides_code}
 
 -- the shelves in the order of their items, the empty ones among them; the identifiers with their numbers; the links of each number on
--- both sides; and how often items are waited for, together
+-- both sides; and the slot of each item's shelf, in the same order
 pub record Held : Type 0 where
   pub shelves : List (Item × Option Shelf)
   pub names : Holdings Identifier
   pub links : List (Sides LinkSeen)
-  pub waiting : ℕ
+  pub places : List (Item × ℕ)
 
 abbrev pub held_code : Coded Item → Coded Shelf → Coded Identifier → Coded LinkSeen → Coded Held
 held_code item shelf identifier link =
     code_by
-    (List (Item × Option Shelf) × (Holdings Identifier × (List (Sides LinkSeen) × ℕ)))
-    (coded× (coded_list (coded× item (coded_option shelf))) (coded× (holdings_code identifier) (coded× (coded_list (sides_code link)) coded_ℕ)))
-    (λ h. (h.shelves, (h.names, (h.links, h.waiting))))
-    (λ p. record { shelves = p.0; names = p.1.0; links = p.1.1.0; waiting = p.1.1.1 })
+    (List (Item × Option Shelf) × (Holdings Identifier × (List (Sides LinkSeen) × List (Item × ℕ))))
+    (coded× (coded_list (coded× item (coded_option shelf))) (coded× (holdings_code identifier) (coded× (coded_list (sides_code link)) (coded_list (coded× item coded_ℕ)))))
+    (λ h. (h.shelves, (h.names, (h.links, h.places))))
+    (λ p. record { shelves = p.0; names = p.1.0; links = p.1.1.0; places = p.1.1.1 })
     (λ _. refl)
 
 -- the shelves of entries

@@ -10,3 +10,5 @@ pub mod Turning
 pub mod Waits
 pub mod Held
 pub mod Out
+pub mod Seen
+pub mod Back

@@ -28,7 +28,6 @@ pub struct Graph {
     pub(crate) names: Pool<Identifier>,
     pub(crate) shelves: Shelves,
     pub(crate) links: Vec<Sided<LinkSeen>>,
-    pub(crate) waiting: u64,
 }
 
 impl Model for Graph {
@@ -48,7 +47,7 @@ impl Model for Graph {
       shelves = shown (get g.shelves.slots) g.shelves.places.entries;
       names = g.names;
       links = g.links.items;
-      waiting = g.waiting;
+      places = g.shelves.places.entries;
     } };
 
     ghost invariant = { λ g.
@@ -121,13 +120,12 @@ impl Graph {
     pub fn new(alloc: Global) -> Graph
         ensures shelves { result.shelves ≡ [] }
         ensures links { result.links ≡ [] }
-        ensures waiting { result.waiting ≡ 0 }
+        ensures places { result.places ≡ [] }
     {
         Graph {
             names: Pool::new(alloc),
             shelves: Shelves::new(alloc),
             links: Vec::new(alloc),
-            waiting: 0,
         }
     }
 

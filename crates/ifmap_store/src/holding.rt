@@ -34,7 +34,6 @@ impl Graph {
             → IsHeld identifier_order self.old.names a count
             → IsHeld identifier_order self.new.names a (count + named_by item.now a)) }
         ensures err { OnErr result (self.new.names.live ≡ self.old.names.live) }
-        ensures waiting { self.new.waiting ≡ self.old.waiting }
     {
         let key = item.copy(alloc)?;
         let ends = item.copy(alloc)?;
@@ -54,7 +53,7 @@ impl Graph {
             → IsOwn self.new a (own + once identifier_order id.now a)) }
         ensures shelves { self.new.shelves ≡ self.old.shelves }
         ensures links { (v : ℕ) → sides_at self.new.links v ≡ sides_at self.old.links v }
-        ensures waiting { self.new.waiting ≡ self.old.waiting }
+        ensures places { self.new.places ≡ self.old.places }
         ensures err { OnErr result (self.new.names.live ≡ self.old.names.live) }
     {
         bytes_tell_identifiers_apart();
@@ -73,7 +72,7 @@ impl Graph {
             → IsOwn self.new other (own - once identifier_order a other) }
         ensures shelves { self.new.shelves ≡ self.old.shelves }
         ensures links { self.new.links ≡ self.old.links }
-        ensures waiting { self.new.waiting ≡ self.old.waiting }
+        ensures places { self.new.places ≡ self.old.places }
     {
         self.names.release(number);
     }

@@ -12,9 +12,12 @@ pub mod graph;
 mod holding;
 mod linking;
 mod placing;
+mod reserving;
+mod settling;
 pub mod shelves;
 pub mod sided;
 mod turning;
+mod undoing;
 pub mod ways;
 
 pub use changes::{Ready, Undo};
