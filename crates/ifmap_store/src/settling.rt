@@ -20,6 +20,7 @@ impl Graph {
         ensures own { KeepsOwn self.old self.new }
         ensures waits { AwaitsLess (items_of undo.plan.changes) self.old self.new }
     {
+        undo.plan
     }
 
     /// Carries out a plan that is out. It takes no memory.

@@ -24,5 +24,6 @@ impl Graph {
         ensures own { KeepsOwn self.old self.new }
         ensures waits { AwaitsLess (items_of undo.plan.changes) self.old self.new }
     {
+        let _ = undo;
     }
 }
