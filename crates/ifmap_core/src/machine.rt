@@ -4,10 +4,12 @@ ghost use Rattle.ifmap_core.specs.Built.{IsBuilt};
 ghost use Rattle.ifmap_machine.specs.State.{opening};
 ghost use Rattle.ifmap_machine.specs.Step.{step};
 
+use crate::ending::{Time, answer_at};
 use ifmap_io::Moment;
 use ifmap_machine::{Answer, Event};
 use ifmap_session::Sessions;
-use ifmapsteps::Steps;
+use ifmap_steps::Steps;
+use ifmap_store::Graph;
 use std::alloc::{AllocError as NoMemory, Global};
 use std::marker::Model;
 use std::sync::ledger::Ledger;
@@ -17,12 +19,13 @@ use std::sync::ledger::Ledger;
 pub struct Core {
     ttl: u32,
     moment: Moment,
+    graph: Graph,
     sessions: Sessions,
 }
 
 impl Model for Core {
-    ghost use Rattle.std.specs.Prelude.{[]};
     ghost use Rattle.std.specs.Coded.{codes};
+    ghost use Rattle.ifmap_core.specs.Between.{IsCore, state_at};
     ghost use Rattle.ifmap_machine.specs.State.{State};
     ghost use Rattle.ifmap_search.specs.contracts.results.PollItem as the_poll_item;
     ghost use Rattle.ifmap_search.specs.contracts.searches.Search as the_search;
@@ -37,14 +40,9 @@ impl Model for Core {
       the_search.the_row.coded,
     ) };
 
-    ghost view = { λ core. record {
-      moment = core.moment;
-      ttl = core.ttl;
-      counter = core.sessions.counter;
-      graph = [];
-      sessions = core.sessions.live;
-      standing = [];
-    } };
+    ghost view = { λ core. state_at core.ttl core.moment core.graph core.sessions };
+
+    ghost invariant = { λ core. IsCore core.ttl core.graph core.sessions.live };
 }
 
 impl Core {
@@ -57,6 +55,7 @@ impl Core {
         Core {
             ttl,
             moment: Moment::new(0).unwrap(),
+            graph: Graph::new(alloc),
             sessions: Sessions::new(alloc),
         }
     }
@@ -72,6 +71,20 @@ impl Core {
         ensures answer { IfOk result (λ answer. (self.new, answer) ≡ step self.old event.now) }
         ensures err { OnErr result (self.new ≡ self.old) }
     {
-        Err(NoMemory)
+        let moment = self.moment.max(event.moment);
+        let time = Time {
+            ttl: self.ttl,
+            moment,
+        };
+        let answer = answer_at(
+            alloc,
+            &mut self.graph,
+            &mut self.sessions,
+            &time,
+            event,
+            steps,
+        )?;
+        self.moment = moment;
+        Ok(answer)
     }
 }
