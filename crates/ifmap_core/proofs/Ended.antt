@@ -112,11 +112,11 @@ client_lost p (x ∷ live) client s apart e goes =
 
 -- ---- sessions end one after the other
 
-some_is : {X : Type 0} (o : Option X) → IsSome o → (x : X) × (o ≡ Some x)
+pub some_is : {X : Type 0} (o : Option X) → IsSome o → (x : X) × (o ≡ Some x)
 some_is None e = cc
 some_is (Some x) e = (x, refl)
 
-is_some_of : {X : Type 0} (o : Option X) (x : X) → o ≡ Some x → IsSome o
+pub is_some_of : {X : Type 0} (o : Option X) (x : X) → o ≡ Some x → IsSome o
 is_some_of o x e = rw e refl
 
 live_beside : (n m : ℕ) (live : List Session) → (m == n) ≡ false → IsLive m live → IsLive m (without_sessions (n ∷ []) live)

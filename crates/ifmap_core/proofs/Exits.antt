@@ -30,3 +30,8 @@ module _ {X E : Type 0} (r : Result X E) where
       by : (q : Result X E) → OnOk q P
       by (Ok x) = p
       by (Err e) = tt
+
+-- what holds of a value for each of some
+pub for_each : {X E Y : Type 0} (P : X → Y → Type 0) (r : Result X E) → ((y : Y) → IfOk r (λ x. P x y)) → IfOk r (λ x. (y : Y) → P x y)
+for_each P (Ok x) f = f
+for_each P (Err e) f = tt

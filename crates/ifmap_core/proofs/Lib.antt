@@ -5,3 +5,6 @@ pub mod Quiet
 pub mod Exits
 pub mod Changed
 pub mod Owned
+pub mod Applying
+pub mod Requests
+pub mod Refusals

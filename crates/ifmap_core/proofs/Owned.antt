@@ -1,8 +1,8 @@
 -- Whose a session is that is left.
-use Rattle.std.proofs.Common.{◌≡◌, refl, sym, ◌∙◌, ap, subst, ℕ, ◌==◌, Bool, true, false, not, List, map, Option, None, Some, inl, inr}
+use Rattle.std.proofs.Common.{◌≡◌, refl, sym, ◌∙◌, ap, subst, ℕ, ◌==◌, Bool, true, false, not, List, map, Option, None, Some, is_none, inl, inr}
 use Rattle.std.proofs.lemmas.Bool.{cases_Bool}
 use Rattle.std.specs.List.{find, list_any}
-use Rattle.std.specs.Option.{IfSome, IsSome, option_map}
+use Rattle.std.specs.Option.{IfSome, IsSome, is_some, option_map}
 use Rattle.ifmap_core.specs.Outcomes.{IsOwner}
 use Rattle.ifmap_core.specs.declared.outcomes.Owner.TheVariants.{Own, Another}
 use Rattle.ifmap_core.proofs.Ended.{client_lost, found_left, id_lost, none_left, remains, rising_left}
@@ -70,3 +70,10 @@ module _ (table : Table) (serials client : List ℕ) (h : IsTable table) where
         ap (option_map (λ (s : Session). s.serial)) found ∙ ap Some (sym o.2),
         rw (o.2, numbered) refl,
       )
+
+pub none_told : (former : Option ℕ) (o : Option Session) (b : Bool) → former ≡ option_map (λ (s : Session). s.serial) o
+    → is_some former ≡ not b → b ≡ is_none o
+none_told former None true e is = refl
+none_told former (Some s) false e is = refl
+none_told former None false e is = let bad : false ≡ true = sym (ap is_some e) ∙ is in cc
+none_told former (Some s) true e is = let bad : true ≡ false = sym (ap is_some e) ∙ is in cc

@@ -2,3 +2,4 @@
 pub mod Built
 pub mod Between
 pub mod Outcomes
+pub mod Causes

@@ -7,12 +7,12 @@ use Rattle.ifmap_core.specs.declared.outcomes.Owner.TheVariants.{Own, Another, N
 use Rattle.ifmap_ident.specs.declared.codes.Code.TheVariants.{InvalidSessionID}
 use Rattle.ifmap_machine.specs.declared.events.Answer.{Answer}
 use Rattle.ifmap_machine.specs.declared.events.Answer.TheVariants as the_answer
-use Rattle.ifmap_machine.specs.Ending.{drop_sessions}
 use Rattle.ifmap_machine.specs.State.{State}
 use Rattle.ifmap_machine.specs.Step.{poll_in, refusal, renew}
 use Rattle.ifmap_publish.specs.declared.who.Who.TheVariants.{Sessions}
 use Rattle.ifmap_publish.specs.Retract.{retract}
 use Rattle.ifmap_replies.specs.declared.replies.Reply.TheVariants as the_reply
+use Rattle.ifmap_search.specs.declared.results.PollItem.{PollItem}
 use Rattle.ifmap_session.specs.Sessions.{IsLive, Opening, Session, Table, begun, change, is_text, most_sessions, renewed, session_of_client, session_with_id, session_with_serial, without_sessions}
 use Rattle.ifmap_view.specs.declared.attachments.Attachment.{Attachment}
 
@@ -33,6 +33,11 @@ abbrev pub poll_found : State → Bool → Option Session → State × Answer
 poll_found state again None = (state, the_answer.Held)
 poll_found state again (Some s) = poll_in state again s
 
+-- what a poll is answered of a queue
+abbrev pub told : List PollItem → Answer
+told [] = the_answer.Held
+told (item ∷ items) = the_answer.Reply (the_reply.Polled (item ∷ items))
+
 -- the sessions where a poll was accepted: one that is asked again is no sign of life
 abbrev pub first_renewed : Bool → ℕ → ℕ → List Session → List Session
 first_renewed true serial moment live = live
@@ -42,7 +47,7 @@ first_renewed false serial moment live = change serial (renewed moment) live
 abbrev pub applied : Outcome → State → State × Answer
 applied (Say answer) state = (state, answer)
 applied (Accept serial answer) state = (renew serial state, answer)
-applied (End serial answer) state = (drop_sessions (serial ∷ []) state, answer)
+applied (End serial answer) state = (record state { sessions = without_sessions (serial ∷ []) state.sessions }, answer)
 applied (Open former opening limit publisher) state =
     (open_session former opening limit state, the_answer.Reply (the_reply.NewSession opening.id publisher limit))
 applied (Poll serial again) state = poll_found state again (session_with_serial serial state.sessions)

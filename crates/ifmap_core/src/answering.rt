@@ -7,7 +7,7 @@ ghost use Rattle.ifmap_core.specs.declared.outcomes.Outcome.TheVariants.{Say};
 ghost use Rattle.ifmap_core.specs.Outcomes.{LeadsTo, end_of_poll};
 ghost use Rattle.ifmap_ident.specs.declared.codes.Code.TheVariants.{SearchResultsTooBig};
 ghost use Rattle.ifmap_ident.specs.Canon.{IsIdentifier};
-ghost use Rattle.ifmap_machine.specs.declared.events.Ask.TheVariants.{Request};
+ghost use Rattle.ifmap_machine.specs.declared.events.Ask.TheVariants as the_ask;
 ghost use Rattle.ifmap_machine.specs.Step.{end_session, in_session, lose, poll, publish, purge, refusal_with, renew_session, search, step_ask};
 ghost use Rattle.ifmap_machine.specs.Telling.{limit_note};
 ghost use Rattle.ifmap_requests.specs.Fit.{IsFitOp, IsFitRequest};
@@ -75,11 +75,12 @@ fn answer_request<L: Ledger>(
     requires within { AreWithin sessions.old.live }
     requires ended { CanEnd asking.now.ended sessions.old.live }
     requires client { asking.now.client ≡ event.now.client }
-    requires built { IsBuilt (Request request.now) }
+    requires built { IsBuilt (the_ask.Request request.now) }
     requires fit { IsFitRequest request.now }
     ensures leads { IfOk result (λ outcome. LeadsTo outcome (rest_of asking.now sessions.new)
         (so_far asking.now graph.new sessions.new)
-        (step_ask (so_far asking.now graph.old sessions.old) event.now (Request request.now))) }
+        (step_ask (so_far asking.now graph.old sessions.old) event.now
+        (the_ask.Request request.now))) }
     ensures same { IsAsBefore sessions.old sessions.new }
     ensures turned { OnOk result (IsTurned graph.old graph.new) }
     ensures kept { OnErr result (IsKept graph.old graph.new) }
@@ -261,23 +262,23 @@ fn search<L: Ledger>(
     sessions: &Sessions,
     asking: &Asking,
     id: &Text,
-    search: &Search,
+    asked: &Search,
     steps: &mut Steps<L>,
 ) -> Result<Outcome, NoMemory>
-    requires { IsIdentifier search.now.start }
+    requires { IsIdentifier asked.now.start }
     ensures { IfOk result (λ outcome. LeadsTo outcome (rest_of asking.now sessions.now)
         (so_far asking.now graph.now sessions.now)
         (in_session (so_far asking.now graph.now sessions.now) asking.now.client
         (session_with_id id.now (left asking.now sessions.now))
-        (search (so_far asking.now graph.now sessions.now) search.now))) }
+        (search (so_far asking.now graph.now sessions.now) asked.now))) }
 {
     match owner_of(sessions, asking, id) {
-        Owner::Own(serial) => match fresh(alloc, graph, search, steps) {
+        Owner::Own(serial) => match fresh(alloc, graph, asked, steps) {
             Ok(found) => Ok(Outcome::Accept {
                 serial,
                 answer: Answer::Reply(Reply::Found(found.entries)),
             }),
-            Err(SearchError::TooBig { size }) => refuse_size(alloc, size, search.max_size),
+            Err(SearchError::TooBig { size }) => refuse_size(alloc, size, asked.max_size),
             Err(SearchError::NoMemory) => Err(NoMemory),
         },
         Owner::Another => refuse(alloc, Code::AccessDenied),

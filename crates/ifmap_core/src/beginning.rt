@@ -1,10 +1,10 @@
 //! How a session begins.
-ghost use Rattle.std.specs.Prelude.{◌≡◌, ◌<◌, ◌-◌, ◌^◌, false, IfOk, OnErr, OnOk};
+ghost use Rattle.std.specs.Prelude.{◌≡◌, ◌<◌, ◌-◌, ◌^◌, ◌&&◌, nat_le, false, is_none, length, IfOk, OnErr, OnOk};
 ghost use Rattle.std.specs.Bool.{OnFalse};
-ghost use Rattle.ifmap_core.specs.Between.{CanEnd, IsKept, IsSteady, IsTurned, rest_of, so_far, AreWithin};
+ghost use Rattle.ifmap_core.specs.Between.{CanEnd, IsKept, IsSteady, IsTurned, left, rest_of, so_far, AreWithin};
 ghost use Rattle.ifmap_core.specs.Outcomes.{LeadsTo, without_former};
 ghost use Rattle.ifmap_machine.specs.Step.{is_full, new_session};
-ghost use Rattle.ifmap_session.specs.Sessions.{IsAsBefore};
+ghost use Rattle.ifmap_session.specs.Sessions.{IsAsBefore, most_sessions, session_of_client};
 ghost use Rattle.ifmap_store.specs.Held.{Held};
 ghost use Rattle.ifmap_store.specs.Seen.{rows_now};
 
@@ -53,10 +53,37 @@ fn is_full(sessions: &Sessions, asking: &Asking) -> bool
     ensures next { OnFalse result (sessions.now.counter < 2 ^ 64 - 1) }
 {
     sessions.is_table();
-    let (live, counter) = sessions.counts();
-    let left = live - asking.ended.len() as u64;
-    let is_taken = MOST_SESSIONS as u64 <= left;
-    (is_taken && former_of(sessions, asking).is_none()) || counter == u64::MAX
+    let (_live, counter) = sessions.counts();
+    is_taken(sessions, asking) || counter == u64::MAX
+}
+
+// Whether all sessions are taken, and none by the client.
+fn is_taken(sessions: &Sessions, asking: &Asking) -> bool
+    requires { CanEnd asking.now.ended sessions.now.live }
+    ensures { result ≡ (nat_le most_sessions (length (left asking.now sessions.now))
+        && is_none (session_of_client asking.now.client (left asking.now sessions.now))) }
+{
+    let count = count_left(sessions, asking);
+    MOST_SESSIONS as u64 <= count && has_none(sessions, asking)
+}
+
+// How many sessions are left.
+fn count_left(sessions: &Sessions, asking: &Asking) -> u64
+    requires { CanEnd asking.now.ended sessions.now.live }
+    ensures { result ≡ length (left asking.now sessions.now) }
+{
+    sessions.is_table();
+    let (live, _counter) = sessions.counts();
+    let ended = asking.ended.len() as u64;
+    live - ended
+}
+
+// Whether no session is left of the client's.
+fn has_none(sessions: &Sessions, asking: &Asking) -> bool
+    ensures { result ≡ is_none (session_of_client asking.now.client
+        (left asking.now sessions.now)) }
+{
+    former_of(sessions, asking).is_none()
 }
 
 // A session begins.
@@ -81,9 +108,9 @@ fn begin<L: Ledger>(
     ensures turned { OnOk result (IsTurned graph.old graph.new) }
     ensures kept { OnErr result (IsKept graph.old graph.new) }
 {
-    sessions.is_table();
     let former = former_of(sessions, asking);
     let opening = sessions.prepare(alloc, asking.client, random)?;
+    sessions.is_table();
     let publisher = asking.client.text().copy(alloc)?;
     take_away_former(alloc, graph, former, steps)?;
     Ok(Outcome::Open {

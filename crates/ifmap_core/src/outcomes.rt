@@ -2,18 +2,19 @@
 ghost use Rattle.std.specs.Prelude.{◌≡◌, ◌≤◌, IfOk, IfSome};
 ghost use Rattle.ifmap_core.specs.declared.outcomes.Outcome.TheVariants.{Say};
 ghost use Rattle.ifmap_core.specs.Between.{AreWithin, CanEnd, rest_of, so_far, state_at};
-ghost use Rattle.ifmap_core.specs.Outcomes.{CanApply, after_former, applied, first_renewed, poll_found};
+ghost use Rattle.ifmap_core.specs.Outcomes.{CanApply, after_former, applied, first_renewed, poll_found, told};
 ghost use Rattle.ifmap_machine.specs.State.{State};
 ghost use Rattle.ifmap_machine.specs.Step.{refusal};
 ghost use Rattle.ifmap_session.specs.Sessions.{IsLive, session_with_serial, without_sessions};
 ghost use Rattle.ifmap_store.specs.Held.{Held};
 
 use crate::asking::Asking;
-use ifmap_elem::Text;
+use ifmap_elem::{Many, Text};
 use ifmap_ident::Code;
 use ifmap_io::Moment;
 use ifmap_machine::Answer;
 use ifmap_replies::Reply;
+use ifmap_search::PollItem;
 use ifmap_session::{Opening, Sessions};
 use std::alloc::{AllocError as NoMemory, Global};
 
@@ -81,7 +82,14 @@ fn tell_queue(sessions: &mut Sessions, moment: Moment, serial: u64, again: bool)
     sessions.is_table();
     let items = sessions.take_all(serial);
     renew_first(sessions, moment, serial, again);
-    if items.0.is_empty() {
+    answer_with(items)
+}
+
+// The answer to a poll: what there is to tell, or held where there is nothing.
+fn answer_with(items: Many<PollItem>) -> Answer
+    ensures { result ≡ told items }
+{
+    if items.is_empty() {
         return Answer::Held;
     }
     Answer::Reply(Reply::Polled(items))
