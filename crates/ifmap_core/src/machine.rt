@@ -1,6 +1,9 @@
 //! The machine.
-ghost use Rattle.std.specs.Prelude.{◌≡◌, ◌≤◌, IfOk, OnErr};
+ghost use Rattle.std.specs.Prelude.{◌≡◌, ◌↔◌, ◌⊎◌, ◌≤◌, IfOk, OnErr};
 ghost use Rattle.ifmap_core.specs.Built.{IsBuilt};
+ghost use Rattle.ifmap_core.specs.Causes.{AsksForNoneLeft, FindsTooMuch, IsRefusal, NamesAnothersSession, NamesNoSession, PurgesAnother, state_for};
+ghost use Rattle.ifmap_ident.specs.declared.codes.Code.{Code};
+ghost use Rattle.ifmap_ident.specs.declared.codes.Code.TheVariants as the_code;
 ghost use Rattle.ifmap_machine.specs.State.{opening};
 ghost use Rattle.ifmap_machine.specs.Step.{step};
 
@@ -60,7 +63,9 @@ impl Core {
         }
     }
 
-    /// Answers an event.
+    /// Answers an event: the answer and the state after it are those of `step`. The one error is want of
+    /// memory, also told of a search whose result would have 2^64 bytes or more; it leaves the state as it
+    /// was, the moment too.
     pub fn step<L: Ledger>(
         &mut self,
         alloc: Global,
@@ -70,6 +75,21 @@ impl Core {
         requires { IsBuilt event.now.ask }
         ensures answer { IfOk result (λ answer. (self.new, answer) ≡ step self.old event.now) }
         ensures err { OnErr result (self.new ≡ self.old) }
+
+        // A refusal changes nothing, once the moment is taken in and the expired sessions have ended.
+        ensures refusal { IfOk result (λ answer. (code : Code) → IsRefusal code answer
+            → self.new ≡ state_for self.old event.now) }
+
+        // Each refusal comes exactly where its cause stands, in the state that is answered in.
+        ensures invalid_session { IfOk result (λ answer. IsRefusal the_code.InvalidSessionID answer
+            ↔ NamesNoSession (state_for self.old event.now) event.now.again event.now.ask) }
+        ensures access_denied { IfOk result (λ answer. IsRefusal the_code.AccessDenied answer
+            ↔ (NamesAnothersSession (state_for self.old event.now) event.now.client event.now.ask
+            ⊎ PurgesAnother (state_for self.old event.now) event.now.client event.now.ask)) }
+        ensures system_error { IfOk result (λ answer. IsRefusal the_code.SystemError answer
+            ↔ AsksForNoneLeft (state_for self.old event.now) event.now.client event.now.ask) }
+        ensures too_big { IfOk result (λ answer. IsRefusal the_code.SearchResultsTooBig answer
+            ↔ FindsTooMuch (state_for self.old event.now) event.now.client event.now.ask) }
     {
         let moment = self.moment.max(event.moment);
         let time = Time {

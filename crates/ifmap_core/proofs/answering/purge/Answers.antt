@@ -1,4 +1,4 @@
-use Rattle.std.proofs.Common.{◌≡◌, sym, ◌∙◌, ap, subst, List, ℕ}
+use Rattle.std.proofs.Common.{◌∙◌, ap, List, ℕ}
 use Rattle.ifmap_core.specs.Between.{Asking, rest_of}
 use Rattle.ifmap_core.proofs.Applying.{within_left}
 use Rattle.ifmap_core.proofs.Requests.{purges}
@@ -13,4 +13,6 @@ returns-in_ok-take_away-in-Own-clause-leads g c =
     c.args.asking.now.client c.in-Own.serial c.in-Own.ensures (rows_now c.args.graph.now)
     (rows_now c.take_away.new.graph) c.args.publisher.now
     (within_left c.args.asking.now.ended c.args.sessions.now.live c.requires.within)
-    ? ?
+    (c.equals.ensures.0 c.if-not-equals.false ∙ c.text.ensures.text ∙ ap (λ (a : Asking). a.client) c.asking.view_is)
+    (c.in_ok-take_away-in-Own.ensures.rows ∙ ap (λ (t : List ℕ). retract (Publisher t) (rows_now c.args.graph.now))
+    (c.in_ok-copy-in-Own.ensures ∙ ap (λ (a : Asking). a.client) c.asking.view_is))
