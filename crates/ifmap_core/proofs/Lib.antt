@@ -8,3 +8,4 @@ pub mod Owned
 pub mod Applying
 pub mod Requests
 pub mod Refusals
+pub mod Holds

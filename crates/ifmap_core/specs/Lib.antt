@@ -3,3 +3,4 @@ pub mod Built
 pub mod Between
 pub mod Outcomes
 pub mod Causes
+pub mod Holding

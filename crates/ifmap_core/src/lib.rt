@@ -6,6 +6,7 @@ mod asking;
 mod beginning;
 mod changing;
 mod ending;
+mod holding;
 pub mod machine;
 mod outcomes;
 

@@ -1,13 +1,15 @@
 //! The machine.
-ghost use Rattle.std.specs.Prelude.{◌≡◌, ◌↔◌, ◌⊎◌, ◌≤◌, IfOk, OnErr};
+ghost use Rattle.std.specs.Prelude.{◌≡◌, ◌↔◌, ◌⊎◌, ◌≤◌, IfOk, IsTrue, OnErr, max};
 ghost use Rattle.ifmap_core.specs.Built.{IsBuilt};
 ghost use Rattle.ifmap_core.specs.Causes.{AsksForNoneLeft, FindsTooMuch, IsRefusal, NamesAnothersSession, NamesNoSession, PurgesAnother, state_for};
+ghost use Rattle.ifmap_core.specs.Holding.{WouldHold};
 ghost use Rattle.ifmap_ident.specs.declared.codes.Code.{Code};
 ghost use Rattle.ifmap_ident.specs.declared.codes.Code.TheVariants as the_code;
 ghost use Rattle.ifmap_machine.specs.State.{opening};
 ghost use Rattle.ifmap_machine.specs.Step.{step};
 
 use crate::ending::{Time, answer_at};
+use crate::holding::{has_nothing, polled_id};
 use ifmap_io::Moment;
 use ifmap_machine::{Answer, Event};
 use ifmap_session::Sessions;
@@ -46,6 +48,13 @@ impl Model for Core {
     ghost view = { λ core. state_at core.ttl core.moment core.graph core.sessions };
 
     ghost invariant = { λ core. IsCore core.ttl core.graph core.sessions.live };
+}
+
+// The later of two moments.
+fn later(one: Moment, other: Moment) -> Moment
+    ensures { result ≡ max one other }
+{
+    one.max(other)
 }
 
 impl Core {
@@ -91,7 +100,7 @@ impl Core {
         ensures too_big { IfOk result (λ answer. IsRefusal the_code.SearchResultsTooBig answer
             ↔ FindsTooMuch (state_for self.old event.now) event.now.client event.now.ask) }
     {
-        let moment = self.moment.max(event.moment);
+        let moment = later(self.moment, event.moment);
         let time = Time {
             ttl: self.ttl,
             moment,
@@ -106,5 +115,19 @@ impl Core {
         )?;
         self.moment = moment;
         Ok(answer)
+    }
+
+    /// Whether a poll that is asked again would still be held. It takes no memory.
+    pub fn would_hold(&self, event: &Event) -> bool
+        ensures { IsTrue result ↔ WouldHold self.now event.now }
+    {
+        let Some(id) = polled_id(&event.ask) else {
+            return false;
+        };
+        let moment = later(self.moment, event.moment);
+        if !event.again || self.sessions.any_expired(moment, self.ttl) {
+            return false;
+        }
+        has_nothing(&self.sessions, &event.client, id)
     }
 }
