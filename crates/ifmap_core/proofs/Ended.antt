@@ -7,7 +7,6 @@ use Rattle.std.proofs.lemmas.Bool.Decides.{nat_tests}
 use Rattle.std.proofs.lemmas.List.Kept.{IsStrictlySortedBy-filter}
 use Rattle.std.specs.List.{AllByRecursion, IsDistinct, filter, find, list_any}
 use Rattle.std.specs.List.Sorted.{IsStrictlySortedBy}
-
 use Rattle.std.specs.Option.{IsSome}
 use Rattle.std.specs.declared.cmp.Ordering.TheVariants.{Less}
 use Rattle.ifmap_core.specs.Between.{CanEnd}
@@ -75,11 +74,11 @@ id_lost table serials id s h e goes =
     let low : s.serial ≤ table.counter = all_found (λ (t : Session). t.serial ≤ table.counter) q table.live s h.counted e in
     let own : is_text s.id id ≡ true = found_passes q table.live s e in
     let one : (t : Session) → BeginsWithSerial t.serial t.id → t.serial ≤ table.counter → is_text t.id id ≡ true
-        → remains serials t ≡ false =
+    → remains serials t ≡ false =
     λ t begins below is. let same : t.serial ≡ s.serial =
-        ids_tell t.serial s.serial id (omega (arith, below, h.small)) (omega (arith, low, h.small))
-        (subst (BeginsWithSerial t.serial) (text_is t.id id is) begins) (subst (BeginsWithSerial s.serial) (text_is s.id id own) mine) in
-        subst (λ n. not (list_any (λ m. m == n) serials) ≡ false) (sym same) goes in
+    ids_tell t.serial s.serial id (omega (arith, below, h.small)) (omega (arith, low, h.small))
+    (subst (BeginsWithSerial t.serial) (text_is t.id id is) begins) (subst (BeginsWithSerial s.serial) (text_is s.id id own) mine) in
+    subst (λ n. not (list_any (λ m. m == n) serials) ≡ false) (sym same) goes in
     lost_left q (remains serials) table.live (all_both (λ (t : Session). BeginsWithSerial t.serial t.id)
     (λ (t : Session). t.serial ≤ table.counter) (λ (t : Session). is_text t.id id ≡ true → remains serials t ≡ false) one table.live h.ids
     h.counted)

@@ -223,17 +223,17 @@ module _ (ttl moment : ℕ) (rows : List Attachment) (table : Table) (client : L
           next = number;
         };
         leads = rw free (
-          ap (λ (p : Opening). applied (Open former p (limit_of limit) publisher) (plain ttl moment table.counter after table.live)) ready
-          ∙ ap (λ (g : List Attachment). applied (Open former (record { serial = table.counter + 1; id = told; client = client })
-          (limit_of limit) publisher) (plain ttl moment table.counter g table.live)) rows_are
-          ∙ ap (λ (f : Option ℕ). applied (Open f (record { serial = table.counter + 1; id = told; client = client }) (limit_of limit)
-          publisher) (plain ttl moment table.counter (without_former f rows) table.live)) former_same
-          ∙ ap (λ (t : List ℕ). applied (Open (option_map (λ (s : Session). s.serial) (session_of_client client table.live))
-          (record { serial = table.counter + 1; id = told; client = client }) (limit_of limit) t) (plain ttl moment table.counter
-          (without_former (option_map (λ (s : Session). s.serial) (session_of_client client table.live)) rows) table.live)) name
-          ∙ ap (λ (s : State). (begin_session client random limit s, the_answer.Reply (the_reply.NewSession told client (limit_of limit))))
+            ap (λ (p : Opening). applied (Open former p (limit_of limit) publisher) (plain ttl moment table.counter after table.live)) ready
+            ∙ ap (λ (g : List Attachment). applied (Open former (record { serial = table.counter + 1; id = told; client = client })
+            (limit_of limit) publisher) (plain ttl moment table.counter g table.live)) rows_are
+            ∙ ap (λ (f : Option ℕ). applied (Open f (record { serial = table.counter + 1; id = told; client = client }) (limit_of limit)
+            publisher) (plain ttl moment table.counter (without_former f rows) table.live)) former_same
+            ∙ ap (λ (t : List ℕ). applied (Open (option_map (λ (s : Session). s.serial) (session_of_client client table.live))
+            (record { serial = table.counter + 1; id = told; client = client }) (limit_of limit) t) (plain ttl moment table.counter
+            (without_former (option_map (λ (s : Session). s.serial) (session_of_client client table.live)) rows) table.live)) name
+            ∙ ap (λ (s : State). (begin_session client random limit s, the_answer.Reply (the_reply.NewSession told client (limit_of limit))))
             (sym (former_is (session_of_client client table.live) within))
-        );
+            );
       }
     where
       least : table.counter < 2 ^ 64 - 1 → min (table.counter + 1) (2 ^ 64 - 1) ≡ table.counter + 1
@@ -241,7 +241,7 @@ module _ (ttl moment : ℕ) (rows : List Attachment) (table : Table) (client : L
 
 -- ---- sessions that are expired end
 
-none_expired : (moment ttl : ℕ) (live : List Session) → list_any (is_expired moment ttl) live ≡ false → expired_serials moment ttl live ≡ []
+pub none_expired : (moment ttl : ℕ) (live : List Session) → list_any (is_expired moment ttl) live ≡ false → expired_serials moment ttl live ≡ []
 none_expired moment ttl [] e = refl
 none_expired moment ttl (x ∷ live) e =
     let both = or_parts (is_expired moment ttl x) (list_any (is_expired moment ttl) live) e in

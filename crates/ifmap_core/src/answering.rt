@@ -87,15 +87,19 @@ fn answer_request<L: Ledger>(
 {
     match request {
         Request::NewSession { limit } => new_session(
-            alloc, graph, sessions, asking, event.random, *limit, steps,
+            alloc,
+            graph,
+            sessions,
+            asking,
+            event.random,
+            *limit,
+            steps,
         ),
         Request::RenewSession { session } => renew_session(alloc, sessions, asking, session),
         Request::EndSession { session } => {
             end_session(alloc, graph, sessions, asking, session, steps)
         }
-        Request::Publish { session, ops } => publish(
-            alloc, graph, sessions, asking, session, ops,
-        ),
+        Request::Publish { session, ops } => publish(alloc, graph, sessions, asking, session, ops),
         Request::Search { session, search } => {
             self::search(alloc, graph, sessions, asking, session, search, steps)
         }

@@ -1,11 +1,13 @@
 //! The machine.
 ghost use Rattle.std.specs.Prelude.{◌≡◌, ◌↔◌, ◌⊎◌, ◌≤◌, IfOk, IsTrue, OnErr, max};
+ghost use Rattle.std.specs.Bool.{OnTrue};
 ghost use Rattle.ifmap_core.specs.Built.{IsBuilt};
 ghost use Rattle.ifmap_core.specs.Causes.{AsksForNoneLeft, FindsTooMuch, IsRefusal, NamesAnothersSession, NamesNoSession, PurgesAnother, state_for};
 ghost use Rattle.ifmap_core.specs.Holding.{WouldHold};
 ghost use Rattle.ifmap_ident.specs.declared.codes.Code.{Code};
 ghost use Rattle.ifmap_ident.specs.declared.codes.Code.TheVariants as the_code;
-ghost use Rattle.ifmap_machine.specs.State.{opening};
+ghost use Rattle.ifmap_machine.specs.declared.events.Answer.TheVariants as the_answer;
+ghost use Rattle.ifmap_machine.specs.State.{advance, opening};
 ghost use Rattle.ifmap_machine.specs.Step.{step};
 
 use crate::ending::{Time, answer_at};
@@ -117,9 +119,12 @@ impl Core {
         Ok(answer)
     }
 
-    /// Whether a poll that is asked again would still be held. It takes no memory.
+    /// Whether a poll that is asked again would still be held, so that asking it changes nothing but
+    /// the moment. It takes no memory.
     pub fn would_hold(&self, event: &Event) -> bool
-        ensures { IsTrue result ↔ WouldHold self.now event.now }
+        ensures exact { IsTrue result ↔ WouldHold self.now event.now }
+        ensures held { OnTrue result ((advance event.now.moment self.now, the_answer.Held)
+            ≡ step self.now event.now) }
     {
         let Some(id) = polled_id(&event.ask) else {
             return false;

@@ -35,9 +35,15 @@ pub enum Outcome {
     // Nothing.
     Say(Answer),
     // A request in a session was accepted.
-    Accept { serial: u64, answer: Answer },
+    Accept {
+        serial: u64,
+        answer: Answer,
+    },
     // A session ends.
-    End { serial: u64, answer: Answer },
+    End {
+        serial: u64,
+        answer: Answer,
+    },
     // A session begins, in place of the one that the client has.
     Open {
         former: Option<u64>,
@@ -46,7 +52,10 @@ pub enum Outcome {
         publisher: Text,
     },
     // A session's queue is told.
-    Poll { serial: u64, again: bool },
+    Poll {
+        serial: u64,
+        again: bool,
+    },
 }
 
 // A refusal whose note is the code's name.
@@ -110,10 +119,13 @@ fn renew_first(sessions: &mut Sessions, moment: Moment, serial: u64, again: bool
 fn apply(sessions: &mut Sessions, moment: Moment, outcome: Outcome) -> Answer
     requires { CanApply outcome sessions.old }
     ensures answer { (state : State) → state.moment ≡ moment → state.sessions ≡ sessions.old.live
-        → state.counter ≡ sessions.old.counter → applied outcome state ≡ (record state {
-          counter = sessions.new.counter;
-          sessions = sessions.new.live;
-        }, result) }
+        → state.counter ≡ sessions.old.counter → applied outcome state ≡ (
+          record state {
+            counter = sessions.new.counter;
+            sessions = sessions.new.live;
+          },
+          result,
+        ) }
     ensures within { AreWithin sessions.old.live → AreWithin sessions.new.live }
 {
     match outcome {

@@ -1,10 +1,9 @@
 //! A graph's parts together, and the calls that read them, on either side.
 ghost use Rattle.std.specs.Prelude.{◌≡◌, ℕ, ◌+◌, ◌<◌, List, [], Some, None, IfSome, IfNone, Contains, length, option_copied, slice_get};
-ghost use Rattle.ifmap_ident.specs.declared.identifiers.Identifier.{Identifier};
 ghost use Rattle.ifmap_ident.specs.Identifiers.{identifier_bytes, identifier_order};
 ghost use Rattle.ifmap_pool.specs.Holdings.{IsPool, Names, key_at};
 ghost use Rattle.ifmap_store.specs.After.{IsNextItem, NoItem};
-ghost use Rattle.ifmap_store.specs.Held.{IsOwn, links_at};
+ghost use Rattle.ifmap_store.specs.Held.{links_at};
 ghost use Rattle.ifmap_store.specs.Shelved.{list_at, rows_by};
 ghost use Rattle.ifmap_store.specs.Sides.{next, now};
 ghost use Rattle.ifmap_view.specs.Rows.{stored_linked, stored_on};
@@ -15,7 +14,6 @@ use crate::sided::Sided;
 use ifmap_elem::Equals;
 use ifmap_ident::laws::bytes_tell_identifiers_apart;
 use ifmap_ident::{Identifier, Item};
-use ifmap_plans::Items;
 use ifmap_pool::Pool;
 use ifmap_steps::Steps;
 use ifmap_view::{LinkSeen, Row, View};
@@ -123,7 +121,6 @@ impl Graph {
         ensures shelves { result.shelves ≡ [] }
         ensures links { result.links ≡ [] }
         ensures places { result.places ≡ [] }
-        ensures own { (a : Identifier) → IsOwn result a 0 }
     {
         Graph {
             names: Pool::new(alloc),
@@ -188,12 +185,6 @@ impl Graph {
             (key_at self.now.names seen.other) (rows_by (list_at next) self.now.shelves) }
     {
         self.shelves.slots[seen.at as usize].stored.next()
-    }
-}
-
-impl Items for Graph {
-    fn item_after<L: Ledger>(&self, item: Option<&Item>, steps: &mut Steps<L>) -> Option<&Item> {
-        self.shelves.item_after(item, steps)
     }
 }
 

@@ -1,4 +1,4 @@
-use Rattle.std.proofs.Common.{◌≡◌, sym, ◌∙◌, ap, subst, ℕ, ◌==◌, true, false, Option, None, Some}
+use Rattle.std.proofs.Common.{◌≡◌, sym, ◌∙◌, subst, ◌==◌, true, false, None, Some}
 use Rattle.std.specs.List.{list_any}
 use Rattle.std.specs.Option.{option_map}
 use Rattle.ifmap_core.specs.Between.{Asking}

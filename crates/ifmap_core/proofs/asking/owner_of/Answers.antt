@@ -1,4 +1,4 @@
-use Rattle.std.proofs.Common.{◌≡◌, sym, ◌∙◌, ap, subst, ℕ, ◌==◌, Bool, true, false, not, List}
+use Rattle.std.proofs.Common.{◌≡◌, sym, ◌∙◌, ap, subst, ◌==◌, true, false, not}
 use Rattle.std.specs.List.{list_any}
 use Rattle.ifmap_core.specs.Between.{Asking}
 use Rattle.ifmap_core.proofs.Ended.{id_lost, none_left, remains}

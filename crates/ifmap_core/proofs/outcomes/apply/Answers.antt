@@ -1,6 +1,5 @@
 use Rattle.std.proofs.Common.{◌∷◌, [], sym, subst}
 use Rattle.ifmap_core.specs.Between.{AreWithin}
-use Rattle.ifmap_core.specs.Outcomes.{after_former}
 use Rattle.ifmap_core.proofs.Applying.{within_begun, within_former, within_left, within_renewed}
 use Rattle.ifmap_core.proofs.outcomes.apply.Goals as goal
 

@@ -1,4 +1,4 @@
-use Rattle.std.proofs.Common.{◌≡◌, refl, sym, ◌∙◌, ap, subst, List, arith}
+use Rattle.std.proofs.Common.{refl, ◌∙◌, arith}
 use Rattle.ifmap_core.proofs.Applying.{ended_all, one_can_end, one_ended}
 use Rattle.ifmap_core.proofs.outcomes.end_expired.Goals as goal
 

@@ -5,7 +5,6 @@ use Rattle.ifmap_core.specs.Outcomes.{first_renewed, told}
 use Rattle.ifmap_core.proofs.Applying.{live_emptied, poll_told, within_emptied, within_first}
 use Rattle.ifmap_core.proofs.Ended.{some_is}
 use Rattle.ifmap_core.proofs.outcomes.tell_queue.Goals as goal
-use Rattle.ifmap_machine.specs.State.{State}
 use Rattle.ifmap_session.specs.Sessions.{IsLive, Session, change, emptied, session_order, session_with_serial}
 
 pub renew_first-requires : goal.renew_first-requires
