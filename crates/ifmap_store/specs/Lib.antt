@@ -11,4 +11,5 @@ pub mod Waits
 pub mod Held
 pub mod Out
 pub mod Seen
+pub mod Stays
 pub mod Back
