@@ -28,3 +28,5 @@ pub mod Moved
 pub mod Outs
 pub mod Committed
 pub mod Beginning
+pub mod Readying
+pub mod Touching
