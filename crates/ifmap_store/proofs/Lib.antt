@@ -30,3 +30,6 @@ pub mod Committed
 pub mod Beginning
 pub mod Readying
 pub mod Touching
+pub mod Proposing
+pub mod Planned
+pub mod Flipping

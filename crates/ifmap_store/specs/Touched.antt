@@ -1,12 +1,14 @@
 -- The drafts of numbers' links, as one slot after another comes to be full or empty.
-use Rattle.std.specs.Prelude.{◌≡◌, ◌≢◌, ◌&&◌, ◌++◌, ◌<◌, ℕ, Bool, not, List, [], Option, Some, None, is_some, cond, length}
+use Rattle.std.specs.Prelude.{◌≡◌, ◌≢◌, ◌&&◌, ◌++◌, ◌<◌, ℕ, Bool, true, false, not, List, [], Option, Some, None, is_some, cond, length}
 use Rattle.std.specs.List.{cons_option, filter, filter_map, list_any}
 use Rattle.slab.specs.Slab.{Slab, get}
+use Rattle.ifmap_ident.specs.declared.items.Item.{Item}
 use Rattle.ifmap_view.specs.declared.views.LinkSeen.{LinkSeen}
 use Rattle.ifmap_store.specs.declared.shelves.Shelf.{Shelf}
+use Rattle.ifmap_store.specs.declared.shelves.Shelves.{Shelves}
 use Rattle.ifmap_store.specs.Joined.{is_full, joined}
 use Rattle.ifmap_store.specs.Linked.{far_of, seen_at}
-use Rattle.ifmap_store.specs.Shelved.{list_at}
+use Rattle.ifmap_store.specs.Shelved.{list_at, place_of}
 use Rattle.ifmap_store.specs.Sides.{Sides, next, now}
 use Rattle.ifmap_store.specs.Turning.{AreDrafted, NoOthers, sides_at}
 
@@ -46,6 +48,20 @@ module _ (slots : Slab Shelf) where
   -- the numbers that slots join have links, and are two
   abbrev pub AreTwo : ℕ → Type 0
   AreTwo n = (at v w : ℕ) → joined (get slots at) ≡ Some (v, w) → (v < n) × (w < n) × (v ≢ w)
+
+-- whether one of two is true, and not both
+abbrev pub differ : Bool → Bool → Bool
+differ true b = not b
+differ false b = b
+
+-- a slot that comes to be full or empty
+abbrev pub flip_in : Slab Shelf → Option ℕ → Option ℕ
+flip_in slots None = None
+flip_in slots (Some at) = cond (differ (full_now slots at) (full_next slots at)) (Some at) None
+
+-- the slot of an item, where it does
+abbrev pub flip_of : Shelves → Item → Option ℕ
+flip_of s x = flip_in s.slots (place_of s x)
 
 -- drafts stand at these places alone, each of which is named once
 pub record AreReady (ways : List (ℕ × List LinkSeen)) (links : List (Sides LinkSeen)) : Type 0 where

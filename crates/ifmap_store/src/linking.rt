@@ -1,18 +1,20 @@
 //! The links of numbers as they are to be, once the drafts of shelves are set: those that stay, and
 //! those that come. Each slot that comes to be full or empty is looked at once for each of its numbers.
-ghost use Rattle.std.specs.Prelude.{◌≡◌, ◌≢◌, ◌<◌, ◌++◌, ℕ, List, [], ◌∷◌, Some, None, IfOk, IsSome, OnOk, length, true, false};
-ghost use Rattle.std.specs.List.{cons_option};
+ghost use Rattle.std.specs.Prelude.{◌≡◌, ◌≢◌, ◌<◌, ◌++◌, ℕ, List, [], ◌∷◌, Some, None, IfOk, IsSome, OnOk, length};
+ghost use Rattle.std.specs.List.{cons_option, filter_map};
 ghost use Rattle.slab.specs.Slab.{get};
 ghost use Rattle.ifmap_view.specs.declared.views.LinkSeen.{LinkSeen};
 ghost use Rattle.ifmap_store.specs.Joined.{joined, two_of};
 ghost use Rattle.ifmap_store.specs.Linked.{far_of, seen_at};
-ghost use Rattle.ifmap_store.specs.Touched.{AreReady, AreTwo, KeepsLinks, begun, brought, draft_of, full_next, full_now, staying, touched_draft};
+ghost use Rattle.ifmap_store.specs.Touched.{AreReady, AreTwo, KeepsLinks, begun, brought, differ, draft_of, flip_in, flip_of, full_next, full_now, staying, touched_draft};
 ghost use Rattle.ifmap_store.specs.Turning.{sides_at};
 
 use crate::ends::Ends;
-use crate::shelves::Shelf;
+use crate::shelves::{Shelf, Shelves};
 use crate::sided::Sided;
 use crate::ways::Way;
+use ifmap_ident::Item;
+use ifmap_plans::ItemChange;
 use ifmap_view::LinkSeen;
 use slab::Slab;
 use std::alloc::{AllocError as NoMemory, Global};
@@ -60,11 +62,52 @@ fn is_now_full(slots: &Slab<Shelf>, at: usize) -> bool
 }
 
 // Whether a slot comes to be full or empty.
-pub(crate) fn is_flipped(slots: &Slab<Shelf>, at: usize) -> bool
-    ensures yes { result ≡ true → full_now slots.now at ≢ full_next slots.now at }
-    ensures no { result ≡ false → full_now slots.now at ≡ full_next slots.now at }
+fn is_flipped(slots: &Slab<Shelf>, at: usize) -> bool
+    ensures { result ≡ differ (full_now slots.now at) (full_next slots.now at) }
 {
     is_now_full(slots, at) != is_to_be_full(slots, at)
+}
+
+// The slot of an item, where it comes to be full or empty.
+fn flipped_slot(shelves: &Shelves, item: &Item) -> Option<usize>
+    ensures { result ≡ flip_of shelves.now item.now }
+{
+    match shelves.places.get(item) {
+        Some(at) => flipped_at(&shelves.slots, *at),
+        None => None,
+    }
+}
+
+fn flipped_at(slots: &Slab<Shelf>, at: usize) -> Option<usize>
+    ensures { result ≡ flip_in slots.now (Some at) }
+{
+    if is_flipped(slots, at) { Some(at) } else { None }
+}
+
+// A slot, where one was found.
+fn add_slot(list: &mut Vec<usize>, found: Option<usize>) -> Result<(), NoMemory>
+    ensures { OnOk result (list.new.items ≡ list.old.items ++ cons_option found []) }
+{
+    if let Some(at) = found {
+        list.push(at)?;
+    }
+    Ok(())
+}
+
+/// The slots of a change's items that come to be full or empty.
+pub(crate) fn flipped_slots(
+    alloc: Global,
+    shelves: &Shelves,
+    changes: &[ItemChange],
+) -> Result<Vec<usize>, NoMemory>
+    ensures { IfOk result (λ touched. touched.items
+        ≡ filter_map (λ c. flip_of shelves.now c.item) changes.now) }
+{
+    let mut touched = Vec::new(alloc);
+    for change in changes {
+        add_slot(&mut touched, flipped_slot(shelves, &change.item))?;
+    }
+    Ok(touched)
 }
 
 // The link of a number that a slot brings, which is empty and is to have something.
