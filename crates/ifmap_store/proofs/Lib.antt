@@ -28,3 +28,7 @@ pub mod Moved
 pub mod Outs
 pub mod Committed
 pub mod Beginning
+pub mod Backs
+pub mod OnItems
+pub mod Seeing
+pub mod Taking
