@@ -32,3 +32,4 @@ pub mod Backs
 pub mod OnItems
 pub mod Seeing
 pub mod Taking
+pub mod Returning
