@@ -31,3 +31,8 @@ pub mod Settled
 pub mod Outs
 pub mod Committed
 pub mod Beginning
+pub mod Backs
+pub mod OnItems
+pub mod Seeing
+pub mod Taking
+pub mod Returning

@@ -188,6 +188,7 @@ impl Shelves {
             ≡ (if is_at (item_order item.now) x then list.old.items
             else stored_on x (rows_of next self.old)) }
         ensures old { list.new.items ≡ stored_on item.now (rows_of now self.old) }
+        ensures bare { AreBare self.old → AreBare self.new }
         ensures ends { (at : ℕ) → ends_at self.new at ≡ ends_at self.old at }
         ensures waits { (x : Item) → waits_on self.new x ≡ waits_on self.old x }
         ensures places { self.new.places ≡ self.old.places }
