@@ -19,7 +19,7 @@ use Rattle.ifmap_store.specs.Sides.{next, now}
 use Rattle.ifmap_store.proofs.Following.{entry_hits}
 use Rattle.ifmap_store.proofs.Shelving.{Entries}
 
-list_bare : (o : Option Shelf) → NoDraft o → list_at next o ≡ list_at now o
+pub list_bare : (o : Option Shelf) → NoDraft o → list_at next o ≡ list_at now o
 list_bare None n = refl
 list_bare (Some shelf) n = ap (λ d. unwrap_or d shelf.stored.now) n
 
@@ -34,7 +34,7 @@ rows_bare look (e ∷ es) a =
 pub sides_same : (s : Shelves) → AreBare s → rows_of next s ≡ rows_of now s
 sides_same s a = rows_bare (get s.slots) s.places.entries a
 
-no_draft : (o : Option Shelf) → ((shelf : Shelf) → o ≡ Some shelf → IsSome shelf.stored.draft → ⊥) → NoDraft o
+pub no_draft : (o : Option Shelf) → ((shelf : Shelf) → o ≡ Some shelf → IsSome shelf.stored.draft → ⊥) → NoDraft o
 no_draft None f = tt
 no_draft (Some shelf) f = by shelf.stored.draft refl
   where

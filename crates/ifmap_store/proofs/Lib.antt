@@ -25,6 +25,9 @@ pub mod Bare
 pub mod Staying
 pub mod Accepting
 pub mod Moved
+pub mod Gone
+pub mod Lessening
+pub mod Settled
 pub mod Outs
 pub mod Committed
 pub mod Beginning
@@ -33,3 +36,9 @@ pub mod Touching
 pub mod Proposing
 pub mod Planned
 pub mod Flipping
+pub mod Backs
+pub mod OnItems
+pub mod Seeing
+pub mod Kept
+pub mod Taking
+pub mod Returning

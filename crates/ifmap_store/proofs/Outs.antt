@@ -18,14 +18,14 @@ use Rattle.ifmap_store.specs.Shelved.{HasDraft}
 use Rattle.ifmap_store.proofs.Insides.{lookup_shown}
 
 module _ (s : Shelves) where
-  from_shown : (x : Item) → IsDrafted (shown (get s.slots) s.places.entries) x → HasDraft s x
+  pub from_shown : (x : Item) → IsDrafted (shown (get s.slots) s.places.entries) x → HasDraft s x
   from_shown x d = by (lookup (is_at (item_order x)) s.places.entries) refl (sym (lookup_shown (get s.slots) (is_at (item_order x)) s.places.entries) ∙ d.1)
     where
       by : (o : Option ℕ) → lookup (is_at (item_order x)) s.places.entries ≡ o → option_map (get s.slots) o ≡ Some (Some d.0) → HasDraft s x
       by None e q = absurd (none-some _ q)
       by (Some at) e q = (at, d.0, e, same_Some _ _ q, d.2)
 
-  to_shown : (x : Item) → HasDraft s x → IsDrafted (shown (get s.slots) s.places.entries) x
+  pub to_shown : (x : Item) → HasDraft s x → IsDrafted (shown (get s.slots) s.places.entries) x
   to_shown x d =
       (d.1, lookup_shown (get s.slots) (is_at (item_order x)) s.places.entries ∙ ap (option_map (get s.slots)) d.2 ∙ ap Some d.3, d.4)
 

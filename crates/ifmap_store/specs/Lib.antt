@@ -14,4 +14,5 @@ pub mod Touched
 pub mod Out
 pub mod Seen
 pub mod Stays
+pub mod Releasing
 pub mod Back

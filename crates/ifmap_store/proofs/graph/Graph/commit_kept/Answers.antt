@@ -6,10 +6,11 @@ use Rattle.ifmap_store.specs.Drafted.{AreOut}
 use Rattle.ifmap_store.specs.Out.{items_of}
 use Rattle.ifmap_store.specs.Shelved.{list_at, rows_of}
 use Rattle.ifmap_store.specs.Sides.{next, now}
-use Rattle.ifmap_store.specs.Turning.{AreDrafted, NoOthers, backs}
+use Rattle.ifmap_store.specs.Turning.{AreDrafted, NoOthers, accept_each, backs}
 use Rattle.ifmap_store.proofs.Committed.{made_inside, made_links}
 use Rattle.ifmap_store.proofs.Insides.{rows_shown}
 use Rattle.ifmap_store.proofs.Outs.{are_out}
+use Rattle.ifmap_store.proofs.Taking.{can_go_back}
 use Rattle.ifmap_store.proofs.graph.Graph.commit_kept.Goals as goal
 
 pub accept_changes-requires-clause-out : goal.accept_changes-requires-clause-out
@@ -66,3 +67,17 @@ returns-clause-lists c =
 pub returns-clause-ways : goal.returns-clause-ways
 returns-clause-ways c =
     rw (← c.self.view_is) (c.accept_all.ensures.ways ∙ ap (λ w. backs w c.self.inside.links.items) (c.ways.view_is ∙ ap (λ r. r.ways) c.ready.view_is))
+
+pub returns-clause-plan : goal.returns-clause-plan
+returns-clause-plan c = ap (λ r. r.plan) c.ready.view_is
+
+pub returns-clause-back : goal.returns-clause-back
+returns-clause-back c =
+    let q = rw (← c.self.view_is) at c.requires
+    in let ways = c.ways.view_is ∙ ap (λ r. r.ways) c.ready.view_is
+    in rw (← c.self.view_is)
+    (can_go_back c.self.inside.names c.self.inside.shelves c.accept_changes.new.shelves c.self.inside.links.items c.accept_all.new.lists.items
+    c.self.invariant c.accept_changes.ensures.places c.accept_changes.ensures.ends c.accept_changes.ensures.waits c.accept_changes.ensures.now
+    c.args.ready _ (are_out c.self.inside.shelves (items_of c.args.ready.plan.changes) q.drafted q.within q.apart) q.links q.no_others
+    (c.accept_all.ensures.lists ∙ ap (λ w. accept_each w c.self.inside.links.items) ways) (returns-clause-plan c)
+    (rw (← c.self.view_is) at (returns-clause-lists c)) (rw (← c.self.view_is) at (returns-clause-ways c)))
