@@ -37,7 +37,7 @@ use Rattle.ifmap_store.specs.Named.{AreEnds, AreNumbered, HasEnds}
 use Rattle.ifmap_store.specs.Out.{items_of}
 use Rattle.ifmap_store.specs.Shelved.{AreShelved, HasDraft, IsList, IsPlaced, Side, list_at, place_of, rows_of}
 use Rattle.ifmap_store.specs.Sides.{Sides, next, now}
-use Rattle.ifmap_store.specs.Touched.{AreTwo, KeepsLinks, differ, draft_of, flip_in, flip_of, full_next, full_now}
+use Rattle.ifmap_store.specs.Touched.{ArePairs, KeepsLinks, differ, draft_of, flip_in, flip_of, full_next, full_now}
 use Rattle.ifmap_store.specs.Turning.{sides_at}
 use Rattle.ifmap_store.proofs.Accepting.{apart_parts}
 use Rattle.ifmap_store.proofs.Apart.{changed_apart}
@@ -46,7 +46,7 @@ use Rattle.ifmap_store.proofs.Finding.{absent, found, live_at}
 use Rattle.ifmap_store.proofs.Following.{entry_hits, lookup_tied, looked_up}
 use Rattle.ifmap_store.proofs.Holds.{numbers_differ}
 use Rattle.ifmap_store.proofs.Links.{changed_listed}
-use Rattle.ifmap_store.proofs.Moved.{lists_stay, live_by, side_moved, still_numbered}
+use Rattle.ifmap_store.proofs.Moved.{inside_moved, lists_stay, live_by, side_moved, still_numbered}
 use Rattle.ifmap_store.proofs.Ordered.{equal_is, items_total, turned_tie}
 use Rattle.ifmap_store.proofs.Planned.{stored_tied}
 use Rattle.ifmap_store.proofs.Shelving.{Entries}
@@ -181,14 +181,23 @@ module _ (names : Holdings Identifier) (v w : ℕ) where
   joined_live None j = absurd (none-some _ j)
   joined_live (Some shelf) j = refl
 
-pub are_two : (names : Holdings Identifier) (slots : Slab Shelf) (es : Entries) (n : ℕ) → IsPlaced (get slots) es
+pub are_pairs : (names : Holdings Identifier) (slots : Slab Shelf) (es : Entries) (n : ℕ) → IsPlaced (get slots) es
     → ((at : ℕ) → IsSome (get slots at) → (item : Item) × Has es (item, at)) → AreNumbered names (get slots) es → ((v : ℕ) → IsSome (entry_at names v) → v < n)
-    → AreTwo slots n
-are_two names slots es n is used numbered table at v w j =
+    → ArePairs slots n
+are_pairs names slots es n is used numbered table at v w j =
     let u = used at (joined_live names v w (get slots at) j)
     in let t = two_in names v w u.0 (get slots at) j (all_has (λ e. IsCanonItem e.0) es is.canon (u.0, at) u.1).ordered
     (all_has (λ e. HasEnds names e.0 (get slots e.1)) es numbered (u.0, at) u.1)
     in (table v t.0, table w t.1, t.2)
+
+-- so they are once the drafts of shelves stand
+pub pairs_after : (names : Holdings Identifier) (s t : Shelves) (links : List (Sides LinkSeen)) → IsInside names (get s.slots) s.places.entries links
+    → AreShelved t → t.places ≡ s.places → ((at : ℕ) → ends_at t at ≡ ends_at s at) → ArePairs t.slots (length links)
+pairs_after names s t links old shelved places ends =
+    let is : IsInside names (get s.slots) t.places.entries links = subst (λ p. IsInside names (get s.slots) p.entries links) (sym places) old
+    in are_pairs names t.slots t.places.entries (length links) shelved
+    (λ at x. is.used at (live_by (get s.slots at) (get t.slots at) (sym (ends at)) x))
+    (still_numbered (get s.slots) (get t.slots) ends names t.places.entries is.numbered) is.table
 
 -- what is stored on an item is a list
 pub stored_list : (side : Side) (s : Shelves) → AreShelved s → AllByRecursion (λ e. IsList (list_at side (get s.slots e.1))) s.places.entries → (x : Item)
@@ -221,7 +230,7 @@ module _ (names : Holdings Identifier) (s t : Shelves) (links later : List (Side
   is = subst (λ p. IsInside names (get s.slots) p.entries links) (sym places) old
 
   used : (at : ℕ) → IsSome (get t.slots at) → (item : Item) × Has t.places.entries (item, at)
-  used at x = is.used at (live_by (get s.slots) (get t.slots) ends at x)
+  used at x = is.used at (live_by (get s.slots at) (get t.slots at) (sym (ends at)) x)
 
   lists : (at : ℕ) → list_at now (get t.slots at) ≡ list_at now (get s.slots at)
   lists = lists_stay s t old.placed shelved places old.used ends now now rows
@@ -269,3 +278,17 @@ module _ (names : Holdings Identifier) (s t : Shelves) (links later : List (Side
               now_side.listed (touched_apart t shelved (items_of changes) out.apart) (now_side.once v);
         });
   }
+
+-- once nothing has a draft any more, both sides are what is there
+pub inside_dropped : (names : Holdings Identifier) (s t : Shelves) (links later : List (Sides LinkSeen)) → IsInside names (get s.slots) s.places.entries links
+    → AreShelved t → t.places ≡ s.places → ((at : ℕ) → ends_at t at ≡ ends_at s at) → rows_of now t ≡ rows_of now s → rows_of next t ≡ rows_of now s
+    → KeepsLinks links later → ((v : ℕ) → (sides_at later v).draft ≡ None) → IsInside names (get t.slots) t.places.entries later
+inside_dropped names s t links later is shelved places ends rows same kept none =
+    subst (λ p. IsInside names (get t.slots) p.entries later) (sym places)
+    (inside_moved (get s.slots) (get t.slots) ends names s.places.entries links later now now now now
+    (lists_stay s t is.placed shelved places is.used ends now now rows) (lists_stay s t is.placed shelved places is.used ends now next same)
+    kept.now (λ v. ap (λ d. unwrap_or d (sides_at later v).now) (none v) ∙ kept.now v) kept.long is.side is.side is)
+
+-- there are as many places, and the links stay, whichever step comes first
+pub kept_both : (first mid later : List (Sides LinkSeen)) → KeepsLinks first mid → KeepsLinks mid later → KeepsLinks first later
+kept_both first mid later a b = record { now = λ v. b.now v ∙ a.now v; long = b.long ∙ a.long }

@@ -46,8 +46,8 @@ module _ (slots : Slab Shelf) where
   draft_of touched v links = cond (list_any (joins v) touched) (Some (staying links ++ filter_map (brought v) touched)) None
 
   -- the numbers that slots join have links, and are two
-  abbrev pub AreTwo : ℕ → Type 0
-  AreTwo n = (at v w : ℕ) → joined (get slots at) ≡ Some (v, w) → (v < n) × (w < n) × (v ≢ w)
+  abbrev pub ArePairs : ℕ → Type 0
+  ArePairs n = (at v w : ℕ) → joined (get slots at) ≡ Some (v, w) → (v < n) × (w < n) × (v ≢ w)
 
 -- whether one of two is true, and not both
 abbrev pub differ : Bool → Bool → Bool

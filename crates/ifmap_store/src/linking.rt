@@ -6,7 +6,7 @@ ghost use Rattle.slab.specs.Slab.{get};
 ghost use Rattle.ifmap_view.specs.declared.views.LinkSeen.{LinkSeen};
 ghost use Rattle.ifmap_store.specs.Joined.{joined, two_of};
 ghost use Rattle.ifmap_store.specs.Linked.{far_of, seen_at};
-ghost use Rattle.ifmap_store.specs.Touched.{AreReady, AreTwo, KeepsLinks, begun, brought, differ, draft_of, flip_in, flip_of, full_next, full_now, staying, touched_draft};
+ghost use Rattle.ifmap_store.specs.Touched.{AreReady, ArePairs, KeepsLinks, begun, brought, differ, draft_of, flip_in, flip_of, full_next, full_now, staying, touched_draft};
 ghost use Rattle.ifmap_store.specs.Turning.{sides_at};
 
 use crate::ends::Ends;
@@ -262,7 +262,7 @@ fn touch_slot(
     at: usize,
     ways: &mut Vec<Way<LinkSeen>>,
 ) -> Result<(), NoMemory>
-    requires two { AreTwo slots.now (length links.old.items) }
+    requires pairs { ArePairs slots.now (length links.old.items) }
     requires ready { AreReady ways.old.items links.old.items }
     ensures ready { AreReady ways.new.items links.new.items }
     ensures kept { KeepsLinks links.old.items links.new.items }
@@ -284,7 +284,7 @@ pub(crate) fn touch_slots(
     touched: &[usize],
     ways: &mut Vec<Way<LinkSeen>>,
 ) -> Result<(), NoMemory>
-    requires two { AreTwo slots.now (length links.old.items) }
+    requires pairs { ArePairs slots.now (length links.old.items) }
     requires ready { AreReady ways.old.items links.old.items }
     requires bare { (v : ℕ) → (sides_at links.old.items v).draft ≡ None }
     ensures ready { AreReady ways.new.items links.new.items }

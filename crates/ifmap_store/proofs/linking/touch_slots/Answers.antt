@@ -5,9 +5,9 @@ use Rattle.ifmap_store.proofs.linking.touch_slots.Goals as goal
 pub loop-at-init : goal.loop-at-init
 loop-at-init c = touching c.args.slots.now c.args.links.now.items c.args.touched.now c.args.ways.now.items c.requires.ready c.requires.bare
 
-pub touch_slot-requires-clause-two : goal.touch_slot-requires-clause-two
-touch_slot-requires-clause-two c = λ at v w j.
-    let t = c.requires.two at v w j
+pub touch_slot-requires-clause-pairs : goal.touch_slot-requires-clause-pairs
+touch_slot-requires-clause-pairs c = λ at v w j.
+    let t = c.requires.pairs at v w j
     in (
       subst (λ (n : ℕ). v < n) (sym c.loop-at.invariant.kept.long) t.0,
       subst (λ (n : ℕ). w < n) (sym c.loop-at.invariant.kept.long) t.1,
