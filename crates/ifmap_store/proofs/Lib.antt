@@ -42,3 +42,5 @@ pub mod Seeing
 pub mod Kept
 pub mod Taking
 pub mod Returning
+pub mod Written
+pub mod Brought
