@@ -44,3 +44,6 @@ pub mod Taking
 pub mod Returning
 pub mod Written
 pub mod Brought
+pub mod Marks
+pub mod Grown
+pub mod Waits
