@@ -23,7 +23,7 @@ apart_parts : (x : Item) (xs : List Item) → IsDistinct same_item (x ∷ xs) �
 unfolding IsDistinct
 apart_parts x xs d = d
 
-all_given : (P Q : Item → Type 0) (xs : List Item) → ((x : Item) → P x → Q x) → AllByRecursion P xs → AllByRecursion Q xs
+pub all_given : (P Q : Item → Type 0) (xs : List Item) → ((x : Item) → P x → Q x) → AllByRecursion P xs → AllByRecursion Q xs
 all_given P Q [] f a = tt
 all_given P Q (x ∷ xs) f a = (f x a.0, all_given P Q xs f a.1)
 

@@ -33,3 +33,5 @@ pub mod OnItems
 pub mod Seeing
 pub mod Taking
 pub mod Returning
+pub mod Restoring
+pub mod Undone

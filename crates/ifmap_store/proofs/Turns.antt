@@ -36,7 +36,7 @@ module _ {T : Type 0} where
   ])
   named_bare (w ∷ ws) ls v d (inr n) = named_bare ws (set ls w.0 (accepted (sides_at ls w.0))) v d.2 n
 
-  next_of_bare : (s : Sides T) → s.draft ≡ None → s.now ≡ next s
+  pub next_of_bare : (s : Sides T) → s.draft ≡ None → s.now ≡ next s
   next_of_bare s e = sym (ap (λ o. unwrap_or o s.now) e)
 
   -- where drafts stand at these places alone, each list is afterwards what was to come
