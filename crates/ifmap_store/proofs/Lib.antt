@@ -25,6 +25,9 @@ pub mod Bare
 pub mod Staying
 pub mod Accepting
 pub mod Moved
+pub mod Gone
+pub mod Lessening
+pub mod Settled
 pub mod Outs
 pub mod Committed
 pub mod Beginning

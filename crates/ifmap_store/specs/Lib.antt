@@ -12,4 +12,5 @@ pub mod Held
 pub mod Out
 pub mod Seen
 pub mod Stays
+pub mod Releasing
 pub mod Back

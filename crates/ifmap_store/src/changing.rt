@@ -166,6 +166,7 @@ impl Shelves {
         ensures left { result ≡ waits_on self.new item.now }
         ensures waited { (rest : List Item) → AreWaited (item.now ∷ rest) (waits_on self.old)
             → AreWaited rest (waits_on self.new) }
+        ensures bare { AreBare self.old → AreBare self.new }
         ensures now { rows_of now self.new ≡ rows_of now self.old }
         ensures next { rows_of next self.new ≡ rows_of next self.old }
         ensures ends { (at : ℕ) → ends_at self.new at ≡ ends_at self.old at }

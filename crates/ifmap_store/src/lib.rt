@@ -12,6 +12,7 @@ pub mod graph;
 mod holding;
 mod linking;
 mod placing;
+mod releasing;
 mod reserving;
 mod settling;
 pub mod shelves;

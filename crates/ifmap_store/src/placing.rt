@@ -1,10 +1,12 @@
 //! A shelf for an item that has none, with the numbers of its identifiers held.
-ghost use Rattle.std.specs.Prelude.{◌≡◌, ℕ, ◌+◌, ◌-◌, ◌<◌, ◌≤◌, ◌^◌, List, [], None, OnOk, OnErr, length};
+ghost use Rattle.std.specs.Prelude.{◌≡◌, ℕ, ◌+◌, ◌-◌, ◌<◌, ◌≤◌, ◌^◌, List, [], Some, None, OnOk, OnErr, false, length};
+ghost use Rattle.std.specs.BTreeMap.{is_at};
 ghost use Rattle.slab.specs.Slab.{get};
 ghost use Rattle.ifmap_ident.specs.declared.identifiers.Identifier.{Identifier};
 ghost use Rattle.ifmap_ident.specs.Identifiers.{identifier_order};
-ghost use Rattle.ifmap_ident.specs.Items.{IsCanonItem};
-ghost use Rattle.ifmap_pool.specs.Holdings.{IsHeld, holds_at};
+ghost use Rattle.ifmap_ident.specs.declared.items.Item.{Item};
+ghost use Rattle.ifmap_ident.specs.Items.{IsCanonItem, item_order};
+ghost use Rattle.ifmap_pool.specs.Holdings.{IsHeld, Names, holds_at};
 ghost use Rattle.ifmap_view.specs.declared.views.LinkSeen.{LinkSeen};
 ghost use Rattle.ifmap_store.specs.Held.{IsInside};
 ghost use Rattle.ifmap_store.specs.Named.{named_by, named_in};
@@ -85,8 +87,15 @@ pub(crate) fn remove_shelf(names: &mut Pool<Identifier>, shelves: &mut Shelves, 
     ensures own { (a : Identifier) (own : ℕ)
         → IsHeld identifier_order names.old a (named_in shelves.old.places.entries a + own)
         → IsHeld identifier_order names.new a (named_in shelves.new.places.entries a + own) }
+    ensures named { (v : ℕ) (a : Identifier) → Names identifier_order names.new v a
+        → Names identifier_order names.old v a }
     ensures now { rows_of now shelves.new ≡ rows_of now shelves.old }
     ensures next { rows_of next shelves.new ≡ rows_of next shelves.old }
+    ensures before { (x : Item) (at : ℕ) → place_of shelves.new x ≡ Some at
+        → (place_of shelves.old x ≡ Some at)
+        × (get shelves.new.slots at ≡ get shelves.old.slots at) }
+    ensures others { (x : Item) → is_at (item_order item.now) x ≡ false
+        → place_of shelves.new x ≡ place_of shelves.old x }
 {
     match shelves.places.remove(item) {
         Some(at) => {

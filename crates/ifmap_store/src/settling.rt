@@ -6,6 +6,8 @@ ghost use Rattle.ifmap_store.specs.Stays.{StayPlaced};
 
 use crate::changes::{Ready, Undo};
 use crate::graph::Graph;
+use crate::releasing::release_items;
+use ifmap_ident::laws::bytes_tell_identifiers_apart;
 use ifmap_plans::{ItemChange, Plan};
 
 impl Graph {
@@ -23,7 +25,8 @@ impl Graph {
         ensures waits { AwaitsLess (items_of changes.now) self.old self.new }
         ensures stay { StayPlaced self.old self.new }
     {
-        let _ = changes;
+        bytes_tell_identifiers_apart();
+        release_items(&mut self.names, &mut self.shelves, changes);
     }
 
     /// Gives up a way back, and hands out the plan. It takes no memory.
