@@ -57,7 +57,7 @@ stands_again rows (i ∷ is) x before f = elim (cases_Bool (is_at (item_order i)
   | inr n ↦ rw n (stands_again rows is x before (λ e. f (rw n (omega (arith, e)))))
 ]
 
-has_times : (items : List Item) (x i : Item) → Has items i → item_order i x ≡ Equal → times_in items x ≡ 0 → ⊥
+pub has_times : (items : List Item) (x i : Item) → Has items i → item_order i x ≡ Equal → times_in items x ≡ 0 → ⊥
 has_times [] x i h e t = h
 has_times (k ∷ ks) x i (inl p) e t =
     let q : is_at (item_order k) x ≡ true = ap (λ y. is_eq (item_order y x)) p ∙ ap is_eq e

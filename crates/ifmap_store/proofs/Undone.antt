@@ -1,5 +1,6 @@
 -- A change that was made is taken back: what a way back says is stored and linked, and all parts are in order.
-use Rattle.std.proofs.Common.{◌≡◌, ◌≢◌, ◌⊎◌, ℕ, ◌+◌, ◌<◌, ◌≤◌, Option, Some, None, IsSome, List, [], ◌∷◌, ◌++◌, map, length, nat_eq, refl, ap, ◌∙◌, sym, subst, inl, inr, arith}
+use Rattle.std.proofs.Common.{◌≡◌, ◌≢◌, ◌⊎◌, ℕ, zero, suc, ◌+◌, ◌<◌, ◌≤◌, Option, Some, None, IsSome, List, [], ◌∷◌, ◌++◌, map, length, nat_eq, refl, ap, ◌∙◌, sym, subst, inl, inr, arith}
+use Rattle.std.proofs.lemmas.Cmp.{tied_itself}
 use Rattle.std.specs.BTreeMap.{is_at}
 use Rattle.std.specs.List.{AllByRecursion, Contains, IsDistinct}
 use Rattle.std.specs.Map.{lookup}
@@ -18,26 +19,32 @@ use Rattle.ifmap_store.specs.declared.changes.Undo.{Undo}
 use Rattle.ifmap_store.specs.declared.shelves.Shelf.{Shelf}
 use Rattle.ifmap_store.specs.declared.shelves.Shelves.{Shelves}
 use Rattle.ifmap_store.specs.Back.{AreLinks, IsWayBack, stand_each}
-use Rattle.ifmap_store.specs.Drafted.{NoDraft}
+use Rattle.ifmap_store.specs.Drafted.{AreBare, NoDraft, ends_at}
 use Rattle.ifmap_store.specs.Held.{Held, IsInside, IsSide, links_at}
 use Rattle.ifmap_store.specs.Linked.{ats}
+use Rattle.ifmap_store.specs.Named.{named_in}
 use Rattle.ifmap_store.specs.Out.{items_of}
-use Rattle.ifmap_store.specs.Seen.{IsStill, rows_now}
-use Rattle.ifmap_store.specs.Shelved.{IsList, IsPlaced, list_at, rows_by}
+use Rattle.ifmap_store.specs.Seen.{Awaits, IsStill, KeepsOwn, links_now, rows_now}
+use Rattle.ifmap_store.specs.Shelved.{IsList, IsPlaced, list_at, place_of, rows_by, rows_of}
 use Rattle.ifmap_store.specs.Sides.{Sides, next, now}
 use Rattle.ifmap_store.specs.Turning.{restore_each, sides_at}
+use Rattle.ifmap_store.specs.Waits.{times_in, waits_on}
 use Rattle.ifmap_store.proofs.Alike.{Tells}
 use Rattle.ifmap_store.proofs.Backs.{links_stay}
 use Rattle.ifmap_store.proofs.Bare.{list_bare}
 use Rattle.ifmap_store.proofs.Finding.{found}
 use Rattle.ifmap_store.proofs.Following.{entry_hits}
 use Rattle.ifmap_store.proofs.Graphs.{graph_is}
-use Rattle.ifmap_store.proofs.Insides.{rows_shown}
+use Rattle.ifmap_store.proofs.Insides.{named_shown, rows_shown}
+use Rattle.ifmap_store.proofs.Lessening.{waited_there}
 use Rattle.ifmap_store.proofs.Moved.{inside_anew, placed_still, side_moved, used_still}
 use Rattle.ifmap_store.proofs.OnItems.{list_on, rows_same}
+use Rattle.ifmap_store.proofs.Ordered.{items_total}
 use Rattle.ifmap_store.proofs.Seeing.{links_by_slots, seen_of, stays_there}
+use Rattle.ifmap_store.proofs.Settled.{bare_to, held_of, waits_shown}
 use Rattle.ifmap_store.proofs.Shelving.{Entries}
 use Rattle.ifmap_store.proofs.Staying.{ends_of}
+use Rattle.ifmap_store.proofs.Taking.{has_times}
 use Rattle.ifmap_store.proofs.Turns.{next_of_bare, restored_drafts, restored_length}
 use Rattle.ifmap_store.proofs.Viewed.{all_has}
 
@@ -115,3 +122,59 @@ module _ (names : Holdings Identifier) (look later : ℕ → Option Shelf) (es :
       rows_shown now later es
       ∙ rows_same tells (rows_by (λ at. list_at now (later at)) es) rows (graph_is (λ at. list_at now (later at)) es placed.rising placed.canon side.lists)
       back.graph stored
+
+-- items that are waited for have shelves
+pub all_there : (names : Holdings Identifier) (s : Shelves) (links : List (Sides LinkSeen)) (items : List Item) → Awaits items (held_of names s links)
+    → AllByRecursion (λ x. IsSome (place_of s x)) items
+all_there names s links items a = by items (λ x h. h)
+  where
+    waited : (x : Item) → Has items x → (t : ℕ) → times_in items x ≡ t → 0 < waits_on s x
+    waited x h zero e = absurd (has_times items x x h (tied_itself items_total x) e)
+    waited x h (suc k) e = omega (arith, a x, waits_shown names s links x, e)
+
+    by : (xs : List Item) → ((x : Item) → Has xs x → Has items x) → AllByRecursion (λ x. IsSome (place_of s x)) xs
+    by [] f = tt
+    by (x ∷ xs) f = (
+      let q = waited_there s x (waited x (f x (inl refl)) (times_in items x) refl) in subst IsSome (sym q.1) refl,
+      by xs (λ y h. f y (inr h)),
+    )
+
+-- the same of shelves that stay in their places
+module _ (names : Holdings Identifier) (s t : Shelves) (links moved : List (Sides LinkSeen)) (places : t.places ≡ s.places)
+    (ends : (at : ℕ) → ends_at t at ≡ ends_at s at) (waits : (x : Item) → waits_on t x ≡ waits_on s x) where
+  pub own_stays : KeepsOwn (held_of names s links) (held_of names t moved)
+  own_stays a own h =
+      subst (λ (n : ℕ). IsHeld identifier_order names a (n + own))
+      (named_shown (get s.slots) s.places.entries a ∙ sym (ap (λ p. named_in p.entries a) places) ∙ sym (named_shown (get t.slots) t.places.entries a)) h
+
+  pub waits_stay_seen : (items : List Item) → Awaits items (held_of names s links) → Awaits items (held_of names t moved)
+  waits_stay_seen items a x = omega (arith, a x, waits_shown names s links x, waits_shown names t moved x, waits x)
+
+  module _ (is : IsInside names (get s.slots) s.places.entries links) (bare : AreBare t) (none : (v : ℕ) → (sides_at links v).draft ≡ None)
+      (u : Undo) (rows : List Attachment) (seen : ℕ → List LinkSeen) (back : IsWayBack u rows seen (held_of names s links))
+      (stands : (x : Item) → stored_on x (rows_of now t) ≡ stand_each (items_of u.plan.changes) u.lists x (stored_on x (rows_of now s)))
+      (turned : moved ≡ restore_each u.ways links) where
+    still_bare : AllByRecursion (λ e. NoDraft (get t.slots e.1)) s.places.entries
+    still_bare = subst (λ p. AllByRecursion (λ e. NoDraft (get t.slots e.1)) p.entries) places bare
+
+    still_stands : (x : Item) → stored_on x (rows_by (λ at. list_at now (get t.slots at)) s.places.entries)
+        ≡ stand_each (items_of u.plan.changes) u.lists x (stored_on x (rows_of now s))
+    still_stands x = ap (λ p. stored_on x (rows_by (λ at. list_at now (get t.slots at)) p.entries)) (sym places) ∙ stands x
+
+    pub undone_inside : IsInside names (get t.slots) t.places.entries moved
+    undone_inside =
+        subst (λ p. IsInside names (get t.slots) p.entries moved) (sym places)
+        (back_inside names (get s.slots) (get t.slots) s.places.entries links moved is ends still_bare none u rows seen back still_stands turned)
+
+    pub undone_rows : Tells → rows_now (held_of names t moved) ≡ rows
+    undone_rows tells =
+        ap (λ p. rows_now (seen_of (get t.slots) p.entries names moved)) places
+        ∙ back_rows names (get s.slots) (get t.slots) s.places.entries links moved is ends still_bare none u rows seen back still_stands turned tells
+
+    pub undone_links : (v : ℕ) → links_now (held_of names t moved) v ≡ seen v
+    undone_links = back_links names (get s.slots) (get t.slots) s.places.entries links moved is ends still_bare none u rows seen back still_stands turned
+
+    pub undone_still : IsStill (held_of names t moved)
+    undone_still =
+        bare_to names t moved bare
+        (back_bare names (get s.slots) (get t.slots) s.places.entries links moved is ends still_bare none u rows seen back still_stands turned)
