@@ -34,6 +34,7 @@ pub mod Beginning
 pub mod Backs
 pub mod OnItems
 pub mod Seeing
+pub mod Kept
 pub mod Taking
 pub mod Returning
 pub mod Restoring

@@ -1,5 +1,5 @@
 //! Holds of a graph: of its items' identifiers, and those that others ask for.
-ghost use Rattle.std.specs.Prelude.{◌≡◌, ℕ, ◌+◌, ◌-◌, ◌<◌, ◌^◌, Some, None, IfOk, OnOk, OnErr};
+ghost use Rattle.std.specs.Prelude.{◌≡◌, ℕ, ◌+◌, ◌-◌, ◌<◌, ◌^◌, [], Some, None, IfOk, OnOk, OnErr};
 ghost use Rattle.std.specs.BTreeMap.{is_at};
 ghost use Rattle.std.specs.Map.{lookup};
 ghost use Rattle.ifmap_ident.specs.declared.identifiers.Identifier.{Identifier};
@@ -7,8 +7,10 @@ ghost use Rattle.ifmap_ident.specs.Canon.{IsIdentifier};
 ghost use Rattle.ifmap_ident.specs.Identifiers.{identifier_order};
 ghost use Rattle.ifmap_ident.specs.Items.{IsCanonItem, item_order};
 ghost use Rattle.ifmap_pool.specs.Holdings.{IsHeld, holds_at, key_at, once};
+ghost use Rattle.ifmap_store.specs.Back.{KeepsBacks};
 ghost use Rattle.ifmap_store.specs.Held.{IsOwn};
 ghost use Rattle.ifmap_store.specs.Named.{named_by};
+ghost use Rattle.ifmap_store.specs.Seen.{AwaitsMore, IsStill};
 ghost use Rattle.ifmap_store.specs.Shelved.{list_at, rows_by};
 ghost use Rattle.ifmap_store.specs.Sides.{next, now};
 ghost use Rattle.ifmap_store.specs.Turning.{sides_at};
@@ -54,6 +56,9 @@ impl Graph {
         ensures shelves { self.new.shelves ≡ self.old.shelves }
         ensures links { (v : ℕ) → sides_at self.new.links v ≡ sides_at self.old.links v }
         ensures places { self.new.places ≡ self.old.places }
+        ensures still { IsStill self.old → IsStill self.new }
+        ensures waits { AwaitsMore [] self.old self.new }
+        ensures backs { KeepsBacks self.old self.new }
         ensures err { OnErr result (self.new.names.live ≡ self.old.names.live) }
     {
         bytes_tell_identifiers_apart();
@@ -73,6 +78,9 @@ impl Graph {
         ensures shelves { self.new.shelves ≡ self.old.shelves }
         ensures links { self.new.links ≡ self.old.links }
         ensures places { self.new.places ≡ self.old.places }
+        ensures still { IsStill self.old → IsStill self.new }
+        ensures waits { AwaitsMore [] self.old self.new }
+        ensures backs { KeepsBacks self.old self.new }
     {
         self.names.release(number);
     }

@@ -1,5 +1,6 @@
 //! A change that was made stays: its items are waited for no longer, and shelves that are empty go.
 ghost use Rattle.std.specs.Prelude.{◌≡◌, ℕ};
+ghost use Rattle.ifmap_store.specs.Back.{KeepsOtherBacks};
 ghost use Rattle.ifmap_store.specs.Out.{IsOut, items_of};
 ghost use Rattle.ifmap_store.specs.Seen.{Awaits, AwaitsLess, BringsNoNumbers, IsStill, KeepsOwn, links_next, links_now, rows_next, rows_now};
 ghost use Rattle.ifmap_store.specs.Stays.{StayPlaced};
@@ -24,6 +25,7 @@ impl Graph {
         ensures own { KeepsOwn self.old self.new }
         ensures waits { AwaitsLess (items_of changes.now) self.old self.new }
         ensures stay { StayPlaced self.old self.new }
+        ensures backs { KeepsOtherBacks (items_of changes.now) self.old self.new }
     {
         bytes_tell_identifiers_apart();
         release_items(&mut self.names, &mut self.shelves, changes);
@@ -40,7 +42,9 @@ impl Graph {
         ensures numbers { BringsNoNumbers self.old self.new }
         ensures own { KeepsOwn self.old self.new }
         ensures waits { AwaitsLess (items_of undo.plan.changes) self.old self.new }
+        ensures backs { KeepsOtherBacks (items_of undo.plan.changes) self.old self.new }
     {
+        self.release_waits(&undo.plan.changes.0);
         undo.plan
     }
 

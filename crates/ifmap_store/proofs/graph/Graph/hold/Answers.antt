@@ -7,6 +7,8 @@ use Rattle.ifmap_store.specs.Held.{IsInside, shown}
 use Rattle.ifmap_store.specs.Named.{named_in}
 use Rattle.ifmap_store.proofs.Changed.{held_alike, inside_held, keys_alike, names_alike, roomier}
 use Rattle.ifmap_store.proofs.Holds.{add_two, still_identifiers}
+use Rattle.ifmap_store.proofs.Kept.{kept_backs, kept_still, kept_waits}
+use Rattle.ifmap_store.proofs.Settled.{held_of}
 use Rattle.ifmap_store.proofs.Own.{holds_alike, key_kept, key_told}
 use Rattle.ifmap_store.proofs.graph.Graph.hold.Goals as goal
 
@@ -65,3 +67,57 @@ returns-clause-own c =
 
 pub returns-clause-links : goal.returns-clause-links
 returns-clause-links c = rw (← c.self.view_is) c.lengthen.ensures.same
+
+pub returns-clause-still : goal.returns-clause-still
+returns-clause-still c =
+    rw (← c.self.view_is)
+    (kept_still (held_of c.self.inside.names c.self.inside.shelves c.self.inside.links.items)
+    (held_of c.hold.new.self c.self.inside.shelves c.lengthen.new.links.items) refl refl c.lengthen.ensures.same c.lengthen.ensures.longer)
+
+pub returns-in_err-lengthen-clause-still : goal.returns-in_err-lengthen-clause-still
+returns-in_err-lengthen-clause-still c =
+    rw (← c.self.view_is)
+    (kept_still (held_of c.self.inside.names c.self.inside.shelves c.self.inside.links.items)
+    (held_of c.reserve.new.self c.self.inside.shelves c.lengthen.new.links.items) refl refl c.lengthen.ensures.same c.lengthen.ensures.longer)
+
+pub returns-in_err-reserve-clause-still : goal.returns-in_err-reserve-clause-still
+returns-in_err-reserve-clause-still c =
+    rw (← c.self.view_is)
+    (kept_still (held_of c.self.inside.names c.self.inside.shelves c.self.inside.links.items)
+    (held_of c.reserve.new.self c.self.inside.shelves c.self.inside.links.items) refl refl (λ v. refl) (omega arith))
+
+pub returns-clause-waits : goal.returns-clause-waits
+returns-clause-waits c =
+    rw (← c.self.view_is)
+    (kept_waits (held_of c.self.inside.names c.self.inside.shelves c.self.inside.links.items)
+    (held_of c.hold.new.self c.self.inside.shelves c.lengthen.new.links.items) refl refl c.lengthen.ensures.same c.lengthen.ensures.longer)
+
+pub returns-in_err-lengthen-clause-waits : goal.returns-in_err-lengthen-clause-waits
+returns-in_err-lengthen-clause-waits c =
+    rw (← c.self.view_is)
+    (kept_waits (held_of c.self.inside.names c.self.inside.shelves c.self.inside.links.items)
+    (held_of c.reserve.new.self c.self.inside.shelves c.lengthen.new.links.items) refl refl c.lengthen.ensures.same c.lengthen.ensures.longer)
+
+pub returns-in_err-reserve-clause-waits : goal.returns-in_err-reserve-clause-waits
+returns-in_err-reserve-clause-waits c =
+    rw (← c.self.view_is)
+    (kept_waits (held_of c.self.inside.names c.self.inside.shelves c.self.inside.links.items)
+    (held_of c.reserve.new.self c.self.inside.shelves c.self.inside.links.items) refl refl (λ v. refl) (omega arith))
+
+pub returns-clause-backs : goal.returns-clause-backs
+returns-clause-backs c =
+    rw (← c.self.view_is)
+    (kept_backs (held_of c.self.inside.names c.self.inside.shelves c.self.inside.links.items)
+    (held_of c.hold.new.self c.self.inside.shelves c.lengthen.new.links.items) refl refl c.lengthen.ensures.same c.lengthen.ensures.longer)
+
+pub returns-in_err-lengthen-clause-backs : goal.returns-in_err-lengthen-clause-backs
+returns-in_err-lengthen-clause-backs c =
+    rw (← c.self.view_is)
+    (kept_backs (held_of c.self.inside.names c.self.inside.shelves c.self.inside.links.items)
+    (held_of c.reserve.new.self c.self.inside.shelves c.lengthen.new.links.items) refl refl c.lengthen.ensures.same c.lengthen.ensures.longer)
+
+pub returns-in_err-reserve-clause-backs : goal.returns-in_err-reserve-clause-backs
+returns-in_err-reserve-clause-backs c =
+    rw (← c.self.view_is)
+    (kept_backs (held_of c.self.inside.names c.self.inside.shelves c.self.inside.links.items)
+    (held_of c.reserve.new.self c.self.inside.shelves c.self.inside.links.items) refl refl (λ v. refl) (omega arith))

@@ -1,8 +1,9 @@
-use Rattle.std.proofs.Common.{rules, ◌≡◌, List, ap, sym, ◌∙◌, subst}
+use Rattle.std.proofs.Common.{rules, ◌≡◌, List, refl, ap, sym, ◌∙◌, subst, arith}
 use Rattle.slab.specs.Slab.{get}
 use Rattle.ifmap_store.specs.Out.{items_of}
 use Rattle.ifmap_store.proofs.Own.{key_kept}
-use Rattle.ifmap_store.proofs.Settled.{bare_from, bare_to, less_next, less_now, less_own, less_stay, less_waits, waited_from}
+use Rattle.ifmap_store.proofs.Backs.{keeps_other_backs}
+use Rattle.ifmap_store.proofs.Settled.{held_of, bare_from, bare_to, less_next, less_now, less_own, less_stay, less_waits, waited_from}
 use Rattle.ifmap_store.proofs.graph.Graph.release_waits.Goals as goal
 
 pub release_items-requires-clause-inside : goal.release_items-requires-clause-inside
@@ -61,3 +62,15 @@ pub returns-clause-stay : goal.returns-clause-stay
 returns-clause-stay c =
     rw (← c.self.view_is)
     (less_stay c.self.inside.names c.release_items.new.names c.self.inside.shelves c.release_items.new.shelves c.self.inside.links.items c.release_items.ensures.less)
+
+pub returns-clause-backs : goal.returns-clause-backs
+returns-clause-backs c =
+    rw (← c.self.view_is)
+    (keeps_other_backs (held_of c.self.inside.names c.self.inside.shelves c.self.inside.links.items)
+    (held_of c.release_items.new.names c.release_items.new.shelves c.self.inside.links.items)
+    (less_now c.self.inside.names c.release_items.new.names c.self.inside.shelves c.release_items.new.shelves c.self.inside.links.items c.release_items.ensures.less)
+    (λ v. refl) (omega arith)
+    (less_stay c.self.inside.names c.release_items.new.names c.self.inside.shelves c.release_items.new.shelves c.self.inside.links.items c.release_items.ensures.less)
+    (items_of c.args.changes.now)
+    (less_waits c.self.inside.names c.release_items.new.names c.self.inside.shelves c.release_items.new.shelves c.self.inside.links.items c.release_items.ensures.less
+    (items_of c.args.changes.now) c.release_items.ensures.waits))
