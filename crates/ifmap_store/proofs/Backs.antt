@@ -1,5 +1,5 @@
 -- Ways back stay where what is stored and the links do, and each shelf that a way back needs.
-use Rattle.std.proofs.Common.{◌≡◌, ◌≢◌, ◌⊎◌, ℕ, zero, suc, ◌+◌, ◌<◌, ◌≤◌, Bool, true, false, cond, Option, Some, List, [], ◌∷◌, ◌++◌, length, refl, ap, ◌∙◌, sym, subst, inl, inr, arith}
+use Rattle.std.proofs.Common.{◌≡◌, ◌≢◌, ℕ, zero, suc, ◌+◌, ◌≤◌, List, [], ◌∷◌, length, refl, ap, ◌∙◌, sym, subst, inl, inr, arith}
 use Rattle.std.proofs.lemmas.Bool.{cases_Bool}
 use Rattle.std.specs.BTreeMap.{is_at}
 use Rattle.ifmap_ident.specs.declared.items.Item.{Item}
@@ -10,15 +10,12 @@ use Rattle.ifmap_view.specs.declared.views.LinkSeen.{LinkSeen}
 use Rattle.ifmap_view.specs.Rows.{stored_on}
 use Rattle.ifmap_store.specs.declared.changes.Undo.{Undo}
 use Rattle.ifmap_store.specs.Back.{AreLinks, AreTwo, IsWayBack, KeepsBacks, KeepsOtherBacks, stand_each}
-use Rattle.ifmap_store.specs.Held.{Held, links_at}
+use Rattle.ifmap_store.specs.Held.{Held}
 use Rattle.ifmap_store.specs.Out.{items_of}
-use Rattle.ifmap_store.specs.Seen.{Awaits, AwaitsLess, AwaitsMore, links_now, rows_now, waits_in}
-use Rattle.ifmap_store.specs.Sides.{Sides, now}
-use Rattle.ifmap_store.specs.Stays.{IsThere, StayPlaced, ends_in, place_in}
-use Rattle.ifmap_store.specs.Turning.{AreWithin, restore_each, sides_at}
+use Rattle.ifmap_store.specs.Seen.{Awaits, AwaitsLess, AwaitsMore, links_now, rows_now}
+use Rattle.ifmap_store.specs.Stays.{IsThere, StayPlaced}
 use Rattle.ifmap_store.specs.Waits.{times_in}
 use Rattle.ifmap_store.proofs.Turns.{restored_alike, still_within}
-use Rattle.ifmap_store.proofs.Waited.{times_append}
 
 -- an item that is none of these has what it had
 stands_else : (items : List Item) (lists : List (List Stored)) (x : Item) (before : List Stored) → times_in items x ≡ 0 → stand_each items lists x before ≡ before

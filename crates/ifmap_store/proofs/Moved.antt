@@ -1,12 +1,11 @@
 -- A graph's parts after its shelves were written, and none came or went: each side moves with its lists.
-use Rattle.std.proofs.Common.{◌≡◌, ◌⊎◌, ℕ, ◌<◌, Bool, true, Option, Some, None, IsSome, List, [], ◌∷◌, length, nat_eq, option_map, refl, ap, ◌∙◌, sym, subst, inl, inr}
+use Rattle.std.proofs.Common.{◌≡◌, ℕ, ◌<◌, Option, Some, None, IsSome, List, [], ◌∷◌, length, nat_eq, refl, ap, ◌∙◌, sym, subst, inl, inr}
 use Rattle.std.proofs.lemmas.Option.{same_Some, none-some}
 use Rattle.std.specs.List.{AllByRecursion, Contains, IsDistinct}
 use Rattle.slab.specs.Slab.{get}
 use Rattle.ifmap_lemmas.specs.Having.{Has}
 use Rattle.ifmap_ident.specs.declared.identifiers.Identifier.{Identifier}
 use Rattle.ifmap_ident.specs.declared.items.Item.{Item}
-use Rattle.ifmap_meta.specs.declared.stored.Stored.{Stored}
 use Rattle.ifmap_pool.specs.Holdings.{Holdings}
 use Rattle.ifmap_view.specs.declared.views.LinkSeen.{LinkSeen}
 use Rattle.ifmap_view.specs.Rows.{stored_on}
@@ -15,9 +14,9 @@ use Rattle.ifmap_store.specs.declared.shelves.Shelves.{Shelves}
 use Rattle.ifmap_store.specs.Drafted.{ends_at}
 use Rattle.ifmap_store.specs.Held.{IsInside, IsSide, links_at}
 use Rattle.ifmap_store.specs.Joined.{is_full, joined, two_of}
-use Rattle.ifmap_store.specs.Linked.{AreListed, Ends, ats}
+use Rattle.ifmap_store.specs.Linked.{Ends, ats}
 use Rattle.ifmap_store.specs.Named.{AreEnds, AreNumbered, HasEnds}
-use Rattle.ifmap_store.specs.Shelved.{AreShelved, IsList, IsPlaced, Side, list_at, place_of, rows_of}
+use Rattle.ifmap_store.specs.Shelved.{AreShelved, IsList, IsPlaced, Side, list_at, rows_of}
 use Rattle.ifmap_store.specs.Sides.{Sides, next, now}
 use Rattle.ifmap_store.proofs.Finding.{found}
 use Rattle.ifmap_store.proofs.Following.{entry_hits}

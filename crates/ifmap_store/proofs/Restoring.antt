@@ -1,5 +1,5 @@
 -- Lists stand on items again, one after another.
-use Rattle.std.proofs.Common.{◌≡◌, ℕ, ◌+◌, ◌<◌, ◌≤◌, Option, Some, IsSome, List, [], ◌∷◌, cond, length, get_or, set, drop, refl, ap, ◌∙◌, sym, subst, arith, add-one, drop-cons}
+use Rattle.std.proofs.Common.{◌≡◌, ℕ, ◌+◌, ◌<◌, ◌≤◌, Some, IsSome, List, ◌∷◌, cond, length, get_or, set, drop, refl, ap, ◌∙◌, sym, subst, arith, add-one, drop-cons}
 use Rattle.std.proofs.lemmas.List.{drop-set-lt, drop_all, length-set}
 use Rattle.std.specs.BTreeMap.{is_at}
 use Rattle.std.specs.List.{AllByRecursion}
@@ -7,7 +7,6 @@ use Rattle.slab.specs.Slab.{get}
 use Rattle.ifmap_ident.specs.declared.items.Item.{Item}
 use Rattle.ifmap_ident.specs.Items.{item_order}
 use Rattle.ifmap_meta.specs.declared.stored.Stored.{Stored}
-use Rattle.ifmap_store.specs.declared.shelves.Shelf.{Shelf}
 use Rattle.ifmap_store.specs.declared.shelves.Shelves.{Shelves}
 use Rattle.ifmap_store.specs.Back.{stand_each}
 use Rattle.ifmap_store.specs.Drafted.{AreBare, NoDraft, ends_at}

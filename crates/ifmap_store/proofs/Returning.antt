@@ -1,5 +1,5 @@
 -- Lists stand at their places again, one after another.
-use Rattle.std.proofs.Common.{◌≡◌, ℕ, ◌+◌, ◌<◌, ◌≤◌, List, [], ◌∷◌, length, get_or, set, drop, refl, ap, ◌∙◌, sym, subst, arith, add-one, drop-cons}
+use Rattle.std.proofs.Common.{◌≡◌, ℕ, ◌+◌, ◌<◌, ◌≤◌, List, ◌∷◌, length, get_or, set, drop, refl, ap, ◌∙◌, sym, subst, arith, add-one, drop-cons}
 use Rattle.std.proofs.lemmas.List.{drop-set-lt, drop_all, length-set}
 use Rattle.ifmap_store.specs.Sides.{Sides}
 use Rattle.ifmap_store.specs.Turning.{AreWithin, restore_each, restored, sides_at}

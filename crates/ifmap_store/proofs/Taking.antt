@@ -1,16 +1,15 @@
 -- A change that was made can be taken back: what was there stands in its lists, and nothing else has changed.
-use Rattle.std.proofs.Common.{◌≡◌, ◌≢◌, ◌⊎◌, ℕ, zero, suc, ◌+◌, ◌<◌, ◌≤◌, Bool, true, false, cond, Option, Some, None, IsSome, List, [], ◌∷◌, map, length, refl, ap, ◌∙◌, sym, subst, inl, inr, arith}
+use Rattle.std.proofs.Common.{◌≡◌, ℕ, ◌+◌, true, Option, Some, None, List, [], ◌∷◌, map, length, refl, ap, ◌∙◌, sym, subst, inl, inr, arith}
 use Rattle.std.proofs.lemmas.Bool.{cases_Bool}
 use Rattle.std.proofs.lemmas.List.{length-map}
 use Rattle.std.specs.BTreeMap.{is_at}
-use Rattle.std.specs.Map.{lookup}
 use Rattle.std.specs.Ordering.{is_eq}
 use Rattle.std.specs.declared.cmp.Ordering.TheVariants.{Equal}
 use Rattle.slab.specs.Slab.{get}
 use Rattle.ifmap_lemmas.specs.Having.{Has}
 use Rattle.ifmap_ident.specs.declared.identifiers.Identifier.{Identifier}
 use Rattle.ifmap_ident.specs.declared.items.Item.{Item}
-use Rattle.ifmap_ident.specs.Items.{item_order, same_item}
+use Rattle.ifmap_ident.specs.Items.{item_order}
 use Rattle.ifmap_meta.specs.declared.stored.Stored.{Stored}
 use Rattle.ifmap_plans.specs.declared.plans.ItemChange.{ItemChange}
 use Rattle.ifmap_pool.specs.Holdings.{Holdings}
@@ -20,13 +19,12 @@ use Rattle.ifmap_view.specs.Attachments.{IsGraph}
 use Rattle.ifmap_view.specs.Rows.{stored_on}
 use Rattle.ifmap_store.specs.declared.changes.Ready.{Ready}
 use Rattle.ifmap_store.specs.declared.changes.Undo.{Undo}
-use Rattle.ifmap_store.specs.declared.shelves.Shelf.{Shelf}
 use Rattle.ifmap_store.specs.declared.shelves.Shelves.{Shelves}
 use Rattle.ifmap_store.specs.Back.{IsWayBack, stand_each}
 use Rattle.ifmap_store.specs.Drafted.{AreOut, ends_at}
 use Rattle.ifmap_store.specs.Held.{IsInside, links_at, shown}
 use Rattle.ifmap_store.specs.Out.{items_of}
-use Rattle.ifmap_store.specs.Seen.{Awaits, links_now, rows_now, waits_in}
+use Rattle.ifmap_store.specs.Seen.{Awaits, links_now, rows_now}
 use Rattle.ifmap_store.specs.Shelved.{AreShelved, HasDraft, list_at, place_of, rows_by, rows_of}
 use Rattle.ifmap_store.specs.Sides.{Sides, next, now}
 use Rattle.ifmap_store.specs.Stays.{IsThere}
@@ -40,7 +38,8 @@ use Rattle.ifmap_store.proofs.Finding.{absent, found}
 use Rattle.ifmap_store.proofs.Graphs.{graph_is}
 use Rattle.ifmap_store.proofs.Insides.{rows_shown}
 use Rattle.ifmap_store.proofs.Ordered.{equal_is, items_total, ties}
-use Rattle.ifmap_store.proofs.Seeing.{links_by_items, seen_of, seen_waits, stays_there}
+use Rattle.ifmap_store.proofs.Seeing.{links_by_items, seen_of, stays_there}
+use Rattle.ifmap_store.proofs.Settled.{waits_shown}
 use Rattle.ifmap_store.proofs.Turns.{backs_within, gone_again, same_length}
 
 -- what is stored on items that tie is the same
@@ -127,5 +126,5 @@ module _ (names : Holdings Identifier) (s t : Shelves) (links moved : List (Side
     within = subst (λ w. AreWithin w (length moved)) (sym ways)
         (subst (λ n. AreWithin (backs ready.ways links) n) (sym (ap length turned ∙ same_length ready.ways links)) (backs_within ready.ways links drafted));
     waits = subst (λ l. Awaits l (seen_of (get t.slots) t.places.entries names moved)) (sym same_items)
-        (λ x. omega (arith, awaited x, seen_waits (get s.slots) s.places.entries names links x, seen_waits (get t.slots) t.places.entries names moved x, waits x));
+        (λ x. omega (arith, awaited x, waits_shown names s links x, waits_shown names t moved x, waits x));
   }

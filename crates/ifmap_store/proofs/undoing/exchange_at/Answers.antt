@@ -1,4 +1,4 @@
-use Rattle.std.proofs.Common.{◌≡◌, IsSome, cond, get_or, ap, sym, ◌∙◌}
+use Rattle.std.proofs.Common.{cond, get_or, ap, ◌∙◌}
 use Rattle.std.proofs.lemmas.List.{get_or_default}
 use Rattle.std.specs.BTreeMap.{is_at}
 use Rattle.ifmap_ident.specs.Items.{item_order}

@@ -1,4 +1,4 @@
-use Rattle.std.proofs.Common.{[], ◌≡◌, ◌<◌, ◌≤◌, length, arith}
+use Rattle.std.proofs.Common.{[], arith}
 use Rattle.ifmap_store.proofs.Returning.{all_returned, place_within, returning, returns_on}
 use Rattle.ifmap_store.proofs.ways.restore_all.Goals as goal
 

@@ -1,4 +1,4 @@
-use Rattle.std.proofs.Common.{rules, ◌≡◌, ℕ, IsSome, ◌++◌, ap, ◌∙◌, sym, subst}
+use Rattle.std.proofs.Common.{IsSome, ◌++◌, ap, ◌∙◌, sym, subst}
 use Rattle.std.specs.List.{AllByRecursion}
 use Rattle.ifmap_view.specs.Rows.{stored_on}
 use Rattle.ifmap_store.specs.Back.{stand_each}
@@ -66,26 +66,26 @@ returns-clause-back c = λ rows links b.
     in let still = rw (← c.self.view_is) at c.requires.still
     in (
       c.release_waits.ensures.now
-      ∙ undone_rows c.self.inside.names c.self.inside.shelves c.exchange_changes.new.shelves c.self.inside.links.items c.restore_all.new.lists.items
-    c.exchange_changes.ensures.places c.exchange_changes.ensures.ends c.exchange_changes.ensures.waits c.self.invariant c.exchange_changes.ensures.bare still.links
-    c.args.undo rows links back
-    (λ x. c.exchange_changes.ensures.now x
-    ∙ ap (λ l. stand_each (items_of l) c.lists.inside.0.items x (stored_on x (rows_of now c.self.inside.shelves)))
-    (c.deref.ensures.value ∙ ap (λ r. r.plan.changes) c.undo.view_is)
-    ∙ ap (λ l. stand_each (items_of c.args.undo.plan.changes) l x (stored_on x (rows_of now c.self.inside.shelves)))
-    (c.lists.view_is ∙ ap (λ r. r.lists) c.undo.view_is))
-    (c.restore_all.ensures ∙ ap (λ w. restore_each w c.self.inside.links.items) (c.ways.view_is ∙ ap (λ r. r.ways) c.undo.view_is))
-      c.bytes_tell_identifiers_apart.ensures,
+          ∙ undone_rows c.self.inside.names c.self.inside.shelves c.exchange_changes.new.shelves c.self.inside.links.items c.restore_all.new.lists.items
+          c.exchange_changes.ensures.places c.exchange_changes.ensures.ends c.exchange_changes.ensures.waits c.self.invariant c.exchange_changes.ensures.bare still.links
+          c.args.undo rows links back
+          (λ x. c.exchange_changes.ensures.now x
+          ∙ ap (λ l. stand_each (items_of l) c.lists.inside.0.items x (stored_on x (rows_of now c.self.inside.shelves)))
+          (c.deref.ensures.value ∙ ap (λ r. r.plan.changes) c.undo.view_is)
+          ∙ ap (λ l. stand_each (items_of c.args.undo.plan.changes) l x (stored_on x (rows_of now c.self.inside.shelves)))
+          (c.lists.view_is ∙ ap (λ r. r.lists) c.undo.view_is))
+          (c.restore_all.ensures ∙ ap (λ w. restore_each w c.self.inside.links.items) (c.ways.view_is ∙ ap (λ r. r.ways) c.undo.view_is))
+          c.bytes_tell_identifiers_apart.ensures,
       λ v. ap (λ l. links_at now l v) c.release_waits.ensures.links
-      ∙ undone_links c.self.inside.names c.self.inside.shelves c.exchange_changes.new.shelves c.self.inside.links.items c.restore_all.new.lists.items
-    c.exchange_changes.ensures.places c.exchange_changes.ensures.ends c.exchange_changes.ensures.waits c.self.invariant c.exchange_changes.ensures.bare still.links
-    c.args.undo rows links back
-    (λ x. c.exchange_changes.ensures.now x
-    ∙ ap (λ l. stand_each (items_of l) c.lists.inside.0.items x (stored_on x (rows_of now c.self.inside.shelves)))
-    (c.deref.ensures.value ∙ ap (λ r. r.plan.changes) c.undo.view_is)
-    ∙ ap (λ l. stand_each (items_of c.args.undo.plan.changes) l x (stored_on x (rows_of now c.self.inside.shelves)))
-    (c.lists.view_is ∙ ap (λ r. r.lists) c.undo.view_is))
-    (c.restore_all.ensures ∙ ap (λ w. restore_each w c.self.inside.links.items) (c.ways.view_is ∙ ap (λ r. r.ways) c.undo.view_is)) v,
+          ∙ undone_links c.self.inside.names c.self.inside.shelves c.exchange_changes.new.shelves c.self.inside.links.items c.restore_all.new.lists.items
+          c.exchange_changes.ensures.places c.exchange_changes.ensures.ends c.exchange_changes.ensures.waits c.self.invariant c.exchange_changes.ensures.bare still.links
+          c.args.undo rows links back
+          (λ x. c.exchange_changes.ensures.now x
+          ∙ ap (λ l. stand_each (items_of l) c.lists.inside.0.items x (stored_on x (rows_of now c.self.inside.shelves)))
+          (c.deref.ensures.value ∙ ap (λ r. r.plan.changes) c.undo.view_is)
+          ∙ ap (λ l. stand_each (items_of c.args.undo.plan.changes) l x (stored_on x (rows_of now c.self.inside.shelves)))
+          (c.lists.view_is ∙ ap (λ r. r.lists) c.undo.view_is))
+          (c.restore_all.ensures ∙ ap (λ w. restore_each w c.self.inside.links.items) (c.ways.view_is ∙ ap (λ r. r.ways) c.undo.view_is)) v,
     )
 
 pub returns-clause-own : goal.returns-clause-own
