@@ -18,7 +18,8 @@ use Rattle.ifmap_store.specs.Waits.{times_in}
 use Rattle.ifmap_store.proofs.Turns.{restored_alike, still_within}
 
 -- an item that is none of these has what it had
-stands_else : (items : List Item) (lists : List (List Stored)) (x : Item) (before : List Stored) → times_in items x ≡ 0 → stand_each items lists x before ≡ before
+stands_else : (items : List Item) (lists : List (List Stored)) (x : Item) (before : List Stored) → times_in items x ≡ 0
+    → stand_each items lists x before ≡ before
 stands_else [] lists x before e = refl
 stands_else (i ∷ is) [] x before e = refl
 stands_else (i ∷ is) (list ∷ lists) x before e = elim (cases_Bool (is_at (item_order i) x)) [
@@ -27,7 +28,8 @@ stands_else (i ∷ is) (list ∷ lists) x before e = elim (cases_Bool (is_at (it
 ]
 
 -- links stay where the shelves of all that has something stay
-pub links_stay : (rows : List Attachment) (links : ℕ → List LinkSeen) (old new : Held) → ((x : Item) → stored_on x rows ≢ [] → IsThere old new x)
+pub links_stay : (rows : List Attachment) (links : ℕ → List LinkSeen) (old new : Held)
+    → ((x : Item) → stored_on x rows ≢ [] → IsThere old new x)
     → AreLinks rows links old → AreLinks rows links new
 links_stay rows links old new f is = record {
   only = λ v seen c.
@@ -73,5 +75,7 @@ module _ (old new : Held) (rows : rows_now new ≡ rows_now old) (links : (v : �
   keeps_other_backs items less u before seen waits b = back_stays u before seen (less (items_of u.plan.changes) waits) b
 
 -- one after the other: where a change comes to be out, and is given up again
-pub keeps_both : (items : List Item) (old mid new : Held) → AwaitsMore items old mid → KeepsBacks old mid → KeepsOtherBacks items mid new → KeepsBacks old new
-keeps_both items old mid new more one other u rows links b = other u rows links (more (items_of u.plan.changes) b.waits) (one u rows links b)
+pub keeps_both : (items : List Item) (old mid new : Held) → AwaitsMore items old mid → KeepsBacks old mid → KeepsOtherBacks items mid new
+    → KeepsBacks old new
+keeps_both items old mid new more one other u rows links b = other u rows links (more (items_of u.plan.changes) b.waits)
+    (one u rows links b)

@@ -21,7 +21,8 @@ pub no_draft_on : (s : Shelves) (x : Item) → AreShelved s → AreBare s → Is
 no_draft_on s x is bare there =
     let p = some_of (place_of s x) there
     in let q = some_of (get s.slots p.0) (slot_live (get s.slots) s.places.entries x p.0 is p.1)
-    in let none : NoDraft (Some q.0) = subst NoDraft q.1 (live_at (λ at. NoDraft (get s.slots at)) (is_at (item_order x)) s.places.entries p.0 bare p.1)
+    in let none : NoDraft (Some q.0) = subst NoDraft q.1
+    (live_at (λ at. NoDraft (get s.slots at)) (is_at (item_order x)) s.places.entries p.0 bare p.1)
     in (p.0, q.0, p.1, q.1, none)
 
 module _ (items : List Item) (given : List (List Stored)) (first : Shelves) where
@@ -36,7 +37,8 @@ module _ (items : List Item) (given : List (List Stored)) (first : Shelves) wher
     pub waits : (x : Item) → waits_on shelves x ≡ waits_on first x
     pub places : shelves.places ≡ first.places
 
-  pub restoring : AreShelved first → AreBare first → AllByRecursion (λ x. IsSome (place_of first x)) items → length given ≡ length items → Restoring given first 0
+  pub restoring : AreShelved first → AreBare first → AllByRecursion (λ x. IsSome (place_of first x)) items → length given ≡ length items
+      → Restoring given first 0
   restoring shelved bare there long = record {
     shelved = shelved;
     bare = bare;
@@ -48,7 +50,8 @@ module _ (items : List Item) (given : List (List Stored)) (first : Shelves) wher
     places = refl;
   }
 
-  module _ (lists : List (List Stored)) (shelves : Shelves) (i : ℕ) (item : Item) (h : i < length items) (here : drop i items ≡ item ∷ drop (i + 1) items) (g : Restoring lists shelves i) where
+  module _ (lists : List (List Stored)) (shelves : Shelves) (i : ℕ) (item : Item) (h : i < length items)
+      (here : drop i items ≡ item ∷ drop (i + 1) items) (g : Restoring lists shelves i) where
     now_there : AllByRecursion (λ x. IsSome (place_of first x)) (item ∷ drop (i + 1) items)
     now_there = subst (AllByRecursion (λ x. IsSome (place_of first x))) here g.there
 
@@ -59,8 +62,10 @@ module _ (items : List Item) (given : List (List Stored)) (first : Shelves) wher
     list_here d = drop-cons lists i d (omega (arith, h, g.long)) ∙ ap (λ n. get_or lists i d ∷ drop n lists) (sym (add-one i))
 
     pub restores_on : (lists' : List (List Stored)) (shelves' : Shelves) (d was : List Stored) → AreShelved shelves' → AreBare shelves'
-        → ((x : Item) → stored_at shelves' x ≡ cond (is_at (item_order item) x) (get_or lists i d) (stored_at shelves x)) → lists' ≡ set lists i was
-        → ((at : ℕ) → ends_at shelves' at ≡ ends_at shelves at) → ((x : Item) → waits_on shelves' x ≡ waits_on shelves x) → shelves'.places ≡ shelves.places
+        → ((x : Item) → stored_at shelves' x ≡ cond (is_at (item_order item) x) (get_or lists i d) (stored_at shelves x))
+        → lists' ≡ set lists i was
+        → ((at : ℕ) → ends_at shelves' at ≡ ends_at shelves at) → ((x : Item) → waits_on shelves' x ≡ waits_on shelves x)
+        → shelves'.places ≡ shelves.places
         → Restoring lists' shelves' (i + 1)
     restores_on lists' shelves' d was shelved bare stands wrote ends waits places = record {
       shelved = shelved;
@@ -68,7 +73,8 @@ module _ (items : List Item) (given : List (List Stored)) (first : Shelves) wher
       there = now_there.1;
       long = ap length wrote ∙ length-set lists i was ∙ g.long;
       left = λ x.
-          ap (λ l. stand_each (drop (i + 1) items) l x (stored_at shelves' x)) (ap (λ l. drop (i + 1) l) wrote ∙ drop-set-lt (i + 1) lists i was (omega arith))
+          ap (λ l. stand_each (drop (i + 1) items) l x (stored_at shelves' x))
+          (ap (λ l. drop (i + 1) l) wrote ∙ drop-set-lt (i + 1) lists i was (omega arith))
           ∙ ap (stand_each (drop (i + 1) items) (drop (i + 1) lists) x) (stands x)
           ∙ sym (ap (λ l. stand_each (item ∷ drop (i + 1) items) l x (stored_at shelves x)) (list_here d))
           ∙ sym (ap (λ l. stand_each l (drop i lists) x (stored_at shelves x)) here) ∙ g.left x;

@@ -31,7 +31,8 @@ abbrev pub seen_of : (ℕ → Option Shelf) → Entries → Holdings Identifier 
 seen_of look es names links = record { shelves = shown look es; names = names; links = links; places = es }
 
 module _ (look : ℕ → Option Shelf) (es : Entries) (names : Holdings Identifier) (links : List (Sides LinkSeen)) where
-  pub seen_ends : (x : Item) (at : ℕ) → lookup (is_at (item_order x)) es ≡ Some at → ends_in (seen_of look es names links) x ≡ ends_of (look at)
+  pub seen_ends : (x : Item) (at : ℕ) → lookup (is_at (item_order x)) es ≡ Some at
+      → ends_in (seen_of look es names links) x ≡ ends_of (look at)
   seen_ends x at e = ap ends_there_in (lookup_shown look (is_at (item_order x)) es ∙ ap (option_map look) e)
 
   pub seen_none : (x : Item) → lookup (is_at (item_order x)) es ≡ None → ends_in (seen_of look es names links) x ≡ None
@@ -39,7 +40,8 @@ module _ (look : ℕ → Option Shelf) (es : Entries) (names : Holdings Identifi
 
 -- shelves that are written stay where they are
 pub stays_there : (look later : ℕ → Option Shelf) (es : Entries) (names others : Holdings Identifier) (links moved : List (Sides LinkSeen))
-    → ((at : ℕ) → ends_of (later at) ≡ ends_of (look at)) → (x : Item) → IsThere (seen_of look es names links) (seen_of later es others moved) x
+    → ((at : ℕ) → ends_of (later at) ≡ ends_of (look at)) → (x : Item)
+    → IsThere (seen_of look es names links) (seen_of later es others moved) x
 stays_there look later es names others links moved f x = by (lookup (is_at (item_order x)) es) refl
   where
     by : (o : Option ℕ) → lookup (is_at (item_order x)) es ≡ o → IsThere (seen_of look es names links) (seen_of later es others moved) x
@@ -89,7 +91,8 @@ module _ (look : ℕ → Option Shelf) (es : Entries) (names : Holdings Identifi
     once = once;
   }
 
-  pub links_by_slots : AreLinks rows links (seen_of look es names sides) → AreListed (λ at. joined (look at)) (λ at. is_full (list_at now (look at))) links
+  pub links_by_slots : AreLinks rows links (seen_of look es names sides)
+      → AreListed (λ at. joined (look at)) (λ at. is_full (list_at now (look at))) links
   links_by_slots is = record {
     only = λ v seen c.
         let p = is.only v seen c

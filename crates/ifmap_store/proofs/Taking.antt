@@ -48,7 +48,8 @@ tied_stored x y rows e =
     stored_alike x y (λ z. sym (ties x z) ∙ ap is_eq (items_total.congr x y z e) ∙ ties y z) rows
 
 -- lists that are those of attachments stand again: on these items they do, and elsewhere nothing has changed
-stands_again : (rows : List Attachment) (items : List Item) (x : Item) (before : List Stored) → (times_in items x ≡ 0 → before ≡ stored_on x rows)
+stands_again : (rows : List Attachment) (items : List Item) (x : Item) (before : List Stored)
+    → (times_in items x ≡ 0 → before ≡ stored_on x rows)
     → stand_each items (map (λ i. stored_on i rows) items) x before ≡ stored_on x rows
 stands_again rows [] x before f = f refl
 stands_again rows (i ∷ is) x before f = elim (cases_Bool (is_at (item_order i) x)) [
@@ -69,18 +70,22 @@ else_same : (s : Shelves) (x : Item) → AreShelved s → (HasDraft s x → ⊥)
 else_same s x is f = by (place_of s x) refl
   where
     by : (o : Option ℕ) → place_of s x ≡ o → stored_on x (rows_of next s) ≡ stored_on x (rows_of now s)
-    by None e = sym (absent (λ n. list_at next (get s.slots n)) x s.places.entries e) ∙ absent (λ n. list_at now (get s.slots n)) x s.places.entries e
+    by None e = sym (absent (λ n. list_at next (get s.slots n)) x s.places.entries e)
+        ∙ absent (λ n. list_at now (get s.slots n)) x s.places.entries e
     by (Some at) e =
         sym (found (λ n. list_at next (get s.slots n)) x s.places.entries at is.rising e)
         ∙ list_bare (get s.slots at) (no_draft (get s.slots at) (λ shelf here has. f (at, shelf, e, here, has)))
         ∙ found (λ n. list_at now (get s.slots n)) x s.places.entries at is.rising e
 
-module _ (names : Holdings Identifier) (s t : Shelves) (links moved : List (Sides LinkSeen)) (is : IsInside names (get s.slots) s.places.entries links)
+module _ (names : Holdings Identifier) (s t : Shelves) (links moved : List (Sides LinkSeen))
+    (is : IsInside names (get s.slots) s.places.entries links)
     (places : t.places ≡ s.places) (ends : (at : ℕ) → ends_at t at ≡ ends_at s at) (waits : (x : Item) → waits_on t x ≡ waits_on s x)
     (rows : rows_of now t ≡ rows_of next s)
     (ready : Ready) (result : Undo) (out : AreOut (items_of ready.plan.changes) s)
     (drafted : AreDrafted ready.ways links) (others : NoOthers ready.ways links) (turned : moved ≡ accept_each ready.ways links)
-    (plan : result.plan ≡ ready.plan) (lists : result.lists ≡ map (λ c. stored_on c.item (rows_by (list_at now) (shown (get s.slots) s.places.entries))) ready.plan.changes)
+    (plan : result.plan ≡ ready.plan)
+    (lists : result.lists ≡ map
+    (λ c. stored_on c.item (rows_by (list_at now) (shown (get s.slots) s.places.entries))) ready.plan.changes)
     (ways : result.ways ≡ backs ready.ways links) where
   abbrev before : List Attachment
   before = rows_by (list_at now) (shown (get s.slots) s.places.entries)
@@ -103,7 +108,8 @@ module _ (names : Holdings Identifier) (s t : Shelves) (links moved : List (Side
       ∙ sym (ap (stored_on x) (rows_shown now (get s.slots) s.places.entries))
 
   pub can_go_back : Awaits items (seen_of (get s.slots) s.places.entries names links)
-      → IsWayBack result (rows_now (seen_of (get s.slots) s.places.entries names links)) (links_now (seen_of (get s.slots) s.places.entries names links))
+      → IsWayBack result (rows_now (seen_of (get s.slots) s.places.entries names links))
+      (links_now (seen_of (get s.slots) s.places.entries names links))
       (seen_of (get t.slots) t.places.entries names moved)
   can_go_back awaited = record {
     graph = subst IsGraph (sym (rows_shown now (get s.slots) s.places.entries))
@@ -111,20 +117,23 @@ module _ (names : Holdings Identifier) (s t : Shelves) (links moved : List (Side
     stored = λ x.
         sym (stands_again before items x (stored_on x (rows_by (list_at now) (shown (get t.slots) t.places.entries))) (kept x))
         ∙ sym (ap (λ l. stand_each items l x (stored_on x (rows_by (list_at now) (shown (get t.slots) t.places.entries)))) lists_are)
-        ∙ sym (ap (λ l. stand_each l result.lists x (stored_on x (rows_by (list_at now) (shown (get t.slots) t.places.entries)))) same_items);
+        ∙ sym (ap (λ l. stand_each l result.lists x
+        (stored_on x (rows_by (list_at now) (shown (get t.slots) t.places.entries)))) same_items);
     linked = λ v.
         sym (gone_again ready.ways links v drafted others)
         ∙ sym (ap (λ l. links_at now (restore_each l (accept_each ready.ways links)) v) ways)
         ∙ sym (ap (λ l. links_at now (restore_each result.ways l) v) turned);
     slots = links_stay before (links_at now links) (seen_of (get s.slots) s.places.entries names links)
         (seen_of (get t.slots) t.places.entries names moved)
-        (λ x n. subst (λ p. IsThere (seen_of (get s.slots) s.places.entries names links) (seen_of (get t.slots) p.entries names moved) x) (sym places)
+        (λ x n. subst (λ p. IsThere (seen_of (get s.slots) s.places.entries names links) (seen_of (get t.slots) p.entries names moved) x)
+        (sym places)
         (stays_there (get s.slots) (get t.slots) s.places.entries names names links moved ends x))
         (links_by_items (get s.slots) s.places.entries names links before (links_at now links) is.placed is.used
         (λ x. sym (ap (stored_on x) (rows_shown now (get s.slots) s.places.entries))) is.side.listed is.side.once);
     lists = ap length lists ∙ length-map ready.plan.changes (λ c. stored_on c.item before) ∙ sym (ap (λ p. length p.changes) plan);
     within = subst (λ w. AreWithin w (length moved)) (sym ways)
-        (subst (λ n. AreWithin (backs ready.ways links) n) (sym (ap length turned ∙ same_length ready.ways links)) (backs_within ready.ways links drafted));
+        (subst (λ n. AreWithin (backs ready.ways links) n) (sym (ap length turned ∙ same_length ready.ways links))
+        (backs_within ready.ways links drafted));
     waits = subst (λ l. Awaits l (seen_of (get t.slots) t.places.entries names moved)) (sym same_items)
         (λ x. omega (arith, awaited x, waits_shown names s links x, waits_shown names t moved x, waits x));
   }

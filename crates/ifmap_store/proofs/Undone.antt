@@ -45,14 +45,16 @@ use Rattle.ifmap_store.proofs.Turns.{next_of_bare, restored_drafts, restored_len
 use Rattle.ifmap_store.proofs.Viewed.{all_has}
 
 -- links that are alike at each number
-links_alike : (rows : List Attachment) (links moved : ℕ → List LinkSeen) (h : Held) → ((v : ℕ) → moved v ≡ links v) → AreLinks rows links h → AreLinks rows moved h
+links_alike : (rows : List Attachment) (links moved : ℕ → List LinkSeen) (h : Held) → ((v : ℕ) → moved v ≡ links v)
+    → AreLinks rows links h → AreLinks rows moved h
 links_alike rows links moved h f is = record {
   only = λ v seen c. is.only v seen (subst (λ l. Contains l seen) (f v) c);
   each = λ x v w at e two full. subst (λ l. Contains l (record { other = w; at = at })) (sym (f v)) (is.each x v w at e two full);
   once = λ v. subst (λ l. IsDistinct nat_eq (ats l)) (sym (f v)) (is.once v);
 }
 
-module _ (names : Holdings Identifier) (look later : ℕ → Option Shelf) (es : Entries) (links moved : List (Sides LinkSeen)) (is : IsInside names look es links)
+module _ (names : Holdings Identifier) (look later : ℕ → Option Shelf) (es : Entries) (links moved : List (Sides LinkSeen))
+    (is : IsInside names look es links)
     (ends : (at : ℕ) → ends_of (later at) ≡ ends_of (look at)) (bare : AllByRecursion (λ e. NoDraft (later e.1)) es)
     (none : (v : ℕ) → (sides_at links v).draft ≡ None)
     (u : Undo) (rows : List Attachment) (seen : ℕ → List LinkSeen) (back : IsWayBack u rows seen (seen_of look es names links))
@@ -68,7 +70,8 @@ module _ (names : Holdings Identifier) (look later : ℕ → Option Shelf) (es :
   -- on each item stands what is to stand there again
   stored : (x : Item) → stored_on x (rows_by (λ at. list_at now (later at)) es) ≡ stored_on x rows
   stored x =
-      stands x ∙ sym (ap (λ r. stand_each (items_of u.plan.changes) u.lists x (stored_on x r)) (rows_shown now look es)) ∙ sym (back.stored x)
+      stands x ∙ sym (ap (λ r. stand_each (items_of u.plan.changes) u.lists x (stored_on x r)) (rows_shown now look es))
+      ∙ sym (back.stored x)
 
   pub back_links : (v : ℕ) → links_at now moved v ≡ seen v
   back_links v = ap (λ l. links_at now l v) turned ∙ sym (back.linked v)
@@ -79,7 +82,8 @@ module _ (names : Holdings Identifier) (look later : ℕ → Option Shelf) (es :
   lists : (xs : Entries) → ((e : Item × ℕ) → Has xs e → Has es e) → AllByRecursion (λ e. IsList (list_at now (later e.1))) xs
   lists [] f = tt
   lists (e ∷ xs) f = (
-    subst IsList (sym (found (λ at. list_at now (later at)) e.0 es e.1 placed.rising (entry_hits es e.0 e.1 placed.rising (f e (inl refl))) ∙ stored e.0))
+    subst IsList (sym (found (λ at. list_at now (later at)) e.0 es e.1 placed.rising
+        (entry_hits es e.0 e.1 placed.rising (f e (inl refl))) ∙ stored e.0))
         (list_on e.0 rows back.graph),
     lists xs (λ x h. f x (inr h)),
   )
@@ -87,7 +91,8 @@ module _ (names : Holdings Identifier) (look later : ℕ → Option Shelf) (es :
   slots : AreLinks rows (links_at now moved) (seen_of later es names moved)
   slots =
       links_alike rows seen (links_at now moved) (seen_of later es names moved) back_links
-      (links_stay rows seen (seen_of look es names links) (seen_of later es names moved) (λ x n. stays_there look later es names names links moved ends x) back.slots)
+      (links_stay rows seen (seen_of look es names links) (seen_of later es names moved)
+      (λ x n. stays_there look later es names names links moved ends x) back.slots)
 
   side : IsSide now later es (links_at now moved)
   side = record {
@@ -116,11 +121,13 @@ module _ (names : Holdings Identifier) (look later : ℕ → Option Shelf) (es :
   pub back_rows : Tells → rows_now (seen_of later es names moved) ≡ rows
   back_rows tells =
       rows_shown now later es
-      ∙ rows_same tells (rows_by (λ at. list_at now (later at)) es) rows (graph_is (λ at. list_at now (later at)) es placed.rising placed.canon side.lists)
+      ∙ rows_same tells (rows_by (λ at. list_at now (later at)) es) rows
+      (graph_is (λ at. list_at now (later at)) es placed.rising placed.canon side.lists)
       back.graph stored
 
 -- items that are waited for have shelves
-pub all_there : (names : Holdings Identifier) (s : Shelves) (links : List (Sides LinkSeen)) (items : List Item) → Awaits items (held_of names s links)
+pub all_there : (names : Holdings Identifier) (s : Shelves) (links : List (Sides LinkSeen)) (items : List Item)
+    → Awaits items (held_of names s links)
     → AllByRecursion (λ x. IsSome (place_of s x)) items
 all_there names s links items a = by items (λ x h. h)
   where
@@ -141,7 +148,8 @@ module _ (names : Holdings Identifier) (s t : Shelves) (links moved : List (Side
   pub own_stays : KeepsOwn (held_of names s links) (held_of names t moved)
   own_stays a own h =
       subst (λ (n : ℕ). IsHeld identifier_order names a (n + own))
-      (named_shown (get s.slots) s.places.entries a ∙ sym (ap (λ p. named_in p.entries a) places) ∙ sym (named_shown (get t.slots) t.places.entries a)) h
+      (named_shown (get s.slots) s.places.entries a ∙ sym (ap (λ p. named_in p.entries a) places)
+      ∙ sym (named_shown (get t.slots) t.places.entries a)) h
 
   pub waits_stay_seen : (items : List Item) → Awaits items (held_of names s links) → Awaits items (held_of names t moved)
   waits_stay_seen items a x = omega (arith, a x, waits_shown names s links x, waits_shown names t moved x, waits x)
@@ -160,17 +168,21 @@ module _ (names : Holdings Identifier) (s t : Shelves) (links moved : List (Side
     pub undone_inside : IsInside names (get t.slots) t.places.entries moved
     undone_inside =
         subst (λ p. IsInside names (get t.slots) p.entries moved) (sym places)
-        (back_inside names (get s.slots) (get t.slots) s.places.entries links moved is ends still_bare none u rows seen back still_stands turned)
+        (back_inside names (get s.slots)
+        (get t.slots) s.places.entries links moved is ends still_bare none u rows seen back still_stands turned)
 
     pub undone_rows : Tells → rows_now (held_of names t moved) ≡ rows
     undone_rows tells =
         ap (λ p. rows_now (seen_of (get t.slots) p.entries names moved)) places
-        ∙ back_rows names (get s.slots) (get t.slots) s.places.entries links moved is ends still_bare none u rows seen back still_stands turned tells
+        ∙ back_rows names (get s.slots)
+        (get t.slots) s.places.entries links moved is ends still_bare none u rows seen back still_stands turned tells
 
     pub undone_links : (v : ℕ) → links_now (held_of names t moved) v ≡ seen v
-    undone_links = back_links names (get s.slots) (get t.slots) s.places.entries links moved is ends still_bare none u rows seen back still_stands turned
+    undone_links = back_links names (get s.slots)
+        (get t.slots) s.places.entries links moved is ends still_bare none u rows seen back still_stands turned
 
     pub undone_still : IsStill (held_of names t moved)
     undone_still =
         bare_to names t moved bare
-        (back_bare names (get s.slots) (get t.slots) s.places.entries links moved is ends still_bare none u rows seen back still_stands turned)
+        (back_bare names (get s.slots)
+        (get t.slots) s.places.entries links moved is ends still_bare none u rows seen back still_stands turned)

@@ -34,7 +34,8 @@ loop-i-preserved c =
     (get_or c.args.changes.now c.loop-i.i d).item (omega (arith, within, same_length c.args.changes.now))
     (here_mapped (λ (x : ItemChange). x.item) c.args.changes.now c.loop-i.i d within) c.loop-i.invariant
     c.exchange_at.new.lists.items c.exchange_at.new.shelves [] (stored_at c.loop-i.shelves (get_or c.args.changes.now c.loop-i.i d).item)
-    c.exchange_at.ensures.shelved c.exchange_at.ensures.bare (c.exchange_at.ensures.now d []) (c.exchange_at.ensures.lists d) c.exchange_at.ensures.ends
+    c.exchange_at.ensures.shelved c.exchange_at.ensures.bare (c.exchange_at.ensures.now d [])
+    (c.exchange_at.ensures.lists d) c.exchange_at.ensures.ends
     c.exchange_at.ensures.waits c.exchange_at.ensures.places
 
 pub returns-clause-now : goal.returns-clause-now

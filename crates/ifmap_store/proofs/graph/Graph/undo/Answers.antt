@@ -14,7 +14,8 @@ use Rattle.ifmap_store.proofs.graph.Graph.undo.Goals as goal
 
 pub exchange_changes-requires-clause-bare : goal.exchange_changes-requires-clause-bare
 exchange_changes-requires-clause-bare c =
-    bare_from c.self.inside.names c.self.inside.shelves c.self.inside.links.items c.self.invariant.placed (rw (← c.self.view_is) at c.requires.still)
+    bare_from c.self.inside.names c.self.inside.shelves c.self.inside.links.items c.self.invariant.placed
+    (rw (← c.self.view_is) at c.requires.still)
 
 pub exchange_changes-requires-clause-there : goal.exchange_changes-requires-clause-there
 exchange_changes-requires-clause-there c =
@@ -100,4 +101,5 @@ returns-clause-waits c = λ rest a.
     (subst (λ l. Awaits (items_of l ++ rest) (held_of c.self.inside.names c.exchange_changes.new.shelves c.restore_all.new.lists.items))
     (sym (c.deref-2.ensures.value ∙ ap (λ r. r.plan.changes) c.undo.view_is))
     (waits_stay_seen c.self.inside.names c.self.inside.shelves c.exchange_changes.new.shelves c.self.inside.links.items c.restore_all.new.lists.items
-    c.exchange_changes.ensures.places c.exchange_changes.ensures.ends c.exchange_changes.ensures.waits (items_of c.args.undo.plan.changes ++ rest) (rw (← c.self.view_is) at a)))
+    c.exchange_changes.ensures.places c.exchange_changes.ensures.ends c.exchange_changes.ensures.waits
+    (items_of c.args.undo.plan.changes ++ rest) (rw (← c.self.view_is) at a)))
