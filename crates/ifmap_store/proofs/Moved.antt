@@ -7,6 +7,7 @@ use Rattle.ifmap_lemmas.specs.Having.{Has}
 use Rattle.ifmap_ident.specs.declared.identifiers.Identifier.{Identifier}
 use Rattle.ifmap_ident.specs.declared.items.Item.{Item}
 use Rattle.ifmap_pool.specs.Holdings.{Holdings}
+use Rattle.ifmap_plans.specs.Lists.{IsList}
 use Rattle.ifmap_view.specs.declared.views.LinkSeen.{LinkSeen}
 use Rattle.ifmap_view.specs.Rows.{stored_on}
 use Rattle.ifmap_store.specs.declared.shelves.Shelf.{Shelf}
@@ -16,7 +17,8 @@ use Rattle.ifmap_store.specs.Held.{IsInside, IsSide, links_at}
 use Rattle.ifmap_store.specs.Joined.{is_full, joined, two_of}
 use Rattle.ifmap_store.specs.Linked.{Ends, ats}
 use Rattle.ifmap_store.specs.Named.{AreEnds, AreNumbered, HasEnds}
-use Rattle.ifmap_store.specs.Shelved.{AreShelved, IsList, IsPlaced, Side, list_at, rows_of}
+use Rattle.ifmap_plans.specs.Lists.{IsList}
+use Rattle.ifmap_store.specs.Shelved.{AreShelved, IsPlaced, Side, list_at, rows_of}
 use Rattle.ifmap_store.specs.Sides.{Sides, next, now}
 use Rattle.ifmap_store.proofs.Finding.{found}
 use Rattle.ifmap_store.proofs.Following.{entry_hits}

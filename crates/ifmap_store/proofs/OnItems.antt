@@ -15,10 +15,10 @@ use Rattle.ifmap_ident.specs.Items.{IsCanonItem, item_order, same_item}
 use Rattle.ifmap_meta.specs.declared.stored.Stored.{Stored}
 use Rattle.ifmap_meta.specs.Keys.{same_key}
 use Rattle.ifmap_plans.specs.laws.KeyLaws.{attachments_total}
+use Rattle.ifmap_plans.specs.Lists.{IsList}
 use Rattle.ifmap_view.specs.declared.attachments.Attachment.{Attachment}
 use Rattle.ifmap_view.specs.Attachments.{IsGraph, attachment_order, of_one_key, stored_order}
 use Rattle.ifmap_view.specs.Rows.{stored_on}
-use Rattle.ifmap_store.specs.Shelved.{IsList}
 use Rattle.ifmap_store.proofs.Alike.{Tells, one_tied, pair_tied}
 use Rattle.ifmap_store.proofs.Ordered.{equal_is, items_total, ties}
 use Rattle.ifmap_store.proofs.Viewed.{all_has}

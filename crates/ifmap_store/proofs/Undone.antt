@@ -7,6 +7,7 @@ use Rattle.ifmap_lemmas.specs.Having.{Has}
 use Rattle.ifmap_ident.specs.declared.identifiers.Identifier.{Identifier}
 use Rattle.ifmap_ident.specs.declared.items.Item.{Item}
 use Rattle.ifmap_ident.specs.Identifiers.{identifier_order}
+use Rattle.ifmap_plans.specs.Lists.{IsList}
 use Rattle.ifmap_pool.specs.Holdings.{Holdings, IsHeld}
 use Rattle.ifmap_view.specs.declared.attachments.Attachment.{Attachment}
 use Rattle.ifmap_view.specs.declared.views.LinkSeen.{LinkSeen}
@@ -21,7 +22,7 @@ use Rattle.ifmap_store.specs.Linked.{ats}
 use Rattle.ifmap_store.specs.Named.{named_in}
 use Rattle.ifmap_store.specs.Out.{items_of}
 use Rattle.ifmap_store.specs.Seen.{Awaits, IsStill, KeepsOwn, links_now, rows_now}
-use Rattle.ifmap_store.specs.Shelved.{IsList, IsPlaced, list_at, place_of, rows_by, rows_of}
+use Rattle.ifmap_store.specs.Shelved.{IsPlaced, list_at, place_of, rows_by, rows_of}
 use Rattle.ifmap_store.specs.Sides.{Sides, next, now}
 use Rattle.ifmap_store.specs.Turning.{restore_each, sides_at}
 use Rattle.ifmap_store.specs.Waits.{times_in, waits_on}

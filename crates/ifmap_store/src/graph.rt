@@ -2,7 +2,6 @@
 ghost use Rattle.std.specs.Prelude.{◌≡◌, ℕ, ◌+◌, ◌<◌, List, [], Some, None, IfSome, IfNone, Contains, length, option_copied, slice_get};
 ghost use Rattle.ifmap_ident.specs.Identifiers.{identifier_bytes, identifier_order};
 ghost use Rattle.ifmap_pool.specs.Holdings.{IsPool, Names, key_at};
-ghost use Rattle.ifmap_store.specs.After.{IsNextItem, NoItem};
 ghost use Rattle.ifmap_store.specs.Held.{links_at};
 ghost use Rattle.ifmap_store.specs.Shelved.{list_at, rows_by};
 ghost use Rattle.ifmap_store.specs.Sides.{next, now};
@@ -14,6 +13,7 @@ use crate::sided::Sided;
 use ifmap_elem::Equals;
 use ifmap_ident::laws::bytes_tell_identifiers_apart;
 use ifmap_ident::{Identifier, Item};
+use ifmap_plans::Items;
 use ifmap_pool::Pool;
 use ifmap_steps::Steps;
 use ifmap_view::{LinkSeen, Row, View};
@@ -129,18 +129,6 @@ impl Graph {
         }
     }
 
-    /// The least item above one, or of all, that carries an attachment. Each call is one step.
-    pub fn item_after<L: Ledger>(&self, item: Option<&Item>, steps: &mut Steps<L>) -> Option<&Item>
-        ensures found { IfSome result (λ found.
-            IsNextItem (rows_by (list_at now) self.now.shelves) (option_copied item.entry)
-            found.now) }
-        ensures none { IfNone result
-            (NoItem (rows_by (list_at now) self.now.shelves) (option_copied item.entry)) }
-        ensures step { steps.new ≡ steps.old + 1 }
-    {
-        self.shelves.item_after(item, steps)
-    }
-
     // The calls of a view, as it is to be.
 
     pub(crate) fn next_number(&self, id: &Identifier) -> Option<u64>
@@ -219,5 +207,11 @@ impl View for Graph {
 
     fn link_stored(&self, seen: LinkSeen) -> &[Row] {
         self.shelves.slots[seen.at as usize].stored.now()
+    }
+}
+
+impl Items for Graph {
+    fn item_after<L: Ledger>(&self, item: Option<&Item>, steps: &mut Steps<L>) -> Option<&Item> {
+        self.shelves.item_after(item, steps)
     }
 }
