@@ -17,7 +17,6 @@ use Rattle.ifmap_store.specs.Held.{IsInside, IsSide, links_at}
 use Rattle.ifmap_store.specs.Joined.{is_full, joined, two_of}
 use Rattle.ifmap_store.specs.Linked.{Ends, ats}
 use Rattle.ifmap_store.specs.Named.{AreEnds, AreNumbered, HasEnds}
-use Rattle.ifmap_plans.specs.Lists.{IsList}
 use Rattle.ifmap_store.specs.Shelved.{AreShelved, IsPlaced, Side, list_at, rows_of}
 use Rattle.ifmap_store.specs.Sides.{Sides, next, now}
 use Rattle.ifmap_store.proofs.Finding.{found}
