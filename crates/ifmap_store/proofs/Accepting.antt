@@ -19,7 +19,7 @@ use Rattle.ifmap_store.proofs.Ordered.{ties}
 turned : (a b : Item) → same_item a b ≡ same_item b a
 turned a b = items_tie a b ∙ ties a b
 
-apart_parts : (x : Item) (xs : List Item) → IsDistinct same_item (x ∷ xs) → AllByRecursion (λ y. same_item x y ≡ false) xs × IsDistinct same_item xs
+pub apart_parts : (x : Item) (xs : List Item) → IsDistinct same_item (x ∷ xs) → AllByRecursion (λ y. same_item x y ≡ false) xs × IsDistinct same_item xs
 unfolding IsDistinct
 apart_parts x xs d = d
 
@@ -145,6 +145,10 @@ module _ (items : List Item) (first : Shelves) where
         sym (append-nil lists) ∙ sym (ap (λ l. l ++ []) (take_all i lists (omega (arith, e, g.long))))
         ∙ sym (ap (λ l. take i lists ++ map (stored_at shelves) l) none) ∙ g.made
 
+  -- what has a draft has a shelf
+  pub drafted_there : AllByRecursion (HasDraft first) items → AllByRecursion (λ x. IsSome (place_of first x)) items
+  drafted_there drafted = all_given (HasDraft first) (λ x. IsSome (place_of first x)) items (λ x k. subst IsSome (sym k.2) refl) drafted
+
   -- so many drafts are taken back
   pub record Discarding (shelves : Shelves) (i : ℕ) : Type 0 where
     pub shelved : AreShelved shelves
@@ -155,11 +159,11 @@ module _ (items : List Item) (first : Shelves) where
     pub waits : (x : Item) → waits_on shelves x ≡ waits_on first x
     pub places : shelves.places ≡ first.places
 
-  pub discarding : AreShelved first → AllByRecursion (HasDraft first) items → DraftsWithin items first → Discarding first 0
-  discarding shelved drafted within = record {
+  pub discarding : AreShelved first → AllByRecursion (λ x. IsSome (place_of first x)) items → DraftsWithin items first → Discarding first 0
+  discarding shelved there within = record {
     shelved = shelved;
     same = refl;
-    there = all_given (HasDraft first) (λ x. IsSome (place_of first x)) items (λ x k. subst IsSome (sym k.2) refl) drafted;
+    there = there;
     within = within;
     ends = λ at. refl;
     waits = λ x. refl;

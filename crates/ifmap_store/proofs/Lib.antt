@@ -31,6 +31,11 @@ pub mod Settled
 pub mod Outs
 pub mod Committed
 pub mod Beginning
+pub mod Readying
+pub mod Touching
+pub mod Proposing
+pub mod Planned
+pub mod Flipping
 pub mod Backs
 pub mod OnItems
 pub mod Seeing
@@ -39,3 +44,5 @@ pub mod Taking
 pub mod Returning
 pub mod Restoring
 pub mod Undone
+pub mod Written
+pub mod Brought

@@ -30,7 +30,7 @@ joined_by None (Some t) e = absurd (none-some _ e)
 joined_by (Some s) None e = absurd (none-some _ (sym e))
 joined_by (Some s) (Some t) e = ap two_of (same_Some _ _ e)
 
-live_by : (o p : Option Shelf) → ends_of o ≡ ends_of p → IsSome p → IsSome o
+pub live_by : (o p : Option Shelf) → ends_of o ≡ ends_of p → IsSome p → IsSome o
 live_by None None e s = s
 live_by None (Some t) e s = absurd (none-some _ e)
 live_by (Some a) p e s = refl
@@ -46,7 +46,7 @@ module _ (look later : ℕ → Option Shelf) (ends : (at : ℕ) → ends_of (lat
   all_live [] a = tt
   all_live (e ∷ es) a = (live_by (later e.1) (look e.1) (ends e.1) a.0, all_live es a.1)
 
-  still_numbered : (names : Holdings Identifier) (es : Entries) → AreNumbered names look es → AreNumbered names later es
+  pub still_numbered : (names : Holdings Identifier) (es : Entries) → AreNumbered names look es → AreNumbered names later es
   still_numbered names [] a = tt
   still_numbered names (e ∷ es) a = (has_by names e.0 (later e.1) (look e.1) (ends e.1) a.0, still_numbered names es a.1)
 

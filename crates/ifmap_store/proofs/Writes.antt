@@ -49,10 +49,10 @@ rows_alike one other f (e ∷ es) =
 module _ (look later : ℕ → Option Shelf) (es : Entries) (is : IsPlaced look es) (item : Item) (at : ℕ) (here : lookup (is_at (item_order item)) es ≡ Some at)
     (others : (o : ℕ) → o ≢ at → later o ≡ look o) where
   -- what ties with the item is looked up at its slot, and nothing else is
-  tied_there : (x : Item) → is_at (item_order item) x ≡ true → lookup (is_at (item_order x)) es ≡ Some at
+  pub tied_there : (x : Item) → is_at (item_order item) x ≡ true → lookup (is_at (item_order x)) es ≡ Some at
   tied_there x t = sym (lookup_tied item x es (equal_is (item_order item x) t)) ∙ here
 
-  other_slot : (x : Item) (bt : ℕ) → is_at (item_order item) x ≡ false → lookup (is_at (item_order x)) es ≡ Some bt → bt ≡ at → ⊥
+  pub other_slot : (x : Item) (bt : ℕ) → is_at (item_order item) x ≡ false → lookup (is_at (item_order x)) es ≡ Some bt → bt ≡ at → ⊥
   other_slot x bt f e q =
       let h = looked_up es x bt e
       in let i = looked_up es item at here

@@ -9,6 +9,8 @@ pub mod Drafted
 pub mod Turning
 pub mod Waits
 pub mod Held
+pub mod Bringing
+pub mod Touched
 pub mod Out
 pub mod Seen
 pub mod Stays

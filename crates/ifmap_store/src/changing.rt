@@ -1,5 +1,5 @@
 //! What changes in one shelf: its draft, its list, and how often it is waited for. No call takes memory.
-ghost use Rattle.std.specs.Prelude.{◌≡◌, ℕ, ◌+◌, ◌-◌, ◌<◌, ◌^◌, List, ◌∷◌, false, Some, None, IsSome, if◌then◌else◌};
+ghost use Rattle.std.specs.Prelude.{◌≡◌, ◌⊎◌, ℕ, ◌+◌, ◌-◌, ◌<◌, ◌^◌, List, ◌∷◌, true, false, Some, None, IsSome, if◌then◌else◌};
 ghost use Rattle.std.specs.BTreeMap.{is_at};
 ghost use Rattle.slab.specs.Slab.{get, with_value};
 ghost use Rattle.ifmap_ident.specs.declared.items.Item.{Item};
@@ -91,6 +91,10 @@ impl Shelves {
         ensures next { (x : Item) → stored_on x (rows_of next self.new)
             ≡ (if is_at (item_order item.now) x then list.items
             else stored_on x (rows_of next self.old)) }
+        ensures drafts { (x : Item) → HasDraft self.new x
+            → HasDraft self.old x ⊎ (is_at (item_order item.now) x ≡ true) }
+        ensures kept { (x : Item) → HasDraft self.old x → HasDraft self.new x }
+        ensures drafted { HasDraft self.new item.now }
         ensures ends { (at : ℕ) → ends_at self.new at ≡ ends_at self.old at }
         ensures waits { (x : Item) → waits_on self.new x ≡ waits_on self.old x }
         ensures places { self.new.places ≡ self.old.places }

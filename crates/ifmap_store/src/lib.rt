@@ -6,6 +6,7 @@ mod after;
 pub mod changes;
 mod changing;
 mod committing;
+mod drafting;
 pub mod drafts;
 pub mod ends;
 pub mod graph;

@@ -6,6 +6,7 @@ ghost use Rattle.ifmap_store.specs.Out.{IsOut, items_of};
 ghost use Rattle.ifmap_store.specs.Seen.{Awaits, AwaitsLess, AwaitsMore, BringsNoNumbers, HasFewOwn, IsSeenSame, IsStill, KeepsNumbers, KeepsOwn, links_now, rows_next, rows_now};
 
 use crate::changes::Ready;
+use crate::drafting::drop_plan;
 use crate::graph::Graph;
 use ifmap_plans::Plan;
 use std::alloc::{AllocError as NoMemory, Global};
@@ -47,6 +48,12 @@ impl Graph {
         ensures waits { AwaitsLess (items_of ready.plan.changes) self.old self.new }
         ensures backs { KeepsOtherBacks (items_of ready.plan.changes) self.old self.new }
     {
-        let _ = ready;
+        drop_plan(
+            &mut self.shelves,
+            &mut self.links,
+            &ready.plan.changes.0,
+            &ready.ways.0,
+        );
+        self.release_waits(&ready.plan.changes.0);
     }
 }
