@@ -1,25 +1,19 @@
 //! Holds of identifiers that others than items have.
-ghost use Rattle.std.specs.Prelude.{◌≡◌, ℕ, ◌+◌, ◌-◌, ◌<◌, ◌^◌, [], Some, None, IfOk, OnOk, OnErr};
-ghost use Rattle.std.specs.BTreeMap.{is_at};
-ghost use Rattle.std.specs.Map.{lookup};
+ghost use Rattle.std.specs.Prelude.{◌≡◌, ℕ, ◌+◌, ◌-◌, ◌<◌, ◌^◌, [], Some, IfOk, OnOk, OnErr};
 ghost use Rattle.ifmap_ident.specs.declared.identifiers.Identifier.{Identifier};
 ghost use Rattle.ifmap_ident.specs.Canon.{IsIdentifier};
 ghost use Rattle.ifmap_ident.specs.Identifiers.{identifier_order};
-ghost use Rattle.ifmap_ident.specs.Items.{IsCanonItem, item_order};
-ghost use Rattle.ifmap_pool.specs.Holdings.{IsHeld, holds_at, key_at, once};
+ghost use Rattle.ifmap_pool.specs.Holdings.{holds_at, key_at, once};
 ghost use Rattle.ifmap_store.specs.Back.{KeepsBacks};
 ghost use Rattle.ifmap_store.specs.Held.{IsOwn};
-ghost use Rattle.ifmap_store.specs.Named.{named_by};
 ghost use Rattle.ifmap_store.specs.Seen.{AwaitsMore, IsStill};
-ghost use Rattle.ifmap_store.specs.Shelved.{list_at, rows_by};
-ghost use Rattle.ifmap_store.specs.Sides.{next, now};
 ghost use Rattle.ifmap_store.specs.Turning.{sides_at};
 
 use crate::graph::Graph;
-use crate::placing::{lengthen, place_shelf};
+use crate::placing::lengthen;
 use ifmap_elem::Copied;
 use ifmap_ident::laws::bytes_tell_identifiers_apart;
-use ifmap_ident::{Identifier, Item};
+use ifmap_ident::Identifier;
 use std::alloc::{AllocError as NoMemory, Global};
 
 impl Graph {
