@@ -1,8 +1,10 @@
 //! A graph's parts together, and the calls that read them, on either side.
-ghost use Rattle.std.specs.Prelude.{◌≡◌, ℕ, ◌+◌, ◌<◌, List, [], Some, None, IfSome, IfNone, Contains, length, option_copied, slice_get};
+ghost use Rattle.std.specs.Prelude.{◌≡◌, ℕ, ◌<◌, [], Some, None, IfSome, Contains, length, option_copied, slice_get};
+ghost use Rattle.ifmap_ident.specs.declared.identifiers.Identifier.{Identifier};
 ghost use Rattle.ifmap_ident.specs.Identifiers.{identifier_bytes, identifier_order};
 ghost use Rattle.ifmap_pool.specs.Holdings.{IsPool, Names, key_at};
-ghost use Rattle.ifmap_store.specs.Held.{links_at};
+ghost use Rattle.ifmap_store.specs.Held.{IsOwn, links_at};
+ghost use Rattle.ifmap_store.specs.Seen.{IsStill};
 ghost use Rattle.ifmap_store.specs.Shelved.{list_at, rows_by};
 ghost use Rattle.ifmap_store.specs.Sides.{next, now};
 ghost use Rattle.ifmap_view.specs.Rows.{stored_linked, stored_on};
@@ -121,6 +123,9 @@ impl Graph {
         ensures shelves { result.shelves ≡ [] }
         ensures links { result.links ≡ [] }
         ensures places { result.places ≡ [] }
+        ensures numbers { (v : ℕ) → key_at result.names v ≡ None }
+        ensures own { (a : Identifier) → IsOwn result a 0 }
+        ensures still { IsStill result }
     {
         Graph {
             names: Pool::new(alloc),

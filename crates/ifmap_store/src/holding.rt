@@ -12,8 +12,8 @@ ghost use Rattle.ifmap_store.specs.Turning.{sides_at};
 use crate::graph::Graph;
 use crate::placing::lengthen;
 use ifmap_elem::Copied;
-use ifmap_ident::laws::bytes_tell_identifiers_apart;
 use ifmap_ident::Identifier;
+use ifmap_ident::laws::bytes_tell_identifiers_apart;
 use std::alloc::{AllocError as NoMemory, Global};
 
 impl Graph {
