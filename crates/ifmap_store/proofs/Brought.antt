@@ -29,7 +29,7 @@ nothing_some {X} o e s = let q : IsSome {T = X} None = subst (λ (o : Option X).
 
 -- what ties is in one place
 place_tied : (s : Shelves) (x y : Item) → is_at (item_order x) y ≡ true → place_of s x ≡ place_of s y
-place_tied s x y t = lookup_tied x y s.places.entries (equal_is (item_order x) t)
+place_tied s x y t = lookup_tied x y s.places.entries (equal_is (item_order x y) t)
 
 -- an item that has no shelf is none of those that have one; and one that has is none of those that have none
 other_there : (s : Shelves) (xs : List Item) (y : Item) → AllByRecursion (λ x. IsSome (place_of s x)) xs → place_of s y ≡ None → IsOther xs y
@@ -72,15 +72,15 @@ some_place : (o : Option ℕ) (at : ℕ) → o ≡ Some at → IsSome o
 some_place o at e = subst (λ (o : Option ℕ). IsSome o) (sym e) refl
 
 -- nothing came
-pub brings_none : (s t : Shelves) → t.places ≡ s.places → ((at : ℕ) → ends_at t at ≡ ends_at s at) → ((x : Item) → waits_on t x ≡ waits_on s x)
+pub brings_none : (s t : Shelves) → t.places.entries ≡ s.places.entries → ((at : ℕ) → ends_at t at ≡ ends_at s at) → ((x : Item) → waits_on t x ≡ waits_on s x)
     → BringsShelves [] s t
-brings_none s t places ends waits = record {
+brings_none s t entries ends waits = record {
   absent = tt;
   there = tt;
-  places = λ x o. ap (λ p. lookup (is_at (item_order x)) p.entries) places;
+  places = λ x o. ap (lookup (is_at (item_order x))) entries;
   ends = λ x at e. ends at;
   waits = waits;
-  named = λ a. ap (λ p. named_in p.entries a) places;
+  named = λ a. omega (arith, ap (λ es. named_in es a) entries);
 }
 
 -- first these, then those
@@ -199,3 +199,25 @@ brings_taken s t item at here updates removes before zero = record {
     waits_same x f None e = ap (waits_there (get s.slots)) (sym (elsewhere x f) ∙ e) ∙ sym (ap (waits_there (get t.slots)) e)
     waits_same x f (Some n) e =
         ap (waits_there (get s.slots)) (sym (elsewhere x f) ∙ e) ∙ sym (ap waits_of (before x n e)) ∙ sym (ap (waits_there (get t.slots)) e)
+
+-- nothing goes
+pub brings_unless : (items : List Item) (s t u : Shelves) → BringsShelves items s u → BringsShelves [] t u → BringsShelves items s t
+brings_unless items s t u p q = record {
+  absent = p.absent;
+  there = all_turned (λ x. IsSome (place_of u x)) (λ x. IsSome (place_of t x)) items
+      (λ x h. subst (λ (o : Option ℕ). IsSome o) (q.places x tt) h) p.there;
+  places = λ x o. sym (q.places x tt) ∙ p.places x o;
+  ends = λ x at e.
+      let o = other_absent s items x p.absent (some_place (place_of s x) at e)
+      in sym (q.ends x at (sym (q.places x tt) ∙ p.places x o ∙ e)) ∙ p.ends x at e;
+  waits = λ x. sym (q.waits x) ∙ p.waits x;
+  named = λ a. omega (arith, p.named a, q.named a);
+}
+
+-- shelves that had come do not change what is there
+pub there_still : (items : List Item) (s t : Shelves) → BringsShelves items s t → (x : Item) → IsSome (place_of s x) → IsSome (place_of t x)
+there_still items s t p x h = subst (λ (o : Option ℕ). IsSome o) (sym (p.places x (other_absent s items x p.absent h))) h
+
+-- who has no shelf is not waited for
+pub never_waited : (s : Shelves) (x : Item) → place_of s x ≡ None → waits_on s x ≡ 0
+never_waited s x e = ap (waits_there (get s.slots)) e

@@ -43,3 +43,12 @@ module _ {T E : Type 0} {P Q : Type 0} where
   pub on_err : (r : Result T E) → (P → Q) → OnErr r P → OnErr r Q
   on_err (Ok x) f h = h
   on_err (Err e) f h = f h
+
+-- what holds anyway
+pub any_ok : {T E P : Type 0} (r : Result T E) → P → OnOk r P
+any_ok (Ok x) h = h
+any_ok (Err e) h = tt
+
+pub any_err : {T E P : Type 0} (r : Result T E) → P → OnErr r P
+any_err (Ok x) h = tt
+any_err (Err e) h = h

@@ -46,3 +46,6 @@ pub mod Restoring
 pub mod Undone
 pub mod Written
 pub mod Brought
+pub mod Marks
+pub mod Grown
+pub mod Waits

@@ -152,6 +152,10 @@ impl Shelves {
         ensures shelved { AreShelved self.new }
         ensures waited { (rest : List Item) → AreWaited rest (waits_on self.old)
             → AreWaited (item.now ∷ rest) (waits_on self.new) }
+        ensures others { (x : Item) → is_at (item_order item.now) x ≡ false
+            → waits_on self.new x ≡ waits_on self.old x }
+        ensures drafts { (x : Item) → HasDraft self.new x → HasDraft self.old x }
+        ensures kept { (x : Item) → HasDraft self.old x → HasDraft self.new x }
         ensures now { rows_of now self.new ≡ rows_of now self.old }
         ensures next { rows_of next self.new ≡ rows_of next self.old }
         ensures ends { (at : ℕ) → ends_at self.new at ≡ ends_at self.old at }

@@ -3,6 +3,7 @@
 #![tactic(auto)]
 
 mod after;
+mod bringing;
 pub mod changes;
 mod changing;
 mod committing;
@@ -20,6 +21,7 @@ pub mod shelves;
 pub mod sided;
 mod turning;
 mod undoing;
+mod waiting;
 pub mod ways;
 
 pub use changes::{Ready, Undo};

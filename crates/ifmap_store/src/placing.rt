@@ -1,5 +1,5 @@
 //! A shelf for an item that has none, with the numbers of its identifiers held.
-ghost use Rattle.std.specs.Prelude.{◌≡◌, ℕ, ◌+◌, ◌-◌, ◌<◌, ◌≤◌, ◌^◌, List, [], ◌∷◌, Some, None, MatchResult, OnOk, OnErr, false, length};
+ghost use Rattle.std.specs.Prelude.{◌≡◌, ℕ, ◌+◌, ◌-◌, ◌<◌, ◌≤◌, ◌^◌, List, [], ◌∷◌, Some, None, OnOk, OnErr, false, length};
 ghost use Rattle.std.specs.BTreeMap.{is_at};
 ghost use Rattle.slab.specs.Slab.{get};
 ghost use Rattle.ifmap_ident.specs.declared.identifiers.Identifier.{Identifier};
@@ -69,9 +69,8 @@ pub(crate) fn place_shelf(
         → IsHeld identifier_order names.new a (named_in shelves.new.places.entries a + own) }
     ensures kept { (v : ℕ) (a : Identifier) → Names identifier_order names.old v a
         → Names identifier_order names.new v a }
-    ensures brought { MatchResult result
-        (λ _. BringsShelves (item ∷ []) shelves.old shelves.new)
-        (λ _. BringsShelves [] shelves.old shelves.new) }
+    ensures brought { OnOk result (BringsShelves (item ∷ []) shelves.old shelves.new) }
+    ensures none { OnErr result (BringsShelves [] shelves.old shelves.new) }
     ensures err { OnErr result (names.new ≡ names.old) }
 {
     shelves.slots.reserve(1)?;

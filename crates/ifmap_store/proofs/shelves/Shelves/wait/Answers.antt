@@ -8,6 +8,7 @@ use Rattle.ifmap_ident.specs.Items.{item_order}
 use Rattle.ifmap_store.specs.declared.shelves.Shelf.{Shelf}
 use Rattle.ifmap_store.specs.Sides.{next, now}
 use Rattle.ifmap_store.specs.Waits.{waits_at, waits_of, waits_there}
+use Rattle.ifmap_store.proofs.Proposing.{drafts_from, drafts_to}
 use Rattle.ifmap_store.proofs.Staying.{ends_stay}
 use Rattle.ifmap_store.proofs.Writes.{shelved, side_stays, slot_live, some_of, waits_had, waits_has, waits_others}
 use Rattle.ifmap_store.proofs.Ordered.{items_total}
@@ -61,4 +62,25 @@ returns-clause-ends c =
     let s = some_of (get c.args.self.now.slots c.index-at.result.now)
     (slot_live (get c.args.self.now.slots) c.args.self.now.places.entries c.args.item.now c.index-at.result.now c.requires.shelved c.index-at.ensures)
     in ends_stay c.args.self.now.slots c.wait_at.new.slots c.args.self.now.places.entries c.requires.shelved c.args.item.now c.index-at.result.now
+    c.index-at.ensures s.0 _ s.1 (c.wait_at.ensures s.0 s.1) refl
+
+pub returns-clause-others : goal.returns-clause-others
+returns-clause-others c =
+    let s = some_of (get c.args.self.now.slots c.index-at.result.now)
+    (slot_live (get c.args.self.now.slots) c.args.self.now.places.entries c.args.item.now c.index-at.result.now c.requires.shelved c.index-at.ensures)
+    in waits_others c.args.self.now.slots c.wait_at.new.slots c.args.self.now.places.entries c.requires.shelved c.args.item.now c.index-at.result.now
+    c.index-at.ensures s.0 _ s.1 (c.wait_at.ensures s.0 s.1)
+
+pub returns-clause-drafts : goal.returns-clause-drafts
+returns-clause-drafts c =
+    let s = some_of (get c.args.self.now.slots c.index-at.result.now)
+    (slot_live (get c.args.self.now.slots) c.args.self.now.places.entries c.args.item.now c.index-at.result.now c.requires.shelved c.index-at.ensures)
+    in drafts_from c.args.self.now.slots c.wait_at.new.slots c.args.self.now.places.entries c.requires.shelved c.args.item.now c.index-at.result.now
+    c.index-at.ensures s.0 _ s.1 (c.wait_at.ensures s.0 s.1) refl
+
+pub returns-clause-kept : goal.returns-clause-kept
+returns-clause-kept c =
+    let s = some_of (get c.args.self.now.slots c.index-at.result.now)
+    (slot_live (get c.args.self.now.slots) c.args.self.now.places.entries c.args.item.now c.index-at.result.now c.requires.shelved c.index-at.ensures)
+    in drafts_to c.args.self.now.slots c.wait_at.new.slots c.args.self.now.places.entries c.requires.shelved c.args.item.now c.index-at.result.now
     c.index-at.ensures s.0 _ s.1 (c.wait_at.ensures s.0 s.1) refl
