@@ -1,14 +1,15 @@
 //! Holds of identifiers that others than items have.
-ghost use Rattle.std.specs.Prelude.{◌≡◌, ℕ, ◌+◌, ◌-◌, ◌<◌, ◌^◌, [], Some, IfOk, OnOk, OnErr};
+ghost use Rattle.std.specs.Prelude.{◌≡◌, ℕ, ◌+◌, ◌-◌, ◌<◌, [], Some, IfOk, OnOk, OnErr};
 ghost use Rattle.ifmap_ident.specs.declared.identifiers.Identifier.{Identifier};
 ghost use Rattle.ifmap_ident.specs.Canon.{IsIdentifier};
 ghost use Rattle.ifmap_ident.specs.Identifiers.{identifier_order};
-ghost use Rattle.ifmap_pool.specs.Holdings.{holds_at, key_at, once};
+ghost use Rattle.ifmap_pool.specs.Holdings.{key_at, once};
 ghost use Rattle.ifmap_store.specs.Back.{KeepsBacks};
 ghost use Rattle.ifmap_store.specs.Held.{IsOwn};
-ghost use Rattle.ifmap_store.specs.Seen.{AwaitsMore, IsStill};
+ghost use Rattle.ifmap_store.specs.Seen.{AwaitsMore, HasFewOwn, IsStill};
 ghost use Rattle.ifmap_store.specs.Turning.{sides_at};
 
+use crate::bringing::MOST_ITEMS;
 use crate::graph::Graph;
 use crate::placing::lengthen;
 use ifmap_elem::Copied;
@@ -20,7 +21,7 @@ impl Graph {
     /// The number of an identifier, held once more. Where memory runs out, all is as before but for room.
     pub fn hold(&mut self, alloc: Global, id: &Identifier) -> Result<u64, NoMemory>
         requires canon { IsIdentifier id.now }
-        requires few { (v : ℕ) → holds_at self.old.names v < 2 ^ 64 - 2 }
+        requires few { HasFewOwn self.old }
         ensures named { IfOk result (λ v. key_at self.new.names v ≡ Some id.now) }
         ensures kept { (v : ℕ) (a : Identifier) → key_at self.old.names v ≡ Some a
             → key_at self.new.names v ≡ Some a }
@@ -35,6 +36,9 @@ impl Graph {
         ensures err { OnErr result (self.new.names.live ≡ self.old.names.live) }
     {
         bytes_tell_identifiers_apart();
+        if self.shelves.places.len() >= MOST_ITEMS {
+            return Err(NoMemory);
+        }
         let key = id.copy(alloc)?;
         self.names.reserve(1)?;
         lengthen(&mut self.links, alloc, self.names.limit())?;
