@@ -14,13 +14,15 @@ use Rattle.ifmap_ident.specs.Items.{item_order, items_tie, same_item}
 use Rattle.ifmap_store.specs.declared.shelves.Shelf.{Shelf}
 use Rattle.ifmap_store.specs.declared.shelves.Shelves.{Shelves}
 use Rattle.ifmap_store.specs.Bringing.{BringsShelves, IsOther, named_of}
-use Rattle.ifmap_store.specs.Drafted.{ends_at}
+use Rattle.ifmap_store.specs.Drafted.{AreBare, NoDraft, ends_at}
 use Rattle.ifmap_store.specs.Named.{named_by, named_in}
 use Rattle.ifmap_store.specs.Shelved.{AreShelved, place_of}
 use Rattle.ifmap_store.specs.Waits.{waits_of, waits_on, waits_there}
+use Rattle.ifmap_store.proofs.Finding.{all_inserted}
 use Rattle.ifmap_store.proofs.Following.{lookup_tied}
 use Rattle.ifmap_store.proofs.Leaving.{comes, goes}
 use Rattle.ifmap_store.proofs.Ordered.{equal_is, items_total}
+use Rattle.ifmap_store.proofs.Shelving.{Entries, slots_stay}
 use Rattle.ifmap_store.proofs.Staying.{ends_of}
 use Rattle.ifmap_store.proofs.Writes.{slot_live}
 
@@ -42,7 +44,7 @@ other_there s (x ∷ xs) y a e = (
   other_there s xs y a.1 e,
 )
 
-other_absent : (s : Shelves) (xs : List Item) (y : Item) → AllByRecursion (λ x. place_of s x ≡ None) xs → IsSome (place_of s y) → IsOther xs y
+pub other_absent : (s : Shelves) (xs : List Item) (y : Item) → AllByRecursion (λ x. place_of s x ≡ None) xs → IsSome (place_of s y) → IsOther xs y
 other_absent s [] y a e = tt
 other_absent s (x ∷ xs) y a e = (
   elim (cases_Bool (is_at (item_order x) y)) [
@@ -68,7 +70,7 @@ named_joined : (xs ys : List Item) (a : Identifier) → named_of (xs ++ ys) a �
 named_joined [] ys a = omega arith
 named_joined (x ∷ xs) ys a = omega (arith, named_joined xs ys a)
 
-some_place : (o : Option ℕ) (at : ℕ) → o ≡ Some at → IsSome o
+pub some_place : (o : Option ℕ) (at : ℕ) → o ≡ Some at → IsSome o
 some_place o at e = subst (λ (o : Option ℕ). IsSome o) (sym e) refl
 
 -- nothing came
@@ -221,3 +223,17 @@ there_still items s t p x h = subst (λ (o : Option ℕ). IsSome o) (sym (p.plac
 -- who has no shelf is not waited for
 pub never_waited : (s : Shelves) (x : Item) → place_of s x ≡ None → waits_on s x ≡ 0
 never_waited s x e = ap (waits_there (get s.slots)) e
+
+-- a shelf that comes has no draft
+pub bare_comes : (s t : Shelves) (item : Item) (at : ℕ) (shelf : Shelf) → AreShelved s → AreBare s → place_of s item ≡ None
+    → t.places.entries ≡ insert_entry item_order s.places.entries item at → get s.slots at ≡ None → get t.slots at ≡ Some shelf → shelf.stored.draft ≡ None
+    → ((o : ℕ) → (o ≡ at → ⊥) → get t.slots o ≡ get s.slots o) → AreBare t
+bare_comes s t item at shelf is bare none inserts vacant has empty others =
+    subst (λ es. AllByRecursion (λ e. NoDraft (get t.slots e.1)) es) (sym inserts)
+    (all_inserted (λ e. NoDraft (get t.slots e.1)) s.places.entries item at none
+    (still s.places.entries (slots_stay (get s.slots) (get t.slots) at vacant others s.places.entries is.live) bare) (subst NoDraft (sym has) empty))
+  where
+    still : (es : Entries) → AllByRecursion (λ e. get t.slots e.1 ≡ get s.slots e.1) es → AllByRecursion (λ e. NoDraft (get s.slots e.1)) es
+        → AllByRecursion (λ e. NoDraft (get t.slots e.1)) es
+    still [] a b = tt
+    still (e ∷ es) a b = (subst NoDraft (sym a.0) b.0, still es a.1 b.1)

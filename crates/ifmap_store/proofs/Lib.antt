@@ -49,3 +49,4 @@ pub mod Brought
 pub mod Marks
 pub mod Grown
 pub mod Waits
+pub mod Made

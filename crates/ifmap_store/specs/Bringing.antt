@@ -10,7 +10,7 @@ use Rattle.ifmap_ident.specs.Items.{item_order}
 use Rattle.ifmap_pool.specs.Holdings.{Holdings, IsHeld, Names}
 use Rattle.ifmap_view.specs.declared.views.LinkSeen.{LinkSeen}
 use Rattle.ifmap_store.specs.declared.shelves.Shelves.{Shelves}
-use Rattle.ifmap_store.specs.Drafted.{ends_at}
+use Rattle.ifmap_store.specs.Drafted.{AreBare, ends_at}
 use Rattle.ifmap_store.specs.Held.{IsInside}
 use Rattle.ifmap_store.specs.Named.{named_by, named_in}
 use Rattle.ifmap_store.specs.Shelved.{place_of, rows_of}
@@ -67,6 +67,7 @@ pub record AreGrown (old new : Parts) : Type 0 where
   pub inside : AreInside new
   pub now : rows_of now new.shelves ≡ rows_of now old.shelves
   pub next : rows_of next new.shelves ≡ rows_of next old.shelves
+  pub bare : AreBare old.shelves → AreBare new.shelves
   pub links : (v : ℕ) → sides_at new.links v ≡ sides_at old.links v
   pub longer : length old.links ≤ length new.links
   pub kept : (v : ℕ) (a : Identifier) → Names identifier_order old.names v a → Names identifier_order new.names v a

@@ -12,6 +12,7 @@ pub mod Held
 pub mod Bringing
 pub mod Touched
 pub mod Out
+pub mod Making
 pub mod Seen
 pub mod Stays
 pub mod Releasing

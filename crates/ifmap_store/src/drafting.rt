@@ -1,5 +1,5 @@
 //! The drafts of a change: what is to be stored on each of its items.
-ghost use Rattle.std.specs.Prelude.{◌≡◌, ◌⊎◌, ℕ, true, None, IsSome, OnOk, if◌then◌else◌};
+ghost use Rattle.std.specs.Prelude.{◌≡◌, ◌⊎◌, ◌++◌, ℕ, true, List, None, IsSome, OnErr, OnOk, if◌then◌else◌};
 ghost use Rattle.std.specs.BTreeMap.{is_at};
 ghost use Rattle.std.specs.List.{AllByRecursion};
 ghost use Rattle.std.specs.List.Sorted.{IsStrictlySortedBy};
@@ -19,12 +19,13 @@ ghost use Rattle.ifmap_store.specs.Shelved.{AreShelved, HasDraft, place_of, rows
 ghost use Rattle.ifmap_store.specs.Sides.{next, now};
 ghost use Rattle.ifmap_store.specs.Touched.{AreReady, KeepsLinks};
 ghost use Rattle.ifmap_store.specs.Turning.{sides_at};
-ghost use Rattle.ifmap_store.specs.Waits.{waits_on};
+ghost use Rattle.ifmap_store.specs.Waits.{AreWaited, waits_on};
 
 use crate::linking::{drop_drafts, flipped_slots, touch_slots};
 use crate::shelves::Shelves;
 use crate::sided::Sided;
 use crate::turning::discard_changes;
+use crate::waiting::{can_wait, wait_for};
 use crate::ways::Way;
 use ifmap_plans::{ItemChange, next_list};
 use ifmap_view::LinkSeen;
@@ -124,6 +125,46 @@ pub(crate) fn draft_plan(
     draft_changes(shelves, alloc, changes)?;
     let touched = flipped_slots(alloc, shelves, changes)?;
     touch_slots(links, &shelves.slots, alloc, &touched, ways)
+}
+
+/// The same, and the items are waited for once more. Where memory runs out, some drafts stand.
+pub(crate) fn draft_and_wait(
+    shelves: &mut Shelves,
+    links: &mut Vec<Sided<LinkSeen>>,
+    alloc: Global,
+    changes: &[ItemChange],
+    ways: &mut Vec<Way<LinkSeen>>,
+) -> Result<(), NoMemory>
+    requires inside { (names : Holdings Identifier) × IsInside names (get shelves.old.slots)
+        shelves.old.places.entries links.old.items }
+    requires bare { AreBare shelves.old }
+    requires none { (v : ℕ) → (sides_at links.old.items v).draft ≡ None }
+    requires ready { AreReady ways.old.items links.old.items }
+    requires there { AllByRecursion (λ x. IsSome (place_of shelves.old x)) (items_of changes.now) }
+    requires fits { Fits (rows_of now shelves.old) changes.now }
+    ensures shelved { AreShelved shelves.new }
+    ensures inside { OnOk result ((names : Holdings Identifier)
+        → IsInside names (get shelves.old.slots) shelves.old.places.entries links.old.items
+        → IsInside names (get shelves.new.slots) shelves.new.places.entries links.new.items) }
+    ensures now { rows_of now shelves.new ≡ rows_of now shelves.old }
+    ensures next { OnOk result
+        (IsAfter changes.now (rows_of now shelves.old) (rows_of next shelves.new)) }
+    ensures within { DraftsWithin (items_of changes.now) shelves.new }
+    ensures out { OnOk result (AreOut (items_of changes.now) shelves.new) }
+    ensures waited { OnOk result ((rest : List Item) → AreWaited rest (waits_on shelves.old)
+        → AreWaited (items_of changes.now ++ rest) (waits_on shelves.new)) }
+    ensures waits { OnErr result ((x : Item) → waits_on shelves.new x ≡ waits_on shelves.old x) }
+    ensures links { KeepsLinks links.old.items links.new.items }
+    ensures ready { AreReady ways.new.items links.new.items }
+    ensures ends { (at : ℕ) → ends_at shelves.new at ≡ ends_at shelves.old at }
+    ensures places { shelves.new.places ≡ shelves.old.places }
+{
+    draft_plan(shelves, links, alloc, changes, ways)?;
+    if !can_wait(shelves, changes) {
+        return Err(NoMemory);
+    }
+    wait_for(shelves, changes);
+    Ok(())
 }
 
 /// Nothing has a draft any more. It takes no memory.

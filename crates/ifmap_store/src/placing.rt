@@ -9,6 +9,7 @@ ghost use Rattle.ifmap_ident.specs.Items.{IsCanonItem, item_order};
 ghost use Rattle.ifmap_pool.specs.Holdings.{IsHeld, Names, holds_at};
 ghost use Rattle.ifmap_view.specs.declared.views.LinkSeen.{LinkSeen};
 ghost use Rattle.ifmap_store.specs.Bringing.{BringsShelves};
+ghost use Rattle.ifmap_store.specs.Drafted.{AreBare};
 ghost use Rattle.ifmap_store.specs.Held.{IsInside};
 ghost use Rattle.ifmap_store.specs.Named.{named_by, named_in};
 ghost use Rattle.ifmap_store.specs.Shelved.{IsBare, Side, place_of, rows_of};
@@ -69,6 +70,7 @@ pub(crate) fn place_shelf(
         → IsHeld identifier_order names.new a (named_in shelves.new.places.entries a + own) }
     ensures kept { (v : ℕ) (a : Identifier) → Names identifier_order names.old v a
         → Names identifier_order names.new v a }
+    ensures bare { AreBare shelves.old → AreBare shelves.new }
     ensures brought { OnOk result (BringsShelves (item ∷ []) shelves.old shelves.new) }
     ensures none { OnErr result (BringsShelves [] shelves.old shelves.new) }
     ensures err { OnErr result (names.new ≡ names.old) }

@@ -49,6 +49,7 @@ returns-clause-grown c =
       inside = c.place_shelf.ensures.inside c.make_room.new.links.items c.in_ok-make_room.ensures.limit room;
       now = c.place_shelf.ensures.rows now refl;
       next = c.place_shelf.ensures.rows next refl;
+      bare = c.place_shelf.ensures.bare;
       links = c.make_room.ensures.same;
       longer = c.make_room.ensures.longer;
       kept = λ v a n. c.place_shelf.ensures.kept v a (names_alike c.args.names.now c.make_room.new.names c.make_room.ensures.live v a n);

@@ -9,12 +9,13 @@ use Rattle.ifmap_ident.specs.Items.{identifiers_of, item_order}
 use Rattle.ifmap_pool.specs.Holdings.{IsHeld}
 use Rattle.ifmap_store.specs.declared.shelves.Shelf.{Shelf}
 use Rattle.ifmap_store.specs.declared.shelves.Shelves.{Shelves}
+use Rattle.ifmap_store.specs.Drafted.{AreBare}
 use Rattle.ifmap_store.specs.Held.{IsInside}
 use Rattle.ifmap_store.specs.Named.{named_by, named_in}
 use Rattle.ifmap_store.specs.Shelved.{IsPlaced, list_at, rows_by}
 use Rattle.ifmap_store.specs.Waits.{waits_at}
 use Rattle.ifmap_store.proofs.Arriving.{numbered_comes}
-use Rattle.ifmap_store.proofs.Brought.{brings_both, brings_none, brings_one}
+use Rattle.ifmap_store.proofs.Brought.{bare_comes, brings_both, brings_none, brings_one}
 use Rattle.ifmap_store.proofs.Changed.{inside_comes}
 use Rattle.ifmap_store.proofs.Joining.{any_err}
 use Rattle.ifmap_store.proofs.Leaving.{comes}
@@ -116,3 +117,19 @@ returns-clause-brought c =
     (brings_one mid new c.args.item c.vacant_key-at.result _ is c.requires.absent c.in_ok-insert.ensures.updates.0 c.in_ok-insert.ensures.entries
     c.vacant_key-at.ensures.vacant (ap (get c.insert_reserved.new.self) (sym here) ∙ c.insert_reserved.ensures.updates.changed) refl
     (λ o n. c.insert_reserved.ensures.updates.others o (λ q. n (q ∙ here))))
+
+pub returns-in_err-reserve-clause-bare : goal.returns-in_err-reserve-clause-bare
+returns-in_err-reserve-clause-bare c = λ b. rw c.in_err-reserve.ensures.rest_kept b
+
+pub returns-in_err-insert-clause-bare : goal.returns-in_err-insert-clause-bare
+returns-in_err-insert-clause-bare c = λ b. rw (c.in_err-insert.ensures.err, c.in_ok-reserve.ensures.rest_kept) b
+
+pub returns-clause-bare : goal.returns-clause-bare
+returns-clause-bare c = λ b.
+    let here : c.insert_reserved.result ≡ c.vacant_key-at.result = c.insert_reserved.ensures.key ∙ sym c.vacant_key-at.ensures.value
+    in let is : IsPlaced (get c.reserve.new.self) c.args.shelves.now.places.entries = rw c.in_ok-reserve.ensures.rest_kept c.requires.inside.1.placed
+    in let mid : Shelves = record { places = c.args.shelves.now.places; slots = c.reserve.new.self }
+    in let bare : AreBare mid = rw c.in_ok-reserve.ensures.rest_kept b
+    in bare_comes mid (record { places = c.insert.new.self; slots = c.insert_reserved.new.self }) c.args.item c.vacant_key-at.result _ is bare c.requires.absent
+    c.in_ok-insert.ensures.entries c.vacant_key-at.ensures.vacant (ap (get c.insert_reserved.new.self) (sym here) ∙ c.insert_reserved.ensures.updates.changed)
+    (ap (λ s. s.draft) c.new.ensures) (λ o n. c.insert_reserved.ensures.updates.others o (λ q. n (q ∙ here)))
