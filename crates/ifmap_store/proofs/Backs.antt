@@ -1,5 +1,5 @@
 -- Ways back stay where what is stored and the links do, and each shelf that a way back needs.
-use Rattle.std.proofs.Common.{◌≡◌, ◌≢◌, ◌⊎◌, ℕ, zero, suc, ◌+◌, ◌<◌, ◌≤◌, Bool, true, false, cond, Option, Some, List, [], ◌∷◌, ◌++◌, length, refl, ap, ◌∙◌, sym, subst, inl, inr, arith}
+use Rattle.std.proofs.Common.{◌≡◌, ◌≢◌, ℕ, zero, suc, ◌+◌, ◌≤◌, List, [], ◌∷◌, length, refl, ap, ◌∙◌, sym, subst, inl, inr, arith}
 use Rattle.std.proofs.lemmas.Bool.{cases_Bool}
 use Rattle.std.specs.BTreeMap.{is_at}
 use Rattle.ifmap_ident.specs.declared.items.Item.{Item}
@@ -10,18 +10,16 @@ use Rattle.ifmap_view.specs.declared.views.LinkSeen.{LinkSeen}
 use Rattle.ifmap_view.specs.Rows.{stored_on}
 use Rattle.ifmap_store.specs.declared.changes.Undo.{Undo}
 use Rattle.ifmap_store.specs.Back.{AreLinks, AreTwo, IsWayBack, KeepsBacks, KeepsOtherBacks, stand_each}
-use Rattle.ifmap_store.specs.Held.{Held, links_at}
+use Rattle.ifmap_store.specs.Held.{Held}
 use Rattle.ifmap_store.specs.Out.{items_of}
-use Rattle.ifmap_store.specs.Seen.{Awaits, AwaitsLess, AwaitsMore, links_now, rows_now, waits_in}
-use Rattle.ifmap_store.specs.Sides.{Sides, now}
-use Rattle.ifmap_store.specs.Stays.{IsThere, StayPlaced, ends_in, place_in}
-use Rattle.ifmap_store.specs.Turning.{AreWithin, restore_each, sides_at}
+use Rattle.ifmap_store.specs.Seen.{Awaits, AwaitsLess, AwaitsMore, links_now, rows_now}
+use Rattle.ifmap_store.specs.Stays.{IsThere, StayPlaced}
 use Rattle.ifmap_store.specs.Waits.{times_in}
 use Rattle.ifmap_store.proofs.Turns.{restored_alike, still_within}
-use Rattle.ifmap_store.proofs.Waited.{times_append}
 
 -- an item that is none of these has what it had
-stands_else : (items : List Item) (lists : List (List Stored)) (x : Item) (before : List Stored) → times_in items x ≡ 0 → stand_each items lists x before ≡ before
+stands_else : (items : List Item) (lists : List (List Stored)) (x : Item) (before : List Stored) → times_in items x ≡ 0
+    → stand_each items lists x before ≡ before
 stands_else [] lists x before e = refl
 stands_else (i ∷ is) [] x before e = refl
 stands_else (i ∷ is) (list ∷ lists) x before e = elim (cases_Bool (is_at (item_order i) x)) [
@@ -30,7 +28,8 @@ stands_else (i ∷ is) (list ∷ lists) x before e = elim (cases_Bool (is_at (it
 ]
 
 -- links stay where the shelves of all that has something stay
-pub links_stay : (rows : List Attachment) (links : ℕ → List LinkSeen) (old new : Held) → ((x : Item) → stored_on x rows ≢ [] → IsThere old new x)
+pub links_stay : (rows : List Attachment) (links : ℕ → List LinkSeen) (old new : Held)
+    → ((x : Item) → stored_on x rows ≢ [] → IsThere old new x)
     → AreLinks rows links old → AreLinks rows links new
 links_stay rows links old new f is = record {
   only = λ v seen c.
@@ -76,5 +75,7 @@ module _ (old new : Held) (rows : rows_now new ≡ rows_now old) (links : (v : �
   keeps_other_backs items less u before seen waits b = back_stays u before seen (less (items_of u.plan.changes) waits) b
 
 -- one after the other: where a change comes to be out, and is given up again
-pub keeps_both : (items : List Item) (old mid new : Held) → AwaitsMore items old mid → KeepsBacks old mid → KeepsOtherBacks items mid new → KeepsBacks old new
-keeps_both items old mid new more one other u rows links b = other u rows links (more (items_of u.plan.changes) b.waits) (one u rows links b)
+pub keeps_both : (items : List Item) (old mid new : Held) → AwaitsMore items old mid → KeepsBacks old mid → KeepsOtherBacks items mid new
+    → KeepsBacks old new
+keeps_both items old mid new more one other u rows links b = other u rows links (more (items_of u.plan.changes) b.waits)
+    (one u rows links b)

@@ -9,13 +9,14 @@ use Rattle.ifmap_ident.specs.declared.items.Item.{Item}
 use Rattle.ifmap_ident.specs.Items.{item_order}
 use Rattle.ifmap_meta.specs.declared.stored.Stored.{Stored}
 use Rattle.ifmap_meta.specs.Keys.{same_key}
+use Rattle.ifmap_plans.specs.Lists.{IsList}
 use Rattle.ifmap_view.specs.declared.views.LinkSeen.{LinkSeen}
 use Rattle.ifmap_view.specs.Attachments.{stored_order}
 use Rattle.ifmap_store.specs.declared.shelves.Shelf.{Shelf}
 use Rattle.ifmap_store.specs.Held.{IsSide}
 use Rattle.ifmap_store.specs.Joined.{is_full, joined}
 use Rattle.ifmap_store.specs.Linked.{AreListed, Ends, ats}
-use Rattle.ifmap_store.specs.Shelved.{IsList, Side, list_at}
+use Rattle.ifmap_store.specs.Shelved.{Side, list_at}
 use Rattle.ifmap_store.proofs.Finding.{all_inserted, all_left}
 
 no_rows_rise : IsStrictlySortedBy stored_order []

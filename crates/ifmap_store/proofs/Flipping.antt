@@ -21,6 +21,7 @@ use Rattle.ifmap_plans.specs.declared.plans.ItemChange.{ItemChange}
 use Rattle.ifmap_plans.specs.Lists as plans
 use Rattle.ifmap_plans.specs.Plans.{Fits, FitsItem, IsAfter, after_on}
 use Rattle.ifmap_pool.specs.Holdings.{Holdings, Names, entry_at}
+use Rattle.ifmap_plans.specs.Lists.{IsList}
 use Rattle.ifmap_view.specs.declared.attachments.Attachment.{Attachment}
 use Rattle.ifmap_view.specs.declared.views.LinkSeen.{LinkSeen}
 use Rattle.ifmap_view.specs.Attachments.{stored_order}
@@ -35,7 +36,7 @@ use Rattle.ifmap_store.specs.Joined.{is_full, joined, two_of}
 use Rattle.ifmap_store.specs.Linked.{AreListed, changed}
 use Rattle.ifmap_store.specs.Named.{AreEnds, AreNumbered, HasEnds}
 use Rattle.ifmap_store.specs.Out.{items_of}
-use Rattle.ifmap_store.specs.Shelved.{AreShelved, HasDraft, IsList, IsPlaced, Side, list_at, place_of, rows_of}
+use Rattle.ifmap_store.specs.Shelved.{AreShelved, HasDraft, IsPlaced, Side, list_at, place_of, rows_of}
 use Rattle.ifmap_store.specs.Sides.{Sides, next, now}
 use Rattle.ifmap_store.specs.Touched.{ArePairs, KeepsLinks, differ, draft_of, flip_in, flip_of, full_next, full_now}
 use Rattle.ifmap_store.specs.Turning.{sides_at}

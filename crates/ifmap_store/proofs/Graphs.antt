@@ -11,9 +11,10 @@ use Rattle.ifmap_ident.specs.declared.items.Item.{Item}
 use Rattle.ifmap_ident.specs.Items.{IsCanonItem, item_order, items_tie, same_item}
 use Rattle.ifmap_meta.specs.declared.stored.Stored.{Stored}
 use Rattle.ifmap_meta.specs.Keys.{same_key}
+use Rattle.ifmap_plans.specs.Lists.{IsList}
 use Rattle.ifmap_view.specs.declared.attachments.Attachment.{Attachment}
 use Rattle.ifmap_view.specs.Attachments.{IsGraph, attachment_order, of_one_key, stored_order}
-use Rattle.ifmap_store.specs.Shelved.{IsList, Rises, row_on, rows_by}
+use Rattle.ifmap_store.specs.Shelved.{Rises, row_on, rows_by}
 use Rattle.ifmap_store.proofs.Ordered.{items_total}
 use Rattle.ifmap_store.proofs.Finding.{first_rises}
 

@@ -42,6 +42,8 @@ pub mod Seeing
 pub mod Kept
 pub mod Taking
 pub mod Returning
+pub mod Restoring
+pub mod Undone
 pub mod Written
 pub mod Brought
 pub mod Marks

@@ -1,26 +1,24 @@
 -- What is stored on each item of a graph rises with its keys apart; and graphs with the same on each item are one.
-use Rattle.std.proofs.Common.{◌≡◌, ◌⊎◌, ◌&&◌, Bool, true, false, List, [], ◌∷◌, map, refl, ap, ◌∙◌, sym, subst, inl, inr}
+use Rattle.std.proofs.Common.{◌≡◌, ◌&&◌, true, false, List, [], ◌∷◌, refl, ap, ◌∙◌, sym, subst, inl, inr}
 use Rattle.std.proofs.lemmas.Bool.{cases_Bool}
 use Rattle.std.proofs.lemmas.Cmp.{tied_itself}
-use Rattle.std.specs.BTreeMap.{is_at}
 use Rattle.std.specs.Cmp.{IsTotalOrder}
 use Rattle.std.specs.List.{AllByRecursion, IsDistinct, filter}
 use Rattle.std.specs.List.Sorted.{IsStrictlySortedBy}
-use Rattle.std.specs.Ordering.{is_eq, ordering_reverse, ordering_then}
+use Rattle.std.specs.Ordering.{is_eq, ordering_then}
 use Rattle.std.specs.declared.cmp.Ordering.{Ordering}
-use Rattle.std.specs.declared.cmp.Ordering.TheVariants.{Less, Equal, Greater}
+use Rattle.std.specs.declared.cmp.Ordering.TheVariants.{Less, Equal}
 use Rattle.ifmap_lemmas.specs.Having.{Has, filter_has, has_filter, has_map, map_has}
-use Rattle.ifmap_ident.specs.declared.identifiers.Identifier.{Identifier}
 use Rattle.ifmap_ident.specs.declared.items.Item.{Item}
 use Rattle.ifmap_ident.specs.declared.items.Item.TheVariants.{One, Pair}
 use Rattle.ifmap_ident.specs.Items.{IsCanonItem, item_order, same_item}
 use Rattle.ifmap_meta.specs.declared.stored.Stored.{Stored}
 use Rattle.ifmap_meta.specs.Keys.{same_key}
 use Rattle.ifmap_plans.specs.laws.KeyLaws.{attachments_total}
+use Rattle.ifmap_plans.specs.Lists.{IsList}
 use Rattle.ifmap_view.specs.declared.attachments.Attachment.{Attachment}
 use Rattle.ifmap_view.specs.Attachments.{IsGraph, attachment_order, of_one_key, stored_order}
 use Rattle.ifmap_view.specs.Rows.{stored_on}
-use Rattle.ifmap_store.specs.Shelved.{IsList}
 use Rattle.ifmap_store.proofs.Alike.{Tells, one_tied, pair_tied}
 use Rattle.ifmap_store.proofs.Ordered.{equal_is, items_total, ties}
 use Rattle.ifmap_store.proofs.Viewed.{all_has}
@@ -89,7 +87,8 @@ module _ {X : Type 0} (R : X → X → Ordering) (total : IsTotalOrder R) where
   not_both : (x y : X) → R x y ≡ Less → R y x ≡ Less → ⊥
   not_both x y e f = not_below x (total.trans x y x e f)
 
-  rest_has : (x : X) (xs ys : List X) → AllByRecursion (λ y. R x y ≡ Less) xs → ((z : X) → Has (x ∷ xs) z → Has (x ∷ ys) z) → (z : X) → Has xs z → Has ys z
+  rest_has : (x : X) (xs ys : List X) → AllByRecursion (λ y. R x y ≡ Less) xs → ((z : X) → Has (x ∷ xs) z → Has (x ∷ ys) z) → (z : X)
+      → Has xs z → Has ys z
   rest_has x xs ys a f z h = elim (f z (inr h)) [
     | inl e ↦ absurd (not_below x (subst (λ k. R x k ≡ Less) (sym e) (all_has (λ k. R x k ≡ Less) xs a z h)))
     | inr k ↦ k
@@ -133,17 +132,21 @@ has_on r rows h =
     in has_map (λ (a : Attachment). a.stored) (filter (λ (a : Attachment). same_item a.item r.item) rows) r
     (has_filter (λ (a : Attachment). same_item a.item r.item) rows r h t)
 
-on_has : Tells → (r : Attachment) (rows : List Attachment) → IsCanonItem r.item → IsGraph rows → Has (stored_on r.item rows) r.stored → Has rows r
+on_has : Tells → (r : Attachment) (rows : List Attachment) → IsCanonItem r.item → IsGraph rows → Has (stored_on r.item rows) r.stored
+    → Has rows r
 on_has tells r rows canon g h =
     let m = map_has (λ (a : Attachment). a.stored) (filter (λ (a : Attachment). same_item a.item r.item) rows) r.stored h
     in let k = filter_has (λ (a : Attachment). same_item a.item r.item) rows m.0 m.1
     in let e : m.0.item ≡ r.item
-    = canon_tied tells r.item m.0.item canon (all_has (λ (a : Attachment). IsCanonItem a.item) rows g.items m.0 k.0) (tied_with r.item m.0.item k.1)
+    = canon_tied tells r.item m.0.item canon (all_has (λ (a : Attachment). IsCanonItem a.item) rows g.items m.0 k.0)
+    (tied_with r.item m.0.item k.1)
     in let same : m.0 ≡ r = ap (λ i. record { item = i; stored = m.0.stored }) e ∙ ap (λ s. record { item = r.item; stored = s }) m.2
     in subst (Has rows) same k.0
 
 pub rows_same : Tells → (a b : List Attachment) → IsGraph a → IsGraph b → ((x : Item) → stored_on x a ≡ stored_on x b) → a ≡ b
 rows_same tells a b p q f =
     sorted_same attachment_order attachments_total a b p.rising q.rising
-    (λ r h. on_has tells r b (all_has (λ (k : Attachment). IsCanonItem k.item) a p.items r h) q (subst (λ l. Has l r.stored) (f r.item) (has_on r a h)))
-    (λ r h. on_has tells r a (all_has (λ (k : Attachment). IsCanonItem k.item) b q.items r h) p (subst (λ l. Has l r.stored) (sym (f r.item)) (has_on r b h)))
+    (λ r h. on_has tells r b (all_has (λ (k : Attachment). IsCanonItem k.item) a p.items r h) q
+    (subst (λ l. Has l r.stored) (f r.item) (has_on r a h)))
+    (λ r h. on_has tells r a (all_has (λ (k : Attachment). IsCanonItem k.item) b q.items r h) p
+    (subst (λ l. Has l r.stored) (sym (f r.item)) (has_on r b h)))

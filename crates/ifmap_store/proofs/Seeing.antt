@@ -1,32 +1,26 @@
--- What contracts see of a graph's parts, as the parts have it: waits, numbers of shelves, and the links of those that are not empty.
-use Rattle.std.proofs.Common.{◌≡◌, ◌≢◌, ◌⊎◌, ℕ, Bool, true, Option, Some, None, IsSome, List, [], ◌∷◌, nat_eq, option_map, refl, ap, ◌∙◌, sym, subst, inl, inr}
+-- What contracts see of a graph's parts, as the parts have it: the numbers of shelves, and the links of those that are not empty.
+use Rattle.std.proofs.Common.{◌≡◌, ◌≢◌, ◌⊎◌, ℕ, true, Option, Some, None, IsSome, List, [], ◌∷◌, nat_eq, option_map, refl, ap, ◌∙◌, sym, subst, inl, inr}
 use Rattle.std.proofs.lemmas.Option.{none-some}
 use Rattle.std.specs.BTreeMap.{is_at}
 use Rattle.std.specs.List.{IsDistinct}
 use Rattle.std.specs.Map.{lookup}
-use Rattle.slab.specs.Slab.{get}
 use Rattle.ifmap_lemmas.specs.Having.{Has}
 use Rattle.ifmap_ident.specs.declared.identifiers.Identifier.{Identifier}
 use Rattle.ifmap_ident.specs.declared.items.Item.{Item}
 use Rattle.ifmap_ident.specs.Items.{item_order}
-use Rattle.ifmap_meta.specs.declared.stored.Stored.{Stored}
 use Rattle.ifmap_pool.specs.Holdings.{Holdings}
 use Rattle.ifmap_view.specs.declared.attachments.Attachment.{Attachment}
 use Rattle.ifmap_view.specs.declared.views.LinkSeen.{LinkSeen}
 use Rattle.ifmap_view.specs.Rows.{stored_on}
 use Rattle.ifmap_store.specs.declared.shelves.Shelf.{Shelf}
-use Rattle.ifmap_store.specs.declared.shelves.Shelves.{Shelves}
 use Rattle.ifmap_store.specs.Back.{AreLinks, AreTwo}
-use Rattle.ifmap_store.specs.Drafted.{ends_at}
-use Rattle.ifmap_store.specs.Held.{Held, IsSide, shown}
+use Rattle.ifmap_store.specs.Held.{Held, shown}
 use Rattle.ifmap_store.specs.Joined.{is_full, joined}
 use Rattle.ifmap_store.specs.Linked.{AreListed, ats}
-use Rattle.ifmap_store.specs.Seen.{waits_in, waits_there_in}
 use Rattle.ifmap_store.specs.Shelved.{IsPlaced, list_at, rows_by}
 use Rattle.ifmap_store.specs.Sides.{Sides, now}
 use Rattle.ifmap_store.specs.Stays.{IsThere, ends_in, ends_there_in}
-use Rattle.ifmap_store.specs.Waits.{waits_at, waits_on, waits_there}
-use Rattle.ifmap_store.proofs.Finding.{absent, found}
+use Rattle.ifmap_store.proofs.Finding.{found}
 use Rattle.ifmap_store.proofs.Following.{entry_hits}
 use Rattle.ifmap_store.proofs.Insides.{live_by, lookup_shown}
 use Rattle.ifmap_store.proofs.Shelving.{Entries}
@@ -36,15 +30,9 @@ use Rattle.ifmap_store.proofs.Staying.{ends_of}
 abbrev pub seen_of : (ℕ → Option Shelf) → Entries → Holdings Identifier → List (Sides LinkSeen) → Held
 seen_of look es names links = record { shelves = shown look es; names = names; links = links; places = es }
 
-waits_by : (look : ℕ → Option Shelf) (o : Option ℕ) → waits_there_in (option_map look o) ≡ waits_there look o
-waits_by look None = refl
-waits_by look (Some at) = refl
-
 module _ (look : ℕ → Option Shelf) (es : Entries) (names : Holdings Identifier) (links : List (Sides LinkSeen)) where
-  pub seen_waits : (x : Item) → waits_in (seen_of look es names links) x ≡ waits_at look es x
-  seen_waits x = ap waits_there_in (lookup_shown look (is_at (item_order x)) es) ∙ waits_by look (lookup (is_at (item_order x)) es)
-
-  pub seen_ends : (x : Item) (at : ℕ) → lookup (is_at (item_order x)) es ≡ Some at → ends_in (seen_of look es names links) x ≡ ends_of (look at)
+  pub seen_ends : (x : Item) (at : ℕ) → lookup (is_at (item_order x)) es ≡ Some at
+      → ends_in (seen_of look es names links) x ≡ ends_of (look at)
   seen_ends x at e = ap ends_there_in (lookup_shown look (is_at (item_order x)) es ∙ ap (option_map look) e)
 
   pub seen_none : (x : Item) → lookup (is_at (item_order x)) es ≡ None → ends_in (seen_of look es names links) x ≡ None
@@ -52,7 +40,8 @@ module _ (look : ℕ → Option Shelf) (es : Entries) (names : Holdings Identifi
 
 -- shelves that are written stay where they are
 pub stays_there : (look later : ℕ → Option Shelf) (es : Entries) (names others : Holdings Identifier) (links moved : List (Sides LinkSeen))
-    → ((at : ℕ) → ends_of (later at) ≡ ends_of (look at)) → (x : Item) → IsThere (seen_of look es names links) (seen_of later es others moved) x
+    → ((at : ℕ) → ends_of (later at) ≡ ends_of (look at)) → (x : Item)
+    → IsThere (seen_of look es names links) (seen_of later es others moved) x
 stays_there look later es names others links moved f x = by (lookup (is_at (item_order x)) es) refl
   where
     by : (o : Option ℕ) → lookup (is_at (item_order x)) es ≡ o → IsThere (seen_of look es names links) (seen_of later es others moved) x
@@ -102,7 +91,8 @@ module _ (look : ℕ → Option Shelf) (es : Entries) (names : Holdings Identifi
     once = once;
   }
 
-  pub links_by_slots : AreLinks rows links (seen_of look es names sides) → AreListed (λ at. joined (look at)) (λ at. is_full (list_at now (look at))) links
+  pub links_by_slots : AreLinks rows links (seen_of look es names sides)
+      → AreListed (λ at. joined (look at)) (λ at. is_full (list_at now (look at))) links
   links_by_slots is = record {
     only = λ v seen c.
         let p = is.only v seen c

@@ -16,12 +16,13 @@ use Rattle.ifmap_view.specs.Rows.{stored_on}
 use Rattle.ifmap_store.specs.declared.ends.Ends.{Ends}
 use Rattle.ifmap_store.specs.declared.shelves.Shelf.{Shelf}
 use Rattle.ifmap_store.specs.declared.shelves.Shelves.{Shelves}
+use Rattle.ifmap_store.specs.Bringing.{HaveFewOwn, parts_of}
 use Rattle.ifmap_store.specs.Drafted.{AreBare, NoDraft, ends_at}
 use Rattle.ifmap_store.specs.Held.{Held, shown}
 use Rattle.ifmap_store.specs.Named.{named_in}
 use Rattle.ifmap_store.specs.Out.{IsDrafted}
 use Rattle.ifmap_store.specs.Releasing.{IsLess}
-use Rattle.ifmap_store.specs.Seen.{Awaits, AwaitsLess, IsStill, KeepsOwn, rows_next, rows_now, waits_in, waits_there_in}
+use Rattle.ifmap_store.specs.Seen.{Awaits, AwaitsLess, HasFewOwn, IsStill, KeepsOwn, rows_next, rows_now, waits_in, waits_there_in}
 use Rattle.ifmap_store.specs.Shelved.{AreShelved, place_of, rows_of}
 use Rattle.ifmap_store.specs.Sides.{Sides, next, now}
 use Rattle.ifmap_store.specs.Stays.{IsThere, StayPlaced, ends_in, ends_there_in, place_in}
@@ -67,6 +68,12 @@ module _ (names : Holdings Identifier) (s : Shelves) (links : List (Sides LinkSe
 
   pub waited_to : (items : List Item) → AreWaited items (waits_on s) → Awaits items (held_of names s links)
   waited_to items a x = omega (arith, a x, waits_shown x)
+
+  -- others hold identifiers as often as contracts see it
+  pub few_from : HasFewOwn (held_of names s links) → HaveFewOwn (parts_of names s links)
+  few_from few a =
+      let f = few a
+      in (f.0, subst (λ (n : ℕ). IsHeld identifier_order names a (n + f.0)) (named_shown (get s.slots) s.places.entries a) f.1, f.2)
 
   -- where nothing is out, no shelf has a draft
   pub bare_from : AreShelved s → IsStill (held_of names s links) → AreBare s

@@ -1,16 +1,15 @@
 -- A change that was made can be taken back: what was there stands in its lists, and nothing else has changed.
-use Rattle.std.proofs.Common.{◌≡◌, ◌≢◌, ◌⊎◌, ℕ, zero, suc, ◌+◌, ◌<◌, ◌≤◌, Bool, true, false, cond, Option, Some, None, IsSome, List, [], ◌∷◌, map, length, refl, ap, ◌∙◌, sym, subst, inl, inr, arith}
+use Rattle.std.proofs.Common.{◌≡◌, ℕ, ◌+◌, true, Option, Some, None, List, [], ◌∷◌, map, length, refl, ap, ◌∙◌, sym, subst, inl, inr, arith}
 use Rattle.std.proofs.lemmas.Bool.{cases_Bool}
 use Rattle.std.proofs.lemmas.List.{length-map}
 use Rattle.std.specs.BTreeMap.{is_at}
-use Rattle.std.specs.Map.{lookup}
 use Rattle.std.specs.Ordering.{is_eq}
 use Rattle.std.specs.declared.cmp.Ordering.TheVariants.{Equal}
 use Rattle.slab.specs.Slab.{get}
 use Rattle.ifmap_lemmas.specs.Having.{Has}
 use Rattle.ifmap_ident.specs.declared.identifiers.Identifier.{Identifier}
 use Rattle.ifmap_ident.specs.declared.items.Item.{Item}
-use Rattle.ifmap_ident.specs.Items.{item_order, same_item}
+use Rattle.ifmap_ident.specs.Items.{item_order}
 use Rattle.ifmap_meta.specs.declared.stored.Stored.{Stored}
 use Rattle.ifmap_plans.specs.declared.plans.ItemChange.{ItemChange}
 use Rattle.ifmap_pool.specs.Holdings.{Holdings}
@@ -20,13 +19,12 @@ use Rattle.ifmap_view.specs.Attachments.{IsGraph}
 use Rattle.ifmap_view.specs.Rows.{stored_on}
 use Rattle.ifmap_store.specs.declared.changes.Ready.{Ready}
 use Rattle.ifmap_store.specs.declared.changes.Undo.{Undo}
-use Rattle.ifmap_store.specs.declared.shelves.Shelf.{Shelf}
 use Rattle.ifmap_store.specs.declared.shelves.Shelves.{Shelves}
 use Rattle.ifmap_store.specs.Back.{IsWayBack, stand_each}
 use Rattle.ifmap_store.specs.Drafted.{AreOut, ends_at}
 use Rattle.ifmap_store.specs.Held.{IsInside, links_at, shown}
 use Rattle.ifmap_store.specs.Out.{items_of}
-use Rattle.ifmap_store.specs.Seen.{Awaits, links_now, rows_now, waits_in}
+use Rattle.ifmap_store.specs.Seen.{Awaits, links_now, rows_now}
 use Rattle.ifmap_store.specs.Shelved.{AreShelved, HasDraft, list_at, place_of, rows_by, rows_of}
 use Rattle.ifmap_store.specs.Sides.{Sides, next, now}
 use Rattle.ifmap_store.specs.Stays.{IsThere}
@@ -40,7 +38,8 @@ use Rattle.ifmap_store.proofs.Finding.{absent, found}
 use Rattle.ifmap_store.proofs.Graphs.{graph_is}
 use Rattle.ifmap_store.proofs.Insides.{rows_shown}
 use Rattle.ifmap_store.proofs.Ordered.{equal_is, items_total, ties}
-use Rattle.ifmap_store.proofs.Seeing.{links_by_items, seen_of, seen_waits, stays_there}
+use Rattle.ifmap_store.proofs.Seeing.{links_by_items, seen_of, stays_there}
+use Rattle.ifmap_store.proofs.Settled.{waits_shown}
 use Rattle.ifmap_store.proofs.Turns.{backs_within, gone_again, same_length}
 
 -- what is stored on items that tie is the same
@@ -49,7 +48,8 @@ tied_stored x y rows e =
     stored_alike x y (λ z. sym (ties x z) ∙ ap is_eq (items_total.congr x y z e) ∙ ties y z) rows
 
 -- lists that are those of attachments stand again: on these items they do, and elsewhere nothing has changed
-stands_again : (rows : List Attachment) (items : List Item) (x : Item) (before : List Stored) → (times_in items x ≡ 0 → before ≡ stored_on x rows)
+stands_again : (rows : List Attachment) (items : List Item) (x : Item) (before : List Stored)
+    → (times_in items x ≡ 0 → before ≡ stored_on x rows)
     → stand_each items (map (λ i. stored_on i rows) items) x before ≡ stored_on x rows
 stands_again rows [] x before f = f refl
 stands_again rows (i ∷ is) x before f = elim (cases_Bool (is_at (item_order i) x)) [
@@ -57,7 +57,7 @@ stands_again rows (i ∷ is) x before f = elim (cases_Bool (is_at (item_order i)
   | inr n ↦ rw n (stands_again rows is x before (λ e. f (rw n (omega (arith, e)))))
 ]
 
-has_times : (items : List Item) (x i : Item) → Has items i → item_order i x ≡ Equal → times_in items x ≡ 0 → ⊥
+pub has_times : (items : List Item) (x i : Item) → Has items i → item_order i x ≡ Equal → times_in items x ≡ 0 → ⊥
 has_times [] x i h e t = h
 has_times (k ∷ ks) x i (inl p) e t =
     let q : is_at (item_order k) x ≡ true = ap (λ y. is_eq (item_order y x)) p ∙ ap is_eq e
@@ -70,18 +70,22 @@ else_same : (s : Shelves) (x : Item) → AreShelved s → (HasDraft s x → ⊥)
 else_same s x is f = by (place_of s x) refl
   where
     by : (o : Option ℕ) → place_of s x ≡ o → stored_on x (rows_of next s) ≡ stored_on x (rows_of now s)
-    by None e = sym (absent (λ n. list_at next (get s.slots n)) x s.places.entries e) ∙ absent (λ n. list_at now (get s.slots n)) x s.places.entries e
+    by None e = sym (absent (λ n. list_at next (get s.slots n)) x s.places.entries e)
+        ∙ absent (λ n. list_at now (get s.slots n)) x s.places.entries e
     by (Some at) e =
         sym (found (λ n. list_at next (get s.slots n)) x s.places.entries at is.rising e)
         ∙ list_bare (get s.slots at) (no_draft (get s.slots at) (λ shelf here has. f (at, shelf, e, here, has)))
         ∙ found (λ n. list_at now (get s.slots n)) x s.places.entries at is.rising e
 
-module _ (names : Holdings Identifier) (s t : Shelves) (links moved : List (Sides LinkSeen)) (is : IsInside names (get s.slots) s.places.entries links)
+module _ (names : Holdings Identifier) (s t : Shelves) (links moved : List (Sides LinkSeen))
+    (is : IsInside names (get s.slots) s.places.entries links)
     (places : t.places ≡ s.places) (ends : (at : ℕ) → ends_at t at ≡ ends_at s at) (waits : (x : Item) → waits_on t x ≡ waits_on s x)
     (rows : rows_of now t ≡ rows_of next s)
     (ready : Ready) (result : Undo) (out : AreOut (items_of ready.plan.changes) s)
     (drafted : AreDrafted ready.ways links) (others : NoOthers ready.ways links) (turned : moved ≡ accept_each ready.ways links)
-    (plan : result.plan ≡ ready.plan) (lists : result.lists ≡ map (λ c. stored_on c.item (rows_by (list_at now) (shown (get s.slots) s.places.entries))) ready.plan.changes)
+    (plan : result.plan ≡ ready.plan)
+    (lists : result.lists ≡ map
+    (λ c. stored_on c.item (rows_by (list_at now) (shown (get s.slots) s.places.entries))) ready.plan.changes)
     (ways : result.ways ≡ backs ready.ways links) where
   abbrev before : List Attachment
   before = rows_by (list_at now) (shown (get s.slots) s.places.entries)
@@ -104,7 +108,8 @@ module _ (names : Holdings Identifier) (s t : Shelves) (links moved : List (Side
       ∙ sym (ap (stored_on x) (rows_shown now (get s.slots) s.places.entries))
 
   pub can_go_back : Awaits items (seen_of (get s.slots) s.places.entries names links)
-      → IsWayBack result (rows_now (seen_of (get s.slots) s.places.entries names links)) (links_now (seen_of (get s.slots) s.places.entries names links))
+      → IsWayBack result (rows_now (seen_of (get s.slots) s.places.entries names links))
+      (links_now (seen_of (get s.slots) s.places.entries names links))
       (seen_of (get t.slots) t.places.entries names moved)
   can_go_back awaited = record {
     graph = subst IsGraph (sym (rows_shown now (get s.slots) s.places.entries))
@@ -112,20 +117,23 @@ module _ (names : Holdings Identifier) (s t : Shelves) (links moved : List (Side
     stored = λ x.
         sym (stands_again before items x (stored_on x (rows_by (list_at now) (shown (get t.slots) t.places.entries))) (kept x))
         ∙ sym (ap (λ l. stand_each items l x (stored_on x (rows_by (list_at now) (shown (get t.slots) t.places.entries)))) lists_are)
-        ∙ sym (ap (λ l. stand_each l result.lists x (stored_on x (rows_by (list_at now) (shown (get t.slots) t.places.entries)))) same_items);
+        ∙ sym (ap (λ l. stand_each l result.lists x
+        (stored_on x (rows_by (list_at now) (shown (get t.slots) t.places.entries)))) same_items);
     linked = λ v.
         sym (gone_again ready.ways links v drafted others)
         ∙ sym (ap (λ l. links_at now (restore_each l (accept_each ready.ways links)) v) ways)
         ∙ sym (ap (λ l. links_at now (restore_each result.ways l) v) turned);
     slots = links_stay before (links_at now links) (seen_of (get s.slots) s.places.entries names links)
         (seen_of (get t.slots) t.places.entries names moved)
-        (λ x n. subst (λ p. IsThere (seen_of (get s.slots) s.places.entries names links) (seen_of (get t.slots) p.entries names moved) x) (sym places)
+        (λ x n. subst (λ p. IsThere (seen_of (get s.slots) s.places.entries names links) (seen_of (get t.slots) p.entries names moved) x)
+        (sym places)
         (stays_there (get s.slots) (get t.slots) s.places.entries names names links moved ends x))
         (links_by_items (get s.slots) s.places.entries names links before (links_at now links) is.placed is.used
         (λ x. sym (ap (stored_on x) (rows_shown now (get s.slots) s.places.entries))) is.side.listed is.side.once);
     lists = ap length lists ∙ length-map ready.plan.changes (λ c. stored_on c.item before) ∙ sym (ap (λ p. length p.changes) plan);
     within = subst (λ w. AreWithin w (length moved)) (sym ways)
-        (subst (λ n. AreWithin (backs ready.ways links) n) (sym (ap length turned ∙ same_length ready.ways links)) (backs_within ready.ways links drafted));
+        (subst (λ n. AreWithin (backs ready.ways links) n) (sym (ap length turned ∙ same_length ready.ways links))
+        (backs_within ready.ways links drafted));
     waits = subst (λ l. Awaits l (seen_of (get t.slots) t.places.entries names moved)) (sym same_items)
-        (λ x. omega (arith, awaited x, seen_waits (get s.slots) s.places.entries names links x, seen_waits (get t.slots) t.places.entries names moved x, waits x));
+        (λ x. omega (arith, awaited x, waits_shown names s links x, waits_shown names t moved x, waits x));
   }

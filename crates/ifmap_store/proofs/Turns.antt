@@ -1,5 +1,5 @@
 -- Drafts come to be the lists, and the lists come again.
-use Rattle.std.proofs.Common.{◌≡◌, ◌⊎◌, ℕ, suc, ◌+◌, ◌<◌, ◌≤◌, Option, Some, None, List, [], ◌∷◌, ◌++◌, IsSome, length, get_or, set, refl, ap, ◌∙◌, sym, subst, inl, inr, unwrap_or, arith}
+use Rattle.std.proofs.Common.{◌≡◌, ◌⊎◌, ℕ, ◌<◌, ◌≤◌, None, List, [], ◌∷◌, IsSome, length, set, refl, ap, ◌∙◌, sym, subst, inl, inr, unwrap_or, arith}
 use Rattle.std.proofs.lemmas.Bool.{cases_eq}
 use Rattle.std.proofs.lemmas.List.{get_or-set_same, get_or-set_other, length-set}
 use Rattle.ifmap_store.specs.Sides.{Sides, next}
@@ -36,13 +36,17 @@ module _ {T : Type 0} where
   ])
   named_bare (w ∷ ws) ls v d (inr n) = named_bare ws (set ls w.0 (accepted (sides_at ls w.0))) v d.2 n
 
-  next_of_bare : (s : Sides T) → s.draft ≡ None → s.now ≡ next s
+  -- where drafts stand at these places alone, none is left
+  pub none_drafted : (ws : List (ℕ × List T)) (ls : List (Sides T)) (v : ℕ) → AreDrafted ws ls → NoOthers ws ls → (sides_at (accept_each ws ls) v).draft ≡ None
+  none_drafted ws ls v d n = elim (n v) [ inl e ↦ stays_bare ws ls v d e | inr i ↦ named_bare ws ls v d i ]
+
+  pub next_of_bare : (s : Sides T) → s.draft ≡ None → s.now ≡ next s
   next_of_bare s e = sym (ap (λ o. unwrap_or o s.now) e)
 
   -- where drafts stand at these places alone, each list is afterwards what was to come
   pub accepted_all : (ws : List (ℕ × List T)) (ls : List (Sides T)) (v : ℕ) → AreDrafted ws ls → NoOthers ws ls → (sides_at (accept_each ws ls) v).now ≡ next (sides_at ls v)
   accepted_all ws ls v d n =
-      next_of_bare (sides_at (accept_each ws ls) v) (elim (n v) [ inl e ↦ stays_bare ws ls v d e | inr i ↦ named_bare ws ls v d i ])
+      next_of_bare (sides_at (accept_each ws ls) v) (none_drafted ws ls v d n)
       ∙ next_same ws ls v d
 
   -- a place without a draft is not named

@@ -8,12 +8,13 @@ use Rattle.ifmap_ident.specs.declared.items.Item.{Item}
 use Rattle.ifmap_ident.specs.Identifiers.{identifier_order}
 use Rattle.ifmap_meta.specs.declared.stored.Stored.{Stored}
 use Rattle.ifmap_pool.specs.Holdings.{Holdings, IsHeld, IsPool, entry_at, holdings_code}
+use Rattle.ifmap_plans.specs.Lists.{IsList}
 use Rattle.ifmap_view.specs.declared.views.LinkSeen.{LinkSeen}
 use Rattle.ifmap_store.specs.declared.shelves.Shelf.{Shelf}
 use Rattle.ifmap_store.specs.Joined.{is_full, joined}
 use Rattle.ifmap_store.specs.Linked.{AreListed, ats}
 use Rattle.ifmap_store.specs.Named.{AreHeld, AreIdentifiers, AreNumbered, named_in}
-use Rattle.ifmap_store.specs.Shelved.{IsList, IsPlaced, Side, list_at}
+use Rattle.ifmap_store.specs.Shelved.{IsPlaced, Side, list_at}
 use Rattle.ifmap_store.specs.Sides.{Sides, next, now, sides_code}
 
 -- the shelves in the order of their items, the empty ones among them; the identifiers with their numbers; the links of each number on

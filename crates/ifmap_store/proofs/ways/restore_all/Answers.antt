@@ -1,4 +1,4 @@
-use Rattle.std.proofs.Common.{[], ◌≡◌, ◌<◌, ◌≤◌, length, arith}
+use Rattle.std.proofs.Common.{[], arith}
 use Rattle.ifmap_store.proofs.Returning.{all_returned, place_within, returning, returns_on}
 use Rattle.ifmap_store.proofs.ways.restore_all.Goals as goal
 
@@ -16,7 +16,8 @@ restore_at-requires-clause-within g c = λ w.
 pub loop-i-preserved : goal.loop-i-preserved
 loop-i-preserved g c =
     returns_on c.args.ways.now.items c.args.lists.now.items c.loop-i.ways.items c.loop-i.lists.items c.loop-i.i
-    (omega (arith, c.loop-i-test.true, c.loop-i.invariant.long)) c.loop-i.invariant (0, []) c.restore_at.new.ways.items c.restore_at.new.lists.items
+    (omega (arith, c.loop-i-test.true, c.loop-i.invariant.long)) c.loop-i.invariant
+    (0, []) c.restore_at.new.ways.items c.restore_at.new.lists.items
     (c.restore_at.ensures.lists (0, [])) (c.restore_at.ensures.ways (0, []))
 
 pub returns : goal.returns

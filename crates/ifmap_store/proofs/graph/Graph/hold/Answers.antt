@@ -1,14 +1,16 @@
-use Rattle.std.proofs.Common.{rules, ◌≡◌, ℕ, ◌+◌, Option, List, length, refl, ap, sym, ◌∙◌, subst, inl, arith}
+use Rattle.std.proofs.Common.{rules, ◌≡◌, ℕ, ◌+◌, ◌^◌, ◌<◌, Option, List, length, refl, ap, sym, ◌∙◌, subst, inl, arith}
 use Rattle.slab.specs.Slab.{get}
 use Rattle.ifmap_ident.specs.Canon.{IsIdentifier}
 use Rattle.ifmap_ident.specs.Identifiers.{identifier_order}
 use Rattle.ifmap_pool.specs.Holdings.{IsHeld, Names, once}
 use Rattle.ifmap_store.specs.Held.{IsInside, shown}
 use Rattle.ifmap_store.specs.Named.{named_in}
+use Rattle.ifmap_store.specs.Bringing.{parts_of}
+use Rattle.ifmap_store.proofs.Grown.{few_holds}
 use Rattle.ifmap_store.proofs.Changed.{held_alike, inside_held, keys_alike, names_alike, roomier}
 use Rattle.ifmap_store.proofs.Holds.{add_two, still_identifiers}
 use Rattle.ifmap_store.proofs.Kept.{kept_backs, kept_still, kept_waits}
-use Rattle.ifmap_store.proofs.Settled.{held_of}
+use Rattle.ifmap_store.proofs.Settled.{few_from, held_of}
 use Rattle.ifmap_store.proofs.Own.{holds_alike, key_kept, key_told}
 use Rattle.ifmap_store.proofs.graph.Graph.hold.Goals as goal
 
@@ -21,8 +23,11 @@ invariant_of-self-in_err-lengthen c =
 pub hold-requires-clause-few : goal.hold-requires-clause-few
 hold-requires-clause-few c = λ number n.
     let few = rw (← c.self.view_is) at c.requires.few
+    in let small : length c.self.inside.shelves.places.entries < 2 ^ 62 = omega (arith, c.if-len-ge-MOST_ITEMS.false, c.len.ensures.len)
+    in let held = few_holds (parts_of c.self.inside.names c.self.inside.shelves c.self.inside.links.items) c.self.invariant
+    (few_from c.self.inside.names c.self.inside.shelves c.self.inside.links.items few) small number
     in let same = holds_alike c.self.inside.names c.reserve.new.self c.reserve.ensures.live number
-    in omega (arith, few number, same)
+    in omega (arith, held, same)
 
 pub invariant_of-self : goal.invariant_of-self
 invariant_of-self c =

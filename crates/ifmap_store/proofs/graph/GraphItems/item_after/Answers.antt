@@ -1,11 +1,11 @@
 use Rattle.std.proofs.Common.{rules, Option, Some, None, IfSome, IfNone, List, sym, subst}
 use Rattle.std.specs.Option.{option_copied}
 use Rattle.slab.specs.Slab.{get}
+use Rattle.ifmap_plans.specs.After.{IsNextItem, NoItem}
 use Rattle.ifmap_view.specs.declared.attachments.Attachment.{Attachment}
-use Rattle.ifmap_store.specs.After.{IsNextItem, NoItem}
 use Rattle.ifmap_store.specs.Sides.{now}
 use Rattle.ifmap_store.proofs.Insides.{rows_shown}
-use Rattle.ifmap_store.proofs.graph.Graph.item_after.Goals as goal
+use Rattle.ifmap_store.proofs.graph.GraphItems.item_after.Goals as goal
 
 pub item_after-requires : goal.item_after-requires
 item_after-requires g c = c.self.invariant.placed
