@@ -74,7 +74,7 @@ returns-clause-out c =
 pub returns-clause-after : goal.returns-clause-after
 returns-clause-after c =
     let made : IsMade c.args.plan.changes c.make_ready.new.ways.items (parts_of c.self.inside.names c.self.inside.shelves c.self.inside.links.items)
-        (parts_of c.make_ready.new.names c.make_ready.new.shelves c.make_ready.new.links.items)
+    (parts_of c.make_ready.new.names c.make_ready.new.shelves c.make_ready.new.links.items)
     = subst (λ l. IsMade l c.make_ready.new.ways.items (parts_of c.self.inside.names c.self.inside.shelves c.self.inside.links.items)
     (parts_of c.make_ready.new.names c.make_ready.new.shelves c.make_ready.new.links.items)) (c.deref.ensures.value ∙ ap (λ p. p.changes) c.plan.view_is)
     c.in_ok-make_ready.ensures.made
@@ -103,7 +103,7 @@ returns-clause-own c =
 pub returns-clause-waits : goal.returns-clause-waits
 returns-clause-waits c =
     let made : IsMade c.args.plan.changes c.make_ready.new.ways.items (parts_of c.self.inside.names c.self.inside.shelves c.self.inside.links.items)
-        (parts_of c.make_ready.new.names c.make_ready.new.shelves c.make_ready.new.links.items)
+    (parts_of c.make_ready.new.names c.make_ready.new.shelves c.make_ready.new.links.items)
     = subst (λ l. IsMade l c.make_ready.new.ways.items (parts_of c.self.inside.names c.self.inside.shelves c.self.inside.links.items)
     (parts_of c.make_ready.new.names c.make_ready.new.shelves c.make_ready.new.links.items)) (c.deref.ensures.value ∙ ap (λ p. p.changes) c.plan.view_is)
     c.in_ok-make_ready.ensures.made
