@@ -40,12 +40,14 @@ use Rattle.ifmap_store.proofs.Settled.{bare_to, ends_shown, ends_there, held_of,
 use Rattle.ifmap_store.proofs.Waited.{times_append}
 
 -- fewer than so many hold each identifier, as the parts have it
-pub few_from : (names : Holdings Identifier) (s : Shelves) (links : List (Sides LinkSeen)) → HasFewOwn (held_of names s links) → HaveFewOwn (parts_of names s links)
+pub few_from : (names : Holdings Identifier) (s : Shelves) (links : List (Sides LinkSeen)) → HasFewOwn (held_of names s links)
+    → HaveFewOwn (parts_of names s links)
 few_from names s links few a =
     let f = few a
     in (f.0, subst (λ (n : ℕ). IsHeld identifier_order names a (n + f.0)) (named_shown (get s.slots) s.places.entries a) f.1, f.2)
 
-all_shown : (s : Shelves) (xs : List Item) → AllByRecursion (HasDraft s) xs → AllByRecursion (IsDrafted (shown (get s.slots) s.places.entries)) xs
+all_shown : (s : Shelves) (xs : List Item) → AllByRecursion (HasDraft s) xs
+    → AllByRecursion (IsDrafted (shown (get s.slots) s.places.entries)) xs
 all_shown s [] a = tt
 all_shown s (x ∷ xs) a = (to_shown s x a.0, all_shown s xs a.1)
 
@@ -79,9 +81,11 @@ module _ (names later : Holdings Identifier) (s t : Shelves) (links moved : List
           ends_shown later t moved x ∙ ap (ends_there t) p.0 ∙ p.1 ∙ sym (ap (ends_there s) e) ∙ sym (ends_shown names s links x),
         )
 
-    full_there : (x : Item) (o : Option ℕ) → place_of s x ≡ o → stored_on x (rows_now (held_of names s links)) ≢ [] → IsThere (held_of names s links) (held_of later t moved) x
+    full_there : (x : Item) (o : Option ℕ) → place_of s x ≡ o → stored_on x (rows_now (held_of names s links)) ≢ []
+        → IsThere (held_of names s links) (held_of later t moved) x
     full_there x None e n =
-        absurd (n (ap (stored_on x) (rows_shown now (get s.slots) s.places.entries) ∙ sym (absent (λ at. list_at now (get s.slots at)) x s.places.entries e)))
+        absurd (n (ap (stored_on x) (rows_shown now (get s.slots) s.places.entries)
+        ∙ sym (absent (λ at. list_at now (get s.slots at)) x s.places.entries e)))
     full_there x (Some at) e n = there x at e
 
     stay : StayPlaced (held_of names s links) (held_of later t moved)
@@ -93,7 +97,8 @@ module _ (names later : Holdings Identifier) (s t : Shelves) (links moved : List
     }
 
   -- the change is out
-  module _ (changes : List ItemChange) (ways : List (ℕ × List LinkSeen)) (made : IsMade changes ways (parts_of names s links) (parts_of later t moved)) where
+  module _ (changes : List ItemChange) (ways : List (ℕ × List LinkSeen))
+      (made : IsMade changes ways (parts_of names s links) (parts_of later t moved)) where
     pub made_now : rows_now (held_of later t moved) ≡ rows_now (held_of names s links)
     made_now = rows_same made.rows
 
@@ -117,9 +122,11 @@ module _ (names later : Holdings Identifier) (s t : Shelves) (links moved : List
     pub made_numbers : Tells → AreIdentifiers names → KeepsNumbers (held_of names s links) (held_of later t moved)
     made_numbers tells keys = key_kept names later made.kept tells keys made.inside.keys
 
-    pub made_out : (ready : Ready) → ready.plan.changes ≡ changes → length ready.lists ≡ length changes → ready.ways ≡ ways → IsOut ready (held_of later t moved)
+    pub made_out : (ready : Ready) → ready.plan.changes ≡ changes → length ready.lists ≡ length changes → ready.ways ≡ ways
+        → IsOut ready (held_of later t moved)
     made_out ready plan lists way = record {
-      drafted = subst (λ l. AllByRecursion (IsDrafted (shown (get t.slots) t.places.entries)) (items_of l)) (sym plan) (all_shown t (items_of changes) made.out.drafted);
+      drafted = subst (λ l. AllByRecursion (IsDrafted (shown (get t.slots) t.places.entries)) (items_of l)) (sym plan)
+          (all_shown t (items_of changes) made.out.drafted);
       within = λ x d.
           subst (λ l. (i : Item) × Has (items_of l) i × (item_order i x ≡ Equal)) (sym plan)
           (made.out.within x (from_shown t x d));
@@ -155,7 +162,8 @@ module _ (names later : Holdings Identifier) (s t : Shelves) (links moved : List
     unmade_same tells keys = record {
       rows = unmade_now;
       links = un.links;
-      numbers = same_keys names later (key_kept names later un.kept tells keys un.inside.keys) (key_kept later names un.before tells un.inside.keys keys);
+      numbers = same_keys names later (key_kept names later un.kept tells keys un.inside.keys)
+          (key_kept later names un.before tells un.inside.keys keys);
       own = unmade_own;
       waits = unmade_waits;
     }
