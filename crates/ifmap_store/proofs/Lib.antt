@@ -50,3 +50,4 @@ pub mod Marks
 pub mod Grown
 pub mod Waits
 pub mod Made
+pub mod Reserved

@@ -40,7 +40,7 @@ abbrev pub held_of : Holdings Identifier → Shelves → List (Sides LinkSeen) �
 held_of names s links = record { shelves = shown (get s.slots) s.places.entries; names = names; links = links; places = s.places.entries }
 
 -- the numbers of a slot, where there is one
-abbrev ends_there : Shelves → Option ℕ → Option Ends
+abbrev pub ends_there : Shelves → Option ℕ → Option Ends
 ends_there s None = None
 ends_there s (Some at) = ends_at s at
 

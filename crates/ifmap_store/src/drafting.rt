@@ -32,11 +32,7 @@ use ifmap_view::LinkSeen;
 use std::alloc::{AllocError as NoMemory, Global};
 
 // The draft of one item that has a shelf.
-fn draft_one(
-    shelves: &mut Shelves,
-    alloc: Global,
-    change: &ItemChange,
-) -> Result<(), NoMemory>
+fn draft_one(shelves: &mut Shelves, alloc: Global, change: &ItemChange) -> Result<(), NoMemory>
     requires shelved { AreShelved shelves.old }
     requires there { IsSome (place_of shelves.old change.now.item) }
     requires order { IsStrictlySortedBy stored_order change.now.removed }
@@ -47,7 +43,7 @@ fn draft_one(
     ensures next { OnOk result ((x : Item) → stored_on x (rows_of next shelves.new)
         ≡ (if is_at (item_order change.now.item) x
         then next_on change.now.removed change.now.added
-            (stored_on change.now.item (rows_of now shelves.old))
+        (stored_on change.now.item (rows_of now shelves.old))
         else stored_on x (rows_of next shelves.old))) }
     ensures drafts { (x : Item) → HasDraft shelves.new x
         → HasDraft shelves.old x ⊎ (is_at (item_order change.now.item) x ≡ true) }

@@ -81,7 +81,11 @@ fn flipped_slot(shelves: &Shelves, item: &Item) -> Option<usize>
 fn flipped_at(slots: &Slab<Shelf>, at: usize) -> Option<usize>
     ensures { result ≡ flip_in slots.now (Some at) }
 {
-    if is_flipped(slots, at) { Some(at) } else { None }
+    if is_flipped(slots, at) {
+        Some(at)
+    } else {
+        None
+    }
 }
 
 // A slot, where one was found.
@@ -209,11 +213,7 @@ fn set_draft(links: &mut Vec<Sided<LinkSeen>>, place: usize, draft: Vec<LinkSeen
 }
 
 // One link more in the draft of a number's links.
-fn add_link(
-    links: &mut Vec<Sided<LinkSeen>>,
-    place: usize,
-    seen: LinkSeen,
-) -> Result<(), NoMemory>
+fn add_link(links: &mut Vec<Sided<LinkSeen>>, place: usize, seen: LinkSeen) -> Result<(), NoMemory>
     requires place { place < length links.old.items }
     requires drafted { IsSome (sides_at links.old.items place).draft }
     ensures kept { KeepsLinks links.old.items links.new.items }

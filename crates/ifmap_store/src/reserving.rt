@@ -64,7 +64,7 @@ fn draft_or_take(
         → AreGrown first (parts_of names.old shelves.old links.old.items)
         → BringsShelves (marked (items_of changes.now) fresh.now) first.shelves shelves.old
         → IsMade changes.now ways.new.items first
-            (parts_of names.new shelves.new links.new.items)) }
+        (parts_of names.new shelves.new links.new.items)) }
     ensures unmade { OnErr result ((first : Parts) → AreInside first
         → AreGrown first (parts_of names.old shelves.old links.old.items)
         → BringsShelves (marked (items_of changes.now) fresh.now) first.shelves shelves.old
