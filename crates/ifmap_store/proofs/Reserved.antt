@@ -39,13 +39,6 @@ use Rattle.ifmap_store.proofs.Own.{key_kept}
 use Rattle.ifmap_store.proofs.Settled.{bare_to, ends_shown, ends_there, held_of, waited_from, waited_to, waits_shown}
 use Rattle.ifmap_store.proofs.Waited.{times_append}
 
--- fewer than so many hold each identifier, as the parts have it
-pub few_from : (names : Holdings Identifier) (s : Shelves) (links : List (Sides LinkSeen)) → HasFewOwn (held_of names s links)
-    → HaveFewOwn (parts_of names s links)
-few_from names s links few a =
-    let f = few a
-    in (f.0, subst (λ (n : ℕ). IsHeld identifier_order names a (n + f.0)) (named_shown (get s.slots) s.places.entries a) f.1, f.2)
-
 all_shown : (s : Shelves) (xs : List Item) → AllByRecursion (HasDraft s) xs
     → AllByRecursion (IsDrafted (shown (get s.slots) s.places.entries)) xs
 all_shown s [] a = tt

@@ -8,8 +8,8 @@ use Rattle.ifmap_store.specs.Shelved.{rows_of}
 use Rattle.ifmap_store.specs.Sides.{now}
 use Rattle.ifmap_store.proofs.Insides.{rows_shown}
 use Rattle.ifmap_store.proofs.Joining.{any_err}
-use Rattle.ifmap_store.proofs.Reserved.{few_from, made_after, made_backs, made_now, made_numbers, made_out, made_own, made_waits, unmade_backs, unmade_now, unmade_numbers, unmade_own, unmade_same, unmade_still}
-use Rattle.ifmap_store.proofs.Settled.{bare_from}
+use Rattle.ifmap_store.proofs.Reserved.{made_after, made_backs, made_now, made_numbers, made_out, made_own, made_waits, unmade_backs, unmade_now, unmade_numbers, unmade_own, unmade_same, unmade_still}
+use Rattle.ifmap_store.proofs.Settled.{bare_from, few_from}
 use Rattle.ifmap_store.proofs.graph.Graph.reserve.Goals as goal
 
 pub make_ready-requires-clause-bare : goal.make_ready-requires-clause-bare
