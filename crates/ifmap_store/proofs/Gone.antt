@@ -15,7 +15,7 @@ use Rattle.ifmap_store.specs.declared.shelves.Shelf.{Shelf}
 use Rattle.ifmap_store.specs.declared.shelves.Shelves.{Shelves}
 use Rattle.ifmap_store.specs.Drafted.{AreBare, NoDraft}
 use Rattle.ifmap_store.specs.Shelved.{AreShelved, IsPlaced, Rises, place_of}
-use Rattle.ifmap_store.specs.Waits.{AreWaited, times_in, waits_of, waits_on, waits_there}
+use Rattle.ifmap_store.specs.Waits.{AreWaited, waits_of, waits_on, waits_there}
 use Rattle.ifmap_store.proofs.Following.{entry_hits, lookup_tied, looked_up}
 use Rattle.ifmap_store.proofs.Leaving.{removed_has, slots_kept}
 use Rattle.ifmap_store.proofs.Ordered.{equal_is, items_total, turned_tie}

@@ -1,10 +1,4 @@
-use Rattle.std.proofs.Common.{rules, ◌≡◌, List, [], refl, ap, sym, ◌∙◌, subst, IsSome, arith}
-use Rattle.slab.specs.Slab.{get}
-use Rattle.ifmap_view.specs.Rows.{stored_on}
-use Rattle.ifmap_store.specs.Releasing.{IsLess}
-use Rattle.ifmap_store.specs.Shelved.{AreShelved, rows_of}
-use Rattle.ifmap_store.specs.Sides.{now}
-use Rattle.ifmap_store.specs.Waits.{waits_on}
+use Rattle.std.proofs.Common.{refl, sym, ◌∙◌, subst, IsSome, arith}
 use Rattle.ifmap_store.proofs.Gone.{waits_left}
 use Rattle.ifmap_store.proofs.Lessening.{inside_written, is_bare, is_there_still, less_on, less_removed, less_written, waited_there}
 use Rattle.ifmap_store.proofs.Passing.{nothing_in}

@@ -1,4 +1,4 @@
-use Rattle.std.proofs.Common.{rules, ◌≡◌, List, ap, sym, ◌∙◌, subst, ◌++◌}
+use Rattle.std.proofs.Common.{sym, ◌∙◌, subst, ◌++◌}
 use Rattle.ifmap_plans.specs.declared.plans.Plan.{Plan}
 use Rattle.ifmap_store.specs.Out.{items_of}
 use Rattle.ifmap_store.specs.Seen.{Awaits, AwaitsLess}

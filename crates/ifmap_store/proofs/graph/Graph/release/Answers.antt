@@ -1,4 +1,4 @@
-use Rattle.std.proofs.Common.{rules, refl, arith}
+use Rattle.std.proofs.Common.{refl, arith}
 use Rattle.slab.specs.Slab.{get}
 use Rattle.ifmap_store.proofs.Kept.{kept_backs, kept_still, kept_waits}
 use Rattle.ifmap_store.proofs.Settled.{held_of}

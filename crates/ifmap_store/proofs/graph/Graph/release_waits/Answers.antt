@@ -1,5 +1,4 @@
-use Rattle.std.proofs.Common.{rules, ◌≡◌, List, refl, ap, sym, ◌∙◌, subst, arith}
-use Rattle.slab.specs.Slab.{get}
+use Rattle.std.proofs.Common.{refl, arith}
 use Rattle.ifmap_store.specs.Out.{items_of}
 use Rattle.ifmap_store.proofs.Own.{key_kept}
 use Rattle.ifmap_store.proofs.Backs.{keeps_other_backs}
