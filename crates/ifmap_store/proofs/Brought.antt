@@ -33,7 +33,8 @@ place_tied : (s : Shelves) (x y : Item) → is_at (item_order x) y ≡ true → 
 place_tied s x y t = lookup_tied x y s.places.entries (equal_is (item_order x y) t)
 
 -- an item that has no shelf is none of those that have one; and one that has is none of those that have none
-other_there : (s : Shelves) (xs : List Item) (y : Item) → AllByRecursion (λ x. IsSome (place_of s x)) xs → place_of s y ≡ None → IsOther xs y
+other_there : (s : Shelves) (xs : List Item) (y : Item) → AllByRecursion (λ x. IsSome (place_of s x)) xs → place_of s y ≡ None
+    → IsOther xs y
 other_there s [] y a e = tt
 other_there s (x ∷ xs) y a e = (
   elim (cases_Bool (is_at (item_order x) y)) [
@@ -43,7 +44,8 @@ other_there s (x ∷ xs) y a e = (
   other_there s xs y a.1 e,
 )
 
-pub other_absent : (s : Shelves) (xs : List Item) (y : Item) → AllByRecursion (λ x. place_of s x ≡ None) xs → IsSome (place_of s y) → IsOther xs y
+pub other_absent : (s : Shelves) (xs : List Item) (y : Item) → AllByRecursion (λ x. place_of s x ≡ None) xs → IsSome (place_of s y)
+    → IsOther xs y
 other_absent s [] y a e = tt
 other_absent s (x ∷ xs) y a e = (
   elim (cases_Bool (is_at (item_order x) y)) [
@@ -73,7 +75,8 @@ pub some_place : (o : Option ℕ) (at : ℕ) → o ≡ Some at → IsSome o
 some_place o at e = subst (λ (o : Option ℕ). IsSome o) (sym e) refl
 
 -- nothing came
-pub brings_none : (s t : Shelves) → t.places.entries ≡ s.places.entries → ((at : ℕ) → ends_at t at ≡ ends_at s at) → ((x : Item) → waits_on t x ≡ waits_on s x)
+pub brings_none : (s t : Shelves) → t.places.entries ≡ s.places.entries → ((at : ℕ) → ends_at t at ≡ ends_at s at)
+    → ((x : Item) → waits_on t x ≡ waits_on s x)
     → BringsShelves [] s t
 brings_none s t entries ends waits = record {
   absent = tt;
@@ -88,7 +91,8 @@ brings_none s t entries ends waits = record {
 pub brings_both : (xs ys : List Item) (s t u : Shelves) → BringsShelves xs s t → BringsShelves ys t u → BringsShelves (xs ++ ys) s u
 brings_both xs ys s t u p q = record {
   absent = all_joined (λ x. place_of s x ≡ None) xs ys p.absent
-      (all_turned (λ y. place_of t y ≡ None) (λ y. place_of s y ≡ None) ys (λ y e. sym (p.places y (other_there t xs y p.there e)) ∙ e) q.absent);
+      (all_turned (λ y. place_of t y ≡ None) (λ y. place_of s y ≡ None) ys
+      (λ y e. sym (p.places y (other_there t xs y p.there e)) ∙ e) q.absent);
   there = all_joined (λ x. IsSome (place_of u x)) xs ys
       (all_turned (λ x. IsSome (place_of t x)) (λ x. IsSome (place_of u x)) xs
       (λ x h. subst (λ (o : Option ℕ). IsSome o) (sym (q.places x (other_absent t ys x q.absent h))) h) p.there) q.there;
@@ -124,7 +128,8 @@ brings_less x rest s t u p q apart = record {
     )
 
 -- lists of shelves were written
-pub brings_written : (items : List Item) (s t u : Shelves) → BringsShelves items s t → u.places ≡ t.places → ((at : ℕ) → ends_at u at ≡ ends_at t at)
+pub brings_written : (items : List Item) (s t u : Shelves) → BringsShelves items s t → u.places ≡ t.places
+    → ((at : ℕ) → ends_at u at ≡ ends_at t at)
     → ((x : Item) → waits_on u x ≡ waits_on t x) → BringsShelves items s u
 brings_written items s t u p places ends waits = record {
   absent = p.absent;
@@ -138,7 +143,8 @@ brings_written items s t u p places ends waits = record {
 
 -- the shelf of one item comes
 pub brings_one : (s t : Shelves) (item : Item) (at : ℕ) (shelf : Shelf) → AreShelved s → place_of s item ≡ None
-    → ((x : Item) → place_of t x ≡ cond (is_at (item_order item) x) (Some at) (place_of s x)) → t.places.entries ≡ insert_entry item_order s.places.entries item at
+    → ((x : Item) → place_of t x ≡ cond (is_at (item_order item) x) (Some at) (place_of s x))
+    → t.places.entries ≡ insert_entry item_order s.places.entries item at
     → get s.slots at ≡ None → get t.slots at ≡ Some shelf → shelf.waits ≡ 0 → ((o : ℕ) → (o ≡ at → ⊥) → get t.slots o ≡ get s.slots o)
     → BringsShelves (item ∷ []) s t
 brings_one s t item at shelf is none updates inserts vacant has zero others = record {
@@ -147,10 +153,12 @@ brings_one s t item at shelf is none updates inserts vacant has zero others = re
   places = λ x o. elsewhere x o.0;
   ends = λ x n e. ap ends_of (others n (λ q. vacant_not x n e q));
   waits = λ x. elim (cases_Bool (is_at (item_order item) x)) [
-    | inl y ↦ ap (waits_there (get t.slots)) (here x y) ∙ ap waits_of has ∙ zero ∙ sym (ap (waits_there (get s.slots)) (sym (place_tied s item x y) ∙ none))
+    | inl y ↦ ap (waits_there (get t.slots)) (here x y) ∙ ap waits_of has ∙ zero
+        ∙ sym (ap (waits_there (get s.slots)) (sym (place_tied s item x y) ∙ none))
     | inr f ↦ waits_same x f (place_of s x) refl
   ];
-  named = λ a. ap (λ es. named_in es a) inserts ∙ comes s.places.entries item at a none ∙ plus (named_by item a) (named_in s.places.entries a);
+  named = λ a. ap (λ es. named_in es a) inserts ∙ comes s.places.entries item at a none
+      ∙ plus (named_by item a) (named_in s.places.entries a);
 }
   where
     plus : (n m : ℕ) → n + m ≡ (n + 0) + m
@@ -168,7 +176,8 @@ brings_one s t item at shelf is none updates inserts vacant has zero others = re
     waits_same : (x : Item) → is_at (item_order item) x ≡ false → (o : Option ℕ) → place_of s x ≡ o → waits_on t x ≡ waits_on s x
     waits_same x f None e = ap (waits_there (get t.slots)) (elsewhere x f ∙ e) ∙ sym (ap (waits_there (get s.slots)) e)
     waits_same x f (Some n) e =
-        ap (waits_there (get t.slots)) (elsewhere x f ∙ e) ∙ ap waits_of (others n (vacant_not x n e)) ∙ sym (ap (waits_there (get s.slots)) e)
+        ap (waits_there (get t.slots)) (elsewhere x f ∙ e) ∙ ap waits_of (others n (vacant_not x n e))
+        ∙ sym (ap (waits_there (get s.slots)) e)
 
 -- the shelf of one item goes
 pub brings_taken : (s t : Shelves) (item : Item) (at : ℕ) → place_of s item ≡ Some at
@@ -184,7 +193,8 @@ brings_taken s t item at here updates removes before zero = record {
     | inl y ↦ ap (waits_there (get s.slots)) (sym (place_tied s item x y)) ∙ zero ∙ sym (ap (waits_there (get t.slots)) (gone x y))
     | inr f ↦ waits_same x f (place_of t x) refl
   ];
-  named = λ a. sym (goes s.places.entries item at a here) ∙ ap (λ es. named_by item a + named_in es a) (sym removes) ∙ plus (named_by item a) (named_in t.places.entries a);
+  named = λ a. sym (goes s.places.entries item at a here) ∙ ap (λ es. named_by item a + named_in es a) (sym removes)
+      ∙ plus (named_by item a) (named_in t.places.entries a);
 }
   where
     plus : (n m : ℕ) → n + m ≡ (n + 0) + m
@@ -225,12 +235,14 @@ never_waited s x e = ap (waits_there (get s.slots)) e
 
 -- a shelf that comes has no draft
 pub bare_comes : (s t : Shelves) (item : Item) (at : ℕ) (shelf : Shelf) → AreShelved s → AreBare s → place_of s item ≡ None
-    → t.places.entries ≡ insert_entry item_order s.places.entries item at → get s.slots at ≡ None → get t.slots at ≡ Some shelf → shelf.stored.draft ≡ None
+    → t.places.entries ≡ insert_entry item_order s.places.entries item at → get s.slots at ≡ None → get t.slots at ≡ Some shelf
+    → shelf.stored.draft ≡ None
     → ((o : ℕ) → (o ≡ at → ⊥) → get t.slots o ≡ get s.slots o) → AreBare t
 bare_comes s t item at shelf is bare none inserts vacant has empty others =
     subst (λ es. AllByRecursion (λ e. NoDraft (get t.slots e.1)) es) (sym inserts)
     (all_inserted (λ e. NoDraft (get t.slots e.1)) s.places.entries item at none
-    (still s.places.entries (slots_stay (get s.slots) (get t.slots) at vacant others s.places.entries is.live) bare) (subst NoDraft (sym has) empty))
+    (still s.places.entries (slots_stay (get s.slots) (get t.slots) at vacant others s.places.entries is.live) bare)
+    (subst NoDraft (sym has) empty))
   where
     still : (es : Entries) → AllByRecursion (λ e. get t.slots e.1 ≡ get s.slots e.1) es → AllByRecursion (λ e. NoDraft (get s.slots e.1)) es
         → AllByRecursion (λ e. NoDraft (get t.slots e.1)) es

@@ -73,15 +73,18 @@ module _ (s : Shelves) where
       by false q = absurd (none-some _ q)
 
   -- a shelf whose lists differ has a draft
-  has_draft : (o : Option Shelf) (shelf : Shelf) → o ≡ Some shelf → differ (is_full (list_at now o)) (is_full (list_at next o)) ≡ true → IsSome shelf.stored.draft
+  has_draft : (o : Option Shelf) (shelf : Shelf) → o ≡ Some shelf → differ (is_full (list_at now o)) (is_full (list_at next o)) ≡ true
+      → IsSome shelf.stored.draft
   has_draft o shelf e d = by shelf.stored.draft refl
     where
       by : (draft : Option (List Stored)) → shelf.stored.draft ≡ draft → IsSome shelf.stored.draft
       by (Some l) q = subst (λ (o : Option (List Stored)). IsSome o) (sym q) refl
       by None q = absurd (differ_not (is_full (list_at now o)) (is_full (list_at next o)) d
-          (ap (λ o. is_full (list_at now o)) e ∙ ap (λ d. is_full (unwrap_or d shelf.stored.now)) (sym q) ∙ sym (ap (λ o. is_full (list_at next o)) e)))
+          (ap (λ o. is_full (list_at now o)) e ∙ ap (λ d. is_full (unwrap_or d shelf.stored.now)) (sym q)
+          ∙ sym (ap (λ o. is_full (list_at next o)) e)))
 
-  module _ (is : AreShelved s) (used : (at : ℕ) → IsSome (get s.slots at) → (item : Item) × Has s.places.entries (item, at)) (items : List Item)
+  module _ (is : AreShelved s) (used : (at : ℕ) → IsSome (get s.slots at) → (item : Item) × Has s.places.entries (item, at))
+      (items : List Item)
       (within : DraftsWithin items s) where
     touched_item : (at : ℕ) (shelf : Shelf) → get s.slots at ≡ Some shelf → differ (full_now s.slots at) (full_next s.slots at) ≡ true
         → (x : Item) × Has items x × (flip_of s x ≡ Some at)
@@ -95,10 +98,12 @@ module _ (s : Shelves) where
           ap (flip_in s.slots) (lookup_tied w.0 u.0 s.places.entries w.2 ∙ place) ∙ ap (λ b. cond b (Some at) None) d,
         )
 
-    by_slot : (at : ℕ) (o : Option Shelf) → get s.slots at ≡ o → (full_now s.slots at ≡ full_next s.slots at) ⊎ Contains (filter_map (flip_of s) items) at
+    by_slot : (at : ℕ) (o : Option Shelf) → get s.slots at ≡ o
+        → (full_now s.slots at ≡ full_next s.slots at) ⊎ Contains (filter_map (flip_of s) items) at
     by_slot at None e = inl (ap (λ o. is_full (list_at now o)) e ∙ sym (ap (λ o. is_full (list_at next o)) e))
     by_slot at (Some shelf) e = elim (cases_Bool (differ (full_now s.slots at) (full_next s.slots at))) [
-      | inl d ↦ let t = touched_item at shelf e d in inr (from_has (filter_map (flip_of s) items) at (has_mapped (flip_of s) items t.0 at t.1 t.2))
+      | inl d ↦ let t = touched_item at shelf e d
+          in inr (from_has (filter_map (flip_of s) items) at (has_mapped (flip_of s) items t.0 at t.1 t.2))
       | inr d ↦ inl (same_or_not (full_now s.slots at) (full_next s.slots at) d)
     ]
 
@@ -144,11 +149,13 @@ module _ (s : Shelves) where
     touched_apart [] d = no_numbers
     touched_apart (x ∷ xs) d = by (flip_of s x) refl (touched_apart xs (apart_parts x xs d).1)
       where
-        by : (o : Option ℕ) → flip_of s x ≡ o → IsDistinct nat_eq (filter_map (flip_of s) xs) → IsDistinct nat_eq (cons_option o (filter_map (flip_of s) xs))
+        by : (o : Option ℕ) → flip_of s x ≡ o → IsDistinct nat_eq (filter_map (flip_of s) xs)
+            → IsDistinct nat_eq (cons_option o (filter_map (flip_of s) xs))
         by None e rest = rest
         by (Some at) e rest = one_number at (filter_map (flip_of s) xs) (out_of x at xs e (apart_parts x xs d).0) rest
 
-pub flips_mapped : (s : Shelves) (changes : List ItemChange) → filter_map (λ (c : ItemChange). flip_of s c.item) changes ≡ filter_map (flip_of s) (items_of changes)
+pub flips_mapped : (s : Shelves) (changes : List ItemChange)
+    → filter_map (λ (c : ItemChange). flip_of s c.item) changes ≡ filter_map (flip_of s) (items_of changes)
 flips_mapped s [] = refl
 flips_mapped s (c ∷ cs) = ap (λ l. cons_option (flip_of s c.item) l) (flips_mapped s cs)
 
@@ -179,7 +186,8 @@ module _ (names : Holdings Identifier) (v w : ℕ) where
   joined_live (Some shelf) j = refl
 
 pub are_pairs : (names : Holdings Identifier) (slots : Slab Shelf) (es : Entries) (n : ℕ) → IsPlaced (get slots) es
-    → ((at : ℕ) → IsSome (get slots at) → (item : Item) × Has es (item, at)) → AreNumbered names (get slots) es → ((v : ℕ) → IsSome (entry_at names v) → v < n)
+    → ((at : ℕ) → IsSome (get slots at) → (item : Item) × Has es (item, at)) → AreNumbered names (get slots) es
+    → ((v : ℕ) → IsSome (entry_at names v) → v < n)
     → ArePairs slots n
 are_pairs names slots es n is used numbered table at v w j =
     let u = used at (joined_live names v w (get slots at) j)
@@ -188,16 +196,19 @@ are_pairs names slots es n is used numbered table at v w j =
     in (table v t.0, table w t.1, t.2)
 
 -- so they are once the drafts of shelves stand
-pub pairs_after : (names : Holdings Identifier) (s t : Shelves) (links : List (Sides LinkSeen)) → IsInside names (get s.slots) s.places.entries links
+pub pairs_after : (names : Holdings Identifier) (s t : Shelves) (links : List (Sides LinkSeen))
+    → IsInside names (get s.slots) s.places.entries links
     → AreShelved t → t.places ≡ s.places → ((at : ℕ) → ends_at t at ≡ ends_at s at) → ArePairs t.slots (length links)
 pairs_after names s t links old shelved places ends =
-    let is : IsInside names (get s.slots) t.places.entries links = subst (λ p. IsInside names (get s.slots) p.entries links) (sym places) old
+    let is : IsInside names (get s.slots) t.places.entries links
+    = subst (λ p. IsInside names (get s.slots) p.entries links) (sym places) old
     in are_pairs names t.slots t.places.entries (length links) shelved
     (λ at x. is.used at (live_by (get s.slots at) (get t.slots at) (sym (ends at)) x))
     (still_numbered (get s.slots) (get t.slots) ends names t.places.entries is.numbered) is.table
 
 -- what is stored on an item is a list
-pub stored_list : (side : Side) (s : Shelves) → AreShelved s → AllByRecursion (λ e. IsList (list_at side (get s.slots e.1))) s.places.entries → (x : Item)
+pub stored_list : (side : Side) (s : Shelves) → AreShelved s
+    → AllByRecursion (λ e. IsList (list_at side (get s.slots e.1))) s.places.entries → (x : Item)
     → IsList (stored_on x (rows_of side s))
 stored_list side s is all x = by (place_of s x) refl
   where
@@ -208,77 +219,92 @@ stored_list side s is all x = by (place_of s x) refl
         (live_at (λ n. IsList (list_at side (get s.slots n))) (is_at (item_order x)) s.places.entries at all e)
 
 -- so is what is stored after a change
-pub after_list : (rows : List Attachment) (changes : List ItemChange) (x : Item) → AllByRecursion (FitsItem rows) changes → IsList (stored_on x rows)
+pub after_list : (rows : List Attachment) (changes : List ItemChange) (x : Item) → AllByRecursion (FitsItem rows) changes
+    → IsList (stored_on x rows)
     → IsList (after_on changes x (stored_on x rows))
 after_list rows [] x f l = l
 after_list rows (c ∷ cs) x f l = elim (cases_Bool (same_item c.item x)) [
   | inl t ↦ let list = f.0.list
-      in let tied : stored_on c.item rows ≡ stored_on x rows = stored_tied c.item x rows (equal_is (item_order c.item x) (sym (items_tie c.item x) ∙ t))
+      in let tied : stored_on c.item rows ≡ stored_on x rows
+      = stored_tied c.item x rows (equal_is (item_order c.item x) (sym (items_tie c.item x) ∙ t))
       in rw t (subst (λ l. IsList (plans.next_on c.removed c.added l)) tied (record { rising = list.rising; keys = list.keys }))
   | inr t ↦ rw t (after_list rows cs x f.1 l)
 ]
 
-module _ (names : Holdings Identifier) (s t : Shelves) (links later : List (Sides LinkSeen)) (old : IsInside names (get s.slots) s.places.entries links)
-    (shelved : AreShelved t) (places : t.places ≡ s.places) (ends : (at : ℕ) → ends_at t at ≡ ends_at s at) (rows : rows_of now t ≡ rows_of now s)
+module _ (names : Holdings Identifier) (s t : Shelves) (links later : List (Sides LinkSeen))
+    (old : IsInside names (get s.slots) s.places.entries links)
+    (shelved : AreShelved t) (places : t.places ≡ s.places) (ends : (at : ℕ) → ends_at t at ≡ ends_at s at)
+    (rows : rows_of now t ≡ rows_of now s)
     (changes : List ItemChange) (fits : Fits (rows_of now s) changes) (after : IsAfter changes (rows_of now s) (rows_of next t))
     (out : AreOut (items_of changes) t) (kept : KeepsLinks links later)
-    (drafts : (v : ℕ) → (sides_at later v).draft ≡ draft_of t.slots (filter_map (flip_of t) (items_of changes)) v (sides_at links v).now) where
-  is : IsInside names (get s.slots) t.places.entries links
-  is = subst (λ p. IsInside names (get s.slots) p.entries links) (sym places) old
+    (drafts : (v : ℕ) → (sides_at later v).draft ≡ draft_of t.slots (filter_map (flip_of t) (items_of changes)) v (sides_at links v).now)
+  where
+    is : IsInside names (get s.slots) t.places.entries links
+    is = subst (λ p. IsInside names (get s.slots) p.entries links) (sym places) old
 
-  used : (at : ℕ) → IsSome (get t.slots at) → (item : Item) × Has t.places.entries (item, at)
-  used at x = is.used at (live_by (get s.slots at) (get t.slots at) (sym (ends at)) x)
+    used : (at : ℕ) → IsSome (get t.slots at) → (item : Item) × Has t.places.entries (item, at)
+    used at x = is.used at (live_by (get s.slots at) (get t.slots at) (sym (ends at)) x)
 
-  lists : (at : ℕ) → list_at now (get t.slots at) ≡ list_at now (get s.slots at)
-  lists = lists_stay s t old.placed shelved places old.used ends now now rows
+    lists : (at : ℕ) → list_at now (get t.slots at) ≡ list_at now (get s.slots at)
+    lists = lists_stay s t old.placed shelved places old.used ends now now rows
 
-  -- the links that are there, of the shelves that are there now
-  now_side : IsSide now (get t.slots) t.places.entries (links_at now links)
-  now_side = side_moved (get s.slots) (get t.slots) ends now now lists (links_at now links) (links_at now links) (λ v. refl) t.places.entries is.side
+    -- the links that are there, of the shelves that are there now
+    now_side : IsSide now (get t.slots) t.places.entries (links_at now links)
+    now_side = side_moved (get s.slots) (get t.slots) ends now now lists (links_at now links) (links_at now links)
+        (λ v. refl) t.places.entries is.side
 
-  all_lists : (es : Entries) → ((e : Item × ℕ) → Has es e → Has t.places.entries e) → AllByRecursion (λ e. IsList (list_at next (get t.slots e.1))) es
-  all_lists [] f = tt
-  all_lists (e ∷ es) f = (
-    subst IsList
-        (sym (found (λ n. list_at next (get t.slots n)) e.0 t.places.entries e.1 shelved.rising (entry_hits t.places.entries e.0 e.1 shelved.rising (f e (inl refl)))
-        ∙ after e.0))
-        (after_list (rows_of now s) changes e.0 fits.each (stored_list now s old.placed old.side.lists e.0)),
-    all_lists es (λ x h. f x (inr h)),
-  )
+    all_lists : (es : Entries) → ((e : Item × ℕ) → Has es e → Has t.places.entries e)
+        → AllByRecursion (λ e. IsList (list_at next (get t.slots e.1))) es
+    all_lists [] f = tt
+    all_lists (e ∷ es) f = (
+      subst IsList
+          (sym (found (λ n. list_at next (get t.slots n)) e.0 t.places.entries e.1 shelved.rising
+          (entry_hits t.places.entries e.0 e.1 shelved.rising (f e (inl refl)))
+          ∙ after e.0))
+          (after_list (rows_of now s) changes e.0 fits.each (stored_list now s old.placed old.side.lists e.0)),
+      all_lists es (λ x h. f x (inr h)),
+    )
 
-  next_links : (v : ℕ) → links_at next later v
-      ≡ changed (λ at. joined (get t.slots at)) (full_now t.slots) (full_next t.slots) (filter_map (flip_of t) (items_of changes)) (links_at now links) v
-  next_links v =
-      ap (λ d. unwrap_or d (sides_at later v).now) (drafts v)
-      ∙ ap (unwrap_or (draft_of t.slots (filter_map (flip_of t) (items_of changes)) v (sides_at links v).now)) (kept.now v)
-      ∙ drafted_links t.slots (filter_map (flip_of t) (items_of changes)) (links_at now links) now_side.listed (all_touched t shelved used (items_of changes) out.within) v
+    next_links : (v : ℕ) → links_at next later v
+        ≡ changed (λ at. joined (get t.slots at)) (full_now t.slots) (full_next t.slots) (filter_map (flip_of t) (items_of changes))
+        (links_at now links) v
+    next_links v =
+        ap (λ d. unwrap_or d (sides_at later v).now) (drafts v)
+        ∙ ap (unwrap_or (draft_of t.slots (filter_map (flip_of t) (items_of changes)) v (sides_at links v).now)) (kept.now v)
+        ∙ drafted_links t.slots (filter_map (flip_of t) (items_of changes)) (links_at now links) now_side.listed
+        (all_touched t shelved used (items_of changes) out.within) v
 
-  pub inside_drafted : IsInside names (get t.slots) t.places.entries later
-  inside_drafted = record {
-    placed = shelved;
-    used = used;
-    numbered = still_numbered (get s.slots) (get t.slots) ends names t.places.entries is.numbered;
-    pool = is.pool;
-    keys = is.keys;
-    held = is.held;
-    table = λ v x. subst (λ (n : ℕ). v < n) (sym kept.long) (is.table v x);
-    side = side_same now (get t.slots) t.places.entries (links_at now links) (links_at now later) kept.now now_side;
-    next_side =
-        side_same next (get t.slots) t.places.entries
-        (changed (λ at. joined (get t.slots at)) (full_now t.slots) (full_next t.slots) (filter_map (flip_of t) (items_of changes)) (links_at now links))
-        (links_at next later) next_links
-        (record {
-          lists = all_lists t.places.entries (λ e h. h);
-          listed = changed_listed (λ at. joined (get t.slots at)) (full_now t.slots) (full_next t.slots) (filter_map (flip_of t) (items_of changes)) (links_at now links)
-              now_side.listed (all_touched t shelved used (items_of changes) out.within);
-          once = λ v. changed_apart (λ at. joined (get t.slots at)) (full_now t.slots) (full_next t.slots) v (filter_map (flip_of t) (items_of changes)) (links_at now links)
-              now_side.listed (touched_apart t shelved (items_of changes) out.apart) (now_side.once v);
-        });
-  }
+    pub inside_drafted : IsInside names (get t.slots) t.places.entries later
+    inside_drafted = record {
+      placed = shelved;
+      used = used;
+      numbered = still_numbered (get s.slots) (get t.slots) ends names t.places.entries is.numbered;
+      pool = is.pool;
+      keys = is.keys;
+      held = is.held;
+      table = λ v x. subst (λ (n : ℕ). v < n) (sym kept.long) (is.table v x);
+      side = side_same now (get t.slots) t.places.entries (links_at now links) (links_at now later) kept.now now_side;
+      next_side =
+          side_same next (get t.slots) t.places.entries
+          (changed (λ at. joined (get t.slots at)) (full_now t.slots) (full_next t.slots) (filter_map (flip_of t) (items_of changes))
+          (links_at now links))
+          (links_at next later) next_links
+          (record {
+            lists = all_lists t.places.entries (λ e h. h);
+            listed = changed_listed (λ at. joined (get t.slots at)) (full_now t.slots) (full_next t.slots)
+                (filter_map (flip_of t) (items_of changes)) (links_at now links)
+                now_side.listed (all_touched t shelved used (items_of changes) out.within);
+            once = λ v. changed_apart (λ at. joined (get t.slots at)) (full_now t.slots) (full_next t.slots) v
+                (filter_map (flip_of t) (items_of changes)) (links_at now links)
+                now_side.listed (touched_apart t shelved (items_of changes) out.apart) (now_side.once v);
+          });
+    }
 
 -- once nothing has a draft any more, both sides are what is there
-pub inside_dropped : (names : Holdings Identifier) (s t : Shelves) (links later : List (Sides LinkSeen)) → IsInside names (get s.slots) s.places.entries links
-    → AreShelved t → t.places ≡ s.places → ((at : ℕ) → ends_at t at ≡ ends_at s at) → rows_of now t ≡ rows_of now s → rows_of next t ≡ rows_of now s
+pub inside_dropped : (names : Holdings Identifier) (s t : Shelves) (links later : List (Sides LinkSeen))
+    → IsInside names (get s.slots) s.places.entries links
+    → AreShelved t → t.places ≡ s.places → ((at : ℕ) → ends_at t at ≡ ends_at s at) → rows_of now t ≡ rows_of now s
+    → rows_of next t ≡ rows_of now s
     → KeepsLinks links later → ((v : ℕ) → (sides_at later v).draft ≡ None) → IsInside names (get t.slots) t.places.entries later
 inside_dropped names s t links later is shelved places ends rows same kept none =
     subst (λ p. IsInside names (get t.slots) p.entries later) (sym places)

@@ -50,7 +50,8 @@ grown_both p q r a b = record {
 pub few_kept : (p q : Parts) → AreGrown p q → HaveFewOwn p → HaveFewOwn q
 few_kept p q g few a = let f = few a in (f.0, g.own a f.0 f.1, f.2)
 
-pub grown_room : (names more : Holdings Identifier) (s : Shelves) (links longer : List (Sides LinkSeen)) → more.live ≡ names.live → IsPool identifier_order more
+pub grown_room : (names more : Holdings Identifier) (s : Shelves) (links longer : List (Sides LinkSeen)) → more.live ≡ names.live
+    → IsPool identifier_order more
     → ((v : ℕ) → sides_at longer v ≡ sides_at links v) → length links ≤ length longer → AreInside (parts_of names s links)
     → AreGrown (parts_of names s links) (parts_of more s longer)
 grown_room names more s links longer live pool same long is = record {
@@ -81,15 +82,18 @@ in_most [] a = omega arith
 in_most (e ∷ es) a = omega (arith, by_most e.0 a, in_most es a)
 
 -- so no number is held too often to be held twice more
-pub few_holds : (p : Parts) → AreInside p → HaveFewOwn p → length p.shelves.places.entries < 2 ^ 62 → (v : ℕ) → holds_at p.names v < 2 ^ 64 - 2
+pub few_holds : (p : Parts) → AreInside p → HaveFewOwn p → length p.shelves.places.entries < 2 ^ 62 → (v : ℕ)
+    → holds_at p.names v < 2 ^ 64 - 2
 few_holds p is few small v = by (entry_at p.names v) refl
   where
     none_held : (o : Option (Identifier × ℕ)) → o ≡ None → unwrap_or (option_map (λ x. x.1) o) 0 ≡ 0
     none_held o e = ap (λ o. unwrap_or (option_map (λ (x : Identifier × ℕ). x.1) o) 0) e
 
-    held_so : (a : Identifier) → Names identifier_order p.names v a → (own : ℕ) → HasOwn p a own → own < 2 ^ 32 → holds_at p.names v < 2 ^ 64 - 2
+    held_so : (a : Identifier) → Names identifier_order p.names v a → (own : ℕ) → HasOwn p a own → own < 2 ^ 32
+        → holds_at p.names v < 2 ^ 64 - 2
     held_so a n own (inl h) less =
-        let same : holds_at p.names v ≡ named_in p.shelves.places.entries a + own = ap (holds_at p.names) (is.pool.one_to_one v h.0 a n h.1) ∙ h.2
+        let same : holds_at p.names v ≡ named_in p.shelves.places.entries a + own
+        = ap (holds_at p.names) (is.pool.one_to_one v h.0 a n h.1) ∙ h.2
         in omega (arith, same, in_most p.shelves.places.entries a, small, less)
     held_so a n own (inr h) less = absurd (h.0 v n)
 
@@ -110,7 +114,8 @@ module _ (items : List Item) (first : Parts) where
     grown = grown_itself first is;
     long = ap length e;
     brought = subst (λ l. BringsShelves (marked items l) first.shelves first.shelves) (sym e)
-        (subst (λ l. BringsShelves l first.shelves first.shelves) (sym (none items)) (brings_none first.shelves first.shelves refl (λ at. refl) (λ x. refl)));
+        (subst (λ l. BringsShelves l first.shelves first.shelves) (sym (none items))
+        (brings_none first.shelves first.shelves refl (λ at. refl) (λ x. refl)));
     there = tt;
   }
     where
@@ -122,12 +127,14 @@ module _ (items : List Item) (first : Parts) where
     -- one that fails brings none
     pub places_none : BringsShelves [] p.shelves q.shelves → BringsShelves (marked items marks) first.shelves q.shelves
     places_none b =
-        subst (λ l. BringsShelves l first.shelves q.shelves) (append-nil (marked items marks)) (brings_both (marked items marks) [] first.shelves p.shelves q.shelves g.brought b)
+        subst (λ l. BringsShelves l first.shelves q.shelves) (append-nil (marked items marks))
+        (brings_both (marked items marks) [] first.shelves p.shelves q.shelves g.brought b)
 
     pub grown_on : AreGrown first q
     grown_on = grown_both first p q g.grown grown
 
-    all_still : (xs : List Item) (came : List Item) → BringsShelves came p.shelves q.shelves → AllByRecursion (λ x. IsSome (place_of p.shelves x)) xs
+    all_still : (xs : List Item) (came : List Item) → BringsShelves came p.shelves q.shelves
+        → AllByRecursion (λ x. IsSome (place_of p.shelves x)) xs
         → AllByRecursion (λ x. IsSome (place_of q.shelves x)) xs
     all_still [] came b a = tt
     all_still (x ∷ xs) came b a = (there_still came p.shelves q.shelves b x a.0, all_still xs came b a.1)
@@ -147,7 +154,8 @@ module _ (items : List Item) (first : Parts) where
           (brings_both (marked items marks) (cond came (x ∷ []) []) first.shelves p.shelves q.shelves g.brought b));
       there = subst (λ l. AllByRecursion (λ x. IsSome (place_of q.shelves x)) l)
           (ap (λ y. take i items ++ y ∷ []) (sym is) ∙ sym (take-suc items i x h) ∙ ap (λ n. take n items) (sym (add-one i)))
-          (all_snoc (λ x. IsSome (place_of q.shelves x)) (take i items) x (all_still (take i items) (cond came (x ∷ []) []) b g.there) there);
+          (all_snoc (λ x. IsSome (place_of q.shelves x)) (take i items) x
+          (all_still (take i items) (cond came (x ∷ []) []) b g.there) there);
     }
       where
         one_longer : (ms : List Bool) (m : Bool) → length (ms ++ m ∷ []) ≡ length ms + 1
@@ -156,8 +164,10 @@ module _ (items : List Item) (first : Parts) where
 
         one_mark : marked items (marks ++ came ∷ []) ≡ marked items marks ++ cond came (x ∷ []) []
         one_mark =
-            marked_more items marks came x (omega (arith, h, g.long)) ∙ ap (λ n. marked items marks ++ cond came (get_or items n x ∷ []) []) g.long
+            marked_more items marks came x (omega (arith, h, g.long))
+            ∙ ap (λ n. marked items marks ++ cond came (get_or items n x ∷ []) []) g.long
             ∙ ap (λ y. marked items marks ++ cond came (y ∷ []) []) is
 
-  pub placed_there : (p : Parts) (marks : List Bool) (i : ℕ) → length items ≤ i → Placing p marks i → AllByRecursion (λ x. IsSome (place_of p.shelves x)) items
+  pub placed_there : (p : Parts) (marks : List Bool) (i : ℕ) → length items ≤ i → Placing p marks i
+      → AllByRecursion (λ x. IsSome (place_of p.shelves x)) items
   placed_there p marks i h g = subst (λ l. AllByRecursion (λ x. IsSome (place_of p.shelves x)) l) (take_all i items h) g.there

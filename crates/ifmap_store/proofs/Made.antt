@@ -26,17 +26,22 @@ use Rattle.ifmap_store.specs.Waits.{AreWaited, times_in, waits_on}
 use Rattle.ifmap_store.proofs.Brought.{other_absent, some_place}
 
 -- the items of changes that fit are such as elements mean
-pub all_canon : (rows : List Attachment) (changes : List ItemChange) → AllByRecursion (FitsItem rows) changes → AllByRecursion IsCanonItem (items_of changes)
+pub all_canon : (rows : List Attachment) (changes : List ItemChange) → AllByRecursion (FitsItem rows) changes
+    → AllByRecursion IsCanonItem (items_of changes)
 all_canon rows [] a = tt
 all_canon rows (c ∷ cs) a = (a.0.canon, all_canon rows cs a.1)
 
 -- where nothing is drafted, no way is named
-pub none_ready : (ways : List (ℕ × List LinkSeen)) (links : List (Sides LinkSeen)) → ways ≡ [] → ((v : ℕ) → (sides_at links v).draft ≡ None) → AreReady ways links
+pub none_ready : (ways : List (ℕ × List LinkSeen)) (links : List (Sides LinkSeen)) → ways ≡ [] → ((v : ℕ) → (sides_at links v).draft ≡ None)
+    → AreReady ways links
 none_ready ways links e none = subst (λ w. AreReady w links) (sym e) (record { drafted = tt; no_others = λ v. inl (none v) })
 
-pub made_by : (changes : List ItemChange) (ways : List (ℕ × List LinkSeen)) (items : List Item) (first old : Parts) (t : Shelves) (links : List (Sides LinkSeen))
-    → AreGrown first old → BringsShelves items first.shelves old.shelves → AreInside (parts_of old.names t links) → rows_of now t ≡ rows_of now old.shelves
-    → IsAfter changes (rows_of now old.shelves) (rows_of next t) → AreOut (items_of changes) t → AreReady ways links → KeepsLinks old.links links
+pub made_by : (changes : List ItemChange) (ways : List (ℕ × List LinkSeen)) (items : List Item) (first old : Parts) (t : Shelves)
+    (links : List (Sides LinkSeen))
+    → AreGrown first old → BringsShelves items first.shelves old.shelves → AreInside (parts_of old.names t links)
+    → rows_of now t ≡ rows_of now old.shelves
+    → IsAfter changes (rows_of now old.shelves) (rows_of next t) → AreOut (items_of changes) t → AreReady ways links
+    → KeepsLinks old.links links
     → ((at : ℕ) → ends_at t at ≡ ends_at old.shelves at) → t.places ≡ old.shelves.places
     → ((rest : List Item) → AreWaited rest (waits_on old.shelves) → AreWaited (items_of changes ++ rest) (waits_on t))
     → IsMade changes ways first (parts_of old.names t links)
@@ -64,18 +69,22 @@ module _ (one two mid : Holdings Identifier) (first : IsPool identifier_order on
   held_once : (v : ℕ) (a : Identifier) (n : ℕ) → Names identifier_order one v a → IsHeld identifier_order one a n → 0 < n
   held_once v a n m (inl h) =
       let same : holds_at one v ≡ n = ap (holds_at one) (first.one_to_one v h.0 a m h.1) ∙ h.2
-      in let some : 0 < holds_at one v = first.held v (subst (λ (o : Option (Identifier × ℕ)). IsSome o) (sym m.1) refl) in omega (arith, same, some)
+      in let some : 0 < holds_at one v
+      = first.held v (subst (λ (o : Option (Identifier × ℕ)). IsSome o) (sym m.1) refl) in omega (arith, same, some)
   held_once v a n m (inr h) = absurd (h.0 v m)
 
-  named_by : (v : ℕ) (a : Identifier) (n : ℕ) → Names identifier_order one v a → 0 < n → IsHeld identifier_order two a n → Names identifier_order two v a
+  named_by : (v : ℕ) (a : Identifier) (n : ℕ) → Names identifier_order one v a → 0 < n → IsHeld identifier_order two a n
+      → Names identifier_order two v a
   named_by v a n m some (inl h) = subst (λ k. Names identifier_order two k a) (between.one_to_one h.0 v a (into h.0 a h.1) (from v a m)) h.1
   named_by v a n m some (inr h) = absurd (omega (arith, some, h.1))
 
   pub same_names : (v : ℕ) (a : Identifier) → Names identifier_order one v a → Names identifier_order two v a
   same_names v a m = let c = counts a in named_by v a c.0 m (held_once v a c.0 m c.1) c.2
 
-pub unmade_by : (first : Parts) (mid left : Holdings Identifier) (t : Shelves) (links : List (Sides LinkSeen)) → AreInside first → IsPool identifier_order mid
-    → AreInside (parts_of left t links) → AreBare t → ((v : ℕ) → (sides_at links v).draft ≡ None) → rows_of now t ≡ rows_of now first.shelves
+pub unmade_by : (first : Parts) (mid left : Holdings Identifier) (t : Shelves) (links : List (Sides LinkSeen)) → AreInside first
+    → IsPool identifier_order mid
+    → AreInside (parts_of left t links) → AreBare t → ((v : ℕ) → (sides_at links v).draft ≡ None)
+    → rows_of now t ≡ rows_of now first.shelves
     → ((v : ℕ) → (sides_at links v).now ≡ (sides_at first.links v).now) → length first.links ≤ length links
     → ((a : Identifier) (own : ℕ) → HasOwn first a own → HasOwn (parts_of left t links) a own) → BringsShelves [] first.shelves t
     → ((v : ℕ) (a : Identifier) → Names identifier_order first.names v a → Names identifier_order mid v a)

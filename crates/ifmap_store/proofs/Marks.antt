@@ -51,7 +51,8 @@ module _ (items : List Item) (marks : List Bool) (names : Holdings Identifier) (
   pub record Taking (left : Holdings Identifier) (s : Shelves) (i : ℕ) : Type 0 where
     pub less : IsLess names left first s
     pub apart : IsDistinct same_item (drop i items)
-    pub brought : (origin : Shelves) → BringsShelves (marked items marks) origin first → BringsShelves (marked (drop i items) (drop i marks)) origin s
+    pub brought : (origin : Shelves) → BringsShelves (marked items marks) origin first
+        → BringsShelves (marked (drop i items) (drop i marks)) origin s
 
   pub taking : IsDistinct same_item items → Taking names first 0
   taking apart = record { less = less_itself names first; apart = apart; brought = λ origin b. b }
@@ -59,7 +60,8 @@ module _ (items : List Item) (marks : List Bool) (names : Holdings Identifier) (
   module _ (left : Holdings Identifier) (s : Shelves) (i : ℕ) (x : Item) (came : Bool) (here : drop i items ≡ x ∷ drop (i + 1) items)
       (mark : drop i marks ≡ came ∷ drop (i + 1) marks) (g : Taking left s i) where
     left_of : (origin : Shelves) → BringsShelves (marked items marks) origin first
-        → BringsShelves (cond came (x ∷ marked (drop (i + 1) items) (drop (i + 1) marks)) (marked (drop (i + 1) items) (drop (i + 1) marks))) origin s
+        → BringsShelves (cond came (x ∷ marked (drop (i + 1) items) (drop (i + 1) marks))
+        (marked (drop (i + 1) items) (drop (i + 1) marks))) origin s
     left_of origin b =
         subst (λ l. BringsShelves (marked l (came ∷ drop (i + 1) marks)) origin s) here
         (subst (λ l. BringsShelves (marked (drop i items) l) origin s) mark (g.brought origin b))
@@ -67,17 +69,20 @@ module _ (items : List Item) (marks : List Bool) (names : Holdings Identifier) (
     came_here : (origin : Shelves) → BringsShelves (marked items marks) origin first → came ≡ true
         → BringsShelves (x ∷ marked (drop (i + 1) items) (drop (i + 1) marks)) origin s
     came_here origin b t =
-        subst (λ c. BringsShelves (cond c (x ∷ marked (drop (i + 1) items) (drop (i + 1) marks)) (marked (drop (i + 1) items) (drop (i + 1) marks))) origin s) t
+        subst (λ c. BringsShelves (cond c (x ∷ marked (drop (i + 1) items) (drop (i + 1) marks))
+        (marked (drop (i + 1) items) (drop (i + 1) marks))) origin s) t
         (left_of origin b)
 
     -- the shelf that goes is empty, and nobody waits for it
     pub takes_empty : (links : List (Sides LinkSeen)) → IsInside names (get first.slots) first.places.entries links → AreBare first
-        → (origin : Shelves) → rows_of now origin ≡ rows_of now first → BringsShelves (marked items marks) origin first → came ≡ true → IsBare s x
+        → (origin : Shelves) → rows_of now origin ≡ rows_of now first → BringsShelves (marked items marks) origin first → came ≡ true
+        → IsBare s x
     takes_empty links is bare origin rows b t =
         let p = came_here origin b t
         in let at = some_of (place_of s x) p.there.0
         in is_bare s x at.0 (g.less.inside links is).placed (g.less.bare bare) at.1
-        (ap (stored_on x) (g.less.rows ∙ sym rows) ∙ sym (absent (λ n. list_at now (get origin.slots n)) x origin.places.entries p.absent.0))
+        (ap (stored_on x) (g.less.rows ∙ sym rows)
+        ∙ sym (absent (λ n. list_at now (get origin.slots n)) x origin.places.entries p.absent.0))
 
     pub takes_idle : (origin : Shelves) → BringsShelves (marked items marks) origin first → came ≡ true → waits_on s x ≡ 0
     takes_idle origin b t = let p = came_here origin b t in p.waits x ∙ never_waited origin x p.absent.0
@@ -85,8 +90,11 @@ module _ (items : List Item) (marks : List Bool) (names : Holdings Identifier) (
     apart_here : AllByRecursion (λ y. same_item x y ≡ false) (drop (i + 1) items) × IsDistinct same_item (drop (i + 1) items)
     apart_here = apart_parts x (drop (i + 1) items) (subst (λ l. IsDistinct same_item l) here g.apart)
 
-    module _ (later : Holdings Identifier) (t : Shelves) (less : IsLess left later s t) (taken : BringsShelves (cond came (x ∷ []) []) t s) where
-      goes_by : (c : Bool) (origin : Shelves) → BringsShelves (cond c (x ∷ marked (drop (i + 1) items) (drop (i + 1) marks)) (marked (drop (i + 1) items) (drop (i + 1) marks))) origin s
+    module _ (later : Holdings Identifier) (t : Shelves) (less : IsLess left later s t)
+        (taken : BringsShelves (cond came (x ∷ []) []) t s) where
+      goes_by : (c : Bool) (origin : Shelves)
+          → BringsShelves (cond c (x ∷ marked (drop (i + 1) items) (drop (i + 1) marks)) (marked (drop (i + 1) items) (drop (i + 1) marks)))
+          origin s
           → BringsShelves (cond c (x ∷ []) []) t s → BringsShelves (marked (drop (i + 1) items) (drop (i + 1) marks)) origin t
       goes_by true origin p q =
           brings_less x (marked (drop (i + 1) items) (drop (i + 1) marks)) origin t s p q

@@ -36,10 +36,12 @@ same_test i x y e = sym (ties i y) ∙ ap is_eq (items_total.congr i x y e) ∙ 
 pub stored_tied : (i x : Item) (rows : List Attachment) → item_order i x ≡ Equal → stored_on i rows ≡ stored_on x rows
 stored_tied i x [] e = refl
 stored_tied i x (r ∷ rs) e =
-    ap (λ b. map (λ (a : Attachment). a.stored) (cond b (r ∷ filter (λ a. same_item a.item i) rs) (filter (λ a. same_item a.item i) rs))) (same_test i x r.item e)
+    ap (λ b. map (λ (a : Attachment). a.stored) (cond b (r ∷ filter (λ a. same_item a.item i) rs) (filter (λ a. same_item a.item i) rs)))
+    (same_test i x r.item e)
     ∙ by (same_item r.item x) (stored_tied i x rs e)
   where
-    by : (b : Bool) → stored_on i rs ≡ stored_on x rs → map (λ (a : Attachment). a.stored) (cond b (r ∷ filter (λ a. same_item a.item i) rs) (filter (λ a. same_item a.item i) rs))
+    by : (b : Bool) → stored_on i rs ≡ stored_on x rs
+        → map (λ (a : Attachment). a.stored) (cond b (r ∷ filter (λ a. same_item a.item i) rs) (filter (λ a. same_item a.item i) rs))
         ≡ map (λ (a : Attachment). a.stored) (cond b (r ∷ filter (λ a. same_item a.item x) rs) (filter (λ a. same_item a.item x) rs))
     by true rest = ap (λ l. r.stored ∷ l) rest
     by false rest = rest
@@ -51,7 +53,8 @@ tied_both i j x a b =
     in let two : item_order j x ≡ Equal = equal_is (item_order j x) (sym (items_tie j x) ∙ b)
     in items_tie i j ∙ ap is_eq (items_total.congr i x j one ∙ turned_tie j x two)
 
-no_change : (i x : Item) (changes : List ItemChange) → is_at (item_order i) x ≡ true → AllByRecursion (λ y. same_item i y ≡ false) (items_of changes)
+no_change : (i x : Item) (changes : List ItemChange) → is_at (item_order i) x ≡ true
+    → AllByRecursion (λ y. same_item i y ≡ false) (items_of changes)
     → change_of changes x ≡ None
 no_change i x [] t a = refl
 no_change i x (c ∷ cs) t a = elim (cases_Bool (same_item c.item x)) [
@@ -84,11 +87,13 @@ mapped_all P f (x ∷ xs) a = (a.0, mapped_all P f xs a.1)
 -- no shelf has a draft where all are bare
 pub bare_none : (s : Shelves) → AreBare s → (x : Item) → HasDraft s x → ⊥
 bare_none s bare x d =
-    let n : NoDraft (Some d.1) = subst NoDraft d.3 (live_at (λ at. NoDraft (get s.slots at)) (is_at (item_order x)) s.places.entries d.0 bare d.2)
+    let n : NoDraft (Some d.1) = subst NoDraft d.3
+    (live_at (λ at. NoDraft (get s.slots at)) (is_at (item_order x)) s.places.entries d.0 bare d.2)
     in let q : IsSome {T = List Stored} None = subst (λ (o : Option (List Stored)). IsSome o) n d.4 in cc
 
 -- what is stored after one change, of those that are left
-step_of : (c : ItemChange) (rest : List ItemChange) (x : Item) (was here later : List Stored) → AllByRecursion (λ y. same_item c.item y ≡ false) (items_of rest)
+step_of : (c : ItemChange) (rest : List ItemChange) (x : Item) (was here later : List Stored)
+    → AllByRecursion (λ y. same_item c.item y ≡ false) (items_of rest)
     → later ≡ cond (is_at (item_order c.item) x) (next_on c.removed c.added here) was → (is_at (item_order c.item) x ≡ true → was ≡ here)
     → after_on rest x later ≡ after_on (c ∷ rest) x was
 step_of c rest x was here later apart e same = elim (cases_Bool (is_at (item_order c.item) x)) [
@@ -108,7 +113,8 @@ module _ (changes : List ItemChange) (first : Shelves) where
     pub within : DraftsWithin (items_of changes) s
     pub apart : IsDistinct same_item (items_of (drop i changes))
     pub fresh : AllByRecursion (λ x. stored_on x (rows_of next s) ≡ stored_on x (rows_of now first)) (items_of (drop i changes))
-    pub left : (x : Item) → after_on (drop i changes) x (stored_on x (rows_of next s)) ≡ after_on changes x (stored_on x (rows_of now first))
+    pub left : (x : Item) → after_on (drop i changes) x (stored_on x (rows_of next s)) ≡ after_on changes x
+        (stored_on x (rows_of now first))
     pub ends : (at : ℕ) → ends_at s at ≡ ends_at first at
     pub waits : (x : Item) → waits_on s x ≡ waits_on first x
     pub places : s.places ≡ first.places
@@ -143,16 +149,23 @@ module _ (changes : List ItemChange) (first : Shelves) where
     pub fits_at : Fits (rows_of now first) changes → FitsItem (rows_of now first) c
     fits_at fits = subst (FitsItem (rows_of now first)) (sym is) (all_at_place (FitsItem (rows_of now first)) changes i c h fits.each)
 
-    pub within_on : (t : Shelves) → ((x : Item) → HasDraft t x → HasDraft s x ⊎ (is_at (item_order c.item) x ≡ true)) → DraftsWithin (items_of changes) t
+    pub within_on : (t : Shelves) → ((x : Item) → HasDraft t x → HasDraft s x ⊎ (is_at (item_order c.item) x ≡ true))
+        → DraftsWithin (items_of changes) t
     within_on t drafts x d = elim (drafts x d) [
       | inl old ↦ g.within x old
-      | inr tie ↦ (c.item, subst (λ (y : ItemChange). Has (items_of changes) y.item) (sym is) (has_at changes i c h), equal_is (item_order c.item x) tie)
+      | inr tie ↦ (
+        c.item,
+        subst (λ (y : ItemChange). Has (items_of changes) y.item) (sym is) (has_at changes i c h),
+        equal_is
+            (item_order c.item x) tie,
+      )
     ]
 
     here : drop i changes ≡ c ∷ drop (i + 1) changes
     here = drop-cons changes i c h ∙ ap (λ x. x ∷ drop (suc i) changes) (sym is) ∙ ap (λ n. c ∷ drop n changes) (sym (add-one i))
 
-    apart_here : AllByRecursion (λ y. same_item c.item y ≡ false) (items_of (drop (i + 1) changes)) × IsDistinct same_item (items_of (drop (i + 1) changes))
+    apart_here : AllByRecursion (λ y. same_item c.item y ≡ false) (items_of (drop (i + 1) changes))
+        × IsDistinct same_item (items_of (drop (i + 1) changes))
     apart_here = apart_parts c.item (items_of (drop (i + 1) changes)) (subst (λ l. IsDistinct same_item (items_of l)) here g.apart)
 
     fresh_here : AllByRecursion (λ x. stored_on x (rows_of next s) ≡ stored_on x (rows_of now first)) (items_of (c ∷ drop (i + 1) changes))
@@ -161,7 +174,8 @@ module _ (changes : List ItemChange) (first : Shelves) where
     module _ (t : Shelves) (shelved : AreShelved t) (same : rows_of now t ≡ rows_of now s)
         (shows : (x : Item) → stored_on x (rows_of next t)
         ≡ cond (is_at (item_order c.item) x) (next_on c.removed c.added (stored_on c.item (rows_of now s))) (stored_on x (rows_of next s)))
-        (drafts : (x : Item) → HasDraft t x → HasDraft s x ⊎ (is_at (item_order c.item) x ≡ true)) (kept : (x : Item) → HasDraft s x → HasDraft t x)
+        (drafts : (x : Item) → HasDraft t x → HasDraft s x ⊎ (is_at (item_order c.item) x ≡ true))
+        (kept : (x : Item) → HasDraft s x → HasDraft t x)
         (there : HasDraft t c.item) (ends : (at : ℕ) → ends_at t at ≡ ends_at s at) (waits : (x : Item) → waits_on t x ≡ waits_on s x)
         (places : t.places ≡ s.places) where
       still_fresh : (xs : List Item) → AllByRecursion (λ y. same_item c.item y ≡ false) xs
@@ -170,7 +184,8 @@ module _ (changes : List ItemChange) (first : Shelves) where
       still_fresh [] a b = tt
       still_fresh (x ∷ xs) a b = (
         shows x
-            ∙ ap (λ b. cond b (next_on c.removed c.added (stored_on c.item (rows_of now s))) (stored_on x (rows_of next s))) (sym (items_tie c.item x) ∙ a.0) ∙ b.0,
+            ∙ ap (λ b. cond b (next_on c.removed c.added (stored_on c.item (rows_of now s))) (stored_on x (rows_of next s)))
+            (sym (items_tie c.item x) ∙ a.0) ∙ b.0,
         still_fresh xs a.1 b.1,
       )
 
@@ -181,14 +196,17 @@ module _ (changes : List ItemChange) (first : Shelves) where
         drafted = subst (λ l. AllByRecursion (HasDraft t) (items_of l))
             (ap (λ x. take i changes ++ x ∷ []) is ∙ sym (take-suc changes i c h) ∙ ap (λ n. take n changes) (sym (add-one i)))
             (subst (AllByRecursion (HasDraft t)) (sym (map_snoc (take i changes) c))
-            (all_snoc (HasDraft t) (items_of (take i changes)) c.item (all_given (HasDraft s) (HasDraft t) (items_of (take i changes)) kept g.drafted) there));
+            (all_snoc (HasDraft t) (items_of (take i changes)) c.item
+            (all_given (HasDraft s) (HasDraft t) (items_of (take i changes)) kept g.drafted) there));
         within = within_on t drafts;
         apart = apart_here.1;
         fresh = still_fresh (items_of (drop (i + 1) changes)) apart_here.0 fresh_here.1;
         left = λ x.
-            step_of c (drop (i + 1) changes) x (stored_on x (rows_of next s)) (stored_on c.item (rows_of now s)) (stored_on x (rows_of next t)) apart_here.0
+            step_of c (drop (i + 1) changes) x (stored_on x (rows_of next s)) (stored_on c.item (rows_of now s))
+            (stored_on x (rows_of next t)) apart_here.0
             (shows x)
-            (λ t. sym (stored_tied c.item x (rows_of next s) (equal_is (item_order c.item x) t)) ∙ fresh_here.0 ∙ sym (ap (stored_on c.item) g.same))
+            (λ t. sym (stored_tied c.item x (rows_of next s) (equal_is (item_order c.item x) t)) ∙ fresh_here.0
+            ∙ sym (ap (stored_on c.item) g.same))
             ∙ sym (ap (λ l. after_on l x (stored_on x (rows_of next s))) here) ∙ g.left x;
         ends = λ at. ends at ∙ g.ends at;
         waits = λ x. waits x ∙ g.waits x;

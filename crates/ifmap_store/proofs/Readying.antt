@@ -21,7 +21,8 @@ module _ {T : Type 0} where
     | inl p ↦ absurd (bare_not _ (ap (λ x. x.draft) p.1) s)
     | inr p ↦ elim (at_set xs w v (accepted (sides_at xs w)) k) [
       | inl q ↦ absurd (p.0 q.0)
-      | inr q ↦ subst (λ (o : Option (List T)). IsSome o) (sym (ap (λ x. x.draft) q.1)) (f (subst (λ (o : Option (List T)). IsSome o) (ap (λ x. x.draft) p.1) s))
+      | inr q ↦ subst (λ (o : Option (List T)). IsSome o) (sym (ap (λ x. x.draft) q.1))
+          (f (subst (λ (o : Option (List T)). IsSome o) (ap (λ x. x.draft) p.1) s))
     ]
   ]
 
@@ -89,7 +90,8 @@ module _ {T : Type 0} where
   named_within [] ls d v n = absurd n
   named_within (w ∷ ws) ls d v (inl e) = subst (λ n. n < length ls) e d.0
   named_within (w ∷ ws) ls d v (inr n) =
-      subst (λ n. v < n) (length-set ls w.0 (accepted (sides_at ls w.0))) (named_within ws (set ls w.0 (accepted (sides_at ls w.0))) d.2 v n)
+      subst (λ n. v < n) (length-set ls w.0 (accepted (sides_at ls w.0)))
+      (named_within ws (set ls w.0 (accepted (sides_at ls w.0))) d.2 v n)
 
 -- a draft comes at a place that had none
 pub ready_more : (ways : List (ℕ × List LinkSeen)) (ls xs : List (Sides LinkSeen)) (place : ℕ) → AreReady ways ls → KeepsLinks ls xs
@@ -97,13 +99,15 @@ pub ready_more : (ways : List (ℕ × List LinkSeen)) (ls xs : List (Sides LinkS
     → IsSome (sides_at xs place).draft → AreReady (ways ++ (place, []) ∷ []) xs
 ready_more ways ls xs place r k f none within has = record {
   drafted = drafted_more ways ls xs place [] k.long
-      (λ v n s. subst (λ (x : Sides LinkSeen). IsSome x.draft) (sym (f v n)) s) none (subst (λ n. place < n) (sym k.long) within) has r.drafted;
+      (λ v n s. subst (λ (x : Sides LinkSeen). IsSome x.draft) (sym (f v n)) s) none
+      (subst (λ n. place < n) (sym k.long) within) has r.drafted;
   no_others = others_more ways ls xs place [] f r.no_others;
 }
 
 -- the draft at a place that has one changes
 pub ready_still : (ways : List (ℕ × List LinkSeen)) (ls xs : List (Sides LinkSeen)) (place : ℕ) → AreReady ways ls → KeepsLinks ls xs
-    → ((v : ℕ) → v ≢ place → sides_at xs v ≡ sides_at ls v) → IsSome (sides_at ls place).draft → IsSome (sides_at xs place).draft → AreReady ways xs
+    → ((v : ℕ) → v ≢ place → sides_at xs v ≡ sides_at ls v) → IsSome (sides_at ls place).draft → IsSome (sides_at xs place).draft
+    → AreReady ways xs
 ready_still ways ls xs place r k f had has = record {
   drafted = drafted_still ways ls xs k.long (λ v s. elim (cases_eq v place) [
     | inl e ↦ subst (λ n. IsSome (sides_at xs n).draft) (sym e) has
@@ -134,13 +138,16 @@ named_here [] i w h = absurd (omega (arith, h))
 named_here (x ∷ xs) zero w h = inl refl
 named_here (x ∷ xs) (suc i) w h = inr (named_here xs i w (omega (arith, h)))
 
-pub drops_within : (first : List (Sides LinkSeen)) (ways : List (ℕ × List LinkSeen)) (links : List (Sides LinkSeen)) (i : ℕ) (w : ℕ × List LinkSeen) → AreReady ways first
+pub drops_within : (first : List (Sides LinkSeen)) (ways : List (ℕ × List LinkSeen)) (links : List (Sides LinkSeen)) (i : ℕ)
+    (w : ℕ × List LinkSeen) → AreReady ways first
     → Dropping first ways links i → i < length ways → w ≡ get_or ways i w → w.0 < length links
 drops_within first ways links i w r d h e =
     subst (λ n. w.0 < n) (sym d.kept.long)
-    (subst (λ (x : ℕ × List LinkSeen). x.0 < length first) (sym e) (named_within ways first r.drafted (get_or ways i w).0 (named_here ways i w h)))
+    (subst (λ (x : ℕ × List LinkSeen). x.0 < length first) (sym e)
+    (named_within ways first r.drafted (get_or ways i w).0 (named_here ways i w h)))
 
-pub drops_on : (first : List (Sides LinkSeen)) (ways : List (ℕ × List LinkSeen)) (links later : List (Sides LinkSeen)) (i : ℕ) (w : ℕ × List LinkSeen)
+pub drops_on : (first : List (Sides LinkSeen)) (ways : List (ℕ × List LinkSeen)) (links later : List (Sides LinkSeen)) (i : ℕ)
+    (w : ℕ × List LinkSeen)
     → Dropping first ways links i → i < length ways → w ≡ get_or ways i w → KeepsLinks links later
     → ((v : ℕ) → v ≢ w.0 → sides_at later v ≡ sides_at links v) → (sides_at later w.0).draft ≡ None → Dropping first ways later (i + 1)
 drops_on first ways links later i w d h e kept others gone = record {
@@ -160,7 +167,8 @@ drops_on first ways links later i w d h e kept others gone = record {
     here : drop i ways ≡ w ∷ drop (i + 1) ways
     here = drop-cons ways i w h ∙ ap (λ x. x ∷ drop (suc i) ways) (sym e) ∙ ap (λ n. w ∷ drop n ways) (sym (add-one i))
 
-pub dropped : (first : List (Sides LinkSeen)) (ways : List (ℕ × List LinkSeen)) (links : List (Sides LinkSeen)) (i : ℕ) → Dropping first ways links i → length ways ≤ i
+pub dropped : (first : List (Sides LinkSeen)) (ways : List (ℕ × List LinkSeen)) (links : List (Sides LinkSeen)) (i : ℕ)
+    → Dropping first ways links i → length ways ≤ i
     → (v : ℕ) → (sides_at links v).draft ≡ None
 dropped first ways links i d h v = elim (d.left v) [
   | inl q ↦ q
@@ -168,7 +176,8 @@ dropped first ways links i d h v = elim (d.left v) [
 ]
 
 -- a list at a place changes its draft alone
-pub set_keeps : (ls : List (Sides LinkSeen)) (place : ℕ) (s : Sides LinkSeen) → place < length ls → s.now ≡ (sides_at ls place).now → KeepsLinks ls (set ls place s)
+pub set_keeps : (ls : List (Sides LinkSeen)) (place : ℕ) (s : Sides LinkSeen) → place < length ls → s.now ≡ (sides_at ls place).now
+    → KeepsLinks ls (set ls place s)
 set_keeps ls place s h e = record {
   now = λ v. elim (at_set ls place v s h) [
     | inl p ↦ ap (λ x. x.now) p.1 ∙ e ∙ ap (λ n. (sides_at ls n).now) p.0
@@ -177,7 +186,8 @@ set_keeps ls place s h e = record {
   long = length-set ls place s;
 }
 
-set_others : (ls : List (Sides LinkSeen)) (place : ℕ) (s : Sides LinkSeen) → place < length ls → (v : ℕ) → v ≢ place → sides_at (set ls place s) v ≡ sides_at ls v
+set_others : (ls : List (Sides LinkSeen)) (place : ℕ) (s : Sides LinkSeen) → place < length ls → (v : ℕ) → v ≢ place
+    → sides_at (set ls place s) v ≡ sides_at ls v
 set_others ls place s h v n = elim (at_set ls place v s h) [
   | inl p ↦ absurd (n (sym p.0))
   | inr p ↦ p.1
@@ -190,7 +200,8 @@ set_there ls place s h = elim (at_set ls place place s h) [
 ]
 
 pub set_ready : (ls : List (Sides LinkSeen)) (place : ℕ) (s : Sides LinkSeen) → place < length ls → s.now ≡ (sides_at ls place).now
-    → IsSome (sides_at ls place).draft → IsSome s.draft → (ways : List (ℕ × List LinkSeen)) → AreReady ways ls → AreReady ways (set ls place s)
+    → IsSome (sides_at ls place).draft → IsSome s.draft → (ways : List (ℕ × List LinkSeen)) → AreReady ways ls
+    → AreReady ways (set ls place s)
 set_ready ls place s h e had has ways r =
     ready_still ways ls (set ls place s) place r (set_keeps ls place s h e) (set_others ls place s h) had
     (subst (λ (x : Sides LinkSeen). IsSome x.draft) (sym (set_there ls place s h)) has)

@@ -39,7 +39,8 @@ use Rattle.ifmap_store.proofs.Own.{key_kept}
 use Rattle.ifmap_store.proofs.Settled.{bare_to, ends_shown, ends_there, held_of, waited_from, waited_to, waits_shown}
 use Rattle.ifmap_store.proofs.Waited.{times_append}
 
-all_shown : (s : Shelves) (xs : List Item) → AllByRecursion (HasDraft s) xs → AllByRecursion (IsDrafted (shown (get s.slots) s.places.entries)) xs
+all_shown : (s : Shelves) (xs : List Item) → AllByRecursion (HasDraft s) xs
+    → AllByRecursion (IsDrafted (shown (get s.slots) s.places.entries)) xs
 all_shown s [] a = tt
 all_shown s (x ∷ xs) a = (to_shown s x a.0, all_shown s xs a.1)
 
@@ -73,9 +74,11 @@ module _ (names later : Holdings Identifier) (s t : Shelves) (links moved : List
           ends_shown later t moved x ∙ ap (ends_there t) p.0 ∙ p.1 ∙ sym (ap (ends_there s) e) ∙ sym (ends_shown names s links x),
         )
 
-    full_there : (x : Item) (o : Option ℕ) → place_of s x ≡ o → stored_on x (rows_now (held_of names s links)) ≢ [] → IsThere (held_of names s links) (held_of later t moved) x
+    full_there : (x : Item) (o : Option ℕ) → place_of s x ≡ o → stored_on x (rows_now (held_of names s links)) ≢ []
+        → IsThere (held_of names s links) (held_of later t moved) x
     full_there x None e n =
-        absurd (n (ap (stored_on x) (rows_shown now (get s.slots) s.places.entries) ∙ sym (absent (λ at. list_at now (get s.slots at)) x s.places.entries e)))
+        absurd (n (ap (stored_on x) (rows_shown now (get s.slots) s.places.entries)
+        ∙ sym (absent (λ at. list_at now (get s.slots at)) x s.places.entries e)))
     full_there x (Some at) e n = there x at e
 
     stay : StayPlaced (held_of names s links) (held_of later t moved)
@@ -87,7 +90,8 @@ module _ (names later : Holdings Identifier) (s t : Shelves) (links moved : List
     }
 
   -- the change is out
-  module _ (changes : List ItemChange) (ways : List (ℕ × List LinkSeen)) (made : IsMade changes ways (parts_of names s links) (parts_of later t moved)) where
+  module _ (changes : List ItemChange) (ways : List (ℕ × List LinkSeen))
+      (made : IsMade changes ways (parts_of names s links) (parts_of later t moved)) where
     pub made_now : rows_now (held_of later t moved) ≡ rows_now (held_of names s links)
     made_now = rows_same made.rows
 
@@ -111,9 +115,11 @@ module _ (names later : Holdings Identifier) (s t : Shelves) (links moved : List
     pub made_numbers : Tells → AreIdentifiers names → KeepsNumbers (held_of names s links) (held_of later t moved)
     made_numbers tells keys = key_kept names later made.kept tells keys made.inside.keys
 
-    pub made_out : (ready : Ready) → ready.plan.changes ≡ changes → length ready.lists ≡ length changes → ready.ways ≡ ways → IsOut ready (held_of later t moved)
+    pub made_out : (ready : Ready) → ready.plan.changes ≡ changes → length ready.lists ≡ length changes → ready.ways ≡ ways
+        → IsOut ready (held_of later t moved)
     made_out ready plan lists way = record {
-      drafted = subst (λ l. AllByRecursion (IsDrafted (shown (get t.slots) t.places.entries)) (items_of l)) (sym plan) (all_shown t (items_of changes) made.out.drafted);
+      drafted = subst (λ l. AllByRecursion (IsDrafted (shown (get t.slots) t.places.entries)) (items_of l)) (sym plan)
+          (all_shown t (items_of changes) made.out.drafted);
       within = λ x d.
           subst (λ l. (i : Item) × Has (items_of l) i × (item_order i x ≡ Equal)) (sym plan)
           (made.out.within x (from_shown t x d));
@@ -149,7 +155,8 @@ module _ (names later : Holdings Identifier) (s t : Shelves) (links moved : List
     unmade_same tells keys = record {
       rows = unmade_now;
       links = un.links;
-      numbers = same_keys names later (key_kept names later un.kept tells keys un.inside.keys) (key_kept later names un.before tells un.inside.keys keys);
+      numbers = same_keys names later (key_kept names later un.kept tells keys un.inside.keys)
+          (key_kept later names un.before tells un.inside.keys keys);
       own = unmade_own;
       waits = unmade_waits;
     }

@@ -33,7 +33,8 @@ filter_all p (x ∷ xs) f = let t : p x ≡ true = f x (inl refl) in rw t (ap (�
 
 module _ (slots : Slab Shelf) where
   pub none_brought : (v at : ℕ) → joins slots v at ≡ false → brought slots v at ≡ None
-  none_brought v at e = nothing_seen (full_next slots at && not (full_now slots at)) at (far_of (joined (get slots at)) v) (none_is (far_of (joined (get slots at)) v) e)
+  none_brought v at e = nothing_seen (full_next slots at && not (full_now slots at)) at (far_of (joined (get slots at)) v)
+      (none_is (far_of (joined (get slots at)) v) e)
 
   nothing_brought : (v : ℕ) (touched : List ℕ) → list_any (joins slots v) touched ≡ false → filter_map (brought slots v) touched ≡ []
   nothing_brought v [] e = refl
@@ -42,26 +43,32 @@ module _ (slots : Slab Shelf) where
       in ap (λ o. cons_option o (filter_map (brought slots v) rest)) (none_brought v at p.0) ∙ nothing_brought v rest p.1
 
   -- what a draft comes to be, by whether there was one and whether the slot joins the number
-  one_touched : (v at : ℕ) (links : List LinkSeen) (touched : List ℕ) (any has : Bool) → list_any (joins slots v) touched ≡ any → joins slots v at ≡ has
-      → cond has (Some (begun slots (cond any (Some (staying slots links ++ filter_map (brought slots v) touched)) None) links ++ cons_option (brought slots v at) []))
+  one_touched : (v at : ℕ) (links : List LinkSeen) (touched : List ℕ) (any has : Bool) → list_any (joins slots v) touched ≡ any
+      → joins slots v at ≡ has
+      → cond has (Some (begun slots (cond any (Some (staying slots links ++ filter_map (brought slots v) touched)) None) links ++
+      cons_option (brought slots v at) []))
       (cond any (Some (staying slots links ++ filter_map (brought slots v) touched)) None)
       ≡ cond (any || has) (Some (staying slots links ++ (filter_map (brought slots v) touched ++ cons_option (brought slots v at) []))) None
   one_touched v at links touched true true e f =
       ap Some (append_assoc (staying slots links) (filter_map (brought slots v) touched) (cons_option (brought slots v at) []))
   one_touched v at links touched true false e f =
       ap (λ o. Some (staying slots links ++ o))
-      (sym (append-nil (filter_map (brought slots v) touched)) ∙ ap (λ o. filter_map (brought slots v) touched ++ cons_option o []) (sym (none_brought v at f)))
+      (sym (append-nil (filter_map (brought slots v) touched))
+      ∙ ap (λ o. filter_map (brought slots v) touched ++ cons_option o []) (sym (none_brought v at f)))
   one_touched v at links touched false true e f =
       ap (λ l. Some (staying slots links ++ (l ++ cons_option (brought slots v at) []))) (sym (nothing_brought v touched e))
   one_touched v at links touched false false e f = refl
 
   pub draft_more : (v : ℕ) (links : List LinkSeen) (touched : List ℕ) (i : ℕ) → i < length touched
-      → cond (joins slots v (get_or touched i 0)) (Some (begun slots (draft_of slots (take i touched) v links) links ++ cons_option (brought slots v (get_or touched i 0)) []))
+      → cond (joins slots v (get_or touched i 0))
+      (Some (begun slots (draft_of slots (take i touched) v links) links ++ cons_option (brought slots v (get_or touched i 0)) []))
       (draft_of slots (take i touched) v links)
       ≡ draft_of slots (take (i + 1) touched) v links
   draft_more v links touched i h =
-      one_touched v (get_or touched i 0) links (take i touched) (list_any (joins slots v) (take i touched)) (joins slots v (get_or touched i 0)) refl refl
-      ∙ ap (λ b. cond b (Some (staying slots links ++ (filter_map (brought slots v) (take i touched) ++ cons_option (brought slots v (get_or touched i 0)) []))) None)
+      one_touched v (get_or touched i 0) links (take i touched) (list_any (joins slots v) (take i touched))
+      (joins slots v (get_or touched i 0)) refl refl
+      ∙ ap (λ b. cond b (Some (staying slots links ++
+      (filter_map (brought slots v) (take i touched) ++ cons_option (brought slots v (get_or touched i 0)) []))) None)
       (sym (list_any_more (joins slots v) touched i 0 h))
       ∙ ap (λ l. cond (list_any (joins slots v) (take (i + 1) touched)) (Some (staying slots links ++ l)) None)
       (sym (one_more (brought slots v) 0 touched i h) ∙ ap (λ n. filter_map (brought slots v) (take n touched)) (sym (add-one i)))
@@ -79,22 +86,26 @@ module _ (slots : Slab Shelf) where
   both_touched ls mid xs at v w j n one f two g u = elim (cases_eq u v) [
     | inl e ↦ subst (λ u. (sides_at xs u).draft ≡ touched_draft slots at u (sides_at ls u)) (sym e)
         (ap (λ x. x.draft) (g v n) ∙ one
-        ∙ sym (ap (λ b. cond b (Some (begun slots (sides_at ls v).draft (sides_at ls v).now ++ cons_option (brought slots v at) [])) (sides_at ls v).draft)
+        ∙ sym (ap (λ b. cond b (Some (begun slots (sides_at ls v).draft (sides_at ls v).now ++ cons_option (brought slots v at) []))
+        (sides_at ls v).draft)
         (ap (λ o. is_some (far_of o v)) j ∙ ap is_some (far_first v w))))
     | inr a ↦ elim (cases_eq u w) [
       | inl e ↦ subst (λ u. (sides_at xs u).draft ≡ touched_draft slots at u (sides_at ls u)) (sym e)
           (two
           ∙ ap (λ (s : Sides LinkSeen). Some (begun slots s.draft s.now ++ cons_option (brought slots w at) [])) (f w (λ q. n (sym q)))
-          ∙ sym (ap (λ b. cond b (Some (begun slots (sides_at ls w).draft (sides_at ls w).now ++ cons_option (brought slots w at) [])) (sides_at ls w).draft)
+          ∙ sym (ap (λ b. cond b (Some (begun slots (sides_at ls w).draft (sides_at ls w).now ++ cons_option (brought slots w at) []))
+          (sides_at ls w).draft)
           (ap (λ o. is_some (far_of o w)) j ∙ ap is_some (far_second w v))))
       | inr b ↦ ap (λ x. x.draft) (g u b ∙ f u a)
-          ∙ sym (ap (λ t. cond t (Some (begun slots (sides_at ls u).draft (sides_at ls u).now ++ cons_option (brought slots u at) [])) (sides_at ls u).draft)
+          ∙ sym (ap (λ t. cond t (Some (begun slots (sides_at ls u).draft (sides_at ls u).now ++ cons_option (brought slots u at) []))
+          (sides_at ls u).draft)
           (ap (λ o. is_some (far_of o u)) j ∙ ap is_some (far_none v w u a b)))
     ]
   ]
 
   -- so many slots were looked at
-  pub record Touching (first : List (Sides LinkSeen)) (touched : List ℕ) (ways : List (ℕ × List LinkSeen)) (links : List (Sides LinkSeen)) (i : ℕ) : Type 0 where
+  pub record Touching (first : List (Sides LinkSeen)) (touched : List ℕ) (ways : List (ℕ × List LinkSeen)) (links : List (Sides LinkSeen))
+      (i : ℕ) : Type 0 where
     pub ready : AreReady ways links
     pub kept : KeepsLinks first links
     pub drafts : (v : ℕ) → (sides_at links v).draft ≡ draft_of slots (take i touched) v (sides_at first v).now
@@ -106,16 +117,21 @@ module _ (slots : Slab Shelf) where
   pub keeps_on : (first links later : List (Sides LinkSeen)) → KeepsLinks first links → KeepsLinks links later → KeepsLinks first later
   keeps_on first links later a b = record { now = λ v. b.now v ∙ a.now v; long = b.long ∙ a.long }
 
-  pub touches_on : (first links later : List (Sides LinkSeen)) (touched : List ℕ) (ways others : List (ℕ × List LinkSeen)) (i : ℕ) → i < length touched
+  pub touches_on : (first links later : List (Sides LinkSeen)) (touched : List ℕ) (ways others : List (ℕ × List LinkSeen)) (i : ℕ)
+      → i < length touched
       → Touching first touched ways links i → AreReady others later → KeepsLinks links later
-      → ((v : ℕ) → (sides_at later v).draft ≡ touched_draft slots (get_or touched i 0) v (sides_at links v)) → Touching first touched others later (i + 1)
+      → ((v : ℕ) → (sides_at later v).draft ≡ touched_draft slots (get_or touched i 0) v (sides_at links v))
+      → Touching first touched others later (i + 1)
   touches_on first links later touched ways others i h t ready kept drafts = record {
     ready = ready;
     kept = keeps_on first links later t.kept kept;
     drafts = λ v.
         drafts v
-        ∙ ap (λ d. cond (joins slots v (get_or touched i 0)) (Some (begun slots d (sides_at links v).now ++ cons_option (brought slots v (get_or touched i 0)) [])) d) (t.drafts v)
-        ∙ ap (λ l. cond (joins slots v (get_or touched i 0)) (Some (begun slots (draft_of slots (take i touched) v (sides_at first v).now) l ++ cons_option (brought slots v (get_or touched i 0)) []))
+        ∙ ap (λ d. cond (joins slots v (get_or touched i 0))
+        (Some (begun slots d (sides_at links v).now ++ cons_option (brought slots v (get_or touched i 0)) [])) d) (t.drafts v)
+        ∙ ap (λ l. cond (joins slots v (get_or touched i 0))
+        (Some (begun slots (draft_of slots (take i touched) v (sides_at first v).now) l ++ cons_option
+        (brought slots v (get_or touched i 0)) []))
         (draft_of slots (take i touched) v (sides_at first v).now)) (t.kept.now v)
         ∙ draft_more v (sides_at first v).now touched i h;
   }

@@ -34,7 +34,8 @@ module _ (items : List Item) (first : Shelves) where
     pub ends : (at : ℕ) → ends_at s at ≡ ends_at first at
     pub places : s.places ≡ first.places
 
-  pub waiting : AreShelved first → AllByRecursion (λ x. IsSome (place_of first x)) items → AllByRecursion (Few first) items → IsDistinct same_item items
+  pub waiting : AreShelved first → AllByRecursion (λ x. IsSome (place_of first x)) items → AllByRecursion (Few first) items
+      → IsDistinct same_item items
       → Waiting first 0
   waiting shelved there few apart = record {
     shelved = shelved;
@@ -80,7 +81,8 @@ module _ (items : List Item) (first : Shelves) where
         same = same ∙ g.same;
         other = other ∙ g.other;
         waited = λ rest a.
-            subst (λ l. AreWaited (l ++ rest) (waits_on t)) (ap (λ y. take i items ++ y ∷ []) (sym is) ∙ sym (take-suc items i x h) ∙ ap (λ n. take n items) (sym (add-one i)))
+            subst (λ l. AreWaited (l ++ rest) (waits_on t))
+            (ap (λ y. take i items ++ y ∷ []) (sym is) ∙ sym (take-suc items i x h) ∙ ap (λ n. take n items) (sym (add-one i)))
             (one_more (take i items) rest x (waits_on t) (waited (take i items ++ rest) (g.waited rest a)));
         there = (subst (AllByRecursion (λ x. IsSome (place_of first x))) here g.there).1;
         few = still_few (drop (i + 1) items) apart_here.0 (subst (AllByRecursion (Few s)) here g.few).1;
@@ -99,11 +101,14 @@ all_snoc : (P : Item → Type 0) (xs : List Item) (x : Item) → AllByRecursion 
 all_snoc P [] x a h = (h, tt)
 all_snoc P (y ∷ ys) x a h = (a.0, all_snoc P ys x a.1 h)
 
-pub few_more : (s : Shelves) (items : List Item) (i : ℕ) (x : Item) → i < length items → get_or items i x ≡ x → AllByRecursion (Few s) (take i items) → Few s x
+pub few_more : (s : Shelves) (items : List Item) (i : ℕ) (x : Item) → i < length items → get_or items i x ≡ x
+    → AllByRecursion (Few s) (take i items) → Few s x
     → AllByRecursion (Few s) (take (i + 1) items)
 few_more s items i x h is a few =
-    subst (AllByRecursion (Few s)) (ap (λ y. take i items ++ y ∷ []) (sym is) ∙ sym (take-suc items i x h) ∙ ap (λ n. take n items) (sym (add-one i)))
+    subst (AllByRecursion (Few s)) (ap (λ y. take i items ++ y ∷ []) (sym is) ∙ sym (take-suc items i x h)
+    ∙ ap (λ n. take n items) (sym (add-one i)))
     (all_snoc (Few s) (take i items) x a few)
 
-pub few_all : (s : Shelves) (items : List Item) (i : ℕ) → length items ≤ i → AllByRecursion (Few s) (take i items) → AllByRecursion (Few s) items
+pub few_all : (s : Shelves) (items : List Item) (i : ℕ) → length items ≤ i → AllByRecursion (Few s) (take i items)
+    → AllByRecursion (Few s) items
 few_all s items i h a = subst (AllByRecursion (Few s)) (take_all i items h) a

@@ -24,7 +24,8 @@ use Rattle.ifmap_store.proofs.Seeing.{seen_of, stays_there}
 use Rattle.ifmap_store.proofs.Settled.{held_of, waits_shown}
 
 module _ (names : Holdings Identifier) (s t : Shelves) (links later : List (Sides LinkSeen)) (places : t.places ≡ s.places)
-    (ends : (at : ℕ) → ends_at t at ≡ ends_at s at) (waits : (x : Item) → waits_on t x ≡ waits_on s x) (rows : rows_of now t ≡ rows_of now s)
+    (ends : (at : ℕ) → ends_at t at ≡ ends_at s at) (waits : (x : Item) → waits_on t x ≡ waits_on s x)
+    (rows : rows_of now t ≡ rows_of now s)
     (kept : KeepsLinks links later) where
   pub written_now : rows_now (held_of names t later) ≡ rows_now (held_of names s links)
   written_now = rows_shown now (get t.slots) t.places.entries ∙ rows ∙ sym (rows_shown now (get s.slots) s.places.entries)
@@ -32,7 +33,8 @@ module _ (names : Holdings Identifier) (s t : Shelves) (links later : List (Side
   pub written_own : KeepsOwn (held_of names s links) (held_of names t later)
   written_own a own h =
       let same : named_in (held_of names s links).shelves a ≡ named_in (held_of names t later).shelves a
-      = named_shown (get s.slots) s.places.entries a ∙ ap (λ p. named_in p.entries a) (sym places) ∙ sym (named_shown (get t.slots) t.places.entries a)
+      = named_shown (get s.slots) s.places.entries a ∙ ap (λ p. named_in p.entries a) (sym places)
+      ∙ sym (named_shown (get t.slots) t.places.entries a)
       in subst (λ (n : ℕ). IsHeld identifier_order names a (n + own)) same h
 
   written_waited : (x : Item) → waits_in (held_of names t later) x ≡ waits_in (held_of names s links) x
@@ -51,9 +53,11 @@ module _ (names : Holdings Identifier) (s t : Shelves) (links later : List (Side
 
   pub written_backs : KeepsBacks (held_of names s links) (held_of names t later)
   written_backs =
-      keeps_backs (held_of names s links) (held_of names t later) written_now kept.now (omega (arith, kept.long)) written_stay (λ rest a. written_waits rest a)
+      keeps_backs (held_of names s links) (held_of names t later) written_now kept.now (omega (arith, kept.long)) written_stay
+      (λ rest a. written_waits rest a)
 
 -- ways back stay beside these items, where they stay at first, and beside them then
 pub first_backs : (items : List Item) (old mid new : Held) → ((rest : List Item) → Awaits rest old → Awaits rest mid) → KeepsBacks old mid
     → KeepsOtherBacks items mid new → KeepsOtherBacks items old new
-first_backs items old mid new more one other u rows links waits b = other u rows links (more (items ++ items_of u.plan.changes) waits) (one u rows links b)
+first_backs items old mid new more one other u rows links waits b = other u rows links (more (items ++ items_of u.plan.changes) waits)
+    (one u rows links b)

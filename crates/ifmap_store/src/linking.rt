@@ -1,5 +1,5 @@
 //! The links of numbers as they are to be, once the drafts of shelves are set: those that stay, and
-//! those that come. Each slot that comes to be full or empty is looked at once for each of its numbers.
+//! those that come. Each slot that comes to be full or empty is looked at once, for each number.
 ghost use Rattle.std.specs.Prelude.{◌≡◌, ◌≢◌, ◌<◌, ◌++◌, ℕ, List, [], ◌∷◌, Some, None, IfOk, IsSome, OnOk, length};
 ghost use Rattle.std.specs.List.{cons_option, filter_map};
 ghost use Rattle.slab.specs.Slab.{get};
@@ -228,7 +228,8 @@ fn add_link(links: &mut Vec<Sided<LinkSeen>>, place: usize, seen: LinkSeen) -> R
     links[place].push_draft(seen)
 }
 
-// A slot is looked at for one of its numbers: its links have a draft, with the one that the slot brings.
+// A slot is looked at for one of its numbers, whose links get a draft: those that stay, and the one
+// that the slot brings.
 fn touch_number(
     links: &mut Vec<Sided<LinkSeen>>,
     slots: &Slab<Shelf>,
@@ -276,7 +277,8 @@ fn touch_slot(
     touch_number(links, slots, alloc, at, numbers.1 as usize, ways)
 }
 
-/// The drafts of links, where these slots come to be full or empty. Where memory runs out, some stand.
+/// The drafts of links, where these slots come to be full or empty. Where memory runs out, some
+/// stand.
 pub(crate) fn touch_slots(
     links: &mut Vec<Sided<LinkSeen>>,
     slots: &Slab<Shelf>,

@@ -14,13 +14,15 @@ use Rattle.ifmap_store.proofs.bringing.place_item.Goals as goal
 
 pub returns-in_err-make_room-clause-grown : goal.returns-in_err-make_room-clause-grown
 returns-in_err-make_room-clause-grown c =
-    grown_room c.args.names.now c.make_room.new.names c.args.shelves.now c.args.links.now.items c.make_room.new.links.items c.make_room.ensures.live
+    grown_room c.args.names.now c.make_room.new.names c.args.shelves.now c.args.links.now.items c.make_room.new.links.items
+    c.make_room.ensures.live
     c.make_room.ensures.whole c.make_room.ensures.same c.make_room.ensures.longer c.requires.inside
 
 pub place_shelf-requires-clause-inside : goal.place_shelf-requires-clause-inside
 place_shelf-requires-clause-inside c = (
   c.make_room.new.links.items,
-  roomier c.args.names.now c.make_room.new.names c.make_room.ensures.live (get c.args.shelves.now.slots) c.args.shelves.now.places.entries c.args.links.now.items
+  roomier c.args.names.now c.make_room.new.names c.make_room.ensures.live
+      (get c.args.shelves.now.slots) c.args.shelves.now.places.entries c.args.links.now.items
       c.make_room.new.links.items c.make_room.ensures.whole c.make_room.ensures.same c.make_room.ensures.longer c.requires.inside,
 )
 
@@ -31,7 +33,8 @@ pub place_shelf-requires-clause-same : goal.place_shelf-requires-clause-same
 place_shelf-requires-clause-same c = c.in_ok-ends.ensures ∙ sym c.in_ok-key.ensures
 
 pub place_shelf-requires-clause-absent : goal.place_shelf-requires-clause-absent
-place_shelf-requires-clause-absent c = subst (λ (k : Item). place_of c.args.shelves.now k ≡ None) (sym c.in_ok-key.ensures) c.requires.absent
+place_shelf-requires-clause-absent c = subst (λ (k : Item). place_of c.args.shelves.now k ≡ None)
+    (sym c.in_ok-key.ensures) c.requires.absent
 
 pub place_shelf-requires-clause-few : goal.place_shelf-requires-clause-few
 place_shelf-requires-clause-few c = λ v.
@@ -42,7 +45,8 @@ place_shelf-requires-clause-few c = λ v.
 pub returns-clause-grown : goal.returns-clause-grown
 returns-clause-grown c =
     let room : IsInside c.make_room.new.names (get c.args.shelves.now.slots) c.args.shelves.now.places.entries c.make_room.new.links.items
-    = roomier c.args.names.now c.make_room.new.names c.make_room.ensures.live (get c.args.shelves.now.slots) c.args.shelves.now.places.entries c.args.links.now.items
+    = roomier c.args.names.now c.make_room.new.names c.make_room.ensures.live
+    (get c.args.shelves.now.slots) c.args.shelves.now.places.entries c.args.links.now.items
     c.make_room.new.links.items c.make_room.ensures.whole c.make_room.ensures.same c.make_room.ensures.longer c.requires.inside
     in record {
       inside = c.place_shelf.ensures.inside c.make_room.new.links.items c.in_ok-make_room.ensures.limit room;
@@ -57,5 +61,6 @@ returns-clause-grown c =
 
 pub returns-clause-brought : goal.returns-clause-brought
 returns-clause-brought c =
-    subst (λ (k : Item). OnOk c.place_shelf.result (BringsShelves (k ∷ []) c.args.shelves.now c.place_shelf.new.shelves)) c.in_ok-key.ensures
+    subst (λ (k : Item). OnOk c.place_shelf.result (BringsShelves (k ∷ []) c.args.shelves.now c.place_shelf.new.shelves))
+    c.in_ok-key.ensures
     c.place_shelf.ensures.brought

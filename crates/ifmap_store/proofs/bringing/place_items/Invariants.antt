@@ -5,4 +5,5 @@ use Rattle.ifmap_store.proofs.bringing.place_items.Given as goal
 
 abbrev pub invariant-loop-change : goal.invariant-loop-change
 invariant-loop-change l =
-    Placing (items_of l.changes) (parts_of l.initial.names l.initial.shelves l.initial.links.items) (parts_of l.names l.shelves l.links.items) l.fresh.items l.change-index
+    Placing (items_of l.changes) (parts_of l.initial.names l.initial.shelves l.initial.links.items)
+    (parts_of l.names l.shelves l.links.items) l.fresh.items l.change-index

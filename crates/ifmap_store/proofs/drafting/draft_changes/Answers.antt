@@ -13,12 +13,14 @@ draft_one-requires-clause-shelved c = c.loop-change.invariant.shelved
 
 pub draft_one-requires-clause-there : goal.draft_one-requires-clause-there
 draft_one-requires-clause-there c =
-    there_at c.args.changes.now c.args.shelves.now c.loop-change.shelves c.loop-change.change-index c.loop-change-test.true c.change-item.result c.change-item.is
+    there_at c.args.changes.now c.args.shelves.now c.loop-change.shelves c.loop-change.change-index c.loop-change-test.true
+    c.change-item.result c.change-item.is
     c.loop-change.invariant c.requires.there
 
 pub draft_one-requires-clause-order : goal.draft_one-requires-clause-order
 draft_one-requires-clause-order c =
-    (fits_at c.args.changes.now c.args.shelves.now c.loop-change.shelves c.loop-change.change-index c.loop-change-test.true c.change-item.result c.change-item.is
+    (fits_at c.args.changes.now c.args.shelves.now c.loop-change.shelves c.loop-change.change-index c.loop-change-test.true
+    c.change-item.result c.change-item.is
     c.loop-change.invariant c.requires.fits).order
 
 pub draft_one-requires-clause-list : goal.draft_one-requires-clause-list
@@ -28,21 +30,26 @@ draft_one-requires-clause-list c =
 
 pub loop-change-preserved : goal.loop-change-preserved
 loop-change-preserved c =
-    drafts_on c.args.changes.now c.args.shelves.now c.loop-change.shelves c.loop-change.change-index c.loop-change-test.true c.change-item.result c.change-item.is
-    c.loop-change.invariant c.draft_one.new.shelves c.draft_one.ensures.shelved c.draft_one.ensures.now c.in_ok-draft_one.ensures.next c.draft_one.ensures.drafts
+    drafts_on c.args.changes.now c.args.shelves.now c.loop-change.shelves c.loop-change.change-index c.loop-change-test.true
+    c.change-item.result c.change-item.is
+    c.loop-change.invariant c.draft_one.new.shelves c.draft_one.ensures.shelved c.draft_one.ensures.now c.in_ok-draft_one.ensures.next
+    c.draft_one.ensures.drafts
     c.draft_one.ensures.kept c.in_ok-draft_one.ensures.drafted c.draft_one.ensures.ends c.draft_one.ensures.waits c.draft_one.ensures.places
 
 pub returns-clause-next : goal.returns-clause-next
 returns-clause-next c =
-    drafted_after c.args.changes.now c.args.shelves.now c.loop-change.shelves c.loop-change.change-index (omega (arith, c.loop-change-test.false))
+    drafted_after c.args.changes.now c.args.shelves.now c.loop-change.shelves c.loop-change.change-index
+    (omega (arith, c.loop-change-test.false))
     c.loop-change.invariant
 
 pub returns-clause-out : goal.returns-clause-out
 returns-clause-out c =
-    drafted_out c.args.changes.now c.args.shelves.now c.loop-change.shelves c.loop-change.change-index (omega (arith, c.loop-change-test.false))
+    drafted_out c.args.changes.now c.args.shelves.now c.loop-change.shelves c.loop-change.change-index
+    (omega (arith, c.loop-change-test.false))
     c.loop-change.invariant c.requires.fits
 
 pub returns-in_err-draft_one-clause-within : goal.returns-in_err-draft_one-clause-within
 returns-in_err-draft_one-clause-within c =
-    within_on c.args.changes.now c.args.shelves.now c.loop-change.shelves c.loop-change.change-index c.loop-change-test.true c.change-item.result c.change-item.is
+    within_on c.args.changes.now c.args.shelves.now c.loop-change.shelves c.loop-change.change-index c.loop-change-test.true
+    c.change-item.result c.change-item.is
     c.loop-change.invariant c.draft_one.new.shelves c.draft_one.ensures.drafts

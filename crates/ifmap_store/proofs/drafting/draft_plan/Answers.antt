@@ -15,14 +15,17 @@ draft_changes-requires-clause-lists c = λ x.
 
 pub touch_slots-requires-clause-pairs : goal.touch_slots-requires-clause-pairs
 touch_slots-requires-clause-pairs c =
-    pairs_after c.requires.inside.0 c.args.shelves.now c.draft_changes.new.shelves c.args.links.now.items c.requires.inside.1 c.draft_changes.ensures.shelved
+    pairs_after c.requires.inside.0 c.args.shelves.now c.draft_changes.new.shelves c.args.links.now.items c.requires.inside.1
+    c.draft_changes.ensures.shelved
     c.draft_changes.ensures.places c.draft_changes.ensures.ends
 
 pub returns-clause-inside : goal.returns-clause-inside
 returns-clause-inside c =
     on_ok c.touch_slots.result
-    (λ drafts names is. inside_drafted names c.args.shelves.now c.draft_changes.new.shelves c.args.links.now.items c.touch_slots.new.links.items is
-    c.draft_changes.ensures.shelved c.draft_changes.ensures.places c.draft_changes.ensures.ends c.draft_changes.ensures.now c.args.changes.now c.requires.fits
+    (λ drafts names is. inside_drafted names c.args.shelves.now c.draft_changes.new.shelves c.args.links.now.items
+    c.touch_slots.new.links.items is
+    c.draft_changes.ensures.shelved c.draft_changes.ensures.places c.draft_changes.ensures.ends c.draft_changes.ensures.now
+    c.args.changes.now c.requires.fits
     c.in_ok-draft_changes.ensures.next c.in_ok-draft_changes.ensures.out c.touch_slots.ensures.kept
     (λ v. drafts v
     ∙ ap (λ (l : List ℕ). draft_of c.draft_changes.new.shelves.slots l v (sides_at c.args.links.now.items v).now)

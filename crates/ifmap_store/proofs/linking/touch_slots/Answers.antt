@@ -16,8 +16,10 @@ touch_slot-requires-clause-pairs c = λ at v w j.
 
 pub loop-at-preserved : goal.loop-at-preserved
 loop-at-preserved c =
-    touches_on c.args.slots.now c.args.links.now.items c.loop-at.links.items c.touch_slot.new.links.items c.args.touched.now c.loop-at.ways.items
-    c.touch_slot.new.ways.items c.loop-at.at-index c.loop-at-test.true c.loop-at.invariant c.touch_slot.ensures.ready c.touch_slot.ensures.kept
+    touches_on c.args.slots.now c.args.links.now.items c.loop-at.links.items c.touch_slot.new.links.items c.args.touched.now
+    c.loop-at.ways.items
+    c.touch_slot.new.ways.items c.loop-at.at-index c.loop-at-test.true c.loop-at.invariant c.touch_slot.ensures.ready
+    c.touch_slot.ensures.kept
     c.in_ok-touch_slot.ensures.ok
 
 pub returns-clause-ok : goal.returns-clause-ok

@@ -6,20 +6,24 @@ use Rattle.ifmap_store.proofs.Waits.{has_place, is_few, waited_all, waiting, wai
 use Rattle.ifmap_store.proofs.waiting.wait_for.Goals as goal
 
 pub loop-change-init : goal.loop-change-init
-loop-change-init c = waiting (items_of c.args.changes.now) c.args.shelves.now c.requires.shelved c.requires.there c.requires.few c.requires.apart
+loop-change-init c = waiting (items_of c.args.changes.now) c.args.shelves.now c.requires.shelved c.requires.there c.requires.few
+    c.requires.apart
 
 pub wait-requires : goal.wait-requires
 wait-requires c =
     let h : c.loop-change.change-index < length (items_of c.args.changes.now)
     = omega (arith, c.loop-change-test.true, length-map c.args.changes.now (λ (x : ItemChange). x.item))
     in let is : get_or (items_of c.args.changes.now) c.loop-change.change-index c.change-item.result.item ≡ c.change-item.result.item
-    = get_or-map (λ (x : ItemChange). x.item) c.args.changes.now c.loop-change.change-index c.change-item.result c.change-item.result.item c.loop-change-test.true
+    = get_or-map (λ (x : ItemChange). x.item) c.args.changes.now c.loop-change.change-index c.change-item.result c.change-item.result.item
+    c.loop-change-test.true
     ∙ ap (λ (x : ItemChange). x.item) (sym c.change-item.is)
     in record {
       shelved = c.loop-change.invariant.shelved;
-      there = has_place (items_of c.args.changes.now) c.args.shelves.now c.loop-change.shelves c.loop-change.change-index c.change-item.result.item h is
+      there = has_place (items_of c.args.changes.now) c.args.shelves.now c.loop-change.shelves c.loop-change.change-index
+          c.change-item.result.item h is
           c.loop-change.invariant;
-      few = is_few (items_of c.args.changes.now) c.args.shelves.now c.loop-change.shelves c.loop-change.change-index c.change-item.result.item h is
+      few = is_few (items_of c.args.changes.now) c.args.shelves.now c.loop-change.shelves c.loop-change.change-index
+          c.change-item.result.item h is
           c.loop-change.invariant;
     }
 
@@ -28,10 +32,13 @@ loop-change-preserved c =
     let h : c.loop-change.change-index < length (items_of c.args.changes.now)
     = omega (arith, c.loop-change-test.true, length-map c.args.changes.now (λ (x : ItemChange). x.item))
     in let is : get_or (items_of c.args.changes.now) c.loop-change.change-index c.change-item.result.item ≡ c.change-item.result.item
-    = get_or-map (λ (x : ItemChange). x.item) c.args.changes.now c.loop-change.change-index c.change-item.result c.change-item.result.item c.loop-change-test.true
+    = get_or-map (λ (x : ItemChange). x.item) c.args.changes.now c.loop-change.change-index c.change-item.result c.change-item.result.item
+    c.loop-change-test.true
     ∙ ap (λ (x : ItemChange). x.item) (sym c.change-item.is)
-    in waits_on_more (items_of c.args.changes.now) c.args.shelves.now c.loop-change.shelves c.loop-change.change-index c.change-item.result.item h is
-    c.loop-change.invariant c.wait.new.self c.wait.ensures.shelved c.wait.ensures.now c.wait.ensures.next c.wait.ensures.waited c.wait.ensures.others
+    in waits_on_more (items_of c.args.changes.now) c.args.shelves.now c.loop-change.shelves c.loop-change.change-index
+    c.change-item.result.item h is
+    c.loop-change.invariant c.wait.new.self c.wait.ensures.shelved c.wait.ensures.now c.wait.ensures.next c.wait.ensures.waited
+    c.wait.ensures.others
     c.wait.ensures.drafts c.wait.ensures.kept c.wait.ensures.ends c.wait.ensures.places
 
 pub returns : goal.returns

@@ -17,7 +17,8 @@ use Rattle.ifmap_store.proofs.graph.Graph.forget.Goals as goal
 pub drop_plan-requires-clause-there : goal.drop_plan-requires-clause-there
 drop_plan-requires-clause-there c =
     let q = rw (← c.self.view_is) at c.requires.out
-    in subst (λ l. AllByRecursion (λ x. IsSome (place_of c.self.inside.shelves x)) (items_of l)) (sym (c.deref.ensures.value ∙ ap (λ r. r.plan.changes) c.ready.view_is))
+    in subst (λ l. AllByRecursion (λ x. IsSome (place_of c.self.inside.shelves x)) (items_of l))
+    (sym (c.deref.ensures.value ∙ ap (λ r. r.plan.changes) c.ready.view_is))
     (drafted_there (items_of c.args.ready.plan.changes) c.self.inside.shelves
     (are_out c.self.inside.shelves (items_of c.args.ready.plan.changes) q.drafted q.within q.apart).drafted)
 
@@ -35,18 +36,22 @@ drop_plan-requires-clause-ready c =
 
 pub invariant_of-self : goal.invariant_of-self
 invariant_of-self c =
-    inside_dropped c.self.inside.names c.self.inside.shelves c.drop_plan.new.shelves c.self.inside.links.items c.drop_plan.new.links.items c.self.invariant
-    c.drop_plan.ensures.shelved c.drop_plan.ensures.places c.drop_plan.ensures.ends c.drop_plan.ensures.now c.drop_plan.ensures.next c.drop_plan.ensures.links
+    inside_dropped c.self.inside.names c.self.inside.shelves c.drop_plan.new.shelves c.self.inside.links.items c.drop_plan.new.links.items
+    c.self.invariant
+    c.drop_plan.ensures.shelved c.drop_plan.ensures.places c.drop_plan.ensures.ends c.drop_plan.ensures.now c.drop_plan.ensures.next
+    c.drop_plan.ensures.links
     c.drop_plan.ensures.none
 
 pub release_waits-requires : goal.release_waits-requires
 release_waits-requires c =
     let w = rw (← c.self.view_is) at c.requires.waits
     in record {
-      still = bare_to c.self.inside.names c.drop_plan.new.shelves c.drop_plan.new.links.items c.drop_plan.ensures.bare c.drop_plan.ensures.none;
+      still = bare_to c.self.inside.names c.drop_plan.new.shelves c.drop_plan.new.links.items c.drop_plan.ensures.bare
+          c.drop_plan.ensures.none;
       waits = subst (λ l. Awaits (items_of l) (held_of c.self.inside.names c.drop_plan.new.shelves c.drop_plan.new.links.items))
           (sym (c.deref-3.ensures.value ∙ ap (λ r. r.plan.changes) c.ready.view_is))
-          (written_waits c.self.inside.names c.self.inside.shelves c.drop_plan.new.shelves c.self.inside.links.items c.drop_plan.new.links.items
+          (written_waits c.self.inside.names c.self.inside.shelves c.drop_plan.new.shelves c.self.inside.links.items
+          c.drop_plan.new.links.items
           c.drop_plan.ensures.places c.drop_plan.ensures.ends c.drop_plan.ensures.waits c.drop_plan.ensures.now c.drop_plan.ensures.links
           (items_of c.args.ready.plan.changes) w);
     }
@@ -71,7 +76,8 @@ returns-clause-own c =
     rw (← c.self.view_is)
     (λ a own h. c.release_waits.ensures.own a own
     (written_own c.self.inside.names c.self.inside.shelves c.drop_plan.new.shelves c.self.inside.links.items c.drop_plan.new.links.items
-    c.drop_plan.ensures.places c.drop_plan.ensures.ends c.drop_plan.ensures.waits c.drop_plan.ensures.now c.drop_plan.ensures.links a own h))
+    c.drop_plan.ensures.places c.drop_plan.ensures.ends c.drop_plan.ensures.waits c.drop_plan.ensures.now c.drop_plan.ensures.links a own
+    h))
 
 pub returns-clause-waits : goal.returns-clause-waits
 returns-clause-waits c =
@@ -87,9 +93,11 @@ returns-clause-backs c =
     rw (← c.self.view_is)
     (first_backs (items_of c.args.ready.plan.changes) (held_of c.self.inside.names c.self.inside.shelves c.self.inside.links.items)
     (held_of c.self.inside.names c.drop_plan.new.shelves c.drop_plan.new.links.items) c.release_waits.new.self
-    (λ rest a. written_waits c.self.inside.names c.self.inside.shelves c.drop_plan.new.shelves c.self.inside.links.items c.drop_plan.new.links.items
+    (λ rest a. written_waits c.self.inside.names c.self.inside.shelves c.drop_plan.new.shelves c.self.inside.links.items
+    c.drop_plan.new.links.items
     c.drop_plan.ensures.places c.drop_plan.ensures.ends c.drop_plan.ensures.waits c.drop_plan.ensures.now c.drop_plan.ensures.links rest a)
     (written_backs c.self.inside.names c.self.inside.shelves c.drop_plan.new.shelves c.self.inside.links.items c.drop_plan.new.links.items
     c.drop_plan.ensures.places c.drop_plan.ensures.ends c.drop_plan.ensures.waits c.drop_plan.ensures.now c.drop_plan.ensures.links)
-    (subst (λ l. KeepsOtherBacks (items_of l) (held_of c.self.inside.names c.drop_plan.new.shelves c.drop_plan.new.links.items) c.release_waits.new.self)
+    (subst (λ l. KeepsOtherBacks (items_of l)
+    (held_of c.self.inside.names c.drop_plan.new.shelves c.drop_plan.new.links.items) c.release_waits.new.self)
     (c.deref-3.ensures.value ∙ ap (λ r. r.plan.changes) c.ready.view_is) c.release_waits.ensures.backs))

@@ -30,88 +30,107 @@ make_ready-requires-clause-fits c =
 pub returns-in_err-make_ready-clause-now : goal.returns-in_err-make_ready-clause-now
 returns-in_err-make_ready-clause-now c =
     rw (← c.self.view_is)
-    (unmade_now c.self.inside.names c.make_ready.new.names c.self.inside.shelves c.make_ready.new.shelves c.self.inside.links.items c.make_ready.new.links.items
+    (unmade_now c.self.inside.names c.make_ready.new.names c.self.inside.shelves c.make_ready.new.shelves c.self.inside.links.items
+    c.make_ready.new.links.items
     c.in_err-make_ready.ensures.unmade)
 
 pub returns-in_err-make_ready-clause-numbers : goal.returns-in_err-make_ready-clause-numbers
 returns-in_err-make_ready-clause-numbers c =
     rw (← c.self.view_is)
-    (unmade_numbers c.self.inside.names c.make_ready.new.names c.self.inside.shelves c.make_ready.new.shelves c.self.inside.links.items c.make_ready.new.links.items
+    (unmade_numbers c.self.inside.names c.make_ready.new.names c.self.inside.shelves c.make_ready.new.shelves c.self.inside.links.items
+    c.make_ready.new.links.items
     c.in_err-make_ready.ensures.unmade c.bytes_tell_identifiers_apart.ensures c.self.invariant.keys)
 
 pub returns-in_err-make_ready-clause-own : goal.returns-in_err-make_ready-clause-own
 returns-in_err-make_ready-clause-own c =
     rw (← c.self.view_is)
-    (unmade_own c.self.inside.names c.make_ready.new.names c.self.inside.shelves c.make_ready.new.shelves c.self.inside.links.items c.make_ready.new.links.items
+    (unmade_own c.self.inside.names c.make_ready.new.names c.self.inside.shelves c.make_ready.new.shelves c.self.inside.links.items
+    c.make_ready.new.links.items
     c.in_err-make_ready.ensures.unmade)
 
 pub returns-in_err-make_ready-clause-backs : goal.returns-in_err-make_ready-clause-backs
 returns-in_err-make_ready-clause-backs c =
     rw (← c.self.view_is)
-    (unmade_backs c.self.inside.names c.make_ready.new.names c.self.inside.shelves c.make_ready.new.shelves c.self.inside.links.items c.make_ready.new.links.items
+    (unmade_backs c.self.inside.names c.make_ready.new.names c.self.inside.shelves c.make_ready.new.shelves c.self.inside.links.items
+    c.make_ready.new.links.items
     c.in_err-make_ready.ensures.unmade)
 
 pub returns-in_err-make_ready-clause-still : goal.returns-in_err-make_ready-clause-still
 returns-in_err-make_ready-clause-still c =
     any_err c.from_residual-in_err-make_ready.result
-    (unmade_still c.self.inside.names c.make_ready.new.names c.self.inside.shelves c.make_ready.new.shelves c.self.inside.links.items c.make_ready.new.links.items
+    (unmade_still c.self.inside.names c.make_ready.new.names c.self.inside.shelves c.make_ready.new.shelves c.self.inside.links.items
+    c.make_ready.new.links.items
     c.in_err-make_ready.ensures.unmade)
 
 pub returns-in_err-make_ready-clause-err : goal.returns-in_err-make_ready-clause-err
 returns-in_err-make_ready-clause-err c =
     rw (← c.self.view_is)
     (any_err c.from_residual-in_err-make_ready.result
-    (unmade_same c.self.inside.names c.make_ready.new.names c.self.inside.shelves c.make_ready.new.shelves c.self.inside.links.items c.make_ready.new.links.items
+    (unmade_same c.self.inside.names c.make_ready.new.names c.self.inside.shelves c.make_ready.new.shelves c.self.inside.links.items
+    c.make_ready.new.links.items
     c.in_err-make_ready.ensures.unmade c.bytes_tell_identifiers_apart.ensures c.self.invariant.keys))
 
 pub returns-clause-out : goal.returns-clause-out
 returns-clause-out c =
-    made_out c.self.inside.names c.make_ready.new.names c.self.inside.shelves c.make_ready.new.shelves c.self.inside.links.items c.make_ready.new.links.items
-    c.deref.result.now c.make_ready.new.ways.items c.in_ok-make_ready.ensures.made _ (sym (c.deref.ensures.value ∙ ap (λ p. p.changes) c.plan.view_is))
+    made_out c.self.inside.names c.make_ready.new.names c.self.inside.shelves c.make_ready.new.shelves c.self.inside.links.items
+    c.make_ready.new.links.items
+    c.deref.result.now c.make_ready.new.ways.items c.in_ok-make_ready.ensures.made _
+    (sym (c.deref.ensures.value ∙ ap (λ p. p.changes) c.plan.view_is))
     (c.in_ok-lists.ensures ∙ c.len.ensures ∙ sym c.deref.ensures.len) refl
 
 pub returns-clause-after : goal.returns-clause-after
 returns-clause-after c =
-    let made : IsMade c.args.plan.changes c.make_ready.new.ways.items (parts_of c.self.inside.names c.self.inside.shelves c.self.inside.links.items)
+    let made : IsMade c.args.plan.changes c.make_ready.new.ways.items
+    (parts_of c.self.inside.names c.self.inside.shelves c.self.inside.links.items)
     (parts_of c.make_ready.new.names c.make_ready.new.shelves c.make_ready.new.links.items)
     = subst (λ l. IsMade l c.make_ready.new.ways.items (parts_of c.self.inside.names c.self.inside.shelves c.self.inside.links.items)
-    (parts_of c.make_ready.new.names c.make_ready.new.shelves c.make_ready.new.links.items)) (c.deref.ensures.value ∙ ap (λ p. p.changes) c.plan.view_is)
+    (parts_of c.make_ready.new.names c.make_ready.new.shelves c.make_ready.new.links.items))
+    (c.deref.ensures.value ∙ ap (λ p. p.changes) c.plan.view_is)
     c.in_ok-make_ready.ensures.made
     in rw (← c.self.view_is)
-    (made_after c.self.inside.names c.make_ready.new.names c.self.inside.shelves c.make_ready.new.shelves c.self.inside.links.items c.make_ready.new.links.items
+    (made_after c.self.inside.names c.make_ready.new.names c.self.inside.shelves c.make_ready.new.shelves c.self.inside.links.items
+    c.make_ready.new.links.items
     c.args.plan.changes c.make_ready.new.ways.items made)
 
 pub returns-clause-now : goal.returns-clause-now
 returns-clause-now c =
     rw (← c.self.view_is)
-    (made_now c.self.inside.names c.make_ready.new.names c.self.inside.shelves c.make_ready.new.shelves c.self.inside.links.items c.make_ready.new.links.items
+    (made_now c.self.inside.names c.make_ready.new.names c.self.inside.shelves c.make_ready.new.shelves c.self.inside.links.items
+    c.make_ready.new.links.items
     c.deref.result.now c.make_ready.new.ways.items c.in_ok-make_ready.ensures.made)
 
 pub returns-clause-numbers : goal.returns-clause-numbers
 returns-clause-numbers c =
     rw (← c.self.view_is)
-    (made_numbers c.self.inside.names c.make_ready.new.names c.self.inside.shelves c.make_ready.new.shelves c.self.inside.links.items c.make_ready.new.links.items
-    c.deref.result.now c.make_ready.new.ways.items c.in_ok-make_ready.ensures.made c.bytes_tell_identifiers_apart.ensures c.self.invariant.keys)
+    (made_numbers c.self.inside.names c.make_ready.new.names c.self.inside.shelves c.make_ready.new.shelves c.self.inside.links.items
+    c.make_ready.new.links.items
+    c.deref.result.now c.make_ready.new.ways.items c.in_ok-make_ready.ensures.made c.bytes_tell_identifiers_apart.ensures
+    c.self.invariant.keys)
 
 pub returns-clause-own : goal.returns-clause-own
 returns-clause-own c =
     rw (← c.self.view_is)
-    (made_own c.self.inside.names c.make_ready.new.names c.self.inside.shelves c.make_ready.new.shelves c.self.inside.links.items c.make_ready.new.links.items
+    (made_own c.self.inside.names c.make_ready.new.names c.self.inside.shelves c.make_ready.new.shelves c.self.inside.links.items
+    c.make_ready.new.links.items
     c.deref.result.now c.make_ready.new.ways.items c.in_ok-make_ready.ensures.made)
 
 pub returns-clause-waits : goal.returns-clause-waits
 returns-clause-waits c =
-    let made : IsMade c.args.plan.changes c.make_ready.new.ways.items (parts_of c.self.inside.names c.self.inside.shelves c.self.inside.links.items)
+    let made : IsMade c.args.plan.changes c.make_ready.new.ways.items
+    (parts_of c.self.inside.names c.self.inside.shelves c.self.inside.links.items)
     (parts_of c.make_ready.new.names c.make_ready.new.shelves c.make_ready.new.links.items)
     = subst (λ l. IsMade l c.make_ready.new.ways.items (parts_of c.self.inside.names c.self.inside.shelves c.self.inside.links.items)
-    (parts_of c.make_ready.new.names c.make_ready.new.shelves c.make_ready.new.links.items)) (c.deref.ensures.value ∙ ap (λ p. p.changes) c.plan.view_is)
+    (parts_of c.make_ready.new.names c.make_ready.new.shelves c.make_ready.new.links.items))
+    (c.deref.ensures.value ∙ ap (λ p. p.changes) c.plan.view_is)
     c.in_ok-make_ready.ensures.made
     in rw (← c.self.view_is)
-    (made_waits c.self.inside.names c.make_ready.new.names c.self.inside.shelves c.make_ready.new.shelves c.self.inside.links.items c.make_ready.new.links.items
+    (made_waits c.self.inside.names c.make_ready.new.names c.self.inside.shelves c.make_ready.new.shelves c.self.inside.links.items
+    c.make_ready.new.links.items
     c.args.plan.changes c.make_ready.new.ways.items made)
 
 pub returns-clause-backs : goal.returns-clause-backs
 returns-clause-backs c =
     rw (← c.self.view_is)
-    (made_backs c.self.inside.names c.make_ready.new.names c.self.inside.shelves c.make_ready.new.shelves c.self.inside.links.items c.make_ready.new.links.items
+    (made_backs c.self.inside.names c.make_ready.new.names c.self.inside.shelves c.make_ready.new.shelves c.self.inside.links.items
+    c.make_ready.new.links.items
     c.deref.result.now c.make_ready.new.ways.items c.in_ok-make_ready.ensures.made)
