@@ -46,7 +46,8 @@ returns-clause-less c =
     (less_written c.args.names.now c.args.shelves.now c.unwait.new.self c.unwait.ensures.shelved c.unwait.ensures.places c.unwait.ensures.ends
     c.unwait.ensures.now c.unwait.ensures.next c.unwait.ensures.bare)
     (less_removed c.args.names.now c.remove_shelf.new.names c.unwait.new.self c.remove_shelf.new.shelves c.args.item.now c.unwait.ensures.shelved
-    (c.remove_shelf.ensures.inside c.requires.inside.0 inside).placed (sym c.stored_at.ensures ∙ nothing_in _ (sym c.is_empty.ensures ∙ c.if-not-is_empty.false))
+    (c.remove_shelf.ensures.inside c.requires.inside.0 inside).placed
+    (sym c.stored_at.ensures ∙ nothing_in _ (sym c.is_empty.ensures ∙ c.if-not-is_empty.false))
     c.remove_shelf.ensures.inside c.remove_shelf.ensures.now c.remove_shelf.ensures.before c.remove_shelf.ensures.others
     c.remove_shelf.ensures.named c.remove_shelf.ensures.own)
 
