@@ -1,16 +1,13 @@
 -- Once the drafts of shelves and of links stand, both sides are in order.
-use Rattle.std.proofs.Common.{◌≡◌, ◌≢◌, ◌⊎◌, ℕ, ◌<◌, Bool, true, false, not, cond, Option, Some, None, IsSome, unwrap_or, List, [], ◌∷◌, map, length, nat_eq, refl, ap, ◌∙◌, sym, subst, inl, inr, arith}
+use Rattle.std.proofs.Common.{◌≡◌, ◌≢◌, ◌⊎◌, ℕ, ◌<◌, Bool, true, false, cond, Option, Some, None, IsSome, unwrap_or, List, [], ◌∷◌, length, nat_eq, refl, ap, ◌∙◌, sym, subst, inl, inr, arith}
 use Rattle.std.proofs.lemmas.Bool.{cases_Bool}
 use Rattle.std.proofs.lemmas.Bool.Decides.{nat_tests}
 use Rattle.std.proofs.lemmas.Option.{none-some, same_Some}
 use Rattle.std.specs.BTreeMap.{is_at}
 use Rattle.std.specs.List.{AllByRecursion, Contains, IsDistinct, cons_option, filter_map}
-use Rattle.std.specs.List.Sorted.{IsStrictlySortedBy}
-use Rattle.std.specs.Map.{lookup}
 use Rattle.std.specs.Ordering.{is_eq}
-use Rattle.std.specs.declared.cmp.Ordering.TheVariants.{Equal}
 use Rattle.slab.specs.Slab.{Slab, get}
-use Rattle.ifmap_lemmas.specs.Having.{Has, from_has, has_mapped, mapped_has}
+use Rattle.ifmap_lemmas.specs.Having.{Has, from_has, has_mapped}
 use Rattle.ifmap_ident.specs.declared.items.Item.{Item}
 use Rattle.ifmap_ident.specs.declared.items.Item.TheVariants.{One, Pair}
 use Rattle.ifmap_ident.specs.declared.identifiers.Identifier.{Identifier}
@@ -24,7 +21,6 @@ use Rattle.ifmap_pool.specs.Holdings.{Holdings, Names, entry_at}
 use Rattle.ifmap_plans.specs.Lists.{IsList}
 use Rattle.ifmap_view.specs.declared.attachments.Attachment.{Attachment}
 use Rattle.ifmap_view.specs.declared.views.LinkSeen.{LinkSeen}
-use Rattle.ifmap_view.specs.Attachments.{stored_order}
 use Rattle.ifmap_view.specs.Rows.{stored_on}
 use Rattle.ifmap_store.specs.declared.ends.Ends as the_ends
 use Rattle.ifmap_store.specs.declared.ends.Ends.TheVariants as ends
@@ -33,10 +29,10 @@ use Rattle.ifmap_store.specs.declared.shelves.Shelves.{Shelves}
 use Rattle.ifmap_store.specs.Drafted.{AreOut, DraftsWithin, ends_at}
 use Rattle.ifmap_store.specs.Held.{IsInside, IsSide, links_at}
 use Rattle.ifmap_store.specs.Joined.{is_full, joined, two_of}
-use Rattle.ifmap_store.specs.Linked.{AreListed, changed}
+use Rattle.ifmap_store.specs.Linked.{changed}
 use Rattle.ifmap_store.specs.Named.{AreEnds, AreNumbered, HasEnds}
 use Rattle.ifmap_store.specs.Out.{items_of}
-use Rattle.ifmap_store.specs.Shelved.{AreShelved, HasDraft, IsPlaced, Side, list_at, place_of, rows_of}
+use Rattle.ifmap_store.specs.Shelved.{AreShelved, IsPlaced, Side, list_at, place_of, rows_of}
 use Rattle.ifmap_store.specs.Sides.{Sides, next, now}
 use Rattle.ifmap_store.specs.Touched.{ArePairs, KeepsLinks, differ, draft_of, flip_in, flip_of, full_next, full_now}
 use Rattle.ifmap_store.specs.Turning.{sides_at}

@@ -15,7 +15,7 @@ use Rattle.ifmap_store.specs.declared.shelves.Shelf.{Shelf}
 use Rattle.ifmap_store.specs.declared.shelves.Shelves.{Shelves}
 use Rattle.ifmap_store.specs.Drafted.{AreBare, NoDraft}
 use Rattle.ifmap_store.specs.Shelved.{AreShelved, IsPlaced, Rises, place_of}
-use Rattle.ifmap_store.specs.Waits.{AreWaited, times_in, waits_of, waits_on, waits_there}
+use Rattle.ifmap_store.specs.Waits.{AreWaited, waits_of, waits_on, waits_there}
 use Rattle.ifmap_store.proofs.Following.{entry_hits, lookup_tied, looked_up}
 use Rattle.ifmap_store.proofs.Leaving.{removed_has, slots_kept}
 use Rattle.ifmap_store.proofs.Ordered.{equal_is, items_total, turned_tie}
@@ -33,10 +33,13 @@ has_left test (e ∷ es) x h = by (test e.0) (has_left test es x) h
     by false rest (inl p) = inl p
     by false rest (inr h) = inr (rest h)
 
-module _ (es new : Entries) (look later : ℕ → Option Shelf) (item : Item) (at : ℕ) (is : IsPlaced look es) (here : lookup (is_at (item_order item)) es ≡ Some at)
-    (gone : later at ≡ None) (others : (o : ℕ) → o ≢ at → later o ≡ look o) (removes : new ≡ remove_entry (is_at (item_order item)) es) (rises : Rises new) where
+module _ (es new : Entries) (look later : ℕ → Option Shelf) (item : Item) (at : ℕ) (is : IsPlaced look es)
+    (here : lookup (is_at (item_order item)) es ≡ Some at)
+    (gone : later at ≡ None) (others : (o : ℕ) → o ≢ at → later o ≡ look o) (removes : new ≡ remove_entry (is_at (item_order item)) es)
+    (rises : Rises new) where
   -- the shelf that an item has stood there before
-  pub was_there : (x : Item) (n : ℕ) → lookup (is_at (item_order x)) new ≡ Some n → (lookup (is_at (item_order x)) es ≡ Some n) × (later n ≡ look n)
+  pub was_there : (x : Item) (n : ℕ) → lookup (is_at (item_order x)) new ≡ Some n → (lookup (is_at (item_order x)) es ≡ Some n)
+      × (later n ≡ look n)
   was_there x n e =
       let h = looked_up new x n e
       in let i : Has es (h.0, n) = has_left (is_at (item_order item)) es (h.0, n) (subst (λ l. Has l (h.0, n)) removes h.1)
@@ -66,7 +69,8 @@ module _ (es new : Entries) (look later : ℕ → Option Shelf) (item : Item) (a
           let h = looked_up es x n e
           in lookup_tied x h.0 new h.2
           ∙ entry_hits new h.0 n rises
-          (subst (λ l. Has l (h.0, n)) (sym removes) (removed_has (is_at (item_order item)) es at n h.0 here (other_slot x n f e) h.1)) ∙ sym e
+          (subst (λ l. Has l (h.0, n)) (sym removes) (removed_has (is_at (item_order item)) es at n h.0 here (other_slot x n f e) h.1))
+          ∙ sym e
 
 all_by : {X : Type 0} (P : X → Type 0) (xs : List X) → ((x : X) → Has xs x → P x) → AllByRecursion P xs
 all_by P [] f = tt

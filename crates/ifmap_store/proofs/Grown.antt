@@ -8,7 +8,7 @@ use Rattle.ifmap_ident.specs.declared.identifiers.Identifier.{Identifier}
 use Rattle.ifmap_ident.specs.declared.items.Item.{Item}
 use Rattle.ifmap_ident.specs.declared.items.Item.TheVariants.{One, Pair}
 use Rattle.ifmap_ident.specs.Identifiers.{identifier_order}
-use Rattle.ifmap_pool.specs.Holdings.{Holdings, IsHeld, IsPool, Names, entry_at, holds_at, once}
+use Rattle.ifmap_pool.specs.Holdings.{Holdings, IsPool, Names, entry_at, holds_at, once}
 use Rattle.ifmap_view.specs.declared.views.LinkSeen.{LinkSeen}
 use Rattle.slab.specs.Slab.{get}
 use Rattle.ifmap_store.specs.declared.shelves.Shelves.{Shelves}

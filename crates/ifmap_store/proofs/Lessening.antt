@@ -1,5 +1,5 @@
 -- An item is waited for once less, and its shelf goes where that is empty and nothing waits for it: what is left.
-use Rattle.std.proofs.Common.{◌≡◌, ◌≢◌, ℕ, ◌+◌, ◌<◌, Bool, true, false, Option, Some, None, IsSome, List, [], ◌∷◌, ◌++◌, option_map, refl, ap, ◌∙◌, sym, subst, inl, inr, arith}
+use Rattle.std.proofs.Common.{◌≡◌, ℕ, ◌+◌, ◌<◌, false, Option, Some, None, List, [], option_map, refl, ap, ◌∙◌, sym, subst, inl, inr, arith}
 use Rattle.std.proofs.lemmas.Bool.{cases_Bool}
 use Rattle.std.specs.BTreeMap.{is_at}
 use Rattle.std.specs.Map.{lookup}
@@ -56,9 +56,11 @@ less_on one two three s t u p q = record {
 }
 
 -- shelves are written that show the same, on both sides
-module _ (names : Holdings Identifier) (s t : Shelves) (later : AreShelved t) (places : t.places ≡ s.places) (ends : (at : ℕ) → ends_at t at ≡ ends_at s at)
+module _ (names : Holdings Identifier) (s t : Shelves) (later : AreShelved t) (places : t.places ≡ s.places)
+    (ends : (at : ℕ) → ends_at t at ≡ ends_at s at)
     (rows : rows_of now t ≡ rows_of now s) (same : rows_of next t ≡ rows_of next s) where
-  pub inside_written : (links : List (Sides LinkSeen)) → IsInside names (get s.slots) s.places.entries links → IsInside names (get t.slots) t.places.entries links
+  pub inside_written : (links : List (Sides LinkSeen)) → IsInside names (get s.slots) s.places.entries links
+      → IsInside names (get t.slots) t.places.entries links
   inside_written links is =
       subst (λ p. IsInside names (get t.slots) p.entries links) (sym places)
       (inside_moved (get s.slots) (get t.slots) ends names s.places.entries links links now next now next
@@ -86,13 +88,16 @@ stored_tied list_of es rising x y t = by (lookup (is_at (item_order y)) es) refl
     by (Some at) e = sym (found list_of x es at rising (lookup_tied x y es t ∙ e)) ∙ found list_of y es at rising e
 
 -- the shelf of an item goes, on which nothing is stored
-pub less_removed : (names left : Holdings Identifier) (s t : Shelves) (item : Item) → AreShelved s → AreShelved t → stored_on item (rows_of now s) ≡ []
-    → ((links : List (Sides LinkSeen)) → IsInside names (get s.slots) s.places.entries links → IsInside left (get t.slots) t.places.entries links)
+pub less_removed : (names left : Holdings Identifier) (s t : Shelves) (item : Item) → AreShelved s → AreShelved t
+    → stored_on item (rows_of now s) ≡ []
+    → ((links : List (Sides LinkSeen)) → IsInside names (get s.slots) s.places.entries links
+    → IsInside left (get t.slots) t.places.entries links)
     → rows_of now t ≡ rows_of now s
     → ((x : Item) (at : ℕ) → place_of t x ≡ Some at → (place_of s x ≡ Some at) × (get t.slots at ≡ get s.slots at))
     → ((x : Item) → is_at (item_order item) x ≡ false → place_of t x ≡ place_of s x)
     → ((v : ℕ) (a : Identifier) → Names identifier_order left v a → Names identifier_order names v a)
-    → ((a : Identifier) (own : ℕ) → IsHeld identifier_order names a (named_in s.places.entries a + own) → IsHeld identifier_order left a (named_in t.places.entries a + own))
+    → ((a : Identifier) (own : ℕ) → IsHeld identifier_order names a (named_in s.places.entries a + own)
+    → IsHeld identifier_order left a (named_in t.places.entries a + own))
     → IsLess names left s t
 less_removed names left s t item is later empty inside rows before others named own = record {
   inside = inside;
@@ -100,7 +105,8 @@ less_removed names left s t item is later empty inside rows before others named 
   rows = rows;
   before = λ x at e. let p = before x at e in (p.0, ap (option_map (λ (shelf : Shelf). shelf.ends)) p.1);
   full = λ x n. elim (cases_Bool (is_at (item_order item) x)) [
-    | inl y ↦ absurd (n (sym (stored_tied (λ at. list_at now (get s.slots at)) s.places.entries is.rising item x (equal_is (item_order item x) y)) ∙ empty))
+    | inl y ↦ let tie = equal_is (item_order item x) y
+        in absurd (n (sym (stored_tied (λ at. list_at now (get s.slots at)) s.places.entries is.rising item x tie) ∙ empty))
     | inr f ↦ others x f
   ];
   named = named;
@@ -123,7 +129,8 @@ both : (x : Sides Stored) → x.now ≡ [] → x.draft ≡ None → x ≡ record
 both x e f = ap (λ n. record { now = n; draft = x.draft }) e ∙ ap (λ d. record { now = []; draft = d }) f
 
 -- where no shelf has a draft, a shelf on whose item nothing is stored is empty
-pub is_bare : (s : Shelves) (item : Item) (at : ℕ) → AreShelved s → AreBare s → place_of s item ≡ Some at → stored_on item (rows_of now s) ≡ [] → IsBare s item
+pub is_bare : (s : Shelves) (item : Item) (at : ℕ) → AreShelved s → AreBare s → place_of s item ≡ Some at
+    → stored_on item (rows_of now s) ≡ [] → IsBare s item
 is_bare s item at is bare here empty =
     let l = some_of (get s.slots at) (slot_live (get s.slots) s.places.entries item at is here)
     in let q = looked_up s.places.entries item at here

@@ -1,11 +1,11 @@
 -- The links of each number, when places come to be full or empty.
-use Rattle.std.proofs.Common.{◌≡◌, ◌⊎◌, ◌&&◌, ℕ, zero, suc, ◌+◌, ◌<◌, Bool, true, false, not, cond, nat_eq, Option, Some, None, List, [], ◌∷◌, ◌++◌, length, get_or, refl, ap, ◌∙◌, sym, subst, inl, inr, arith}
+use Rattle.std.proofs.Common.{◌≡◌, ◌⊎◌, ◌&&◌, ℕ, Bool, true, false, not, cond, nat_eq, Option, Some, None, List, refl, ap, ◌∙◌, sym, subst, inl, inr, arith}
 use Rattle.std.proofs.lemmas.Bool.{cases_eq, cases_Bool}
 use Rattle.std.proofs.lemmas.Bool.Decides.{nat_tests}
 use Rattle.std.proofs.lemmas.List.Elements.{Contains-append_left, Contains-append_right, Contains-append_cases}
 use Rattle.std.proofs.lemmas.Option.{same_Some, none-some}
-use Rattle.std.specs.List.{Contains, filter, filter_map, cons_option}
-use Rattle.ifmap_lemmas.specs.Having.{Has, filter_has, from_has, has_filter, has_from, has_mapped, mapped_has}
+use Rattle.std.specs.List.{Contains, filter}
+use Rattle.ifmap_lemmas.specs.Having.{filter_has, from_has, has_filter, has_from, has_mapped, mapped_has}
 use Rattle.ifmap_view.specs.declared.views.LinkSeen.{LinkSeen}
 use Rattle.ifmap_store.specs.Linked.{Ends, far_of, seen_at, AreListed, coming, changed}
 

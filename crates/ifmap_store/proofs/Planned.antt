@@ -4,7 +4,7 @@ use Rattle.std.proofs.lemmas.Bool.{cases_Bool}
 use Rattle.std.proofs.lemmas.List.{drop_all, take_all}
 use Rattle.std.proofs.Math.Seq.{take-suc}
 use Rattle.std.specs.BTreeMap.{is_at}
-use Rattle.std.specs.List.{AllByRecursion, IsDistinct, filter, find}
+use Rattle.std.specs.List.{AllByRecursion, IsDistinct, filter}
 use Rattle.std.specs.Ordering.{is_eq}
 use Rattle.std.specs.declared.cmp.Ordering.TheVariants.{Equal}
 use Rattle.slab.specs.Slab.{get}
@@ -17,7 +17,6 @@ use Rattle.ifmap_plans.specs.Lists.{next_on}
 use Rattle.ifmap_plans.specs.Plans.{Fits, FitsItem, IsAfter, after_on, change_of, changed_by}
 use Rattle.ifmap_view.specs.declared.attachments.Attachment.{Attachment}
 use Rattle.ifmap_view.specs.Rows.{stored_on}
-use Rattle.ifmap_store.specs.declared.shelves.Shelf.{Shelf}
 use Rattle.ifmap_store.specs.declared.shelves.Shelves.{Shelves}
 use Rattle.ifmap_store.specs.Drafted.{AreBare, AreOut, DraftsWithin, NoDraft, ends_at}
 use Rattle.ifmap_store.specs.Out.{items_of}

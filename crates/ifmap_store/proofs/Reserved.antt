@@ -1,5 +1,5 @@
 -- A change came to be out, or did not: what contracts see.
-use Rattle.std.proofs.Common.{◌≡◌, ◌≢◌, ℕ, ◌+◌, ◌<◌, ◌≤◌, ◌^◌, Option, Some, None, IsSome, List, [], ◌∷◌, ◌++◌, length, refl, ap, ◌∙◌, sym, subst, arith}
+use Rattle.std.proofs.Common.{◌≡◌, ◌≢◌, ℕ, ◌+◌, ◌<◌, Option, Some, None, List, [], ◌∷◌, ◌++◌, length, refl, ap, ◌∙◌, sym, subst, arith}
 use Rattle.std.proofs.lemmas.Option.{none-some}
 use Rattle.std.specs.List.{AllByRecursion, IsDistinct}
 use Rattle.std.specs.declared.cmp.Ordering.TheVariants.{Equal}
@@ -11,24 +11,24 @@ use Rattle.ifmap_ident.specs.Identifiers.{identifier_order}
 use Rattle.ifmap_ident.specs.Items.{item_order, same_item}
 use Rattle.ifmap_plans.specs.declared.plans.ItemChange.{ItemChange}
 use Rattle.ifmap_plans.specs.Plans.{IsAfter}
-use Rattle.ifmap_pool.specs.Holdings.{Holdings, IsHeld, Names, key_at}
+use Rattle.ifmap_pool.specs.Holdings.{Holdings, IsHeld, key_at}
 use Rattle.ifmap_view.specs.declared.views.LinkSeen.{LinkSeen}
 use Rattle.ifmap_view.specs.Rows.{stored_on}
 use Rattle.ifmap_store.specs.declared.changes.Ready.{Ready}
 use Rattle.ifmap_store.specs.declared.shelves.Shelves.{Shelves}
 use Rattle.ifmap_store.specs.Back.{KeepsBacks}
-use Rattle.ifmap_store.specs.Bringing.{HaveFewOwn, Parts, parts_of}
+use Rattle.ifmap_store.specs.Bringing.{parts_of}
 use Rattle.ifmap_store.specs.Drafted.{ends_at}
-use Rattle.ifmap_store.specs.Held.{Held, shown}
+use Rattle.ifmap_store.specs.Held.{shown}
 use Rattle.ifmap_store.specs.Making.{IsMade, IsUnmade}
 use Rattle.ifmap_store.specs.Named.{AreIdentifiers, named_in}
 use Rattle.ifmap_store.specs.Out.{IsDrafted, IsOut, items_of}
-use Rattle.ifmap_store.specs.Seen.{Awaits, AwaitsMore, HasFewOwn, IsSeenSame, IsStill, KeepsNumbers, KeepsOwn, links_now, rows_next, rows_now, waits_in}
+use Rattle.ifmap_store.specs.Seen.{AwaitsMore, IsSeenSame, IsStill, KeepsNumbers, KeepsOwn, rows_next, rows_now}
 use Rattle.ifmap_store.specs.Shelved.{HasDraft, list_at, place_of, rows_of}
 use Rattle.ifmap_store.specs.Sides.{Sides, next, now}
 use Rattle.ifmap_store.specs.Stays.{IsThere, StayPlaced}
 use Rattle.ifmap_store.specs.Turning.{AreDrafted, NoOthers}
-use Rattle.ifmap_store.specs.Waits.{times_in, waits_on}
+use Rattle.ifmap_store.specs.Waits.{waits_on}
 use Rattle.ifmap_store.proofs.Alike.{Tells}
 use Rattle.ifmap_store.proofs.Backs.{keeps_backs}
 use Rattle.ifmap_store.proofs.Finding.{absent}

@@ -1,9 +1,6 @@
 -- What contracts see of shelves, and what they see after some went.
-use Rattle.std.proofs.Common.{◌≡◌, ◌≢◌, ℕ, ◌+◌, ◌<◌, ◌≤◌, Option, Some, None, IsSome, List, [], ◌∷◌, ◌++◌, option_map, refl, ap, ◌∙◌, sym, subst, arith}
-use Rattle.std.proofs.lemmas.Option.{none-some}
+use Rattle.std.proofs.Common.{◌≡◌, ℕ, ◌+◌, ◌<◌, Option, Some, None, IsSome, List, ◌++◌, option_map, refl, ap, ◌∙◌, sym, subst, arith}
 use Rattle.std.specs.BTreeMap.{is_at}
-use Rattle.std.specs.List.{AllByRecursion}
-use Rattle.std.specs.Map.{lookup}
 use Rattle.slab.specs.Slab.{get}
 use Rattle.ifmap_ident.specs.declared.identifiers.Identifier.{Identifier}
 use Rattle.ifmap_ident.specs.declared.items.Item.{Item}
@@ -14,18 +11,16 @@ use Rattle.ifmap_pool.specs.Holdings.{Holdings, IsHeld}
 use Rattle.ifmap_view.specs.declared.views.LinkSeen.{LinkSeen}
 use Rattle.ifmap_view.specs.Rows.{stored_on}
 use Rattle.ifmap_store.specs.declared.ends.Ends.{Ends}
-use Rattle.ifmap_store.specs.declared.shelves.Shelf.{Shelf}
 use Rattle.ifmap_store.specs.declared.shelves.Shelves.{Shelves}
 use Rattle.ifmap_store.specs.Bringing.{HaveFewOwn, parts_of}
 use Rattle.ifmap_store.specs.Drafted.{AreBare, NoDraft, ends_at}
 use Rattle.ifmap_store.specs.Held.{Held, shown}
-use Rattle.ifmap_store.specs.Named.{named_in}
 use Rattle.ifmap_store.specs.Out.{IsDrafted}
 use Rattle.ifmap_store.specs.Releasing.{IsLess}
 use Rattle.ifmap_store.specs.Seen.{Awaits, AwaitsLess, HasFewOwn, IsStill, KeepsOwn, rows_next, rows_now, waits_in, waits_there_in}
-use Rattle.ifmap_store.specs.Shelved.{AreShelved, place_of, rows_of}
+use Rattle.ifmap_store.specs.Shelved.{AreShelved, place_of}
 use Rattle.ifmap_store.specs.Sides.{Sides, next, now}
-use Rattle.ifmap_store.specs.Stays.{IsThere, StayPlaced, ends_in, ends_there_in, place_in}
+use Rattle.ifmap_store.specs.Stays.{IsThere, StayPlaced, ends_in, ends_there_in}
 use Rattle.ifmap_store.specs.Turning.{sides_at}
 use Rattle.ifmap_store.specs.Waits.{AreWaited, waits_on, waits_there}
 use Rattle.ifmap_store.proofs.Bare.{none_left, sides_same}

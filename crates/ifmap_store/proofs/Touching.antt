@@ -4,14 +4,13 @@ use Rattle.std.proofs.lemmas.Bool.{cases_eq}
 use Rattle.std.proofs.lemmas.Bool.Decides.{nat_tests}
 use Rattle.std.proofs.lemmas.List.{append-nil, take_all}
 use Rattle.std.proofs.lemmas.List.Folds.{list_any_more}
-use Rattle.std.proofs.lemmas.Option.{none-some}
-use Rattle.std.specs.List.{AllByRecursion, Contains, IsDistinct, cons_option, filter, filter_map, list_any}
+use Rattle.std.specs.List.{Contains, cons_option, filter, filter_map, list_any}
 use Rattle.slab.specs.Slab.{Slab, get}
 use Rattle.ifmap_lemmas.specs.Having.{Has, from_has, has_any, has_from}
 use Rattle.ifmap_view.specs.declared.views.LinkSeen.{LinkSeen}
 use Rattle.ifmap_store.specs.declared.shelves.Shelf.{Shelf}
 use Rattle.ifmap_store.specs.Joined.{joined}
-use Rattle.ifmap_store.specs.Linked.{AreListed, ats, changed, far_of, seen_at}
+use Rattle.ifmap_store.specs.Linked.{AreListed, changed, far_of, seen_at}
 use Rattle.ifmap_store.specs.Sides.{Sides}
 use Rattle.ifmap_store.specs.Touched.{AreReady, KeepsLinks, begun, brought, draft_of, full_next, full_now, joins, staying, touched_draft}
 use Rattle.ifmap_store.specs.Turning.{sides_at}

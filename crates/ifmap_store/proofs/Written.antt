@@ -1,5 +1,5 @@
 -- Lists of shelves and of links were written, and no shelf came or went: what contracts see.
-use Rattle.std.proofs.Common.{◌≡◌, ℕ, ◌+◌, ◌≤◌, List, [], ◌++◌, length, ap, ◌∙◌, sym, subst, arith}
+use Rattle.std.proofs.Common.{◌≡◌, ℕ, ◌+◌, List, ◌++◌, ap, ◌∙◌, sym, subst, arith}
 use Rattle.slab.specs.Slab.{get}
 use Rattle.ifmap_ident.specs.declared.identifiers.Identifier.{Identifier}
 use Rattle.ifmap_ident.specs.declared.items.Item.{Item}
@@ -12,7 +12,7 @@ use Rattle.ifmap_store.specs.Drafted.{ends_at}
 use Rattle.ifmap_store.specs.Held.{Held}
 use Rattle.ifmap_store.specs.Named.{named_in}
 use Rattle.ifmap_store.specs.Out.{items_of}
-use Rattle.ifmap_store.specs.Seen.{Awaits, AwaitsMore, KeepsOwn, links_now, rows_now, waits_in}
+use Rattle.ifmap_store.specs.Seen.{Awaits, KeepsOwn, rows_now, waits_in}
 use Rattle.ifmap_store.specs.Shelved.{rows_of}
 use Rattle.ifmap_store.specs.Sides.{Sides, now}
 use Rattle.ifmap_store.specs.Stays.{IsThere, StayPlaced}

@@ -1,13 +1,10 @@
 -- Entries in the order of their items: the first after another that is not empty.
-use Rattle.std.specs.Prelude.{◌≡◌, ◌≢◌, ℕ, List, [], ◌∷◌, ◌++◌, Option, Some, None}
+use Rattle.std.specs.Prelude.{◌≡◌, ◌≢◌, List, [], ◌∷◌, ◌++◌, Option, Some, None}
 use Rattle.std.specs.List.{AllByRecursion, filter}
 use Rattle.std.specs.Ordering.{is_lt}
-use Rattle.std.specs.declared.cmp.Ordering.TheVariants.{Less}
 use Rattle.ifmap_ident.specs.declared.items.Item.{Item}
 use Rattle.ifmap_ident.specs.Items.{item_order}
 use Rattle.ifmap_meta.specs.declared.stored.Stored.{Stored}
-use Rattle.ifmap_view.specs.declared.attachments.Attachment.{Attachment}
-use Rattle.ifmap_view.specs.Rows.{stored_on}
 
 -- the entries after an item
 abbrev pub entries_after : {X : Type 0} → Option Item → List (Item × X) → List (Item × X)

@@ -1,10 +1,9 @@
-use Rattle.std.proofs.Common.{rules, ◌≡◌, ◌<◌, ◌≤◌, ◌-◌, ◌^◌, ◌∷◌, [], ℕ, None, List, length, refl, ap, ◌∙◌, sym, subst, arith}
+use Rattle.std.proofs.Common.{◌≡◌, ◌<◌, ◌-◌, ◌^◌, ◌∷◌, [], ℕ, None, length, refl, ◌∙◌, sym, subst, arith}
 use Rattle.std.specs.Result.{OnOk}
 use Rattle.slab.specs.Slab.{get}
 use Rattle.ifmap_ident.specs.declared.items.Item.{Item}
 use Rattle.ifmap_ident.specs.Items.{IsCanonItem}
-use Rattle.ifmap_pool.specs.Holdings.{holds_at}
-use Rattle.ifmap_store.specs.Bringing.{AreInside, BringsShelves, parts_of}
+use Rattle.ifmap_store.specs.Bringing.{BringsShelves, parts_of}
 use Rattle.ifmap_store.specs.Held.{IsInside}
 use Rattle.ifmap_store.specs.Shelved.{place_of}
 use Rattle.ifmap_store.specs.Sides.{next, now}

@@ -1,5 +1,4 @@
-use Rattle.std.proofs.Common.{◌≡◌, ◌<◌, ◌≤◌, ◌+◌, ◌∷◌, ℕ, Bool, false, List, length, drop, get_or, refl, ap, ◌∙◌, sym, arith}
-use Rattle.ifmap_ident.specs.declared.items.Item.{Item}
+use Rattle.std.proofs.Common.{false, get_or, arith}
 use Rattle.ifmap_plans.specs.declared.plans.ItemChange.{ItemChange}
 use Rattle.ifmap_store.specs.Out.{items_of}
 use Rattle.ifmap_store.proofs.Accepting.{here_mapped}

@@ -1,9 +1,4 @@
-use Rattle.std.proofs.Common.{◌≡◌, ℕ, None, List, refl, ap, ◌∙◌, sym, subst}
-use Rattle.std.specs.List.Sorted.{IsStrictlySortedBy}
-use Rattle.slab.specs.Slab.{get}
-use Rattle.ifmap_view.specs.Attachments.{stored_order}
-use Rattle.ifmap_view.specs.Rows.{stored_on}
-use Rattle.ifmap_store.specs.Shelved.{rows_of}
+use Rattle.std.proofs.Common.{ℕ, List, ap, ◌∙◌}
 use Rattle.ifmap_store.specs.Sides.{now}
 use Rattle.ifmap_store.specs.Touched.{draft_of}
 use Rattle.ifmap_store.specs.Turning.{sides_at}

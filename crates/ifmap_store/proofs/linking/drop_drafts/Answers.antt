@@ -1,4 +1,4 @@
-use Rattle.std.proofs.Common.{◌<◌, ◌≢◌, ◌≡◌, ℕ, None, length, subst, sym, ap, ◌∙◌, arith}
+use Rattle.std.proofs.Common.{◌<◌, ℕ, length, subst, sym, ap, ◌∙◌, arith}
 use Rattle.ifmap_store.specs.Turning.{sides_at}
 use Rattle.ifmap_store.proofs.Readying.{drops_on, drops_within, dropping, dropped}
 use Rattle.ifmap_store.proofs.linking.drop_drafts.Goals as goal

@@ -1,5 +1,5 @@
-use Rattle.std.proofs.Common.{◌≡◌, ◌++◌, ℕ, List, [], ap, ◌∙◌, sym}
-use Rattle.std.specs.List.{cons_option, filter_map}
+use Rattle.std.proofs.Common.{◌++◌, [], ap, ◌∙◌}
+use Rattle.std.specs.List.{cons_option}
 use Rattle.ifmap_plans.specs.declared.plans.ItemChange.{ItemChange}
 use Rattle.ifmap_store.specs.Touched.{flip_of}
 use Rattle.ifmap_store.proofs.Joining.{found_more}

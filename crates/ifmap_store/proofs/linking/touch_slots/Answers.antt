@@ -1,4 +1,4 @@
-use Rattle.std.proofs.Common.{◌≡◌, ◌<◌, ◌≤◌, ℕ, length, subst, sym, arith}
+use Rattle.std.proofs.Common.{◌<◌, ℕ, subst, sym, arith}
 use Rattle.ifmap_store.proofs.Touching.{touched_all, touches_on, touching}
 use Rattle.ifmap_store.proofs.linking.touch_slots.Goals as goal
 

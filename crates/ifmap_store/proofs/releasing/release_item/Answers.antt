@@ -1,10 +1,4 @@
-use Rattle.std.proofs.Common.{rules, ◌≡◌, List, [], refl, ap, sym, ◌∙◌, subst, IsSome, arith}
-use Rattle.slab.specs.Slab.{get}
-use Rattle.ifmap_view.specs.Rows.{stored_on}
-use Rattle.ifmap_store.specs.Releasing.{IsLess}
-use Rattle.ifmap_store.specs.Shelved.{AreShelved, rows_of}
-use Rattle.ifmap_store.specs.Sides.{now}
-use Rattle.ifmap_store.specs.Waits.{waits_on}
+use Rattle.std.proofs.Common.{refl, sym, ◌∙◌, subst, IsSome, arith}
 use Rattle.ifmap_store.proofs.Gone.{waits_left}
 use Rattle.ifmap_store.proofs.Lessening.{inside_written, is_bare, is_there_still, less_on, less_removed, less_written, waited_there}
 use Rattle.ifmap_store.proofs.Passing.{nothing_in}
@@ -52,7 +46,8 @@ returns-clause-less c =
     (less_written c.args.names.now c.args.shelves.now c.unwait.new.self c.unwait.ensures.shelved c.unwait.ensures.places c.unwait.ensures.ends
     c.unwait.ensures.now c.unwait.ensures.next c.unwait.ensures.bare)
     (less_removed c.args.names.now c.remove_shelf.new.names c.unwait.new.self c.remove_shelf.new.shelves c.args.item.now c.unwait.ensures.shelved
-    (c.remove_shelf.ensures.inside c.requires.inside.0 inside).placed (sym c.stored_at.ensures ∙ nothing_in _ (sym c.is_empty.ensures ∙ c.if-not-is_empty.false))
+    (c.remove_shelf.ensures.inside c.requires.inside.0 inside).placed
+    (sym c.stored_at.ensures ∙ nothing_in _ (sym c.is_empty.ensures ∙ c.if-not-is_empty.false))
     c.remove_shelf.ensures.inside c.remove_shelf.ensures.now c.remove_shelf.ensures.before c.remove_shelf.ensures.others
     c.remove_shelf.ensures.named c.remove_shelf.ensures.own)
 

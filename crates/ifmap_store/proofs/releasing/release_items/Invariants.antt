@@ -8,4 +8,5 @@ use Rattle.ifmap_store.proofs.releasing.release_items.Given as goal
 abbrev pub invariant-loop-change : goal.invariant-loop-change
 invariant-loop-change l =
     IsLess l.initial.names l.names l.initial.shelves l.shelves
-    × ((rest : List Item) → AreWaited (items_of l.changes ++ rest) (waits_on l.initial.shelves) → AreWaited (drop l.change-index (items_of l.changes) ++ rest) (waits_on l.shelves))
+    × ((rest : List Item) → AreWaited (items_of l.changes ++ rest) (waits_on l.initial.shelves)
+    → AreWaited (drop l.change-index (items_of l.changes) ++ rest) (waits_on l.shelves))

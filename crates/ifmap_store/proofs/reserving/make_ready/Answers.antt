@@ -1,4 +1,4 @@
-use Rattle.std.proofs.Common.{◌≡◌, ◌≤◌, Bool, List, length, ap, ◌∙◌, sym, subst}
+use Rattle.std.proofs.Common.{◌≤◌, Bool, List, length, ap, ◌∙◌, sym, subst}
 use Rattle.ifmap_store.specs.Bringing.{BringsShelves, marked, parts_of}
 use Rattle.ifmap_store.specs.Out.{items_of}
 use Rattle.ifmap_store.specs.Shelved.{rows_of}

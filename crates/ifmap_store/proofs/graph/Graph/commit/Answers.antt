@@ -1,4 +1,4 @@
-use Rattle.std.proofs.Common.{rules, ◌≡◌, List, ap, sym, ◌∙◌, subst, ◌++◌}
+use Rattle.std.proofs.Common.{sym, ◌∙◌, subst, ◌++◌}
 use Rattle.ifmap_plans.specs.declared.plans.Plan.{Plan}
 use Rattle.ifmap_store.specs.Out.{items_of}
 use Rattle.ifmap_store.specs.Seen.{Awaits, AwaitsLess}
@@ -16,7 +16,8 @@ returns-clause-now c = c.settle.ensures.now ∙ c.commit_kept-undo.ensures.now
 
 pub returns-clause-waits : goal.returns-clause-waits
 returns-clause-waits c = λ rest a.
-    subst (λ (p : Plan). AwaitsLess (items_of p.changes) c.commit_kept-undo.new.self c.settle.new.self) c.commit_kept-undo.ensures.plan c.settle.ensures.waits rest
+    subst (λ (p : Plan). AwaitsLess (items_of p.changes) c.commit_kept-undo.new.self c.settle.new.self)
+    c.commit_kept-undo.ensures.plan c.settle.ensures.waits rest
     (c.commit_kept-undo.ensures.waits (items_of c.args.ready.plan.changes ++ rest) a)
 
 pub returns-clause-own : goal.returns-clause-own

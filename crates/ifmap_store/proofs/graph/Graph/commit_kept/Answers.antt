@@ -1,10 +1,10 @@
-use Rattle.std.proofs.Common.{rules, ◌≡◌, List, length, map, ap, ◌∙◌, sym, subst}
+use Rattle.std.proofs.Common.{length, map, ap, ◌∙◌, sym, subst}
 use Rattle.slab.specs.Slab.{get}
 use Rattle.ifmap_plans.specs.declared.plans.ItemChange.{ItemChange}
 use Rattle.ifmap_view.specs.Rows.{stored_on}
 use Rattle.ifmap_store.specs.Drafted.{AreOut}
 use Rattle.ifmap_store.specs.Out.{items_of}
-use Rattle.ifmap_store.specs.Shelved.{list_at, rows_of}
+use Rattle.ifmap_store.specs.Shelved.{rows_of}
 use Rattle.ifmap_store.specs.Sides.{next, now}
 use Rattle.ifmap_store.specs.Turning.{AreDrafted, NoOthers, accept_each, backs, sides_at}
 use Rattle.ifmap_store.proofs.Committed.{made_inside, made_links}

@@ -1,8 +1,5 @@
-use Rattle.std.proofs.Common.{◌≡◌, ◌≤◌, ◌++◌, ℕ, IsSome, List, length, refl, ap, ◌∙◌, sym, subst, arith}
+use Rattle.std.proofs.Common.{◌++◌, IsSome, ap, ◌∙◌, sym, subst}
 use Rattle.std.specs.List.{AllByRecursion}
-use Rattle.slab.specs.Slab.{get}
-use Rattle.ifmap_plans.specs.declared.plans.ItemChange.{ItemChange}
-use Rattle.ifmap_view.specs.declared.views.LinkSeen.{LinkSeen}
 use Rattle.ifmap_store.specs.Back.{KeepsOtherBacks}
 use Rattle.ifmap_store.specs.Drafted.{DraftsWithin}
 use Rattle.ifmap_store.specs.Out.{items_of}

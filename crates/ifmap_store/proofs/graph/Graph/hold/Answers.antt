@@ -1,4 +1,4 @@
-use Rattle.std.proofs.Common.{rules, ◌≡◌, ℕ, ◌+◌, ◌^◌, ◌<◌, Option, List, length, refl, ap, sym, ◌∙◌, subst, inl, arith}
+use Rattle.std.proofs.Common.{ℕ, ◌+◌, ◌^◌, ◌<◌, length, refl, sym, subst, arith}
 use Rattle.slab.specs.Slab.{get}
 use Rattle.ifmap_ident.specs.Canon.{IsIdentifier}
 use Rattle.ifmap_ident.specs.Identifiers.{identifier_order}
@@ -39,7 +39,8 @@ invariant_of-self-2 c =
     let room = roomier c.self.inside.names c.reserve.new.self c.reserve.ensures.live (get c.self.inside.shelves.slots)
     c.self.inside.shelves.places.entries c.self.inside.links.items c.lengthen.new.links.items c.reserve.ensures.whole c.lengthen.ensures.same
     c.lengthen.ensures.longer c.self.invariant
-    in inside_held c.reserve.new.self c.hold.new.self (get c.self.inside.shelves.slots) c.self.inside.shelves.places.entries c.lengthen.new.links.items
+    in inside_held c.reserve.new.self c.hold.new.self
+    (get c.self.inside.shelves.slots) c.self.inside.shelves.places.entries c.lengthen.new.links.items
     c.in_ok-key.key room c.hold.ensures.kept c.hold.ensures.whole
     (still_identifiers c.reserve.new.self c.hold.new.self c.hold.result c.in_ok-key.key c.hold.ensures.present c.hold.ensures.absent c.hold.ensures.others
     (subst IsIdentifier (sym c.in_ok-key.ensures) c.requires.canon) room.keys)
@@ -49,7 +50,8 @@ pub returns-clause-named : goal.returns-clause-named
 returns-clause-named c =
     key_told c.hold.new.self c.hold.result c.args.id.now c.bytes_tell_identifiers_apart.ensures
     (still_identifiers c.reserve.new.self c.hold.new.self c.hold.result c.in_ok-key.key c.hold.ensures.present c.hold.ensures.absent c.hold.ensures.others
-    (subst IsIdentifier (sym c.in_ok-key.ensures) c.requires.canon) (keys_alike c.self.inside.names c.reserve.new.self c.reserve.ensures.live c.self.invariant.keys))
+    (subst IsIdentifier (sym c.in_ok-key.ensures) c.requires.canon)
+    (keys_alike c.self.inside.names c.reserve.new.self c.reserve.ensures.live c.self.invariant.keys))
     c.requires.canon (subst (Names identifier_order c.hold.new.self c.hold.result) c.in_ok-key.ensures c.hold.ensures.named)
 
 pub returns-clause-kept : goal.returns-clause-kept
@@ -59,7 +61,8 @@ returns-clause-kept c =
     (λ v a n. c.hold.ensures.kept v a (names_alike c.self.inside.names c.reserve.new.self c.reserve.ensures.live v a n))
     c.bytes_tell_identifiers_apart.ensures c.self.invariant.keys
     (still_identifiers c.reserve.new.self c.hold.new.self c.hold.result c.in_ok-key.key c.hold.ensures.present c.hold.ensures.absent c.hold.ensures.others
-    (subst IsIdentifier (sym c.in_ok-key.ensures) c.requires.canon) (keys_alike c.self.inside.names c.reserve.new.self c.reserve.ensures.live c.self.invariant.keys)))
+    (subst IsIdentifier (sym c.in_ok-key.ensures) c.requires.canon)
+    (keys_alike c.self.inside.names c.reserve.new.self c.reserve.ensures.live c.self.invariant.keys)))
 
 pub returns-clause-own : goal.returns-clause-own
 returns-clause-own c =

@@ -1,4 +1,4 @@
-use Rattle.std.proofs.Common.{rules, ℕ, option_map, ap, ◌∙◌}
+use Rattle.std.proofs.Common.{ℕ, option_map, ap, ◌∙◌}
 use Rattle.std.specs.FinMap.{get, get-empty}
 use Rattle.std.specs.Ordering.{nat_cmp}
 use Rattle.ifmap_ident.specs.declared.identifiers.Identifier.{Identifier}

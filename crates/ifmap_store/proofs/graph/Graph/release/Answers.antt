@@ -1,4 +1,4 @@
-use Rattle.std.proofs.Common.{rules, refl, arith}
+use Rattle.std.proofs.Common.{refl, arith}
 use Rattle.slab.specs.Slab.{get}
 use Rattle.ifmap_store.proofs.Kept.{kept_backs, kept_still, kept_waits}
 use Rattle.ifmap_store.proofs.Settled.{held_of}
@@ -26,17 +26,20 @@ returns-clause-own c =
 pub returns-clause-still : goal.returns-clause-still
 returns-clause-still c =
     rw (← c.self.view_is)
-    (kept_still (held_of c.self.inside.names c.self.inside.shelves c.self.inside.links.items) (held_of c.release.new.self c.self.inside.shelves c.self.inside.links.items)
+    (kept_still (held_of c.self.inside.names c.self.inside.shelves c.self.inside.links.items)
+    (held_of c.release.new.self c.self.inside.shelves c.self.inside.links.items)
     refl refl (λ v. refl) (omega arith))
 
 pub returns-clause-waits : goal.returns-clause-waits
 returns-clause-waits c =
     rw (← c.self.view_is)
-    (kept_waits (held_of c.self.inside.names c.self.inside.shelves c.self.inside.links.items) (held_of c.release.new.self c.self.inside.shelves c.self.inside.links.items)
+    (kept_waits (held_of c.self.inside.names c.self.inside.shelves c.self.inside.links.items)
+    (held_of c.release.new.self c.self.inside.shelves c.self.inside.links.items)
     refl refl (λ v. refl) (omega arith))
 
 pub returns-clause-backs : goal.returns-clause-backs
 returns-clause-backs c =
     rw (← c.self.view_is)
-    (kept_backs (held_of c.self.inside.names c.self.inside.shelves c.self.inside.links.items) (held_of c.release.new.self c.self.inside.shelves c.self.inside.links.items)
+    (kept_backs (held_of c.self.inside.names c.self.inside.shelves c.self.inside.links.items)
+    (held_of c.release.new.self c.self.inside.shelves c.self.inside.links.items)
     refl refl (λ v. refl) (omega arith))

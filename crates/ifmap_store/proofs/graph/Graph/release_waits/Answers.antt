@@ -1,5 +1,4 @@
-use Rattle.std.proofs.Common.{rules, ◌≡◌, List, refl, ap, sym, ◌∙◌, subst, arith}
-use Rattle.slab.specs.Slab.{get}
+use Rattle.std.proofs.Common.{refl, arith}
 use Rattle.ifmap_store.specs.Out.{items_of}
 use Rattle.ifmap_store.proofs.Own.{key_kept}
 use Rattle.ifmap_store.proofs.Backs.{keeps_other_backs}
@@ -38,7 +37,8 @@ pub returns-clause-still : goal.returns-clause-still
 returns-clause-still c =
     let q = rw (← c.self.view_is) at c.requires
     in bare_to c.release_items.new.names c.release_items.new.shelves c.self.inside.links.items
-    (c.release_items.ensures.less.bare (bare_from c.self.inside.names c.self.inside.shelves c.self.inside.links.items c.self.invariant.placed q.still))
+    (c.release_items.ensures.less.bare
+    (bare_from c.self.inside.names c.self.inside.shelves c.self.inside.links.items c.self.invariant.placed q.still))
     q.still.links
 
 pub returns-clause-numbers : goal.returns-clause-numbers

@@ -1,6 +1,5 @@
-use Rattle.std.proofs.Common.{rules, ◌≡◌, ℕ, List, length, refl, ap, ◌∙◌, sym, subst}
+use Rattle.std.proofs.Common.{refl, ap, ◌∙◌, sym, subst}
 use Rattle.slab.specs.Slab.{get}
-use Rattle.ifmap_plans.specs.declared.plans.ItemChange.{ItemChange}
 use Rattle.ifmap_plans.specs.Plans.{Fits}
 use Rattle.ifmap_store.specs.Bringing.{parts_of}
 use Rattle.ifmap_store.specs.Making.{IsMade}

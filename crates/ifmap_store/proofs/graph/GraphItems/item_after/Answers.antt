@@ -1,4 +1,4 @@
-use Rattle.std.proofs.Common.{rules, Option, Some, None, IfSome, IfNone, List, sym, subst}
+use Rattle.std.proofs.Common.{IfSome, IfNone, List, sym, subst}
 use Rattle.std.specs.Option.{option_copied}
 use Rattle.slab.specs.Slab.{get}
 use Rattle.ifmap_plans.specs.After.{IsNextItem, NoItem}

@@ -1,4 +1,4 @@
-use Rattle.std.proofs.Common.{rules, Option, Some, None, IfSome, IfNone}
+use Rattle.std.proofs.Common.{Option, Some, None, IfSome, IfNone}
 use Rattle.std.specs.Option.{option_copied}
 use Rattle.slab.specs.Slab.{get}
 use Rattle.ifmap_store.specs.Shelved.{list_at}

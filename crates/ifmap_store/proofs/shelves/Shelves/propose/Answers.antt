@@ -1,6 +1,5 @@
-use Rattle.std.proofs.Common.{Some, refl}
+use Rattle.std.proofs.Common.{refl}
 use Rattle.slab.specs.Slab.{get}
-use Rattle.ifmap_store.specs.declared.shelves.Shelf.{Shelf}
 use Rattle.ifmap_store.specs.Sides.{next, now}
 use Rattle.ifmap_store.proofs.Proposing.{draft_there, drafts_come, drafts_there}
 use Rattle.ifmap_store.proofs.Staying.{ends_stay, waits_stay}
