@@ -1,19 +1,19 @@
 -- What contracts see of a graph's inside, and what holds of it.
-use Rattle.std.specs.Prelude.{◌≡◌, ℕ, ◌+◌, ◌<◌, List, [], map, length, Option, None, IsSome, slice_index_or, nat_eq, refl}
+use Rattle.std.specs.Prelude.{ℕ, ◌+◌, ◌<◌, List, [], map, length, Option, None, IsSome, slice_index_or, nat_eq, refl}
 use Rattle.std.specs.Coded.{Coded, code_by, coded×, coded_ℕ, coded_list, coded_option}
 use Rattle.std.specs.List.{AllByRecursion, IsDistinct}
 use Rattle.ifmap_lemmas.specs.Having.{Has}
 use Rattle.ifmap_ident.specs.declared.identifiers.Identifier.{Identifier}
 use Rattle.ifmap_ident.specs.declared.items.Item.{Item}
 use Rattle.ifmap_ident.specs.Identifiers.{identifier_order}
-use Rattle.ifmap_meta.specs.declared.stored.Stored.{Stored}
 use Rattle.ifmap_pool.specs.Holdings.{Holdings, IsHeld, IsPool, entry_at, holdings_code}
+use Rattle.ifmap_plans.specs.Lists.{IsList}
 use Rattle.ifmap_view.specs.declared.views.LinkSeen.{LinkSeen}
 use Rattle.ifmap_store.specs.declared.shelves.Shelf.{Shelf}
 use Rattle.ifmap_store.specs.Joined.{is_full, joined}
 use Rattle.ifmap_store.specs.Linked.{AreListed, ats}
 use Rattle.ifmap_store.specs.Named.{AreHeld, AreIdentifiers, AreNumbered, named_in}
-use Rattle.ifmap_store.specs.Shelved.{IsList, IsPlaced, Side, list_at}
+use Rattle.ifmap_store.specs.Shelved.{IsPlaced, Side, list_at}
 use Rattle.ifmap_store.specs.Sides.{Sides, next, now, sides_code}
 
 -- the shelves in the order of their items, the empty ones among them; the identifiers with their numbers; the links of each number on
