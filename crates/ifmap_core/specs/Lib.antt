@@ -1,2 +1,6 @@
--- The machine as it is built.
+-- The machine as it is built, in reading order.
 pub mod Built
+pub mod Between
+pub mod Outcomes
+pub mod Causes
+pub mod Holding

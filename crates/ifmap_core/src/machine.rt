@@ -1,13 +1,22 @@
 //! The machine.
-ghost use Rattle.std.specs.Prelude.{◌≡◌, ◌≤◌, IfOk, OnErr};
+ghost use Rattle.std.specs.Prelude.{◌≡◌, ◌↔◌, ◌⊎◌, ◌≤◌, IfOk, IsTrue, OnErr, max};
+ghost use Rattle.std.specs.Bool.{OnTrue};
 ghost use Rattle.ifmap_core.specs.Built.{IsBuilt};
-ghost use Rattle.ifmap_machine.specs.State.{opening};
+ghost use Rattle.ifmap_core.specs.Causes.{AsksForNoneLeft, FindsTooMuch, IsRefusal, NamesAnothersSession, NamesNoSession, PurgesAnother, state_for};
+ghost use Rattle.ifmap_core.specs.Holding.{WouldHold};
+ghost use Rattle.ifmap_ident.specs.declared.codes.Code.{Code};
+ghost use Rattle.ifmap_ident.specs.declared.codes.Code.TheVariants as the_code;
+ghost use Rattle.ifmap_machine.specs.declared.events.Answer.TheVariants as the_answer;
+ghost use Rattle.ifmap_machine.specs.State.{advance, opening};
 ghost use Rattle.ifmap_machine.specs.Step.{step};
 
+use crate::ending::{Time, answer_at};
+use crate::holding::{has_nothing, polled_id};
 use ifmap_io::Moment;
 use ifmap_machine::{Answer, Event};
 use ifmap_session::Sessions;
 use ifmap_steps::Steps;
+use ifmap_store::Graph;
 use std::alloc::{AllocError as NoMemory, Global};
 use std::marker::Model;
 use std::sync::ledger::Ledger;
@@ -17,12 +26,13 @@ use std::sync::ledger::Ledger;
 pub struct Core {
     ttl: u32,
     moment: Moment,
+    graph: Graph,
     sessions: Sessions,
 }
 
 impl Model for Core {
-    ghost use Rattle.std.specs.Prelude.{[]};
     ghost use Rattle.std.specs.Coded.{codes};
+    ghost use Rattle.ifmap_core.specs.Between.{IsCore, state_at};
     ghost use Rattle.ifmap_machine.specs.State.{State};
     ghost use Rattle.ifmap_search.specs.contracts.results.PollItem as the_poll_item;
     ghost use Rattle.ifmap_search.specs.contracts.searches.Search as the_search;
@@ -37,14 +47,16 @@ impl Model for Core {
       the_search.the_row.coded,
     ) };
 
-    ghost view = { λ core. record {
-      moment = core.moment;
-      ttl = core.ttl;
-      counter = core.sessions.counter;
-      graph = [];
-      sessions = core.sessions.live;
-      standing = [];
-    } };
+    ghost view = { λ core. state_at core.ttl core.moment core.graph core.sessions };
+
+    ghost invariant = { λ core. IsCore core.ttl core.graph core.sessions.live };
+}
+
+// The later of two moments.
+fn later(one: Moment, other: Moment) -> Moment
+    ensures { result ≡ max one other }
+{
+    one.max(other)
 }
 
 impl Core {
@@ -57,11 +69,14 @@ impl Core {
         Core {
             ttl,
             moment: Moment::new(0).unwrap(),
+            graph: Graph::new(alloc),
             sessions: Sessions::new(alloc),
         }
     }
 
-    /// Answers an event.
+    /// Answers an event: the answer and the state after it are those of `step`. The one error is want of
+    /// memory, also told of a search whose result would have 2^64 bytes or more; it leaves the state as it
+    /// was, the moment too.
     pub fn step<L: Ledger>(
         &mut self,
         alloc: Global,
@@ -71,7 +86,53 @@ impl Core {
         requires { IsBuilt event.now.ask }
         ensures answer { IfOk result (λ answer. (self.new, answer) ≡ step self.old event.now) }
         ensures err { OnErr result (self.new ≡ self.old) }
+
+        // A refusal changes nothing, once the moment is taken in and the expired sessions have ended.
+        ensures refusal { IfOk result (λ answer. (code : Code) → IsRefusal code answer
+            → self.new ≡ state_for self.old event.now) }
+
+        // Each refusal comes exactly where its cause stands, in the state that is answered in.
+        ensures invalid_session { IfOk result (λ answer. IsRefusal the_code.InvalidSessionID answer
+            ↔ NamesNoSession (state_for self.old event.now) event.now.again event.now.ask) }
+        ensures access_denied { IfOk result (λ answer. IsRefusal the_code.AccessDenied answer
+            ↔ (NamesAnothersSession (state_for self.old event.now) event.now.client event.now.ask
+            ⊎ PurgesAnother (state_for self.old event.now) event.now.client event.now.ask)) }
+        ensures system_error { IfOk result (λ answer. IsRefusal the_code.SystemError answer
+            ↔ AsksForNoneLeft (state_for self.old event.now) event.now.client event.now.ask) }
+        ensures too_big { IfOk result (λ answer. IsRefusal the_code.SearchResultsTooBig answer
+            ↔ FindsTooMuch (state_for self.old event.now) event.now.client event.now.ask) }
     {
-        Err(NoMemory)
+        let moment = later(self.moment, event.moment);
+        let time = Time {
+            ttl: self.ttl,
+            moment,
+        };
+        let answer = answer_at(
+            alloc,
+            &mut self.graph,
+            &mut self.sessions,
+            &time,
+            event,
+            steps,
+        )?;
+        self.moment = moment;
+        Ok(answer)
+    }
+
+    /// Whether a poll that is asked again would still be held, so that asking it changes nothing but
+    /// the moment. It takes no memory.
+    pub fn would_hold(&self, event: &Event) -> bool
+        ensures exact { IsTrue result ↔ WouldHold self.now event.now }
+        ensures held { OnTrue result ((advance event.now.moment self.now, the_answer.Held)
+            ≡ step self.now event.now) }
+    {
+        let Some(id) = polled_id(&event.ask) else {
+            return false;
+        };
+        let moment = later(self.moment, event.moment);
+        if !event.again || self.sessions.any_expired(moment, self.ttl) {
+            return false;
+        }
+        has_nothing(&self.sessions, &event.client, id)
     }
 }

@@ -1,10 +1,9 @@
 -- The items of a change, one after another: their drafts are accepted, or taken back.
-use Rattle.std.proofs.Common.{◌≡◌, ℕ, suc, ◌+◌, ◌<◌, ◌≤◌, Bool, true, false, IsSome, Some, List, [], ◌∷◌, ◌++◌, map, length, get_or, set, take, drop, refl, ap, ◌∙◌, sym, subst, arith, add-one, append_assoc, drop-cons}
+use Rattle.std.proofs.Common.{◌≡◌, ℕ, suc, ◌+◌, ◌<◌, ◌≤◌, false, IsSome, List, [], ◌∷◌, ◌++◌, map, length, get_or, set, take, drop, refl, ap, ◌∙◌, sym, subst, arith, add-one, append_assoc, drop-cons}
 use Rattle.std.proofs.lemmas.List.{append-nil, drop_all, get_or-map, length-map, length-set, take_all, take_more_set}
-use Rattle.std.specs.BTreeMap.{is_at}
 use Rattle.std.specs.List.{AllByRecursion, IsDistinct}
 use Rattle.ifmap_ident.specs.declared.items.Item.{Item}
-use Rattle.ifmap_ident.specs.Items.{item_order, items_tie, same_item}
+use Rattle.ifmap_ident.specs.Items.{items_tie, same_item}
 use Rattle.ifmap_meta.specs.declared.stored.Stored.{Stored}
 use Rattle.ifmap_view.specs.Rows.{stored_on}
 use Rattle.ifmap_store.specs.declared.shelves.Shelves.{Shelves}
@@ -19,11 +18,11 @@ use Rattle.ifmap_store.proofs.Ordered.{ties}
 turned : (a b : Item) → same_item a b ≡ same_item b a
 turned a b = items_tie a b ∙ ties a b
 
-apart_parts : (x : Item) (xs : List Item) → IsDistinct same_item (x ∷ xs) → AllByRecursion (λ y. same_item x y ≡ false) xs × IsDistinct same_item xs
+pub apart_parts : (x : Item) (xs : List Item) → IsDistinct same_item (x ∷ xs) → AllByRecursion (λ y. same_item x y ≡ false) xs × IsDistinct same_item xs
 unfolding IsDistinct
 apart_parts x xs d = d
 
-all_given : (P Q : Item → Type 0) (xs : List Item) → ((x : Item) → P x → Q x) → AllByRecursion P xs → AllByRecursion Q xs
+pub all_given : (P Q : Item → Type 0) (xs : List Item) → ((x : Item) → P x → Q x) → AllByRecursion P xs → AllByRecursion Q xs
 all_given P Q [] f a = tt
 all_given P Q (x ∷ xs) f a = (f x a.0, all_given P Q xs f a.1)
 
@@ -145,6 +144,10 @@ module _ (items : List Item) (first : Shelves) where
         sym (append-nil lists) ∙ sym (ap (λ l. l ++ []) (take_all i lists (omega (arith, e, g.long))))
         ∙ sym (ap (λ l. take i lists ++ map (stored_at shelves) l) none) ∙ g.made
 
+  -- what has a draft has a shelf
+  pub drafted_there : AllByRecursion (HasDraft first) items → AllByRecursion (λ x. IsSome (place_of first x)) items
+  drafted_there drafted = all_given (HasDraft first) (λ x. IsSome (place_of first x)) items (λ x k. subst IsSome (sym k.2) refl) drafted
+
   -- so many drafts are taken back
   pub record Discarding (shelves : Shelves) (i : ℕ) : Type 0 where
     pub shelved : AreShelved shelves
@@ -155,11 +158,11 @@ module _ (items : List Item) (first : Shelves) where
     pub waits : (x : Item) → waits_on shelves x ≡ waits_on first x
     pub places : shelves.places ≡ first.places
 
-  pub discarding : AreShelved first → AllByRecursion (HasDraft first) items → DraftsWithin items first → Discarding first 0
-  discarding shelved drafted within = record {
+  pub discarding : AreShelved first → AllByRecursion (λ x. IsSome (place_of first x)) items → DraftsWithin items first → Discarding first 0
+  discarding shelved there within = record {
     shelved = shelved;
     same = refl;
-    there = all_given (HasDraft first) (λ x. IsSome (place_of first x)) items (λ x k. subst IsSome (sym k.2) refl) drafted;
+    there = there;
     within = within;
     ends = λ at. refl;
     waits = λ x. refl;

@@ -1,9 +1,7 @@
 -- Drafts are accepted or taken back one by one; where none is left, both sides are the same.
-use Rattle.std.proofs.Common.{◌≡◌, ◌≢◌, ◌⊎◌, ℕ, Bool, true, false, Option, Some, None, IsSome, List, [], ◌∷◌, ◌++◌, map, unwrap_or, refl, ap, ◌∙◌, sym, subst, inl, inr}
-use Rattle.std.proofs.lemmas.Bool.{cases_Bool}
+use Rattle.std.proofs.Common.{◌≡◌, ℕ, true, false, Option, Some, None, IsSome, List, [], ◌∷◌, ◌++◌, map, unwrap_or, refl, ap, ◌∙◌, sym, subst, inl, inr}
 use Rattle.std.specs.BTreeMap.{is_at}
 use Rattle.std.specs.List.{AllByRecursion}
-use Rattle.std.specs.Map.{lookup}
 use Rattle.std.specs.Ordering.{is_eq}
 use Rattle.std.specs.declared.cmp.Ordering.TheVariants.{Equal}
 use Rattle.slab.specs.Slab.{get}
@@ -14,12 +12,12 @@ use Rattle.ifmap_meta.specs.declared.stored.Stored.{Stored}
 use Rattle.ifmap_store.specs.declared.shelves.Shelf.{Shelf}
 use Rattle.ifmap_store.specs.declared.shelves.Shelves.{Shelves}
 use Rattle.ifmap_store.specs.Drafted.{AreBare, DraftsWithin, NoDraft}
-use Rattle.ifmap_store.specs.Shelved.{AreShelved, HasDraft, IsPlaced, Rises, list_at, row_on, rows_by, rows_of}
+use Rattle.ifmap_store.specs.Shelved.{AreShelved, HasDraft, list_at, row_on, rows_by, rows_of}
 use Rattle.ifmap_store.specs.Sides.{next, now}
 use Rattle.ifmap_store.proofs.Following.{entry_hits}
 use Rattle.ifmap_store.proofs.Shelving.{Entries}
 
-list_bare : (o : Option Shelf) → NoDraft o → list_at next o ≡ list_at now o
+pub list_bare : (o : Option Shelf) → NoDraft o → list_at next o ≡ list_at now o
 list_bare None n = refl
 list_bare (Some shelf) n = ap (λ d. unwrap_or d shelf.stored.now) n
 
@@ -34,7 +32,7 @@ rows_bare look (e ∷ es) a =
 pub sides_same : (s : Shelves) → AreBare s → rows_of next s ≡ rows_of now s
 sides_same s a = rows_bare (get s.slots) s.places.entries a
 
-no_draft : (o : Option Shelf) → ((shelf : Shelf) → o ≡ Some shelf → IsSome shelf.stored.draft → ⊥) → NoDraft o
+pub no_draft : (o : Option Shelf) → ((shelf : Shelf) → o ≡ Some shelf → IsSome shelf.stored.draft → ⊥) → NoDraft o
 no_draft None f = tt
 no_draft (Some shelf) f = by shelf.stored.draft refl
   where

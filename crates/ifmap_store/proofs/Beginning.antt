@@ -1,18 +1,18 @@
 -- A graph with nothing in it.
-use Rattle.std.proofs.Common.{◌≡◌, ℕ, ◌+◌, ◌<◌, Option, Some, None, IsSome, List, [], ◌∷◌, nat_eq, option_map, refl, ap, ◌∙◌, sym, subst, inl, inr}
+use Rattle.std.proofs.Common.{◌≡◌, ℕ, Option, Some, None, IsSome, List, [], nat_eq, option_map, refl, ap, ◌∙◌, sym, subst, inl, inr}
 use Rattle.std.proofs.lemmas.Option.{none-some}
 use Rattle.std.specs.List.{Contains, IsDistinct}
-use Rattle.ifmap_lemmas.specs.Having.{Has, has_from}
+use Rattle.ifmap_lemmas.specs.Having.{has_from}
 use Rattle.ifmap_ident.specs.declared.identifiers.Identifier.{Identifier}
-use Rattle.ifmap_ident.specs.declared.items.Item.{Item}
 use Rattle.ifmap_ident.specs.Identifiers.{identifier_order}
-use Rattle.ifmap_pool.specs.Holdings.{Holdings, IsPool, Names, entry_at, key_at}
+use Rattle.ifmap_pool.specs.Holdings.{Holdings, IsHeld, IsPool, Names, entry_at, key_at}
 use Rattle.ifmap_view.specs.declared.views.LinkSeen.{LinkSeen}
 use Rattle.ifmap_store.specs.declared.shelves.Shelf.{Shelf}
 use Rattle.ifmap_store.specs.Held.{IsInside, IsSide, links_at}
-use Rattle.ifmap_store.specs.Joined.{is_full, joined}
-use Rattle.ifmap_store.specs.Linked.{AreListed, Ends, ats}
-use Rattle.ifmap_store.specs.Shelved.{Side, list_at}
+use Rattle.ifmap_store.specs.Joined.{joined}
+use Rattle.ifmap_store.specs.Linked.{ats}
+use Rattle.ifmap_store.specs.Seen.{IsStill}
+use Rattle.ifmap_store.specs.Shelved.{Side}
 use Rattle.ifmap_store.specs.Sides.{next, now}
 use Rattle.ifmap_store.proofs.Shelving.{no_slots, nothing_placed}
 
@@ -33,6 +33,14 @@ module _ (names : Holdings Identifier) (none : (v : ℕ) → entry_at names v �
 
   unkeyed : (v : ℕ) (a : Identifier) → key_at names v ≡ Some a → ⊥
   unkeyed v a e = none-some _ (sym (ap (λ o. option_map (λ x. x.0) o) (none v)) ∙ e)
+
+  -- nobody holds an identifier
+  pub no_own : (a : Identifier) → IsHeld identifier_order names a 0
+  no_own a = inr (λ v n. unnamed v a n, refl)
+
+  -- nothing has a draft
+  pub no_still : IsStill (record { shelves = []; names = names; links = []; places = [] })
+  no_still = record { shelves = λ x d. none-some _ d.1; links = λ v. refl }
 
   module _ (look : ℕ → Option Shelf) (vacant : (n : ℕ) → look n ≡ None) where
     unjoined : (at v w : ℕ) → joined (look at) ≡ Some (v, w) → ⊥

@@ -1,5 +1,5 @@
 -- The first entry after a bound that is not empty is the next item.
-use Rattle.std.proofs.Common.{◌≡◌, ◌≢◌, ◌⊎◌, ℕ, Bool, true, false, cond, Option, Some, None, List, [], ◌∷◌, ◌++◌, map, refl, ap, ◌∙◌, sym, subst, inl, inr}
+use Rattle.std.proofs.Common.{◌≡◌, ◌≢◌, ◌⊎◌, Bool, true, false, cond, Option, Some, None, List, [], ◌∷◌, ◌++◌, map, refl, ap, ◌∙◌, sym, subst, inl, inr}
 use Rattle.std.proofs.lemmas.Bool.{cases_Bool}
 use Rattle.std.proofs.lemmas.Cmp.{tied_itself}
 use Rattle.std.proofs.lemmas.Option.{same_Some, none-some}
@@ -7,14 +7,14 @@ use Rattle.std.specs.BTreeMap.{is_at}
 use Rattle.std.specs.List.{AllByRecursion, filter}
 use Rattle.std.specs.Map.{lookup}
 use Rattle.std.specs.Ordering.{is_eq, is_lt, ordering_reverse}
-use Rattle.std.specs.declared.cmp.Ordering.{Ordering}
 use Rattle.std.specs.declared.cmp.Ordering.TheVariants.{Less, Equal, Greater}
 use Rattle.ifmap_lemmas.specs.Having.{Has, filter_has, has_filter}
 use Rattle.ifmap_ident.specs.declared.items.Item.{Item}
 use Rattle.ifmap_ident.specs.Items.{item_order}
 use Rattle.ifmap_meta.specs.declared.stored.Stored.{Stored}
+use Rattle.ifmap_plans.specs.After.{IsAbove, IsNextItem, NoItem}
 use Rattle.ifmap_view.specs.Rows.{stored_on}
-use Rattle.ifmap_store.specs.After.{AreEmpty, IsAbove, IsFirst, IsNextItem, NoItem, entries_after}
+use Rattle.ifmap_store.specs.After.{AreEmpty, IsFirst, entries_after}
 use Rattle.ifmap_store.specs.Shelved.{Rises, rows_by}
 use Rattle.ifmap_store.proofs.Ordered.{equal_is, items_total, less_is}
 use Rattle.ifmap_store.proofs.Finding.{absent, first_rises, found, nothing_rises, rises_first}
@@ -151,6 +151,12 @@ module _ {X : Type 0} (list_of : X → List Stored) (es : List (Item × X)) (ris
               ]
             ];
       }
+
+  -- the first entry is one of all
+  pub first_has : (item : Item) → IsFirst list_of (entries_after after es) item → (at : X) × Has es (item, at)
+  first_has item f =
+      let here : Has (entries_after after es) (item, f.at) = subst (λ l. Has l (item, f.at)) (sym f.split) (middle f.before f.rest (item, f.at))
+      in (f.at, (after_of after es (item, f.at) here).0)
 
   pub none_is : AreEmpty list_of (entries_after after es) → NoItem (rows_by list_of es) after
   none_is e other a = by (stored_on other (rows_by list_of es)) refl

@@ -1,7 +1,7 @@
 -- Lists turn, one place after another.
-use Rattle.std.proofs.Common.{◌≡◌, ℕ, zero, suc, ◌+◌, ◌<◌, ◌≤◌, List, [], ◌∷◌, ◌++◌, IsSome, length, get_or, set, take, drop, refl, ap, ◌∙◌, sym, subst, arith, add-one, drop-cons, append_assoc}
-use Rattle.std.proofs.lemmas.List.{drop-set, drop-set-lt, take_more_set, append-nil, length-set, drop_all, take_all}
-use Rattle.ifmap_store.specs.Sides.{Sides, next}
+use Rattle.std.proofs.Common.{◌≡◌, ℕ, ◌+◌, ◌<◌, ◌≤◌, List, [], ◌∷◌, ◌++◌, IsSome, length, get_or, set, take, drop, refl, ap, ◌∙◌, sym, subst, arith, add-one, drop-cons, append_assoc}
+use Rattle.std.proofs.lemmas.List.{drop-set-lt, take_more_set, append-nil, length-set, drop_all, take_all}
+use Rattle.ifmap_store.specs.Sides.{Sides}
 use Rattle.ifmap_store.specs.Turning.{sides_at, accepted, accept_each, backs, AreDrafted}
 
 module _ {T : Type 0} (all : List (ℕ × List T)) (first : List (Sides T)) where

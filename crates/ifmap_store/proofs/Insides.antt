@@ -1,26 +1,23 @@
 -- What a graph's parts owe to whoever views it, on either side.
-use Rattle.std.proofs.Common.{◌≡◌, ◌≢◌, ℕ, ◌+◌, Bool, Option, Some, None, IsSome, List, [], ◌∷◌, ◌++◌, map, option_map, refl, ap, ◌∙◌, sym, subst, inl, inr}
+use Rattle.std.proofs.Common.{◌≡◌, ℕ, ◌+◌, Bool, Option, Some, None, IsSome, List, [], ◌∷◌, ◌++◌, map, option_map, refl, ap, ◌∙◌, sym, subst, inl, inr}
 use Rattle.std.proofs.lemmas.Bool.{cases_Bool}
 use Rattle.std.proofs.lemmas.Option.{same_Some, none-some}
-use Rattle.std.specs.List.{AllByRecursion, Contains}
+use Rattle.std.specs.List.{Contains}
 use Rattle.std.specs.Map.{lookup}
-use Rattle.std.specs.declared.cmp.Ordering.TheVariants.{Equal}
 use Rattle.ifmap_lemmas.specs.Having.{Has}
 use Rattle.ifmap_ident.specs.declared.identifiers.Identifier.{Identifier}
 use Rattle.ifmap_ident.specs.declared.items.Item.{Item}
 use Rattle.ifmap_ident.specs.declared.items.Item.TheVariants.{One, Pair}
 use Rattle.ifmap_ident.specs.Identifiers.{identifier_bytes, identifier_order}
-use Rattle.ifmap_meta.specs.declared.stored.Stored.{Stored}
 use Rattle.ifmap_pool.specs.Holdings.{Holdings, IsPool, Names, entry_at, key_at}
 use Rattle.ifmap_view.specs.declared.views.LinkSeen.{LinkSeen}
 use Rattle.ifmap_view.specs.Rows.{stored_linked}
 use Rattle.ifmap_view.specs.Views.{IsView}
-use Rattle.ifmap_ident.specs.Items.{IsCanonItem}
 use Rattle.ifmap_store.specs.declared.ends.Ends as the_ends
 use Rattle.ifmap_store.specs.declared.ends.Ends.TheVariants as ends
 use Rattle.ifmap_store.specs.declared.shelves.Shelf.{Shelf}
 use Rattle.ifmap_store.specs.Held.{IsSide, shown}
-use Rattle.ifmap_store.specs.Joined.{AreJoined, AreSingle, IsNumber, is_full, joined, two_of}
+use Rattle.ifmap_store.specs.Joined.{AreJoined, AreSingle, IsNumber, joined, two_of}
 use Rattle.ifmap_store.specs.Linked.{Ends}
 use Rattle.ifmap_store.specs.Named.{AreEnds, AreIdentifiers, AreNumbered, HasEnds, named_by, named_in}
 use Rattle.ifmap_store.specs.Shelved.{IsPlaced, Side, list_at, row_on, rows_by}

@@ -11,7 +11,7 @@ cons_append (Some y) xs ys = refl
 
 module _ {X Y : Type 0} (pick : X → Option Y) (d : X) where
   -- one place more is looked at
-  one_more : (xs : List X) (i : ℕ) → i < length xs → filter_map pick (take (suc i) xs) ≡ filter_map pick (take i xs) ++ cons_option (pick (get_or xs i d)) []
+  pub one_more : (xs : List X) (i : ℕ) → i < length xs → filter_map pick (take (suc i) xs) ≡ filter_map pick (take i xs) ++ cons_option (pick (get_or xs i d)) []
   one_more [] i h = absurd (omega (arith, h))
   one_more (x ∷ xs) zero h = refl
   one_more (x ∷ xs) (suc i) h =
@@ -43,3 +43,12 @@ module _ {T E : Type 0} {P Q : Type 0} where
   pub on_err : (r : Result T E) → (P → Q) → OnErr r P → OnErr r Q
   on_err (Ok x) f h = h
   on_err (Err e) f h = f h
+
+-- what holds anyway
+pub any_ok : {T E P : Type 0} (r : Result T E) → P → OnOk r P
+any_ok (Ok x) h = h
+any_ok (Err e) h = tt
+
+pub any_err : {T E P : Type 0} (r : Result T E) → P → OnErr r P
+any_err (Ok x) h = tt
+any_err (Err e) h = h

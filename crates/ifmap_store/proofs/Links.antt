@@ -1,18 +1,18 @@
 -- The links of each number, when places come to be full or empty.
-use Rattle.std.proofs.Common.{◌≡◌, ◌⊎◌, ◌&&◌, ℕ, zero, suc, ◌+◌, ◌<◌, Bool, true, false, not, cond, nat_eq, Option, Some, None, List, [], ◌∷◌, ◌++◌, length, get_or, refl, ap, ◌∙◌, sym, subst, inl, inr, arith}
+use Rattle.std.proofs.Common.{◌≡◌, ◌⊎◌, ◌&&◌, ℕ, Bool, true, false, not, cond, nat_eq, Option, Some, None, List, refl, ap, ◌∙◌, sym, subst, inl, inr, arith}
 use Rattle.std.proofs.lemmas.Bool.{cases_eq, cases_Bool}
 use Rattle.std.proofs.lemmas.Bool.Decides.{nat_tests}
 use Rattle.std.proofs.lemmas.List.Elements.{Contains-append_left, Contains-append_right, Contains-append_cases}
 use Rattle.std.proofs.lemmas.Option.{same_Some, none-some}
-use Rattle.std.specs.List.{Contains, filter, filter_map, cons_option}
-use Rattle.ifmap_lemmas.specs.Having.{Has, filter_has, from_has, has_filter, has_from, has_mapped, mapped_has}
+use Rattle.std.specs.List.{Contains, filter}
+use Rattle.ifmap_lemmas.specs.Having.{filter_has, from_has, has_filter, has_from, has_mapped, mapped_has}
 use Rattle.ifmap_view.specs.declared.views.LinkSeen.{LinkSeen}
 use Rattle.ifmap_store.specs.Linked.{Ends, far_of, seen_at, AreListed, coming, changed}
 
-far_first : (v w : ℕ) → far_of (Some (v, w)) v ≡ Some w
+pub far_first : (v w : ℕ) → far_of (Some (v, w)) v ≡ Some w
 far_first v w = let e : nat_eq v v ≡ true = grind (arith, nat_tests) in rw e refl
 
-far_second : (v w : ℕ) → far_of (Some (w, v)) v ≡ Some w
+pub far_second : (v w : ℕ) → far_of (Some (w, v)) v ≡ Some w
 far_second v w = elim (cases_eq w v) [
   | inl e ↦ let t : nat_eq w v ≡ true = grind (arith, nat_tests) in rw t (ap Some (sym e))
   | inr n ↦ let t : nat_eq w v ≡ false = grind (arith, nat_tests) in let u : nat_eq v v ≡ true = grind (arith, nat_tests) in rw (t, u) refl
@@ -48,7 +48,7 @@ module _ (joins : ℕ → Option (ℕ × ℕ)) where
   far_is at v w None is e = absurd (none-some _ e)
   far_is at v w (Some p) is e = elim (far_ends p v w e) [ inl q ↦ inl (is ∙ ap Some q) | inr q ↦ inr (is ∙ ap Some q) ]
 
-  is_far : (at v w : ℕ) → Ends joins at v w → far_of (joins at) v ≡ Some w
+  pub is_far : (at v w : ℕ) → Ends joins at v w → far_of (joins at) v ≡ Some w
   is_far at v w (inl e) = ap (λ o. far_of o v) e ∙ far_first v w
   is_far at v w (inr e) = ap (λ o. far_of o v) e ∙ far_second v w
 

@@ -1,13 +1,13 @@
 -- A graph's parts after its shelves were written, and none came or went: each side moves with its lists.
-use Rattle.std.proofs.Common.{◌≡◌, ◌⊎◌, ℕ, ◌<◌, Bool, true, Option, Some, None, IsSome, List, [], ◌∷◌, length, nat_eq, option_map, refl, ap, ◌∙◌, sym, subst, inl, inr}
+use Rattle.std.proofs.Common.{◌≡◌, ℕ, ◌<◌, Option, Some, None, IsSome, List, [], ◌∷◌, length, nat_eq, refl, ap, ◌∙◌, sym, subst, inl, inr}
 use Rattle.std.proofs.lemmas.Option.{same_Some, none-some}
 use Rattle.std.specs.List.{AllByRecursion, Contains, IsDistinct}
 use Rattle.slab.specs.Slab.{get}
 use Rattle.ifmap_lemmas.specs.Having.{Has}
 use Rattle.ifmap_ident.specs.declared.identifiers.Identifier.{Identifier}
 use Rattle.ifmap_ident.specs.declared.items.Item.{Item}
-use Rattle.ifmap_meta.specs.declared.stored.Stored.{Stored}
 use Rattle.ifmap_pool.specs.Holdings.{Holdings}
+use Rattle.ifmap_plans.specs.Lists.{IsList}
 use Rattle.ifmap_view.specs.declared.views.LinkSeen.{LinkSeen}
 use Rattle.ifmap_view.specs.Rows.{stored_on}
 use Rattle.ifmap_store.specs.declared.shelves.Shelf.{Shelf}
@@ -15,9 +15,9 @@ use Rattle.ifmap_store.specs.declared.shelves.Shelves.{Shelves}
 use Rattle.ifmap_store.specs.Drafted.{ends_at}
 use Rattle.ifmap_store.specs.Held.{IsInside, IsSide, links_at}
 use Rattle.ifmap_store.specs.Joined.{is_full, joined, two_of}
-use Rattle.ifmap_store.specs.Linked.{AreListed, Ends, ats}
+use Rattle.ifmap_store.specs.Linked.{Ends, ats}
 use Rattle.ifmap_store.specs.Named.{AreEnds, AreNumbered, HasEnds}
-use Rattle.ifmap_store.specs.Shelved.{AreShelved, IsList, IsPlaced, Side, list_at, place_of, rows_of}
+use Rattle.ifmap_store.specs.Shelved.{AreShelved, IsPlaced, Side, list_at, rows_of}
 use Rattle.ifmap_store.specs.Sides.{Sides, next, now}
 use Rattle.ifmap_store.proofs.Finding.{found}
 use Rattle.ifmap_store.proofs.Following.{entry_hits}
@@ -30,7 +30,7 @@ joined_by None (Some t) e = absurd (none-some _ e)
 joined_by (Some s) None e = absurd (none-some _ (sym e))
 joined_by (Some s) (Some t) e = ap two_of (same_Some _ _ e)
 
-live_by : (o p : Option Shelf) → ends_of o ≡ ends_of p → IsSome p → IsSome o
+pub live_by : (o p : Option Shelf) → ends_of o ≡ ends_of p → IsSome p → IsSome o
 live_by None None e s = s
 live_by None (Some t) e s = absurd (none-some _ e)
 live_by (Some a) p e s = refl
@@ -46,7 +46,7 @@ module _ (look later : ℕ → Option Shelf) (ends : (at : ℕ) → ends_of (lat
   all_live [] a = tt
   all_live (e ∷ es) a = (live_by (later e.1) (look e.1) (ends e.1) a.0, all_live es a.1)
 
-  still_numbered : (names : Holdings Identifier) (es : Entries) → AreNumbered names look es → AreNumbered names later es
+  pub still_numbered : (names : Holdings Identifier) (es : Entries) → AreNumbered names look es → AreNumbered names later es
   still_numbered names [] a = tt
   still_numbered names (e ∷ es) a = (has_by names e.0 (later e.1) (look e.1) (ends e.1) a.0, still_numbered names es a.1)
 
@@ -79,23 +79,37 @@ module _ (look later : ℕ → Option Shelf) (ends : (at : ℕ) → ends_of (lat
       once = λ v. subst (λ l. IsDistinct nat_eq (ats l)) (sym (same v)) (is.once v);
     }
 
+  pub placed_still : (es : Entries) → IsPlaced look es → IsPlaced later es
+  placed_still es is = record { rising = is.rising; canon = is.canon; live = all_live es is.live; apart = is.apart }
+
+  pub used_still : (es : Entries) → ((at : ℕ) → IsSome (look at) → (item : Item) × Has es (item, at))
+      → (at : ℕ) → IsSome (later at) → (item : Item) × Has es (item, at)
+  used_still es f at s = f at (live_by (look at) (later at) (sym (ends at)) s)
+
+  -- all parts together, where both sides are in order
+  pub inside_anew : (names : Holdings Identifier) (es : Entries) (links moved : List (Sides LinkSeen)) → length moved ≡ length links
+      → IsSide now later es (links_at now moved) → IsSide next later es (links_at next moved) → IsInside names look es links → IsInside names later es moved
+  inside_anew names es links moved long first second is = record {
+    placed = placed_still es is.placed;
+    used = used_still es is.used;
+    numbered = still_numbered names es is.numbered;
+    pool = is.pool;
+    keys = is.keys;
+    held = is.held;
+    table = λ v s. subst (λ (n : ℕ). v < n) (sym long) (is.table v s);
+    side = first;
+    next_side = second;
+  }
+
   -- all parts together, where both sides come to be what one was
   pub inside_moved : (names : Holdings Identifier) (es : Entries) (links moved : List (Sides LinkSeen)) (one two : Side)
       (from : (Sides LinkSeen → List LinkSeen)) (then : (Sides LinkSeen → List LinkSeen))
       → ((at : ℕ) → list_at now (later at) ≡ list_at one (look at)) → ((at : ℕ) → list_at next (later at) ≡ list_at two (look at))
       → ((v : ℕ) → links_at now moved v ≡ links_at from links v) → ((v : ℕ) → links_at next moved v ≡ links_at then links v) → length moved ≡ length links
       → IsSide one look es (links_at from links) → IsSide two look es (links_at then links) → IsInside names look es links → IsInside names later es moved
-  inside_moved names es links moved one two from then f g ln lx long first second is = record {
-    placed = record { rising = is.placed.rising; canon = is.placed.canon; live = all_live es is.placed.live; apart = is.placed.apart };
-    used = λ at s. is.used at (live_by (look at) (later at) (sym (ends at)) s);
-    numbered = still_numbered names es is.numbered;
-    pool = is.pool;
-    keys = is.keys;
-    held = is.held;
-    table = λ v s. subst (λ (n : ℕ). v < n) (sym long) (is.table v s);
-    side = side_moved one now f (links_at from links) (links_at now moved) ln es first;
-    next_side = side_moved two next g (links_at then links) (links_at next moved) lx es second;
-  }
+  inside_moved names es links moved one two from then f g ln lx long first second is =
+      inside_anew names es links moved long (side_moved one now f (links_at from links) (links_at now moved) ln es first)
+      (side_moved two next g (links_at then links) (links_at next moved) lx es second) is
 
 -- lists are the same at each slot where the same is stored on each item
 module _ (s t : Shelves) (is : AreShelved s) (later : AreShelved t) (places : t.places ≡ s.places)

@@ -1,5 +1,5 @@
 -- The order of items, as entries of a map meet it.
-use Rattle.std.proofs.Common.{rules, ◌≡◌, Bool, true, false, List, [], ◌∷◌, ap, ◌∙◌, sym, refl}
+use Rattle.std.proofs.Common.{rules, ◌≡◌, true, false, List, [], ◌∷◌, ap, ◌∙◌, sym, refl}
 use Rattle.std.specs.BTreeMap.{is_at}
 use Rattle.std.specs.Cmp.{IsTotalOrder}
 use Rattle.std.specs.Cmp.Rules.{comparing}

@@ -1,5 +1,5 @@
 -- A change that is out, as the shelves have it and as contracts see it.
-use Rattle.std.proofs.Common.{◌≡◌, ℕ, Option, Some, None, IsSome, List, [], ◌∷◌, option_map, refl, ap, ◌∙◌, sym}
+use Rattle.std.proofs.Common.{◌≡◌, ℕ, Option, Some, None, List, [], ◌∷◌, option_map, refl, ap, ◌∙◌, sym}
 use Rattle.std.proofs.lemmas.Option.{same_Some, none-some}
 use Rattle.std.specs.BTreeMap.{is_at}
 use Rattle.std.specs.List.{AllByRecursion, IsDistinct}
@@ -9,7 +9,6 @@ use Rattle.slab.specs.Slab.{get}
 use Rattle.ifmap_lemmas.specs.Having.{Has}
 use Rattle.ifmap_ident.specs.declared.items.Item.{Item}
 use Rattle.ifmap_ident.specs.Items.{item_order, same_item}
-use Rattle.ifmap_store.specs.declared.shelves.Shelf.{Shelf}
 use Rattle.ifmap_store.specs.declared.shelves.Shelves.{Shelves}
 use Rattle.ifmap_store.specs.Drafted.{AreOut}
 use Rattle.ifmap_store.specs.Held.{shown}
@@ -18,14 +17,14 @@ use Rattle.ifmap_store.specs.Shelved.{HasDraft}
 use Rattle.ifmap_store.proofs.Insides.{lookup_shown}
 
 module _ (s : Shelves) where
-  from_shown : (x : Item) → IsDrafted (shown (get s.slots) s.places.entries) x → HasDraft s x
+  pub from_shown : (x : Item) → IsDrafted (shown (get s.slots) s.places.entries) x → HasDraft s x
   from_shown x d = by (lookup (is_at (item_order x)) s.places.entries) refl (sym (lookup_shown (get s.slots) (is_at (item_order x)) s.places.entries) ∙ d.1)
     where
       by : (o : Option ℕ) → lookup (is_at (item_order x)) s.places.entries ≡ o → option_map (get s.slots) o ≡ Some (Some d.0) → HasDraft s x
       by None e q = absurd (none-some _ q)
       by (Some at) e q = (at, d.0, e, same_Some _ _ q, d.2)
 
-  to_shown : (x : Item) → HasDraft s x → IsDrafted (shown (get s.slots) s.places.entries) x
+  pub to_shown : (x : Item) → HasDraft s x → IsDrafted (shown (get s.slots) s.places.entries) x
   to_shown x d =
       (d.1, lookup_shown (get s.slots) (is_at (item_order x)) s.places.entries ∙ ap (option_map (get s.slots)) d.2 ∙ ap Some d.3, d.4)
 

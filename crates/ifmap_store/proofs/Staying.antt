@@ -1,13 +1,15 @@
 -- One shelf is written: the numbers of every slot stay, and how often items are waited for.
-use Rattle.std.proofs.Common.{◌≡◌, ℕ, Option, Some, List, option_map, refl, ap, ◌∙◌, sym, inl, inr}
+use Rattle.std.proofs.Common.{◌≡◌, ℕ, Option, Some, [], ◌∷◌, option_map, ap, ◌∙◌, sym, subst, inl, inr}
 use Rattle.std.proofs.lemmas.Bool.{cases_Bool, cases_eq}
 use Rattle.std.specs.BTreeMap.{is_at}
+use Rattle.std.specs.List.{AllByRecursion}
 use Rattle.std.specs.Map.{lookup}
 use Rattle.slab.specs.Slab.{Slab, get, with_value}
 use Rattle.ifmap_ident.specs.declared.items.Item.{Item}
 use Rattle.ifmap_ident.specs.Items.{item_order}
 use Rattle.ifmap_store.specs.declared.ends.Ends.{Ends}
 use Rattle.ifmap_store.specs.declared.shelves.Shelf.{Shelf}
+use Rattle.ifmap_store.specs.Drafted.{NoDraft}
 use Rattle.ifmap_store.specs.Shelved.{IsPlaced}
 use Rattle.ifmap_store.specs.Waits.{waits_at}
 use Rattle.ifmap_store.proofs.Shelving.{Entries}
@@ -31,3 +33,18 @@ module _ (slots new : Slab Shelf) (es : Entries) (is : IsPlaced (get slots) es) 
     | inl y ↦ waits_has slots new es is item at here s t had wrote x y ∙ e ∙ sym (waits_had slots new es is item at here s t had wrote x y)
     | inr f ↦ waits_others slots new es is item at here s t had wrote x f
   ]
+
+  bare_each : t.stored.draft ≡ s.stored.draft → (xs : Entries) → AllByRecursion (λ e. NoDraft (get slots e.1)) xs → AllByRecursion (λ e. NoDraft (get new e.1)) xs
+  bare_each e [] a = tt
+  bare_each e (x ∷ xs) a = (
+    elim (cases_eq x.1 at) [
+      | inl q ↦ let none : NoDraft (Some s) = subst NoDraft (ap (get slots) q ∙ had) a.0
+          in subst NoDraft (sym (ap (get new) q ∙ written_there slots new at s t had wrote)) (e ∙ none)
+      | inr n ↦ subst NoDraft (sym (written_elsewhere slots new at t wrote x.1 n)) a.0
+    ],
+    bare_each e xs a.1,
+  )
+
+  -- where no shelf has a draft, none has
+  pub bare_stays : t.stored.draft ≡ s.stored.draft → AllByRecursion (λ e. NoDraft (get slots e.1)) es → AllByRecursion (λ e. NoDraft (get new e.1)) es
+  bare_stays e = bare_each e es

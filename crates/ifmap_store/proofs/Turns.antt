@@ -1,9 +1,9 @@
 -- Drafts come to be the lists, and the lists come again.
-use Rattle.std.proofs.Common.{◌≡◌, ◌⊎◌, ℕ, suc, ◌+◌, ◌<◌, ◌≤◌, Option, Some, None, List, [], ◌∷◌, ◌++◌, IsSome, length, get_or, set, refl, ap, ◌∙◌, sym, subst, inl, inr, unwrap_or, arith}
+use Rattle.std.proofs.Common.{◌≡◌, ◌⊎◌, ℕ, ◌<◌, ◌≤◌, None, List, [], ◌∷◌, IsSome, length, set, refl, ap, ◌∙◌, sym, subst, inl, inr, unwrap_or, arith}
 use Rattle.std.proofs.lemmas.Bool.{cases_eq}
 use Rattle.std.proofs.lemmas.List.{get_or-set_same, get_or-set_other, length-set}
 use Rattle.ifmap_store.specs.Sides.{Sides, next}
-use Rattle.ifmap_store.specs.Turning.{sides_at, no_list, accepted, restored, accept_each, restore_each, backs, AreDrafted, IsNamed, NoOthers}
+use Rattle.ifmap_store.specs.Turning.{sides_at, no_list, accepted, restored, accept_each, restore_each, backs, AreDrafted, AreWithin, IsNamed, NoOthers}
 
 module _ {T : Type 0} where
   -- what a place has after one was set
@@ -36,13 +36,17 @@ module _ {T : Type 0} where
   ])
   named_bare (w ∷ ws) ls v d (inr n) = named_bare ws (set ls w.0 (accepted (sides_at ls w.0))) v d.2 n
 
-  next_of_bare : (s : Sides T) → s.draft ≡ None → s.now ≡ next s
+  -- where drafts stand at these places alone, none is left
+  pub none_drafted : (ws : List (ℕ × List T)) (ls : List (Sides T)) (v : ℕ) → AreDrafted ws ls → NoOthers ws ls → (sides_at (accept_each ws ls) v).draft ≡ None
+  none_drafted ws ls v d n = elim (n v) [ inl e ↦ stays_bare ws ls v d e | inr i ↦ named_bare ws ls v d i ]
+
+  pub next_of_bare : (s : Sides T) → s.draft ≡ None → s.now ≡ next s
   next_of_bare s e = sym (ap (λ o. unwrap_or o s.now) e)
 
   -- where drafts stand at these places alone, each list is afterwards what was to come
   pub accepted_all : (ws : List (ℕ × List T)) (ls : List (Sides T)) (v : ℕ) → AreDrafted ws ls → NoOthers ws ls → (sides_at (accept_each ws ls) v).now ≡ next (sides_at ls v)
   accepted_all ws ls v d n =
-      next_of_bare (sides_at (accept_each ws ls) v) (elim (n v) [ inl e ↦ stays_bare ws ls v d e | inr i ↦ named_bare ws ls v d i ])
+      next_of_bare (sides_at (accept_each ws ls) v) (none_drafted ws ls v d n)
       ∙ next_same ws ls v d
 
   -- a place without a draft is not named
@@ -96,3 +100,58 @@ module _ {T : Type 0} where
       | inr i ↦ absurd (p.0 i)
     ]
   ]
+
+  -- lists that stand again, on lists that are alike
+  pub still_within : (ws : List (ℕ × List T)) (n m : ℕ) → n ≤ m → AreWithin ws n → AreWithin ws m
+  still_within [] n m h a = tt
+  still_within (w ∷ ws) n m h a = (omega (arith, h, a.0), still_within ws n m h a.1)
+
+  pub restored_length : (ws : List (ℕ × List T)) (ls : List (Sides T)) → length (restore_each ws ls) ≡ length ls
+  restored_length [] ls = refl
+  restored_length (w ∷ ws) ls =
+      restored_length ws (set ls w.0 (restored (sides_at ls w.0) w.1)) ∙ length-set ls w.0 (restored (sides_at ls w.0) w.1)
+
+  pub restored_drafts : (ws : List (ℕ × List T)) (ls : List (Sides T)) (v : ℕ) → AreWithin ws (length ls)
+      → (sides_at (restore_each ws ls) v).draft ≡ (sides_at ls v).draft
+  restored_drafts [] ls v a = refl
+  restored_drafts (w ∷ ws) ls v a =
+      restored_drafts ws (set ls w.0 (restored (sides_at ls w.0) w.1)) v
+      (still_within ws (length ls) (length (set ls w.0 (restored (sides_at ls w.0) w.1))) (omega (arith, length-set ls w.0 (restored (sides_at ls w.0) w.1))) a.1)
+      ∙ elim (at_set ls w.0 v (restored (sides_at ls w.0) w.1) a.0) [
+        | inl e ↦ ap (λ s. s.draft) e.1 ∙ ap (λ n. (sides_at ls n).draft) e.0
+        | inr n ↦ ap (λ s. s.draft) n.1
+      ]
+
+  pub restored_alike : (ws : List (ℕ × List T)) (ls ms : List (Sides T)) → ((v : ℕ) → (sides_at ms v).now ≡ (sides_at ls v).now) → length ls ≤ length ms
+      → (v : ℕ) → AreWithin ws (length ls) → (sides_at (restore_each ws ms) v).now ≡ (sides_at (restore_each ws ls) v).now
+  restored_alike [] ls ms f h v a = f v
+  restored_alike (w ∷ ws) ls ms f h v a =
+      restored_alike ws ls1 ms1 alike (omega (arith, h, length-set ls w.0 (restored (sides_at ls w.0) w.1), length-set ms w.0 (restored (sides_at ms w.0) w.1))) v
+      (still_within ws (length ls) (length ls1) (omega (arith, length-set ls w.0 (restored (sides_at ls w.0) w.1))) a.1)
+    where
+      ls1 : List (Sides T)
+      ls1 = set ls w.0 (restored (sides_at ls w.0) w.1)
+
+      ms1 : List (Sides T)
+      ms1 = set ms w.0 (restored (sides_at ms w.0) w.1)
+
+      alike : (u : ℕ) → (sides_at ms1 u).now ≡ (sides_at ls1 u).now
+      alike u = elim (at_set ls w.0 u (restored (sides_at ls w.0) w.1) a.0) [
+        | inl e ↦ elim (at_set ms w.0 u (restored (sides_at ms w.0) w.1) (omega (arith, h, a.0))) [
+          | inl d ↦ ap (λ s. s.now) d.1 ∙ sym (ap (λ s. s.now) e.1)
+          | inr n ↦ absurd (n.0 e.0)
+        ]
+        | inr n ↦ elim (at_set ms w.0 u (restored (sides_at ms w.0) w.1) (omega (arith, h, a.0))) [
+          | inl d ↦ absurd (n.0 d.0)
+          | inr m ↦ ap (λ s. s.now) m.1 ∙ f u ∙ sym (ap (λ s. s.now) n.1)
+        ]
+      ]
+
+  -- the lists that were are at places that there are
+  pub backs_within : (ws : List (ℕ × List T)) (ls : List (Sides T)) → AreDrafted ws ls → AreWithin (backs ws ls) (length ls)
+  backs_within [] ls d = tt
+  backs_within (w ∷ ws) ls d = (
+    d.0,
+    subst (λ n. AreWithin (backs ws (set ls w.0 (accepted (sides_at ls w.0)))) n) (length-set ls w.0 (accepted (sides_at ls w.0)))
+        (backs_within ws (set ls w.0 (accepted (sides_at ls w.0))) d.2),
+  )

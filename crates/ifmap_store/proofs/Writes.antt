@@ -1,5 +1,5 @@
 -- One shelf changes: what is stored on its item is what the shelf has then, and on no other item anything changes.
-use Rattle.std.proofs.Common.{◌≡◌, ◌≢◌, ℕ, zero, suc, ◌<◌, length, get_or, Bool, true, false, cond, Option, Some, None, IsSome, List, [], ◌∷◌, ◌++◌, map, nat_eq, refl, ap, ◌∙◌, sym, subst, inl, inr, arith}
+use Rattle.std.proofs.Common.{◌≡◌, ◌≢◌, ℕ, zero, suc, ◌<◌, length, get_or, true, false, cond, Option, Some, None, IsSome, List, [], ◌∷◌, ◌++◌, map, nat_eq, refl, ap, ◌∙◌, sym, subst, inl, inr, arith}
 use Rattle.std.proofs.lemmas.Bool.{cases_Bool, cases_eq}
 use Rattle.std.proofs.lemmas.Bool.Decides.{nat_tests}
 use Rattle.std.proofs.lemmas.List.{get_or-set_other, get_or-set_same}
@@ -49,10 +49,10 @@ rows_alike one other f (e ∷ es) =
 module _ (look later : ℕ → Option Shelf) (es : Entries) (is : IsPlaced look es) (item : Item) (at : ℕ) (here : lookup (is_at (item_order item)) es ≡ Some at)
     (others : (o : ℕ) → o ≢ at → later o ≡ look o) where
   -- what ties with the item is looked up at its slot, and nothing else is
-  tied_there : (x : Item) → is_at (item_order item) x ≡ true → lookup (is_at (item_order x)) es ≡ Some at
+  pub tied_there : (x : Item) → is_at (item_order item) x ≡ true → lookup (is_at (item_order x)) es ≡ Some at
   tied_there x t = sym (lookup_tied item x es (equal_is (item_order item x) t)) ∙ here
 
-  other_slot : (x : Item) (bt : ℕ) → is_at (item_order item) x ≡ false → lookup (is_at (item_order x)) es ≡ Some bt → bt ≡ at → ⊥
+  pub other_slot : (x : Item) (bt : ℕ) → is_at (item_order item) x ≡ false → lookup (is_at (item_order x)) es ≡ Some bt → bt ≡ at → ⊥
   other_slot x bt f e q =
       let h = looked_up es x bt e
       in let i = looked_up es item at here

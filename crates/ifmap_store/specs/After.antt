@@ -1,28 +1,10 @@
--- Items in order: the first above another that carries an attachment.
-use Rattle.std.specs.Prelude.{◌≡◌, ◌≢◌, ℕ, List, [], ◌∷◌, ◌++◌, Option, Some, None}
+-- Entries in the order of their items: the first after another that is not empty.
+use Rattle.std.specs.Prelude.{◌≡◌, ◌≢◌, List, [], ◌∷◌, ◌++◌, Option, Some, None}
 use Rattle.std.specs.List.{AllByRecursion, filter}
 use Rattle.std.specs.Ordering.{is_lt}
-use Rattle.std.specs.declared.cmp.Ordering.TheVariants.{Less}
 use Rattle.ifmap_ident.specs.declared.items.Item.{Item}
 use Rattle.ifmap_ident.specs.Items.{item_order}
 use Rattle.ifmap_meta.specs.declared.stored.Stored.{Stored}
-use Rattle.ifmap_view.specs.declared.attachments.Attachment.{Attachment}
-use Rattle.ifmap_view.specs.Rows.{stored_on}
-
--- the item is above the other, where there is one
-abbrev pub IsAbove : Option Item → Item → Type 0
-IsAbove None x = Unit {0}
-IsAbove (Some a) x = item_order a x ≡ Less
-
--- the least item above another, or of all, that carries an attachment
-pub record IsNextItem (rows : List Attachment) (after : Option Item) (item : Item) : Type 0 where
-  pub above : IsAbove after item
-  pub carries : stored_on item rows ≢ []
-  pub least : (other : Item) → IsAbove after other → stored_on other rows ≢ [] → item_order other item ≡ Less → ⊥
-
--- no item above it carries one
-abbrev pub NoItem : List Attachment → Option Item → Type 0
-NoItem rows after = (other : Item) → IsAbove after other → stored_on other rows ≡ []
 
 -- the entries after an item
 abbrev pub entries_after : {X : Type 0} → Option Item → List (Item × X) → List (Item × X)

@@ -1,36 +1,36 @@
 -- What contracts see of a graph's inside, and what holds of it.
-use Rattle.std.specs.Prelude.{◌≡◌, ℕ, ◌+◌, ◌<◌, List, [], map, length, Option, None, IsSome, slice_index_or, nat_eq, refl}
+use Rattle.std.specs.Prelude.{ℕ, ◌+◌, ◌<◌, List, [], map, length, Option, None, IsSome, slice_index_or, nat_eq, refl}
 use Rattle.std.specs.Coded.{Coded, code_by, coded×, coded_ℕ, coded_list, coded_option}
 use Rattle.std.specs.List.{AllByRecursion, IsDistinct}
 use Rattle.ifmap_lemmas.specs.Having.{Has}
 use Rattle.ifmap_ident.specs.declared.identifiers.Identifier.{Identifier}
 use Rattle.ifmap_ident.specs.declared.items.Item.{Item}
 use Rattle.ifmap_ident.specs.Identifiers.{identifier_order}
-use Rattle.ifmap_meta.specs.declared.stored.Stored.{Stored}
 use Rattle.ifmap_pool.specs.Holdings.{Holdings, IsHeld, IsPool, entry_at, holdings_code}
+use Rattle.ifmap_plans.specs.Lists.{IsList}
 use Rattle.ifmap_view.specs.declared.views.LinkSeen.{LinkSeen}
 use Rattle.ifmap_store.specs.declared.shelves.Shelf.{Shelf}
 use Rattle.ifmap_store.specs.Joined.{is_full, joined}
 use Rattle.ifmap_store.specs.Linked.{AreListed, ats}
 use Rattle.ifmap_store.specs.Named.{AreHeld, AreIdentifiers, AreNumbered, named_in}
-use Rattle.ifmap_store.specs.Shelved.{IsList, IsPlaced, Side, list_at}
+use Rattle.ifmap_store.specs.Shelved.{IsPlaced, Side, list_at}
 use Rattle.ifmap_store.specs.Sides.{Sides, next, now, sides_code}
 
 -- the shelves in the order of their items, the empty ones among them; the identifiers with their numbers; the links of each number on
--- both sides; and how often items are waited for, together
+-- both sides; and the slot of each item's shelf, in the same order
 pub record Held : Type 0 where
   pub shelves : List (Item × Option Shelf)
   pub names : Holdings Identifier
   pub links : List (Sides LinkSeen)
-  pub waiting : ℕ
+  pub places : List (Item × ℕ)
 
 abbrev pub held_code : Coded Item → Coded Shelf → Coded Identifier → Coded LinkSeen → Coded Held
 held_code item shelf identifier link =
     code_by
-    (List (Item × Option Shelf) × (Holdings Identifier × (List (Sides LinkSeen) × ℕ)))
-    (coded× (coded_list (coded× item (coded_option shelf))) (coded× (holdings_code identifier) (coded× (coded_list (sides_code link)) coded_ℕ)))
-    (λ h. (h.shelves, (h.names, (h.links, h.waiting))))
-    (λ p. record { shelves = p.0; names = p.1.0; links = p.1.1.0; waiting = p.1.1.1 })
+    (List (Item × Option Shelf) × (Holdings Identifier × (List (Sides LinkSeen) × List (Item × ℕ))))
+    (coded× (coded_list (coded× item (coded_option shelf))) (coded× (holdings_code identifier) (coded× (coded_list (sides_code link)) (coded_list (coded× item coded_ℕ)))))
+    (λ h. (h.shelves, (h.names, (h.links, h.places))))
+    (λ p. record { shelves = p.0; names = p.1.0; links = p.1.1.0; places = p.1.1.1 })
     (λ _. refl)
 
 -- the shelves of entries

@@ -5,7 +5,6 @@ use Rattle.ifmap_ident.specs.declared.identifiers.Identifier.{Identifier}
 use Rattle.ifmap_ident.specs.declared.items.Item.{Item}
 use Rattle.ifmap_ident.specs.declared.items.Item.TheVariants.{One, Pair}
 use Rattle.ifmap_ident.specs.Identifiers.{identifier_bytes}
-use Rattle.ifmap_meta.specs.declared.stored.Stored.{Stored}
 use Rattle.ifmap_store.specs.declared.ends.Ends.{Ends}
 use Rattle.ifmap_store.specs.declared.ends.Ends.TheVariants as ends
 use Rattle.ifmap_store.specs.declared.shelves.Shelf.{Shelf}

@@ -9,4 +9,11 @@ pub mod Drafted
 pub mod Turning
 pub mod Waits
 pub mod Held
+pub mod Bringing
+pub mod Touched
 pub mod Out
+pub mod Making
+pub mod Seen
+pub mod Stays
+pub mod Releasing
+pub mod Back

@@ -1,6 +1,6 @@
 -- The links of each number, by the places of what stands on them.
-use Rattle.std.specs.Prelude.{◌≡◌, ◌≢◌, ◌⊎◌, ◌&&◌, ◌++◌, ℕ, Bool, true, false, not, List, [], ◌∷◌, Option, Some, None, Contains, map, nat_eq, cond}
-use Rattle.std.specs.List.{AllByRecursion, filter, filter_map}
+use Rattle.std.specs.Prelude.{◌≡◌, ◌⊎◌, ◌&&◌, ◌++◌, ℕ, Bool, true, not, List, Option, Some, None, Contains, map, nat_eq, cond}
+use Rattle.std.specs.List.{filter, filter_map}
 use Rattle.ifmap_view.specs.declared.views.LinkSeen.{LinkSeen}
 
 -- the other number, where the place joins the number with one

@@ -8,9 +8,7 @@ use Rattle.slab.specs.Slab.{get}
 use Rattle.ifmap_ident.specs.declared.items.Item.{Item}
 use Rattle.ifmap_ident.specs.Items.{IsCanonItem, item_order}
 use Rattle.ifmap_meta.specs.declared.stored.Stored.{Stored}
-use Rattle.ifmap_meta.specs.Keys.{same_key}
 use Rattle.ifmap_view.specs.declared.attachments.Attachment.{Attachment}
-use Rattle.ifmap_view.specs.Attachments.{stored_order}
 use Rattle.ifmap_store.specs.declared.shelves.Shelf.{Shelf}
 use Rattle.ifmap_store.specs.declared.shelves.Shelves.{Shelves}
 use Rattle.ifmap_store.specs.Sides.{Sides}
@@ -66,8 +64,3 @@ pub record IsPlaced (look : ℕ → Option Shelf) (entries : List (Item × ℕ))
 
 abbrev pub AreShelved : Shelves → Type 0
 AreShelved s = IsPlaced (get s.slots) s.places.entries
-
--- a list rises, and no two of it have one key
-pub record IsList (list : List Stored) : Type 0 where
-  pub rising : IsStrictlySortedBy stored_order list
-  pub keys : IsDistinct same_key list

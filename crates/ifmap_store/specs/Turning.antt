@@ -1,6 +1,5 @@
 -- Drafts that take the place of lists, and the lists that were.
-use Rattle.std.specs.Prelude.{◌≡◌, ◌⊎◌, ℕ, ◌<◌, List, [], ◌∷◌, map, set, length, Option, Some, None, IsSome, slice_index_or, unwrap_or, nat_eq}
-use Rattle.std.specs.List.{IsDistinct}
+use Rattle.std.specs.Prelude.{◌≡◌, ◌⊎◌, ℕ, ◌<◌, List, [], ◌∷◌, set, length, None, IsSome, slice_index_or}
 use Rattle.ifmap_store.specs.Sides.{Sides, next}
 
 module _ {T : Type 0} where

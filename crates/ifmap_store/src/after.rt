@@ -2,7 +2,9 @@
 ghost use Rattle.std.specs.Prelude.{◌≡◌, ◌+◌, IfSome, IfNone, IsSome, List, Option, option_copied};
 ghost use Rattle.std.specs.List.{AllByRecursion};
 ghost use Rattle.slab.specs.Slab.{get};
-ghost use Rattle.ifmap_store.specs.After.{AreEmpty, IsFirst, IsNextItem, NoItem, entries_after};
+ghost use Rattle.ifmap_ident.specs.Items.{IsCanonItem};
+ghost use Rattle.ifmap_plans.specs.After.{IsNextItem, NoItem};
+ghost use Rattle.ifmap_store.specs.After.{AreEmpty, IsFirst, entries_after};
 ghost use Rattle.ifmap_store.specs.Shelved.{AreShelved, list_at, rows_of};
 ghost use Rattle.ifmap_store.specs.Sides.{now};
 
@@ -55,6 +57,7 @@ impl Shelves {
         requires { AreShelved self.now }
         ensures found { IfSome result (λ found.
             IsNextItem (rows_of now self.now) (option_copied item.entry) found.now) }
+        ensures canon { IfSome result (λ found. IsCanonItem found.now) }
         ensures none { IfNone result (NoItem (rows_of now self.now) (option_copied item.entry)) }
         ensures step { steps.new ≡ steps.old + 1 }
     {

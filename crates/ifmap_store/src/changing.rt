@@ -1,5 +1,5 @@
 //! What changes in one shelf: its draft, its list, and how often it is waited for. No call takes memory.
-ghost use Rattle.std.specs.Prelude.{◌≡◌, ℕ, ◌+◌, ◌-◌, ◌<◌, ◌^◌, List, ◌∷◌, false, Some, None, IsSome, if◌then◌else◌};
+ghost use Rattle.std.specs.Prelude.{◌≡◌, ◌⊎◌, ℕ, ◌+◌, ◌-◌, ◌<◌, ◌^◌, List, ◌∷◌, true, false, Some, None, IsSome, if◌then◌else◌};
 ghost use Rattle.std.specs.BTreeMap.{is_at};
 ghost use Rattle.slab.specs.Slab.{get, with_value};
 ghost use Rattle.ifmap_ident.specs.declared.items.Item.{Item};
@@ -7,7 +7,7 @@ ghost use Rattle.ifmap_ident.specs.Items.{item_order};
 ghost use Rattle.ifmap_meta.specs.declared.stored.Stored.{Stored};
 ghost use Rattle.ifmap_view.specs.Rows.{stored_on};
 ghost use Rattle.ifmap_store.specs.declared.shelves.Shelf.{Shelf};
-ghost use Rattle.ifmap_store.specs.Drafted.{ends_at};
+ghost use Rattle.ifmap_store.specs.Drafted.{AreBare, ends_at};
 ghost use Rattle.ifmap_store.specs.Shelved.{AreShelved, HasDraft, HasNoDraft, place_of, rows_of};
 ghost use Rattle.ifmap_store.specs.Sides.{next, now};
 ghost use Rattle.ifmap_store.specs.Waits.{AreWaited, waits_on};
@@ -91,6 +91,10 @@ impl Shelves {
         ensures next { (x : Item) → stored_on x (rows_of next self.new)
             ≡ (if is_at (item_order item.now) x then list.items
             else stored_on x (rows_of next self.old)) }
+        ensures drafts { (x : Item) → HasDraft self.new x
+            → HasDraft self.old x ⊎ (is_at (item_order item.now) x ≡ true) }
+        ensures kept { (x : Item) → HasDraft self.old x → HasDraft self.new x }
+        ensures drafted { HasDraft self.new item.now }
         ensures ends { (at : ℕ) → ends_at self.new at ≡ ends_at self.old at }
         ensures waits { (x : Item) → waits_on self.new x ≡ waits_on self.old x }
         ensures places { self.new.places ≡ self.old.places }
@@ -148,6 +152,10 @@ impl Shelves {
         ensures shelved { AreShelved self.new }
         ensures waited { (rest : List Item) → AreWaited rest (waits_on self.old)
             → AreWaited (item.now ∷ rest) (waits_on self.new) }
+        ensures others { (x : Item) → is_at (item_order item.now) x ≡ false
+            → waits_on self.new x ≡ waits_on self.old x }
+        ensures drafts { (x : Item) → HasDraft self.new x → HasDraft self.old x }
+        ensures kept { (x : Item) → HasDraft self.old x → HasDraft self.new x }
         ensures now { rows_of now self.new ≡ rows_of now self.old }
         ensures next { rows_of next self.new ≡ rows_of next self.old }
         ensures ends { (at : ℕ) → ends_at self.new at ≡ ends_at self.old at }
@@ -166,6 +174,7 @@ impl Shelves {
         ensures left { result ≡ waits_on self.new item.now }
         ensures waited { (rest : List Item) → AreWaited (item.now ∷ rest) (waits_on self.old)
             → AreWaited rest (waits_on self.new) }
+        ensures bare { AreBare self.old → AreBare self.new }
         ensures now { rows_of now self.new ≡ rows_of now self.old }
         ensures next { rows_of next self.new ≡ rows_of next self.old }
         ensures ends { (at : ℕ) → ends_at self.new at ≡ ends_at self.old at }
@@ -187,6 +196,7 @@ impl Shelves {
             ≡ (if is_at (item_order item.now) x then list.old.items
             else stored_on x (rows_of next self.old)) }
         ensures old { list.new.items ≡ stored_on item.now (rows_of now self.old) }
+        ensures bare { AreBare self.old → AreBare self.new }
         ensures ends { (at : ℕ) → ends_at self.new at ≡ ends_at self.old at }
         ensures waits { (x : Item) → waits_on self.new x ≡ waits_on self.old x }
         ensures places { self.new.places ≡ self.old.places }

@@ -1,8 +1,10 @@
 //! A change that is out is made. No call takes memory.
-ghost use Rattle.std.specs.Prelude.{◌≡◌, ℕ, map};
+ghost use Rattle.std.specs.Prelude.{◌≡◌, ℕ, [], map};
 ghost use Rattle.ifmap_view.specs.Rows.{stored_on};
 ghost use Rattle.ifmap_store.specs.Held.{links_at};
-ghost use Rattle.ifmap_store.specs.Out.{IsOut};
+ghost use Rattle.ifmap_store.specs.Back.{IsWayBack};
+ghost use Rattle.ifmap_store.specs.Out.{IsOut, items_of};
+ghost use Rattle.ifmap_store.specs.Seen.{Awaits, AwaitsMore, IsStill, KeepsOwn, links_now, rows_now};
 ghost use Rattle.ifmap_store.specs.Shelved.{list_at, rows_by};
 ghost use Rattle.ifmap_store.specs.Sides.{next, now};
 ghost use Rattle.ifmap_store.specs.Turning.{backs};
@@ -22,11 +24,16 @@ impl Graph {
             ≡ rows_by (list_at next) self.old.shelves }
         ensures links { (v : ℕ) → links_at now self.new.links v ≡ links_at next self.old.links v }
         ensures names { self.new.names ≡ self.old.names }
-        ensures waiting { self.new.waiting ≡ self.old.waiting }
+        ensures places { self.new.places ≡ self.old.places }
+        ensures still { IsStill self.new }
+        ensures own { KeepsOwn self.old self.new }
+        ensures waits { AwaitsMore [] self.old self.new }
         ensures plan { result.plan ≡ ready.plan }
         ensures lists { result.lists ≡ map
             (λ c. stored_on c.item (rows_by (list_at now) self.old.shelves)) ready.plan.changes }
         ensures ways { result.ways ≡ backs ready.ways self.old.links }
+        ensures back { Awaits (items_of ready.plan.changes) self.old → IsWayBack result
+            (rows_now self.old) (links_now self.old) self.new }
     {
         let mut lists = ready.lists;
         let mut ways = ready.ways;

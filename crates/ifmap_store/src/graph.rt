@@ -1,9 +1,10 @@
 //! A graph's parts together, and the calls that read them, on either side.
-ghost use Rattle.std.specs.Prelude.{◌≡◌, ℕ, ◌+◌, ◌<◌, List, [], Some, None, IfSome, IfNone, Contains, length, option_copied, slice_get};
+ghost use Rattle.std.specs.Prelude.{◌≡◌, ℕ, ◌<◌, [], Some, None, IfSome, Contains, length, option_copied, slice_get};
+ghost use Rattle.ifmap_ident.specs.declared.identifiers.Identifier.{Identifier};
 ghost use Rattle.ifmap_ident.specs.Identifiers.{identifier_bytes, identifier_order};
 ghost use Rattle.ifmap_pool.specs.Holdings.{IsPool, Names, key_at};
-ghost use Rattle.ifmap_store.specs.After.{IsNextItem, NoItem};
-ghost use Rattle.ifmap_store.specs.Held.{links_at};
+ghost use Rattle.ifmap_store.specs.Held.{IsOwn, links_at};
+ghost use Rattle.ifmap_store.specs.Seen.{IsStill};
 ghost use Rattle.ifmap_store.specs.Shelved.{list_at, rows_by};
 ghost use Rattle.ifmap_store.specs.Sides.{next, now};
 ghost use Rattle.ifmap_view.specs.Rows.{stored_linked, stored_on};
@@ -14,6 +15,7 @@ use crate::sided::Sided;
 use ifmap_elem::Equals;
 use ifmap_ident::laws::bytes_tell_identifiers_apart;
 use ifmap_ident::{Identifier, Item};
+use ifmap_plans::Items;
 use ifmap_pool::Pool;
 use ifmap_steps::Steps;
 use ifmap_view::{LinkSeen, Row, View};
@@ -28,7 +30,6 @@ pub struct Graph {
     pub(crate) names: Pool<Identifier>,
     pub(crate) shelves: Shelves,
     pub(crate) links: Vec<Sided<LinkSeen>>,
-    pub(crate) waiting: u64,
 }
 
 impl Model for Graph {
@@ -48,7 +49,7 @@ impl Model for Graph {
       shelves = shown (get g.shelves.slots) g.shelves.places.entries;
       names = g.names;
       links = g.links.items;
-      waiting = g.waiting;
+      places = g.shelves.places.entries;
     } };
 
     ghost invariant = { λ g.
@@ -121,26 +122,16 @@ impl Graph {
     pub fn new(alloc: Global) -> Graph
         ensures shelves { result.shelves ≡ [] }
         ensures links { result.links ≡ [] }
-        ensures waiting { result.waiting ≡ 0 }
+        ensures places { result.places ≡ [] }
+        ensures numbers { (v : ℕ) → key_at result.names v ≡ None }
+        ensures own { (a : Identifier) → IsOwn result a 0 }
+        ensures still { IsStill result }
     {
         Graph {
             names: Pool::new(alloc),
             shelves: Shelves::new(alloc),
             links: Vec::new(alloc),
-            waiting: 0,
         }
-    }
-
-    /// The least item above one, or of all, that carries an attachment. Each call is one step.
-    pub fn item_after<L: Ledger>(&self, item: Option<&Item>, steps: &mut Steps<L>) -> Option<&Item>
-        ensures found { IfSome result (λ found.
-            IsNextItem (rows_by (list_at now) self.now.shelves) (option_copied item.entry)
-            found.now) }
-        ensures none { IfNone result
-            (NoItem (rows_by (list_at now) self.now.shelves) (option_copied item.entry)) }
-        ensures step { steps.new ≡ steps.old + 1 }
-    {
-        self.shelves.item_after(item, steps)
     }
 
     // The calls of a view, as it is to be.
@@ -221,5 +212,11 @@ impl View for Graph {
 
     fn link_stored(&self, seen: LinkSeen) -> &[Row] {
         self.shelves.slots[seen.at as usize].stored.now()
+    }
+}
+
+impl Items for Graph {
+    fn item_after<L: Ledger>(&self, item: Option<&Item>, steps: &mut Steps<L>) -> Option<&Item> {
+        self.shelves.item_after(item, steps)
     }
 }

@@ -1,52 +1,27 @@
-//! Holds of a graph: of its items' identifiers, and those that others ask for.
-ghost use Rattle.std.specs.Prelude.{◌≡◌, ℕ, ◌+◌, ◌-◌, ◌<◌, ◌^◌, Some, None, IfOk, OnOk, OnErr};
-ghost use Rattle.std.specs.BTreeMap.{is_at};
-ghost use Rattle.std.specs.Map.{lookup};
+//! Holds of identifiers that others than items have.
+ghost use Rattle.std.specs.Prelude.{◌≡◌, ℕ, ◌+◌, ◌-◌, ◌<◌, [], Some, IfOk, OnOk, OnErr};
 ghost use Rattle.ifmap_ident.specs.declared.identifiers.Identifier.{Identifier};
 ghost use Rattle.ifmap_ident.specs.Canon.{IsIdentifier};
 ghost use Rattle.ifmap_ident.specs.Identifiers.{identifier_order};
-ghost use Rattle.ifmap_ident.specs.Items.{IsCanonItem, item_order};
-ghost use Rattle.ifmap_pool.specs.Holdings.{IsHeld, holds_at, key_at, once};
+ghost use Rattle.ifmap_pool.specs.Holdings.{key_at, once};
+ghost use Rattle.ifmap_store.specs.Back.{KeepsBacks};
 ghost use Rattle.ifmap_store.specs.Held.{IsOwn};
-ghost use Rattle.ifmap_store.specs.Named.{named_by};
-ghost use Rattle.ifmap_store.specs.Shelved.{list_at, rows_by};
-ghost use Rattle.ifmap_store.specs.Sides.{next, now};
+ghost use Rattle.ifmap_store.specs.Seen.{AwaitsMore, HasFewOwn, IsStill};
 ghost use Rattle.ifmap_store.specs.Turning.{sides_at};
 
+use crate::bringing::MOST_ITEMS;
 use crate::graph::Graph;
-use crate::placing::{lengthen, place_shelf};
+use crate::placing::lengthen;
 use ifmap_elem::Copied;
+use ifmap_ident::Identifier;
 use ifmap_ident::laws::bytes_tell_identifiers_apart;
-use ifmap_ident::{Identifier, Item};
 use std::alloc::{AllocError as NoMemory, Global};
 
 impl Graph {
-    // A shelf for an item that has none, still empty, with the numbers of its identifiers held. Where
-    // memory runs out, all is as before but for room.
-    pub(crate) fn place(&mut self, alloc: Global, item: &Item) -> Result<(), NoMemory>
-        requires canon { IsCanonItem item.now }
-        requires absent { lookup (is_at (item_order item.now)) self.old.shelves ≡ None }
-        requires few { (v : ℕ) → holds_at self.old.names v < 2 ^ 64 - 2 }
-        ensures now { rows_by (list_at now) self.new.shelves ≡ rows_by (list_at now) self.old.shelves }
-        ensures next { rows_by (list_at next) self.new.shelves
-            ≡ rows_by (list_at next) self.old.shelves }
-        ensures held { OnOk result ((a : Identifier) (count : ℕ)
-            → IsHeld identifier_order self.old.names a count
-            → IsHeld identifier_order self.new.names a (count + named_by item.now a)) }
-        ensures err { OnErr result (self.new.names.live ≡ self.old.names.live) }
-        ensures waiting { self.new.waiting ≡ self.old.waiting }
-    {
-        let key = item.copy(alloc)?;
-        let ends = item.copy(alloc)?;
-        self.names.reserve(2)?;
-        lengthen(&mut self.links, alloc, self.names.limit())?;
-        place_shelf(&mut self.names, &mut self.shelves, alloc, key, ends)
-    }
-
     /// The number of an identifier, held once more. Where memory runs out, all is as before but for room.
     pub fn hold(&mut self, alloc: Global, id: &Identifier) -> Result<u64, NoMemory>
         requires canon { IsIdentifier id.now }
-        requires few { (v : ℕ) → holds_at self.old.names v < 2 ^ 64 - 2 }
+        requires few { HasFewOwn self.old }
         ensures named { IfOk result (λ v. key_at self.new.names v ≡ Some id.now) }
         ensures kept { (v : ℕ) (a : Identifier) → key_at self.old.names v ≡ Some a
             → key_at self.new.names v ≡ Some a }
@@ -54,10 +29,16 @@ impl Graph {
             → IsOwn self.new a (own + once identifier_order id.now a)) }
         ensures shelves { self.new.shelves ≡ self.old.shelves }
         ensures links { (v : ℕ) → sides_at self.new.links v ≡ sides_at self.old.links v }
-        ensures waiting { self.new.waiting ≡ self.old.waiting }
+        ensures places { self.new.places ≡ self.old.places }
+        ensures still { IsStill self.old → IsStill self.new }
+        ensures waits { AwaitsMore [] self.old self.new }
+        ensures backs { KeepsBacks self.old self.new }
         ensures err { OnErr result (self.new.names.live ≡ self.old.names.live) }
     {
         bytes_tell_identifiers_apart();
+        if self.shelves.places.len() >= MOST_ITEMS {
+            return Err(NoMemory);
+        }
         let key = id.copy(alloc)?;
         self.names.reserve(1)?;
         lengthen(&mut self.links, alloc, self.names.limit())?;
@@ -73,7 +54,10 @@ impl Graph {
             → IsOwn self.new other (own - once identifier_order a other) }
         ensures shelves { self.new.shelves ≡ self.old.shelves }
         ensures links { self.new.links ≡ self.old.links }
-        ensures waiting { self.new.waiting ≡ self.old.waiting }
+        ensures places { self.new.places ≡ self.old.places }
+        ensures still { IsStill self.old → IsStill self.new }
+        ensures waits { AwaitsMore [] self.old self.new }
+        ensures backs { KeepsBacks self.old self.new }
     {
         self.names.release(number);
     }

@@ -3,18 +3,25 @@
 #![tactic(auto)]
 
 mod after;
+mod bringing;
 pub mod changes;
 mod changing;
 mod committing;
+mod drafting;
 pub mod drafts;
 pub mod ends;
 pub mod graph;
 mod holding;
 mod linking;
 mod placing;
+mod releasing;
+mod reserving;
+mod settling;
 pub mod shelves;
 pub mod sided;
 mod turning;
+mod undoing;
+mod waiting;
 pub mod ways;
 
 pub use changes::{Ready, Undo};

@@ -1,16 +1,21 @@
 //! A shelf for an item that has none, with the numbers of its identifiers held.
-ghost use Rattle.std.specs.Prelude.{◌≡◌, ℕ, ◌+◌, ◌-◌, ◌<◌, ◌≤◌, ◌^◌, List, [], None, OnOk, OnErr, length};
+ghost use Rattle.std.specs.Prelude.{◌≡◌, ℕ, ◌+◌, ◌-◌, ◌<◌, ◌≤◌, ◌^◌, List, [], ◌∷◌, Some, None, OnOk, OnErr, false, length};
+ghost use Rattle.std.specs.BTreeMap.{is_at};
 ghost use Rattle.slab.specs.Slab.{get};
 ghost use Rattle.ifmap_ident.specs.declared.identifiers.Identifier.{Identifier};
 ghost use Rattle.ifmap_ident.specs.Identifiers.{identifier_order};
-ghost use Rattle.ifmap_ident.specs.Items.{IsCanonItem};
-ghost use Rattle.ifmap_pool.specs.Holdings.{IsHeld, holds_at};
+ghost use Rattle.ifmap_ident.specs.declared.items.Item.{Item};
+ghost use Rattle.ifmap_ident.specs.Items.{IsCanonItem, item_order};
+ghost use Rattle.ifmap_pool.specs.Holdings.{IsHeld, Names, holds_at};
 ghost use Rattle.ifmap_view.specs.declared.views.LinkSeen.{LinkSeen};
+ghost use Rattle.ifmap_store.specs.Bringing.{BringsShelves};
+ghost use Rattle.ifmap_store.specs.Drafted.{AreBare};
 ghost use Rattle.ifmap_store.specs.Held.{IsInside};
 ghost use Rattle.ifmap_store.specs.Named.{named_by, named_in};
 ghost use Rattle.ifmap_store.specs.Shelved.{IsBare, Side, place_of, rows_of};
 ghost use Rattle.ifmap_store.specs.Sides.{Sides, next, now};
 ghost use Rattle.ifmap_store.specs.Turning.{sides_at};
+ghost use Rattle.ifmap_store.specs.Waits.{waits_on};
 
 use crate::ends::{hold_ends, release_ends};
 use crate::shelves::{Shelf, Shelves};
@@ -36,8 +41,8 @@ pub(crate) fn lengthen(
     Ok(())
 }
 
-// A shelf for an item that has none, still empty and waited for once. `ends` is the item once more. Where
-// memory runs out, all is as before but for room.
+// A shelf for an item that has none, still empty, that nobody waits for. `ends` is the item once more.
+// Where memory runs out, all is as before but for room.
 pub(crate) fn place_shelf(
     names: &mut Pool<Identifier>,
     shelves: &mut Shelves,
@@ -60,6 +65,14 @@ pub(crate) fn place_shelf(
     ensures held { OnOk result ((a : Identifier) (count : ℕ)
         → IsHeld identifier_order names.old a count
         → IsHeld identifier_order names.new a (count + named_by item a)) }
+    ensures own { (a : Identifier) (own : ℕ)
+        → IsHeld identifier_order names.old a (named_in shelves.old.places.entries a + own)
+        → IsHeld identifier_order names.new a (named_in shelves.new.places.entries a + own) }
+    ensures kept { (v : ℕ) (a : Identifier) → Names identifier_order names.old v a
+        → Names identifier_order names.new v a }
+    ensures bare { AreBare shelves.old → AreBare shelves.new }
+    ensures brought { OnOk result (BringsShelves (item ∷ []) shelves.old shelves.new) }
+    ensures none { OnErr result (BringsShelves [] shelves.old shelves.new) }
     ensures err { OnErr result (names.new ≡ names.old) }
 {
     shelves.slots.reserve(1)?;
@@ -69,7 +82,7 @@ pub(crate) fn place_shelf(
     shelves.slots.insert_reserved(Shelf {
         ends,
         stored: Sided::new(alloc),
-        waits: 1,
+        waits: 0,
     });
     Ok(())
 }
@@ -85,8 +98,17 @@ pub(crate) fn remove_shelf(names: &mut Pool<Identifier>, shelves: &mut Shelves, 
     ensures own { (a : Identifier) (own : ℕ)
         → IsHeld identifier_order names.old a (named_in shelves.old.places.entries a + own)
         → IsHeld identifier_order names.new a (named_in shelves.new.places.entries a + own) }
+    ensures named { (v : ℕ) (a : Identifier) → Names identifier_order names.new v a
+        → Names identifier_order names.old v a }
     ensures now { rows_of now shelves.new ≡ rows_of now shelves.old }
     ensures next { rows_of next shelves.new ≡ rows_of next shelves.old }
+    ensures before { (x : Item) (at : ℕ) → place_of shelves.new x ≡ Some at
+        → (place_of shelves.old x ≡ Some at)
+        × (get shelves.new.slots at ≡ get shelves.old.slots at) }
+    ensures others { (x : Item) → is_at (item_order item.now) x ≡ false
+        → place_of shelves.new x ≡ place_of shelves.old x }
+    ensures taken { waits_on shelves.old item.now ≡ 0
+        → BringsShelves (item.now ∷ []) shelves.new shelves.old }
 {
     match shelves.places.remove(item) {
         Some(at) => {

@@ -1,8 +1,8 @@
 //! A list with one that may take its place, without memory.
-ghost use Rattle.std.specs.Prelude.{◌≡◌, List, [], Some, None, IsSome};
+ghost use Rattle.std.specs.Prelude.{◌≡◌, ◌++◌, List, [], ◌∷◌, Some, None, IsSome, OnOk, OnErr, is_some};
 ghost use Rattle.ifmap_store.specs.Sides.{next};
 
-use std::alloc::Global;
+use std::alloc::{AllocError as NoMemory, Global};
 use std::marker::Model;
 use std::mem;
 
@@ -58,6 +58,33 @@ impl<T> Sided<T> {
         ensures { self.new ≡ record self.old { draft = Some list.items } }
     {
         self.draft = Some(list);
+    }
+
+    /// Whether there is a draft.
+    pub fn has_draft(&self) -> bool
+        ensures { result ≡ is_some self.now.draft }
+    {
+        self.draft.is_some()
+    }
+
+    /// One more at the end of the draft.
+    pub fn push_draft(&mut self, x: T) -> Result<(), NoMemory>
+    where
+        T: Drop,
+        requires { IsSome self.old.draft }
+        ensures ok { OnOk result ((list : List T) → self.old.draft ≡ Some list
+            → self.new ≡ record self.old { draft = Some (list ++ x ∷ []) }) }
+        ensures now { self.new.now ≡ self.old.now }
+        ensures drafted { IsSome self.new.draft }
+        ensures err { OnErr result (self.new ≡ self.old) }
+    {
+        match &mut self.draft {
+            Some(list) => {
+                list.push(x)?;
+                Ok(())
+            }
+            None => unreachable!(),
+        }
     }
 
     /// The draft takes the list's place. Gives the list that was.

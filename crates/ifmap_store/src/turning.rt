@@ -1,11 +1,12 @@
 //! The items of a change that is out, one after another: their drafts are accepted, or taken back. No call takes
 //! memory.
 ghost use Rattle.std.specs.Prelude.{◌≡◌, ℕ, ◌<◌, false, IsSome, length, map, set, slice_index_or};
+ghost use Rattle.std.specs.List.{AllByRecursion};
 ghost use Rattle.ifmap_ident.specs.declared.items.Item.{Item};
 ghost use Rattle.ifmap_ident.specs.Items.{same_item};
 ghost use Rattle.ifmap_plans.specs.declared.plans.ItemChange.{ItemChange};
 ghost use Rattle.ifmap_view.specs.Rows.{stored_on};
-ghost use Rattle.ifmap_store.specs.Drafted.{AreBare, AreOut, ends_at};
+ghost use Rattle.ifmap_store.specs.Drafted.{AreBare, AreOut, DraftsWithin, ends_at};
 ghost use Rattle.ifmap_store.specs.Shelved.{AreShelved, HasDraft, place_of, rows_of};
 ghost use Rattle.ifmap_store.specs.Sides.{next, now};
 ghost use Rattle.ifmap_store.specs.Waits.{waits_on};
@@ -102,7 +103,9 @@ fn discard_at(shelves: &mut Shelves, changes: &[ItemChange], i: usize)
 // What is stored is what is to be: the drafts are taken back.
 pub(crate) fn discard_changes(shelves: &mut Shelves, changes: &[ItemChange])
     requires shelved { AreShelved shelves.old }
-    requires out { AreOut (map (λ c. c.item) changes.now) shelves.old }
+    requires there { AllByRecursion (λ x. IsSome (place_of shelves.old x))
+        (map (λ c. c.item) changes.now) }
+    requires within { DraftsWithin (map (λ c. c.item) changes.now) shelves.old }
     ensures shelved { AreShelved shelves.new }
     ensures bare { AreBare shelves.new }
     ensures now { rows_of now shelves.new ≡ rows_of now shelves.old }

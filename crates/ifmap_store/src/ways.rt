@@ -81,3 +81,23 @@ pub fn accept_all<T: Drop>(lists: &mut Vec<Sided<T>>, ways: &mut Vec<Way<T>>)
         accept_at(lists, ways, i);
     }
 }
+
+fn restore_at<T>(lists: &mut Vec<Sided<T>>, ways: &mut Vec<Way<T>>, i: usize)
+    requires place { i < length ways.old.items }
+    requires within { (w : ℕ × List T) → (slice_index_or ways.old.items i w).0 < length lists.old.items }
+    ensures lists { (w : ℕ × List T) → let way = slice_index_or ways.old.items i w in lists.new.items ≡ set lists.old.items way.0 (restored (sides_at lists.old.items way.0) way.1) }
+    ensures ways { (w : ℕ × List T) → let at = (slice_index_or ways.old.items i w).0 in ways.new.items ≡ set ways.old.items i (at, (sides_at lists.old.items at).now) }
+{
+    let at = ways[i].at();
+    ways[i].restore(&mut lists[at]);
+}
+
+/// The lists that stand in the ways take their places again, one after the other.
+pub fn restore_all<T>(lists: &mut Vec<Sided<T>>, ways: &mut Vec<Way<T>>)
+    requires { AreWithin ways.old.items (length lists.old.items) }
+    ensures { lists.new.items ≡ restore_each ways.old.items lists.old.items }
+{
+    for i in 0..ways.len() {
+        restore_at(lists, ways, i);
+    }
+}

@@ -1,4 +1,4 @@
-use Rattle.std.proofs.Common.{rules, ◌≡◌, ℕ, IfSome, IfNone, refl, ap, subst, sym, ◌∙◌}
+use Rattle.std.proofs.Common.{IfSome, IfNone, subst, ◌∙◌}
 use Rattle.slab.specs.Slab.{get}
 use Rattle.ifmap_store.specs.After.{AreEmpty, IsFirst}
 use Rattle.ifmap_store.specs.Shelved.{list_at}

@@ -1,4 +1,4 @@
-use Rattle.std.proofs.Common.{rules, ◌≡◌, ℕ, List, [], Some, IsSome, true, ap, sym, ◌∙◌}
+use Rattle.std.proofs.Common.{ℕ, IsSome, ap, sym, ◌∙◌}
 use Rattle.slab.specs.Slab.{get}
 use Rattle.ifmap_store.specs.Shelved.{list_at}
 use Rattle.ifmap_store.specs.Sides.{now}

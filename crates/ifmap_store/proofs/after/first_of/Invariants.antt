@@ -1,4 +1,4 @@
-use Rattle.std.proofs.Common.{◌≡◌, ℕ, List, IsSome}
+use Rattle.std.proofs.Common.{IsSome}
 use Rattle.std.specs.List.{AllByRecursion}
 use Rattle.slab.specs.Slab.{get}
 use Rattle.ifmap_store.specs.After.{IsPassing}

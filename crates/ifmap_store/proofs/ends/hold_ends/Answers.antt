@@ -1,4 +1,4 @@
-use Rattle.std.proofs.Common.{rules, ◌≡◌, ℕ, inl, arith}
+use Rattle.std.proofs.Common.{inl, arith}
 use Rattle.ifmap_store.proofs.Holds.{still_identifiers}
 use Rattle.ifmap_store.proofs.ends.hold_ends.Goals as goal
 

@@ -1,4 +1,4 @@
-use Rattle.std.proofs.Common.{rules, ◌≡◌, ℕ, ◌+◌, inl, arith, subst}
+use Rattle.std.proofs.Common.{ℕ, inl, arith, subst}
 use Rattle.ifmap_ident.specs.Identifiers.{identifier_order}
 use Rattle.ifmap_pool.specs.Holdings.{IsHeld, once}
 use Rattle.ifmap_store.proofs.Holds.{add_two, still_identifiers}

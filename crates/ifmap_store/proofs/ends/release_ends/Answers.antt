@@ -1,4 +1,4 @@
-use Rattle.std.proofs.Common.{rules, ◌≡◌, subst}
+use Rattle.std.proofs.Common.{subst}
 use Rattle.ifmap_store.specs.Named.{AreEnds}
 use Rattle.ifmap_store.proofs.Holds.{identifiers_stay, named_before, one_live, one_released, pair_live, pair_released}
 use Rattle.ifmap_store.proofs.ends.release_ends.Goals as goal

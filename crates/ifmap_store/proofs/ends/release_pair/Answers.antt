@@ -1,4 +1,4 @@
-use Rattle.std.proofs.Common.{rules, ◌≡◌, ℕ, ◌-◌, Option, Some, IsSome, refl, sym, ◌∙◌, arith, subst}
+use Rattle.std.proofs.Common.{ℕ, Option, IsSome, refl, sym, ◌∙◌, subst}
 use Rattle.ifmap_ident.specs.declared.identifiers.Identifier.{Identifier}
 use Rattle.ifmap_ident.specs.Identifiers.{identifier_order}
 use Rattle.ifmap_pool.specs.Holdings.{IsHeld, once}

@@ -1,4 +1,4 @@
-use Rattle.std.proofs.Common.{rules, ◌≡◌, ℕ, ap, ◌∙◌, refl, arith, length, length-append}
+use Rattle.std.proofs.Common.{◌∙◌, refl, arith}
 use Rattle.ifmap_store.proofs.Joining.{one_longer}
 use Rattle.ifmap_store.proofs.placing.lengthen.Goals as goal
 

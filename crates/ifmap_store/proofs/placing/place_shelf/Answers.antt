@@ -1,4 +1,4 @@
-use Rattle.std.proofs.Common.{rules, ◌≡◌, ◌≤◌, ℕ, ◌+◌, Option, Some, None, IsSome, [], List, length, refl, ap, sym, ◌∙◌, subst}
+use Rattle.std.proofs.Common.{◌≡◌, ◌≤◌, ℕ, ◌+◌, [], ◌∷◌, length, refl, ap, sym, ◌∙◌, subst, arith}
 use Rattle.std.specs.BTreeMap.{insert_entry}
 use Rattle.std.specs.List.{AllByRecursion}
 use Rattle.slab.specs.Slab.{Slab, get}
@@ -8,12 +8,19 @@ use Rattle.ifmap_ident.specs.Identifiers.{identifier_order}
 use Rattle.ifmap_ident.specs.Items.{identifiers_of, item_order}
 use Rattle.ifmap_pool.specs.Holdings.{IsHeld}
 use Rattle.ifmap_store.specs.declared.shelves.Shelf.{Shelf}
+use Rattle.ifmap_store.specs.declared.shelves.Shelves.{Shelves}
+use Rattle.ifmap_store.specs.Drafted.{AreBare}
 use Rattle.ifmap_store.specs.Held.{IsInside}
-use Rattle.ifmap_store.specs.Named.{named_by}
+use Rattle.ifmap_store.specs.Named.{named_by, named_in}
 use Rattle.ifmap_store.specs.Shelved.{IsPlaced, list_at, rows_by}
+use Rattle.ifmap_store.specs.Waits.{waits_at}
 use Rattle.ifmap_store.proofs.Arriving.{numbered_comes}
+use Rattle.ifmap_store.proofs.Brought.{bare_comes, brings_both, brings_none, brings_one}
 use Rattle.ifmap_store.proofs.Changed.{inside_comes}
+use Rattle.ifmap_store.proofs.Joining.{any_err}
+use Rattle.ifmap_store.proofs.Leaving.{comes}
 use Rattle.ifmap_store.proofs.Shelving.{placed, same_rows, still_used}
+use Rattle.ifmap_store.proofs.Staying.{ends_of}
 use Rattle.ifmap_store.proofs.placing.place_shelf.Goals as goal
 
 pub returns-in_err-reserve-clause-inside : goal.returns-in_err-reserve-clause-inside
@@ -70,3 +77,59 @@ returns-clause-rows c = λ side nothing.
 pub returns-clause-held : goal.returns-clause-held
 returns-clause-held c = λ a count h.
     subst (λ (i : Item). IsHeld identifier_order c.hold_ends-ends.new.names a (count + named_by i a)) c.requires.same (c.hold_ends-ends.ensures.held a count h)
+
+pub returns-in_err-reserve-clause-none : goal.returns-in_err-reserve-clause-none
+returns-in_err-reserve-clause-none c =
+    any_err c.from_residual.result
+    (brings_none c.args.shelves.now (record { places = c.args.shelves.now.places; slots = c.reserve.new.self }) refl
+    (λ at. ap (λ (s : Slab Shelf). ends_of (get s at)) c.in_err-reserve.ensures.rest_kept)
+    (λ x. ap (λ (s : Slab Shelf). waits_at (get s) c.args.shelves.now.places.entries x) c.in_err-reserve.ensures.rest_kept))
+
+pub returns-in_err-insert-clause-own : goal.returns-in_err-insert-clause-own
+returns-in_err-insert-clause-own c = λ a own h. rw c.in_err-insert.ensures.err h
+
+pub returns-in_err-insert-clause-none : goal.returns-in_err-insert-clause-none
+returns-in_err-insert-clause-none c =
+    any_err c.from_residual-in_err-insert.result
+    (brings_none c.args.shelves.now (record { places = c.insert.new.self; slots = c.reserve.new.self }) c.in_err-insert.ensures.err
+    (λ at. ap (λ (s : Slab Shelf). ends_of (get s at)) c.in_ok-reserve.ensures.rest_kept)
+    (λ x. rw c.in_err-insert.ensures.err (ap (λ (s : Slab Shelf). waits_at (get s) c.args.shelves.now.places.entries x) c.in_ok-reserve.ensures.rest_kept)))
+
+pub returns-clause-own : goal.returns-clause-own
+returns-clause-own c = λ a own h.
+    let more : named_in c.insert.new.self.entries a ≡ named_by c.args.item a + named_in c.args.shelves.now.places.entries a
+    = ap (λ es. named_in es a) c.in_ok-insert.ensures.entries ∙ comes c.args.shelves.now.places.entries c.args.item c.vacant_key-at.result a c.requires.absent
+    in let count : (named_in c.args.shelves.now.places.entries a + own) + named_by c.args.item a ≡ named_in c.insert.new.self.entries a + own = omega (arith, more)
+    in subst (λ (n : ℕ). IsHeld identifier_order c.hold_ends-ends.new.names a n) count
+    (subst (λ (i : Item). IsHeld identifier_order c.hold_ends-ends.new.names a ((named_in c.args.shelves.now.places.entries a + own) + named_by i a)) c.requires.same
+    (c.hold_ends-ends.ensures.held a (named_in c.args.shelves.now.places.entries a + own) h))
+
+pub returns-clause-brought : goal.returns-clause-brought
+returns-clause-brought c =
+    let here : c.insert_reserved.result ≡ c.vacant_key-at.result = c.insert_reserved.ensures.key ∙ sym c.vacant_key-at.ensures.value
+    in let is : IsPlaced (get c.reserve.new.self) c.args.shelves.now.places.entries = rw c.in_ok-reserve.ensures.rest_kept c.requires.inside.1.placed
+    in let mid : Shelves = record { places = c.args.shelves.now.places; slots = c.reserve.new.self }
+    in let new : Shelves = record { places = c.insert.new.self; slots = c.insert_reserved.new.self }
+    in brings_both [] (c.args.item ∷ []) c.args.shelves.now mid new
+    (brings_none c.args.shelves.now mid refl
+    (λ at. ap (λ (s : Slab Shelf). ends_of (get s at)) c.in_ok-reserve.ensures.rest_kept)
+    (λ x. ap (λ (s : Slab Shelf). waits_at (get s) c.args.shelves.now.places.entries x) c.in_ok-reserve.ensures.rest_kept))
+    (brings_one mid new c.args.item c.vacant_key-at.result _ is c.requires.absent c.in_ok-insert.ensures.updates.0 c.in_ok-insert.ensures.entries
+    c.vacant_key-at.ensures.vacant (ap (get c.insert_reserved.new.self) (sym here) ∙ c.insert_reserved.ensures.updates.changed) refl
+    (λ o n. c.insert_reserved.ensures.updates.others o (λ q. n (q ∙ here))))
+
+pub returns-in_err-reserve-clause-bare : goal.returns-in_err-reserve-clause-bare
+returns-in_err-reserve-clause-bare c = λ b. rw c.in_err-reserve.ensures.rest_kept b
+
+pub returns-in_err-insert-clause-bare : goal.returns-in_err-insert-clause-bare
+returns-in_err-insert-clause-bare c = λ b. rw (c.in_err-insert.ensures.err, c.in_ok-reserve.ensures.rest_kept) b
+
+pub returns-clause-bare : goal.returns-clause-bare
+returns-clause-bare c = λ b.
+    let here : c.insert_reserved.result ≡ c.vacant_key-at.result = c.insert_reserved.ensures.key ∙ sym c.vacant_key-at.ensures.value
+    in let is : IsPlaced (get c.reserve.new.self) c.args.shelves.now.places.entries = rw c.in_ok-reserve.ensures.rest_kept c.requires.inside.1.placed
+    in let mid : Shelves = record { places = c.args.shelves.now.places; slots = c.reserve.new.self }
+    in let bare : AreBare mid = rw c.in_ok-reserve.ensures.rest_kept b
+    in bare_comes mid (record { places = c.insert.new.self; slots = c.insert_reserved.new.self }) c.args.item c.vacant_key-at.result _ is bare c.requires.absent
+    c.in_ok-insert.ensures.entries c.vacant_key-at.ensures.vacant (ap (get c.insert_reserved.new.self) (sym here) ∙ c.insert_reserved.ensures.updates.changed)
+    (ap (λ s. s.draft) c.new.ensures) (λ o n. c.insert_reserved.ensures.updates.others o (λ q. n (q ∙ here)))

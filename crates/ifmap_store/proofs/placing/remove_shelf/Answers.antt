@@ -1,4 +1,4 @@
-use Rattle.std.proofs.Common.{rules, ◌≡◌, ℕ, Option, Some, None, IsSome, [], List, refl, ap, sym, ◌∙◌, subst}
+use Rattle.std.proofs.Common.{◌≡◌, Option, Some, None, IsSome, [], refl, ap, sym, ◌∙◌, subst}
 use Rattle.std.proofs.lemmas.Option.{same_Some}
 use Rattle.std.specs.BTreeMap.{is_at}
 use Rattle.std.specs.Map.{lookup}
@@ -7,7 +7,9 @@ use Rattle.ifmap_ident.specs.Items.{item_order}
 use Rattle.ifmap_store.specs.declared.shelves.Shelf.{Shelf}
 use Rattle.ifmap_store.specs.Shelved.{list_at}
 use Rattle.ifmap_store.specs.Sides.{next, now}
+use Rattle.ifmap_store.proofs.Brought.{brings_taken}
 use Rattle.ifmap_store.proofs.Changed.{entry_there, inside_goes, its_ends, its_order, own_stays}
+use Rattle.ifmap_store.proofs.Gone.{stays_there, was_there}
 use Rattle.ifmap_store.proofs.Leaving.{same_rows}
 use Rattle.ifmap_store.proofs.placing.remove_shelf.Goals as goal
 
@@ -79,3 +81,24 @@ returns-clause-next c =
     in same_rows c.args.shelves.now.places.entries c.remove.new.self.entries (get c.args.shelves.now.slots) (get c.remove-shelf.new.self) c.args.item.now c.in-Some.at
     c.requires.inside.1.placed here c.remove-shelf.ensures.updates.changed c.remove-shelf.ensures.updates.others c.remove.ensures.entries c.remove.ensures.ordered next
     (ap (list_at next) had ∙ ap next c.requires.empty.4)
+
+pub returns-clause-before : goal.returns-clause-before
+returns-clause-before c =
+    let here : lookup (is_at (item_order c.args.item.now)) c.args.shelves.now.places.entries ≡ Some c.in-Some.at = sym c.in-Some.ensures.value
+    in was_there c.args.shelves.now.places.entries c.remove.new.self.entries (get c.args.shelves.now.slots) (get c.remove-shelf.new.self) c.args.item.now c.in-Some.at
+    c.requires.inside.1.placed here c.remove-shelf.ensures.updates.changed c.remove-shelf.ensures.updates.others c.remove.ensures.entries c.remove.ensures.ordered
+
+pub returns-clause-others : goal.returns-clause-others
+returns-clause-others c =
+    let here : lookup (is_at (item_order c.args.item.now)) c.args.shelves.now.places.entries ≡ Some c.in-Some.at = sym c.in-Some.ensures.value
+    in stays_there c.args.shelves.now.places.entries c.remove.new.self.entries (get c.args.shelves.now.slots) (get c.remove-shelf.new.self) c.args.item.now c.in-Some.at
+    c.requires.inside.1.placed here c.remove-shelf.ensures.updates.changed c.remove-shelf.ensures.updates.others c.remove.ensures.entries c.remove.ensures.ordered
+
+pub returns-clause-taken : goal.returns-clause-taken
+returns-clause-taken c = λ zero.
+    let here : lookup (is_at (item_order c.args.item.now)) c.args.shelves.now.places.entries ≡ Some c.in-Some.at = sym c.in-Some.ensures.value
+    in brings_taken c.args.shelves.now (record { places = c.remove.new.self; slots = c.remove-shelf.new.self }) c.args.item.now c.in-Some.at here
+    c.remove.ensures.updates.0 c.remove.ensures.entries
+    (λ x n e. (was_there c.args.shelves.now.places.entries c.remove.new.self.entries (get c.args.shelves.now.slots) (get c.remove-shelf.new.self) c.args.item.now
+    c.in-Some.at c.requires.inside.1.placed here c.remove-shelf.ensures.updates.changed c.remove-shelf.ensures.updates.others c.remove.ensures.entries
+    c.remove.ensures.ordered x n e).1) zero

@@ -1,4 +1,4 @@
-use Rattle.std.proofs.Common.{rules, ◌≡◌, false, cond, ap, sym, ◌∙◌}
+use Rattle.std.proofs.Common.{◌≡◌, false, cond, ap, sym, ◌∙◌}
 use Rattle.std.specs.BTreeMap.{is_at}
 use Rattle.ifmap_ident.specs.Items.{item_order}
 use Rattle.ifmap_view.specs.Rows.{stored_on}

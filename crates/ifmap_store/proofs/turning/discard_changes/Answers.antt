@@ -1,4 +1,4 @@
-use Rattle.std.proofs.Common.{rules, ◌≡◌, ◌<◌, ◌≤◌, ℕ, List, map, length, get_or, sym, ◌∙◌, arith}
+use Rattle.std.proofs.Common.{◌≡◌, ◌<◌, ◌≤◌, List, map, length, get_or, arith}
 use Rattle.std.proofs.lemmas.List.{length-map}
 use Rattle.ifmap_ident.specs.declared.items.Item.{Item}
 use Rattle.ifmap_plans.specs.declared.plans.ItemChange.{ItemChange}
@@ -12,7 +12,7 @@ same_length : (changes : List ItemChange) → length (items changes) ≡ length 
 same_length changes = length-map changes (λ (x : ItemChange). x.item)
 
 pub loop-i-init : goal.loop-i-init
-loop-i-init c = discarding (items c.args.changes.now) c.args.shelves.now c.requires.shelved c.requires.out.drafted c.requires.out.within
+loop-i-init c = discarding (items c.args.changes.now) c.args.shelves.now c.requires.shelved c.requires.there c.requires.within
 
 pub discard_at-requires-clause-there : goal.discard_at-requires-clause-there
 discard_at-requires-clause-there c = λ d.

@@ -1,4 +1,4 @@
-use Rattle.std.proofs.Common.{[], ◌≡◌, ◌<◌, length, arith}
+use Rattle.std.proofs.Common.{[], arith}
 use Rattle.ifmap_store.proofs.Going.{begins, drafted_at, goes_on, within}
 use Rattle.ifmap_store.proofs.ways.accept_all.Goals as goal
 

@@ -1,15 +1,19 @@
-use Rattle.std.proofs.Common.{rules, ◌≡◌, List, length, map, ap, ◌∙◌, sym, subst}
+use Rattle.std.proofs.Common.{length, map, ap, ◌∙◌, sym, subst}
 use Rattle.slab.specs.Slab.{get}
 use Rattle.ifmap_plans.specs.declared.plans.ItemChange.{ItemChange}
 use Rattle.ifmap_view.specs.Rows.{stored_on}
 use Rattle.ifmap_store.specs.Drafted.{AreOut}
 use Rattle.ifmap_store.specs.Out.{items_of}
-use Rattle.ifmap_store.specs.Shelved.{list_at, rows_of}
+use Rattle.ifmap_store.specs.Shelved.{rows_of}
 use Rattle.ifmap_store.specs.Sides.{next, now}
-use Rattle.ifmap_store.specs.Turning.{AreDrafted, NoOthers, backs}
+use Rattle.ifmap_store.specs.Turning.{AreDrafted, NoOthers, accept_each, backs, sides_at}
 use Rattle.ifmap_store.proofs.Committed.{made_inside, made_links}
 use Rattle.ifmap_store.proofs.Insides.{rows_shown}
 use Rattle.ifmap_store.proofs.Outs.{are_out}
+use Rattle.ifmap_store.proofs.Settled.{bare_to}
+use Rattle.ifmap_store.proofs.Taking.{can_go_back}
+use Rattle.ifmap_store.proofs.Turns.{none_drafted}
+use Rattle.ifmap_store.proofs.Undone.{own_stays, waits_stay_seen}
 use Rattle.ifmap_store.proofs.graph.Graph.commit_kept.Goals as goal
 
 pub accept_changes-requires-clause-out : goal.accept_changes-requires-clause-out
@@ -66,3 +70,35 @@ returns-clause-lists c =
 pub returns-clause-ways : goal.returns-clause-ways
 returns-clause-ways c =
     rw (← c.self.view_is) (c.accept_all.ensures.ways ∙ ap (λ w. backs w c.self.inside.links.items) (c.ways.view_is ∙ ap (λ r. r.ways) c.ready.view_is))
+
+pub returns-clause-plan : goal.returns-clause-plan
+returns-clause-plan c = ap (λ r. r.plan) c.ready.view_is
+
+pub returns-clause-back : goal.returns-clause-back
+returns-clause-back c =
+    let q = rw (← c.self.view_is) at c.requires
+    in let ways = c.ways.view_is ∙ ap (λ r. r.ways) c.ready.view_is
+    in rw (← c.self.view_is)
+    (can_go_back c.self.inside.names c.self.inside.shelves c.accept_changes.new.shelves c.self.inside.links.items c.accept_all.new.lists.items
+    c.self.invariant c.accept_changes.ensures.places c.accept_changes.ensures.ends c.accept_changes.ensures.waits c.accept_changes.ensures.now
+    c.args.ready _ (are_out c.self.inside.shelves (items_of c.args.ready.plan.changes) q.drafted q.within q.apart) q.links q.no_others
+    (c.accept_all.ensures.lists ∙ ap (λ w. accept_each w c.self.inside.links.items) ways) (returns-clause-plan c)
+    (rw (← c.self.view_is) at (returns-clause-lists c)) (rw (← c.self.view_is) at (returns-clause-ways c)))
+
+pub returns-clause-still : goal.returns-clause-still
+returns-clause-still c =
+    let q = rw (← c.self.view_is) at c.requires
+    in bare_to c.self.inside.names c.accept_changes.new.shelves c.accept_all.new.lists.items c.accept_changes.ensures.bare
+    (λ v. ap (λ l. (sides_at l v).draft)
+    (c.accept_all.ensures.lists ∙ ap (λ w. accept_each w c.self.inside.links.items) (c.ways.view_is ∙ ap (λ r. r.ways) c.ready.view_is))
+    ∙ none_drafted c.args.ready.ways c.self.inside.links.items v q.links q.no_others)
+
+pub returns-clause-own : goal.returns-clause-own
+returns-clause-own c = λ a own h.
+    own_stays c.self.inside.names c.self.inside.shelves c.accept_changes.new.shelves c.self.inside.links.items c.accept_all.new.lists.items
+    c.accept_changes.ensures.places c.accept_changes.ensures.ends c.accept_changes.ensures.waits a own (rw (← c.self.view_is) at h)
+
+pub returns-clause-waits : goal.returns-clause-waits
+returns-clause-waits c = λ rest a.
+    waits_stay_seen c.self.inside.names c.self.inside.shelves c.accept_changes.new.shelves c.self.inside.links.items c.accept_all.new.lists.items
+    c.accept_changes.ensures.places c.accept_changes.ensures.ends c.accept_changes.ensures.waits rest (rw (← c.self.view_is) at a)

@@ -1,4 +1,4 @@
-use Rattle.std.proofs.Common.{rules, ◌≡◌, ◌<◌, List, Some, length, slice_get, ap, sym, ◌∙◌, subst}
+use Rattle.std.proofs.Common.{◌<◌, List, length, slice_get, ap, sym, ◌∙◌, subst}
 use Rattle.ifmap_view.specs.declared.views.LinkSeen.{LinkSeen}
 use Rattle.ifmap_store.specs.Held.{links_at}
 use Rattle.ifmap_store.specs.Sides.{next}

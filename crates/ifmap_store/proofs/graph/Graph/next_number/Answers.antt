@@ -1,4 +1,3 @@
-use Rattle.std.proofs.Common.{rules}
 use Rattle.slab.specs.Slab.{get}
 use Rattle.ifmap_store.specs.Held.{links_at}
 use Rattle.ifmap_store.specs.Sides.{next}

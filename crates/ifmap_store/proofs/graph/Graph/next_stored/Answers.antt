@@ -1,5 +1,4 @@
-use Rattle.std.proofs.Common.{rules, ℕ, ap, sym, ◌∙◌, subst}
-use Rattle.std.specs.List.{Contains}
+use Rattle.std.proofs.Common.{ap, sym, ◌∙◌}
 use Rattle.slab.specs.Slab.{get}
 use Rattle.ifmap_store.specs.Held.{links_at}
 use Rattle.ifmap_store.specs.Shelved.{list_at}

@@ -1,6 +1,5 @@
-use Rattle.std.proofs.Common.{Some, refl}
+use Rattle.std.proofs.Common.{refl}
 use Rattle.slab.specs.Slab.{get}
-use Rattle.ifmap_store.specs.declared.shelves.Shelf.{Shelf}
 use Rattle.ifmap_store.specs.Sides.{next, now}
 use Rattle.ifmap_store.proofs.Staying.{ends_stay, waits_stay}
 use Rattle.ifmap_store.proofs.Writes.{comes, drafts_left, shelved, side_stays, slot_live, some_of}

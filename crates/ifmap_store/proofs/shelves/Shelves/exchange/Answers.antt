@@ -1,10 +1,10 @@
-use Rattle.std.proofs.Common.{◌≡◌, ℕ, Option, Some, None, IsSome, unwrap_or, refl, ap, sym, ◌∙◌, subst}
+use Rattle.std.proofs.Common.{◌≡◌, ℕ, Option, Some, IsSome, unwrap_or, refl, ap, sym, ◌∙◌, subst}
 use Rattle.std.proofs.lemmas.Option.{same_Some}
 use Rattle.slab.specs.Slab.{get}
 use Rattle.ifmap_store.specs.declared.shelves.Shelf.{Shelf}
 use Rattle.ifmap_store.specs.Shelved.{list_at}
 use Rattle.ifmap_store.specs.Sides.{next, now}
-use Rattle.ifmap_store.proofs.Staying.{ends_stay, waits_stay}
+use Rattle.ifmap_store.proofs.Staying.{bare_stays, ends_stay, waits_stay}
 use Rattle.ifmap_store.proofs.Writes.{shelved, shows}
 use Rattle.ifmap_store.proofs.Finding.{found}
 use Rattle.ifmap_store.proofs.shelves.Shelves.exchange.Goals as goal
@@ -58,4 +58,11 @@ returns-clause-waits c =
     let same : c.index-at.result.now ≡ c.requires.drafted.0 = same_Some _ _ (sym c.index-at.ensures ∙ c.requires.drafted.2)
     in let had : get c.args.self.now.slots c.index-at.result.now ≡ Some c.requires.drafted.1 = ap (get c.args.self.now.slots) same ∙ c.requires.drafted.3
     in waits_stay c.args.self.now.slots c.exchange_at.new.slots c.args.self.now.places.entries c.requires.shelved c.args.item.now c.index-at.result.now
+    c.index-at.ensures c.requires.drafted.1 _ had (c.exchange_at.ensures.slots c.requires.drafted.1 had) refl
+
+pub returns-clause-bare : goal.returns-clause-bare
+returns-clause-bare c =
+    let same : c.index-at.result.now ≡ c.requires.drafted.0 = same_Some _ _ (sym c.index-at.ensures ∙ c.requires.drafted.2)
+    in let had : get c.args.self.now.slots c.index-at.result.now ≡ Some c.requires.drafted.1 = ap (get c.args.self.now.slots) same ∙ c.requires.drafted.3
+    in bare_stays c.args.self.now.slots c.exchange_at.new.slots c.args.self.now.places.entries c.requires.shelved c.args.item.now c.index-at.result.now
     c.index-at.ensures c.requires.drafted.1 _ had (c.exchange_at.ensures.slots c.requires.drafted.1 had) refl

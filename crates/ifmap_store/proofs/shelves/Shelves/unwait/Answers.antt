@@ -1,14 +1,10 @@
-use Rattle.std.proofs.Common.{◌≡◌, ℕ, ◌+◌, ◌-◌, ◌<◌, true, Some, refl, ap, sym, ◌∙◌, subst}
+use Rattle.std.proofs.Common.{◌≡◌, ℕ, ◌<◌, refl, ap, sym, ◌∙◌, subst}
 use Rattle.std.proofs.lemmas.Cmp.{tied_itself}
-use Rattle.std.specs.Prelude.{◌^◌}
-use Rattle.std.specs.BTreeMap.{is_at}
 use Rattle.std.specs.Ordering.{is_eq}
 use Rattle.slab.specs.Slab.{get}
-use Rattle.ifmap_ident.specs.Items.{item_order}
-use Rattle.ifmap_store.specs.declared.shelves.Shelf.{Shelf}
 use Rattle.ifmap_store.specs.Sides.{next, now}
 use Rattle.ifmap_store.specs.Waits.{waits_at, waits_of, waits_there}
-use Rattle.ifmap_store.proofs.Staying.{ends_stay}
+use Rattle.ifmap_store.proofs.Staying.{bare_stays, ends_stay}
 use Rattle.ifmap_store.proofs.Writes.{shelved, side_stays, slot_live, some_of, waits_had, waits_has, waits_others}
 use Rattle.ifmap_store.proofs.Ordered.{items_total}
 use Rattle.ifmap_store.proofs.Waited.{lowered}
@@ -69,4 +65,11 @@ returns-clause-ends c =
     let s = some_of (get c.args.self.now.slots c.index-at.result.now)
     (slot_live (get c.args.self.now.slots) c.args.self.now.places.entries c.args.item.now c.index-at.result.now c.requires.shelved c.index-at.ensures)
     in ends_stay c.args.self.now.slots c.unwait_at.new.slots c.args.self.now.places.entries c.requires.shelved c.args.item.now c.index-at.result.now
+    c.index-at.ensures s.0 _ s.1 (c.unwait_at.ensures.slots s.0 s.1) refl
+
+pub returns-clause-bare : goal.returns-clause-bare
+returns-clause-bare c =
+    let s = some_of (get c.args.self.now.slots c.index-at.result.now)
+    (slot_live (get c.args.self.now.slots) c.args.self.now.places.entries c.args.item.now c.index-at.result.now c.requires.shelved c.index-at.ensures)
+    in bare_stays c.args.self.now.slots c.unwait_at.new.slots c.args.self.now.places.entries c.requires.shelved c.args.item.now c.index-at.result.now
     c.index-at.ensures s.0 _ s.1 (c.unwait_at.ensures.slots s.0 s.1) refl

@@ -1,16 +1,11 @@
-use Rattle.std.proofs.Common.{◌≡◌, ℕ, ◌+◌, ◌-◌, ◌<◌, true, Some, refl, ap, sym, ◌∙◌, subst}
-use Rattle.std.proofs.lemmas.Cmp.{tied_itself}
+use Rattle.std.proofs.Common.{◌≡◌, ℕ, ◌-◌, ◌<◌, refl, ap, ◌∙◌, subst}
 use Rattle.std.specs.Prelude.{◌^◌}
-use Rattle.std.specs.BTreeMap.{is_at}
-use Rattle.std.specs.Ordering.{is_eq}
 use Rattle.slab.specs.Slab.{get}
-use Rattle.ifmap_ident.specs.Items.{item_order}
-use Rattle.ifmap_store.specs.declared.shelves.Shelf.{Shelf}
 use Rattle.ifmap_store.specs.Sides.{next, now}
 use Rattle.ifmap_store.specs.Waits.{waits_at, waits_of, waits_there}
+use Rattle.ifmap_store.proofs.Proposing.{drafts_from, drafts_to}
 use Rattle.ifmap_store.proofs.Staying.{ends_stay}
 use Rattle.ifmap_store.proofs.Writes.{shelved, side_stays, slot_live, some_of, waits_had, waits_has, waits_others}
-use Rattle.ifmap_store.proofs.Ordered.{items_total}
 use Rattle.ifmap_store.proofs.Waited.{raised}
 use Rattle.ifmap_store.proofs.shelves.Shelves.wait.Goals as goal
 
@@ -61,4 +56,25 @@ returns-clause-ends c =
     let s = some_of (get c.args.self.now.slots c.index-at.result.now)
     (slot_live (get c.args.self.now.slots) c.args.self.now.places.entries c.args.item.now c.index-at.result.now c.requires.shelved c.index-at.ensures)
     in ends_stay c.args.self.now.slots c.wait_at.new.slots c.args.self.now.places.entries c.requires.shelved c.args.item.now c.index-at.result.now
+    c.index-at.ensures s.0 _ s.1 (c.wait_at.ensures s.0 s.1) refl
+
+pub returns-clause-others : goal.returns-clause-others
+returns-clause-others c =
+    let s = some_of (get c.args.self.now.slots c.index-at.result.now)
+    (slot_live (get c.args.self.now.slots) c.args.self.now.places.entries c.args.item.now c.index-at.result.now c.requires.shelved c.index-at.ensures)
+    in waits_others c.args.self.now.slots c.wait_at.new.slots c.args.self.now.places.entries c.requires.shelved c.args.item.now c.index-at.result.now
+    c.index-at.ensures s.0 _ s.1 (c.wait_at.ensures s.0 s.1)
+
+pub returns-clause-drafts : goal.returns-clause-drafts
+returns-clause-drafts c =
+    let s = some_of (get c.args.self.now.slots c.index-at.result.now)
+    (slot_live (get c.args.self.now.slots) c.args.self.now.places.entries c.args.item.now c.index-at.result.now c.requires.shelved c.index-at.ensures)
+    in drafts_from c.args.self.now.slots c.wait_at.new.slots c.args.self.now.places.entries c.requires.shelved c.args.item.now c.index-at.result.now
+    c.index-at.ensures s.0 _ s.1 (c.wait_at.ensures s.0 s.1) refl
+
+pub returns-clause-kept : goal.returns-clause-kept
+returns-clause-kept c =
+    let s = some_of (get c.args.self.now.slots c.index-at.result.now)
+    (slot_live (get c.args.self.now.slots) c.args.self.now.places.entries c.args.item.now c.index-at.result.now c.requires.shelved c.index-at.ensures)
+    in drafts_to c.args.self.now.slots c.wait_at.new.slots c.args.self.now.places.entries c.requires.shelved c.args.item.now c.index-at.result.now
     c.index-at.ensures s.0 _ s.1 (c.wait_at.ensures s.0 s.1) refl

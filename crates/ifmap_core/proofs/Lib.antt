@@ -1,0 +1,11 @@
+pub mod OneGraph
+pub mod Ids
+pub mod Ended
+pub mod Quiet
+pub mod Exits
+pub mod Changed
+pub mod Owned
+pub mod Applying
+pub mod Requests
+pub mod Refusals
+pub mod Holds

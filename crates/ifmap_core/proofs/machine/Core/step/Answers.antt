@@ -1,0 +1,47 @@
+use Rattle.std.proofs.Common.{rules, ◌↔◌, ◌⊎◌, sym, ◌∙◌, ap, subst, arith}
+use Rattle.std.proofs.lemmas.Grind.{common_steps}
+use Rattle.ifmap_core.specs.Causes.{AsksForNoneLeft, FindsTooMuch, IsRefusal, NamesAnothersSession, NamesNoSession, PurgesAnother, state_for}
+use Rattle.ifmap_core.proofs.Refusals.{access_denied, invalid_session, refusal_leaves, system_error, too_big}
+use Rattle.ifmap_core.proofs.machine.Core.step.Goals as goal
+use Rattle.ifmap_ident.specs.declared.codes.Code.TheVariants.{AccessDenied, InvalidSessionID, SearchResultsTooBig, SystemError}
+use Rattle.ifmap_machine.specs.declared.events.Answer.{Answer}
+use Rattle.ifmap_machine.specs.State.{State}
+
+pub returns-clause-answer : goal.returns-clause-answer
+returns-clause-answer g c = first_of (search rules, grind (arith, common_steps))
+
+pub returns-clause-refusal : goal.returns-clause-refusal
+returns-clause-refusal g c = λ code refused.
+    let outcome = returns-clause-answer g c in
+    ap (λ (p : State × Answer). p.0) outcome
+    ∙ refusal_leaves (state_for c.args.self.now c.args.event.now) c.args.event.now code c.args.event.now.ask c.requires
+    (subst (IsRefusal code) (ap (λ (p : State × Answer). p.1) outcome) refused)
+
+pub returns-clause-invalid_session : goal.returns-clause-invalid_session
+returns-clause-invalid_session g c =
+    let state = state_for c.args.self.now c.args.event.now in
+    subst (λ (a : Answer). IsRefusal InvalidSessionID a ↔ NamesNoSession state c.args.event.now.again c.args.event.now.ask)
+    (sym (ap (λ (p : State × Answer). p.1) (returns-clause-answer g c)))
+    (invalid_session state c.args.event.now c.args.event.now.ask c.requires)
+
+pub returns-clause-access_denied : goal.returns-clause-access_denied
+returns-clause-access_denied g c =
+    let state = state_for c.args.self.now c.args.event.now in
+    subst (λ (a : Answer). IsRefusal AccessDenied a ↔ (NamesAnothersSession state c.args.event.now.client c.args.event.now.ask
+    ⊎ PurgesAnother state c.args.event.now.client c.args.event.now.ask))
+    (sym (ap (λ (p : State × Answer). p.1) (returns-clause-answer g c)))
+    (access_denied state c.args.event.now c.args.event.now.ask c.requires)
+
+pub returns-clause-system_error : goal.returns-clause-system_error
+returns-clause-system_error g c =
+    let state = state_for c.args.self.now c.args.event.now in
+    subst (λ (a : Answer). IsRefusal SystemError a ↔ AsksForNoneLeft state c.args.event.now.client c.args.event.now.ask)
+    (sym (ap (λ (p : State × Answer). p.1) (returns-clause-answer g c)))
+    (system_error state c.args.event.now c.args.event.now.ask c.requires)
+
+pub returns-clause-too_big : goal.returns-clause-too_big
+returns-clause-too_big g c =
+    let state = state_for c.args.self.now c.args.event.now in
+    subst (λ (a : Answer). IsRefusal SearchResultsTooBig a ↔ FindsTooMuch state c.args.event.now.client c.args.event.now.ask)
+    (sym (ap (λ (p : State × Answer). p.1) (returns-clause-answer g c)))
+    (too_big state c.args.event.now c.args.event.now.ask c.requires)

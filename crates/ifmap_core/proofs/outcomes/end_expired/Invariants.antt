@@ -1,0 +1,10 @@
+use Rattle.std.proofs.Common.{◌≡◌, ◌≤◌}
+use Rattle.ifmap_core.proofs.Applying.{EndsSoFar}
+use Rattle.ifmap_core.proofs.outcomes.end_expired.Given as goal
+
+abbrev pub invariant-loop-serial : goal.invariant-loop-serial
+invariant-loop-serial l = record {
+  so_far : EndsSoFar l.ended l.initial.sessions.live l.sessions.live l.serial-index;
+  counter : l.sessions.counter ≡ l.initial.sessions.counter;
+  room : l.initial.sessions.room ≤ l.sessions.room;
+}

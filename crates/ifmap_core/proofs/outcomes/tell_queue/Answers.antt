@@ -1,0 +1,35 @@
+use Rattle.std.proofs.Common.{◌≡◌, sym, ◌∙◌, ap, subst, List}
+use Rattle.std.specs.List.Sorted.{IsStrictlySortedBy}
+use Rattle.ifmap_core.specs.Between.{AreWithin}
+use Rattle.ifmap_core.specs.Outcomes.{first_renewed, told}
+use Rattle.ifmap_core.proofs.Applying.{live_emptied, poll_told, within_emptied, within_first}
+use Rattle.ifmap_core.proofs.Ended.{some_is}
+use Rattle.ifmap_core.proofs.outcomes.tell_queue.Goals as goal
+use Rattle.ifmap_session.specs.Sessions.{IsLive, Session, change, emptied, session_order, session_with_serial}
+
+pub renew_first-requires : goal.renew_first-requires
+renew_first-requires c =
+    subst (IsLive c.args.serial) (sym c.take_all-items.ensures.changes.live)
+    (live_emptied c.args.serial c.args.sessions.now.live c.requires)
+
+pub returns-clause-told : goal.returns-clause-told
+returns-clause-told c = λ state moment sessions.
+    let there = some_is (session_with_serial c.args.serial c.args.sessions.now.live) c.requires in
+    let rising : IsStrictlySortedBy session_order state.sessions =
+    subst (IsStrictlySortedBy session_order) (sym sessions) c.is_table.ensures.rising in
+    let found : session_with_serial c.args.serial state.sessions ≡ _ =
+    ap (λ (l : List Session). session_with_serial c.args.serial l) sessions ∙ there.1 in
+    let renewed : first_renewed c.args.again c.args.serial state.moment (change c.args.serial emptied state.sessions)
+    ≡ c.renew_first.new.sessions.live =
+    ap (λ m. first_renewed c.args.again c.args.serial m (change c.args.serial emptied state.sessions)) moment
+    ∙ ap (λ (l : List Session). first_renewed c.args.again c.args.serial c.args.moment (change c.args.serial emptied l)) sessions
+    ∙ ap (λ (l : List Session). first_renewed c.args.again c.args.serial c.args.moment l) (sym c.take_all-items.ensures.changes.live)
+    ∙ sym c.renew_first.ensures.live in
+    poll_told state c.args.again c.args.serial there.0 rising found c.take_all-items.result (c.take_all-items.ensures.items there.0 there.1)
+    ∙ ap (λ (l : List Session). (record state { sessions = l }, told c.take_all-items.result)) renewed
+    ∙ ap (λ a. (record state { sessions = c.renew_first.new.sessions.live }, a)) (sym c.answer_with.ensures)
+
+pub returns-clause-within : goal.returns-clause-within
+returns-clause-within c = λ within.
+    subst AreWithin (sym c.renew_first.ensures.live) (within_first c.args.again c.args.serial c.args.moment c.take_all-items.new.self.live
+    (subst AreWithin (sym c.take_all-items.ensures.changes.live) (within_emptied c.args.serial c.args.sessions.now.live within)))

@@ -1,0 +1,104 @@
+-- When each refusal comes, of the state that an event is answered in: at its moment, without the sessions that are expired then.
+use Rattle.std.specs.Prelude.{◌≡◌, ◌≢◌, ℕ, ◌-◌, ◌^◌, ◌≤◌, ◌<◌, ◌⊎◌, Bool, false, List, length, Option, None, Some}
+use Rattle.ifmap_fresh.specs.Fresh.{fresh_size}
+use Rattle.ifmap_ident.specs.declared.codes.Code.{Code}
+use Rattle.ifmap_machine.specs.declared.events.Answer.{Answer}
+use Rattle.ifmap_machine.specs.declared.events.Answer.TheVariants as the_answer
+use Rattle.ifmap_machine.specs.declared.events.Ask.{Ask}
+use Rattle.ifmap_machine.specs.declared.events.Ask.TheVariants.{Request, Lost}
+use Rattle.ifmap_machine.specs.Ending.{expire}
+use Rattle.ifmap_machine.specs.Events.{Event}
+use Rattle.ifmap_machine.specs.State.{State, advance}
+use Rattle.ifmap_replies.specs.declared.replies.Reply.TheVariants as the_reply
+use Rattle.ifmap_requests.specs.declared.requests.Request.TheVariants as the_request
+use Rattle.ifmap_session.specs.Sessions.{Session, most_sessions, session_of_client, session_with_id}
+
+-- the state that an event is answered in
+abbrev pub state_for : State → Event → State
+state_for state event = expire (advance event.moment state)
+
+-- the answer refuses with that code
+abbrev pub IsRefusal : Code → Answer → Type 0
+IsRefusal code (the_answer.Reply (the_reply.Error given note)) = given ≡ code
+IsRefusal code (the_answer.Reply (the_reply.NewSession id publisher limit)) = ⊥
+IsRefusal code (the_answer.Reply the_reply.Renewed) = ⊥
+IsRefusal code (the_answer.Reply the_reply.Ended) = ⊥
+IsRefusal code (the_answer.Reply the_reply.Published) = ⊥
+IsRefusal code (the_answer.Reply the_reply.Subscribed) = ⊥
+IsRefusal code (the_answer.Reply the_reply.Purged) = ⊥
+IsRefusal code (the_answer.Reply (the_reply.Found entries)) = ⊥
+IsRefusal code (the_answer.Reply (the_reply.Polled items)) = ⊥
+IsRefusal code the_answer.Held = ⊥
+IsRefusal code the_answer.Heard = ⊥
+
+-- the session that a request names by its id
+abbrev pub named_session : State → Ask → Option (Option Session)
+named_session state (Lost id) = None
+named_session state (Request (the_request.NewSession limit)) = None
+named_session state (Request (the_request.RenewSession id)) = Some (session_with_id id state.sessions)
+named_session state (Request (the_request.EndSession id)) = Some (session_with_id id state.sessions)
+named_session state (Request (the_request.Publish id ops)) = Some (session_with_id id state.sessions)
+named_session state (Request (the_request.Search id asked)) = Some (session_with_id id state.sessions)
+named_session state (Request (the_request.Subscribe id ops)) = Some (session_with_id id state.sessions)
+named_session state (Request (the_request.Poll id)) = Some (session_with_id id state.sessions)
+named_session state (Request (the_request.PurgePublisher id publisher)) = Some (session_with_id id state.sessions)
+
+-- a request that is asked again, which is told of the session's end instead
+abbrev pub is_told_end : Bool → Ask → Bool
+is_told_end again (Lost id) = false
+is_told_end again (Request (the_request.NewSession limit)) = false
+is_told_end again (Request (the_request.RenewSession id)) = false
+is_told_end again (Request (the_request.EndSession id)) = false
+is_told_end again (Request (the_request.Publish id ops)) = false
+is_told_end again (Request (the_request.Search id asked)) = false
+is_told_end again (Request (the_request.Subscribe id ops)) = false
+is_told_end again (Request (the_request.Poll id)) = again
+is_told_end again (Request (the_request.PurgePublisher id publisher)) = false
+
+-- the request names a session by an id that no live session has, and is no poll that is asked again
+abbrev pub NamesNoSession : State → Bool → Ask → Type 0
+NamesNoSession state again ask = (named_session state ask ≡ Some None) × (is_told_end again ask ≡ false)
+
+-- the request names the live session of another client
+abbrev pub NamesAnothersSession : State → List ℕ → Ask → Type 0
+NamesAnothersSession state client ask = (s : Session) × (named_session state ask ≡ Some (Some s)) × (s.client ≢ client)
+
+-- a request in a live session of the client's purges another publisher
+abbrev pub PurgesAnother : State → List ℕ → Ask → Type 0
+PurgesAnother state client (Lost id) = ⊥
+PurgesAnother state client (Request (the_request.NewSession limit)) = ⊥
+PurgesAnother state client (Request (the_request.RenewSession id)) = ⊥
+PurgesAnother state client (Request (the_request.EndSession id)) = ⊥
+PurgesAnother state client (Request (the_request.Publish id ops)) = ⊥
+PurgesAnother state client (Request (the_request.Search id asked)) = ⊥
+PurgesAnother state client (Request (the_request.Subscribe id ops)) = ⊥
+PurgesAnother state client (Request (the_request.Poll id)) = ⊥
+PurgesAnother state client (Request (the_request.PurgePublisher id publisher)) =
+    ((s : Session) × (session_with_id id state.sessions ≡ Some s) × (s.client ≡ client)) × (publisher ≢ client)
+
+-- a new session is asked for where all are taken and the client has none, or where the serials are used up
+abbrev pub AsksForNoneLeft : State → List ℕ → Ask → Type 0
+AsksForNoneLeft state client (Lost id) = ⊥
+AsksForNoneLeft state client (Request (the_request.NewSession limit)) =
+    ((most_sessions ≤ length state.sessions) × (session_of_client client state.sessions ≡ None)) ⊎ (state.counter ≡ 2 ^ 64 - 1)
+AsksForNoneLeft state client (Request (the_request.RenewSession id)) = ⊥
+AsksForNoneLeft state client (Request (the_request.EndSession id)) = ⊥
+AsksForNoneLeft state client (Request (the_request.Publish id ops)) = ⊥
+AsksForNoneLeft state client (Request (the_request.Search id asked)) = ⊥
+AsksForNoneLeft state client (Request (the_request.Subscribe id ops)) = ⊥
+AsksForNoneLeft state client (Request (the_request.Poll id)) = ⊥
+AsksForNoneLeft state client (Request (the_request.PurgePublisher id publisher)) = ⊥
+
+-- a search in a live session of the client's finds more than its limit
+abbrev pub FindsTooMuch : State → List ℕ → Ask → Type 0
+FindsTooMuch state client (Lost id) = ⊥
+FindsTooMuch state client (Request (the_request.NewSession limit)) = ⊥
+FindsTooMuch state client (Request (the_request.RenewSession id)) = ⊥
+FindsTooMuch state client (Request (the_request.EndSession id)) = ⊥
+FindsTooMuch state client (Request (the_request.Publish id ops)) = ⊥
+FindsTooMuch state client (Request (the_request.Search id asked)) =
+    ((s : Session) × (session_with_id id state.sessions ≡ Some s) × (s.client ≡ client))
+    × (asked.max_size < fresh_size state.graph asked)
+FindsTooMuch state client (Request (the_request.Subscribe id ops)) = ⊥
+FindsTooMuch state client (Request (the_request.Poll id)) = ⊥
+FindsTooMuch state client (Request (the_request.PurgePublisher id publisher)) = ⊥
