@@ -15,7 +15,7 @@ struct Exchange {
     due: &'static str,
 }
 
-fn exchange_at(
+fn make_exchange_at(
     moment: u64,
     client: &'static str,
     request: &'static str,
@@ -29,8 +29,8 @@ fn exchange_at(
     }
 }
 
-fn exchange(client: &'static str, request: &'static str, due: &'static str) -> Exchange {
-    exchange_at(1_000_000_000, client, request, due)
+fn make_exchange(client: &'static str, request: &'static str, due: &'static str) -> Exchange {
+    make_exchange_at(1_000_000_000, client, request, due)
 }
 
 // Short words in the examples and what they stand for: sessions, identifiers, and the stamps of a
@@ -130,13 +130,13 @@ fn a_publish_is_taken_whole_or_not_at_all(rt: HostRuntime) -> Result<(), Fail> {
     expect_exchanges(
         &rt,
         &[
-            exchange("c1", BEGIN, FIRST_BEGUN),
-            exchange(
+            make_exchange("c1", BEGIN, FIRST_BEGUN),
+            make_exchange(
                 "c1",
                 "<n2:publish {first}><update>{m1}<metadata><n3:role ifmap-cardinality=\"multiValue\"/></metadata></update><update><ip-address value=\"192.0.2.07\"/><metadata><n3:role ifmap-cardinality=\"multiValue\"/></metadata></update></n2:publish>",
                 "!InvalidIdentifier",
             ),
-            exchange("c1", SEARCH, NOTHING),
+            make_exchange("c1", SEARCH, NOTHING),
         ],
     )
 }
@@ -146,23 +146,23 @@ fn a_link_is_deleted_either_way(rt: HostRuntime) -> Result<(), Fail> {
     expect_exchanges(
         &rt,
         &[
-            exchange("c1", BEGIN, FIRST_BEGUN),
-            exchange(
+            make_exchange("c1", BEGIN, FIRST_BEGUN),
+            make_exchange(
                 "c1",
                 "<n2:publish {first}><update>{ip}{m1}<metadata><n3:ip-mac ifmap-cardinality=\"multiValue\"/></metadata></update></n2:publish>",
                 PUBLISHED,
             ),
-            exchange(
+            make_exchange(
                 "c1",
                 SEARCH_NEAR,
                 "<searchResult><resultItem>{ip}{m1}<metadata><n3:ip-mac ifmap-cardinality=\"multiValue\" {c1}/></metadata></resultItem></searchResult>",
             ),
-            exchange(
+            make_exchange(
                 "c1",
                 "<n2:publish {first}><delete>{m1}{ip}</delete></n2:publish>",
                 PUBLISHED,
             ),
-            exchange("c1", SEARCH_NEAR, NOTHING),
+            make_exchange("c1", SEARCH_NEAR, NOTHING),
         ],
     )
 }
@@ -172,13 +172,13 @@ fn links_between_the_farthest_are_not_found(rt: HostRuntime) -> Result<(), Fail>
     expect_exchanges(
         &rt,
         &[
-            exchange("c1", BEGIN, FIRST_BEGUN),
-            exchange(
+            make_exchange("c1", BEGIN, FIRST_BEGUN),
+            make_exchange(
                 "c1",
                 "<n2:publish {first}><update>{m1}{m2}<metadata><n3:role ifmap-cardinality=\"singleValue\"/></metadata></update><update>{m1}{m3}<metadata><n3:role ifmap-cardinality=\"singleValue\"/></metadata></update><update>{m2}{m3}<metadata><n3:role ifmap-cardinality=\"singleValue\"/></metadata></update></n2:publish>",
                 PUBLISHED,
             ),
-            exchange(
+            make_exchange(
                 "c1",
                 SEARCH_NEAR,
                 "<searchResult><resultItem>{m1}{m2}<metadata><n3:role ifmap-cardinality=\"singleValue\" {c1}/></metadata></resultItem><resultItem>{m1}{m3}<metadata><n3:role ifmap-cardinality=\"singleValue\" {c1}/></metadata></resultItem></searchResult>",
@@ -193,29 +193,29 @@ fn a_search_may_end_at_its_start(rt: HostRuntime) -> Result<(), Fail> {
     expect_exchanges(
         &rt,
         &[
-            exchange("c1", BEGIN, FIRST_BEGUN),
-            exchange("c1", UPDATE_ROLE, PUBLISHED),
-            exchange(
+            make_exchange("c1", BEGIN, FIRST_BEGUN),
+            make_exchange("c1", UPDATE_ROLE, PUBLISHED),
+            make_exchange(
                 "c1",
                 "<n2:publish {first}><update>{m1}{ip}<metadata><n3:ip-mac ifmap-cardinality=\"multiValue\"/></metadata></update></n2:publish>",
                 PUBLISHED,
             ),
-            exchange(
+            make_exchange(
                 "c1",
                 "<n2:search {first} max-depth=\"3\" terminal-identifier-type=\"mac-address\">{m1}</n2:search>",
                 ROLE_FOUND,
             ),
-            exchange(
+            make_exchange(
                 "c1",
                 "<n2:search {first} match-links=\"\" max-depth=\"3\">{m1}</n2:search>",
                 ROLE_FOUND,
             ),
-            exchange(
+            make_exchange(
                 "c1",
                 "<n2:search {first} match-links=\"n3:ip-mac\" max-depth=\"3\" result-filter=\"n3:role[name='r']\">{m1}</n2:search>",
                 ROLE_FOUND,
             ),
-            exchange(
+            make_exchange(
                 "c1",
                 "<n2:search {first} max-depth=\"3\" result-filter=\"\">{m1}</n2:search>",
                 NOTHING,
@@ -230,14 +230,14 @@ fn a_result_keeps_to_its_limit(rt: HostRuntime) -> Result<(), Fail> {
     expect_exchanges(
         &rt,
         &[
-            exchange("c1", BEGIN, FIRST_BEGUN),
-            exchange("c1", UPDATE_ROLE, PUBLISHED),
-            exchange(
+            make_exchange("c1", BEGIN, FIRST_BEGUN),
+            make_exchange("c1", UPDATE_ROLE, PUBLISHED),
+            make_exchange(
                 "c1",
                 "<n2:search {first} max-size=\"237\">{m1}</n2:search>",
                 ROLE_FOUND,
             ),
-            exchange(
+            make_exchange(
                 "c1",
                 "<n2:search {first} max-size=\"236\">{m1}</n2:search>",
                 "<errorResult errorCode=\"SearchResultsTooBig\"><errorString>237 of 236</errorString></errorResult>",
@@ -251,19 +251,19 @@ fn a_single_value_takes_the_place_of_another_clients(rt: HostRuntime) -> Result<
     expect_exchanges(
         &rt,
         &[
-            exchange("c1", BEGIN, FIRST_BEGUN),
-            exchange("c2", BEGIN, SECOND_BEGUN),
-            exchange(
+            make_exchange("c1", BEGIN, FIRST_BEGUN),
+            make_exchange("c2", BEGIN, SECOND_BEGUN),
+            make_exchange(
                 "c1",
                 "<n2:publish {first}><update>{m1}<metadata><n3:role ifmap-cardinality=\"singleValue\"><name>r</name></n3:role></metadata></update></n2:publish>",
                 PUBLISHED,
             ),
-            exchange(
+            make_exchange(
                 "c2",
                 "<n2:publish {second}><update>{m1}<metadata><n3:role ifmap-cardinality=\"singleValue\"><name>s</name></n3:role></metadata></update></n2:publish>",
                 PUBLISHED,
             ),
-            exchange(
+            make_exchange(
                 "c1",
                 SEARCH,
                 "<searchResult><resultItem>{m1}<metadata><n3:role ifmap-cardinality=\"singleValue\" {c2}><name>s</name></n3:role></metadata></resultItem></searchResult>",
@@ -278,12 +278,12 @@ fn what_is_kept_for_good_outlives_its_session(rt: HostRuntime) -> Result<(), Fai
     expect_exchanges(
         &rt,
         &[
-            exchange("c1", BEGIN, FIRST_BEGUN),
-            exchange("c2", BEGIN, SECOND_BEGUN),
-            exchange("c1", UPDATE_ROLE, PUBLISHED),
-            exchange("c1", KEEP_ROLE, PUBLISHED),
-            exchange("c1", "<n2:endSession {first}/>", ENDED),
-            exchange("c2", SEARCH_SECOND, ROLE_FOUND),
+            make_exchange("c1", BEGIN, FIRST_BEGUN),
+            make_exchange("c2", BEGIN, SECOND_BEGUN),
+            make_exchange("c1", UPDATE_ROLE, PUBLISHED),
+            make_exchange("c1", KEEP_ROLE, PUBLISHED),
+            make_exchange("c1", "<n2:endSession {first}/>", ENDED),
+            make_exchange("c2", SEARCH_SECOND, ROLE_FOUND),
         ],
     )
 }
@@ -293,20 +293,20 @@ fn a_client_purges_what_it_published_itself(rt: HostRuntime) -> Result<(), Fail>
     expect_exchanges(
         &rt,
         &[
-            exchange("c1", BEGIN, FIRST_BEGUN),
-            exchange("c1", KEEP_ROLE, PUBLISHED),
-            exchange(
+            make_exchange("c1", BEGIN, FIRST_BEGUN),
+            make_exchange("c1", KEEP_ROLE, PUBLISHED),
+            make_exchange(
                 "c1",
                 "<n2:purgePublisher {first} ifmap-publisher-id=\"c2\"/>",
                 "!AccessDenied",
             ),
-            exchange("c1", SEARCH, ROLE_FOUND),
-            exchange(
+            make_exchange("c1", SEARCH, ROLE_FOUND),
+            make_exchange(
                 "c1",
                 "<n2:purgePublisher {first} ifmap-publisher-id=\"c1\"/>",
                 "<purgePublisherReceived/>",
             ),
-            exchange("c1", SEARCH, NOTHING),
+            make_exchange("c1", SEARCH, NOTHING),
         ],
     )
 }
@@ -316,13 +316,13 @@ fn what_is_notified_is_not_kept(rt: HostRuntime) -> Result<(), Fail> {
     expect_exchanges(
         &rt,
         &[
-            exchange("c1", BEGIN, FIRST_BEGUN),
-            exchange(
+            make_exchange("c1", BEGIN, FIRST_BEGUN),
+            make_exchange(
                 "c1",
                 "<n2:publish {first}><notify>{m1}<metadata><n3:role ifmap-cardinality=\"singleValue\"/></metadata></notify></n2:publish>",
                 PUBLISHED,
             ),
-            exchange("c1", SEARCH, NOTHING),
+            make_exchange("c1", SEARCH, NOTHING),
         ],
     )
 }
@@ -333,19 +333,19 @@ fn a_session_expires_with_what_it_published(rt: HostRuntime) -> Result<(), Fail>
     expect_exchanges(
         &rt,
         &[
-            exchange("c1", BEGIN, FIRST_BEGUN),
-            exchange("c2", BEGIN, SECOND_BEGUN),
-            exchange("c1", UPDATE_ROLE, PUBLISHED),
-            exchange_at(1_000_000_179, "c2", SEARCH_SECOND, ROLE_FOUND),
-            exchange_at(900_000_000, "c2", SEARCH_SECOND, ROLE_FOUND),
-            exchange_at(1_000_000_180, "c2", "<n2:renewSession {second}/>", RENEWED),
-            exchange_at(
+            make_exchange("c1", BEGIN, FIRST_BEGUN),
+            make_exchange("c2", BEGIN, SECOND_BEGUN),
+            make_exchange("c1", UPDATE_ROLE, PUBLISHED),
+            make_exchange_at(1_000_000_179, "c2", SEARCH_SECOND, ROLE_FOUND),
+            make_exchange_at(900_000_000, "c2", SEARCH_SECOND, ROLE_FOUND),
+            make_exchange_at(1_000_000_180, "c2", "<n2:renewSession {second}/>", RENEWED),
+            make_exchange_at(
                 1_000_000_180,
                 "c1",
                 "<n2:renewSession {first}/>",
                 "!InvalidSessionID",
             ),
-            exchange_at(1_000_000_180, "c2", SEARCH_SECOND, NOTHING),
+            make_exchange_at(1_000_000_180, "c2", SEARCH_SECOND, NOTHING),
         ],
     )
 }
@@ -356,16 +356,16 @@ fn accepted_requests_keep_a_session_alive(rt: HostRuntime) -> Result<(), Fail> {
     expect_exchanges(
         &rt,
         &[
-            exchange("c1", BEGIN, FIRST_BEGUN),
-            exchange_at(1_000_000_179, "c1", "<n2:poll {first}/>", "held"),
-            exchange_at(1_000_000_358, "c1", "<n2:renewSession {first}/>", RENEWED),
-            exchange_at(
+            make_exchange("c1", BEGIN, FIRST_BEGUN),
+            make_exchange_at(1_000_000_179, "c1", "<n2:poll {first}/>", "held"),
+            make_exchange_at(1_000_000_358, "c1", "<n2:renewSession {first}/>", RENEWED),
+            make_exchange_at(
                 1_000_000_537,
                 "c1",
                 "<n2:purgePublisher {first} ifmap-publisher-id=\"c2\"/>",
                 "!AccessDenied",
             ),
-            exchange_at(
+            make_exchange_at(
                 1_000_000_538,
                 "c1",
                 "<n2:renewSession {first}/>",
@@ -380,15 +380,15 @@ fn a_new_session_ends_the_one_that_the_client_has(rt: HostRuntime) -> Result<(),
     expect_exchanges(
         &rt,
         &[
-            exchange("c1", BEGIN, FIRST_BEGUN),
-            exchange("c1", UPDATE_ROLE, PUBLISHED),
-            exchange(
+            make_exchange("c1", BEGIN, FIRST_BEGUN),
+            make_exchange("c1", UPDATE_ROLE, PUBLISHED),
+            make_exchange(
                 "c1",
                 BEGIN,
                 "<newSessionResult ifmap-publisher-id=\"c1\" max-poll-result-size=\"5000000\" {second}/>",
             ),
-            exchange("c1", "<n2:poll {first}/>", "!InvalidSessionID"),
-            exchange("c1", SEARCH_SECOND, NOTHING),
+            make_exchange("c1", "<n2:poll {first}/>", "!InvalidSessionID"),
+            make_exchange("c1", SEARCH_SECOND, NOTHING),
         ],
     )
 }
