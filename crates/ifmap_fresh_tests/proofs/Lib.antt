@@ -3,4 +3,3 @@ pub mod Numbers
 pub mod Finding
 pub mod Graphs
 pub mod Viewed
-pub mod NextItems
