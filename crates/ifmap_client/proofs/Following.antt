@@ -5,10 +5,12 @@ use Rattle.std.specs.Cmp.Lexicographic.{slice_cmp, texts_ties}
 use Rattle.std.specs.Ordering.{nat_cmp}
 use Rattle.std.specs.Prelude.{is_some}
 use Rattle.std.specs.Str.{bytes_eq}
-use Rattle.ifmap_folds.specs.Folds.{Sets, set_under, with_entries}
+use Rattle.ifmap_folds.specs.Folds.{Sets, fold_item, set_under, with_entries}
+use Rattle.ifmap_ident.specs.declared.codes.Code.{Code}
 use Rattle.ifmap_lemmas.specs.Texts.{eq_tells}
 use Rattle.ifmap_search.specs.declared.results.Entry.{Entry}
-use Rattle.ifmap_client.specs.Keeping.{kept_sets}
+use Rattle.ifmap_search.specs.declared.results.PollItem.TheVariants as the_item
+use Rattle.ifmap_client.specs.Keeping.{kept_sets, without_sets}
 
 module _ (m n : BTreeMap (List ℕ) (List Entry)) (name : List ℕ) where
   -- a map that is updated under a name
@@ -37,3 +39,9 @@ none_under sets name none = λ i q. (at q (bytes_eq name q) refl) i
     at : (q : List ℕ) (b : Bool) → bytes_eq name q ≡ b → cond b None (sets q) ≡ sets q
     at q true e = sym (ap sets (sym (eq_tells name q e)) ∙ none)
     at q false e = refl
+
+-- what an error ends is what the fold says
+pub error_folds : (name : Option (List ℕ)) (code : Code) (note : List ℕ) (sets : Sets)
+    → without_sets name sets ≡ fold_item (the_item.Error name code note) sets
+error_folds (Some name) code note sets = refl
+error_folds None code note sets = refl
