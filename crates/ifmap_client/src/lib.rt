@@ -8,4 +8,4 @@ pub mod laws;
 pub mod lines;
 
 pub use client_sets::ClientSets;
-pub use lines::{Line, line_of};
+pub use lines::{LINE_LIMIT, Line, line_of};
