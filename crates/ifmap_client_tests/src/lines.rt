@@ -177,12 +177,15 @@ fn deep_line(alloc: Global, levels: usize) -> Result<Text, NoMemory> {
     Ok(text)
 }
 
+fn form_of_deep_line(alloc: Global, levels: usize) -> Result<Form, NoMemory> {
+    let line = deep_line(alloc, levels)?;
+    form_of(alloc, line.as_bytes())
+}
+
 #[test]
 fn an_element_nests_62_levels_at_most(rt: HostRuntime) {
-    let whole = deep_line(rt.alloc(), 62).unwrap();
-    let deep = deep_line(rt.alloc(), 63).unwrap();
-    assert_eq!(rt; form_of(rt.alloc(), whole.as_bytes()), Ok(Form::Publish));
-    assert_eq!(rt; form_of(rt.alloc(), deep.as_bytes()), Ok(Form::Bad));
+    assert_eq!(rt; form_of_deep_line(rt.alloc(), 62), Ok(Form::Publish));
+    assert_eq!(rt; form_of_deep_line(rt.alloc(), 63), Ok(Form::Bad));
 }
 
 // `set ` and a name, of so many bytes together.
@@ -193,21 +196,37 @@ fn long_line(alloc: Global, length: usize) -> Result<Vec<u8>, NoMemory> {
     Ok(line)
 }
 
+fn form_of_long_line(alloc: Global, length: usize) -> Result<Form, NoMemory> {
+    let line = long_line(alloc, length)?;
+    form_of(alloc, &line)
+}
+
 #[test]
 fn a_line_has_a_million_bytes_at_most(rt: HostRuntime) {
-    let whole = long_line(rt.alloc(), 1_000_000).unwrap();
-    let long = long_line(rt.alloc(), 1_000_001).unwrap();
-    assert_eq!(rt; form_of(rt.alloc(), &whole), Ok(Form::Set));
-    assert_eq!(rt; form_of(rt.alloc(), &long), Ok(Form::Bad));
+    assert_eq!(rt; form_of_long_line(rt.alloc(), 1_000_000), Ok(Form::Set));
+    assert_eq!(rt; form_of_long_line(rt.alloc(), 1_000_001), Ok(Form::Bad));
+}
+
+// The line asks for the set of that name.
+fn asks_for(alloc: Global, line: &[u8], name: &str) -> Result<bool, NoMemory> {
+    match line_of(alloc, line)? {
+        Some(Line::Blank) => Ok(false),
+        Some(Line::Request(_)) => Ok(false),
+        Some(Line::Set(asked)) => Ok(asked.as_str() == name),
+        None => Ok(false),
+    }
 }
 
 #[test]
 fn a_name_is_what_stands_after_the_word(rt: HostRuntime) {
-    match line_of(rt.alloc(), b"set  two words ") {
-        Ok(Some(Line::Set(name))) => assert_eq!(rt; name.as_str(), " two words "),
-        _ => assert!(rt; false),
-    }
-    // Bytes that are no text are of no form.
+    assert_eq!(rt;
+        asks_for(rt.alloc(), b"set  two words ", " two words "),
+        Ok(true)
+    );
+}
+
+#[test]
+fn bytes_that_are_no_text_are_of_no_form(rt: HostRuntime) {
     assert_eq!(rt; form_of(rt.alloc(), b"set \xff"), Ok(Form::Bad));
     assert_eq!(rt; form_of(rt.alloc(), b"\xff"), Ok(Form::Bad));
 }
