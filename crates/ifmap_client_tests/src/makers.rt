@@ -1,0 +1,75 @@
+//! What the tests make their cases of.
+use ifmap_elem::{Many, Text};
+use ifmap_ident::{Code, Identifier, Item, SharedItem};
+use ifmap_meta::SharedElement;
+use ifmap_reader::read;
+use ifmap_search::{Entry, PollItem};
+use std::alloc::{AllocError as NoMemory, Global};
+
+// An entry: the element on the address with that last byte.
+#[derive(Clone, Copy, Debug)]
+pub(crate) struct Told(pub u8, pub &'static str);
+
+pub(crate) fn entry_of(alloc: Global, told: Told) -> Result<Entry, NoMemory> {
+    let address = Identifier::MacAddress {
+        value: [0, 0, 0, 0, 0, told.0],
+        domain: Text::new(alloc),
+    };
+    let Ok(reading) = read(alloc, told.1.as_bytes(), 64) else {
+        return Err(NoMemory);
+    };
+    Ok(Entry {
+        item: SharedItem::new(alloc, Item::One(address))?,
+        element: SharedElement::new(alloc, reading.root)?,
+    })
+}
+
+pub(crate) fn entries_of(alloc: Global, told: &[Told]) -> Result<Many<Entry>, NoMemory> {
+    let mut entries = Vec::new(alloc);
+    for one in told {
+        entries.push(entry_of(alloc, *one)?)?;
+    }
+    Ok(Many(entries))
+}
+
+// What a poll can be told.
+#[derive(Clone, Copy, Debug)]
+pub(crate) enum Step {
+    Search(&'static str, &'static [Told]),
+    Update(&'static str, &'static [Told]),
+    Delete(&'static str, &'static [Told]),
+    Notify(&'static str, &'static [Told]),
+    NamedError(&'static str),
+    Error,
+}
+
+pub(crate) fn item_of(alloc: Global, step: Step) -> Result<PollItem, NoMemory> {
+    match step {
+        Step::Search(name, told) => Ok(PollItem::Search {
+            name: Text::from_str(alloc, name)?,
+            entries: entries_of(alloc, told)?,
+        }),
+        Step::Update(name, told) => Ok(PollItem::Update {
+            name: Text::from_str(alloc, name)?,
+            entries: entries_of(alloc, told)?,
+        }),
+        Step::Delete(name, told) => Ok(PollItem::Delete {
+            name: Text::from_str(alloc, name)?,
+            entries: entries_of(alloc, told)?,
+        }),
+        Step::Notify(name, told) => Ok(PollItem::Notify {
+            name: Text::from_str(alloc, name)?,
+            entries: entries_of(alloc, told)?,
+        }),
+        Step::NamedError(name) => error_of(alloc, Some(Text::from_str(alloc, name)?)),
+        Step::Error => error_of(alloc, None),
+    }
+}
+
+fn error_of(alloc: Global, name: Option<Text>) -> Result<PollItem, NoMemory> {
+    Ok(PollItem::Error {
+        name,
+        code: Code::SearchResultsTooBig,
+        note: Text::from_str(alloc, "337 of 100")?,
+    })
+}
