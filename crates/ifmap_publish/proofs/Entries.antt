@@ -1,5 +1,6 @@
 -- Lists by item, as one operation after another is applied.
-use Rattle.std.proofs.Common.{◌≡◌, ◌∙◌, refl, sym, ap, subst, ℕ, ◌+◌, ◌<◌, Bool, true, false, cond, List, [], ◌∷◌, ◌++◌, Option, Some, Result, Ok, Err, IfOk, take, length, get_or, inl, inr}
+use Rattle.std.proofs.Common.{◌≡◌, ◌∙◌, refl, sym, ap, subst, ℕ, ◌+◌, ◌<◌, Bool, true, false, cond, List, [], ◌∷◌, ◌++◌, Option, Some}
+use Rattle.std.proofs.Common.{Result, Ok, Err, IfOk, take, length, get_or, inl, inr}
 use Rattle.std.proofs.lemmas.Bool.{cases_Bool}
 use Rattle.std.proofs.lemmas.List.{take_more}
 use Rattle.std.proofs.lemmas.Option.{same_Some, none-some}
@@ -133,7 +134,7 @@ nothing_made rows by ops (e ∷ es) is = cc
 pub fit_item : (op : PublishOp) → IsFitOp op → IsCanonItem (item_of op)
 fit_item (Update item elements forever) f = f.0
 fit_item (Notify item elements) f = f.0
-fit_item (Delete item f) fit = fit
+fit_item (Delete item f) fit = fit.0
 
 pub ok_weaker : {X E : Type 0} (r : Result X E) (P Q : X → Type 0) → ((x : X) → P x → Q x) → IfOk r P → IfOk r Q
 ok_weaker (Ok x) P Q f h = f x h
