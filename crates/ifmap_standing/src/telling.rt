@@ -1,16 +1,15 @@
 //! What one subscription is told of a change.
-ghost use Rattle.std.specs.Prelude.{◌≡◌, ◌++◌, IfOk, OnOk};
+ghost use Rattle.std.specs.Prelude.{◌≡◌, ◌++◌, ◌∷◌, [], Some, true, IfOk, OnOk};
 ghost use Rattle.std.specs.List.{AllByRecursion};
 ghost use Rattle.ifmap_delta.specs.Sights.{IsKept, sight_of};
-ghost use Rattle.ifmap_fresh.specs.Fresh.{fresh, fresh_size};
+ghost use Rattle.ifmap_fresh.specs.Fresh.{fresh};
 ghost use Rattle.ifmap_folds.specs.Differences.{difference};
 ghost use Rattle.ifmap_ident.specs.Items.{IsCanonItem};
+ghost use Rattle.ifmap_ident.specs.declared.codes.Code.TheVariants.{SearchResultsTooBig};
 ghost use Rattle.ifmap_machine.specs.Telling as machine;
 ghost use Rattle.ifmap_search.specs.declared.results.PollItem.TheVariants as the_item;
 ghost use Rattle.ifmap_standing.specs.News.{news_of};
 ghost use Rattle.ifmap_standing.specs.Standing.{shown};
-ghost use Rattle.ifmap_view.specs.declared.attachments.Attachment.{Attachment};
-ghost use Rattle.std.specs.Prelude.{List, Some};
 
 use crate::standing::Standing;
 use ifmap_delta::notes;
