@@ -2,3 +2,4 @@ pub mod Numbering
 pub mod Places
 pub mod Stages
 pub mod Undoing
+pub mod Taking

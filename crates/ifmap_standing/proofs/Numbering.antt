@@ -140,7 +140,7 @@ kept_elsewhere one other sub was is rows links ids here kept =
     }
 
 -- marks that are the same at each number
-same_depths : (L : ℕ → ℕ → Type 0) (T : ℕ → Bool) (start top : ℕ) (old new : ℕ → Option ℕ) → ((v : ℕ) → new v ≡ old v)
+pub same_depths : (L : ℕ → ℕ → Type 0) (T : ℕ → Bool) (start top : ℕ) (old new : ℕ → Option ℕ) → ((v : ℕ) → new v ≡ old v)
     → AreDepths L T start top old → AreDepths L T start top new
 same_depths L T start top old new same d v k = (λ e. (d v k).0 (sym (same v) ∙ e), λ h. same v ∙ (d v k).1 h)
 

@@ -64,7 +64,7 @@ pub weaker : {X : Type 0} (R S : ℕ → X → X → Type 0) → ((i : ℕ) (x y
 weaker R S f a b r = record { long = r.long; at = λ i x y p q. f i x y (r.at i x y p q) }
 
 -- what keeps the same keeps the same twice
-same_searches : (a b c : Subscription) → HasSameSearch a b → HasSameSearch b c → HasSameSearch a c
+pub same_searches : (a b c : Subscription) → HasSameSearch a b → HasSameSearch b c → HasSameSearch a c
 same_searches a b c s t = record {
   search = t.search ∙ s.search;
   start = t.start ∙ s.start;
