@@ -25,12 +25,12 @@ use Rattle.ifmap_standing.specs.Ways.{LeadBack, LeadsBackWhere, Way}
 use Rattle.ifmap_standing.proofs.Places.{before_last, keeps_itself, last_there, same_search, weaker, written_elsewhere, written_there}
 
 -- two lists side by side, one place on
-zip_more : {A B : Type 0} (as : List A) (bs : List B) (n : ℕ) (a : A) (b : B) → slice_get as n ≡ Some a → slice_get bs n ≡ Some b
-    → take (suc n) (zip as bs) ≡ take n (zip as bs) ++ (a, b) ∷ []
-zip_more [] bs n a b p q = absurd (none-some a p)
-zip_more (x ∷ as) [] n a b p q = absurd (none-some b q)
-zip_more (x ∷ as) (y ∷ bs) zero a b p q = ap (λ u. (u, y) ∷ []) (same_Some x a p) ∙ ap (λ u. (a, u) ∷ []) (same_Some y b q)
-zip_more (x ∷ as) (y ∷ bs) (suc n) a b p q = ap (λ l. (x, y) ∷ l) (zip_more as bs n a b p q)
+zip_more : {A B : Type 0} (us : List A) (vs : List B) (n : ℕ) (a : A) (b : B) → slice_get us n ≡ Some a → slice_get vs n ≡ Some b
+    → take (suc n) (zip us vs) ≡ take n (zip us vs) ++ (a, b) ∷ []
+zip_more [] vs n a b p q = absurd (none-some a p)
+zip_more (x ∷ us) [] n a b p q = absurd (none-some b q)
+zip_more (x ∷ us) (y ∷ vs) zero a b p q = ap (λ u. (u, y) ∷ []) (same_Some x a p) ∙ ap (λ u. (a, u) ∷ []) (same_Some y b q)
+zip_more (x ∷ us) (y ∷ vs) (suc n) a b p q = ap (λ l. (x, y) ∷ l) (zip_more us vs n a b p q)
 
 mapped_there : {X Y : Type 0} (f : X → Y) (xs : List X) (n : ℕ) (x : X) → slice_get xs n ≡ Some x → slice_get (map f xs) n ≡ Some (f x)
 mapped_there f [] n x p = absurd (none-some x p)
@@ -85,7 +85,7 @@ at_set R S xs now after n x y r here within so is others = record {
       ∙ ap (slice_get after) (sym e) ∙ q)
       in subst (λ j. S j a b) (sym e) (subst (λ z. S n z b) one (subst (λ z. S n x z) two is))
     | inr o ↦
-      let apart : i ≢ n = λ e. elim o [| inl l ↦ omega (arith, l, e) | inr l ↦ omega (arith, l, e)]
+      let apart : i ≢ n = λ e. elim o [ | inl l ↦ omega (arith, l, e) | inr l ↦ omega (arith, l, e) ]
       in others i a b apart (r.at i a b p (sym (written_elsewhere now n i y apart) ∙ ap (λ l. slice_get l i) (sym so) ∙ q))
   ];
 }
@@ -109,6 +109,7 @@ module _ (old new : Sight) (notes : List Note) (skipped : List Bool) (xs : List 
   -- the first n are told
   pub record Stage (n : ℕ) (news : List News) (ways : List (Option Way)) (now : List Standing) (steps : ℕ) : Type 0 where
     pub says : news ≡ map told (take n (zip skipped (map shown xs)))
+    pub told_count : length news ≡ n
     pub count : length ways ≡ n
     pub lead : LeadBack xs ways now
     pub rest : (i : ℕ) → n ≤ i → slice_get now i ≡ slice_get xs i
@@ -126,6 +127,7 @@ module _ (old new : Sight) (notes : List Note) (skipped : List Bool) (xs : List 
   pub stage_first : Stage 0 [] [] xs begun
   stage_first = record {
     says = refl;
+    told_count = refl;
     count = refl;
     lead = lead_nowhere;
     rest = λ i past. refl;
@@ -158,7 +160,7 @@ module _ (old new : Sight) (notes : List Note) (skipped : List Bool) (xs : List 
     -- one fails, and keeps what it kept
     pub ways_failed : Stands KeepsSame x y → LeadBack xs ways after
     ways_failed same = record {
-      long = rw (ap length so ∙ length-set now n y) s.lead.long;
+      long = omega (arith, s.lead.long, ap length so ∙ length-set now n y);
       each = at_set (λ i. Stands (LeadsBackWhere (slice_get ways i))) (λ i. Stands (LeadsBackWhere (slice_get ways i))) xs now after n x y
           s.lead.each before low so
           (subst (λ o. Stands (LeadsBackWhere o) x y) (sym (slice_get_past ways n (omega (arith, s.count)))) same)
@@ -189,7 +191,7 @@ module _ (old new : Sight) (notes : List Note) (skipped : List Bool) (xs : List 
                 ]
               ]
           in record {
-            long = rw (longer, ap length so ∙ length-set now n y) (omega (arith, low));
+            long = omega (arith, low, longer, ap length so ∙ length-set now n y);
             each = at_set (λ i. Stands (LeadsBackWhere (slice_get ways i))) (λ i. Stands (LeadsBackWhere (slice_get (ways ++ way ∷ []) i)))
                 xs now after n x y s.lead.each before low so
                 (subst (λ o. Stands (LeadsBackWhere o) x y) (sym there) back)
@@ -212,6 +214,7 @@ module _ (old new : Sight) (notes : List Note) (skipped : List Bool) (xs : List 
       pub stage_next : Stage (n + 1) (news ++ one ∷ []) (ways ++ way ∷ []) after more
       stage_next = record {
         says = news_next;
+        told_count = length-append news (one ∷ []) ∙ ap (λ k. k + 1) s.told_count;
         count = length-append ways (way ∷ []) ∙ ap (λ k. k + 1) s.count;
         lead = ways_next;
         rest = λ i past. ap (λ l. slice_get l i) so ∙ written_elsewhere now n i y (omega (arith, past)) ∙ s.rest i (omega (arith, past));
@@ -222,17 +225,17 @@ module _ (old new : Sight) (notes : List Note) (skipped : List Bool) (xs : List 
       }
 
   -- all are told
-  module _ (long : length skipped ≡ length xs) (n : ℕ) (news : List News) (ways : List (Option Way)) (now : List Standing) (steps : ℕ)
+  module _ (n : ℕ) (news : List News) (ways : List (Option Way)) (now : List Standing) (steps : ℕ)
       (s : Stage n news ways now steps) (past : length skipped ≤ n) where
     pub news_end : news ≡ news_of_each old.rows new.rows notes skipped (map shown xs)
-    news_end = s.says ∙ ap (map told) (take_all n (zip skipped (map shown xs)) (rw (length-zip skipped (map shown xs)) (omega (arith, past))))
+    news_end = s.says ∙ ap (map told) (take_all n (zip skipped (map shown xs)) (omega (arith, past, length-zip skipped (map shown xs))))
 
     pub kept_end : (i : ℕ) (y : Standing) → slice_get now i ≡ Some y → slice_get skipped i ≡ Some false → IsKept new y.subscription
     kept_end i y p f = s.kept i y (omega (arith, past, slice_get_within skipped i false f)) p f
 
     pub steps_all : IsWithinEach old new (zip skipped xs) begun steps
     steps_all = subst (λ ps. IsWithinEach old new ps begun steps)
-        (take_all n (zip skipped xs) (rw (length-zip skipped xs) (omega (arith, past)))) s.within
+        (take_all n (zip skipped xs) (omega (arith, past, length-zip skipped xs))) s.within
 
 -- what leads back has the same searches, and what keeps the same too
 searches : (way : Option (Option Way)) (a b : Subscription) → LeadsBackWhere way a b → HasSameSearch a b

@@ -1,5 +1,5 @@
 //! What all subscriptions are told of one change of the graph.
-ghost use Rattle.std.specs.Prelude.{◌≡◌, ◌+◌, ◌≤◌, Some, true, false, IfOk, IfErr, OnErr, OnOk, length, map, slice_get, vec_capacity, vec_len};
+ghost use Rattle.std.specs.Prelude.{◌≡◌, ◌≤◌, ℕ, [], Some, true, false, IfOk, OnErr, OnOk, length, map, slice_get, vec_capacity};
 ghost use Rattle.std.specs.List.{AllByRecursion, zip};
 ghost use Rattle.ifmap_delta.specs.Bounds.{IsWithinBound};
 ghost use Rattle.ifmap_delta.specs.Changes.{ShowsAfter};
@@ -13,6 +13,7 @@ ghost use Rattle.ifmap_standing.specs.Kept.{AtEach, KeepsSame, Stands};
 ghost use Rattle.ifmap_standing.specs.News.{news_of, news_of_each, news_where};
 ghost use Rattle.ifmap_standing.specs.Standing.{shown};
 ghost use Rattle.ifmap_standing.specs.Ways.{LeadBack, LeadsBack, LeadsBackWhere};
+ghost use Rattle.ifmap_standing.specs.declared.standing.Standing.{Standing};
 
 use crate::standing::Standing;
 use crate::telling::{Differences, GraphChange, News, news_of};

@@ -1,4 +1,4 @@
-use Rattle.std.proofs.Common.{◌≡◌, ◌∙◌, ap, refl, sym, subst}
+use Rattle.std.proofs.Common.{◌≡◌, ◌∙◌, ap, refl, sym}
 use Rattle.ifmap_delta.specs.Sights.{sight_of}
 use Rattle.ifmap_folds.specs.Differences.{difference}
 use Rattle.ifmap_fresh.specs.Fresh.{fresh}
@@ -28,6 +28,3 @@ returns-in-Err-clause-err g c = record {
 
 pub returns-in-Ok-clause-way : goal.returns-in-Ok-clause-way
 returns-in-Ok-clause-way g c = record { serial = refl; name = refl; subscription = c.in_ok-taken.ensures.way }
-
-pub returns-in_err-taken-clause-err : goal.returns-in_err-taken-clause-err
-returns-in_err-taken-clause-err g c = record { serial = refl; name = refl; subscription = c.in_err-taken.ensures.err }
