@@ -1,8 +1,9 @@
 -- Telling a list of subscriptions, from the first on. First the steps of one more (`within_more`), and of none (`within_none`). Then
 -- a relation at each place, of which one is written (`at_set`). Then what holds as far as the loop has come (`Stage`): as it begins,
 -- one on, where one fails, and at its end.
-use Rattle.std.proofs.Common.{◌≡◌, ◌≢◌, ◌⊎◌, inl, inr, ℕ, zero, suc, ◌+◌, ◌<◌, ◌≤◌, Bool, true, false, Option, Some, None, List, [], ◌∷◌, ◌++◌, length, map, set, slice_get, take, drop, min, refl, ap, ◌∙◌, sym, subst, arith}
+use Rattle.std.proofs.Common.{◌≡◌, ◌≢◌, ◌⊎◌, inl, inr, ℕ, zero, suc, ◌+◌, ◌<◌, ◌≤◌, Bool, true, false, Option, Some, None, List, [], ◌∷◌, ◌++◌, length, map, set, slice_get, take, drop, Result, Ok, Err, refl, ap, ◌∙◌, sym, subst, arith}
 use Rattle.std.specs.List.{zip}
+use Rattle.std.specs.Prelude.{OnErr}
 use Rattle.std.proofs.lemmas.Bool.{cases_order, false≢true}
 use Rattle.std.proofs.lemmas.List.{length-append, length-set, map-append, take-append-drop, take_all}
 use Rattle.std.proofs.Math.Numerals.{add-one}
@@ -254,3 +255,8 @@ pub keep_searches : (xs now : List Standing) → AtEach (λ _. Stands KeepsSame)
 keep_searches xs now k =
     weaker (λ _. Stands KeepsSame) (λ _. Stands HasSameSearch)
     (λ i x y s. record { serial = s.serial; name = s.name; subscription = s.subscription.search }) xs now k
+
+-- a fact is one at an error too
+pub on_err : {X E : Type 0} (r : Result X E) (P : Type 0) → P → OnErr r P
+on_err (Ok x) P p = tt
+on_err (Err e) P p = p
