@@ -2,12 +2,12 @@
 -- First links are matches (`linked_matches`, `matches_linked`). Then a link of one view is one of the other, between the same
 -- identifiers (`there`), so that walks go on alike (`over`), and what is kept is kept (`kept_elsewhere`). Last, marks that are
 -- the same place by place (`kept_the_same`).
-use Rattle.std.proofs.Common.{◌≡◌, ◌≢◌, ◌↔◌, ℕ, zero, suc, ◌<◌, Bool, true, false, cond, Option, Some, None, List, [], ◌∷◌, map, length, get_or, slice_get, refl, ap, ◌∙◌, sym, subst}
+use Rattle.std.proofs.Common.{◌≡◌, ◌≢◌, ℕ, zero, suc, ◌<◌, Bool, true, false, cond, Option, Some, None, List, [], length, get_or, slice_get, refl, ap, ◌∙◌, sym, subst}
 use Rattle.std.proofs.lemmas.List.{get_or-map, length-map}
 use Rattle.std.proofs.lemmas.Option.{slice_get-get_or, same_Some, none-some}
 use Rattle.std.specs.List.{Contains}
 use Rattle.ifmap_delta.specs.declared.subscriptions.Subscription.{Subscription}
-use Rattle.ifmap_delta.specs.Sights.{AreMarks, HasMarks, IsKept, Links, Sight, is_terminal_in}
+use Rattle.ifmap_delta.specs.Sights.{AreMarks, IsKept, Links, Sight, is_terminal_in}
 use Rattle.ifmap_delta.specs.Ways.{HasSameSearch}
 use Rattle.ifmap_filter.specs.declared.filters.Filter.{Filter}
 use Rattle.ifmap_fresh.specs.Fresh.{fresh_size}
@@ -18,7 +18,6 @@ use Rattle.ifmap_meta.specs.declared.stored.Stored.{Stored}
 use Rattle.ifmap_region.specs.Marks.{mark_of}
 use Rattle.ifmap_region.specs.Walks.{AreDepths, HasDepth, Walk, begins, goes_on}
 use Rattle.ifmap_search.specs.declared.searches.Search.{Search}
-use Rattle.ifmap_standing.specs.Kept.{KeepsSame}
 use Rattle.ifmap_standing.specs.Ways.{IsSettled, Way}
 use Rattle.ifmap_view.specs.declared.attachments.Attachment.{Attachment}
 use Rattle.ifmap_view.specs.declared.views.LinkSeen.{LinkSeen}
@@ -103,9 +102,9 @@ module _ (one other : Sight) (s : Search) (was : IsView one.rows one.id_at one.l
       in let from : other.id_at v ≡ one.id_at v = h.4 ∙ sym h.2
       in let to : other.id_at w ≡ one.id_at w = h.5 ∙ sym h.3
       in let stored : stored_linked (other.id_at v) (other.id_at w) other.rows
-          ≡ stored_linked (one.id_at v) (one.id_at w) one.rows
-          = ap (λ x. stored_linked x (other.id_at w) other.rows) from ∙ ap (λ x. stored_linked (one.id_at v) x other.rows) to
-          ∙ ap (stored_linked (one.id_at v) (one.id_at w)) rows
+      ≡ stored_linked (one.id_at v) (one.id_at w) one.rows
+      = ap (λ x. stored_linked x (other.id_at w) other.rows) from ∙ ap (λ x. stored_linked (one.id_at v) x other.rows) to
+      ∙ ap (stored_linked (one.id_at v) (one.id_at w)) rows
       in (
         ap (is_terminal_at s.terminal) from ∙ t,
         matches_linked other s is v w (subst (λ xs. one_meets s.match_links xs ≡ true) (sym stored) (linked_matches one s v w l)),

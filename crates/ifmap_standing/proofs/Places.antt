@@ -2,18 +2,15 @@
 -- `written_elsewhere`). Then relations at each place: joined (`joined`), and weaker (`weaker`). Then a walk from the last place
 -- down that changes each by a way (`Down`): as it begins, at one place, and at its end. Last, that ways lead back still after what
 -- keeps the same (`stay`).
-use Rattle.std.proofs.Common.{◌≡◌, ◌≢◌, ◌⊎◌, inl, inr, ℕ, zero, suc, ◌+◌, ◌<◌, ◌≤◌, Option, Some, None, List, [], ◌∷◌, ◌++◌, length, get_or, set, slice_get, take, refl, ap, ◌∙◌, sym, subst, arith}
-use Rattle.std.specs.Prelude.{IsSome}
-use Rattle.std.proofs.lemmas.Bool.{cases_lt, cases_order}
+use Rattle.std.proofs.Common.{◌≡◌, ◌≢◌, inl, inr, ℕ, zero, suc, ◌+◌, ◌<◌, ◌≤◌, Option, Some, None, List, [], ◌∷◌, ◌++◌, length, get_or, set, slice_get, take, refl, ap, ◌∙◌, sym, subst, arith}
+use Rattle.std.proofs.lemmas.Bool.{cases_order}
 use Rattle.std.proofs.lemmas.List.{length-append, length-set}
-use Rattle.std.proofs.lemmas.Option.{slice_get-get_or, slice_get_past, slice_get_read, slice_get_within, same_Some, none-some}
+use Rattle.std.proofs.lemmas.Option.{slice_get_past, slice_get_read, slice_get_within, same_Some, none-some}
 use Rattle.ifmap_delta.specs.declared.subscriptions.Subscription.{Subscription}
 use Rattle.ifmap_delta.specs.Ways.{HasSameSearch}
-use Rattle.ifmap_region.specs.Marks.{mark_of, over, row_of}
-use Rattle.ifmap_region.specs.Ways.{HasRoom, IsWayBack}
 use Rattle.ifmap_standing.specs.declared.standing.Standing.{Standing}
 use Rattle.ifmap_standing.specs.Kept.{AtEach, KeepsSame, Stands}
-use Rattle.ifmap_standing.specs.Ways.{LeadBack, LeadsBack, LeadsBackWhere, Way}
+use Rattle.ifmap_standing.specs.Ways.{LeadBack, LeadsBackWhere, Way}
 
 pub written_there : {X : Type 0} (xs : List X) (i : ℕ) (y : X) → i < length xs → slice_get (set xs i y) i ≡ Some y
 written_there [] i y less = absurd (omega (arith, less))
@@ -152,13 +149,13 @@ module _ (R : Option (Option Way) → Subscription → Subscription → Type 0) 
             ∙ d.rest i (omega (arith, low, size));
         done = λ i a b past p q. elim (cases_order n i) [
           | inl e ↦
-            let within : n < length now = slice_get_within now n x here
-            in let one : x ≡ a = same_Some x a (sym here ∙ d.rest n (omega (arith, size)) ∙ ap (slice_get old) e ∙ p)
-            in let two : y ≡ b = same_Some y b (sym (written_there now n y within) ∙ ap (λ l. slice_get l n) (sym so)
-            ∙ ap (slice_get after) e ∙ q)
-            in let by : slice_get ways i ≡ Some way = ap (slice_get ways) (sym e) ∙ sym (d.these n (omega (arith, size)))
-            ∙ ap (λ l. slice_get l n) cut ∙ last_there less way
-            in subst (λ o. Stands (R o) a b) (sym by) (subst (λ z. Stands (R (Some way)) z b) one (subst (λ z. Stands (R (Some way)) x z) two is))
+              let within : n < length now = slice_get_within now n x here
+              in let one : x ≡ a = same_Some x a (sym here ∙ d.rest n (omega (arith, size)) ∙ ap (slice_get old) e ∙ p)
+              in let two : y ≡ b = same_Some y b (sym (written_there now n y within) ∙ ap (λ l. slice_get l n) (sym so)
+              ∙ ap (slice_get after) e ∙ q)
+              in let by : slice_get ways i ≡ Some way = ap (slice_get ways) (sym e) ∙ sym (d.these n (omega (arith, size)))
+              ∙ ap (λ l. slice_get l n) cut ∙ last_there less way
+              in subst (λ o. Stands (R o) a b) (sym by) (subst (λ z. Stands (R (Some way)) z b) one (subst (λ z. Stands (R (Some way)) x z) two is))
           | inr o ↦ elim o [
             | inl low ↦ d.done i a b (omega (arith, low, size)) p
                 (sym (written_elsewhere now n i y (omega (arith, low))) ∙ ap (λ l. slice_get l i) (sym so) ∙ q)

@@ -1,10 +1,10 @@
 -- Telling a list of subscriptions, from the first on. First the steps of one more (`within_more`), and of none (`within_none`). Then
 -- a relation at each place, of which one is written (`at_set`). Then what holds as far as the loop has come (`Stage`): as it begins,
 -- one on, where one fails, and at its end.
-use Rattle.std.proofs.Common.{◌≡◌, ◌≢◌, ◌⊎◌, inl, inr, ℕ, zero, suc, ◌+◌, ◌<◌, ◌≤◌, Bool, true, false, Option, Some, None, List, [], ◌∷◌, ◌++◌, length, map, set, slice_get, take, drop, Result, Ok, Err, refl, ap, ◌∙◌, sym, subst, arith}
+use Rattle.std.proofs.Common.{◌≡◌, ◌≢◌, inl, inr, ℕ, zero, suc, ◌+◌, ◌<◌, ◌≤◌, Bool, true, false, Option, Some, None, List, [], ◌∷◌, ◌++◌, length, map, set, slice_get, take, drop, Result, Ok, Err, refl, ap, ◌∙◌, sym, subst, arith}
 use Rattle.std.specs.List.{zip}
 use Rattle.std.specs.Prelude.{OnErr}
-use Rattle.std.proofs.lemmas.Bool.{cases_order, false≢true}
+use Rattle.std.proofs.lemmas.Bool.{cases_order}
 use Rattle.std.proofs.lemmas.List.{length-append, length-set, map-append, take-append-drop, take_all}
 use Rattle.std.proofs.Math.Numerals.{add-one}
 use Rattle.std.proofs.lemmas.Option.{slice_get_past, slice_get_within, same_Some, none-some}
@@ -23,7 +23,7 @@ use Rattle.ifmap_standing.specs.Kept.{AtEach, KeepsSame, Stands}
 use Rattle.ifmap_standing.specs.News.{news_of_each, news_where}
 use Rattle.ifmap_standing.specs.Standing.{shown}
 use Rattle.ifmap_standing.specs.Ways.{LeadBack, LeadsBackWhere, Way}
-use Rattle.ifmap_standing.proofs.Places.{before_last, keeps_itself, last_there, same_search, weaker, written_elsewhere, written_there}
+use Rattle.ifmap_standing.proofs.Places.{before_last, keeps_itself, last_there, weaker, written_elsewhere, written_there}
 
 -- two lists side by side, one place on
 zip_more : {A B : Type 0} (us : List A) (vs : List B) (n : ℕ) (a : A) (b : B) → slice_get us n ≡ Some a → slice_get vs n ≡ Some b
@@ -81,13 +81,13 @@ at_set R S xs now after n x y r here within so is others = record {
   long = ap length so ∙ length-set now n y ∙ r.long;
   at = λ i a b p q. elim (cases_order i n) [
     | inl e ↦
-      let one : x ≡ a = same_Some x a (sym here ∙ ap (slice_get xs) (sym e) ∙ p)
-      in let two : y ≡ b = same_Some y b (sym (written_there now n y within) ∙ ap (λ l. slice_get l n) (sym so)
-      ∙ ap (slice_get after) (sym e) ∙ q)
-      in subst (λ j. S j a b) (sym e) (subst (λ z. S n z b) one (subst (λ z. S n x z) two is))
+        let one : x ≡ a = same_Some x a (sym here ∙ ap (slice_get xs) (sym e) ∙ p)
+        in let two : y ≡ b = same_Some y b (sym (written_there now n y within) ∙ ap (λ l. slice_get l n) (sym so)
+        ∙ ap (slice_get after) (sym e) ∙ q)
+        in subst (λ j. S j a b) (sym e) (subst (λ z. S n z b) one (subst (λ z. S n x z) two is))
     | inr o ↦
-      let apart : i ≢ n = λ e. elim o [ | inl l ↦ omega (arith, l, e) | inr l ↦ omega (arith, l, e) ]
-      in others i a b apart (r.at i a b p (sym (written_elsewhere now n i y apart) ∙ ap (λ l. slice_get l i) (sym so) ∙ q))
+        let apart : i ≢ n = λ e. elim o [ inl l ↦ omega (arith, l, e) | inr l ↦ omega (arith, l, e) ]
+        in others i a b apart (r.at i a b p (sym (written_elsewhere now n i y apart) ∙ ap (λ l. slice_get l i) (sym so) ∙ q))
   ];
 }
 
@@ -184,13 +184,13 @@ module _ (old new : Sight) (notes : List Note) (skipped : List Bool) (xs : List 
           let longer : length (ways ++ way ∷ []) ≡ n + 1 = length-append ways (way ∷ []) ∙ ap (λ k. k + 1) s.count
           in let there : slice_get (ways ++ way ∷ []) n ≡ Some way = ap (slice_get (ways ++ way ∷ [])) (sym s.count) ∙ last_there ways way
           in let same : (i : ℕ) → i ≢ n → slice_get (ways ++ way ∷ []) i ≡ slice_get ways i
-              = λ i apart. elim (cases_order i n) [
-                | inl e ↦ absurd (apart e)
-                | inr o ↦ elim o [
-                  | inl l ↦ before_last ways way i (omega (arith, l, s.count))
-                  | inr l ↦ slice_get_past (ways ++ way ∷ []) i (omega (arith, l, longer)) ∙ sym (slice_get_past ways i (omega (arith, l, s.count)))
-                ]
-              ]
+          = λ i apart. elim (cases_order i n) [
+            | inl e ↦ absurd (apart e)
+            | inr o ↦ elim o [
+              | inl l ↦ before_last ways way i (omega (arith, l, s.count))
+              | inr l ↦ slice_get_past (ways ++ way ∷ []) i (omega (arith, l, longer)) ∙ sym (slice_get_past ways i (omega (arith, l, s.count)))
+            ]
+          ]
           in record {
             long = omega (arith, low, longer, ap length so ∙ length-set now n y);
             each = at_set (λ i. Stands (LeadsBackWhere (slice_get ways i))) (λ i. Stands (LeadsBackWhere (slice_get (ways ++ way ∷ []) i)))
@@ -203,9 +203,9 @@ module _ (old new : Sight) (notes : List Note) (skipped : List Bool) (xs : List 
           → IsKept new z.subscription
       kept_next i z less p f = elim (cases_order i n) [
         | inl e ↦
-          let at : y ≡ z = same_Some y z (sym (written_there now n y low) ∙ ap (λ l. slice_get l n) (sym so) ∙ ap (slice_get after) (sym e) ∙ p)
-          in let no : skip ≡ false = same_Some skip false (sym flag ∙ ap (slice_get skipped) (sym e) ∙ f)
-          in subst (λ u. IsKept new u.subscription) at (keeps no)
+            let at : y ≡ z = same_Some y z (sym (written_there now n y low) ∙ ap (λ l. slice_get l n) (sym so) ∙ ap (slice_get after) (sym e) ∙ p)
+            in let no : skip ≡ false = same_Some skip false (sym flag ∙ ap (slice_get skipped) (sym e) ∙ f)
+            in subst (λ u. IsKept new u.subscription) at (keeps no)
         | inr o ↦ elim o [
           | inl l ↦ s.kept i z l (sym (written_elsewhere now n i y (omega (arith, l))) ∙ ap (λ k. slice_get k i) (sym so) ∙ p) f
           | inr l ↦ absurd (omega (arith, less, l))

@@ -1,7 +1,7 @@
 -- A change that is taken over: what the subscription would keep it keeps still once there is room (`would_keep`), and the way back
 -- leads back to what it kept before (`leads`).
-use Rattle.std.proofs.Common.{◌≡◌, ◌⊎◌, inl, inr, ℕ, Bool, true, false, Option, Some, None, List, [], ◌∷◌, refl, ap, ◌∙◌, sym, subst}
-use Rattle.std.specs.Prelude.{IsSome, is_some, unwrap_or}
+use Rattle.std.proofs.Common.{◌≡◌, inl, inr, ℕ, Option, List, [], ◌∷◌, refl, ap, ◌∙◌, sym, subst}
+use Rattle.std.specs.Prelude.{is_some, unwrap_or}
 use Rattle.std.proofs.lemmas.Bool.{false≢true}
 use Rattle.ifmap_delta.specs.Changes.{WouldKeep}
 use Rattle.ifmap_delta.specs.declared.subscriptions.Subscription.{Subscription}

@@ -112,12 +112,7 @@ fn differing_items(
 
 /// The error that a subscription is told whose result has a size that is greater than its search
 /// allows.
-pub fn too_big_item(
-    alloc: Global,
-    name: &Text,
-    size: u64,
-    limit: u64,
-) -> Result<PollItem, NoMemory>
+pub fn too_big_item(alloc: Global, name: &Text, size: u64, limit: u64) -> Result<PollItem, NoMemory>
     ensures { IfOk result (λ item. item
         ≡ the_item.Error (Some name.now) SearchResultsTooBig (machine.limit_note size limit)) }
 {

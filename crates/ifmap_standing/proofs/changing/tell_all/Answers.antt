@@ -1,4 +1,4 @@
-use Rattle.std.proofs.Common.{◌≡◌, ◌∙◌, ap, rules, refl, sym, subst, arith, ◌+◌, ◌<◌, false, Some, ◌∷◌, [], ◌++◌, length, get_or, set, slice_get}
+use Rattle.std.proofs.Common.{◌≡◌, ◌∙◌, ap, refl, sym, subst, arith, ◌+◌, ◌<◌, false, Some, ◌∷◌, [], ◌++◌, length, get_or, set, slice_get}
 use Rattle.std.proofs.lemmas.Option.{slice_get-get_or}
 use Rattle.ifmap_delta.specs.Sights.{sight_of}
 use Rattle.ifmap_standing.proofs.Stages.{Stage, kept_end, news_end, stage_first, stage_next, steps_all, steps_end, ways_failed}

@@ -1,5 +1,4 @@
-use Rattle.std.proofs.Common.{◌≡◌, ◌∙◌, ap, refl, sym}
-use Rattle.ifmap_delta.specs.Sights.{sight_of}
+use Rattle.std.proofs.Common.{◌∙◌, ap, refl, sym}
 use Rattle.ifmap_folds.specs.Differences.{difference}
 use Rattle.ifmap_fresh.specs.Fresh.{fresh}
 use Rattle.ifmap_standing.proofs.changing.tell_one.Goals as goal

@@ -1,4 +1,4 @@
-use Rattle.std.proofs.Common.{◌≡◌, ◌∙◌, ap, refl, sym, subst}
+use Rattle.std.proofs.Common.{◌≡◌, refl, sym, subst}
 use Rattle.std.specs.Prelude.{IfOk}
 use Rattle.ifmap_delta.specs.Sights.{sight_of}
 use Rattle.ifmap_standing.specs.Bounds.{IsWithinWhere}
