@@ -1,5 +1,5 @@
 //! Ways back: what all subscriptions took over of a change, to be taken back or left as it is.
-ghost use Rattle.std.specs.Prelude.{◌≤◌, ℕ, List, Option, Some, length, slice_get};
+ghost use Rattle.std.specs.Prelude.{◌≤◌, List, Option, Some, length, slice_get};
 ghost use Rattle.ifmap_delta.specs.declared.subscriptions.Subscription.{Subscription};
 ghost use Rattle.ifmap_standing.specs.Kept.{AtEach, KeepsSame, Stands};
 ghost use Rattle.ifmap_standing.specs.Ways.{IsSettled, LeadBack, LeadsBackWhere, Way};
