@@ -1,0 +1,198 @@
+-- Lists of subscriptions, place by place. First what stands at a place of a list in which one place is written (`written_there`,
+-- `written_elsewhere`). Then relations at each place: joined (`joined`), and weaker (`weaker`). Then a walk from the last place
+-- down that changes each by a way (`Down`): as it begins, at one place, and at its end. Last, that ways lead back still after what
+-- keeps the same (`stay`).
+use Rattle.std.proofs.Common.{◌≡◌, ◌≢◌, inl, inr, ℕ, zero, suc, ◌+◌, ◌<◌, ◌≤◌, Option, Some, None, List, [], ◌∷◌, ◌++◌, length, get_or, set, slice_get, take, refl, ap, ◌∙◌, sym, subst, arith}
+use Rattle.std.proofs.lemmas.Bool.{cases_order}
+use Rattle.std.proofs.lemmas.List.{length-append, length-set}
+use Rattle.std.proofs.lemmas.Option.{slice_get_past, slice_get_read, slice_get_within, same_Some, none-some}
+use Rattle.ifmap_delta.specs.declared.subscriptions.Subscription.{Subscription}
+use Rattle.ifmap_delta.specs.Ways.{HasSameSearch}
+use Rattle.ifmap_standing.specs.declared.standing.Standing.{Standing}
+use Rattle.ifmap_standing.specs.Kept.{AtEach, KeepsSame, Stands}
+use Rattle.ifmap_standing.specs.Ways.{LeadBack, LeadsBackWhere, Way}
+
+pub written_there : {X : Type 0} (xs : List X) (i : ℕ) (y : X) → i < length xs → slice_get (set xs i y) i ≡ Some y
+written_there [] i y less = absurd (omega (arith, less))
+written_there (x ∷ xs) zero y less = refl
+written_there (x ∷ xs) (suc i) y less = written_there xs i y (omega (arith, less))
+
+pub written_elsewhere : {X : Type 0} (xs : List X) (i j : ℕ) (y : X) → j ≢ i → slice_get (set xs i y) j ≡ slice_get xs j
+written_elsewhere [] i j y n = refl
+written_elsewhere (x ∷ xs) zero zero y n = absurd (n refl)
+written_elsewhere (x ∷ xs) zero (suc j) y n = refl
+written_elsewhere (x ∷ xs) (suc i) zero y n = refl
+written_elsewhere (x ∷ xs) (suc i) (suc j) y n = written_elsewhere xs i j y (λ e. n (ap suc e))
+
+-- the last of a list
+pub last_there : {X : Type 0} (xs : List X) (x : X) → slice_get (xs ++ x ∷ []) (length xs) ≡ Some x
+last_there [] x = refl
+last_there (y ∷ xs) x = last_there xs x
+
+pub before_last : {X : Type 0} (xs : List X) (x : X) (i : ℕ) → i < length xs → slice_get (xs ++ x ∷ []) i ≡ slice_get xs i
+before_last [] x i less = absurd (omega (arith, less))
+before_last (y ∷ xs) x zero less = refl
+before_last (y ∷ xs) x (suc i) less = before_last xs x i (omega (arith, less))
+
+pub front_there : {X : Type 0} (n : ℕ) (xs : List X) (i : ℕ) → i < n → slice_get (take n xs) i ≡ slice_get xs i
+front_there zero xs i less = absurd (omega (arith, less))
+front_there (suc n) [] i less = refl
+front_there (suc n) (x ∷ xs) zero less = refl
+front_there (suc n) (x ∷ xs) (suc i) less = front_there n xs i (omega (arith, less))
+
+-- a list as long as another has something at each place of that one
+pub present : {X Y : Type 0} (xs : List X) (ys : List Y) (i : ℕ) (x : X) → length ys ≡ length xs → slice_get xs i ≡ Some x
+    → (y : Y) × (slice_get ys i ≡ Some y)
+present [] ys i x long e = absurd (none-some x e)
+present (a ∷ xs) [] i x long e = absurd (omega (arith, long))
+present (a ∷ xs) (b ∷ ys) zero x long e = (b, refl)
+present (a ∷ xs) (b ∷ ys) (suc i) x long e = present xs ys i x (omega (arith, long)) e
+
+-- relations at each place
+pub joined : {X : Type 0} (R S T : ℕ → X → X → Type 0) → ((i : ℕ) (x y z : X) → R i x y → S i y z → T i x z) → (a b c : List X)
+    → AtEach R a b → AtEach S b c → AtEach T a c
+joined R S T f a b c r s = record {
+  long = s.long ∙ r.long;
+  at = λ i x z p q. let y = present a b i x r.long p in f i x y.0 z (r.at i x y.0 p y.1) (s.at i y.0 z y.1 q);
+}
+
+pub weaker : {X : Type 0} (R S : ℕ → X → X → Type 0) → ((i : ℕ) (x y : X) → R i x y → S i x y) → (a b : List X)
+    → AtEach R a b → AtEach S a b
+weaker R S f a b r = record { long = r.long; at = λ i x y p q. f i x y (r.at i x y p q) }
+
+-- what keeps the same keeps the same twice
+pub same_searches : (a b c : Subscription) → HasSameSearch a b → HasSameSearch b c → HasSameSearch a c
+same_searches a b c s t = record {
+  search = t.search ∙ s.search;
+  start = t.start ∙ s.start;
+  max_depth = t.max_depth ∙ s.max_depth;
+}
+
+pub same_search : (a : Subscription) → HasSameSearch a a
+same_search a = record { search = refl; start = refl; max_depth = refl }
+
+pub keeps_itself : (a : Subscription) → KeepsSame a a
+keeps_itself a = record { search = same_search a; size = refl; marks = λ v. refl; rows = λ v r. r }
+
+pub keeps_twice : (a b c : Subscription) → KeepsSame a b → KeepsSame b c → KeepsSame a c
+keeps_twice a b c s t = record {
+  search = same_searches a b c s.search t.search;
+  size = t.size ∙ s.size;
+  marks = λ v. t.marks v ∙ s.marks v;
+  rows = λ v r. t.rows v (s.rows v r);
+}
+
+-- ways lead back still after what keeps the same
+stays : (way : Option (Option Way)) (a b c : Subscription) → LeadsBackWhere way a b → KeepsSame b c → LeadsBackWhere way a c
+stays None a b c s t = keeps_twice a b c s t
+stays (Some None) a b c s t = keeps_twice a b c s t
+stays (Some (Some way)) a b c s t = record {
+  search = same_searches a b c s.search t.search;
+  size = s.size;
+  patch = s.patch;
+  marks = record { taken = s.marks.taken; made = λ v. t.marks v ∙ s.marks.made v };
+  room = λ v r. t.rows v (s.room v r);
+  rows = λ v r. t.rows v (s.rows v r);
+}
+
+pub stand_joined : (R S T : Subscription → Subscription → Type 0) → ((x y z : Subscription) → R x y → S y z → T x z)
+    → (x y z : Standing) → Stands R x y → Stands S y z → Stands T x z
+stand_joined R S T f x y z r s = record {
+  serial = s.serial ∙ r.serial;
+  name = s.name ∙ r.name;
+  subscription = f x.subscription y.subscription z.subscription r.subscription s.subscription;
+}
+
+pub stay : (before now after : List Standing) (ways : List (Option Way)) → LeadBack before ways now
+    → AtEach (λ _. Stands KeepsSame) now after → LeadBack before ways after
+stay before now after ways l k = record {
+  long = rw k.long l.long;
+  each = joined (λ i. Stands (LeadsBackWhere (slice_get ways i))) (λ _. Stands KeepsSame)
+      (λ i. Stands (LeadsBackWhere (slice_get ways i)))
+      (λ i x y z r s. stand_joined (LeadsBackWhere (slice_get ways i)) KeepsSame (LeadsBackWhere (slice_get ways i))
+      (stays (slice_get ways i)) x y z r s) before now after l.each k;
+}
+
+-- a walk from the last place down
+module _ (R : Option (Option Way) → Subscription → Subscription → Type 0) (stands : (x : Subscription) → R None x x)
+    (ways : List (Option Way)) (old : List Standing) where
+  pub record Down (left : List (Option Way)) (now : List Standing) : Type 0 where
+    pub few : length left ≤ length old
+    pub long : length now ≡ length old
+    pub these : (i : ℕ) → i < length left → slice_get left i ≡ slice_get ways i
+    pub rest : (i : ℕ) → i < length left → slice_get now i ≡ slice_get old i
+    pub done : (i : ℕ) (x y : Standing) → length left ≤ i → slice_get old i ≡ Some x → slice_get now i ≡ Some y
+        → Stands (R (slice_get ways i)) x y
+
+  pub down_first : length ways ≤ length old → Down ways old
+  down_first few = record {
+    few = few;
+    long = refl;
+    these = λ i less. refl;
+    rest = λ i less. refl;
+    done = λ i x y past p q. let e : y ≡ x = same_Some y x (sym q ∙ p) in
+        subst (λ o. Stands (R o) x y) (sym (slice_get_past ways i past))
+        (subst (λ z. Stands (R None) x z) (sym e) (record { serial = refl; name = refl; subscription = stands x.subscription }));
+  }
+
+  pub down_next : (left less : List (Option Way)) (now after : List Standing) (way : Option Way) (x y : Standing) → Down left now
+      → left ≡ less ++ way ∷ [] → slice_get now (length less) ≡ Some x → Stands (R (Some way)) x y
+      → after ≡ set now (length less) y → Down less after
+  down_next left less now after way x y d cut here is so =
+      let n = length less
+      in let size : length left ≡ n + 1 = ap length cut ∙ simp (length-append) refl
+      in record {
+        few = omega (arith, size, d.few);
+        long = ap length so ∙ length-set now n y ∙ d.long;
+        these = λ i low. sym (before_last less way i low) ∙ ap (λ l. slice_get l i) (sym cut) ∙ d.these i (omega (arith, low, size));
+        rest = λ i low. ap (λ l. slice_get l i) so ∙ written_elsewhere now n i y (omega (arith, low))
+            ∙ d.rest i (omega (arith, low, size));
+        done = λ i a b past p q. elim (cases_order n i) [
+          | inl e ↦
+              let within : n < length now = slice_get_within now n x here
+              in let one : x ≡ a = same_Some x a (sym here ∙ d.rest n (omega (arith, size)) ∙ ap (slice_get old) e ∙ p)
+              in let two : y ≡ b = same_Some y b (sym (written_there now n y within) ∙ ap (λ l. slice_get l n) (sym so)
+              ∙ ap (slice_get after) e ∙ q)
+              in let by : slice_get ways i ≡ Some way = ap (slice_get ways) (sym e) ∙ sym (d.these n (omega (arith, size)))
+              ∙ ap (λ l. slice_get l n) cut ∙ last_there less way
+              in subst (λ o. Stands (R o) a b) (sym by) (subst (λ z. Stands (R (Some way)) z b) one (subst (λ z. Stands (R (Some way)) x z) two is))
+          | inr o ↦ elim o [
+            | inl low ↦ d.done i a b (omega (arith, low, size)) p
+                (sym (written_elsewhere now n i y (omega (arith, low))) ∙ ap (λ l. slice_get l i) (sym so) ∙ q)
+            | inr high ↦ absurd (omega (arith, past, high))
+          ]
+        ];
+      }
+
+  pub down_last : (now : List Standing) → Down [] now → AtEach (λ i. Stands (R (slice_get ways i))) old now
+  down_last now d = record { long = d.long; at = λ i x y p q. d.done i x y (omega arith) p q }
+
+  module _ (left less : List (Option Way)) (now : List Standing) (way : Option Way) (at : ℕ) (x : Standing) (d : Down left now)
+      (cut : left ≡ less ++ way ∷ []) (place : at ≡ length less) (is : x ≡ get_or now at x) where
+    size : length left ≡ length less + 1
+    size = ap length cut ∙ length-append less (way ∷ [])
+
+    pub at_within : at < length now
+    at_within = omega (arith, size, d.few, d.long, place)
+
+    pub there_now : slice_get now at ≡ Some x
+    there_now = slice_get_read now (length now) at x refl at_within is
+
+    pub there_old : slice_get old at ≡ Some x
+    there_old = sym (d.rest at (omega (arith, size, place))) ∙ there_now
+
+    pub way_there : slice_get ways at ≡ Some way
+    way_there = sym (d.these at (omega (arith, size, place))) ∙ ap (λ l. slice_get l at) cut ∙ ap (slice_get (less ++ way ∷ [])) place
+        ∙ last_there less way
+
+    pub down_step : (sub : Subscription) → R (Some way) (get_or now at x).subscription sub
+        → Down less (set now at (record { serial = (get_or now at x).serial; name = (get_or now at x).name; subscription = sub }))
+    down_step sub r =
+        let y : Standing = record { serial = (get_or now at x).serial; name = (get_or now at x).name; subscription = sub }
+        in let moved : Stands (R (Some way)) x y = record {
+          serial = ap (λ z. z.serial) (sym is);
+          name = ap (λ z. z.name) (sym is);
+          subscription = subst (λ z. R (Some way) z.subscription sub) (sym is) r;
+        }
+        in down_next left less now (set now at y) way x y d cut (ap (slice_get now) (sym place) ∙ there_now) moved
+        (ap (λ i. set now i y) place)

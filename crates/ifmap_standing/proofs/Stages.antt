@@ -1,0 +1,262 @@
+-- Telling a list of subscriptions, from the first on. First the steps of one more (`within_more`), and of none (`within_none`). Then
+-- a relation at each place, of which one is written (`at_set`). Then what holds as far as the loop has come (`Stage`): as it begins,
+-- one on, where one fails, and at its end.
+use Rattle.std.proofs.Common.{◌≡◌, ◌≢◌, inl, inr, ℕ, zero, suc, ◌+◌, ◌<◌, ◌≤◌, Bool, true, false, Option, Some, None, List, [], ◌∷◌, ◌++◌, length, map, set, slice_get, take, drop, Result, Ok, Err, refl, ap, ◌∙◌, sym, subst, arith}
+use Rattle.std.specs.List.{zip}
+use Rattle.std.specs.Prelude.{OnErr}
+use Rattle.std.proofs.lemmas.Bool.{cases_order}
+use Rattle.std.proofs.lemmas.List.{length-append, length-set, map-append, take-append-drop, take_all}
+use Rattle.std.proofs.Math.Numerals.{add-one}
+use Rattle.std.proofs.lemmas.Option.{slice_get_past, slice_get_within, same_Some, none-some}
+use Rattle.std.proofs.lemmas.Slice.Zip.{length-zip}
+use Rattle.ifmap_delta.specs.declared.subscriptions.Subscription.{Subscription}
+use Rattle.ifmap_delta.specs.Bounds.{IsNear, links_of}
+use Rattle.ifmap_delta.specs.Sights.{IsKept, Sight}
+use Rattle.ifmap_delta.specs.Ways.{HasSameSearch}
+use Rattle.ifmap_machine.specs.State as machine
+use Rattle.ifmap_plans.specs.declared.plans.Note.{Note}
+use Rattle.ifmap_region.specs.Bounds.{within_nothing}
+use Rattle.ifmap_standing.specs.Bounds.{IsWithinEach, IsWithinWhere}
+use Rattle.ifmap_standing.specs.declared.standing.Standing.{Standing}
+use Rattle.ifmap_standing.specs.declared.telling.News.{News}
+use Rattle.ifmap_standing.specs.Kept.{AtEach, KeepsSame, Stands}
+use Rattle.ifmap_standing.specs.News.{news_of_each, news_where}
+use Rattle.ifmap_standing.specs.Standing.{shown}
+use Rattle.ifmap_standing.specs.Ways.{LeadBack, LeadsBackWhere, Way}
+use Rattle.ifmap_standing.proofs.Places.{before_last, keeps_itself, last_there, weaker, written_elsewhere, written_there}
+
+-- two lists side by side, one place on
+zip_more : {A B : Type 0} (us : List A) (vs : List B) (n : ℕ) (a : A) (b : B) → slice_get us n ≡ Some a → slice_get vs n ≡ Some b
+    → take (suc n) (zip us vs) ≡ take n (zip us vs) ++ (a, b) ∷ []
+zip_more [] vs n a b p q = absurd (none-some a p)
+zip_more (x ∷ us) [] n a b p q = absurd (none-some b q)
+zip_more (x ∷ us) (y ∷ vs) zero a b p q = ap (λ u. (u, y) ∷ []) (same_Some x a p) ∙ ap (λ u. (a, u) ∷ []) (same_Some y b q)
+zip_more (x ∷ us) (y ∷ vs) (suc n) a b p q = ap (λ l. (x, y) ∷ l) (zip_more us vs n a b p q)
+
+mapped_there : {X Y : Type 0} (f : X → Y) (xs : List X) (n : ℕ) (x : X) → slice_get xs n ≡ Some x → slice_get (map f xs) n ≡ Some (f x)
+mapped_there f [] n x p = absurd (none-some x p)
+mapped_there f (y ∷ xs) zero x p = ap (λ z. Some (f z)) (same_Some y x p)
+mapped_there f (y ∷ xs) (suc n) x p = mapped_there f xs n x p
+
+-- steps
+module _ (old new : Sight) where
+  pub where_none : (skip : Bool) (x : Standing) (steps : ℕ) → IsWithinWhere old new skip x steps steps
+  where_none true x steps = omega arith
+  where_none false x steps =
+      within_nothing (links_of old new x.subscription.search)
+      (IsNear old new x.subscription.search x.subscription.region.start) 10 steps
+
+  pub within_none : (ps : List (Bool × Standing)) (steps : ℕ) → IsWithinEach old new ps steps steps
+  within_none [] steps = omega arith
+  within_none (p ∷ ps) steps = (steps, where_none p.0 p.1 steps, within_none ps steps)
+
+  within_joined : (ps qs : List (Bool × Standing)) (a b c : ℕ) → IsWithinEach old new ps a b → IsWithinEach old new qs b c
+      → IsWithinEach old new (ps ++ qs) a c
+  within_joined [] qs a b c s t = lower qs b a c s t
+    where
+      -- from more steps at the beginning
+      lower_where : (skip : Bool) (x : Standing) (b a c : ℕ) → b ≤ a → IsWithinWhere old new skip x b c → IsWithinWhere old new skip x a c
+      lower_where true x b a c less t = omega (arith, less, t)
+      lower_where false x b a c less t = record {
+        numbers = t.numbers;
+        distinct = t.distinct;
+        among = t.among;
+        bound = omega (arith, less, t.bound);
+      }
+
+      lower : (qs : List (Bool × Standing)) (b a c : ℕ) → b ≤ a → IsWithinEach old new qs b c → IsWithinEach old new qs a c
+      lower [] b a c less t = omega (arith, less, t)
+      lower (q ∷ qs) b a c less t = (t.0, lower_where q.0 q.1 b a t.0 less t.1, t.2)
+  within_joined (p ∷ ps) qs a b c s t = (s.0, s.1, within_joined ps qs s.0 b c s.2 t)
+
+  within_more : (ps : List (Bool × Standing)) (skip : Bool) (x : Standing) (a b c : ℕ) → IsWithinEach old new ps a b
+      → IsWithinWhere old new skip x b c → IsWithinEach old new (ps ++ (skip, x) ∷ []) a c
+  within_more ps skip x a b c s t = within_joined ps ((skip, x) ∷ []) a b c s (c, t, omega arith)
+
+-- a relation at each place, one of which is written
+at_set : {X : Type 0} (R S : ℕ → X → X → Type 0) (xs now after : List X) (n : ℕ) (x y : X) → AtEach R xs now
+    → slice_get xs n ≡ Some x → n < length now → after ≡ set now n y → S n x y
+    → ((i : ℕ) (a b : X) → i ≢ n → R i a b → S i a b) → AtEach S xs after
+at_set R S xs now after n x y r here within so is others = record {
+  long = ap length so ∙ length-set now n y ∙ r.long;
+  at = λ i a b p q. elim (cases_order i n) [
+    | inl e ↦
+        let one : x ≡ a = same_Some x a (sym here ∙ ap (slice_get xs) (sym e) ∙ p)
+        in let two : y ≡ b = same_Some y b (sym (written_there now n y within) ∙ ap (λ l. slice_get l n) (sym so)
+        ∙ ap (slice_get after) (sym e) ∙ q)
+        in subst (λ j. S j a b) (sym e) (subst (λ z. S n z b) one (subst (λ z. S n x z) two is))
+    | inr o ↦
+        let apart : i ≢ n = λ e. elim o [ inl l ↦ omega (arith, l, e) | inr l ↦ omega (arith, l, e) ]
+        in others i a b apart (r.at i a b p (sym (written_elsewhere now n i y apart) ∙ ap (λ l. slice_get l i) (sym so) ∙ q))
+  ];
+}
+
+-- a relation that holds of each with itself
+pub at_itself : {X : Type 0} (R : ℕ → X → X → Type 0) → ((i : ℕ) (x : X) → R i x x) → (xs : List X) → AtEach R xs xs
+at_itself R f xs = record {
+  long = refl;
+  at = λ i x y p q. subst (λ z. R i x z) (same_Some x y (sym p ∙ q)) (f i x);
+}
+
+pub stands_itself : (R : Subscription → Subscription → Type 0) → ((x : Subscription) → R x x) → (xs : List Standing)
+    → AtEach (λ _. Stands R) xs xs
+stands_itself R f xs =
+    at_itself (λ _. Stands R) (λ i x. record { serial = refl; name = refl; subscription = f x.subscription }) xs
+
+module _ (old new : Sight) (notes : List Note) (skipped : List Bool) (xs : List Standing) (begun : ℕ) where
+  abbrev pub told : Bool × machine.Standing → News
+  told p = news_where old.rows new.rows notes p.0 p.1
+
+  -- the first n are told
+  pub record Stage (n : ℕ) (news : List News) (ways : List (Option Way)) (now : List Standing) (steps : ℕ) : Type 0 where
+    pub says : news ≡ map told (take n (zip skipped (map shown xs)))
+    pub told_count : length news ≡ n
+    pub count : length ways ≡ n
+    pub lead : LeadBack xs ways now
+    pub rest : (i : ℕ) → n ≤ i → slice_get now i ≡ slice_get xs i
+    pub kept : (i : ℕ) (y : Standing) → i < n → slice_get now i ≡ Some y → slice_get skipped i ≡ Some false → IsKept new y.subscription
+    pub skips : AtEach (λ i x y. slice_get skipped i ≡ Some true → y ≡ x) xs now
+    pub within : IsWithinEach old new (take n (zip skipped xs)) begun steps
+
+  pub lead_nowhere : LeadBack xs [] xs
+  lead_nowhere = record {
+    long = omega arith;
+    each = at_itself (λ i. Stands (LeadsBackWhere (slice_get [] i)))
+        (λ i x. record { serial = refl; name = refl; subscription = keeps_itself x.subscription }) xs;
+  }
+
+  pub stage_first : Stage 0 [] [] xs begun
+  stage_first = record {
+    says = refl;
+    told_count = refl;
+    count = refl;
+    lead = lead_nowhere;
+    rest = λ i past. refl;
+    kept = λ i y less. absurd (omega (arith, less));
+    skips = at_itself (λ i x y. slice_get skipped i ≡ Some true → y ≡ x) (λ i x e. refl) xs;
+    within = omega arith;
+  }
+
+  module _ (n : ℕ) (news : List News) (ways : List (Option Way)) (now : List Standing) (steps : ℕ) (s : Stage n news ways now steps)
+      (skip : Bool) (x y : Standing) (flag : slice_get skipped n ≡ Some skip) (here : slice_get now n ≡ Some x)
+      (after : List Standing) (so : after ≡ set now n y) (more : ℕ) (within : IsWithinWhere old new skip x steps more) where
+    before : slice_get xs n ≡ Some x
+    before = sym (s.rest n (omega arith)) ∙ here
+
+    low : n < length now
+    low = slice_get_within now n x here
+
+    one_on : take (n + 1) (zip skipped xs) ≡ take n (zip skipped xs) ++ (skip, x) ∷ []
+    one_on = ap (λ k. take k (zip skipped xs)) (add-one n) ∙ zip_more skipped xs n skip x flag before
+
+    pub steps_next : IsWithinEach old new (take (n + 1) (zip skipped xs)) begun more
+    steps_next = subst (λ ps. IsWithinEach old new ps begun more) (sym one_on)
+        (within_more old new (take n (zip skipped xs)) skip x begun steps more s.within within)
+
+    pub steps_end : IsWithinEach old new (zip skipped xs) begun more
+    steps_end = subst (λ ps. IsWithinEach old new ps begun more) (take-append-drop (n + 1) (zip skipped xs))
+        (within_joined old new (take (n + 1) (zip skipped xs)) (drop (n + 1) (zip skipped xs)) begun more more steps_next
+        (within_none old new (drop (n + 1) (zip skipped xs)) more))
+
+    -- one fails, and keeps what it kept
+    pub ways_failed : Stands KeepsSame x y → LeadBack xs ways after
+    ways_failed same = record {
+      long = omega (arith, s.lead.long, ap length so ∙ length-set now n y);
+      each = at_set (λ i. Stands (LeadsBackWhere (slice_get ways i))) (λ i. Stands (LeadsBackWhere (slice_get ways i))) xs now after n x y
+          s.lead.each before low so
+          (subst (λ o. Stands (LeadsBackWhere o) x y) (sym (slice_get_past ways n (omega (arith, s.count)))) same)
+          (λ i a b apart r. r);
+    }
+
+    module _ (one : News) (way : Option Way) (is : one ≡ news_where old.rows new.rows notes skip (shown x))
+        (back : Stands (LeadsBackWhere (Some way)) x y) (stays : skip ≡ true → y ≡ x)
+        (keeps : skip ≡ false → IsKept new y.subscription) where
+      news_next : news ++ one ∷ [] ≡ map told (take (n + 1) (zip skipped (map shown xs)))
+      news_next =
+          let list = zip skipped (map shown xs)
+          in let on : take (n + 1) list ≡ take n list ++ (skip, shown x) ∷ [] = ap (λ k. take k list) (add-one n)
+          ∙ zip_more skipped (map shown xs) n skip (shown x) flag (mapped_there shown xs n x before)
+          in ap (λ l. l ++ one ∷ []) s.says ∙ ap (λ o. map told (take n list) ++ o ∷ []) is
+          ∙ sym (ap (map told) on ∙ map-append told (take n list) ((skip, shown x) ∷ []))
+
+      ways_next : LeadBack xs (ways ++ way ∷ []) after
+      ways_next =
+          let longer : length (ways ++ way ∷ []) ≡ n + 1 = length-append ways (way ∷ []) ∙ ap (λ k. k + 1) s.count
+          in let there : slice_get (ways ++ way ∷ []) n ≡ Some way = ap (slice_get (ways ++ way ∷ [])) (sym s.count) ∙ last_there ways way
+          in let same : (i : ℕ) → i ≢ n → slice_get (ways ++ way ∷ []) i ≡ slice_get ways i
+          = λ i apart. elim (cases_order i n) [
+            | inl e ↦ absurd (apart e)
+            | inr o ↦ elim o [
+              | inl l ↦ before_last ways way i (omega (arith, l, s.count))
+              | inr l ↦ slice_get_past (ways ++ way ∷ []) i (omega (arith, l, longer)) ∙ sym (slice_get_past ways i (omega (arith, l, s.count)))
+            ]
+          ]
+          in record {
+            long = omega (arith, low, longer, ap length so ∙ length-set now n y);
+            each = at_set (λ i. Stands (LeadsBackWhere (slice_get ways i))) (λ i. Stands (LeadsBackWhere (slice_get (ways ++ way ∷ []) i)))
+                xs now after n x y s.lead.each before low so
+                (subst (λ o. Stands (LeadsBackWhere o) x y) (sym there) back)
+                (λ i a b apart r. subst (λ o. Stands (LeadsBackWhere o) a b) (sym (same i apart)) r);
+          }
+
+      kept_next : (i : ℕ) (z : Standing) → i < n + 1 → slice_get after i ≡ Some z → slice_get skipped i ≡ Some false
+          → IsKept new z.subscription
+      kept_next i z less p f = elim (cases_order i n) [
+        | inl e ↦
+            let at : y ≡ z = same_Some y z (sym (written_there now n y low) ∙ ap (λ l. slice_get l n) (sym so) ∙ ap (slice_get after) (sym e) ∙ p)
+            in let no : skip ≡ false = same_Some skip false (sym flag ∙ ap (slice_get skipped) (sym e) ∙ f)
+            in subst (λ u. IsKept new u.subscription) at (keeps no)
+        | inr o ↦ elim o [
+          | inl l ↦ s.kept i z l (sym (written_elsewhere now n i y (omega (arith, l))) ∙ ap (λ k. slice_get k i) (sym so) ∙ p) f
+          | inr l ↦ absurd (omega (arith, less, l))
+        ]
+      ]
+
+      pub stage_next : Stage (n + 1) (news ++ one ∷ []) (ways ++ way ∷ []) after more
+      stage_next = record {
+        says = news_next;
+        told_count = length-append news (one ∷ []) ∙ ap (λ k. k + 1) s.told_count;
+        count = length-append ways (way ∷ []) ∙ ap (λ k. k + 1) s.count;
+        lead = ways_next;
+        rest = λ i past. ap (λ l. slice_get l i) so ∙ written_elsewhere now n i y (omega (arith, past)) ∙ s.rest i (omega (arith, past));
+        kept = kept_next;
+        skips = at_set (λ i a b. slice_get skipped i ≡ Some true → b ≡ a) (λ i a b. slice_get skipped i ≡ Some true → b ≡ a) xs now after n
+            x y s.skips before low so (λ e. stays (same_Some skip true (sym flag ∙ e))) (λ i a b apart r. r);
+        within = steps_next;
+      }
+
+  -- all are told
+  module _ (n : ℕ) (news : List News) (ways : List (Option Way)) (now : List Standing) (steps : ℕ)
+      (s : Stage n news ways now steps) (past : length skipped ≤ n) where
+    pub news_end : news ≡ news_of_each old.rows new.rows notes skipped (map shown xs)
+    news_end = s.says ∙ ap (map told) (take_all n (zip skipped (map shown xs)) (omega (arith, past, length-zip skipped (map shown xs))))
+
+    pub kept_end : (i : ℕ) (y : Standing) → slice_get now i ≡ Some y → slice_get skipped i ≡ Some false → IsKept new y.subscription
+    kept_end i y p f = s.kept i y (omega (arith, past, slice_get_within skipped i false f)) p f
+
+    pub steps_all : IsWithinEach old new (zip skipped xs) begun steps
+    steps_all = subst (λ ps. IsWithinEach old new ps begun steps)
+        (take_all n (zip skipped xs) (omega (arith, past, length-zip skipped xs))) s.within
+
+-- what leads back has the same searches, and what keeps the same too
+searches : (way : Option (Option Way)) (a b : Subscription) → LeadsBackWhere way a b → HasSameSearch a b
+searches None a b l = l.search
+searches (Some None) a b l = l.search
+searches (Some (Some way)) a b l = l.search
+
+pub lead_searches : (xs : List Standing) (ways : List (Option Way)) (now : List Standing) → LeadBack xs ways now
+    → AtEach (λ _. Stands HasSameSearch) xs now
+lead_searches xs ways now l =
+    weaker (λ i. Stands (LeadsBackWhere (slice_get ways i))) (λ _. Stands HasSameSearch)
+    (λ i x y s. record { serial = s.serial; name = s.name; subscription = searches (slice_get ways i) x.subscription y.subscription s.subscription })
+    xs now l.each
+
+pub keep_searches : (xs now : List Standing) → AtEach (λ _. Stands KeepsSame) xs now → AtEach (λ _. Stands HasSameSearch) xs now
+keep_searches xs now k =
+    weaker (λ _. Stands KeepsSame) (λ _. Stands HasSameSearch)
+    (λ i x y s. record { serial = s.serial; name = s.name; subscription = s.subscription.search }) xs now k
+
+-- a fact is one at an error too
+pub on_err : {X E : Type 0} (r : Result X E) (P : Type 0) → P → OnErr r P
+on_err (Ok x) P p = tt
+on_err (Err e) P p = p

@@ -1,0 +1,41 @@
+use Rattle.ifmap_delta.specs.Sights.{sight_of}
+use Rattle.ifmap_delta.specs.Ways.{HasSameSearch}
+use Rattle.std.specs.List.{zip}
+use Rattle.ifmap_standing.specs.Kept.{AtEach, KeepsSame, Stands}
+use Rattle.ifmap_standing.proofs.Places.{keeps_itself, same_search}
+use Rattle.ifmap_standing.proofs.Stages.{keep_searches, lead_searches, on_err, stands_itself, within_none}
+use Rattle.ifmap_standing.proofs.changing.tell_change.Goals as goal
+
+pub returns-in_err-with_capacity-clause-same : goal.returns-in_err-with_capacity-clause-same
+returns-in_err-with_capacity-clause-same g c = stands_itself HasSameSearch same_search c.args.standing.now
+
+pub returns-in_err-with_capacity-clause-err : goal.returns-in_err-with_capacity-clause-err
+returns-in_err-with_capacity-clause-err g c =
+    on_err c.from_residual.result (AtEach (λ _. Stands KeepsSame) c.args.standing.now c.args.standing.now)
+    (stands_itself KeepsSame keeps_itself c.args.standing.now)
+
+pub returns-in_err-with_capacity-clause-steps : goal.returns-in_err-with_capacity-clause-steps
+returns-in_err-with_capacity-clause-steps g c =
+    let old = sight_of g.G.View.rows g.G.View.id_at g.G.View.links c.args.change.now.graph.now
+    in let new = sight_of g.D.View.rows g.D.View.id_at g.D.View.links c.args.change.now.draft.now
+    in within_none old new (zip c.args.skipped.now c.args.standing.now) c.args.steps.now
+
+pub take_back-requires : goal.take_back-requires
+take_back-requires g c = (c.args.standing.now, c.tell_all.ensures.ways)
+
+pub returns-in-Err-clause-err : goal.returns-in-Err-clause-err
+returns-in-Err-clause-err g c = c.take_back.ensures c.args.standing.now c.tell_all.ensures.ways
+
+pub returns-in-Err-clause-same : goal.returns-in-Err-clause-same
+returns-in-Err-clause-same g c =
+    keep_searches c.args.standing.now c.take_back.new.standing (c.take_back.ensures c.args.standing.now c.tell_all.ensures.ways)
+
+pub returns-in-Ok-clause-same : goal.returns-in-Ok-clause-same
+returns-in-Ok-clause-same g c =
+    lead_searches c.args.standing.now c.tell_all.new.records.ways.items c.tell_all.new.standing c.tell_all.ensures.ways
+
+pub returns-in_err-with_capacity-2-clause-steps : goal.returns-in_err-with_capacity-2-clause-steps
+returns-in_err-with_capacity-2-clause-steps g c =
+    let old = sight_of g.G.View.rows g.G.View.id_at g.G.View.links c.args.change.now.graph.now
+    in let new = sight_of g.D.View.rows g.D.View.id_at g.D.View.links c.args.change.now.draft.now
+    in within_none old new (zip c.args.skipped.now c.args.standing.now) c.args.steps.now

@@ -1,0 +1,185 @@
+//! What one subscription is told of a change.
+ghost use Rattle.std.specs.Prelude.{◌≡◌, ◌++◌, ◌∷◌, [], Some, true, IfOk, OnOk};
+ghost use Rattle.std.specs.List.{AllByRecursion};
+ghost use Rattle.ifmap_delta.specs.Sights.{IsKept, sight_of};
+ghost use Rattle.ifmap_fresh.specs.Fresh.{fresh};
+ghost use Rattle.ifmap_folds.specs.Differences.{difference};
+ghost use Rattle.ifmap_ident.specs.Items.{IsCanonItem};
+ghost use Rattle.ifmap_ident.specs.declared.codes.Code.TheVariants.{SearchResultsTooBig};
+ghost use Rattle.ifmap_machine.specs.Telling as machine;
+ghost use Rattle.ifmap_search.specs.declared.results.PollItem.TheVariants as the_item;
+ghost use Rattle.ifmap_standing.specs.News.{news_of};
+ghost use Rattle.ifmap_standing.specs.Standing.{shown};
+
+use crate::standing::Standing;
+use ifmap_delta::notes;
+use ifmap_elem::{Copied, Many, Text};
+use ifmap_ident::Code;
+use ifmap_plans::Plan;
+use ifmap_search::{Entry, PollItem};
+use ifmap_view::View;
+use std::alloc::{AllocError as NoMemory, Global};
+
+/// A change of the graph: the graph before it, the draft, which shows the graph after it, and the plan
+/// that leads from the one to the other.
+#[derive(Drop)]
+pub struct GraphChange<'a, G: View, D: View> {
+    pub graph: &'a G,
+    pub draft: &'a D,
+    pub plan: &'a Plan,
+}
+
+/// What one subscription is told of a change.
+#[derive(Drop)]
+pub struct News {
+    /// What is to be queued for its session, in order.
+    pub items: Many<PollItem>,
+    /// Whether its result is greater than the search allows now, so that it is to stand no longer.
+    pub is_too_big: bool,
+}
+
+/// What went from a result, and what came into it.
+#[derive(Drop)]
+pub(crate) struct Differences {
+    pub deleted: Many<Entry>,
+    pub updated: Many<Entry>,
+}
+
+/// What a subscription is told of a change that it took over.
+pub(crate) fn news_of<G: View, D: View>(
+    alloc: Global,
+    standing: &Standing,
+    differences: Differences,
+    change: &GraphChange<'_, G, D>,
+) -> Result<News, NoMemory>
+    requires kept { IsKept (sight_of D.rows D.id_at D.links change.now.draft.now)
+        standing.now.subscription }
+    requires canon { AllByRecursion (λ n. IsCanonItem n.item) change.now.plan.now.notes }
+    requires deleted { let search = standing.now.subscription.search in differences.deleted
+        ≡ difference (fresh (G.rows change.now.graph.now) search)
+        (fresh (D.rows change.now.draft.now) search) }
+    requires updated { let search = standing.now.subscription.search in differences.updated
+        ≡ difference (fresh (D.rows change.now.draft.now) search)
+        (fresh (G.rows change.now.graph.now) search) }
+    ensures { IfOk result (λ news. news ≡ news_of (G.rows change.now.graph.now)
+        (D.rows change.now.draft.now) change.now.plan.now.notes (shown standing.now)) }
+{
+    let limit = standing.subscription.search.max_size;
+    let size = standing.subscription.size;
+    if limit < size {
+        return too_big_news(alloc, &standing.name, size, limit);
+    }
+    let notified = notes(alloc, &standing.subscription, change.draft, change.plan)?;
+    let items = differing_items(alloc, &standing.name, differences, notified)?;
+    Ok(News {
+        items,
+        is_too_big: false,
+    })
+}
+
+// The error of a subscription whose result is too big, alone.
+fn too_big_news(alloc: Global, name: &Text, size: u64, limit: u64) -> Result<News, NoMemory>
+    ensures items { IfOk result (λ news. news.items
+        ≡ the_item.Error (Some name.now) SearchResultsTooBig (machine.limit_note size limit) ∷ []) }
+    ensures is_too_big { IfOk result (λ news. news.is_too_big ≡ true) }
+{
+    let mut items = Vec::with_capacity(alloc, 1)?;
+    items.push_reserved(too_big_item(alloc, name, size, limit)?);
+    Ok(News {
+        items: Many(items),
+        is_too_big: true,
+    })
+}
+
+// What went, what came, and what was notified, each where there is something.
+fn differing_items(
+    alloc: Global,
+    name: &Text,
+    differences: Differences,
+    notified: Many<Entry>,
+) -> Result<Many<PollItem>, NoMemory>
+    ensures { IfOk result (λ items. items
+        ≡ machine.item_where (the_item.Delete name.now) differences.deleted
+        ++ (machine.item_where (the_item.Update name.now) differences.updated
+        ++ machine.item_where (the_item.Notify name.now) notified)) }
+{
+    let mut items = Vec::new(alloc);
+    add_deleted(alloc, name, differences.deleted, &mut items)?;
+    add_updated(alloc, name, differences.updated, &mut items)?;
+    add_notified(alloc, name, notified, &mut items)?;
+    Ok(Many(items))
+}
+
+/// The error that a subscription is told whose result has a size that is greater than its search
+/// allows.
+pub fn too_big_item(alloc: Global, name: &Text, size: u64, limit: u64) -> Result<PollItem, NoMemory>
+    ensures { IfOk result (λ item. item
+        ≡ the_item.Error (Some name.now) SearchResultsTooBig (machine.limit_note size limit)) }
+{
+    Ok(PollItem::Error {
+        name: Some(name.copy(alloc)?),
+        code: Code::SearchResultsTooBig,
+        note: limit_note(alloc, size, limit)?,
+    })
+}
+
+/// The note of an error for size.
+pub fn limit_note(alloc: Global, size: u64, limit: u64) -> Result<Text, NoMemory>
+    ensures { IfOk result (λ note. note ≡ machine.limit_note size limit) }
+{
+    Ok(Text(format!(in alloc; "{size} of {limit}")?))
+}
+
+// One more item of what went, where something did.
+fn add_deleted(
+    alloc: Global,
+    name: &Text,
+    entries: Many<Entry>,
+    items: &mut Vec<PollItem>,
+) -> Result<(), NoMemory>
+    ensures { OnOk result (items.new.items
+        ≡ items.old.items ++ machine.item_where (the_item.Delete name.now) entries) }
+{
+    if entries.0.is_empty() {
+        return Ok(());
+    }
+    let name = name.copy(alloc)?;
+    items.push(PollItem::Delete { name, entries })?;
+    Ok(())
+}
+
+// One more item of what came, where something did.
+fn add_updated(
+    alloc: Global,
+    name: &Text,
+    entries: Many<Entry>,
+    items: &mut Vec<PollItem>,
+) -> Result<(), NoMemory>
+    ensures { OnOk result (items.new.items
+        ≡ items.old.items ++ machine.item_where (the_item.Update name.now) entries) }
+{
+    if entries.0.is_empty() {
+        return Ok(());
+    }
+    let name = name.copy(alloc)?;
+    items.push(PollItem::Update { name, entries })?;
+    Ok(())
+}
+
+// One more item of what was notified, where something was.
+fn add_notified(
+    alloc: Global,
+    name: &Text,
+    entries: Many<Entry>,
+    items: &mut Vec<PollItem>,
+) -> Result<(), NoMemory>
+    ensures { OnOk result (items.new.items
+        ≡ items.old.items ++ machine.item_where (the_item.Notify name.now) entries) }
+{
+    if entries.0.is_empty() {
+        return Ok(());
+    }
+    let name = name.copy(alloc)?;
+    items.push(PollItem::Notify { name, entries })?;
+    Ok(())
+}
