@@ -1,0 +1,73 @@
+//! Requests over a wire, each answered before the next is sent.
+use crate::outcomes::Stop;
+use ifmap_elem::{Many, Text};
+use ifmap_http::{Answered, Sent, Wire};
+use ifmap_io::Link;
+use ifmap_meta::ClientName;
+use ifmap_replies::{Reply, ReplyError, read_reply};
+use ifmap_requests::Request;
+use ifmap_writing::write_request;
+use std::alloc::Global;
+
+/// Who asks, and which host.
+#[derive(Clone, Copy, Drop)]
+pub struct Caller<'a> {
+    pub client: &'a ClientName,
+    pub host: &'a Text,
+}
+
+/// A body that came, and the reply that it means.
+#[derive(Drop)]
+pub struct Told {
+    pub body: Many<u8>,
+    pub reply: Reply,
+}
+
+/// Sends a request, and takes the answer to it.
+pub fn ask<L: Link>(
+    alloc: Global,
+    caller: Caller<'_>,
+    request: &Request,
+    wire: &mut Wire<L>,
+) -> Result<Told, Stop> {
+    post(alloc, caller, request, wire)?;
+    let body = read_body(alloc, wire)?;
+    let reply = reply_in(alloc, &body)?;
+    Ok(Told { body, reply })
+}
+
+// Sends a request.
+fn post<L: Link>(
+    alloc: Global,
+    caller: Caller<'_>,
+    request: &Request,
+    wire: &mut Wire<L>,
+) -> Result<(), Stop> {
+    let body = write_request(alloc, request)?;
+    match wire.send_post(alloc, caller.host, caller.client, body.as_slice()) {
+        Sent::Done => Ok(()),
+        Sent::WriteFault => Err(Stop::LinkFault),
+        Sent::NoMemory => Err(Stop::NoMemory),
+    }
+}
+
+// Takes the body of an answer.
+fn read_body<L: Link>(alloc: Global, wire: &mut Wire<L>) -> Result<Many<u8>, Stop> {
+    match wire.read_answer(alloc) {
+        Answered::Body(body) => Ok(body),
+        Answered::Status(_) => Err(Stop::BadReply),
+        Answered::Ended => Err(Stop::LinkEnded),
+        Answered::NotHttp => Err(Stop::BadReply),
+        Answered::ReadFault => Err(Stop::LinkFault),
+        Answered::NoMemory => Err(Stop::NoMemory),
+    }
+}
+
+// The reply that a body means.
+fn reply_in(alloc: Global, body: &Many<u8>) -> Result<Reply, Stop> {
+    match read_reply(alloc, body.as_slice()) {
+        Ok(reply) => Ok(reply),
+        Err(ReplyError::NotAReply) => Err(Stop::BadReply),
+        Err(ReplyError::NoMemory) => Err(Stop::NoMemory),
+    }
+}

@@ -1,0 +1,5 @@
+//! Tests of a client's script over links in memory.
+#![tactic(auto)]
+
+#[cfg(test)]
+mod scripts;

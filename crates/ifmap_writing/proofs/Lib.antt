@@ -1,0 +1,12 @@
+pub mod BoundLaws
+pub mod CharacterLaws
+pub mod FilterLaws
+pub mod MeaningLaws
+pub mod ReadLaws
+pub mod RowLaws
+pub mod ScopeLaws
+pub mod SoundLaws
+pub mod SpaceLaws
+pub mod ValueLaws
+pub mod WiderLaws
+pub mod WrittenLaws

@@ -1,0 +1,202 @@
+-- Attributes that are written by rows. Plan: (1) the value of an attribute is that of its row, or of none; (2) there are no others;
+-- (3) where the names of rows rise, their attributes are in order, and no two have one name; (4) they fit.
+use Rattle.std.proofs.Common.{◌≡◌, ◌≢◌, ◌∙◌, ◌++◌, ◌&&◌, ℕ, Bool, true, false, not, cond, List, [], ◌∷◌, Option, None, Some, IfSome, codes, map, inl, inr, refl, ap, sym, subst}
+use Rattle.std.specs.Prelude.{if◌then◌else◌, option_map}
+use Rattle.std.specs.Cmp.Lexicographic.{slice_cmp}
+use Rattle.std.specs.List.{AllByRecursion, find, list_all, list_any}
+use Rattle.std.specs.Ordering.{is_gt, is_lt, nat_cmp, ordering_then}
+use Rattle.std.specs.Str.{bytes_eq}
+use Rattle.std.proofs.lemmas.Bool.{and_from, and_parts, cases_Bool}
+use Rattle.ifmap_lemmas.specs.Members.{all_of_test}
+use Rattle.ifmap_lemmas.specs.Orderings.{is_less}
+use Rattle.ifmap_lemmas.specs.Sorting.{insert}
+use Rattle.ifmap_lemmas.specs.Texts.{eq_itself, is_ascii, slice_cmp-less}
+use Rattle.ifmap_elem.specs.Arranged.{attribute_order, sort_attributes}
+use Rattle.ifmap_elem.specs.Building.{bare_attribute, bare_name, is_bare}
+use Rattle.ifmap_elem.specs.Chars.{IsCharacters}
+use Rattle.ifmap_elem.specs.Fit.{IsFitAttribute, IsNamespace}
+use Rattle.ifmap_elem.specs.Names.{IsNamePart, is_name_character, is_name_start}
+use Rattle.ifmap_elem.specs.Scopes.{AllDiffer, xmlns_space}
+use Rattle.ifmap_elem.specs.declared.elements.Attribute.{Attribute}
+use Rattle.ifmap_elem.specs.declared.elements.Name.{Name}
+use Rattle.ifmap_elem.specs.laws.PrintedTags.{ascii_part}
+use Rattle.ifmap_ident.specs.Parts.{is_known}
+use Rattle.ifmap_writing.specs.Attributes.{Row, attributes_of, written_attribute}
+
+-- ---- (1) values
+
+abbrev or_else : Option (List ℕ) → Option (List ℕ) → Option (List ℕ)
+or_else None other = other
+or_else (Some value) other = Some value
+
+pub or_none : (o : Option (List ℕ)) → or_else o None ≡ o
+or_none None = refl
+or_none (Some value) = refl
+
+-- the value of the first row of that name which has one
+abbrev pub row_value : List ℕ → List Row → Option (List ℕ)
+row_value local [] = None
+row_value local (r ∷ rows) = if bytes_eq r.local local then or_else r.value (row_value local rows) else row_value local rows
+
+-- the value of the attribute
+abbrev found : List ℕ → List Attribute → Option (List ℕ)
+found local attributes = option_map (λ (a : Attribute). a.value) (find (λ (a : Attribute). is_bare local a.name) attributes)
+
+one_found : (local l : List ℕ) (o : Option (List ℕ)) (more : List Attribute)
+    → found local (written_attribute l o ++ more) ≡ (if bytes_eq l local then or_else o (found local more) else found local more)
+one_found local l None more = elim (cases_Bool (bytes_eq l local)) [ inl e ↦ rw e refl | inr e ↦ rw e refl ]
+one_found local l (Some value) more = elim (cases_Bool (bytes_eq l local)) [ inl e ↦ rw e refl | inr e ↦ rw e refl ]
+
+pub value_found : (local : List ℕ) (rows : List Row) → found local (attributes_of rows) ≡ row_value local rows
+value_found local [] = refl
+value_found local (r ∷ rows) =
+    one_found local r.local r.value (attributes_of rows)
+    ∙ ap (λ (o : Option (List ℕ)). if bytes_eq r.local local then or_else r.value o else o) (value_found local rows)
+
+-- ---- (2) no others
+
+module _ (locals : List (List ℕ)) where
+  known_one : (l : List ℕ) (o : Option (List ℕ)) (more : List Attribute) → list_any (bytes_eq l) locals ≡ true
+      → list_all (is_known locals) more ≡ true → list_all (is_known locals) (written_attribute l o ++ more) ≡ true
+  known_one l None more known others = others
+  known_one l (Some value) more known others =
+      and_from (list_any (bytes_eq l) locals) (list_all (is_known locals) more) known others
+
+  -- each row has one of these names
+  abbrev pub rows_known : List Row → Bool
+  rows_known rows = list_all (λ r. list_any (bytes_eq r.local) locals) rows
+
+  pub only_rows : (rows : List Row) → rows_known rows ≡ true → list_all (is_known locals) (attributes_of rows) ≡ true
+  only_rows [] h = refl
+  only_rows (r ∷ rows) h =
+      let parts = and_parts (list_any (bytes_eq r.local) locals) (rows_known rows) h in
+      known_one r.local r.value (attributes_of rows) parts.0 (only_rows rows parts.1)
+
+-- ---- (3) order
+
+abbrev comes_before : List ℕ → Row → Bool
+comes_before l r = is_lt (slice_cmp nat_cmp l r.local)
+
+-- each name comes before those after it
+abbrev pub rises : List Row → Bool
+rises [] = true
+rises (r ∷ rows) = list_all (comes_before r.local) rows && rises rows
+
+not_after : (l s v w : List ℕ) → is_lt (slice_cmp nat_cmp l s) ≡ true
+    → is_gt (attribute_order (bare_attribute l v) (bare_attribute s w)) ≡ false
+not_after l s v w h =
+    ap (λ o. is_gt (ordering_then o (slice_cmp nat_cmp v w))) (is_less (slice_cmp nat_cmp l s) h)
+
+module _ (l v : List ℕ) where
+  placed_one : (s : List ℕ) (o : Option (List ℕ)) (more : List Attribute) → is_lt (slice_cmp nat_cmp l s) ≡ true
+      → insert attribute_order (bare_attribute l v) more ≡ bare_attribute l v ∷ more
+      → insert attribute_order (bare_attribute l v) (written_attribute s o ++ more) ≡ bare_attribute l v ∷ (written_attribute s o ++ more)
+  placed_one s None more h placed = placed
+  placed_one s (Some w) more h placed =
+      ap (λ b. cond b (bare_attribute s w ∷ insert attribute_order (bare_attribute l v) more)
+      (bare_attribute l v ∷ (bare_attribute s w ∷ more))) (not_after l s v w h)
+
+  first_placed : (rows : List Row) → list_all (comes_before l) rows ≡ true
+      → insert attribute_order (bare_attribute l v) (attributes_of rows) ≡ bare_attribute l v ∷ attributes_of rows
+  first_placed [] h = refl
+  first_placed (r ∷ rows) h =
+      let parts = and_parts (comes_before l r) (list_all (comes_before l) rows) h in
+      placed_one r.local r.value (attributes_of rows) parts.0 (first_placed rows parts.1)
+
+sorted_one : (l : List ℕ) (o : Option (List ℕ)) (rows : List Row) → list_all (comes_before l) rows ≡ true
+    → sort_attributes (attributes_of rows) ≡ attributes_of rows
+    → sort_attributes (written_attribute l o ++ attributes_of rows) ≡ written_attribute l o ++ attributes_of rows
+sorted_one l None rows h sorted = sorted
+sorted_one l (Some v) rows h sorted = ap (insert attribute_order (bare_attribute l v)) sorted ∙ first_placed l v rows h
+
+pub rows_sorted : (rows : List Row) → rises rows ≡ true → sort_attributes (attributes_of rows) ≡ attributes_of rows
+rows_sorted [] h = refl
+rows_sorted (r ∷ rows) h =
+    let parts = and_parts (list_all (comes_before r.local) rows) (rises rows) h in
+    sorted_one r.local r.value rows parts.0 (rows_sorted rows parts.1)
+
+abbrev name_of : Attribute → Name
+name_of a = a.name
+
+apart_names : (l s : List ℕ) → is_lt (slice_cmp nat_cmp l s) ≡ true → bare_name l ≢ bare_name s
+apart_names l s h e =
+    let wrong : true ≡ false = slice_cmp-less l s (sym (is_less (slice_cmp nat_cmp l s) h)) (ap (λ (n : Name). n.local) e) in cc
+
+apart_one : (l s : List ℕ) (o : Option (List ℕ)) (more : List Attribute) → is_lt (slice_cmp nat_cmp l s) ≡ true
+    → AllByRecursion (λ n. bare_name l ≢ n) (map name_of more)
+    → AllByRecursion (λ n. bare_name l ≢ n) (map name_of (written_attribute s o ++ more))
+apart_one l s None more h others = others
+apart_one l s (Some w) more h others = (apart_names l s h, others)
+
+apart_rows : (l : List ℕ) (rows : List Row) → list_all (comes_before l) rows ≡ true
+    → AllByRecursion (λ n. bare_name l ≢ n) (map name_of (attributes_of rows))
+apart_rows l [] h = tt
+apart_rows l (r ∷ rows) h =
+    let parts = and_parts (comes_before l r) (list_all (comes_before l) rows) h in
+    apart_one l r.local r.value (attributes_of rows) parts.0 (apart_rows l rows parts.1)
+
+differ_one : (l : List ℕ) (o : Option (List ℕ)) (more : List Attribute) → AllByRecursion (λ n. bare_name l ≢ n) (map name_of more)
+    → AllDiffer (map name_of more) → AllDiffer (map name_of (written_attribute l o ++ more))
+differ_one l None more other d = d
+differ_one l (Some v) more other d = (other, d)
+
+pub rows_differ : (rows : List Row) → rises rows ≡ true → AllDiffer (map name_of (attributes_of rows))
+rows_differ [] h = tt
+rows_differ (r ∷ rows) h =
+    let parts = and_parts (list_all (comes_before r.local) rows) (rises rows) h in
+    differ_one r.local r.value (attributes_of rows) (apart_rows r.local rows parts.0) (rows_differ rows parts.1)
+
+-- ---- (4) they fit
+
+pub told_apart : (x y : List ℕ) → bytes_eq x y ≡ false → x ≢ y
+told_apart x y h e = let wrong : bytes_eq x y ≡ true = subst (λ (z : List ℕ). bytes_eq x z ≡ true) e (eq_itself x) in cc
+
+pub no_namespace : IsNamespace []
+no_namespace = record { characters = ([], refl, tt); not_reserved = told_apart [] xmlns_space refl }
+
+-- a name of ASCII but `xmlns`
+abbrev pub is_plain_local : List ℕ → Bool
+is_plain_local [] = false
+is_plain_local (c ∷ cs) =
+    (is_name_start c && list_all is_name_character cs) && (list_all is_ascii (c ∷ cs) && not (bytes_eq (c ∷ cs) (codes "xmlns")))
+
+unnot : (b : Bool) → not b ≡ true → b ≡ false
+unnot true h = let wrong : false ≡ true = h in cc
+unnot false h = refl
+
+pub plain_fits : (l : List ℕ) → is_plain_local l ≡ true → IsNamePart l × (l ≢ codes "xmlns")
+plain_fits [] h = let wrong : false ≡ true = h in cc
+plain_fits (c ∷ cs) h =
+    let halves = and_parts (is_name_start c && list_all is_name_character cs)
+    (list_all is_ascii (c ∷ cs) && not (bytes_eq (c ∷ cs) (codes "xmlns"))) h in
+    let name = and_parts (is_name_start c) (list_all is_name_character cs) halves.0 in
+    let plain = and_parts (list_all is_ascii (c ∷ cs)) (not (bytes_eq (c ∷ cs) (codes "xmlns"))) halves.1 in (
+      ascii_part c cs name.0 (all_of_test is_name_character cs name.1) (all_of_test is_ascii (c ∷ cs) plain.0),
+      told_apart (c ∷ cs) (codes "xmlns") (unnot (bytes_eq (c ∷ cs) (codes "xmlns")) plain.1),
+    )
+
+abbrev pub HasFitValue : Row → Type 0
+HasFitValue r = IfSome r.value IsCharacters
+
+abbrev pub rows_plain : List Row → Bool
+rows_plain rows = list_all (λ r. is_plain_local r.local) rows
+
+fit_one : (l : List ℕ) (o : Option (List ℕ)) (more : List Attribute) → is_plain_local l ≡ true → IfSome o IsCharacters
+    → AllByRecursion IsFitAttribute more → AllByRecursion IsFitAttribute (written_attribute l o ++ more)
+fit_one l None more plain value others = others
+fit_one l (Some v) more plain value others =
+    let fits = plain_fits l plain in (
+      record {
+        name = record { space = no_namespace; local = fits.0 };
+        no_declaration = λ e. fits.1 (ap (λ (n : Name). n.local) e);
+        value = value;
+      },
+      others,
+    )
+
+pub rows_fit : (rows : List Row) → rows_plain rows ≡ true → AllByRecursion HasFitValue rows
+    → AllByRecursion IsFitAttribute (attributes_of rows)
+rows_fit [] plain values = tt
+rows_fit (r ∷ rows) plain values =
+    let parts = and_parts (is_plain_local r.local) (rows_plain rows) plain in
+    fit_one r.local r.value (attributes_of rows) parts.0 values.0 (rows_fit rows parts.1 values.1)

@@ -1,0 +1,166 @@
+-- Values of attributes are read back. Plan: (1) numbers; (2) kinds: the pieces between commas are their names.
+use Rattle.std.proofs.Common.{◌≡◌, ◌≢◌, ◌≤◌, ◌<◌, ◌^◌, ◌+◌, ◌%◌, ◌∙◌, ◌++◌, ℕ, Bool, true, false, not, List, [], ◌∷◌, Option, None, Some, Result, Ok, codes, length, map, min, refl, ap, sym, subst, arith}
+use Rattle.std.specs.Prelude.{if◌then◌else◌, nat_le, nat_lt}
+use Rattle.std.specs.List.{flat_map, list_all}
+use Rattle.std.specs.Char.{is_ascii_digit}
+use Rattle.std.specs.Str.{bytes_eq}
+use Rattle.std.specs.Str.Parse.{AllDigits, digits_value}
+use Rattle.std.proofs.lemmas.Bool.{and_from}
+use Rattle.std.proofs.lemmas.Bool.Decides.{nat_tests}
+use Rattle.std.proofs.lemmas.Str.Parse.{digit_from_value}
+use Rattle.ifmap_lemmas.specs.Numerals.{digit, numeral, numeral_by_digits, numeral_digits, numeral_value}
+use Rattle.ifmap_lemmas.specs.Texts.{ascii_encoded, is_ascii}
+use Rattle.ifmap_elem.specs.Chars.{AllAre, IsCharacters, is_character, is_white}
+use Rattle.ifmap_filter.specs.Printing.{joined_texts}
+use Rattle.ifmap_ident.specs.declared.codes.Code.{Code}
+use Rattle.ifmap_ident.specs.declared.codes.Code.TheVariants.{InvalidIdentifierType}
+use Rattle.ifmap_ident.specs.declared.kinds.Kind.{Kind}
+use Rattle.ifmap_ident.specs.declared.kinds.Kind.TheVariants.{AccessRequest, Device, Identity, IpAddress, MacAddress}
+use Rattle.ifmap_ident.specs.Kinds.{kind_name}
+use Rattle.ifmap_forms.specs.Checks.{Check, check_if, need_some, pass}
+use Rattle.ifmap_forms.specs.Values.{is_number, kind_of, kinds_check, number_of, piece_check, pieces_of, read_depth, read_kinds, read_lifetime, read_limit, read_name, read_size, trimmed, within}
+use Rattle.ifmap_writing.specs.Attributes.{kinds_value, lifetime_value, limit_value, number_value}
+
+-- ---- (1) numbers
+
+digit_is : (c : ℕ) → 48 ≤ c → c ≤ 57 → is_ascii_digit c ≡ true
+digit_is c low high = grind (arith, nat_tests)
+
+digits_are : (ds : List ℕ) → AllDigits 10 ds → list_all is_ascii_digit ds ≡ true
+digits_are [] f = refl
+digits_are (d ∷ ds) f =
+    let r = digit_from_value d f.0 in
+    and_from (is_ascii_digit d) (list_all is_ascii_digit ds) (digit_is d r.0 r.1) (digits_are ds f.1)
+
+digit_character : (c : ℕ) → 48 ≤ c → c ≤ 57 → is_character c ≡ true
+digit_character c low high = grind (arith, nat_tests)
+
+digit_ascii : (c : ℕ) → c ≤ 57 → is_ascii c ≡ true
+digit_ascii c high = let test : nat_le 128 c ≡ false = grind (arith, nat_tests) in ap not test
+
+digits_characters : (ds : List ℕ) → AllDigits 10 ds → AllAre is_character ds
+digits_characters [] f = tt
+digits_characters (d ∷ ds) f = let r = digit_from_value d f.0 in (digit_character d r.0 r.1, digits_characters ds f.1)
+
+digits_ascii : (ds : List ℕ) → AllDigits 10 ds → AllAre is_ascii ds
+digits_ascii [] f = tt
+digits_ascii (d ∷ ds) f = let r = digit_from_value d f.0 in (digit_ascii d r.1, digits_ascii ds f.1)
+
+pub numeral_characters : (n : ℕ) → IsCharacters (numeral n)
+numeral_characters n =
+    let digits = numeral_digits n in
+    (numeral n, ascii_encoded (numeral n) (digits_ascii (numeral n) digits), digits_characters (numeral n) digits)
+
+-- digits that mean a number but 0 are some
+some_digits : (ds : List ℕ) → ds ≢ [] → bytes_eq ds [] ≡ false
+some_digits [] some = absurd (some refl)
+some_digits (d ∷ ds) some = refl
+
+numeral_some : (n : ℕ) → numeral n ≢ []
+numeral_some n = numeral_is_some n
+  where
+    pushed_some : (ds : List ℕ) (d : ℕ) → ds ++ d ∷ [] ≢ []
+    pushed_some [] d e = cc
+    pushed_some (c ∷ ds) d e = cc
+
+    numeral_is_some : (n : ℕ) → numeral n ≢ []
+    numeral_is_some = numeral_by_digits (λ n ds. ds ≢ []) (λ n few e. cc) (λ n ds many h. pushed_some ds (digit (n % 10)))
+
+pub number_back : (n : ℕ) → number_of (numeral n) ≡ Some n
+number_back n =
+    let some : not (bytes_eq (numeral n) []) ≡ true = ap not (some_digits (numeral n) (numeral_some n)) in
+    let is : is_number (numeral n) ≡ true =
+    and_from (not (bytes_eq (numeral n) [])) (list_all is_ascii_digit (numeral n)) some (digits_are (numeral n) (numeral_digits n)) in
+    ap (λ (b : Bool). if b then Some (digits_value 10 (numeral n)) else None) is ∙ ap (λ (m : ℕ). Some m) (numeral_value n)
+
+abbrev good : {X : Type 0} → X → Result X Code
+good x = Ok x
+
+-- what is made of a number is found where its numeral is read
+number_passes : {X : Type 0} (n : ℕ) (code : Code) (check : ℕ → Check X) (x : X) → check n (good x)
+    → need_some code (number_of (numeral n)) check (good x)
+number_passes n code check x f = subst (λ (o : Option ℕ). need_some code o check (good x)) (sym (number_back n)) f
+
+pub limit_back : (limit : Option ℕ) → ((n : ℕ) → limit ≡ Some n → (10_000 ≤ n) × (n ≤ 5_000_000))
+    → read_limit (limit_value limit) (good limit)
+limit_back None f = refl
+limit_back (Some n) f =
+    let bounds = f n refl in
+    let low = bounds.0 in
+    let high = bounds.1 in
+    let same : n ≡ within 10_000 5_000_000 n = omega (arith, low, high) in
+    number_passes n _ (λ m. pass (Some (within 10_000 5_000_000 m))) (Some n) (ap (λ (m : ℕ). good (Some m)) same)
+
+pub depth_back : (n : ℕ) → n < 2 ^ 32 → read_depth (number_value n) (good n)
+depth_back n low =
+    let test : nat_lt n (2 ^ 32) ≡ true = grind (arith, nat_tests) in
+    number_passes n _ _ n (rw test refl)
+
+pub size_back : (n : ℕ) → n ≤ 50_000_000 → read_size (number_value n) (good n)
+size_back n low =
+    let same : n ≡ min n 50_000_000 = omega (arith, low) in
+    number_passes n _ (λ m. pass (min m 50_000_000)) n (ap (λ (m : ℕ). good m) same)
+
+pub name_back : (name : List ℕ) → 1 ≤ length name → length name ≤ 1000 → read_name (Some name) (good name)
+name_back name some few =
+    let low : nat_le 1 (length name) ≡ true = grind (arith, nat_tests) in
+    let high : nat_le (length name) 1000 ≡ true = grind (arith, nat_tests) in
+    rw (low, high) refl
+
+pub lifetime_back : (forever : Bool) → read_lifetime (lifetime_value forever) (good forever)
+lifetime_back true = refl
+lifetime_back false = refl
+
+-- ---- (2) kinds
+
+-- a name, and then others after commas
+pieces_end : (kind : Kind) → pieces_of (kind_name kind ++ []) ≡ kind_name kind ∷ []
+pieces_end AccessRequest = refl
+pieces_end Device = refl
+pieces_end Identity = refl
+pieces_end IpAddress = refl
+pieces_end MacAddress = refl
+
+pieces_more : (kind : Kind) (rest : List ℕ) → pieces_of (kind_name kind ++ (codes "," ++ rest)) ≡ kind_name kind ∷ pieces_of rest
+pieces_more AccessRequest rest = refl
+pieces_more Device rest = refl
+pieces_more Identity rest = refl
+pieces_more IpAddress rest = refl
+pieces_more MacAddress rest = refl
+
+pieces_back : (kind : Kind) (others : List Kind)
+    → pieces_of (joined_texts (codes ",") kind_name (kind ∷ others)) ≡ map kind_name (kind ∷ others)
+pieces_back kind [] = pieces_end kind
+pieces_back kind (other ∷ others) =
+    pieces_more kind (joined_texts (codes ",") kind_name (other ∷ others))
+    ∙ ap (λ (l : List (List ℕ)). kind_name kind ∷ l) (pieces_back other others)
+
+kind_back : (kind : Kind) → kind_of (trimmed (kind_name kind)) ≡ Some kind
+kind_back AccessRequest = refl
+kind_back Device = refl
+kind_back Identity = refl
+kind_back IpAddress = refl
+kind_back MacAddress = refl
+
+piece_back : (kind : Kind) → piece_check (kind_name kind) (good kind)
+piece_back kind = subst (λ (o : Option Kind). need_some InvalidIdentifierType o (λ k. pass k) (good kind)) (sym (kind_back kind)) refl
+
+each_back : (kinds : List Kind) → kinds_check (map kind_name kinds) (good kinds)
+each_back [] = refl
+each_back (kind ∷ kinds) = (kind, piece_back kind, (kinds, each_back kinds, refl))
+
+solid_text : (kind : Kind) (rest : List ℕ) → list_all is_white (kind_name kind ++ rest) ≡ false
+solid_text AccessRequest rest = refl
+solid_text Device rest = refl
+solid_text Identity rest = refl
+solid_text IpAddress rest = refl
+solid_text MacAddress rest = refl
+
+pub kinds_back : (kinds : List Kind) → read_kinds (kinds_value kinds) (good kinds)
+kinds_back [] = refl
+kinds_back (kind ∷ others) =
+    let solid = solid_text kind (flat_map (λ k. codes "," ++ kind_name k) others) in
+    let pieces : kinds_check (pieces_of (joined_texts (codes ",") kind_name (kind ∷ others))) (good (kind ∷ others)) =
+    subst (λ (l : List (List ℕ)). kinds_check l (good (kind ∷ others))) (sym (pieces_back kind others)) (each_back (kind ∷ others)) in
+    subst (λ (b : Bool). check_if b (pass []) (kinds_check (pieces_of (joined_texts (codes ",") kind_name (kind ∷ others))))
+    (good (kind ∷ others))) (sym solid) pieces

@@ -1,0 +1,299 @@
+-- What is written of a request that is fit and within its bounds is sound. Plan: (1) names; (2) values; (3) rows; (4) identifiers and
+-- metadata; (5) operations; (6) requests; (7) the envelope, and the namespaces that it declares.
+use Rattle.std.proofs.Common.{◌≡◌, ◌≤◌, ℕ, Bool, true, false, List, [], ◌∷◌, Option, None, Some, IfSome, codes, map, refl, sym, subst, arith}
+use Rattle.std.specs.List.{AllByRecursion, flat_map}
+use Rattle.ifmap_lemmas.specs.Members.{both_all}
+use Rattle.ifmap_elem.specs.Arranged.{arrange}
+use Rattle.ifmap_elem.specs.Building.{bare_name}
+use Rattle.ifmap_elem.specs.Chars.{IsCharacters}
+use Rattle.ifmap_elem.specs.Fit.{IsDeclarable, IsFit, IsFitName, IsNamespace}
+use Rattle.ifmap_elem.specs.Nesting.{nesting}
+use Rattle.ifmap_elem.specs.Scopes.{xmlns_space}
+use Rattle.ifmap_elem.specs.declared.elements.Child.{Child}
+use Rattle.ifmap_elem.specs.declared.elements.Element.{Element}
+use Rattle.ifmap_elem.specs.laws.PrintedScopes.{are_declared}
+use Rattle.ifmap_envelopes.specs.Envelopes.{envelope_name, envelope_space}
+use Rattle.ifmap_filter.specs.declared.filters.Filter.{Filter}
+use Rattle.ifmap_filter.specs.Spaces.{filter_spaces}
+use Rattle.ifmap_ident.specs.declared.identifiers.Identifier.{Identifier}
+use Rattle.ifmap_ident.specs.declared.items.Item.{Item}
+use Rattle.ifmap_ident.specs.declared.items.Item.TheVariants.{One, Pair}
+use Rattle.ifmap_ident.specs.declared.kinds.Kind.{Kind}
+use Rattle.ifmap_ident.specs.declared.kinds.Kind.TheVariants as kind
+use Rattle.ifmap_ident.specs.Canon.{IsIdentifier}
+use Rattle.ifmap_ident.specs.Identifiers.{identifier_element}
+use Rattle.ifmap_ident.specs.Items.{IsCanonItem, identifiers_of}
+use Rattle.ifmap_ident.specs.Kinds.{kind_name}
+use Rattle.ifmap_meta.specs.declared.metadata.Metadata.{Metadata}
+use Rattle.ifmap_meta.specs.Whole.{IsMetadata}
+use Rattle.ifmap_search.specs.declared.searches.Search as search
+use Rattle.ifmap_requests.specs.declared.publishing.PublishOp.{PublishOp}
+use Rattle.ifmap_requests.specs.declared.publishing.PublishOp.TheVariants as publish
+use Rattle.ifmap_requests.specs.declared.requests.Request.{Request}
+use Rattle.ifmap_requests.specs.declared.requests.Request.TheVariants.{NewSession, RenewSession, EndSession, Publish, Search, Subscribe, Poll, PurgePublisher}
+use Rattle.ifmap_requests.specs.declared.requests.SubscribeOp.{SubscribeOp}
+use Rattle.ifmap_requests.specs.declared.requests.SubscribeOp.TheVariants as subscribe
+use Rattle.ifmap_requests.specs.RequestForms.{ifmap_space}
+use Rattle.ifmap_requests.specs.Fit.{IsFitOp, IsFitRequest, IsFitSearch, IsFitSubscribeOp, MayBeFitFilter}
+use Rattle.ifmap_requests.specs.FitFilters.{IsFitFilter}
+use Rattle.ifmap_writing.specs.Attributes.{Row, filter_rows, filter_value, kinds_value, lifetime_rows, lifetime_value, limit_rows, limit_value, name_rows, purge_rows, search_rows, session_rows, subscription_rows}
+use Rattle.ifmap_writing.specs.Bounds.{IsBounded, IsBoundedMetadata, IsBoundedPublish}
+use Rattle.ifmap_writing.specs.RequestElements.{around, as_children, asking_element, element_in, in_envelope, list_element, part_element, publish_element, published_children, request_element, subscribe_element}
+use Rattle.ifmap_writing.specs.RequestSpaces.{optional_filter, publish_filters, request_filters, request_spaces, search_filters, subscribe_filters}
+use Rattle.ifmap_writing.proofs.CharacterLaws.{joined_characters, plain_characters}
+use Rattle.ifmap_writing.proofs.FilterLaws.{filter_characters, filter_namespaces}
+use Rattle.ifmap_writing.proofs.RowLaws.{is_plain_local, no_namespace, plain_fits, told_apart}
+use Rattle.ifmap_writing.proofs.SoundLaws.{AreFitRows, IsSound, higher, sound_whole}
+use Rattle.ifmap_writing.proofs.ValueLaws.{numeral_characters}
+
+-- ---- (1) names
+
+bare_fits : (local : List ℕ) → is_plain_local local ≡ true → IsFitName (bare_name local)
+bare_fits local plain = record { space = no_namespace; local = (plain_fits local plain).0 }
+
+asking_fits : (local : List ℕ) → is_plain_local local ≡ true → IsFitName (record { space = ifmap_space; local = local })
+asking_fits local plain = record {
+  space = record { characters = plain_characters ifmap_space refl refl; not_reserved = told_apart ifmap_space xmlns_space refl };
+  local = (plain_fits local plain).0;
+}
+
+envelope_fits : (local : List ℕ) → is_plain_local local ≡ true → IsFitName (envelope_name local)
+envelope_fits local plain = record {
+  space = record { characters = plain_characters envelope_space refl refl; not_reserved = told_apart envelope_space xmlns_space refl };
+  local = (plain_fits local plain).0;
+}
+
+-- ---- (2) values
+
+limit_fits : (limit : Option ℕ) → IfSome (limit_value limit) IsCharacters
+limit_fits None = tt
+limit_fits (Some n) = numeral_characters n
+
+lifetime_fits : (forever : Bool) → IfSome (lifetime_value forever) IsCharacters
+lifetime_fits true = plain_characters (codes "forever") refl refl
+lifetime_fits false = tt
+
+filter_fits : (spaces : List (List ℕ)) (filter : Option Filter) → MayBeFitFilter filter → IfSome (filter_value spaces filter) IsCharacters
+filter_fits spaces None f = tt
+filter_fits spaces (Some filter) f = filter_characters spaces filter f
+
+kind_characters : (k : Kind) → IsCharacters (kind_name k)
+kind_characters kind.AccessRequest = plain_characters (codes "access-request") refl refl
+kind_characters kind.Device = plain_characters (codes "device") refl refl
+kind_characters kind.Identity = plain_characters (codes "identity") refl refl
+kind_characters kind.IpAddress = plain_characters (codes "ip-address") refl refl
+kind_characters kind.MacAddress = plain_characters (codes "mac-address") refl refl
+
+each_kind : (kinds : List Kind) → AllByRecursion (λ k. IsCharacters (kind_name k)) kinds
+each_kind [] = tt
+each_kind (k ∷ kinds) = (kind_characters k, each_kind kinds)
+
+kinds_fit : (kinds : List Kind) → IfSome (kinds_value kinds) IsCharacters
+kinds_fit [] = tt
+kinds_fit (k ∷ kinds) =
+    joined_characters (codes ",") kind_name (plain_characters (codes ",") refl refl) (k ∷ kinds) (each_kind (k ∷ kinds))
+
+-- ---- (3) rows
+
+no_rows : AreFitRows []
+no_rows = record { rise = refl; plain = refl; values = tt }
+
+session_fit : (session : List ℕ) → IsCharacters session → AreFitRows (session_rows session)
+session_fit session s = record { rise = refl; plain = refl; values = (s, tt) }
+
+search_fit : (spaces : List (List ℕ)) (session : List ℕ) (s : search.Search) → IsCharacters session → IsFitSearch s
+    → AreFitRows (search_rows spaces session s)
+search_fit spaces session s c f = record {
+  rise = refl;
+  plain = refl;
+  values = (
+    filter_fits spaces s.match_links f.match_links,
+    (
+      numeral_characters s.max_depth,
+      (numeral_characters s.max_size, (filter_fits spaces s.result_filter f.result_filter, (c, (kinds_fit s.terminal, tt)))),
+    ),
+  );
+}
+
+subscription_fit : (spaces : List (List ℕ)) (name : List ℕ) (s : search.Search) → IsCharacters name → IsFitSearch s
+    → AreFitRows (subscription_rows spaces name s)
+subscription_fit spaces name s c f = record {
+  rise = refl;
+  plain = refl;
+  values = (
+    filter_fits spaces s.match_links f.match_links,
+    (
+      numeral_characters s.max_depth,
+      (numeral_characters s.max_size, (c, (filter_fits spaces s.result_filter f.result_filter, (kinds_fit s.terminal, tt)))),
+    ),
+  );
+}
+
+-- ---- (4) identifiers and metadata
+
+-- the elements of what is published
+abbrev pub published_elements : Item → List Metadata → List Element
+published_elements (One a) elements = identifier_element a ∷ (list_element elements ∷ [])
+published_elements (Pair a b) elements = identifier_element a ∷ (identifier_element b ∷ (list_element elements ∷ []))
+
+pub published_are : (item : Item) (elements : List Metadata)
+    → published_children item elements ≡ as_children (published_elements item elements)
+published_are (One a) elements = refl
+published_are (Pair a b) elements = refl
+
+list_sound : (elements : List Metadata) → AllByRecursion IsMetadata elements → AllByRecursion IsBoundedMetadata elements
+    → IsSound 60 (list_element elements)
+list_sound elements f within =
+    sound_whole 59 (bare_name (codes "metadata")) [] (map (λ (m : Metadata). m.element) elements) (bare_fits (codes "metadata") refl)
+    no_rows (each elements f within)
+  where
+    each : (elements : List Metadata) → AllByRecursion IsMetadata elements → AllByRecursion IsBoundedMetadata elements
+        → AllByRecursion (IsSound 59) (map (λ (m : Metadata). m.element) elements)
+    each [] f within = tt
+    each (m ∷ elements) f within =
+        (record { fit = f.0.sent.fit; arranged = f.0.sent.arranged; within = within.0 }, each elements f.1 within.1)
+
+module _ (fits : (i : Identifier) → IsIdentifier i → IsFit (identifier_element i))
+    (arranged : (i : Identifier) → arrange (identifier_element i) ≡ identifier_element i)
+    (levels : (i : Identifier) → nesting (identifier_element i) ≤ 2) where
+  identifier_sound : (i : Identifier) → IsIdentifier i → IsSound 60 (identifier_element i)
+  identifier_sound i f =
+      higher 2 60 (identifier_element i) (omega arith) (record { fit = fits i f; arranged = arranged i; within = levels i })
+
+  identifiers_sound : (is : List Identifier) → AllByRecursion IsIdentifier is → AllByRecursion (IsSound 60) (map identifier_element is)
+  identifiers_sound [] f = tt
+  identifiers_sound (i ∷ is) f = (identifier_sound i f.0, identifiers_sound is f.1)
+
+  published_sound : (item : Item) (elements : List Metadata) → IsCanonItem item → AllByRecursion IsMetadata elements
+      → AllByRecursion IsBoundedMetadata elements → AllByRecursion (IsSound 60) (published_elements item elements)
+  published_sound (One a) elements item f within = (identifier_sound a item.identifiers.0, (list_sound elements f within, tt))
+  published_sound (Pair a b) elements item f within = (
+    identifier_sound a item.identifiers.0,
+    (identifier_sound b item.identifiers.1.0, (list_sound elements f within, tt)),
+  )
+
+  -- ---- (5) operations
+
+  -- an operation that publishes
+  carrier_sound : (local : List ℕ) (rows : List Row) (item : Item) (elements : List Metadata) → is_plain_local local ≡ true
+      → AreFitRows rows → IsCanonItem item → AllByRecursion IsMetadata elements → AllByRecursion IsBoundedMetadata elements
+      → IsSound 61 (part_element local rows (published_children item elements))
+  carrier_sound local rows item elements plain r i f within =
+      subst (λ (children : List Child). IsSound 61 (part_element local rows children)) (sym (published_are item elements))
+      (sound_whole 60 (bare_name local) rows (published_elements item elements) (bare_fits local plain) r
+      (published_sound item elements i f within))
+
+  publish_sound : (spaces : List (List ℕ)) (op : PublishOp) → IsFitOp op → IsBoundedPublish op → IsSound 61 (publish_element spaces op)
+  publish_sound spaces (publish.Update item elements forever) f within =
+      carrier_sound (codes "update") (lifetime_rows forever) item elements refl
+      (record { rise = refl; plain = refl; values = (lifetime_fits forever, tt) }) f.0 f.1 within
+  publish_sound spaces (publish.Notify item elements) f within =
+      carrier_sound (codes "notify") [] item elements refl no_rows f.0 f.1 within
+  publish_sound spaces (publish.Delete item filter) f within =
+      sound_whole 60 (bare_name (codes "delete")) (filter_rows spaces filter) (map identifier_element (identifiers_of item))
+      (bare_fits (codes "delete") refl) (record { rise = refl; plain = refl; values = (filter_fits spaces filter f.1, tt) })
+      (identifiers_sound (identifiers_of item) f.0.identifiers)
+
+  subscribe_sound : (spaces : List (List ℕ)) (op : SubscribeOp) → IsFitSubscribeOp op → IsSound 61 (subscribe_element spaces op)
+  subscribe_sound spaces (subscribe.Update name s) f =
+      sound_whole 60 (bare_name (codes "update")) (subscription_rows spaces name s) (identifier_element s.start ∷ [])
+      (bare_fits (codes "update") refl) (subscription_fit spaces name s f.0 f.1) (identifier_sound s.start f.1.start, tt)
+  subscribe_sound spaces (subscribe.Delete name) f =
+      sound_whole 60 (bare_name (codes "delete")) (name_rows name) [] (bare_fits (codes "delete") refl)
+      (record { rise = refl; plain = refl; values = (f, tt) }) tt
+
+  publishes_sound : (spaces : List (List ℕ)) (ops : List PublishOp) → AllByRecursion IsFitOp ops → AllByRecursion IsBoundedPublish ops
+      → AllByRecursion (IsSound 61) (map (publish_element spaces) ops)
+  publishes_sound spaces [] f within = tt
+  publishes_sound spaces (op ∷ ops) f within = (publish_sound spaces op f.0 within.0, publishes_sound spaces ops f.1 within.1)
+
+  subscribes_sound : (spaces : List (List ℕ)) (ops : List SubscribeOp) → AllByRecursion IsFitSubscribeOp ops
+      → AllByRecursion (IsSound 61) (map (subscribe_element spaces) ops)
+  subscribes_sound spaces [] f = tt
+  subscribes_sound spaces (op ∷ ops) f = (subscribe_sound spaces op f.0, subscribes_sound spaces ops f.1)
+
+  -- ---- (6) requests
+
+  asking_sound : (local : List ℕ) (rows : List Row) (es : List Element) → is_plain_local local ≡ true → AreFitRows rows
+      → AllByRecursion (IsSound 61) es → IsSound 62 (asking_element local rows (as_children es))
+  asking_sound local rows es plain r f =
+      sound_whole 61 (record { space = ifmap_space; local = local }) rows es (asking_fits local plain) r f
+
+  element_sound : (spaces : List (List ℕ)) (r : Request) → IsFitRequest r → IsBounded r → IsSound 62 (element_in spaces r)
+  element_sound spaces (NewSession limit) f within =
+      asking_sound (codes "newSession") (limit_rows limit) [] refl
+      (record { rise = refl; plain = refl; values = (limit_fits limit, tt) }) tt
+  element_sound spaces (RenewSession session) f within =
+      asking_sound (codes "renewSession") (session_rows session) [] refl (session_fit session f) tt
+  element_sound spaces (EndSession session) f within =
+      asking_sound (codes "endSession") (session_rows session) [] refl (session_fit session f) tt
+  element_sound spaces (Publish session ops) f within =
+      asking_sound (codes "publish") (session_rows session) (map (publish_element spaces) ops) refl (session_fit session f.0)
+      (publishes_sound spaces ops f.1 within)
+  element_sound spaces (Search session s) f within =
+      asking_sound (codes "search") (search_rows spaces session s) (identifier_element s.start ∷ []) refl
+      (search_fit spaces session s f.0 f.1)
+      (higher 60 61 (identifier_element s.start) (omega arith) (identifier_sound s.start f.1.start), tt)
+  element_sound spaces (Subscribe session ops) f within =
+      asking_sound (codes "subscribe") (session_rows session) (map (subscribe_element spaces) ops) refl (session_fit session f.0)
+      (subscribes_sound spaces ops f.1)
+  element_sound spaces (Poll session) f within =
+      asking_sound (codes "poll") (session_rows session) [] refl (session_fit session f) tt
+  element_sound spaces (PurgePublisher session publisher) f within =
+      asking_sound (codes "purgePublisher") (purge_rows session publisher) [] refl
+      (record { rise = refl; plain = refl; values = (f.1, (f.0, tt)) }) tt
+
+  -- ---- (7) the envelope
+
+  pub envelope_sound : (r : Request) → IsFitRequest r → IsBounded r → IsSound 64 (in_envelope (request_element r))
+  envelope_sound r f within =
+      let inner = element_sound (request_spaces r) r f within in
+      let body : Element = around (envelope_name (codes "Body")) (request_element r) in
+      let b = sound_whole 62 (envelope_name (codes "Body")) [] (request_element r ∷ []) (envelope_fits (codes "Body") refl) no_rows
+      (inner, tt) in
+      sound_whole 63 (envelope_name (codes "Envelope")) [] (body ∷ []) (envelope_fits (codes "Envelope") refl) no_rows (b, tt)
+
+-- the namespaces of a request's filters
+
+each_namespaces : (filters : List Filter) → AllByRecursion IsFitFilter filters → AllByRecursion IsNamespace (flat_map filter_spaces filters)
+each_namespaces [] f = tt
+each_namespaces (filter ∷ filters) f =
+    both_all IsNamespace (filter_spaces filter) (flat_map filter_spaces filters) (filter_namespaces filter f.0)
+    (each_namespaces filters f.1)
+
+optional_fits : (filter : Option Filter) → MayBeFitFilter filter → AllByRecursion IsFitFilter (optional_filter filter)
+optional_fits None f = tt
+optional_fits (Some filter) f = (f, tt)
+
+search_fits : (s : search.Search) → IsFitSearch s → AllByRecursion IsFitFilter (search_filters s)
+search_fits s f =
+    both_all IsFitFilter (optional_filter s.match_links) (optional_filter s.result_filter) (optional_fits s.match_links f.match_links)
+    (optional_fits s.result_filter f.result_filter)
+
+publish_fits : (op : PublishOp) → IsFitOp op → AllByRecursion IsFitFilter (publish_filters op)
+publish_fits (publish.Update item elements forever) f = tt
+publish_fits (publish.Notify item elements) f = tt
+publish_fits (publish.Delete item filter) f = optional_fits filter f.1
+
+subscribe_fits : (op : SubscribeOp) → IsFitSubscribeOp op → AllByRecursion IsFitFilter (subscribe_filters op)
+subscribe_fits (subscribe.Update name s) f = search_fits s f.1
+subscribe_fits (subscribe.Delete name) f = tt
+
+all_fit : {X : Type 0} (Fits : X → Type 0) (filters : X → List Filter) → ((x : X) → Fits x → AllByRecursion IsFitFilter (filters x))
+    → (xs : List X) → AllByRecursion Fits xs → AllByRecursion IsFitFilter (flat_map filters xs)
+all_fit Fits filters one [] f = tt
+all_fit Fits filters one (x ∷ xs) f =
+    both_all IsFitFilter (filters x) (flat_map filters xs) (one x f.0) (all_fit Fits filters one xs f.1)
+
+pub filters_fit : (r : Request) → IsFitRequest r → AllByRecursion IsFitFilter (request_filters r)
+filters_fit (NewSession limit) f = tt
+filters_fit (RenewSession session) f = tt
+filters_fit (EndSession session) f = tt
+filters_fit (Publish session ops) f = all_fit IsFitOp publish_filters publish_fits ops f.1
+filters_fit (Search session s) f = search_fits s f.1
+filters_fit (Subscribe session ops) f = all_fit IsFitSubscribeOp subscribe_filters subscribe_fits ops f.1
+filters_fit (Poll session) f = tt
+filters_fit (PurgePublisher session publisher) f = tt
+
+pub spaces_declarable : (r : Request) → IsFitRequest r → AllByRecursion IsDeclarable (request_spaces r)
+spaces_declarable r f = are_declared (flat_map filter_spaces (request_filters r)) (each_namespaces (request_filters r) (filters_fit r f))

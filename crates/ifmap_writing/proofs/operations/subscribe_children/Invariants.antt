@@ -1,0 +1,6 @@
+use Rattle.std.proofs.Common.{◌≡◌, map, take}
+use Rattle.ifmap_writing.specs.RequestElements.{as_children, subscribe_element}
+use Rattle.ifmap_writing.proofs.operations.subscribe_children.Given as goal
+
+abbrev pub invariant-loop-op : goal.invariant-loop-op
+invariant-loop-op l = l.children.items ≡ as_children (map (subscribe_element l.spaces) (take l.op-index l.ops))

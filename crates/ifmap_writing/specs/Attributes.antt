@@ -1,0 +1,91 @@
+-- The attributes of requests as they are written.
+use Rattle.std.specs.Prelude.{ℕ, Bool, true, false, List, [], ◌∷◌, codes, Option, None, Some}
+use Rattle.std.specs.List.{flat_map}
+use Rattle.ifmap_lemmas.specs.Numerals.{numeral}
+use Rattle.ifmap_elem.specs.Building.{bare_attribute}
+use Rattle.ifmap_elem.specs.declared.elements.Attribute.{Attribute}
+use Rattle.ifmap_filter.specs.declared.filters.Filter.{Filter}
+use Rattle.ifmap_filter.specs.Printing.{filter_text, joined_texts}
+use Rattle.ifmap_ident.specs.declared.kinds.Kind.{Kind}
+use Rattle.ifmap_ident.specs.Kinds.{kind_name}
+use Rattle.ifmap_search.specs.declared.searches.Search.{Search}
+
+-- an attribute in no namespace by its name, with its value; it is left out where it has none
+pub record Row : Type 0 where
+  pub local : List ℕ
+  pub value : Option (List ℕ)
+
+abbrev pub row : List ℕ → Option (List ℕ) → Row
+row local value = record { local = local; value = value }
+
+abbrev pub written_attribute : List ℕ → Option (List ℕ) → List Attribute
+written_attribute local None = []
+written_attribute local (Some value) = bare_attribute local value ∷ []
+
+abbrev pub attributes_of : List Row → List Attribute
+attributes_of rows = flat_map (λ row. written_attribute row.local row.value) rows
+
+-- ---- values
+
+abbrev pub number_value : ℕ → Option (List ℕ)
+number_value n = Some (numeral n)
+
+-- how large a poll's result may be, where it is said
+abbrev pub limit_value : Option ℕ → Option (List ℕ)
+limit_value None = None
+limit_value (Some limit) = number_value limit
+
+-- what is published stays, or it goes with the session, which is not said
+abbrev pub lifetime_value : Bool → Option (List ℕ)
+lifetime_value true = Some (codes "forever")
+lifetime_value false = None
+
+-- a filter, where there is one, in the prefixes `f1`, `f2` and so on of these namespaces
+abbrev pub filter_value : List (List ℕ) → Option Filter → Option (List ℕ)
+filter_value spaces None = None
+filter_value spaces (Some filter) = Some (filter_text spaces filter)
+
+-- kinds with commas between them, where there are some
+abbrev pub kinds_value : List Kind → Option (List ℕ)
+kinds_value [] = None
+kinds_value (kind ∷ others) = Some (joined_texts (codes ",") kind_name (kind ∷ others))
+
+-- ---- the attributes of the elements, in the order of their names
+
+abbrev pub session_rows : List ℕ → List Row
+session_rows session = row (codes "session-id") (Some session) ∷ []
+
+abbrev pub limit_rows : Option ℕ → List Row
+limit_rows limit = row (codes "max-poll-result-size") (limit_value limit) ∷ []
+
+abbrev pub purge_rows : List ℕ → List ℕ → List Row
+purge_rows session publisher = row (codes "ifmap-publisher-id") (Some publisher) ∷ session_rows session
+
+abbrev pub lifetime_rows : Bool → List Row
+lifetime_rows forever = row (codes "lifetime") (lifetime_value forever) ∷ []
+
+abbrev pub filter_rows : List (List ℕ) → Option Filter → List Row
+filter_rows spaces filter = row (codes "filter") (filter_value spaces filter) ∷ []
+
+abbrev pub name_rows : List ℕ → List Row
+name_rows name = row (codes "name") (Some name) ∷ []
+
+-- of a search in a session; the bounds of the walk and of the result are always said
+abbrev pub search_rows : List (List ℕ) → List ℕ → Search → List Row
+search_rows spaces session search =
+    row (codes "match-links") (filter_value spaces search.match_links)
+    ∷ (row (codes "max-depth") (number_value search.max_depth)
+    ∷ (row (codes "max-size") (number_value search.max_size)
+    ∷ (row (codes "result-filter") (filter_value spaces search.result_filter)
+    ∷ (row (codes "session-id") (Some session)
+    ∷ (row (codes "terminal-identifier-type") (kinds_value search.terminal) ∷ [])))))
+
+-- of a search under the name of a subscription
+abbrev pub subscription_rows : List (List ℕ) → List ℕ → Search → List Row
+subscription_rows spaces name search =
+    row (codes "match-links") (filter_value spaces search.match_links)
+    ∷ (row (codes "max-depth") (number_value search.max_depth)
+    ∷ (row (codes "max-size") (number_value search.max_size)
+    ∷ (row (codes "name") (Some name)
+    ∷ (row (codes "result-filter") (filter_value spaces search.result_filter)
+    ∷ (row (codes "terminal-identifier-type") (kinds_value search.terminal) ∷ [])))))

@@ -1,0 +1,100 @@
+-- Requests as elements and as bytes: IF-MAP binding for SOAP, version 2.2, section 3.
+use Rattle.std.specs.Prelude.{ℕ, List, [], ◌∷◌, ◌++◌, codes, map}
+use Rattle.ifmap_elem.specs.Building.{bare_element}
+use Rattle.ifmap_elem.specs.Canonical.{written_bytes}
+use Rattle.ifmap_elem.specs.declared.elements.Child as the
+use Rattle.ifmap_elem.specs.declared.elements.Child.{Child}
+use Rattle.ifmap_elem.specs.declared.elements.Element.{Element}
+use Rattle.ifmap_elem.specs.declared.elements.Name.{Name}
+use Rattle.ifmap_envelopes.specs.Envelopes.{envelope_name}
+use Rattle.ifmap_ident.specs.declared.identifiers.Identifier.{Identifier}
+use Rattle.ifmap_ident.specs.declared.items.Item.{Item}
+use Rattle.ifmap_ident.specs.Identifiers.{identifier_element}
+use Rattle.ifmap_ident.specs.Items.{identifiers_of}
+use Rattle.ifmap_meta.specs.declared.metadata.Metadata.{Metadata}
+use Rattle.ifmap_requests.specs.declared.publishing.PublishOp.{PublishOp}
+use Rattle.ifmap_requests.specs.declared.publishing.PublishOp.TheVariants as publish
+use Rattle.ifmap_requests.specs.declared.requests.Request.{Request}
+use Rattle.ifmap_requests.specs.declared.requests.Request.TheVariants.{NewSession, RenewSession, EndSession, Publish, Search, Subscribe, Poll, PurgePublisher}
+use Rattle.ifmap_requests.specs.declared.requests.SubscribeOp.{SubscribeOp}
+use Rattle.ifmap_requests.specs.declared.requests.SubscribeOp.TheVariants as subscribe
+use Rattle.ifmap_requests.specs.RequestForms.{ifmap_space}
+use Rattle.ifmap_writing.specs.Attributes.{Row, attributes_of, filter_rows, lifetime_rows, limit_rows, name_rows, purge_rows, search_rows, session_rows, subscription_rows}
+use Rattle.ifmap_writing.specs.RequestSpaces.{request_spaces}
+
+-- elements as children
+abbrev pub as_children : List Element → List Child
+as_children elements = map (λ e. the.Element e) elements
+
+-- an element in no namespace with these attributes and children
+abbrev pub part_element : List ℕ → List Row → List Child → Element
+part_element local rows children = bare_element local (attributes_of rows) children
+
+-- ---- what operations carry
+
+abbrev pub identifier_children : List Identifier → List Child
+identifier_children identifiers = as_children (map identifier_element identifiers)
+
+-- the identifiers of an item, the smaller first
+abbrev pub item_children : Item → List Child
+item_children item = identifier_children (identifiers_of item)
+
+-- the list of metadata
+abbrev pub list_element : List Metadata → Element
+list_element elements = part_element (codes "metadata") [] (as_children (map (λ metadata. metadata.element) elements))
+
+-- the identifiers of an item, and then the list
+abbrev pub published_children : Item → List Metadata → List Child
+published_children item elements = item_children item ++ the.Element (list_element elements) ∷ []
+
+-- ---- operations
+
+abbrev pub publish_element : List (List ℕ) → PublishOp → Element
+publish_element spaces (publish.Update item elements forever) =
+    part_element (codes "update") (lifetime_rows forever) (published_children item elements)
+publish_element spaces (publish.Notify item elements) = part_element (codes "notify") [] (published_children item elements)
+publish_element spaces (publish.Delete item filter) = part_element (codes "delete") (filter_rows spaces filter) (item_children item)
+
+abbrev pub subscribe_element : List (List ℕ) → SubscribeOp → Element
+subscribe_element spaces (subscribe.Update name search) =
+    part_element (codes "update") (subscription_rows spaces name search) (identifier_children (search.start ∷ []))
+subscribe_element spaces (subscribe.Delete name) = part_element (codes "delete") (name_rows name) []
+
+-- ---- requests
+
+-- an element in the namespace of requests
+abbrev pub asking_element : List ℕ → List Row → List Child → Element
+asking_element local rows children =
+    record { name = record { space = ifmap_space; local = local }; attributes = attributes_of rows; children = children }
+
+-- the element of a request, whose filters name these namespaces by the prefixes `f1`, `f2` and so on
+abbrev pub element_in : List (List ℕ) → Request → Element
+element_in spaces (NewSession limit) = asking_element (codes "newSession") (limit_rows limit) []
+element_in spaces (RenewSession session) = asking_element (codes "renewSession") (session_rows session) []
+element_in spaces (EndSession session) = asking_element (codes "endSession") (session_rows session) []
+element_in spaces (Publish session ops) =
+    asking_element (codes "publish") (session_rows session) (as_children (map (publish_element spaces) ops))
+element_in spaces (Search session search) =
+    asking_element (codes "search") (search_rows spaces session search) (identifier_children (search.start ∷ []))
+element_in spaces (Subscribe session ops) =
+    asking_element (codes "subscribe") (session_rows session) (as_children (map (subscribe_element spaces) ops))
+element_in spaces (Poll session) = asking_element (codes "poll") (session_rows session) []
+element_in spaces (PurgePublisher session publisher) = asking_element (codes "purgePublisher") (purge_rows session publisher) []
+
+-- the element of a request, whose filters name the request's own namespaces
+abbrev pub request_element : Request → Element
+request_element request = element_in (request_spaces request) request
+
+-- ---- bytes
+
+-- an element of this name that holds one other and nothing else
+abbrev pub around : Name → Element → Element
+around name inner = record { name = name; attributes = []; children = the.Element inner ∷ [] }
+
+-- the envelope of an element
+abbrev pub in_envelope : Element → Element
+in_envelope inner = around (envelope_name (codes "Envelope")) (around (envelope_name (codes "Body")) inner)
+
+-- a request as it is sent: its envelope in canonical form, which also declares `f1`, `f2` and so on for the filters' namespaces
+unfoldable pub request_bytes : Request → List ℕ
+request_bytes request = written_bytes (in_envelope (request_element request)) (request_spaces request)
