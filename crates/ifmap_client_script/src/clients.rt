@@ -1,4 +1,15 @@
 //! What a client knows, and the lines that it carries out.
+ghost use Rattle.std.specs.Prelude.{◌≡◌, ◌≤◌, IsFalse, IsTrue, OnErr, OnOk};
+ghost use Rattle.ifmap_folds.specs.Folds.{fold_items};
+ghost use Rattle.ifmap_heads.specs.Messages.{is_visible};
+ghost use Rattle.ifmap_client.specs.Keeping.{sets_of};
+ghost use Rattle.ifmap_client_script.specs.Deeds.{after_reply, unknowing};
+ghost use Rattle.ifmap_client_script.specs.Ends.{ArePortsLater, IsLaterWire, ports};
+ghost use Rattle.ifmap_client_script.specs.Exchanges.{wiring};
+ghost use Rattle.ifmap_client_script.specs.Printing.{set_text};
+ghost use Rattle.ifmap_client_script.specs.Stops.{Sends};
+ghost use Rattle.ifmap_client_script.specs.Turns.{AsksOver, CarriesOut};
+
 use crate::exchanges::{Caller, Told, ask};
 use crate::outcomes::Stop;
 use crate::printing::set_text;
@@ -12,6 +23,7 @@ use ifmap_replies::Reply;
 use ifmap_requests::Request;
 use ifmap_search::PollItem;
 use std::alloc::{AllocError as NoMemory, Global};
+use std::marker::Model;
 
 /// What a client knows: the session that was begun last, and what its polls were told since.
 #[derive(Drop)]
@@ -20,9 +32,20 @@ pub struct Client {
     sets: ClientSets,
 }
 
+impl Model for Client {
+    ghost use Rattle.ifmap_client.specs.Keeping.{sets_of};
+    ghost use Rattle.ifmap_client_script.specs.Deeds.{Known, knowing};
+
+    ghost Value = { Known };
+
+    ghost view = { λ client. knowing client.session (sets_of client.sets) };
+}
+
 impl Client {
     /// No session was begun.
-    pub fn new(alloc: Global) -> Client {
+    pub fn new(alloc: Global) -> Client
+        ensures { result ≡ unknowing }
+    {
         Client {
             session: None,
             sets: ClientSets::new(alloc),
@@ -33,35 +56,107 @@ impl Client {
     pub fn do_line<K: Sink, A: Link, B: Link>(
         &mut self,
         alloc: Global,
-        caller: Caller<'_>,
+        caller: &Caller,
         line: Line,
         sink: &mut K,
         first: &mut Wire<A>,
         second: &mut Wire<B>,
-    ) -> Result<(), Stop> {
+    ) -> Result<(), Stop>
+        requires first { IsFalse first.old.spent }
+        requires second { IsFalse second.old.spent }
+        requires visible { IsTrue (is_visible caller.now.host) }
+        ensures carries { CarriesOut caller.now line
+            (ports (K.held sink.old) (K.faults sink.old)
+            (wiring A.left A.held A.Source.faults A.Sink.faults first.old)
+            (wiring B.left B.held B.Source.faults B.Sink.faults second.old))
+            (ports (K.held sink.new) (K.faults sink.new)
+            (wiring A.left A.held A.Source.faults A.Sink.faults first.new)
+            (wiring B.left B.held B.Source.faults B.Sink.faults second.new)) self.old self.new result }
+        ensures later { ArePortsLater
+            (ports (K.held sink.old) (K.faults sink.old)
+            (wiring A.left A.held A.Source.faults A.Sink.faults first.old)
+            (wiring B.left B.held B.Source.faults B.Sink.faults second.old))
+            (ports (K.held sink.new) (K.faults sink.new)
+            (wiring A.left A.held A.Source.faults A.Sink.faults first.new)
+            (wiring B.left B.held B.Source.faults B.Sink.faults second.new)) }
+    {
         match line {
             Line::Blank => Ok(()),
             Line::Request(request) => {
-                let told = self.ask(alloc, caller, request, first, second)?;
-                self.take(alloc, told.reply)?;
-                send_body(alloc, sink, &told.body)
+                self.do_request(alloc, caller, request, sink, first, second)
             }
-            Line::Set(name) => {
-                let text = set_text(alloc, self.sets.set_of(&name))?;
-                send(sink, &text)
-            }
+            Line::Set(name) => self.print_set(alloc, &name, sink),
         }
+    }
+
+    // Asks a request, and writes the reply.
+    fn do_request<K: Sink, A: Link, B: Link>(
+        &mut self,
+        alloc: Global,
+        caller: &Caller,
+        request: Request,
+        sink: &mut K,
+        first: &mut Wire<A>,
+        second: &mut Wire<B>,
+    ) -> Result<(), Stop>
+        requires first { IsFalse first.old.spent }
+        requires second { IsFalse second.old.spent }
+        requires visible { IsTrue (is_visible caller.now.host) }
+        ensures carries { CarriesOut caller.now (Line.Request request)
+            (ports (K.held sink.old) (K.faults sink.old)
+            (wiring A.left A.held A.Source.faults A.Sink.faults first.old)
+            (wiring B.left B.held B.Source.faults B.Sink.faults second.old))
+            (ports (K.held sink.new) (K.faults sink.new)
+            (wiring A.left A.held A.Source.faults A.Sink.faults first.new)
+            (wiring B.left B.held B.Source.faults B.Sink.faults second.new)) self.old self.new result }
+        ensures later { ArePortsLater
+            (ports (K.held sink.old) (K.faults sink.old)
+            (wiring A.left A.held A.Source.faults A.Sink.faults first.old)
+            (wiring B.left B.held B.Source.faults B.Sink.faults second.old))
+            (ports (K.held sink.new) (K.faults sink.new)
+            (wiring A.left A.held A.Source.faults A.Sink.faults first.new)
+            (wiring B.left B.held B.Source.faults B.Sink.faults second.new)) }
+    {
+        let told = self.ask(alloc, caller, request, first, second)?;
+        let Told { body, reply } = told;
+        self.take(alloc, reply)?;
+        send_body(alloc, sink, &body)
+    }
+
+    // Writes the set of that name.
+    fn print_set<K: Sink>(&self, alloc: Global, name: &Text, sink: &mut K) -> Result<(), Stop>
+        ensures sends { Sends (K.held sink.old) (K.held sink.new) (K.faults sink.old)
+            (K.faults sink.new) (set_text (self.now.sets name.now)) result }
+        ensures later { K.faults sink.old ≤ K.faults sink.new }
+    {
+        let text = set_text(alloc, self.sets.set_of(name))?;
+        send(sink, &text)
     }
 
     // Sends a request over its link, a poll over the second, and takes the answer to it.
     fn ask<A: Link, B: Link>(
         &self,
         alloc: Global,
-        caller: Caller<'_>,
+        caller: &Caller,
         request: Request,
         first: &mut Wire<A>,
         second: &mut Wire<B>,
-    ) -> Result<Told, Stop> {
+    ) -> Result<Told, Stop>
+        requires first { IsFalse first.old.spent }
+        requires second { IsFalse second.old.spent }
+        requires visible { IsTrue (is_visible caller.now.host) }
+        ensures asks { AsksOver caller.now request self.now
+            (wiring A.left A.held A.Source.faults A.Sink.faults first.old)
+            (wiring A.left A.held A.Source.faults A.Sink.faults first.new)
+            (wiring B.left B.held B.Source.faults B.Sink.faults second.old)
+            (wiring B.left B.held B.Source.faults B.Sink.faults second.new) result }
+        ensures first { IsLaterWire
+            (wiring A.left A.held A.Source.faults A.Sink.faults first.old)
+            (wiring A.left A.held A.Source.faults A.Sink.faults first.new) }
+        ensures second { IsLaterWire
+            (wiring B.left B.held B.Source.faults B.Sink.faults second.old)
+            (wiring B.left B.held B.Source.faults B.Sink.faults second.new) }
+    {
         let request = request_in(alloc, &self.session, request)?;
         if is_poll(&request) {
             ask(alloc, caller, &request, second)
@@ -71,7 +166,9 @@ impl Client {
     }
 
     // Takes what was answered.
-    fn take(&mut self, alloc: Global, reply: Reply) -> Result<(), NoMemory> {
+    fn take(&mut self, alloc: Global, reply: Reply) -> Result<(), NoMemory>
+        ensures { OnOk result (self.new ≡ after_reply reply self.old) }
+    {
         match reply {
             Reply::NewSession { session, .. } => {
                 self.session = Some(session);
@@ -85,7 +182,9 @@ impl Client {
 }
 
 // Takes what a poll was told, one item after the other.
-fn take_items(alloc: Global, sets: &mut ClientSets, items: &[PollItem]) -> Result<(), NoMemory> {
+fn take_items(alloc: Global, sets: &mut ClientSets, items: &[PollItem]) -> Result<(), NoMemory>
+    ensures { OnOk result (sets_of sets.new ≡ fold_items items.now (sets_of sets.old)) }
+{
     for item in items {
         sets.take(alloc, item)?;
     }

@@ -1,4 +1,9 @@
 //! Requests over a wire, each answered before the next is sent.
+ghost use Rattle.std.specs.Prelude.{IsFalse, IsTrue};
+ghost use Rattle.ifmap_heads.specs.Messages.{is_visible};
+ghost use Rattle.ifmap_client_script.specs.Ends.{IsLaterWire};
+ghost use Rattle.ifmap_client_script.specs.Exchanges.{Asks, Posts, Reads, Receives, Unread, Unwritten, request_post, wiring};
+
 use crate::outcomes::Stop;
 use ifmap_elem::{Many, Text};
 use ifmap_http::{Answered, Sent, Wire};
@@ -10,10 +15,10 @@ use ifmap_writing::write_request;
 use std::alloc::Global;
 
 /// Who asks, and which host.
-#[derive(Clone, Copy, Drop)]
-pub struct Caller<'a> {
-    pub client: &'a ClientName,
-    pub host: &'a Text,
+#[derive(Drop)]
+pub struct Caller {
+    pub client: ClientName,
+    pub host: Text,
 }
 
 /// A body that came, and the reply that it means.
@@ -26,10 +31,19 @@ pub struct Told {
 /// Sends a request, and takes the answer to it.
 pub fn ask<L: Link>(
     alloc: Global,
-    caller: Caller<'_>,
+    caller: &Caller,
     request: &Request,
     wire: &mut Wire<L>,
-) -> Result<Told, Stop> {
+) -> Result<Told, Stop>
+    requires unspent { IsFalse wire.old.spent }
+    requires visible { IsTrue (is_visible caller.now.host) }
+    ensures asks { Asks caller.now request.now
+        (wiring L.left L.held L.Source.faults L.Sink.faults wire.old)
+        (wiring L.left L.held L.Source.faults L.Sink.faults wire.new) result }
+    ensures later { IsLaterWire
+        (wiring L.left L.held L.Source.faults L.Sink.faults wire.old)
+        (wiring L.left L.held L.Source.faults L.Sink.faults wire.new) }
+{
     post(alloc, caller, request, wire)?;
     let body = read_body(alloc, wire)?;
     let reply = reply_in(alloc, &body)?;
@@ -39,12 +53,20 @@ pub fn ask<L: Link>(
 // Sends a request.
 fn post<L: Link>(
     alloc: Global,
-    caller: Caller<'_>,
+    caller: &Caller,
     request: &Request,
     wire: &mut Wire<L>,
-) -> Result<(), Stop> {
+) -> Result<(), Stop>
+    requires { IsTrue (is_visible caller.now.host) }
+    ensures posts { Posts (request_post caller.now request.now)
+        (wiring L.left L.held L.Source.faults L.Sink.faults wire.old)
+        (wiring L.left L.held L.Source.faults L.Sink.faults wire.new) result }
+    ensures unread { Unread
+        (wiring L.left L.held L.Source.faults L.Sink.faults wire.old)
+        (wiring L.left L.held L.Source.faults L.Sink.faults wire.new) }
+{
     let body = write_request(alloc, request)?;
-    match wire.send_post(alloc, caller.host, caller.client, body.as_slice()) {
+    match wire.send_post(alloc, &caller.host, &caller.client, body.as_slice()) {
         Sent::Done => Ok(()),
         Sent::WriteFault => Err(Stop::LinkFault),
         Sent::NoMemory => Err(Stop::NoMemory),
@@ -52,7 +74,15 @@ fn post<L: Link>(
 }
 
 // Takes the body of an answer.
-fn read_body<L: Link>(alloc: Global, wire: &mut Wire<L>) -> Result<Many<u8>, Stop> {
+fn read_body<L: Link>(alloc: Global, wire: &mut Wire<L>) -> Result<Many<u8>, Stop>
+    requires { IsFalse wire.old.spent }
+    ensures receives { Receives
+        (wiring L.left L.held L.Source.faults L.Sink.faults wire.old)
+        (wiring L.left L.held L.Source.faults L.Sink.faults wire.new) result }
+    ensures unwritten { Unwritten
+        (wiring L.left L.held L.Source.faults L.Sink.faults wire.old)
+        (wiring L.left L.held L.Source.faults L.Sink.faults wire.new) }
+{
     match wire.read_answer(alloc) {
         Answered::Body(body) => Ok(body),
         Answered::Status(_) => Err(Stop::BadReply),
@@ -64,7 +94,9 @@ fn read_body<L: Link>(alloc: Global, wire: &mut Wire<L>) -> Result<Many<u8>, Sto
 }
 
 // The reply that a body means.
-fn reply_in(alloc: Global, body: &Many<u8>) -> Result<Reply, Stop> {
+fn reply_in(alloc: Global, body: &Many<u8>) -> Result<Reply, Stop>
+    ensures { Reads body.now result }
+{
     match read_reply(alloc, body.as_slice()) {
         Ok(reply) => Ok(reply),
         Err(ReplyError::NotAReply) => Err(Stop::BadReply),

@@ -1,8 +1,16 @@
 //! The lines of a script as they come from a source.
+ghost use Rattle.std.specs.Prelude.{◌≡◌, ◌≤◌, ◌<◌, ◌+◌, ◌⊎◌, [], drop, false, true, length, IfNone, IfOk, IfSome, MatchResult, OnOk, Err};
+ghost use Rattle.std.specs.Bool.{OnFalse, OnTrue};
+ghost use Rattle.std.specs.Io.KnownBytes.{Consumes, IsAtEnd};
+ghost use Rattle.ifmap_io.specs.Causes.{Rose};
+ghost use Rattle.ifmap_client_script.specs.Pending.{Awaits, Fills, IsLineEnd, closed, nothing_taken};
+ghost use Rattle.ifmap_client_script.specs.Scripts.{AwaitsLine, HasNoNewline, IsWithin, longest_script};
+
 use crate::outcomes::Stop;
 use ifmap_client::LINE_LIMIT;
 use ifmap_io::Source;
 use std::alloc::{AllocError as NoMemory, Global};
+use std::marker::Model;
 
 /// How many bytes of a script may be lines.
 pub const LONGEST_SCRIPT: u64 = 1 << 32;
@@ -20,9 +28,25 @@ pub struct Input {
     chunk: Vec<u8>,
 }
 
+impl Model for Input {
+    ghost use Rattle.std.specs.Prelude.{◌≤◌, ◌<◌, drop, vec_len};
+    ghost use Rattle.ifmap_client_script.specs.Pending.{Pending};
+
+    ghost Value = { Pending };
+
+    ghost view = { λ input. record {
+      bytes = drop input.used input.taken.items;
+      ended = input.ended;
+    } };
+
+    ghost invariant = { λ input. (input.used ≤ vec_len input.taken) × (0 < vec_len input.chunk) };
+}
+
 impl Input {
     /// Nothing taken yet.
-    pub fn new(alloc: Global) -> Result<Input, NoMemory> {
+    pub fn new(alloc: Global) -> Result<Input, NoMemory>
+        ensures { IfOk result (λ input. input ≡ nothing_taken) }
+    {
         Ok(Input {
             taken: Vec::new(alloc),
             used: 0,
@@ -32,12 +56,17 @@ impl Input {
     }
 
     /// What was taken and not used yet.
-    pub fn pending(&self) -> &[u8] {
+    pub fn pending(&self) -> &[u8]
+        ensures { result.now ≡ self.now.bytes }
+    {
         &self.taken[self.used..]
     }
 
     /// Uses the first bytes up.
-    pub fn advance(&mut self, count: usize) {
+    pub fn advance(&mut self, count: usize)
+        requires { count ≤ length self.old.bytes }
+        ensures { self.new ≡ record self.old { bytes = drop count self.old.bytes } }
+    {
         self.used += count;
     }
 
@@ -47,27 +76,34 @@ impl Input {
         &mut self,
         source: &mut S,
         offset: u64,
-    ) -> Result<Option<usize>, Stop> {
-        'line: loop {
-            if let Some(place) = line_end(self.pending()) {
-                return if is_within(place, offset) {
-                    Ok(Some(place))
-                } else {
-                    Err(Stop::BadLine)
-                };
-            }
-            if !is_within(self.pending().len(), offset) {
-                return Err(Stop::BadLine);
-            }
-            if self.ended {
-                return Ok(None);
-            }
+    ) -> Result<Option<usize>, Stop>
+        requires { offset ≤ longest_script + 1 }
+        ensures awaits { Awaits (S.left source.old) (S.left source.new) offset self.old self.new
+            result }
+        ensures fault { result ≡ Err Stop.ReadFault
+            → Rose (S.faults source.old) (S.faults source.new) }
+        ensures later { S.faults source.old ≤ S.faults source.new }
+    {
+        'line: while !self.ended && is_due(self.pending(), offset) {
             self.fill(source)?;
+        }
+        match line_end(self.pending()) {
+            Some(place) if is_within(place, offset) => Ok(Some(place)),
+            Some(_) => Err(Stop::BadLine),
+            None if self.pending().is_empty() => Ok(None),
+            None => Err(Stop::BadLine),
         }
     }
 
-    // Takes more from the source. At its end a last line gets the newline that it lacks.
-    fn fill<S: Source>(&mut self, source: &mut S) -> Result<(), Stop> {
+    // Takes more from the source, which has not told its end. There a last line gets its newline.
+    fn fill<S: Source>(&mut self, source: &mut S) -> Result<(), Stop>
+        requires open { self.old.ended ≡ false }
+        requires plain { HasNoNewline self.old.bytes }
+        ensures fills { Fills (S.left source.old) (S.left source.new) self.old self.new result }
+        ensures fault { result ≡ Err Stop.ReadFault
+            → Rose (S.faults source.old) (S.faults source.new) }
+        ensures later { S.faults source.old ≤ S.faults source.new }
+    {
         self.compact();
         let Ok(count) = source.read(&mut self.chunk) else {
             return Err(Stop::ReadFault);
@@ -80,7 +116,9 @@ impl Input {
     }
 
     // Makes the bytes that were used up room again.
-    fn compact(&mut self) {
+    fn compact(&mut self)
+        ensures { self.new ≡ self.old }
+    {
         if self.used > 0 {
             let _front = self.taken.drain(..self.used);
             self.used = 0;
@@ -88,7 +126,9 @@ impl Input {
     }
 
     // Takes no more, and gives a last line its newline.
-    fn end(&mut self) -> Result<(), NoMemory> {
+    fn end(&mut self) -> Result<(), NoMemory>
+        ensures { OnOk result (self.new ≡ record { bytes = closed self.old.bytes; ended = true }) }
+    {
         if !self.pending().is_empty() {
             self.taken.push(b'\n')?;
         }
@@ -98,11 +138,28 @@ impl Input {
 }
 
 // The place of the first newline.
-fn line_end(pending: &[u8]) -> Option<usize> {
+fn line_end(pending: &[u8]) -> Option<usize>
+    ensures line { IfSome result (λ place. IsLineEnd pending.now place) }
+    ensures none { IfNone result (HasNoNewline pending.now) }
+{
     pending.iter().position(|b| *b == b'\n')
 }
 
 // A line of that many bytes that begins at that offset is within its limits.
-fn is_within(length: usize, offset: u64) -> bool {
+fn is_within(length: usize, offset: u64) -> bool
+    requires { offset ≤ longest_script + 1 }
+    ensures yes { OnTrue result (IsWithin offset length) }
+    ensures no { OnFalse result (IsWithin offset length → ⊥) }
+{
     length <= LINE_LIMIT && offset + length as u64 <= LONGEST_SCRIPT
+}
+
+// More bytes are to be taken for the line that begins there: there is none, or no newline is among them
+// and that of a line still can come.
+fn is_due(pending: &[u8], offset: u64) -> bool
+    requires { offset ≤ longest_script + 1 }
+    ensures yes { OnTrue result (AwaitsLine offset pending.now) }
+    ensures no { OnFalse result (AwaitsLine offset pending.now → ⊥) }
+{
+    pending.is_empty() || (is_within(pending.len(), offset) && line_end(pending).is_none())
 }

@@ -1,4 +1,7 @@
 //! How a client's script ends.
+ghost use Rattle.std.specs.Prelude.{◌≡◌};
+ghost use Rattle.ifmap_client_script.specs.Stops.{outcome_of};
+
 use std::alloc::AllocError;
 
 /// How a script ended. Lines count from 1.
@@ -48,7 +51,9 @@ impl From<AllocError> for Stop {
 }
 
 // How a script ends that stops at that line.
-pub(crate) fn outcome_of(stop: Stop, line: u64) -> Outcome {
+pub(crate) fn outcome_of(stop: Stop, line: u64) -> Outcome
+    ensures { result ≡ outcome_of stop line }
+{
     match stop {
         Stop::BadLine => Outcome::BadLine { line },
         Stop::ReadFault => Outcome::ReadFault,

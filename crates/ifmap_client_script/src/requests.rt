@@ -1,4 +1,8 @@
 //! Requests of a script as they are sent.
+ghost use Rattle.std.specs.Prelude.{◌≡◌};
+ghost use Rattle.ifmap_client_script.specs.Deeds.{is_poll, named_session, request_in};
+ghost use Rattle.ifmap_client_script.specs.Stops.{IsNamed};
+
 use crate::outcomes::Stop;
 use ifmap_elem::{Copied, Text};
 use ifmap_requests::Request;
@@ -8,7 +12,9 @@ use std::alloc::Global;
 const LAST_SESSION: &str = "*";
 
 /// The request as it is sent; `BadLine` where it names the session that was begun last and none was.
-pub fn request_in(alloc: Global, begun: &Option<Text>, request: Request) -> Result<Request, Stop> {
+pub fn request_in(alloc: Global, begun: &Option<Text>, request: Request) -> Result<Request, Stop>
+    ensures { IsNamed (request_in begun.now request) result }
+{
     match request {
         Request::NewSession { limit } => Ok(Request::NewSession { limit }),
         Request::RenewSession { session } => Ok(Request::RenewSession {
@@ -40,7 +46,9 @@ pub fn request_in(alloc: Global, begun: &Option<Text>, request: Request) -> Resu
 }
 
 // The session that a text names.
-fn named_session(alloc: Global, begun: &Option<Text>, text: Text) -> Result<Text, Stop> {
+fn named_session(alloc: Global, begun: &Option<Text>, text: Text) -> Result<Text, Stop>
+    ensures { IsNamed (named_session begun.now text) result }
+{
     if text.as_str() != LAST_SESSION {
         return Ok(text);
     }
@@ -51,6 +59,8 @@ fn named_session(alloc: Global, begun: &Option<Text>, text: Text) -> Result<Text
 }
 
 /// The request is a poll, which goes over a link of its own.
-pub fn is_poll(request: &Request) -> bool {
+pub fn is_poll(request: &Request) -> bool
+    ensures { result ≡ is_poll request.now }
+{
     matches!(request, Request::Poll { .. })
 }

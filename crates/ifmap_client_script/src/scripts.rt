@@ -1,14 +1,22 @@
 //! Scripts of a client, line by line.
+ghost use Rattle.std.specs.Prelude.{◌≡◌, ◌≤◌, IfOk, IsFalse, IsTrue};
+ghost use Rattle.ifmap_heads.specs.Messages.{is_visible};
+ghost use Rattle.ifmap_client_script.specs.Ends.{IsLater, ends, ports};
+ghost use Rattle.ifmap_client_script.specs.Exchanges.{wiring};
+ghost use Rattle.ifmap_client_script.specs.Promises.{Promises};
+ghost use Rattle.ifmap_client_script.specs.Turns.{Turns, beginning};
+
 use crate::clients::Client;
 use crate::exchanges::Caller;
 use crate::inputs::Input;
 use crate::outcomes::{Outcome, Stop, outcome_of};
 use ifmap_client::line_of;
-use ifmap_elem::Text;
+use ifmap_elem::{Copied, Text};
 use ifmap_http::Wire;
 use ifmap_io::{Link, Sink, Source};
 use ifmap_meta::ClientName;
 use std::alloc::{AllocError as NoMemory, Global};
+use std::marker::Model;
 
 /// What a turn did.
 #[derive(Clone, Copy, Debug, PartialEq, Eq)]
@@ -39,16 +47,61 @@ pub fn run_script<S: Source, K: Sink, A: Link, B: Link>(
     sink: &mut K,
     first: &mut Wire<A>,
     second: &mut Wire<B>,
-) -> Outcome {
+) -> Outcome
+    requires visible { IsTrue (is_visible host.now) }
+    requires first { IsFalse first.old.spent }
+    requires second { IsFalse second.old.spent }
+    ensures promises { Promises (record { client = client.now; host = host.now })
+        (ends (S.left source.old) (S.faults source.old) (ports (K.held sink.old) (K.faults sink.old)
+        (wiring A.left A.held A.Source.faults A.Sink.faults first.old)
+        (wiring B.left B.held B.Source.faults B.Sink.faults second.old)))
+        (ends (S.left source.new) (S.faults source.new) (ports (K.held sink.new) (K.faults sink.new)
+        (wiring A.left A.held A.Source.faults A.Sink.faults first.new)
+        (wiring B.left B.held B.Source.faults B.Sink.faults second.new))) result }
+    ensures later { IsLater
+        (ends (S.left source.old) (S.faults source.old) (ports (K.held sink.old) (K.faults sink.old)
+        (wiring A.left A.held A.Source.faults A.Sink.faults first.old)
+        (wiring B.left B.held B.Source.faults B.Sink.faults second.old)))
+        (ends (S.left source.new) (S.faults source.new) (ports (K.held sink.new) (K.faults sink.new)
+        (wiring A.left A.held A.Source.faults A.Sink.faults first.new)
+        (wiring B.left B.held B.Source.faults B.Sink.faults second.new))) }
+{
+    let Ok(client) = client.copy(alloc) else {
+        return Outcome::NoMemory;
+    };
+    let Ok(host) = host.copy(alloc) else {
+        return Outcome::NoMemory;
+    };
     let Ok(mut script) = Script::new(alloc) else {
         return Outcome::NoMemory;
     };
-    script.run(alloc, Caller { client, host }, source, sink, first, second)
+    let caller = Caller { client, host };
+    script.run(alloc, &caller, source, sink, first, second)
+}
+
+impl Model for Script {
+    ghost use Rattle.std.specs.Prelude.{◌≤◌, ◌+◌};
+    ghost use Rattle.ifmap_client_script.specs.Scripts.{longest_script};
+    ghost use Rattle.ifmap_client_script.specs.Turns.{Scripting};
+
+    ghost Value = { Scripting };
+
+    ghost view = { λ script. record {
+      known = script.client;
+      pending = script.input;
+      offset = script.offset;
+      line = script.line;
+    } };
+
+    ghost invariant = { λ script. (script.offset ≤ longest_script + 1)
+        × (script.line ≤ script.offset + 1) };
 }
 
 impl Script {
     /// Nothing taken yet.
-    pub fn new(alloc: Global) -> Result<Script, NoMemory> {
+    pub fn new(alloc: Global) -> Result<Script, NoMemory>
+        ensures { IfOk result (λ script. script ≡ beginning) }
+    {
         Ok(Script {
             client: Client::new(alloc),
             input: Input::new(alloc)?,
@@ -61,12 +114,31 @@ impl Script {
     pub fn run<S: Source, K: Sink, A: Link, B: Link>(
         &mut self,
         alloc: Global,
-        caller: Caller<'_>,
+        caller: &Caller,
         source: &mut S,
         sink: &mut K,
         first: &mut Wire<A>,
         second: &mut Wire<B>,
-    ) -> Outcome {
+    ) -> Outcome
+        requires beginning { self.old ≡ beginning }
+        requires visible { IsTrue (is_visible caller.now.host) }
+        requires first { IsFalse first.old.spent }
+        requires second { IsFalse second.old.spent }
+        ensures promises { Promises caller.now
+            (ends (S.left source.old) (S.faults source.old) (ports (K.held sink.old) (K.faults sink.old)
+            (wiring A.left A.held A.Source.faults A.Sink.faults first.old)
+            (wiring B.left B.held B.Source.faults B.Sink.faults second.old)))
+            (ends (S.left source.new) (S.faults source.new) (ports (K.held sink.new) (K.faults sink.new)
+            (wiring A.left A.held A.Source.faults A.Sink.faults first.new)
+            (wiring B.left B.held B.Source.faults B.Sink.faults second.new))) result }
+        ensures later { IsLater
+            (ends (S.left source.old) (S.faults source.old) (ports (K.held sink.old) (K.faults sink.old)
+            (wiring A.left A.held A.Source.faults A.Sink.faults first.old)
+            (wiring B.left B.held B.Source.faults B.Sink.faults second.old)))
+            (ends (S.left source.new) (S.faults source.new) (ports (K.held sink.new) (K.faults sink.new)
+            (wiring A.left A.held A.Source.faults A.Sink.faults first.new)
+            (wiring B.left B.held B.Source.faults B.Sink.faults second.new))) }
+    {
         'lines: loop {
             match self.turn(alloc, caller, source, sink, first, second) {
                 Ok(Turn::Carried) => {}
@@ -80,12 +152,30 @@ impl Script {
     pub fn turn<S: Source, K: Sink, A: Link, B: Link>(
         &mut self,
         alloc: Global,
-        caller: Caller<'_>,
+        caller: &Caller,
         source: &mut S,
         sink: &mut K,
         first: &mut Wire<A>,
         second: &mut Wire<B>,
-    ) -> Result<Turn, Stop> {
+    ) -> Result<Turn, Stop>
+        requires visible { IsTrue (is_visible caller.now.host) }
+        requires first { IsFalse first.old.spent }
+        requires second { IsFalse second.old.spent }
+        ensures turns { Turns caller.now
+            (ends (S.left source.old) (S.faults source.old) (ports (K.held sink.old) (K.faults sink.old)
+            (wiring A.left A.held A.Source.faults A.Sink.faults first.old)
+            (wiring B.left B.held B.Source.faults B.Sink.faults second.old)))
+            (ends (S.left source.new) (S.faults source.new) (ports (K.held sink.new) (K.faults sink.new)
+            (wiring A.left A.held A.Source.faults A.Sink.faults first.new)
+            (wiring B.left B.held B.Source.faults B.Sink.faults second.new))) self.old self.new result }
+        ensures later { IsLater
+            (ends (S.left source.old) (S.faults source.old) (ports (K.held sink.old) (K.faults sink.old)
+            (wiring A.left A.held A.Source.faults A.Sink.faults first.old)
+            (wiring B.left B.held B.Source.faults B.Sink.faults second.old)))
+            (ends (S.left source.new) (S.faults source.new) (ports (K.held sink.new) (K.faults sink.new)
+            (wiring A.left A.held A.Source.faults A.Sink.faults first.new)
+            (wiring B.left B.held B.Source.faults B.Sink.faults second.new))) }
+    {
         let Some(place) = self.input.await_line(source, self.offset)? else {
             return Ok(Turn::Ended);
         };
