@@ -1,6 +1,5 @@
 //! Writing to a sink.
-ghost use Rattle.std.specs.Prelude.{◌≡◌, ◌≤◌, ℕ};
-ghost use Rattle.std.specs.Io.KnownBytes.{Keeps};
+ghost use Rattle.std.specs.Prelude.{◌≤◌, ◌++◌};
 ghost use Rattle.ifmap_client_script.specs.Stops.{Sends, Writes};
 ghost use Rattle.ifmap_client_script.specs.Printing.{body_text};
 
@@ -10,13 +9,19 @@ use ifmap_io::Sink;
 use std::alloc::Global;
 
 /// Writes bytes, and hands them on.
+#[tactic(auto, using(crate::proofs::Pieces::sent_and_kept, crate::proofs::Pieces::appends_kept, crate::proofs::Pieces::rose_since))]
 pub fn send<K: Sink>(sink: &mut K, bytes: &[u8]) -> Result<(), Stop>
     ensures bytes { Writes (K.held sink.old) (K.held sink.new) (K.faults sink.old)
         (K.faults sink.new) bytes.now result }
     ensures later { K.faults sink.old ≤ K.faults sink.new }
 {
-    write(sink, bytes)?;
-    hand_on(sink)
+    if sink.write_all(bytes).is_err() {
+        return Err(Stop::WriteFault);
+    }
+    if sink.flush().is_err() {
+        return Err(Stop::WriteFault);
+    }
+    Ok(())
 }
 
 /// Writes `=`, the length of a body, a newline and the body, and hands them on.
@@ -26,10 +31,22 @@ pub fn send_body<K: Sink>(alloc: Global, sink: &mut K, body: &Many<u8>) -> Resul
     ensures later { K.faults sink.old ≤ K.faults sink.new }
 {
     let length = body.len();
-    let line = format!(in alloc; "={length}\n")?;
-    write(sink, line.as_bytes())?;
-    write(sink, body.as_slice())?;
-    hand_on(sink)
+    let Ok(line) = format!(in alloc; "={length}\n") else {
+        return Err(Stop::NoMemory);
+    };
+    send_both(sink, line.as_bytes(), body.as_slice())
+}
+
+// Writes two texts one after the other, and hands them on.
+fn send_both<K: Sink>(sink: &mut K, line: &[u8], body: &[u8]) -> Result<(), Stop>
+    ensures bytes { Writes (K.held sink.old) (K.held sink.new) (K.faults sink.old)
+        (K.faults sink.new) (line.now ++ body.now) result }
+    ensures later { K.faults sink.old ≤ K.faults sink.new }
+{
+    match write(sink, line) {
+        Ok(()) => send(sink, body),
+        Err(stop) => Err(stop),
+    }
 }
 
 fn write<K: Sink>(sink: &mut K, bytes: &[u8]) -> Result<(), Stop>
@@ -37,19 +54,8 @@ fn write<K: Sink>(sink: &mut K, bytes: &[u8]) -> Result<(), Stop>
         (K.faults sink.new) bytes.now result }
     ensures later { K.faults sink.old ≤ K.faults sink.new }
 {
-    match sink.write_all(bytes) {
-        Ok(()) => Ok(()),
-        Err(_) => Err(Stop::WriteFault),
+    if sink.write_all(bytes).is_err() {
+        return Err(Stop::WriteFault);
     }
-}
-
-fn hand_on<K: Sink>(sink: &mut K) -> Result<(), Stop>
-    ensures bytes { Writes (K.held sink.old) (K.held sink.new) (K.faults sink.old)
-        (K.faults sink.new) [] result }
-    ensures later { K.faults sink.old ≤ K.faults sink.new }
-{
-    match sink.flush() {
-        Ok(()) => Ok(()),
-        Err(_) => Err(Stop::WriteFault),
-    }
+    Ok(())
 }
