@@ -1,6 +1,7 @@
 -- A request that a body means is within its bounds. Plan: (1) what checks find, taken apart; (2) values of attributes; (3) how deep parts
 -- nest; (4) metadata; (5) operations and requests; (6) bodies.
-use Rattle.std.proofs.Common.{◌≡◌, ◌⊎◌, ◌∙◌, ◌++◌, ◌+◌, ◌<◌, ◌≤◌, ◌^◌, ◌&&◌, ℕ, suc, min, Bool, true, false, List, [], ◌∷◌, Option, None, Some, IfSome, Result, Ok, Err, codes, length, map, refl, ap, sym, subst, inl, inr, arith}
+use Rattle.std.proofs.Common.{◌≡◌, ◌⊎◌, ◌∙◌, ◌++◌, ◌+◌, ◌<◌, ◌≤◌, ◌^◌, ◌&&◌, ℕ, suc, min, Bool, true, false, List, [], ◌∷◌, Option, None}
+use Rattle.std.proofs.Common.{Some, IfSome, Result, Ok, Err, codes, length, map, refl, ap, sym, subst, inl, inr, arith}
 use Rattle.std.specs.Prelude.{if◌then◌else◌, nat_le, nat_lt}
 use Rattle.std.specs.List.{AllByRecursion, list_all}
 use Rattle.std.specs.Str.{bytes_eq}
@@ -29,14 +30,21 @@ use Rattle.ifmap_meta.specs.Stamps.{content_of}
 use Rattle.ifmap_forms.specs.Checks.{Check, check_if, check_then, fail, need, need_some, pass}
 use Rattle.ifmap_forms.specs.Items.{from_list, is_list, item_of, list_at, list_check}
 use Rattle.ifmap_forms.specs.Scopes.{Scopes, scopes_below}
-use Rattle.ifmap_forms.specs.Tables.{Both, Form, Part, Table, beside, both, each_element, form_check, form_or, no_attributes, parts_in, parts_of}
-use Rattle.ifmap_forms.specs.Values.{Field, depth_field, field_check, filter_field, kinds_field, name_field, number_of, read_depth, read_name, read_size, size_field}
+use Rattle.ifmap_forms.specs.Tables.{Both, Form, Part, Table, beside, both, each_element, form_check, form_or, no_attributes, parts_in}
+use Rattle.ifmap_forms.specs.Tables.{parts_of}
+use Rattle.ifmap_forms.specs.Values.{Field, depth_field, field_check, filter_field, kinds_field, name_field, number_of, read_depth}
+use Rattle.ifmap_forms.specs.Values.{read_name, read_size, size_field}
 use Rattle.ifmap_requests.specs.declared.publishing.PublishOp.{PublishOp}
 use Rattle.ifmap_requests.specs.declared.requests.Request.{Request}
 use Rattle.ifmap_requests.specs.declared.requests.SubscribeOp.{SubscribeOp}
 use Rattle.ifmap_requests.specs.Means.{Means, scopes_from}
 use Rattle.ifmap_requests.specs.Published.{metadata_check, published_check}
-use Rattle.ifmap_requests.specs.RequestForms.{SearchValues, delete_form, delete_of, end_form, end_of, end_session_form, end_session_of, ifmap_space, named_request_check, new_session_form, new_session_of, notify_form, notify_of, other_request_check, poll_form, poll_of, publish_form, publish_of, publish_op_check, purge_form, purge_of, renew_form, renewal_of, request_check, search_attributes, search_form, search_from, search_of, session_field, subscribe_form, subscribe_of, subscribe_op_check, subscription_form, subscription_of, update_form, update_of}
+use Rattle.ifmap_requests.specs.RequestForms.{SearchValues, delete_form, delete_of, end_form, end_of, end_session_form, end_session_of}
+use Rattle.ifmap_requests.specs.RequestForms.{ifmap_space, named_request_check, new_session_form, new_session_of, notify_form, notify_of}
+use Rattle.ifmap_requests.specs.RequestForms.{other_request_check, poll_form, poll_of, publish_form, publish_of, publish_op_check}
+use Rattle.ifmap_requests.specs.RequestForms.{purge_form, purge_of, renew_form, renewal_of, request_check, search_attributes, search_form}
+use Rattle.ifmap_requests.specs.RequestForms.{search_from, search_of, session_field, subscribe_form, subscribe_of, subscribe_op_check}
+use Rattle.ifmap_requests.specs.RequestForms.{subscription_form, subscription_of, update_form, update_of}
 use Rattle.ifmap_writing.specs.Bounds.{IsBounded, IsBoundedMetadata, IsBoundedName, IsBoundedPublish, IsBoundedSearch, IsBoundedSubscribe}
 
 -- ---- (1) checks taken apart

@@ -1,6 +1,7 @@
 -- What is printed of a fit filter is of characters, and its namespaces are such as a document can have. Plan: (1) induction on predicates;
 -- (2) what is printed of names and literals; (3) of predicates; (4) their namespaces; (5) tests and filters.
-use Rattle.std.proofs.Common.{◌≡◌, ◌∙◌, ◌++◌, ◌+◌, ℕ, Bool, true, false, List, [], ◌∷◌, Option, None, Some, IfSome, codes, map, refl, ap, sym, subst}
+use Rattle.std.proofs.Common.{◌≡◌, ◌∙◌, ◌++◌, ◌+◌, ℕ, Bool, true, false, List, [], ◌∷◌, Option, None, Some, IfSome, codes, map, refl, ap}
+use Rattle.std.proofs.Common.{sym, subst}
 use Rattle.std.specs.Prelude.{if◌then◌else◌}
 use Rattle.std.specs.List.{AllByRecursion, flat_map}
 use Rattle.std.specs.Str.{bytes_eq}
@@ -10,14 +11,18 @@ use Rattle.ifmap_elem.specs.Chars.{IsCharacters, colon, double_quote, single_quo
 use Rattle.ifmap_elem.specs.Fit.{IsFitName, IsNamespace}
 use Rattle.ifmap_elem.specs.Scopes.{xml_space}
 use Rattle.ifmap_elem.specs.declared.elements.Name as element
-use Rattle.ifmap_filter.specs.declared.filters.Predicate.{Predicate, Attr, Child, And, Or, fold-Predicate, fold-roll-Predicate, ind-Predicate, map-Predicate, roll-Predicate}
+use Rattle.ifmap_filter.specs.declared.filters.Predicate.{Predicate, Attr, Child, And, Or, fold-Predicate, fold-roll-Predicate}
+use Rattle.ifmap_filter.specs.declared.filters.Predicate.{ind-Predicate, map-Predicate, roll-Predicate}
 use Rattle.ifmap_filter.specs.declared.filters.Predicate.TheVariants.{rolls-Attr, rolls-Child, rolls-And, rolls-Or}
 use Rattle.ifmap_filter.specs.declared.filters.Predicate.TheOpen.{Predicate-F}
 use Rattle.ifmap_filter.specs.declared.filters.Test.{Test}
 use Rattle.ifmap_filter.specs.declared.filters.Filter.{Filter}
-use Rattle.ifmap_filter.specs.Printing.{PredicateText, attribute_text, brackets_text, child_text, comparison_text, filter_text, group_text, has_single_quote, joined_texts, literal_text, name_text, numbered_prefix, place_of, predicate_text, predicate_text_of, quote_of, test_name_text, test_text}
+use Rattle.ifmap_filter.specs.Printing.{PredicateText, attribute_text, brackets_text, child_text, comparison_text, filter_text, group_text}
+use Rattle.ifmap_filter.specs.Printing.{has_single_quote, joined_texts, literal_text, name_text, numbered_prefix, place_of, predicate_text}
+use Rattle.ifmap_filter.specs.Printing.{predicate_text_of, quote_of, test_name_text, test_text}
 use Rattle.ifmap_filter.specs.Spaces.{brackets_spaces, filter_spaces, name_spaces, predicate_spaces, predicate_spaces_of, test_spaces}
-use Rattle.ifmap_requests.specs.FitFilters.{Comparison, IsFitComparison, IsFitFilter, IsFitPredicate, IsFitTest, comparison, comparisons, comparisons_of}
+use Rattle.ifmap_requests.specs.FitFilters.{Comparison, IsFitComparison, IsFitFilter, IsFitPredicate, IsFitTest, comparison, comparisons}
+use Rattle.ifmap_requests.specs.FitFilters.{comparisons_of}
 use Rattle.ifmap_writing.proofs.CharacterLaws.{characters_both, joined_characters, part_characters, plain_characters}
 use Rattle.ifmap_writing.proofs.ValueLaws.{numeral_characters}
 

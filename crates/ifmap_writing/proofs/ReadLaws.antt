@@ -1,6 +1,7 @@
 -- What is written of a request is read back as that request. Plan: (1) attributes; (2) identifiers as children; (3) what is published;
 -- (4) searches; (5) operations; (6) requests.
-use Rattle.std.proofs.Common.{◌≡◌, ◌∙◌, ◌&&◌, ◌||◌, ◌+◌, ◌≤◌, ℕ, Bool, true, false, not, List, [], ◌∷◌, Option, None, Some, IfSome, Result, Ok, codes, map, refl, ap, sym, subst}
+use Rattle.std.proofs.Common.{◌≡◌, ◌∙◌, ◌&&◌, ◌||◌, ◌+◌, ◌≤◌, ℕ, Bool, true, false, not, List, [], ◌∷◌, Option, None, Some, IfSome, Result}
+use Rattle.std.proofs.Common.{Ok, codes, map, refl, ap, sym, subst}
 use Rattle.std.specs.Prelude.{nat_lt}
 use Rattle.std.specs.List.{AllByRecursion}
 use Rattle.std.specs.declared.cmp.Ordering.{Ordering}
@@ -31,22 +32,32 @@ use Rattle.ifmap_meta.specs.Whole.{IsMadeOf, IsMetadata}
 use Rattle.ifmap_search.specs.declared.searches.Search as search
 use Rattle.ifmap_forms.specs.AnswerLaws.{found_after, found_alone, found_beside, found_form}
 use Rattle.ifmap_forms.specs.Checks.{Check, check_then, need_some, pass}
-use Rattle.ifmap_forms.specs.Items.{before_list, from_list, identifiers_check, item_check, item_of, list_at, list_check, may_follow, start_check}
+use Rattle.ifmap_forms.specs.Items.{before_list, from_list, identifiers_check, item_check, item_of, list_at, list_check, may_follow}
+use Rattle.ifmap_forms.specs.Items.{start_check}
 use Rattle.ifmap_forms.specs.Scopes.{Scopes, scopes_below}
 use Rattle.ifmap_forms.specs.Tables.{Part, both, each_element, list_of, parts_in}
-use Rattle.ifmap_forms.specs.Values.{Field, depth_field, field_check, filter_field, kinds_field, lifetime_field, limit_field, name_field, read_filter, size_field}
+use Rattle.ifmap_forms.specs.Values.{Field, depth_field, field_check, filter_field, kinds_field, lifetime_field, limit_field, name_field}
+use Rattle.ifmap_forms.specs.Values.{read_filter, size_field}
 use Rattle.ifmap_requests.specs.declared.publishing.PublishOp.{PublishOp}
 use Rattle.ifmap_requests.specs.declared.publishing.PublishOp.TheVariants as publish
 use Rattle.ifmap_requests.specs.declared.requests.Request.{Request}
-use Rattle.ifmap_requests.specs.declared.requests.Request.TheVariants.{NewSession, RenewSession, EndSession, Publish, Search, Subscribe, Poll, PurgePublisher}
+use Rattle.ifmap_requests.specs.declared.requests.Request.TheVariants.{NewSession, RenewSession, EndSession, Publish, Search, Subscribe}
+use Rattle.ifmap_requests.specs.declared.requests.Request.TheVariants.{Poll, PurgePublisher}
 use Rattle.ifmap_requests.specs.declared.requests.SubscribeOp.{SubscribeOp}
 use Rattle.ifmap_requests.specs.declared.requests.SubscribeOp.TheVariants as subscribe
 use Rattle.ifmap_requests.specs.Published.{metadata_check, published_check}
-use Rattle.ifmap_requests.specs.RequestForms.{SearchValues, delete_form, delete_of, end_form, end_of, end_session_form, end_session_of, new_session_form, new_session_of, notify_form, notify_of, poll_form, poll_of, publish_form, publish_of, publish_op_check, publisher_field, purge_form, purge_of, renew_form, renewal_of, request_check, search_attributes, search_form, search_of, session_field, subscribe_form, subscribe_of, subscribe_op_check, subscription_form, subscription_of, update_form, update_of}
+use Rattle.ifmap_requests.specs.RequestForms.{SearchValues, delete_form, delete_of, end_form, end_of, end_session_form, end_session_of}
+use Rattle.ifmap_requests.specs.RequestForms.{new_session_form, new_session_of, notify_form, notify_of, poll_form, poll_of, publish_form}
+use Rattle.ifmap_requests.specs.RequestForms.{publish_of, publish_op_check, publisher_field, purge_form, purge_of, renew_form, renewal_of}
+use Rattle.ifmap_requests.specs.RequestForms.{request_check, search_attributes, search_form, search_of, session_field, subscribe_form}
+use Rattle.ifmap_requests.specs.RequestForms.{subscribe_of, subscribe_op_check, subscription_form, subscription_of, update_form, update_of}
 use Rattle.ifmap_requests.specs.Fit.{IsFitLimit, IsFitOp, IsFitRequest, IsFitSubscribeOp}
-use Rattle.ifmap_writing.specs.Attributes.{Row, attributes_of, filter_rows, filter_value, kinds_value, lifetime_rows, lifetime_value, limit_rows, limit_value, name_rows, number_value, purge_rows, search_rows, session_rows, subscription_rows}
+use Rattle.ifmap_writing.specs.Attributes.{Row, attributes_of, filter_rows, filter_value, kinds_value, lifetime_rows, lifetime_value}
+use Rattle.ifmap_writing.specs.Attributes.{limit_rows, limit_value, name_rows, number_value, purge_rows, search_rows, session_rows}
+use Rattle.ifmap_writing.specs.Attributes.{subscription_rows}
 use Rattle.ifmap_writing.specs.Bounds.{IsBounded, IsBoundedSearch, IsBoundedSubscribe}
-use Rattle.ifmap_writing.specs.RequestElements.{as_children, element_in, identifier_children, item_children, list_element, publish_element, published_children, subscribe_element}
+use Rattle.ifmap_writing.specs.RequestElements.{as_children, element_in, identifier_children, item_children, list_element, publish_element}
+use Rattle.ifmap_writing.specs.RequestElements.{published_children, subscribe_element}
 use Rattle.ifmap_writing.proofs.RowLaws.{only_rows, or_none, row_value, value_found}
 use Rattle.ifmap_writing.proofs.SoundLaws.{as_parts, parts_are}
 use Rattle.ifmap_writing.proofs.ValueLaws.{depth_back, kinds_back, lifetime_back, limit_back, name_back, size_back}

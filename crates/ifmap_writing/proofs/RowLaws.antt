@@ -1,6 +1,7 @@
 -- Attributes that are written by rows. Plan: (1) the value of an attribute is that of its row, or of none; (2) there are no others;
 -- (3) where the names of rows rise, their attributes are in order, and no two have one name; (4) they fit.
-use Rattle.std.proofs.Common.{◌≡◌, ◌≢◌, ◌∙◌, ◌++◌, ◌&&◌, ℕ, Bool, true, false, not, cond, List, [], ◌∷◌, Option, None, Some, IfSome, codes, map, inl, inr, refl, ap, sym, subst}
+use Rattle.std.proofs.Common.{◌≡◌, ◌≢◌, ◌∙◌, ◌++◌, ◌&&◌, ℕ, Bool, true, false, not, cond, List, [], ◌∷◌, Option, None, Some, IfSome, codes}
+use Rattle.std.proofs.Common.{map, inl, inr, refl, ap, sym, subst}
 use Rattle.std.specs.Prelude.{if◌then◌else◌, option_map}
 use Rattle.std.specs.Cmp.Lexicographic.{slice_cmp}
 use Rattle.std.specs.List.{AllByRecursion, find, list_all, list_any}

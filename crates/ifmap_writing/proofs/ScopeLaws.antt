@@ -1,8 +1,9 @@
 -- In the scope of each element of what is written, the prefixes `f1`, `f2` and so on stand for the namespaces of the filters.
 -- Plan: (1) rows of which no two have one prefix, turned round, or behind others; (2) the rows that a root declares; (3) the scope.
-use Rattle.std.proofs.Common.{◌≡◌, ◌≢◌, ◌∙◌, ◌++◌, ℕ, ◌+◌, true, false, cond, List, [], ◌∷◌, None, Some, codes, map, reverse, inl, inr, refl, ap, sym, subst, arith}
+use Rattle.std.proofs.Common.{◌≡◌, ◌≢◌, ◌∙◌, ◌++◌, ℕ, ◌+◌, true, false, cond, List, [], ◌∷◌, None, Some, codes, map, reverse, inl, inr}
+use Rattle.std.proofs.Common.{refl, ap, sym, subst, arith}
 use Rattle.std.specs.Prelude.{◌==◌}
-use Rattle.std.specs.List.{AllByRecursion, filter, starts_with}
+use Rattle.std.specs.List.{AllByRecursion, starts_with}
 use Rattle.std.specs.Map.{lookup}
 use Rattle.std.specs.Str.{bytes_eq}
 use Rattle.std.proofs.lemmas.Bool.{cases_Bool, false_from_ne_true}

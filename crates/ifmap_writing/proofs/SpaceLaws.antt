@@ -13,10 +13,12 @@ use Rattle.ifmap_search.specs.declared.searches.Search as the
 use Rattle.ifmap_requests.specs.declared.publishing.PublishOp.{PublishOp}
 use Rattle.ifmap_requests.specs.declared.publishing.PublishOp.TheVariants as publish
 use Rattle.ifmap_requests.specs.declared.requests.Request.{Request}
-use Rattle.ifmap_requests.specs.declared.requests.Request.TheVariants.{NewSession, RenewSession, EndSession, Publish, Search, Subscribe, Poll, PurgePublisher}
+use Rattle.ifmap_requests.specs.declared.requests.Request.TheVariants.{NewSession, RenewSession, EndSession, Publish, Search, Subscribe}
+use Rattle.ifmap_requests.specs.declared.requests.Request.TheVariants.{Poll, PurgePublisher}
 use Rattle.ifmap_requests.specs.declared.requests.SubscribeOp.{SubscribeOp}
 use Rattle.ifmap_requests.specs.declared.requests.SubscribeOp.TheVariants as subscribe
-use Rattle.ifmap_writing.specs.RequestSpaces.{ServeFilter, ServePublish, ServeRequest, ServeSearch, ServeSubscribe, optional_filter, publish_filters, request_filters, request_spaces, search_filters, subscribe_filters}
+use Rattle.ifmap_writing.specs.RequestSpaces.{ServeFilter, ServePublish, ServeRequest, ServeSearch, ServeSubscribe, optional_filter}
+use Rattle.ifmap_writing.specs.RequestSpaces.{publish_filters, request_filters, request_spaces, search_filters, subscribe_filters}
 
 abbrev Texts : Type 0
 Texts = List (List ℕ)

@@ -1,5 +1,6 @@
 -- Values of attributes are read back. Plan: (1) numbers; (2) kinds: the pieces between commas are their names.
-use Rattle.std.proofs.Common.{◌≡◌, ◌≢◌, ◌≤◌, ◌<◌, ◌^◌, ◌+◌, ◌%◌, ◌∙◌, ◌++◌, ℕ, Bool, true, false, not, List, [], ◌∷◌, Option, None, Some, Result, Ok, codes, length, map, min, refl, ap, sym, subst, arith}
+use Rattle.std.proofs.Common.{◌≡◌, ◌≢◌, ◌≤◌, ◌<◌, ◌^◌, ◌%◌, ◌∙◌, ◌++◌, ℕ, Bool, true, false, not, List, [], ◌∷◌, Option, None, Some, Result}
+use Rattle.std.proofs.Common.{Ok, codes, length, map, min, refl, ap, sym, subst, arith}
 use Rattle.std.specs.Prelude.{if◌then◌else◌, nat_le, nat_lt}
 use Rattle.std.specs.List.{flat_map, list_all}
 use Rattle.std.specs.Char.{is_ascii_digit}
@@ -18,7 +19,8 @@ use Rattle.ifmap_ident.specs.declared.kinds.Kind.{Kind}
 use Rattle.ifmap_ident.specs.declared.kinds.Kind.TheVariants.{AccessRequest, Device, Identity, IpAddress, MacAddress}
 use Rattle.ifmap_ident.specs.Kinds.{kind_name}
 use Rattle.ifmap_forms.specs.Checks.{Check, check_if, need_some, pass}
-use Rattle.ifmap_forms.specs.Values.{is_number, kind_of, kinds_check, number_of, piece_check, pieces_of, read_depth, read_kinds, read_lifetime, read_limit, read_name, read_size, trimmed, within}
+use Rattle.ifmap_forms.specs.Values.{is_number, kind_of, kinds_check, number_of, piece_check, pieces_of, read_depth, read_kinds}
+use Rattle.ifmap_forms.specs.Values.{read_lifetime, read_limit, read_name, read_size, trimmed, within}
 use Rattle.ifmap_writing.specs.Attributes.{kinds_value, lifetime_value, limit_value, number_value}
 
 -- ---- (1) numbers

@@ -8,7 +8,8 @@ use Rattle.ifmap_filter.specs.declared.filters.Test.{Test}
 use Rattle.ifmap_filter.specs.declared.filters.Filter.{Filter}
 use Rattle.ifmap_filter.specs.declared.tokens.Token.{Token}
 use Rattle.ifmap_filter.specs.declared.tokens.Token.TheVariants.{CloseBracket, CloseParenthesis}
-use Rattle.ifmap_filter.specs.Grammar.{AreTests, AsksFor, Rule, StandsFor, TakesAnds, TakesComparison, TakesFactor, TakesJoined, TakesMore, TakesOrs, TakesPredicate, TakesTest, and_word, deepest, or_word}
+use Rattle.ifmap_filter.specs.Grammar.{AreTests, AsksFor, Rule, StandsFor, TakesAnds, TakesComparison, TakesFactor, TakesJoined, TakesMore}
+use Rattle.ifmap_filter.specs.Grammar.{TakesOrs, TakesPredicate, TakesTest, and_word, deepest, or_word}
 use Rattle.ifmap_filter.specs.Texts.{Writes}
 
 more_in : {X : Type 0} (word : Token) (Part Other : Rule X) → ((ts : List Token) (x : X) (rest : List Token) → Part ts x rest

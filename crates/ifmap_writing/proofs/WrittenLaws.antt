@@ -1,6 +1,7 @@
 -- What is written of a request that is fit and within its bounds is sound. Plan: (1) names; (2) values; (3) rows; (4) identifiers and
 -- metadata; (5) operations; (6) requests; (7) the envelope, and the namespaces that it declares.
-use Rattle.std.proofs.Common.{◌≡◌, ◌≤◌, ℕ, Bool, true, false, List, [], ◌∷◌, Option, None, Some, IfSome, codes, map, refl, sym, subst, arith}
+use Rattle.std.proofs.Common.{◌≡◌, ◌≤◌, ℕ, Bool, true, false, List, [], ◌∷◌, Option, None, Some, IfSome, codes, map, refl, sym, subst}
+use Rattle.std.proofs.Common.{arith}
 use Rattle.std.specs.List.{AllByRecursion, flat_map}
 use Rattle.ifmap_lemmas.specs.Members.{both_all}
 use Rattle.ifmap_elem.specs.Arranged.{arrange}
@@ -30,16 +31,20 @@ use Rattle.ifmap_search.specs.declared.searches.Search as search
 use Rattle.ifmap_requests.specs.declared.publishing.PublishOp.{PublishOp}
 use Rattle.ifmap_requests.specs.declared.publishing.PublishOp.TheVariants as publish
 use Rattle.ifmap_requests.specs.declared.requests.Request.{Request}
-use Rattle.ifmap_requests.specs.declared.requests.Request.TheVariants.{NewSession, RenewSession, EndSession, Publish, Search, Subscribe, Poll, PurgePublisher}
+use Rattle.ifmap_requests.specs.declared.requests.Request.TheVariants.{NewSession, RenewSession, EndSession, Publish, Search, Subscribe}
+use Rattle.ifmap_requests.specs.declared.requests.Request.TheVariants.{Poll, PurgePublisher}
 use Rattle.ifmap_requests.specs.declared.requests.SubscribeOp.{SubscribeOp}
 use Rattle.ifmap_requests.specs.declared.requests.SubscribeOp.TheVariants as subscribe
 use Rattle.ifmap_requests.specs.RequestForms.{ifmap_space}
 use Rattle.ifmap_requests.specs.Fit.{IsFitOp, IsFitRequest, IsFitSearch, IsFitSubscribeOp, MayBeFitFilter}
 use Rattle.ifmap_requests.specs.FitFilters.{IsFitFilter}
-use Rattle.ifmap_writing.specs.Attributes.{Row, filter_rows, filter_value, kinds_value, lifetime_rows, lifetime_value, limit_rows, limit_value, name_rows, purge_rows, search_rows, session_rows, subscription_rows}
+use Rattle.ifmap_writing.specs.Attributes.{Row, filter_rows, filter_value, kinds_value, lifetime_rows, lifetime_value, limit_rows}
+use Rattle.ifmap_writing.specs.Attributes.{limit_value, name_rows, purge_rows, search_rows, session_rows, subscription_rows}
 use Rattle.ifmap_writing.specs.Bounds.{IsBounded, IsBoundedMetadata, IsBoundedPublish}
-use Rattle.ifmap_writing.specs.RequestElements.{around, as_children, asking_element, element_in, in_envelope, list_element, part_element, publish_element, published_children, request_element, subscribe_element}
-use Rattle.ifmap_writing.specs.RequestSpaces.{optional_filter, publish_filters, request_filters, request_spaces, search_filters, subscribe_filters}
+use Rattle.ifmap_writing.specs.RequestElements.{around, as_children, asking_element, element_in, in_envelope, list_element, part_element}
+use Rattle.ifmap_writing.specs.RequestElements.{publish_element, published_children, request_element, subscribe_element}
+use Rattle.ifmap_writing.specs.RequestSpaces.{optional_filter, publish_filters, request_filters, request_spaces, search_filters}
+use Rattle.ifmap_writing.specs.RequestSpaces.{subscribe_filters}
 use Rattle.ifmap_writing.proofs.CharacterLaws.{joined_characters, plain_characters}
 use Rattle.ifmap_writing.proofs.FilterLaws.{filter_characters, filter_namespaces}
 use Rattle.ifmap_writing.proofs.RowLaws.{is_plain_local, no_namespace, plain_fits, told_apart}

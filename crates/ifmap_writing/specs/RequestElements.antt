@@ -15,11 +15,13 @@ use Rattle.ifmap_meta.specs.declared.metadata.Metadata.{Metadata}
 use Rattle.ifmap_requests.specs.declared.publishing.PublishOp.{PublishOp}
 use Rattle.ifmap_requests.specs.declared.publishing.PublishOp.TheVariants as publish
 use Rattle.ifmap_requests.specs.declared.requests.Request.{Request}
-use Rattle.ifmap_requests.specs.declared.requests.Request.TheVariants.{NewSession, RenewSession, EndSession, Publish, Search, Subscribe, Poll, PurgePublisher}
+use Rattle.ifmap_requests.specs.declared.requests.Request.TheVariants.{NewSession, RenewSession, EndSession, Publish, Search, Subscribe}
+use Rattle.ifmap_requests.specs.declared.requests.Request.TheVariants.{Poll, PurgePublisher}
 use Rattle.ifmap_requests.specs.declared.requests.SubscribeOp.{SubscribeOp}
 use Rattle.ifmap_requests.specs.declared.requests.SubscribeOp.TheVariants as subscribe
 use Rattle.ifmap_requests.specs.RequestForms.{ifmap_space}
-use Rattle.ifmap_writing.specs.Attributes.{Row, attributes_of, filter_rows, lifetime_rows, limit_rows, name_rows, purge_rows, search_rows, session_rows, subscription_rows}
+use Rattle.ifmap_writing.specs.Attributes.{Row, attributes_of, filter_rows, lifetime_rows, limit_rows, name_rows, purge_rows, search_rows}
+use Rattle.ifmap_writing.specs.Attributes.{session_rows, subscription_rows}
 use Rattle.ifmap_writing.specs.RequestSpaces.{request_spaces}
 
 -- elements as children
