@@ -72,7 +72,7 @@ module _ (caller : Caller) (before after : Ports) where
     pub exchanged : Exchanged (deeds ++ deed ∷ [])
 
   -- the same, and a request was posted, but no reply came
-  pub record Asked (IsCut : Cutting) (Has : List ℕ → Type 0) (known : Known) (deeds : List Deed) (sent : Request) : Type 0 where
+  pub record Posted (IsCut : Cutting) (Has : List ℕ → Type 0) (known : Known) (deeds : List Deed) (sent : Request) : Type 0 where
     pub front : List ℕ
     pub cut : IsCut (request_post caller sent) front
     pub wrote : Appends before.held after.held (written known deeds)
@@ -124,7 +124,7 @@ module _ (caller : Caller) (before after : Ends) where
     pub takes : Takes before after deeds rest offset
     pub next : AsksNext offset (known_after deeds) rest sent
     pub line_is : line ≡ length deeds + 1
-    pub asked : Asked caller before.ports after.ports IsCut Has unknowing deeds sent
+    pub posted : Posted caller before.ports after.ports IsCut Has unknowing deeds sent
 
   -- a request or its answer was cut
   abbrev pub IsUnasked : Type 0

@@ -1,5 +1,5 @@
 -- One turn of a script: a line is taken and carried out, or the script ends. No public clause cites this file.
-use Rattle.std.specs.Prelude.{◌≡◌, ◌⊎◌, ℕ, ◌+◌, List, [], ◌∷◌, ◌++◌, Bool, true, false, length, Option, Some, None, Result, Ok, Err}
+use Rattle.std.specs.Prelude.{◌≡◌, ◌⊎◌, ℕ, ◌+◌, List, [], ◌∷◌, ◌++◌, Bool, true, false, drop, length, take, Option, Some, None, Result, Ok, Err}
 use Rattle.std.specs.Io.KnownBytes.{Consumes}
 use Rattle.ifmap_client.specs.Lines.{IsLine}
 use Rattle.ifmap_client.specs.declared.lines.Line.{Line}
@@ -9,14 +9,15 @@ use Rattle.ifmap_client_script.specs.declared.exchanges.Caller.{Caller}
 use Rattle.ifmap_client_script.specs.declared.exchanges.Told.{Told}
 use Rattle.ifmap_client_script.specs.declared.outcomes.Stop.{Stop}
 use Rattle.ifmap_client_script.specs.declared.outcomes.Stop.TheVariants as stop
+use Rattle.ifmap_client_script.specs.declared.scripts.Next.{Next}
 use Rattle.ifmap_client_script.specs.declared.scripts.Turn.{Turn}
 use Rattle.ifmap_client_script.specs.declared.scripts.Turn.TheVariants as turn
 use Rattle.ifmap_client_script.specs.Deeds.{CanDo, Deed, Does, Known, after_deed, is_poll, request_in, unknowing}
 use Rattle.ifmap_client_script.specs.Ends.{Ends, LinkFailed, Ports, ReadFailed, WriteFailed}
 use Rattle.ifmap_client_script.specs.Exchanges.{Asks, HasAny, HasNoReply, HasPart, IsFront, Wiring}
-use Rattle.ifmap_client_script.specs.Pending.{Fetches, Pending, nothing_taken}
-use Rattle.ifmap_client_script.specs.Promises.{Asked, Cutting, Did, IsWhole, Wrote}
-use Rattle.ifmap_client_script.specs.Scripts.{AwaitsLine, BeginsLine, IsBadLine}
+use Rattle.ifmap_client_script.specs.Pending.{Fetches, IsLineEnd, Pending, nothing_taken}
+use Rattle.ifmap_client_script.specs.Promises.{Cutting, Did, IsWhole, Posted, Wrote}
+use Rattle.ifmap_client_script.specs.Scripts.{AwaitsLine, BeginsLine, IsBadLine, IsWithin}
 
 -- ---- a line
 
@@ -40,7 +41,7 @@ module _ (caller : Caller) (line : Line) (before after : Ports) (old : Known) wh
     pub sent : Request
     pub line_is : line ≡ the_line.Request request
     pub named : request_in old.session request ≡ Some sent
-    pub asked : Asked caller before after IsCut Has old [] sent
+    pub posted : Posted caller before after IsCut Has old [] sent
 
 -- over which wire a request went, while the other stayed as it was: a poll over the second
 abbrev pub AsksBy : Bool → Caller → Request → (first_old first_new second_old second_new : Wiring) → Result Told Stop → Type 0
@@ -81,6 +82,40 @@ pub record Scripting : Type 0 where
 
 abbrev pub beginning : Scripting
 beginning = record { known = unknowing; pending = nothing_taken; offset = 0; line = 1 }
+
+-- the first line of these bytes, of which the first stands at an offset
+pub record IsNext (offset : ℕ) (bytes : List ℕ) (next : Next) : Type 0 where
+  pub end : IsLineEnd bytes next.place
+  pub within : IsWithin offset next.place
+  pub means : IsLine (take next.place bytes) next.line
+
+-- what reading the next line gives
+abbrev pub ReadsNext : (left_old left_new : Option (List ℕ)) (offset : ℕ) (old new : Pending) → Result (Option Next) Stop → Type 0
+ReadsNext left_old left_new offset old new (Ok (Some next)) = Fetches left_old left_new old new × IsNext offset new.bytes next
+ReadsNext left_old left_new offset old new (Ok None) =
+    Fetches left_old left_new old new × (new ≡ record { bytes = []; ended = true })
+ReadsNext left_old left_new offset old new (Err stop.BadLine) =
+    Fetches left_old left_new old new × ((known : Known) → IsBadLine offset known new.bytes)
+ReadsNext left_old left_new offset old new (Err stop.ReadFault) = Fetches left_old left_new old new × AwaitsLine offset new.bytes
+ReadsNext left_old left_new offset old new (Err stop.NoMemory) = (got : List ℕ) × Consumes left_old left_new got
+ReadsNext left_old left_new offset old new (Err stop.WriteFault) = ⊥
+ReadsNext left_old left_new offset old new (Err stop.LinkFault) = ⊥
+ReadsNext left_old left_new offset old new (Err stop.LinkEnded) = ⊥
+ReadsNext left_old left_new offset old new (Err stop.BadReply) = ⊥
+
+-- the script goes on after the line
+pub record GoesOn (next : Next) (old new : Scripting) : Type 0 where
+  pub pending : new.pending ≡ record { bytes = drop (next.place + 1) old.pending.bytes; ended = old.pending.ended }
+  pub offset : new.offset ≡ old.offset + next.place + 1
+  pub line : new.line ≡ old.line + 1
+
+-- what was done for the next line
+abbrev pub DoesNext : Caller → Next → (before after : Ports) → (old new : Scripting) → Result Turn Stop → Type 0
+DoesNext caller next before after old new (Ok turn.Carried) =
+    Carried caller next.line before after old.known new.known × GoesOn next old new
+DoesNext caller next before after old new (Ok turn.Ended) = ⊥
+DoesNext caller next before after old new (Err e) =
+    CarriesOut caller next.line before after old.known new.known (Err e) × (new.line ≡ old.line)
 
 module _ (before after : Ends) (old : Scripting) where
   -- a line was taken
@@ -139,7 +174,7 @@ module _ (caller : Caller) (before after : Ends) (old : Scripting) where
     pub consumed : Consumes before.left after.left got
     pub kept : after.ports ≡ before.ports
 
--- what a turn did; where the script ends, the number stays that of the line
+-- what a turn did
 abbrev pub Turns : Caller → (before after : Ends) → (old new : Scripting) → Result Turn Stop → Type 0
 Turns caller before after old new (Ok turn.Carried) = TurnsOn caller before after old new
 Turns caller before after old new (Ok turn.Ended) = IsOver caller before after old

@@ -6,7 +6,7 @@ ghost use Rattle.ifmap_client.specs.Keeping.{sets_of};
 ghost use Rattle.ifmap_client_script.specs.Deeds.{after_reply, unknowing};
 ghost use Rattle.ifmap_client_script.specs.Ends.{ArePortsLater, IsLaterWire, ports};
 ghost use Rattle.ifmap_client_script.specs.Exchanges.{wiring};
-ghost use Rattle.ifmap_client_script.specs.Printing.{set_text};
+ghost use Rattle.ifmap_client_script.specs.Printing.{body_text, set_text};
 ghost use Rattle.ifmap_client_script.specs.Stops.{Sends};
 ghost use Rattle.ifmap_client_script.specs.Turns.{AsksOver, CarriesOut};
 
@@ -117,9 +117,23 @@ impl Client {
             (wiring A.left A.held A.Source.faults A.Sink.faults first.new)
             (wiring B.left B.held B.Source.faults B.Sink.faults second.new)) }
     {
-        let told = self.ask(alloc, caller, request, first, second)?;
+        match self.ask(alloc, caller, request, first, second) {
+            Ok(told) => self.tell(alloc, told, sink),
+            Err(stop) => Err(stop),
+        }
+    }
+
+    // Takes what was answered, and writes it.
+    fn tell<K: Sink>(&mut self, alloc: Global, told: Told, sink: &mut K) -> Result<(), Stop>
+        ensures sends { Sends (K.held sink.old) (K.held sink.new) (K.faults sink.old)
+            (K.faults sink.new) (body_text told.body) result }
+        ensures known { OnOk result (self.new ≡ after_reply told.reply self.old) }
+        ensures later { K.faults sink.old ≤ K.faults sink.new }
+    {
         let Told { body, reply } = told;
-        self.take(alloc, reply)?;
+        if self.take(alloc, reply).is_err() {
+            return Err(Stop::NoMemory);
+        }
         send_body(alloc, sink, &body)
     }
 
@@ -129,7 +143,9 @@ impl Client {
             (K.faults sink.new) (set_text (self.now.sets name.now)) result }
         ensures later { K.faults sink.old ≤ K.faults sink.new }
     {
-        let text = set_text(alloc, self.sets.set_of(name))?;
+        let Ok(text) = set_text(alloc, self.sets.set_of(name)) else {
+            return Err(Stop::NoMemory);
+        };
         send(sink, &text)
     }
 
@@ -157,11 +173,10 @@ impl Client {
             (wiring B.left B.held B.Source.faults B.Sink.faults second.old)
             (wiring B.left B.held B.Source.faults B.Sink.faults second.new) }
     {
-        let request = request_in(alloc, &self.session, request)?;
-        if is_poll(&request) {
-            ask(alloc, caller, &request, second)
-        } else {
-            ask(alloc, caller, &request, first)
+        match request_in(alloc, &self.session, request) {
+            Ok(sent) if is_poll(&sent) => ask(alloc, caller, &sent, second),
+            Ok(sent) => ask(alloc, caller, &sent, first),
+            Err(stop) => Err(stop),
         }
     }
 
@@ -176,7 +191,13 @@ impl Client {
                 Ok(())
             }
             Reply::Polled(items) => take_items(alloc, &mut self.sets, items.as_slice()),
-            _ => Ok(()),
+            Reply::Renewed => Ok(()),
+            Reply::Ended => Ok(()),
+            Reply::Published => Ok(()),
+            Reply::Subscribed => Ok(()),
+            Reply::Purged => Ok(()),
+            Reply::Found(_) => Ok(()),
+            Reply::Error { .. } => Ok(()),
         }
     }
 }

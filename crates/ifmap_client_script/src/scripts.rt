@@ -1,16 +1,18 @@
 //! Scripts of a client, line by line.
-ghost use Rattle.std.specs.Prelude.{◌≡◌, ◌≤◌, IfOk, IsFalse, IsTrue};
+ghost use Rattle.std.specs.Prelude.{◌≡◌, ◌≤◌, ◌+◌, Err, IfOk, OnErr, IsFalse, IsTrue};
 ghost use Rattle.ifmap_heads.specs.Messages.{is_visible};
-ghost use Rattle.ifmap_client_script.specs.Ends.{IsLater, ends, ports};
+ghost use Rattle.ifmap_io.specs.Causes.{Rose};
+ghost use Rattle.ifmap_client_script.specs.Scripts.{longest_script};
+ghost use Rattle.ifmap_client_script.specs.Ends.{ArePortsLater, IsLater, ends, ports};
 ghost use Rattle.ifmap_client_script.specs.Exchanges.{wiring};
 ghost use Rattle.ifmap_client_script.specs.Promises.{Promises};
-ghost use Rattle.ifmap_client_script.specs.Turns.{Turns, beginning};
+ghost use Rattle.ifmap_client_script.specs.Turns.{DoesNext, IsNext, ReadsNext, Turns, beginning};
 
 use crate::clients::Client;
 use crate::exchanges::Caller;
 use crate::inputs::Input;
 use crate::outcomes::{Outcome, Stop, outcome_of};
-use ifmap_client::line_of;
+use ifmap_client::{Line, line_of};
 use ifmap_elem::{Copied, Text};
 use ifmap_http::Wire;
 use ifmap_io::{Link, Sink, Source};
@@ -148,7 +150,7 @@ impl Script {
         }
     }
 
-    /// Carries the next line out.
+    /// Carries the next line out. Where the script ends, the number stays that of the line.
     pub fn turn<S: Source, K: Sink, A: Link, B: Link>(
         &mut self,
         alloc: Global,
@@ -161,6 +163,7 @@ impl Script {
         requires visible { IsTrue (is_visible caller.now.host) }
         requires first { IsFalse first.old.spent }
         requires second { IsFalse second.old.spent }
+        ensures line { OnErr result (self.new.line ≡ self.old.line) }
         ensures turns { Turns caller.now
             (ends (S.left source.old) (S.faults source.old) (ports (K.held sink.old) (K.faults sink.old)
             (wiring A.left A.held A.Source.faults A.Sink.faults first.old)
@@ -176,17 +179,85 @@ impl Script {
             (wiring A.left A.held A.Source.faults A.Sink.faults first.new)
             (wiring B.left B.held B.Source.faults B.Sink.faults second.new))) }
     {
-        let Some(place) = self.input.await_line(source, self.offset)? else {
-            return Ok(Turn::Ended);
-        };
-        let Some(line) = line_of(alloc, &self.input.pending()[..place])? else {
-            return Err(Stop::BadLine);
-        };
-        self.client
-            .do_line(alloc, caller, line, sink, first, second)?;
-        self.input.advance(place + 1);
-        self.offset += place as u64 + 1;
-        self.line += 1;
-        Ok(Turn::Carried)
+        match next_line(alloc, &mut self.input, source, self.offset) {
+            Ok(Some(next)) => self.do_next(alloc, caller, next, sink, first, second),
+            Ok(None) => Ok(Turn::Ended),
+            Err(stop) => Err(stop),
+        }
+    }
+
+    // Carries out the line at the front of what is pending.
+    fn do_next<K: Sink, A: Link, B: Link>(
+        &mut self,
+        alloc: Global,
+        caller: &Caller,
+        next: Next,
+        sink: &mut K,
+        first: &mut Wire<A>,
+        second: &mut Wire<B>,
+    ) -> Result<Turn, Stop>
+        requires visible { IsTrue (is_visible caller.now.host) }
+        requires first { IsFalse first.old.spent }
+        requires second { IsFalse second.old.spent }
+        requires line { IsNext self.old.offset self.old.pending.bytes next }
+        ensures does { DoesNext caller.now next
+            (ports (K.held sink.old) (K.faults sink.old)
+            (wiring A.left A.held A.Source.faults A.Sink.faults first.old)
+            (wiring B.left B.held B.Source.faults B.Sink.faults second.old))
+            (ports (K.held sink.new) (K.faults sink.new)
+            (wiring A.left A.held A.Source.faults A.Sink.faults first.new)
+            (wiring B.left B.held B.Source.faults B.Sink.faults second.new)) self.old self.new result }
+        ensures later { ArePortsLater
+            (ports (K.held sink.old) (K.faults sink.old)
+            (wiring A.left A.held A.Source.faults A.Sink.faults first.old)
+            (wiring B.left B.held B.Source.faults B.Sink.faults second.old))
+            (ports (K.held sink.new) (K.faults sink.new)
+            (wiring A.left A.held A.Source.faults A.Sink.faults first.new)
+            (wiring B.left B.held B.Source.faults B.Sink.faults second.new)) }
+    {
+        let Next { place, line } = next;
+        match self
+            .client
+            .do_line(alloc, caller, line, sink, first, second)
+        {
+            Ok(()) => {
+                self.input.advance(place + 1);
+                self.offset += place as u64 + 1;
+                self.line += 1;
+                Ok(Turn::Carried)
+            }
+            Err(stop) => Err(stop),
+        }
+    }
+}
+
+// A line at the front of what is pending: where its newline stands, and what it means.
+#[derive(Drop)]
+pub(crate) struct Next {
+    pub(crate) place: usize,
+    pub(crate) line: Line,
+}
+
+// Waits for the next line, which begins at that offset, and reads it; `None` at the end of the source.
+fn next_line<S: Source>(
+    alloc: Global,
+    input: &mut Input,
+    source: &mut S,
+    offset: u64,
+) -> Result<Option<Next>, Stop>
+    requires { offset ≤ longest_script + 1 }
+    ensures reads { ReadsNext (S.left source.old) (S.left source.new) offset input.old input.new
+        result }
+    ensures fault { result ≡ Err Stop.ReadFault → Rose (S.faults source.old) (S.faults source.new) }
+    ensures later { S.faults source.old ≤ S.faults source.new }
+{
+    match input.await_line(source, offset) {
+        Ok(Some(place)) => match line_of(alloc, &input.pending()[..place]) {
+            Ok(Some(line)) => Ok(Some(Next { place, line })),
+            Ok(None) => Err(Stop::BadLine),
+            Err(_) => Err(Stop::NoMemory),
+        },
+        Ok(None) => Ok(None),
+        Err(stop) => Err(stop),
     }
 }

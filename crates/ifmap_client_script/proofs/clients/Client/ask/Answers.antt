@@ -1,0 +1,4 @@
+use Rattle.ifmap_client_script.proofs.clients.Client.ask.Goals as goal
+
+pub none : goal.none
+none = ?
