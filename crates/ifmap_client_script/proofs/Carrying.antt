@@ -18,6 +18,7 @@ use Rattle.ifmap_client_script.specs.Exchanges.{AnswersTo, Asks, Breaks, Exchang
 use Rattle.ifmap_client_script.specs.Printing.{body_text, set_text}
 use Rattle.ifmap_client_script.specs.Promises.{Broken, Cutting, Exchanged, IsWhole, Posted}
 use Rattle.ifmap_client_script.specs.Stops.{IsNamed, Sends}
+use Rattle.ifmap_client_script.proofs.Pieces.{keeps_appends}
 use Rattle.ifmap_client_script.specs.Turns.{AsksBy, AsksOver, CarriesOut, Cut, Unanswered}
 
 -- a wire that is as it was, was asked nothing
@@ -33,11 +34,6 @@ exchanges_none caller before after unspent same =
     at : (left : Option (List ℕ)) → IfSome left (λ l. (rest : List ℕ) × (left ≡ Some rest) × AnswersTo [] l rest)
     at None = tt
     at (Some l) = (l, refl, refl)
-
-keeps_appends : (old new : Option (List ℕ)) → Keeps old new → Appends old new []
-keeps_appends None new k = tt
-keeps_appends (Some xs) None k = absurd k
-keeps_appends (Some xs) (Some ys) k = k ∙ sym (append-nil xs)
 
 -- a name that was not given
 pub named_exit : {X : Type 0} (o : Option X) (e : Stop) → IsNamed o (Err e)

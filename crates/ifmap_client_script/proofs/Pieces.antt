@@ -1,8 +1,8 @@
 -- What is written piece by piece, and counts of faults.
-use Rattle.std.proofs.Common.{◌≡◌, ℕ, ◌+◌, ◌≤◌, List, ◌++◌, length, take, None, Some, sym, ap, subst, ◌∙◌, min, arith}
+use Rattle.std.proofs.Common.{◌≡◌, ℕ, ◌+◌, ◌≤◌, List, [], ◌++◌, length, take, append-nil, None, Some, sym, ap, subst, ◌∙◌, min, arith}
 use Rattle.std.specs.Prelude.{Option, Result, Ok, Err}
 use Rattle.std.proofs.KnownBytes.{Appends-trans}
-use Rattle.std.proofs.Math.Seq.{take-append-add, take-length}
+use Rattle.std.proofs.Math.Seq.{take-append-add}
 use Rattle.std.proofs.lemmas.List.{take-append-le, take_min}
 use Rattle.std.specs.Io.KnownBytes.{Appends, Keeps}
 use Rattle.ifmap_io.specs.Causes.{Rose}
@@ -16,16 +16,13 @@ rose_since before mid now later rose = omega arith
 pub rose_till : (before mid now : ℕ) → Rose before mid → mid ≤ now → Rose before now
 rose_till before mid now rose later = omega arith
 
-pub appends_kept : (old mid new : Option (List ℕ)) (bytes : List ℕ) → Appends old mid bytes → Keeps mid new → Appends old new bytes
-appends_kept None mid new bytes a k = tt
-appends_kept (Some xs) None new bytes a k = absurd a
-appends_kept (Some xs) (Some ys) None bytes a k = absurd k
-appends_kept (Some xs) (Some ys) (Some zs) bytes a k = k ∙ a
+pub keeps_appends : (old new : Option (List ℕ)) → Keeps old new → Appends old new []
+keeps_appends None new k = tt
+keeps_appends (Some xs) None k = absurd k
+keeps_appends (Some xs) (Some ys) k = k ∙ sym (append-nil xs)
 
-pub sent_and_kept : (old mid new : Option (List ℕ)) (bytes : List ℕ) → Appends old mid bytes → Keeps mid new
-    → (n : ℕ) × Appends old new (take n bytes)
-sent_and_kept old mid new bytes a k =
-    (length bytes, subst (Appends old new) (sym (take-length bytes)) (appends_kept old mid new bytes a k))
+pub keeps_front : (old new : Option (List ℕ)) → Keeps old new → (n : ℕ) × Appends old new (take n [])
+keeps_front old new k = (0, keeps_appends old new k)
 
 -- a front of the first of two texts
 front_of : (a b : List ℕ) (n : ℕ) → take (min n (length a)) (a ++ b) ≡ take n a
@@ -72,3 +69,10 @@ sends old new before after text (Err stop.LinkFault) w = absurd w
 sends old new before after text (Err stop.LinkEnded) w = absurd w
 sends old new before after text (Err stop.BadReply) w = absurd w
 sends old new before after text (Err stop.NoMemory) w = absurd w
+
+-- what is written is handed on
+pub handed_on : (old mid new : Option (List ℕ)) (before between after : ℕ) (text : List ℕ) (r : Result (Unit {0}) Stop)
+    → Appends old mid text → before ≤ between → Writes mid new between after [] r → Writes old new before after text r
+handed_on old mid new before between after text r first later second =
+    subst (λ (t : List ℕ). Writes old new before after t r) (append-nil text)
+    (then_second old mid new before between after text [] r first later second)

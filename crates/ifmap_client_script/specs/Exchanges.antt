@@ -166,3 +166,13 @@ Reads body (Err stop.ReadFault) = ⊥
 Reads body (Err stop.WriteFault) = ⊥
 Reads body (Err stop.LinkFault) = ⊥
 Reads body (Err stop.LinkEnded) = ⊥
+
+-- a body with the reply that it means
+abbrev pub Tells : List ℕ → Result Told Stop → Type 0
+Tells body (Ok told) = (told.body ≡ body) × Means told.body told.reply
+Tells body (Err e) = Reads body (Err e)
+
+-- an answer was taken
+abbrev pub Hears : Wiring → Wiring → Result Told Stop → Type 0
+Hears before after (Ok told) = Receives before after (Ok told.body) × Means told.body told.reply
+Hears before after (Err e) = Receives before after (Err e)

@@ -2,7 +2,7 @@
 ghost use Rattle.std.specs.Prelude.{IsFalse, IsTrue};
 ghost use Rattle.ifmap_heads.specs.Messages.{is_visible};
 ghost use Rattle.ifmap_client_script.specs.Ends.{IsLaterWire};
-ghost use Rattle.ifmap_client_script.specs.Exchanges.{Asks, Posts, Reads, Receives, Unread, Unwritten, request_post, wiring};
+ghost use Rattle.ifmap_client_script.specs.Exchanges.{Asks, Hears, Posts, Reads, Receives, Tells, Unread, Unwritten, request_post, wiring};
 
 use crate::outcomes::Stop;
 use ifmap_elem::{Many, Text};
@@ -44,10 +44,36 @@ pub fn ask<L: Link>(
         (wiring L.left L.held L.Source.faults L.Sink.faults wire.old)
         (wiring L.left L.held L.Source.faults L.Sink.faults wire.new) }
 {
-    post(alloc, caller, request, wire)?;
-    let body = read_body(alloc, wire)?;
-    let reply = reply_in(alloc, &body)?;
-    Ok(Told { body, reply })
+    match post(alloc, caller, request, wire) {
+        Ok(()) => receive(alloc, wire),
+        Err(stop) => Err(stop),
+    }
+}
+
+// Takes an answer.
+fn receive<L: Link>(alloc: Global, wire: &mut Wire<L>) -> Result<Told, Stop>
+    requires { IsFalse wire.old.spent }
+    ensures hears { Hears
+        (wiring L.left L.held L.Source.faults L.Sink.faults wire.old)
+        (wiring L.left L.held L.Source.faults L.Sink.faults wire.new) result }
+    ensures unwritten { Unwritten
+        (wiring L.left L.held L.Source.faults L.Sink.faults wire.old)
+        (wiring L.left L.held L.Source.faults L.Sink.faults wire.new) }
+{
+    match read_body(alloc, wire) {
+        Ok(body) => told_by(alloc, body),
+        Err(stop) => Err(stop),
+    }
+}
+
+// A body with the reply that it means.
+fn told_by(alloc: Global, body: Many<u8>) -> Result<Told, Stop>
+    ensures { Tells body result }
+{
+    match reply_in(alloc, &body) {
+        Ok(reply) => Ok(Told { body, reply }),
+        Err(stop) => Err(stop),
+    }
 }
 
 // Sends a request.

@@ -1,5 +1,5 @@
 //! Writing to a sink.
-ghost use Rattle.std.specs.Prelude.{◌≤◌, ◌++◌};
+ghost use Rattle.std.specs.Prelude.{◌≤◌, ◌++◌, []};
 ghost use Rattle.ifmap_client_script.specs.Stops.{Sends, Writes};
 ghost use Rattle.ifmap_client_script.specs.Printing.{body_text};
 
@@ -9,19 +9,15 @@ use ifmap_io::Sink;
 use std::alloc::Global;
 
 /// Writes bytes, and hands them on.
-#[tactic(auto, using(crate::proofs::Pieces::sent_and_kept, crate::proofs::Pieces::appends_kept, crate::proofs::Pieces::rose_since))]
 pub fn send<K: Sink>(sink: &mut K, bytes: &[u8]) -> Result<(), Stop>
     ensures bytes { Writes (K.held sink.old) (K.held sink.new) (K.faults sink.old)
         (K.faults sink.new) bytes.now result }
     ensures later { K.faults sink.old ≤ K.faults sink.new }
 {
-    if sink.write_all(bytes).is_err() {
-        return Err(Stop::WriteFault);
+    match write(sink, bytes) {
+        Ok(()) => hand_on(sink),
+        Err(stop) => Err(stop),
     }
-    if sink.flush().is_err() {
-        return Err(Stop::WriteFault);
-    }
-    Ok(())
 }
 
 /// Writes `=`, the length of a body, a newline and the body, and hands them on.
@@ -55,6 +51,18 @@ fn write<K: Sink>(sink: &mut K, bytes: &[u8]) -> Result<(), Stop>
     ensures later { K.faults sink.old ≤ K.faults sink.new }
 {
     if sink.write_all(bytes).is_err() {
+        return Err(Stop::WriteFault);
+    }
+    Ok(())
+}
+
+#[tactic(auto, using(crate::proofs::Pieces::keeps_appends, crate::proofs::Pieces::keeps_front))]
+fn hand_on<K: Sink>(sink: &mut K) -> Result<(), Stop>
+    ensures bytes { Writes (K.held sink.old) (K.held sink.new) (K.faults sink.old)
+        (K.faults sink.new) [] result }
+    ensures later { K.faults sink.old ≤ K.faults sink.new }
+{
+    if sink.flush().is_err() {
         return Err(Stop::WriteFault);
     }
     Ok(())
