@@ -46,7 +46,7 @@ any_left (Some l) = (l, refl, tt)
 -- ---- what was left is what it was before the post
 
 module _ (caller : Caller) (request : Request) (before mid after : Wiring) (unread : Unread before mid) (unwritten : Unwritten mid after) where
-  post : List ℕ
+  abbrev post : List ℕ
   post = request_post caller request
 
   held_after : (text : List ℕ) → Appends before.held mid.held text → Appends before.held after.held text

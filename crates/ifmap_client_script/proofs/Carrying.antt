@@ -68,10 +68,10 @@ module _ (caller : Caller) (sent : Request) (f f_new s s_new : Wiring) (f_open :
   told_means told false w = w.1.1
 
   module _ (held held_new : Option (List ℕ)) (faults faults_new : ℕ) where
-    before : Ports
+    abbrev before : Ports
     before = ports held faults f s
 
-    after : Ports
+    abbrev after : Ports
     after = ports held_new faults_new f_new s_new
 
     exchanged : (told : Told) → AsksBy (is_poll sent) caller sent f f_new s s_new (Ok told)
