@@ -164,18 +164,33 @@ module _ (caller : Caller) (sent : Request) (f f_new s s_new : Wiring) (f_open :
 
 -- ---- from what was asked over either wire
 
+-- the wire by the request
+pub by_second : (b : Bool) (caller : Caller) (sent : Request) (f s s_new : Wiring) (r : Result Told Stop) → b ≡ true
+    → Asks caller sent s s_new r → AsksBy b caller sent f f s s_new r
+by_second b caller sent f s s_new r poll asks =
+    subst (λ (b : Bool). AsksBy b caller sent f f s s_new r) (sym poll) (refl, asks)
+
+pub by_first : (b : Bool) (caller : Caller) (sent : Request) (f f_new s : Wiring) (r : Result Told Stop) → b ≡ false
+    → Asks caller sent f f_new r → AsksBy b caller sent f f_new s s r
+by_first b caller sent f f_new s r other asks =
+    subst (λ (b : Bool). AsksBy b caller sent f f_new s s r) (sym other) (refl, asks)
+
+-- no request was sent
+pub over_none : (caller : Caller) (request : Request) (known : Known) (f s : Wiring) (e : Stop)
+    → IsNamed (request_in known.session request) (Err e) → AsksOver caller request known f f s s (Err e)
+over_none caller request known f s e n = at (named_exit (request_in known.session request) e n)
+  where
+    at : (e ≡ stop.NoMemory) ⊎ ((request_in known.session request ≡ None) × (e ≡ stop.BadLine))
+        → AsksOver caller request known f f s s (Err e)
+    at (inl q) = inr (refl, refl, inl (ap Err q))
+    at (inr q) = inr (refl, refl, inr (q.0, ap Err q.1))
+
 module _ (caller : Caller) (request : Request) (known : Known) (f f_new s s_new : Wiring) (f_open : f.spent ≡ false)
     (s_open : s.spent ≡ false) where
-  -- the request was sent as it is named, over its wire
-  pub sent_second : (sent : Request) (r : Result Told Stop) → request_in known.session request ≡ Some sent → is_poll sent ≡ true
-      → f_new ≡ f → Asks caller sent s s_new r → AsksOver caller request known f f_new s s_new r
-  sent_second sent r named poll same asks =
-      inl (sent, named, subst (λ (b : Bool). AsksBy b caller sent f f_new s s_new r) (sym poll) (same, asks))
-
-  pub sent_first : (sent : Request) (r : Result Told Stop) → request_in known.session request ≡ Some sent → is_poll sent ≡ false
-      → s_new ≡ s → Asks caller sent f f_new r → AsksOver caller request known f f_new s s_new r
-  sent_first sent r named poll same asks =
-      inl (sent, named, subst (λ (b : Bool). AsksBy b caller sent f f_new s s_new r) (sym poll) (same, asks))
+  -- the request was sent as it is named
+  pub over_sent : (sent : Request) (r : Result Told Stop) → request_in known.session request ≡ Some sent
+      → AsksBy (is_poll sent) caller sent f f_new s s_new r → AsksOver caller request known f f_new s s_new r
+  over_sent sent r named asks = inl (sent, named, asks)
 
   module _ (held held_new : Option (List ℕ)) (faults faults_new : ℕ) (new : Known) where
     pub request_told : (told : Told) (r : Result (Unit {0}) Stop) → AsksOver caller request known f f_new s s_new (Ok told)
@@ -204,3 +219,57 @@ module _ (caller : Caller) (request : Request) (known : Known) (f f_new s s_new 
     where
       none_begun : IsTrue (is_some (request_in known.session request)) → ⊥
       none_begun can = let t : false ≡ true = sym (ap is_some q.0) ∙ can in cc
+
+-- ---- the other lines
+
+module _ (caller : Caller) (known : Known) (f s : Wiring) (f_open : f.spent ≡ false) (s_open : s.spent ≡ false) where
+  idle : (held held_new : Option (List ℕ)) (faults faults_new : ℕ) (name : List ℕ)
+      → Exchanged caller (ports held faults f s) (ports held_new faults_new f s) (deed.printed name ∷ [])
+  idle held held_new faults faults_new name =
+      record { first = exchanges_none caller f f f_open refl; second = exchanges_none caller s s s_open refl }
+
+  pub line_passed : (held : Option (List ℕ)) (faults : ℕ)
+      → CarriesOut caller the_line.Blank (ports held faults f s) (ports held faults f s) known known (Ok tt)
+  line_passed held faults = record {
+    deed = deed.passed;
+    does = tt;
+    known = refl;
+    did = record {
+      wrote = Appends-nil held;
+      exchanged = record { first = exchanges_none caller f f f_open refl; second = exchanges_none caller s s s_open refl };
+    };
+  }
+
+  module _ (held held_new : Option (List ℕ)) (faults faults_new : ℕ) (name : List ℕ) where
+    set_cut : (n : ℕ) → Appends held held_new (take n (set_text (known.sets name)))
+        → Cut caller (the_line.Set name) (ports held faults f s) (ports held_new faults_new f s) known
+    set_cut n wrote = record {
+      deed = deed.printed name;
+      does = refl;
+      wrote = record { count = n; wrote = wrote; exchanged = idle held held_new faults faults_new name };
+    }
+
+    pub set_printed : (r : Result (Unit {0}) Stop) → Sends held held_new faults faults_new (set_text (known.sets name)) r
+        → CarriesOut caller (the_line.Set name) (ports held faults f s) (ports held_new faults_new f s) known known r
+    set_printed (Ok _) sends = record {
+      deed = deed.printed name;
+      does = refl;
+      known = refl;
+      did = record {
+        wrote = subst (λ (t : List ℕ). Appends held held_new t) (sym (append-nil (set_text (known.sets name)))) sends;
+        exchanged = idle held held_new faults faults_new name;
+      };
+    }
+    set_printed (Err stop.WriteFault) sends = (set_cut sends.0.0 sends.0.1, sends.1)
+    set_printed (Err stop.NoMemory) sends = inr (inr (set_cut 0 (keeps_appends held held_new sends)))
+    set_printed (Err stop.BadLine) sends = absurd sends
+    set_printed (Err stop.ReadFault) sends = absurd sends
+    set_printed (Err stop.LinkFault) sends = absurd sends
+    set_printed (Err stop.LinkEnded) sends = absurd sends
+    set_printed (Err stop.BadReply) sends = absurd sends
+
+-- the same of the line that it is
+pub at_line : (caller : Caller) (line form : Line) (before after : Ports) (old new : Known) (r : Result (Unit {0}) Stop) → line ≡ form
+    → CarriesOut caller form before after old new r → CarriesOut caller line before after old new r
+at_line caller line form before after old new r is c =
+    subst (λ (l : Line). CarriesOut caller l before after old new r) (sym is) c

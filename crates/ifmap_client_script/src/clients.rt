@@ -3,12 +3,12 @@ ghost use Rattle.std.specs.Prelude.{◌≡◌, ◌≤◌, IsFalse, IsTrue, OnErr
 ghost use Rattle.ifmap_folds.specs.Folds.{fold_items};
 ghost use Rattle.ifmap_heads.specs.Messages.{is_visible};
 ghost use Rattle.ifmap_client.specs.Keeping.{sets_of};
-ghost use Rattle.ifmap_client_script.specs.Deeds.{after_reply, unknowing};
+ghost use Rattle.ifmap_client_script.specs.Deeds.{after_reply, is_poll, unknowing};
 ghost use Rattle.ifmap_client_script.specs.Ends.{ArePortsLater, IsLaterWire, ports};
 ghost use Rattle.ifmap_client_script.specs.Exchanges.{wiring};
 ghost use Rattle.ifmap_client_script.specs.Printing.{body_text, set_text};
 ghost use Rattle.ifmap_client_script.specs.Stops.{Sends};
-ghost use Rattle.ifmap_client_script.specs.Turns.{AsksOver, CarriesOut};
+ghost use Rattle.ifmap_client_script.specs.Turns.{AsksBy, AsksOver, CarriesOut};
 
 use crate::exchanges::{Caller, Told, ask};
 use crate::outcomes::Stop;
@@ -174,8 +174,7 @@ impl Client {
             (wiring B.left B.held B.Source.faults B.Sink.faults second.new) }
     {
         match request_in(alloc, &self.session, request) {
-            Ok(sent) if is_poll(&sent) => ask(alloc, caller, &sent, second),
-            Ok(sent) => ask(alloc, caller, &sent, first),
+            Ok(sent) => ask_by(alloc, caller, &sent, first, second),
             Err(stop) => Err(stop),
         }
     }
@@ -199,6 +198,37 @@ impl Client {
             Reply::Found(_) => Ok(()),
             Reply::Error { .. } => Ok(()),
         }
+    }
+}
+
+// Sends a request over its wire, a poll over the second, and takes the answer to it.
+#[tactic(auto, using(crate::proofs::Carrying::by_second, crate::proofs::Carrying::by_first))]
+fn ask_by<A: Link, B: Link>(
+    alloc: Global,
+    caller: &Caller,
+    sent: &Request,
+    first: &mut Wire<A>,
+    second: &mut Wire<B>,
+) -> Result<Told, Stop>
+    requires first { IsFalse first.old.spent }
+    requires second { IsFalse second.old.spent }
+    requires visible { IsTrue (is_visible caller.now.host) }
+    ensures asks { AsksBy (is_poll sent.now) caller.now sent.now
+        (wiring A.left A.held A.Source.faults A.Sink.faults first.old)
+        (wiring A.left A.held A.Source.faults A.Sink.faults first.new)
+        (wiring B.left B.held B.Source.faults B.Sink.faults second.old)
+        (wiring B.left B.held B.Source.faults B.Sink.faults second.new) result }
+    ensures first { IsLaterWire
+        (wiring A.left A.held A.Source.faults A.Sink.faults first.old)
+        (wiring A.left A.held A.Source.faults A.Sink.faults first.new) }
+    ensures second { IsLaterWire
+        (wiring B.left B.held B.Source.faults B.Sink.faults second.old)
+        (wiring B.left B.held B.Source.faults B.Sink.faults second.new) }
+{
+    if is_poll(sent) {
+        ask(alloc, caller, sent, second)
+    } else {
+        ask(alloc, caller, sent, first)
     }
 }
 
