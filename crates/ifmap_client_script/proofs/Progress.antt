@@ -27,7 +27,7 @@ written_snoc [] d known = append-nil (deed_text known d)
 written_snoc (e ∷ deeds) d known =
     ap (λ (t : List ℕ). deed_text known e ++ t) (written_snoc deeds d (after_deed e known))
     ∙ sym (append_assoc (deed_text known e) (written (after_deed e known) deeds)
-      (deed_text (after_deeds deeds (after_deed e known)) d))
+    (deed_text (after_deeds deeds (after_deed e known)) d))
 
 -- ---- what goes over the wires
 

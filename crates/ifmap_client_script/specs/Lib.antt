@@ -6,5 +6,6 @@ pub mod Exchanges
 pub mod Scripts
 pub mod Ends
 pub mod Promises
+pub mod Holding
 pub mod Pending
 pub mod Turns

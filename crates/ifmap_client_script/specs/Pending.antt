@@ -31,9 +31,9 @@ pub record Fetches (left_old left_new : Option (List ℕ)) (old new : Pending) :
   pub consumed : Consumes left_old left_new got
   pub idle : old.ended ≡ true → got ≡ []
   pub grown :
-    (new ≡ with_bytes old got)
-    ⊎ ((new ≡ record { bytes = closed (old.bytes ++ got); ended = true }) × (old.ended ≡ false) × IsAtEnd left_new
-    × HasNoNewline (old.bytes ++ got))
+      (new ≡ with_bytes old got)
+      ⊎ ((new ≡ record { bytes = closed (old.bytes ++ got); ended = true }) × (old.ended ≡ false) × IsAtEnd left_new
+      × HasNoNewline (old.bytes ++ got))
 
 -- the first newline stands at this place
 pub record IsLineEnd (bytes : List ℕ) (place : ℕ) : Type 0 where

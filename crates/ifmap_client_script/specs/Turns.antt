@@ -15,6 +15,7 @@ use Rattle.ifmap_client_script.specs.declared.scripts.Turn.TheVariants as turn
 use Rattle.ifmap_client_script.specs.Deeds.{CanDo, Deed, Does, Known, after_deed, is_poll, request_in, unknowing}
 use Rattle.ifmap_client_script.specs.Ends.{Ends, LinkFailed, Ports, ReadFailed, WriteFailed}
 use Rattle.ifmap_client_script.specs.Exchanges.{Asks, HasAny, HasNoReply, HasPart, IsFront, Wiring}
+use Rattle.ifmap_client_script.specs.Holding.{Holding, known_of}
 use Rattle.ifmap_client_script.specs.Pending.{Fetches, IsLineEnd, Pending, nothing_taken}
 use Rattle.ifmap_client_script.specs.Promises.{Cutting, Did, IsWhole, Posted, Wrote}
 use Rattle.ifmap_client_script.specs.Scripts.{AwaitsLine, BeginsLine, IsBadLine, IsWithin}
@@ -75,13 +76,17 @@ CarriesOut caller line before after old new (Err stop.NoMemory) =
 
 -- a script: what the client knows, what is pending, and the offset and the number of the next line
 pub record Scripting : Type 0 where
-  pub known : Known
+  pub client : Holding
   pub pending : Pending
   pub offset : ℕ
   pub line : ℕ
 
-abbrev pub beginning : Scripting
-beginning = record { known = unknowing; pending = nothing_taken; offset = 0; line = 1 }
+-- nothing is known, and nothing was taken
+pub record IsBeginning (script : Scripting) : Type 0 where
+  pub known : known_of script.client ≡ unknowing
+  pub pending : script.pending ≡ nothing_taken
+  pub offset : script.offset ≡ 0
+  pub line : script.line ≡ 1
 
 -- the first line of these bytes, of which the first stands at an offset
 pub record IsNext (offset : ℕ) (bytes : List ℕ) (next : Next) : Type 0 where
@@ -112,10 +117,10 @@ pub record GoesOn (next : Next) (old new : Scripting) : Type 0 where
 -- what was done for the next line
 abbrev pub DoesNext : Caller → Next → (before after : Ports) → (old new : Scripting) → Result Turn Stop → Type 0
 DoesNext caller next before after old new (Ok turn.Carried) =
-    Carried caller next.line before after old.known new.known × GoesOn next old new
+    Carried caller next.line before after (known_of old.client) (known_of new.client) × GoesOn next old new
 DoesNext caller next before after old new (Ok turn.Ended) = ⊥
 DoesNext caller next before after old new (Err e) =
-    CarriesOut caller next.line before after old.known new.known (Err e) × (new.line ≡ old.line)
+    CarriesOut caller next.line before after (known_of old.client) (known_of new.client) (Err e) × (new.line ≡ old.line)
 
 module _ (before after : Ends) (old : Scripting) where
   -- a line was taken
@@ -132,7 +137,7 @@ module _ (caller : Caller) (before after : Ends) (old : Scripting) where
   pub record TurnsOn (new : Scripting) : Type 0 where
     pub line : Line
     pub takes : TakesLine before after old line
-    pub carried : Carried caller line before.ports after.ports old.known new.known
+    pub carried : Carried caller line before.ports after.ports (known_of old.client) (known_of new.client)
     pub pending : new.pending ≡ record { bytes = takes.rest; ended = takes.pending.ended }
     pub offset : new.offset ≡ old.offset + length takes.text + 1
     pub line_is : new.line ≡ old.line + 1
@@ -146,7 +151,7 @@ module _ (caller : Caller) (before after : Ends) (old : Scripting) where
   pub record IsAtFault : Type 0 where
     pub pending : Pending
     pub fetched : Fetches before.left after.left old.pending pending
-    pub fault : IsBadLine old.offset old.known pending.bytes
+    pub fault : IsBadLine old.offset (known_of old.client) pending.bytes
     pub kept : after.ports ≡ before.ports
 
   -- a read failed that was due
@@ -160,13 +165,13 @@ module _ (caller : Caller) (before after : Ends) (old : Scripting) where
   pub record IsCutShort : Type 0 where
     pub line : Line
     pub takes : TakesLine before after old line
-    pub cut : Cut caller line before.ports after.ports old.known
+    pub cut : Cut caller line before.ports after.ports (known_of old.client)
 
   -- no reply came to the request of a line
   pub record IsLeft (IsCut : Cutting) (Has : List ℕ → Type 0) : Type 0 where
     pub line : Line
     pub takes : TakesLine before after old line
-    pub unanswered : Unanswered caller line before.ports after.ports old.known IsCut Has
+    pub unanswered : Unanswered caller line before.ports after.ports (known_of old.client) IsCut Has
 
   -- something was taken, and nothing was done
   pub record IsIdle : Type 0 where

@@ -6,6 +6,7 @@ ghost use Rattle.ifmap_client.specs.Keeping.{sets_of};
 ghost use Rattle.ifmap_client_script.specs.Deeds.{after_reply, is_poll, unknowing};
 ghost use Rattle.ifmap_client_script.specs.Ends.{ArePortsLater, IsLaterWire, ports};
 ghost use Rattle.ifmap_client_script.specs.Exchanges.{wiring};
+ghost use Rattle.ifmap_client_script.specs.Holding.{known_of};
 ghost use Rattle.ifmap_client_script.specs.Printing.{body_text, set_text};
 ghost use Rattle.ifmap_client_script.specs.Stops.{Sends};
 ghost use Rattle.ifmap_client_script.specs.Turns.{AsksBy, AsksOver, CarriesOut};
@@ -33,18 +34,21 @@ pub struct Client {
 }
 
 impl Model for Client {
-    ghost use Rattle.ifmap_client.specs.Keeping.{sets_of};
-    ghost use Rattle.ifmap_client_script.specs.Deeds.{Known, knowing};
+    ghost use Rattle.std.specs.Coded.{codes};
+    ghost use Rattle.ifmap_search.specs.contracts.results.Entry as the_entry;
+    ghost use Rattle.ifmap_client_script.specs.Holding.{Holding};
 
-    ghost Value = { Known };
+    ghost Value = { Holding };
 
-    ghost view = { λ client. knowing client.session (sets_of client.sets) };
+    ghost coded = { Prim.hlevel (codes, the_entry.the_row.coded) };
+
+    ghost view = { λ client. record { session = client.session; kept = client.sets } };
 }
 
 impl Client {
     /// No session was begun.
     pub fn new(alloc: Global) -> Client
-        ensures { result ≡ unknowing }
+        ensures { known_of result ≡ unknowing }
     {
         Client {
             session: None,
@@ -71,7 +75,7 @@ impl Client {
             (wiring B.left B.held B.Source.faults B.Sink.faults second.old))
             (ports (K.held sink.new) (K.faults sink.new)
             (wiring A.left A.held A.Source.faults A.Sink.faults first.new)
-            (wiring B.left B.held B.Source.faults B.Sink.faults second.new)) self.old self.new result }
+            (wiring B.left B.held B.Source.faults B.Sink.faults second.new)) (known_of self.old) (known_of self.new) result }
         ensures later { ArePortsLater
             (ports (K.held sink.old) (K.faults sink.old)
             (wiring A.left A.held A.Source.faults A.Sink.faults first.old)
@@ -108,7 +112,7 @@ impl Client {
             (wiring B.left B.held B.Source.faults B.Sink.faults second.old))
             (ports (K.held sink.new) (K.faults sink.new)
             (wiring A.left A.held A.Source.faults A.Sink.faults first.new)
-            (wiring B.left B.held B.Source.faults B.Sink.faults second.new)) self.old self.new result }
+            (wiring B.left B.held B.Source.faults B.Sink.faults second.new)) (known_of self.old) (known_of self.new) result }
         ensures later { ArePortsLater
             (ports (K.held sink.old) (K.faults sink.old)
             (wiring A.left A.held A.Source.faults A.Sink.faults first.old)
@@ -127,7 +131,8 @@ impl Client {
     fn tell<K: Sink>(&mut self, alloc: Global, told: Told, sink: &mut K) -> Result<(), Stop>
         ensures sends { Sends (K.held sink.old) (K.held sink.new) (K.faults sink.old)
             (K.faults sink.new) (body_text told.body) result }
-        ensures known { OnOk result (self.new ≡ after_reply told.reply self.old) }
+        ensures known { OnOk result (known_of self.new
+            ≡ after_reply told.reply (known_of self.old)) }
         ensures later { K.faults sink.old ≤ K.faults sink.new }
     {
         let Told { body, reply } = told;
@@ -140,7 +145,7 @@ impl Client {
     // Writes the set of that name.
     fn print_set<K: Sink>(&self, alloc: Global, name: &Text, sink: &mut K) -> Result<(), Stop>
         ensures sends { Sends (K.held sink.old) (K.held sink.new) (K.faults sink.old)
-            (K.faults sink.new) (set_text (self.now.sets name.now)) result }
+            (K.faults sink.new) (set_text (sets_of self.now.kept name.now)) result }
         ensures later { K.faults sink.old ≤ K.faults sink.new }
     {
         let Ok(text) = set_text(alloc, self.sets.set_of(name)) else {
@@ -161,7 +166,7 @@ impl Client {
         requires first { IsFalse first.old.spent }
         requires second { IsFalse second.old.spent }
         requires visible { IsTrue (is_visible caller.now.host) }
-        ensures asks { AsksOver caller.now request self.now
+        ensures asks { AsksOver caller.now request (known_of self.now)
             (wiring A.left A.held A.Source.faults A.Sink.faults first.old)
             (wiring A.left A.held A.Source.faults A.Sink.faults first.new)
             (wiring B.left B.held B.Source.faults B.Sink.faults second.old)
@@ -181,7 +186,7 @@ impl Client {
 
     // Takes what was answered.
     fn take(&mut self, alloc: Global, reply: Reply) -> Result<(), NoMemory>
-        ensures { OnOk result (self.new ≡ after_reply reply self.old) }
+        ensures { OnOk result (known_of self.new ≡ after_reply reply (known_of self.old)) }
     {
         match reply {
             Reply::NewSession { session, .. } => {

@@ -6,7 +6,7 @@ ghost use Rattle.ifmap_client_script.specs.Scripts.{longest_script};
 ghost use Rattle.ifmap_client_script.specs.Ends.{ArePortsLater, IsLater, ends, ports};
 ghost use Rattle.ifmap_client_script.specs.Exchanges.{wiring};
 ghost use Rattle.ifmap_client_script.specs.Promises.{Promises};
-ghost use Rattle.ifmap_client_script.specs.Turns.{DoesNext, IsNext, ReadsNext, Turns, beginning};
+ghost use Rattle.ifmap_client_script.specs.Turns.{DoesNext, IsBeginning, IsNext, ReadsNext, Turns};
 
 use crate::clients::Client;
 use crate::exchanges::Caller;
@@ -83,13 +83,17 @@ pub fn run_script<S: Source, K: Sink, A: Link, B: Link>(
 
 impl Model for Script {
     ghost use Rattle.std.specs.Prelude.{◌≤◌, ◌+◌};
+    ghost use Rattle.std.specs.Coded.{codes};
+    ghost use Rattle.ifmap_search.specs.contracts.results.Entry as the_entry;
     ghost use Rattle.ifmap_client_script.specs.Scripts.{longest_script};
     ghost use Rattle.ifmap_client_script.specs.Turns.{Scripting};
 
     ghost Value = { Scripting };
 
+    ghost coded = { Prim.hlevel (codes, the_entry.the_row.coded) };
+
     ghost view = { λ script. record {
-      known = script.client;
+      client = script.client;
       pending = script.input;
       offset = script.offset;
       line = script.line;
@@ -102,7 +106,7 @@ impl Model for Script {
 impl Script {
     /// Nothing taken yet.
     pub fn new(alloc: Global) -> Result<Script, NoMemory>
-        ensures { IfOk result (λ script. script ≡ beginning) }
+        ensures { IfOk result (λ script. IsBeginning script) }
     {
         Ok(Script {
             client: Client::new(alloc),
@@ -122,7 +126,7 @@ impl Script {
         first: &mut Wire<A>,
         second: &mut Wire<B>,
     ) -> Outcome
-        requires beginning { self.old ≡ beginning }
+        requires beginning { IsBeginning self.old }
         requires visible { IsTrue (is_visible caller.now.host) }
         requires first { IsFalse first.old.spent }
         requires second { IsFalse second.old.spent }

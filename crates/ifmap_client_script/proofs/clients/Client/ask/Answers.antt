@@ -1,5 +1,6 @@
 use Rattle.std.proofs.Common.{inl}
 use Rattle.ifmap_client_script.specs.Exchanges.{wiring}
+use Rattle.ifmap_client_script.specs.Holding.{known_of}
 use Rattle.ifmap_client_script.proofs.Carrying.{over_none}
 use Rattle.ifmap_client_script.proofs.clients.Client.ask.Goals as goal
 
@@ -8,6 +9,6 @@ returns-in-Ok-clause-asks g c = inl (c.in-Ok.sent, c.in-Ok.ensures, c.ask_by.ens
 
 pub returns-in-Err-clause-asks : goal.returns-in-Err-clause-asks
 returns-in-Err-clause-asks g c =
-    over_none c.args.caller.now c.args.request c.args.self.now
+    over_none c.args.caller.now c.args.request (known_of c.args.self.now)
     (wiring g.A.Source.left g.A.Sink.held g.A.Source.faults g.A.Sink.faults c.args.first.now)
     (wiring g.B.Source.left g.B.Sink.held g.B.Source.faults g.B.Sink.faults c.args.second.now) c.in-Err.stop c.in-Err.ensures
