@@ -1,0 +1,14 @@
+use Rattle.std.proofs.Common.{refl, arith}
+use Rattle.ifmap_dialogue.proofs.Connecting.{connects_first, connects_more, serves_all}
+use Rattle.ifmap_dialogue.proofs.serving.serve_connection.Goals as goal
+
+pub posts-init : goal.posts-init
+posts-init g c = connects_first _ _ c.requires
+
+pub posts-preserved : goal.posts-preserved
+posts-preserved g c =
+    connects_more _ _ _ _ _ _ c.posts.invariant c.in_default.ensures.serves refl c.in_default.ensures.more.1
+    c.in_default.ensures.more.0
+
+pub returns-in-Some : goal.returns-in-Some
+returns-in-Some g c = serves_all _ _ _ _ _ _ c.posts.invariant c.in-Some.ensures.serves c.in-Some.ending refl
