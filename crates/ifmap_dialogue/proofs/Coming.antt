@@ -5,6 +5,8 @@ use Rattle.rand_chacha.specs.ChaCha.{ChaCha}
 use Rattle.ifmap_ident.specs.declared.codes.Code.{Code}
 use Rattle.ifmap_machine.specs.Events.{Event}
 use Rattle.ifmap_replies.specs.declared.replies.Reply.{Reply}
+use Rattle.ifmap_replies.specs.declared.replies.Reply.TheVariants as reply
+use Rattle.ifmap_search.specs.declared.results.PollItem.{PollItem}
 use Rattle.ifmap_requests.specs.Laws.{FitMeaning}
 use Rattle.ifmap_requests.specs.Means.{Means}
 use Rattle.ifmap_requests.specs.declared.errors.Refusal.TheVariants.{Named, Unreadable}
@@ -15,7 +17,7 @@ use Rattle.ifmap_dialogue.specs.declared.findings.Finding.{Finding}
 use Rattle.ifmap_dialogue.specs.declared.findings.Finding.TheVariants as finding
 use Rattle.ifmap_dialogue.specs.declared.polls.Poll.{Poll}
 use Rattle.ifmap_dialogue.specs.Desks.{DeskSeen, Tells, Turn, heaviest, outcome_of, weight}
-use Rattle.ifmap_dialogue.specs.Findings.{Asking, Finds, FindsPost, FindsQuestion, FindsRequest, Posting, posting, refusal}
+use Rattle.ifmap_dialogue.specs.Findings.{Asking, Finds, FindsPost, FindsQuestion, FindsRequest, Posting, finding_of, posting, refusal}
 use Rattle.ifmap_dialogue.specs.Scenes.{HasFitPoll}
 use Rattle.ifmap_dialogue.specs.Turns.{IsFirst, Question, event_of, lost_event, question_of}
 use Rattle.ifmap_dialogue.specs.Words.{after_random, random_word}
@@ -105,7 +107,9 @@ light_by question again moment event is short =
     (let short_weight : 1000 + 8 * question.bytes ≤ 80_001_000 = omega (arith, short) in short_weight)
 
 pub light_lost : (poll : Poll) (moment : ℕ) (event : Event) → event ≡ lost_event poll moment → weight event ≤ heaviest
-light_lost poll moment event is = subst (λ (e : Event). weight e ≤ heaviest) (sym is) (omega arith)
+light_lost poll moment event is =
+    subst (λ (e : Event). weight e ≤ heaviest) (sym is)
+    (let light : 1000 + 8 * 0 ≤ 80_001_000 = omega arith in light)
 
 -- ---- requests as they are matched
 
@@ -162,3 +166,18 @@ unreadable_post gives desk p means same = unasked gives desk desk p finding.Unre
 pub wanting_post : {H : Type 0} (gives : ℕ → Type 0) (desk : DeskSeen H) (p : Posting) → p.after ≡ p.words
     → FindsPost gives desk desk p finding.NoMemory
 wanting_post gives desk p same = unasked gives desk desk p finding.NoMemory refl (inl (refl, same))
+
+-- ---- what came of a reply
+
+-- a reply that is not what a poll is told
+pub plain_finding : (the_reply : Reply) (poll : Poll) → ((items : List PollItem) → the_reply ≢ reply.Polled items)
+    → finding.Replied the_reply ≡ finding_of the_reply poll
+plain_finding (reply.Polled items) poll other = absurd (other items refl)
+plain_finding (reply.NewSession a b c) poll other = refl
+plain_finding reply.Renewed poll other = refl
+plain_finding reply.Ended poll other = refl
+plain_finding reply.Published poll other = refl
+plain_finding reply.Subscribed poll other = refl
+plain_finding reply.Purged poll other = refl
+plain_finding (reply.Found entries) poll other = refl
+plain_finding (reply.Error code note) poll other = refl

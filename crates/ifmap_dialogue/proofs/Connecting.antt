@@ -200,13 +200,17 @@ stays_open : (gives : ℕ → Type 0) (found : Finding) (close : Bool) (turns : 
     → Answers gives found (record { close = close; turns = turns; output = output; next = None }) → close ≡ false
 stays_open gives (finding.Replied reply) close turns output (none, the_sent, writes, is) = delivers_not the_sent close is
 stays_open gives (finding.Told reply poll) close turns output (the_sent, writes, loses) = told_not gives poll close the_sent turns loses
-stays_open gives finding.Unreadable close turns output (none, the_sent, writes, is) = absurd (never_on the_sent _ is)
+stays_open gives finding.Unreadable close turns output (none, the_sent, writes, is) = absurd (never_on the_sent (ending.Refused 400) is)
 stays_open gives (finding.HeldOut many) close turns output (none, nothing, is) = cc
-stays_open gives (finding.Spent entries) close turns output (none, the_sent, writes, is) = absurd (never_on the_sent _ is)
+stays_open gives (finding.Spent entries) close turns output (none, the_sent, writes, is) =
+    absurd (never_on the_sent (ending.Spent entries) is)
 stays_open gives finding.NoMemory close turns output (none, given, is) = cc
 
+are_same : (one other : ℕ) → one ≡ other → (one == other) ≡ true
+are_same one other same = grind (arith, nat_tests)
+
 number_not : (number : ℕ) (close : Bool) → is_last number close ≡ false → number ≢ most_posts
-number_not number false e = λ same. let yes : (number == most_posts) ≡ true = grind (arith, nat_tests) in cc
+number_not number false e = λ same. let last = are_same number most_posts same in let two = sym e ∙ last in cc
 number_not number true e = λ same. cc
 
 -- a post that was answered and after which the connection goes on is not the last one
@@ -222,16 +226,16 @@ goes_on_by gives number a b post last next same s is =
 
 -- a post is never answered by a fault of reading
 heard_not : (due : Ending) (o : Outcome) → due ≢ ending.ReadFault → Some (ending_heard due o) ≢ Some ending.ReadFault
-heard_not due (outcome.Replied reply) no = λ e. no (cc)
-heard_not due outcome.Heard no = λ e. no (cc)
-heard_not due outcome.Held no = λ e. no (cc)
-heard_not due (outcome.Spent entries) no = λ e. cc
-heard_not due outcome.NoMemory no = λ e. cc
+heard_not due (outcome.Replied reply) other = λ e. other (cc)
+heard_not due outcome.Heard other = λ e. other (cc)
+heard_not due outcome.Held other = λ e. other (cc)
+heard_not due (outcome.Spent entries) other = λ e. cc
+heard_not due outcome.NoMemory other = λ e. cc
 
 sends_not : (the_sent : Sent) (due next : Option Ending) → IsQuiet due → next ≡ next_after the_sent due → next ≢ Some ending.ReadFault
 sends_not sent.Done due next quiet is = λ e. quiet.reads (sym is ∙ e)
-sends_not sent.WriteFault due next quiet is = λ e. let no = sym is ∙ e in cc
-sends_not sent.NoMemory due next quiet is = λ e. let no = sym is ∙ e in cc
+sends_not sent.WriteFault due next quiet is = λ e. let two = sym is ∙ e in cc
+sends_not sent.NoMemory due next quiet is = λ e. let two = sym is ∙ e in cc
 
 loses_not : (gives : ℕ → Type 0) (poll : Poll) (close : Bool) (the_sent : Sent) (turns : List Turn) (next : Option Ending)
     → LosesUnlessDone gives poll close the_sent turns next → next ≢ Some ending.ReadFault
@@ -249,10 +253,10 @@ answers_not gives (finding.Told reply poll) close turns output next (the_sent, w
     loses_not gives poll close the_sent turns next loses
 answers_not gives finding.Unreadable close turns output next (none, the_sent, writes, is) =
     sends_not the_sent (Some (ending.Refused 400)) next (quiet_refused 400) is
-answers_not gives (finding.HeldOut many) close turns output next (none, nothing, is) = λ e. let no = sym is ∙ e in cc
+answers_not gives (finding.HeldOut many) close turns output next (none, nothing, is) = λ e. let two = sym is ∙ e in cc
 answers_not gives (finding.Spent entries) close turns output next (none, the_sent, writes, is) =
     sends_not the_sent (Some (ending.Spent entries)) next (quiet_spent entries) is
-answers_not gives finding.NoMemory close turns output next (none, given, is) = λ e. let no = sym is ∙ e in cc
+answers_not gives finding.NoMemory close turns output next (none, given, is) = λ e. let two = sym is ∙ e in cc
 
 pub post_not : {H : Type 0} (gives : ℕ → Type 0) (a b : Scene H) (post : Post) (next : Option Ending) → ServesPost gives a b post next
     → next ≢ Some ending.ReadFault
@@ -264,9 +268,11 @@ goes_one_more : (gives : ℕ → Type 0) (number here : ℕ) (first : Standing) 
     → GoesOn gives number first rounds r.before → here ≡ number + length rounds → IsRound gives here r → r.next ≡ None
     → GoesOn gives number first (rounds ++ r ∷ []) r.after
 goes_one_more gives number here first [] r same at is next =
-    (same, subst (λ (n : ℕ). IsRound gives n r) (omega (arith, at)) is, next, refl)
+    let there : here ≡ number = omega (arith, at) in
+    (same, subst (λ (n : ℕ). IsRound gives n r) there is, next, refl)
 goes_one_more gives number here first (x ∷ rounds) r (begins, before, on, rest) at is next =
-    (begins, before, on, goes_one_more gives (number + 1) here x.after rounds r rest (omega (arith, at)) is next)
+    let there : here ≡ number + 1 + length rounds = omega (arith, at) in
+    (begins, before, on, goes_one_more gives (number + 1) here x.after rounds r rest there is next)
 
 -- the connection is about to be served with the round of this number
 pub record Connects {H : Type 0} (gives : ℕ → Type 0) (before now : Scene H) (number : ℕ) : Type 0 where
@@ -346,6 +352,9 @@ module _ {H : Type 0} (gives : ℕ → Type 0) (before now after : Scene H) (num
     writes = omega (arith, w.writes, s.causes.writes);
   }
 
+  number_is : number ≡ length w.rounds + 1
+  number_is = omega (arith, w.count)
+
   pub serves_all : (end : Ending) → next ≡ Some end → Serves gives before after end
   serves_all end is = record {
     turns = flat_map (λ (x : Round). x.turns) (w.rounds ++ this ∷ []);
@@ -363,7 +372,7 @@ module _ {H : Type 0} (gives : ℕ → Type 0) (before now after : Scene H) (num
       final = this;
       goes_on = w.goes_on;
       few = omega (arith, w.count, w.few);
-      ends = subst (λ (n : ℕ). IsRound gives n this) (omega (arith, w.count)) s.round;
+      ends = subst (λ (n : ℕ). IsRound gives n this) number_is s.round;
       ended = is;
       after = refl;
       turns_are = refl;

@@ -1,6 +1,6 @@
 -- What turns leave at a desk, turn after turn.
 use Rattle.std.proofs.Common.{◌≡◌, ℕ, ◌+◌, List, [], ◌∷◌, ◌++◌, None, Some, refl, sym, ap, subst, ◌∙◌, append_assoc, append-nil, arith}
-use Rattle.std.specs.Prelude.{Option, count_by, All}
+use Rattle.std.specs.Prelude.{Option, Bool, cond, count_by, All}
 use Rattle.std.proofs.lemmas.Grind.{flat_map-append}
 use Rattle.std.proofs.lemmas.List.Elements.{All-append, All-head, All-nil}
 use Rattle.std.proofs.lemmas.List.Sums.{sum_by-append}
@@ -25,6 +25,10 @@ gains_more a b (Some all) xs ys p (former, told, is) =
     let (first, was, grew) = subst (λ (o : Option (List Call)). Gains a o xs) told p in
     (first, was, is ∙ ap (λ l. l ++ ys) grew ∙ append_assoc first xs ys)
 
+-- how many of two lists pass a test
+count_more : (p : Turn → Bool) (first then : List Turn) → count_by p (first ++ then) ≡ count_by p first + count_by p then
+count_more p first then = sum_by-append (λ (t : Turn). cond (p t) 1 0) first then
+
 -- no turn leaves nothing
 pub tells_none : {H : Type 0} (desk : DeskSeen H) → Tells desk desk []
 tells_none desk = record {
@@ -33,7 +37,7 @@ tells_none desk = record {
   spent = rises_none desk.spent;
   home = refl;
   loan = refl;
-  fit = All-nil _;
+  fit = All-nil (λ (t : Turn). Fits t.event t.asked);
 }
 
 -- turns after turns
@@ -42,13 +46,13 @@ tells_more a b c first then p q = record {
   said = subst (λ (l : List Call). Gains a.said c.said l)
       (sym (flat_map-append (λ (turn : Turn). call_of turn.event turn.asked) first then))
       (gains_more a.said b.said c.said (calls first) (calls then) p.said q.said);
-  held = subst (λ (n : ℕ). Rises n a.held c.held) (sym (sum_by-append _ first then))
+  held = subst (λ (n : ℕ). Rises n a.held c.held) (sym (count_more is_held_back first then))
       (rises_more (count_by is_held_back first) (count_by is_held_back then) a.held b.held c.held p.held q.held);
-  spent = subst (λ (n : ℕ). Rises n a.spent c.spent) (sym (sum_by-append _ first then))
+  spent = subst (λ (n : ℕ). Rises n a.spent c.spent) (sym (count_more is_spent first then))
       (rises_more (count_by is_spent first) (count_by is_spent then) a.spent b.spent c.spent p.spent q.spent);
   home = q.home ∙ p.home;
   loan = q.loan ∙ p.loan;
-  fit = All-append _ first then p.fit q.fit;
+  fit = All-append (λ (t : Turn). Fits t.event t.asked) first then p.fit q.fit;
 }
 
 -- the one turn is answered as its event can be

@@ -29,7 +29,7 @@ pub not_heard : (event : Event) (request : Request) (the_asked : Asked Event Ans
     → outcome_of the_asked ≢ outcome.Heard
 not_heard event request (asked.Done place (answer.Reply r)) is fits e = cc
 not_heard event request (asked.Done place answer.Held) is fits e = cc
-not_heard event request (asked.Done place answer.Heard) is (session, lost) e = let no = sym is ∙ lost in cc
+not_heard event request (asked.Done place answer.Heard) is (session, lost) e = let two = sym is ∙ lost in cc
 not_heard event request (asked.Held place back) is fits e = cc
 not_heard event request (asked.Spent entries back) is fits e = cc
 not_heard event request (asked.NoMemory back) is fits e = cc
@@ -103,8 +103,8 @@ pub record Waits {H : Type 0} (gives : ℕ → Type 0) (before now : DeskSeen H)
 
 asked_more : (gives : ℕ → Type 0) (question : Question) (turns : List Turn) (turn : Turn) → AllAsk gives question turns
     → Asks gives question (is_again turns) turn → AllAsk gives question (turns ++ turn ∷ [])
-asked_more gives question [] turn asked asks = (asks, All-nil _)
-asked_more gives question (t ∷ ts) turn (first, others) asks = (first, All-push _ ts turn others asks)
+asked_more gives question [] turn asked asks = (asks, All-nil (Asks gives question true))
+asked_more gives question (t ∷ ts) turn (first, others) asks = (first, All-push (Asks gives question true) ts turn others asks)
 
 again_after : (turns : List Turn) (turn : Turn) → is_again (turns ++ turn ∷ []) ≡ true
 again_after [] turn = refl
@@ -118,7 +118,7 @@ waits_first gives desk question event first = record {
   tells = tells_none desk;
   many_are = refl;
   few = omega arith;
-  held = All-nil _;
+  held = All-nil IsHeld;
   asked = tt;
   due = first;
 }

@@ -4,11 +4,15 @@ use Rattle.std.specs.Prelude.{Option}
 use Rattle.std.specs.Io.KnownBytes.{Appends, Keeps, prepend_known}
 use Rattle.std.proofs.KnownBytes.{Appends-trans}
 use Rattle.std.proofs.Math.Seq.{take-length}
+use Rattle.ifmap_heads.specs.Messages.{answer_bytes}
 use Rattle.ifmap_http.specs.declared.wires.Sent.{Sent}
 use Rattle.ifmap_http.specs.declared.wires.Sent.TheVariants as sent
 use Rattle.ifmap_http.specs.Outcomes.{Sends}
 use Rattle.ifmap_http.specs.Wires.{Wired}
 use Rattle.ifmap_io.specs.Links.{Side}
+use Rattle.ifmap_replies.specs.Results.{reply_bytes}
+use Rattle.ifmap_replies.specs.declared.replies.Reply.{Reply}
+use Rattle.ifmap_dialogue.specs.Answers.{reply_answer}
 use Rattle.ifmap_dialogue.specs.Wires.{GainsBytes, IsGivenUp, WireSeen, Writes, WritesOnce, bare_answer, wire_seen}
 
 keeps_appends : (old new : Option (List ℕ)) → Keeps old new → Appends old new []
@@ -23,6 +27,18 @@ written old new sent.Done message s = (message, refl, s)
 written old new sent.WriteFault message (n, s) = (take n message, (n, refl), s)
 written old new sent.NoMemory message s = ([], refl, keeps_appends old new s)
 
+-- a wire by its parts
+abbrev wire_of : Option (List ℕ) → Option (List ℕ) → ℕ → ℕ → Bool → WireSeen
+wire_of left held reads writes spent =
+    record { left = left; held = held; read_faults = reads; write_faults = writes; spent = spent }
+
+same_wire : (one other held : Option (List ℕ)) (reads more writes : ℕ) (spent also : Bool) → one ≡ other → reads ≡ more → spent ≡ also
+    → wire_of one held reads writes spent ≡ wire_of other held more writes also
+same_wire one other held reads more writes spent also p q r =
+    ap (λ (l : Option (List ℕ)). wire_of l held reads writes spent) p
+    ∙ ap (λ (n : ℕ). wire_of other held n writes spent) q
+    ∙ ap (λ (b : Bool). wire_of other held more writes b) r
+
 module _ {L : Type 0} (left held : L → Option (List ℕ)) (reading writing : L → ℕ) (old new : Wired L) where
   -- a wire of which only the link was written to
   pub rest_of : new ≡ record old { link = new.link } → left new.link ≡ left old.link → reading new.link ≡ reading old.link
@@ -32,8 +48,8 @@ module _ {L : Type 0} (left held : L → Option (List ℕ)) (reading writing : L
       let taken : new.taken ≡ old.taken = ap (λ (w : Wired L). w.taken) rest in
       let spent : new.spent ≡ old.spent = ap (λ (w : Wired L). w.spent) rest in
       let seen : prepend_known new.taken (left new.link) ≡ prepend_known old.taken (left old.link) =
-      ap (λ bytes. prepend_known bytes (left new.link)) taken ∙ ap (prepend_known old.taken) same_left in
-      cc
+      ap (λ (bytes : List ℕ). prepend_known bytes (left new.link)) taken ∙ ap (prepend_known old.taken) same_left in
+      same_wire _ _ (held new.link) _ _ (writing new.link) _ _ seen same_reading spent
 
 -- what a link is as a source
 pub same_source : {L : Type 0} (left : L → Option (List ℕ)) (reading : L → ℕ) (incoming : L → Side)
@@ -59,3 +75,10 @@ given_up sent.NoMemory output is = (0, is)
 -- nothing was written before want of memory was answered
 pub gave_up : (a b c : WireSeen) (none output : List ℕ) → none ≡ [] → GainsBytes a b none → GainsBytes b c output → GainsBytes a c output
 gave_up a b c none output is first then = gains_more a b c [] output (subst (GainsBytes a b) is first) then
+
+-- a reply was written as its bytes
+pub writes_reply : (reply : Reply) (close : Bool) (body : List ℕ) (the_sent : Sent) (before after : WireSeen) → body ≡ reply_bytes reply
+    → ((output : List ℕ) × Writes (answer_bytes 200 body close) the_sent output × GainsBytes before after output)
+    → (output : List ℕ) × Writes (reply_answer reply close) the_sent output × GainsBytes before after output
+writes_reply reply close body the_sent before after is (output, writes, gained) =
+    (output, subst (λ (b : List ℕ). Writes (answer_bytes 200 b close) the_sent output) is writes, gained)

@@ -255,10 +255,9 @@ fn await_reply<K: Desk, C: Clock, G: Gate>(
 fn finding_of(reply: Reply, poll: Poll) -> Finding
     ensures { result ≡ finding_of reply poll }
 {
-    if matches!(reply, Reply::Polled(_)) {
-        Finding::Told(reply, poll)
-    } else {
-        Finding::Replied(reply)
+    match reply {
+        Reply::Polled(items) => Finding::Told(Reply::Polled(items), poll),
+        other => Finding::Replied(other),
     }
 }
 

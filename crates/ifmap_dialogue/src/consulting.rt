@@ -38,9 +38,9 @@ pub(crate) fn consult<K: Desk, C: Clock, G: Gate>(
     bodies_mean_fit_requests();
     let asker = Asker {
         client,
-        bytes: body.0.len() as u32,
+        bytes: body.len() as u32,
     };
-    match read_request(setting.alloc, &body.0) {
+    match read_request(setting.alloc, body.as_slice()) {
         Ok(request) => ask_request(setting, desk, words, gate, asker, request),
         Err(Refusal::Named(code)) => refuse(setting.alloc, code),
         Err(Refusal::Unreadable) => Finding::Unreadable,

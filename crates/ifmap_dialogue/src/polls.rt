@@ -45,6 +45,7 @@ impl Poll {
             ask: Ask::Request(Request::Poll { session }),
         })
     }
+
     // The event that tells that the answer to it was lost.
     pub(crate) fn lost_event<C: Clock>(self, setting: &Setting<'_, C>) -> Event
         requires { IsCharacters self.session }

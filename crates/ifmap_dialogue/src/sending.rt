@@ -27,7 +27,7 @@ pub(crate) fn send_reply<L: Link, G: Gate>(
         → Rose (L.Sink.faults wire.old.link) (L.Sink.faults wire.new.link) }
 {
     match write_reply(alloc, reply) {
-        Ok(body) => send(alloc, wire, gate, 200, &body.0, close),
+        Ok(body) => send(alloc, wire, gate, 200, body.as_slice(), close),
         Err(_) => {
             give_up(alloc, wire, gate);
             Sent::NoMemory

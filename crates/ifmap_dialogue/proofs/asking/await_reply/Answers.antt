@@ -1,7 +1,7 @@
-use Rattle.std.proofs.Common.{ap, sym, ◌∙◌}
+use Rattle.std.proofs.Common.{ap, sym, ◌∙◌, arith}
 use Rattle.ifmap_machine.specs.Events.{Event}
 use Rattle.ifmap_dialogue.proofs.Coming.{light_by}
-use Rattle.ifmap_dialogue.proofs.Turning.{finds_polled, finds_spent, finds_unasked, finds_wanting, not_heard, waits_first, waits_more}
+use Rattle.ifmap_dialogue.proofs.Turning.{finds_held_out, finds_polled, finds_spent, finds_unasked, finds_wanting, not_heard, waits_first, waits_more}
 use Rattle.ifmap_dialogue.proofs.Telling.{fits_one}
 use Rattle.ifmap_dialogue.proofs.asking.await_reply.Goals as goal
 
@@ -34,3 +34,27 @@ unreachable-requires g c =
     let (turn, asks, is, tells) = c.take_turn.ensures in
     let (moment, given, same) = c.turns.invariant.due in
     not_heard turn.event _ turn.asked (ap (λ (e : Event). e.ask) (asks ∙ same)) (fits_one _ _ turn tells) (sym is ∙ c.in-Heard.is)
+
+pub returns-then-turns-eq-MOST_TURNS : goal.returns-then-turns-eq-MOST_TURNS
+returns-then-turns-eq-MOST_TURNS g c =
+    let (turn, asks, is, tells) = c.take_turn.ensures in
+    finds_held_out _ _ _ _ _ c.turns.turns c.turns.event c.turns.invariant turn asks tells (sym is ∙ c.in-Held.is)
+    c.if-turns-eq-MOST_TURNS.true
+
+pub returns-in-Err : goal.returns-in-Err
+returns-in-Err g c =
+    let (turn, asks, is, tells) = c.take_turn.ensures in
+    finds_unasked _ _ _ _ _ c.turns.turns c.turns.event c.turns.invariant turn asks tells (sym is ∙ c.in-Held.is)
+    (omega (arith, c.turns.invariant.few, c.if-turns-eq-MOST_TURNS.false))
+
+pub turns-preserved : goal.turns-preserved
+turns-preserved g c =
+    let (turn, asks, is, tells) = c.take_turn.ensures in
+    waits_more _ _ _ _ _ c.turns.turns c.turns.event c.turns.invariant turn asks tells c.in-Ok.again (sym is ∙ c.in-Held.is)
+    (omega (arith, c.turns.invariant.few, c.if-turns-eq-MOST_TURNS.false)) c.in-Ok.ensures
+
+pub turns-smaller : goal.turns-smaller
+turns-smaller g c = omega (arith, c.turns.invariant.few)
+
+pub overflow_add-turns : goal.overflow_add-turns
+overflow_add-turns g c = omega (arith, c.turns.invariant.few)

@@ -1,4 +1,6 @@
-use Rattle.std.proofs.Common.{refl, ◌∙◌}
+use Rattle.std.proofs.Common.{◌≤◌, length, refl, sym, subst, ◌∙◌}
+use Rattle.ifmap_heads.specs.Limits.{longest_post}
+use Rattle.ifmap_http.specs.declared.wires.Post.{Post}
 use Rattle.ifmap_dialogue.proofs.Connecting.{goes_on_by, has_read, more_if_none, post_not, refusal_ends, round_ended, round_posted, round_refused, round_truncated, round_unread, round_wanting}
 use Rattle.ifmap_dialogue.proofs.rounds.serve_round.Goals as goal
 
@@ -56,3 +58,7 @@ returns-in-Truncated-clause-serves g c =
     (has_read g.L.Source.left g.L.Sink.held g.L.Source.faults g.L.Sink.faults g.L.Source.outgoing g.L.Link.outgoing_is c.args.wire.now
     c.read_post.new.self c.read_post.ensures.apart c.read_post.ensures.later)
     c.in-Truncated.ensures.reads
+
+pub answer_post-requires : goal.answer_post-requires
+answer_post-requires g c =
+    record { short = subst (λ (p : Post). length p.body ≤ longest_post) (sym c.last_by-post.ensures) c.in-Posted.ensures.answerable }

@@ -12,3 +12,9 @@ posts-preserved g c =
 
 pub returns-in-Some : goal.returns-in-Some
 returns-in-Some g c = serves_all _ _ _ _ _ _ c.posts.invariant c.in-Some.ensures.serves c.in-Some.ending refl
+
+pub posts-smaller : goal.posts-smaller
+posts-smaller g c = omega (arith, c.posts.invariant.few, c.in_default.ensures.more.1)
+
+pub overflow_add-number : goal.overflow_add-number
+overflow_add-number g c = omega (arith, c.posts.invariant.few)
