@@ -21,7 +21,7 @@ fn place_of(alloc: Global, item: &Item) -> Result<String, NoMemory> {
 }
 
 fn text_of(element: &Element) -> &str {
-    match element.children.0.first() {
+    match element.children.as_slice().first() {
         Some(Child::Text(text)) => text.0.as_str(),
         _ => "",
     }
@@ -43,7 +43,7 @@ fn element_text(alloc: Global, element: &Element) -> Result<String, NoMemory> {
         "{}({}) {}",
         element.name.local.0.as_str(),
         text_of(element),
-        time_of(&element.attributes.0)
+        time_of(element.attributes.as_slice())
     )
 }
 
