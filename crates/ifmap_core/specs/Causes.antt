@@ -9,6 +9,7 @@ use Rattle.ifmap_machine.specs.declared.events.Ask.TheVariants.{Request, Lost}
 use Rattle.ifmap_machine.specs.Ending.{expire}
 use Rattle.ifmap_machine.specs.Events.{Event}
 use Rattle.ifmap_machine.specs.State.{State, advance}
+use Rattle.ifmap_machine.specs.Subscribing.{subscribe_ops}
 use Rattle.ifmap_replies.specs.declared.replies.Reply.TheVariants as the_reply
 use Rattle.ifmap_requests.specs.declared.requests.Request.TheVariants as the_request
 use Rattle.ifmap_session.specs.Sessions.{Session, most_sessions, session_of_client, session_with_id}
@@ -88,6 +89,20 @@ AsksForNoneLeft state client (Request (the_request.Search id asked)) = ⊥
 AsksForNoneLeft state client (Request (the_request.Subscribe id ops)) = ⊥
 AsksForNoneLeft state client (Request (the_request.Poll id)) = ⊥
 AsksForNoneLeft state client (Request (the_request.PurgePublisher id publisher)) = ⊥
+
+-- a subscribe in a live session of the client's has no room for a name
+abbrev pub HasNoRoomForName : State → List ℕ → Ask → Type 0
+HasNoRoomForName state client (Lost id) = ⊥
+HasNoRoomForName state client (Request (the_request.NewSession limit)) = ⊥
+HasNoRoomForName state client (Request (the_request.RenewSession id)) = ⊥
+HasNoRoomForName state client (Request (the_request.EndSession id)) = ⊥
+HasNoRoomForName state client (Request (the_request.Publish id ops)) = ⊥
+HasNoRoomForName state client (Request (the_request.Search id asked)) = ⊥
+HasNoRoomForName state client (Request (the_request.Subscribe id ops)) =
+    (s : Session) × (session_with_id id state.sessions ≡ Some s) × (s.client ≡ client)
+    × (subscribe_ops state.graph s.serial ops (record { queue = s.queue; standing = state.standing }) ≡ None)
+HasNoRoomForName state client (Request (the_request.Poll id)) = ⊥
+HasNoRoomForName state client (Request (the_request.PurgePublisher id publisher)) = ⊥
 
 -- a search in a live session of the client's finds more than its limit
 abbrev pub FindsTooMuch : State → List ℕ → Ask → Type 0

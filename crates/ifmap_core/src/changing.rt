@@ -1,137 +1,138 @@
-//! Changes of the graph.
-ghost use Rattle.std.specs.Prelude.{◌≡◌, ◌∷◌, ℕ, [], List, IfOk, OnErr, OnOk};
+//! What changes the graph: what is published, and what goes with publishers and sessions.
+ghost use Rattle.std.specs.Prelude.{◌≡◌, ℕ, [], IfOk, OnErr, OnOk};
 ghost use Rattle.std.specs.List.{AllByRecursion};
-ghost use Rattle.ifmap_core.specs.Between.{IsKept, IsSteady, IsTurned};
-ghost use Rattle.ifmap_plans.specs.Plans.{AreWhole, Fits, IsAfter};
+ghost use Rattle.ifmap_core.specs.Between.{AreKept, AreTurned, IsReady, IsSteady, so_far};
+ghost use Rattle.ifmap_core.specs.Changes.{CanSettle, CanTakeBack};
+ghost use Rattle.ifmap_core.specs.Outcomes.{IsBare, taken_one};
+ghost use Rattle.ifmap_machine.specs.Telling.{overflow, tell};
 ghost use Rattle.ifmap_publish.specs.Apply.{apply};
-ghost use Rattle.ifmap_publish.specs.declared.who.Who.TheVariants.{Sessions};
+ghost use Rattle.ifmap_publish.specs.Notes.{notes_of};
 ghost use Rattle.ifmap_publish.specs.Retract.{retract};
 ghost use Rattle.ifmap_requests.specs.Fit.{IsFitOp};
-ghost use Rattle.ifmap_store.specs.Back.{IsWayBack};
-ghost use Rattle.ifmap_store.specs.Out.{items_of};
-ghost use Rattle.ifmap_store.specs.Seen.{Awaits, rows_now};
-ghost use Rattle.ifmap_view.specs.declared.attachments.Attachment.{Attachment};
-ghost use Rattle.ifmap_view.specs.declared.views.LinkSeen.{LinkSeen};
-ghost use Rattle.ifmap_view.specs.Attachments.{IsGraph};
+ghost use Rattle.ifmap_store.specs.Seen.{rows_now};
 
-use ifmap_elem::{Many, Text};
-use ifmap_ident::Identifier;
-use ifmap_ident::laws::bytes_tell_identifiers_apart;
-use ifmap_plans::Plan;
+use crate::asking::Asking;
+use crate::changes::{Made, make_change, make_kept, mark_session, tell_graph};
+use crate::parts::Parts;
+use crate::tellings::Pending;
+use ifmap_elem::Many;
 use ifmap_publish::laws::{publishing_keeps_graphs, retracting_keeps_graphs};
 use ifmap_publish::{Author, Who, plan, retract};
 use ifmap_requests::PublishOp;
 use ifmap_steps::Steps;
-use ifmap_store::{Draft, Graph, Undo};
-use ifmap_view::View;
 use std::alloc::{AllocError as NoMemory, Global};
 use std::sync::ledger::Ledger;
 
-// What a view stores is a graph: what holds of every view. It takes no memory.
-fn tell_graph<V: View>(alloc: Global, view: &V)
-    ensures { IsGraph (V.rows view.now) }
-{
-    let none = Identifier::Device {
-        name: Text(String::new(alloc)),
-    };
-    let _ = view.number(&none);
-}
-
-// Carries out a plan.
-fn carry_out(alloc: Global, graph: &mut Graph, plan: Plan) -> Result<(), NoMemory>
-    requires steady { IsSteady graph.old }
-    requires fits { Fits (rows_now graph.old) plan.changes }
-    ensures after { OnOk result ((rows : List Attachment) → IsGraph rows
-        → IsAfter plan.changes (rows_now graph.old) rows → rows_now graph.new ≡ rows) }
-    ensures turned { OnOk result (AreWhole (rows_now graph.new)
-        → IsTurned graph.old graph.new) }
-    ensures kept { OnErr result (IsKept graph.old graph.new) }
-{
-    bytes_tell_identifiers_apart();
-    let ready = graph.reserve(alloc, plan)?;
-    tell_graph(alloc, &Draft::of(graph));
-    graph.commit(ready);
-    Ok(())
-}
-
-// Publishes what the operations say, all or nothing.
-pub(crate) fn publish(
+// Publishes in a session what the operations say, all or nothing.
+pub(crate) fn publish<L: Ledger>(
     alloc: Global,
-    graph: &mut Graph,
-    author: &Author,
+    parts: &mut Parts,
+    pending: &mut Pending,
+    asking: &Asking,
+    serial: u64,
     ops: &Many<PublishOp>,
+    steps: &mut Steps<L>,
 ) -> Result<(), NoMemory>
-    requires steady { IsSteady graph.old }
+    requires steady { IsSteady parts.old.graph parts.old.standing.items }
+    requires ready { IsReady asking.now parts.old pending.old }
     requires fit { AllByRecursion IsFitOp ops.now }
-    ensures rows { OnOk result
-        (rows_now graph.new ≡ apply (rows_now graph.old) author.now ops.now) }
-    ensures turned { OnOk result (IsTurned graph.old graph.new) }
-    ensures kept { OnErr result (IsKept graph.old graph.new) }
+    ensures told { let by = record { client = asking.now.client; serial = serial; moment
+        = asking.now.moment } in OnOk result (so_far asking.now parts.new pending.new
+        ≡ overflow (tell (apply (rows_now parts.old.graph) by ops.now) (notes_of by ops.now)
+        (so_far asking.now parts.old pending.old))) }
+    ensures steady { OnOk result (IsSteady parts.new.graph parts.new.standing.items) }
+    ensures ready { OnOk result (IsReady asking.now parts.new pending.new) }
+    ensures turned { OnOk result (AreTurned parts.old parts.new) }
+    ensures kept { OnErr result (AreKept parts.old parts.new) }
 {
     publishing_keeps_graphs();
-    tell_graph(alloc, graph);
-    let _ = author.client.text();
-    let plan = plan(alloc, graph, ops, author)?;
-    carry_out(alloc, graph, plan)
+    tell_graph(alloc, &parts.graph);
+    let _ = asking.client.text();
+    let author = Author {
+        client: asking.client,
+        serial,
+        moment: asking.moment,
+    };
+    let plan = plan(alloc, &parts.graph, ops, &author)?;
+    make_change(alloc, parts, pending, asking, plan, steps)
 }
 
 // Takes away what is of these.
 pub(crate) fn take_away<L: Ledger>(
     alloc: Global,
-    graph: &mut Graph,
+    parts: &mut Parts,
+    pending: &mut Pending,
+    asking: &Asking,
     who: &Who,
     steps: &mut Steps<L>,
 ) -> Result<(), NoMemory>
-    requires steady { IsSteady graph.old }
-    ensures rows { OnOk result (rows_now graph.new ≡ retract who.now (rows_now graph.old)) }
-    ensures turned { OnOk result (IsTurned graph.old graph.new) }
-    ensures kept { OnErr result (IsKept graph.old graph.new) }
+    requires steady { IsSteady parts.old.graph parts.old.standing.items }
+    requires ready { IsReady asking.now parts.old pending.old }
+    ensures told { OnOk result (so_far asking.now parts.new pending.new
+        ≡ overflow (tell (retract who.now (rows_now parts.old.graph)) []
+        (so_far asking.now parts.old pending.old))) }
+    ensures steady { OnOk result (IsSteady parts.new.graph parts.new.standing.items) }
+    ensures ready { OnOk result (IsReady asking.now parts.new pending.new) }
+    ensures bare { OnOk result ((n : ℕ) → IsBare n parts.old pending.old
+        → IsBare n parts.new pending.new) }
+    ensures turned { OnOk result (AreTurned parts.old parts.new) }
+    ensures kept { OnErr result (AreKept parts.old parts.new) }
 {
     retracting_keeps_graphs();
-    tell_graph(alloc, graph);
-    let plan = retract(alloc, graph, who, steps)?;
-    carry_out(alloc, graph, plan)
+    tell_graph(alloc, &parts.graph);
+    let plan = retract(alloc, &parts.graph, who, steps)?;
+    make_change(alloc, parts, pending, asking, plan, steps)
 }
 
-// Takes away what was to stay as long as a session.
+// Takes away what was to stay as long as a session, whose own subscriptions are not told.
 pub(crate) fn take_away_one<L: Ledger>(
     alloc: Global,
-    graph: &mut Graph,
+    parts: &mut Parts,
+    pending: &mut Pending,
+    asking: &Asking,
     serial: u64,
     steps: &mut Steps<L>,
 ) -> Result<(), NoMemory>
-    requires steady { IsSteady graph.old }
-    ensures rows { OnOk result
-        (rows_now graph.new ≡ retract (Sessions (serial ∷ [])) (rows_now graph.old)) }
-    ensures turned { OnOk result (IsTurned graph.old graph.new) }
-    ensures kept { OnErr result (IsKept graph.old graph.new) }
+    requires steady { IsSteady parts.old.graph parts.old.standing.items }
+    requires ready { IsReady asking.now parts.old pending.old }
+    ensures told { OnOk result (so_far asking.now parts.new pending.new
+        ≡ taken_one serial (so_far asking.now parts.old pending.old)) }
+    ensures steady { OnOk result (IsSteady parts.new.graph parts.new.standing.items) }
+    ensures ready { OnOk result (IsReady asking.now parts.new pending.new) }
+    ensures bare { OnOk result (IsBare serial parts.new pending.new) }
+    ensures turned { OnOk result (AreTurned parts.old parts.new) }
+    ensures kept { OnErr result (AreKept parts.old parts.new) }
 {
     let mut serials = Vec::with_capacity(alloc, 1)?;
     serials.push(serial)?;
     let who = Who::Sessions(Many(serials));
-    take_away(alloc, graph, &who, steps)
+    mark_session(&parts.standing, pending, serial);
+    take_away(alloc, parts, pending, asking, &who, steps)
 }
 
 // Takes away what is of these, so that it can be taken back.
 pub(crate) fn take_away_kept<L: Ledger>(
     alloc: Global,
-    graph: &mut Graph,
+    parts: &mut Parts,
+    pending: &mut Pending,
+    asking: &Asking,
     who: &Who,
     steps: &mut Steps<L>,
-) -> Result<Undo, NoMemory>
-    requires steady { IsSteady graph.old }
-    ensures rows { OnOk result (rows_now graph.new ≡ retract who.now (rows_now graph.old)) }
-    ensures steady { OnOk result (IsSteady graph.new) }
-    ensures waits { IfOk result (λ undo. Awaits (items_of undo.plan.changes) graph.new) }
-    ensures back { IfOk result (λ undo. (links : ℕ → List LinkSeen)
-        × IsWayBack undo (rows_now graph.old) links graph.new) }
-    ensures kept { OnErr result (IsKept graph.old graph.new) }
+) -> Result<Made, NoMemory>
+    requires steady { IsSteady parts.old.graph parts.old.standing.items }
+    requires ready { IsReady asking.now parts.old pending.old }
+    ensures told { OnOk result (so_far asking.now parts.new pending.new
+        ≡ overflow (tell (retract who.now (rows_now parts.old.graph)) []
+        (so_far asking.now parts.old pending.old))) }
+    ensures steady { OnOk result (IsSteady parts.new.graph parts.new.standing.items) }
+    ensures ready { OnOk result (IsReady asking.now parts.new pending.new) }
+    ensures turned { OnOk result (AreTurned parts.old parts.new) }
+    ensures settle { IfOk result (λ made. CanSettle made parts.new) }
+    ensures back { IfOk result (λ made. CanTakeBack made parts.old parts.new) }
+    ensures kept { OnErr result (AreKept parts.old parts.new) }
 {
-    bytes_tell_identifiers_apart();
     retracting_keeps_graphs();
-    tell_graph(alloc, graph);
-    let plan = retract(alloc, graph, who, steps)?;
-    let ready = graph.reserve(alloc, plan)?;
-    tell_graph(alloc, &Draft::of(graph));
-    Ok(graph.commit_kept(ready))
+    tell_graph(alloc, &parts.graph);
+    let plan = retract(alloc, &parts.graph, who, steps)?;
+    make_kept(alloc, parts, pending, asking, plan, steps)
 }

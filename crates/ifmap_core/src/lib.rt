@@ -4,10 +4,16 @@
 mod answering;
 mod asking;
 mod beginning;
+mod changes;
 mod changing;
 mod ending;
 mod holding;
 pub mod machine;
+mod names;
 mod outcomes;
+mod parts;
+mod renamings;
+mod subscribing;
+mod tellings;
 
 pub use machine::Core;

@@ -2,7 +2,7 @@
 ghost use Rattle.std.specs.Prelude.{◌≡◌, ◌↔◌, ◌⊎◌, ◌≤◌, IfOk, IsTrue, OnErr, max};
 ghost use Rattle.std.specs.Bool.{OnTrue};
 ghost use Rattle.ifmap_core.specs.Built.{IsBuilt};
-ghost use Rattle.ifmap_core.specs.Causes.{AsksForNoneLeft, FindsTooMuch, IsRefusal, NamesAnothersSession, NamesNoSession, PurgesAnother, state_for};
+ghost use Rattle.ifmap_core.specs.Causes.{AsksForNoneLeft, FindsTooMuch, HasNoRoomForName, IsRefusal, NamesAnothersSession, NamesNoSession, PurgesAnother, state_for};
 ghost use Rattle.ifmap_core.specs.Holding.{WouldHold};
 ghost use Rattle.ifmap_ident.specs.declared.codes.Code.{Code};
 ghost use Rattle.ifmap_ident.specs.declared.codes.Code.TheVariants as the_code;
@@ -12,6 +12,7 @@ ghost use Rattle.ifmap_machine.specs.Step.{step};
 
 use crate::ending::{Time, answer_at};
 use crate::holding::{has_nothing, polled_id};
+use crate::parts::Parts;
 use ifmap_io::Moment;
 use ifmap_machine::{Answer, Event};
 use ifmap_session::Sessions;
@@ -26,8 +27,7 @@ use std::sync::ledger::Ledger;
 pub struct Core {
     ttl: u32,
     moment: Moment,
-    graph: Graph,
-    sessions: Sessions,
+    parts: Parts,
 }
 
 impl Model for Core {
@@ -47,9 +47,9 @@ impl Model for Core {
       the_search.the_row.coded,
     ) };
 
-    ghost view = { λ core. state_at core.ttl core.moment core.graph core.sessions };
+    ghost view = { λ core. state_at core.ttl core.moment core.parts };
 
-    ghost invariant = { λ core. IsCore core.ttl core.graph core.sessions.live };
+    ghost invariant = { λ core. IsCore core.ttl core.parts };
 }
 
 // The later of two moments.
@@ -69,8 +69,11 @@ impl Core {
         Core {
             ttl,
             moment: Moment::new(0).unwrap(),
-            graph: Graph::new(alloc),
-            sessions: Sessions::new(alloc),
+            parts: Parts {
+                graph: Graph::new(alloc),
+                sessions: Sessions::new(alloc),
+                standing: Vec::new(alloc),
+            },
         }
     }
 
@@ -98,7 +101,8 @@ impl Core {
             ↔ (NamesAnothersSession (state_for self.old event.now) event.now.client event.now.ask
             ⊎ PurgesAnother (state_for self.old event.now) event.now.client event.now.ask)) }
         ensures system_error { IfOk result (λ answer. IsRefusal the_code.SystemError answer
-            ↔ AsksForNoneLeft (state_for self.old event.now) event.now.client event.now.ask) }
+            ↔ (AsksForNoneLeft (state_for self.old event.now) event.now.client event.now.ask
+            ⊎ HasNoRoomForName (state_for self.old event.now) event.now.client event.now.ask)) }
         ensures too_big { IfOk result (λ answer. IsRefusal the_code.SearchResultsTooBig answer
             ↔ FindsTooMuch (state_for self.old event.now) event.now.client event.now.ask) }
     {
@@ -107,14 +111,7 @@ impl Core {
             ttl: self.ttl,
             moment,
         };
-        let answer = answer_at(
-            alloc,
-            &mut self.graph,
-            &mut self.sessions,
-            &time,
-            event,
-            steps,
-        )?;
+        let answer = answer_at(alloc, &mut self.parts, &time, event, steps)?;
         self.moment = moment;
         Ok(answer)
     }
@@ -130,9 +127,9 @@ impl Core {
             return false;
         };
         let moment = later(self.moment, event.moment);
-        if !event.again || self.sessions.any_expired(moment, self.ttl) {
+        if !event.again || self.parts.sessions.any_expired(moment, self.ttl) {
             return false;
         }
-        has_nothing(&self.sessions, &event.client, id)
+        has_nothing(&self.parts.sessions, &event.client, id)
     }
 }

@@ -6,7 +6,7 @@ ghost use Rattle.ifmap_ident.specs.Identifiers.{identifier_order};
 ghost use Rattle.ifmap_pool.specs.Holdings.{key_at, once};
 ghost use Rattle.ifmap_store.specs.Back.{KeepsBacks};
 ghost use Rattle.ifmap_store.specs.Held.{IsOwn};
-ghost use Rattle.ifmap_store.specs.Seen.{AwaitsMore, HasFewOwn, IsStill};
+ghost use Rattle.ifmap_store.specs.Seen.{AwaitsMore, BringsNoNumbers, HasFewOwn, IsStill};
 ghost use Rattle.ifmap_store.specs.Turning.{sides_at};
 
 use crate::bringing::MOST_ITEMS;
@@ -52,6 +52,7 @@ impl Graph {
         ensures own { (a other : Identifier) (own : ℕ) → key_at self.old.names number ≡ Some a
             → IsOwn self.old other own
             → IsOwn self.new other (own - once identifier_order a other) }
+        ensures numbers { BringsNoNumbers self.old self.new }
         ensures shelves { self.new.shelves ≡ self.old.shelves }
         ensures links { self.new.links ≡ self.old.links }
         ensures places { self.new.places ≡ self.old.places }

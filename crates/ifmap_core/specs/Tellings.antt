@@ -1,0 +1,80 @@
+-- What an event has changed and not yet told: which subscriptions stand no longer, and what sessions are to be told.
+use Rattle.std.specs.Prelude.{◌≡◌, ◌≢◌, ◌<◌, ◌≤◌, ◌^◌, ◌-◌, ◌||◌, ◌==◌, ℕ, Bool, true, false, List, [], ◌∷◌, ◌++◌, filter, flat_map, length, map, not, Option, None, Some, slice_get}
+use Rattle.std.specs.BTreeMap.{BTreeMap, get}
+use Rattle.std.specs.List.{zip}
+use Rattle.std.specs.Ordering.{nat_cmp}
+use Rattle.ifmap_core.specs.declared.tellings.Telling.{Telling}
+use Rattle.ifmap_core.specs.declared.tellings.Telling.TheVariants.{After, Alone}
+use Rattle.ifmap_machine.specs.Telling.{tell_session}
+use Rattle.ifmap_search.specs.declared.results.PollItem.{PollItem}
+use Rattle.ifmap_search.specs.Sizes.{poll_size, queue_size}
+use Rattle.ifmap_session.specs.Sessions.{IsLive, Session, Table, overflowed, session_with_serial, spare_of}
+use Rattle.ifmap_standing.specs.declared.standing.Standing.{Standing}
+use Rattle.ifmap_standing.specs.declared.telling.News.{News}
+
+-- what stands at the places where no flag is
+abbrev pub kept_of : {X : Type 0} → List Bool → List X → List X
+kept_of gone xs = map (λ p. p.1) (filter (λ p. not p.0) (zip gone xs))
+
+-- P holds of each subscription that is not gone
+abbrev pub AllKept : (Standing → Type 0) → List Bool → List Standing → Type 0
+AllKept P gone standing = (i : ℕ) (x : Standing) → slice_get standing i ≡ Some x → slice_get gone i ≡ Some false → P x
+
+-- tellings by the serials of their sessions
+abbrev pub Tellings : Type 0
+Tellings = BTreeMap ℕ Telling
+
+-- a session that is told something: more than it had to tell, or one error in place of all
+abbrev pub told_where : Option Telling → Session → Session
+told_where None s = s
+told_where (Some (After items size)) s = tell_session items s
+told_where (Some (Alone error)) s = overflowed error s
+
+abbrev pub told_by : Tellings → Session → Session
+told_by tellings s = told_where (get nat_cmp tellings s.serial) s
+
+-- how many items a telling puts into a queue
+abbrev pub count_told : Telling → ℕ
+count_told (After items size) = length items
+count_told (Alone error) = 1
+
+-- and none where there is no telling
+abbrev pub count_where : Option Telling → ℕ
+count_where None = 0
+count_where (Some t) = count_told t
+
+-- whether it is one error in place of all
+abbrev pub is_alone : Option Telling → Bool
+is_alone None = false
+is_alone (Some (After items size)) = false
+is_alone (Some (Alone error)) = true
+
+-- the size that a telling keeps is that of the queue that it makes
+abbrev pub IsSized : ℕ → Telling → List Session → Type 0
+IsSized n (After items size) live =
+    (s : Session) → session_with_serial n live ≡ Some s → (size ≡ queue_size (s.queue ++ items)) × (size < 2 ^ 64 - 1)
+IsSized n (Alone error) live = poll_size error ≡ 100
+
+-- a telling is of a live session, whose queue has room for it
+pub record CanTell (table : Table) (n : ℕ) (t : Telling) : Type 0 where
+  pub live : IsLive n table.live
+  pub room : count_told t ≤ spare_of n table.spare
+
+-- P holds of each serial with its telling
+abbrev pub EachTelling : (ℕ → Telling → Type 0) → Tellings → Type 0
+EachTelling P tellings = (n : ℕ) (t : Telling) → get nat_cmp tellings n ≡ Some t → P n t
+
+-- what there is to queue for a session of the news of each subscription
+abbrev pub queued_for : ℕ → List Standing → List News → List PollItem
+queued_for serial standing news = flat_map (λ (p : Standing × News). p.1.items) (filter (λ (p : Standing × News). p.0.serial == serial) (zip standing news))
+
+-- a session that was told one error in place of all is told nothing more
+abbrev pub LeaveAlone : Tellings → List Standing → List News → Type 0
+LeaveAlone tellings standing news = (n : ℕ) → is_alone (get nat_cmp tellings n) ≡ true → queued_for n standing news ≡ []
+
+-- also gone is what is too big now, and what is of a session that is told one error in place of all
+abbrev pub gone_after : List Bool → List News → List Bool
+gone_after gone news = map (λ (p : Bool × News). p.0 || p.1.is_too_big) (zip gone news)
+
+abbrev pub gone_alone : Tellings → List Bool → List Standing → List Bool
+gone_alone tellings gone standing = map (λ (p : Bool × Standing). p.0 || is_alone (get nat_cmp tellings p.1.serial)) (zip gone standing)

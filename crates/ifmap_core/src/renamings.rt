@@ -1,0 +1,155 @@
+//! What becomes of the names of a subscribe, once all is ready.
+ghost use Rattle.std.specs.Prelude.{◌≡◌, ◌≤◌, ◌+◌, ◌++◌, ◌∷◌, ℕ, List, [], Some, true, false, IfErr, IfOk, IfSome, OnErr, filter, length, map, not, option_to_list, slice_get, sum_by, vec_capacity, vec_len};
+ghost use Rattle.std.specs.List.{AllByRecursion, insert, list_any};
+ghost use Rattle.std.specs.List.Sorted.{IsStrictlySortedBy};
+ghost use Rattle.ifmap_core.specs.Between.{IsSteady};
+ghost use Rattle.ifmap_core.specs.declared.renamings.Renaming.{Renaming};
+ghost use Rattle.ifmap_core.specs.Renamings.{AreRenamed, CanRenameEach, begun_by, stand_where};
+ghost use Rattle.ifmap_machine.specs.State.{standing_order};
+ghost use Rattle.ifmap_machine.specs.Subscribing.{is_of_name};
+ghost use Rattle.ifmap_machine.specs.Telling.{tell_session};
+ghost use Rattle.ifmap_plans.specs.Placing.{put};
+ghost use Rattle.ifmap_session.specs.Sessions.{Changes, IsLive, spare_of};
+ghost use Rattle.ifmap_standing.specs.declared.standing.Standing.{Standing};
+ghost use Rattle.ifmap_standing.specs.Standing.{shown};
+ghost use Rattle.ifmap_store.specs.Back.{KeepsBacks};
+ghost use Rattle.ifmap_store.specs.Seen.{AwaitsMore, BringsNoNumbers, links_now, rows_now};
+
+use crate::parts::Parts;
+use ifmap_elem::{Many, Text};
+use ifmap_search::PollItem;
+use ifmap_session::Sessions;
+use ifmap_standing::Standing;
+use ifmap_store::Graph;
+
+// What becomes of one name: what is to be told of it goes, and its subscription too; then an item is to
+// be told, and a subscription stands, where there are.
+#[derive(Drop)]
+pub struct Renaming {
+    pub name: Text,
+    pub item: Option<PollItem>,
+    pub standing: Option<Standing>,
+}
+
+// Lets go of the numbers that subscriptions hold which are not to stand. It takes no memory.
+pub(crate) fn release_all(graph: &mut Graph, renamings: Many<Renaming>)
+    requires { (standing : List Standing) × IsSteady graph.old (standing ++ begun_by renamings) }
+    ensures steady { (standing : List Standing)
+        → IsSteady graph.old (standing ++ begun_by renamings) → IsSteady graph.new standing }
+    ensures rows { rows_now graph.new ≡ rows_now graph.old }
+    ensures links { (v : ℕ) → links_now graph.new v ≡ links_now graph.old v }
+    ensures numbers { BringsNoNumbers graph.old graph.new }
+    ensures backs { KeepsBacks graph.old graph.new }
+    ensures waits { AwaitsMore [] graph.old graph.new }
+{
+    for renaming in renamings.0 {
+        if let Some(standing) = renaming.standing {
+            graph.release(standing.subscription.region.start);
+        }
+    }
+}
+
+// The names of a session are renamed, one after the other. It takes no memory.
+pub(crate) fn rename_each(parts: &mut Parts, serial: u64, renamings: Many<Renaming>)
+    requires can { CanRenameEach serial renamings parts.old }
+    ensures renamed { AreRenamed serial renamings parts.old parts.new }
+    ensures rest { CanRenameEach serial [] parts.new }
+{
+    for renaming in renamings.0 {
+        rename_one(parts, serial, renaming);
+    }
+}
+
+// One name of a session is renamed. It takes no memory.
+fn rename_one(parts: &mut Parts, serial: u64, renaming: Renaming)
+    requires can { (rest : List Renaming) × CanRenameEach serial (renaming ∷ rest) parts.old }
+    ensures renamed { AreRenamed serial (renaming ∷ []) parts.old parts.new }
+    ensures rest { (rest : List Renaming) → CanRenameEach serial (renaming ∷ rest) parts.old
+        → CanRenameEach serial rest parts.new }
+{
+    let Renaming {
+        name,
+        item,
+        standing,
+    } = renaming;
+    parts.sessions.drop_name(serial, &name);
+    push_where(&mut parts.sessions, serial, item);
+    drop_standing(&mut parts.graph, &mut parts.standing, serial, &name);
+    put_where(&mut parts.standing, standing);
+}
+
+// Queues an item in a session, where there is one. It takes no memory.
+fn push_where(sessions: &mut Sessions, serial: u64, item: Option<PollItem>)
+    requires live { IsLive serial sessions.old.live }
+    requires room { length (option_to_list item) ≤ spare_of serial sessions.old.spare }
+    ensures changes { Changes serial (tell_session (option_to_list item)) sessions.old
+        sessions.new }
+    ensures spare { spare_of serial sessions.new.spare + length (option_to_list item)
+        ≡ spare_of serial sessions.old.spare }
+{
+    if let Some(item) = item {
+        sessions.push(serial, item);
+    }
+}
+
+// The subscription of a name of a session goes, where there is one. It takes no memory.
+fn drop_standing(graph: &mut Graph, standing: &mut Vec<Standing>, serial: u64, name: &Text)
+    requires rising { IsStrictlySortedBy standing_order (map shown standing.old.items) }
+    requires steady { (more : List Standing) × IsSteady graph.old (standing.old.items ++ more) }
+    ensures standing { standing.new.items
+        ≡ filter (λ x. not (is_of_name serial name.now (shown x))) standing.old.items }
+    ensures steady { (more : List Standing) → IsSteady graph.old (standing.old.items ++ more)
+        → IsSteady graph.new (standing.new.items ++ more) }
+    ensures rows { rows_now graph.new ≡ rows_now graph.old }
+    ensures links { (v : ℕ) → links_now graph.new v ≡ links_now graph.old v }
+    ensures numbers { BringsNoNumbers graph.old graph.new }
+    ensures len { vec_len standing.new ≤ vec_len standing.old }
+    ensures capacity { vec_capacity standing.new ≡ vec_capacity standing.old }
+{
+    if let Ok(at) = place_of_name(standing, serial, name) {
+        let former = standing.remove(at);
+        graph.release(former.subscription.region.start);
+    }
+}
+
+// Where the subscription of a name of a session stands, or is to stand.
+pub(crate) fn place_of_name(
+    standing: &[Standing],
+    serial: u64,
+    name: &Text,
+) -> Result<usize, usize>
+    requires { IsStrictlySortedBy standing_order (map shown standing.now) }
+    ensures found { IfOk result (λ at. (x : Standing) × (slice_get standing.now at ≡ Some x)
+        × (is_of_name serial name.now (shown x) ≡ true)) }
+    ensures only { OnErr result (list_any (λ x. is_of_name serial name.now (shown x)) standing.now
+        ≡ false) }
+    ensures gap { IfErr result (λ at. (x : Standing) → x.serial ≡ serial → x.name ≡ name.now
+        → map shown (insert standing.now at x)
+        ≡ put standing_order (shown x) (map shown standing.now)) }
+    ensures within { IfErr result (λ at. at ≤ length standing.now) }
+{
+    standing.binary_search_by(|other| other.order(serial, name))
+}
+
+// A subscription stands at its place, where there is one: none has its name, and there is room. It takes
+// no memory.
+fn put_where(standing: &mut Vec<Standing>, begun: Option<Standing>)
+    requires rising { IsStrictlySortedBy standing_order (map shown standing.old.items) }
+    requires free { IfSome begun (λ x. list_any (λ other. is_of_name x.serial x.name (shown other))
+        standing.old.items ≡ false) }
+    requires room { vec_len standing.old + length (option_to_list begun)
+        ≤ vec_capacity standing.old }
+    ensures standing { map shown standing.new.items
+        ≡ stand_where begun (map shown standing.old.items) }
+    ensures all { (P : Standing → Type 0) → AllByRecursion P standing.old.items
+        → AllByRecursion P (option_to_list begun) → AllByRecursion P standing.new.items }
+    ensures sum { (f : Standing → ℕ) → sum_by f standing.new.items
+        ≡ sum_by f standing.old.items + sum_by f (option_to_list begun) }
+    ensures len { vec_len standing.new ≡ vec_len standing.old + length (option_to_list begun) }
+    ensures capacity { vec_capacity standing.new ≡ vec_capacity standing.old }
+{
+    if let Some(begun) = begun {
+        let place = place_of_name(standing, begun.serial, &begun.name).unwrap_err();
+        standing.insert(place, begun).unwrap();
+    }
+}
