@@ -61,7 +61,7 @@ fn answer_all<L: Ledger>(
     requires { AreParts parts.old }
     ensures answer { IfOk result (λ answer.
         (state_at time.now.ttl time.now.moment parts.new, answer)
-        ≡ step_ask ((state_at time.now.ttl time.now.moment parts.old) event.now
+        ≡ step_ask (state_at time.now.ttl time.now.moment parts.old) event.now
         event.now.ask) }
     ensures kept { OnErr result (AreKept parts.old parts.new) }
     ensures parts { AreParts parts.new }
