@@ -1,5 +1,5 @@
 -- The machine's parts between two events, and while one is answered.
-use Rattle.std.specs.Prelude.{◌≡◌, ◌≢◌, ◌≤◌, ◌×◌, ℕ, false, List, [], ◌∷◌, length, map, Some, sum_by}
+use Rattle.std.specs.Prelude.{◌≡◌, ◌≤◌, ℕ, false, List, [], ◌∷◌, length, map, Some, sum_by}
 use Rattle.std.specs.List.{AllByRecursion}
 use Rattle.std.specs.List.Sorted.{IsStrictlySortedBy}
 use Rattle.ifmap_core.specs.declared.parts.Parts.{Parts}
@@ -72,7 +72,7 @@ pub record AreParts (parts : Parts) : Type 0 where
 
 -- and of the machine
 pub record IsCore (ttl : ℕ) (parts : Parts) : Type 0 where
-  pub parts : AreParts parts
+  pub sound : AreParts parts
   pub time : 1 ≤ ttl
 
 -- who asks, at which moment, after how many seconds sessions are expired, and which are, though they still stand in the table
@@ -117,7 +117,8 @@ pub record IsReady (a : Asking) (parts : Parts) (pending : Pending) : Type 0 whe
   -- what is not gone keeps what the graph has, and is of a session that is left
   pub kept : AllKept (λ x. IsKept (sight_now parts.graph) x.subscription) pending.gone.items parts.standing.items
   pub live : AllKept (λ x. IsLive x.serial (left a parts.sessions)) pending.gone.items parts.standing.items
-  -- no queue is greater than its limit once all is told, which there is room for
+  -- no queue is greater than its limit, also once all is told, which there is room for
+  pub queues : AreWithin parts.sessions.live
   pub within : AreWithin (map (told_by pending.tellings) (left a parts.sessions))
   pub can_tell : EachTelling (CanTell (rest_of a parts.sessions)) pending.tellings
   pub sized : EachTelling (λ n t. IsSized n t parts.sessions.live) pending.tellings

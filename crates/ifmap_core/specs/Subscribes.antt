@@ -1,10 +1,10 @@
 -- The operations of a subscribe, while they are made ready.
-use Rattle.std.specs.Prelude.{◌≡◌, ◌≤◌, ◌<◌, ◌+◌, ◌-◌, ◌^◌, ◌++◌, ℕ, List, [], filter, is_some, length, Option, None, Some, option_to_list}
+use Rattle.std.specs.Prelude.{◌≡◌, ◌≤◌, ◌<◌, ◌+◌, ◌-◌, ◌^◌, ◌++◌, ℕ, false, List, [], filter, is_some, length, Option, None, Some, option_to_list}
 use Rattle.std.specs.BTreeMap.{get}
 use Rattle.std.specs.Cmp.Lexicographic.{slice_cmp}
 use Rattle.std.specs.List.{AllByRecursion, list_any}
 use Rattle.std.specs.Ordering.{nat_cmp}
-use Rattle.ifmap_core.specs.Between.{Asking, IsSteady, SharesNumbers, sight_now, so_far, starts_of}
+use Rattle.ifmap_core.specs.Between.{Asking, IsSteady, sight_now, so_far, starts_of}
 use Rattle.ifmap_core.specs.declared.names.NameNow.{NameNow}
 use Rattle.ifmap_core.specs.declared.parts.Parts.{Parts}
 use Rattle.ifmap_core.specs.declared.renamings.Renaming.{Renaming}
@@ -15,7 +15,7 @@ use Rattle.ifmap_delta.specs.Sights.{IsKept}
 use Rattle.ifmap_ident.specs.declared.identifiers.Identifier.{Identifier}
 use Rattle.ifmap_ident.specs.Identifiers.{identifier_order}
 use Rattle.ifmap_machine.specs.State.{standing_in}
-use Rattle.ifmap_machine.specs.Subscribing.{Told, is_of_name, most_names}
+use Rattle.ifmap_machine.specs.Subscribing.{Told, is_full_for, is_of_name, most_names}
 use Rattle.ifmap_plans.specs.Plans.{AreWhole}
 use Rattle.ifmap_pool.specs.Holdings.{key_at, once}
 use Rattle.ifmap_search.specs.declared.results.PollItem.{PollItem}
@@ -24,7 +24,7 @@ use Rattle.ifmap_session.specs.Sessions.{Session, is_named, session_with_serial}
 use Rattle.ifmap_store.specs.Back.{KeepsBacks}
 use Rattle.ifmap_standing.specs.declared.standing.Standing.{Standing}
 use Rattle.ifmap_store.specs.Held.{Held, IsOwn}
-use Rattle.ifmap_store.specs.Seen.{AwaitsMore, IsStill, links_now, rows_now}
+use Rattle.ifmap_store.specs.Seen.{AwaitsMore, BringsNoNumbers, IsStill, KeepsNumbers, links_now, rows_now}
 
 -- what a session has to tell, if it is live
 abbrev pub queue_where : Option Session → List PollItem
@@ -62,11 +62,17 @@ pub record AreReadied (serial : ℕ) (t : Told) (parts : Parts) (readying : Read
   pub size : readying.size ≡ queue_size (told_after serial readying t).queue
   pub most : length readying.made.items ≤ 2 ^ 30
 
+-- a subscription of a name can begin: what is kept is so, this is so of the name, and there is room for it
+pub record CanBegin (serial : ℕ) (name : List ℕ) (now : NameNow) (t : Told) (parts : Parts) (readying : Readying) : Type 0 where
+  pub readied : AreReadied serial t parts readying
+  pub now : IsNameNow serial name (told_after serial readying t) now
+  pub room : is_full_for serial name (told_after serial readying t).standing ≡ false
+
 -- identifiers are held, and nothing else that is seen changes
 pub record OnlyHolds (old new : Parts) : Type 0 where
   pub rows : rows_now new.graph ≡ rows_now old.graph
   pub links : (v : ℕ) → links_now new.graph v ≡ links_now old.graph v
-  pub numbers : SharesNumbers old.graph new.graph
+  pub numbers : KeepsNumbers old.graph new.graph
   pub backs : KeepsBacks old.graph new.graph
   pub waits : AwaitsMore [] old.graph new.graph
   pub sessions : new.sessions ≡ old.sessions
@@ -76,7 +82,15 @@ pub record OnlyHolds (old new : Parts) : Type 0 where
 pub record GraphHolds (old new : Held) : Type 0 where
   pub rows : rows_now new ≡ rows_now old
   pub links : (v : ℕ) → links_now new v ≡ links_now old v
-  pub numbers : SharesNumbers old new
+  pub numbers : KeepsNumbers old new
+  pub backs : KeepsBacks old new
+  pub waits : AwaitsMore [] old new
+
+-- holds were let go of, and nothing else that is seen changes
+pub record IsReleased (old new : Held) : Type 0 where
+  pub rows : rows_now new ≡ rows_now old
+  pub links : (v : ℕ) → links_now new v ≡ links_now old v
+  pub numbers : BringsNoNumbers old new
   pub backs : KeepsBacks old new
   pub waits : AwaitsMore [] old new
 

@@ -23,7 +23,7 @@ ghost use Rattle.ifmap_standing.specs.News.{news_of_each};
 ghost use Rattle.ifmap_standing.specs.Standing.{shown};
 ghost use Rattle.ifmap_standing.specs.Ways.{LeadBack};
 ghost use Rattle.ifmap_store.specs.Out.{items_of};
-ghost use Rattle.ifmap_store.specs.Seen.{Awaits, rows_next, rows_now};
+ghost use Rattle.ifmap_store.specs.Seen.{Awaits, KeepsNumbers, rows_next, rows_now};
 ghost use Rattle.ifmap_view.specs.declared.attachments.Attachment.{Attachment};
 ghost use Rattle.ifmap_view.specs.Attachments.{IsGraph};
 
@@ -113,6 +113,7 @@ pub(crate) fn make_kept<L: Ledger>(
         → IsBare n parts.new pending.new) }
     ensures turned { OnOk result (AreTurned parts.old parts.new) }
     ensures back { IfOk result (λ made. CanTakeBack made parts.old parts.new) }
+    ensures numbers { OnOk result (KeepsNumbers parts.old.graph parts.new.graph) }
     ensures kept { OnErr result (AreKept parts.old parts.new) }
 {
     bytes_tell_identifiers_apart();

@@ -9,7 +9,7 @@ ghost use Rattle.ifmap_publish.specs.Apply.{apply};
 ghost use Rattle.ifmap_publish.specs.Notes.{notes_of};
 ghost use Rattle.ifmap_publish.specs.Retract.{retract};
 ghost use Rattle.ifmap_requests.specs.Fit.{IsFitOp};
-ghost use Rattle.ifmap_store.specs.Seen.{rows_now};
+ghost use Rattle.ifmap_store.specs.Seen.{KeepsNumbers, rows_now};
 
 use crate::asking::Asking;
 use crate::changes::{Made, make_change, make_kept, mark_session, tell_graph};
@@ -129,6 +129,7 @@ pub(crate) fn take_away_kept<L: Ledger>(
     ensures turned { OnOk result (AreTurned parts.old parts.new) }
     ensures settle { IfOk result (λ made. CanSettle made parts.new) }
     ensures back { IfOk result (λ made. CanTakeBack made parts.old parts.new) }
+    ensures numbers { OnOk result (KeepsNumbers parts.old.graph parts.new.graph) }
     ensures kept { OnErr result (AreKept parts.old parts.new) }
 {
     retracting_keeps_graphs();

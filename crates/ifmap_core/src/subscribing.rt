@@ -9,13 +9,13 @@ ghost use Rattle.ifmap_core.specs.Between.{AreKept, AreTurned, HasSameSessions, 
 ghost use Rattle.ifmap_core.specs.declared.subscribing.SubscribeError.TheVariants as the_error;
 ghost use Rattle.ifmap_core.specs.Outcomes.{LeadsTo};
 ghost use Rattle.ifmap_core.specs.Renamings.{IsNameNow, IsOfSession, rename};
-ghost use Rattle.ifmap_core.specs.Subscribes.{AreReadied, GraphHolds, IsHolding, IsSmall, OnlyHolds, now_of, told_after, told_at};
+ghost use Rattle.ifmap_core.specs.Subscribes.{AreReadied, CanBegin, GraphHolds, IsHolding, IsReleased, IsSmall, OnlyHolds, now_of, told_after, told_at};
 ghost use Rattle.ifmap_core.specs.Tellings.{count_where};
 ghost use Rattle.ifmap_delta.specs.Sights.{IsKept};
 ghost use Rattle.ifmap_ident.specs.declared.codes.Code.TheVariants.{SearchResultsTooBig};
 ghost use Rattle.ifmap_ident.specs.declared.identifiers.Identifier.{Identifier};
 ghost use Rattle.ifmap_machine.specs.Step.{answer_subscribed};
-ghost use Rattle.ifmap_machine.specs.Subscribing.{Told, begin_name, is_full_for, subscribe_op, subscribe_ops};
+ghost use Rattle.ifmap_machine.specs.Subscribing.{Told, begin_name, subscribe_op, subscribe_ops};
 ghost use Rattle.ifmap_machine.specs.Subscribing as machine;
 ghost use Rattle.ifmap_machine.specs.Telling.{limit_note};
 ghost use Rattle.ifmap_pool.specs.Holdings.{key_at};
@@ -166,6 +166,7 @@ fn ready_all<L: Ledger>(
     steps: &mut Steps<L>,
 ) -> Result<(), SubscribeError>
     requires ready { IsReady scene.now.asking.now parts.old scene.now.pending.now }
+    requires live { IsLive scene.now.serial (left scene.now.asking.now parts.old.sessions) }
     requires readied { AreReadied scene.now.serial (told_at scene.now.serial scene.now.asking.now
         parts.old scene.now.pending.now) parts.old readying.old }
     requires fit { AllByRecursion IsFitSubscribeOp ops.now }
@@ -197,6 +198,7 @@ fn ready_op<L: Ledger>(
     steps: &mut Steps<L>,
 ) -> Result<(), SubscribeError>
     requires ready { IsReady scene.now.asking.now parts.old scene.now.pending.now }
+    requires live { IsLive scene.now.serial (left scene.now.asking.now parts.old.sessions) }
     requires readied { AreReadied scene.now.serial (told_at scene.now.serial scene.now.asking.now
         parts.old scene.now.pending.now) parts.old readying.old }
     requires fit { IsFitSubscribeOp op.now }
@@ -234,6 +236,7 @@ fn ready_update<L: Ledger>(
     steps: &mut Steps<L>,
 ) -> Result<(), SubscribeError>
     requires ready { IsReady scene.now.asking.now parts.old scene.now.pending.now }
+    requires live { IsLive scene.now.serial (left scene.now.asking.now parts.old.sessions) }
     requires readied { AreReadied scene.now.serial (told_at scene.now.serial scene.now.asking.now
         parts.old scene.now.pending.now) parts.old readying.old }
     requires fit { IsFitSearch search.now }
@@ -317,15 +320,12 @@ fn begin_ready<L: Ledger>(
 ) -> Result<(), NoMemory>
     requires few { HasFewOwn parts.old.graph }
     requires fit { IsFitSearch search.now }
-    requires now { (t : Told) × AreReadied serial t parts.old readying.old
-        × IsNameNow serial name.now (told_after serial readying.old t) now }
-    requires room { (t : Told) → AreReadied serial t parts.old readying.old
-        → is_full_for serial name.now (told_after serial readying.old t).standing ≡ false }
-    ensures op { OnOk result ((t : Told) → AreReadied serial t parts.old readying.old
-        → begin_name (rows_now parts.old.graph) serial name.now search.now
+    requires can { (t : Told) × CanBegin serial name.now now t parts.old readying.old }
+    ensures op { OnOk result ((t : Told)
+        → CanBegin serial name.now now t parts.old readying.old → begin_name (rows_now parts.old.graph) serial name.now search.now
         (machine.drop_name serial name.now (told_after serial readying.old t))
         ≡ told_after serial readying.new t) }
-    ensures readied { (t : Told) → AreReadied serial t parts.old readying.old
+    ensures readied { (t : Told) → CanBegin serial name.now now t parts.old readying.old
         → AreReadied serial t parts.new readying.new }
     ensures holds { OnlyHolds parts.old parts.new }
 {
@@ -458,7 +458,7 @@ fn release_unused(graph: &mut Graph, number: u64, renaming: &Renaming)
         (start : Identifier) → IsHolding graph.old standing number start
         → IsSteady graph.new standing }
     ensures used { IfSome renaming.now.standing (λ x. graph.new ≡ graph.old) }
-    ensures holds { GraphHolds graph.old graph.new }
+    ensures released { IsReleased graph.old graph.new }
 {
     if renaming.standing.is_none() {
         graph.release(number);
@@ -571,9 +571,7 @@ fn accept_ops(
         (answer_subscribed before s (Some (told_after serial readying
         (told_at serial asking.now parts.old pending.old))))) }
     ensures turned { OnOk result (AreTurned parts.old parts.new) }
-    ensures steady { OnErr result (IsSteady parts.new.graph parts.new.standing.items) }
-    ensures kept { OnErr result (IsSteady parts.old.graph parts.old.standing.items
-        → AreKept parts.old parts.new) }
+    ensures kept { OnErr result (AreKept parts.old parts.new) }
 {
     let (_size, limit) = parts.sessions.queue_size(serial);
     if (limit as u128) < readying.size {
@@ -614,9 +612,7 @@ fn overrun(
         (answer_subscribed before s (Some (told_after serial readying
         (told_at serial asking.now parts.old pending.old))))) }
     ensures turned { OnOk result (AreTurned parts.old parts.new) }
-    ensures steady { IsSteady parts.new.graph parts.new.standing.items }
-    ensures kept { OnErr result (IsSteady parts.old.graph parts.old.standing.items
-        → AreKept parts.old parts.new) }
+    ensures kept { OnErr result (AreKept parts.old parts.new) }
 {
     let Readying { made, size, .. } = readying;
     release_all(&mut parts.graph, Many(made));
