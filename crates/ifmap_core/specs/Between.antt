@@ -140,12 +140,16 @@ pub record AreTurned (old new : Parts) : Type 0 where
 abbrev pub SharesNumbers : Held → Held → Type 0
 SharesNumbers old new = (v : ℕ) (a b : Identifier) → key_at old.names v ≡ Some a → key_at new.names v ≡ Some b → b ≡ a
 
--- what was begun was given up: all is as it was but for room, and ways back stay
-pub record AreKept (old new : Parts) : Type 0 where
+-- all is as it was but for room
+pub record AreBack (old new : Parts) : Type 0 where
   pub steady : IsSteady new.graph new.standing.items
   pub rows : rows_now new.graph ≡ rows_now old.graph
   pub links : (v : ℕ) → links_now new.graph v ≡ links_now old.graph v
   pub numbers : SharesNumbers old.graph new.graph
-  pub backs : KeepsBacks old.graph new.graph
   pub standing : AtEach (λ _. Stands KeepsSame) old.standing.items new.standing.items
   pub sessions : HasSameSessions old.sessions new.sessions
+
+-- what was begun was given up: all is as it was but for room, and ways back stay
+pub record AreKept (old new : Parts) : Type 0 where
+  pub back : AreBack old new
+  pub backs : KeepsBacks old.graph new.graph

@@ -1,10 +1,10 @@
 -- Changes of the graph while an event is answered, and their ways back.
-use Rattle.std.specs.Prelude.{◌≡◌, ◌≤◌, ℕ, List, length, map}
-use Rattle.ifmap_core.specs.Between.{Asking, HasSameSessions, SharesNumbers, so_far}
+use Rattle.std.specs.Prelude.{◌≡◌, ◌≤◌, ℕ, true, List, Some, length, slice_get}
+use Rattle.ifmap_core.specs.Between.{Asking, HasSameSessions, SharesNumbers, rest_of, so_far}
 use Rattle.ifmap_core.specs.declared.changes.Made.{Made}
 use Rattle.ifmap_core.specs.declared.parts.Parts.{Parts}
 use Rattle.ifmap_core.specs.declared.tellings.Pending.{Pending}
-use Rattle.ifmap_core.specs.Tellings.{AllKept}
+use Rattle.ifmap_core.specs.Tellings.{AllKept, CanTell, EachTelling, IsSized}
 use Rattle.ifmap_delta.specs.Sights.{IsKept, Sight}
 use Rattle.ifmap_delta.specs.Ways.{HasSameSearch}
 use Rattle.ifmap_machine.specs.State.{State}
@@ -32,6 +32,10 @@ pub record IsTold (a : Asking) (old : Parts) (before : Pending) (notes : List No
   pub state : with_next a new after ≡ overflow (tell (rows_next old.graph) notes (so_far a old before))
   pub kept : AllKept (λ x. IsKept (sight_next new.graph) x.subscription) after.gone.items new.standing.items
   pub flags : length after.gone.items ≡ length new.standing.items
+  -- what was gone is
+  pub gone : (i : ℕ) → slice_get before.gone.items i ≡ Some true → slice_get after.gone.items i ≡ Some true
+  pub can_tell : EachTelling (CanTell (rest_of a new.sessions)) after.tellings
+  pub sized : EachTelling (λ n t. IsSized n t new.sessions.live) after.tellings
 
 -- a change can be left as it is: its items are waited for
 pub record CanSettle (made : Made) (parts : Parts) : Type 0 where

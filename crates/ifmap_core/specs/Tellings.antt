@@ -5,9 +5,11 @@ use Rattle.std.specs.List.{zip}
 use Rattle.std.specs.Ordering.{nat_cmp}
 use Rattle.ifmap_core.specs.declared.tellings.Telling.{Telling}
 use Rattle.ifmap_core.specs.declared.tellings.Telling.TheVariants.{After, Alone}
+use Rattle.ifmap_ident.specs.declared.codes.Code.TheVariants.{PollResultsTooBig}
 use Rattle.ifmap_machine.specs.Telling.{tell_session}
 use Rattle.ifmap_search.specs.declared.results.PollItem.{PollItem}
-use Rattle.ifmap_search.specs.Sizes.{poll_size, queue_size}
+use Rattle.ifmap_search.specs.declared.results.PollItem.TheVariants as the_item
+use Rattle.ifmap_search.specs.Sizes.{queue_size}
 use Rattle.ifmap_session.specs.Sessions.{IsLive, Session, Table, overflowed, session_with_serial, spare_of}
 use Rattle.ifmap_standing.specs.declared.standing.Standing.{Standing}
 use Rattle.ifmap_standing.specs.declared.telling.News.{News}
@@ -49,11 +51,11 @@ is_alone None = false
 is_alone (Some (After items size)) = false
 is_alone (Some (Alone error)) = true
 
--- the size that a telling keeps is that of the queue that it makes
+-- the size that a telling keeps is that of the queue that it makes; one that is alone is the error for size
 abbrev pub IsSized : ℕ → Telling → List Session → Type 0
 IsSized n (After items size) live =
     (s : Session) → session_with_serial n live ≡ Some s → (size ≡ queue_size (s.queue ++ items)) × (size < 2 ^ 64 - 1)
-IsSized n (Alone error) live = poll_size error ≡ 100
+IsSized n (Alone error) live = (note : List ℕ) × (error ≡ the_item.Error None PollResultsTooBig note)
 
 -- a telling is of a live session, whose queue has room for it
 pub record CanTell (table : Table) (n : ℕ) (t : Telling) : Type 0 where

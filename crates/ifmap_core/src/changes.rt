@@ -3,7 +3,7 @@ ghost use Rattle.std.specs.Prelude.{◌≡◌, ◌≢◌, ◌∷◌, ◌++◌, �
 ghost use Rattle.std.specs.List.{AllByRecursion};
 ghost use Rattle.std.specs.List.Sorted.{IsStrictlySortedBy};
 ghost use Rattle.std.specs.Ordering.{nat_cmp};
-ghost use Rattle.ifmap_core.specs.Between.{AreKept, AreParts, AreTurned, Asking, HasSameSessions, IsReady, IsSteady, sight_now, so_far};
+ghost use Rattle.ifmap_core.specs.Between.{AreBack, AreKept, AreParts, AreTurned, Asking, HasSameSessions, IsReady, IsSteady, sight_now, so_far};
 ghost use Rattle.ifmap_core.specs.Changes.{CanSettle, CanTakeBack, IsSettled, IsTold, sight_next};
 ghost use Rattle.ifmap_core.specs.declared.parts.Parts.{Parts};
 ghost use Rattle.ifmap_core.specs.declared.tellings.Pending.{Pending};
@@ -239,7 +239,7 @@ pub(crate) fn undo_made(parts: &mut Parts, made: Made)
     requires steady { IsSteady parts.old.graph parts.old.standing.items }
     requires back { (before : Parts) × CanTakeBack made before parts.old }
     ensures back { (before : Parts) → AreParts before → CanTakeBack made before parts.old
-        → AreKept before parts.new }
+        → AreBack before parts.new }
 {
     same_links_keep_subscriptions();
     same_marks_keep_subscriptions();

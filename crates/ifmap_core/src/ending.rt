@@ -1,7 +1,7 @@
 //! An event is answered, after the sessions ended that are expired at its moment.
 ghost use Rattle.std.specs.Prelude.{◌≡◌, true, IfOk, OnErr};
 ghost use Rattle.std.specs.List.{list_any};
-ghost use Rattle.ifmap_core.specs.Between.{AreKept, AreParts, state_at};
+ghost use Rattle.ifmap_core.specs.Between.{AreBack, AreParts, state_at};
 ghost use Rattle.ifmap_machine.specs.Ending.{expire};
 ghost use Rattle.ifmap_machine.specs.Step.{step_ask};
 ghost use Rattle.ifmap_session.specs.Sessions.{is_expired};
@@ -41,7 +41,7 @@ pub(crate) fn answer_at<L: Ledger>(
         (state_at time.now.ttl time.now.moment parts.new, answer)
         ≡ step_ask (expire (state_at time.now.ttl time.now.moment parts.old)) event.now
         event.now.ask) }
-    ensures kept { OnErr result (AreKept parts.old parts.new) }
+    ensures kept { OnErr result (AreBack parts.old parts.new) }
     ensures parts { AreParts parts.new }
 {
     if parts.sessions.any_expired(time.moment, time.ttl) {
@@ -63,7 +63,7 @@ fn answer_all<L: Ledger>(
         (state_at time.now.ttl time.now.moment parts.new, answer)
         ≡ step_ask (state_at time.now.ttl time.now.moment parts.old) event.now
         event.now.ask) }
-    ensures kept { OnErr result (AreKept parts.old parts.new) }
+    ensures kept { OnErr result (AreBack parts.old parts.new) }
     ensures parts { AreParts parts.new }
 {
     let mut pending = nothing_pending(alloc, parts.standing.len())?;
@@ -92,7 +92,7 @@ fn end_and_answer<L: Ledger>(
         (state_at time.now.ttl time.now.moment parts.new, answer)
         ≡ step_ask (expire (state_at time.now.ttl time.now.moment parts.old)) event.now
         event.now.ask) }
-    ensures kept { OnErr result (AreKept parts.old parts.new) }
+    ensures kept { OnErr result (AreBack parts.old parts.new) }
     ensures parts { AreParts parts.new }
 {
     parts.sessions.is_table();
