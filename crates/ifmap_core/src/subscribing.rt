@@ -342,8 +342,8 @@ fn make_room(readying: &mut Readying, name: Text, now: NameNow) -> Result<(), No
     ensures size { readying.new.size ≡ readying.old.size }
     ensures room { OnOk result (vec_len readying.new.made + 1 ≤ vec_capacity readying.new.made) }
     ensures few { OnOk result (length readying.new.made.items < 2 ^ 30) }
-    ensures name { OnOk result (get (slice_cmp nat_cmp) readying.new.names name.now ≡ Some now) }
-    ensures others { (other : List ℕ) → slice_cmp nat_cmp other name.now ≢ Equal
+    ensures name { OnOk result (get (slice_cmp nat_cmp) readying.new.names name ≡ Some now) }
+    ensures others { (other : List ℕ) → slice_cmp nat_cmp other name ≢ Equal
         → get (slice_cmp nat_cmp) readying.new.names other
         ≡ get (slice_cmp nat_cmp) readying.old.names other }
     ensures err { OnErr result (readying.new.names.entries ≡ readying.old.names.entries) }
