@@ -4,11 +4,11 @@ use Rattle.ifmap_core.specs.Between.{IsKept, IsSteady, IsTurned}
 use Rattle.ifmap_ident.specs.declared.items.Item.{Item}
 use Rattle.ifmap_plans.specs.declared.plans.Plan.{Plan}
 use Rattle.ifmap_plans.specs.Plans.{AreWhole}
-use Rattle.ifmap_store.specs.Back.{KeepsBacks}
-use Rattle.ifmap_store.specs.Held.{Held}
-use Rattle.ifmap_store.specs.Out.{items_of}
-use Rattle.ifmap_store.specs.Seen.{Awaits, AwaitsLess, AwaitsMore, IsStill, KeepsOwn, rows_now}
-use Rattle.ifmap_store.specs.Waits.{times_in}
+use Rattle.ifmap_graph.specs.Back.{KeepsBacks}
+use Rattle.ifmap_graph.specs.Held.{Held}
+use Rattle.ifmap_graph.specs.Out.{items_of}
+use Rattle.ifmap_graph.specs.Seen.{Awaits, AwaitsLess, AwaitsMore, IsStill, KeepsOwn, rows_now}
+use Rattle.ifmap_graph.specs.Waits.{times_in}
 
 pub kept_itself : (h : Held) → IsSteady h → IsKept h h
 kept_itself h s = record { steady = s; rows = refl; backs = λ u rows links b. b }

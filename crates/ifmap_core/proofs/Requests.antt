@@ -37,8 +37,8 @@ use Rattle.ifmap_session.specs.SessionIds.{BeginsWithSerial, session_id}
 use Rattle.ifmap_session.specs.Sessions.{IsAsBefore, IsLive, IsTable, Opening, Session, Table, begun, expired_serials, is_expired, is_text, limit_of, most_sessions, session_of_client, session_with_id, session_with_serial, without_sessions}
 use Rattle.ifmap_session.specs.laws.TableLaws.{client_freed, one_fewer, shorter}
 use Rattle.ifmap_session.specs.laws.TextLaws.{distinct_filter, text_is, text_same}
-use Rattle.ifmap_store.specs.Held.{Held}
-use Rattle.ifmap_store.specs.Seen.{rows_now}
+use Rattle.ifmap_graph.specs.Held.{Held}
+use Rattle.ifmap_graph.specs.Seen.{rows_now}
 use Rattle.ifmap_view.specs.declared.attachments.Attachment.{Attachment}
 
 renewed_as : (m n : ℕ) (state : State) (answer : Answer) → m ≡ n → ◌≡◌ {A = State × Answer} (renew n state, answer) (renew m state, answer)

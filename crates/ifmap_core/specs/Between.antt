@@ -6,9 +6,9 @@ use Rattle.ifmap_machine.specs.State.{State}
 use Rattle.ifmap_machine.specs.Telling.{is_overfull}
 use Rattle.ifmap_plans.specs.Plans.{AreWhole}
 use Rattle.ifmap_session.specs.Sessions.{IsLive, Session, Table, without_sessions}
-use Rattle.ifmap_store.specs.Back.{KeepsBacks}
-use Rattle.ifmap_store.specs.Held.{Held, IsOwn}
-use Rattle.ifmap_store.specs.Seen.{AwaitsMore, IsStill, rows_now}
+use Rattle.ifmap_graph.specs.Back.{KeepsBacks}
+use Rattle.ifmap_graph.specs.Held.{Held, IsOwn}
+use Rattle.ifmap_graph.specs.Seen.{AwaitsMore, IsStill, rows_now}
 
 -- nothing is out in a graph, what it stores is whole, and nobody but its items holds an identifier
 pub record IsSteady (h : Held) : Type 0 where

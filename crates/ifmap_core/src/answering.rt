@@ -12,7 +12,7 @@ ghost use Rattle.ifmap_machine.specs.Step.{end_session, in_session, lose, poll, 
 ghost use Rattle.ifmap_machine.specs.Telling.{limit_note};
 ghost use Rattle.ifmap_requests.specs.Fit.{IsFitOp, IsFitRequest};
 ghost use Rattle.ifmap_session.specs.Sessions.{IsAsBefore, Session, session_with_id};
-ghost use Rattle.ifmap_store.specs.Held.{Held};
+ghost use Rattle.ifmap_graph.specs.Held.{Held};
 
 use crate::asking::{Asking, owner_of};
 use crate::beginning::new_session;
@@ -20,6 +20,7 @@ use crate::changing::{publish as publish_in, take_away, take_away_one};
 use crate::outcomes::{Outcome, Owner, refuse};
 use ifmap_elem::{Copied, Equals, Many, Text};
 use ifmap_fresh::fresh;
+use ifmap_graph::Graph;
 use ifmap_ident::Code;
 use ifmap_machine::{Answer, Ask, Event};
 use ifmap_publish::{Author, Who};
@@ -28,7 +29,6 @@ use ifmap_requests::{PublishOp, Request};
 use ifmap_search::{Search, SearchError};
 use ifmap_session::Sessions;
 use ifmap_steps::Steps;
-use ifmap_store::Graph;
 use std::alloc::{AllocError as NoMemory, Global};
 use std::sync::ledger::Ledger;
 

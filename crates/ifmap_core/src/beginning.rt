@@ -5,17 +5,17 @@ ghost use Rattle.ifmap_core.specs.Between.{CanEnd, IsKept, IsSteady, IsTurned, l
 ghost use Rattle.ifmap_core.specs.Outcomes.{LeadsTo, without_former};
 ghost use Rattle.ifmap_machine.specs.Step.{is_full, new_session};
 ghost use Rattle.ifmap_session.specs.Sessions.{IsAsBefore, most_sessions, session_of_client};
-ghost use Rattle.ifmap_store.specs.Held.{Held};
-ghost use Rattle.ifmap_store.specs.Seen.{rows_now};
+ghost use Rattle.ifmap_graph.specs.Held.{Held};
+ghost use Rattle.ifmap_graph.specs.Seen.{rows_now};
 
 use crate::asking::{Asking, former_of};
 use crate::changing::take_away_one;
 use crate::outcomes::{Outcome, refuse};
 use ifmap_elem::Copied;
+use ifmap_graph::Graph;
 use ifmap_ident::Code;
 use ifmap_session::{MOST_SESSIONS, Sessions, limit_of};
 use ifmap_steps::Steps;
-use ifmap_store::Graph;
 use std::alloc::{AllocError as NoMemory, Global};
 use std::sync::ledger::Ledger;
 

@@ -6,19 +6,19 @@ ghost use Rattle.ifmap_core.specs.Built.{IsBuilt};
 ghost use Rattle.ifmap_machine.specs.Ending.{expire};
 ghost use Rattle.ifmap_machine.specs.Step.{step_ask};
 ghost use Rattle.ifmap_session.specs.Sessions.{is_expired};
-ghost use Rattle.ifmap_store.specs.Seen.{rows_now};
+ghost use Rattle.ifmap_graph.specs.Seen.{rows_now};
 
 use crate::answering::answer;
 use crate::asking::Asking;
 use crate::changing::take_away_kept;
 use crate::outcomes::finish;
 use ifmap_elem::{Copied, Many};
+use ifmap_graph::Graph;
 use ifmap_io::Moment;
 use ifmap_machine::{Answer, Event};
 use ifmap_publish::Who;
 use ifmap_session::Sessions;
 use ifmap_steps::Steps;
-use ifmap_store::Graph;
 use std::alloc::{AllocError as NoMemory, Global};
 use std::sync::ledger::Ledger;
 

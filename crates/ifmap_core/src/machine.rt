@@ -12,11 +12,11 @@ ghost use Rattle.ifmap_machine.specs.Step.{step};
 
 use crate::ending::{Time, answer_at};
 use crate::holding::{has_nothing, polled_id};
+use ifmap_graph::Graph;
 use ifmap_io::Moment;
 use ifmap_machine::{Answer, Event};
 use ifmap_session::Sessions;
 use ifmap_steps::Steps;
-use ifmap_store::Graph;
 use std::alloc::{AllocError as NoMemory, Global};
 use std::marker::Model;
 use std::sync::ledger::Ledger;

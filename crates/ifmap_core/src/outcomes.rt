@@ -6,7 +6,7 @@ ghost use Rattle.ifmap_core.specs.Outcomes.{CanApply, after_former, applied, fir
 ghost use Rattle.ifmap_machine.specs.State.{State};
 ghost use Rattle.ifmap_machine.specs.Step.{refusal};
 ghost use Rattle.ifmap_session.specs.Sessions.{IsLive, session_with_serial, without_sessions};
-ghost use Rattle.ifmap_store.specs.Held.{Held};
+ghost use Rattle.ifmap_graph.specs.Held.{Held};
 
 use crate::asking::Asking;
 use ifmap_elem::{Many, Text};

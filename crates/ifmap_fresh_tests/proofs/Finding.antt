@@ -24,7 +24,7 @@ less_is Less e = refl
 less_is Equal e = let q : false ≡ true = e in cc
 less_is Greater e = let q : false ≡ true = e in cc
 
-equal_is : (o : Ordering) → is_eq o ≡ true → o ≡ Equal
+pub equal_is : (o : Ordering) → is_eq o ≡ true → o ≡ Equal
 equal_is Less e = let q : false ≡ true = e in cc
 equal_is Equal e = refl
 equal_is Greater e = let q : false ≡ true = e in cc
@@ -34,19 +34,19 @@ kept : (item at : Item) (xs : List Stored) (rest : List Attachment) → same_ite
 kept item at [] rest e = refl
 kept item at (x ∷ xs) rest e = rw e (ap (λ l. x ∷ l) (kept item at xs rest e))
 
-passed : (item at : Item) (xs : List Stored) (rest : List Attachment) → same_item at item ≡ false
+pub passed : (item at : Item) (xs : List Stored) (rest : List Attachment) → same_item at item ≡ false
     → stored_on item (map (row_on at) xs ++ rest) ≡ stored_on item rest
 passed item at [] rest e = refl
 passed item at (x ∷ xs) rest e = rw e (passed item at xs rest e)
 
 -- an item above one that is the same as another is not the same as that
-above : (item : Item) (s t : Shelf) → same_item s.item item ≡ true → item_below s t ≡ true → same_item t.item item ≡ false
+pub above : (item : Item) (s t : Shelf) → same_item s.item item ≡ true → item_below s t ≡ true → same_item t.item item ≡ false
 above item s t e l =
     let tied : item_order s.item item ≡ Equal = equal_is (item_order s.item item) (sym (items_tie s.item item) ∙ e)
     in let less : item_order item t.item ≡ Less = sym (items_total.congr s.item item t.item tied) ∙ less_is (item_order s.item t.item) l
     in items_tie t.item item ∙ ap is_eq (items_total.antisymm t.item item ∙ ap ordering_reverse less)
 
-none_above : (item : Item) (s : Shelf) (ss : List Shelf) → same_item s.item item ≡ true → AllByRecursion (λ t. item_below s t ≡ true) ss
+pub none_above : (item : Item) (s : Shelf) (ss : List Shelf) → same_item s.item item ≡ true → AllByRecursion (λ t. item_below s t ≡ true) ss
     → stored_on item (rows_of ss) ≡ []
 none_above item s [] e a = refl
 none_above item s (t ∷ ts) e a = passed item t.item t.rows.items (rows_of ts) (above item s t e a.0) ∙ none_above item s ts e a.1

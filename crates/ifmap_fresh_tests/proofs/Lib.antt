@@ -3,3 +3,4 @@ pub mod Numbers
 pub mod Finding
 pub mod Graphs
 pub mod Viewed
+pub mod NextItems

@@ -1,5 +1,6 @@
 -- Plain lists as a view: identifiers by their places, what is stored on items, and what both show.
 use Rattle.std.specs.Prelude.{◌≡◌, ℕ, Bool, true, false, not, ◌&&◌, List, [], ◌∷◌, ◌++◌, map, length, nat_eq}
+use Rattle.std.specs.Prelude.{Option, None, Some, cond}
 use Rattle.std.proofs.Common.{zero, suc}
 use Rattle.std.specs.List.{AllByRecursion, filter, flat_map, list_all, list_any, slice_get}
 use Rattle.std.specs.Ordering.{is_lt}
@@ -93,3 +94,18 @@ pub record AreLists (h : Held) : Type 0 where
   pub named : AllByRecursion IsIdentifier h.names
   pub canon : AllByRecursion (λ s. IsCanonItem s.item) h.shelves
   pub sound : are_sound h.names h.shelves ≡ true
+
+-- ---- the items that carry something
+
+abbrev pub is_above : Option Item → Item → Bool
+is_above None x = true
+is_above (Some a) x = is_lt (item_order a x)
+
+-- something stands on the shelf, and its item is above another, where there is one
+abbrev pub carries : Option Item → Shelf → Bool
+carries last s = is_full s.rows.items && is_above last s.item
+
+-- the item of the first such shelf
+abbrev pub next_in : Option Item → List Shelf → Option Item
+next_in last [] = None
+next_in last (s ∷ ss) = cond (carries last s) (Some s.item) (next_in last ss)

@@ -2,11 +2,13 @@
 #![tactic(auto)]
 
 pub mod checking;
+pub mod items;
 pub mod linking;
 pub mod lists;
 pub mod looking;
 #[cfg(test)]
 mod makers;
+pub mod places;
 #[cfg(test)]
 mod searches;
 pub mod shelves;

@@ -1,9 +1,9 @@
 //! Plain lists as a view: all is looked for from the front, and nothing is kept beside what is there.
-ghost use Rattle.std.specs.Prelude.{◌≡◌};
+ghost use Rattle.std.specs.Prelude.{◌≡◌, IfSome};
 ghost use Rattle.std.specs.List.{AllByRecursion, slice_get};
 ghost use Rattle.ifmap_ident.specs.Canon.{IsIdentifier};
 ghost use Rattle.ifmap_ident.specs.Items.{IsCanonItem};
-ghost use Rattle.ifmap_fresh_tests.specs.Lists.{links_in, rows_of};
+ghost use Rattle.ifmap_fresh_tests.specs.Lists.{AreLists, links_in, rows_of};
 
 use crate::checking::are_sound;
 use crate::linking::{count_links, link_in, stored_linked};
@@ -44,12 +44,21 @@ impl Lists {
     pub fn new(names: Vec<Identifier>, shelves: Vec<Shelf>) -> Option<Lists>
         requires named { AllByRecursion IsIdentifier names.items }
         requires canon { AllByRecursion (λ s. IsCanonItem s.item) shelves.items }
+        ensures { IfSome result (λ lists. lists.shelves ≡ shelves.items) }
     {
         if are_sound(&names, &shelves) {
             Some(Lists { names, shelves })
         } else {
             None
         }
+    }
+
+    /// What stands on items, in their order.
+    pub fn shelves(&self) -> &[Shelf]
+        ensures shelves { result.now ≡ self.now.shelves }
+        ensures lists { AreLists self.now }
+    {
+        &self.shelves
     }
 }
 

@@ -5,11 +5,11 @@ ghost use Rattle.ifmap_ident.specs.Canon.{IsIdentifier};
 ghost use Rattle.ifmap_ident.specs.Items.{IsCanonItem};
 
 use crate::lists::Lists;
+use crate::places::{Place, address_of, addresses, item_at};
 use crate::shelves::Shelf;
 use ifmap_elem::{Element, Many, Text};
 use ifmap_filter::Filter;
-use ifmap_ident::laws::mac_addresses_are_identifiers;
-use ifmap_ident::{Identifier, Item, Kind};
+use ifmap_ident::Kind;
 use ifmap_io::Moment;
 use ifmap_meta::{ClientName, Life, Metadata, Stored};
 use ifmap_reader::{Scope, read};
@@ -17,40 +17,11 @@ use ifmap_search::Search;
 use ifmap_view::Row;
 use std::alloc::{AllocError as NoMemory, Global};
 
-// An address by its last byte, or the link of two.
-#[derive(Clone, Copy)]
-pub(crate) enum Place {
-    At(u8),
-    Link(u8, u8),
-}
-
 // A place with elements of these local names, in the order of their bytes.
 #[derive(Clone, Copy)]
 pub(crate) struct Spot {
     pub(crate) place: Place,
     pub(crate) names: &'static [&'static str],
-}
-
-// The MAC address `00:00:5e:00:53:..` that ends in this byte.
-pub(crate) fn address_of(alloc: Global, last: u8) -> Identifier
-    ensures { IsIdentifier result }
-{
-    mac_addresses_are_identifiers();
-    Identifier::MacAddress {
-        value: [0x00, 0x00, 0x5e, 0x00, 0x53, last],
-        domain: Text::new(alloc),
-    }
-}
-
-fn item_at(alloc: Global, place: Place) -> Result<Item, NoMemory>
-    ensures { IfOk result IsCanonItem }
-{
-    match place {
-        Place::At(last) => Ok(Item::One(address_of(alloc, last))),
-        Place::Link(one, other) => {
-            Item::pair(address_of(alloc, one), address_of(alloc, other)).ok_or(NoMemory)
-        }
-    }
 }
 
 fn element_in(alloc: Global, text: &str) -> Result<Element, NoMemory> {
@@ -119,16 +90,6 @@ fn shelves_of(alloc: Global, spots: &[Spot]) -> Result<Vec<Shelf>, NoMemory>
         shelves.push(shelf_of(alloc, *spot)?)?;
     }
     Ok(shelves)
-}
-
-fn addresses(alloc: Global, count: u8) -> Result<Vec<Identifier>, NoMemory>
-    ensures { IfOk result (λ names. AllByRecursion IsIdentifier names.items) }
-{
-    let mut names = Vec::new(alloc);
-    for last in 0..count {
-        names.push(address_of(alloc, last))?;
-    }
-    Ok(names)
 }
 
 // The addresses that end in a byte below this one, with these on them, in the order of their items.

@@ -3,7 +3,8 @@ ghost use Rattle.std.specs.Prelude.{◌≡◌, ◌<◌};
 ghost use Rattle.ifmap_ident.specs.Canon.{IsIdentifier};
 
 use crate::lists::Lists;
-use crate::makers::{Place, Spot, filter_in, lists_of, search_from, search_with};
+use crate::makers::{Spot, filter_in, lists_of, search_from, search_with};
+use crate::places::Place;
 use ifmap_elem::Many;
 use ifmap_filter::Filter;
 use ifmap_fresh::fresh;

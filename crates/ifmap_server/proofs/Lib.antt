@@ -7,6 +7,7 @@ pub mod HeaderLines
 pub mod Pieces
 pub mod Progress
 pub mod SameErrors
+pub mod ScriptHistories
 pub mod Scripts
 pub mod SomeScript
 pub mod Splits

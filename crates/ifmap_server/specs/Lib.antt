@@ -3,6 +3,7 @@ pub mod BuiltRequests
 pub mod Characters
 pub mod Ends
 pub mod Frames
+pub mod Histories
 pub mod Lines
 pub mod Output
 pub mod Pending

@@ -1,11 +1,13 @@
 -- What a replay does to its source and its sink, by how it ends.
 use Rattle.std.specs.Prelude.{◌≡◌, ℕ, List, ◌++◌, drop, Option, None, Some, IfSome, Result, Ok, Err}
 use Rattle.std.specs.Io.KnownBytes.{Appends, Consumes, IsAtEnd}
+use Rattle.ifmap_machine.specs.Agreeing.{Agrees}
 use Rattle.ifmap_server.specs.declared.errors.ReplayError.{ReplayError}
 use Rattle.ifmap_server.specs.declared.errors.ReplayError.TheVariants.{FrameFault, NoMemory, ReadFault, WriteFault}
 use Rattle.ifmap_server.specs.Awaited.{IsAwaited}
 use Rattle.ifmap_server.specs.Frames.{Frame}
-use Rattle.ifmap_server.specs.Output.{AppendsPrefix, IsOutput, answers, fault_line}
+use Rattle.ifmap_server.specs.Histories.{history_of}
+use Rattle.ifmap_server.specs.Output.{AppendsPrefix, IsOutput, answers, fault_line, session_seconds}
 use Rattle.ifmap_server.specs.Script.{IsScript}
 use Rattle.ifmap_server.specs.Statuses.{status_of}
 use Rattle.ifmap_server.specs.Ends.{ReadFailed, Ends, WriteFailed}
@@ -43,8 +45,15 @@ Promises (Err ReadFault) before after = AnswersTaken before after × ReadFailed 
 Promises (Err WriteFault) before after = AnswersPart before after × WriteFailed before after
 Promises (Err NoMemory) before after = AnswersPart before after
 
--- the status tells how the replay ended
+-- the clients of a script agree: after each poll that is told something or held, what its client folds of all that it was told is, for
+-- each subscription that its session keeps, the fresh result of its search
+abbrev pub ClientsAgree : List ℕ → Type 0
+ClientsAgree bytes =
+    (frames : List Frame) (fault : Option ℕ) → IsScript bytes frames fault → Agrees session_seconds (history_of frames)
+
+-- the status tells how the replay ended; and the clients agree of what the source had left
 pub record Replays (status : ℕ) (before after : Ends) : Type 0 where
   pub ended : Result (Unit {0}) ReplayError
   pub told : status ≡ status_of ended
   pub promise : Promises ended before after
+  pub agrees : IfSome before.left ClientsAgree

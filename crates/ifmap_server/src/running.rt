@@ -5,6 +5,7 @@ ghost use Rattle.ifmap_server.specs.Runs.{Runs};
 ghost use Rattle.ifmap_server.specs.Ends.{ends};
 
 use crate::errors::status_of;
+use crate::laws::scripts_agree;
 use crate::replaying::Replay;
 use crate::sending::send;
 use crate::statuses::{NO_MEMORY, USAGE, WRITE_FAULT};
@@ -63,6 +64,7 @@ fn replay_from<S: Source, K: Sink, L: Ledger>(
         (ends (S.left source.old) (S.faults source.old) (K.held sink.old) (K.faults sink.old))
         (ends (S.left source.new) (S.faults source.new) (K.held sink.new) (K.faults sink.new)) }
 {
+    scripts_agree();
     let mut steps: Steps<L> = Steps::from_blank(blank);
     let Ok(mut replay) = Replay::new(alloc) else {
         return NO_MEMORY;

@@ -15,4 +15,5 @@ mod stamps;
 pub use errors::BeginError;
 pub use limits::limit_of;
 pub use openings::{Begun, Opening};
+pub use queues::named_size;
 pub use sessions::{MOST_SESSIONS, Sessions};

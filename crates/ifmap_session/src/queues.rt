@@ -109,6 +109,14 @@ impl LiveSession {
         (self.size.min(u64::MAX as u128) as u64, self.limit)
     }
 
+    /// The size of what is queued of the subscription of that name, at most 2^64 - 1.
+    pub fn size_of_name(&self, name: &Text) -> u64
+        ensures { result ≡ min (queue_size (filter (is_named name.now) self.now.session.queue))
+            (2 ^ 64 - 1) }
+    {
+        named_size(&self.queue, name)
+    }
+
     /// Keeps that moment as that of the last accepted request.
     pub fn renew(&mut self, moment: Moment)
         ensures session { self.new.session ≡ renewed moment self.old.session }
@@ -166,6 +174,14 @@ impl LiveSession {
         self.size = 0;
         Many(mem::replace(&mut self.queue, empty))
     }
+}
+
+/// The size of those items that tell of the subscription of that name, at most 2^64 - 1. It takes no
+/// memory.
+pub fn named_size(items: &[PollItem], name: &Text) -> u64
+    ensures { result ≡ min (queue_size (filter (is_named name.now) items.now)) (2 ^ 64 - 1) }
+{
+    size_of_named(items, name).min(u64::MAX as u128) as u64
 }
 
 // The sum of the sizes of what is queued of the subscription of that name.

@@ -1,10 +1,10 @@
 //! The live sessions.
-ghost use Rattle.std.specs.Prelude.{◌≡◌, ◌≢◌, ◌↔◌, ℕ, ◌+◌, ◌-◌, ◌^◌, ◌<◌, ◌≤◌, [], ◌∷◌, ◌++◌, length, min, Err, IfNone, IfOk, IfSome, List, None, OnErr, OnOk, Some, option_map, vec_capacity, vec_len};
+ghost use Rattle.std.specs.Prelude.{◌≡◌, ◌≢◌, ◌↔◌, ℕ, ◌+◌, ◌-◌, ◌^◌, ◌<◌, ◌≤◌, [], ◌∷◌, ◌++◌, filter, length, min, Err, IfNone, IfOk, IfSome, List, None, OnErr, OnOk, Some, option_map, vec_capacity, vec_len};
 ghost use Rattle.std.specs.List.{list_any};
 ghost use Rattle.ifmap_search.specs.Sizes.{queue_size};
 ghost use Rattle.ifmap_session.specs.declared.errors.BeginError.TheVariants as the_error;
 ghost use Rattle.ifmap_session.specs.SessionIds.{session_id};
-ghost use Rattle.ifmap_session.specs.Sessions.{Changes, ChangesRoom, HasRoomForOne, IsAsBefore, IsLive, IsTable, Session, begun, emptied, expired_serials, is_expired, most_sessions, overflowed, queued, renewed, session_of_client, session_with_id, session_with_serial, spare_of, without_name, without_sessions};
+ghost use Rattle.ifmap_session.specs.Sessions.{Changes, ChangesRoom, HasRoomForOne, IsAsBefore, IsLive, IsTable, Session, begun, emptied, expired_serials, is_expired, is_named, most_sessions, overflowed, queued, renewed, session_of_client, session_with_id, session_with_serial, spare_of, without_name, without_sessions};
 
 use crate::errors::BeginError;
 use crate::holders::{Holder, place_of_client};
@@ -325,6 +325,16 @@ impl Sessions {
             → (result.0 ≡ min (queue_size s.queue) (2 ^ 64 - 1)) × (result.1 ≡ s.limit) }
     {
         find_live(&self.rows, serial).unwrap().size()
+    }
+
+    /// The size of what is queued in a live session of the subscription of that name, at most
+    /// 2^64 - 1, counted as `queue_size` counts it. It takes no memory.
+    pub fn size_of_name(&self, serial: u64, name: &Text) -> u64
+        requires { IsLive serial self.now.live }
+        ensures { (s : Session) → session_with_serial serial self.now.live ≡ Some s
+            → result ≡ min (queue_size (filter (is_named name.now) s.queue)) (2 ^ 64 - 1) }
+    {
+        find_live(&self.rows, serial).unwrap().size_of_name(name)
     }
 
     /// Queues an item in a live session in place of all that is queued, where there is room for

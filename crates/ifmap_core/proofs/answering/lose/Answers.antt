@@ -2,7 +2,7 @@ use Rattle.ifmap_core.specs.Between.{rest_of}
 use Rattle.ifmap_core.proofs.Applying.{within_left}
 use Rattle.ifmap_core.proofs.Requests.{loses}
 use Rattle.ifmap_core.proofs.answering.lose.Goals as goal
-use Rattle.ifmap_store.specs.Seen.{rows_now}
+use Rattle.ifmap_graph.specs.Seen.{rows_now}
 
 pub returns-in_ok-take_away_one-in-Own-clause-leads : goal.returns-in_ok-take_away_one-in-Own-clause-leads
 returns-in_ok-take_away_one-in-Own-clause-leads g c =

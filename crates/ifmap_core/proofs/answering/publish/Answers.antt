@@ -4,7 +4,7 @@ use Rattle.ifmap_core.proofs.Applying.{within_left}
 use Rattle.ifmap_core.proofs.Requests.{publishes}
 use Rattle.ifmap_core.proofs.answering.publish.Goals as goal
 use Rattle.ifmap_publish.specs.Apply.{apply}
-use Rattle.ifmap_store.specs.Seen.{rows_now}
+use Rattle.ifmap_graph.specs.Seen.{rows_now}
 
 pub returns-in_ok-publish-in-Own-clause-leads : goal.returns-in_ok-publish-in-Own-clause-leads
 returns-in_ok-publish-in-Own-clause-leads c =

@@ -5,7 +5,7 @@ use Rattle.ifmap_core.proofs.Requests.{purges}
 use Rattle.ifmap_core.proofs.answering.purge.Goals as goal
 use Rattle.ifmap_publish.specs.declared.who.Who.TheVariants.{Publisher}
 use Rattle.ifmap_publish.specs.Retract.{retract}
-use Rattle.ifmap_store.specs.Seen.{rows_now}
+use Rattle.ifmap_graph.specs.Seen.{rows_now}
 
 pub returns-in_ok-take_away-in-Own-clause-leads : goal.returns-in_ok-take_away-in-Own-clause-leads
 returns-in_ok-take_away-in-Own-clause-leads g c =

@@ -4,8 +4,8 @@ use Rattle.ifmap_core.proofs.Changed.{awaits_again, awaits_own, kept_is}
 use Rattle.ifmap_core.proofs.Exits.{on_err}
 use Rattle.ifmap_core.proofs.OneGraph.{one_graph}
 use Rattle.ifmap_core.proofs.changing.carry_out.Goals as goal
-use Rattle.ifmap_store.specs.Held.{Held}
-use Rattle.ifmap_store.specs.Seen.{rows_next}
+use Rattle.ifmap_graph.specs.Held.{Held}
+use Rattle.ifmap_graph.specs.Seen.{rows_next}
 use Rattle.ifmap_view.specs.Attachments.{IsGraph}
 
 pub reserve-requires-clause-few : goal.reserve-requires-clause-few

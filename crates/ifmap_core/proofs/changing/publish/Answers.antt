@@ -6,7 +6,7 @@ use Rattle.ifmap_core.proofs.changing.publish.Goals as goal
 use Rattle.ifmap_plans.specs.Plans.{AreWhole}
 use Rattle.ifmap_meta.specs.ClientNames.{IsClientName}
 use Rattle.ifmap_publish.specs.Apply.{Authorship, apply}
-use Rattle.ifmap_store.specs.Seen.{rows_now}
+use Rattle.ifmap_graph.specs.Seen.{rows_now}
 
 pub returns-clause-rows : goal.returns-clause-rows
 returns-clause-rows c =

@@ -5,7 +5,7 @@ use Rattle.ifmap_core.proofs.Exits.{on_both, on_err, on_ok}
 use Rattle.ifmap_core.proofs.changing.take_away.Goals as goal
 use Rattle.ifmap_plans.specs.Plans.{AreWhole}
 use Rattle.ifmap_publish.specs.Retract.{retract}
-use Rattle.ifmap_store.specs.Seen.{rows_now}
+use Rattle.ifmap_graph.specs.Seen.{rows_now}
 
 pub returns-clause-rows : goal.returns-clause-rows
 returns-clause-rows g c =

@@ -7,10 +7,10 @@ use Rattle.ifmap_core.proofs.changing.take_away_kept.Goals as goal
 use Rattle.ifmap_plans.specs.declared.plans.Plan.{Plan}
 use Rattle.ifmap_plans.specs.Plans.{AreWhole}
 use Rattle.ifmap_publish.specs.Retract.{retract}
-use Rattle.ifmap_store.specs.Back.{IsWayBack}
-use Rattle.ifmap_store.specs.Held.{Held}
-use Rattle.ifmap_store.specs.Out.{items_of}
-use Rattle.ifmap_store.specs.Seen.{Awaits, links_now, rows_next, rows_now}
+use Rattle.ifmap_graph.specs.Back.{IsWayBack}
+use Rattle.ifmap_graph.specs.Held.{Held}
+use Rattle.ifmap_graph.specs.Out.{items_of}
+use Rattle.ifmap_graph.specs.Seen.{Awaits, links_now, rows_next, rows_now}
 use Rattle.ifmap_view.specs.Attachments.{IsGraph}
 
 pub returns-clause-rows : goal.returns-clause-rows

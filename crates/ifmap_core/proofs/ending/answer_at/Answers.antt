@@ -6,7 +6,7 @@ use Rattle.ifmap_core.proofs.ending.answer_at.Goals as goal
 use Rattle.ifmap_machine.specs.declared.events.Answer.{Answer}
 use Rattle.ifmap_machine.specs.State.{State}
 use Rattle.ifmap_machine.specs.Step.{step_ask}
-use Rattle.ifmap_store.specs.Seen.{rows_now}
+use Rattle.ifmap_graph.specs.Seen.{rows_now}
 
 pub returns-clause-answer : goal.returns-clause-answer
 returns-clause-answer g c =

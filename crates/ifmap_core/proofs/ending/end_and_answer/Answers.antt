@@ -11,7 +11,7 @@ use Rattle.ifmap_plans.specs.Plans.{AreWhole}
 use Rattle.ifmap_publish.specs.declared.who.Who.TheVariants.{Sessions}
 use Rattle.ifmap_publish.specs.Retract.{retract}
 use Rattle.ifmap_session.specs.Sessions.{Session, without_sessions}
-use Rattle.ifmap_store.specs.Seen.{rows_now}
+use Rattle.ifmap_graph.specs.Seen.{rows_now}
 use Rattle.ifmap_view.specs.declared.attachments.Attachment.{Attachment}
 
 pub answer-requires-clause-ended : goal.answer-requires-clause-ended

@@ -1,0 +1,199 @@
+-- The items of a change, one after another: their drafts are accepted, or taken back.
+use Rattle.std.proofs.Common.{◌≡◌, ℕ, suc, ◌+◌, ◌<◌, ◌≤◌, false, IsSome, List, [], ◌∷◌, ◌++◌, map, length, get_or, set, take, drop, refl, ap, ◌∙◌, sym, subst, arith, add-one, append_assoc, drop-cons}
+use Rattle.std.proofs.lemmas.List.{append-nil, drop_all, get_or-map, length-map, length-set, take_all, take_more_set}
+use Rattle.std.specs.List.{AllByRecursion, IsDistinct}
+use Rattle.ifmap_ident.specs.declared.items.Item.{Item}
+use Rattle.ifmap_ident.specs.Items.{items_tie, same_item}
+use Rattle.ifmap_meta.specs.declared.stored.Stored.{Stored}
+use Rattle.ifmap_view.specs.Rows.{stored_on}
+use Rattle.ifmap_graph.specs.declared.shelves.Shelves.{Shelves}
+use Rattle.ifmap_graph.specs.Drafted.{AreBare, DraftsWithin, ends_at}
+use Rattle.ifmap_graph.specs.Shelved.{AreShelved, HasDraft, place_of, rows_of}
+use Rattle.ifmap_graph.specs.Sides.{next, now}
+use Rattle.ifmap_graph.specs.Waits.{waits_on}
+use Rattle.ifmap_graph.proofs.Bare.{none_left, one_gone, sides_same}
+use Rattle.ifmap_graph.proofs.Ordered.{ties}
+
+-- an item is another, or it is not, whichever comes first
+turned : (a b : Item) → same_item a b ≡ same_item b a
+turned a b = items_tie a b ∙ ties a b
+
+pub apart_parts : (x : Item) (xs : List Item) → IsDistinct same_item (x ∷ xs) → AllByRecursion (λ y. same_item x y ≡ false) xs × IsDistinct same_item xs
+unfolding IsDistinct
+apart_parts x xs d = d
+
+pub all_given : (P Q : Item → Type 0) (xs : List Item) → ((x : Item) → P x → Q x) → AllByRecursion P xs → AllByRecursion Q xs
+all_given P Q [] f a = tt
+all_given P Q (x ∷ xs) f a = (f x a.0, all_given P Q xs f a.1)
+
+all_both : (P Q R : Item → Type 0) (xs : List Item) → ((x : Item) → P x → Q x → R x) → AllByRecursion P xs → AllByRecursion Q xs → AllByRecursion R xs
+all_both P Q R [] f a b = tt
+all_both P Q R (x ∷ xs) f a b = (f x a.0 b.0, all_both P Q R xs f a.1 b.1)
+
+map_same : {Y : Type 0} (f g : Item → Y) (xs : List Item) → AllByRecursion (λ x. f x ≡ g x) xs → map f xs ≡ map g xs
+map_same f g [] a = refl
+map_same f g (x ∷ xs) a = ap (λ y. y ∷ map f xs) a.0 ∙ ap (λ l. g x ∷ l) (map_same f g xs a.1)
+
+pub maps_join : {X Y Z : Type 0} (f : Y → Z) (g : X → Y) (xs : List X) → map f (map g xs) ≡ map (λ x. f (g x)) xs
+maps_join f g [] = refl
+maps_join f g (x ∷ xs) = ap (λ l. f (g x) ∷ l) (maps_join f g xs)
+
+-- something of a list that has a place
+pub some_in : {X : Type 0} (xs : List X) (i : ℕ) → i < length xs → X
+some_in [] i h = absurd (omega (arith, h))
+some_in (x ∷ xs) i h = x
+
+-- what stands at a place, and the rest
+pub here_mapped : {X Y : Type 0} (f : X → Y) (xs : List X) (i : ℕ) (d : X) → i < length xs
+    → drop i (map f xs) ≡ f (get_or xs i d) ∷ drop (i + 1) (map f xs)
+here_mapped f xs i d h =
+    drop-cons (map f xs) i (f d) (omega (arith, h, length-map xs f)) ∙ ap (λ y. y ∷ drop (suc i) (map f xs)) (get_or-map f xs i d (f d) h)
+    ∙ ap (λ n. f (get_or xs i d) ∷ drop n (map f xs)) (sym (add-one i))
+
+-- what is stored on an item
+abbrev pub stored_at : Shelves → Item → List Stored
+stored_at s x = stored_on x (rows_of now s)
+
+module _ (items : List Item) (first : Shelves) where
+  -- so many drafts are accepted, and the lists that were there stand in the places of those that were given
+  pub record Accepting (lists : List (List Stored)) (shelves : Shelves) (i : ℕ) : Type 0 where
+    pub shelved : AreShelved shelves
+    pub same : rows_of next shelves ≡ rows_of next first
+    pub drafted : AllByRecursion (HasDraft shelves) (drop i items)
+    pub within : DraftsWithin (drop i items) shelves
+    pub apart : IsDistinct same_item (drop i items)
+    pub long : length lists ≡ length items
+    pub made : take i lists ++ map (stored_at shelves) (drop i items) ≡ map (stored_at first) items
+    pub ends : (at : ℕ) → ends_at shelves at ≡ ends_at first at
+    pub waits : (x : Item) → waits_on shelves x ≡ waits_on first x
+    pub places : shelves.places ≡ first.places
+
+  pub accepting : (lists : List (List Stored)) → AreShelved first → AllByRecursion (HasDraft first) items → DraftsWithin items first
+      → IsDistinct same_item items → length lists ≡ length items → Accepting lists first 0
+  accepting lists shelved drafted within apart long = record {
+    shelved = shelved;
+    same = refl;
+    drafted = drafted;
+    within = within;
+    apart = apart;
+    long = long;
+    made = refl;
+    ends = λ at. refl;
+    waits = λ x. refl;
+    places = refl;
+  }
+
+  module _ (lists : List (List Stored)) (shelves : Shelves) (i : ℕ) (item : Item) (h : i < length items) (here : drop i items ≡ item ∷ drop (i + 1) items) (g : Accepting lists shelves i) where
+    now_drafted : AllByRecursion (HasDraft shelves) (item ∷ drop (i + 1) items)
+    now_drafted = subst (AllByRecursion (HasDraft shelves)) here g.drafted
+
+    pub drafted_at : HasDraft shelves item
+    drafted_at = now_drafted.0
+
+    rest_apart : AllByRecursion (λ y. same_item item y ≡ false) (drop (i + 1) items) × IsDistinct same_item (drop (i + 1) items)
+    rest_apart = apart_parts item (drop (i + 1) items) (subst (λ l. IsDistinct same_item l) here g.apart)
+
+    module _ (lists' : List (List Stored)) (shelves' : Shelves) (shelved : AreShelved shelves') (same : rows_of next shelves' ≡ rows_of next shelves)
+        (drafts : (x : Item) → HasDraft shelves' x → HasDraft shelves x × (same_item x item ≡ false))
+        (others : (x : Item) → same_item x item ≡ false
+        → (HasDraft shelves x → HasDraft shelves' x) × (stored_on x (rows_of now shelves') ≡ stored_on x (rows_of now shelves)))
+        (ends : (at : ℕ) → ends_at shelves' at ≡ ends_at shelves at) (waits : (x : Item) → waits_on shelves' x ≡ waits_on shelves x)
+        (places : shelves'.places ≡ shelves.places) (wrote : lists' ≡ set lists i (stored_at shelves item)) where
+      within : i < length lists
+      within = omega (arith, h, g.long)
+
+      front : take (i + 1) lists' ≡ take i lists ++ stored_at shelves item ∷ []
+      front = ap (λ l. take (i + 1) l) wrote ∙ take_more_set lists i _ within
+
+      rest : map (stored_at shelves') (drop (i + 1) items) ≡ map (stored_at shelves) (drop (i + 1) items)
+      rest =
+          map_same (stored_at shelves') (stored_at shelves) (drop (i + 1) items)
+          (all_given (λ y. same_item item y ≡ false) (λ x. stored_at shelves' x ≡ stored_at shelves x) (drop (i + 1) items)
+          (λ x f. (others x (turned x item ∙ f)).1) rest_apart.0)
+
+      pub accepts_on : Accepting lists' shelves' (i + 1)
+      accepts_on = record {
+        shelved = shelved;
+        same = same ∙ g.same;
+        drafted = all_both (λ y. same_item item y ≡ false) (HasDraft shelves) (HasDraft shelves') (drop (i + 1) items)
+            (λ x f. (others x (turned x item ∙ f)).0) rest_apart.0 now_drafted.1;
+        within = one_gone shelves shelves' item (drop (i + 1) items) (subst (λ l. DraftsWithin l shelves) here g.within)
+            (λ x k. let p = drafts x k in (p.0, ties item x ∙ p.1));
+        apart = rest_apart.1;
+        long = ap length wrote ∙ length-set lists i (stored_at shelves item) ∙ g.long;
+        made = ap (λ l. l ++ map (stored_at shelves') (drop (i + 1) items)) front
+            ∙ append_assoc (take i lists) (stored_at shelves item ∷ []) (map (stored_at shelves') (drop (i + 1) items))
+            ∙ ap (λ l. take i lists ++ stored_at shelves item ∷ l) rest ∙ sym (ap (λ l. take i lists ++ map (stored_at shelves) l) here) ∙ g.made;
+        ends = λ at. ends at ∙ g.ends at;
+        waits = λ x. waits x ∙ g.waits x;
+        places = places ∙ g.places;
+      }
+
+  module _ (lists : List (List Stored)) (shelves : Shelves) (i : ℕ) (e : length items ≤ i) (g : Accepting lists shelves i) where
+    none : drop i items ≡ []
+    none = drop_all i items e
+
+    pub accepted_bare : AreBare shelves
+    accepted_bare = none_left shelves g.shelved (subst (λ l. DraftsWithin l shelves) none g.within)
+
+    pub accepted_now : rows_of now shelves ≡ rows_of next first
+    accepted_now = sym (sides_same shelves accepted_bare) ∙ g.same
+
+    pub accepted_lists : lists ≡ map (stored_at first) items
+    accepted_lists =
+        sym (append-nil lists) ∙ sym (ap (λ l. l ++ []) (take_all i lists (omega (arith, e, g.long))))
+        ∙ sym (ap (λ l. take i lists ++ map (stored_at shelves) l) none) ∙ g.made
+
+  -- what has a draft has a shelf
+  pub drafted_there : AllByRecursion (HasDraft first) items → AllByRecursion (λ x. IsSome (place_of first x)) items
+  drafted_there drafted = all_given (HasDraft first) (λ x. IsSome (place_of first x)) items (λ x k. subst IsSome (sym k.2) refl) drafted
+
+  -- so many drafts are taken back
+  pub record Discarding (shelves : Shelves) (i : ℕ) : Type 0 where
+    pub shelved : AreShelved shelves
+    pub same : rows_of now shelves ≡ rows_of now first
+    pub there : AllByRecursion (λ x. IsSome (place_of first x)) (drop i items)
+    pub within : DraftsWithin (drop i items) shelves
+    pub ends : (at : ℕ) → ends_at shelves at ≡ ends_at first at
+    pub waits : (x : Item) → waits_on shelves x ≡ waits_on first x
+    pub places : shelves.places ≡ first.places
+
+  pub discarding : AreShelved first → AllByRecursion (λ x. IsSome (place_of first x)) items → DraftsWithin items first → Discarding first 0
+  discarding shelved there within = record {
+    shelved = shelved;
+    same = refl;
+    there = there;
+    within = within;
+    ends = λ at. refl;
+    waits = λ x. refl;
+    places = refl;
+  }
+
+  module _ (shelves : Shelves) (i : ℕ) (item : Item) (h : i < length items) (here : drop i items ≡ item ∷ drop (i + 1) items) (g : Discarding shelves i) where
+    now_there : AllByRecursion (λ x. IsSome (place_of first x)) (item ∷ drop (i + 1) items)
+    now_there = subst (AllByRecursion (λ x. IsSome (place_of first x))) here g.there
+
+    pub there_at : IsSome (place_of shelves item)
+    there_at = subst (λ p. IsSome (place_of (record { places = p; slots = shelves.slots }) item)) (sym g.places) now_there.0
+
+    pub discards_on : (shelves' : Shelves) → AreShelved shelves' → rows_of now shelves' ≡ rows_of now shelves
+        → ((x : Item) → HasDraft shelves' x → HasDraft shelves x × (same_item x item ≡ false))
+        → ((at : ℕ) → ends_at shelves' at ≡ ends_at shelves at) → ((x : Item) → waits_on shelves' x ≡ waits_on shelves x) → shelves'.places ≡ shelves.places
+        → Discarding shelves' (i + 1)
+    discards_on shelves' shelved same drafts ends waits places = record {
+      shelved = shelved;
+      same = same ∙ g.same;
+      there = now_there.1;
+      within = one_gone shelves shelves' item (drop (i + 1) items) (subst (λ l. DraftsWithin l shelves) here g.within)
+          (λ x k. let p = drafts x k in (p.0, ties item x ∙ p.1));
+      ends = λ at. ends at ∙ g.ends at;
+      waits = λ x. waits x ∙ g.waits x;
+      places = places ∙ g.places;
+    }
+
+  module _ (shelves : Shelves) (i : ℕ) (e : length items ≤ i) (g : Discarding shelves i) where
+    pub discarded_bare : AreBare shelves
+    discarded_bare = none_left shelves g.shelved (subst (λ l. DraftsWithin l shelves) (drop_all i items e) g.within)
+
+    pub discarded_next : rows_of next shelves ≡ rows_of now first
+    discarded_next = sides_same shelves discarded_bare ∙ g.same

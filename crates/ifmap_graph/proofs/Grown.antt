@@ -1,0 +1,173 @@
+-- There is more room, or a shelf more: what is there stays, and others hold identifiers as often as before.
+use Rattle.std.proofs.Common.{◌≡◌, ℕ, ◌+◌, ◌*◌, ◌-◌, ◌^◌, ◌<◌, ◌≤◌, Bool, true, false, cond, Option, Some, None, IsSome, unwrap_or, List, [], ◌∷◌, ◌++◌, length, option_map, take, get_or, refl, ap, ◌∙◌, sym, subst, inl, inr, arith, add-one}
+use Rattle.std.proofs.lemmas.List.{append-nil, take_all}
+use Rattle.std.proofs.Math.Seq.{take-suc}
+use Rattle.std.specs.List.{AllByRecursion}
+use Rattle.std.specs.Ordering.{is_eq}
+use Rattle.ifmap_ident.specs.declared.identifiers.Identifier.{Identifier}
+use Rattle.ifmap_ident.specs.declared.items.Item.{Item}
+use Rattle.ifmap_ident.specs.declared.items.Item.TheVariants.{One, Pair}
+use Rattle.ifmap_ident.specs.Identifiers.{identifier_order}
+use Rattle.ifmap_pool.specs.Holdings.{Holdings, IsPool, Names, entry_at, holds_at, once}
+use Rattle.ifmap_view.specs.declared.views.LinkSeen.{LinkSeen}
+use Rattle.slab.specs.Slab.{get}
+use Rattle.ifmap_graph.specs.declared.shelves.Shelves.{Shelves}
+use Rattle.ifmap_graph.specs.Bringing.{AreGrown, AreInside, BringsShelves, HasOwn, HaveFewOwn, Parts, marked, parts_of}
+use Rattle.ifmap_graph.specs.Named.{named_by, named_in}
+use Rattle.ifmap_graph.specs.Shelved.{place_of}
+use Rattle.ifmap_graph.specs.Sides.{Sides}
+use Rattle.ifmap_graph.specs.Turning.{sides_at}
+use Rattle.ifmap_graph.proofs.Alike.{alike_equal}
+use Rattle.ifmap_graph.proofs.Brought.{brings_both, brings_none, there_still}
+use Rattle.ifmap_graph.proofs.Changed.{held_alike, names_alike, roomier}
+use Rattle.ifmap_graph.proofs.Marks.{marked_more}
+use Rattle.ifmap_graph.proofs.Shelving.{Entries}
+
+pub grown_itself : (p : Parts) → AreInside p → AreGrown p p
+grown_itself p is = record {
+  inside = is;
+  now = refl;
+  next = refl;
+  bare = λ b. b;
+  links = λ v. refl;
+  longer = omega arith;
+  kept = λ v a n. n;
+  own = λ a own h. h;
+}
+
+pub grown_both : (p q r : Parts) → AreGrown p q → AreGrown q r → AreGrown p r
+grown_both p q r a b = record {
+  inside = b.inside;
+  now = b.now ∙ a.now;
+  next = b.next ∙ a.next;
+  bare = λ x. b.bare (a.bare x);
+  links = λ v. b.links v ∙ a.links v;
+  longer = omega (arith, a.longer, b.longer);
+  kept = λ v k n. b.kept v k (a.kept v k n);
+  own = λ k own h. b.own k own (a.own k own h);
+}
+
+pub few_kept : (p q : Parts) → AreGrown p q → HaveFewOwn p → HaveFewOwn q
+few_kept p q g few a = let f = few a in (f.0, g.own a f.0 f.1, f.2)
+
+pub grown_room : (names more : Holdings Identifier) (s : Shelves) (links longer : List (Sides LinkSeen)) → more.live ≡ names.live
+    → IsPool identifier_order more
+    → ((v : ℕ) → sides_at longer v ≡ sides_at links v) → length links ≤ length longer → AreInside (parts_of names s links)
+    → AreGrown (parts_of names s links) (parts_of more s longer)
+grown_room names more s links longer live pool same long is = record {
+  inside = roomier names more live (get s.slots) s.places.entries links longer pool same long is;
+  now = refl;
+  next = refl;
+  bare = λ b. b;
+  links = same;
+  longer = long;
+  kept = names_alike names more live;
+  own = λ a own h. held_alike names more live a (named_in s.places.entries a + own) h;
+}
+
+-- an entry names an identifier twice at most
+once_most : (a b : Identifier) → once identifier_order a b ≤ 1
+once_most a b = by (is_eq (identifier_order a b))
+  where
+    by : (t : Bool) → cond t 1 0 ≤ 1
+    by true = omega arith
+    by false = omega arith
+
+by_most : (i : Item) (a : Identifier) → named_by i a ≤ 2
+by_most (One b) a = omega (arith, once_most b a)
+by_most (Pair b c) a = omega (arith, once_most b a, once_most c a)
+
+in_most : (es : Entries) (a : Identifier) → named_in es a ≤ 2 * length es
+in_most [] a = omega arith
+in_most (e ∷ es) a = omega (arith, by_most e.0 a, in_most es a)
+
+-- so no number is held too often to be held twice more
+pub few_holds : (p : Parts) → AreInside p → HaveFewOwn p → length p.shelves.places.entries < 2 ^ 62 → (v : ℕ)
+    → holds_at p.names v < 2 ^ 64 - 2
+few_holds p is few small v = by (entry_at p.names v) refl
+  where
+    none_held : (o : Option (Identifier × ℕ)) → o ≡ None → unwrap_or (option_map (λ x. x.1) o) 0 ≡ 0
+    none_held o e = ap (λ o. unwrap_or (option_map (λ (x : Identifier × ℕ). x.1) o) 0) e
+
+    held_so : (a : Identifier) → Names identifier_order p.names v a → (own : ℕ) → HasOwn p a own → own < 2 ^ 32
+        → holds_at p.names v < 2 ^ 64 - 2
+    held_so a n own (inl h) less =
+        let same : holds_at p.names v ≡ named_in p.shelves.places.entries a + own
+        = ap (holds_at p.names) (is.pool.one_to_one v h.0 a n h.1) ∙ h.2
+        in omega (arith, same, in_most p.shelves.places.entries a, small, less)
+    held_so a n own (inr h) less = absurd (h.0 v n)
+
+    by : (o : Option (Identifier × ℕ)) → entry_at p.names v ≡ o → holds_at p.names v < 2 ^ 64 - 2
+    by None e = let zero : holds_at p.names v ≡ 0 = none_held (entry_at p.names v) e in omega (arith, zero)
+    by (Some x) e = let f = few x.0 in held_so x.0 (x, e, alike_equal x.0 x.0 refl) f.0 f.1 f.2
+
+-- the items of a change get their shelves, one after another
+module _ (items : List Item) (first : Parts) where
+  pub record Placing (p : Parts) (marks : List Bool) (i : ℕ) : Type 0 where
+    pub grown : AreGrown first p
+    pub long : length marks ≡ i
+    pub brought : BringsShelves (marked items marks) first.shelves p.shelves
+    pub there : AllByRecursion (λ x. IsSome (place_of p.shelves x)) (take i items)
+
+  pub placing : AreInside first → (marks : List Bool) → marks ≡ [] → Placing first marks 0
+  placing is marks e = record {
+    grown = grown_itself first is;
+    long = ap length e;
+    brought = subst (λ l. BringsShelves (marked items l) first.shelves first.shelves) (sym e)
+        (subst (λ l. BringsShelves l first.shelves first.shelves) (sym (none items))
+        (brings_none first.shelves first.shelves refl (λ at. refl) (λ x. refl)));
+    there = tt;
+  }
+    where
+      none : (xs : List Item) → marked xs [] ≡ []
+      none [] = refl
+      none (x ∷ xs) = refl
+
+  module _ (p q : Parts) (marks : List Bool) (i : ℕ) (g : Placing p marks i) (grown : AreGrown p q) where
+    -- one that fails brings none
+    pub places_none : BringsShelves [] p.shelves q.shelves → BringsShelves (marked items marks) first.shelves q.shelves
+    places_none b =
+        subst (λ l. BringsShelves l first.shelves q.shelves) (append-nil (marked items marks))
+        (brings_both (marked items marks) [] first.shelves p.shelves q.shelves g.brought b)
+
+    pub grown_on : AreGrown first q
+    grown_on = grown_both first p q g.grown grown
+
+    all_still : (xs : List Item) (came : List Item) → BringsShelves came p.shelves q.shelves
+        → AllByRecursion (λ x. IsSome (place_of p.shelves x)) xs
+        → AllByRecursion (λ x. IsSome (place_of q.shelves x)) xs
+    all_still [] came b a = tt
+    all_still (x ∷ xs) came b a = (there_still came p.shelves q.shelves b x a.0, all_still xs came b a.1)
+
+    all_snoc : (P : Item → Type 0) (xs : List Item) (x : Item) → AllByRecursion P xs → P x → AllByRecursion P (xs ++ x ∷ [])
+    all_snoc P [] x a h = (h, tt)
+    all_snoc P (y ∷ ys) x a h = (a.0, all_snoc P ys x a.1 h)
+
+    pub places_on : (x : Item) (came : Bool) (later : List Bool) → i < length items → get_or items i x ≡ x → later ≡ marks ++ came ∷ []
+        → BringsShelves (cond came (x ∷ []) []) p.shelves q.shelves → IsSome (place_of q.shelves x) → Placing q later (i + 1)
+    places_on x came later h is e b there = record {
+      grown = grown_on;
+      long = ap length e ∙ one_longer marks came ∙ ap (λ n. n + 1) g.long;
+      brought =
+          subst (λ l. BringsShelves (marked items l) first.shelves q.shelves) (sym e)
+          (subst (λ l. BringsShelves l first.shelves q.shelves) (sym one_mark)
+          (brings_both (marked items marks) (cond came (x ∷ []) []) first.shelves p.shelves q.shelves g.brought b));
+      there = subst (λ l. AllByRecursion (λ x. IsSome (place_of q.shelves x)) l)
+          (ap (λ y. take i items ++ y ∷ []) (sym is) ∙ sym (take-suc items i x h) ∙ ap (λ n. take n items) (sym (add-one i)))
+          (all_snoc (λ x. IsSome (place_of q.shelves x)) (take i items) x
+          (all_still (take i items) (cond came (x ∷ []) []) b g.there) there);
+    }
+      where
+        one_longer : (ms : List Bool) (m : Bool) → length (ms ++ m ∷ []) ≡ length ms + 1
+        one_longer [] m = refl
+        one_longer (x ∷ xs) m = omega (arith, one_longer xs m)
+
+        one_mark : marked items (marks ++ came ∷ []) ≡ marked items marks ++ cond came (x ∷ []) []
+        one_mark =
+            marked_more items marks came x (omega (arith, h, g.long))
+            ∙ ap (λ n. marked items marks ++ cond came (get_or items n x ∷ []) []) g.long
+            ∙ ap (λ y. marked items marks ++ cond came (y ∷ []) []) is
+
+  pub placed_there : (p : Parts) (marks : List Bool) (i : ℕ) → length items ≤ i → Placing p marks i
+      → AllByRecursion (λ x. IsSome (place_of p.shelves x)) items
+  placed_there p marks i h g = subst (λ l. AllByRecursion (λ x. IsSome (place_of p.shelves x)) l) (take_all i items h) g.there

@@ -1,0 +1,41 @@
+-- Shelves and links that are the same: what contracts see of them.
+use Rattle.std.proofs.Common.{◌≡◌, ℕ, ◌≤◌, [], length, ap, ◌∙◌, subst, arith}
+use Rattle.std.specs.BTreeMap.{is_at}
+use Rattle.std.specs.Map.{lookup}
+use Rattle.ifmap_ident.specs.declared.items.Item.{Item}
+use Rattle.ifmap_ident.specs.Items.{item_order}
+use Rattle.ifmap_graph.specs.Back.{KeepsBacks}
+use Rattle.ifmap_graph.specs.Held.{Held}
+use Rattle.ifmap_graph.specs.Out.{IsDrafted}
+use Rattle.ifmap_graph.specs.Seen.{AwaitsMore, IsStill, waits_in, waits_there_in}
+use Rattle.ifmap_graph.specs.Shelved.{list_at, rows_by}
+use Rattle.ifmap_graph.specs.Sides.{now}
+use Rattle.ifmap_graph.specs.Stays.{IsThere, StayPlaced, ends_there_in}
+use Rattle.ifmap_graph.specs.Turning.{sides_at}
+use Rattle.ifmap_graph.proofs.Backs.{keeps_backs}
+
+module _ (old new : Held) (shelves : new.shelves ≡ old.shelves) (places : new.places ≡ old.places)
+    (links : (v : ℕ) → sides_at new.links v ≡ sides_at old.links v) (long : length old.links ≤ length new.links) where
+  there : (x : Item) → IsThere old new x
+  there x = (
+    ap (λ l. lookup (is_at (item_order x)) l) places,
+    ap (λ l. ends_there_in (lookup (is_at (item_order x)) l)) shelves,
+  )
+
+  pub kept_stay : StayPlaced old new
+  kept_stay = record { waited = λ x a b. there x; full = λ x a b. there x }
+
+  pub kept_still : IsStill old → IsStill new
+  kept_still still = record {
+    shelves = λ x d. still.shelves x (subst (λ l. IsDrafted l x) shelves d);
+    links = λ v. ap (λ s. s.draft) (links v) ∙ still.links v;
+  }
+
+  waits_same : (x : Item) → waits_in new x ≡ waits_in old x
+  waits_same x = ap (λ l. waits_there_in (lookup (is_at (item_order x)) l)) shelves
+
+  pub kept_waits : AwaitsMore [] old new
+  kept_waits rest a x = omega (arith, a x, waits_same x)
+
+  pub kept_backs : KeepsBacks old new
+  kept_backs = keeps_backs old new (ap (rows_by (list_at now)) shelves) (λ v. ap now (links v)) long kept_stay kept_waits

@@ -1,0 +1,152 @@
+-- What is stored on each item of a graph rises with its keys apart; and graphs with the same on each item are one.
+use Rattle.std.proofs.Common.{◌≡◌, ◌&&◌, true, false, List, [], ◌∷◌, refl, ap, ◌∙◌, sym, subst, inl, inr}
+use Rattle.std.proofs.lemmas.Bool.{cases_Bool}
+use Rattle.std.proofs.lemmas.Cmp.{tied_itself}
+use Rattle.std.specs.Cmp.{IsTotalOrder}
+use Rattle.std.specs.List.{AllByRecursion, IsDistinct, filter}
+use Rattle.std.specs.List.Sorted.{IsStrictlySortedBy}
+use Rattle.std.specs.Ordering.{is_eq, ordering_then}
+use Rattle.std.specs.declared.cmp.Ordering.{Ordering}
+use Rattle.std.specs.declared.cmp.Ordering.TheVariants.{Less, Equal}
+use Rattle.ifmap_lemmas.specs.Having.{Has, filter_has, has_filter, has_map, map_has}
+use Rattle.ifmap_ident.specs.declared.items.Item.{Item}
+use Rattle.ifmap_ident.specs.declared.items.Item.TheVariants.{One, Pair}
+use Rattle.ifmap_ident.specs.Items.{IsCanonItem, item_order, same_item}
+use Rattle.ifmap_meta.specs.declared.stored.Stored.{Stored}
+use Rattle.ifmap_meta.specs.Keys.{same_key}
+use Rattle.ifmap_plans.specs.laws.KeyLaws.{attachments_total}
+use Rattle.ifmap_plans.specs.Lists.{IsList}
+use Rattle.ifmap_view.specs.declared.attachments.Attachment.{Attachment}
+use Rattle.ifmap_view.specs.Attachments.{IsGraph, attachment_order, of_one_key, stored_order}
+use Rattle.ifmap_view.specs.Rows.{stored_on}
+use Rattle.ifmap_graph.proofs.Alike.{Tells, one_tied, pair_tied}
+use Rattle.ifmap_graph.proofs.Ordered.{equal_is, items_total, ties}
+use Rattle.ifmap_graph.proofs.Viewed.{all_has}
+
+tied_with : (x k : Item) → same_item k x ≡ true → item_order x k ≡ Equal
+tied_with x k e = equal_is (item_order x k) (ties x k ∙ e)
+
+-- what is stored on an item
+module _ (x : Item) where
+  all_of : (P : Stored → Type 0) (Q : Attachment → Type 0) → ((s : Attachment) → same_item s.item x ≡ true → Q s → P s.stored)
+      → (rows : List Attachment) → AllByRecursion Q rows → AllByRecursion P (stored_on x rows)
+  all_of P Q h [] a = tt
+  all_of P Q h (r ∷ rows) a = elim (cases_Bool (same_item r.item x)) [
+    | inl is ↦ rw is (h r is a.0, all_of P Q h rows a.1)
+    | inr is ↦ rw is (all_of P Q h rows a.1)
+  ]
+
+  both_tied : (r s : Item) → same_item r x ≡ true → same_item s x ≡ true → item_order r s ≡ Equal
+  both_tied r s i j = sym (items_total.congr x r s (tied_with x r i)) ∙ tied_with x s j
+
+  ordered : (r s : Attachment) → same_item r.item x ≡ true → same_item s.item x ≡ true → attachment_order r s ≡ Less
+      → stored_order r.stored s.stored ≡ Less
+  ordered r s i j e = ap (λ o. ordering_then o (stored_order r.stored s.stored)) (sym (both_tied r.item s.item i j)) ∙ e
+
+  keyed : (r s : Attachment) → same_item r.item x ≡ true → same_item s.item x ≡ true → of_one_key r s ≡ false
+      → same_key r.stored s.stored ≡ false
+  keyed r s i j e =
+      let t : same_item r.item s.item ≡ true
+      = sym (ties s.item r.item) ∙ ap is_eq (both_tied s.item r.item j i)
+      in ap (λ b. b && same_key r.stored s.stored) (sym t) ∙ e
+
+  rising_on : (rows : List Attachment) → IsStrictlySortedBy attachment_order rows → IsStrictlySortedBy stored_order (stored_on x rows)
+  unfolding IsStrictlySortedBy
+  rising_on [] up = tt
+  rising_on (r ∷ rows) up = elim (cases_Bool (same_item r.item x)) [
+    | inl is ↦ rw is (
+      all_of (λ s. stored_order r.stored s ≡ Less) (λ s. attachment_order r s ≡ Less) (λ s j e. ordered r s is j e) rows up.0,
+      rising_on rows up.1,
+    )
+    | inr is ↦ rw is (rising_on rows up.1)
+  ]
+
+  keys_on : (rows : List Attachment) → IsDistinct of_one_key rows → IsDistinct same_key (stored_on x rows)
+  unfolding IsDistinct
+  keys_on [] d = tt
+  keys_on (r ∷ rows) d = elim (cases_Bool (same_item r.item x)) [
+    | inl is ↦ rw is (
+      all_of (λ s. same_key r.stored s ≡ false) (λ s. of_one_key r s ≡ false) (λ s j e. keyed r s is j e) rows d.0,
+      keys_on rows d.1,
+    )
+    | inr is ↦ rw is (keys_on rows d.1)
+  ]
+
+  pub list_on : (rows : List Attachment) → IsGraph rows → IsList (stored_on x rows)
+  list_on rows g = record { rising = rising_on rows g.rising; keys = keys_on rows g.keys }
+
+-- lists that rise and have the same are one
+module _ {X : Type 0} (R : X → X → Ordering) (total : IsTotalOrder R) where
+  first_sorted : (x : X) (xs : List X) → IsStrictlySortedBy R (x ∷ xs) → AllByRecursion (λ y. R x y ≡ Less) xs × IsStrictlySortedBy R xs
+  unfolding IsStrictlySortedBy
+  first_sorted x xs r = r
+
+  not_below : (x : X) → R x x ≡ Less → ⊥
+  not_below x e = let q : Less ≡ Equal = sym e ∙ tied_itself total x in cc
+
+  not_both : (x y : X) → R x y ≡ Less → R y x ≡ Less → ⊥
+  not_both x y e f = not_below x (total.trans x y x e f)
+
+  rest_has : (x : X) (xs ys : List X) → AllByRecursion (λ y. R x y ≡ Less) xs → ((z : X) → Has (x ∷ xs) z → Has (x ∷ ys) z) → (z : X)
+      → Has xs z → Has ys z
+  rest_has x xs ys a f z h = elim (f z (inr h)) [
+    | inl e ↦ absurd (not_below x (subst (λ k. R x k ≡ Less) (sym e) (all_has (λ k. R x k ≡ Less) xs a z h)))
+    | inr k ↦ k
+  ]
+
+  first_same : (x y : X) (xs ys : List X) → AllByRecursion (λ z. R x z ≡ Less) xs → AllByRecursion (λ z. R y z ≡ Less) ys
+      → Has (y ∷ ys) x → Has (x ∷ xs) y → x ≡ y
+  first_same x y xs ys a b (inl e) k = sym e
+  first_same x y xs ys a b (inr h) (inl e) = e
+  first_same x y xs ys a b (inr h) (inr k) =
+      absurd (not_both x y (all_has (λ z. R x z ≡ Less) xs a y k) (all_has (λ z. R y z ≡ Less) ys b x h))
+
+  pub sorted_same : (xs ys : List X) → IsStrictlySortedBy R xs → IsStrictlySortedBy R ys → ((z : X) → Has xs z → Has ys z)
+      → ((z : X) → Has ys z → Has xs z) → xs ≡ ys
+  sorted_same [] [] r q f g = refl
+  sorted_same [] (y ∷ ys) r q f g = absurd (g y (inl refl))
+  sorted_same (x ∷ xs) [] r q f g = absurd (f x (inl refl))
+  sorted_same (x ∷ xs) (y ∷ ys) r q f g =
+      let a = first_sorted x xs r
+      in let b = first_sorted y ys q
+      in let e : x ≡ y = first_same x y xs ys a.0 b.0 (f x (inl refl)) (g y (inl refl))
+      in ap (λ k. k ∷ xs) e
+      ∙ ap (λ l. y ∷ l) (sorted_same xs ys a.1 b.1
+      (rest_has x xs ys a.0 (subst (λ k. (z : X) → Has (x ∷ xs) z → Has (k ∷ ys) z) (sym e) f))
+      (rest_has y ys xs b.0 (subst (λ k. (z : X) → Has (y ∷ ys) z → Has (k ∷ xs) z) e g)))
+
+-- items that tie are one, where elements gave their identifiers
+canon_tied : Tells → (x y : Item) → IsCanonItem x → IsCanonItem y → item_order x y ≡ Equal → y ≡ x
+canon_tied tells (One k) y p q e =
+    let t = one_tied k y e
+    in t.1 ∙ ap One (tells t.0 k (subst IsCanonItem t.1 q).identifiers.0 p.identifiers.0 t.2)
+canon_tied tells (Pair k m) y p q e =
+    let t = pair_tied k m y e
+    in let c : IsCanonItem (Pair t.0 t.1) = subst IsCanonItem t.2 q
+    in t.2 ∙ ap (λ a. Pair a t.1) (tells t.0 k c.identifiers.0 p.identifiers.0 t.3)
+    ∙ ap (λ b. Pair k b) (tells t.1 m c.identifiers.1.0 p.identifiers.1.0 t.4)
+
+has_on : (r : Attachment) (rows : List Attachment) → Has rows r → Has (stored_on r.item rows) r.stored
+has_on r rows h =
+    let t : same_item r.item r.item ≡ true = sym (ties r.item r.item) ∙ ap is_eq (tied_itself items_total r.item)
+    in has_map (λ (a : Attachment). a.stored) (filter (λ (a : Attachment). same_item a.item r.item) rows) r
+    (has_filter (λ (a : Attachment). same_item a.item r.item) rows r h t)
+
+on_has : Tells → (r : Attachment) (rows : List Attachment) → IsCanonItem r.item → IsGraph rows → Has (stored_on r.item rows) r.stored
+    → Has rows r
+on_has tells r rows canon g h =
+    let m = map_has (λ (a : Attachment). a.stored) (filter (λ (a : Attachment). same_item a.item r.item) rows) r.stored h
+    in let k = filter_has (λ (a : Attachment). same_item a.item r.item) rows m.0 m.1
+    in let e : m.0.item ≡ r.item
+    = canon_tied tells r.item m.0.item canon (all_has (λ (a : Attachment). IsCanonItem a.item) rows g.items m.0 k.0)
+    (tied_with r.item m.0.item k.1)
+    in let same : m.0 ≡ r = ap (λ i. record { item = i; stored = m.0.stored }) e ∙ ap (λ s. record { item = r.item; stored = s }) m.2
+    in subst (Has rows) same k.0
+
+pub rows_same : Tells → (a b : List Attachment) → IsGraph a → IsGraph b → ((x : Item) → stored_on x a ≡ stored_on x b) → a ≡ b
+rows_same tells a b p q f =
+    sorted_same attachment_order attachments_total a b p.rising q.rising
+    (λ r h. on_has tells r b (all_has (λ (k : Attachment). IsCanonItem k.item) a p.items r h) q
+    (subst (λ l. Has l r.stored) (f r.item) (has_on r a h)))
+    (λ r h. on_has tells r a (all_has (λ (k : Attachment). IsCanonItem k.item) b q.items r h) p
+    (subst (λ l. Has l r.stored) (sym (f r.item)) (has_on r b h)))

@@ -1,0 +1,189 @@
+-- A change that was made is taken back: what a way back says is stored and linked, and all parts are in order.
+use Rattle.std.proofs.Common.{◌≡◌, ℕ, zero, suc, ◌+◌, ◌<◌, Option, Some, None, IsSome, List, [], ◌∷◌, length, nat_eq, refl, ap, ◌∙◌, sym, subst, inl, inr, arith}
+use Rattle.std.proofs.lemmas.Cmp.{tied_itself}
+use Rattle.std.specs.List.{AllByRecursion, Contains, IsDistinct}
+use Rattle.slab.specs.Slab.{get}
+use Rattle.ifmap_lemmas.specs.Having.{Has}
+use Rattle.ifmap_ident.specs.declared.identifiers.Identifier.{Identifier}
+use Rattle.ifmap_ident.specs.declared.items.Item.{Item}
+use Rattle.ifmap_ident.specs.Identifiers.{identifier_order}
+use Rattle.ifmap_plans.specs.Lists.{IsList}
+use Rattle.ifmap_pool.specs.Holdings.{Holdings, IsHeld}
+use Rattle.ifmap_view.specs.declared.attachments.Attachment.{Attachment}
+use Rattle.ifmap_view.specs.declared.views.LinkSeen.{LinkSeen}
+use Rattle.ifmap_view.specs.Rows.{stored_on}
+use Rattle.ifmap_graph.specs.declared.changes.Undo.{Undo}
+use Rattle.ifmap_graph.specs.declared.shelves.Shelf.{Shelf}
+use Rattle.ifmap_graph.specs.declared.shelves.Shelves.{Shelves}
+use Rattle.ifmap_graph.specs.Back.{AreLinks, IsWayBack, stand_each}
+use Rattle.ifmap_graph.specs.Drafted.{AreBare, NoDraft, ends_at}
+use Rattle.ifmap_graph.specs.Held.{Held, IsInside, IsSide, links_at}
+use Rattle.ifmap_graph.specs.Linked.{ats}
+use Rattle.ifmap_graph.specs.Named.{named_in}
+use Rattle.ifmap_graph.specs.Out.{items_of}
+use Rattle.ifmap_graph.specs.Seen.{Awaits, IsStill, KeepsOwn, links_now, rows_now}
+use Rattle.ifmap_graph.specs.Shelved.{IsPlaced, list_at, place_of, rows_by, rows_of}
+use Rattle.ifmap_graph.specs.Sides.{Sides, next, now}
+use Rattle.ifmap_graph.specs.Turning.{restore_each, sides_at}
+use Rattle.ifmap_graph.specs.Waits.{times_in, waits_on}
+use Rattle.ifmap_graph.proofs.Alike.{Tells}
+use Rattle.ifmap_graph.proofs.Backs.{links_stay}
+use Rattle.ifmap_graph.proofs.Bare.{list_bare}
+use Rattle.ifmap_graph.proofs.Finding.{found}
+use Rattle.ifmap_graph.proofs.Following.{entry_hits}
+use Rattle.ifmap_graph.proofs.Graphs.{graph_is}
+use Rattle.ifmap_graph.proofs.Insides.{named_shown, rows_shown}
+use Rattle.ifmap_graph.proofs.Lessening.{waited_there}
+use Rattle.ifmap_graph.proofs.Moved.{inside_anew, placed_still, side_moved, used_still}
+use Rattle.ifmap_graph.proofs.OnItems.{list_on, rows_same}
+use Rattle.ifmap_graph.proofs.Ordered.{items_total}
+use Rattle.ifmap_graph.proofs.Seeing.{links_by_slots, seen_of, stays_there}
+use Rattle.ifmap_graph.proofs.Settled.{bare_to, held_of, waits_shown}
+use Rattle.ifmap_graph.proofs.Shelving.{Entries}
+use Rattle.ifmap_graph.proofs.Staying.{ends_of}
+use Rattle.ifmap_graph.proofs.Taking.{has_times}
+use Rattle.ifmap_graph.proofs.Turns.{next_of_bare, restored_drafts, restored_length}
+use Rattle.ifmap_graph.proofs.Viewed.{all_has}
+
+-- links that are alike at each number
+links_alike : (rows : List Attachment) (links moved : ℕ → List LinkSeen) (h : Held) → ((v : ℕ) → moved v ≡ links v)
+    → AreLinks rows links h → AreLinks rows moved h
+links_alike rows links moved h f is = record {
+  only = λ v seen c. is.only v seen (subst (λ l. Contains l seen) (f v) c);
+  each = λ x v w at e two full. subst (λ l. Contains l (record { other = w; at = at })) (sym (f v)) (is.each x v w at e two full);
+  once = λ v. subst (λ l. IsDistinct nat_eq (ats l)) (sym (f v)) (is.once v);
+}
+
+module _ (names : Holdings Identifier) (look later : ℕ → Option Shelf) (es : Entries) (links moved : List (Sides LinkSeen))
+    (is : IsInside names look es links)
+    (ends : (at : ℕ) → ends_of (later at) ≡ ends_of (look at)) (bare : AllByRecursion (λ e. NoDraft (later e.1)) es)
+    (none : (v : ℕ) → (sides_at links v).draft ≡ None)
+    (u : Undo) (rows : List Attachment) (seen : ℕ → List LinkSeen) (back : IsWayBack u rows seen (seen_of look es names links))
+    (stands : (x : Item) → stored_on x (rows_by (λ at. list_at now (later at)) es)
+    ≡ stand_each (items_of u.plan.changes) u.lists x (stored_on x (rows_by (λ at. list_at now (look at)) es)))
+    (turned : moved ≡ restore_each u.ways links) where
+  placed : IsPlaced later es
+  placed = placed_still look later ends es is.placed
+
+  used : (at : ℕ) → IsSome (later at) → (item : Item) × Has es (item, at)
+  used = used_still look later ends es is.used
+
+  -- on each item stands what is to stand there again
+  stored : (x : Item) → stored_on x (rows_by (λ at. list_at now (later at)) es) ≡ stored_on x rows
+  stored x =
+      stands x ∙ sym (ap (λ r. stand_each (items_of u.plan.changes) u.lists x (stored_on x r)) (rows_shown now look es))
+      ∙ sym (back.stored x)
+
+  pub back_links : (v : ℕ) → links_at now moved v ≡ seen v
+  back_links v = ap (λ l. links_at now l v) turned ∙ sym (back.linked v)
+
+  pub back_bare : (v : ℕ) → (sides_at moved v).draft ≡ None
+  back_bare v = ap (λ l. (sides_at l v).draft) turned ∙ restored_drafts u.ways links v back.within ∙ none v
+
+  lists : (xs : Entries) → ((e : Item × ℕ) → Has xs e → Has es e) → AllByRecursion (λ e. IsList (list_at now (later e.1))) xs
+  lists [] f = tt
+  lists (e ∷ xs) f = (
+    subst IsList (sym (found (λ at. list_at now (later at)) e.0 es e.1 placed.rising
+        (entry_hits es e.0 e.1 placed.rising (f e (inl refl))) ∙ stored e.0))
+        (list_on e.0 rows back.graph),
+    lists xs (λ x h. f x (inr h)),
+  )
+
+  slots : AreLinks rows (links_at now moved) (seen_of later es names moved)
+  slots =
+      links_alike rows seen (links_at now moved) (seen_of later es names moved) back_links
+      (links_stay rows seen (seen_of look es names links) (seen_of later es names moved)
+      (λ x n. stays_there look later es names names links moved ends x) back.slots)
+
+  side : IsSide now later es (links_at now moved)
+  side = record {
+    lists = lists es (λ e h. h);
+    listed = links_by_slots later es names moved rows (links_at now moved) placed used stored slots;
+    once = slots.once;
+  }
+
+  bare_at : (at : ℕ) → NoDraft (later at)
+  bare_at at = by (later at) refl
+    where
+      by : (o : Option Shelf) → later at ≡ o → NoDraft (later at)
+      by None e = subst NoDraft (sym e) tt
+      by (Some shelf) e =
+          let h = used at (subst (λ (o : Option Shelf). IsSome o) (sym e) refl)
+          in all_has (λ (e : Item × ℕ). NoDraft (later e.1)) es bare (h.0, at) h.1
+
+  next_side : IsSide next later es (links_at next moved)
+  next_side =
+      side_moved later later (λ at. refl) now next (λ at. list_bare (later at) (bare_at at)) (links_at now moved) (links_at next moved)
+      (λ v. sym (next_of_bare (sides_at moved v) (back_bare v))) es side
+
+  pub back_inside : IsInside names later es moved
+  back_inside = inside_anew look later ends names es links moved (ap length turned ∙ restored_length u.ways links) side next_side is
+
+  pub back_rows : Tells → rows_now (seen_of later es names moved) ≡ rows
+  back_rows tells =
+      rows_shown now later es
+      ∙ rows_same tells (rows_by (λ at. list_at now (later at)) es) rows
+      (graph_is (λ at. list_at now (later at)) es placed.rising placed.canon side.lists)
+      back.graph stored
+
+-- items that are waited for have shelves
+pub all_there : (names : Holdings Identifier) (s : Shelves) (links : List (Sides LinkSeen)) (items : List Item)
+    → Awaits items (held_of names s links)
+    → AllByRecursion (λ x. IsSome (place_of s x)) items
+all_there names s links items a = by items (λ x h. h)
+  where
+    waited : (x : Item) → Has items x → (t : ℕ) → times_in items x ≡ t → 0 < waits_on s x
+    waited x h zero e = absurd (has_times items x x h (tied_itself items_total x) e)
+    waited x h (suc k) e = omega (arith, a x, waits_shown names s links x, e)
+
+    by : (xs : List Item) → ((x : Item) → Has xs x → Has items x) → AllByRecursion (λ x. IsSome (place_of s x)) xs
+    by [] f = tt
+    by (x ∷ xs) f = (
+      let q = waited_there s x (waited x (f x (inl refl)) (times_in items x) refl) in subst IsSome (sym q.1) refl,
+      by xs (λ y h. f y (inr h)),
+    )
+
+-- the same of shelves that stay in their places
+module _ (names : Holdings Identifier) (s t : Shelves) (links moved : List (Sides LinkSeen)) (places : t.places ≡ s.places)
+    (ends : (at : ℕ) → ends_at t at ≡ ends_at s at) (waits : (x : Item) → waits_on t x ≡ waits_on s x) where
+  pub own_stays : KeepsOwn (held_of names s links) (held_of names t moved)
+  own_stays a own h =
+      subst (λ (n : ℕ). IsHeld identifier_order names a (n + own))
+      (named_shown (get s.slots) s.places.entries a ∙ sym (ap (λ p. named_in p.entries a) places)
+      ∙ sym (named_shown (get t.slots) t.places.entries a)) h
+
+  pub waits_stay_seen : (items : List Item) → Awaits items (held_of names s links) → Awaits items (held_of names t moved)
+  waits_stay_seen items a x = omega (arith, a x, waits_shown names s links x, waits_shown names t moved x, waits x)
+
+  module _ (is : IsInside names (get s.slots) s.places.entries links) (bare : AreBare t) (none : (v : ℕ) → (sides_at links v).draft ≡ None)
+      (u : Undo) (rows : List Attachment) (seen : ℕ → List LinkSeen) (back : IsWayBack u rows seen (held_of names s links))
+      (stands : (x : Item) → stored_on x (rows_of now t) ≡ stand_each (items_of u.plan.changes) u.lists x (stored_on x (rows_of now s)))
+      (turned : moved ≡ restore_each u.ways links) where
+    still_bare : AllByRecursion (λ e. NoDraft (get t.slots e.1)) s.places.entries
+    still_bare = subst (λ p. AllByRecursion (λ e. NoDraft (get t.slots e.1)) p.entries) places bare
+
+    still_stands : (x : Item) → stored_on x (rows_by (λ at. list_at now (get t.slots at)) s.places.entries)
+        ≡ stand_each (items_of u.plan.changes) u.lists x (stored_on x (rows_of now s))
+    still_stands x = ap (λ p. stored_on x (rows_by (λ at. list_at now (get t.slots at)) p.entries)) (sym places) ∙ stands x
+
+    pub undone_inside : IsInside names (get t.slots) t.places.entries moved
+    undone_inside =
+        subst (λ p. IsInside names (get t.slots) p.entries moved) (sym places)
+        (back_inside names (get s.slots)
+        (get t.slots) s.places.entries links moved is ends still_bare none u rows seen back still_stands turned)
+
+    pub undone_rows : Tells → rows_now (held_of names t moved) ≡ rows
+    undone_rows tells =
+        ap (λ p. rows_now (seen_of (get t.slots) p.entries names moved)) places
+        ∙ back_rows names (get s.slots)
+        (get t.slots) s.places.entries links moved is ends still_bare none u rows seen back still_stands turned tells
+
+    pub undone_links : (v : ℕ) → links_now (held_of names t moved) v ≡ seen v
+    undone_links = back_links names (get s.slots)
+        (get t.slots) s.places.entries links moved is ends still_bare none u rows seen back still_stands turned
+
+    pub undone_still : IsStill (held_of names t moved)
+    undone_still =
+        bare_to names t moved bare
+        (back_bare names (get s.slots)
+        (get t.slots) s.places.entries links moved is ends still_bare none u rows seen back still_stands turned)

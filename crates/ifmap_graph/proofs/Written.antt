@@ -1,0 +1,63 @@
+-- Lists of shelves and of links were written, and no shelf came or went: what contracts see.
+use Rattle.std.proofs.Common.{◌≡◌, ℕ, ◌+◌, List, ◌++◌, ap, ◌∙◌, sym, subst, arith}
+use Rattle.slab.specs.Slab.{get}
+use Rattle.ifmap_ident.specs.declared.identifiers.Identifier.{Identifier}
+use Rattle.ifmap_ident.specs.declared.items.Item.{Item}
+use Rattle.ifmap_ident.specs.Identifiers.{identifier_order}
+use Rattle.ifmap_pool.specs.Holdings.{Holdings, IsHeld}
+use Rattle.ifmap_view.specs.declared.views.LinkSeen.{LinkSeen}
+use Rattle.ifmap_graph.specs.declared.shelves.Shelves.{Shelves}
+use Rattle.ifmap_graph.specs.Back.{KeepsBacks, KeepsOtherBacks}
+use Rattle.ifmap_graph.specs.Drafted.{ends_at}
+use Rattle.ifmap_graph.specs.Held.{Held}
+use Rattle.ifmap_graph.specs.Named.{named_in}
+use Rattle.ifmap_graph.specs.Out.{items_of}
+use Rattle.ifmap_graph.specs.Seen.{Awaits, KeepsOwn, rows_now, waits_in}
+use Rattle.ifmap_graph.specs.Shelved.{rows_of}
+use Rattle.ifmap_graph.specs.Sides.{Sides, now}
+use Rattle.ifmap_graph.specs.Stays.{IsThere, StayPlaced}
+use Rattle.ifmap_graph.specs.Touched.{KeepsLinks}
+use Rattle.ifmap_graph.specs.Waits.{waits_on}
+use Rattle.ifmap_graph.proofs.Backs.{keeps_backs}
+use Rattle.ifmap_graph.proofs.Insides.{named_shown, rows_shown}
+use Rattle.ifmap_graph.proofs.Seeing.{seen_of, stays_there}
+use Rattle.ifmap_graph.proofs.Settled.{held_of, waits_shown}
+
+module _ (names : Holdings Identifier) (s t : Shelves) (links later : List (Sides LinkSeen)) (places : t.places ≡ s.places)
+    (ends : (at : ℕ) → ends_at t at ≡ ends_at s at) (waits : (x : Item) → waits_on t x ≡ waits_on s x)
+    (rows : rows_of now t ≡ rows_of now s)
+    (kept : KeepsLinks links later) where
+  pub written_now : rows_now (held_of names t later) ≡ rows_now (held_of names s links)
+  written_now = rows_shown now (get t.slots) t.places.entries ∙ rows ∙ sym (rows_shown now (get s.slots) s.places.entries)
+
+  pub written_own : KeepsOwn (held_of names s links) (held_of names t later)
+  written_own a own h =
+      let same : named_in (held_of names s links).shelves a ≡ named_in (held_of names t later).shelves a
+      = named_shown (get s.slots) s.places.entries a ∙ ap (λ p. named_in p.entries a) (sym places)
+      ∙ sym (named_shown (get t.slots) t.places.entries a)
+      in subst (λ (n : ℕ). IsHeld identifier_order names a (n + own)) same h
+
+  written_waited : (x : Item) → waits_in (held_of names t later) x ≡ waits_in (held_of names s links) x
+  written_waited x = waits_shown names t later x ∙ waits x ∙ sym (waits_shown names s links x)
+
+  pub written_waits : (items : List Item) → Awaits items (held_of names s links) → Awaits items (held_of names t later)
+  written_waits items a x = omega (arith, a x, written_waited x)
+
+  there : (x : Item) → IsThere (held_of names s links) (held_of names t later) x
+  there x =
+      subst (λ p. IsThere (held_of names s links) (seen_of (get t.slots) p.entries names later) x) (sym places)
+      (stays_there (get s.slots) (get t.slots) s.places.entries names names links later ends x)
+
+  pub written_stay : StayPlaced (held_of names s links) (held_of names t later)
+  written_stay = record { waited = λ x a b. there x; full = λ x a b. there x }
+
+  pub written_backs : KeepsBacks (held_of names s links) (held_of names t later)
+  written_backs =
+      keeps_backs (held_of names s links) (held_of names t later) written_now kept.now (omega (arith, kept.long)) written_stay
+      (λ rest a. written_waits rest a)
+
+-- ways back stay beside these items, where they stay at first, and beside them then
+pub first_backs : (items : List Item) (old mid new : Held) → ((rest : List Item) → Awaits rest old → Awaits rest mid) → KeepsBacks old mid
+    → KeepsOtherBacks items mid new → KeepsOtherBacks items old new
+first_backs items old mid new more one other u rows links waits b = other u rows links (more (items ++ items_of u.plan.changes) waits)
+    (one u rows links b)

@@ -1,0 +1,83 @@
+use Rattle.std.proofs.Common.{◌++◌, ◌∷◌, [], Bool, List, length, ap, ◌∙◌, sym, subst, arith}
+use Rattle.std.proofs.lemmas.List.{get_or-map, length-map}
+use Rattle.ifmap_ident.specs.Items.{IsCanonItem}
+use Rattle.ifmap_plans.specs.declared.plans.ItemChange.{ItemChange}
+use Rattle.ifmap_graph.specs.Bringing.{BringsShelves, marked, parts_of}
+use Rattle.ifmap_graph.specs.Out.{items_of}
+use Rattle.ifmap_graph.proofs.Grown.{few_kept, grown_on, placed_there, places_none, places_on, placing}
+use Rattle.ifmap_graph.proofs.Planned.{all_at_place, mapped_all}
+use Rattle.ifmap_graph.proofs.bringing.place_items.Goals as goal
+
+pub loop-change-init : goal.loop-change-init
+loop-change-init c =
+    placing (items_of c.args.changes.now)
+    (parts_of c.args.names.now c.args.shelves.now c.args.links.now.items) c.requires.inside c.args.fresh.now.items c.requires.none
+
+pub place_missing-requires-clause-inside : goal.place_missing-requires-clause-inside
+place_missing-requires-clause-inside c = c.loop-change.invariant.grown.inside
+
+pub place_missing-requires-clause-canon : goal.place_missing-requires-clause-canon
+place_missing-requires-clause-canon c =
+    subst (λ (x : ItemChange). IsCanonItem x.item) (sym c.change-item.is)
+    (all_at_place (λ (x : ItemChange). IsCanonItem x.item) c.args.changes.now c.loop-change.change-index c.change-item.result
+    c.loop-change-test.true
+    (mapped_all IsCanonItem (λ (x : ItemChange). x.item) c.args.changes.now c.requires.canon))
+
+pub place_missing-requires-clause-few : goal.place_missing-requires-clause-few
+place_missing-requires-clause-few c =
+    few_kept (parts_of c.args.names.now c.args.shelves.now c.args.links.now.items)
+    (parts_of c.loop-change.names c.loop-change.shelves c.loop-change.links.items)
+    c.loop-change.invariant.grown c.requires.few
+
+pub loop-change-preserved : goal.loop-change-preserved
+loop-change-preserved c =
+    places_on (items_of c.args.changes.now) (parts_of c.args.names.now c.args.shelves.now c.args.links.now.items)
+    (parts_of c.loop-change.names c.loop-change.shelves c.loop-change.links.items)
+    (parts_of c.place_missing.new.names c.place_missing.new.shelves c.place_missing.new.links.items) c.loop-change.fresh.items
+    c.loop-change.change-index c.loop-change.invariant c.place_missing.ensures.grown c.change-item.result.item c.in_ok-comes.comes _
+    (omega (arith, c.loop-change-test.true, length-map c.args.changes.now (λ (x : ItemChange). x.item)))
+    (get_or-map (λ (x : ItemChange). x.item) c.args.changes.now c.loop-change.change-index c.change-item.result c.change-item.result.item
+    c.loop-change-test.true
+    ∙ ap (λ (x : ItemChange). x.item) (sym c.change-item.is))
+    (c.push_reserved.ensures.items ∙ ap (λ (l : List Bool). l ++ c.in_ok-comes.comes ∷ []) c.reserve.ensures.items)
+    c.in_ok-comes.ensures.brought c.in_ok-comes.ensures.there
+
+pub returns : goal.returns
+returns c = record {
+  grown = c.loop-change.invariant.grown;
+  brought = c.loop-change.invariant.brought;
+  there = placed_there (items_of c.args.changes.now) (parts_of c.args.names.now c.args.shelves.now c.args.links.now.items)
+      (parts_of c.loop-change.names c.loop-change.shelves c.loop-change.links.items) c.loop-change.fresh.items c.loop-change.change-index
+      (omega (arith, c.loop-change-test.false, length-map c.args.changes.now (λ (x : ItemChange). x.item))) c.loop-change.invariant;
+  long = omega (arith, c.loop-change.invariant.long, c.loop-change.auto.change-index-end);
+}
+
+pub returns-in_err-reserve-clause-brought : goal.returns-in_err-reserve-clause-brought
+returns-in_err-reserve-clause-brought c =
+    subst (λ (l : List Bool). BringsShelves (marked (items_of c.args.changes.now) l) c.args.shelves.now c.loop-change.shelves)
+    (sym c.reserve.ensures.items)
+    c.loop-change.invariant.brought
+
+pub returns-in_err-reserve-clause-long : goal.returns-in_err-reserve-clause-long
+returns-in_err-reserve-clause-long c = omega
+    (arith, ap length c.reserve.ensures.items, c.loop-change.invariant.long, c.loop-change.auto.change-index-end)
+
+pub returns-in_err-comes-clause-grown : goal.returns-in_err-comes-clause-grown
+returns-in_err-comes-clause-grown c =
+    grown_on (items_of c.args.changes.now) (parts_of c.args.names.now c.args.shelves.now c.args.links.now.items)
+    (parts_of c.loop-change.names c.loop-change.shelves c.loop-change.links.items)
+    (parts_of c.place_missing.new.names c.place_missing.new.shelves c.place_missing.new.links.items) c.loop-change.fresh.items
+    c.loop-change.change-index c.loop-change.invariant c.place_missing.ensures.grown
+
+pub returns-in_err-comes-clause-brought : goal.returns-in_err-comes-clause-brought
+returns-in_err-comes-clause-brought c =
+    subst (λ (l : List Bool). BringsShelves (marked (items_of c.args.changes.now) l) c.args.shelves.now c.place_missing.new.shelves)
+    (sym c.reserve.ensures.items)
+    (places_none (items_of c.args.changes.now) (parts_of c.args.names.now c.args.shelves.now c.args.links.now.items)
+    (parts_of c.loop-change.names c.loop-change.shelves c.loop-change.links.items)
+    (parts_of c.place_missing.new.names c.place_missing.new.shelves c.place_missing.new.links.items) c.loop-change.fresh.items
+    c.loop-change.change-index c.loop-change.invariant c.place_missing.ensures.grown c.in_err-comes.ensures.none)
+
+pub returns-in_err-comes-clause-long : goal.returns-in_err-comes-clause-long
+returns-in_err-comes-clause-long c = omega
+    (arith, ap length c.reserve.ensures.items, c.loop-change.invariant.long, c.loop-change.auto.change-index-end)

@@ -1,0 +1,55 @@
+use Rattle.std.proofs.Common.{sym, subst, arith}
+use Rattle.std.specs.List.Sorted.{IsStrictlySortedBy}
+use Rattle.ifmap_view.specs.Attachments.{stored_order}
+use Rattle.ifmap_view.specs.Rows.{stored_on}
+use Rattle.ifmap_graph.proofs.Planned.{drafted_after, drafted_out, drafting, drafts_on, fits_at, there_at, within_on}
+use Rattle.ifmap_graph.proofs.drafting.draft_changes.Goals as goal
+
+pub loop-change-init : goal.loop-change-init
+loop-change-init c = drafting c.args.changes.now c.args.shelves.now c.requires.shelved c.requires.bare c.requires.fits
+
+pub draft_one-requires-clause-shelved : goal.draft_one-requires-clause-shelved
+draft_one-requires-clause-shelved c = c.loop-change.invariant.shelved
+
+pub draft_one-requires-clause-there : goal.draft_one-requires-clause-there
+draft_one-requires-clause-there c =
+    there_at c.args.changes.now c.args.shelves.now c.loop-change.shelves c.loop-change.change-index c.loop-change-test.true
+    c.change-item.result c.change-item.is
+    c.loop-change.invariant c.requires.there
+
+pub draft_one-requires-clause-order : goal.draft_one-requires-clause-order
+draft_one-requires-clause-order c =
+    (fits_at c.args.changes.now c.args.shelves.now c.loop-change.shelves c.loop-change.change-index c.loop-change-test.true
+    c.change-item.result c.change-item.is
+    c.loop-change.invariant c.requires.fits).order
+
+pub draft_one-requires-clause-list : goal.draft_one-requires-clause-list
+draft_one-requires-clause-list c =
+    subst (λ rows. IsStrictlySortedBy stored_order (stored_on c.change-item.result.item rows)) (sym c.loop-change.invariant.same)
+    (c.requires.lists c.change-item.result.item)
+
+pub loop-change-preserved : goal.loop-change-preserved
+loop-change-preserved c =
+    drafts_on c.args.changes.now c.args.shelves.now c.loop-change.shelves c.loop-change.change-index c.loop-change-test.true
+    c.change-item.result c.change-item.is
+    c.loop-change.invariant c.draft_one.new.shelves c.draft_one.ensures.shelved c.draft_one.ensures.now c.in_ok-draft_one.ensures.next
+    c.draft_one.ensures.drafts
+    c.draft_one.ensures.kept c.in_ok-draft_one.ensures.drafted c.draft_one.ensures.ends c.draft_one.ensures.waits c.draft_one.ensures.places
+
+pub returns-clause-next : goal.returns-clause-next
+returns-clause-next c =
+    drafted_after c.args.changes.now c.args.shelves.now c.loop-change.shelves c.loop-change.change-index
+    (omega (arith, c.loop-change-test.false))
+    c.loop-change.invariant
+
+pub returns-clause-out : goal.returns-clause-out
+returns-clause-out c =
+    drafted_out c.args.changes.now c.args.shelves.now c.loop-change.shelves c.loop-change.change-index
+    (omega (arith, c.loop-change-test.false))
+    c.loop-change.invariant c.requires.fits
+
+pub returns-in_err-draft_one-clause-within : goal.returns-in_err-draft_one-clause-within
+returns-in_err-draft_one-clause-within c =
+    within_on c.args.changes.now c.args.shelves.now c.loop-change.shelves c.loop-change.change-index c.loop-change-test.true
+    c.change-item.result c.change-item.is
+    c.loop-change.invariant c.draft_one.new.shelves c.draft_one.ensures.drafts

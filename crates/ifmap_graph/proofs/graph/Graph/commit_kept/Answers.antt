@@ -1,0 +1,104 @@
+use Rattle.std.proofs.Common.{length, map, ap, ◌∙◌, sym, subst}
+use Rattle.slab.specs.Slab.{get}
+use Rattle.ifmap_plans.specs.declared.plans.ItemChange.{ItemChange}
+use Rattle.ifmap_view.specs.Rows.{stored_on}
+use Rattle.ifmap_graph.specs.Drafted.{AreOut}
+use Rattle.ifmap_graph.specs.Out.{items_of}
+use Rattle.ifmap_graph.specs.Shelved.{rows_of}
+use Rattle.ifmap_graph.specs.Sides.{next, now}
+use Rattle.ifmap_graph.specs.Turning.{AreDrafted, NoOthers, accept_each, backs, sides_at}
+use Rattle.ifmap_graph.proofs.Committed.{made_inside, made_links}
+use Rattle.ifmap_graph.proofs.Insides.{rows_shown}
+use Rattle.ifmap_graph.proofs.Outs.{are_out}
+use Rattle.ifmap_graph.proofs.Settled.{bare_to}
+use Rattle.ifmap_graph.proofs.Taking.{can_go_back}
+use Rattle.ifmap_graph.proofs.Turns.{none_drafted}
+use Rattle.ifmap_graph.proofs.Undone.{own_stays, waits_stay_seen}
+use Rattle.ifmap_graph.proofs.graph.Graph.commit_kept.Goals as goal
+
+pub accept_changes-requires-clause-out : goal.accept_changes-requires-clause-out
+accept_changes-requires-clause-out c =
+    let q = rw (← c.self.view_is) at c.requires
+    in subst (λ l. AreOut (items_of l) c.self.inside.shelves) (sym (c.deref.ensures.value ∙ ap (λ r. r.plan.changes) c.ready.view_is))
+    (are_out c.self.inside.shelves (items_of c.args.ready.plan.changes) q.drafted q.within q.apart)
+
+pub accept_changes-requires-clause-long : goal.accept_changes-requires-clause-long
+accept_changes-requires-clause-long c = ap length (c.lists.view_is ∙ ap (λ r. r.lists) c.ready.view_is) ∙ c.requires.lists ∙ sym (ap length (c.deref.ensures.value ∙ ap (λ r. r.plan.changes) c.ready.view_is))
+
+pub accept_all-requires : goal.accept_all-requires
+accept_all-requires c =
+    let q = rw (← c.self.view_is) at c.requires
+    in subst (λ w. AreDrafted w c.self.inside.links.items) (sym (c.ways.view_is ∙ ap (λ r. r.ways) c.ready.view_is)) q.links
+
+pub invariant_of-self : goal.invariant_of-self
+invariant_of-self c =
+    let q = rw (← c.self.view_is) at c.requires
+    in made_inside c.self.inside.names c.self.inside.shelves c.accept_changes.new.shelves c.self.inside.links.items c.accept_all.new.lists.items
+    c.self.invariant c.accept_changes.ensures.shelved c.accept_changes.ensures.places c.accept_changes.ensures.ends c.accept_changes.ensures.now
+    c.accept_changes.ensures.next c.ways.inside.0.items (subst (λ w. AreDrafted w c.self.inside.links.items) (sym (c.ways.view_is ∙ ap (λ r. r.ways) c.ready.view_is)) q.links)
+    (subst (λ w. NoOthers w c.self.inside.links.items) (sym (c.ways.view_is ∙ ap (λ r. r.ways) c.ready.view_is)) q.no_others) c.accept_all.ensures.lists
+
+pub returns-clause-now : goal.returns-clause-now
+returns-clause-now c =
+    rw (← c.self.view_is)
+    (rows_shown now (get c.accept_changes.new.shelves.slots) c.accept_changes.new.shelves.places.entries ∙ c.accept_changes.ensures.now
+    ∙ sym (rows_shown next (get c.self.inside.shelves.slots) c.self.inside.shelves.places.entries))
+
+pub returns-clause-next : goal.returns-clause-next
+returns-clause-next c =
+    rw (← c.self.view_is)
+    (rows_shown next (get c.accept_changes.new.shelves.slots) c.accept_changes.new.shelves.places.entries ∙ c.accept_changes.ensures.next
+    ∙ sym (rows_shown next (get c.self.inside.shelves.slots) c.self.inside.shelves.places.entries))
+
+pub returns-clause-links : goal.returns-clause-links
+returns-clause-links c =
+    let q = rw (← c.self.view_is) at c.requires
+    in rw (← c.self.view_is)
+    (made_links c.self.inside.names c.self.inside.shelves c.accept_changes.new.shelves c.self.inside.links.items c.accept_all.new.lists.items
+    c.self.invariant c.accept_changes.ensures.shelved c.accept_changes.ensures.places c.accept_changes.ensures.ends c.accept_changes.ensures.now
+    c.accept_changes.ensures.next c.ways.inside.0.items (subst (λ w. AreDrafted w c.self.inside.links.items) (sym (c.ways.view_is ∙ ap (λ r. r.ways) c.ready.view_is)) q.links)
+    (subst (λ w. NoOthers w c.self.inside.links.items) (sym (c.ways.view_is ∙ ap (λ r. r.ways) c.ready.view_is)) q.no_others) c.accept_all.ensures.lists)
+
+pub returns-clause-lists : goal.returns-clause-lists
+returns-clause-lists c =
+    rw (← c.self.view_is)
+    (c.accept_changes.ensures.lists
+    ∙ ap (λ l. map (λ (x : ItemChange). stored_on x.item (rows_of now c.self.inside.shelves)) l) (c.deref.ensures.value ∙ ap (λ r. r.plan.changes) c.ready.view_is)
+    ∙ ap (λ rows. map (λ (x : ItemChange). stored_on x.item rows) c.args.ready.plan.changes)
+    (sym (rows_shown now (get c.self.inside.shelves.slots) c.self.inside.shelves.places.entries)))
+
+pub returns-clause-ways : goal.returns-clause-ways
+returns-clause-ways c =
+    rw (← c.self.view_is) (c.accept_all.ensures.ways ∙ ap (λ w. backs w c.self.inside.links.items) (c.ways.view_is ∙ ap (λ r. r.ways) c.ready.view_is))
+
+pub returns-clause-plan : goal.returns-clause-plan
+returns-clause-plan c = ap (λ r. r.plan) c.ready.view_is
+
+pub returns-clause-back : goal.returns-clause-back
+returns-clause-back c =
+    let q = rw (← c.self.view_is) at c.requires
+    in let ways = c.ways.view_is ∙ ap (λ r. r.ways) c.ready.view_is
+    in rw (← c.self.view_is)
+    (can_go_back c.self.inside.names c.self.inside.shelves c.accept_changes.new.shelves c.self.inside.links.items c.accept_all.new.lists.items
+    c.self.invariant c.accept_changes.ensures.places c.accept_changes.ensures.ends c.accept_changes.ensures.waits c.accept_changes.ensures.now
+    c.args.ready _ (are_out c.self.inside.shelves (items_of c.args.ready.plan.changes) q.drafted q.within q.apart) q.links q.no_others
+    (c.accept_all.ensures.lists ∙ ap (λ w. accept_each w c.self.inside.links.items) ways) (returns-clause-plan c)
+    (rw (← c.self.view_is) at (returns-clause-lists c)) (rw (← c.self.view_is) at (returns-clause-ways c)))
+
+pub returns-clause-still : goal.returns-clause-still
+returns-clause-still c =
+    let q = rw (← c.self.view_is) at c.requires
+    in bare_to c.self.inside.names c.accept_changes.new.shelves c.accept_all.new.lists.items c.accept_changes.ensures.bare
+    (λ v. ap (λ l. (sides_at l v).draft)
+    (c.accept_all.ensures.lists ∙ ap (λ w. accept_each w c.self.inside.links.items) (c.ways.view_is ∙ ap (λ r. r.ways) c.ready.view_is))
+    ∙ none_drafted c.args.ready.ways c.self.inside.links.items v q.links q.no_others)
+
+pub returns-clause-own : goal.returns-clause-own
+returns-clause-own c = λ a own h.
+    own_stays c.self.inside.names c.self.inside.shelves c.accept_changes.new.shelves c.self.inside.links.items c.accept_all.new.lists.items
+    c.accept_changes.ensures.places c.accept_changes.ensures.ends c.accept_changes.ensures.waits a own (rw (← c.self.view_is) at h)
+
+pub returns-clause-waits : goal.returns-clause-waits
+returns-clause-waits c = λ rest a.
+    waits_stay_seen c.self.inside.names c.self.inside.shelves c.accept_changes.new.shelves c.self.inside.links.items c.accept_all.new.lists.items
+    c.accept_changes.ensures.places c.accept_changes.ensures.ends c.accept_changes.ensures.waits rest (rw (← c.self.view_is) at a)

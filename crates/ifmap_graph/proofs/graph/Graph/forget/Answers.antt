@@ -1,0 +1,103 @@
+use Rattle.std.proofs.Common.{◌++◌, IsSome, ap, ◌∙◌, sym, subst}
+use Rattle.std.specs.List.{AllByRecursion}
+use Rattle.ifmap_graph.specs.Back.{KeepsOtherBacks}
+use Rattle.ifmap_graph.specs.Drafted.{DraftsWithin}
+use Rattle.ifmap_graph.specs.Out.{items_of}
+use Rattle.ifmap_graph.specs.Seen.{Awaits}
+use Rattle.ifmap_graph.specs.Shelved.{place_of}
+use Rattle.ifmap_graph.specs.Touched.{AreReady}
+use Rattle.ifmap_graph.specs.Turning.{sides_at}
+use Rattle.ifmap_graph.proofs.Accepting.{drafted_there}
+use Rattle.ifmap_graph.proofs.Flipping.{inside_dropped}
+use Rattle.ifmap_graph.proofs.Outs.{are_out}
+use Rattle.ifmap_graph.proofs.Settled.{bare_to, held_of}
+use Rattle.ifmap_graph.proofs.Written.{first_backs, written_backs, written_now, written_own, written_waits}
+use Rattle.ifmap_graph.proofs.graph.Graph.forget.Goals as goal
+
+pub drop_plan-requires-clause-there : goal.drop_plan-requires-clause-there
+drop_plan-requires-clause-there c =
+    let q = rw (← c.self.view_is) at c.requires.out
+    in subst (λ l. AllByRecursion (λ x. IsSome (place_of c.self.inside.shelves x)) (items_of l))
+    (sym (c.deref.ensures.value ∙ ap (λ r. r.plan.changes) c.ready.view_is))
+    (drafted_there (items_of c.args.ready.plan.changes) c.self.inside.shelves
+    (are_out c.self.inside.shelves (items_of c.args.ready.plan.changes) q.drafted q.within q.apart).drafted)
+
+pub drop_plan-requires-clause-within : goal.drop_plan-requires-clause-within
+drop_plan-requires-clause-within c =
+    let q = rw (← c.self.view_is) at c.requires.out
+    in subst (λ l. DraftsWithin (items_of l) c.self.inside.shelves) (sym (c.deref.ensures.value ∙ ap (λ r. r.plan.changes) c.ready.view_is))
+    (are_out c.self.inside.shelves (items_of c.args.ready.plan.changes) q.drafted q.within q.apart).within
+
+pub drop_plan-requires-clause-ready : goal.drop_plan-requires-clause-ready
+drop_plan-requires-clause-ready c =
+    let q = rw (← c.self.view_is) at c.requires.out
+    in subst (λ w. AreReady w c.self.inside.links.items) (sym (c.deref-2.ensures.value ∙ ap (λ r. r.ways) c.ready.view_is))
+    (record { drafted = q.links; no_others = q.no_others })
+
+pub invariant_of-self : goal.invariant_of-self
+invariant_of-self c =
+    inside_dropped c.self.inside.names c.self.inside.shelves c.drop_plan.new.shelves c.self.inside.links.items c.drop_plan.new.links.items
+    c.self.invariant
+    c.drop_plan.ensures.shelved c.drop_plan.ensures.places c.drop_plan.ensures.ends c.drop_plan.ensures.now c.drop_plan.ensures.next
+    c.drop_plan.ensures.links
+    c.drop_plan.ensures.none
+
+pub release_waits-requires : goal.release_waits-requires
+release_waits-requires c =
+    let w = rw (← c.self.view_is) at c.requires.waits
+    in record {
+      still = bare_to c.self.inside.names c.drop_plan.new.shelves c.drop_plan.new.links.items c.drop_plan.ensures.bare
+          c.drop_plan.ensures.none;
+      waits = subst (λ l. Awaits (items_of l) (held_of c.self.inside.names c.drop_plan.new.shelves c.drop_plan.new.links.items))
+          (sym (c.deref-3.ensures.value ∙ ap (λ r. r.plan.changes) c.ready.view_is))
+          (written_waits c.self.inside.names c.self.inside.shelves c.drop_plan.new.shelves c.self.inside.links.items
+          c.drop_plan.new.links.items
+          c.drop_plan.ensures.places c.drop_plan.ensures.ends c.drop_plan.ensures.waits c.drop_plan.ensures.now c.drop_plan.ensures.links
+          (items_of c.args.ready.plan.changes) w);
+    }
+
+pub returns-clause-now : goal.returns-clause-now
+returns-clause-now c =
+    rw (← c.self.view_is)
+    (c.release_waits.ensures.now
+    ∙ written_now c.self.inside.names c.self.inside.shelves c.drop_plan.new.shelves c.self.inside.links.items c.drop_plan.new.links.items
+    c.drop_plan.ensures.places c.drop_plan.ensures.ends c.drop_plan.ensures.waits c.drop_plan.ensures.now c.drop_plan.ensures.links)
+
+pub returns-clause-links : goal.returns-clause-links
+returns-clause-links c =
+    rw (← c.self.view_is)
+    (λ v. ap (λ l. (sides_at l v).now) c.release_waits.ensures.links ∙ c.drop_plan.ensures.links.now v)
+
+pub returns-clause-numbers : goal.returns-clause-numbers
+returns-clause-numbers c = rw (← c.self.view_is) c.release_waits.ensures.numbers
+
+pub returns-clause-own : goal.returns-clause-own
+returns-clause-own c =
+    rw (← c.self.view_is)
+    (λ a own h. c.release_waits.ensures.own a own
+    (written_own c.self.inside.names c.self.inside.shelves c.drop_plan.new.shelves c.self.inside.links.items c.drop_plan.new.links.items
+    c.drop_plan.ensures.places c.drop_plan.ensures.ends c.drop_plan.ensures.waits c.drop_plan.ensures.now c.drop_plan.ensures.links a own
+    h))
+
+pub returns-clause-waits : goal.returns-clause-waits
+returns-clause-waits c =
+    rw (← c.self.view_is)
+    (λ rest a. c.release_waits.ensures.waits rest
+    (subst (λ l. Awaits (items_of l ++ rest) (held_of c.self.inside.names c.drop_plan.new.shelves c.drop_plan.new.links.items))
+    (sym (c.deref-3.ensures.value ∙ ap (λ r. r.plan.changes) c.ready.view_is))
+    (written_waits c.self.inside.names c.self.inside.shelves c.drop_plan.new.shelves c.self.inside.links.items c.drop_plan.new.links.items
+    c.drop_plan.ensures.places c.drop_plan.ensures.ends c.drop_plan.ensures.waits c.drop_plan.ensures.now c.drop_plan.ensures.links _ a)))
+
+pub returns-clause-backs : goal.returns-clause-backs
+returns-clause-backs c =
+    rw (← c.self.view_is)
+    (first_backs (items_of c.args.ready.plan.changes) (held_of c.self.inside.names c.self.inside.shelves c.self.inside.links.items)
+    (held_of c.self.inside.names c.drop_plan.new.shelves c.drop_plan.new.links.items) c.release_waits.new.self
+    (λ rest a. written_waits c.self.inside.names c.self.inside.shelves c.drop_plan.new.shelves c.self.inside.links.items
+    c.drop_plan.new.links.items
+    c.drop_plan.ensures.places c.drop_plan.ensures.ends c.drop_plan.ensures.waits c.drop_plan.ensures.now c.drop_plan.ensures.links rest a)
+    (written_backs c.self.inside.names c.self.inside.shelves c.drop_plan.new.shelves c.self.inside.links.items c.drop_plan.new.links.items
+    c.drop_plan.ensures.places c.drop_plan.ensures.ends c.drop_plan.ensures.waits c.drop_plan.ensures.now c.drop_plan.ensures.links)
+    (subst (λ l. KeepsOtherBacks (items_of l)
+    (held_of c.self.inside.names c.drop_plan.new.shelves c.drop_plan.new.links.items) c.release_waits.new.self)
+    (c.deref-3.ensures.value ∙ ap (λ r. r.plan.changes) c.ready.view_is) c.release_waits.ensures.backs))

@@ -1,0 +1,60 @@
+use Rattle.std.proofs.Common.{refl, arith}
+use Rattle.slab.specs.Slab.{get}
+use Rattle.ifmap_graph.proofs.Holds.{keys_before, keys_stay}
+use Rattle.ifmap_graph.proofs.Kept.{kept_backs, kept_still, kept_waits}
+use Rattle.ifmap_graph.proofs.Settled.{held_of}
+use Rattle.ifmap_graph.proofs.Own.{inside_released, live_key, own_released}
+use Rattle.ifmap_graph.proofs.graph.Graph.release.Goals as goal
+
+pub release-requires : goal.release-requires
+release-requires c = let q = rw (← c.self.view_is) at c.requires in live_key c.self.inside.names c.args.number q.0 q.2
+
+pub invariant_of-self : goal.invariant_of-self
+invariant_of-self c =
+    let q = rw (← c.self.view_is) at c.requires
+    in inside_released c.self.inside.names c.release.new.self (get c.self.inside.shelves.slots) c.self.inside.shelves.places.entries
+    c.self.inside.links.items c.self.invariant c.args.number c.release.ensures.kept c.release.ensures.last c.release.ensures.counted
+    c.release.ensures.others c.release.ensures.whole c.release.ensures.held q.0 q.1 q.2 q.3 q.4
+
+pub returns-clause-own : goal.returns-clause-own
+returns-clause-own c =
+    let q = rw (← c.self.view_is) at c.requires
+    in rw (← c.self.view_is)
+    (own_released c.self.inside.names c.release.new.self (get c.self.inside.shelves.slots) c.self.inside.shelves.places.entries
+    c.self.inside.links.items c.self.invariant c.args.number c.release.ensures.kept c.release.ensures.last c.release.ensures.counted
+    c.release.ensures.others c.release.ensures.whole c.release.ensures.held q.0 q.1 q.2 q.3 q.4)
+
+pub returns-clause-numbers : goal.returns-clause-numbers
+returns-clause-numbers c =
+    let q = rw (← c.self.view_is) at c.requires
+    in rw (← c.self.view_is)
+    (keys_before c.self.inside.names c.release.new.self c.args.number (live_key c.self.inside.names c.args.number q.0 q.2)
+    c.release.ensures.kept c.release.ensures.last c.release.ensures.counted c.release.ensures.others)
+
+pub returns-clause-stays : goal.returns-clause-stays
+returns-clause-stays c =
+    let q = rw (← c.self.view_is) at c.requires
+    in rw (← c.self.view_is)
+    (keys_stay c.self.inside.names c.release.new.self c.args.number (live_key c.self.inside.names c.args.number q.0 q.2)
+    c.release.ensures.kept c.release.ensures.last c.release.ensures.counted c.release.ensures.others)
+
+pub returns-clause-still : goal.returns-clause-still
+returns-clause-still c =
+    rw (← c.self.view_is)
+    (kept_still (held_of c.self.inside.names c.self.inside.shelves c.self.inside.links.items)
+    (held_of c.release.new.self c.self.inside.shelves c.self.inside.links.items)
+    refl refl (λ v. refl) (omega arith))
+
+pub returns-clause-waits : goal.returns-clause-waits
+returns-clause-waits c =
+    rw (← c.self.view_is)
+    (kept_waits (held_of c.self.inside.names c.self.inside.shelves c.self.inside.links.items)
+    (held_of c.release.new.self c.self.inside.shelves c.self.inside.links.items)
+    refl refl (λ v. refl) (omega arith))
+
+pub returns-clause-backs : goal.returns-clause-backs
+returns-clause-backs c =
+    rw (← c.self.view_is)
+    (kept_backs (held_of c.self.inside.names c.self.inside.shelves c.self.inside.links.items)
+    (held_of c.release.new.self c.self.inside.shelves c.self.inside.links.items)
+    refl refl (λ v. refl) (omega arith))

@@ -1,0 +1,105 @@
+use Rattle.std.proofs.Common.{IsSome, ◌++◌, ap, ◌∙◌, sym, subst}
+use Rattle.std.specs.List.{AllByRecursion}
+use Rattle.ifmap_view.specs.Rows.{stored_on}
+use Rattle.ifmap_graph.specs.Back.{stand_each}
+use Rattle.ifmap_graph.specs.Held.{links_at}
+use Rattle.ifmap_graph.specs.Out.{items_of}
+use Rattle.ifmap_graph.specs.Seen.{Awaits}
+use Rattle.ifmap_graph.specs.Shelved.{place_of, rows_of}
+use Rattle.ifmap_graph.specs.Sides.{now}
+use Rattle.ifmap_graph.specs.Turning.{restore_each}
+use Rattle.ifmap_graph.proofs.Settled.{bare_from, held_of}
+use Rattle.ifmap_graph.proofs.Undone.{all_there, own_stays, undone_inside, undone_links, undone_rows, undone_still, waits_stay_seen}
+use Rattle.ifmap_graph.proofs.graph.Graph.undo.Goals as goal
+
+pub exchange_changes-requires-clause-bare : goal.exchange_changes-requires-clause-bare
+exchange_changes-requires-clause-bare c =
+    bare_from c.self.inside.names c.self.inside.shelves c.self.inside.links.items c.self.invariant.placed
+    (rw (← c.self.view_is) at c.requires.still)
+
+pub exchange_changes-requires-clause-there : goal.exchange_changes-requires-clause-there
+exchange_changes-requires-clause-there c =
+    let b = rw (← c.self.view_is) at c.requires.back
+    in subst (λ l. AllByRecursion (λ x. IsSome (place_of c.self.inside.shelves x)) (items_of l))
+    (sym (c.deref.ensures.value ∙ ap (λ r. r.plan.changes) c.undo.view_is))
+    (all_there c.self.inside.names c.self.inside.shelves c.self.inside.links.items (items_of c.args.undo.plan.changes) b.2.waits)
+
+pub invariant_of-self : goal.invariant_of-self
+invariant_of-self c =
+    let b = rw (← c.self.view_is) at c.requires.back
+    in let still = rw (← c.self.view_is) at c.requires.still
+    in undone_inside c.self.inside.names c.self.inside.shelves c.exchange_changes.new.shelves c.self.inside.links.items c.restore_all.new.lists.items
+    c.exchange_changes.ensures.places c.exchange_changes.ensures.ends c.exchange_changes.ensures.waits c.self.invariant c.exchange_changes.ensures.bare still.links
+    c.args.undo b.0 b.1 b.2
+    (λ x. c.exchange_changes.ensures.now x
+    ∙ ap (λ l. stand_each (items_of l) c.lists.inside.0.items x (stored_on x (rows_of now c.self.inside.shelves)))
+    (c.deref.ensures.value ∙ ap (λ r. r.plan.changes) c.undo.view_is)
+    ∙ ap (λ l. stand_each (items_of c.args.undo.plan.changes) l x (stored_on x (rows_of now c.self.inside.shelves)))
+    (c.lists.view_is ∙ ap (λ r. r.lists) c.undo.view_is))
+    (c.restore_all.ensures ∙ ap (λ w. restore_each w c.self.inside.links.items) (c.ways.view_is ∙ ap (λ r. r.ways) c.undo.view_is))
+
+pub release_waits-requires-clause-still : goal.release_waits-requires-clause-still
+release_waits-requires-clause-still c =
+    let b = rw (← c.self.view_is) at c.requires.back
+    in let still = rw (← c.self.view_is) at c.requires.still
+    in undone_still c.self.inside.names c.self.inside.shelves c.exchange_changes.new.shelves c.self.inside.links.items c.restore_all.new.lists.items
+    c.exchange_changes.ensures.places c.exchange_changes.ensures.ends c.exchange_changes.ensures.waits c.self.invariant c.exchange_changes.ensures.bare still.links
+    c.args.undo b.0 b.1 b.2
+    (λ x. c.exchange_changes.ensures.now x
+    ∙ ap (λ l. stand_each (items_of l) c.lists.inside.0.items x (stored_on x (rows_of now c.self.inside.shelves)))
+    (c.deref.ensures.value ∙ ap (λ r. r.plan.changes) c.undo.view_is)
+    ∙ ap (λ l. stand_each (items_of c.args.undo.plan.changes) l x (stored_on x (rows_of now c.self.inside.shelves)))
+    (c.lists.view_is ∙ ap (λ r. r.lists) c.undo.view_is))
+    (c.restore_all.ensures ∙ ap (λ w. restore_each w c.self.inside.links.items) (c.ways.view_is ∙ ap (λ r. r.ways) c.undo.view_is))
+
+pub release_waits-requires-clause-waits : goal.release_waits-requires-clause-waits
+release_waits-requires-clause-waits c =
+    let b = rw (← c.self.view_is) at c.requires.back
+    in subst (λ l. Awaits (items_of l) (held_of c.self.inside.names c.exchange_changes.new.shelves c.restore_all.new.lists.items))
+    (sym (c.deref-2.ensures.value ∙ ap (λ r. r.plan.changes) c.undo.view_is))
+    (waits_stay_seen c.self.inside.names c.self.inside.shelves c.exchange_changes.new.shelves c.self.inside.links.items c.restore_all.new.lists.items
+    c.exchange_changes.ensures.places c.exchange_changes.ensures.ends c.exchange_changes.ensures.waits
+    (items_of c.args.undo.plan.changes) b.2.waits)
+
+pub returns-clause-back : goal.returns-clause-back
+returns-clause-back c = λ rows links b.
+    let back = rw (← c.self.view_is) at b
+    in let still = rw (← c.self.view_is) at c.requires.still
+    in (
+      c.release_waits.ensures.now
+          ∙ undone_rows c.self.inside.names c.self.inside.shelves c.exchange_changes.new.shelves c.self.inside.links.items c.restore_all.new.lists.items
+          c.exchange_changes.ensures.places c.exchange_changes.ensures.ends c.exchange_changes.ensures.waits c.self.invariant c.exchange_changes.ensures.bare still.links
+          c.args.undo rows links back
+          (λ x. c.exchange_changes.ensures.now x
+          ∙ ap (λ l. stand_each (items_of l) c.lists.inside.0.items x (stored_on x (rows_of now c.self.inside.shelves)))
+          (c.deref.ensures.value ∙ ap (λ r. r.plan.changes) c.undo.view_is)
+          ∙ ap (λ l. stand_each (items_of c.args.undo.plan.changes) l x (stored_on x (rows_of now c.self.inside.shelves)))
+          (c.lists.view_is ∙ ap (λ r. r.lists) c.undo.view_is))
+          (c.restore_all.ensures ∙ ap (λ w. restore_each w c.self.inside.links.items) (c.ways.view_is ∙ ap (λ r. r.ways) c.undo.view_is))
+          c.bytes_tell_identifiers_apart.ensures,
+      λ v. ap (λ l. links_at now l v) c.release_waits.ensures.links
+          ∙ undone_links c.self.inside.names c.self.inside.shelves c.exchange_changes.new.shelves c.self.inside.links.items c.restore_all.new.lists.items
+          c.exchange_changes.ensures.places c.exchange_changes.ensures.ends c.exchange_changes.ensures.waits c.self.invariant c.exchange_changes.ensures.bare still.links
+          c.args.undo rows links back
+          (λ x. c.exchange_changes.ensures.now x
+          ∙ ap (λ l. stand_each (items_of l) c.lists.inside.0.items x (stored_on x (rows_of now c.self.inside.shelves)))
+          (c.deref.ensures.value ∙ ap (λ r. r.plan.changes) c.undo.view_is)
+          ∙ ap (λ l. stand_each (items_of c.args.undo.plan.changes) l x (stored_on x (rows_of now c.self.inside.shelves)))
+          (c.lists.view_is ∙ ap (λ r. r.lists) c.undo.view_is))
+          (c.restore_all.ensures ∙ ap (λ w. restore_each w c.self.inside.links.items) (c.ways.view_is ∙ ap (λ r. r.ways) c.undo.view_is)) v,
+    )
+
+pub returns-clause-own : goal.returns-clause-own
+returns-clause-own c = λ a own h.
+    c.release_waits.ensures.own a own
+    (own_stays c.self.inside.names c.self.inside.shelves c.exchange_changes.new.shelves c.self.inside.links.items c.restore_all.new.lists.items
+    c.exchange_changes.ensures.places c.exchange_changes.ensures.ends c.exchange_changes.ensures.waits a own (rw (← c.self.view_is) at h))
+
+pub returns-clause-waits : goal.returns-clause-waits
+returns-clause-waits c = λ rest a.
+    c.release_waits.ensures.waits rest
+    (subst (λ l. Awaits (items_of l ++ rest) (held_of c.self.inside.names c.exchange_changes.new.shelves c.restore_all.new.lists.items))
+    (sym (c.deref-2.ensures.value ∙ ap (λ r. r.plan.changes) c.undo.view_is))
+    (waits_stay_seen c.self.inside.names c.self.inside.shelves c.exchange_changes.new.shelves c.self.inside.links.items c.restore_all.new.lists.items
+    c.exchange_changes.ensures.places c.exchange_changes.ensures.ends c.exchange_changes.ensures.waits
+    (items_of c.args.undo.plan.changes ++ rest) (rw (← c.self.view_is) at a)))

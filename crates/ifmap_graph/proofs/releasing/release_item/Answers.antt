@@ -1,0 +1,57 @@
+use Rattle.std.proofs.Common.{refl, sym, ◌∙◌, subst, IsSome, arith}
+use Rattle.ifmap_graph.proofs.Gone.{waits_left}
+use Rattle.ifmap_graph.proofs.Lessening.{inside_written, is_bare, is_there_still, less_on, less_removed, less_written, waited_there}
+use Rattle.ifmap_graph.proofs.Passing.{nothing_in}
+use Rattle.ifmap_graph.proofs.releasing.release_item.Goals as goal
+
+pub unwait-requires : goal.unwait-requires
+unwait-requires c = record {
+  shelved = c.requires.inside.1.placed;
+  there = let p = waited_there c.args.shelves.now c.args.item.now c.requires.waited in subst IsSome (sym p.1) refl;
+  waited = c.requires.waited;
+}
+
+pub stored_at-requires : goal.stored_at-requires
+stored_at-requires c = c.unwait.ensures.shelved
+
+pub returns-then-unwait-gt0-clause-less : goal.returns-then-unwait-gt0-clause-less
+returns-then-unwait-gt0-clause-less c =
+    less_written c.args.names.now c.args.shelves.now c.unwait.new.self c.unwait.ensures.shelved c.unwait.ensures.places c.unwait.ensures.ends
+    c.unwait.ensures.now c.unwait.ensures.next c.unwait.ensures.bare
+
+pub returns-then-not-is_empty-clause-less : goal.returns-then-not-is_empty-clause-less
+returns-then-not-is_empty-clause-less c =
+    less_written c.args.names.now c.args.shelves.now c.unwait.new.self c.unwait.ensures.shelved c.unwait.ensures.places c.unwait.ensures.ends
+    c.unwait.ensures.now c.unwait.ensures.next c.unwait.ensures.bare
+
+pub remove_shelf-requires-clause-inside : goal.remove_shelf-requires-clause-inside
+remove_shelf-requires-clause-inside c = (
+  c.requires.inside.0,
+  inside_written c.args.names.now c.args.shelves.now c.unwait.new.self c.unwait.ensures.shelved c.unwait.ensures.places c.unwait.ensures.ends
+      c.unwait.ensures.now c.unwait.ensures.next c.requires.inside.0 c.requires.inside.1,
+)
+
+pub remove_shelf-requires-clause-empty : goal.remove_shelf-requires-clause-empty
+remove_shelf-requires-clause-empty c =
+    let p = waited_there c.args.shelves.now c.args.item.now c.requires.waited
+    in is_bare c.unwait.new.self c.args.item.now p.0 c.unwait.ensures.shelved (c.unwait.ensures.bare c.requires.bare)
+    (is_there_still c.args.shelves.now c.unwait.new.self c.args.item.now p.0 c.unwait.ensures.places p.1)
+    (sym c.stored_at.ensures ∙ nothing_in _ (sym c.is_empty.ensures ∙ c.if-not-is_empty.false))
+
+pub returns-clause-less : goal.returns-clause-less
+returns-clause-less c =
+    let inside = inside_written c.args.names.now c.args.shelves.now c.unwait.new.self c.unwait.ensures.shelved c.unwait.ensures.places c.unwait.ensures.ends
+    c.unwait.ensures.now c.unwait.ensures.next c.requires.inside.0 c.requires.inside.1
+    in less_on c.args.names.now c.args.names.now c.remove_shelf.new.names c.args.shelves.now c.unwait.new.self c.remove_shelf.new.shelves
+    (less_written c.args.names.now c.args.shelves.now c.unwait.new.self c.unwait.ensures.shelved c.unwait.ensures.places c.unwait.ensures.ends
+    c.unwait.ensures.now c.unwait.ensures.next c.unwait.ensures.bare)
+    (less_removed c.args.names.now c.remove_shelf.new.names c.unwait.new.self c.remove_shelf.new.shelves c.args.item.now c.unwait.ensures.shelved
+    (c.remove_shelf.ensures.inside c.requires.inside.0 inside).placed
+    (sym c.stored_at.ensures ∙ nothing_in _ (sym c.is_empty.ensures ∙ c.if-not-is_empty.false))
+    c.remove_shelf.ensures.inside c.remove_shelf.ensures.now c.remove_shelf.ensures.before c.remove_shelf.ensures.others
+    c.remove_shelf.ensures.named c.remove_shelf.ensures.own)
+
+pub returns-clause-waits : goal.returns-clause-waits
+returns-clause-waits c = λ rest a.
+    waits_left c.unwait.new.self c.remove_shelf.new.shelves c.remove_shelf.ensures.before c.args.item.now c.remove_shelf.ensures.others
+    (sym c.unwait.ensures.left ∙ omega (arith, c.if-unwait-gt0.false)) rest (c.unwait.ensures.waited rest a)

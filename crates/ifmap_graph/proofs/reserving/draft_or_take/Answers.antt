@@ -1,0 +1,83 @@
+use Rattle.std.proofs.Common.{◌+◌, IsSome, ap, ◌∙◌, sym, subst, arith}
+use Rattle.std.specs.BTreeMap.{is_at}
+use Rattle.std.specs.List.{AllByRecursion}
+use Rattle.std.specs.Map.{lookup}
+use Rattle.ifmap_ident.specs.Identifiers.{identifier_order}
+use Rattle.ifmap_ident.specs.Items.{item_order}
+use Rattle.ifmap_pool.specs.Holdings.{IsHeld}
+use Rattle.ifmap_graph.specs.Bringing.{marked, parts_of}
+use Rattle.ifmap_graph.specs.Named.{named_in}
+use Rattle.ifmap_graph.specs.Out.{items_of}
+use Rattle.ifmap_graph.proofs.Brought.{brings_written}
+use Rattle.ifmap_graph.proofs.Flipping.{inside_dropped, kept_both}
+use Rattle.ifmap_graph.proofs.Made.{made_by, unmade_by}
+use Rattle.ifmap_graph.proofs.reserving.draft_or_take.Goals as goal
+
+pub drop_plan-requires-clause-there : goal.drop_plan-requires-clause-there
+drop_plan-requires-clause-there c =
+    subst (λ p. AllByRecursion (λ x. IsSome (lookup (is_at (item_order x)) p.entries)) (items_of c.args.coming.now.changes.now))
+    (sym c.draft_and_wait.ensures.places)
+    c.requires.there
+
+pub take_shelves-requires : goal.take_shelves-requires
+take_shelves-requires c = record {
+  inside = (
+    c.drop_plan.new.links.items,
+    inside_dropped c.args.names.now c.args.shelves.now c.drop_plan.new.shelves c.args.links.now.items c.drop_plan.new.links.items
+        c.requires.inside
+        c.drop_plan.ensures.shelved (c.drop_plan.ensures.places ∙ c.draft_and_wait.ensures.places)
+        (λ at. c.drop_plan.ensures.ends at ∙ c.draft_and_wait.ensures.ends at) (c.drop_plan.ensures.now ∙ c.draft_and_wait.ensures.now)
+        (c.drop_plan.ensures.next ∙ c.draft_and_wait.ensures.now)
+        (kept_both c.args.links.now.items c.draft_and_wait.new.links.items c.drop_plan.new.links.items c.draft_and_wait.ensures.links
+        c.drop_plan.ensures.links)
+        c.drop_plan.ensures.none,
+  );
+  bare = c.drop_plan.ensures.bare;
+  apart = c.requires.fits.apart;
+  long = c.requires.long;
+  brought = (
+    c.requires.brought.0,
+    c.requires.brought.1 ∙ sym (c.drop_plan.ensures.now ∙ c.draft_and_wait.ensures.now),
+    brings_written (marked (items_of c.args.coming.now.changes.now) c.args.coming.now.fresh.now) c.requires.brought.0 c.args.shelves.now c.drop_plan.new.shelves
+        c.requires.brought.2
+        (c.drop_plan.ensures.places ∙ c.draft_and_wait.ensures.places)
+        (λ at. c.drop_plan.ensures.ends at ∙ c.draft_and_wait.ensures.ends at)
+        (λ x. c.drop_plan.ensures.waits x ∙ c.in-Err.ensures.waits x),
+  );
+}
+
+pub returns-in-Ok-clause-made : goal.returns-in-Ok-clause-made
+returns-in-Ok-clause-made c = λ first grown brought.
+    made_by c.args.coming.now.changes.now c.draft_and_wait.new.ways.items (marked (items_of c.args.coming.now.changes.now) c.args.coming.now.fresh.now) first
+    (parts_of c.args.names.now c.args.shelves.now c.args.links.now.items) c.draft_and_wait.new.shelves c.draft_and_wait.new.links.items
+    grown brought
+    (c.in-Ok.ensures.inside c.args.names.now c.requires.inside) c.draft_and_wait.ensures.now c.in-Ok.ensures.next c.in-Ok.ensures.out
+    c.draft_and_wait.ensures.ready c.draft_and_wait.ensures.links c.draft_and_wait.ensures.ends c.draft_and_wait.ensures.places
+    c.in-Ok.ensures.waited
+
+pub returns-in-Err-clause-unmade : goal.returns-in-Err-clause-unmade
+returns-in-Err-clause-unmade c = λ first is grown brought.
+    unmade_by first c.args.names.now c.take_shelves.new.names c.take_shelves.new.shelves c.drop_plan.new.links.items is
+    c.requires.inside.pool
+    (c.take_shelves.ensures.less.inside c.drop_plan.new.links.items
+    (inside_dropped c.args.names.now c.args.shelves.now c.drop_plan.new.shelves c.args.links.now.items c.drop_plan.new.links.items
+    c.requires.inside
+    c.drop_plan.ensures.shelved (c.drop_plan.ensures.places ∙ c.draft_and_wait.ensures.places)
+    (λ at. c.drop_plan.ensures.ends at ∙ c.draft_and_wait.ensures.ends at) (c.drop_plan.ensures.now ∙ c.draft_and_wait.ensures.now)
+    (c.drop_plan.ensures.next ∙ c.draft_and_wait.ensures.now)
+    (kept_both c.args.links.now.items c.draft_and_wait.new.links.items c.drop_plan.new.links.items c.draft_and_wait.ensures.links
+    c.drop_plan.ensures.links)
+    c.drop_plan.ensures.none))
+    (c.take_shelves.ensures.less.bare c.drop_plan.ensures.bare) c.drop_plan.ensures.none
+    (c.take_shelves.ensures.less.rows ∙ c.drop_plan.ensures.now ∙ c.draft_and_wait.ensures.now ∙ grown.now)
+    (λ v. c.drop_plan.ensures.links.now v ∙ c.draft_and_wait.ensures.links.now v ∙ ap (λ s. s.now) (grown.links v))
+    (omega (arith, grown.longer, c.drop_plan.ensures.links.long, c.draft_and_wait.ensures.links.long))
+    (λ a own h. c.take_shelves.ensures.less.own a own
+    (subst (λ p. IsHeld identifier_order c.args.names.now a (named_in p.entries a + own))
+    (sym (c.drop_plan.ensures.places ∙ c.draft_and_wait.ensures.places))
+    (grown.own a own h)))
+    (c.take_shelves.ensures.taken first.shelves
+    (brings_written (marked (items_of c.args.coming.now.changes.now) c.args.coming.now.fresh.now) first.shelves c.args.shelves.now c.drop_plan.new.shelves brought
+    (c.drop_plan.ensures.places ∙ c.draft_and_wait.ensures.places) (λ at. c.drop_plan.ensures.ends at ∙ c.draft_and_wait.ensures.ends at)
+    (λ x. c.drop_plan.ensures.waits x ∙ c.in-Err.ensures.waits x)))
+    grown.kept c.take_shelves.ensures.less.named

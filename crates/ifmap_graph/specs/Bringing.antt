@@ -1,0 +1,74 @@
+-- Shelves that come for items that had none: they are empty, and nobody waits for them.
+use Rattle.std.specs.Prelude.{◌≡◌, ◌<◌, ◌≤◌, ◌^◌, ◌+◌, ℕ, Bool, false, List, [], ◌∷◌, Some, None, IsSome, length, if◌then◌else◌}
+use Rattle.std.specs.BTreeMap.{is_at}
+use Rattle.std.specs.List.{AllByRecursion}
+use Rattle.slab.specs.Slab.{get}
+use Rattle.ifmap_ident.specs.declared.identifiers.Identifier.{Identifier}
+use Rattle.ifmap_ident.specs.declared.items.Item.{Item}
+use Rattle.ifmap_ident.specs.Identifiers.{identifier_order}
+use Rattle.ifmap_ident.specs.Items.{item_order}
+use Rattle.ifmap_pool.specs.Holdings.{Holdings, IsHeld, Names}
+use Rattle.ifmap_view.specs.declared.views.LinkSeen.{LinkSeen}
+use Rattle.ifmap_graph.specs.declared.shelves.Shelves.{Shelves}
+use Rattle.ifmap_graph.specs.Drafted.{AreBare, ends_at}
+use Rattle.ifmap_graph.specs.Held.{IsInside}
+use Rattle.ifmap_graph.specs.Named.{named_by, named_in}
+use Rattle.ifmap_graph.specs.Shelved.{place_of, rows_of}
+use Rattle.ifmap_graph.specs.Sides.{Sides, next, now}
+use Rattle.ifmap_graph.specs.Turning.{sides_at}
+use Rattle.ifmap_graph.specs.Waits.{waits_on}
+
+-- the items that are marked
+abbrev pub marked : List Item → List Bool → List Item
+marked [] marks = []
+marked (x ∷ xs) [] = []
+marked (x ∷ xs) (m ∷ ms) = if m then x ∷ marked xs ms else marked xs ms
+
+-- how often items name an identifier
+abbrev pub named_of : List Item → Identifier → ℕ
+named_of [] a = 0
+named_of (i ∷ is) a = named_by i a + named_of is a
+
+-- an item is none of these
+abbrev pub IsOther : List Item → Item → Type 0
+IsOther items x = AllByRecursion (λ i. is_at (item_order i) x ≡ false) items
+
+-- these items had no shelf and have one, that nobody waits for; all else that is said of shelves but for their lists is as it was
+pub record BringsShelves (items : List Item) (old new : Shelves) : Type 0 where
+  pub absent : AllByRecursion (λ i. place_of old i ≡ None) items
+  pub there : AllByRecursion (λ i. IsSome (place_of new i)) items
+  pub places : (x : Item) → IsOther items x → place_of new x ≡ place_of old x
+  pub ends : (x : Item) (at : ℕ) → place_of old x ≡ Some at → ends_at new at ≡ ends_at old at
+  pub waits : (x : Item) → waits_on new x ≡ waits_on old x
+  pub named : (a : Identifier) → named_in new.places.entries a ≡ named_of items a + named_in old.places.entries a
+
+-- the parts of a graph
+pub record Parts : Type 0 where
+  pub names : Holdings Identifier
+  pub shelves : Shelves
+  pub links : List (Sides LinkSeen)
+
+abbrev pub parts_of : Holdings Identifier → Shelves → List (Sides LinkSeen) → Parts
+parts_of n s l = record { names = n; shelves = s; links = l }
+
+abbrev pub AreInside : Parts → Type 0
+AreInside p = IsInside p.names (get p.shelves.slots) p.shelves.places.entries p.links
+
+-- others than items hold an identifier so often
+abbrev pub HasOwn : Parts → Identifier → ℕ → Type 0
+HasOwn p a own = IsHeld identifier_order p.names a (named_in p.shelves.places.entries a + own)
+
+-- and that is fewer than 2^32 times
+abbrev pub HaveFewOwn : Parts → Type 0
+HaveFewOwn p = (a : Identifier) → (own : ℕ) × HasOwn p a own × (own < 2 ^ 32)
+
+-- there are numbers and room for more, and what is stored and drafted is as before
+pub record AreGrown (old new : Parts) : Type 0 where
+  pub inside : AreInside new
+  pub now : rows_of now new.shelves ≡ rows_of now old.shelves
+  pub next : rows_of next new.shelves ≡ rows_of next old.shelves
+  pub bare : AreBare old.shelves → AreBare new.shelves
+  pub links : (v : ℕ) → sides_at new.links v ≡ sides_at old.links v
+  pub longer : length old.links ≤ length new.links
+  pub kept : (v : ℕ) (a : Identifier) → Names identifier_order old.names v a → Names identifier_order new.names v a
+  pub own : (a : Identifier) (own : ℕ) → HasOwn old a own → HasOwn new a own

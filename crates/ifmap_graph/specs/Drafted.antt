@@ -1,0 +1,35 @@
+-- Where drafts stand, and what a write to a shelf leaves.
+use Rattle.std.specs.Prelude.{◌≡◌, ℕ, List, Option, Some, None, option_map}
+use Rattle.std.specs.List.{AllByRecursion, IsDistinct}
+use Rattle.std.specs.declared.cmp.Ordering.TheVariants.{Equal}
+use Rattle.slab.specs.Slab.{get}
+use Rattle.ifmap_lemmas.specs.Having.{Has}
+use Rattle.ifmap_ident.specs.declared.items.Item.{Item}
+use Rattle.ifmap_ident.specs.Items.{item_order, same_item}
+use Rattle.ifmap_graph.specs.declared.ends.Ends.{Ends}
+use Rattle.ifmap_graph.specs.declared.shelves.Shelf.{Shelf}
+use Rattle.ifmap_graph.specs.declared.shelves.Shelves.{Shelves}
+use Rattle.ifmap_graph.specs.Shelved.{HasDraft}
+
+-- the numbers that the shelf of a slot has
+abbrev pub ends_at : Shelves → ℕ → Option Ends
+ends_at s at = option_map (λ shelf. shelf.ends) (get s.slots at)
+
+-- a shelf, where there is one, has no draft
+abbrev pub NoDraft : Option Shelf → Type 0
+NoDraft None = Unit {0}
+NoDraft (Some shelf) = shelf.stored.draft ≡ None
+
+-- no shelf has one: what is stored is what is to be
+abbrev pub AreBare : Shelves → Type 0
+AreBare s = AllByRecursion (λ e. NoDraft (get s.slots e.1)) s.places.entries
+
+-- shelves with a draft are those of these items alone
+abbrev pub DraftsWithin : List Item → Shelves → Type 0
+DraftsWithin items s = (x : Item) → HasDraft s x → (i : Item) × Has items i × (item_order i x ≡ Equal)
+
+-- a change of these items is out: no two are the same, and the shelves of these have drafts, and no others
+pub record AreOut (items : List Item) (s : Shelves) : Type 0 where
+  pub drafted : AllByRecursion (HasDraft s) items
+  pub within : DraftsWithin items s
+  pub apart : IsDistinct same_item items

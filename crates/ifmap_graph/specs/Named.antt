@@ -1,0 +1,46 @@
+-- The numbers of an item's identifiers, and how often entries name an identifier.
+use Rattle.std.specs.Prelude.{◌≡◌, ℕ, ◌+◌, List, [], ◌∷◌, Option, Some, None}
+use Rattle.std.specs.List.{AllByRecursion}
+use Rattle.ifmap_ident.specs.declared.identifiers.Identifier.{Identifier}
+use Rattle.ifmap_ident.specs.declared.items.Item.{Item}
+use Rattle.ifmap_ident.specs.declared.items.Item.TheVariants.{One, Pair}
+use Rattle.ifmap_ident.specs.Canon.{IsIdentifier}
+use Rattle.ifmap_ident.specs.Identifiers.{identifier_order}
+use Rattle.ifmap_pool.specs.Holdings.{Holdings, IsHeld, Names, key_at, once}
+use Rattle.ifmap_graph.specs.declared.ends.Ends.{Ends}
+use Rattle.ifmap_graph.specs.declared.ends.Ends.TheVariants as ends
+use Rattle.ifmap_graph.specs.declared.shelves.Shelf.{Shelf}
+
+-- the numbers of an item's identifiers, as a pool has them
+abbrev pub AreEnds : Holdings Identifier → Item → Ends → Type 0
+AreEnds names (One a) (ends.One v) = Names identifier_order names v a
+AreEnds names (Pair a b) (ends.Pair v w) = Names identifier_order names v a × Names identifier_order names w b
+AreEnds names (One a) (ends.Pair v w) = ⊥
+AreEnds names (Pair a b) (ends.One v) = ⊥
+
+-- a shelf has the numbers of an item's identifiers
+abbrev pub HasEnds : Holdings Identifier → Item → Option Shelf → Type 0
+HasEnds names item None = ⊥
+HasEnds names item (Some shelf) = AreEnds names item shelf.ends
+
+-- so has that of each entry
+abbrev pub AreNumbered : Holdings Identifier → (ℕ → Option Shelf) → List (Item × ℕ) → Type 0
+AreNumbered names look entries = AllByRecursion (λ e. HasEnds names e.0 (look e.1)) entries
+
+-- how often an item names an identifier
+abbrev pub named_by : Item → Identifier → ℕ
+named_by (One a) other = once identifier_order a other
+named_by (Pair a b) other = once identifier_order a other + once identifier_order b other
+
+-- how often entries do
+abbrev pub named_in : {X : Type 0} → List (Item × X) → Identifier → ℕ
+named_in [] other = 0
+named_in (e ∷ es) other = named_by e.0 other + named_in es other
+
+-- the keys of a pool are identifiers of elements
+abbrev pub AreIdentifiers : Holdings Identifier → Type 0
+AreIdentifiers names = (v : ℕ) (a : Identifier) → key_at names v ≡ Some a → IsIdentifier a
+
+-- each identifier is held once for each entry that names it, and as often beside that as somebody holds it
+abbrev pub AreHeld : {X : Type 0} → Holdings Identifier → List (Item × X) → Type 0
+AreHeld names entries = (a : Identifier) → (own : ℕ) × IsHeld identifier_order names a (named_in entries a + own)

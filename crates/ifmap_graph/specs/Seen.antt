@@ -1,0 +1,79 @@
+-- What contracts see of a graph: what is stored and the links of each number, as they are and as they are to be; and what is waited for.
+use Rattle.std.specs.Prelude.{◌≡◌, ◌<◌, ◌^◌, ◌≤◌, ◌++◌, ℕ, List, [], Option, None, Some}
+use Rattle.std.specs.BTreeMap.{is_at}
+use Rattle.std.specs.Map.{lookup}
+use Rattle.ifmap_ident.specs.declared.identifiers.Identifier.{Identifier}
+use Rattle.ifmap_ident.specs.declared.items.Item.{Item}
+use Rattle.ifmap_ident.specs.Items.{item_order}
+use Rattle.ifmap_pool.specs.Holdings.{key_at}
+use Rattle.ifmap_view.specs.declared.attachments.Attachment.{Attachment}
+use Rattle.ifmap_view.specs.declared.views.LinkSeen.{LinkSeen}
+use Rattle.ifmap_graph.specs.declared.shelves.Shelf.{Shelf}
+use Rattle.ifmap_graph.specs.Held.{Held, IsOwn, links_at}
+use Rattle.ifmap_graph.specs.Out.{IsDrafted}
+use Rattle.ifmap_graph.specs.Shelved.{list_at, rows_by}
+use Rattle.ifmap_graph.specs.Sides.{next, now}
+use Rattle.ifmap_graph.specs.Turning.{sides_at}
+use Rattle.ifmap_graph.specs.Waits.{times_in, waits_of}
+
+-- what is stored, and what is to be
+abbrev pub rows_now : Held → List Attachment
+rows_now h = rows_by (list_at now) h.shelves
+
+abbrev pub rows_next : Held → List Attachment
+rows_next h = rows_by (list_at next) h.shelves
+
+-- the links of a number, and those that are to be
+abbrev pub links_now : Held → ℕ → List LinkSeen
+links_now h = links_at now h.links
+
+abbrev pub links_next : Held → ℕ → List LinkSeen
+links_next h = links_at next h.links
+
+-- no change is out: nothing has a draft
+pub record IsStill (h : Held) : Type 0 where
+  pub shelves : (x : Item) → IsDrafted h.shelves x → ⊥
+  pub links : (v : ℕ) → (sides_at h.links v).draft ≡ None
+
+-- how often the shelf of an item is waited for
+abbrev pub waits_there_in : Option (Option Shelf) → ℕ
+waits_there_in None = 0
+waits_there_in (Some shelf) = waits_of shelf
+
+abbrev pub waits_in : Held → Item → ℕ
+waits_in h x = waits_there_in (lookup (is_at (item_order x)) h.shelves)
+
+-- each of these items is waited for, as often as it stands here
+abbrev pub Awaits : List Item → Held → Type 0
+Awaits items h = (x : Item) → times_in items x ≤ waits_in h x
+
+-- fewer than 2^32 hold each identifier beside the items that name it
+abbrev pub HasFewOwn : Held → Type 0
+HasFewOwn h = (a : Identifier) → (own : ℕ) × IsOwn h a own × (own < 2 ^ 32)
+
+-- each number that has an identifier has it still
+abbrev pub KeepsNumbers : Held → Held → Type 0
+KeepsNumbers old new = (v : ℕ) (a : Identifier) → key_at old.names v ≡ Some a → key_at new.names v ≡ Some a
+
+-- each number that has an identifier had it before
+abbrev pub BringsNoNumbers : Held → Held → Type 0
+BringsNoNumbers old new = KeepsNumbers new old
+
+-- others hold each identifier as often as before
+abbrev pub KeepsOwn : Held → Held → Type 0
+KeepsOwn old new = (a : Identifier) (own : ℕ) → IsOwn old a own → IsOwn new a own
+
+-- these items are waited for once more, and once less
+abbrev pub AwaitsMore : List Item → Held → Held → Type 0
+AwaitsMore items old new = (rest : List Item) → Awaits rest old → Awaits (items ++ rest) new
+
+abbrev pub AwaitsLess : List Item → Held → Held → Type 0
+AwaitsLess items old new = (rest : List Item) → Awaits (items ++ rest) old → Awaits rest new
+
+-- all that others see is the same
+pub record IsSeenSame (old new : Held) : Type 0 where
+  pub rows : rows_now new ≡ rows_now old
+  pub links : (v : ℕ) → links_now new v ≡ links_now old v
+  pub numbers : (v : ℕ) → key_at new.names v ≡ key_at old.names v
+  pub own : KeepsOwn old new
+  pub waits : AwaitsMore [] old new

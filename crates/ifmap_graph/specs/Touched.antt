@@ -1,0 +1,74 @@
+-- The drafts of numbers' links, as one slot after another comes to be full or empty.
+use Rattle.std.specs.Prelude.{◌≡◌, ◌≢◌, ◌&&◌, ◌++◌, ◌<◌, ℕ, Bool, true, false, not, List, [], Option, Some, None, is_some, cond, length}
+use Rattle.std.specs.List.{cons_option, filter, filter_map, list_any}
+use Rattle.slab.specs.Slab.{Slab, get}
+use Rattle.ifmap_ident.specs.declared.items.Item.{Item}
+use Rattle.ifmap_view.specs.declared.views.LinkSeen.{LinkSeen}
+use Rattle.ifmap_graph.specs.declared.shelves.Shelf.{Shelf}
+use Rattle.ifmap_graph.specs.declared.shelves.Shelves.{Shelves}
+use Rattle.ifmap_graph.specs.Joined.{is_full, joined}
+use Rattle.ifmap_graph.specs.Linked.{far_of, seen_at}
+use Rattle.ifmap_graph.specs.Shelved.{list_at, place_of}
+use Rattle.ifmap_graph.specs.Sides.{Sides, next, now}
+use Rattle.ifmap_graph.specs.Turning.{AreDrafted, NoOthers, sides_at}
+
+module _ (slots : Slab Shelf) where
+  -- whether a slot has something, and whether it is to have something
+  abbrev pub full_now : ℕ → Bool
+  full_now at = is_full (list_at now (get slots at))
+
+  abbrev pub full_next : ℕ → Bool
+  full_next at = is_full (list_at next (get slots at))
+
+  -- whether a slot joins the number with another
+  abbrev pub joins : ℕ → ℕ → Bool
+  joins v at = is_some (far_of (joined (get slots at)) v)
+
+  -- the link that a slot brings to a number, which is empty and is to have something
+  abbrev pub brought : ℕ → ℕ → Option LinkSeen
+  brought v at = cond (full_next at && not (full_now at)) (seen_at at (far_of (joined (get slots at)) v)) None
+
+  -- the links of a number that stay
+  abbrev pub staying : List LinkSeen → List LinkSeen
+  staying links = filter (λ l. full_next l.at) links
+
+  -- the draft of a number's links that there is, or one of those that stay
+  abbrev pub begun : Option (List LinkSeen) → List LinkSeen → List LinkSeen
+  begun None links = staying links
+  begun (Some draft) links = draft
+
+  -- the draft after a slot was looked at
+  abbrev pub touched_draft : ℕ → ℕ → Sides LinkSeen → Option (List LinkSeen)
+  touched_draft at v sides = cond (joins v at) (Some (begun sides.draft sides.now ++ cons_option (brought v at) [])) sides.draft
+
+  -- the draft after these slots were looked at, where there was none
+  abbrev pub draft_of : List ℕ → ℕ → List LinkSeen → Option (List LinkSeen)
+  draft_of touched v links = cond (list_any (joins v) touched) (Some (staying links ++ filter_map (brought v) touched)) None
+
+  -- the numbers that slots join have links, and are two
+  abbrev pub ArePairs : ℕ → Type 0
+  ArePairs n = (at v w : ℕ) → joined (get slots at) ≡ Some (v, w) → (v < n) × (w < n) × (v ≢ w)
+
+-- whether one of two is true, and not both
+abbrev pub differ : Bool → Bool → Bool
+differ true b = not b
+differ false b = b
+
+-- a slot that comes to be full or empty
+abbrev pub flip_in : Slab Shelf → Option ℕ → Option ℕ
+flip_in slots None = None
+flip_in slots (Some at) = cond (differ (full_now slots at) (full_next slots at)) (Some at) None
+
+-- the slot of an item, where it does
+abbrev pub flip_of : Shelves → Item → Option ℕ
+flip_of s x = flip_in s.slots (place_of s x)
+
+-- drafts stand at these places alone, each of which is named once
+pub record AreReady (ways : List (ℕ × List LinkSeen)) (links : List (Sides LinkSeen)) : Type 0 where
+  pub drafted : AreDrafted ways links
+  pub no_others : NoOthers ways links
+
+-- there are as many lists, and they are as they were
+pub record KeepsLinks (old new : List (Sides LinkSeen)) : Type 0 where
+  pub now : (v : ℕ) → (sides_at new v).now ≡ (sides_at old v).now
+  pub long : length new ≡ length old

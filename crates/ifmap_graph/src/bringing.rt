@@ -1,0 +1,167 @@
+//! Shelves for the items of a change that have none, and how they go again.
+ghost use Rattle.std.specs.Prelude.{◌≡◌, ◌<◌, ◌≤◌, ◌^◌, ℕ, true, false, List, [], ◌∷◌, None, IfOk, IsSome, OnErr, OnOk, length, if◌then◌else◌};
+ghost use Rattle.std.specs.List.{AllByRecursion, IsDistinct};
+ghost use Rattle.slab.specs.Slab.{get};
+ghost use Rattle.ifmap_ident.specs.Identifiers.{identifier_order};
+ghost use Rattle.ifmap_ident.specs.Items.{IsCanonItem, same_item};
+ghost use Rattle.ifmap_pool.specs.Holdings.{IsPool};
+ghost use Rattle.ifmap_view.specs.declared.views.LinkSeen.{LinkSeen};
+ghost use Rattle.ifmap_graph.specs.declared.shelves.Shelves.{Shelves};
+ghost use Rattle.ifmap_graph.specs.Bringing.{AreGrown, AreInside, BringsShelves, HaveFewOwn, marked, parts_of};
+ghost use Rattle.ifmap_graph.specs.Drafted.{AreBare};
+ghost use Rattle.ifmap_graph.specs.Held.{IsInside};
+ghost use Rattle.ifmap_graph.specs.Out.{items_of};
+ghost use Rattle.ifmap_graph.specs.Releasing.{IsLess};
+ghost use Rattle.ifmap_graph.specs.Shelved.{AreShelved, IsBare, place_of, rows_of};
+ghost use Rattle.ifmap_graph.specs.Sides.{Sides, now};
+ghost use Rattle.ifmap_graph.specs.Turning.{sides_at};
+ghost use Rattle.ifmap_graph.specs.Waits.{waits_on};
+
+use crate::placing::{lengthen, place_shelf, remove_shelf};
+use crate::shelves::Shelves;
+use crate::sided::Sided;
+use ifmap_elem::Copied;
+use ifmap_ident::{Identifier, Item};
+use ifmap_plans::ItemChange;
+use ifmap_pool::Pool;
+use ifmap_view::LinkSeen;
+use std::alloc::{AllocError as NoMemory, Global};
+
+// So many items can have a shelf: more, and the holds of their identifiers could not be counted.
+pub(crate) const MOST_ITEMS: usize = 4_611_686_018_427_387_904;
+
+// Room for two numbers more, with their links. Where memory runs out, there may be more room.
+fn make_room(
+    names: &mut Pool<Identifier>,
+    links: &mut Vec<Sided<LinkSeen>>,
+    alloc: Global,
+) -> Result<(), NoMemory>
+    ensures live { names.new.live ≡ names.old.live }
+    ensures whole { IsPool identifier_order names.new }
+    ensures same { (v : ℕ) → sides_at links.new.items v ≡ sides_at links.old.items v }
+    ensures longer { length links.old.items ≤ length links.new.items }
+    ensures room { OnOk result (2 ≤ names.new.spare) }
+    ensures limit { OnOk result (names.new.limit ≤ length links.new.items) }
+{
+    names.reserve(2)?;
+    lengthen(links, alloc, names.limit())
+}
+
+// A shelf for an item that has none, still empty, with the numbers of its identifiers held.
+fn place_item(
+    names: &mut Pool<Identifier>,
+    shelves: &mut Shelves,
+    links: &mut Vec<Sided<LinkSeen>>,
+    alloc: Global,
+    item: &Item,
+) -> Result<(), NoMemory>
+    requires inside { AreInside (parts_of names.old shelves.old links.old.items) }
+    requires canon { IsCanonItem item.now }
+    requires absent { place_of shelves.old item.now ≡ None }
+    requires few { HaveFewOwn (parts_of names.old shelves.old links.old.items) }
+    ensures grown { AreGrown (parts_of names.old shelves.old links.old.items)
+        (parts_of names.new shelves.new links.new.items) }
+    ensures brought { OnOk result (BringsShelves (item.now ∷ []) shelves.old shelves.new) }
+    ensures none { OnErr result (BringsShelves [] shelves.old shelves.new) }
+{
+    if shelves.places.len() >= MOST_ITEMS {
+        return Err(NoMemory);
+    }
+    let key = item.copy(alloc)?;
+    let ends = item.copy(alloc)?;
+    make_room(names, links, alloc)?;
+    place_shelf(names, shelves, alloc, key, ends)
+}
+
+// The same, unless the item has a shelf. Says whether it comes.
+fn place_missing(
+    names: &mut Pool<Identifier>,
+    shelves: &mut Shelves,
+    links: &mut Vec<Sided<LinkSeen>>,
+    alloc: Global,
+    item: &Item,
+) -> Result<bool, NoMemory>
+    requires inside { AreInside (parts_of names.old shelves.old links.old.items) }
+    requires canon { IsCanonItem item.now }
+    requires few { HaveFewOwn (parts_of names.old shelves.old links.old.items) }
+    ensures grown { AreGrown (parts_of names.old shelves.old links.old.items)
+        (parts_of names.new shelves.new links.new.items) }
+    ensures brought { IfOk result
+        (λ comes. BringsShelves (if comes then item.now ∷ [] else []) shelves.old shelves.new) }
+    ensures none { OnErr result (BringsShelves [] shelves.old shelves.new) }
+    ensures there { OnOk result (IsSome (place_of shelves.new item.now)) }
+{
+    if shelves.places.contains_key(item) {
+        return Ok(false);
+    }
+    place_item(names, shelves, links, alloc, item)?;
+    Ok(true)
+}
+
+/// Shelves for the items of a change that have none, and marks at those. Where memory runs out,
+/// some have come.
+pub(crate) fn place_items(
+    names: &mut Pool<Identifier>,
+    shelves: &mut Shelves,
+    links: &mut Vec<Sided<LinkSeen>>,
+    alloc: Global,
+    changes: &[ItemChange],
+    fresh: &mut Vec<bool>,
+) -> Result<(), NoMemory>
+    requires inside { AreInside (parts_of names.old shelves.old links.old.items) }
+    requires canon { AllByRecursion IsCanonItem (items_of changes.now) }
+    requires few { HaveFewOwn (parts_of names.old shelves.old links.old.items) }
+    requires none { fresh.old.items ≡ [] }
+    ensures grown { AreGrown (parts_of names.old shelves.old links.old.items)
+        (parts_of names.new shelves.new links.new.items) }
+    ensures brought { BringsShelves (marked (items_of changes.now) fresh.new.items) shelves.old
+        shelves.new }
+    ensures there { OnOk result
+        (AllByRecursion (λ x. IsSome (place_of shelves.new x)) (items_of changes.now)) }
+    ensures long { length fresh.new.items ≤ length changes.now }
+{
+    for change in changes {
+        fresh.reserve(1)?;
+        let comes = place_missing(names, shelves, links, alloc, &change.item)?;
+        fresh.push_reserved(comes);
+    }
+    Ok(())
+}
+
+// A shelf that came goes again.
+fn take_shelf(names: &mut Pool<Identifier>, shelves: &mut Shelves, item: &Item, came: bool)
+    requires inside { (links : List (Sides LinkSeen)) × IsInside names.old (get shelves.old.slots)
+        shelves.old.places.entries links }
+    requires empty { came ≡ true → IsBare shelves.old item.now }
+    requires idle { came ≡ true → waits_on shelves.old item.now ≡ 0 }
+    ensures less { IsLess names.old names.new shelves.old shelves.new }
+    ensures taken { BringsShelves (if came then item.now ∷ [] else []) shelves.new shelves.old }
+{
+    if came {
+        remove_shelf(names, shelves, item);
+    }
+}
+
+/// The shelves of a change's items that came go again. It takes no memory.
+pub(crate) fn take_shelves(
+    names: &mut Pool<Identifier>,
+    shelves: &mut Shelves,
+    changes: &[ItemChange],
+    fresh: &[bool],
+)
+    requires inside { (links : List (Sides LinkSeen)) × IsInside names.old (get shelves.old.slots)
+        shelves.old.places.entries links }
+    requires bare { AreBare shelves.old }
+    requires apart { IsDistinct same_item (items_of changes.now) }
+    requires long { length fresh.now ≤ length changes.now }
+    requires brought { (first : Shelves) × (rows_of now first ≡ rows_of now shelves.old)
+        × BringsShelves (marked (items_of changes.now) fresh.now) first shelves.old }
+    ensures less { IsLess names.old names.new shelves.old shelves.new }
+    ensures taken { (first : Shelves)
+        → BringsShelves (marked (items_of changes.now) fresh.now) first shelves.old
+        → BringsShelves [] first shelves.new }
+{
+    for i in 0..fresh.len() {
+        take_shelf(names, shelves, &changes[i].item, fresh[i]);
+    }
+}

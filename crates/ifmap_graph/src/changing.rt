@@ -1,0 +1,208 @@
+//! What changes in one shelf: its draft, its list, and how often it is waited for. No call takes
+//! memory.
+ghost use Rattle.std.specs.Prelude.{◌≡◌, ◌⊎◌, ℕ, ◌+◌, ◌-◌, ◌<◌, ◌^◌, List, ◌∷◌, true, false, Some, None, IsSome, if◌then◌else◌};
+ghost use Rattle.std.specs.BTreeMap.{is_at};
+ghost use Rattle.slab.specs.Slab.{get, with_value};
+ghost use Rattle.ifmap_ident.specs.declared.items.Item.{Item};
+ghost use Rattle.ifmap_ident.specs.Items.{item_order};
+ghost use Rattle.ifmap_meta.specs.declared.stored.Stored.{Stored};
+ghost use Rattle.ifmap_view.specs.Rows.{stored_on};
+ghost use Rattle.ifmap_graph.specs.declared.shelves.Shelf.{Shelf};
+ghost use Rattle.ifmap_graph.specs.Drafted.{AreBare, ends_at};
+ghost use Rattle.ifmap_graph.specs.Shelved.{AreShelved, HasDraft, HasNoDraft, place_of, rows_of};
+ghost use Rattle.ifmap_graph.specs.Sides.{next, now};
+ghost use Rattle.ifmap_graph.specs.Waits.{AreWaited, waits_on};
+
+use crate::shelves::{Shelf, Shelves};
+use ifmap_ident::Item;
+use ifmap_view::Row;
+use slab::Slab;
+
+// The draft of a slot's list.
+fn propose_at(slots: &mut Slab<Shelf>, at: usize, list: Vec<Row>)
+    requires { IsSome (get slots.old at) }
+    ensures { (s : Shelf) → get slots.old at ≡ Some s → slots.new ≡ with_value slots.old at
+        (record s { stored = record s.stored { draft = Some list.items } }) }
+{
+    let shelf = &mut slots[at];
+    shelf.stored.propose(list);
+}
+
+// The slot's draft takes its list's place. Gives the list that was.
+fn accept_at(slots: &mut Slab<Shelf>, at: usize) -> Vec<Row>
+    requires { (s : Shelf) × (get slots.old at ≡ Some s) × IsSome s.stored.draft }
+    ensures slots { (s : Shelf) → get slots.old at ≡ Some s → slots.new ≡ with_value slots.old at
+        (record s { stored = record { now = next s.stored; draft = None } }) }
+    ensures old { (s : Shelf) → get slots.old at ≡ Some s → result.items ≡ s.stored.now }
+{
+    let shelf = &mut slots[at];
+    shelf.stored.accept()
+}
+
+// The slot has no draft any more.
+fn discard_at(slots: &mut Slab<Shelf>, at: usize)
+    requires { IsSome (get slots.old at) }
+    ensures { (s : Shelf) → get slots.old at ≡ Some s → slots.new ≡ with_value slots.old at
+        (record s { stored = record s.stored { draft = None } }) }
+{
+    let shelf = &mut slots[at];
+    shelf.stored.discard();
+}
+
+// The slot's list changes places with another.
+fn exchange_at(slots: &mut Slab<Shelf>, at: usize, list: &mut Vec<Row>)
+    requires { IsSome (get slots.old at) }
+    ensures slots { (s : Shelf) → get slots.old at ≡ Some s → slots.new ≡ with_value slots.old at
+        (record s { stored = record s.stored { now = list.old.items } }) }
+    ensures old { (s : Shelf) → get slots.old at ≡ Some s → list.new.items ≡ s.stored.now }
+{
+    let shelf = &mut slots[at];
+    shelf.stored.exchange(list);
+}
+
+// One change more that is out names the slot's item.
+fn wait_at(slots: &mut Slab<Shelf>, at: usize)
+    requires { (s : Shelf) × (get slots.old at ≡ Some s) × (s.waits < 2 ^ 64 - 1) }
+    ensures { (s : Shelf) → get slots.old at ≡ Some s → slots.new ≡ with_value slots.old at
+        (record s { waits = s.waits + 1 }) }
+{
+    let shelf = &mut slots[at];
+    shelf.waits = shelf.waits + 1;
+}
+
+// And one less. Gives how many are left.
+fn unwait_at(slots: &mut Slab<Shelf>, at: usize) -> u64
+    requires { (s : Shelf) × (get slots.old at ≡ Some s) × (0 < s.waits) }
+    ensures slots { (s : Shelf) → get slots.old at ≡ Some s → slots.new ≡ with_value slots.old at
+        (record s { waits = s.waits - 1 }) }
+    ensures left { (s : Shelf) → get slots.old at ≡ Some s → result ≡ s.waits - 1 }
+{
+    let shelf = &mut slots[at];
+    shelf.waits = shelf.waits - 1;
+    shelf.waits
+}
+
+impl Shelves {
+    /// What is to be stored on an item that has a shelf.
+    pub fn propose(&mut self, item: &Item, list: Vec<Row>)
+        requires shelved { AreShelved self.old }
+        requires there { IsSome (place_of self.old item.now) }
+        ensures shelved { AreShelved self.new }
+        ensures now { rows_of now self.new ≡ rows_of now self.old }
+        ensures next { (x : Item) → stored_on x (rows_of next self.new)
+            ≡ (if is_at (item_order item.now) x then list.items
+            else stored_on x (rows_of next self.old)) }
+        ensures drafts { (x : Item) → HasDraft self.new x
+            → HasDraft self.old x ⊎ (is_at (item_order item.now) x ≡ true) }
+        ensures kept { (x : Item) → HasDraft self.old x → HasDraft self.new x }
+        ensures drafted { HasDraft self.new item.now }
+        ensures ends { (at : ℕ) → ends_at self.new at ≡ ends_at self.old at }
+        ensures waits { (x : Item) → waits_on self.new x ≡ waits_on self.old x }
+        ensures places { self.new.places ≡ self.old.places }
+    {
+        let at = self.places[item];
+        propose_at(&mut self.slots, at, list);
+    }
+
+    /// What was to be stored on an item that has a draft is stored. Gives the list that was.
+    pub fn accept(&mut self, item: &Item) -> Vec<Row>
+        requires shelved { AreShelved self.old }
+        requires drafted { HasDraft self.old item.now }
+        ensures shelved { AreShelved self.new }
+        ensures next { rows_of next self.new ≡ rows_of next self.old }
+        ensures now { (x : Item) → stored_on x (rows_of now self.new)
+            ≡ stored_on x (if is_at (item_order item.now) x then rows_of next self.old
+            else rows_of now self.old) }
+        ensures old { result.items ≡ stored_on item.now (rows_of now self.old) }
+        ensures drafts { (x : Item) → HasDraft self.new x
+            → HasDraft self.old x × (is_at (item_order item.now) x ≡ false) }
+        ensures kept { (x : Item) → is_at (item_order item.now) x ≡ false → HasDraft self.old x
+            → HasDraft self.new x }
+        ensures ends { (at : ℕ) → ends_at self.new at ≡ ends_at self.old at }
+        ensures waits { (x : Item) → waits_on self.new x ≡ waits_on self.old x }
+        ensures places { self.new.places ≡ self.old.places }
+    {
+        let at = self.places[item];
+        accept_at(&mut self.slots, at)
+    }
+
+    /// What is stored on an item that has a shelf is what is to be.
+    pub fn discard(&mut self, item: &Item)
+        requires shelved { AreShelved self.old }
+        requires there { IsSome (place_of self.old item.now) }
+        ensures shelved { AreShelved self.new }
+        ensures now { rows_of now self.new ≡ rows_of now self.old }
+        ensures next { (x : Item) → stored_on x (rows_of next self.new)
+            ≡ stored_on x (if is_at (item_order item.now) x then rows_of now self.old
+            else rows_of next self.old) }
+        ensures drafts { (x : Item) → HasDraft self.new x
+            → HasDraft self.old x × (is_at (item_order item.now) x ≡ false) }
+        ensures ends { (at : ℕ) → ends_at self.new at ≡ ends_at self.old at }
+        ensures waits { (x : Item) → waits_on self.new x ≡ waits_on self.old x }
+        ensures places { self.new.places ≡ self.old.places }
+    {
+        let at = self.places[item];
+        discard_at(&mut self.slots, at);
+    }
+
+    /// One change more that is out names an item that has a shelf.
+    pub fn wait(&mut self, item: &Item)
+        requires shelved { AreShelved self.old }
+        requires there { IsSome (place_of self.old item.now) }
+        requires few { waits_on self.old item.now < 2 ^ 64 - 1 }
+        ensures shelved { AreShelved self.new }
+        ensures waited { (rest : List Item) → AreWaited rest (waits_on self.old)
+            → AreWaited (item.now ∷ rest) (waits_on self.new) }
+        ensures others { (x : Item) → is_at (item_order item.now) x ≡ false
+            → waits_on self.new x ≡ waits_on self.old x }
+        ensures drafts { (x : Item) → HasDraft self.new x → HasDraft self.old x }
+        ensures kept { (x : Item) → HasDraft self.old x → HasDraft self.new x }
+        ensures now { rows_of now self.new ≡ rows_of now self.old }
+        ensures next { rows_of next self.new ≡ rows_of next self.old }
+        ensures ends { (at : ℕ) → ends_at self.new at ≡ ends_at self.old at }
+        ensures places { self.new.places ≡ self.old.places }
+    {
+        let at = self.places[item];
+        wait_at(&mut self.slots, at);
+    }
+
+    /// And one less. Gives how many are left.
+    pub fn unwait(&mut self, item: &Item) -> u64
+        requires shelved { AreShelved self.old }
+        requires there { IsSome (place_of self.old item.now) }
+        requires waited { 0 < waits_on self.old item.now }
+        ensures shelved { AreShelved self.new }
+        ensures left { result ≡ waits_on self.new item.now }
+        ensures waited { (rest : List Item) → AreWaited (item.now ∷ rest) (waits_on self.old)
+            → AreWaited rest (waits_on self.new) }
+        ensures bare { AreBare self.old → AreBare self.new }
+        ensures now { rows_of now self.new ≡ rows_of now self.old }
+        ensures next { rows_of next self.new ≡ rows_of next self.old }
+        ensures ends { (at : ℕ) → ends_at self.new at ≡ ends_at self.old at }
+        ensures places { self.new.places ≡ self.old.places }
+    {
+        let at = self.places[item];
+        unwait_at(&mut self.slots, at)
+    }
+
+    /// Exchanges what is stored on an item, whose shelf has no draft, with another list.
+    pub fn exchange(&mut self, item: &Item, list: &mut Vec<Row>)
+        requires shelved { AreShelved self.old }
+        requires drafted { HasNoDraft self.old item.now }
+        ensures shelved { AreShelved self.new }
+        ensures now { (x : Item) → stored_on x (rows_of now self.new)
+            ≡ (if is_at (item_order item.now) x then list.old.items
+            else stored_on x (rows_of now self.old)) }
+        ensures next { (x : Item) → stored_on x (rows_of next self.new)
+            ≡ (if is_at (item_order item.now) x then list.old.items
+            else stored_on x (rows_of next self.old)) }
+        ensures old { list.new.items ≡ stored_on item.now (rows_of now self.old) }
+        ensures bare { AreBare self.old → AreBare self.new }
+        ensures ends { (at : ℕ) → ends_at self.new at ≡ ends_at self.old at }
+        ensures waits { (x : Item) → waits_on self.new x ≡ waits_on self.old x }
+        ensures places { self.new.places ≡ self.old.places }
+    {
+        let at = self.places[item];
+        exchange_at(&mut self.slots, at, list);
+    }
+}

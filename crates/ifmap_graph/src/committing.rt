@@ -1,0 +1,48 @@
+//! A change that is out is made. No call takes memory.
+ghost use Rattle.std.specs.Prelude.{◌≡◌, ℕ, [], map};
+ghost use Rattle.ifmap_view.specs.Rows.{stored_on};
+ghost use Rattle.ifmap_graph.specs.Held.{links_at};
+ghost use Rattle.ifmap_graph.specs.Back.{IsWayBack};
+ghost use Rattle.ifmap_graph.specs.Out.{IsOut, items_of};
+ghost use Rattle.ifmap_graph.specs.Seen.{Awaits, AwaitsMore, IsStill, KeepsOwn, links_now, rows_now};
+ghost use Rattle.ifmap_graph.specs.Shelved.{list_at, rows_by};
+ghost use Rattle.ifmap_graph.specs.Sides.{next, now};
+ghost use Rattle.ifmap_graph.specs.Turning.{backs};
+
+use crate::changes::{Ready, Undo};
+use crate::graph::Graph;
+use crate::turning::accept_changes;
+use crate::ways::accept_all;
+
+impl Graph {
+    /// What was to be is, on both sides, and what was there can come again. It takes no memory.
+    pub fn commit_kept(&mut self, ready: Ready) -> Undo
+        requires { IsOut ready self.old }
+        ensures now { rows_by (list_at now) self.new.shelves
+            ≡ rows_by (list_at next) self.old.shelves }
+        ensures next { rows_by (list_at next) self.new.shelves
+            ≡ rows_by (list_at next) self.old.shelves }
+        ensures links { (v : ℕ) → links_at now self.new.links v ≡ links_at next self.old.links v }
+        ensures names { self.new.names ≡ self.old.names }
+        ensures places { self.new.places ≡ self.old.places }
+        ensures still { IsStill self.new }
+        ensures own { KeepsOwn self.old self.new }
+        ensures waits { AwaitsMore [] self.old self.new }
+        ensures plan { result.plan ≡ ready.plan }
+        ensures lists { result.lists ≡ map
+            (λ c. stored_on c.item (rows_by (list_at now) self.old.shelves)) ready.plan.changes }
+        ensures ways { result.ways ≡ backs ready.ways self.old.links }
+        ensures back { Awaits (items_of ready.plan.changes) self.old → IsWayBack result
+            (rows_now self.old) (links_now self.old) self.new }
+    {
+        let mut lists = ready.lists;
+        let mut ways = ready.ways;
+        accept_changes(&mut self.shelves, &ready.plan.changes.0, &mut lists.0);
+        accept_all(&mut self.links, &mut ways.0);
+        Undo {
+            plan: ready.plan,
+            lists,
+            ways,
+        }
+    }
+}

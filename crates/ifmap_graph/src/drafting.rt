@@ -1,0 +1,189 @@
+//! The drafts of a change: what is to be stored on each of its items.
+ghost use Rattle.std.specs.Prelude.{◌≡◌, ◌⊎◌, ◌++◌, ℕ, true, List, None, IsSome, OnErr, OnOk, if◌then◌else◌};
+ghost use Rattle.std.specs.BTreeMap.{is_at};
+ghost use Rattle.std.specs.List.{AllByRecursion};
+ghost use Rattle.std.specs.List.Sorted.{IsStrictlySortedBy};
+ghost use Rattle.slab.specs.Slab.{get};
+ghost use Rattle.ifmap_ident.specs.declared.identifiers.Identifier.{Identifier};
+ghost use Rattle.ifmap_ident.specs.declared.items.Item.{Item};
+ghost use Rattle.ifmap_ident.specs.Items.{item_order};
+ghost use Rattle.ifmap_plans.specs.Lists.{next_on};
+ghost use Rattle.ifmap_plans.specs.Plans.{Fits, IsAfter};
+ghost use Rattle.ifmap_pool.specs.Holdings.{Holdings};
+ghost use Rattle.ifmap_view.specs.Attachments.{stored_order};
+ghost use Rattle.ifmap_view.specs.Rows.{stored_on};
+ghost use Rattle.ifmap_graph.specs.Drafted.{AreBare, AreOut, DraftsWithin, ends_at};
+ghost use Rattle.ifmap_graph.specs.Held.{IsInside};
+ghost use Rattle.ifmap_graph.specs.Out.{items_of};
+ghost use Rattle.ifmap_graph.specs.Shelved.{AreShelved, HasDraft, place_of, rows_of};
+ghost use Rattle.ifmap_graph.specs.Sides.{next, now};
+ghost use Rattle.ifmap_graph.specs.Touched.{AreReady, KeepsLinks};
+ghost use Rattle.ifmap_graph.specs.Turning.{sides_at};
+ghost use Rattle.ifmap_graph.specs.Waits.{AreWaited, waits_on};
+
+use crate::linking::{drop_drafts, flipped_slots, touch_slots};
+use crate::shelves::Shelves;
+use crate::sided::Sided;
+use crate::turning::discard_changes;
+use crate::waiting::{can_wait, wait_for};
+use crate::ways::Way;
+use ifmap_plans::{ItemChange, next_list};
+use ifmap_view::LinkSeen;
+use std::alloc::{AllocError as NoMemory, Global};
+
+// The draft of one item that has a shelf.
+fn draft_one(shelves: &mut Shelves, alloc: Global, change: &ItemChange) -> Result<(), NoMemory>
+    requires shelved { AreShelved shelves.old }
+    requires there { IsSome (place_of shelves.old change.now.item) }
+    requires order { IsStrictlySortedBy stored_order change.now.removed }
+    requires list { IsStrictlySortedBy stored_order
+        (stored_on change.now.item (rows_of now shelves.old)) }
+    ensures shelved { AreShelved shelves.new }
+    ensures now { rows_of now shelves.new ≡ rows_of now shelves.old }
+    ensures next { OnOk result ((x : Item) → stored_on x (rows_of next shelves.new)
+        ≡ (if is_at (item_order change.now.item) x
+        then next_on change.now.removed change.now.added
+        (stored_on change.now.item (rows_of now shelves.old))
+        else stored_on x (rows_of next shelves.old))) }
+    ensures drafts { (x : Item) → HasDraft shelves.new x
+        → HasDraft shelves.old x ⊎ (is_at (item_order change.now.item) x ≡ true) }
+    ensures kept { (x : Item) → HasDraft shelves.old x → HasDraft shelves.new x }
+    ensures drafted { OnOk result (HasDraft shelves.new change.now.item) }
+    ensures ends { (at : ℕ) → ends_at shelves.new at ≡ ends_at shelves.old at }
+    ensures waits { (x : Item) → waits_on shelves.new x ≡ waits_on shelves.old x }
+    ensures places { shelves.new.places ≡ shelves.old.places }
+{
+    let list = next_list(alloc, shelves.stored_at(&change.item), change)?;
+    shelves.propose(&change.item, list);
+    Ok(())
+}
+
+/// What is to be stored after a change, on items that have shelves, none of which has a draft.
+/// Where memory runs out, some have one.
+pub(crate) fn draft_changes(
+    shelves: &mut Shelves,
+    alloc: Global,
+    changes: &[ItemChange],
+) -> Result<(), NoMemory>
+    requires shelved { AreShelved shelves.old }
+    requires bare { AreBare shelves.old }
+    requires there { AllByRecursion (λ x. IsSome (place_of shelves.old x)) (items_of changes.now) }
+    requires fits { Fits (rows_of now shelves.old) changes.now }
+    requires lists { (x : Item)
+        → IsStrictlySortedBy stored_order (stored_on x (rows_of now shelves.old)) }
+    ensures shelved { AreShelved shelves.new }
+    ensures now { rows_of now shelves.new ≡ rows_of now shelves.old }
+    ensures next { OnOk result
+        (IsAfter changes.now (rows_of now shelves.old) (rows_of next shelves.new)) }
+    ensures within { DraftsWithin (items_of changes.now) shelves.new }
+    ensures out { OnOk result (AreOut (items_of changes.now) shelves.new) }
+    ensures ends { (at : ℕ) → ends_at shelves.new at ≡ ends_at shelves.old at }
+    ensures waits { (x : Item) → waits_on shelves.new x ≡ waits_on shelves.old x }
+    ensures places { shelves.new.places ≡ shelves.old.places }
+{
+    for change in changes {
+        draft_one(shelves, alloc, change)?;
+    }
+    Ok(())
+}
+
+/// The drafts of a change, whose items have shelves: what is to be stored on them, and the links
+/// that are to be. Nothing has a draft before. Where memory runs out, some stand.
+pub(crate) fn draft_plan(
+    shelves: &mut Shelves,
+    links: &mut Vec<Sided<LinkSeen>>,
+    alloc: Global,
+    changes: &[ItemChange],
+    ways: &mut Vec<Way<LinkSeen>>,
+) -> Result<(), NoMemory>
+    requires inside { (names : Holdings Identifier) × IsInside names (get shelves.old.slots)
+        shelves.old.places.entries links.old.items }
+    requires bare { AreBare shelves.old }
+    requires none { (v : ℕ) → (sides_at links.old.items v).draft ≡ None }
+    requires ready { AreReady ways.old.items links.old.items }
+    requires there { AllByRecursion (λ x. IsSome (place_of shelves.old x)) (items_of changes.now) }
+    requires fits { Fits (rows_of now shelves.old) changes.now }
+    ensures shelved { AreShelved shelves.new }
+    ensures inside { OnOk result ((names : Holdings Identifier)
+        → IsInside names (get shelves.old.slots) shelves.old.places.entries links.old.items
+        → IsInside names (get shelves.new.slots) shelves.new.places.entries links.new.items) }
+    ensures now { rows_of now shelves.new ≡ rows_of now shelves.old }
+    ensures next { OnOk result
+        (IsAfter changes.now (rows_of now shelves.old) (rows_of next shelves.new)) }
+    ensures within { DraftsWithin (items_of changes.now) shelves.new }
+    ensures out { OnOk result (AreOut (items_of changes.now) shelves.new) }
+    ensures links { KeepsLinks links.old.items links.new.items }
+    ensures ready { AreReady ways.new.items links.new.items }
+    ensures ends { (at : ℕ) → ends_at shelves.new at ≡ ends_at shelves.old at }
+    ensures waits { (x : Item) → waits_on shelves.new x ≡ waits_on shelves.old x }
+    ensures places { shelves.new.places ≡ shelves.old.places }
+{
+    draft_changes(shelves, alloc, changes)?;
+    let touched = flipped_slots(alloc, shelves, changes)?;
+    touch_slots(links, &shelves.slots, alloc, &touched, ways)
+}
+
+/// The same, and the items are waited for once more. Where memory runs out, some drafts stand.
+pub(crate) fn draft_and_wait(
+    shelves: &mut Shelves,
+    links: &mut Vec<Sided<LinkSeen>>,
+    alloc: Global,
+    changes: &[ItemChange],
+    ways: &mut Vec<Way<LinkSeen>>,
+) -> Result<(), NoMemory>
+    requires inside { (names : Holdings Identifier) × IsInside names (get shelves.old.slots)
+        shelves.old.places.entries links.old.items }
+    requires bare { AreBare shelves.old }
+    requires none { (v : ℕ) → (sides_at links.old.items v).draft ≡ None }
+    requires ready { AreReady ways.old.items links.old.items }
+    requires there { AllByRecursion (λ x. IsSome (place_of shelves.old x)) (items_of changes.now) }
+    requires fits { Fits (rows_of now shelves.old) changes.now }
+    ensures shelved { AreShelved shelves.new }
+    ensures inside { OnOk result ((names : Holdings Identifier)
+        → IsInside names (get shelves.old.slots) shelves.old.places.entries links.old.items
+        → IsInside names (get shelves.new.slots) shelves.new.places.entries links.new.items) }
+    ensures now { rows_of now shelves.new ≡ rows_of now shelves.old }
+    ensures next { OnOk result
+        (IsAfter changes.now (rows_of now shelves.old) (rows_of next shelves.new)) }
+    ensures within { DraftsWithin (items_of changes.now) shelves.new }
+    ensures out { OnOk result (AreOut (items_of changes.now) shelves.new) }
+    ensures waited { OnOk result ((rest : List Item) → AreWaited rest (waits_on shelves.old)
+        → AreWaited (items_of changes.now ++ rest) (waits_on shelves.new)) }
+    ensures waits { OnErr result ((x : Item) → waits_on shelves.new x ≡ waits_on shelves.old x) }
+    ensures links { KeepsLinks links.old.items links.new.items }
+    ensures ready { AreReady ways.new.items links.new.items }
+    ensures ends { (at : ℕ) → ends_at shelves.new at ≡ ends_at shelves.old at }
+    ensures places { shelves.new.places ≡ shelves.old.places }
+{
+    draft_plan(shelves, links, alloc, changes, ways)?;
+    if !can_wait(shelves, changes) {
+        return Err(NoMemory);
+    }
+    wait_for(shelves, changes);
+    Ok(())
+}
+
+/// Nothing has a draft any more. It takes no memory.
+pub(crate) fn drop_plan(
+    shelves: &mut Shelves,
+    links: &mut Vec<Sided<LinkSeen>>,
+    changes: &[ItemChange],
+    ways: &[Way<LinkSeen>],
+)
+    requires shelved { AreShelved shelves.old }
+    requires there { AllByRecursion (λ x. IsSome (place_of shelves.old x)) (items_of changes.now) }
+    requires within { DraftsWithin (items_of changes.now) shelves.old }
+    requires ready { AreReady ways.now links.old.items }
+    ensures shelved { AreShelved shelves.new }
+    ensures bare { AreBare shelves.new }
+    ensures now { rows_of now shelves.new ≡ rows_of now shelves.old }
+    ensures next { rows_of next shelves.new ≡ rows_of now shelves.old }
+    ensures links { KeepsLinks links.old.items links.new.items }
+    ensures none { (v : ℕ) → (sides_at links.new.items v).draft ≡ None }
+    ensures ends { (at : ℕ) → ends_at shelves.new at ≡ ends_at shelves.old at }
+    ensures waits { (x : Item) → waits_on shelves.new x ≡ waits_on shelves.old x }
+    ensures places { shelves.new.places ≡ shelves.old.places }
+{
+    discard_changes(shelves, changes);
+    drop_drafts(links, ways);
+}

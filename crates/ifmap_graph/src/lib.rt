@@ -1,0 +1,34 @@
+//! The inside of a graph: shelves by item, the numbers of identifiers, and the links of each
+//! number. Each list has a draft of another beside it, so that a change is made and taken back
+//! without memory.
+#![tactic(auto)]
+
+mod after;
+mod bringing;
+pub mod changes;
+mod changing;
+mod committing;
+mod drafting;
+pub mod drafts;
+pub mod ends;
+pub mod graph;
+mod holding;
+mod linking;
+mod placing;
+mod releasing;
+mod reserving;
+mod settling;
+pub mod shelves;
+pub mod sided;
+mod turning;
+mod undoing;
+mod waiting;
+pub mod ways;
+
+pub use changes::{Ready, Undo};
+pub use drafts::Draft;
+pub use ends::Ends;
+pub use graph::Graph;
+pub use shelves::{Shelf, Shelves};
+pub use sided::Sided;
+pub use ways::Way;

@@ -1,0 +1,66 @@
+//! Shelves by item: what is stored on each, and what is to be.
+ghost use Rattle.std.specs.Prelude.{◌≡◌, ℕ, None, []};
+ghost use Rattle.slab.specs.Slab.{get};
+ghost use Rattle.ifmap_graph.specs.Shelved.{AreShelved, rows_of};
+ghost use Rattle.ifmap_graph.specs.Sides.{next, now};
+ghost use Rattle.ifmap_view.specs.Rows.{stored_on};
+
+use crate::ends::Ends;
+use crate::sided::Sided;
+use ifmap_ident::Item;
+use ifmap_view::Row;
+use slab::Slab;
+use std::alloc::Global;
+use std::collections::BTreeMap;
+
+/// What is stored on an item, the numbers of its identifiers, and how many changes that are out
+/// name the item. A shelf that is empty is there only while one does.
+#[derive(Drop)]
+pub struct Shelf {
+    pub ends: Ends,
+    pub stored: Sided<Row>,
+    pub waits: u64,
+}
+
+/// Shelves by item.
+#[derive(Drop)]
+pub struct Shelves {
+    pub places: BTreeMap<Item, usize>,
+    pub slots: Slab<Shelf>,
+}
+
+impl Shelves {
+    /// None. It takes no memory.
+    pub fn new(alloc: Global) -> Shelves
+        ensures shelved { AreShelved result }
+        ensures empty { result.places.entries ≡ [] }
+        ensures vacant { (at : ℕ) → get result.slots at ≡ None }
+    {
+        Shelves {
+            places: BTreeMap::new(alloc),
+            slots: Slab::new(alloc),
+        }
+    }
+
+    /// What is stored on an item, in order.
+    pub fn stored_at(&self, item: &Item) -> &[Row]
+        requires { AreShelved self.now }
+        ensures { result.now ≡ stored_on item.now (rows_of now self.now) }
+    {
+        match self.places.get(item) {
+            Some(at) => self.slots[*at].stored.now(),
+            None => &[],
+        }
+    }
+
+    /// The same, as it is to be.
+    pub fn next_at(&self, item: &Item) -> &[Row]
+        requires { AreShelved self.now }
+        ensures { result.now ≡ stored_on item.now (rows_of next self.now) }
+    {
+        match self.places.get(item) {
+            Some(at) => self.slots[*at].stored.next(),
+            None => &[],
+        }
+    }
+}

@@ -1,0 +1,121 @@
+//! The items of a change that is out, one after another: their drafts are accepted, or taken back.
+//! No call takes memory.
+ghost use Rattle.std.specs.Prelude.{◌≡◌, ℕ, ◌<◌, false, IsSome, length, map, set, slice_index_or};
+ghost use Rattle.std.specs.List.{AllByRecursion};
+ghost use Rattle.ifmap_ident.specs.declared.items.Item.{Item};
+ghost use Rattle.ifmap_ident.specs.Items.{same_item};
+ghost use Rattle.ifmap_plans.specs.declared.plans.ItemChange.{ItemChange};
+ghost use Rattle.ifmap_view.specs.Rows.{stored_on};
+ghost use Rattle.ifmap_graph.specs.Drafted.{AreBare, AreOut, DraftsWithin, ends_at};
+ghost use Rattle.ifmap_graph.specs.Shelved.{AreShelved, HasDraft, place_of, rows_of};
+ghost use Rattle.ifmap_graph.specs.Sides.{next, now};
+ghost use Rattle.ifmap_graph.specs.Waits.{waits_on};
+
+use crate::shelves::Shelves;
+use ifmap_elem::Many;
+use ifmap_ident::Item;
+use ifmap_plans::ItemChange;
+use ifmap_view::Row;
+
+// The draft of one item is accepted, and the list that was there comes in place of the one given.
+fn accept_one(shelves: &mut Shelves, item: &Item, list: &mut Many<Row>)
+    requires shelved { AreShelved shelves.old }
+    requires drafted { HasDraft shelves.old item.now }
+    ensures shelved { AreShelved shelves.new }
+    ensures next { rows_of next shelves.new ≡ rows_of next shelves.old }
+    ensures list { list.new ≡ stored_on item.now (rows_of now shelves.old) }
+    ensures drafts { (x : Item) → HasDraft shelves.new x
+        → HasDraft shelves.old x × (same_item x item.now ≡ false) }
+    ensures others { (x : Item) → same_item x item.now ≡ false
+        → (HasDraft shelves.old x → HasDraft shelves.new x)
+        × (stored_on x (rows_of now shelves.new) ≡ stored_on x (rows_of now shelves.old)) }
+    ensures ends { (at : ℕ) → ends_at shelves.new at ≡ ends_at shelves.old at }
+    ensures waits { (x : Item) → waits_on shelves.new x ≡ waits_on shelves.old x }
+    ensures places { shelves.new.places ≡ shelves.old.places }
+{
+    list.0 = shelves.accept(item);
+}
+
+// The draft of the item at a place is accepted.
+fn accept_at(shelves: &mut Shelves, changes: &[ItemChange], lists: &mut Vec<Many<Row>>, i: usize)
+    requires shelved { AreShelved shelves.old }
+    requires place { i < length changes.now }
+    requires room { i < length lists.old.items }
+    requires drafted { (c : ItemChange)
+        → HasDraft shelves.old (slice_index_or changes.now i c).item }
+    ensures shelved { AreShelved shelves.new }
+    ensures next { rows_of next shelves.new ≡ rows_of next shelves.old }
+    ensures lists { (c : ItemChange) → lists.new.items ≡ set lists.old.items i
+        (stored_on (slice_index_or changes.now i c).item (rows_of now shelves.old)) }
+    ensures drafts { (c : ItemChange) (x : Item) → HasDraft shelves.new x
+        → HasDraft shelves.old x × (same_item x (slice_index_or changes.now i c).item ≡ false) }
+    ensures others { (c : ItemChange) (x : Item)
+        → same_item x (slice_index_or changes.now i c).item ≡ false
+        → (HasDraft shelves.old x → HasDraft shelves.new x)
+        × (stored_on x (rows_of now shelves.new) ≡ stored_on x (rows_of now shelves.old)) }
+    ensures ends { (at : ℕ) → ends_at shelves.new at ≡ ends_at shelves.old at }
+    ensures waits { (x : Item) → waits_on shelves.new x ≡ waits_on shelves.old x }
+    ensures places { shelves.new.places ≡ shelves.old.places }
+{
+    accept_one(shelves, &changes[i].item, &mut lists[i]);
+}
+
+// What was to be stored is stored, and the lists that were there come in the places of those given.
+pub(crate) fn accept_changes(
+    shelves: &mut Shelves,
+    changes: &[ItemChange],
+    lists: &mut Vec<Many<Row>>,
+)
+    requires shelved { AreShelved shelves.old }
+    requires out { AreOut (map (λ c. c.item) changes.now) shelves.old }
+    requires long { length lists.old.items ≡ length changes.now }
+    ensures shelved { AreShelved shelves.new }
+    ensures bare { AreBare shelves.new }
+    ensures next { rows_of next shelves.new ≡ rows_of next shelves.old }
+    ensures now { rows_of now shelves.new ≡ rows_of next shelves.old }
+    ensures lists { lists.new.items
+        ≡ map (λ c. stored_on c.item (rows_of now shelves.old)) changes.now }
+    ensures ends { (at : ℕ) → ends_at shelves.new at ≡ ends_at shelves.old at }
+    ensures waits { (x : Item) → waits_on shelves.new x ≡ waits_on shelves.old x }
+    ensures places { shelves.new.places ≡ shelves.old.places }
+{
+    for i in 0..changes.len() {
+        accept_at(shelves, changes, lists, i);
+    }
+}
+
+// The draft of the item at a place is taken back.
+fn discard_at(shelves: &mut Shelves, changes: &[ItemChange], i: usize)
+    requires shelved { AreShelved shelves.old }
+    requires place { i < length changes.now }
+    requires there { (c : ItemChange)
+        → IsSome (place_of shelves.old (slice_index_or changes.now i c).item) }
+    ensures shelved { AreShelved shelves.new }
+    ensures now { rows_of now shelves.new ≡ rows_of now shelves.old }
+    ensures drafts { (c : ItemChange) (x : Item) → HasDraft shelves.new x
+        → HasDraft shelves.old x × (same_item x (slice_index_or changes.now i c).item ≡ false) }
+    ensures ends { (at : ℕ) → ends_at shelves.new at ≡ ends_at shelves.old at }
+    ensures waits { (x : Item) → waits_on shelves.new x ≡ waits_on shelves.old x }
+    ensures places { shelves.new.places ≡ shelves.old.places }
+{
+    shelves.discard(&changes[i].item);
+}
+
+// What is stored is what is to be: the drafts are taken back.
+pub(crate) fn discard_changes(shelves: &mut Shelves, changes: &[ItemChange])
+    requires shelved { AreShelved shelves.old }
+    requires there { AllByRecursion (λ x. IsSome (place_of shelves.old x))
+        (map (λ c. c.item) changes.now) }
+    requires within { DraftsWithin (map (λ c. c.item) changes.now) shelves.old }
+    ensures shelved { AreShelved shelves.new }
+    ensures bare { AreBare shelves.new }
+    ensures now { rows_of now shelves.new ≡ rows_of now shelves.old }
+    ensures next { rows_of next shelves.new ≡ rows_of now shelves.old }
+    ensures ends { (at : ℕ) → ends_at shelves.new at ≡ ends_at shelves.old at }
+    ensures waits { (x : Item) → waits_on shelves.new x ≡ waits_on shelves.old x }
+    ensures places { shelves.new.places ≡ shelves.old.places }
+{
+    for i in 0..changes.len() {
+        discard_at(shelves, changes, i);
+    }
+}

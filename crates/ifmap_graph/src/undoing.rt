@@ -1,0 +1,115 @@
+//! A change that was made is taken back. No call takes memory.
+ghost use Rattle.std.specs.Prelude.{◌≡◌, ℕ, ◌<◌, List, IsSome, if◌then◌else◌, length, map, set, slice_index_or};
+ghost use Rattle.std.specs.BTreeMap.{is_at};
+ghost use Rattle.std.specs.List.{AllByRecursion};
+ghost use Rattle.ifmap_ident.specs.declared.items.Item.{Item};
+ghost use Rattle.ifmap_ident.specs.Items.{item_order};
+ghost use Rattle.ifmap_meta.specs.declared.stored.Stored.{Stored};
+ghost use Rattle.ifmap_plans.specs.declared.plans.ItemChange.{ItemChange};
+ghost use Rattle.ifmap_view.specs.declared.attachments.Attachment.{Attachment};
+ghost use Rattle.ifmap_view.specs.declared.views.LinkSeen.{LinkSeen};
+ghost use Rattle.ifmap_view.specs.Rows.{stored_on};
+ghost use Rattle.ifmap_graph.specs.Back.{IsWayBack, stand_each};
+ghost use Rattle.ifmap_graph.specs.Drafted.{AreBare, ends_at};
+ghost use Rattle.ifmap_graph.specs.Out.{items_of};
+ghost use Rattle.ifmap_graph.specs.Seen.{AwaitsLess, BringsNoNumbers, IsStill, KeepsOwn, links_now, rows_now};
+ghost use Rattle.ifmap_graph.specs.Shelved.{AreShelved, place_of, rows_of};
+ghost use Rattle.ifmap_graph.specs.Sides.{now};
+ghost use Rattle.ifmap_graph.specs.Waits.{waits_on};
+
+use crate::changes::Undo;
+use crate::graph::Graph;
+use crate::shelves::Shelves;
+use crate::ways::restore_all;
+use ifmap_elem::Many;
+use ifmap_ident::Item;
+use ifmap_ident::laws::bytes_tell_identifiers_apart;
+use ifmap_plans::ItemChange;
+use ifmap_view::Row;
+
+// A list stands on an item, and the list that was there comes in its place.
+fn exchange_one(shelves: &mut Shelves, item: &Item, list: &mut Many<Row>)
+    requires shelved { AreShelved shelves.old }
+    requires bare { AreBare shelves.old }
+    requires there { IsSome (place_of shelves.old item.now) }
+    ensures shelved { AreShelved shelves.new }
+    ensures bare { AreBare shelves.new }
+    ensures now { (x : Item) → stored_on x (rows_of now shelves.new)
+        ≡ (if is_at (item_order item.now) x then list.old
+        else stored_on x (rows_of now shelves.old)) }
+    ensures list { list.new ≡ stored_on item.now (rows_of now shelves.old) }
+    ensures ends { (at : ℕ) → ends_at shelves.new at ≡ ends_at shelves.old at }
+    ensures waits { (x : Item) → waits_on shelves.new x ≡ waits_on shelves.old x }
+    ensures places { shelves.new.places ≡ shelves.old.places }
+{
+    shelves.exchange(item, &mut list.0);
+}
+
+// The list at a place stands on the item there.
+fn exchange_at(shelves: &mut Shelves, changes: &[ItemChange], lists: &mut Vec<Many<Row>>, i: usize)
+    requires shelved { AreShelved shelves.old }
+    requires bare { AreBare shelves.old }
+    requires place { i < length changes.now }
+    requires room { i < length lists.old.items }
+    requires there { (c : ItemChange)
+        → IsSome (place_of shelves.old (slice_index_or changes.now i c).item) }
+    ensures shelved { AreShelved shelves.new }
+    ensures bare { AreBare shelves.new }
+    ensures now { (c : ItemChange) (list : List Stored) (x : Item)
+        → stored_on x (rows_of now shelves.new)
+        ≡ (if is_at (item_order (slice_index_or changes.now i c).item) x
+        then slice_index_or lists.old.items i list
+        else stored_on x (rows_of now shelves.old)) }
+    ensures lists { (c : ItemChange) → lists.new.items ≡ set lists.old.items i
+        (stored_on (slice_index_or changes.now i c).item (rows_of now shelves.old)) }
+    ensures ends { (at : ℕ) → ends_at shelves.new at ≡ ends_at shelves.old at }
+    ensures waits { (x : Item) → waits_on shelves.new x ≡ waits_on shelves.old x }
+    ensures places { shelves.new.places ≡ shelves.old.places }
+{
+    exchange_one(shelves, &changes[i].item, &mut lists[i]);
+}
+
+// The lists stand on the items of the changes, one after the other.
+fn exchange_changes(shelves: &mut Shelves, changes: &[ItemChange], lists: &mut Vec<Many<Row>>)
+    requires shelved { AreShelved shelves.old }
+    requires bare { AreBare shelves.old }
+    requires there { AllByRecursion (λ x. IsSome (place_of shelves.old x))
+        (map (λ c. c.item) changes.now) }
+    requires long { length lists.old.items ≡ length changes.now }
+    ensures shelved { AreShelved shelves.new }
+    ensures bare { AreBare shelves.new }
+    ensures now { (x : Item) → stored_on x (rows_of now shelves.new)
+        ≡ stand_each (map (λ c. c.item) changes.now) lists.old.items x
+        (stored_on x (rows_of now shelves.old)) }
+    ensures ends { (at : ℕ) → ends_at shelves.new at ≡ ends_at shelves.old at }
+    ensures waits { (x : Item) → waits_on shelves.new x ≡ waits_on shelves.old x }
+    ensures places { shelves.new.places ≡ shelves.old.places }
+{
+    for i in 0..changes.len() {
+        exchange_at(shelves, changes, lists, i);
+    }
+}
+
+impl Graph {
+    /// Takes back the change that was made last of those that can be: what was stored is stored
+    /// again. It takes no memory.
+    pub fn undo(&mut self, undo: Undo)
+        requires still { IsStill self.old }
+        requires back { (rows : List Attachment) × (links : ℕ → List LinkSeen)
+            × IsWayBack undo rows links self.old }
+        ensures back { (rows : List Attachment) (links : ℕ → List LinkSeen)
+            → IsWayBack undo rows links self.old
+            → (rows_now self.new ≡ rows) × ((v : ℕ) → links_now self.new v ≡ links v) }
+        ensures still { IsStill self.new }
+        ensures numbers { BringsNoNumbers self.old self.new }
+        ensures own { KeepsOwn self.old self.new }
+        ensures waits { AwaitsLess (items_of undo.plan.changes) self.old self.new }
+    {
+        let mut lists = undo.lists;
+        let mut ways = undo.ways;
+        bytes_tell_identifiers_apart();
+        exchange_changes(&mut self.shelves, &undo.plan.changes.0, &mut lists.0);
+        restore_all(&mut self.links, &mut ways.0);
+        self.release_waits(&undo.plan.changes.0);
+    }
+}

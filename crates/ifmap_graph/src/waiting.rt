@@ -1,0 +1,71 @@
+//! The items of a change that is out are waited for. No call takes memory.
+ghost use Rattle.std.specs.Prelude.{◌≡◌, ◌<◌, ◌-◌, ◌^◌, ◌++◌, ℕ, true, List, IsSome};
+ghost use Rattle.std.specs.List.{AllByRecursion, IsDistinct};
+ghost use Rattle.slab.specs.Slab.{get};
+ghost use Rattle.ifmap_ident.specs.declared.items.Item.{Item};
+ghost use Rattle.ifmap_ident.specs.Items.{same_item};
+ghost use Rattle.ifmap_graph.specs.Drafted.{ends_at};
+ghost use Rattle.ifmap_graph.specs.Out.{items_of};
+ghost use Rattle.ifmap_graph.specs.Shelved.{AreShelved, HasDraft, place_of, rows_of};
+ghost use Rattle.ifmap_graph.specs.Sides.{next, now};
+ghost use Rattle.ifmap_graph.specs.Waits.{AreWaited, waits_of, waits_on};
+
+use crate::shelves::{Shelf, Shelves};
+use ifmap_ident::Item;
+use ifmap_plans::ItemChange;
+use slab::Slab;
+
+// How often a slot is waited for.
+fn waits_in(slots: &Slab<Shelf>, at: usize) -> u64
+    ensures { result ≡ waits_of (get slots.now at) }
+{
+    match slots.get(at) {
+        Some(shelf) => shelf.waits,
+        None => 0,
+    }
+}
+
+// How often an item is waited for.
+fn waits_for(shelves: &Shelves, item: &Item) -> u64
+    ensures { result ≡ waits_on shelves.now item.now }
+{
+    match shelves.places.get(item) {
+        Some(at) => waits_in(&shelves.slots, *at),
+        None => 0,
+    }
+}
+
+/// Whether each item of a change can be waited for once more and still be counted.
+pub(crate) fn can_wait(shelves: &Shelves, changes: &[ItemChange]) -> bool
+    ensures { result ≡ true
+        → AllByRecursion (λ x. waits_on shelves.now x < 2 ^ 64 - 1) (items_of changes.now) }
+{
+    for change in changes {
+        if waits_for(shelves, &change.item) == u64::MAX {
+            return false;
+        }
+    }
+    true
+}
+
+/// The items of a change, which have shelves, are waited for once more.
+pub(crate) fn wait_for(shelves: &mut Shelves, changes: &[ItemChange])
+    requires shelved { AreShelved shelves.old }
+    requires there { AllByRecursion (λ x. IsSome (place_of shelves.old x)) (items_of changes.now) }
+    requires few { AllByRecursion (λ x. waits_on shelves.old x < 2 ^ 64 - 1)
+        (items_of changes.now) }
+    requires apart { IsDistinct same_item (items_of changes.now) }
+    ensures shelved { AreShelved shelves.new }
+    ensures now { rows_of now shelves.new ≡ rows_of now shelves.old }
+    ensures next { rows_of next shelves.new ≡ rows_of next shelves.old }
+    ensures waited { (rest : List Item) → AreWaited rest (waits_on shelves.old)
+        → AreWaited (items_of changes.now ++ rest) (waits_on shelves.new) }
+    ensures drafts { (x : Item) → HasDraft shelves.new x → HasDraft shelves.old x }
+    ensures kept { (x : Item) → HasDraft shelves.old x → HasDraft shelves.new x }
+    ensures ends { (at : ℕ) → ends_at shelves.new at ≡ ends_at shelves.old at }
+    ensures places { shelves.new.places ≡ shelves.old.places }
+{
+    for change in changes {
+        shelves.wait(&change.item);
+    }
+}

@@ -1,0 +1,13 @@
+//! Tests of plans: what publishes and retractions change, beside what another program says of them.
+#![tactic(auto)]
+
+#[cfg(test)]
+mod makers;
+#[cfg(test)]
+mod outside;
+#[cfg(test)]
+mod plans;
+#[cfg(test)]
+mod retractions;
+#[cfg(test)]
+mod telling;

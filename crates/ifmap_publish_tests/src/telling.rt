@@ -1,0 +1,119 @@
+//! Plans as texts.
+use ifmap_elem::{Attribute, Child, Element, Many};
+use ifmap_ident::{Identifier, Item};
+use ifmap_meta::Life;
+use ifmap_plans::{ItemChange, Note, Plan};
+use ifmap_view::Row;
+use std::alloc::{AllocError as NoMemory, Global};
+
+fn last_of(id: &Identifier) -> u8 {
+    match id {
+        Identifier::MacAddress { value, .. } => value[5],
+        _ => 0,
+    }
+}
+
+fn place_of(alloc: Global, item: &Item) -> Result<String, NoMemory> {
+    match item {
+        Item::One(a) => format!(in alloc; "{}", last_of(a)),
+        Item::Pair(a, b) => format!(in alloc; "{}-{}", last_of(a), last_of(b)),
+    }
+}
+
+fn text_of(element: &Element) -> &str {
+    match element.children.as_slice().first() {
+        Some(Child::Text(text)) => text.0.as_str(),
+        _ => "",
+    }
+}
+
+// The attribute of the moment, or nothing.
+fn time_of(attributes: &[Attribute]) -> &str {
+    for attribute in attributes {
+        if attribute.name.is_bare("ifmap-timestamp") {
+            return attribute.value.0.as_str();
+        }
+    }
+    ""
+}
+
+// The local name, the text and the moment of an element.
+fn element_text(alloc: Global, element: &Element) -> Result<String, NoMemory> {
+    format!(in alloc;
+        "{}({}) {}",
+        element.name.local.0.as_str(),
+        text_of(element),
+        time_of(element.attributes.as_slice())
+    )
+}
+
+fn life_text(alloc: Global, life: Life) -> Result<String, NoMemory> {
+    match life {
+        Life::Session(serial) => format!(in alloc; "{serial}"),
+        Life::Forever => String::from_str(alloc, "forever"),
+    }
+}
+
+fn push_row(alloc: Global, out: &mut String, sign: &str, row: &Row) -> Result<(), NoMemory> {
+    let stored = row.stored();
+    let element = element_text(alloc, stored.element.element())?;
+    let life = life_text(alloc, stored.life)?;
+    out.push_str(sign)?;
+    out.push_str(element.as_str())?;
+    out.push_str(" ")?;
+    out.push_str(stored.publisher.text().0.as_str())?;
+    out.push_str(" ")?;
+    out.push_str(life.as_str())
+}
+
+fn push_rows(alloc: Global, out: &mut String, sign: &str, rows: &[Row]) -> Result<(), NoMemory> {
+    for row in rows {
+        push_row(alloc, out, sign, row)?;
+    }
+    Ok(())
+}
+
+fn push_change(alloc: Global, out: &mut String, change: &ItemChange) -> Result<(), NoMemory> {
+    let place = place_of(alloc, &change.item)?;
+    out.push_str("[")?;
+    out.push_str(place.as_str())?;
+    out.push_str("]")?;
+    push_rows(alloc, out, " -", &change.removed.0)?;
+    push_rows(alloc, out, " +", &change.added.0)?;
+    out.push_str("\n")
+}
+
+fn push_note(alloc: Global, out: &mut String, note: &Note) -> Result<(), NoMemory> {
+    let place = place_of(alloc, note.item.item())?;
+    let element = element_text(alloc, note.element.element())?;
+    out.push_str("[")?;
+    out.push_str(place.as_str())?;
+    out.push_str("] !")?;
+    out.push_str(element.as_str())?;
+    out.push_str("\n")
+}
+
+fn push_notes(alloc: Global, out: &mut String, notes: &Many<Note>) -> Result<(), NoMemory> {
+    for note in &notes.0 {
+        push_note(alloc, out, note)?;
+    }
+    Ok(())
+}
+
+// A line for each item that changes, and then one for each note.
+fn told(alloc: Global, plan: &Plan) -> Result<String, NoMemory> {
+    let mut out = String::new(alloc);
+    for change in &plan.changes.0 {
+        push_change(alloc, &mut out, change)?;
+    }
+    push_notes(alloc, &mut out, &plan.notes)?;
+    Ok(out)
+}
+
+// Whether this is what a plan tells.
+pub(crate) fn is_told(alloc: Global, plan: &Plan, wanted: &str) -> bool {
+    match told(alloc, plan) {
+        Ok(text) => text.as_str() == wanted,
+        Err(_) => false,
+    }
+}

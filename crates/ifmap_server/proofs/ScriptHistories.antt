@@ -1,0 +1,69 @@
+-- The history of a script: it is legal, and its events are fit.
+use Rattle.std.proofs.Common.{◌≡◌, ℕ, ◌+◌, List, [], ◌∷◌, ◌++◌, length, Option, None, Some, IfSome, Ok, Err, refl, subst}
+use Rattle.std.specs.List.{AllByRecursion}
+use Rattle.ifmap_machine.specs.declared.events.Answer.{Answer}
+use Rattle.ifmap_machine.specs.Events.{Event, IsFitEvent}
+use Rattle.ifmap_machine.specs.Legal.{AreFit, History, LegalFrom}
+use Rattle.ifmap_machine.specs.State.{State}
+use Rattle.ifmap_machine.specs.Step.{step}
+use Rattle.ifmap_requests.specs.declared.errors.Refusal.TheVariants.{Named, Unreadable, NoMemory}
+use Rattle.ifmap_requests.specs.declared.requests.Request.{Request}
+use Rattle.ifmap_requests.specs.Fit.{IsFitRequest}
+use Rattle.ifmap_requests.specs.Means.{Means}
+use Rattle.ifmap_server.specs.BuiltRequests.{built_request_of}
+use Rattle.ifmap_server.specs.Frames.{Frame, IsFrame, Meaning, frame_text}
+use Rattle.ifmap_server.specs.Histories.{asked_by, asked_of, history_from}
+use Rattle.ifmap_server.specs.Output.{Asking, event_of, step_frame, step_meaning, step_request}
+use Rattle.ifmap_server.specs.Script.{IsScriptFrom}
+use Rattle.ifmap_server.proofs.AskedRequests.{request_fit}
+
+-- what a frame adds is legal, and so is what comes after it in each state
+legal_asked : (state : State) (event : Asking) (asked : Option Request) (rest : State → History) → ((s : State) → LegalFrom s (rest s))
+    → LegalFrom state (asked_of state event asked ++ rest (step_request state event asked).0)
+legal_asked state event None rest is = is state
+legal_asked state event (Some request) rest is = (refl, is (step state (event request)).0)
+
+legal_meaning : (state : State) (event : Asking) (meaning : Meaning) (rest : State → History) → ((s : State) → LegalFrom s (rest s))
+    → LegalFrom state (asked_by state event meaning ++ rest (step_meaning state event meaning).0)
+legal_meaning state event (Ok request) rest is = legal_asked state event (built_request_of request) rest is
+legal_meaning state event (Err (Named code)) rest is = is state
+legal_meaning state event (Err Unreadable) rest is = is state
+legal_meaning state event (Err NoMemory) rest is = is state
+
+pub history_legal : (state : State) (frames : List Frame) → LegalFrom state (history_from state frames)
+history_legal state [] = tt
+history_legal state (f ∷ frames) =
+    legal_meaning state (event_of f) f.meaning (λ s. history_from s frames) (λ s. history_legal s frames)
+
+-- what a frame adds is fit where each request is that its body can mean
+fit_asked : (state : State) (event : Asking) (asked : Option Request) (rest : History)
+    → ((request : Request) → asked ≡ Some request → IsFitEvent (event request)) → AreFit rest
+    → AreFit (asked_of state event asked ++ rest)
+fit_asked state event None rest fits is = is
+fit_asked state event (Some request) rest fits is = (fits request refl, is)
+
+fit_meaning : (state : State) (event : Asking) (meaning : Meaning) (rest : History)
+    → ((request asked : Request) → meaning ≡ Ok request → built_request_of request ≡ Some asked → IsFitEvent (event asked)) → AreFit rest
+    → AreFit (asked_by state event meaning ++ rest)
+fit_meaning state event (Ok request) rest fits is =
+    fit_asked state event (built_request_of request) rest (λ asked e. fits request asked refl e) is
+fit_meaning state event (Err refusal) rest fits is = is
+
+module _ (fits : (body : List ℕ) (request : Request) → Means body (Ok request) → IsFitRequest request) where
+  frame_fit : (f : Frame) → IsFrame f → Means f.body f.meaning → (request asked : Request) → f.meaning ≡ Ok request
+      → built_request_of request ≡ Some asked → IsFitEvent (event_of f asked)
+  frame_fit f is means request asked e moved =
+      record { client = is.client; ask = request_fit request asked moved (fits f.body request (subst (Means f.body) e means)) }
+
+  pub history_fit : (offset : ℕ) (bytes : List ℕ) (frames : List Frame) (fault : Option ℕ) (state : State)
+      → IsScriptFrom offset bytes frames fault → AreFit (history_from state frames)
+  history_fit offset bytes [] fault state is = tt
+  history_fit offset bytes (f ∷ frames) fault state is =
+      fit_meaning state (event_of f) f.meaning (history_from (step_frame state f).0 frames)
+      (frame_fit f is.1.fits is.2)
+      (history_fit (offset + length (frame_text f)) is.0 frames fault (step_frame state f).0 is.3)
+
+-- what is so of all bytes is so of those that a source has left, where it tells them
+pub so_of_left : (P : List ℕ → Type 0) (left : Option (List ℕ)) → ((bytes : List ℕ) → P bytes) → IfSome left P
+so_of_left P None so = tt
+so_of_left P (Some bytes) so = so bytes

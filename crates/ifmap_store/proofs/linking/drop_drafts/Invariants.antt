@@ -1,5 +1,0 @@
-use Rattle.ifmap_store.proofs.Readying.{Dropping}
-use Rattle.ifmap_store.proofs.linking.drop_drafts.Given as goal
-
-abbrev pub invariant-loop-way : goal.invariant-loop-way
-invariant-loop-way l = Dropping l.initial.links.items l.ways l.links.items l.way-index
