@@ -1,0 +1,17 @@
+-- Lemmas, in reading order: clauses on results; lists place by place, and beside flags; numbers that are held, and steady graphs; what is
+-- marked, settled and taken back; what is told of a change; one graph of what is stored, and what stays whole; where subscriptions start;
+-- a change that comes to be out, and is made or given up; what is published and taken away.
+pub mod Results
+pub mod EachPlace
+pub mod Flags
+pub mod Numbers
+pub mod Steady
+pub mod Marking
+pub mod Settling
+pub mod Told
+pub mod OneGraph
+pub mod Whole
+pub mod Starts
+pub mod Begun
+pub mod Making
+pub mod Taken

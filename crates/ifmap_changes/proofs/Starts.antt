@@ -1,0 +1,98 @@
+-- Where subscriptions start: they are few enough for the graph to hold each start (`few_starts`); starts have their numbers still where
+-- numbers only come (`numbered_more`), and are held for subscriptions that keep their searches (`numbered_beside`, `own_beside`).
+use Rattle.std.proofs.Common.{◌≡◌, inl, inr, ℕ, ◌*◌, ◌≤◌, ◌==◌, Bool, true, false, not, cond, Some, List, [], ◌∷◌, length, map, ap, ◌∙◌, sym, subst, arith}
+use Rattle.std.proofs.lemmas.Bool.{cases_Bool}
+use Rattle.std.proofs.lemmas.Bool.Decides.{nat_tests}
+use Rattle.std.proofs.lemmas.List.{length-map}
+use Rattle.std.proofs.lemmas.List.Sums.{sum_by-cons}
+use Rattle.std.specs.List.{AllByRecursion, filter}
+use Rattle.std.specs.Ordering.{is_eq}
+use Rattle.ifmap_lemmas.specs.Filters.{all_weaker}
+use Rattle.ifmap_delta.specs.Ways.{HasSameSearch}
+use Rattle.ifmap_ident.specs.declared.identifiers.Identifier.{Identifier}
+use Rattle.ifmap_ident.specs.Identifiers.{identifier_order}
+use Rattle.ifmap_machine.specs.State as machine
+use Rattle.ifmap_machine.specs.State.{standing_in}
+use Rattle.ifmap_machine.specs.Subscribing.{most_names}
+use Rattle.ifmap_pool.specs.Holdings.{key_at, once}
+use Rattle.ifmap_session.specs.Sessions.{IsLive, Session, most_sessions}
+use Rattle.ifmap_standing.specs.declared.standing.Standing.{Standing}
+use Rattle.ifmap_standing.specs.Kept.{AtEach, Stands}
+use Rattle.ifmap_standing.specs.Standing.{shown}
+use Rattle.ifmap_graph.specs.Held.{Held, IsOwn}
+use Rattle.ifmap_graph.specs.Seen.{HasFewOwn, KeepsNumbers}
+use Rattle.ifmap_changes.specs.Between.{AreOrdered, IsNumbered, IsSteady, starts_of}
+use Rattle.ifmap_changes.proofs.Flags.{filter_shorter, split_long}
+use Rattle.ifmap_changes.proofs.EachPlace.{same_all}
+use Rattle.ifmap_changes.proofs.Steady.{same_starts}
+use Rattle.ifmap_changes.proofs.Told.{all_shown}
+
+-- ---- starts
+
+once_few : (a b : Identifier) → once identifier_order a b ≤ 1
+once_few a b = by (is_eq (identifier_order a b))
+  where
+    by : (t : Bool) → cond {A = ℕ} t 1 0 ≤ 1
+    by true = omega arith
+    by false = omega arith
+
+starts_few : (a : Identifier) (xs : List Standing) → starts_of a xs ≤ length xs
+starts_few a [] = omega arith
+starts_few a (x ∷ xs) =
+    let sum = sum_by-cons (λ (z : Standing). once identifier_order z.subscription.search.start a) x xs
+    in let one = once_few x.subscription.search.start a
+    in let rest = starts_few a xs
+    in omega (arith, sum, one, rest)
+
+-- where each stands in one of some sessions, and so many in each, there are not more than so many for each session
+most_standing : (k : ℕ) (live : List Session) (ys : List machine.Standing)
+    → AllByRecursion (λ (y : machine.Standing). IsLive y.serial live) ys → ((n : ℕ) → length (standing_in n ys) ≤ k)
+    → length ys ≤ length live * k
+most_standing k [] [] h few = omega arith
+most_standing k [] (y ∷ ys) h few = let wrong : false ≡ true = h.0 in cc
+most_standing k (s ∷ live) ys h few =
+    let mine : machine.Standing → Bool = λ y. y.serial == s.serial
+    in let others = filter (λ y. not (mine y)) ys
+    in let left : AllByRecursion (λ (y : machine.Standing). IsLive y.serial live) others
+    = live_others ys h
+    in let fewer : (n : ℕ) → length (standing_in n others) ≤ k
+    = λ n. let shorter = filter_shorter (λ (y : machine.Standing). y.serial == n) (λ y. not (mine y)) ys in omega (arith, shorter, few n)
+    in let rest = most_standing k live others left fewer
+    in omega (arith, rest, few s.serial, split_long mine ys)
+  where
+    live_others : (zs : List machine.Standing) → AllByRecursion (λ (y : machine.Standing). IsLive y.serial (s ∷ live)) zs
+        → AllByRecursion (λ (y : machine.Standing). IsLive y.serial live) (filter (λ y. not (y.serial == s.serial)) zs)
+    live_others [] h = tt
+    live_others (z ∷ zs) h = elim (cases_Bool (z.serial == s.serial)) [
+      | inl t ↦ rw t (live_others zs h.1)
+      | inr t ↦
+          let other : (s.serial == z.serial) ≡ false = grind (arith, nat_tests, t)
+          in let there : IsLive z.serial live = rw other at h.0
+          in rw t (there, live_others zs h.1)
+    ]
+
+pub few_starts : (live : List Session) (standing : List Standing) → length live ≤ most_sessions → AreOrdered live standing → (h : Held)
+    → IsSteady h standing → HasFewOwn h
+few_starts live standing few o h steady a =
+    let long = most_standing most_names live (map shown standing)
+    (all_shown (λ y. IsLive y.serial live) standing o.live) o.few
+    in (starts_of a standing, steady.own a, omega (arith, few, long, starts_few a standing, length-map standing shown))
+
+-- the numbers of starts stay where each has the one that it had
+abbrev pub AreNumbered : Held → List Standing → Type 0
+AreNumbered h standing = AllByRecursion (IsNumbered h) standing
+
+pub numbered_more : (old new : Held) (standing : List Standing) → KeepsNumbers old new → AreNumbered old standing → AreNumbered new standing
+numbered_more old new standing keeps numbered =
+    all_weaker (IsNumbered old) (IsNumbered new)
+    (λ x e. keeps x.subscription.region.start x.subscription.search.start e) standing numbered
+
+pub numbered_beside : (h : Held) (old new : List Standing) → AtEach (λ _. Stands HasSameSearch) old new → AreNumbered h old
+    → AreNumbered h new
+numbered_beside h old new same numbered =
+    same_all (IsNumbered h) (IsNumbered h) (λ _. Stands HasSameSearch)
+    (λ i x y s e. ap (key_at h.names) s.subscription.start ∙ e ∙ ap (λ t. Some t.start) (sym s.subscription.search)) old new same numbered
+
+pub own_beside : (h : Held) (old new : List Standing) → AtEach (λ _. Stands HasSameSearch) old new
+    → ((a : Identifier) → IsOwn h a (starts_of a old)) → (a : Identifier) → IsOwn h a (starts_of a new)
+own_beside h old new same own a = subst (IsOwn h a) (sym (same_starts a old new same)) (own a)

@@ -1,0 +1,84 @@
+-- A graph stays steady where numbers go and the holds of others stay: for subscriptions with the same searches.
+use Rattle.std.proofs.Common.{◌≡◌, ℕ, ◌+◌, ◌≤◌, cond, Some, List, [], ◌∷◌, ◌++◌, append-nil, refl, ap, ◌∙◌, sym, subst, arith}
+use Rattle.std.proofs.lemmas.List.Sums.{sum_by-append}
+use Rattle.std.specs.List.{AllByRecursion}
+use Rattle.std.specs.Ordering.{is_eq}
+use Rattle.ifmap_changes.specs.Between.{IsNumbered, IsSeen, IsSteady, starts_of}
+use Rattle.ifmap_changes.proofs.EachPlace.{same_all, same_sum, within_sum}
+use Rattle.ifmap_changes.proofs.Numbers.{Tells, number_stays}
+use Rattle.ifmap_delta.specs.Ways.{HasSameSearch}
+use Rattle.ifmap_graph.specs.Held.{Held, IsOwn}
+use Rattle.ifmap_graph.specs.Seen.{BringsNoNumbers, IsStill, KeepsOwn, rows_now}
+use Rattle.ifmap_ident.specs.declared.identifiers.Identifier.{Identifier}
+use Rattle.ifmap_ident.specs.Identifiers.{identifier_bytes, identifier_order}
+use Rattle.ifmap_lemmas.specs.Members.{all_both, both_all}
+use Rattle.ifmap_lemmas.specs.Texts.{slice_cmp-same}
+use Rattle.ifmap_plans.specs.Plans.{AreWhole}
+use Rattle.ifmap_pool.specs.Holdings.{key_at, once}
+use Rattle.ifmap_standing.specs.declared.standing.Standing.{Standing}
+use Rattle.ifmap_standing.specs.Kept.{AtEach, Stands}
+
+abbrev pub HaveSameSearches : List Standing → List Standing → Type 0
+HaveSameSearches old new = AtEach (λ _. Stands HasSameSearch) old new
+
+abbrev starts_at : Identifier → Standing → ℕ
+starts_at a x = once identifier_order x.subscription.search.start a
+
+-- a start is one
+one_start : (a : Identifier) → once identifier_order a a ≡ 1
+one_start a = ap (λ o. cond {A = ℕ} (is_eq o) 1 0) (slice_cmp-same (identifier_bytes a) (identifier_bytes a) refl)
+
+-- subscriptions with the same searches start alike
+pub same_starts : (a : Identifier) (old new : List Standing) → HaveSameSearches old new → starts_of a new ≡ starts_of a old
+same_starts a old new s =
+    same_sum (starts_at a) (λ _. Stands HasSameSearch)
+    (λ i x y t. ap (λ b. once identifier_order b a) (ap (λ z. z.start) t.subscription.search)) old new s
+
+starts_with : (a : Identifier) (xs ys : List Standing) → starts_of a (xs ++ ys) ≡ starts_of a xs + starts_of a ys
+starts_with a xs ys = sum_by-append (starts_at a) xs ys
+
+-- each that has the number of its start has it still
+pub numbered_still : Tells → (old new : Held) → IsSeen old → BringsNoNumbers old new → (all : List Standing)
+    → AllByRecursion (IsNumbered old) all → ((a : Identifier) → IsOwn new a (starts_of a all)) → AllByRecursion (IsNumbered new) all
+numbered_still tells old new seen fewer all numbered own = each all numbered (λ a. within_sum (starts_at a) all)
+  where
+    each : (xs : List Standing) → AllByRecursion (IsNumbered old) xs
+        → ((a : Identifier) → AllByRecursion (λ x. starts_at a x ≤ starts_of a all) xs) → AllByRecursion (IsNumbered new) xs
+    each [] h k = tt
+    each (x ∷ xs) h k =
+        let a : Identifier = x.subscription.search.start in
+        let one = one_start a in
+        let some : 1 ≤ starts_of a all = omega (arith, one, (k a).0) in (
+          number_stays tells old new seen fewer x.subscription.region.start a (starts_of a all) h.0 (own a) some,
+          each xs h.1 (λ b. (k b).1),
+        )
+
+pub all_numbered : Tells → (old new : Held) → IsSeen old → BringsNoNumbers old new → KeepsOwn old new → (all : List Standing)
+    → IsSteady old all → AllByRecursion (IsNumbered new) all
+all_numbered tells old new seen fewer own all s =
+    numbered_still tells old new seen fewer all s.numbered (λ a. own a (starts_of a all) (s.own a))
+
+-- so the graph is steady for those that came in their places, beside others
+pub steady_beside : Tells → (old new : Held) → IsSeen old → IsStill new → AreWhole (rows_now new) → BringsNoNumbers old new
+    → KeepsOwn old new → (xs ys more : List Standing) → HaveSameSearches xs ys → IsSteady old (xs ++ more) → IsSteady new (ys ++ more)
+steady_beside tells old new seen still whole fewer own xs ys more same s =
+    let numbered = all_both (IsNumbered new) xs more (all_numbered tells old new seen fewer own (xs ++ more) s) in
+    record {
+      still = still;
+      whole = whole;
+      own = λ a. subst (λ n. IsOwn new a n)
+          (starts_with a xs more ∙ ap (λ n. n + starts_of a more) (sym (same_starts a xs ys same)) ∙ sym (starts_with a ys more))
+          (own a (starts_of a (xs ++ more)) (s.own a));
+      numbered = both_all (IsNumbered new) ys more (same_all (IsNumbered new) (IsNumbered new) (λ _. Stands HasSameSearch)
+          (λ i x y t n. moved x y t n) xs ys same numbered.0) numbered.1;
+    }
+  where
+    moved : (x y : Standing) → Stands HasSameSearch x y → IsNumbered new x → IsNumbered new y
+    moved x y t n = ap (key_at new.names) t.subscription.start ∙ n ∙ ap (λ z. Some z.start) (sym t.subscription.search)
+
+-- and without others
+pub steady_after : Tells → (old new : Held) → IsSeen old → IsStill new → AreWhole (rows_now new) → BringsNoNumbers old new
+    → KeepsOwn old new → (xs ys : List Standing) → HaveSameSearches xs ys → IsSteady old xs → IsSteady new ys
+steady_after tells old new seen still whole fewer own xs ys same s =
+    subst (IsSteady new) (append-nil ys)
+    (steady_beside tells old new seen still whole fewer own xs ys [] same (subst (IsSteady old) (sym (append-nil xs)) s))

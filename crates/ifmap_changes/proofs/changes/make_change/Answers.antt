@@ -1,0 +1,35 @@
+use Rattle.std.proofs.Common.{◌≢◌, ◌∙◌, [], append-nil, subst, sym}
+use Rattle.ifmap_session.specs.Sessions.{Table}
+use Rattle.ifmap_tellings.specs.Tellings.{HasSameSessions}
+use Rattle.ifmap_changes.specs.Between.{IsSteady}
+use Rattle.ifmap_changes.proofs.Begun.{searches_twice}
+use Rattle.ifmap_changes.proofs.Flags.{kept_later}
+use Rattle.ifmap_changes.proofs.changes.make_change.Goals as goal
+
+pub returns-clause-steady : goal.returns-clause-steady
+returns-clause-steady g c =
+    let made = c.in_ok-made.ensures
+    in let mid = c.make_kept.new.parts
+    in let new = c.settle_made.new.parts
+    in subst (IsSteady new.graph) (append-nil new.standing.items) (c.settle_made.ensures.steady []
+    (subst (IsSteady mid.graph) (sym (append-nil mid.standing.items)) made.steady))
+
+pub returns-clause-bare : goal.returns-clause-bare
+returns-clause-bare g c = λ n bare.
+    let made = c.in_ok-made.ensures
+    in let same = c.settle_made.ensures.settled.searches
+    in let gone = c.make_kept.new.pending.gone.items
+    in kept_later (λ x. x.serial ≢ n) (λ x. x.serial ≢ n) gone gone c.make_kept.new.parts.standing.items
+    c.settle_made.new.parts.standing.items made.ready.flags same.long
+    (λ i x y p q other e. other (sym (same.at i x y p q).serial ∙ e)) (λ i e. e) (made.bare n bare)
+
+pub returns-clause-turned : goal.returns-clause-turned
+returns-clause-turned g c =
+    let made = c.in_ok-made.ensures
+    in let settled = c.settle_made.ensures.settled
+    in record {
+      waits = λ rest w. c.settle_made.ensures.waits rest (made.waits rest w);
+      searches = searches_twice c.args.parts.now.standing.items c.make_kept.new.parts.standing.items
+          c.settle_made.new.parts.standing.items made.turned.searches settled.searches;
+      sessions = subst (λ (t : Table). HasSameSessions c.args.parts.now.sessions t) (sym settled.sessions) made.turned.sessions;
+    }

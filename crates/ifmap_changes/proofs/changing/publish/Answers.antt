@@ -1,0 +1,38 @@
+use Rattle.std.proofs.Common.{◌≡◌, sym, ◌∙◌, subst, ap}
+use Rattle.std.specs.List.{AllByRecursion}
+use Rattle.ifmap_changes.specs.Between.{AreKept, so_far}
+use Rattle.ifmap_changes.proofs.Results.{at_err, where_ok}
+use Rattle.ifmap_changes.proofs.Taken.{author_of, kept_itself, notes_canon}
+use Rattle.ifmap_changes.proofs.changing.publish.Goals as goal
+use Rattle.ifmap_graph.specs.Seen.{rows_now}
+use Rattle.ifmap_ident.specs.Items.{IsCanonItem}
+use Rattle.ifmap_machine.specs.Telling.{overflow, tell}
+use Rattle.ifmap_plans.specs.declared.plans.Note.{Note}
+use Rattle.ifmap_plans.specs.Plans.{IsAfter}
+use Rattle.ifmap_publish.specs.Apply.{Authorship, apply}
+use Rattle.ifmap_publish.specs.Notes.{notes_of}
+
+pub make_change-requires-clause-canon : goal.make_change-requires-clause-canon
+make_change-requires-clause-canon g c =
+    let inner : Authorship = record { client = c.asking.inside.client.now; serial = c.args.serial; moment = c.asking.inside.moment } in
+    subst (λ notes. AllByRecursion (λ (n : Note). IsCanonItem n.item) notes) (sym c.in_ok-plan.ensures.notes)
+    (notes_canon inner c.args.ops.now c.requires.fit)
+
+pub returns-clause-told : goal.returns-clause-told
+returns-clause-told g c =
+    let before = so_far c.args.asking.now c.args.parts.now c.args.pending.now in
+    let first = rows_now c.args.parts.now.graph in
+    let ops = c.args.ops.now in
+    let inner : Authorship = record { client = c.asking.inside.client.now; serial = c.args.serial; moment = c.asking.inside.moment } in
+    let by : Authorship = author_of c.args.serial c.args.asking.now in
+    let same : inner ≡ by = ap (author_of c.args.serial) c.asking.view_is in
+    let applies : IsAfter c.in_ok-plan.plan.changes first (apply first inner ops) = c.in_ok-plan.ensures.applies in
+    where_ok c.make_change.result _ _ (λ f. f (apply first by ops)
+    (c.publishing_keeps_graphs.ensures.graph first by ops c.requires.fit c.tell_graph.ensures)
+    (subst (λ a. IsAfter c.in_ok-plan.plan.changes first (apply first a ops)) same applies)
+    ∙ ap (λ notes. overflow (tell (apply first by ops) notes before)) (c.in_ok-plan.ensures.notes ∙ ap (λ a. notes_of a ops) same))
+    c.make_change.ensures.told
+
+pub returns-in_err-plan-clause-kept : goal.returns-in_err-plan-clause-kept
+returns-in_err-plan-clause-kept g c =
+    at_err c.from_residual.result (AreKept c.args.parts.now c.args.parts.now) (kept_itself c.args.parts.now c.requires.steady)

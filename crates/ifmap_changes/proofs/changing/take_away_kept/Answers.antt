@@ -1,0 +1,32 @@
+use Rattle.std.proofs.Common.{sym, ◌∙◌, subst, ap}
+use Rattle.std.specs.List.{AllByRecursion}
+use Rattle.ifmap_changes.specs.Between.{AreKept, so_far}
+use Rattle.ifmap_changes.proofs.Results.{at_err, where_ok, where_value}
+use Rattle.ifmap_changes.proofs.Taken.{can_settle, kept_itself}
+use Rattle.ifmap_changes.proofs.changing.take_away_kept.Goals as goal
+use Rattle.ifmap_graph.specs.Seen.{rows_now}
+use Rattle.ifmap_ident.specs.Items.{IsCanonItem}
+use Rattle.ifmap_machine.specs.Telling.{overflow, tell}
+use Rattle.ifmap_plans.specs.declared.plans.Note.{Note}
+use Rattle.ifmap_publish.specs.Retract.{retract}
+
+pub make_kept-requires-clause-canon : goal.make_kept-requires-clause-canon
+make_kept-requires-clause-canon g c =
+    subst (λ notes. AllByRecursion (λ (n : Note). IsCanonItem n.item) notes) (sym c.in_ok-plan.ensures.notes) tt
+
+pub returns-clause-told : goal.returns-clause-told
+returns-clause-told g c =
+    let before = so_far c.args.asking.now c.args.parts.now c.args.pending.now in
+    let rows = retract c.args.who.now (rows_now c.args.parts.now.graph) in
+    where_ok c.make_kept.result _ _ (λ f. f rows (c.retracting_keeps_graphs.ensures.graph c.args.who.now
+    (rows_now c.args.parts.now.graph) c.tell_graph.ensures) c.in_ok-plan.ensures.applies
+    ∙ ap (λ notes. overflow (tell rows notes before)) c.in_ok-plan.ensures.notes) c.make_kept.ensures.told
+
+pub returns-clause-settle : goal.returns-clause-settle
+returns-clause-settle g c =
+    where_value c.make_kept.result _ _ _ (λ made can _. can_settle made c.args.parts.now c.make_kept.new.parts can)
+    c.make_kept.ensures.back c.make_kept.ensures.turned
+
+pub returns-in_err-plan-clause-kept : goal.returns-in_err-plan-clause-kept
+returns-in_err-plan-clause-kept g c =
+    at_err c.from_residual.result (AreKept c.args.parts.now c.args.parts.now) (kept_itself c.args.parts.now c.requires.steady)

@@ -1,0 +1,95 @@
+-- Changes of the graph while an event is answered, and their ways back.
+use Rattle.std.specs.Prelude.{◌≡◌, ◌≤◌, ◌==◌, ◌||◌, ℕ, Bool, true, List, [], ◌∷◌, Some, length, map, slice_get, vec_capacity, vec_len}
+use Rattle.std.specs.List.{list_any, zip}
+use Rattle.ifmap_changes.specs.Between.{Asking, IsSeen, SharesNumbers, rest_of, sight_now, so_far}
+use Rattle.ifmap_changes.specs.declared.changes.Made.{Made}
+use Rattle.ifmap_changes.specs.declared.parts.Parts.{Parts}
+use Rattle.ifmap_tellings.specs.declared.tellings.Pending.{Pending}
+use Rattle.ifmap_tellings.specs.Tellings.{AllKept, AloneAreBare, CanTell, EachTelling, HasSameSessions, IsSized}
+use Rattle.ifmap_delta.specs.Changes.{ShowsAfter}
+use Rattle.ifmap_delta.specs.Sights.{IsKept, Sight}
+use Rattle.ifmap_delta.specs.Ways.{HasSameSearch}
+use Rattle.ifmap_machine.specs.Ending.{without_standing}
+use Rattle.ifmap_machine.specs.State.{State}
+use Rattle.ifmap_machine.specs.Telling.{overflow, tell}
+use Rattle.ifmap_plans.specs.declared.plans.Note.{Note}
+use Rattle.ifmap_plans.specs.declared.plans.Plan.{Plan}
+use Rattle.ifmap_pool.specs.Holdings.{key_at}
+use Rattle.ifmap_publish.specs.declared.who.Who.TheVariants.{Sessions}
+use Rattle.ifmap_publish.specs.Retract.{retract}
+use Rattle.ifmap_standing.specs.declared.standing.Standing.{Standing}
+use Rattle.ifmap_standing.specs.Kept.{AtEach, Stands}
+use Rattle.ifmap_standing.specs.Ways.{LeadBack}
+use Rattle.ifmap_graph.specs.declared.changes.Ready.{Ready}
+use Rattle.ifmap_graph.specs.Back.{IsWayBack, KeepsBacks}
+use Rattle.ifmap_graph.specs.Held.{Held}
+use Rattle.ifmap_graph.specs.Out.{IsOut, items_of}
+use Rattle.ifmap_graph.specs.Seen.{Awaits, AwaitsMore, BringsNoNumbers, KeepsNumbers, KeepsOwn, links_next, links_now, rows_next, rows_now}
+use Rattle.ifmap_view.specs.Views.{IsView}
+
+-- the graph as it is to be, as subscriptions see it
+abbrev pub sight_next : Held → Sight
+sight_next h = record { rows = rows_next h; id_at = key_at h.names; links = links_next h }
+
+-- the state with the graph as it is to be
+abbrev pub with_next : Asking → Parts → Pending → State
+with_next a parts pending = record (so_far a parts pending) { graph = rows_next parts.graph }
+
+-- a change of a graph is out: what is seen of the graph is as it was but for numbers that came, and what is to be seen is what the plan
+-- makes of it
+pub record IsBegun (ready : Ready) (wanted : Plan) (old new : Held) : Type 0 where
+  pub out : IsOut ready new
+  pub plan : ready.plan ≡ wanted
+  pub before : IsSeen old
+  pub now : IsSeen new
+  pub next : IsView (rows_next new) (key_at new.names) (links_next new)
+  pub change : ShowsAfter (sight_now new) (sight_next new) wanted.changes
+  pub rows : rows_now new ≡ rows_now old
+  pub links : (v : ℕ) → links_now new v ≡ links_now old v
+  pub numbers : KeepsNumbers old new
+  pub own : KeepsOwn old new
+  pub waits : AwaitsMore (items_of wanted.changes) old new
+  pub backs : KeepsBacks old new
+
+-- the subscriptions were told of a change that is out: they keep what the graph is to have, and what is pending of the sessions is what
+-- they are told, none of it greater than a limit
+pub record IsTold (a : Asking) (old : Parts) (before : Pending) (notes : List Note) (new : Parts) (after : Pending) : Type 0 where
+  pub state : with_next a new after ≡ overflow (tell (rows_next old.graph) notes (so_far a old before))
+  pub kept : AllKept (λ x. IsKept (sight_next new.graph) x.subscription) after.gone.items new.standing.items
+  pub flags : length after.gone.items ≡ length new.standing.items
+  -- what was gone is
+  pub gone : (i : ℕ) → slice_get before.gone.items i ≡ Some true → slice_get after.gone.items i ≡ Some true
+  pub can_tell : EachTelling (CanTell (rest_of a new.sessions)) after.tellings
+  pub sized : EachTelling (λ n t. IsSized n t new.sessions.live) after.tellings
+  pub alone : AloneAreBare after.tellings after.gone.items new.standing.items
+
+-- a change can be left as it is: its items are waited for
+pub record CanSettle (made : Made) (parts : Parts) : Type 0 where
+  pub waits : Awaits (items_of made.undo.plan.changes) parts.graph
+  pub ways : length made.ways ≤ length parts.standing.items
+
+-- a change can be taken back, and then all is what it was before
+pub record CanTakeBack (made : Made) (before parts : Parts) : Type 0 where
+  pub graph : IsWayBack made.undo (rows_now before.graph) (links_now before.graph) parts.graph
+  pub numbers : SharesNumbers before.graph parts.graph
+  pub standing : LeadBack before.standing.items made.ways parts.standing.items
+  pub sessions : HasSameSessions before.sessions parts.sessions
+
+-- a change was left as it is: nothing that is seen changes
+pub record IsSettled (old new : Parts) : Type 0 where
+  pub rows : rows_now new.graph ≡ rows_now old.graph
+  pub links : (v : ℕ) → links_now new.graph v ≡ links_now old.graph v
+  pub numbers : BringsNoNumbers old.graph new.graph
+  pub searches : AtEach (λ _. Stands HasSameSearch) old.standing.items new.standing.items
+  pub len : vec_len new.standing ≡ vec_len old.standing
+  pub capacity : vec_capacity new.standing ≡ vec_capacity old.standing
+  pub sessions : new.sessions ≡ old.sessions
+
+-- also gone are the subscriptions of these sessions
+abbrev pub gone_with : List ℕ → List Bool → List Standing → List Bool
+gone_with serials gone standing = map (λ (p : Bool × Standing). p.0 || list_any (λ n. n == p.1.serial) serials) (zip gone standing)
+
+-- the state once a session's subscriptions stand no longer, and the others are told what goes with it
+abbrev pub taken_one : ℕ → State → State
+taken_one n state =
+    overflow (tell (retract (Sessions (n ∷ [])) state.graph) [] (record state { standing = without_standing (n ∷ []) state.standing }))

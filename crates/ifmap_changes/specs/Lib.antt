@@ -1,0 +1,3 @@
+-- Parts of the machine and changes of its graph, in reading order.
+pub mod Between
+pub mod Changes

@@ -1,0 +1,347 @@
+//! Changes of the graph, with all that the sessions are to be told of them.
+ghost use Rattle.std.specs.Prelude.{◌≡◌, ◌≢◌, ◌<◌, ◌≤◌, ◌==◌, ◌∷◌, ◌++◌, ℕ, true, false, [], List, Some, IfOk, OnErr, OnOk, if◌then◌else◌, length, map, set, slice_get, vec_capacity, vec_len};
+ghost use Rattle.std.specs.List.{AllByRecursion, list_any};
+ghost use Rattle.std.specs.List.Sorted.{IsStrictlySortedBy};
+ghost use Rattle.std.specs.Ordering.{nat_cmp};
+ghost use Rattle.ifmap_changes.specs.Between.{AreBack, AreKept, AreOrdered, AreParts, AreTurned, Asking, IsBare, IsReady, IsSteady, sight_now, so_far};
+ghost use Rattle.ifmap_changes.specs.Changes.{CanSettle, CanTakeBack, IsBegun, IsSettled, IsTold, gone_with, sight_next};
+ghost use Rattle.ifmap_changes.specs.declared.parts.Parts.{Parts};
+ghost use Rattle.ifmap_tellings.specs.declared.tellings.Pending.{Pending};
+ghost use Rattle.ifmap_tellings.specs.Tellings.{AllKept, HasSameSessions, kept_of};
+ghost use Rattle.ifmap_delta.specs.Changes.{ShowsAfter};
+ghost use Rattle.ifmap_delta.specs.Sights.{IsKept};
+ghost use Rattle.ifmap_delta.specs.Ways.{HasSameSearch};
+ghost use Rattle.ifmap_ident.specs.declared.items.Item.{Item};
+ghost use Rattle.ifmap_ident.specs.Items.{IsCanonItem};
+ghost use Rattle.ifmap_machine.specs.Ending.{without_standing};
+ghost use Rattle.ifmap_machine.specs.Telling.{overflow, tell};
+ghost use Rattle.ifmap_plans.specs.Plans.{Fits, IsAfter};
+ghost use Rattle.ifmap_standing.specs.Kept.{AtEach, KeepsSame, Stands};
+ghost use Rattle.ifmap_standing.specs.declared.standing.Standing.{Standing};
+ghost use Rattle.ifmap_standing.specs.News.{news_of_each};
+ghost use Rattle.ifmap_standing.specs.Standing.{shown};
+ghost use Rattle.ifmap_standing.specs.Ways.{LeadBack};
+ghost use Rattle.ifmap_standing.specs.Ways as the_ways;
+ghost use Rattle.ifmap_graph.specs.Out.{items_of};
+ghost use Rattle.ifmap_graph.specs.Seen.{Awaits, AwaitsMore, KeepsNumbers, rows_next, rows_now};
+ghost use Rattle.ifmap_view.specs.declared.attachments.Attachment.{Attachment};
+ghost use Rattle.ifmap_view.specs.Attachments.{IsGraph};
+
+use crate::asking::Asking;
+use crate::parts::Parts;
+use crate::views::tell_view;
+use ifmap_graph::{Draft, Ready, Undo};
+use ifmap_ident::laws::bytes_tell_identifiers_apart;
+use ifmap_plans::Plan;
+use ifmap_standing::laws::{same_links_keep_subscriptions, same_marks_keep_subscriptions};
+use ifmap_standing::{GraphChange, Standing, Told, Ways, settle, take_back, tell_change};
+use ifmap_steps::Steps;
+use ifmap_tellings::tellings::{Pending, queue_news};
+use ifmap_view::View;
+use std::alloc::{AllocError as NoMemory, Global};
+use std::sync::ledger::Ledger;
+
+/// A change that was made, with its ways back: of the graph, and of the subscriptions.
+#[derive(Drop)]
+pub struct Made {
+    /// That of the graph.
+    pub undo: Undo,
+    /// Those of the subscriptions.
+    pub ways: Ways,
+}
+
+/// What a view stores is a graph: what holds of every view. It takes no memory.
+pub fn tell_graph<V: View>(alloc: Global, view: &V)
+    ensures { IsGraph (V.rows view.now) }
+{
+    tell_view(alloc, view);
+}
+
+/// Makes a change, for good. After want of memory nothing is made.
+pub fn make_change<L: Ledger>(
+    alloc: Global,
+    parts: &mut Parts,
+    pending: &mut Pending,
+    asking: &Asking,
+    plan: Plan,
+    steps: &mut Steps<L>,
+) -> Result<(), NoMemory>
+    requires steady { IsSteady parts.old.graph parts.old.standing.items }
+    requires ready { IsReady asking.now parts.old pending.old }
+    requires fits { Fits (rows_now parts.old.graph) plan.changes }
+    requires canon { AllByRecursion (λ n. IsCanonItem n.item) plan.notes }
+    ensures told { OnOk result ((rows : List Attachment) → IsGraph rows
+        → IsAfter plan.changes (rows_now parts.old.graph) rows
+        → so_far asking.now parts.new pending.new
+        ≡ overflow (tell rows plan.notes (so_far asking.now parts.old pending.old))) }
+    ensures steady { OnOk result (IsSteady parts.new.graph parts.new.standing.items) }
+    ensures ready { OnOk result (IsReady asking.now parts.new pending.new) }
+    ensures bare { OnOk result ((n : ℕ) → IsBare n parts.old pending.old
+        → IsBare n parts.new pending.new) }
+    ensures turned { OnOk result (AreTurned parts.old parts.new) }
+    ensures kept { OnErr result (AreKept parts.old parts.new) }
+{
+    let made = make_kept(alloc, parts, pending, asking, plan, steps)?;
+    settle_made(alloc, parts, made);
+    Ok(())
+}
+
+/// Makes a change, so that it can be taken back. After want of memory nothing is made.
+pub fn make_kept<L: Ledger>(
+    alloc: Global,
+    parts: &mut Parts,
+    pending: &mut Pending,
+    asking: &Asking,
+    plan: Plan,
+    steps: &mut Steps<L>,
+) -> Result<Made, NoMemory>
+    requires steady { IsSteady parts.old.graph parts.old.standing.items }
+    requires ready { IsReady asking.now parts.old pending.old }
+    requires fits { Fits (rows_now parts.old.graph) plan.changes }
+    requires canon { AllByRecursion (λ n. IsCanonItem n.item) plan.notes }
+    ensures told { OnOk result ((rows : List Attachment) → IsGraph rows
+        → IsAfter plan.changes (rows_now parts.old.graph) rows
+        → so_far asking.now parts.new pending.new
+        ≡ overflow (tell rows plan.notes (so_far asking.now parts.old pending.old))) }
+    ensures steady { OnOk result (IsSteady parts.new.graph parts.new.standing.items) }
+    ensures ready { OnOk result (IsReady asking.now parts.new pending.new) }
+    ensures bare { OnOk result ((n : ℕ) → IsBare n parts.old pending.old
+        → IsBare n parts.new pending.new) }
+    ensures turned { OnOk result (AreTurned parts.old parts.new) }
+    ensures waits { IfOk result (λ made. AwaitsMore (items_of made.undo.plan.changes)
+        parts.old.graph parts.new.graph) }
+    ensures back { IfOk result (λ made. CanTakeBack made parts.old parts.new) }
+    ensures numbers { OnOk result (KeepsNumbers parts.old.graph parts.new.graph) }
+    ensures kept { OnErr result (AreKept parts.old parts.new) }
+{
+    bytes_tell_identifiers_apart();
+    same_links_keep_subscriptions();
+    let ready = begin_change(alloc, parts, plan)?;
+    match tell_parts(alloc, parts, pending, asking, &ready.plan, steps) {
+        Ok(ways) => {
+            let undo = parts.graph.commit_kept(ready);
+            Ok(Made { undo, ways })
+        }
+        Err(no_memory) => {
+            parts.graph.forget(ready);
+            Err(no_memory)
+        }
+    }
+}
+
+// A change of the graph comes to be out. After want of memory all is as it was but for room.
+fn begin_change(alloc: Global, parts: &mut Parts, plan: Plan) -> Result<Ready, NoMemory>
+    requires steady { IsSteady parts.old.graph parts.old.standing.items }
+    requires ordered { AreOrdered parts.old.sessions.live parts.old.standing.items }
+    requires fits { Fits (rows_now parts.old.graph) plan.changes }
+    ensures begun { IfOk result (λ ready. IsBegun ready plan parts.old.graph parts.new.graph) }
+    ensures sessions { parts.new.sessions ≡ parts.old.sessions }
+    ensures standing { parts.new.standing ≡ parts.old.standing }
+    ensures kept { OnErr result (AreKept parts.old parts.new) }
+{
+    parts.sessions.is_table();
+    tell_view(alloc, &parts.graph);
+    let ready = parts.graph.reserve(alloc, plan)?;
+    tell_view(alloc, &parts.graph);
+    tell_view(alloc, &Draft::of(&parts.graph));
+    Ok(ready)
+}
+
+// Tells the subscriptions of a change that is out, and queues their news. After want of memory each
+// keeps what it kept.
+fn tell_parts<L: Ledger>(
+    alloc: Global,
+    parts: &mut Parts,
+    pending: &mut Pending,
+    asking: &Asking,
+    plan: &Plan,
+    steps: &mut Steps<L>,
+) -> Result<Ways, NoMemory>
+    requires ready { IsReady asking.now parts.old pending.old }
+    requires change { ShowsAfter (sight_now parts.old.graph) (sight_next parts.old.graph)
+        plan.now.changes }
+    requires canon { AllByRecursion (λ n. IsCanonItem n.item) plan.now.notes }
+    ensures told { OnOk result (IsTold asking.now parts.old pending.old plan.now.notes parts.new
+        pending.new) }
+    ensures ways { IfOk result (λ ways. LeadBack parts.old.standing.items ways
+        parts.new.standing.items) }
+    ensures same { AtEach (λ _. Stands HasSameSearch) parts.old.standing.items
+        parts.new.standing.items }
+    ensures graph { parts.new.graph ≡ parts.old.graph }
+    ensures sessions { HasSameSessions parts.old.sessions parts.new.sessions }
+    ensures err { OnErr result (AtEach (λ _. Stands KeepsSame) parts.old.standing.items
+        parts.new.standing.items) }
+{
+    let told = tell_standing(alloc, parts, &pending.gone, plan, steps)?;
+    let Told { news, ways } = told;
+    match queue_news(alloc, &mut parts.sessions, &parts.standing, news, pending) {
+        Ok(()) => Ok(ways),
+        Err(no_memory) => {
+            take_back_all(&mut parts.standing, ways);
+            Err(no_memory)
+        }
+    }
+}
+
+// Tells each subscription that is not gone.
+fn tell_standing<L: Ledger>(
+    alloc: Global,
+    parts: &mut Parts,
+    gone: &[bool],
+    plan: &Plan,
+    steps: &mut Steps<L>,
+) -> Result<Told, NoMemory>
+    requires flags { length gone.now ≡ length parts.old.standing.items }
+    requires kept { AllKept (λ x. IsKept (sight_now parts.old.graph) x.subscription) gone.now
+        parts.old.standing.items }
+    requires change { ShowsAfter (sight_now parts.old.graph) (sight_next parts.old.graph)
+        plan.now.changes }
+    requires canon { AllByRecursion (λ n. IsCanonItem n.item) plan.now.notes }
+    ensures graph { parts.new.graph ≡ parts.old.graph }
+    ensures sessions { parts.new.sessions ≡ parts.old.sessions }
+    ensures same { AtEach (λ _. Stands HasSameSearch) parts.old.standing.items
+        parts.new.standing.items }
+    ensures news { IfOk result (λ told. told.news ≡ news_of_each (rows_now parts.old.graph)
+        (rows_next parts.old.graph) plan.now.notes gone.now
+        (map shown parts.old.standing.items)) }
+    ensures kept { OnOk result (AllKept (λ x. IsKept (sight_next parts.old.graph) x.subscription)
+        gone.now parts.new.standing.items) }
+    ensures ways { IfOk result (λ told. LeadBack parts.old.standing.items told.ways
+        parts.new.standing.items) }
+    ensures err { OnErr result (AtEach (λ _. Stands KeepsSame) parts.old.standing.items
+        parts.new.standing.items) }
+{
+    let draft = Draft::of(&parts.graph);
+    let change = GraphChange {
+        graph: &parts.graph,
+        draft: &draft,
+        plan,
+    };
+    tell_change(alloc, &mut parts.standing, gone, &change, steps)
+}
+
+// Subscriptions take a change back.
+fn take_back_all(standing: &mut Vec<Standing>, ways: Ways)
+    requires { (before : List Standing) × LeadBack before ways standing.old.items }
+    ensures { (before : List Standing) → LeadBack before ways standing.old.items
+        → AtEach (λ _. Stands KeepsSame) before standing.new.items }
+{
+    take_back(standing, ways);
+}
+
+/// A change stays as it is, for good, while some subscriptions are still to stand, whose starts are
+/// held. It takes no memory.
+pub fn settle_made(alloc: Global, parts: &mut Parts, made: Made)
+    requires steady { (more : List Standing)
+        × IsSteady parts.old.graph (parts.old.standing.items ++ more) }
+    requires can { CanSettle made parts.old }
+    ensures steady { (more : List Standing)
+        → IsSteady parts.old.graph (parts.old.standing.items ++ more)
+        → IsSteady parts.new.graph (parts.new.standing.items ++ more) }
+    ensures settled { IsSettled parts.old parts.new }
+    ensures ready { (asking : Asking) (pending : Pending) → IsReady asking parts.old pending
+        → IsReady asking parts.new pending }
+    ensures so_far { (asking : Asking) (pending : Pending) → so_far asking parts.new pending
+        ≡ so_far asking parts.old pending }
+    ensures waits { (rest : List Item) → Awaits (items_of made.undo.plan.changes ++ rest)
+        parts.old.graph → Awaits rest parts.new.graph }
+{
+    bytes_tell_identifiers_apart();
+    same_links_keep_subscriptions();
+    same_marks_keep_subscriptions();
+    tell_view(alloc, &parts.graph);
+    let Made { undo, ways } = made;
+    let _plan = parts.graph.settle(undo);
+    tell_view(alloc, &parts.graph);
+    settle_all(&mut parts.standing, ways);
+}
+
+// Subscriptions leave a change as it is.
+fn settle_all(standing: &mut Vec<Standing>, ways: Ways)
+    requires { length ways ≤ length standing.old.items }
+    ensures settled { AtEach (λ i. Stands (the_ways.IsSettled (slice_get ways i)))
+        standing.old.items standing.new.items }
+    ensures len { vec_len standing.new ≡ vec_len standing.old }
+    ensures capacity { vec_capacity standing.new ≡ vec_capacity standing.old }
+{
+    settle(standing, ways);
+}
+
+/// A change is taken back: all is again what it was before. It takes no memory.
+pub fn undo_made(alloc: Global, parts: &mut Parts, made: Made)
+    requires steady { IsSteady parts.old.graph parts.old.standing.items }
+    requires back { (before : Parts) × CanTakeBack made before parts.old }
+    ensures back { (before : Parts) → AreParts before → CanTakeBack made before parts.old
+        → AreBack before parts.new }
+{
+    bytes_tell_identifiers_apart();
+    tell_view(alloc, &parts.graph);
+    let Made { undo, ways } = made;
+    take_back_all(&mut parts.standing, ways);
+    parts.graph.undo(undo);
+}
+
+/// The subscriptions of these sessions are gone, whose serials rise. It takes no memory.
+pub fn mark_sessions(standing: &[Standing], pending: &mut Pending, serials: &[u64])
+    requires flags { length pending.old.gone.items ≡ length standing.now }
+    requires rising { IsStrictlySortedBy nat_cmp serials.now }
+    ensures gone { pending.new.gone.items
+        ≡ gone_with serials.now pending.old.gone.items standing.now }
+    ensures flags { length pending.new.gone.items ≡ length standing.now }
+    ensures left { map shown (kept_of pending.new.gone.items standing.now)
+        ≡ without_standing serials.now (map shown (kept_of pending.old.gone.items standing.now)) }
+    ensures bare { AllKept (λ x. list_any (λ n. n == x.serial) serials.now ≡ false)
+        pending.new.gone.items standing.now }
+    ensures stay { (i : ℕ) → slice_get pending.old.gone.items i ≡ Some true
+        → slice_get pending.new.gone.items i ≡ Some true }
+    ensures tellings { pending.new.tellings ≡ pending.old.tellings }
+{
+    mark_flags(standing, &mut pending.gone, serials);
+}
+
+// The flags of the subscriptions of these sessions are set.
+fn mark_flags(standing: &[Standing], gone: &mut Vec<bool>, serials: &[u64])
+    requires flags { length gone.old.items ≡ length standing.now }
+    requires rising { IsStrictlySortedBy nat_cmp serials.now }
+    ensures { gone.new.items ≡ gone_with serials.now gone.old.items standing.now }
+{
+    for at in 0..standing.len() {
+        mark_flag(gone, at, is_among(serials, standing[at].serial));
+    }
+}
+
+// Whether a serial is one of these, which rise.
+fn is_among(serials: &[u64], serial: u64) -> bool
+    requires { IsStrictlySortedBy nat_cmp serials.now }
+    ensures { result ≡ list_any (λ n. n == serial) serials.now }
+{
+    serials.binary_search(&serial).is_ok()
+}
+
+// A flag is set, where it is to be.
+fn mark_flag(flags: &mut Vec<bool>, at: usize, is_to_be: bool)
+    requires { at < length flags.old.items }
+    ensures { flags.new.items ≡ (if is_to_be then set flags.old.items at true
+        else flags.old.items) }
+{
+    if is_to_be {
+        flags[at] = true;
+    }
+}
+
+/// The subscriptions of one session are gone. It takes no memory.
+pub fn mark_session(standing: &[Standing], pending: &mut Pending, serial: u64)
+    requires flags { length pending.old.gone.items ≡ length standing.now }
+    ensures gone { pending.new.gone.items
+        ≡ gone_with (serial ∷ []) pending.old.gone.items standing.now }
+    ensures flags { length pending.new.gone.items ≡ length standing.now }
+    ensures left { map shown (kept_of pending.new.gone.items standing.now)
+        ≡ without_standing (serial ∷ []) (map shown
+        (kept_of pending.old.gone.items standing.now)) }
+    ensures bare { AllKept (λ x. x.serial ≢ serial) pending.new.gone.items standing.now }
+    ensures stay { (i : ℕ) → slice_get pending.old.gone.items i ≡ Some true
+        → slice_get pending.new.gone.items i ≡ Some true }
+    ensures tellings { pending.new.tellings ≡ pending.old.tellings }
+{
+    mark_sessions(standing, pending, &[serial]);
+}

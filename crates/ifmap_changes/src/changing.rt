@@ -1,0 +1,140 @@
+//! What changes the graph: what is published, and what goes with publishers and sessions.
+ghost use Rattle.std.specs.Prelude.{◌≡◌, ℕ, [], IfOk, OnErr, OnOk};
+ghost use Rattle.std.specs.List.{AllByRecursion};
+ghost use Rattle.ifmap_changes.specs.Between.{AreKept, AreTurned, IsBare, IsReady, IsSteady, so_far};
+ghost use Rattle.ifmap_changes.specs.Changes.{CanSettle, CanTakeBack, taken_one};
+ghost use Rattle.ifmap_machine.specs.Telling.{overflow, tell};
+ghost use Rattle.ifmap_publish.specs.Apply.{Authorship, apply};
+ghost use Rattle.ifmap_publish.specs.Notes.{notes_of};
+ghost use Rattle.ifmap_publish.specs.Retract.{retract};
+ghost use Rattle.ifmap_requests.specs.Fit.{IsFitOp};
+ghost use Rattle.ifmap_graph.specs.Seen.{KeepsNumbers, rows_now};
+
+use crate::asking::Asking;
+use crate::changes::{Made, make_change, make_kept, mark_session, tell_graph};
+use crate::parts::Parts;
+use ifmap_elem::Many;
+use ifmap_publish::laws::{publishing_keeps_graphs, retracting_keeps_graphs};
+use ifmap_publish::{Author, Who, plan, retract};
+use ifmap_requests::PublishOp;
+use ifmap_steps::Steps;
+use ifmap_tellings::tellings::Pending;
+use std::alloc::{AllocError as NoMemory, Global};
+use std::sync::ledger::Ledger;
+
+/// Publishes in a session what the operations say, all or nothing.
+pub fn publish<L: Ledger>(
+    alloc: Global,
+    parts: &mut Parts,
+    pending: &mut Pending,
+    asking: &Asking,
+    serial: u64,
+    ops: &Many<PublishOp>,
+    steps: &mut Steps<L>,
+) -> Result<(), NoMemory>
+    requires steady { IsSteady parts.old.graph parts.old.standing.items }
+    requires ready { IsReady asking.now parts.old pending.old }
+    requires fit { AllByRecursion IsFitOp ops.now }
+    ensures told { let by : Authorship = record {
+      client = asking.now.client;
+      serial = serial;
+      moment = asking.now.moment;
+    } in OnOk result (so_far asking.now parts.new pending.new
+        ≡ overflow (tell (apply (rows_now parts.old.graph) by ops.now) (notes_of by ops.now)
+        (so_far asking.now parts.old pending.old))) }
+    ensures steady { OnOk result (IsSteady parts.new.graph parts.new.standing.items) }
+    ensures ready { OnOk result (IsReady asking.now parts.new pending.new) }
+    ensures turned { OnOk result (AreTurned parts.old parts.new) }
+    ensures kept { OnErr result (AreKept parts.old parts.new) }
+{
+    publishing_keeps_graphs();
+    tell_graph(alloc, &parts.graph);
+    let author = Author {
+        client: asking.client,
+        serial,
+        moment: asking.moment,
+    };
+    let plan = plan(alloc, &parts.graph, ops, &author)?;
+    make_change(alloc, parts, pending, asking, plan, steps)
+}
+
+/// Takes away what is of these.
+pub fn take_away<L: Ledger>(
+    alloc: Global,
+    parts: &mut Parts,
+    pending: &mut Pending,
+    asking: &Asking,
+    who: &Who,
+    steps: &mut Steps<L>,
+) -> Result<(), NoMemory>
+    requires steady { IsSteady parts.old.graph parts.old.standing.items }
+    requires ready { IsReady asking.now parts.old pending.old }
+    ensures told { OnOk result (so_far asking.now parts.new pending.new
+        ≡ overflow (tell (retract who.now (rows_now parts.old.graph)) []
+        (so_far asking.now parts.old pending.old))) }
+    ensures steady { OnOk result (IsSteady parts.new.graph parts.new.standing.items) }
+    ensures ready { OnOk result (IsReady asking.now parts.new pending.new) }
+    ensures bare { OnOk result ((n : ℕ) → IsBare n parts.old pending.old
+        → IsBare n parts.new pending.new) }
+    ensures turned { OnOk result (AreTurned parts.old parts.new) }
+    ensures kept { OnErr result (AreKept parts.old parts.new) }
+{
+    retracting_keeps_graphs();
+    tell_graph(alloc, &parts.graph);
+    let plan = retract(alloc, &parts.graph, who, steps)?;
+    make_change(alloc, parts, pending, asking, plan, steps)
+}
+
+/// Takes away what was to stay as long as a session, whose own subscriptions are not told.
+pub fn take_away_one<L: Ledger>(
+    alloc: Global,
+    parts: &mut Parts,
+    pending: &mut Pending,
+    asking: &Asking,
+    serial: u64,
+    steps: &mut Steps<L>,
+) -> Result<(), NoMemory>
+    requires steady { IsSteady parts.old.graph parts.old.standing.items }
+    requires ready { IsReady asking.now parts.old pending.old }
+    ensures told { OnOk result (so_far asking.now parts.new pending.new
+        ≡ taken_one serial (so_far asking.now parts.old pending.old)) }
+    ensures steady { OnOk result (IsSteady parts.new.graph parts.new.standing.items) }
+    ensures ready { OnOk result (IsReady asking.now parts.new pending.new) }
+    ensures bare { OnOk result (IsBare serial parts.new pending.new) }
+    ensures turned { OnOk result (AreTurned parts.old parts.new) }
+    ensures kept { OnErr result (AreKept parts.old parts.new) }
+{
+    let mut serials = Vec::with_capacity(alloc, 1)?;
+    serials.push(serial)?;
+    let who = Who::Sessions(Many(serials));
+    mark_session(&parts.standing, pending, serial);
+    take_away(alloc, parts, pending, asking, &who, steps)
+}
+
+/// Takes away what is of these, so that it can be taken back.
+pub fn take_away_kept<L: Ledger>(
+    alloc: Global,
+    parts: &mut Parts,
+    pending: &mut Pending,
+    asking: &Asking,
+    who: &Who,
+    steps: &mut Steps<L>,
+) -> Result<Made, NoMemory>
+    requires steady { IsSteady parts.old.graph parts.old.standing.items }
+    requires ready { IsReady asking.now parts.old pending.old }
+    ensures told { OnOk result (so_far asking.now parts.new pending.new
+        ≡ overflow (tell (retract who.now (rows_now parts.old.graph)) []
+        (so_far asking.now parts.old pending.old))) }
+    ensures steady { OnOk result (IsSteady parts.new.graph parts.new.standing.items) }
+    ensures ready { OnOk result (IsReady asking.now parts.new pending.new) }
+    ensures turned { OnOk result (AreTurned parts.old parts.new) }
+    ensures settle { IfOk result (λ made. CanSettle made parts.new) }
+    ensures back { IfOk result (λ made. CanTakeBack made parts.old parts.new) }
+    ensures numbers { OnOk result (KeepsNumbers parts.old.graph parts.new.graph) }
+    ensures kept { OnErr result (AreKept parts.old parts.new) }
+{
+    retracting_keeps_graphs();
+    tell_graph(alloc, &parts.graph);
+    let plan = retract(alloc, &parts.graph, who, steps)?;
+    make_kept(alloc, parts, pending, asking, plan, steps)
+}

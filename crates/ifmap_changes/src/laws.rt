@@ -1,0 +1,38 @@
+//! Laws on the parts of the machine: functions that do nothing, whose contracts are the laws.
+ghost use Rattle.std.specs.Prelude.{◌≡◌, ◌≤◌, ℕ, List, Some};
+ghost use Rattle.std.specs.List.{AllByRecursion};
+ghost use Rattle.ifmap_changes.specs.Between.{AreBack, AreParts, IsNumbered, IsSeen, IsSteady, starts_of};
+ghost use Rattle.ifmap_changes.specs.declared.parts.Parts.{Parts};
+ghost use Rattle.ifmap_graph.specs.Held.{Held, IsOwn};
+ghost use Rattle.ifmap_graph.specs.Seen.{BringsNoNumbers, IsStill, rows_now};
+ghost use Rattle.ifmap_ident.specs.declared.identifiers.Identifier.{Identifier};
+ghost use Rattle.ifmap_plans.specs.Plans.{AreWhole};
+ghost use Rattle.ifmap_pool.specs.Holdings.{key_at};
+ghost use Rattle.ifmap_standing.specs.declared.standing.Standing.{Standing};
+
+use ifmap_ident::laws::bytes_tell_identifiers_apart;
+use ifmap_standing::laws::{same_links_keep_subscriptions, same_marks_keep_subscriptions};
+
+/// Where numbers only go, those of identifiers that somebody holds stay. So a graph is steady for
+/// subscriptions whose starts had their numbers, where others than items hold each identifier as
+/// often as these start there.
+pub fn held_numbers_stay()
+    ensures numbers { (old new : Held) (v : ℕ) (a : Identifier) (own : ℕ) → IsSeen old
+        → BringsNoNumbers old new → key_at old.names v ≡ Some a → IsOwn new a own → 1 ≤ own
+        → key_at new.names v ≡ Some a }
+    ensures steady { (old new : Held) (standing : List Standing) → IsSeen old
+        → BringsNoNumbers old new → AllByRecursion (IsNumbered old) standing → IsStill new
+        → AreWhole (rows_now new) → ((a : Identifier) → IsOwn new a (starts_of a standing))
+        → IsSteady new standing }
+{
+    bytes_tell_identifiers_apart();
+}
+
+/// Parts that are as they were but for room are sound, where they were.
+pub fn what_is_back_is_sound()
+    ensures { (old new : Parts) → IsSeen old.graph → IsSeen new.graph → AreParts old
+        → AreBack old new → AreParts new }
+{
+    same_links_keep_subscriptions();
+    same_marks_keep_subscriptions();
+}

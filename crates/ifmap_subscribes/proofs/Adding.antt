@@ -1,0 +1,148 @@
+-- One operation more: its name is noted, and its renaming is added.
+use Rattle.std.proofs.Common.{◌≡◌, sym, ◌∙◌, ap, subst, ℕ, ◌+◌, ◌^◌, ◌<◌, ◌≤◌, true, false, not, cond, List, [], ◌∷◌, ◌++◌, length, Option, None, inl, inr, arith, append-nil, option_to_list}
+use Rattle.std.specs.Prelude.{nat_le}
+use Rattle.std.proofs.lemmas.Bool.{and_cases, both_ways, cases_Bool, leb-false}
+use Rattle.std.specs.List.{AllByRecursion, list_any}
+use Rattle.ifmap_changes.specs.Between.{IsSteady, sight_now}
+use Rattle.ifmap_changes.specs.declared.parts.Parts.{Parts}
+use Rattle.ifmap_delta.specs.Sights.{IsKept}
+use Rattle.ifmap_lemmas.specs.Members.{both_all}
+use Rattle.ifmap_fresh.specs.Fresh.{fresh}
+use Rattle.ifmap_machine.specs.State.{standing_in}
+use Rattle.ifmap_machine.specs.Subscribing.{Told, begin_name, drop_name, is_full_for, is_of_name}
+use Rattle.ifmap_machine.specs.Telling.{is_too_big, too_big_item}
+use Rattle.ifmap_search.specs.declared.results.PollItem.{PollItem}
+use Rattle.ifmap_search.specs.declared.results.PollItem.TheVariants as the_item
+use Rattle.ifmap_search.specs.declared.searches.Search.{Search}
+use Rattle.ifmap_search.specs.Sizes.{poll_size}
+use Rattle.ifmap_session.specs.Sessions.{is_named}
+use Rattle.ifmap_session.specs.laws.TextLaws.{text_itself}
+use Rattle.ifmap_standing.specs.declared.standing.Standing.{Standing}
+use Rattle.ifmap_subscribes.proofs.OfNames.{one_fewer}
+use Rattle.ifmap_subscribes.proofs.Parting.{sum_parted}
+use Rattle.ifmap_subscribes.proofs.Renamed.{IsTold, added, begun_more, noted, rename_more}
+use Rattle.ifmap_subscribes.proofs.RenamingTold.{one_at_most}
+use Rattle.ifmap_subscribes.specs.Readying.{AreCounted, AreReadied, CanStand, IsAdded, IsNoted, IsSmall, told_after}
+use Rattle.ifmap_subscribes.specs.Renamings.{IsNameNow, IsOfSession, begun_by, rename, rename_all}
+use Rattle.ifmap_subscribes.specs.declared.names.NameNow.{NameNow}
+use Rattle.ifmap_subscribes.specs.declared.readying.Readying.{Readying}
+use Rattle.ifmap_subscribes.specs.declared.renamings.Renaming.{Renaming}
+use Rattle.ifmap_view.specs.declared.attachments.Attachment.{Attachment}
+
+-- what a renaming is added to may have its counts taken from
+pub record CanAdd (now : NameNow) (r : Readying) : Type 0 where
+  pub count : cond now.stands 1 0 ≤ r.count
+  pub few : r.count ≤ 1000
+  pub size : now.size ≤ r.size
+  pub narrow : r.size < 2 ^ 127
+
+module _ (serial : ℕ) (t : Told) (old mid : Readying) (name : List ℕ) (now : NameNow) (c : AreCounted serial t old)
+    (is : IsNameNow serial name (told_after serial old t) now) (n : IsNoted name now old mid) where
+  mid_told : told_after serial mid t ≡ told_after serial old t
+  mid_told = ap (λ rs. rename_all serial rs t) n.made
+
+  mid_now : IsNameNow serial name (told_after serial mid t) now
+  mid_now = subst (λ u. IsNameNow serial name u now) (sym mid_told) is
+
+  pub mid_counted : AreCounted serial t mid
+  mid_counted = noted serial t old mid c name now n is
+
+  pub can_add : CanAdd now mid
+  can_add =
+      let u = told_after serial mid t in
+      let k = mid_counted in
+      let one : cond {A = ℕ} now.stands 1 0 ≡ cond (list_any (is_of_name serial name) u.standing) 1 0
+      = ap (λ b. cond b 1 0) mid_now.stands in
+      record {
+        count = omega (arith, one, k.count, one_fewer serial name u.standing k.rising);
+        few = k.few;
+        size = omega (arith, mid_now.size, k.size, sum_parted poll_size (is_named name) u.queue);
+        narrow = omega (arith, k.narrow, k.most);
+      }
+
+  -- the renaming is added
+  module _ (new : Readying) (r : Renaming) (a : IsAdded now r mid new) where
+    pub told_more : told_after serial new t ≡ rename serial r (told_after serial old t)
+    told_more = ap (λ rs. rename_all serial rs t) a.made ∙ rename_more serial mid.made.items r t ∙ ap (rename serial r) mid_told
+
+    pub begun_more_told : (rows : List Attachment) (begun : List ℕ) (search : Search)
+        → ((u : Told) → rename serial r u ≡ begin_name rows serial begun search (drop_name serial begun u))
+        → begin_name rows serial begun search (drop_name serial begun (told_after serial old t)) ≡ told_after serial new t
+    begun_more_told rows begun search e = sym (told_more ∙ e (told_after serial old t))
+
+    made_more : new.made.items ≡ old.made.items ++ r ∷ []
+    made_more = a.made ∙ ap (λ rs. rs ++ r ∷ []) n.made
+
+    pub counted_more : r.name ≡ name → IsOfSession serial r → IsTold r → IsSmall r → length mid.made.items < 2 ^ 30
+        → (now.stands ≡ false → old.count + length (option_to_list r.standing) ≤ 1000) → AreCounted serial t new
+    counted_more same s told small few room =
+        added serial t mid new mid_counted now r s told a (subst (λ x. IsNameNow serial x (told_after serial mid t) now) (sym same) mid_now)
+        small few (λ free. omega (arith, room free, n.count))
+
+    pub readied_more : (p : Parts) → AreCounted serial t new → CanStand serial p (old.made.items ++ r ∷ []) → AreReadied serial t p new
+    readied_more p k s = record { stand = subst (λ rs. CanStand serial p rs) (sym made_more) s; counted = k }
+
+-- where only a name is noted, what was made ready is so still
+pub readied_noted : (serial : ℕ) (t : Told) (old mid : Readying) (name : List ℕ) (now : NameNow) (p q : Parts) → AreReadied serial t p old
+    → IsNameNow serial name (told_after serial old t) now → IsNoted name now old mid → CanStand serial q old.made.items
+    → AreReadied serial t q mid
+readied_noted serial t old mid name now p q r is n s = record {
+  stand = subst (λ rs. CanStand serial q rs) (sym n.made) s;
+  counted = mid_counted serial t old mid name now r.counted is n;
+}
+
+-- a renaming that ends a subscription
+abbrev pub ending : List ℕ → Renaming
+ending name = record { name = name; item = None; standing = None }
+
+pub stand_none : (serial : ℕ) (p : Parts) (made : List Renaming) (name : List ℕ) → CanStand serial p made
+    → CanStand serial p (made ++ ending name ∷ [])
+stand_none serial p made name c =
+    let same : begun_by (made ++ ending name ∷ []) ≡ begun_by made = begun_more made (ending name) ∙ append-nil (begun_by made) in
+    record {
+      session = both_all (IsOfSession serial) made (ending name ∷ []) c.session (tt, tt);
+      steady = subst (λ xs. IsSteady p.graph (p.standing.items ++ xs)) (sym same) c.steady;
+      kept = subst (λ xs. AllByRecursion (λ (x : Standing). IsKept (sight_now p.graph) x.subscription) xs) (sym same) c.kept;
+    }
+
+pub ending_drops : (serial : ℕ) (name : List ℕ) (u : Told) → drop_name serial name u ≡ rename serial (ending name) u
+ending_drops serial name u =
+    ap (λ q. told_with q) (sym (append-nil (drop_name serial name u).queue))
+  where
+    told_with : List PollItem → Told
+    told_with q = record { queue = q; standing = (drop_name serial name u).standing }
+
+-- a renaming that begins a subscription is told of by an item of its name
+items_named : (rows : List Attachment) (serial : ℕ) (name : List ℕ) (search : Search) (items : List PollItem)
+    → items ≡ (begin_name rows serial name search (record { queue = []; standing = [] })).queue
+    → AllByRecursion (λ item. is_named name item ≡ true) items
+items_named rows serial name search items e =
+    elim (cases_Bool (is_too_big rows search)) [
+      | inl big ↦
+          let one : items ≡ too_big_item name rows search ∷ [] = rw big at e in
+          subst (AllByRecursion (λ item. is_named name item ≡ true)) (sym one) (text_itself name, tt)
+      | inr small ↦
+          let one : items ≡ the_item.Search name (fresh rows search) ∷ [] = rw small at e in
+          subst (AllByRecursion (λ item. is_named name item ≡ true)) (sym one) (text_itself name, tt)
+    ]
+
+pub begun_told : (rows : List Attachment) (serial : ℕ) (name : List ℕ) (search : Search) (r : Renaming) → r.name ≡ name
+    → ((t : Told) → rename serial r t ≡ begin_name rows serial name search (drop_name serial name t)) → IsTold r
+begun_told rows serial name search r same begun =
+    subst (λ x. AllByRecursion (λ item. is_named x item ≡ true) (option_to_list r.item)) (sym same)
+    (items_named rows serial name search (option_to_list r.item)
+    (ap (λ (u : Told). u.queue) (begun (record { queue = []; standing = [] }))))
+
+-- where a session is not full, there is room for a name that does not stand
+pub room_for : (serial : ℕ) (name : List ℕ) (t : Told) (r : Readying) (now : NameNow) → AreCounted serial t r
+    → IsNameNow serial name (told_after serial r t) now → is_full_for serial name (told_after serial r t).standing ≡ false
+    → {X : Type 0} (o : Option X) → now.stands ≡ false → r.count + length (option_to_list o) ≤ 1000
+room_for serial name t r now c is free o new =
+    let none : list_any (is_of_name serial name) (told_after serial r t).standing ≡ false = sym is.stands ∙ new in
+    elim (and_cases (nat_le 1000 (length (standing_in serial (told_after serial r t).standing)))
+    (not (list_any (is_of_name serial name) (told_after serial r t).standing)) free) [
+      | inl less ↦
+          let few = leb-false 1000 (length (standing_in serial (told_after serial r t).standing)) less in
+          omega (arith, few, c.count, one_at_most o)
+      | inr stood ↦ absurd (both_ways (not (list_any (is_of_name serial name) (told_after serial r t).standing)) stood (ap not none))
+    ]

@@ -1,0 +1,98 @@
+-- No operation is made ready yet: what is kept is so of what was before.
+use Rattle.std.proofs.Common.{◌≡◌, sym, ◌∙◌, ap, subst, ℕ, ◌^◌, ◌<◌, ◌≤◌, ◌==◌, Bool, true, false, List, [], ◌∷◌, length, map, None, Some, inl, inr, append-nil, arith}
+use Rattle.std.proofs.lemmas.Bool.{cases_Bool}
+use Rattle.std.specs.BTreeMap.{get}
+use Rattle.std.specs.Cmp.Lexicographic.{slice_cmp}
+use Rattle.std.specs.List.{AllByRecursion, filter, list_any}
+use Rattle.std.specs.List.Sorted.{IsStrictlySortedBy}
+use Rattle.std.specs.Ordering.{nat_cmp}
+use Rattle.std.specs.declared.cmp.Ordering.{Ordering}
+use Rattle.std.specs.declared.cmp.Ordering.TheVariants.{Less}
+use Rattle.ifmap_changes.specs.Between.{IsReady, IsSteady, left}
+use Rattle.ifmap_changes.specs.declared.parts.Parts.{Parts}
+use Rattle.ifmap_machine.specs.State.{standing_in, standing_order}
+use Rattle.ifmap_machine.specs.Subscribing.{Told, is_of_name}
+use Rattle.ifmap_search.specs.Sizes.{queue_size}
+use Rattle.ifmap_session.specs.Sessions.{IsLive, Session, is_named, session_with_serial}
+use Rattle.ifmap_standing.specs.Standing.{shown}
+use Rattle.ifmap_subscribes.proofs.OfScene.{live_session, told_session}
+use Rattle.ifmap_subscribes.proofs.ToldSizes.{found_left}
+use Rattle.ifmap_subscribes.specs.Readying.{AreCounted, CanStand, told_after, told_in}
+use Rattle.ifmap_subscribes.specs.Renamings.{rename_all}
+use Rattle.ifmap_subscribes.specs.declared.readying.Readying.{Readying}
+use Rattle.ifmap_subscribes.specs.declared.readying.Scene.{Scene}
+use Rattle.ifmap_tellings.specs.Tellings.{kept_of, told_by}
+
+-- what is not gone stands in order still, and is no more than all
+module _ {X Y : Type 0} (f : X → Y) where
+  all_kept : (P : Y → Type 0) (gone : List Bool) (xs : List X) → AllByRecursion P (map f xs) → AllByRecursion P (map f (kept_of gone xs))
+  all_kept P [] xs h = tt
+  all_kept P (g ∷ gone) [] h = tt
+  all_kept P (true ∷ gone) (x ∷ xs) h = all_kept P gone xs h.1
+  all_kept P (false ∷ gone) (x ∷ xs) h = (h.0, all_kept P gone xs h.1)
+
+  rising_kept : (order : Y → Y → Ordering) (gone : List Bool) (xs : List X) → IsStrictlySortedBy order (map f xs)
+      → IsStrictlySortedBy order (map f (kept_of gone xs))
+  unfolding IsStrictlySortedBy
+  rising_kept order [] xs up = tt
+  rising_kept order (g ∷ gone) [] up = tt
+  rising_kept order (true ∷ gone) (x ∷ xs) up = rising_kept order gone xs up.1
+  rising_kept order (false ∷ gone) (x ∷ xs) up = (all_kept (λ y. order (f x) y ≡ Less) gone xs up.0, rising_kept order gone xs up.1)
+
+  fewer_kept : (p : Y → Bool) (gone : List Bool) (xs : List X)
+      → length (filter p (map f (kept_of gone xs))) ≤ length (filter p (map f xs))
+  fewer_kept p [] xs = omega arith
+  fewer_kept p (g ∷ gone) [] = omega arith
+  fewer_kept p (true ∷ gone) (x ∷ xs) =
+      let rest = fewer_kept p gone xs in
+      elim (cases_Bool (p (f x))) [ inl hit ↦ rw hit (omega (arith, rest)) | inr miss ↦ rw miss rest ]
+  fewer_kept p (false ∷ gone) (x ∷ xs) =
+      let rest = fewer_kept p gone xs in
+      elim (cases_Bool (p (f x))) [ inl hit ↦ rw hit (omega (arith, rest)) | inr miss ↦ rw miss rest ]
+
+module _ (scene : Scene) (p : Parts) (r : Readying) (ready : IsReady scene.asking.now p scene.pending.now)
+    (live : IsLive scene.serial (left scene.asking.now p.sessions)) (made : r.made.items ≡ []) where
+  same_told : told_after scene.serial r (told_in scene p) ≡ told_in scene p
+  same_told = ap (λ rs. rename_all scene.serial rs (told_in scene p)) made
+
+  size_of_queue : ((s : Session) → session_with_serial scene.serial p.sessions.live ≡ Some s
+      → r.size ≡ queue_size (told_by scene.pending.now.tellings s).queue) → r.size ≡ queue_size (told_in scene p).queue
+  size_of_queue size =
+      let one = live_session scene.serial (left scene.asking.now p.sessions) live in
+      size one.0 (found_left scene.asking.now.ended scene.serial p.sessions.live one.0 one.1)
+      ∙ ap (λ (t : Told). queue_size t.queue) (sym (told_session scene p one.0 one.1).1)
+
+  pub nothing_counted : ((other : List ℕ) → get (slice_cmp nat_cmp) r.names other ≡ None)
+      → r.count ≡ length (standing_in scene.serial (told_in scene p).standing)
+      → ((s : Session) → session_with_serial scene.serial p.sessions.live ≡ Some s
+      → r.size ≡ queue_size (told_by scene.pending.now.tellings s).queue) → r.size < 2 ^ 64
+      → AreCounted scene.serial (told_in scene p) r
+  nothing_counted none count size small =
+      let whole = size_of_queue size in
+      let long = ap length made in
+      record {
+        rising = subst (λ u. IsStrictlySortedBy standing_order u.standing) (sym same_told)
+            (rising_kept shown standing_order scene.pending.now.gone.items p.standing.items ready.ordered.rising);
+        names = λ name now e. let bad : None ≡ Some now = sym (none name) ∙ e in cc;
+        others = λ name e. record {
+          stands = ap (λ (u : Told). list_any (is_of_name scene.serial name) u.standing) same_told;
+          queue = ap (λ (u : Told). filter (is_named name) u.queue) same_told;
+        };
+        count = count ∙ ap (λ (u : Told). length (standing_in scene.serial u.standing)) (sym same_told);
+        few = omega (
+          arith,
+          count,
+          ready.ordered.few scene.serial,
+          fewer_kept shown (λ x. x.serial == scene.serial) scene.pending.now.gone.items p.standing.items,
+        );
+        size = whole ∙ ap (λ (u : Told). queue_size u.queue) (sym same_told);
+        narrow = omega (arith, small, long);
+        most = omega (arith, long);
+      }
+
+  pub nothing_stands : IsSteady p.graph p.standing.items → CanStand scene.serial p r.made.items
+  nothing_stands steady = subst (λ rs. CanStand scene.serial p rs) (sym made) (record {
+    session = tt;
+    steady = subst (λ xs. IsSteady p.graph xs) (sym (append-nil p.standing.items)) steady;
+    kept = tt;
+  })

@@ -1,0 +1,110 @@
+-- The session of a scene: it is found among those that are told, and what is so of a name before its operations is so of it.
+use Rattle.std.proofs.Common.{◌≡◌, refl, sym, ◌∙◌, ap, subst, ℕ, suc, ◌+◌, ◌<◌, ◌==◌, add-one, List, [], ◌∷◌, drop, drop-cons, get_or, length, map, Option, None, Some, inl, inr}
+use Rattle.std.specs.Prelude.{option_and_then}
+use Rattle.std.specs.Prelude.{IsSome}
+use Rattle.std.proofs.lemmas.Bool.{cases_Bool, false≢true}
+use Rattle.std.specs.BTreeMap.{get}
+use Rattle.std.specs.Ordering.{nat_cmp}
+use Rattle.ifmap_changes.specs.Between.{left, so_far}
+use Rattle.ifmap_changes.specs.declared.parts.Parts.{Parts}
+use Rattle.ifmap_graph.specs.Seen.{rows_now}
+use Rattle.ifmap_machine.specs.Subscribing.{Told, subscribe_op, subscribe_ops}
+use Rattle.ifmap_requests.specs.declared.requests.SubscribeOp.{SubscribeOp}
+use Rattle.ifmap_search.specs.declared.results.PollItem.{PollItem}
+use Rattle.ifmap_search.specs.Sizes.{queue_size}
+use Rattle.ifmap_session.specs.Sessions.{IsLive, Session, session_with_serial}
+use Rattle.ifmap_subscribes.proofs.Ready.{told_same}
+use Rattle.ifmap_subscribes.specs.Readying.{IsNameBefore, OnlyHolds, queue_where, told_after, told_in, told_then}
+use Rattle.ifmap_subscribes.specs.declared.readying.Readying.{Readying}
+use Rattle.ifmap_subscribes.specs.Renamings.{IsNameNow, told_so_far}
+use Rattle.ifmap_subscribes.specs.declared.names.NameNow.{NameNow}
+use Rattle.ifmap_subscribes.specs.declared.readying.Scene.{Scene}
+use Rattle.ifmap_tellings.specs.Tellings.{Tellings, told_by, told_where}
+use Rattle.ifmap_tellings.specs.declared.tellings.Telling.{Telling}
+use Rattle.ifmap_tellings.specs.declared.tellings.Telling.TheVariants.{After, Alone}
+use Rattle.ifmap_view.specs.declared.attachments.Attachment.{Attachment}
+
+serial_stays : (o : Option Telling) (s : Session) → (told_where o s).serial ≡ s.serial
+serial_stays None s = refl
+serial_stays (Some (After items size)) s = refl
+serial_stays (Some (Alone error)) s = refl
+
+-- a session that is live is found once all are told
+found_told : (tellings : Tellings) (n : ℕ) (ss : List Session) (s : Session) → session_with_serial n ss ≡ Some s
+    → session_with_serial n (map (told_by tellings) ss) ≡ Some (told_by tellings s)
+found_told tellings n [] s e = cc
+found_told tellings n (x ∷ ss) s e =
+    let same : ((told_by tellings x).serial == n) ≡ (x.serial == n)
+    = ap (λ k. k == n) (serial_stays (get nat_cmp tellings x.serial) x) in
+    elim (cases_Bool (x.serial == n)) [
+      | inl hit ↦
+          let it : Some x ≡ Some s = rw hit at e in
+          let is : x ≡ s = cc in
+          rw (same, hit) (ap (λ y. Some (told_by tellings y)) is)
+      | inr miss ↦ rw (same, miss) (found_told tellings n ss s (rw miss at e))
+    ]
+
+pub live_session : (n : ℕ) (ss : List Session) → IsLive n ss → (s : Session) × (session_with_serial n ss ≡ Some s)
+live_session n ss live = from (session_with_serial n ss) live
+  where
+    from : (o : Option Session) → IsSome o → (s : Session) × (o ≡ Some s)
+    from None h = absurd (false≢true h)
+    from (Some s) h = (s, refl)
+
+-- what is told to the session of a scene, and what stands
+pub told_session : (scene : Scene) (parts : Parts) (s : Session)
+    → session_with_serial scene.serial (left scene.asking.now parts.sessions) ≡ Some s
+    → (session_with_serial scene.serial (so_far scene.asking.now parts scene.pending.now).sessions
+    ≡ Some (told_by scene.pending.now.tellings s))
+    × (told_in scene parts ≡ told_so_far scene.asking.now parts scene.pending.now (told_by scene.pending.now.tellings s))
+told_session scene parts s e =
+    let found = found_told scene.pending.now.tellings scene.serial (left scene.asking.now parts.sessions) s e in
+    (found, ap (λ o. told_with (queue_where o)) found)
+  where
+    told_with : List PollItem → Told
+    told_with q = record { queue = q; standing = (so_far scene.asking.now parts scene.pending.now).standing }
+
+-- what is so of a name that was not renamed is what was so before
+pub now_before : (serial : ℕ) (name : List ℕ) (t u : Told) (v : NameNow) → IsNameNow serial name t v → IsNameBefore serial name t u
+    → IsNameNow serial name u v
+now_before serial name t u v h b = record { stands = h.stands ∙ sym b.stands; size = h.size ∙ ap queue_size (sym b.queue) }
+
+pub name_told : (scene : Scene) (parts : Parts) (name : List ℕ) (v : NameNow) → IsLive scene.serial (left scene.asking.now parts.sessions)
+    → ((s : Session) → session_with_serial scene.serial (so_far scene.asking.now parts scene.pending.now).sessions ≡ Some s
+    → IsNameNow scene.serial name (told_so_far scene.asking.now parts scene.pending.now s) v)
+    → IsNameNow scene.serial name (told_in scene parts) v
+name_told scene parts name v live h =
+    let one = live_session scene.serial (left scene.asking.now parts.sessions) live in
+    let told = told_session scene parts one.0 one.1 in
+    subst (λ t. IsNameNow scene.serial name t v) (sym told.1) (h (told_by scene.pending.now.tellings one.0) told.0)
+
+-- the operations that are left, after one
+pub one_op : (ops : List SubscribeOp) (i : ℕ) (op : SubscribeOp) (rows : List Attachment) (n : ℕ) (t : Told)
+    → i < length ops → op ≡ get_or ops i op
+    → subscribe_ops rows n (drop i ops) t ≡ option_and_then (subscribe_ops rows n (drop (i + 1) ops)) (subscribe_op rows n op t)
+one_op ops i op rows n t low at =
+    ap (λ rest. subscribe_ops rows n rest t) (drop-cons ops i op low ∙ ap (λ o. o ∷ drop (suc i) ops) (sym at)
+    ∙ ap (λ k. op ∷ drop k ops) (sym (add-one i)))
+
+module _ (scene : Scene) (old new : Parts) (h : OnlyHolds old new) (ops : List SubscribeOp) (i : ℕ)
+    (op : SubscribeOp) (low : i < length ops)
+    (at : op ≡ get_or ops i op) (r : Readying) where
+  then_same : (k : Readying) → told_then scene new k ≡ told_then scene old k
+  then_same k = ap (told_after scene.serial k) (told_same scene old new h.sessions h.standing)
+
+  one_made : (result : Option Told) → subscribe_op (rows_now new.graph) scene.serial op (told_then scene new r) ≡ result
+      → subscribe_ops (rows_now old.graph) scene.serial (drop i ops) (told_then scene old r)
+      ≡ option_and_then (subscribe_ops (rows_now old.graph) scene.serial (drop (i + 1) ops)) result
+  one_made result e =
+      one_op ops i op (rows_now old.graph) scene.serial (told_then scene old r) low at
+      ∙ ap (option_and_then (subscribe_ops (rows_now old.graph) scene.serial (drop (i + 1) ops)))
+      (ap (λ rows. subscribe_op rows scene.serial op (told_then scene old r)) (sym h.rows)
+      ∙ ap (subscribe_op (rows_now new.graph) scene.serial op) (sym (then_same r)) ∙ e)
+
+  pub rest_made : (all : Option Told) (k : Readying)
+      → subscribe_op (rows_now new.graph) scene.serial op (told_then scene new r) ≡ Some (told_then scene new k)
+      → subscribe_ops (rows_now old.graph) scene.serial (drop i ops) (told_then scene old r) ≡ all
+      → subscribe_ops (rows_now old.graph) scene.serial (drop (i + 1) ops) (told_then scene old k) ≡ all
+  rest_made all k e before =
+      ap (subscribe_ops (rows_now old.graph) scene.serial (drop (i + 1) ops)) (sym (then_same k))
+      ∙ sym (one_made (Some (told_then scene new k)) e) ∙ before

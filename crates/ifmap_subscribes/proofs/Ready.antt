@@ -1,0 +1,228 @@
+-- What stays ready where identifiers are only held.
+-- First: `OnlyHolds` of one state after another, and what is to be told then. Then: subscriptions keep what the graph has, by the law
+-- that views with the same links are kept alike (`SameLinks`). Then: parts stay ready. Last: few hold one identifier.
+use Rattle.std.proofs.Common.{◌≡◌, sym, ◌∙◌, ap, subst, ℕ, ◌*◌, ◌^◌, ◌≤◌, Bool, List, [], ◌∷◌, ◌++◌, length, map, Some, Result, Ok, Err, inl, inr, arith, append_assoc, length-append, option_to_list}
+use Rattle.std.specs.Prelude.{IfOk, OnErr, slice_get}
+use Rattle.std.proofs.lemmas.Bool.{cases_Bool}
+use Rattle.std.proofs.lemmas.List.{length-map}
+use Rattle.std.proofs.lemmas.List.Sums.{sum_by-cons}
+use Rattle.std.proofs.lemmas.Option.{get_or_from_slice_get, slice_get_within}
+use Rattle.std.specs.List.{AllByRecursion}
+use Rattle.std.specs.Ordering.{is_eq}
+use Rattle.ifmap_machine.specs.State as machine
+use Rattle.ifmap_changes.specs.Between.{AreOrdered, Asking, IsReady, IsSteady, SharesNumbers, left, sight_now, starts_of}
+use Rattle.ifmap_changes.specs.declared.parts.Parts.{Parts}
+use Rattle.ifmap_delta.specs.Sights.{IsKept, Sight}
+use Rattle.ifmap_delta.specs.declared.subscriptions.Subscription.{Subscription}
+use Rattle.ifmap_graph.specs.Held.{Held}
+use Rattle.ifmap_graph.specs.Seen.{BringsNoNumbers, HasFewOwn, KeepsNumbers, links_now, rows_now}
+use Rattle.ifmap_ident.specs.declared.identifiers.Identifier.{Identifier}
+use Rattle.ifmap_ident.specs.Identifiers.{identifier_order}
+use Rattle.ifmap_lemmas.specs.Filters.{all_at}
+use Rattle.ifmap_lemmas.specs.Members.{all_both, both_all, map_of_all}
+use Rattle.ifmap_machine.specs.Subscribing.{Told}
+use Rattle.ifmap_pool.specs.Holdings.{key_at, once}
+use Rattle.ifmap_session.specs.Sessions.{IsLive, Session, Table, session_with_serial}
+use Rattle.ifmap_standing.specs.Standing.{shown}
+use Rattle.ifmap_standing.specs.declared.standing.Standing.{Standing}
+use Rattle.ifmap_subscribes.proofs.Counting.{fewer_joined, thousand_each}
+use Rattle.ifmap_subscribes.proofs.Renamed.{begun_more}
+use Rattle.ifmap_subscribes.specs.Readying.{AreReadied, CanReady, CanStand, GraphHolds, IsGivenUp, OnlyHolds, queue_where, told_in}
+use Rattle.ifmap_subscribes.specs.Renamings.{IsOfSession, KeepsNumbered, begun_by}
+use Rattle.ifmap_subscribes.specs.declared.readying.Readying.{Readying}
+use Rattle.ifmap_subscribes.specs.declared.readying.Scene.{Scene}
+use Rattle.ifmap_subscribes.specs.declared.renamings.Renaming.{Renaming}
+use Rattle.ifmap_tellings.specs.Tellings.{AllKept, kept_of, told_by}
+use Rattle.ifmap_tellings.specs.declared.tellings.Pending.{Pending}
+use Rattle.ifmap_view.specs.Views.{IsView}
+
+-- one state after another
+pub holds_on : (a b c : Parts) → OnlyHolds a b → OnlyHolds b c → OnlyHolds a c
+holds_on a b c h k = record {
+  rows = k.rows ∙ h.rows;
+  links = λ v. k.links v ∙ h.links v;
+  numbers = λ v x e. k.numbers v x (h.numbers v x e);
+  backs = λ u rows links w. k.backs u rows links (h.backs u rows links w);
+  waits = λ rest w. k.waits rest (h.waits rest w);
+  sessions = k.sessions ∙ h.sessions;
+  standing = k.standing ∙ h.standing;
+}
+
+-- what is to be told is the same
+abbrev told_from : Scene → Table → List Standing → Told
+told_from scene sessions standing = record {
+  queue = queue_where (session_with_serial scene.serial (map (told_by scene.pending.now.tellings) (left scene.asking.now sessions)));
+  standing = map shown (kept_of scene.pending.now.gone.items standing);
+}
+
+pub told_same : (scene : Scene) (old new : Parts) → new.sessions ≡ old.sessions → new.standing ≡ old.standing
+    → told_in scene new ≡ told_in scene old
+told_same scene old new s v =
+    ap (λ t. told_from scene t new.standing.items) s ∙ ap (λ w. told_from scene old.sessions w.items) v
+
+pub can_on : (scene : Scene) (old new : Parts) (r : Readying) → OnlyHolds old new → IsReady scene.asking.now new scene.pending.now
+    → IsLive scene.serial (left scene.asking.now old.sessions) → AreReadied scene.serial (told_in scene old) new r → CanReady scene new r
+can_on scene old new r h ready live readied = record {
+  ready = ready;
+  live = subst (λ t. IsLive scene.serial (left scene.asking.now t)) (sym h.sessions) live;
+  readied = subst (λ t. AreReadied scene.serial t new r) (sym (told_same scene old new h.sessions h.standing)) readied;
+}
+
+-- the start of each subscription has a number
+abbrev pub IsNumbered : Held → Standing → Type 0
+IsNumbered h x = key_at h.names x.subscription.region.start ≡ Some x.subscription.search.start
+
+pub numbered_on : (old new : Held) → KeepsNumbers old new → (xs : List Standing) → AllByRecursion (IsNumbered old) xs
+    → AllByRecursion (IsNumbered new) xs
+numbered_on old new k [] h = tt
+numbered_on old new k (x ∷ xs) h =
+    (k x.subscription.region.start x.subscription.search.start h.0, numbered_on old new k xs h.1)
+
+pub shares : (old new : Held) → KeepsNumbers old new → SharesNumbers old new
+shares old new k v a b e f =
+    let same : Some b ≡ Some a = sym f ∙ k v a e in
+    cc
+
+-- views with the same links are kept alike
+abbrev pub SameLinks : Type 0
+SameLinks =
+    (one other : Sight) (sub : Subscription)
+    → IsView one.rows one.id_at one.links → IsView other.rows other.id_at other.links
+    → other.rows ≡ one.rows → ((v : ℕ) → other.links v ≡ one.links v)
+    → ((v : ℕ) (a b : Identifier) → one.id_at v ≡ Some a → other.id_at v ≡ Some b → b ≡ a)
+    → other.id_at sub.region.start ≡ Some sub.search.start
+    → IsKept one sub → IsKept other sub
+
+abbrev pub IsSeen : Held → Type 0
+IsSeen h = IsView (rows_now h) (key_at h.names) (links_now h)
+
+all_slice_get : {X : Type 0} (P : X → Type 0) (xs : List X) (i : ℕ) (x : X) → AllByRecursion P xs → slice_get xs i ≡ Some x → P x
+all_slice_get P xs i x h e = subst P (get_or_from_slice_get xs i x x e) (all_at P xs i x h (slice_get_within xs i x e))
+
+module _ (law : SameLinks) (old new : Held) (seen_old : IsSeen old) (seen_new : IsSeen new) (rows : rows_now new ≡ rows_now old)
+    (links : (v : ℕ) → links_now new v ≡ links_now old v) (numbers : SharesNumbers old new) where
+  kept_one : (x : Standing) → IsNumbered new x → IsKept (sight_now old) x.subscription → IsKept (sight_now new) x.subscription
+  kept_one x e k = law (sight_now old) (sight_now new) x.subscription seen_old seen_new rows links numbers e k
+
+  pub kept_all : (xs : List Standing) → AllByRecursion (IsNumbered new) xs → AllByRecursion (λ x. IsKept (sight_now old) x.subscription) xs
+      → AllByRecursion (λ x. IsKept (sight_now new) x.subscription) xs
+  kept_all [] n h = tt
+  kept_all (x ∷ xs) n h = (kept_one x n.0 h.0, kept_all xs n.1 h.1)
+
+  pub kept_each : (gone : List Bool) (xs : List Standing) → AllByRecursion (IsNumbered new) xs
+      → AllKept (λ x. IsKept (sight_now old) x.subscription) gone xs → AllKept (λ x. IsKept (sight_now new) x.subscription) gone xs
+  kept_each gone xs n k i x at here = kept_one x (all_slice_get (IsNumbered new) xs i x n at) (k i x at here)
+
+-- parts stay ready
+ready_of : (a : Asking) (old : Parts) (pending : Pending) (g : Held) → IsReady a old pending
+    → AllKept (λ x. IsKept (sight_now g) x.subscription) pending.gone.items old.standing.items
+    → IsReady a (record old { graph = g }) pending
+ready_of a old pending g r k = record {
+  ended = r.ended;
+  ordered = r.ordered;
+  flags = r.flags;
+  kept = k;
+  live = r.live;
+  queues = r.queues;
+  within = r.within;
+  can_tell = r.can_tell;
+  sized = r.sized;
+  alone = r.alone;
+}
+
+-- what is to stand can still, in a graph in which more is held, and one renaming more can
+module _ (law : SameLinks) (serial : ℕ) (old : Parts) (g : Held) (made : List Renaming) (seen_old : IsSeen old.graph) (seen_new : IsSeen g)
+    (h : GraphHolds old.graph g) (c : CanStand serial old made) where
+  numbered_all : AllByRecursion (IsNumbered g) (old.standing.items ++ begun_by made)
+  numbered_all = numbered_on old.graph g h.numbers (old.standing.items ++ begun_by made) c.steady.numbered
+
+  kept_begun : AllByRecursion (λ x. IsKept (sight_now g) x.subscription) (begun_by made)
+  kept_begun =
+      kept_all law old.graph g seen_old seen_new h.rows h.links (shares old.graph g h.numbers) (begun_by made)
+      (all_both (IsNumbered g) old.standing.items (begun_by made) numbered_all).1 c.kept
+
+  pub stand_still : IsSteady g (old.standing.items ++ begun_by made) → CanStand serial (record old { graph = g }) made
+  stand_still steady = record { session = c.session; steady = steady; kept = kept_begun }
+
+  pub stand_more : (r : Renaming) → IsOfSession serial r
+      → AllByRecursion (λ x. IsKept (sight_now g) x.subscription) (option_to_list r.standing)
+      → IsSteady g ((old.standing.items ++ begun_by made) ++ option_to_list r.standing)
+      → CanStand serial (record old { graph = g }) (made ++ r ∷ [])
+  stand_more r s k steady =
+      let joined = append_assoc old.standing.items (begun_by made) (option_to_list r.standing)
+      ∙ ap (λ xs. old.standing.items ++ xs) (sym (begun_more made r)) in
+      record {
+        session = both_all (IsOfSession serial) made (r ∷ []) c.session (s, tt);
+        steady = subst (λ xs. IsSteady g xs) joined steady;
+        kept = subst (λ xs. AllByRecursion (λ (x : Standing). IsKept (sight_now g) x.subscription) xs) (sym (begun_more made r))
+            (both_all (λ x. IsKept (sight_now g) x.subscription) (begun_by made) (option_to_list r.standing) kept_begun k);
+      }
+
+  pub stays_ready : (a : Asking) (pending : Pending) → IsReady a old pending → IsReady a (record old { graph = g }) pending
+  stays_ready a pending r =
+      ready_of a old pending g r (kept_each law old.graph g seen_old seen_new h.rows h.links (shares old.graph g h.numbers)
+      pending.gone.items old.standing.items (all_both (IsNumbered g) old.standing.items (begun_by made) numbered_all).0 r.kept)
+
+-- where starts are let go of, what is numbered still is kept still
+pub ready_after : (a : Asking) (old : Parts) (pending : Pending) (g : Held) → IsReady a old pending → KeepsNumbered old.graph g
+    → AllByRecursion (IsNumbered g) old.standing.items → IsReady a (record old { graph = g }) pending
+ready_after a old pending g r k n =
+    ready_of a old pending g r (λ i x at here. k x.subscription (all_slice_get (IsNumbered g) old.standing.items i x n at)
+    (r.kept i x at here))
+
+-- results
+pub if_ok : {A E : Type 0} (P Q R S : A → Type 0) (r : Result A E) → IfOk r P → IfOk r Q → IfOk r R
+    → ((a : A) → P a → Q a → R a → S a) → IfOk r S
+if_ok P Q R S (Ok a) p q r f = f a p q r
+if_ok P Q R S (Err e) p q r f = tt
+
+pub on_err : {A E : Type 0} (P Q : Type 0) (r : Result A E) → OnErr r P → (P → Q) → OnErr r Q
+on_err P Q (Ok a) p f = tt
+on_err P Q (Err e) p f = f p
+
+-- few hold one identifier beside the items that name it
+once_at_most : (a b : Identifier) → once identifier_order a b ≤ 1
+once_at_most a b = elim (cases_Bool (is_eq (identifier_order a b))) [
+  | inl same ↦ rw same (omega arith)
+  | inr other ↦ rw other (omega arith)
+]
+
+starts_at_most : (a : Identifier) (xs : List Standing) → starts_of a xs ≤ length xs
+starts_at_most a [] = omega arith
+starts_at_most a (x ∷ xs) =
+    omega (
+      arith,
+      sum_by-cons (λ (y : Standing). once identifier_order y.subscription.search.start a) x xs,
+      once_at_most x.subscription.search.start a,
+      starts_at_most a xs,
+    )
+
+pub few_own : (h : Held) (live : List Session) (standing : List Standing) (made : List Renaming) → AreOrdered live standing
+    → length live ≤ 10000 → length made ≤ 2 ^ 30 → IsSteady h (standing ++ begun_by made) → HasFewOwn h
+few_own h live standing made ordered few most steady = λ a.
+    let owned = map_of_all (λ (x : machine.Standing). IsLive x.serial live) shown standing ordered.live in
+    let stand : length (map shown standing) ≤ length live * 1000
+    = thousand_each (λ (x : machine.Standing). x.serial) (λ (s : Session). s.serial) live (map shown standing) owned ordered.few in
+    let shown_length = length-map standing shown in
+    let begun = fewer_joined (λ (r : Renaming). r.standing) made in
+    let both = length-append standing (begun_by made) in
+    let starts = starts_at_most a (standing ++ begun_by made) in
+    (starts_of a (standing ++ begun_by made), steady.own a, omega (arith, few, most, stand, shown_length, begun, both, starts))
+
+-- what was made ready is given up
+pub given_after : (a b c : Parts) → OnlyHolds a b → IsGivenUp b c → IsGivenUp a c
+given_after a b c h k = record {
+  steady = k.steady;
+  rows = k.rows ∙ h.rows;
+  links = λ v. k.links v ∙ h.links v;
+  numbers = λ v x y e f. k.numbers v x y (h.numbers v x e) f;
+  backs = λ u rows links w. k.backs u rows links (h.backs u rows links w);
+  waits = λ rest w. k.waits rest (h.waits rest w);
+  sessions = k.sessions ∙ h.sessions;
+  standing = k.standing ∙ h.standing;
+}
+
+pub shares_before : (old new : Held) → BringsNoNumbers old new → SharesNumbers old new
+shares_before old new k v a b e f =
+    let same : Some b ≡ Some a = sym (k v b f) ∙ e in
+    cc

@@ -1,0 +1,29 @@
+use Rattle.std.proofs.Common.{◌≡◌, ◌∙◌, ◌<◌, subst, length, get_or}
+use Rattle.ifmap_graph.specs.Seen.{rows_now}
+use Rattle.ifmap_machine.specs.Subscribing.{subscribe_ops}
+use Rattle.ifmap_subscribes.proofs.OfScene.{rest_made}
+use Rattle.ifmap_subscribes.proofs.Ready.{holds_on}
+use Rattle.ifmap_subscribes.specs.Readying.{told_then}
+use Rattle.ifmap_subscribes.proofs.readying.ready_all.Goals as goal
+
+pub returns-in_err-ready_op-clause-holds : goal.returns-in_err-ready_op-clause-holds
+returns-in_err-ready_op-clause-holds g c =
+    holds_on c.args.parts.now c.loop-op.parts c.ready_op.new.parts c.loop-op.invariant.holds c.ready_op.ensures.holds
+
+pub loop-op-preserved : goal.loop-op-preserved
+loop-op-preserved g c =
+    let s = c.args.scene.now in
+    let p = c.args.parts.now in
+    let ops = c.args.ops.now in
+    let l = c.loop-op in
+    let op = c.op-item.result in
+    let items = c.deref-op-items.ensures.value ∙ c.ops.view_is in
+    let low = subst (λ xs. l.op-index < length xs) items c.loop-op-test.true in
+    let at = subst (λ xs. op ≡ get_or xs l.op-index op) items c.op-item.is in
+    record {
+      can = c.ready_op.ensures.can;
+      holds = holds_on p l.parts c.ready_op.new.parts l.invariant.holds c.ready_op.ensures.holds;
+      ops = rest_made s p l.parts l.invariant.holds ops l.op-index op low at l.readying
+          (subscribe_ops (rows_now p.graph) s.serial ops (told_then s p c.args.readying.now)) c.ready_op.new.readying
+          c.in_ok-ready_op.ensures.op l.invariant.ops;
+    }

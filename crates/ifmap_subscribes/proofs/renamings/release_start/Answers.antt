@@ -1,0 +1,27 @@
+use Rattle.ifmap_changes.specs.Between.{sight_now}
+use Rattle.ifmap_subscribes.proofs.RenamingStarts.{can_release, links_same, numbers_shared, released_steady, rows_same}
+use Rattle.ifmap_subscribes.proofs.renamings.release_start.Goals as goal
+
+pub release-requires : goal.release-requires
+release-requires c = can_release c.args.graph.now c.args.one.now c.requires.0 c.requires.1
+
+pub returns-clause-steady : goal.returns-clause-steady
+returns-clause-steady c =
+    released_steady c.args.graph.now c.release.new.self c.args.one.now c.bytes_tell_identifiers_apart.ensures c.tell_view.ensures
+    c.release.ensures.own c.release.ensures.stays (rows_same c.args.graph.now c.release.new.self c.release.ensures.shelves)
+    c.release.ensures.still
+
+pub returns-clause-lets_go : goal.returns-clause-lets_go
+returns-clause-lets_go c =
+    let rows = rows_same c.args.graph.now c.release.new.self c.release.ensures.shelves in
+    let links = links_same c.args.graph.now c.release.new.self c.release.ensures.links in
+    record {
+      rows = rows;
+      links = links;
+      numbers = c.release.ensures.numbers;
+      backs = c.release.ensures.backs;
+      waits = c.release.ensures.waits;
+      kept = λ sub key kept.
+          c.same_links_keep_subscriptions.ensures (sight_now c.args.graph.now) (sight_now c.release.new.self) sub c.tell_view.ensures
+          c.tell_view-2.ensures rows links (numbers_shared c.args.graph.now c.release.new.self c.release.ensures.numbers) key kept;
+    }

@@ -1,0 +1,57 @@
+use Rattle.std.proofs.Common.{List}
+use Rattle.ifmap_changes.specs.Between.{IsSteady}
+use Rattle.ifmap_standing.specs.declared.standing.Standing.{Standing}
+use Rattle.ifmap_subscribes.proofs.Starts.{ends_steady, held_alone, held_and_let_go, held_steady, on_error, unheld_steady}
+use Rattle.ifmap_subscribes.proofs.starting.begin_name.Goals as goal
+
+pub returns-in_err-number-clause-err : goal.returns-in_err-number-clause-err
+returns-in_err-number-clause-err g c =
+    let h = c.in_err-number.ensures in
+    on_error c.from_residual.result ((standing : List Standing) → IsSteady c.args.graph.now standing → IsSteady c.hold.new.self standing)
+    (λ standing was. unheld_steady c.args.graph.now c.hold.new.self standing was h.shelves h.still h.kept h.err)
+
+pub release_unused-requires : goal.release_unused-requires
+release_unused-requires g c =
+    let h = c.in_ok-number.ensures in (
+      c.requires.steady.0,
+      held_steady c.args.graph.now c.hold.new.self c.requires.steady.0 c.in_ok-number.number c.args.search.now.start c.requires.steady.1
+          h.shelves h.still h.kept h.own h.named,
+    )
+
+pub release_held-requires : goal.release_held-requires
+release_held-requires g c =
+    let h = c.in_ok-number.ensures in (
+      c.requires.steady.0,
+      held_steady c.args.graph.now c.hold.new.self c.requires.steady.0 c.in_ok-number.number c.args.search.now.start c.requires.steady.1
+          h.shelves h.still h.kept h.own h.named,
+    )
+
+pub returns-in-Ok-clause-steady : goal.returns-in-Ok-clause-steady
+returns-in-Ok-clause-steady g c = λ standing was.
+    let h = c.in_ok-number.ensures in
+    let held =
+    held_steady c.args.graph.now c.hold.new.self standing c.in_ok-number.number c.args.search.now.start was h.shelves h.still h.kept h.own
+    h.named in
+    ends_steady c.hold.new.self c.release_unused.new.graph standing c.in_ok-number.number c.args.search.now c.in-Ok.renaming.standing held
+    (λ e. c.release_unused.ensures.unused e standing held) c.release_unused.ensures.used c.in-Ok.ensures.kept
+
+pub returns-in-Ok-clause-holds : goal.returns-in-Ok-clause-holds
+returns-in-Ok-clause-holds g c =
+    let h = c.in_ok-number.ensures in
+    held_and_let_go c.args.graph.now c.hold.new.self c.release_unused.new.graph c.in_ok-number.number
+    (held_alone c.args.graph.now c.hold.new.self h.shelves h.links h.kept h.backs h.waits) c.release_unused.ensures.released h.again
+    c.release_unused.ensures.stays
+
+pub returns-in-Err-clause-err : goal.returns-in-Err-clause-err
+returns-in-Err-clause-err g c = λ standing was.
+    let h = c.in_ok-number.ensures in
+    c.release_held.ensures.steady standing
+    (held_steady c.args.graph.now c.hold.new.self standing c.in_ok-number.number c.args.search.now.start was h.shelves h.still h.kept h.own
+    h.named)
+
+pub returns-in-Err-clause-holds : goal.returns-in-Err-clause-holds
+returns-in-Err-clause-holds g c =
+    let h = c.in_ok-number.ensures in
+    held_and_let_go c.args.graph.now c.hold.new.self c.release_held.new.graph c.in_ok-number.number
+    (held_alone c.args.graph.now c.hold.new.self h.shelves h.links h.kept h.backs h.waits) c.release_held.ensures.released h.again
+    c.release_held.ensures.stays

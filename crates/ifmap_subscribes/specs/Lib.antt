@@ -1,0 +1,3 @@
+-- The operations of a subscribe, in reading order.
+pub mod Renamings
+pub mod Readying

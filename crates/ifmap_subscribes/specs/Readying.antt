@@ -1,0 +1,158 @@
+-- The operations of a subscribe, while they are made ready.
+use Rattle.std.specs.Prelude.{◌≡◌, ◌≢◌, ◌≤◌, ◌<◌, ◌+◌, ◌-◌, ◌*◌, ◌^◌, ◌⊎◌, ◌++◌, ◌∷◌, ℕ, List, [], filter, is_some, length, Option, None, Some, option_to_list, if◌then◌else◌}
+use Rattle.std.specs.BTreeMap.{get}
+use Rattle.std.specs.Cmp.Lexicographic.{slice_cmp}
+use Rattle.std.specs.List.{AllByRecursion, list_any}
+use Rattle.std.specs.List.Sorted.{IsStrictlySortedBy}
+use Rattle.std.specs.Ordering.{nat_cmp}
+use Rattle.ifmap_changes.specs.Between.{Asking, IsReady, IsSteady, SharesNumbers, left, sight_now, so_far, starts_of}
+use Rattle.ifmap_changes.specs.declared.parts.Parts.{Parts}
+use Rattle.ifmap_delta.specs.Sights.{IsKept}
+use Rattle.ifmap_graph.specs.Back.{KeepsBacks}
+use Rattle.ifmap_graph.specs.Held.{Held, IsOwn}
+use Rattle.ifmap_graph.specs.Seen.{AwaitsMore, BringsNoNumbers, IsStill, KeepsNumbers, links_now, rows_now}
+use Rattle.ifmap_ident.specs.declared.identifiers.Identifier.{Identifier}
+use Rattle.ifmap_ident.specs.Identifiers.{identifier_order}
+use Rattle.ifmap_machine.specs.State.{standing_in, standing_order}
+use Rattle.ifmap_machine.specs.Subscribing.{Told, is_of_name, most_names}
+use Rattle.ifmap_plans.specs.Plans.{AreWhole}
+use Rattle.ifmap_pool.specs.Holdings.{key_at, once}
+use Rattle.ifmap_search.specs.declared.results.PollItem.{PollItem}
+use Rattle.ifmap_search.specs.Sizes.{poll_size, queue_size}
+use Rattle.ifmap_session.specs.Sessions.{IsLive, Session, is_named, session_with_serial}
+use Rattle.ifmap_standing.specs.declared.standing.Standing.{Standing}
+use Rattle.ifmap_subscribes.specs.Renamings.{IsNameNow, IsOfSession, begun_by, rename_all}
+use Rattle.ifmap_subscribes.specs.declared.names.NameNow.{NameNow}
+use Rattle.ifmap_subscribes.specs.declared.readying.Readying.{Readying}
+use Rattle.ifmap_subscribes.specs.declared.readying.Scene.{Scene}
+use Rattle.ifmap_subscribes.specs.declared.renamings.Renaming.{Renaming}
+use Rattle.ifmap_tellings.specs.declared.tellings.Pending.{Pending}
+
+-- what a session has to tell, if it is live
+abbrev pub queue_where : Option Session → List PollItem
+queue_where None = []
+queue_where (Some s) = s.queue
+
+-- what a session has to tell so far, and the subscriptions that are left
+abbrev pub told_at : ℕ → Asking → Parts → Pending → Told
+told_at serial a parts pending = record {
+  queue = queue_where (session_with_serial serial (so_far a parts pending).sessions);
+  standing = (so_far a parts pending).standing;
+}
+
+-- and after these renamings
+abbrev pub told_after : ℕ → Readying → Told → Told
+told_after serial readying t = rename_all serial readying.made.items t
+
+-- the same of the session of a scene
+abbrev pub told_in : Scene → Parts → Told
+told_in scene parts = told_at scene.serial scene.asking.now parts scene.pending.now
+
+abbrev pub told_then : Scene → Parts → Readying → Told
+told_then scene parts readying = told_after scene.serial readying (told_in scene parts)
+
+-- what is so of a name is what was so before
+pub record IsNameBefore (serial : ℕ) (name : List ℕ) (before after : Told) : Type 0 where
+  pub stands : list_any (is_of_name serial name) after.standing ≡ list_any (is_of_name serial name) before.standing
+  pub queue : filter (is_named name) after.queue ≡ filter (is_named name) before.queue
+
+-- what is kept of renamings is so: of each name, how many subscriptions the session has, and the size of what it is to be told, which
+-- each adds less than 2^64 to; and the subscriptions stand in order
+pub record AreCounted (serial : ℕ) (t : Told) (readying : Readying) : Type 0 where
+  pub rising : IsStrictlySortedBy standing_order (told_after serial readying t).standing
+  pub names : (name : List ℕ) (now : NameNow) → get (slice_cmp nat_cmp) readying.names name ≡ Some now
+      → IsNameNow serial name (told_after serial readying t) now
+  pub others : (name : List ℕ) → get (slice_cmp nat_cmp) readying.names name ≡ None
+      → IsNameBefore serial name t (told_after serial readying t)
+  pub count : readying.count ≡ length (standing_in serial (told_after serial readying t).standing)
+  pub few : readying.count ≤ most_names
+  pub size : readying.size ≡ queue_size (told_after serial readying t).queue
+  pub narrow : readying.size < 2 ^ 64 + length readying.made.items * 2 ^ 64
+  pub most : length readying.made.items ≤ 2 ^ 30
+
+-- what is to stand can: it is of the session, keeps what the graph has, and holds its start beside what stands
+pub record CanStand (serial : ℕ) (parts : Parts) (renamings : List Renaming) : Type 0 where
+  pub session : AllByRecursion (IsOfSession serial) renamings
+  pub steady : IsSteady parts.graph (parts.standing.items ++ begun_by renamings)
+  pub kept : AllByRecursion (λ x. IsKept (sight_now parts.graph) x.subscription) (begun_by renamings)
+
+-- operations are ready: what is to stand can, and what is kept of them is so
+pub record AreReadied (serial : ℕ) (t : Told) (parts : Parts) (readying : Readying) : Type 0 where
+  pub stand : CanStand serial parts readying.made.items
+  pub counted : AreCounted serial t readying
+
+-- an operation can be made ready: the parts are ready for it, the session lives, and what is kept of those before it is so
+pub record CanReady (scene : Scene) (parts : Parts) (readying : Readying) : Type 0 where
+  pub ready : IsReady scene.asking.now parts scene.pending.now
+  pub live : IsLive scene.serial (left scene.asking.now parts.sessions)
+  pub readied : AreReadied scene.serial (told_in scene parts) parts readying
+
+-- identifiers are held, and nothing else that is seen changes
+pub record OnlyHolds (old new : Parts) : Type 0 where
+  pub rows : rows_now new.graph ≡ rows_now old.graph
+  pub links : (v : ℕ) → links_now new.graph v ≡ links_now old.graph v
+  pub numbers : KeepsNumbers old.graph new.graph
+  pub backs : KeepsBacks old.graph new.graph
+  pub waits : AwaitsMore [] old.graph new.graph
+  pub sessions : new.sessions ≡ old.sessions
+  pub standing : new.standing ≡ old.standing
+
+-- what was held is let go of again: all is steady, and nothing else that is seen changes
+pub record IsGivenUp (old new : Parts) : Type 0 where
+  pub steady : IsSteady new.graph new.standing.items
+  pub rows : rows_now new.graph ≡ rows_now old.graph
+  pub links : (v : ℕ) → links_now new.graph v ≡ links_now old.graph v
+  pub numbers : SharesNumbers old.graph new.graph
+  pub backs : KeepsBacks old.graph new.graph
+  pub waits : AwaitsMore [] old.graph new.graph
+  pub sessions : new.sessions ≡ old.sessions
+  pub standing : new.standing ≡ old.standing
+
+-- the same of a graph alone
+pub record GraphHolds (old new : Held) : Type 0 where
+  pub rows : rows_now new ≡ rows_now old
+  pub links : (v : ℕ) → links_now new v ≡ links_now old v
+  pub numbers : KeepsNumbers old new
+  pub backs : KeepsBacks old new
+  pub waits : AwaitsMore [] old new
+
+-- holds were let go of, and nothing else that is seen changes
+pub record IsReleased (old new : Held) : Type 0 where
+  pub rows : rows_now new ≡ rows_now old
+  pub links : (v : ℕ) → links_now new v ≡ links_now old v
+  pub numbers : BringsNoNumbers old new
+  pub backs : KeepsBacks old new
+  pub waits : AwaitsMore [] old new
+
+-- beside these subscriptions one hold of a number is out, of that identifier
+pub record IsHolding (h : Held) (standing : List Standing) (number : ℕ) (id : Identifier) : Type 0 where
+  pub still : IsStill h
+  pub whole : AreWhole (rows_now h)
+  pub own : (a : Identifier) → IsOwn h a (starts_of a standing + once identifier_order id a)
+  pub numbered : AllByRecursion (λ x. key_at h.names x.subscription.region.start ≡ Some x.subscription.search.start) standing
+  pub start : key_at h.names number ≡ Some id
+
+-- the item of a renaming is of a size that is counted
+abbrev pub IsSmall : Renaming → Type 0
+IsSmall r = AllByRecursion (λ item. poll_size item < 2 ^ 64 - 1) (option_to_list r.item)
+
+-- what is so of a name after its renaming
+abbrev pub now_of : Renaming → NameNow
+now_of r = record { stands = is_some r.standing; size = queue_size (option_to_list r.item) }
+
+-- only what is so of one name may be noted, and it is this
+pub record IsNoted (name : List ℕ) (now : NameNow) (old new : Readying) : Type 0 where
+  pub made : new.made.items ≡ old.made.items
+  pub count : new.count ≡ old.count
+  pub size : new.size ≡ old.size
+  pub names : (other : List ℕ) → (get (slice_cmp nat_cmp) new.names other ≡ get (slice_cmp nat_cmp) old.names other)
+      ⊎ ((other ≡ name) × (get (slice_cmp nat_cmp) new.names other ≡ Some now))
+
+-- one renaming more was made ready, of a name of which this was so before it
+pub record IsAdded (now : NameNow) (renaming : Renaming) (old new : Readying) : Type 0 where
+  pub made : new.made.items ≡ old.made.items ++ renaming ∷ []
+  pub name : get (slice_cmp nat_cmp) new.names renaming.name ≡ Some (now_of renaming)
+  pub others : (other : List ℕ) → other ≢ renaming.name
+      → get (slice_cmp nat_cmp) new.names other ≡ get (slice_cmp nat_cmp) old.names other
+  pub count : new.count + (if now.stands then 1 else 0) ≡ old.count + length (option_to_list renaming.standing)
+  pub size : new.size + now.size ≡ old.size + queue_size (option_to_list renaming.item)

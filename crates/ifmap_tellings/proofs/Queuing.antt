@@ -1,0 +1,249 @@
+-- What is pending, queued in sessions.
+-- First: one session changes twice (`changes_both`), or in nothing (`changes_none`). Then: items are queued one after the other
+-- (`PushesOn`). Last: one session is told (`room_for_one`), and sessions one after the other (`TellsOn`).
+use Rattle.std.proofs.Common.{◌≡◌, ◌≢◌, refl, sym, ◌∙◌, ap, subst, ℕ, zero, suc, ◌+◌, ◌<◌, ◌≤◌, ◌==◌, true, false, List, [], ◌∷◌, append_assoc, append-nil, length, map, Option, None, Some, IsSome, inl, inr, arith, nat_cmp, is_eq}
+use Rattle.std.proofs.lemmas.Bool.{cases_Bool, eq-eqb, eqb-true}
+use Rattle.std.proofs.lemmas.Bool.Decides.{nat_tests}
+use Rattle.std.specs.BTreeMap.{Updates, get}
+use Rattle.ifmap_tellings.specs.declared.tellings.Telling.{Telling}
+use Rattle.ifmap_tellings.specs.declared.tellings.Telling.TheVariants.{After, Alone}
+use Rattle.ifmap_tellings.specs.Tellings.{CanTell, EachTelling, Tellings, count_told, count_where, told_by, told_where}
+use Rattle.ifmap_machine.specs.Telling.{tell_session}
+use Rattle.ifmap_search.specs.declared.results.PollItem.{PollItem}
+use Rattle.ifmap_session.specs.Sessions.{Changes, IsLive, Session, Table, change, queued, session_with_serial, spare_of}
+use Rattle.ifmap_session.specs.laws.TableLaws.{Keeps, changed_one, found_changed}
+
+-- ---- one session changes
+
+module _ (n : ℕ) where
+  change_none : (f : Session → Session) → ((s : Session) → f s ≡ s) → (live : List Session) → change n f live ≡ live
+  change_none f same [] = refl
+  change_none f same (s ∷ live) =
+      elim (cases_Bool (s.serial == n)) [
+        | inl hit ↦ rw (hit, same s, change_none f same live) refl
+        | inr miss ↦ rw (miss, change_none f same live) refl
+      ]
+
+  change_both : (f g h : Session → Session) → ((s : Session) → (f s).serial ≡ s.serial) → ((s : Session) → g (f s) ≡ h s)
+      → (live : List Session) → change n g (change n f live) ≡ change n h live
+  change_both f g h keeps same [] = refl
+  change_both f g h keeps same (s ∷ live) =
+      elim (cases_Bool (s.serial == n)) [
+        | inl hit ↦
+            let again : ((f s).serial == n) ≡ true = ap (λ m. m == n) (keeps s) ∙ hit in
+            rw (hit, again, same s, change_both f g h keeps same live) refl
+        | inr miss ↦ rw (miss, miss, change_both f g h keeps same live) refl
+      ]
+
+  pub changes_none : (f : Session → Session) → ((s : Session) → f s ≡ s) → (table : Table) → Changes n f table table
+  changes_none f same table = record {
+    live = sym (change_none f same table.live);
+    counter = refl;
+    others = λ other apart. refl;
+    room = omega arith;
+  }
+
+  pub changes_both : (f g h : Session → Session) → ((s : Session) → (f s).serial ≡ s.serial) → ((s : Session) → g (f s) ≡ h s)
+      → (old mid new : Table) → Changes n f old mid → Changes n g mid new → Changes n h old new
+  changes_both f g h keeps same old mid new a b = record {
+    live = b.live ∙ ap (change n g) a.live ∙ change_both f g h keeps same old.live;
+    counter = b.counter ∙ a.counter;
+    others = λ other apart. b.others other apart ∙ a.others other apart;
+    room = omega (arith, a.room, b.room);
+  }
+
+pub some_is : {X : Type 0} (o : Option X) → IsSome o → (x : X) × (o ≡ Some x)
+some_is None e = cc
+some_is (Some x) e = (x, refl)
+
+pub is_some_of : {X : Type 0} (o : Option X) (x : X) → o ≡ Some x → IsSome o
+is_some_of o x e = rw e refl
+
+-- who lives goes on to live
+pub live_changed : (n : ℕ) (f : Session → Session) → Keeps f → (old new : Table) → Changes n f old new → (m : ℕ) → IsLive m old.live
+    → IsLive m new.live
+live_changed n f k old new c m l =
+    let there = some_is (session_with_serial m old.live) l in
+    subst (IsLive m) (sym c.live) (is_some_of (session_with_serial m (change n f old.live)) (changed_one n f there.0)
+    (found_changed n f k m old.live there.0 there.1))
+
+-- ---- items are queued one after the other
+
+told_nothing : (s : Session) → tell_session [] s ≡ s
+told_nothing s = ap (λ q. record s { queue = q }) (append-nil s.queue)
+
+told_more : (item : PollItem) (items : List PollItem) (s : Session) → tell_session items (queued item s) ≡ tell_session (item ∷ items) s
+told_more item items s = ap (λ q. record s { queue = q }) (append_assoc s.queue (item ∷ []) items)
+
+queued_keeps : (item : PollItem) → Keeps (queued item)
+queued_keeps item = record { serial = λ s. refl; id = λ s. refl; client = λ s. refl }
+
+-- of these items some are queued, and the rest is left
+pub record PushesOn (n : ℕ) (items : List PollItem) (old now : Table) (rest : List PollItem) : Type 0 where
+  pub live : IsLive n now.live
+  pub on : (new : Table) → Changes n (tell_session rest) now new → Changes n (tell_session items) old new
+  pub spare : spare_of n now.spare + length items ≡ spare_of n old.spare + length rest
+  pub fits : length items ≤ spare_of n old.spare
+
+module _ (n : ℕ) (items : List PollItem) (old : Table) where
+  pub pushes_none : (rest : List PollItem) → rest ≡ items → IsLive n old.live → length items ≤ spare_of n old.spare
+      → PushesOn n items old old rest
+  pushes_none rest is live fits = record {
+    live = live;
+    on = λ new c. subst (λ all. Changes n (tell_session all) old new) is c;
+    spare = ap (λ all. spare_of n old.spare + length all) (sym is);
+    fits = fits;
+  }
+
+  module _ (now : Table) (all : List PollItem) (item : PollItem) (rest : List PollItem) (p : PushesOn n items old now all)
+      (cut : all ≡ item ∷ rest) where
+    pub push_fits : 1 ≤ spare_of n now.spare
+    push_fits = let long = ap length cut in omega (arith, long, p.spare, p.fits)
+
+    pub pushes_more : (new : Table) → Changes n (queued item) now new → spare_of n new.spare + 1 ≡ spare_of n now.spare
+        → PushesOn n items old new rest
+    pushes_more new c less = record {
+      live = live_changed n (queued item) (queued_keeps item) now new c n p.live;
+      on = λ last d.
+          p.on last (subst (λ xs. Changes n (tell_session xs) now last) (sym cut)
+          (changes_both n (queued item) (tell_session rest) (tell_session (item ∷ rest)) (λ s. refl) (told_more item rest) now new last
+          c d));
+      spare = let long = ap length cut in omega (arith, long, p.spare, less);
+      fits = p.fits;
+    }
+
+  module _ (now : Table) (rest : List PollItem) (p : PushesOn n items old now rest) (none : rest ≡ []) where
+    pub pushes_all : Changes n (tell_session items) old now
+    pushes_all = p.on now (subst (λ xs. Changes n (tell_session xs) now now) (sym none) (changes_none n (tell_session []) told_nothing now))
+
+    pub pushes_spare : spare_of n now.spare + length items ≡ spare_of n old.spare
+    pushes_spare = let long = ap length none in omega (arith, long, p.spare)
+
+-- a list of no length
+pub no_item : {X : Type 0} (xs : List X) → length xs ≡ 0 → xs ≡ []
+no_item [] e = refl
+no_item (x ∷ xs) e = absurd (omega (arith, e))
+
+-- nothing comes of a list of no length
+pub none_there : {X : Type 0} (o : Option X) (n : ℕ) → (0 < n → IsSome o) → o ≡ None → n ≡ 0
+none_there None zero there is = refl
+none_there None (suc n) there is = let bad : false ≡ true = there (omega arith) in cc
+none_there (Some x) n there is = cc
+
+-- ---- one session is told
+
+-- with room for one more, there is room for one in place of all
+pub room_for_one : (n : ℕ) (table : Table) (t : Telling) → count_told t ≡ 1 → CanTell table n t → (s : Session)
+    → session_with_serial n table.live ≡ Some s → 1 ≤ spare_of n table.spare + length s.queue
+room_for_one n table t one can s is = omega (arith, one, can.room)
+
+-- ---- sessions are told one after the other
+
+told_keeps : (o : Option Telling) → Keeps (told_where o)
+told_keeps None = record { serial = λ s. refl; id = λ s. refl; client = λ s. refl }
+told_keeps (Some (After items size)) = record { serial = λ s. refl; id = λ s. refl; client = λ s. refl }
+told_keeps (Some (Alone error)) = record { serial = λ s. refl; id = λ s. refl; client = λ s. refl }
+
+-- some tellings are left, the others are told
+pub record TellsOn (tellings : Tellings) (old now : Table) (left : Tellings) : Type 0 where
+  pub can : EachTelling (CanTell now) left
+  pub live : map (told_by left) now.live ≡ map (told_by tellings) old.live
+  pub counter : now.counter ≡ old.counter
+  pub spare : (n : ℕ) → spare_of n old.spare + count_where (get nat_cmp left n)
+      ≤ spare_of n now.spare + count_where (get nat_cmp tellings n)
+  pub room : old.room ≤ now.room
+
+pub tells_none : (tellings : Tellings) (old : Table) → EachTelling (CanTell old) tellings → TellsOn tellings old old tellings
+tells_none tellings old can = record {
+  can = can;
+  live = refl;
+  counter = refl;
+  spare = λ n. omega arith;
+  room = omega arith;
+}
+
+apart_is : (a b : ℕ) → b ≢ a → is_eq (nat_cmp a b) ≡ false
+apart_is a b apart =
+    elim (cases_Bool (a == b)) [
+      | inl hit ↦ absurd (apart (sym (eqb-true a b hit)))
+      | inr miss ↦ grind (arith, nat_tests, miss)
+    ]
+
+module _ (n : ℕ) (t : Telling) (left less : Tellings) (there : get nat_cmp left n ≡ Some t) (u : Updates nat_cmp left less n None) where
+  others_left : (m : ℕ) → m ≢ n → get nat_cmp less m ≡ get nat_cmp left m
+  others_left m apart = u.2 m (apart_is n m apart)
+
+  -- one is told, the rest of what is to be told makes of it what all made
+  told_then : (s : Session) → told_by less (changed_one n (told_where (Some t)) s) ≡ told_by left s
+  told_then s =
+      elim (cases_Bool (s.serial == n)) [
+        | inl hit ↦
+            let here : s.serial ≡ n = eqb-true s.serial n hit in
+            let same : (told_where (Some t) s).serial ≡ n = (told_keeps (Some t)).serial s ∙ here in
+            let none : get nat_cmp less (told_where (Some t) s).serial ≡ None = ap (get nat_cmp less) same ∙ u.1 in
+            let some : get nat_cmp left s.serial ≡ Some t = ap (get nat_cmp left) here ∙ there in
+            rw (hit, none, some) refl
+        | inr miss ↦
+            let other : s.serial ≢ n = λ e. (let bad : true ≡ false = sym (eq-eqb s.serial n e) ∙ miss in cc) in
+            rw (miss, others_left s.serial other) refl
+      ]
+
+  told_each : (live : List Session) → map (told_by less) (change n (told_where (Some t)) live) ≡ map (told_by left) live
+  told_each [] = refl
+  told_each (s ∷ live) = rw (told_then s, told_each live) refl
+
+  module _ (tellings : Tellings) (old now new : Table) (so : TellsOn tellings old now left)
+      (c : Changes n (told_where (Some t)) now new) (spare : spare_of n now.spare ≤ spare_of n new.spare + count_told t) where
+    spare_at : (m : ℕ) → spare_of m old.spare + count_where (get nat_cmp less m)
+        ≤ spare_of m new.spare + count_where (get nat_cmp tellings m)
+    spare_at m =
+        elim (cases_Bool (m == n)) [
+          | inl hit ↦
+              let here : m ≡ n = eqb-true m n hit in
+              let none : count_where (get nat_cmp less n) ≡ 0 = ap count_where u.1 in
+              let some : count_where (get nat_cmp left n) ≡ count_told t = ap count_where there in
+              subst (λ k. spare_of k old.spare + count_where (get nat_cmp less k)
+              ≤ spare_of k new.spare + count_where (get nat_cmp tellings k)) (sym here) (omega (arith, none, some, so.spare n, spare))
+          | inr miss ↦
+              let other : m ≢ n = λ e. (let bad : true ≡ false = sym (eq-eqb m n e) ∙ miss in cc) in
+              let same : count_where (get nat_cmp less m) ≡ count_where (get nat_cmp left m) = ap count_where (others_left m other) in
+              omega (arith, same, c.others m other, so.spare m)
+        ]
+
+    can_still : (m : ℕ) (r : Telling) → get nat_cmp less m ≡ Some r → CanTell new m r
+    can_still m r is =
+        elim (cases_Bool (m == n)) [
+          | inl hit ↦
+              let here : m ≡ n = eqb-true m n hit in
+              let bad : None ≡ Some r = sym (ap (get nat_cmp less) here ∙ u.1) ∙ is in cc
+          | inr miss ↦
+              let other : m ≢ n = λ e. (let bad : true ≡ false = sym (eq-eqb m n e) ∙ miss in cc) in
+              let could = so.can m r (sym (others_left m other) ∙ is) in
+              record {
+                live = live_changed n (told_where (Some t)) (told_keeps (Some t)) now new c m could.live;
+                room = omega (arith, could.room, c.others m other);
+              }
+        ]
+
+    pub tells_more : TellsOn tellings old new less
+    tells_more = record {
+      can = can_still;
+      live = ap (map (told_by less)) c.live ∙ told_each now.live ∙ so.live;
+      counter = c.counter ∙ so.counter;
+      spare = spare_at;
+      room = omega (arith, c.room, so.room);
+    }
+
+module _ (tellings : Tellings) (old now : Table) (left : Tellings) (so : TellsOn tellings old now left) (none : left.entries ≡ []) where
+  none_at : (n : ℕ) → get nat_cmp left n ≡ None
+  none_at n = rw none refl
+
+  told_as_is : (live : List Session) → map (told_by left) live ≡ live
+  told_as_is [] = refl
+  told_as_is (s ∷ live) = rw (none_at s.serial, told_as_is live) refl
+
+  pub tells_all : now.live ≡ map (told_by tellings) old.live
+  tells_all = sym (told_as_is now.live) ∙ so.live
+
+  pub tells_spare : (n : ℕ) → spare_of n old.spare ≤ spare_of n now.spare + count_where (get nat_cmp tellings n)
+  tells_spare n = let nothing : count_where (get nat_cmp left n) ≡ 0 = ap count_where (none_at n) in omega (arith, nothing, so.spare n)

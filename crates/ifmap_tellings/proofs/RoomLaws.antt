@@ -1,0 +1,56 @@
+-- Sessions that stay but for their room: the same sessions twice (`same_twice`), of which what can be told can be told still
+-- (`tells_still`). Then what is found by a serial (`found_serial`, `found_here`).
+use Rattle.std.proofs.Common.{◌≡◌, refl, sym, ◌∙◌, ap, subst, ℕ, ◌≤◌, ◌==◌, false, List, [], ◌∷◌, Some, inl, inr, arith}
+use Rattle.std.proofs.lemmas.Bool.{cases_Bool, eq-eqb, eqb-true}
+use Rattle.std.proofs.lemmas.Bool.Decides.{nat_tests}
+use Rattle.std.specs.List.{AllByRecursion}
+use Rattle.std.specs.List.Sorted.{IsStrictlySortedBy}
+use Rattle.std.specs.declared.cmp.Ordering.TheVariants.{Less}
+use Rattle.ifmap_lemmas.specs.Having.{Has}
+use Rattle.ifmap_session.specs.Sessions.{IsLive, Session, Table, session_order, session_with_serial, spare_of}
+use Rattle.ifmap_tellings.specs.declared.tellings.Telling.{Telling}
+use Rattle.ifmap_tellings.specs.Tellings.{CanTell, HasSameSessions, count_told}
+
+pub same_itself : (t : Table) → HasSameSessions t t
+same_itself t = record { live = refl; counter = refl; spare = λ n. omega arith; room = omega arith }
+
+at_most : (a b c : ℕ) → a ≤ b → b ≤ c → a ≤ c
+at_most a b c d e = omega arith
+
+pub same_twice : (a b c : Table) → HasSameSessions a b → HasSameSessions b c → HasSameSessions a c
+same_twice a b c first next = record {
+  live = next.live ∙ first.live;
+  counter = next.counter ∙ first.counter;
+  spare = λ n. at_most (spare_of n a.spare) (spare_of n b.spare) (spare_of n c.spare) (first.spare n) (next.spare n);
+  room = at_most a.room b.room c.room first.room next.room;
+}
+
+pub tells_still : (a b : Table) (n : ℕ) (t : Telling) → HasSameSessions a b → CanTell a n t → CanTell b n t
+tells_still a b n t same can = record {
+  live = subst (λ l. IsLive n l) (sym same.live) can.live;
+  room = at_most (count_told t) (spare_of n a.spare) (spare_of n b.spare) can.room (same.spare n);
+}
+
+-- what is found by a serial has it
+pub found_serial : (n : ℕ) (live : List Session) (s : Session) → session_with_serial n live ≡ Some s → s.serial ≡ n
+found_serial n [] s e = cc
+found_serial n (x ∷ live) s e = elim (cases_Bool (x.serial == n)) [
+  | inl hit ↦ let same : x ≡ s = cc (rw hit at e) in sym (ap (λ (t : Session). t.serial) same) ∙ eqb-true x.serial n hit
+  | inr miss ↦ found_serial n live s (rw miss at e)
+]
+
+pub all_has : {X : Type 0} (P : X → Type 0) (xs : List X) (x : X) → AllByRecursion P xs → Has xs x → P x
+all_has P [] x h e = absurd e
+all_has P (y ∷ xs) x h (inl e) = subst P e h.0
+all_has P (y ∷ xs) x h (inr e) = all_has P xs x h.1 e
+
+-- a session that is there is found by its serial
+pub found_here : (live : List Session) (s : Session) → IsStrictlySortedBy session_order live → Has live s
+    → session_with_serial s.serial live ≡ Some s
+unfolding IsStrictlySortedBy
+found_here [] s up h = absurd h
+found_here (x ∷ live) s up (inl e) = rw (eq-eqb x.serial s.serial (ap (λ (t : Session). t.serial) e)) (ap Some e)
+found_here (x ∷ live) s up (inr h) =
+    let less : session_order x s ≡ Less = all_has (λ z. session_order x z ≡ Less) live s up.0 h in
+    let other : (x.serial == s.serial) ≡ false = grind (arith, nat_tests, less) in
+    rw other (found_here live s up.1 h)

@@ -1,0 +1,2 @@
+-- What is pending of an event, in reading order.
+pub mod Tellings

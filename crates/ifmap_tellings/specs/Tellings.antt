@@ -1,0 +1,113 @@
+-- What an event has changed and not yet told: which subscriptions stand no longer, and what sessions are to be told.
+use Rattle.std.specs.Prelude.{◌≡◌, ◌≢◌, ◌<◌, ◌≤◌, ◌^◌, ◌-◌, ◌||◌, ◌==◌, ℕ, Bool, true, false, List, [], ◌++◌, filter, flat_map, length, map, not, Option, None, Some, IsSome, slice_get}
+use Rattle.std.specs.BTreeMap.{BTreeMap, get}
+use Rattle.std.specs.List.{zip}
+use Rattle.std.specs.Ordering.{nat_cmp}
+use Rattle.ifmap_tellings.specs.declared.tellings.Telling.{Telling}
+use Rattle.ifmap_tellings.specs.declared.tellings.Telling.TheVariants.{After, Alone}
+use Rattle.ifmap_ident.specs.declared.codes.Code.TheVariants.{PollResultsTooBig}
+use Rattle.ifmap_machine.specs.Telling.{is_overfull, tell_session}
+use Rattle.ifmap_search.specs.declared.results.PollItem.{PollItem}
+use Rattle.ifmap_search.specs.declared.results.PollItem.TheVariants as the_item
+use Rattle.ifmap_search.specs.Sizes.{queue_size}
+use Rattle.ifmap_session.specs.Sessions.{IsLive, Session, Table, overflowed, session_with_serial, spare_of}
+use Rattle.ifmap_standing.specs.declared.standing.Standing.{Standing}
+use Rattle.ifmap_standing.specs.declared.telling.News.{News}
+
+-- what stands at the places where no flag is
+abbrev pub kept_of : {X : Type 0} → List Bool → List X → List X
+kept_of gone xs = map (λ p. p.1) (filter (λ p. not p.0) (zip gone xs))
+
+-- P holds of each subscription that is not gone
+abbrev pub AllKept : (Standing → Type 0) → List Bool → List Standing → Type 0
+AllKept P gone standing = (i : ℕ) (x : Standing) → slice_get standing i ≡ Some x → slice_get gone i ≡ Some false → P x
+
+-- tellings by the serials of their sessions
+abbrev pub Tellings : Type 0
+Tellings = BTreeMap ℕ Telling
+
+-- a session that is told something: more than it had to tell, or one error in place of all
+abbrev pub told_where : Option Telling → Session → Session
+told_where None s = s
+told_where (Some (After items size)) s = tell_session items s
+told_where (Some (Alone error)) s = overflowed error s
+
+abbrev pub told_by : Tellings → Session → Session
+told_by tellings s = told_where (get nat_cmp tellings s.serial) s
+
+-- how many items a telling puts into a queue
+abbrev pub count_told : Telling → ℕ
+count_told (After items size) = length items
+count_told (Alone error) = 1
+
+-- and none where there is no telling
+abbrev pub count_where : Option Telling → ℕ
+count_where None = 0
+count_where (Some t) = count_told t
+
+-- whether it is one error in place of all
+abbrev pub is_alone : Option Telling → Bool
+is_alone None = false
+is_alone (Some (After items size)) = false
+is_alone (Some (Alone error)) = true
+
+-- items are added to what a session is to be told, where there was something or not
+pub record AddsTo (items : List PollItem) (old new : Option Telling) : Type 0 where
+  pub told : (s : Session) → told_where new s ≡ tell_session items (told_where old s)
+  -- what is alone stays so, and nothing else is
+  pub alone : is_alone new ≡ is_alone old
+  -- where nothing was, there is something only with items
+  pub brought : IsSome new → old ≡ None → items ≢ []
+  -- what was is there still
+  pub kept : new ≡ None → old ≡ None
+
+-- the size that a telling keeps is that of the queue that it makes; one that is alone is the error for size
+abbrev pub IsSized : ℕ → Telling → List Session → Type 0
+IsSized n (After items size) live =
+    (s : Session) → session_with_serial n live ≡ Some s → (size ≡ queue_size (s.queue ++ items)) × (size < 2 ^ 64 - 1)
+IsSized n (Alone error) live = (note : List ℕ) × (error ≡ the_item.Error None PollResultsTooBig note)
+
+-- a telling is of a live session, whose queue has room for it
+pub record CanTell (table : Table) (n : ℕ) (t : Telling) : Type 0 where
+  pub live : IsLive n table.live
+  pub room : count_told t ≤ spare_of n table.spare
+
+-- P holds of each serial with its telling
+abbrev pub EachTelling : (ℕ → Telling → Type 0) → Tellings → Type 0
+EachTelling P tellings = (n : ℕ) (t : Telling) → get nat_cmp tellings n ≡ Some t → P n t
+
+-- the queue of a session that is to be told nothing is within its limit
+abbrev pub AreWithin : Tellings → List Session → Type 0
+AreWithin tellings live =
+    (n : ℕ) (s : Session) → session_with_serial n live ≡ Some s → get nat_cmp tellings n ≡ None → is_overfull s ≡ false
+
+-- what there is to queue for a session of the news of each subscription
+abbrev pub queued_for : ℕ → List Standing → List News → List PollItem
+queued_for serial standing news =
+    flat_map (λ (p : Standing × News). p.1.items) (filter (λ (p : Standing × News). p.0.serial == serial) (zip standing news))
+
+-- a session that was told one error in place of all is told nothing more
+abbrev pub LeaveAlone : Tellings → List Standing → List News → Type 0
+LeaveAlone tellings standing news = (n : ℕ) → is_alone (get nat_cmp tellings n) ≡ true → queued_for n standing news ≡ []
+
+-- also gone is what is too big now, and what is of a session that is told one error in place of all
+abbrev pub gone_after : List Bool → List News → List Bool
+gone_after gone news = map (λ (p : Bool × News). p.0 || p.1.is_too_big) (zip gone news)
+
+abbrev pub gone_alone : Tellings → List Bool → List Standing → List Bool
+gone_alone tellings gone standing = map (λ (p : Bool × Standing). p.0 || is_alone (get nat_cmp tellings p.1.serial)) (zip gone standing)
+
+-- the same sessions and counter; the room for more, and that of each queue, is no less
+pub record HasSameSessions (old new : Table) : Type 0 where
+  pub live : new.live ≡ old.live
+  pub counter : new.counter ≡ old.counter
+  pub spare : (n : ℕ) → spare_of n old.spare ≤ spare_of n new.spare
+  pub room : old.room ≤ new.room
+
+-- who is told one error in place of all has no subscription left
+abbrev pub AloneAreBare : Tellings → List Bool → List Standing → Type 0
+AloneAreBare tellings gone standing = (n : ℕ) → is_alone (get nat_cmp tellings n) ≡ true → AllKept (λ x. x.serial ≢ n) gone standing
+
+-- there is nothing to queue of what is gone
+abbrev pub SkipsGone : List Bool → List News → Type 0
+SkipsGone gone news = (i : ℕ) (one : News) → slice_get gone i ≡ Some true → slice_get news i ≡ Some one → one.items ≡ []
