@@ -1,30 +1,37 @@
--- What is left to do of an event, done to the sessions.
-use Rattle.std.proofs.Common.{◌≡◌, refl, sym, ◌∙◌, ap, subst, ℕ, suc, zero, ◌+◌, ◌<◌, ◌≤◌, ◌==◌, Bool, true, false, not, cond, List, [], ◌∷◌, ◌++◌, drop, get_or, length, map, Option, None, Some, inl, inr, arith, add-one}
-use Rattle.std.proofs.lemmas.Bool.{cases_Bool, eqb-true}
+-- What is left to do of an event, done to the sessions and subscriptions.
+-- First: queues stay within their limits. Then: what a poll tells. Then: sessions end one after the other. Last: subscriptions stay in
+-- order beside sessions that change, begin or end.
+use Rattle.std.proofs.Common.{◌≡◌, ◌≢◌, refl, sym, ◌∙◌, ap, subst, ℕ, ◌+◌, ◌<◌, ◌≤◌, ◌==◌, Bool, true, false, List, [], ◌∷◌, ◌++◌, drop, get_or, length, map, Option, None, Some, inl, inr, arith}
+use Rattle.std.proofs.lemmas.Bool.{cases_Bool, eq-eqb, eqb-true}
 use Rattle.std.proofs.lemmas.Bool.Decides.{nat_tests}
-use Rattle.std.specs.List.{AllByRecursion, filter, find}
+use Rattle.std.proofs.lemmas.List.{drop_all, drop_more}
+use Rattle.std.specs.List.{AllByRecursion}
 use Rattle.std.specs.List.Sorted.{IsStrictlySortedBy}
-use Rattle.std.specs.Option.{IsSome}
+use Rattle.std.specs.Option.{IfSome}
 use Rattle.std.specs.declared.cmp.Ordering.TheVariants.{Less}
-use Rattle.ifmap_core.specs.Between.{AreWithin, CanEnd}
+use Rattle.ifmap_changes.specs.Between.{AreOrdered, AreWithin, CanEnd, IsWithin}
 use Rattle.ifmap_core.specs.Outcomes.{after_former, first_renewed, poll_found, told}
-use Rattle.ifmap_core.proofs.Ended.{is_some_of, remains, some_is, without_each, without_none}
+use Rattle.ifmap_core.proofs.Ended.{is_some_of, live_beside, remains, some_is, without_each, without_none}
 use Rattle.ifmap_lemmas.specs.Filters.{all_filter, all_weaker}
-use Rattle.ifmap_lemmas.specs.Members.{both_all, map_of_all}
-use Rattle.ifmap_machine.specs.declared.events.Answer.{Answer}
+use Rattle.ifmap_lemmas.specs.Members.{both_all}
+use Rattle.ifmap_lemmas.specs.Numbers.{is_other}
 use Rattle.ifmap_machine.specs.declared.events.Answer.TheVariants as the_answer
+use Rattle.ifmap_machine.specs.Ending.{without_standing}
 use Rattle.ifmap_machine.specs.State.{State}
 use Rattle.ifmap_machine.specs.Step.{poll_queue, renew_first}
 use Rattle.ifmap_machine.specs.Telling.{is_overfull}
 use Rattle.ifmap_replies.specs.declared.replies.Reply.TheVariants as the_reply
 use Rattle.ifmap_search.specs.declared.results.PollItem.{PollItem}
+use Rattle.ifmap_search.specs.Sizes.{queue_size}
 use Rattle.ifmap_session.specs.Sessions.{IsLive, Opening, Session, begun, change, emptied, renewed, session_order, session_with_serial, without_sessions}
-use Rattle.ifmap_session.specs.laws.TableLaws.{Keeps, changed_one, found_changed}
+use Rattle.ifmap_session.specs.laws.TableLaws.{Keeps, changed_one, found_beside_begun, found_changed, renewed_keeps}
+use Rattle.ifmap_standing.specs.declared.standing.Standing.{Standing}
+use Rattle.ifmap_standing.specs.Standing.{shown}
 
 -- ---- queues stay within their limits
 
-pub within_changed : (n : ℕ) (f : Session → Session) → ((s : Session) → is_overfull s ≡ false → is_overfull (f s) ≡ false)
-    → (live : List Session) → AreWithin live → AreWithin (change n f live)
+pub within_changed : (n : ℕ) (f : Session → Session) → ((s : Session) → IsWithin s → IsWithin (f s)) → (live : List Session)
+    → AreWithin live → AreWithin (change n f live)
 within_changed n f keeps [] h = tt
 within_changed n f keeps (s ∷ live) h =
     elim (cases_Bool (s.serial == n)) [
@@ -33,26 +40,35 @@ within_changed n f keeps (s ∷ live) h =
     ]
 
 pub within_renewed : (n moment : ℕ) (live : List Session) → AreWithin live → AreWithin (change n (renewed moment) live)
-within_renewed n moment live h = within_changed n (renewed moment) (λ s w. w) live h
+within_renewed n moment live h = within_changed n (renewed moment) (λ s w. record { full = w.full; wide = w.wide }) live h
 
-pub emptied_within : (s : Session) → is_overfull (emptied s) ≡ false
-emptied_within s = grind (arith, nat_tests)
+emptied_full : (s : Session) → is_overfull (emptied s) ≡ false
+emptied_full s = grind (arith, nat_tests)
 
 pub within_emptied : (n : ℕ) (live : List Session) → AreWithin live → AreWithin (change n emptied live)
-within_emptied n live h = within_changed n emptied (λ s w. emptied_within s) live h
+within_emptied n live h = within_changed n emptied (λ s w. record { full = emptied_full s; wide = w.wide }) live h
 
 pub within_first : (again : Bool) (n moment : ℕ) (live : List Session) → AreWithin live → AreWithin (first_renewed again n moment live)
 within_first true n moment live h = h
 within_first false n moment live h = within_renewed n moment live h
 
 pub within_left : (serials : List ℕ) (live : List Session) → AreWithin live → AreWithin (without_sessions serials live)
-within_left serials live h = all_filter (λ s. is_overfull s ≡ false) (remains serials) live h
+within_left serials live h = all_filter IsWithin (remains serials) live h
 
-pub within_begun : (opening : Opening) (limit moment : ℕ) (live : List Session) → AreWithin live
+pub within_former : (former : Option ℕ) (live : List Session) → AreWithin live → AreWithin (after_former former live)
+within_former None live h = h
+within_former (Some n) live h = within_left (n ∷ []) live h
+
+begun_full : (opening : Opening) (limit moment : ℕ) → is_overfull (begun opening limit moment) ≡ false
+begun_full opening limit moment = grind (arith, nat_tests)
+
+pub within_begun : (opening : Opening) (limit moment : ℕ) (live : List Session) → 100 ≤ limit → AreWithin live
     → AreWithin (live ++ begun opening limit moment ∷ [])
-within_begun opening limit moment live h =
-    let none : is_overfull (begun opening limit moment) ≡ false = grind (arith, nat_tests) in
-    both_all (λ s. is_overfull s ≡ false) live (begun opening limit moment ∷ []) h (none, tt)
+within_begun opening limit moment live wide h =
+    both_all IsWithin live (begun opening limit moment ∷ []) h (record { full = begun_full opening limit moment; wide = wide }, tt)
+
+not_full : (s : Session) (queue : List PollItem) → queue_size queue ≤ s.limit → is_overfull (record s { queue = queue }) ≡ false
+not_full s queue le = grind (arith, nat_tests, le)
 
 -- ---- what a poll tells
 
@@ -70,6 +86,22 @@ others_same n x f [] is up = refl
 others_same n x f (y ∷ live) is up =
     let other : (y.serial == n) ≡ false = let less = up.0 in grind (arith, nat_tests, is, less) in
     rw other (ap (λ t. y ∷ t) (others_same n x f live is up.1))
+
+-- a session has another queue, which is within its limit
+pub fits_within : (n : ℕ) (queue : List PollItem) (live : List Session) → IsStrictlySortedBy session_order live → AreWithin live
+    → ((s : Session) → session_with_serial n live ≡ Some s → queue_size queue ≤ s.limit)
+    → AreWithin (change n (λ (s : Session). record s { queue = queue }) live)
+unfolding IsStrictlySortedBy
+fits_within n queue [] up h fits = tt
+fits_within n queue (x ∷ live) up h fits =
+    elim (cases_Bool (x.serial == n)) [
+      | inl hit ↦
+          let le : queue_size queue ≤ x.limit = fits x (rw hit refl) in (
+            rw hit (record { full = not_full x queue le; wide = h.0.wide }),
+            subst AreWithin (sym (others_same n x (λ (s : Session). record s { queue = queue }) live hit up.0)) h.1,
+          )
+      | inr miss ↦ (rw miss h.0, fits_within n queue live up.1 h.1 (λ s e. fits s (rw miss e)))
+    ]
 
 -- where the queue is empty, emptying it changes nothing
 pub emptied_same : (n : ℕ) (live : List Session) (s : Session) → IsStrictlySortedBy session_order live → session_with_serial n live ≡ Some s
@@ -89,7 +121,7 @@ pub told_some : (items : List PollItem) → (items ≡ [] → ⊥) → told item
 told_some [] some = absurd (some refl)
 told_some (item ∷ items) some = refl
 
-emptied_keeps : Keeps emptied
+pub emptied_keeps : Keeps emptied
 emptied_keeps = record { serial = λ s. refl; id = λ s. refl; client = λ s. refl }
 
 pub live_emptied : (n : ℕ) (live : List Session) → IsLive n live → IsLive n (change n emptied live)
@@ -121,10 +153,8 @@ poll_told state again n s up found items is =
 
 -- ---- sessions end one after the other
 
-pub drop_next : (xs : List ℕ) (i : ℕ) → i < length xs → drop i xs ≡ get_or xs i 0 ∷ drop (i + 1) xs
-drop_next [] i lt = absurd (omega (arith, lt))
-drop_next (y ∷ ys) zero lt = refl
-drop_next (y ∷ ys) (suc i) lt = rw (add-one (suc i)) (drop_next ys i (omega (arith, lt)) ∙ rw (add-one i) refl)
+drop_next : (xs : List ℕ) (i : ℕ) → i < length xs → drop i xs ≡ get_or xs i 0 ∷ drop (i + 1) xs
+drop_next xs i lt = drop_more xs i 0 lt
 
 pub record EndsSoFar (ended : List ℕ) (old new : List Session) (i : ℕ) : Type 0 where
   pub can : CanEnd (drop i ended) new
@@ -145,17 +175,92 @@ pub one_can_end : (ended : List ℕ) (old mid : List Session) (i : ℕ) → i < 
 one_can_end ended old mid i lt so =
     let can : CanEnd (get_or ended i 0 ∷ drop (i + 1) ended) mid = subst (λ ns. CanEnd ns mid) (drop_next ended i lt) so.can in can.0
 
-drop_all : (xs : List ℕ) (i : ℕ) → length xs ≤ i → drop i xs ≡ []
-drop_all [] zero le = refl
-drop_all [] (suc i) le = refl
-drop_all (x ∷ xs) zero le = absurd (omega (arith, le))
-drop_all (x ∷ xs) (suc i) le = drop_all xs i (omega (arith, le))
-
 pub ended_all : (ended : List ℕ) (old new : List Session) (i : ℕ) → length ended ≤ i → EndsSoFar ended old new i
     → new ≡ without_sessions ended old
 ended_all ended old new i le so =
-    sym (without_none new) ∙ ap (λ (ns : List ℕ). without_sessions ns new) (sym (drop_all ended i le)) ∙ so.rest
+    sym (without_none new) ∙ ap (λ (ns : List ℕ). without_sessions ns new) (sym (drop_all i ended le)) ∙ so.rest
 
-pub within_former : (former : Option ℕ) (live : List Session) → AreWithin live → AreWithin (after_former former live)
-within_former None live h = h
-within_former (Some n) live h = within_left (n ∷ []) live h
+-- what is live beside those that ended
+not_live : (m : ℕ) (live : List Session) → IsLive m (without_sessions (m ∷ []) live) → ⊥
+not_live m [] l = cc
+not_live m (x ∷ live) l =
+    elim (cases_Bool (m == x.serial)) [
+      | inl goes ↦ not_live m live (rw goes at l)
+      | inr stays ↦
+          let other : (x.serial == m) ≡ false = is_other x.serial m (λ e. let same : (m == x.serial) ≡ true = eq-eqb m x.serial (sym e) in
+          let bad : true ≡ false = sym same ∙ stays in cc) in
+          not_live m live (rw (stays, other) at l)
+    ]
+
+pub other_lives : (n m : ℕ) (live : List Session) → IsLive n (without_sessions (m ∷ []) live) → n ≢ m
+other_lives n m live l = λ e. not_live m live (subst (λ k. IsLive k (without_sessions (m ∷ []) live)) e l)
+
+pub lived : (n : ℕ) (serials : List ℕ) (live : List Session) → IsLive n (without_sessions serials live) → IsLive n live
+lived n serials [] l = l
+lived n serials (x ∷ live) l =
+    elim (cases_Bool (x.serial == n)) [
+      | inl hit ↦ rw hit refl
+      | inr miss ↦
+          elim (cases_Bool (remains serials x)) [
+            | inl stays ↦ rw miss (lived n serials live (rw (stays, miss) at l))
+            | inr goes ↦ rw miss (lived n serials live (rw goes at l))
+          ]
+    ]
+
+-- ---- subscriptions stay in order beside sessions
+
+module _ (n : ℕ) (f : Session → Session) (k : Keeps f) where
+  pub live_changed : (m : ℕ) (live : List Session) → IsLive m live → IsLive m (change n f live)
+  live_changed m live l =
+      let there = some_is (session_with_serial m live) l in
+      is_some_of (session_with_serial m (change n f live)) (changed_one n f there.0) (found_changed n f k m live there.0 there.1)
+
+pub live_first : (again : Bool) (n moment m : ℕ) (live : List Session) → IsLive m live → IsLive m (first_renewed again n moment live)
+live_first true n moment m live l = l
+live_first false n moment m live l = live_changed n (renewed moment) (renewed_keeps moment) m live l
+
+pub live_begun : (m : ℕ) (live : List Session) (s : Session) → IsLive m live → IsLive m (live ++ s ∷ [])
+live_begun m live s l =
+    let there = some_is (session_with_serial m live) l in
+    is_some_of (session_with_serial m (live ++ s ∷ [])) there.0 (found_beside_begun m live s there.0 there.1)
+
+other_serial : (m n : ℕ) → m ≢ n → (m == n) ≡ false
+other_serial m n e = is_other m n e
+
+-- with sessions of which none is missing that subscriptions are of
+pub ordered_by : (old new : List Session) (standing : List Standing) → AreOrdered old standing
+    → AllByRecursion (λ (x : Standing). IsLive x.serial new) standing → AreOrdered new standing
+ordered_by old new standing o live = record { rising = o.rising; live = live; few = o.few }
+
+pub ordered_moved : (old new : List Session) → ((m : ℕ) → IsLive m old → IsLive m new) → (standing : List Standing)
+    → AreOrdered old standing → AreOrdered new standing
+ordered_moved old new moves standing o =
+    ordered_by old new standing o (all_weaker (λ (x : Standing). IsLive x.serial old) (λ (x : Standing). IsLive x.serial new)
+    (λ x l. moves x.serial l) standing o.live)
+
+pub all_two : {X : Type 0} (P Q R : X → Type 0) → ((x : X) → P x → Q x → R x) → (xs : List X) → AllByRecursion P xs → AllByRecursion Q xs
+    → AllByRecursion R xs
+all_two P Q R f [] p q = tt
+all_two P Q R f (x ∷ xs) p q = (f x p.0 q.0, all_two P Q R f xs p.1 q.1)
+
+-- where a session ends that has no subscription
+pub ordered_beside : (n : ℕ) (live : List Session) (standing : List Standing) → AllByRecursion (λ (x : Standing). x.serial ≢ n) standing
+    → AreOrdered live standing → AreOrdered (without_sessions (n ∷ []) live) standing
+ordered_beside n live standing bare o =
+    ordered_by live (without_sessions (n ∷ []) live) standing o (all_two (λ (x : Standing). x.serial ≢ n)
+    (λ (x : Standing). IsLive x.serial live) (λ (x : Standing). IsLive x.serial (without_sessions (n ∷ []) live))
+    (λ x other l. live_beside n x.serial live (other_serial x.serial n other) l) standing bare o.live)
+
+-- whose subscriptions are those that stand
+pub bare_stays : (n : ℕ) (standing : List Standing) → AllByRecursion (λ (x : Standing). x.serial ≢ n) standing
+    → without_standing (n ∷ []) (map shown standing) ≡ map shown standing
+bare_stays n [] bare = refl
+bare_stays n (x ∷ xs) bare =
+    let other : (n == x.serial) ≡ false = is_other n x.serial (λ e. bare.0 (sym e)) in
+    rw other (ap (λ t. shown x ∷ t) (bare_stays n xs bare.1))
+
+pub former_ordered : (former : Option ℕ) (live : List Session) (standing : List Standing)
+    → IfSome former (λ n. AllByRecursion (λ (x : Standing). x.serial ≢ n) standing) → AreOrdered live standing
+    → AreOrdered (after_former former live) standing
+former_ordered None live standing bare o = o
+former_ordered (Some n) live standing bare o = ordered_beside n live standing bare o

@@ -1,15 +1,15 @@
 -- Sessions of which some have expired: what is found among those that are left, and how they end one after the other.
 -- First: what a search finds among those that a filter leaves (`found_left`, `id_lost`, `client_lost`). Then: sessions end one after the
 -- other (`can_end`, `without_each`), and how many are left (`left_length`). Last: so do those that are expired (`expired_end`).
-use Rattle.std.proofs.Common.{◌≡◌, refl, sym, ◌∙◌, ap, subst, ℕ, suc, ◌+◌, ◌-◌, ◌^◌, ◌<◌, ◌≤◌, ◌==◌, ◌||◌, Bool, true, false, not, cond, List, [], ◌∷◌, ◌++◌, length, map, nat_eq, Option, None, Some, inl, inr, arith}
-use Rattle.std.proofs.lemmas.Bool.{cases_Bool, eq-eqb, eqb-true, or_cases}
+use Rattle.std.proofs.Common.{◌≡◌, refl, sym, ◌∙◌, ap, subst, ℕ, ◌+◌, ◌≤◌, ◌==◌, Bool, true, false, not, List, [], ◌∷◌, length, map, nat_eq, Option, None, Some, inl, inr, arith}
+use Rattle.std.proofs.lemmas.Bool.{cases_Bool, eq-eqb, or_parts}
 use Rattle.std.proofs.lemmas.Bool.Decides.{nat_tests}
 use Rattle.std.proofs.lemmas.List.Kept.{IsStrictlySortedBy-filter}
 use Rattle.std.specs.List.{AllByRecursion, IsDistinct, filter, find, list_any}
 use Rattle.std.specs.List.Sorted.{IsStrictlySortedBy}
 use Rattle.std.specs.Option.{IsSome}
 use Rattle.std.specs.declared.cmp.Ordering.TheVariants.{Less}
-use Rattle.ifmap_core.specs.Between.{CanEnd}
+use Rattle.ifmap_changes.specs.Between.{CanEnd}
 use Rattle.ifmap_lemmas.specs.Filters.{all_filter, all_weaker}
 use Rattle.ifmap_lemmas.specs.Members.{map_of_all}
 use Rattle.ifmap_session.specs.SessionIds.{BeginsWithSerial}
@@ -118,7 +118,7 @@ some_is (Some x) e = (x, refl)
 pub is_some_of : {X : Type 0} (o : Option X) (x : X) → o ≡ Some x → IsSome o
 is_some_of o x e = rw e refl
 
-live_beside : (n m : ℕ) (live : List Session) → (m == n) ≡ false → IsLive m live → IsLive m (without_sessions (n ∷ []) live)
+pub live_beside : (n m : ℕ) (live : List Session) → (m == n) ≡ false → IsLive m live → IsLive m (without_sessions (n ∷ []) live)
 live_beside n m live other l =
     let there = some_is (session_with_serial m live) l in
     is_some_of (session_with_serial m (without_sessions (n ∷ []) live)) there.0 (found_beside_ended n m live there.0 other there.1)
@@ -212,9 +212,17 @@ serials_apart (x ∷ live) up = (
   serials_apart live up.1,
 )
 
-pub expired_end : (moment ttl : ℕ) (live : List Session) → IsStrictlySortedBy session_order live → CanEnd (expired_serials moment ttl live) live
+pub expired_end : (moment ttl : ℕ) (live : List Session) → IsStrictlySortedBy session_order live
+    → CanEnd (expired_serials moment ttl live) live
 expired_end moment ttl live up =
     let p : Session → Bool = is_expired moment ttl in
     can_end (expired_serials moment ttl live) live (serials_apart (filter p live) (IsStrictlySortedBy-filter session_order p live up))
     (map_of_all (λ n. IsLive n live) (λ (s : Session). s.serial) (filter p live)
     (all_filter (λ (s : Session). IsLive s.serial live) p live (each_live live)))
+
+pub none_expired : (moment ttl : ℕ) (live : List Session) → list_any (is_expired moment ttl) live ≡ false
+    → expired_serials moment ttl live ≡ []
+none_expired moment ttl [] e = refl
+none_expired moment ttl (x ∷ live) e =
+    let both = or_parts (is_expired moment ttl x) (list_any (is_expired moment ttl) live) e in
+    rw (both.0) (none_expired moment ttl live both.1)

@@ -1,9 +1,9 @@
 -- When a queue is empty, and when a poll would be held.
-use Rattle.std.proofs.Common.{◌≡◌, ◌≢◌, ◌↔◌, refl, sym, ◌∙◌, ap, subst, ℕ, ◌+◌, ◌-◌, ◌^◌, ◌<◌, ◌≤◌, Bool, true, false, List, [], ◌∷◌, None, Some, min, sum_by, arith}
+use Rattle.std.proofs.Common.{◌≡◌, refl, sym, ◌∙◌, ap, subst, ℕ, ◌-◌, ◌^◌, ◌≤◌, Bool, true, false, List, [], ◌∷◌, min, arith}
 use Rattle.std.proofs.lemmas.List.Sums.{sum_by-cons}
 use Rattle.std.specs.Bool.{OnTrue}
 use Rattle.ifmap_core.specs.Holding.{HasNothing, WouldHold}
-use Rattle.ifmap_core.proofs.Requests.{none_expired}
+use Rattle.ifmap_core.proofs.Ended.{none_expired}
 use Rattle.ifmap_machine.specs.declared.events.Answer.{Answer}
 use Rattle.ifmap_machine.specs.declared.events.Answer.TheVariants as the_answer
 use Rattle.ifmap_machine.specs.Ending.{end_some, expire}
@@ -15,7 +15,7 @@ use Rattle.ifmap_machine.specs.declared.events.Ask.TheVariants.{Request}
 use Rattle.ifmap_requests.specs.declared.requests.Request.TheVariants.{Poll}
 use Rattle.ifmap_search.specs.declared.results.PollItem.{PollItem}
 use Rattle.ifmap_search.specs.declared.results.PollItem.TheVariants.{Search, Update, Delete, Notify, Error}
-use Rattle.ifmap_search.specs.Sizes.{entries_size, poll_size, queue_size}
+use Rattle.ifmap_search.specs.Sizes.{poll_size, queue_size}
 use Rattle.ifmap_session.specs.Sessions.{Session, is_text}
 use Rattle.ifmap_session.specs.laws.TextLaws.{text_same}
 

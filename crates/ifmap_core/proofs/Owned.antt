@@ -1,14 +1,12 @@
 -- Whose a session is that is left.
-use Rattle.std.proofs.Common.{◌≡◌, refl, sym, ◌∙◌, ap, subst, ℕ, ◌==◌, Bool, true, false, not, List, map, Option, None, Some, is_none, inl, inr}
+use Rattle.std.proofs.Common.{◌≡◌, refl, sym, ◌∙◌, ap, subst, ℕ, ◌==◌, Bool, true, false, not, List, Option, None, Some, is_none, inl, inr}
 use Rattle.std.proofs.lemmas.Bool.{cases_Bool}
-use Rattle.std.specs.List.{find, list_any}
-use Rattle.std.specs.Option.{IfSome, IsSome, is_some, option_map}
-use Rattle.ifmap_core.specs.Outcomes.{IsOwner}
-use Rattle.ifmap_core.specs.declared.outcomes.Owner.TheVariants.{Own, Another}
-use Rattle.ifmap_core.proofs.Ended.{client_lost, found_left, id_lost, none_left, remains, rising_left}
+use Rattle.std.specs.List.{list_any}
+use Rattle.std.specs.Option.{is_some, option_map}
+use Rattle.ifmap_core.proofs.Ended.{client_lost, found_left, none_left, remains, rising_left}
 use Rattle.ifmap_session.specs.Sessions.{IsLive, IsTable, Session, Table, is_text, session_of_client, session_with_id, session_with_serial, without_sessions}
 use Rattle.ifmap_session.specs.laws.TableLaws.{found_by_serial}
-use Rattle.ifmap_session.specs.laws.TextLaws.{text_is, text_same}
+use Rattle.ifmap_session.specs.laws.TextLaws.{text_is}
 
 pub other_text : (a b : List ℕ) (r : Bool) → (a ≡ b → r ≡ true) → r ≡ false → is_text a b ≡ false
 other_text a b r f no_text =

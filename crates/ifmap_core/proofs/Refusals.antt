@@ -1,11 +1,11 @@
 -- When the cases of the step refuse, and with which code.
 -- For each code, when each case refuses with it: by `missing`, `denied`, `other` for requests in a session, and by the tests of a new
 -- session, a search, a purge and a poll for themselves. Each cause and its refusal are then tied both ways, and a refusal leaves the state.
-use Rattle.std.proofs.Common.{◌≡◌, ◌≢◌, ◌↔◌, refl, sym, ◌∙◌, ap, ℕ, ◌-◌, ◌^◌, ◌<◌, ◌≤◌, ◌==◌, ◌&&◌, Bool, true, false, List, [], ◌∷◌, length, Option, None, Some, inl, inr, ◌⊎◌, nat_le, is_none, arith}
+use Rattle.std.proofs.Common.{◌≡◌, ◌≢◌, ◌↔◌, refl, sym, ◌∙◌, ap, subst, ℕ, ◌-◌, ◌^◌, ◌<◌, ◌≤◌, ◌==◌, ◌&&◌, Bool, true, false, List, [], ◌∷◌, length, Option, None, Some, inl, inr, ◌⊎◌, nat_le, is_none, arith}
 use Rattle.std.proofs.lemmas.Bool.{and_from, and_parts, both_ways, cases_Bool, eq-eqb, eqb-true, or_cases, or_left, or_right}
 use Rattle.std.proofs.lemmas.Bool.Decides.{nat_tests}
-use Rattle.ifmap_core.specs.Built.{IsBuilt}
-use Rattle.ifmap_core.specs.Causes.{AsksForNoneLeft, FindsTooMuch, IsRefusal, NamesAnothersSession, NamesNoSession, PurgesAnother}
+use Rattle.ifmap_core.specs.Causes.{AsksForNoneLeft, FindsTooMuch, HasNoRoomForName, IsRefusal, MeetsNoRoom, NamesAnothersSession, NamesNoSession, PurgesAnother}
+use Rattle.ifmap_core.proofs.Rooms.{no_room_where}
 use Rattle.ifmap_fresh.specs.Fresh.{fresh_size}
 use Rattle.ifmap_ident.specs.declared.codes.Code.{Code}
 use Rattle.ifmap_ident.specs.declared.codes.Code.TheVariants.{AccessDenied, InvalidSessionID, SearchResultsTooBig, SystemError}
@@ -14,8 +14,10 @@ use Rattle.ifmap_machine.specs.declared.events.Ask.{Ask}
 use Rattle.ifmap_machine.specs.declared.events.Ask.TheVariants.{Request, Lost}
 use Rattle.ifmap_machine.specs.Events.{Event}
 use Rattle.ifmap_machine.specs.State.{State}
-use Rattle.ifmap_machine.specs.Step.{end_session, in_session, is_full, lose, new_session, poll, poll_in, poll_queue, publish, purge, renew_session, search, step_ask}
+use Rattle.ifmap_machine.specs.Step.{answer_subscribed, end_session, in_session, is_full, lose, new_session, poll, poll_in, poll_queue, publish, purge, renew_session, search, step_ask, subscribe}
+use Rattle.ifmap_machine.specs.Subscribing.{Told, subscribe_ops}
 use Rattle.ifmap_machine.specs.Telling.{is_too_big}
+use Rattle.ifmap_requests.specs.declared.requests.SubscribeOp.{SubscribeOp}
 use Rattle.ifmap_requests.specs.declared.requests.Request.TheVariants as the_request
 use Rattle.ifmap_search.specs.declared.results.PollItem.{PollItem}
 use Rattle.ifmap_search.specs.declared.searches.Search.{Search}
@@ -63,6 +65,31 @@ poll_never state again s code h = queue_never state again s s.queue code h
 lost_never : (state : State) (client : List ℕ) (o : Option Session) (code : Code) → IsRefusal code (lose state client o).1 → ⊥
 lost_never state client None code h = h
 lost_never state client (Some s) code h = h
+
+-- a subscribe refuses where there is no room for a name
+subscribe_refuses : (state : State) (s : Session) (o : Option Told) (code : Code) → IsRefusal code (answer_subscribed state s o).1
+    → (SystemError ≡ code) × (o ≡ None)
+subscribe_refuses state s None code h = (h, refl)
+subscribe_refuses state s (Some t) code h = absurd h
+
+subscribe_refused : (state : State) (s : Session) (o : Option Told) → o ≡ None → IsRefusal SystemError (answer_subscribed state s o).1
+subscribe_refused state s o none = rw none refl
+
+subscribe_leaves : (state : State) (s : Session) (o : Option Told) (code : Code) → IsRefusal code (answer_subscribed state s o).1
+    → (answer_subscribed state s o).0 ≡ state
+subscribe_leaves state s None code h = refl
+subscribe_leaves state s (Some t) code h = absurd h
+
+-- a session's queue and all subscriptions, and what a subscribe makes of them
+abbrev told_in : State → Session → Told
+told_in state s = record { queue = s.queue; standing = state.standing }
+
+abbrev subscribed : State → List SubscribeOp → Session → Option Told
+subscribed state ops s = subscribe_ops state.graph s.serial ops (told_in state s)
+
+-- the session's operations come to a name for which there is no room
+abbrev LacksRoom : State → List SubscribeOp → Session → Type 0
+LacksRoom state ops s = MeetsNoRoom state.graph s.serial ops (told_in state s)
 
 -- a request in a session, where what is accepted is not refused with the code in question
 module _ (state : State) (client : List ℕ) (accept : Session → State × Answer) where
@@ -173,6 +200,26 @@ too_much state client (Some s) asked = (
       rw own (search_refused state asked s h.1)),
 )
 
+-- a subscribe in a session
+no_room : (state : State) (client : List ℕ) (o : Option Session) (ops : List SubscribeOp)
+    → IsRefusal SystemError (in_session state client o (subscribe state ops)).1
+    ↔ ((s : Session) × (o ≡ Some s) × (s.client ≡ client) × LacksRoom state ops s)
+no_room state client None ops = ((λ h. let bad : InvalidSessionID ≡ SystemError = h in cc), (λ h. let bad = h.1 in cc))
+no_room state client (Some s) ops = (
+  (λ h. elim (cases_Bool (is_text s.client client)) [
+    | inl hit ↦
+        let none = (subscribe_refuses state s (subscribed state ops s) SystemError (rw hit at h)).1 in
+        (s, refl, text_is s.client client hit, (no_room_where state.graph s.serial ops (told_in state s)).0 none)
+    | inr miss ↦ let bad : AccessDenied ≡ SystemError = rw miss at h in cc
+  ]),
+  (λ h.
+      let same : h.0 ≡ s = let e = h.1 in cc in
+      let own : is_text s.client client ≡ true = text_same s.client client (ap (λ (t : Session). t.client) (sym same) ∙ h.2) in
+      let meets = subst (LacksRoom state ops) same h.3 in
+      let none = (no_room_where state.graph s.serial ops (told_in state s)).1 meets in
+      rw own (subscribe_refused state s (subscribed state ops s) none)),
+)
+
 -- a new session
 none_is : (o : Option Session) → is_none o ≡ true → o ≡ None
 none_is None e = refl
@@ -228,44 +275,48 @@ module _ (state : State) (event : Event) where
   abbrev found : List ℕ → Option Session
   found id = session_with_id id state.sessions
 
-  pub invalid_session : (ask : Ask) → IsBuilt ask → IsRefusal InvalidSessionID (step_ask state event ask).1
+  pub invalid_session : (ask : Ask) → IsRefusal InvalidSessionID (step_ask state event ask).1
       ↔ NamesNoSession state event.again ask
-  invalid_session (Lost id) b = ((λ h. absurd (lost_never state client (found id) InvalidSessionID h)), (λ e. let bad = e.0 in cc))
-  invalid_session (Request (the_request.NewSession limit)) b = (
+  invalid_session (Lost id) = ((λ h. absurd (lost_never state client (found id) InvalidSessionID h)), (λ e. let bad = e.0 in cc))
+  invalid_session (Request (the_request.NewSession limit)) = (
     (λ h. let bad : SystemError ≡ InvalidSessionID = (new_refuses state client event.random limit InvalidSessionID h).0 in cc),
     (λ e. let bad = e.0 in cc),
   )
-  invalid_session (Request (the_request.RenewSession id)) b = missing state client (renew_session state) (found id) (λ s h. h)
-  invalid_session (Request (the_request.EndSession id)) b = missing state client (end_session state) (found id) (λ s h. h)
-  invalid_session (Request (the_request.Publish id ops)) b = missing state client (publish state ops) (found id) (λ s h. h)
-  invalid_session (Request (the_request.Search id asked)) b =
+  invalid_session (Request (the_request.RenewSession id)) = missing state client (renew_session state) (found id) (λ s h. h)
+  invalid_session (Request (the_request.EndSession id)) = missing state client (end_session state) (found id) (λ s h. h)
+  invalid_session (Request (the_request.Publish id ops)) = missing state client (publish state ops) (found id) (λ s h. h)
+  invalid_session (Request (the_request.Search id asked)) =
       missing state client (search state asked) (found id)
       (λ s h. let bad : SearchResultsTooBig ≡ InvalidSessionID = (search_refuses state asked s InvalidSessionID h).0 in cc)
-  invalid_session (Request (the_request.Subscribe id ops)) b = absurd b
-  invalid_session (Request (the_request.Poll id)) b = poll_missing state client event.again (found id)
-  invalid_session (Request (the_request.PurgePublisher id publisher)) b =
+  invalid_session (Request (the_request.Subscribe id ops)) =
+      missing state client (subscribe state ops) (found id)
+      (λ s h. let bad : SystemError ≡ InvalidSessionID = (subscribe_refuses state s (subscribed state ops s) InvalidSessionID h).0 in cc)
+  invalid_session (Request (the_request.Poll id)) = poll_missing state client event.again (found id)
+  invalid_session (Request (the_request.PurgePublisher id publisher)) =
       missing state client (purge state publisher) (found id)
       (λ s h. let bad : AccessDenied ≡ InvalidSessionID = (purge_refuses state publisher s InvalidSessionID h).0 in cc)
 
-  pub access_denied : (ask : Ask) → IsBuilt ask → IsRefusal AccessDenied (step_ask state event ask).1
+  pub access_denied : (ask : Ask) → IsRefusal AccessDenied (step_ask state event ask).1
       ↔ (NamesAnothersSession state client ask ⊎ PurgesAnother state client ask)
-  access_denied (Lost id) b = (
+  access_denied (Lost id) = (
     (λ h. absurd (lost_never state client (found id) AccessDenied h)),
     (λ h. elim h [ inl there ↦ let bad = there.1 in cc | inr bad ↦ absurd bad ]),
   )
-  access_denied (Request (the_request.NewSession limit)) b = (
+  access_denied (Request (the_request.NewSession limit)) = (
     (λ h. let bad : SystemError ≡ AccessDenied = (new_refuses state client event.random limit AccessDenied h).0 in cc),
     (λ h. elim h [ inl there ↦ let bad = there.1 in cc | inr bad ↦ absurd bad ]),
   )
-  access_denied (Request (the_request.RenewSession id)) b = denied state client (renew_session state) (found id) (λ s h. h)
-  access_denied (Request (the_request.EndSession id)) b = denied state client (end_session state) (found id) (λ s h. h)
-  access_denied (Request (the_request.Publish id ops)) b = denied state client (publish state ops) (found id) (λ s h. h)
-  access_denied (Request (the_request.Search id asked)) b =
+  access_denied (Request (the_request.RenewSession id)) = denied state client (renew_session state) (found id) (λ s h. h)
+  access_denied (Request (the_request.EndSession id)) = denied state client (end_session state) (found id) (λ s h. h)
+  access_denied (Request (the_request.Publish id ops)) = denied state client (publish state ops) (found id) (λ s h. h)
+  access_denied (Request (the_request.Search id asked)) =
       denied state client (search state asked) (found id)
       (λ s h. let bad : SearchResultsTooBig ≡ AccessDenied = (search_refuses state asked s AccessDenied h).0 in cc)
-  access_denied (Request (the_request.Subscribe id ops)) b = absurd b
-  access_denied (Request (the_request.Poll id)) b = poll_denied state client event.again (found id)
-  access_denied (Request (the_request.PurgePublisher id publisher)) b =
+  access_denied (Request (the_request.Subscribe id ops)) =
+      denied state client (subscribe state ops) (found id)
+      (λ s h. let bad : SystemError ≡ AccessDenied = (subscribe_refuses state s (subscribed state ops s) AccessDenied h).0 in cc)
+  access_denied (Request (the_request.Poll id)) = poll_denied state client event.again (found id)
+  access_denied (Request (the_request.PurgePublisher id publisher)) =
       denied_here state client (purge state publisher) (found id)
       (((s : Session) × (found id ≡ Some s) × (s.client ≡ client)) × (publisher ≢ client)) (λ s e own h. (
         (s, e, text_is s.client client own),
@@ -281,65 +332,82 @@ module _ (state : State) (event : Event) where
             | inr miss ↦ rw miss refl
           ]
 
-  pub system_error : (ask : Ask) → IsBuilt ask → IsRefusal SystemError (step_ask state event ask).1 ↔ AsksForNoneLeft state client ask
-  system_error (Lost id) b = ((λ h. absurd (lost_never state client (found id) SystemError h)), (λ h. absurd h))
-  system_error (Request (the_request.NewSession limit)) b = none_left state client event.random limit
-  system_error (Request (the_request.RenewSession id)) b =
-      ((λ h. absurd (other state client (renew_session state) (found id) SystemError (λ e. cc) (λ e. cc) (λ s k. k) h)), (λ h. absurd h))
-  system_error (Request (the_request.EndSession id)) b =
-      ((λ h. absurd (other state client (end_session state) (found id) SystemError (λ e. cc) (λ e. cc) (λ s k. k) h)), (λ h. absurd h))
-  system_error (Request (the_request.Publish id ops)) b =
-      ((λ h. absurd (other state client (publish state ops) (found id) SystemError (λ e. cc) (λ e. cc) (λ s k. k) h)), (λ h. absurd h))
-  system_error (Request (the_request.Search id asked)) b = (
-    (λ h. absurd (other state client (search state asked) (found id) SystemError (λ e. cc) (λ e. cc)
-        (λ s k. let bad : SearchResultsTooBig ≡ SystemError = (search_refuses state asked s SystemError k).0 in cc) h)),
-    (λ h. absurd h),
-  )
-  system_error (Request (the_request.Subscribe id ops)) b = absurd b
-  system_error (Request (the_request.Poll id)) b =
-      ((λ h. absurd (poll_other state client event.again (found id) SystemError (λ e. cc) (λ e. cc) h)), (λ h. absurd h))
-  system_error (Request (the_request.PurgePublisher id publisher)) b = (
-    (λ h. absurd (other state client (purge state publisher) (found id) SystemError (λ e. cc) (λ e. cc)
-        (λ s k. let bad : AccessDenied ≡ SystemError = (purge_refuses state publisher s SystemError k).0 in cc) h)),
-    (λ h. absurd h),
-  )
+  -- no cause where none is
+  never : (P : Type 0) → (P → ⊥) → P ↔ (⊥ ⊎ ⊥)
+  never P f = ((λ h. absurd (f h)), (λ h. elim h [ inl bad ↦ absurd bad | inr bad ↦ absurd bad ]))
 
-  pub too_big : (ask : Ask) → IsBuilt ask → IsRefusal SearchResultsTooBig (step_ask state event ask).1 ↔ FindsTooMuch state client ask
-  too_big (Lost id) b = ((λ h. absurd (lost_never state client (found id) SearchResultsTooBig h)), (λ h. absurd h))
-  too_big (Request (the_request.NewSession limit)) b = (
+  pub system_error : (ask : Ask) → IsRefusal SystemError (step_ask state event ask).1
+      ↔ (AsksForNoneLeft state client ask ⊎ HasNoRoomForName state client ask)
+  system_error (Lost id) = never _ (λ h. lost_never state client (found id) SystemError h)
+  system_error (Request (the_request.NewSession limit)) = (
+    (λ h. inl ((none_left state client event.random limit).0 h)),
+    (λ h. elim h [ inl full ↦ (none_left state client event.random limit).1 full | inr bad ↦ absurd bad ]),
+  )
+  system_error (Request (the_request.RenewSession id)) =
+      never _ (λ h. other state client (renew_session state) (found id) SystemError (λ e. cc) (λ e. cc) (λ s k. k) h)
+  system_error (Request (the_request.EndSession id)) =
+      never _ (λ h. other state client (end_session state) (found id) SystemError (λ e. cc) (λ e. cc) (λ s k. k) h)
+  system_error (Request (the_request.Publish id ops)) =
+      never _ (λ h. other state client (publish state ops) (found id) SystemError (λ e. cc) (λ e. cc) (λ s k. k) h)
+  system_error (Request (the_request.Search id asked)) =
+      never _ (λ h. other state client (search state asked) (found id) SystemError (λ e. cc) (λ e. cc)
+      (λ s k. let bad : SearchResultsTooBig ≡ SystemError = (search_refuses state asked s SystemError k).0 in cc) h)
+  system_error (Request (the_request.Subscribe id ops)) = (
+    (λ h. inr ((no_room state client (found id) ops).0 h)),
+    (λ h. elim h [ inl bad ↦ absurd bad | inr none ↦ (no_room state client (found id) ops).1 none ]),
+  )
+  system_error (Request (the_request.Poll id)) =
+      never _ (λ h. poll_other state client event.again (found id) SystemError (λ e. cc) (λ e. cc) h)
+  system_error (Request (the_request.PurgePublisher id publisher)) =
+      never _ (λ h. other state client (purge state publisher) (found id) SystemError (λ e. cc) (λ e. cc)
+      (λ s k. let bad : AccessDenied ≡ SystemError = (purge_refuses state publisher s SystemError k).0 in cc) h)
+
+  pub too_big : (ask : Ask) → IsRefusal SearchResultsTooBig (step_ask state event ask).1 ↔ FindsTooMuch state client ask
+  too_big (Lost id) = ((λ h. absurd (lost_never state client (found id) SearchResultsTooBig h)), (λ h. absurd h))
+  too_big (Request (the_request.NewSession limit)) = (
     (λ h. let bad : SystemError ≡ SearchResultsTooBig = (new_refuses state client event.random limit SearchResultsTooBig h).0 in cc),
     (λ h. absurd h),
   )
-  too_big (Request (the_request.RenewSession id)) b = (
+  too_big (Request (the_request.RenewSession id)) = (
     (λ h. absurd (other state client (renew_session state) (found id) SearchResultsTooBig (λ e. cc) (λ e. cc) (λ s k. k) h)),
     (λ h. absurd h),
   )
-  too_big (Request (the_request.EndSession id)) b =
-      ((λ h. absurd (other state client (end_session state) (found id) SearchResultsTooBig (λ e. cc) (λ e. cc) (λ s k. k) h)), (λ h. absurd h))
-  too_big (Request (the_request.Publish id ops)) b =
-      ((λ h. absurd (other state client (publish state ops) (found id) SearchResultsTooBig (λ e. cc) (λ e. cc) (λ s k. k) h)), (λ h. absurd h))
-  too_big (Request (the_request.Search id asked)) b = too_much state client (found id) asked
-  too_big (Request (the_request.Subscribe id ops)) b = absurd b
-  too_big (Request (the_request.Poll id)) b =
+  too_big (Request (the_request.EndSession id)) = (
+    (λ h. absurd (other state client (end_session state) (found id) SearchResultsTooBig (λ e. cc) (λ e. cc) (λ s k. k) h)),
+    (λ h. absurd h),
+  )
+  too_big (Request (the_request.Publish id ops)) = (
+    (λ h. absurd (other state client (publish state ops) (found id) SearchResultsTooBig (λ e. cc) (λ e. cc) (λ s k. k) h)),
+    (λ h. absurd h),
+  )
+  too_big (Request (the_request.Search id asked)) = too_much state client (found id) asked
+  too_big (Request (the_request.Subscribe id ops)) = (
+    (λ h. absurd (other state client (subscribe state ops) (found id) SearchResultsTooBig (λ e. cc) (λ e. cc)
+        (λ s k. let bad : SystemError ≡ SearchResultsTooBig = (subscribe_refuses state s
+        (subscribed state ops s) SearchResultsTooBig k).0 in cc) h)),
+    (λ h. absurd h),
+  )
+  too_big (Request (the_request.Poll id)) =
       ((λ h. absurd (poll_other state client event.again (found id) SearchResultsTooBig (λ e. cc) (λ e. cc) h)), (λ h. absurd h))
-  too_big (Request (the_request.PurgePublisher id publisher)) b = (
+  too_big (Request (the_request.PurgePublisher id publisher)) = (
     (λ h. absurd (other state client (purge state publisher) (found id) SearchResultsTooBig (λ e. cc) (λ e. cc)
         (λ s k. let bad : AccessDenied ≡ SearchResultsTooBig = (purge_refuses state publisher s SearchResultsTooBig k).0 in cc) h)),
     (λ h. absurd h),
   )
 
   -- a refusal changes nothing
-  pub refusal_leaves : (code : Code) (ask : Ask) → IsBuilt ask → IsRefusal code (step_ask state event ask).1
+  pub refusal_leaves : (code : Code) (ask : Ask) → IsRefusal code (step_ask state event ask).1
       → (step_ask state event ask).0 ≡ state
-  refusal_leaves code (Lost id) b h = absurd (lost_never state client (found id) code h)
-  refusal_leaves code (Request (the_request.NewSession limit)) b h = new_leaves state client event.random limit code h
-  refusal_leaves code (Request (the_request.RenewSession id)) b h =
+  refusal_leaves code (Lost id) h = absurd (lost_never state client (found id) code h)
+  refusal_leaves code (Request (the_request.NewSession limit)) h = new_leaves state client event.random limit code h
+  refusal_leaves code (Request (the_request.RenewSession id)) h =
       leaves state client (renew_session state) (found id) code (λ s k. absurd k) h
-  refusal_leaves code (Request (the_request.EndSession id)) b h = leaves state client (end_session state) (found id) code (λ s k. absurd k) h
-  refusal_leaves code (Request (the_request.Publish id ops)) b h = leaves state client (publish state ops) (found id) code (λ s k. absurd k) h
-  refusal_leaves code (Request (the_request.Search id asked)) b h =
+  refusal_leaves code (Request (the_request.EndSession id)) h = leaves state client (end_session state) (found id) code (λ s k. absurd k) h
+  refusal_leaves code (Request (the_request.Publish id ops)) h = leaves state client (publish state ops) (found id) code (λ s k. absurd k) h
+  refusal_leaves code (Request (the_request.Search id asked)) h =
       leaves state client (search state asked) (found id) code (λ s k. search_leaves state asked s code k) h
-  refusal_leaves code (Request (the_request.Subscribe id ops)) b h = absurd b
-  refusal_leaves code (Request (the_request.Poll id)) b h = poll_leaves state client event.again (found id) code h
-  refusal_leaves code (Request (the_request.PurgePublisher id publisher)) b h =
+  refusal_leaves code (Request (the_request.Subscribe id ops)) h =
+      leaves state client (subscribe state ops) (found id) code (λ s k. subscribe_leaves state s (subscribed state ops s) code k) h
+  refusal_leaves code (Request (the_request.Poll id)) h = poll_leaves state client event.again (found id) code h
+  refusal_leaves code (Request (the_request.PurgePublisher id publisher)) h =
       leaves state client (purge state publisher) (found id) code (λ s k. purge_leaves state publisher s code k) h

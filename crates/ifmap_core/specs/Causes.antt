@@ -1,5 +1,8 @@
--- When each refusal comes, of the state that an event is answered in: at its moment, without the sessions that are expired then.
-use Rattle.std.specs.Prelude.{◌≡◌, ◌≢◌, ℕ, ◌-◌, ◌^◌, ◌≤◌, ◌<◌, ◌⊎◌, Bool, false, List, length, Option, None, Some}
+-- When each refusal comes, and each answer to a poll, of the state that an event is answered in: at its moment, without the sessions that
+-- are expired then.
+use Rattle.std.specs.Prelude.{◌≡◌, ◌≢◌, ℕ, ◌-◌, ◌^◌, ◌≤◌, ◌<◌, ◌⊎◌, Bool, true, false, List, ◌∷◌, ◌++◌, length, Option, None, Some}
+use Rattle.std.specs.List.{list_any}
+use Rattle.ifmap_core.specs.Holding.{HasNothing}
 use Rattle.ifmap_fresh.specs.Fresh.{fresh_size}
 use Rattle.ifmap_ident.specs.declared.codes.Code.{Code}
 use Rattle.ifmap_machine.specs.declared.events.Answer.{Answer}
@@ -8,10 +11,15 @@ use Rattle.ifmap_machine.specs.declared.events.Ask.{Ask}
 use Rattle.ifmap_machine.specs.declared.events.Ask.TheVariants.{Request, Lost}
 use Rattle.ifmap_machine.specs.Ending.{expire}
 use Rattle.ifmap_machine.specs.Events.{Event}
-use Rattle.ifmap_machine.specs.State.{State, advance}
+use Rattle.ifmap_machine.specs.State.{State, advance, standing_in}
+use Rattle.ifmap_machine.specs.Subscribing.{Told, is_of_name, most_names, subscribe_ops}
 use Rattle.ifmap_replies.specs.declared.replies.Reply.TheVariants as the_reply
 use Rattle.ifmap_requests.specs.declared.requests.Request.TheVariants as the_request
+use Rattle.ifmap_requests.specs.declared.requests.SubscribeOp.{SubscribeOp}
+use Rattle.ifmap_requests.specs.declared.requests.SubscribeOp.TheVariants.{Update}
+use Rattle.ifmap_search.specs.declared.searches.Search.{Search}
 use Rattle.ifmap_session.specs.Sessions.{Session, most_sessions, session_of_client, session_with_id}
+use Rattle.ifmap_view.specs.declared.attachments.Attachment.{Attachment}
 
 -- the state that an event is answered in
 abbrev pub state_for : State → Event → State
@@ -89,6 +97,33 @@ AsksForNoneLeft state client (Request (the_request.Subscribe id ops)) = ⊥
 AsksForNoneLeft state client (Request (the_request.Poll id)) = ⊥
 AsksForNoneLeft state client (Request (the_request.PurgePublisher id publisher)) = ⊥
 
+-- operations come to an update of a name for which a session has no room: once those before it are done, no subscription of the session
+-- has that name, and as many of the session stand as it may keep
+pub record MeetsNoRoom (rows : List Attachment) (serial : ℕ) (ops : List SubscribeOp) (told : Told) : Type 0 where
+  pub before : List SubscribeOp
+  pub name : List ℕ
+  pub search : Search
+  pub after : List SubscribeOp
+  pub made : Told
+  pub parts : ops ≡ before ++ Update name search ∷ after
+  pub goes : subscribe_ops rows serial before told ≡ Some made
+  pub new : list_any (is_of_name serial name) made.standing ≡ false
+  pub full : most_names ≤ length (standing_in serial made.standing)
+
+-- those of a subscribe in a live session of the client's do
+abbrev pub HasNoRoomForName : State → List ℕ → Ask → Type 0
+HasNoRoomForName state client (Lost id) = ⊥
+HasNoRoomForName state client (Request (the_request.NewSession limit)) = ⊥
+HasNoRoomForName state client (Request (the_request.RenewSession id)) = ⊥
+HasNoRoomForName state client (Request (the_request.EndSession id)) = ⊥
+HasNoRoomForName state client (Request (the_request.Publish id ops)) = ⊥
+HasNoRoomForName state client (Request (the_request.Search id asked)) = ⊥
+HasNoRoomForName state client (Request (the_request.Subscribe id ops)) =
+    (s : Session) × (session_with_id id state.sessions ≡ Some s) × (s.client ≡ client)
+    × MeetsNoRoom state.graph s.serial ops (record { queue = s.queue; standing = state.standing })
+HasNoRoomForName state client (Request (the_request.Poll id)) = ⊥
+HasNoRoomForName state client (Request (the_request.PurgePublisher id publisher)) = ⊥
+
 -- a search in a live session of the client's finds more than its limit
 abbrev pub FindsTooMuch : State → List ℕ → Ask → Type 0
 FindsTooMuch state client (Lost id) = ⊥
@@ -102,3 +137,20 @@ FindsTooMuch state client (Request (the_request.Search id asked)) =
 FindsTooMuch state client (Request (the_request.Subscribe id ops)) = ⊥
 FindsTooMuch state client (Request (the_request.Poll id)) = ⊥
 FindsTooMuch state client (Request (the_request.PurgePublisher id publisher)) = ⊥
+
+-- it is told that an answer was lost
+abbrev pub IsLoss : Ask → Type 0
+IsLoss ask = (id : List ℕ) × (ask ≡ Lost id)
+
+-- a poll is asked
+abbrev pub AsksPoll : Ask → Type 0
+AsksPoll ask = (id : List ℕ) × (ask ≡ Request (the_request.Poll id))
+
+-- a poll in a live session of the client's that has nothing to tell
+abbrev pub PollsNothing : State → List ℕ → Ask → Type 0
+PollsNothing state client ask = (id : List ℕ) × (ask ≡ Request (the_request.Poll id)) × HasNothing state.sessions id client
+
+-- a poll is asked again, by an id that no live session has
+abbrev pub PollsNoSession : State → Bool → Ask → Type 0
+PollsNoSession state again ask =
+    (id : List ℕ) × (ask ≡ Request (the_request.Poll id)) × (again ≡ true) × (session_with_id id state.sessions ≡ None)

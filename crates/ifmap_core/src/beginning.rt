@@ -1,55 +1,54 @@
 //! How a session begins.
-ghost use Rattle.std.specs.Prelude.{◌≡◌, ◌<◌, ◌-◌, ◌^◌, ◌&&◌, nat_le, false, is_none, length, IfOk, OnErr, OnOk};
+ghost use Rattle.std.specs.Prelude.{◌≡◌, ◌<◌, ◌-◌, ◌^◌, ◌&&◌, nat_le, false, is_none, length, IfOk, IfSome, OnErr, OnOk};
 ghost use Rattle.std.specs.Bool.{OnFalse};
-ghost use Rattle.ifmap_core.specs.Between.{CanEnd, IsKept, IsSteady, IsTurned, left, rest_of, so_far, AreWithin};
-ghost use Rattle.ifmap_core.specs.Outcomes.{LeadsTo, without_former};
+ghost use Rattle.ifmap_changes.specs.Between.{AreKept, AreTurned, CanEnd, IsBare, IsReady, IsSteady, left, so_far};
+ghost use Rattle.ifmap_changes.specs.declared.parts.Parts.{Parts};
+ghost use Rattle.ifmap_tellings.specs.declared.tellings.Pending.{Pending};
+ghost use Rattle.ifmap_core.specs.Outcomes.{LeadsTo, taken_former};
 ghost use Rattle.ifmap_machine.specs.Step.{is_full, new_session};
-ghost use Rattle.ifmap_session.specs.Sessions.{IsAsBefore, most_sessions, session_of_client};
-ghost use Rattle.ifmap_graph.specs.Held.{Held};
-ghost use Rattle.ifmap_graph.specs.Seen.{rows_now};
+ghost use Rattle.ifmap_session.specs.Sessions.{most_sessions, session_of_client};
 
-use crate::asking::{Asking, former_of};
-use crate::changing::take_away_one;
 use crate::outcomes::{Outcome, refuse};
+use crate::owning::former_of;
+use ifmap_changes::asking::Asking;
+use ifmap_changes::changing::take_away_one;
+use ifmap_changes::parts::Parts;
 use ifmap_elem::Copied;
-use ifmap_graph::Graph;
 use ifmap_ident::Code;
 use ifmap_session::{MOST_SESSIONS, Sessions, limit_of};
 use ifmap_steps::Steps;
+use ifmap_tellings::tellings::Pending;
 use std::alloc::{AllocError as NoMemory, Global};
 use std::sync::ledger::Ledger;
 
 // A session in place of the one that the client has, where it can have one.
 pub(crate) fn new_session<L: Ledger>(
     alloc: Global,
-    graph: &mut Graph,
-    sessions: &mut Sessions,
+    parts: &mut Parts,
+    pending: &mut Pending,
     asking: &Asking,
     random: u128,
     limit: Option<u32>,
     steps: &mut Steps<L>,
 ) -> Result<Outcome, NoMemory>
-    requires steady { IsSteady graph.old }
-    requires within { AreWithin sessions.old.live }
-    requires ended { CanEnd asking.now.ended sessions.old.live }
-    ensures leads { IfOk result (λ outcome. LeadsTo outcome (rest_of asking.now sessions.new)
-        (so_far asking.now graph.new sessions.new)
-        (new_session (so_far asking.now graph.old sessions.old) asking.now.client random limit)) }
-    ensures same { IsAsBefore sessions.old sessions.new }
-    ensures turned { OnOk result (IsTurned graph.old graph.new) }
-    ensures kept { OnErr result (IsKept graph.old graph.new) }
+    requires steady { IsSteady parts.old.graph parts.old.standing.items }
+    requires ready { IsReady asking.now parts.old pending.old }
+    ensures leads { IfOk result (λ outcome. LeadsTo outcome asking.now parts.new pending.new
+        (new_session (so_far asking.now parts.old pending.old) asking.now.client random limit)) }
+    ensures turned { OnOk result (AreTurned parts.old parts.new) }
+    ensures kept { OnErr result (AreKept parts.old parts.new) }
 {
-    if is_full(sessions, asking) {
+    if is_full(&parts.sessions, asking) {
         return refuse(alloc, Code::SystemError);
     }
-    begin(alloc, graph, sessions, asking, random, limit, steps)
+    begin(alloc, parts, pending, asking, random, limit, steps)
 }
 
 // Whether the client can be given no session.
 fn is_full(sessions: &Sessions, asking: &Asking) -> bool
     requires { CanEnd asking.now.ended sessions.now.live }
-    ensures full { (graph : Held)
-        → result ≡ is_full (so_far asking.now graph sessions.now) asking.now.client }
+    ensures full { (parts : Parts) (pending : Pending) → parts.sessions ≡ sessions.now
+        → result ≡ is_full (so_far asking.now parts pending) asking.now.client }
     ensures next { OnFalse result (sessions.now.counter < 2 ^ 64 - 1) }
 {
     sessions.is_table();
@@ -89,30 +88,27 @@ fn has_none(sessions: &Sessions, asking: &Asking) -> bool
 // A session begins.
 fn begin<L: Ledger>(
     alloc: Global,
-    graph: &mut Graph,
-    sessions: &mut Sessions,
+    parts: &mut Parts,
+    pending: &mut Pending,
     asking: &Asking,
     random: u128,
     limit: Option<u32>,
     steps: &mut Steps<L>,
 ) -> Result<Outcome, NoMemory>
-    requires steady { IsSteady graph.old }
-    requires within { AreWithin sessions.old.live }
-    requires ended { CanEnd asking.now.ended sessions.old.live }
-    requires free { is_full (so_far asking.now graph.old sessions.old) asking.now.client ≡ false }
-    requires next { sessions.old.counter < 2 ^ 64 - 1 }
-    ensures leads { IfOk result (λ outcome. LeadsTo outcome (rest_of asking.now sessions.new)
-        (so_far asking.now graph.new sessions.new)
-        (new_session (so_far asking.now graph.old sessions.old) asking.now.client random limit)) }
-    ensures same { IsAsBefore sessions.old sessions.new }
-    ensures turned { OnOk result (IsTurned graph.old graph.new) }
-    ensures kept { OnErr result (IsKept graph.old graph.new) }
+    requires steady { IsSteady parts.old.graph parts.old.standing.items }
+    requires ready { IsReady asking.now parts.old pending.old }
+    requires free { is_full (so_far asking.now parts.old pending.old) asking.now.client ≡ false }
+    requires next { parts.old.sessions.counter < 2 ^ 64 - 1 }
+    ensures leads { IfOk result (λ outcome. LeadsTo outcome asking.now parts.new pending.new
+        (new_session (so_far asking.now parts.old pending.old) asking.now.client random limit)) }
+    ensures turned { OnOk result (AreTurned parts.old parts.new) }
+    ensures kept { OnErr result (AreKept parts.old parts.new) }
 {
-    let former = former_of(sessions, asking);
-    let opening = sessions.prepare(alloc, asking.client, random)?;
-    sessions.is_table();
+    let former = former_of(&parts.sessions, asking);
+    let opening = parts.sessions.prepare(alloc, asking.client, random)?;
+    parts.sessions.is_table();
     let publisher = asking.client.text().copy(alloc)?;
-    take_away_former(alloc, graph, former, steps)?;
+    take_away_former(alloc, parts, pending, asking, former, steps)?;
     Ok(Outcome::Open {
         former,
         opening,
@@ -124,17 +120,24 @@ fn begin<L: Ledger>(
 // Takes away what was to stay as long as the session that the client had, if it had one.
 fn take_away_former<L: Ledger>(
     alloc: Global,
-    graph: &mut Graph,
+    parts: &mut Parts,
+    pending: &mut Pending,
+    asking: &Asking,
     former: Option<u64>,
     steps: &mut Steps<L>,
 ) -> Result<(), NoMemory>
-    requires steady { IsSteady graph.old }
-    ensures rows { OnOk result (rows_now graph.new ≡ without_former former (rows_now graph.old)) }
-    ensures turned { OnOk result (IsTurned graph.old graph.new) }
-    ensures kept { OnErr result (IsKept graph.old graph.new) }
+    requires steady { IsSteady parts.old.graph parts.old.standing.items }
+    requires ready { IsReady asking.now parts.old pending.old }
+    ensures told { OnOk result (so_far asking.now parts.new pending.new
+        ≡ taken_former former (so_far asking.now parts.old pending.old)) }
+    ensures steady { OnOk result (IsSteady parts.new.graph parts.new.standing.items) }
+    ensures ready { OnOk result (IsReady asking.now parts.new pending.new) }
+    ensures bare { OnOk result (IfSome former (λ n. IsBare n parts.new pending.new)) }
+    ensures turned { OnOk result (AreTurned parts.old parts.new) }
+    ensures kept { OnErr result (AreKept parts.old parts.new) }
 {
     match former {
-        Some(serial) => take_away_one(alloc, graph, serial, steps),
+        Some(serial) => take_away_one(alloc, parts, pending, asking, serial, steps),
         None => Ok(()),
     }
 }

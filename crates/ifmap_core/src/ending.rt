@@ -1,24 +1,35 @@
 //! An event is answered, after the sessions ended that are expired at its moment.
-ghost use Rattle.std.specs.Prelude.{◌≡◌, true, IfOk, OnErr};
+ghost use Rattle.std.specs.Prelude.{◌≡◌, ◌++◌, true, false, IfOk, IsOk, OnErr, OnOk};
 ghost use Rattle.std.specs.List.{list_any};
-ghost use Rattle.ifmap_core.specs.Between.{AreWithin, IsSteady, state_at};
-ghost use Rattle.ifmap_core.specs.Built.{IsBuilt};
-ghost use Rattle.ifmap_machine.specs.Ending.{expire};
+ghost use Rattle.std.specs.List.Sorted.{IsStrictlySortedBy};
+ghost use Rattle.std.specs.Ordering.{nat_cmp};
+ghost use Rattle.ifmap_changes.specs.Between.{AreBack, AreParts, CanEnd, IsReady, IsSteady, so_far, state_at};
+ghost use Rattle.ifmap_changes.specs.Changes.{CanSettle, CanTakeBack};
+ghost use Rattle.ifmap_changes.specs.declared.parts.Parts.{Parts};
+ghost use Rattle.ifmap_core.specs.Light.{IsLight};
+ghost use Rattle.ifmap_core.specs.Outcomes.{CanApply, held_by};
+ghost use Rattle.ifmap_graph.specs.Seen.{KeepsNumbers};
+ghost use Rattle.ifmap_machine.specs.Ending.{drop_sessions, expire};
 ghost use Rattle.ifmap_machine.specs.Step.{step_ask};
 ghost use Rattle.ifmap_session.specs.Sessions.{is_expired};
-ghost use Rattle.ifmap_graph.specs.Seen.{rows_now};
 
 use crate::answering::answer;
-use crate::asking::Asking;
-use crate::changing::take_away_kept;
-use crate::outcomes::finish;
-use ifmap_elem::{Copied, Many};
-use ifmap_graph::Graph;
+use crate::light::light_outcome;
+use crate::outcomes::{Outcome, apply, finish};
+use ifmap_changes::asking::Asking;
+use ifmap_changes::changes::{Made, mark_sessions, settle_made, undo_made};
+use ifmap_changes::changing::take_away_kept;
+use ifmap_changes::parts::Parts;
+use ifmap_changes::views::tell_view;
+use ifmap_elem::Copied;
 use ifmap_io::Moment;
 use ifmap_machine::{Answer, Event};
 use ifmap_publish::Who;
-use ifmap_session::Sessions;
+use ifmap_standing::laws::{
+    same_links_keep_subscriptions, same_marks_keep_subscriptions, ways_stay,
+};
 use ifmap_steps::Steps;
+use ifmap_tellings::tellings::{Pending, nothing_pending};
 use std::alloc::{AllocError as NoMemory, Global};
 use std::sync::ledger::Ledger;
 
@@ -32,52 +43,95 @@ pub struct Time {
 // Answers an event at a moment. The one error is want of memory, after which all is as before.
 pub(crate) fn answer_at<L: Ledger>(
     alloc: Global,
-    graph: &mut Graph,
-    sessions: &mut Sessions,
+    parts: &mut Parts,
     time: &Time,
     event: &Event,
     steps: &mut Steps<L>,
 ) -> Result<Answer, NoMemory>
-    requires steady { IsSteady graph.old }
-    requires within { AreWithin sessions.old.live }
-    requires built { IsBuilt event.now.ask }
+    requires { AreParts parts.old }
     ensures answer { IfOk result (λ answer.
-        (state_at time.now.ttl time.now.moment graph.new sessions.new, answer)
-        ≡ step_ask (expire (state_at time.now.ttl time.now.moment graph.old sessions.old)) event.now
+        (state_at time.now.ttl time.now.moment parts.new, answer)
+        ≡ step_ask (expire (state_at time.now.ttl time.now.moment parts.old)) event.now
         event.now.ask) }
-    ensures rows { OnErr result (rows_now graph.new ≡ rows_now graph.old) }
-    ensures live { OnErr result (sessions.new.live ≡ sessions.old.live) }
-    ensures counter { OnErr result (sessions.new.counter ≡ sessions.old.counter) }
-    ensures steady { IsSteady graph.new }
-    ensures within { AreWithin sessions.new.live }
+    ensures kept { OnErr result (AreBack parts.old parts.new) }
+    ensures parts { AreParts parts.new }
+    ensures light { list_any (is_expired time.now.moment time.now.ttl) parts.old.sessions.live
+        ≡ false → IsLight parts.old.sessions.live event.now → IsOk result }
 {
-    if sessions.any_expired(time.moment, time.ttl) {
-        return end_and_answer(alloc, graph, sessions, time, event, steps);
+    same_links_keep_subscriptions();
+    same_marks_keep_subscriptions();
+    tell_view(alloc, &parts.graph);
+    match answer_once(alloc, parts, time, event, steps) {
+        Ok(answer) => Ok(answer),
+        Err(no_memory) => {
+            tell_view(alloc, &parts.graph);
+            Err(no_memory)
+        }
     }
-    answer_all(alloc, graph, sessions, time, event, steps)
+}
+
+// The same, but that the parts are sound after an error, which follows from that they are back.
+fn answer_once<L: Ledger>(
+    alloc: Global,
+    parts: &mut Parts,
+    time: &Time,
+    event: &Event,
+    steps: &mut Steps<L>,
+) -> Result<Answer, NoMemory>
+    requires { AreParts parts.old }
+    ensures answer { IfOk result (λ answer.
+        (state_at time.now.ttl time.now.moment parts.new, answer)
+        ≡ step_ask (expire (state_at time.now.ttl time.now.moment parts.old)) event.now
+        event.now.ask) }
+    ensures kept { OnErr result (AreBack parts.old parts.new) }
+    ensures parts { OnOk result (AreParts parts.new) }
+    ensures light { list_any (is_expired time.now.moment time.now.ttl) parts.old.sessions.live
+        ≡ false → IsLight parts.old.sessions.live event.now → IsOk result }
+{
+    if parts.sessions.any_expired(time.moment, time.ttl) {
+        return end_and_answer(alloc, parts, time, event, steps);
+    }
+    answer_all(alloc, parts, time, event, steps)
 }
 
 // The same, where no session is expired.
 fn answer_all<L: Ledger>(
     alloc: Global,
-    graph: &mut Graph,
-    sessions: &mut Sessions,
+    parts: &mut Parts,
     time: &Time,
     event: &Event,
     steps: &mut Steps<L>,
 ) -> Result<Answer, NoMemory>
-    requires steady { IsSteady graph.old }
-    requires within { AreWithin sessions.old.live }
-    requires built { IsBuilt event.now.ask }
+    requires { AreParts parts.old }
     ensures answer { IfOk result (λ answer.
-        (state_at time.now.ttl time.now.moment graph.new sessions.new, answer)
-        ≡ step_ask (state_at time.now.ttl time.now.moment graph.old sessions.old) event.now
+        (state_at time.now.ttl time.now.moment parts.new, answer)
+        ≡ step_ask (state_at time.now.ttl time.now.moment parts.old) event.now
         event.now.ask) }
-    ensures rows { OnErr result (rows_now graph.new ≡ rows_now graph.old) }
-    ensures live { OnErr result (sessions.new.live ≡ sessions.old.live) }
-    ensures counter { OnErr result (sessions.new.counter ≡ sessions.old.counter) }
-    ensures steady { IsSteady graph.new }
-    ensures within { AreWithin sessions.new.live }
+    ensures kept { OnErr result (AreBack parts.old parts.new) }
+    ensures parts { OnOk result (AreParts parts.new) }
+    ensures light { IsLight parts.old.sessions.live event.now → IsOk result }
+{
+    match light_outcome(&parts.sessions, event) {
+        Some(outcome) => Ok(apply(parts, time.moment, outcome)),
+        None => answer_pending(alloc, parts, time, event, steps),
+    }
+}
+
+// The same, with what is pending of it.
+fn answer_pending<L: Ledger>(
+    alloc: Global,
+    parts: &mut Parts,
+    time: &Time,
+    event: &Event,
+    steps: &mut Steps<L>,
+) -> Result<Answer, NoMemory>
+    requires { AreParts parts.old }
+    ensures answer { IfOk result (λ answer.
+        (state_at time.now.ttl time.now.moment parts.new, answer)
+        ≡ step_ask (state_at time.now.ttl time.now.moment parts.old) event.now
+        event.now.ask) }
+    ensures kept { OnErr result (AreBack parts.old parts.new) }
+    ensures parts { OnOk result (AreParts parts.new) }
 {
     let asking = Asking {
         client: &event.client,
@@ -85,51 +139,125 @@ fn answer_all<L: Ledger>(
         ttl: time.ttl,
         ended: &[],
     };
-    let outcome = answer(alloc, graph, sessions, &asking, event, steps)?;
-    Ok(finish(sessions, &asking, outcome))
+    let mut pending = pending_without(alloc, parts, &asking)?;
+    let outcome = answer(alloc, parts, &mut pending, &asking, event, steps)?;
+    Ok(finish(parts, pending, &asking, outcome))
+}
+
+// What is pending before an event is answered: the subscriptions of the sessions that have expired are
+// gone.
+fn pending_without(alloc: Global, parts: &Parts, asking: &Asking) -> Result<Pending, NoMemory>
+    requires parts { AreParts parts.now }
+    requires ended { CanEnd asking.now.ended parts.now.sessions.live }
+    requires rising { IsStrictlySortedBy nat_cmp asking.now.ended }
+    ensures ready { IfOk result (IsReady asking.now parts.now) }
+    ensures so_far { IfOk result (λ pending. so_far asking.now parts.now pending
+        ≡ drop_sessions asking.now.ended (state_at asking.now.ttl asking.now.moment parts.now)) }
+{
+    let mut pending = nothing_pending(alloc, parts.standing.len())?;
+    mark_sessions(&parts.standing, &mut pending, asking.ended);
+    Ok(pending)
 }
 
 // The same, where some are.
 fn end_and_answer<L: Ledger>(
     alloc: Global,
-    graph: &mut Graph,
-    sessions: &mut Sessions,
+    parts: &mut Parts,
     time: &Time,
     event: &Event,
     steps: &mut Steps<L>,
 ) -> Result<Answer, NoMemory>
-    requires steady { IsSteady graph.old }
-    requires within { AreWithin sessions.old.live }
-    requires built { IsBuilt event.now.ask }
-    requires some { list_any (is_expired time.now.moment time.now.ttl) sessions.old.live ≡ true }
+    requires parts { AreParts parts.old }
+    requires some { list_any (is_expired time.now.moment time.now.ttl) parts.old.sessions.live
+        ≡ true }
     ensures answer { IfOk result (λ answer.
-        (state_at time.now.ttl time.now.moment graph.new sessions.new, answer)
-        ≡ step_ask (expire (state_at time.now.ttl time.now.moment graph.old sessions.old)) event.now
+        (state_at time.now.ttl time.now.moment parts.new, answer)
+        ≡ step_ask (expire (state_at time.now.ttl time.now.moment parts.old)) event.now
         event.now.ask) }
-    ensures rows { OnErr result (rows_now graph.new ≡ rows_now graph.old) }
-    ensures live { OnErr result (sessions.new.live ≡ sessions.old.live) }
-    ensures counter { OnErr result (sessions.new.counter ≡ sessions.old.counter) }
-    ensures steady { IsSteady graph.new }
-    ensures within { AreWithin sessions.new.live }
+    ensures kept { OnErr result (AreBack parts.old parts.new) }
+    ensures parts { OnOk result (AreParts parts.new) }
 {
-    sessions.is_table();
-    let serials = sessions.expired(alloc, time.moment, time.ttl)?;
+    parts.sessions.is_table();
+    let serials = parts.sessions.expired(alloc, time.moment, time.ttl)?;
     let who = Who::Sessions(serials.copy(alloc)?);
-    let undo = take_away_kept(alloc, graph, &who, steps)?;
     let asking = Asking {
         client: &event.client,
         moment: time.moment,
         ttl: time.ttl,
         ended: &serials.0,
     };
-    match answer(alloc, graph, sessions, &asking, event, steps) {
+    let mut pending = pending_without(alloc, parts, &asking)?;
+    let made = take_away_kept(alloc, parts, &mut pending, &asking, &who, steps)?;
+    let ending = Ending { pending, made };
+    answer_ended(alloc, parts, ending, &asking, event, steps)
+}
+
+// What is pending once sessions have expired, and the change of the graph that was made of it.
+#[derive(Drop)]
+struct Ending {
+    pending: Pending,
+    made: Made,
+}
+
+// Answers an event, once sessions have ended. After want of memory their ends are taken back.
+fn answer_ended<L: Ledger>(
+    alloc: Global,
+    parts: &mut Parts,
+    ending: Ending,
+    asking: &Asking,
+    event: &Event,
+    steps: &mut Steps<L>,
+) -> Result<Answer, NoMemory>
+    requires steady { IsSteady parts.old.graph parts.old.standing.items }
+    requires ready { IsReady asking.now parts.old ending.pending }
+    requires settle { CanSettle ending.made parts.old }
+    requires back { (before : Parts) × AreParts before
+        × KeepsNumbers before.graph parts.old.graph × CanTakeBack ending.made before parts.old }
+    requires client { asking.now.client ≡ event.now.client }
+    ensures answer { IfOk result (λ answer.
+        (state_at asking.now.ttl asking.now.moment parts.new, answer)
+        ≡ step_ask (so_far asking.now parts.old ending.pending) event.now event.now.ask) }
+    ensures kept { OnErr result ((before : Parts) → AreParts before
+        → KeepsNumbers before.graph parts.old.graph → CanTakeBack ending.made before parts.old
+        → AreBack before parts.new) }
+    ensures parts { OnOk result (AreParts parts.new) }
+{
+    ways_stay();
+    let Ending { mut pending, made } = ending;
+    match answer(alloc, parts, &mut pending, asking, event, steps) {
         Ok(outcome) => {
-            let _plan = graph.settle(undo);
-            Ok(finish(sessions, &asking, outcome))
+            settle_ended(alloc, parts, &pending, asking, made, &outcome);
+            Ok(finish(parts, pending, asking, outcome))
         }
         Err(no_memory) => {
-            graph.undo(undo);
+            undo_made(alloc, parts, made);
             Err(no_memory)
         }
     }
+}
+
+// The change that the ends of sessions made stays. It takes no memory.
+fn settle_ended(
+    alloc: Global,
+    parts: &mut Parts,
+    pending: &Pending,
+    asking: &Asking,
+    made: Made,
+    outcome: &Outcome,
+)
+    requires steady { IsSteady parts.old.graph
+        (parts.old.standing.items ++ held_by outcome.now) }
+    requires ready { IsReady asking.now parts.old pending.now }
+    requires can { CanApply outcome.now asking.now parts.old pending.now }
+    requires settle { CanSettle made parts.old }
+    ensures steady { IsSteady parts.new.graph (parts.new.standing.items ++ held_by outcome.now) }
+    ensures ready { IsReady asking.now parts.new pending.now }
+    ensures can { CanApply outcome.now asking.now parts.new pending.now }
+    ensures so_far { so_far asking.now parts.new pending.now
+        ≡ so_far asking.now parts.old pending.now }
+{
+    same_links_keep_subscriptions();
+    tell_view(alloc, &parts.graph);
+    settle_made(alloc, parts, made);
+    tell_view(alloc, &parts.graph);
 }

@@ -2,12 +2,13 @@
 #![tactic(auto)]
 
 mod answering;
-mod asking;
 mod beginning;
-mod changing;
 mod ending;
 mod holding;
+mod light;
 pub mod machine;
 mod outcomes;
+mod owning;
+mod subscribing;
 
 pub use machine::Core;

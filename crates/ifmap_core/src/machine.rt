@@ -1,17 +1,19 @@
 //! The machine.
-ghost use Rattle.std.specs.Prelude.{◌≡◌, ◌↔◌, ◌⊎◌, ◌≤◌, IfOk, IsTrue, OnErr, max};
+ghost use Rattle.std.specs.Prelude.{◌≡◌, ◌↔◌, ◌⊎◌, ◌≤◌, IfOk, IsOk, IsTrue, OnErr, max};
 ghost use Rattle.std.specs.Bool.{OnTrue};
-ghost use Rattle.ifmap_core.specs.Built.{IsBuilt};
-ghost use Rattle.ifmap_core.specs.Causes.{AsksForNoneLeft, FindsTooMuch, IsRefusal, NamesAnothersSession, NamesNoSession, PurgesAnother, state_for};
+ghost use Rattle.ifmap_core.specs.Causes.{AsksForNoneLeft, AsksPoll, FindsTooMuch, HasNoRoomForName, IsLoss, IsRefusal, NamesAnothersSession, NamesNoSession, PollsNoSession, PollsNothing, PurgesAnother, state_for};
 ghost use Rattle.ifmap_core.specs.Holding.{WouldHold};
+ghost use Rattle.ifmap_core.specs.Light.{TakesNoMemory};
 ghost use Rattle.ifmap_ident.specs.declared.codes.Code.{Code};
 ghost use Rattle.ifmap_ident.specs.declared.codes.Code.TheVariants as the_code;
 ghost use Rattle.ifmap_machine.specs.declared.events.Answer.TheVariants as the_answer;
 ghost use Rattle.ifmap_machine.specs.State.{advance, opening};
 ghost use Rattle.ifmap_machine.specs.Step.{step};
+ghost use Rattle.ifmap_replies.specs.declared.replies.Reply.TheVariants as the_reply;
 
 use crate::ending::{Time, answer_at};
 use crate::holding::{has_nothing, polled_id};
+use ifmap_changes::parts::Parts;
 use ifmap_graph::Graph;
 use ifmap_io::Moment;
 use ifmap_machine::{Answer, Event};
@@ -26,13 +28,12 @@ use std::sync::ledger::Ledger;
 pub struct Core {
     ttl: u32,
     moment: Moment,
-    graph: Graph,
-    sessions: Sessions,
+    parts: Parts,
 }
 
 impl Model for Core {
     ghost use Rattle.std.specs.Coded.{codes};
-    ghost use Rattle.ifmap_core.specs.Between.{IsCore, state_at};
+    ghost use Rattle.ifmap_changes.specs.Between.{IsCore, state_at};
     ghost use Rattle.ifmap_machine.specs.State.{State};
     ghost use Rattle.ifmap_search.specs.contracts.results.PollItem as the_poll_item;
     ghost use Rattle.ifmap_search.specs.contracts.searches.Search as the_search;
@@ -47,9 +48,9 @@ impl Model for Core {
       the_search.the_row.coded,
     ) };
 
-    ghost view = { λ core. state_at core.ttl core.moment core.graph core.sessions };
+    ghost view = { λ core. state_at core.ttl core.moment core.parts };
 
-    ghost invariant = { λ core. IsCore core.ttl core.graph core.sessions.live };
+    ghost invariant = { λ core. IsCore core.ttl core.parts };
 }
 
 // The later of two moments.
@@ -69,23 +70,29 @@ impl Core {
         Core {
             ttl,
             moment: Moment::new(0).unwrap(),
-            graph: Graph::new(alloc),
-            sessions: Sessions::new(alloc),
+            parts: Parts {
+                graph: Graph::new(alloc),
+                sessions: Sessions::new(alloc),
+                standing: Vec::new(alloc),
+            },
         }
     }
 
     /// Answers an event: the answer and the state after it are those of `step`. The one error is want of
-    /// memory, also told of a search whose result would have 2^64 bytes or more; it leaves the state as it
-    /// was, the moment too.
+    /// memory, also told where a result or a queue would have about 2^64 bytes; it leaves the state as
+    /// it was, the moment too.
     pub fn step<L: Ledger>(
         &mut self,
         alloc: Global,
         event: &Event,
         steps: &mut Steps<L>,
     ) -> Result<Answer, NoMemory>
-        requires { IsBuilt event.now.ask }
         ensures answer { IfOk result (λ answer. (self.new, answer) ≡ step self.old event.now) }
         ensures err { OnErr result (self.new ≡ self.old) }
+
+        // A renewal of a live session of the client's takes no memory, nor a poll in it, where no session is
+        // expired.
+        ensures no_memory { TakesNoMemory self.old event.now → IsOk result }
 
         // A refusal changes nothing, once the moment is taken in and the expired sessions have ended.
         ensures refusal { IfOk result (λ answer. (code : Code) → IsRefusal code answer
@@ -98,23 +105,25 @@ impl Core {
             ↔ (NamesAnothersSession (state_for self.old event.now) event.now.client event.now.ask
             ⊎ PurgesAnother (state_for self.old event.now) event.now.client event.now.ask)) }
         ensures system_error { IfOk result (λ answer. IsRefusal the_code.SystemError answer
-            ↔ AsksForNoneLeft (state_for self.old event.now) event.now.client event.now.ask) }
+            ↔ (AsksForNoneLeft (state_for self.old event.now) event.now.client event.now.ask
+            ⊎ HasNoRoomForName (state_for self.old event.now) event.now.client event.now.ask)) }
         ensures too_big { IfOk result (λ answer. IsRefusal the_code.SearchResultsTooBig answer
             ↔ FindsTooMuch (state_for self.old event.now) event.now.client event.now.ask) }
+
+        // So do an answer that is held, one that is only heard, and the end that a poll is told of.
+        ensures held { IfOk result (λ answer. (answer ≡ the_answer.Held)
+            ↔ PollsNothing (state_for self.old event.now) event.now.client event.now.ask) }
+        ensures heard { IfOk result (λ answer. (answer ≡ the_answer.Heard) ↔ IsLoss event.now.ask) }
+        ensures told_end { IfOk result (λ answer. AsksPoll event.now.ask
+            → ((answer ≡ the_answer.Reply the_reply.Ended)
+            ↔ PollsNoSession (state_for self.old event.now) event.now.again event.now.ask)) }
     {
         let moment = later(self.moment, event.moment);
         let time = Time {
             ttl: self.ttl,
             moment,
         };
-        let answer = answer_at(
-            alloc,
-            &mut self.graph,
-            &mut self.sessions,
-            &time,
-            event,
-            steps,
-        )?;
+        let answer = answer_at(alloc, &mut self.parts, &time, event, steps)?;
         self.moment = moment;
         Ok(answer)
     }
@@ -130,9 +139,9 @@ impl Core {
             return false;
         };
         let moment = later(self.moment, event.moment);
-        if !event.again || self.sessions.any_expired(moment, self.ttl) {
+        if !event.again || self.parts.sessions.any_expired(moment, self.ttl) {
             return false;
         }
-        has_nothing(&self.sessions, &event.client, id)
+        has_nothing(&self.parts.sessions, &event.client, id)
     }
 }

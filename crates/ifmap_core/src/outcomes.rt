@@ -1,57 +1,60 @@
 //! What is left to do of an event when its change of the graph is made.
-ghost use Rattle.std.specs.Prelude.{◌≡◌, ◌≤◌, IfOk, IfSome};
+ghost use Rattle.std.specs.Prelude.{◌≡◌, ◌≤◌, ◌++◌, ℕ, List, IfOk, IfSome, length, map, vec_capacity, vec_len};
 ghost use Rattle.ifmap_core.specs.declared.outcomes.Outcome.TheVariants.{Say};
-ghost use Rattle.ifmap_core.specs.Between.{AreWithin, CanEnd, rest_of, so_far, state_at};
-ghost use Rattle.ifmap_core.specs.Outcomes.{CanApply, after_former, applied, first_renewed, poll_found, told};
+ghost use Rattle.ifmap_changes.specs.Between.{AreParts, CanEnd, IsReady, IsSteady, so_far, state_at};
+ghost use Rattle.ifmap_core.specs.Outcomes.{CanApply, CanApplyTo, WouldBeParts, after_former, applied, first_renewed, held_by, poll_found, told};
+ghost use Rattle.ifmap_tellings.specs.Tellings.{kept_of};
 ghost use Rattle.ifmap_machine.specs.State.{State};
 ghost use Rattle.ifmap_machine.specs.Step.{refusal};
-ghost use Rattle.ifmap_session.specs.Sessions.{IsLive, session_with_serial, without_sessions};
-ghost use Rattle.ifmap_graph.specs.Held.{Held};
+ghost use Rattle.ifmap_session.specs.Sessions.{IsLive, change, emptied, session_with_serial, spare_of, without_sessions};
+ghost use Rattle.ifmap_standing.specs.declared.standing.Standing.{Standing};
+ghost use Rattle.ifmap_standing.specs.Standing.{shown};
+ghost use Rattle.ifmap_graph.specs.Seen.{rows_now};
+ghost use Rattle.ifmap_subscribes.specs.Renamings.{KeepsNumbered};
 
-use crate::asking::Asking;
+use ifmap_changes::asking::Asking;
+use ifmap_changes::parts::Parts;
 use ifmap_elem::{Many, Text};
+use ifmap_graph::Graph;
 use ifmap_ident::Code;
 use ifmap_io::Moment;
 use ifmap_machine::Answer;
 use ifmap_replies::Reply;
 use ifmap_search::PollItem;
 use ifmap_session::{Opening, Sessions};
+use ifmap_standing::Standing;
+use ifmap_subscribes::renamings::{Renaming, release_start, rename_each};
+use ifmap_tellings::tellings::{Pending, tell_sessions};
 use std::alloc::{AllocError as NoMemory, Global};
 
-// Whose the session is that a request names.
-#[derive(Drop)]
-pub enum Owner {
-    // The client's own, with this serial.
-    Own(u64),
-    // Another client's.
-    Another,
-    // Nobody's: no live session has the id.
-    Nobody,
-}
-
-// What is left to do, with the answer. It takes no memory.
+/// What is left to do, with the answer. It takes no memory.
 #[derive(Drop)]
 pub enum Outcome {
-    // Nothing.
+    /// Nothing.
     Say(Answer),
-    // A request in a session was accepted.
+    /// A request in a session was accepted.
     Accept {
         serial: u64,
         answer: Answer,
     },
-    // A session ends.
+    /// A session ends.
     End {
         serial: u64,
         answer: Answer,
     },
-    // A session begins, in place of the one that the client has.
+    /// A session begins, in place of the one that the client has.
     Open {
         former: Option<u64>,
         opening: Opening,
         limit: u32,
         publisher: Text,
     },
-    // A session's queue is told.
+    /// Names of a session are renamed.
+    Rename {
+        serial: u64,
+        renamings: Many<Renaming>,
+    },
+    /// A session's queue is told.
     Poll {
         serial: u64,
         again: bool,
@@ -85,8 +88,9 @@ fn tell_queue(sessions: &mut Sessions, moment: Moment, serial: u64, again: bool)
         → state.sessions ≡ sessions.old.live
         → poll_found state again (session_with_serial serial state.sessions)
         ≡ (record state { sessions = sessions.new.live }, result) }
+    ensures live { sessions.new.live
+        ≡ first_renewed again serial moment (change serial emptied sessions.old.live) }
     ensures counter { sessions.new.counter ≡ sessions.old.counter }
-    ensures within { AreWithin sessions.old.live → AreWithin sessions.new.live }
 {
     sessions.is_table();
     let items = sessions.take_all(serial);
@@ -115,27 +119,85 @@ fn renew_first(sessions: &mut Sessions, moment: Moment, serial: u64, again: bool
     }
 }
 
+// The subscriptions that are gone stand no longer, and their starts are let go of. It takes no
+// memory.
+fn remove_gone(parts: &mut Parts, gone: &[bool])
+    requires flags { length gone.now ≡ length parts.old.standing.items }
+    requires steady { (more : List Standing)
+        × IsSteady parts.old.graph (parts.old.standing.items ++ more) }
+    ensures standing { parts.new.standing.items ≡ kept_of gone.now parts.old.standing.items }
+    ensures steady { (more : List Standing)
+        → IsSteady parts.old.graph (parts.old.standing.items ++ more)
+        → IsSteady parts.new.graph (parts.new.standing.items ++ more) }
+    ensures rows { rows_now parts.new.graph ≡ rows_now parts.old.graph }
+    ensures kept { KeepsNumbered parts.old.graph parts.new.graph }
+    ensures sessions { parts.new.sessions ≡ parts.old.sessions }
+    ensures len { vec_len parts.new.standing ≤ vec_len parts.old.standing }
+    ensures capacity { vec_capacity parts.new.standing ≡ vec_capacity parts.old.standing }
+{
+    release_gone(&mut parts.graph, &parts.standing, gone);
+    keep_others(&mut parts.standing, gone);
+}
+
+// The starts of subscriptions that are gone are let go of.
+fn release_gone(graph: &mut Graph, standing: &[Standing], gone: &[bool])
+    requires flags { length gone.now ≡ length standing.now }
+    requires steady { (more : List Standing) × IsSteady graph.old (standing.now ++ more) }
+    ensures steady { (more : List Standing) → IsSteady graph.old (standing.now ++ more)
+        → IsSteady graph.new (kept_of gone.now standing.now ++ more) }
+    ensures rows { rows_now graph.new ≡ rows_now graph.old }
+    ensures kept { KeepsNumbered graph.old graph.new }
+{
+    for at in 0..standing.len() {
+        if gone[at] {
+            release_start(graph, &standing[at]);
+        }
+    }
+}
+
+// What is gone leaves the list; the others stay in their order.
+fn keep_others(standing: &mut Vec<Standing>, gone: &[bool])
+    requires { length gone.now ≡ length standing.old.items }
+    ensures standing { standing.new.items ≡ kept_of gone.now standing.old.items }
+    ensures len { vec_len standing.new ≤ vec_len standing.old }
+    ensures capacity { vec_capacity standing.new ≡ vec_capacity standing.old }
+{
+    let mut count = 0;
+    for at in 0..gone.len() {
+        if !gone[at] {
+            standing.swap(count, at);
+            count += 1;
+        }
+    }
+    standing.truncate(count);
+}
+
 // Does what is left to do, and gives the answer.
-fn apply(sessions: &mut Sessions, moment: Moment, outcome: Outcome) -> Answer
-    requires { CanApply outcome sessions.old }
-    ensures answer { (state : State) → state.moment ≡ moment → state.sessions ≡ sessions.old.live
-        → state.counter ≡ sessions.old.counter → applied outcome state ≡ (
+pub(crate) fn apply(parts: &mut Parts, moment: Moment, outcome: Outcome) -> Answer
+    requires can { CanApplyTo outcome parts.old }
+    requires parts { WouldBeParts (held_by outcome) parts.old }
+    ensures answer { (state : State) → state.moment ≡ moment
+        → state.sessions ≡ parts.old.sessions.live → state.counter ≡ parts.old.sessions.counter
+        → state.standing ≡ map shown parts.old.standing.items → applied outcome state ≡ (
           record state {
-            counter = sessions.new.counter;
-            sessions = sessions.new.live;
+            counter = parts.new.sessions.counter;
+            sessions = parts.new.sessions.live;
+            standing = map shown parts.new.standing.items;
           },
           result,
         ) }
-    ensures within { AreWithin sessions.old.live → AreWithin sessions.new.live }
+    ensures parts { AreParts parts.new }
+    ensures rows { rows_now parts.new.graph ≡ rows_now parts.old.graph }
 {
+    parts.sessions.is_table();
     match outcome {
         Outcome::Say(answer) => answer,
         Outcome::Accept { serial, answer } => {
-            sessions.renew(serial, moment);
+            parts.sessions.renew(serial, moment);
             answer
         }
         Outcome::End { serial, answer } => {
-            sessions.end(serial);
+            parts.sessions.end(serial);
             answer
         }
         Outcome::Open {
@@ -144,15 +206,22 @@ fn apply(sessions: &mut Sessions, moment: Moment, outcome: Outcome) -> Answer
             limit,
             publisher,
         } => {
-            end_former(sessions, former);
-            let session = sessions.open(opening, limit, moment).id;
+            end_former(&mut parts.sessions, former);
+            let session = parts.sessions.open(opening, limit, moment).id;
             Answer::Reply(Reply::NewSession {
                 session,
                 publisher,
                 limit,
             })
         }
-        Outcome::Poll { serial, again } => tell_queue(sessions, moment, serial, again),
+        Outcome::Rename { serial, renamings } => {
+            rename_each(parts, serial, renamings);
+            parts.sessions.renew(serial, moment);
+            Answer::Reply(Reply::Subscribed)
+        }
+        Outcome::Poll { serial, again } => {
+            tell_queue(&mut parts.sessions, moment, serial, again)
+        }
     }
 }
 
@@ -162,20 +231,32 @@ fn end_expired(sessions: &mut Sessions, ended: &[u64])
     ensures live { sessions.new.live ≡ without_sessions ended.now sessions.old.live }
     ensures counter { sessions.new.counter ≡ sessions.old.counter }
     ensures room { sessions.old.room ≤ sessions.new.room }
+    ensures spare { (n : ℕ) → IsLive n sessions.new.live
+        → spare_of n sessions.new.spare ≡ spare_of n sessions.old.spare }
 {
     for serial in ended {
         sessions.end(*serial);
     }
 }
 
-// Ends what has expired, does what is left to do, and gives the answer.
-pub(crate) fn finish(sessions: &mut Sessions, asking: &Asking, outcome: Outcome) -> Answer
-    requires ended { CanEnd asking.now.ended sessions.old.live }
-    requires can { CanApply outcome (rest_of asking.now sessions.old) }
-    ensures answer { (graph : Held) → applied outcome (so_far asking.now graph sessions.old)
-        ≡ (state_at asking.now.ttl asking.now.moment graph sessions.new, result) }
-    ensures within { AreWithin sessions.old.live → AreWithin sessions.new.live }
+// Ends what has expired, queues what is pending, removes what is gone, does what is left to do, and
+// gives the answer. It takes no memory.
+pub(crate) fn finish(
+    parts: &mut Parts,
+    pending: Pending,
+    asking: &Asking,
+    outcome: Outcome,
+) -> Answer
+    requires ready { IsReady asking.now parts.old pending }
+    requires steady { IsSteady parts.old.graph (parts.old.standing.items ++ held_by outcome) }
+    requires can { CanApply outcome asking.now parts.old pending }
+    ensures answer { applied outcome (so_far asking.now parts.old pending)
+        ≡ (state_at asking.now.ttl asking.now.moment parts.new, result) }
+    ensures parts { AreParts parts.new }
 {
-    end_expired(sessions, asking.ended);
-    apply(sessions, asking.moment, outcome)
+    let Pending { gone, tellings } = pending;
+    end_expired(&mut parts.sessions, asking.ended);
+    tell_sessions(&mut parts.sessions, tellings);
+    remove_gone(parts, &gone);
+    apply(parts, asking.moment, outcome)
 }

@@ -10,22 +10,15 @@ use Rattle.ifmap_requests.specs.declared.errors.Refusal.TheVariants.{Named, Unre
 use Rattle.ifmap_requests.specs.declared.requests.Request.{Request}
 use Rattle.ifmap_requests.specs.Fit.{IsFitRequest}
 use Rattle.ifmap_requests.specs.Means.{Means}
-use Rattle.ifmap_server.specs.BuiltRequests.{built_request_of}
 use Rattle.ifmap_server.specs.Frames.{Frame, IsFrame, Meaning, frame_text}
-use Rattle.ifmap_server.specs.Histories.{asked_by, asked_of, history_from}
-use Rattle.ifmap_server.specs.Output.{Asking, event_of, step_frame, step_meaning, step_request}
+use Rattle.ifmap_server.specs.Histories.{asked_by, history_from}
+use Rattle.ifmap_server.specs.Output.{Asking, event_of, step_frame, step_meaning}
 use Rattle.ifmap_server.specs.Script.{IsScriptFrom}
-use Rattle.ifmap_server.proofs.AskedRequests.{request_fit}
 
 -- what a frame adds is legal, and so is what comes after it in each state
-legal_asked : (state : State) (event : Asking) (asked : Option Request) (rest : State → History) → ((s : State) → LegalFrom s (rest s))
-    → LegalFrom state (asked_of state event asked ++ rest (step_request state event asked).0)
-legal_asked state event None rest is = is state
-legal_asked state event (Some request) rest is = (refl, is (step state (event request)).0)
-
 legal_meaning : (state : State) (event : Asking) (meaning : Meaning) (rest : State → History) → ((s : State) → LegalFrom s (rest s))
     → LegalFrom state (asked_by state event meaning ++ rest (step_meaning state event meaning).0)
-legal_meaning state event (Ok request) rest is = legal_asked state event (built_request_of request) rest is
+legal_meaning state event (Ok request) rest is = (refl, is (step state (event request)).0)
 legal_meaning state event (Err (Named code)) rest is = is state
 legal_meaning state event (Err Unreadable) rest is = is state
 legal_meaning state event (Err NoMemory) rest is = is state
@@ -36,24 +29,16 @@ history_legal state (f ∷ frames) =
     legal_meaning state (event_of f) f.meaning (λ s. history_from s frames) (λ s. history_legal s frames)
 
 -- what a frame adds is fit where each request is that its body can mean
-fit_asked : (state : State) (event : Asking) (asked : Option Request) (rest : History)
-    → ((request : Request) → asked ≡ Some request → IsFitEvent (event request)) → AreFit rest
-    → AreFit (asked_of state event asked ++ rest)
-fit_asked state event None rest fits is = is
-fit_asked state event (Some request) rest fits is = (fits request refl, is)
-
 fit_meaning : (state : State) (event : Asking) (meaning : Meaning) (rest : History)
-    → ((request asked : Request) → meaning ≡ Ok request → built_request_of request ≡ Some asked → IsFitEvent (event asked)) → AreFit rest
+    → ((request : Request) → meaning ≡ Ok request → IsFitEvent (event request)) → AreFit rest
     → AreFit (asked_by state event meaning ++ rest)
-fit_meaning state event (Ok request) rest fits is =
-    fit_asked state event (built_request_of request) rest (λ asked e. fits request asked refl e) is
+fit_meaning state event (Ok request) rest fits is = (fits request refl, is)
 fit_meaning state event (Err refusal) rest fits is = is
 
 module _ (fits : (body : List ℕ) (request : Request) → Means body (Ok request) → IsFitRequest request) where
-  frame_fit : (f : Frame) → IsFrame f → Means f.body f.meaning → (request asked : Request) → f.meaning ≡ Ok request
-      → built_request_of request ≡ Some asked → IsFitEvent (event_of f asked)
-  frame_fit f is means request asked e moved =
-      record { client = is.client; ask = request_fit request asked moved (fits f.body request (subst (Means f.body) e means)) }
+  frame_fit : (f : Frame) → IsFrame f → Means f.body f.meaning → (request : Request) → f.meaning ≡ Ok request
+      → IsFitEvent (event_of f request)
+  frame_fit f is means request e = record { client = is.client; ask = fits f.body request (subst (Means f.body) e means) }
 
   pub history_fit : (offset : ℕ) (bytes : List ℕ) (frames : List Frame) (fault : Option ℕ) (state : State)
       → IsScriptFrom offset bytes frames fault → AreFit (history_from state frames)

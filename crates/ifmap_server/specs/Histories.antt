@@ -1,21 +1,14 @@
 -- The history of the machine that a script makes.
-use Rattle.std.specs.Prelude.{ℕ, List, [], ◌∷◌, ◌++◌, Option, None, Some, Ok, Err}
+use Rattle.std.specs.Prelude.{List, [], ◌∷◌, ◌++◌, Ok, Err}
 use Rattle.ifmap_machine.specs.Legal.{History}
 use Rattle.ifmap_machine.specs.State.{State, opening}
 use Rattle.ifmap_machine.specs.Step.{step}
-use Rattle.ifmap_requests.specs.declared.requests.Request.{Request}
-use Rattle.ifmap_server.specs.BuiltRequests.{built_request_of}
 use Rattle.ifmap_server.specs.Frames.{Frame, Meaning}
 use Rattle.ifmap_server.specs.Output.{Asking, event_of, session_seconds, step_frame}
 
--- what the machine is asked and answers: an event with its answer, where it is asked
-abbrev pub asked_of : State → Asking → Option Request → History
-asked_of state event None = []
-asked_of state event (Some request) = (event request, (step state (event request)).1) ∷ []
-
--- where a body means a request that the machine can be asked, and else nothing
+-- what the machine is asked and answers: an event with its answer, where a body means a request, and else nothing
 abbrev pub asked_by : State → Asking → Meaning → History
-asked_by state event (Ok request) = asked_of state event (built_request_of request)
+asked_by state event (Ok request) = (event request, (step state (event request)).1) ∷ []
 asked_by state event (Err refusal) = []
 
 -- the same of frames, one after another, from a state on

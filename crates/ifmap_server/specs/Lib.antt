@@ -1,5 +1,4 @@
 pub mod Awaited
-pub mod BuiltRequests
 pub mod Characters
 pub mod Ends
 pub mod Frames

@@ -11,7 +11,6 @@ use Rattle.ifmap_machine.specs.Step.{refusal, step}
 use Rattle.ifmap_replies.specs.Results.{reply_bytes}
 use Rattle.ifmap_requests.specs.declared.errors.Refusal.TheVariants.{Named, Unreadable, NoMemory}
 use Rattle.ifmap_requests.specs.declared.requests.Request.{Request}
-use Rattle.ifmap_server.specs.BuiltRequests.{built_request_of}
 use Rattle.ifmap_server.specs.Frames.{Frame, Meaning}
 use Rattle.ifmap_server.specs.Script.{IsScript}
 
@@ -35,19 +34,18 @@ answer_text (Reply reply) = codes "=" ++ decimal (length (reply_bytes reply)) ++
 answer_text Held = codes "held\n"
 answer_text Heard = []
 
--- what is written for a body that is no request, and for a request that the machine cannot be asked yet
+-- what is written for a body that is no request
 abbrev pub unreadable_text : List ℕ
 unreadable_text = codes "unreadable\n"
 
--- the state after what the machine is asked, if anything, and what is written for it
-abbrev pub step_request : State → Asking → Option Request → State × List ℕ
-step_request state event None = (state, unreadable_text)
-step_request state event (Some request) = ((step state (event request)).0, answer_text (step state (event request)).1)
+-- the state after what the machine is asked, and what is written for it
+abbrev pub step_request : State → Asking → Request → State × List ℕ
+step_request state event request = ((step state (event request)).0, answer_text (step state (event request)).1)
 
 -- the same of a meaning: a code is told, with its name as the note, and nothing is asked, so that the state's moment stays too; no
 -- body means a want of memory
 abbrev pub step_meaning : State → Asking → Meaning → State × List ℕ
-step_meaning state event (Ok request) = step_request state event (built_request_of request)
+step_meaning state event (Ok request) = step_request state event request
 step_meaning state event (Err (Named code)) = (state, answer_text (refusal code))
 step_meaning state event (Err Unreadable) = (state, unreadable_text)
 step_meaning state event (Err NoMemory) = (state, unreadable_text)

@@ -2,7 +2,6 @@
 //! program makes.
 #![tactic(auto)]
 
-mod built_requests;
 mod errors;
 mod headers;
 mod input;

@@ -5,7 +5,6 @@ ghost use Rattle.ifmap_io.specs.Causes.{Rose};
 ghost use Rattle.ifmap_server.specs.declared.headers.Header.{Header};
 ghost use Rattle.ifmap_server.specs.Awaited.{IsAwaited};
 ghost use Rattle.ifmap_requests.specs.Fit.{IsFitRequest};
-ghost use Rattle.ifmap_server.specs.BuiltRequests.{built_request_of};
 ghost use Rattle.ifmap_server.specs.Output.{AppendsPrefix, fault_line, step_request};
 ghost use Rattle.ifmap_server.specs.Pending.{Takes};
 ghost use Rattle.ifmap_server.specs.Replayed.{Promises};
@@ -13,7 +12,6 @@ ghost use Rattle.ifmap_server.specs.Script.{longest_script};
 ghost use Rattle.ifmap_server.specs.Ends.{IsLater, ends};
 ghost use Rattle.ifmap_server.specs.Turns.{BeginsNone, IsAnswered, IsFramed, Turns, asking_of, beginning};
 
-use crate::built_requests::built_request_of;
 use crate::errors::ReplayError;
 use crate::headers::{Header, header_of};
 use crate::input::Input;
@@ -116,14 +114,11 @@ fn answer_request<L: Ledger>(
 ) -> Result<AnswerText, ReplayError>
     requires { IsFitRequest request }
     ensures state { OnOk result (core.new
-        ≡ (step_request core.old (asking_of header) (built_request_of request)).0) }
+        ≡ (step_request core.old (asking_of header) request).0) }
     ensures text { IfOk result (λ text.
-        text ≡ (step_request core.old (asking_of header) (built_request_of request)).1) }
+        text ≡ (step_request core.old (asking_of header) request).1) }
     ensures cause { IfErr result (λ e. e ≡ ReplayError.NoMemory) }
 {
-    let Some(request) = built_request_of(request) else {
-        return Ok(AnswerText::unreadable(alloc)?);
-    };
     let Header {
         moment,
         client,

@@ -32,8 +32,7 @@ impl Model for AnswerText {
 }
 
 impl AnswerText {
-    /// What is written for a body that is no request, and for a request that the machine cannot be
-    /// asked yet.
+    /// What is written for a body that is no envelope.
     pub fn unreadable(alloc: Global) -> Result<AnswerText, NoMemory>
         ensures { IfOk result (λ text. text ≡ unreadable_text) }
     {

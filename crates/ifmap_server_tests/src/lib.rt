@@ -5,6 +5,8 @@
 #[cfg(test)]
 mod examples;
 #[cfg(test)]
+mod exchanges;
+#[cfg(test)]
 mod outside;
 #[cfg(test)]
 mod pacing;
@@ -16,3 +18,5 @@ mod replays;
 mod scripts;
 #[cfg(test)]
 mod spellings;
+#[cfg(test)]
+mod subscriptions;

@@ -146,22 +146,7 @@ fn a_code_moves_no_moment(rt: HostRuntime) -> Result<(), Fail> {
     expect_replay(&rt, script.as_str(), 0, written.as_str())
 }
 
-const NOT_BUILT: [&str; 2] = [
-    "<n2:subscribe SESSION/>",
-    "<n2:subscribe SESSION><update name='s'><mac-address value='00:00:5e:00:53:01'/></update></n2:subscribe>",
-];
-
-#[test]
-fn what_the_machine_cannot_be_asked_is_unreadable(rt: HostRuntime) -> Result<(), Fail> {
-    let alloc = rt.alloc();
-    for request in NOT_BUILT {
-        let request = request.replace(alloc, "SESSION", IN_SESSION)?;
-        expect_unreadable(&rt, body_of(alloc, request.as_str())?.as_str())?;
-    }
-    Ok(())
-}
-
-const IN_A_SESSION: [&str; 11] = [
+const IN_A_SESSION: [&str; 13] = [
     "<n2:renewSession SESSION/>",
     "<n2:endSession SESSION/>",
     "<n2:poll SESSION/>",
@@ -173,6 +158,8 @@ const IN_A_SESSION: [&str; 11] = [
     "<n2:search SESSION match-links='n3:role'><mac-address value='00:00:5e:00:53:01'/></n2:search>",
     "<n2:search SESSION result-filter=''><mac-address value='00:00:5e:00:53:01'/></n2:search>",
     "<n2:search SESSION terminal-identifier-type='device'><mac-address value='00:00:5e:00:53:01'/></n2:search>",
+    "<n2:subscribe SESSION/>",
+    "<n2:subscribe SESSION><update name='s'><mac-address value='00:00:5e:00:53:01'/></update></n2:subscribe>",
 ];
 
 #[test]

@@ -60,13 +60,33 @@ fn begun(rt: &(impl Abort + AllocGlobal), client: &str) -> Result<String, Fail> 
 const USUAL: &str =
     "<?xml version=\"1.0\" encoding=\"UTF-8\"?>\n<SOAP-ENV:Envelope xmlns:SOAP-ENV=\"http://www.w3.org/2003/05/soap-envelope\"\n  xmlns:ifmap=\"http://www.trustedcomputinggroup.org/2010/IFMAP/2\"\n  xmlns:meta=\"http://www.trustedcomputinggroup.org/2010/IFMAP-METADATA/2\">\n <SOAP-ENV:Header/>\n <SOAP-ENV:Body>\n  <ifmap:publish session-id=\"1-00000000-0000-0000-0000-000000000001\">\n   <update><access-request name=\"111:33\"/><mac-address value=\"00:00:5E:00:53:01\"/>\n    <metadata><meta:access-request-mac ifmap-cardinality=\"singleValue\"/></metadata></update>\n   <update><access-request name=\"111:33\"/><ip-address value=\"192.0.2.7\" type=\"IPv4\"/>\n    <metadata><meta:access-request-ip ifmap-cardinality=\"singleValue\"/></metadata></update>\n   <update><access-request name=\"111:33\"/><identity name=\"john\" type=\"username\"/>\n    <metadata><meta:authenticated-as ifmap-cardinality=\"singleValue\"/>\n     <meta:role ifmap-cardinality=\"multiValue\"><name>employee</name></meta:role></metadata></update>\n  </ifmap:publish>\n </SOAP-ENV:Body>\n</SOAP-ENV:Envelope>\n";
 
+const USUAL_TOLD: &str =
+    "<pollResult><searchResult name=\"s\"><resultItem><access-request name=\"111:33\"/><identity name=\"john\" type=\"username\"/><metadata><n3:authenticated-as ifmap-cardinality=\"singleValue\" STAMP/><n3:role ifmap-cardinality=\"multiValue\" STAMP><name>employee</name></n3:role></metadata></resultItem><resultItem><access-request name=\"111:33\"/><ip-address type=\"IPv4\" value=\"192.0.2.7\"/><metadata><n3:access-request-ip ifmap-cardinality=\"singleValue\" STAMP/></metadata></resultItem><resultItem><access-request name=\"111:33\"/><mac-address value=\"00:00:5e:00:53:01\"/><metadata><n3:access-request-mac ifmap-cardinality=\"singleValue\" STAMP/></metadata></resultItem></searchResult></pollResult>";
+
+const STAMP: &str = "ifmap-publisher-id=\"pdp\" ifmap-timestamp=\"1970-01-01T00:00:02Z\"";
+
+// Its publish is taken, and a subscription of its own from the address is told of all of it.
 #[test]
-fn the_publish_of_a_usual_client_is_taken(rt: HostRuntime) -> Result<(), Fail> {
+fn a_usual_client_is_told_what_it_published(rt: HostRuntime) -> Result<(), Fail> {
     let alloc = rt.alloc();
-    let mut script = frame_of(alloc, 1, "pdp", NEW_SESSION)?;
-    script.push_str(frame_of(alloc, 2, "pdp", USUAL)?.as_str())?;
+    let subscribe = body_of(
+        alloc,
+        "<n2:subscribe session-id=\"1-00000000-0000-0000-0000-000000000001\"><update name=\"s\" max-depth=\"3\"><mac-address value=\"00:00:5e:00:53:01\"/></update></n2:subscribe>",
+    )?;
+    let poll = body_of(
+        alloc,
+        "<n2:poll session-id=\"1-00000000-0000-0000-0000-000000000001\"/>",
+    )?;
+    let bodies = [NEW_SESSION, USUAL, subscribe.as_str(), poll.as_str()];
+    let mut script = String::new(alloc);
+    for (at, body) in bodies.iter().enumerate() {
+        script.push_str(frame_of(alloc, at as u64 + 1, "pdp", body)?.as_str())?;
+    }
+    let told = USUAL_TOLD.replace(alloc, "STAMP", STAMP)?;
     let mut written = begun(&rt, "pdp")?;
-    written.push_str(answer_of(alloc, "<publishReceived/>")?.as_str())?;
+    for result in ["<publishReceived/>", "<subscribeReceived/>", told.as_str()] {
+        written.push_str(answer_of(alloc, result)?.as_str())?;
+    }
     expect_replay(&rt, script.as_str(), 0, written.as_str())
 }
 

@@ -1,13 +1,34 @@
-use Rattle.ifmap_core.specs.Between.{rest_of}
-use Rattle.ifmap_core.proofs.Applying.{within_left}
-use Rattle.ifmap_core.proofs.Requests.{ends}
+use Rattle.std.proofs.Common.{refl}
+use Rattle.ifmap_changes.specs.Between.{left, so_far}
+use Rattle.ifmap_core.proofs.Cases.{another, ends, leads_plain, live_after, nobody, own_left, owner_so_far}
 use Rattle.ifmap_core.proofs.answering.end_session.Goals as goal
-use Rattle.ifmap_graph.specs.Seen.{rows_now}
+use Rattle.ifmap_core.specs.declared.owning.Owner.TheVariants.{Own}
+use Rattle.ifmap_core.specs.declared.outcomes.Outcome.TheVariants.{End}
+use Rattle.ifmap_machine.specs.declared.events.Answer.TheVariants as the_answer
+use Rattle.ifmap_machine.specs.Step.{end_session}
+use Rattle.ifmap_replies.specs.declared.replies.Reply.TheVariants as the_reply
 
 pub returns-in_ok-take_away_one-in-Own-clause-leads : goal.returns-in_ok-take_away_one-in-Own-clause-leads
 returns-in_ok-take_away_one-in-Own-clause-leads g c =
-    ends c.args.asking.now.ttl c.args.asking.now.moment (rest_of c.args.asking.now c.args.sessions.now) c.args.id.now
-    c.args.asking.now.client c.in-Own.serial c.in-Own.ensures (rows_now c.args.graph.now)
-    (rows_now c.take_away_one.new.graph)
-    (within_left c.args.asking.now.ended c.args.sessions.now.live c.requires.within)
-    c.in_ok-take_away_one-in-Own.ensures.rows
+    let a = c.args.asking.now in
+    let parts = c.args.parts.now in
+    let pending = c.args.pending.now in
+    let serial = c.in-Own.serial in
+    let o = owner_so_far a parts pending c.args.id.now a.client (Own serial) c.in-Own.ensures in
+    let live = own_left (left a parts.sessions) c.args.id.now a.client serial c.in-Own.ensures in
+    let e = c.in_ok-take_away_one-in-Own.ensures in
+    leads_plain a c.take_away_one.new.parts c.take_away_one.new.pending e.steady e.ready
+    (End serial (the_answer.Reply the_reply.Ended)) refl
+    (live_after a serial parts.sessions c.take_away_one.new.parts.sessions e.turned.sessions live, e.bare) _
+    (ends (so_far a parts pending) c.args.id.now a.client serial o (so_far a c.take_away_one.new.parts c.take_away_one.new.pending) e.told)
+
+pub returns-in-Another-clause-leads : goal.returns-in-Another-clause-leads
+returns-in-Another-clause-leads g c =
+    another c.args.asking.now c.args.parts.now c.args.pending.now c.requires.steady c.requires.ready c.args.id.now
+    (end_session (so_far c.args.asking.now c.args.parts.now c.args.pending.now)) c.in-Another.ensures c.refuse.result c.refuse.ensures
+
+pub returns-in-Nobody-clause-leads : goal.returns-in-Nobody-clause-leads
+returns-in-Nobody-clause-leads g c =
+    nobody c.args.asking.now c.args.parts.now c.args.pending.now c.requires.steady c.requires.ready c.args.id.now
+    (end_session (so_far c.args.asking.now c.args.parts.now c.args.pending.now)) c.in-Nobody.ensures c.refuse-in-Nobody.result
+    c.refuse-in-Nobody.ensures

@@ -1,17 +1,33 @@
-use Rattle.std.proofs.Common.{◌≡◌, subst}
-use Rattle.ifmap_core.specs.Between.{Asking, rest_of}
-use Rattle.ifmap_core.proofs.Applying.{within_left}
-use Rattle.ifmap_core.proofs.Requests.{publishes}
+use Rattle.ifmap_changes.specs.Between.{left, so_far}
+use Rattle.ifmap_core.proofs.Cases.{accepts, another, live_after, nobody, own_left, owner_so_far, publishes}
 use Rattle.ifmap_core.proofs.answering.publish.Goals as goal
-use Rattle.ifmap_publish.specs.Apply.{apply}
-use Rattle.ifmap_graph.specs.Seen.{rows_now}
+use Rattle.ifmap_core.specs.declared.owning.Owner.TheVariants.{Own}
+use Rattle.ifmap_machine.specs.declared.events.Answer.TheVariants as the_answer
+use Rattle.ifmap_machine.specs.Step.{publish}
+use Rattle.ifmap_replies.specs.declared.replies.Reply.TheVariants as the_reply
 
 pub returns-in_ok-publish-in-Own-clause-leads : goal.returns-in_ok-publish-in-Own-clause-leads
-returns-in_ok-publish-in-Own-clause-leads c =
-    publishes c.args.asking.now.ttl c.args.asking.now.moment (rest_of c.args.asking.now c.args.sessions.now) c.args.id.now
-    c.args.asking.now.client c.in-Own.serial c.in-Own.ensures (rows_now c.args.graph.now)
-    (rows_now c.publish.new.graph) c.args.ops.now
-    (within_left c.args.asking.now.ended c.args.sessions.now.live c.requires.within)
-    (subst (λ (a : Asking). rows_now c.publish.new.graph ≡ apply (rows_now c.args.graph.now)
-    (record { client = a.client; serial = c.in-Own.serial; moment = a.moment }) c.args.ops.now) c.asking.view_is
-    c.in_ok-publish-in-Own.ensures.rows)
+returns-in_ok-publish-in-Own-clause-leads g c =
+    let a = c.args.asking.now in
+    let parts = c.args.parts.now in
+    let pending = c.args.pending.now in
+    let serial = c.in-Own.serial in
+    let o = owner_so_far a parts pending c.args.id.now a.client (Own serial) c.in-Own.ensures in
+    let live = own_left (left a parts.sessions) c.args.id.now a.client serial c.in-Own.ensures in
+    let e = c.in_ok-publish-in-Own.ensures in
+    accepts a c.publish.new.parts c.publish.new.pending e.steady e.ready serial (the_answer.Reply the_reply.Published) _
+    (live_after a serial parts.sessions c.publish.new.parts.sessions e.turned.sessions live)
+    (publishes (so_far a parts pending) c.args.id.now a.client serial o c.args.ops.now
+    (so_far a c.publish.new.parts c.publish.new.pending) e.told)
+
+pub returns-in-Another-clause-leads : goal.returns-in-Another-clause-leads
+returns-in-Another-clause-leads g c =
+    another c.args.asking.now c.args.parts.now c.args.pending.now c.requires.steady c.requires.ready c.args.id.now
+    (publish (so_far c.args.asking.now c.args.parts.now c.args.pending.now) c.args.ops.now) c.in-Another.ensures c.refuse.result
+    c.refuse.ensures
+
+pub returns-in-Nobody-clause-leads : goal.returns-in-Nobody-clause-leads
+returns-in-Nobody-clause-leads g c =
+    nobody c.args.asking.now c.args.parts.now c.args.pending.now c.requires.steady c.requires.ready c.args.id.now
+    (publish (so_far c.args.asking.now c.args.parts.now c.args.pending.now) c.args.ops.now) c.in-Nobody.ensures c.refuse-in-Nobody.result
+    c.refuse-in-Nobody.ensures

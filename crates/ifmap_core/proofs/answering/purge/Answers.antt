@@ -1,18 +1,58 @@
-use Rattle.std.proofs.Common.{◌∙◌, ap, List, ℕ}
-use Rattle.ifmap_core.specs.Between.{Asking, rest_of}
-use Rattle.ifmap_core.proofs.Applying.{within_left}
-use Rattle.ifmap_core.proofs.Requests.{purges}
-use Rattle.ifmap_core.proofs.answering.purge.Goals as goal
+use Rattle.std.proofs.Common.{◌≡◌, ◌∙◌, ap, sym, ℕ, List, [], true, false}
+use Rattle.ifmap_changes.specs.Between.{Asking}
+use Rattle.ifmap_graph.specs.Seen.{rows_now}
+use Rattle.ifmap_machine.specs.Telling.{overflow, tell}
 use Rattle.ifmap_publish.specs.declared.who.Who.TheVariants.{Publisher}
 use Rattle.ifmap_publish.specs.Retract.{retract}
-use Rattle.ifmap_graph.specs.Seen.{rows_now}
+use Rattle.ifmap_changes.specs.Between.{left, so_far}
+use Rattle.ifmap_core.proofs.Cases.{accepts, another, live_after, nobody, own_left, owner_so_far, purges, purges_not, says}
+use Rattle.ifmap_core.proofs.answering.purge.Goals as goal
+use Rattle.ifmap_core.specs.declared.owning.Owner.TheVariants.{Own}
+use Rattle.ifmap_machine.specs.declared.events.Answer.TheVariants as the_answer
+use Rattle.ifmap_machine.specs.Step.{purge, refusal}
+use Rattle.ifmap_replies.specs.declared.replies.Reply.TheVariants as the_reply
+use Rattle.ifmap_ident.specs.declared.codes.Code.TheVariants.{AccessDenied}
 
 pub returns-in_ok-take_away-in-Own-clause-leads : goal.returns-in_ok-take_away-in-Own-clause-leads
 returns-in_ok-take_away-in-Own-clause-leads g c =
-    purges c.args.asking.now.ttl c.args.asking.now.moment (rest_of c.args.asking.now c.args.sessions.now) c.args.id.now
-    c.args.asking.now.client c.in-Own.serial c.in-Own.ensures (rows_now c.args.graph.now)
-    (rows_now c.take_away.new.graph) c.args.publisher.now
-    (within_left c.args.asking.now.ended c.args.sessions.now.live c.requires.within)
-    (c.equals.ensures.0 c.if-not-equals.false ∙ c.text.ensures.text ∙ ap (λ (a : Asking). a.client) c.asking.view_is)
-    (c.in_ok-take_away-in-Own.ensures.rows ∙ ap (λ (t : List ℕ). retract (Publisher t) (rows_now c.args.graph.now))
-    (c.in_ok-copy-in-Own.ensures ∙ ap (λ (a : Asking). a.client) c.asking.view_is))
+    let a = c.args.asking.now in
+    let parts = c.args.parts.now in
+    let pending = c.args.pending.now in
+    let serial = c.in-Own.serial in
+    let o = owner_so_far a parts pending c.args.id.now a.client (Own serial) c.in-Own.ensures in
+    let live = own_left (left a parts.sessions) c.args.id.now a.client serial c.in-Own.ensures in
+    let e = c.in_ok-take_away-in-Own.ensures in
+    accepts a c.take_away.new.parts c.take_away.new.pending e.steady e.ready serial (the_answer.Reply the_reply.Purged) _
+    (live_after a serial parts.sessions c.take_away.new.parts.sessions e.turned.sessions live)
+    (purges (so_far a parts pending) c.args.id.now a.client serial o c.args.publisher.now
+    (so_far a c.take_away.new.parts c.take_away.new.pending)
+    (c.equals.ensures.0 c.if-not-equals.false ∙ c.text.ensures.text ∙ ap (λ (x : Asking). x.client) c.asking.view_is)
+    (e.told ∙ ap (λ (t : List ℕ). overflow (tell (retract (Publisher t) (rows_now parts.graph)) [] (so_far a parts pending)))
+    (c.in_ok-copy-in-Own.ensures ∙ ap (λ (x : Asking). x.client) c.asking.view_is)))
+
+pub returns-then-not-equals-clause-leads : goal.returns-then-not-equals-clause-leads
+returns-then-not-equals-clause-leads g c =
+    let a = c.args.asking.now in
+    let parts = c.args.parts.now in
+    let pending = c.args.pending.now in
+    let serial = c.in-Own.serial in
+    let o = owner_so_far a parts pending c.args.id.now a.client (Own serial) c.in-Own.ensures in
+    let live = own_left (left a parts.sessions) c.args.id.now a.client serial c.in-Own.ensures in
+    says a parts pending c.requires.steady c.requires.ready (refusal AccessDenied) _
+    (purges_not (so_far a parts pending) c.args.id.now a.client serial o c.args.publisher.now
+    (λ own. let bad : true ≡ false = sym (c.equals.ensures.1 (own ∙ sym (c.text.ensures.text
+    ∙ ap (λ (x : Asking). x.client) c.asking.view_is)))
+    ∙ c.if-not-equals.true in cc)) c.refuse.result c.refuse.ensures
+
+pub returns-in-Another-clause-leads : goal.returns-in-Another-clause-leads
+returns-in-Another-clause-leads g c =
+    another c.args.asking.now c.args.parts.now c.args.pending.now c.requires.steady c.requires.ready c.args.id.now
+    (purge (so_far c.args.asking.now c.args.parts.now c.args.pending.now) c.args.publisher.now) c.in-Another.ensures
+    c.refuse-in-Another.result c.refuse-in-Another.ensures
+
+pub returns-in-Nobody-clause-leads : goal.returns-in-Nobody-clause-leads
+returns-in-Nobody-clause-leads g c =
+    nobody c.args.asking.now c.args.parts.now c.args.pending.now c.requires.steady c.requires.ready c.args.id.now
+    (purge (so_far c.args.asking.now c.args.parts.now c.args.pending.now) c.args.publisher.now) c.in-Nobody.ensures
+    c.refuse-in-Nobody.result
+    c.refuse-in-Nobody.ensures

@@ -1,13 +1,22 @@
-use Rattle.std.proofs.Common.{sym, ◌∙◌}
-use Rattle.ifmap_core.specs.Between.{rest_of, so_far}
-use Rattle.ifmap_core.proofs.Requests.{full_leads}
+use Rattle.std.proofs.Common.{sym, ◌∙◌, refl}
+use Rattle.ifmap_changes.specs.Between.{AreKept, AreTurned}
+use Rattle.ifmap_core.proofs.Begun.{full_leads}
+use Rattle.ifmap_core.proofs.Exits.{always_ok, on_err}
+use Rattle.ifmap_core.proofs.Turned.{stays_kept, stays_turned}
 use Rattle.ifmap_core.proofs.beginning.new_session.Goals as goal
 
 pub begin-requires-clause-free : goal.begin-requires-clause-free
-begin-requires-clause-free g c = sym (c.is_full.ensures.full c.args.graph.now) ∙ c.if-is_full.false
+begin-requires-clause-free g c = sym (c.is_full.ensures.full c.args.parts.now c.args.pending.now refl) ∙ c.if-is_full.false
 
 pub returns-then-is_full-clause-leads : goal.returns-then-is_full-clause-leads
 returns-then-is_full-clause-leads g c =
-    full_leads (rest_of c.args.asking.now c.args.sessions.now) (so_far c.args.asking.now c.args.graph.now c.args.sessions.now)
-    c.args.asking.now.client c.args.random c.args.limit c.refuse.result c.refuse.ensures
-    (sym (c.is_full.ensures.full c.args.graph.now) ∙ c.if-is_full.true)
+    full_leads c.args.asking.now c.args.parts.now c.args.pending.now c.args.random c.args.limit c.refuse.result c.refuse.ensures
+    c.requires.steady c.requires.ready (sym (c.is_full.ensures.full c.args.parts.now c.args.pending.now refl) ∙ c.if-is_full.true)
+
+pub returns-then-is_full-clause-turned : goal.returns-then-is_full-clause-turned
+returns-then-is_full-clause-turned g c =
+    always_ok c.refuse.result (AreTurned c.args.parts.now c.args.parts.now) (stays_turned c.args.parts.now)
+
+pub returns-then-is_full-clause-kept : goal.returns-then-is_full-clause-kept
+returns-then-is_full-clause-kept g c =
+    on_err c.refuse.result (AreKept c.args.parts.now c.args.parts.now) (stays_kept c.args.parts.now c.requires.steady)

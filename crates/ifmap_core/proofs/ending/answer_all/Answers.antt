@@ -1,14 +1,18 @@
-use Rattle.std.proofs.Common.{sym, ◌∙◌, ap, List}
-use Rattle.ifmap_core.proofs.Ended.{without_none}
-use Rattle.ifmap_core.proofs.Quiet.{plain}
+use Rattle.std.proofs.Common.{refl}
+use Rattle.ifmap_changes.specs.Between.{state_at}
+use Rattle.ifmap_core.proofs.Expiring.{done_leads, would_be}
 use Rattle.ifmap_core.proofs.ending.answer_all.Goals as goal
-use Rattle.ifmap_machine.specs.Step.{step_ask}
-use Rattle.ifmap_session.specs.Sessions.{Session}
-use Rattle.ifmap_graph.specs.Seen.{rows_now}
+use Rattle.ifmap_core.specs.Outcomes.{held_by}
 
-pub returns-clause-answer : goal.returns-clause-answer
-returns-clause-answer g c =
-    sym (c.finish.ensures.answer c.answer.new.graph)
-    ∙ c.in_ok-outcome.ensures.leads.leads
-    ∙ ap (λ (l : List Session). step_ask (plain c.args.time.now.ttl c.args.time.now.moment c.args.sessions.now.counter
-    (rows_now c.args.graph.now) l) c.args.event.now c.args.event.now.ask) (without_none c.args.sessions.now.live)
+pub apply-requires-clause-can : goal.apply-requires-clause-can
+apply-requires-clause-can g c = c.in-Some.ensures.some.can c.args.parts.now refl
+
+pub apply-requires-clause-parts : goal.apply-requires-clause-parts
+apply-requires-clause-parts g c = would_be c.args.parts.now (held_by c.in-Some.outcome) c.in-Some.ensures.some.plain c.requires
+
+pub returns-in-Some-clause-answer : goal.returns-in-Some-clause-answer
+returns-in-Some-clause-answer g c =
+    done_leads c.args.time.now.ttl c.args.time.now.moment c.args.parts.now c.apply.new.parts c.args.event.now c.args.event.now.ask
+    c.in-Some.outcome
+    c.apply.result c.in-Some.ensures.some c.apply.ensures.rows
+    (c.apply.ensures.answer (state_at c.args.time.now.ttl c.args.time.now.moment c.args.parts.now) refl refl refl refl)

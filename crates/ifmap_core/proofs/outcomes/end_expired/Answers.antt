@@ -1,9 +1,10 @@
-use Rattle.std.proofs.Common.{refl, ◌∙◌, arith}
-use Rattle.ifmap_core.proofs.Applying.{ended_all, one_can_end, one_ended}
+use Rattle.std.proofs.Common.{◌∷◌, [], refl, ◌∙◌, arith, get_or, subst}
+use Rattle.ifmap_core.proofs.Applying.{ended_all, lived, one_can_end, one_ended, other_lives}
 use Rattle.ifmap_core.proofs.outcomes.end_expired.Goals as goal
+use Rattle.ifmap_session.specs.Sessions.{IsLive}
 
 pub loop-serial-init : goal.loop-serial-init
-loop-serial-init c = record { so_far = record { can = c.requires; rest = refl }; counter = refl; room = omega arith }
+loop-serial-init c = record { so_far = record { can = c.requires; rest = refl }; counter = refl; room = omega arith; spare = λ n l. refl }
 
 pub end-requires : goal.end-requires
 end-requires c =
@@ -16,6 +17,11 @@ loop-serial-preserved c = record {
       c.loop-serial-test.true c.loop-serial.invariant.so_far c.end.ensures.live;
   counter = c.end.ensures.counter ∙ c.loop-serial.invariant.counter;
   room = omega (arith, c.loop-serial.invariant.room, c.end.ensures.room);
+  spare = λ n l.
+      let serial = get_or c.args.ended.now c.loop-serial.serial-index 0 in
+      let there = subst (IsLive n) c.end.ensures.live l in
+      c.end.ensures.others n (other_lives n serial c.loop-serial.sessions.live there)
+      ∙ c.loop-serial.invariant.spare n (lived n (serial ∷ []) c.loop-serial.sessions.live there);
 }
 
 pub returns-clause-live : goal.returns-clause-live

@@ -1,8 +1,7 @@
 use Rattle.std.proofs.Common.{◌≡◌, sym, ◌∙◌, ap, subst, List}
 use Rattle.std.specs.List.Sorted.{IsStrictlySortedBy}
-use Rattle.ifmap_core.specs.Between.{AreWithin}
 use Rattle.ifmap_core.specs.Outcomes.{first_renewed, told}
-use Rattle.ifmap_core.proofs.Applying.{live_emptied, poll_told, within_emptied, within_first}
+use Rattle.ifmap_core.proofs.Applying.{live_emptied, poll_told}
 use Rattle.ifmap_core.proofs.Ended.{some_is}
 use Rattle.ifmap_core.proofs.outcomes.tell_queue.Goals as goal
 use Rattle.ifmap_session.specs.Sessions.{IsLive, Session, change, emptied, session_order, session_with_serial}
@@ -28,8 +27,3 @@ returns-clause-told c = λ state moment sessions.
     poll_told state c.args.again c.args.serial there.0 rising found c.take_all-items.result (c.take_all-items.ensures.items there.0 there.1)
     ∙ ap (λ (l : List Session). (record state { sessions = l }, told c.take_all-items.result)) renewed
     ∙ ap (λ a. (record state { sessions = c.renew_first.new.sessions.live }, a)) (sym c.answer_with.ensures)
-
-pub returns-clause-within : goal.returns-clause-within
-returns-clause-within c = λ within.
-    subst AreWithin (sym c.renew_first.ensures.live) (within_first c.args.again c.args.serial c.args.moment c.take_all-items.new.self.live
-    (subst AreWithin (sym c.take_all-items.ensures.changes.live) (within_emptied c.args.serial c.args.sessions.now.live within)))

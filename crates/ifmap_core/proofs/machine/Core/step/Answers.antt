@@ -1,11 +1,16 @@
-use Rattle.std.proofs.Common.{rules, ◌↔◌, ◌⊎◌, sym, ◌∙◌, ap, subst, arith}
+use Rattle.std.proofs.Common.{rules, ◌≡◌, ◌↔◌, ◌⊎◌, sym, ◌∙◌, ap, subst, arith}
 use Rattle.std.proofs.lemmas.Grind.{common_steps}
-use Rattle.ifmap_core.specs.Causes.{AsksForNoneLeft, FindsTooMuch, IsRefusal, NamesAnothersSession, NamesNoSession, PurgesAnother, state_for}
+use Rattle.ifmap_core.specs.Causes.{AsksForNoneLeft, FindsTooMuch, HasNoRoomForName, IsLoss, IsRefusal, NamesAnothersSession, NamesNoSession, PollsNoSession, PollsNothing, PurgesAnother, state_for}
+use Rattle.ifmap_core.proofs.Answered.{heard, held, told_end}
+use Rattle.ifmap_core.proofs.Exits.{on_err}
+use Rattle.ifmap_core.proofs.Turned.{back_state}
 use Rattle.ifmap_core.proofs.Refusals.{access_denied, invalid_session, refusal_leaves, system_error, too_big}
 use Rattle.ifmap_core.proofs.machine.Core.step.Goals as goal
 use Rattle.ifmap_ident.specs.declared.codes.Code.TheVariants.{AccessDenied, InvalidSessionID, SearchResultsTooBig, SystemError}
 use Rattle.ifmap_machine.specs.declared.events.Answer.{Answer}
+use Rattle.ifmap_machine.specs.declared.events.Answer.TheVariants as the_answer
 use Rattle.ifmap_machine.specs.State.{State}
+use Rattle.ifmap_replies.specs.declared.replies.Reply.TheVariants as the_reply
 
 pub returns-clause-answer : goal.returns-clause-answer
 returns-clause-answer g c = first_of (search rules, grind (arith, common_steps))
@@ -14,7 +19,7 @@ pub returns-clause-refusal : goal.returns-clause-refusal
 returns-clause-refusal g c = λ code refused.
     let outcome = returns-clause-answer g c in
     ap (λ (p : State × Answer). p.0) outcome
-    ∙ refusal_leaves (state_for c.args.self.now c.args.event.now) c.args.event.now code c.args.event.now.ask c.requires
+    ∙ refusal_leaves (state_for c.args.self.now c.args.event.now) c.args.event.now code c.args.event.now.ask
     (subst (IsRefusal code) (ap (λ (p : State × Answer). p.1) outcome) refused)
 
 pub returns-clause-invalid_session : goal.returns-clause-invalid_session
@@ -22,7 +27,7 @@ returns-clause-invalid_session g c =
     let state = state_for c.args.self.now c.args.event.now in
     subst (λ (a : Answer). IsRefusal InvalidSessionID a ↔ NamesNoSession state c.args.event.now.again c.args.event.now.ask)
     (sym (ap (λ (p : State × Answer). p.1) (returns-clause-answer g c)))
-    (invalid_session state c.args.event.now c.args.event.now.ask c.requires)
+    (invalid_session state c.args.event.now c.args.event.now.ask)
 
 pub returns-clause-access_denied : goal.returns-clause-access_denied
 returns-clause-access_denied g c =
@@ -30,18 +35,45 @@ returns-clause-access_denied g c =
     subst (λ (a : Answer). IsRefusal AccessDenied a ↔ (NamesAnothersSession state c.args.event.now.client c.args.event.now.ask
     ⊎ PurgesAnother state c.args.event.now.client c.args.event.now.ask))
     (sym (ap (λ (p : State × Answer). p.1) (returns-clause-answer g c)))
-    (access_denied state c.args.event.now c.args.event.now.ask c.requires)
+    (access_denied state c.args.event.now c.args.event.now.ask)
 
 pub returns-clause-system_error : goal.returns-clause-system_error
 returns-clause-system_error g c =
     let state = state_for c.args.self.now c.args.event.now in
-    subst (λ (a : Answer). IsRefusal SystemError a ↔ AsksForNoneLeft state c.args.event.now.client c.args.event.now.ask)
+    subst (λ (a : Answer). IsRefusal SystemError a ↔ (AsksForNoneLeft state c.args.event.now.client c.args.event.now.ask
+    ⊎ HasNoRoomForName state c.args.event.now.client c.args.event.now.ask))
     (sym (ap (λ (p : State × Answer). p.1) (returns-clause-answer g c)))
-    (system_error state c.args.event.now c.args.event.now.ask c.requires)
+    (system_error state c.args.event.now c.args.event.now.ask)
 
 pub returns-clause-too_big : goal.returns-clause-too_big
 returns-clause-too_big g c =
     let state = state_for c.args.self.now c.args.event.now in
     subst (λ (a : Answer). IsRefusal SearchResultsTooBig a ↔ FindsTooMuch state c.args.event.now.client c.args.event.now.ask)
     (sym (ap (λ (p : State × Answer). p.1) (returns-clause-answer g c)))
-    (too_big state c.args.event.now c.args.event.now.ask c.requires)
+    (too_big state c.args.event.now c.args.event.now.ask)
+
+pub returns-clause-held : goal.returns-clause-held
+returns-clause-held g c =
+    let state = state_for c.args.self.now c.args.event.now in
+    subst (λ (a : Answer). (a ≡ the_answer.Held) ↔ PollsNothing state c.args.event.now.client c.args.event.now.ask)
+    (sym (ap (λ (p : State × Answer). p.1) (returns-clause-answer g c)))
+    (held state c.args.event.now c.args.event.now.ask)
+
+pub returns-clause-heard : goal.returns-clause-heard
+returns-clause-heard g c =
+    subst (λ (a : Answer). (a ≡ the_answer.Heard) ↔ IsLoss c.args.event.now.ask)
+    (sym (ap (λ (p : State × Answer). p.1) (returns-clause-answer g c)))
+    (heard (state_for c.args.self.now c.args.event.now) c.args.event.now c.args.event.now.ask)
+
+pub returns-clause-told_end : goal.returns-clause-told_end
+returns-clause-told_end g c = λ polls.
+    let state = state_for c.args.self.now c.args.event.now in
+    subst (λ (a : Answer). (a ≡ the_answer.Reply the_reply.Ended) ↔ PollsNoSession state c.args.event.now.again c.args.event.now.ask)
+    (sym (ap (λ (p : State × Answer). p.1) (returns-clause-answer g c)))
+    (told_end state c.args.event.now c.args.event.now.ask polls)
+
+pub returns-in_err-answer-clause-err : goal.returns-in_err-answer-clause-err
+returns-in_err-answer-clause-err g c =
+    on_err c.from_residual.result _
+    (back_state c.self.inside.ttl c.self.inside.moment c.self.inside.parts c.answer_at.new.parts c.in_err-answer.ensures.kept
+    ∙ c.self.view_is)

@@ -11,11 +11,11 @@ returns-clause-exact c =
         c.in-Some.id.now,
         c.in-Some.ensures.some,
         c.if-not-event.false,
-        subst (λ (m : ℕ). list_any (is_expired m c.self.inside.ttl) c.self.inside.sessions.live ≡ false) c.later-moment.ensures
+        subst (λ (m : ℕ). list_any (is_expired m c.self.inside.ttl) c.self.inside.parts.sessions.live ≡ false) c.later-moment.ensures
             (sym c.any_expired.ensures ∙ c.if-any_expired.false),
         c.has_nothing.ensures.0 yes,
       )),
-      (λ h. c.has_nothing.ensures.1 (hold_back c.event.inside.ask c.self.inside.sessions.live c.event.inside.client
+      (λ h. c.has_nothing.ensures.1 (hold_back c.event.inside.ask c.self.inside.parts.sessions.live c.event.inside.client
           c.in-Some.id.now _ _ c.in-Some.ensures.some h)),
     )
 

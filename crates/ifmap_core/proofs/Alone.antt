@@ -1,0 +1,194 @@
+-- A session that is told one error in place of all, and has no subscription left: what it is then (`alone_so_far`), and that all is
+-- ready still (`alone_ready`).
+use Rattle.std.proofs.Common.{◌≡◌, ◌≢◌, refl, sym, ◌∙◌, ap, subst, ℕ, ◌≤◌, ◌==◌, true, false, cond, List, [], ◌∷◌, length, map, Option, Some, None, inl, inr, arith}
+use Rattle.std.proofs.lemmas.Bool.{cases_Bool, eq-eqb, eqb-true}
+use Rattle.std.proofs.lemmas.Bool.Decides.{nat_tests}
+use Rattle.std.proofs.lemmas.List.Sums.{sum_by-cons}
+use Rattle.std.proofs.lemmas.Option.{same_Some}
+use Rattle.std.specs.BTreeMap.{get}
+use Rattle.std.specs.List.{AllByRecursion}
+use Rattle.std.specs.List.Sorted.{IsStrictlySortedBy}
+use Rattle.std.specs.Ordering.{nat_cmp}
+use Rattle.ifmap_changes.specs.Between.{AreWithin, Asking, IsReady, IsWithin, left, rest_of, so_far}
+use Rattle.ifmap_changes.specs.declared.parts.Parts.{Parts}
+use Rattle.ifmap_core.specs.Outcomes.{alone_told}
+use Rattle.ifmap_core.proofs.Ended.{remains, some_is}
+use Rattle.ifmap_core.proofs.Places.{Rises, kept_fewer}
+use Rattle.ifmap_core.proofs.Subscribed.{live_left}
+use Rattle.ifmap_core.proofs.Told.{one_numbered, told_by_leaves}
+use Rattle.ifmap_graph.specs.Seen.{rows_now}
+use Rattle.ifmap_ident.specs.declared.codes.Code.TheVariants.{PollResultsTooBig}
+use Rattle.ifmap_lemmas.specs.Filters.{all_filter}
+use Rattle.ifmap_machine.specs.Ending.{without_standing}
+use Rattle.ifmap_machine.specs.State as machine
+use Rattle.ifmap_machine.specs.Telling.{limit_note}
+use Rattle.ifmap_search.specs.declared.results.PollItem.{PollItem}
+use Rattle.ifmap_search.specs.declared.results.PollItem.TheVariants as the_item
+use Rattle.ifmap_search.specs.Sizes.{poll_size, queue_size}
+use Rattle.ifmap_session.specs.Sessions.{IsLive, Session, change, overflowed, session_order, session_with_serial, spare_of, without_sessions}
+use Rattle.ifmap_standing.specs.declared.standing.Standing.{Standing}
+use Rattle.ifmap_standing.specs.Standing.{shown}
+use Rattle.ifmap_tellings.specs.declared.tellings.Pending.{Pending}
+use Rattle.ifmap_tellings.specs.declared.tellings.Telling.{Telling}
+use Rattle.ifmap_tellings.specs.declared.tellings.Telling.TheVariants.{After, Alone}
+use Rattle.ifmap_tellings.specs.Tellings.{AllKept, AloneAreBare, CanTell, EachTelling, HasSameSessions, IsSized, Tellings, is_alone, kept_of, told_by, told_where}
+
+abbrev pub error_of : ℕ → ℕ → PollItem
+error_of size limit = the_item.Error None PollResultsTooBig (limit_note size limit)
+
+-- what a session is told before does not matter
+alone_where : (size : ℕ) (o : Option Telling) (s : Session)
+    → overflowed (error_of size (told_where o s).limit) (told_where o s) ≡ overflowed (error_of size s.limit) s
+alone_where size None s = refl
+alone_where size (Some (After items n)) s = refl
+alone_where size (Some (Alone error)) s = refl
+
+other_number : (m n : ℕ) → (m == n) ≡ false → m ≢ n
+other_number m n miss e = let hit : (m == n) ≡ true = eq-eqb m n e in let bad : true ≡ false = sym hit ∙ miss in cc
+
+module _ (n size : ℕ) (before after : Tellings) (live : List Session)
+    (told : (s : Session) → session_with_serial n live ≡ Some s → get nat_cmp after n ≡ Some (Alone (error_of size s.limit)))
+    (others : (m : ℕ) → m ≢ n → get nat_cmp after m ≡ get nat_cmp before m) where
+  told_each : (s : Session) → session_with_serial n live ≡ Some s → (xs : List Session)
+      → AllByRecursion (λ (x : Session). (x.serial == n) ≡ true → x ≡ s) xs
+      → map (told_by after) xs ≡ change n (λ (x : Session). overflowed (error_of size x.limit) x) (map (told_by before) xs)
+  told_each s found [] one = refl
+  told_each s found (x ∷ xs) one =
+      let number : ((told_by before x).serial == n) ≡ (x.serial == n) = ap (λ (m : ℕ). m == n) (told_by_leaves before x).serial in
+      elim (cases_Bool (x.serial == n)) [
+        | inl hit ↦
+            let limit : s.limit ≡ x.limit = ap (λ (y : Session). y.limit) (sym (one.0 hit)) in
+            let there : told_by after x ≡ overflowed (error_of size x.limit) x =
+            ap (λ (m : ℕ). told_where (get nat_cmp after m) x) (eqb-true x.serial n hit)
+            ∙ ap (λ (o : Option Telling). told_where o x) (told s found ∙ ap (λ (k : ℕ). Some (Alone (error_of size k))) limit) in
+            let here : cond ((told_by before x).serial == n) (overflowed (error_of size (told_by before x).limit) (told_by before x))
+            (told_by before x)
+            ≡ overflowed (error_of size x.limit) x =
+            ap (λ b. cond b (overflowed (error_of size (told_by before x).limit) (told_by before x)) (told_by before x)) (number ∙ hit)
+            ∙ alone_where size (get nat_cmp before x.serial) x in
+            ap (λ t. t ∷ map (told_by after) xs) (there ∙ sym here)
+            ∙ ap (λ ts. cond ((told_by before x).serial == n) (overflowed (error_of size (told_by before x).limit) (told_by before x))
+            (told_by before x) ∷ ts) (told_each s found xs one.1)
+        | inr miss ↦
+            let there : told_by after x ≡ told_by before x =
+            ap (λ (o : Option Telling). told_where o x) (others x.serial (other_number x.serial n miss)) in
+            let here : cond ((told_by before x).serial == n) (overflowed (error_of size (told_by before x).limit) (told_by before x))
+            (told_by before x)
+            ≡ told_by before x =
+            ap (λ b. cond b (overflowed (error_of size (told_by before x).limit) (told_by before x)) (told_by before x)) (number ∙ miss) in
+            ap (λ t. t ∷ map (told_by after) xs) (there ∙ sym here)
+            ∙ ap (λ ts. cond ((told_by before x).serial == n) (overflowed (error_of size (told_by before x).limit) (told_by before x))
+            (told_by before x) ∷ ts) (told_each s found xs one.1)
+      ]
+
+-- one error is within each limit
+error_fits : (size : ℕ) (s : Session) → IsWithin s → IsWithin (overflowed (error_of size s.limit) s)
+error_fits size s w =
+    let sum = sum_by-cons poll_size (error_of size s.limit) [] in
+    let few : queue_size (error_of size s.limit ∷ []) ≤ s.limit = omega (arith, sum, w.wide) in
+    record { full = grind (arith, nat_tests, few); wide = w.wide }
+
+errors_fit : (n size : ℕ) (live : List Session) → AreWithin live
+    → AreWithin (change n (λ (x : Session). overflowed (error_of size x.limit) x) live)
+errors_fit n size [] h = tt
+errors_fit n size (x ∷ live) h =
+    elim (cases_Bool (x.serial == n)) [
+      | inl hit ↦ rw hit (error_fits size x h.0, errors_fit n size live h.1)
+      | inr miss ↦ rw miss (h.0, errors_fit n size live h.1)
+    ]
+
+module _ (a : Asking) (old new : Parts) (before after : Pending) (n size : ℕ) (up : IsStrictlySortedBy session_order old.sessions.live)
+    (live : IsLive n (left a old.sessions)) (rows : new.graph ≡ old.graph) (standing : new.standing.items ≡ old.standing.items)
+    (sessions : HasSameSessions old.sessions new.sessions)
+    (told : (s : Session) → session_with_serial n old.sessions.live ≡ Some s → get nat_cmp after.tellings n ≡ Some
+    (Alone (error_of size s.limit)))
+    (others : (m : ℕ) → m ≢ n → get nat_cmp after.tellings m ≡ get nat_cmp before.tellings m) where
+  there : (s : Session) × (session_with_serial n old.sessions.live ≡ Some s)
+  there = some_is (session_with_serial n old.sessions.live) (live_left a n old.sessions live)
+
+  told_now : map (told_by after.tellings) (left a new.sessions)
+      ≡ change n (λ (x : Session). overflowed (error_of size x.limit) x) (map (told_by before.tellings) (left a old.sessions))
+  told_now =
+      ap (λ (l : List Session). map (told_by after.tellings) (without_sessions a.ended l)) sessions.live
+      ∙ told_each n size before.tellings after.tellings old.sessions.live told others there.0 there.1 (left a old.sessions)
+      (all_filter (λ (x : Session). (x.serial == n) ≡ true → x ≡ there.0) (remains a.ended) old.sessions.live
+      (one_numbered n old.sessions.live there.0 up there.1))
+
+  pub alone_so_far : map shown (kept_of after.gone.items old.standing.items)
+      ≡ without_standing (n ∷ []) (map shown (kept_of before.gone.items old.standing.items))
+      → so_far a new after ≡ alone_told n size (so_far a old before)
+  alone_so_far gone =
+      ap (λ (k : ℕ). record (so_far a new after) { counter = k }) sessions.counter
+      ∙ ap (λ h. record (so_far a new after) { counter = old.sessions.counter; graph = rows_now h }) rows
+      ∙ ap (λ (l : List Session). record (so_far a old after) {
+        sessions = l;
+        standing = map shown
+            (kept_of after.gone.items new.standing.items);
+      }) told_now
+      ∙ ap (λ (xs : List Standing). record (alone_told n size (so_far a old before)) {
+        standing = map shown
+            (kept_of after.gone.items xs);
+      }) standing
+      ∙ ap (λ (xs : List machine.Standing). record (alone_told n size (so_far a old before)) { standing = xs }) gone
+
+  pub alone_ready : IsReady a old before → length after.gone.items ≡ length old.standing.items → Rises before.gone.items after.gone.items
+      → AllKept (λ (x : Standing). x.serial ≢ n) after.gone.items old.standing.items → 1 ≤ spare_of n new.sessions.spare
+      → IsReady a new after
+  alone_ready r flags more bare room =
+      let long : length after.gone.items ≡ length before.gone.items = flags ∙ sym r.flags in
+      record {
+        ended = rw (sessions.live) r.ended;
+        ordered = rw (sessions.live, standing) r.ordered;
+        flags = rw standing flags;
+        kept = rw (rows, standing) (kept_fewer _ before.gone.items after.gone.items old.standing.items long more r.kept);
+        live = rw (sessions.live, standing) (kept_fewer _ before.gone.items after.gone.items old.standing.items long more r.live);
+        queues = rw (sessions.live) r.queues;
+        within = subst AreWithin (sym told_now) (errors_fit n size (map (told_by before.tellings) (left a old.sessions)) r.within);
+        can_tell = can_each r;
+        sized = sized_each r;
+        alone = rw standing (alone_each r long more bare);
+      }
+    where
+      can_each : IsReady a old before → EachTelling (CanTell (rest_of a new.sessions)) after.tellings
+      can_each r m t e =
+          elim (cases_Bool (m == n)) [
+            | inl hit ↦
+                let here : m ≡ n = eqb-true m n hit in
+                let is : Alone (error_of size there.0.limit) ≡ t =
+                same_Some _ t (sym (told there.0 there.1) ∙ ap (get nat_cmp after.tellings) (sym here) ∙ e) in
+                subst (λ (k : ℕ). CanTell (rest_of a new.sessions) k t) (sym here)
+                (subst (λ (u : Telling). CanTell (rest_of a new.sessions) n u) is (record {
+                  live = subst (λ (l : List Session). IsLive n (without_sessions a.ended l)) (sym sessions.live) live;
+                  room = room;
+                }))
+            | inr miss ↦
+                let was = r.can_tell m t (sym (others m (other_number m n miss)) ∙ e) in
+                record {
+                  live = subst (λ (l : List Session). IsLive m (without_sessions a.ended l)) (sym sessions.live) was.live;
+                  room = omega (arith, was.room, sessions.spare m);
+                }
+          ]
+
+      sized_each : IsReady a old before → EachTelling (λ m t. IsSized m t new.sessions.live) after.tellings
+      sized_each r m t e =
+          elim (cases_Bool (m == n)) [
+            | inl hit ↦
+                let here : m ≡ n = eqb-true m n hit in
+                let is : Alone (error_of size there.0.limit) ≡ t =
+                same_Some _ t (sym (told there.0 there.1) ∙ ap (get nat_cmp after.tellings) (sym here) ∙ e) in
+                subst (λ (u : Telling). IsSized m u new.sessions.live) is (limit_note size there.0.limit, refl)
+            | inr miss ↦ rw (sessions.live) (r.sized m t (sym (others m (other_number m n miss)) ∙ e))
+          ]
+
+      alone_each : IsReady a old before → length after.gone.items ≡ length before.gone.items → Rises before.gone.items after.gone.items
+          → AllKept (λ (x : Standing). x.serial ≢ n) after.gone.items old.standing.items
+          → AloneAreBare after.tellings after.gone.items old.standing.items
+      alone_each r long more bare m e =
+          elim (cases_Bool (m == n)) [
+            | inl hit ↦
+                subst (λ (k : ℕ). AllKept (λ (x : Standing). x.serial ≢ k) after.gone.items old.standing.items)
+                (sym (eqb-true m n hit)) bare
+            | inr miss ↦
+                kept_fewer (λ (x : Standing). x.serial ≢ m) before.gone.items after.gone.items old.standing.items long more
+                (r.alone m (ap is_alone (sym (others m (other_number m n miss))) ∙ e))
+          ]

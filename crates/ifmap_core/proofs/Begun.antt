@@ -1,0 +1,305 @@
+-- How a session begins, in place of the one that its client has.
+-- First: parts of which the sessions have more room (`ready_with`, `kept_after`). Then: whether the client can be
+-- given a session. Last: that it begins (`begins`).
+use Rattle.std.proofs.Common.{◌≡◌, refl, sym, ◌∙◌, ap, subst, ℕ, ◌+◌, ◌-◌, ◌^◌, ◌<◌, ◌≤◌, ◌==◌, ◌&&◌, ◌||◌, Bool, true, false, List, [], ◌∷◌, ◌++◌, length, map, Option, None, Some, is_none, nat_le, min, Result, Ok, Err, inl, inr, arith, append-nil}
+use Rattle.std.proofs.lemmas.Bool.{cases_Bool, or_parts}
+use Rattle.std.proofs.lemmas.Bool.Decides.{nat_tests}
+use Rattle.std.proofs.lemmas.List.{length-map}
+use Rattle.std.proofs.lemmas.Option.{same_Some}
+use Rattle.std.specs.List.{IsDistinct}
+use Rattle.std.specs.Option.{IfSome, option_map}
+use Rattle.std.specs.Result.{IfOk}
+use Rattle.ifmap_changes.specs.Between.{AreKept, AreOrdered, AreTurned, AreWithin, Asking, CanEnd, IsBare, IsReady, IsSteady, left, rest_of, so_far}
+use Rattle.ifmap_changes.specs.declared.parts.Parts.{Parts}
+use Rattle.ifmap_core.specs.Outcomes.{CanOpen, LeadsTo, after_former, applied, drop_former, open_session, taken_former}
+use Rattle.ifmap_core.specs.declared.outcomes.Outcome.{Outcome}
+use Rattle.ifmap_core.specs.declared.outcomes.Outcome.TheVariants.{Say, Open}
+use Rattle.ifmap_core.proofs.Ended.{remains}
+use Rattle.ifmap_core.proofs.Finishing.{client_told, serial_told}
+use Rattle.ifmap_core.proofs.Places.{kept_itself, searched_itself}
+use Rattle.ifmap_core.proofs.Taking.{taken_is}
+use Rattle.ifmap_core.proofs.Turned.{sessions_twice}
+use Rattle.ifmap_ident.specs.declared.codes.Code.TheVariants.{SystemError}
+use Rattle.ifmap_machine.specs.declared.events.Answer.TheVariants as the_answer
+use Rattle.ifmap_machine.specs.Ending.{end_former}
+use Rattle.ifmap_machine.specs.State.{State}
+use Rattle.ifmap_machine.specs.Step.{begin_session, is_full, new_session, next_session, refusal}
+use Rattle.ifmap_replies.specs.declared.replies.Reply.TheVariants as the_reply
+use Rattle.ifmap_session.specs.SessionIds.{session_id}
+use Rattle.ifmap_session.specs.Sessions.{IsAsBefore, IsLive, IsTable, Opening, Session, Table, begun, is_text, limit_of, most_sessions, session_of_client, spare_of, without_sessions}
+use Rattle.ifmap_session.specs.laws.TableLaws.{client_freed, one_fewer, shorter}
+use Rattle.ifmap_session.specs.laws.TextLaws.{distinct_filter}
+use Rattle.ifmap_tellings.specs.declared.tellings.Pending.{Pending}
+use Rattle.ifmap_tellings.specs.Tellings.{HasSameSessions, IsSized, count_told, told_by}
+
+-- ---- parts of which the sessions have more room
+
+module _ (parts : Parts) (table : Table) (b : IsAsBefore parts.sessions table) where
+  abbrev pub with_table : Parts
+  with_table = record parts { sessions = table }
+
+  same_sessions : HasSameSessions parts.sessions table
+  same_sessions = record {
+    live = b.live;
+    counter = b.counter;
+    spare = λ n. subst (λ s. spare_of n parts.sessions.spare ≤ spare_of n s) (sym b.spare) (omega arith);
+    room = b.room;
+  }
+
+  pub turned_with : AreTurned parts with_table
+  turned_with = record {
+    waits = λ rest w. w;
+    searches = searched_itself parts.standing.items;
+    sessions = same_sessions;
+  }
+
+  pub kept_with : IsSteady parts.graph parts.standing.items → AreKept parts with_table
+  kept_with s = record {
+    back = record {
+      steady = s;
+      rows = refl;
+      links = λ v. refl;
+      numbers = λ v one other e f. same_Some other one (sym f ∙ e);
+      standing = kept_itself parts.standing.items;
+      sessions = same_sessions;
+    };
+    backs = λ u rows links w. w;
+  }
+
+  pub turned_after : (new : Parts) → AreTurned with_table new → AreTurned parts new
+  turned_after new t = record {
+    waits = t.waits;
+    searches = t.searches;
+    sessions = sessions_twice parts.sessions table new.sessions same_sessions t.sessions;
+  }
+
+  pub kept_after : (new : Parts) → AreKept with_table new → AreKept parts new
+  kept_after new k = record {
+    back = record {
+      steady = k.back.steady;
+      rows = k.back.rows;
+      links = k.back.links;
+      numbers = k.back.numbers;
+      standing = k.back.standing;
+      sessions = sessions_twice parts.sessions table new.sessions same_sessions k.back.sessions;
+    };
+    backs = k.backs;
+  }
+
+  pub so_far_with : (a : Asking) (pending : Pending) → so_far a with_table pending ≡ so_far a parts pending
+  so_far_with a pending = λ i. record (so_far a parts pending) {
+    counter = b.counter i;
+    sessions = map (told_by pending.tellings) (without_sessions a.ended (b.live i));
+  }
+
+  pub ready_with : (a : Asking) (pending : Pending) → IsReady a parts pending → IsReady a with_table pending
+  ready_with a pending r =
+      let live = sym b.live in
+      record {
+        ended = subst (CanEnd a.ended) live r.ended;
+        ordered = subst (λ l. AreOrdered l parts.standing.items) live r.ordered;
+        flags = r.flags;
+        kept = r.kept;
+        live = λ i x e stays. subst (λ l. IsLive x.serial (without_sessions a.ended l)) live (r.live i x e stays);
+        queues = subst AreWithin live r.queues;
+        within = subst (λ l. AreWithin (map (told_by pending.tellings) (without_sessions a.ended l))) live r.within;
+        can_tell = λ n t e. let can = r.can_tell n t e in record {
+          live = subst (λ l. IsLive n (without_sessions a.ended l)) live can.live;
+          room = subst (λ s. count_told t ≤ spare_of n s) (sym b.spare) can.room;
+        };
+        sized = λ n t e. subst (λ l. IsSized n t l) live (r.sized n t e);
+        alone = r.alone;
+      }
+
+-- ---- whether a client can be given a session
+
+client_mapped : (f : Session → Session) (c : List ℕ) → ((s : Session) → is_text (f s).client c ≡ is_text s.client c) → (live : List Session)
+    → session_of_client c (map f live) ≡ option_map f (session_of_client c live)
+client_mapped f c same [] = refl
+client_mapped f c same (x ∷ live) =
+    elim (cases_Bool (is_text x.client c)) [
+      | inl hit ↦ rw (same x ∙ hit, hit) refl
+      | inr miss ↦ rw (same x ∙ miss, miss) (client_mapped f c same live)
+    ]
+
+none_mapped : (f : Session → Session) (o : Option Session) → is_none (option_map f o) ≡ is_none o
+none_mapped f None = refl
+none_mapped f (Some s) = refl
+
+pub full_is : (a : Asking) (table : Table) (parts : Parts) (pending : Pending) → parts.sessions ≡ table
+    → is_full (so_far a parts pending) a.client
+    ≡ ((nat_le most_sessions (length (left a table)) && is_none (session_of_client a.client (left a table)))
+    || (table.counter == 2 ^ 64 - 1))
+full_is a table parts pending e =
+    let f : Session → Session = told_by pending.tellings in
+    let live : List Session = left a parts.sessions in
+    let count : length (map f live) ≡ length live = length-map live f in
+    let none : is_none (session_of_client a.client (map f live)) ≡ is_none (session_of_client a.client live) =
+    ap is_none (client_mapped f a.client (client_told pending.tellings a.client) live) ∙ none_mapped f (session_of_client a.client live) in
+    (λ i. (nat_le most_sessions (count i) && none i) || (parts.sessions.counter == 2 ^ 64 - 1))
+    ∙ ap (λ (t : Table). (nat_le most_sessions (length (left a t)) && is_none (session_of_client a.client (left a t)))
+    || (t.counter == 2 ^ 64 - 1)) e
+
+-- by what was found of both causes
+module _ (a : Asking) (table : Table) (parts : Parts) (pending : Pending) (e : parts.sessions ≡ table) (taken : Bool)
+    (is : taken ≡ (nat_le most_sessions (length (left a table)) && is_none (session_of_client a.client (left a table)))) where
+  pub full_where_taken : taken ≡ true → taken ≡ is_full (so_far a parts pending) a.client
+  full_where_taken is_so = is_so ∙ sym (full_is a table parts pending e ∙ ap (λ b. b || (table.counter == 2 ^ 64 - 1)) (sym is ∙ is_so))
+
+  pub full_where_counted : (count : ℕ) → count ≡ table.counter → taken ≡ false
+      → (count == 2 ^ 64 - 1) ≡ is_full (so_far a parts pending) a.client
+  full_where_counted count counted not_taken =
+      ap (λ k. k == 2 ^ 64 - 1) counted
+      ∙ sym (full_is a table parts pending e ∙ ap (λ b. b || (table.counter == 2 ^ 64 - 1)) (sym is ∙ not_taken))
+
+pub full_leads : {E : Type 0} (a : Asking) (parts : Parts) (pending : Pending) (random : ℕ) (limit : Option ℕ) (r : Result Outcome E)
+    → IfOk r (λ q. q ≡ Say (refusal SystemError)) → IsSteady parts.graph parts.standing.items → IsReady a parts pending
+    → is_full (so_far a parts pending) a.client ≡ true
+    → IfOk r (λ q. LeadsTo q a parts pending (new_session (so_far a parts pending) a.client random limit))
+full_leads a parts pending random limit (Err e) is steady ready full = tt
+full_leads a parts pending random limit (Ok outcome) is steady ready full =
+    subst (λ q. LeadsTo q a parts pending (new_session (so_far a parts pending) a.client random limit)) (sym is) (record {
+      steady = subst (IsSteady parts.graph) (sym (append-nil parts.standing.items)) steady;
+      ready = ready;
+      can = tt;
+      leads = rw full refl;
+    })
+
+-- ---- a session begins
+
+module _ (table : Table) (client : List ℕ) where
+  fewer : (live : List Session) (o : Option Session) → session_of_client client live ≡ o → length live ≤ most_sessions
+      → (nat_le most_sessions (length live) && is_none o) ≡ false
+      → length (after_former (option_map (λ (s : Session). s.serial) o) live) < most_sessions
+  fewer live None e few free = grind (arith, nat_tests, free)
+  fewer live (Some s) e few free = let less = one_fewer live client s e in omega (arith, less, few)
+
+  freed : (live : List Session) (o : Option Session) → session_of_client client live ≡ o
+      → IsDistinct is_text (map (λ (s : Session). s.client) live)
+      → session_of_client client (after_former (option_map (λ (s : Session). s.serial) o) live) ≡ None
+  freed live None e apart = e
+  freed live (Some s) e apart = client_freed live client s apart e
+
+least : (n : ℕ) → n < 2 ^ 64 - 1 → min (n + 1) (2 ^ 64 - 1) ≡ n + 1
+least n lt = omega (arith, lt)
+
+wide_limit : (limit : Option ℕ) → 100 ≤ limit_of limit
+wide_limit None = omega arith
+wide_limit (Some asked) = omega arith
+
+-- the session that a client had is gone as the definition says
+ended_former : (former : Option ℕ) (o : Option Session) (state : State) → former ≡ option_map (λ (s : Session). s.serial) o
+    → drop_former former (taken_former former state) ≡ end_former o state
+ended_former former None state e = ap (λ f. drop_former f (taken_former f state)) e
+ended_former former (Some s) state e = ap (λ f. drop_former f (taken_former f state)) e ∙ taken_is s.serial state
+
+-- the serial of the session that a client has so far
+former_so_far : (a : Asking) (parts : Parts) (pending : Pending) → option_map (λ (s : Session). s.serial)
+    (session_of_client a.client (left a parts.sessions))
+    ≡ option_map (λ (s : Session). s.serial) (session_of_client a.client (so_far a parts pending).sessions)
+former_so_far a parts pending =
+    by (session_of_client a.client (left a parts.sessions))
+    ∙ ap (option_map (λ (s : Session). s.serial))
+    (sym (client_mapped (told_by pending.tellings) a.client (client_told pending.tellings a.client) (left a parts.sessions)))
+  where
+    by : (o : Option Session) → option_map (λ (s : Session). s.serial) o
+        ≡ option_map (λ (s : Session). s.serial) (option_map (told_by pending.tellings) o)
+    by None = refl
+    by (Some s) = ap Some (sym (serial_told pending.tellings s))
+
+-- a state with one more session
+abbrev with_begun : (ℕ → Session) → State → State
+with_begun one state = record state { counter = state.counter + 1; sessions = state.sessions ++ one state.moment ∷ [] }
+
+counter_ended : (o : Option Session) (state : State) → (end_former o state).counter ≡ state.counter
+counter_ended None state = refl
+counter_ended (Some s) state = refl
+
+open_is : (former : Option ℕ) (opening : Opening) (count : ℕ) (state : State) → open_session former opening count state
+    ≡ with_begun (begun opening count) (drop_former former state)
+open_is None opening count state = refl
+open_is (Some n) opening count state = refl
+
+module _ (a : Asking) (old new : Parts) (pending after : Pending) (random : ℕ) (limit : Option ℕ) (former : Option ℕ) (opening : Opening)
+    (publisher : List ℕ) (count : ℕ) (counted : count ≡ limit_of limit) (owner : opening.client ≡ a.client) (name : publisher ≡ a.client)
+    (serial : opening.serial ≡ min (old.sessions.counter + 1) (2 ^ 64 - 1)) (id : opening.id ≡ session_id opening.serial random)
+    (next : old.sessions.counter < 2 ^ 64 - 1) where
+  number : opening.serial ≡ old.sessions.counter + 1
+  number = serial ∙ least old.sessions.counter next
+
+  -- the session that is begun is the next one
+  begun_is : (state : State) → state.counter ≡ old.sessions.counter → (moment : ℕ)
+      → begun opening count moment
+      ≡ begun (record { serial = state.counter + 1; id = session_id (state.counter + 1) random; client = a.client }) (limit_of limit) moment
+  begun_is state e moment =
+      let n : opening.serial ≡ state.counter + 1 = number ∙ ap (λ k. k + 1) (sym e) in
+      let i : opening.id ≡ session_id (state.counter + 1) random = id ∙ ap (λ k. session_id k random) n in
+      (λ t. begun (record { serial = n t; id = i t; client = owner t }) (counted t) moment)
+
+  -- what it leads to
+  leads : former ≡ option_map (λ (s : Session). s.serial) (session_of_client a.client (left a old.sessions))
+      → is_full (so_far a old pending) a.client ≡ false → so_far a new after ≡ taken_former former (so_far a old pending)
+      → applied (Open former opening count publisher) (so_far a new after) ≡ new_session (so_far a old pending) a.client random limit
+  leads same free told =
+      let state : State = so_far a old pending in
+      let mine : Option Session = session_of_client a.client state.sessions in
+      let ended : State = end_former mine state in
+      let dropped : drop_former former (so_far a new after) ≡ ended =
+      ap (drop_former former) told ∙ ended_former former mine state (same ∙ former_so_far a old pending) in
+      let one : begun opening count ended.moment ≡ next_session ended a.client random limit =
+      begun_is ended (counter_ended mine state) ended.moment in
+      let id_is : opening.id ≡ session_id (state.counter + 1) random = id ∙ ap (λ k. session_id k random) number in
+      let whole : new_session state a.client random limit ≡ (
+        begin_session a.client random limit ended,
+        the_answer.Reply (the_reply.NewSession (session_id (state.counter + 1) random) a.client (limit_of limit)),
+      ) = rw free refl in
+      ap (λ (t : State). (t, the_answer.Reply (the_reply.NewSession opening.id publisher count)))
+      (open_is former opening count (so_far a new after) ∙ ap (with_begun (begun opening count)) dropped)
+      ∙ (λ i. (
+        record ended { counter = ended.counter + 1; sessions = ended.sessions ++ one i ∷ [] },
+        the_answer.Reply (the_reply.NewSession (id_is i) (name i) (counted i)),
+      ))
+      ∙ sym whole
+
+  -- and that it can be done
+  can_open : former ≡ option_map (λ (s : Session). s.serial) (session_of_client a.client (left a old.sessions))
+      → is_full (so_far a old pending) a.client ≡ false → (table : Table) → IsTable table → IsAsBefore old.sessions table
+      → HasSameSessions table new.sessions → 1 ≤ table.room → IfSome former (λ n. IsLive n (left a old.sessions))
+      → CanOpen former opening count (rest_of a new.sessions)
+  can_open same free table whole b h room live =
+      let live_is : left a table ≡ left a new.sessions = ap (without_sessions a.ended) (sym h.live) in
+      let before : left a old.sessions ≡ left a table = ap (without_sessions a.ended) (sym b.live) in
+      let counter_is : new.sessions.counter ≡ old.sessions.counter = h.counter ∙ b.counter in
+      let o : Option Session = session_of_client a.client (left a table) in
+      let same_now : former ≡ option_map (λ (s : Session). s.serial) o =
+      same ∙ ap (λ l. option_map (λ (s : Session). s.serial) (session_of_client a.client l)) before in
+      let few : length (left a table) ≤ most_sessions =
+      (let less = shorter (remains a.ended) table.live in let most = whole.few in omega (arith, less, most)) in
+      let test : (nat_le most_sessions (length (left a table)) && is_none o) ≡ false =
+      (or_parts _ _ (sym (full_is a table (with_table old table b) pending refl)
+      ∙ ap (λ (t : State). is_full t a.client) (so_far_with old table b a pending) ∙ free)).0 in
+      record {
+        room = let more = h.room in omega (arith, room, more);
+        live = subst (λ l. IfSome former (λ n. IsLive n l)) (before ∙ live_is) live;
+        none = subst (λ l. session_of_client opening.client (after_former former l) ≡ None) live_is
+            (rw (owner, same_now) (freed table a.client (left a table) o refl
+            (distinct_filter (λ (s : Session). s.client) (remains a.ended) table.live whole.apart)));
+        few = subst (λ l. length (after_former former l) < most_sessions) live_is
+            (rw same_now (fewer table a.client (left a table) o refl few test));
+        counter = subst (λ n. n < 2 ^ 64 - 1) (sym counter_is) next;
+        next = number ∙ ap (λ n. n + 1) (sym counter_is);
+        wide = subst (λ n. 100 ≤ n) (sym counted) (wide_limit limit);
+      }
+
+  pub begins : former ≡ option_map (λ (s : Session). s.serial) (session_of_client a.client (left a old.sessions))
+      → is_full (so_far a old pending) a.client ≡ false → (table : Table) → IsTable table → (b : IsAsBefore old.sessions table)
+      → HasSameSessions table new.sessions → 1 ≤ table.room → IfSome former (λ n. IsLive n (left a old.sessions))
+      → so_far a new after ≡ taken_former former (so_far a (with_table old table b) pending) → IsSteady new.graph new.standing.items
+      → IsReady a new after → IfSome former (λ n. IsBare n new after)
+      → LeadsTo (Open former opening count publisher) a new after (new_session (so_far a old pending) a.client random limit)
+  begins same free table whole b h room live told steady ready bare = record {
+    steady = subst (IsSteady new.graph) (sym (append-nil new.standing.items)) steady;
+    ready = ready;
+    can = (can_open same free table whole b h room live, bare);
+    leads = leads same free (told ∙ ap (taken_former former) (so_far_with old table b a pending));
+  }

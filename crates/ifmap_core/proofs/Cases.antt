@@ -1,0 +1,235 @@
+-- What each case of the step is, by whose session a request names.
+-- First the parts of `LeadsTo` that are the same for all that holds no subscription (`leads_plain`). Then a request in the client's own
+-- session, request by request (`module _ .. (o : IsOwner .. (Own serial))`). Then in another's and in nobody's. Last, the exits.
+use Rattle.std.proofs.Common.{◌≡◌, refl, sym, ◌∙◌, ap, subst, ℕ, ◌<◌, ◌≤◌, Bool, true, false, List, [], ◌∷◌, ◌++◌, Option, Result, Ok, Err, append-nil, inl, inr, arith}
+use Rattle.std.proofs.lemmas.Bool.{cases_Bool}
+use Rattle.std.proofs.lemmas.Bool.Decides.{nat_tests}
+use Rattle.std.specs.Result.{IfOk}
+use Rattle.ifmap_changes.specs.Between.{Asking, IsReady, IsSteady, left, so_far}
+use Rattle.ifmap_changes.specs.Changes.{taken_one}
+use Rattle.ifmap_changes.specs.declared.parts.Parts.{Parts}
+use Rattle.ifmap_core.specs.declared.outcomes.Outcome.{Outcome}
+use Rattle.ifmap_core.specs.declared.outcomes.Outcome.TheVariants.{Say, Accept}
+use Rattle.ifmap_core.specs.declared.owning.Owner.{Owner}
+use Rattle.ifmap_core.specs.declared.owning.Owner.TheVariants.{Own, Another, Nobody}
+use Rattle.ifmap_core.specs.Outcomes.{CanApply, IsOwner, LeadsTo, applied, end_of_poll, held_by, poll_found}
+use Rattle.ifmap_core.proofs.Ended.{is_some_of}
+use Rattle.ifmap_core.proofs.Taking.{taken_is}
+use Rattle.ifmap_core.proofs.Told.{owner_told}
+use Rattle.ifmap_fresh.specs.Fresh.{fresh, fresh_size}
+use Rattle.ifmap_ident.specs.declared.codes.Code.TheVariants.{AccessDenied, InvalidSessionID, SearchResultsTooBig}
+use Rattle.ifmap_machine.specs.declared.events.Answer.{Answer}
+use Rattle.ifmap_machine.specs.declared.events.Answer.TheVariants as the_answer
+use Rattle.ifmap_machine.specs.Ending.{drop_sessions, end_some}
+use Rattle.ifmap_machine.specs.State.{State}
+use Rattle.ifmap_machine.specs.Step.{author_in, answer_subscribed, end_session, in_session, lose, poll, publish, purge, refusal, refusal_with, renew, renew_session, search, subscribe}
+use Rattle.ifmap_machine.specs.Subscribing.{subscribe_ops}
+use Rattle.ifmap_machine.specs.Telling.{is_too_big, limit_note, overflow, tell}
+use Rattle.ifmap_publish.specs.Apply.{Authorship, apply}
+use Rattle.ifmap_publish.specs.Notes.{notes_of}
+use Rattle.ifmap_publish.specs.declared.who.Who.TheVariants.{Publisher}
+use Rattle.ifmap_publish.specs.Retract.{retract}
+use Rattle.ifmap_replies.specs.declared.replies.Reply.TheVariants as the_reply
+use Rattle.ifmap_requests.specs.declared.publishing.PublishOp.{PublishOp}
+use Rattle.ifmap_requests.specs.declared.requests.SubscribeOp.{SubscribeOp}
+use Rattle.ifmap_search.specs.declared.results.Entry.{Entry}
+use Rattle.ifmap_search.specs.declared.searches.Search.{Search}
+use Rattle.ifmap_session.specs.Sessions.{IsLive, Session, Table, is_text, session_with_id, session_with_serial}
+use Rattle.ifmap_session.specs.laws.TextLaws.{text_is, text_same}
+use Rattle.ifmap_tellings.specs.declared.tellings.Pending.{Pending}
+use Rattle.ifmap_tellings.specs.Tellings.{HasSameSessions}
+
+-- ---- what holds no subscription
+
+module _ (a : Asking) (parts : Parts) (pending : Pending) where
+  pub leads_plain : IsSteady parts.graph parts.standing.items → IsReady a parts pending → (outcome : Outcome) → held_by outcome ≡ []
+      → CanApply outcome a parts pending → (wanted : State × Answer) → applied outcome (so_far a parts pending) ≡ wanted
+      → LeadsTo outcome a parts pending wanted
+  leads_plain steady ready outcome none can wanted e = record {
+    steady = subst (λ more. IsSteady parts.graph (parts.standing.items ++ more)) (sym none)
+        (subst (IsSteady parts.graph) (sym (append-nil parts.standing.items)) steady);
+    ready = ready;
+    can = can;
+    leads = e;
+  }
+
+  pub leads_said : IsSteady parts.graph parts.standing.items → IsReady a parts pending → (answer : Answer) (wanted : State × Answer)
+      → ◌≡◌ {A = State × Answer} (so_far a parts pending, answer) wanted → LeadsTo (Say answer) a parts pending wanted
+  leads_said steady ready answer wanted e = leads_plain steady ready (Say answer) refl tt wanted e
+
+  -- a refusal, or another answer that says all
+  pub says : {E : Type 0} → IsSteady parts.graph parts.standing.items → IsReady a parts pending
+      → (answer : Answer) (wanted : State × Answer)
+      → ◌≡◌ {A = State × Answer} (so_far a parts pending, answer) wanted → (r : Result Outcome E) → IfOk r (λ o. o ≡ Say answer)
+      → IfOk r (λ o. LeadsTo o a parts pending wanted)
+  says steady ready answer wanted e (Ok outcome) is =
+      subst (λ (o : Outcome). LeadsTo o a parts pending wanted) (sym is) (leads_said steady ready answer wanted e)
+  says steady ready answer wanted e (Err error) is = tt
+
+  pub owner_so_far : (id client : List ℕ) (o : Owner) → IsOwner (left a parts.sessions) id client o
+      → IsOwner (so_far a parts pending).sessions id client o
+  owner_so_far id client o is = owner_told pending.tellings (left a parts.sessions) id client o is
+
+-- a session that is the client's is left
+pub own_left : (live : List Session) (id client : List ℕ) (serial : ℕ) → IsOwner live id client (Own serial) → IsLive serial live
+own_left live id client serial o = is_some_of (session_with_serial serial live) o.0 o.4
+
+pub live_after : (a : Asking) (n : ℕ) (old new : Table) → HasSameSessions old new → IsLive n (left a old) → IsLive n (left a new)
+live_after a n old new same l = subst (λ (live : List Session). IsLive n (left a (record old { live = live }))) (sym same.live) l
+
+-- ---- requests in the client's own session
+
+module _ (state : State) (id client : List ℕ) (serial : ℕ) (o : IsOwner state.sessions id client (Own serial)) where
+  abbrev found : Option Session
+  found = session_with_id id state.sessions
+
+  own_client : o.0.client ≡ client
+  own_client = text_is o.0.client client o.2
+
+  renewed_as : (after : State) (answer : Answer) → ◌≡◌ {A = State × Answer} (renew serial after, answer) (renew o.0.serial after, answer)
+  renewed_as after answer = ap (λ (k : ℕ). (renew k after, answer)) (sym o.3)
+
+  own_case : (accept : Session → State × Answer) (it : State × Answer) → it ≡ accept o.0 → it ≡ in_session state client found accept
+  own_case accept it e = rw (o.1, o.2) e
+
+  pub renews : ◌≡◌ {A = State × Answer} (renew serial state, the_answer.Reply the_reply.Renewed)
+      (in_session state client found (renew_session state))
+  renews = own_case (renew_session state) _ (renewed_as state (the_answer.Reply the_reply.Renewed))
+
+  author_is : author_in state o.0 ≡ record { client = client; serial = serial; moment = state.moment }
+  author_is = ap (λ (t : List ℕ). record { client = t; serial = o.0.serial; moment = state.moment }) own_client
+      ∙ ap (λ (n : ℕ). record { client = client; serial = n; moment = state.moment }) o.3
+
+  pub publishes : (ops : List PublishOp) (after : State)
+      → (let by : Authorship = record { client = client; serial = serial; moment = state.moment } in
+      after ≡ overflow (tell (apply state.graph by ops) (notes_of by ops) state))
+      → ◌≡◌ {A = State × Answer} (renew serial after, the_answer.Reply the_reply.Published)
+      (in_session state client found (publish state ops))
+  publishes ops after e =
+      own_case (publish state ops) _ (renewed_as after (the_answer.Reply the_reply.Published)
+      ∙ ap (λ (s : State). (renew o.0.serial s, the_answer.Reply the_reply.Published)) (e
+      ∙ ap (λ (by : Authorship). overflow (tell (apply state.graph by ops) (notes_of by ops) state)) (sym author_is)))
+
+  pub ends : (after : State) → after ≡ taken_one serial state
+      → ◌≡◌ {A = State × Answer} (drop_sessions (serial ∷ []) after, the_answer.Reply the_reply.Ended)
+      (in_session state client found (end_session state))
+  ends after e = own_case (end_session state) _ (ap (λ (s : State). (s, the_answer.Reply the_reply.Ended)) (end_is after e))
+    where
+      end_is : (after : State) → after ≡ taken_one serial state → drop_sessions (serial ∷ []) after ≡ end_some (o.0.serial ∷ []) state
+      end_is after e = ap (drop_sessions (serial ∷ [])) e ∙ taken_is serial state ∙ ap (λ (n : ℕ). end_some (n ∷ []) state) (sym o.3)
+
+  pub loses : (after : State) → after ≡ taken_one serial state
+      → ◌≡◌ {A = State × Answer} (drop_sessions (serial ∷ []) after, the_answer.Heard) (lose state client found)
+  loses after e =
+      rw (o.1, o.2) (ap (λ (s : State). (s, the_answer.Heard))
+      (ap (drop_sessions (serial ∷ [])) e ∙ taken_is serial state ∙ ap (λ (n : ℕ). end_some (n ∷ []) state) (sym o.3)))
+
+  pub purges : (publisher : List ℕ) (after : State) → publisher ≡ client
+      → after ≡ overflow (tell (retract (Publisher client) state.graph) [] state)
+      → ◌≡◌ {A = State × Answer} (renew serial after, the_answer.Reply the_reply.Purged)
+      (in_session state client found (purge state publisher))
+  purges publisher after own e =
+      let same : is_text publisher o.0.client ≡ true = text_same publisher o.0.client (own ∙ sym own_client) in
+      own_case (purge state publisher) _ (rw same (renewed_as after (the_answer.Reply the_reply.Purged)
+      ∙ ap (λ (s : State). (renew o.0.serial s, the_answer.Reply the_reply.Purged)) (e
+      ∙ ap (λ (t : List ℕ). overflow (tell (retract (Publisher t) state.graph) [] state)) (sym own))))
+
+  pub purges_not : (publisher : List ℕ) → (publisher ≡ client → ⊥)
+      → ◌≡◌ {A = State × Answer} (state, refusal AccessDenied) (in_session state client found (purge state publisher))
+  purges_not publisher other =
+      let differ : is_text publisher o.0.client ≡ false = elim (cases_Bool (is_text publisher o.0.client)) [
+        | inl hit ↦ absurd (other (text_is publisher o.0.client hit ∙ own_client))
+        | inr miss ↦ miss
+      ] in
+      own_case (purge state publisher) _ (rw differ refl)
+
+  pub finds : (asked : Search) (entries : List Entry) → entries ≡ fresh state.graph asked → fresh_size state.graph asked ≤ asked.max_size
+      → ◌≡◌ {A = State × Answer} (renew serial state, the_answer.Reply (the_reply.Found entries))
+      (in_session state client found (search state asked))
+  finds asked entries e few =
+      let fits : is_too_big state.graph asked ≡ false = grind (arith, nat_tests, few) in
+      own_case (search state asked) _ (rw fits (renewed_as state (the_answer.Reply (the_reply.Found entries))
+      ∙ ap (λ (es : List Entry). (renew o.0.serial state, the_answer.Reply (the_reply.Found es))) e))
+
+  pub finds_not : (asked : Search) (size : ℕ) → size ≡ fresh_size state.graph asked → asked.max_size < fresh_size state.graph asked
+      → ◌≡◌ {A = State × Answer} (state, refusal_with SearchResultsTooBig (limit_note size asked.max_size))
+      (in_session state client found (search state asked))
+  finds_not asked size e many =
+      let large : is_too_big state.graph asked ≡ true = grind (arith, nat_tests, many) in
+      own_case (search state asked) _ (rw (large, e) refl)
+
+  pub polls : (again : Bool) → poll_found state again (session_with_serial serial state.sessions) ≡ poll state client again found
+  polls true = rw (o.1, o.2, o.4) refl
+  polls false = rw (o.1, o.2, o.4) refl
+
+  -- its names
+  pub subscribes : (ops : List SubscribeOp)
+      → answer_subscribed state o.0 (subscribe_ops state.graph serial ops (record { queue = o.0.queue; standing = state.standing }))
+      ≡ in_session state client found (subscribe state ops)
+  subscribes ops =
+      own_case (subscribe state ops) _ (ap (λ (n : ℕ). answer_subscribed state o.0
+      (subscribe_ops state.graph n ops (record { queue = o.0.queue; standing = state.standing }))) (sym o.3))
+
+-- ---- in a session that is not the client's
+
+-- what nobody's poll is told
+abbrev pub end_answer : Bool → Answer
+end_answer true = the_answer.Reply the_reply.Ended
+end_answer false = refusal InvalidSessionID
+
+pub end_said : (again : Bool) → end_of_poll again ≡ Say (end_answer again)
+end_said true = refl
+end_said false = refl
+
+module _ (state : State) (id client : List ℕ) where
+  pub another_denied : (accept : Session → State × Answer) → IsOwner state.sessions id client Another
+      → ◌≡◌ {A = State × Answer} (state, refusal AccessDenied) (in_session state client (session_with_id id state.sessions) accept)
+  another_denied accept o = rw (o.1, o.2) refl
+
+  pub nobody_missing : (accept : Session → State × Answer) → IsOwner state.sessions id client Nobody
+      → ◌≡◌ {A = State × Answer} (state, refusal InvalidSessionID) (in_session state client (session_with_id id state.sessions) accept)
+  nobody_missing accept o = rw o refl
+
+  pub another_polls : (again : Bool) → IsOwner state.sessions id client Another
+      → ◌≡◌ {A = State × Answer} (state, refusal AccessDenied) (poll state client again (session_with_id id state.sessions))
+  another_polls true o = rw (o.1, o.2) refl
+  another_polls false o = rw (o.1, o.2) refl
+
+  pub nobody_polls : (again : Bool) → IsOwner state.sessions id client Nobody
+      → ◌≡◌ {A = State × Answer} (state, end_answer again) (poll state client again (session_with_id id state.sessions))
+  nobody_polls true o = rw o refl
+  nobody_polls false o = rw o refl
+
+  pub another_hears : IsOwner state.sessions id client Another
+      → ◌≡◌ {A = State × Answer} (state, the_answer.Heard) (lose state client (session_with_id id state.sessions))
+  another_hears o = rw (o.1, o.2) refl
+
+  pub nobody_hears : IsOwner state.sessions id client Nobody
+      → ◌≡◌ {A = State × Answer} (state, the_answer.Heard) (lose state client (session_with_id id state.sessions))
+  nobody_hears o = rw o refl
+
+-- ---- one request
+
+module _ (a : Asking) (parts : Parts) (pending : Pending) (steady : IsSteady parts.graph parts.standing.items)
+    (ready : IsReady a parts pending) where
+  -- accepted in a session that is left
+  pub accepts : (serial : ℕ) (answer : Answer) (wanted : State × Answer) → IsLive serial (left a parts.sessions)
+      → ◌≡◌ {A = State × Answer} (renew serial (so_far a parts pending), answer) wanted
+      → LeadsTo (Accept serial answer) a parts pending wanted
+  accepts serial answer wanted live e = leads_plain a parts pending steady ready (Accept serial answer) refl live wanted e
+
+  pub another : {E : Type 0} (id : List ℕ) (accept : Session → State × Answer) → IsOwner (left a parts.sessions) id a.client Another
+      → (r : Result Outcome E) → IfOk r (λ o. o ≡ Say (refusal AccessDenied))
+      → IfOk r (λ o. LeadsTo o a parts pending
+      (in_session (so_far a parts pending) a.client (session_with_id id (so_far a parts pending).sessions) accept))
+  another id accept o r is =
+      says a parts pending steady ready (refusal AccessDenied) _
+      (another_denied (so_far a parts pending) id a.client accept (owner_so_far a parts pending id a.client Another o)) r is
+
+  pub nobody : {E : Type 0} (id : List ℕ) (accept : Session → State × Answer) → IsOwner (left a parts.sessions) id a.client Nobody
+      → (r : Result Outcome E) → IfOk r (λ o. o ≡ Say (refusal InvalidSessionID))
+      → IfOk r (λ o. LeadsTo o a parts pending
+      (in_session (so_far a parts pending) a.client (session_with_id id (so_far a parts pending).sessions) accept))
+  nobody id accept o r is =
+      says a parts pending steady ready (refusal InvalidSessionID) _
+      (nobody_missing (so_far a parts pending) id a.client accept (owner_so_far a parts pending id a.client Nobody o)) r is

@@ -1,0 +1,276 @@
+-- What holds when an event begins: nothing is pending but the subscriptions of sessions that have expired (`begins_ready`), and the state
+-- is the one without them (`begins_so_far`). Then which those are (`expires_none`, `expires_some`). Then an outcome that can be applied
+-- can once a change stays as it is (`can_settled`), and a change can stay or be taken back after more (`can_settle_later`, `can_back`).
+-- Last, an event that is done at once (`done_leads`).
+use Rattle.std.proofs.Common.{◌≡◌, ◌≢◌, refl, sym, ◌∙◌, ap, subst, ℕ, ◌≤◌, ◌==◌, Bool, true, false, not, List, [], ◌∷◌, ◌++◌, length, map, append-nil, Option, Some, None, inl, inr, arith}
+use Rattle.std.proofs.lemmas.Bool.{cases_Bool, or_parts}
+use Rattle.std.proofs.lemmas.List.Kept.{IsStrictlySortedBy-filter}
+use Rattle.std.proofs.lemmas.Option.{none-some}
+use Rattle.std.specs.BTreeMap.{get, is_at}
+use Rattle.std.specs.Map.{lookup}
+use Rattle.std.specs.List.{AllByRecursion, filter, list_any}
+use Rattle.std.specs.List.Sorted.{IsStrictlySortedBy}
+use Rattle.std.specs.Option.{IfSome}
+use Rattle.std.specs.Ordering.{nat_cmp}
+use Rattle.std.specs.declared.cmp.Ordering.TheVariants.{Less}
+use Rattle.ifmap_changes.specs.Between.{AreKept, AreParts, AreTurned, AreWithin, Asking, CanEnd, IsReady, IsSteady, IsWithin, left, sight_now, so_far, state_at}
+use Rattle.ifmap_changes.specs.Changes.{CanSettle, CanTakeBack, IsSettled}
+use Rattle.ifmap_changes.specs.declared.changes.Made.{Made}
+use Rattle.ifmap_changes.specs.declared.parts.Parts.{Parts}
+use Rattle.ifmap_core.specs.Outcomes.{CanApply, CanRename, IsDone, WouldBeParts, applied, held_by}
+use Rattle.ifmap_core.specs.declared.outcomes.Outcome.{Outcome}
+use Rattle.ifmap_core.specs.declared.outcomes.Outcome.TheVariants.{Say, Accept, End, Open, Rename, Poll}
+use Rattle.ifmap_core.proofs.Ended.{found_left, is_some_of, remains, some_is}
+use Rattle.ifmap_core.proofs.Places.{all_are_kept, kept_both, kept_moved, kept_of_all, none_gone}
+use Rattle.ifmap_core.proofs.Told.{none_told, numbered}
+use Rattle.ifmap_core.proofs.Turned.{KeepsThere, all_there, sessions_twice, shares_later}
+use Rattle.ifmap_delta.specs.Sights.{IsKept}
+use Rattle.ifmap_delta.specs.Ways.{HasSameSearch}
+use Rattle.ifmap_graph.specs.Out.{items_of}
+use Rattle.ifmap_graph.specs.Seen.{KeepsNumbers, links_now, rows_now}
+use Rattle.ifmap_lemmas.specs.Filters.{all_filter}
+use Rattle.ifmap_lemmas.specs.Members.{all_both, all_of_map, map_of_all}
+use Rattle.ifmap_machine.specs.Ending.{drop_sessions, end_sessions, end_some, expire, without_standing}
+use Rattle.ifmap_machine.specs.declared.events.Answer.{Answer}
+use Rattle.ifmap_machine.specs.declared.events.Ask.{Ask}
+use Rattle.ifmap_machine.specs.Events.{Event}
+use Rattle.ifmap_machine.specs.State as machine
+use Rattle.ifmap_machine.specs.State.{State, standing_in}
+use Rattle.ifmap_machine.specs.Step.{step_ask}
+use Rattle.ifmap_machine.specs.Subscribing.{most_names}
+use Rattle.ifmap_machine.specs.Telling.{overflow}
+use Rattle.ifmap_pool.specs.Holdings.{key_at}
+use Rattle.ifmap_search.specs.Sizes.{queue_size}
+use Rattle.ifmap_session.specs.Sessions.{IsLive, Session, expired_serials, is_expired, session_order, session_with_serial, without_sessions}
+use Rattle.ifmap_standing.specs.declared.standing.Standing.{Standing}
+use Rattle.ifmap_standing.specs.Kept.{AtEach, KeepsSame, Stands}
+use Rattle.ifmap_standing.specs.Ways.{LeadBack, Way}
+use Rattle.ifmap_standing.specs.Standing.{shown}
+use Rattle.ifmap_subscribes.specs.declared.renamings.Renaming.{Renaming}
+use Rattle.ifmap_subscribes.specs.Renamings.{begun_by, rename_all, told_so_far}
+use Rattle.ifmap_tellings.specs.declared.tellings.Pending.{Pending}
+use Rattle.ifmap_tellings.specs.Tellings.{AllKept, Tellings, is_alone, kept_of}
+
+-- ---- an event begins
+
+module _ (a : Asking) (parts : Parts) (pending : Pending) (sound : AreParts parts) (can : CanEnd a.ended parts.sessions.live)
+    (none : (n : ℕ) → get nat_cmp pending.tellings n ≡ None)
+    (gone : map shown (kept_of pending.gone.items parts.standing.items) ≡ without_standing a.ended (map shown parts.standing.items)) where
+  -- what is not gone is of a session that stays
+  stay : AllKept (λ (x : Standing). list_any (λ n. n == x.serial) a.ended ≡ false) pending.gone.items parts.standing.items
+  stay =
+      kept_of_all (λ (x : Standing). list_any (λ n. n == x.serial) a.ended ≡ false) pending.gone.items parts.standing.items
+      (all_of_map (λ (m : machine.Standing). list_any (λ n. n == m.serial) a.ended ≡ false) shown
+      (kept_of pending.gone.items parts.standing.items)
+      (subst (AllByRecursion (λ (m : machine.Standing). list_any (λ n. n == m.serial) a.ended ≡ false)) (sym gone)
+      (unnot (map shown parts.standing.items))))
+    where
+      unnot : (xs : List machine.Standing)
+          → AllByRecursion (λ (m : machine.Standing). list_any (λ n. n == m.serial) a.ended ≡ false) (without_standing a.ended xs)
+      unnot [] = tt
+      unnot (x ∷ xs) = elim (cases_Bool (list_any (λ n. n == x.serial) a.ended)) [
+        | inl hit ↦ rw hit (unnot xs)
+        | inr miss ↦ rw miss (miss, unnot xs)
+      ]
+
+  lives : (x : Standing) → list_any (λ n. n == x.serial) a.ended ≡ false → IsLive x.serial parts.sessions.live
+      → IsLive x.serial (left a parts.sessions)
+  lives x stays l =
+      let s = some_is (session_with_serial x.serial parts.sessions.live) l in
+      let same : s.0.serial ≡ x.serial = numbered x.serial parts.sessions.live s.0 s.1 in
+      is_some_of (session_with_serial x.serial (left a parts.sessions)) s.0
+      (found_left (λ (t : Session). t.serial == x.serial) (remains a.ended) parts.sessions.live s.0 s.1
+      (subst (λ (n : ℕ). not (list_any (λ m. m == n) a.ended) ≡ true) (sym same) (ap not stays)))
+
+  pub begins_ready : length pending.gone.items ≡ length parts.standing.items → IsReady a parts pending
+  begins_ready flags = record {
+    ended = can;
+    ordered = sound.ordered;
+    flags = flags;
+    kept = all_are_kept (λ x. IsKept (sight_now parts.graph) x.subscription) pending.gone.items parts.standing.items sound.kept;
+    live = kept_both (λ (x : Standing). list_any (λ n. n == x.serial) a.ended ≡ false)
+        (λ (x : Standing). IsLive x.serial parts.sessions.live)
+        (λ (x : Standing). IsLive x.serial (left a parts.sessions)) lives pending.gone.items parts.standing.items stay
+        (all_are_kept (λ (x : Standing). IsLive x.serial parts.sessions.live) pending.gone.items parts.standing.items sound.ordered.live);
+    queues = sound.within;
+    within = subst AreWithin (sym (none_told pending.tellings none (left a parts.sessions)))
+        (all_filter IsWithin (remains a.ended) parts.sessions.live sound.within);
+    can_tell = λ n t e. absurd (none-some t (sym (none n) ∙ e));
+    sized = λ n t e. absurd (none-some t (sym (none n) ∙ e));
+    alone = λ n e. let bad : false ≡ true = ap is_alone (sym (none n)) ∙ e in cc;
+  }
+
+  pub begins_so_far : so_far a parts pending ≡ drop_sessions a.ended (state_at a.ttl a.moment parts)
+  begins_so_far =
+      ap (λ (l : List Session). record (so_far a parts pending) { sessions = l }) (none_told pending.tellings none (left a parts.sessions))
+      ∙ ap (λ (xs : List machine.Standing). record (drop_sessions a.ended (state_at a.ttl a.moment parts)) { standing = xs }) gone
+
+-- what is gone, where nothing was
+pub begins_gone : (was gone : List Bool) (own ended : List ℕ) (list xs : List Standing) → list ≡ xs → own ≡ ended
+    → map shown (kept_of gone list) ≡ without_standing own (map shown (kept_of was list)) → AllByRecursion (λ flag. flag ≡ false) was
+    → length was ≡ length xs → map shown (kept_of gone xs) ≡ without_standing ended (map shown xs)
+begins_gone was gone own ended list xs same one e none long =
+    subst (λ (ys : List Standing). map shown (kept_of gone ys) ≡ without_standing ended (map shown (kept_of was ys))) same
+    (subst (λ (ns : List ℕ). map shown (kept_of gone list) ≡ without_standing ns (map shown (kept_of was list))) one e)
+    ∙ ap (λ (ys : List Standing). without_standing ended (map shown ys)) (none_gone was xs none long)
+
+-- where none have ended, nothing goes
+pub none_dropped : (state : State) → drop_sessions [] state ≡ state
+none_dropped state =
+    ap (λ (l : List Session). record state { sessions = l; standing = without_standing [] state.standing }) (all_sessions state.sessions)
+    ∙ ap (λ (xs : List machine.Standing). record state { standing = xs }) (all_standing state.standing)
+  where
+    all_sessions : (live : List Session) → without_sessions [] live ≡ live
+    all_sessions [] = refl
+    all_sessions (x ∷ live) = ap (λ t. x ∷ t) (all_sessions live)
+
+    all_standing : (xs : List machine.Standing) → without_standing [] xs ≡ xs
+    all_standing [] = refl
+    all_standing (x ∷ xs) = ap (λ t. x ∷ t) (all_standing xs)
+
+pub rises_not : IsStrictlySortedBy nat_cmp []
+unfolding IsStrictlySortedBy
+rises_not = tt
+
+-- no telling, where there are no entries
+pub no_entry : (tellings : Tellings) → tellings.entries ≡ [] → (n : ℕ) → get nat_cmp tellings n ≡ None
+no_entry tellings e n =
+    ap (λ es. lookup (is_at (nat_cmp n)) es) e
+
+-- ---- sessions that are expired
+
+pub none_expired : (moment ttl : ℕ) (live : List Session) → list_any (is_expired moment ttl) live ≡ false
+    → expired_serials moment ttl live ≡ []
+none_expired moment ttl [] e = refl
+none_expired moment ttl (x ∷ live) e =
+    let both = or_parts (is_expired moment ttl x) (list_any (is_expired moment ttl) live) e in
+    rw (both.0) (none_expired moment ttl live both.1)
+
+some_expired : (moment ttl : ℕ) (live : List Session) → list_any (is_expired moment ttl) live ≡ true → expired_serials moment ttl live ≢ []
+some_expired moment ttl [] e = cc
+some_expired moment ttl (x ∷ live) e =
+    elim (cases_Bool (is_expired moment ttl x)) [
+      | inl hit ↦ rw hit (λ bad. cc bad)
+      | inr miss ↦ rw miss (some_expired moment ttl live (rw miss at e))
+    ]
+
+pub expires_none : (state : State) → list_any (is_expired state.moment state.ttl) state.sessions ≡ false → expire state ≡ state
+expires_none state e = ap (λ (ns : List ℕ). end_some ns state) (none_expired state.moment state.ttl state.sessions e)
+
+ended_some : (serials : List ℕ) → serials ≢ [] → (state : State) → overflow (end_sessions serials state) ≡ end_some serials state
+ended_some [] some state = absurd (some refl)
+ended_some (n ∷ ns) some state = refl
+
+pub expires_some : (state : State) (serials : List ℕ) → list_any (is_expired state.moment state.ttl) state.sessions ≡ true
+    → serials ≡ expired_serials state.moment state.ttl state.sessions → overflow (end_sessions serials state) ≡ expire state
+expires_some state serials any is =
+    ap (λ (ns : List ℕ). overflow (end_sessions ns state)) is
+    ∙ ended_some (expired_serials state.moment state.ttl state.sessions) (some_expired state.moment state.ttl state.sessions any) state
+
+serials_rise : (live : List Session) → IsStrictlySortedBy session_order live → IsStrictlySortedBy nat_cmp
+    (map (λ (s : Session). s.serial) live)
+unfolding IsStrictlySortedBy
+serials_rise [] up = tt
+serials_rise (x ∷ live) up =
+    (map_of_all (λ m. nat_cmp x.serial m ≡ Less) (λ (s : Session). s.serial) live up.0, serials_rise live up.1)
+
+pub expired_rise : (moment ttl : ℕ) (live : List Session) → IsStrictlySortedBy session_order live
+    → IsStrictlySortedBy nat_cmp (expired_serials moment ttl live)
+expired_rise moment ttl live up =
+    serials_rise (filter (is_expired moment ttl) live) (IsStrictlySortedBy-filter session_order (is_expired moment ttl) live up)
+
+-- ---- a change stays as it is
+
+module _ (a : Asking) (old new : Parts) (pending : Pending) (settled : IsSettled old new) (there : KeepsThere old.graph new.graph)
+    (same : so_far a new pending ≡ so_far a old pending) where
+  live_settled : (n : ℕ) → IsLive n (left a old.sessions) → IsLive n (left a new.sessions)
+  live_settled n l = rw (settled.sessions) l
+
+  bare_settled : (n : ℕ) → AllKept (λ (x : Standing). x.serial ≢ n) pending.gone.items old.standing.items
+      → AllKept (λ (x : Standing). x.serial ≢ n) pending.gone.items new.standing.items
+  bare_settled n h =
+      kept_moved (λ (x : Standing). x.serial ≢ n) (λ (x : Standing). x.serial ≢ n) (λ _. Stands HasSameSearch)
+      (λ i x y s other e. other (sym s.serial ∙ e)) pending.gone.items old.standing.items new.standing.items settled.searches h
+
+  former_settled : (former : Option ℕ) → IfSome former (λ n. AllKept (λ (x : Standing). x.serial ≢ n) pending.gone.items old.standing.items)
+      → IfSome former (λ n. AllKept (λ (x : Standing). x.serial ≢ n) pending.gone.items new.standing.items)
+  former_settled None h = tt
+  former_settled (Some n) h = bare_settled n h
+
+  rename_settled : (serial : ℕ) (rs : List Renaming) → IsSteady new.graph (new.standing.items ++ begun_by rs)
+      → CanRename serial rs a old pending → CanRename serial rs a new pending
+  rename_settled serial rs steady c =
+      let here = all_both (λ (x : Standing). key_at new.graph.names x.subscription.region.start ≡ Some x.subscription.search.start)
+      new.standing.items (begun_by rs) steady.numbered in
+      let back : (s : Session) → session_with_serial serial (so_far a new pending).sessions ≡ Some s
+      → session_with_serial serial (so_far a old pending).sessions ≡ Some s =
+      λ s e. ap (λ (st : State). session_with_serial serial st.sessions) (sym same) ∙ e in
+      let told : (s : Session) → told_so_far a new pending s ≡ told_so_far a old pending s =
+      λ s. ap (λ (st : State). record { queue = s.queue; standing = st.standing }) same in
+      record {
+        live = live_settled serial c.live;
+        session = c.session;
+        kept = all_there old.graph new.graph there (begun_by rs) here.1 c.kept;
+        places = omega (arith, c.places, settled.len, settled.capacity);
+        room = rw (settled.sessions) c.room;
+        within = λ s e. subst (λ t. queue_size (rename_all serial rs t).queue ≤ s.limit) (sym (told s)) (c.within s (back s e));
+        few = λ s e. subst (λ t. length (standing_in serial (rename_all serial rs t).standing) ≤ most_names) (sym (told s))
+            (c.few s (back s e));
+      }
+
+  pub can_settled : (outcome : Outcome) → IsSteady new.graph (new.standing.items ++ held_by outcome) → CanApply outcome a old pending
+      → CanApply outcome a new pending
+  can_settled (Say answer) steady c = tt
+  can_settled (Accept serial answer) steady c = live_settled serial c
+  can_settled (End serial answer) steady c = (live_settled serial c.0, bare_settled serial c.1)
+  can_settled (Open former opening limit publisher) steady c =
+      (rw (settled.sessions) c.0, former_settled former c.1)
+  can_settled (Rename serial rs) steady c = rename_settled serial rs steady c
+  can_settled (Poll serial again) steady c = live_settled serial c
+
+-- ---- a change that was made, after more
+
+pub can_settle_later : (made : Made) (old new : Parts) → CanSettle made old → AreTurned old new → CanSettle made new
+can_settle_later made old new c t = record {
+  waits = t.waits (items_of made.undo.plan.changes) c.waits;
+  ways = omega (arith, c.ways, t.searches.long);
+}
+
+abbrev pub WaysStay : Type 0
+WaysStay =
+    (before now after : List Standing) (ways : List (Option Way)) → LeadBack before ways now → AtEach (λ _. Stands KeepsSame) now after
+    → LeadBack before ways after
+
+pub can_back : WaysStay → (made : Made) (before old new : Parts) → KeepsNumbers before.graph old.graph → CanTakeBack made before old
+    → AreKept old new → CanTakeBack made before new
+can_back law made before old new numbers c k = record {
+  graph = k.backs made.undo (rows_now before.graph) (links_now before.graph) c.graph;
+  numbers = shares_later before.graph old.graph new.graph numbers k.back.numbers;
+  standing = law before.standing.items old.standing.items new.standing.items made.ways c.standing k.back.standing;
+  sessions = sessions_twice before.sessions old.sessions new.sessions c.sessions k.back.sessions;
+}
+
+-- what would be, once nothing more is to stand
+pub would_be : (parts : Parts) (more : List Standing) → more ≡ [] → AreParts parts → WouldBeParts more parts
+would_be parts more none p = record {
+  steady = subst (λ xs. IsSteady parts.graph (parts.standing.items ++ xs)) (sym none)
+      (subst (IsSteady parts.graph) (sym (append-nil parts.standing.items)) p.steady);
+  ordered = p.ordered;
+  kept = p.kept;
+  within = p.within;
+}
+
+-- an event that is done at once
+pub done_leads : (ttl moment : ℕ) (old new : Parts) (event : Event) (ask : Ask) (outcome : Outcome) (answer : Answer)
+    → IsDone old.sessions.live event ask outcome → rows_now new.graph ≡ rows_now old.graph
+    → ◌≡◌ {A = State × Answer} (applied outcome (state_at ttl moment old)) (
+      record (state_at ttl moment old) {
+        counter = new.sessions.counter;
+        sessions = new.sessions.live;
+        standing = map shown new.standing.items;
+      },
+      answer,
+    )
+    → ◌≡◌ {A = State × Answer} (state_at ttl moment new, answer) (step_ask (state_at ttl moment old) event ask)
+done_leads ttl moment old new event ask outcome answer d rows e =
+    ap (λ rs. (record (state_at ttl moment new) { graph = rs }, answer)) rows ∙ sym e ∙ d.done (state_at ttl moment old) refl

@@ -1,0 +1,125 @@
+-- What flags leave of a list: what holds of all that is left, one step of a walk along both lists, and a list that is kept in place.
+use Rattle.std.proofs.Common.{◌≡◌, refl, sym, ◌∙◌, ap, ℕ, zero, suc, ◌+◌, ◌<◌, ◌≤◌, Bool, true, false, cond, List, [], ◌∷◌, ◌++◌, drop, get_or, length, set, take, Some, slice_get, append-nil, add-one, arith, inl, inr}
+use Rattle.std.proofs.lemmas.Bool.{cases_Bool}
+use Rattle.std.proofs.lemmas.List.{drop_more, drop-set-lt, length-set, take-set-le, take_all, take_more}
+use Rattle.std.specs.List.{AllByRecursion, SwappedAt, filter}
+use Rattle.std.specs.List.Sorted.{IsStrictlySortedBy}
+use Rattle.std.specs.declared.cmp.Ordering.{Ordering}
+use Rattle.std.specs.declared.cmp.Ordering.TheVariants.{Less}
+use Rattle.ifmap_core.proofs.Places.{all_left}
+use Rattle.ifmap_tellings.specs.Tellings.{kept_of}
+
+module _ {X : Type 0} where
+  -- what holds of each that has no flag holds of all that is left
+  pub all_kept : (P : X → Type 0) (gone : List Bool) (xs : List X)
+      → ((i : ℕ) (x : X) → slice_get xs i ≡ Some x → slice_get gone i ≡ Some false → P x) → AllByRecursion P (kept_of gone xs)
+  all_kept P [] xs h = tt
+  all_kept P (g ∷ gone) [] h = tt
+  all_kept P (true ∷ gone) (x ∷ xs) h = all_kept P gone xs (λ i y a b. h (suc i) y a b)
+  all_kept P (false ∷ gone) (x ∷ xs) h = (h 0 x refl refl, all_kept P gone xs (λ i y a b. h (suc i) y a b))
+
+  pub kept_fewer : (p : X → Bool) (gone : List Bool) (xs : List X) → length (filter p (kept_of gone xs)) ≤ length (filter p xs)
+  kept_fewer p [] xs = omega arith
+  kept_fewer p (g ∷ gone) [] = omega arith
+  kept_fewer p (true ∷ gone) (x ∷ xs) =
+      let rest = kept_fewer p gone xs in
+      elim (cases_Bool (p x)) [ inl hit ↦ rw hit (omega (arith, rest)) | inr miss ↦ rw miss rest ]
+  kept_fewer p (false ∷ gone) (x ∷ xs) =
+      let rest = kept_fewer p gone xs in
+      elim (cases_Bool (p x)) [ inl hit ↦ rw hit (omega (arith, rest)) | inr miss ↦ rw miss rest ]
+
+  pub kept_rising : (cmp : X → X → Ordering) (gone : List Bool) (xs : List X) → IsStrictlySortedBy cmp xs
+      → IsStrictlySortedBy cmp (kept_of gone xs)
+  unfolding IsStrictlySortedBy
+  kept_rising cmp [] xs up = tt
+  kept_rising cmp (g ∷ gone) [] up = tt
+  kept_rising cmp (true ∷ gone) (x ∷ xs) up = kept_rising cmp gone xs up.1
+  kept_rising cmp (false ∷ gone) (x ∷ xs) up = (all_left (λ y. cmp x y ≡ Less) gone xs up.0, kept_rising cmp gone xs up.1)
+
+  -- one step further along both lists
+  pub kept_next : (gone : List Bool) (xs : List X) (i : ℕ) (g : Bool) (d : X) → i < length gone → i < length xs → get_or gone i false ≡ g
+      → kept_of (take (suc i) gone) (take (suc i) xs) ≡ kept_of (take i gone) (take i xs) ++ cond g [] (get_or xs i d ∷ [])
+  kept_next [] xs i g d a b e = absurd (omega (arith, a))
+  kept_next (h ∷ gone) [] i g d a b e = absurd (omega (arith, b))
+  kept_next (true ∷ gone) (y ∷ xs) zero g d a b e = ap (λ (t : Bool). cond t [] (y ∷ [])) e
+  kept_next (false ∷ gone) (y ∷ xs) zero g d a b e = ap (λ (t : Bool). cond t [] (y ∷ [])) e
+  kept_next (true ∷ gone) (y ∷ xs) (suc i) g d a b e = kept_next gone xs i g d (omega (arith, a)) (omega (arith, b)) e
+  kept_next (false ∷ gone) (y ∷ xs) (suc i) g d a b e =
+      ap (λ t. y ∷ t) (kept_next gone xs i g d (omega (arith, a)) (omega (arith, b)) e)
+
+-- ys began as xs. What is left of the first i of xs stands in the first k places of ys, and from i on ys is as it was
+pub record KeptInPlace {X : Type 0} (gone : List Bool) (xs ys : List X) (k i : ℕ) : Type 0 where
+  pub front : take k ys ≡ kept_of (take i gone) (take i xs)
+  pub rest : drop i ys ≡ drop i xs
+  pub behind : k ≤ i
+  pub within : i ≤ length gone
+  pub flags : length gone ≡ length xs
+  pub long : length ys ≡ length xs
+
+module _ {X : Type 0} (gone : List Bool) (xs ys : List X) (k i : ℕ) (h : KeptInPlace gone xs ys k i) where
+  pub kept_here : length gone ≤ i → take k ys ≡ kept_of gone xs
+  kept_here le =
+      let flags = h.flags in
+      h.front ∙ ap (λ (t : List Bool). kept_of t (take i xs)) (take_all i gone le)
+      ∙ ap (kept_of gone) (take_all i xs (omega (arith, flags, le)))
+
+  both : (d : X) → i < length gone → get_or ys i d ∷ drop (i + 1) ys ≡ get_or xs i d ∷ drop (i + 1) xs
+  both d lt =
+      let flags = h.flags in
+      let long = h.long in
+      sym (drop_more ys i d (omega (arith, lt, flags, long))) ∙ h.rest ∙ drop_more xs i d (omega (arith, lt, flags))
+
+  next : (g : Bool) (d : X) → i < length gone → get_or gone i false ≡ g
+      → kept_of (take (i + 1) gone) (take (i + 1) xs) ≡ take k ys ++ cond g [] (get_or ys i d ∷ [])
+  next g d lt e =
+      let flags = h.flags in
+      let same : get_or ys i d ≡ get_or xs i d = ap (λ l. get_or l 0 d) (both d lt) in
+      rw (add-one i) (kept_next gone xs i g d lt (omega (arith, lt, flags)) e)
+      ∙ ap (λ t. t ++ cond g [] (get_or xs i d ∷ [])) (sym h.front) ∙ ap (λ x. take k ys ++ cond g [] (x ∷ [])) (sym same)
+
+  passed : (d : X) → i < length gone → get_or gone i false ≡ true → KeptInPlace gone xs ys k (i + 1)
+  passed d lt e =
+      let behind = h.behind in record {
+        front = sym (next true d lt e ∙ append-nil (take k ys));
+        rest = ap (drop 1) (both d lt);
+        behind = omega (arith, behind);
+        within = omega (arith, lt);
+        flags = h.flags;
+        long = h.long;
+      }
+
+  moved : (zs : List X) (d : X) → i < length gone → get_or gone i false ≡ false → SwappedAt ys zs k i
+      → KeptInPlace gone xs zs (k + 1) (i + 1)
+  moved zs d lt e s =
+      let flags = h.flags in
+      let long = h.long in
+      let behind = h.behind in
+      let u : X = get_or ys i d in
+      let v : X = get_or ys k d in
+      let is : zs ≡ set (set ys k u) i v = s.3 d in
+      let same_length : length zs ≡ length ys = ap length is ∙ length-set (set ys k u) i v ∙ length-set ys k u in
+      let front : take k zs ≡ take k ys =
+      ap (take k) is ∙ take-set-le k (set ys k u) i v behind ∙ take-set-le k ys k u (omega arith) in
+      let tail : drop (i + 1) zs ≡ drop (i + 1) ys =
+      ap (drop (i + 1)) is ∙ drop-set-lt (i + 1) (set ys k u) i v (omega arith) ∙ drop-set-lt (i + 1) ys k u (omega (arith, behind)) in
+      record {
+        front = take_more zs k d (omega (arith, same_length, long, flags, behind, lt)) ∙ ap (λ t. t ++ get_or zs k d ∷ []) front
+            ∙ ap (λ x. take k ys ++ x ∷ []) (s.0 d) ∙ sym (next false d lt e);
+        rest = tail ∙ ap (drop 1) (both d lt);
+        behind = omega (arith, behind);
+        within = omega (arith, lt);
+        flags = flags;
+        long = same_length ∙ long;
+      }
+
+-- what is next is gone
+pub kept_passed : {X : Type 0} (gone : List Bool) (xs ys : List X) (k i : ℕ) → KeptInPlace gone xs ys k i → i < length gone
+    → get_or gone i false ≡ true → KeptInPlace gone xs ys k (i + 1)
+kept_passed gone [] ys k i h lt e = let flags = h.flags in absurd (omega (arith, lt, flags))
+kept_passed gone (d ∷ xs) ys k i h lt e = passed gone (d ∷ xs) ys k i h d lt e
+
+-- what is next stays, and changes places with the first of those that were passed
+pub kept_moved : {X : Type 0} (gone : List Bool) (xs ys zs : List X) (k i : ℕ) → KeptInPlace gone xs ys k i → i < length gone
+    → get_or gone i false ≡ false → SwappedAt ys zs k i → KeptInPlace gone xs zs (k + 1) (i + 1)
+kept_moved gone [] ys zs k i h lt e s = let flags = h.flags in absurd (omega (arith, lt, flags))
+kept_moved gone (d ∷ xs) ys zs k i h lt e s = moved gone (d ∷ xs) ys k i h zs d lt e s

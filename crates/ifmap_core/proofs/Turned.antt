@@ -1,0 +1,213 @@
+-- Parts that stay, parts that were turned, and parts that are back: of themselves, and one after the other.
+use Rattle.std.proofs.Common.{◌≡◌, refl, sym, ◌∙◌, ap, subst, ℕ, ◌≤◌, List, [], ◌∷◌, length, map, Some, arith}
+use Rattle.std.proofs.lemmas.Option.{same_Some}
+use Rattle.std.specs.List.{AllByRecursion}
+use Rattle.std.specs.List.Sorted.{IsStrictlySortedBy}
+use Rattle.ifmap_changes.specs.Between.{AreBack, AreKept, AreOrdered, AreParts, AreTurned, IsSteady, SharesNumbers, sight_now, state_at}
+use Rattle.ifmap_changes.specs.declared.parts.Parts.{Parts}
+use Rattle.ifmap_core.proofs.Places.{all_moved, kept_itself, same_map, searched_itself, searched_twice, shown_kept}
+use Rattle.ifmap_delta.specs.declared.subscriptions.Subscription.{Subscription}
+use Rattle.ifmap_delta.specs.Sights.{IsKept, Sight}
+use Rattle.ifmap_graph.specs.Back.{KeepsBacks}
+use Rattle.ifmap_graph.specs.Held.{Held, IsOwn}
+use Rattle.ifmap_graph.specs.Seen.{BringsNoNumbers, IsStill, KeepsNumbers, links_now, rows_now}
+use Rattle.ifmap_ident.specs.declared.identifiers.Identifier.{Identifier}
+use Rattle.ifmap_machine.specs.State as machine
+use Rattle.ifmap_machine.specs.State.{standing_in}
+use Rattle.ifmap_machine.specs.Subscribing.{most_names}
+use Rattle.ifmap_pool.specs.Holdings.{key_at}
+use Rattle.ifmap_session.specs.Sessions.{IsLive, Session, Table}
+use Rattle.ifmap_standing.specs.declared.standing.Standing.{Standing}
+use Rattle.ifmap_standing.specs.Kept.{AtEach, KeepsSame, Stands}
+use Rattle.ifmap_standing.specs.Standing.{shown}
+use Rattle.ifmap_tellings.specs.Tellings.{HasSameSessions}
+use Rattle.ifmap_view.specs.Views.{IsView}
+
+-- ---- of themselves
+
+pub sessions_themselves : (t : Table) → HasSameSessions t t
+sessions_themselves t = record { live = refl; counter = refl; spare = λ n. omega arith; room = omega arith }
+
+pub sessions_twice : (a b c : Table) → HasSameSessions a b → HasSameSessions b c → HasSameSessions a c
+sessions_twice a b c s t = record {
+  live = t.live ∙ s.live;
+  counter = t.counter ∙ s.counter;
+  spare = λ n. omega (arith, s.spare n, t.spare n);
+  room = omega (arith, s.room, t.room);
+}
+
+pub shares_itself : (h : Held) → SharesNumbers h h
+shares_itself h v a b p q = same_Some b a (sym q ∙ p)
+
+pub shares_kept : (old new : Held) → KeepsNumbers old new → SharesNumbers old new
+shares_kept old new k v a b p q = same_Some b a (sym q ∙ k v a p)
+
+pub shares_fewer : (old new : Held) → BringsNoNumbers old new → SharesNumbers old new
+shares_fewer old new k v a b p q = same_Some b a (sym (k v b q) ∙ p)
+
+-- numbers that stay are shared with what shares them later
+pub shares_later : (a b c : Held) → KeepsNumbers a b → SharesNumbers b c → SharesNumbers a c
+shares_later a b c k s v x y p q = s v x y (k v x p) q
+
+pub back_itself : (parts : Parts) → IsSteady parts.graph parts.standing.items → AreBack parts parts
+back_itself parts steady = record {
+  steady = steady;
+  rows = refl;
+  links = λ v. refl;
+  numbers = shares_itself parts.graph;
+  standing = kept_itself parts.standing.items;
+  sessions = sessions_themselves parts.sessions;
+}
+
+pub stays_kept : (parts : Parts) → IsSteady parts.graph parts.standing.items → AreKept parts parts
+stays_kept parts steady = record { back = back_itself parts steady; backs = λ u rows links b. b }
+
+pub stays_turned : (parts : Parts) → AreTurned parts parts
+stays_turned parts = record {
+  waits = λ rest w. w;
+  searches = searched_itself parts.standing.items;
+  sessions = sessions_themselves parts.sessions;
+}
+
+-- ---- one after the other
+
+pub turned_twice : (a b c : Parts) → AreTurned a b → AreTurned b c → AreTurned a c
+turned_twice a b c s t = record {
+  waits = λ rest w. t.waits rest (s.waits rest w);
+  searches = searched_twice a.standing.items b.standing.items c.standing.items s.searches t.searches;
+  sessions = sessions_twice a.sessions b.sessions c.sessions s.sessions t.sessions;
+}
+
+-- ---- what is back is what it was
+
+pub back_state : (ttl moment : ℕ) (old new : Parts) → AreBack old new → state_at ttl moment new ≡ state_at ttl moment old
+back_state ttl moment old new b =
+    ap (λ (n : ℕ). record (state_at ttl moment new) { counter = n }) b.sessions.counter
+    ∙ ap (λ rows. record (state_at ttl moment new) { counter = old.sessions.counter; graph = rows }) b.rows
+    ∙ ap (λ (live : List Session). record
+    (state_at ttl moment new) { counter = old.sessions.counter; graph = rows_now old.graph; sessions = live }) b.sessions.live
+    ∙ ap (λ (xs : List machine.Standing). record (state_at ttl moment old) { standing = xs })
+    (same_map shown (λ _. Stands KeepsSame) shown_kept old.standing.items new.standing.items b.standing)
+
+-- a subscription that keeps what one graph has keeps what another has, where its start has its number there
+abbrev pub KeepsThere : Held → Held → Type 0
+KeepsThere old new =
+    (sub : Subscription) → key_at new.names sub.region.start ≡ Some sub.search.start → IsKept (sight_now old) sub
+    → IsKept (sight_now new) sub
+
+abbrev pub SameLinks : Type 0
+SameLinks =
+    (one other : Sight) (sub : Subscription) → IsView one.rows one.id_at one.links → IsView other.rows other.id_at other.links
+    → other.rows ≡ one.rows → ((v : ℕ) → other.links v ≡ one.links v)
+    → ((v : ℕ) (a b : Identifier) → one.id_at v ≡ Some a → other.id_at v ≡ Some b → b ≡ a)
+    → other.id_at sub.region.start ≡ Some sub.search.start → IsKept one sub → IsKept other sub
+
+abbrev pub IsSeen : Held → Type 0
+IsSeen h = IsView (rows_now h) (key_at h.names) (links_now h)
+
+pub keeps_there : SameLinks → (old new : Held) → IsSeen old → IsSeen new → rows_now new ≡ rows_now old
+    → ((v : ℕ) → links_now new v ≡ links_now old v) → SharesNumbers old new → KeepsThere old new
+keeps_there law old new was is rows links numbers sub here kept =
+    law (sight_now old) (sight_now new) sub was is rows links numbers here kept
+
+-- all that stand keep what the graph has, where they kept it and hold their starts
+pub all_there : (old new : Held) → KeepsThere old new → (xs : List Standing)
+    → AllByRecursion (λ x. key_at new.names x.subscription.region.start ≡ Some x.subscription.search.start) xs
+    → AllByRecursion (λ x. IsKept (sight_now old) x.subscription) xs → AllByRecursion (λ x. IsKept (sight_now new) x.subscription) xs
+all_there old new k [] n h = tt
+all_there old new k (x ∷ xs) n h = (k x.subscription n.0 h.0, all_there old new k xs n.1 h.1)
+
+abbrev pub SameMarks : Type 0
+SameMarks = (g : Sight) (old new : Subscription) → KeepsSame old new → IsKept g old → IsKept g new
+
+ordered_back : (old new : Parts) → AreBack old new → AreOrdered old.sessions.live old.standing.items
+    → AreOrdered new.sessions.live new.standing.items
+ordered_back old new b o =
+    let same : map shown new.standing.items ≡ map shown old.standing.items =
+    same_map shown (λ _. Stands KeepsSame) shown_kept old.standing.items new.standing.items b.standing in
+    record {
+      rising = rw same o.rising;
+      live = all_moved (λ (x : Standing). IsLive x.serial old.sessions.live) (λ (x : Standing). IsLive x.serial new.sessions.live)
+          (λ _. Stands KeepsSame)
+          (λ i x y s l. subst (λ (live : List Session). IsLive y.serial live) (sym b.sessions.live)
+          (subst (λ (n : ℕ). IsLive n old.sessions.live) (sym s.serial) l)) old.standing.items new.standing.items b.standing o.live;
+      few = λ n. subst (λ (xs : List machine.Standing). length (standing_in n xs) ≤ most_names) (sym same) (o.few n);
+    }
+
+pub back_parts : SameLinks → SameMarks → (old new : Parts) → IsSeen old.graph → IsSeen new.graph → AreParts old → AreBack old new
+    → AreParts new
+back_parts law marks old new was is p b =
+    let there = keeps_there law old.graph new.graph was is b.rows b.links b.numbers in
+    let moved : AllByRecursion (λ (x : Standing). IsKept (sight_now old.graph) x.subscription) new.standing.items =
+    all_moved (λ (x : Standing). IsKept (sight_now old.graph) x.subscription) (λ (x : Standing). IsKept
+    (sight_now old.graph) x.subscription)
+    (λ _. Stands KeepsSame) (λ i x y s k. marks (sight_now old.graph) x.subscription y.subscription s.subscription k)
+    old.standing.items new.standing.items b.standing p.kept in
+    record {
+      steady = b.steady;
+      ordered = ordered_back old new b p.ordered;
+      kept = all_there old.graph new.graph there new.standing.items b.steady.numbered moved;
+      within = rw (b.sessions.live) (p.within);
+    }
+
+-- kept, and then only room changed
+pub kept_room : (a b c : Parts) → AreKept a b → c.graph ≡ b.graph → c.standing.items ≡ b.standing.items
+    → HasSameSessions b.sessions c.sessions
+    → AreKept a c
+kept_room a b c k graph standing sessions = record {
+  back = record {
+    steady = rw (graph, standing) k.back.steady;
+    rows = rw graph k.back.rows;
+    links = rw graph k.back.links;
+    numbers = rw graph k.back.numbers;
+    standing = rw standing k.back.standing;
+    sessions = sessions_twice a.sessions b.sessions c.sessions k.back.sessions sessions;
+  };
+  backs = rw graph k.backs;
+}
+
+pub turned_room : (a b c : Parts) → AreTurned a b → c.graph ≡ b.graph → c.standing.items ≡ b.standing.items
+    → HasSameSessions b.sessions c.sessions
+    → AreTurned a c
+turned_room a b c k graph standing sessions = record {
+  waits = rw graph k.waits;
+  searches = rw standing k.searches;
+  sessions = sessions_twice a.sessions b.sessions c.sessions k.sessions sessions;
+}
+
+-- parts of which only room changed, and then are kept
+pub room_kept : (a b c : Parts) → b.graph ≡ a.graph → b.standing.items ≡ a.standing.items → HasSameSessions a.sessions b.sessions
+    → AreKept b c
+    → AreKept a c
+room_kept a b c graph standing sessions k = record {
+  back = record {
+    steady = k.back.steady;
+    rows = subst (λ h. rows_now c.graph ≡ rows_now h) graph k.back.rows;
+    links = subst (λ h. (v : ℕ) → links_now c.graph v ≡ links_now h v) graph k.back.links;
+    numbers = subst (λ h. SharesNumbers h c.graph) graph k.back.numbers;
+    standing = subst (λ xs. AtEach (λ _. Stands KeepsSame) xs c.standing.items) standing k.back.standing;
+    sessions = sessions_twice a.sessions b.sessions c.sessions sessions k.back.sessions;
+  };
+  backs = subst (λ h. KeepsBacks h c.graph) graph k.backs;
+}
+
+-- ---- parts at the start
+
+first_ordered : (live : List Session) → AreOrdered live []
+unfolding IsStrictlySortedBy
+first_ordered live = record { rising = tt; live = tt; few = λ n. omega arith }
+
+-- nothing is stored, no session lives and no subscription stands
+pub first_parts : (parts : Parts) → IsStill parts.graph → rows_now parts.graph ≡ [] → ((a : Identifier) → IsOwn parts.graph a 0)
+    → parts.sessions.live ≡ [] → parts.standing.items ≡ [] → AreParts parts
+first_parts parts still rows own sessions standing = record {
+  steady = record {
+    still = still;
+    whole = rw rows tt;
+    own = λ a. rw standing (own a);
+    numbered = rw standing tt;
+  };
+  ordered = rw standing (first_ordered parts.sessions.live);
+  kept = rw standing tt;
+  within = rw sessions tt;
+}

@@ -1,0 +1,49 @@
+use Rattle.std.proofs.Common.{◌≡◌, ◌<◌}
+use Rattle.ifmap_fresh.specs.Fresh.{fresh_size}
+use Rattle.ifmap_graph.specs.Seen.{rows_now}
+use Rattle.ifmap_changes.specs.Between.{left, so_far}
+use Rattle.ifmap_core.proofs.Cases.{accepts, another, finds, finds_not, nobody, own_left, owner_so_far, says}
+use Rattle.ifmap_core.proofs.answering.search.Goals as goal
+use Rattle.ifmap_core.specs.declared.owning.Owner.TheVariants.{Own}
+use Rattle.ifmap_machine.specs.declared.events.Answer.TheVariants as the_answer
+use Rattle.ifmap_machine.specs.Step.{search}
+use Rattle.ifmap_replies.specs.declared.replies.Reply.TheVariants as the_reply
+
+pub returns-in-Ok : goal.returns-in-Ok
+returns-in-Ok g c =
+    let a = c.args.asking.now in
+    let parts = c.args.parts.now in
+    let pending = c.args.pending.now in
+    let serial = c.in-Own.serial in
+    let o = owner_so_far a parts pending c.args.id.now a.client (Own serial) c.in-Own.ensures in
+    let live = own_left (left a parts.sessions) c.args.id.now a.client serial c.in-Own.ensures in
+    accepts a parts pending c.requires.steady c.requires.ready serial (the_answer.Reply (the_reply.Found c.in-Ok.found.entries)) _ live
+    (finds (so_far a parts pending) c.args.id.now a.client serial o c.args.asked.now c.in-Ok.found.entries c.in-Ok.ensures.answer.0
+    c.in-Ok.ensures.answer.2)
+
+pub returns-in-Err-TooBig : goal.returns-in-Err-TooBig
+returns-in-Err-TooBig g c =
+    let a = c.args.asking.now in
+    let parts = c.args.parts.now in
+    let pending = c.args.pending.now in
+    let serial = c.in-Own.serial in
+    let o = owner_so_far a parts pending c.args.id.now a.client (Own serial) c.in-Own.ensures in
+    let much : (c.in-Err-TooBig.size ≡ fresh_size (rows_now parts.graph) c.args.asked.now)
+    × (c.args.asked.now.max_size < fresh_size (rows_now parts.graph) c.args.asked.now) =
+    rw c.in-Err-TooBig.field-0-is at c.in-Err-TooBig.ensures.answer in
+    says a parts pending c.requires.steady c.requires.ready _ _
+    (finds_not (so_far a parts pending) c.args.id.now a.client serial o c.args.asked.now c.in-Err-TooBig.size much.0 much.1)
+    c.refuse_size.result
+    c.refuse_size.ensures
+
+pub returns-in-Another : goal.returns-in-Another
+returns-in-Another g c =
+    another c.args.asking.now c.args.parts.now c.args.pending.now c.requires.steady c.requires.ready c.args.id.now
+    (search (so_far c.args.asking.now c.args.parts.now c.args.pending.now) c.args.asked.now) c.in-Another.ensures c.refuse.result
+    c.refuse.ensures
+
+pub returns-in-Nobody : goal.returns-in-Nobody
+returns-in-Nobody g c =
+    nobody c.args.asking.now c.args.parts.now c.args.pending.now c.requires.steady c.requires.ready c.args.id.now
+    (search (so_far c.args.asking.now c.args.parts.now c.args.pending.now) c.args.asked.now) c.in-Nobody.ensures c.refuse-in-Nobody.result
+    c.refuse-in-Nobody.ensures

@@ -1,0 +1,33 @@
+use Rattle.std.proofs.Common.{subst}
+use Rattle.std.specs.Result.{IfOk}
+use Rattle.ifmap_core.specs.Outcomes.{LeadsTo}
+use Rattle.ifmap_machine.specs.State.{State}
+use Rattle.ifmap_machine.specs.declared.events.Answer.{Answer}
+use Rattle.ifmap_changes.specs.Between.{so_far}
+use Rattle.ifmap_core.proofs.Cases.{another, nobody, owner_so_far, subscribes}
+use Rattle.ifmap_core.proofs.answering.subscribe.Goals as goal
+use Rattle.ifmap_core.specs.declared.owning.Owner.TheVariants.{Own}
+use Rattle.ifmap_machine.specs.Step.{subscribe}
+
+pub returns-in-Another-clause-leads : goal.returns-in-Another-clause-leads
+returns-in-Another-clause-leads g c =
+    another c.args.asking.now c.args.parts.now c.args.pending.now c.requires.steady c.requires.ready c.args.id.now
+    (subscribe (so_far c.args.asking.now c.args.parts.now c.args.pending.now) c.args.ops.now) c.in-Another.ensures c.refuse.result
+    c.refuse.ensures
+
+pub returns-in-Nobody-clause-leads : goal.returns-in-Nobody-clause-leads
+returns-in-Nobody-clause-leads g c =
+    nobody c.args.asking.now c.args.parts.now c.args.pending.now c.requires.steady c.requires.ready c.args.id.now
+    (subscribe (so_far c.args.asking.now c.args.parts.now c.args.pending.now) c.args.ops.now) c.in-Nobody.ensures c.refuse-in-Nobody.result
+    c.refuse-in-Nobody.ensures
+
+pub returns-in-Own-clause-leads : goal.returns-in-Own-clause-leads
+returns-in-Own-clause-leads g c =
+    let a = c.args.asking.now in
+    let parts = c.args.parts.now in
+    let pending = c.args.pending.now in
+    let serial = c.in-Own.serial in
+    let o = owner_so_far a parts pending c.args.id.now a.client (Own serial) c.in-Own.ensures in
+    subst (λ (wanted : State × Answer). IfOk c.subscribe_in.result
+    (λ outcome. LeadsTo outcome a c.subscribe_in.new.parts c.subscribe_in.new.pending wanted))
+    (subscribes (so_far a parts pending) c.args.id.now a.client serial o c.args.ops.now) (c.subscribe_in.ensures.leads o.0 o.4)

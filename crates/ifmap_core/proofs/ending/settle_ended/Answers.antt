@@ -1,0 +1,23 @@
+use Rattle.ifmap_core.proofs.Expiring.{can_settled}
+use Rattle.ifmap_core.proofs.Turned.{keeps_there, shares_fewer}
+use Rattle.ifmap_core.proofs.ending.settle_ended.Goals as goal
+use Rattle.ifmap_core.specs.Outcomes.{held_by}
+
+pub settle_made-requires-clause-steady : goal.settle_made-requires-clause-steady
+settle_made-requires-clause-steady c = (held_by c.args.outcome.now, c.requires.steady)
+
+pub returns-clause-steady : goal.returns-clause-steady
+returns-clause-steady c = c.settle_made.ensures.steady (held_by c.args.outcome.now) c.requires.steady
+
+pub returns-clause-can : goal.returns-clause-can
+returns-clause-can c =
+    let old = c.args.parts.now in
+    let new = c.settle_made.new.parts in
+    let s = c.settle_made.ensures.settled in
+    can_settled c.args.asking.now old new c.args.pending.now s
+    (keeps_there c.same_links_keep_subscriptions.ensures old.graph new.graph c.tell_view.ensures c.tell_view-2.ensures s.rows s.links
+    (shares_fewer old.graph new.graph s.numbers)) (c.settle_made.ensures.so_far c.args.asking.now c.args.pending.now) c.args.outcome.now
+    (c.settle_made.ensures.steady (held_by c.args.outcome.now) c.requires.steady) c.requires.can
+
+pub returns-clause-ready : goal.returns-clause-ready
+returns-clause-ready c = c.settle_made.ensures.ready c.args.asking.now c.args.pending.now c.requires.ready

@@ -1,0 +1,13 @@
+use Rattle.std.proofs.Common.{ap}
+use Rattle.ifmap_core.proofs.Turned.{first_parts}
+use Rattle.ifmap_core.proofs.machine.Core.new.Goals as goal
+use Rattle.ifmap_graph.specs.Shelved.{list_at, rows_by}
+use Rattle.ifmap_graph.specs.Sides.{now}
+
+pub invariant_of-result : goal.invariant_of-result
+invariant_of-result c = record {
+  sound = first_parts (record { graph = c.new-2.result; sessions = c.new-3.result; standing = c.new-4.result }) c.new-2.ensures.still
+      (ap (rows_by (list_at now)) c.new-2.ensures.shelves) c.new-2.ensures.own c.new-3.ensures.live
+      c.new-4.ensures.items;
+  time = c.requires;
+}

@@ -1,0 +1,43 @@
+use Rattle.std.proofs.Common.{refl}
+use Rattle.ifmap_core.proofs.Places.{kept_itself, searched_itself}
+use Rattle.ifmap_core.proofs.Subscribed.{ready_there, same_so_far}
+use Rattle.ifmap_core.proofs.Turned.{keeps_there, sessions_themselves, shares_fewer}
+use Rattle.ifmap_core.proofs.subscribing.let_go.Goals as goal
+
+pub returns-clause-steady : goal.returns-clause-steady
+returns-clause-steady c = c.release_all.ensures.steady c.args.parts.now.standing.items c.requires.steady
+
+pub returns-clause-ready : goal.returns-clause-ready
+returns-clause-ready c =
+    let old = c.args.parts.now in
+    ready_there c.args.asking.now old (record { graph = c.release_all.new.graph; sessions = old.sessions; standing = old.standing })
+    c.args.pending.now refl refl
+    (keeps_there c.same_links_keep_subscriptions.ensures old.graph c.release_all.new.graph c.tell_view.ensures c.tell_view-2.ensures
+    c.release_all.ensures.rows c.release_all.ensures.links (shares_fewer old.graph c.release_all.new.graph c.release_all.ensures.numbers))
+    (c.release_all.ensures.steady old.standing.items c.requires.steady) c.requires.ready
+
+pub returns-clause-so_far : goal.returns-clause-so_far
+returns-clause-so_far c =
+    let old = c.args.parts.now in
+    same_so_far c.args.asking.now old (record { graph = c.release_all.new.graph; sessions = old.sessions; standing = old.standing })
+    c.args.pending.now c.release_all.ensures.rows (sessions_themselves old.sessions) refl
+
+pub returns-clause-turned : goal.returns-clause-turned
+returns-clause-turned c = record {
+  waits = c.release_all.ensures.waits;
+  searches = searched_itself c.args.parts.now.standing.items;
+  sessions = sessions_themselves c.args.parts.now.sessions;
+}
+
+pub returns-clause-kept : goal.returns-clause-kept
+returns-clause-kept c = record {
+  back = record {
+    steady = c.release_all.ensures.steady c.args.parts.now.standing.items c.requires.steady;
+    rows = c.release_all.ensures.rows;
+    links = c.release_all.ensures.links;
+    numbers = shares_fewer c.args.parts.now.graph c.release_all.new.graph c.release_all.ensures.numbers;
+    standing = kept_itself c.args.parts.now.standing.items;
+    sessions = sessions_themselves c.args.parts.now.sessions;
+  };
+  backs = c.release_all.ensures.backs;
+}

@@ -1,0 +1,34 @@
+use Rattle.std.proofs.Common.{sym, ◌∙◌, ap}
+use Rattle.std.specs.Result.{IfOk}
+use Rattle.ifmap_changes.specs.Between.{AreKept, AreTurned}
+use Rattle.ifmap_core.proofs.Exits.{on_ok, on_err_as}
+use Rattle.ifmap_core.proofs.Subscribed.{holds_kept, holds_leads, holds_turned, told_is}
+use Rattle.ifmap_core.proofs.Turned.{turned_twice}
+use Rattle.ifmap_core.proofs.subscribing.subscribe_in.Goals as goal
+use Rattle.ifmap_core.specs.Outcomes.{LeadsTo}
+use Rattle.ifmap_graph.specs.Seen.{rows_now}
+use Rattle.ifmap_machine.specs.Subscribing.{subscribe_ops}
+
+pub returns-in-Ok-clause-leads : goal.returns-in-Ok-clause-leads
+returns-in-Ok-clause-leads g c = λ s e.
+    let a = c.args.asking.now in
+    let old = c.args.parts.now in
+    let pending = c.args.pending.now in
+    holds_leads
+    (λ wanted. IfOk c.accept_ops.result (λ outcome. LeadsTo outcome a c.accept_ops.new.parts c.accept_ops.new.pending wanted)) a old
+    c.ready_ops.new.parts pending c.args.serial c.in-Ok.readying _ c.in-Ok.ensures.holds
+    (ap (subscribe_ops (rows_now old.graph) c.args.serial c.args.ops.now) (sym (told_is a old pending c.args.serial s e))
+    ∙ c.in-Ok.ensures.ops)
+    c.accept_ops.ensures.leads s e
+
+pub returns-in-Ok-clause-turned : goal.returns-in-Ok-clause-turned
+returns-in-Ok-clause-turned g c =
+    on_ok c.accept_ops.result (AreTurned c.ready_ops.new.parts c.accept_ops.new.parts) (AreTurned c.args.parts.now c.accept_ops.new.parts)
+    (turned_twice c.args.parts.now c.ready_ops.new.parts c.accept_ops.new.parts
+    (holds_turned c.args.parts.now c.ready_ops.new.parts c.in-Ok.ensures.holds))
+    c.accept_ops.ensures.turned
+
+pub returns-in-Ok-clause-kept : goal.returns-in-Ok-clause-kept
+returns-in-Ok-clause-kept g c =
+    on_err_as c.accept_ops.result (AreKept c.ready_ops.new.parts c.accept_ops.new.parts) (AreKept c.args.parts.now c.accept_ops.new.parts)
+    (holds_kept c.args.parts.now c.ready_ops.new.parts c.accept_ops.new.parts c.in-Ok.ensures.holds) c.accept_ops.ensures.kept

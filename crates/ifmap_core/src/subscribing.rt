@@ -1,0 +1,249 @@
+//! A subscribe in a session: its operations are made ready, and then accepted or refused.
+ghost use Rattle.std.specs.Prelude.{◌≡◌, ◌≤◌, ◌<◌, ◌+◌, ◌++◌, None, Some, IfOk, OnErr, OnOk, vec_capacity, vec_len};
+ghost use Rattle.std.specs.BTreeMap.{get};
+ghost use Rattle.std.specs.List.{AllByRecursion};
+ghost use Rattle.std.specs.Ordering.{nat_cmp};
+ghost use Rattle.ifmap_changes.specs.Between.{AreKept, AreTurned, IsReady, IsSteady, left, so_far};
+ghost use Rattle.ifmap_core.specs.Outcomes.{LeadsTo, alone_told};
+ghost use Rattle.ifmap_machine.specs.Step.{answer_subscribed};
+ghost use Rattle.ifmap_machine.specs.Subscribing.{subscribe_ops};
+ghost use Rattle.ifmap_requests.specs.Fit.{IsFitSubscribeOp};
+ghost use Rattle.ifmap_session.specs.Sessions.{IsLive, Session, session_with_serial, spare_of};
+ghost use Rattle.ifmap_subscribes.specs.Readying.{AreReadied, told_after, told_at};
+ghost use Rattle.ifmap_subscribes.specs.Renamings.{begun_by};
+ghost use Rattle.ifmap_tellings.specs.Tellings.{HasSameSessions, count_where};
+
+use crate::outcomes::{Outcome, refuse};
+use ifmap_changes::asking::Asking;
+use ifmap_changes::changes::mark_session;
+use ifmap_changes::parts::Parts;
+use ifmap_changes::views::tell_view;
+use ifmap_elem::Many;
+use ifmap_ident::Code;
+use ifmap_machine::Answer;
+use ifmap_replies::Reply;
+use ifmap_requests::SubscribeOp;
+use ifmap_standing::laws::same_links_keep_subscriptions;
+use ifmap_steps::Steps;
+use ifmap_subscribes::readying::{Readying, Scene, SubscribeError, ready_ops};
+use ifmap_subscribes::renamings::{Renaming, release_all};
+use ifmap_tellings::tellings::{Pending, count_told, tell_alone};
+use std::alloc::{AllocError as NoMemory, Global};
+use std::sync::ledger::Ledger;
+
+// What a subscribe makes of a session of the client's.
+pub(crate) fn subscribe_in<L: Ledger>(
+    alloc: Global,
+    parts: &mut Parts,
+    pending: &mut Pending,
+    asking: &Asking,
+    serial: u64,
+    ops: &Many<SubscribeOp>,
+    steps: &mut Steps<L>,
+) -> Result<Outcome, NoMemory>
+    requires steady { IsSteady parts.old.graph parts.old.standing.items }
+    requires ready { IsReady asking.now parts.old pending.old }
+    requires live { IsLive serial (left asking.now parts.old.sessions) }
+    requires fit { AllByRecursion IsFitSubscribeOp ops.now }
+    ensures leads { let before = so_far asking.now parts.old pending.old in (s : Session)
+        → session_with_serial serial before.sessions ≡ Some s
+        → IfOk result (λ outcome. LeadsTo outcome asking.now parts.new pending.new
+        (answer_subscribed before s (subscribe_ops before.graph serial ops.now
+        (record { queue = s.queue; standing = before.standing })))) }
+    ensures turned { OnOk result (AreTurned parts.old parts.new) }
+    ensures kept { OnErr result (AreKept parts.old parts.new) }
+{
+    let scene = Scene {
+        pending: &*pending,
+        asking: &*asking,
+        serial,
+    };
+    match ready_ops(alloc, parts, &scene, ops, steps) {
+        Ok(readying) => accept_ops(alloc, parts, pending, asking, serial, readying),
+        Err(SubscribeError::TooMany) => refuse(alloc, Code::SystemError),
+        Err(SubscribeError::NoMemory) => Err(NoMemory),
+    }
+}
+
+// The operations that were made ready are accepted: the names are to be renamed, or what the session is
+// to be told is greater than its limit.
+fn accept_ops(
+    alloc: Global,
+    parts: &mut Parts,
+    pending: &mut Pending,
+    asking: &Asking,
+    serial: u64,
+    readying: Readying,
+) -> Result<Outcome, NoMemory>
+    requires ready { IsReady asking.now parts.old pending.old }
+    requires live { IsLive serial (left asking.now parts.old.sessions) }
+    requires readied { AreReadied serial (told_at serial asking.now parts.old pending.old)
+        parts.old readying }
+    ensures leads { let before = so_far asking.now parts.old pending.old in (s : Session)
+        → session_with_serial serial before.sessions ≡ Some s
+        → IfOk result (λ outcome. LeadsTo outcome asking.now parts.new pending.new
+        (answer_subscribed before s (Some (told_after serial readying
+        (told_at serial asking.now parts.old pending.old))))) }
+    ensures turned { OnOk result (AreTurned parts.old parts.new) }
+    ensures kept { OnErr result (AreKept parts.old parts.new) }
+{
+    parts.sessions.is_table();
+    let (_size, limit) = parts.sessions.queue_size(serial);
+    if (limit as u128) < readying.size {
+        return overrun(alloc, parts, pending, asking, serial, readying);
+    }
+    rename_ready(alloc, parts, pending, asking, serial, readying)
+}
+
+// The names are to be renamed, where there is room.
+fn rename_ready(
+    alloc: Global,
+    parts: &mut Parts,
+    pending: &Pending,
+    asking: &Asking,
+    serial: u64,
+    readying: Readying,
+) -> Result<Outcome, NoMemory>
+    requires ready { IsReady asking.now parts.old pending.now }
+    requires live { IsLive serial (left asking.now parts.old.sessions) }
+    requires readied { AreReadied serial (told_at serial asking.now parts.old pending.now)
+        parts.old readying }
+    requires within { (s : Session) → session_with_serial serial parts.old.sessions.live ≡ Some s
+        → readying.size ≤ s.limit }
+    ensures leads { let before = so_far asking.now parts.old pending.now in (s : Session)
+        → session_with_serial serial before.sessions ≡ Some s
+        → IfOk result (λ outcome. LeadsTo outcome asking.now parts.new pending.now
+        (answer_subscribed before s (Some (told_after serial readying
+        (told_at serial asking.now parts.old pending.now))))) }
+    ensures turned { OnOk result (AreTurned parts.old parts.new) }
+    ensures kept { OnErr result (AreKept parts.old parts.new) }
+{
+    parts.sessions.is_table();
+    let Readying { made, .. } = readying;
+    match make_places(parts, pending, serial, made.len()) {
+        Ok(()) => Ok(Outcome::Rename {
+            serial,
+            renamings: Many(made),
+        }),
+        Err(no_memory) => {
+            let_go(alloc, parts, pending, asking, Many(made));
+            Err(no_memory)
+        }
+    }
+}
+
+// What the session is to be told is greater than its limit: one error takes the place of all, and its
+// subscriptions are gone.
+fn overrun(
+    alloc: Global,
+    parts: &mut Parts,
+    pending: &mut Pending,
+    asking: &Asking,
+    serial: u64,
+    readying: Readying,
+) -> Result<Outcome, NoMemory>
+    requires ready { IsReady asking.now parts.old pending.old }
+    requires live { IsLive serial (left asking.now parts.old.sessions) }
+    requires readied { AreReadied serial (told_at serial asking.now parts.old pending.old)
+        parts.old readying }
+    requires over { (s : Session) → session_with_serial serial parts.old.sessions.live ≡ Some s
+        → s.limit < readying.size }
+    ensures leads { let before = so_far asking.now parts.old pending.old in (s : Session)
+        → session_with_serial serial before.sessions ≡ Some s
+        → IfOk result (λ outcome. LeadsTo outcome asking.now parts.new pending.new
+        (answer_subscribed before s (Some (told_after serial readying
+        (told_at serial asking.now parts.old pending.old))))) }
+    ensures turned { OnOk result (AreTurned parts.old parts.new) }
+    ensures kept { OnErr result (AreKept parts.old parts.new) }
+{
+    parts.sessions.is_table();
+    let Readying { made, size, .. } = readying;
+    let_go(alloc, parts, pending, asking, Many(made));
+    tell_over(alloc, parts, pending, asking, serial, size)?;
+    let answer = Answer::Reply(Reply::Subscribed);
+    Ok(Outcome::Accept { serial, answer })
+}
+
+// A session is to be told that its queue would have that size, in place of all, and its subscriptions
+// are gone.
+fn tell_over(
+    alloc: Global,
+    parts: &mut Parts,
+    pending: &mut Pending,
+    asking: &Asking,
+    serial: u64,
+    size: u128,
+) -> Result<(), NoMemory>
+    requires ready { IsReady asking.now parts.old pending.old }
+    requires live { IsLive serial (left asking.now parts.old.sessions) }
+    ensures told { OnOk result (so_far asking.now parts.new pending.new
+        ≡ alone_told serial size (so_far asking.now parts.old pending.old)) }
+    ensures ready { OnOk result (IsReady asking.now parts.new pending.new) }
+    ensures graph { parts.new.graph ≡ parts.old.graph }
+    ensures standing { parts.new.standing ≡ parts.old.standing }
+    ensures sessions { HasSameSessions parts.old.sessions parts.new.sessions }
+{
+    parts.sessions.is_table();
+    if (u64::MAX as u128) < size {
+        return Err(NoMemory);
+    }
+    tell_alone(
+        alloc,
+        &mut parts.sessions,
+        &mut pending.tellings,
+        serial,
+        size as u64,
+    )?;
+    mark_session(&parts.standing, pending, serial);
+    Ok(())
+}
+
+// The numbers are let go of that were held for subscriptions which are not to stand. It takes no memory.
+fn let_go(
+    alloc: Global,
+    parts: &mut Parts,
+    pending: &Pending,
+    asking: &Asking,
+    made: Many<Renaming>,
+)
+    requires steady { IsSteady parts.old.graph (parts.old.standing.items ++ begun_by made) }
+    requires ready { IsReady asking.now parts.old pending.now }
+    ensures steady { IsSteady parts.new.graph parts.new.standing.items }
+    ensures ready { IsReady asking.now parts.new pending.now }
+    ensures so_far { so_far asking.now parts.new pending.now
+        ≡ so_far asking.now parts.old pending.now }
+    ensures turned { AreTurned parts.old parts.new }
+    ensures kept { AreKept parts.old parts.new }
+    ensures sessions { parts.new.sessions ≡ parts.old.sessions }
+    ensures standing { parts.new.standing ≡ parts.old.standing }
+{
+    same_links_keep_subscriptions();
+    tell_view(alloc, &parts.graph);
+    release_all(&mut parts.graph, made);
+    tell_view(alloc, &parts.graph);
+}
+
+// Room for so many subscriptions, and for so many items after what is pending of a session.
+fn make_places(
+    parts: &mut Parts,
+    pending: &Pending,
+    serial: u64,
+    count: usize,
+) -> Result<(), NoMemory>
+    requires { IsLive serial parts.old.sessions.live }
+    ensures graph { parts.new.graph ≡ parts.old.graph }
+    ensures standing { parts.new.standing.items ≡ parts.old.standing.items }
+    ensures sessions { HasSameSessions parts.old.sessions parts.new.sessions }
+    ensures places { OnOk result (vec_len parts.new.standing + count
+        ≤ vec_capacity parts.new.standing) }
+    ensures room { OnOk result (count_where (get nat_cmp pending.now.tellings serial) + count
+        ≤ spare_of serial parts.new.sessions.spare) }
+{
+    parts.standing.reserve(count)?;
+    let pending_count = match pending.tellings.get(&serial) {
+        Some(telling) => count_told(telling),
+        None => 0,
+    };
+    let room = pending_count.checked_add(count as u64).ok_or(NoMemory)?;
+    parts.sessions.queue_room(serial, room)
+}
