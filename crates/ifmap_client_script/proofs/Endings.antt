@@ -1,0 +1,278 @@
+-- A script turn by turn: `Reached` holds after each line that was carried out (`begin`, `next`), and each way to end leads from it to
+-- what the script promises (`done`, `ends_with`, and `none_begun` where there was no memory to begin).
+use Rattle.std.proofs.Common.{◌≡◌, ◌⊎◌, inl, inr, refl, ap, ◌∙◌, sym, subst, ℕ, ◌+◌, ◌-◌, ◌<◌, true, false, List, [], ◌∷◌, ◌++◌, length, length-append, arith}
+use Rattle.std.specs.Prelude.{Option, Some, Err}
+use Rattle.std.proofs.KnownBytes.{Appends-nil, Consumes-nil, Consumes-trans}
+use Rattle.ifmap_client.specs.Lines.{IsLine}
+use Rattle.ifmap_client.specs.declared.lines.Line.{Line}
+use Rattle.ifmap_client_script.specs.declared.exchanges.Caller.{Caller}
+use Rattle.ifmap_client_script.specs.declared.outcomes.Outcome.{Outcome}
+use Rattle.ifmap_client_script.specs.declared.outcomes.Outcome.TheVariants as outcome
+use Rattle.ifmap_client_script.specs.declared.outcomes.Stop.{Stop}
+use Rattle.ifmap_client_script.specs.declared.outcomes.Stop.TheVariants as stop
+use Rattle.ifmap_client_script.specs.Deeds.{Deed, Does, Known, after_deed, request_in, unknowing}
+use Rattle.ifmap_client_script.specs.Ends.{ArePortsLater, Ends, IsLater, IsLaterWire, LinkFailed, Ports}
+use Rattle.ifmap_client_script.specs.Exchanges.{HasAny, HasNoReply, HasPart, IsFront, WireFailed, Wiring}
+use Rattle.ifmap_client_script.specs.Holding.{known_of}
+use Rattle.ifmap_client_script.specs.Pending.{Fetches, Pending, nothing_taken}
+use Rattle.ifmap_client_script.specs.Promises.{Cutting, Did, IsFaulty, IsLost, IsUnanswered, IsUnread, IsUnwritten, IsWhole, Posted, Promises, Takes, Wrote, known_after}
+use Rattle.ifmap_client_script.specs.Scripts.{IsBadLine, longest_script}
+use Rattle.ifmap_client_script.specs.Stops.{outcome_of}
+use Rattle.ifmap_client_script.specs.Turns.{IsAtFault, IsBeginning, IsCutShort, IsDue, IsIdle, IsLeft, IsOver, Scripting, TakesLine, Turns, TurnsOn}
+use Rattle.ifmap_client_script.proofs.Carrying.{exchanges_none}
+use Rattle.ifmap_client_script.proofs.Pieces.{rose_since}
+use Rattle.ifmap_client_script.proofs.Progress.{known_snoc}
+use Rattle.ifmap_client_script.proofs.Steps.{Fetched, cut_then, did_then, fetch, pass, posted_then, script_of, script_still}
+
+-- ---- counts that never fall
+
+later_wire : (a b c : Wiring) → IsLaterWire a b → IsLaterWire b c → IsLaterWire a c
+later_wire a b c one other =
+    let p = one.read in
+    let q = one.write in
+    let r = other.read in
+    let s = other.write in
+    record { read = omega arith; write = omega arith }
+
+later_ports : (a b c : Ports) → ArePortsLater a b → ArePortsLater b c → ArePortsLater a c
+later_ports a b c one other =
+    let p = one.write in
+    let q = other.write in
+    record {
+      write = omega arith;
+      first = later_wire a.first b.first c.first one.first other.first;
+      second = later_wire a.second b.second c.second one.second other.second;
+    }
+
+pub later_ends : (a b c : Ends) → IsLater a b → IsLater b c → IsLater a c
+later_ends a b c one other =
+    let p = one.read in
+    let q = other.read in
+    record { read = omega arith; ports = later_ports a.ports b.ports c.ports one.ports other.ports }
+
+same_wire : (a : Wiring) → IsLaterWire a a
+same_wire a = record { read = omega arith; write = omega arith }
+
+pub same_ends : (a : Ends) → IsLater a a
+same_ends a = record {
+  read = omega arith;
+  ports = record { write = omega arith; first = same_wire a.ports.first; second = same_wire a.ports.second };
+}
+
+wire_failed : (a b c : Wiring) → IsLaterWire a b → WireFailed b c → WireFailed a c
+wire_failed a b c later (inl rose) = inl (rose_since a.read_faults b.read_faults c.read_faults later.read rose)
+wire_failed a b c later (inr rose) = inr (rose_since a.write_faults b.write_faults c.write_faults later.write rose)
+
+link_failed : (a b c : Ports) → ArePortsLater a b → LinkFailed b c → LinkFailed a c
+link_failed a b c later (inl failed) = inl (wire_failed a.first b.first c.first later.first failed)
+link_failed a b c later (inr failed) = inr (wire_failed a.second b.second c.second later.second failed)
+
+-- ---- how far a script is
+
+pub record Reached (caller : Caller) (before now : Ends) (script : Scripting) : Type 0 where
+  pub deeds : List Deed
+  pub fetched : Fetched before.left now.left script.offset deeds script.pending
+  pub known : known_of script.client ≡ known_after deeds
+  pub line_is : script.line ≡ length deeds + 1
+  pub did : Did caller before.ports now.ports unknowing deeds
+  pub later : IsLater before now
+
+nothing_fetched : (left : Option (List ℕ)) → Fetched left left 0 [] nothing_taken
+nothing_fetched left =
+    record { taken = []; script = []; consumed = Consumes-nil left; script_is = refl; carried = refl; offset_is = omega arith }
+
+nothing_did : (caller : Caller) (ports : Ports) → ports.first.spent ≡ false → ports.second.spent ≡ false
+    → Did caller ports ports unknowing []
+nothing_did caller ports first second = record {
+  wrote = Appends-nil ports.held;
+  exchanged = record {
+    first = exchanges_none caller ports.first ports.first first refl;
+    second = exchanges_none caller ports.second ports.second second refl;
+  };
+}
+
+pub begin : (caller : Caller) (before : Ends) (script : Scripting) → IsBeginning script → before.ports.first.spent ≡ false
+    → before.ports.second.spent ≡ false → Reached caller before before script
+begin caller before script is first second = record {
+  deeds = [];
+  fetched = subst (λ (n : ℕ). Fetched before.left before.left n [] script.pending) (sym is.offset)
+      (subst (λ (p : Pending). Fetched before.left before.left 0 [] p) (sym is.pending) (nothing_fetched before.left));
+  known = is.known;
+  line_is = let l = is.line in omega arith;
+  did = nothing_did caller before.ports first second;
+  later = same_ends before;
+}
+
+-- nothing was begun
+pub none_begun : (caller : Caller) (before : Ends) → before.ports.first.spent ≡ false → before.ports.second.spent ≡ false
+    → Promises caller before before outcome.NoMemory
+none_begun caller before first second = inl (record {
+  deeds = [];
+  rest = [];
+  taken = [];
+  lost = [];
+  script = [];
+  consumed = Consumes-nil before.left;
+  script_is = inl refl;
+  carried = refl;
+  did = nothing_did caller before.ports first second;
+})
+
+module _ (caller : Caller) (before now after : Ends) (old : Scripting) (r : Reached caller before now old) where
+  fetched_more : (pending : Pending) → Fetches now.left after.left old.pending pending
+      → Fetched before.left after.left old.offset r.deeds pending
+  fetched_more pending more = fetch before.left now.left after.left old.offset r.deeds old.pending pending r.fetched more
+
+  passed : (line : Line) (t : TakesLine now after old line) (d : Deed) → Does (known_of old.client) line d
+      → Fetched before.left after.left (old.offset + length t.text + 1) (r.deeds ++ d ∷ [])
+      (record { bytes = t.rest; ended = t.pending.ended })
+  passed line t d does =
+      pass before.left after.left old.offset r.deeds t.pending t.text t.rest line d (fetched_more t.pending t.fetched) t.begins t.means
+      (subst (λ (k : Known). Does k line d) r.known does)
+
+  taken : (offset : ℕ) (deeds : List Deed) (pending : Pending) → Fetched before.left after.left offset deeds pending
+      → Takes before after deeds pending.bytes offset
+  taken offset deeds pending f = record {
+    taken = f.taken;
+    script = f.script;
+    consumed = f.consumed;
+    script_is = script_of pending.ended after.left f.taken f.script f.script_is;
+    carried = f.carried;
+    offset_is = f.offset_is;
+  }
+
+  did_still : after.ports ≡ now.ports → Did caller before.ports after.ports unknowing r.deeds
+  did_still kept = subst (λ (p : Ports). Did caller before.ports p unknowing r.deeds) (sym kept) r.did
+
+  -- one more line
+  pub next : (new : Scripting) → IsLater now after → TurnsOn caller now after old new → Reached caller before after new
+  next new later t =
+      let d = t.carried.deed in
+      record {
+        deeds = r.deeds ++ d ∷ [];
+        fetched = subst (λ (n : ℕ). Fetched before.left after.left n (r.deeds ++ d ∷ []) new.pending) (sym t.offset)
+            (subst
+            (λ (p : Pending). Fetched before.left after.left (old.offset + length t.takes.text + 1) (r.deeds ++ d ∷ []) p)
+            (sym t.pending) (passed t.line t.takes d t.carried.does));
+        known = t.carried.known ∙ ap (λ (k : Known). after_deed d k) r.known ∙ sym (known_snoc r.deeds d unknowing);
+        line_is = let a = t.line_is in let b = r.line_is in let c = length-append r.deeds (d ∷ []) in omega arith;
+        did = did_then caller before.ports now.ports after.ports r.deeds unknowing d r.did
+            (subst (λ (k : Known). Did caller now.ports after.ports k (d ∷ [])) r.known t.carried.did);
+        later = later_ends before now after r.later later;
+      }
+
+  -- ---- the ways to end
+
+  pub done : IsOver caller now after old → Promises caller before after outcome.Done
+  done t =
+      let f = fetched_more (record { bytes = []; ended = true }) t.fetched in
+      record {
+        deeds = r.deeds;
+        offset = old.offset;
+        takes = taken old.offset r.deeds (record { bytes = []; ended = true }) f;
+        end = f.script_is.1;
+        did = did_still t.kept;
+      }
+
+  faulty : IsAtFault caller now after old → IsFaulty caller before after old.line
+  faulty t = record {
+    deeds = r.deeds;
+    rest = t.pending.bytes;
+    offset = old.offset;
+    takes = taken old.offset r.deeds t.pending (fetched_more t.pending t.fetched);
+    fault = subst (λ (k : Known). IsBadLine old.offset k t.pending.bytes) r.known t.fault;
+    line_is = r.line_is;
+    did = did_still t.kept;
+  }
+
+  unread : IsDue caller now after old → IsUnread caller before after
+  unread t = record {
+    deeds = r.deeds;
+    rest = t.pending.bytes;
+    offset = old.offset;
+    takes = taken old.offset r.deeds t.pending (fetched_more t.pending t.fetched);
+    awaited = t.awaited;
+    did = did_still t.kept;
+  }
+
+  unwritten : IsCutShort caller now after old → IsUnwritten caller before after
+  unwritten t =
+      let d = t.cut.deed in
+      record {
+        deeds = r.deeds;
+        deed = d;
+        rest = t.takes.rest;
+        offset = old.offset + length t.takes.text + 1;
+        takes = taken (old.offset + length t.takes.text + 1) (r.deeds ++ d ∷ [])
+            (record { bytes = t.takes.rest; ended = t.takes.pending.ended }) (passed t.line t.takes d t.cut.does);
+        wrote = cut_then caller before.ports now.ports after.ports r.deeds unknowing d r.did
+            (subst (λ (k : Known). Wrote caller now.ports after.ports k [] d) r.known t.cut.wrote);
+      }
+
+  unanswered : (IsCut : Cutting) (Has : List ℕ → Type 0) → IsLeft caller now after old IsCut Has
+      → IsUnanswered caller before after IsCut Has old.line
+  unanswered IsCut Has t =
+      let u = t.unanswered in
+      record {
+        deeds = r.deeds;
+        rest = t.takes.pending.bytes;
+        offset = old.offset;
+        sent = u.sent;
+        takes = taken old.offset r.deeds t.takes.pending (fetched_more t.takes.pending t.takes.fetched);
+        next = record {
+          text = t.takes.text;
+          after = t.takes.rest;
+          request = u.request;
+          begins = t.takes.begins;
+          means = subst (λ (l : Line). IsLine t.takes.text l) u.line_is t.takes.means;
+          named = subst (λ (k : Known). request_in k.session u.request ≡ Some u.sent) r.known u.named;
+        };
+        line_is = r.line_is;
+        posted = posted_then caller before.ports now.ports after.ports r.deeds unknowing IsCut Has u.sent r.did
+            (subst (λ (k : Known). Posted caller now.ports after.ports IsCut Has k [] u.sent) r.known u.posted);
+      }
+
+  lost : IsIdle caller now after old → IsLost caller before after
+  lost t = record {
+    deeds = r.deeds;
+    rest = old.pending.bytes;
+    taken = r.fetched.taken;
+    lost = t.lost.got;
+    script = r.fetched.script;
+    consumed = Consumes-trans before.left now.left after.left r.fetched.taken t.lost.got r.fetched.consumed t.lost.consumed;
+    script_is = script_still old.pending.ended now.left after.left r.fetched.taken r.fetched.script r.fetched.script_is t.lost.idle;
+    carried = r.fetched.carried;
+    did = did_still t.kept;
+  }
+
+  no_memory : (IsIdle caller now after old ⊎ (IsLeft caller now after old IsFront HasAny ⊎ IsCutShort caller now after old))
+      → Promises caller before after outcome.NoMemory
+  no_memory (inl t) = inl (lost t)
+  no_memory (inr (inl t)) = inr (inl (old.line, unanswered IsFront HasAny t))
+  no_memory (inr (inr t)) = inr (inr (unwritten t))
+
+  ends_by : (new : Scripting) (e : Stop) → Turns caller now after old new (Err e)
+      → Promises caller before after (outcome_of e old.line)
+  ends_by new stop.BadLine t = faulty t
+  ends_by new stop.ReadFault t =
+      (unread t.0, rose_since before.read_faults now.read_faults after.read_faults r.later.read t.1)
+  ends_by new stop.WriteFault t =
+      (unwritten t.0, rose_since before.ports.write_faults now.ports.write_faults after.ports.write_faults r.later.ports.write t.1)
+  ends_by new stop.LinkFault t =
+      ((old.line, unanswered IsFront HasAny t.0), link_failed before.ports now.ports after.ports r.later.ports t.1)
+  ends_by new stop.LinkEnded t = unanswered IsWhole HasPart t
+  ends_by new stop.BadReply t = unanswered IsWhole HasNoReply t
+  ends_by new stop.NoMemory t = no_memory t
+
+  pub ends_with : (new : Scripting) (e : Stop) (line : ℕ) (told : Outcome) → told ≡ outcome_of e line → line ≡ old.line
+      → Turns caller now after old new (Err e) → Promises caller before after told
+  ends_with new e line told is same t =
+      subst (λ (o : Outcome). Promises caller before after o) (sym (is ∙ ap (λ (n : ℕ). outcome_of e n) same)) (ends_by new e t)
+
+-- the next line begins later
+pub nearer : (caller : Caller) (now after : Ends) (old new : Scripting) → TurnsOn caller now after old new
+    → longest_script + 1 - new.offset < longest_script + 1 - old.offset
+nearer caller now after old new t =
+    let a = t.takes.begins.ends in
+    let b = t.offset in
+    omega arith

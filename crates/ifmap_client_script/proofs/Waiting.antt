@@ -1,0 +1,223 @@
+-- What is pending while a line is awaited.
+use Rattle.std.proofs.Common.{◌≡◌, ◌≢◌, ◌⊎◌, inl, inr, refl, ap, ◌∙◌, sym, subst, ℕ, ◌+◌, ◌-◌, ◌<◌, ◌≤◌, Bool, true, false, List, [], ◌∷◌, ◌++◌, length, append_assoc, append-nil, length-append, arith}
+use Rattle.std.specs.Prelude.{Option, Some, None, Result, Ok, Err, if◌then◌else◌}
+use Rattle.std.specs.Io.KnownBytes.{Consumes, IsAtEnd, Keeps}
+use Rattle.std.proofs.KnownBytes.{Consumes-nil, Consumes-trans}
+use Rattle.ifmap_client.specs.Lines.{line_limit}
+use Rattle.ifmap_client_script.specs.declared.outcomes.Stop.{Stop}
+use Rattle.ifmap_client_script.specs.declared.outcomes.Stop.TheVariants as stop
+use Rattle.ifmap_client_script.specs.Pending.{Awaits, Fetches, Fills, Gathers, IsClosed, IsReady, IsTooLong, IsWaiting, Looks, Pending, closed, with_bytes}
+use Rattle.ifmap_client_script.specs.Scripts.{AwaitsLine, HasNoNewline}
+
+-- ---- looking
+
+below : (bytes : List ℕ) → bytes ≢ [] → length bytes - 1 < length bytes
+below [] some = absurd (some refl)
+below (b ∷ bytes) some = omega arith
+
+pub too_long : (offset : ℕ) (pending : Pending) → IsReady offset pending → IsClosed pending → pending.bytes ≢ []
+    → HasNoNewline pending.bytes → IsTooLong offset pending.bytes
+too_long offset pending (inl ended) shut some plain =
+    absurd (plain (length pending.bytes - 1) (below pending.bytes some) (shut ended some))
+too_long offset pending (inr over) shut some plain = record {
+  some = some;
+  size = length pending.bytes;
+  size_is = inr (refl, plain);
+  long = λ within. over (record { plain = plain; within = λ s. within });
+}
+
+-- ---- taking
+
+same_bytes : (pending : Pending) → pending ≡ with_bytes pending []
+same_bytes pending = ap (λ (b : List ℕ). record { bytes = b; ended = pending.ended }) (sym (append-nil pending.bytes))
+
+pub fetches_nothing : (left : Option (List ℕ)) (pending : Pending) → Fetches left left pending pending
+fetches_nothing left pending = record {
+  got = [];
+  consumed = Consumes-nil left;
+  idle = λ ended. (refl, refl);
+  grown = inl (same_bytes pending);
+}
+
+not_both : {P : Type 0} (b : Bool) → b ≡ true → b ≡ false → P
+not_both b shut other = let t : true ≡ false = sym shut ∙ other in cc
+
+module _ (left_old left_mid left_new : Option (List ℕ)) (old mid new : Pending) (first : Fetches left_old left_mid old mid)
+    (open_yet : mid.ended ≡ false) where
+  open_before : old.ended ≡ false
+  open_before = at first.grown
+    where
+      at : ((mid ≡ with_bytes old first.got)
+          ⊎ ((mid ≡ record { bytes = closed (old.bytes ++ first.got); ended = true }) × (old.ended ≡ false) × IsAtEnd left_mid
+          × HasNoNewline (old.bytes ++ first.got)))
+          → old.ended ≡ false
+      at (inl e) = sym (ap (λ (p : Pending). p.ended) e) ∙ open_yet
+      at (inr e) = e.1
+
+  grown_first : mid ≡ with_bytes old first.got
+  grown_first = at first.grown
+    where
+      at : ((mid ≡ with_bytes old first.got)
+          ⊎ ((mid ≡ record { bytes = closed (old.bytes ++ first.got); ended = true }) × (old.ended ≡ false) × IsAtEnd left_mid
+          × HasNoNewline (old.bytes ++ first.got)))
+          → mid ≡ with_bytes old first.got
+      at (inl e) = e
+      at (inr e) = not_both mid.ended (ap (λ (p : Pending). p.ended) e.0) open_yet
+
+  joined : (got : List ℕ) → mid.bytes ++ got ≡ old.bytes ++ (first.got ++ got)
+  joined got =
+      ap (λ (p : Pending). p.bytes ++ got) grown_first ∙ append_assoc old.bytes first.got got
+
+  pub fetches_more : Fetches left_mid left_new mid new → Fetches left_old left_new old new
+  fetches_more second = record {
+    got = first.got ++ second.got;
+    consumed = Consumes-trans left_old left_mid left_new first.got second.got first.consumed second.consumed;
+    idle = λ ended. not_both old.ended ended open_before;
+    grown = at second.grown;
+  }
+    where
+      at : ((new ≡ with_bytes mid second.got)
+          ⊎ ((new ≡ record { bytes = closed (mid.bytes ++ second.got); ended = true }) × (mid.ended ≡ false) × IsAtEnd left_new
+          × HasNoNewline (mid.bytes ++ second.got)))
+          → ((new ≡ with_bytes old (first.got ++ second.got))
+          ⊎ ((new ≡ record { bytes = closed (old.bytes ++ (first.got ++ second.got)); ended = true }) × (old.ended ≡ false)
+          × IsAtEnd left_new × HasNoNewline (old.bytes ++ (first.got ++ second.got))))
+      at (inl e) =
+          inl (e ∙ ap (λ (b : List ℕ). record { bytes = b; ended = mid.ended }) (joined second.got)
+          ∙ ap (λ (t : Bool). record { bytes = old.bytes ++ (first.got ++ second.got); ended = t }) (open_yet ∙ sym open_before))
+      at (inr e) =
+          inr (
+            e.0 ∙ ap (λ (b : List ℕ). record { bytes = closed b; ended = true }) (joined second.got),
+            open_before,
+            e.2,
+            subst HasNoNewline (joined second.got) e.3,
+          )
+
+-- ---- one read
+
+pub keeps_consumes : (old new : Option (List ℕ)) → Keeps old new → Consumes old new []
+keeps_consumes None new k = tt
+keeps_consumes (Some xs) None k = absurd k
+keeps_consumes (Some xs) (Some ys) k = sym k
+
+module _ (left_old left_new : Option (List ℕ)) (old new : Pending) (open_yet : old.ended ≡ false) where
+  pub fills_end : (got : List ℕ) → HasNoNewline old.bytes → Consumes left_old left_new got → got ≡ [] → IsAtEnd left_new
+      → new ≡ record { bytes = closed old.bytes; ended = true } → Fills left_old left_new old new (Ok tt)
+  fills_end got plain consumed none end is = (
+    record {
+      got = [];
+      consumed = subst (Consumes left_old left_new) none consumed;
+      idle = λ ended. not_both old.ended ended open_yet;
+      grown = inr (
+        is ∙ ap (λ (b : List ℕ). record { bytes = closed b; ended = true }) (sym (append-nil old.bytes)),
+        open_yet,
+        end,
+        subst HasNoNewline (sym (append-nil old.bytes)) plain,
+      );
+    },
+    inl (ap (λ (p : Pending). p.ended) is),
+  )
+
+  pub fills_more : (got : List ℕ) → Consumes left_old left_new got → 0 < length got → new ≡ with_bytes old got
+      → Fills left_old left_new old new (Ok tt)
+  fills_more got consumed some is = (
+    record {
+      got = got;
+      consumed = consumed;
+      idle = λ ended. not_both old.ended ended open_yet;
+      grown = inl is;
+    },
+    inr (subst (λ (p : Pending). length old.bytes < length p.bytes) (sym is) (longer old.bytes got some)),
+  )
+    where
+      longer : (a b : List ℕ) → 0 < length b → length a < length (a ++ b)
+      longer a b some = let l = length-append a b in omega arith
+
+-- ---- taking until a line is there
+
+-- how much more may be taken
+abbrev pub room_for : Pending → ℕ
+room_for pending = if pending.ended then 0 else (line_limit + 2 - length pending.bytes)
+
+due_short : (offset : ℕ) (bytes : List ℕ) → AwaitsLine offset bytes → length bytes ≤ line_limit
+due_short offset [] due = omega arith
+due_short offset (b ∷ bytes) due = (due.within (λ e. cc)).short
+
+pub room_shrinks : (left_old left_new : Option (List ℕ)) (offset : ℕ) (old new : Pending) → IsWaiting offset old
+    → Fills left_old left_new old new (Ok tt) → room_for new < room_for old
+room_shrinks left_old left_new offset old new waiting fills = rw waiting.open_yet (at fills.1)
+  where
+    short : length old.bytes ≤ line_limit
+    short = due_short offset old.bytes waiting.due
+
+    at : ((new.ended ≡ true) ⊎ (length old.bytes < length new.bytes)) → room_for new < line_limit + 2 - length old.bytes
+    at (inl ended) = rw ended (let s = short in omega arith)
+    at (inr longer) = by new.ended longer
+      where
+        by : (ended : Bool) → length old.bytes < length new.bytes
+            → (if ended then 0 else (line_limit + 2 - length new.bytes)) < line_limit + 2 - length old.bytes
+        by true longer = let s = short in omega arith
+        by false longer = let s = short in omega arith
+
+module _ (left_old left_mid left_new : Option (List ℕ)) (offset : ℕ) (old mid new : Pending) (first : Fetches left_old left_mid old mid)
+    (waiting : IsWaiting offset mid) where
+  pub gathers_more : Fills left_mid left_new mid new (Ok tt) → Fetches left_old left_new old new
+  gathers_more fills = fetches_more left_old left_mid left_new old mid new first waiting.open_yet fills.0
+
+  pub gathers_err : (e : Stop) → Fills left_mid left_new mid new (Err e) → Gathers left_old left_new offset old new (Err e)
+  gathers_err stop.ReadFault fills = (
+    fetches_more left_old left_mid left_new old mid new first waiting.open_yet (record {
+      got = [];
+      consumed = fills.0;
+      idle = λ ended. not_both mid.ended ended waiting.open_yet;
+      grown = inl (fills.1 ∙ same_bytes mid);
+    }),
+    subst (λ (p : Pending). AwaitsLine offset p.bytes) (sym fills.1) waiting.due,
+  )
+  gathers_err stop.NoMemory fills = record {
+    got = first.got ++ fills.0;
+    consumed = Consumes-trans left_old left_mid left_new first.got fills.0 first.consumed fills.1;
+    idle = λ ended. not_both old.ended ended (open_before left_old left_mid left_new old mid new first waiting.open_yet);
+  }
+  gathers_err stop.BadLine fills = absurd fills
+  gathers_err stop.WriteFault fills = absurd fills
+  gathers_err stop.LinkFault fills = absurd fills
+  gathers_err stop.LinkEnded fills = absurd fills
+  gathers_err stop.BadReply fills = absurd fills
+
+-- ---- a line
+
+pub awaits_err : (left_old left_new : Option (List ℕ)) (offset : ℕ) (old new : Pending) (e : Stop)
+    → Gathers left_old left_new offset old new (Err e) → Awaits left_old left_new offset old new (Err e)
+awaits_err left_old left_new offset old new stop.ReadFault g = g
+awaits_err left_old left_new offset old new stop.NoMemory g = g
+awaits_err left_old left_new offset old new stop.BadLine g = absurd g
+awaits_err left_old left_new offset old new stop.WriteFault g = absurd g
+awaits_err left_old left_new offset old new stop.LinkFault g = absurd g
+awaits_err left_old left_new offset old new stop.LinkEnded g = absurd g
+awaits_err left_old left_new offset old new stop.BadReply g = absurd g
+
+pub looked : (left_old left_new : Option (List ℕ)) (offset : ℕ) (old new : Pending) (r : Result (Option ℕ) Stop)
+    → Fetches left_old left_new old new → Looks offset new r → Awaits left_old left_new offset old new r
+looked left_old left_new offset old new (Ok (Some place)) f l = (f, l.0, l.1)
+looked left_old left_new offset old new (Ok None) f l = (f, l)
+looked left_old left_new offset old new (Err stop.BadLine) f l = (f, l)
+looked left_old left_new offset old new (Err stop.ReadFault) f l = absurd l
+looked left_old left_new offset old new (Err stop.NoMemory) f l = absurd l
+looked left_old left_new offset old new (Err stop.WriteFault) f l = absurd l
+looked left_old left_new offset old new (Err stop.LinkFault) f l = absurd l
+looked left_old left_new offset old new (Err stop.LinkEnded) f l = absurd l
+looked left_old left_new offset old new (Err stop.BadReply) f l = absurd l
+
+abbrev IsFault : Result (Option ℕ) Stop → Type 0
+IsFault r = r ≡ Err stop.ReadFault
+
+pub looks_no_fault : {P : Type 0} (offset : ℕ) (pending : Pending) (r : Result (Option ℕ) Stop) → Looks offset pending r → IsFault r → P
+looks_no_fault offset pending (Ok found) l e = cc
+looks_no_fault offset pending (Err stop.ReadFault) l e = absurd l
+looks_no_fault offset pending (Err stop.BadLine) l e = cc
+looks_no_fault offset pending (Err stop.NoMemory) l e = cc
+looks_no_fault offset pending (Err stop.WriteFault) l e = cc
+looks_no_fault offset pending (Err stop.LinkFault) l e = cc
+looks_no_fault offset pending (Err stop.LinkEnded) l e = cc
+looks_no_fault offset pending (Err stop.BadReply) l e = cc

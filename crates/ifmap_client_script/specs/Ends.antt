@@ -1,0 +1,50 @@
+-- What contracts see of a source, a sink and two wires at one moment.
+use Rattle.std.specs.Prelude.{◌≤◌, ◌⊎◌, ℕ, List, Option}
+use Rattle.ifmap_io.specs.Causes.{Rose}
+use Rattle.ifmap_client_script.specs.Exchanges.{WireFailed, Wiring}
+
+-- what the sink holds, where it is told, how often it has failed, and the two wires
+pub record Ports : Type 0 where
+  pub held : Option (List ℕ)
+  pub write_faults : ℕ
+  pub first : Wiring
+  pub second : Wiring
+
+abbrev pub ports : Option (List ℕ) → ℕ → Wiring → Wiring → Ports
+ports held write_faults first second = record { held = held; write_faults = write_faults; first = first; second = second }
+
+-- what the source has left, where it is told, how often it has failed, and what is written to
+pub record Ends : Type 0 where
+  pub left : Option (List ℕ)
+  pub read_faults : ℕ
+  pub ports : Ports
+
+abbrev pub ends : Option (List ℕ) → ℕ → Ports → Ends
+ends left read_faults ports = record { left = left; read_faults = read_faults; ports = ports }
+
+-- no count of a wire's link has fallen
+pub record IsLaterWire (before after : Wiring) : Type 0 where
+  pub read : before.read_faults ≤ after.read_faults
+  pub write : before.write_faults ≤ after.write_faults
+
+pub record ArePortsLater (before after : Ports) : Type 0 where
+  pub write : before.write_faults ≤ after.write_faults
+  pub first : IsLaterWire before.first after.first
+  pub second : IsLaterWire before.second after.second
+
+-- no count of faults has fallen
+pub record IsLater (before after : Ends) : Type 0 where
+  pub read : before.read_faults ≤ after.read_faults
+  pub ports : ArePortsLater before.ports after.ports
+
+-- a read of the script has failed
+abbrev pub ReadFailed : Ends → Ends → Type 0
+ReadFailed before after = Rose before.read_faults after.read_faults
+
+-- a write of what is printed has failed
+abbrev pub WriteFailed : Ports → Ports → Type 0
+WriteFailed before after = Rose before.write_faults after.write_faults
+
+-- a read or a write of a link has failed
+abbrev pub LinkFailed : Ports → Ports → Type 0
+LinkFailed before after = WireFailed before.first after.first ⊎ WireFailed before.second after.second

@@ -1,0 +1,178 @@
+-- What a wire does for requests that go over it, each answered before the next is sent.
+use Rattle.std.specs.Prelude.{◌≡◌, ◌⊎◌, ◌≤◌, ℕ, Bool, false, List, [], ◌∷◌, ◌++◌, take, Option, Some, IfSome, Result, Ok, Err, if◌then◌else◌}
+use Rattle.std.specs.Io.KnownBytes.{Appends, Keeps, prepend_known}
+use Rattle.std.specs.List.{flat_map}
+use Rattle.ifmap_heads.specs.Answers.{ReadsAnswer, answered, ended, not_http, status}
+use Rattle.ifmap_heads.specs.Messages.{post_bytes}
+use Rattle.ifmap_http.specs.Wires.{Wired}
+use Rattle.ifmap_io.specs.Causes.{Rose}
+use Rattle.ifmap_replies.specs.declared.replies.Reply.{Reply}
+use Rattle.ifmap_replies.specs.Means.{Means}
+use Rattle.ifmap_requests.specs.declared.requests.Request.{Request}
+use Rattle.ifmap_writing.specs.RequestElements.{request_bytes}
+use Rattle.ifmap_client_script.specs.declared.exchanges.Caller.{Caller}
+use Rattle.ifmap_client_script.specs.declared.exchanges.Told.{Told}
+use Rattle.ifmap_client_script.specs.declared.outcomes.Stop.{Stop}
+use Rattle.ifmap_client_script.specs.declared.outcomes.Stop.TheVariants as stop
+use Rattle.ifmap_client_script.specs.Deeds.{Asked, Deed, is_poll}
+use Rattle.ifmap_client_script.specs.Deeds as deed
+
+-- the post of a request
+abbrev pub request_post : Caller → Request → List ℕ
+request_post caller request = post_bytes caller.host caller.client (request_bytes request)
+
+-- the posts of what is asked, one after the other
+abbrev pub posts : Caller → List Asked → List ℕ
+posts caller asked = flat_map (λ a. request_post caller a.request) asked
+
+-- what is asked over the second wire, which is each poll, and over the first
+abbrev pub over_second : List Deed → List Asked
+over_second [] = []
+over_second (deed.passed ∷ deeds) = over_second deeds
+over_second (deed.asked a ∷ deeds) = if is_poll a.request then a ∷ over_second deeds else over_second deeds
+over_second (deed.printed name ∷ deeds) = over_second deeds
+
+abbrev pub over_first : List Deed → List Asked
+over_first [] = []
+over_first (deed.passed ∷ deeds) = over_first deeds
+over_first (deed.asked a ∷ deeds) = if is_poll a.request then over_first deeds else a ∷ over_first deeds
+over_first (deed.printed name ∷ deeds) = over_first deeds
+
+-- these bytes begin with the answers to what is asked, and go on with a rest
+abbrev pub AnswersTo : List Asked → List ℕ → List ℕ → Type 0
+AnswersTo [] left rest = left ≡ rest
+AnswersTo (a ∷ asked) left rest = (next : List ℕ) × ReadsAnswer left (answered a.body next) × AnswersTo asked next rest
+
+-- a wire at one moment: what it has left and what its link holds, each where it is told, how often its link has failed to read
+-- and to write, and whether it is spent
+pub record Wiring : Type 0 where
+  pub left : Option (List ℕ)
+  pub held : Option (List ℕ)
+  pub read_faults : ℕ
+  pub write_faults : ℕ
+  pub spent : Bool
+
+-- a wire by the four meanings of its link
+abbrev pub wiring : {L : Type 0} → (L → Option (List ℕ)) → (L → Option (List ℕ)) → (L → ℕ) → (L → ℕ) → Wired L → Wiring
+wiring left held reading writing wire = record {
+  left = prepend_known wire.taken (left wire.link);
+  held = held wire.link;
+  read_faults = reading wire.link;
+  write_faults = writing wire.link;
+  spent = wire.spent;
+}
+
+-- the wire gained the posts of what was asked, and the answers to it are no longer left
+pub record Exchanges (caller : Caller) (asked : List Asked) (before after : Wiring) : Type 0 where
+  pub posted : Appends before.held after.held (posts caller asked)
+  pub answered : IfSome before.left (λ left. (rest : List ℕ) × (after.left ≡ Some rest) × AnswersTo asked left rest)
+  pub unspent : after.spent ≡ false
+
+-- what was left begins with no reply: with no answer of HTTP, another status than 200, or a body that is none
+abbrev pub HasNoReply : List ℕ → Type 0
+HasNoReply left =
+    ReadsAnswer left not_http
+    ⊎ (((number : ℕ) × (rest : List ℕ) × ReadsAnswer left (status number rest))
+    ⊎ ((body : List ℕ) × (rest : List ℕ) × ReadsAnswer left (answered body rest)
+    × ((answer : Reply) → Means body answer → ⊥)))
+
+-- what was left ends before an answer is whole
+abbrev pub HasPart : List ℕ → Type 0
+HasPart left = ReadsAnswer left ended
+
+-- whatever was left
+abbrev pub HasAny : List ℕ → Type 0
+HasAny left = Unit {0}
+
+-- the wire gained the posts of what was asked, and then so much of a request's; the answers to what was asked were left, and then
+-- that
+pub record Breaks (caller : Caller) (asked : List Asked) (post : List ℕ) (Has : List ℕ → Type 0) (before after : Wiring) : Type 0 where
+  pub posted : Appends before.held after.held (posts caller asked ++ post)
+  pub answered : IfSome before.left (λ left. (rest : List ℕ) × AnswersTo asked left rest × Has rest)
+
+-- a read or a write of a wire's link has failed
+abbrev pub WireFailed : Wiring → Wiring → Type 0
+WireFailed before after = Rose before.read_faults after.read_faults ⊎ Rose before.write_faults after.write_faults
+
+-- a front of a post
+abbrev pub IsFront : List ℕ → List ℕ → Type 0
+IsFront post front = (n : ℕ) × (front ≡ take n post)
+
+-- what was asked and told
+abbrev pub asked_of : Request → Told → Asked
+asked_of request told = record { request = request; body = told.body; answer = told.reply }
+
+-- what a wire does for one request
+abbrev pub Asks : Caller → Request → Wiring → Wiring → Result Told Stop → Type 0
+Asks caller request before after (Ok told) = Exchanges caller (asked_of request told ∷ []) before after × Means told.body told.reply
+Asks caller request before after (Err stop.LinkFault) =
+    ((front : List ℕ) × IsFront (request_post caller request) front × Breaks caller [] front HasAny before after)
+    × WireFailed before after
+Asks caller request before after (Err stop.LinkEnded) = Breaks caller [] (request_post caller request) HasPart before after
+Asks caller request before after (Err stop.BadReply) = Breaks caller [] (request_post caller request) HasNoReply before after
+Asks caller request before after (Err stop.NoMemory) =
+    (front : List ℕ) × IsFront (request_post caller request) front × Breaks caller [] front HasAny before after
+Asks caller request before after (Err stop.BadLine) = ⊥
+Asks caller request before after (Err stop.ReadFault) = ⊥
+Asks caller request before after (Err stop.WriteFault) = ⊥
+
+-- ---- the two halves of it
+
+-- reading is as it was
+pub record Unread (before after : Wiring) : Type 0 where
+  pub left : after.left ≡ before.left
+  pub read_faults : after.read_faults ≡ before.read_faults
+  pub write_faults : before.write_faults ≤ after.write_faults
+  pub spent : after.spent ≡ before.spent
+
+-- writing is as it was
+pub record Unwritten (before after : Wiring) : Type 0 where
+  pub held : after.held ≡ before.held
+  pub read_faults : before.read_faults ≤ after.read_faults
+  pub write_faults : after.write_faults ≡ before.write_faults
+
+-- a post was written
+abbrev pub Posts : List ℕ → Wiring → Wiring → Result (Unit {0}) Stop → Type 0
+Posts post before after (Ok _) = Appends before.held after.held post
+Posts post before after (Err stop.LinkFault) =
+    ((n : ℕ) × Appends before.held after.held (take n post)) × Rose before.write_faults after.write_faults
+Posts post before after (Err stop.NoMemory) = Keeps before.held after.held
+Posts post before after (Err stop.BadLine) = ⊥
+Posts post before after (Err stop.ReadFault) = ⊥
+Posts post before after (Err stop.WriteFault) = ⊥
+Posts post before after (Err stop.LinkEnded) = ⊥
+Posts post before after (Err stop.BadReply) = ⊥
+
+-- the body of an answer was taken
+abbrev pub Receives : Wiring → Wiring → Result (List ℕ) Stop → Type 0
+Receives before after (Ok body) =
+    IfSome before.left (λ left. (rest : List ℕ) × (after.left ≡ Some rest) × ReadsAnswer left (answered body rest))
+    × (after.spent ≡ false)
+Receives before after (Err stop.LinkFault) = Rose before.read_faults after.read_faults
+Receives before after (Err stop.LinkEnded) = IfSome before.left HasPart
+Receives before after (Err stop.BadReply) = IfSome before.left HasNoReply
+Receives before after (Err stop.NoMemory) = Unit {0}
+Receives before after (Err stop.BadLine) = ⊥
+Receives before after (Err stop.ReadFault) = ⊥
+Receives before after (Err stop.WriteFault) = ⊥
+
+-- the reply that a body means, or that it means none
+abbrev pub Reads : List ℕ → Result Reply Stop → Type 0
+Reads body (Ok answer) = Means body answer
+Reads body (Err stop.BadReply) = (answer : Reply) → Means body answer → ⊥
+Reads body (Err stop.NoMemory) = Unit {0}
+Reads body (Err stop.BadLine) = ⊥
+Reads body (Err stop.ReadFault) = ⊥
+Reads body (Err stop.WriteFault) = ⊥
+Reads body (Err stop.LinkFault) = ⊥
+Reads body (Err stop.LinkEnded) = ⊥
+
+-- a body with the reply that it means
+abbrev pub Tells : List ℕ → Result Told Stop → Type 0
+Tells body (Ok told) = (told.body ≡ body) × Means told.body told.reply
+Tells body (Err e) = Reads body (Err e)
+
+-- an answer was taken
+abbrev pub Hears : Wiring → Wiring → Result Told Stop → Type 0
+Hears before after (Ok told) = Receives before after (Ok told.body) × Means told.body told.reply
+Hears before after (Err e) = Receives before after (Err e)

@@ -1,0 +1,11 @@
+-- What a script of a client does, in reading order.
+pub mod Stops
+pub mod Deeds
+pub mod Printing
+pub mod Exchanges
+pub mod Scripts
+pub mod Ends
+pub mod Promises
+pub mod Holding
+pub mod Pending
+pub mod Turns

@@ -1,0 +1,119 @@
+-- What was taken from a source and is not used yet. No clause of `run_script` cites this file.
+use Rattle.std.specs.Prelude.{◌≡◌, ◌≢◌, ◌⊎◌, ℕ, ◌-◌, ◌<◌, Bool, true, false, List, [], ◌∷◌, ◌++◌, length, slice_index, Option, Some, None, Result, Ok, Err}
+use Rattle.std.specs.Io.KnownBytes.{Consumes, IsAtEnd}
+use Rattle.ifmap_client_script.specs.declared.outcomes.Stop.{Stop}
+use Rattle.ifmap_client_script.specs.declared.outcomes.Stop.TheVariants as stop
+use Rattle.ifmap_client_script.specs.Printing.{newline}
+use Rattle.ifmap_client_script.specs.Scripts.{AwaitsLine, HasNoNewline, IsWithin}
+
+-- the bytes, and whether the source has told its end
+pub record Pending : Type 0 where
+  pub bytes : List ℕ
+  pub ended : Bool
+
+-- nothing was taken
+abbrev pub nothing_taken : Pending
+nothing_taken = record { bytes = []; ended = false }
+
+-- what is pending, and these bytes after it
+abbrev pub with_bytes : Pending → List ℕ → Pending
+with_bytes pending got = record { bytes = pending.bytes ++ got; ended = pending.ended }
+
+-- what is pending at the end of a source: a last line gets its newline
+abbrev pub closed : List ℕ → List ℕ
+closed [] = []
+closed (b ∷ bytes) = (b ∷ bytes) ++ newline ∷ []
+
+-- once a source has told its end, a newline is the last of what is pending
+abbrev pub IsClosed : Pending → Type 0
+IsClosed pending =
+    pending.ended ≡ true → pending.bytes ≢ [] → slice_index pending.bytes (length pending.bytes - 1) ≡ newline
+
+-- what was pending grew by what was taken from the source, of which nothing is taken once it has told its end; there a last line
+-- got its newline
+pub record Fetches (left_old left_new : Option (List ℕ)) (old new : Pending) : Type 0 where
+  pub got : List ℕ
+  pub consumed : Consumes left_old left_new got
+  pub idle : old.ended ≡ true → (got ≡ []) × (left_new ≡ left_old)
+  pub grown :
+      (new ≡ with_bytes old got)
+      ⊎ ((new ≡ record { bytes = closed (old.bytes ++ got); ended = true }) × (old.ended ≡ false) × IsAtEnd left_new
+      × HasNoNewline (old.bytes ++ got))
+
+-- something was taken from the source, of which nothing is taken once it has told its end
+pub record Loses (left_old left_new : Option (List ℕ)) (old : Pending) : Type 0 where
+  pub got : List ℕ
+  pub consumed : Consumes left_old left_new got
+  pub idle : old.ended ≡ true → left_new ≡ left_old
+
+-- the first newline stands at this place
+pub record IsLineEnd (bytes : List ℕ) (place : ℕ) : Type 0 where
+  pub within : place < length bytes
+  pub there : slice_index bytes place ≡ newline
+  pub first : (k : ℕ) → k < place → slice_index bytes k ≢ newline
+
+-- a line begins here that is longer than one can be, whatever comes after
+pub record IsTooLong (offset : ℕ) (bytes : List ℕ) : Type 0 where
+  pub some : bytes ≢ []
+  pub size : ℕ
+  pub size_is : IsLineEnd bytes size ⊎ ((size ≡ length bytes) × HasNoNewline bytes)
+  pub long : IsWithin offset size → ⊥
+
+-- more is to be taken for the line that begins here
+pub record IsWaiting (offset : ℕ) (pending : Pending) : Type 0 where
+  pub open_yet : pending.ended ≡ false
+  pub due : AwaitsLine offset pending.bytes
+
+-- no more is to be taken for it
+abbrev pub IsReady : ℕ → Pending → Type 0
+IsReady offset pending = (pending.ended ≡ true) ⊎ (AwaitsLine offset pending.bytes → ⊥)
+
+-- what taking for a line gives
+abbrev pub Gathers : (left_old left_new : Option (List ℕ)) (offset : ℕ) (old new : Pending) → Result (Unit {0}) Stop → Type 0
+Gathers left_old left_new offset old new (Ok _) = Fetches left_old left_new old new × IsReady offset new
+Gathers left_old left_new offset old new (Err stop.ReadFault) =
+    Fetches left_old left_new old new × AwaitsLine offset new.bytes
+Gathers left_old left_new offset old new (Err stop.NoMemory) = Loses left_old left_new old
+Gathers left_old left_new offset old new (Err stop.BadLine) = ⊥
+Gathers left_old left_new offset old new (Err stop.WriteFault) = ⊥
+Gathers left_old left_new offset old new (Err stop.LinkFault) = ⊥
+Gathers left_old left_new offset old new (Err stop.LinkEnded) = ⊥
+Gathers left_old left_new offset old new (Err stop.BadReply) = ⊥
+
+-- what looking for a line gives, for which no more is to be taken
+abbrev pub Looks : ℕ → Pending → Result (Option ℕ) Stop → Type 0
+Looks offset pending (Ok (Some place)) = IsLineEnd pending.bytes place × IsWithin offset place
+Looks offset pending (Ok None) = pending ≡ record { bytes = []; ended = true }
+Looks offset pending (Err stop.BadLine) = IsTooLong offset pending.bytes
+Looks offset pending (Err stop.ReadFault) = ⊥
+Looks offset pending (Err stop.NoMemory) = ⊥
+Looks offset pending (Err stop.WriteFault) = ⊥
+Looks offset pending (Err stop.LinkFault) = ⊥
+Looks offset pending (Err stop.LinkEnded) = ⊥
+Looks offset pending (Err stop.BadReply) = ⊥
+
+-- what waiting for a line gives
+abbrev pub Awaits : (left_old left_new : Option (List ℕ)) (offset : ℕ) (old new : Pending) → Result (Option ℕ) Stop → Type 0
+Awaits left_old left_new offset old new (Ok (Some place)) =
+    Fetches left_old left_new old new × IsLineEnd new.bytes place × IsWithin offset place
+Awaits left_old left_new offset old new (Ok None) =
+    Fetches left_old left_new old new × (new ≡ record { bytes = []; ended = true })
+Awaits left_old left_new offset old new (Err stop.BadLine) = Fetches left_old left_new old new × IsTooLong offset new.bytes
+Awaits left_old left_new offset old new (Err stop.ReadFault) = Fetches left_old left_new old new × AwaitsLine offset new.bytes
+Awaits left_old left_new offset old new (Err stop.NoMemory) = Loses left_old left_new old
+Awaits left_old left_new offset old new (Err stop.WriteFault) = ⊥
+Awaits left_old left_new offset old new (Err stop.LinkFault) = ⊥
+Awaits left_old left_new offset old new (Err stop.LinkEnded) = ⊥
+Awaits left_old left_new offset old new (Err stop.BadReply) = ⊥
+
+-- what taking more gives
+abbrev pub Fills : (left_old left_new : Option (List ℕ)) (old new : Pending) → Result (Unit {0}) Stop → Type 0
+Fills left_old left_new old new (Ok _) =
+    Fetches left_old left_new old new × ((new.ended ≡ true) ⊎ (length old.bytes < length new.bytes))
+Fills left_old left_new old new (Err stop.ReadFault) = Consumes left_old left_new [] × (new ≡ old)
+Fills left_old left_new old new (Err stop.NoMemory) = (got : List ℕ) × Consumes left_old left_new got
+Fills left_old left_new old new (Err stop.BadLine) = ⊥
+Fills left_old left_new old new (Err stop.WriteFault) = ⊥
+Fills left_old left_new old new (Err stop.LinkFault) = ⊥
+Fills left_old left_new old new (Err stop.LinkEnded) = ⊥
+Fills left_old left_new old new (Err stop.BadReply) = ⊥

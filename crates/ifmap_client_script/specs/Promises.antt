@@ -1,0 +1,155 @@
+-- What a script does to its source, its sink and its two wires, by how it ends.
+use Rattle.std.specs.Prelude.{◌≡◌, ◌⊎◌, ℕ, ◌+◌, Bool, true, false, List, [], ◌∷◌, ◌++◌, length, take, Some}
+use Rattle.std.specs.Io.KnownBytes.{Appends, Consumes, IsAtEnd}
+use Rattle.ifmap_client.specs.Lines.{IsLine}
+use Rattle.ifmap_client.specs.declared.lines.Line.TheVariants as the_line
+use Rattle.ifmap_requests.specs.declared.requests.Request.{Request}
+use Rattle.ifmap_client_script.specs.declared.exchanges.Caller.{Caller}
+use Rattle.ifmap_client_script.specs.declared.outcomes.Outcome.{Outcome}
+use Rattle.ifmap_client_script.specs.declared.outcomes.Outcome.TheVariants as outcome
+use Rattle.ifmap_client_script.specs.Deeds.{Deed, Known, after_deeds, is_poll, request_in, unknowing}
+use Rattle.ifmap_client_script.specs.Ends.{Ends, LinkFailed, Ports, ReadFailed, WriteFailed}
+use Rattle.ifmap_client_script.specs.Exchanges.{Breaks, Exchanges, HasAny, HasNoReply, HasPart, IsFront, over_first, over_second, request_post}
+use Rattle.ifmap_client_script.specs.Printing.{deed_text, written}
+use Rattle.ifmap_client_script.specs.Scripts.{AwaitsLine, BeginsLine, Carries, IsBadLine, IsScript}
+
+-- what is known after deeds from the beginning of a script on
+abbrev pub known_after : List Deed → Known
+known_after deeds = after_deeds deeds unknowing
+
+-- the request of the line that begins here is sent as this one
+pub record AsksNext (offset : ℕ) (known : Known) (bytes : List ℕ) (sent : Request) : Type 0 where
+  pub text : List ℕ
+  pub after : List ℕ
+  pub request : Request
+  pub begins : BeginsLine offset bytes text after
+  pub means : IsLine text (the_line.Request request)
+  pub named : request_in known.session request ≡ Some sent
+
+-- what a post gained of it is a front, or all of it
+abbrev pub Cutting : Type 1
+Cutting = (post front : List ℕ) → Type 0
+
+abbrev pub IsWhole : Cutting
+IsWhole post front = front ≡ post
+
+module _ (before after : Ends) where
+  -- the lines of what was taken from the source were carried out by these deeds, up to a rest, of which the first byte stands at an
+  -- offset of the script
+  pub record Takes (deeds : List Deed) (rest : List ℕ) (offset : ℕ) : Type 0 where
+    pub taken : List ℕ
+    pub script : List ℕ
+    pub consumed : Consumes before.left after.left taken
+    pub script_is : IsScript after.left taken script
+    pub carried : Carries 0 unknowing script deeds rest
+    pub offset_is : offset + length rest ≡ length script
+
+module _ (caller : Caller) (before after : Ports) where
+  -- the wires were asked what the deeds ask
+  pub record Exchanged (deeds : List Deed) : Type 0 where
+    pub first : Exchanges caller (over_first deeds) before.first after.first
+    pub second : Exchanges caller (over_second deeds) before.second after.second
+
+  -- the wires were asked what the deeds ask; the one over which the request goes gained so much of its post, and then has left
+  -- that
+  abbrev pub Broken : Bool → List Deed → List ℕ → (List ℕ → Type 0) → Type 0
+  Broken true deeds post Has =
+      Exchanges caller (over_first deeds) before.first after.first
+      × Breaks caller (over_second deeds) post Has before.second after.second
+  Broken false deeds post Has =
+      Breaks caller (over_first deeds) post Has before.first after.first
+      × Exchanges caller (over_second deeds) before.second after.second
+
+  -- the sink gained what is written for the deeds, and the wires were asked what they ask
+  pub record Did (known : Known) (deeds : List Deed) : Type 0 where
+    pub wrote : Appends before.held after.held (written known deeds)
+    pub exchanged : Exchanged deeds
+
+  -- the same, but what is written for one more deed was cut
+  pub record Wrote (known : Known) (deeds : List Deed) (deed : Deed) : Type 0 where
+    pub count : ℕ
+    pub wrote : Appends before.held after.held (written known deeds ++ take count (deed_text (after_deeds deeds known) deed))
+    pub exchanged : Exchanged (deeds ++ deed ∷ [])
+
+  -- the same, and a request was posted, but no reply came
+  pub record Posted (IsCut : Cutting) (Has : List ℕ → Type 0) (known : Known) (deeds : List Deed) (sent : Request) : Type 0 where
+    pub front : List ℕ
+    pub cut : IsCut (request_post caller sent) front
+    pub wrote : Appends before.held after.held (written known deeds)
+    pub broken : Broken (is_poll sent) deeds front Has
+
+module _ (caller : Caller) (before after : Ends) where
+  -- all lines were carried out, up to the end of the source
+  pub record IsDone : Type 0 where
+    pub deeds : List Deed
+    pub offset : ℕ
+    pub takes : Takes before after deeds [] offset
+    pub end : IsAtEnd after.left
+    pub did : Did caller before.ports after.ports unknowing deeds
+
+  -- the lines before that one were carried out, and it is none that can be
+  pub record IsFaulty (line : ℕ) : Type 0 where
+    pub deeds : List Deed
+    pub rest : List ℕ
+    pub offset : ℕ
+    pub takes : Takes before after deeds rest offset
+    pub fault : IsBadLine offset (known_after deeds) rest
+    pub line_is : line ≡ length deeds + 1
+    pub did : Did caller before.ports after.ports unknowing deeds
+
+  -- the lines that were taken were carried out, and a read was due
+  pub record IsUnread : Type 0 where
+    pub deeds : List Deed
+    pub rest : List ℕ
+    pub offset : ℕ
+    pub takes : Takes before after deeds rest offset
+    pub awaited : AwaitsLine offset rest
+    pub did : Did caller before.ports after.ports unknowing deeds
+
+  -- the lines were carried out, but what is written for the last was cut
+  pub record IsUnwritten : Type 0 where
+    pub deeds : List Deed
+    pub deed : Deed
+    pub rest : List ℕ
+    pub offset : ℕ
+    pub takes : Takes before after (deeds ++ deed ∷ []) rest offset
+    pub wrote : Wrote caller before.ports after.ports unknowing deeds deed
+
+  -- the lines before that one were carried out, and its request was posted, but no reply came
+  pub record IsUnanswered (IsCut : Cutting) (Has : List ℕ → Type 0) (line : ℕ) : Type 0 where
+    pub deeds : List Deed
+    pub rest : List ℕ
+    pub offset : ℕ
+    pub sent : Request
+    pub takes : Takes before after deeds rest offset
+    pub next : AsksNext offset (known_after deeds) rest sent
+    pub line_is : line ≡ length deeds + 1
+    pub posted : Posted caller before.ports after.ports IsCut Has unknowing deeds sent
+
+  -- a request or its answer was cut
+  abbrev pub IsUnasked : Type 0
+  IsUnasked = (line : ℕ) × IsUnanswered IsFront HasAny line
+
+  -- the lines of a front of what was taken were carried out
+  pub record IsLost : Type 0 where
+    pub deeds : List Deed
+    pub rest : List ℕ
+    pub taken : List ℕ
+    pub lost : List ℕ
+    pub script : List ℕ
+    pub consumed : Consumes before.left after.left (taken ++ lost)
+    pub script_is : IsScript after.left taken script
+    pub carried : Carries 0 unknowing script deeds rest
+    pub did : Did caller before.ports after.ports unknowing deeds
+
+-- what a script promises, by how it ends; a fault is told only where its object has counted one
+abbrev pub Promises : Caller → (before after : Ends) → Outcome → Type 0
+Promises caller before after outcome.Done = IsDone caller before after
+Promises caller before after (outcome.BadLine line) = IsFaulty caller before after line
+Promises caller before after outcome.ReadFault = IsUnread caller before after × ReadFailed before after
+Promises caller before after outcome.WriteFault = IsUnwritten caller before after × WriteFailed before.ports after.ports
+Promises caller before after outcome.LinkFault = IsUnasked caller before after × LinkFailed before.ports after.ports
+Promises caller before after (outcome.LinkEnded line) = IsUnanswered caller before after IsWhole HasPart line
+Promises caller before after (outcome.BadReply line) = IsUnanswered caller before after IsWhole HasNoReply line
+Promises caller before after outcome.NoMemory =
+    IsLost caller before after ⊎ (IsUnasked caller before after ⊎ IsUnwritten caller before after)

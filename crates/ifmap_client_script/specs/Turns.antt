@@ -1,0 +1,205 @@
+-- One turn of a script: a line is taken and carried out, or the script ends. No clause of `run_script` cites this file.
+use Rattle.std.specs.Prelude.{◌≡◌, ◌⊎◌, ℕ, ◌+◌, List, [], ◌∷◌, Bool, true, false, drop, length, take, Option, Some, None, Result, Ok, Err}
+use Rattle.ifmap_client.specs.Lines.{IsLine}
+use Rattle.ifmap_client.specs.declared.lines.Line.{Line}
+use Rattle.ifmap_client.specs.declared.lines.Line.TheVariants as the_line
+use Rattle.ifmap_requests.specs.declared.requests.Request.{Request}
+use Rattle.ifmap_client_script.specs.declared.exchanges.Caller.{Caller}
+use Rattle.ifmap_client_script.specs.declared.exchanges.Told.{Told}
+use Rattle.ifmap_client_script.specs.declared.outcomes.Stop.{Stop}
+use Rattle.ifmap_client_script.specs.declared.outcomes.Stop.TheVariants as stop
+use Rattle.ifmap_client_script.specs.declared.scripts.Next.{Next}
+use Rattle.ifmap_client_script.specs.declared.scripts.Turn.{Turn}
+use Rattle.ifmap_client_script.specs.declared.scripts.Turn.TheVariants as turn
+use Rattle.ifmap_client_script.specs.Deeds.{CanDo, Deed, Does, Known, after_deed, is_poll, request_in, unknowing}
+use Rattle.ifmap_client_script.specs.Ends.{Ends, LinkFailed, Ports, ReadFailed, WriteFailed}
+use Rattle.ifmap_client_script.specs.Exchanges.{Asks, HasAny, HasNoReply, HasPart, IsFront, Wiring}
+use Rattle.ifmap_client_script.specs.Holding.{Holding, known_of}
+use Rattle.ifmap_client_script.specs.Pending.{Fetches, IsLineEnd, Loses, Pending, nothing_taken}
+use Rattle.ifmap_client_script.specs.Promises.{Cutting, Did, IsWhole, Posted, Wrote}
+use Rattle.ifmap_client_script.specs.Scripts.{AwaitsLine, BeginsLine, IsBadLine, IsWithin}
+
+-- ---- a line
+
+module _ (caller : Caller) (line : Line) (before after : Ports) (old : Known) where
+  -- it was carried out
+  pub record Carried (new : Known) : Type 0 where
+    pub deed : Deed
+    pub does : Does old line deed
+    pub known : new ≡ after_deed deed old
+    pub did : Did caller before after old (deed ∷ [])
+
+  -- it was carried out, but what is written for it was cut
+  pub record Cut : Type 0 where
+    pub deed : Deed
+    pub does : Does old line deed
+    pub wrote : Wrote caller before after old [] deed
+
+  -- its request was posted, but no reply came
+  pub record Unanswered (IsCut : Cutting) (Has : List ℕ → Type 0) : Type 0 where
+    pub request : Request
+    pub sent : Request
+    pub line_is : line ≡ the_line.Request request
+    pub named : request_in old.session request ≡ Some sent
+    pub posted : Posted caller before after IsCut Has old [] sent
+
+-- over which wire a request went, while the other stayed as it was: a poll over the second
+abbrev pub AsksBy : Bool → Caller → Request → (first_old first_new second_old second_new : Wiring) → Result Told Stop → Type 0
+AsksBy true caller sent first_old first_new second_old second_new result =
+    (first_new ≡ first_old) × Asks caller sent second_old second_new result
+AsksBy false caller sent first_old first_new second_old second_new result =
+    (second_new ≡ second_old) × Asks caller sent first_old first_new result
+
+-- a request was sent as it is named, if it is, and there was memory
+abbrev pub AsksOver : Caller → Request → Known → (first_old first_new second_old second_new : Wiring) → Result Told Stop → Type 0
+AsksOver caller request known first_old first_new second_old second_new result =
+    ((sent : Request) × (request_in known.session request ≡ Some sent)
+    × AsksBy (is_poll sent) caller sent first_old first_new second_old second_new result)
+    ⊎ ((first_new ≡ first_old) × (second_new ≡ second_old)
+    × ((result ≡ Err stop.NoMemory) ⊎ ((request_in known.session request ≡ None) × (result ≡ Err stop.BadLine))))
+
+-- what was done for a line
+abbrev pub CarriesOut : Caller → Line → (before after : Ports) → (old new : Known) → Result (Unit {0}) Stop → Type 0
+CarriesOut caller line before after old new (Ok _) = Carried caller line before after old new
+CarriesOut caller line before after old new (Err stop.BadLine) = (CanDo old line → ⊥) × (after ≡ before)
+CarriesOut caller line before after old new (Err stop.ReadFault) = ⊥
+CarriesOut caller line before after old new (Err stop.WriteFault) = Cut caller line before after old × WriteFailed before after
+CarriesOut caller line before after old new (Err stop.LinkFault) =
+    Unanswered caller line before after old IsFront HasAny × LinkFailed before after
+CarriesOut caller line before after old new (Err stop.LinkEnded) = Unanswered caller line before after old IsWhole HasPart
+CarriesOut caller line before after old new (Err stop.BadReply) = Unanswered caller line before after old IsWhole HasNoReply
+CarriesOut caller line before after old new (Err stop.NoMemory) =
+    (after ≡ before) ⊎ (Unanswered caller line before after old IsFront HasAny ⊎ Cut caller line before after old)
+
+-- ---- a turn
+
+-- a script: what the client knows, what is pending, and the offset and the number of the next line
+pub record Scripting : Type 0 where
+  pub client : Holding
+  pub pending : Pending
+  pub offset : ℕ
+  pub line : ℕ
+
+-- nothing is known, and nothing was taken
+pub record IsBeginning (script : Scripting) : Type 0 where
+  pub known : known_of script.client ≡ unknowing
+  pub pending : script.pending ≡ nothing_taken
+  pub offset : script.offset ≡ 0
+  pub line : script.line ≡ 1
+
+-- the first line of these bytes, of which the first stands at an offset
+pub record IsNext (offset : ℕ) (bytes : List ℕ) (next : Next) : Type 0 where
+  pub end : IsLineEnd bytes next.place
+  pub within : IsWithin offset next.place
+  pub means : IsLine (take next.place bytes) next.line
+
+-- what the line of bytes is that ends at this place
+abbrev pub ReadsAt : List ℕ → ℕ → Result (Option Next) Stop → Type 0
+ReadsAt bytes place (Ok (Some next)) = (next.place ≡ place) × IsLine (take place bytes) next.line
+ReadsAt bytes place (Ok None) = ⊥
+ReadsAt bytes place (Err stop.BadLine) = (line : Line) → IsLine (take place bytes) line → ⊥
+ReadsAt bytes place (Err stop.ReadFault) = ⊥
+ReadsAt bytes place (Err stop.NoMemory) = Unit {0}
+ReadsAt bytes place (Err stop.WriteFault) = ⊥
+ReadsAt bytes place (Err stop.LinkFault) = ⊥
+ReadsAt bytes place (Err stop.LinkEnded) = ⊥
+ReadsAt bytes place (Err stop.BadReply) = ⊥
+
+-- what reading the next line gives
+abbrev pub ReadsNext : (left_old left_new : Option (List ℕ)) (offset : ℕ) (old new : Pending) → Result (Option Next) Stop → Type 0
+ReadsNext left_old left_new offset old new (Ok (Some next)) = Fetches left_old left_new old new × IsNext offset new.bytes next
+ReadsNext left_old left_new offset old new (Ok None) =
+    Fetches left_old left_new old new × (new ≡ record { bytes = []; ended = true })
+ReadsNext left_old left_new offset old new (Err stop.BadLine) =
+    Fetches left_old left_new old new × ((known : Known) → IsBadLine offset known new.bytes)
+ReadsNext left_old left_new offset old new (Err stop.ReadFault) = Fetches left_old left_new old new × AwaitsLine offset new.bytes
+ReadsNext left_old left_new offset old new (Err stop.NoMemory) = Loses left_old left_new old
+ReadsNext left_old left_new offset old new (Err stop.WriteFault) = ⊥
+ReadsNext left_old left_new offset old new (Err stop.LinkFault) = ⊥
+ReadsNext left_old left_new offset old new (Err stop.LinkEnded) = ⊥
+ReadsNext left_old left_new offset old new (Err stop.BadReply) = ⊥
+
+-- the script goes on after the line
+pub record GoesOn (next : Next) (old new : Scripting) : Type 0 where
+  pub pending : new.pending ≡ record { bytes = drop (next.place + 1) old.pending.bytes; ended = old.pending.ended }
+  pub offset : new.offset ≡ old.offset + next.place + 1
+  pub line : new.line ≡ old.line + 1
+
+-- what was done for the next line
+abbrev pub DoesNext : Caller → Next → (before after : Ports) → (old new : Scripting) → Result Turn Stop → Type 0
+DoesNext caller next before after old new (Ok turn.Carried) =
+    Carried caller next.line before after (known_of old.client) (known_of new.client) × GoesOn next old new
+DoesNext caller next before after old new (Ok turn.Ended) = ⊥
+DoesNext caller next before after old new (Err e) =
+    CarriesOut caller next.line before after (known_of old.client) (known_of new.client) (Err e) × (new.line ≡ old.line)
+
+module _ (before after : Ends) (old : Scripting) where
+  -- a line was taken
+  pub record TakesLine (line : Line) : Type 0 where
+    pub pending : Pending
+    pub fetched : Fetches before.left after.left old.pending pending
+    pub text : List ℕ
+    pub rest : List ℕ
+    pub begins : BeginsLine old.offset pending.bytes text rest
+    pub means : IsLine text line
+
+module _ (caller : Caller) (before after : Ends) (old : Scripting) where
+  -- a line was taken and carried out
+  pub record TurnsOn (new : Scripting) : Type 0 where
+    pub line : Line
+    pub takes : TakesLine before after old line
+    pub carried : Carried caller line before.ports after.ports (known_of old.client) (known_of new.client)
+    pub pending : new.pending ≡ record { bytes = takes.rest; ended = takes.pending.ended }
+    pub offset : new.offset ≡ old.offset + length takes.text + 1
+    pub line_is : new.line ≡ old.line + 1
+
+  -- nothing is pending, and the source has told its end
+  pub record IsOver : Type 0 where
+    pub fetched : Fetches before.left after.left old.pending (record { bytes = []; ended = true })
+    pub kept : after.ports ≡ before.ports
+
+  -- no line that can be carried out begins
+  pub record IsAtFault : Type 0 where
+    pub pending : Pending
+    pub fetched : Fetches before.left after.left old.pending pending
+    pub fault : IsBadLine old.offset (known_of old.client) pending.bytes
+    pub kept : after.ports ≡ before.ports
+
+  -- a read failed that was due
+  pub record IsDue : Type 0 where
+    pub pending : Pending
+    pub fetched : Fetches before.left after.left old.pending pending
+    pub awaited : AwaitsLine old.offset pending.bytes
+    pub kept : after.ports ≡ before.ports
+
+  -- what is written for a line was cut
+  pub record IsCutShort : Type 0 where
+    pub line : Line
+    pub takes : TakesLine before after old line
+    pub cut : Cut caller line before.ports after.ports (known_of old.client)
+
+  -- no reply came to the request of a line
+  pub record IsLeft (IsCut : Cutting) (Has : List ℕ → Type 0) : Type 0 where
+    pub line : Line
+    pub takes : TakesLine before after old line
+    pub unanswered : Unanswered caller line before.ports after.ports (known_of old.client) IsCut Has
+
+  -- something was taken, and nothing was done
+  pub record IsIdle : Type 0 where
+    pub lost : Loses before.left after.left old.pending
+    pub kept : after.ports ≡ before.ports
+
+-- what a turn did
+abbrev pub Turns : Caller → (before after : Ends) → (old new : Scripting) → Result Turn Stop → Type 0
+Turns caller before after old new (Ok turn.Carried) = TurnsOn caller before after old new
+Turns caller before after old new (Ok turn.Ended) = IsOver caller before after old
+Turns caller before after old new (Err stop.BadLine) = IsAtFault caller before after old
+Turns caller before after old new (Err stop.ReadFault) = IsDue caller before after old × ReadFailed before after
+Turns caller before after old new (Err stop.WriteFault) =
+    IsCutShort caller before after old × WriteFailed before.ports after.ports
+Turns caller before after old new (Err stop.LinkFault) =
+    IsLeft caller before after old IsFront HasAny × LinkFailed before.ports after.ports
+Turns caller before after old new (Err stop.LinkEnded) = IsLeft caller before after old IsWhole HasPart
+Turns caller before after old new (Err stop.BadReply) = IsLeft caller before after old IsWhole HasNoReply
+Turns caller before after old new (Err stop.NoMemory) =
+    IsIdle caller before after old ⊎ (IsLeft caller before after old IsFront HasAny ⊎ IsCutShort caller before after old)

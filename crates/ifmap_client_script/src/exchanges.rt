@@ -1,0 +1,131 @@
+//! Requests over a wire, each answered before the next is sent.
+ghost use Rattle.std.specs.Prelude.{IsFalse, IsTrue};
+ghost use Rattle.ifmap_heads.specs.Messages.{is_visible};
+ghost use Rattle.ifmap_client_script.specs.Ends.{IsLaterWire};
+ghost use Rattle.ifmap_client_script.specs.Exchanges.{Asks, Hears, Posts, Reads, Receives, Tells, Unread, Unwritten, request_post, wiring};
+
+use crate::outcomes::Stop;
+use ifmap_elem::{Many, Text};
+use ifmap_http::{Answered, Sent, Wire};
+use ifmap_io::Link;
+use ifmap_meta::ClientName;
+use ifmap_replies::{Reply, ReplyError, read_reply};
+use ifmap_requests::Request;
+use ifmap_writing::write_request;
+use std::alloc::Global;
+
+/// Who asks, and which host.
+#[derive(Drop)]
+pub struct Caller {
+    pub client: ClientName,
+    pub host: Text,
+}
+
+/// A body that came, and the reply that it means.
+#[derive(Drop)]
+pub struct Told {
+    pub body: Many<u8>,
+    pub reply: Reply,
+}
+
+/// Sends a request, and takes the answer to it.
+pub fn ask<L: Link>(
+    alloc: Global,
+    caller: &Caller,
+    request: &Request,
+    wire: &mut Wire<L>,
+) -> Result<Told, Stop>
+    requires unspent { IsFalse wire.old.spent }
+    requires visible { IsTrue (is_visible caller.now.host) }
+    ensures asks { Asks caller.now request.now
+        (wiring L.left L.held L.Source.faults L.Sink.faults wire.old)
+        (wiring L.left L.held L.Source.faults L.Sink.faults wire.new) result }
+    ensures later { IsLaterWire
+        (wiring L.left L.held L.Source.faults L.Sink.faults wire.old)
+        (wiring L.left L.held L.Source.faults L.Sink.faults wire.new) }
+{
+    match post(alloc, caller, request, wire) {
+        Ok(()) => receive(alloc, wire),
+        Err(stop) => Err(stop),
+    }
+}
+
+// Takes an answer.
+fn receive<L: Link>(alloc: Global, wire: &mut Wire<L>) -> Result<Told, Stop>
+    requires { IsFalse wire.old.spent }
+    ensures hears { Hears
+        (wiring L.left L.held L.Source.faults L.Sink.faults wire.old)
+        (wiring L.left L.held L.Source.faults L.Sink.faults wire.new) result }
+    ensures unwritten { Unwritten
+        (wiring L.left L.held L.Source.faults L.Sink.faults wire.old)
+        (wiring L.left L.held L.Source.faults L.Sink.faults wire.new) }
+{
+    match read_body(alloc, wire) {
+        Ok(body) => told_by(alloc, body),
+        Err(stop) => Err(stop),
+    }
+}
+
+// A body with the reply that it means.
+fn told_by(alloc: Global, body: Many<u8>) -> Result<Told, Stop>
+    ensures { Tells body result }
+{
+    match reply_in(alloc, &body) {
+        Ok(reply) => Ok(Told { body, reply }),
+        Err(stop) => Err(stop),
+    }
+}
+
+// Sends a request.
+fn post<L: Link>(
+    alloc: Global,
+    caller: &Caller,
+    request: &Request,
+    wire: &mut Wire<L>,
+) -> Result<(), Stop>
+    requires { IsTrue (is_visible caller.now.host) }
+    ensures posts { Posts (request_post caller.now request.now)
+        (wiring L.left L.held L.Source.faults L.Sink.faults wire.old)
+        (wiring L.left L.held L.Source.faults L.Sink.faults wire.new) result }
+    ensures unread { Unread
+        (wiring L.left L.held L.Source.faults L.Sink.faults wire.old)
+        (wiring L.left L.held L.Source.faults L.Sink.faults wire.new) }
+{
+    let body = write_request(alloc, request)?;
+    match wire.send_post(alloc, &caller.host, &caller.client, body.as_slice()) {
+        Sent::Done => Ok(()),
+        Sent::WriteFault => Err(Stop::LinkFault),
+        Sent::NoMemory => Err(Stop::NoMemory),
+    }
+}
+
+// Takes the body of an answer.
+fn read_body<L: Link>(alloc: Global, wire: &mut Wire<L>) -> Result<Many<u8>, Stop>
+    requires { IsFalse wire.old.spent }
+    ensures receives { Receives
+        (wiring L.left L.held L.Source.faults L.Sink.faults wire.old)
+        (wiring L.left L.held L.Source.faults L.Sink.faults wire.new) result }
+    ensures unwritten { Unwritten
+        (wiring L.left L.held L.Source.faults L.Sink.faults wire.old)
+        (wiring L.left L.held L.Source.faults L.Sink.faults wire.new) }
+{
+    match wire.read_answer(alloc) {
+        Answered::Body(body) => Ok(body),
+        Answered::Status(_) => Err(Stop::BadReply),
+        Answered::Ended => Err(Stop::LinkEnded),
+        Answered::NotHttp => Err(Stop::BadReply),
+        Answered::ReadFault => Err(Stop::LinkFault),
+        Answered::NoMemory => Err(Stop::NoMemory),
+    }
+}
+
+// The reply that a body means.
+fn reply_in(alloc: Global, body: &Many<u8>) -> Result<Reply, Stop>
+    ensures { Reads body.now result }
+{
+    match read_reply(alloc, body.as_slice()) {
+        Ok(reply) => Ok(reply),
+        Err(ReplyError::NotAReply) => Err(Stop::BadReply),
+        Err(ReplyError::NoMemory) => Err(Stop::NoMemory),
+    }
+}

@@ -1,0 +1,289 @@
+//! Scripts of a client, line by line.
+ghost use Rattle.std.specs.Prelude.{◌≡◌, ◌≤◌, ◌<◌, ◌+◌, length, Err, IfOk, OnErr, IsFalse, IsTrue};
+ghost use Rattle.ifmap_heads.specs.Messages.{is_visible};
+ghost use Rattle.ifmap_io.specs.Causes.{Rose};
+ghost use Rattle.ifmap_client_script.specs.Scripts.{longest_script};
+ghost use Rattle.ifmap_client_script.specs.Ends.{ArePortsLater, IsLater, ends, ports};
+ghost use Rattle.ifmap_client_script.specs.Exchanges.{wiring};
+ghost use Rattle.ifmap_client_script.specs.Promises.{Promises};
+ghost use Rattle.ifmap_client_script.specs.Turns.{DoesNext, IsBeginning, IsNext, ReadsAt, ReadsNext, Turns};
+
+use crate::clients::Client;
+use crate::exchanges::Caller;
+use crate::inputs::Input;
+use crate::outcomes::{Outcome, Stop, outcome_of};
+use ifmap_client::laws::lines_mean_one_thing;
+use ifmap_client::{Line, line_of};
+use ifmap_elem::{Copied, Text};
+use ifmap_http::Wire;
+use ifmap_io::{Link, Sink, Source};
+use ifmap_meta::ClientName;
+use std::alloc::{AllocError as NoMemory, Global};
+use std::marker::Model;
+
+/// What a turn did.
+#[derive(Clone, Copy, Debug, PartialEq, Eq)]
+pub enum Turn {
+    /// A line was carried out.
+    Carried,
+    /// There is no further line: the source is at its end.
+    Ended,
+}
+
+/// A script that is carried out: what the client knows, what is pending, and the offset and the
+/// number of the next line.
+#[derive(Drop)]
+pub struct Script {
+    client: Client,
+    input: Input,
+    offset: u64,
+    line: u64,
+}
+
+/// Carries out the lines of a script: each request is sent, a poll over the second wire and the
+/// others over the first, and its reply is written to the sink; each set that is asked for is written
+/// too.
+pub fn run_script<S: Source, K: Sink, A: Link, B: Link>(
+    alloc: Global,
+    client: &ClientName,
+    host: &Text,
+    source: &mut S,
+    sink: &mut K,
+    first: &mut Wire<A>,
+    second: &mut Wire<B>,
+) -> Outcome
+    requires visible { IsTrue (is_visible host.now) }
+    requires first { IsFalse first.old.spent }
+    requires second { IsFalse second.old.spent }
+    ensures promises { Promises (record { client = client.now; host = host.now })
+        (ends (S.left source.old) (S.faults source.old) (ports (K.held sink.old) (K.faults sink.old)
+        (wiring A.left A.held A.Source.faults A.Sink.faults first.old)
+        (wiring B.left B.held B.Source.faults B.Sink.faults second.old)))
+        (ends (S.left source.new) (S.faults source.new) (ports (K.held sink.new) (K.faults sink.new)
+        (wiring A.left A.held A.Source.faults A.Sink.faults first.new)
+        (wiring B.left B.held B.Source.faults B.Sink.faults second.new))) result }
+    ensures later { IsLater
+        (ends (S.left source.old) (S.faults source.old) (ports (K.held sink.old) (K.faults sink.old)
+        (wiring A.left A.held A.Source.faults A.Sink.faults first.old)
+        (wiring B.left B.held B.Source.faults B.Sink.faults second.old)))
+        (ends (S.left source.new) (S.faults source.new) (ports (K.held sink.new) (K.faults sink.new)
+        (wiring A.left A.held A.Source.faults A.Sink.faults first.new)
+        (wiring B.left B.held B.Source.faults B.Sink.faults second.new))) }
+{
+    let Ok(client) = client.copy(alloc) else {
+        return Outcome::NoMemory;
+    };
+    let Ok(host) = host.copy(alloc) else {
+        return Outcome::NoMemory;
+    };
+    let Ok(mut script) = Script::new(alloc) else {
+        return Outcome::NoMemory;
+    };
+    let caller = Caller { client, host };
+    script.run(alloc, &caller, source, sink, first, second)
+}
+
+impl Model for Script {
+    ghost use Rattle.std.specs.Prelude.{◌≤◌, ◌+◌};
+    ghost use Rattle.std.specs.Coded.{codes};
+    ghost use Rattle.ifmap_search.specs.contracts.results.Entry as the_entry;
+    ghost use Rattle.ifmap_client_script.specs.Scripts.{longest_script};
+    ghost use Rattle.ifmap_client_script.specs.Turns.{Scripting};
+
+    ghost Value = { Scripting };
+
+    ghost coded = { Prim.hlevel (codes, the_entry.the_row.coded) };
+
+    ghost view = { λ script. record {
+      client = script.client;
+      pending = script.input;
+      offset = script.offset;
+      line = script.line;
+    } };
+
+    ghost invariant = { λ script. (script.offset ≤ longest_script + 1)
+        × (script.line ≤ script.offset + 1) };
+}
+
+impl Script {
+    /// Nothing taken yet.
+    pub fn new(alloc: Global) -> Result<Script, NoMemory>
+        ensures { IfOk result (λ script. IsBeginning script) }
+    {
+        Ok(Script {
+            client: Client::new(alloc),
+            input: Input::new(alloc)?,
+            offset: 0,
+            line: 1,
+        })
+    }
+
+    /// Carries out lines until the script ends.
+    pub fn run<S: Source, K: Sink, A: Link, B: Link>(
+        &mut self,
+        alloc: Global,
+        caller: &Caller,
+        source: &mut S,
+        sink: &mut K,
+        first: &mut Wire<A>,
+        second: &mut Wire<B>,
+    ) -> Outcome
+        requires beginning { IsBeginning self.old }
+        requires visible { IsTrue (is_visible caller.now.host) }
+        requires first { IsFalse first.old.spent }
+        requires second { IsFalse second.old.spent }
+        ensures promises { Promises caller.now
+            (ends (S.left source.old) (S.faults source.old)
+            (ports (K.held sink.old) (K.faults sink.old)
+            (wiring A.left A.held A.Source.faults A.Sink.faults first.old)
+            (wiring B.left B.held B.Source.faults B.Sink.faults second.old)))
+            (ends (S.left source.new) (S.faults source.new)
+            (ports (K.held sink.new) (K.faults sink.new)
+            (wiring A.left A.held A.Source.faults A.Sink.faults first.new)
+            (wiring B.left B.held B.Source.faults B.Sink.faults second.new))) result }
+        ensures later { IsLater
+            (ends (S.left source.old) (S.faults source.old)
+            (ports (K.held sink.old) (K.faults sink.old)
+            (wiring A.left A.held A.Source.faults A.Sink.faults first.old)
+            (wiring B.left B.held B.Source.faults B.Sink.faults second.old)))
+            (ends (S.left source.new) (S.faults source.new)
+            (ports (K.held sink.new) (K.faults sink.new)
+            (wiring A.left A.held A.Source.faults A.Sink.faults first.new)
+            (wiring B.left B.held B.Source.faults B.Sink.faults second.new))) }
+    {
+        'lines: loop {
+            match self.turn(alloc, caller, source, sink, first, second) {
+                Ok(Turn::Carried) => {}
+                Ok(Turn::Ended) => return Outcome::Done,
+                Err(stop) => return outcome_of(stop, self.line),
+            }
+        }
+    }
+
+    /// Carries the next line out. Where the script ends, the number stays that of the line.
+    pub fn turn<S: Source, K: Sink, A: Link, B: Link>(
+        &mut self,
+        alloc: Global,
+        caller: &Caller,
+        source: &mut S,
+        sink: &mut K,
+        first: &mut Wire<A>,
+        second: &mut Wire<B>,
+    ) -> Result<Turn, Stop>
+        requires visible { IsTrue (is_visible caller.now.host) }
+        requires first { IsFalse first.old.spent }
+        requires second { IsFalse second.old.spent }
+        ensures line { OnErr result (self.new.line ≡ self.old.line) }
+        ensures turns { Turns caller.now
+            (ends (S.left source.old) (S.faults source.old)
+            (ports (K.held sink.old) (K.faults sink.old)
+            (wiring A.left A.held A.Source.faults A.Sink.faults first.old)
+            (wiring B.left B.held B.Source.faults B.Sink.faults second.old)))
+            (ends (S.left source.new) (S.faults source.new)
+            (ports (K.held sink.new) (K.faults sink.new)
+            (wiring A.left A.held A.Source.faults A.Sink.faults first.new)
+            (wiring B.left B.held B.Source.faults B.Sink.faults second.new)))
+            self.old self.new result }
+        ensures later { IsLater
+            (ends (S.left source.old) (S.faults source.old)
+            (ports (K.held sink.old) (K.faults sink.old)
+            (wiring A.left A.held A.Source.faults A.Sink.faults first.old)
+            (wiring B.left B.held B.Source.faults B.Sink.faults second.old)))
+            (ends (S.left source.new) (S.faults source.new)
+            (ports (K.held sink.new) (K.faults sink.new)
+            (wiring A.left A.held A.Source.faults A.Sink.faults first.new)
+            (wiring B.left B.held B.Source.faults B.Sink.faults second.new))) }
+    {
+        lines_mean_one_thing();
+        match next_line(alloc, &mut self.input, source, self.offset) {
+            Ok(Some(next)) => self.do_next(alloc, caller, next, sink, first, second),
+            Ok(None) => Ok(Turn::Ended),
+            Err(stop) => Err(stop),
+        }
+    }
+
+    // Carries out the line at the front of what is pending.
+    fn do_next<K: Sink, A: Link, B: Link>(
+        &mut self,
+        alloc: Global,
+        caller: &Caller,
+        next: Next,
+        sink: &mut K,
+        first: &mut Wire<A>,
+        second: &mut Wire<B>,
+    ) -> Result<Turn, Stop>
+        requires visible { IsTrue (is_visible caller.now.host) }
+        requires first { IsFalse first.old.spent }
+        requires second { IsFalse second.old.spent }
+        requires line { IsNext self.old.offset self.old.pending.bytes next }
+        ensures does { DoesNext caller.now next
+            (ports (K.held sink.old) (K.faults sink.old)
+            (wiring A.left A.held A.Source.faults A.Sink.faults first.old)
+            (wiring B.left B.held B.Source.faults B.Sink.faults second.old))
+            (ports (K.held sink.new) (K.faults sink.new)
+            (wiring A.left A.held A.Source.faults A.Sink.faults first.new)
+            (wiring B.left B.held B.Source.faults B.Sink.faults second.new))
+            self.old self.new result }
+        ensures later { ArePortsLater
+            (ports (K.held sink.old) (K.faults sink.old)
+            (wiring A.left A.held A.Source.faults A.Sink.faults first.old)
+            (wiring B.left B.held B.Source.faults B.Sink.faults second.old))
+            (ports (K.held sink.new) (K.faults sink.new)
+            (wiring A.left A.held A.Source.faults A.Sink.faults first.new)
+            (wiring B.left B.held B.Source.faults B.Sink.faults second.new)) }
+    {
+        let Next { place, line } = next;
+        match self
+            .client
+            .do_line(alloc, caller, line, sink, first, second)
+        {
+            Ok(()) => {
+                self.input.advance(place + 1);
+                self.offset += place as u64 + 1;
+                self.line += 1;
+                Ok(Turn::Carried)
+            }
+            Err(stop) => Err(stop),
+        }
+    }
+}
+
+// A line at the front of what is pending: where its newline stands, and what it means.
+#[derive(Drop)]
+pub(crate) struct Next {
+    pub(crate) place: usize,
+    pub(crate) line: Line,
+}
+
+// Waits for the next line, which begins at that offset, and reads it; `None` at the source's end.
+#[tactic(auto, using(crate::proofs::Beginnings::reads_line, crate::proofs::Beginnings::reads_err, crate::proofs::Beginnings::reads_no_fault))]
+fn next_line<S: Source>(
+    alloc: Global,
+    input: &mut Input,
+    source: &mut S,
+    offset: u64,
+) -> Result<Option<Next>, Stop>
+    requires { offset ≤ longest_script + 1 }
+    ensures reads { ReadsNext (S.left source.old) (S.left source.new) offset input.old input.new
+        result }
+    ensures fault { result ≡ Err Stop.ReadFault → Rose (S.faults source.old) (S.faults source.new) }
+    ensures later { S.faults source.old ≤ S.faults source.new }
+{
+    match input.await_line(source, offset) {
+        Ok(Some(place)) => next_at(alloc, input.pending(), place),
+        Ok(None) => Ok(None),
+        Err(stop) => Err(stop),
+    }
+}
+
+// The line whose newline stands at that place.
+fn next_at(alloc: Global, pending: &[u8], place: usize) -> Result<Option<Next>, Stop>
+    requires { place < length pending.now }
+    ensures { ReadsAt pending.now place result }
+{
+    match line_of(alloc, &pending[..place]) {
+        Ok(Some(line)) => Ok(Some(Next { place, line })),
+        Ok(None) => Err(Stop::BadLine),
+        Err(_) => Err(Stop::NoMemory),
+    }
+}

@@ -1,0 +1,69 @@
+//! Writing to a sink.
+ghost use Rattle.std.specs.Prelude.{◌≤◌, ◌++◌, []};
+ghost use Rattle.ifmap_client_script.specs.Stops.{Sends, Writes};
+ghost use Rattle.ifmap_client_script.specs.Printing.{body_text};
+
+use crate::outcomes::Stop;
+use ifmap_elem::Many;
+use ifmap_io::Sink;
+use std::alloc::Global;
+
+/// Writes bytes, and hands them on.
+pub fn send<K: Sink>(sink: &mut K, bytes: &[u8]) -> Result<(), Stop>
+    ensures bytes { Writes (K.held sink.old) (K.held sink.new) (K.faults sink.old)
+        (K.faults sink.new) bytes.now result }
+    ensures later { K.faults sink.old ≤ K.faults sink.new }
+{
+    match write(sink, bytes) {
+        Ok(()) => hand_on(sink),
+        Err(stop) => Err(stop),
+    }
+}
+
+/// Writes `=`, the length of a body, a newline and the body, and hands them on.
+pub fn send_body<K: Sink>(alloc: Global, sink: &mut K, body: &Many<u8>) -> Result<(), Stop>
+    ensures bytes { Sends (K.held sink.old) (K.held sink.new) (K.faults sink.old)
+        (K.faults sink.new) (body_text body.now) result }
+    ensures later { K.faults sink.old ≤ K.faults sink.new }
+{
+    let length = body.len();
+    let Ok(line) = format!(in alloc; "={length}\n") else {
+        return Err(Stop::NoMemory);
+    };
+    send_both(sink, line.as_bytes(), body.as_slice())
+}
+
+// Writes two texts one after the other, and hands them on.
+fn send_both<K: Sink>(sink: &mut K, line: &[u8], body: &[u8]) -> Result<(), Stop>
+    ensures bytes { Writes (K.held sink.old) (K.held sink.new) (K.faults sink.old)
+        (K.faults sink.new) (line.now ++ body.now) result }
+    ensures later { K.faults sink.old ≤ K.faults sink.new }
+{
+    match write(sink, line) {
+        Ok(()) => send(sink, body),
+        Err(stop) => Err(stop),
+    }
+}
+
+fn write<K: Sink>(sink: &mut K, bytes: &[u8]) -> Result<(), Stop>
+    ensures bytes { Writes (K.held sink.old) (K.held sink.new) (K.faults sink.old)
+        (K.faults sink.new) bytes.now result }
+    ensures later { K.faults sink.old ≤ K.faults sink.new }
+{
+    if sink.write_all(bytes).is_err() {
+        return Err(Stop::WriteFault);
+    }
+    Ok(())
+}
+
+#[tactic(auto, using(crate::proofs::Pieces::keeps_appends, crate::proofs::Pieces::keeps_front))]
+fn hand_on<K: Sink>(sink: &mut K) -> Result<(), Stop>
+    ensures bytes { Writes (K.held sink.old) (K.held sink.new) (K.faults sink.old)
+        (K.faults sink.new) [] result }
+    ensures later { K.faults sink.old ≤ K.faults sink.new }
+{
+    if sink.flush().is_err() {
+        return Err(Stop::WriteFault);
+    }
+    Ok(())
+}
