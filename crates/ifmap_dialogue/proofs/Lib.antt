@@ -1,0 +1,6 @@
+pub mod Telling
+pub mod Turning
+pub mod Coming
+pub mod Writing
+pub mod Answering
+pub mod Connecting

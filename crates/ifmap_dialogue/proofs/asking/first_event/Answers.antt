@@ -1,0 +1,5 @@
+use Rattle.std.proofs.Common.{refl}
+use Rattle.ifmap_dialogue.proofs.asking.first_event.Goals as goal
+
+pub returns : goal.returns
+returns g c = (c.now.result, c.now.ensures, refl)

@@ -1,0 +1,64 @@
+use Rattle.std.proofs.Common.{◌≤◌, length, refl, sym, subst, ◌∙◌}
+use Rattle.ifmap_heads.specs.Limits.{longest_post}
+use Rattle.ifmap_http.specs.declared.wires.Post.{Post}
+use Rattle.ifmap_dialogue.proofs.Connecting.{goes_on_by, has_read, more_if_none, post_not, refusal_ends, round_ended, round_posted, round_refused, round_truncated, round_unread, round_wanting}
+use Rattle.ifmap_dialogue.proofs.rounds.serve_round.Goals as goal
+
+pub returns-in-Posted-clause-serves : goal.returns-in-Posted-clause-serves
+returns-in-Posted-clause-serves g c =
+    round_posted _ _ _ _ _ _ _ _ _ c.in-Posted.post c.last_by-post.result c.answer_post.result
+    (has_read g.L.Source.left g.L.Sink.held g.L.Source.faults g.L.Sink.faults g.L.Source.outgoing g.met.L.Link.outgoing_is c.args.wire.now
+    c.read_post.new.self c.read_post.ensures.apart c.read_post.ensures.later)
+    c.in-Posted.ensures.reads c.last_by-post.ensures c.answer_post.ensures (post_not _ _ _ _ _ c.answer_post.ensures)
+
+pub returns-in-Posted-clause-more : goal.returns-in-Posted-clause-more
+returns-in-Posted-clause-more g c =
+    more_if_none c.answer_post.result _
+    (λ e.
+    let (other, same) = goes_on_by _ _ _ _ c.in-Posted.post c.last_by-post.result _ c.last_by-post.ensures c.answer_post.ensures e in
+    (same ∙ c.in-Posted.ensures.spent, other))
+
+pub returns-in-Status-clause-serves : goal.returns-in-Status-clause-serves
+returns-in-Status-clause-serves g c =
+    let (output, writes, gained) = c.send_bare-sent.ensures.writes in
+    round_refused _ _ _ _ _ _ _
+    (has_read g.L.Source.left g.L.Sink.held g.L.Source.faults g.L.Sink.faults g.L.Source.outgoing g.met.L.Link.outgoing_is c.args.wire.now
+    c.read_post.new.self c.read_post.ensures.apart c.read_post.ensures.later)
+    c.in-Status.status c.send_bare-sent.result _ output c.in-Status.ensures.reads writes gained c.send_bare-sent.ensures.fault
+    c.next_after.ensures
+
+pub returns-in-Status-clause-more : goal.returns-in-Status-clause-more
+returns-in-Status-clause-more g c = refusal_ends c.send_bare-sent.result _ _ _ c.next_after.ensures
+
+pub returns-in-NoMemory-clause-serves : goal.returns-in-NoMemory-clause-serves
+returns-in-NoMemory-clause-serves g c =
+    let (output, given, gained) = c.give_up.ensures in
+    round_wanting _ _ _ _ _ _ _
+    (has_read g.L.Source.left g.L.Sink.held g.L.Source.faults g.L.Sink.faults g.L.Source.outgoing g.met.L.Link.outgoing_is c.args.wire.now
+    c.read_post.new.self c.read_post.ensures.apart c.read_post.ensures.later)
+    output c.in-NoMemory.ensures.reads given gained
+
+pub returns-in-ReadFault-clause-serves : goal.returns-in-ReadFault-clause-serves
+returns-in-ReadFault-clause-serves g c =
+    round_unread _ _ _ _ _ _
+    (has_read g.L.Source.left g.L.Sink.held g.L.Source.faults g.L.Sink.faults g.L.Source.outgoing g.met.L.Link.outgoing_is c.args.wire.now
+    c.read_post.new.self c.read_post.ensures.apart c.read_post.ensures.later)
+    c.in-ReadFault.ensures.reads (c.in-ReadFault.ensures.fault refl)
+
+pub returns-in-Ended-clause-serves : goal.returns-in-Ended-clause-serves
+returns-in-Ended-clause-serves g c =
+    round_ended _ _ _ _ _ _
+    (has_read g.L.Source.left g.L.Sink.held g.L.Source.faults g.L.Sink.faults g.L.Source.outgoing g.met.L.Link.outgoing_is c.args.wire.now
+    c.read_post.new.self c.read_post.ensures.apart c.read_post.ensures.later)
+    c.in-Ended.ensures.reads
+
+pub returns-in-Truncated-clause-serves : goal.returns-in-Truncated-clause-serves
+returns-in-Truncated-clause-serves g c =
+    round_truncated _ _ _ _ _ _
+    (has_read g.L.Source.left g.L.Sink.held g.L.Source.faults g.L.Sink.faults g.L.Source.outgoing g.met.L.Link.outgoing_is c.args.wire.now
+    c.read_post.new.self c.read_post.ensures.apart c.read_post.ensures.later)
+    c.in-Truncated.ensures.reads
+
+pub answer_post-requires : goal.answer_post-requires
+answer_post-requires g c =
+    record { short = subst (λ (p : Post). length p.body ≤ longest_post) (sym c.last_by-post.ensures) c.in-Posted.ensures.answerable }

@@ -1,0 +1,43 @@
+use Rattle.ifmap_heads.specs.Messages.{answer_bytes}
+use Rattle.ifmap_dialogue.proofs.Writing.{rest_of, same_source, written}
+use Rattle.ifmap_dialogue.proofs.sending.write.Goals as goal
+
+pub returns-then-eq-clause-writes : goal.returns-then-eq-clause-writes
+returns-then-eq-clause-writes g c =
+    let before = c.args.wire.now in
+    let after = c.write_answer-sent.new.self in
+    let (output, once, gained) =
+    written (g.L.Sink.held before.link) (g.L.Sink.held after.link) c.write_answer-sent.result
+    (answer_bytes c.args.status c.args.body.now c.args.close) c.write_answer-sent.ensures.sends in
+    let (left, reading) =
+    same_source g.L.Source.left g.L.Source.faults g.L.Sink.incoming g.met.L.Link.incoming_is before.link after.link
+    c.write_answer-sent.ensures.apart in (
+      output,
+      once,
+      record {
+        gained = gained;
+        rest = rest_of g.L.Source.left g.L.Sink.held g.L.Source.faults g.L.Sink.faults before after
+            c.write_answer-sent.ensures.rest left reading;
+        later = c.write_answer-sent.ensures.later;
+      },
+    )
+
+pub returns-else-eq-clause-writes : goal.returns-else-eq-clause-writes
+returns-else-eq-clause-writes g c =
+    let before = c.args.wire.now in
+    let after = c.write_answer-sent.new.self in
+    let (output, once, gained) =
+    written (g.L.Sink.held before.link) (g.L.Sink.held after.link) c.write_answer-sent.result
+    (answer_bytes c.args.status c.args.body.now c.args.close) c.write_answer-sent.ensures.sends in
+    let (left, reading) =
+    same_source g.L.Source.left g.L.Source.faults g.L.Sink.incoming g.met.L.Link.incoming_is before.link after.link
+    c.write_answer-sent.ensures.apart in (
+      output,
+      once,
+      record {
+        gained = gained;
+        rest = rest_of g.L.Source.left g.L.Sink.held g.L.Source.faults g.L.Sink.faults before after
+            c.write_answer-sent.ensures.rest left reading;
+        later = c.write_answer-sent.ensures.later;
+      },
+    )

@@ -1,0 +1,9 @@
+pub mod Desks
+pub mod Turns
+pub mod Words
+pub mod Findings
+pub mod Wires
+pub mod Answers
+pub mod Rounds
+pub mod Scenes
+pub mod Dialogue

@@ -1,0 +1,52 @@
+-- What writing an answer does to a wire.
+use Rattle.std.specs.Prelude.{◌≡◌, ℕ, ◌≤◌, Bool, true, List, [], take, Option}
+use Rattle.std.specs.Io.KnownBytes.{Appends, prepend_known}
+use Rattle.ifmap_heads.specs.Messages.{answer_bytes}
+use Rattle.ifmap_http.specs.declared.wires.Sent.{Sent}
+use Rattle.ifmap_http.specs.declared.wires.Sent.TheVariants as sent
+use Rattle.ifmap_http.specs.Wires.{Wired}
+
+-- a wire over a link: what it has left and what its link holds, where these are told, the counts of faults, and whether it is spent
+pub record WireSeen : Type 0 where
+  pub left : Option (List ℕ)
+  pub held : Option (List ℕ)
+  pub read_faults : ℕ
+  pub write_faults : ℕ
+  pub spent : Bool
+
+-- a wire by the meanings of its link
+abbrev pub wire_seen : {L : Type 0} → (L → Option (List ℕ)) → (L → Option (List ℕ)) → (L → ℕ) → (L → ℕ) → Wired L → WireSeen
+wire_seen left held reading writing wire = record {
+  left = prepend_known wire.taken (left wire.link);
+  held = held wire.link;
+  read_faults = reading wire.link;
+  write_faults = writing wire.link;
+  spent = wire.spent;
+}
+
+-- a whole answer that has no body
+abbrev pub bare_answer : ℕ → List ℕ
+bare_answer status = answer_bytes status [] true
+
+-- what comes of writing an answer once: all of it, or a prefix of it where writing failed, or nothing where memory was wanting
+abbrev pub WritesOnce : List ℕ → Sent → List ℕ → Type 0
+WritesOnce answer sent.Done output = output ≡ answer
+WritesOnce answer sent.WriteFault output = (n : ℕ) × (output ≡ take n answer)
+WritesOnce answer sent.NoMemory output = output ≡ []
+
+-- want of memory was answered, as far as could be
+abbrev pub IsGivenUp : List ℕ → Type 0
+IsGivenUp output = (n : ℕ) × (output ≡ take n (bare_answer 503))
+
+-- what comes of writing an answer: all of it, or a prefix of it where writing failed; where memory was wanting none of it, and that is
+-- answered as far as can be
+abbrev pub Writes : List ℕ → Sent → List ℕ → Type 0
+Writes answer sent.Done output = output ≡ answer
+Writes answer sent.WriteFault output = (n : ℕ) × (output ≡ take n answer)
+Writes answer sent.NoMemory output = IsGivenUp output
+
+-- the link gained these bytes, and nothing was read
+pub record GainsBytes (before after : WireSeen) (output : List ℕ) : Type 0 where
+  pub gained : Appends before.held after.held output
+  pub rest : after ≡ record before { held = after.held; write_faults = after.write_faults }
+  pub later : before.write_faults ≤ after.write_faults

@@ -1,0 +1,293 @@
+//! Asking what posts mean.
+ghost use Rattle.std.specs.Prelude.{◌≡◌, ◌≢◌, ◌≤◌, ◌∷◌, ℕ, List, false, IfOk, OnErr, []};
+ghost use Rattle.ifmap_elem.specs.Chars.{IsCharacters};
+ghost use Rattle.ifmap_heads.specs.Limits.{longest_post};
+ghost use Rattle.ifmap_requests.specs.Fit.{IsFitRequest};
+ghost use Rattle.ifmap_requests.specs.declared.requests.Request.TheVariants.{Poll as Polling};
+ghost use Rattle.ifmap_dialogue.specs.Answers.{ending_heard};
+ghost use Rattle.ifmap_dialogue.specs.Desks.{Tells, Turn, desk_seen, heaviest, outcome_of, weight};
+ghost use Rattle.ifmap_dialogue.specs.Findings.{FindsQuestion, FindsRequest, finding_of};
+ghost use Rattle.ifmap_dialogue.specs.Turns.{AsksLost, IsFirst, event_of, question_of};
+ghost use Rattle.ifmap_dialogue.specs.Words.{after_random, random_word};
+
+use crate::desks::{BEFORE_ASK, Desk, Gate, Outcome};
+use crate::endings::Ending;
+use crate::findings::Finding;
+use crate::polls::Poll;
+use crate::settings::Setting;
+use crate::words::draw_word;
+use ifmap_elem::{Copied, Text};
+use ifmap_hall::Asked;
+use ifmap_io::Clock;
+use ifmap_machine::{Answer, Ask, Event};
+use ifmap_meta::ClientName;
+use ifmap_replies::Reply;
+use ifmap_requests::Request;
+use rand_chacha::ChaCha20Rng;
+use std::alloc::AllocError as NoMemory;
+
+// Who asks, and in how many bytes.
+#[derive(Drop)]
+pub struct Asker {
+    pub client: ClientName,
+    pub bytes: u32,
+}
+
+/// How often the request of one post is asked.
+pub const MOST_TURNS: u32 = 36_000;
+
+// Asks one event at the desk.
+pub(crate) fn take_turn<K: Desk, G: Gate>(desk: &mut K, gate: &mut G, event: Event) -> Outcome
+    requires light { weight event ≤ heaviest }
+    ensures { (turn : Turn) × (turn.event ≡ event) × (result ≡ outcome_of turn.asked)
+        × Tells (desk_seen K.said K.held K.spent K.home K.loan desk.old)
+        (desk_seen K.said K.held K.spent K.home K.loan desk.new) (turn ∷ []) }
+{
+    gate.pass(BEFORE_ASK);
+    outcome_of(desk.ask(event))
+}
+
+// How a turn with this answer went.
+fn outcome_of(asked: Asked<Event, Answer>) -> Outcome
+    ensures { result ≡ outcome_of asked }
+{
+    match asked {
+        Asked::Done { reply, .. } => match reply {
+            Answer::Reply(reply) => Outcome::Replied(reply),
+            Answer::Held => Outcome::Held,
+            Answer::Heard => Outcome::Heard,
+        },
+        Asked::Held { .. } => Outcome::Held,
+        Asked::Spent { entries, .. } => Outcome::Spent { entries },
+        Asked::NoMemory { .. } => Outcome::NoMemory,
+    }
+}
+
+// Asks a request of a client.
+pub(crate) fn ask_request<K: Desk, C: Clock, G: Gate>(
+    setting: &Setting<'_, C>,
+    desk: &mut K,
+    words: &mut ChaCha20Rng,
+    gate: &mut G,
+    asker: Asker,
+    request: Request,
+) -> Finding
+    requires fit { IsFitRequest request }
+    requires short { asker.bytes ≤ longest_post }
+    ensures { FindsRequest (C.gives setting.now.clock.now)
+        (desk_seen K.said K.held K.spent K.home K.loan desk.old)
+        (desk_seen K.said K.held K.spent K.home K.loan desk.new)
+        (record {
+          client = asker.client;
+          bytes = asker.bytes;
+          request = request;
+          words = words.old;
+          after = words.new;
+        }) result }
+{
+    match request {
+        Request::Poll { session } => ask_poll(setting, desk, words, gate, asker, session),
+        other => ask_once(setting, desk, words, gate, asker, other),
+    }
+}
+
+// The event by which a request is asked first.
+fn first_event<C: Clock>(
+    setting: &Setting<'_, C>,
+    client: ClientName,
+    random: u128,
+    bytes: u32,
+    request: Request,
+) -> Event
+    requires { IsFitRequest request }
+    ensures { (moment : ℕ) × C.gives setting.now.clock.now moment
+        × (result ≡ event_of (record {
+          client = client;
+          request = request;
+          bytes = bytes;
+          random = random;
+        }) false moment) }
+{
+    Event {
+        moment: setting.clock.now(),
+        client,
+        random,
+        again: false,
+        bytes,
+        ask: Ask::Request(request),
+    }
+}
+
+// Asks a request that is no poll, which no desk holds.
+fn ask_once<K: Desk, C: Clock, G: Gate>(
+    setting: &Setting<'_, C>,
+    desk: &mut K,
+    words: &mut ChaCha20Rng,
+    gate: &mut G,
+    asker: Asker,
+    request: Request,
+) -> Finding
+    requires fit { IsFitRequest request }
+    requires short { asker.bytes ≤ longest_post }
+    requires other { (session : List ℕ) → request ≢ Polling session }
+    ensures { FindsRequest (C.gives setting.now.clock.now)
+        (desk_seen K.said K.held K.spent K.home K.loan desk.old)
+        (desk_seen K.said K.held K.spent K.home K.loan desk.new)
+        (record {
+          client = asker.client;
+          bytes = asker.bytes;
+          request = request;
+          words = words.old;
+          after = words.new;
+        }) result }
+{
+    let Asker { client, bytes } = asker;
+    let random = draw_word(words);
+    let event = first_event(setting, client, random, bytes, request);
+    match take_turn(desk, gate, event) {
+        Outcome::Replied(reply) => Finding::Replied(reply),
+        Outcome::Spent { entries } => Finding::Spent { entries },
+        Outcome::NoMemory => Finding::NoMemory,
+        Outcome::Held => unreachable!(),
+        Outcome::Heard => unreachable!(),
+    }
+}
+
+// Asks a poll until it is not held.
+fn ask_poll<K: Desk, C: Clock, G: Gate>(
+    setting: &Setting<'_, C>,
+    desk: &mut K,
+    words: &mut ChaCha20Rng,
+    gate: &mut G,
+    asker: Asker,
+    session: Text,
+) -> Finding
+    requires fit { IsCharacters session }
+    requires short { asker.bytes ≤ longest_post }
+    ensures { FindsRequest (C.gives setting.now.clock.now)
+        (desk_seen K.said K.held K.spent K.home K.loan desk.old)
+        (desk_seen K.said K.held K.spent K.home K.loan desk.new)
+        (record {
+          client = asker.client;
+          bytes = asker.bytes;
+          request = Polling session;
+          words = words.old;
+          after = words.new;
+        }) result }
+{
+    match begin_poll(setting, words, asker, session) {
+        Ok((poll, event)) => await_reply(setting, desk, gate, poll, event),
+        Err(_) => Finding::NoMemory,
+    }
+}
+
+// A poll, and its first event. No word is taken where memory is wanting.
+fn begin_poll<C: Clock>(
+    setting: &Setting<'_, C>,
+    words: &mut ChaCha20Rng,
+    asker: Asker,
+    session: Text,
+) -> Result<(Poll, Event), NoMemory>
+    requires fit { IsCharacters session }
+    ensures poll { IfOk result (λ made. made.0 ≡ record {
+      client = asker.client;
+      session = session;
+      random = random_word words.old;
+      bytes = asker.bytes;
+    }) }
+    ensures event { IfOk result (λ made. IsFirst (C.gives setting.now.clock.now) made.0 made.1) }
+    ensures drawn { IfOk result (λ _. words.new ≡ after_random words.old) }
+    ensures none { OnErr result (words.new ≡ words.old) }
+{
+    let Asker { client, bytes } = asker;
+    let named = client.copy(setting.alloc)?;
+    let copied = session.copy(setting.alloc)?;
+    let request = Request::Poll { session: copied };
+    let random = draw_word(words);
+    let event = first_event(setting, named, random, bytes, request);
+    let poll = Poll {
+        client,
+        session,
+        random,
+        bytes,
+    };
+    Ok((poll, event))
+}
+
+// Asks a poll by its first event, and again while it is held.
+fn await_reply<K: Desk, C: Clock, G: Gate>(
+    setting: &Setting<'_, C>,
+    desk: &mut K,
+    gate: &mut G,
+    poll: Poll,
+    first: Event,
+) -> Finding
+    requires fit { IsCharacters poll.session }
+    requires short { poll.bytes ≤ longest_post }
+    requires first { IsFirst (C.gives setting.now.clock.now) poll first }
+    ensures { FindsQuestion (C.gives setting.now.clock.now)
+        (desk_seen K.said K.held K.spent K.home K.loan desk.old)
+        (desk_seen K.said K.held K.spent K.home K.loan desk.new) (question_of poll) result }
+{
+    let mut event = first;
+    let mut turns = 0;
+    'turns: loop {
+        match take_turn(desk, gate, event) {
+            Outcome::Replied(reply) => return finding_of(reply, poll),
+            Outcome::Spent { entries } => return Finding::Spent { entries },
+            Outcome::NoMemory => return Finding::NoMemory,
+            Outcome::Held => {}
+            Outcome::Heard => unreachable!(),
+        }
+        turns += 1;
+        if turns == MOST_TURNS {
+            return Finding::HeldOut { turns };
+        }
+        setting.clock.pause();
+        match poll.repeated_event(setting) {
+            Ok(again) => event = again,
+            Err(_) => return Finding::NoMemory,
+        }
+    }
+}
+
+// What came of a poll with this reply.
+fn finding_of(reply: Reply, poll: Poll) -> Finding
+    ensures { result ≡ finding_of reply poll }
+{
+    match reply {
+        Reply::Polled(items) => Finding::Told(Reply::Polled(items), poll),
+        other => Finding::Replied(other),
+    }
+}
+
+// Tells the desk that the answer to a poll was lost, and answers how the connection ends: as is due,
+// where the desk has heard it.
+pub(crate) fn tell_lost<K: Desk, C: Clock, G: Gate>(
+    setting: &Setting<'_, C>,
+    desk: &mut K,
+    gate: &mut G,
+    poll: Poll,
+    due: Ending,
+) -> Ending
+    requires fit { IsCharacters poll.session }
+    ensures { (turn : Turn) × AsksLost (C.gives setting.now.clock.now) poll turn
+        × Tells (desk_seen K.said K.held K.spent K.home K.loan desk.old)
+        (desk_seen K.said K.held K.spent K.home K.loan desk.new) (turn ∷ [])
+        × (result ≡ ending_heard due (outcome_of turn.asked)) }
+{
+    ending_heard(due, take_turn(desk, gate, poll.lost_event(setting)))
+}
+
+// How the connection ends where the desk was told so: as is due, where it has heard it.
+fn ending_heard(due: Ending, outcome: Outcome) -> Ending
+    ensures { result ≡ ending_heard due outcome }
+{
+    match outcome {
+        Outcome::Spent { entries } => Ending::Unheard { entries },
+        Outcome::NoMemory => Ending::NoMemory,
+        Outcome::Replied(_) => due,
+        Outcome::Heard => due,
+        Outcome::Held => due,
+    }
+}

@@ -1,0 +1,169 @@
+//! Rounds: a post is read and answered.
+ghost use Rattle.std.specs.Prelude.{◌≡◌, ◌≢◌, ◌≤◌, ℕ, IsFalse, IfNone, List, length};
+ghost use Rattle.rand_chacha.specs.ChaCha.{ChaCha};
+ghost use Rattle.ifmap_elem.specs.Chars.{IsCharacters};
+ghost use Rattle.ifmap_heads.specs.Limits.{longest_post};
+ghost use Rattle.ifmap_dialogue.specs.Answers.{LosesUnlessDone};
+ghost use Rattle.ifmap_dialogue.specs.Desks.{Tells, Turn, desk_seen};
+ghost use Rattle.ifmap_dialogue.specs.Rounds.{is_last, most_posts};
+ghost use Rattle.ifmap_dialogue.specs.Scenes.{HasFitPoll, ServesAnswer, ServesPost, ServesRound, scene};
+ghost use Rattle.ifmap_dialogue.specs.Wires.{wire_seen};
+
+use crate::asking::tell_lost;
+use crate::consulting::consult;
+use crate::desks::{Desk, Gate};
+use crate::endings::Ending;
+use crate::findings::Finding;
+use crate::polls::Poll;
+use crate::sending::{closing, give_up, next_after, send_bare, send_reply};
+use crate::settings::Setting;
+use ifmap_http::{Got, Post, Sent, Wire};
+use ifmap_io::{Clock, Link};
+use ifmap_requests::laws::bodies_mean_fit_requests;
+use rand_chacha::ChaCha20Rng;
+
+/// The most posts of a connection.
+pub const MOST_POSTS: u32 = 1_000_000;
+
+// Reads the post of this number and answers it; `None` where the connection goes on.
+pub(crate) fn serve_round<K: Desk, L: Link, C: Clock, G: Gate>(
+    setting: &Setting<'_, C>,
+    desk: &mut K,
+    wire: &mut Wire<L>,
+    words: &mut ChaCha20Rng,
+    gate: &mut G,
+    number: u32,
+) -> Option<Ending>
+    requires { IsFalse wire.old.spent }
+    ensures serves { ServesRound (C.gives setting.now.clock.now) number
+        (scene (desk_seen K.said K.held K.spent K.home K.loan desk.old)
+        (wire_seen L.left L.held L.Source.faults L.Sink.faults wire.old) words.old)
+        (scene (desk_seen K.said K.held K.spent K.home K.loan desk.new)
+        (wire_seen L.left L.held L.Source.faults L.Sink.faults wire.new) words.new) result }
+    ensures more { IfNone result (IsFalse wire.new.spent × (number ≢ most_posts)) }
+{
+    match wire.read_post(setting.alloc) {
+        Got::Posted(post) => {
+            let post = last_by(post, number);
+            answer_post(setting, desk, wire, words, gate, post)
+        }
+        Got::Ended => Some(Ending::Ended),
+        Got::Truncated => Some(Ending::Truncated),
+        Got::Status(status) => {
+            let sent = send_bare(setting.alloc, wire, gate, status);
+            next_after(sent, Some(Ending::Refused(status)))
+        }
+        Got::ReadFault => Some(Ending::ReadFault),
+        Got::NoMemory => {
+            give_up(setting.alloc, wire, gate);
+            Some(Ending::NoMemory)
+        }
+    }
+}
+
+// The post, which is the last one where it has that number.
+fn last_by(post: Post, number: u32) -> Post
+    ensures { result ≡ record post { close = is_last number post.close } }
+{
+    let Post {
+        client,
+        body,
+        close,
+    } = post;
+    Post {
+        client,
+        body,
+        close: close || number == MOST_POSTS,
+    }
+}
+
+// Answers a post; `None` where the connection goes on.
+fn answer_post<K: Desk, L: Link, C: Clock, G: Gate>(
+    setting: &Setting<'_, C>,
+    desk: &mut K,
+    wire: &mut Wire<L>,
+    words: &mut ChaCha20Rng,
+    gate: &mut G,
+    post: Post,
+) -> Option<Ending>
+    requires short { length post.body ≤ longest_post }
+    ensures { ServesPost (C.gives setting.now.clock.now)
+        (scene (desk_seen K.said K.held K.spent K.home K.loan desk.old)
+        (wire_seen L.left L.held L.Source.faults L.Sink.faults wire.old) words.old)
+        (scene (desk_seen K.said K.held K.spent K.home K.loan desk.new)
+        (wire_seen L.left L.held L.Source.faults L.Sink.faults wire.new) words.new)
+        post result }
+{
+    let Post {
+        client,
+        body,
+        close,
+    } = post;
+    bodies_mean_fit_requests();
+    let finding = consult(setting, desk, words, gate, client, &body);
+    answer(setting, desk, wire, gate, finding, close)
+}
+
+// Answers what a post came to.
+fn answer<K: Desk, L: Link, C: Clock, G: Gate>(
+    setting: &Setting<'_, C>,
+    desk: &mut K,
+    wire: &mut Wire<L>,
+    gate: &mut G,
+    finding: Finding,
+    close: bool,
+) -> Option<Ending>
+    requires fit { HasFitPoll finding }
+    ensures { (words : ChaCha) → ServesAnswer (C.gives setting.now.clock.now)
+        (scene (desk_seen K.said K.held K.spent K.home K.loan desk.old)
+        (wire_seen L.left L.held L.Source.faults L.Sink.faults wire.old) words)
+        (scene (desk_seen K.said K.held K.spent K.home K.loan desk.new)
+        (wire_seen L.left L.held L.Source.faults L.Sink.faults wire.new) words)
+        (record { finding = finding; close = close; next = result }) }
+{
+    match finding {
+        Finding::Replied(reply) => {
+            let sent = send_reply(setting.alloc, wire, gate, &reply, close);
+            next_after(sent, closing(close))
+        }
+        Finding::Told(reply, poll) => {
+            let sent = send_reply(setting.alloc, wire, gate, &reply, close);
+            conclude(setting, desk, gate, poll, sent, close)
+        }
+        Finding::Unreadable => {
+            let sent = send_bare(setting.alloc, wire, gate, 400);
+            next_after(sent, Some(Ending::Refused(400)))
+        }
+        Finding::HeldOut { turns } => Some(Ending::HeldOut { turns }),
+        Finding::Spent { entries } => {
+            let sent = send_bare(setting.alloc, wire, gate, 507);
+            next_after(sent, Some(Ending::Spent { entries }))
+        }
+        Finding::NoMemory => {
+            give_up(setting.alloc, wire, gate);
+            Some(Ending::NoMemory)
+        }
+    }
+}
+
+// Goes on after the answer to a poll that was told something: the desk is told where it was lost.
+fn conclude<K: Desk, C: Clock, G: Gate>(
+    setting: &Setting<'_, C>,
+    desk: &mut K,
+    gate: &mut G,
+    poll: Poll,
+    sent: Sent,
+    close: bool,
+) -> Option<Ending>
+    requires fit { IsCharacters poll.session }
+    ensures { (turns : List Turn)
+        × Tells (desk_seen K.said K.held K.spent K.home K.loan desk.old)
+        (desk_seen K.said K.held K.spent K.home K.loan desk.new) turns
+        × LosesUnlessDone (C.gives setting.now.clock.now) poll close sent turns result }
+{
+    match sent {
+        Sent::Done => closing(close),
+        Sent::WriteFault => Some(tell_lost(setting, desk, gate, poll, Ending::WriteFault)),
+        Sent::NoMemory => Some(tell_lost(setting, desk, gate, poll, Ending::NoMemory)),
+    }
+}

@@ -1,0 +1,129 @@
+//! Answers, as they are written.
+ghost use Rattle.std.specs.Prelude.{◌≡◌, ℕ, List, IsTrue};
+ghost use Rattle.ifmap_io.specs.Causes.{Rose};
+ghost use Rattle.ifmap_heads.specs.Messages.{answer_bytes, is_answer_status};
+ghost use Rattle.ifmap_dialogue.specs.Answers.{closing, next_after, reply_answer};
+ghost use Rattle.ifmap_dialogue.specs.Wires.{GainsBytes, IsGivenUp, Writes, WritesOnce, bare_answer, wire_seen};
+
+use crate::desks::{AFTER_ANSWER, Gate};
+use crate::endings::Ending;
+use ifmap_http::{Sent, Wire};
+use ifmap_io::Link;
+use ifmap_replies::{Reply, write_reply};
+use std::alloc::Global;
+
+// Writes the answer with a reply.
+pub(crate) fn send_reply<L: Link, G: Gate>(
+    alloc: Global,
+    wire: &mut Wire<L>,
+    gate: &mut G,
+    reply: &Reply,
+    close: bool,
+) -> Sent
+    ensures writes { (output : List ℕ) × Writes (reply_answer reply.now close) result output
+        × GainsBytes (wire_seen L.left L.held L.Source.faults L.Sink.faults wire.old)
+        (wire_seen L.left L.held L.Source.faults L.Sink.faults wire.new) output }
+    ensures fault { result ≡ Sent.WriteFault
+        → Rose (L.Sink.faults wire.old.link) (L.Sink.faults wire.new.link) }
+{
+    match write_reply(alloc, reply) {
+        Ok(body) => send(alloc, wire, gate, 200, body.as_slice(), close),
+        Err(_) => {
+            give_up(alloc, wire, gate);
+            Sent::NoMemory
+        }
+    }
+}
+
+// Writes an answer without a body, which closes the connection.
+pub(crate) fn send_bare<L: Link, G: Gate>(
+    alloc: Global,
+    wire: &mut Wire<L>,
+    gate: &mut G,
+    status: u16,
+) -> Sent
+    requires { IsTrue (is_answer_status status) }
+    ensures writes { (output : List ℕ) × Writes (bare_answer status) result output
+        × GainsBytes (wire_seen L.left L.held L.Source.faults L.Sink.faults wire.old)
+        (wire_seen L.left L.held L.Source.faults L.Sink.faults wire.new) output }
+    ensures fault { result ≡ Sent.WriteFault
+        → Rose (L.Sink.faults wire.old.link) (L.Sink.faults wire.new.link) }
+{
+    send(alloc, wire, gate, status, b"", true)
+}
+
+// Writes an answer. Where memory is wanting that is answered, as far as can be.
+fn send<L: Link, G: Gate>(
+    alloc: Global,
+    wire: &mut Wire<L>,
+    gate: &mut G,
+    status: u16,
+    body: &[u8],
+    close: bool,
+) -> Sent
+    requires { IsTrue (is_answer_status status) }
+    ensures writes { (output : List ℕ) × Writes (answer_bytes status body.now close) result output
+        × GainsBytes (wire_seen L.left L.held L.Source.faults L.Sink.faults wire.old)
+        (wire_seen L.left L.held L.Source.faults L.Sink.faults wire.new) output }
+    ensures fault { result ≡ Sent.WriteFault
+        → Rose (L.Sink.faults wire.old.link) (L.Sink.faults wire.new.link) }
+{
+    match write(alloc, wire, gate, status, body, close) {
+        Sent::Done => Sent::Done,
+        Sent::WriteFault => Sent::WriteFault,
+        Sent::NoMemory => {
+            give_up(alloc, wire, gate);
+            Sent::NoMemory
+        }
+    }
+}
+
+// Answers that memory is wanting, as far as can be.
+pub(crate) fn give_up<L: Link, G: Gate>(alloc: Global, wire: &mut Wire<L>, gate: &mut G)
+    ensures { (output : List ℕ) × IsGivenUp output
+        × GainsBytes (wire_seen L.left L.held L.Source.faults L.Sink.faults wire.old)
+        (wire_seen L.left L.held L.Source.faults L.Sink.faults wire.new) output }
+{
+    let _sent = write(alloc, wire, gate, 503, b"", true);
+}
+
+// Writes an answer once, and passes the gate after it where all of it was written.
+fn write<L: Link, G: Gate>(
+    alloc: Global,
+    wire: &mut Wire<L>,
+    gate: &mut G,
+    status: u16,
+    body: &[u8],
+    close: bool,
+) -> Sent
+    requires { IsTrue (is_answer_status status) }
+    ensures writes { (output : List ℕ) × WritesOnce (answer_bytes status body.now close) result
+        output × GainsBytes (wire_seen L.left L.held L.Source.faults L.Sink.faults wire.old)
+        (wire_seen L.left L.held L.Source.faults L.Sink.faults wire.new) output }
+    ensures fault { result ≡ Sent.WriteFault
+        → Rose (L.Sink.faults wire.old.link) (L.Sink.faults wire.new.link) }
+{
+    let sent = wire.write_answer(alloc, status, body, close);
+    if sent == Sent::Done {
+        gate.pass(AFTER_ANSWER);
+    }
+    sent
+}
+
+// How the connection ends after an answer: as is due, where all of it was written.
+pub(crate) fn next_after(sent: Sent, due: Option<Ending>) -> Option<Ending>
+    ensures { result ≡ next_after sent due }
+{
+    match sent {
+        Sent::Done => due,
+        Sent::WriteFault => Some(Ending::WriteFault),
+        Sent::NoMemory => Some(Ending::NoMemory),
+    }
+}
+
+// How it ends after an answer with status 200, if it does.
+pub(crate) fn closing(close: bool) -> Option<Ending>
+    ensures { result ≡ closing close }
+{
+    if close { Some(Ending::Closed) } else { None }
+}
