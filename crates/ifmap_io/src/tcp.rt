@@ -10,9 +10,18 @@ use crate::doors::Door;
 use crate::ends::{Failed, Sink, Source};
 use crate::links::Link;
 use crate::std_ends::count_error;
-use std::io::{Read, Write};
+use std::io::{self, Read, Write};
 use std::marker::Model;
 use std::net::{TcpListener, TcpStream};
+use std::time::Duration;
+
+// How long a read or a write of a connection that a door hands out may wait, in seconds: a little
+// longer than a session lives without a request.
+const SILENCE: u64 = 200;
+
+// How often a door tries to take a connection before it fails. A connection that was given up before it
+// was taken fails a try.
+const TRIES: u32 = 100;
 
 /// A link over a TCP stream. Contracts see it as its two counts of faults.
 #[derive(Drop)]
@@ -31,10 +40,12 @@ impl Model for TcpLink {
 }
 
 impl TcpLink {
-    /// A link over that stream, which dropping the link closes.
+    /// A link over that stream, which dropping the link closes. Where the system can, what is written
+    /// is sent without delay.
     pub fn new(stream: TcpStream) -> TcpLink
         ensures { result ≡ record { read_faults = 0; write_faults = 0 } }
     {
+        let _sends_at_once = stream.set_nodelay(true);
         TcpLink {
             stream,
             read_faults: 0,
@@ -95,7 +106,27 @@ impl Link for TcpLink {
     ghost incoming_is = { λ link. refl };
 }
 
-/// A door over a TCP listener. Contracts see it as its count of faults. It never answers None.
+// The next connection that a listener has.
+fn take_connection(listener: &TcpListener) -> io::Result<TcpStream> {
+    for _ in 1..TRIES {
+        if let Ok((stream, _)) = listener.accept() {
+            return Ok(stream);
+        }
+    }
+    let (stream, _) = listener.accept()?;
+    Ok(stream)
+}
+
+// Lets reads and writes of a stream fail once they have waited too long, so that a peer that is gone
+// does not hold its link for ever.
+fn limit_silence(stream: &TcpStream) -> io::Result<()> {
+    let silence = Some(Duration::from_secs(SILENCE));
+    stream.set_read_timeout(silence)?;
+    stream.set_write_timeout(silence)
+}
+
+/// A door over a TCP listener. Contracts see it as its count of faults. It never answers None. A read
+/// or a write of a link that it hands out fails once it has waited for 200 seconds.
 #[derive(Drop)]
 pub struct TcpDoor<'a> {
     listener: &'a TcpListener,
@@ -138,7 +169,8 @@ impl<'a> Door for TcpDoor<'a> {
         ensures cause { HasCause self.old self.new result }
         ensures counted { self.new ≡ faults_after result self.old }
     {
-        let (stream, _) = count_error(self.listener.accept(), &mut self.faults)?;
+        let stream = count_error(take_connection(self.listener), &mut self.faults)?;
+        count_error(limit_silence(&stream), &mut self.faults)?;
         Ok(Some(TcpLink::new(stream)))
     }
 
