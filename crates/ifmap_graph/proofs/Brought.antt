@@ -1,5 +1,5 @@
 -- Shelves that come for items that had none, one after another, and go again.
-use Rattle.std.proofs.Common.{◌≡◌, ℕ, ◌+◌, true, false, cond, Option, Some, None, IsSome, List, [], ◌∷◌, ◌++◌, refl, ap, ◌∙◌, sym, subst, inl, inr, arith}
+use Rattle.std.proofs.Common.{◌≡◌, ℕ, ◌+◌, Bool, true, false, cond, Option, Some, None, IsSome, List, [], ◌∷◌, ◌++◌, refl, ap, ◌∙◌, sym, subst, inl, inr, arith}
 use Rattle.std.proofs.lemmas.Bool.{cases_Bool}
 use Rattle.std.proofs.lemmas.Cmp.{tied_itself}
 use Rattle.std.specs.BTreeMap.{is_at, insert_entry}
@@ -12,7 +12,7 @@ use Rattle.ifmap_ident.specs.declared.items.Item.{Item}
 use Rattle.ifmap_ident.specs.Items.{item_order, items_tie, same_item}
 use Rattle.ifmap_graph.specs.declared.shelves.Shelf.{Shelf}
 use Rattle.ifmap_graph.specs.declared.shelves.Shelves.{Shelves}
-use Rattle.ifmap_graph.specs.Bringing.{BringsShelves, IsOther, named_of}
+use Rattle.ifmap_graph.specs.Bringing.{BringsShelves, IsOther, marked, named_of}
 use Rattle.ifmap_graph.specs.Drafted.{AreBare, NoDraft, ends_at}
 use Rattle.ifmap_graph.specs.Named.{named_by, named_in}
 use Rattle.ifmap_graph.specs.Shelved.{AreShelved, place_of}
@@ -54,6 +54,13 @@ other_absent s (x ∷ xs) y a e = (
   ],
   other_absent s xs y a.1 e,
 )
+
+-- what is none of some is none of those that are marked
+pub other_marked : (xs : List Item) (marks : List Bool) (y : Item) → IsOther xs y → IsOther (marked xs marks) y
+other_marked [] marks y o = tt
+other_marked (x ∷ xs) [] y o = tt
+other_marked (x ∷ xs) (true ∷ ms) y o = (o.0, other_marked xs ms y o.1)
+other_marked (x ∷ xs) (false ∷ ms) y o = other_marked xs ms y o.1
 
 other_parts : (xs ys : List Item) (x : Item) → IsOther (xs ++ ys) x → IsOther xs x × IsOther ys x
 other_parts [] ys x o = (tt, o)

@@ -1,6 +1,5 @@
 -- An item's shelf goes: the others stand where they stood.
-use Rattle.std.proofs.Common.{◌≡◌, ◌≢◌, ℕ, Bool, true, false, cond, Option, Some, None, List, [], ◌∷◌, refl, ap, ◌∙◌, sym, subst, inl, inr, arith}
-use Rattle.std.proofs.lemmas.Bool.{cases_Bool}
+use Rattle.std.proofs.Common.{◌≡◌, ◌≢◌, ℕ, Bool, true, false, cond, Option, Some, None, List, [], ◌∷◌, refl, ap, ◌∙◌, sym, subst, inl, inr}
 use Rattle.std.proofs.lemmas.Option.{none-some}
 use Rattle.std.specs.BTreeMap.{is_at}
 use Rattle.std.specs.List.{AllByRecursion}
@@ -15,10 +14,9 @@ use Rattle.ifmap_graph.specs.declared.shelves.Shelf.{Shelf}
 use Rattle.ifmap_graph.specs.declared.shelves.Shelves.{Shelves}
 use Rattle.ifmap_graph.specs.Drafted.{AreBare, NoDraft}
 use Rattle.ifmap_graph.specs.Shelved.{AreShelved, IsPlaced, Rises, place_of}
-use Rattle.ifmap_graph.specs.Waits.{AreWaited, waits_of, waits_on, waits_there}
 use Rattle.ifmap_graph.proofs.Following.{entry_hits, lookup_tied, looked_up}
 use Rattle.ifmap_graph.proofs.Leaving.{removed_has, slots_kept}
-use Rattle.ifmap_graph.proofs.Ordered.{equal_is, items_total, turned_tie}
+use Rattle.ifmap_graph.proofs.Ordered.{items_total, turned_tie}
 use Rattle.ifmap_graph.proofs.Shelving.{Entries}
 use Rattle.ifmap_graph.proofs.Viewed.{all_has}
 use Rattle.ifmap_graph.proofs.Writes.{one_item}
@@ -84,21 +82,3 @@ module _ (s t : Shelves)
       let p = before e.0 e.1 (entry_hits t.places.entries e.0 e.1 is.rising h)
       in let q = looked_up s.places.entries e.0 e.1 p.0
       in subst NoDraft (sym p.1) (all_has (λ e. NoDraft (get s.slots e.1)) s.places.entries b (q.0, e.1) q.1))
-
-  -- the others are waited for as before
-  module _ (item : Item) (others : (x : Item) → is_at (item_order item) x ≡ false → place_of t x ≡ place_of s x) where
-    waits_same : (x : Item) → is_at (item_order item) x ≡ false → waits_on t x ≡ waits_on s x
-    waits_same x f = by (place_of t x) refl
-      where
-        by : (o : Option ℕ) → place_of t x ≡ o → waits_on t x ≡ waits_on s x
-        by None e = ap (waits_there (get t.slots)) e ∙ sym (ap (waits_there (get s.slots)) (sym (others x f) ∙ e))
-        by (Some n) e =
-            ap (waits_there (get t.slots)) e ∙ ap waits_of (before x n e).1 ∙ sym (ap (waits_there (get s.slots)) (before x n e).0)
-
-    pub waits_left : waits_on s item ≡ 0 → (rest : List Item) → AreWaited rest (waits_on s) → AreWaited rest (waits_on t)
-    waits_left none rest a x = elim (cases_Bool (is_at (item_order item) x)) [
-      | inl y ↦ let zero : waits_on s x ≡ 0
-          = sym (ap (waits_there (get s.slots)) (lookup_tied item x s.places.entries (equal_is (item_order item x) y))) ∙ none
-          in omega (arith, a x, zero)
-      | inr f ↦ omega (arith, a x, waits_same x f)
-    ]

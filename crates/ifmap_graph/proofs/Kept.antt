@@ -1,13 +1,14 @@
 -- Shelves and links that are the same: what contracts see of them.
-use Rattle.std.proofs.Common.{◌≡◌, ℕ, ◌≤◌, [], length, ap, ◌∙◌, subst, arith}
+use Rattle.std.proofs.Common.{◌≡◌, ℕ, ◌≤◌, [], IsSome, length, ap, ◌∙◌, sym, subst, arith}
 use Rattle.std.specs.BTreeMap.{is_at}
 use Rattle.std.specs.Map.{lookup}
 use Rattle.ifmap_ident.specs.declared.items.Item.{Item}
 use Rattle.ifmap_ident.specs.Items.{item_order}
+use Rattle.ifmap_view.specs.Rows.{stored_on}
 use Rattle.ifmap_graph.specs.Back.{KeepsBacks}
 use Rattle.ifmap_graph.specs.Held.{Held}
 use Rattle.ifmap_graph.specs.Out.{IsDrafted}
-use Rattle.ifmap_graph.specs.Seen.{AwaitsMore, IsStill, waits_in, waits_there_in}
+use Rattle.ifmap_graph.specs.Seen.{AwaitsMore, IsStill, StaysLean, waits_in, waits_there_in}
 use Rattle.ifmap_graph.specs.Shelved.{list_at, rows_by}
 use Rattle.ifmap_graph.specs.Sides.{now}
 use Rattle.ifmap_graph.specs.Stays.{IsThere, StayPlaced, ends_there_in}
@@ -39,3 +40,11 @@ module _ (old new : Held) (shelves : new.shelves ≡ old.shelves) (places : new.
 
   pub kept_backs : KeepsBacks old new
   kept_backs = keeps_backs old new (ap (rows_by (list_at now)) shelves) (λ v. ap now (links v)) long kept_stay kept_waits
+
+  pub kept_lean : StaysLean old new
+  kept_lean rest lean = record {
+    waits = λ x. omega (arith, lean.waits x, waits_same x);
+    full = λ x h w e.
+        lean.full x (subst (λ l. IsSome (lookup (is_at (item_order x)) l)) shelves h) (sym (waits_same x) ∙ w)
+        (sym (ap (λ l. stored_on x (rows_by (list_at now) l)) shelves) ∙ e);
+  }

@@ -50,4 +50,9 @@ pub mod Marks
 pub mod Grown
 pub mod Waits
 pub mod Made
+pub mod Filling
+pub mod Lean
 pub mod Reserved
+pub mod Used
+pub mod Counts
+pub mod Keys

@@ -1,5 +1,5 @@
 -- A change came to be out, or did not: what is there then.
-use Rattle.std.proofs.Common.{◌≡◌, ℕ, ◌+◌, ◌<◌, ◌≤◌, Option, None, IsSome, List, [], ◌∷◌, ◌++◌, length, refl, ap, ◌∙◌, sym, subst, inl, inr, arith}
+use Rattle.std.proofs.Common.{◌≡◌, ℕ, ◌+◌, ◌<◌, ◌≤◌, Option, None, IsSome, List, [], ◌∷◌, length, refl, ap, ◌∙◌, sym, subst, inl, inr, arith}
 use Rattle.std.specs.BTreeMap.{is_at}
 use Rattle.std.specs.List.{AllByRecursion}
 use Rattle.std.specs.Map.{lookup}
@@ -13,7 +13,7 @@ use Rattle.ifmap_pool.specs.Holdings.{Holdings, IsHeld, IsPool, Names, holds_at}
 use Rattle.ifmap_view.specs.declared.attachments.Attachment.{Attachment}
 use Rattle.ifmap_view.specs.declared.views.LinkSeen.{LinkSeen}
 use Rattle.ifmap_graph.specs.declared.shelves.Shelves.{Shelves}
-use Rattle.ifmap_graph.specs.Bringing.{AreGrown, AreInside, BringsShelves, HasOwn, Parts, parts_of}
+use Rattle.ifmap_graph.specs.Bringing.{AreGrown, AreInside, BringsShelves, HasOwn, IsOther, Parts, parts_of}
 use Rattle.ifmap_graph.specs.Drafted.{AreBare, AreOut, ends_at}
 use Rattle.ifmap_graph.specs.Making.{IsMade, IsUnmade}
 use Rattle.ifmap_graph.specs.Named.{named_in}
@@ -22,7 +22,7 @@ use Rattle.ifmap_graph.specs.Shelved.{place_of, rows_of}
 use Rattle.ifmap_graph.specs.Sides.{Sides, next, now}
 use Rattle.ifmap_graph.specs.Touched.{AreReady, KeepsLinks}
 use Rattle.ifmap_graph.specs.Turning.{sides_at}
-use Rattle.ifmap_graph.specs.Waits.{AreWaited, times_in, waits_on}
+use Rattle.ifmap_graph.specs.Waits.{WaitsFor}
 use Rattle.ifmap_graph.proofs.Brought.{other_absent, some_place}
 
 -- the items of changes that fit are such as elements mean
@@ -43,9 +43,9 @@ pub made_by : (changes : List ItemChange) (ways : List (ℕ × List LinkSeen)) (
     → IsAfter changes (rows_of now old.shelves) (rows_of next t) → AreOut (items_of changes) t → AreReady ways links
     → KeepsLinks old.links links
     → ((at : ℕ) → ends_at t at ≡ ends_at old.shelves at) → t.places ≡ old.shelves.places
-    → ((rest : List Item) → AreWaited rest (waits_on old.shelves) → AreWaited (items_of changes ++ rest) (waits_on t))
+    → ((x : Item) → IsOther (items_of changes) x → IsOther items x) → WaitsFor (items_of changes) old.shelves t
     → IsMade changes ways first (parts_of old.names t links)
-made_by changes ways items first old t links grown brought inside rows after out ready kept ends places waited = record {
+made_by changes ways items first old t links grown brought inside rows after out ready kept ends places within waits = record {
   inside = inside;
   rows = rows ∙ grown.now;
   after = subst (λ r. IsAfter changes r (rows_of next t)) grown.now after;
@@ -58,7 +58,8 @@ made_by changes ways items first old t links grown brought inside rows after out
   places = λ x at e.
       let o = other_absent first.shelves items x brought.absent (some_place (place_of first.shelves x) at e)
       in (ap (λ p. lookup (is_at (item_order x)) p.entries) places ∙ brought.places x o ∙ e, ends at ∙ brought.ends x at e);
-  waited = λ rest a. waited rest (λ x. subst (λ (n : ℕ). times_in rest x ≤ n) (sym (brought.waits x)) (a x));
+  same = λ x o. ap (λ p. lookup (is_at (item_order x)) p.entries) places ∙ brought.places x (within x o);
+  waits = λ x. omega (arith, waits x, brought.waits x);
 }
 
 -- what was held so often before and is now, has the numbers that it had

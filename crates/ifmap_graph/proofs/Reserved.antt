@@ -1,5 +1,5 @@
 -- A change came to be out, or did not: what contracts see.
-use Rattle.std.proofs.Common.{◌≡◌, ◌≢◌, ℕ, ◌+◌, ◌<◌, Option, Some, None, List, [], ◌∷◌, ◌++◌, length, refl, ap, ◌∙◌, sym, subst, arith}
+use Rattle.std.proofs.Common.{◌≡◌, ◌≢◌, ℕ, ◌+◌, ◌<◌, Option, Some, None, List, [], ◌∷◌, length, refl, ap, ◌∙◌, sym, subst, arith}
 use Rattle.std.proofs.lemmas.Option.{none-some}
 use Rattle.std.specs.List.{AllByRecursion, IsDistinct}
 use Rattle.std.specs.declared.cmp.Ordering.TheVariants.{Equal}
@@ -33,10 +33,11 @@ use Rattle.ifmap_graph.proofs.Alike.{Tells}
 use Rattle.ifmap_graph.proofs.Backs.{keeps_backs}
 use Rattle.ifmap_graph.proofs.Finding.{absent}
 use Rattle.ifmap_graph.proofs.Insides.{named_shown, rows_shown}
+use Rattle.ifmap_graph.proofs.Lean.{unmade_lean}
 use Rattle.ifmap_graph.proofs.Lessening.{waited_there}
 use Rattle.ifmap_graph.proofs.Outs.{from_shown, to_shown}
 use Rattle.ifmap_graph.proofs.Own.{key_kept}
-use Rattle.ifmap_graph.proofs.Settled.{bare_to, ends_shown, ends_there, held_of, waited_from, waited_to, waits_shown}
+use Rattle.ifmap_graph.proofs.Settled.{bare_to, ends_shown, ends_there, held_of, waits_shown}
 use Rattle.ifmap_graph.proofs.Waited.{times_append}
 
 all_shown : (s : Shelves) (xs : List Item) → AllByRecursion (HasDraft s) xs
@@ -104,7 +105,8 @@ module _ (names later : Holdings Identifier) (s t : Shelves) (links moved : List
     made_own = own_same made.own
 
     pub made_waits : AwaitsMore (items_of changes) (held_of names s links) (held_of later t moved)
-    made_waits rest a = waited_to later t moved (items_of changes ++ rest) (made.waited rest (waited_from names s links rest a))
+    made_waits rest a x =
+        omega (arith, a x, made.waits x, waits_shown names s links x, waits_shown later t moved x, times_append (items_of changes) rest x)
 
     more_waits : AwaitsMore [] (held_of names s links) (held_of later t moved)
     more_waits rest a x = let w = made_waits rest a x in omega (arith, w, times_append (items_of changes) rest x)
@@ -159,4 +161,5 @@ module _ (names later : Holdings Identifier) (s t : Shelves) (links moved : List
           (key_kept later names un.before tells un.inside.keys keys);
       own = unmade_own;
       waits = unmade_waits;
+      lean = unmade_lean names later s t links moved un;
     }

@@ -1,5 +1,5 @@
 -- What contracts see of shelves, and what they see after some went.
-use Rattle.std.proofs.Common.{◌≡◌, ℕ, ◌+◌, ◌<◌, Option, Some, None, IsSome, List, ◌++◌, option_map, refl, ap, ◌∙◌, sym, subst, arith}
+use Rattle.std.proofs.Common.{◌≡◌, ℕ, ◌+◌, ◌<◌, Option, Some, None, IsSome, List, option_map, refl, ap, ◌∙◌, sym, subst, arith}
 use Rattle.std.specs.BTreeMap.{is_at}
 use Rattle.slab.specs.Slab.{get}
 use Rattle.ifmap_ident.specs.declared.identifiers.Identifier.{Identifier}
@@ -22,13 +22,14 @@ use Rattle.ifmap_graph.specs.Shelved.{AreShelved, place_of}
 use Rattle.ifmap_graph.specs.Sides.{Sides, next, now}
 use Rattle.ifmap_graph.specs.Stays.{IsThere, StayPlaced, ends_in, ends_there_in}
 use Rattle.ifmap_graph.specs.Turning.{sides_at}
-use Rattle.ifmap_graph.specs.Waits.{AreWaited, waits_on, waits_there}
+use Rattle.ifmap_graph.specs.Waits.{AreWaited, WaitsFor, waits_on, waits_there}
 use Rattle.ifmap_graph.proofs.Bare.{none_left, sides_same}
 use Rattle.ifmap_graph.proofs.Following.{looked_up}
 use Rattle.ifmap_graph.proofs.Insides.{lookup_shown, named_shown, rows_shown}
 use Rattle.ifmap_graph.proofs.Outs.{from_shown, to_shown}
 use Rattle.ifmap_graph.proofs.Lessening.{waited_there}
 use Rattle.ifmap_graph.proofs.Viewed.{all_has}
+use Rattle.ifmap_graph.proofs.Waited.{times_append}
 
 -- what contracts see of a graph's parts
 abbrev pub held_of : Holdings Identifier → Shelves → List (Sides LinkSeen) → Held
@@ -99,9 +100,9 @@ module _ (names left : Holdings Identifier) (s t : Shelves) (links : List (Sides
       subst (λ (n : ℕ). IsHeld identifier_order left a (n + own)) (sym (named_shown (get t.slots) t.places.entries a))
       (less.own a own (subst (λ (n : ℕ). IsHeld identifier_order names a (n + own)) (named_shown (get s.slots) s.places.entries a) h))
 
-  pub less_waits : (items : List Item) → ((rest : List Item) → AreWaited (items ++ rest) (waits_on s) → AreWaited rest (waits_on t))
-      → AwaitsLess items (held_of names s links) (held_of left t links)
-  less_waits items f rest a = waited_to left t links rest (f rest (waited_from names s links (items ++ rest) a))
+  pub less_waits : (items : List Item) → WaitsFor items t s → AwaitsLess items (held_of names s links) (held_of left t links)
+  less_waits items f rest a x =
+      omega (arith, a x, f x, waits_shown names s links x, waits_shown left t links x, times_append items rest x)
 
   -- a shelf that is in its slot has its numbers
   there_by : (x : Item) → place_of t x ≡ place_of s x → IsThere (held_of names s links) (held_of left t links) x

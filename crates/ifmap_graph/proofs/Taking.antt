@@ -66,7 +66,7 @@ has_times (k ∷ ks) x i (inl p) e t =
 has_times (k ∷ ks) x i (inr h) e t = has_times ks x i h e (omega (arith, t))
 
 -- on an item without a draft both sides are the same
-else_same : (s : Shelves) (x : Item) → AreShelved s → (HasDraft s x → ⊥) → stored_on x (rows_of next s) ≡ stored_on x (rows_of now s)
+pub else_same : (s : Shelves) (x : Item) → AreShelved s → (HasDraft s x → ⊥) → stored_on x (rows_of next s) ≡ stored_on x (rows_of now s)
 else_same s x is f = by (place_of s x) refl
   where
     by : (o : Option ℕ) → place_of s x ≡ o → stored_on x (rows_of next s) ≡ stored_on x (rows_of now s)

@@ -6,44 +6,30 @@ use Rattle.std.specs.BTreeMap.{is_at}
 use Rattle.std.specs.Ordering.{is_eq}
 use Rattle.ifmap_ident.specs.declared.items.Item.{Item}
 use Rattle.ifmap_ident.specs.Items.{item_order}
-use Rattle.ifmap_graph.specs.Waits.{AreWaited, times_in}
+use Rattle.ifmap_graph.specs.Waits.{times_in}
 use Rattle.ifmap_graph.proofs.Ordered.{items_total}
 
 module _ (old new : Item → ℕ) (item : Item) (before after : ℕ)
     (had : (x : Item) → is_at (item_order item) x ≡ true → old x ≡ before) (has : (x : Item) → is_at (item_order item) x ≡ true → new x ≡ after)
     (others : (x : Item) → is_at (item_order item) x ≡ false → new x ≡ old x) where
-  pub raised : after ≡ before + 1 → (rest : List Item) → AreWaited rest old → AreWaited (item ∷ rest) new
-  raised more rest a x = elim (cases_Bool (is_at (item_order item) x)) [
-    | inl t ↦ rw t (omega (arith, a x, had x t, has x t, more))
-    | inr t ↦ rw t (omega (arith, a x, others x t))
+  pub raised : after ≡ before + 1 → (x : Item) → new x ≡ times_in (item ∷ []) x + old x
+  raised more x = elim (cases_Bool (is_at (item_order item) x)) [
+    | inl t ↦ rw t (omega (arith, had x t, has x t, more))
+    | inr t ↦ rw t (omega (arith, others x t))
   ]
 
-  pub lowered : after ≡ before - 1 → (rest : List Item) → AreWaited (item ∷ rest) old → AreWaited rest new
-  lowered less rest a x = elim (cases_Bool (is_at (item_order item) x)) [
-    | inl t ↦ let h = rw t at (a x) in omega (arith, h, had x t, has x t, less)
-    | inr t ↦ let h = rw t at (a x) in omega (arith, h, others x t)
+  pub lowered : 0 < before → after ≡ before - 1 → (x : Item) → old x ≡ times_in (item ∷ []) x + new x
+  lowered some less x = elim (cases_Bool (is_at (item_order item) x)) [
+    | inl t ↦ rw t (omega (arith, had x t, has x t, less, some))
+    | inr t ↦ rw t (omega (arith, others x t))
   ]
 
 pub times_append : (xs ys : List Item) (x : Item) → times_in (xs ++ ys) x ≡ times_in xs x + times_in ys x
 times_append [] ys x = omega arith
 times_append (i ∷ is) ys x = omega (arith, times_append is ys x)
 
-pub one_more : (xs rest : List Item) (item : Item) (waits : Item → ℕ) → AreWaited (item ∷ (xs ++ rest)) waits → AreWaited ((xs ++ item ∷ []) ++ rest) waits
-one_more xs rest item waits a x = omega (arith, a x, times_append xs rest x, times_append (xs ++ item ∷ []) rest x, times_append xs (item ∷ []) x)
-
-pub one_back : (xs rest : List Item) (item : Item) (waits : Item → ℕ) → AreWaited ((xs ++ item ∷ []) ++ rest) waits → AreWaited (item ∷ (xs ++ rest)) waits
-one_back xs rest item waits a x = omega (arith, a x, times_append xs rest x, times_append (xs ++ item ∷ []) rest x, times_append xs (item ∷ []) x)
-
-pub one_less : (rest : List Item) (item : Item) (waits : Item → ℕ) → AreWaited (item ∷ rest) waits → AreWaited rest waits
-one_less rest item waits a x = omega (arith, a x)
-
-pub first_waited : (rest : List Item) (item : Item) (waits : Item → ℕ) → AreWaited (item ∷ rest) waits → 0 < waits item
-first_waited rest item waits a =
+-- an item that comes first is there
+pub one_time : (item : Item) (rest : List Item) → 0 < times_in (item ∷ rest) item
+one_time item rest =
     let t : is_at (item_order item) item ≡ true = ap is_eq (tied_itself items_total item)
-    in let h = rw t at (a item) in omega (arith, h)
-
-pub last_first : (xs : List Item) (item : Item) (waits : Item → ℕ) → AreWaited (xs ++ item ∷ []) waits → AreWaited (item ∷ xs) waits
-last_first xs item waits a x = omega (arith, a x, times_append xs (item ∷ []) x)
-
-pub none_waited : (waits : Item → ℕ) → AreWaited [] waits
-none_waited waits x = omega arith
+    in rw t (omega arith)

@@ -1,5 +1,5 @@
 -- The items of a change are waited for, one after another.
-use Rattle.std.proofs.Common.{◌≡◌, ℕ, ◌+◌, ◌-◌, ◌^◌, ◌<◌, ◌≤◌, false, Option, IsSome, List, [], ◌∷◌, ◌++◌, length, take, drop, refl, ap, ◌∙◌, sym, subst, add-one, get_or}
+use Rattle.std.proofs.Common.{◌≡◌, ℕ, ◌+◌, ◌-◌, ◌^◌, ◌<◌, ◌≤◌, false, Option, IsSome, List, [], ◌∷◌, ◌++◌, length, take, drop, refl, ap, ◌∙◌, sym, subst, add-one, get_or, arith}
 use Rattle.std.proofs.lemmas.List.{take_all}
 use Rattle.std.proofs.Math.Seq.{take-suc}
 use Rattle.std.specs.BTreeMap.{is_at}
@@ -11,10 +11,10 @@ use Rattle.ifmap_graph.specs.declared.shelves.Shelves.{Shelves}
 use Rattle.ifmap_graph.specs.Drafted.{ends_at}
 use Rattle.ifmap_graph.specs.Shelved.{AreShelved, HasDraft, place_of, rows_of}
 use Rattle.ifmap_graph.specs.Sides.{next, now}
-use Rattle.ifmap_graph.specs.Waits.{AreWaited, waits_on}
+use Rattle.ifmap_graph.specs.Waits.{WaitsFor, waits_on}
 use Rattle.ifmap_graph.proofs.Accepting.{apart_parts}
 use Rattle.ifmap_graph.proofs.Marks.{here_of}
-use Rattle.ifmap_graph.proofs.Waited.{one_more}
+use Rattle.ifmap_graph.proofs.Waited.{times_append}
 
 -- so often at most, that once more can be counted
 abbrev pub Few : Shelves → Item → Type 0
@@ -25,7 +25,7 @@ module _ (items : List Item) (first : Shelves) where
     pub shelved : AreShelved s
     pub same : rows_of now s ≡ rows_of now first
     pub other : rows_of next s ≡ rows_of next first
-    pub waited : (rest : List Item) → AreWaited rest (waits_on first) → AreWaited (take i items ++ rest) (waits_on s)
+    pub waits : WaitsFor (take i items) first s
     pub there : AllByRecursion (λ x. IsSome (place_of first x)) (drop i items)
     pub few : AllByRecursion (Few s) (drop i items)
     pub apart : IsDistinct same_item (drop i items)
@@ -41,7 +41,7 @@ module _ (items : List Item) (first : Shelves) where
     shelved = shelved;
     same = refl;
     other = refl;
-    waited = λ rest a. a;
+    waits = λ x. omega arith;
     there = there;
     few = few;
     apart = apart;
@@ -67,10 +67,12 @@ module _ (items : List Item) (first : Shelves) where
     apart_here = apart_parts x (drop (i + 1) items) (subst (λ l. IsDistinct same_item l) here g.apart)
 
     module _ (t : Shelves) (shelved : AreShelved t) (same : rows_of now t ≡ rows_of now s) (other : rows_of next t ≡ rows_of next s)
-        (waited : (rest : List Item) → AreWaited rest (waits_on s) → AreWaited (x ∷ rest) (waits_on t))
-        (others : (y : Item) → is_at (item_order x) y ≡ false → waits_on t y ≡ waits_on s y)
+        (waits : WaitsFor (x ∷ []) s t)
         (drafts : (y : Item) → HasDraft t y → HasDraft s y) (kept : (y : Item) → HasDraft s y → HasDraft t y)
         (ends : (at : ℕ) → ends_at t at ≡ ends_at s at) (places : t.places ≡ s.places) where
+      others : (y : Item) → is_at (item_order x) y ≡ false → waits_on t y ≡ waits_on s y
+      others y f = let w = rw f at (waits y) in omega (arith, w)
+
       still_few : (ys : List Item) → AllByRecursion (λ y. same_item x y ≡ false) ys → AllByRecursion (Few s) ys → AllByRecursion (Few t) ys
       still_few [] a b = tt
       still_few (y ∷ ys) a b = (subst (λ (n : ℕ). n < 2 ^ 64 - 1) (sym (others y (sym (items_tie x y) ∙ a.0))) b.0, still_few ys a.1 b.1)
@@ -80,10 +82,10 @@ module _ (items : List Item) (first : Shelves) where
         shelved = shelved;
         same = same ∙ g.same;
         other = other ∙ g.other;
-        waited = λ rest a.
-            subst (λ l. AreWaited (l ++ rest) (waits_on t))
+        waits =
+            subst (λ l. WaitsFor l first t)
             (ap (λ y. take i items ++ y ∷ []) (sym is) ∙ sym (take-suc items i x h) ∙ ap (λ n. take n items) (sym (add-one i)))
-            (one_more (take i items) rest x (waits_on t) (waited (take i items ++ rest) (g.waited rest a)));
+            (λ y. omega (arith, waits y, g.waits y, times_append (take i items) (x ∷ []) y));
         there = (subst (AllByRecursion (λ x. IsSome (place_of first x))) here g.there).1;
         few = still_few (drop (i + 1) items) apart_here.0 (subst (AllByRecursion (Few s)) here g.few).1;
         apart = apart_here.1;
@@ -93,9 +95,8 @@ module _ (items : List Item) (first : Shelves) where
         places = places ∙ g.places;
       }
 
-  pub waited_all : (s : Shelves) (i : ℕ) → length items ≤ i → Waiting s i → (rest : List Item) → AreWaited rest (waits_on first)
-      → AreWaited (items ++ rest) (waits_on s)
-  waited_all s i h g rest a = subst (λ l. AreWaited (l ++ rest) (waits_on s)) (take_all i items h) (g.waited rest a)
+  pub waited_all : (s : Shelves) (i : ℕ) → length items ≤ i → Waiting s i → WaitsFor items first s
+  waited_all s i h g = subst (λ l. WaitsFor l first s) (take_all i items h) g.waits
 
 all_snoc : (P : Item → Type 0) (xs : List Item) (x : Item) → AllByRecursion P xs → P x → AllByRecursion P (xs ++ x ∷ [])
 all_snoc P [] x a h = (h, tt)

@@ -5,6 +5,7 @@ pub mod After
 pub mod Named
 pub mod Linked
 pub mod Joined
+pub mod Counted
 pub mod Drafted
 pub mod Turning
 pub mod Waits

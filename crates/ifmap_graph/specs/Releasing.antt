@@ -1,5 +1,5 @@
 -- Shelves go that are empty, with the holds of their items' identifiers.
-use Rattle.std.specs.Prelude.{◌≡◌, ◌≢◌, ◌+◌, ℕ, List, [], Some}
+use Rattle.std.specs.Prelude.{◌≡◌, ◌≢◌, ◌+◌, ℕ, List, [], Some, IsSome}
 use Rattle.slab.specs.Slab.{get}
 use Rattle.ifmap_ident.specs.declared.identifiers.Identifier.{Identifier}
 use Rattle.ifmap_ident.specs.declared.items.Item.{Item}
@@ -13,6 +13,7 @@ use Rattle.ifmap_graph.specs.Held.{IsInside}
 use Rattle.ifmap_graph.specs.Named.{named_in}
 use Rattle.ifmap_graph.specs.Shelved.{place_of, rows_of}
 use Rattle.ifmap_graph.specs.Sides.{Sides, now}
+use Rattle.ifmap_graph.specs.Waits.{waits_on}
 
 -- the shelves that are left stand where they stood, with their numbers; what went was empty; others hold identifiers as often as before
 pub record IsLess (names left : Holdings Identifier) (old new : Shelves) : Type 0 where
@@ -25,3 +26,7 @@ pub record IsLess (names left : Holdings Identifier) (old new : Shelves) : Type 
   pub named : (v : ℕ) (a : Identifier) → Names identifier_order left v a → Names identifier_order names v a
   pub own : (a : Identifier) (own : ℕ) → IsHeld identifier_order names a (named_in old.places.entries a + own)
       → IsHeld identifier_order left a (named_in new.places.entries a + own)
+
+-- a shelf that nobody waits for has something on it
+abbrev pub AreFilled : Shelves → Type 0
+AreFilled s = (x : Item) → IsSome (place_of s x) → waits_on s x ≡ 0 → stored_on x (rows_of now s) ≢ []

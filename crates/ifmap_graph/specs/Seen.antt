@@ -1,13 +1,16 @@
 -- What contracts see of a graph: what is stored and the links of each number, as they are and as they are to be; and what is waited for.
-use Rattle.std.specs.Prelude.{◌≡◌, ◌<◌, ◌^◌, ◌≤◌, ◌++◌, ℕ, List, [], Option, None, Some}
+use Rattle.std.specs.Prelude.{◌≡◌, ◌≢◌, ◌⊎◌, ◌<◌, ◌^◌, ◌≤◌, ◌++◌, ℕ, List, [], Option, None, Some, IsSome}
 use Rattle.std.specs.BTreeMap.{is_at}
 use Rattle.std.specs.Map.{lookup}
+use Rattle.ifmap_lemmas.specs.Having.{Has}
 use Rattle.ifmap_ident.specs.declared.identifiers.Identifier.{Identifier}
 use Rattle.ifmap_ident.specs.declared.items.Item.{Item}
-use Rattle.ifmap_ident.specs.Items.{item_order}
+use Rattle.ifmap_ident.specs.Canon.{IsIdentifier}
+use Rattle.ifmap_ident.specs.Items.{identifiers_of, item_order}
 use Rattle.ifmap_pool.specs.Holdings.{key_at}
 use Rattle.ifmap_view.specs.declared.attachments.Attachment.{Attachment}
 use Rattle.ifmap_view.specs.declared.views.LinkSeen.{LinkSeen}
+use Rattle.ifmap_view.specs.Rows.{stored_on}
 use Rattle.ifmap_graph.specs.declared.shelves.Shelf.{Shelf}
 use Rattle.ifmap_graph.specs.Held.{Held, IsOwn, links_at}
 use Rattle.ifmap_graph.specs.Out.{IsDrafted}
@@ -70,6 +73,43 @@ AwaitsMore items old new = (rest : List Item) → Awaits rest old → Awaits (it
 abbrev pub AwaitsLess : List Item → Held → Held → Type 0
 AwaitsLess items old new = (rest : List Item) → Awaits (items ++ rest) old → Awaits rest new
 
+-- the item has a shelf
+abbrev pub HasShelf : Held → Item → Type 0
+HasShelf h x = IsSome (lookup (is_at (item_order x)) h.shelves)
+
+-- nothing is left behind beside what is out: no item is waited for more often than it stands here, and a shelf that is not waited for has
+-- something on it
+pub record IsLean (items : List Item) (h : Held) : Type 0 where
+  pub waits : (x : Item) → waits_in h x ≤ times_in items x
+  pub full : (x : Item) → HasShelf h x → waits_in h x ≡ 0 → stored_on x (rows_now h) ≢ []
+
+-- nothing is left behind where nothing was: as items come to be out, as they are out no longer, and as they stay
+abbrev pub StaysLeanWith : List Item → Held → Held → Type 0
+StaysLeanWith items old new = (rest : List Item) → IsLean rest old → IsLean (items ++ rest) new
+
+abbrev pub StaysLeanWithout : List Item → Held → Held → Type 0
+StaysLeanWithout items old new = (rest : List Item) → IsLean (items ++ rest) old → IsLean rest new
+
+abbrev pub StaysLean : Held → Held → Type 0
+StaysLean = StaysLeanWith []
+
+-- an identifier has a number
+abbrev pub HasNumber : Held → Identifier → Type 0
+HasNumber h a = (v : ℕ) × (key_at h.names v ≡ Some a)
+
+-- it stands in an item that carries an attachment
+abbrev pub IsAttached : List Attachment → Identifier → Type 0
+IsAttached rows a = (r : Attachment) × Has rows r × Has (identifiers_of r.item) a
+
+-- others than items hold it: however often they do, it is not never
+abbrev pub IsHeldBeside : Held → Identifier → Type 0
+IsHeldBeside h a = (own : ℕ) → IsOwn h a own → 0 < own
+
+-- the identifiers that have numbers are those that stand in an item with an attachment or that others hold
+pub record AreUsed (h : Held) : Type 0 where
+  pub only : (a : Identifier) → HasNumber h a → IsAttached (rows_now h) a ⊎ IsHeldBeside h a
+  pub each : (a : Identifier) → IsIdentifier a → IsAttached (rows_now h) a ⊎ IsHeldBeside h a → HasNumber h a
+
 -- all that others see is the same
 pub record IsSeenSame (old new : Held) : Type 0 where
   pub rows : rows_now new ≡ rows_now old
@@ -77,3 +117,4 @@ pub record IsSeenSame (old new : Held) : Type 0 where
   pub numbers : (v : ℕ) → key_at new.names v ≡ key_at old.names v
   pub own : KeepsOwn old new
   pub waits : AwaitsMore [] old new
+  pub lean : StaysLean old new

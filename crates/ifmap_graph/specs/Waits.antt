@@ -1,5 +1,5 @@
 -- How often changes that are out name items.
-use Rattle.std.specs.Prelude.{ℕ, ◌+◌, ◌≤◌, List, [], ◌∷◌, Option, Some, None, if◌then◌else◌}
+use Rattle.std.specs.Prelude.{◌≡◌, ℕ, ◌+◌, ◌≤◌, List, [], ◌∷◌, Option, Some, None, if◌then◌else◌}
 use Rattle.std.specs.BTreeMap.{is_at}
 use Rattle.std.specs.Map.{lookup}
 use Rattle.ifmap_ident.specs.declared.items.Item.{Item}
@@ -32,3 +32,7 @@ times_in (i ∷ is) x = (if is_at (item_order i) x then 1 else 0) + times_in is 
 -- each of these is waited for, as often as it is named
 abbrev pub AreWaited : List Item → (Item → ℕ) → Type 0
 AreWaited items waits = (x : Item) → times_in items x ≤ waits x
+
+-- these items are waited for once more, and no others
+abbrev pub WaitsFor : List Item → Shelves → Shelves → Type 0
+WaitsFor items old new = (x : Item) → waits_on new x ≡ times_in items x + waits_on old x

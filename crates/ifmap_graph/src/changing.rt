@@ -1,6 +1,6 @@
 //! What changes in one shelf: its draft, its list, and how often it is waited for. No call takes
 //! memory.
-ghost use Rattle.std.specs.Prelude.{◌≡◌, ◌⊎◌, ℕ, ◌+◌, ◌-◌, ◌<◌, ◌^◌, List, ◌∷◌, true, false, Some, None, IsSome, if◌then◌else◌};
+ghost use Rattle.std.specs.Prelude.{◌≡◌, ◌⊎◌, ℕ, ◌+◌, ◌-◌, ◌<◌, ◌^◌, [], ◌∷◌, true, false, Some, None, IsSome, if◌then◌else◌};
 ghost use Rattle.std.specs.BTreeMap.{is_at};
 ghost use Rattle.slab.specs.Slab.{get, with_value};
 ghost use Rattle.ifmap_ident.specs.declared.items.Item.{Item};
@@ -11,7 +11,7 @@ ghost use Rattle.ifmap_graph.specs.declared.shelves.Shelf.{Shelf};
 ghost use Rattle.ifmap_graph.specs.Drafted.{AreBare, ends_at};
 ghost use Rattle.ifmap_graph.specs.Shelved.{AreShelved, HasDraft, HasNoDraft, place_of, rows_of};
 ghost use Rattle.ifmap_graph.specs.Sides.{next, now};
-ghost use Rattle.ifmap_graph.specs.Waits.{AreWaited, waits_on};
+ghost use Rattle.ifmap_graph.specs.Waits.{WaitsFor, waits_on};
 
 use crate::shelves::{Shelf, Shelves};
 use ifmap_ident::Item;
@@ -151,10 +151,7 @@ impl Shelves {
         requires there { IsSome (place_of self.old item.now) }
         requires few { waits_on self.old item.now < 2 ^ 64 - 1 }
         ensures shelved { AreShelved self.new }
-        ensures waited { (rest : List Item) → AreWaited rest (waits_on self.old)
-            → AreWaited (item.now ∷ rest) (waits_on self.new) }
-        ensures others { (x : Item) → is_at (item_order item.now) x ≡ false
-            → waits_on self.new x ≡ waits_on self.old x }
+        ensures waits { WaitsFor (item.now ∷ []) self.old self.new }
         ensures drafts { (x : Item) → HasDraft self.new x → HasDraft self.old x }
         ensures kept { (x : Item) → HasDraft self.old x → HasDraft self.new x }
         ensures now { rows_of now self.new ≡ rows_of now self.old }
@@ -173,8 +170,7 @@ impl Shelves {
         requires waited { 0 < waits_on self.old item.now }
         ensures shelved { AreShelved self.new }
         ensures left { result ≡ waits_on self.new item.now }
-        ensures waited { (rest : List Item) → AreWaited (item.now ∷ rest) (waits_on self.old)
-            → AreWaited rest (waits_on self.new) }
+        ensures waits { WaitsFor (item.now ∷ []) self.new self.old }
         ensures bare { AreBare self.old → AreBare self.new }
         ensures now { rows_of now self.new ≡ rows_of now self.old }
         ensures next { rows_of next self.new ≡ rows_of next self.old }

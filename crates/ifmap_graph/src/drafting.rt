@@ -1,5 +1,5 @@
 //! The drafts of a change: what is to be stored on each of its items.
-ghost use Rattle.std.specs.Prelude.{◌≡◌, ◌⊎◌, ◌++◌, ℕ, true, List, None, IsSome, OnErr, OnOk, if◌then◌else◌};
+ghost use Rattle.std.specs.Prelude.{◌≡◌, ◌⊎◌, ℕ, true, None, IsSome, OnErr, OnOk, if◌then◌else◌};
 ghost use Rattle.std.specs.BTreeMap.{is_at};
 ghost use Rattle.std.specs.List.{AllByRecursion};
 ghost use Rattle.std.specs.List.Sorted.{IsStrictlySortedBy};
@@ -19,7 +19,7 @@ ghost use Rattle.ifmap_graph.specs.Shelved.{AreShelved, HasDraft, place_of, rows
 ghost use Rattle.ifmap_graph.specs.Sides.{next, now};
 ghost use Rattle.ifmap_graph.specs.Touched.{AreReady, KeepsLinks};
 ghost use Rattle.ifmap_graph.specs.Turning.{sides_at};
-ghost use Rattle.ifmap_graph.specs.Waits.{AreWaited, waits_on};
+ghost use Rattle.ifmap_graph.specs.Waits.{WaitsFor, waits_on};
 
 use crate::linking::{drop_drafts, flipped_slots, touch_slots};
 use crate::shelves::Shelves;
@@ -147,8 +147,7 @@ pub(crate) fn draft_and_wait(
         (IsAfter changes.now (rows_of now shelves.old) (rows_of next shelves.new)) }
     ensures within { DraftsWithin (items_of changes.now) shelves.new }
     ensures out { OnOk result (AreOut (items_of changes.now) shelves.new) }
-    ensures waited { OnOk result ((rest : List Item) → AreWaited rest (waits_on shelves.old)
-        → AreWaited (items_of changes.now ++ rest) (waits_on shelves.new)) }
+    ensures waited { OnOk result (WaitsFor (items_of changes.now) shelves.old shelves.new) }
     ensures waits { OnErr result ((x : Item) → waits_on shelves.new x ≡ waits_on shelves.old x) }
     ensures links { KeepsLinks links.old.items links.new.items }
     ensures ready { AreReady ways.new.items links.new.items }

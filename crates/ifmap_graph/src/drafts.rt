@@ -2,8 +2,10 @@
 ghost use Rattle.std.specs.Prelude.{◌≡◌};
 ghost use Rattle.ifmap_pool.specs.Holdings.{key_at};
 ghost use Rattle.ifmap_graph.specs.Held.{links_at};
+ghost use Rattle.ifmap_graph.specs.Seen.{links_next, rows_next};
 ghost use Rattle.ifmap_graph.specs.Shelved.{list_at, rows_by};
 ghost use Rattle.ifmap_graph.specs.Sides.{next};
+ghost use Rattle.ifmap_view.specs.Views.{IsView};
 
 use crate::graph::Graph;
 use ifmap_ident::{Identifier, Item};
@@ -39,6 +41,13 @@ impl<'a> Draft<'a> {
         ensures { result ≡ graph.now }
     {
         Draft { graph }
+    }
+
+    /// What holds of every view.
+    pub fn is_view(&self)
+        ensures { IsView (rows_next self.now) (key_at self.now.names) (links_next self.now) }
+    {
+        self.graph.next_is_view();
     }
 }
 

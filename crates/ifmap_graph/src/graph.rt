@@ -3,8 +3,9 @@ ghost use Rattle.std.specs.Prelude.{◌≡◌, ℕ, ◌<◌, [], Some, None, IfS
 ghost use Rattle.ifmap_ident.specs.declared.identifiers.Identifier.{Identifier};
 ghost use Rattle.ifmap_ident.specs.Identifiers.{identifier_bytes, identifier_order};
 ghost use Rattle.ifmap_pool.specs.Holdings.{IsPool, Names, key_at};
+ghost use Rattle.ifmap_graph.specs.Counted.{AreSoMany, count_links};
 ghost use Rattle.ifmap_graph.specs.Held.{IsOwn, links_at};
-ghost use Rattle.ifmap_graph.specs.Seen.{IsStill};
+ghost use Rattle.ifmap_graph.specs.Seen.{AreUsed, HasNumber, IsLean, IsStill, links_next, links_now, rows_next, rows_now};
 ghost use Rattle.ifmap_graph.specs.Shelved.{list_at, rows_by};
 ghost use Rattle.ifmap_graph.specs.Sides.{next, now};
 ghost use Rattle.ifmap_view.specs.Rows.{stored_linked, stored_on};
@@ -127,6 +128,7 @@ impl Graph {
         ensures numbers { (v : ℕ) → key_at result.names v ≡ None }
         ensures own { (a : Identifier) → IsOwn result a 0 }
         ensures still { IsStill result }
+        ensures lean { IsLean [] result }
     {
         Graph {
             names: Pool::new(alloc),
@@ -135,7 +137,39 @@ impl Graph {
         }
     }
 
+    /// What holds of every view.
+    pub fn is_view(&self)
+        ensures { IsView (rows_now self.now) (key_at self.now.names) (links_now self.now) }
+    {
+        let _ = &self.names;
+        bytes_tell_identifiers_apart();
+    }
+
+    /// How many identifiers have a number. Where nothing is out or left behind, these are the
+    /// identifiers that stand in an item with an attachment or that others hold.
+    pub fn identifiers(&self) -> u64
+        ensures count { AreSoMany result (HasNumber self.now) }
+        ensures used { IsLean [] self.now → AreUsed self.now }
+    {
+        bytes_tell_identifiers_apart();
+        self.names.len()
+    }
+
+    /// How many links carry an attachment. It walks all items.
+    pub fn links(&self) -> u64
+        ensures { result ≡ count_links (rows_now self.now) }
+    {
+        self.shelves.links()
+    }
+
     // The calls of a view, as it is to be.
+
+    pub(crate) fn next_is_view(&self)
+        ensures { IsView (rows_next self.now) (key_at self.now.names) (links_next self.now) }
+    {
+        let _ = &self.names;
+        bytes_tell_identifiers_apart();
+    }
 
     pub(crate) fn next_number(&self, id: &Identifier) -> Option<u64>
         ensures found { IfSome result (λ v. key_at self.now.names v ≡ Some id.now) }

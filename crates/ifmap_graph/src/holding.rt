@@ -6,7 +6,7 @@ ghost use Rattle.ifmap_ident.specs.Identifiers.{identifier_order};
 ghost use Rattle.ifmap_pool.specs.Holdings.{holds_at, key_at, once};
 ghost use Rattle.ifmap_graph.specs.Back.{KeepsBacks};
 ghost use Rattle.ifmap_graph.specs.Held.{IsOwn};
-ghost use Rattle.ifmap_graph.specs.Seen.{AwaitsMore, BringsNoNumbers, HasFewOwn, IsStill};
+ghost use Rattle.ifmap_graph.specs.Seen.{AwaitsMore, BringsNoNumbers, HasFewOwn, IsStill, StaysLean};
 ghost use Rattle.ifmap_graph.specs.Turning.{sides_at};
 
 use crate::bringing::MOST_ITEMS;
@@ -35,6 +35,7 @@ impl Graph {
         ensures places { self.new.places ≡ self.old.places }
         ensures still { IsStill self.old → IsStill self.new }
         ensures waits { AwaitsMore [] self.old self.new }
+        ensures lean { StaysLean self.old self.new }
         ensures backs { KeepsBacks self.old self.new }
         ensures err { OnErr result (self.new.names.live ≡ self.old.names.live) }
     {
@@ -63,6 +64,7 @@ impl Graph {
         ensures places { self.new.places ≡ self.old.places }
         ensures still { IsStill self.old → IsStill self.new }
         ensures waits { AwaitsMore [] self.old self.new }
+        ensures lean { StaysLean self.old self.new }
         ensures backs { KeepsBacks self.old self.new }
     {
         self.names.release(number);

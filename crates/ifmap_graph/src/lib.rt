@@ -8,6 +8,7 @@ mod bringing;
 pub mod changes;
 mod changing;
 mod committing;
+mod counting;
 mod drafting;
 pub mod drafts;
 pub mod ends;

@@ -1,14 +1,14 @@
 //! Items are waited for no longer. No call takes memory.
-ghost use Rattle.std.specs.Prelude.{◌≡◌, ◌<◌, ◌++◌, ◌∷◌, List, []};
+ghost use Rattle.std.specs.Prelude.{◌<◌, ◌∷◌, List, []};
 ghost use Rattle.slab.specs.Slab.{get};
 ghost use Rattle.ifmap_ident.specs.declared.items.Item.{Item};
 ghost use Rattle.ifmap_view.specs.declared.views.LinkSeen.{LinkSeen};
 ghost use Rattle.ifmap_graph.specs.Drafted.{AreBare};
 ghost use Rattle.ifmap_graph.specs.Held.{IsInside};
 ghost use Rattle.ifmap_graph.specs.Out.{items_of};
-ghost use Rattle.ifmap_graph.specs.Releasing.{IsLess};
+ghost use Rattle.ifmap_graph.specs.Releasing.{AreFilled, IsLess};
 ghost use Rattle.ifmap_graph.specs.Sides.{Sides};
-ghost use Rattle.ifmap_graph.specs.Waits.{AreWaited, waits_on};
+ghost use Rattle.ifmap_graph.specs.Waits.{AreWaited, WaitsFor, waits_on};
 
 use crate::placing::remove_shelf;
 use crate::shelves::Shelves;
@@ -23,8 +23,8 @@ fn release_item(names: &mut Pool<Identifier>, shelves: &mut Shelves, item: &Item
     requires bare { AreBare shelves.old }
     requires waited { 0 < waits_on shelves.old item.now }
     ensures less { IsLess names.old names.new shelves.old shelves.new }
-    ensures waits { (rest : List Item) → AreWaited (item.now ∷ rest) (waits_on shelves.old)
-        → AreWaited rest (waits_on shelves.new) }
+    ensures waits { WaitsFor (item.now ∷ []) shelves.new shelves.old }
+    ensures filled { AreFilled shelves.old → AreFilled shelves.new }
 {
     if shelves.unwait(item) > 0 {
         return;
@@ -46,9 +46,8 @@ pub(crate) fn release_items(
     requires bare { AreBare shelves.old }
     requires waits { AreWaited (items_of changes.now) (waits_on shelves.old) }
     ensures less { IsLess names.old names.new shelves.old shelves.new }
-    ensures waits { (rest : List Item)
-        → AreWaited (items_of changes.now ++ rest) (waits_on shelves.old)
-        → AreWaited rest (waits_on shelves.new) }
+    ensures waits { WaitsFor (items_of changes.now) shelves.new shelves.old }
+    ensures filled { AreFilled shelves.old → AreFilled shelves.new }
 {
     for change in changes {
         release_item(names, shelves, &change.item);

@@ -8,7 +8,7 @@ ghost use Rattle.ifmap_graph.specs.Bringing.{AreGrown, AreInside, BringsShelves,
 ghost use Rattle.ifmap_graph.specs.Drafted.{AreBare};
 ghost use Rattle.ifmap_graph.specs.Making.{IsMade, IsUnmade};
 ghost use Rattle.ifmap_graph.specs.Out.{IsOut, items_of};
-ghost use Rattle.ifmap_graph.specs.Seen.{Awaits, AwaitsLess, AwaitsMore, BringsNoNumbers, HasFewOwn, IsSeenSame, IsStill, KeepsNumbers, KeepsOwn, links_now, rows_next, rows_now};
+ghost use Rattle.ifmap_graph.specs.Seen.{Awaits, AwaitsLess, AwaitsMore, BringsNoNumbers, HasFewOwn, IsSeenSame, IsStill, KeepsNumbers, KeepsOwn, StaysLeanWith, StaysLeanWithout, links_now, rows_next, rows_now};
 ghost use Rattle.ifmap_graph.specs.Shelved.{place_of, rows_of};
 ghost use Rattle.ifmap_graph.specs.Sides.{now};
 ghost use Rattle.ifmap_graph.specs.Touched.{AreReady};
@@ -142,6 +142,7 @@ impl Graph {
         ensures numbers { KeepsNumbers self.old self.new }
         ensures own { KeepsOwn self.old self.new }
         ensures waits { OnOk result (AwaitsMore (items_of plan.changes) self.old self.new) }
+        ensures lean { OnOk result (StaysLeanWith (items_of plan.changes) self.old self.new) }
         ensures backs { KeepsBacks self.old self.new }
         ensures still { OnErr result (IsStill self.new) }
         ensures err { OnErr result (IsSeenSame self.old self.new) }
@@ -174,6 +175,7 @@ impl Graph {
         ensures numbers { BringsNoNumbers self.old self.new }
         ensures own { KeepsOwn self.old self.new }
         ensures waits { AwaitsLess (items_of ready.plan.changes) self.old self.new }
+        ensures lean { StaysLeanWithout (items_of ready.plan.changes) self.old self.new }
         ensures backs { KeepsOtherBacks (items_of ready.plan.changes) self.old self.new }
     {
         drop_plan(

@@ -2,7 +2,7 @@
 ghost use Rattle.std.specs.Prelude.{◌≡◌, ℕ};
 ghost use Rattle.ifmap_graph.specs.Back.{KeepsOtherBacks};
 ghost use Rattle.ifmap_graph.specs.Out.{IsOut, items_of};
-ghost use Rattle.ifmap_graph.specs.Seen.{Awaits, AwaitsLess, BringsNoNumbers, IsStill, KeepsOwn, links_next, links_now, rows_next, rows_now};
+ghost use Rattle.ifmap_graph.specs.Seen.{Awaits, AwaitsLess, BringsNoNumbers, IsStill, KeepsOwn, StaysLeanWithout, links_next, links_now, rows_next, rows_now};
 ghost use Rattle.ifmap_graph.specs.Stays.{StayPlaced};
 
 use crate::changes::{Ready, Undo};
@@ -24,6 +24,7 @@ impl Graph {
         ensures numbers { BringsNoNumbers self.old self.new }
         ensures own { KeepsOwn self.old self.new }
         ensures waits { AwaitsLess (items_of changes.now) self.old self.new }
+        ensures lean { StaysLeanWithout (items_of changes.now) self.old self.new }
         ensures stay { StayPlaced self.old self.new }
         ensures backs { KeepsOtherBacks (items_of changes.now) self.old self.new }
     {
@@ -42,6 +43,7 @@ impl Graph {
         ensures numbers { BringsNoNumbers self.old self.new }
         ensures own { KeepsOwn self.old self.new }
         ensures waits { AwaitsLess (items_of undo.plan.changes) self.old self.new }
+        ensures lean { StaysLeanWithout (items_of undo.plan.changes) self.old self.new }
         ensures backs { KeepsOtherBacks (items_of undo.plan.changes) self.old self.new }
     {
         self.release_waits(&undo.plan.changes.0);
@@ -59,6 +61,7 @@ impl Graph {
         ensures numbers { BringsNoNumbers self.old self.new }
         ensures own { KeepsOwn self.old self.new }
         ensures waits { AwaitsLess (items_of ready.plan.changes) self.old self.new }
+        ensures lean { StaysLeanWithout (items_of ready.plan.changes) self.old self.new }
     {
         let undo = self.commit_kept(ready);
         self.settle(undo)

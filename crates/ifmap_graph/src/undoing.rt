@@ -12,7 +12,7 @@ ghost use Rattle.ifmap_view.specs.Rows.{stored_on};
 ghost use Rattle.ifmap_graph.specs.Back.{IsWayBack, stand_each};
 ghost use Rattle.ifmap_graph.specs.Drafted.{AreBare, ends_at};
 ghost use Rattle.ifmap_graph.specs.Out.{items_of};
-ghost use Rattle.ifmap_graph.specs.Seen.{AwaitsLess, BringsNoNumbers, IsStill, KeepsOwn, links_now, rows_now};
+ghost use Rattle.ifmap_graph.specs.Seen.{AwaitsLess, BringsNoNumbers, IsStill, KeepsOwn, StaysLeanWithout, links_now, rows_now};
 ghost use Rattle.ifmap_graph.specs.Shelved.{AreShelved, place_of, rows_of};
 ghost use Rattle.ifmap_graph.specs.Sides.{now};
 ghost use Rattle.ifmap_graph.specs.Waits.{waits_on};
@@ -104,6 +104,7 @@ impl Graph {
         ensures numbers { BringsNoNumbers self.old self.new }
         ensures own { KeepsOwn self.old self.new }
         ensures waits { AwaitsLess (items_of undo.plan.changes) self.old self.new }
+        ensures lean { StaysLeanWithout (items_of undo.plan.changes) self.old self.new }
     {
         let mut lists = undo.lists;
         let mut ways = undo.ways;

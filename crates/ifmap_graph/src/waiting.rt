@@ -1,5 +1,5 @@
 //! The items of a change that is out are waited for. No call takes memory.
-ghost use Rattle.std.specs.Prelude.{◌≡◌, ◌<◌, ◌-◌, ◌^◌, ◌++◌, ℕ, true, List, IsSome};
+ghost use Rattle.std.specs.Prelude.{◌≡◌, ◌<◌, ◌-◌, ◌^◌, ℕ, true, IsSome};
 ghost use Rattle.std.specs.List.{AllByRecursion, IsDistinct};
 ghost use Rattle.slab.specs.Slab.{get};
 ghost use Rattle.ifmap_ident.specs.declared.items.Item.{Item};
@@ -8,7 +8,7 @@ ghost use Rattle.ifmap_graph.specs.Drafted.{ends_at};
 ghost use Rattle.ifmap_graph.specs.Out.{items_of};
 ghost use Rattle.ifmap_graph.specs.Shelved.{AreShelved, HasDraft, place_of, rows_of};
 ghost use Rattle.ifmap_graph.specs.Sides.{next, now};
-ghost use Rattle.ifmap_graph.specs.Waits.{AreWaited, waits_of, waits_on};
+ghost use Rattle.ifmap_graph.specs.Waits.{WaitsFor, waits_of, waits_on};
 
 use crate::shelves::{Shelf, Shelves};
 use ifmap_ident::Item;
@@ -58,8 +58,7 @@ pub(crate) fn wait_for(shelves: &mut Shelves, changes: &[ItemChange])
     ensures shelved { AreShelved shelves.new }
     ensures now { rows_of now shelves.new ≡ rows_of now shelves.old }
     ensures next { rows_of next shelves.new ≡ rows_of next shelves.old }
-    ensures waited { (rest : List Item) → AreWaited rest (waits_on shelves.old)
-        → AreWaited (items_of changes.now ++ rest) (waits_on shelves.new) }
+    ensures waits { WaitsFor (items_of changes.now) shelves.old shelves.new }
     ensures drafts { (x : Item) → HasDraft shelves.new x → HasDraft shelves.old x }
     ensures kept { (x : Item) → HasDraft shelves.old x → HasDraft shelves.new x }
     ensures ends { (at : ℕ) → ends_at shelves.new at ≡ ends_at shelves.old at }

@@ -2,11 +2,12 @@
 use Rattle.std.proofs.Common.{◌≡◌, ◌≢◌, ℕ, zero, suc, ◌+◌, ◌<◌, List, [], ◌∷◌, map, get_or, Option, Some, None, true, false, cond, refl, sym, ap, ◌∙◌, inl, inr, arith}
 use Rattle.std.proofs.lemmas.Bool.{cases_eq}
 use Rattle.std.proofs.lemmas.Bool.Decides.{nat_tests}
-use Rattle.std.specs.Prelude.{option_map}
+use Rattle.std.proofs.lemmas.List.Sums.{sum_by-cons}
+use Rattle.std.specs.Prelude.{is_some, option_map}
 use Rattle.std.specs.Ordering.{nat_cmp, eq_by_cmp}
 use Rattle.std.specs.Cmp.{nat_cmp_total, unsigned_tied}
-use Rattle.std.specs.FinMap.{find, get, empty, insert, remove, get-from_entries, get-insert, get-remove, same_map, nat_cmp-IsAntisymmetric}
-use Rattle.ifmap_pool.specs.Index.{entries_from, entry_of, live_of}
+use Rattle.std.specs.FinMap.{find, get, empty, from_entries, insert, len, remove, get-from_entries, get-insert, get-remove, len-empty, len-insert, same_map, nat_cmp-IsAntisymmetric}
+use Rattle.ifmap_pool.specs.Index.{entries_from, entry_of, live_of, slot_count}
 use Rattle.ifmap_pool.specs.declared.slots.Held.{Held}
 
 -- two numbers tie where they are one
@@ -79,3 +80,22 @@ module _ {K : Type 0} where
             ∙ sym (get-remove nat_cmp_total (live_of old) number q
             ∙ ap (λ b. cond b None (get (live_of old) q)) (apart q number differs))
       ])
+
+  len_listed : (first : ℕ) (slots : List (Option (Held K))) → len (from_entries {R = nat_cmp} (listed first slots)) ≡ slot_count slots
+  len_listed first [] = len-empty nat_cmp (K × ℕ)
+  len_listed first (None ∷ rest) = len_listed (first + 1) rest
+  len_listed first (Some held ∷ rest) =
+      let none : get (from_entries {R = nat_cmp} (listed (first + 1) rest)) first ≡ None
+      = get-from_entries nat_cmp_total (listed (first + 1) rest) first ∙ find_before (first + 1) first rest (omega arith)
+      in let more : len (from_entries {R = nat_cmp} (listed first (Some held ∷ rest))) ≡ len (from_entries {R = nat_cmp} (listed (first + 1) rest)) + 1
+      = len-insert nat_cmp_total (from_entries (listed (first + 1) rest)) first (entry_of held)
+      ∙ ap (λ o. cond (is_some o) (len (from_entries {R = nat_cmp} (listed (first + 1) rest)))
+      (len (from_entries {R = nat_cmp} (listed (first + 1) rest)) + 1)) none
+      in let one : slot_count (Some held ∷ rest) ≡ 1 + slot_count rest
+      = sum_by-cons (λ (o : Option (Held K)). cond (is_some o) 1 0) (Some held) rest
+      in omega (arith, more, one, len_listed (first + 1) rest)
+
+  -- it has as many keys as slots are not empty
+  pub len-live_of : (slots : List (Option (Held K))) → len (live_of slots) ≡ slot_count slots
+  unfolding live_of
+  len-live_of slots = len_listed 0 slots

@@ -1,6 +1,6 @@
 //! The pool: numbers that stand for keys.
 ghost use Rattle.std.specs.Prelude.{◌≡◌, ◌≢◌, ◌↔◌, ◌⊎◌, ℕ, ◌+◌, ◌-◌, ◌<◌, ◌≤◌, ◌^◌, IsSome, IsOk, IfSome, IfNone, OnOk, OnErr, max, option_copied};
-ghost use Rattle.std.specs.FinMap.{empty};
+ghost use Rattle.std.specs.FinMap.{empty, len};
 ghost use Rattle.ifmap_pool.specs.Holdings.{entry_at, key_at, holds_at, Takes, HoldsAgain, LetsGo, Frees, Names, IsPresent, IsAbsent, IsPool, IsHeld, once, HoldsOne, LetsOneGo};
 
 use crate::places::{list_number, place_of, unlist_number};
@@ -92,6 +92,13 @@ impl<K: Ord> Pool<K> {
             Some(held) => Some(&held.key),
             None => None,
         }
+    }
+
+    /// How many keys are held.
+    pub fn len(&self) -> u64
+        ensures { result ≡ len self.now.live }
+    {
+        self.order.len() as u64
     }
 
     /// A number that all live numbers are below: the most keys that were held or had room at once.

@@ -1,7 +1,8 @@
-use Rattle.std.proofs.Common.{refl, sym, ◌∙◌, subst, IsSome, arith}
-use Rattle.ifmap_graph.proofs.Gone.{waits_left}
+use Rattle.std.proofs.Common.{refl, ap, sym, ◌∙◌, subst, inl, inr, IsSome, arith}
+use Rattle.ifmap_view.specs.Rows.{stored_on}
+use Rattle.ifmap_graph.proofs.Filling.{filled_less, filled_still}
 use Rattle.ifmap_graph.proofs.Lessening.{inside_written, is_bare, is_there_still, less_on, less_removed, less_written, waited_there}
-use Rattle.ifmap_graph.proofs.Passing.{nothing_in}
+use Rattle.ifmap_graph.proofs.Passing.{nothing_in, some_there}
 use Rattle.ifmap_graph.proofs.releasing.release_item.Goals as goal
 
 pub unwait-requires : goal.unwait-requires
@@ -52,6 +53,26 @@ returns-clause-less c =
     c.remove_shelf.ensures.named c.remove_shelf.ensures.own)
 
 pub returns-clause-waits : goal.returns-clause-waits
-returns-clause-waits c = λ rest a.
-    waits_left c.unwait.new.self c.remove_shelf.new.shelves c.remove_shelf.ensures.before c.args.item.now c.remove_shelf.ensures.others
-    (sym c.unwait.ensures.left ∙ omega (arith, c.if-unwait-gt0.false)) rest (c.unwait.ensures.waited rest a)
+returns-clause-waits c = λ x.
+    omega (
+      arith,
+      c.unwait.ensures.waits x,
+      (c.remove_shelf.ensures.taken (sym c.unwait.ensures.left ∙ omega (arith, c.if-unwait-gt0.false))).waits x,
+    )
+
+pub returns-then-unwait-gt0-clause-filled : goal.returns-then-unwait-gt0-clause-filled
+returns-then-unwait-gt0-clause-filled c =
+    filled_still c.args.shelves.now c.unwait.new.self c.args.item.now c.unwait.ensures.places c.unwait.ensures.now c.unwait.ensures.waits
+    (inl (omega (arith, c.if-unwait-gt0.true, c.unwait.ensures.left)))
+
+pub returns-then-not-is_empty-clause-filled : goal.returns-then-not-is_empty-clause-filled
+returns-then-not-is_empty-clause-filled c =
+    filled_still c.args.shelves.now c.unwait.new.self c.args.item.now c.unwait.ensures.places c.unwait.ensures.now c.unwait.ensures.waits
+    (inr (λ e. some_there c.stored_at.result.now (sym c.is_empty.ensures ∙ c.if-not-is_empty.true)
+    (c.stored_at.ensures ∙ ap (stored_on c.args.item.now) c.unwait.ensures.now ∙ e)))
+
+pub returns-clause-filled : goal.returns-clause-filled
+returns-clause-filled c =
+    filled_less c.args.shelves.now c.unwait.new.self c.args.item.now c.unwait.ensures.places c.unwait.ensures.now c.unwait.ensures.waits
+    c.remove_shelf.new.shelves (c.remove_shelf.ensures.taken (sym c.unwait.ensures.left ∙ omega (arith, c.if-unwait-gt0.false)))
+    c.remove_shelf.ensures.now

@@ -8,7 +8,7 @@ use Rattle.ifmap_pool.specs.Holdings.{IsHeld}
 use Rattle.ifmap_graph.specs.Bringing.{marked, parts_of}
 use Rattle.ifmap_graph.specs.Named.{named_in}
 use Rattle.ifmap_graph.specs.Out.{items_of}
-use Rattle.ifmap_graph.proofs.Brought.{brings_written}
+use Rattle.ifmap_graph.proofs.Brought.{brings_written, other_marked}
 use Rattle.ifmap_graph.proofs.Flipping.{inside_dropped, kept_both}
 use Rattle.ifmap_graph.proofs.Made.{made_by, unmade_by}
 use Rattle.ifmap_graph.proofs.reserving.draft_or_take.Goals as goal
@@ -53,7 +53,7 @@ returns-in-Ok-clause-made c = λ first grown brought.
     grown brought
     (c.in-Ok.ensures.inside c.args.names.now c.requires.inside) c.draft_and_wait.ensures.now c.in-Ok.ensures.next c.in-Ok.ensures.out
     c.draft_and_wait.ensures.ready c.draft_and_wait.ensures.links c.draft_and_wait.ensures.ends c.draft_and_wait.ensures.places
-    c.in-Ok.ensures.waited
+    (other_marked (items_of c.args.coming.now.changes.now) c.args.coming.now.fresh.now) c.in-Ok.ensures.waited
 
 pub returns-in-Err-clause-unmade : goal.returns-in-Err-clause-unmade
 returns-in-Err-clause-unmade c = λ first is grown brought.

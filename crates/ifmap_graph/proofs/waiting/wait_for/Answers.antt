@@ -37,8 +37,7 @@ loop-change-preserved c =
     ∙ ap (λ (x : ItemChange). x.item) (sym c.change-item.is)
     in waits_on_more (items_of c.args.changes.now) c.args.shelves.now c.loop-change.shelves c.loop-change.change-index
     c.change-item.result.item h is
-    c.loop-change.invariant c.wait.new.self c.wait.ensures.shelved c.wait.ensures.now c.wait.ensures.next c.wait.ensures.waited
-    c.wait.ensures.others
+    c.loop-change.invariant c.wait.new.self c.wait.ensures.shelved c.wait.ensures.now c.wait.ensures.next c.wait.ensures.waits
     c.wait.ensures.drafts c.wait.ensures.kept c.wait.ensures.ends c.wait.ensures.places
 
 pub returns : goal.returns
@@ -46,7 +45,7 @@ returns c = record {
   shelved = c.loop-change.invariant.shelved;
   now = c.loop-change.invariant.same;
   next = c.loop-change.invariant.other;
-  waited = waited_all (items_of c.args.changes.now) c.args.shelves.now c.loop-change.shelves c.loop-change.change-index
+  waits = waited_all (items_of c.args.changes.now) c.args.shelves.now c.loop-change.shelves c.loop-change.change-index
       (omega (arith, c.loop-change-test.false, length-map c.args.changes.now (λ (x : ItemChange). x.item))) c.loop-change.invariant;
   drafts = c.loop-change.invariant.drafts;
   kept = c.loop-change.invariant.kept;

@@ -1,7 +1,7 @@
 use Rattle.std.proofs.Common.{sym, ◌∙◌, subst, ◌++◌}
 use Rattle.ifmap_plans.specs.declared.plans.Plan.{Plan}
 use Rattle.ifmap_graph.specs.Out.{items_of}
-use Rattle.ifmap_graph.specs.Seen.{Awaits, AwaitsLess}
+use Rattle.ifmap_graph.specs.Seen.{Awaits, AwaitsLess, StaysLeanWithout}
 use Rattle.ifmap_graph.proofs.graph.Graph.commit.Goals as goal
 
 pub settle-requires : goal.settle-requires
@@ -22,3 +22,9 @@ returns-clause-waits c = λ rest a.
 
 pub returns-clause-own : goal.returns-clause-own
 returns-clause-own c = λ a own h. c.settle.ensures.own a own (c.commit_kept-undo.ensures.own a own h)
+
+pub returns-clause-lean : goal.returns-clause-lean
+returns-clause-lean c = λ rest lean.
+    subst (λ (p : Plan). StaysLeanWithout (items_of p.changes) c.commit_kept-undo.new.self c.settle.new.self)
+    c.commit_kept-undo.ensures.plan c.settle.ensures.lean rest
+    (c.commit_kept-undo.ensures.lean c.requires.waits (items_of c.args.ready.plan.changes ++ rest) lean)

@@ -9,6 +9,7 @@ use Rattle.ifmap_graph.specs.Sides.{next, now}
 use Rattle.ifmap_graph.specs.Turning.{AreDrafted, NoOthers, accept_each, backs, sides_at}
 use Rattle.ifmap_graph.proofs.Committed.{made_inside, made_links}
 use Rattle.ifmap_graph.proofs.Insides.{rows_shown}
+use Rattle.ifmap_graph.proofs.Lean.{turned_lean}
 use Rattle.ifmap_graph.proofs.Outs.{are_out}
 use Rattle.ifmap_graph.proofs.Settled.{bare_to}
 use Rattle.ifmap_graph.proofs.Taking.{can_go_back}
@@ -102,3 +103,12 @@ pub returns-clause-waits : goal.returns-clause-waits
 returns-clause-waits c = λ rest a.
     waits_stay_seen c.self.inside.names c.self.inside.shelves c.accept_changes.new.shelves c.self.inside.links.items c.accept_all.new.lists.items
     c.accept_changes.ensures.places c.accept_changes.ensures.ends c.accept_changes.ensures.waits rest (rw (← c.self.view_is) at a)
+
+pub returns-clause-lean : goal.returns-clause-lean
+returns-clause-lean c =
+    let q = rw (← c.self.view_is) at c.requires
+    in rw (← c.self.view_is)
+    (λ awaits. turned_lean c.self.inside.names c.self.inside.names c.self.inside.shelves c.accept_changes.new.shelves c.self.inside.links.items
+    c.accept_all.new.lists.items (items_of c.args.ready.plan.changes) awaits c.self.invariant.placed
+    (are_out c.self.inside.shelves (items_of c.args.ready.plan.changes) q.drafted q.within q.apart) c.accept_changes.ensures.waits
+    c.accept_changes.ensures.places c.accept_changes.ensures.now)

@@ -1,14 +1,19 @@
 use Rattle.std.proofs.Common.{◌++◌, IsSome, ap, ◌∙◌, sym, subst}
+use Rattle.std.specs.BTreeMap.{is_at}
 use Rattle.std.specs.List.{AllByRecursion}
+use Rattle.std.specs.Map.{lookup}
+use Rattle.ifmap_ident.specs.Items.{item_order}
+use Rattle.ifmap_view.specs.Rows.{stored_on}
 use Rattle.ifmap_graph.specs.Back.{KeepsOtherBacks}
 use Rattle.ifmap_graph.specs.Drafted.{DraftsWithin}
 use Rattle.ifmap_graph.specs.Out.{items_of}
-use Rattle.ifmap_graph.specs.Seen.{Awaits}
+use Rattle.ifmap_graph.specs.Seen.{Awaits, IsLean}
 use Rattle.ifmap_graph.specs.Shelved.{place_of}
 use Rattle.ifmap_graph.specs.Touched.{AreReady}
 use Rattle.ifmap_graph.specs.Turning.{sides_at}
 use Rattle.ifmap_graph.proofs.Accepting.{drafted_there}
 use Rattle.ifmap_graph.proofs.Flipping.{inside_dropped}
+use Rattle.ifmap_graph.proofs.Lean.{same_lean}
 use Rattle.ifmap_graph.proofs.Outs.{are_out}
 use Rattle.ifmap_graph.proofs.Settled.{bare_to, held_of}
 use Rattle.ifmap_graph.proofs.Written.{first_backs, written_backs, written_now, written_own, written_waits}
@@ -101,3 +106,13 @@ returns-clause-backs c =
     (subst (λ l. KeepsOtherBacks (items_of l)
     (held_of c.self.inside.names c.drop_plan.new.shelves c.drop_plan.new.links.items) c.release_waits.new.self)
     (c.deref-3.ensures.value ∙ ap (λ r. r.plan.changes) c.ready.view_is) c.release_waits.ensures.backs))
+
+pub returns-clause-lean : goal.returns-clause-lean
+returns-clause-lean c =
+    rw (← c.self.view_is)
+    (λ rest lean. c.release_waits.ensures.lean rest
+    (subst (λ l. IsLean (items_of l ++ rest) (held_of c.self.inside.names c.drop_plan.new.shelves c.drop_plan.new.links.items))
+    (sym (c.deref-3.ensures.value ∙ ap (λ r. r.plan.changes) c.ready.view_is))
+    (same_lean c.self.inside.names c.self.inside.names c.self.inside.shelves c.drop_plan.new.shelves c.self.inside.links.items
+    c.drop_plan.new.links.items c.drop_plan.ensures.waits
+    (λ x none. ap (λ p. lookup (is_at (item_order x)) p.entries) c.drop_plan.ensures.places) (λ x none. ap (stored_on x) c.drop_plan.ensures.now) _ lean)))

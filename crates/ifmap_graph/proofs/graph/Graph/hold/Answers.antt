@@ -9,7 +9,7 @@ use Rattle.ifmap_graph.specs.Bringing.{parts_of}
 use Rattle.ifmap_graph.proofs.Grown.{few_holds}
 use Rattle.ifmap_graph.proofs.Changed.{held_alike, inside_held, keys_alike, names_alike, roomier}
 use Rattle.ifmap_graph.proofs.Holds.{add_two, still_identifiers}
-use Rattle.ifmap_graph.proofs.Kept.{kept_backs, kept_still, kept_waits}
+use Rattle.ifmap_graph.proofs.Kept.{kept_backs, kept_lean, kept_still, kept_waits}
 use Rattle.ifmap_graph.proofs.Settled.{few_from, held_of}
 use Rattle.ifmap_graph.proofs.Own.{held_again, holds_alike, key_kept, key_told}
 use Rattle.ifmap_graph.proofs.graph.Graph.hold.Goals as goal
@@ -134,4 +134,22 @@ pub returns-in_err-reserve-clause-backs : goal.returns-in_err-reserve-clause-bac
 returns-in_err-reserve-clause-backs c =
     rw (← c.self.view_is)
     (kept_backs (held_of c.self.inside.names c.self.inside.shelves c.self.inside.links.items)
+    (held_of c.reserve.new.self c.self.inside.shelves c.self.inside.links.items) refl refl (λ v. refl) (omega arith))
+
+pub returns-clause-lean : goal.returns-clause-lean
+returns-clause-lean c =
+    rw (← c.self.view_is)
+    (kept_lean (held_of c.self.inside.names c.self.inside.shelves c.self.inside.links.items)
+    (held_of c.hold.new.self c.self.inside.shelves c.lengthen.new.links.items) refl refl c.lengthen.ensures.same c.lengthen.ensures.longer)
+
+pub returns-in_err-lengthen-clause-lean : goal.returns-in_err-lengthen-clause-lean
+returns-in_err-lengthen-clause-lean c =
+    rw (← c.self.view_is)
+    (kept_lean (held_of c.self.inside.names c.self.inside.shelves c.self.inside.links.items)
+    (held_of c.reserve.new.self c.self.inside.shelves c.lengthen.new.links.items) refl refl c.lengthen.ensures.same c.lengthen.ensures.longer)
+
+pub returns-in_err-reserve-clause-lean : goal.returns-in_err-reserve-clause-lean
+returns-in_err-reserve-clause-lean c =
+    rw (← c.self.view_is)
+    (kept_lean (held_of c.self.inside.names c.self.inside.shelves c.self.inside.links.items)
     (held_of c.reserve.new.self c.self.inside.shelves c.self.inside.links.items) refl refl (λ v. refl) (omega arith))

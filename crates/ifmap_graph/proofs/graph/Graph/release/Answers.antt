@@ -1,7 +1,7 @@
 use Rattle.std.proofs.Common.{refl, arith}
 use Rattle.slab.specs.Slab.{get}
 use Rattle.ifmap_graph.proofs.Holds.{keys_before, keys_stay}
-use Rattle.ifmap_graph.proofs.Kept.{kept_backs, kept_still, kept_waits}
+use Rattle.ifmap_graph.proofs.Kept.{kept_backs, kept_lean, kept_still, kept_waits}
 use Rattle.ifmap_graph.proofs.Settled.{held_of}
 use Rattle.ifmap_graph.proofs.Own.{inside_released, live_key, own_released}
 use Rattle.ifmap_graph.proofs.graph.Graph.release.Goals as goal
@@ -56,5 +56,12 @@ pub returns-clause-backs : goal.returns-clause-backs
 returns-clause-backs c =
     rw (← c.self.view_is)
     (kept_backs (held_of c.self.inside.names c.self.inside.shelves c.self.inside.links.items)
+    (held_of c.release.new.self c.self.inside.shelves c.self.inside.links.items)
+    refl refl (λ v. refl) (omega arith))
+
+pub returns-clause-lean : goal.returns-clause-lean
+returns-clause-lean c =
+    rw (← c.self.view_is)
+    (kept_lean (held_of c.self.inside.names c.self.inside.shelves c.self.inside.links.items)
     (held_of c.release.new.self c.self.inside.shelves c.self.inside.links.items)
     refl refl (λ v. refl) (omega arith))

@@ -2,6 +2,7 @@ use Rattle.std.proofs.Common.{refl, arith}
 use Rattle.ifmap_graph.specs.Out.{items_of}
 use Rattle.ifmap_graph.proofs.Own.{key_kept}
 use Rattle.ifmap_graph.proofs.Backs.{keeps_other_backs}
+use Rattle.ifmap_graph.proofs.Lean.{less_lean}
 use Rattle.ifmap_graph.proofs.Settled.{held_of, bare_from, bare_to, less_next, less_now, less_own, less_stay, less_waits, waited_from}
 use Rattle.ifmap_graph.proofs.graph.Graph.release_waits.Goals as goal
 
@@ -74,3 +75,9 @@ returns-clause-backs c =
     (items_of c.args.changes.now)
     (less_waits c.self.inside.names c.release_items.new.names c.self.inside.shelves c.release_items.new.shelves c.self.inside.links.items c.release_items.ensures.less
     (items_of c.args.changes.now) c.release_items.ensures.waits))
+
+pub returns-clause-lean : goal.returns-clause-lean
+returns-clause-lean c =
+    rw (← c.self.view_is)
+    (less_lean c.self.inside.names c.release_items.new.names c.self.inside.shelves c.release_items.new.shelves c.self.inside.links.items
+    c.self.inside.links.items (items_of c.args.changes.now) c.release_items.ensures.waits c.release_items.ensures.filled)

@@ -7,6 +7,7 @@ use Rattle.ifmap_graph.specs.Shelved.{rows_of}
 use Rattle.ifmap_graph.specs.Sides.{now}
 use Rattle.ifmap_graph.proofs.Insides.{rows_shown}
 use Rattle.ifmap_graph.proofs.Joining.{any_err}
+use Rattle.ifmap_graph.proofs.Lean.{made_lean}
 use Rattle.ifmap_graph.proofs.Reserved.{made_after, made_backs, made_now, made_numbers, made_out, made_own, made_waits, unmade_backs, unmade_now, unmade_numbers, unmade_own, unmade_same, unmade_still}
 use Rattle.ifmap_graph.proofs.Settled.{bare_from, few_from}
 use Rattle.ifmap_graph.proofs.graph.Graph.reserve.Goals as goal
@@ -134,3 +135,17 @@ returns-clause-backs c =
     (made_backs c.self.inside.names c.make_ready.new.names c.self.inside.shelves c.make_ready.new.shelves c.self.inside.links.items
     c.make_ready.new.links.items
     c.deref.result.now c.make_ready.new.ways.items c.in_ok-make_ready.ensures.made)
+
+pub returns-clause-lean : goal.returns-clause-lean
+returns-clause-lean c =
+    let made : IsMade c.args.plan.changes c.make_ready.new.ways.items
+    (parts_of c.self.inside.names c.self.inside.shelves c.self.inside.links.items)
+    (parts_of c.make_ready.new.names c.make_ready.new.shelves c.make_ready.new.links.items)
+    = subst (λ l. IsMade l c.make_ready.new.ways.items (parts_of c.self.inside.names c.self.inside.shelves c.self.inside.links.items)
+    (parts_of c.make_ready.new.names c.make_ready.new.shelves c.make_ready.new.links.items))
+    (c.deref.ensures.value ∙ ap (λ p. p.changes) c.plan.view_is)
+    c.in_ok-make_ready.ensures.made
+    in rw (← c.self.view_is)
+    (made_lean c.self.inside.names c.make_ready.new.names c.self.inside.shelves c.make_ready.new.shelves c.self.inside.links.items
+    c.make_ready.new.links.items
+    c.args.plan.changes c.make_ready.new.ways.items made)

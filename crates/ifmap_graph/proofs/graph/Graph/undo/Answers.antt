@@ -4,10 +4,11 @@ use Rattle.ifmap_view.specs.Rows.{stored_on}
 use Rattle.ifmap_graph.specs.Back.{stand_each}
 use Rattle.ifmap_graph.specs.Held.{links_at}
 use Rattle.ifmap_graph.specs.Out.{items_of}
-use Rattle.ifmap_graph.specs.Seen.{Awaits}
+use Rattle.ifmap_graph.specs.Seen.{Awaits, IsLean}
 use Rattle.ifmap_graph.specs.Shelved.{place_of, rows_of}
 use Rattle.ifmap_graph.specs.Sides.{now}
 use Rattle.ifmap_graph.specs.Turning.{restore_each}
+use Rattle.ifmap_graph.proofs.Lean.{stood_lean}
 use Rattle.ifmap_graph.proofs.Settled.{bare_from, held_of}
 use Rattle.ifmap_graph.proofs.Undone.{all_there, own_stays, undone_inside, undone_links, undone_rows, undone_still, waits_stay_seen}
 use Rattle.ifmap_graph.proofs.graph.Graph.undo.Goals as goal
@@ -103,3 +104,18 @@ returns-clause-waits c = λ rest a.
     (waits_stay_seen c.self.inside.names c.self.inside.shelves c.exchange_changes.new.shelves c.self.inside.links.items c.restore_all.new.lists.items
     c.exchange_changes.ensures.places c.exchange_changes.ensures.ends c.exchange_changes.ensures.waits
     (items_of c.args.undo.plan.changes ++ rest) (rw (← c.self.view_is) at a)))
+
+pub returns-clause-lean : goal.returns-clause-lean
+returns-clause-lean c =
+    let b = rw (← c.self.view_is) at c.requires.back
+    in rw (← c.self.view_is)
+    (λ rest lean. c.release_waits.ensures.lean rest
+    (subst (λ l. IsLean (items_of l ++ rest) (held_of c.self.inside.names c.exchange_changes.new.shelves c.restore_all.new.lists.items))
+    (sym (c.deref-2.ensures.value ∙ ap (λ r. r.plan.changes) c.undo.view_is))
+    (stood_lean c.self.inside.names c.self.inside.names c.self.inside.shelves c.exchange_changes.new.shelves c.self.inside.links.items
+    c.restore_all.new.lists.items (items_of c.args.undo.plan.changes) b.2.waits c.exchange_changes.ensures.waits
+    c.exchange_changes.ensures.places c.lists.inside.0.items
+    (λ x. c.exchange_changes.ensures.now x
+    ∙ ap (λ l. stand_each (items_of l) c.lists.inside.0.items x (stored_on x (rows_of now c.self.inside.shelves)))
+    (c.deref.ensures.value ∙ ap (λ r. r.plan.changes) c.undo.view_is))
+    _ lean)))

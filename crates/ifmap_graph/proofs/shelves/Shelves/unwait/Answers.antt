@@ -39,10 +39,12 @@ returns-clause-next c =
     in side_stays c.args.self.now.slots c.unwait_at.new.slots c.args.self.now.places.entries c.requires.shelved c.args.item.now c.index-at.result.now
     c.index-at.ensures s.0 _ s.1 (c.unwait_at.ensures.slots s.0 s.1) next refl
 
-pub returns-clause-waited : goal.returns-clause-waited
-returns-clause-waited c =
+pub returns-clause-waits : goal.returns-clause-waits
+returns-clause-waits c =
     let s = some_of (get c.args.self.now.slots c.index-at.result.now)
     (slot_live (get c.args.self.now.slots) c.args.self.now.places.entries c.args.item.now c.index-at.result.now c.requires.shelved c.index-at.ensures)
+    in let count : waits_at (get c.args.self.now.slots) c.args.self.now.places.entries c.args.item.now ≡ s.0.waits
+    = ap (waits_there (get c.args.self.now.slots)) c.index-at.ensures ∙ ap waits_of s.1
     in lowered (waits_at (get c.args.self.now.slots) c.args.self.now.places.entries)
     (waits_at (get c.unwait_at.new.slots) c.args.self.now.places.entries) c.args.item.now s.0.waits _
     (waits_had c.args.self.now.slots c.unwait_at.new.slots c.args.self.now.places.entries c.requires.shelved c.args.item.now c.index-at.result.now
@@ -50,7 +52,7 @@ returns-clause-waited c =
     (waits_has c.args.self.now.slots c.unwait_at.new.slots c.args.self.now.places.entries c.requires.shelved c.args.item.now c.index-at.result.now
     c.index-at.ensures s.0 _ s.1 (c.unwait_at.ensures.slots s.0 s.1))
     (waits_others c.args.self.now.slots c.unwait_at.new.slots c.args.self.now.places.entries c.requires.shelved c.args.item.now c.index-at.result.now
-    c.index-at.ensures s.0 _ s.1 (c.unwait_at.ensures.slots s.0 s.1)) refl
+    c.index-at.ensures s.0 _ s.1 (c.unwait_at.ensures.slots s.0 s.1)) (subst (λ (n : ℕ). 0 < n) count c.requires.waited) refl
 
 pub returns-clause-left : goal.returns-clause-left
 returns-clause-left c =

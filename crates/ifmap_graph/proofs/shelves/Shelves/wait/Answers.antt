@@ -38,8 +38,8 @@ returns-clause-next c =
     in side_stays c.args.self.now.slots c.wait_at.new.slots c.args.self.now.places.entries c.requires.shelved c.args.item.now c.index-at.result.now
     c.index-at.ensures s.0 _ s.1 (c.wait_at.ensures s.0 s.1) next refl
 
-pub returns-clause-waited : goal.returns-clause-waited
-returns-clause-waited c =
+pub returns-clause-waits : goal.returns-clause-waits
+returns-clause-waits c =
     let s = some_of (get c.args.self.now.slots c.index-at.result.now)
     (slot_live (get c.args.self.now.slots) c.args.self.now.places.entries c.args.item.now c.index-at.result.now c.requires.shelved c.index-at.ensures)
     in raised (waits_at (get c.args.self.now.slots) c.args.self.now.places.entries)
@@ -57,13 +57,6 @@ returns-clause-ends c =
     (slot_live (get c.args.self.now.slots) c.args.self.now.places.entries c.args.item.now c.index-at.result.now c.requires.shelved c.index-at.ensures)
     in ends_stay c.args.self.now.slots c.wait_at.new.slots c.args.self.now.places.entries c.requires.shelved c.args.item.now c.index-at.result.now
     c.index-at.ensures s.0 _ s.1 (c.wait_at.ensures s.0 s.1) refl
-
-pub returns-clause-others : goal.returns-clause-others
-returns-clause-others c =
-    let s = some_of (get c.args.self.now.slots c.index-at.result.now)
-    (slot_live (get c.args.self.now.slots) c.args.self.now.places.entries c.args.item.now c.index-at.result.now c.requires.shelved c.index-at.ensures)
-    in waits_others c.args.self.now.slots c.wait_at.new.slots c.args.self.now.places.entries c.requires.shelved c.args.item.now c.index-at.result.now
-    c.index-at.ensures s.0 _ s.1 (c.wait_at.ensures s.0 s.1)
 
 pub returns-clause-drafts : goal.returns-clause-drafts
 returns-clause-drafts c =

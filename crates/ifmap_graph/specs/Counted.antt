@@ -1,0 +1,41 @@
+-- How many identifiers are such, and how many links carry something.
+use Rattle.std.specs.Prelude.{◌≡◌, ℕ, ◌+◌, Bool, true, false, List, [], ◌∷◌, length, if◌then◌else◌}
+use Rattle.std.specs.List.{IsDistinct, filter, list_any}
+use Rattle.ifmap_lemmas.specs.Having.{Has}
+use Rattle.ifmap_ident.specs.declared.identifiers.Identifier.{Identifier}
+use Rattle.ifmap_ident.specs.declared.items.Item.{Item}
+use Rattle.ifmap_ident.specs.declared.items.Item.TheVariants.{One, Pair}
+use Rattle.ifmap_ident.specs.Identifiers.{same_identifier}
+use Rattle.ifmap_ident.specs.Items.{same_item}
+use Rattle.ifmap_meta.specs.declared.stored.Stored.{Stored}
+use Rattle.ifmap_view.specs.declared.attachments.Attachment.{Attachment}
+use Rattle.ifmap_graph.specs.Joined.{is_full}
+
+-- so many identifiers are such: a list has each of them once, and no other
+abbrev pub AreSoMany : ℕ → (Identifier → Type 0) → Type 0
+AreSoMany n P =
+    (ids : List Identifier) × IsDistinct same_identifier ids × (length ids ≡ n)
+    × ((a : Identifier) → (Has ids a → P a) × (P a → Has ids a))
+
+-- the items of attachments, each once
+abbrev pub items_in : List Attachment → List Item
+items_in [] = []
+items_in (r ∷ rs) = if list_any (λ s. same_item s.item r.item) rs then items_in rs else r.item ∷ items_in rs
+
+abbrev pub is_link : Item → Bool
+is_link (One a) = false
+is_link (Pair a b) = true
+
+-- how many links carry an attachment
+abbrev pub count_links : List Attachment → ℕ
+count_links rows = length (filter is_link (items_in rows))
+
+-- one, where the item is a link that has something on it
+abbrev pub link_once : Item → List Stored → ℕ
+link_once (One a) xs = 0
+link_once (Pair a b) xs = if is_full xs then 1 else 0
+
+-- how many entries are of such links
+abbrev pub links_of : {X : Type 0} → (X → List Stored) → List (Item × X) → ℕ
+links_of list_of [] = 0
+links_of list_of (e ∷ es) = link_once e.0 (list_of e.1) + links_of list_of es
