@@ -1,5 +1,5 @@
 -- Weights, flips and notes, one more at a time.
-use Rattle.std.proofs.Common.{◌≡◌, ℕ, ◌+◌, ◌<◌, ◌≤◌, Option, Some, None, IfSome, List, [], ◌∷◌, ◌++◌, map, length, take, get_or, slice_get}
+use Rattle.std.proofs.Common.{◌≡◌, ℕ, Bool, ◌+◌, ◌<◌, ◌≤◌, Option, Some, None, IfSome, List, [], ◌∷◌, ◌++◌, map, length, take, get_or, slice_get}
 use Rattle.std.proofs.Common.{sum_by, refl, ap, ◌∙◌, sym, subst, inl, inr}
 use Rattle.std.proofs.lemmas.List.{map-append, take_more}
 use Rattle.std.proofs.lemmas.List.Elements.{filter-append}
@@ -17,6 +17,8 @@ use Rattle.ifmap_view.specs.declared.attachments.Attachment.{Attachment}
 use Rattle.ifmap_delta.specs.Flipped.{AreFlipsOf, IsFlipAt}
 use Rattle.ifmap_folds.specs.Notes.{is_told, told_notes}
 use Rattle.ifmap_delta.specs.Sights.{Sight}
+use Rattle.ifmap_delta.specs.Touched.{planned}
+use Rattle.ifmap_ident.specs.declared.items.Item.{Item}
 
 -- the weight of one number more
 pub weight_more : (w : ℕ → ℕ) (ns : List ℕ) (i n : ℕ) → slice_get ns i ≡ Some n → sum_by w (take (i + 1) ns) ≡ sum_by w (take i ns) + w n
@@ -66,3 +68,13 @@ notes_more rows s ns i n h e =
     in ap (told_notes rows s) (take_more ns i n h ∙ ap (λ x. take i ns ++ x ∷ []) (sym e))
     ∙ ap (map entry) (filter-append (is_told rows s) (take i ns) (n ∷ []))
     ∙ map-append entry (filter (is_told rows s) (take i ns)) (filter (is_told rows s) (n ∷ []))
+
+-- the items of one change more
+pub planned_more : (p : Item → Bool) (cs : List ItemChange) (i : ℕ) (c : ItemChange) → i < length cs → c ≡ get_or cs i c
+    → planned p (take (i + 1) cs) ≡ planned p (take i cs) ++ planned p (c ∷ [])
+planned_more p cs i c h e =
+    let item : ItemChange → Item = λ d. d.item
+    in let looks : ItemChange → Bool = λ d. p d.item
+    in ap (planned p) (take_more cs i c h ∙ ap (λ x. take i cs ++ x ∷ []) (sym e))
+    ∙ ap (map item) (filter-append looks (take i cs) (c ∷ []))
+    ∙ map-append item (filter looks (take i cs)) (filter looks (c ∷ []))

@@ -2,20 +2,18 @@
 -- In order: links by identifiers (`named`, `linked_by`); those before the change by the numbers afterwards; an item whose
 -- match changes is a flip (`flipped`), and a flip is of such an item (`flip_of`); the links of the region's words are those of
 -- the two views (`old_links`, `mid_links`, `flip_ends`).
-use Rattle.std.proofs.Common.{◌≡◌, ◌≢◌, ◌↔◌, ◌⊎◌, inl, inr, ℕ, Bool, true, false, not, Option, Some, None, List, [], ◌∷◌, refl, ap, ◌∙◌}
+use Rattle.std.proofs.Common.{◌≡◌, ◌⊎◌, inl, inr, ℕ, Bool, true, false, not, Option, Some, None, List, [], ◌∷◌, refl, ap, ◌∙◌}
 use Rattle.std.proofs.Common.{sym, subst}
 use Rattle.std.proofs.lemmas.Bool.{cases_Bool}
 use Rattle.std.proofs.lemmas.Option.{none-some, same_Some}
-use Rattle.std.specs.List.{AllByRecursion, find}
-use Rattle.ifmap_filter.specs.declared.filters.Filter.{Filter}
+use Rattle.std.specs.List.{find}
 use Rattle.ifmap_ident.specs.declared.identifiers.Identifier.{Identifier}
 use Rattle.ifmap_ident.specs.declared.items.Item.{Item}
 use Rattle.ifmap_ident.specs.declared.items.Item.TheVariants.{One, Pair}
-use Rattle.ifmap_ident.specs.Canon.{IsIdentifier}
 use Rattle.ifmap_ident.specs.Items.{IsCanonItem, pair_of, same_item}
 use Rattle.ifmap_lemmas.specs.Having.{Has, from_has, has_from}
 use Rattle.ifmap_plans.specs.declared.plans.ItemChange.{ItemChange}
-use Rattle.ifmap_plans.specs.Plans.{after_on, change_of, changed_by}
+use Rattle.ifmap_plans.specs.Plans.{change_of, changed_by}
 use Rattle.ifmap_region.specs.declared.flips.Flip.{Flip}
 use Rattle.ifmap_region.specs.Flips as region
 use Rattle.ifmap_region.specs.Flips.{IsFlipped, Joins}
@@ -30,7 +28,7 @@ use Rattle.ifmap_delta.specs.Flipped.{AreFlipsOf, IsFlipAt}
 use Rattle.ifmap_delta.specs.Sights.{Links, Sight}
 use Rattle.ifmap_fresh.specs.laws.JoiningLaws.{linked_matches, match_turned, matches_linked, some_there}
 use Rattle.ifmap_folds.specs.laws.RisingLaws.{member_of}
-use Rattle.ifmap_fresh.specs.laws.SameLaws.{Tells, pair_canon, pair_is, pair_parts, pair_turned, same_item_is}
+use Rattle.ifmap_fresh.specs.laws.SameLaws.{Tells, pair_canon, pair_is, pair_parts, same_item_is}
 
 pub found_change : (p : ItemChange → Bool) (cs : List ItemChange) (c : ItemChange) → find p cs ≡ Some c → Has cs c × (p c ≡ true)
 found_change p [] c e = absurd (none-some c e)

@@ -5,6 +5,7 @@ pub mod Flipping
 pub mod Walking
 pub mod Settling
 pub mod Along
+pub mod InStep
 pub mod Keeping
 pub mod Ties
 pub mod Repairing

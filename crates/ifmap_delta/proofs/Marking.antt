@@ -3,14 +3,14 @@ use Rattle.std.proofs.Common.{◌≡◌, ◌↔◌, ℕ, zero, suc, ◌<◌, ◌
 use Rattle.std.proofs.Common.{IfOk, is_some, length, nat_lt, refl, ap, ◌∙◌, sym, subst, inl, inr, arith}
 use Rattle.std.proofs.lemmas.Bool.{and_parts, cases_lt}
 use Rattle.std.proofs.lemmas.Bool.Decides.{nat_tests}
-use Rattle.std.proofs.lemmas.Option.{same_Some, none-some}
+use Rattle.std.proofs.lemmas.Option.{none-some}
 use Rattle.std.specs.declared.alloc.AllocError.{AllocError}
 use Rattle.ifmap_ident.specs.declared.identifiers.Identifier.{Identifier}
 use Rattle.ifmap_ident.specs.Canon.{IsIdentifier}
 use Rattle.ifmap_region.specs.declared.region.Region.{Region}
 use Rattle.ifmap_region.specs.Bounds.{IsWithin, within_wider}
 use Rattle.ifmap_region.specs.Marks.{mark_of}
-use Rattle.ifmap_region.specs.Walks.{AreDepths, HasDepth, IsReached, Walk}
+use Rattle.ifmap_region.specs.Walks.{AreDepths, IsReached, Walk}
 use Rattle.ifmap_search.specs.declared.searches.Search.{Search}
 use Rattle.ifmap_view.specs.declared.attachments.Attachment.{Attachment}
 use Rattle.ifmap_view.specs.Attachments.{IsGraph}
@@ -20,7 +20,7 @@ use Rattle.ifmap_fresh.specs.Linking.{IsReachedAt, is_terminal_at}
 use Rattle.ifmap_fresh.specs.Matching.{LeadsTo, is_terminal}
 use Rattle.ifmap_fresh.specs.Numbered.{KeepsWalks}
 use Rattle.ifmap_fresh.specs.Reached.{is_expanded, is_reached}
-use Rattle.ifmap_fresh.specs.Walked.{IsExpanded, SearchWalk}
+use Rattle.ifmap_fresh.specs.Walked.{IsExpanded}
 use Rattle.ifmap_delta.specs.Shown.{goes_on}
 use Rattle.ifmap_delta.specs.Sights.{AreMarks, Links, Sight, is_terminal_in}
 

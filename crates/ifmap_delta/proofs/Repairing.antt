@@ -1,5 +1,5 @@
 -- What a repair does to the marks of a subscription, and the steps of a change.
-use Rattle.std.proofs.Common.{◌≡◌, ◌≢◌, ◌∙◌, ap, sym, subst, ℕ, ◌+◌, ◌≤◌, Bool, true, Option, List, length, sum_by, nat_eq, arith}
+use Rattle.std.proofs.Common.{◌≡◌, ap, sym, subst, ℕ, ◌+◌, ◌≤◌, true, Option, List, length, sum_by, nat_eq, arith}
 use Rattle.std.specs.List.{IsDistinct}
 use Rattle.ifmap_plans.specs.declared.plans.ItemChange.{ItemChange}
 use Rattle.ifmap_region.specs.declared.flips.Flip.{Flip}

@@ -1,12 +1,12 @@
 -- Items that are not gathered tell nothing. In order: marks before the change by the numbers afterwards (`reached_before`,
 -- `expanded_before`); a number whose marks differ is in the patch; one identifier (`one_settled`), one link (`pair_settled`).
 use Rattle.std.proofs.Common.{◌≡◌, ◌≢◌, ◌⊎◌, inl, inr, ℕ, Bool, true, false, cond, not, ◌&&◌, ◌||◌, Option, Some, None, List, [], ◌∷◌, ◌++◌}
-use Rattle.std.proofs.Common.{map, flat_map, is_some, unwrap_or, nat_eq, refl, ap, ◌∙◌, sym, subst, arith}
+use Rattle.std.proofs.Common.{is_some, unwrap_or, nat_eq, refl, ap, ◌∙◌, sym, subst, arith}
 use Rattle.std.proofs.Math.Bool.{beq}
 use Rattle.std.proofs.lemmas.Bool.{cases_Bool}
 use Rattle.std.proofs.lemmas.Bool.Decides.{nat_tests}
 use Rattle.std.proofs.lemmas.Option.{none-some, same_Some}
-use Rattle.std.specs.List.{AllByRecursion, filter, filter_map}
+use Rattle.std.specs.List.{AllByRecursion, filter}
 use Rattle.ifmap_ident.specs.declared.identifiers.Identifier.{Identifier}
 use Rattle.ifmap_ident.specs.declared.items.Item.{Item}
 use Rattle.ifmap_ident.specs.declared.items.Item.TheVariants.{One, Pair}
@@ -16,7 +16,7 @@ use Rattle.ifmap_lemmas.specs.Having.{Has, filter_has, has_either, has_filter, h
 use Rattle.ifmap_lemmas.specs.Having.{has_right, joined_has, map_has, mapped_has}
 use Rattle.ifmap_plans.specs.declared.plans.ItemChange.{ItemChange}
 use Rattle.ifmap_plans.specs.Plans.{change_of}
-use Rattle.ifmap_region.specs.Marks.{mark_of, over, row_of}
+use Rattle.ifmap_region.specs.Marks.{over, row_of}
 use Rattle.ifmap_search.specs.declared.searches.Search.{Search}
 use Rattle.ifmap_view.specs.declared.views.LinkSeen.{LinkSeen}
 use Rattle.ifmap_view.specs.Rows.{stored_between, stored_linked, stored_on, stored_where}

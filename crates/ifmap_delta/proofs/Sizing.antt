@@ -1,15 +1,14 @@
 -- The size of the next result: that of the one before, without what went and with what came. The two results share what
 -- neither loses nor gains, and that has one size in both.
-use Rattle.std.proofs.Common.{◌≡◌, ◌⊎◌, inl, inr, ℕ, ◌+◌, Bool, true, false, not, ◌&&◌, List, [], ◌∷◌, map, length, sum_by, refl, ap, ◌∙◌}
+use Rattle.std.proofs.Common.{◌≡◌, inl, inr, ℕ, ◌+◌, Bool, true, false, not, ◌&&◌, List, [], ◌∷◌, map, length, sum_by, refl, ap, ◌∙◌}
 use Rattle.std.proofs.Common.{sym, subst, arith}
 use Rattle.std.proofs.lemmas.Bool.{and_parts, cases_Bool}
 use Rattle.std.proofs.lemmas.List.Kept.{IsStrictlySortedBy-filter}
 use Rattle.std.proofs.lemmas.List.Sums.{sum_by-cons}
-use Rattle.std.specs.Cmp.{IsTotalOrder, tied_itself}
-use Rattle.std.specs.Cmp.Lexicographic.{slice_cmp}
-use Rattle.std.specs.List.{AllByRecursion, filter, list_any, sum}
+use Rattle.std.specs.Cmp.{IsTotalOrder}
+use Rattle.std.specs.List.{AllByRecursion, filter, sum}
 use Rattle.std.specs.List.Sorted.{IsStrictlySortedBy}
-use Rattle.std.specs.Ordering.{is_eq, nat_cmp, ordering_reverse}
+use Rattle.std.specs.Ordering.{is_eq, ordering_reverse}
 use Rattle.std.specs.Str.{bytes_eq}
 use Rattle.std.specs.declared.cmp.Ordering.{Ordering}
 use Rattle.std.specs.declared.cmp.Ordering.TheVariants.{Less, Equal, Greater}
@@ -19,17 +18,16 @@ use Rattle.ifmap_ident.specs.declared.items.Item.TheVariants.{One, Pair}
 use Rattle.ifmap_ident.specs.Identifiers.{identifier_bytes, same_identifier}
 use Rattle.ifmap_ident.specs.Items.{item_size, same_item}
 use Rattle.ifmap_lemmas.specs.Having.{Has, any_has, filter_has, has_any, has_filter}
-use Rattle.ifmap_lemmas.specs.Members.{map_of_all}
 use Rattle.ifmap_lemmas.specs.Texts.{eq_tells}
 use Rattle.ifmap_search.specs.declared.results.Entry.{Entry}
 use Rattle.ifmap_search.specs.declared.searches.Search.{Search}
 use Rattle.ifmap_search.specs.Sizes.{entries_size, entry_size}
 use Rattle.ifmap_view.specs.declared.attachments.Attachment.{Attachment}
 use Rattle.ifmap_view.specs.Attachments.{IsGraph, attachment_order, stored_bytes}
-use Rattle.ifmap_fresh.specs.Fresh.{fresh, fresh_size, is_found}
+use Rattle.ifmap_fresh.specs.Fresh.{fresh, is_found}
 use Rattle.ifmap_folds.specs.Differences.{difference, entry_bytes, entry_order, has_entry, same_entry}
 use Rattle.ifmap_folds.specs.laws.FoldingLaws.{entries_tie, entries_total, same_turned}
-use Rattle.ifmap_folds.specs.laws.RisingLaws.{head_rises, member_of, rises_from, tail_rises}
+use Rattle.ifmap_folds.specs.laws.RisingLaws.{head_rises, member_of, tail_rises}
 use Rattle.ifmap_delta.proofs.Telling.{entry_of}
 
 -- a sum over a list, in two parts

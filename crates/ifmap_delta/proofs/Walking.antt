@@ -1,16 +1,15 @@
 -- Depths over a view's links are those over the region's words for them, and what the region says is near is near. In order:
 -- walks along links that are the same (`depth_over`); the marks before the change (`old_depths`); what is near (`near_there`); a
 -- number whose mark changes is touched (`moved_touched`); the steps of looking along what turned (`turned_within`).
-use Rattle.std.proofs.Common.{◌≡◌, ◌≢◌, ◌↔◌, ◌⊎◌, inl, inr, ℕ, zero, suc, ◌+◌, ◌*◌, ◌<◌, ◌≤◌, Bool, true, false, cond, not, Option, Some}
-use Rattle.std.proofs.Common.{None, List, [], ◌∷◌, All, length, sum_by, nat_eq, refl, ap, ◌∙◌, sym, subst, arith}
+use Rattle.std.proofs.Common.{◌≡◌, ◌≢◌, ◌↔◌, ◌⊎◌, inl, inr, ℕ, zero, suc, ◌+◌, ◌≤◌, Bool, true, false, cond, Option, Some}
+use Rattle.std.proofs.Common.{None, List, [], ◌∷◌, length, sum_by, nat_eq, refl, ap, ◌∙◌, sym, subst, arith}
 use Rattle.std.proofs.lemmas.Bool.{cases_Bool}
-use Rattle.std.proofs.lemmas.Option.{none-some, same_Some}
 use Rattle.std.proofs.lemmas.List.Elements.{All-contains_itself, All-weaker}
 use Rattle.std.proofs.lemmas.List.Sums.{sum_by-cons}
-use Rattle.std.specs.List.{AllByRecursion, Contains, IsDistinct, filter}
+use Rattle.std.specs.List.{Contains, IsDistinct, filter}
 use Rattle.ifmap_ident.specs.declared.identifiers.Identifier.{Identifier}
 use Rattle.ifmap_lemmas.specs.Filters.{distinct_filter}
-use Rattle.ifmap_lemmas.specs.Having.{Has, filter_has, has_from}
+use Rattle.ifmap_lemmas.specs.Having.{filter_has, has_from}
 use Rattle.ifmap_plans.specs.declared.plans.ItemChange.{ItemChange}
 use Rattle.ifmap_region.specs.declared.flips.Flip.{Flip}
 use Rattle.ifmap_region.specs.Bounds.{IsWithin, within_heavier, within_wider}

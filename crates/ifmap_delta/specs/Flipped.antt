@@ -1,5 +1,5 @@
 -- The links that a change makes match, or match no more. No public clause cites this module.
-use Rattle.std.specs.Prelude.{◌≡◌, ℕ, not, List, Some}
+use Rattle.std.specs.Prelude.{◌≡◌, not, List, Some}
 use Rattle.ifmap_ident.specs.declared.items.Item.{Item}
 use Rattle.ifmap_ident.specs.declared.items.Item.TheVariants.{One, Pair}
 use Rattle.ifmap_lemmas.specs.Having.{Has}

@@ -2,6 +2,7 @@
 pub mod Sights
 pub mod Bounds
 pub mod Changes
+pub mod Located
 pub mod Ways
 pub mod Shown
 pub mod Flipped

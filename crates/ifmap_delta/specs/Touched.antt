@@ -1,8 +1,8 @@
 -- The items on which a change may tell something, as they are gathered. No public clause cites this
 -- module.
-use Rattle.std.specs.Prelude.{◌≡◌, ◌≢◌, ℕ, Bool, true, false, ◌&&◌, ◌||◌, not, ◌⊎◌, List, [], ◌++◌, length, map, Option, None, Some}
+use Rattle.std.specs.Prelude.{◌≡◌, ℕ, Bool, true, false, ◌&&◌, ◌||◌, not, List, [], ◌++◌, length, map, Option, None, Some}
 use Rattle.std.specs.Prelude.{is_some, if◌then◌else◌}
-use Rattle.std.specs.List.{cons_option, filter, filter_map, flat_map}
+use Rattle.std.specs.List.{filter, filter_map, flat_map}
 use Rattle.std.specs.List.Sorted.{IsStrictlySortedBy}
 use Rattle.std.proofs.Math.Bool.{beq}
 use Rattle.ifmap_filter.specs.declared.filters.Filter.{Filter}
@@ -23,7 +23,7 @@ use Rattle.ifmap_fresh.specs.Collected.{alone, pair_at}
 use Rattle.ifmap_fresh.specs.Fresh.{is_looked_at}
 use Rattle.ifmap_fresh.specs.Gathered.{entry_at, has_item}
 use Rattle.ifmap_fresh.specs.Linking.{end_where}
-use Rattle.ifmap_delta.specs.Shown.{goes_on, shown_on}
+use Rattle.ifmap_delta.specs.Shown.{goes_on}
 use Rattle.ifmap_delta.specs.Sights.{Sight}
 
 -- the items of a plan's changes that pass a test

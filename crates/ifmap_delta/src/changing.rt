@@ -2,6 +2,7 @@
 ghost use Rattle.std.specs.Prelude.{IfOk};
 ghost use Rattle.ifmap_delta.specs.Bounds.{IsNear, IsWithinBound, links_of};
 ghost use Rattle.ifmap_delta.specs.Changes.{ShowsAfter, IsMoved};
+ghost use Rattle.ifmap_delta.specs.Located.{AreLocated};
 ghost use Rattle.ifmap_delta.specs.Sights.{AreMarks, HasMarks, IsKept, sight_of};
 ghost use Rattle.ifmap_region.specs.Bounds.{IsWithin};
 ghost use Rattle.ifmap_region.specs.Marks.{mark_of, over};
@@ -9,6 +10,7 @@ ghost use Rattle.ifmap_view.specs.Views.{IsView};
 
 use crate::differing::{differences_on, size_after};
 use crate::flips::flips_of;
+use crate::locating::LocatedPlan;
 use crate::marks::Patched;
 use crate::sides::Side;
 use crate::subscriptions::{Moved, Subscription};
@@ -17,7 +19,6 @@ use ifmap_elem::Many;
 use ifmap_fresh::LinksOf;
 use ifmap_fresh::laws::links_go_both_ways;
 use ifmap_ident::laws::bytes_tell_identifiers_apart;
-use ifmap_plans::Plan;
 use ifmap_region::{Patch, repair};
 use ifmap_steps::Steps;
 use ifmap_view::View;
@@ -33,17 +34,22 @@ use std::sync::ledger::Ledger;
 ///
 /// It takes at most ten times the links of what is near the links that came and went. A change that
 /// touches nothing near costs a look at the plan's items.
-pub fn change<G: View, D: View, L: Ledger>(
+pub fn change<'a, G: View, D: View, L: Ledger>(
     alloc: Global,
-    subscription: &Subscription,
-    graph: &G,
-    draft: &D,
-    plan: &Plan,
+    subscription: &'a Subscription,
+    graph: &'a G,
+    draft: &'a D,
+    located: &LocatedPlan<'_>,
     steps: &mut Steps<L>,
 ) -> Result<Moved, NoMemory>
+    requires graph { IsView (G.rows graph.now) (G.id_at graph.now) (G.links graph.now) }
+    requires draft { IsView (D.rows draft.now) (D.id_at draft.now) (D.links draft.now) }
     requires kept { IsKept (sight_of G.rows G.id_at G.links graph.now) subscription.now }
     requires change { ShowsAfter (sight_of G.rows G.id_at G.links graph.now)
-        (sight_of D.rows D.id_at D.links draft.now) plan.now.changes }
+        (sight_of D.rows D.id_at D.links draft.now) located.now.plan.now.changes }
+    requires located { AreLocated (sight_of G.rows G.id_at G.links graph.now)
+        (sight_of D.rows D.id_at D.links draft.now) located.now.plan.now.changes
+        located.now.changes.items }
     ensures moved { IfOk result (IsMoved (sight_of G.rows G.id_at G.links graph.now)
         (sight_of D.rows D.id_at D.links draft.now) subscription.now) }
 
@@ -53,7 +59,7 @@ pub fn change<G: View, D: View, L: Ledger>(
         subscription.now.region.start steps.old steps.new }
 {
     bytes_tell_identifiers_apart();
-    let patch = patch_for(alloc, subscription, graph, draft, plan, steps)?;
+    let patch = patch_for(alloc, subscription, graph, draft, located, steps)?;
     let search = &subscription.search;
     let before = Side {
         view: graph,
@@ -69,7 +75,9 @@ pub fn change<G: View, D: View, L: Ledger>(
         search,
         marks: &patched,
     };
-    let items = touched_items(alloc, &before, &after, &plan.changes.0, steps)?;
+    let plan = located.plan;
+    let changes = &plan.changes.0;
+    let items = touched_items(alloc, &before, &after, changes, &located.changes, steps)?;
     let told = differences_on(alloc, &before, &after, items)?;
     let Some(new_size) = size_after(subscription.size, &told) else {
         return Err(NoMemory);
@@ -83,19 +91,22 @@ pub fn change<G: View, D: View, L: Ledger>(
 }
 
 // The patch that brings a subscription's marks to those of the draft.
-fn patch_for<G: View, D: View, L: Ledger>(
+fn patch_for<'a, G: View, D: View, L: Ledger>(
     alloc: Global,
-    subscription: &Subscription,
-    graph: &G,
-    draft: &D,
-    plan: &Plan,
+    subscription: &'a Subscription,
+    graph: &'a G,
+    draft: &'a D,
+    located: &LocatedPlan<'_>,
     steps: &mut Steps<L>,
 ) -> Result<Patch, NoMemory>
+    requires graph { IsView (G.rows graph.now) (G.id_at graph.now) (G.links graph.now) }
+    requires draft { IsView (D.rows draft.now) (D.id_at draft.now) (D.links draft.now) }
     requires marks { HasMarks (sight_of G.rows G.id_at G.links graph.now) subscription.now }
     requires change { ShowsAfter (sight_of G.rows G.id_at G.links graph.now)
-        (sight_of D.rows D.id_at D.links draft.now) plan.now.changes }
-    ensures graph { IsView (G.rows graph.now) (G.id_at graph.now) (G.links graph.now) }
-    ensures draft { IsView (D.rows draft.now) (D.id_at draft.now) (D.links draft.now) }
+        (sight_of D.rows D.id_at D.links draft.now) located.now.plan.now.changes }
+    requires located { AreLocated (sight_of G.rows G.id_at G.links graph.now)
+        (sight_of D.rows D.id_at D.links draft.now) located.now.plan.now.changes
+        located.now.changes.items }
     ensures marks { IfOk result (λ patch. AreMarks (sight_of D.rows D.id_at D.links draft.now)
         subscription.now.search subscription.now.region.start subscription.now.region.max_depth
         (over patch (mark_of subscription.now.region.marks.entries))) }
@@ -108,10 +119,8 @@ fn patch_for<G: View, D: View, L: Ledger>(
     bytes_tell_identifiers_apart();
     links_go_both_ways();
     let search = &subscription.search;
-    // what holds of every view
-    let _ = graph.number(&search.start);
-    let _ = draft.number(&search.start);
-    let flips = flips_of(alloc, graph, draft, search, &plan.changes.0)?;
+    let plan = located.plan;
+    let flips = flips_of(alloc, search, &plan.changes.0, &located.changes)?;
     let links = LinksOf {
         view: draft,
         search,

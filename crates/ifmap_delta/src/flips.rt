@@ -1,36 +1,36 @@
 //! The links of a change that match in just one of two views.
-ghost use Rattle.std.specs.Prelude.{◌≡◌, ◌++◌, ℕ, [], Some, IfOk, OnOk, IfSome};
+ghost use Rattle.std.specs.Prelude.{◌≡◌, ◌++◌, [], Some, IfOk, OnOk, IfSome, length};
 ghost use Rattle.std.specs.List.{cons_option};
 ghost use Rattle.ifmap_delta.specs.Flipped.{AreFlipsOf, IsFlipAt};
-ghost use Rattle.ifmap_delta.specs.Sights.{sight_of};
+ghost use Rattle.ifmap_delta.specs.Located.{AreLocated, IsLocatedTwice};
+ghost use Rattle.ifmap_delta.specs.Sights.{Sight};
 ghost use Rattle.ifmap_region.specs.declared.flips.Flip.{Flip};
 
+use crate::locating::LocatedChange;
 use ifmap_fresh::one_meets;
 use ifmap_ident::Item;
 use ifmap_plans::ItemChange;
 use ifmap_region::Flip;
 use ifmap_search::Search;
-use ifmap_view::View;
 use std::alloc::{AllocError as NoMemory, Global};
 
 // The flip of an item, where its link matches in one of the two views alone.
-fn flip_of<G: View, D: View>(graph: &G, draft: &D, search: &Search, item: &Item) -> Option<Flip>
-    ensures some { IfSome result (IsFlipAt (sight_of G.rows G.id_at G.links graph.now)
-        (sight_of D.rows D.id_at D.links draft.now) search.now item.now) }
-    ensures each { (flip : Flip) → IsFlipAt (sight_of G.rows G.id_at G.links graph.now)
-        (sight_of D.rows D.id_at D.links draft.now) search.now item.now flip
-        → result ≡ Some flip }
+fn flip_of(search: &Search, item: &Item, located: &LocatedChange<'_>) -> Option<Flip>
+    ensures some { (old new : Sight) → IsLocatedTwice old new item.now located.now
+        → IfSome result (IsFlipAt old new search.now item.now) }
+    ensures each { (old new : Sight) → IsLocatedTwice old new item.now located.now
+        → (flip : Flip) → IsFlipAt old new search.now item.now flip → result ≡ Some flip }
 {
-    let Item::Pair(a, b) = item else {
+    if let Item::One(_) = item {
         return None;
-    };
-    let was = one_meets(&search.match_links, graph.stored_at(item));
-    let now = one_meets(&search.match_links, draft.stored_at(item));
+    }
+    let was = one_meets(&search.match_links, located.before.rows);
+    let now = one_meets(&search.match_links, located.after.rows);
     if was == now {
         return None;
     }
-    let a = draft.number(a)?;
-    let b = draft.number(b)?;
+    let a = located.after.first?;
+    let b = located.after.second?;
     Some(Flip { a, b, added: now })
 }
 
@@ -45,19 +45,20 @@ fn offer(flips: &mut Vec<Flip>, flip: Option<Flip>) -> Result<(), NoMemory>
 }
 
 // The flips of the items that change.
-pub(crate) fn flips_of<G: View, D: View>(
+pub(crate) fn flips_of(
     alloc: Global,
-    graph: &G,
-    draft: &D,
     search: &Search,
     changes: &[ItemChange],
+    located: &[LocatedChange<'_>],
 ) -> Result<Vec<Flip>, NoMemory>
-    ensures { IfOk result (λ flips. AreFlipsOf (sight_of G.rows G.id_at G.links graph.now)
-        (sight_of D.rows D.id_at D.links draft.now) search.now changes.now flips.items) }
+    requires { length located.now ≡ length changes.now }
+    ensures { IfOk result (λ flips. (old new : Sight)
+        → AreLocated old new changes.now located.now
+        → AreFlipsOf old new search.now changes.now flips.items) }
 {
     let mut flips = Vec::new(alloc);
-    for change in changes {
-        offer(&mut flips, flip_of(graph, draft, search, &change.item))?;
+    for i in 0..changes.len() {
+        offer(&mut flips, flip_of(search, &changes[i].item, &located[i]))?;
     }
     Ok(flips)
 }

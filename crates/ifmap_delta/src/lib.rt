@@ -4,6 +4,7 @@
 mod changing;
 mod differing;
 mod flips;
+pub mod locating;
 mod marks;
 mod noting;
 mod sides;
@@ -12,6 +13,7 @@ pub mod subscriptions;
 mod touched;
 
 pub use changing::change;
+pub use locating::{Located, LocatedChange, LocatedPlan, locate_plan};
 pub use noting::notes;
 pub use subscribing::subscribe;
 pub use subscriptions::{Moved, SubUndo, Subscribed, Subscription};

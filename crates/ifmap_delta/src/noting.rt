@@ -1,16 +1,19 @@
 //! What a subscription is told of notified elements.
-ghost use Rattle.std.specs.Prelude.{◌≡◌, ◌&&◌, ◌++◌, ◌∷◌, [], IfOk, OnOk};
+ghost use Rattle.std.specs.Prelude.{◌≡◌, ◌&&◌, ◌++◌, ◌∷◌, [], IfOk, OnOk, length};
 ghost use Rattle.std.specs.List.{AllByRecursion};
 ghost use Rattle.ifmap_folds.specs.Notes.{is_told, told_notes};
+ghost use Rattle.ifmap_delta.specs.Located.{AreNotesLocated, IsLocated};
 ghost use Rattle.ifmap_delta.specs.Sights.{HasMarks, HaveMarks, sight_of};
 ghost use Rattle.ifmap_ident.specs.Items.{IsCanonItem};
 ghost use Rattle.ifmap_region.specs.Marks.{mark_of};
+ghost use Rattle.ifmap_view.specs.Views.{IsView};
 
+use crate::locating::{Located, LocatedPlan};
 use crate::sides::Side;
 use crate::subscriptions::Subscription;
 use ifmap_elem::Many;
 use ifmap_filter::meets_optional;
-use ifmap_plans::{Note, Plan};
+use ifmap_plans::Note;
 use ifmap_region::Region;
 use ifmap_search::Entry;
 use ifmap_view::View;
@@ -22,23 +25,27 @@ use std::alloc::{AllocError as NoMemory, Global};
 ///
 /// The subscription's marks are those of the draft, so it is called after the change was committed.
 /// It looks along no link. The only error is want of memory.
-pub fn notes<D: View>(
+pub fn notes<'a, D: View>(
     alloc: Global,
-    subscription: &Subscription,
-    draft: &D,
-    plan: &Plan,
+    subscription: &'a Subscription,
+    draft: &'a D,
+    located: &LocatedPlan<'_>,
 ) -> Result<Many<Entry>, NoMemory>
+    requires view { IsView (D.rows draft.now) (D.id_at draft.now) (D.links draft.now) }
     requires marks { HasMarks (sight_of D.rows D.id_at D.links draft.now) subscription.now }
-    requires canon { AllByRecursion (λ n. IsCanonItem n.item) plan.now.notes }
+    requires canon { AllByRecursion (λ n. IsCanonItem n.item) located.now.plan.now.notes }
+    requires located { AreNotesLocated (sight_of D.rows D.id_at D.links draft.now)
+        located.now.plan.now.notes located.now.notes.items }
     ensures { IfOk result (λ told. told ≡ told_notes (D.rows draft.now) subscription.now.search
-        plan.now.notes) }
+        located.now.plan.now.notes) }
 {
     let after = Side {
         view: draft,
         search: &subscription.search,
         marks: &subscription.region,
     };
-    let told = told_of(alloc, &after, &plan.notes.0)?;
+    let plan = located.plan;
+    let told = told_of(alloc, &after, &plan.notes.0, &located.notes)?;
     Ok(Many(told))
 }
 
@@ -47,16 +54,22 @@ fn told_of<D: View>(
     alloc: Global,
     after: &Side<'_, D, Region>,
     notes: &[Note],
+    located: &[Located<'_>],
 ) -> Result<Vec<Entry>, NoMemory>
+    requires view { IsView (D.rows after.now.view.now) (D.id_at after.now.view.now)
+        (D.links after.now.view.now) }
     requires marks { HaveMarks (sight_of D.rows D.id_at D.links after.now.view.now)
         after.now.search.now (mark_of after.now.marks.now.marks.entries) }
     requires canon { AllByRecursion (λ n. IsCanonItem n.item) notes.now }
+    requires located { AreNotesLocated (sight_of D.rows D.id_at D.links after.now.view.now)
+        notes.now located.now }
+    requires long { length located.now ≡ length notes.now }
     ensures { IfOk result (λ told. told.items ≡ told_notes (D.rows after.now.view.now)
         after.now.search.now notes.now) }
 {
     let mut told = Vec::new(alloc);
-    for note in notes {
-        add_told(after, note, &mut told)?;
+    for i in 0..notes.len() {
+        add_told(after, &notes[i], &located[i], &mut told)?;
     }
     Ok(told)
 }
@@ -65,15 +78,20 @@ fn told_of<D: View>(
 fn add_told<D: View>(
     after: &Side<'_, D, Region>,
     note: &Note,
+    located: &Located<'_>,
     told: &mut Vec<Entry>,
 ) -> Result<(), NoMemory>
+    requires view { IsView (D.rows after.now.view.now) (D.id_at after.now.view.now)
+        (D.links after.now.view.now) }
     requires marks { HaveMarks (sight_of D.rows D.id_at D.links after.now.view.now)
         after.now.search.now (mark_of after.now.marks.now.marks.entries) }
     requires canon { IsCanonItem note.now.item }
+    requires located { IsLocated (sight_of D.rows D.id_at D.links after.now.view.now)
+        note.now.item located.now }
     ensures { OnOk result (told.new.items ≡ told.old.items ++ told_notes
         (D.rows after.now.view.now) after.now.search.now (note.now ∷ [])) }
 {
-    if is_told(after, note) {
+    if is_told(after, note, located) {
         told.push(Entry {
             item: note.item.share()?,
             element: note.element.share()?,
@@ -83,12 +101,16 @@ fn add_told<D: View>(
 }
 
 // Whether a note is told.
-fn is_told<D: View>(after: &Side<'_, D, Region>, note: &Note) -> bool
+fn is_told<D: View>(after: &Side<'_, D, Region>, note: &Note, located: &Located<'_>) -> bool
+    requires view { IsView (D.rows after.now.view.now) (D.id_at after.now.view.now)
+        (D.links after.now.view.now) }
     requires marks { HaveMarks (sight_of D.rows D.id_at D.links after.now.view.now)
         after.now.search.now (mark_of after.now.marks.now.marks.entries) }
     requires canon { IsCanonItem note.now.item }
+    requires located { IsLocated (sight_of D.rows D.id_at D.links after.now.view.now)
+        note.now.item located.now }
     ensures { result ≡ is_told (D.rows after.now.view.now) after.now.search.now note.now }
 {
-    meets_optional(&after.search.result_filter, note.element.element())
-        && after.counts_on(note.item.item(), note.element.element())
+    after.counts_on(note.item.item(), located, note.element.element())
+        && meets_optional(&after.search.result_filter, note.element.element())
 }

@@ -1,6 +1,7 @@
 //! What a subscription shows of a view, by its marks.
 ghost use Rattle.std.specs.Prelude.{◌≡◌, Some, IfSome, ◌&&◌, not, ◌≤◌};
 ghost use Rattle.ifmap_folds.specs.Notes.{counts_on};
+ghost use Rattle.ifmap_delta.specs.Located.{IsLocated, IsNumberOf};
 ghost use Rattle.ifmap_delta.specs.Sights.{HaveMarks, sight_of};
 ghost use Rattle.ifmap_delta.specs.Shown.{goes_on, shown_on};
 ghost use Rattle.ifmap_fresh.specs.Fresh.{is_looked_at};
@@ -8,15 +9,17 @@ ghost use Rattle.ifmap_fresh.specs.Linking.{is_terminal_at};
 ghost use Rattle.ifmap_fresh.specs.Reached.{is_expanded, is_reached};
 ghost use Rattle.ifmap_ident.specs.Canon.{IsIdentifier};
 ghost use Rattle.ifmap_ident.specs.Items.{IsCanonItem};
+ghost use Rattle.ifmap_ident.specs.declared.identifiers.Identifier.{Identifier};
 ghost use Rattle.ifmap_view.specs.Rows.{stored_on};
+ghost use Rattle.ifmap_view.specs.Views.{IsView};
 
+use crate::locating::{Located, locate_item};
 use crate::marks::Marks;
 use ifmap_elem::Element;
 use ifmap_filter::meets_optional;
 use ifmap_fresh::laws::{levels_are_walks, numbers_keep_walks};
 use ifmap_fresh::{LinksOf, one_meets};
-use ifmap_ident::laws::bytes_tell_identifiers_apart;
-use ifmap_ident::{Identifier, Item};
+use ifmap_ident::Item;
 use ifmap_region::LinkSource;
 use ifmap_search::Search;
 use ifmap_view::{Row, View};
@@ -54,31 +57,37 @@ impl<'a, V: View, M: Marks> Side<'a, V, M> {
         }
     }
 
-    // Whether a walk ends in the identifier.
-    fn is_reached(&self, id: &Identifier) -> bool
+    // Whether a walk ends in the identifier of a number; none does where it has no number.
+    fn is_reached(&self, number: Option<u64>) -> bool
+        requires view { IsView (V.rows self.now.view.now) (V.id_at self.now.view.now)
+            (V.links self.now.view.now) }
         requires marks { HaveMarks (sight_of V.rows V.id_at V.links self.now.view.now)
             self.now.search.now (M.mark self.now.marks.now) }
-        requires identifier { IsIdentifier id.now }
-        ensures { result ≡ is_reached (V.rows self.now.view.now) self.now.search.now id.now }
+        ensures { (a : Identifier) → IsIdentifier a
+            → IsNumberOf (sight_of V.rows V.id_at V.links self.now.view.now) a number
+            → result ≡ is_reached (V.rows self.now.view.now) self.now.search.now a }
     {
         levels_are_walks();
         numbers_keep_walks();
-        match self.view.number(id) {
+        match number {
             Some(number) => self.marks.mark_at(number).is_some(),
             None => false,
         }
     }
 
-    // Whether walks go on from the identifier.
-    fn is_expanded(&self, id: &Identifier) -> bool
+    // Whether walks go on from the identifier of a number; none do where it has no number.
+    fn is_expanded(&self, number: Option<u64>) -> bool
+        requires view { IsView (V.rows self.now.view.now) (V.id_at self.now.view.now)
+            (V.links self.now.view.now) }
         requires marks { HaveMarks (sight_of V.rows V.id_at V.links self.now.view.now)
             self.now.search.now (M.mark self.now.marks.now) }
-        requires identifier { IsIdentifier id.now }
-        ensures { result ≡ is_expanded (V.rows self.now.view.now) self.now.search.now id.now }
+        ensures { (a : Identifier) → IsIdentifier a
+            → IsNumberOf (sight_of V.rows V.id_at V.links self.now.view.now) a number
+            → result ≡ is_expanded (V.rows self.now.view.now) self.now.search.now a }
     {
         levels_are_walks();
         numbers_keep_walks();
-        match self.view.number(id) {
+        match number {
             Some(number) => self.goes_on(number, self.marks.mark_at(number)),
             None => false,
         }
@@ -86,37 +95,44 @@ impl<'a, V: View, M: Marks> Side<'a, V, M> {
 
     // Whether the search looks at the item: a reached identifier, or a matching link of which an end is
     // expanded. Elements are looked at last.
-    pub(crate) fn looks_at(&self, item: &Item) -> bool
+    pub(crate) fn looks_at(&self, item: &Item, located: &Located<'_>) -> bool
+        requires view { IsView (V.rows self.now.view.now) (V.id_at self.now.view.now)
+            (V.links self.now.view.now) }
         requires marks { HaveMarks (sight_of V.rows V.id_at V.links self.now.view.now)
             self.now.search.now (M.mark self.now.marks.now) }
         requires canon { IsCanonItem item.now }
+        requires located { IsLocated (sight_of V.rows V.id_at V.links self.now.view.now) item.now
+            located.now }
         ensures { result ≡ is_looked_at (V.rows self.now.view.now) self.now.search.now item.now }
     {
         match item {
-            Item::One(a) => self.is_reached(a),
-            Item::Pair(a, b) => {
-                (self.is_expanded(a) || self.is_expanded(b))
-                    && one_meets(&self.search.match_links, self.view.stored_at(item))
+            Item::One(_) => self.is_reached(located.first),
+            Item::Pair(..) => {
+                (self.is_expanded(located.first) || self.is_expanded(located.second))
+                    && one_meets(&self.search.match_links, located.rows)
             }
         }
     }
 
     // Whether an element that is notified on the item counts: the identifier is reached, or an end of the
     // link is expanded, and the link or the element meets what links have to meet.
-    pub(crate) fn counts_on(&self, item: &Item, element: &Element) -> bool
+    pub(crate) fn counts_on(&self, item: &Item, located: &Located<'_>, element: &Element) -> bool
+        requires view { IsView (V.rows self.now.view.now) (V.id_at self.now.view.now)
+            (V.links self.now.view.now) }
         requires marks { HaveMarks (sight_of V.rows V.id_at V.links self.now.view.now)
             self.now.search.now (M.mark self.now.marks.now) }
         requires canon { IsCanonItem item.now }
+        requires located { IsLocated (sight_of V.rows V.id_at V.links self.now.view.now) item.now
+            located.now }
         ensures { result ≡ counts_on (V.rows self.now.view.now) self.now.search.now item.now
             element.now }
     {
         match item {
-            Item::One(a) => self.is_reached(a),
-            Item::Pair(a, b) => {
+            Item::One(_) => self.is_reached(located.first),
+            Item::Pair(..) => {
                 let filter = &self.search.match_links;
-                (self.is_expanded(a) || self.is_expanded(b))
-                    && (one_meets(filter, self.view.stored_at(item))
-                        || meets_optional(filter, element))
+                (self.is_expanded(located.first) || self.is_expanded(located.second))
+                    && (one_meets(filter, located.rows) || meets_optional(filter, element))
             }
         }
     }
@@ -128,11 +144,11 @@ impl<'a, V: View, M: Marks> Side<'a, V, M> {
         requires canon { IsCanonItem item.now }
         ensures { result.now ≡ shown_on (V.rows self.now.view.now) self.now.search.now item.now }
     {
-        let rows = self.view.stored_at(item);
-        if self.looks_at(item) {
-            rows
+        let located = locate_item(self.view, item);
+        if self.looks_at(item, &located) {
+            located.rows
         } else {
-            &rows[..0]
+            &located.rows[..0]
         }
     }
 }

@@ -1,7 +1,8 @@
 //! The items on which a change may tell something.
-ghost use Rattle.std.specs.Prelude.{◌≡◌, ◌≤◌, ◌<◌, ◌+◌, [], ◌++◌, ◌||◌, ℕ, Some, OnOk, IfOk, length, option_copied, slice_get, sum_by, nat_eq};
+ghost use Rattle.std.specs.Prelude.{◌≡◌, ◌≤◌, ◌<◌, ◌+◌, [], ◌∷◌, ◌++◌, ◌||◌, ℕ, Some, OnOk, IfOk, length, option_copied, slice_get, sum_by, nat_eq};
 ghost use Rattle.std.specs.List.{AllByRecursion, IsDistinct, cons_option};
 ghost use Rattle.ifmap_delta.specs.Changes.{ShowsAfter};
+ghost use Rattle.ifmap_delta.specs.Located.{AreLocated, IsLocatedTwice};
 ghost use Rattle.ifmap_delta.specs.Sights.{HaveMarks, sight_of};
 ghost use Rattle.ifmap_delta.specs.Shown.{patched};
 ghost use Rattle.ifmap_delta.specs.Touched.{AreTouched, brought, item_at, linked, looked_along, moved, planned};
@@ -11,6 +12,7 @@ ghost use Rattle.ifmap_region.specs.Marks.{mark_of, over};
 ghost use Rattle.ifmap_ident.specs.Items.{IsCanonItem};
 ghost use Rattle.ifmap_view.specs.Views.{IsView};
 
+use crate::locating::LocatedChange;
 use crate::marks::{Marks, Patched, mark_after};
 use crate::sides::Side;
 use ifmap_elem::Copied;
@@ -92,27 +94,64 @@ fn add_linked<V: View, L: Ledger>(
     Ok(())
 }
 
+// Appends the item of a change, where the search looks at it before or afterwards.
+fn add_changed<G: View, D: View, M: Marks, N: Marks>(
+    alloc: Global,
+    before: &Side<'_, G, M>,
+    after: &Side<'_, D, N>,
+    change: &ItemChange,
+    located: &LocatedChange<'_>,
+    items: &mut Vec<Item>,
+) -> Result<(), NoMemory>
+    requires graph { IsView (G.rows before.now.view.now) (G.id_at before.now.view.now)
+        (G.links before.now.view.now) }
+    requires draft { IsView (D.rows after.now.view.now) (D.id_at after.now.view.now)
+        (D.links after.now.view.now) }
+    requires before { HaveMarks (sight_of G.rows G.id_at G.links before.now.view.now)
+        before.now.search.now (M.mark before.now.marks.now) }
+    requires after { HaveMarks (sight_of D.rows D.id_at D.links after.now.view.now)
+        after.now.search.now (N.mark after.now.marks.now) }
+    requires canon { IsCanonItem change.now.item }
+    requires located { IsLocatedTwice (sight_of G.rows G.id_at G.links before.now.view.now)
+        (sight_of D.rows D.id_at D.links after.now.view.now) change.now.item located.now }
+    ensures { OnOk result (items.new.items ≡ items.old.items ++ planned
+        (λ x. is_looked_at (G.rows before.now.view.now) before.now.search.now x
+        || is_looked_at (D.rows after.now.view.now) after.now.search.now x) (change.now ∷ [])) }
+{
+    let item = &change.item;
+    if before.looks_at(item, &located.before) || after.looks_at(item, &located.after) {
+        items.push(item.copy(alloc)?)?;
+    }
+    Ok(())
+}
+
 // Appends the items of changes at which the search looks before or afterwards.
 fn add_planned<G: View, D: View, M: Marks, N: Marks>(
     alloc: Global,
     before: &Side<'_, G, M>,
     after: &Side<'_, D, N>,
     changes: &[ItemChange],
+    located: &[LocatedChange<'_>],
     items: &mut Vec<Item>,
 ) -> Result<(), NoMemory>
+    requires graph { IsView (G.rows before.now.view.now) (G.id_at before.now.view.now)
+        (G.links before.now.view.now) }
+    requires draft { IsView (D.rows after.now.view.now) (D.id_at after.now.view.now)
+        (D.links after.now.view.now) }
     requires before { HaveMarks (sight_of G.rows G.id_at G.links before.now.view.now)
         before.now.search.now (M.mark before.now.marks.now) }
     requires after { HaveMarks (sight_of D.rows D.id_at D.links after.now.view.now)
         after.now.search.now (N.mark after.now.marks.now) }
     requires canon { AllByRecursion (λ c. IsCanonItem c.item) changes.now }
+    requires located { AreLocated (sight_of G.rows G.id_at G.links before.now.view.now)
+        (sight_of D.rows D.id_at D.links after.now.view.now) changes.now located.now }
+    requires long { length located.now ≡ length changes.now }
     ensures { OnOk result (items.new.items ≡ items.old.items ++ planned
         (λ x. is_looked_at (G.rows before.now.view.now) before.now.search.now x
         || is_looked_at (D.rows after.now.view.now) after.now.search.now x) changes.now) }
 {
-    for change in changes {
-        if before.looks_at(&change.item) || after.looks_at(&change.item) {
-            items.push(change.item.copy(alloc)?)?;
-        }
+    for i in 0..changes.len() {
+        add_changed(alloc, before, after, &changes[i], &located[i], items)?;
     }
     Ok(())
 }
@@ -188,6 +227,7 @@ pub(crate) fn touched_items<G: View, D: View, L: Ledger>(
     before: &Side<'_, G, Region>,
     after: &Side<'_, D, Patched<'_>>,
     changes: &[ItemChange],
+    located: &[LocatedChange<'_>],
     steps: &mut Steps<L>,
 ) -> Result<Vec<Item>, NoMemory>
     requires search { before.now.search.now ≡ after.now.search.now }
@@ -202,6 +242,8 @@ pub(crate) fn touched_items<G: View, D: View, L: Ledger>(
         (D.links after.now.view.now) }
     requires change { ShowsAfter (sight_of G.rows G.id_at G.links before.now.view.now)
         (sight_of D.rows D.id_at D.links after.now.view.now) changes.now }
+    requires located { AreLocated (sight_of G.rows G.id_at G.links before.now.view.now)
+        (sight_of D.rows D.id_at D.links after.now.view.now) changes.now located.now }
     ensures touched { IfOk result (λ items. AreTouched
         (sight_of G.rows G.id_at G.links before.now.view.now)
         (sight_of D.rows D.id_at D.links after.now.view.now) after.now.search.now items.items) }
@@ -217,7 +259,7 @@ pub(crate) fn touched_items<G: View, D: View, L: Ledger>(
     // each number stands once in a patch
     let _ = after.marks.patch.len();
     let mut items = Vec::new(alloc);
-    add_planned(alloc, before, after, changes, &mut items)?;
+    add_planned(alloc, before, after, changes, located, &mut items)?;
     let side = Side {
         view: after.view,
         search: after.search,

@@ -1,5 +1,5 @@
 //! What all subscriptions are told of one change of the graph.
-ghost use Rattle.std.specs.Prelude.{◌≡◌, ◌≤◌, ℕ, [], Some, true, false, IfOk, OnErr, OnOk, length, map, slice_get, vec_capacity};
+ghost use Rattle.std.specs.Prelude.{◌≡◌, ◌≤◌, ◌<◌, ℕ, [], Some, true, false, IfOk, OnErr, OnOk, length, map, slice_get, vec_capacity};
 ghost use Rattle.std.specs.List.{AllByRecursion, zip};
 ghost use Rattle.ifmap_delta.specs.Bounds.{IsWithinBound};
 ghost use Rattle.ifmap_delta.specs.Changes.{ShowsAfter};
@@ -10,15 +10,17 @@ ghost use Rattle.ifmap_fresh.specs.Fresh.{fresh};
 ghost use Rattle.ifmap_ident.specs.Items.{IsCanonItem};
 ghost use Rattle.ifmap_standing.specs.Bounds.{IsWithinEach, IsWithinWhere};
 ghost use Rattle.ifmap_standing.specs.Kept.{AtEach, KeepsSame, Stands};
+ghost use Rattle.ifmap_standing.specs.Located.{IsLocatedIn};
 ghost use Rattle.ifmap_standing.specs.News.{news_of, news_of_each, news_where};
 ghost use Rattle.ifmap_standing.specs.Standing.{shown};
 ghost use Rattle.ifmap_standing.specs.Ways.{LeadBack, LeadsBack, LeadsBackWhere};
 ghost use Rattle.ifmap_standing.specs.declared.standing.Standing.{Standing};
+ghost use Rattle.ifmap_view.specs.Views.{IsView};
 
 use crate::standing::Standing;
-use crate::telling::{Differences, GraphChange, News, news_of};
+use crate::telling::{Differences, GraphChange, LocatedGraphChange, News, news_of};
 use crate::ways::{Ways, take_back, take_back_one};
-use ifmap_delta::{Moved, SubUndo, Subscription};
+use ifmap_delta::{Moved, SubUndo, Subscription, locate_plan};
 use ifmap_elem::Many;
 use ifmap_steps::Steps;
 use ifmap_view::View;
@@ -74,7 +76,21 @@ pub fn tell_change<G: View, D: View, L: Ledger>(
         news: Vec::with_capacity(alloc, skipped.len())?,
         ways: Vec::with_capacity(alloc, skipped.len())?,
     };
-    match tell_all(alloc, standing, skipped, change, &mut records, steps) {
+    look_at_views(standing, change);
+    let located = locate_plan(alloc, change.graph, change.draft, change.plan)?;
+    let located_change = LocatedGraphChange {
+        graph: change.graph,
+        draft: change.draft,
+        located,
+    };
+    match tell_all(
+        alloc,
+        standing,
+        skipped,
+        &located_change,
+        &mut records,
+        steps,
+    ) {
         Ok(()) => Ok(Told {
             news: Many(records.news),
             ways: Ways {
@@ -91,6 +107,20 @@ pub fn tell_change<G: View, D: View, L: Ledger>(
     }
 }
 
+// Looks at the two views, where there is a subscription, so that what holds of every view is known.
+fn look_at_views<G: View, D: View>(standing: &[Standing], change: &GraphChange<'_, G, D>)
+    ensures graph { let graph = change.now.graph.now in 0 < length standing.now
+        → IsView (G.rows graph) (G.id_at graph) (G.links graph) }
+    ensures draft { let draft = change.now.draft.now in 0 < length standing.now
+        → IsView (D.rows draft) (D.id_at draft) (D.links draft) }
+{
+    if let Some(first) = standing.first() {
+        let start = &first.subscription.search.start;
+        let _ = change.graph.number(start);
+        let _ = change.draft.number(start);
+    }
+}
+
 // What subscriptions were told so far.
 #[derive(Drop)]
 struct Records {
@@ -104,23 +134,26 @@ fn tell_all<G: View, D: View, L: Ledger>(
     alloc: Global,
     standing: &mut [Standing],
     skipped: &[bool],
-    change: &GraphChange<'_, G, D>,
+    change: &LocatedGraphChange<'_, G, D>,
     records: &mut Records,
     steps: &mut Steps<L>,
 ) -> Result<(), NoMemory>
     requires flags { length skipped.now ≡ length standing.old }
+    requires located { 0 < length skipped.now → IsLocatedIn
+        (sight_of G.rows G.id_at G.links change.now.graph.now)
+        (sight_of D.rows D.id_at D.links change.now.draft.now) change.now.located }
     requires kept { let graph = change.now.graph.now in (i : ℕ) (x : Standing)
         → slice_get standing.old i ≡ Some x → slice_get skipped.now i ≡ Some false
         → IsKept (sight_of G.rows G.id_at G.links graph) x.subscription }
     requires change { ShowsAfter (sight_of G.rows G.id_at G.links change.now.graph.now)
-        (sight_of D.rows D.id_at D.links change.now.draft.now) change.now.plan.now.changes }
-    requires canon { AllByRecursion (λ n. IsCanonItem n.item) change.now.plan.now.notes }
+        (sight_of D.rows D.id_at D.links change.now.draft.now) change.now.located.plan.now.changes }
+    requires canon { AllByRecursion (λ n. IsCanonItem n.item) change.now.located.plan.now.notes }
     requires no_news { records.old.news.items ≡ [] }
     requires no_ways { records.old.ways.items ≡ [] }
     requires news_room { length skipped.now ≤ vec_capacity records.old.news }
     requires ways_room { length skipped.now ≤ vec_capacity records.old.ways }
     ensures news { OnOk result (records.new.news.items ≡ news_of_each
-        (G.rows change.now.graph.now) (D.rows change.now.draft.now) change.now.plan.now.notes
+        (G.rows change.now.graph.now) (D.rows change.now.draft.now) change.now.located.plan.now.notes
         skipped.now (map shown standing.old)) }
     ensures kept { let draft = change.now.draft.now in OnOk result ((i : ℕ) (x : Standing)
         → slice_get standing.new i ≡ Some x → slice_get skipped.now i ≡ Some false
@@ -152,16 +185,18 @@ fn tell_where<G: View, D: View, L: Ledger>(
     alloc: Global,
     standing: &mut Standing,
     is_skipped: bool,
-    change: &GraphChange<'_, G, D>,
+    change: &LocatedGraphChange<'_, G, D>,
     steps: &mut Steps<L>,
 ) -> Result<Record, NoMemory>
+    requires located { IsLocatedIn (sight_of G.rows G.id_at G.links change.now.graph.now)
+        (sight_of D.rows D.id_at D.links change.now.draft.now) change.now.located }
     requires kept { is_skipped ≡ false → IsKept
         (sight_of G.rows G.id_at G.links change.now.graph.now) standing.old.subscription }
     requires change { ShowsAfter (sight_of G.rows G.id_at G.links change.now.graph.now)
-        (sight_of D.rows D.id_at D.links change.now.draft.now) change.now.plan.now.changes }
-    requires canon { AllByRecursion (λ n. IsCanonItem n.item) change.now.plan.now.notes }
+        (sight_of D.rows D.id_at D.links change.now.draft.now) change.now.located.plan.now.changes }
+    requires canon { AllByRecursion (λ n. IsCanonItem n.item) change.now.located.plan.now.notes }
     ensures news { IfOk result (λ told. told.news ≡ news_where (G.rows change.now.graph.now)
-        (D.rows change.now.draft.now) change.now.plan.now.notes is_skipped
+        (D.rows change.now.draft.now) change.now.located.plan.now.notes is_skipped
         (shown standing.old)) }
     ensures kept { OnOk result (is_skipped ≡ false → IsKept
         (sight_of D.rows D.id_at D.links change.now.draft.now) standing.new.subscription) }
@@ -187,16 +222,18 @@ fn tell_where<G: View, D: View, L: Ledger>(
 fn tell_one<G: View, D: View, L: Ledger>(
     alloc: Global,
     standing: &mut Standing,
-    change: &GraphChange<'_, G, D>,
+    change: &LocatedGraphChange<'_, G, D>,
     steps: &mut Steps<L>,
 ) -> Result<Record, NoMemory>
+    requires located { IsLocatedIn (sight_of G.rows G.id_at G.links change.now.graph.now)
+        (sight_of D.rows D.id_at D.links change.now.draft.now) change.now.located }
     requires kept { IsKept (sight_of G.rows G.id_at G.links change.now.graph.now)
         standing.old.subscription }
     requires change { ShowsAfter (sight_of G.rows G.id_at G.links change.now.graph.now)
-        (sight_of D.rows D.id_at D.links change.now.draft.now) change.now.plan.now.changes }
-    requires canon { AllByRecursion (λ n. IsCanonItem n.item) change.now.plan.now.notes }
+        (sight_of D.rows D.id_at D.links change.now.draft.now) change.now.located.plan.now.changes }
+    requires canon { AllByRecursion (λ n. IsCanonItem n.item) change.now.located.plan.now.notes }
     ensures news { IfOk result (λ told. told.news ≡ news_of (G.rows change.now.graph.now)
-        (D.rows change.now.draft.now) change.now.plan.now.notes (shown standing.old)) }
+        (D.rows change.now.draft.now) change.now.located.plan.now.notes (shown standing.old)) }
     ensures kept { OnOk result (IsKept
         (sight_of D.rows D.id_at D.links change.now.draft.now) standing.new.subscription) }
     ensures way { IfOk result (λ told. Stands (LeadsBackWhere (Some told.way)) standing.old
@@ -232,13 +269,15 @@ struct TakenOver {
 fn take_over<G: View, D: View, L: Ledger>(
     alloc: Global,
     subscription: &mut Subscription,
-    change: &GraphChange<'_, G, D>,
+    change: &LocatedGraphChange<'_, G, D>,
     steps: &mut Steps<L>,
 ) -> Result<TakenOver, NoMemory>
+    requires located { IsLocatedIn (sight_of G.rows G.id_at G.links change.now.graph.now)
+        (sight_of D.rows D.id_at D.links change.now.draft.now) change.now.located }
     requires kept { IsKept (sight_of G.rows G.id_at G.links change.now.graph.now)
         subscription.old }
     requires change { ShowsAfter (sight_of G.rows G.id_at G.links change.now.graph.now)
-        (sight_of D.rows D.id_at D.links change.now.draft.now) change.now.plan.now.changes }
+        (sight_of D.rows D.id_at D.links change.now.draft.now) change.now.located.plan.now.changes }
     ensures deleted { IfOk result (λ taken. taken.differences.deleted
         ≡ difference (fresh (G.rows change.now.graph.now) subscription.old.search)
         (fresh (D.rows change.now.draft.now) subscription.old.search)) }
@@ -254,8 +293,12 @@ fn take_over<G: View, D: View, L: Ledger>(
         (sight_of D.rows D.id_at D.links change.now.draft.now) subscription.old.search
         subscription.old.region.start steps.old steps.new }
 {
-    let GraphChange { graph, draft, plan } = change;
-    let moved = ifmap_delta::change(alloc, subscription, *graph, *draft, *plan, steps)?;
+    let LocatedGraphChange {
+        graph,
+        draft,
+        located,
+    } = change;
+    let moved = ifmap_delta::change(alloc, subscription, *graph, *draft, located, steps)?;
     subscription.reserve(&moved)?;
     let Moved {
         deleted,

@@ -8,11 +8,12 @@ ghost use Rattle.ifmap_ident.specs.Items.{IsCanonItem};
 ghost use Rattle.ifmap_ident.specs.declared.codes.Code.TheVariants.{SearchResultsTooBig};
 ghost use Rattle.ifmap_machine.specs.Telling as machine;
 ghost use Rattle.ifmap_search.specs.declared.results.PollItem.TheVariants as the_item;
+ghost use Rattle.ifmap_standing.specs.Located.{IsLocatedIn};
 ghost use Rattle.ifmap_standing.specs.News.{news_of};
 ghost use Rattle.ifmap_standing.specs.Standing.{shown};
 
 use crate::standing::Standing;
-use ifmap_delta::notes;
+use ifmap_delta::{LocatedPlan, notes};
 use ifmap_elem::{Copied, Many, Text};
 use ifmap_ident::Code;
 use ifmap_plans::Plan;
@@ -27,6 +28,15 @@ pub struct GraphChange<'a, G: View, D: View> {
     pub graph: &'a G,
     pub draft: &'a D,
     pub plan: &'a Plan,
+}
+
+// A change of the graph with the items of its plan in both, which are looked up once for all
+// subscriptions.
+#[derive(Drop)]
+pub(crate) struct LocatedGraphChange<'a, G: View, D: View> {
+    pub(crate) graph: &'a G,
+    pub(crate) draft: &'a D,
+    pub(crate) located: LocatedPlan<'a>,
 }
 
 /// What one subscription is told of a change.
@@ -50,11 +60,13 @@ pub(crate) fn news_of<G: View, D: View>(
     alloc: Global,
     standing: &Standing,
     differences: Differences,
-    change: &GraphChange<'_, G, D>,
+    change: &LocatedGraphChange<'_, G, D>,
 ) -> Result<News, NoMemory>
+    requires located { IsLocatedIn (sight_of G.rows G.id_at G.links change.now.graph.now)
+        (sight_of D.rows D.id_at D.links change.now.draft.now) change.now.located }
     requires kept { IsKept (sight_of D.rows D.id_at D.links change.now.draft.now)
         standing.now.subscription }
-    requires canon { AllByRecursion (λ n. IsCanonItem n.item) change.now.plan.now.notes }
+    requires canon { AllByRecursion (λ n. IsCanonItem n.item) change.now.located.plan.now.notes }
     requires deleted { let search = standing.now.subscription.search in differences.deleted
         ≡ difference (fresh (G.rows change.now.graph.now) search)
         (fresh (D.rows change.now.draft.now) search) }
@@ -62,14 +74,14 @@ pub(crate) fn news_of<G: View, D: View>(
         ≡ difference (fresh (D.rows change.now.draft.now) search)
         (fresh (G.rows change.now.graph.now) search) }
     ensures { IfOk result (λ news. news ≡ news_of (G.rows change.now.graph.now)
-        (D.rows change.now.draft.now) change.now.plan.now.notes (shown standing.now)) }
+        (D.rows change.now.draft.now) change.now.located.plan.now.notes (shown standing.now)) }
 {
     let limit = standing.subscription.search.max_size;
     let size = standing.subscription.size;
     if limit < size {
         return too_big_news(alloc, &standing.name, size, limit);
     }
-    let notified = notes(alloc, &standing.subscription, change.draft, change.plan)?;
+    let notified = notes(alloc, &standing.subscription, change.draft, &change.located)?;
     let items = differing_items(alloc, &standing.name, differences, notified)?;
     Ok(News {
         items,

@@ -1,9 +1,10 @@
-use Rattle.std.proofs.Common.{rules, ◌≡◌, ◌∙◌, ap, sym, subst, refl, ◌+◌}
+use Rattle.std.proofs.Common.{rules, ◌≡◌, ◌∙◌, ap, sym, subst, ◌+◌}
 use Rattle.ifmap_search.specs.Sizes.{entries_size}
 use Rattle.ifmap_fresh.specs.Collected.{numbers_of}
 use Rattle.ifmap_fresh.specs.Fresh.{fresh}
 use Rattle.ifmap_region.specs.Marks.{mark_of, over}
 use Rattle.ifmap_delta.specs.Changes.{ShowsAfter}
+use Rattle.ifmap_delta.specs.Located.{AreLocated}
 use Rattle.ifmap_folds.specs.Differences.{difference}
 use Rattle.ifmap_delta.specs.Sights.{sight_of}
 use Rattle.ifmap_delta.proofs.Repairing.{change_steps, repair_steps}
@@ -16,8 +17,8 @@ returns-in_err-patch-clause-steps g c =
     let old = sight_of g.G.View.rows g.G.View.id_at g.G.View.links c.args.graph.now
     in let new = sight_of g.D.View.rows g.D.View.id_at g.D.View.links c.args.draft.now
     in let sub = c.args.subscription.now
-    in repair_steps c.bytes_tell_identifiers_apart.ensures old new sub.search c.patch_for.ensures.graph c.patch_for.ensures.draft
-    c.args.plan.now.changes c.requires.change sub.region.start sub.region.max_depth (mark_of sub.region.marks.entries)
+    in repair_steps c.bytes_tell_identifiers_apart.ensures old new sub.search c.requires.graph c.requires.draft
+    c.args.located.now.plan.now.changes c.requires.change sub.region.start sub.region.max_depth (mark_of sub.region.marks.entries)
     c.requires.kept.marks c.args.steps.now c.patch_for.new.steps c.patch_for.ensures.steps
 
 pub touched_items-requires-clause-before : goal.touched_items-requires-clause-before
@@ -32,8 +33,17 @@ pub touched_items-requires-clause-change : goal.touched_items-requires-clause-ch
 touched_items-requires-clause-change g c =
     let old = sight_of g.G.View.rows g.G.View.id_at g.G.View.links c.args.graph.now
     in let new = sight_of g.D.View.rows g.D.View.id_at g.D.View.links c.args.draft.now
-    in let at : c.deref.result.now ≡ c.args.plan.now.changes = search rules
+    in let at : c.deref.result.now ≡ c.args.located.now.plan.now.changes = search rules
     in subst (ShowsAfter old new) (sym at) c.requires.change
+
+pub touched_items-requires-clause-located : goal.touched_items-requires-clause-located
+touched_items-requires-clause-located g c =
+    let old = sight_of g.G.View.rows g.G.View.id_at g.G.View.links c.args.graph.now
+    in let new = sight_of g.D.View.rows g.D.View.id_at g.D.View.links c.args.draft.now
+    in let at : c.deref.result.now ≡ c.args.located.now.plan.now.changes = search rules
+    in let on : c.deref-2.result.now ≡ c.args.located.now.changes.items = search rules
+    in subst (λ cs. AreLocated old new cs c.deref-2.result.now) (sym at)
+    (subst (λ ls. AreLocated old new c.args.located.now.plan.now.changes ls) (sym on) c.requires.located)
 
 pub differences_on-requires-clause-before : goal.differences_on-requires-clause-before
 differences_on-requires-clause-before g c =
@@ -49,8 +59,8 @@ returns-in_err-items-clause-steps g c =
     in let new = sight_of g.D.View.rows g.D.View.id_at g.D.View.links c.args.draft.now
     in let sub = c.args.subscription.now
     in let mark = mark_of sub.region.marks.entries
-    in change_steps c.bytes_tell_identifiers_apart.ensures old new sub.search c.patch_for.ensures.graph c.patch_for.ensures.draft
-    c.args.plan.now.changes c.requires.change sub.region.start sub.region.max_depth mark c.requires.kept.marks
+    in change_steps c.bytes_tell_identifiers_apart.ensures old new sub.search c.requires.graph c.requires.draft
+    c.args.located.now.plan.now.changes c.requires.change sub.region.start sub.region.max_depth mark c.requires.kept.marks
     (over c.in_ok-patch.patch mark) c.in_ok-patch.ensures.marks c.args.steps.now c.patch_for.new.steps c.touched_items.new.steps
     (numbers_of c.in_ok-patch.patch) c.touched_items.ensures.apart c.patch_for.ensures.steps c.touched_items.ensures.steps
 
@@ -60,8 +70,8 @@ returns-in_err-told-clause-steps g c =
     in let new = sight_of g.D.View.rows g.D.View.id_at g.D.View.links c.args.draft.now
     in let sub = c.args.subscription.now
     in let mark = mark_of sub.region.marks.entries
-    in change_steps c.bytes_tell_identifiers_apart.ensures old new sub.search c.patch_for.ensures.graph c.patch_for.ensures.draft
-    c.args.plan.now.changes c.requires.change sub.region.start sub.region.max_depth mark c.requires.kept.marks
+    in change_steps c.bytes_tell_identifiers_apart.ensures old new sub.search c.requires.graph c.requires.draft
+    c.args.located.now.plan.now.changes c.requires.change sub.region.start sub.region.max_depth mark c.requires.kept.marks
     (over c.in_ok-patch.patch mark) c.in_ok-patch.ensures.marks c.args.steps.now c.patch_for.new.steps c.touched_items.new.steps
     (numbers_of c.in_ok-patch.patch) c.touched_items.ensures.apart c.patch_for.ensures.steps c.touched_items.ensures.steps
 
@@ -71,8 +81,8 @@ returns-in_default-clause-steps g c =
     in let new = sight_of g.D.View.rows g.D.View.id_at g.D.View.links c.args.draft.now
     in let sub = c.args.subscription.now
     in let mark = mark_of sub.region.marks.entries
-    in change_steps c.bytes_tell_identifiers_apart.ensures old new sub.search c.patch_for.ensures.graph c.patch_for.ensures.draft
-    c.args.plan.now.changes c.requires.change sub.region.start sub.region.max_depth mark c.requires.kept.marks
+    in change_steps c.bytes_tell_identifiers_apart.ensures old new sub.search c.requires.graph c.requires.draft
+    c.args.located.now.plan.now.changes c.requires.change sub.region.start sub.region.max_depth mark c.requires.kept.marks
     (over c.in_ok-patch.patch mark) c.in_ok-patch.ensures.marks c.args.steps.now c.patch_for.new.steps c.touched_items.new.steps
     (numbers_of c.in_ok-patch.patch) c.touched_items.ensures.apart c.patch_for.ensures.steps c.touched_items.ensures.steps
 
@@ -82,8 +92,8 @@ returns-clause-steps g c =
     in let new = sight_of g.D.View.rows g.D.View.id_at g.D.View.links c.args.draft.now
     in let sub = c.args.subscription.now
     in let mark = mark_of sub.region.marks.entries
-    in change_steps c.bytes_tell_identifiers_apart.ensures old new sub.search c.patch_for.ensures.graph c.patch_for.ensures.draft
-    c.args.plan.now.changes c.requires.change sub.region.start sub.region.max_depth mark c.requires.kept.marks
+    in change_steps c.bytes_tell_identifiers_apart.ensures old new sub.search c.requires.graph c.requires.draft
+    c.args.located.now.plan.now.changes c.requires.change sub.region.start sub.region.max_depth mark c.requires.kept.marks
     (over c.in_ok-patch.patch mark) c.in_ok-patch.ensures.marks c.args.steps.now c.patch_for.new.steps c.touched_items.new.steps
     (numbers_of c.in_ok-patch.patch) c.touched_items.ensures.apart c.patch_for.ensures.steps c.touched_items.ensures.steps
 
@@ -94,8 +104,8 @@ returns-clause-moved g c =
     in let sub = c.args.subscription.now
     in let s = sub.search
     in let tells = c.bytes_tell_identifiers_apart.ensures
-    in let graph = c.patch_for.ensures.graph
-    in let draft = c.patch_for.ensures.draft
+    in let graph = c.requires.graph
+    in let draft = c.requires.draft
     in let touched = c.in_ok-items.ensures.touched
     in let told = c.in_ok-told.told
     in let a = fresh old.rows s

@@ -1,11 +1,13 @@
-use Rattle.std.proofs.Common.{rules, ◌≡◌, subst, sym}
+use Rattle.std.proofs.Common.{rules, ◌≡◌, ◌∙◌, ap, length, subst, sym}
 use Rattle.std.proofs.lemmas.Result.{IfOk-weaker}
 use Rattle.ifmap_region.specs.Bounds.{within_nothing}
 use Rattle.ifmap_region.specs.Marks.{mark_of, over}
 use Rattle.ifmap_delta.specs.Bounds.{IsNear, links_of}
 use Rattle.ifmap_delta.specs.Flipped.{AreFlipsOf}
+use Rattle.ifmap_delta.specs.Located.{AreLocated, IsLocatedTwice}
 use Rattle.ifmap_delta.specs.Sights.{sight_of}
 use Rattle.ifmap_delta.proofs.Flipping.{added_linked}
+use Rattle.ifmap_delta.proofs.InStep.{each_long}
 use Rattle.ifmap_delta.proofs.Repairing.{repaired_marks, repaired_steps}
 use Rattle.ifmap_delta.proofs.changing.patch_for.Goals as goal
 
@@ -16,16 +18,30 @@ returns-in_err-flips-clause-steps g c =
     in let sub = c.args.subscription.now
     in within_nothing (links_of old new sub.search) (IsNear old new sub.search sub.region.start) 5 c.args.steps.now
 
+pub flips_of-requires : goal.flips_of-requires
+flips_of-requires g c =
+    let old = sight_of g.G.View.rows g.G.View.id_at g.G.View.links c.args.graph.now
+    in let new = sight_of g.D.View.rows g.D.View.id_at g.D.View.links c.args.draft.now
+    in let at : c.deref.result.now ≡ c.args.located.now.plan.now.changes = search rules
+    in let on : c.deref-2.result.now ≡ c.args.located.now.changes.items = search rules
+    in ap length on
+    ∙ each_long (λ d l. IsLocatedTwice old new d.item l) c.args.located.now.plan.now.changes c.args.located.now.changes.items
+    c.requires.located
+    ∙ ap length (sym at)
+
 pub repair-requires-clause-added : goal.repair-requires-clause-added
 repair-requires-clause-added g c =
     let old = sight_of g.G.View.rows g.G.View.id_at g.G.View.links c.args.graph.now
     in let new = sight_of g.D.View.rows g.D.View.id_at g.D.View.links c.args.draft.now
-    in let at : c.deref.result.now ≡ c.args.plan.now.changes = search rules
-    in let out : c.deref-2.result.now ≡ c.in_ok-flips.flips.items = search rules
-    in let flips = subst (λ l. AreFlipsOf old new c.args.subscription.now.search l c.deref-2.result.now) at
-    (subst (λ l. AreFlipsOf old new c.args.subscription.now.search c.deref.result.now l) (sym out) c.in_ok-flips.ensures)
-    in added_linked c.bytes_tell_identifiers_apart.ensures old new c.args.subscription.now.search c.number.ensures.whole
-    c.number-2.ensures.whole c.args.plan.now.changes c.requires.change c.deref-2.result.now flips
+    in let at : c.deref.result.now ≡ c.args.located.now.plan.now.changes = search rules
+    in let on : c.deref-2.result.now ≡ c.args.located.now.changes.items = search rules
+    in let out : c.deref-3.result.now ≡ c.in_ok-flips.flips.items = search rules
+    in let are = subst (λ cs. AreLocated old new cs c.deref-2.result.now) (sym at)
+    (subst (λ ls. AreLocated old new c.args.located.now.plan.now.changes ls) (sym on) c.requires.located)
+    in let flips = subst (λ l. AreFlipsOf old new c.args.subscription.now.search l c.deref-3.result.now) at
+    (subst (λ l. AreFlipsOf old new c.args.subscription.now.search c.deref.result.now l) (sym out) (c.in_ok-flips.ensures old new are))
+    in added_linked c.bytes_tell_identifiers_apart.ensures old new c.args.subscription.now.search c.requires.graph
+    c.requires.draft c.args.located.now.plan.now.changes c.requires.change c.deref-3.result.now flips
 
 pub returns-clause-marks : goal.returns-clause-marks
 returns-clause-marks g c =
@@ -33,14 +49,17 @@ returns-clause-marks g c =
     in let new = sight_of g.D.View.rows g.D.View.id_at g.D.View.links c.args.draft.now
     in let sub = c.args.subscription.now
     in let mark = mark_of sub.region.marks.entries
-    in let at : c.deref.result.now ≡ c.args.plan.now.changes = search rules
-    in let out : c.deref-2.result.now ≡ c.in_ok-flips.flips.items = search rules
-    in let flips = subst (λ l. AreFlipsOf old new c.args.subscription.now.search l c.deref-2.result.now) at
-    (subst (λ l. AreFlipsOf old new c.args.subscription.now.search c.deref.result.now l) (sym out) c.in_ok-flips.ensures)
+    in let at : c.deref.result.now ≡ c.args.located.now.plan.now.changes = search rules
+    in let on : c.deref-2.result.now ≡ c.args.located.now.changes.items = search rules
+    in let out : c.deref-3.result.now ≡ c.in_ok-flips.flips.items = search rules
+    in let are = subst (λ cs. AreLocated old new cs c.deref-2.result.now) (sym at)
+    (subst (λ ls. AreLocated old new c.args.located.now.plan.now.changes ls) (sym on) c.requires.located)
+    in let flips = subst (λ l. AreFlipsOf old new c.args.subscription.now.search l c.deref-3.result.now) at
+    (subst (λ l. AreFlipsOf old new c.args.subscription.now.search c.deref.result.now l) (sym out) (c.in_ok-flips.ensures old new are))
     in IfOk-weaker c.repair.result _ _
-    (λ patch d. repaired_marks c.bytes_tell_identifiers_apart.ensures old new sub.search c.number.ensures.whole c.number-2.ensures.whole
-    c.args.plan.now.changes c.requires.change sub.region.start sub.region.max_depth mark c.requires.marks
-    c.deref-2.result.now flips (over patch mark) d)
+    (λ patch d. repaired_marks c.bytes_tell_identifiers_apart.ensures old new sub.search c.requires.graph c.requires.draft
+    c.args.located.now.plan.now.changes c.requires.change sub.region.start sub.region.max_depth mark c.requires.marks
+    c.deref-3.result.now flips (over patch mark) d)
     c.repair.ensures.depths
 
 pub returns-clause-steps : goal.returns-clause-steps
@@ -48,10 +67,13 @@ returns-clause-steps g c =
     let old = sight_of g.G.View.rows g.G.View.id_at g.G.View.links c.args.graph.now
     in let new = sight_of g.D.View.rows g.D.View.id_at g.D.View.links c.args.draft.now
     in let sub = c.args.subscription.now
-    in let at : c.deref.result.now ≡ c.args.plan.now.changes = search rules
-    in let out : c.deref-2.result.now ≡ c.in_ok-flips.flips.items = search rules
-    in let flips = subst (λ l. AreFlipsOf old new c.args.subscription.now.search l c.deref-2.result.now) at
-    (subst (λ l. AreFlipsOf old new c.args.subscription.now.search c.deref.result.now l) (sym out) c.in_ok-flips.ensures)
-    in repaired_steps c.bytes_tell_identifiers_apart.ensures old new sub.search c.number.ensures.whole c.number-2.ensures.whole
-    c.args.plan.now.changes c.requires.change sub.region.start sub.region.max_depth (mark_of sub.region.marks.entries) c.requires.marks
-    c.deref-2.result.now flips c.args.steps.now c.repair.new.steps c.repair.ensures.steps
+    in let at : c.deref.result.now ≡ c.args.located.now.plan.now.changes = search rules
+    in let on : c.deref-2.result.now ≡ c.args.located.now.changes.items = search rules
+    in let out : c.deref-3.result.now ≡ c.in_ok-flips.flips.items = search rules
+    in let are = subst (λ cs. AreLocated old new cs c.deref-2.result.now) (sym at)
+    (subst (λ ls. AreLocated old new c.args.located.now.plan.now.changes ls) (sym on) c.requires.located)
+    in let flips = subst (λ l. AreFlipsOf old new c.args.subscription.now.search l c.deref-3.result.now) at
+    (subst (λ l. AreFlipsOf old new c.args.subscription.now.search c.deref.result.now l) (sym out) (c.in_ok-flips.ensures old new are))
+    in repaired_steps c.bytes_tell_identifiers_apart.ensures old new sub.search c.requires.graph c.requires.draft
+    c.args.located.now.plan.now.changes c.requires.change sub.region.start sub.region.max_depth (mark_of sub.region.marks.entries) c.requires.marks
+    c.deref-3.result.now flips c.args.steps.now c.repair.new.steps c.repair.ensures.steps

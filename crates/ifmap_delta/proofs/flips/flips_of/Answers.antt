@@ -1,14 +1,19 @@
-use Rattle.std.proofs.Common.{subst, sym, take, ◌+◌}
+use Rattle.std.proofs.Common.{◌≡◌, ap, subst, sym, take, get_or, ◌+◌}
 use Rattle.ifmap_delta.specs.Flipped.{AreFlipsOf}
-use Rattle.ifmap_delta.specs.Sights.{sight_of}
+use Rattle.ifmap_delta.specs.Located.{IsLocatedTwice}
 use Rattle.ifmap_delta.proofs.Along.{flips_more}
+use Rattle.ifmap_delta.proofs.InStep.{each_at}
 use Rattle.ifmap_delta.proofs.flips.flips_of.Goals as goal
 
-pub loop-change-preserved : goal.loop-change-preserved
-loop-change-preserved g c =
-    let old = sight_of g.G.View.rows g.G.View.id_at g.G.View.links c.args.graph.now
-    in let new = sight_of g.D.View.rows g.D.View.id_at g.D.View.links c.args.draft.now
-    in subst (λ l. AreFlipsOf old new c.args.search.now (take (c.loop-change.change-index + 1) c.args.changes.now) l)
-    (sym c.in_ok-offer.ensures)
-    (flips_more old new c.args.search.now c.args.changes.now c.loop-change.flips.items c.loop-change.change-index c.change-item.result
-    c.flip_of.result c.loop-change-test.true c.change-item.is c.loop-change.invariant c.flip_of.ensures.some c.flip_of.ensures.each)
+pub loop-i-preserved : goal.loop-i-preserved
+loop-i-preserved c = λ old new are.
+    let s = c.args.search.now
+    in let changes = c.args.changes.now
+    in let l = c.loop-i
+    in let change = get_or changes l.i c.index-changes-i.result
+    in let is : change ≡ get_or changes l.i change = ap (λ x. get_or changes l.i x) c.index-changes-i.is
+    in let at = each_at (λ c l. IsLocatedTwice old new c.item l) changes c.args.located.now l.i change c.index-located-i.result are
+    c.loop-i-test.true is c.index-located-i.is
+    in subst (λ fs. AreFlipsOf old new s (take (l.i + 1) changes) fs) (sym c.in_ok-offer.ensures)
+    (flips_more old new s changes l.flips.items l.i change c.flip_of.result c.loop-i-test.true is
+    (l.invariant old new are) (c.flip_of.ensures.some old new at) (c.flip_of.ensures.each old new at))

@@ -1,9 +1,9 @@
 use Rattle.std.proofs.Common.{take}
 use Rattle.ifmap_delta.specs.Flipped.{AreFlipsOf}
-use Rattle.ifmap_delta.specs.Sights.{sight_of}
+use Rattle.ifmap_delta.specs.Located.{AreLocated}
+use Rattle.ifmap_delta.specs.Sights.{Sight}
 use Rattle.ifmap_delta.proofs.flips.flips_of.Given as goal
 
-abbrev pub invariant-loop-change : goal.invariant-loop-change
-invariant-loop-change g l =
-    AreFlipsOf (sight_of g.G.View.rows g.G.View.id_at g.G.View.links l.graph) (sight_of g.D.View.rows g.D.View.id_at g.D.View.links l.draft)
-    l.search (take l.change-index l.changes) l.flips.items
+abbrev pub invariant-loop-i : goal.invariant-loop-i
+invariant-loop-i l = (old new : Sight) → AreLocated old new l.changes l.located
+    → AreFlipsOf old new l.search (take l.i l.changes) l.flips.items

@@ -1,6 +1,9 @@
-use Rattle.std.proofs.Common.{rules, ◌≡◌, sym, subst}
+use Rattle.std.proofs.Common.{rules, ◌≡◌, ◌∙◌, ap, length, sym, subst}
 use Rattle.std.specs.List.{AllByRecursion}
 use Rattle.ifmap_ident.specs.Items.{IsCanonItem}
+use Rattle.ifmap_delta.specs.Located.{AreNotesLocated, IsLocated}
+use Rattle.ifmap_delta.specs.Sights.{sight_of}
+use Rattle.ifmap_delta.proofs.InStep.{each_long}
 use Rattle.ifmap_delta.proofs.noting.notes.Goals as goal
 
 pub told_of-requires-clause-marks : goal.told_of-requires-clause-marks
@@ -9,5 +12,22 @@ told_of-requires-clause-marks g c =
 
 pub told_of-requires-clause-canon : goal.told_of-requires-clause-canon
 told_of-requires-clause-canon g c =
-    let at : c.deref.result.now ≡ c.args.plan.now.notes = search rules
+    let at : c.deref.result.now ≡ c.args.located.now.plan.now.notes = search rules
     in subst (AllByRecursion (λ n. IsCanonItem n.item)) (sym at) c.requires.canon
+
+pub told_of-requires-clause-located : goal.told_of-requires-clause-located
+told_of-requires-clause-located g c =
+    let new = sight_of g.D.View.rows g.D.View.id_at g.D.View.links c.args.draft.now
+    in let at : c.deref.result.now ≡ c.args.located.now.plan.now.notes = search rules
+    in let on : c.deref-2.result.now ≡ c.args.located.now.notes.items = search rules
+    in subst (λ ns. AreNotesLocated new ns c.deref-2.result.now) (sym at)
+    (subst (λ ls. AreNotesLocated new c.args.located.now.plan.now.notes ls) (sym on) c.requires.located)
+
+pub told_of-requires-clause-long : goal.told_of-requires-clause-long
+told_of-requires-clause-long g c =
+    let new = sight_of g.D.View.rows g.D.View.id_at g.D.View.links c.args.draft.now
+    in let at : c.deref.result.now ≡ c.args.located.now.plan.now.notes = search rules
+    in let on : c.deref-2.result.now ≡ c.args.located.now.notes.items = search rules
+    in ap length on
+    ∙ each_long (λ n l. IsLocated new n.item l) c.args.located.now.plan.now.notes c.args.located.now.notes.items c.requires.located
+    ∙ ap length (sym at)

@@ -4,15 +4,23 @@ use Rattle.ifmap_lemmas.specs.Having.{Has}
 use Rattle.ifmap_fresh.specs.Collected.{numbers_of}
 use Rattle.ifmap_fresh.specs.Fresh.{is_looked_at}
 use Rattle.ifmap_region.specs.Marks.{mark_of}
+use Rattle.ifmap_delta.specs.Located.{IsLocatedTwice}
 use Rattle.ifmap_delta.specs.Shown.{patched}
 use Rattle.ifmap_delta.specs.Sights.{HaveMarks, sight_of}
 use Rattle.ifmap_delta.specs.Touched.{is_looked_at_either, moved, planned}
 use Rattle.ifmap_fresh.specs.laws.OrderedLaws.{came, rises, stays}
+use Rattle.ifmap_delta.proofs.InStep.{each_long}
 use Rattle.ifmap_delta.proofs.Settling.{gathered_canon, in_patch, settled}
 use Rattle.ifmap_delta.proofs.touched.touched_items.Goals as goal
 
 pub add_planned-requires-clause-canon : goal.add_planned-requires-clause-canon
 add_planned-requires-clause-canon g c = c.requires.change.canon
+
+pub add_planned-requires-clause-long : goal.add_planned-requires-clause-long
+add_planned-requires-clause-long g c =
+    let old = sight_of g.G.View.rows g.G.View.id_at g.G.View.links c.args.before.now.view.now
+    in let new = sight_of g.D.View.rows g.D.View.id_at g.D.View.links c.args.after.now.view.now
+    in each_long (λ d l. IsLocatedTwice old new d.item l) c.args.changes.now c.args.located.now c.requires.located
 
 pub returns-clause-touched : goal.returns-clause-touched
 returns-clause-touched g c =

@@ -9,7 +9,7 @@ loop-at-init g c =
     let old = sight_of g.G.View.rows g.G.View.id_at g.G.View.links c.args.change.now.graph.now
     in let new = sight_of g.D.View.rows g.D.View.id_at g.D.View.links c.args.change.now.draft.now
     in record {
-      stage = rw (c.requires.no_news, c.requires.no_ways) (stage_first old new c.args.change.now.plan.now.notes c.args.skipped.now
+      stage = rw (c.requires.no_news, c.requires.no_ways) (stage_first old new c.args.change.now.located.plan.now.notes c.args.skipped.now
           c.args.standing.now c.args.steps.now);
       news_room = refl;
       ways_room = refl;
@@ -19,7 +19,7 @@ pub tell_where-requires-clause-kept : goal.tell_where-requires-clause-kept
 tell_where-requires-clause-kept g c = λ none.
     let old = sight_of g.G.View.rows g.G.View.id_at g.G.View.links c.args.change.now.graph.now
     in let new = sight_of g.D.View.rows g.D.View.id_at g.D.View.links c.args.change.now.draft.now
-    in let notes = c.args.change.now.plan.now.notes
+    in let notes = c.args.change.now.located.plan.now.notes
     in let skipped = c.args.skipped.now
     in let xs = c.args.standing.now
     in let begun = c.args.steps.now
@@ -31,6 +31,9 @@ tell_where-requires-clause-kept g c = λ none.
     in let x = get_or l.standing l.at c.index-standing-at.result
     in let here : slice_get l.standing l.at ≡ Some x = slice_get-get_or l.standing l.at c.index-standing-at.result low
     in c.requires.kept l.at x (sym (s.rest l.at (omega arith)) ∙ here) (flag ∙ ap Some none)
+
+pub tell_where-requires-clause-located : goal.tell_where-requires-clause-located
+tell_where-requires-clause-located g c = c.requires.located (omega (arith, c.loop-at-test.true))
 
 pub push_reserved-requires : goal.push_reserved-requires
 push_reserved-requires g c =
@@ -46,7 +49,7 @@ pub loop-at-preserved : goal.loop-at-preserved
 loop-at-preserved g c =
     let old = sight_of g.G.View.rows g.G.View.id_at g.G.View.links c.args.change.now.graph.now
     in let new = sight_of g.D.View.rows g.D.View.id_at g.D.View.links c.args.change.now.draft.now
-    in let notes = c.args.change.now.plan.now.notes
+    in let notes = c.args.change.now.located.plan.now.notes
     in let skipped = c.args.skipped.now
     in let xs = c.args.standing.now
     in let begun = c.args.steps.now
@@ -78,7 +81,7 @@ pub returns-in_err-told-clause-ways : goal.returns-in_err-told-clause-ways
 returns-in_err-told-clause-ways g c =
     let old = sight_of g.G.View.rows g.G.View.id_at g.G.View.links c.args.change.now.graph.now
     in let new = sight_of g.D.View.rows g.D.View.id_at g.D.View.links c.args.change.now.draft.now
-    in let notes = c.args.change.now.plan.now.notes
+    in let notes = c.args.change.now.located.plan.now.notes
     in let skipped = c.args.skipped.now
     in let xs = c.args.standing.now
     in let begun = c.args.steps.now
@@ -99,7 +102,7 @@ pub returns-in_err-told-clause-steps : goal.returns-in_err-told-clause-steps
 returns-in_err-told-clause-steps g c =
     let old = sight_of g.G.View.rows g.G.View.id_at g.G.View.links c.args.change.now.graph.now
     in let new = sight_of g.D.View.rows g.D.View.id_at g.D.View.links c.args.change.now.draft.now
-    in let notes = c.args.change.now.plan.now.notes
+    in let notes = c.args.change.now.located.plan.now.notes
     in let skipped = c.args.skipped.now
     in let xs = c.args.standing.now
     in let begun = c.args.steps.now
@@ -120,7 +123,7 @@ pub returns-clause-news : goal.returns-clause-news
 returns-clause-news g c =
     let old = sight_of g.G.View.rows g.G.View.id_at g.G.View.links c.args.change.now.graph.now
     in let new = sight_of g.D.View.rows g.D.View.id_at g.D.View.links c.args.change.now.draft.now
-    in let notes = c.args.change.now.plan.now.notes
+    in let notes = c.args.change.now.located.plan.now.notes
     in let skipped = c.args.skipped.now
     in let xs = c.args.standing.now
     in let begun = c.args.steps.now
@@ -132,7 +135,7 @@ pub returns-clause-kept : goal.returns-clause-kept
 returns-clause-kept g c =
     let old = sight_of g.G.View.rows g.G.View.id_at g.G.View.links c.args.change.now.graph.now
     in let new = sight_of g.D.View.rows g.D.View.id_at g.D.View.links c.args.change.now.draft.now
-    in let notes = c.args.change.now.plan.now.notes
+    in let notes = c.args.change.now.located.plan.now.notes
     in let skipped = c.args.skipped.now
     in let xs = c.args.standing.now
     in let begun = c.args.steps.now
@@ -150,7 +153,7 @@ pub returns-clause-steps : goal.returns-clause-steps
 returns-clause-steps g c =
     let old = sight_of g.G.View.rows g.G.View.id_at g.G.View.links c.args.change.now.graph.now
     in let new = sight_of g.D.View.rows g.D.View.id_at g.D.View.links c.args.change.now.draft.now
-    in let notes = c.args.change.now.plan.now.notes
+    in let notes = c.args.change.now.located.plan.now.notes
     in let skipped = c.args.skipped.now
     in let xs = c.args.standing.now
     in let begun = c.args.steps.now

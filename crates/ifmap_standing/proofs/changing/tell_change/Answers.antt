@@ -1,7 +1,13 @@
+use Rattle.std.proofs.Common.{◌∙◌, ◌<◌, ap, length, map, subst, sym, arith}
+use Rattle.ifmap_delta.specs.Changes.{ShowsAfter}
 use Rattle.ifmap_delta.specs.Sights.{sight_of}
 use Rattle.ifmap_delta.specs.Ways.{HasSameSearch}
-use Rattle.std.specs.List.{zip}
+use Rattle.std.specs.List.{AllByRecursion, zip}
+use Rattle.ifmap_ident.specs.Items.{IsCanonItem}
+use Rattle.ifmap_plans.specs.declared.plans.Plan.{Plan}
 use Rattle.ifmap_standing.specs.Kept.{AtEach, KeepsSame, Stands}
+use Rattle.ifmap_standing.specs.News.{news_of_each}
+use Rattle.ifmap_standing.specs.Standing.{shown}
 use Rattle.ifmap_standing.proofs.Places.{keeps_itself, same_search}
 use Rattle.ifmap_standing.proofs.Stages.{keep_searches, lead_searches, on_err, stands_itself, within_none}
 use Rattle.ifmap_standing.proofs.changing.tell_change.Goals as goal
@@ -39,3 +45,43 @@ returns-in_err-with_capacity-2-clause-steps g c =
     let old = sight_of g.G.View.rows g.G.View.id_at g.G.View.links c.args.change.now.graph.now
     in let new = sight_of g.D.View.rows g.D.View.id_at g.D.View.links c.args.change.now.draft.now
     in within_none old new (zip c.args.skipped.now c.args.standing.now) c.args.steps.now
+
+pub returns-in_err-located-clause-same : goal.returns-in_err-located-clause-same
+returns-in_err-located-clause-same g c = stands_itself HasSameSearch same_search c.args.standing.now
+
+pub returns-in_err-located-clause-err : goal.returns-in_err-located-clause-err
+returns-in_err-located-clause-err g c =
+    on_err c.from_residual-in_err-located.result (AtEach (λ _. Stands KeepsSame) c.args.standing.now c.args.standing.now)
+    (stands_itself KeepsSame keeps_itself c.args.standing.now)
+
+pub returns-in_err-located-clause-steps : goal.returns-in_err-located-clause-steps
+returns-in_err-located-clause-steps g c =
+    let old = sight_of g.G.View.rows g.G.View.id_at g.G.View.links c.args.change.now.graph.now
+    in let new = sight_of g.D.View.rows g.D.View.id_at g.D.View.links c.args.change.now.draft.now
+    in within_none old new (zip c.args.skipped.now c.args.standing.now) c.args.steps.now
+
+pub tell_all-requires-clause-located : goal.tell_all-requires-clause-located
+tell_all-requires-clause-located g c = λ some.
+    let is : 0 < length c.args.standing.now = omega (arith, some, c.requires.flags)
+    in record {
+      graph = c.look_at_views.ensures.graph is;
+      draft = c.look_at_views.ensures.draft is;
+      items = c.in_ok-located.ensures.located;
+    }
+
+pub tell_all-requires-clause-change : goal.tell_all-requires-clause-change
+tell_all-requires-clause-change g c =
+    let old = sight_of g.G.View.rows g.G.View.id_at g.G.View.links c.args.change.now.graph.now
+    in let new = sight_of g.D.View.rows g.D.View.id_at g.D.View.links c.args.change.now.draft.now
+    in subst (λ (p : Plan). ShowsAfter old new p.changes) (sym c.in_ok-located.ensures.plan) c.requires.change
+
+pub tell_all-requires-clause-canon : goal.tell_all-requires-clause-canon
+tell_all-requires-clause-canon g c =
+    subst (λ (p : Plan). AllByRecursion (λ n. IsCanonItem n.item) p.notes) (sym c.in_ok-located.ensures.plan) c.requires.canon
+
+pub returns-in-Ok-clause-news : goal.returns-in-Ok-clause-news
+returns-in-Ok-clause-news g c =
+    let a = g.G.View.rows c.args.change.now.graph.now
+    in let b = g.D.View.rows c.args.change.now.draft.now
+    in c.in-Ok.ensures.news
+    ∙ ap (λ (p : Plan). news_of_each a b p.notes c.args.skipped.now (map shown c.args.standing.now)) c.in_ok-located.ensures.plan

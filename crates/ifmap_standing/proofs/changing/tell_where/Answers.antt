@@ -32,5 +32,5 @@ pub returns-clause-news : goal.returns-clause-news
 returns-clause-news g c =
     let a = g.G.View.rows c.args.change.now.graph.now
     in let b = g.D.View.rows c.args.change.now.draft.now
-    in subst (λ skip. IfOk c.tell_one.result (λ told. told.news ≡ news_where a b c.args.change.now.plan.now.notes skip
+    in subst (λ skip. IfOk c.tell_one.result (λ told. told.news ≡ news_where a b c.args.change.now.located.plan.now.notes skip
     (shown c.args.standing.now))) (sym c.if-is_skipped.false) c.tell_one.ensures.news
