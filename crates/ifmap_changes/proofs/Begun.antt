@@ -1,8 +1,8 @@
 -- A change of the graph comes to be out, and is given up or made.
 -- First what keeps itself (`keep_itself`, `searches_twice`, `sessions_itself`), and what stands where nothing came to be out
--- (`kept_seen`). Then what is waited for (`awaits_less`, `awaits_these`), and what holds of the parts with a change out (`ready_begun`,
+-- (`kept_seen`). Then what is waited for (`awaits_these`), and what holds of the parts with a change out (`ready_begun`,
 -- `same_so_far`).
-use Rattle.std.proofs.Common.{◌≡◌, ℕ, ◌≤◌, Some, List, [], ◌∷◌, ◌++◌, refl, ◌∙◌, sym, subst, arith, append-nil}
+use Rattle.std.proofs.Common.{◌≡◌, ℕ, Some, List, [], refl, ◌∙◌, sym, subst, arith, append-nil}
 use Rattle.std.proofs.lemmas.Option.{same_Some}
 use Rattle.ifmap_lemmas.specs.Filters.{all_weaker}
 use Rattle.ifmap_delta.specs.Ways.{HasSameSearch}
@@ -18,7 +18,6 @@ use Rattle.ifmap_graph.specs.declared.changes.Ready.{Ready}
 use Rattle.ifmap_graph.specs.Back.{KeepsBacks}
 use Rattle.ifmap_graph.specs.Held.{Held}
 use Rattle.ifmap_graph.specs.Seen.{Awaits, AwaitsMore, IsSeenSame, IsStill}
-use Rattle.ifmap_graph.specs.Waits.{times_in}
 use Rattle.ifmap_tellings.specs.declared.tellings.Pending.{Pending}
 use Rattle.ifmap_tellings.specs.Tellings.{HasSameSessions}
 use Rattle.ifmap_changes.specs.declared.parts.Parts.{Parts}
@@ -88,6 +87,7 @@ kept_seen old new steady still same backs = record {
     rows = same.rows;
     links = same.links;
     numbers = λ v a b p q. same_Some b a (sym q ∙ same.numbers v ∙ p);
+    lean = same.lean;
     standing = keep_itself old.standing.items;
     sessions = sessions_itself old.sessions;
   };
@@ -95,13 +95,6 @@ kept_seen old new steady still same backs = record {
 }
 
 -- ---- items that are waited for
-
-times_beside : (items rest : List Item) (x : Item) → times_in rest x ≤ times_in (items ++ rest) x
-times_beside [] rest x = omega arith
-times_beside (i ∷ items) rest x = let more = times_beside items rest x in omega (arith, more)
-
-pub awaits_less : (items rest : List Item) (h : Held) → Awaits (items ++ rest) h → Awaits rest h
-awaits_less items rest h w x = let less = times_beside items rest x in omega (arith, w x, less)
 
 pub awaits_these : (items : List Item) (old new : Held) → AwaitsMore items old new → Awaits items new
 awaits_these items old new more = subst (λ (is : List Item). Awaits is new) (append-nil items) (more [] (λ x. omega arith))

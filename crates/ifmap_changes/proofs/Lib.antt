@@ -1,6 +1,6 @@
 -- Lemmas, in reading order: clauses on results; lists place by place, and beside flags; numbers that are held, and steady graphs; what is
 -- marked, settled and taken back; what is told of a change; one graph of what is stored, and what stays whole; where subscriptions start;
--- a change that comes to be out, and is made or given up; what is published and taken away.
+-- a change that comes to be out, and is made or given up, and its steps; what is published and taken away.
 pub mod Results
 pub mod EachPlace
 pub mod Flags
@@ -14,4 +14,5 @@ pub mod Whole
 pub mod Starts
 pub mod Begun
 pub mod Making
+pub mod Spending
 pub mod Taken

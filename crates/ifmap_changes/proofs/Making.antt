@@ -1,7 +1,7 @@
 -- A change that is out is made, or given up, once subscriptions were told of it.
 -- First what is seen once it is made (`Commits`, `kept_made_now`), then each clause of a change that was made: what is told (`told_made`),
--- what stays whole and steady (`whole_made`, `steady_made`), what is ready (`ready_made`, `bare_made`), what was turned (`turned_made`,
--- `waits_made`), and the way back (`back_made`). Last, what stands once it is given up (`Forgets`, `given_up`).
+-- what stays whole and steady (`whole_made`, `steady_made`), what is ready (`ready_made`, `bare_made`), what was turned (`turned_made`),
+-- and the way back (`back_made`). Last, what stands once it is given up (`Forgets`, `given_up`).
 use Rattle.std.proofs.Common.{◌≡◌, ◌≢◌, ℕ, ◌≤◌, Option, List, [], ◌++◌, map, ap, ◌∙◌, sym, subst}
 use Rattle.std.proofs.lemmas.Option.{same_Some}
 use Rattle.std.specs.List.{AllByRecursion}
@@ -26,13 +26,13 @@ use Rattle.ifmap_graph.specs.declared.changes.Undo.{Undo}
 use Rattle.ifmap_graph.specs.Back.{IsWayBack, KeepsOtherBacks}
 use Rattle.ifmap_graph.specs.Held.{Held, IsOwn}
 use Rattle.ifmap_graph.specs.Out.{items_of}
-use Rattle.ifmap_graph.specs.Seen.{Awaits, AwaitsMore, BringsNoNumbers, IsStill, KeepsNumbers, KeepsOwn, links_next, links_now, rows_next, rows_now}
+use Rattle.ifmap_graph.specs.Seen.{Awaits, AwaitsMore, BringsNoNumbers, IsLean, IsStill, KeepsNumbers, KeepsOwn, StaysLean, StaysLeanWith, StaysLeanWithout, links_next, links_now, rows_next, rows_now}
 use Rattle.ifmap_tellings.specs.declared.tellings.Pending.{Pending}
 use Rattle.ifmap_tellings.specs.Tellings.{HasSameSessions, kept_of, told_by}
 use Rattle.ifmap_changes.specs.declared.parts.Parts.{Parts}
-use Rattle.ifmap_changes.specs.Between.{AreKept, AreOrdered, AreTurned, AreWithin, Asking, CanEnd, IsBare, IsReady, IsSteady, IsWithin, left, sight_now, so_far, starts_of}
+use Rattle.ifmap_changes.specs.Between.{AreKept, AreOrdered, AreTurnedWith, AreWithin, Asking, CanEnd, IsBare, IsReady, IsSteady, IsWithin, left, sight_now, so_far, starts_of}
 use Rattle.ifmap_changes.specs.Changes.{CanTakeBack, IsBegun, IsTold, sight_next, with_next}
-use Rattle.ifmap_changes.proofs.Begun.{awaits_less, awaits_these, keep_searches, same_so_far, shared}
+use Rattle.ifmap_changes.proofs.Begun.{awaits_these, keep_searches, same_so_far, shared}
 use Rattle.ifmap_changes.proofs.Flags.{kept_later}
 use Rattle.ifmap_changes.proofs.Starts.{numbered_beside, numbered_more, own_beside}
 use Rattle.ifmap_changes.proofs.Numbers.{Tells}
@@ -52,6 +52,7 @@ pub record Commits (plan : Plan) (old new : Held) (undo : Undo) : Type 0 where
   pub still : IsStill new
   pub own : KeepsOwn old new
   pub waits : AwaitsMore [] old new
+  pub lean : Awaits (items_of plan.changes) old → StaysLean old new
   pub same : undo.plan ≡ plan
   pub back : Awaits (items_of plan.changes) old → IsWayBack undo (rows_now old) (links_now old) new
 
@@ -97,16 +98,18 @@ module _ (a : Asking) (old : Parts) (before : Pending) (after : Pending) (ready 
         (numbered_more old.graph g old.standing.items numbers_made steady.numbered);
   }
 
-  pub turned_made : AreTurned old new
+  lean_made : StaysLeanWith (items_of undo.plan.changes) old.graph g
+  lean_made rest l = subst (λ (p : Plan). IsLean (items_of p.changes ++ rest) g) (sym made.same)
+      (made.lean (awaits_these (items_of wanted.changes) old.graph mid begun.waits) (items_of wanted.changes ++ rest) (begun.lean rest l))
+
+  pub turned_made : AreTurnedWith (items_of undo.plan.changes) old new
   turned_made = record {
-    waits = λ rest w. made.waits rest (awaits_less (items_of wanted.changes) rest mid (begun.waits rest w));
+    waits = λ rest w. subst (λ (p : Plan). Awaits (items_of p.changes ++ rest) g) (sym made.same)
+        (made.waits (items_of wanted.changes ++ rest) (begun.waits rest w));
+    lean = lean_made;
     searches = same;
     sessions = sessions;
   }
-
-  pub waits_made : AwaitsMore (items_of undo.plan.changes) old.graph g
-  waits_made rest w = subst (λ (p : Plan). Awaits (items_of p.changes ++ rest) g) (sym made.same)
-      (made.waits (items_of wanted.changes ++ rest) (begun.waits rest w))
 
   pub back_made : (ways : List (Option Way)) → LeadBack old.standing.items ways to.standing.items
       → CanTakeBack (record { undo = undo; ways = ways }) old new
@@ -114,6 +117,7 @@ module _ (a : Asking) (old : Parts) (before : Pending) (after : Pending) (ready 
     graph = subst (λ rows. IsWayBack undo rows (links_now old.graph) g) begun.rows
         (subst (λ (links : ℕ → List LinkSeen). IsWayBack undo (rows_now mid) links g) (λ i v. begun.links v i)
         (made.back (awaits_these (items_of wanted.changes) old.graph mid begun.waits)));
+    lean = lean_made;
     numbers = λ v x y e f. same_Some y x (sym f ∙ numbers_made v x e);
     standing = lead;
     sessions = sessions;
@@ -171,6 +175,7 @@ pub record Forgets (plan : Plan) (old new : Held) : Type 0 where
   pub links : (v : ℕ) → links_now new v ≡ links_now old v
   pub numbers : BringsNoNumbers old new
   pub own : KeepsOwn old new
+  pub lean : StaysLeanWithout (items_of plan.changes) old new
   pub backs : KeepsOtherBacks (items_of plan.changes) old new
 
 pub given_up : Tells → (old : Parts) (ready : Ready) (wanted : Plan) (mid g : Held) (to : Parts) → IsBegun ready wanted old.graph mid
@@ -195,6 +200,7 @@ given_up tells old ready wanted mid g to begun gone steady same sessions =
         rows = rows;
         links = λ v. gone.links v ∙ begun.links v;
         numbers = λ v x y e f. shared ready wanted old mid begun v x y e (gone.numbers v y f);
+        lean = λ rest l. gone.lean rest (begun.lean rest l);
         standing = same;
         sessions = sessions;
       };

@@ -15,7 +15,8 @@ use Rattle.ifmap_delta.specs.Sights.{IsKept, Sight}
 use Rattle.ifmap_delta.specs.Ways.{HasSameSearch}
 use Rattle.ifmap_delta.specs.declared.subscriptions.Subscription.{Subscription}
 use Rattle.ifmap_graph.specs.Held.{Held}
-use Rattle.ifmap_graph.specs.Seen.{BringsNoNumbers, IsStill, KeepsOwn, links_now, rows_now}
+use Rattle.ifmap_graph.specs.Out.{items_of}
+use Rattle.ifmap_graph.specs.Seen.{BringsNoNumbers, IsStill, KeepsOwn, StaysLeanWithout, links_now, rows_now}
 use Rattle.ifmap_ident.specs.declared.identifiers.Identifier.{Identifier}
 use Rattle.ifmap_machine.specs.State as machine
 use Rattle.ifmap_machine.specs.State.{standing_in, standing_order}
@@ -167,8 +168,9 @@ pub are_back : Tells → (made : Made) (before old new : Parts) → IsSeen old.g
     → AreParts before → CanTakeBack made before old → IsStill new.graph
     → rows_now new.graph ≡ rows_now before.graph → ((v : ℕ) → links_now new.graph v ≡ links_now before.graph v)
     → BringsNoNumbers old.graph new.graph → KeepsOwn old.graph new.graph
+    → StaysLeanWithout (items_of made.undo.plan.changes) old.graph new.graph
     → AtEach (λ _. Stands KeepsSame) before.standing.items new.standing.items → new.sessions ≡ old.sessions → AreBack before new
-are_back tells made before old new seen s parts can still rows links fewer own standing sessions =
+are_back tells made before old new seen s parts can still rows links fewer own lean standing sessions =
     let ways = made.ways in
     let xs = before.standing.items in
     let led : HaveSameSearches xs old.standing.items =
@@ -184,6 +186,7 @@ are_back tells made before old new seen s parts can still rows links fewer own s
       rows = rows;
       links = links;
       numbers = λ v a b p q. can.numbers v a b p (fewer v b q);
+      lean = λ rest l. lean rest (can.lean rest l);
       standing = standing;
       sessions = subst (λ t. HasSameSessions before.sessions t) (sym sessions) can.sessions;
     }

@@ -48,6 +48,7 @@ kept_itself parts s = record {
     rows = refl;
     links = λ v. refl;
     numbers = λ v a b p q. same_Some b a (sym q ∙ p);
+    lean = λ rest l. l;
     standing = record {
       long = refl;
       at = λ i x y p q. subst (λ z. Stands KeepsSame x z) (same_Some x y (sym p ∙ q)) (stands_itself x);

@@ -8,6 +8,7 @@ use Rattle.ifmap_tellings.specs.Tellings.{AllKept, AloneAreBare, CanTell, EachTe
 use Rattle.ifmap_delta.specs.Sights.{IsKept, Sight}
 use Rattle.ifmap_delta.specs.Ways.{HasSameSearch}
 use Rattle.ifmap_ident.specs.declared.identifiers.Identifier.{Identifier}
+use Rattle.ifmap_ident.specs.declared.items.Item.{Item}
 use Rattle.ifmap_ident.specs.Identifiers.{identifier_order}
 use Rattle.ifmap_machine.specs.State.{State, standing_in, standing_order}
 use Rattle.ifmap_machine.specs.Subscribing.{most_names}
@@ -21,7 +22,7 @@ use Rattle.ifmap_standing.specs.Standing.{shown}
 use Rattle.ifmap_view.specs.Views.{IsView}
 use Rattle.ifmap_graph.specs.Back.{KeepsBacks}
 use Rattle.ifmap_graph.specs.Held.{Held, IsOwn}
-use Rattle.ifmap_graph.specs.Seen.{AwaitsMore, IsStill, links_now, rows_now}
+use Rattle.ifmap_graph.specs.Seen.{AwaitsMore, IsLean, IsStill, StaysLean, StaysLeanWith, links_now, rows_now}
 
 -- how many of these subscriptions start at an identifier
 abbrev pub starts_of : Identifier → List Standing → ℕ
@@ -82,6 +83,7 @@ pub record AreParts (parts : Parts) : Type 0 where
 -- and of the machine
 pub record IsCore (ttl : ℕ) (parts : Parts) : Type 0 where
   pub sound : AreParts parts
+  pub lean : IsLean [] parts.graph
   pub time : 1 ≤ ttl
 
 -- who asks, at which moment, after how many seconds sessions are expired, and which are, though they still stand in the table
@@ -138,11 +140,17 @@ pub record IsReady (a : Asking) (parts : Parts) (pending : Pending) : Type 0 whe
   -- who is told one error in place of all has no subscription left
   pub alone : AloneAreBare pending.tellings pending.gone.items parts.standing.items
 
--- parts were turned: what was waited for is still, and sessions and searches are what they were
-pub record AreTurned (old new : Parts) : Type 0 where
-  pub waits : AwaitsMore [] old.graph new.graph
+-- parts were turned, and these items came to be out: what was waited for is still, nothing is left behind, and sessions and searches are
+-- what they were
+pub record AreTurnedWith (items : List Item) (old new : Parts) : Type 0 where
+  pub waits : AwaitsMore items old.graph new.graph
+  pub lean : StaysLeanWith items old.graph new.graph
   pub searches : AtEach (λ _. Stands HasSameSearch) old.standing.items new.standing.items
   pub sessions : HasSameSessions old.sessions new.sessions
+
+-- the same where none came to be
+abbrev pub AreTurned : Parts → Parts → Type 0
+AreTurned = AreTurnedWith []
 
 -- numbers that have an identifier in both graphs have the same
 abbrev pub SharesNumbers : Held → Held → Type 0
@@ -154,6 +162,7 @@ pub record AreBack (old new : Parts) : Type 0 where
   pub rows : rows_now new.graph ≡ rows_now old.graph
   pub links : (v : ℕ) → links_now new.graph v ≡ links_now old.graph v
   pub numbers : SharesNumbers old.graph new.graph
+  pub lean : StaysLean old.graph new.graph
   pub standing : AtEach (λ _. Stands KeepsSame) old.standing.items new.standing.items
   pub sessions : HasSameSessions old.sessions new.sessions
 

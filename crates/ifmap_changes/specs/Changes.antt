@@ -24,7 +24,7 @@ use Rattle.ifmap_graph.specs.declared.changes.Ready.{Ready}
 use Rattle.ifmap_graph.specs.Back.{IsWayBack, KeepsBacks}
 use Rattle.ifmap_graph.specs.Held.{Held}
 use Rattle.ifmap_graph.specs.Out.{IsOut, items_of}
-use Rattle.ifmap_graph.specs.Seen.{Awaits, AwaitsMore, BringsNoNumbers, KeepsNumbers, KeepsOwn, links_next, links_now, rows_next, rows_now}
+use Rattle.ifmap_graph.specs.Seen.{Awaits, AwaitsMore, BringsNoNumbers, KeepsNumbers, KeepsOwn, StaysLeanWith, links_next, links_now, rows_next, rows_now}
 use Rattle.ifmap_view.specs.Views.{IsView}
 
 -- the graph as it is to be, as subscriptions see it
@@ -49,6 +49,7 @@ pub record IsBegun (ready : Ready) (wanted : Plan) (old new : Held) : Type 0 whe
   pub numbers : KeepsNumbers old new
   pub own : KeepsOwn old new
   pub waits : AwaitsMore (items_of wanted.changes) old new
+  pub lean : StaysLeanWith (items_of wanted.changes) old new
   pub backs : KeepsBacks old new
 
 -- the subscriptions were told of a change that is out: they keep what the graph is to have, and what is pending of the sessions is what
@@ -71,6 +72,7 @@ pub record CanSettle (made : Made) (parts : Parts) : Type 0 where
 -- a change can be taken back, and then all is what it was before
 pub record CanTakeBack (made : Made) (before parts : Parts) : Type 0 where
   pub graph : IsWayBack made.undo (rows_now before.graph) (links_now before.graph) parts.graph
+  pub lean : StaysLeanWith (items_of made.undo.plan.changes) before.graph parts.graph
   pub numbers : SharesNumbers before.graph parts.graph
   pub standing : LeadBack before.standing.items made.ways parts.standing.items
   pub sessions : HasSameSessions before.sessions parts.sessions

@@ -1,3 +1,4 @@
 -- Parts of the machine and changes of its graph, in reading order.
 pub mod Between
 pub mod Changes
+pub mod Bounds

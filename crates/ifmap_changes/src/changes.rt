@@ -1,9 +1,10 @@
 //! Changes of the graph, with all that the sessions are to be told of them.
 ghost use Rattle.std.specs.Prelude.{◌≡◌, ◌≢◌, ◌<◌, ◌≤◌, ◌==◌, ◌∷◌, ◌++◌, ℕ, true, false, [], List, Some, IfOk, OnErr, OnOk, if◌then◌else◌, length, map, set, slice_get, vec_capacity, vec_len};
-ghost use Rattle.std.specs.List.{AllByRecursion, list_any};
+ghost use Rattle.std.specs.List.{AllByRecursion, list_any, zip};
 ghost use Rattle.std.specs.List.Sorted.{IsStrictlySortedBy};
 ghost use Rattle.std.specs.Ordering.{nat_cmp};
-ghost use Rattle.ifmap_changes.specs.Between.{AreBack, AreKept, AreOrdered, AreParts, AreTurned, Asking, IsBare, IsReady, IsSteady, sight_now, so_far};
+ghost use Rattle.ifmap_changes.specs.Between.{AreBack, AreKept, AreOrdered, AreParts, AreTurned, AreTurnedWith, Asking, IsBare, IsReady, IsSteady, sight_now, so_far};
+ghost use Rattle.ifmap_changes.specs.Bounds.{IsToldWithin};
 ghost use Rattle.ifmap_changes.specs.Changes.{CanSettle, CanTakeBack, IsBegun, IsSettled, IsTold, gone_with, sight_next};
 ghost use Rattle.ifmap_changes.specs.declared.parts.Parts.{Parts};
 ghost use Rattle.ifmap_tellings.specs.declared.tellings.Pending.{Pending};
@@ -11,11 +12,11 @@ ghost use Rattle.ifmap_tellings.specs.Tellings.{AllKept, HasSameSessions, kept_o
 ghost use Rattle.ifmap_delta.specs.Changes.{ShowsAfter};
 ghost use Rattle.ifmap_delta.specs.Sights.{IsKept};
 ghost use Rattle.ifmap_delta.specs.Ways.{HasSameSearch};
-ghost use Rattle.ifmap_ident.specs.declared.items.Item.{Item};
 ghost use Rattle.ifmap_ident.specs.Items.{IsCanonItem};
 ghost use Rattle.ifmap_machine.specs.Ending.{without_standing};
 ghost use Rattle.ifmap_machine.specs.Telling.{overflow, tell};
 ghost use Rattle.ifmap_plans.specs.Plans.{Fits, IsAfter};
+ghost use Rattle.ifmap_standing.specs.Bounds.{IsWithinEach};
 ghost use Rattle.ifmap_standing.specs.Kept.{AtEach, KeepsSame, Stands};
 ghost use Rattle.ifmap_standing.specs.declared.standing.Standing.{Standing};
 ghost use Rattle.ifmap_standing.specs.News.{news_of_each};
@@ -23,13 +24,12 @@ ghost use Rattle.ifmap_standing.specs.Standing.{shown};
 ghost use Rattle.ifmap_standing.specs.Ways.{LeadBack};
 ghost use Rattle.ifmap_standing.specs.Ways as the_ways;
 ghost use Rattle.ifmap_graph.specs.Out.{items_of};
-ghost use Rattle.ifmap_graph.specs.Seen.{Awaits, AwaitsMore, KeepsNumbers, rows_next, rows_now};
+ghost use Rattle.ifmap_graph.specs.Seen.{AwaitsLess, KeepsNumbers, StaysLeanWithout, rows_next, rows_now};
 ghost use Rattle.ifmap_view.specs.declared.attachments.Attachment.{Attachment};
 ghost use Rattle.ifmap_view.specs.Attachments.{IsGraph};
 
 use crate::asking::Asking;
 use crate::parts::Parts;
-use crate::views::tell_view;
 use ifmap_graph::{Draft, Ready, Undo};
 use ifmap_ident::laws::bytes_tell_identifiers_apart;
 use ifmap_plans::Plan;
@@ -37,7 +37,6 @@ use ifmap_standing::laws::{same_links_keep_subscriptions, same_marks_keep_subscr
 use ifmap_standing::{GraphChange, Standing, Told, Ways, settle, take_back, tell_change};
 use ifmap_steps::Steps;
 use ifmap_tellings::tellings::{Pending, queue_news};
-use ifmap_view::View;
 use std::alloc::{AllocError as NoMemory, Global};
 use std::sync::ledger::Ledger;
 
@@ -48,13 +47,6 @@ pub struct Made {
     pub undo: Undo,
     /// Those of the subscriptions.
     pub ways: Ways,
-}
-
-/// What a view stores is a graph: what holds of every view. It takes no memory.
-pub fn tell_graph<V: View>(alloc: Global, view: &V)
-    ensures { IsGraph (V.rows view.now) }
-{
-    tell_view(alloc, view);
 }
 
 /// Makes a change, for good. After want of memory nothing is made.
@@ -80,9 +72,14 @@ pub fn make_change<L: Ledger>(
         → IsBare n parts.new pending.new) }
     ensures turned { OnOk result (AreTurned parts.old parts.new) }
     ensures kept { OnErr result (AreKept parts.old parts.new) }
+
+    // Also where memory runs out.
+    ensures steps { (rows : List Attachment) → IsGraph rows
+        → IsAfter plan.changes (rows_now parts.old.graph) rows
+        → IsToldWithin rows (so_far asking.now parts.old pending.old) steps.old steps.new }
 {
     let made = make_kept(alloc, parts, pending, asking, plan, steps)?;
-    settle_made(alloc, parts, made);
+    settle_made(parts, made);
     Ok(())
 }
 
@@ -107,12 +104,16 @@ pub fn make_kept<L: Ledger>(
     ensures ready { OnOk result (IsReady asking.now parts.new pending.new) }
     ensures bare { OnOk result ((n : ℕ) → IsBare n parts.old pending.old
         → IsBare n parts.new pending.new) }
-    ensures turned { OnOk result (AreTurned parts.old parts.new) }
-    ensures waits { IfOk result (λ made. AwaitsMore (items_of made.undo.plan.changes)
-        parts.old.graph parts.new.graph) }
+    ensures turned { IfOk result (λ made. AreTurnedWith (items_of made.undo.plan.changes)
+        parts.old parts.new) }
     ensures back { IfOk result (λ made. CanTakeBack made parts.old parts.new) }
     ensures numbers { OnOk result (KeepsNumbers parts.old.graph parts.new.graph) }
     ensures kept { OnErr result (AreKept parts.old parts.new) }
+
+    // Also where memory runs out.
+    ensures steps { (rows : List Attachment) → IsGraph rows
+        → IsAfter plan.changes (rows_now parts.old.graph) rows
+        → IsToldWithin rows (so_far asking.now parts.old pending.old) steps.old steps.new }
 {
     bytes_tell_identifiers_apart();
     same_links_keep_subscriptions();
@@ -140,10 +141,10 @@ fn begin_change(alloc: Global, parts: &mut Parts, plan: Plan) -> Result<Ready, N
     ensures kept { OnErr result (AreKept parts.old parts.new) }
 {
     parts.sessions.is_table();
-    tell_view(alloc, &parts.graph);
+    parts.graph.is_view();
     let ready = parts.graph.reserve(alloc, plan)?;
-    tell_view(alloc, &parts.graph);
-    tell_view(alloc, &Draft::of(&parts.graph));
+    parts.graph.is_view();
+    Draft::of(&parts.graph).is_view();
     Ok(ready)
 }
 
@@ -171,6 +172,8 @@ fn tell_parts<L: Ledger>(
     ensures sessions { HasSameSessions parts.old.sessions parts.new.sessions }
     ensures err { OnErr result (AtEach (λ _. Stands KeepsSame) parts.old.standing.items
         parts.new.standing.items) }
+    ensures steps { IsWithinEach (sight_now parts.old.graph) (sight_next parts.old.graph)
+        (zip pending.old.gone.items parts.old.standing.items) steps.old steps.new }
 {
     let told = tell_standing(alloc, parts, &pending.gone, plan, steps)?;
     let Told { news, ways } = told;
@@ -210,6 +213,8 @@ fn tell_standing<L: Ledger>(
         parts.new.standing.items) }
     ensures err { OnErr result (AtEach (λ _. Stands KeepsSame) parts.old.standing.items
         parts.new.standing.items) }
+    ensures steps { IsWithinEach (sight_now parts.old.graph) (sight_next parts.old.graph)
+        (zip gone.now parts.old.standing.items) steps.old steps.new }
 {
     let draft = Draft::of(&parts.graph);
     let change = GraphChange {
@@ -231,7 +236,7 @@ fn take_back_all(standing: &mut Vec<Standing>, ways: Ways)
 
 /// A change stays as it is, for good, while some subscriptions are still to stand, whose starts are
 /// held. It takes no memory.
-pub fn settle_made(alloc: Global, parts: &mut Parts, made: Made)
+pub fn settle_made(parts: &mut Parts, made: Made)
     requires steady { (more : List Standing)
         × IsSteady parts.old.graph (parts.old.standing.items ++ more) }
     requires can { CanSettle made parts.old }
@@ -243,16 +248,18 @@ pub fn settle_made(alloc: Global, parts: &mut Parts, made: Made)
         → IsReady asking parts.new pending }
     ensures so_far { (asking : Asking) (pending : Pending) → so_far asking parts.new pending
         ≡ so_far asking parts.old pending }
-    ensures waits { (rest : List Item) → Awaits (items_of made.undo.plan.changes ++ rest)
-        parts.old.graph → Awaits rest parts.new.graph }
+    ensures waits { AwaitsLess (items_of made.undo.plan.changes) parts.old.graph
+        parts.new.graph }
+    ensures lean { StaysLeanWithout (items_of made.undo.plan.changes) parts.old.graph
+        parts.new.graph }
 {
     bytes_tell_identifiers_apart();
     same_links_keep_subscriptions();
     same_marks_keep_subscriptions();
-    tell_view(alloc, &parts.graph);
+    parts.graph.is_view();
     let Made { undo, ways } = made;
     let _plan = parts.graph.settle(undo);
-    tell_view(alloc, &parts.graph);
+    parts.graph.is_view();
     settle_all(&mut parts.standing, ways);
 }
 
@@ -268,14 +275,14 @@ fn settle_all(standing: &mut Vec<Standing>, ways: Ways)
 }
 
 /// A change is taken back: all is again what it was before. It takes no memory.
-pub fn undo_made(alloc: Global, parts: &mut Parts, made: Made)
+pub fn undo_made(parts: &mut Parts, made: Made)
     requires steady { IsSteady parts.old.graph parts.old.standing.items }
     requires back { (before : Parts) × CanTakeBack made before parts.old }
     ensures back { (before : Parts) → AreParts before → CanTakeBack made before parts.old
         → AreBack before parts.new }
 {
     bytes_tell_identifiers_apart();
-    tell_view(alloc, &parts.graph);
+    parts.graph.is_view();
     let Made { undo, ways } = made;
     take_back_all(&mut parts.standing, ways);
     parts.graph.undo(undo);

@@ -1,17 +1,19 @@
 //! What changes the graph: what is published, and what goes with publishers and sessions.
-ghost use Rattle.std.specs.Prelude.{◌≡◌, ℕ, [], IfOk, OnErr, OnOk};
+ghost use Rattle.std.specs.Prelude.{◌≡◌, ◌∷◌, ℕ, [], IfOk, OnErr, OnOk};
 ghost use Rattle.std.specs.List.{AllByRecursion};
-ghost use Rattle.ifmap_changes.specs.Between.{AreKept, AreTurned, IsBare, IsReady, IsSteady, so_far};
+ghost use Rattle.ifmap_changes.specs.Between.{AreKept, AreTurned, AreTurnedWith, IsBare, IsReady, IsSteady, so_far};
+ghost use Rattle.ifmap_changes.specs.Bounds.{IsEndedWithin, IsTakenWithin, IsToldWithin};
 ghost use Rattle.ifmap_changes.specs.Changes.{CanSettle, CanTakeBack, taken_one};
 ghost use Rattle.ifmap_machine.specs.Telling.{overflow, tell};
 ghost use Rattle.ifmap_publish.specs.Apply.{Authorship, apply};
 ghost use Rattle.ifmap_publish.specs.Notes.{notes_of};
 ghost use Rattle.ifmap_publish.specs.Retract.{retract};
 ghost use Rattle.ifmap_requests.specs.Fit.{IsFitOp};
+ghost use Rattle.ifmap_graph.specs.Out.{items_of};
 ghost use Rattle.ifmap_graph.specs.Seen.{KeepsNumbers, rows_now};
 
 use crate::asking::Asking;
-use crate::changes::{Made, make_change, make_kept, mark_session, tell_graph};
+use crate::changes::{Made, make_change, make_kept, mark_session};
 use crate::parts::Parts;
 use ifmap_elem::Many;
 use ifmap_publish::laws::{publishing_keeps_graphs, retracting_keeps_graphs};
@@ -46,9 +48,17 @@ pub fn publish<L: Ledger>(
     ensures ready { OnOk result (IsReady asking.now parts.new pending.new) }
     ensures turned { OnOk result (AreTurned parts.old parts.new) }
     ensures kept { OnErr result (AreKept parts.old parts.new) }
+
+    // Also where memory runs out.
+    ensures steps { let by : Authorship = record {
+      client = asking.now.client;
+      serial = serial;
+      moment = asking.now.moment;
+    } in IsToldWithin (apply (rows_now parts.old.graph) by ops.now)
+        (so_far asking.now parts.old pending.old) steps.old steps.new }
 {
     publishing_keeps_graphs();
-    tell_graph(alloc, &parts.graph);
+    parts.graph.is_view();
     let author = Author {
         client: asking.client,
         serial,
@@ -78,9 +88,13 @@ pub fn take_away<L: Ledger>(
         → IsBare n parts.new pending.new) }
     ensures turned { OnOk result (AreTurned parts.old parts.new) }
     ensures kept { OnErr result (AreKept parts.old parts.new) }
+
+    // Also where memory runs out.
+    ensures steps { IsTakenWithin who.now (so_far asking.now parts.old pending.old) steps.old
+        steps.new }
 {
     retracting_keeps_graphs();
-    tell_graph(alloc, &parts.graph);
+    parts.graph.is_view();
     let plan = retract(alloc, &parts.graph, who, steps)?;
     make_change(alloc, parts, pending, asking, plan, steps)
 }
@@ -103,6 +117,10 @@ pub fn take_away_one<L: Ledger>(
     ensures bare { OnOk result (IsBare serial parts.new pending.new) }
     ensures turned { OnOk result (AreTurned parts.old parts.new) }
     ensures kept { OnErr result (AreKept parts.old parts.new) }
+
+    // Also where memory runs out.
+    ensures steps { IsEndedWithin (serial ∷ []) (so_far asking.now parts.old pending.old)
+        steps.old steps.new }
 {
     let mut serials = Vec::with_capacity(alloc, 1)?;
     serials.push(serial)?;
@@ -127,14 +145,19 @@ pub fn take_away_kept<L: Ledger>(
         (so_far asking.now parts.old pending.old))) }
     ensures steady { OnOk result (IsSteady parts.new.graph parts.new.standing.items) }
     ensures ready { OnOk result (IsReady asking.now parts.new pending.new) }
-    ensures turned { OnOk result (AreTurned parts.old parts.new) }
+    ensures turned { IfOk result (λ made. AreTurnedWith (items_of made.undo.plan.changes)
+        parts.old parts.new) }
     ensures settle { IfOk result (λ made. CanSettle made parts.new) }
     ensures back { IfOk result (λ made. CanTakeBack made parts.old parts.new) }
     ensures numbers { OnOk result (KeepsNumbers parts.old.graph parts.new.graph) }
     ensures kept { OnErr result (AreKept parts.old parts.new) }
+
+    // Also where memory runs out.
+    ensures steps { IsTakenWithin who.now (so_far asking.now parts.old pending.old) steps.old
+        steps.new }
 {
     retracting_keeps_graphs();
-    tell_graph(alloc, &parts.graph);
+    parts.graph.is_view();
     let plan = retract(alloc, &parts.graph, who, steps)?;
     make_kept(alloc, parts, pending, asking, plan, steps)
 }

@@ -7,7 +7,6 @@ pub mod changes;
 pub mod changing;
 pub mod laws;
 pub mod parts;
-pub mod views;
 
 pub use asking::Asking;
 pub use changes::Made;

@@ -49,6 +49,7 @@ module _ (parts : Parts) (table : Table) (b : IsAsBefore parts.sessions table) w
   pub turned_with : AreTurned parts with_table
   turned_with = record {
     waits = λ rest w. w;
+    lean = λ rest l. l;
     searches = searched_itself parts.standing.items;
     sessions = same_sessions;
   }
@@ -60,6 +61,7 @@ module _ (parts : Parts) (table : Table) (b : IsAsBefore parts.sessions table) w
       rows = refl;
       links = λ v. refl;
       numbers = λ v one other e f. same_Some other one (sym f ∙ e);
+      lean = λ rest l. l;
       standing = kept_itself parts.standing.items;
       sessions = same_sessions;
     };
@@ -69,6 +71,7 @@ module _ (parts : Parts) (table : Table) (b : IsAsBefore parts.sessions table) w
   pub turned_after : (new : Parts) → AreTurned with_table new → AreTurned parts new
   turned_after new t = record {
     waits = t.waits;
+    lean = t.lean;
     searches = t.searches;
     sessions = sessions_twice parts.sessions table new.sessions same_sessions t.sessions;
   }
@@ -80,6 +83,7 @@ module _ (parts : Parts) (table : Table) (b : IsAsBefore parts.sessions table) w
       rows = k.back.rows;
       links = k.back.links;
       numbers = k.back.numbers;
+      lean = k.back.lean;
       standing = k.back.standing;
       sessions = sessions_twice parts.sessions table new.sessions same_sessions k.back.sessions;
     };
@@ -194,7 +198,7 @@ ended_former former None state e = ap (λ f. drop_former f (taken_former f state
 ended_former former (Some s) state e = ap (λ f. drop_former f (taken_former f state)) e ∙ taken_is s.serial state
 
 -- the serial of the session that a client has so far
-former_so_far : (a : Asking) (parts : Parts) (pending : Pending) → option_map (λ (s : Session). s.serial)
+pub former_so_far : (a : Asking) (parts : Parts) (pending : Pending) → option_map (λ (s : Session). s.serial)
     (session_of_client a.client (left a parts.sessions))
     ≡ option_map (λ (s : Session). s.serial) (session_of_client a.client (so_far a parts pending).sessions)
 former_so_far a parts pending =

@@ -83,7 +83,7 @@ module _ (state : State) (id client : List ℕ) (serial : ℕ) (o : IsOwner stat
   abbrev found : Option Session
   found = session_with_id id state.sessions
 
-  own_client : o.0.client ≡ client
+  pub own_client : o.0.client ≡ client
   own_client = text_is o.0.client client o.2
 
   renewed_as : (after : State) (answer : Answer) → ◌≡◌ {A = State × Answer} (renew serial after, answer) (renew o.0.serial after, answer)
@@ -96,7 +96,7 @@ module _ (state : State) (id client : List ℕ) (serial : ℕ) (o : IsOwner stat
       (in_session state client found (renew_session state))
   renews = own_case (renew_session state) _ (renewed_as state (the_answer.Reply the_reply.Renewed))
 
-  author_is : author_in state o.0 ≡ record { client = client; serial = serial; moment = state.moment }
+  pub author_is : author_in state o.0 ≡ record { client = client; serial = serial; moment = state.moment }
   author_is = ap (λ (t : List ℕ). record { client = t; serial = o.0.serial; moment = state.moment }) own_client
       ∙ ap (λ (n : ℕ). record { client = client; serial = n; moment = state.moment }) o.3
 

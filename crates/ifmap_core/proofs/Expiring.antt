@@ -146,7 +146,7 @@ none_expired moment ttl (x ∷ live) e =
     let both = or_parts (is_expired moment ttl x) (list_any (is_expired moment ttl) live) e in
     rw (both.0) (none_expired moment ttl live both.1)
 
-some_expired : (moment ttl : ℕ) (live : List Session) → list_any (is_expired moment ttl) live ≡ true → expired_serials moment ttl live ≢ []
+pub some_expired : (moment ttl : ℕ) (live : List Session) → list_any (is_expired moment ttl) live ≡ true → expired_serials moment ttl live ≢ []
 some_expired moment ttl [] e = cc
 some_expired moment ttl (x ∷ live) e =
     elim (cases_Bool (is_expired moment ttl x)) [
@@ -245,6 +245,7 @@ pub can_back : WaysStay → (made : Made) (before old new : Parts) → KeepsNumb
     → AreKept old new → CanTakeBack made before new
 can_back law made before old new numbers c k = record {
   graph = k.backs made.undo (rows_now before.graph) (links_now before.graph) c.graph;
+  lean = λ rest l. k.back.lean (items_of made.undo.plan.changes ++ rest) (c.lean rest l);
   numbers = shares_later before.graph old.graph new.graph numbers k.back.numbers;
   standing = law before.standing.items old.standing.items new.standing.items made.ways c.standing k.back.standing;
   sessions = sessions_twice before.sessions old.sessions new.sessions c.sessions k.back.sessions;

@@ -23,3 +23,5 @@ pub mod Rooms
 pub mod Refusals
 pub mod Answered
 pub mod Holds
+pub mod Spending
+pub mod InUse

@@ -79,6 +79,7 @@ ready_there a old new pending sessions standing there steady r =
 pub holds_turned : (old new : Parts) → OnlyHolds old new → AreTurned old new
 holds_turned old new h = record {
   waits = h.waits;
+  lean = h.lean;
   searches = subst (λ xs. AtEach (λ _. Stands HasSameSearch) old.standing.items xs)
       (ap (λ v. v.items) (sym h.standing)) (searched_itself old.standing.items);
   sessions = subst (HasSameSessions old.sessions) (sym h.sessions) (sessions_themselves old.sessions);
@@ -313,6 +314,7 @@ holds_kept old mid new h k = record {
     rows = k.back.rows ∙ h.rows;
     links = λ v. k.back.links v ∙ h.links v;
     numbers = shares_later old.graph mid.graph new.graph h.numbers k.back.numbers;
+    lean = λ rest l. k.back.lean rest (h.lean rest l);
     standing = subst (λ xs. AtEach (λ _. Stands KeepsSame) xs new.standing.items) (ap (λ v. v.items) h.standing) k.back.standing;
     sessions = subst (λ t. HasSameSessions t new.sessions) h.sessions k.back.sessions;
   };

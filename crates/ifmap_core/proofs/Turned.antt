@@ -10,7 +10,7 @@ use Rattle.ifmap_delta.specs.declared.subscriptions.Subscription.{Subscription}
 use Rattle.ifmap_delta.specs.Sights.{IsKept, Sight}
 use Rattle.ifmap_graph.specs.Back.{KeepsBacks}
 use Rattle.ifmap_graph.specs.Held.{Held, IsOwn}
-use Rattle.ifmap_graph.specs.Seen.{BringsNoNumbers, IsStill, KeepsNumbers, links_now, rows_now}
+use Rattle.ifmap_graph.specs.Seen.{BringsNoNumbers, IsStill, KeepsNumbers, StaysLean, links_now, rows_now}
 use Rattle.ifmap_ident.specs.declared.identifiers.Identifier.{Identifier}
 use Rattle.ifmap_machine.specs.State as machine
 use Rattle.ifmap_machine.specs.State.{standing_in}
@@ -55,6 +55,7 @@ back_itself parts steady = record {
   rows = refl;
   links = λ v. refl;
   numbers = shares_itself parts.graph;
+  lean = λ rest l. l;
   standing = kept_itself parts.standing.items;
   sessions = sessions_themselves parts.sessions;
 }
@@ -65,6 +66,7 @@ stays_kept parts steady = record { back = back_itself parts steady; backs = λ u
 pub stays_turned : (parts : Parts) → AreTurned parts parts
 stays_turned parts = record {
   waits = λ rest w. w;
+  lean = λ rest l. l;
   searches = searched_itself parts.standing.items;
   sessions = sessions_themselves parts.sessions;
 }
@@ -74,6 +76,7 @@ stays_turned parts = record {
 pub turned_twice : (a b c : Parts) → AreTurned a b → AreTurned b c → AreTurned a c
 turned_twice a b c s t = record {
   waits = λ rest w. t.waits rest (s.waits rest w);
+  lean = λ rest l. t.lean rest (s.lean rest l);
   searches = searched_twice a.standing.items b.standing.items c.standing.items s.searches t.searches;
   sessions = sessions_twice a.sessions b.sessions c.sessions s.sessions t.sessions;
 }
@@ -160,6 +163,7 @@ kept_room a b c k graph standing sessions = record {
     rows = rw graph k.back.rows;
     links = rw graph k.back.links;
     numbers = rw graph k.back.numbers;
+    lean = rw graph k.back.lean;
     standing = rw standing k.back.standing;
     sessions = sessions_twice a.sessions b.sessions c.sessions k.back.sessions sessions;
   };
@@ -171,6 +175,7 @@ pub turned_room : (a b c : Parts) → AreTurned a b → c.graph ≡ b.graph → 
     → AreTurned a c
 turned_room a b c k graph standing sessions = record {
   waits = rw graph k.waits;
+  lean = rw graph k.lean;
   searches = rw standing k.searches;
   sessions = sessions_twice a.sessions b.sessions c.sessions k.sessions sessions;
 }
@@ -185,6 +190,7 @@ room_kept a b c graph standing sessions k = record {
     rows = subst (λ h. rows_now c.graph ≡ rows_now h) graph k.back.rows;
     links = subst (λ h. (v : ℕ) → links_now c.graph v ≡ links_now h v) graph k.back.links;
     numbers = subst (λ h. SharesNumbers h c.graph) graph k.back.numbers;
+    lean = subst (λ h. StaysLean h c.graph) graph k.back.lean;
     standing = subst (λ xs. AtEach (λ _. Stands KeepsSame) xs c.standing.items) standing k.back.standing;
     sessions = sessions_twice a.sessions b.sessions c.sessions sessions k.back.sessions;
   };

@@ -3,3 +3,5 @@ pub mod Outcomes
 pub mod Holding
 pub mod Causes
 pub mod Light
+pub mod Bounds
+pub mod Counts

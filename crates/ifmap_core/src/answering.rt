@@ -1,16 +1,21 @@
 //! Requests in sessions. Each takes all the memory that it needs before it changes anything.
-ghost use Rattle.std.specs.Prelude.{◌≡◌, IfOk, OnErr, OnOk};
+ghost use Rattle.std.specs.Prelude.{◌≡◌, ◌∷◌, [], IfOk, OnErr, OnOk};
 ghost use Rattle.std.specs.List.{AllByRecursion};
 ghost use Rattle.ifmap_changes.specs.Between.{AreKept, AreTurned, IsReady, IsSteady, so_far};
+ghost use Rattle.ifmap_changes.specs.Bounds.{IsEndedWithin, IsTakenWithin, IsToldWithin};
+ghost use Rattle.ifmap_core.specs.Bounds.{IsAskWithin, IsWithinIf, IsWithinOwn};
 ghost use Rattle.ifmap_core.specs.declared.outcomes.Outcome.TheVariants.{Say};
 ghost use Rattle.ifmap_core.specs.Outcomes.{LeadsTo, end_of_poll};
 ghost use Rattle.ifmap_ident.specs.declared.codes.Code.TheVariants.{SearchResultsTooBig};
 ghost use Rattle.ifmap_ident.specs.Canon.{IsIdentifier};
 ghost use Rattle.ifmap_machine.specs.declared.events.Ask.TheVariants as the_ask;
-ghost use Rattle.ifmap_machine.specs.Step.{end_session, in_session, lose, poll, publish, purge, refusal_with, renew_session, search, step_ask, subscribe};
+ghost use Rattle.ifmap_machine.specs.Step.{author_in, end_session, in_session, lose, poll, publish, purge, refusal_with, renew_session, search, step_ask, subscribe};
 ghost use Rattle.ifmap_machine.specs.Telling.{limit_note};
+ghost use Rattle.ifmap_publish.specs.Apply.{apply};
+ghost use Rattle.ifmap_publish.specs.declared.who.Who.TheVariants.{Publisher};
 ghost use Rattle.ifmap_requests.specs.Fit.{IsFitOp, IsFitRequest, IsFitSubscribeOp};
-ghost use Rattle.ifmap_session.specs.Sessions.{session_with_id};
+ghost use Rattle.ifmap_session.specs.Sessions.{is_text, session_with_id};
+ghost use Rattle.ifmap_subscribes.specs.Bounds.{AreOpsWithin, IsWithinSpan};
 
 use crate::beginning::new_session;
 use crate::outcomes::{Outcome, refuse};
@@ -48,6 +53,8 @@ pub(crate) fn answer<L: Ledger>(
         (step_ask (so_far asking.now parts.old pending.old) event.now event.now.ask)) }
     ensures turned { OnOk result (AreTurned parts.old parts.new) }
     ensures kept { OnErr result (AreKept parts.old parts.new) }
+    ensures steps { IsAskWithin (so_far asking.now parts.old pending.old) event.now
+        event.now.ask steps.old steps.new }
 {
     match &event.ask {
         Ask::Lost(id) => lose(alloc, parts, pending, asking, id, steps),
@@ -76,6 +83,8 @@ fn answer_request<L: Ledger>(
         (the_ask.Request request.now))) }
     ensures turned { OnOk result (AreTurned parts.old parts.new) }
     ensures kept { OnErr result (AreKept parts.old parts.new) }
+    ensures steps { IsAskWithin (so_far asking.now parts.old pending.old) event.now
+        (the_ask.Request request.now) steps.old steps.new }
 {
     match request {
         Request::NewSession { limit } => new_session(
@@ -147,6 +156,9 @@ fn lose<L: Ledger>(
         (session_with_id id.now (so_far asking.now parts.old pending.old).sessions))) }
     ensures turned { OnOk result (AreTurned parts.old parts.new) }
     ensures kept { OnErr result (AreKept parts.old parts.new) }
+    ensures steps { let before = so_far asking.now parts.old pending.old in
+        IsWithinOwn asking.now.client (session_with_id id.now before.sessions)
+        (λ s. IsEndedWithin (s.serial ∷ []) before) steps.old steps.new }
 {
     match owner_of(&parts.sessions, asking, id) {
         Owner::Own(serial) => {
@@ -175,6 +187,9 @@ fn end_session<L: Ledger>(
         (end_session (so_far asking.now parts.old pending.old)))) }
     ensures turned { OnOk result (AreTurned parts.old parts.new) }
     ensures kept { OnErr result (AreKept parts.old parts.new) }
+    ensures steps { let before = so_far asking.now parts.old pending.old in
+        IsWithinOwn asking.now.client (session_with_id id.now before.sessions)
+        (λ s. IsEndedWithin (s.serial ∷ []) before) steps.old steps.new }
 {
     match owner_of(&parts.sessions, asking, id) {
         Owner::Own(serial) => {
@@ -205,6 +220,10 @@ fn publish<L: Ledger>(
         (publish (so_far asking.now parts.old pending.old) ops.now))) }
     ensures turned { OnOk result (AreTurned parts.old parts.new) }
     ensures kept { OnErr result (AreKept parts.old parts.new) }
+    ensures steps { let before = so_far asking.now parts.old pending.old in
+        IsWithinOwn asking.now.client (session_with_id id.now before.sessions)
+        (λ s. IsToldWithin (apply before.graph (author_in before s) ops.now) before) steps.old
+        steps.new }
 {
     match owner_of(&parts.sessions, asking, id) {
         Owner::Own(serial) => {
@@ -234,6 +253,10 @@ fn purge<L: Ledger>(
         (purge (so_far asking.now parts.old pending.old) publisher.now))) }
     ensures turned { OnOk result (AreTurned parts.old parts.new) }
     ensures kept { OnErr result (AreKept parts.old parts.new) }
+    ensures steps { let before = so_far asking.now parts.old pending.old in
+        IsWithinOwn asking.now.client (session_with_id id.now before.sessions)
+        (λ s. IsWithinIf (is_text publisher.now s.client)
+        (IsTakenWithin (Publisher publisher.now) before)) steps.old steps.new }
 {
     match owner_of(&parts.sessions, asking, id) {
         Owner::Own(serial) => {
@@ -262,11 +285,15 @@ fn search<L: Ledger>(
     requires steady { IsSteady parts.now.graph parts.now.standing.items }
     requires ready { IsReady asking.now parts.now pending.now }
     requires start { IsIdentifier asked.now.start }
-    ensures { IfOk result (λ outcome. LeadsTo outcome asking.now parts.now pending.now
+    ensures leads { IfOk result (λ outcome. LeadsTo outcome asking.now parts.now pending.now
         (in_session (so_far asking.now parts.now pending.now) asking.now.client
         (session_with_id id.now (so_far asking.now parts.now pending.now).sessions)
         (search (so_far asking.now parts.now pending.now) asked.now))) }
+    ensures steps { let before = so_far asking.now parts.now pending.now in
+        IsWithinOwn asking.now.client (session_with_id id.now before.sessions)
+        (λ s. IsWithinSpan 3 before.graph asked.now) steps.old steps.new }
 {
+    parts.graph.is_view();
     match owner_of(&parts.sessions, asking, id) {
         Owner::Own(serial) => match fresh(alloc, &parts.graph, asked, steps) {
             Ok(found) => Ok(Outcome::Accept {
@@ -299,6 +326,9 @@ fn subscribe<L: Ledger>(
         (subscribe (so_far asking.now parts.old pending.old) ops.now))) }
     ensures turned { OnOk result (AreTurned parts.old parts.new) }
     ensures kept { OnErr result (AreKept parts.old parts.new) }
+    ensures steps { let before = so_far asking.now parts.old pending.old in
+        IsWithinOwn asking.now.client (session_with_id id.now before.sessions)
+        (λ s. AreOpsWithin before.graph ops.now) steps.old steps.new }
 {
     match owner_of(&parts.sessions, asking, id) {
         Owner::Own(serial) => subscribe_in(alloc, parts, pending, asking, serial, ops, steps),

@@ -1,9 +1,10 @@
 //! How a session begins.
-ghost use Rattle.std.specs.Prelude.{◌≡◌, ◌<◌, ◌-◌, ◌^◌, ◌&&◌, nat_le, false, is_none, length, IfOk, IfSome, OnErr, OnOk};
+ghost use Rattle.std.specs.Prelude.{◌≡◌, ◌<◌, ◌-◌, ◌^◌, ◌&&◌, nat_le, false, is_none, length, option_map, IfOk, IfSome, OnErr, OnOk};
 ghost use Rattle.std.specs.Bool.{OnFalse};
 ghost use Rattle.ifmap_changes.specs.Between.{AreKept, AreTurned, CanEnd, IsBare, IsReady, IsSteady, left, so_far};
 ghost use Rattle.ifmap_changes.specs.declared.parts.Parts.{Parts};
 ghost use Rattle.ifmap_tellings.specs.declared.tellings.Pending.{Pending};
+ghost use Rattle.ifmap_core.specs.Bounds.{IsBegunWithin, IsFormerWithin};
 ghost use Rattle.ifmap_core.specs.Outcomes.{LeadsTo, taken_former};
 ghost use Rattle.ifmap_machine.specs.Step.{is_full, new_session};
 ghost use Rattle.ifmap_session.specs.Sessions.{most_sessions, session_of_client};
@@ -37,6 +38,8 @@ pub(crate) fn new_session<L: Ledger>(
         (new_session (so_far asking.now parts.old pending.old) asking.now.client random limit)) }
     ensures turned { OnOk result (AreTurned parts.old parts.new) }
     ensures kept { OnErr result (AreKept parts.old parts.new) }
+    ensures steps { IsBegunWithin (so_far asking.now parts.old pending.old) asking.now.client
+        steps.old steps.new }
 {
     if is_full(&parts.sessions, asking) {
         return refuse(alloc, Code::SystemError);
@@ -103,6 +106,9 @@ fn begin<L: Ledger>(
         (new_session (so_far asking.now parts.old pending.old) asking.now.client random limit)) }
     ensures turned { OnOk result (AreTurned parts.old parts.new) }
     ensures kept { OnErr result (AreKept parts.old parts.new) }
+    ensures steps { let before = so_far asking.now parts.old pending.old in
+        IsFormerWithin (option_map (λ s. s.serial)
+        (session_of_client asking.now.client before.sessions)) before steps.old steps.new }
 {
     let former = former_of(&parts.sessions, asking);
     let opening = parts.sessions.prepare(alloc, asking.client, random)?;
@@ -135,6 +141,8 @@ fn take_away_former<L: Ledger>(
     ensures bare { OnOk result (IfSome former (λ n. IsBare n parts.new pending.new)) }
     ensures turned { OnOk result (AreTurned parts.old parts.new) }
     ensures kept { OnErr result (AreKept parts.old parts.new) }
+    ensures steps { IsFormerWithin former (so_far asking.now parts.old pending.old) steps.old
+        steps.new }
 {
     match former {
         Some(serial) => take_away_one(alloc, parts, pending, asking, serial, steps),

@@ -6,9 +6,11 @@ ghost use Rattle.std.specs.Ordering.{nat_cmp};
 ghost use Rattle.ifmap_changes.specs.Between.{AreBack, AreParts, CanEnd, IsReady, IsSteady, so_far, state_at};
 ghost use Rattle.ifmap_changes.specs.Changes.{CanSettle, CanTakeBack};
 ghost use Rattle.ifmap_changes.specs.declared.parts.Parts.{Parts};
+ghost use Rattle.ifmap_core.specs.Bounds.{IsAskWithin, IsEventWithin};
 ghost use Rattle.ifmap_core.specs.Light.{IsLight};
 ghost use Rattle.ifmap_core.specs.Outcomes.{CanApply, held_by};
-ghost use Rattle.ifmap_graph.specs.Seen.{KeepsNumbers};
+ghost use Rattle.ifmap_graph.specs.Out.{items_of};
+ghost use Rattle.ifmap_graph.specs.Seen.{KeepsNumbers, StaysLean, StaysLeanWithout};
 ghost use Rattle.ifmap_machine.specs.Ending.{drop_sessions, expire};
 ghost use Rattle.ifmap_machine.specs.Step.{step_ask};
 ghost use Rattle.ifmap_session.specs.Sessions.{is_expired};
@@ -20,7 +22,6 @@ use ifmap_changes::asking::Asking;
 use ifmap_changes::changes::{Made, mark_sessions, settle_made, undo_made};
 use ifmap_changes::changing::take_away_kept;
 use ifmap_changes::parts::Parts;
-use ifmap_changes::views::tell_view;
 use ifmap_elem::Copied;
 use ifmap_io::Moment;
 use ifmap_machine::{Answer, Event};
@@ -55,16 +56,19 @@ pub(crate) fn answer_at<L: Ledger>(
         event.now.ask) }
     ensures kept { OnErr result (AreBack parts.old parts.new) }
     ensures parts { AreParts parts.new }
+    ensures lean { StaysLean parts.old.graph parts.new.graph }
     ensures light { list_any (is_expired time.now.moment time.now.ttl) parts.old.sessions.live
         ≡ false → IsLight parts.old.sessions.live event.now → IsOk result }
+    ensures steps { IsEventWithin (state_at time.now.ttl time.now.moment parts.old) event.now
+        steps.old steps.new }
 {
     same_links_keep_subscriptions();
     same_marks_keep_subscriptions();
-    tell_view(alloc, &parts.graph);
+    parts.graph.is_view();
     match answer_once(alloc, parts, time, event, steps) {
         Ok(answer) => Ok(answer),
         Err(no_memory) => {
-            tell_view(alloc, &parts.graph);
+            parts.graph.is_view();
             Err(no_memory)
         }
     }
@@ -85,8 +89,11 @@ fn answer_once<L: Ledger>(
         event.now.ask) }
     ensures kept { OnErr result (AreBack parts.old parts.new) }
     ensures parts { OnOk result (AreParts parts.new) }
+    ensures lean { OnOk result (StaysLean parts.old.graph parts.new.graph) }
     ensures light { list_any (is_expired time.now.moment time.now.ttl) parts.old.sessions.live
         ≡ false → IsLight parts.old.sessions.live event.now → IsOk result }
+    ensures steps { IsEventWithin (state_at time.now.ttl time.now.moment parts.old) event.now
+        steps.old steps.new }
 {
     if parts.sessions.any_expired(time.moment, time.ttl) {
         return end_and_answer(alloc, parts, time, event, steps);
@@ -109,7 +116,10 @@ fn answer_all<L: Ledger>(
         event.now.ask) }
     ensures kept { OnErr result (AreBack parts.old parts.new) }
     ensures parts { OnOk result (AreParts parts.new) }
+    ensures lean { OnOk result (StaysLean parts.old.graph parts.new.graph) }
     ensures light { IsLight parts.old.sessions.live event.now → IsOk result }
+    ensures steps { IsAskWithin (state_at time.now.ttl time.now.moment parts.old) event.now
+        event.now.ask steps.old steps.new }
 {
     match light_outcome(&parts.sessions, event) {
         Some(outcome) => Ok(apply(parts, time.moment, outcome)),
@@ -132,6 +142,9 @@ fn answer_pending<L: Ledger>(
         event.now.ask) }
     ensures kept { OnErr result (AreBack parts.old parts.new) }
     ensures parts { OnOk result (AreParts parts.new) }
+    ensures steps { IsAskWithin (state_at time.now.ttl time.now.moment parts.old) event.now
+        event.now.ask steps.old steps.new }
+    ensures lean { OnOk result (StaysLean parts.old.graph parts.new.graph) }
 {
     let asking = Asking {
         client: &event.client,
@@ -176,6 +189,9 @@ fn end_and_answer<L: Ledger>(
         event.now.ask) }
     ensures kept { OnErr result (AreBack parts.old parts.new) }
     ensures parts { OnOk result (AreParts parts.new) }
+    ensures steps { IsEventWithin (state_at time.now.ttl time.now.moment parts.old) event.now
+        steps.old steps.new }
+    ensures lean { OnOk result (StaysLean parts.old.graph parts.new.graph) }
 {
     parts.sessions.is_table();
     let serials = parts.sessions.expired(alloc, time.moment, time.ttl)?;
@@ -221,16 +237,20 @@ fn answer_ended<L: Ledger>(
         → KeepsNumbers before.graph parts.old.graph → CanTakeBack ending.made before parts.old
         → AreBack before parts.new) }
     ensures parts { OnOk result (AreParts parts.new) }
+    ensures steps { IsAskWithin (so_far asking.now parts.old ending.pending) event.now
+        event.now.ask steps.old steps.new }
+    ensures lean { OnOk result ((before : Parts) → CanTakeBack ending.made before parts.old
+        → StaysLean before.graph parts.new.graph) }
 {
     ways_stay();
     let Ending { mut pending, made } = ending;
     match answer(alloc, parts, &mut pending, asking, event, steps) {
         Ok(outcome) => {
-            settle_ended(alloc, parts, &pending, asking, made, &outcome);
+            settle_ended(parts, &pending, asking, made, &outcome);
             Ok(finish(parts, pending, asking, outcome))
         }
         Err(no_memory) => {
-            undo_made(alloc, parts, made);
+            undo_made(parts, made);
             Err(no_memory)
         }
     }
@@ -238,7 +258,6 @@ fn answer_ended<L: Ledger>(
 
 // The change that the ends of sessions made stays. It takes no memory.
 fn settle_ended(
-    alloc: Global,
     parts: &mut Parts,
     pending: &Pending,
     asking: &Asking,
@@ -255,9 +274,11 @@ fn settle_ended(
     ensures can { CanApply outcome.now asking.now parts.new pending.now }
     ensures so_far { so_far asking.now parts.new pending.now
         ≡ so_far asking.now parts.old pending.now }
+    ensures lean { StaysLeanWithout (items_of made.undo.plan.changes) parts.old.graph
+        parts.new.graph }
 {
     same_links_keep_subscriptions();
-    tell_view(alloc, &parts.graph);
-    settle_made(alloc, parts, made);
-    tell_view(alloc, &parts.graph);
+    parts.graph.is_view();
+    settle_made(parts, made);
+    parts.graph.is_view();
 }

@@ -1,9 +1,12 @@
 //! The machine.
 ghost use Rattle.std.specs.Prelude.{◌≡◌, ◌↔◌, ◌⊎◌, ◌≤◌, IfOk, IsOk, IsTrue, OnErr, max};
 ghost use Rattle.std.specs.Bool.{OnTrue};
+ghost use Rattle.ifmap_core.specs.Bounds.{IsWithinTable};
 ghost use Rattle.ifmap_core.specs.Causes.{AsksForNoneLeft, AsksPoll, FindsTooMuch, HasNoRoomForName, IsLoss, IsRefusal, NamesAnothersSession, NamesNoSession, PollsNoSession, PollsNothing, PurgesAnother, state_for};
+ghost use Rattle.ifmap_core.specs.Counts.{IsInUse, link_count};
 ghost use Rattle.ifmap_core.specs.Holding.{WouldHold};
 ghost use Rattle.ifmap_core.specs.Light.{TakesNoMemory};
+ghost use Rattle.ifmap_graph.specs.Counted.{AreSoMany};
 ghost use Rattle.ifmap_ident.specs.declared.codes.Code.{Code};
 ghost use Rattle.ifmap_ident.specs.declared.codes.Code.TheVariants as the_code;
 ghost use Rattle.ifmap_machine.specs.declared.events.Answer.TheVariants as the_answer;
@@ -15,6 +18,7 @@ use crate::ending::{Time, answer_at};
 use crate::holding::{has_nothing, polled_id};
 use ifmap_changes::parts::Parts;
 use ifmap_graph::Graph;
+use ifmap_ident::laws::bytes_tell_identifiers_apart;
 use ifmap_io::Moment;
 use ifmap_machine::{Answer, Event};
 use ifmap_session::Sessions;
@@ -117,6 +121,10 @@ impl Core {
         ensures told_end { IfOk result (λ answer. AsksPoll event.now.ask
             → ((answer ≡ the_answer.Reply the_reply.Ended)
             ↔ PollsNoSession (state_for self.old event.now) event.now.again event.now.ask)) }
+
+        // It takes at most the sum of the steps that the event's changes and searches may take, also where
+        // memory runs out.
+        ensures steps { IsWithinTable self.old event.now steps.old steps.new }
     {
         let moment = later(self.moment, event.moment);
         let time = Time {
@@ -126,6 +134,23 @@ impl Core {
         let answer = answer_at(alloc, &mut self.parts, &time, event, steps)?;
         self.moment = moment;
         Ok(answer)
+    }
+
+    /// How many links carry an attachment. It walks all items that carry one.
+    pub fn links(&self) -> u64
+        ensures { result ≡ link_count self.now }
+    {
+        self.parts.graph.links()
+    }
+
+    /// How many identifiers are in use: they stand in an item that carries an attachment, or a
+    /// subscription starts there. No other has a number.
+    pub fn identifiers(&self) -> u64
+        ensures { AreSoMany result (IsInUse self.now) }
+    {
+        bytes_tell_identifiers_apart();
+        self.parts.graph.is_view();
+        self.parts.graph.identifiers()
     }
 
     /// Whether a poll that is asked again would still be held, so that asking it changes nothing but

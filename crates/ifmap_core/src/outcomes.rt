@@ -9,7 +9,7 @@ ghost use Rattle.ifmap_machine.specs.Step.{refusal};
 ghost use Rattle.ifmap_session.specs.Sessions.{IsLive, change, emptied, session_with_serial, spare_of, without_sessions};
 ghost use Rattle.ifmap_standing.specs.declared.standing.Standing.{Standing};
 ghost use Rattle.ifmap_standing.specs.Standing.{shown};
-ghost use Rattle.ifmap_graph.specs.Seen.{rows_now};
+ghost use Rattle.ifmap_graph.specs.Seen.{StaysLean, rows_now};
 ghost use Rattle.ifmap_subscribes.specs.Renamings.{KeepsNumbered};
 
 use ifmap_changes::asking::Asking;
@@ -130,6 +130,7 @@ fn remove_gone(parts: &mut Parts, gone: &[bool])
         → IsSteady parts.old.graph (parts.old.standing.items ++ more)
         → IsSteady parts.new.graph (parts.new.standing.items ++ more) }
     ensures rows { rows_now parts.new.graph ≡ rows_now parts.old.graph }
+    ensures lean { StaysLean parts.old.graph parts.new.graph }
     ensures kept { KeepsNumbered parts.old.graph parts.new.graph }
     ensures sessions { parts.new.sessions ≡ parts.old.sessions }
     ensures len { vec_len parts.new.standing ≤ vec_len parts.old.standing }
@@ -146,6 +147,7 @@ fn release_gone(graph: &mut Graph, standing: &[Standing], gone: &[bool])
     ensures steady { (more : List Standing) → IsSteady graph.old (standing.now ++ more)
         → IsSteady graph.new (kept_of gone.now standing.now ++ more) }
     ensures rows { rows_now graph.new ≡ rows_now graph.old }
+    ensures lean { StaysLean graph.old graph.new }
     ensures kept { KeepsNumbered graph.old graph.new }
 {
     for at in 0..standing.len() {
@@ -188,6 +190,7 @@ pub(crate) fn apply(parts: &mut Parts, moment: Moment, outcome: Outcome) -> Answ
         ) }
     ensures parts { AreParts parts.new }
     ensures rows { rows_now parts.new.graph ≡ rows_now parts.old.graph }
+    ensures lean { StaysLean parts.old.graph parts.new.graph }
 {
     parts.sessions.is_table();
     match outcome {
@@ -253,6 +256,7 @@ pub(crate) fn finish(
     ensures answer { applied outcome (so_far asking.now parts.old pending)
         ≡ (state_at asking.now.ttl asking.now.moment parts.new, result) }
     ensures parts { AreParts parts.new }
+    ensures lean { StaysLean parts.old.graph parts.new.graph }
 {
     let Pending { gone, tellings } = pending;
     end_expired(&mut parts.sessions, asking.ended);

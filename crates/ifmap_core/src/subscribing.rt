@@ -5,10 +5,12 @@ ghost use Rattle.std.specs.List.{AllByRecursion};
 ghost use Rattle.std.specs.Ordering.{nat_cmp};
 ghost use Rattle.ifmap_changes.specs.Between.{AreKept, AreTurned, IsReady, IsSteady, left, so_far};
 ghost use Rattle.ifmap_core.specs.Outcomes.{LeadsTo, alone_told};
+ghost use Rattle.ifmap_graph.specs.Seen.{rows_now};
 ghost use Rattle.ifmap_machine.specs.Step.{answer_subscribed};
 ghost use Rattle.ifmap_machine.specs.Subscribing.{subscribe_ops};
 ghost use Rattle.ifmap_requests.specs.Fit.{IsFitSubscribeOp};
 ghost use Rattle.ifmap_session.specs.Sessions.{IsLive, Session, session_with_serial, spare_of};
+ghost use Rattle.ifmap_subscribes.specs.Bounds.{AreOpsWithin};
 ghost use Rattle.ifmap_subscribes.specs.Readying.{AreReadied, told_after, told_at};
 ghost use Rattle.ifmap_subscribes.specs.Renamings.{begun_by};
 ghost use Rattle.ifmap_tellings.specs.Tellings.{HasSameSessions, count_where};
@@ -17,7 +19,6 @@ use crate::outcomes::{Outcome, refuse};
 use ifmap_changes::asking::Asking;
 use ifmap_changes::changes::mark_session;
 use ifmap_changes::parts::Parts;
-use ifmap_changes::views::tell_view;
 use ifmap_elem::Many;
 use ifmap_ident::Code;
 use ifmap_machine::Answer;
@@ -52,6 +53,7 @@ pub(crate) fn subscribe_in<L: Ledger>(
         (record { queue = s.queue; standing = before.standing })))) }
     ensures turned { OnOk result (AreTurned parts.old parts.new) }
     ensures kept { OnErr result (AreKept parts.old parts.new) }
+    ensures steps { AreOpsWithin (rows_now parts.old.graph) ops.now steps.old steps.new }
 {
     let scene = Scene {
         pending: &*pending,
@@ -126,7 +128,7 @@ fn rename_ready(
             renamings: Many(made),
         }),
         Err(no_memory) => {
-            let_go(alloc, parts, pending, asking, Many(made));
+            let_go(parts, pending, asking, Many(made));
             Err(no_memory)
         }
     }
@@ -158,7 +160,7 @@ fn overrun(
 {
     parts.sessions.is_table();
     let Readying { made, size, .. } = readying;
-    let_go(alloc, parts, pending, asking, Many(made));
+    let_go(parts, pending, asking, Many(made));
     tell_over(alloc, parts, pending, asking, serial, size)?;
     let answer = Answer::Reply(Reply::Subscribed);
     Ok(Outcome::Accept { serial, answer })
@@ -199,13 +201,7 @@ fn tell_over(
 }
 
 // The numbers are let go of that were held for subscriptions which are not to stand. It takes no memory.
-fn let_go(
-    alloc: Global,
-    parts: &mut Parts,
-    pending: &Pending,
-    asking: &Asking,
-    made: Many<Renaming>,
-)
+fn let_go(parts: &mut Parts, pending: &Pending, asking: &Asking, made: Many<Renaming>)
     requires steady { IsSteady parts.old.graph (parts.old.standing.items ++ begun_by made) }
     requires ready { IsReady asking.now parts.old pending.now }
     ensures steady { IsSteady parts.new.graph parts.new.standing.items }
@@ -218,9 +214,9 @@ fn let_go(
     ensures standing { parts.new.standing ≡ parts.old.standing }
 {
     same_links_keep_subscriptions();
-    tell_view(alloc, &parts.graph);
+    parts.graph.is_view();
     release_all(&mut parts.graph, made);
-    tell_view(alloc, &parts.graph);
+    parts.graph.is_view();
 }
 
 // Room for so many subscriptions, and for so many items after what is pending of a session.

@@ -16,3 +16,5 @@ pub mod Ready
 pub mod OfScene
 pub mod Adding
 pub mod Nothing
+-- How many steps operations take.
+pub mod Spending

@@ -44,6 +44,7 @@ holds_on a b c h k = record {
   numbers = λ v x e. k.numbers v x (h.numbers v x e);
   backs = λ u rows links w. k.backs u rows links (h.backs u rows links w);
   waits = λ rest w. k.waits rest (h.waits rest w);
+  lean = λ rest l. k.lean rest (h.lean rest l);
   sessions = k.sessions ∙ h.sessions;
   standing = k.standing ∙ h.standing;
 }
@@ -218,6 +219,7 @@ given_after a b c h k = record {
   numbers = λ v x y e f. k.numbers v x y (h.numbers v x e) f;
   backs = λ u rows links w. k.backs u rows links (h.backs u rows links w);
   waits = λ rest w. k.waits rest (h.waits rest w);
+  lean = λ rest l. k.lean rest (h.lean rest l);
   sessions = k.sessions ∙ h.sessions;
   standing = k.standing ∙ h.standing;
 }

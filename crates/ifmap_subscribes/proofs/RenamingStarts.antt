@@ -182,6 +182,7 @@ released_none h = record {
   numbers = λ v a e. e;
   backs = λ u rows links b. b;
   waits = λ rest w. w;
+  lean = λ rest l. l;
   kept = λ sub e k. k;
 }
 
@@ -192,6 +193,7 @@ released_both old mid new a b = record {
   numbers = λ v i e. a.numbers v i (b.numbers v i e);
   backs = λ u rows links w. b.backs u rows links (a.backs u rows links w);
   waits = λ rest w. b.waits rest (a.waits rest w);
+  lean = λ rest l. b.lean rest (a.lean rest l);
   kept = λ sub e k. b.kept sub e (a.kept sub (b.numbers sub.region.start sub.search.start e) k);
 }
 

@@ -14,7 +14,7 @@ use Rattle.std.specs.List.Sorted.{IsStrictlySortedBy}
 use Rattle.ifmap_changes.specs.Between.{IsSteady, sight_now}
 use Rattle.ifmap_changes.specs.declared.parts.Parts.{Parts}
 use Rattle.ifmap_delta.specs.Sights.{IsKept}
-use Rattle.ifmap_graph.specs.Seen.{rows_now}
+use Rattle.ifmap_graph.specs.Seen.{StaysLean, rows_now}
 use Rattle.ifmap_lemmas.specs.Filters.{all_filter}
 use Rattle.ifmap_lemmas.specs.Members.{all_both, both_all}
 use Rattle.ifmap_machine.specs.State as machine
@@ -150,6 +150,7 @@ module _ (serial : ℕ) where
     );
     counter = refl;
     rows = refl;
+    lean = λ rest l. l;
   }
 
   pub renamed_more : (r : Renaming) (rs : List Renaming) (old mid new : Parts) → AreRenamed serial (r ∷ []) old mid
@@ -158,6 +159,7 @@ module _ (serial : ℕ) where
     told = λ s e. told s e;
     counter = b.counter ∙ a.counter;
     rows = b.rows ∙ a.rows;
+    lean = λ rest l. b.lean rest (a.lean rest l);
   }
     where
       told : (s : Session) → session_with_serial serial old.sessions.live ≡ Some s
@@ -274,7 +276,7 @@ module _ (serial : ℕ) (r : Renaming) (old : Parts) (rest : List Renaming) (can
       (graph : mid.graph ≡ new.graph)
       (left : mid.standing.items ≡ filter (stays serial r.name) old.standing.items)
       (steady : (more : List Standing) → IsSteady old.graph (old.standing.items ++ more) → IsSteady mid.graph (mid.standing.items ++ more))
-      (rows : rows_now mid.graph ≡ rows_now old.graph)
+      (rows : rows_now mid.graph ≡ rows_now old.graph) (lean : StaysLean old.graph mid.graph)
       (keeps : KeepsNumbered old.graph mid.graph)
       (len : vec_len mid.standing ≤ vec_len old.standing)
       (capacity : vec_capacity mid.standing ≡ vec_capacity old.standing)
@@ -296,6 +298,7 @@ module _ (serial : ℕ) (r : Renaming) (old : Parts) (rest : List Renaming) (can
       );
       counter = both.counter;
       rows = ap rows_now (sym graph) ∙ rows;
+      lean = subst (StaysLean old.graph) graph lean;
     }
 
     steady_then : IsSteady new.graph (new.standing.items ++ begun_by rest)

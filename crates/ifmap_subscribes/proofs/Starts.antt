@@ -10,7 +10,7 @@ use Rattle.ifmap_delta.specs.Sights.{IsKept}
 use Rattle.ifmap_graph.specs.Back.{KeepsBacks}
 use Rattle.ifmap_graph.specs.Held.{Held, IsOwn}
 use Rattle.ifmap_graph.specs.Named.{named_in}
-use Rattle.ifmap_graph.specs.Seen.{AwaitsMore, IsStill, KeepsNumbers, links_now, rows_now}
+use Rattle.ifmap_graph.specs.Seen.{AwaitsMore, IsStill, KeepsNumbers, StaysLean, links_now, rows_now}
 use Rattle.ifmap_graph.specs.Shelved.{list_at, rows_by}
 use Rattle.ifmap_graph.specs.Sides.{now}
 use Rattle.ifmap_graph.specs.Turning.{sides_at}
@@ -173,13 +173,14 @@ ends_steady mid new standing v search (Some x) held unused used begun =
 -- ---- nothing else that is seen changes
 
 pub held_alone : (old new : Held) → new.shelves ≡ old.shelves → ((v : ℕ) → sides_at new.links v ≡ sides_at old.links v)
-    → KeepsNumbers old new → KeepsBacks old new → AwaitsMore [] old new → GraphHolds old new
-held_alone old new shelves links numbers backs waits = record {
+    → KeepsNumbers old new → KeepsBacks old new → AwaitsMore [] old new → StaysLean old new → GraphHolds old new
+held_alone old new shelves links numbers backs waits lean = record {
   rows = ap (rows_by (list_at now)) shelves;
   links = λ v. ap (λ s. s.now) (links v);
   numbers = numbers;
   backs = backs;
   waits = waits;
+  lean = lean;
 }
 
 -- held and let go of again, a number stays where it was there before
@@ -193,4 +194,5 @@ held_and_let_go old mid new v held gone again stays = record {
       (again (subst (λ n. IsSome (key_at old.names n)) same (subst (λ o. IsSome o) (sym e) refl)))) ∙ held.numbers w a e;
   backs = λ u rows links w. gone.backs u rows links (held.backs u rows links w);
   waits = λ rest w. gone.waits rest (held.waits rest w);
+  lean = λ rest l. gone.lean rest (held.lean rest l);
 }

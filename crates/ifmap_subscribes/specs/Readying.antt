@@ -10,7 +10,7 @@ use Rattle.ifmap_changes.specs.declared.parts.Parts.{Parts}
 use Rattle.ifmap_delta.specs.Sights.{IsKept}
 use Rattle.ifmap_graph.specs.Back.{KeepsBacks}
 use Rattle.ifmap_graph.specs.Held.{Held, IsOwn}
-use Rattle.ifmap_graph.specs.Seen.{AwaitsMore, BringsNoNumbers, IsStill, KeepsNumbers, links_now, rows_now}
+use Rattle.ifmap_graph.specs.Seen.{AwaitsMore, BringsNoNumbers, IsStill, KeepsNumbers, StaysLean, links_now, rows_now}
 use Rattle.ifmap_ident.specs.declared.identifiers.Identifier.{Identifier}
 use Rattle.ifmap_ident.specs.Identifiers.{identifier_order}
 use Rattle.ifmap_machine.specs.State.{standing_in, standing_order}
@@ -94,6 +94,7 @@ pub record OnlyHolds (old new : Parts) : Type 0 where
   pub numbers : KeepsNumbers old.graph new.graph
   pub backs : KeepsBacks old.graph new.graph
   pub waits : AwaitsMore [] old.graph new.graph
+  pub lean : StaysLean old.graph new.graph
   pub sessions : new.sessions ≡ old.sessions
   pub standing : new.standing ≡ old.standing
 
@@ -105,6 +106,7 @@ pub record IsGivenUp (old new : Parts) : Type 0 where
   pub numbers : SharesNumbers old.graph new.graph
   pub backs : KeepsBacks old.graph new.graph
   pub waits : AwaitsMore [] old.graph new.graph
+  pub lean : StaysLean old.graph new.graph
   pub sessions : new.sessions ≡ old.sessions
   pub standing : new.standing ≡ old.standing
 
@@ -115,6 +117,7 @@ pub record GraphHolds (old new : Held) : Type 0 where
   pub numbers : KeepsNumbers old new
   pub backs : KeepsBacks old new
   pub waits : AwaitsMore [] old new
+  pub lean : StaysLean old new
 
 -- holds were let go of, and nothing else that is seen changes
 pub record IsReleased (old new : Held) : Type 0 where
@@ -123,6 +126,7 @@ pub record IsReleased (old new : Held) : Type 0 where
   pub numbers : BringsNoNumbers old new
   pub backs : KeepsBacks old new
   pub waits : AwaitsMore [] old new
+  pub lean : StaysLean old new
 
 -- beside these subscriptions one hold of a number is out, of that identifier
 pub record IsHolding (h : Held) (standing : List Standing) (number : ℕ) (id : Identifier) : Type 0 where

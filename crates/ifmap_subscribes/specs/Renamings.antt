@@ -23,7 +23,7 @@ use Rattle.ifmap_standing.specs.Standing.{shown}
 use Rattle.ifmap_tellings.specs.declared.tellings.Pending.{Pending}
 use Rattle.ifmap_graph.specs.Held.{Held}
 use Rattle.ifmap_graph.specs.Back.{KeepsBacks}
-use Rattle.ifmap_graph.specs.Seen.{AwaitsMore, BringsNoNumbers, links_now, rows_now}
+use Rattle.ifmap_graph.specs.Seen.{AwaitsMore, BringsNoNumbers, StaysLean, links_now, rows_now}
 
 -- how a subscription stands to that of a session under a name: by session, then by name
 abbrev pub name_order : ℕ → List ℕ → Standing → Ordering
@@ -64,14 +64,15 @@ KeepsNumbered old new =
     (sub : Subscription) → key_at new.names sub.region.start ≡ Some sub.search.start
     → IsKept (sight_now old) sub → IsKept (sight_now new) sub
 
--- holds of numbers were let go of: what is stored, the links, the ways back and what is waited for stay, no number comes, and what is
--- kept is kept still
+-- holds of numbers were let go of: what is stored, the links, the ways back and what is waited for stay, nothing is left behind, no
+-- number comes, and what is kept is kept still
 pub record LetsGo (old new : Held) : Type 0 where
   pub rows : rows_now new ≡ rows_now old
   pub links : (v : ℕ) → links_now new v ≡ links_now old v
   pub numbers : BringsNoNumbers old new
   pub backs : KeepsBacks old new
   pub waits : AwaitsMore [] old new
+  pub lean : StaysLean old new
   pub kept : KeepsNumbered old new
 
 -- one more stands somewhere among these, where there is one
@@ -111,3 +112,4 @@ pub record AreRenamed (serial : ℕ) (renamings : List Renaming) (old new : Part
       (λ (x : Session). record x { queue = (rename_all serial renamings (told_in_parts old s)).queue }) old.sessions.live)
   pub counter : new.sessions.counter ≡ old.sessions.counter
   pub rows : rows_now new.graph ≡ rows_now old.graph
+  pub lean : StaysLean old.graph new.graph

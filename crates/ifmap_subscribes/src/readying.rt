@@ -5,17 +5,16 @@ ghost use Rattle.std.specs.Cmp.Lexicographic.{slice_cmp};
 ghost use Rattle.std.specs.List.{AllByRecursion};
 ghost use Rattle.std.specs.Ordering.{nat_cmp};
 ghost use Rattle.ifmap_changes.specs.Between.{IsReady, IsSteady, left};
-ghost use Rattle.ifmap_graph.specs.Seen.{links_now, rows_now};
+ghost use Rattle.ifmap_graph.specs.Seen.{rows_now};
 ghost use Rattle.ifmap_machine.specs.Subscribing.{Told, most_names, subscribe_op, subscribe_ops};
 ghost use Rattle.ifmap_machine.specs.Subscribing as machine;
-ghost use Rattle.ifmap_pool.specs.Holdings.{key_at};
 ghost use Rattle.ifmap_requests.specs.Fit.{IsFitSearch, IsFitSubscribeOp};
 ghost use Rattle.ifmap_requests.specs.declared.requests.SubscribeOp.TheVariants as the_op;
 ghost use Rattle.ifmap_session.specs.Sessions.{IsLive};
+ghost use Rattle.ifmap_subscribes.specs.Bounds.{AreOpsWithin, IsOpWithin, IsWithinSpan};
 ghost use Rattle.ifmap_subscribes.specs.Readying.{CanReady, CanStand, IsAdded, IsGivenUp, IsNoted, IsSmall, OnlyHolds, now_of, told_in, told_then};
 ghost use Rattle.ifmap_subscribes.specs.Renamings.{IsNameNow, rename};
 ghost use Rattle.ifmap_subscribes.specs.declared.readying.SubscribeError.TheVariants as the_error;
-ghost use Rattle.ifmap_view.specs.Views.{IsView};
 
 use crate::names::{NameNow, count_standing, name_before, whole_size};
 use crate::renamings::{Renaming, release_all};
@@ -23,14 +22,11 @@ use crate::starting::begin_name;
 use ifmap_changes::asking::Asking;
 use ifmap_changes::parts::Parts;
 use ifmap_elem::{Copied, Many, Text};
-use ifmap_graph::Graph;
-use ifmap_ident::Identifier;
 use ifmap_requests::SubscribeOp;
 use ifmap_search::{Search, poll_size};
 use ifmap_standing::laws::same_links_keep_subscriptions;
 use ifmap_steps::Steps;
 use ifmap_tellings::tellings::Pending;
-use ifmap_view::View;
 use std::alloc::{AllocError as NoMemory, Global};
 use std::collections::BTreeMap;
 use std::sync::ledger::Ledger;
@@ -96,6 +92,9 @@ pub fn ready_ops<L: Ledger>(
         scene.now.serial ops.now (told_in scene.now parts.old) ≡ None }
     ensures given_up { OnErr result (IsGivenUp parts.old parts.new) }
     ensures ready { IsReady scene.now.asking.now parts.new scene.now.pending.now }
+
+    // Also where memory runs out.
+    ensures steps { AreOpsWithin (rows_now parts.old.graph) ops.now steps.old steps.new }
 {
     let mut readying = nothing_ready(alloc, parts, scene);
     match ready_all(alloc, parts, scene, ops, &mut readying, steps) {
@@ -152,6 +151,7 @@ fn ready_all<L: Ledger>(
         scene.now.serial ops.now (told_then scene.now parts.old readying.old) ≡ None }
     ensures can { CanReady scene.now parts.new readying.new }
     ensures holds { OnlyHolds parts.old parts.new }
+    ensures steps { AreOpsWithin (rows_now parts.old.graph) ops.now steps.old steps.new }
 {
     for op in &ops.0 {
         ready_op(alloc, parts, scene, op, readying, steps)?;
@@ -177,6 +177,7 @@ fn ready_op<L: Ledger>(
         scene.now.serial op.now (told_then scene.now parts.old readying.old) ≡ None }
     ensures can { CanReady scene.now parts.new readying.new }
     ensures holds { OnlyHolds parts.old parts.new }
+    ensures steps { IsOpWithin (rows_now parts.old.graph) op.now steps.old steps.new }
 {
     match op {
         SubscribeOp::Update { name, search } => {
@@ -225,6 +226,8 @@ fn ready_update<L: Ledger>(
         (told_then scene.now parts.old readying.old) ≡ None }
     ensures can { CanReady scene.now parts.new readying.new }
     ensures holds { OnlyHolds parts.old parts.new }
+    ensures steps { IsWithinSpan 4 (rows_now parts.old.graph) wish.now.search.now steps.old
+        steps.new }
 {
     if !wish.before.stands && MOST_NAMES <= readying.count {
         return Err(SubscribeError::TooMany);
@@ -294,6 +297,8 @@ fn begin_ready<L: Ledger>(
         ≡ told_then scene.now parts.old readying.new) }
     ensures can { CanReady scene.now parts.new readying.new }
     ensures holds { OnlyHolds parts.old parts.new }
+    ensures steps { IsWithinSpan 4 (rows_now parts.old.graph) wish.now.search.now steps.old
+        steps.new }
 {
     make_room(readying, wish.name.copy(alloc)?, wish.before)?;
     let renaming = begin_beside(alloc, parts, scene, wish, &readying.made, steps)?;
@@ -324,10 +329,12 @@ fn begin_beside<L: Ledger>(
     ensures err { OnErr result (CanStand scene.now.serial parts.new made.now) }
     ensures ready { IsReady scene.now.asking.now parts.new scene.now.pending.now }
     ensures holds { OnlyHolds parts.old parts.new }
+    ensures steps { IsWithinSpan 4 (rows_now parts.old.graph) wish.now.search.now steps.old
+        steps.new }
 {
     same_links_keep_subscriptions();
     parts.sessions.is_table();
-    tell_view(&parts.graph, &wish.search.start);
+    parts.graph.is_view();
     let begun = begin_name(
         alloc,
         &mut parts.graph,
@@ -336,15 +343,8 @@ fn begin_beside<L: Ledger>(
         wish.search,
         steps,
     );
-    tell_view(&parts.graph, &wish.search.start);
+    parts.graph.is_view();
     begun
-}
-
-// What a graph shows is a view: what holds of every graph. It takes no memory.
-fn tell_view(graph: &Graph, id: &Identifier)
-    ensures { IsView (rows_now graph.now) (key_at graph.now.names) (links_now graph.now) }
-{
-    let _ = graph.number(id);
 }
 
 // Room for one renaming more, and for what is so of its name.

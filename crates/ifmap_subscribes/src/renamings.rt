@@ -4,18 +4,16 @@ ghost use Rattle.std.specs.List.{insert, list_any};
 ghost use Rattle.std.specs.List.Sorted.{IsStrictlySortedBy};
 ghost use Rattle.ifmap_changes.specs.Between.{IsSteady};
 ghost use Rattle.ifmap_graph.specs.Back.{KeepsBacks};
-ghost use Rattle.ifmap_graph.specs.Seen.{AwaitsMore, BringsNoNumbers, links_now, rows_now};
+ghost use Rattle.ifmap_graph.specs.Seen.{AwaitsMore, BringsNoNumbers, StaysLean, links_now, rows_now};
 ghost use Rattle.ifmap_machine.specs.State.{standing_order};
 ghost use Rattle.ifmap_machine.specs.Subscribing.{is_of_name};
 ghost use Rattle.ifmap_machine.specs.Telling.{tell_session};
 ghost use Rattle.ifmap_plans.specs.Placing.{put};
-ghost use Rattle.ifmap_pool.specs.Holdings.{key_at};
 ghost use Rattle.ifmap_session.specs.Sessions.{Changes, IsLive, spare_of};
 ghost use Rattle.ifmap_standing.specs.declared.standing.Standing.{Standing};
 ghost use Rattle.ifmap_standing.specs.Standing.{shown};
 ghost use Rattle.ifmap_subscribes.specs.declared.renamings.Renaming.{Renaming};
 ghost use Rattle.ifmap_subscribes.specs.Renamings.{AreRenamed, CanRenameEach, KeepsNumbered, LetsGo, StandsAmong, begun_by, name_order, stand_where};
-ghost use Rattle.ifmap_view.specs.Views.{IsView};
 
 use ifmap_changes::parts::Parts;
 use ifmap_elem::{Many, Text};
@@ -25,7 +23,6 @@ use ifmap_search::PollItem;
 use ifmap_session::Sessions;
 use ifmap_standing::Standing;
 use ifmap_standing::laws::same_links_keep_subscriptions;
-use ifmap_view::View;
 use std::cmp::Ordering;
 
 /// What becomes of one name: what is to be told of it goes, and its subscription too; then an item
@@ -50,6 +47,7 @@ pub fn release_all(graph: &mut Graph, renamings: Many<Renaming>)
     ensures numbers { BringsNoNumbers graph.old graph.new }
     ensures backs { KeepsBacks graph.old graph.new }
     ensures waits { AwaitsMore [] graph.old graph.new }
+    ensures lean { StaysLean graph.old graph.new }
     ensures kept { KeepsNumbered graph.old graph.new }
 {
     for renaming in renamings.0 {
@@ -82,16 +80,9 @@ pub fn release_start(graph: &mut Graph, one: &Standing)
 {
     bytes_tell_identifiers_apart();
     same_links_keep_subscriptions();
-    tell_view(graph, one);
+    graph.is_view();
     graph.release(one.subscription.region.start);
-    tell_view(graph, one);
-}
-
-// What a graph shows is a view: what holds of every graph. It takes no memory.
-fn tell_view(graph: &Graph, one: &Standing)
-    ensures { IsView (rows_now graph.now) (key_at graph.now.names) (links_now graph.now) }
-{
-    let _ = graph.number(&one.subscription.search.start);
+    graph.is_view();
 }
 
 /// The names of a session are renamed, one after the other. It takes no memory.
@@ -148,6 +139,7 @@ fn drop_standing(graph: &mut Graph, standing: &mut Vec<Standing>, serial: u64, n
     ensures steady { (more : List Standing) → IsSteady graph.old (standing.old.items ++ more)
         → IsSteady graph.new (standing.new.items ++ more) }
     ensures rows { rows_now graph.new ≡ rows_now graph.old }
+    ensures lean { StaysLean graph.old graph.new }
     ensures kept { KeepsNumbered graph.old graph.new }
     ensures len { vec_len standing.new ≤ vec_len standing.old }
     ensures capacity { vec_capacity standing.new ≡ vec_capacity standing.old }

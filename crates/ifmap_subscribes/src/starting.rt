@@ -13,6 +13,7 @@ ghost use Rattle.ifmap_requests.specs.Fit.{IsFitSearch};
 ghost use Rattle.ifmap_search.specs.declared.results.PollItem.TheVariants as the_item;
 ghost use Rattle.ifmap_search.specs.Sizes.{entries_size};
 ghost use Rattle.ifmap_standing.specs.declared.standing.Standing.{Standing};
+ghost use Rattle.ifmap_subscribes.specs.Bounds.{IsWithinSpan};
 ghost use Rattle.ifmap_subscribes.specs.Readying.{GraphHolds, IsHolding, IsReleased, IsSmall};
 ghost use Rattle.ifmap_subscribes.specs.Renamings.{IsOfSession, rename};
 
@@ -57,6 +58,7 @@ pub(crate) fn begin_name<L: Ledger>(
     ensures err { OnErr result ((standing : List Standing) → IsSteady graph.old standing
         → IsSteady graph.new standing) }
     ensures holds { GraphHolds graph.old graph.new }
+    ensures steps { IsWithinSpan 4 (rows_now graph.old) search.now steps.old steps.new }
 {
     let number = graph.hold(alloc, &search.start)?;
     match begin_at(alloc, graph, serial, number, name, search, steps) {
@@ -122,7 +124,9 @@ fn begin_at<L: Ledger>(
     ensures kept { IfOk result (λ renaming. AllByRecursion
         (λ x. (x.subscription.search ≡ search.now) × (x.subscription.region.start ≡ number)
         × IsKept (sight_now graph.now) x.subscription) (option_to_list renaming.standing)) }
+    ensures steps { IsWithinSpan 4 (rows_now graph.now) search.now steps.old steps.new }
 {
+    graph.is_view();
     let searched = search.copy(alloc)?;
     match subscribe(alloc, graph, number, searched, steps)? {
         Subscribed::Kept {

@@ -29,9 +29,9 @@ returns-clause-begun c =
     in record {
       out = e.out;
       plan = e.plan;
-      before = c.tell_view.ensures;
-      now = c.tell_view-2.ensures;
-      next = subst (λ (h : Held). IsView (rows_next h) (key_at h.names) (links_next h)) c.of.ensures c.tell_view-3.ensures;
+      before = c.is_view.ensures;
+      now = c.is_view-2.ensures;
+      next = subst (λ (h : Held). IsView (rows_next h) (key_at h.names) (links_next h)) c.of.ensures c.is_view-3.ensures;
       change = record {
         canon = all_weaker (FitsItem (rows_now c.args.parts.now.graph)) (λ d. IsCanonItem d.item) (λ d f. f.canon) changes
             c.requires.fits.each;
@@ -43,5 +43,6 @@ returns-clause-begun c =
       numbers = e.numbers;
       own = e.own;
       waits = e.waits;
+      lean = e.lean;
       backs = e.backs;
     }

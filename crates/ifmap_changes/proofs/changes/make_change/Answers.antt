@@ -28,7 +28,8 @@ returns-clause-turned g c =
     let made = c.in_ok-made.ensures
     in let settled = c.settle_made.ensures.settled
     in record {
-      waits = λ rest w. c.settle_made.ensures.waits rest (made.waits rest w);
+      waits = λ rest w. c.settle_made.ensures.waits rest (made.turned.waits rest w);
+      lean = λ rest l. c.settle_made.ensures.lean rest (made.turned.lean rest l);
       searches = searches_twice c.args.parts.now.standing.items c.make_kept.new.parts.standing.items
           c.settle_made.new.parts.standing.items made.turned.searches settled.searches;
       sessions = subst (λ (t : Table). HasSameSessions c.args.parts.now.sessions t) (sym settled.sessions) made.turned.sessions;

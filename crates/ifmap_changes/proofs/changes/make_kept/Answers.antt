@@ -1,11 +1,12 @@
 -- A change that can be taken back.
 -- First what the calls want: all is ready with the change out (`ready_of`), and its items are waited for (`awaits_of`). Then each clause
 -- where the change is made, of what the two calls before left and of what the graph then carried out (`Commits`): what is told, what is
--- steady and ready, what was turned, and the way back. Last, that all is kept where the change is given up (`Forgets`). Each answer
--- names the parts before the change, with it out, and once subscriptions were told.
-use Rattle.std.proofs.Common.{refl}
+-- steady and ready, what was turned, and the way back. Then that all is kept where the change is given up (`Forgets`), and the steps. Each
+-- answer names the parts before the change, with it out, and once subscriptions were told.
+use Rattle.std.proofs.Common.{refl, ap, inl, arith}
 use Rattle.ifmap_changes.proofs.Begun.{ready_begun}
 use Rattle.ifmap_changes.proofs.Making.{awaits_of, back_made, bare_made, commits_of, forgets_of, given_up, keep_of, lead_of, ready_made, ready_of, same_of, sessions_of, steady_made, told_made, told_of, turned_made, whole_made}
+use Rattle.ifmap_changes.proofs.Spending.{each_of, told_within}
 use Rattle.ifmap_changes.proofs.changes.make_kept.Goals as goal
 
 pub tell_parts-requires-clause-ready : goal.tell_parts-requires-clause-ready
@@ -50,6 +51,7 @@ returns-in-Ok-clause-told l c =
       still = e.still;
       own = e.own;
       waits = e.waits;
+      lean = e.lean;
       same = e.plan;
       back = e.back;
     })
@@ -82,6 +84,7 @@ returns-in-Ok-clause-steady l c =
       still = e.still;
       own = e.own;
       waits = e.waits;
+      lean = e.lean;
       same = e.plan;
       back = e.back;
     })
@@ -113,6 +116,7 @@ returns-in-Ok-clause-ready l c =
       still = e.still;
       own = e.own;
       waits = e.waits;
+      lean = e.lean;
       same = e.plan;
       back = e.back;
     })
@@ -145,6 +149,7 @@ returns-in-Ok-clause-bare l c =
       still = e.still;
       own = e.own;
       waits = e.waits;
+      lean = e.lean;
       same = e.plan;
       back = e.back;
     })
@@ -177,6 +182,7 @@ returns-in-Ok-clause-turned l c =
       still = e.still;
       own = e.own;
       waits = e.waits;
+      lean = e.lean;
       same = e.plan;
       back = e.back;
     })
@@ -207,6 +213,7 @@ returns-in-Ok-clause-back l c =
       still = e.still;
       own = e.own;
       waits = e.waits;
+      lean = e.lean;
       same = e.plan;
       back = e.back;
     })
@@ -235,9 +242,29 @@ returns-in-Err-clause-kept l c =
       links = e.links;
       numbers = e.numbers;
       own = e.own;
+      lean = e.lean;
       backs = e.backs;
     })
     in let same = keep_of a old mid to before after wait plan begun one.sessions one.standing two.graph c.in-Err.ensures.err
     in let sessions = sessions_of a old mid to before after wait plan begun one.sessions one.standing two.graph two.sessions
     in given_up c.bytes_tell_identifiers_apart.ensures old wait plan mid.graph c.forget.new.self to begun gone c.requires.steady same
     sessions
+
+pub returns-in_err-ready-clause-steps : goal.returns-in_err-ready-clause-steps
+returns-in_err-ready-clause-steps l c = λ rows graph after. inl (omega arith)
+
+pub returns-in-Ok-clause-steps : goal.returns-in-Ok-clause-steps
+returns-in-Ok-clause-steps l c =
+    told_within c.bytes_tell_identifiers_apart.ensures c.args.asking.now c.args.parts.now c.args.pending.now c.in_ok-ready.ready c.args.plan
+    c.begin_change.new.parts.graph c.in_ok-ready.ensures.begun c.requires.steady c.args.steps.now c.tell_parts.new.steps
+    (each_of c.begin_change.new.parts.graph c.begin_change.new.parts.standing.items c.args.parts.now.standing.items
+    (ap (λ v. v.items) c.begin_change.ensures.standing) c.args.pending.now.gone.items c.args.steps.now c.tell_parts.new.steps
+    c.tell_parts.ensures.steps)
+
+pub returns-in-Err-clause-steps : goal.returns-in-Err-clause-steps
+returns-in-Err-clause-steps l c =
+    told_within c.bytes_tell_identifiers_apart.ensures c.args.asking.now c.args.parts.now c.args.pending.now c.in_ok-ready.ready c.args.plan
+    c.begin_change.new.parts.graph c.in_ok-ready.ensures.begun c.requires.steady c.args.steps.now c.tell_parts.new.steps
+    (each_of c.begin_change.new.parts.graph c.begin_change.new.parts.standing.items c.args.parts.now.standing.items
+    (ap (λ v. v.items) c.begin_change.ensures.standing) c.args.pending.now.gone.items c.args.steps.now c.tell_parts.new.steps
+    c.tell_parts.ensures.steps)

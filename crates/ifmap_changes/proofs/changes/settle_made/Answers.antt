@@ -11,7 +11,7 @@ pub returns-clause-steady : goal.returns-clause-steady
 returns-clause-steady c = λ more s.
     let xs = c.args.parts.now.standing.items in
     let ys = c.settle_all.new.standing.items in
-    steady_beside c.bytes_tell_identifiers_apart.ensures c.args.parts.now.graph c.settle-plan.new.self c.tell_view.ensures
+    steady_beside c.bytes_tell_identifiers_apart.ensures c.args.parts.now.graph c.settle-plan.new.self c.is_view.ensures
     c.settle-plan.ensures.still (subst AreWhole (sym c.settle-plan.ensures.now) s.whole) c.settle-plan.ensures.numbers
     c.settle-plan.ensures.own xs ys more (settled_searches c.args.made.ways xs ys c.settle_all.ensures.settled) s
 
@@ -35,11 +35,11 @@ returns-clause-ready c = λ asking pending r.
     let g = c.args.parts.now.graph in
     let h = c.settle-plan.new.self in
     let numbered : AllByRecursion (IsNumbered h) xs =
-    (all_both (IsNumbered h) xs more (all_numbered c.bytes_tell_identifiers_apart.ensures g h c.tell_view.ensures
+    (all_both (IsNumbered h) xs more (all_numbered c.bytes_tell_identifiers_apart.ensures g h c.is_view.ensures
     c.settle-plan.ensures.numbers c.settle-plan.ensures.own (xs ++ more) c.requires.steady.1)).0 in
     ready_after asking c.args.parts.now (record c.args.parts.now { graph = h; standing = c.settle_all.new.standing }) pending refl same
-    (kept_settled c.same_links_keep_subscriptions.ensures c.same_marks_keep_subscriptions.ensures.settled g h c.tell_view.ensures
-    c.tell_view-2.ensures c.settle-plan.ensures.now c.settle-plan.ensures.links c.settle-plan.ensures.numbers c.args.made.ways
+    (kept_settled c.same_links_keep_subscriptions.ensures c.same_marks_keep_subscriptions.ensures.settled g h c.is_view.ensures
+    c.is_view-2.ensures c.settle-plan.ensures.now c.settle-plan.ensures.links c.settle-plan.ensures.numbers c.args.made.ways
     pending.gone.items xs ys numbered c.settle_all.ensures.settled r.kept) r
 
 pub returns-clause-so_far : goal.returns-clause-so_far
@@ -51,3 +51,6 @@ returns-clause-so_far c = λ asking pending.
 
 pub returns-clause-waits : goal.returns-clause-waits
 returns-clause-waits c = λ rest w. c.settle-plan.ensures.waits rest w
+
+pub returns-clause-lean : goal.returns-clause-lean
+returns-clause-lean c = λ rest l. c.settle-plan.ensures.lean rest l

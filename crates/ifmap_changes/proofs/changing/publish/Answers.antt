@@ -1,4 +1,4 @@
-use Rattle.std.proofs.Common.{◌≡◌, sym, ◌∙◌, subst, ap}
+use Rattle.std.proofs.Common.{◌≡◌, inl, arith, sym, ◌∙◌, subst, ap}
 use Rattle.std.specs.List.{AllByRecursion}
 use Rattle.ifmap_changes.specs.Between.{AreKept, so_far}
 use Rattle.ifmap_changes.proofs.Results.{at_err, where_ok}
@@ -28,7 +28,7 @@ returns-clause-told g c =
     let same : inner ≡ by = ap (author_of c.args.serial) c.asking.view_is in
     let applies : IsAfter c.in_ok-plan.plan.changes first (apply first inner ops) = c.in_ok-plan.ensures.applies in
     where_ok c.make_change.result _ _ (λ f. f (apply first by ops)
-    (c.publishing_keeps_graphs.ensures.graph first by ops c.requires.fit c.tell_graph.ensures)
+    (c.publishing_keeps_graphs.ensures.graph first by ops c.requires.fit c.is_view.ensures.graph)
     (subst (λ a. IsAfter c.in_ok-plan.plan.changes first (apply first a ops)) same applies)
     ∙ ap (λ notes. overflow (tell (apply first by ops) notes before)) (c.in_ok-plan.ensures.notes ∙ ap (λ a. notes_of a ops) same))
     c.make_change.ensures.told
@@ -36,3 +36,18 @@ returns-clause-told g c =
 pub returns-in_err-plan-clause-kept : goal.returns-in_err-plan-clause-kept
 returns-in_err-plan-clause-kept g c =
     at_err c.from_residual.result (AreKept c.args.parts.now c.args.parts.now) (kept_itself c.args.parts.now c.requires.steady)
+
+pub returns-in_err-plan-clause-steps : goal.returns-in_err-plan-clause-steps
+returns-in_err-plan-clause-steps g c = inl (omega arith)
+
+pub returns-clause-steps : goal.returns-clause-steps
+returns-clause-steps g c =
+    let first = rows_now c.args.parts.now.graph in
+    let ops = c.args.ops.now in
+    let inner : Authorship = record { client = c.asking.inside.client.now; serial = c.args.serial; moment = c.asking.inside.moment } in
+    let by : Authorship = author_of c.args.serial c.args.asking.now in
+    let same : inner ≡ by = ap (author_of c.args.serial) c.asking.view_is in
+    let applies : IsAfter c.in_ok-plan.plan.changes first (apply first inner ops) = c.in_ok-plan.ensures.applies in
+    c.make_change.ensures.steps (apply first by ops)
+    (c.publishing_keeps_graphs.ensures.graph first by ops c.requires.fit c.is_view.ensures.graph)
+    (subst (λ a. IsAfter c.in_ok-plan.plan.changes first (apply first a ops)) same applies)

@@ -1,4 +1,4 @@
-use Rattle.std.proofs.Common.{sym, ◌∙◌, subst, ap}
+use Rattle.std.proofs.Common.{inl, arith, sym, ◌∙◌, subst, ap}
 use Rattle.std.specs.List.{AllByRecursion}
 use Rattle.ifmap_changes.specs.Between.{AreKept, so_far}
 use Rattle.ifmap_changes.proofs.Results.{at_err, where_ok, where_value}
@@ -19,14 +19,26 @@ returns-clause-told g c =
     let before = so_far c.args.asking.now c.args.parts.now c.args.pending.now in
     let rows = retract c.args.who.now (rows_now c.args.parts.now.graph) in
     where_ok c.make_kept.result _ _ (λ f. f rows (c.retracting_keeps_graphs.ensures.graph c.args.who.now
-    (rows_now c.args.parts.now.graph) c.tell_graph.ensures) c.in_ok-plan.ensures.applies
+    (rows_now c.args.parts.now.graph) c.is_view.ensures.graph) c.in_ok-plan.ensures.applies
     ∙ ap (λ notes. overflow (tell rows notes before)) c.in_ok-plan.ensures.notes) c.make_kept.ensures.told
 
 pub returns-clause-settle : goal.returns-clause-settle
 returns-clause-settle g c =
     where_value c.make_kept.result _ _ _ (λ made can _. can_settle made c.args.parts.now c.make_kept.new.parts can)
-    c.make_kept.ensures.back c.make_kept.ensures.turned
+    c.make_kept.ensures.back c.make_kept.ensures.numbers
 
 pub returns-in_err-plan-clause-kept : goal.returns-in_err-plan-clause-kept
 returns-in_err-plan-clause-kept g c =
     at_err c.from_residual.result (AreKept c.args.parts.now c.args.parts.now) (kept_itself c.args.parts.now c.requires.steady)
+
+pub returns-in_err-plan-clause-steps : goal.returns-in_err-plan-clause-steps
+returns-in_err-plan-clause-steps g c = (c.retract.new.steps, c.retract.ensures.steps, inl (omega arith))
+
+pub returns-clause-steps : goal.returns-clause-steps
+returns-clause-steps g c =
+    let rows = retract c.args.who.now (rows_now c.args.parts.now.graph) in (
+      c.retract.new.steps,
+      c.retract.ensures.steps,
+      c.make_kept.ensures.steps rows (c.retracting_keeps_graphs.ensures.graph c.args.who.now (rows_now c.args.parts.now.graph)
+          c.is_view.ensures.graph) c.in_ok-plan.ensures.applies,
+    )

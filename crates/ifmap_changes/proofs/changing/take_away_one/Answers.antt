@@ -1,6 +1,7 @@
 use Rattle.std.proofs.Common.{◌≡◌, ◌≢◌, ℕ, List, [], ◌∷◌, ◌++◌, length, map, ◌∙◌, subst, ap}
 use Rattle.ifmap_changes.specs.Between.{AreKept, so_far}
 use Rattle.ifmap_changes.proofs.Results.{at_err, where_ok}
+use Rattle.ifmap_changes.proofs.Spending.{ended_none, ended_within}
 use Rattle.ifmap_changes.proofs.Taken.{kept_itself, marked_state, ready_marked}
 use Rattle.ifmap_changes.proofs.changing.take_away_one.Goals as goal
 use Rattle.ifmap_graph.specs.Seen.{rows_now}
@@ -47,3 +48,22 @@ returns-clause-bare g c =
 pub returns-in_err-serials-clause-kept : goal.returns-in_err-serials-clause-kept
 returns-in_err-serials-clause-kept g c =
     at_err c.from_residual.result (AreKept c.args.parts.now c.args.parts.now) (kept_itself c.args.parts.now c.requires.steady)
+
+pub returns-in_err-serials-clause-steps : goal.returns-in_err-serials-clause-steps
+returns-in_err-serials-clause-steps g c =
+    ended_none c.args.serial (so_far c.args.asking.now c.args.parts.now c.args.pending.now) c.args.steps.now
+
+pub returns-clause-steps : goal.returns-clause-steps
+returns-clause-steps g c =
+    let marked = c.mark_session.new.pending in
+    let a = c.args.asking.now in
+    let parts = c.args.parts.now in
+    let left : map shown (kept_of marked.gone.items parts.standing.items)
+    ≡ without_standing (c.args.serial ∷ []) (map shown (kept_of c.args.pending.now.gone.items parts.standing.items)) =
+    subst (λ (l : List Standing). map shown (kept_of marked.gone.items l)
+    ≡ without_standing (c.args.serial ∷ []) (map shown (kept_of c.args.pending.now.gone.items l)))
+    c.deref.ensures.value c.mark_session.ensures.left in
+    let items : c.push.new.self.items ≡ c.args.serial ∷ [] =
+    c.in_ok-push.ensures.items ∙ ap (λ (l : List ℕ). l ++ c.args.serial ∷ []) c.in_ok-serials.ensures.items in
+    ended_within a parts c.args.pending.now marked c.args.serial c.push.new.self.items c.args.steps.now c.take_away.new.steps items left
+    c.take_away.ensures.steps

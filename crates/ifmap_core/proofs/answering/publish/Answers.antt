@@ -1,8 +1,10 @@
 use Rattle.ifmap_changes.specs.Between.{left, so_far}
 use Rattle.ifmap_core.proofs.Cases.{accepts, another, live_after, nobody, own_left, owner_so_far, publishes}
+use Rattle.ifmap_core.proofs.Spending.{publishes_none, publishes_within}
 use Rattle.ifmap_core.proofs.answering.publish.Goals as goal
 use Rattle.ifmap_core.specs.declared.owning.Owner.TheVariants.{Own}
 use Rattle.ifmap_machine.specs.declared.events.Answer.TheVariants as the_answer
+use Rattle.ifmap_session.specs.Sessions.{session_with_id}
 use Rattle.ifmap_machine.specs.Step.{publish}
 use Rattle.ifmap_replies.specs.declared.replies.Reply.TheVariants as the_reply
 
@@ -31,3 +33,33 @@ returns-in-Nobody-clause-leads g c =
     nobody c.args.asking.now c.args.parts.now c.args.pending.now c.requires.steady c.requires.ready c.args.id.now
     (publish (so_far c.args.asking.now c.args.parts.now c.args.pending.now) c.args.ops.now) c.in-Nobody.ensures c.refuse-in-Nobody.result
     c.refuse-in-Nobody.ensures
+
+pub returns-in_ok-publish-in-Own-clause-steps : goal.returns-in_ok-publish-in-Own-clause-steps
+returns-in_ok-publish-in-Own-clause-steps g c =
+    let a = c.args.asking.now in
+    let parts = c.args.parts.now in
+    let pending = c.args.pending.now in
+    let serial = c.in-Own.serial in
+    let o = owner_so_far a parts pending c.args.id.now a.client (Own serial) c.in-Own.ensures in
+    publishes_within (so_far a parts pending) c.args.id.now a.client serial o c.args.steps.now c.publish.new.steps c.args.ops.now
+    c.publish.ensures.steps
+
+pub returns-in_err-publish-in-Own-clause-steps : goal.returns-in_err-publish-in-Own-clause-steps
+returns-in_err-publish-in-Own-clause-steps g c =
+    let a = c.args.asking.now in
+    let parts = c.args.parts.now in
+    let pending = c.args.pending.now in
+    let serial = c.in-Own.serial in
+    let o = owner_so_far a parts pending c.args.id.now a.client (Own serial) c.in-Own.ensures in
+    publishes_within (so_far a parts pending) c.args.id.now a.client serial o c.args.steps.now c.publish.new.steps c.args.ops.now
+    c.publish.ensures.steps
+
+pub returns-in-Another-clause-steps : goal.returns-in-Another-clause-steps
+returns-in-Another-clause-steps g c =
+    let state = so_far c.args.asking.now c.args.parts.now c.args.pending.now in
+    publishes_none state c.args.asking.now.client (session_with_id c.args.id.now state.sessions) c.args.steps.now c.args.ops.now
+
+pub returns-in-Nobody-clause-steps : goal.returns-in-Nobody-clause-steps
+returns-in-Nobody-clause-steps g c =
+    let state = so_far c.args.asking.now c.args.parts.now c.args.pending.now in
+    publishes_none state c.args.asking.now.client (session_with_id c.args.id.now state.sessions) c.args.steps.now c.args.ops.now

@@ -1,14 +1,17 @@
-use Rattle.std.proofs.Common.{◌≡◌, ◌∙◌, ap, sym, ℕ, List, [], true, false}
+use Rattle.std.proofs.Common.{◌≡◌, ◌∙◌, ap, sym, subst, ℕ, List, [], true, false}
 use Rattle.ifmap_changes.specs.Between.{Asking}
+use Rattle.ifmap_changes.specs.Bounds.{IsTakenWithin}
 use Rattle.ifmap_graph.specs.Seen.{rows_now}
 use Rattle.ifmap_machine.specs.Telling.{overflow, tell}
 use Rattle.ifmap_publish.specs.declared.who.Who.TheVariants.{Publisher}
 use Rattle.ifmap_publish.specs.Retract.{retract}
 use Rattle.ifmap_changes.specs.Between.{left, so_far}
 use Rattle.ifmap_core.proofs.Cases.{accepts, another, live_after, nobody, own_left, owner_so_far, purges, purges_not, says}
+use Rattle.ifmap_core.proofs.Spending.{purges_none, purges_within}
 use Rattle.ifmap_core.proofs.answering.purge.Goals as goal
 use Rattle.ifmap_core.specs.declared.owning.Owner.TheVariants.{Own}
 use Rattle.ifmap_machine.specs.declared.events.Answer.TheVariants as the_answer
+use Rattle.ifmap_session.specs.Sessions.{session_with_id}
 use Rattle.ifmap_machine.specs.Step.{purge, refusal}
 use Rattle.ifmap_replies.specs.declared.replies.Reply.TheVariants as the_reply
 use Rattle.ifmap_ident.specs.declared.codes.Code.TheVariants.{AccessDenied}
@@ -56,3 +59,49 @@ returns-in-Nobody-clause-leads g c =
     (purge (so_far c.args.asking.now c.args.parts.now c.args.pending.now) c.args.publisher.now) c.in-Nobody.ensures
     c.refuse-in-Nobody.result
     c.refuse-in-Nobody.ensures
+
+pub returns-in_ok-take_away-in-Own-clause-steps : goal.returns-in_ok-take_away-in-Own-clause-steps
+returns-in_ok-take_away-in-Own-clause-steps g c =
+    let a = c.args.asking.now in
+    let parts = c.args.parts.now in
+    let pending = c.args.pending.now in
+    let serial = c.in-Own.serial in
+    let o = owner_so_far a parts pending c.args.id.now a.client (Own serial) c.in-Own.ensures in
+    let client = ap (λ (x : Asking). x.client) c.asking.view_is in
+    purges_within (so_far a parts pending) c.args.id.now a.client serial o c.args.steps.now c.take_away.new.steps c.args.publisher.now
+    (c.equals.ensures.0 c.if-not-equals.false ∙ c.text.ensures.text ∙ client)
+    (subst (λ (t : List ℕ). IsTakenWithin (Publisher t) (so_far a parts pending) c.args.steps.now c.take_away.new.steps)
+    (c.in_ok-copy-in-Own.ensures ∙ client) c.take_away.ensures.steps)
+
+pub returns-in_err-take_away-in-Own-clause-steps : goal.returns-in_err-take_away-in-Own-clause-steps
+returns-in_err-take_away-in-Own-clause-steps g c =
+    let a = c.args.asking.now in
+    let parts = c.args.parts.now in
+    let pending = c.args.pending.now in
+    let serial = c.in-Own.serial in
+    let o = owner_so_far a parts pending c.args.id.now a.client (Own serial) c.in-Own.ensures in
+    let client = ap (λ (x : Asking). x.client) c.asking.view_is in
+    purges_within (so_far a parts pending) c.args.id.now a.client serial o c.args.steps.now c.take_away.new.steps c.args.publisher.now
+    (c.equals.ensures.0 c.if-not-equals.false ∙ c.text.ensures.text ∙ client)
+    (subst (λ (t : List ℕ). IsTakenWithin (Publisher t) (so_far a parts pending) c.args.steps.now c.take_away.new.steps)
+    (c.in_ok-copy-in-Own.ensures ∙ client) c.take_away.ensures.steps)
+
+pub returns-in_err-copy-in-Own-clause-steps : goal.returns-in_err-copy-in-Own-clause-steps
+returns-in_err-copy-in-Own-clause-steps g c =
+    let state = so_far c.args.asking.now c.args.parts.now c.args.pending.now in
+    purges_none state c.args.asking.now.client (session_with_id c.args.id.now state.sessions) c.args.steps.now c.args.publisher.now
+
+pub returns-then-not-equals-clause-steps : goal.returns-then-not-equals-clause-steps
+returns-then-not-equals-clause-steps g c =
+    let state = so_far c.args.asking.now c.args.parts.now c.args.pending.now in
+    purges_none state c.args.asking.now.client (session_with_id c.args.id.now state.sessions) c.args.steps.now c.args.publisher.now
+
+pub returns-in-Another-clause-steps : goal.returns-in-Another-clause-steps
+returns-in-Another-clause-steps g c =
+    let state = so_far c.args.asking.now c.args.parts.now c.args.pending.now in
+    purges_none state c.args.asking.now.client (session_with_id c.args.id.now state.sessions) c.args.steps.now c.args.publisher.now
+
+pub returns-in-Nobody-clause-steps : goal.returns-in-Nobody-clause-steps
+returns-in-Nobody-clause-steps g c =
+    let state = so_far c.args.asking.now c.args.parts.now c.args.pending.now in
+    purges_none state c.args.asking.now.client (session_with_id c.args.id.now state.sessions) c.args.steps.now c.args.publisher.now

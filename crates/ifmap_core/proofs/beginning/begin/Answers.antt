@@ -1,6 +1,7 @@
 use Rattle.std.proofs.Common.{◌∙◌, ap}
-use Rattle.ifmap_changes.specs.Between.{Asking}
+use Rattle.ifmap_changes.specs.Between.{Asking, so_far}
 use Rattle.ifmap_core.proofs.Begun.{begins}
+use Rattle.ifmap_core.proofs.Spending.{former_none, former_within}
 use Rattle.ifmap_core.proofs.beginning.begin.Goals as goal
 
 pub returns-clause-leads : goal.returns-clause-leads
@@ -13,3 +14,21 @@ returns-clause-leads g c =
     c.prepare.ensures.same c.in_ok-take_away_former.ensures.turned.sessions c.in_ok-opening.ensures.room c.former_of-former.ensures.live
     c.in_ok-take_away_former.ensures.told c.in_ok-take_away_former.ensures.steady c.in_ok-take_away_former.ensures.ready
     c.in_ok-take_away_former.ensures.bare
+
+pub returns-in_err-opening-clause-steps : goal.returns-in_err-opening-clause-steps
+returns-in_err-opening-clause-steps g c =
+    former_none _ (so_far c.args.asking.now c.args.parts.now c.args.pending.now) c.args.steps.now
+
+pub returns-in_err-publisher-clause-steps : goal.returns-in_err-publisher-clause-steps
+returns-in_err-publisher-clause-steps g c =
+    former_none _ (so_far c.args.asking.now c.args.parts.now c.args.pending.now) c.args.steps.now
+
+pub returns-in_err-take_away_former-clause-steps : goal.returns-in_err-take_away_former-clause-steps
+returns-in_err-take_away_former-clause-steps g c =
+    former_within c.args.asking.now c.args.parts.now c.args.pending.now c.prepare.new.self c.prepare.ensures.same c.former_of-former.result
+    c.args.steps.now c.take_away_former.new.steps c.former_of-former.ensures.serial c.take_away_former.ensures.steps
+
+pub returns-clause-steps : goal.returns-clause-steps
+returns-clause-steps g c =
+    former_within c.args.asking.now c.args.parts.now c.args.pending.now c.prepare.new.self c.prepare.ensures.same c.former_of-former.result
+    c.args.steps.now c.take_away_former.new.steps c.former_of-former.ensures.serial c.take_away_former.ensures.steps

@@ -1,7 +1,8 @@
 use Rattle.std.proofs.Common.{sym, ◌∙◌, refl}
-use Rattle.ifmap_changes.specs.Between.{AreKept, AreTurned}
+use Rattle.ifmap_changes.specs.Between.{AreKept, AreTurned, so_far}
 use Rattle.ifmap_core.proofs.Begun.{full_leads}
 use Rattle.ifmap_core.proofs.Exits.{always_ok, on_err}
+use Rattle.ifmap_core.proofs.Spending.{begun_none, begun_within}
 use Rattle.ifmap_core.proofs.Turned.{stays_kept, stays_turned}
 use Rattle.ifmap_core.proofs.beginning.new_session.Goals as goal
 
@@ -20,3 +21,12 @@ returns-then-is_full-clause-turned g c =
 pub returns-then-is_full-clause-kept : goal.returns-then-is_full-clause-kept
 returns-then-is_full-clause-kept g c =
     on_err c.refuse.result (AreKept c.args.parts.now c.args.parts.now) (stays_kept c.args.parts.now c.requires.steady)
+
+pub returns-then-is_full-clause-steps : goal.returns-then-is_full-clause-steps
+returns-then-is_full-clause-steps g c =
+    begun_none (so_far c.args.asking.now c.args.parts.now c.args.pending.now) c.args.asking.now.client c.args.steps.now
+
+pub returns-clause-steps : goal.returns-clause-steps
+returns-clause-steps g c =
+    begun_within (so_far c.args.asking.now c.args.parts.now c.args.pending.now) c.args.asking.now.client c.args.steps.now c.begin.new.steps
+    (sym (c.is_full.ensures.full c.args.parts.now c.args.pending.now refl) ∙ c.if-is_full.false) c.begin.ensures.steps

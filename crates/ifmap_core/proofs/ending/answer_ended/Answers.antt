@@ -1,7 +1,8 @@
-use Rattle.std.proofs.Common.{sym, ◌∙◌, ap}
+use Rattle.std.proofs.Common.{◌++◌, sym, ◌∙◌, ap}
 use Rattle.ifmap_core.proofs.Expiring.{can_back, can_settle_later}
 use Rattle.ifmap_core.proofs.ending.answer_ended.Goals as goal
 use Rattle.ifmap_core.specs.Outcomes.{applied}
+use Rattle.ifmap_graph.specs.Out.{items_of}
 
 pub settle_ended-requires-clause-settle : goal.settle_ended-requires-clause-settle
 settle_ended-requires-clause-settle g c =
@@ -23,3 +24,8 @@ pub returns-in-Err-clause-kept : goal.returns-in-Err-clause-kept
 returns-in-Err-clause-kept g c = λ before sound numbers back.
     c.undo_made.ensures.back before sound
     (can_back c.ways_stay.ensures c.args.ending.made before c.args.parts.now c.answer.new.parts numbers back c.in-Err.ensures.kept)
+
+pub returns-in-Ok-clause-lean : goal.returns-in-Ok-clause-lean
+returns-in-Ok-clause-lean g c = λ before back rest l.
+    c.finish.ensures.lean rest (c.settle_ended.ensures.lean rest
+    (c.in-Ok.ensures.turned.lean (items_of c.args.ending.made.undo.plan.changes ++ rest) (back.lean rest l)))

@@ -15,9 +15,12 @@ returns-clause-can c =
     let new = c.settle_made.new.parts in
     let s = c.settle_made.ensures.settled in
     can_settled c.args.asking.now old new c.args.pending.now s
-    (keeps_there c.same_links_keep_subscriptions.ensures old.graph new.graph c.tell_view.ensures c.tell_view-2.ensures s.rows s.links
+    (keeps_there c.same_links_keep_subscriptions.ensures old.graph new.graph c.is_view.ensures c.is_view-2.ensures s.rows s.links
     (shares_fewer old.graph new.graph s.numbers)) (c.settle_made.ensures.so_far c.args.asking.now c.args.pending.now) c.args.outcome.now
     (c.settle_made.ensures.steady (held_by c.args.outcome.now) c.requires.steady) c.requires.can
 
 pub returns-clause-ready : goal.returns-clause-ready
 returns-clause-ready c = c.settle_made.ensures.ready c.args.asking.now c.args.pending.now c.requires.ready
+
+pub returns-clause-lean : goal.returns-clause-lean
+returns-clause-lean c = c.settle_made.ensures.lean

@@ -16,6 +16,7 @@ returns-in-Say c =
           c.args.parts.now.sessions.live c.args.parts.now.standing.items m s n t c.in-Say.answer;
       parts = parts_moved c.args.parts.now c.args.parts.now.sessions would would.ordered would.within;
       rows = refl;
+      lean = λ rest l. l;
     }
 
 pub returns-in-Accept : goal.returns-in-Accept
@@ -34,6 +35,7 @@ returns-in-Accept c =
           (subst AreWithin (sym c.renew.ensures.changes.live)
           (within_renewed c.in-Accept.serial c.args.moment c.args.parts.now.sessions.live would.within));
       rows = refl;
+      lean = λ rest l. l;
     }
 
 pub returns-in-End : goal.returns-in-End
@@ -50,6 +52,7 @@ returns-in-End c =
           (subst AreWithin (sym c.end.ensures.live)
           (within_left (c.in-End.serial ∷ []) c.args.parts.now.sessions.live would.within));
       rows = refl;
+      lean = λ rest l. l;
     }
 
 pub returns-in-Open : goal.returns-in-Open
@@ -75,6 +78,7 @@ returns-in-Open c =
           (subst AreWithin (sym c.open-session.ensures.live)
           (within_begun c.in-Open.opening c.in-Open.limit c.args.moment c.end_former.new.sessions.live can.0.wide within));
       rows = refl;
+      lean = λ rest l. l;
     }
 
 pub returns-in-Rename : goal.returns-in-Rename
@@ -94,6 +98,7 @@ returns-in-Rename c =
           c.renew-in-Rename.new.self would.ordered would.within c.is_table.ensures.rising can.0.session can.1 one.0 one.1
           c.rename_each.ensures.renamed c.rename_each.ensures.rest c.renew-in-Rename.ensures.changes.live;
       rows = c.rename_each.ensures.renamed.rows;
+      lean = c.rename_each.ensures.renamed.lean;
     }
 
 pub returns-in-Poll : goal.returns-in-Poll
@@ -114,4 +119,5 @@ returns-in-Poll c =
           (subst AreWithin (sym c.tell_queue.ensures.live) (within_first c.in-Poll.again c.in-Poll.serial c.args.moment live
           (within_emptied c.in-Poll.serial c.args.parts.now.sessions.live would.within)));
       rows = refl;
+      lean = λ rest l. l;
     }

@@ -63,3 +63,6 @@ returns-clause-answer c =
     (c.apply.ensures.rows ∙ c.remove_gone.ensures.rows) (c.apply.ensures.answer (so_far c.args.asking.now old pending)
     (sym (ap (λ (a : Asking). a.moment) c.asking.view_is)) (sym live)
     (sym counter) (sym (ap (map shown) standing)))
+
+pub returns-clause-lean : goal.returns-clause-lean
+returns-clause-lean c = λ rest l. c.apply.ensures.lean rest (c.remove_gone.ensures.lean rest l)

@@ -18,6 +18,7 @@ loop-at-preserved c = elim c.if-gone-at.branch [
         c.args.graph.now c.loop-at.graph w.release_start.new.graph (sym w.index-standing-at.is) w.if-gone-at.true c.loop-at.invariant.steady
         w.release_start.ensures.steady;
     rows = w.release_start.ensures.lets_go.rows ∙ c.loop-at.invariant.rows;
+    lean = λ rest l. w.release_start.ensures.lets_go.lean rest (c.loop-at.invariant.lean rest l);
     kept = numbered_next c.args.graph.now c.loop-at.graph w.release_start.new.graph c.loop-at.invariant.kept
         w.release_start.ensures.lets_go.kept
         w.release_start.ensures.lets_go.numbers;
@@ -26,6 +27,7 @@ loop-at-preserved c = elim c.if-gone-at.branch [
     steady = stayed_next c.args.gone.now c.args.standing.now c.loop-at.at c.args.graph.now c.loop-at.graph c.requires.flags
         c.loop-at-test.true w.if-gone-at.false c.loop-at.invariant.steady;
     rows = c.loop-at.invariant.rows;
+    lean = c.loop-at.invariant.lean;
     kept = c.loop-at.invariant.kept;
   })
 ]

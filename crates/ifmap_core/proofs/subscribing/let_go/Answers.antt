@@ -12,7 +12,7 @@ returns-clause-ready c =
     let old = c.args.parts.now in
     ready_there c.args.asking.now old (record { graph = c.release_all.new.graph; sessions = old.sessions; standing = old.standing })
     c.args.pending.now refl refl
-    (keeps_there c.same_links_keep_subscriptions.ensures old.graph c.release_all.new.graph c.tell_view.ensures c.tell_view-2.ensures
+    (keeps_there c.same_links_keep_subscriptions.ensures old.graph c.release_all.new.graph c.is_view.ensures c.is_view-2.ensures
     c.release_all.ensures.rows c.release_all.ensures.links (shares_fewer old.graph c.release_all.new.graph c.release_all.ensures.numbers))
     (c.release_all.ensures.steady old.standing.items c.requires.steady) c.requires.ready
 
@@ -25,6 +25,7 @@ returns-clause-so_far c =
 pub returns-clause-turned : goal.returns-clause-turned
 returns-clause-turned c = record {
   waits = c.release_all.ensures.waits;
+  lean = c.release_all.ensures.lean;
   searches = searched_itself c.args.parts.now.standing.items;
   sessions = sessions_themselves c.args.parts.now.sessions;
 }
@@ -36,6 +37,7 @@ returns-clause-kept c = record {
     rows = c.release_all.ensures.rows;
     links = c.release_all.ensures.links;
     numbers = shares_fewer c.args.parts.now.graph c.release_all.new.graph c.release_all.ensures.numbers;
+    lean = c.release_all.ensures.lean;
     standing = kept_itself c.args.parts.now.standing.items;
     sessions = sessions_themselves c.args.parts.now.sessions;
   };

@@ -24,7 +24,7 @@ returns-clause-stand g c =
     if_ok (λ r. IsOfSession n r) (λ r. AllByRecursion (λ x. IsKept (sight_now h) x.subscription) (option_to_list r.standing))
     (λ r. (standing : List Standing) → IsSteady p.graph standing → IsSteady h (standing ++ option_to_list r.standing))
     (λ r. CanStand n (record p { graph = h }) (made ++ r ∷ [])) c.begin_name-begun.result e.session e.kept e.steady
-    (λ r s k steady. stand_more c.same_links_keep_subscriptions.ensures n p h made c.tell_view.ensures c.tell_view-2.ensures e.holds
+    (λ r s k steady. stand_more c.same_links_keep_subscriptions.ensures n p h made c.is_view.ensures c.is_view-2.ensures e.holds
     c.requires.stand r s k (steady (p.standing.items ++ begun_by made) c.requires.stand.steady))
 
 pub returns-clause-err : goal.returns-clause-err
@@ -36,11 +36,11 @@ returns-clause-err g c =
     let e = c.begin_name-begun.ensures in
     on_err ((standing : List Standing) → IsSteady p.graph standing → IsSteady h standing) (CanStand n (record p { graph = h }) made)
     c.begin_name-begun.result e.err
-    (λ steady. stand_still c.same_links_keep_subscriptions.ensures n p h made c.tell_view.ensures c.tell_view-2.ensures e.holds
+    (λ steady. stand_still c.same_links_keep_subscriptions.ensures n p h made c.is_view.ensures c.is_view-2.ensures e.holds
     c.requires.stand (steady (p.standing.items ++ begun_by made) c.requires.stand.steady))
 
 pub returns-clause-ready : goal.returns-clause-ready
 returns-clause-ready g c =
     stays_ready c.same_links_keep_subscriptions.ensures c.args.scene.now.serial c.args.parts.now c.begin_name-begun.new.graph
-    c.args.made.now c.tell_view.ensures c.tell_view-2.ensures c.begin_name-begun.ensures.holds c.requires.stand c.args.scene.now.asking.now
+    c.args.made.now c.is_view.ensures c.is_view-2.ensures c.begin_name-begun.ensures.holds c.requires.stand c.args.scene.now.asking.now
     c.args.scene.now.pending.now c.requires.ready

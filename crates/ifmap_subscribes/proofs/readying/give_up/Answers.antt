@@ -20,6 +20,7 @@ returns-clause-given_up c =
       numbers = shares_before p.graph c.release_all.new.graph e.numbers;
       backs = e.backs;
       waits = e.waits;
+      lean = e.lean;
       sessions = refl;
       standing = refl;
     }

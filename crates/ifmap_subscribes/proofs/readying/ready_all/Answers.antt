@@ -1,8 +1,10 @@
-use Rattle.std.proofs.Common.{◌≡◌, ◌∙◌, ◌<◌, subst, length, get_or}
+use Rattle.std.proofs.Common.{◌≡◌, ◌∙◌, ◌<◌, subst, drop, length, get_or}
 use Rattle.ifmap_graph.specs.Seen.{rows_now}
 use Rattle.ifmap_machine.specs.Subscribing.{subscribe_ops}
 use Rattle.ifmap_subscribes.proofs.OfScene.{rest_made}
 use Rattle.ifmap_subscribes.proofs.Ready.{holds_on}
+use Rattle.ifmap_subscribes.proofs.Spending.{one_more, one_stops}
+use Rattle.ifmap_subscribes.specs.Bounds.{no_ops}
 use Rattle.ifmap_subscribes.specs.Readying.{told_then}
 use Rattle.ifmap_subscribes.proofs.readying.ready_all.Goals as goal
 
@@ -26,4 +28,23 @@ loop-op-preserved g c =
       ops = rest_made s p l.parts l.invariant.holds ops l.op-index op low at l.readying
           (subscribe_ops (rows_now p.graph) s.serial ops (told_then s p c.args.readying.now)) c.ready_op.new.readying
           c.in_ok-ready_op.ensures.op l.invariant.ops;
+      steps = one_more (rows_now l.parts.graph) (rows_now p.graph) l.invariant.holds.rows ops l.op-index op low at c.args.steps.now l.steps
+          c.ready_op.new.steps l.invariant.steps c.ready_op.ensures.steps;
     }
+
+pub returns-in_err-ready_op-clause-steps : goal.returns-in_err-ready_op-clause-steps
+returns-in_err-ready_op-clause-steps g c =
+    let p = c.args.parts.now in
+    let ops = c.args.ops.now in
+    let l = c.loop-op in
+    let op = c.op-item.result in
+    let items = c.deref-op-items.ensures.value ∙ c.ops.view_is in
+    let low = subst (λ xs. l.op-index < length xs) items c.loop-op-test.true in
+    let at = subst (λ xs. op ≡ get_or xs l.op-index op) items c.op-item.is in
+    one_stops (rows_now l.parts.graph) (rows_now p.graph) l.invariant.holds.rows ops l.op-index op low at c.args.steps.now l.steps
+    c.ready_op.new.steps l.invariant.steps c.ready_op.ensures.steps
+
+pub returns-clause-steps : goal.returns-clause-steps
+returns-clause-steps g c =
+    let l = c.loop-op in
+    l.invariant.steps l.steps (no_ops (rows_now c.args.parts.now.graph) (drop l.op-index c.args.ops.now) l.steps)

@@ -46,5 +46,8 @@ returns-clause-backs c = c.loop-renaming.invariant.released.backs
 pub returns-clause-waits : goal.returns-clause-waits
 returns-clause-waits c = c.loop-renaming.invariant.released.waits
 
+pub returns-clause-lean : goal.returns-clause-lean
+returns-clause-lean c = c.loop-renaming.invariant.released.lean
+
 pub returns-clause-kept : goal.returns-clause-kept
 returns-clause-kept c = c.loop-renaming.invariant.released.kept

@@ -7,7 +7,7 @@ release-requires c = can_release c.args.graph.now c.args.one.now c.requires.0 c.
 
 pub returns-clause-steady : goal.returns-clause-steady
 returns-clause-steady c =
-    released_steady c.args.graph.now c.release.new.self c.args.one.now c.bytes_tell_identifiers_apart.ensures c.tell_view.ensures
+    released_steady c.args.graph.now c.release.new.self c.args.one.now c.bytes_tell_identifiers_apart.ensures c.is_view.ensures
     c.release.ensures.own c.release.ensures.stays (rows_same c.args.graph.now c.release.new.self c.release.ensures.shelves)
     c.release.ensures.still
 
@@ -21,7 +21,8 @@ returns-clause-lets_go c =
       numbers = c.release.ensures.numbers;
       backs = c.release.ensures.backs;
       waits = c.release.ensures.waits;
+      lean = c.release.ensures.lean;
       kept = λ sub key kept.
-          c.same_links_keep_subscriptions.ensures (sight_now c.args.graph.now) (sight_now c.release.new.self) sub c.tell_view.ensures
-          c.tell_view-2.ensures rows links (numbers_shared c.args.graph.now c.release.new.self c.release.ensures.numbers) key kept;
+          c.same_links_keep_subscriptions.ensures (sight_now c.args.graph.now) (sight_now c.release.new.self) sub c.is_view.ensures
+          c.is_view-2.ensures rows links (numbers_shared c.args.graph.now c.release.new.self c.release.ensures.numbers) key kept;
     }

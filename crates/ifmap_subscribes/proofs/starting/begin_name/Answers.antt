@@ -1,6 +1,8 @@
-use Rattle.std.proofs.Common.{List}
+use Rattle.std.proofs.Common.{List, inl, arith}
 use Rattle.ifmap_changes.specs.Between.{IsSteady}
+use Rattle.ifmap_graph.specs.Seen.{rows_now}
 use Rattle.ifmap_standing.specs.declared.standing.Standing.{Standing}
+use Rattle.ifmap_subscribes.proofs.Spending.{spanned_as}
 use Rattle.ifmap_subscribes.proofs.Starts.{ends_steady, held_alone, held_and_let_go, held_steady, on_error, unheld_steady}
 use Rattle.ifmap_subscribes.proofs.starting.begin_name.Goals as goal
 
@@ -39,7 +41,7 @@ pub returns-in-Ok-clause-holds : goal.returns-in-Ok-clause-holds
 returns-in-Ok-clause-holds g c =
     let h = c.in_ok-number.ensures in
     held_and_let_go c.args.graph.now c.hold.new.self c.release_unused.new.graph c.in_ok-number.number
-    (held_alone c.args.graph.now c.hold.new.self h.shelves h.links h.kept h.backs h.waits) c.release_unused.ensures.released h.again
+    (held_alone c.args.graph.now c.hold.new.self h.shelves h.links h.kept h.backs h.waits h.lean) c.release_unused.ensures.released h.again
     c.release_unused.ensures.stays
 
 pub returns-in-Err-clause-err : goal.returns-in-Err-clause-err
@@ -53,5 +55,22 @@ pub returns-in-Err-clause-holds : goal.returns-in-Err-clause-holds
 returns-in-Err-clause-holds g c =
     let h = c.in_ok-number.ensures in
     held_and_let_go c.args.graph.now c.hold.new.self c.release_held.new.graph c.in_ok-number.number
-    (held_alone c.args.graph.now c.hold.new.self h.shelves h.links h.kept h.backs h.waits) c.release_held.ensures.released h.again
+    (held_alone c.args.graph.now c.hold.new.self h.shelves h.links h.kept h.backs h.waits h.lean) c.release_held.ensures.released h.again
     c.release_held.ensures.stays
+
+pub returns-in_err-number-clause-steps : goal.returns-in_err-number-clause-steps
+returns-in_err-number-clause-steps g c = inl (omega arith)
+
+pub returns-in-Ok-clause-steps : goal.returns-in-Ok-clause-steps
+returns-in-Ok-clause-steps g c =
+    let h = c.in_ok-number.ensures in
+    let held = held_alone c.args.graph.now c.hold.new.self h.shelves h.links h.kept h.backs h.waits h.lean in
+    spanned_as 4 (rows_now c.hold.new.self) (rows_now c.args.graph.now) c.args.search.now c.args.steps.now c.begin_at.new.steps held.rows
+    c.begin_at.ensures.steps
+
+pub returns-in-Err-clause-steps : goal.returns-in-Err-clause-steps
+returns-in-Err-clause-steps g c =
+    let h = c.in_ok-number.ensures in
+    let held = held_alone c.args.graph.now c.hold.new.self h.shelves h.links h.kept h.backs h.waits h.lean in
+    spanned_as 4 (rows_now c.hold.new.self) (rows_now c.args.graph.now) c.args.search.now c.args.steps.now c.begin_at.new.steps held.rows
+    c.begin_at.ensures.steps

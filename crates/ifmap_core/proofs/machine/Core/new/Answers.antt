@@ -9,5 +9,6 @@ invariant_of-result c = record {
   sound = first_parts (record { graph = c.new-2.result; sessions = c.new-3.result; standing = c.new-4.result }) c.new-2.ensures.still
       (ap (rows_by (list_at now)) c.new-2.ensures.shelves) c.new-2.ensures.own c.new-3.ensures.live
       c.new-4.ensures.items;
+  lean = c.new-2.ensures.lean;
   time = c.requires;
 }

@@ -1,14 +1,17 @@
-use Rattle.std.proofs.Common.{rules, ◌≡◌, ◌↔◌, ◌⊎◌, sym, ◌∙◌, ap, subst, arith}
+use Rattle.std.proofs.Common.{rules, ◌≡◌, ◌↔◌, ◌⊎◌, sym, ◌∙◌, ap, subst, max, arith}
 use Rattle.std.proofs.lemmas.Grind.{common_steps}
+use Rattle.ifmap_core.specs.Bounds.{IsEventWithin}
 use Rattle.ifmap_core.specs.Causes.{AsksForNoneLeft, FindsTooMuch, HasNoRoomForName, IsLoss, IsRefusal, NamesAnothersSession, NamesNoSession, PollsNoSession, PollsNothing, PurgesAnother, state_for}
 use Rattle.ifmap_core.proofs.Answered.{heard, held, told_end}
 use Rattle.ifmap_core.proofs.Exits.{on_err}
 use Rattle.ifmap_core.proofs.Turned.{back_state}
 use Rattle.ifmap_core.proofs.Refusals.{access_denied, invalid_session, refusal_leaves, system_error, too_big}
+use Rattle.ifmap_core.proofs.Spending.{at_moment}
 use Rattle.ifmap_core.proofs.machine.Core.step.Goals as goal
 use Rattle.ifmap_ident.specs.declared.codes.Code.TheVariants.{AccessDenied, InvalidSessionID, SearchResultsTooBig, SystemError}
 use Rattle.ifmap_machine.specs.declared.events.Answer.{Answer}
 use Rattle.ifmap_machine.specs.declared.events.Answer.TheVariants as the_answer
+use Rattle.ifmap_machine.specs.Events.{Event}
 use Rattle.ifmap_machine.specs.State.{State}
 use Rattle.ifmap_replies.specs.declared.replies.Reply.TheVariants as the_reply
 
@@ -77,3 +80,19 @@ returns-in_err-answer-clause-err g c =
     on_err c.from_residual.result _
     (back_state c.self.inside.ttl c.self.inside.moment c.self.inside.parts c.answer_at.new.parts c.in_err-answer.ensures.kept
     ∙ c.self.view_is)
+
+pub returns-in_err-answer-clause-steps : goal.returns-in_err-answer-clause-steps
+returns-in_err-answer-clause-steps g c =
+    let event = c.args.event.now in
+    subst (λ (s : State). IsEventWithin s event c.args.steps.now c.answer_at.new.steps)
+    (at_moment c.self.inside.ttl c.self.inside.moment c.later-moment.result event.moment c.self.inside.parts c.args.self.now c.self.view_is
+    (c.later-moment.ensures ∙ ap (λ (e : Event). max c.self.inside.moment e.moment) c.event.view_is))
+    c.answer_at.ensures.steps
+
+pub returns-clause-steps : goal.returns-clause-steps
+returns-clause-steps g c =
+    let event = c.args.event.now in
+    subst (λ (s : State). IsEventWithin s event c.args.steps.now c.answer_at.new.steps)
+    (at_moment c.self.inside.ttl c.self.inside.moment c.later-moment.result event.moment c.self.inside.parts c.args.self.now c.self.view_is
+    (c.later-moment.ensures ∙ ap (λ (e : Event). max c.self.inside.moment e.moment) c.event.view_is))
+    c.answer_at.ensures.steps

@@ -1,0 +1,100 @@
+-- The steps of a change. What is told to each that is not gone is told to all that stand (`within_kept`), and a change that is out shows
+-- what is before it and after it with one numbering (`told_within`). Then the end of a session (`ended_within`).
+use Rattle.std.proofs.Common.{◌≡◌, refl, sym, ◌∙◌, subst, inl, inr, ℕ, ◌≤◌, Bool, true, false, Some, List, [], ◌∷◌, map, arith}
+use Rattle.std.specs.List.{AllByRecursion, zip}
+use Rattle.ifmap_delta.specs.Sights.{Sight}
+use Rattle.ifmap_graph.specs.declared.changes.Ready.{Ready}
+use Rattle.ifmap_graph.specs.Held.{Held}
+use Rattle.ifmap_graph.specs.Seen.{rows_next, rows_now}
+use Rattle.ifmap_machine.specs.Ending.{without_standing}
+use Rattle.ifmap_machine.specs.State as machine
+use Rattle.ifmap_machine.specs.State.{State}
+use Rattle.ifmap_plans.specs.declared.plans.Plan.{Plan}
+use Rattle.ifmap_plans.specs.Plans.{IsAfter}
+use Rattle.ifmap_publish.specs.declared.who.Who.TheVariants.{Sessions}
+use Rattle.ifmap_standing.specs.Bounds.{IsWithinEach}
+use Rattle.ifmap_standing.specs.declared.standing.Standing.{Standing}
+use Rattle.ifmap_standing.specs.Standing.{shown}
+use Rattle.ifmap_tellings.specs.declared.tellings.Pending.{Pending}
+use Rattle.ifmap_tellings.specs.Tellings.{kept_of}
+use Rattle.ifmap_view.specs.declared.attachments.Attachment.{Attachment}
+use Rattle.ifmap_view.specs.Attachments.{IsGraph}
+use Rattle.ifmap_changes.specs.declared.parts.Parts.{Parts}
+use Rattle.ifmap_changes.specs.Between.{Asking, IsSteady, sight_now, so_far}
+use Rattle.ifmap_changes.specs.Bounds.{IsEndedWithin, IsTakenWithin, IsToldWithin, IsWithinAll, IsWithinOne}
+use Rattle.ifmap_changes.specs.Changes.{IsBegun, sight_next}
+use Rattle.ifmap_changes.proofs.Numbers.{Tells}
+use Rattle.ifmap_changes.proofs.OneGraph.{one_graph}
+use Rattle.ifmap_changes.proofs.Starts.{numbered_more}
+
+module _ (old new : Sight) where
+  -- from more steps at the beginning
+  lower_one : (x : machine.Standing) (b a c : ℕ) → b ≤ a → IsWithinOne old new x b c → IsWithinOne old new x a c
+  lower_one x b a c less t = (
+    t.0,
+    t.1,
+    record {
+      numbers = t.2.numbers;
+      distinct = t.2.distinct;
+      among = t.2.among;
+      bound = omega (arith, less, t.2.bound);
+    },
+  )
+
+  lower : (xs : List machine.Standing) (b a c : ℕ) → b ≤ a → IsWithinAll old new xs b c → IsWithinAll old new xs a c
+  lower [] b a c less t = omega (arith, less, t)
+  lower (x ∷ xs) b a c less t = (t.0, lower_one x b a t.0 less t.1, t.2)
+
+  -- what is gone takes no step
+  within_kept : (gone : List Bool) (xs : List Standing) (a b : ℕ)
+      → AllByRecursion (λ (x : Standing). old.id_at x.subscription.region.start ≡ Some x.subscription.search.start) xs
+      → IsWithinEach old new (zip gone xs) a b → IsWithinAll old new (map shown (kept_of gone xs)) a b
+  within_kept [] xs a b numbered s = s
+  within_kept (g ∷ gone) [] a b numbered s = s
+  within_kept (true ∷ gone) (x ∷ xs) a b numbered s =
+      lower (map shown (kept_of gone xs)) s.0 a b s.1 (within_kept gone xs s.0 b numbered.1 s.2)
+  within_kept (false ∷ gone) (x ∷ xs) a b numbered s =
+      (s.0, (x.subscription.region.start, numbered.0, s.1), within_kept gone xs s.0 b numbered.1 s.2)
+
+-- a change that is out was told to all that stand
+pub told_within : Tells → (a : Asking) (old : Parts) (before : Pending) (ready : Ready) (wanted : Plan) (mid : Held)
+    → IsBegun ready wanted old.graph mid → IsSteady old.graph old.standing.items → (from to : ℕ)
+    → IsWithinEach (sight_now mid) (sight_next mid) (zip before.gone.items old.standing.items) from to
+    → (rows : List Attachment) → IsGraph rows → IsAfter wanted.changes (rows_now old.graph) rows
+    → IsToldWithin rows (so_far a old before) from to
+told_within tells a old before ready wanted mid begun steady from to spent rows graph after =
+    let after_now : IsAfter wanted.changes (rows_now old.graph) (rows_next mid)
+    = subst (λ (was : List Attachment). IsAfter wanted.changes was (rows_next mid)) begun.rows begun.change.after
+    in let one : rows_next mid ≡ rows
+    = one_graph tells (rows_next mid) rows begun.next.graph graph (λ x. after_now x ∙ sym (after x))
+    in inr (
+      sight_now mid,
+      sight_next mid,
+      record { before = begun.now; after = begun.next; rows = begun.rows; next = one; numbers = λ v. refl },
+      within_kept (sight_now mid) (sight_next mid) before.gone.items old.standing.items from to
+          (numbered_more old.graph mid old.standing.items begun.numbers steady.numbered) spent,
+    )
+
+-- as the call says it, of the parts with the change out
+pub each_of : (mid : Held) (xs ys : List Standing) → xs ≡ ys → (gone : List Bool) (from to : ℕ)
+    → IsWithinEach (sight_now mid) (sight_next mid) (zip gone xs) from to
+    → IsWithinEach (sight_now mid) (sight_next mid) (zip gone ys) from to
+each_of mid xs ys same gone from to spent =
+    subst (λ (l : List Standing). IsWithinEach (sight_now mid) (sight_next mid) (zip gone l) from to) same spent
+
+-- ---- the end of a session
+
+pub ended_none : (serial : ℕ) (state : State) (n : ℕ) → IsEndedWithin (serial ∷ []) state n n
+ended_none serial state n = (n, omega arith, inl (omega arith))
+
+-- its subscriptions are marked, and what was to stay as long as it is taken away
+pub ended_within : (a : Asking) (parts : Parts) (before marked : Pending) (serial : ℕ) (serials : List ℕ) (from to : ℕ)
+    → serials ≡ serial ∷ []
+    → map shown (kept_of marked.gone.items parts.standing.items)
+    ≡ without_standing (serial ∷ []) (map shown (kept_of before.gone.items parts.standing.items))
+    → IsTakenWithin (Sessions serials) (so_far a parts marked) from to
+    → IsEndedWithin (serial ∷ []) (so_far a parts before) from to
+ended_within a parts before marked serial serials from to one left spent =
+    subst (λ (xs : List machine.Standing). IsTakenWithin (Sessions (serial ∷ []))
+    (record (so_far a parts marked) { standing = xs }) from to) left
+    (subst (λ (ns : List ℕ). IsTakenWithin (Sessions ns) (so_far a parts marked) from to) one spent)
