@@ -1,0 +1,15 @@
+-- The words after the program's name are what the list gives after its first.
+use Rattle.std.proofs.Common.{ap, ◌∙◌}
+use Rattle.std.proofs.lemmas.Iterator.{items_from_collect}
+use Rattle.std.proofs.lemmas.Iterator.Adapters.{YieldsList-from_skip, YieldsList-from_vec}
+use Rattle.std.specs.Vec.Iter.{into_iter_items, into_iter_len}
+use Rattle.ifmap_words.proofs.arguments.words_of.Goals as goal
+
+pub returns-in-Ok-clause-some : goal.returns-in-Ok-clause-some
+returns-in-Ok-clause-some c =
+    rw c.in-Ok.is
+    (items_from_collect _ c.collect.ensures.ran
+    (YieldsList-from_skip 1
+    (YieldsList-from_vec (into_iter_items c.in-Ok.args) (ap into_iter_items c.skip.ensures.source)
+    (ap into_iter_len c.skip.ensures.source ∙ c.in-Ok.args.rest.ok.0))
+    c.skip.ensures.count))
