@@ -1,4 +1,4 @@
-//! Tests of a client's script over links in memory.
+//! Tests of a client's script over links in memory and over sockets.
 #![tactic(auto)]
 
 #[cfg(test)]
@@ -7,3 +7,5 @@ mod faults;
 mod makers;
 #[cfg(test)]
 mod scripts;
+#[cfg(test)]
+mod sockets;

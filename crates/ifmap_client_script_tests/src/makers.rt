@@ -8,8 +8,8 @@ use ifmap_io::{MemoryLink, MemorySink, MemorySource};
 use ifmap_meta::ClientName;
 use std::alloc::{AllocError as NoMemory, Global};
 
-// Who asks.
-fn client_of(alloc: Global) -> Result<ClientName, NoMemory> {
+/// Who asks.
+pub fn client_of(alloc: Global) -> Result<ClientName, NoMemory> {
     ClientName::new(Text::from_str(alloc, "c1")?).ok_or(NoMemory)
 }
 

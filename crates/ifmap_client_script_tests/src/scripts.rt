@@ -7,12 +7,13 @@ use ifmap_http::Wire;
 use ifmap_io::{MemoryLink, MemorySink, MemorySource};
 use std::alloc::{AllocError as NoMemory, Global};
 
-const NEW: &str = "<i:newSession xmlns:i='http://www.trustedcomputinggroup.org/2010/IFMAP/2'/>\n";
+pub const NEW: &str =
+    "<i:newSession xmlns:i='http://www.trustedcomputinggroup.org/2010/IFMAP/2'/>\n";
 
-const POLL: &str =
+pub const POLL: &str =
     "<i:poll xmlns:i='http://www.trustedcomputinggroup.org/2010/IFMAP/2' session-id='*'/>\n";
 
-const END: &str =
+pub const END: &str =
     "<i:endSession xmlns:i='http://www.trustedcomputinggroup.org/2010/IFMAP/2' session-id='*'/>\n";
 
 // Bodies as a server writes them, from their results.
@@ -21,13 +22,17 @@ const FRONT: &str =
 
 const BACK: &str = "</n2:response></n1:Body></n1:Envelope>";
 
-const BEGUN: &str =
+pub const BEGUN: &str =
     "<newSessionResult ifmap-publisher-id=\"c1\" max-poll-result-size=\"5000000\" session-id=\"7-a\"/>";
 
-const ENDED: &str = "<endSessionResult/>";
+pub const ENDED: &str = "<endSessionResult/>";
 
-const TOLD: &str =
+pub const TOLD: &str =
     "<pollResult><searchResult name=\"s\"><resultItem><mac-address value=\"00:00:5e:00:53:01\"/><metadata><a x=\"1\"/><b/></metadata></resultItem></searchResult></pollResult>";
+
+// The set `s` after that poll, and one that is not there.
+pub const LISTED: &str =
+    "#2\n<resultItem><mac-address value=\"00:00:5e:00:53:01\"/><metadata><a x=\"1\"/></metadata></resultItem>\n<resultItem><mac-address value=\"00:00:5e:00:53:01\"/><metadata><b/></metadata></resultItem>\nnone\n";
 
 // Requests as they are sent, from what stands in their bodies.
 const ASKED_FRONT: &str =
@@ -41,9 +46,9 @@ const ASKED_END: &str = "<n2:endSession session-id=\"7-a\"/>";
 
 const ASKED_POLL: &str = "<n2:poll session-id=\"7-a\"/>";
 
-// What a sink is to hold: a line as it stands, or the reply with that result.
+/// What a sink is to hold: a line as it stands, or the reply with that result.
 #[derive(Clone, Copy, Debug)]
-enum Piece {
+pub enum Piece {
     Line(&'static str),
     Reply(&'static str),
 }
@@ -116,9 +121,7 @@ static CASES: [Case; 9] = [
         printed: &[
             Piece::Reply(BEGUN),
             Piece::Reply(TOLD),
-            Piece::Line(
-                "#2\n<resultItem><mac-address value=\"00:00:5e:00:53:01\"/><metadata><a x=\"1\"/></metadata></resultItem>\n<resultItem><mac-address value=\"00:00:5e:00:53:01\"/><metadata><b/></metadata></resultItem>\nnone\n",
-            ),
+            Piece::Line(LISTED),
             Piece::Reply(ENDED),
         ],
         first_asked: &[ASKED_NEW, ASKED_END],
@@ -168,7 +171,7 @@ fn push_result(alloc: Global, told: &str, bytes: &mut Vec<u8>) -> Result<(), NoM
     bytes.extend_from_slice(BACK.as_bytes())
 }
 
-fn results_of(alloc: Global, results: &[&str]) -> Result<Vec<u8>, NoMemory> {
+pub fn results_of(alloc: Global, results: &[&str]) -> Result<Vec<u8>, NoMemory> {
     let mut bytes = Vec::new(alloc);
     for one in results {
         push_result(alloc, one, &mut bytes)?;
@@ -224,7 +227,7 @@ fn printed_of(alloc: Global, pieces: &[Piece]) -> Result<Vec<u8>, NoMemory> {
     Ok(bytes)
 }
 
-fn lines_of(alloc: Global, lines: &[&str]) -> Result<Vec<u8>, NoMemory> {
+pub fn lines_of(alloc: Global, lines: &[&str]) -> Result<Vec<u8>, NoMemory> {
     let mut bytes = Vec::new(alloc);
     for line in lines {
         bytes.extend_from_slice(line.as_bytes())?;
@@ -238,7 +241,7 @@ fn has_asked(alloc: Global, wire: Wire<MemoryLink>, asked: &[&str]) -> Result<bo
     Ok(link.held() == bytes.as_slice())
 }
 
-fn has_printed(alloc: Global, sink: &MemorySink, printed: &[Piece]) -> Result<bool, NoMemory> {
+pub fn has_printed(alloc: Global, sink: &MemorySink, printed: &[Piece]) -> Result<bool, NoMemory> {
     let bytes = printed_of(alloc, printed)?;
     Ok(sink.held() == bytes.as_slice())
 }

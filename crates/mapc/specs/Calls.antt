@@ -1,0 +1,17 @@
+-- What the words of the program ask for.
+use Rattle.std.specs.Prelude.{◌≡◌, ℕ, true, List}
+use Rattle.ifmap_heads.specs.Messages.{is_visible}
+use Rattle.ifmap_meta.specs.ClientNames.{IsClientName}
+use Rattle.ifmap_words.specs.Pairs.{IsPair}
+
+-- an address of visible ASCII characters, and the name of a client
+abbrev pub IsAskable : List ℕ → List ℕ → Type 0
+IsAskable address name = (is_visible address ≡ true) × IsClientName name
+
+-- these are the host and the client of a call
+abbrev pub AsksFor : List ℕ → List ℕ → List ℕ → List ℕ → Type 0
+AsksFor address name host client = (host ≡ address) × (client ≡ name) × IsAskable address name
+
+-- `ADDRESS NAME`, neither of them an option
+abbrev pub IsCall : List (List ℕ) → List ℕ → List ℕ → Type 0
+IsCall words host client = IsPair words host client × IsAskable host client

@@ -1,0 +1,60 @@
+//! What the words of the program ask for.
+ghost use Rattle.std.specs.Prelude.{◌≡◌, ◌&&◌, ℕ, List, true, IfNone, IfOk, IfSome, map, nat_lt, string_bytes};
+ghost use Rattle.ifmap_heads.specs.Messages.{is_visible};
+ghost use Rattle.mapc.specs.Calls.{AsksFor, IsAskable, IsCall};
+
+use ifmap_elem::Text;
+use ifmap_meta::ClientName;
+use ifmap_words::two_words;
+use std::alloc::{AllocError as NoMemory, Global};
+
+/// Whom to connect to, and as which client.
+#[derive(Debug, Drop)]
+pub struct Call {
+    /// An address with its port, as posts name their host: visible ASCII characters.
+    pub host: Text,
+    pub client: ClientName,
+    pub ghost visible: { is_visible host ≡ true },
+}
+
+/// The call that the words ask for, `ADDRESS NAME`; `None` exactly where they ask for none.
+pub fn call_of(alloc: Global, words: &[String]) -> Result<Option<Call>, NoMemory>
+    ensures some { IfOk result (λ found. IfSome found (λ call.
+        IsCall (map string_bytes words.now) call.host call.client)) }
+    ensures none { IfOk result (λ found. IfNone found ((host client : List ℕ)
+        → IsCall (map string_bytes words.now) host client → ⊥)) }
+{
+    let Some(pair) = two_words(alloc, "mapc", words)? else {
+        return Ok(None);
+    };
+    call_in(alloc, pair.first, pair.second)
+}
+
+// The call with that address and that name.
+fn call_in(alloc: Global, address: &str, name: &str) -> Result<Option<Call>, NoMemory>
+    ensures some { IfOk result (λ found. IfSome found (λ call.
+        AsksFor address.now name.now call.host call.client)) }
+    ensures none { IfOk result (λ found. IfNone found (IsAskable address.now name.now → ⊥)) }
+{
+    if !is_visible(address) {
+        return Ok(None);
+    }
+    let Some(client) = ClientName::new(Text::from_str(alloc, name)?) else {
+        return Ok(None);
+    };
+    let host = Text::from_str(alloc, address)?;
+    Ok(Some(Call { host, client }))
+}
+
+// The text has visible ASCII characters alone.
+fn is_visible(text: &str) -> bool
+    ensures { result ≡ is_visible text.now }
+{
+    text.as_bytes().iter().all(|b| is_visible_byte(*b))
+}
+
+fn is_visible_byte(byte: u8) -> bool
+    ensures { result ≡ (nat_lt 32 byte && nat_lt byte 127) }
+{
+    32 < byte && byte < 127
+}

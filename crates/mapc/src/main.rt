@@ -1,0 +1,112 @@
+//! The program `mapc`: its words, two connections, the standard streams, and one call.
+#![tactic(auto)]
+
+mod calls;
+mod endings;
+
+ghost use Rattle.std.specs.Prelude.{◌≡◌, IsFalse};
+ghost use Rattle.std.specs.Process.{exit_status};
+ghost use Rattle.ifmap_client_script.specs.Ends.{IsLater, ends, ports};
+ghost use Rattle.ifmap_client_script.specs.Exchanges.{wiring};
+ghost use Rattle.ifmap_client_script.specs.Promises.{Promises};
+ghost use Rattle.mapc.specs.Statuses.{status_of};
+
+use crate::calls::{Call, call_of};
+use crate::endings::{End, status_of};
+use ifmap_client_script::{Outcome, run_script};
+use ifmap_http::Wire;
+use ifmap_io::{Link, Sink, Source, StdSink, StdSource, TcpLink};
+use ifmap_words::words_of;
+use std::alloc::Global;
+use std::io::ErrorKind;
+use std::net::{Net, TcpStream};
+use std::process::ExitCode;
+use std::{env, io};
+
+fn main(rt: HostRuntime) -> ExitCode {
+    let end = match words_of(rt.alloc(), env::args(&rt)) {
+        Ok(words) => run(&rt, words.as_slice()),
+        Err(_) => End::Script(Outcome::NoMemory),
+    };
+    if end != End::Script(Outcome::Done) {
+        let _told = eprintln!(rt; "{end}");
+    }
+    exit_code_of(end)
+}
+
+// All that the program does with its words.
+fn run(rt: &HostRuntime, words: &[String]) -> End {
+    match call_of(rt.alloc(), words) {
+        Ok(Some(call)) => run_call(rt, &call),
+        Ok(None) => End::Usage,
+        Err(_) => End::Script(Outcome::NoMemory),
+    }
+}
+
+// Carries out the script of standard input over two connections.
+fn run_call(rt: &HostRuntime, call: &Call) -> End {
+    match (connect(rt, call), connect(rt, call)) {
+        (Ok(first), Ok(second)) => carry_out_over(rt, call, first, second),
+        (Err(error), _) => end_without(error),
+        (_, Err(error)) => end_without(error),
+    }
+}
+
+// How the program ends where no connection was made.
+fn end_without(error: io::Error) -> End {
+    if error.kind() == ErrorKind::OutOfMemory {
+        return End::Script(Outcome::NoMemory);
+    }
+    End::NoConnection
+}
+
+// Carries out the script of standard input over these links.
+fn carry_out_over(rt: &HostRuntime, call: &Call, first: TcpLink, second: TcpLink) -> End {
+    let mut source = StdSource::new(rt.stdin());
+    let mut sink = StdSink::new(rt.stdout());
+    let mut first = Wire::new(rt.alloc(), first);
+    let mut second = Wire::new(rt.alloc(), second);
+    let alloc = rt.alloc();
+    End::Script(carry_out(alloc, call, &mut source, &mut sink, &mut first, &mut second))
+}
+
+// A link to the call's address.
+fn connect<R: Net<Stream = TcpStream>>(net: &R, call: &Call) -> io::Result<TcpLink> {
+    let stream = TcpStream::connect(net, call.host.as_str())?;
+    Ok(TcpLink::new(stream))
+}
+
+// Carries out the script of that source for the call's client, over two wires to its host.
+fn carry_out<S: Source, K: Sink, A: Link, B: Link>(
+    alloc: Global,
+    call: &Call,
+    source: &mut S,
+    sink: &mut K,
+    first: &mut Wire<A>,
+    second: &mut Wire<B>,
+) -> Outcome
+    requires first { IsFalse first.old.spent }
+    requires second { IsFalse second.old.spent }
+    ensures promises { Promises (record { client = call.now.client; host = call.now.host })
+        (ends (S.left source.old) (S.faults source.old) (ports (K.held sink.old) (K.faults sink.old)
+        (wiring A.left A.held A.Source.faults A.Sink.faults first.old)
+        (wiring B.left B.held B.Source.faults B.Sink.faults second.old)))
+        (ends (S.left source.new) (S.faults source.new) (ports (K.held sink.new) (K.faults sink.new)
+        (wiring A.left A.held A.Source.faults A.Sink.faults first.new)
+        (wiring B.left B.held B.Source.faults B.Sink.faults second.new))) result }
+    ensures later { IsLater
+        (ends (S.left source.old) (S.faults source.old) (ports (K.held sink.old) (K.faults sink.old)
+        (wiring A.left A.held A.Source.faults A.Sink.faults first.old)
+        (wiring B.left B.held B.Source.faults B.Sink.faults second.old)))
+        (ends (S.left source.new) (S.faults source.new) (ports (K.held sink.new) (K.faults sink.new)
+        (wiring A.left A.held A.Source.faults A.Sink.faults first.new)
+        (wiring B.left B.held B.Source.faults B.Sink.faults second.new))) }
+{
+    run_script(alloc, &call.client, &call.host, source, sink, first, second)
+}
+
+fn exit_code_of(end: End) -> ExitCode
+    ensures { exit_status result ≡ status_of end }
+{
+    ExitCode::from(status_of(end))
+}
