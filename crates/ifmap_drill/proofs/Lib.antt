@@ -1,0 +1,8 @@
+mod ClientNames
+mod Counting
+mod FitRequests
+mod Making
+mod Marks
+mod Plain
+mod SoundDrills
+mod Writing

@@ -1,0 +1,100 @@
+-- What a drill counts.
+use Rattle.std.specs.Prelude.{ℕ, ◌-◌, ◌^◌, ◌+◌, min, length, sum_by}
+use Rattle.ifmap_machine.specs.declared.events.Answer.{Answer}
+use Rattle.ifmap_machine.specs.declared.events.Answer.TheVariants.{Reply, Held, Heard}
+use Rattle.ifmap_machine.specs.declared.events.Ask.{Ask}
+use Rattle.ifmap_machine.specs.declared.events.Ask.TheVariants.{Request, Lost}
+use Rattle.ifmap_machine.specs.Events.{Event}
+use Rattle.ifmap_machine.specs.Legal.{History}
+use Rattle.ifmap_replies.specs.declared.replies.Reply.{Reply as AnyReply}
+use Rattle.ifmap_replies.specs.declared.replies.Reply.TheVariants as the_reply
+use Rattle.ifmap_requests.specs.declared.requests.Request.{Request as Asked}
+use Rattle.ifmap_requests.specs.declared.requests.Request.TheVariants as the_request
+use Rattle.ifmap_drill.specs.declared.counts.Counts.{Counts}
+
+abbrev pub nothing : Counts
+nothing = record {
+  events = 0;
+  sessions = 0;
+  subscribes = 0;
+  publishes = 0;
+  searches = 0;
+  polls = 0;
+  renewals = 0;
+  held = 0;
+  told = 0;
+  links = 0;
+}
+
+abbrev pub one_event : Counts
+one_event = record nothing { events = 1 }
+
+-- what a request counts as, where its result is no error
+abbrev pub requested_by : Asked → Counts
+requested_by (the_request.NewSession limit) = record one_event { sessions = 1 }
+requested_by (the_request.Subscribe session ops) = record one_event { subscribes = 1 }
+requested_by (the_request.Publish session ops) = record one_event { publishes = 1 }
+requested_by (the_request.Search session search) = record one_event { searches = 1 }
+requested_by (the_request.Poll session) = record one_event { polls = 1 }
+requested_by (the_request.RenewSession session) = record one_event { renewals = 1 }
+requested_by (the_request.EndSession session) = one_event
+requested_by (the_request.PurgePublisher session publisher) = one_event
+
+abbrev pub asked_by : Ask → Counts
+asked_by (Request request) = requested_by request
+asked_by (Lost session) = one_event
+
+-- what that is by the reply: nothing where it is an error, and for a poll also the items that it is told
+abbrev pub replied_as : Counts → AnyReply → Counts
+replied_as asked (the_reply.Error code note) = nothing
+replied_as asked (the_reply.Polled items) = record asked { told = length items }
+replied_as asked (the_reply.NewSession session publisher limit) = asked
+replied_as asked the_reply.Renewed = asked
+replied_as asked the_reply.Ended = asked
+replied_as asked the_reply.Published = asked
+replied_as asked the_reply.Subscribed = asked
+replied_as asked the_reply.Purged = asked
+replied_as asked (the_reply.Found entries) = asked
+
+-- what an event counts as, by its answer; a poll that is held counts as a poll and as held
+abbrev pub counted_as : Ask → Answer → Counts
+counted_as ask (Reply reply) = replied_as (asked_by ask) reply
+counted_as ask Held = record (asked_by ask) { held = 1 }
+counted_as ask Heard = asked_by ask
+
+-- a number of all events of a history together; a count stands still at the greatest of its type
+abbrev pub total : (Counts → ℕ) → History → ℕ
+total number history = min (sum_by (λ (e : Event × Answer). number (counted_as e.0.ask e.1)) history) (2 ^ 64 - 1)
+
+-- what the events of a history count as together, with so many links
+abbrev pub counts_of : History → ℕ → Counts
+counts_of history links = record {
+  events = total (λ c. c.events) history;
+  sessions = total (λ c. c.sessions) history;
+  subscribes = total (λ c. c.subscribes) history;
+  publishes = total (λ c. c.publishes) history;
+  searches = total (λ c. c.searches) history;
+  polls = total (λ c. c.polls) history;
+  renewals = total (λ c. c.renewals) history;
+  held = total (λ c. c.held) history;
+  told = total (λ c. c.told) history;
+  links = links;
+}
+
+-- two numbers together, and two counts; events add no links
+abbrev pub both : ℕ → ℕ → ℕ
+both one other = min (one + other) (2 ^ 64 - 1)
+
+abbrev pub plus : Counts → Counts → Counts
+plus a b = record {
+  events = both a.events b.events;
+  sessions = both a.sessions b.sessions;
+  subscribes = both a.subscribes b.subscribes;
+  publishes = both a.publishes b.publishes;
+  searches = both a.searches b.searches;
+  polls = both a.polls b.polls;
+  renewals = both a.renewals b.renewals;
+  held = both a.held b.held;
+  told = both a.told b.told;
+  links = a.links;
+}

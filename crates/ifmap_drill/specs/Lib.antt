@@ -1,0 +1,9 @@
+pub mod Counts
+pub mod Drilled
+pub mod Drills
+pub mod Events
+pub mod Following
+pub mod Parts
+pub mod Requests
+pub mod Summaries
+pub mod Tasks

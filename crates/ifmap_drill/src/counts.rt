@@ -1,0 +1,149 @@
+//! What a drill counts.
+ghost use Rattle.std.specs.Prelude.{◌≡◌};
+ghost use Rattle.ifmap_drill.specs.Counts.{asked_by, counted_as, nothing, plus, replied_as, requested_by};
+
+use ifmap_machine::{Answer, Ask};
+use ifmap_replies::Reply;
+use ifmap_requests::Request;
+
+/// The numbers of a summary, in its order. Each stands still at the greatest of its type.
+#[derive(Clone, Copy, Debug, PartialEq, Eq)]
+pub struct Counts {
+    /// Events whose result is no error.
+    pub events: u64,
+    /// Sessions that began.
+    pub sessions: u64,
+    pub subscribes: u64,
+    pub publishes: u64,
+    pub searches: u64,
+    /// Polls, those too that are held.
+    pub polls: u64,
+    pub renewals: u64,
+    /// Polls that are held.
+    pub held: u64,
+    /// Items that polls are told.
+    pub told: u64,
+    /// Links that carry something at the end.
+    pub links: u64,
+}
+
+const NOTHING: Counts = Counts {
+    events: 0,
+    sessions: 0,
+    subscribes: 0,
+    publishes: 0,
+    searches: 0,
+    polls: 0,
+    renewals: 0,
+    held: 0,
+    told: 0,
+    links: 0,
+};
+
+const ONE_EVENT: Counts = Counts {
+    events: 1,
+    ..NOTHING
+};
+
+impl Counts {
+    /// Nothing yet.
+    pub(crate) fn new() -> Counts
+        ensures { result ≡ nothing }
+    {
+        NOTHING
+    }
+
+    /// Counts an event with its answer.
+    pub(crate) fn count(&mut self, ask: &Ask, answer: &Answer)
+        ensures { self.new ≡ plus self.old (counted_as ask.now answer.now) }
+    {
+        let more = counted_as(ask, answer);
+        *self = self.plus(&more);
+    }
+
+    // These and others together.
+    fn plus(&self, more: &Counts) -> Counts
+        ensures { result ≡ plus self.now more.now }
+    {
+        Counts {
+            events: self.events.saturating_add(more.events),
+            sessions: self.sessions.saturating_add(more.sessions),
+            subscribes: self.subscribes.saturating_add(more.subscribes),
+            publishes: self.publishes.saturating_add(more.publishes),
+            searches: self.searches.saturating_add(more.searches),
+            polls: self.polls.saturating_add(more.polls),
+            renewals: self.renewals.saturating_add(more.renewals),
+            held: self.held.saturating_add(more.held),
+            told: self.told.saturating_add(more.told),
+            links: self.links,
+        }
+    }
+}
+
+// What an event counts as, by its answer.
+fn counted_as(ask: &Ask, answer: &Answer) -> Counts
+    ensures { result ≡ counted_as ask.now answer.now }
+{
+    let asked = asked_by(ask);
+    match answer {
+        Answer::Reply(reply) => replied_as(asked, reply),
+        Answer::Held => Counts { held: 1, ..asked },
+        Answer::Heard => asked,
+    }
+}
+
+// The same where it is a reply.
+fn replied_as(asked: Counts, reply: &Reply) -> Counts
+    ensures { result ≡ replied_as asked reply.now }
+{
+    match reply {
+        Reply::Error { .. } => NOTHING,
+        Reply::Polled(items) => Counts {
+            told: items.len() as u64,
+            ..asked
+        },
+        _ => asked,
+    }
+}
+
+// What a request counts as, where its result is no error.
+fn asked_by(ask: &Ask) -> Counts
+    ensures { result ≡ asked_by ask.now }
+{
+    match ask {
+        Ask::Request(request) => requested_by(request),
+        Ask::Lost(_) => ONE_EVENT,
+    }
+}
+
+fn requested_by(request: &Request) -> Counts
+    ensures { result ≡ requested_by request.now }
+{
+    match request {
+        Request::NewSession { .. } => Counts {
+            sessions: 1,
+            ..ONE_EVENT
+        },
+        Request::Subscribe { .. } => Counts {
+            subscribes: 1,
+            ..ONE_EVENT
+        },
+        Request::Publish { .. } => Counts {
+            publishes: 1,
+            ..ONE_EVENT
+        },
+        Request::Search { .. } => Counts {
+            searches: 1,
+            ..ONE_EVENT
+        },
+        Request::Poll { .. } => Counts {
+            polls: 1,
+            ..ONE_EVENT
+        },
+        Request::RenewSession { .. } => Counts {
+            renewals: 1,
+            ..ONE_EVENT
+        },
+        _ => ONE_EVENT,
+    }
+}

@@ -1,0 +1,86 @@
+//! What the requests of a drill are made of: identifiers by numbers, links by draws, and the element
+//! that links carry.
+ghost use Rattle.std.specs.Prelude.{◌≡◌, ◌≢◌, ◌<◌, IfOk};
+ghost use Rattle.ifmap_drill.specs.Parts.{address, draw_ends, link_of, mark};
+
+use ifmap_elem::{Attribute, Element, Many, Name, Text};
+use ifmap_ident::laws::{bytes_tell_identifiers_apart, mac_addresses_are_identifiers};
+use ifmap_ident::{Identifier, Item};
+use ifmap_meta::{Cardinality, Metadata};
+use rand_core::utils::NextWord;
+use rand_pcg::Lcg128Xsl64;
+use std::alloc::{AllocError as NoMemory, Global};
+
+const MARK_SPACE: &str = "urn:mapd:drill";
+
+/// The MAC address of a number. It takes no memory.
+pub(crate) fn address(alloc: Global, number: u64) -> Identifier
+    requires { number < 1000 }
+    ensures { result ≡ address number }
+{
+    Identifier::MacAddress {
+        value: [0, 0, 0x5e, 0, (number / 256) as u8, (number % 256) as u8],
+        domain: Text::new(alloc),
+    }
+}
+
+/// The numbers of two different addresses.
+#[derive(Clone, Copy, Debug, PartialEq, Eq)]
+pub struct Ends {
+    pub first: u64,
+    pub second: u64,
+}
+
+// The ends of a link by two draws.
+fn draw_ends(draws: &mut Lcg128Xsl64) -> Ends
+    ensures drawn { (result, draws.new) ≡ draw_ends draws.old }
+    ensures first { result.first < 1000 }
+    ensures second { result.second < 1000 }
+    ensures apart { result.first ≢ result.second }
+{
+    let one = draws.next_word();
+    let other = draws.next_word();
+    let first = one % 1000;
+    Ends {
+        first,
+        second: (first + 1 + other % 3) % 1000,
+    }
+}
+
+/// The link between two addresses, by two draws. It takes no memory.
+pub(crate) fn draw_link(alloc: Global, draws: &mut Lcg128Xsl64) -> Item
+    ensures link { result ≡ link_of (draw_ends draws.old).0 }
+    ensures rest { draws.new ≡ (draw_ends draws.old).1 }
+{
+    let ends = draw_ends(draws);
+    link_of(alloc, ends)
+}
+
+// The link of two different numbers.
+fn link_of(alloc: Global, ends: Ends) -> Item
+    requires first { ends.first < 1000 }
+    requires second { ends.second < 1000 }
+    requires apart { ends.first ≢ ends.second }
+    ensures { result ≡ link_of ends }
+{
+    mac_addresses_are_identifiers();
+    bytes_tell_identifiers_apart();
+    Item::pair(address(alloc, ends.first), address(alloc, ends.second)).unwrap()
+}
+
+/// The element that links carry, of which each link has one at most.
+pub(crate) fn mark(alloc: Global) -> Result<Metadata, NoMemory>
+    ensures { IfOk result (λ made. made ≡ mark) }
+{
+    let mut attributes = Vec::new(alloc);
+    let value = Text::from_str(alloc, "singleValue")?;
+    attributes.push(Attribute::bare(alloc, "ifmap-cardinality", value)?)?;
+    Ok(Metadata {
+        element: Element {
+            name: Name::new(alloc, MARK_SPACE, "link")?,
+            attributes: Many(attributes),
+            children: Many::new(alloc),
+        },
+        cardinality: Cardinality::Single,
+    })
+}

@@ -1,0 +1,35 @@
+//! Drills and their summaries.
+use ifmap_drill::{NoProgress, drill};
+use ifmap_io::MemorySink;
+use std::process::Abort;
+use std::test::Fail;
+
+// Of a hundred events by the key 7, as another program counts them.
+const HUNDRED_BY_SEVEN: &str =
+    "events 100\nsessions 10\nsubscribes 10\npublishes 50\nsearches 10\npolls 10\nrenewals 10\nheld 0\ntold 11\nlinks 40\n";
+
+// The drill ends with that status, where the writes of these numbers fail, and this is written.
+fn expect_drill(
+    rt: &(impl Abort + AllocGlobal),
+    failing_writes: &[u64],
+    status: u8,
+    written: &str,
+) -> Result<(), Fail> {
+    let alloc = rt.alloc();
+    let mut sink = MemorySink::new(Vec::new(alloc), failing_writes.to_vec(alloc)?);
+    let got = drill(alloc, 7, 100, &mut sink, &mut NoProgress);
+    assert_eq!(rt; got, status);
+    assert_eq!(rt; sink.held(), written.as_bytes());
+    Ok(())
+}
+
+#[test]
+fn a_drill_is_summed_up_each_time(rt: HostRuntime) -> Result<(), Fail> {
+    expect_drill(&rt, &[], 0, HUNDRED_BY_SEVEN)?;
+    expect_drill(&rt, &[], 0, HUNDRED_BY_SEVEN)
+}
+
+#[test]
+fn a_failed_write_ends_a_drill(rt: HostRuntime) -> Result<(), Fail> {
+    expect_drill(&rt, &[0], 5, "")
+}
