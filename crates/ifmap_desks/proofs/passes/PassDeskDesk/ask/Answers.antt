@@ -1,0 +1,59 @@
+-- What the hall answers is what the desk tells.
+use Rattle.std.proofs.Common.{refl, map, Some, sym, subst}
+use Rattle.std.proofs.Math.Logic.{∥∥₁_map}
+use Rattle.ifmap_desks.specs.Answers.{Counted}
+use Rattle.ifmap_desks.specs.Calls.{calls_from, plain_call}
+use Rattle.ifmap_desks.proofs.PassTurns.{fits, gains}
+use Rattle.ifmap_desks.proofs.Recalling.{recalls, used_up}
+use Rattle.ifmap_desks.proofs.TellingTurns.{tells_plain}
+use Rattle.ifmap_hall.specs.Passes.{number_of, view_of}
+use Rattle.ifmap_hall.specs.declared.book.Asked.{Asked}
+use Rattle.ifmap_machine.specs.Agreeing.{Agrees}
+use Rattle.ifmap_machine.specs.declared.events.Answer.{Answer}
+use Rattle.ifmap_machine.specs.Events.{Event}
+use Rattle.ifmap_machine.specs.State.{State}
+use Rattle.ifmap_desks.proofs.passes.PassDeskDesk.ask.Goals as goal
+
+pub returns : goal.returns
+returns g c =
+    let desk = c.args.self.now in
+    let v = view_of desk.pass.now in
+    let w = view_of c.ask-asked.new.pass in
+    let e = c.ask-asked.ensures in
+    let fit = c.from_event.result in
+    let given = c.ask-asked.result in
+    record {
+      tells = tells_plain (Some (map plain_call v.said)) (Some (map plain_call w.said)) desk.counts c.count.new.self desk.hall.now desk.hall.now
+          desk.pass.ghost_name desk.pass.ghost_name c.args.event fit c.from_event.ensures given c.plain-answer.result
+          c.plain-answer.ensures (gains v w (number_of desk.pass.now) fit given e.answered) c.count.ensures refl refl
+          (fits v w (number_of desk.pass.now) fit c.holding_is_exact.ensures c.answers_fit_events.ensures given e.answered);
+      number = e.number;
+      parts = e.parts;
+      carries = e.carries;
+      took = e.took;
+      answered = record {
+        asked = fit;
+        is_event = c.from_event.ensures;
+        given = given;
+        is_plain = c.plain-answer.ensures;
+        answered = e.answered;
+        from_base = e.from_base;
+      };
+      agrees = λ ttl opens. subst (λ (s : State). Agrees ttl (calls_from s w.history.log)) (sym opens)
+          (c.clients_agree_in_every_log.ensures.agrees ttl w.history.log);
+    }
+
+pub invariant_of-self-clause-recalls : goal.invariant_of-self-clause-recalls
+invariant_of-self-clause-recalls g c =
+    let e = c.ask-asked.ensures in
+    ∥∥₁_map c.args.self.now.recalls
+    (recalls (view_of c.args.self.now.pass.now) (view_of c.ask-asked.new.pass) e.took (number_of c.args.self.now.pass.now) c.from_event.result
+    c.ask-asked.result e.answered)
+
+pub invariant_of-self-clause-used_up : goal.invariant_of-self-clause-used_up
+invariant_of-self-clause-used_up g c =
+    let e = c.ask-asked.ensures in
+    used_up (view_of c.args.self.now.pass.now) (view_of c.ask-asked.new.pass) e.took (number_of c.args.self.now.pass.now) c.from_event.result
+    c.ask-asked.result c.args.self.now.counts c.count.new.self e.answered
+    (subst (λ (a : Asked Event Answer). Counted a c.args.self.now.counts c.count.new.self) c.plain-answer.ensures c.count.ensures)
+    c.args.self.now.used_up

@@ -1,0 +1,17 @@
+-- What the clients of a hall fold of all that their polls were told.
+use Rattle.std.specs.Prelude.{◌≡◌, ℕ, List}
+use Rattle.ifmap_desks.specs.Calls.{calls_from}
+use Rattle.ifmap_desks.specs.Machines.{CoreView}
+use Rattle.ifmap_dialogue.specs.Desks.{Call}
+use Rattle.ifmap_machine.specs.Agreeing.{Agrees}
+use Rattle.ifmap_machine.specs.State.{opening}
+
+-- all calls of the hall's machine that the pass has seen, from the opening state on
+abbrev pub calls_in : CoreView → List Call
+calls_in v = calls_from v.terms.opening.value.core v.history.log
+
+-- where the hall began with a core in an opening state, its clients agree: after each poll among these calls that is told something or
+-- held, what its client folds of all that it was told since is, for each subscription that the session keeps, the fresh result of its
+-- search
+abbrev pub ClientsAgree : CoreView → Type 0
+ClientsAgree v = (ttl : ℕ) → v.terms.opening.value.core ≡ opening ttl → Agrees ttl (calls_in v)

@@ -1,0 +1,194 @@
+//! Events, and what is told of their answers.
+ghost use Rattle.std.specs.Prelude.{◌≡◌, IfOk};
+ghost use Rattle.ifmap_machine.specs.Events.{IsFitAsk};
+ghost use Rattle.ifmap_requests.specs.Fit.{IsFitRequest};
+ghost use Rattle.ifmap_machine.specs.State.{opening};
+
+use ifmap_core::Core;
+use ifmap_desks::CoreMachine;
+use ifmap_elem::Text;
+use ifmap_hall::Asked;
+use ifmap_io::Moment;
+use ifmap_machine::{Answer, Ask, Event};
+use ifmap_meta::ClientName;
+use ifmap_replies::Reply;
+use ifmap_requests::laws::bodies_mean_fit_requests;
+use ifmap_requests::{Request, read_request};
+use std::alloc::{AllocError as NoMemory, Global};
+
+const OPEN: &str =
+    "<e:Envelope xmlns:e='http://www.w3.org/2003/05/soap-envelope' xmlns:i='http://www.trustedcomputinggroup.org/2010/IFMAP/2' xmlns:m='http://www.trustedcomputinggroup.org/2010/IFMAP-METADATA/2'><e:Body>";
+
+const CLOSE: &str = "</e:Body></e:Envelope>";
+
+pub(crate) const BEGIN: &str = "<i:newSession/>";
+
+pub(crate) const FIRST_POLL: &str = "<i:poll session-id='1-00000000-0000-0000-0000-000000000001'/>";
+
+pub(crate) const FIRST_RENEWAL: &str =
+    "<i:renewSession session-id='1-00000000-0000-0000-0000-000000000001'/>";
+
+pub(crate) const FIRST_PUBLISH: &str =
+    "<i:publish session-id='1-00000000-0000-0000-0000-000000000001'><update lifetime='forever'><mac-address value='00:00:5e:00:53:01'/><metadata><m:role ifmap-cardinality='multiValue'><name>r</name></m:role></metadata></update></i:publish>";
+
+pub(crate) const SECOND_SEARCH: &str =
+    "<i:search session-id='2-00000000-0000-0000-0000-000000000002'><mac-address value='00:00:5e:00:53:01'/></i:search>";
+
+/// A machine that begins with no session.
+pub(crate) fn machine(alloc: Global) -> CoreMachine
+    ensures { result ≡ record { core = opening 180 } }
+{
+    CoreMachine {
+        core: Core::new(alloc, 180),
+    }
+}
+
+fn start() -> Moment
+    ensures { result ≡ 1000000000 }
+{
+    Moment::new(1_000_000_000).unwrap()
+}
+
+// The request that stands in a body.
+fn request_of(alloc: Global, inner: &str) -> Result<Request, NoMemory>
+    ensures { IfOk result IsFitRequest }
+{
+    bodies_mean_fit_requests();
+    let body = format!(in alloc; "{OPEN}{inner}{CLOSE}")?;
+    match read_request(alloc, body.as_bytes()) {
+        Ok(request) => Ok(request),
+        Err(_) => Err(NoMemory),
+    }
+}
+
+// The name of a client.
+fn client_of(alloc: Global, name: &str) -> Result<ClientName, NoMemory> {
+    match ClientName::new(Text(String::from_str(alloc, name)?)) {
+        Some(client) => Ok(client),
+        None => Err(NoMemory),
+    }
+}
+
+/// What a client asks: its name, the random word, whether it is asked again, and what stands in the
+/// body.
+#[derive(Clone, Copy)]
+pub(crate) struct Asking<'a> {
+    pub(crate) name: &'a str,
+    pub(crate) random: u128,
+    pub(crate) again: bool,
+    pub(crate) inner: &'a str,
+}
+
+/// What is asked for the first time.
+pub(crate) fn first<'a>(name: &'a str, random: u128, inner: &'a str) -> Asking<'a> {
+    Asking {
+        name,
+        random,
+        again: false,
+        inner,
+    }
+}
+
+/// What is asked again.
+pub(crate) fn again<'a>(name: &'a str, random: u128, inner: &'a str) -> Asking<'a> {
+    Asking {
+        name,
+        random,
+        again: true,
+        inner,
+    }
+}
+
+/// The event of it; the body counts as 228 bytes.
+pub(crate) fn event_of(alloc: Global, asking: Asking<'_>) -> Result<Event, NoMemory>
+    ensures { IfOk result (λ event. event.bytes ≡ 228) }
+{
+    let request = request_of(alloc, asking.inner)?;
+    let client = client_of(alloc, asking.name)?;
+    // The look tells the proof that the client has a name.
+    let _ = client.text();
+    Ok(Event {
+        moment: start(),
+        client,
+        random: asking.random,
+        again: asking.again,
+        bytes: 228,
+        ask: Ask::Request(request),
+    })
+}
+
+// The session of a poll that stands in a body, as what was lost.
+fn loss_of(alloc: Global, inner: &str) -> Result<Ask, NoMemory>
+    ensures { IfOk result IsFitAsk }
+{
+    match request_of(alloc, inner)? {
+        Request::Poll { session } => Ok(Ask::Lost(session)),
+        _ => Err(NoMemory),
+    }
+}
+
+/// The event that tells that the answer to this poll of a client was lost.
+pub(crate) fn loss_event(alloc: Global, name: &str, inner: &str) -> Result<Event, NoMemory>
+    ensures { IfOk result (λ event. event.bytes ≡ 0) }
+{
+    let ask = loss_of(alloc, inner)?;
+    let client = client_of(alloc, name)?;
+    let _ = client.text();
+    Ok(Event {
+        moment: start(),
+        client,
+        random: 0,
+        again: false,
+        bytes: 0,
+        ask,
+    })
+}
+
+/// What a machine answers.
+#[derive(Clone, Copy, Debug, PartialEq)]
+pub(crate) enum Kind {
+    Began,
+    Renewed,
+    Ended,
+    Published,
+    /// So many entries were found.
+    Found(usize),
+    Refused,
+    Other,
+    Waits,
+    Heard,
+}
+
+/// What is answered at a desk.
+#[derive(Clone, Copy, Debug, PartialEq)]
+pub(crate) enum Told {
+    Done(u64, Kind),
+    Held(u64),
+    Spent(u64),
+    NoMemory,
+}
+
+fn kind_of(answer: Answer) -> Kind {
+    match answer {
+        Answer::Held => Kind::Waits,
+        Answer::Heard => Kind::Heard,
+        Answer::Reply(reply) => match reply {
+            Reply::NewSession { .. } => Kind::Began,
+            Reply::Renewed => Kind::Renewed,
+            Reply::Ended => Kind::Ended,
+            Reply::Published => Kind::Published,
+            Reply::Found(entries) => Kind::Found(entries.0.len()),
+            Reply::Error { .. } => Kind::Refused,
+            _ => Kind::Other,
+        },
+    }
+}
+
+pub(crate) fn tell<E: Drop>(asked: Asked<E, Answer>) -> Told {
+    match asked {
+        Asked::Done { place, reply } => Told::Done(place, kind_of(reply)),
+        Asked::Held { place, .. } => Told::Held(place),
+        Asked::Spent { entries, .. } => Told::Spent(entries),
+        Asked::NoMemory { .. } => Told::NoMemory,
+    }
+}
