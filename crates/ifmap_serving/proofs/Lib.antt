@@ -1,0 +1,6 @@
+pub mod Telling
+pub mod Leading
+pub mod Succession
+pub mod HandingOut
+pub mod Recalling
+pub mod Sending

@@ -1,0 +1,56 @@
+-- What the turns of one connection after another leave at a desk.
+use Rattle.std.proofs.Common.{◌≡◌, ℕ, ◌+◌, List, [], ◌++◌, None, Some, refl, sym, ap, subst, ◌∙◌, append_assoc, append-nil, arith}
+use Rattle.std.specs.Prelude.{Option, Bool, cond, count_by}
+use Rattle.std.proofs.lemmas.Grind.{flat_map-append}
+use Rattle.std.proofs.lemmas.List.Elements.{All-append, All-nil}
+use Rattle.std.proofs.lemmas.List.Sums.{sum_by-append}
+use Rattle.ifmap_dialogue.specs.Desks.{Call, DeskSeen, Fits, Gains, Rises, Tells, Turn, call_of, calls, is_held_back, is_spent}
+
+rises_none : (n : ℕ) → Rises 0 n n
+rises_none n = record { least = omega arith; most = omega arith }
+
+rises_more : (m n a b c : ℕ) → Rises m a b → Rises n b c → Rises (m + n) a c
+rises_more m n a b c p q = record {
+  least = omega (arith, p.least, p.most, q.least, q.most);
+  most = omega (arith, p.most, q.most);
+}
+
+gains_none : (before : Option (List Call)) → Gains before before []
+gains_none None = tt
+gains_none (Some all) = (all, refl, sym (append-nil all))
+
+gains_more : (a b c : Option (List Call)) (xs ys : List Call) → Gains a b xs → Gains b c ys → Gains a c (xs ++ ys)
+gains_more a b None xs ys p q = tt
+gains_more a b (Some all) xs ys p (former, told, is) =
+    let (first, was, grew) = subst (λ (o : Option (List Call)). Gains a o xs) told p in
+    (first, was, is ∙ ap (λ l. l ++ ys) grew ∙ append_assoc first xs ys)
+
+-- how many of two lists pass a test
+count_more : (p : Turn → Bool) (first then : List Turn) → count_by p (first ++ then) ≡ count_by p first + count_by p then
+count_more p first then = sum_by-append (λ (t : Turn). cond (p t) 1 0) first then
+
+-- no turn leaves nothing
+pub tells_none : {H : Type 0} (desk : DeskSeen H) → Tells desk desk []
+tells_none desk = record {
+  said = gains_none desk.said;
+  held = rises_none desk.held;
+  spent = rises_none desk.spent;
+  home = refl;
+  loan = refl;
+  fit = All-nil (λ (t : Turn). Fits t.event t.asked);
+}
+
+-- turns after turns
+pub tells_more : {H : Type 0} (a b c : DeskSeen H) (first then : List Turn) → Tells a b first → Tells b c then → Tells a c (first ++ then)
+tells_more a b c first then p q = record {
+  said = subst (λ (l : List Call). Gains a.said c.said l)
+      (sym (flat_map-append (λ (turn : Turn). call_of turn.event turn.asked) first then))
+      (gains_more a.said b.said c.said (calls first) (calls then) p.said q.said);
+  held = subst (λ (n : ℕ). Rises n a.held c.held) (sym (count_more is_held_back first then))
+      (rises_more (count_by is_held_back first) (count_by is_held_back then) a.held b.held c.held p.held q.held);
+  spent = subst (λ (n : ℕ). Rises n a.spent c.spent) (sym (count_more is_spent first then))
+      (rises_more (count_by is_spent first) (count_by is_spent then) a.spent b.spent c.spent p.spent q.spent);
+  home = q.home ∙ p.home;
+  loan = q.loan ∙ p.loan;
+  fit = All-append (λ (t : Turn). Fits t.event t.asked) first then p.fit q.fit;
+}

@@ -1,0 +1,100 @@
+-- Stands, before and after they are served.
+use Rattle.std.specs.Prelude.{◌≡◌, ℕ, ◌-◌, ◌^◌, ◌<◌, ◌==◌, Option, List, [], Some, IfSome, IsSome, count_by, flat_map, length, map, slice_index_or, if◌then◌else◌}
+use Rattle.std.specs.List.{list_any}
+use Rattle.rand_chacha.specs.ChaCha.{ChaCha, of_seed}
+use Rattle.ifmap_dialogue.specs.Desks.{is_spent}
+use Rattle.ifmap_desks.specs.Calls.{plain_call}
+use Rattle.ifmap_desks.specs.Recalls.{Recalls}
+use Rattle.ifmap_desks.specs.declared.events.FitEvent.{FitEvent}
+use Rattle.ifmap_desks.specs.declared.machine.CoreMachine.{CoreMachine}
+use Rattle.ifmap_hall.specs.declared.hall.Hall.{Hall}
+use Rattle.ifmap_hall.specs.declared.view.View.{View}
+use Rattle.ifmap_hall.specs.Passes.{IsOf, view_of}
+use Rattle.ifmap_hall.specs.Views.{IsSound}
+use Rattle.ifmap_machine.specs.declared.events.Answer.{Answer}
+use Rattle.ifmap_machine.specs.State.{opening}
+use Rattle.ifmap_serving.specs.declared.stands.Stand.{Stand}
+use Rattle.ifmap_serving.specs.Connections.{Connection, Worker}
+use Rattle.ifmap_serving.specs.Works.{DoorSeen, Ends, Works}
+
+-- the hall of a server
+abbrev pub ServerHall : Type 0
+ServerHall = Hall CoreMachine FitEvent Answer
+
+-- a pass of a hall of these limits that began with an empty core. Its base is the run of some entries from there, since the entries that
+-- it has seen are all since the opening state, and as many of them are in the base
+pub record IsServerView (v : View CoreMachine FitEvent Answer) : Type 0 where
+  pub opening : v.terms.opening.value ≡ record { core = opening 180 }
+  pub limit : v.terms.limit ≡ 500_000_000
+  pub heaviest : v.terms.heaviest ≡ 80_001_000
+  pub sound : IsSound v
+
+-- the same of a pass that has asked nothing
+pub record OpensServer (v : View CoreMachine FitEvent Answer) : Type 0 where
+  pub view : IsServerView v
+  pub asked_none : v.mine ≡ []
+  pub silent : v.said ≡ []
+
+-- the key's stream of this number, from its start
+abbrev pub words_at : List ℕ → ℕ → ChaCha
+words_at key number = record (of_seed key) { stream = number }
+
+-- a worker worked at a door by a pass that had asked nothing: the desk was told all that the pass has said since, which is what the
+-- machine answered at the places of the pass's own entries, and no number was left for an event only where all are used up
+pub record WorksBy (gives : ℕ → Type 0) (hall : ServerHall) (words : ChaCha) (v : View CoreMachine FitEvent Answer) (door left : DoorSeen)
+    (status : ℕ) : Type 0 where
+  pub first : Worker ServerHall
+  pub last : Worker ServerHall
+  pub hall_is : first.desk.home ≡ hall
+  pub silent : first.desk.said ≡ Some []
+  pub said : last.desk.said ≡ Some (map plain_call v.said)
+  pub words_are : first.words ≡ words
+  pub recalls : ∥ Recalls v ∥₁
+  pub works : Works gives first last door left
+  pub spent : 0 < count_by is_spent (flat_map (λ (c : Connection ServerHall). c.turns) works.connections)
+      → length v.history.log ≡ 2 ^ 64 - 1
+  pub ends : Ends door left status
+
+module _ {D G : Type 0} where
+  -- the stand has a pass of the hall, which has asked nothing
+  pub record IsReady (hall : ServerHall) (stand : Stand D G) : Type 0 where
+    pub some : IsSome stand.pass
+    pub pass : IfSome stand.pass (λ p. IsOf hall p × OpensServer (view_of p))
+
+  -- each stand has its place and such a pass, and is otherwise as it was
+  pub record IsReadied (hall : ServerHall) (place : ℕ) (before after : Stand D G) : Type 0 where
+    pub place_is : after.place ≡ place
+    pub ready : IsReady hall after
+    pub door : after.door ≡ before.door
+    pub gate : after.gate ≡ before.gate
+
+  abbrev pub AreReady : ServerHall → List (Stand D G) → List (Stand D G) → Type 0
+  AreReady hall before after =
+      (i : ℕ) (d : Stand D G) → i < length before → IsReadied hall i (slice_index_or before i d) (slice_index_or after i d)
+
+  -- no door was touched, and no gate
+  pub record IsUnserved (before after : Stand D G) : Type 0 where
+    pub door : after.door ≡ before.door
+    pub gate : after.gate ≡ before.gate
+
+  abbrev pub AreUnserved : List (Stand D G) → List (Stand D G) → Type 0
+  AreUnserved before after =
+      (i : ℕ) (d : Stand D G) → i < length before → IsUnserved (slice_index_or before i d) (slice_index_or after i d)
+
+  module _ (gives : ℕ → Type 0) (see : D → DoorSeen) (key : List ℕ) (hall : ServerHall) where
+    -- the stand has this place, and a worker worked there by its pass, with the words of the stream of the place
+    pub record IsStandServed (place : ℕ) (before after : Stand D G) : Type 0 where
+      pub place_is : after.place ≡ place
+      pub some : IsSome after.pass
+      pub pass : IfSome after.pass (λ p. IsOf hall p × IsServerView (view_of p)
+          × WorksBy gives hall (words_at key place) (view_of p) (see before.door) (see after.door) after.status)
+
+  -- all stands were served over one hall
+  pub record AreServed (gives : ℕ → Type 0) (see : D → DoorSeen) (key : List ℕ) (before after : List (Stand D G)) : Type 0 where
+    pub hall : ServerHall
+    pub stands : (i : ℕ) (d : Stand D G) → i < length before
+        → IsStandServed gives see key hall i (slice_index_or before i d) (slice_index_or after i d)
+
+  -- 7 where a stand has that status, and else 0
+  abbrev pub status_of : List (Stand D G) → ℕ
+  status_of stands = if list_any (λ (s : Stand D G). s.status == 7) stands then 7 else 0

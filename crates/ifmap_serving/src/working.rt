@@ -1,0 +1,71 @@
+//! Work at a door: its connections are served one after another.
+ghost use Rattle.ifmap_dialogue.specs.Desks.{desk_seen};
+ghost use Rattle.ifmap_io.specs.Links.{seen};
+ghost use Rattle.ifmap_serving.specs.Connections.{ServesLink, worker};
+ghost use Rattle.ifmap_serving.specs.Works.{Ends, Works, door_seen};
+
+use ifmap_dialogue::{Desk, Gate, serve_connection};
+use ifmap_http::Wire;
+use ifmap_io::{Clock, Door, Link};
+use rand_chacha::ChaCha20Rng;
+use std::alloc::Global;
+use std::sync::Wait;
+
+/// The status of work that ended where the door had no link left.
+pub const NONE_LEFT: u8 = 0;
+
+/// The status of work that ended where the door failed.
+pub const DOOR_FAILED: u8 = 7;
+
+/// Serves the connections of a door one after another, each over a wire of its own, and hands each
+/// link back to the door. The status is 0 where the door has no link left, and 7 where it fails. The
+/// random words of events are taken from the stream. Over a door whose links do not end it does not
+/// return.
+pub fn work<R: Wait, K: Desk, D: Door, C: Clock, G: Gate>(
+    rt: &R,
+    alloc: Global,
+    desk: &mut K,
+    door: &mut D,
+    clock: &C,
+    words: &mut ChaCha20Rng,
+    gate: &mut G,
+) -> u8
+    ensures works { Works (C.gives clock.now)
+        (worker (desk_seen K.said K.held K.spent K.home K.loan desk.old) words.old)
+        (worker (desk_seen K.said K.held K.spent K.home K.loan desk.new) words.new)
+        (door_seen D.links D.faults door.old) (door_seen D.links D.faults door.new) }
+    ensures ends { Ends
+        (door_seen D.links D.faults door.old) (door_seen D.links D.faults door.new) result }
+{
+    for _ in rt.forever() {
+        let Ok(next) = door.accept() else {
+            return DOOR_FAILED;
+        };
+        let Some(link) = next else {
+            return NONE_LEFT;
+        };
+        let link = serve_link(alloc, desk, link, clock, words, gate);
+        door.ended(link);
+    }
+    unreachable!()
+}
+
+// Serves a connection over that link to its end, and gives the link back.
+fn serve_link<K: Desk, L: Link, C: Clock, G: Gate>(
+    alloc: Global,
+    desk: &mut K,
+    link: L,
+    clock: &C,
+    words: &mut ChaCha20Rng,
+    gate: &mut G,
+) -> L
+    ensures { ServesLink (C.gives clock.now)
+        (worker (desk_seen K.said K.held K.spent K.home K.loan desk.old) words.old)
+        (worker (desk_seen K.said K.held K.spent K.home K.loan desk.new) words.new)
+        (seen L.left L.held L.Source.faults L.Sink.faults link)
+        (seen L.left L.held L.Source.faults L.Sink.faults result) }
+{
+    let mut wire = Wire::new(alloc, link);
+    serve_connection(alloc, desk, &mut wire, clock, words, gate);
+    wire.into_link()
+}
