@@ -1,7 +1,6 @@
 pub mod AskedRequests
 pub mod Cuts
 pub mod Endings
-pub mod Forms
 pub mod Framing
 pub mod HeaderLines
 pub mod Pieces

@@ -7,8 +7,6 @@ pub mod Lines
 pub mod Output
 pub mod Pending
 pub mod Replayed
-pub mod Runs
 pub mod Script
 pub mod Statuses
 pub mod Turns
-pub mod Words

@@ -1,5 +1,4 @@
-//! Answers scripts of requests by the machine, from bytes in to bytes out. `run` is the call that the
-//! program makes.
+//! Answers scripts of requests by the machine, from bytes in to bytes out.
 #![tactic(auto)]
 
 mod errors;
@@ -11,8 +10,6 @@ mod replies;
 mod running;
 mod sending;
 pub mod statuses;
-mod words;
 
 pub use laws::{bytes_are_one_script, bytes_have_some_output};
-pub use running::{replay, run};
-pub use words::{Form, form_of};
+pub use running::replay;

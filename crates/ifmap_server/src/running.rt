@@ -1,48 +1,27 @@
-//! The top calls: a replay with its status, and all that the program does.
-ghost use Rattle.std.specs.Prelude.{◌≡◌, ◌<◌, map, string_bytes};
+//! A replay, with its status.
+ghost use Rattle.std.specs.Prelude.{◌≡◌, ◌<◌};
 ghost use Rattle.ifmap_server.specs.Replayed.{Replays};
-ghost use Rattle.ifmap_server.specs.Runs.{Runs};
 ghost use Rattle.ifmap_server.specs.Ends.{ends};
 
 use crate::errors::status_of;
 use crate::laws::scripts_agree;
 use crate::replaying::Replay;
-use crate::sending::send;
-use crate::statuses::{NO_MEMORY, USAGE, WRITE_FAULT};
-use crate::words::{Form, form_of};
+use crate::statuses::NO_MEMORY;
 use ifmap_io::{Sink, Source};
 use ifmap_steps::Steps;
 use std::alloc::Global;
 use std::marker::Brand;
 use std::sync::ledger::{Blank, Ledger};
 
-const USAGE_LINE: &str = "usage: mapd replay | drill KEY COUNT | serve ADDRESS WORKERS\n";
-
-/// All that the program does with its words, its own name left out: it answers the frames of the
-/// source for the word `replay`, and else writes the usage line and reads nothing.
-///
-/// The status is 0 where the script was read to its end, 2 for words of no form, 3 at the first frame
-/// that is at fault, whose offset in bytes is then written, 4 where a read failed, 5 where a write
-/// failed, and 6 for want of memory. A frame is at fault where it is not of the form, its body is
-/// longer than 10,000,000 bytes, the source ends within it, or it would end past 2^32 bytes. At 4 all
-/// whole frames that were taken are answered, and no frame whose header's line was taken is at fault;
-/// at 5 and 6 a prefix of the output was written. 4 and 5 come only where the object counted a fault.
-pub fn run<S: Source, K: Sink>(alloc: Global, words: &[String], source: &mut S, sink: &mut K) -> u8
-    ensures { Runs (map string_bytes words.now) result
-        (ends (S.left source.old) (S.faults source.old) (K.held sink.old) (K.faults sink.old))
-        (ends (S.left source.new) (S.faults source.new) (K.held sink.new) (K.faults sink.new)) }
-{
-    match form_of(words) {
-        Form::Replay => replay(alloc, source, sink),
-        Form::Wrong => match send(sink, USAGE_LINE.as_bytes()) {
-            Ok(()) => USAGE,
-            Err(_) => WRITE_FAULT,
-        },
-    }
-}
-
 /// Answers the frames of the source in the sink, each before the next is read, by a machine that
-/// begins with no session. The status and its limits are those of [`run`]; it is never 2.
+/// begins with no session.
+///
+/// The status is 0 where the script was read to its end, 3 at the first frame that is at fault, whose
+/// offset in bytes is then written, 4 where a read failed, 5 where a write failed, and 6 for want of
+/// memory. A frame is at fault where it is not of the form, its body is longer than 10,000,000 bytes,
+/// the source ends within it, or it would end past 2^32 bytes. At 4 all whole frames that were taken
+/// are answered, and no frame whose header's line was taken is at fault; at 5 and 6 a prefix of the
+/// output was written. 4 and 5 come only where the object counted a fault.
 pub fn replay<S: Source, K: Sink>(alloc: Global, source: &mut S, sink: &mut K) -> u8
     ensures { Replays result
         (ends (S.left source.old) (S.faults source.old) (K.held sink.old) (K.faults sink.old))

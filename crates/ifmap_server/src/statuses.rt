@@ -1,9 +1,7 @@
-//! The statuses of the program.
+//! The statuses of a replay.
 
-/// The status of a run that did all that was asked.
+/// The status of a replay whose script was read to its end.
 pub const DONE: u8 = 0;
-/// The status for words of no form.
-pub const USAGE: u8 = 2;
 /// The status for a script with a faulty frame.
 pub const FRAME_FAULT: u8 = 3;
 /// The status for a failed read.

@@ -1,7 +1,7 @@
 //! Replays of scripts over memory.
 use crate::scripts::{FOUND, PUBLISH_AND_FIND, THREE_ANSWERS, THREE_FRAMES, WHO_IS_IT, WHO_IT_IS};
 use ifmap_io::{MemorySink, MemorySource};
-use ifmap_server::{Form, form_of, replay, run};
+use ifmap_server::replay;
 use std::alloc::Global;
 use std::process::Abort;
 use std::test::Fail;
@@ -152,41 +152,5 @@ fn a_faulty_header_is_told_though_the_next_read_fails(rt: HostRuntime) -> Result
         assert_eq!(rt; status, 4, "{script}");
         assert!(rt; held.is_empty());
     }
-    Ok(())
-}
-
-#[test]
-fn words_lead_to_a_replay_or_to_the_usage(rt: HostRuntime) -> Result<(), Fail> {
-    let alloc = rt.alloc();
-    let replay = vec![in alloc; String::from_str(alloc, "replay")?]?;
-    let drill = vec![in alloc;
-        String::from_str(alloc, "drill")?,
-        String::from_str(alloc, "7")?,
-    ]?;
-    let mut source = MemorySource::new(THREE_FRAMES.as_bytes().to_vec(alloc)?, Vec::new(alloc));
-    let mut sink = MemorySink::new(Vec::new(alloc), Vec::new(alloc));
-    assert_eq!(rt; run(alloc, drill.as_slice(), &mut source, &mut sink), 2);
-    assert_eq!(rt;
-        sink.held(),
-        b"usage: mapd replay | drill KEY COUNT | serve ADDRESS WORKERS\n".as_slice()
-    );
-    let mut sink = MemorySink::new(Vec::new(alloc), Vec::new(alloc));
-    assert_eq!(rt; run(alloc, replay.as_slice(), &mut source, &mut sink), 0);
-    assert_eq!(rt; sink.held(), THREE_ANSWERS.as_bytes());
-    Ok(())
-}
-
-#[test]
-fn the_one_word_replay_is_a_form(rt: HostRuntime) -> Result<(), Fail> {
-    let alloc = rt.alloc();
-    let mut words = Vec::new(alloc);
-    assert_eq!(rt; form_of(&words), Form::Wrong);
-    words.push(String::from_str(alloc, "replay")?)?;
-    assert_eq!(rt; form_of(&words), Form::Replay);
-    words.push(String::from_str(alloc, "replay")?)?;
-    assert_eq!(rt; form_of(&words), Form::Wrong);
-    words.clear();
-    words.push(String::from_str(alloc, "Replay")?)?;
-    assert_eq!(rt; form_of(&words), Form::Wrong);
     Ok(())
 }

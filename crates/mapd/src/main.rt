@@ -1,58 +1,159 @@
-//! The program `mapd`: its words, the standard streams, and one call.
+//! The program `mapd`: its words, the outside, and one call.
 #![tactic(auto)]
 
-ghost use Rattle.std.specs.Prelude.{◌≡◌, [], drop, IfErr, IfOk, map, string_bytes};
-ghost use Rattle.std.specs.Io.KnownBytes.{Keeps};
-ghost use Rattle.std.specs.Process.{exit_status};
-ghost use Rattle.std.specs.Vec.Iter.{into_iter_items};
-ghost use Rattle.ifmap_server.specs.Runs.{Runs};
-ghost use Rattle.ifmap_server.specs.Ends.{ends};
+mod outside;
 
-use ifmap_io::{Sink, Source, StdSink, StdSource};
-use ifmap_server::run;
-use ifmap_server::statuses::NO_MEMORY;
-use std::alloc::{AllocError as NoMemory, Global};
-use std::env::Args;
-use std::io::ErrorKind;
+ghost use Rattle.std.specs.Prelude.{List, [], map, string_bytes};
+ghost use Rattle.ifmap_program.specs.Runs.{Runs, outside};
+ghost use Rattle.ifmap_server.specs.Ends.{ends};
+ghost use Rattle.ifmap_serving.specs.declared.stands.Stand.{Stand};
+ghost use Rattle.ifmap_serving.specs.Works.{door_seen};
+
+use crate::outside::{OpenGate, ProgressLine, random_key, stands_at};
+use ifmap_command::{Form, form_of};
+use ifmap_drill::{NoProgress, Progress};
+use ifmap_elem::Text;
+use ifmap_io::{Clock, Door, MemoryDoor, Sink, Source, StdSink, StdSource, SystemClock};
+use ifmap_program::running::NO_MEMORY;
+use ifmap_program::{Setting, run};
+use ifmap_serving::Stand;
+use ifmap_words::words_of;
+use std::io::IsTerminal;
+use std::net::{Net, TcpListener, TcpStream};
 use std::process::ExitCode;
-use std::{env, io};
+use std::random::RandomSource;
+use std::sync::Wait;
+use std::thread::Threads;
+use std::{env, time};
+
+// The status where nothing listens, or there is no random key.
+const CANNOT_LISTEN: u8 = 7;
 
 fn main(rt: HostRuntime) -> ExitCode {
-    let words = words_of(rt.alloc(), env::args(&rt));
     let mut source = StdSource::new(rt.stdin());
     let mut sink = StdSink::new(rt.stdout());
-    exit_code_of(rt.alloc(), words, &mut source, &mut sink)
+    let status = match words_of(rt.alloc(), env::args(&rt)) {
+        Ok(words) => {
+            let mut progress = ProgressLine::new(&rt, rt.stderr().is_terminal());
+            run_words(&rt, words.as_slice(), &mut source, &mut sink, &mut progress)
+        }
+        Err(_) => NO_MEMORY,
+    };
+    ExitCode::from(status)
 }
 
-// The words after the program's name. Words that are no text are of no form, as no words are.
-fn words_of(alloc: Global, args: io::Result<Args>) -> Result<Vec<String>, NoMemory>
-    ensures some { IfOk args (λ all. IfOk result (λ words.
-        words.items ≡ drop 1 (into_iter_items all))) }
-    ensures none { IfErr args (λ _. IfOk result (λ words. words.items ≡ [])) }
-{
-    match args {
-        Ok(args) => args.skip(1).collect(alloc),
-        Err(error) if error.kind() == ErrorKind::OutOfMemory => Err(NoMemory),
-        Err(_) => Ok(Vec::new(alloc)),
-    }
-}
-
-// The exit code of the run with these words: its status. With no memory for the words nothing is run.
-fn exit_code_of<S: Source, K: Sink>(
-    alloc: Global,
-    words: Result<Vec<String>, NoMemory>,
+// Runs with these words, with a listener where they ask for a server.
+fn run_words<R, S: Source, K: Sink, P: Progress>(
+    rt: &R,
+    words: &[String],
     source: &mut S,
     sink: &mut K,
-) -> ExitCode
-    ensures ran { IfOk words (λ words. Runs (map string_bytes words.items) (exit_status result)
-        (ends (S.left source.old) (S.faults source.old) (K.held sink.old) (K.faults sink.old))
-        (ends (S.left source.new) (S.faults source.new) (K.held sink.new) (K.faults sink.new))) }
-    ensures memory { IfErr words (λ _. exit_status result ≡ NO_MEMORY) }
-    ensures unread { IfErr words (λ _. Keeps (S.left source.old) (S.left source.new)) }
-    ensures unwritten { IfErr words (λ _. Keeps (K.held sink.old) (K.held sink.new)) }
+    progress: &mut P,
+) -> u8
+where
+    R: Threads
+        + Wait
+        + Sync
+        + time::Clock
+        + Net<Listener = TcpListener, Stream = TcpStream>
+        + RandomSource,
+    R: Eprint + AllocGlobal,
 {
-    match words {
-        Ok(words) => ExitCode::from(run(alloc, words.as_slice(), source, sink)),
-        Err(_) => ExitCode::from(NO_MEMORY),
+    match form_of(rt.alloc(), words) {
+        Form::Serve { address, workers } => {
+            listen_at(rt, words, &address, workers, source, sink)
+        }
+        _ => run_plainly(rt, words, source, sink, progress),
     }
+}
+
+// Runs with nothing to serve, and a key of zeros.
+fn run_plainly<R, S: Source, K: Sink, P: Progress>(
+    rt: &R,
+    words: &[String],
+    source: &mut S,
+    sink: &mut K,
+    progress: &mut P,
+) -> u8
+where
+    R: Threads + Wait + Sync + time::Clock + AllocGlobal,
+{
+    let clock = SystemClock::new(rt);
+    let setting = Setting {
+        rt,
+        alloc: rt.alloc(),
+        key: [0; 32],
+        clock: &clock,
+    };
+    run_alone(&setting, words, source, sink, progress)
+}
+
+// Runs with no stand.
+fn run_alone<R: Threads + Wait + Sync, C: Clock + Sync, S: Source, K: Sink, P: Progress>(
+    setting: &Setting<'_, R, C>,
+    words: &[String],
+    source: &mut S,
+    sink: &mut K,
+    progress: &mut P,
+) -> u8
+    ensures { (left : List (Stand MemoryDoor OpenGate)) × Runs (C.gives setting.now.clock.now)
+        (door_seen ⟦<MemoryDoor as Door>⟧.links ⟦<MemoryDoor as Door>⟧.faults) setting.now.key
+        (map string_bytes words.now) result
+        (outside (ends (S.left source.old) (S.faults source.old) (K.held sink.old)
+        (K.faults sink.old)) [])
+        (outside (ends (S.left source.new) (S.faults source.new) (K.held sink.new)
+        (K.faults sink.new)) left) }
+{
+    let mut stands: [Stand<MemoryDoor, OpenGate>; 0] = [];
+    run(setting, words, source, sink, &mut stands, progress)
+}
+
+// Serves at that address by so many workers, as the words ask.
+fn listen_at<R, S: Source, K: Sink>(
+    rt: &R,
+    words: &[String],
+    address: &Text,
+    workers: u32,
+    source: &mut S,
+    sink: &mut K,
+) -> u8
+where
+    R: Threads
+        + Wait
+        + Sync
+        + time::Clock
+        + Net<Listener = TcpListener, Stream = TcpStream>
+        + RandomSource,
+    R: Eprint + AllocGlobal,
+{
+    let Ok(listener) = TcpListener::bind(rt, address.as_str()) else {
+        return tell_cannot_listen(rt);
+    };
+    let Ok(key) = random_key(rt) else {
+        return tell_cannot_listen(rt);
+    };
+    let Ok(mut stands) = stands_at(rt.alloc(), &listener, workers) else {
+        return NO_MEMORY;
+    };
+    let clock = SystemClock::new(rt);
+    let setting = Setting {
+        rt,
+        alloc: rt.alloc(),
+        key,
+        clock: &clock,
+    };
+    run(
+        &setting,
+        words,
+        source,
+        sink,
+        stands.as_mut_slice(),
+        &mut NoProgress,
+    )
+}
+
+// Tells that nothing listens, and answers the status for that.
+fn tell_cannot_listen<R: Eprint>(rt: &R) -> u8 {
+    let _told = eprintln!(rt; "mapd: cannot listen");
+    CANNOT_LISTEN
 }
