@@ -3,24 +3,22 @@
 -- after an item depends on what stands there before it alone (`item_local`, `items_local`, `dropped_stay`). Then: what one
 -- subscription is told of a change makes its set the fresh result after it (`told_own`), and so does what all of a session are told
 -- (`told_all`).
-use Rattle.std.proofs.Common.{◌≡◌, refl, sym, ◌∙◌, ap, subst, ℕ, ◌==◌, Bool, true, false, not, cond, List, [], ◌∷◌, ◌++◌, Option, None}
+use Rattle.std.proofs.Common.{◌≡◌, refl, sym, ◌∙◌, ap, subst, ℕ, true, false, not, cond, List, [], ◌∷◌, ◌++◌, Option, None}
 use Rattle.std.proofs.Common.{Some, inl, inr, flat_map, option_map, unwrap_or}
 use Rattle.std.proofs.lemmas.Bool.{cases_Bool}
 use Rattle.std.proofs.lemmas.Cmp.{tied_itself}
-use Rattle.std.specs.Cmp.{IsTotalOrder}
 use Rattle.std.specs.List.{AllByRecursion, filter}
 use Rattle.std.specs.List.Sorted.{IsStrictlySortedBy}
 use Rattle.std.specs.Str.{bytes_eq}
 use Rattle.std.specs.declared.cmp.Ordering.TheVariants.{Less, Equal}
-use Rattle.ifmap_folds.specs.Differences.{difference, has_entry}
+use Rattle.ifmap_folds.specs.Differences.{difference}
 use Rattle.ifmap_folds.specs.Folds.{Sets, fold_item, fold_items, with_entries}
 use Rattle.ifmap_folds.specs.Notes.{told_notes}
 use Rattle.ifmap_fresh.specs.Fresh.{fresh}
-use Rattle.ifmap_lemmas.specs.Filters.{all_weaker}
 use Rattle.ifmap_lemmas.specs.Having.{Has}
 use Rattle.ifmap_lemmas.specs.Members.{both_all}
 use Rattle.ifmap_machine.specs.State.{Standing, standing_order}
-use Rattle.ifmap_machine.specs.Telling.{differences, is_too_big, item_where, told_to, too_big_item}
+use Rattle.ifmap_machine.specs.Telling.{is_too_big, item_where, told_to}
 use Rattle.ifmap_machine.proofs.Standing.{standing_total}
 use Rattle.ifmap_plans.specs.declared.plans.Note.{Note}
 use Rattle.ifmap_search.specs.declared.results.Entry.{Entry}

@@ -1,12 +1,11 @@
 -- Graphs whose attachments are whole, and the results of searches in them.
 -- Entries of such graphs are told apart by bytes (`entries_told`), results rise (`fresh_rises`), and so one result and what went and
 -- came make the next (`results_fold`, `results_begin`). What the crates below state of bytes and differences comes in as premises.
-use Rattle.std.proofs.Common.{◌≡◌, refl, sym, ◌∙◌, ap, subst, ℕ, ◌&&◌, Bool, true, false, not, List, [], ◌∷◌, map, Some, ◌↔◌}
-use Rattle.std.proofs.lemmas.Bool.{and_parts, cases_Bool}
+use Rattle.std.proofs.Common.{◌≡◌, refl, sym, ◌∙◌, ap, subst, ℕ, true, false, List, [], ◌∷◌, map, Some, ◌↔◌}
+use Rattle.std.proofs.lemmas.Bool.{and_parts}
 use Rattle.std.proofs.lemmas.List.Kept.{IsStrictlySortedBy-filter}
-use Rattle.std.specs.List.{AllByRecursion, IsDistinct, filter}
+use Rattle.std.specs.List.{IsDistinct, filter}
 use Rattle.std.specs.List.Sorted.{IsStrictlySortedBy}
-use Rattle.std.specs.Str.{bytes_eq}
 use Rattle.std.specs.declared.cmp.Ordering.TheVariants.{Less}
 use Rattle.ifmap_folds.specs.Differences.{difference, entry_bytes, entry_order, same_entry}
 use Rattle.ifmap_folds.specs.Folds.{Sets, fold_items, with_entries}

@@ -8,10 +8,10 @@ use Rattle.ifmap_machine.specs.declared.events.Ask.TheVariants.{Request, Lost}
 use Rattle.ifmap_machine.specs.Ending.{end_former, end_some, expire}
 use Rattle.ifmap_machine.specs.Events.{Event, IsFitAsk}
 use Rattle.ifmap_machine.specs.Legal.{AreFit, History, state_from}
-use Rattle.ifmap_machine.specs.State.{State, advance, opening}
+use Rattle.ifmap_machine.specs.State.{State, advance}
 use Rattle.ifmap_machine.specs.Step.{answer_subscribed, author_in, end_session, in_session, is_full, lose, poll, poll_in, poll_queue}
 use Rattle.ifmap_machine.specs.Step.{publish, purge, renew_first, renew_session, search, step, step_ask, subscribe}
-use Rattle.ifmap_machine.specs.Subscribing.{Told, subscribe_ops}
+use Rattle.ifmap_machine.specs.Subscribing.{Told}
 use Rattle.ifmap_machine.specs.Telling.{is_too_big}
 use Rattle.ifmap_meta.specs.ClientNames.{IsClientName}
 use Rattle.ifmap_publish.specs.Apply.{Authorship, apply}

@@ -1,35 +1,40 @@
 -- That every legal history of fit events agrees with what its clients fold.
 -- What holds of every state (`Holds`) is kept by each event (`event_holds`), so it holds after each history (`history_holds`). After a
 -- poll that was told the session's queue is empty (`told_empties`), and so its client's sets are the fresh results (`histories_agree`).
+-- The same is then shown from some entry on: after an accepted update (`renewed_holds`) and after a poll that was told (`told_holds`) what
+-- was told before does not matter, so what is told since makes the result (`since_entry`, `entries_agree`).
 -- What is stated of graphs alone comes in as premises: `Good` of a graph, which publishes and retractions keep, and that results
 -- fold.
 use Rattle.std.proofs.Common.{◌≡◌, refl, sym, ◌∙◌, ap, subst, ℕ, ◌==◌, ◌≤◌, Bool, true, false, cond, List, [], ◌∷◌, ◌++◌, map, Option, None}
 use Rattle.std.proofs.Common.{Some, inl, inr}
-use Rattle.std.proofs.lemmas.Bool.{cases_Bool, eq-eqb}
+use Rattle.std.proofs.lemmas.Bool.{both_ways, cases_Bool, eq-eqb}
+use Rattle.std.proofs.lemmas.Grind.{flat_map-append}
 use Rattle.std.specs.List.{AllByRecursion, find}
 use Rattle.std.specs.Option.{option_map}
 use Rattle.ifmap_folds.specs.Folds.{Sets, fold_items, no_sets, with_entries}
 use Rattle.ifmap_fresh.specs.Fresh.{fresh}
 use Rattle.ifmap_lemmas.specs.Having.{Has}
 use Rattle.ifmap_machine.specs.declared.events.Answer.{Answer}
+use Rattle.ifmap_machine.specs.declared.events.Answer.TheVariants as the_answer
 use Rattle.ifmap_machine.specs.declared.events.Ask.{Ask}
 use Rattle.ifmap_machine.specs.declared.events.Ask.TheVariants.{Request, Lost}
-use Rattle.ifmap_machine.specs.Agreeing.{Agrees, AgreesAfter, IsTold, all_polled, client_sets, items_of, polled_by}
+use Rattle.ifmap_machine.specs.Agreeing.{Agrees, AgreesAfter, IsTold, all_polled, items_of, polled_by}
 use Rattle.ifmap_machine.specs.Ending.{drop_sessions, end_former, end_some, expire}
 use Rattle.ifmap_machine.specs.Events.{Event, IsFitAsk, IsFitEvent}
 use Rattle.ifmap_machine.specs.Legal.{AreFit, History, Legal, LegalFrom, state_after, state_from}
+use Rattle.ifmap_machine.specs.Since.{AgreesFrom, FoldsSince, IsToldPoll, Keeps, Updates}
 use Rattle.ifmap_machine.specs.State.{Standing, State, advance, opening}
-use Rattle.ifmap_machine.specs.Step.{answer_subscribed, author_in, begin_session, end_session, in_session, is_full, lose, poll, poll_in}
+use Rattle.ifmap_machine.specs.Step.{answer_subscribed, author_in, end_session, in_session, is_full, lose, poll, poll_in}
 use Rattle.ifmap_machine.specs.Step.{poll_queue, publish, purge, renew, renew_first, renew_session, search, step, step_ask, subscribe}
 use Rattle.ifmap_machine.specs.Step.{with_told}
 use Rattle.ifmap_machine.specs.Subscribing.{Told, subscribe_ops}
 use Rattle.ifmap_machine.specs.Telling.{is_too_big, overflow, tell}
-use Rattle.ifmap_machine.proofs.Agreeing.{Follows, Tells, begun_follows, drop_follows, first_follows, ops_tell, overflow_follows}
-use Rattle.ifmap_machine.proofs.Agreeing.{poll_follows, renewed_follows, tell_follows, told_follows}
+use Rattle.ifmap_machine.proofs.Agreeing.{Follows, Tells, begun_follows, drop_follows, one_serial, ops_renew, ops_tell, overflow_follows}
+use Rattle.ifmap_machine.proofs.Agreeing.{poll_follows, renewed_follows, tell_follows, tells_fewer, told_follows}
 use Rattle.ifmap_machine.proofs.Folding.{Folds, fold_joined}
-use Rattle.ifmap_machine.proofs.Ids.{all_has, find_has}
-use Rattle.ifmap_machine.proofs.Standing.{AreStood, IsStood, ended_stood, event_stood, stood_filter, stood_none}
-use Rattle.ifmap_machine.proofs.Tables.{IsTabled, dropped_table, ended_table, event_table, expired_table, opening_table}
+use Rattle.ifmap_machine.proofs.Ids.{all_has, find_has, one_of_serial}
+use Rattle.ifmap_machine.proofs.Standing.{IsStood, ended_stood, event_stood, stood_filter, stood_none}
+use Rattle.ifmap_machine.proofs.Tables.{IsTabled, event_table, expired_table, opening_table}
 use Rattle.ifmap_meta.specs.ClientNames.{IsClientName}
 use Rattle.ifmap_plans.specs.declared.plans.Note.{Note}
 use Rattle.ifmap_publish.specs.Apply.{Authorship, apply}
@@ -39,12 +44,14 @@ use Rattle.ifmap_publish.specs.declared.who.Who.TheVariants.{Sessions, Publisher
 use Rattle.ifmap_publish.specs.Retract.{retract}
 use Rattle.ifmap_requests.specs.declared.publishing.PublishOp.{PublishOp}
 use Rattle.ifmap_requests.specs.declared.requests.Request.TheVariants as the_request
+use Rattle.ifmap_replies.specs.declared.replies.Reply.TheVariants as the_reply
 use Rattle.ifmap_requests.specs.declared.requests.SubscribeOp.{SubscribeOp}
+use Rattle.ifmap_requests.specs.declared.requests.SubscribeOp.TheVariants.{Update}
 use Rattle.ifmap_requests.specs.Fit.{IsFitOp}
 use Rattle.ifmap_search.specs.declared.results.PollItem.{PollItem}
 use Rattle.ifmap_search.specs.declared.searches.Search.{Search}
 use Rattle.ifmap_session.specs.Sessions.{Session, change, emptied, is_text, renewed, session_of_client, session_with_id}
-use Rattle.ifmap_session.specs.laws.TextLaws.{text_is, text_itself, text_same}
+use Rattle.ifmap_session.specs.laws.TextLaws.{text_is}
 use Rattle.ifmap_view.specs.declared.attachments.Attachment.{Attachment}
 
 -- ---- after a poll that was told
@@ -123,6 +130,44 @@ told_empties id client state true None there told = absurd told
 told_empties id client state true (Some own) there told = in_session_empties id client state true (Some own) there told
 told_empties id client state false o there told = in_session_empties id client state false o there told
 
+-- and it lives
+changed_finds : (id : List ℕ) (n : ℕ) (f : Session → Session) → ((s : Session) → (f s).id ≡ s.id) → (live : List Session) (own : Session)
+    → session_with_id id live ≡ Some own → (s : Session) × (session_with_id id (change n f live) ≡ Some s)
+changed_finds id n f k live own there = (
+  cond (own.serial == n) (f own) own,
+  find_mapped id (λ (u : Session). cond (u.serial == n) (f u) u) (changed_id n f k) live
+      ∙ ap (option_map (λ (u : Session). cond (u.serial == n) (f u) u)) there,
+)
+
+renewed_finds : (id : List ℕ) (again : Bool) (n : ℕ) (state : State) (own : Session) → session_with_id id state.sessions ≡ Some own
+    → (s : Session) × (session_with_id id (renew_first again n state).sessions ≡ Some s)
+renewed_finds id true n state own there = (own, there)
+renewed_finds id false n state own there = changed_finds id n (renewed state.moment) (λ u. refl) state.sessions own there
+
+queue_finds : (id : List ℕ) (state : State) (again : Bool) (own : Session) (queue : List PollItem)
+    → session_with_id id state.sessions ≡ Some own
+    → (s : Session) × (session_with_id id (poll_queue state again own queue).0.sessions ≡ Some s)
+queue_finds id state again own [] there = renewed_finds id again own.serial state own there
+queue_finds id state again own (item ∷ items) there =
+    let one = changed_finds id own.serial emptied (λ u. refl) state.sessions own there in
+    renewed_finds id again own.serial (record state { sessions = change own.serial emptied state.sessions }) one.0 one.1
+
+in_session_finds : (id client : List ℕ) (state : State) (again : Bool) (o : Option Session) → session_with_id id state.sessions ≡ o
+    → IsTold (in_session state client o (poll_in state again)).1
+    → (s : Session) × (session_with_id id (in_session state client o (poll_in state again)).0.sessions ≡ Some s)
+in_session_finds id client state again None there told = absurd told
+in_session_finds id client state again (Some own) there told =
+    elim (cases_Bool (is_text own.client client)) [
+      | inl hit ↦ rw hit (queue_finds id state again own own.queue there)
+      | inr miss ↦ absurd (rw miss at told)
+    ]
+
+told_finds : (id client : List ℕ) (state : State) (again : Bool) (o : Option Session) → session_with_id id state.sessions ≡ o
+    → IsTold (poll state client again o).1 → (s : Session) × (session_with_id id (poll state client again o).0.sessions ≡ Some s)
+told_finds id client state true None there told = absurd told
+told_finds id client state true (Some own) there told = in_session_finds id client state true (Some own) there told
+told_finds id client state false o there told = in_session_finds id client state false o there told
+
 -- ---- what holds of every state
 
 module _ (Good : List Attachment → Type 0) (good_none : Good []) (good_retracted : (who : Who) (rows : List Attachment) → Good rows
@@ -130,15 +175,16 @@ module _ (Good : List Attachment → Type 0) (good_none : Good []) (good_retract
     → AllByRecursion IsFitOp ops → Good rows → Good (apply rows by ops)) (folds : (before after : List Attachment) (s : Search)
     → Good before → Good after → Folds before after s) (begins : (rows : List Attachment) (s : Search) → Good rows
     → with_entries (fresh rows s) [] ≡ fresh rows s) where
-  record Holds (done : List ℕ → Sets) (state : State) : Type 0 where
+  record Holds (Live : Standing → Type 0) (done : List ℕ → Sets) (state : State) : Type 0 where
     tabled : IsTabled state
     stood : IsStood state
     good : Good state.graph
-    follows : Follows done state
+    follows : Follows Live done state
 
   -- the ends of sessions
-  ended_follows : (serials : List ℕ) (done : List ℕ → Sets) (state : State) → IsStood state → Good state.graph → Follows done state
-      → Good (end_some serials state).graph × Follows done (end_some serials state)
+  ended_follows : {Live : Standing → Type 0} (serials : List ℕ) (done : List ℕ → Sets) (state : State)
+      → IsStood state → Good state.graph → Follows Live done state
+      → Good (end_some serials state).graph × Follows Live done (end_some serials state)
   ended_follows [] done state stood good w = (good, w)
   ended_follows (serial ∷ serials) done state stood good w =
       let left : State = drop_sessions (serial ∷ serials) state in
@@ -150,61 +196,67 @@ module _ (Good : List Attachment → Type 0) (good_none : Good []) (good_retract
             (drop_follows (serial ∷ serials) done state w)),
       )
 
-  former_follows : (o : Option Session) (done : List ℕ → Sets) (state : State) → IsStood state → Good state.graph → Follows done state
-      → Good (end_former o state).graph × Follows done (end_former o state)
+  former_follows : {Live : Standing → Type 0} (o : Option Session) (done : List ℕ → Sets) (state : State)
+      → IsStood state → Good state.graph → Follows Live done state
+      → Good (end_former o state).graph × Follows Live done (end_former o state)
   former_follows None done state stood good w = (good, w)
   former_follows (Some s) done state stood good w = ended_follows (s.serial ∷ []) done state stood good w
 
-  changed_follows : (serial : ℕ) (after : List Attachment) (notes : List Note) (done : List ℕ → Sets) (state : State) → IsStood state
-      → Good state.graph → Good after → Follows done state → Follows done (renew serial (overflow (tell after notes state)))
+  changed_follows : {Live : Standing → Type 0} (serial : ℕ) (after : List Attachment) (notes : List Note) (done : List ℕ → Sets)
+      (state : State) → IsStood state
+      → Good state.graph → Good after → Follows Live done state → Follows Live done (renew serial (overflow (tell after notes state)))
   changed_follows serial after notes done state stood good good_after w =
       renewed_follows serial done (overflow (tell after notes state)) (overflow_follows done (tell after notes state)
       (tell_follows after notes done state (λ s. folds state.graph after s good good_after) stood w))
 
-  in_session_follows : (done : List ℕ → Sets) (state : State) (client : List ℕ) (accept : Session → State × Answer) (o : Option Session)
-      → ((s : Session) → o ≡ Some s → is_text s.client client ≡ true → Good (accept s).0.graph × Follows done (accept s).0)
-      → Good state.graph → Follows done state
-      → Good (in_session state client o accept).0.graph × Follows done (in_session state client o accept).0
+  in_session_follows : {Live : Standing → Type 0} (done : List ℕ → Sets) (state : State) (client : List ℕ)
+      (accept : Session → State × Answer) (o : Option Session)
+      → ((s : Session) → o ≡ Some s → is_text s.client client ≡ true → Good (accept s).0.graph × Follows Live done (accept s).0)
+      → Good state.graph → Follows Live done state
+      → Good (in_session state client o accept).0.graph × Follows Live done (in_session state client o accept).0
   in_session_follows done state client accept None f good w = (good, w)
   in_session_follows done state client accept (Some s) f good w =
       elim (cases_Bool (is_text s.client client)) [ inl hit ↦ rw hit (f s refl hit) | inr miss ↦ rw miss (good, w) ]
 
-  subscribed_follows : (done : List ℕ → Sets) (state : State) (q : Session → Bool) (s : Session) (ops : List SubscribeOp)
-      → IsTabled state → Good state.graph → Follows done state → find q state.sessions ≡ Some s
-      → Good (subscribe state ops s).0.graph × Follows done (subscribe state ops s).0
-  subscribed_follows done state q s ops tabled good w found =
+  subscribed_follows : {Live : Standing → Type 0} (done : List ℕ → Sets) (state : State) (q : Session → Bool) (s : Session)
+      (ops : List SubscribeOp)
+      → IsTabled state → Good state.graph → Follows Live done state → find q state.sessions ≡ Some s
+      → Good (subscribe state ops s).0.graph × Follows Live done (subscribe state ops s).0
+  subscribed_follows {Live} done state q s ops tabled good w found =
       let there = (find_has q state.sessions s found).0 in
       let low = all_has (λ (y : Session). y.serial ≤ state.counter) state.sessions s tabled.counted there in
       at (subscribe_ops state.graph s.serial ops (record { queue = s.queue; standing = state.standing }))
       (ops_tell state.graph s.serial state.counter (done s.id) state.standing low (λ a. begins state.graph a good) ops
       (record { queue = s.queue; standing = state.standing }) (record {
-        mine = λ x hx own. w.folded s x there hx own;
+        mine = λ x hx own live. w.folded s x there hx own live;
         others = λ x hx other. hx;
         below = w.below;
       }))
     where
       TellSome : Option Told → Type 0
       TellSome None = Unit {0}
-      TellSome (Some t) = Tells state.graph s.serial state.counter (done s.id) state.standing t
+      TellSome (Some t) = Tells Live state.graph s.serial state.counter (done s.id) state.standing t
 
-      at : (o : Option Told) → TellSome o → Good (answer_subscribed state s o).0.graph × Follows done (answer_subscribed state s o).0
+      at : (o : Option Told) → TellSome o → Good (answer_subscribed state s o).0.graph × Follows Live done (answer_subscribed state s o).0
       at None h = (good, w)
       at (Some t) h = (
         good,
         renewed_follows s.serial done _ (overflow_follows done (with_told s.serial t state)
-            (told_follows done state q s t tabled found h w)),
+            (told_follows {Live = Live} {Now = Live} done state q s t tabled found (λ x live other. live) h w)),
       )
 
   -- what is told after one more ask
   abbrev done_after : Ask → Answer → (List ℕ → Sets) → List ℕ → Sets
   done_after ask answer done id = fold_items (polled_by id ask (items_of answer)) (done id)
 
-  step_follows : (done : List ℕ → Sets) (state : State) (event : Event) (ask : Ask) → IsClientName event.client → IsFitAsk ask
-      → IsTabled state → IsStood state → Good state.graph → Follows done state
-      → Good (step_ask state event ask).0.graph × Follows (done_after ask (step_ask state event ask).1 done) (step_ask state event ask).0
-  step_follows done state event (Lost id) name fit tabled stood good w = lost (session_with_id id state.sessions)
+  step_follows : {Live : Standing → Type 0} (done : List ℕ → Sets) (state : State) (event : Event) (ask : Ask)
+      → IsClientName event.client → IsFitAsk ask
+      → IsTabled state → IsStood state → Good state.graph → Follows Live done state
+      → Good (step_ask state event ask).0.graph × Follows Live (done_after ask (step_ask state event ask).1 done)
+      (step_ask state event ask).0
+  step_follows {Live} done state event (Lost id) name fit tabled stood good w = lost (session_with_id id state.sessions)
     where
-      lost : (o : Option Session) → Good (lose state event.client o).0.graph × Follows done (lose state event.client o).0
+      lost : (o : Option Session) → Good (lose state event.client o).0.graph × Follows Live done (lose state event.client o).0
       lost None = (good, w)
       lost (Some s) = elim (cases_Bool (is_text s.client event.client)) [
         | inl hit ↦ rw hit (ended_follows (s.serial ∷ []) done state stood good w)
@@ -274,11 +326,11 @@ module _ (Good : List Attachment → Type 0) (good_none : Good []) (good_retract
         | inr miss ↦ rw miss (good, w)
       ]) good w
 
-  event_holds : (done : List ℕ → Sets) (state : State) (event : Event) → IsFitEvent event → Holds done state
-      → Holds (done_after event.ask (step state event).1 done) (step state event).0
-  event_holds done state event fit h =
+  event_holds : {Live : Standing → Type 0} (done : List ℕ → Sets) (state : State) (event : Event) → IsFitEvent event → Holds Live done state
+      → Holds Live (done_after event.ask (step state event).1 done) (step state event).0
+  event_holds {Live} done state event fit h =
       let now : State = advance event.moment state in
-      let moved : Follows done now = record { folded = h.follows.folded; below = h.follows.below } in
+      let moved : Follows Live done now = record { folded = h.follows.folded; below = h.follows.below } in
       let expired = ended_follows _ done now h.stood h.good moved in
       let after = step_follows done (expire now) event event.ask fit.client fit.ask (expired_table now h.tabled)
       (ended_stood _ now h.stood) expired.0 expired.1 in
@@ -294,32 +346,33 @@ module _ (Good : List Attachment → Type 0) (good_none : Good []) (good_retract
   abbrev done_with : History → (List ℕ → Sets) → List ℕ → Sets
   done_with history done id = fold_items (all_polled id history) (done id)
 
-  history_holds : (history : History) (done : List ℕ → Sets) (state : State) → LegalFrom state history → AreFit history
-      → Holds done state → Holds (done_with history done) (state_from state history)
+  history_holds : {Live : Standing → Type 0} (history : History) (done : List ℕ → Sets) (state : State)
+      → LegalFrom state history → AreFit history
+      → Holds Live done state → Holds Live (done_with history done) (state_from state history)
   history_holds [] done state legal fit h = h
-  history_holds (e ∷ history) done state legal fit h =
-      let one : Holds (done_after e.0.ask e.1 done) (step state e.0).0 =
-      subst (λ answer. Holds (done_after e.0.ask answer done) (step state e.0).0) (sym legal.0) (event_holds done state e.0 fit.0 h) in
+  history_holds {Live} (e ∷ history) done state legal fit h =
+      let one : Holds Live (done_after e.0.ask e.1 done) (step state e.0).0 =
+      subst (λ answer. Holds Live (done_after e.0.ask answer done) (step state e.0).0) (sym legal.0) (event_holds done state e.0 fit.0 h) in
       let rest = history_holds history (done_after e.0.ask e.1 done) (step state e.0).0 legal.1 fit.1 one in
       record {
         tabled = rest.tabled;
         stood = rest.stood;
         good = rest.good;
         follows = record {
-          folded = λ s x hs hx same.
+          folded = λ s x hs hx same live.
               ap (λ (g : Sets). fold_items s.queue g x.name)
               (fold_joined (polled_by s.id e.0.ask (items_of e.1)) (all_polled s.id history) (done s.id))
-              ∙ rest.follows.folded s x hs hx same;
+              ∙ rest.follows.folded s x hs hx same live;
           below = rest.follows.below;
         };
       }
 
-  opening_holds : (ttl : ℕ) → Holds (λ _. no_sets) (opening ttl)
-  opening_holds ttl = record {
+  opening_holds : {Live : Standing → Type 0} (ttl : ℕ) (done : List ℕ → Sets) → Holds Live done (opening ttl)
+  opening_holds ttl done = record {
     tabled = opening_table ttl;
     stood = stood_none;
     good = good_none;
-    follows = record { folded = λ s x hs hx same. absurd hs; below = λ x hx. absurd hx };
+    follows = record { folded = λ s x hs hx same live. absurd hs; below = λ x hx. absurd hx };
   }
 
   state_joined : (state : State) (before rest : History) → state_from state (before ++ rest) ≡ state_from (state_from state before) rest
@@ -345,28 +398,39 @@ module _ (Good : List Attachment → Type 0) (good_none : Good []) (good_retract
   fit_joined [] rest fit more = more
   fit_joined (e ∷ before) rest fit more = (fit.0, fit_joined before rest fit.1 more)
 
+  -- what is told in entries of which the last is a poll that was told, onto what makes the results before them
+  polled_folds : {Live : Standing → Type 0} (done : List ℕ → Sets) (start : State) (before : History) (asked : Event × Answer) (id : List ℕ)
+      → Holds Live done start → LegalFrom start (before ++ asked ∷ []) → AreFit (before ++ asked ∷ []) → IsToldPoll id asked
+      → (s : Session) (x : Standing) → session_with_id id (state_from start (before ++ asked ∷ [])).sessions ≡ Some s
+      → Has (state_from start (before ++ asked ∷ [])).standing x → x.serial ≡ s.serial → Live x
+      → fold_items (all_polled id (before ++ asked ∷ [])) (done id) x.name
+      ≡ Some (fresh (state_from start (before ++ asked ∷ [])).graph x.search)
+  polled_folds done start before asked id holds legal fit told s x found hx same live =
+      let history : History = before ++ asked ∷ [] in
+      let after : State = state_from start history in
+      let held = history_holds history done start legal fit holds in
+      let there = find_has (λ (y : Session). is_text y.id id) after.sessions s found in
+      let own : s.id ≡ id = text_is s.id id there.1 in
+      let parts = legal_before start before (asked ∷ []) legal in
+      let joined = state_joined start before (asked ∷ []) in
+      let now : State = expire (advance asked.0.moment (state_from start before)) in
+      let answered : IsTold (step_ask now asked.0 (Request (the_request.Poll id))).1 =
+      subst (λ ask. IsTold (step_ask now asked.0 ask).1) told.0 (subst IsTold parts.1.0 told.1) in
+      let found_now : session_with_id id (step_ask now asked.0 (Request (the_request.Poll id))).0.sessions ≡ Some s =
+      subst (λ ask. session_with_id id (step_ask now asked.0 ask).0.sessions ≡ Some s) told.0
+      (ap (λ (y : State). session_with_id id y.sessions) (sym joined) ∙ found) in
+      let empty : s.queue ≡ [] =
+      told_empties id asked.0.client now asked.0.again (session_with_id id now.sessions) refl answered s found_now in
+      let folded = held.follows.folded s x there.0 hx same live in
+      subst (λ i. fold_items (all_polled i history) (done i) x.name ≡ Some (fresh after.graph x.search)) own
+      (subst (λ q. fold_items q (fold_items (all_polled s.id history) (done s.id)) x.name ≡ Some (fresh after.graph x.search)) empty folded)
+
   after_one : (ttl : ℕ) (before : History) (event : Event) (answer : Answer) (id : List ℕ) → Legal ttl (before ++ ((event, answer) ∷ []))
       → AreFit (before ++ ((event, answer) ∷ [])) → event.ask ≡ Request (the_request.Poll id) → IsTold answer
       → AgreesAfter ttl (before ++ ((event, answer) ∷ [])) id
   after_one ttl before event answer id legal fit asked told s x found hx same =
-      let history : History = before ++ ((event, answer) ∷ []) in
-      let held = history_holds history (λ _. no_sets) (opening ttl) legal fit (opening_holds ttl) in
-      let there = find_has (λ (y : Session). is_text y.id id) (state_after ttl history).sessions s found in
-      let own : s.id ≡ id = text_is s.id id there.1 in
-      let state : State = state_from (opening ttl) before in
-      let parts = legal_before (opening ttl) before ((event, answer) ∷ []) legal in
-      let joined = state_joined (opening ttl) before ((event, answer) ∷ []) in
-      let now : State = expire (advance event.moment state) in
-      let answered : IsTold (step_ask now event (Request (the_request.Poll id))).1 =
-      subst (λ ask. IsTold (step_ask now event ask).1) asked (subst IsTold parts.1.0 told) in
-      let found_now : session_with_id id (step_ask now event (Request (the_request.Poll id))).0.sessions ≡ Some s =
-      subst (λ ask. session_with_id id (step_ask now event ask).0.sessions ≡ Some s) asked
-      (ap (λ (y : State). session_with_id id y.sessions) (sym joined) ∙ found) in
-      let empty : s.queue ≡ [] =
-      told_empties id event.client now event.again (session_with_id id now.sessions) refl answered s found_now in
-      let folded = held.follows.folded s x there.0 hx same in
-      subst (λ i. client_sets i history x.name ≡ Some (fresh (state_after ttl history).graph x.search)) own
-      (subst (λ q. fold_items q (client_sets s.id history) x.name ≡ Some (fresh (state_after ttl history).graph x.search)) empty folded)
+      polled_folds {Live = λ (y : Standing). Unit {0}} (λ _. no_sets) (opening ttl) before (event, answer) id
+      (opening_holds ttl (λ _. no_sets)) legal fit (asked, told) s x found hx same tt
 
   pub histories_agree : (ttl : ℕ) (history : History) → Legal ttl history → AreFit history → Agrees ttl history
   histories_agree ttl history legal fit before rest event answer id is asked told =
@@ -376,3 +440,189 @@ module _ (Good : List Attachment → Type 0) (good_none : Good []) (good_retract
       let fits = fit_before before ((event, answer) ∷ rest) all_fit in
       after_one ttl before event answer id (legal_joined (opening ttl) before ((event, answer) ∷ []) parts.0 (parts.1.0, tt))
       (fit_joined before ((event, answer) ∷ []) fits.0 (fits.1.0, tt)) asked told
+
+  -- ---- from some entry on
+
+  -- where no subscription counts, it does not matter what was told before
+  none_hold : {Live : Standing → Type 0} (done other : List ℕ → Sets) (state : State) → Holds Live done state
+      → Holds (λ (x : Standing). ⊥) other state
+  none_hold done other state h = record {
+    tabled = h.tabled;
+    stood = h.stood;
+    good = h.good;
+    follows = record { folded = λ s x hs hx same none. absurd none; below = h.follows.below };
+  }
+
+  -- after an accepted subscribe that updates a name, the queue of its session makes the result of that name anew
+  renewed_answer : (done : List ℕ → Sets) (state : State) (q : Session → Bool) (s : Session) (ops : List SubscribeOp) (name : List ℕ)
+      (asked : Search) (n : ℕ) → IsTabled state → Good state.graph → Follows (λ (x : Standing). ⊥) done state
+      → find q state.sessions ≡ Some s → Has ops (Update name asked) → s.serial ≡ n
+      → (subscribe state ops s).1 ≡ the_answer.Reply the_reply.Subscribed
+      → Follows (λ (x : Standing). (x.serial ≡ n) × (x.name ≡ name)) done (subscribe state ops s).0
+  renewed_answer done state q s ops name asked n tabled good w found has serial =
+      let there = (find_has q state.sessions s found).0 in
+      let low = all_has (λ (y : Session). y.serial ≤ state.counter) state.sessions s tabled.counted there in
+      at (subscribe_ops state.graph s.serial ops (record { queue = s.queue; standing = state.standing }))
+      (ops_renew state.graph s.serial state.counter (done s.id) state.standing low (λ a. begins state.graph a good)
+      {Live = λ (x : Standing). ⊥} name asked ops (record { queue = s.queue; standing = state.standing }) has (record {
+        mine = λ x hx own none. absurd none;
+        others = λ x hx other. hx;
+        below = w.below;
+      }))
+    where
+      TellSome : Option Told → Type 0
+      TellSome None = Unit {0}
+      TellSome (Some t) = Tells (λ (x : Standing). x.name ≡ name) state.graph s.serial state.counter (done s.id) state.standing t
+
+      at : (o : Option Told) → TellSome o → (answer_subscribed state s o).1 ≡ the_answer.Reply the_reply.Subscribed
+          → Follows (λ (x : Standing). (x.serial ≡ n) × (x.name ≡ name)) done (answer_subscribed state s o).0
+      at None h e = cc
+      at (Some t) h e =
+          renewed_follows {Live = λ (x : Standing). (x.serial ≡ n) × (x.name ≡ name)} s.serial done _
+          (overflow_follows {Live = λ (x : Standing). (x.serial ≡ n) × (x.name ≡ name)} done (with_told s.serial t state)
+          (told_follows {Live = λ (x : Standing). ⊥} {Now = λ (x : Standing). (x.serial ≡ n) × (x.name ≡ name)} done state q s t tabled
+          found
+          (λ x now other. both_ways (x.serial == s.serial) other (eq-eqb x.serial s.serial (now.0 ∙ sym serial)))
+          (tells_fewer {Live = λ (x : Standing). x.name ≡ name} {Now = λ (x : Standing). (x.serial ≡ n) × (x.name ≡ name)} state.graph
+          s.serial state.counter (done s.id) state.standing t (λ x now. now.1) h) w))
+
+  renewed_in : (done : List ℕ → Sets) (state : State) (client id : List ℕ) (ops : List SubscribeOp) (name : List ℕ) (asked : Search) (n : ℕ)
+      (o : Option Session) → session_with_id id state.sessions ≡ o → IsTabled state → Good state.graph
+      → Follows (λ (x : Standing). ⊥) done state → Has ops (Update name asked)
+      → ((s : Session) → Has state.sessions s → s.id ≡ id → s.serial ≡ n)
+      → (in_session state client o (subscribe state ops)).1 ≡ the_answer.Reply the_reply.Subscribed
+      → Follows (λ (x : Standing). (x.serial ≡ n) × (x.name ≡ name)) done (in_session state client o (subscribe state ops)).0
+  renewed_in done state client id ops name asked n None found tabled good w has serial e = cc
+  renewed_in done state client id ops name asked n (Some s) found tabled good w has serial e =
+      elim (cases_Bool (is_text s.client client)) [
+        | inl hit ↦
+            let there = find_has (λ (y : Session). is_text y.id id) state.sessions s found in
+            rw hit (renewed_answer done state (λ (y : Session). is_text y.id id) s ops name asked n tabled good w found has
+            (serial s there.0 (text_is s.id id there.1)) (rw hit at e))
+        | inr miss ↦ let bad = rw miss at e in cc
+      ]
+
+  -- what holds after it, whatever was told before
+  renewed_holds : {Live : Standing → Type 0} (done other : List ℕ → Sets) (state last : State) (e : Event × Answer) (id name : List ℕ)
+      (own : Session) → Holds Live done state → IsFitEvent e.0 → e.1 ≡ (step state e.0).1 → Updates id name e → IsTabled last
+      → Has last.sessions own → own.id ≡ id
+      → Holds (λ (x : Standing). (x.serial ≡ own.serial) × (x.name ≡ name)) other (step state e.0).0
+  renewed_holds done other state last e id name own holds fit answered u tabled there own_is =
+      let bare = none_hold done other state holds in
+      let now : State = advance e.0.moment state in
+      let moved : Follows (λ (x : Standing). ⊥) other now =
+      record { folded = λ s x hs hx same none. absurd none; below = bare.follows.below } in
+      let expired = ended_follows _ other now bare.stood bare.good moved in
+      let whole = event_holds other state e.0 fit bare in
+      let is : (step_ask (expire now) e.0 (Request (the_request.Subscribe id u.ops))).1 ≡ the_answer.Reply the_reply.Subscribed =
+      subst (λ ask. (step_ask (expire now) e.0 ask).1 ≡ the_answer.Reply the_reply.Subscribed) u.ask (sym answered ∙ u.answer) in
+      let follows = renewed_in other (expire now) e.0.client id u.ops name u.search own.serial
+      (session_with_id id (expire now).sessions) refl (expired_table now bare.tabled) expired.0 expired.1 u.named
+      (λ s hs same. one_serial (expire now) last s own (expired_table now bare.tabled) tabled hs there (same ∙ sym own_is)) is in
+      record {
+        tabled = whole.tabled;
+        stood = whole.stood;
+        good = whole.good;
+        follows = subst (λ ask. Follows (λ (x : Standing). (x.serial ≡ own.serial) × (x.name ≡ name)) other
+            (step_ask (expire now) e.0 ask).0) (sym u.ask) follows;
+      }
+
+  -- after a poll that was told, the queue of its session is empty, and what makes the result of a subscription there is that result
+  told_holds : {Live : Standing → Type 0} (done : List ℕ → Sets) (state last : State) (e : Event × Answer) (id : List ℕ) (own : Session)
+      (x : Standing) (sets : Sets) → Holds Live done state → IsFitEvent e.0 → e.1 ≡ (step state e.0).1 → IsToldPoll id e → IsTabled last
+      → Has last.sessions own → own.id ≡ id → x.serial ≡ own.serial
+      → sets x.name ≡ Some (fresh (step state e.0).0.graph x.search)
+      → Holds (λ (y : Standing). y ≡ x) (λ _. sets) (step state e.0).0
+  told_holds done state last e id own x sets holds fit answered poll tabled there own_is serial is =
+      let bare = none_hold done (λ _. sets) state holds in
+      let whole = event_holds (λ _. sets) state e.0 fit bare in
+      let now : State = expire (advance e.0.moment state) in
+      let told : IsTold (step_ask now e.0 (Request (the_request.Poll id))).1 =
+      subst (λ ask. IsTold (step_ask now e.0 ask).1) poll.0 (subst IsTold answered poll.1) in
+      let one = told_finds id e.0.client now e.0.again (session_with_id id now.sessions) refl told in
+      let found : session_with_id id (step state e.0).0.sessions ≡ Some one.0 =
+      subst (λ ask. session_with_id id (step_ask now e.0 ask).0.sessions ≡ Some one.0) (sym poll.0) one.1 in
+      let empty : one.0.queue ≡ [] =
+      told_empties id e.0.client now e.0.again (session_with_id id now.sessions) refl told one.0 one.1 in
+      let has = find_has (λ (y : Session). is_text y.id id) (step state e.0).0.sessions one.0 found in
+      let serials : one.0.serial ≡ own.serial =
+      one_serial (step state e.0).0 last one.0 own whole.tabled tabled has.0 there (text_is one.0.id id has.1 ∙ sym own_is) in
+      record {
+        tabled = whole.tabled;
+        stood = whole.stood;
+        good = whole.good;
+        follows = record {
+          folded = λ s y hs hy same live.
+              let mine : s ≡ one.0 = one_of_serial (step state e.0).0.sessions s one.0 whole.tabled.rising hs has.0
+              (sym same ∙ ap (λ (z : Standing). z.serial) live ∙ serial ∙ sym serials) in
+              let none : s.queue ≡ [] = ap (λ (z : Session). z.queue) mine ∙ empty in
+              subst (λ (z : Standing). fold_items s.queue sets z.name ≡ Some (fresh (step state e.0).0.graph z.search)) (sym live)
+              (subst (λ q. fold_items q sets x.name ≡ Some (fresh (step state e.0).0.graph x.search)) (sym none) is);
+          below = whole.follows.below;
+        };
+      }
+
+  all_joined : (id : List ℕ) (first since : History) (e : Event × Answer) (sets : Sets)
+      → fold_items (all_polled id (first ++ e ∷ since)) sets
+      ≡ fold_items (all_polled id since) (fold_items (polled_by id e.0.ask (items_of e.1)) (fold_items (all_polled id first) sets))
+  all_joined id first since e sets =
+      let told : Event × Answer → List PollItem = λ a. polled_by id a.0.ask (items_of a.1) in
+      ap (λ items. fold_items items sets) (flat_map-append told first (e ∷ since))
+      ∙ fold_joined (all_polled id first) (all_polled id (e ∷ since)) sets
+      ∙ fold_joined (told e) (all_polled id since) (fold_items (all_polled id first) sets)
+
+  since_entry : (start : State) (first later : History) (e asked : Event × Answer) (id : List ℕ) (x : Standing)
+      → Holds (λ (y : Standing). ⊥) (λ _. no_sets) start → LegalFrom start (first ++ e ∷ (later ++ asked ∷ []))
+      → AreFit (first ++ e ∷ (later ++ asked ∷ [])) → IsToldPoll id asked
+      → Keeps (state_from start (first ++ e ∷ (later ++ asked ∷ []))) id x → FoldsSince start first (later ++ asked ∷ []) e id x
+  since_entry start first later e asked id x holds legal fit told keeps =
+      let since : History = later ++ asked ∷ [] in
+      let last : State = state_from start (first ++ e ∷ since) in
+      let mid : State = state_from start first in
+      let parts = legal_before start first (e ∷ since) legal in
+      let fits = fit_before first (e ∷ since) fit in
+      let bare = history_holds first (λ _. no_sets) start parts.0 fits.0 holds in
+      let whole = history_holds (first ++ e ∷ since) (λ _. no_sets) start legal fit holds in
+      let there = find_has (λ (y : Session). is_text y.id id) last.sessions keeps.session keeps.found in
+      let own_is : keeps.session.id ≡ id = text_is keeps.session.id id there.1 in
+      let joined : last ≡ state_from (step mid e.0).0 since = state_joined start first (e ∷ since) in
+      let found : session_with_id id (state_from (step mid e.0).0 since).sessions ≡ Some keeps.session =
+      ap (λ (y : State). session_with_id id y.sessions) (sym joined) ∙ keeps.found in
+      let stands : Has (state_from (step mid e.0).0 since).standing x = subst (λ (y : State). Has y.standing x) joined keeps.stands in
+      let result : Some (fresh (state_from (step mid e.0).0 since).graph x.search) ≡ Some (fresh last.graph x.search) =
+      ap (λ (y : State). Some (fresh y.graph x.search)) (sym joined) in
+      record {
+        updated = λ u.
+            let sets : List ℕ → Sets = λ i. fold_items (polled_by i e.0.ask (items_of e.1)) (fold_items (all_polled i first) no_sets) in
+            let renewed = renewed_holds _ sets mid last e id x.name keeps.session bare fits.1.0 parts.1.0 u whole.tabled there.0 own_is in
+            ap (λ (f : Sets). f x.name) (all_joined id first since e no_sets)
+            ∙ polled_folds sets (step mid e.0).0 later asked id renewed parts.1.1 fits.1.1 told keeps.session x found stands keeps.own
+            (keeps.own, refl) ∙ result;
+        polled = λ earlier sets is.
+            let at_one : sets x.name ≡ Some (fresh (step mid e.0).0.graph x.search) =
+            is ∙ ap (λ (y : State). Some (fresh y.graph x.search)) (state_joined start first (e ∷ [])) in
+            let at_told = told_holds _ mid last e id keeps.session x sets bare fits.1.0 parts.1.0 earlier whole.tabled there.0 own_is
+            keeps.own at_one in
+            polled_folds (λ _. sets) (step mid e.0).0 later asked id at_told parts.1.1 fits.1.1 told keeps.session x found stands keeps.own
+            refl ∙ result;
+      }
+
+  pub entries_agree : (ttl : ℕ) (past entries : History) → Legal ttl (past ++ entries) → AreFit (past ++ entries)
+      → AgreesFrom (state_after ttl past) entries
+  entries_agree ttl past entries legal fit first later rest e poll id x is told keeps =
+      let start : State = state_after ttl past in
+      let parts = legal_before (opening ttl) past entries legal in
+      let fits = fit_before past entries fit in
+      let holds = history_holds past (λ _. no_sets) (opening ttl) parts.0 fits.0
+      (opening_holds {Live = λ (y : Standing). ⊥} ttl (λ _. no_sets)) in
+      let legal_all : LegalFrom start (first ++ e ∷ (later ++ poll ∷ rest)) = subst (LegalFrom start) is parts.1 in
+      let fit_all : AreFit (first ++ e ∷ (later ++ poll ∷ rest)) = subst AreFit is fits.1 in
+      let before = legal_before start first (e ∷ (later ++ poll ∷ rest)) legal_all in
+      let fit_some = fit_before first (e ∷ (later ++ poll ∷ rest)) fit_all in
+      let after = legal_before (step (state_from start first) e.0).0 later (poll ∷ rest) before.1.1 in
+      let fit_later = fit_before later (poll ∷ rest) fit_some.1.1 in
+      since_entry start first later e poll id x (none_hold _ (λ _. no_sets) start holds)
+      (legal_joined start first (e ∷ (later ++ poll ∷ [])) before.0
+      (before.1.0, legal_joined (step (state_from start first) e.0).0 later (poll ∷ []) after.0 (after.1.0, tt)))
+      (fit_joined first (e ∷ (later ++ poll ∷ [])) fit_some.0 (fit_some.1.0, fit_joined later (poll ∷ []) fit_later.0 (fit_later.1.0, tt)))
+      told keeps

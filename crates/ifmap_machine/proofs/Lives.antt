@@ -3,13 +3,12 @@
 -- it (`step_lives`), and so does each history.
 use Rattle.std.proofs.Common.{◌≡◌, refl, sym, ◌∙◌, ap, subst, ℕ, ◌==◌, Bool, true, false, not, List, [], ◌∷◌, ◌++◌, map, Option, None, Some}
 use Rattle.std.proofs.Common.{inl, inr, arith, if◌then◌else◌}
-use Rattle.std.proofs.lemmas.Bool.{cases_Bool, not-true}
+use Rattle.std.proofs.lemmas.Bool.{cases_Bool}
 use Rattle.std.proofs.lemmas.Bool.Decides.{nat_tests}
-use Rattle.std.specs.List.{AllByRecursion, filter, find, list_any}
+use Rattle.std.specs.List.{AllByRecursion, filter, list_any}
 use Rattle.std.specs.Ordering.{is_gt, is_lt}
-use Rattle.ifmap_filter.specs.declared.filters.Filter.{Filter}
 use Rattle.ifmap_ident.specs.declared.items.Item.{Item}
-use Rattle.ifmap_lemmas.specs.Filters.{all_around, all_filter, all_weaker, filter_passes}
+use Rattle.ifmap_lemmas.specs.Filters.{all_around, all_filter, all_weaker}
 use Rattle.ifmap_machine.specs.declared.events.Answer.{Answer}
 use Rattle.ifmap_machine.specs.declared.events.Ask.{Ask}
 use Rattle.ifmap_machine.specs.declared.events.Ask.TheVariants.{Request, Lost}
@@ -21,15 +20,14 @@ use Rattle.ifmap_machine.specs.State.{State, advance, opening}
 use Rattle.ifmap_machine.specs.Step.{answer_subscribed, author_in, begin_session, end_session, in_session, is_full, lose, next_session}
 use Rattle.ifmap_machine.specs.Step.{poll, poll_in, poll_queue, publish, purge, renew, renew_first, renew_session, search, step, step_ask}
 use Rattle.ifmap_machine.specs.Step.{subscribe, with_told}
-use Rattle.ifmap_machine.specs.Subscribing.{Told, subscribe_ops}
-use Rattle.ifmap_machine.specs.Telling.{is_too_big, overflow, overflow_session, tell, tell_session, told_in}
+use Rattle.ifmap_machine.specs.Subscribing.{Told}
+use Rattle.ifmap_machine.specs.Telling.{is_too_big, overflow, overflow_session, tell}
 use Rattle.ifmap_machine.proofs.Tables.{IsTabled, event_table, expired_table, opening_table, overflow_keeps, told_keeps}
 use Rattle.ifmap_meta.specs.declared.metadata.Metadata.{Metadata}
 use Rattle.ifmap_meta.specs.declared.stored.Life.{Life}
 use Rattle.ifmap_meta.specs.declared.stored.Life.TheVariants as the_life
 use Rattle.ifmap_plans.specs.declared.plans.Note.{Note}
-use Rattle.ifmap_plans.specs.Placing.{put}
-use Rattle.ifmap_publish.specs.Apply.{Authorship, apply, apply_op, attach, attachment_of, delete, life_of, update}
+use Rattle.ifmap_publish.specs.Apply.{Authorship, apply, apply_op, attach, attachment_of, life_of, update}
 use Rattle.ifmap_publish.specs.Notes.{notes_of}
 use Rattle.ifmap_publish.specs.declared.who.Who.TheVariants.{Sessions, Publisher}
 use Rattle.ifmap_publish.specs.Retract.{ends_with, retract}
@@ -37,10 +35,9 @@ use Rattle.ifmap_requests.specs.declared.publishing.PublishOp.{PublishOp}
 use Rattle.ifmap_requests.specs.declared.publishing.PublishOp.TheVariants.{Update, Notify, Delete}
 use Rattle.ifmap_requests.specs.declared.requests.Request.TheVariants as the_request
 use Rattle.ifmap_search.specs.declared.results.PollItem.{PollItem}
-use Rattle.ifmap_search.specs.declared.searches.Search.{Search}
 use Rattle.ifmap_session.specs.Sessions.{Session, change, emptied, is_text, renewed, session_of_client, session_with_id}
 use Rattle.ifmap_session.specs.Sessions.{session_with_serial, without_sessions}
-use Rattle.ifmap_session.specs.laws.TableLaws.{Keeps, found_by_serial, found_beside_begun, renewed_keeps}
+use Rattle.ifmap_session.specs.laws.TableLaws.{Keeps, found_by_serial, found_beside_begun}
 use Rattle.ifmap_session.specs.laws.TextLaws.{find_kept}
 use Rattle.ifmap_view.specs.declared.attachments.Attachment.{Attachment}
 use Rattle.ifmap_view.specs.Attachments.{attachment_order, of_one_key}

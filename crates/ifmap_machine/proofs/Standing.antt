@@ -1,7 +1,7 @@
 -- What holds of the subscriptions that stand in every state: they rise by session and name, and a session has 1,000 at most.
 -- First: how many of a filtered list, and of a list with one put in (`fewer_kept`, `put_counted`, `one_gone`). Then what filters and
 -- a new subscription keep (`stood_filter`, `stood_begun`), the fold of a subscribe (`stood_ops`), and each case of the step.
-use Rattle.std.proofs.Common.{◌≡◌, refl, sym, ◌∙◌, ap, subst, ℕ, suc, ◌+◌, ◌<◌, ◌≤◌, ◌==◌, ◌&&◌, Bool, true, false, not, List, [], ◌∷◌}
+use Rattle.std.proofs.Common.{◌≡◌, refl, ◌∙◌, ap, subst, ℕ, ◌+◌, ◌<◌, ◌≤◌, ◌==◌, Bool, true, false, not, List, [], ◌∷◌}
 use Rattle.std.proofs.Common.{◌++◌, length, Option, None, Some, option_and_then, inl, inr, nat_le, arith, length-append}
 use Rattle.std.proofs.lemmas.Bool.{and_cases, and_parts, cases_Bool}
 use Rattle.std.proofs.lemmas.Bool.Decides.{nat_tests}
@@ -19,10 +19,10 @@ use Rattle.ifmap_machine.specs.declared.events.Ask.TheVariants.{Request, Lost}
 use Rattle.ifmap_machine.specs.Ending.{end_former, end_some, expire}
 use Rattle.ifmap_machine.specs.Events.{Event}
 use Rattle.ifmap_machine.specs.Legal.{History, state_from}
-use Rattle.ifmap_machine.specs.State.{Standing, State, advance, opening, standing_in, standing_order}
+use Rattle.ifmap_machine.specs.State.{Standing, State, advance, standing_in, standing_order}
 use Rattle.ifmap_machine.specs.Step.{answer_subscribed, end_session, in_session, is_full, lose, poll, poll_in, poll_queue, publish, purge}
 use Rattle.ifmap_machine.specs.Step.{renew_first, renew_session, search, step, step_ask, subscribe}
-use Rattle.ifmap_machine.specs.Subscribing.{Told, begin_name, drop_name, is_full_for, is_of_name, most_names, subscribe_op, subscribe_ops}
+use Rattle.ifmap_machine.specs.Subscribing.{Told, is_full_for, is_of_name, most_names, subscribe_op, subscribe_ops}
 use Rattle.ifmap_machine.specs.Telling.{is_too_big}
 use Rattle.ifmap_plans.specs.Placing.{put}
 use Rattle.ifmap_plans.specs.laws.PlacingLaws.{put_sorted}
@@ -32,7 +32,6 @@ use Rattle.ifmap_requests.specs.declared.requests.SubscribeOp.TheVariants.{Updat
 use Rattle.ifmap_search.specs.declared.results.PollItem.{PollItem}
 use Rattle.ifmap_search.specs.declared.searches.Search.{Search}
 use Rattle.ifmap_session.specs.Sessions.{Session, is_text, session_of_client, session_with_id}
-use Rattle.ifmap_session.specs.laws.TableLaws.{shorter}
 use Rattle.ifmap_view.specs.declared.attachments.Attachment.{Attachment}
 
 pub standing_total : IsTotalOrder standing_order

@@ -1,12 +1,12 @@
 -- What holds of the sessions in every state: `IsTable`, kept by each case of the step.
 -- First: a function of each session that keeps its serial, id and client keeps it (`mapped_table`); so telling and overflowing do.
 -- Then: some sessions end (`dropped_table`). Then the cases of the step (`step_table`), and histories (`table_after`).
-use Rattle.std.proofs.Common.{◌≡◌, refl, sym, ◌∙◌, ap, subst, ℕ, suc, ◌+◌, ◌-◌, ◌^◌, ◌<◌, ◌≤◌, ◌==◌, ◌&&◌, ◌||◌, Bool, true, false, not}
-use Rattle.std.proofs.Common.{List, [], ◌∷◌, ◌++◌, length, map, Option, None, Some, inl, inr, nat_le, is_none, arith}
+use Rattle.std.proofs.Common.{◌≡◌, refl, sym, ◌∙◌, ap, subst, ℕ, suc, ◌+◌, ◌-◌, ◌^◌, ◌<◌, ◌≤◌, ◌==◌, ◌&&◌, Bool, true, false, not}
+use Rattle.std.proofs.Common.{List, [], ◌∷◌, length, map, Option, None, Some, inl, inr, nat_le, is_none, arith}
 use Rattle.std.proofs.lemmas.Bool.{and_cases, both_ways, cases_Bool, or_parts}
 use Rattle.std.proofs.lemmas.Bool.Decides.{nat_tests}
 use Rattle.std.proofs.lemmas.List.Kept.{IsStrictlySortedBy-filter}
-use Rattle.std.specs.List.{AllByRecursion, IsDistinct, filter, list_any}
+use Rattle.std.specs.List.{AllByRecursion, IsDistinct, list_any}
 use Rattle.std.specs.List.Sorted.{IsStrictlySortedBy}
 use Rattle.std.specs.declared.cmp.Ordering.TheVariants.{Less}
 use Rattle.ifmap_lemmas.specs.Filters.{all_filter, all_weaker}
@@ -18,14 +18,13 @@ use Rattle.ifmap_machine.specs.Ending.{drop_sessions, end_former, end_sessions, 
 use Rattle.ifmap_machine.specs.Events.{Event}
 use Rattle.ifmap_machine.specs.Legal.{History, state_from}
 use Rattle.ifmap_machine.specs.State.{State, advance, opening}
-use Rattle.ifmap_machine.specs.Step.{answer_subscribed, begin_session, end_session, in_session, is_full, lose, new_session, next_session}
+use Rattle.ifmap_machine.specs.Step.{answer_subscribed, begin_session, end_session, in_session, is_full, lose, next_session}
 use Rattle.ifmap_machine.specs.Step.{poll, poll_in, poll_queue, publish, purge, renew, renew_first, renew_session, search, step, step_ask}
 use Rattle.ifmap_machine.specs.Step.{subscribe, with_told}
-use Rattle.ifmap_machine.specs.Subscribing.{Told, subscribe_ops}
+use Rattle.ifmap_machine.specs.Subscribing.{Told}
 use Rattle.ifmap_machine.specs.Telling.{is_overfull, is_too_big, overflow, overflow_session, tell, tell_session, told_in}
 use Rattle.ifmap_plans.specs.declared.plans.Note.{Note}
 use Rattle.ifmap_requests.specs.declared.requests.Request.TheVariants as the_request
-use Rattle.ifmap_requests.specs.declared.requests.SubscribeOp.{SubscribeOp}
 use Rattle.ifmap_search.specs.declared.results.PollItem.{PollItem}
 use Rattle.ifmap_search.specs.declared.searches.Search.{Search}
 use Rattle.ifmap_session.specs.SessionIds.{BeginsWithSerial}
@@ -33,7 +32,7 @@ use Rattle.ifmap_session.specs.Sessions.{IsTable, Session, Table, change, emptie
 use Rattle.ifmap_session.specs.Sessions.{session_with_id, without_sessions}
 use Rattle.ifmap_session.specs.laws.TableLaws.{Keeps, begun_table, changed_table, client_freed, id_begins, one_fewer, renewed_keeps}
 use Rattle.ifmap_session.specs.laws.TableLaws.{shorter}
-use Rattle.ifmap_session.specs.laws.TextLaws.{distinct_filter, find_none}
+use Rattle.ifmap_session.specs.laws.TextLaws.{distinct_filter}
 use Rattle.ifmap_view.specs.declared.attachments.Attachment.{Attachment}
 
 -- the sessions of a state, as a table without room

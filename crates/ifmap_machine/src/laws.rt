@@ -1,9 +1,10 @@
 //! Laws of the machine, over all its histories: functions that do nothing, whose contracts are the laws.
-ghost use Rattle.std.specs.Prelude.{◌≢◌, ◌≤◌, ℕ, All, AllPairs, length};
+ghost use Rattle.std.specs.Prelude.{◌≢◌, ◌≤◌, ◌++◌, ℕ, All, AllPairs, length};
 ghost use Rattle.std.specs.List.Sorted.{IsStrictlySortedBy};
 ghost use Rattle.ifmap_machine.specs.Agreeing.{Agrees};
 ghost use Rattle.ifmap_machine.specs.Legal.{AreFit, History, Legal, live_clients, state_after};
 ghost use Rattle.ifmap_machine.specs.Lives.{AllLive};
+ghost use Rattle.ifmap_machine.specs.Since.{AgreesFrom};
 ghost use Rattle.ifmap_machine.specs.State.{standing_in, standing_order};
 ghost use Rattle.ifmap_machine.specs.Subscribing.{most_names};
 ghost use Rattle.ifmap_plans.specs.Plans.{AreWhole};
@@ -55,6 +56,22 @@ pub fn attachments_are_apart_and_live()
 pub fn clients_fold_fresh_results()
     ensures { (ttl : ℕ) (history : History) → Legal ttl history → AreFit history →
         Agrees ttl history }
+{
+    publishing_keeps_graphs();
+    retracting_keeps_graphs();
+    bytes_tell_identifiers_apart();
+    canonical_bytes_tell_elements_apart();
+    differences_make_the_next_result();
+}
+
+/// What can be seen of a legal history of fit events from any of its entries on. At each poll that is
+/// told something or held, for each subscription that the session then keeps: where an accepted update
+/// of it is among these entries, what the client folds of all that it was told in them is the fresh
+/// result of its search; and where an earlier poll of the session that was told is among them, what it
+/// was told since, folded onto the fresh result at that poll, is the fresh result.
+pub fn clients_fold_fresh_results_from_any_entry()
+    ensures { (ttl : ℕ) (past entries : History) → Legal ttl (past ++ entries)
+        → AreFit (past ++ entries) → AgreesFrom (state_after ttl past) entries }
 {
     publishing_keeps_graphs();
     retracting_keeps_graphs();

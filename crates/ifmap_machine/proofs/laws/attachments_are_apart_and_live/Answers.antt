@@ -1,7 +1,3 @@
-use Rattle.std.proofs.Common.{ℕ, List, []}
-use Rattle.std.specs.List.{IsDistinct}
-use Rattle.std.specs.List.Sorted.{IsStrictlySortedBy}
-use Rattle.ifmap_machine.specs.Legal.{History}
 use Rattle.ifmap_machine.specs.State.{opening}
 use Rattle.ifmap_machine.proofs.Goods.{graph_none}
 use Rattle.ifmap_machine.proofs.Graphs.{history_good}

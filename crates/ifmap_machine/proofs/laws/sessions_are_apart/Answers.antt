@@ -1,7 +1,7 @@
-use Rattle.std.proofs.Common.{ℕ, ◌≤◌}
+use Rattle.std.proofs.Common.{◌≤◌}
 use Rattle.std.proofs.lemmas.List.Elements.{All-from_recursion}
 use Rattle.std.proofs.lemmas.Map.Made.{AllPairs-from_IsDistinct}
-use Rattle.ifmap_machine.specs.Legal.{History, live_clients, state_after}
+use Rattle.ifmap_machine.specs.Legal.{live_clients, state_after}
 use Rattle.ifmap_machine.specs.State.{opening}
 use Rattle.ifmap_machine.proofs.Tables.{opening_table, table_after}
 use Rattle.ifmap_machine.proofs.laws.sessions_are_apart.Goals as goal

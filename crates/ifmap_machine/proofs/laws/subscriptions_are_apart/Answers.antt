@@ -1,5 +1,3 @@
-use Rattle.std.proofs.Common.{ℕ}
-use Rattle.ifmap_machine.specs.Legal.{History}
 use Rattle.ifmap_machine.specs.State.{opening}
 use Rattle.ifmap_machine.proofs.Standing.{stood_after, stood_none}
 use Rattle.ifmap_machine.proofs.laws.subscriptions_are_apart.Goals as goal
