@@ -1,5 +1,5 @@
 -- The calls of a log as a history of the machine.
-use Rattle.std.proofs.Common.{◌≡◌, refl, ℕ, [], ◌∷◌, ◌++◌, ap}
+use Rattle.std.proofs.Common.{◌≡◌, refl, sym, ap, subst, ℕ, [], ◌∷◌, ◌++◌}
 use Rattle.std.proofs.Math.Logic.{∥∥₁_elim, ∥∥₁_map, ∥∥₁_prop}
 use Rattle.std.specs.Coded.{Coded-set, coded_list, coded_option}
 use Rattle.ifmap_desks.specs.Calls.{Log, calls_from}
@@ -7,7 +7,8 @@ use Rattle.ifmap_desks.specs.Machines.{core_next}
 use Rattle.ifmap_desks.specs.declared.machine.CoreMachine.{CoreMachine}
 use Rattle.ifmap_hall.specs.Sights.{run}
 use Rattle.ifmap_machine.specs.Agreeing.{Agrees}
-use Rattle.ifmap_machine.specs.Legal.{AreFit, History, Legal, LegalFrom, state_from}
+use Rattle.ifmap_machine.specs.Legal.{AreFit, History, Legal, LegalFrom, state_after, state_from}
+use Rattle.ifmap_machine.specs.Since.{AgreesFrom}
 use Rattle.ifmap_machine.specs.State.{State, opening}
 use Rattle.ifmap_machine.specs.Step.{step}
 use Rattle.ifmap_search.specs.contracts.results.Entry as the_entry
@@ -42,3 +43,25 @@ calls_append machine (x ∷ xs) ys =
 pub run_append : (machine : CoreMachine) (xs ys : Log) → run core_next machine (xs ++ ys) ≡ run core_next (run core_next machine xs) ys
 run_append machine [] ys = refl
 run_append machine (x ∷ xs) ys = run_append (core_next machine x.1) xs ys
+
+-- the same law from an entry on
+pub since_calls : ((ttl : ℕ) (past entries : History) → Legal ttl (past ++ entries) → AreFit (past ++ entries)
+    → AgreesFrom (state_after ttl past) entries)
+    → (ttl : ℕ) (past log : Log) → AgreesFrom (run core_next (record { core = opening ttl }) past).core
+    (calls_from (run core_next (record { core = opening ttl }) past).core log)
+since_calls law ttl past log first later rest e poll id x is told keeps =
+    let machine : CoreMachine = record { core = opening ttl } in
+    let start : State = (run core_next machine past).core in
+    let all : calls_from (opening ttl) (past ++ log) ≡ calls_from (opening ttl) past ++ calls_from start log = calls_append machine past log in
+    let legal : Legal ttl (calls_from (opening ttl) past ++ calls_from start log) =
+    subst (Legal ttl) all (legal_calls (opening ttl) (past ++ log)) in
+    let fit = subst (λ (h : History). ∥ AreFit h ∥₁) all (fit_calls (opening ttl) (past ++ log)) in
+    let agrees : AreFit (calls_from (opening ttl) past ++ calls_from start log) → AgreesFrom start (calls_from start log) =
+    λ f. subst (λ (s : State). AgreesFrom s (calls_from start log)) (sym (run_by_calls machine past))
+    (law ttl (calls_from (opening ttl) past) (calls_from start log) legal f) in
+    record {
+      updated = λ u. ∥∥₁_elim fit (Coded-set (coded_option (coded_list the_entry.the_row.coded)) _ _)
+          (λ f. (agrees f first later rest e poll id x is told keeps).updated u);
+      polled = λ earlier sets own. ∥∥₁_elim fit (Coded-set (coded_option (coded_list the_entry.the_row.coded)) _ _)
+          (λ f. (agrees f first later rest e poll id x is told keeps).polled earlier sets own);
+    }

@@ -4,7 +4,7 @@ use Rattle.std.proofs.lemmas.List.Elements.{All-nil, All-push}
 use Rattle.ifmap_desks.specs.Answers.{Counted, one_more, plain}
 use Rattle.ifmap_desks.specs.declared.answers.Counts.{Counts}
 use Rattle.ifmap_desks.specs.declared.events.FitEvent.{FitEvent}
-use Rattle.ifmap_dialogue.specs.Desks.{Call, Fits, Gains, Rises, Tells, Turn, call_of}
+use Rattle.ifmap_dialogue.specs.Desks.{Call, CountsOn, Fits, Gains, Rises, Tells, Turn, call_of}
 use Rattle.ifmap_hall.specs.declared.book.Asked.{Asked}
 use Rattle.ifmap_hall.specs.declared.book.Asked.TheVariants as asked
 use Rattle.ifmap_machine.specs.declared.events.Answer.{Answer}
@@ -20,38 +20,42 @@ goes_on before after e = record { least = omega (arith, e); most = omega (arith,
 one_turn : (t : Turn) → Fits t.event t.asked → All (λ (x : Turn). Fits x.event x.asked) (t ∷ [])
 one_turn t f = All-push (λ (x : Turn). Fits x.event x.asked) [] t (All-nil (λ (x : Turn). Fits x.event x.asked)) f
 
-module _ {H : Type 0} (said later : Option (List Call)) (old new : Counts) (home same : H) (loan kept : ℕ) where
-  pub tells : (event : Event) (answer : Asked Event Answer) → Gains said later (call_of event answer) → Counted answer old new
-      → same ≡ home → kept ≡ loan → Fits event answer
-      → Tells {H = H} (record { said = said; held = old.held; spent = old.spent; home = home; loan = loan })
-      (record { said = later; held = new.held; spent = new.spent; home = same; loan = kept })
+module _ {H : Type 0} (said later : Option (List Call)) (turns taken : Option ℕ) (old new : Counts) (home same : H) (loan kept : ℕ) where
+  pub tells : (event : Event) (answer : Asked Event Answer) → Gains said later (call_of event answer) → CountsOn turns taken 1
+      → Counted answer old new → same ≡ home → kept ≡ loan → Fits event answer
+      → Tells {H = H} (record { said = said; turns = turns; held = old.held; spent = old.spent; home = home; loan = loan })
+      (record { said = later; turns = taken; held = new.held; spent = new.spent; home = same; loan = kept })
       (record { event = event; asked = answer } ∷ [])
-  tells event (asked.Done place reply) gains counted h l fits = record {
+  tells event (asked.Done place reply) gains on counted h l fits = record {
     said = gains;
+    count = on;
     held = stays old.held new.held (ap (λ (x : Counts). x.held) counted);
     spent = stays old.spent new.spent (ap (λ (x : Counts). x.spent) counted);
     home = h;
     loan = l;
     fit = one_turn (record { event = event; asked = asked.Done place reply }) fits;
   }
-  tells event (asked.Held place back) gains counted h l fits = record {
+  tells event (asked.Held place back) gains on counted h l fits = record {
     said = gains;
+    count = on;
     held = goes_on old.held new.held (ap (λ (x : Counts). x.held) counted);
     spent = stays old.spent new.spent (ap (λ (x : Counts). x.spent) counted);
     home = h;
     loan = l;
     fit = one_turn (record { event = event; asked = asked.Held place back }) fits;
   }
-  tells event (asked.Spent entries back) gains counted h l fits = record {
+  tells event (asked.Spent entries back) gains on counted h l fits = record {
     said = gains;
+    count = on;
     held = stays old.held new.held (ap (λ (x : Counts). x.held) counted);
     spent = goes_on old.spent new.spent (ap (λ (x : Counts). x.spent) counted);
     home = h;
     loan = l;
     fit = one_turn (record { event = event; asked = asked.Spent entries back }) fits;
   }
-  tells event (asked.NoMemory back) gains counted h l fits = record {
+  tells event (asked.NoMemory back) gains on counted h l fits = record {
     said = gains;
+    count = on;
     held = stays old.held new.held (ap (λ (x : Counts). x.held) counted);
     spent = stays old.spent new.spent (ap (λ (x : Counts). x.spent) counted);
     home = h;
@@ -61,13 +65,13 @@ module _ {H : Type 0} (said later : Option (List Call)) (old new : Counts) (home
 
   -- the same, where the event was handed on with the proof that it is fit
   pub tells_plain : (event : Event) (fit : FitEvent) → fit.event ≡ event → (given : Asked FitEvent Answer) (answer : Asked Event Answer)
-      → answer ≡ plain given → Gains said later (call_of fit.event (plain given)) → Counted answer old new → same ≡ home → kept ≡ loan
-      → Fits fit.event (plain given)
-      → Tells {H = H} (record { said = said; held = old.held; spent = old.spent; home = home; loan = loan })
-      (record { said = later; held = new.held; spent = new.spent; home = same; loan = kept })
+      → answer ≡ plain given → Gains said later (call_of fit.event (plain given)) → CountsOn turns taken 1 → Counted answer old new
+      → same ≡ home → kept ≡ loan → Fits fit.event (plain given)
+      → Tells {H = H} (record { said = said; turns = turns; held = old.held; spent = old.spent; home = home; loan = loan })
+      (record { said = later; turns = taken; held = new.held; spent = new.spent; home = same; loan = kept })
       (record { event = event; asked = answer } ∷ [])
-  tells_plain event fit is given answer plainly gains counted h l fits =
+  tells_plain event fit is given answer plainly gains on counted h l fits =
       tells event answer
       (subst (λ (e : Event). Gains said later (call_of e answer)) is
-      (subst (λ (a : Asked Event Answer). Gains said later (call_of fit.event a)) (sym plainly) gains)) counted h l
+      (subst (λ (a : Asked Event Answer). Gains said later (call_of fit.event a)) (sym plainly) gains)) on counted h l
       (subst (λ (e : Event). Fits e answer) is (subst (λ (a : Asked Event Answer). Fits fit.event a) (sym plainly) fits))

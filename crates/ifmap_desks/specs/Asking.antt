@@ -1,5 +1,5 @@
 -- What an answer at a desk says of its book, or of the history of its hall.
-use Rattle.std.specs.Prelude.{◌≡◌, ℕ, ◌-◌, ◌^◌, ◌<◌, true, false, map, Some}
+use Rattle.std.specs.Prelude.{◌≡◌, ℕ, ◌-◌, ◌^◌, ◌<◌, true, false, map, None, Some}
 use Rattle.ifmap_desks.specs.Answers.{plain}
 use Rattle.ifmap_desks.specs.Calls.{plain_call, told_since}
 use Rattle.ifmap_desks.specs.Machines.{CoreBook, CoreView, core_holds, core_next, core_reply, core_weight}
@@ -61,6 +61,7 @@ pass_at desk = desk.pass
 abbrev pub book_seen : BookDesk → DeskSeen (Unit {0})
 book_seen desk = record {
   said = told_since desk.since desk.book;
+  turns = None;
   held = desk.counts.held;
   spent = desk.counts.spent;
   home = tt;
@@ -81,6 +82,7 @@ parts_at desk = parts_of desk.pass.now
 abbrev pub pass_seen : {R : Type 0} → PassDesk R → DeskSeen (Hall CoreMachine FitEvent Answer)
 pass_seen desk = record {
   said = Some (map plain_call (view_at desk).said);
+  turns = Some (view_at desk).turns;
   held = desk.counts.held;
   spent = desk.counts.spent;
   home = desk.hall.now;

@@ -46,11 +46,15 @@ impl BookDesk {
 }
 
 impl Desk for BookDesk {
+    ghost use Rattle.std.specs.Prelude.{None};
     ghost use Rattle.ifmap_desks.specs.Calls.{told_since};
 
     type Home = ();
 
     ghost said = { λ desk. told_since desk.since desk.book };
+
+    // A book counts no turns: `AnsweredByBook` says what each of them left.
+    ghost turns = { λ _. None };
 
     ghost held = { λ desk. desk.counts.held };
 

@@ -11,14 +11,16 @@ ghost use Rattle.ifmap_hall.specs.Sights.{run};
 ghost use Rattle.ifmap_machine.specs.Agreeing.{Agrees};
 ghost use Rattle.ifmap_machine.specs.Events.{Event};
 ghost use Rattle.ifmap_machine.specs.Legal.{Legal, state_from};
+ghost use Rattle.ifmap_machine.specs.Since.{AgreesFrom};
 ghost use Rattle.ifmap_machine.specs.State.{State, opening};
 ghost use Rattle.ifmap_machine.specs.Step.{step};
 
-use ifmap_machine::laws::clients_fold_fresh_results;
+use ifmap_machine::laws::{clients_fold_fresh_results, clients_fold_fresh_results_from_any_entry};
 
 /// The test whether an event would be held is true exactly where it would be.
 pub fn holding_is_exact()
-    ensures { (state : State) (event : Event) → would_hold state event ≡ true ↔ WouldHold state event }
+    ensures { (state : State) (event : Event)
+        → would_hold state event ≡ true ↔ WouldHold state event }
 {}
 
 /// A pass that entered nothing and said nothing has said what the machine answered.
@@ -35,12 +37,16 @@ pub fn answers_fit_events()
 /// The calls of every log of a machine are a legal history, and the machine is run by it. From an
 /// opening state on the clients agree in it: after each poll that is told something or held, what its
 /// client folds of all that it was told since the opening state is, for each subscription that the
-/// session keeps, the fresh result of its search.
+/// session keeps, the fresh result of its search. The same can be seen from any entry of the log on.
 pub fn clients_agree_in_every_log()
     ensures legal { (ttl : ℕ) (log : Log) → Legal ttl (calls_from (opening ttl) log) }
     ensures state { (machine : CoreMachine) (log : Log)
         → (run core_next machine log).core ≡ state_from machine.core (calls_from machine.core log) }
     ensures agrees { (ttl : ℕ) (log : Log) → Agrees ttl (calls_from (opening ttl) log) }
+    ensures since { (ttl : ℕ) (past log : Log)
+        → AgreesFrom (run core_next (record { core = opening ttl }) past).core
+        (calls_from (run core_next (record { core = opening ttl }) past).core log) }
 {
     clients_fold_fresh_results();
+    clients_fold_fresh_results_from_any_entry();
 }

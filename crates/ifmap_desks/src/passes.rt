@@ -1,6 +1,6 @@
 //! Asking a hall by a pass of it.
 ghost use Rattle.std.specs.Prelude.{◌≡◌, ◌≤◌, ◌∷◌, []};
-ghost use Rattle.ifmap_desks.specs.Agreement.{ClientsAgree};
+ghost use Rattle.ifmap_desks.specs.Agreement.{ClientsAgree, EntriesAgree};
 ghost use Rattle.ifmap_desks.specs.Asking.{AnsweredByHall, number_at, parts_at, pass_seen, view_at};
 ghost use Rattle.ifmap_desks.specs.Machines.{core_next};
 ghost use Rattle.ifmap_desks.specs.Recalls.{Recalls};
@@ -56,6 +56,8 @@ impl<'a, R: Wait> Desk for PassDesk<'a, R> {
 
     ghost said = { λ desk. Some (map plain_call (view_of desk.pass.now).said) };
 
+    ghost turns = { λ desk. Some (view_of desk.pass.now).turns };
+
     ghost held = { λ desk. desk.counts.held };
 
     ghost spent = { λ desk. desk.counts.spent };
@@ -78,6 +80,7 @@ impl<'a, R: Wait> Desk for PassDesk<'a, R> {
         ensures answered { AnsweredByHall (view_at self.old) (view_at self.new)
             (number_at self.old) event result }
         ensures agrees { ClientsAgree (view_at self.new) }
+        ensures entries_agree { EntriesAgree (view_at self.new) }
     {
         answers_fit_events();
         holding_is_exact();

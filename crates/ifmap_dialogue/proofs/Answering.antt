@@ -21,7 +21,7 @@ use Rattle.ifmap_dialogue.specs.Findings.{FindsPost}
 use Rattle.ifmap_dialogue.specs.Scenes.{HasCauses, ServesAnswer, ServesPost, scene}
 use Rattle.ifmap_dialogue.specs.Turns.{AsksLost}
 use Rattle.ifmap_dialogue.specs.Wires.{GainsBytes, IsGivenUp, WireSeen, Writes, bare_answer}
-use Rattle.ifmap_dialogue.proofs.Telling.{tells_more, tells_none}
+use Rattle.ifmap_dialogue.specs.Telling.{tells_more, tells_none}
 
 -- an ending that tells of no fault
 pub record IsQuiet (due : Option Ending) : Type 0 where

@@ -21,7 +21,7 @@ use Rattle.ifmap_dialogue.specs.Findings.{Asking, Finds, FindsPost, FindsQuestio
 use Rattle.ifmap_dialogue.specs.Scenes.{HasFitPoll}
 use Rattle.ifmap_dialogue.specs.Turns.{IsFirst, Question, event_of, lost_event, question_of}
 use Rattle.ifmap_dialogue.specs.Words.{after_random, random_word}
-use Rattle.ifmap_dialogue.proofs.Telling.{fits_one, tells_none}
+use Rattle.ifmap_dialogue.specs.Telling.{fits_one, tells_none}
 use Rattle.ifmap_dialogue.proofs.Turning.{Waits, finds_replied, finds_spent, finds_wanting, not_heard, not_held, not_told, waits_first}
 
 module _ {H : Type 0} (gives : ℕ → Type 0) (before after : DeskSeen H) where

@@ -29,7 +29,7 @@ use Rattle.ifmap_dialogue.specs.Rounds.{Follows, IsRound, Round, Standing, is_la
 use Rattle.ifmap_dialogue.specs.Scenes.{HasCauses, Scene, ServesPost, ServesRound, scene, standing}
 use Rattle.ifmap_dialogue.specs.Wires.{GainsBytes, IsGivenUp, WireSeen, Writes, bare_answer, wire_seen}
 use Rattle.ifmap_dialogue.proofs.Answering.{Counts, IsQuiet, causes_after, causes_quiet, quiet_closing, quiet_refused, quiet_spent, quiet_wanting}
-use Rattle.ifmap_dialogue.proofs.Telling.{tells_more, tells_none}
+use Rattle.ifmap_dialogue.specs.Telling.{tells_more, tells_none}
 
 -- ---- what was read of a wire
 

@@ -1,4 +1,3 @@
-pub mod Telling
 pub mod Turning
 pub mod Coming
 pub mod Writing

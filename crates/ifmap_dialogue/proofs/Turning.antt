@@ -20,7 +20,7 @@ use Rattle.ifmap_dialogue.specs.declared.polls.Poll.{Poll}
 use Rattle.ifmap_dialogue.specs.Desks.{DeskSeen, Fits, Tells, Turn, outcome_of}
 use Rattle.ifmap_dialogue.specs.Findings.{FindsQuestion, IsNotPolled, finding_of}
 use Rattle.ifmap_dialogue.specs.Turns.{AllAsk, Asks, EndsIn, IsHeld, Question, event_of, most_turns, question_of}
-use Rattle.ifmap_dialogue.proofs.Telling.{tells_more, tells_none}
+use Rattle.ifmap_dialogue.specs.Telling.{tells_more, tells_none}
 
 -- ---- what an answer is for
 

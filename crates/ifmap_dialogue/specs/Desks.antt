@@ -1,5 +1,5 @@
 -- What is asked at a desk, and what that leaves there.
-use Rattle.std.specs.Prelude.{◌≡◌, ℕ, ◌+◌, ◌-◌, ◌*◌, ◌^◌, ◌≤◌, min, Bool, true, false, List, [], ◌∷◌, ◌++◌, Option, Some, IfSome, count_by, flat_map, All}
+use Rattle.std.specs.Prelude.{◌≡◌, ℕ, ◌+◌, ◌-◌, ◌*◌, ◌^◌, ◌≤◌, min, Bool, true, false, List, [], ◌∷◌, ◌++◌, length, Option, Some, IfSome, count_by, flat_map, All}
 use Rattle.ifmap_hall.specs.declared.book.Asked.{Asked}
 use Rattle.ifmap_hall.specs.declared.book.Asked.TheVariants as asked
 use Rattle.ifmap_dialogue.specs.declared.desks.Outcome.{Outcome}
@@ -98,32 +98,38 @@ Fits event (asked.Held place back) = IsPoll event × (back ≡ event)
 Fits event (asked.Spent entries back) = back ≡ event
 Fits event (asked.NoMemory back) = back ≡ event
 
--- a desk as contracts see it: the calls that were done there, where it tells them; how many of its answers were `Held`, and how many
--- `Spent`; and, which no call changes, what it stands in and what it borrows
+-- a desk as contracts see it: the calls that were done there, where it tells them; how many turns it took, where it counts them; how
+-- many of its answers were `Held`, and how many `Spent`; and, which no call changes, what it stands in and what it borrows
 pub record DeskSeen (H : Type 0) : Type 0 where
   pub said : Option (List Call)
+  pub turns : Option ℕ
   pub held : ℕ
   pub spent : ℕ
   pub home : H
   pub loan : ℕ
 
--- a desk by its five meanings
-abbrev pub desk_seen : {K H : Type 0} → (K → Option (List Call)) → (K → ℕ) → (K → ℕ) → (K → H) → (K → ℕ) → K → DeskSeen H
-desk_seen said held spent home loan desk =
-    record { said = said desk; held = held desk; spent = spent desk; home = home desk; loan = loan desk }
+-- a desk by its six meanings
+abbrev pub desk_seen : {K H : Type 0} → (K → Option (List Call)) → (K → Option ℕ) → (K → ℕ) → (K → ℕ) → (K → H) → (K → ℕ) → K → DeskSeen H
+desk_seen said turns held spent home loan desk =
+    record { said = said desk; turns = turns desk; held = held desk; spent = spent desk; home = home desk; loan = loan desk }
 
 -- where calls are told, they were told before, and these came after them
 abbrev pub Gains : Option (List Call) → Option (List Call) → List Call → Type 0
 Gains before after more = IfSome after (λ all. (former : List Call) × (before ≡ Some former) × (all ≡ former ++ more))
+
+-- where turns are counted, they were counted before, and there are so many more
+abbrev pub CountsOn : Option ℕ → Option ℕ → ℕ → Type 0
+CountsOn before after more = IfSome after (λ all. (former : ℕ) × (before ≡ Some former) × (all ≡ former + more))
 
 -- a count rose by so many, or stands at its last value
 pub record Rises (many before after : ℕ) : Type 0 where
   pub least : min (before + many) (2 ^ 64 - 1) ≤ after
   pub most : after ≤ before + many
 
--- what these turns leave at a desk
+-- what these turns leave at a desk: each of them is one turn that it took
 pub record Tells {H : Type 0} (before after : DeskSeen H) (turns : List Turn) : Type 0 where
   pub said : Gains before.said after.said (calls turns)
+  pub count : CountsOn before.turns after.turns (length turns)
   pub held : Rises (count_by is_held_back turns) before.held after.held
   pub spent : Rises (count_by is_spent turns) before.spent after.spent
   pub home : after.home ≡ before.home

@@ -1,4 +1,5 @@
 pub mod Desks
+pub mod Telling
 pub mod Turns
 pub mod Words
 pub mod Findings

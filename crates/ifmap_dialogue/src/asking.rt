@@ -40,8 +40,8 @@ pub const MOST_TURNS: u32 = 36_000;
 pub(crate) fn take_turn<K: Desk, G: Gate>(desk: &mut K, gate: &mut G, event: Event) -> Outcome
     requires light { weight event ≤ heaviest }
     ensures { (turn : Turn) × (turn.event ≡ event) × (result ≡ outcome_of turn.asked)
-        × Tells (desk_seen K.said K.held K.spent K.home K.loan desk.old)
-        (desk_seen K.said K.held K.spent K.home K.loan desk.new) (turn ∷ []) }
+        × Tells (desk_seen K.said K.turns K.held K.spent K.home K.loan desk.old)
+        (desk_seen K.said K.turns K.held K.spent K.home K.loan desk.new) (turn ∷ []) }
 {
     gate.pass(BEFORE_ASK);
     outcome_of(desk.ask(event))
@@ -75,8 +75,8 @@ pub(crate) fn ask_request<K: Desk, C: Clock, G: Gate>(
     requires fit { IsFitRequest request }
     requires short { asker.bytes ≤ longest_post }
     ensures { FindsRequest (C.gives setting.now.clock.now)
-        (desk_seen K.said K.held K.spent K.home K.loan desk.old)
-        (desk_seen K.said K.held K.spent K.home K.loan desk.new)
+        (desk_seen K.said K.turns K.held K.spent K.home K.loan desk.old)
+        (desk_seen K.said K.turns K.held K.spent K.home K.loan desk.new)
         (record {
           client = asker.client;
           bytes = asker.bytes;
@@ -131,8 +131,8 @@ fn ask_once<K: Desk, C: Clock, G: Gate>(
     requires short { asker.bytes ≤ longest_post }
     requires other { (session : List ℕ) → request ≢ Polling session }
     ensures { FindsRequest (C.gives setting.now.clock.now)
-        (desk_seen K.said K.held K.spent K.home K.loan desk.old)
-        (desk_seen K.said K.held K.spent K.home K.loan desk.new)
+        (desk_seen K.said K.turns K.held K.spent K.home K.loan desk.old)
+        (desk_seen K.said K.turns K.held K.spent K.home K.loan desk.new)
         (record {
           client = asker.client;
           bytes = asker.bytes;
@@ -165,8 +165,8 @@ fn ask_poll<K: Desk, C: Clock, G: Gate>(
     requires fit { IsCharacters session }
     requires short { asker.bytes ≤ longest_post }
     ensures { FindsRequest (C.gives setting.now.clock.now)
-        (desk_seen K.said K.held K.spent K.home K.loan desk.old)
-        (desk_seen K.said K.held K.spent K.home K.loan desk.new)
+        (desk_seen K.said K.turns K.held K.spent K.home K.loan desk.old)
+        (desk_seen K.said K.turns K.held K.spent K.home K.loan desk.new)
         (record {
           client = asker.client;
           bytes = asker.bytes;
@@ -226,8 +226,8 @@ fn await_reply<K: Desk, C: Clock, G: Gate>(
     requires short { poll.bytes ≤ longest_post }
     requires first { IsFirst (C.gives setting.now.clock.now) poll first }
     ensures { FindsQuestion (C.gives setting.now.clock.now)
-        (desk_seen K.said K.held K.spent K.home K.loan desk.old)
-        (desk_seen K.said K.held K.spent K.home K.loan desk.new) (question_of poll) result }
+        (desk_seen K.said K.turns K.held K.spent K.home K.loan desk.old)
+        (desk_seen K.said K.turns K.held K.spent K.home K.loan desk.new) (question_of poll) result }
 {
     let mut event = first;
     let mut turns = 0;
@@ -272,8 +272,8 @@ pub(crate) fn tell_lost<K: Desk, C: Clock, G: Gate>(
 ) -> Ending
     requires fit { IsCharacters poll.session }
     ensures { (turn : Turn) × AsksLost (C.gives setting.now.clock.now) poll turn
-        × Tells (desk_seen K.said K.held K.spent K.home K.loan desk.old)
-        (desk_seen K.said K.held K.spent K.home K.loan desk.new) (turn ∷ [])
+        × Tells (desk_seen K.said K.turns K.held K.spent K.home K.loan desk.old)
+        (desk_seen K.said K.turns K.held K.spent K.home K.loan desk.new) (turn ∷ [])
         × (result ≡ ending_heard due (outcome_of turn.asked)) }
 {
     ending_heard(due, take_turn(desk, gate, poll.lost_event(setting)))

@@ -30,8 +30,8 @@ pub(crate) fn consult<K: Desk, C: Clock, G: Gate>(
 ) -> Finding
     requires short { length body.now ≤ longest_post }
     ensures { FindsPost (C.gives setting.now.clock.now)
-        (desk_seen K.said K.held K.spent K.home K.loan desk.old)
-        (desk_seen K.said K.held K.spent K.home K.loan desk.new)
+        (desk_seen K.said K.turns K.held K.spent K.home K.loan desk.old)
+        (desk_seen K.said K.turns K.held K.spent K.home K.loan desk.new)
         (record { client = client; body = body.now; words = words.old; after = words.new })
         result }
 {

@@ -14,6 +14,9 @@ pub trait Desk {
     /// The calls that were done, where they are told.
     ghost said: { Self → Option (List Call) };
 
+    /// How many turns it took, where it counts them: one for each ask.
+    ghost turns: { Self → Option ℕ };
+
     /// How many of its answers were `Held`.
     ghost held: { Self → ℕ };
 
@@ -32,8 +35,8 @@ pub trait Desk {
     fn ask(&mut self, event: Event) -> Asked<Event, Answer>
         requires light { weight event ≤ heaviest }
         ensures tells { Tells
-            (desk_seen said held spent home loan self.old)
-            (desk_seen said held spent home loan self.new)
+            (desk_seen said turns held spent home loan self.old)
+            (desk_seen said turns held spent home loan self.new)
             (record { event = event; asked = result } ∷ []) };
 }
 

@@ -36,9 +36,9 @@ pub(crate) fn serve_round<K: Desk, L: Link, C: Clock, G: Gate>(
 ) -> Option<Ending>
     requires { IsFalse wire.old.spent }
     ensures serves { ServesRound (C.gives setting.now.clock.now) number
-        (scene (desk_seen K.said K.held K.spent K.home K.loan desk.old)
+        (scene (desk_seen K.said K.turns K.held K.spent K.home K.loan desk.old)
         (wire_seen L.left L.held L.Source.faults L.Sink.faults wire.old) words.old)
-        (scene (desk_seen K.said K.held K.spent K.home K.loan desk.new)
+        (scene (desk_seen K.said K.turns K.held K.spent K.home K.loan desk.new)
         (wire_seen L.left L.held L.Source.faults L.Sink.faults wire.new) words.new) result }
     ensures more { IfNone result (IsFalse wire.new.spent × (number ≢ most_posts)) }
 {
@@ -88,9 +88,9 @@ fn answer_post<K: Desk, L: Link, C: Clock, G: Gate>(
 ) -> Option<Ending>
     requires short { length post.body ≤ longest_post }
     ensures { ServesPost (C.gives setting.now.clock.now)
-        (scene (desk_seen K.said K.held K.spent K.home K.loan desk.old)
+        (scene (desk_seen K.said K.turns K.held K.spent K.home K.loan desk.old)
         (wire_seen L.left L.held L.Source.faults L.Sink.faults wire.old) words.old)
-        (scene (desk_seen K.said K.held K.spent K.home K.loan desk.new)
+        (scene (desk_seen K.said K.turns K.held K.spent K.home K.loan desk.new)
         (wire_seen L.left L.held L.Source.faults L.Sink.faults wire.new) words.new)
         post result }
 {
@@ -115,9 +115,9 @@ fn answer<K: Desk, L: Link, C: Clock, G: Gate>(
 ) -> Option<Ending>
     requires fit { HasFitPoll finding }
     ensures { (words : ChaCha) → ServesAnswer (C.gives setting.now.clock.now)
-        (scene (desk_seen K.said K.held K.spent K.home K.loan desk.old)
+        (scene (desk_seen K.said K.turns K.held K.spent K.home K.loan desk.old)
         (wire_seen L.left L.held L.Source.faults L.Sink.faults wire.old) words)
-        (scene (desk_seen K.said K.held K.spent K.home K.loan desk.new)
+        (scene (desk_seen K.said K.turns K.held K.spent K.home K.loan desk.new)
         (wire_seen L.left L.held L.Source.faults L.Sink.faults wire.new) words)
         (record { finding = finding; close = close; next = result }) }
 {
@@ -157,8 +157,8 @@ fn conclude<K: Desk, C: Clock, G: Gate>(
 ) -> Option<Ending>
     requires fit { IsCharacters poll.session }
     ensures { (turns : List Turn)
-        × Tells (desk_seen K.said K.held K.spent K.home K.loan desk.old)
-        (desk_seen K.said K.held K.spent K.home K.loan desk.new) turns
+        × Tells (desk_seen K.said K.turns K.held K.spent K.home K.loan desk.old)
+        (desk_seen K.said K.turns K.held K.spent K.home K.loan desk.new) turns
         × LosesUnlessDone (C.gives setting.now.clock.now) poll close sent turns result }
 {
     match sent {

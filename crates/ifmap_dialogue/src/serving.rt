@@ -29,9 +29,9 @@ pub fn serve_connection<K: Desk, L: Link, C: Clock, G: Gate>(
 ) -> Ending
     requires { IsFalse wire.old.spent }
     ensures { Serves (C.gives clock.now)
-        (scene (desk_seen K.said K.held K.spent K.home K.loan desk.old)
+        (scene (desk_seen K.said K.turns K.held K.spent K.home K.loan desk.old)
         (wire_seen L.left L.held L.Source.faults L.Sink.faults wire.old) words.old)
-        (scene (desk_seen K.said K.held K.spent K.home K.loan desk.new)
+        (scene (desk_seen K.said K.turns K.held K.spent K.home K.loan desk.new)
         (wire_seen L.left L.held L.Source.faults L.Sink.faults wire.new) words.new) result }
 {
     let setting = Setting { alloc, clock };

@@ -1,6 +1,6 @@
 -- Stands that are handed their passes one after another, and then served.
-use Rattle.std.proofs.Common.{◌≡◌, ◌≢◌, ℕ, ◌+◌, ◌<◌, ◌≤◌, Bool, true, false, List, [], length, nat_eq, slice_index_or, slice_set, refl, sym, ap, subst, ◌∙◌, arith}
-use Rattle.std.specs.Prelude.{IfSome, IsSome}
+use Rattle.std.proofs.Common.{◌≡◌, ◌≢◌, ℕ, ◌+◌, ◌<◌, ◌≤◌, Bool, true, false, List, length, nat_eq, slice_index_or, slice_set, refl, sym, ap, subst, ◌∙◌, arith}
+use Rattle.std.specs.Prelude.{IfSome}
 use Rattle.std.proofs.lemmas.Bool.Decides.{nat_tests}
 use Rattle.std.proofs.lemmas.List.{get_or-set_same, get_or-set_other}
 use Rattle.ifmap_desks.specs.declared.events.FitEvent.{FitEvent}
@@ -22,6 +22,7 @@ opens_kept v w o is sound = record {
     heaviest = ap (λ (x : View CoreMachine FitEvent Answer). x.terms.heaviest) is ∙ o.view.heaviest;
     sound = sound;
   };
+  idle = ap (λ (x : View CoreMachine FitEvent Answer). x.turns) is ∙ o.idle;
   asked_none = ap (λ (x : View CoreMachine FitEvent Answer). x.mine) is ∙ o.asked_none;
   silent = ap (λ (x : View CoreMachine FitEvent Answer). x.said) is ∙ o.silent;
 }
@@ -34,6 +35,7 @@ opens_given v w o is sound = record {
     heaviest = ap (λ (x : View CoreMachine FitEvent Answer). x.terms.heaviest) is ∙ o.view.heaviest;
     sound = sound;
   };
+  idle = ap (λ (x : View CoreMachine FitEvent Answer). x.turns) is;
   asked_none = ap (λ (x : View CoreMachine FitEvent Answer). x.mine) is;
   silent = ap (λ (x : View CoreMachine FitEvent Answer). x.said) is;
 }

@@ -1,4 +1,3 @@
-pub mod Telling
 pub mod Leading
 pub mod Succession
 pub mod HandingOut

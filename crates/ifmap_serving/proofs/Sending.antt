@@ -1,4 +1,6 @@
 -- A core, what it is asked and what it answers can cross threads: each part of them can, from the bottom up.
+-- The modules named below `proofs` of other crates (`TheSendSync`, `TheKnot`) are made by the compiler: it writes there that a type can
+-- cross, and they stand nowhere else.
 use denote.Param.Send.{IsSend, sendable}
 use Rattle.std.proofs.Crossing.{crosses}
 use Rattle.ifmap_elem.proofs.elements.Child.TheLaws.TheKnot as elements
@@ -34,7 +36,6 @@ use Rattle.slab.proofs.Slab.TheSendSync as Slab
 use Rattle.std.proofs.collections.BTreeMap.TheSendSync as Tree
 use Rattle.ifmap_ident.proofs.items.Item.TheSendSync as Item
 use Rattle.ifmap_graph.proofs.sided.Sided.TheSendSync as Sided
-use Rattle.std.proofs.alloc.Global.TheSendSync as Heap
 
 pub entry_send : IsSend the_entry.the_row
 entry_send = search (elements.crosses, crosses, sendable) depth 60 fits 20000

@@ -1,5 +1,5 @@
 -- Work at a door, connection after connection.
-use Rattle.std.proofs.Common.{◌≡◌, ℕ, ◌+◌, ◌≤◌, List, [], ◌∷◌, ◌++◌, false, None, Some, refl, sym, ap, subst, ◌∙◌, inl, inr, append-nil, arith}
+use Rattle.std.proofs.Common.{◌≡◌, ℕ, ◌≤◌, List, [], ◌∷◌, ◌++◌, false, None, Some, refl, sym, ap, subst, ◌∙◌, inl, inr, append-nil, arith}
 use Rattle.std.specs.Prelude.{Option, flat_map, is_some}
 use Rattle.std.proofs.lemmas.Grind.{flat_map-append}
 use Rattle.ifmap_io.specs.Causes.{Rose}
@@ -7,14 +7,14 @@ use Rattle.ifmap_io.specs.Doors.{Doorway, Hands, StaysOpen, TakesBack}
 use Rattle.ifmap_io.specs.Links.{Seen, seen}
 use Rattle.ifmap_http.specs.Wires.{Wired}
 use Rattle.ifmap_dialogue.specs.declared.endings.Ending.{Ending}
-use Rattle.ifmap_dialogue.specs.Desks.{Tells, Turn}
+use Rattle.ifmap_dialogue.specs.Desks.{Tells}
 use Rattle.ifmap_dialogue.specs.Dialogue.{Serves}
 use Rattle.ifmap_dialogue.specs.Scenes.{scene}
 use Rattle.ifmap_dialogue.specs.Wires.{wire_seen}
 use Rattle.ifmap_serving.specs.Connections.{Connection, FollowOn, IsServed, ServesLink, Worker}
 use Rattle.ifmap_serving.specs.Works.{DoorSeen, Ends, Works}
-use Rattle.ifmap_serving.proofs.Leading.{leads_more, leads_none, leads_on, none_left, stays_open}
-use Rattle.ifmap_serving.proofs.Telling.{tells_more, tells_none}
+use Rattle.ifmap_serving.proofs.Leading.{leads_more, leads_none, leads_on, none_left}
+use Rattle.ifmap_dialogue.specs.Telling.{tells_more, tells_none}
 
 -- no connection was served yet
 pub works_first : {H : Type 0} (gives : ℕ → Type 0) (w : Worker H) (door : DoorSeen) → Works gives w w door door

@@ -1,5 +1,5 @@
 -- Stands, before and after they are served.
-use Rattle.std.specs.Prelude.{◌≡◌, ℕ, ◌-◌, ◌^◌, ◌<◌, ◌==◌, Option, List, [], Some, IfSome, IsSome, count_by, flat_map, length, map, slice_index_or, if◌then◌else◌}
+use Rattle.std.specs.Prelude.{◌≡◌, ℕ, ◌-◌, ◌^◌, ◌<◌, ◌==◌, List, [], Some, IfSome, IsSome, count_by, flat_map, length, map, slice_index_or, if◌then◌else◌}
 use Rattle.std.specs.List.{list_any}
 use Rattle.rand_chacha.specs.ChaCha.{ChaCha, of_seed}
 use Rattle.ifmap_dialogue.specs.Desks.{is_spent}
@@ -32,6 +32,7 @@ pub record IsServerView (v : View CoreMachine FitEvent Answer) : Type 0 where
 -- the same of a pass that has asked nothing
 pub record OpensServer (v : View CoreMachine FitEvent Answer) : Type 0 where
   pub view : IsServerView v
+  pub idle : v.turns ≡ 0
   pub asked_none : v.mine ≡ []
   pub silent : v.said ≡ []
 
@@ -39,8 +40,9 @@ pub record OpensServer (v : View CoreMachine FitEvent Answer) : Type 0 where
 abbrev pub words_at : List ℕ → ℕ → ChaCha
 words_at key number = record (of_seed key) { stream = number }
 
--- a worker worked at a door by a pass that had asked nothing: the desk was told all that the pass has said since, which is what the
--- machine answered at the places of the pass's own entries, and no number was left for an event only where all are used up
+-- a worker worked at a door by a pass that had asked nothing: each turn of the pass is one of its connections, in which the desk was
+-- told all that the pass has said since, which is what the machine answered at the places of the pass's own entries; and no number was
+-- left for an event only where all are used up
 pub record WorksBy (gives : ℕ → Type 0) (hall : ServerHall) (words : ChaCha) (v : View CoreMachine FitEvent Answer) (door left : DoorSeen)
     (status : ℕ) : Type 0 where
   pub first : Worker ServerHall
@@ -51,6 +53,7 @@ pub record WorksBy (gives : ℕ → Type 0) (hall : ServerHall) (words : ChaCha)
   pub words_are : first.words ≡ words
   pub recalls : ∥ Recalls v ∥₁
   pub works : Works gives first last door left
+  pub turns : v.turns ≡ length (flat_map (λ (c : Connection ServerHall). c.turns) works.connections)
   pub spent : 0 < count_by is_spent (flat_map (λ (c : Connection ServerHall). c.turns) works.connections)
       → length v.history.log ≡ 2 ^ 64 - 1
   pub ends : Ends door left status

@@ -31,8 +31,8 @@ pub fn work<R: Wait, K: Desk, D: Door, C: Clock, G: Gate>(
     gate: &mut G,
 ) -> u8
     ensures works { Works (C.gives clock.now)
-        (worker (desk_seen K.said K.held K.spent K.home K.loan desk.old) words.old)
-        (worker (desk_seen K.said K.held K.spent K.home K.loan desk.new) words.new)
+        (worker (desk_seen K.said K.turns K.held K.spent K.home K.loan desk.old) words.old)
+        (worker (desk_seen K.said K.turns K.held K.spent K.home K.loan desk.new) words.new)
         (door_seen D.links D.faults door.old) (door_seen D.links D.faults door.new) }
     ensures ends { Ends
         (door_seen D.links D.faults door.old) (door_seen D.links D.faults door.new) result }
@@ -60,8 +60,8 @@ fn serve_link<K: Desk, L: Link, C: Clock, G: Gate>(
     gate: &mut G,
 ) -> L
     ensures { ServesLink (C.gives clock.now)
-        (worker (desk_seen K.said K.held K.spent K.home K.loan desk.old) words.old)
-        (worker (desk_seen K.said K.held K.spent K.home K.loan desk.new) words.new)
+        (worker (desk_seen K.said K.turns K.held K.spent K.home K.loan desk.old) words.old)
+        (worker (desk_seen K.said K.turns K.held K.spent K.home K.loan desk.new) words.new)
         (seen L.left L.held L.Source.faults L.Sink.faults link)
         (seen L.left L.held L.Source.faults L.Sink.faults result) }
 {

@@ -1,6 +1,6 @@
 use Rattle.std.proofs.Common.{[], ◌∷◌}
 use Rattle.ifmap_dialogue.proofs.Answering.{lost_by_fault, lost_by_want, lost_none}
-use Rattle.ifmap_dialogue.proofs.Telling.{tells_none}
+use Rattle.ifmap_dialogue.specs.Telling.{tells_none}
 use Rattle.ifmap_dialogue.proofs.rounds.conclude.Goals as goal
 
 pub returns-in-Done : goal.returns-in-Done

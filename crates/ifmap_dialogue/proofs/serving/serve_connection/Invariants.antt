@@ -10,10 +10,10 @@ abbrev pub invariant-posts : goal.invariant-posts
 invariant-posts g l =
     Connects (g.C.Clock.gives l.setting.clock.now)
     (scene
-    (desk_seen g.K.Desk.said g.K.Desk.held g.K.Desk.spent g.K.Desk.home g.K.Desk.loan l.initial.desk)
+    (desk_seen g.K.Desk.said g.K.Desk.turns g.K.Desk.held g.K.Desk.spent g.K.Desk.home g.K.Desk.loan l.initial.desk)
     (wire_seen g.L.Source.left g.L.Sink.held g.L.Source.faults g.L.Sink.faults l.initial.wire) l.initial.words)
     (scene
-    (desk_seen g.K.Desk.said g.K.Desk.held g.K.Desk.spent g.K.Desk.home g.K.Desk.loan l.desk)
+    (desk_seen g.K.Desk.said g.K.Desk.turns g.K.Desk.held g.K.Desk.spent g.K.Desk.home g.K.Desk.loan l.desk)
     (wire_seen g.L.Source.left g.L.Sink.held g.L.Source.faults g.L.Sink.faults l.wire) l.words) l.number
 
 abbrev pub decreases-posts : goal.decreases-posts

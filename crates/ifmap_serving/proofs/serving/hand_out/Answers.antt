@@ -1,6 +1,5 @@
-use Rattle.std.proofs.Common.{◌≡◌, ◌+◌, ◌<◌, ◌∙◌, ℕ, length, refl, ap, arith}
+use Rattle.std.proofs.Common.{◌+◌, ◌<◌, ◌∙◌, ℕ, length, refl, ap, arith}
 use Rattle.std.proofs.lemmas.List.{get_or_default, length-set}
-use Rattle.ifmap_hall.specs.Passes.{view_of}
 use Rattle.ifmap_serving.specs.declared.stands.Stand.{Stand}
 use Rattle.ifmap_serving.proofs.HandingOut.{opens_given, opens_kept, readied_more, unread_more}
 use Rattle.ifmap_serving.proofs.serving.hand_out.Goals as goal

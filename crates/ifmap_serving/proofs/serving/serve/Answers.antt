@@ -4,7 +4,7 @@ use Rattle.ifmap_serving.proofs.serving.serve.Goals as goal
 use denote.Param.Send.{IsSync}
 use Rattle.ifmap_desks.specs.contracts.machine.CoreMachine as the_machine
 use Rattle.ifmap_desks.specs.contracts.events.FitEvent as the_fit
-use Rattle.ifmap_desks.specs.Machines.{core_holds, core_next, core_reply, core_weight}
+use Rattle.ifmap_desks.specs.Machines.{core_holds, core_reply}
 use Rattle.ifmap_hall.proofs.hall.Hall.TheSendSync as Hall
 use Rattle.ifmap_hall.specs.contracts.hall.Hall as the_hall
 use Rattle.ifmap_hall.specs.declared.machine.Machine.{Ghosts}

@@ -1,7 +1,7 @@
 use Rattle.std.proofs.Common.{rules, ◌∙◌, refl, ap, map, Some}
 use Rattle.ifmap_desks.specs.Calls.{plain_call}
 use Rattle.ifmap_hall.specs.Passes.{view_of}
-use Rattle.ifmap_serving.proofs.Recalling.{some_spent, works_as}
+use Rattle.ifmap_serving.proofs.Recalling.{some_spent, turns_are, works_as}
 use Rattle.ifmap_serving.proofs.serving.serve_pass.Goals as goal
 
 pub returns-clause-works : goal.returns-clause-works
@@ -16,6 +16,8 @@ returns-clause-works g c =
       words_are = refl;
       recalls = c.work.new.desk.recalls;
       works = c.work.ensures.works;
+      turns = turns_are _ _ _ c.work.ensures.works.tells.count
+          (ap (λ p. (view_of p).turns) c.new-desk.ensures.pass ∙ c.requires.view.idle);
       spent = λ some. c.work.new.desk.used_up (some_spent _ _ _ c.work.ensures.works.tells.spent c.new-desk.ensures.spent some);
       ends = c.work.ensures.ends;
     })

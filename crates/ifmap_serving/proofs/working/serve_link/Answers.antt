@@ -1,4 +1,3 @@
-use Rattle.std.proofs.Common.{refl}
 use Rattle.ifmap_serving.proofs.Succession.{serves_link}
 use Rattle.ifmap_serving.proofs.working.serve_link.Goals as goal
 

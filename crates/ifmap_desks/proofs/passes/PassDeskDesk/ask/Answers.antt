@@ -1,14 +1,17 @@
 -- What the hall answers is what the desk tells.
-use Rattle.std.proofs.Common.{refl, map, Some, sym, subst}
+use Rattle.std.proofs.Common.{refl, map, Some, sym, subst, take, drop}
 use Rattle.std.proofs.Math.Logic.{∥∥₁_map}
 use Rattle.ifmap_desks.specs.Answers.{Counted}
 use Rattle.ifmap_desks.specs.Calls.{calls_from, plain_call}
+use Rattle.ifmap_desks.specs.Machines.{core_next}
 use Rattle.ifmap_desks.proofs.PassTurns.{fits, gains}
 use Rattle.ifmap_desks.proofs.Recalling.{recalls, used_up}
 use Rattle.ifmap_desks.proofs.TellingTurns.{tells_plain}
 use Rattle.ifmap_hall.specs.Passes.{number_of, view_of}
+use Rattle.ifmap_hall.specs.Sights.{run}
 use Rattle.ifmap_hall.specs.declared.book.Asked.{Asked}
 use Rattle.ifmap_machine.specs.Agreeing.{Agrees}
+use Rattle.ifmap_machine.specs.Since.{AgreesFrom}
 use Rattle.ifmap_machine.specs.declared.events.Answer.{Answer}
 use Rattle.ifmap_machine.specs.Events.{Event}
 use Rattle.ifmap_machine.specs.State.{State}
@@ -23,9 +26,10 @@ returns g c =
     let fit = c.from_event.result in
     let given = c.ask-asked.result in
     record {
-      tells = tells_plain (Some (map plain_call v.said)) (Some (map plain_call w.said)) desk.counts c.count.new.self desk.hall.now desk.hall.now
-          desk.pass.ghost_name desk.pass.ghost_name c.args.event fit c.from_event.ensures given c.plain-answer.result
-          c.plain-answer.ensures (gains v w (number_of desk.pass.now) fit given e.answered) c.count.ensures refl refl
+      tells = tells_plain (Some (map plain_call v.said)) (Some (map plain_call w.said)) (Some v.turns) (Some w.turns) desk.counts
+          c.count.new.self desk.hall.now desk.hall.now desk.pass.ghost_name desk.pass.ghost_name c.args.event fit c.from_event.ensures given
+          c.plain-answer.result c.plain-answer.ensures (gains v w (number_of desk.pass.now) fit given e.answered)
+          (v.turns, refl, e.took.turns) c.count.ensures refl refl
           (fits v w (number_of desk.pass.now) fit c.holding_is_exact.ensures c.answers_fit_events.ensures given e.answered);
       number = e.number;
       parts = e.parts;
@@ -41,6 +45,12 @@ returns g c =
       };
       agrees = λ ttl opens. subst (λ (s : State). Agrees ttl (calls_from s w.history.log)) (sym opens)
           (c.clients_agree_in_every_log.ensures.agrees ttl w.history.log);
+      entries_agree = λ ttl opens.
+          subst
+          (λ (s : State). AgreesFrom (run core_next (record { core = s }) (take w.history.from w.history.log)).core
+          (calls_from (run core_next (record { core = s }) (take w.history.from w.history.log)).core (drop w.history.from w.history.log)))
+          (sym opens)
+          (c.clients_agree_in_every_log.ensures.since ttl (take w.history.from w.history.log) (drop w.history.from w.history.log));
     }
 
 pub invariant_of-self-clause-recalls : goal.invariant_of-self-clause-recalls
