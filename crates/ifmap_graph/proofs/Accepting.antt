@@ -18,7 +18,8 @@ use Rattle.ifmap_graph.proofs.Ordered.{ties}
 turned : (a b : Item) → same_item a b ≡ same_item b a
 turned a b = items_tie a b ∙ ties a b
 
-pub apart_parts : (x : Item) (xs : List Item) → IsDistinct same_item (x ∷ xs) → AllByRecursion (λ y. same_item x y ≡ false) xs × IsDistinct same_item xs
+pub apart_parts : (x : Item) (xs : List Item) → IsDistinct same_item (x ∷ xs) → AllByRecursion (λ y. same_item x y ≡ false) xs
+    × IsDistinct same_item xs
 unfolding IsDistinct
 apart_parts x xs d = d
 
@@ -26,7 +27,8 @@ pub all_given : (P Q : Item → Type 0) (xs : List Item) → ((x : Item) → P x
 all_given P Q [] f a = tt
 all_given P Q (x ∷ xs) f a = (f x a.0, all_given P Q xs f a.1)
 
-all_both : (P Q R : Item → Type 0) (xs : List Item) → ((x : Item) → P x → Q x → R x) → AllByRecursion P xs → AllByRecursion Q xs → AllByRecursion R xs
+all_both : (P Q R : Item → Type 0) (xs : List Item) → ((x : Item) → P x → Q x → R x) → AllByRecursion P xs → AllByRecursion Q xs
+    → AllByRecursion R xs
 all_both P Q R [] f a b = tt
 all_both P Q R (x ∷ xs) f a b = (f x a.0 b.0, all_both P Q R xs f a.1 b.1)
 
@@ -83,7 +85,8 @@ module _ (items : List Item) (first : Shelves) where
     places = refl;
   }
 
-  module _ (lists : List (List Stored)) (shelves : Shelves) (i : ℕ) (item : Item) (h : i < length items) (here : drop i items ≡ item ∷ drop (i + 1) items) (g : Accepting lists shelves i) where
+  module _ (lists : List (List Stored)) (shelves : Shelves) (i : ℕ) (item : Item) (h : i < length items)
+      (here : drop i items ≡ item ∷ drop (i + 1) items) (g : Accepting lists shelves i) where
     now_drafted : AllByRecursion (HasDraft shelves) (item ∷ drop (i + 1) items)
     now_drafted = subst (AllByRecursion (HasDraft shelves)) here g.drafted
 
@@ -93,7 +96,8 @@ module _ (items : List Item) (first : Shelves) where
     rest_apart : AllByRecursion (λ y. same_item item y ≡ false) (drop (i + 1) items) × IsDistinct same_item (drop (i + 1) items)
     rest_apart = apart_parts item (drop (i + 1) items) (subst (λ l. IsDistinct same_item l) here g.apart)
 
-    module _ (lists' : List (List Stored)) (shelves' : Shelves) (shelved : AreShelved shelves') (same : rows_of next shelves' ≡ rows_of next shelves)
+    module _ (lists' : List (List Stored)) (shelves' : Shelves) (shelved : AreShelved shelves')
+        (same : rows_of next shelves' ≡ rows_of next shelves)
         (drafts : (x : Item) → HasDraft shelves' x → HasDraft shelves x × (same_item x item ≡ false))
         (others : (x : Item) → same_item x item ≡ false
         → (HasDraft shelves x → HasDraft shelves' x) × (stored_on x (rows_of now shelves') ≡ stored_on x (rows_of now shelves)))
@@ -123,7 +127,8 @@ module _ (items : List Item) (first : Shelves) where
         long = ap length wrote ∙ length-set lists i (stored_at shelves item) ∙ g.long;
         made = ap (λ l. l ++ map (stored_at shelves') (drop (i + 1) items)) front
             ∙ append_assoc (take i lists) (stored_at shelves item ∷ []) (map (stored_at shelves') (drop (i + 1) items))
-            ∙ ap (λ l. take i lists ++ stored_at shelves item ∷ l) rest ∙ sym (ap (λ l. take i lists ++ map (stored_at shelves) l) here) ∙ g.made;
+            ∙ ap (λ l. take i lists ++ stored_at shelves item ∷ l) rest ∙ sym (ap (λ l. take i lists ++ map (stored_at shelves) l) here)
+            ∙ g.made;
         ends = λ at. ends at ∙ g.ends at;
         waits = λ x. waits x ∙ g.waits x;
         places = places ∙ g.places;
@@ -169,7 +174,8 @@ module _ (items : List Item) (first : Shelves) where
     places = refl;
   }
 
-  module _ (shelves : Shelves) (i : ℕ) (item : Item) (h : i < length items) (here : drop i items ≡ item ∷ drop (i + 1) items) (g : Discarding shelves i) where
+  module _ (shelves : Shelves) (i : ℕ) (item : Item) (h : i < length items) (here : drop i items ≡ item ∷ drop (i + 1) items)
+      (g : Discarding shelves i) where
     now_there : AllByRecursion (λ x. IsSome (place_of first x)) (item ∷ drop (i + 1) items)
     now_there = subst (AllByRecursion (λ x. IsSome (place_of first x))) here g.there
 
@@ -178,7 +184,8 @@ module _ (items : List Item) (first : Shelves) where
 
     pub discards_on : (shelves' : Shelves) → AreShelved shelves' → rows_of now shelves' ≡ rows_of now shelves
         → ((x : Item) → HasDraft shelves' x → HasDraft shelves x × (same_item x item ≡ false))
-        → ((at : ℕ) → ends_at shelves' at ≡ ends_at shelves at) → ((x : Item) → waits_on shelves' x ≡ waits_on shelves x) → shelves'.places ≡ shelves.places
+        → ((at : ℕ) → ends_at shelves' at ≡ ends_at shelves at) → ((x : Item) → waits_on shelves' x ≡ waits_on shelves x)
+        → shelves'.places ≡ shelves.places
         → Discarding shelves' (i + 1)
     discards_on shelves' shelved same drafts ends waits places = record {
       shelved = shelved;

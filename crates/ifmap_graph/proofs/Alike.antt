@@ -35,7 +35,8 @@ alike_equal a b e = slice_cmp-same (identifier_bytes a) (identifier_bytes b) e
 pub order_alike : (a b k m : Identifier) → Alike k a → Alike m b → identifier_order k m ≡ identifier_order a b
 order_alike a b k m p q =
     nat_list_cmp_total.congr (identifier_bytes k) (identifier_bytes a) (identifier_bytes m) (alike_equal k a p)
-    ∙ turned_order a m ∙ ap ordering_reverse (nat_list_cmp_total.congr (identifier_bytes m) (identifier_bytes b) (identifier_bytes a) (alike_equal m b q))
+    ∙ turned_order a m ∙ ap ordering_reverse (nat_list_cmp_total.congr (identifier_bytes m) (identifier_bytes b) (identifier_bytes a)
+    (alike_equal m b q))
     ∙ sym (turned_order a b)
 
 same_to_right : (x k a : Identifier) → Alike k a → same_identifier x k ≡ same_identifier x a
@@ -45,13 +46,15 @@ same_to_right x k a e = ap (λ l. bytes_eq (identifier_bytes x) l) e
 pub same_pair : (a b k m : Identifier) → Alike k a → Alike m b → (x : Item) → same_item x (Pair k m) ≡ same_item x (Pair a b)
 same_pair a b k m p q (One x) = ap (λ c. c && false) (same_to_right x k a p)
 same_pair a b k m p q (Pair x y) =
-    ap (λ c. c && (same_identifier y m && true)) (same_to_right x k a p) ∙ ap (λ c. same_identifier x a && (c && true)) (same_to_right y m b q)
+    ap (λ c. c && (same_identifier y m && true)) (same_to_right x k a p) ∙ ap (λ c. same_identifier x a && (c && true))
+    (same_to_right y m b q)
 
 pub same_one : (a k : Identifier) → Alike k a → (x : Item) → same_item x (One k) ≡ same_item x (One a)
 same_one a k p (One x) = ap (λ c. c && true) (same_to_right x k a p)
 same_one a k p (Pair x y) = ap (λ c. c && false) (same_to_right x k a p)
 
-pub stored_alike : (x y : Item) → ((z : Item) → same_item z x ≡ same_item z y) → (rows : List Attachment) → stored_on x rows ≡ stored_on y rows
+pub stored_alike : (x y : Item) → ((z : Item) → same_item z x ≡ same_item z y) → (rows : List Attachment) → stored_on x rows ≡ stored_on y
+    rows
 stored_alike x y t [] = refl
 stored_alike x y t (r ∷ rs) = elim (cases_Bool (same_item r.item x)) [
   | inl e ↦ let f : same_item r.item y ≡ true = sym (t r.item) ∙ e in rw (e, f) (ap (λ l. r.stored ∷ l) (stored_alike x y t rs))

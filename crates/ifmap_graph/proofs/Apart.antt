@@ -64,7 +64,8 @@ out_append k (x ∷ xs) ys a b = (a.0, out_append k xs ys a.1 b)
 
 once_append : (xs ys : List LinkSeen) → Once xs → Once ys → AllByRecursion (λ l. Out l.at ys) xs → Once (xs ++ ys)
 once_append [] ys a b c = b
-once_append (x ∷ xs) ys a b c = once_cons x (xs ++ ys) (out_append x.at xs ys (once_parts x xs a).0 c.0) (once_append xs ys (once_parts x xs a).1 b c.1)
+once_append (x ∷ xs) ys a b c = once_cons x (xs ++ ys) (out_append x.at xs ys (once_parts x xs a).0 c.0)
+    (once_append xs ys (once_parts x xs a).1 b c.1)
 
 all_map : (P Q : LinkSeen → Type 0) (ls : List LinkSeen) → ((l : LinkSeen) → P l → Q l) → AllByRecursion P ls → AllByRecursion Q ls
 all_map P Q [] f a = tt
@@ -78,7 +79,8 @@ module _ (joins : ℕ → Option (ℕ × ℕ)) (before after : ℕ → Bool) (v 
   pick at = cond (after at && not (before at)) (seen_at at (far_of (joins at) v)) None
 
   -- what comes from a place is at that place, which was empty
-  from_place : (P : ℕ → Type 0) (at : ℕ) (b : Bool) (o : Option ℕ) (ls : List LinkSeen) → (b ≡ true → P at) → AllByRecursion (λ l. P l.at) ls
+  from_place : (P : ℕ → Type 0) (at : ℕ) (b : Bool) (o : Option ℕ) (ls : List LinkSeen) → (b ≡ true → P at) → AllByRecursion (λ l. P l.at)
+      ls
       → AllByRecursion (λ l. P l.at) (cons_option (cond b (seen_at at o) None) ls)
   from_place P at false o ls p a = a
   from_place P at true None ls p a = a
@@ -91,12 +93,15 @@ module _ (joins : ℕ → Option (ℕ × ℕ)) (before after : ℕ → Bool) (v 
 
   comers_empty : (touched : List ℕ) → AllByRecursion (λ l. before l.at ≡ false) (coming joins before after touched v)
   comers_empty [] = tt
-  comers_empty (at ∷ ats) = from_place (λ n. before n ≡ false) at (after at && not (before at)) (far_of (joins at) v) (coming joins before after ats v)
+  comers_empty (at ∷ ats) = from_place (λ n. before n ≡ false) at (after at && not (before at)) (far_of (joins at) v)
+      (coming joins before after ats v)
       (was_empty (after at) (before at)) (comers_empty ats)
 
-  comers_out : (k : ℕ) (touched : List ℕ) → AllByRecursion (λ y. nat_eq k y ≡ false) touched → AllByRecursion (λ l. nat_eq k l.at ≡ false) (coming joins before after touched v)
+  comers_out : (k : ℕ) (touched : List ℕ) → AllByRecursion (λ y. nat_eq k y ≡ false) touched → AllByRecursion (λ l. nat_eq k l.at ≡ false)
+      (coming joins before after touched v)
   comers_out k [] a = tt
-  comers_out k (at ∷ ats) a = from_place (λ n. nat_eq k n ≡ false) at (after at && not (before at)) (far_of (joins at) v) (coming joins before after ats v) (λ _. a.0) (comers_out k ats a.1)
+  comers_out k (at ∷ ats) a = from_place (λ n. nat_eq k n ≡ false) at (after at && not (before at)) (far_of (joins at) v)
+      (coming joins before after ats v) (λ _. a.0) (comers_out k ats a.1)
 
   out_of : (k : ℕ) (ls : List LinkSeen) → AllByRecursion (λ l. nat_eq k l.at ≡ false) ls → Out k ls
   out_of k [] a = tt
@@ -106,10 +111,12 @@ module _ (joins : ℕ → Option (ℕ × ℕ)) (before after : ℕ → Bool) (v 
   comers_once [] d = once_nil
   comers_once (at ∷ rest) d = put (after at && not (before at)) (far_of (joins at) v) (comers_once rest (number_parts at rest d).1)
     where
-      put : (b : Bool) (o : Option ℕ) → Once (coming joins before after rest v) → Once (cons_option (cond b (seen_at at o) None) (coming joins before after rest v))
+      put : (b : Bool) (o : Option ℕ) → Once (coming joins before after rest v) → Once (cons_option (cond b (seen_at at o) None)
+          (coming joins before after rest v))
       put false o a = a
       put true None a = a
-      put true (Some w) a = once_cons (record { other = w; at = at }) (coming joins before after rest v) (out_of at _ (comers_out at rest (number_parts at rest d).0)) a
+      put true (Some w) a = once_cons (record { other = w; at = at }) (coming joins before after rest v)
+          (out_of at _ (comers_out at rest (number_parts at rest d).0)) a
 
   apart_from : (k : ℕ) (ls : List LinkSeen) → before k ≡ true → AllByRecursion (λ l. before l.at ≡ false) ls → Out k ls
   apart_from k [] full a = tt
@@ -121,9 +128,11 @@ module _ (joins : ℕ → Option (ℕ × ℕ)) (before after : ℕ → Bool) (v 
     apart_from k ls full a.1,
   )
 
-  pub changed_apart : (touched : List ℕ) (links : ℕ → List LinkSeen) → AreListed joins before links → IsDistinct nat_eq touched → Once (links v) → Once (changed joins before after touched links v)
+  pub changed_apart : (touched : List ℕ) (links : ℕ → List LinkSeen) → AreListed joins before links → IsDistinct nat_eq touched
+      → Once (links v) → Once (changed joins before after touched links v)
   changed_apart touched links listed t d =
-      once_append (filter (λ l. after l.at) (links v)) (coming joins before after touched v) (once_filter (λ l. after l.at) (links v) d) (comers_once touched t)
+      once_append (filter (λ l. after l.at) (links v)) (coming joins before after touched v) (once_filter (λ l. after l.at) (links v) d)
+      (comers_once touched t)
       (all_filter (λ l. Out l.at (coming joins before after touched v)) (λ l. after l.at) (links v)
       (all_of (λ l. Out l.at (coming joins before after touched v)) (links v)
       (λ l h. apart_from l.at (coming joins before after touched v) (listed.only v l (from_has (links v) l h)).1 (comers_empty touched))))

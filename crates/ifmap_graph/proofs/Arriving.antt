@@ -14,9 +14,11 @@ use Rattle.ifmap_graph.proofs.Holds.{numbered_kept}
 use Rattle.ifmap_graph.proofs.Finding.{all_inserted}
 use Rattle.ifmap_graph.proofs.Shelving.{Entries, slots_stay}
 
-pub numbered_comes : (old new : Holdings Identifier) → ((v : ℕ) (a : Identifier) → Names identifier_order old v a → Names identifier_order new v a)
+pub numbered_comes : (old new : Holdings Identifier) → ((v : ℕ) (a : Identifier) → Names identifier_order old v a
+    → Names identifier_order new v a)
     → (es : Entries) (entries : Entries) (look later : ℕ → Option Shelf) (item ends : Item) (at place : ℕ) (shelf : Shelf)
-    → AllByRecursion (λ e. IsSome (look e.1)) es → AreNumbered old look es → lookup (is_at (item_order item)) es ≡ None → at ≡ place → look at ≡ None
+    → AllByRecursion (λ e. IsSome (look e.1)) es → AreNumbered old look es → lookup (is_at (item_order item)) es ≡ None → at ≡ place
+    → look at ≡ None
     → later at ≡ Some shelf → ((o : ℕ) → o ≢ at → later o ≡ look o) → entries ≡ insert_entry item_order es item place
     → ends ≡ item → AreEnds new ends shelf.ends → AreNumbered new later entries
 numbered_comes old new kept es entries look later item ends at place shelf live numbered none here vacant later_at others inserts same has =

@@ -48,7 +48,8 @@ module _ (old new : Holdings Identifier) (live : new.live ≡ old.live) where
 
   -- there is more room
   pub roomier : (look : ℕ → Option Shelf) (es : Entries) (links longer : List (Sides LinkSeen)) → IsPool identifier_order new
-      → ((v : ℕ) → sides_at longer v ≡ sides_at links v) → length links ≤ length longer → IsInside old look es links → IsInside new look es longer
+      → ((v : ℕ) → sides_at longer v ≡ sides_at links v) → length links ≤ length longer → IsInside old look es links
+      → IsInside new look es longer
   roomier look es links longer pool same more is = record {
     placed = is.placed;
     used = is.used;
@@ -56,7 +57,8 @@ module _ (old new : Holdings Identifier) (live : new.live ≡ old.live) where
     pool = pool;
     keys = keys_alike is.keys;
     held = λ a. let h = is.held a in (h.0, held_alike a _ h.1);
-    table = λ v s. let k = is.table v (subst (λ (o : Option (Identifier × ℕ)). IsSome o) (ap (λ l. get l v) live) s) in omega (arith, k, more);
+    table = λ v s. let k = is.table v (subst (λ (o : Option (Identifier × ℕ)). IsSome o) (ap (λ l. get l v) live) s) in omega
+        (arith, k, more);
     side = side_same now look es (links_at now links) (links_at now longer) (λ v. ap now (same v)) is.side;
     next_side = side_same next look es (links_at next links) (links_at next longer) (λ v. ap next (same v)) is.next_side;
   }
@@ -65,32 +67,37 @@ counts_add : (n own k : ℕ) → (n + own) + k ≡ (k + n) + own
 counts_add n own k = omega arith
 
 -- an item's shelf comes, still empty
-pub inside_comes : (old new : Holdings Identifier) (look later : ℕ → Option Shelf) (es entries : Entries) (links : List (Sides LinkSeen)) (item : Item) (at : ℕ)
+pub inside_comes : (old new : Holdings Identifier) (look later : ℕ → Option Shelf) (es entries : Entries) (links : List (Sides LinkSeen))
+    (item : Item) (at : ℕ)
     (shelf : Shelf) → IsInside old look es links → IsPlaced later entries → ((n : ℕ) → IsSome (later n) → (k : Item) × Has entries (k, n))
     → AreNumbered new later entries → IsPool identifier_order new → AreIdentifiers new → new.limit ≤ length links
     → ((a : Identifier) (count : ℕ) → IsHeld identifier_order old a count → IsHeld identifier_order new a (count + named_by item a))
     → lookup (is_at (item_order item)) es ≡ None → entries ≡ insert_entry item_order es item at → look at ≡ None → later at ≡ Some shelf
     → shelf.stored ≡ record { now = []; draft = None } → ((o : ℕ) → o ≢ at → later o ≡ look o) → IsInside new later entries links
-inside_comes old new look later es entries links item at shelf is placed used numbered pool keys table held none inserts vacant there empty others = record {
-  placed = placed;
-  used = used;
-  numbered = numbered;
-  pool = pool;
-  keys = keys;
-  held = λ a.
-      let h = is.held a
-      in (
-        h.0,
-        subst (λ (n : ℕ). IsHeld identifier_order new a n)
-            (counts_add (named_in es a) h.0 (named_by item a) ∙ ap (λ n. n + h.0) (sym (ap (λ l. named_in l a) inserts ∙ comes es item at a none)))
-            (held a (named_in es a + h.0) h.1),
-      );
-  table = λ v s. let k = pool.below v s in omega (arith, k, table);
-  side = side_comes now look later at (ap (list_at now) vacant) (ap (list_at now) there ∙ ap now empty) others es entries item (links_at now links) none inserts is.side;
-  next_side =
-      side_comes next look later at (ap (list_at next) vacant) (ap (list_at next) there ∙ ap next empty) others es entries item (links_at next links) none inserts
-      is.next_side;
-}
+inside_comes old new look later es entries links item at shelf is placed used numbered pool keys table held none inserts vacant there
+    empty others = record {
+      placed = placed;
+      used = used;
+      numbered = numbered;
+      pool = pool;
+      keys = keys;
+      held = λ a.
+          let h = is.held a
+          in (
+            h.0,
+            subst (λ (n : ℕ). IsHeld identifier_order new a n)
+                (counts_add (named_in es a) h.0 (named_by item a) ∙ ap (λ n. n + h.0)
+                (sym (ap (λ l. named_in l a) inserts ∙ comes es item at a none)))
+                (held a (named_in es a + h.0) h.1),
+          );
+      table = λ v s. let k = pool.below v s in omega (arith, k, table);
+      side = side_comes now look later at (ap (list_at now) vacant) (ap (list_at now) there ∙ ap now empty) others es entries item
+          (links_at now links) none inserts is.side;
+      next_side =
+          side_comes next look later at (ap (list_at next) vacant) (ap (list_at next) there ∙ ap next empty) others es entries item
+          (links_at next links) none inserts
+          is.next_side;
+    }
 
 -- what is taken from own holds
 pub own_less : (n own k : ℕ) → k ≤ own → (n + own) - k ≡ n + (own - k)
@@ -101,7 +108,8 @@ counts_less : (n left own k by : ℕ) → by + left ≡ n → k ≡ by → (n + 
 counts_less n left own k by e f = omega (arith, e, f)
 
 -- an item's shelf goes, which is empty on both sides
-module _ (old new : Holdings Identifier) (look later : ℕ → Option Shelf) (es entries : Entries) (links : List (Sides LinkSeen)) (item : Item) (at : ℕ) (shelf : Shelf)
+module _ (old new : Holdings Identifier) (look later : ℕ → Option Shelf) (es entries : Entries) (links : List (Sides LinkSeen))
+    (item : Item) (at : ℕ) (shelf : Shelf)
     (is : IsInside old look es links) (here : lookup (is_at (item_order item)) es ≡ Some at) (there : look at ≡ Some shelf)
     (empty : shelf.stored ≡ record { now = []; draft = None }) where
   -- the item of its entry, which ties with the one that is asked for, and whose numbers the shelf has
@@ -116,16 +124,20 @@ module _ (old new : Holdings Identifier) (look later : ℕ → Option Shelf) (es
   pub its_order : IsItem entry_there.0
   its_order = (all_has (λ e. IsCanonItem e.0) es is.placed.canon (entry_there.0, at) entry_there.1).ordered
 
-  module _ (gone : later at ≡ None) (others : (o : ℕ) → o ≢ at → later o ≡ look o) (removes : entries ≡ remove_entry (is_at (item_order item)) es)
+  module _ (gone : later at ≡ None) (others : (o : ℕ) → o ≢ at → later o ≡ look o) (removes : entries ≡ remove_entry
+      (is_at (item_order item)) es)
       (rises : Rises entries) (pool : IsPool identifier_order new) (keys : AreIdentifiers new)
       (before : (v : ℕ) (a : Identifier) → Names identifier_order new v a → Names identifier_order old v a)
       (held : (i : Item) (a : Identifier) (count : ℕ) → AreEnds old i shelf.ends → IsHeld identifier_order old a count
       → IsHeld identifier_order new a (count - named_by i a)) where
-    pub own_stays : (a : Identifier) (own : ℕ) → IsHeld identifier_order old a (named_in es a + own) → IsHeld identifier_order new a (named_in entries a + own)
+    pub own_stays : (a : Identifier) (own : ℕ) → IsHeld identifier_order old a (named_in es a + own) → IsHeld identifier_order new a
+        (named_in entries a + own)
     own_stays a own h =
-        let left : named_by item a + named_in entries a ≡ named_in es a = ap (λ l. named_by item a + named_in l a) removes ∙ goes es item at a here
+        let left : named_by item a + named_in entries a ≡ named_in es a = ap (λ l. named_by item a + named_in l a) removes
+        ∙ goes es item at a here
         in subst (λ (n : ℕ). IsHeld identifier_order new a n)
-        (counts_less (named_in es a) (named_in entries a) own (named_by entry_there.0 a) (named_by item a) left (named_tied item entry_there.0 a entry_there.2))
+        (counts_less (named_in es a) (named_in entries a) own (named_by entry_there.0 a) (named_by item a) left
+        (named_tied item entry_there.0 a entry_there.2))
         (held entry_there.0 a (named_in es a + own) its_ends h)
 
     still_held : (a : Identifier) → (own : ℕ) × IsHeld identifier_order new a (named_in entries a + own)
@@ -143,21 +155,27 @@ module _ (old new : Holdings Identifier) (look later : ℕ → Option Shelf) (es
       used = still_used es entries look later item at is.placed here gone others removes rises is.used;
       numbered = numbered_stay old new is.pool before entries still_held look later entries (λ e h. h)
           (slots_kept es entries look later item at is.placed here gone others removes rises)
-          (subst (λ l. AreNumbered old look l) (sym removes) (all_left (λ e. HasEnds old e.0 (look e.1)) (is_at (item_order item)) es is.numbered));
+          (subst (λ l. AreNumbered old look l) (sym removes) (all_left (λ e. HasEnds old e.0 (look e.1)) (is_at (item_order item)) es
+          is.numbered));
       pool = pool;
       keys = keys;
       held = still_held;
       table = λ v s. is.table v (was_live v (entry_at new v) refl s);
-      side = side_goes now look later at (ap (list_at now) there ∙ ap now empty) (ap (list_at now) gone) others es entries item (links_at now links) removes is.side;
+      side = side_goes now look later at (ap (list_at now) there ∙ ap now empty) (ap (list_at now) gone) others es entries item
+          (links_at now links) removes is.side;
       next_side =
-          side_goes next look later at (ap (list_at next) there ∙ ap next empty) (ap (list_at next) gone) others es entries item (links_at next links) removes is.next_side;
+          side_goes next look later at (ap (list_at next) there ∙ ap next empty) (ap (list_at next) gone) others es entries item
+          (links_at next links) removes is.next_side;
     }
 
 -- an identifier is held once more
-pub inside_held : (old new : Holdings Identifier) (look : ℕ → Option Shelf) (es : Entries) (links : List (Sides LinkSeen)) (id : Identifier) → IsInside old look es links
-    → ((v : ℕ) (a : Identifier) → Names identifier_order old v a → Names identifier_order new v a) → IsPool identifier_order new → AreIdentifiers new
+pub inside_held : (old new : Holdings Identifier) (look : ℕ → Option Shelf) (es : Entries) (links : List (Sides LinkSeen))
+    (id : Identifier) → IsInside old look es links
+    → ((v : ℕ) (a : Identifier) → Names identifier_order old v a → Names identifier_order new v a) → IsPool identifier_order new
+    → AreIdentifiers new
     → new.limit ≤ length links
-    → ((a : Identifier) (count : ℕ) → IsHeld identifier_order old a count → IsHeld identifier_order new a (count + once identifier_order id a))
+    → ((a : Identifier) (count : ℕ) → IsHeld identifier_order old a count → IsHeld identifier_order new a
+    (count + once identifier_order id a))
     → IsInside new look es links
 inside_held old new look es links id is kept pool keys room held = record {
   placed = is.placed;
@@ -169,7 +187,8 @@ inside_held old new look es links id is kept pool keys room held = record {
       let h = is.held a
       in (
         h.0 + once identifier_order id a,
-        subst (λ (n : ℕ). IsHeld identifier_order new a n) (add_two (named_in es a) h.0 (once identifier_order id a)) (held a (named_in es a + h.0) h.1),
+        subst (λ (n : ℕ). IsHeld identifier_order new a n) (add_two (named_in es a) h.0 (once identifier_order id a))
+            (held a (named_in es a + h.0) h.1),
       );
   table = λ v s. let k = pool.below v s in omega (arith, k, room);
   side = is.side;

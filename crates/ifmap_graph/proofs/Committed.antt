@@ -13,10 +13,12 @@ use Rattle.ifmap_graph.specs.Turning.{AreDrafted, NoOthers, accept_each}
 use Rattle.ifmap_graph.proofs.Moved.{inside_moved, lists_stay}
 use Rattle.ifmap_graph.proofs.Turns.{accepted_all, next_same, same_length}
 
-module _ (names : Holdings Identifier) (s t : Shelves) (links moved : List (Sides LinkSeen)) (is : IsInside names (get s.slots) s.places.entries links)
+module _ (names : Holdings Identifier) (s t : Shelves) (links moved : List (Sides LinkSeen))
+    (is : IsInside names (get s.slots) s.places.entries links)
     (later : AreShelved t) (places : t.places ≡ s.places) (ends : (at : ℕ) → ends_at t at ≡ ends_at s at)
     (rows : rows_of now t ≡ rows_of next s) (same : rows_of next t ≡ rows_of next s)
-    (ways : List (ℕ × List LinkSeen)) (drafted : AreDrafted ways links) (others : NoOthers ways links) (turned : moved ≡ accept_each ways links) where
+    (ways : List (ℕ × List LinkSeen)) (drafted : AreDrafted ways links) (others : NoOthers ways links)
+    (turned : moved ≡ accept_each ways links) where
   pub made_links : (v : ℕ) → links_at now moved v ≡ links_at next links v
   made_links v = ap (λ l. links_at now l v) turned ∙ accepted_all ways links v drafted others
 

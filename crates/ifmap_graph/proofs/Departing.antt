@@ -36,7 +36,8 @@ module _ (old new : Holdings Identifier) (pool : IsPool identifier_order old)
   ends_stay : (e : Item × ℕ) → Has all e → (x : the_ends.Ends) → AreEnds old e.0 x → AreEnds new e.0 x
   ends_stay e h x n = by e.0 x n (λ a. named_has all e a h)
     where
-      by : (item : Item) (x : the_ends.Ends) → AreEnds old item x → ((a : Identifier) → named_by item a ≤ named_in all a) → AreEnds new item x
+      by : (item : Item) (x : the_ends.Ends) → AreEnds old item x → ((a : Identifier) → named_by item a ≤ named_in all a)
+          → AreEnds new item x
       by (One a) (ends.One v) n m = stays_named v a (omega (arith, m a, once_itself a)) n
       by (Pair a b) (ends.Pair v w) n m =
           (stays_named v a (omega (arith, m a, once_itself a)) n.0, stays_named w b (omega (arith, m b, once_itself b)) n.1)

@@ -36,7 +36,8 @@ one_pushed [] (suc v) d = refl
 one_pushed (x ∷ xs) zero d = refl
 one_pushed (x ∷ xs) (suc v) d = one_pushed xs v d
 
-module _ (side : Side) (look later : ℕ → Option Shelf) (at : ℕ) (before : list_at side (look at) ≡ []) (after : list_at side (later at) ≡ [])
+module _ (side : Side) (look later : ℕ → Option Shelf) (at : ℕ) (before : list_at side (look at) ≡ [])
+    (after : list_at side (later at) ≡ [])
     (others : (o : ℕ) → o ≢ at → later o ≡ look o) where
   -- every slot has the list that it had
   pub same_list : (n : ℕ) → list_at side (later n) ≡ list_at side (look n)
@@ -68,7 +69,8 @@ module _ (side : Side) (look later : ℕ → Option Shelf) (at : ℕ) (before : 
       to_look n v w o (inl j) = inl (sym (ap joined (others n o)) ∙ j)
       to_look n v w o (inr j) = inr (sym (ap joined (others n o)) ∙ j)
 
-  lists_same : (es : List (Item × ℕ)) → AllByRecursion (λ e. IsList (list_at side (look e.1))) es → AllByRecursion (λ e. IsList (list_at side (later e.1))) es
+  lists_same : (es : List (Item × ℕ)) → AllByRecursion (λ e. IsList (list_at side (look e.1))) es → AllByRecursion
+      (λ e. IsList (list_at side (later e.1))) es
   lists_same [] a = tt
   lists_same (e ∷ es) a = (subst IsList (sym (same_list e.1)) a.0, lists_same es a.1)
 
@@ -77,7 +79,8 @@ module _ (side : Side) (look later : ℕ → Option Shelf) (at : ℕ) (before : 
       → new ≡ insert_entry item_order es item at → IsSide side look es links → IsSide side later new links
   side_comes es new item links none inserts is = record {
     lists = subst (λ l. AllByRecursion (λ e. IsList (list_at side (later e.1))) l) (sym inserts)
-        (all_inserted (λ e. IsList (list_at side (later e.1))) es item at none (lists_same es is.lists) (subst IsList (sym after) nothing_is_list));
+        (all_inserted (λ e. IsList (list_at side (later e.1))) es item at none (lists_same es is.lists)
+        (subst IsList (sym after) nothing_is_list));
     listed = listed_same links is.listed;
     once = is.once;
   }
@@ -93,7 +96,8 @@ module _ (side : Side) (look later : ℕ → Option Shelf) (at : ℕ) (before : 
   }
 
 -- links that are the same of each number
-pub side_same : (side : Side) (look : ℕ → Option Shelf) (es : List (Item × ℕ)) (links others : ℕ → List LinkSeen) → ((v : ℕ) → others v ≡ links v)
+pub side_same : (side : Side) (look : ℕ → Option Shelf) (es : List (Item × ℕ)) (links others : ℕ → List LinkSeen)
+    → ((v : ℕ) → others v ≡ links v)
     → IsSide side look es links → IsSide side look es others
 side_same side look es links others same is = record {
   lists = is.lists;

@@ -43,12 +43,14 @@ unfolding IsStrictlySortedBy
 rises_first e es a r = (a, r)
 
 module _ {X : Type 0} (list_of : X → List Stored) (item : Item) where
-  none_above : (es : List (Item × X)) → AllByRecursion (λ y. item_order item y ≡ Less) (map (λ e. e.0) es) → stored_on item (rows_by list_of es) ≡ []
+  none_above : (es : List (Item × X)) → AllByRecursion (λ y. item_order item y ≡ Less) (map (λ e. e.0) es) → stored_on item
+      (rows_by list_of es) ≡ []
   none_above [] a = refl
   none_above (e ∷ es) a = passed_one item e.0 (list_of e.1) (rows_by list_of es) (apart item e.0 a.0) ∙ none_above es a.1
 
   -- a look-up that hits gives what is stored on the item
-  pub found : (es : List (Item × X)) (at : X) → Rises es → lookup (is_at (item_order item)) es ≡ Some at → list_of at ≡ stored_on item (rows_by list_of es)
+  pub found : (es : List (Item × X)) (at : X) → Rises es → lookup (is_at (item_order item)) es ≡ Some at → list_of at ≡ stored_on item
+      (rows_by list_of es)
   found [] at r h = absurd (none-some _ h)
   found (e ∷ es) at r h = elim (cases_Bool (is_at (item_order item) e.0)) [
     | inl t ↦ let here : e.1 ≡ at = same_Some _ _ (rw t at h)
@@ -77,10 +79,12 @@ module _ {X : Type 0} (list_of : X → List Stored) (item : Item) where
     where
       by : (o : Ordering) → item_order item e.0 ≡ o
           → (lookup (is_at (item_order item)) es ≡ None → rows_by list_of (insert_entry item_order es item at) ≡ rows_by list_of es)
-          → rows_by list_of (match_ordering o ((item, at) ∷ e ∷ es) ((e.0, at) ∷ es) (e ∷ insert_entry item_order es item at)) ≡ rows_by list_of (e ∷ es)
+          → rows_by list_of (match_ordering o ((item, at) ∷ e ∷ es) ((e.0, at) ∷ es) (e ∷ insert_entry item_order es item at)) ≡ rows_by
+          list_of (e ∷ es)
       by Less is rest = ap (λ l. map (row_on item) l ++ rows_by list_of (e ∷ es)) empty
       by Equal is rest = let t : is_at (item_order item) e.0 ≡ true = ap is_eq is in absurd (none-some _ (sym (rw t at h)))
-      by Greater is rest = let t : is_at (item_order item) e.0 ≡ false = ap is_eq is in ap (λ l. map (row_on e.0) (list_of e.1) ++ l) (rest (rw t at h))
+      by Greater is rest = let t : is_at (item_order item) e.0 ≡ false = ap is_eq is in ap (λ l. map (row_on e.0) (list_of e.1) ++ l)
+          (rest (rw t at h))
 
   -- nor when it goes
   pub leaves : (es : List (Item × X)) (at : X) → lookup (is_at (item_order item)) es ≡ Some at → list_of at ≡ []
@@ -93,7 +97,8 @@ module _ {X : Type 0} (list_of : X → List Stored) (item : Item) where
   ]
 
 -- each entry, and a new one
-pub all_inserted : {X : Type 0} (P : Item × X → Type 0) (es : List (Item × X)) (item : Item) (at : X) → lookup (is_at (item_order item)) es ≡ None
+pub all_inserted : {X : Type 0} (P : Item × X → Type 0) (es : List (Item × X)) (item : Item) (at : X) → lookup (is_at (item_order item))
+    es ≡ None
     → AllByRecursion P es → P (item, at) → AllByRecursion P (insert_entry item_order es item at)
 all_inserted P [] item at h a p = (p, tt)
 all_inserted {X} P (e ∷ es) item at h a p = by (item_order item e.0) refl (λ q. all_inserted P es item at q a.1 p)
@@ -106,7 +111,8 @@ all_inserted {X} P (e ∷ es) item at h a p = by (item_order item e.0) refl (λ 
     by Greater is rest = let t : is_at (item_order item) e.0 ≡ false = ap is_eq is in (a.0, rest (rw t at h))
 
 -- the entries that stay when one goes
-pub all_left : {X : Type 0} (P : Item × X → Type 0) (test : Item → Bool) (es : List (Item × X)) → AllByRecursion P es → AllByRecursion P (remove_entry test es)
+pub all_left : {X : Type 0} (P : Item × X → Type 0) (test : Item → Bool) (es : List (Item × X)) → AllByRecursion P es → AllByRecursion P
+    (remove_entry test es)
 all_left P test [] a = tt
 all_left {X} P test (e ∷ es) a = by (test e.0) (all_left P test es a.1)
   where
@@ -115,7 +121,8 @@ all_left {X} P test (e ∷ es) a = by (test e.0) (all_left P test es a.1)
     by false rest = (a.0, rest)
 
 -- what holds of each entry's slot holds of a slot that is looked up
-pub live_at : {X : Type 0} (P : X → Type 0) (test : Item → Bool) (es : List (Item × X)) (at : X) → AllByRecursion (λ e. P e.1) es → lookup test es ≡ Some at → P at
+pub live_at : {X : Type 0} (P : X → Type 0) (test : Item → Bool) (es : List (Item × X)) (at : X) → AllByRecursion (λ e. P e.1) es
+    → lookup test es ≡ Some at → P at
 live_at P test [] at a h = absurd (none-some _ h)
 live_at P test (e ∷ es) at a h = elim (cases_Bool (test e.0)) [
   | inl t ↦ let here : e.1 ≡ at = same_Some _ _ (rw t at h) in subst P here a.0

@@ -49,7 +49,8 @@ module _ {X : Type 0} where
   ]
 
   -- an entry is looked up, where entries rise
-  pub entry_hits : (es : List (Item × X)) (item : Item) (at : X) → Rises es → Has es (item, at) → lookup (is_at (item_order item)) es ≡ Some at
+  pub entry_hits : (es : List (Item × X)) (item : Item) (at : X) → Rises es → Has es (item, at) → lookup (is_at (item_order item)) es ≡
+      Some at
   entry_hits [] item at r h = absurd h
   entry_hits (e ∷ es) item at r (inl p) =
       let t : is_at (item_order item) e.0 ≡ true = ap (λ y. is_eq (item_order item y)) (ap (λ x. x.0) p) ∙ ap is_eq (itself item)
@@ -60,11 +61,13 @@ module _ {X : Type 0} where
       in rw t (entry_hits es item at (first_rises e es r).1 h)
 
   -- what ties is looked up alike
-  pub lookup_tied : (x y : Item) (es : List (Item × X)) → item_order x y ≡ Equal → lookup (is_at (item_order x)) es ≡ lookup (is_at (item_order y)) es
+  pub lookup_tied : (x y : Item) (es : List (Item × X)) → item_order x y ≡ Equal → lookup (is_at (item_order x)) es ≡ lookup
+      (is_at (item_order y)) es
   lookup_tied x y [] t = refl
   lookup_tied x y (e ∷ es) t = elim (cases_Bool (is_at (item_order x) e.0)) [
     | inl p ↦ let q : is_at (item_order y) e.0 ≡ true = ap is_eq (sym (items_total.congr x y e.0 t)) ∙ p in rw (p, q) refl
-    | inr p ↦ let q : is_at (item_order y) e.0 ≡ false = ap is_eq (sym (items_total.congr x y e.0 t)) ∙ p in rw (p, q) (lookup_tied x y es t)
+    | inr p ↦ let q : is_at (item_order y) e.0 ≡ false = ap is_eq (sym (items_total.congr x y e.0 t)) ∙ p in rw (p, q)
+        (lookup_tied x y es t)
   ]
 
   all_kept : (k : Item) (p : Item × X → Bool) (es : List (Item × X)) → AllByRecursion (λ y. item_order k y ≡ Less) (map (λ e. e.0) es)
@@ -107,7 +110,8 @@ module _ {X : Type 0} where
   part_of (f ∷ fs) rest e x (inl p) = inl (inl p)
   part_of (f ∷ fs) rest e x (inr h) = elim (part_of fs rest e x h) [ inl a ↦ inl (inr a) | inr b ↦ inr b ]
 
-  rest_rises : (before rest : List (Item × X)) (e : Item × X) → Rises (before ++ e ∷ rest) → AllByRecursion (λ y. item_order e.0 y ≡ Less) (map (λ e. e.0) rest)
+  rest_rises : (before rest : List (Item × X)) (e : Item × X) → Rises (before ++ e ∷ rest) → AllByRecursion (λ y. item_order e.0 y ≡ Less)
+      (map (λ e. e.0) rest)
   rest_rises [] rest e r = (first_rises e rest r).0
   rest_rises (f ∷ fs) rest e r = rest_rises fs rest e (first_rises f (fs ++ e ∷ rest) r).1
 
@@ -125,16 +129,25 @@ module _ {X : Type 0} (list_of : X → List Stored) (es : List (Item × X)) (ris
   stands item at h = found list_of item es at rising (entry_hits es item at rising h)
 
   -- what carries an attachment ties with an entry after the bound, where it is above it
-  carried : (other : Item) → IsAbove after other → stored_on other (rows_by list_of es) ≢ [] → (o : Option X) → lookup (is_at (item_order other)) es ≡ o
+  carried : (other : Item) → IsAbove after other → stored_on other (rows_by list_of es) ≢ [] → (o : Option X)
+      → lookup (is_at (item_order other)) es ≡ o
       → (k : Item) × (at : X) × Has (entries_after after es) (k, at) × (list_of at ≢ []) × (item_order other k ≡ Equal)
   carried other a n None e = absurd (n (sym (absent list_of other es e)))
   carried other a n (Some at) e =
       let h = looked_up es other at e
-      in (h.0, at, of_after after es (h.0, at) h.1 (tied_above after other h.0 h.2 a), λ m. n (sym (found list_of other es at rising e) ∙ m), h.2)
+      in (
+        h.0,
+        at,
+        of_after after es (h.0, at) h.1 (tied_above after other h.0 h.2 a),
+        λ m. n (sym (found list_of other es at rising e)
+            ∙ m),
+        h.2,
+      )
 
   pub next_is : (item : Item) → IsFirst list_of (entries_after after es) item → IsNextItem (rows_by list_of es) after item
   next_is item f =
-      let here : Has (entries_after after es) (item, f.at) = subst (λ l. Has l (item, f.at)) (sym f.split) (middle f.before f.rest (item, f.at))
+      let here : Has (entries_after after es) (item, f.at) = subst (λ l. Has l (item, f.at)) (sym f.split)
+      (middle f.before f.rest (item, f.at))
       in let mine = after_of after es (item, f.at) here
       in record {
         above = mine.1;
@@ -147,7 +160,8 @@ module _ {X : Type 0} (list_of : X → List Stored) (es : List (Item × X)) (ris
               | inr q ↦ elim q [
                 | inl p ↦ never_below item (subst (λ x. item_order x item ≡ Less) (sym (ap (λ x. x.0) p)) below)
                 | inr p ↦ one_way item c.0
-                    (less_of item c.0 c.1 f.rest (rest_rises f.before f.rest (item, f.at) (subst (λ l. Rises l) f.split (after_rises after es rising))) p) below
+                    (less_of item c.0 c.1 f.rest (rest_rises f.before f.rest (item, f.at)
+                    (subst (λ l. Rises l) f.split (after_rises after es rising))) p) below
               ]
             ];
       }
@@ -155,7 +169,8 @@ module _ {X : Type 0} (list_of : X → List Stored) (es : List (Item × X)) (ris
   -- the first entry is one of all
   pub first_has : (item : Item) → IsFirst list_of (entries_after after es) item → (at : X) × Has es (item, at)
   first_has item f =
-      let here : Has (entries_after after es) (item, f.at) = subst (λ l. Has l (item, f.at)) (sym f.split) (middle f.before f.rest (item, f.at))
+      let here : Has (entries_after after es) (item, f.at) = subst (λ l. Has l (item, f.at)) (sym f.split)
+      (middle f.before f.rest (item, f.at))
       in (f.at, (after_of after es (item, f.at) here).0)
 
   pub none_is : AreEmpty list_of (entries_after after es) → NoItem (rows_by list_of es) after

@@ -42,9 +42,11 @@ module _ {T : Type 0} (all : List (ℕ × List T)) (first : List (Sides T)) wher
       pub goes_on : Going ways' lists' (i + 1)
       goes_on = record {
         drafted = subst (λ l. AreDrafted l lists') (sym rest) (subst (λ l. AreDrafted (drop (i + 1) ways) l) (sym ls) now_drafted.2);
-        same = ap (λ l. accept_each l lists') rest ∙ ap (λ l. accept_each (drop (i + 1) ways) l) ls ∙ sym (ap (λ l. accept_each l lists) here) ∙ g.same;
+        same = ap (λ l. accept_each l lists') rest ∙ ap (λ l. accept_each (drop (i + 1) ways) l) ls
+            ∙ sym (ap (λ l. accept_each l lists) here) ∙ g.same;
         long = ap length ws ∙ length-set ways i ((get_or ways i w).0, (sides_at lists (get_or ways i w).0).now) ∙ g.long;
-        made = ap (λ l. l ++ backs (drop (i + 1) ways') lists') front ∙ append_assoc (take i ways) (((get_or ways i w).0, (sides_at lists (get_or ways i w).0).now) ∷ []) (backs (drop (i + 1) ways') lists')
+        made = ap (λ l. l ++ backs (drop (i + 1) ways') lists') front ∙ append_assoc (take i ways)
+            (((get_or ways i w).0, (sides_at lists (get_or ways i w).0).now) ∷ []) (backs (drop (i + 1) ways') lists')
             ∙ ap (λ l. take i ways ++ ((get_or ways i w).0, (sides_at lists (get_or ways i w).0).now) ∷ backs l lists') rest
             ∙ ap (λ l. take i ways ++ ((get_or ways i w).0, (sides_at lists (get_or ways i w).0).now) ∷ backs (drop (i + 1) ways) l) ls
             ∙ sym (ap (λ l. take i ways ++ backs l lists) here) ∙ g.made;

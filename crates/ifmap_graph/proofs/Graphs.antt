@@ -65,7 +65,8 @@ module _ {X : Type 0} (eq : X → X → Bool) where
   from_distinct [] r = tt
   from_distinct (x ∷ xs) r = let p = distinct_parts x xs r in (p.0, from_distinct xs p.1)
 
-all_onto : {X Y : Type 0} (P : X → Type 0) (Q : Y → Type 0) (f : X → Y) (xs : List X) → ((x : X) → P x → Q (f x)) → AllByRecursion P xs → AllByRecursion Q (map f xs)
+all_onto : {X Y : Type 0} (P : X → Type 0) (Q : Y → Type 0) (f : X → Y) (xs : List X) → ((x : X) → P x → Q (f x)) → AllByRecursion P xs
+    → AllByRecursion Q (map f xs)
 all_onto P Q f [] g a = tt
 all_onto P Q f (x ∷ xs) g a = (g x a.0, all_onto P Q f xs g a.1)
 
@@ -74,7 +75,8 @@ pairwise_onto : {X Y : Type 0} (P : X → X → Type 0) (Q : Y → Y → Type 0)
 pairwise_onto P Q f [] g p = tt
 pairwise_onto P Q f (x ∷ xs) g p = (all_onto (P x) (Q (f x)) f xs (g x) p.0, pairwise_onto P Q f xs g p.1)
 
-pairwise_both : {X : Type 0} (P : X → X → Type 0) (xs ys : List X) → Pairwise P xs → Pairwise P ys → AllByRecursion (λ x. AllByRecursion (P x) ys) xs
+pairwise_both : {X : Type 0} (P : X → X → Type 0) (xs ys : List X) → Pairwise P xs → Pairwise P ys → AllByRecursion
+    (λ x. AllByRecursion (P x) ys) xs
     → Pairwise P (xs ++ ys)
 pairwise_both P [] ys p q a = q
 pairwise_both P (x ∷ xs) ys p q a = (both_all (P x) xs ys p.0 a.0, pairwise_both P xs ys p.1 q a.1)
@@ -94,8 +96,10 @@ module _ {X : Type 0} (list_of : X → List Stored) where
       (all_rows Q P f es a.1)
 
   -- what holds within each list, and across items that rise, holds of all rows
-  rows_pairwise : (P : Attachment → Attachment → Type 0) → ((i k : Item) (x y : Stored) → item_order i k ≡ Less → P (row_on i x) (row_on k y))
-      → (es : List (Item × X)) → Rises es → AllByRecursion (λ e. Pairwise P (map (row_on e.0) (list_of e.1))) es → Pairwise P (rows_by list_of es)
+  rows_pairwise : (P : Attachment → Attachment → Type 0) → ((i k : Item) (x y : Stored) → item_order i k ≡ Less → P (row_on i x)
+      (row_on k y))
+      → (es : List (Item × X)) → Rises es → AllByRecursion (λ e. Pairwise P (map (row_on e.0) (list_of e.1))) es
+      → Pairwise P (rows_by list_of es)
   rows_pairwise P f [] r a = tt
   rows_pairwise P f (e ∷ es) r a =
       let p = first_rises e es r
@@ -112,7 +116,8 @@ module _ {X : Type 0} (list_of : X → List Stored) where
   and_false true = refl
   and_false false = refl
 
-  pub graph_is : (es : List (Item × X)) → Rises es → AllByRecursion (λ e. IsCanonItem e.0) es → AllByRecursion (λ e. IsList (list_of e.1)) es
+  pub graph_is : (es : List (Item × X)) → Rises es → AllByRecursion (λ e. IsCanonItem e.0) es → AllByRecursion (λ e. IsList (list_of e.1))
+      es
       → IsGraph (rows_by list_of es)
   graph_is es r c l = record {
     items = all_rows (λ x. IsCanonItem x.item) IsCanonItem (λ i x p. p) es (map_of_all IsCanonItem (λ e. e.0) es c);

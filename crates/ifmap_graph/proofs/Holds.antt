@@ -29,7 +29,8 @@ pub sub_two : (n x y : ℕ) → (n - x) - y ≡ n - (x + y)
 sub_two n x y = omega arith
 
 -- two identifiers in order have two numbers
-pub numbers_differ : (names : Holdings Identifier) (v w : ℕ) (a b : Identifier) → identifier_order a b ≡ Less → Names identifier_order names v a
+pub numbers_differ : (names : Holdings Identifier) (v w : ℕ) (a b : Identifier) → identifier_order a b ≡ Less
+    → Names identifier_order names v a
     → Names identifier_order names w b → w ≢ v
 numbers_differ names v w a b l n m e =
     let same : m.0 ≡ n.0 = same_Some _ _ (sym m.1 ∙ ap (entry_at names) e ∙ n.1)
@@ -42,7 +43,8 @@ pub names_stay : (old new : Holdings Identifier) (r v : ℕ) (a : Identifier) �
     → Names identifier_order old v a → Names identifier_order new v a
 names_stay old new r v a others n m = (m.0, others v n ∙ m.1, m.2)
 
-module _ (old new : Holdings Identifier) (kept : (v : ℕ) (a : Identifier) → Names identifier_order old v a → Names identifier_order new v a) where
+module _ (old new : Holdings Identifier) (kept : (v : ℕ) (a : Identifier) → Names identifier_order old v a → Names identifier_order new v
+    a) where
   ends_kept : (item : Item) (e : the_ends.Ends) → AreEnds old item e → AreEnds new item e
   ends_kept (One a) (ends.One v) n = kept v a n
   ends_kept (Pair a b) (ends.Pair v w) n = (kept v a n.0, kept w b n.1)
@@ -54,7 +56,8 @@ module _ (old new : Holdings Identifier) (kept : (v : ℕ) (a : Identifier) → 
   has_kept item (Some shelf) n = ends_kept item shelf.ends n
 
   -- the numbers of entries stay theirs, where their slots stay
-  pub numbered_kept : (look later : ℕ → Option Shelf) (es : List (Item × ℕ)) → AllByRecursion (λ e. later e.1 ≡ look e.1) es → AreNumbered old look es
+  pub numbered_kept : (look later : ℕ → Option Shelf) (es : List (Item × ℕ)) → AllByRecursion (λ e. later e.1 ≡ look e.1) es
+      → AreNumbered old look es
       → AreNumbered new later es
   numbered_kept look later [] s a = tt
   numbered_kept look later (e ∷ es) s a =
@@ -66,7 +69,8 @@ module _ (old new : Holdings Identifier) (r : ℕ) (id : Identifier)
     (absent : IsAbsent identifier_order old id → Takes old new r id)
     (others : (o : ℕ) → o ≢ r → entry_at new o ≡ entry_at old o) where
   itself : (k : ℕ) (x : Identifier × ℕ) → get (insert old.live k x) k ≡ Some x
-  itself k x = get-insert nat_cmp_total old.live k x k ∙ ap (λ b. cond b (Some x) (get old.live k)) (ap is_eq (sym (nat_cmp_is k k Equal refl)))
+  itself k x = get-insert nat_cmp_total old.live k x k ∙ ap (λ b. cond b (Some x) (get old.live k))
+      (ap is_eq (sym (nat_cmp_is k k Equal refl)))
 
   -- where the number has an entry whose key does not tie, no number has the key
   no_other : (e : Identifier × ℕ) → entry_at old r ≡ Some e → (identifier_order e.0 id ≡ Equal → ⊥) → IsAbsent identifier_order old id
@@ -85,7 +89,8 @@ module _ (old new : Holdings Identifier) (r : ℕ) (id : Identifier)
 
   key_there : (k : Identifier) → key_at new r ≡ Some k → (key_at old r ≡ Some k) ⊎ (k ≡ id)
   key_there k e = elim (not_there (entry_at old r) refl) [
-    | inl m ↦ let now : entry_at new r ≡ Some (m.0.0, m.0.1 + 1) = ap (λ p. entry_at p r) ((present r m).1 m.0 m.1) ∙ itself r (m.0.0, m.0.1 + 1)
+    | inl m ↦ let now : entry_at new r ≡ Some (m.0.0, m.0.1 + 1) = ap (λ p. entry_at p r) ((present r m).1 m.0 m.1)
+        ∙ itself r (m.0.0, m.0.1 + 1)
         in inl (ap (option_map (λ x. x.0)) m.1 ∙ sym (ap (option_map (λ x. x.0)) now) ∙ e)
     | inr a ↦ let now : entry_at new r ≡ Some (id, 1) = ap (λ l. get l r) (absent a).live ∙ itself r (id, 1)
         in inr (same_Some _ _ (sym e ∙ ap (option_map (λ x. x.0)) now))
@@ -101,7 +106,8 @@ module _ (old new : Holdings Identifier) (r : ℕ) (id : Identifier)
   ]
 
 -- a number that has a key after a release had it before
-module _ (old new : Holdings Identifier) (r : ℕ) (live : IsSome (entry_at old r)) (kept : LetsGo old new r) (last : holds_at old r ≡ 1 → Frees old new r)
+module _ (old new : Holdings Identifier) (r : ℕ) (live : IsSome (entry_at old r)) (kept : LetsGo old new r) (last : holds_at old r ≡ 1
+    → Frees old new r)
     (counted : holds_at new r + 1 ≡ holds_at old r) (others : (o : ℕ) → o ≢ r → entry_at new o ≡ entry_at old o) where
   holds_of : (e : Identifier × ℕ) → entry_at old r ≡ Some e → holds_at old r ≡ e.1
   holds_of e is = ap (λ o. unwrap_or (option_map (λ x. x.1) o) 0) is
@@ -112,7 +118,8 @@ module _ (old new : Holdings Identifier) (r : ℕ) (live : IsSome (entry_at old 
   -- the number has no key any more, or the same one
   after : (e : Identifier × ℕ) → entry_at old r ≡ Some e → (entry_at new r ≡ None) ⊎ ((m : ℕ) × (entry_at new r ≡ Some (e.0, m)))
   after e is = elim (cases_eq (holds_at old r) 1) [
-    | inl one ↦ inl (ap (λ l. get l r) (last one).live ∙ get-remove nat_cmp_total old.live r r ∙ ap (λ b. cond b None (get old.live r)) tie_test)
+    | inl one ↦ inl (ap (λ l. get l r) (last one).live ∙ get-remove nat_cmp_total old.live r r ∙ ap (λ b. cond b None (get old.live r))
+        tie_test)
     | inr more ↦ let big : 1 < e.1 = omega (arith, more, counted, holds_of e is)
         in inr (
           e.1 - 1,
@@ -121,7 +128,8 @@ module _ (old new : Holdings Identifier) (r : ℕ) (live : IsSome (entry_at old 
         )
   ]
 
-  before_there : (o : Option (Identifier × ℕ)) → entry_at old r ≡ o → (a : Identifier) → Names identifier_order new r a → Names identifier_order old r a
+  before_there : (o : Option (Identifier × ℕ)) → entry_at old r ≡ o → (a : Identifier) → Names identifier_order new r a
+      → Names identifier_order old r a
   before_there None is a n = let q : IsSome {T = Identifier × ℕ} None = subst (λ (o : Option (Identifier × ℕ)). IsSome o) is live in cc
   before_there (Some e) is a n = elim (after e is) [
     | inl gone ↦ absurd (none-some _ (sym gone ∙ n.1))
@@ -130,7 +138,8 @@ module _ (old new : Holdings Identifier) (r : ℕ) (live : IsSome (entry_at old 
 
   pub named_before : (v : ℕ) (a : Identifier) → Names identifier_order new v a → Names identifier_order old v a
   named_before v a n = elim (cases_eq v r) [
-    | inl q ↦ subst (λ k. Names identifier_order old k a) (sym q) (before_there (entry_at old r) refl a (subst (λ k. Names identifier_order new k a) q n))
+    | inl q ↦ subst (λ k. Names identifier_order old k a) (sym q) (before_there (entry_at old r) refl a
+        (subst (λ k. Names identifier_order new k a) q n))
     | inr o ↦ (n.0, sym (others v o) ∙ n.1, n.2)
   ]
 
@@ -182,7 +191,8 @@ module _ (old new : Holdings Identifier) (v : ℕ) where
 -- the numbers of a link are let go
 module _ (old new : Holdings Identifier) (v w : ℕ) where
   pub pair_live : (item : Item) → IsItem item → AreEnds old item (ends.Pair v w)
-      → (a : Identifier) × (b : Identifier) × (identifier_order a b ≡ Less) × Names identifier_order old v a × Names identifier_order old w b
+      → (a : Identifier) × (b : Identifier) × (identifier_order a b ≡ Less) × Names identifier_order old v a × Names identifier_order old
+      w b
   pair_live (One a) i n = absurd n
   pair_live (Pair a b) i n = (a, b, i, n.0, n.1)
 

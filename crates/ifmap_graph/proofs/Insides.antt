@@ -26,7 +26,8 @@ use Rattle.ifmap_graph.proofs.Graphs.{graph_is}
 use Rattle.ifmap_graph.proofs.Viewed.{all_has, alone, apart, each, handled, linked, only}
 
 -- the rows of shelves are those of their entries
-pub rows_shown : (side : Side) (look : ℕ → Option Shelf) (es : List (Item × ℕ)) → rows_by (list_at side) (shown look es) ≡ rows_by (λ at. list_at side (look at)) es
+pub rows_shown : (side : Side) (look : ℕ → Option Shelf) (es : List (Item × ℕ)) → rows_by (list_at side) (shown look es) ≡ rows_by
+    (λ at. list_at side (look at)) es
 rows_shown side look [] = refl
 rows_shown side look (e ∷ es) = ap (λ l. map (row_on e.0) (list_at side (look e.1)) ++ l) (rows_shown side look es)
 
@@ -36,14 +37,16 @@ named_shown look [] a = refl
 named_shown look (e ∷ es) a = ap (λ n. named_by e.0 a + n) (named_shown look es a)
 
 -- an item is looked up among shelves as among entries
-pub lookup_shown : (look : ℕ → Option Shelf) (test : Item → Bool) (es : List (Item × ℕ)) → lookup test (shown look es) ≡ option_map look (lookup test es)
+pub lookup_shown : (look : ℕ → Option Shelf) (test : Item → Bool) (es : List (Item × ℕ)) → lookup test (shown look es) ≡ option_map look
+    (lookup test es)
 lookup_shown look test [] = refl
 lookup_shown look test (e ∷ es) = elim (cases_Bool (test e.0)) [
   | inl t ↦ rw t refl
   | inr t ↦ rw t (lookup_shown look test es)
 ]
 
-pub no_entry : (look : ℕ → Option Shelf) (test : Item → Bool) (es : List (Item × ℕ)) → lookup test (shown look es) ≡ None → lookup test es ≡ None
+pub no_entry : (look : ℕ → Option Shelf) (test : Item → Bool) (es : List (Item × ℕ)) → lookup test (shown look es) ≡ None
+    → lookup test es ≡ None
 no_entry look test es h = by (lookup test es) (sym (lookup_shown look test es) ∙ h)
   where
     by : (o : Option ℕ) → option_map look o ≡ None → o ≡ None
@@ -73,15 +76,18 @@ module _ (names : Holdings Identifier) where
   entry_of v a (Some entry) is e = (entry, is, same_Some _ _ e)
 
   -- what a number's identifier ties with, it names
-  pub names_by : (v : ℕ) (a b : Identifier) → key_at names v ≡ Some a → identifier_bytes a ≡ identifier_bytes b → Names identifier_order names v b
+  pub names_by : (v : ℕ) (a b : Identifier) → key_at names v ≡ Some a → identifier_bytes a ≡ identifier_bytes b
+      → Names identifier_order names v b
   names_by v a b e q =
       let x = entry_of v a (entry_at names v) refl e
       in (x.0, x.1, ap (λ k. identifier_order k b) x.2 ∙ alike_equal a b q)
 
   -- a number that was found is that of the identifier, where the two are told apart by their bytes
-  pub number_found : (v : ℕ) (id k : Identifier) → Names identifier_order names v id → key_at names v ≡ Some k → (identifier_bytes k ≡ identifier_bytes id → k ≡ id)
+  pub number_found : (v : ℕ) (id k : Identifier) → Names identifier_order names v id → key_at names v ≡ Some k
+      → (identifier_bytes k ≡ identifier_bytes id → k ≡ id)
       → key_at names v ≡ Some id
-  number_found v id k n e t = e ∙ ap Some (t (ap identifier_bytes (same_Some k n.0.0 (sym e ∙ key_is v n.0 n.1)) ∙ equal_alike n.0.0 id n.2))
+  number_found v id k n e t = e ∙ ap Some (t (ap identifier_bytes (same_Some k n.0.0 (sym e ∙ key_is v n.0 n.1))
+      ∙ equal_alike n.0.0 id n.2))
 
   pub single : IsPool identifier_order names → AreSingle (key_at names)
   single p v w a b e f q = p.one_to_one v w b (names_by v a b e q) (names_by w b b f refl)
@@ -126,7 +132,8 @@ module _ (names : Holdings Identifier) where
     only_of item None j n = absurd (none-some _ j)
     only_of item (Some shelf) j n = only_by item shelf.ends j n
 
-  pub are_joined : (look : ℕ → Option Shelf) (entries : List (Item × ℕ)) → ((at : ℕ) → IsSome (look at) → (item : Item) × Has entries (item, at))
+  pub are_joined : (look : ℕ → Option Shelf) (entries : List (Item × ℕ)) → ((at : ℕ) → IsSome (look at) → (item : Item) × Has entries
+      (item, at))
       → AreNumbered names look entries → AreJoined entries (key_at names) (λ at. joined (look at))
   are_joined look entries used numbered = record {
     ones = λ a at h. ones_of a a (look at) (all_has (λ e. HasEnds names e.0 (look e.1)) entries numbered (One a, at) h);
@@ -138,13 +145,15 @@ module _ (names : Holdings Identifier) where
   }
 
 module _ (names : Holdings Identifier) (look : ℕ → Option Shelf) (entries : List (Item × ℕ)) (links : ℕ → List LinkSeen) (side : Side)
-    (placed : IsPlaced look entries) (used : (at : ℕ) → IsSome (look at) → (item : Item) × Has entries (item, at)) (numbered : AreNumbered names look entries)
+    (placed : IsPlaced look entries) (used : (at : ℕ) → IsSome (look at) → (item : Item) × Has entries (item, at))
+    (numbered : AreNumbered names look entries)
     (pool : IsPool identifier_order names) (keys : AreIdentifiers names) (is : IsSide side look entries links) where
   -- a handle leads to what is stored on its link
   pub handle_of : (v : ℕ) (seen : LinkSeen) → Contains (links v) seen
       → list_at side (look seen.at) ≡ stored_linked (key_at names v) (key_at names seen.other) (rows_by (list_at side) (shown look entries))
   handle_of v seen c =
-      handled (λ at. list_at side (look at)) entries (key_at names) (λ at. joined (look at)) links placed.rising placed.canon (single names pool)
+      handled (λ at. list_at side (look at)) entries (key_at names) (λ at. joined (look at)) links placed.rising placed.canon
+      (single names pool)
       (are_joined names look entries used numbered) is.listed v seen c
       ∙ sym (ap (stored_linked (key_at names v) (key_at names seen.other)) (rows_shown side look entries))
 
@@ -158,11 +167,16 @@ module _ (names : Holdings Identifier) (look : ℕ → Option Shelf) (entries : 
           graph = graph_is (λ at. list_at side (look at)) entries placed.rising placed.canon is.lists;
           canon = keys;
           one_to_one = λ v w a e f. s v w a a e f refl;
-          alone = alone (λ at. list_at side (look at)) entries (key_at names) (λ at. joined (look at)) links placed.rising placed.canon s j is.listed tells keys;
-          linked = linked (λ at. list_at side (look at)) entries (key_at names) (λ at. joined (look at)) links placed.rising placed.canon s j is.listed tells keys;
-          apart = λ v. apart (λ at. list_at side (look at)) entries (key_at names) (λ at. joined (look at)) links placed.rising placed.canon s j is.listed v (is.once v);
-          only = only (λ at. list_at side (look at)) entries (key_at names) (λ at. joined (look at)) links placed.rising placed.canon s j is.listed;
-          each = each (λ at. list_at side (look at)) entries (key_at names) (λ at. joined (look at)) links placed.rising placed.canon s j is.listed;
+          alone = alone (λ at. list_at side (look at)) entries (key_at names) (λ at. joined (look at)) links placed.rising placed.canon s
+              j is.listed tells keys;
+          linked = linked (λ at. list_at side (look at)) entries (key_at names) (λ at. joined (look at)) links placed.rising placed.canon
+              s j is.listed tells keys;
+          apart = λ v. apart (λ at. list_at side (look at)) entries (key_at names) (λ at. joined (look at)) links placed.rising
+              placed.canon s j is.listed v (is.once v);
+          only = only (λ at. list_at side (look at)) entries (key_at names) (λ at. joined (look at)) links placed.rising placed.canon s j
+              is.listed;
+          each = each (λ at. list_at side (look at)) entries (key_at names) (λ at. joined (look at)) links placed.rising placed.canon s j
+              is.listed;
         }
 
     pub shown_view : IsView (rows_by (list_at side) (shown look entries)) (key_at names) links

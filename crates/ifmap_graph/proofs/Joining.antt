@@ -11,7 +11,8 @@ cons_append (Some y) xs ys = refl
 
 module _ {X Y : Type 0} (pick : X → Option Y) (d : X) where
   -- one place more is looked at
-  pub one_more : (xs : List X) (i : ℕ) → i < length xs → filter_map pick (take (suc i) xs) ≡ filter_map pick (take i xs) ++ cons_option (pick (get_or xs i d)) []
+  pub one_more : (xs : List X) (i : ℕ) → i < length xs → filter_map pick (take (suc i) xs) ≡ filter_map pick (take i xs) ++ cons_option
+      (pick (get_or xs i d)) []
   one_more [] i h = absurd (omega (arith, h))
   one_more (x ∷ xs) zero h = refl
   one_more (x ∷ xs) (suc i) h =

@@ -35,7 +35,8 @@ comes (e ∷ es) item at a h = by (item_order item e.0) refl (comes es item at a
   where
     by : (o : Ordering) → item_order item e.0 ≡ o
         → (lookup (is_at (item_order item)) es ≡ None → named_in (insert_entry item_order es item at) a ≡ named_by item a + named_in es a)
-        → named_in (match_ordering o ((item, at) ∷ e ∷ es) ((e.0, at) ∷ es) (e ∷ insert_entry item_order es item at)) a ≡ named_by item a + named_in (e ∷ es) a
+        → named_in (match_ordering o ((item, at) ∷ e ∷ es) ((e.0, at) ∷ es) (e ∷ insert_entry item_order es item at)) a ≡ named_by item a
+        + named_in (e ∷ es) a
     by Less is rest = refl
     by Equal is rest = let t : is_at (item_order item) e.0 ≡ true = ap is_eq is in absurd (none-some _ (sym (rw t at h)))
     by Greater is rest =
@@ -62,7 +63,8 @@ goes [] item at a h = absurd (none-some _ h)
 goes (e ∷ es) item at a h = elim (cases_Bool (is_at (item_order item) e.0)) [
   | inl t ↦ rw t (ap (λ n. n + named_in es a) (sym (named_tied item e.0 a (equal_is (item_order item e.0) t))))
   | inr t ↦ let q : named_by item a + named_in (remove_entry (is_at (item_order item)) es) a ≡ named_in es a = goes es item at a (rw t at h)
-      in rw t (swapped (named_by item a) (named_by e.0 a) (named_in (remove_entry (is_at (item_order item)) es) a) ∙ ap (λ n. named_by e.0 a + n) q)
+      in rw t (swapped (named_by item a) (named_by e.0 a) (named_in (remove_entry (is_at (item_order item)) es) a)
+      ∙ ap (λ n. named_by e.0 a + n) q)
 ]
 
 differs : (a b : ℕ) → nat_eq a b ≡ false → b ≢ a
@@ -73,7 +75,8 @@ others_apart at [] a = tt
 others_apart at (e ∷ es) a = (differs at e.1 a.0, others_apart at es a.1)
 
 -- a slot that is looked up further on is not that of the entry before
-not_first : (k : ℕ) (test : Item → Bool) (es : Entries) (at : ℕ) → AllByRecursion (λ y. nat_eq k y ≡ false) (slots_of es) → lookup test es ≡ Some at → k ≢ at
+not_first : (k : ℕ) (test : Item → Bool) (es : Entries) (at : ℕ) → AllByRecursion (λ y. nat_eq k y ≡ false) (slots_of es)
+    → lookup test es ≡ Some at → k ≢ at
 not_first k test [] at a h = λ q. none-some _ h
 not_first k test (e ∷ es) at a h = elim (cases_Bool (test e.0)) [
   | inl t ↦ let here : e.1 ≡ at = same_Some _ _ (rw t at h) in λ q. differs k e.1 a.0 (here ∙ sym q)
@@ -104,12 +107,14 @@ slots_left : (test : Item → Bool) (es : Entries) → IsDistinct nat_eq (slots_
 slots_left test [] d = no_slots
 slots_left test (e ∷ es) d = by (test e.0) (slots_left test es (slots_first e es d).1)
   where
-    by : (b : Bool) → IsDistinct nat_eq (slots_of (remove_entry test es)) → IsDistinct nat_eq (slots_of (cond b es (e ∷ remove_entry test es)))
+    by : (b : Bool) → IsDistinct nat_eq (slots_of (remove_entry test es)) → IsDistinct nat_eq
+        (slots_of (cond b es (e ∷ remove_entry test es)))
     by true rest = (slots_first e es d).1
     by false rest = first_slot e (remove_entry test es) (out_left e.1 test es (slots_first e es d).0) rest
 
 -- an entry of another slot stays
-pub removed_has : (test : Item → Bool) (es : Entries) (at n : ℕ) (k : Item) → lookup test es ≡ Some at → n ≢ at → Has es (k, n) → Has (remove_entry test es) (k, n)
+pub removed_has : (test : Item → Bool) (es : Entries) (at n : ℕ) (k : Item) → lookup test es ≡ Some at → n ≢ at → Has es (k, n)
+    → Has (remove_entry test es) (k, n)
 removed_has test [] at n k h o i = absurd i
 removed_has test (e ∷ es) at n k h o i = elim (cases_Bool (test e.0)) [
   | inl t ↦ let here : e.1 ≡ at = same_Some _ _ (rw t at h)
@@ -118,16 +123,20 @@ removed_has test (e ∷ es) at n k h o i = elim (cases_Bool (test e.0)) [
 ]
 
 -- an item's shelf goes, which is empty
-module _ (es new : Entries) (look later : ℕ → Option Shelf) (item : Item) (at : ℕ) (is : IsPlaced look es) (here : lookup (is_at (item_order item)) es ≡ Some at)
-    (gone : later at ≡ None) (others : (o : ℕ) → o ≢ at → later o ≡ look o) (removes : new ≡ remove_entry (is_at (item_order item)) es) (rises : Rises new) where
+module _ (es new : Entries) (look later : ℕ → Option Shelf) (item : Item) (at : ℕ) (is : IsPlaced look es)
+    (here : lookup (is_at (item_order item)) es ≡ Some at)
+    (gone : later at ≡ None) (others : (o : ℕ) → o ≢ at → later o ≡ look o) (removes : new ≡ remove_entry (is_at (item_order item)) es)
+    (rises : Rises new) where
   apart_from : AllByRecursion (λ e. e.1 ≢ at) (remove_entry (is_at (item_order item)) es)
   apart_from = others_left (is_at (item_order item)) es at is.apart here
 
-  live_left : (es : Entries) → AllByRecursion (λ e. e.1 ≢ at) es → AllByRecursion (λ e. IsSome (look e.1)) es → AllByRecursion (λ e. IsSome (later e.1)) es
+  live_left : (es : Entries) → AllByRecursion (λ e. e.1 ≢ at) es → AllByRecursion (λ e. IsSome (look e.1)) es → AllByRecursion
+      (λ e. IsSome (later e.1)) es
   live_left [] o a = tt
   live_left (e ∷ es) o a = (subst (λ (x : Option Shelf). IsSome x) (sym (others e.1 o.0)) a.0, live_left es o.1 a.1)
 
-  rows_left : (side : Side) (es : Entries) → AllByRecursion (λ e. e.1 ≢ at) es → rows_by (λ n. list_at side (later n)) es ≡ rows_by (λ n. list_at side (look n)) es
+  rows_left : (side : Side) (es : Entries) → AllByRecursion (λ e. e.1 ≢ at) es → rows_by (λ n. list_at side (later n)) es ≡ rows_by
+      (λ n. list_at side (look n)) es
   rows_left side [] o = refl
   rows_left side (e ∷ es) o =
       ap (λ x. map (row_on e.0) (list_at side x) ++ rows_by (λ n. list_at side (later n)) es) (others e.1 o.0)
@@ -140,18 +149,22 @@ module _ (es new : Entries) (look later : ℕ → Option Shelf) (item : Item) (a
   -- the entries that are left have the shelves that they had
   pub slots_kept : AllByRecursion (λ e. later e.1 ≡ look e.1) new
   slots_kept =
-      subst (λ l. AllByRecursion (λ e. later e.1 ≡ look e.1) l) (sym removes) (same_slots (remove_entry (is_at (item_order item)) es) apart_from)
+      subst (λ l. AllByRecursion (λ e. later e.1 ≡ look e.1) l) (sym removes) (same_slots (remove_entry (is_at (item_order item)) es)
+      apart_from)
 
   pub stays_placed : IsPlaced later new
   stays_placed = record {
     rising = rises;
-    canon = subst (λ l. AllByRecursion (λ e. IsCanonItem e.0) l) (sym removes) (all_left (λ e. IsCanonItem e.0) (is_at (item_order item)) es is.canon);
+    canon = subst (λ l. AllByRecursion (λ e. IsCanonItem e.0) l) (sym removes) (all_left (λ e. IsCanonItem e.0) (is_at (item_order item))
+        es is.canon);
     live = subst (λ l. AllByRecursion (λ e. IsSome (later e.1)) l) (sym removes)
-        (live_left (remove_entry (is_at (item_order item)) es) apart_from (all_left (λ e. IsSome (look e.1)) (is_at (item_order item)) es is.live));
+        (live_left (remove_entry (is_at (item_order item)) es) apart_from (all_left (λ e. IsSome (look e.1)) (is_at (item_order item)) es
+        is.live));
     apart = subst (λ l. IsDistinct nat_eq (slots_of l)) (sym removes) (slots_left (is_at (item_order item)) es is.apart);
   }
 
-  pub same_rows : (side : Side) → list_at side (look at) ≡ [] → rows_by (λ n. list_at side (later n)) new ≡ rows_by (λ n. list_at side (look n)) es
+  pub same_rows : (side : Side) → list_at side (look at) ≡ [] → rows_by (λ n. list_at side (later n)) new ≡ rows_by
+      (λ n. list_at side (look n)) es
   same_rows side empty =
       ap (rows_by (λ n. list_at side (later n))) removes
       ∙ rows_left side (remove_entry (is_at (item_order item)) es) apart_from

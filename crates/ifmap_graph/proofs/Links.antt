@@ -33,10 +33,16 @@ far_ends p v w e = elim (cases_eq p.0 v) [
 ]
 
 -- what is picked at a place
-picked : (b : Bool) (at : ℕ) (o : Option ℕ) (seen : LinkSeen) → cond b (seen_at at o) None ≡ Some seen → (b ≡ true) × (o ≡ Some seen.other) × (at ≡ seen.at)
+picked : (b : Bool) (at : ℕ) (o : Option ℕ) (seen : LinkSeen) → cond b (seen_at at o) None ≡ Some seen → (b ≡ true)
+    × (o ≡ Some seen.other) × (at ≡ seen.at)
 picked false at o seen e = absurd (none-some _ e)
 picked true at None seen e = absurd (none-some _ e)
-picked true at (Some w) seen e = let q : record { other = w; at = at } ≡ seen = same_Some _ _ e in (refl, ap (λ s. Some s.other) q, ap (λ s. s.at) q)
+picked true at (Some w) seen e = let q : record { other = w; at = at } ≡ seen = same_Some _ _ e in (
+  refl,
+  ap (λ s. Some s.other) q,
+  ap
+      (λ s. s.at) q,
+)
 
 both_true : (a b : Bool) → (a && not b) ≡ true → (a ≡ true) × (b ≡ false)
 both_true true true e = let r : false ≡ true = e in cc
@@ -57,7 +63,8 @@ module _ (joins : ℕ → Option (ℕ × ℕ)) where
     abbrev pick : ℕ → ℕ → Option LinkSeen
     pick v at = cond (after at && not (before at)) (seen_at at (far_of (joins at) v)) None
 
-    new_only : (v : ℕ) (seen : LinkSeen) → Contains (changed joins before after touched links v) seen → Ends joins seen.at v seen.other × (after seen.at ≡ true)
+    new_only : (v : ℕ) (seen : LinkSeen) → Contains (changed joins before after touched links v) seen → Ends joins seen.at v seen.other
+        × (after seen.at ≡ true)
     new_only v seen c = elim (Contains-append_cases (filter (λ l. after l.at) (links v)) (coming joins before after touched v) seen c) [
       | inl a ↦ let h = filter_has (λ l. after l.at) (links v) seen (has_from _ _ a)
           in ((old.only v seen (from_has (links v) seen h.0)).0, h.1)
@@ -67,13 +74,17 @@ module _ (joins : ℕ → Option (ℕ × ℕ)) where
           in (subst (λ at. Ends joins at v seen.other) p.2 ends, ap after (sym p.2) ∙ (both_true (after h.0) (before h.0) p.0).0)
     ]
 
-    new_each : (v w at : ℕ) → Ends joins at v w → after at ≡ true → Contains (changed joins before after touched links v) (record { other = w; at = at })
+    new_each : (v w at : ℕ) → Ends joins at v w → after at ≡ true → Contains (changed joins before after touched links v)
+        (record { other = w; at = at })
     new_each v w at ends full = elim (cases_Bool (before at)) [
-      | inl was ↦ Contains-append_left (filter (λ l. after l.at) (links v)) (coming joins before after touched v) (record { other = w; at = at })
-          (from_has _ _ (has_filter (λ l. after l.at) (links v) (record { other = w; at = at }) (has_from _ _ (old.each v w at ends was)) full))
+      | inl was ↦ Contains-append_left (filter (λ l. after l.at) (links v)) (coming joins before after touched v)
+          (record { other = w; at = at })
+          (from_has _ _ (has_filter (λ l. after l.at) (links v) (record { other = w; at = at }) (has_from _ _ (old.each v w at ends was))
+          full))
       | inr was ↦ elim (all at) [
         | inl same ↦ let r : false ≡ true = sym was ∙ same ∙ full in cc
-        | inr there ↦ Contains-append_right (filter (λ l. after l.at) (links v)) (coming joins before after touched v) (record { other = w; at = at })
+        | inr there ↦ Contains-append_right (filter (λ l. after l.at) (links v)) (coming joins before after touched v)
+            (record { other = w; at = at })
             (from_has _ _ (has_mapped (pick v) touched at (record { other = w; at = at }) (has_from _ _ there)
             (ap (λ b. cond (b && not (before at)) (seen_at at (far_of (joins at) v)) None) full
             ∙ ap (λ b. cond (true && not b) (seen_at at (far_of (joins at) v)) None) was

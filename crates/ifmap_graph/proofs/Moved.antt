@@ -35,7 +35,8 @@ live_by None None e s = s
 live_by None (Some t) e s = absurd (none-some _ e)
 live_by (Some a) p e s = refl
 
-has_by : (names : Holdings Identifier) (item : Item) (o p : Option Shelf) → ends_of o ≡ ends_of p → HasEnds names item p → HasEnds names item o
+has_by : (names : Holdings Identifier) (item : Item) (o p : Option Shelf) → ends_of o ≡ ends_of p → HasEnds names item p
+    → HasEnds names item o
 has_by names item None None e h = h
 has_by names item None (Some t) e h = absurd (none-some _ e)
 has_by names item (Some s) None e h = absurd (none-some _ (sym e))
@@ -61,7 +62,8 @@ module _ (look later : ℕ → Option Shelf) (ends : (at : ℕ) → ends_of (lat
   -- the lists and the links of one side come to be those of another
   module _ (side other : Side) (lists : (at : ℕ) → list_at other (later at) ≡ list_at side (look at)) (links moved : ℕ → List LinkSeen)
       (same : (v : ℕ) → moved v ≡ links v) where
-    all_lists : (es : Entries) → AllByRecursion (λ e. IsList (list_at side (look e.1))) es → AllByRecursion (λ e. IsList (list_at other (later e.1))) es
+    all_lists : (es : Entries) → AllByRecursion (λ e. IsList (list_at side (look e.1))) es → AllByRecursion
+        (λ e. IsList (list_at other (later e.1))) es
     all_lists [] a = tt
     all_lists (e ∷ es) a = (subst IsList (sym (lists e.1)) a.0, all_lists es a.1)
 
@@ -88,7 +90,8 @@ module _ (look later : ℕ → Option Shelf) (ends : (at : ℕ) → ends_of (lat
 
   -- all parts together, where both sides are in order
   pub inside_anew : (names : Holdings Identifier) (es : Entries) (links moved : List (Sides LinkSeen)) → length moved ≡ length links
-      → IsSide now later es (links_at now moved) → IsSide next later es (links_at next moved) → IsInside names look es links → IsInside names later es moved
+      → IsSide now later es (links_at now moved) → IsSide next later es (links_at next moved) → IsInside names look es links
+      → IsInside names later es moved
   inside_anew names es links moved long first second is = record {
     placed = placed_still es is.placed;
     used = used_still es is.used;
@@ -105,8 +108,10 @@ module _ (look later : ℕ → Option Shelf) (ends : (at : ℕ) → ends_of (lat
   pub inside_moved : (names : Holdings Identifier) (es : Entries) (links moved : List (Sides LinkSeen)) (one two : Side)
       (from : (Sides LinkSeen → List LinkSeen)) (then : (Sides LinkSeen → List LinkSeen))
       → ((at : ℕ) → list_at now (later at) ≡ list_at one (look at)) → ((at : ℕ) → list_at next (later at) ≡ list_at two (look at))
-      → ((v : ℕ) → links_at now moved v ≡ links_at from links v) → ((v : ℕ) → links_at next moved v ≡ links_at then links v) → length moved ≡ length links
-      → IsSide one look es (links_at from links) → IsSide two look es (links_at then links) → IsInside names look es links → IsInside names later es moved
+      → ((v : ℕ) → links_at now moved v ≡ links_at from links v) → ((v : ℕ) → links_at next moved v ≡ links_at then links v)
+      → length moved ≡ length links
+      → IsSide one look es (links_at from links) → IsSide two look es (links_at then links) → IsInside names look es links
+      → IsInside names later es moved
   inside_moved names es links moved one two from then f g ln lx long first second is =
       inside_anew names es links moved long (side_moved one now f (links_at from links) (links_at now moved) ln es first)
       (side_moved two next g (links_at then links) (links_at next moved) lx es second) is

@@ -18,7 +18,8 @@ use Rattle.ifmap_graph.proofs.Insides.{lookup_shown}
 
 module _ (s : Shelves) where
   pub from_shown : (x : Item) → IsDrafted (shown (get s.slots) s.places.entries) x → HasDraft s x
-  from_shown x d = by (lookup (is_at (item_order x)) s.places.entries) refl (sym (lookup_shown (get s.slots) (is_at (item_order x)) s.places.entries) ∙ d.1)
+  from_shown x d = by (lookup (is_at (item_order x)) s.places.entries) refl
+      (sym (lookup_shown (get s.slots) (is_at (item_order x)) s.places.entries) ∙ d.1)
     where
       by : (o : Option ℕ) → lookup (is_at (item_order x)) s.places.entries ≡ o → option_map (get s.slots) o ≡ Some (Some d.0) → HasDraft s x
       by None e q = absurd (none-some _ q)
@@ -28,7 +29,8 @@ module _ (s : Shelves) where
   to_shown x d =
       (d.1, lookup_shown (get s.slots) (is_at (item_order x)) s.places.entries ∙ ap (option_map (get s.slots)) d.2 ∙ ap Some d.3, d.4)
 
-  all_from : (items : List Item) → AllByRecursion (IsDrafted (shown (get s.slots) s.places.entries)) items → AllByRecursion (HasDraft s) items
+  all_from : (items : List Item) → AllByRecursion (IsDrafted (shown (get s.slots) s.places.entries)) items → AllByRecursion (HasDraft s)
+      items
   all_from [] a = tt
   all_from (x ∷ xs) a = (from_shown x a.0, all_from xs a.1)
 

@@ -28,7 +28,8 @@ pub holds_alike : (old new : Holdings Identifier) → new.live ≡ old.live → 
 holds_alike old new live v = ap (λ l. unwrap_or (option_map (λ x. x.1) (get l v)) 0) live
 
 -- a number that is live is held once more, and so more than once
-pub held_again : (old mid new : Holdings Identifier) → ((v : ℕ) → IsSome (entry_at old v) → 0 < holds_at old v) → mid.live ≡ old.live → (v : ℕ)
+pub held_again : (old mid new : Holdings Identifier) → ((v : ℕ) → IsSome (entry_at old v) → 0 < holds_at old v) → mid.live ≡ old.live
+    → (v : ℕ)
     → holds_at new v ≡ holds_at mid v + 1 → IsSome (key_at old v) → 1 < holds_at new v
 held_again old mid new held live v counted some =
     let there : IsSome (entry_at old v) = by (entry_at old v) some
@@ -43,13 +44,15 @@ pub live_key : (names : Holdings Identifier) (v : ℕ) (a : Identifier) → key_
 live_key names v a e = subst (λ (o : Option (Identifier × ℕ)). IsSome o) (sym (names_by names v a a e refl).1) refl
 
 -- the key of a number is the identifier that it names, where elements gave both
-pub key_told : (names : Holdings Identifier) (v : ℕ) (a : Identifier) → Tells → AreIdentifiers names → IsIdentifier a → Names identifier_order names v a
+pub key_told : (names : Holdings Identifier) (v : ℕ) (a : Identifier) → Tells → AreIdentifiers names → IsIdentifier a
+    → Names identifier_order names v a
     → key_at names v ≡ Some a
 key_told names v a tells all is n =
     key_is names v n.0 n.1 ∙ ap Some (tells n.0.0 a (all v n.0.0 (key_is names v n.0 n.1)) is (equal_alike n.0.0 a n.2))
 
 -- a key stays that of its number
-pub key_kept : (old new : Holdings Identifier) → ((v : ℕ) (a : Identifier) → Names identifier_order old v a → Names identifier_order new v a) → Tells
+pub key_kept : (old new : Holdings Identifier) → ((v : ℕ) (a : Identifier) → Names identifier_order old v a → Names identifier_order new v
+    a) → Tells
     → AreIdentifiers old → AreIdentifiers new → (v : ℕ) (a : Identifier) → key_at old v ≡ Some a → key_at new v ≡ Some a
 key_kept old new kept tells before after v a e = key_told new v a tells after (before v a e) (kept v a (names_by old v a a e refl))
 
@@ -79,7 +82,8 @@ module _ (names : Holdings Identifier) (pool : IsPool identifier_order names) wh
   tied_held a b n t (inr p) = inr ((λ v m. p.0 v (m.0, m.1, alike_equal m.0.0 a (equal_alike m.0.0 b m.2 ∙ sym t))), p.1)
 
   -- what goes of an identifier's holds is of those that others than items have
-  goes_of : {X : Type 0} (es : List (Item × X)) (a other : Identifier) (mine own : ℕ) → IsHeld identifier_order names a (named_in es a + mine) → 0 < mine
+  goes_of : {X : Type 0} (es : List (Item × X)) (a other : Identifier) (mine own : ℕ) → IsHeld identifier_order names a
+      (named_in es a + mine) → 0 < mine
       → IsHeld identifier_order names other (named_in es other + own) → once identifier_order a other ≤ own
   goes_of es a other mine own k some h = elim (cases_Bool (is_eq (identifier_order a other))) [
     | inl t ↦ let alike : Alike a other = equal_alike a other (equal_is (identifier_order a other) t)
@@ -92,12 +96,14 @@ module _ (names : Holdings Identifier) (pool : IsPool identifier_order names) wh
   ]
 
 -- an identifier that others than items hold is let go once
-module _ (old new : Holdings Identifier) (look : ℕ → Option Shelf) (es : Entries) (links : List (Sides LinkSeen)) (is : IsInside old look es links) (v : ℕ)
+module _ (old new : Holdings Identifier) (look : ℕ → Option Shelf) (es : Entries) (links : List (Sides LinkSeen))
+    (is : IsInside old look es links) (v : ℕ)
     (kept : LetsGo old new v) (last : holds_at old v ≡ 1 → Frees old new v) (counted : holds_at new v + 1 ≡ holds_at old v)
     (others : (o : ℕ) → o ≢ v → entry_at new o ≡ entry_at old o) (pool : IsPool identifier_order new)
     (held : (key other : Identifier) (count : ℕ) → Names identifier_order old v key → IsHeld identifier_order old other count
     → IsHeld identifier_order new other (count - once identifier_order key other))
-    (k : Identifier) (mine : ℕ) (key : key_at old v ≡ Some k) (own : IsHeld identifier_order old k (named_in (shown look es) k + mine)) (some : 0 < mine) where
+    (k : Identifier) (mine : ℕ) (key : key_at old v ≡ Some k) (own : IsHeld identifier_order old k (named_in (shown look es) k + mine))
+    (some : 0 < mine) where
   before : (o : ℕ) (a : Identifier) → Names identifier_order new o a → Names identifier_order old o a
   before = named_before old new v (live_key old v k key) kept last counted others
 
@@ -105,13 +111,16 @@ module _ (old new : Holdings Identifier) (look : ℕ → Option Shelf) (es : Ent
       → IsHeld identifier_order new other (named_in (shown look es) other + (n - once identifier_order k other))
   own_of other n h =
       subst (λ (m : ℕ). IsHeld identifier_order new other m)
-      (own_less (named_in (shown look es) other) n (once identifier_order k other) (goes_of old is.pool (shown look es) k other mine n own some h))
+      (own_less (named_in (shown look es) other) n (once identifier_order k other) (goes_of old is.pool (shown look es) k other mine n own
+      some h))
       (held k other (named_in (shown look es) other + n) (names_by old v k k key refl) h)
 
-  pub own_released : (a other : Identifier) (n : ℕ) → key_at old v ≡ Some a → IsHeld identifier_order old other (named_in (shown look es) other + n)
+  pub own_released : (a other : Identifier) (n : ℕ) → key_at old v ≡ Some a → IsHeld identifier_order old other
+      (named_in (shown look es) other + n)
       → IsHeld identifier_order new other (named_in (shown look es) other + (n - once identifier_order a other))
   own_released a other n e h =
-      subst (λ x. IsHeld identifier_order new other (named_in (shown look es) other + (n - once identifier_order x other))) (same_Some _ _ (sym key ∙ e)) (own_of other n h)
+      subst (λ x. IsHeld identifier_order new other (named_in (shown look es) other + (n - once identifier_order x other)))
+      (same_Some _ _ (sym key ∙ e)) (own_of other n h)
 
   still_held : (a : Identifier) → (n : ℕ) × IsHeld identifier_order new a (named_in es a + n)
   still_held a =

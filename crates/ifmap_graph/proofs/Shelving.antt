@@ -29,11 +29,13 @@ no_slots = tt
 pub nothing_placed : (look : ℕ → Option Shelf) → IsPlaced look []
 nothing_placed look = record { rising = nothing_rises ℕ; canon = tt; live = tt; apart = no_slots }
 
-pub slots_first : (e : Item × ℕ) (es : Entries) → IsDistinct nat_eq (slots_of (e ∷ es)) → AllByRecursion (λ y. nat_eq e.1 y ≡ false) (slots_of es) × IsDistinct nat_eq (slots_of es)
+pub slots_first : (e : Item × ℕ) (es : Entries) → IsDistinct nat_eq (slots_of (e ∷ es)) → AllByRecursion (λ y. nat_eq e.1 y ≡ false)
+    (slots_of es) × IsDistinct nat_eq (slots_of es)
 unfolding IsDistinct
 slots_first e es d = d
 
-pub first_slot : (e : Item × ℕ) (es : Entries) → AllByRecursion (λ y. nat_eq e.1 y ≡ false) (slots_of es) → IsDistinct nat_eq (slots_of es) → IsDistinct nat_eq (slots_of (e ∷ es))
+pub first_slot : (e : Item × ℕ) (es : Entries) → AllByRecursion (λ y. nat_eq e.1 y ≡ false) (slots_of es) → IsDistinct nat_eq
+    (slots_of es) → IsDistinct nat_eq (slots_of (e ∷ es))
 unfolding IsDistinct
 first_slot e es a d = (a, d)
 
@@ -43,7 +45,8 @@ out_inserted k [] item at a n = (n, tt)
 out_inserted k (e ∷ es) item at a n = by (item_order item e.0) (out_inserted k es item at a.1 n)
   where
     by : (o : Ordering) → AllByRecursion (λ y. nat_eq k y ≡ false) (slots_of (insert_entry item_order es item at))
-        → AllByRecursion (λ y. nat_eq k y ≡ false) (slots_of (match_ordering o ((item, at) ∷ e ∷ es) ((e.0, at) ∷ es) (e ∷ insert_entry item_order es item at)))
+        → AllByRecursion (λ y. nat_eq k y ≡ false) (slots_of (match_ordering o ((item, at) ∷ e ∷ es) ((e.0, at) ∷ es)
+        (e ∷ insert_entry item_order es item at)))
     by Less rest = (n, a)
     by Equal rest = (n, a.1)
     by Greater rest = (a.0, rest)
@@ -51,7 +54,8 @@ out_inserted k (e ∷ es) item at a n = by (item_order item e.0) (out_inserted k
 turned_tests : (a b : ℕ) → nat_eq a b ≡ false → nat_eq b a ≡ false
 turned_tests a b e = grind (arith, nat_tests)
 
-slots_inserted : (es : Entries) (item : Item) (at : ℕ) → IsDistinct nat_eq (slots_of es) → AllByRecursion (λ y. nat_eq at y ≡ false) (slots_of es)
+slots_inserted : (es : Entries) (item : Item) (at : ℕ) → IsDistinct nat_eq (slots_of es) → AllByRecursion (λ y. nat_eq at y ≡ false)
+    (slots_of es)
     → IsDistinct nat_eq (slots_of (insert_entry item_order es item at))
 slots_inserted [] item at d a = first_slot (item, at) [] tt d
 slots_inserted (e ∷ es) item at d a = by (item_order item e.0) (slots_inserted es item at (slots_first e es d).1 a.1)
@@ -60,7 +64,8 @@ slots_inserted (e ∷ es) item at d a = by (item_order item e.0) (slots_inserted
         → IsDistinct nat_eq (slots_of (match_ordering o ((item, at) ∷ e ∷ es) ((e.0, at) ∷ es) (e ∷ insert_entry item_order es item at)))
     by Less rest = first_slot (item, at) (e ∷ es) a d
     by Equal rest = first_slot (e.0, at) es a.1 (slots_first e es d).1
-    by Greater rest = first_slot e (insert_entry item_order es item at) (out_inserted e.1 es item at (slots_first e es d).0 (turned_tests at e.1 a.0)) rest
+    by Greater rest = first_slot e (insert_entry item_order es item at) (out_inserted e.1 es item at (slots_first e es d).0
+        (turned_tests at e.1 a.0)) rest
 
 same_numbers : (a b : ℕ) → nat_eq a b ≡ true → a ≡ b
 same_numbers a b e = grind (arith, nat_tests)
@@ -101,21 +106,25 @@ module _ (look later : ℕ → Option Shelf) (at : ℕ) (vacant : look at ≡ No
   live_stay (e ∷ es) a = (subst (λ (o : Option Shelf). IsSome o) (sym (stays e.1 a.0)) a.0, live_stay es a.1)
 
 -- a new entry is there, and so are the old ones
-pub inserted_itself : (es : Entries) (item : Item) (at : ℕ) → lookup (is_at (item_order item)) es ≡ None → Has (insert_entry item_order es item at) (item, at)
+pub inserted_itself : (es : Entries) (item : Item) (at : ℕ) → lookup (is_at (item_order item)) es ≡ None
+    → Has (insert_entry item_order es item at) (item, at)
 inserted_itself [] item at h = inl refl
 inserted_itself (e ∷ es) item at h = by (item_order item e.0) refl (inserted_itself es item at)
   where
-    by : (o : Ordering) → item_order item e.0 ≡ o → (lookup (is_at (item_order item)) es ≡ None → Has (insert_entry item_order es item at) (item, at))
+    by : (o : Ordering) → item_order item e.0 ≡ o → (lookup (is_at (item_order item)) es ≡ None → Has (insert_entry item_order es item at)
+        (item, at))
         → Has (match_ordering o ((item, at) ∷ e ∷ es) ((e.0, at) ∷ es) (e ∷ insert_entry item_order es item at)) (item, at)
     by Less is rest = inl refl
     by Equal is rest = let t : is_at (item_order item) e.0 ≡ true = ap is_eq is in absurd (none-some _ (sym (rw t at h)))
     by Greater is rest = let t : is_at (item_order item) e.0 ≡ false = ap is_eq is in inr (rest (rw t at h))
 
-pub inserted_has : (es : Entries) (item : Item) (at : ℕ) (x : Item × ℕ) → lookup (is_at (item_order item)) es ≡ None → Has es x → Has (insert_entry item_order es item at) x
+pub inserted_has : (es : Entries) (item : Item) (at : ℕ) (x : Item × ℕ) → lookup (is_at (item_order item)) es ≡ None → Has es x
+    → Has (insert_entry item_order es item at) x
 inserted_has [] item at x h i = absurd i
 inserted_has (e ∷ es) item at x h i = by (item_order item e.0) refl (inserted_has es item at x) i
   where
-    by : (o : Ordering) → item_order item e.0 ≡ o → (lookup (is_at (item_order item)) es ≡ None → Has es x → Has (insert_entry item_order es item at) x)
+    by : (o : Ordering) → item_order item e.0 ≡ o → (lookup (is_at (item_order item)) es ≡ None → Has es x
+        → Has (insert_entry item_order es item at) x)
         → (e ≡ x) ⊎ Has es x → Has (match_ordering o ((item, at) ∷ e ∷ es) ((e.0, at) ∷ es) (e ∷ insert_entry item_order es item at)) x
     by Less is rest j = inr j
     by Equal is rest j = let t : is_at (item_order item) e.0 ≡ true = ap is_eq is in absurd (none-some _ (sym (rw t at h)))
@@ -124,7 +133,8 @@ inserted_has (e ∷ es) item at x h i = by (item_order item e.0) refl (inserted_
 
 -- an item comes to have a shelf, which is still empty
 module _ (es new : Entries) (look later : ℕ → Option Shelf) (item : Item) (at place : ℕ) (shelf : Shelf)
-    (is : IsPlaced look es) (canon : IsCanonItem item) (none : lookup (is_at (item_order item)) es ≡ None) (here : at ≡ place) (vacant : look at ≡ None)
+    (is : IsPlaced look es) (canon : IsCanonItem item) (none : lookup (is_at (item_order item)) es ≡ None) (here : at ≡ place)
+    (vacant : look at ≡ None)
     (later_at : later at ≡ Some shelf) (empty : shelf.stored ≡ record { now = []; draft = None })
     (others : (o : ℕ) → o ≢ at → later o ≡ look o) (inserts : new ≡ insert_entry item_order es item place) (rises : Rises new) where
   becomes : new ≡ insert_entry item_order es item at
@@ -133,11 +143,13 @@ module _ (es new : Entries) (look later : ℕ → Option Shelf) (item : Item) (a
   pub placed : IsPlaced later new
   placed = record {
     rising = rises;
-    canon = subst (λ l. AllByRecursion (λ e. IsCanonItem e.0) l) (sym becomes) (all_inserted (λ e. IsCanonItem e.0) es item at none is.canon canon);
+    canon = subst (λ l. AllByRecursion (λ e. IsCanonItem e.0) l) (sym becomes) (all_inserted (λ e. IsCanonItem e.0) es item at none
+        is.canon canon);
     live = subst (λ l. AllByRecursion (λ e. IsSome (later e.1)) l) (sym becomes)
         (all_inserted (λ e. IsSome (later e.1)) es item at none (live_stay look later at vacant others es is.live)
         (subst (λ (o : Option Shelf). IsSome o) (sym later_at) refl));
-    apart = subst (λ l. IsDistinct nat_eq (slots_of l)) (sym becomes) (slots_inserted es item at is.apart (vacant_out look at es vacant is.live));
+    apart = subst (λ l. IsDistinct nat_eq (slots_of l)) (sym becomes) (slots_inserted es item at is.apart
+        (vacant_out look at es vacant is.live));
   }
 
   pub same_rows : (side : Side) → side (record { now = []; draft = None }) ≡ []
@@ -150,7 +162,11 @@ module _ (es new : Entries) (look later : ℕ → Option Shelf) (item : Item) (a
   -- each shelf is an item's
   pub still_used : ((n : ℕ) → IsSome (look n) → (k : Item) × Has es (k, n)) → (n : ℕ) → IsSome (later n) → (k : Item) × Has new (k, n)
   still_used used n s = elim (cases_eq n at) [
-    | inl q ↦ (item, subst (λ l. Has l (item, n)) (sym becomes) (subst (λ m. Has (insert_entry item_order es item at) (item, m)) (sym q) (inserted_itself es item at none)))
+    | inl q ↦ (
+      item,
+      subst (λ l. Has l (item, n)) (sym becomes) (subst (λ m. Has (insert_entry item_order es item at) (item, m)) (sym q)
+          (inserted_itself es item at none)),
+    )
     | inr o ↦ let u = used n (subst (λ (x : Option Shelf). IsSome x) (others n o) s)
         in (u.0, subst (λ l. Has l (u.0, n)) (sym becomes) (inserted_has es item at (u.0, n) none u.1))
   ]

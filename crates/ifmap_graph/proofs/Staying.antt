@@ -19,7 +19,8 @@ use Rattle.ifmap_graph.proofs.Writes.{waits_had, waits_has, waits_others, writte
 abbrev pub ends_of : Option Shelf → Option Ends
 ends_of o = option_map (λ (s : Shelf). s.ends) o
 
-module _ (slots new : Slab Shelf) (es : Entries) (is : IsPlaced (get slots) es) (item : Item) (at : ℕ) (here : lookup (is_at (item_order item)) es ≡ Some at)
+module _ (slots new : Slab Shelf) (es : Entries) (is : IsPlaced (get slots) es) (item : Item) (at : ℕ)
+    (here : lookup (is_at (item_order item)) es ≡ Some at)
     (s t : Shelf) (had : get slots at ≡ Some s) (wrote : new ≡ with_value slots at t) where
   pub ends_stay : t.ends ≡ s.ends → (o : ℕ) → ends_of (get new o) ≡ ends_of (get slots o)
   ends_stay e o = elim (cases_eq o at) [
@@ -34,7 +35,8 @@ module _ (slots new : Slab Shelf) (es : Entries) (is : IsPlaced (get slots) es) 
     | inr f ↦ waits_others slots new es is item at here s t had wrote x f
   ]
 
-  bare_each : t.stored.draft ≡ s.stored.draft → (xs : Entries) → AllByRecursion (λ e. NoDraft (get slots e.1)) xs → AllByRecursion (λ e. NoDraft (get new e.1)) xs
+  bare_each : t.stored.draft ≡ s.stored.draft → (xs : Entries) → AllByRecursion (λ e. NoDraft (get slots e.1)) xs → AllByRecursion
+      (λ e. NoDraft (get new e.1)) xs
   bare_each e [] a = tt
   bare_each e (x ∷ xs) a = (
     elim (cases_eq x.1 at) [
@@ -46,5 +48,6 @@ module _ (slots new : Slab Shelf) (es : Entries) (is : IsPlaced (get slots) es) 
   )
 
   -- where no shelf has a draft, none has
-  pub bare_stays : t.stored.draft ≡ s.stored.draft → AllByRecursion (λ e. NoDraft (get slots e.1)) es → AllByRecursion (λ e. NoDraft (get new e.1)) es
+  pub bare_stays : t.stored.draft ≡ s.stored.draft → AllByRecursion (λ e. NoDraft (get slots e.1)) es → AllByRecursion
+      (λ e. NoDraft (get new e.1)) es
   bare_stays e = bare_each e es

@@ -104,7 +104,8 @@ module _ (names : Holdings Identifier) (s : Shelves) (links : List (Sides LinkSe
       in let some = some_in (list_of e.1) (λ q. filled e.0 (subst IsSome (sym place) refl) (idle e.0) (sym on ∙ q))
       in (
         row_on e.0 some.0,
-        has_joined (λ x. map (row_on x.0) (list_of x.1)) s.places.entries e (row_on e.0 some.0) h (has_map (row_on e.0) (list_of e.1) some.0 some.1),
+        has_joined (λ x. map (row_on x.0) (list_of x.1)) s.places.entries e (row_on e.0 some.0) h
+            (has_map (row_on e.0) (list_of e.1) some.0 some.1),
         named,
       )
 

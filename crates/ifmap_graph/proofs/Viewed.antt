@@ -83,8 +83,10 @@ distinct_by (l ∷ ls) d f =
     in distinct_whole l.other (others ls) (others_differ l ls p.0 (λ m h. f l m (inl refl) (inr h)))
     (distinct_by ls p.1 (λ x y h k. f x y (inr h) (inr k)))
 
-module _ (list_of : ℕ → List Stored) (entries : List (Item × ℕ)) (id_at : ℕ → Option Identifier) (joins : ℕ → Option (ℕ × ℕ)) (links : ℕ → List LinkSeen)
-    (rising : Rises entries) (canon : AllByRecursion (λ e. IsCanonItem e.0) entries) (single : AreSingle id_at) (joined : AreJoined entries id_at joins)
+module _ (list_of : ℕ → List Stored) (entries : List (Item × ℕ)) (id_at : ℕ → Option Identifier) (joins : ℕ → Option (ℕ × ℕ))
+    (links : ℕ → List LinkSeen)
+    (rising : Rises entries) (canon : AllByRecursion (λ e. IsCanonItem e.0) entries) (single : AreSingle id_at)
+    (joined : AreJoined entries id_at joins)
     (listed : AreListed joins (λ at. is_full (list_of at)) links) where
   abbrev rows : List Attachment
   rows = rows_by list_of entries
@@ -94,7 +96,8 @@ module _ (list_of : ℕ → List Stored) (entries : List (Item × ℕ)) (id_at :
 
   -- what stands on the pair of two that are alike
   on_pair : (a b k m : Identifier) (at : ℕ) → Has entries (Pair a b, at) → Alike k a → Alike m b → list_of at ≡ stored_on (Pair k m) rows
-  on_pair a b k m at h p q = stands list_of entries rising None (Pair a b) at h ∙ sym (stored_alike (Pair k m) (Pair a b) (same_pair a b k m p q) rows)
+  on_pair a b k m at h p q = stands list_of entries rising None (Pair a b) at h
+      ∙ sym (stored_alike (Pair k m) (Pair a b) (same_pair a b k m p q) rows)
 
   on_ends : (at v w : ℕ) → joins at ≡ Some (v, w) → list_of at ≡ stored_linked (id_at v) (id_at w) rows
   on_ends at v w j =
@@ -123,10 +126,12 @@ module _ (list_of : ℕ → List Stored) (entries : List (Item × ℕ)) (id_at :
   only v w c =
       let s = map_has (λ (l : LinkSeen). l.other) (links v) w (has_from _ _ c)
       in let l = listed.only v s.0 (from_has _ _ s.1)
-      in subst (λ x. stored_linked (id_at v) (id_at x) rows ≢ []) s.2 (λ n. is_there (list_of s.0.at) l.1 (on_place s.0.at v s.0.other l.0 ∙ n))
+      in subst (λ x. stored_linked (id_at v) (id_at x) rows ≢ []) s.2 (λ n. is_there (list_of s.0.at) l.1 (on_place s.0.at v s.0.other l.0
+      ∙ n))
 
   named : (v w at : ℕ) → Ends joins at v w → is_full (list_of at) ≡ true → Contains (others (links v)) w
-  named v w at j f = from_has _ _ (has_map (λ (l : LinkSeen). l.other) (links v) (record { other = w; at = at }) (has_from _ _ (listed.each v w at j f)))
+  named v w at j f = from_has _ _ (has_map (λ (l : LinkSeen). l.other) (links v) (record { other = w; at = at })
+      (has_from _ _ (listed.each v w at j f)))
 
   -- what is stored on a pair stands at a slot that joins its numbers
   placed : (k m : Identifier) → stored_on (Pair k m) rows ≢ [] → (o : Option ℕ) → lookup (is_at (item_order (Pair k m))) entries ≡ o
@@ -149,17 +154,20 @@ module _ (list_of : ℕ → List Stored) (entries : List (Item × ℕ)) (id_at :
   same_number : (v w : ℕ) (a : Identifier) → IsNumber id_at v a → id_at w ≡ Some a → v ≡ w
   same_number v w a n e = single v w n.0 a n.1 e n.2
 
-  between : (v w : ℕ) (a b : Identifier) → id_at v ≡ Some a → id_at w ≡ Some b → stored_between a b rows ≢ [] → Contains (others (links v)) w
+  between : (v w : ℕ) (a b : Identifier) → id_at v ≡ Some a → id_at w ≡ Some b → stored_between a b rows ≢ []
+      → Contains (others (links v)) w
   between v w a b p q n = by (identifier_order a b) refl
     where
       by : (o : Ordering) → identifier_order a b ≡ o → Contains (others (links v)) w
       by Less is =
           let x = placed a b (λ m. n (ap (λ o. stored_where (ordered_pair o a b) rows) is ∙ m)) _ refl
-          in named v w x.0 (inl (x.3 ∙ ap Some (ap (λ k. (k, x.2)) (same_number x.1 v a x.4 p) ∙ ap (λ k. (v, k)) (same_number x.2 w b x.5 q)))) x.6
+          in named v w x.0 (inl (x.3 ∙ ap Some (ap (λ k. (k, x.2)) (same_number x.1 v a x.4 p) ∙ ap (λ k. (v, k))
+          (same_number x.2 w b x.5 q)))) x.6
       by Equal is = absurd (n (ap (λ o. stored_where (ordered_pair o a b) rows) is))
       by Greater is =
           let x = placed b a (λ m. n (ap (λ o. stored_where (ordered_pair o a b) rows) is ∙ m)) _ refl
-          in named v w x.0 (inr (x.3 ∙ ap Some (ap (λ k. (k, x.2)) (same_number x.1 w b x.4 q) ∙ ap (λ k. (w, k)) (same_number x.2 v a x.5 p)))) x.6
+          in named v w x.0 (inr (x.3 ∙ ap Some (ap (λ k. (k, x.2)) (same_number x.1 w b x.4 q) ∙ ap (λ k. (w, k))
+          (same_number x.2 v a x.5 p)))) x.6
 
   pub each : (v w : ℕ) → IsLink rows id_at v w → Contains (others (links v)) w
   each v w l = by (id_at v) (id_at w) refl refl l
@@ -174,7 +182,8 @@ module _ (list_of : ℕ → List Stored) (entries : List (Item × ℕ)) (id_at :
     exact : (v : ℕ) (a : Identifier) → IsIdentifier a → IsNumber id_at v a → id_at v ≡ Some a
     exact v a i n = n.1 ∙ ap Some (tells n.0 a (keys v n.0 n.1) i n.2)
 
-    numbered : (a : Identifier) → stored_on (One a) rows ≢ [] → (o : Option ℕ) → lookup (is_at (item_order (One a))) entries ≡ o → (v : ℕ) × IsNumber id_at v a
+    numbered : (a : Identifier) → stored_on (One a) rows ≢ [] → (o : Option ℕ) → lookup (is_at (item_order (One a))) entries ≡ o → (v : ℕ)
+        × IsNumber id_at v a
     numbered a n None e = absurd (n (sym (absent list_of (One a) entries e)))
     numbered a n (Some at) e =
         let h = looked_up entries (One a) at e
@@ -189,9 +198,11 @@ module _ (list_of : ℕ → List Stored) (entries : List (Item × ℕ)) (id_at :
     linked a b i n = by (identifier_order a b) refl
       where
         by : (o : Ordering) → identifier_order a b ≡ o → (w : ℕ) × (id_at w ≡ Some b)
-        by Less is = let x = placed a b (λ m. n (ap (λ o. stored_where (ordered_pair o a b) rows) is ∙ m)) _ refl in (x.2, exact x.2 b i x.5)
+        by Less is = let x = placed a b (λ m. n (ap (λ o. stored_where (ordered_pair o a b) rows) is ∙ m)) _ refl in
+            (x.2, exact x.2 b i x.5)
         by Equal is = absurd (n (ap (λ o. stored_where (ordered_pair o a b) rows) is))
-        by Greater is = let x = placed b a (λ m. n (ap (λ o. stored_where (ordered_pair o a b) rows) is ∙ m)) _ refl in (x.1, exact x.1 b i x.4)
+        by Greater is = let x = placed b a (λ m. n (ap (λ o. stored_where (ordered_pair o a b) rows) is ∙ m)) _ refl in
+            (x.1, exact x.1 b i x.4)
 
   -- one slot joins two numbers
   alike_of : (v : ℕ) (a b : Identifier) → IsNumber id_at v a → IsNumber id_at v b → Alike a b
@@ -201,7 +212,8 @@ module _ (list_of : ℕ → List Stored) (entries : List (Item × ℕ)) (id_at :
   straight at bt v w j k =
       let e = joined.only at v w j
       in let f = joined.only bt v w k
-      in let t : item_order (Pair e.0 e.1) (Pair f.0 f.1) ≡ Equal = pairs_tie e.0 e.1 f.0 f.1 (alike_of v e.0 f.0 e.3 f.3) (alike_of w e.1 f.1 e.4 f.4)
+      in let t : item_order (Pair e.0 e.1) (Pair f.0 f.1) ≡ Equal = pairs_tie e.0 e.1 f.0 f.1 (alike_of v e.0 f.0 e.3 f.3)
+      (alike_of w e.1 f.1 e.4 f.4)
       in same_Some at bt (sym (entry_hits entries (Pair e.0 e.1) at rising e.2) ∙ lookup_tied (Pair e.0 e.1) (Pair f.0 f.1) entries t
       ∙ entry_hits entries (Pair f.0 f.1) bt rising f.2)
 

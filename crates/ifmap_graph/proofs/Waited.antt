@@ -10,7 +10,8 @@ use Rattle.ifmap_graph.specs.Waits.{times_in}
 use Rattle.ifmap_graph.proofs.Ordered.{items_total}
 
 module _ (old new : Item → ℕ) (item : Item) (before after : ℕ)
-    (had : (x : Item) → is_at (item_order item) x ≡ true → old x ≡ before) (has : (x : Item) → is_at (item_order item) x ≡ true → new x ≡ after)
+    (had : (x : Item) → is_at (item_order item) x ≡ true → old x ≡ before) (has : (x : Item) → is_at (item_order item) x ≡ true
+    → new x ≡ after)
     (others : (x : Item) → is_at (item_order item) x ≡ false → new x ≡ old x) where
   pub raised : after ≡ before + 1 → (x : Item) → new x ≡ times_in (item ∷ []) x + old x
   raised more x = elim (cases_Bool (is_at (item_order item) x)) [

@@ -46,7 +46,8 @@ rows_alike one other f [] = refl
 rows_alike one other f (e ∷ es) =
     ap (λ l. map (row_on e.0) l ++ rows_by one es) (f e.1) ∙ ap (λ l. map (row_on e.0) (other e.1) ++ l) (rows_alike one other f es)
 
-module _ (look later : ℕ → Option Shelf) (es : Entries) (is : IsPlaced look es) (item : Item) (at : ℕ) (here : lookup (is_at (item_order item)) es ≡ Some at)
+module _ (look later : ℕ → Option Shelf) (es : Entries) (is : IsPlaced look es) (item : Item) (at : ℕ)
+    (here : lookup (is_at (item_order item)) es ≡ Some at)
     (others : (o : ℕ) → o ≢ at → later o ≡ look o) where
   -- what ties with the item is looked up at its slot, and nothing else is
   pub tied_there : (x : Item) → is_at (item_order item) x ≡ true → lookup (is_at (item_order x)) es ≡ Some at
@@ -98,7 +99,8 @@ module _ (look later : ℕ → Option Shelf) (es : Entries) (is : IsPlaced look 
   ]) es
 
 -- the slot of an item that has a shelf is live
-pub slot_live : (look : ℕ → Option Shelf) (es : Entries) (item : Item) (at : ℕ) → IsPlaced look es → lookup (is_at (item_order item)) es ≡ Some at → IsSome (look at)
+pub slot_live : (look : ℕ → Option Shelf) (es : Entries) (item : Item) (at : ℕ) → IsPlaced look es → lookup (is_at (item_order item)) es ≡
+    Some at → IsSome (look at)
 slot_live look es item at is h = live_at (λ n. IsSome (look n)) (is_at (item_order item)) es at is.live h
 
 -- the slab after a write has the new shelf there, and the old ones elsewhere
@@ -107,10 +109,12 @@ inside [] at s e = absurd (none-some _ e)
 inside (x ∷ xs) zero s e = omega arith
 inside (x ∷ xs) (suc n) s e = omega (arith, inside xs n s e)
 
-pub written_there : (slots new : Slab Shelf) (at : ℕ) (s t : Shelf) → get slots at ≡ Some s → new ≡ with_value slots at t → get new at ≡ Some t
+pub written_there : (slots new : Slab Shelf) (at : ℕ) (s t : Shelf) → get slots at ≡ Some s → new ≡ with_value slots at t
+    → get new at ≡ Some t
 written_there slots new at s t had e = ap (λ x. get x at) e ∙ get_or-set_same slots.slots at (Some t) None (inside slots.slots at s had)
 
-pub written_elsewhere : (slots new : Slab Shelf) (at : ℕ) (t : Shelf) → new ≡ with_value slots at t → (o : ℕ) → o ≢ at → get new o ≡ get slots o
+pub written_elsewhere : (slots new : Slab Shelf) (at : ℕ) (t : Shelf) → new ≡ with_value slots at t → (o : ℕ) → o ≢ at
+    → get new o ≡ get slots o
 written_elsewhere slots new at t e o n = ap (λ x. get x o) e ∙ get_or-set_other slots.slots at o (Some t) None n
 
 pub some_of : {X : Type 0} (o : Option X) → IsSome o → (x : X) × (o ≡ Some x)
@@ -118,51 +122,61 @@ some_of {X} None s = let q : IsSome {T = X} None = s in cc
 some_of (Some x) s = (x, refl)
 
 -- a write to the shelf of an item
-module _ (slots new : Slab Shelf) (es : Entries) (is : IsPlaced (get slots) es) (item : Item) (at : ℕ) (here : lookup (is_at (item_order item)) es ≡ Some at)
+module _ (slots new : Slab Shelf) (es : Entries) (is : IsPlaced (get slots) es) (item : Item) (at : ℕ)
+    (here : lookup (is_at (item_order item)) es ≡ Some at)
     (s t : Shelf) (had : get slots at ≡ Some s) (wrote : new ≡ with_value slots at t) where
   has : get new at ≡ Some t
   has = written_there slots new at s t had wrote
 
   pub shelved : IsPlaced (get new) es
-  shelved = stays_placed (get slots) (get new) es is item at here (written_elsewhere slots new at t wrote) (subst (λ (o : Option Shelf). IsSome o) (sym has) refl)
+  shelved = stays_placed (get slots) (get new) es is item at here (written_elsewhere slots new at t wrote)
+      (subst (λ (o : Option Shelf). IsSome o) (sym has) refl)
 
   pub side_stays : (side : Side) → side t.stored ≡ side s.stored
       → rows_by (λ n. list_at side (get new n)) es ≡ rows_by (λ n. list_at side (get slots n)) es
   side_stays side e =
-      same_side (get slots) (get new) es is item at here (written_elsewhere slots new at t wrote) side (ap (list_at side) has ∙ e ∙ sym (ap (list_at side) had))
+      same_side (get slots) (get new) es is item at here (written_elsewhere slots new at t wrote) side (ap (list_at side) has ∙ e
+      ∙ sym (ap (list_at side) had))
 
   -- what was stored on what ties with the item
-  pub was : (side : Side) (x : Item) → is_at (item_order item) x ≡ true → side s.stored ≡ stored_on x (rows_by (λ n. list_at side (get slots n)) es)
+  pub was : (side : Side) (x : Item) → is_at (item_order item) x ≡ true → side s.stored ≡ stored_on x
+      (rows_by (λ n. list_at side (get slots n)) es)
   was side x e =
       sym (ap (list_at side) had)
-      ∙ found (λ n. list_at side (get slots n)) x es at is.rising (tied_there (get slots) (get new) es is item at here (written_elsewhere slots new at t wrote) x e)
+      ∙ found (λ n. list_at side (get slots n)) x es at is.rising (tied_there (get slots) (get new) es is item at here
+      (written_elsewhere slots new at t wrote) x e)
 
   -- what is stored on each item now
   pub shows : (side : Side) (list : List Stored) → side t.stored ≡ list → (x : Item)
       → stored_on x (rows_by (λ n. list_at side (get new n)) es)
       ≡ cond (is_at (item_order item) x) list (stored_on x (rows_by (λ n. list_at side (get slots n)) es))
   shows side list e x = elim (cases_Bool (is_at (item_order item) x)) [
-    | inl y ↦ rw y (on_item (get slots) (get new) es is item at here (written_elsewhere slots new at t wrote) side x y ∙ ap (list_at side) has ∙ e)
+    | inl y ↦ rw y (on_item (get slots) (get new) es is item at here (written_elsewhere slots new at t wrote) side x y
+        ∙ ap (list_at side) has ∙ e)
     | inr f ↦ rw f (on_others (get slots) (get new) es is item at here (written_elsewhere slots new at t wrote) side x f)
   ]
 
   -- the same, where the new list is that of a side before
   pub comes : (side other : Side) → side t.stored ≡ other s.stored → (x : Item)
       → stored_on x (rows_by (λ n. list_at side (get new n)) es)
-      ≡ stored_on x (cond (is_at (item_order item) x) (rows_by (λ n. list_at other (get slots n)) es) (rows_by (λ n. list_at side (get slots n)) es))
+      ≡ stored_on x (cond (is_at (item_order item) x) (rows_by (λ n. list_at other (get slots n)) es)
+      (rows_by (λ n. list_at side (get slots n)) es))
   comes side other e x = elim (cases_Bool (is_at (item_order item) x)) [
-    | inl y ↦ rw y (on_item (get slots) (get new) es is item at here (written_elsewhere slots new at t wrote) side x y ∙ ap (list_at side) has ∙ e ∙ was other x y)
+    | inl y ↦ rw y (on_item (get slots) (get new) es is item at here (written_elsewhere slots new at t wrote) side x y
+        ∙ ap (list_at side) has ∙ e ∙ was other x y)
     | inr f ↦ rw f (on_others (get slots) (get new) es is item at here (written_elsewhere slots new at t wrote) side x f)
   ]
 
   -- how often what ties with the item was waited for, and is now; and nothing else is otherwise
   pub waits_had : (x : Item) → is_at (item_order item) x ≡ true → waits_at (get slots) es x ≡ s.waits
   waits_had x e =
-      ap (waits_there (get slots)) (tied_there (get slots) (get new) es is item at here (written_elsewhere slots new at t wrote) x e) ∙ ap waits_of had
+      ap (waits_there (get slots)) (tied_there (get slots) (get new) es is item at here (written_elsewhere slots new at t wrote) x e)
+      ∙ ap waits_of had
 
   pub waits_has : (x : Item) → is_at (item_order item) x ≡ true → waits_at (get new) es x ≡ t.waits
   waits_has x e =
-      ap (waits_there (get new)) (tied_there (get slots) (get new) es is item at here (written_elsewhere slots new at t wrote) x e) ∙ ap waits_of has
+      ap (waits_there (get new)) (tied_there (get slots) (get new) es is item at here (written_elsewhere slots new at t wrote) x e)
+      ∙ ap waits_of has
 
   pub waits_others : (x : Item) → is_at (item_order item) x ≡ false → waits_at (get new) es x ≡ waits_at (get slots) es x
   waits_others x f = by (lookup (is_at (item_order x)) es) refl
@@ -171,25 +185,30 @@ module _ (slots new : Slab Shelf) (es : Entries) (is : IsPlaced (get slots) es) 
       by None e = ap (waits_there (get new)) e ∙ sym (ap (waits_there (get slots)) e)
       by (Some bt) e =
           ap (waits_there (get new)) e
-          ∙ ap waits_of (written_elsewhere slots new at t wrote bt (other_slot (get slots) (get new) es is item at here (written_elsewhere slots new at t wrote) x bt f e))
+          ∙ ap waits_of (written_elsewhere slots new at t wrote bt (other_slot (get slots) (get new) es is item at here
+          (written_elsewhere slots new at t wrote) x bt f e))
           ∙ sym (ap (waits_there (get slots)) e)
 
   -- a write that leaves no draft: those that are left are of other items, and were there
-  pub drafts_left : t.stored.draft ≡ None → (x : Item) → ((bt : ℕ) × (shelf : Shelf) × (lookup (is_at (item_order x)) es ≡ Some bt) × (get new bt ≡ Some shelf)
+  pub drafts_left : t.stored.draft ≡ None → (x : Item) → ((bt : ℕ) × (shelf : Shelf) × (lookup (is_at (item_order x)) es ≡ Some bt)
+      × (get new bt ≡ Some shelf)
       × IsSome shelf.stored.draft)
-      → ((bt : ℕ) × (shelf : Shelf) × (lookup (is_at (item_order x)) es ≡ Some bt) × (get slots bt ≡ Some shelf) × IsSome shelf.stored.draft)
+      → ((bt : ℕ) × (shelf : Shelf) × (lookup (is_at (item_order x)) es ≡ Some bt) × (get slots bt ≡ Some shelf)
+      × IsSome shelf.stored.draft)
       × (is_at (item_order item) x ≡ false)
   drafts_left none x d = elim (cases_Bool (is_at (item_order item) x)) [
     | inl y ↦ let same : d.0 ≡ at
         = same_Some _ _ (sym d.2 ∙ tied_there (get slots) (get new) es is item at here (written_elsewhere slots new at t wrote) x y)
         in let shelf : d.1 ≡ t = same_Some _ _ (sym d.3 ∙ ap (get new) same ∙ has)
-        in let q : IsSome {T = List Stored} None = subst (λ (o : Option (List Stored)). IsSome o) (ap (λ s. s.stored.draft) shelf ∙ none) d.4 in cc
+        in let q : IsSome {T = List Stored} None = subst (λ (o : Option (List Stored)). IsSome o) (ap (λ s. s.stored.draft) shelf ∙ none)
+        d.4 in cc
     | inr f ↦ (
       (
         d.0,
         d.1,
         d.2,
-        sym (written_elsewhere slots new at t wrote d.0 (other_slot (get slots) (get new) es is item at here (written_elsewhere slots new at t wrote) x d.0 f d.2)) ∙ d.3,
+        sym (written_elsewhere slots new at t wrote d.0 (other_slot (get slots) (get new) es is item at here
+            (written_elsewhere slots new at t wrote) x d.0 f d.2)) ∙ d.3,
         d.4,
       ),
       f,
@@ -198,12 +217,14 @@ module _ (slots new : Slab Shelf) (es : Entries) (is : IsPlaced (get slots) es) 
 
   -- the drafts of other items stay
   pub drafts_kept : (x : Item) → is_at (item_order item) x ≡ false
-      → ((bt : ℕ) × (shelf : Shelf) × (lookup (is_at (item_order x)) es ≡ Some bt) × (get slots bt ≡ Some shelf) × IsSome shelf.stored.draft)
+      → ((bt : ℕ) × (shelf : Shelf) × (lookup (is_at (item_order x)) es ≡ Some bt) × (get slots bt ≡ Some shelf)
+      × IsSome shelf.stored.draft)
       → ((bt : ℕ) × (shelf : Shelf) × (lookup (is_at (item_order x)) es ≡ Some bt) × (get new bt ≡ Some shelf) × IsSome shelf.stored.draft)
   drafts_kept x f d = (
     d.0,
     d.1,
     d.2,
-    written_elsewhere slots new at t wrote d.0 (other_slot (get slots) (get new) es is item at here (written_elsewhere slots new at t wrote) x d.0 f d.2) ∙ d.3,
+    written_elsewhere slots new at t wrote d.0 (other_slot (get slots) (get new) es is item at here
+        (written_elsewhere slots new at t wrote) x d.0 f d.2) ∙ d.3,
     d.4,
   )

@@ -28,7 +28,8 @@ abbrev pub held_code : Coded Item → Coded Shelf → Coded Identifier → Coded
 held_code item shelf identifier link =
     code_by
     (List (Item × Option Shelf) × (Holdings Identifier × (List (Sides LinkSeen) × List (Item × ℕ))))
-    (coded× (coded_list (coded× item (coded_option shelf))) (coded× (holdings_code identifier) (coded× (coded_list (sides_code link)) (coded_list (coded× item coded_ℕ)))))
+    (coded× (coded_list (coded× item (coded_option shelf))) (coded× (holdings_code identifier) (coded× (coded_list (sides_code link))
+    (coded_list (coded× item coded_ℕ)))))
     (λ h. (h.shelves, (h.names, (h.links, h.places))))
     (λ p. record { shelves = p.0; names = p.1.0; links = p.1.1.0; places = p.1.1.1 })
     (λ _. refl)
@@ -50,7 +51,8 @@ pub record IsSide (side : Side) (look : ℕ → Option Shelf) (entries : List (I
 -- what holds of a graph's parts: each item has a shelf of its own with the numbers of its identifiers, and each shelf is an item's; the
 -- numbers are a pool's, of identifiers that elements are, each held as often as entries name it, and as somebody holds it beside that; each
 -- number has a list of links; and both sides are in order
-pub record IsInside (names : Holdings Identifier) (look : ℕ → Option Shelf) (entries : List (Item × ℕ)) (links : List (Sides LinkSeen)) : Type 0 where
+pub record IsInside (names : Holdings Identifier) (look : ℕ → Option Shelf) (entries : List (Item × ℕ)) (links : List (Sides LinkSeen)) :
+    Type 0 where
   pub placed : IsPlaced look entries
   pub used : (at : ℕ) → IsSome (look at) → (item : Item) × Has entries (item, at)
   pub numbered : AreNumbered names look entries

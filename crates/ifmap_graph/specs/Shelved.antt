@@ -53,7 +53,8 @@ HasNoDraft s item = (at : ℕ) × (shelf : Shelf) × (place_of s item ≡ Some a
 -- the shelf of an item is empty, with no draft
 abbrev pub IsBare : Shelves → Item → Type 0
 IsBare s item =
-    (at : ℕ) × (shelf : Shelf) × (place_of s item ≡ Some at) × (get s.slots at ≡ Some shelf) × (shelf.stored ≡ record { now = []; draft = None })
+    (at : ℕ) × (shelf : Shelf) × (place_of s item ≡ Some at) × (get s.slots at ≡ Some shelf)
+    × (shelf.stored ≡ record { now = []; draft = None })
 
 -- each item has a shelf, no two have one, and items are such as elements mean
 pub record IsPlaced (look : ℕ → Option Shelf) (entries : List (Item × ℕ)) : Type 0 where

@@ -36,7 +36,8 @@ module _ {T : Type 0} where
   -- drafts stand at these places, each of which is named once
   abbrev pub AreDrafted : List (ℕ × List T) → List (Sides T) → Type 0
   AreDrafted [] lists = Unit {0}
-  AreDrafted (w ∷ ws) lists = (w.0 < length lists) × IsSome (sides_at lists w.0).draft × AreDrafted ws (set lists w.0 (accepted (sides_at lists w.0)))
+  AreDrafted (w ∷ ws) lists = (w.0 < length lists) × IsSome (sides_at lists w.0).draft × AreDrafted ws
+      (set lists w.0 (accepted (sides_at lists w.0)))
 
   abbrev pub AreWithin : List (ℕ × List T) → ℕ → Type 0
   AreWithin [] n = Unit {0}

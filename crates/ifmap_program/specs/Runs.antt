@@ -13,7 +13,8 @@ use Rattle.ifmap_serving.specs.Stands.{AreServed, AreUnserved, status_of}
 use Rattle.ifmap_serving.specs.Works.{DoorSeen}
 
 -- stands were served over one hall, and the status tells how that went; or there was no memory to begin with, and no door was touched
-pub record ServesStands {D G : Type 0} (gives : ℕ → Type 0) (see : D → DoorSeen) (key : List ℕ) (before after : List (Stand D G)) (status : ℕ)
+pub record ServesStands {D G : Type 0} (gives : ℕ → Type 0) (see : D → DoorSeen) (key : List ℕ) (before after : List (Stand D G))
+    (status : ℕ)
     : Type 0 where
   pub unserved : status ≡ 6 → AreUnserved before after
   pub served : status ≢ 6 → AreServed gives see key before after

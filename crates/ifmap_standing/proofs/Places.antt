@@ -155,7 +155,8 @@ module _ (R : Option (Option Way) → Subscription → Subscription → Type 0) 
               ∙ ap (slice_get after) e ∙ q)
               in let by : slice_get ways i ≡ Some way = ap (slice_get ways) (sym e) ∙ sym (d.these n (omega (arith, size)))
               ∙ ap (λ l. slice_get l n) cut ∙ last_there less way
-              in subst (λ o. Stands (R o) a b) (sym by) (subst (λ z. Stands (R (Some way)) z b) one (subst (λ z. Stands (R (Some way)) x z) two is))
+              in subst (λ o. Stands (R o) a b) (sym by) (subst (λ z. Stands (R (Some way)) z b) one
+              (subst (λ z. Stands (R (Some way)) x z) two is))
           | inr o ↦ elim o [
             | inl low ↦ d.done i a b (omega (arith, low, size)) p
                 (sym (written_elsewhere now n i y (omega (arith, low))) ∙ ap (λ l. slice_get l i) (sym so) ∙ q)

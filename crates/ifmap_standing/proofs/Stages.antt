@@ -188,7 +188,8 @@ module _ (old new : Sight) (notes : List Note) (skipped : List Bool) (xs : List 
             | inl e ↦ absurd (apart e)
             | inr o ↦ elim o [
               | inl l ↦ before_last ways way i (omega (arith, l, s.count))
-              | inr l ↦ slice_get_past (ways ++ way ∷ []) i (omega (arith, l, longer)) ∙ sym (slice_get_past ways i (omega (arith, l, s.count)))
+              | inr l ↦ slice_get_past (ways ++ way ∷ []) i (omega (arith, l, longer))
+                  ∙ sym (slice_get_past ways i (omega (arith, l, s.count)))
             ]
           ]
           in record {
@@ -203,7 +204,8 @@ module _ (old new : Sight) (notes : List Note) (skipped : List Bool) (xs : List 
           → IsKept new z.subscription
       kept_next i z less p f = elim (cases_order i n) [
         | inl e ↦
-            let at : y ≡ z = same_Some y z (sym (written_there now n y low) ∙ ap (λ l. slice_get l n) (sym so) ∙ ap (slice_get after) (sym e) ∙ p)
+            let at : y ≡ z = same_Some y z (sym (written_there now n y low) ∙ ap (λ l. slice_get l n) (sym so) ∙ ap (slice_get after)
+            (sym e) ∙ p)
             in let no : skip ≡ false = same_Some skip false (sym flag ∙ ap (slice_get skipped) (sym e) ∙ f)
             in subst (λ u. IsKept new u.subscription) at (keeps no)
         | inr o ↦ elim o [
@@ -248,7 +250,12 @@ pub lead_searches : (xs : List Standing) (ways : List (Option Way)) (now : List 
     → AtEach (λ _. Stands HasSameSearch) xs now
 lead_searches xs ways now l =
     weaker (λ i. Stands (LeadsBackWhere (slice_get ways i))) (λ _. Stands HasSameSearch)
-    (λ i x y s. record { serial = s.serial; name = s.name; subscription = searches (slice_get ways i) x.subscription y.subscription s.subscription })
+    (λ i x y s. record {
+      serial = s.serial;
+      name = s.name;
+      subscription = searches (slice_get ways i) x.subscription y.subscription
+          s.subscription;
+    })
     xs now l.each
 
 pub keep_searches : (xs now : List Standing) → AtEach (λ _. Stands KeepsSame) xs now → AtEach (λ _. Stands HasSameSearch) xs now

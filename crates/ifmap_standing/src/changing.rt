@@ -153,8 +153,8 @@ fn tell_all<G: View, D: View, L: Ledger>(
     requires news_room { length skipped.now ≤ vec_capacity records.old.news }
     requires ways_room { length skipped.now ≤ vec_capacity records.old.ways }
     ensures news { OnOk result (records.new.news.items ≡ news_of_each
-        (G.rows change.now.graph.now) (D.rows change.now.draft.now) change.now.located.plan.now.notes
-        skipped.now (map shown standing.old)) }
+        (G.rows change.now.graph.now) (D.rows change.now.draft.now)
+        change.now.located.plan.now.notes skipped.now (map shown standing.old)) }
     ensures kept { let draft = change.now.draft.now in OnOk result ((i : ℕ) (x : Standing)
         → slice_get standing.new i ≡ Some x → slice_get skipped.now i ≡ Some false
         → IsKept (sight_of D.rows D.id_at D.links draft) x.subscription) }

@@ -9,8 +9,10 @@ pub loop-item-preserved : goal.loop-item-preserved
 loop-item-preserved c = (
   tt,
   tt,
-  rest_has (λ (at : ℕ). list_at now (get c.args.slots.now at)) c.args.entries c.loop-item.item-iterator c.next.new.self _ c.in-Some.ensures.steps
+  rest_has (λ (at : ℕ). list_at now (get c.args.slots.now at)) c.args.entries c.loop-item.item-iterator c.next.new.self _
+      c.in-Some.ensures.steps
       (λ e. IsSome (get c.args.slots.now e.1)) c.loop-item.invariant.2,
-  passing (λ (at : ℕ). list_at now (get c.args.slots.now at)) _ c.loop-item.item-iterator c.next.new.self _ c.in-Some.ensures.steps c.loop-item.invariant.3
+  passing (λ (at : ℕ). list_at now (get c.args.slots.now at)) _ c.loop-item.item-iterator c.next.new.self _ c.in-Some.ensures.steps
+      c.loop-item.invariant.3
       (ap (list_at now) c.index.ensures ∙ sym c.now.ensures ∙ nothing_in _ (sym c.is_empty.ensures ∙ c.if-not-is_empty.false)),
 )

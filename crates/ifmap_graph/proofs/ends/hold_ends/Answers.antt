@@ -17,7 +17,8 @@ returns-in-One-clause-held c = rw c.in-One.is c.hold.ensures.held
 pub returns-in-One-clause-keys : goal.returns-in-One-clause-keys
 returns-in-One-clause-keys c =
     rw c.in-One.is
-    (λ i all. still_identifiers c.args.names.now c.hold.new.self c.hold.result c.in-One.a c.hold.ensures.present c.hold.ensures.absent c.hold.ensures.others i.0 all)
+    (λ i all. still_identifiers c.args.names.now c.hold.new.self c.hold.result c.in-One.a c.hold.ensures.present c.hold.ensures.absent
+    c.hold.ensures.others i.0 all)
 
 pub returns-in-Pair-clause-ends : goal.returns-in-Pair-clause-ends
 returns-in-Pair-clause-ends c = rw c.in-Pair.is c.hold_pair.ensures.ends

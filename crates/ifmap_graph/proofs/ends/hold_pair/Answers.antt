@@ -30,7 +30,8 @@ returns-clause-kept c = λ number other n. c.hold-two.ensures.kept number other 
 
 pub returns-clause-keys : goal.returns-clause-keys
 returns-clause-keys c = λ i j all.
-    still_identifiers c.hold-one.new.self c.hold-two.new.self c.hold-two.result c.args.b c.hold-two.ensures.present c.hold-two.ensures.absent
+    still_identifiers c.hold-one.new.self c.hold-two.new.self c.hold-two.result c.args.b c.hold-two.ensures.present
+    c.hold-two.ensures.absent
     c.hold-two.ensures.others j
     (still_identifiers c.args.names.now c.hold-one.new.self c.hold-one.result c.args.a c.hold-one.ensures.present c.hold-one.ensures.absent
     c.hold-one.ensures.others i all)

@@ -4,7 +4,8 @@ use Rattle.ifmap_graph.proofs.Holds.{identifiers_stay, named_before, one_live, o
 use Rattle.ifmap_graph.proofs.ends.release_ends.Goals as goal
 
 pub release-requires : goal.release-requires
-release-requires c = one_live c.args.names.now c.args.names.now c.in-One.number c.requires.0 (subst (AreEnds c.args.names.now c.requires.0) c.in-One.is c.requires.2)
+release-requires c = one_live c.args.names.now c.args.names.now c.in-One.number c.requires.0
+    (subst (AreEnds c.args.names.now c.requires.0) c.in-One.is c.requires.2)
 
 pub release_pair-requires : goal.release_pair-requires
 release_pair-requires c =
@@ -17,13 +18,15 @@ returns-in-One-clause-held c = rw c.in-One.is (one_released c.args.names.now c.r
 pub returns-in-One-clause-before : goal.returns-in-One-clause-before
 returns-in-One-clause-before c =
     named_before c.args.names.now c.release.new.self c.in-One.number
-    (one_live c.args.names.now c.args.names.now c.in-One.number c.requires.0 (subst (AreEnds c.args.names.now c.requires.0) c.in-One.is c.requires.2))
+    (one_live c.args.names.now c.args.names.now c.in-One.number c.requires.0 (subst (AreEnds c.args.names.now c.requires.0) c.in-One.is
+    c.requires.2))
     c.release.ensures.kept c.release.ensures.last c.release.ensures.counted c.release.ensures.others
 
 pub returns-in-One-clause-keys : goal.returns-in-One-clause-keys
 returns-in-One-clause-keys c =
     identifiers_stay c.args.names.now c.release.new.self c.in-One.number
-    (one_live c.args.names.now c.args.names.now c.in-One.number c.requires.0 (subst (AreEnds c.args.names.now c.requires.0) c.in-One.is c.requires.2))
+    (one_live c.args.names.now c.args.names.now c.in-One.number c.requires.0 (subst (AreEnds c.args.names.now c.requires.0) c.in-One.is
+    c.requires.2))
     c.release.ensures.kept c.release.ensures.last c.release.ensures.counted c.release.ensures.others
 
 pub returns-in-Pair-clause-held : goal.returns-in-Pair-clause-held

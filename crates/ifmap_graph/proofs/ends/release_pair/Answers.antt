@@ -18,13 +18,15 @@ returns-clause-held c = λ a b other count n m h.
     let d = numbers_differ c.args.names.now c.args.one c.args.two c.requires.0 c.requires.1 c.requires.2 c.requires.3 c.requires.4
     in subst (λ (n : ℕ). IsHeld identifier_order c.release-2.new.self other n)
     (sub_two count (once identifier_order a other) (once identifier_order b other))
-    (c.release-2.ensures.held b other _ (names_stay c.args.names.now c.release.new.self c.args.one c.args.two b c.release.ensures.others d m)
+    (c.release-2.ensures.held b other _ (names_stay c.args.names.now c.release.new.self c.args.one c.args.two b c.release.ensures.others d
+    m)
     (c.release.ensures.held a other count n h))
 
 pub returns-clause-before : goal.returns-clause-before
 returns-clause-before c = λ number other n.
     let d = numbers_differ c.args.names.now c.args.one c.args.two c.requires.0 c.requires.1 c.requires.2 c.requires.3 c.requires.4
-    in named_before c.args.names.now c.release.new.self c.args.one (subst (λ (o : Option (Identifier × ℕ)). IsSome o) (sym c.requires.3.1) refl)
+    in named_before c.args.names.now c.release.new.self c.args.one (subst (λ (o : Option (Identifier × ℕ)). IsSome o) (sym c.requires.3.1)
+    refl)
     c.release.ensures.kept c.release.ensures.last c.release.ensures.counted c.release.ensures.others number other
     (named_before c.release.new.self c.release-2.new.self c.args.two
     (subst (λ (o : Option (Identifier × ℕ)). IsSome o) (sym (c.release.ensures.others c.args.two d ∙ c.requires.4.1)) refl)
@@ -36,5 +38,6 @@ returns-clause-keys c = λ all.
     in identifiers_stay c.release.new.self c.release-2.new.self c.args.two
     (subst (λ (o : Option (Identifier × ℕ)). IsSome o) (sym (c.release.ensures.others c.args.two d ∙ c.requires.4.1)) refl)
     c.release-2.ensures.kept c.release-2.ensures.last c.release-2.ensures.counted c.release-2.ensures.others
-    (identifiers_stay c.args.names.now c.release.new.self c.args.one (subst (λ (o : Option (Identifier × ℕ)). IsSome o) (sym c.requires.3.1) refl)
+    (identifiers_stay c.args.names.now c.release.new.self c.args.one (subst (λ (o : Option (Identifier × ℕ)). IsSome o)
+    (sym c.requires.3.1) refl)
     c.release.ensures.kept c.release.ensures.last c.release.ensures.counted c.release.ensures.others all)

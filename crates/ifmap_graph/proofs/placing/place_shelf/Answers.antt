@@ -38,22 +38,31 @@ returns-in_err-insert-clause-rows c = λ side nothing. rw (c.in_err-insert.ensur
 
 pub returns-clause-inside : goal.returns-clause-inside
 returns-clause-inside c = λ links room old.
-    let all : IsInside c.args.names.now (get c.reserve.new.self) c.args.shelves.now.places.entries links = rw c.in_ok-reserve.ensures.rest_kept old
+    let all : IsInside c.args.names.now (get c.reserve.new.self) c.args.shelves.now.places.entries links = rw
+    c.in_ok-reserve.ensures.rest_kept old
     in let is : IsPlaced (get c.reserve.new.self) c.args.shelves.now.places.entries = all.placed
     in let here : c.insert_reserved.result ≡ c.vacant_key-at.result = c.insert_reserved.ensures.key ∙ sym c.vacant_key-at.ensures.value
-    in inside_comes c.args.names.now c.hold_ends-ends.new.names (get c.reserve.new.self) (get c.insert_reserved.new.self) c.args.shelves.now.places.entries
+    in inside_comes c.args.names.now c.hold_ends-ends.new.names (get c.reserve.new.self) (get c.insert_reserved.new.self)
+    c.args.shelves.now.places.entries
     c.insert.new.self.entries links c.args.item c.insert_reserved.result _ all
-    (placed c.args.shelves.now.places.entries c.insert.new.self.entries (get c.reserve.new.self) (get c.insert_reserved.new.self) c.args.item
-    c.insert_reserved.result c.vacant_key-at.result _ is c.requires.canon c.requires.absent (c.insert_reserved.ensures.key ∙ sym c.vacant_key-at.ensures.value)
+    (placed c.args.shelves.now.places.entries c.insert.new.self.entries (get c.reserve.new.self) (get c.insert_reserved.new.self)
+    c.args.item
+    c.insert_reserved.result c.vacant_key-at.result _ is c.requires.canon c.requires.absent (c.insert_reserved.ensures.key
+    ∙ sym c.vacant_key-at.ensures.value)
     c.insert_reserved.ensures.was_vacant c.insert_reserved.ensures.updates.changed c.new.ensures c.insert_reserved.ensures.updates.others
     c.in_ok-insert.ensures.entries c.insert.ensures.ordered)
-    (still_used c.args.shelves.now.places.entries c.insert.new.self.entries (get c.reserve.new.self) (get c.insert_reserved.new.self) c.args.item
-    c.insert_reserved.result c.vacant_key-at.result _ is c.requires.canon c.requires.absent (c.insert_reserved.ensures.key ∙ sym c.vacant_key-at.ensures.value)
+    (still_used c.args.shelves.now.places.entries c.insert.new.self.entries (get c.reserve.new.self) (get c.insert_reserved.new.self)
+    c.args.item
+    c.insert_reserved.result c.vacant_key-at.result _ is c.requires.canon c.requires.absent (c.insert_reserved.ensures.key
+    ∙ sym c.vacant_key-at.ensures.value)
     c.insert_reserved.ensures.was_vacant c.insert_reserved.ensures.updates.changed c.new.ensures c.insert_reserved.ensures.updates.others
     c.in_ok-insert.ensures.entries c.insert.ensures.ordered all.used)
-    (numbered_comes c.args.names.now c.hold_ends-ends.new.names c.hold_ends-ends.ensures.kept c.args.shelves.now.places.entries c.insert.new.self.entries
-    (get c.reserve.new.self) (get c.insert_reserved.new.self) c.args.item c.args.ends c.insert_reserved.result c.vacant_key-at.result _ is.live all.numbered
-    c.requires.absent here c.insert_reserved.ensures.was_vacant c.insert_reserved.ensures.updates.changed c.insert_reserved.ensures.updates.others
+    (numbered_comes c.args.names.now c.hold_ends-ends.new.names c.hold_ends-ends.ensures.kept c.args.shelves.now.places.entries
+    c.insert.new.self.entries
+    (get c.reserve.new.self) (get c.insert_reserved.new.self) c.args.item c.args.ends c.insert_reserved.result c.vacant_key-at.result _
+    is.live all.numbered
+    c.requires.absent here c.insert_reserved.ensures.was_vacant c.insert_reserved.ensures.updates.changed
+    c.insert_reserved.ensures.updates.others
     c.in_ok-insert.ensures.entries c.requires.same c.hold_ends-ends.ensures.ends)
     c.hold_ends-ends.ensures.whole
     (c.hold_ends-ends.ensures.keys
@@ -67,16 +76,20 @@ returns-clause-inside c = λ links room old.
 
 pub returns-clause-rows : goal.returns-clause-rows
 returns-clause-rows c = λ side nothing.
-    let is : IsPlaced (get c.reserve.new.self) c.args.shelves.now.places.entries = rw c.in_ok-reserve.ensures.rest_kept c.requires.inside.1.placed
-    in same_rows c.args.shelves.now.places.entries c.insert.new.self.entries (get c.reserve.new.self) (get c.insert_reserved.new.self) c.args.item
-    c.insert_reserved.result c.vacant_key-at.result _ is c.requires.canon c.requires.absent (c.insert_reserved.ensures.key ∙ sym c.vacant_key-at.ensures.value)
+    let is : IsPlaced (get c.reserve.new.self) c.args.shelves.now.places.entries = rw c.in_ok-reserve.ensures.rest_kept
+    c.requires.inside.1.placed
+    in same_rows c.args.shelves.now.places.entries c.insert.new.self.entries (get c.reserve.new.self) (get c.insert_reserved.new.self)
+    c.args.item
+    c.insert_reserved.result c.vacant_key-at.result _ is c.requires.canon c.requires.absent (c.insert_reserved.ensures.key
+    ∙ sym c.vacant_key-at.ensures.value)
     c.insert_reserved.ensures.was_vacant c.insert_reserved.ensures.updates.changed c.new.ensures c.insert_reserved.ensures.updates.others
     c.in_ok-insert.ensures.entries c.insert.ensures.ordered side nothing
     ∙ ap (λ (s : Slab Shelf). rows_by (λ n. list_at side (get s n)) c.args.shelves.now.places.entries) c.in_ok-reserve.ensures.rest_kept
 
 pub returns-clause-held : goal.returns-clause-held
 returns-clause-held c = λ a count h.
-    subst (λ (i : Item). IsHeld identifier_order c.hold_ends-ends.new.names a (count + named_by i a)) c.requires.same (c.hold_ends-ends.ensures.held a count h)
+    subst (λ (i : Item). IsHeld identifier_order c.hold_ends-ends.new.names a (count + named_by i a)) c.requires.same
+    (c.hold_ends-ends.ensures.held a count h)
 
 pub returns-in_err-reserve-clause-none : goal.returns-in_err-reserve-clause-none
 returns-in_err-reserve-clause-none c =
@@ -93,28 +106,34 @@ returns-in_err-insert-clause-none c =
     any_err c.from_residual-in_err-insert.result
     (brings_none c.args.shelves.now (record { places = c.insert.new.self; slots = c.reserve.new.self }) c.in_err-insert.ensures.err
     (λ at. ap (λ (s : Slab Shelf). ends_of (get s at)) c.in_ok-reserve.ensures.rest_kept)
-    (λ x. rw c.in_err-insert.ensures.err (ap (λ (s : Slab Shelf). waits_at (get s) c.args.shelves.now.places.entries x) c.in_ok-reserve.ensures.rest_kept)))
+    (λ x. rw c.in_err-insert.ensures.err (ap (λ (s : Slab Shelf). waits_at (get s) c.args.shelves.now.places.entries x)
+    c.in_ok-reserve.ensures.rest_kept)))
 
 pub returns-clause-own : goal.returns-clause-own
 returns-clause-own c = λ a own h.
     let more : named_in c.insert.new.self.entries a ≡ named_by c.args.item a + named_in c.args.shelves.now.places.entries a
-    = ap (λ es. named_in es a) c.in_ok-insert.ensures.entries ∙ comes c.args.shelves.now.places.entries c.args.item c.vacant_key-at.result a c.requires.absent
-    in let count : (named_in c.args.shelves.now.places.entries a + own) + named_by c.args.item a ≡ named_in c.insert.new.self.entries a + own = omega (arith, more)
+    = ap (λ es. named_in es a) c.in_ok-insert.ensures.entries ∙ comes c.args.shelves.now.places.entries c.args.item c.vacant_key-at.result
+    a c.requires.absent
+    in let count : (named_in c.args.shelves.now.places.entries a + own) + named_by c.args.item a ≡ named_in c.insert.new.self.entries a +
+    own = omega (arith, more)
     in subst (λ (n : ℕ). IsHeld identifier_order c.hold_ends-ends.new.names a n) count
-    (subst (λ (i : Item). IsHeld identifier_order c.hold_ends-ends.new.names a ((named_in c.args.shelves.now.places.entries a + own) + named_by i a)) c.requires.same
+    (subst (λ (i : Item). IsHeld identifier_order c.hold_ends-ends.new.names a ((named_in c.args.shelves.now.places.entries a + own) +
+    named_by i a)) c.requires.same
     (c.hold_ends-ends.ensures.held a (named_in c.args.shelves.now.places.entries a + own) h))
 
 pub returns-clause-brought : goal.returns-clause-brought
 returns-clause-brought c =
     let here : c.insert_reserved.result ≡ c.vacant_key-at.result = c.insert_reserved.ensures.key ∙ sym c.vacant_key-at.ensures.value
-    in let is : IsPlaced (get c.reserve.new.self) c.args.shelves.now.places.entries = rw c.in_ok-reserve.ensures.rest_kept c.requires.inside.1.placed
+    in let is : IsPlaced (get c.reserve.new.self) c.args.shelves.now.places.entries = rw c.in_ok-reserve.ensures.rest_kept
+    c.requires.inside.1.placed
     in let mid : Shelves = record { places = c.args.shelves.now.places; slots = c.reserve.new.self }
     in let new : Shelves = record { places = c.insert.new.self; slots = c.insert_reserved.new.self }
     in brings_both [] (c.args.item ∷ []) c.args.shelves.now mid new
     (brings_none c.args.shelves.now mid refl
     (λ at. ap (λ (s : Slab Shelf). ends_of (get s at)) c.in_ok-reserve.ensures.rest_kept)
     (λ x. ap (λ (s : Slab Shelf). waits_at (get s) c.args.shelves.now.places.entries x) c.in_ok-reserve.ensures.rest_kept))
-    (brings_one mid new c.args.item c.vacant_key-at.result _ is c.requires.absent c.in_ok-insert.ensures.updates.0 c.in_ok-insert.ensures.entries
+    (brings_one mid new c.args.item c.vacant_key-at.result _ is c.requires.absent c.in_ok-insert.ensures.updates.0
+    c.in_ok-insert.ensures.entries
     c.vacant_key-at.ensures.vacant (ap (get c.insert_reserved.new.self) (sym here) ∙ c.insert_reserved.ensures.updates.changed) refl
     (λ o n. c.insert_reserved.ensures.updates.others o (λ q. n (q ∙ here))))
 
@@ -127,9 +146,12 @@ returns-in_err-insert-clause-bare c = λ b. rw (c.in_err-insert.ensures.err, c.i
 pub returns-clause-bare : goal.returns-clause-bare
 returns-clause-bare c = λ b.
     let here : c.insert_reserved.result ≡ c.vacant_key-at.result = c.insert_reserved.ensures.key ∙ sym c.vacant_key-at.ensures.value
-    in let is : IsPlaced (get c.reserve.new.self) c.args.shelves.now.places.entries = rw c.in_ok-reserve.ensures.rest_kept c.requires.inside.1.placed
+    in let is : IsPlaced (get c.reserve.new.self) c.args.shelves.now.places.entries = rw c.in_ok-reserve.ensures.rest_kept
+    c.requires.inside.1.placed
     in let mid : Shelves = record { places = c.args.shelves.now.places; slots = c.reserve.new.self }
     in let bare : AreBare mid = rw c.in_ok-reserve.ensures.rest_kept b
-    in bare_comes mid (record { places = c.insert.new.self; slots = c.insert_reserved.new.self }) c.args.item c.vacant_key-at.result _ is bare c.requires.absent
-    c.in_ok-insert.ensures.entries c.vacant_key-at.ensures.vacant (ap (get c.insert_reserved.new.self) (sym here) ∙ c.insert_reserved.ensures.updates.changed)
+    in bare_comes mid (record { places = c.insert.new.self; slots = c.insert_reserved.new.self }) c.args.item c.vacant_key-at.result _ is
+    bare c.requires.absent
+    c.in_ok-insert.ensures.entries c.vacant_key-at.ensures.vacant (ap (get c.insert_reserved.new.self) (sym here)
+    ∙ c.insert_reserved.ensures.updates.changed)
     (ap (λ s. s.draft) c.new.ensures) (λ o n. c.insert_reserved.ensures.updates.others o (λ q. n (q ∙ here)))

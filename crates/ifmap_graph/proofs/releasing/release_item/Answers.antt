@@ -17,18 +17,21 @@ stored_at-requires c = c.unwait.ensures.shelved
 
 pub returns-then-unwait-gt0-clause-less : goal.returns-then-unwait-gt0-clause-less
 returns-then-unwait-gt0-clause-less c =
-    less_written c.args.names.now c.args.shelves.now c.unwait.new.self c.unwait.ensures.shelved c.unwait.ensures.places c.unwait.ensures.ends
+    less_written c.args.names.now c.args.shelves.now c.unwait.new.self c.unwait.ensures.shelved c.unwait.ensures.places
+    c.unwait.ensures.ends
     c.unwait.ensures.now c.unwait.ensures.next c.unwait.ensures.bare
 
 pub returns-then-not-is_empty-clause-less : goal.returns-then-not-is_empty-clause-less
 returns-then-not-is_empty-clause-less c =
-    less_written c.args.names.now c.args.shelves.now c.unwait.new.self c.unwait.ensures.shelved c.unwait.ensures.places c.unwait.ensures.ends
+    less_written c.args.names.now c.args.shelves.now c.unwait.new.self c.unwait.ensures.shelved c.unwait.ensures.places
+    c.unwait.ensures.ends
     c.unwait.ensures.now c.unwait.ensures.next c.unwait.ensures.bare
 
 pub remove_shelf-requires-clause-inside : goal.remove_shelf-requires-clause-inside
 remove_shelf-requires-clause-inside c = (
   c.requires.inside.0,
-  inside_written c.args.names.now c.args.shelves.now c.unwait.new.self c.unwait.ensures.shelved c.unwait.ensures.places c.unwait.ensures.ends
+  inside_written c.args.names.now c.args.shelves.now c.unwait.new.self c.unwait.ensures.shelved c.unwait.ensures.places
+      c.unwait.ensures.ends
       c.unwait.ensures.now c.unwait.ensures.next c.requires.inside.0 c.requires.inside.1,
 )
 
@@ -41,12 +44,15 @@ remove_shelf-requires-clause-empty c =
 
 pub returns-clause-less : goal.returns-clause-less
 returns-clause-less c =
-    let inside = inside_written c.args.names.now c.args.shelves.now c.unwait.new.self c.unwait.ensures.shelved c.unwait.ensures.places c.unwait.ensures.ends
+    let inside = inside_written c.args.names.now c.args.shelves.now c.unwait.new.self c.unwait.ensures.shelved c.unwait.ensures.places
+    c.unwait.ensures.ends
     c.unwait.ensures.now c.unwait.ensures.next c.requires.inside.0 c.requires.inside.1
     in less_on c.args.names.now c.args.names.now c.remove_shelf.new.names c.args.shelves.now c.unwait.new.self c.remove_shelf.new.shelves
-    (less_written c.args.names.now c.args.shelves.now c.unwait.new.self c.unwait.ensures.shelved c.unwait.ensures.places c.unwait.ensures.ends
+    (less_written c.args.names.now c.args.shelves.now c.unwait.new.self c.unwait.ensures.shelved c.unwait.ensures.places
+    c.unwait.ensures.ends
     c.unwait.ensures.now c.unwait.ensures.next c.unwait.ensures.bare)
-    (less_removed c.args.names.now c.remove_shelf.new.names c.unwait.new.self c.remove_shelf.new.shelves c.args.item.now c.unwait.ensures.shelved
+    (less_removed c.args.names.now c.remove_shelf.new.names c.unwait.new.self c.remove_shelf.new.shelves c.args.item.now
+    c.unwait.ensures.shelved
     (c.remove_shelf.ensures.inside c.requires.inside.0 inside).placed
     (sym c.stored_at.ensures ∙ nothing_in _ (sym c.is_empty.ensures ∙ c.if-not-is_empty.false))
     c.remove_shelf.ensures.inside c.remove_shelf.ensures.now c.remove_shelf.ensures.before c.remove_shelf.ensures.others

@@ -35,7 +35,8 @@ loop-change-preserved c =
     = here_mapped (λ (x : ItemChange). x.item) c.args.changes.now i c.change-item.result c.loop-change-test.true
     ∙ ap (λ (x : ItemChange). x.item ∷ drop (i + 1) items) (sym c.change-item.is)
     in (
-      less_on c.args.names.now c.loop-change.names c.release_item.new.names c.args.shelves.now c.loop-change.shelves c.release_item.new.shelves
+      less_on c.args.names.now c.loop-change.names c.release_item.new.names c.args.shelves.now c.loop-change.shelves
+          c.release_item.new.shelves
           c.loop-change.invariant.0 c.release_item.ensures.less,
       λ x. omega (
         arith,

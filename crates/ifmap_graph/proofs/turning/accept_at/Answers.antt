@@ -9,5 +9,6 @@ returns-clause-drafts c = λ d x h.
     let p = c.accept_one.ensures.drafts x h
     in (
       p.0,
-      subst (λ (y : ItemChange). same_item x y.item ≡ false) (get_or_default c.args.changes.now c.args.i c.index-changes-i.result d c.requires.place) p.1,
+      subst (λ (y : ItemChange). same_item x y.item ≡ false) (get_or_default c.args.changes.now c.args.i c.index-changes-i.result d
+          c.requires.place) p.1,
     )

@@ -13,7 +13,8 @@ same_length changes = length-map changes (λ (x : ItemChange). x.item)
 
 pub loop-i-init : goal.loop-i-init
 loop-i-init c =
-    accepting (items c.args.changes.now) c.args.shelves.now c.args.lists.now.items c.requires.shelved c.requires.out.drafted c.requires.out.within
+    accepting (items c.args.changes.now) c.args.shelves.now c.args.lists.now.items c.requires.shelved c.requires.out.drafted
+    c.requires.out.within
     c.requires.out.apart (c.requires.long ∙ sym (same_length c.args.changes.now))
 
 pub accept_at-requires-clause-room : goal.accept_at-requires-clause-room
@@ -21,7 +22,8 @@ accept_at-requires-clause-room c = omega (arith, c.loop-i-test.true, c.loop-i.in
 
 pub accept_at-requires-clause-drafted : goal.accept_at-requires-clause-drafted
 accept_at-requires-clause-drafted c = λ d.
-    drafted_at (items c.args.changes.now) c.args.shelves.now c.loop-i.lists.items c.loop-i.shelves c.loop-i.i (get_or c.args.changes.now c.loop-i.i d).item
+    drafted_at (items c.args.changes.now) c.args.shelves.now c.loop-i.lists.items c.loop-i.shelves c.loop-i.i
+    (get_or c.args.changes.now c.loop-i.i d).item
     (omega (arith, c.loop-i-test.true, same_length c.args.changes.now))
     (here_mapped (λ (x : ItemChange). x.item) c.args.changes.now c.loop-i.i d (omega (arith, c.loop-i-test.true))) c.loop-i.invariant
 
@@ -29,20 +31,26 @@ pub loop-i-preserved : goal.loop-i-preserved
 loop-i-preserved c =
     let within : c.loop-i.i < length c.args.changes.now = omega (arith, c.loop-i-test.true)
     in let d = some_in c.args.changes.now c.loop-i.i within
-    in accepts_on (items c.args.changes.now) c.args.shelves.now c.loop-i.lists.items c.loop-i.shelves c.loop-i.i (get_or c.args.changes.now c.loop-i.i d).item
-    (omega (arith, within, same_length c.args.changes.now)) (here_mapped (λ (x : ItemChange). x.item) c.args.changes.now c.loop-i.i d within) c.loop-i.invariant
+    in accepts_on (items c.args.changes.now) c.args.shelves.now c.loop-i.lists.items c.loop-i.shelves c.loop-i.i
+    (get_or c.args.changes.now c.loop-i.i d).item
+    (omega (arith, within, same_length c.args.changes.now)) (here_mapped (λ (x : ItemChange). x.item) c.args.changes.now c.loop-i.i d
+    within) c.loop-i.invariant
     c.accept_at.new.lists.items c.accept_at.new.shelves c.accept_at.ensures.shelved c.accept_at.ensures.next (c.accept_at.ensures.drafts d)
-    (c.accept_at.ensures.others d) c.accept_at.ensures.ends c.accept_at.ensures.waits c.accept_at.ensures.places (c.accept_at.ensures.lists d)
+    (c.accept_at.ensures.others d) c.accept_at.ensures.ends c.accept_at.ensures.waits c.accept_at.ensures.places
+    (c.accept_at.ensures.lists d)
 
 pub returns : goal.returns
 returns c =
     let done : length (items c.args.changes.now) ≤ c.loop-i.i = omega (arith, c.loop-i-test.false, same_length c.args.changes.now)
     in record {
       shelved = c.loop-i.invariant.shelved;
-      bare = accepted_bare (items c.args.changes.now) c.args.shelves.now c.loop-i.lists.items c.loop-i.shelves c.loop-i.i done c.loop-i.invariant;
+      bare = accepted_bare (items c.args.changes.now) c.args.shelves.now c.loop-i.lists.items c.loop-i.shelves c.loop-i.i done
+          c.loop-i.invariant;
       next = c.loop-i.invariant.same;
-      now = accepted_now (items c.args.changes.now) c.args.shelves.now c.loop-i.lists.items c.loop-i.shelves c.loop-i.i done c.loop-i.invariant;
-      lists = accepted_lists (items c.args.changes.now) c.args.shelves.now c.loop-i.lists.items c.loop-i.shelves c.loop-i.i done c.loop-i.invariant
+      now = accepted_now (items c.args.changes.now) c.args.shelves.now c.loop-i.lists.items c.loop-i.shelves c.loop-i.i done
+          c.loop-i.invariant;
+      lists = accepted_lists (items c.args.changes.now) c.args.shelves.now c.loop-i.lists.items c.loop-i.shelves c.loop-i.i done
+          c.loop-i.invariant
           ∙ maps_join (stored_at c.args.shelves.now) (λ (x : ItemChange). x.item) c.args.changes.now;
       ends = c.loop-i.invariant.ends;
       waits = c.loop-i.invariant.waits;

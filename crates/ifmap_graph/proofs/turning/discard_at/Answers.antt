@@ -13,6 +13,7 @@ returns-clause-drafts c = λ d x h.
     let p = c.discard.ensures.drafts x h
     in (
       p.0,
-      subst (λ (y : ItemChange). same_item x y.item ≡ false) (get_or_default c.args.changes.now c.args.i c.index-changes-i.result d c.requires.place)
+      subst (λ (y : ItemChange). same_item x y.item ≡ false) (get_or_default c.args.changes.now c.args.i c.index-changes-i.result d
+          c.requires.place)
           (sym (ties (get_or c.args.changes.now c.args.i c.index-changes-i.result).item x) ∙ p.1),
     )

@@ -25,7 +25,8 @@ loop-i-preserved c =
     let within : c.loop-i.i < length c.args.changes.now = omega (arith, c.loop-i-test.true)
     in let d = some_in c.args.changes.now c.loop-i.i within
     in discards_on (items c.args.changes.now) c.args.shelves.now c.loop-i.shelves c.loop-i.i (get_or c.args.changes.now c.loop-i.i d).item
-    (omega (arith, within, same_length c.args.changes.now)) (here_mapped (λ (x : ItemChange). x.item) c.args.changes.now c.loop-i.i d within) c.loop-i.invariant
+    (omega (arith, within, same_length c.args.changes.now)) (here_mapped (λ (x : ItemChange). x.item) c.args.changes.now c.loop-i.i d
+    within) c.loop-i.invariant
     c.discard_at.new.shelves c.discard_at.ensures.shelved c.discard_at.ensures.now (c.discard_at.ensures.drafts d) c.discard_at.ensures.ends
     c.discard_at.ensures.waits c.discard_at.ensures.places
 

@@ -21,5 +21,6 @@ accept_at-requires-clause-drafted g c = λ w.
 pub loop-i-preserved : goal.loop-i-preserved
 loop-i-preserved g c =
     goes_on c.args.ways.now.items c.args.lists.now.items c.loop-i.ways.items c.loop-i.lists.items c.loop-i.i
-    (omega (arith, c.loop-i-test.true, c.loop-i.invariant.long)) c.loop-i.invariant (0, []) c.accept_at.new.ways.items c.accept_at.new.lists.items
+    (omega (arith, c.loop-i-test.true, c.loop-i.invariant.long)) c.loop-i.invariant (0, []) c.accept_at.new.ways.items
+    c.accept_at.new.lists.items
     (c.accept_at.ensures.lists (0, [])) (c.accept_at.ensures.ways (0, []))

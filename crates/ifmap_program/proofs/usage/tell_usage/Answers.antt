@@ -6,7 +6,11 @@ use Rattle.ifmap_program.proofs.usage.tell_usage.Goals as goal
 
 pub returns-in-Ok : goal.returns-in-Ok
 returns-in-Ok g c =
-    inl (refl, subst (Appends (g.K.Sink.held c.args.sink.now) (g.K.Sink.held c.send.new.sink)) c.as_bytes.ensures.value c.in-Ok.ensures.bytes)
+    inl (
+      refl,
+      subst (Appends (g.K.Sink.held c.args.sink.now) (g.K.Sink.held c.send.new.sink)) c.as_bytes.ensures.value
+          c.in-Ok.ensures.bytes,
+    )
 
 pub returns-in-Err : goal.returns-in-Err
 returns-in-Err g c =

@@ -68,10 +68,12 @@ loop-at-preserved g c =
     in let e = c.in_ok-told.ensures
     in let news : c.push_reserved.new.self.items ≡ l.records.news.items ++ one ∷ [] = c.push_reserved.ensures.items
     in let ways : c.push_reserved-in-loop-at.new.self.items ≡ l.records.ways.items ++ way ∷ [] = c.push_reserved-in-loop-at.ensures.items
-    in let next = stage_next old new notes skipped xs begun l.at l.records.news.items l.records.ways.items l.standing l.steps s skip x y flag here
+    in let next = stage_next old new notes skipped xs begun l.at l.records.news.items l.records.ways.items l.standing l.steps s skip x y
+    flag here
     after refl more c.tell_where.ensures.steps one way e.news e.way e.skipped e.kept
     in record {
-      stage = subst (λ ns. Stage old new notes skipped xs begun (l.at + 1) ns c.push_reserved-in-loop-at.new.self.items after more) (sym news)
+      stage = subst (λ ns. Stage old new notes skipped xs begun (l.at + 1) ns c.push_reserved-in-loop-at.new.self.items after more)
+          (sym news)
           (subst (λ ws. Stage old new notes skipped xs begun (l.at + 1) (l.records.news.items ++ one ∷ []) ws after more) (sym ways) next);
       news_room = c.push_reserved.ensures.capacity ∙ l.invariant.news_room;
       ways_room = c.push_reserved-in-loop-at.ensures.capacity ∙ l.invariant.ways_room;
@@ -129,7 +131,8 @@ returns-clause-news g c =
     in let begun = c.args.steps.now
     in let l = c.loop-at
     in let s = l.invariant.stage
-    in news_end old new notes skipped xs begun l.at l.records.news.items l.records.ways.items l.standing l.steps s (omega (arith, c.loop-at-test.false))
+    in news_end old new notes skipped xs begun l.at l.records.news.items l.records.ways.items l.standing l.steps s
+    (omega (arith, c.loop-at-test.false))
 
 pub returns-clause-kept : goal.returns-clause-kept
 returns-clause-kept g c =
@@ -141,7 +144,8 @@ returns-clause-kept g c =
     in let begun = c.args.steps.now
     in let l = c.loop-at
     in let s = l.invariant.stage
-    in kept_end old new notes skipped xs begun l.at l.records.news.items l.records.ways.items l.standing l.steps s (omega (arith, c.loop-at-test.false))
+    in kept_end old new notes skipped xs begun l.at l.records.news.items l.records.ways.items l.standing l.steps s
+    (omega (arith, c.loop-at-test.false))
 
 pub returns-clause-skipped : goal.returns-clause-skipped
 returns-clause-skipped g c = c.loop-at.invariant.stage.skips
@@ -159,4 +163,5 @@ returns-clause-steps g c =
     in let begun = c.args.steps.now
     in let l = c.loop-at
     in let s = l.invariant.stage
-    in steps_all old new notes skipped xs begun l.at l.records.news.items l.records.ways.items l.standing l.steps s (omega (arith, c.loop-at-test.false))
+    in steps_all old new notes skipped xs begun l.at l.records.news.items l.records.ways.items l.standing l.steps s
+    (omega (arith, c.loop-at-test.false))

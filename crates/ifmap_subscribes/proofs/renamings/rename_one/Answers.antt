@@ -49,7 +49,8 @@ returns-clause-renamed c =
     record { graph = c.drop_standing.new.graph; sessions = c.push_where.new.sessions; standing = c.put_where.new.standing } in
     renamed_one c.args.serial c.args.renaming c.args.parts.now can.0 can.1 mid new
     c.drop_name.ensures.changes c.push_where.ensures.changes c.drop_name.ensures.spare c.push_where.ensures.spare refl
-    c.drop_standing.ensures.standing c.drop_standing.ensures.steady c.drop_standing.ensures.rows c.drop_standing.ensures.lean c.drop_standing.ensures.kept
+    c.drop_standing.ensures.standing c.drop_standing.ensures.steady c.drop_standing.ensures.rows c.drop_standing.ensures.lean
+    c.drop_standing.ensures.kept
     c.drop_standing.ensures.len c.drop_standing.ensures.capacity c.put_where.ensures.standing c.put_where.ensures.among
     c.put_where.ensures.len c.put_where.ensures.capacity c.is_table.ensures.rising
 
@@ -61,6 +62,7 @@ returns-clause-rest c = λ rest can.
     record { graph = c.drop_standing.new.graph; sessions = c.push_where.new.sessions; standing = c.put_where.new.standing } in
     can_rest c.args.serial c.args.renaming c.args.parts.now rest can mid new
     c.drop_name.ensures.changes c.push_where.ensures.changes c.drop_name.ensures.spare c.push_where.ensures.spare refl
-    c.drop_standing.ensures.standing c.drop_standing.ensures.steady c.drop_standing.ensures.rows c.drop_standing.ensures.lean c.drop_standing.ensures.kept
+    c.drop_standing.ensures.standing c.drop_standing.ensures.steady c.drop_standing.ensures.rows c.drop_standing.ensures.lean
+    c.drop_standing.ensures.kept
     c.drop_standing.ensures.len c.drop_standing.ensures.capacity c.put_where.ensures.standing c.put_where.ensures.among
     c.put_where.ensures.len c.put_where.ensures.capacity

@@ -24,7 +24,8 @@ accept_changes-requires-clause-out c =
     (are_out c.self.inside.shelves (items_of c.args.ready.plan.changes) q.drafted q.within q.apart)
 
 pub accept_changes-requires-clause-long : goal.accept_changes-requires-clause-long
-accept_changes-requires-clause-long c = ap length (c.lists.view_is ∙ ap (λ r. r.lists) c.ready.view_is) ∙ c.requires.lists ∙ sym (ap length (c.deref.ensures.value ∙ ap (λ r. r.plan.changes) c.ready.view_is))
+accept_changes-requires-clause-long c = ap length (c.lists.view_is ∙ ap (λ r. r.lists) c.ready.view_is) ∙ c.requires.lists
+    ∙ sym (ap length (c.deref.ensures.value ∙ ap (λ r. r.plan.changes) c.ready.view_is))
 
 pub accept_all-requires : goal.accept_all-requires
 accept_all-requires c =
@@ -34,10 +35,14 @@ accept_all-requires c =
 pub invariant_of-self : goal.invariant_of-self
 invariant_of-self c =
     let q = rw (← c.self.view_is) at c.requires
-    in made_inside c.self.inside.names c.self.inside.shelves c.accept_changes.new.shelves c.self.inside.links.items c.accept_all.new.lists.items
-    c.self.invariant c.accept_changes.ensures.shelved c.accept_changes.ensures.places c.accept_changes.ensures.ends c.accept_changes.ensures.now
-    c.accept_changes.ensures.next c.ways.inside.0.items (subst (λ w. AreDrafted w c.self.inside.links.items) (sym (c.ways.view_is ∙ ap (λ r. r.ways) c.ready.view_is)) q.links)
-    (subst (λ w. NoOthers w c.self.inside.links.items) (sym (c.ways.view_is ∙ ap (λ r. r.ways) c.ready.view_is)) q.no_others) c.accept_all.ensures.lists
+    in made_inside c.self.inside.names c.self.inside.shelves c.accept_changes.new.shelves c.self.inside.links.items
+    c.accept_all.new.lists.items
+    c.self.invariant c.accept_changes.ensures.shelved c.accept_changes.ensures.places c.accept_changes.ensures.ends
+    c.accept_changes.ensures.now
+    c.accept_changes.ensures.next c.ways.inside.0.items (subst (λ w. AreDrafted w c.self.inside.links.items)
+    (sym (c.ways.view_is ∙ ap (λ r. r.ways) c.ready.view_is)) q.links)
+    (subst (λ w. NoOthers w c.self.inside.links.items) (sym (c.ways.view_is ∙ ap (λ r. r.ways) c.ready.view_is)) q.no_others)
+    c.accept_all.ensures.lists
 
 pub returns-clause-now : goal.returns-clause-now
 returns-clause-now c =
@@ -55,22 +60,28 @@ pub returns-clause-links : goal.returns-clause-links
 returns-clause-links c =
     let q = rw (← c.self.view_is) at c.requires
     in rw (← c.self.view_is)
-    (made_links c.self.inside.names c.self.inside.shelves c.accept_changes.new.shelves c.self.inside.links.items c.accept_all.new.lists.items
-    c.self.invariant c.accept_changes.ensures.shelved c.accept_changes.ensures.places c.accept_changes.ensures.ends c.accept_changes.ensures.now
-    c.accept_changes.ensures.next c.ways.inside.0.items (subst (λ w. AreDrafted w c.self.inside.links.items) (sym (c.ways.view_is ∙ ap (λ r. r.ways) c.ready.view_is)) q.links)
-    (subst (λ w. NoOthers w c.self.inside.links.items) (sym (c.ways.view_is ∙ ap (λ r. r.ways) c.ready.view_is)) q.no_others) c.accept_all.ensures.lists)
+    (made_links c.self.inside.names c.self.inside.shelves c.accept_changes.new.shelves c.self.inside.links.items
+    c.accept_all.new.lists.items
+    c.self.invariant c.accept_changes.ensures.shelved c.accept_changes.ensures.places c.accept_changes.ensures.ends
+    c.accept_changes.ensures.now
+    c.accept_changes.ensures.next c.ways.inside.0.items (subst (λ w. AreDrafted w c.self.inside.links.items)
+    (sym (c.ways.view_is ∙ ap (λ r. r.ways) c.ready.view_is)) q.links)
+    (subst (λ w. NoOthers w c.self.inside.links.items) (sym (c.ways.view_is ∙ ap (λ r. r.ways) c.ready.view_is)) q.no_others)
+    c.accept_all.ensures.lists)
 
 pub returns-clause-lists : goal.returns-clause-lists
 returns-clause-lists c =
     rw (← c.self.view_is)
     (c.accept_changes.ensures.lists
-    ∙ ap (λ l. map (λ (x : ItemChange). stored_on x.item (rows_of now c.self.inside.shelves)) l) (c.deref.ensures.value ∙ ap (λ r. r.plan.changes) c.ready.view_is)
+    ∙ ap (λ l. map (λ (x : ItemChange). stored_on x.item (rows_of now c.self.inside.shelves)) l) (c.deref.ensures.value
+    ∙ ap (λ r. r.plan.changes) c.ready.view_is)
     ∙ ap (λ rows. map (λ (x : ItemChange). stored_on x.item rows) c.args.ready.plan.changes)
     (sym (rows_shown now (get c.self.inside.shelves.slots) c.self.inside.shelves.places.entries)))
 
 pub returns-clause-ways : goal.returns-clause-ways
 returns-clause-ways c =
-    rw (← c.self.view_is) (c.accept_all.ensures.ways ∙ ap (λ w. backs w c.self.inside.links.items) (c.ways.view_is ∙ ap (λ r. r.ways) c.ready.view_is))
+    rw (← c.self.view_is) (c.accept_all.ensures.ways ∙ ap (λ w. backs w c.self.inside.links.items)
+    (c.ways.view_is ∙ ap (λ r. r.ways) c.ready.view_is))
 
 pub returns-clause-plan : goal.returns-clause-plan
 returns-clause-plan c = ap (λ r. r.plan) c.ready.view_is
@@ -80,8 +91,10 @@ returns-clause-back c =
     let q = rw (← c.self.view_is) at c.requires
     in let ways = c.ways.view_is ∙ ap (λ r. r.ways) c.ready.view_is
     in rw (← c.self.view_is)
-    (can_go_back c.self.inside.names c.self.inside.shelves c.accept_changes.new.shelves c.self.inside.links.items c.accept_all.new.lists.items
-    c.self.invariant c.accept_changes.ensures.places c.accept_changes.ensures.ends c.accept_changes.ensures.waits c.accept_changes.ensures.now
+    (can_go_back c.self.inside.names c.self.inside.shelves c.accept_changes.new.shelves c.self.inside.links.items
+    c.accept_all.new.lists.items
+    c.self.invariant c.accept_changes.ensures.places c.accept_changes.ensures.ends c.accept_changes.ensures.waits
+    c.accept_changes.ensures.now
     c.args.ready _ (are_out c.self.inside.shelves (items_of c.args.ready.plan.changes) q.drafted q.within q.apart) q.links q.no_others
     (c.accept_all.ensures.lists ∙ ap (λ w. accept_each w c.self.inside.links.items) ways) (returns-clause-plan c)
     (rw (← c.self.view_is) at (returns-clause-lists c)) (rw (← c.self.view_is) at (returns-clause-ways c)))
@@ -101,14 +114,16 @@ returns-clause-own c = λ a own h.
 
 pub returns-clause-waits : goal.returns-clause-waits
 returns-clause-waits c = λ rest a.
-    waits_stay_seen c.self.inside.names c.self.inside.shelves c.accept_changes.new.shelves c.self.inside.links.items c.accept_all.new.lists.items
+    waits_stay_seen c.self.inside.names c.self.inside.shelves c.accept_changes.new.shelves c.self.inside.links.items
+    c.accept_all.new.lists.items
     c.accept_changes.ensures.places c.accept_changes.ensures.ends c.accept_changes.ensures.waits rest (rw (← c.self.view_is) at a)
 
 pub returns-clause-lean : goal.returns-clause-lean
 returns-clause-lean c =
     let q = rw (← c.self.view_is) at c.requires
     in rw (← c.self.view_is)
-    (λ awaits. turned_lean c.self.inside.names c.self.inside.names c.self.inside.shelves c.accept_changes.new.shelves c.self.inside.links.items
+    (λ awaits. turned_lean c.self.inside.names c.self.inside.names c.self.inside.shelves c.accept_changes.new.shelves
+    c.self.inside.links.items
     c.accept_all.new.lists.items (items_of c.args.ready.plan.changes) awaits c.self.invariant.placed
     (are_out c.self.inside.shelves (items_of c.args.ready.plan.changes) q.drafted q.within q.apart) c.accept_changes.ensures.waits
     c.accept_changes.ensures.places c.accept_changes.ensures.now)

@@ -115,4 +115,5 @@ returns-clause-lean c =
     (sym (c.deref-3.ensures.value ∙ ap (λ r. r.plan.changes) c.ready.view_is))
     (same_lean c.self.inside.names c.self.inside.names c.self.inside.shelves c.drop_plan.new.shelves c.self.inside.links.items
     c.drop_plan.new.links.items c.drop_plan.ensures.waits
-    (λ x none. ap (λ p. lookup (is_at (item_order x)) p.entries) c.drop_plan.ensures.places) (λ x none. ap (stored_on x) c.drop_plan.ensures.now) _ lean)))
+    (λ x none. ap (λ p. lookup (is_at (item_order x)) p.entries) c.drop_plan.ensures.places)
+    (λ x none. ap (stored_on x) c.drop_plan.ensures.now) _ lean)))

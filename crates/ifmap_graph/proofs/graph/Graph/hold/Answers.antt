@@ -17,7 +17,8 @@ use Rattle.ifmap_graph.proofs.graph.Graph.hold.Goals as goal
 pub invariant_of-self-in_err-lengthen : goal.invariant_of-self-in_err-lengthen
 invariant_of-self-in_err-lengthen c =
     roomier c.self.inside.names c.reserve.new.self c.reserve.ensures.live (get c.self.inside.shelves.slots)
-    c.self.inside.shelves.places.entries c.self.inside.links.items c.lengthen.new.links.items c.reserve.ensures.whole c.lengthen.ensures.same
+    c.self.inside.shelves.places.entries c.self.inside.links.items c.lengthen.new.links.items c.reserve.ensures.whole
+    c.lengthen.ensures.same
     c.lengthen.ensures.longer c.self.invariant
 
 pub hold-requires-clause-few : goal.hold-requires-clause-few
@@ -37,19 +38,22 @@ invariant_of-self c =
 pub invariant_of-self-2 : goal.invariant_of-self-2
 invariant_of-self-2 c =
     let room = roomier c.self.inside.names c.reserve.new.self c.reserve.ensures.live (get c.self.inside.shelves.slots)
-    c.self.inside.shelves.places.entries c.self.inside.links.items c.lengthen.new.links.items c.reserve.ensures.whole c.lengthen.ensures.same
+    c.self.inside.shelves.places.entries c.self.inside.links.items c.lengthen.new.links.items c.reserve.ensures.whole
+    c.lengthen.ensures.same
     c.lengthen.ensures.longer c.self.invariant
     in inside_held c.reserve.new.self c.hold.new.self
     (get c.self.inside.shelves.slots) c.self.inside.shelves.places.entries c.lengthen.new.links.items
     c.in_ok-key.key room c.hold.ensures.kept c.hold.ensures.whole
-    (still_identifiers c.reserve.new.self c.hold.new.self c.hold.result c.in_ok-key.key c.hold.ensures.present c.hold.ensures.absent c.hold.ensures.others
+    (still_identifiers c.reserve.new.self c.hold.new.self c.hold.result c.in_ok-key.key c.hold.ensures.present c.hold.ensures.absent
+    c.hold.ensures.others
     (subst IsIdentifier (sym c.in_ok-key.ensures) c.requires.canon) room.keys)
     (omega (arith, c.in_ok-lengthen.ensures.ok, c.limit.ensures.limit, c.hold.ensures.limit)) c.hold.ensures.held
 
 pub returns-clause-named : goal.returns-clause-named
 returns-clause-named c =
     key_told c.hold.new.self c.hold.result c.args.id.now c.bytes_tell_identifiers_apart.ensures
-    (still_identifiers c.reserve.new.self c.hold.new.self c.hold.result c.in_ok-key.key c.hold.ensures.present c.hold.ensures.absent c.hold.ensures.others
+    (still_identifiers c.reserve.new.self c.hold.new.self c.hold.result c.in_ok-key.key c.hold.ensures.present c.hold.ensures.absent
+    c.hold.ensures.others
     (subst IsIdentifier (sym c.in_ok-key.ensures) c.requires.canon)
     (keys_alike c.self.inside.names c.reserve.new.self c.reserve.ensures.live c.self.invariant.keys))
     c.requires.canon (subst (Names identifier_order c.hold.new.self c.hold.result) c.in_ok-key.ensures c.hold.ensures.named)
@@ -60,7 +64,8 @@ returns-clause-kept c =
     (key_kept c.self.inside.names c.hold.new.self
     (λ v a n. c.hold.ensures.kept v a (names_alike c.self.inside.names c.reserve.new.self c.reserve.ensures.live v a n))
     c.bytes_tell_identifiers_apart.ensures c.self.invariant.keys
-    (still_identifiers c.reserve.new.self c.hold.new.self c.hold.result c.in_ok-key.key c.hold.ensures.present c.hold.ensures.absent c.hold.ensures.others
+    (still_identifiers c.reserve.new.self c.hold.new.self c.hold.result c.in_ok-key.key c.hold.ensures.present c.hold.ensures.absent
+    c.hold.ensures.others
     (subst IsIdentifier (sym c.in_ok-key.ensures) c.requires.canon)
     (keys_alike c.self.inside.names c.reserve.new.self c.reserve.ensures.live c.self.invariant.keys)))
 
@@ -92,7 +97,8 @@ pub returns-in_err-lengthen-clause-still : goal.returns-in_err-lengthen-clause-s
 returns-in_err-lengthen-clause-still c =
     rw (← c.self.view_is)
     (kept_still (held_of c.self.inside.names c.self.inside.shelves c.self.inside.links.items)
-    (held_of c.reserve.new.self c.self.inside.shelves c.lengthen.new.links.items) refl refl c.lengthen.ensures.same c.lengthen.ensures.longer)
+    (held_of c.reserve.new.self c.self.inside.shelves c.lengthen.new.links.items) refl refl c.lengthen.ensures.same
+    c.lengthen.ensures.longer)
 
 pub returns-in_err-reserve-clause-still : goal.returns-in_err-reserve-clause-still
 returns-in_err-reserve-clause-still c =
@@ -110,7 +116,8 @@ pub returns-in_err-lengthen-clause-waits : goal.returns-in_err-lengthen-clause-w
 returns-in_err-lengthen-clause-waits c =
     rw (← c.self.view_is)
     (kept_waits (held_of c.self.inside.names c.self.inside.shelves c.self.inside.links.items)
-    (held_of c.reserve.new.self c.self.inside.shelves c.lengthen.new.links.items) refl refl c.lengthen.ensures.same c.lengthen.ensures.longer)
+    (held_of c.reserve.new.self c.self.inside.shelves c.lengthen.new.links.items) refl refl c.lengthen.ensures.same
+    c.lengthen.ensures.longer)
 
 pub returns-in_err-reserve-clause-waits : goal.returns-in_err-reserve-clause-waits
 returns-in_err-reserve-clause-waits c =
@@ -128,7 +135,8 @@ pub returns-in_err-lengthen-clause-backs : goal.returns-in_err-lengthen-clause-b
 returns-in_err-lengthen-clause-backs c =
     rw (← c.self.view_is)
     (kept_backs (held_of c.self.inside.names c.self.inside.shelves c.self.inside.links.items)
-    (held_of c.reserve.new.self c.self.inside.shelves c.lengthen.new.links.items) refl refl c.lengthen.ensures.same c.lengthen.ensures.longer)
+    (held_of c.reserve.new.self c.self.inside.shelves c.lengthen.new.links.items) refl refl c.lengthen.ensures.same
+    c.lengthen.ensures.longer)
 
 pub returns-in_err-reserve-clause-backs : goal.returns-in_err-reserve-clause-backs
 returns-in_err-reserve-clause-backs c =
@@ -146,7 +154,8 @@ pub returns-in_err-lengthen-clause-lean : goal.returns-in_err-lengthen-clause-le
 returns-in_err-lengthen-clause-lean c =
     rw (← c.self.view_is)
     (kept_lean (held_of c.self.inside.names c.self.inside.shelves c.self.inside.links.items)
-    (held_of c.reserve.new.self c.self.inside.shelves c.lengthen.new.links.items) refl refl c.lengthen.ensures.same c.lengthen.ensures.longer)
+    (held_of c.reserve.new.self c.self.inside.shelves c.lengthen.new.links.items) refl refl c.lengthen.ensures.same
+    c.lengthen.ensures.longer)
 
 pub returns-in_err-reserve-clause-lean : goal.returns-in_err-reserve-clause-lean
 returns-in_err-reserve-clause-lean c =

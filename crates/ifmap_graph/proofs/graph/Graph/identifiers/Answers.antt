@@ -8,7 +8,8 @@ use Rattle.ifmap_graph.proofs.graph.Graph.identifiers.Goals as goal
 pub returns-clause-count : goal.returns-clause-count
 returns-clause-count c =
     rw (← c.self.view_is)
-    (subst (λ n. AreSoMany n (λ a. (v : ℕ) × (key_at c.self.inside.names v ≡ Some a))) (sym c.len.ensures) (keys_counted c.self.inside.names c.self.invariant.pool))
+    (subst (λ n. AreSoMany n (λ a. (v : ℕ) × (key_at c.self.inside.names v ≡ Some a))) (sym c.len.ensures)
+    (keys_counted c.self.inside.names c.self.invariant.pool))
 
 pub returns-clause-used : goal.returns-clause-used
 returns-clause-used c =

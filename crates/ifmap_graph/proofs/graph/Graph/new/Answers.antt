@@ -13,10 +13,12 @@ invariant_of-result c =
     (no_inside c.new.result (λ v. ap (λ l. get l v) c.new.ensures.live ∙ get-empty nat_cmp v) _ c.new-2.ensures.vacant))
 
 pub returns-clause-numbers : goal.returns-clause-numbers
-returns-clause-numbers c = λ v. ap (λ o. option_map (λ (x : Identifier × ℕ). x.0) o) (ap (λ l. get l v) c.new.ensures.live ∙ get-empty nat_cmp v)
+returns-clause-numbers c = λ v. ap (λ o. option_map (λ (x : Identifier × ℕ). x.0) o) (ap (λ l. get l v) c.new.ensures.live
+    ∙ get-empty nat_cmp v)
 
 pub returns-clause-own : goal.returns-clause-own
-returns-clause-own c = rw c.new-2.ensures.empty (λ a. no_own c.new.result (λ v. ap (λ l. get l v) c.new.ensures.live ∙ get-empty nat_cmp v) a)
+returns-clause-own c = rw c.new-2.ensures.empty (λ a. no_own c.new.result (λ v. ap (λ l. get l v) c.new.ensures.live
+    ∙ get-empty nat_cmp v) a)
 
 pub returns-clause-still : goal.returns-clause-still
 returns-clause-still c =

@@ -11,4 +11,5 @@ next_at-requires c = c.self.invariant.placed
 pub returns : goal.returns
 returns c =
     rw (← c.self.view_is)
-    (c.next_at.ensures ∙ ap (stored_on c.args.item.now) (sym (rows_shown next (get c.self.inside.shelves.slots) c.self.inside.shelves.places.entries)))
+    (c.next_at.ensures ∙ ap (stored_on c.args.item.now)
+    (sym (rows_shown next (get c.self.inside.shelves.slots) c.self.inside.shelves.places.entries)))

@@ -8,5 +8,6 @@ pub returns : goal.returns
 returns c =
     rw (← c.self.view_is)
     (shown_view c.self.inside.names (get c.self.inside.shelves.slots) c.self.inside.shelves.places.entries
-    (links_at next c.self.inside.links.items) next c.self.invariant.placed c.self.invariant.used c.self.invariant.numbered c.self.invariant.pool
+    (links_at next c.self.inside.links.items) next c.self.invariant.placed c.self.invariant.used c.self.invariant.numbered
+    c.self.invariant.pool
     c.self.invariant.keys c.self.invariant.next_side c.bytes_tell_identifiers_apart.ensures)

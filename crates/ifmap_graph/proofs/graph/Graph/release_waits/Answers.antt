@@ -25,13 +25,15 @@ invariant_of-self c = c.release_items.ensures.less.inside c.self.inside.links.it
 pub returns-clause-now : goal.returns-clause-now
 returns-clause-now c =
     rw (← c.self.view_is)
-    (less_now c.self.inside.names c.release_items.new.names c.self.inside.shelves c.release_items.new.shelves c.self.inside.links.items c.release_items.ensures.less)
+    (less_now c.self.inside.names c.release_items.new.names c.self.inside.shelves c.release_items.new.shelves c.self.inside.links.items
+    c.release_items.ensures.less)
 
 pub returns-clause-next : goal.returns-clause-next
 returns-clause-next c =
     let q = rw (← c.self.view_is) at c.requires
     in rw (← c.self.view_is)
-    (less_next c.self.inside.names c.release_items.new.names c.self.inside.shelves c.release_items.new.shelves c.self.inside.links.items c.release_items.ensures.less
+    (less_next c.self.inside.names c.release_items.new.names c.self.inside.shelves c.release_items.new.shelves c.self.inside.links.items
+    c.release_items.ensures.less
     (bare_from c.self.inside.names c.self.inside.shelves c.self.inside.links.items c.self.invariant.placed q.still))
 
 pub returns-clause-still : goal.returns-clause-still
@@ -51,29 +53,35 @@ returns-clause-numbers c =
 pub returns-clause-own : goal.returns-clause-own
 returns-clause-own c =
     rw (← c.self.view_is)
-    (less_own c.self.inside.names c.release_items.new.names c.self.inside.shelves c.release_items.new.shelves c.self.inside.links.items c.release_items.ensures.less)
+    (less_own c.self.inside.names c.release_items.new.names c.self.inside.shelves c.release_items.new.shelves c.self.inside.links.items
+    c.release_items.ensures.less)
 
 pub returns-clause-waits : goal.returns-clause-waits
 returns-clause-waits c =
     rw (← c.self.view_is)
-    (less_waits c.self.inside.names c.release_items.new.names c.self.inside.shelves c.release_items.new.shelves c.self.inside.links.items c.release_items.ensures.less
+    (less_waits c.self.inside.names c.release_items.new.names c.self.inside.shelves c.release_items.new.shelves c.self.inside.links.items
+    c.release_items.ensures.less
     (items_of c.args.changes.now) c.release_items.ensures.waits)
 
 pub returns-clause-stay : goal.returns-clause-stay
 returns-clause-stay c =
     rw (← c.self.view_is)
-    (less_stay c.self.inside.names c.release_items.new.names c.self.inside.shelves c.release_items.new.shelves c.self.inside.links.items c.release_items.ensures.less)
+    (less_stay c.self.inside.names c.release_items.new.names c.self.inside.shelves c.release_items.new.shelves c.self.inside.links.items
+    c.release_items.ensures.less)
 
 pub returns-clause-backs : goal.returns-clause-backs
 returns-clause-backs c =
     rw (← c.self.view_is)
     (keeps_other_backs (held_of c.self.inside.names c.self.inside.shelves c.self.inside.links.items)
     (held_of c.release_items.new.names c.release_items.new.shelves c.self.inside.links.items)
-    (less_now c.self.inside.names c.release_items.new.names c.self.inside.shelves c.release_items.new.shelves c.self.inside.links.items c.release_items.ensures.less)
+    (less_now c.self.inside.names c.release_items.new.names c.self.inside.shelves c.release_items.new.shelves c.self.inside.links.items
+    c.release_items.ensures.less)
     (λ v. refl) (omega arith)
-    (less_stay c.self.inside.names c.release_items.new.names c.self.inside.shelves c.release_items.new.shelves c.self.inside.links.items c.release_items.ensures.less)
+    (less_stay c.self.inside.names c.release_items.new.names c.self.inside.shelves c.release_items.new.shelves c.self.inside.links.items
+    c.release_items.ensures.less)
     (items_of c.args.changes.now)
-    (less_waits c.self.inside.names c.release_items.new.names c.self.inside.shelves c.release_items.new.shelves c.self.inside.links.items c.release_items.ensures.less
+    (less_waits c.self.inside.names c.release_items.new.names c.self.inside.shelves c.release_items.new.shelves c.self.inside.links.items
+    c.release_items.ensures.less
     (items_of c.args.changes.now) c.release_items.ensures.waits))
 
 pub returns-clause-lean : goal.returns-clause-lean

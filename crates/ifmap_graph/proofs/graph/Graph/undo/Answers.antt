@@ -29,8 +29,10 @@ pub invariant_of-self : goal.invariant_of-self
 invariant_of-self c =
     let b = rw (← c.self.view_is) at c.requires.back
     in let still = rw (← c.self.view_is) at c.requires.still
-    in undone_inside c.self.inside.names c.self.inside.shelves c.exchange_changes.new.shelves c.self.inside.links.items c.restore_all.new.lists.items
-    c.exchange_changes.ensures.places c.exchange_changes.ensures.ends c.exchange_changes.ensures.waits c.self.invariant c.exchange_changes.ensures.bare still.links
+    in undone_inside c.self.inside.names c.self.inside.shelves c.exchange_changes.new.shelves c.self.inside.links.items
+    c.restore_all.new.lists.items
+    c.exchange_changes.ensures.places c.exchange_changes.ensures.ends c.exchange_changes.ensures.waits c.self.invariant
+    c.exchange_changes.ensures.bare still.links
     c.args.undo b.0 b.1 b.2
     (λ x. c.exchange_changes.ensures.now x
     ∙ ap (λ l. stand_each (items_of l) c.lists.inside.0.items x (stored_on x (rows_of now c.self.inside.shelves)))
@@ -43,8 +45,10 @@ pub release_waits-requires-clause-still : goal.release_waits-requires-clause-sti
 release_waits-requires-clause-still c =
     let b = rw (← c.self.view_is) at c.requires.back
     in let still = rw (← c.self.view_is) at c.requires.still
-    in undone_still c.self.inside.names c.self.inside.shelves c.exchange_changes.new.shelves c.self.inside.links.items c.restore_all.new.lists.items
-    c.exchange_changes.ensures.places c.exchange_changes.ensures.ends c.exchange_changes.ensures.waits c.self.invariant c.exchange_changes.ensures.bare still.links
+    in undone_still c.self.inside.names c.self.inside.shelves c.exchange_changes.new.shelves c.self.inside.links.items
+    c.restore_all.new.lists.items
+    c.exchange_changes.ensures.places c.exchange_changes.ensures.ends c.exchange_changes.ensures.waits c.self.invariant
+    c.exchange_changes.ensures.bare still.links
     c.args.undo b.0 b.1 b.2
     (λ x. c.exchange_changes.ensures.now x
     ∙ ap (λ l. stand_each (items_of l) c.lists.inside.0.items x (stored_on x (rows_of now c.self.inside.shelves)))
@@ -58,7 +62,8 @@ release_waits-requires-clause-waits c =
     let b = rw (← c.self.view_is) at c.requires.back
     in subst (λ l. Awaits (items_of l) (held_of c.self.inside.names c.exchange_changes.new.shelves c.restore_all.new.lists.items))
     (sym (c.deref-2.ensures.value ∙ ap (λ r. r.plan.changes) c.undo.view_is))
-    (waits_stay_seen c.self.inside.names c.self.inside.shelves c.exchange_changes.new.shelves c.self.inside.links.items c.restore_all.new.lists.items
+    (waits_stay_seen c.self.inside.names c.self.inside.shelves c.exchange_changes.new.shelves c.self.inside.links.items
+    c.restore_all.new.lists.items
     c.exchange_changes.ensures.places c.exchange_changes.ensures.ends c.exchange_changes.ensures.waits
     (items_of c.args.undo.plan.changes) b.2.waits)
 
@@ -68,8 +73,10 @@ returns-clause-back c = λ rows links b.
     in let still = rw (← c.self.view_is) at c.requires.still
     in (
       c.release_waits.ensures.now
-          ∙ undone_rows c.self.inside.names c.self.inside.shelves c.exchange_changes.new.shelves c.self.inside.links.items c.restore_all.new.lists.items
-          c.exchange_changes.ensures.places c.exchange_changes.ensures.ends c.exchange_changes.ensures.waits c.self.invariant c.exchange_changes.ensures.bare still.links
+          ∙ undone_rows c.self.inside.names c.self.inside.shelves c.exchange_changes.new.shelves c.self.inside.links.items
+          c.restore_all.new.lists.items
+          c.exchange_changes.ensures.places c.exchange_changes.ensures.ends c.exchange_changes.ensures.waits c.self.invariant
+          c.exchange_changes.ensures.bare still.links
           c.args.undo rows links back
           (λ x. c.exchange_changes.ensures.now x
           ∙ ap (λ l. stand_each (items_of l) c.lists.inside.0.items x (stored_on x (rows_of now c.self.inside.shelves)))
@@ -79,8 +86,10 @@ returns-clause-back c = λ rows links b.
           (c.restore_all.ensures ∙ ap (λ w. restore_each w c.self.inside.links.items) (c.ways.view_is ∙ ap (λ r. r.ways) c.undo.view_is))
           c.bytes_tell_identifiers_apart.ensures,
       λ v. ap (λ l. links_at now l v) c.release_waits.ensures.links
-          ∙ undone_links c.self.inside.names c.self.inside.shelves c.exchange_changes.new.shelves c.self.inside.links.items c.restore_all.new.lists.items
-          c.exchange_changes.ensures.places c.exchange_changes.ensures.ends c.exchange_changes.ensures.waits c.self.invariant c.exchange_changes.ensures.bare still.links
+          ∙ undone_links c.self.inside.names c.self.inside.shelves c.exchange_changes.new.shelves c.self.inside.links.items
+          c.restore_all.new.lists.items
+          c.exchange_changes.ensures.places c.exchange_changes.ensures.ends c.exchange_changes.ensures.waits c.self.invariant
+          c.exchange_changes.ensures.bare still.links
           c.args.undo rows links back
           (λ x. c.exchange_changes.ensures.now x
           ∙ ap (λ l. stand_each (items_of l) c.lists.inside.0.items x (stored_on x (rows_of now c.self.inside.shelves)))
@@ -93,7 +102,8 @@ returns-clause-back c = λ rows links b.
 pub returns-clause-own : goal.returns-clause-own
 returns-clause-own c = λ a own h.
     c.release_waits.ensures.own a own
-    (own_stays c.self.inside.names c.self.inside.shelves c.exchange_changes.new.shelves c.self.inside.links.items c.restore_all.new.lists.items
+    (own_stays c.self.inside.names c.self.inside.shelves c.exchange_changes.new.shelves c.self.inside.links.items
+    c.restore_all.new.lists.items
     c.exchange_changes.ensures.places c.exchange_changes.ensures.ends c.exchange_changes.ensures.waits a own (rw (← c.self.view_is) at h))
 
 pub returns-clause-waits : goal.returns-clause-waits
@@ -101,7 +111,8 @@ returns-clause-waits c = λ rest a.
     c.release_waits.ensures.waits rest
     (subst (λ l. Awaits (items_of l ++ rest) (held_of c.self.inside.names c.exchange_changes.new.shelves c.restore_all.new.lists.items))
     (sym (c.deref-2.ensures.value ∙ ap (λ r. r.plan.changes) c.undo.view_is))
-    (waits_stay_seen c.self.inside.names c.self.inside.shelves c.exchange_changes.new.shelves c.self.inside.links.items c.restore_all.new.lists.items
+    (waits_stay_seen c.self.inside.names c.self.inside.shelves c.exchange_changes.new.shelves c.self.inside.links.items
+    c.restore_all.new.lists.items
     c.exchange_changes.ensures.places c.exchange_changes.ensures.ends c.exchange_changes.ensures.waits
     (items_of c.args.undo.plan.changes ++ rest) (rw (← c.self.view_is) at a)))
 

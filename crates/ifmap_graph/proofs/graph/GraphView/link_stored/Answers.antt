@@ -9,12 +9,14 @@ use Rattle.ifmap_graph.proofs.graph.GraphView.link_stored.Goals as goal
 pub index-requires : goal.index-requires
 index-requires c =
     let q = rw (← c.self.view_is) at c.requires
-    in live_by (get c.self.inside.shelves.slots) c.args.seen.at q.0 c.args.seen.other (c.self.invariant.side.listed.only q.0 c.args.seen q.1).0
+    in live_by (get c.self.inside.shelves.slots) c.args.seen.at q.0 c.args.seen.other (c.self.invariant.side.listed.only q.0 c.args.seen
+    q.1).0
 
 pub returns : goal.returns
 returns c =
     rw (← c.self.view_is)
     (λ v h. c.now.ensures ∙ ap (list_at now) (sym c.index.ensures)
     ∙ handle_of c.self.inside.names (get c.self.inside.shelves.slots) c.self.inside.shelves.places.entries
-    (links_at now c.self.inside.links.items) now c.self.invariant.placed c.self.invariant.used c.self.invariant.numbered c.self.invariant.pool
+    (links_at now c.self.inside.links.items) now c.self.invariant.placed c.self.invariant.used c.self.invariant.numbered
+    c.self.invariant.pool
     c.self.invariant.keys c.self.invariant.side v c.args.seen h)

@@ -11,4 +11,5 @@ stored_at-requires c = c.self.invariant.placed
 pub returns : goal.returns
 returns c =
     rw (← c.self.view_is)
-    (c.stored_at.ensures ∙ ap (stored_on c.args.item.now) (sym (rows_shown now (get c.self.inside.shelves.slots) c.self.inside.shelves.places.entries)))
+    (c.stored_at.ensures ∙ ap (stored_on c.args.item.now)
+    (sym (rows_shown now (get c.self.inside.shelves.slots) c.self.inside.shelves.places.entries)))

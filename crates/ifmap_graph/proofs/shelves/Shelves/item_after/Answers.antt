@@ -32,5 +32,6 @@ pub returns-clause-canon : goal.returns-clause-canon
 returns-clause-canon g c =
     some_weaker c.first_after.result _ _
     (λ item f.
-    let h = first_has (λ at. list_at now (get c.args.self.now.slots at)) c.args.self.now.places.entries c.requires.rising (option_copied c.args.item) item.now f
+    let h = first_has (λ at. list_at now (get c.args.self.now.slots at)) c.args.self.now.places.entries c.requires.rising
+    (option_copied c.args.item) item.now f
     in all_has (λ e. IsCanonItem e.0) c.args.self.now.places.entries c.requires.canon (item.now, h.0) h.1) c.first_after.ensures.found
