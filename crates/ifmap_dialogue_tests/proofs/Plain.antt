@@ -4,15 +4,17 @@ use Rattle.std.proofs.lemmas.List.Elements.{All-nil, All-push}
 use Rattle.ifmap_hall.specs.declared.book.Asked.TheVariants as asked
 use Rattle.ifmap_machine.specs.declared.events.Answer.{Answer}
 use Rattle.ifmap_machine.specs.Events.{Event}
-use Rattle.ifmap_dialogue.specs.Desks.{DeskSeen, Fits, FitsAnswer, Gains, Tells, Turn}
+use Rattle.ifmap_dialogue.specs.Desks.{CountsOn, DeskSeen, Fits, FitsAnswer, Gains, Tells, Turn}
 
 -- a call that was done leaves the counts of other answers
 pub tells_done : {H : Type 0} (before after : DeskSeen H) (event : Event) (place : ℕ) (the_answer : Answer)
-    → Gains before.said after.said ((event, the_answer) ∷ []) → after.held ≡ before.held → after.spent ≡ before.spent
+    → Gains before.said after.said ((event, the_answer) ∷ []) → CountsOn before.turns after.turns 1
+    → after.held ≡ before.held → after.spent ≡ before.spent
     → after.home ≡ before.home → after.loan ≡ before.loan → FitsAnswer event the_answer
     → Tells before after (record { event = event; asked = asked.Done place the_answer } ∷ [])
-tells_done before after event place the_answer said held spent home loan fits = record {
+tells_done before after event place the_answer said count held spent home loan fits = record {
   said = said;
+  count = count;
   held = record { least = omega (arith, held); most = omega (arith, held) };
   spent = record { least = omega (arith, spent); most = omega (arith, spent) };
   home = home;

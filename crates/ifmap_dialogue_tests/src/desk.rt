@@ -139,6 +139,8 @@ impl Desk for PlainDesk {
 
     ghost said = { λ _. None };
 
+    ghost turns = { λ _. None };
+
     ghost held = { λ desk. desk.held };
 
     ghost spent = { λ desk. desk.spent };
