@@ -8,3 +8,4 @@ pub mod Step
 pub mod Legal
 pub mod Lives
 pub mod Agreeing
+pub mod FitAnswers
