@@ -62,10 +62,10 @@ fn read_token<'a>(
         StepsOn scope.now (where_is standing) rest.now (where_is n.0) n.1.now) }
     ensures refused { IfErr result (λ e. IsRefused scope.now (where_is standing) rest.now at e) }
 {
-    let Some((token, after)) = token_at(alloc, rest)? else {
+    let Some((mark, after)) = token_at(rest) else {
         return Err(FilterError::NotAFilter { at });
     };
-    let Some(next) = take_token(alloc, scope, standing, token)? else {
+    let Some(next) = take_token(alloc, scope, standing, mark)? else {
         return Err(FilterError::NotAFilter { at });
     };
     Ok((next, without_white(after)))

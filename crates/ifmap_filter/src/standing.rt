@@ -1,13 +1,13 @@
 //! Where a reader of filters stands, and what one more token makes of it.
 ghost use Rattle.std.specs.Prelude.{◌≡◌, ◌++◌, ◌∷◌, [], IfErr, IfOk};
+ghost use Rattle.ifmap_filter.specs.Marks.{token_of, written_name};
 ghost use Rattle.ifmap_filter.specs.Progress.{IsNotSingle, StandsAt, comparison_of, context, done_part, join_parts, inner_place, next_part, step, step_done, step_equals, step_factor, step_joining, step_literal, step_local, step_named, step_test, step_tested, where_is, filter_at, with_factor};
 ghost use Rattle.ifmap_filter.specs.declared.filters.Predicate.{And, Or};
 ghost use Rattle.ifmap_filter.specs.declared.tokens.Token.TheVariants.{CloseBracket, CloseParenthesis};
 
 use crate::filters::{Filter, Predicate, Test};
+use crate::marks::Mark;
 use crate::naming::{is_word, name_of};
-use crate::tokens::Token;
-use ifmap_elem::tokens::Qualified;
 use ifmap_elem::{Many, Name, Text};
 use ifmap_reader::Scope;
 use std::alloc::{AllocError as NoMemory, Global};
@@ -63,20 +63,21 @@ pub(crate) fn take_token(
     alloc: Global,
     scope: &Scope,
     standing: Standing,
-    token: Token,
+    mark: Mark<'_>,
 ) -> Result<Option<Standing>, NoMemory>
-    ensures { IfOk result (λ o. StandsAt o (step scope.now (where_is standing) token)) }
+    ensures { IfOk result (λ o. StandsAt o
+        (step scope.now (where_is standing) (token_of mark.entry))) }
 {
     match standing {
-        Standing::Start => take_test(alloc, scope, Many(Vec::new(alloc)), token),
-        Standing::TestDue(tests) => take_test(alloc, scope, tests, token),
-        Standing::Named(tests, name) => take_named(alloc, tests, name, token),
-        Standing::Tested(tests) => Ok(take_tested(tests, token)),
-        Standing::FactorDue(open_part) => take_factor(alloc, scope, open_part, token),
-        Standing::LocalDue(open_part) => Ok(take_local(open_part, token)),
-        Standing::EqualsDue(open_part, operand) => Ok(take_equals(open_part, operand, token)),
-        Standing::LiteralDue(open_part, operand) => take_literal(open_part, operand, token),
-        Standing::FactorDone(open_part) => take_done(alloc, open_part, token),
+        Standing::Start => take_test(alloc, scope, Many(Vec::new(alloc)), mark),
+        Standing::TestDue(tests) => take_test(alloc, scope, tests, mark),
+        Standing::Named(tests, name) => take_named(alloc, tests, name, mark),
+        Standing::Tested(tests) => Ok(take_tested(tests, mark)),
+        Standing::FactorDue(open_part) => take_factor(alloc, scope, open_part, mark),
+        Standing::LocalDue(open_part) => take_local(alloc, open_part, mark),
+        Standing::EqualsDue(open_part, operand) => Ok(take_equals(open_part, operand, mark)),
+        Standing::LiteralDue(open_part, operand) => take_literal(alloc, open_part, operand, mark),
+        Standing::FactorDone(open_part) => take_done(alloc, open_part, mark),
     }
 }
 
@@ -84,13 +85,13 @@ fn take_test(
     alloc: Global,
     scope: &Scope,
     tests: Many<Test>,
-    token: Token,
+    mark: Mark<'_>,
 ) -> Result<Option<Standing>, NoMemory>
-    ensures { IfOk result (λ o. StandsAt o (step_test scope.now tests token)) }
+    ensures { IfOk result (λ o. StandsAt o (step_test scope.now tests (token_of mark.entry))) }
 {
-    match token {
-        Token::Any => Ok(Some(Standing::Named(tests, None))),
-        Token::Name(written) => match name_of(alloc, scope, written)? {
+    match mark {
+        Mark::Any => Ok(Some(Standing::Named(tests, None))),
+        Mark::Name(prefix, local) => match name_of(alloc, scope, prefix, local)? {
             Some(name) => Ok(Some(Standing::Named(tests, Some(name)))),
             None => Ok(None),
         },
@@ -102,12 +103,12 @@ fn take_named(
     alloc: Global,
     tests: Many<Test>,
     name: Option<Name>,
-    token: Token,
+    mark: Mark<'_>,
 ) -> Result<Option<Standing>, NoMemory>
-    ensures { IfOk result (λ o. StandsAt o (step_named tests name token)) }
+    ensures { IfOk result (λ o. StandsAt o (step_named tests name (token_of mark.entry))) }
 {
-    match token {
-        Token::OpenBracket => {
+    match mark {
+        Mark::OpenBracket => {
             let outer = Many(Vec::new(alloc));
             let ors = Many(Vec::new(alloc));
             let ands = Many(Vec::new(alloc));
@@ -119,10 +120,10 @@ fn take_named(
                 ands,
             })))
         }
-        token => {
+        _ => {
             let predicate = None;
             let tests = with_test(tests, Test { name, predicate })?;
-            Ok(take_tested(tests, token))
+            Ok(take_tested(tests, mark))
         }
     }
 }
@@ -135,12 +136,12 @@ fn with_test(tests: Many<Test>, test: Test) -> Result<Many<Test>, NoMemory>
     Ok(tests)
 }
 
-fn take_tested(tests: Many<Test>, token: Token) -> Option<Standing>
-    ensures { StandsAt result (step_tested tests token) }
+fn take_tested(tests: Many<Test>, mark: Mark<'_>) -> Option<Standing>
+    ensures { StandsAt result (step_tested tests (token_of mark.entry)) }
 {
-    match token {
-        Token::Name(written) => {
-            if is_word("or", &written) {
+    match mark {
+        Mark::Name(prefix, local) => {
+            if is_word("or", prefix, local) {
                 Some(Standing::TestDue(tests))
             } else {
                 None
@@ -154,14 +155,15 @@ fn take_factor(
     alloc: Global,
     scope: &Scope,
     open_part: OpenPart,
-    token: Token,
+    mark: Mark<'_>,
 ) -> Result<Option<Standing>, NoMemory>
-    ensures { IfOk result (λ o. StandsAt o (step_factor scope.now (context open_part) token)) }
+    ensures { IfOk result (λ o. StandsAt o
+        (step_factor scope.now (context open_part) (token_of mark.entry))) }
 {
-    match token {
-        Token::OpenParenthesis => open_group(alloc, open_part),
-        Token::At => Ok(Some(Standing::LocalDue(open_part))),
-        Token::Name(written) => match name_of(alloc, scope, written)? {
+    match mark {
+        Mark::OpenParenthesis => open_group(alloc, open_part),
+        Mark::At => Ok(Some(Standing::LocalDue(open_part))),
+        Mark::Name(prefix, local) => match name_of(alloc, scope, prefix, local)? {
             Some(name) => Ok(Some(Standing::EqualsDue(open_part, Operand::Child(name)))),
             None => Ok(None),
         },
@@ -196,39 +198,47 @@ fn open_group(alloc: Global, open_part: OpenPart) -> Result<Option<Standing>, No
     })))
 }
 
-fn take_local(open_part: OpenPart, token: Token) -> Option<Standing>
-    ensures { StandsAt result (step_local (context open_part) token) }
+fn take_local(
+    alloc: Global,
+    open_part: OpenPart,
+    mark: Mark<'_>,
+) -> Result<Option<Standing>, NoMemory>
+    ensures { IfOk result (λ o. StandsAt o (step_local (context open_part) (token_of mark.entry))) }
 {
-    match token {
-        Token::Name(written) => {
-            if written.prefix.is_empty() {
-                Some(Standing::EqualsDue(open_part, Operand::Attribute(written.local)))
+    match mark {
+        Mark::Name(prefix, local) => {
+            if prefix.is_empty() {
+                let local = Text(String::from_str(alloc, local)?);
+                Ok(Some(Standing::EqualsDue(open_part, Operand::Attribute(local))))
             } else {
-                None
+                Ok(None)
             }
         }
-        _ => None,
+        _ => Ok(None),
     }
 }
 
-fn take_equals(open_part: OpenPart, operand: Operand, token: Token) -> Option<Standing>
-    ensures { StandsAt result (step_equals (context open_part) operand token) }
+fn take_equals(open_part: OpenPart, operand: Operand, mark: Mark<'_>) -> Option<Standing>
+    ensures { StandsAt result (step_equals (context open_part) operand (token_of mark.entry)) }
 {
-    match token {
-        Token::EqualsSign => Some(Standing::LiteralDue(open_part, operand)),
+    match mark {
+        Mark::EqualsSign => Some(Standing::LiteralDue(open_part, operand)),
         _ => None,
     }
 }
 
 fn take_literal(
+    alloc: Global,
     open_part: OpenPart,
     operand: Operand,
-    token: Token,
+    mark: Mark<'_>,
 ) -> Result<Option<Standing>, NoMemory>
-    ensures { IfOk result (λ o. StandsAt o (step_literal (context open_part) operand token)) }
+    ensures { IfOk result (λ o. StandsAt o
+        (step_literal (context open_part) operand (token_of mark.entry))) }
 {
-    match token {
-        Token::Literal(value) => {
+    match mark {
+        Mark::Literal(value) => {
+            let value = Text(String::from_str(alloc, value)?);
             let open_part = with_factor(open_part, comparison_of(operand, value))?;
             Ok(Some(Standing::FactorDone(open_part)))
         }
@@ -253,13 +263,17 @@ fn with_factor(open_part: OpenPart, factor: Predicate) -> Result<OpenPart, NoMem
     Ok(open_part)
 }
 
-fn take_done(alloc: Global, open_part: OpenPart, token: Token) -> Result<Option<Standing>, NoMemory>
-    ensures { IfOk result (λ o. StandsAt o (step_done (context open_part) token)) }
+fn take_done(
+    alloc: Global,
+    open_part: OpenPart,
+    mark: Mark<'_>,
+) -> Result<Option<Standing>, NoMemory>
+    ensures { IfOk result (λ o. StandsAt o (step_done (context open_part) (token_of mark.entry))) }
 {
-    match token {
-        Token::Name(written) => take_joining(alloc, open_part, &written),
-        Token::CloseParenthesis => close_group(open_part),
-        Token::CloseBracket => close_test(open_part),
+    match mark {
+        Mark::Name(prefix, local) => take_joining(alloc, open_part, prefix, local),
+        Mark::CloseParenthesis => close_group(open_part),
+        Mark::CloseBracket => close_test(open_part),
         _ => Ok(None),
     }
 }
@@ -268,14 +282,16 @@ fn take_done(alloc: Global, open_part: OpenPart, token: Token) -> Result<Option<
 fn take_joining(
     alloc: Global,
     open_part: OpenPart,
-    written: &Qualified,
+    prefix: &str,
+    local: &str,
 ) -> Result<Option<Standing>, NoMemory>
-    ensures { IfOk result (λ o. StandsAt o (step_joining (context open_part) written.now)) }
+    ensures { IfOk result (λ o. StandsAt o (step_joining (context open_part)
+        (written_name prefix.now local.now))) }
 {
-    if is_word("and", written) {
+    if is_word("and", prefix, local) {
         return Ok(Some(Standing::FactorDue(open_part)));
     }
-    if is_word("or", written) {
+    if is_word("or", prefix, local) {
         return Ok(Some(Standing::FactorDue(next_part(alloc, open_part)?)));
     }
     Ok(None)
