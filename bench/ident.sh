@@ -57,13 +57,18 @@ fn time_of_making<R: Runtime>(rt: &R, alloc: Global, element: &Element) -> io::R
     Ok(least)
 }
 
+// The time of `from_element` on the element that the document spells.
+fn time_of_making_it<R: Runtime>(rt: &R, alloc: Global, document: &str) -> io::Result<u128> {
+    match read(alloc, document.as_bytes(), 64) {
+        Ok(whole) => time_of_making(rt, alloc, &whole.root),
+        Err(_) => Ok(0),
+    }
+}
+
 fn bench_element<R: Runtime>(rt: &R, alloc: Global, document: &str) -> io::Result<()> {
-    let reading = time_of_reading(rt, alloc, document.as_bytes())?;
-    let making = match read(alloc, document.as_bytes(), 64) {
-        Ok(whole) => time_of_making(rt, alloc, &whole.root)?,
-        Err(_) => 0,
-    };
-    rt.println(format_args!("{} | {} | {}", document, reading / 2000, making / 2000))
+    let reading = time_of_reading(rt, alloc, document.as_bytes())? / 2_000;
+    let making = time_of_making_it(rt, alloc, document)? / 2_000;
+    rt.println(format_args!("{document} | {reading} | {making}"))
 }
 
 fn time_of_comparing<R: Runtime, T: Ord>(rt: &R, one: &T, other: &T) -> io::Result<u128> {
@@ -120,33 +125,93 @@ fn mac(alloc: Global, last: u8) -> Identifier {
     }
 }
 
+// Two of one kind that differ in the last byte of what they are called.
+#[derive(Drop)]
+struct Two<T> {
+    one: T,
+    other: T,
+}
+
+fn two_names(alloc: Global, len: usize) -> io::Result<Two<Text>> {
+    let one = long_name(alloc, len, 'a')?;
+    let other = long_name(alloc, len, 'b')?;
+    Ok(Two { one, other })
+}
+
+fn two_devices(alloc: Global, len: usize) -> io::Result<Two<Identifier>> {
+    let one = device(alloc, len, 'a')?;
+    let other = device(alloc, len, 'b')?;
+    Ok(Two { one, other })
+}
+
+fn two_requests(alloc: Global, len: usize) -> io::Result<Two<Identifier>> {
+    let one = access_request(alloc, len, 'a')?;
+    let other = access_request(alloc, len, 'b')?;
+    Ok(Two { one, other })
+}
+
+fn two_macs(alloc: Global) -> Two<Identifier> {
+    let one = mac(alloc, 1);
+    let other = mac(alloc, 2);
+    Two { one, other }
+}
+
+fn time_of_names<R: Runtime>(rt: &R, alloc: Global, len: usize) -> io::Result<u128> {
+    let two = two_names(alloc, len)?;
+    time_of_comparing(rt, &two.one, &two.other)
+}
+
+fn time_of_devices<R: Runtime>(rt: &R, alloc: Global, len: usize) -> io::Result<u128> {
+    let two = two_devices(alloc, len)?;
+    time_of_comparing(rt, &two.one, &two.other)
+}
+
+fn time_of_requests<R: Runtime>(rt: &R, alloc: Global, len: usize) -> io::Result<u128> {
+    let two = two_requests(alloc, len)?;
+    time_of_comparing(rt, &two.one, &two.other)
+}
+
+fn time_of_equal_requests<R: Runtime>(rt: &R, alloc: Global, len: usize) -> io::Result<u128> {
+    let two = two_requests(alloc, len)?;
+    time_of_equals(rt, &two.one, &two.other)
+}
+
+fn time_of_macs<R: Runtime>(rt: &R, alloc: Global) -> io::Result<u128> {
+    let two = two_macs(alloc);
+    time_of_comparing(rt, &two.one, &two.other)
+}
+
 fn bench_comparing<R: Runtime>(rt: &R, alloc: Global, len: usize) -> io::Result<()> {
-    let (one, other) = (long_name(alloc, len, 'a')?, long_name(alloc, len, 'b')?);
-    let texts = time_of_comparing(rt, &one, &other)?;
-    let (one, other) = (device(alloc, len, 'a')?, device(alloc, len, 'b')?);
-    let devices = time_of_comparing(rt, &one, &other)?;
-    let (one, other) = (access_request(alloc, len, 'a')?, access_request(alloc, len, 'b')?);
-    let requests = time_of_comparing(rt, &one, &other)?;
-    let same = time_of_equals(rt, &one, &other)?;
-    rt.println(format_args!("{} | {} | {} | {} | {}", len, texts, devices, requests, same))
+    let names = time_of_names(rt, alloc, len)?;
+    let devices = time_of_devices(rt, alloc, len)?;
+    let requests = time_of_requests(rt, alloc, len)?;
+    let same = time_of_equal_requests(rt, alloc, len)?;
+    rt.println(format_args!("{len} | {names} | {devices} | {requests} | {same}"))
+}
+
+fn bench_elements<R: Runtime>(rt: &R, alloc: Global) -> io::Result<()> {
+    rt.println(format_args!("ns: element | read | from_element"))?;
+    for document in &ELEMENTS {
+        bench_element(rt, alloc, document)?;
+    }
+    bench_element(rt, alloc, EXTENDED)
+}
+
+fn bench_names<R: Runtime>(rt: &R, alloc: Global) -> io::Result<()> {
+    rt.println(format_args!(
+        "ns of 2,000: bytes of the name | texts | devices | access requests | whether equal"
+    ))?;
+    bench_comparing(rt, alloc, 17)?;
+    bench_comparing(rt, alloc, 200)?;
+    bench_comparing(rt, alloc, 4000)
 }
 
 fn main(rt: HostRuntime) -> io::Result<()> {
     let alloc = rt.alloc();
-    rt.println(format_args!("ns: element | read | from_element"))?;
-    for document in &ELEMENTS {
-        bench_element(&rt, alloc, document)?;
-    }
-    bench_element(&rt, alloc, EXTENDED)?;
-    rt.println(format_args!(
-        "ns of 2,000: bytes of the name | texts | devices | access requests | whether equal"
-    ))?;
-    bench_comparing(&rt, alloc, 17)?;
-    bench_comparing(&rt, alloc, 200)?;
-    bench_comparing(&rt, alloc, 4000)?;
-    let (one, other) = (mac(alloc, 1), mac(alloc, 2));
-    let macs = time_of_comparing(&rt, &one, &other)?;
-    rt.println(format_args!("ns of 2,000: MAC addresses {}", macs))
+    bench_elements(&rt, alloc)?;
+    bench_names(&rt, alloc)?;
+    let macs = time_of_macs(&rt, alloc)?;
+    rt.println(format_args!("ns of 2,000: MAC addresses {macs}"))
 }
 RATTLE
 cd "$work/crates/ident_bench"
