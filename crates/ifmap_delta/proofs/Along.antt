@@ -1,5 +1,5 @@
 -- Weights, flips and notes, one more at a time.
-use Rattle.std.proofs.Common.{◌≡◌, ℕ, Bool, ◌+◌, ◌<◌, ◌≤◌, Option, Some, None, IfSome, List, [], ◌∷◌, ◌++◌, map, length, take, get_or, slice_get}
+use Rattle.std.proofs.Common.{◌≡◌, ℕ, Bool, true, ◌+◌, ◌<◌, ◌≤◌, Option, Some, None, IfSome, List, [], ◌∷◌, ◌++◌, map, length, take, get_or, slice_get}
 use Rattle.std.proofs.Common.{sum_by, refl, ap, ◌∙◌, sym, subst, inl, inr}
 use Rattle.std.proofs.lemmas.List.{map-append, take_more}
 use Rattle.std.proofs.lemmas.List.Elements.{filter-append}
@@ -14,7 +14,7 @@ use Rattle.ifmap_region.specs.declared.flips.Flip.{Flip}
 use Rattle.ifmap_search.specs.declared.results.Entry.{Entry}
 use Rattle.ifmap_search.specs.declared.searches.Search.{Search}
 use Rattle.ifmap_view.specs.declared.attachments.Attachment.{Attachment}
-use Rattle.ifmap_delta.specs.Flipped.{AreFlipsOf, IsFlipAt}
+use Rattle.ifmap_delta.specs.Flipped.{AreFlipsOf, IsFlipAt, is_one_marked}
 use Rattle.ifmap_folds.specs.Notes.{is_told, told_notes}
 use Rattle.ifmap_delta.specs.Sights.{Sight}
 use Rattle.ifmap_delta.specs.Touched.{planned}
@@ -31,21 +31,23 @@ weight_within w ns i n e =
     (sum_by_more_le w ns i 0 (slice_get_within ns i n e))
 
 -- flips of one change more
-pub flips_more : (old new : Sight) (s : Search) (cs : List ItemChange) (fs : List Flip) (i : ℕ) (c : ItemChange) (r : Option Flip)
-    → i < length cs → c ≡ get_or cs i c → AreFlipsOf old new s (take i cs) fs → IfSome r (IsFlipAt old new s c.item)
-    → ((f : Flip) → IsFlipAt old new s c.item f → r ≡ Some f) → AreFlipsOf old new s (take (i + 1) cs) (fs ++ cons_option r [])
-flips_more old new s cs fs i c r h e are some each =
-    subst (λ l. AreFlipsOf old new s l (fs ++ cons_option r [])) (sym (take_more cs i c h ∙ ap (λ x. take i cs ++ x ∷ []) (sym e)))
+pub flips_more : (old new : Sight) (s : Search) (mark : ℕ → Option ℕ) (cs : List ItemChange) (fs : List Flip) (i : ℕ) (c : ItemChange) (r : Option Flip)
+    → i < length cs → c ≡ get_or cs i c → AreFlipsOf old new s mark (take i cs) fs
+    → IfSome r (IsFlipAt old new s c.item)
+    → ((f : Flip) → IsFlipAt old new s c.item f → is_one_marked mark (Some f.a) (Some f.b) ≡ true → r ≡ Some f)
+    → AreFlipsOf old new s mark (take (i + 1) cs) (fs ++ cons_option r [])
+flips_more old new s mark cs fs i c r h e are some each =
+    subst (λ l. AreFlipsOf old new s mark l (fs ++ cons_option r [])) (sym (take_more cs i c h ∙ ap (λ x. take i cs ++ x ∷ []) (sym e)))
     (record {
       only = λ f k. elim (has_either fs (cons_option r []) f k) [
         | inl p ↦ let o = are.only f p in (o.0, has_left (take i cs) (c ∷ []) o.0 o.1, o.2)
         | inr p ↦ (c, has_right (take i cs) (c ∷ []) c (inl refl), one r f some p)
       ];
-      each = λ d f k at. elim (has_either (take i cs) (c ∷ []) d k) [
-        | inl p ↦ has_left fs (cons_option r []) f (are.each d f p at)
+      each = λ d f k at near. elim (has_either (take i cs) (c ∷ []) d k) [
+        | inl p ↦ has_left fs (cons_option r []) f (are.each d f p at near)
         | inr p ↦ elim p [
           | inl q ↦ has_right fs (cons_option r []) f (subst (λ o. Has (cons_option o []) f)
-              (sym (each f (subst (λ y. IsFlipAt old new s y.item f) (sym q) at))) (inl refl))
+              (sym (each f (subst (λ y. IsFlipAt old new s y.item f) (sym q) at) near)) (inl refl))
           | inr q ↦ absurd q
         ]
       ];

@@ -1,9 +1,9 @@
 -- Which numbers have a link before a change and afterwards, by what is stored for their identifiers, and the flips between.
 -- In order: links by identifiers (`named`, `linked_by`); those before the change by the numbers afterwards; an item whose
--- match changes is a flip (`flipped`), and a flip is of such an item (`flip_of`); the links of the region's words are those of
--- the two views (`old_links`, `mid_links`, `flip_ends`).
+-- match changes, and of which an end has a mark, is a flip (`flipped`), and a flip is of such an item (`flip_of`); from a number
+-- with a mark, the links of the region's words are those of the two views (`old_there`, `mid_there`), and flips are theirs.
 use Rattle.std.proofs.Common.{◌≡◌, ◌⊎◌, inl, inr, ℕ, Bool, true, false, not, Option, Some, None, List, [], ◌∷◌, refl, ap, ◌∙◌}
-use Rattle.std.proofs.Common.{sym, subst}
+use Rattle.std.proofs.Common.{sym, subst, is_some, ◌||◌}
 use Rattle.std.proofs.lemmas.Bool.{cases_Bool}
 use Rattle.std.proofs.lemmas.Option.{none-some, same_Some}
 use Rattle.std.specs.List.{find}
@@ -24,7 +24,7 @@ use Rattle.ifmap_view.specs.Views.{IsView}
 use Rattle.ifmap_fresh.specs.Matching.{is_match, one_meets}
 use Rattle.ifmap_delta.specs.Bounds.{IsFlip, Mid}
 use Rattle.ifmap_delta.specs.Changes.{ShowsAfter}
-use Rattle.ifmap_delta.specs.Flipped.{AreFlipsOf, IsFlipAt}
+use Rattle.ifmap_delta.specs.Flipped.{AreFlipsOf, IsFlipAt, is_one_marked}
 use Rattle.ifmap_delta.specs.Sights.{Links, Sight}
 use Rattle.ifmap_fresh.specs.laws.JoiningLaws.{linked_matches, match_turned, matches_linked, some_there}
 use Rattle.ifmap_folds.specs.laws.RisingLaws.{member_of}
@@ -36,6 +36,14 @@ found_change p (x ∷ xs) c e = elim (cases_Bool (p x)) [
   | inl t ↦ let same : x ≡ c = same_Some x c (rw t at e) in (inl same, subst (λ y. p y ≡ true) same t)
   | inr t ↦ let rest : find p xs ≡ Some c = rw t at e in let f = found_change p xs c rest in (inr f.0, f.1)
 ]
+
+left_or : (p q : Bool) → p ≡ true → (p || q) ≡ true
+left_or true q e = refl
+left_or false q e = let c : false ≡ true = e in cc
+
+right_or : (p q : Bool) → q ≡ true → (p || q) ≡ true
+right_or true q e = refl
+right_or false q e = e
 
 -- numbers with a link have identifiers whose link matches
 module _ (g : Sight) (s : Search) where
@@ -88,15 +96,18 @@ module _ (tells : Tells) (old new : Sight) (s : Search) (was : IsView old.rows o
       let f = found_change (λ d. same_item d.item x) changes c e
       in (f.0, same_item_is tells c.item x (member_of (λ d. IsCanonItem d.item) changes change.canon c f.0).identifiers i.identifiers f.1)
 
-  module _ (flips : List Flip) (are : AreFlipsOf old new s changes flips) where
+  module _ (mark : ℕ → Option ℕ) (flips : List Flip) (are : AreFlipsOf old new s mark changes flips) where
+    abbrev Marked : ℕ → Type 0
+    Marked v = is_some (mark v) ≡ true
+
     match_at : (rows : List Attachment) (a b : Identifier) (x : Item) → pair_of a b ≡ Some x
         → is_match rows s.match_links a b ≡ one_meets s.match_links (stored_on x rows)
     match_at rows a b x e = ap (λ o. one_meets s.match_links (stored_where o rows)) e
 
-    -- an item whose match changes is a flip
-    pub flipped : (v w : ℕ) (a b : Identifier) (added : Bool) → new.id_at v ≡ Some a → new.id_at w ≡ Some b
+    -- an item whose match changes is a flip, where an end has a mark
+    pub flipped : (v w : ℕ) (a b : Identifier) (added : Bool) → Marked v → new.id_at v ≡ Some a → new.id_at w ≡ Some b
         → is_match old.rows s.match_links a b ≡ not added → is_match new.rows s.match_links a b ≡ added → IsFlipped flips added v w
-    flipped v w a b added i j m n = by_pair (pair_of a b) refl
+    flipped v w a b added marked i j m n = by_pair (pair_of a b) refl
       where
         no_pair : (c : Bool) → one_meets s.match_links [] ≡ not c → one_meets s.match_links [] ≡ c → ⊥
         no_pair true e f = some_there s.match_links [] f refl
@@ -110,7 +121,8 @@ module _ (tells : Tells) (old new : Sight) (s : Search) (was : IsView old.rows o
             (i, j, sym (match_at old.rows a b (Pair a b) (e ∙ ap Some q)) ∙ m, sym (match_at new.rows a b (Pair a b) (e ∙ ap Some q)) ∙ n)
             in (
               flip,
-              from_has flips flip (are.each c flip h (subst (λ y. IsFlipAt old new s y flip) (sym (at ∙ q)) here)),
+              from_has flips flip (are.each c flip h (subst (λ y. IsFlipAt old new s y flip) (sym (at ∙ q)) here)
+                  (left_or (is_some (mark v)) (is_some (mark w)) marked)),
               refl,
               inl (refl, refl),
             )
@@ -120,7 +132,8 @@ module _ (tells : Tells) (old new : Sight) (s : Search) (was : IsView old.rows o
             (j, i, sym (match_at old.rows a b (Pair b a) (e ∙ ap Some q)) ∙ m, sym (match_at new.rows a b (Pair b a) (e ∙ ap Some q)) ∙ n)
             in (
               flip,
-              from_has flips flip (are.each c flip h (subst (λ y. IsFlipAt old new s y flip) (sym (at ∙ q)) here)),
+              from_has flips flip (are.each c flip h (subst (λ y. IsFlipAt old new s y flip) (sym (at ∙ q)) here)
+                  (right_or (is_some (mark w)) (is_some (mark v)) marked)),
               refl,
               inr (refl, refl),
             )
@@ -200,31 +213,28 @@ module _ (tells : Tells) (old new : Sight) (s : Search) (was : IsView old.rows o
         in cc
 
     -- a link of the new view that is not added was there
-    pub stayed : (v w : ℕ) → Links new s v w → ¬ IsFlipped flips true v w → Links old s v w
-    stayed v w l apart =
+    pub stayed : (v w : ℕ) → Marked v → Links new s v w → ¬ IsFlipped flips true v w → Links old s v w
+    stayed v w marked l apart =
         let n = named new s v w l
         in elim (cases_Bool (is_match old.rows s.match_links n.0 n.1)) [
           | inl t ↦ linked_before v w n.0 n.1 n.2 n.3 t
-          | inr t ↦ absurd (apart (flipped v w n.0 n.1 true n.2 n.3 t n.4))
+          | inr t ↦ absurd (apart (flipped v w n.0 n.1 true marked n.2 n.3 t n.4))
         ]
 
     -- the region's old links are those of the old view
-    pub old_there : (v w : ℕ) → region.Old (Links new s) flips v w → Links old s v w
-    old_there v w (inl p) = stayed v w p.0 p.1
-    old_there v w (inr f) = removed_linked v w f
+    pub old_there : (v w : ℕ) → Marked v → region.Old (Links new s) flips v w → Links old s v w
+    old_there v w marked (inl p) = stayed v w marked p.0 p.1
+    old_there v w marked (inr f) = removed_linked v w f
 
-    pub there_old : (v w : ℕ) → Links old s v w → region.Old (Links new s) flips v w
-    there_old v w l =
+    pub there_old : (v w : ℕ) → Marked v → Links old s v w → region.Old (Links new s) flips v w
+    there_old v w marked l =
         let n = named_before v w l
         in elim (cases_Bool (is_match new.rows s.match_links n.0 n.1)) [
           | inl t ↦ inl (linked_by new s is v w n.0 n.1 n.2 n.3 t, λ f. added_unlinked v w f l)
-          | inr t ↦ inr (flipped v w n.0 n.1 false n.2 n.3 n.4 t)
+          | inr t ↦ inr (flipped v w n.0 n.1 false marked n.2 n.3 n.4 t)
         ]
 
-    -- and those that stay are the links of both
-    pub mid_there : (v w : ℕ) → region.Mid (Links new s) flips v w → Mid old new s v w
-    mid_there v w p = (stayed v w p.0 p.1, p.0)
-
+    -- and the links of both stay
     pub there_mid : (v w : ℕ) → Mid old new s v w → region.Mid (Links new s) flips v w
     there_mid v w p = (p.1, λ f. added_unlinked v w f p.0)
 

@@ -10,3 +10,4 @@ pub mod Keeping
 pub mod Ties
 pub mod Repairing
 pub mod Showing
+pub mod Staying

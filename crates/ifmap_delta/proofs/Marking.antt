@@ -53,6 +53,27 @@ module _ (g : Sight) (s : Search) (start : ℕ) (keeps : KeepsWalks g.rows g.id_
   steps_at times before after w = within_wider (λ v. length (g.links v)) (IsReached L T start s.max_depth)
       (IsReachedAt g.rows g.id_at s) times before after reached_at w
 
+-- where a walk ends there is a mark that is no greater, where marks are depths
+module _ (L : ℕ → ℕ → Type 0) (T : ℕ → Bool) (start top : ℕ) (mark : ℕ → Option ℕ) (are : AreDepths L T start top mark) where
+  never : (n v k : ℕ) → k ≤ top → n ≤ suc k → mark v ≡ None → (j : ℕ) → j < n → Walk L T start j v → ⊥
+  never zero v k h b e j l x = omega (arith, l)
+  never (suc n) v k h b e j l x =
+      none-some j (sym e ∙ (are v j).1 (record {
+        within = omega (arith, l, b, h);
+        walk = x;
+        least = λ i y. elim (cases_lt i j) [
+          | inl p ↦ absurd (never n v k h (omega (arith, b)) e i (omega (arith, p, l)) y)
+          | inr p ↦ p
+        ];
+      }))
+
+  pub walk_marked : (v k : ℕ) → k ≤ top → Walk L T start k v → (j : ℕ) × (mark v ≡ Some j) × (j ≤ k)
+  walk_marked v k h w = by (mark v) refl
+    where
+      by : (o : Option ℕ) → mark v ≡ o → (j : ℕ) × (mark v ≡ Some j) × (j ≤ k)
+      by None e = absurd (never (suc k) v k h (omega arith) e k (omega arith) w)
+      by (Some j) e = (j, e, ((are v j).0 e).least k w)
+
 -- what the laws of searches say
 abbrev pub LevelsReach : Type 0
 LevelsReach = (rows : List Attachment) (s : Search) (a : Identifier) → IsGraph rows → IsIdentifier s.start → IsIdentifier a
@@ -104,23 +125,7 @@ module _ (reach : LevelsReach) (expand : LevelsExpand) (g : Sight) (s : Search) 
 
   -- and where a walk ends there is a mark, that is no greater
   pub walk_mark : (v k : ℕ) → k ≤ s.max_depth → Walk M E start k v → (j : ℕ) × (mark v ≡ Some j) × (j ≤ k)
-  walk_mark v k h w = by (mark v) refl
-    where
-      never : (n : ℕ) → n ≤ suc k → mark v ≡ None → (j : ℕ) → j < n → Walk M E start j v → ⊥
-      never zero b e j l x = omega (arith, l)
-      never (suc n) b e j l x =
-          none-some j (sym e ∙ (are.depths v j).1 (record {
-            within = omega (arith, l, b, h);
-            walk = x;
-            least = λ i y. elim (cases_lt i j) [
-              | inl p ↦ absurd (never n (omega (arith, b)) e i (omega (arith, p, l)) y)
-              | inr p ↦ p
-            ];
-          }))
-
-      by : (o : Option ℕ) → mark v ≡ o → (j : ℕ) × (mark v ≡ Some j) × (j ≤ k)
-      by None e = absurd (never (suc k) (omega arith) e k (omega arith) w)
-      by (Some j) e = (j, e, ((are.depths v j).0 e).least k w)
+  walk_mark = walk_marked M E start s.max_depth mark are.depths
 
   -- a number with a mark has an identifier
   pub mark_named : (v k : ℕ) → mark v ≡ Some k → (a : Identifier) × (g.id_at v ≡ Some a)

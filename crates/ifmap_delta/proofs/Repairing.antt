@@ -22,12 +22,12 @@ use Rattle.ifmap_delta.proofs.Walking.{moved_near, old_depths, repaired_within, 
 module _ (tells : Tells) (old new : Sight) (s : Search) (was : IsView old.rows old.id_at old.links)
     (is : IsView new.rows new.id_at new.links) (changes : List ItemChange) (change : ShowsAfter old new changes) (start top : ℕ)
     (mark : ℕ → Option ℕ) (before : AreMarks old s start top mark) where
-  module _ (flips : List Flip) (are : AreFlipsOf old new s changes flips) where
+  module _ (flips : List Flip) (are : AreFlipsOf old new s mark changes flips) where
     -- the marks before are what a repair asks for
     region_depths : AreDepths (region.Old (Links new s) flips) (is_terminal_in new s) start top mark
     region_depths =
         subst (λ n. AreDepths (region.Old (Links new s) flips) (is_terminal_in new s) start n mark) (sym before.most)
-        (old_depths tells old new s was is changes change start flips are mark before.depths)
+        (old_depths tells old new s was is changes change start mark before.depths flips are)
 
     pub repaired_marks : (mark' : ℕ → Option ℕ)
         → (AreDepths (region.Old (Links new s) flips) (is_terminal_in new s) start top mark
@@ -44,7 +44,7 @@ module _ (tells : Tells) (old new : Sight) (s : Search) (was : IsView old.rows o
         → IsWithin (λ v. 1 + length (new.links v)) (NearFlips (Links new s) flips (is_terminal_in new s) start top) 5 from to)
         → IsWithin (links_of old new s) (IsNear old new s start) 5 from to
     repaired_steps from to f =
-        repaired_within tells old new s was is changes change start flips are 5 from to
+        repaired_within tells old new s was is changes change start mark before.depths flips are 5 from to
         (subst (λ n. IsWithin (λ v. 1 + length (new.links v)) (NearFlips (Links new s) flips (is_terminal_in new s) start n) 5 from to)
         before.most (f region_depths))
 

@@ -1,9 +1,11 @@
 -- Depths over a view's links are those over the region's words for them, and what the region says is near is near. In order:
--- walks along links that are the same (`depth_over`); the marks before the change (`old_depths`); what is near (`near_there`); a
--- number whose mark changes is touched (`moved_touched`); the steps of looking along what turned (`turned_within`).
+-- walks along links that are the same (`depth_over`), or the same from where walks end (`near_to`); the marks before the change
+-- (`old_depths`); depths over the links that stay, of which the region has more, between the same before and after
+-- (`mid_depth`); what is near (`near_there`); a number whose mark changes is near (`moved_near`); the steps of looking along what
+-- turned (`turned_within`).
 use Rattle.std.proofs.Common.{◌≡◌, ◌≢◌, ◌↔◌, ◌⊎◌, inl, inr, ℕ, zero, suc, ◌+◌, ◌≤◌, Bool, true, false, cond, Option, Some}
-use Rattle.std.proofs.Common.{None, List, [], ◌∷◌, length, sum_by, nat_eq, refl, ap, ◌∙◌, sym, subst, arith}
-use Rattle.std.proofs.lemmas.Bool.{cases_Bool}
+use Rattle.std.proofs.Common.{None, List, [], ◌∷◌, is_some, length, sum_by, nat_eq, refl, ap, ◌∙◌, sym, subst, arith}
+use Rattle.std.proofs.lemmas.Bool.{cases_Bool, cases_lt}
 use Rattle.std.proofs.lemmas.List.Elements.{All-contains_itself, All-weaker}
 use Rattle.std.proofs.lemmas.List.Sums.{sum_by-cons}
 use Rattle.std.specs.List.{Contains, IsDistinct, filter}
@@ -25,7 +27,8 @@ use Rattle.ifmap_delta.specs.Bounds.{IsFlip, IsNear, IsTouched, Mid, links_of}
 use Rattle.ifmap_delta.specs.Changes.{ShowsAfter}
 use Rattle.ifmap_delta.specs.Flipped.{AreFlipsOf}
 use Rattle.ifmap_delta.specs.Sights.{Links, Sight, is_terminal_in}
-use Rattle.ifmap_delta.proofs.Flipping.{added_flip, mid_there, named, old_there, removed_flip, there_mid, there_old}
+use Rattle.ifmap_delta.proofs.Flipping.{added_flip, named, old_there, removed_flip, removed_linked, there_mid, there_old}
+use Rattle.ifmap_delta.proofs.Marking.{walk_marked}
 use Rattle.ifmap_fresh.specs.laws.SameLaws.{Tells}
 
 -- walks along links that go on alike
@@ -56,6 +59,50 @@ module _ (L M : ℕ → ℕ → Type 0) (T U : ℕ → Bool) (start top : ℕ) (
 
   pub depths_over : (mark : ℕ → Option ℕ) → AreDepths L T start top mark → AreDepths M U start top mark
   depths_over mark d v k = (λ e. depth_to v k ((d v k).0 e), λ h. (d v k).1 (depth_from v k h))
+
+-- walks along links that go on alike from where walks of both kinds end
+walk_near : (L M : ℕ → ℕ → Type 0) (T U : ℕ → Bool) (start top : ℕ) (P : ℕ → Type 0)
+    → ((k u : ℕ) → k ≤ top → Walk L T start k u → Walk M U start k u → P u)
+    → ((u v : ℕ) → P u → T u ≡ false → L u v → (U u ≡ false) × M u v)
+    → (k v : ℕ) → k ≤ top → Walk L T start k v → Walk M U start k v
+walk_near L M T U start top P p f zero v h (begins e) = begins e
+walk_near L M T U start top P p f (suc k) v h (goes_on {u = u} w t l) =
+    let n = walk_near L M T U start top P p f k u (omega (arith, h)) w
+    in let o = f u v (p k u (omega (arith, h)) w n) t l
+    in goes_on n o.0 o.1
+
+-- links that are the same from where walks along the first end
+module _ (L M : ℕ → ℕ → Type 0) (T U : ℕ → Bool) (start top : ℕ) (P : ℕ → Type 0)
+    (p : (k u : ℕ) → k ≤ top → Walk L T start k u → P u) (f : (u v : ℕ) → P u → T u ≡ false → L u v → (U u ≡ false) × M u v)
+    (g : (u v : ℕ) → P u → U u ≡ false → M u v → (T u ≡ false) × L u v) where
+  near_to : (k v : ℕ) → k ≤ top → Walk L T start k v → Walk M U start k v
+  near_to = walk_near L M T U start top P (λ k u h w n. p k u h w) f
+
+  near_from : (k v : ℕ) → k ≤ top → Walk M U start k v → Walk L T start k v
+  near_from = walk_near M L U T start top P (λ k u h w n. p k u h n) g
+
+  depth_near : (v k : ℕ) → HasDepth L T start top v k ↔ HasDepth M U start top v k
+  depth_near v k = (
+    λ d. record {
+      within = d.within;
+      walk = near_to k v d.within d.walk;
+      least = λ j w. elim (cases_lt j k) [
+        | inl h ↦ d.least j (near_from j v (omega (arith, h, d.within)) w)
+        | inr h ↦ h
+      ];
+    },
+    λ d. record {
+      within = d.within;
+      walk = near_from k v d.within d.walk;
+      least = λ j w. elim (cases_lt j k) [
+        | inl h ↦ d.least j (near_to j v (omega (arith, h, d.within)) w)
+        | inr h ↦ h
+      ];
+    },
+  )
+
+  depths_near : (mark : ℕ → Option ℕ) → AreDepths L T start top mark → AreDepths M U start top mark
+  depths_near mark d v k = (λ e. (depth_near v k).0 ((d v k).0 e), λ h. (d v k).1 ((depth_near v k).1 h))
 
 -- options that hold the same are the same
 same_option : (a b : Option ℕ) → ((k : ℕ) → (a ≡ Some k) ↔ (b ≡ Some k)) → a ≡ b
@@ -123,7 +170,8 @@ module _ (tells : Tells) (old new : Sight) (s : Search) (was : IsView old.rows o
     depth_before = depth_over (Links old s) (Links old s) T U start s.max_depth (λ u v t l. (terminal_to u v t l, l))
         (λ u v t l. (terminal_from u t, l))
 
-    module _ (flips : List Flip) (are : AreFlipsOf old new s changes flips) where
+    module _ (mark : ℕ → Option ℕ) (before : AreDepths (Links old s) T start s.max_depth mark) (flips : List Flip)
+        (are : AreFlipsOf old new s mark changes flips) where
       abbrev OldLinks : ℕ → ℕ → Type 0
       OldLinks = region.Old (Links new s) flips
 
@@ -131,46 +179,69 @@ module _ (tells : Tells) (old new : Sight) (s : Search) (was : IsView old.rows o
       MidLinks = region.Mid (Links new s) flips
 
       -- the marks before the change are depths over the region's old links
-      pub old_depths : (mark : ℕ → Option ℕ) → AreDepths (Links old s) T start s.max_depth mark
-          → AreDepths OldLinks U start s.max_depth mark
-      old_depths = depths_over (Links old s) OldLinks T U start s.max_depth
-          (λ u v t l. (terminal_to u v t l, there_old tells old new s was is changes change flips are u v l))
-          (λ u v t l. (terminal_from u t, old_there tells old new s was is changes change flips are u v l))
+      pub old_depths : AreDepths OldLinks U start s.max_depth mark
+      old_depths = depths_near (Links old s) OldLinks T U start s.max_depth (λ u. is_some (mark u) ≡ true)
+          (λ k u h w. ap is_some (walk_marked (Links old s) T start s.max_depth mark before u k h w).1)
+          (λ u v m t l. (terminal_to u v t l, there_old tells old new s was is changes change mark flips are u v m l))
+          (λ u v m t l. (terminal_from u t, old_there tells old new s was is changes change mark flips are u v m l)) mark before
 
       old_same : (v k : ℕ) → HasDepth OldLinks U start s.max_depth v k ↔ HasDepth (Links old s) U start s.max_depth v k
-      old_same = depth_over OldLinks (Links old s) U U start s.max_depth
-          (λ u v t l. (t, old_there tells old new s was is changes change flips are u v l))
-          (λ u v t l. (t, there_old tells old new s was is changes change flips are u v l))
+      old_same v k = (
+        λ d. (depth_before v k).0 ((before v k).0 ((old_depths v k).1 d)),
+        λ d. (old_depths v k).0 ((before v k).1 ((depth_before v k).1 d)),
+      )
 
-      mid_same : (v k : ℕ) → HasDepth MidLinks U start s.max_depth v k ↔ HasDepth (Mid old new s) U start s.max_depth v k
-      mid_same = depth_over MidLinks (Mid old new s) U U start s.max_depth
-          (λ u v t l. (t, mid_there tells old new s was is changes change flips are u v l))
-          (λ u v t l. (t, there_mid tells old new s was is changes change flips are u v l))
+      -- the region's links that stay are among the old and the new ones, and have those of both views
+      mid_old : (k v : ℕ) → Walk MidLinks U start k v → Walk OldLinks U start k v
+      mid_old = walk_over MidLinks OldLinks U U start (λ u v t l. (t, inl l))
+
+      mid_new : (k v : ℕ) → Walk MidLinks U start k v → Walk (Links new s) U start k v
+      mid_new = walk_over MidLinks (Links new s) U U start (λ u v t l. (t, l.0))
+
+      both_mid : (k v : ℕ) → Walk (Mid old new s) U start k v → Walk MidLinks U start k v
+      both_mid = walk_over (Mid old new s) MidLinks U U start
+          (λ u v t l. (t, there_mid tells old new s was is changes change mark flips are u v l))
+
+      -- so a depth that is the same before and over the links of both is that over the region's
+      mid_depth : (v : ℕ) → SameDepth (Links old s) (Mid old new s) U start s.max_depth v → (k : ℕ)
+          → HasDepth MidLinks U start s.max_depth v k → HasDepth (Mid old new s) U start s.max_depth v k
+      mid_depth v d k h =
+          let m = walk_marked OldLinks U start s.max_depth mark old_depths v k h.within (mid_old k v h.walk)
+          in let q : HasDepth (Mid old new s) U start s.max_depth v m.0 = (d m.0).0 ((depth_before v m.0).0 ((before v m.0).0 m.1))
+          in let more : k ≤ m.0 = h.least m.0 (both_mid m.0 v q.walk)
+          in let same : m.0 ≡ k = omega (arith, more, m.2)
+          in subst (λ n. HasDepth (Mid old new s) U start s.max_depth v n) same q
 
       first_same : (v : ℕ) → SameDepth (Links old s) (Mid old new s) U start s.max_depth v
           → SameDepth OldLinks MidLinks U start s.max_depth v
       first_same v d k = (
-        λ h. (mid_same v k).1 ((d k).0 ((old_same v k).0 h)),
-        λ h. (old_same v k).1 ((d k).1 ((mid_same v k).0 h)),
+        λ h. let q = (d k).0 ((old_same v k).0 h)
+            in record { within = h.within; walk = both_mid k v q.walk; least = λ j w. h.least j (mid_old j v w) },
+        λ h. (old_same v k).1 ((d k).1 (mid_depth v d k h)),
       )
 
-      second_same : (v : ℕ) → SameDepth (Mid old new s) (Links new s) U start s.max_depth v
-          → SameDepth MidLinks (Links new s) U start s.max_depth v
-      second_same v d k = (λ h. (d k).0 ((mid_same v k).0 h), λ h. (mid_same v k).1 ((d k).1 h))
+      second_same : (v : ℕ) → SameDepth (Links old s) (Mid old new s) U start s.max_depth v
+          → SameDepth (Mid old new s) (Links new s) U start s.max_depth v → SameDepth MidLinks (Links new s) U start s.max_depth v
+      second_same v d e k = (
+        λ h. (e k).0 (mid_depth v d k h),
+        λ h. let q = (e k).1 h
+            in record { within = h.within; walk = both_mid k v q.walk; least = λ j w. h.least j (mid_new j v w) },
+      )
 
       touched_there : (v : ℕ) → region_near.IsTouched (Links new s) flips U start s.max_depth v → IsTouched old new s start v
-      touched_there v t = λ d. t (first_same v d.0, second_same v d.1)
+      touched_there v t = λ d. t (first_same v d.0, second_same v d.0 d.1)
 
       end_there : (v : ℕ) → IsEnd flips true v ⊎ IsEnd flips false v → (w : ℕ) × IsFlip old new s v w
-      end_there v (inl e) = (e.0, added_flip tells old new s was is changes change flips are v e.0 e.1)
-      end_there v (inr e) = (e.0, removed_flip tells old new s was is changes change flips are v e.0 e.1)
+      end_there v (inl e) = (e.0, added_flip tells old new s was is changes change mark flips are v e.0 e.1)
+      end_there v (inr e) = (e.0, removed_flip tells old new s was is changes change mark flips are v e.0 e.1)
 
       -- what is near the flips in the region's words is near
       pub near_there : (v : ℕ) → NearFlips (Links new s) flips U start s.max_depth v → IsNear old new s start v
       near_there v (at_flip e) = at_flip (end_there v e)
       near_there v (touched t) = touched (touched_there v t)
-      near_there v (beside {u = u} t (inl l)) =
-          beside (touched_there u t) (inl (old_there tells old new s was is changes change flips are u v l))
+      near_there v (beside {u = u} t (inl (inl p))) = beside (touched_there u t) (inr p.0)
+      near_there v (beside {u = u} t (inl (inr f))) =
+          beside (touched_there u t) (inl (removed_linked tells old new s was is changes change mark flips are u v f))
       near_there v (beside {u = u} t (inr l)) = beside (touched_there u t) (inr l)
 
       -- the steps of a repair

@@ -1,7 +1,9 @@
 //! What a change of the graph does to a subscription.
-ghost use Rattle.std.specs.Prelude.{IfOk};
+ghost use Rattle.std.specs.Prelude.{◌≡◌, false, IfOk};
+ghost use Rattle.std.specs.List.{list_any};
 ghost use Rattle.ifmap_delta.specs.Bounds.{IsNear, IsWithinBound, links_of};
 ghost use Rattle.ifmap_delta.specs.Changes.{ShowsAfter, IsMoved};
+ghost use Rattle.ifmap_delta.specs.Flipped.{is_near};
 ghost use Rattle.ifmap_delta.specs.Located.{AreLocated};
 ghost use Rattle.ifmap_delta.specs.Sights.{AreMarks, HasMarks, IsKept, sight_of};
 ghost use Rattle.ifmap_region.specs.Bounds.{IsWithin};
@@ -12,12 +14,13 @@ use crate::differing::{differences_on, size_after};
 use crate::flips::flips_of;
 use crate::locating::LocatedPlan;
 use crate::marks::Patched;
+use crate::near::is_any_near;
 use crate::sides::Side;
 use crate::subscriptions::{Moved, Subscription};
 use crate::touched::touched_items;
 use ifmap_elem::Many;
 use ifmap_fresh::LinksOf;
-use ifmap_fresh::laws::links_go_both_ways;
+use ifmap_fresh::laws::{levels_are_walks, links_go_both_ways, numbers_keep_walks};
 use ifmap_ident::laws::bytes_tell_identifiers_apart;
 use ifmap_region::{Patch, repair};
 use ifmap_steps::Steps;
@@ -32,8 +35,9 @@ use std::sync::ledger::Ledger;
 /// The draft shows the graph after the plan, with the same numbers. The only error is want of memory,
 /// also where the new size passes 2^64 - 1. Nothing of the subscription changes.
 ///
-/// It takes at most ten times the links of what is near the links that came and went. A change that
-/// touches nothing near costs a look at the plan's items.
+/// It takes at most ten times the links of what is near the links that came and went. A change none of
+/// whose items has an end that a walk reaches costs a look at the ends of the plan's items, and takes no
+/// memory.
 pub fn change<'a, G: View, D: View, L: Ledger>(
     alloc: Global,
     subscription: &'a Subscription,
@@ -54,6 +58,36 @@ pub fn change<'a, G: View, D: View, L: Ledger>(
         (sight_of D.rows D.id_at D.links draft.now) subscription.now) }
 
     // Also where memory runs out.
+    ensures steps { IsWithinBound (sight_of G.rows G.id_at G.links graph.now)
+        (sight_of D.rows D.id_at D.links draft.now) subscription.now.search
+        subscription.now.region.start steps.old steps.new }
+{
+    if is_any_near(&subscription.region, &located.changes) {
+        move_near(alloc, subscription, graph, draft, located, steps)
+    } else {
+        move_nothing(alloc, subscription, graph, draft, located, steps)
+    }
+}
+
+// What a change does to a subscription.
+fn move_near<'a, G: View, D: View, L: Ledger>(
+    alloc: Global,
+    subscription: &'a Subscription,
+    graph: &'a G,
+    draft: &'a D,
+    located: &LocatedPlan<'_>,
+    steps: &mut Steps<L>,
+) -> Result<Moved, NoMemory>
+    requires graph { IsView (G.rows graph.now) (G.id_at graph.now) (G.links graph.now) }
+    requires draft { IsView (D.rows draft.now) (D.id_at draft.now) (D.links draft.now) }
+    requires kept { IsKept (sight_of G.rows G.id_at G.links graph.now) subscription.now }
+    requires change { ShowsAfter (sight_of G.rows G.id_at G.links graph.now)
+        (sight_of D.rows D.id_at D.links draft.now) located.now.plan.now.changes }
+    requires located { AreLocated (sight_of G.rows G.id_at G.links graph.now)
+        (sight_of D.rows D.id_at D.links draft.now) located.now.plan.now.changes
+        located.now.changes.items }
+    ensures moved { IfOk result (IsMoved (sight_of G.rows G.id_at G.links graph.now)
+        (sight_of D.rows D.id_at D.links draft.now) subscription.now) }
     ensures steps { IsWithinBound (sight_of G.rows G.id_at G.links graph.now)
         (sight_of D.rows D.id_at D.links draft.now) subscription.now.search
         subscription.now.region.start steps.old steps.new }
@@ -90,6 +124,49 @@ pub fn change<'a, G: View, D: View, L: Ledger>(
     })
 }
 
+// What a change does to a subscription of which no item has an end with a mark: nothing. No walk meets
+// what it changes, so the marks are those of the draft already.
+fn move_nothing<'a, G: View, D: View, L: Ledger>(
+    alloc: Global,
+    subscription: &'a Subscription,
+    graph: &'a G,
+    draft: &'a D,
+    located: &LocatedPlan<'_>,
+    steps: &mut Steps<L>,
+) -> Result<Moved, NoMemory>
+    requires graph { IsView (G.rows graph.now) (G.id_at graph.now) (G.links graph.now) }
+    requires draft { IsView (D.rows draft.now) (D.id_at draft.now) (D.links draft.now) }
+    requires kept { IsKept (sight_of G.rows G.id_at G.links graph.now) subscription.now }
+    requires change { ShowsAfter (sight_of G.rows G.id_at G.links graph.now)
+        (sight_of D.rows D.id_at D.links draft.now) located.now.plan.now.changes }
+    requires located { AreLocated (sight_of G.rows G.id_at G.links graph.now)
+        (sight_of D.rows D.id_at D.links draft.now) located.now.plan.now.changes
+        located.now.changes.items }
+    requires far { list_any (is_near (mark_of subscription.now.region.marks.entries))
+        located.now.changes.items ≡ false }
+    ensures moved { IfOk result (IsMoved (sight_of G.rows G.id_at G.links graph.now)
+        (sight_of D.rows D.id_at D.links draft.now) subscription.now) }
+    ensures steps { IsWithinBound (sight_of G.rows G.id_at G.links graph.now)
+        (sight_of D.rows D.id_at D.links draft.now) subscription.now.search
+        subscription.now.region.start steps.old steps.new }
+{
+    bytes_tell_identifiers_apart();
+    links_go_both_ways();
+    levels_are_walks();
+    numbers_keep_walks();
+    let links = LinksOf {
+        view: draft,
+        search: &subscription.search,
+    };
+    let patch = repair(alloc, &subscription.region, &links, &[], steps)?;
+    Ok(Moved {
+        deleted: Many::new(alloc),
+        updated: Many::new(alloc),
+        patch,
+        new_size: subscription.size,
+    })
+}
+
 // The patch that brings a subscription's marks to those of the draft.
 fn patch_for<'a, G: View, D: View, L: Ledger>(
     alloc: Global,
@@ -120,7 +197,13 @@ fn patch_for<'a, G: View, D: View, L: Ledger>(
     links_go_both_ways();
     let search = &subscription.search;
     let plan = located.plan;
-    let flips = flips_of(alloc, search, &plan.changes.0, &located.changes)?;
+    let flips = flips_of(
+        alloc,
+        search,
+        &subscription.region,
+        &plan.changes.0,
+        &located.changes,
+    )?;
     let links = LinksOf {
         view: draft,
         search,

@@ -6,6 +6,7 @@ mod differing;
 mod flips;
 pub mod locating;
 mod marks;
+mod near;
 mod noting;
 mod sides;
 mod subscribing;

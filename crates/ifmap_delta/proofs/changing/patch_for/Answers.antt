@@ -33,15 +33,17 @@ pub repair-requires-clause-added : goal.repair-requires-clause-added
 repair-requires-clause-added g c =
     let old = sight_of g.G.View.rows g.G.View.id_at g.G.View.links c.args.graph.now
     in let new = sight_of g.D.View.rows g.D.View.id_at g.D.View.links c.args.draft.now
+    in let sub = c.args.subscription.now
+    in let mark = mark_of sub.region.marks.entries
     in let at : c.deref.result.now ≡ c.args.located.now.plan.now.changes = search rules
     in let on : c.deref-2.result.now ≡ c.args.located.now.changes.items = search rules
     in let out : c.deref-3.result.now ≡ c.in_ok-flips.flips.items = search rules
     in let are = subst (λ cs. AreLocated old new cs c.deref-2.result.now) (sym at)
     (subst (λ ls. AreLocated old new c.args.located.now.plan.now.changes ls) (sym on) c.requires.located)
-    in let flips = subst (λ l. AreFlipsOf old new c.args.subscription.now.search l c.deref-3.result.now) at
-    (subst (λ l. AreFlipsOf old new c.args.subscription.now.search c.deref.result.now l) (sym out) (c.in_ok-flips.ensures old new are))
-    in added_linked c.bytes_tell_identifiers_apart.ensures old new c.args.subscription.now.search c.requires.graph
-    c.requires.draft c.args.located.now.plan.now.changes c.requires.change c.deref-3.result.now flips
+    in let flips = subst (λ l. AreFlipsOf old new sub.search mark l c.deref-3.result.now) at
+    (subst (λ l. AreFlipsOf old new sub.search mark c.deref.result.now l) (sym out) (c.in_ok-flips.ensures old new are))
+    in added_linked c.bytes_tell_identifiers_apart.ensures old new sub.search c.requires.graph
+    c.requires.draft c.args.located.now.plan.now.changes c.requires.change mark c.deref-3.result.now flips
 
 pub returns-clause-marks : goal.returns-clause-marks
 returns-clause-marks g c =
@@ -54,8 +56,8 @@ returns-clause-marks g c =
     in let out : c.deref-3.result.now ≡ c.in_ok-flips.flips.items = search rules
     in let are = subst (λ cs. AreLocated old new cs c.deref-2.result.now) (sym at)
     (subst (λ ls. AreLocated old new c.args.located.now.plan.now.changes ls) (sym on) c.requires.located)
-    in let flips = subst (λ l. AreFlipsOf old new c.args.subscription.now.search l c.deref-3.result.now) at
-    (subst (λ l. AreFlipsOf old new c.args.subscription.now.search c.deref.result.now l) (sym out) (c.in_ok-flips.ensures old new are))
+    in let flips = subst (λ l. AreFlipsOf old new sub.search mark l c.deref-3.result.now) at
+    (subst (λ l. AreFlipsOf old new sub.search mark c.deref.result.now l) (sym out) (c.in_ok-flips.ensures old new are))
     in IfOk-weaker c.repair.result _ _
     (λ patch d. repaired_marks c.bytes_tell_identifiers_apart.ensures old new sub.search c.requires.graph c.requires.draft
     c.args.located.now.plan.now.changes c.requires.change sub.region.start sub.region.max_depth mark c.requires.marks
@@ -67,13 +69,14 @@ returns-clause-steps g c =
     let old = sight_of g.G.View.rows g.G.View.id_at g.G.View.links c.args.graph.now
     in let new = sight_of g.D.View.rows g.D.View.id_at g.D.View.links c.args.draft.now
     in let sub = c.args.subscription.now
+    in let mark = mark_of sub.region.marks.entries
     in let at : c.deref.result.now ≡ c.args.located.now.plan.now.changes = search rules
     in let on : c.deref-2.result.now ≡ c.args.located.now.changes.items = search rules
     in let out : c.deref-3.result.now ≡ c.in_ok-flips.flips.items = search rules
     in let are = subst (λ cs. AreLocated old new cs c.deref-2.result.now) (sym at)
     (subst (λ ls. AreLocated old new c.args.located.now.plan.now.changes ls) (sym on) c.requires.located)
-    in let flips = subst (λ l. AreFlipsOf old new c.args.subscription.now.search l c.deref-3.result.now) at
-    (subst (λ l. AreFlipsOf old new c.args.subscription.now.search c.deref.result.now l) (sym out) (c.in_ok-flips.ensures old new are))
+    in let flips = subst (λ l. AreFlipsOf old new sub.search mark l c.deref-3.result.now) at
+    (subst (λ l. AreFlipsOf old new sub.search mark c.deref.result.now l) (sym out) (c.in_ok-flips.ensures old new are))
     in repaired_steps c.bytes_tell_identifiers_apart.ensures old new sub.search c.requires.graph c.requires.draft
-    c.args.located.now.plan.now.changes c.requires.change sub.region.start sub.region.max_depth (mark_of sub.region.marks.entries) c.requires.marks
+    c.args.located.now.plan.now.changes c.requires.change sub.region.start sub.region.max_depth mark c.requires.marks
     c.deref-3.result.now flips c.args.steps.now c.repair.new.steps c.repair.ensures.steps
