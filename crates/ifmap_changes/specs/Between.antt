@@ -5,6 +5,7 @@ use Rattle.std.specs.List.Sorted.{IsStrictlySortedBy}
 use Rattle.ifmap_changes.specs.declared.parts.Parts.{Parts}
 use Rattle.ifmap_tellings.specs.declared.tellings.Pending.{Pending}
 use Rattle.ifmap_tellings.specs.Tellings.{AllKept, AloneAreBare, CanTell, EachTelling, HasSameSessions, IsSized, kept_of, told_by}
+use Rattle.ifmap_delta.specs.declared.subscriptions.Subscription.{Subscription}
 use Rattle.ifmap_delta.specs.Sights.{IsKept, Sight}
 use Rattle.ifmap_delta.specs.Ways.{HasSameSearch}
 use Rattle.ifmap_ident.specs.declared.identifiers.Identifier.{Identifier}
@@ -15,6 +16,7 @@ use Rattle.ifmap_machine.specs.Subscribing.{most_names}
 use Rattle.ifmap_machine.specs.Telling.{is_overfull}
 use Rattle.ifmap_plans.specs.Plans.{AreWhole}
 use Rattle.ifmap_pool.specs.Holdings.{key_at, once}
+use Rattle.ifmap_region.specs.Marks.{mark_of}
 use Rattle.ifmap_session.specs.Sessions.{IsLive, Session, Table, without_sessions}
 use Rattle.ifmap_standing.specs.declared.standing.Standing.{Standing}
 use Rattle.ifmap_standing.specs.Kept.{AtEach, KeepsSame, Stands}
@@ -47,6 +49,10 @@ sight_now h = record { rows = rows_now h; id_at = key_at h.names; links = links_
 -- what holds of every view, of the graph
 abbrev pub IsSeen : Held → Type 0
 IsSeen h = IsView (rows_now h) (key_at h.names) (links_now h)
+
+-- each number that a subscription has marked has an identifier
+abbrev pub HasLiveMarks : Held → Subscription → Type 0
+HasLiveMarks h sub = (v d : ℕ) → mark_of sub.region.marks.entries v ≡ Some d → (a : Identifier) × (key_at h.names v ≡ Some a)
 
 -- no queue is greater than its limit, which one error is within
 pub record IsWithin (s : Session) : Type 0 where

@@ -1,7 +1,7 @@
 //! Laws on the parts of the machine: functions that do nothing, whose contracts are the laws.
 ghost use Rattle.std.specs.Prelude.{◌≡◌, ◌≤◌, ℕ, List, Some};
 ghost use Rattle.std.specs.List.{AllByRecursion};
-ghost use Rattle.ifmap_changes.specs.Between.{AreBack, AreParts, IsNumbered, IsSeen, IsSteady, starts_of};
+ghost use Rattle.ifmap_changes.specs.Between.{AreBack, AreParts, HasLiveMarks, IsNumbered, IsSeen, IsSteady, starts_of};
 ghost use Rattle.ifmap_changes.specs.declared.parts.Parts.{Parts};
 ghost use Rattle.ifmap_graph.specs.Held.{Held, IsOwn};
 ghost use Rattle.ifmap_graph.specs.Seen.{BringsNoNumbers, IsStill, rows_now};
@@ -10,6 +10,7 @@ ghost use Rattle.ifmap_plans.specs.Plans.{AreWhole};
 ghost use Rattle.ifmap_pool.specs.Holdings.{key_at};
 ghost use Rattle.ifmap_standing.specs.declared.standing.Standing.{Standing};
 
+use ifmap_fresh::laws::numbers_keep_walks;
 use ifmap_ident::laws::bytes_tell_identifiers_apart;
 use ifmap_standing::laws::{same_links_keep_subscriptions, same_marks_keep_subscriptions};
 
@@ -35,4 +36,13 @@ pub fn what_is_back_is_sound()
 {
     same_links_keep_subscriptions();
     same_marks_keep_subscriptions();
+}
+
+/// Every number that a subscription has marked has an identifier: it is that of the start, which the
+/// subscription holds, or of one that stands in an item with an attachment.
+pub fn marked_numbers_are_live()
+    ensures { (parts : Parts) → IsSeen parts.graph → AreParts parts
+        → AllByRecursion (λ x. HasLiveMarks parts.graph x.subscription) parts.standing.items }
+{
+    numbers_keep_walks();
 }
