@@ -7,6 +7,8 @@ mod makers;
 mod outside;
 #[cfg(test)]
 mod plans;
+pub mod publishes;
+pub mod reading;
 #[cfg(test)]
 mod retractions;
 #[cfg(test)]
