@@ -129,7 +129,8 @@ pub fn tell_alone(
     size: u64,
 ) -> Result<(), NoMemory>
     requires live { IsLive serial sessions.old.live }
-    ensures told { OnOk result ((s : Session) → session_with_serial serial sessions.old.live ≡ Some s
+    ensures told { OnOk result ((s : Session)
+        → session_with_serial serial sessions.old.live ≡ Some s
         → get nat_cmp tellings.new serial ≡ Some (the_telling.Alone
         (the_item.Error None PollResultsTooBig (limit_note size s.limit)))) }
     ensures others { OnOk result ((n : ℕ) → n ≢ serial
