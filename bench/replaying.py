@@ -1,7 +1,10 @@
-"""What the scripts `replay-*` share: frames of requests, and timed runs of `mapd replay`."""
+"""What the scripts `replay-*` share: frames of requests, and timed runs of `mapd replay`.
+
+Times are of the processor, in the program and in the system for it, so that other work beside it counts
+little.
+"""
 import os
 import subprocess
-import time
 
 START = (
     '<n1:Envelope xmlns:n1="http://www.w3.org/2003/05/soap-envelope" '
@@ -38,16 +41,19 @@ def build():
     return subprocess.run([f"{top}/bin/build", "mapd"], check=True, capture_output=True, text=True).stdout.strip()
 
 
-def run(program, path):
-    """The seconds that a replay of a script takes, and the most memory in KiB."""
+def run_words(words, path):
+    """The seconds of the processor that a program takes with a file as its input, and the most memory in KiB."""
     with open(path, "rb") as script, open(os.devnull, "wb") as sink:
-        begun = time.perf_counter()
-        child = subprocess.Popen([program, "replay"], stdin=script, stdout=sink)
+        child = subprocess.Popen(words, stdin=script, stdout=sink)
         _, status, usage = os.wait4(child.pid, 0)
-        took = time.perf_counter() - begun
     if status != 0:
         raise SystemExit(f"status {status}")
-    return took, usage.ru_maxrss
+    return usage.ru_utime + usage.ru_stime, usage.ru_maxrss
+
+
+def run(program, path):
+    """The same of the replay of a script."""
+    return run_words([program, "replay"], path)
 
 
 def seconds(program, path, frames):
