@@ -1,8 +1,11 @@
 //! Requests with two causes to be refused: which one is told.
 use crate::exchanges::{
     BEGIN, Exchange, FIRST_BEGUN, PUBLISHED, SECOND_BEGUN, T, UPDATE_ROLE, expect_exchanges,
+    expect_exchanges_with,
 };
-use crate::refusals::expect_code;
+use crate::refusals::{expect_code, expect_unreadable};
+use crate::scripts::body_of;
+use crate::subscriptions::thousand_updates;
 use std::alloc::Global;
 use std::process::Abort;
 use std::test::Fail;
@@ -57,7 +60,7 @@ fn of_two_defects_the_first_is_told(rt: HostRuntime) -> Result<(), Fail> {
 }
 
 // A defect comes before the session, an expiry before the session's client, that one before what is asked.
-static CAUSES: [Exchange; 10] = [
+static CAUSES: [Exchange; 12] = [
     (T, "c1", BEGIN, FIRST_BEGUN),
     (T, "c2", BEGIN, SECOND_BEGUN),
     (T, "c1", UPDATE_ROLE, PUBLISHED),
@@ -65,6 +68,18 @@ static CAUSES: [Exchange; 10] = [
         T,
         "c2",
         "<n2:search {first} max-size=\"-1\">{m1}</n2:search>",
+        "!Failure",
+    ),
+    (
+        T,
+        "c1",
+        "<n2:search {first} max-size=\"236\" other=\"\">{m1}</n2:search>",
+        "!Failure",
+    ),
+    (
+        T,
+        "c1",
+        "<n2:purgePublisher {first} other=\"\" ifmap-publisher-id=\"c2\"/>",
         "!Failure",
     ),
     (
@@ -108,4 +123,47 @@ static CAUSES: [Exchange; 10] = [
 #[test]
 fn of_two_causes_one_is_told(rt: HostRuntime) -> Result<(), Fail> {
     expect_exchanges(&rt, &CAUSES)
+}
+
+// The same where a thousand names are asked for, and one more.
+static NAMES: [Exchange; 6] = [
+    (T, "c1", BEGIN, FIRST_BEGUN),
+    (T, "c2", BEGIN, SECOND_BEGUN),
+    (
+        T,
+        "c2",
+        "<n2:subscribe {first}>{long}<update name=\"s\">{m1}{m2}</update></n2:subscribe>",
+        "!Failure",
+    ),
+    (
+        T,
+        "c2",
+        "<n2:subscribe session-id=\"3\">{long}<update name=\"s\">{m1}</update></n2:subscribe>",
+        "!InvalidSessionID",
+    ),
+    (
+        T,
+        "c2",
+        "<n2:subscribe {first}>{long}<update name=\"s\">{m1}</update></n2:subscribe>",
+        "!AccessDenied",
+    ),
+    (
+        T,
+        "c1",
+        "<n2:subscribe {first}>{long}<update name=\"s\">{m1}</update></n2:subscribe>",
+        "!SystemError",
+    ),
+];
+
+#[test]
+fn names_are_counted_after_all_else(rt: HostRuntime) -> Result<(), Fail> {
+    let updates = thousand_updates(rt.alloc())?;
+    expect_exchanges_with(&rt, updates.as_str(), &NAMES)
+}
+
+// It is another version's request, and its text is no document.
+#[test]
+fn what_is_no_document_is_of_no_version(rt: HostRuntime) -> Result<(), Fail> {
+    let body = body_of(rt.alloc(), "<newSession a='<'/>")?;
+    expect_unreadable(&rt, body.as_str())
 }

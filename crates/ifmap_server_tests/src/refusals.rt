@@ -20,8 +20,8 @@ pub fn expect_code(rt: &(impl Abort + AllocGlobal), request: &str, code: &str) -
     expect_replay(rt, script.as_str(), 0, refusal_of(alloc, code)?.as_str())
 }
 
-// The body is answered as unreadable.
-fn expect_unreadable(rt: &(impl Abort + AllocGlobal), body: &str) -> Result<(), Fail> {
+/// The body is answered as unreadable.
+pub fn expect_unreadable(rt: &(impl Abort + AllocGlobal), body: &str) -> Result<(), Fail> {
     let script = script_of(rt.alloc(), &[body])?;
     expect_replay(rt, script.as_str(), 0, "unreadable\n")
 }
