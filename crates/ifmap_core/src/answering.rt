@@ -8,19 +8,18 @@ ghost use Rattle.ifmap_core.specs.declared.outcomes.Outcome.TheVariants.{Say};
 ghost use Rattle.ifmap_core.specs.Outcomes.{LeadsTo, end_of_poll};
 ghost use Rattle.ifmap_ident.specs.declared.codes.Code.TheVariants.{SearchResultsTooBig};
 ghost use Rattle.ifmap_ident.specs.Canon.{IsIdentifier};
-ghost use Rattle.ifmap_machine.specs.declared.events.Ask.TheVariants as the_ask;
 ghost use Rattle.ifmap_machine.specs.Step.{author_in, end_session, in_session, lose, poll, publish, purge, refusal_with, renew_session, search, step_ask, subscribe};
 ghost use Rattle.ifmap_machine.specs.Telling.{limit_note};
 ghost use Rattle.ifmap_publish.specs.Apply.{apply};
 ghost use Rattle.ifmap_publish.specs.declared.who.Who.TheVariants.{Publisher};
-ghost use Rattle.ifmap_requests.specs.Fit.{IsFitOp, IsFitRequest, IsFitSubscribeOp};
+ghost use Rattle.ifmap_requests.specs.Fit.{IsFitOp, IsFitSubscribeOp};
 ghost use Rattle.ifmap_session.specs.Sessions.{is_text, session_with_id};
 ghost use Rattle.ifmap_subscribes.specs.Bounds.{AreOpsWithin, IsWithinSpan};
 
-use crate::beginning::new_session;
+use crate::beginning::{NewSession, new_session};
 use crate::outcomes::{Outcome, refuse};
 use crate::owning::{Owner, owner_of};
-use crate::subscribing::subscribe_in;
+use crate::subscribing::{SessionOps, subscribe_in};
 use ifmap_changes::asking::Asking;
 use ifmap_changes::changing::{publish as publish_in, take_away, take_away_one};
 use ifmap_changes::parts::Parts;
@@ -36,6 +35,13 @@ use ifmap_steps::Steps;
 use ifmap_tellings::tellings::Pending;
 use std::alloc::{AllocError as NoMemory, Global};
 use std::sync::ledger::Ledger;
+
+// What is asked in a session.
+#[derive(Drop)]
+struct InSession<'a, T> {
+    id: &'a Text,
+    asked: &'a T,
+}
 
 // The case of each ask.
 pub(crate) fn answer<L: Ledger>(
@@ -58,60 +64,71 @@ pub(crate) fn answer<L: Ledger>(
 {
     match &event.ask {
         Ask::Lost(id) => lose(alloc, parts, pending, asking, id, steps),
-        Ask::Request(request) => {
-            answer_request(alloc, parts, pending, asking, event, request, steps)
+        Ask::Request(Request::NewSession { limit }) => {
+            let wish = NewSession {
+                random: event.random,
+                limit: *limit,
+            };
+            new_session(alloc, parts, pending, asking, wish, steps)
         }
-    }
-}
-
-// The case of each request.
-fn answer_request<L: Ledger>(
-    alloc: Global,
-    parts: &mut Parts,
-    pending: &mut Pending,
-    asking: &Asking,
-    event: &Event,
-    request: &Request,
-    steps: &mut Steps<L>,
-) -> Result<Outcome, NoMemory>
-    requires steady { IsSteady parts.old.graph parts.old.standing.items }
-    requires ready { IsReady asking.now parts.old pending.old }
-    requires client { asking.now.client ≡ event.now.client }
-    requires fit { IsFitRequest request.now }
-    ensures leads { IfOk result (λ outcome. LeadsTo outcome asking.now parts.new pending.new
-        (step_ask (so_far asking.now parts.old pending.old) event.now
-        (the_ask.Request request.now))) }
-    ensures turned { OnOk result (AreTurned parts.old parts.new) }
-    ensures kept { OnErr result (AreKept parts.old parts.new) }
-    ensures steps { IsAskWithin (so_far asking.now parts.old pending.old) event.now
-        (the_ask.Request request.now) steps.old steps.new }
-{
-    match request {
-        Request::NewSession { limit } => new_session(
-            alloc,
-            parts,
-            pending,
-            asking,
-            event.random,
-            *limit,
-            steps,
-        ),
-        Request::RenewSession { session } => renew_session(alloc, parts, pending, asking, session),
-        Request::EndSession { session } => {
-            end_session(alloc, parts, pending, asking, session, steps)
+        Ask::Request(Request::RenewSession { session }) => {
+            renew_session(alloc, parts, pending, asking, session)
         }
-        Request::Publish { session, ops } => {
-            publish(alloc, parts, pending, asking, session, ops, steps)
+        Ask::Request(Request::EndSession { session: id }) => {
+            end_session(alloc, parts, pending, asking, id, steps)
         }
-        Request::Search { session, search } => {
-            self::search(alloc, parts, pending, asking, session, search, steps)
+        Ask::Request(Request::Publish { session: id, ops }) => {
+            publish(
+                alloc,
+                parts,
+                pending,
+                asking,
+                &InSession { id, asked: ops },
+                steps,
+            )
         }
-        Request::Subscribe { session, ops } => {
-            subscribe(alloc, parts, pending, asking, session, ops, steps)
+        Ask::Request(
+            Request::Search {
+                session: id,
+                search: asked,
+            },
+        ) => {
+            search(
+                alloc,
+                parts,
+                pending,
+                asking,
+                &InSession { id, asked },
+                steps,
+            )
         }
-        Request::Poll { session } => { poll(alloc, parts, pending, asking, session, event.again) }
-        Request::PurgePublisher { session, publisher } => {
-            purge(alloc, parts, pending, asking, session, publisher, steps)
+        Ask::Request(Request::Subscribe { session: id, ops }) => {
+            subscribe(
+                alloc,
+                parts,
+                pending,
+                asking,
+                &InSession { id, asked: ops },
+                steps,
+            )
+        }
+        Ask::Request(Request::Poll { session }) => {
+            poll(alloc, parts, pending, asking, session, event.again)
+        }
+        Ask::Request(
+            Request::PurgePublisher {
+                session: id,
+                publisher: asked,
+            },
+        ) => {
+            purge(
+                alloc,
+                parts,
+                pending,
+                asking,
+                &InSession { id, asked },
+                steps,
+            )
         }
     }
 }
@@ -207,27 +224,26 @@ fn publish<L: Ledger>(
     parts: &mut Parts,
     pending: &mut Pending,
     asking: &Asking,
-    id: &Text,
-    ops: &Many<PublishOp>,
+    wish: &InSession<'_, Many<PublishOp>>,
     steps: &mut Steps<L>,
 ) -> Result<Outcome, NoMemory>
     requires steady { IsSteady parts.old.graph parts.old.standing.items }
     requires ready { IsReady asking.now parts.old pending.old }
-    requires fit { AllByRecursion IsFitOp ops.now }
+    requires fit { AllByRecursion IsFitOp wish.now.asked.now }
     ensures leads { IfOk result (λ outcome. LeadsTo outcome asking.now parts.new pending.new
         (in_session (so_far asking.now parts.old pending.old) asking.now.client
-        (session_with_id id.now (so_far asking.now parts.old pending.old).sessions)
-        (publish (so_far asking.now parts.old pending.old) ops.now))) }
+        (session_with_id wish.now.id.now (so_far asking.now parts.old pending.old).sessions)
+        (publish (so_far asking.now parts.old pending.old) wish.now.asked.now))) }
     ensures turned { OnOk result (AreTurned parts.old parts.new) }
     ensures kept { OnErr result (AreKept parts.old parts.new) }
     ensures steps { let before = so_far asking.now parts.old pending.old in
-        IsWithinOwn asking.now.client (session_with_id id.now before.sessions)
-        (λ s. IsToldWithin (apply before.graph (author_in before s) ops.now) before) steps.old
-        steps.new }
+        IsWithinOwn asking.now.client (session_with_id wish.now.id.now before.sessions)
+        (λ s. IsToldWithin (apply before.graph (author_in before s) wish.now.asked.now) before)
+        steps.old steps.new }
 {
-    match owner_of(&parts.sessions, asking, id) {
+    match owner_of(&parts.sessions, asking, wish.id) {
         Owner::Own(serial) => {
-            publish_in(alloc, parts, pending, asking, serial, ops, steps)?;
+            publish_in(alloc, parts, pending, asking, serial, wish.asked, steps)?;
             let answer = Answer::Reply(Reply::Published);
             Ok(Outcome::Accept { serial, answer })
         }
@@ -241,26 +257,25 @@ fn purge<L: Ledger>(
     parts: &mut Parts,
     pending: &mut Pending,
     asking: &Asking,
-    id: &Text,
-    publisher: &Text,
+    wish: &InSession<'_, Text>,
     steps: &mut Steps<L>,
 ) -> Result<Outcome, NoMemory>
     requires steady { IsSteady parts.old.graph parts.old.standing.items }
     requires ready { IsReady asking.now parts.old pending.old }
     ensures leads { IfOk result (λ outcome. LeadsTo outcome asking.now parts.new pending.new
         (in_session (so_far asking.now parts.old pending.old) asking.now.client
-        (session_with_id id.now (so_far asking.now parts.old pending.old).sessions)
-        (purge (so_far asking.now parts.old pending.old) publisher.now))) }
+        (session_with_id wish.now.id.now (so_far asking.now parts.old pending.old).sessions)
+        (purge (so_far asking.now parts.old pending.old) wish.now.asked.now))) }
     ensures turned { OnOk result (AreTurned parts.old parts.new) }
     ensures kept { OnErr result (AreKept parts.old parts.new) }
     ensures steps { let before = so_far asking.now parts.old pending.old in
-        IsWithinOwn asking.now.client (session_with_id id.now before.sessions)
-        (λ s. IsWithinIf (is_text publisher.now s.client)
-        (IsTakenWithin (Publisher publisher.now) before)) steps.old steps.new }
+        IsWithinOwn asking.now.client (session_with_id wish.now.id.now before.sessions)
+        (λ s. IsWithinIf (is_text wish.now.asked.now s.client)
+        (IsTakenWithin (Publisher wish.now.asked.now) before)) steps.old steps.new }
 {
-    match owner_of(&parts.sessions, asking, id) {
+    match owner_of(&parts.sessions, asking, wish.id) {
         Owner::Own(serial) => {
-            if !publisher.equals(asking.client.text()) {
+            if !wish.asked.equals(asking.client.text()) {
                 return refuse(alloc, Code::AccessDenied);
             }
             let who = Who::Publisher(asking.client.copy(alloc)?);
@@ -278,29 +293,28 @@ fn search<L: Ledger>(
     parts: &Parts,
     pending: &Pending,
     asking: &Asking,
-    id: &Text,
-    asked: &Search,
+    wish: &InSession<'_, Search>,
     steps: &mut Steps<L>,
 ) -> Result<Outcome, NoMemory>
     requires steady { IsSteady parts.now.graph parts.now.standing.items }
     requires ready { IsReady asking.now parts.now pending.now }
-    requires start { IsIdentifier asked.now.start }
+    requires start { IsIdentifier wish.now.asked.now.start }
     ensures leads { IfOk result (λ outcome. LeadsTo outcome asking.now parts.now pending.now
         (in_session (so_far asking.now parts.now pending.now) asking.now.client
-        (session_with_id id.now (so_far asking.now parts.now pending.now).sessions)
-        (search (so_far asking.now parts.now pending.now) asked.now))) }
+        (session_with_id wish.now.id.now (so_far asking.now parts.now pending.now).sessions)
+        (search (so_far asking.now parts.now pending.now) wish.now.asked.now))) }
     ensures steps { let before = so_far asking.now parts.now pending.now in
-        IsWithinOwn asking.now.client (session_with_id id.now before.sessions)
-        (λ s. IsWithinSpan 3 before.graph asked.now) steps.old steps.new }
+        IsWithinOwn asking.now.client (session_with_id wish.now.id.now before.sessions)
+        (λ s. IsWithinSpan 3 before.graph wish.now.asked.now) steps.old steps.new }
 {
     parts.graph.is_view();
-    match owner_of(&parts.sessions, asking, id) {
-        Owner::Own(serial) => match fresh(alloc, &parts.graph, asked, steps) {
+    match owner_of(&parts.sessions, asking, wish.id) {
+        Owner::Own(serial) => match fresh(alloc, &parts.graph, wish.asked, steps) {
             Ok(found) => Ok(Outcome::Accept {
                 serial,
                 answer: Answer::Reply(Reply::Found(found.entries)),
             }),
-            Err(SearchError::TooBig { size }) => refuse_size(alloc, size, asked.max_size),
+            Err(SearchError::TooBig { size }) => refuse_size(alloc, size, wish.asked.max_size),
             Err(SearchError::NoMemory) => Err(NoMemory),
         },
         Owner::Another => refuse(alloc, Code::AccessDenied),
@@ -313,25 +327,30 @@ fn subscribe<L: Ledger>(
     parts: &mut Parts,
     pending: &mut Pending,
     asking: &Asking,
-    id: &Text,
-    ops: &Many<SubscribeOp>,
+    wish: &InSession<'_, Many<SubscribeOp>>,
     steps: &mut Steps<L>,
 ) -> Result<Outcome, NoMemory>
     requires steady { IsSteady parts.old.graph parts.old.standing.items }
     requires ready { IsReady asking.now parts.old pending.old }
-    requires fit { AllByRecursion IsFitSubscribeOp ops.now }
+    requires fit { AllByRecursion IsFitSubscribeOp wish.now.asked.now }
     ensures leads { IfOk result (λ outcome. LeadsTo outcome asking.now parts.new pending.new
         (in_session (so_far asking.now parts.old pending.old) asking.now.client
-        (session_with_id id.now (so_far asking.now parts.old pending.old).sessions)
-        (subscribe (so_far asking.now parts.old pending.old) ops.now))) }
+        (session_with_id wish.now.id.now (so_far asking.now parts.old pending.old).sessions)
+        (subscribe (so_far asking.now parts.old pending.old) wish.now.asked.now))) }
     ensures turned { OnOk result (AreTurned parts.old parts.new) }
     ensures kept { OnErr result (AreKept parts.old parts.new) }
     ensures steps { let before = so_far asking.now parts.old pending.old in
-        IsWithinOwn asking.now.client (session_with_id id.now before.sessions)
-        (λ s. AreOpsWithin before.graph ops.now) steps.old steps.new }
+        IsWithinOwn asking.now.client (session_with_id wish.now.id.now before.sessions)
+        (λ s. AreOpsWithin before.graph wish.now.asked.now) steps.old steps.new }
 {
-    match owner_of(&parts.sessions, asking, id) {
-        Owner::Own(serial) => subscribe_in(alloc, parts, pending, asking, serial, ops, steps),
+    match owner_of(&parts.sessions, asking, wish.id) {
+        Owner::Own(serial) => {
+            let ops = SessionOps {
+                serial,
+                ops: wish.asked,
+            };
+            subscribe_in(alloc, parts, pending, asking, &ops, steps)
+        }
         Owner::Another => refuse(alloc, Code::AccessDenied),
         Owner::Nobody => refuse(alloc, Code::InvalidSessionID),
     }

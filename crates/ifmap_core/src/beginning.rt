@@ -22,20 +22,27 @@ use ifmap_tellings::tellings::Pending;
 use std::alloc::{AllocError as NoMemory, Global};
 use std::sync::ledger::Ledger;
 
+// What a session is to begin with: the random word of its id, and the limit that is asked for.
+#[derive(Clone, Copy)]
+pub(crate) struct NewSession {
+    pub(crate) random: u128,
+    pub(crate) limit: Option<u32>,
+}
+
 // A session in place of the one that the client has, where it can have one.
 pub(crate) fn new_session<L: Ledger>(
     alloc: Global,
     parts: &mut Parts,
     pending: &mut Pending,
     asking: &Asking,
-    random: u128,
-    limit: Option<u32>,
+    wish: NewSession,
     steps: &mut Steps<L>,
 ) -> Result<Outcome, NoMemory>
     requires steady { IsSteady parts.old.graph parts.old.standing.items }
     requires ready { IsReady asking.now parts.old pending.old }
     ensures leads { IfOk result (λ outcome. LeadsTo outcome asking.now parts.new pending.new
-        (new_session (so_far asking.now parts.old pending.old) asking.now.client random limit)) }
+        (new_session (so_far asking.now parts.old pending.old) asking.now.client wish.random
+        wish.limit)) }
     ensures turned { OnOk result (AreTurned parts.old parts.new) }
     ensures kept { OnErr result (AreKept parts.old parts.new) }
     ensures steps { IsBegunWithin (so_far asking.now parts.old pending.old) asking.now.client
@@ -44,7 +51,7 @@ pub(crate) fn new_session<L: Ledger>(
     if is_full(&parts.sessions, asking) {
         return refuse(alloc, Code::SystemError);
     }
-    begin(alloc, parts, pending, asking, random, limit, steps)
+    begin(alloc, parts, pending, asking, wish, steps)
 }
 
 // Whether the client can be given no session.
@@ -94,8 +101,7 @@ fn begin<L: Ledger>(
     parts: &mut Parts,
     pending: &mut Pending,
     asking: &Asking,
-    random: u128,
-    limit: Option<u32>,
+    wish: NewSession,
     steps: &mut Steps<L>,
 ) -> Result<Outcome, NoMemory>
     requires steady { IsSteady parts.old.graph parts.old.standing.items }
@@ -103,7 +109,8 @@ fn begin<L: Ledger>(
     requires free { is_full (so_far asking.now parts.old pending.old) asking.now.client ≡ false }
     requires next { parts.old.sessions.counter < 2 ^ 64 - 1 }
     ensures leads { IfOk result (λ outcome. LeadsTo outcome asking.now parts.new pending.new
-        (new_session (so_far asking.now parts.old pending.old) asking.now.client random limit)) }
+        (new_session (so_far asking.now parts.old pending.old) asking.now.client wish.random
+        wish.limit)) }
     ensures turned { OnOk result (AreTurned parts.old parts.new) }
     ensures kept { OnErr result (AreKept parts.old parts.new) }
     ensures steps { let before = so_far asking.now parts.old pending.old in
@@ -111,14 +118,14 @@ fn begin<L: Ledger>(
         (session_of_client asking.now.client before.sessions)) before steps.old steps.new }
 {
     let former = former_of(&parts.sessions, asking);
-    let opening = parts.sessions.prepare(alloc, asking.client, random)?;
+    let opening = parts.sessions.prepare(alloc, asking.client, wish.random)?;
     parts.sessions.is_table();
     let publisher = asking.client.text().copy(alloc)?;
     take_away_former(alloc, parts, pending, asking, former, steps)?;
     Ok(Outcome::Open {
         former,
         opening,
-        limit: limit_of(limit),
+        limit: limit_of(wish.limit),
         publisher,
     })
 }

@@ -148,9 +148,15 @@ impl Core {
     pub fn identifiers(&self) -> u64
         ensures { AreSoMany result (IsInUse self.now) }
     {
+        // The pattern names every field: a core keeps nothing beside its parts.
+        let Core {
+            ttl: _,
+            moment: _,
+            parts,
+        } = self;
         bytes_tell_identifiers_apart();
-        self.parts.graph.is_view();
-        self.parts.graph.identifiers()
+        parts.graph.is_view();
+        parts.graph.identifiers()
     }
 
     /// Whether a poll that is asked again would still be held, so that asking it changes nothing but

@@ -32,36 +32,42 @@ use ifmap_tellings::tellings::{Pending, count_told, tell_alone};
 use std::alloc::{AllocError as NoMemory, Global};
 use std::sync::ledger::Ledger;
 
+// The operations of a subscribe, and the serial of the session in which they are asked.
+#[derive(Drop)]
+pub(crate) struct SessionOps<'a> {
+    pub(crate) serial: u64,
+    pub(crate) ops: &'a Many<SubscribeOp>,
+}
+
 // What a subscribe makes of a session of the client's.
 pub(crate) fn subscribe_in<L: Ledger>(
     alloc: Global,
     parts: &mut Parts,
     pending: &mut Pending,
     asking: &Asking,
-    serial: u64,
-    ops: &Many<SubscribeOp>,
+    ops: &SessionOps<'_>,
     steps: &mut Steps<L>,
 ) -> Result<Outcome, NoMemory>
     requires steady { IsSteady parts.old.graph parts.old.standing.items }
     requires ready { IsReady asking.now parts.old pending.old }
-    requires live { IsLive serial (left asking.now parts.old.sessions) }
-    requires fit { AllByRecursion IsFitSubscribeOp ops.now }
+    requires live { IsLive ops.now.serial (left asking.now parts.old.sessions) }
+    requires fit { AllByRecursion IsFitSubscribeOp ops.now.ops.now }
     ensures leads { let before = so_far asking.now parts.old pending.old in (s : Session)
-        → session_with_serial serial before.sessions ≡ Some s
+        → session_with_serial ops.now.serial before.sessions ≡ Some s
         → IfOk result (λ outcome. LeadsTo outcome asking.now parts.new pending.new
-        (answer_subscribed before s (subscribe_ops before.graph serial ops.now
+        (answer_subscribed before s (subscribe_ops before.graph ops.now.serial ops.now.ops.now
         (record { queue = s.queue; standing = before.standing })))) }
     ensures turned { OnOk result (AreTurned parts.old parts.new) }
     ensures kept { OnErr result (AreKept parts.old parts.new) }
-    ensures steps { AreOpsWithin (rows_now parts.old.graph) ops.now steps.old steps.new }
+    ensures steps { AreOpsWithin (rows_now parts.old.graph) ops.now.ops.now steps.old steps.new }
 {
     let scene = Scene {
         pending: &*pending,
         asking: &*asking,
-        serial,
+        serial: ops.serial,
     };
-    match ready_ops(alloc, parts, &scene, ops, steps) {
-        Ok(readying) => accept_ops(alloc, parts, pending, asking, serial, readying),
+    match ready_ops(alloc, parts, &scene, ops.ops, steps) {
+        Ok(readying) => accept_ops(alloc, parts, pending, asking, ops.serial, readying),
         Err(SubscribeError::TooMany) => refuse(alloc, Code::SystemError),
         Err(SubscribeError::NoMemory) => Err(NoMemory),
     }

@@ -22,12 +22,12 @@ returns-in_ok-take_away-in-Own-clause-leads g c =
     let parts = c.args.parts.now in
     let pending = c.args.pending.now in
     let serial = c.in-Own.serial in
-    let o = owner_so_far a parts pending c.args.id.now a.client (Own serial) c.in-Own.ensures in
-    let live = own_left (left a parts.sessions) c.args.id.now a.client serial c.in-Own.ensures in
+    let o = owner_so_far a parts pending c.args.wish.now.id.now a.client (Own serial) c.in-Own.ensures in
+    let live = own_left (left a parts.sessions) c.args.wish.now.id.now a.client serial c.in-Own.ensures in
     let e = c.in_ok-take_away-in-Own.ensures in
     accepts a c.take_away.new.parts c.take_away.new.pending e.steady e.ready serial (the_answer.Reply the_reply.Purged) _
     (live_after a serial parts.sessions c.take_away.new.parts.sessions e.turned.sessions live)
-    (purges (so_far a parts pending) c.args.id.now a.client serial o c.args.publisher.now
+    (purges (so_far a parts pending) c.args.wish.now.id.now a.client serial o c.args.wish.now.asked.now
     (so_far a c.take_away.new.parts c.take_away.new.pending)
     (c.equals.ensures.0 c.if-not-equals.false ∙ c.text.ensures.text ∙ ap (λ (x : Asking). x.client) c.asking.view_is)
     (e.told ∙ ap (λ (t : List ℕ). overflow (tell (retract (Publisher t) (rows_now parts.graph)) [] (so_far a parts pending)))
@@ -39,24 +39,24 @@ returns-then-not-equals-clause-leads g c =
     let parts = c.args.parts.now in
     let pending = c.args.pending.now in
     let serial = c.in-Own.serial in
-    let o = owner_so_far a parts pending c.args.id.now a.client (Own serial) c.in-Own.ensures in
-    let live = own_left (left a parts.sessions) c.args.id.now a.client serial c.in-Own.ensures in
+    let o = owner_so_far a parts pending c.args.wish.now.id.now a.client (Own serial) c.in-Own.ensures in
+    let live = own_left (left a parts.sessions) c.args.wish.now.id.now a.client serial c.in-Own.ensures in
     says a parts pending c.requires.steady c.requires.ready (refusal AccessDenied) _
-    (purges_not (so_far a parts pending) c.args.id.now a.client serial o c.args.publisher.now
+    (purges_not (so_far a parts pending) c.args.wish.now.id.now a.client serial o c.args.wish.now.asked.now
     (λ own. let bad : true ≡ false = sym (c.equals.ensures.1 (own ∙ sym (c.text.ensures.text
     ∙ ap (λ (x : Asking). x.client) c.asking.view_is)))
     ∙ c.if-not-equals.true in cc)) c.refuse.result c.refuse.ensures
 
 pub returns-in-Another-clause-leads : goal.returns-in-Another-clause-leads
 returns-in-Another-clause-leads g c =
-    another c.args.asking.now c.args.parts.now c.args.pending.now c.requires.steady c.requires.ready c.args.id.now
-    (purge (so_far c.args.asking.now c.args.parts.now c.args.pending.now) c.args.publisher.now) c.in-Another.ensures
+    another c.args.asking.now c.args.parts.now c.args.pending.now c.requires.steady c.requires.ready c.args.wish.now.id.now
+    (purge (so_far c.args.asking.now c.args.parts.now c.args.pending.now) c.args.wish.now.asked.now) c.in-Another.ensures
     c.refuse-in-Another.result c.refuse-in-Another.ensures
 
 pub returns-in-Nobody-clause-leads : goal.returns-in-Nobody-clause-leads
 returns-in-Nobody-clause-leads g c =
-    nobody c.args.asking.now c.args.parts.now c.args.pending.now c.requires.steady c.requires.ready c.args.id.now
-    (purge (so_far c.args.asking.now c.args.parts.now c.args.pending.now) c.args.publisher.now) c.in-Nobody.ensures
+    nobody c.args.asking.now c.args.parts.now c.args.pending.now c.requires.steady c.requires.ready c.args.wish.now.id.now
+    (purge (so_far c.args.asking.now c.args.parts.now c.args.pending.now) c.args.wish.now.asked.now) c.in-Nobody.ensures
     c.refuse-in-Nobody.result
     c.refuse-in-Nobody.ensures
 
@@ -66,9 +66,10 @@ returns-in_ok-take_away-in-Own-clause-steps g c =
     let parts = c.args.parts.now in
     let pending = c.args.pending.now in
     let serial = c.in-Own.serial in
-    let o = owner_so_far a parts pending c.args.id.now a.client (Own serial) c.in-Own.ensures in
+    let o = owner_so_far a parts pending c.args.wish.now.id.now a.client (Own serial) c.in-Own.ensures in
     let client = ap (λ (x : Asking). x.client) c.asking.view_is in
-    purges_within (so_far a parts pending) c.args.id.now a.client serial o c.args.steps.now c.take_away.new.steps c.args.publisher.now
+    purges_within (so_far a parts pending) c.args.wish.now.id.now a.client serial o c.args.steps.now c.take_away.new.steps
+    c.args.wish.now.asked.now
     (c.equals.ensures.0 c.if-not-equals.false ∙ c.text.ensures.text ∙ client)
     (subst (λ (t : List ℕ). IsTakenWithin (Publisher t) (so_far a parts pending) c.args.steps.now c.take_away.new.steps)
     (c.in_ok-copy-in-Own.ensures ∙ client) c.take_away.ensures.steps)
@@ -79,9 +80,10 @@ returns-in_err-take_away-in-Own-clause-steps g c =
     let parts = c.args.parts.now in
     let pending = c.args.pending.now in
     let serial = c.in-Own.serial in
-    let o = owner_so_far a parts pending c.args.id.now a.client (Own serial) c.in-Own.ensures in
+    let o = owner_so_far a parts pending c.args.wish.now.id.now a.client (Own serial) c.in-Own.ensures in
     let client = ap (λ (x : Asking). x.client) c.asking.view_is in
-    purges_within (so_far a parts pending) c.args.id.now a.client serial o c.args.steps.now c.take_away.new.steps c.args.publisher.now
+    purges_within (so_far a parts pending) c.args.wish.now.id.now a.client serial o c.args.steps.now c.take_away.new.steps
+    c.args.wish.now.asked.now
     (c.equals.ensures.0 c.if-not-equals.false ∙ c.text.ensures.text ∙ client)
     (subst (λ (t : List ℕ). IsTakenWithin (Publisher t) (so_far a parts pending) c.args.steps.now c.take_away.new.steps)
     (c.in_ok-copy-in-Own.ensures ∙ client) c.take_away.ensures.steps)
@@ -89,19 +91,23 @@ returns-in_err-take_away-in-Own-clause-steps g c =
 pub returns-in_err-copy-in-Own-clause-steps : goal.returns-in_err-copy-in-Own-clause-steps
 returns-in_err-copy-in-Own-clause-steps g c =
     let state = so_far c.args.asking.now c.args.parts.now c.args.pending.now in
-    purges_none state c.args.asking.now.client (session_with_id c.args.id.now state.sessions) c.args.steps.now c.args.publisher.now
+    purges_none state c.args.asking.now.client (session_with_id c.args.wish.now.id.now state.sessions) c.args.steps.now
+    c.args.wish.now.asked.now
 
 pub returns-then-not-equals-clause-steps : goal.returns-then-not-equals-clause-steps
 returns-then-not-equals-clause-steps g c =
     let state = so_far c.args.asking.now c.args.parts.now c.args.pending.now in
-    purges_none state c.args.asking.now.client (session_with_id c.args.id.now state.sessions) c.args.steps.now c.args.publisher.now
+    purges_none state c.args.asking.now.client (session_with_id c.args.wish.now.id.now state.sessions) c.args.steps.now
+    c.args.wish.now.asked.now
 
 pub returns-in-Another-clause-steps : goal.returns-in-Another-clause-steps
 returns-in-Another-clause-steps g c =
     let state = so_far c.args.asking.now c.args.parts.now c.args.pending.now in
-    purges_none state c.args.asking.now.client (session_with_id c.args.id.now state.sessions) c.args.steps.now c.args.publisher.now
+    purges_none state c.args.asking.now.client (session_with_id c.args.wish.now.id.now state.sessions) c.args.steps.now
+    c.args.wish.now.asked.now
 
 pub returns-in-Nobody-clause-steps : goal.returns-in-Nobody-clause-steps
 returns-in-Nobody-clause-steps g c =
     let state = so_far c.args.asking.now c.args.parts.now c.args.pending.now in
-    purges_none state c.args.asking.now.client (session_with_id c.args.id.now state.sessions) c.args.steps.now c.args.publisher.now
+    purges_none state c.args.asking.now.client (session_with_id c.args.wish.now.id.now state.sessions) c.args.steps.now
+    c.args.wish.now.asked.now

@@ -17,10 +17,11 @@ returns-in-Ok-clause-leads g c =
     let parts = c.args.parts.now in
     let pending = c.args.pending.now in
     let serial = c.in-Own.serial in
-    let o = owner_so_far a parts pending c.args.id.now a.client (Own serial) c.in-Own.ensures in
-    let live = own_left (left a parts.sessions) c.args.id.now a.client serial c.in-Own.ensures in
+    let o = owner_so_far a parts pending c.args.wish.now.id.now a.client (Own serial) c.in-Own.ensures in
+    let live = own_left (left a parts.sessions) c.args.wish.now.id.now a.client serial c.in-Own.ensures in
     accepts a parts pending c.requires.steady c.requires.ready serial (the_answer.Reply (the_reply.Found c.in-Ok.found.entries)) _ live
-    (finds (so_far a parts pending) c.args.id.now a.client serial o c.args.asked.now c.in-Ok.found.entries c.in-Ok.ensures.answer.0
+    (finds (so_far a parts pending) c.args.wish.now.id.now a.client serial o c.args.wish.now.asked.now c.in-Ok.found.entries
+    c.in-Ok.ensures.answer.0
     c.in-Ok.ensures.answer.2)
 
 pub returns-in-Err-TooBig-clause-leads : goal.returns-in-Err-TooBig-clause-leads
@@ -29,25 +30,27 @@ returns-in-Err-TooBig-clause-leads g c =
     let parts = c.args.parts.now in
     let pending = c.args.pending.now in
     let serial = c.in-Own.serial in
-    let o = owner_so_far a parts pending c.args.id.now a.client (Own serial) c.in-Own.ensures in
-    let much : (c.in-Err-TooBig.size ≡ fresh_size (rows_now parts.graph) c.args.asked.now)
-    × (c.args.asked.now.max_size < fresh_size (rows_now parts.graph) c.args.asked.now) =
+    let o = owner_so_far a parts pending c.args.wish.now.id.now a.client (Own serial) c.in-Own.ensures in
+    let much : (c.in-Err-TooBig.size ≡ fresh_size (rows_now parts.graph) c.args.wish.now.asked.now)
+    × (c.args.wish.now.asked.now.max_size < fresh_size (rows_now parts.graph) c.args.wish.now.asked.now) =
     rw c.in-Err-TooBig.field-0-is at c.in-Err-TooBig.ensures.answer in
     says a parts pending c.requires.steady c.requires.ready _ _
-    (finds_not (so_far a parts pending) c.args.id.now a.client serial o c.args.asked.now c.in-Err-TooBig.size much.0 much.1)
+    (finds_not (so_far a parts pending) c.args.wish.now.id.now a.client serial o c.args.wish.now.asked.now c.in-Err-TooBig.size much.0
+    much.1)
     c.refuse_size.result
     c.refuse_size.ensures
 
 pub returns-in-Another-clause-leads : goal.returns-in-Another-clause-leads
 returns-in-Another-clause-leads g c =
-    another c.args.asking.now c.args.parts.now c.args.pending.now c.requires.steady c.requires.ready c.args.id.now
-    (search (so_far c.args.asking.now c.args.parts.now c.args.pending.now) c.args.asked.now) c.in-Another.ensures c.refuse.result
+    another c.args.asking.now c.args.parts.now c.args.pending.now c.requires.steady c.requires.ready c.args.wish.now.id.now
+    (search (so_far c.args.asking.now c.args.parts.now c.args.pending.now) c.args.wish.now.asked.now) c.in-Another.ensures c.refuse.result
     c.refuse.ensures
 
 pub returns-in-Nobody-clause-leads : goal.returns-in-Nobody-clause-leads
 returns-in-Nobody-clause-leads g c =
-    nobody c.args.asking.now c.args.parts.now c.args.pending.now c.requires.steady c.requires.ready c.args.id.now
-    (search (so_far c.args.asking.now c.args.parts.now c.args.pending.now) c.args.asked.now) c.in-Nobody.ensures c.refuse-in-Nobody.result
+    nobody c.args.asking.now c.args.parts.now c.args.pending.now c.requires.steady c.requires.ready c.args.wish.now.id.now
+    (search (so_far c.args.asking.now c.args.parts.now c.args.pending.now) c.args.wish.now.asked.now) c.in-Nobody.ensures
+    c.refuse-in-Nobody.result
     c.refuse-in-Nobody.ensures
 
 pub returns-in-Ok-clause-steps : goal.returns-in-Ok-clause-steps
@@ -56,8 +59,9 @@ returns-in-Ok-clause-steps g c =
     let parts = c.args.parts.now in
     let pending = c.args.pending.now in
     let serial = c.in-Own.serial in
-    let o = owner_so_far a parts pending c.args.id.now a.client (Own serial) c.in-Own.ensures in
-    finds_within (so_far a parts pending) c.args.id.now a.client serial o c.args.steps.now c.fresh.new.steps c.args.asked.now
+    let o = owner_so_far a parts pending c.args.wish.now.id.now a.client (Own serial) c.in-Own.ensures in
+    finds_within (so_far a parts pending) c.args.wish.now.id.now a.client serial o c.args.steps.now c.fresh.new.steps
+    c.args.wish.now.asked.now
     (inr (sight_now parts.graph, refl, c.is_view.ensures, c.fresh.ensures.steps))
 
 pub returns-in-Err-TooBig-clause-steps : goal.returns-in-Err-TooBig-clause-steps
@@ -66,8 +70,9 @@ returns-in-Err-TooBig-clause-steps g c =
     let parts = c.args.parts.now in
     let pending = c.args.pending.now in
     let serial = c.in-Own.serial in
-    let o = owner_so_far a parts pending c.args.id.now a.client (Own serial) c.in-Own.ensures in
-    finds_within (so_far a parts pending) c.args.id.now a.client serial o c.args.steps.now c.fresh.new.steps c.args.asked.now
+    let o = owner_so_far a parts pending c.args.wish.now.id.now a.client (Own serial) c.in-Own.ensures in
+    finds_within (so_far a parts pending) c.args.wish.now.id.now a.client serial o c.args.steps.now c.fresh.new.steps
+    c.args.wish.now.asked.now
     (inr (sight_now parts.graph, refl, c.is_view.ensures, c.fresh.ensures.steps))
 
 pub returns-in-Err-NoMemory-clause-steps : goal.returns-in-Err-NoMemory-clause-steps
@@ -76,16 +81,19 @@ returns-in-Err-NoMemory-clause-steps g c =
     let parts = c.args.parts.now in
     let pending = c.args.pending.now in
     let serial = c.in-Own.serial in
-    let o = owner_so_far a parts pending c.args.id.now a.client (Own serial) c.in-Own.ensures in
-    finds_within (so_far a parts pending) c.args.id.now a.client serial o c.args.steps.now c.fresh.new.steps c.args.asked.now
+    let o = owner_so_far a parts pending c.args.wish.now.id.now a.client (Own serial) c.in-Own.ensures in
+    finds_within (so_far a parts pending) c.args.wish.now.id.now a.client serial o c.args.steps.now c.fresh.new.steps
+    c.args.wish.now.asked.now
     (inr (sight_now parts.graph, refl, c.is_view.ensures, c.fresh.ensures.steps))
 
 pub returns-in-Another-clause-steps : goal.returns-in-Another-clause-steps
 returns-in-Another-clause-steps g c =
     let state = so_far c.args.asking.now c.args.parts.now c.args.pending.now in
-    finds_none state c.args.asking.now.client (session_with_id c.args.id.now state.sessions) c.args.steps.now c.args.asked.now
+    finds_none state c.args.asking.now.client (session_with_id c.args.wish.now.id.now state.sessions) c.args.steps.now
+    c.args.wish.now.asked.now
 
 pub returns-in-Nobody-clause-steps : goal.returns-in-Nobody-clause-steps
 returns-in-Nobody-clause-steps g c =
     let state = so_far c.args.asking.now c.args.parts.now c.args.pending.now in
-    finds_none state c.args.asking.now.client (session_with_id c.args.id.now state.sessions) c.args.steps.now c.args.asked.now
+    finds_none state c.args.asking.now.client (session_with_id c.args.wish.now.id.now state.sessions) c.args.steps.now
+    c.args.wish.now.asked.now

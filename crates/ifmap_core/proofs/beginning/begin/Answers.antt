@@ -7,8 +7,9 @@ use Rattle.ifmap_core.proofs.beginning.begin.Goals as goal
 pub returns-clause-leads : goal.returns-clause-leads
 returns-clause-leads g c =
     let client = ap (λ (a : Asking). a.client) c.asking.view_is in
-    begins c.args.asking.now c.args.parts.now c.take_away_former.new.parts c.args.pending.now c.take_away_former.new.pending c.args.random
-    c.args.limit c.former_of-former.result c.in_ok-opening.opening c.in_ok-publisher.publisher c.limit_of.result c.limit_of.ensures
+    begins c.args.asking.now c.args.parts.now c.take_away_former.new.parts c.args.pending.now c.take_away_former.new.pending
+    c.args.wish.random c.args.wish.limit c.former_of-former.result c.in_ok-opening.opening c.in_ok-publisher.publisher c.limit_of.result
+    c.limit_of.ensures
     (c.in_ok-opening.ensures.client ∙ client) (c.in_ok-publisher.ensures ∙ c.text.ensures.text ∙ client) c.in_ok-opening.ensures.serial
     c.in_ok-opening.ensures.id c.requires.next c.former_of-former.ensures.serial c.requires.free c.prepare.new.self c.is_table.ensures
     c.prepare.ensures.same c.in_ok-take_away_former.ensures.turned.sessions c.in_ok-opening.ensures.room c.former_of-former.ensures.live

@@ -11,7 +11,7 @@ begin-requires-clause-free g c = sym (c.is_full.ensures.full c.args.parts.now c.
 
 pub returns-then-is_full-clause-leads : goal.returns-then-is_full-clause-leads
 returns-then-is_full-clause-leads g c =
-    full_leads c.args.asking.now c.args.parts.now c.args.pending.now c.args.random c.args.limit c.refuse.result c.refuse.ensures
+    full_leads c.args.asking.now c.args.parts.now c.args.pending.now c.args.wish.random c.args.wish.limit c.refuse.result c.refuse.ensures
     c.requires.steady c.requires.ready (sym (c.is_full.ensures.full c.args.parts.now c.args.pending.now refl) ∙ c.if-is_full.true)
 
 pub returns-then-is_full-clause-turned : goal.returns-then-is_full-clause-turned

@@ -16,8 +16,9 @@ returns-in-Ok-clause-leads g c = λ s e.
     let pending = c.args.pending.now in
     holds_leads
     (λ wanted. IfOk c.accept_ops.result (λ outcome. LeadsTo outcome a c.accept_ops.new.parts c.accept_ops.new.pending wanted)) a old
-    c.ready_ops.new.parts pending c.args.serial c.in-Ok.readying _ c.in-Ok.ensures.holds
-    (ap (subscribe_ops (rows_now old.graph) c.args.serial c.args.ops.now) (sym (told_is a old pending c.args.serial s e))
+    c.ready_ops.new.parts pending c.args.ops.now.serial c.in-Ok.readying _ c.in-Ok.ensures.holds
+    (ap (subscribe_ops (rows_now old.graph) c.args.ops.now.serial c.args.ops.now.ops.now)
+    (sym (told_is a old pending c.args.ops.now.serial s e))
     ∙ c.in-Ok.ensures.ops)
     c.accept_ops.ensures.leads s e
 
