@@ -10,19 +10,19 @@ use Rattle.ifmap_machine.specs.State.{State}
 use Rattle.ifmap_machine.specs.Step.{step}
 use Rattle.ifmap_drill.specs.declared.counts.Counts.{Counts}
 use Rattle.ifmap_drill.specs.declared.drills.Drill.{Drill}
-use Rattle.ifmap_drill.specs.Counts.{both, counted_as, counts_of, plus, total}
-use Rattle.ifmap_drill.specs.Drills.{Drilling, answered, asked_at, ids_after, next}
+use Rattle.ifmap_drill.specs.Counts.{capped_sum, counted_as, counts_of, counts_sum, total}
+use Rattle.ifmap_drill.specs.Drills.{Drilling, after_answer, after_event, asked_at, ids_after}
 use Rattle.ifmap_drill.specs.Events.{event_at}
 use Rattle.ifmap_drill.specs.Requests.{request_at}
 use Rattle.ifmap_drill.specs.Following.{drill_of}
 
 total_more : (number : Counts → ℕ) (history : History) (event : Event) (answer : Answer)
-    → total number (history ++ (event, answer) ∷ []) ≡ both (total number history) (number (counted_as event.ask answer))
+    → total number (history ++ (event, answer) ∷ []) ≡ capped_sum (total number history) (number (counted_as event.ask answer))
 total_more number history event answer =
     let more = sum_by_push (λ (e : Event × Answer). number (counted_as e.0.ask e.1)) history (event, answer) in omega arith
 
 pub counts_more : (history : History) (event : Event) (answer : Answer)
-    → counts_of (history ++ (event, answer) ∷ []) 0 ≡ plus (counts_of history 0) (counted_as event.ask answer)
+    → counts_of (history ++ (event, answer) ∷ []) 0 ≡ counts_sum (counts_of history 0) (counted_as event.ask answer)
 counts_more history event answer = λ i. record {
   events = total_more (λ c. c.events) history event answer i;
   sessions = total_more (λ c. c.sessions) history event answer i;
@@ -43,9 +43,9 @@ on_ok (Err e) holds follows = tt
 
 -- the drill keeps what it is to keep after one event more
 pub answer_kept : (i : ℕ) (event : Event) (old : Drill) (core : State) (answer : Answer) (counts : Counts) (ids : List (List ℕ))
-    → (core, answer) ≡ step old.core event → counts ≡ plus old.counts (counted_as event.ask answer)
+    → (core, answer) ≡ step old.core event → counts ≡ counts_sum old.counts (counted_as event.ask answer)
     → ids ≡ ids_after i answer old.ids → (d : Drilling) → old ≡ drill_of d
-    → record { core = core; ids = ids; draws = old.draws; counts = counts } ≡ drill_of (answered i event old.draws d)
+    → record { core = core; ids = ids; draws = old.draws; counts = counts } ≡ drill_of (after_answer i event old.draws d)
 answer_kept i event old core answer counts ids stepped counted kept d is =
     let stepped_from : (core, answer) ≡ step d.state event = stepped ∙ ap (λ (o : Drill). step o.core event) is in
     let answer_is : answer ≡ (step d.state event).1 = ap (λ (p : State × Answer). p.1) stepped_from in
@@ -54,18 +54,18 @@ answer_kept i event old core answer counts ids stepped counted kept d is =
     kept ∙ ap (λ (a : Answer). ids_after i a old.ids) answer_is
     ∙ ap (λ (o : Drill). ids_after i (step d.state event).1 o.ids) is in
     let counts_are : counts ≡ counts_of (d.history ++ (event, (step d.state event).1) ∷ []) 0 =
-    counted ∙ ap (λ (a : Answer). plus old.counts (counted_as event.ask a)) answer_is
-    ∙ ap (λ (o : Drill). plus o.counts (counted_as event.ask (step d.state event).1)) is
+    counted ∙ ap (λ (a : Answer). counts_sum old.counts (counted_as event.ask a)) answer_is
+    ∙ ap (λ (o : Drill). counts_sum o.counts (counted_as event.ask (step d.state event).1)) is
     ∙ sym (counts_more d.history event (step d.state event).1) in
     λ j. record { core = core_is j; ids = ids_are j; draws = old.draws; counts = counts_are j }
 
 -- an event is made and answered
 pub event_taken : {T E : Type 0} (i : ℕ) (old : Drill) (event : Event) (draws : Lcg) (result : Result T E) (new : Drill)
     → event ≡ event_at i (request_at i old.ids old.draws).0 → draws ≡ (request_at i old.ids old.draws).1
-    → OnOk result ((d : Drilling) → record old { draws = draws } ≡ drill_of d → new ≡ drill_of (answered i event draws d))
-    → OnOk result ((d : Drilling) → old ≡ drill_of d → new ≡ drill_of (next i d))
+    → OnOk result ((d : Drilling) → record old { draws = draws } ≡ drill_of d → new ≡ drill_of (after_answer i event draws d))
+    → OnOk result ((d : Drilling) → old ≡ drill_of d → new ≡ drill_of (after_event i d))
 event_taken i old event draws result new made drawn holds = on_ok result holds (λ follows d is.
     let taken = follows (record d { draws = draws }) (ap (λ (o : Drill). record o { draws = draws }) is) in
     let event_is : event ≡ event_at i (asked_at i d).0 = made ∙ ap (λ (o : Drill). event_at i (request_at i o.ids o.draws).0) is in
     let draws_are : draws ≡ (asked_at i d).1 = drawn ∙ ap (λ (o : Drill). (request_at i o.ids o.draws).1) is in
-    taken ∙ (λ j. drill_of (answered i (event_is j) (draws_are j) d)))
+    taken ∙ (λ j. drill_of (after_answer i (event_is j) (draws_are j) d)))

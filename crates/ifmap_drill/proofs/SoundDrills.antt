@@ -16,7 +16,7 @@ use Rattle.ifmap_machine.specs.Step.{is_full, new_session, step, step_ask}
 use Rattle.ifmap_meta.specs.Whole.{IsMetadata}
 use Rattle.ifmap_requests.specs.declared.requests.Request.TheVariants.{NewSession}
 use Rattle.ifmap_drill.specs.declared.tasks.Task.TheVariants.{Begin}
-use Rattle.ifmap_drill.specs.Drills.{Drilling, asked_at, drilling_after, id_given, next, session_seconds}
+use Rattle.ifmap_drill.specs.Drills.{Drilling, after_event, asked_at, drilling_after, id_given, session_seconds}
 use Rattle.ifmap_drill.specs.Events.{event_at}
 use Rattle.ifmap_drill.specs.Parts.{mark}
 use Rattle.ifmap_drill.specs.Requests.{request_by, session_of}
@@ -70,7 +70,7 @@ early_ask : (i : ℕ) (d : Drilling) → nat_lt i 10 ≡ true → (event_at i (a
 early_ask i d early =
     ap (λ task. Request (request_by task (i % 10) (session_of (i % 10) d.ids) d.draws).0) (early_task i early)
 
-next_ids : (i : ℕ) (d : Drilling) → AllByRecursion IsCharacters d.ids → AllByRecursion IsCharacters (next i d).ids
+next_ids : (i : ℕ) (d : Drilling) → AllByRecursion IsCharacters d.ids → AllByRecursion IsCharacters (after_event i d).ids
 next_ids i d fit = elim (cases_Bool (nat_lt i 10)) [
   | inl e ↦
       let given = given_characters d.state (event_at i (asked_at i d).0) None (early_ask i d e) in
@@ -101,7 +101,7 @@ module _ (macs : AddressesAreIdentifiers) (metadata : IsMetadata mark) where
         (session_characters (i % 10) d.ids fit);
   }
 
-  next_sound : (i : ℕ) (d : Drilling) → AllByRecursion IsCharacters d.ids → IsSound d → IsSound (next i d)
+  next_sound : (i : ℕ) (d : Drilling) → AllByRecursion IsCharacters d.ids → IsSound d → IsSound (after_event i d)
   next_sound i d ids sound =
       let event = event_at i (asked_at i d).0 in
       let start = opening session_seconds in record {

@@ -82,19 +82,19 @@ counts_of history links = record {
 }
 
 -- two numbers together, and two counts; events add no links
-abbrev pub both : ℕ → ℕ → ℕ
-both one other = min (one + other) (2 ^ 64 - 1)
+abbrev pub capped_sum : ℕ → ℕ → ℕ
+capped_sum one other = min (one + other) (2 ^ 64 - 1)
 
-abbrev pub plus : Counts → Counts → Counts
-plus a b = record {
-  events = both a.events b.events;
-  sessions = both a.sessions b.sessions;
-  subscribes = both a.subscribes b.subscribes;
-  publishes = both a.publishes b.publishes;
-  searches = both a.searches b.searches;
-  polls = both a.polls b.polls;
-  renewals = both a.renewals b.renewals;
-  held = both a.held b.held;
-  told = both a.told b.told;
+abbrev pub counts_sum : Counts → Counts → Counts
+counts_sum a b = record {
+  events = capped_sum a.events b.events;
+  sessions = capped_sum a.sessions b.sessions;
+  subscribes = capped_sum a.subscribes b.subscribes;
+  publishes = capped_sum a.publishes b.publishes;
+  searches = capped_sum a.searches b.searches;
+  polls = capped_sum a.polls b.polls;
+  renewals = capped_sum a.renewals b.renewals;
+  held = capped_sum a.held b.held;
+  told = capped_sum a.told b.told;
   links = a.links;
 }

@@ -57,21 +57,22 @@ abbrev pub ids_after : ℕ → Answer → List (List ℕ) → List (List ℕ)
 ids_after i answer ids = if nat_lt i 10 then ids ++ id_given answer ∷ [] else ids
 
 -- the drill after the answer to event i, which asks a request
-abbrev pub answered : ℕ → Event → Lcg → Drilling → Drilling
-answered i event draws d = record {
+abbrev pub after_answer : ℕ → Event → Lcg → Drilling → Drilling
+after_answer i event draws d = record {
   history = d.history ++ (event, (step d.state event).1) ∷ [];
   state = (step d.state event).0;
   ids = ids_after i (step d.state event).1 d.ids;
   draws = draws;
 }
 
-abbrev pub next : ℕ → Drilling → Drilling
-next i d = answered i (event_at i (asked_at i d).0) (asked_at i d).1 d
+-- after event i, as it is made and answered
+abbrev pub after_event : ℕ → Drilling → Drilling
+after_event i d = after_answer i (event_at i (asked_at i d).0) (asked_at i d).1 d
 
 -- the drill of a key after so many events
 abbrev pub drilling_after : ℕ → ℕ → Drilling
 drilling_after key zero = beginning key
-drilling_after key (suc n) = next n (drilling_after key n)
+drilling_after key (suc n) = after_event n (drilling_after key n)
 
 -- all events of a drill with their answers
 abbrev pub drill_history : ℕ → ℕ → History

@@ -1,6 +1,6 @@
 //! What a drill counts.
 ghost use Rattle.std.specs.Prelude.{◌≡◌};
-ghost use Rattle.ifmap_drill.specs.Counts.{asked_by, counted_as, nothing, plus, replied_as, requested_by};
+ghost use Rattle.ifmap_drill.specs.Counts.{asked_by, counted_as, counts_sum, nothing, replied_as, requested_by};
 
 use ifmap_machine::{Answer, Ask};
 use ifmap_replies::Reply;
@@ -55,15 +55,15 @@ impl Counts {
 
     /// Counts an event with its answer.
     pub(crate) fn count(&mut self, ask: &Ask, answer: &Answer)
-        ensures { self.new ≡ plus self.old (counted_as ask.now answer.now) }
+        ensures { self.new ≡ counts_sum self.old (counted_as ask.now answer.now) }
     {
         let more = counted_as(ask, answer);
-        *self = self.plus(&more);
+        *self = self.sum_with(&more);
     }
 
     // These and others together.
-    fn plus(&self, more: &Counts) -> Counts
-        ensures { result ≡ plus self.now more.now }
+    fn sum_with(&self, more: &Counts) -> Counts
+        ensures { result ≡ counts_sum self.now more.now }
     {
         Counts {
             events: self.events.saturating_add(more.events),

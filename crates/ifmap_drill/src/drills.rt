@@ -2,7 +2,7 @@
 ghost use Rattle.std.specs.Prelude.{◌≡◌, ◌<◌, OnOk};
 ghost use Rattle.std.specs.List.{AllByRecursion};
 ghost use Rattle.ifmap_elem.specs.Chars.{IsCharacters};
-ghost use Rattle.ifmap_drill.specs.Drills.{Drilling, answered, beginning, id_given, ids_after, next};
+ghost use Rattle.ifmap_drill.specs.Drills.{Drilling, after_answer, after_event, beginning, id_given, ids_after};
 ghost use Rattle.ifmap_drill.specs.Following.{drill_of};
 ghost use Rattle.ifmap_drill.specs.Summaries.{summary_of};
 
@@ -57,7 +57,7 @@ impl Drill {
         requires few { i < 100_000 }
         requires fit { AllByRecursion IsCharacters self.old.ids }
         ensures { OnOk result ((d : Drilling) → self.old ≡ drill_of d
-            → self.new ≡ drill_of (next i d)) }
+            → self.new ≡ drill_of (after_event i d)) }
     {
         let event = make_event(alloc, i, &self.ids, &mut self.draws)?;
         self.answer_event(alloc, i, &event, steps)
@@ -72,7 +72,7 @@ impl Drill {
         steps: &mut Steps<L>,
     ) -> Result<(), NoMemory>
         ensures { OnOk result ((d : Drilling) → self.old ≡ drill_of d
-            → self.new ≡ drill_of (answered i event.now self.old.draws d)) }
+            → self.new ≡ drill_of (after_answer i event.now self.old.draws d)) }
     {
         let answer = self.core.step(alloc, event, steps)?;
         self.counts.count(&event.ask, &answer);
