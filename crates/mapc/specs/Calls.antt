@@ -1,12 +1,16 @@
 -- What the words of the program ask for.
-use Rattle.std.specs.Prelude.{◌≡◌, ℕ, true, List}
+use Rattle.std.specs.Prelude.{◌≡◌, ◌≤◌, ℕ, true, List, length}
 use Rattle.ifmap_heads.specs.Messages.{is_visible}
 use Rattle.ifmap_meta.specs.ClientNames.{IsClientName}
 use Rattle.ifmap_words.specs.Pairs.{IsPair}
 
--- an address of visible ASCII characters, and the name of a client
+-- an address of one visible ASCII character or more
+abbrev pub IsAddress : List ℕ → Type 0
+IsAddress address = (1 ≤ length address) × (is_visible address ≡ true)
+
+-- such an address, and the name of a client
 abbrev pub IsAskable : List ℕ → List ℕ → Type 0
-IsAskable address name = (is_visible address ≡ true) × IsClientName name
+IsAskable address name = IsAddress address × IsClientName name
 
 -- these are the host and the client of a call
 abbrev pub AsksFor : List ℕ → List ℕ → List ℕ → List ℕ → Type 0

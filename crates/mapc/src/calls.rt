@@ -36,7 +36,7 @@ fn call_in(alloc: Global, address: &str, name: &str) -> Result<Option<Call>, NoM
         AsksFor address.now name.now call.host call.client)) }
     ensures none { IfOk result (λ found. IfNone found (IsAskable address.now name.now → ⊥)) }
 {
-    if !is_visible(address) {
+    if address.is_empty() || !is_visible(address) {
         return Ok(None);
     }
     let Some(client) = ClientName::new(Text::from_str(alloc, name)?) else {
