@@ -1,5 +1,5 @@
 -- A script turn by turn: `Reached` holds after each line that was carried out (`begin`, `next`), and each way to end leads from it to
--- what the script promises (`done`, `ends_with`, and `none_begun` where there was no memory to begin).
+-- what the script promises (`done`, `ends_with`, and `not_begun` where there was no memory to begin).
 use Rattle.std.proofs.Common.{◌≡◌, ◌⊎◌, inl, inr, refl, ap, ◌∙◌, sym, subst, ℕ, ◌+◌, ◌-◌, ◌<◌, true, false, List, [], ◌∷◌, ◌++◌, length, length-append, arith}
 use Rattle.std.specs.Prelude.{Option, Some, Err}
 use Rattle.std.proofs.KnownBytes.{Appends-nil, Consumes-nil, Consumes-trans}
@@ -15,7 +15,7 @@ use Rattle.ifmap_client_script.specs.Ends.{ArePortsLater, Ends, IsLater, IsLater
 use Rattle.ifmap_client_script.specs.Exchanges.{HasAny, HasNoReply, HasPart, IsFront, WireFailed, Wiring}
 use Rattle.ifmap_client_script.specs.Holding.{known_of}
 use Rattle.ifmap_client_script.specs.Pending.{Fetches, Pending, nothing_taken}
-use Rattle.ifmap_client_script.specs.Promises.{Cutting, Did, IsFaulty, IsLost, IsUnanswered, IsUnread, IsUnwritten, IsWhole, Posted, Promises, Takes, Wrote, known_after}
+use Rattle.ifmap_client_script.specs.Promises.{Cutting, Did, IsCarriedOut, IsFaulty, IsLost, IsUnanswered, IsUnread, IsUnwritten, IsWhole, Posted, Promises, Takes, Wrote, known_after}
 use Rattle.ifmap_client_script.specs.Scripts.{IsBadLine, longest_script}
 use Rattle.ifmap_client_script.specs.Stops.{outcome_of}
 use Rattle.ifmap_client_script.specs.Turns.{IsAtFault, IsBeginning, IsCutShort, IsDue, IsIdle, IsLeft, IsOver, Scripting, TakesLine, Turns, TurnsOn}
@@ -104,7 +104,7 @@ begin caller before script is first second = record {
 }
 
 -- nothing was begun
-pub none_begun : (caller : Caller) (before : Ends) → before.ports.first.spent ≡ false → before.ports.second.spent ≡ false
+none_begun : (caller : Caller) (before : Ends) → before.ports.first.spent ≡ false → before.ports.second.spent ≡ false
     → Promises caller before before outcome.NoMemory
 none_begun caller before first second = inl (record {
   deeds = [];
@@ -117,6 +117,10 @@ none_begun caller before first second = inl (record {
   carried = refl;
   did = nothing_did caller before.ports first second;
 })
+
+pub not_begun : (caller : Caller) (before : Ends) → before.ports.first.spent ≡ false → before.ports.second.spent ≡ false
+    → IsCarriedOut caller before before outcome.NoMemory
+not_begun caller before first second = record { promises = none_begun caller before first second; later = same_ends before }
 
 module _ (caller : Caller) (before now after : Ends) (old : Scripting) (r : Reached caller before now old) where
   fetched_more : (pending : Pending) → Fetches now.left after.left old.pending pending

@@ -8,7 +8,7 @@ use Rattle.ifmap_client_script.specs.declared.exchanges.Caller.{Caller}
 use Rattle.ifmap_client_script.specs.declared.outcomes.Outcome.{Outcome}
 use Rattle.ifmap_client_script.specs.declared.outcomes.Outcome.TheVariants as outcome
 use Rattle.ifmap_client_script.specs.Deeds.{Deed, Known, after_deeds, is_poll, request_in, unknowing}
-use Rattle.ifmap_client_script.specs.Ends.{Ends, LinkFailed, Ports, ReadFailed, WriteFailed}
+use Rattle.ifmap_client_script.specs.Ends.{Ends, IsLater, LinkFailed, Ports, ReadFailed, WriteFailed}
 use Rattle.ifmap_client_script.specs.Exchanges.{Breaks, Exchanges, HasAny, HasNoReply, HasPart, IsFront, over_first, over_second, request_post}
 use Rattle.ifmap_client_script.specs.Printing.{deed_text, written}
 use Rattle.ifmap_client_script.specs.Scripts.{AwaitsLine, BeginsLine, Carries, IsBadLine, IsScript}
@@ -153,3 +153,8 @@ Promises caller before after (outcome.LinkEnded line) = IsUnanswered caller befo
 Promises caller before after (outcome.BadReply line) = IsUnanswered caller before after IsWhole HasNoReply line
 Promises caller before after outcome.NoMemory =
     IsLost caller before after ⊎ (IsUnasked caller before after ⊎ IsUnwritten caller before after)
+
+-- a script was carried out as far as its outcome promises, and no count of faults has fallen
+pub record IsCarriedOut (caller : Caller) (before after : Ends) (ended : Outcome) : Type 0 where
+  pub promises : Promises caller before after ended
+  pub later : IsLater before after

@@ -5,7 +5,7 @@ ghost use Rattle.ifmap_io.specs.Causes.{Rose};
 ghost use Rattle.ifmap_client_script.specs.Scripts.{longest_script};
 ghost use Rattle.ifmap_client_script.specs.Ends.{ArePortsLater, IsLater, ends, ports};
 ghost use Rattle.ifmap_client_script.specs.Exchanges.{wiring};
-ghost use Rattle.ifmap_client_script.specs.Promises.{Promises};
+ghost use Rattle.ifmap_client_script.specs.Promises.{IsCarriedOut};
 ghost use Rattle.ifmap_client_script.specs.Turns.{DoesNext, IsBeginning, IsNext, ReadsAt, ReadsNext, Turns};
 
 use crate::clients::Client;
@@ -55,20 +55,13 @@ pub fn run_script<S: Source, K: Sink, A: Link, B: Link>(
     requires visible { IsTrue (is_visible host.now) }
     requires first { IsFalse first.old.spent }
     requires second { IsFalse second.old.spent }
-    ensures promises { Promises (record { client = client.now; host = host.now })
+    ensures { IsCarriedOut (record { client = client.now; host = host.now })
         (ends (S.left source.old) (S.faults source.old) (ports (K.held sink.old) (K.faults sink.old)
         (wiring A.left A.held A.Source.faults A.Sink.faults first.old)
         (wiring B.left B.held B.Source.faults B.Sink.faults second.old)))
         (ends (S.left source.new) (S.faults source.new) (ports (K.held sink.new) (K.faults sink.new)
         (wiring A.left A.held A.Source.faults A.Sink.faults first.new)
         (wiring B.left B.held B.Source.faults B.Sink.faults second.new))) result }
-    ensures later { IsLater
-        (ends (S.left source.old) (S.faults source.old) (ports (K.held sink.old) (K.faults sink.old)
-        (wiring A.left A.held A.Source.faults A.Sink.faults first.old)
-        (wiring B.left B.held B.Source.faults B.Sink.faults second.old)))
-        (ends (S.left source.new) (S.faults source.new) (ports (K.held sink.new) (K.faults sink.new)
-        (wiring A.left A.held A.Source.faults A.Sink.faults first.new)
-        (wiring B.left B.held B.Source.faults B.Sink.faults second.new))) }
 {
     let Ok(client) = client.copy(alloc) else {
         return Outcome::NoMemory;
@@ -132,7 +125,7 @@ impl Script {
         requires visible { IsTrue (is_visible caller.now.host) }
         requires first { IsFalse first.old.spent }
         requires second { IsFalse second.old.spent }
-        ensures promises { Promises caller.now
+        ensures { IsCarriedOut caller.now
             (ends (S.left source.old) (S.faults source.old)
             (ports (K.held sink.old) (K.faults sink.old)
             (wiring A.left A.held A.Source.faults A.Sink.faults first.old)
@@ -141,15 +134,6 @@ impl Script {
             (ports (K.held sink.new) (K.faults sink.new)
             (wiring A.left A.held A.Source.faults A.Sink.faults first.new)
             (wiring B.left B.held B.Source.faults B.Sink.faults second.new))) result }
-        ensures later { IsLater
-            (ends (S.left source.old) (S.faults source.old)
-            (ports (K.held sink.old) (K.faults sink.old)
-            (wiring A.left A.held A.Source.faults A.Sink.faults first.old)
-            (wiring B.left B.held B.Source.faults B.Sink.faults second.old)))
-            (ends (S.left source.new) (S.faults source.new)
-            (ports (K.held sink.new) (K.faults sink.new)
-            (wiring A.left A.held A.Source.faults A.Sink.faults first.new)
-            (wiring B.left B.held B.Source.faults B.Sink.faults second.new))) }
     {
         'lines: loop {
             match self.turn(alloc, caller, source, sink, first, second) {

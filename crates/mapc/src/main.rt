@@ -6,9 +6,9 @@ mod endings;
 
 ghost use Rattle.std.specs.Prelude.{◌≡◌, IsFalse};
 ghost use Rattle.std.specs.Process.{exit_status};
-ghost use Rattle.ifmap_client_script.specs.Ends.{IsLater, ends, ports};
+ghost use Rattle.ifmap_client_script.specs.Ends.{ends, ports};
 ghost use Rattle.ifmap_client_script.specs.Exchanges.{wiring};
-ghost use Rattle.ifmap_client_script.specs.Promises.{Promises};
+ghost use Rattle.ifmap_client_script.specs.Promises.{IsCarriedOut};
 ghost use Rattle.mapc.specs.Statuses.{status_of};
 
 use crate::calls::{Call, call_of};
@@ -87,20 +87,13 @@ fn carry_out<S: Source, K: Sink, A: Link, B: Link>(
 ) -> Outcome
     requires first { IsFalse first.old.spent }
     requires second { IsFalse second.old.spent }
-    ensures promises { Promises (record { client = call.now.client; host = call.now.host })
+    ensures { IsCarriedOut (record { client = call.now.client; host = call.now.host })
         (ends (S.left source.old) (S.faults source.old) (ports (K.held sink.old) (K.faults sink.old)
         (wiring A.left A.held A.Source.faults A.Sink.faults first.old)
         (wiring B.left B.held B.Source.faults B.Sink.faults second.old)))
         (ends (S.left source.new) (S.faults source.new) (ports (K.held sink.new) (K.faults sink.new)
         (wiring A.left A.held A.Source.faults A.Sink.faults first.new)
         (wiring B.left B.held B.Source.faults B.Sink.faults second.new))) result }
-    ensures later { IsLater
-        (ends (S.left source.old) (S.faults source.old) (ports (K.held sink.old) (K.faults sink.old)
-        (wiring A.left A.held A.Source.faults A.Sink.faults first.old)
-        (wiring B.left B.held B.Source.faults B.Sink.faults second.old)))
-        (ends (S.left source.new) (S.faults source.new) (ports (K.held sink.new) (K.faults sink.new)
-        (wiring A.left A.held A.Source.faults A.Sink.faults first.new)
-        (wiring B.left B.held B.Source.faults B.Sink.faults second.new))) }
 {
     run_script(alloc, &call.client, &call.host, source, sink, first, second)
 }

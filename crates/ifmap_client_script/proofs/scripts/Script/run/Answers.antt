@@ -43,8 +43,8 @@ lines-smaller g c =
     (ports (g.K.Sink.held c.turn.new.sink) (g.K.Sink.faults c.turn.new.sink) (f c.turn.new.first) (s c.turn.new.second)) in
     nearer c.args.caller.now now after c.lines.self c.turn.new.self (rw c.in-Ok-Carried.field-0-is at c.in-Ok-Carried.ensures.turns)
 
-pub returns-in-Ok-Ended-clause-promises : goal.returns-in-Ok-Ended-clause-promises
-returns-in-Ok-Ended-clause-promises g c =
+pub returns-in-Ok-Ended : goal.returns-in-Ok-Ended
+returns-in-Ok-Ended g c =
     let f = wiring g.A.Source.left g.A.Sink.held g.A.Source.faults g.A.Sink.faults in
     let s = wiring g.B.Source.left g.B.Sink.held g.B.Source.faults g.B.Sink.faults in
     let before = ends (g.S.Source.left c.args.source.now) (g.S.Source.faults c.args.source.now)
@@ -53,23 +53,14 @@ returns-in-Ok-Ended-clause-promises g c =
     (ports (g.K.Sink.held c.lines.sink) (g.K.Sink.faults c.lines.sink) (f c.lines.first) (s c.lines.second)) in
     let after = ends (g.S.Source.left c.turn.new.source) (g.S.Source.faults c.turn.new.source)
     (ports (g.K.Sink.held c.turn.new.sink) (g.K.Sink.faults c.turn.new.sink) (f c.turn.new.first) (s c.turn.new.second)) in
-    done c.args.caller.now before now after c.lines.self c.lines.invariant
-    (rw c.in-Ok-Ended.field-0-is at c.in-Ok-Ended.ensures.turns)
+    record {
+      promises = done c.args.caller.now before now after c.lines.self c.lines.invariant
+          (rw c.in-Ok-Ended.field-0-is at c.in-Ok-Ended.ensures.turns);
+      later = later_ends before now after c.lines.invariant.later c.in-Ok-Ended.ensures.later;
+    }
 
-pub returns-in-Ok-Ended-clause-later : goal.returns-in-Ok-Ended-clause-later
-returns-in-Ok-Ended-clause-later g c =
-    let f = wiring g.A.Source.left g.A.Sink.held g.A.Source.faults g.A.Sink.faults in
-    let s = wiring g.B.Source.left g.B.Sink.held g.B.Source.faults g.B.Sink.faults in
-    let before = ends (g.S.Source.left c.args.source.now) (g.S.Source.faults c.args.source.now)
-    (ports (g.K.Sink.held c.args.sink.now) (g.K.Sink.faults c.args.sink.now) (f c.args.first.now) (s c.args.second.now)) in
-    let now = ends (g.S.Source.left c.lines.source) (g.S.Source.faults c.lines.source)
-    (ports (g.K.Sink.held c.lines.sink) (g.K.Sink.faults c.lines.sink) (f c.lines.first) (s c.lines.second)) in
-    let after = ends (g.S.Source.left c.turn.new.source) (g.S.Source.faults c.turn.new.source)
-    (ports (g.K.Sink.held c.turn.new.sink) (g.K.Sink.faults c.turn.new.sink) (f c.turn.new.first) (s c.turn.new.second)) in
-    later_ends before now after c.lines.invariant.later c.in-Ok-Ended.ensures.later
-
-pub returns-in-Err-clause-promises : goal.returns-in-Err-clause-promises
-returns-in-Err-clause-promises g c =
+pub returns-in-Err : goal.returns-in-Err
+returns-in-Err g c =
     let f = wiring g.A.Source.left g.A.Sink.held g.A.Source.faults g.A.Sink.faults in
     let s = wiring g.B.Source.left g.B.Sink.held g.B.Source.faults g.B.Sink.faults in
     let before = ends (g.S.Source.left c.args.source.now) (g.S.Source.faults c.args.source.now)
@@ -79,17 +70,8 @@ returns-in-Err-clause-promises g c =
     let after = ends (g.S.Source.left c.turn.new.source) (g.S.Source.faults c.turn.new.source)
     (ports (g.K.Sink.held c.turn.new.sink) (g.K.Sink.faults c.turn.new.sink) (f c.turn.new.first) (s c.turn.new.second)) in
     let line = ap (λ (t : Scripting). t.line) c.self.view_is ∙ c.in-Err.ensures.line in
-    ends_with c.args.caller.now before now after c.lines.self c.lines.invariant c.turn.new.self c.in-Err.stop c.self.inside.line
-    c.outcome_of.result c.outcome_of.ensures line c.in-Err.ensures.turns
-
-pub returns-in-Err-clause-later : goal.returns-in-Err-clause-later
-returns-in-Err-clause-later g c =
-    let f = wiring g.A.Source.left g.A.Sink.held g.A.Source.faults g.A.Sink.faults in
-    let s = wiring g.B.Source.left g.B.Sink.held g.B.Source.faults g.B.Sink.faults in
-    let before = ends (g.S.Source.left c.args.source.now) (g.S.Source.faults c.args.source.now)
-    (ports (g.K.Sink.held c.args.sink.now) (g.K.Sink.faults c.args.sink.now) (f c.args.first.now) (s c.args.second.now)) in
-    let now = ends (g.S.Source.left c.lines.source) (g.S.Source.faults c.lines.source)
-    (ports (g.K.Sink.held c.lines.sink) (g.K.Sink.faults c.lines.sink) (f c.lines.first) (s c.lines.second)) in
-    let after = ends (g.S.Source.left c.turn.new.source) (g.S.Source.faults c.turn.new.source)
-    (ports (g.K.Sink.held c.turn.new.sink) (g.K.Sink.faults c.turn.new.sink) (f c.turn.new.first) (s c.turn.new.second)) in
-    later_ends before now after c.lines.invariant.later c.in-Err.ensures.later
+    record {
+      promises = ends_with c.args.caller.now before now after c.lines.self c.lines.invariant c.turn.new.self c.in-Err.stop
+          c.self.inside.line c.outcome_of.result c.outcome_of.ensures line c.in-Err.ensures.turns;
+      later = later_ends before now after c.lines.invariant.later c.in-Err.ensures.later;
+    }
