@@ -25,6 +25,12 @@ const BACK: &str = "</n2:response></n1:Body></n1:Envelope>";
 pub const BEGUN: &str =
     "<newSessionResult ifmap-publisher-id=\"c1\" max-poll-result-size=\"5000000\" session-id=\"7-a\"/>";
 
+const BEGUN_FIRST: &str =
+    "<newSessionResult ifmap-publisher-id=\"c1\" max-poll-result-size=\"5000000\" session-id=\"1-00000000-0000-0000-0000-000000000001\"/>";
+
+const PRINTED_FIRST: &str =
+    "=311\n<n1:Envelope xmlns:n1=\"http://www.w3.org/2003/05/soap-envelope\" xmlns:n2=\"http://www.trustedcomputinggroup.org/2010/IFMAP/2\"><n1:Body><n2:response><newSessionResult ifmap-publisher-id=\"c1\" max-poll-result-size=\"5000000\" session-id=\"1-00000000-0000-0000-0000-000000000001\"/></n2:response></n1:Body></n1:Envelope>";
+
 pub const ENDED: &str = "<endSessionResult/>";
 
 pub const TOLD: &str =
@@ -65,7 +71,7 @@ struct Case {
     second_asked: &'static [&'static str],
 }
 
-static CASES: [Case; 9] = [
+static CASES: [Case; 10] = [
     Case {
         lines: &["set s"],
         first: &[],
@@ -101,6 +107,16 @@ static CASES: [Case; 9] = [
         outcome: Outcome::BadLine { line: 1 },
         printed: &[],
         first_asked: &[],
+        second_asked: &[],
+    },
+    // The reply to the first client of a new server, to the byte.
+    Case {
+        lines: &[NEW],
+        first: &[BEGUN_FIRST],
+        second: &[],
+        outcome: Outcome::Done,
+        printed: &[Piece::Line(PRINTED_FIRST)],
+        first_asked: &[ASKED_NEW],
         second_asked: &[],
     },
     Case {
