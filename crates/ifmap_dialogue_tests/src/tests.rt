@@ -18,12 +18,12 @@ const CLOSE: &str = "</e:Body></e:Envelope>";
 
 const POLL: &str = "<i:poll session-id='s'/>";
 
-const RENEW: &str = "<i:renewSession session-id='s'/>";
+pub const RENEW: &str = "<i:renewSession session-id='s'/>";
 
 // Of no form that the protocol has.
 const OTHER: &str = "<i:frobnicate/>";
 
-const RENEWED: &str = "<renewSessionResult/>";
+pub const RENEWED: &str = "<renewSessionResult/>";
 
 const TOLD: &str = "<pollResult/>";
 
@@ -56,8 +56,13 @@ fn push_post(alloc: Global, out: &mut String, inner: &str, close: bool) -> Resul
     Ok(())
 }
 
-// Appends the answer with what stands in a response, which closes the connection or not.
-fn push_answer(alloc: Global, out: &mut String, told: &str, close: bool) -> Result<(), NoMemory> {
+/// Appends the answer with what stands in a response, which closes the connection or not.
+pub fn push_answer(
+    alloc: Global,
+    out: &mut String,
+    told: &str,
+    close: bool,
+) -> Result<(), NoMemory> {
     let length = BEFORE
         .len()
         .saturating_add(told.len())
@@ -71,7 +76,8 @@ fn push_answer(alloc: Global, out: &mut String, told: &str, close: bool) -> Resu
     Ok(())
 }
 
-fn posts_of(alloc: Global, inners: &[&str]) -> Result<String, NoMemory> {
+/// The posts of c1 with these bodies.
+pub fn posts_of(alloc: Global, inners: &[&str]) -> Result<String, NoMemory> {
     let mut out = String::new(alloc);
     for inner in inners {
         push_post(alloc, &mut out, inner, false)?;
@@ -95,7 +101,8 @@ struct Served {
     gate: CountingGate,
 }
 
-fn start() -> Moment
+/// When connections begin.
+pub fn start() -> Moment
     ensures { result ≡ 1000000000 }
 {
     Moment::new(1_000_000_000).unwrap()
