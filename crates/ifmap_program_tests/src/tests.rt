@@ -1,5 +1,6 @@
 //! Words, with the status that they come to and what is written for them.
 use crate::gates::OpenGate;
+use crate::makers::words_of;
 use ifmap_drill::NoProgress;
 use ifmap_io::{MemoryClock, MemoryDoor, MemorySink, MemorySource, Moment};
 use ifmap_program::{Setting, run};
@@ -92,14 +93,6 @@ fn stands_of(alloc: Global, count: usize) -> Result<Vec<Stand<MemoryDoor, OpenGa
     Ok(stands)
 }
 
-fn words_of(alloc: Global, case: &Case) -> Result<Vec<String>, NoMemory> {
-    let mut words = Vec::new(alloc);
-    for word in case.words {
-        words.push(String::from_str(alloc, word)?)?;
-    }
-    Ok(words)
-}
-
 // Runs with the words of a case, and writes into the sink.
 fn status_of<R: Threads + Wait + Sync>(
     rt: &R,
@@ -107,7 +100,7 @@ fn status_of<R: Threads + Wait + Sync>(
     case: &Case,
     sink: &mut MemorySink,
 ) -> Result<u8, NoMemory> {
-    let words = words_of(alloc, case)?;
+    let words = words_of(alloc, case.words)?;
     let mut stands = stands_of(alloc, case.doors)?;
     let script = case.script.as_bytes().to_vec(alloc)?;
     let mut source = MemorySource::new(script, Vec::new(alloc));

@@ -40,7 +40,7 @@ pub fn posts_of(alloc: Global, client: &str, requests: &[&str]) -> Result<String
 }
 
 /// The body of the answer with this result. The prefix `n3` is declared where the result uses it.
-pub fn answered(alloc: Global, told: &str) -> Result<String, NoMemory> {
+pub fn reply_body(alloc: Global, told: &str) -> Result<String, NoMemory> {
     let metadata = if told.contains("<n3:") { METADATA } else { "" };
     let mut body = String::from_str(alloc, ENVELOPE)?;
     for part in [
@@ -58,7 +58,7 @@ pub fn answered(alloc: Global, told: &str) -> Result<String, NoMemory> {
 pub fn answers_of(alloc: Global, results: &[&str]) -> Result<String, NoMemory> {
     let mut answers = String::new(alloc);
     for told in results {
-        let body = answered(alloc, told)?;
+        let body = reply_body(alloc, told)?;
         let length = body.len();
         answers.push_str("HTTP/1.1 200 OK\r\ncontent-type: application/soap+xml\r\n")?;
         answers.push_str(&format!(in alloc; "content-length: {length}\r\n\r\n")?)?;

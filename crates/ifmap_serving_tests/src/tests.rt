@@ -3,8 +3,8 @@ ghost use Rattle.std.specs.Prelude.{◌≡◌};
 
 use crate::doors::ShortDoor;
 use crate::gates::WaitingGate;
-use crate::posts::{CLOSING, answered, answers_of, post_of, posts_of};
-use ifmap_dialogue_tests::desk::{CountingGate, PlainDesk, Plan};
+use crate::posts::{CLOSING, answers_of, post_of, posts_of, reply_body};
+use ifmap_dialogue_tests::desk::{CountingGate, Noted, PlainDesk, Plan};
 use ifmap_http::{Answered, Wire};
 use ifmap_io::{MemoryClock, MemoryDoor, MemoryLink, Moment, Sink, TcpDoor, TcpLink};
 use ifmap_serving::{Stand, serve, work};
@@ -14,26 +14,41 @@ use rand_core::utils::NextWord;
 use std::alloc::{AllocError as NoMemory, Global};
 use std::collections::VecDeque;
 use std::net::{TcpListener, TcpStream};
+use std::sync::Wait;
 use std::sync::atomic::AtomicU64;
 use std::test::Fail;
-use uuid::Uuid;
+use std::time::Clock;
+
+const BEGIN: &str = "<n2:newSession/>";
 
 const RENEW: &str = "<n2:renewSession session-id=\"s\"/>";
 
 const RENEWED: &str = "<renewSessionResult/>";
 
-const BEGIN: &str = "<n2:newSession/>";
-
-const M1: &str = "<mac-address value=\"00:00:5e:00:53:01\"/>";
-
-const ROLE: &str =
-    "<metadata><n3:role ifmap-cardinality=\"multiValue\"><name>r</name></n3:role></metadata>";
-
-// The same as it is stored for the second client.
-const STAMPED: &str =
-    "<metadata><n3:role ifmap-cardinality=\"multiValue\" ifmap-publisher-id=\"c2\" ifmap-timestamp=\"2001-09-09T01:46:40Z\"><name>r</name></n3:role></metadata>";
-
 const KEY: [u8; 32] = [7; 32];
+
+// Sessions begun with the first random words of the key's streams 0 and 1, by the ChaCha20 of another
+// program: what is asked in them, and what is answered.
+const SUBSCRIBE: &str =
+    "<n2:subscribe session-id=\"1-7079b3ac-ba61-f514-41f6-aa57789200f4\"><update name=\"s\"><mac-address value=\"00:00:5e:00:53:01\"/></update></n2:subscribe>";
+
+const POLL: &str = "<n2:poll session-id=\"1-7079b3ac-ba61-f514-41f6-aa57789200f4\"/>";
+
+const PUBLISH: &str =
+    "<n2:publish session-id=\"2-a5f18c19-346a-3cdf-ef65-ba9909737c6d\"><update><mac-address value=\"00:00:5e:00:53:01\"/><metadata><n3:role ifmap-cardinality=\"multiValue\"><name>r</name></n3:role></metadata></update></n2:publish>";
+
+const FIRST_BEGUN: &str =
+    "<newSessionResult ifmap-publisher-id=\"c1\" max-poll-result-size=\"5000000\" session-id=\"1-7079b3ac-ba61-f514-41f6-aa57789200f4\"/>";
+
+const SECOND_BEGUN: &str =
+    "<newSessionResult ifmap-publisher-id=\"c2\" max-poll-result-size=\"5000000\" session-id=\"2-a5f18c19-346a-3cdf-ef65-ba9909737c6d\"/>";
+
+const SUBSCRIBED: &str = "<subscribeReceived/>";
+
+const PUBLISHED: &str = "<publishReceived/>";
+
+const TOLD: &str =
+    "<pollResult><searchResult name=\"s\"/><updateResult name=\"s\"><resultItem><mac-address value=\"00:00:5e:00:53:01\"/><metadata><n3:role ifmap-cardinality=\"multiValue\" ifmap-publisher-id=\"c2\" ifmap-timestamp=\"2001-09-09T01:46:40Z\"><name>r</name></n3:role></metadata></resultItem></updateResult></pollResult>";
 
 // A link that has these bytes left.
 fn link_of(alloc: Global, left: &str) -> Result<MemoryLink, NoMemory> {
@@ -50,7 +65,7 @@ fn door_of(alloc: Global, texts: &[&str], fails: &[u64]) -> Result<MemoryDoor, N
     MemoryDoor::new(alloc, links, fails.to_vec(alloc)?)
 }
 
-fn clock() -> MemoryClock {
+fn still_clock() -> MemoryClock {
     let start = Moment::new(1_000_000_000).unwrap();
     MemoryClock::new(start, 0, start)
 }
@@ -70,41 +85,44 @@ fn held_by(door: &MemoryDoor, number: usize) -> &[u8] {
     }
 }
 
-#[test]
-fn the_connections_of_a_door_are_served_in_order(rt: HostRuntime) -> Result<(), Fail> {
-    let alloc = rt.alloc();
+// The link of this number that came back got these results.
+fn is_told(alloc: Global, door: &MemoryDoor, number: usize, results: &[&str]) -> bool {
+    match answers_of(alloc, results) {
+        Ok(answers) => held_by(door, number) == answers.as_bytes(),
+        Err(_) => false,
+    }
+}
+
+// One renewal of a client, two of another, and a byte that is no post.
+fn renewals_door(alloc: Global) -> Result<MemoryDoor, NoMemory> {
     let one = posts_of(alloc, "c1", &[RENEW])?;
     let two = posts_of(alloc, "c2", &[RENEW, RENEW])?;
-    let mut door = door_of(alloc, &[&one, &two, "x"], &[])?;
-    let plans = Vec::new(alloc);
-    let mut desk = PlainDesk::new(alloc, plans, Plan::Answered, Plan::Answered);
+    door_of(alloc, &[&one, &two, "x"], &[])
+}
+
+// Serves the door at the desk, with the words of the key's first stream.
+fn work_at(rt: &impl Wait, alloc: Global, desk: &mut PlainDesk, door: &mut MemoryDoor) -> u8 {
     let mut words = ChaCha20Rng::from_seed(KEY);
-    let mut gate = open_gate();
-    let status = work(
-        &rt,
+    work(
+        rt,
         alloc,
-        &mut desk,
-        &mut door,
-        &clock(),
+        desk,
+        door,
+        &still_clock(),
         &mut words,
-        &mut gate,
-    );
-    assert!(rt; status == 0 && door.back().len() == 3);
-    let first = answers_of(alloc, &[RENEWED])?;
-    let second = answers_of(alloc, &[RENEWED, RENEWED])?;
-    assert!(rt; held_by(&door, 0) == first.as_bytes());
-    assert!(rt; held_by(&door, 1) == second.as_bytes());
-    assert!(rt; held_by(&door, 2).is_empty());
-    let mut again = ChaCha20Rng::from_seed(KEY);
-    let mut noted = Vec::new(alloc);
-    for note in desk.noted.as_slice() {
-        noted.push(note.random)?;
+        &mut open_gate(),
+    )
+}
+
+// Each was asked with the next words of that stream.
+fn are_drawn(noted: &[Noted]) -> bool {
+    let mut words = ChaCha20Rng::from_seed(KEY);
+    let mut all = true;
+    for note in noted {
+        let random = next_random(&mut words);
+        all = all && note.random == random;
     }
-    assert!(rt; noted.len() == 3);
-    for random in noted.as_slice() {
-        assert!(rt; *random == next_random(&mut again));
-    }
-    Ok(())
+    all
 }
 
 // The next four words of the stream as one, the lowest first.
@@ -117,95 +135,124 @@ fn next_random(words: &mut ChaCha20Rng) -> u128 {
 }
 
 #[test]
-fn a_door_that_fails_ends_the_work(rt: HostRuntime) -> Result<(), Fail> {
+fn the_connections_of_a_door_are_served_in_order(rt: HostRuntime) -> Result<(), Fail> {
     let alloc = rt.alloc();
-    let one = posts_of(alloc, "c1", &[BEGIN])?;
-    let mut stands = Vec::new(alloc);
-    stands.push(Stand::new(door_of(alloc, &[&one, &one], &[1])?, open_gate()))?;
-    stands.push(Stand::new(door_of(alloc, &[&one], &[])?, open_gate()))?;
-    let status = serve(&rt, alloc, KEY, &mut stands, &clock());
-    assert!(rt; status == 7);
-    let statuses = [7, 0];
-    for (place, stand) in stands.as_slice().iter().enumerate() {
-        assert!(rt; statuses.get(place) == Some(&stand.status));
-        assert!(rt; stand.place as usize == place && stand.door.back().len() == 1);
-    }
+    let mut door = renewals_door(alloc)?;
+    let mut desk = PlainDesk::new(alloc, Vec::new(alloc), Plan::Answered, Plan::Answered);
+    let status = work_at(&rt, alloc, &mut desk, &mut door);
+    assert!(rt; status == 0 && door.back().len() == 3);
+    assert!(rt; is_told(alloc, &door, 0, &[RENEWED]));
+    assert!(rt; is_told(alloc, &door, 1, &[RENEWED, RENEWED]));
+    assert!(rt; is_told(alloc, &door, 2, &[]));
+    assert!(rt; desk.noted.len() == 3 && are_drawn(desk.noted.as_slice()));
     Ok(())
 }
 
-// The session that begins with the first words of the stream of this number.
-fn session_of(alloc: Global, serial: u64, stream: u64) -> Result<String, NoMemory> {
-    let mut words = ChaCha20Rng::from_seed(KEY);
-    words.set_stream(stream);
-    let random = Uuid::from_u128(next_random(&mut words));
-    format!(in alloc; "session-id=\"{serial}-{random}\"")
+// A stand whose door has a link for each of so many clients that begin a session.
+fn begins_stand(
+    alloc: Global,
+    count: usize,
+    fails: &[u64],
+) -> Result<Stand<MemoryDoor, CountingGate>, NoMemory> {
+    let post = posts_of(alloc, "c1", &[BEGIN])?;
+    let mut links = VecDeque::new(alloc);
+    for _ in 0..count {
+        links.push_back(link_of(alloc, &post)?)?;
+    }
+    let door = MemoryDoor::new(alloc, links, fails.to_vec(alloc)?)?;
+    Ok(Stand::new(door, open_gate()))
 }
 
-// What the first client asks in its session: it subscribes, and polls.
-fn listener_posts(alloc: Global, session: &str) -> Result<String, NoMemory> {
-    let subscribe = format!(in alloc;
-        "<n2:subscribe {session}><update name=\"s\">{M1}</update></n2:subscribe>"
-    )?;
-    let poll = format!(in alloc; "<n2:poll {session}/>")?;
-    posts_of(alloc, "c1", &[BEGIN, &subscribe, &poll])
+fn failing_stands(alloc: Global) -> Result<[Stand<MemoryDoor, CountingGate>; 2], NoMemory> {
+    let failing = begins_stand(alloc, 2, &[1])?;
+    Ok([failing, begins_stand(alloc, 1, &[])?])
 }
 
-// What the second client asks in its session: it publishes.
-fn speaker_posts(alloc: Global, session: &str) -> Result<String, NoMemory> {
-    let publish = format!(in alloc;
-        "<n2:publish {session}><update>{M1}{ROLE}</update></n2:publish>"
-    )?;
-    posts_of(alloc, "c2", &[BEGIN, &publish])
+// Each stand has its place and that status, and one link came back to its door.
+fn have_statuses(stands: &[Stand<MemoryDoor, CountingGate>], statuses: &[u8]) -> bool {
+    let mut all = stands.len() == statuses.len();
+    for (place, (stand, status)) in stands.iter().zip(statuses).enumerate() {
+        let is_placed = stand.place as usize == place;
+        all = all && is_placed && stand.status == *status && stand.door.back().len() == 1;
+    }
+    all
 }
 
-// What is answered to a client that begins a session.
-fn begun(alloc: Global, client: &str, session: &str) -> Result<String, NoMemory> {
-    format!(in alloc;
-        "<newSessionResult ifmap-publisher-id=\"{client}\" max-poll-result-size=\"5000000\" {session}/>"
-    )
+#[test]
+fn a_door_that_fails_ends_the_work(rt: HostRuntime) -> Result<(), Fail> {
+    let alloc = rt.alloc();
+    let mut stands = failing_stands(alloc)?;
+    let status = serve(&rt, alloc, KEY, &mut stands, &still_clock());
+    assert!(rt; status == 7 && have_statuses(&stands, &[7, 0]));
+    Ok(())
 }
 
-fn listener_answers(alloc: Global, session: &str) -> Result<String, NoMemory> {
-    let begun = begun(alloc, "c1", session)?;
-    let told = format!(in alloc;
-        "<pollResult><searchResult name=\"s\"/><updateResult name=\"s\"><resultItem>{M1}{STAMPED}</resultItem></updateResult></pollResult>"
-    )?;
-    answers_of(alloc, &[&begun, "<subscribeReceived/>", &told])
+// A stand with the posts of one client, whose gate waits for another's.
+fn waiting_stand<'a, R: Clock>(
+    alloc: Global,
+    client: &str,
+    requests: &[&str],
+    gate: WaitingGate<'a, R>,
+) -> Result<Stand<MemoryDoor, WaitingGate<'a, R>>, NoMemory> {
+    let posts = posts_of(alloc, client, requests)?;
+    Ok(Stand::new(door_of(alloc, &[&posts], &[])?, gate))
 }
 
-fn speaker_answers(alloc: Global, session: &str) -> Result<String, NoMemory> {
-    let begun = begun(alloc, "c2", session)?;
-    answers_of(alloc, &[&begun, "<publishReceived/>"])
+// One subscribes, and polls after the other was answered; that one publishes after the first has
+// subscribed.
+fn stands_beside<'a, R: Clock>(
+    rt: &'a R,
+    alloc: Global,
+    heard: &'a AtomicU64,
+    said: &'a AtomicU64,
+) -> Result<[Stand<MemoryDoor, WaitingGate<'a, R>>; 2], NoMemory> {
+    let gate = WaitingGate::new(rt, heard, said, 2, 2);
+    let listener = waiting_stand(alloc, "c1", &[BEGIN, SUBSCRIBE, POLL], gate)?;
+    let gate = WaitingGate::new(rt, said, heard, 0, 2);
+    Ok([
+        listener,
+        waiting_stand(alloc, "c2", &[BEGIN, PUBLISH], gate)?,
+    ])
+}
+
+// The worker did not wait for too long, and these results were told.
+fn has_told<R: Clock>(
+    alloc: Global,
+    stand: &Stand<MemoryDoor, WaitingGate<'_, R>>,
+    results: &[&str],
+) -> bool {
+    !stand.gate.has_let_go() && is_told(alloc, &stand.door, 0, results)
 }
 
 #[test]
 fn workers_run_beside_each_other(rt: HostRuntime) -> Result<(), Fail> {
     let alloc = rt.alloc();
-    let listener = session_of(alloc, 1, 0)?;
-    let speaker = session_of(alloc, 2, 1)?;
     let heard = AtomicU64::new(0);
     let said = AtomicU64::new(0);
-    let mut stands = Vec::new(alloc);
-    stands.push(Stand::new(
-        door_of(alloc, &[&listener_posts(alloc, &listener)?], &[])?,
-        WaitingGate::new(&rt, &heard, &said, 2, 2),
-    ))?;
-    stands.push(Stand::new(
-        door_of(alloc, &[&speaker_posts(alloc, &speaker)?], &[])?,
-        WaitingGate::new(&rt, &said, &heard, 0, 2),
-    ))?;
-    let status = serve(&rt, alloc, KEY, &mut stands, &clock());
+    let mut stands = stands_beside(&rt, alloc, &heard, &said)?;
+    let status = serve(&rt, alloc, KEY, &mut stands, &still_clock());
     assert!(rt; status == 0);
-    let answers = [
-        listener_answers(alloc, &listener)?,
-        speaker_answers(alloc, &speaker)?,
-    ];
-    for (place, stand) in stands.as_slice().iter().enumerate() {
-        let due = answers.get(place).expect(&rt, "one for each stand");
-        assert!(rt; !stand.gate.has_let_go(), "{place}");
-        assert!(rt; held_by(&stand.door, 0) == due.as_bytes(), "{place}");
-    }
+    assert!(rt; has_told(alloc, &stands[0], &[FIRST_BEGUN, SUBSCRIBED, TOLD]));
+    assert!(rt; has_told(alloc, &stands[1], &[SECOND_BEGUN, PUBLISHED]));
     Ok(())
+}
+
+// A client asks for a session and for closing.
+fn asks(alloc: Global, client: &mut TcpLink) -> bool {
+    match post_of(alloc, "c1", BEGIN, CLOSING) {
+        Ok(post) => client.write_all(post.as_bytes()).is_ok(),
+        Err(_) => false,
+    }
+}
+
+// Its session is begun.
+fn is_begun(alloc: Global, client: TcpLink) -> Result<bool, NoMemory> {
+    let due = reply_body(alloc, FIRST_BEGUN)?;
+    let mut wire = Wire::new(alloc, client);
+    Ok(match wire.read_answer(alloc) {
+        Answered::Body(body) => body.0.as_slice() == due.as_bytes(),
+        _ => false,
+    })
 }
 
 #[test]
@@ -213,22 +260,13 @@ fn a_connection_is_served_over_sockets(rt: HostRuntime) -> Result<(), Fail> {
     let alloc = rt.alloc();
     let listener = TcpListener::bind(&rt, "127.0.0.1:0")?;
     let mut client = TcpLink::new(TcpStream::connect(&rt, listener.local_addr()?)?);
-    let post = post_of(alloc, "c1", BEGIN, CLOSING)?;
-    assert!(rt; client.write_all(post.as_bytes()).is_ok());
+    assert!(rt; asks(alloc, &mut client));
     let door = ShortDoor {
         door: TcpDoor::new(&listener),
         left: 1,
     };
-    let mut stands = Vec::new(alloc);
-    stands.push(Stand::new(door, open_gate()))?;
-    let status = serve(&rt, alloc, KEY, &mut stands, &clock());
-    assert!(rt; status == 0);
-    let session = session_of(alloc, 1, 0)?;
-    let due = answered(alloc, &begun(alloc, "c1", &session)?)?;
-    let mut wire = Wire::new(alloc, client);
-    match wire.read_answer(alloc) {
-        Answered::Body(body) => assert!(rt; body.0.as_slice() == due.as_bytes()),
-        _ => assert!(rt; false, "no answer"),
-    }
+    let mut stands = [Stand::new(door, open_gate())];
+    let status = serve(&rt, alloc, KEY, &mut stands, &still_clock());
+    assert!(rt; status == 0 && is_begun(alloc, client) == Ok(true));
     Ok(())
 }
