@@ -2,6 +2,7 @@ pub mod EscapeLaws
 pub mod Fronting
 pub mod KeyLaws
 pub mod NumberLaws
+pub mod OutlinePieces
 pub mod PieceLaws
 pub mod PrintedLaws
 pub mod SpaceLaws

@@ -130,7 +130,7 @@ adds_before a b xs x p s t u is h = record {
 }
 
 -- the same piece, otherwise said
-adds_as : (a b xs ys : Spaces) (p q : Rows → List ℕ) (s t : List ℕ) → xs ≡ ys → ((rows : Rows) → p rows ≡ q rows) → Adds a xs b p s t
+pub adds_as : (a b xs ys : Spaces) (p q : Rows → List ℕ) (s t : List ℕ) → xs ≡ ys → ((rows : Rows) → p rows ≡ q rows) → Adds a xs b p s t
     → Adds a ys b q s t
 adds_as a b xs ys p q s t e f h = record {
   added = subst (λ l. AddsSpaces a l b) e h.added;

@@ -8,6 +8,7 @@ pub mod NamedElements
 pub mod NamespaceLaws
 pub mod OneReading
 pub mod OneToken
+pub mod OutlineLaws
 pub mod PrintedElements
 pub mod PrintedParts
 pub mod PrintedScopes

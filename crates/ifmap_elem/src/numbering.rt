@@ -6,10 +6,12 @@ ghost use Rattle.std.specs.Map.{lookup};
 ghost use Rattle.std.specs.Option.{unwrap_or};
 ghost use Rattle.std.specs.Str.{bytes_eq};
 ghost use Rattle.ifmap_elem.specs.Namespaces.{name_prefixes};
+ghost use Rattle.ifmap_elem.specs.Outlines.{label_name};
 ghost use Rattle.ifmap_elem.specs.printer.Keys.{key_order};
 ghost use Rattle.ifmap_elem.specs.printer.Pieces.{AddsSpaces, IsFront, IsNumbered};
 
 use crate::keys::Key;
+use crate::outlines::Label;
 use crate::texts::Text;
 use itoa::Buffer;
 use std::alloc::{AllocError as NoMemory, Global};
@@ -167,6 +169,21 @@ impl<'a> Prefixes<'a> {
         }
         let prefix = self.number_named(space)?;
         Ok(Some(prefix))
+    }
+
+    // The prefix of a label's namespace, in the same way.
+    pub(crate) fn number_label(&mut self, label: Label<'a>) -> Result<Option<Prefix>, NoMemory>
+        ensures added { OnOk result (
+            AddsSpaces self.old ((label_name label.entry).space ∷ []) self.new) }
+        ensures behind { OnOk result (IsFront self.old self.new) }
+        ensures numbered { OnOk result (IsNumbered self.new (label_name label.entry).space) }
+        ensures prefix { IfOk result (λ prefix.
+            prefix ≡ lookup (bytes_eq (label_name label.entry).space) (name_prefixes self.new)) }
+    {
+        match label {
+            Label::Bare(_) => Ok(self.of_none()),
+            Label::Named(name) => self.number(&name.space),
+        }
     }
 
     fn number_named(&mut self, space: &'a Text) -> Result<Prefix, NoMemory>

@@ -7,6 +7,8 @@ ghost use Rattle.ifmap_elem.specs.Arranged.{sort_attributes};
 ghost use Rattle.ifmap_elem.specs.Fit.{IsDeclarable, IsFit};
 ghost use Rattle.ifmap_elem.specs.Namespaces.{name_prefixes, numbered_prefixes};
 ghost use Rattle.ifmap_lemmas.specs.Numerals.{numeral};
+ghost use Rattle.ifmap_elem.specs.Outlines.{label_name, outline_element};
+ghost use Rattle.ifmap_elem.specs.printer.Contents.{children_in, root_of};
 ghost use Rattle.ifmap_elem.specs.printer.Pieces.{AddsAttribute, AddsAttributes, AddsChild, AddsContent, AddsElement, AddsName, AreFinal};
 ghost use Rattle.ifmap_elem.specs.Spells.{Spells};
 ghost use Rattle.ifmap_elem.specs.Canonical.{after_prefix, canonical_bytes, canonical_reading, declaration_bytes};
@@ -16,6 +18,8 @@ use crate::elements::{Attribute, Child, Element, Name};
 use crate::escaping::{Place, write_escaped};
 use crate::lists::Many;
 use crate::numbering::{Prefix, Prefixes, write_numbered};
+use crate::outlines::{Label, Outline, Piece};
+use crate::outlining::write_pieces;
 use crate::sorting::{are_sorted, attributes_in_order};
 use crate::texts::Text;
 use std::alloc::{AllocError as NoMemory, Global};
@@ -27,7 +31,14 @@ pub fn canonical(alloc: Global, element: &Element) -> Result<Many<u8>, NoMemory>
     ensures spelled { IsFit element.now →
         IfOk result (λ bytes. Spells bytes (canonical_reading element.now)) }
 {
-    print_root(alloc, element, &[])
+    let content = Content::Children(&element.children);
+    print_root(
+        alloc,
+        Label::Named(&element.name),
+        &element.attributes,
+        content,
+        &[],
+    )
 }
 
 /// The canonical bytes with declarations of the prefixes `f1`, `f2` and so on for these namespaces
@@ -37,28 +48,54 @@ pub fn written(alloc: Global, element: &Element, spaces: &Many<Text>) -> Result<
     ensures spelled { IsFit element.now → AllByRecursion IsDeclarable spaces.now →
         IfOk result (λ bytes. Spells bytes (written_reading element.now spaces.now)) }
 {
-    print_root(alloc, element, spaces.as_slice())
+    let content = Content::Children(&element.children);
+    let spaces = spaces.as_slice();
+    print_root(
+        alloc,
+        Label::Named(&element.name),
+        &element.attributes,
+        content,
+        spaces,
+    )
 }
 
-fn print_root(alloc: Global, element: &Element, spaces: &[Text]) -> Result<Many<u8>, NoMemory>
-    ensures { IfOk result (λ bytes. bytes ≡ written_bytes element.now spaces.now) }
+/// The canonical bytes of the element that an outline stands for, as `canonical` makes them; nothing
+/// that is borrowed is copied but into these bytes. The one error is want of memory.
+pub fn canonical_outline(alloc: Global, outline: &Outline<'_>) -> Result<Many<u8>, NoMemory>
+    ensures bytes { IfOk result (λ bytes. bytes ≡ canonical_bytes (outline_element outline.now)) }
+    ensures spelled { IsFit (outline_element outline.now) →
+        IfOk result (λ bytes. Spells bytes (canonical_reading (outline_element outline.now))) }
+{
+    let content = Content::Pieces(&outline.pieces);
+    print_root(alloc, outline.label, &outline.attributes, content, &[])
+}
+
+// What stands in a root.
+#[derive(Clone, Copy)]
+pub(crate) enum Content<'a, 'b> {
+    Children(&'a Many<Child>),
+    Pieces(&'a Many<Piece<'b>>),
+}
+
+fn print_root<'a, 'b>(
+    alloc: Global,
+    label: Label<'a>,
+    attributes: &'a Many<Attribute>,
+    content: Content<'a, 'b>,
+    spaces: &[Text],
+) -> Result<Many<u8>, NoMemory>
+    ensures { IfOk result (λ bytes.
+        bytes ≡ written_bytes
+        (root_of (label_name label.entry) attributes.now content.entry) spaces.now) }
 {
     let mut prefixes = Prefixes::new(alloc)?;
-    let name = &element.name;
-    let prefix = prefixes.number(&name.space)?;
+    let prefix = prefixes.number_label(label)?;
     let mut inside = Vec::new(alloc);
-    write_attributes(alloc, &mut prefixes, &element.attributes, &mut inside)?;
-    write_content(
-        alloc,
-        &mut prefixes,
-        &prefix,
-        name,
-        &element.children,
-        &mut inside,
-    )?;
+    write_attributes(alloc, &mut prefixes, attributes, &mut inside)?;
+    write_inside(alloc, &mut prefixes, &prefix, label, content, &mut inside)?;
     let mut head = Vec::new(alloc);
     head.extend_from_slice(b"<")?;
-    write_name(&prefix, &name.local, &mut head)?;
+    write_name(&prefix, label.local(), &mut head)?;
     write_declarations("n", prefixes.spaces(), &mut head)?;
     let given = references(alloc, spaces)?;
     write_declarations("f", &given, &mut head)?;
@@ -66,8 +103,34 @@ fn print_root(alloc: Global, element: &Element, spaces: &[Text]) -> Result<Many<
     Ok(Many(inside))
 }
 
+// What follows the attributes of a root of this name, which is written with this prefix.
+fn write_inside<'a, 'b>(
+    alloc: Global,
+    prefixes: &mut Prefixes<'a>,
+    prefix: &Option<Prefix>,
+    label: Label<'a>,
+    content: Content<'a, 'b>,
+    out: &mut Vec<u8>,
+) -> Result<(), NoMemory>
+    ensures { OnOk result (((final : List (List ℕ)) → AreFinal prefixes.old final →
+        prefix.now ≡ lookup (bytes_eq (label_name label.entry).space) (name_prefixes final)) →
+        AddsContent (label_name label.entry) (children_in content.entry) prefixes.old prefixes.new
+        out.old.items out.new.items) }
+{
+    match content {
+        Content::Children(children) => {
+            write_content(alloc, prefixes, prefix, label, children, out)?;
+            Ok(())
+        }
+        Content::Pieces(pieces) => {
+            write_pieces(alloc, prefixes, prefix, label, pieces, out)?;
+            Ok(())
+        }
+    }
+}
+
 #[cycle(printing)]
-fn write_element<'a>(
+pub(crate) fn write_element<'a>(
     alloc: Global,
     prefixes: &mut Prefixes<'a>,
     element: &'a Element,
@@ -83,7 +146,7 @@ fn write_element<'a>(
         alloc,
         prefixes,
         &prefix,
-        &element.name,
+        Label::Named(&element.name),
         &element.children,
         out,
     )?;
@@ -96,13 +159,14 @@ fn write_content<'a>(
     alloc: Global,
     prefixes: &mut Prefixes<'a>,
     prefix: &Option<Prefix>,
-    name: &Name,
+    label: Label<'_>,
     children: &'a Many<Child>,
     out: &mut Vec<u8>,
 ) -> Result<(), NoMemory>
     ensures { OnOk result (((final : List (List ℕ)) → AreFinal prefixes.old final →
-        prefix.now ≡ lookup (bytes_eq name.now.space) (name_prefixes final)) →
-        AddsContent name.now children.now prefixes.old prefixes.new out.old.items out.new.items) }
+        prefix.now ≡ lookup (bytes_eq (label_name label.entry).space) (name_prefixes final)) →
+        AddsContent (label_name label.entry) children.now prefixes.old prefixes.new
+        out.old.items out.new.items) }
 {
     if children.is_empty() {
         out.extend_from_slice(b"/>")?;
@@ -113,7 +177,7 @@ fn write_content<'a>(
         write_child(alloc, prefixes, child, out)?;
     }
     out.extend_from_slice(b"</")?;
-    write_name(prefix, &name.local, out)?;
+    write_name(prefix, label.local(), out)?;
     out.extend_from_slice(b">")?;
     Ok(())
 }
@@ -140,7 +204,7 @@ fn write_child<'a>(
     }
 }
 
-fn write_attributes<'a>(
+pub(crate) fn write_attributes<'a>(
     alloc: Global,
     prefixes: &mut Prefixes<'a>,
     attributes: &'a Many<Attribute>,
@@ -208,12 +272,16 @@ fn write_new_name<'a>(
         prefix ≡ lookup (bytes_eq name.now.space) (name_prefixes final)) }
 {
     let prefix = prefixes.number(&name.space)?;
-    write_name(&prefix, &name.local, out)?;
+    write_name(&prefix, name.local.as_str(), out)?;
     Ok(prefix)
 }
 
 #[inline(always)]
-fn write_name(prefix: &Option<Prefix>, local: &Text, out: &mut Vec<u8>) -> Result<(), NoMemory>
+pub(crate) fn write_name(
+    prefix: &Option<Prefix>,
+    local: &str,
+    out: &mut Vec<u8>,
+) -> Result<(), NoMemory>
     ensures { OnOk result (out.new.items ≡ out.old.items ++ after_prefix prefix.now local.now) }
 {
     if let Some(prefix) = prefix {

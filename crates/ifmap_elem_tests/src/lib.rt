@@ -6,6 +6,8 @@
 #[cfg(test)]
 mod documents;
 #[cfg(test)]
+mod outlines;
+#[cfg(test)]
 mod printing;
 #[cfg(test)]
 mod tokens;

@@ -1,3 +1,5 @@
+use Rattle.std.proofs.Common.{◌++◌, ◌∙◌, ap}
+use Rattle.ifmap_elem.specs.Canonical.{after_prefix}
 use Rattle.ifmap_elem.proofs.PieceLaws.{piece_name, prefix_final}
 use Rattle.ifmap_elem.proofs.printing.write_new_name.Goals as goal
 
@@ -5,7 +7,7 @@ pub returns-clause-added : goal.returns-clause-added
 returns-clause-added c =
     piece_name c.args.prefixes.now c.number.new.self c.args.name.now c.in_ok-prefix.prefix c.args.out.now.items c.write_name.new.out.items
     c.in_ok-prefix.ensures.added c.in_ok-prefix.ensures.behind c.in_ok-prefix.ensures.numbered c.in_ok-prefix.ensures.prefix
-    c.in_ok-write_name.ensures
+    (c.in_ok-write_name.ensures ∙ ap (λ l. c.args.out.now.items ++ after_prefix c.in_ok-prefix.prefix l) c.as_str.ensures)
 
 pub returns-clause-prefix : goal.returns-clause-prefix
 returns-clause-prefix c =

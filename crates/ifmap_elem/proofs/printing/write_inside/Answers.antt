@@ -1,0 +1,16 @@
+use Rattle.std.proofs.Common.{subst, sym}
+use Rattle.ifmap_elem.specs.Outlines.{label_name}
+use Rattle.ifmap_elem.specs.declared.printing.Content.{Content}
+use Rattle.ifmap_elem.specs.printer.Contents.{children_in}
+use Rattle.ifmap_elem.specs.printer.Pieces.{AddsContent}
+use Rattle.ifmap_elem.proofs.printing.write_inside.Goals as goal
+
+pub returns-in_ok-write_content-in-Children : goal.returns-in_ok-write_content-in-Children
+returns-in_ok-write_content-in-Children c = λ named.
+    subst (λ (k : Content). AddsContent (label_name c.args.label) (children_in k) c.args.prefixes.now c.write_content.new.prefixes
+    c.args.out.now.items c.write_content.new.out.items) (sym c.in-Children.is) (c.in_ok-write_content-in-Children.ensures named)
+
+pub returns-in_ok-write_pieces-in-Pieces : goal.returns-in_ok-write_pieces-in-Pieces
+returns-in_ok-write_pieces-in-Pieces c = λ named.
+    subst (λ (k : Content). AddsContent (label_name c.args.label) (children_in k) c.args.prefixes.now c.write_pieces.new.prefixes
+    c.args.out.now.items c.write_pieces.new.out.items) (sym c.in-Pieces.is) (c.in_ok-write_pieces-in-Pieces.ensures named)
