@@ -15,6 +15,7 @@ pub mod Linking
 pub mod Lookups
 pub mod NameLaws
 pub mod NameSets
+pub mod NextTokens
 pub mod Progressing
 pub mod ScopeLaws
 pub mod Stepping

@@ -14,15 +14,16 @@ use Rattle.ifmap_elem.specs.Places.{BeginsDocument, Deep, Opens, Stop, is_start,
 use Rattle.ifmap_elem.specs.Spells.{Spells, without_byte_order_mark}
 use Rattle.ifmap_elem.specs.Tokens.{TakesToken}
 use Rattle.ifmap_elem.specs.laws.OneToken.{no_token}
-use Rattle.ifmap_lexer.specs.declared.errors.LexError.{LexError}
-use Rattle.ifmap_lexer.specs.declared.errors.LexError.TheVariants as lexing
+use Rattle.ifmap_lexer.specs.There.{NoToken}
 use Rattle.ifmap_reader.specs.declared.errors.ReadError.{ReadError}
+use Rattle.ifmap_reader.specs.declared.errors.ReadError.TheVariants.{Unreadable}
 use Rattle.ifmap_reader.specs.declared.errors.Refusal.{Refusal}
 use Rattle.ifmap_reader.specs.declared.errors.Refusal.TheVariants as refusals
 use Rattle.ifmap_reader.specs.declared.standing.Standing.{Standing}
 use Rattle.ifmap_reader.specs.declared.standing.Standing.TheVariants as standing
+use Rattle.ifmap_reader.specs.NextToken.{NextAnswer}
 use Rattle.ifmap_reader.specs.Progress.{Where, AtStart, Within, AfterRoot, GoesOn, IsLinked, Leads, Passes, TokenAnswer, open_in, so_deep, one_if, where_is}
-use Rattle.ifmap_reader.specs.Reads.{IsUnreadable, IsTooDeep, IsRead, lex_error, refusal_error, read_at_end}
+use Rattle.ifmap_reader.specs.Reads.{IsUnreadable, IsTooDeep, IsRead, refusal_error, read_at_end}
 use Rattle.ifmap_reader.proofs.Goings.{no_tokens, no_tokens_start, after_root_ends}
 use Rattle.ifmap_reader.proofs.Levels.{goes_deep}
 use Rattle.ifmap_reader.proofs.Ways.{some_way}
@@ -233,19 +234,10 @@ module _ (bytes : List ℕ) (depth : ℕ) (w : Where) (place : ℕ) (at : At byt
   offset_is : place ≤ length bytes → place ≡ offset bytes (drop place bytes)
   offset_is l = let b = length-drop place bytes in omega (arith, b, l)
 
-  pub lex_refused : (shown : List ℕ) (error : LexError) (result : ReadError) → place < length bytes → shown ≡ drop place bytes
-      → result ≡ lex_error error place
-      → (error ≡ lexing.Malformed → (t : Token) (rest : List ℕ) → TakesToken shown t rest → ⊥) → IsRead bytes depth (Err result)
-  lex_refused shown error result l is made none =
-      subst (λ (e : ReadError). IsRead bytes depth (Err e)) (sym made) (by error none)
-    where
-      by : (error : LexError) → (error ≡ lexing.Malformed → (t : Token) (rest : List ℕ) → TakesToken shown t rest → ⊥)
-          → IsRead bytes depth (Err (lex_error error place))
-      by lexing.Malformed none =
-          not_lexed bytes depth w (drop place bytes) at (some_left l)
-          (subst (λ (b : List ℕ). (t : Token) (rest : List ℕ) → TakesToken b t rest → ⊥) is (none refl)) place
-          (offset_is (omega (arith, l)))
-      by lexing.NoMemory none = tt
+  pub none_there : (shown : List ℕ) → place < length bytes → shown ≡ drop place bytes → NoToken shown
+      → IsRead bytes depth (Err (Unreadable place))
+  none_there shown l is none =
+      not_lexed bytes depth w (drop place bytes) at (some_left l) (subst NoToken is none) place (offset_is (omega (arith, l)))
 
   module _ (shown : List ℕ) (t : Token) (count : ℕ) (l : place < length bytes) (is : shown ≡ drop place bytes)
       (taken : TakesToken shown t (drop count shown))
@@ -275,6 +267,18 @@ module _ (bytes : List ℕ) (depth : ℕ) (w : Where) (place : ℕ) (at : At byt
             step_too_deep bytes depth w (drop place bytes) at t (drop (place + count) bytes) (some_left l) taken_here alone_here place
             (offset_is (omega (arith, l))) h
         by refusals.NoMemory h = tt
+
+  -- the answers to the token at the front
+  pub token_refused : (shown : List ℕ) (refusal : Refusal) (result : ReadError) → place < length bytes → shown ≡ drop place bytes
+      → result ≡ refusal_error refusal place → NextAnswer depth w shown (Err refusal) → IsRead bytes depth (Err result)
+  token_refused shown refusal result l is made a = elim a [
+    | inl e ↦ subst (λ (x : ReadError). IsRead bytes depth (Err x)) (sym (made ∙ ap (λ r. refusal_error r place) e)) tt
+    | inr (inl h) ↦
+        subst (λ (x : ReadError). IsRead bytes depth (Err x)) (sym (made ∙ ap (λ r. refusal_error r place) h.0))
+        (none_there shown l is h.1)
+    | inr (inr h) ↦
+        refused_at shown h.1.token h.0 l is h.1.takes.taken h.1.takes.alone refusal result made h.1.answers
+  ]
 
 pub shown_is : (bytes : List ℕ) (place : ℕ) → take (length bytes - place) (drop place bytes) ≡ drop place bytes
 shown_is bytes place = take_all (length bytes - place) (drop place bytes) (omega (arith, length-drop place bytes))

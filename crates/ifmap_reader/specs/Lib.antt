@@ -4,4 +4,5 @@ pub mod ListedScopes
 pub mod OpenElements
 pub mod AllowedTags
 pub mod Progress
+pub mod NextToken
 pub mod Reads

@@ -6,7 +6,6 @@ use Rattle.std.specs.Str.{bytes_eq}
 use Rattle.ifmap_elem.specs.InScope.{HasScope, declared_at, is_listed, listed}
 use Rattle.ifmap_elem.specs.Scopes.{Scope}
 use Rattle.ifmap_elem.specs.Spells.{Spells}
-use Rattle.ifmap_elem.specs.declared.elements.Element.{Element}
 use Rattle.ifmap_elem.specs.declared.readings.Declared.{Declared}
 use Rattle.ifmap_elem.specs.declared.readings.Reading.{Reading}
 

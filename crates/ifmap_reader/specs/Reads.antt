@@ -7,8 +7,6 @@ use Rattle.ifmap_elem.specs.Fit.{IsFit}
 use Rattle.ifmap_elem.specs.Nesting.{nesting}
 use Rattle.ifmap_elem.specs.Places.{Deep, Stop}
 use Rattle.ifmap_elem.specs.Spells.{Spells}
-use Rattle.ifmap_lexer.specs.declared.errors.LexError.{LexError}
-use Rattle.ifmap_lexer.specs.declared.errors.LexError.TheVariants as lexing
 use Rattle.ifmap_reader.specs.declared.errors.ReadError.{ReadError}
 use Rattle.ifmap_reader.specs.declared.errors.ReadError.TheVariants.{Unreadable, TooDeep, NoMemory}
 use Rattle.ifmap_reader.specs.declared.errors.Refusal.{Refusal}
@@ -43,10 +41,6 @@ pub record AreCanonical (bytes : List ℕ) (depth : ℕ) (e : Element) : Type 0 
 -- what is read is the element with its attributes in order and the declarations of its printing, unless memory runs out
 abbrev pub GivesBack : Element → Result Reading ReadError → Type 0
 GivesBack e result = IfOk result (λ r. r ≡ canonical_reading e) × IfErr result (λ error. error ≡ NoMemory)
-
-abbrev pub lex_error : LexError → ℕ → ReadError
-lex_error lexing.Malformed at = Unreadable at
-lex_error lexing.NoMemory at = NoMemory
 
 abbrev pub refusal_error : Refusal → ℕ → ReadError
 refusal_error refusals.NotAllowed at = Unreadable at

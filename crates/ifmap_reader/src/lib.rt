@@ -8,6 +8,7 @@ mod bindings;
 mod differing;
 pub mod errors;
 pub mod laws;
+mod next_token;
 mod open_elements;
 pub mod reading;
 pub mod scoping;

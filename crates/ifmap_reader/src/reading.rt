@@ -3,12 +3,12 @@ ghost use Rattle.std.specs.Prelude.{◌≡◌, ◌≤◌, drop, length, IfOk};
 ghost use Rattle.ifmap_elem.specs.declared.elements.Element.{Element};
 ghost use Rattle.ifmap_elem.specs.Fit.{IsFit};
 ghost use Rattle.ifmap_elem.specs.Spells.{without_byte_order_mark};
-ghost use Rattle.ifmap_reader.specs.Reads.{AreCanonical, GivesBack, IsRead, lex_error, read_at_end, refusal_error};
+ghost use Rattle.ifmap_reader.specs.Reads.{AreCanonical, GivesBack, IsRead, read_at_end, refusal_error};
 
 use crate::errors::{ReadError, Refusal};
-use crate::standing::{Standing, take_token};
+use crate::next_token::take_next;
+use crate::standing::Standing;
 use ifmap_elem::Reading;
-use ifmap_lexer::{LexError, token_of};
 use std::alloc::Global;
 
 const BYTE_ORDER_MARK: &[u8] = b"\xEF\xBB\xBF";
@@ -29,15 +29,12 @@ fn read_tokens(alloc: Global, bytes: &[u8], depth: u32) -> Result<Reading, ReadE
     let mut at = byte_order_mark_length(bytes);
     let mut standing = Standing::Start;
     while at < bytes.len() {
-        let lexed = match token_of(alloc, &bytes[at..]) {
-            Ok(lexed) => lexed,
-            Err(error) => return Err(lex_error(error, at)),
-        };
-        standing = match take_token(alloc, depth, standing, lexed.token) {
+        let next = match take_next(alloc, depth, standing, &bytes[at..]) {
             Ok(next) => next,
             Err(refusal) => return Err(refusal_error(refusal, at)),
         };
-        at += lexed.length;
+        standing = next.standing;
+        at += next.length;
     }
     read_at_end(standing, at)
 }
@@ -61,15 +58,6 @@ fn byte_order_mark_length(bytes: &[u8]) -> usize
         BYTE_ORDER_MARK.len()
     } else {
         0
-    }
-}
-
-fn lex_error(error: LexError, at: usize) -> ReadError
-    ensures { result ≡ lex_error error at }
-{
-    match error {
-        LexError::Malformed => ReadError::Unreadable { at: at as u64 },
-        LexError::NoMemory => ReadError::NoMemory,
     }
 }
 

@@ -150,7 +150,7 @@ fn take_end(
 }
 
 // After an element that ended: it is a child of the innermost that is still open, or the root.
-fn with_element(
+pub(crate) fn with_element(
     alloc: Global,
     open_elements: Vec<OpenElement>,
     element: Element,

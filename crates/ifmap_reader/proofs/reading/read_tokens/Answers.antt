@@ -1,5 +1,5 @@
 use Rattle.ifmap_reader.specs.Progress.{where_is}
-use Rattle.ifmap_reader.proofs.Progressing.{at_start, lex_refused, next_at, refused_at, shown_is, within_next, end_read}
+use Rattle.ifmap_reader.proofs.Progressing.{at_start, next_at, token_refused, shown_is, within_next, end_read}
 use Rattle.ifmap_reader.proofs.reading.read_tokens.Goals as goal
 
 pub loop-at-init : goal.loop-at-init
@@ -11,24 +11,19 @@ loop-at-init c = record {
 
 pub returns-in-Err : goal.returns-in-Err
 returns-in-Err c =
-    lex_refused c.args.bytes.now c.args.depth (where_is c.loop-at.standing) c.loop-at.at c.loop-at.invariant.come _ c.in-Err.error
-    c.lex_error.result c.loop-at-test.true (shown_is c.args.bytes.now c.loop-at.at)
-    c.lex_error.ensures c.in-Err.ensures.malformed
-
-pub returns-in-Err-take_token : goal.returns-in-Err-take_token
-returns-in-Err-take_token c =
-    refused_at c.args.bytes.now c.args.depth (where_is c.loop-at.standing) c.loop-at.at c.loop-at.invariant.come _ c.in-Ok.lexed.token
-    c.in-Ok.lexed.length c.loop-at-test.true (shown_is c.args.bytes.now c.loop-at.at)
-    c.in-Ok.ensures.taken c.in-Ok.ensures.alone c.in-Err-take_token.refusal c.refusal_error.result c.refusal_error.ensures
-    c.in-Err-take_token.ensures
+    token_refused c.args.bytes.now c.args.depth (where_is c.loop-at.standing) c.loop-at.at c.loop-at.invariant.come _
+    c.in-Err.refusal c.refusal_error.result c.loop-at-test.true (shown_is c.args.bytes.now c.loop-at.at) c.refusal_error.ensures
+    c.in-Err.ensures
 
 pub loop-at-preserved : goal.loop-at-preserved
-loop-at-preserved c = record {
-  within = within_next c.args.bytes.now c.loop-at.at c.in-Ok.lexed.length c.loop-at-test.true c.in-Ok.ensures.length.1;
-  come = next_at c.args.bytes.now c.args.depth (where_is c.loop-at.standing) c.loop-at.at c.loop-at.invariant.come _ c.in-Ok.lexed.token
-      c.in-Ok.lexed.length c.loop-at-test.true (shown_is c.args.bytes.now c.loop-at.at)
-      c.in-Ok.ensures.taken c.in-Ok.ensures.alone (where_is c.in-Ok-take_token.next) c.in-Ok-take_token.ensures;
-}
+loop-at-preserved c =
+    let takes = c.in-Ok.ensures.takes in
+    record {
+      within = within_next c.args.bytes.now c.loop-at.at c.in-Ok.next.length c.loop-at-test.true takes.within;
+      come = next_at c.args.bytes.now c.args.depth (where_is c.loop-at.standing) c.loop-at.at c.loop-at.invariant.come _
+          c.in-Ok.ensures.token c.in-Ok.next.length c.loop-at-test.true (shown_is c.args.bytes.now c.loop-at.at)
+          takes.taken takes.alone (where_is c.in-Ok.next.standing) c.in-Ok.ensures.answers;
+    }
 
 pub returns : goal.returns
 returns c =
