@@ -78,7 +78,7 @@ impl Clock for MemoryClock {
 }
 
 // How long a pause of the system's clock asks the system to sleep, in milliseconds.
-const PAUSE: u64 = 10;
+const PAUSE: u64 = 50;
 
 /// The system's clock, over the runtime. It claims nothing of its moments. It gives the moment 0
 /// where the system's clock cannot be read, and the greatest moment where that is past it.
