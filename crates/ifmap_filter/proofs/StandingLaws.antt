@@ -1,9 +1,6 @@
 -- What the code of `standing` does beside its definitions: the depth, the stack with the innermost last, and tokens that are not allowed.
-use Rattle.std.proofs.Common.{◌≡◌, ◌≢◌, ℕ, ◌+◌, ◌<◌, ◌≤◌, suc, true, false, List, [], ◌∷◌, ◌++◌, length, refl, ap, sym, ◌∙◌, arith, Option, Some, None, reverse, drop, get_or, add-one, drop-cons}
+use Rattle.std.proofs.Common.{◌≡◌, ◌≢◌, ℕ, ◌<◌, ◌≤◌, true, false, List, [], ◌∷◌, ◌++◌, length, refl, ap, arith, Option, Some, None, reverse}
 use Rattle.std.specs.Prelude.{nat_lt}
-use Rattle.std.specs.Map.{lookup}
-use Rattle.std.specs.Str.{bytes_eq}
-use Rattle.std.proofs.Math.Seq.{drop-length}
 use Rattle.std.proofs.lemmas.Bool.Decides.{nat_tests}
 use Rattle.std.proofs.lemmas.List.{length-reverse, reverse-append}
 use Rattle.ifmap_elem.specs.declared.elements.Name as element
@@ -138,29 +135,3 @@ named_other done name EqualsSign no_bracket = refl
 named_other done name At no_bracket = refl
 named_other done name (Name q) no_bracket = refl
 named_other done name (Literal v) no_bracket = refl
-
--- the first row with a key, among those from a place on
-
-module _ (key : List ℕ) (rows : List (List ℕ × List ℕ)) (i : ℕ) where
-  rows_from : (row : List ℕ × List ℕ) → i < length rows → row ≡ get_or rows i row → drop i rows ≡ row ∷ drop (i + 1) rows
-  rows_from row here is =
-      drop-cons rows i row here ∙ ap (λ r. r ∷ drop (suc i) rows) (sym is) ∙ ap (λ k. row ∷ drop k rows) (sym (add-one i))
-
-  pub row_passed : (row : List ℕ × List ℕ) → i < length rows → row ≡ get_or rows i row → bytes_eq key row.0 ≡ false
-      → lookup (bytes_eq key) (drop i rows) ≡ lookup (bytes_eq key) (drop (i + 1) rows)
-  row_passed row here is other = ap (lookup (bytes_eq key)) (rows_from row here is) ∙ passed
-    where
-      passed : lookup (bytes_eq key) (row ∷ drop (i + 1) rows) ≡ lookup (bytes_eq key) (drop (i + 1) rows)
-      passed = rw other refl
-
-  pub row_found : (row : List ℕ × List ℕ) → i < length rows → row ≡ get_or rows i row → bytes_eq key row.0 ≡ true
-      → lookup (bytes_eq key) (drop i rows) ≡ Some row.1
-  row_found row here is same = ap (lookup (bytes_eq key)) (rows_from row here is) ∙ found
-    where
-      found : lookup (bytes_eq key) (row ∷ drop (i + 1) rows) ≡ Some row.1
-      found = rw same refl
-
-  pub no_row : length rows ≤ i → i ≤ length rows → lookup (bytes_eq key) (drop i rows) ≡ None
-  no_row past within =
-      let end : i ≡ length rows = omega arith in
-      ap (λ k. lookup (bytes_eq key) (drop k rows)) end ∙ ap (lookup (bytes_eq key)) (drop-length rows)

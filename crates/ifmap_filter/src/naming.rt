@@ -1,14 +1,12 @@
 //! What names in the text of a filter stand for.
 ghost use Rattle.std.specs.Prelude.{◌≡◌, IfOk};
-ghost use Rattle.std.specs.Map.{lookup};
 ghost use Rattle.std.specs.Option.{option_copied};
-ghost use Rattle.std.specs.Str.{bytes_eq};
 ghost use Rattle.ifmap_filter.specs.Grammar.{space_of};
 ghost use Rattle.ifmap_filter.specs.Progress.{is_word, name_of};
 
 use ifmap_elem::tokens::Qualified;
 use ifmap_elem::{Name, Text};
-use ifmap_reader::Scope;
+use ifmap_prefixes::Prefixes;
 use std::alloc::{AllocError as NoMemory, Global};
 
 pub(crate) const XML_SPACE: &str = "http://www.w3.org/XML/1998/namespace";
@@ -16,7 +14,7 @@ pub(crate) const XML_SPACE: &str = "http://www.w3.org/XML/1998/namespace";
 // The name that a qualified name stands for; none where its prefix is not in scope.
 pub(crate) fn name_of(
     alloc: Global,
-    scope: &Scope,
+    scope: &Prefixes<'_, '_>,
     written: Qualified,
 ) -> Result<Option<Name>, NoMemory>
     ensures { IfOk result (λ o. o ≡ name_of scope.now written) }
@@ -32,7 +30,7 @@ pub(crate) fn name_of(
 }
 
 // The namespace of a prefix. That of `xml` is the same in every scope.
-fn space_of<'a>(scope: &'a Scope, prefix: &str) -> Option<&'a str>
+fn space_of<'a>(scope: &'a Prefixes<'_, '_>, prefix: &str) -> Option<&'a str>
     ensures { option_copied result ≡ space_of scope.now prefix.now }
 {
     if prefix.is_empty() {
@@ -41,18 +39,7 @@ fn space_of<'a>(scope: &'a Scope, prefix: &str) -> Option<&'a str>
     if prefix == "xml" {
         return Some(XML_SPACE);
     }
-    first_row(&scope.rows.0, prefix)
-}
-
-fn first_row<'a>(rows: &'a [(Text, Text)], prefix: &str) -> Option<&'a str>
-    ensures { option_copied result ≡ lookup (bytes_eq prefix.now) rows.now }
-{
-    for row in rows {
-        if prefix == row.0.as_str() {
-            return Some(row.1.as_str());
-        }
-    }
-    None
+    scope.space_of(prefix)
 }
 
 // Whether the name is this word without a prefix.

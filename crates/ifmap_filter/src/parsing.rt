@@ -9,6 +9,8 @@ use crate::filters::Filter;
 use crate::lexing::{token_at, without_white};
 use crate::standing::{Standing, filter_at, take_token};
 use ifmap_elem::Text;
+use ifmap_prefixes::rows::declarations_of;
+use ifmap_prefixes::{Declarations, Prefixes};
 use ifmap_reader::Scope;
 use std::alloc::Global;
 
@@ -31,11 +33,25 @@ impl Filter {
     pub fn parse(alloc: Global, text: &Text, scope: &Scope) -> Result<Filter, FilterError>
         ensures { IsParsed text.now scope.now result }
     {
+        let rows = declarations_of(alloc, scope)?;
+        let declarations = Declarations::of(alloc, rows.as_slice())?;
+        read_filter(alloc, text.as_str(), &Prefixes::at(&declarations, &[]))
+    }
+
+    /// The filter that the text writes as `parse` says, where the prefixes in scope are found by
+    /// search: nothing is made of the declarations that the text does not name.
+    pub fn parse_among(
+        alloc: Global,
+        text: &Text,
+        scope: &Prefixes<'_, '_>,
+    ) -> Result<Filter, FilterError>
+        ensures { IsParsed text.now scope.now result }
+    {
         read_filter(alloc, text.as_str(), scope)
     }
 }
 
-fn read_filter(alloc: Global, text: &str, scope: &Scope) -> Result<Filter, FilterError>
+fn read_filter(alloc: Global, text: &str, scope: &Prefixes<'_, '_>) -> Result<Filter, FilterError>
     ensures { IsParsed text.now scope.now result }
 {
     let mut standing = Standing::Start;
@@ -53,7 +69,7 @@ fn read_filter(alloc: Global, text: &str, scope: &Scope) -> Result<Filter, Filte
 // after white space.
 fn read_token<'a>(
     alloc: Global,
-    scope: &Scope,
+    scope: &Prefixes<'_, '_>,
     standing: Standing,
     rest: &'a str,
     at: u64,

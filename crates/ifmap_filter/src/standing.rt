@@ -9,7 +9,7 @@ use crate::naming::{is_word, name_of};
 use crate::tokens::Token;
 use ifmap_elem::tokens::Qualified;
 use ifmap_elem::{Many, Name, Text};
-use ifmap_reader::Scope;
+use ifmap_prefixes::Prefixes;
 use std::alloc::{AllocError as NoMemory, Global};
 
 // How deep parentheses may nest.
@@ -61,7 +61,7 @@ pub(crate) enum Standing {
 // What one more token makes of it; none where the token is not allowed there.
 pub(crate) fn take_token(
     alloc: Global,
-    scope: &Scope,
+    scope: &Prefixes<'_, '_>,
     standing: Standing,
     token: Token,
 ) -> Result<Option<Standing>, NoMemory>
@@ -82,7 +82,7 @@ pub(crate) fn take_token(
 
 fn take_test(
     alloc: Global,
-    scope: &Scope,
+    scope: &Prefixes<'_, '_>,
     tests: Many<Test>,
     token: Token,
 ) -> Result<Option<Standing>, NoMemory>
@@ -152,7 +152,7 @@ fn take_tested(tests: Many<Test>, token: Token) -> Option<Standing>
 
 fn take_factor(
     alloc: Global,
-    scope: &Scope,
+    scope: &Prefixes<'_, '_>,
     open_part: OpenPart,
     token: Token,
 ) -> Result<Option<Standing>, NoMemory>

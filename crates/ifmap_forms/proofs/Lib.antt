@@ -1,5 +1,4 @@
 pub mod PartLaws
 pub mod NumberLaws
 pub mod KindLaws
-pub mod ScopeLaws
 pub mod ItemLaws

@@ -1,8 +1,7 @@
 -- Which prefixes are in scope at the elements of a message (Namespaces in XML 1.0, section 6).
-use Rattle.std.specs.Prelude.{ℕ, ◌==◌, if◌then◌else◌, List, [], ◌∷◌, ◌++◌, map, Option, None, Some}
-use Rattle.std.specs.List.{starts_with}
-use Rattle.ifmap_elem.specs.InScope.{declared_at}
+use Rattle.std.specs.Prelude.{ℕ, List, [], ◌∷◌, ◌++◌, Option, None, Some}
 use Rattle.ifmap_elem.specs.declared.readings.Declared.{Declared}
+use Rattle.ifmap_prefixes.specs.InScope.{scope_by}
 use Rattle.ifmap_reader.specs.declared.scoping.Scope.{Scope}
 
 -- the scope at each path of child indexes from an element on
@@ -12,10 +11,6 @@ Scopes = List ℕ → Scope
 -- those from its child with that index on
 abbrev pub scopes_below : Scopes → ℕ → Scopes
 scopes_below scopes index path = scopes (index ∷ path)
-
--- the prefixes in scope at a path, the innermost declaration first
-abbrev pub scope_by : List Declared → List ℕ → Scope
-scope_by declared path = record { rows = map (λ b. (b.prefix, b.space)) (declared_at path declared) }
 
 -- the scopes from the element at a path on
 abbrev pub scopes_by : List Declared → List ℕ → Scopes
@@ -35,7 +30,3 @@ place_scope declared path (Some index) = scopes_by declared path (index ∷ [])
 abbrev pub place_scopes : List Declared → List ℕ → Option ℕ → Scopes
 place_scopes declared path None = scopes_by declared path
 place_scopes declared path (Some index) = scopes_below (scopes_by declared path) index
-
--- what a declaration adds to the scope at a path: a row, where it stands at or round the element there
-abbrev pub row_told : List ℕ → Declared → Option (List ℕ × List ℕ)
-row_told path d = if starts_with ◌==◌ path d.path then Some (d.prefix, d.space) else None

@@ -1,30 +1,29 @@
-//! Where an element stands, and the prefixes in scope there.
-ghost use Rattle.std.specs.Prelude.{◌≡◌, ◌≤◌, ◌^◌, ◌==◌, ◌++◌, IfErr, IfOk, IsErr};
-ghost use Rattle.std.specs.List.{starts_with};
-ghost use Rattle.ifmap_forms.specs.Scopes.{child_path, place_scope, row_told, scope_by};
+//! Where an element stands.
+ghost use Rattle.std.specs.Prelude.{◌≡◌, ◌≤◌, ◌^◌, ◌++◌, IfErr, IfOk, IsErr};
+ghost use Rattle.ifmap_forms.specs.Scopes.{child_path, place_scope};
+ghost use Rattle.ifmap_prefixes.specs.InScope.{scope_by};
 
 use crate::errors::FormError;
 use crate::gathering::keep_found;
-use ifmap_elem::{Copied, Declared, Many, Text};
-use ifmap_reader::Scope;
+use ifmap_prefixes::Declarations;
 use std::alloc::{AllocError as NoMemory, Global};
 
 /// Where an element of a message stands in the document: the element with this path, or a child of
 /// that one.
-#[derive(Clone, Copy, Debug)]
-pub struct Place<'a> {
+#[derive(Clone, Copy)]
+pub struct Place<'d, 'p> {
     /// The declarations of prefixes in the document, in its order.
-    pub declared: &'a [Declared],
+    pub declared: &'p Declarations<'d>,
     /// The indexes of children from the root on.
-    pub path: &'a [u32],
+    pub path: &'p [u32],
     /// The index of the child, where it is one.
     pub child: Option<u32>,
 }
 
-impl<'a> Place<'a> {
+impl<'d, 'p> Place<'d, 'p> {
     /// The place of the child with that index of the element at the path. The one error is want of
     /// memory, which is answered where no path can have the index, since it is 2^32 or more.
-    pub fn of_child(&self, index: usize) -> Result<Place<'a>, FormError>
+    pub fn of_child(&self, index: usize) -> Result<Place<'d, 'p>, FormError>
         ensures declared { IfOk result (λ place. place.declared.now ≡ self.now.declared.now) }
         ensures path { IfOk result (λ place. place.path.now ≡ self.now.path.now) }
         ensures child { IfOk result (λ place. place.child ≡ Some index) }
@@ -53,51 +52,15 @@ pub fn narrow(index: usize) -> Result<u32, FormError>
     }
 }
 
-/// The prefixes in scope at a place (Namespaces in XML 1.0, section 6), the innermost declaration
-/// of each first. It goes over all declarations of the document. The one error is want of memory.
-pub fn scope_of(alloc: Global, place: &Place<'_>) -> Result<Scope, NoMemory>
-    ensures { IfOk result (λ scope. scope ≡ place_scope place.now.declared.now place.now.path.now
-        place.now.child) }
-{
-    let path = full_path(alloc, place)?;
-    scope_by(alloc, place.declared, &path)
-}
-
-fn full_path(alloc: Global, place: &Place<'_>) -> Result<Vec<u32>, NoMemory>
-    ensures { IfOk result (λ path.
+// The path of the element at a place, at which its prefixes are in scope.
+pub(crate) fn full_path(alloc: Global, place: &Place<'_, '_>) -> Result<Vec<u32>, NoMemory>
+    ensures path { IfOk result (λ path.
         path.items ≡ place.now.path.now ++ child_path place.now.child) }
+    ensures scope { IfOk result (λ path. scope_by place.now.declared.now path.items ≡
+        place_scope place.now.declared.now place.now.path.now place.now.child) }
 {
     let mut path = Vec::with_capacity(alloc, place.path.len())?;
     path.extend_from_slice(place.path)?;
     keep_found(&mut path, place.child)?;
     Ok(path)
-}
-
-fn scope_by(alloc: Global, declared: &[Declared], path: &[u32]) -> Result<Scope, NoMemory>
-    ensures { IfOk result (λ scope. scope ≡ scope_by declared.now path.now) }
-{
-    let mut rows = Vec::new(alloc);
-    for declaration in declared {
-        let row = row_of(alloc, declaration, path)?;
-        keep_found(&mut rows, row)?;
-    }
-    rows.reverse();
-    Ok(Scope { rows: Many(rows) })
-}
-
-// What a declaration adds to the scope at a path.
-fn row_of(
-    alloc: Global,
-    declaration: &Declared,
-    path: &[u32],
-) -> Result<Option<(Text, Text)>, NoMemory>
-    ensures { IfOk result (λ row. row ≡ row_told path.now declaration.now) }
-{
-    if !path.starts_with(&declaration.path.0) {
-        return Ok(None);
-    }
-    Ok(Some((
-        declaration.prefix.copy(alloc)?,
-        declaration.space.copy(alloc)?,
-    )))
 }

@@ -1,7 +1,7 @@
 //! Readers of attributes of requests, each of which answers what the value means, or what it means
 //! that there is none (IF-MAP binding for SOAP, version 2.2, section 3). Attributes are in no
 //! namespace.
-ghost use Rattle.std.specs.Prelude.{◌≡◌, ◌&&◌, ◌^◌, nat_le, nat_lt, Some};
+ghost use Rattle.std.specs.Prelude.{◌≡◌, ◌≢◌, ◌&&◌, ◌^◌, nat_le, nat_lt, IfErr, Some};
 ghost use Rattle.ifmap_ident.specs.Parts.{value_of};
 ghost use Rattle.ifmap_ident.specs.declared.codes.Code.TheVariants.{Failure};
 ghost use Rattle.ifmap_forms.specs.Answers.{IsChecked};
@@ -12,11 +12,12 @@ ghost use Rattle.ifmap_forms.specs.Values.{depth_field, filter_check, kinds_fiel
 use crate::errors::FormError;
 use crate::kinds::kinds_in;
 use crate::numbers::number_of;
-use crate::places::{Place, scope_of};
+use crate::places::{Place, full_path};
 use ifmap_elem::{Copied, Element, Many, Text};
 use ifmap_filter::laws::text_is_filter_or_stops;
 use ifmap_filter::{Filter, FilterError};
 use ifmap_ident::{Code, Kind, value_of};
+use ifmap_prefixes::Prefixes;
 use std::alloc::Global;
 
 /// The text of the attribute of this name, whatever it is; Failure where there is none.
@@ -53,7 +54,8 @@ fn is_name_length(length: usize) -> bool
 /// range of 10,000 to 5,000,000; `None` where there is none. A value that is not one ASCII digit
 /// or more is Failure.
 pub fn read_limit(element: &Element) -> Result<Option<u32>, FormError>
-    ensures { IsChecked (read_limit (value_of limit_field.local element.now)) result }
+    ensures answer { IsChecked (read_limit (value_of limit_field.local element.now)) result }
+    ensures definite { IfErr result (λ error. error ≢ FormError.NoMemory) }
 {
     let Some(text) = value_of(element, "max-poll-result-size") else {
         return Ok(None);
@@ -67,7 +69,8 @@ pub fn read_limit(element: &Element) -> Result<Option<u32>, FormError>
 /// The most links of a walk: the attribute `max-depth`, and 0 where there is none. A value that is
 /// not one ASCII digit or more is Failure, and so is a number of 2^32 or more.
 pub fn read_depth(element: &Element) -> Result<u32, FormError>
-    ensures { IsChecked (read_depth (value_of depth_field.local element.now)) result }
+    ensures answer { IsChecked (read_depth (value_of depth_field.local element.now)) result }
+    ensures definite { IfErr result (λ error. error ≢ FormError.NoMemory) }
 {
     let Some(text) = value_of(element, "max-depth") else {
         return Ok(0);
@@ -79,7 +82,8 @@ pub fn read_depth(element: &Element) -> Result<u32, FormError>
 }
 
 fn depth_of(number: u64) -> Result<u32, FormError>
-    ensures { IsChecked (need (nat_lt number (2 ^ 32)) Failure (pass number)) result }
+    ensures answer { IsChecked (need (nat_lt number (2 ^ 32)) Failure (pass number)) result }
+    ensures definite { IfErr result (λ error. error ≢ FormError.NoMemory) }
 {
     match u32::try_from(number) {
         Ok(depth) => Ok(depth),
@@ -91,7 +95,8 @@ fn depth_of(number: u64) -> Result<u32, FormError>
 /// it is greater, and 100,000 where there is none. A value that is not one ASCII digit or more is
 /// Failure.
 pub fn read_size(element: &Element) -> Result<u64, FormError>
-    ensures { IsChecked (read_size (value_of size_field.local element.now)) result }
+    ensures answer { IsChecked (read_size (value_of size_field.local element.now)) result }
+    ensures definite { IfErr result (λ error. error ≢ FormError.NoMemory) }
 {
     let Some(text) = value_of(element, "max-size") else {
         return Ok(100_000);
@@ -105,7 +110,8 @@ pub fn read_size(element: &Element) -> Result<u64, FormError>
 /// Whether what is published stays when the session ends: the attribute `lifetime` is `forever`;
 /// it does not where it is `session`, or there is none. Another value is Failure.
 pub fn read_lifetime(element: &Element) -> Result<bool, FormError>
-    ensures { IsChecked (read_lifetime (value_of lifetime_field.local element.now)) result }
+    ensures answer { IsChecked (read_lifetime (value_of lifetime_field.local element.now)) result }
+    ensures definite { IfErr result (λ error. error ≢ FormError.NoMemory) }
 {
     match value_of(element, "lifetime") {
         Some(text) => lifetime_of(text.as_str()),
@@ -114,7 +120,8 @@ pub fn read_lifetime(element: &Element) -> Result<bool, FormError>
 }
 
 fn lifetime_of(text: &str) -> Result<bool, FormError>
-    ensures { IsChecked (read_lifetime (Some text.now)) result }
+    ensures answer { IsChecked (read_lifetime (Some text.now)) result }
+    ensures definite { IfErr result (λ error. error ≢ FormError.NoMemory) }
 {
     match text {
         "session" => Ok(false),
@@ -127,7 +134,7 @@ fn lifetime_of(text: &str) -> Result<bool, FormError>
 /// there; `None` where there is none. A value that is no filter is Failure.
 pub fn read_filter(
     alloc: Global,
-    place: &Place<'_>,
+    place: &Place<'_, '_>,
     element: &Element,
     local: &str,
 ) -> Result<Option<Filter>, FormError>
@@ -140,13 +147,13 @@ pub fn read_filter(
     }
 }
 
-fn filter_of(alloc: Global, place: &Place<'_>, text: &Text) -> Result<Filter, FormError>
+fn filter_of(alloc: Global, place: &Place<'_, '_>, text: &Text) -> Result<Filter, FormError>
     ensures { IsChecked (filter_check (place_scope place.now.declared.now place.now.path.now
         place.now.child) text.now) result }
 {
     text_is_filter_or_stops();
-    let scope = scope_of(alloc, place)?;
-    match Filter::parse(alloc, text, &scope) {
+    let path = full_path(alloc, place)?;
+    match Filter::parse_among(alloc, text, &Prefixes::at(place.declared, &path)) {
         Ok(filter) => Ok(filter),
         Err(FilterError::NotAFilter { .. }) => Err(FormError::Named(Code::Failure)),
         Err(FilterError::NoMemory) => Err(FormError::NoMemory),

@@ -1,0 +1,4 @@
+pub mod Adding
+pub mod Looking
+pub mod RootRows
+pub mod Walking

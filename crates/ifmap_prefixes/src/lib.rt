@@ -1,0 +1,7 @@
+//! The prefixes in scope at an element, each found by search among all declarations of a document.
+#![tactic(auto)]
+
+pub mod prefixes;
+pub mod rows;
+
+pub use prefixes::{Declarations, Prefixes};
