@@ -24,7 +24,7 @@ const SPACE: &str = "http://www.trustedcomputinggroup.org/2010/IFMAP/2";
 // The request that an element at a place means.
 pub(crate) fn read_element(
     alloc: Global,
-    place: &Place<'_>,
+    place: &Place<'_, '_>,
     element: Element,
 ) -> Result<Request, FormError>
     requires { place.now.child ≡ None }
@@ -82,7 +82,7 @@ fn asking_of(local: &str) -> Option<Asking>
 }
 
 // The request that an element means which is no publish.
-fn read_named(alloc: Global, place: &Place<'_>, element: &Element) -> Result<Request, FormError>
+fn read_named(alloc: Global, place: &Place<'_, '_>, element: &Element) -> Result<Request, FormError>
     requires place { place.now.child ≡ None }
     requires space { bytes_eq element.now.name.space ifmap_space ≡ true }
     ensures { IsChecked (other_request_check (scopes_by place.now.declared.now place.now.path.now)
@@ -154,7 +154,11 @@ fn read_session(alloc: Global, element: &Element) -> Result<Text, FormError>
     Ok(session)
 }
 
-fn read_publish(alloc: Global, place: &Place<'_>, element: Element) -> Result<Request, FormError>
+fn read_publish(
+    alloc: Global,
+    place: &Place<'_, '_>,
+    element: Element,
+) -> Result<Request, FormError>
     requires { place.now.child ≡ None }
     ensures { IsChecked (form_check publish_form publish_of (scopes_by place.now.declared.now
         place.now.path.now) element) result }
@@ -170,7 +174,7 @@ fn read_publish(alloc: Global, place: &Place<'_>, element: Element) -> Result<Re
 
 fn read_asked_search(
     alloc: Global,
-    place: &Place<'_>,
+    place: &Place<'_, '_>,
     element: &Element,
 ) -> Result<Request, FormError>
     requires { place.now.child ≡ None }
@@ -195,7 +199,11 @@ fn read_asked_search(
     Ok(Request::Search { session, search })
 }
 
-fn read_subscribe(alloc: Global, place: &Place<'_>, element: &Element) -> Result<Request, FormError>
+fn read_subscribe(
+    alloc: Global,
+    place: &Place<'_, '_>,
+    element: &Element,
+) -> Result<Request, FormError>
     requires { place.now.child ≡ None }
     ensures { IsChecked (form_check subscribe_form subscribe_of (scopes_by place.now.declared.now
         place.now.path.now) element.now) result }

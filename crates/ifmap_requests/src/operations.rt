@@ -21,7 +21,7 @@ use std::alloc::Global;
 // The operations that the children of a publish are, where the place is that of the publish.
 pub(crate) fn read_publish_ops(
     alloc: Global,
-    place: &Place<'_>,
+    place: &Place<'_, '_>,
     children: Vec<Child>,
 ) -> Result<Many<PublishOp>, FormError>
     requires { place.now.child ≡ None }
@@ -41,7 +41,7 @@ pub(crate) fn read_publish_ops(
 
 fn next_op(
     alloc: Global,
-    place: &Place<'_>,
+    place: &Place<'_, '_>,
     index: usize,
     child: Child,
 ) -> Result<Option<PublishOp>, FormError>
@@ -84,7 +84,7 @@ fn operation_of(name: &Name) -> Option<Operation>
     }
 }
 
-fn read_op(alloc: Global, place: &Place<'_>, element: Element) -> Result<PublishOp, FormError>
+fn read_op(alloc: Global, place: &Place<'_, '_>, element: Element) -> Result<PublishOp, FormError>
     ensures { IsChecked (publish_op_check (place_scopes place.now.declared.now place.now.path.now
         place.now.child) element) result }
 {
@@ -128,7 +128,11 @@ fn read_notify(alloc: Global, element: Element) -> Result<PublishOp, FormError>
     })
 }
 
-fn read_delete(alloc: Global, place: &Place<'_>, element: &Element) -> Result<PublishOp, FormError>
+fn read_delete(
+    alloc: Global,
+    place: &Place<'_, '_>,
+    element: &Element,
+) -> Result<PublishOp, FormError>
     ensures { IsChecked (form_check delete_form delete_of (place_scopes place.now.declared.now
         place.now.path.now place.now.child) element.now) result }
 {

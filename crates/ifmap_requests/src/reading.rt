@@ -15,6 +15,7 @@ use ifmap_elem::{Child, Copied, Declared, Element, Reading};
 use ifmap_envelopes::{Inner, open_envelope};
 use ifmap_forms::places::narrow;
 use ifmap_forms::{FormError, Place};
+use ifmap_prefixes::Declarations;
 use ifmap_reader::{ReadError, read};
 use std::alloc::Global;
 
@@ -56,8 +57,9 @@ fn read_at(
 ) -> Result<Request, FormError>
     ensures { IsChecked (request_check (scopes_by declared.now path.now) element) result }
 {
+    let declarations = Declarations::of(alloc, declared)?;
     let place = Place {
-        declared,
+        declared: &declarations,
         path,
         child: None,
     };

@@ -27,7 +27,7 @@ pub struct Bounds {
 // The search of an element that may have these attributes and no others.
 pub(crate) fn read_search(
     alloc: Global,
-    place: &Place<'_>,
+    place: &Place<'_, '_>,
     element: &Element,
     locals: &[&str],
 ) -> Result<Search, FormError>
@@ -42,7 +42,7 @@ pub(crate) fn read_search(
     Ok(search_from(start, bounds))
 }
 
-fn read_bounds(alloc: Global, place: &Place<'_>, element: &Element) -> Result<Bounds, FormError>
+fn read_bounds(alloc: Global, place: &Place<'_, '_>, element: &Element) -> Result<Bounds, FormError>
     ensures { IsCheckedAs values_of (search_attributes.reads (place_scope place.now.declared.now
         place.now.path.now place.now.child) element.now) result }
 {

@@ -20,7 +20,7 @@ use std::alloc::Global;
 // The operations that the children of a subscribe are, where the place is that of the subscribe.
 pub(crate) fn read_subscribe_ops(
     alloc: Global,
-    place: &Place<'_>,
+    place: &Place<'_, '_>,
     children: &[Child],
 ) -> Result<Many<SubscribeOp>, FormError>
     requires { place.now.child ≡ None }
@@ -38,7 +38,7 @@ pub(crate) fn read_subscribe_ops(
 
 fn next_op(
     alloc: Global,
-    place: &Place<'_>,
+    place: &Place<'_, '_>,
     index: usize,
     child: &Child,
 ) -> Result<Option<SubscribeOp>, FormError>
@@ -60,7 +60,11 @@ fn next_op(
     }
 }
 
-fn read_op(alloc: Global, place: &Place<'_>, element: &Element) -> Result<SubscribeOp, FormError>
+fn read_op(
+    alloc: Global,
+    place: &Place<'_, '_>,
+    element: &Element,
+) -> Result<SubscribeOp, FormError>
     ensures { IsChecked (subscribe_op_check (place_scopes place.now.declared.now place.now.path.now
         place.now.child) element.now) result }
 {
@@ -75,7 +79,7 @@ fn read_op(alloc: Global, place: &Place<'_>, element: &Element) -> Result<Subscr
 
 fn read_subscription(
     alloc: Global,
-    place: &Place<'_>,
+    place: &Place<'_, '_>,
     element: &Element,
 ) -> Result<SubscribeOp, FormError>
     ensures { IsChecked (form_check subscription_form subscription_of (place_scopes

@@ -17,14 +17,14 @@ returns-in_err-limit c = λ scopes.
     let error = c.in_err-limit.field-0.0 in
     refused_exit (form_check new_session_form new_session_of scopes e) c.from_residual.result error c.from_residual.ensures.1
     (refused_form new_session_form new_session_of scopes e error
-    (read_no_attributes new_session_form scopes e error (refused_alone limit_field (scopes []) e error c.in_err-limit.ensures)))
+    (read_no_attributes new_session_form scopes e error (refused_alone limit_field (scopes []) e error c.in_err-limit.ensures.answer)))
 
 pub returns-then-not-has_only : goal.returns-then-not-has_only
 returns-then-not-has_only c = λ scopes.
     let e = c.args.element.now in
     (refused_form new_session_form new_session_of scopes e (Named Failure)
     (read_others new_session_form scopes e (both c.in_ok-limit.limit tt)
-    (found_alone limit_field (scopes []) e c.in_ok-limit.limit c.in_ok-limit.ensures)
+    (found_alone limit_field (scopes []) e c.in_ok-limit.limit c.in_ok-limit.ensures.answer)
     (sym c.has_only.ensures ∙ c.if-not-has_only.true)))
 
 pub returns-then-not-are_blank : goal.returns-then-not-are_blank
@@ -32,7 +32,7 @@ returns-then-not-are_blank c = λ scopes.
     let e = c.args.element.now in
     (refused_form new_session_form new_session_of scopes e (Named Failure)
     (read_no_content new_session_form scopes e (both c.in_ok-limit.limit tt)
-    (found_alone limit_field (scopes []) e c.in_ok-limit.limit c.in_ok-limit.ensures) (Named Failure)
+    (found_alone limit_field (scopes []) e c.in_ok-limit.limit c.in_ok-limit.ensures.answer) (Named Failure)
     (sym c.has_only.ensures ∙ c.if-not-has_only.false)
     (other_children scopes e (ap (λ (cs : List Child). list_all is_white_part (parts_in cs)) (sym c.as_slice.ensures)
     ∙ (sym c.are_blank.ensures ∙ c.if-not-are_blank.true)))))
@@ -42,7 +42,7 @@ returns c = λ scopes.
     let e = c.args.element.now in
     made_of_form new_session_form new_session_of scopes e (both c.in_ok-limit.limit tt) tt
     (read_whole new_session_form scopes e (both c.in_ok-limit.limit tt)
-    (found_alone limit_field (scopes []) e c.in_ok-limit.limit c.in_ok-limit.ensures) tt
+    (found_alone limit_field (scopes []) e c.in_ok-limit.limit c.in_ok-limit.ensures.answer) tt
     (sym c.has_only.ensures ∙ c.if-not-has_only.false)
     (blank_children scopes e (ap (λ (cs : List Child). list_all is_white_part (parts_in cs)) (sym c.as_slice.ensures)
     ∙ (sym c.are_blank.ensures ∙ c.if-not-are_blank.false))))

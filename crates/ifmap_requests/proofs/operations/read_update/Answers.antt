@@ -17,14 +17,14 @@ returns-in_err-forever c = λ scopes.
     let error = c.in_err-forever.field-0.0 in
     refused_exit (form_check update_form update_of scopes e) c.from_residual.result error c.from_residual.ensures.1
     (refused_form update_form update_of scopes e error
-    (read_no_attributes update_form scopes e error (refused_alone lifetime_field (scopes []) e error c.in_err-forever.ensures)))
+    (read_no_attributes update_form scopes e error (refused_alone lifetime_field (scopes []) e error c.in_err-forever.ensures.answer)))
 
 pub returns-then-not-has_only : goal.returns-then-not-has_only
 returns-then-not-has_only c = λ scopes.
     let e = c.args.element in
     refused_form update_form update_of scopes e (Named Failure)
     (read_others update_form scopes e (both c.in_ok-forever.forever tt)
-    (found_alone lifetime_field (scopes []) e c.in_ok-forever.forever c.in_ok-forever.ensures)
+    (found_alone lifetime_field (scopes []) e c.in_ok-forever.forever c.in_ok-forever.ensures.answer)
     (sym c.has_only.ensures ∙ c.if-not-has_only.true))
 
 pub returns-in_err-published : goal.returns-in_err-published
@@ -35,7 +35,7 @@ returns-in_err-published c = λ scopes.
     c.from_residual-in_err-published.ensures.1
     (refused_form update_form update_of scopes e error
     (read_no_content update_form scopes e (both c.in_ok-forever.forever tt)
-    (found_alone lifetime_field (scopes []) e c.in_ok-forever.forever c.in_ok-forever.ensures) error
+    (found_alone lifetime_field (scopes []) e c.in_ok-forever.forever c.in_ok-forever.ensures.answer) error
     (sym c.has_only.ensures ∙ c.if-not-has_only.false)
     (subst (λ (cs : List Child). IsRefused (published_check (parts_in cs)) error) c.children.view_is c.in_err-published.ensures)))
 
@@ -44,7 +44,7 @@ returns c = λ scopes.
     let e = c.args.element in
     made_of_form update_form update_of scopes e (both c.in_ok-forever.forever tt) (published_parts c.in_ok-published.published)
     (read_whole update_form scopes e (both c.in_ok-forever.forever tt)
-    (found_alone lifetime_field (scopes []) e c.in_ok-forever.forever c.in_ok-forever.ensures)
+    (found_alone lifetime_field (scopes []) e c.in_ok-forever.forever c.in_ok-forever.ensures.answer)
     (published_parts c.in_ok-published.published) (sym c.has_only.ensures ∙ c.if-not-has_only.false)
     (subst (λ (cs : List Child). published_check (parts_in cs)
     (Ok (published_parts c.in_ok-published.published))) c.children.view_is c.in_ok-published.ensures))
