@@ -1,3 +1,4 @@
+pub mod PieceLaws
 pub mod RunLaws
 pub mod InPlace
 pub mod FormLaws

@@ -1,5 +1,6 @@
 pub mod Runs
 pub mod Results
+pub mod Wrapping
 pub mod Fit
 pub mod Fields
 pub mod ResultForms

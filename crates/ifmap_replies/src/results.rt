@@ -1,21 +1,22 @@
-//! The elements of results.
+//! Results, as outlines of their elements.
 ghost use Rattle.std.specs.Prelude.{◌≡◌, ◌∷◌, [], codes, map, IfOk};
 ghost use Rattle.ifmap_lemmas.specs.Numerals.{numeral};
 ghost use Rattle.ifmap_replies.specs.Results.{as_children, error_element, name_attribute, name_attributes, new_session_element, plain_element, poll_element, result_element, text_children, told_element};
-ghost use Rattle.ifmap_elem.specs.Building.{bare_attribute, bare_element};
+ghost use Rattle.ifmap_elem.specs.Building.{bare_attribute};
+ghost use Rattle.ifmap_elem.specs.Outlines.{outline_child, outline_element};
 ghost use Rattle.ifmap_ident.specs.Codes.{code_name};
 
 use crate::replies::Reply;
-use crate::runs::entry_children;
-use ifmap_elem::{Attribute, Child, Copied, Element, Text};
+use crate::runs::entry_pieces;
+use ifmap_elem::{Attribute, Copied, Outline, Piece, Text};
 use ifmap_ident::Code;
 use ifmap_search::{Entry, PollItem};
 use itoa::Buffer;
 use std::alloc::{AllocError as NoMemory, Global};
 
-// The element of the result that a reply is.
-pub(crate) fn result_of(alloc: Global, reply: &Reply) -> Result<Element, NoMemory>
-    ensures { IfOk result (λ element. element ≡ result_element reply.now) }
+// The result that a reply is.
+pub(crate) fn result_of<'a>(alloc: Global, reply: &'a Reply) -> Result<Outline<'a>, NoMemory>
+    ensures { IfOk result (λ outline. outline_element outline ≡ result_element reply.now) }
 {
     match reply {
         Reply::NewSession {
@@ -23,51 +24,52 @@ pub(crate) fn result_of(alloc: Global, reply: &Reply) -> Result<Element, NoMemor
             publisher,
             limit,
         } => new_session_result(alloc, session, publisher, *limit),
-        Reply::Renewed => empty_result(alloc, "renewSessionResult"),
-        Reply::Ended => empty_result(alloc, "endSessionResult"),
-        Reply::Published => empty_result(alloc, "publishReceived"),
-        Reply::Subscribed => empty_result(alloc, "subscribeReceived"),
-        Reply::Purged => empty_result(alloc, "purgePublisherReceived"),
+        Reply::Renewed => Ok(empty_result(alloc, "renewSessionResult")),
+        Reply::Ended => Ok(empty_result(alloc, "endSessionResult")),
+        Reply::Published => Ok(empty_result(alloc, "publishReceived")),
+        Reply::Subscribed => Ok(empty_result(alloc, "subscribeReceived")),
+        Reply::Purged => Ok(empty_result(alloc, "purgePublisherReceived")),
         Reply::Found(entries) => {
-            let children = entry_children(alloc, entries.as_slice())?;
-            plain_result(alloc, "searchResult", children)
+            let pieces = entry_pieces(alloc, entries.as_slice())?;
+            Ok(plain_result(alloc, "searchResult", pieces))
         }
         Reply::Polled(items) => {
-            let children = poll_children(alloc, items.as_slice())?;
-            plain_result(alloc, "pollResult", children)
+            let pieces = poll_pieces(alloc, items.as_slice())?;
+            Ok(plain_result(alloc, "pollResult", pieces))
         }
         Reply::Error { code, note } => error_result(alloc, *code, &None, note),
     }
 }
 
-fn empty_result(alloc: Global, local: &str) -> Result<Element, NoMemory>
-    ensures { IfOk result (λ element. element ≡ plain_element local.now []) }
+fn empty_result<'a>(alloc: Global, local: &'a str) -> Outline<'a>
+    ensures { outline_element result ≡ plain_element local.now [] }
 {
     plain_result(alloc, local, Vec::new(alloc))
 }
 
 // A result without attributes.
-fn plain_result(alloc: Global, local: &str, children: Vec<Child>) -> Result<Element, NoMemory>
-    ensures { IfOk result (λ element. element ≡ plain_element local.now children.items) }
+fn plain_result<'a>(alloc: Global, local: &'a str, pieces: Vec<Piece<'a>>) -> Outline<'a>
+    ensures { outline_element result
+        ≡ plain_element local.now (map outline_child pieces.entry.items) }
 {
-    Element::bare(alloc, local, Vec::new(alloc), children)
+    Outline::bare(local, Vec::new(alloc), pieces)
 }
 
-fn new_session_result(
+fn new_session_result<'a>(
     alloc: Global,
     session: &Text,
     publisher: &Text,
     limit: u32,
-) -> Result<Element, NoMemory>
-    ensures { IfOk result (λ element.
-        element ≡ new_session_element session.now publisher.now limit) }
+) -> Result<Outline<'a>, NoMemory>
+    ensures { IfOk result (λ outline.
+        outline_element outline ≡ new_session_element session.now publisher.now limit) }
 {
     let attributes = vec![in alloc;
         Attribute::bare(alloc, "ifmap-publisher-id", publisher.copy(alloc)?)?,
         Attribute::bare(alloc, "max-poll-result-size", decimal_text(alloc, limit)?)?,
         Attribute::bare(alloc, "session-id", session.copy(alloc)?)?,
     ]?;
-    Element::bare(alloc, "newSessionResult", attributes, Vec::new(alloc))
+    Ok(Outline::bare("newSessionResult", attributes, Vec::new(alloc)))
 }
 
 fn decimal_text(alloc: Global, number: u32) -> Result<Text, NoMemory>
@@ -77,20 +79,21 @@ fn decimal_text(alloc: Global, number: u32) -> Result<Text, NoMemory>
     Text::from_str(alloc, digits.format(number))
 }
 
-// What a poll is told, as children.
-fn poll_children(alloc: Global, items: &[PollItem]) -> Result<Vec<Child>, NoMemory>
-    ensures { IfOk result (λ children.
-        children.items ≡ as_children (map poll_element items.now)) }
+// What a poll is told, as pieces.
+fn poll_pieces<'a>(alloc: Global, items: &'a [PollItem]) -> Result<Vec<Piece<'a>>, NoMemory>
+    ensures { IfOk result (λ pieces.
+        map outline_child pieces.items ≡ as_children (map poll_element items.now)) }
 {
-    let mut children = Vec::with_capacity(alloc, items.len())?;
+    let mut pieces = Vec::with_capacity(alloc, items.len())?;
     for item in items {
-        children.push(Child::Element(poll_result(alloc, item)?))?;
+        let told = poll_result(alloc, item)?;
+        pieces.push(told.inside())?;
     }
-    Ok(children)
+    Ok(pieces)
 }
 
-fn poll_result(alloc: Global, item: &PollItem) -> Result<Element, NoMemory>
-    ensures { IfOk result (λ element. element ≡ poll_element item.now) }
+fn poll_result<'a>(alloc: Global, item: &'a PollItem) -> Result<Outline<'a>, NoMemory>
+    ensures { IfOk result (λ outline. outline_element outline ≡ poll_element item.now) }
 {
     match item {
         PollItem::Search { name, entries } => {
@@ -110,18 +113,18 @@ fn poll_result(alloc: Global, item: &PollItem) -> Result<Element, NoMemory>
 }
 
 // A result under the name of a subscription.
-fn told_result(
+fn told_result<'a>(
     alloc: Global,
-    local: &str,
+    local: &'a str,
     name: &Text,
-    entries: &[Entry],
-) -> Result<Element, NoMemory>
-    ensures { IfOk result (λ element.
-        element ≡ told_element local.now name.now entries.now) }
+    entries: &'a [Entry],
+) -> Result<Outline<'a>, NoMemory>
+    ensures { IfOk result (λ outline.
+        outline_element outline ≡ told_element local.now name.now entries.now) }
 {
     let attributes = vec![in alloc; name_attribute(alloc, name)?]?;
-    let children = entry_children(alloc, entries)?;
-    Element::bare(alloc, local, attributes, children)
+    let pieces = entry_pieces(alloc, entries)?;
+    Ok(Outline::bare(local, attributes, pieces))
 }
 
 fn name_attribute(alloc: Global, name: &Text) -> Result<Attribute, NoMemory>
@@ -131,23 +134,19 @@ fn name_attribute(alloc: Global, name: &Text) -> Result<Attribute, NoMemory>
 }
 
 // The result of an error, under the name of a subscription where there is one.
-fn error_result(
+fn error_result<'a>(
     alloc: Global,
     code: Code,
     name: &Option<Text>,
-    note: &Text,
-) -> Result<Element, NoMemory>
-    ensures { IfOk result (λ element. element ≡ error_element code name.now note.now) }
+    note: &'a Text,
+) -> Result<Outline<'a>, NoMemory>
+    ensures { IfOk result (λ outline.
+        outline_element outline ≡ error_element code name.now note.now) }
 {
     let attributes = error_attributes(alloc, code, name)?;
-    let string = Element::bare(
-        alloc,
-        "errorString",
-        Vec::new(alloc),
-        text_children(alloc, note)?,
-    )?;
-    let children = vec![in alloc; Child::Element(string)]?;
-    Element::bare(alloc, "errorResult", attributes, children)
+    let string = Outline::bare("errorString", Vec::new(alloc), text_pieces(alloc, note)?);
+    let pieces = vec![in alloc; string.inside()]?;
+    Ok(Outline::bare("errorResult", attributes, pieces))
 }
 
 fn error_attributes(
@@ -166,13 +165,14 @@ fn error_attributes(
     Ok(attributes)
 }
 
-// A text as children: an empty one is none.
-fn text_children(alloc: Global, text: &Text) -> Result<Vec<Child>, NoMemory>
-    ensures { IfOk result (λ children. children.items ≡ text_children text.now) }
+// A text as pieces: an empty one is none.
+fn text_pieces<'a>(alloc: Global, text: &'a Text) -> Result<Vec<Piece<'a>>, NoMemory>
+    ensures { IfOk result (λ pieces.
+        map outline_child pieces.items ≡ text_children text.now) }
 {
     if text.is_empty() {
         return Ok(Vec::new(alloc));
     }
-    let children = vec![in alloc; Child::Text(text.copy(alloc)?)]?;
-    Ok(children)
+    let pieces = vec![in alloc; Piece::text(text)]?;
+    Ok(pieces)
 }

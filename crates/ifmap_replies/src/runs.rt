@@ -1,11 +1,12 @@
 //! Consecutive entries on one item, as one `resultItem`.
 ghost use Rattle.std.specs.Prelude.{◌≡◌, ◌≤◌, ◌∷◌, ◌++◌, [], length, map, IfOk, OnOk};
+ghost use Rattle.ifmap_elem.specs.Outlines.{outline_child, outline_element};
 ghost use Rattle.ifmap_ident.specs.Identifiers.{identifier_element};
 ghost use Rattle.ifmap_ident.specs.Items.{identifiers_of, same_item};
 ghost use Rattle.ifmap_replies.specs.Results.{as_children, entry_children, run_element};
 ghost use Rattle.ifmap_replies.specs.Runs.{elements_of, run_length, run_on};
 
-use ifmap_elem::{Child, Copied, Element, Many};
+use ifmap_elem::{Many, Outline, Piece};
 use ifmap_ident::{Item, SharedItem};
 use ifmap_meta::SharedElement;
 use ifmap_search::Entry;
@@ -19,18 +20,22 @@ pub struct Run {
 }
 
 // The `resultItem`s of entries. Each entry is compared with the one before it alone.
-pub(crate) fn entry_children(alloc: Global, entries: &[Entry]) -> Result<Vec<Child>, NoMemory>
-    ensures { IfOk result (λ children. children.items ≡ entry_children entries.now) }
+pub(crate) fn entry_pieces<'a>(
+    alloc: Global,
+    entries: &'a [Entry],
+) -> Result<Vec<Piece<'a>>, NoMemory>
+    ensures { IfOk result (λ pieces.
+        map outline_child pieces.items ≡ entry_children entries.now) }
 {
-    let mut children = Vec::new(alloc);
+    let mut pieces = Vec::new(alloc);
     let mut rest = entries;
     while let Some((first, others)) = rest.split_first() {
         let length = run_length(first, others);
-        let run = run_element(alloc, first, &others[..length])?;
-        children.push(Child::Element(run))?;
+        let run = run_outline(alloc, first, &others[..length])?;
+        pieces.push(run.inside())?;
         rest = &others[length..];
     }
-    Ok(children)
+    Ok(pieces)
 }
 
 // How many entries go on with the run of the one before them.
@@ -57,40 +62,56 @@ fn is_on_one_item(one: &Entry, other: &Entry) -> bool
 }
 
 // The `resultItem` of an entry and of those after it on its item.
-fn run_element(alloc: Global, first: &Entry, others: &[Entry]) -> Result<Element, NoMemory>
-    ensures { IfOk result (λ element. element ≡ run_element
+fn run_outline<'a>(
+    alloc: Global,
+    first: &'a Entry,
+    others: &'a [Entry],
+) -> Result<Outline<'a>, NoMemory>
+    ensures { IfOk result (λ outline. outline_element outline ≡ run_element
         (run_on first.now.item (first.now.element ∷ elements_of others.now))) }
 {
-    let mut elements = Vec::with_capacity(alloc, others.len().saturating_add(1))?;
-    push_element(alloc, first, &mut elements)?;
-    for entry in others {
-        push_element(alloc, entry, &mut elements)?;
-    }
-    let metadata = Element::bare(alloc, "metadata", Vec::new(alloc), elements)?;
-    let mut children = identifier_children(alloc, first.item.item())?;
-    children.push(Child::Element(metadata))?;
-    Element::bare(alloc, "resultItem", Vec::new(alloc), children)
+    let elements = element_pieces(alloc, first, others)?;
+    let metadata = Outline::bare("metadata", Vec::new(alloc), elements);
+    let mut pieces = identifier_pieces(alloc, first.item.item())?;
+    pieces.push(metadata.inside())?;
+    Ok(Outline::bare("resultItem", Vec::new(alloc), pieces))
 }
 
-// Puts a copy of an entry's element after the others.
-fn push_element(alloc: Global, entry: &Entry, elements: &mut Vec<Child>) -> Result<(), NoMemory>
-    ensures { OnOk result (elements.new.items
-        ≡ elements.old.items ++ as_children (entry.now.element ∷ [])) }
+// The elements of an entry and of those after it, which the entries hold.
+fn element_pieces<'a>(
+    alloc: Global,
+    first: &'a Entry,
+    others: &'a [Entry],
+) -> Result<Vec<Piece<'a>>, NoMemory>
+    ensures { IfOk result (λ pieces. map outline_child pieces.items
+        ≡ as_children (first.now.element ∷ elements_of others.now)) }
 {
-    let element = entry.element.element().copy(alloc)?;
-    elements.push(Child::Element(element))?;
+    let mut pieces = Vec::with_capacity(alloc, others.len().saturating_add(1))?;
+    push_element(first, &mut pieces)?;
+    for entry in others {
+        push_element(entry, &mut pieces)?;
+    }
+    Ok(pieces)
+}
+
+// Puts an entry's element after the others.
+fn push_element<'a>(entry: &'a Entry, pieces: &mut Vec<Piece<'a>>) -> Result<(), NoMemory>
+    ensures { OnOk result (map outline_child pieces.new.items
+        ≡ map outline_child pieces.old.items ++ as_children (entry.now.element ∷ [])) }
+{
+    pieces.push(Piece::shared(entry.element.element()))?;
     Ok(())
 }
 
-fn identifier_children(alloc: Global, item: &Item) -> Result<Vec<Child>, NoMemory>
-    ensures { IfOk result (λ children. children.items
+fn identifier_pieces<'a>(alloc: Global, item: &Item) -> Result<Vec<Piece<'a>>, NoMemory>
+    ensures { IfOk result (λ pieces. map outline_child pieces.items
         ≡ as_children (map identifier_element (identifiers_of item.now))) }
 {
     match item {
-        Item::One(identifier) => Ok(vec![in alloc; Child::Element(identifier.element(alloc)?)]?),
+        Item::One(identifier) => Ok(vec![in alloc; Piece::own(identifier.element(alloc)?)]?),
         Item::Pair(first, second) => Ok(vec![in alloc;
-            Child::Element(first.element(alloc)?),
-            Child::Element(second.element(alloc)?),
+            Piece::own(first.element(alloc)?),
+            Piece::own(second.element(alloc)?),
         ]?),
     }
 }

@@ -1,10 +1,12 @@
 //! Replies as elements and as bytes.
 ghost use Rattle.std.specs.Prelude.{◌≡◌, IfOk};
-ghost use Rattle.ifmap_replies.specs.Results.{around, in_envelope, reply_bytes, reply_element};
+ghost use Rattle.ifmap_elem.specs.Outlines.{outline_element};
+ghost use Rattle.ifmap_replies.specs.Wrapping.{enveloped, reply_names};
+ghost use Rattle.ifmap_replies.specs.Results.{around, reply_bytes, reply_element, result_element};
 
 use crate::replies::Reply;
 use crate::results::result_of;
-use ifmap_elem::{Child, Element, Many, Name, canonical};
+use ifmap_elem::{Element, Many, Name, Outline, canonical_outline};
 use std::alloc::{AllocError as NoMemory, Global};
 
 const ENVELOPE_SPACE: &str = "http://www.w3.org/2003/05/soap-envelope";
@@ -18,34 +20,59 @@ pub(crate) const IFMAP_SPACE: &str = "http://www.trustedcomputinggroup.org/2010/
 pub fn write_reply(alloc: Global, reply: &Reply) -> Result<Many<u8>, NoMemory>
     ensures { IfOk result (λ bytes. bytes ≡ reply_bytes reply.now) }
 {
-    let element = element_of(alloc, reply)?;
-    canonical(alloc, &element)
+    let names = Names::new(alloc)?;
+    let outline = outline_of(alloc, &names, reply)?;
+    canonical_outline(alloc, &outline)
 }
 
 /// The whole envelope of a reply. The one error is want of memory.
 pub fn element_of(alloc: Global, reply: &Reply) -> Result<Element, NoMemory>
     ensures { IfOk result (λ element. element ≡ reply_element reply.now) }
 {
+    let names = Names::new(alloc)?;
+    let outline = outline_of(alloc, &names, reply)?;
+    outline.element(alloc)
+}
+
+// The names of what stands around a result.
+#[derive(Drop)]
+pub(crate) struct Names {
+    envelope: Name,
+    body: Name,
+    response: Name,
+}
+
+impl Names {
+    fn new(alloc: Global) -> Result<Names, NoMemory>
+        ensures { IfOk result (λ names. names ≡ reply_names) }
+    {
+        Ok(Names {
+            envelope: Name::new(alloc, ENVELOPE_SPACE, "Envelope")?,
+            body: Name::new(alloc, ENVELOPE_SPACE, "Body")?,
+            response: Name::new(alloc, IFMAP_SPACE, "response")?,
+        })
+    }
+}
+
+fn outline_of<'a>(
+    alloc: Global,
+    names: &'a Names,
+    reply: &'a Reply,
+) -> Result<Outline<'a>, NoMemory>
+    ensures { IfOk result (λ outline.
+        outline_element outline ≡ enveloped names.now (result_element reply.now)) }
+{
     let result = result_of(alloc, reply)?;
-    let response = around(alloc, IFMAP_SPACE, "response", result)?;
-    in_envelope(alloc, response)
+    let response = around(alloc, &names.response, result)?;
+    let body = around(alloc, &names.body, response)?;
+    around(alloc, &names.envelope, body)
 }
 
-fn in_envelope(alloc: Global, response: Element) -> Result<Element, NoMemory>
-    ensures { IfOk result (λ element. element ≡ in_envelope response) }
+// An element that holds one other and nothing else.
+fn around<'a>(alloc: Global, name: &'a Name, inner: Outline<'a>) -> Result<Outline<'a>, NoMemory>
+    ensures { IfOk result (λ outline.
+        outline_element outline ≡ around name.now (outline_element inner.entry)) }
 {
-    let body = around(alloc, ENVELOPE_SPACE, "Body", response)?;
-    around(alloc, ENVELOPE_SPACE, "Envelope", body)
-}
-
-// An element in a namespace that holds one other and nothing else.
-fn around(alloc: Global, space: &str, local: &str, inner: Element) -> Result<Element, NoMemory>
-    ensures { IfOk result (λ element.
-        element ≡ around (record { space = space.now; local = local.now }) inner) }
-{
-    Ok(Element {
-        name: Name::new(alloc, space, local)?,
-        attributes: Many(Vec::new(alloc)),
-        children: Many(vec![in alloc; Child::Element(inner)]?),
-    })
+    let pieces = vec![in alloc; inner.inside()]?;
+    Ok(Outline::named(name, Vec::new(alloc), pieces))
 }

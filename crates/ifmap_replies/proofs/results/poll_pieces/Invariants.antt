@@ -1,0 +1,7 @@
+use Rattle.std.proofs.Common.{◌≡◌, map, take}
+use Rattle.ifmap_elem.specs.Outlines.{outline_child}
+use Rattle.ifmap_replies.specs.Results.{as_children, poll_element}
+use Rattle.ifmap_replies.proofs.results.poll_pieces.Given as goal
+
+abbrev pub invariant-loop-item : goal.invariant-loop-item
+invariant-loop-item l = map outline_child l.pieces.items ≡ as_children (map poll_element (take l.item-index l.items))
