@@ -7,3 +7,5 @@ pub mod Histories
 pub mod Lives
 pub mod Goods
 pub mod Graphs
+pub mod FitTexts
+pub mod FitStates

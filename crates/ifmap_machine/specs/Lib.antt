@@ -9,3 +9,4 @@ pub mod Legal
 pub mod Lives
 pub mod Agreeing
 pub mod Since
+pub mod FitAnswers

@@ -2,10 +2,13 @@
 ghost use Rattle.std.specs.Prelude.{◌≢◌, ◌≤◌, ◌++◌, ℕ, All, AllPairs, length};
 ghost use Rattle.std.specs.List.Sorted.{IsStrictlySortedBy};
 ghost use Rattle.ifmap_machine.specs.Agreeing.{Agrees};
+ghost use Rattle.ifmap_machine.specs.Events.{Event, IsFitEvent};
+ghost use Rattle.ifmap_machine.specs.FitAnswers.{AreFitAnswers, AreReadBack, IsFitState, IsFitStep};
 ghost use Rattle.ifmap_machine.specs.Legal.{AreFit, History, Legal, live_clients, state_after};
 ghost use Rattle.ifmap_machine.specs.Lives.{AllLive};
 ghost use Rattle.ifmap_machine.specs.Since.{AgreesFrom};
-ghost use Rattle.ifmap_machine.specs.State.{standing_in, standing_order};
+ghost use Rattle.ifmap_machine.specs.State.{State, opening, standing_in, standing_order};
+ghost use Rattle.ifmap_machine.specs.Step.{step};
 ghost use Rattle.ifmap_machine.specs.Subscribing.{most_names};
 ghost use Rattle.ifmap_plans.specs.Plans.{AreWhole};
 ghost use Rattle.ifmap_session.specs.Sessions.{most_sessions};
@@ -15,6 +18,7 @@ use ifmap_elem::laws::canonical_bytes_tell_elements_apart;
 use ifmap_folds::laws::differences_make_the_next_result;
 use ifmap_ident::laws::bytes_tell_identifiers_apart;
 use ifmap_publish::laws::{publishing_keeps_graphs, retracting_keeps_graphs};
+use ifmap_replies::laws::replies_are_read_back;
 
 /// After every history no two live sessions have one client, no live session has a serial above the
 /// counter, and at most 10,000 sessions live.
@@ -78,4 +82,20 @@ pub fn clients_fold_fresh_results_from_any_entry()
     bytes_tell_identifiers_apart();
     canonical_bytes_tell_elements_apart();
     differences_make_the_next_result();
+}
+
+/// In every legal history of fit events each answer that is sent is a fit reply, and its bytes mean it. From
+/// a fit state a fit event leads to a fit state, and is answered so; the opening state is fit.
+pub fn replies_are_fit()
+    ensures fit { (ttl : ℕ) (history : History) → Legal ttl history → AreFit history →
+        AreFitAnswers history }
+    ensures read_back { (ttl : ℕ) (history : History) → Legal ttl history → AreFit history →
+        AreReadBack history }
+    ensures step { (state : State) (event : Event) → IsFitEvent event → IsFitState state →
+        IsFitStep (step state event) }
+    ensures opening { (ttl : ℕ) → IsFitState (opening ttl) }
+{
+    publishing_keeps_graphs();
+    retracting_keeps_graphs();
+    replies_are_read_back();
 }
