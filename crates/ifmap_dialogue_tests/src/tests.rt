@@ -56,8 +56,13 @@ fn push_post(alloc: Global, out: &mut String, inner: &str, close: bool) -> Resul
     Ok(())
 }
 
-// Appends the answer with what stands in a response, which closes the connection or not.
-fn push_answer(alloc: Global, out: &mut String, told: &str, close: bool) -> Result<(), NoMemory> {
+/// Appends the answer with what stands in a response, which closes the connection or not.
+pub fn push_answer(
+    alloc: Global,
+    out: &mut String,
+    told: &str,
+    close: bool,
+) -> Result<(), NoMemory> {
     let length = BEFORE
         .len()
         .saturating_add(told.len())
@@ -95,7 +100,8 @@ struct Served {
     gate: CountingGate,
 }
 
-fn start() -> Moment
+/// When connections begin.
+pub fn start() -> Moment
     ensures { result ≡ 1000000000 }
 {
     Moment::new(1_000_000_000).unwrap()
