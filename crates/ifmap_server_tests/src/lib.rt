@@ -11,6 +11,8 @@ mod outside;
 #[cfg(test)]
 mod pacing;
 #[cfg(test)]
+mod pairs;
+#[cfg(test)]
 mod refusals;
 #[cfg(test)]
 mod replays;

@@ -11,8 +11,8 @@ use std::test::Fail;
 // A request in a session; what stands between it and its end is up to the test.
 const IN_SESSION: &str = "session-id=\"1-00000000-0000-0000-0000-000000000001\"";
 
-// The request is answered with the code.
-fn expect_code(rt: &(impl Abort + AllocGlobal), request: &str, code: &str) -> Result<(), Fail> {
+/// The request is answered with the code; `SESSION` stands for that of the first session.
+pub fn expect_code(rt: &(impl Abort + AllocGlobal), request: &str, code: &str) -> Result<(), Fail> {
     let alloc = rt.alloc();
     let request = request.replace(alloc, "SESSION", IN_SESSION)?;
     let body = body_of(alloc, request.as_str())?;
@@ -20,8 +20,8 @@ fn expect_code(rt: &(impl Abort + AllocGlobal), request: &str, code: &str) -> Re
     expect_replay(rt, script.as_str(), 0, refusal_of(alloc, code)?.as_str())
 }
 
-// The body is answered as unreadable.
-fn expect_unreadable(rt: &(impl Abort + AllocGlobal), body: &str) -> Result<(), Fail> {
+/// The body is answered as unreadable.
+pub fn expect_unreadable(rt: &(impl Abort + AllocGlobal), body: &str) -> Result<(), Fail> {
     let script = script_of(rt.alloc(), &[body])?;
     expect_replay(rt, script.as_str(), 0, "unreadable\n")
 }

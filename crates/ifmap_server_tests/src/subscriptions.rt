@@ -392,7 +392,8 @@ fn a_queue_keeps_to_its_limit(rt: HostRuntime) -> Result<(), Fail> {
     expect_exchanges_with(&rt, long_name(alloc, 9_665)?.as_str(), &OVERFULL_AT_ONCE)
 }
 
-fn thousand_updates(alloc: Global) -> Result<String, Fail> {
+/// The updates of a thousand names.
+pub fn thousand_updates(alloc: Global) -> Result<String, Fail> {
     let mut updates = String::new(alloc);
     for at in 0..1_000 {
         let update = format!(in alloc;
