@@ -1,5 +1,5 @@
 //! Rows of one item that several may hold at once.
-ghost use Rattle.std.specs.Prelude.{◌≡◌, [], Contains, IfNone, IfOk, IfSome};
+ghost use Rattle.std.specs.Prelude.{◌≡◌, ◌≤◌, [], Contains, IfNone, IfOk, IfSome, length};
 ghost use Rattle.std.specs.List.{AllByRecursion};
 ghost use Rattle.ifmap_meta.specs.Keys.{HaveOneKey};
 
@@ -50,6 +50,16 @@ impl SharedRows {
         match &self.0 {
             Some(rows) => rows.as_slice(),
             None => &[],
+        }
+    }
+
+    /// How many rows there is room for. It takes no memory.
+    pub fn room(&self) -> usize
+        ensures { length self.now ≤ result }
+    {
+        match &self.0 {
+            Some(rows) => rows.room(),
+            None => 0,
         }
     }
 

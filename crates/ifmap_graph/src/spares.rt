@@ -25,9 +25,21 @@ pub struct Spare {
 // each of these, to share the list a count for each row of it.
 const ROWS_FOR_ONE: usize = 16;
 
+// A list that lags by more rows is not kept, however long it is: each of these moves the pointers that
+// follow it.
+const MOST_CHANGED: usize = 16;
+
+// A list with room for more than so many rows for each that it has is not kept, so that the room is
+// given back.
+const MOST_ROOM_FOR_ONE: usize = 4;
+
 // Whether it is worth to keep a list that gives way for a change.
-fn is_worth(rows: &[Row], change: &ItemChange) -> bool {
-    change.removed.0.len() + change.added.0.len() <= rows.len() / ROWS_FOR_ONE
+fn is_worth(rows: &SharedRows, change: &ItemChange) -> bool {
+    let length = rows.as_slice().len();
+    let changed = change.removed.0.len() + change.added.0.len();
+    changed <= MOST_CHANGED
+        && changed <= length / ROWS_FOR_ONE
+        && rows.room() / MOST_ROOM_FOR_ONE <= length
 }
 
 impl Spare {
@@ -55,7 +67,7 @@ impl Spare {
         ensures { IfOk result (λ found. IfSome found (λ spare. AreBehind spare.value
             (next_on change.now.removed change.now.added rows.now))) }
     {
-        if !is_worth(rows.as_slice(), change) {
+        if !is_worth(rows, change) {
             return Ok(None);
         }
         let spare = Spare::new(alloc, rows, change)?;

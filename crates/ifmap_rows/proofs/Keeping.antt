@@ -1,9 +1,10 @@
 -- An index stays one where a row goes from both lists, or comes to both.
-use Rattle.std.proofs.Common.{◌≡◌, refl, sym, ◌∙◌, ap, subst, inl, inr, Bool, true, false, not, List, []}
+use Rattle.std.proofs.Common.{◌≡◌, refl, sym, ◌∙◌, ap, subst, inl, inr, Bool, true, false, not, List, [], Option, Some, None, IfSome, IfNone}
 use Rattle.std.proofs.lemmas.Bool.{cases_Bool}
 use Rattle.std.proofs.lemmas.Cmp.{nat_cmp_total, on_total, then_total}
 use Rattle.std.proofs.lemmas.List.Kept.{IsStrictlySortedBy-filter}
 use Rattle.std.specs.Cmp.{IsTotalOrder, tied_itself}
+use Rattle.std.specs.List.{filter, list_any}
 use Rattle.std.specs.List.Sorted.{IsStrictlySortedBy}
 use Rattle.std.specs.Ordering.{eq_by_cmp, is_eq, nat_cmp}
 use Rattle.std.specs.declared.cmp.Ordering.TheVariants.{Equal}
@@ -15,7 +16,7 @@ use Rattle.ifmap_plans.specs.laws.KeyLaws.{stored_total}
 use Rattle.ifmap_plans.specs.laws.PlacingLaws.{put_sorted}
 use Rattle.ifmap_view.specs.Attachments.{stored_order}
 use Rattle.ifmap_rows.specs.Indexed.{IsIndexed, without_one, word_of, word_order}
-use Rattle.ifmap_rows.proofs.Rising.{has_put, has_put_one, is_equal, only_one, put_has}
+use Rattle.ifmap_rows.proofs.Rising.{has_put, has_put_one, is_equal, none_equal, only_one, put_again, put_has}
 
 pub empty : IsIndexed [] []
 unfolding IsStrictlySortedBy
@@ -39,7 +40,20 @@ worded_equal a s e = (both_equal (nat_cmp (word_of a) (word_of s)) (stored_order
 worded_differs : (a s : Stored) → is_eq (stored_order a s) ≡ false → is_eq (word_order a s) ≡ false
 worded_differs a s e = differs (is_eq (word_order a s)) (is_eq (stored_order a s)) (λ t. ap is_eq (worded_equal a s t)) e
 
+-- nothing has the bytes of a row that went
+gone : (r : Stored) (rows : List Stored) (s : Stored) → Has (without_one stored_order r rows) s → is_eq (stored_order r s) ≡ false
+gone r rows s h = not_false (is_eq (stored_order r s)) (filter_has (λ x. not (eq_by_cmp stored_order r x)) rows s h).1
+
 module _ (rows index : List Stored) (is : IsIndexed rows index) where
+  -- the same rows may go from both lists
+  pub filter_keeps : (p : Stored → Bool) → IsIndexed (filter p rows) (filter p index)
+  filter_keeps p = record {
+    rising = IsStrictlySortedBy-filter stored_order p rows is.rising;
+    worded = IsStrictlySortedBy-filter word_order p index is.worded;
+    there = λ s h. let q = filter_has p index s h in has_filter p rows s (is.there s q.0) q.1;
+    back = λ s h. let q = filter_has p rows s h in has_filter p index s (is.back s q.0) q.1;
+  }
+
   module _ (r taken : Stored) (had : Has rows taken) (same : stored_order taken r ≡ Equal) where
     -- what has the bytes of the row is what was taken
     told : (s : Stored) → Has rows s → is_eq (stored_order r s) ≡ true → is_eq (word_order taken s) ≡ true
@@ -93,6 +107,18 @@ module _ (rows index : List Stored) (is : IsIndexed rows index) where
       back = back_put;
     }
 
--- nothing has the bytes of a row that went
-pub gone : (r : Stored) (rows : List Stored) (s : Stored) → Has (without_one stored_order r rows) s → is_eq (stored_order r s) ≡ false
-gone r rows s h = not_false (is_eq (stored_order r s)) (filter_has (λ x. not (eq_by_cmp stored_order r x)) rows s h).1
+-- a row comes to both lists, and the one that it replaces goes from the index
+pub exchanged : (rows index next : List Stored) (is : IsIndexed rows index) (a : Stored) (replaced : Option Stored)
+    → IfSome replaced (λ r. Has rows r × (stored_order r a ≡ Equal))
+    → IfNone replaced (list_any (λ s. eq_by_cmp stored_order s a) rows ≡ false)
+    → IfSome replaced (λ r. next ≡ put word_order a (without_one word_order r index))
+    → IfNone replaced (next ≡ put word_order a index) → IsIndexed (put stored_order a rows) next
+exchanged rows index next is a (Some r) had none some other =
+    let left = take_keeps rows index is a r had.0 had.1 in
+    let both = put_keeps (without_one stored_order a rows) (without_one word_order r index) left a (gone a rows) in
+    subst (IsIndexed (put stored_order a rows)) (sym some)
+    (subst (λ (l : List Stored). IsIndexed l (put word_order a (without_one word_order r index)))
+    (put_again Stored stored_order stored_total a rows) both)
+exchanged rows index next is a None had none some other =
+    subst (IsIndexed (put stored_order a rows)) (sym other)
+    (put_keeps rows index is a (none_equal Stored stored_order stored_total a rows none))

@@ -9,7 +9,7 @@ use Rattle.std.specs.List.Sorted.{IsBinarySearchResult, IsSearchInRange, IsStric
 use Rattle.std.specs.Ordering.{eq_by_cmp, is_eq, is_gt, is_lt, ordering_reverse}
 use Rattle.std.specs.declared.cmp.Ordering.TheVariants.{Less, Equal, Greater}
 use Rattle.ifmap_lemmas.specs.Filters.{all_at, all_weaker, filter_all}
-use Rattle.ifmap_lemmas.specs.Having.{Has, filter_has, has_either, has_filter, has_left, has_right}
+use Rattle.ifmap_lemmas.specs.Having.{Has, filter_has, has_any, has_either, has_filter, has_left, has_right}
 use Rattle.ifmap_lemmas.specs.Orderings.{is_greater, less_differs}
 use Rattle.ifmap_plans.specs.Placing.{put}
 use Rattle.ifmap_plans.specs.laws.PlacingLaws.{gap_is_put, gap_none}
@@ -57,6 +57,21 @@ module _ (X : Type 0) (C : X → X → Ordering) (o : IsTotalOrder C) where
   later x y (z ∷ zs) h (inl e) = subst (λ w. C x w ≡ Less) e h.0
   later x y (z ∷ zs) h (inr i) = later x y zs h.1 i
 
+  below_all : (x y : X) (ys : List X) → C x y ≡ Less → AllByRecursion (λ z. C y z ≡ Less) ys → AllByRecursion (λ z. C x z ≡ Less) ys
+  below_all x y [] e a = tt
+  below_all x y (z ∷ zs) e a = (o.trans x y z e a.0, below_all x y zs e a.1)
+
+  -- a list in which each member is less than the next rises
+  pub climbs : (xs : List X) → ((k : ℕ) (d : X) → suc k < length xs → C (get_or xs k d) (get_or xs (suc k) d) ≡ Less)
+      → IsStrictlySortedBy C xs
+  unfolding IsStrictlySortedBy
+  climbs [] up = tt
+  climbs (x ∷ []) up = (tt, tt)
+  climbs (x ∷ (y ∷ ys)) up =
+      let rest : IsStrictlySortedBy C (y ∷ ys) = climbs (y ∷ ys) (λ k d l. up (suc k) d (omega arith)) in
+      let first : C x y ≡ Less = up 0 x (omega arith) in
+      ((first, below_all x y ys first rest.0), rest)
+
   -- no two members are equal in the order
   pub only_one : (xs : List X) (x y : X) → IsStrictlySortedBy C xs → Has xs x → Has xs y → C x y ≡ Equal → x ≡ y
   unfolding IsStrictlySortedBy
@@ -94,6 +109,15 @@ module _ (X : Type 0) (C : X → X → Ordering) (o : IsTotalOrder C) where
         let rest : list_any (λ y. eq_by_cmp C y a) xs ≡ false = rw t at e in
         let other : is_eq (C a x) ≡ false = flip_eq a x ∙ t in
         rw other (ap (λ ys. x ∷ ys) (none_out a xs rest))
+  ]
+
+  -- and then no member is equal to the one
+  pub none_equal : (a : X) (xs : List X) → list_any (λ y. eq_by_cmp C y a) xs ≡ false → (x : X) → Has xs x → is_eq (C a x) ≡ false
+  none_equal a xs e x h = elim (cases_Bool (is_eq (C a x))) [
+    | inl t ↦
+        let there : list_any (λ y. eq_by_cmp C y a) xs ≡ true = has_any (λ y. eq_by_cmp C y a) xs x h (sym (flip_eq a x) ∙ t) in
+        cc
+    | inr f ↦ f
   ]
 
   -- what a list has after one is put in

@@ -1,12 +1,15 @@
 //! The index: rows in the order of the words of their keys.
-ghost use Rattle.std.specs.Prelude.{◌≡◌, ◌<◌, Contains, IfNone, IfOk, IfSome, vec_capacity, vec_len};
+ghost use Rattle.std.specs.Prelude.{◌≡◌, ◌<◌, ◌≤◌, Contains, IfNone, IfOk, IfSome, vec_capacity, vec_len};
 ghost use Rattle.std.specs.List.{AllByRecursion};
 ghost use Rattle.std.specs.List.Sorted.{IsStrictlySortedBy};
 ghost use Rattle.ifmap_meta.specs.Keys.{HaveOneKey};
+ghost use Rattle.ifmap_plans.specs.Lists.{without};
 ghost use Rattle.ifmap_plans.specs.Placing.{put};
+ghost use Rattle.ifmap_view.specs.Attachments.{stored_order};
 ghost use Rattle.ifmap_rows.specs.Indexed.{without_one, word_of, word_order};
 ghost use Rattle.ifmap_rows.specs.Spots.{IsSpot};
 
+use crate::lists::is_among;
 use crate::words::key_word;
 use ifmap_plans::row_order;
 use ifmap_view::Row;
@@ -98,7 +101,10 @@ fn find_spot(index: &[Worded], worded: &Worded) -> Result<usize, usize>
 // Takes a row out of the index.
 pub(crate) fn take_worded(index: &mut Vec<Worded>, worded: &Worded)
     requires { IsStrictlySortedBy word_order index.old.items }
-    ensures { index.new.items ≡ without_one word_order worded.now index.old.items }
+    ensures rows { index.new.items ≡ without_one word_order worded.now index.old.items }
+    ensures rising { IsStrictlySortedBy word_order index.new.items }
+    ensures len { vec_len index.new ≤ vec_len index.old }
+    ensures capacity { vec_capacity index.new ≡ vec_capacity index.old }
 {
     if let Ok(spot) = find_spot(index, worded) {
         index.remove(spot);
@@ -115,6 +121,33 @@ pub(crate) fn put_worded(index: &mut Vec<Worded>, worded: Worded)
         Ok(spot) => index[spot] = worded,
         Err(spot) => index.insert(spot, worded).unwrap(),
     }
+}
+
+// Puts a row in its place in the index, where there is room for one more, and the one that it
+// replaces goes.
+pub(crate) fn exchange_worded(index: &mut Vec<Worded>, replaced: Option<Row>, row: Row)
+    requires rising { IsStrictlySortedBy word_order index.old.items }
+    requires room { vec_len index.old < vec_capacity index.old }
+    ensures replaced { IfSome replaced (λ replaced. index.new.items
+        ≡ put word_order row (without_one word_order replaced index.old.items)) }
+    ensures none { IfNone replaced (index.new.items ≡ put word_order row index.old.items) }
+{
+    match replaced {
+        Some(replaced) => {
+            take_worded(index, &Worded::new(replaced));
+            put_worded(index, Worded::new(row));
+        }
+        None => put_worded(index, Worded::new(row)),
+    }
+}
+
+// Takes out of the index the rows that have the canonical bytes of one of some that rise: the index is
+// gone over once.
+pub(crate) fn take_worded_rows(index: &mut Vec<Worded>, removed: &[Row])
+    requires { IsStrictlySortedBy stored_order removed.now }
+    ensures { index.new.items ≡ without removed.now index.old.items }
+{
+    index.retain(|worded| !is_among(removed, worded.row()));
 }
 
 // The same index once more. The one error is want of memory.

@@ -1,5 +1,5 @@
 //! Rows of one item in their order, with an index by key.
-ghost use Rattle.std.specs.Prelude.{◌≡◌, [], Contains, IfNone, IfOk, IfSome, OnOk};
+ghost use Rattle.std.specs.Prelude.{◌≡◌, ◌≤◌, [], Contains, IfNone, IfOk, IfSome, OnOk, length};
 ghost use Rattle.std.specs.List.{AllByRecursion};
 ghost use Rattle.std.specs.List.Sorted.{IsStrictlySortedBy};
 ghost use Rattle.ifmap_meta.specs.Keys.{HaveOneKey};
@@ -8,8 +8,10 @@ ghost use Rattle.ifmap_plans.specs.Placing.{put};
 ghost use Rattle.ifmap_view.specs.Attachments.{stored_order};
 ghost use Rattle.ifmap_rows.specs.Indexed.{without_one};
 
-use crate::index::{Worded, find_keyed, put_worded, share_index, take_worded};
-use crate::lists::{put_row, take_row};
+use crate::index::{
+    Worded, exchange_worded, find_keyed, share_index, take_worded, take_worded_rows,
+};
+use crate::lists::{do_rise, put_row, take_row, take_rows};
 use ifmap_view::{Row, share_rows};
 use std::alloc::{AllocError as NoMemory, Global};
 use std::marker::Model;
@@ -38,6 +40,10 @@ impl Model for Rows {
     ghost invariant = { λ r. IsIndexed r.by_bytes.items r.by_word.items };
 }
 
+// So many rows go one by one: each moves the pointers that follow it, in both lists. Where more go,
+// both lists are gone over once.
+const FEW: usize = 16;
+
 impl Rows {
     /// No rows. It takes no memory.
     pub fn new(alloc: Global) -> Rows
@@ -55,6 +61,13 @@ impl Rows {
         ensures rising { IsStrictlySortedBy stored_order self.now }
     {
         &self.by_bytes
+    }
+
+    /// How many rows there is room for. It takes no memory.
+    pub fn room(&self) -> usize
+        ensures { length self.now ≤ result }
+    {
+        self.by_bytes.capacity()
     }
 
     /// The same rows once more: no element is copied. The one error is want of memory.
@@ -82,11 +95,31 @@ impl Rows {
     pub fn carry_out(&mut self, removed: &[Row], added: &[Row]) -> Result<(), NoMemory>
         ensures { OnOk result (self.new ≡ next_on removed.now added.now self.old) }
     {
-        self.take_each(removed);
+        self.take_all(removed);
         self.put_each(added)
     }
 
     // Those of the canonical bytes of one of these go.
+    fn take_all(&mut self, removed: &[Row])
+        ensures { self.new ≡ without removed.now self.old }
+    {
+        if removed.len() > FEW && do_rise(removed) {
+            self.take_at_once(removed);
+        } else {
+            self.take_each(removed);
+        }
+    }
+
+    // The same, of rows that rise.
+    fn take_at_once(&mut self, removed: &[Row])
+        requires { IsStrictlySortedBy stored_order removed.now }
+        ensures { self.new ≡ without removed.now self.old }
+    {
+        take_rows(&mut self.by_bytes, removed);
+        take_worded_rows(&mut self.by_word, removed);
+    }
+
+    // The same, one after the other.
     fn take_each(&mut self, removed: &[Row])
         ensures { self.new ≡ without removed.now self.old }
     {
@@ -121,11 +154,10 @@ impl Rows {
     {
         let one = row.share()?;
         let other = row.share()?;
-        self.take(row);
         self.by_bytes.reserve(1)?;
         self.by_word.reserve(1)?;
-        put_row(&mut self.by_bytes, one);
-        put_worded(&mut self.by_word, Worded::new(other));
+        let replaced = put_row(&mut self.by_bytes, one);
+        exchange_worded(&mut self.by_word, replaced, other);
         Ok(())
     }
 }
