@@ -23,10 +23,11 @@ use Rattle.ifmap_lemmas.specs.Texts.{eq_tells}
 use Rattle.ifmap_meta.specs.Cardinality.{is_single}
 use Rattle.ifmap_meta.specs.declared.stored.Stored.{Stored}
 use Rattle.ifmap_meta.specs.Keys.{HaveOneKey}
-use Rattle.ifmap_meta.specs.KeyWords.{attribute_characters, characters_of_child, key_characters, mix_all}
+use Rattle.ifmap_meta.specs.KeyWords.{mix_all}
 use Rattle.ifmap_meta.specs.Stamps.{content_of}
 use Rattle.ifmap_view.specs.Attachments.{stored_order}
-use Rattle.ifmap_rows.specs.Indexed.{IsIndexed, word_of, word_order}
+use Rattle.ifmap_rows.specs.Indexed.{IsIndexed, word_order}
+use Rattle.ifmap_rows.specs.Words.{attribute_parts, ended, key_parts, parts_of_child, word_of}
 
 -- ---- what has one key has one word
 
@@ -40,19 +41,24 @@ beq_tells false false e = refl
 first_alone : (p q : Bool) (xs ys : List ℕ) → p ≡ true → p ≡ q → cond p [] xs ≡ cond q [] ys
 first_alone p q xs ys s e = ap (λ b. cond b [] xs) s ∙ sym (ap (λ b. cond b [] ys) (sym e ∙ s))
 
-content_characters : Element → List ℕ
-content_characters e = flat_map attribute_characters e.attributes ++ flat_map characters_of_child e.children
+content_parts : List ℕ → Element → List ℕ
+content_parts publisher e = ended publisher ++ (flat_map attribute_parts e.attributes ++ flat_map parts_of_child e.children)
 
-chosen : (e f : Element) → is_single e ≡ is_single f → IsTrue (is_single e) ⊎ (content_of e ≡ content_of f)
-    → cond (is_single e) [] (content_characters (content_of e)) ≡ cond (is_single f) [] (content_characters (content_of f))
-chosen e f single (inl s) = first_alone (is_single e) (is_single f) (content_characters (content_of e)) (content_characters (content_of f))
-    s single
-chosen e f single (inr c) = λ i. cond (single i) [] (content_characters (c i))
+abbrev OfOneContent : Stored → Stored → Type 0
+OfOneContent a b = IsTrue (is_single a.element) ⊎ ((a.publisher ≡ b.publisher) × (content_of a.element ≡ content_of b.element))
 
-characters_agree : (e f : Element) → e.name.space ≡ f.name.space → e.name.local ≡ f.name.local → is_single e ≡ is_single f
-    → IsTrue (is_single e) ⊎ (content_of e ≡ content_of f) → key_characters e ≡ key_characters f
-unfolding content_characters
-characters_agree e f space local single one = λ i. (space i ++ local i) ++ chosen e f single one i
+chosen : (a b : Stored) → is_single a.element ≡ is_single b.element → OfOneContent a b
+    → cond (is_single a.element) [] (content_parts a.publisher (content_of a.element))
+    ≡ cond (is_single b.element) [] (content_parts b.publisher (content_of b.element))
+chosen a b single (inl s) =
+    first_alone (is_single a.element) (is_single b.element) (content_parts a.publisher (content_of a.element))
+    (content_parts b.publisher (content_of b.element)) s single
+chosen a b single (inr p) = λ i. cond (single i) [] (content_parts (p.0 i) (p.1 i))
+
+parts_agree : (a b : Stored) → a.element.name.space ≡ b.element.name.space → a.element.name.local ≡ b.element.name.local
+    → is_single a.element ≡ is_single b.element → OfOneContent a b → key_parts a ≡ key_parts b
+unfolding content_parts
+parts_agree a b space local single one = λ i. (ended (space i) ++ ended (local i)) ++ chosen a b single one i
 
 pub words_agree : (a b : Stored) → HaveOneKey a b → word_of a ≡ word_of b
 unfolding word_of
@@ -61,10 +67,8 @@ words_agree a b h =
     (beq (is_single a.element) (is_single b.element)) h.0 in
     let names =
     and_parts (bytes_eq a.element.name.space b.element.name.space) (bytes_eq a.element.name.local b.element.name.local) parts.0 in
-    let one : IsTrue (is_single a.element) ⊎ (content_of a.element ≡ content_of b.element) =
-    elim h.1 [ inl s ↦ inl s | inr p ↦ inr p.1 ] in
-    ap (mix_all 0) (characters_agree a.element b.element (eq_tells a.element.name.space b.element.name.space names.0)
-    (eq_tells a.element.name.local b.element.name.local names.1) (beq_tells (is_single a.element) (is_single b.element) parts.1) one)
+    ap (mix_all 0) (parts_agree a b (eq_tells a.element.name.space b.element.name.space names.0)
+    (eq_tells a.element.name.local b.element.name.local names.1) (beq_tells (is_single a.element) (is_single b.element) parts.1) h.1)
 
 -- ---- along the index
 

@@ -15,7 +15,8 @@ use Rattle.ifmap_plans.specs.Placing.{put}
 use Rattle.ifmap_plans.specs.laws.KeyLaws.{stored_total}
 use Rattle.ifmap_plans.specs.laws.PlacingLaws.{put_sorted}
 use Rattle.ifmap_view.specs.Attachments.{stored_order}
-use Rattle.ifmap_rows.specs.Indexed.{IsIndexed, without_one, word_of, word_order}
+use Rattle.ifmap_rows.specs.Indexed.{IsIndexed, without_one, word_order}
+use Rattle.ifmap_rows.specs.Words.{word_of}
 use Rattle.ifmap_rows.proofs.Rising.{has_put, has_put_one, is_equal, none_equal, only_one, put_again, put_has}
 
 pub empty : IsIndexed [] []

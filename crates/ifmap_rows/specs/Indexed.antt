@@ -1,17 +1,13 @@
 -- An index of rows by the words of their keys.
-use Rattle.std.specs.Prelude.{ℕ, List, not}
+use Rattle.std.specs.Prelude.{List, not}
 use Rattle.std.specs.List.{filter}
 use Rattle.std.specs.List.Sorted.{IsStrictlySortedBy}
 use Rattle.std.specs.Ordering.{eq_by_cmp, nat_cmp, on, then_cmp}
 use Rattle.std.specs.declared.cmp.Ordering.{Ordering}
 use Rattle.ifmap_lemmas.specs.Having.{Has}
 use Rattle.ifmap_meta.specs.declared.stored.Stored.{Stored}
-use Rattle.ifmap_meta.specs.KeyWords.{key_word}
 use Rattle.ifmap_view.specs.Attachments.{stored_order}
-
--- the word of a stored element's key
-unfoldable pub word_of : Stored → ℕ
-word_of s = key_word s.element
+use Rattle.ifmap_rows.specs.Words.{word_of}
 
 -- the order of the index: by the words of the keys, and for one word by the canonical bytes
 abbrev pub word_order : Stored → Stored → Ordering

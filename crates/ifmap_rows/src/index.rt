@@ -6,8 +6,9 @@ ghost use Rattle.ifmap_meta.specs.Keys.{HaveOneKey};
 ghost use Rattle.ifmap_plans.specs.Lists.{without};
 ghost use Rattle.ifmap_plans.specs.Placing.{put};
 ghost use Rattle.ifmap_view.specs.Attachments.{stored_order};
-ghost use Rattle.ifmap_rows.specs.Indexed.{without_one, word_of, word_order};
+ghost use Rattle.ifmap_rows.specs.Indexed.{without_one, word_order};
 ghost use Rattle.ifmap_rows.specs.Spots.{IsSpot};
+ghost use Rattle.ifmap_rows.specs.Words.{word_of};
 
 use crate::lists::is_among;
 use crate::words::key_word;
@@ -28,7 +29,7 @@ impl Model for Worded {
     ghost use Rattle.std.specs.Prelude.{◌≡◌};
     ghost use Rattle.ifmap_meta.specs.contracts.stored.Stored as the_stored;
     ghost use Rattle.ifmap_meta.specs.declared.stored.Stored.{Stored};
-    ghost use Rattle.ifmap_rows.specs.Indexed.{word_of};
+    ghost use Rattle.ifmap_rows.specs.Words.{word_of};
 
     ghost Value = { Stored };
 
@@ -73,11 +74,10 @@ impl Worded {
 }
 
 // The word of the row's key.
-#[tactic(auto, unfolding(crate::specs::Indexed::word_of))]
 fn row_word(row: &Row) -> u64
     ensures { result ≡ word_of row.now }
 {
-    key_word(row.stored().element.element())
+    key_word(row.stored())
 }
 
 // How two rows stand to each other in the index.

@@ -1,47 +1,50 @@
 //! The word of a key: a number that is the same for the same key. It is made once for a row that
-//! comes or is looked for; `ifmap_meta` has one inside each element, which it does not hand out.
-ghost use Rattle.std.specs.Prelude.{◌≡◌};
+//! comes or is looked for.
+ghost use Rattle.std.specs.Prelude.{◌≡◌, [], ◌∷◌};
 ghost use Rattle.std.specs.List.{flat_map};
-ghost use Rattle.ifmap_meta.specs.KeyWords.{attribute_characters, characters_of, characters_of_child, key_word, mix, mix_all, name_characters};
+ghost use Rattle.ifmap_meta.specs.KeyWords.{mix, mix_all};
 ghost use Rattle.ifmap_meta.specs.Stamps.{is_stamp, without_stamps};
+ghost use Rattle.ifmap_rows.specs.Words.{attribute_parts, ended, name_parts, parts_of, parts_of_child, word_of};
 
 use ifmap_elem::{Attribute, Child, Element, Many, Name};
-use ifmap_meta::is_single;
+use ifmap_meta::{Stored, is_single};
 
-// The word of the key of an element, where it is stored.
-#[tactic(auto, using(ifmap_meta::specs::laws::KeyWordLaws::mix_append))]
-pub(crate) fn key_word(element: &Element) -> u64
-    ensures { result ≡ key_word element.now }
+// The word of the key of what is stored.
+#[tactic(auto, using(ifmap_meta::specs::laws::KeyWordLaws::mix_append), unfolding(crate::specs::Words::word_of))]
+pub(crate) fn key_word(stored: &Stored) -> u64
+    ensures { result ≡ word_of stored.now }
 {
+    let element = stored.element.element();
     let word = mix_name(0, &element.name);
     if is_single(element) {
         return word;
     }
+    let word = mix_text(word, stored.publisher.text().as_bytes());
     let word = mix_content(word, &element.attributes);
     mix_children(word, &element.children)
 }
 
 #[tactic(auto, using(ifmap_meta::specs::laws::KeyWordLaws::mix_append))]
 fn mix_name(word: u64, name: &Name) -> u64
-    ensures { result ≡ mix_all word (name_characters name.now) }
+    ensures { result ≡ mix_all word (name_parts name.now) }
 {
-    let word = mix_bytes(word, name.space.as_bytes());
-    mix_bytes(word, name.local.as_bytes())
+    let word = mix_text(word, name.space.as_bytes());
+    mix_text(word, name.local.as_bytes())
 }
 
 #[tactic(auto, using(ifmap_meta::specs::laws::KeyWordLaws::mix_append))]
 fn mix_attribute(word: u64, attribute: &Attribute) -> u64
-    ensures { result ≡ mix_all word (attribute_characters attribute.now) }
+    ensures { result ≡ mix_all word (attribute_parts attribute.now) }
 {
     let word = mix_name(word, &attribute.name);
-    mix_bytes(word, attribute.value.as_bytes())
+    mix_text(word, attribute.value.as_bytes())
 }
 
 // The attributes that are no stamps.
 #[tactic(auto, using(ifmap_meta::specs::laws::KeyWordLaws::mix_append))]
 fn mix_content(word: u64, attributes: &Many<Attribute>) -> u64
     ensures { result
-        ≡ mix_all word (flat_map attribute_characters (without_stamps attributes.now)) }
+        ≡ mix_all word (flat_map attribute_parts (without_stamps attributes.now)) }
 {
     let mut mixed = word;
     for attribute in &attributes.0 {
@@ -54,7 +57,7 @@ fn mix_content(word: u64, attributes: &Many<Attribute>) -> u64
 
 #[tactic(auto, using(ifmap_meta::specs::laws::KeyWordLaws::mix_append))]
 fn mix_attributes(word: u64, attributes: &Many<Attribute>) -> u64
-    ensures { result ≡ mix_all word (flat_map attribute_characters attributes.now) }
+    ensures { result ≡ mix_all word (flat_map attribute_parts attributes.now) }
 {
     let mut mixed = word;
     for attribute in &attributes.0 {
@@ -64,9 +67,9 @@ fn mix_attributes(word: u64, attributes: &Many<Attribute>) -> u64
 }
 
 #[cycle(mixing)]
-#[tactic(auto, using(ifmap_meta::specs::laws::KeyWordLaws::mix_append, ifmap_meta::specs::laws::KeyWordLaws::characters_are))]
+#[tactic(auto, using(ifmap_meta::specs::laws::KeyWordLaws::mix_append, crate::proofs::Mixing::parts_are))]
 fn mix_element(word: u64, element: &Element) -> u64
-    ensures { result ≡ mix_all word (characters_of element.now) }
+    ensures { result ≡ mix_all word (parts_of element.now) }
 {
     let word = mix_name(word, &element.name);
     let word = mix_attributes(word, &element.attributes);
@@ -76,7 +79,7 @@ fn mix_element(word: u64, element: &Element) -> u64
 #[cycle(mixing)]
 #[tactic(auto, using(ifmap_meta::specs::laws::KeyWordLaws::mix_append))]
 fn mix_children(word: u64, children: &Many<Child>) -> u64
-    ensures { result ≡ mix_all word (flat_map characters_of_child children.now) }
+    ensures { result ≡ mix_all word (flat_map parts_of_child children.now) }
 {
     let mut mixed = word;
     for child in &children.0 {
@@ -87,12 +90,22 @@ fn mix_children(word: u64, children: &Many<Child>) -> u64
 
 #[cycle(mixing)]
 fn mix_child(word: u64, child: &Child) -> u64
-    ensures { result ≡ mix_all word (characters_of_child child.now) }
+    ensures { result ≡ mix_all word (parts_of_child child.now) }
 {
     match child {
         Child::Element(element) => mix_element(word, element),
-        Child::Text(text) => mix_bytes(word, text.as_bytes()),
+        Child::Text(text) => mix_text(word, text.as_bytes()),
     }
+}
+
+// What no byte is: it stands after each text.
+const END: u64 = 256;
+
+#[tactic(auto, using(ifmap_meta::specs::laws::KeyWordLaws::mix_append))]
+fn mix_text(word: u64, text: &[u8]) -> u64
+    ensures { result ≡ mix_all word (ended text.now) }
+{
+    mix(mix_bytes(word, text), END)
 }
 
 #[tactic(auto, using(ifmap_meta::specs::laws::KeyWordLaws::mix_append))]
@@ -101,7 +114,7 @@ fn mix_bytes(word: u64, bytes: &[u8]) -> u64
 {
     let mut mixed = word;
     for byte in bytes {
-        mixed = mix(mixed, *byte);
+        mixed = mix(mixed, *byte as u64);
     }
     mixed
 }
@@ -115,8 +128,8 @@ fn is_stamp(attribute: &Attribute) -> bool
 
 const PRIME: u64 = 1_099_511_628_211;
 
-fn mix(word: u64, byte: u8) -> u64
-    ensures { result ≡ mix word byte }
+fn mix(word: u64, part: u64) -> u64
+    ensures { result ≡ mix word part }
 {
-    word.wrapping_mul(PRIME).wrapping_add(byte as u64)
+    word.wrapping_mul(PRIME).wrapping_add(part)
 }

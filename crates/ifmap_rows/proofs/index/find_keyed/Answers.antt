@@ -1,7 +1,7 @@
 use Rattle.std.proofs.Common.{◌∙◌, arith, ltb, rules}
 use Rattle.std.proofs.lemmas.List.Sorted.{IsPartitionPoint-from_clause}
 use Rattle.ifmap_meta.specs.declared.stored.Stored.{Stored}
-use Rattle.ifmap_rows.specs.Indexed.{word_of}
+use Rattle.ifmap_rows.specs.Words.{word_of}
 use Rattle.ifmap_rows.proofs.Agreeing.{front_differs, none_at_end, none_beyond, parted, rest_least}
 use Rattle.ifmap_rows.proofs.index.find_keyed.Goals as goal
 use Rattle.ifmap_rows.proofs.index.find_keyed.Goals.{then-loop-place-test+else-word, else-loop-place-test}

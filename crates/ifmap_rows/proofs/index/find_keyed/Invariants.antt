@@ -1,7 +1,7 @@
 use Rattle.std.proofs.Common.{◌<◌, ◌≤◌, ◌-◌, ℕ, length, get_or}
 use Rattle.ifmap_meta.specs.declared.stored.Stored.{Stored}
 use Rattle.ifmap_meta.specs.Keys.{HaveOneKey}
-use Rattle.ifmap_rows.specs.Indexed.{word_of}
+use Rattle.ifmap_rows.specs.Words.{word_of}
 use Rattle.ifmap_rows.proofs.index.find_keyed.Given as goal
 
 -- none that was passed has the key, and the words from here on are not less
