@@ -6,7 +6,7 @@ use Rattle.std.specs.List.{flat_map}
 use Rattle.ifmap_elem.specs.Arranged.{arrange, arrange_child}
 use Rattle.ifmap_elem.specs.Canonical.{child_bytes, element_bytes}
 use Rattle.ifmap_elem.specs.Namespaces.{spaces_of, spaces_of_child}
-use Rattle.ifmap_elem.specs.Outlines.{outline_child, outline_element}
+use Rattle.ifmap_elem.specs.Outlines.{outline_child}
 use Rattle.ifmap_elem.specs.printer.Pieces.{Adds}
 use Rattle.ifmap_elem.specs.declared.elements.Child.{Child}
 use Rattle.ifmap_elem.specs.declared.elements.Element.{Element}

@@ -25,7 +25,6 @@ named_element name attributes children = record { name = name; attributes = attr
 abbrev pub outline_child_of : Piece-F Child Element → Child
 outline_child_of (Piece-F.Text text) = the.Text text.now
 outline_child_of (Piece-F.Shared element) = the.Element element.now
-outline_child_of (Piece-F.Own element) = the.Element element
 outline_child_of (Piece-F.Outline element) = the.Element element
 
 -- of an outline, where its pieces are children already

@@ -172,6 +172,7 @@ impl<'a> Prefixes<'a> {
     }
 
     // The prefix of a label's namespace, in the same way.
+    #[inline(always)]
     pub(crate) fn number_label(&mut self, label: Label<'a>) -> Result<Option<Prefix>, NoMemory>
         ensures added { OnOk result (
             AddsSpaces self.old ((label_name label.entry).space ∷ []) self.new) }

@@ -7,6 +7,7 @@ ghost use Rattle.ifmap_elem.specs.declared.elements.Child as the;
 use crate::copying::Copied;
 use crate::elements::{Attribute, Child, Element, Name};
 use crate::lists::Many;
+use crate::outline_attributes::OutlineAttribute;
 use crate::texts::Text;
 use std::alloc::{AllocError as NoMemory, Global};
 
@@ -49,8 +50,6 @@ pub enum Piece<'a> {
     Text(&'a Text),
     /// An element that something else holds.
     Shared(&'a Element),
-    /// An element of the outline's own.
-    Own(Element),
     /// An outline inside this one.
     Outline(Outline<'a>),
 }
@@ -61,7 +60,7 @@ pub enum Piece<'a> {
 #[derive(Drop)]
 pub struct Outline<'a> {
     pub label: Label<'a>,
-    pub attributes: Many<Attribute>,
+    pub attributes: Many<OutlineAttribute<'a>>,
     pub pieces: Many<Piece<'a>>,
 }
 
@@ -79,20 +78,17 @@ impl<'a> Piece<'a> {
     {
         Piece::Shared(element)
     }
-
-    /// An element of the outline's own.
-    pub fn own(element: Element) -> Piece<'a>
-        ensures { outline_child result ≡ the.Element element }
-    {
-        Piece::Own(element)
-    }
 }
 
 impl<'a> Outline<'a> {
     /// An element in no namespace.
-    pub fn bare(local: &'a str, attributes: Vec<Attribute>, pieces: Vec<Piece<'a>>) -> Outline<'a>
+    pub fn bare(
+        local: &'a str,
+        attributes: Vec<OutlineAttribute<'a>>,
+        pieces: Vec<Piece<'a>>,
+    ) -> Outline<'a>
         ensures { outline_element result
-            ≡ bare_element local.now attributes.items (map outline_child pieces.entry.items) }
+            ≡ bare_element local.now attributes.entry.items (map outline_child pieces.entry.items) }
     {
         Outline {
             label: Label::Bare(local),
@@ -102,8 +98,12 @@ impl<'a> Outline<'a> {
     }
 
     /// An element of this name.
-    pub fn named(name: &'a Name, attributes: Vec<Attribute>, pieces: Vec<Piece<'a>>) -> Outline<'a>
-        ensures { outline_element result ≡ named_element name.now attributes.items
+    pub fn named(
+        name: &'a Name,
+        attributes: Vec<OutlineAttribute<'a>>,
+        pieces: Vec<Piece<'a>>,
+    ) -> Outline<'a>
+        ensures { outline_element result ≡ named_element name.now attributes.entry.items
             (map outline_child pieces.entry.items) }
     {
         Outline {
@@ -134,13 +134,26 @@ fn copy_outline(alloc: Global, outline: &Outline<'_>) -> Result<Element, NoMemor
     ensures { IfOk result (λ element. element ≡ outline_element outline.now) }
 {
     let name = outline.label.name(alloc)?;
-    let attributes = outline.attributes.copy(alloc)?;
+    let attributes = copy_attributes(alloc, outline.attributes.as_slice())?;
     let children = copy_pieces(alloc, outline.pieces.as_slice())?;
     Ok(Element {
         name,
         attributes,
         children,
     })
+}
+
+fn copy_attributes(
+    alloc: Global,
+    attributes: &[OutlineAttribute<'_>],
+) -> Result<Many<Attribute>, NoMemory>
+    ensures { IfOk result (λ made. made ≡ attributes.now) }
+{
+    let mut made = Vec::with_capacity(alloc, attributes.len())?;
+    for attribute in attributes {
+        made.push(attribute.attribute(alloc)?)?;
+    }
+    Ok(Many(made))
 }
 
 #[cycle(outline_copying)]
@@ -161,7 +174,6 @@ fn copy_piece(alloc: Global, piece: &Piece<'_>) -> Result<Child, NoMemory>
     match piece {
         Piece::Text(text) => Ok(Child::Text(text.copy(alloc)?)),
         Piece::Shared(element) => Ok(Child::Element(element.copy(alloc)?)),
-        Piece::Own(element) => Ok(Child::Element(element.copy(alloc)?)),
         Piece::Outline(outline) => Ok(Child::Element(copy_outline(alloc, outline)?)),
     }
 }

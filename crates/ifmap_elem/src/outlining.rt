@@ -1,16 +1,19 @@
 //! Printing of outlines, as elements are printed.
-ghost use Rattle.std.specs.Prelude.{◌≡◌, List, ℕ, IfOk, OnOk, map};
+ghost use Rattle.std.specs.Prelude.{◌≡◌, List, ℕ, OnOk, map};
 ghost use Rattle.std.specs.Map.{lookup};
 ghost use Rattle.std.specs.Str.{bytes_eq};
+ghost use Rattle.ifmap_elem.specs.Arranged.{sort_attributes};
 ghost use Rattle.ifmap_elem.specs.Namespaces.{name_prefixes};
 ghost use Rattle.ifmap_elem.specs.Outlines.{label_name, outline_element, outline_child};
-ghost use Rattle.ifmap_elem.specs.printer.Pieces.{AddsChild, AddsContent, AddsElement, AddsName, AreFinal};
+ghost use Rattle.ifmap_elem.specs.printer.Pieces.{AddsAttribute, AddsAttributes, AddsChild, AddsContent, AddsElement, AreFinal};
 
 use crate::escaping::{Place, write_escaped};
 use crate::lists::Many;
 use crate::numbering::{Prefix, Prefixes};
+use crate::outline_attributes::OutlineAttribute;
 use crate::outlines::{Label, Outline, Piece};
-use crate::printing::{write_attributes, write_element, write_name};
+use crate::printing::{write_element, write_label, write_name};
+use crate::sorting::{are_outline_attributes_sorted, outline_attributes_in_order};
 use std::alloc::{AllocError as NoMemory, Global};
 
 // What follows the attributes of an element of this name, which is written with this prefix.
@@ -61,10 +64,6 @@ fn write_piece<'a, 'b>(
             write_element(alloc, prefixes, *element, out)?;
             Ok(())
         }
-        Piece::Own(element) => {
-            write_element(alloc, prefixes, element, out)?;
-            Ok(())
-        }
         Piece::Outline(outline) => {
             write_outline(alloc, prefixes, outline, out)?;
             Ok(())
@@ -85,23 +84,59 @@ fn write_outline<'a, 'b>(
     out.extend_from_slice(b"<")?;
     let label = outline.label;
     let prefix = write_label(prefixes, label, out)?;
-    write_attributes(alloc, prefixes, &outline.attributes, out)?;
+    write_outline_attributes(alloc, prefixes, &outline.attributes, out)?;
     write_pieces(alloc, prefixes, &prefix, label, &outline.pieces, out)?;
     Ok(())
 }
 
-// Writes a name whose namespace is numbered if it is new. Its prefix.
-fn write_label<'a>(
+pub(crate) fn write_outline_attributes<'a, 'b>(
+    alloc: Global,
     prefixes: &mut Prefixes<'a>,
-    label: Label<'a>,
+    attributes: &'a Many<OutlineAttribute<'b>>,
     out: &mut Vec<u8>,
-) -> Result<Option<Prefix>, NoMemory>
-    ensures added { OnOk result (
-        AddsName (label_name label.entry) prefixes.old prefixes.new out.old.items out.new.items) }
-    ensures prefix { IfOk result (λ prefix. (final : List (List ℕ)) → AreFinal prefixes.new final →
-        prefix ≡ lookup (bytes_eq (label_name label.entry).space) (name_prefixes final)) }
+) -> Result<(), NoMemory>
+    ensures { OnOk result (
+        AddsAttributes (sort_attributes attributes.now) prefixes.old prefixes.new
+        out.old.items out.new.items) }
 {
-    let prefix = prefixes.number_label(label)?;
-    write_name(&prefix, label.local(), out)?;
-    Ok(prefix)
+    if are_outline_attributes_sorted(attributes.as_slice()) {
+        return write_each(prefixes, attributes.as_slice(), out);
+    }
+    let order = outline_attributes_in_order(alloc, attributes)?;
+    for attribute in &order {
+        write_outline_attribute(prefixes, *attribute, out)?;
+    }
+    Ok(())
+}
+
+// Writes attributes in the order in which they stand.
+fn write_each<'a, 'b>(
+    prefixes: &mut Prefixes<'a>,
+    attributes: &'a [OutlineAttribute<'b>],
+    out: &mut Vec<u8>,
+) -> Result<(), NoMemory>
+    ensures { OnOk result (
+        AddsAttributes attributes.now prefixes.old prefixes.new out.old.items out.new.items) }
+{
+    for attribute in attributes {
+        write_outline_attribute(prefixes, attribute, out)?;
+    }
+    Ok(())
+}
+
+#[inline(always)]
+fn write_outline_attribute<'a, 'b>(
+    prefixes: &mut Prefixes<'a>,
+    attribute: &'a OutlineAttribute<'b>,
+    out: &mut Vec<u8>,
+) -> Result<(), NoMemory>
+    ensures { OnOk result (
+        AddsAttribute attribute.now prefixes.old prefixes.new out.old.items out.new.items) }
+{
+    out.extend_from_slice(b" ")?;
+    write_label(prefixes, attribute.label(), out)?;
+    out.extend_from_slice(b"=\"")?;
+    write_escaped(Place::Value, attribute.value_bytes(), out)?;
+    out.extend_from_slice(b"\"")?;
+    Ok(())
 }

@@ -8,7 +8,7 @@ ghost use Rattle.ifmap_elem.specs.Fit.{IsDeclarable, IsFit};
 ghost use Rattle.ifmap_elem.specs.Namespaces.{name_prefixes, numbered_prefixes};
 ghost use Rattle.ifmap_lemmas.specs.Numerals.{numeral};
 ghost use Rattle.ifmap_elem.specs.Outlines.{label_name, outline_element};
-ghost use Rattle.ifmap_elem.specs.printer.Contents.{children_in, root_of};
+ghost use Rattle.ifmap_elem.specs.printer.Contents.{attributes_in, children_in, root_of};
 ghost use Rattle.ifmap_elem.specs.printer.Pieces.{AddsAttribute, AddsAttributes, AddsChild, AddsContent, AddsElement, AddsName, AreFinal};
 ghost use Rattle.ifmap_elem.specs.Spells.{Spells};
 ghost use Rattle.ifmap_elem.specs.Canonical.{after_prefix, canonical_bytes, canonical_reading, declaration_bytes};
@@ -18,8 +18,9 @@ use crate::elements::{Attribute, Child, Element, Name};
 use crate::escaping::{Place, write_escaped};
 use crate::lists::Many;
 use crate::numbering::{Prefix, Prefixes, write_numbered};
+use crate::outline_attributes::OutlineAttribute;
 use crate::outlines::{Label, Outline, Piece};
-use crate::outlining::write_pieces;
+use crate::outlining::{write_outline_attributes, write_pieces};
 use crate::sorting::{are_sorted, attributes_in_order};
 use crate::texts::Text;
 use std::alloc::{AllocError as NoMemory, Global};
@@ -31,14 +32,8 @@ pub fn canonical(alloc: Global, element: &Element) -> Result<Many<u8>, NoMemory>
     ensures spelled { IsFit element.now →
         IfOk result (λ bytes. Spells bytes (canonical_reading element.now)) }
 {
-    let content = Content::Children(&element.children);
-    print_root(
-        alloc,
-        Label::Named(&element.name),
-        &element.attributes,
-        content,
-        &[],
-    )
+    let content = Content::Element(&element.attributes, &element.children);
+    print_root(alloc, Label::Named(&element.name), content, &[])
 }
 
 /// The canonical bytes with declarations of the prefixes `f1`, `f2` and so on for these namespaces
@@ -48,15 +43,9 @@ pub fn written(alloc: Global, element: &Element, spaces: &Many<Text>) -> Result<
     ensures spelled { IsFit element.now → AllByRecursion IsDeclarable spaces.now →
         IfOk result (λ bytes. Spells bytes (written_reading element.now spaces.now)) }
 {
-    let content = Content::Children(&element.children);
+    let content = Content::Element(&element.attributes, &element.children);
     let spaces = spaces.as_slice();
-    print_root(
-        alloc,
-        Label::Named(&element.name),
-        &element.attributes,
-        content,
-        spaces,
-    )
+    print_root(alloc, Label::Named(&element.name), content, spaces)
 }
 
 /// The canonical bytes of the element that an outline stands for, as `canonical` makes them; nothing
@@ -66,32 +55,30 @@ pub fn canonical_outline(alloc: Global, outline: &Outline<'_>) -> Result<Many<u8
     ensures spelled { IsFit (outline_element outline.now) →
         IfOk result (λ bytes. Spells bytes (canonical_reading (outline_element outline.now))) }
 {
-    let content = Content::Pieces(&outline.pieces);
-    print_root(alloc, outline.label, &outline.attributes, content, &[])
+    let content = Content::Outline(&outline.attributes, &outline.pieces);
+    print_root(alloc, outline.label, content, &[])
 }
 
-// What stands in a root.
+// The attributes of a root, and what stands in it.
 #[derive(Clone, Copy)]
 pub(crate) enum Content<'a, 'b> {
-    Children(&'a Many<Child>),
-    Pieces(&'a Many<Piece<'b>>),
+    Element(&'a Many<Attribute>, &'a Many<Child>),
+    Outline(&'a Many<OutlineAttribute<'b>>, &'a Many<Piece<'b>>),
 }
 
 fn print_root<'a, 'b>(
     alloc: Global,
     label: Label<'a>,
-    attributes: &'a Many<Attribute>,
     content: Content<'a, 'b>,
     spaces: &[Text],
 ) -> Result<Many<u8>, NoMemory>
     ensures { IfOk result (λ bytes.
-        bytes ≡ written_bytes
-        (root_of (label_name label.entry) attributes.now content.entry) spaces.now) }
+        bytes ≡ written_bytes (root_of (label_name label.entry) content.entry) spaces.now) }
 {
     let mut prefixes = Prefixes::new(alloc)?;
     let prefix = prefixes.number_label(label)?;
     let mut inside = Vec::new(alloc);
-    write_attributes(alloc, &mut prefixes, attributes, &mut inside)?;
+    write_root_attributes(alloc, &mut prefixes, content, &mut inside)?;
     write_inside(alloc, &mut prefixes, &prefix, label, content, &mut inside)?;
     let mut head = Vec::new(alloc);
     head.extend_from_slice(b"<")?;
@@ -101,6 +88,28 @@ fn print_root<'a, 'b>(
     write_declarations("f", &given, &mut head)?;
     drop(inside.splice(0..0, head)?);
     Ok(Many(inside))
+}
+
+fn write_root_attributes<'a, 'b>(
+    alloc: Global,
+    prefixes: &mut Prefixes<'a>,
+    content: Content<'a, 'b>,
+    out: &mut Vec<u8>,
+) -> Result<(), NoMemory>
+    ensures { OnOk result (
+        AddsAttributes (sort_attributes (attributes_in content.entry)) prefixes.old prefixes.new
+        out.old.items out.new.items) }
+{
+    match content {
+        Content::Element(attributes, _) => {
+            write_attributes(alloc, prefixes, attributes, out)?;
+            Ok(())
+        }
+        Content::Outline(attributes, _) => {
+            write_outline_attributes(alloc, prefixes, attributes, out)?;
+            Ok(())
+        }
+    }
 }
 
 // What follows the attributes of a root of this name, which is written with this prefix.
@@ -118,11 +127,11 @@ fn write_inside<'a, 'b>(
         out.old.items out.new.items) }
 {
     match content {
-        Content::Children(children) => {
+        Content::Element(_, children) => {
             write_content(alloc, prefixes, prefix, label, children, out)?;
             Ok(())
         }
-        Content::Pieces(pieces) => {
+        Content::Outline(_, pieces) => {
             write_pieces(alloc, prefixes, prefix, label, pieces, out)?;
             Ok(())
         }
@@ -140,7 +149,7 @@ pub(crate) fn write_element<'a>(
         AddsElement element.now prefixes.old prefixes.new out.old.items out.new.items) }
 {
     out.extend_from_slice(b"<")?;
-    let prefix = write_new_name(alloc, prefixes, &element.name, out)?;
+    let prefix = write_label(prefixes, Label::Named(&element.name), out)?;
     write_attributes(alloc, prefixes, &element.attributes, out)?;
     write_content(
         alloc,
@@ -215,18 +224,17 @@ pub(crate) fn write_attributes<'a>(
         out.old.items out.new.items) }
 {
     if are_sorted(attributes.as_slice()) {
-        return write_each(alloc, prefixes, attributes.as_slice(), out);
+        return write_each(prefixes, attributes.as_slice(), out);
     }
     let order = attributes_in_order(alloc, attributes)?;
     for attribute in &order {
-        write_attribute(alloc, prefixes, *attribute, out)?;
+        write_attribute(prefixes, *attribute, out)?;
     }
     Ok(())
 }
 
 // Writes attributes in the order in which they stand.
 fn write_each<'a>(
-    alloc: Global,
     prefixes: &mut Prefixes<'a>,
     attributes: &'a [Attribute],
     out: &mut Vec<u8>,
@@ -235,14 +243,13 @@ fn write_each<'a>(
         AddsAttributes attributes.now prefixes.old prefixes.new out.old.items out.new.items) }
 {
     for attribute in attributes {
-        write_attribute(alloc, prefixes, attribute, out)?;
+        write_attribute(prefixes, attribute, out)?;
     }
     Ok(())
 }
 
 #[inline(always)]
 fn write_attribute<'a>(
-    alloc: Global,
     prefixes: &mut Prefixes<'a>,
     attribute: &'a Attribute,
     out: &mut Vec<u8>,
@@ -251,7 +258,7 @@ fn write_attribute<'a>(
         AddsAttribute attribute.now prefixes.old prefixes.new out.old.items out.new.items) }
 {
     out.extend_from_slice(b" ")?;
-    write_new_name(alloc, prefixes, &attribute.name, out)?;
+    write_label(prefixes, Label::Named(&attribute.name), out)?;
     out.extend_from_slice(b"=\"")?;
     write_escaped(Place::Value, attribute.value.as_bytes(), out)?;
     out.extend_from_slice(b"\"")?;
@@ -260,19 +267,18 @@ fn write_attribute<'a>(
 
 // Writes a name whose namespace is numbered if it is new. Its prefix.
 #[inline(always)]
-fn write_new_name<'a>(
-    alloc: Global,
+pub(crate) fn write_label<'a>(
     prefixes: &mut Prefixes<'a>,
-    name: &'a Name,
+    label: Label<'a>,
     out: &mut Vec<u8>,
 ) -> Result<Option<Prefix>, NoMemory>
     ensures added { OnOk result (
-        AddsName name.now prefixes.old prefixes.new out.old.items out.new.items) }
+        AddsName (label_name label.entry) prefixes.old prefixes.new out.old.items out.new.items) }
     ensures prefix { IfOk result (λ prefix. (final : List (List ℕ)) → AreFinal prefixes.new final →
-        prefix ≡ lookup (bytes_eq name.now.space) (name_prefixes final)) }
+        prefix ≡ lookup (bytes_eq (label_name label.entry).space) (name_prefixes final)) }
 {
-    let prefix = prefixes.number(&name.space)?;
-    write_name(&prefix, name.local.as_str(), out)?;
+    let prefix = prefixes.number_label(label)?;
+    write_name(&prefix, label.local(), out)?;
     Ok(prefix)
 }
 

@@ -1,9 +1,12 @@
-//! An outline whose bytes were written by hand.
-use ifmap_elem::{Element, Many, Name, Outline, Piece, Text, canonical, canonical_outline};
+//! An outline whose bytes were written by hand, with attributes that stand in order and others.
+use ifmap_elem::{
+    Element, Many, Name, Outline, OutlineAttribute, Piece, Text, canonical, canonical_outline,
+};
 use std::alloc::{AllocError as NoMemory, Global};
 use std::test::Fail;
 
-const BYTES: &str = "<n1:r xmlns:n1=\"u\" xmlns:n2=\"v\"><a>x&lt;y</a><n2:b/><c/></n1:r>";
+const BYTES: &str = "<n1:r xmlns:n1=\"u\" xmlns:n2=\"v\" id=\"7\" kind=\"&amp;\">\
+    <a k=\"1\" s=\"x&lt;y\" t=\"\">x&lt;y</a><n2:b/><c/></n1:r>";
 
 // What the outline borrows.
 #[derive(Drop)]
@@ -30,13 +33,21 @@ fn make_parts(alloc: Global) -> Result<Parts, NoMemory> {
 
 fn outline_of<'a>(alloc: Global, parts: &'a Parts) -> Result<Outline<'a>, NoMemory> {
     let words = vec![in alloc; Piece::text(&parts.words)]?;
-    let own = Element::bare(alloc, "c", Vec::new(alloc), Vec::new(alloc))?;
-    let pieces = vec![in alloc;
-        Outline::bare("a", Vec::new(alloc), words).inside(),
-        Piece::shared(&parts.element),
-        Piece::own(own),
+    let mixed = vec![in alloc;
+        OutlineAttribute::from_str("t", ""),
+        OutlineAttribute::from_text("k", Text::from_str(alloc, "1")?),
+        OutlineAttribute::from_str("s", parts.words.as_str()),
     ]?;
-    Ok(Outline::named(&parts.name, Vec::new(alloc), pieces))
+    let rising = vec![in alloc;
+        OutlineAttribute::from_text("id", Text::from_str(alloc, "7")?),
+        OutlineAttribute::from_str("kind", "&"),
+    ]?;
+    let pieces = vec![in alloc;
+        Outline::bare("a", mixed, words).inside(),
+        Piece::shared(&parts.element),
+        Outline::bare("c", Vec::new(alloc), Vec::new(alloc)).inside(),
+    ]?;
+    Ok(Outline::named(&parts.name, rising, pieces))
 }
 
 #[test]

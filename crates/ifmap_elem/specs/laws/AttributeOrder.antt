@@ -165,19 +165,33 @@ compared_is a b =
     ∙ then_some (name_order a.name b.name) (slice_cmp nat_cmp a.value b.value)
 
 -- attributes each of which is not greater than the next are in order
+unmoved : (xs : List Attribute)
+    → ((k : ℕ) (d : Attribute) → suc k < length xs → is_le (attribute_order (get_or xs k d) (get_or xs (suc k) d)) ≡ true)
+    → sort_attributes xs ≡ xs
+unmoved xs up =
+    sym (rising_is_sorted xs xs (IsPermutation-refl xs) (λ k d l. next_not_less
+    (attribute_order (get_or xs k d) (get_or xs (suc k) d)) (attribute_order (get_or xs (suc k) d) (get_or xs k d))
+    (attributes_total.antisymm (get_or xs k d) (get_or xs (suc k) d)) (up k d l)))
+
+-- where `<=` compares two by what both are
 pub already_sorted : (xs : List Attribute) (r : Bool) → IsEachAdjacentAnswer (λ x y b. partial_le compared x y ≡ b) xs r
     → OnTrue r (sort_attributes xs ≡ xs)
-already_sorted xs true up = sym (rising_is_sorted xs xs (IsPermutation-refl xs) (λ k d l. rises k d l))
-  where
-    rises : (k : ℕ) (d : Attribute) → suc k < length xs → is_lt (attribute_order (get_or xs (suc k) d) (get_or xs k d)) ≡ false
-    rises k d l =
-        let a = get_or xs k d in
-        let b = get_or xs (suc k) d in
-        let h : partial_le compared a (get_or xs (k + 1) d) ≡ true = (up k d (omega (arith, l))).1 in
-        let g : partial_le compared a b ≡ true = subst (λ (n : ℕ). partial_le compared a (get_or xs n d) ≡ true) (add-one k) h in
-        next_not_less (attribute_order a b) (attribute_order b a) (attributes_total.antisymm a b)
-        (ap (λ o. is_some_and is_le o) (sym (compared_is a b)) ∙ g)
+already_sorted xs true up =
+    unmoved xs (λ k d l.
+    let a = get_or xs k d in
+    let h : partial_le compared a (get_or xs (k + 1) d) ≡ true = (up k d (omega (arith, l))).1 in
+    let g : partial_le compared a (get_or xs (suc k) d) ≡ true =
+    subst (λ (n : ℕ). partial_le compared a (get_or xs n d) ≡ true) (add-one k) h in
+    ap (λ o. is_some_and is_le o) (sym (compared_is a (get_or xs (suc k) d))) ∙ g)
 already_sorted xs false up = tt
+
+-- where it compares them by their order
+pub sorted_already : (xs : List Attribute) (r : Bool) → IsEachAdjacentAnswer (λ x y b. is_le (attribute_order x y) ≡ b) xs r
+    → OnTrue r (sort_attributes xs ≡ xs)
+sorted_already xs true up =
+    unmoved xs (λ k d l. subst (λ (n : ℕ). is_le (attribute_order (get_or xs k d) (get_or xs n d)) ≡ true) (add-one k)
+    (up k d (omega (arith, l))).1)
+sorted_already xs false up = tt
 
 abbrev referred : List (Bor Attribute) → List Attribute
 referred rs = map (λ (r : Bor Attribute). r.now) rs

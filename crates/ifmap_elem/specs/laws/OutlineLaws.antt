@@ -7,7 +7,7 @@ use Rattle.ifmap_elem.specs.declared.elements.Element.{Element}
 use Rattle.ifmap_elem.specs.declared.outlines.Piece.{fold-roll-Piece}
 use Rattle.ifmap_elem.specs.declared.outlines.Piece as piece
 use Rattle.ifmap_elem.specs.declared.outlines.Piece.TheOpen.{Piece-F}
-use Rattle.ifmap_elem.specs.declared.outlines.Piece.TheVariants.{rolls-Text, rolls-Shared, rolls-Own, rolls-Outline}
+use Rattle.ifmap_elem.specs.declared.outlines.Piece.TheVariants.{rolls-Text, rolls-Shared, rolls-Outline}
 use Rattle.ifmap_elem.specs.declared.outlines.Outline.{Outline, fold_out-Outline}
 
 -- an outline stands for an element of its name and its attributes, in which its pieces stand
@@ -27,9 +27,6 @@ outlined_text t = ap outline_child (sym (rolls-Text t)) ∙ at_piece (Piece-F.Te
 
 pub outlined_shared : (e : Bor Element) → outline_child (piece.Shared e) ≡ child.Element e.now
 outlined_shared e = ap outline_child (sym (rolls-Shared e)) ∙ at_piece (Piece-F.Shared e)
-
-pub outlined_own : (e : Element) → outline_child (piece.Own e) ≡ child.Element e
-outlined_own e = ap outline_child (sym (rolls-Own e)) ∙ at_piece (Piece-F.Own e)
 
 pub outlined_inside : (o : Outline) → outline_child (piece.Outline o) ≡ child.Element (outline_element o)
 outlined_inside o = ap outline_child (sym (rolls-Outline o)) ∙ at_piece (Piece-F.Outline o)

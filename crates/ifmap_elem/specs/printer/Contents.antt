@@ -1,18 +1,23 @@
--- What stands in a root that is printed.
-use Rattle.std.specs.Prelude.{List, ℕ, map}
+-- The attributes of a root that is printed, and what stands in it.
+use Rattle.std.specs.Prelude.{List, map}
 use Rattle.ifmap_elem.specs.declared.elements.Attribute.{Attribute}
 use Rattle.ifmap_elem.specs.declared.elements.Child.{Child}
-use Rattle.ifmap_elem.specs.declared.elements.Element.{Element}
+use Rattle.ifmap_elem.specs.declared.elements.Element as the
 use Rattle.ifmap_elem.specs.declared.elements.Name.{Name}
 use Rattle.ifmap_elem.specs.declared.printing.Content.{Content}
-use Rattle.ifmap_elem.specs.declared.printing.Content.TheVariants.{Children, Pieces}
+use Rattle.ifmap_elem.specs.declared.printing.Content.TheVariants.{Element, Outline}
 use Rattle.ifmap_elem.specs.Outlines.{outline_child}
+
+-- the attributes that it has
+abbrev pub attributes_in : Content → List Attribute
+attributes_in (Element attributes children) = attributes.now
+attributes_in (Outline attributes pieces) = attributes.now
 
 -- the children that it stands for
 abbrev pub children_in : Content → List Child
-children_in (Children children) = children.now
-children_in (Pieces pieces) = map outline_child pieces.now
+children_in (Element attributes children) = children.now
+children_in (Outline attributes pieces) = map outline_child pieces.now
 
 -- the root around it
-abbrev pub root_of : Name → List Attribute → Content → Element
-root_of name attributes content = record { name = name; attributes = attributes; children = children_in content }
+abbrev pub root_of : Name → Content → the.Element
+root_of name content = record { name = name; attributes = attributes_in content; children = children_in content }

@@ -4,7 +4,7 @@ use Rattle.ifmap_elem.specs.Outlines.{label_name, outline_child, outline_element
 use Rattle.ifmap_elem.specs.Canonical.{after_prefix}
 use Rattle.ifmap_elem.specs.Escapes.{text_bytes}
 use Rattle.ifmap_elem.specs.declared.outlines.Piece.{Piece}
-use Rattle.ifmap_elem.specs.laws.OutlineLaws.{outlined_inside, outlined_is, outlined_own, outlined_shared, outlined_text}
+use Rattle.ifmap_elem.specs.laws.OutlineLaws.{outlined_inside, outlined_is, outlined_shared, outlined_text}
 use Rattle.ifmap_elem.proofs.OutlinePieces.{adds_element_as, all_outlined, bytes_in, some_outlined, spaces_in}
 use Rattle.ifmap_elem.proofs.PieceLaws.{final_before, pieces_next, piece_child, piece_content, piece_element, piece_no_content, piece_text}
 use Rattle.ifmap_elem.proofs.outlining.+outlining.Goals as goal
@@ -47,14 +47,14 @@ write_outline-returns t c =
       name = label_name c.args.outline.now.label;
       attributes = c.args.outline.now.attributes;
       children = map outline_child c.args.outline.now.pieces;
-    }) c.args.prefixes.now c.write_label.new.prefixes c.write_attributes.new.prefixes
+    }) c.args.prefixes.now c.write_label.new.prefixes c.write_outline_attributes.new.prefixes
     c.write_pieces.new.prefixes
-    c.args.out.now.items c.extend_from_slice.new.self.items c.write_label.new.out.items c.write_attributes.new.out.items
+    c.args.out.now.items c.extend_from_slice.new.self.items c.write_label.new.out.items c.write_outline_attributes.new.out.items
     c.write_pieces.new.out.items
-    c.in_ok-extend_from_slice.ensures.items c.in_ok-prefix.ensures.added c.in_ok-write_attributes.ensures
+    c.in_ok-extend_from_slice.ensures.items c.in_ok-prefix.ensures.added c.in_ok-write_outline_attributes.ensures
     (c.in_ok-write_pieces.ensures
     (λ final f. c.in_ok-prefix.ensures.prefix final
-    (final_before c.write_label.new.prefixes c.write_attributes.new.prefixes final c.in_ok-write_attributes.ensures.behind f))))
+    (final_before c.write_label.new.prefixes c.write_outline_attributes.new.prefixes final c.in_ok-write_outline_attributes.ensures.behind f))))
 
 pub write_piece-returns-in_ok-write_escaped-in-Text : goal.write_piece-returns-in_ok-write_escaped-in-Text
 write_piece-returns-in_ok-write_escaped-in-Text t c =
@@ -67,12 +67,6 @@ write_piece-returns-in_ok-write_element-in-Shared t c =
     piece_child c.in-Shared.element.now (outline_child c.args.piece.now) c.args.prefixes.now c.write_element.new.prefixes
     c.args.out.now.items c.write_element.new.out.items (ap outline_child c.in-Shared.is ∙ outlined_shared c.in-Shared.element)
     c.in_ok-write_element-in-Shared.ensures
-
-pub write_piece-returns-in_ok-write_element-in-Own : goal.write_piece-returns-in_ok-write_element-in-Own
-write_piece-returns-in_ok-write_element-in-Own t c =
-    piece_child c.in-Own.element (outline_child c.args.piece.now) c.args.prefixes.now c.write_element-in-Own.new.prefixes
-    c.args.out.now.items c.write_element-in-Own.new.out.items (ap outline_child c.in-Own.is ∙ outlined_own c.in-Own.element)
-    c.in_ok-write_element-in-Own.ensures
 
 pub write_piece-returns-in_ok-write_outline-in-Outline : goal.write_piece-returns-in_ok-write_outline-in-Outline
 write_piece-returns-in_ok-write_outline-in-Outline t c =

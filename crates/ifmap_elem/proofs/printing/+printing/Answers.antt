@@ -38,11 +38,11 @@ write_content-returns t c = λ named.
 
 pub write_element-returns : goal.write_element-returns
 write_element-returns t c =
-    piece_element c.args.element.now c.args.prefixes.now c.write_new_name.new.prefixes c.write_attributes.new.prefixes
+    piece_element c.args.element.now c.args.prefixes.now c.write_label.new.prefixes c.write_attributes.new.prefixes
     c.write_content.new.prefixes
-    c.args.out.now.items c.extend_from_slice.new.self.items c.write_new_name.new.out.items c.write_attributes.new.out.items
+    c.args.out.now.items c.extend_from_slice.new.self.items c.write_label.new.out.items c.write_attributes.new.out.items
     c.write_content.new.out.items
     c.in_ok-extend_from_slice.ensures.items c.in_ok-prefix.ensures.added c.in_ok-write_attributes.ensures
     (c.in_ok-write_content.ensures
     (λ final f. c.in_ok-prefix.ensures.prefix final
-    (final_before c.write_new_name.new.prefixes c.write_attributes.new.prefixes final c.in_ok-write_attributes.ensures.behind f)))
+    (final_before c.write_label.new.prefixes c.write_attributes.new.prefixes final c.in_ok-write_attributes.ensures.behind f)))

@@ -20,20 +20,20 @@ returns c =
     prefix_final c.number_label.new.self (label_name c.args.label).space c.in_ok-prefix.prefix c.in_ok-prefix.ensures.numbered
     c.in_ok-prefix.ensures.prefix in
     let content =
-    c.in_ok-write_inside.ensures (λ final f. named final (final_before c.number_label.new.self c.write_attributes.new.prefixes final
-    c.in_ok-write_attributes.ensures.behind f)) in
+    c.in_ok-write_inside.ensures (λ final f. named final (final_before c.number_label.new.self c.write_root_attributes.new.prefixes final
+    c.in_ok-write_root_attributes.ensures.behind f)) in
     let whole : AreFinal c.number_label.new.self c.write_inside.new.prefixes =
     record {
-      begins = front_both c.number_label.new.self c.write_attributes.new.prefixes c.write_inside.new.prefixes
-          c.in_ok-write_attributes.ensures.behind content.behind;
+      begins = front_both c.number_label.new.self c.write_root_attributes.new.prefixes c.write_inside.new.prefixes
+          c.in_ok-write_root_attributes.ensures.behind content.behind;
       none_bare = c.spaces.ensures.none_bare;
     } in
-    piece_root (root_of (label_name c.args.label) c.args.attributes.now c.args.content) c.args.spaces.now c.in_ok-prefixes.prefixes c.number_label.new.self c.write_attributes.new.prefixes
+    piece_root (root_of (label_name c.args.label) c.args.content) c.args.spaces.now c.in_ok-prefixes.prefixes c.number_label.new.self c.write_root_attributes.new.prefixes
     c.write_inside.new.prefixes (bytes_of c.spaces.result.now) c.in_ok-prefix.prefix
-    c.new-inside.result.items c.write_attributes.new.out.items c.write_inside.new.out.items c.write_inside.new.out.items
+    c.new-inside.result.items c.write_root_attributes.new.out.items c.write_inside.new.out.items c.write_inside.new.out.items
     c.new-head.result.items c.extend_from_slice.new.self.items c.write_name.new.out.items c.write_declarations.new.out.items head
     c.splice.new.self.items
-    c.in_ok-prefixes.ensures c.in_ok-prefix.ensures.added c.new-inside.ensures.items c.in_ok-write_attributes.ensures content
+    c.in_ok-prefixes.ensures c.in_ok-prefix.ensures.added c.new-inside.ensures.items c.in_ok-write_root_attributes.ensures content
     c.spaces.ensures.none_bare (named c.write_inside.new.prefixes whole) c.spaces.ensures.all refl c.new-head.ensures.items
     c.in_ok-extend_from_slice.ensures.items
     (c.in_ok-write_name.ensures ∙ ap (λ l. c.extend_from_slice.new.self.items ++ after_prefix c.in_ok-prefix.prefix l) c.local.ensures)

@@ -5,12 +5,12 @@ use Rattle.ifmap_elem.specs.printer.Contents.{children_in}
 use Rattle.ifmap_elem.specs.printer.Pieces.{AddsContent}
 use Rattle.ifmap_elem.proofs.printing.write_inside.Goals as goal
 
-pub returns-in_ok-write_content-in-Children : goal.returns-in_ok-write_content-in-Children
-returns-in_ok-write_content-in-Children c = λ named.
+pub returns-in_ok-write_content-in-Element : goal.returns-in_ok-write_content-in-Element
+returns-in_ok-write_content-in-Element c = λ named.
     subst (λ (k : Content). AddsContent (label_name c.args.label) (children_in k) c.args.prefixes.now c.write_content.new.prefixes
-    c.args.out.now.items c.write_content.new.out.items) (sym c.in-Children.is) (c.in_ok-write_content-in-Children.ensures named)
+    c.args.out.now.items c.write_content.new.out.items) (sym c.in-Element.is) (c.in_ok-write_content-in-Element.ensures named)
 
-pub returns-in_ok-write_pieces-in-Pieces : goal.returns-in_ok-write_pieces-in-Pieces
-returns-in_ok-write_pieces-in-Pieces c = λ named.
+pub returns-in_ok-write_pieces-in-Outline : goal.returns-in_ok-write_pieces-in-Outline
+returns-in_ok-write_pieces-in-Outline c = λ named.
     subst (λ (k : Content). AddsContent (label_name c.args.label) (children_in k) c.args.prefixes.now c.write_pieces.new.prefixes
-    c.args.out.now.items c.write_pieces.new.out.items) (sym c.in-Pieces.is) (c.in_ok-write_pieces-in-Pieces.ensures named)
+    c.args.out.now.items c.write_pieces.new.out.items) (sym c.in-Outline.is) (c.in_ok-write_pieces-in-Outline.ensures named)

@@ -2,7 +2,7 @@ use Rattle.std.proofs.Common.{◌++◌, ◌∙◌, ap}
 use Rattle.ifmap_elem.specs.Canonical.{after_prefix}
 use Rattle.ifmap_elem.specs.Outlines.{label_name}
 use Rattle.ifmap_elem.proofs.PieceLaws.{piece_name, prefix_final}
-use Rattle.ifmap_elem.proofs.outlining.write_label.Goals as goal
+use Rattle.ifmap_elem.proofs.printing.write_label.Goals as goal
 
 pub returns-clause-added : goal.returns-clause-added
 returns-clause-added c =
