@@ -1,19 +1,19 @@
 -- What the code of `standing` does beside its definitions: the depth, the stack with the innermost last, and tokens that are not allowed.
-use Rattle.std.proofs.Common.{◌≡◌, ◌≢◌, ℕ, ◌<◌, ◌≤◌, true, false, List, [], ◌∷◌, ◌++◌, length, refl, ap, arith, Option, Some, None, reverse}
+use Rattle.std.proofs.Common.{◌≡◌, ◌≢◌, ◌<◌, ◌≤◌, true, false, List, [], ◌∷◌, ◌++◌, length, refl, ap, arith, Option, Some, None, reverse}
 use Rattle.std.specs.Prelude.{nat_lt}
 use Rattle.std.proofs.lemmas.Bool.Decides.{nat_tests}
 use Rattle.std.proofs.lemmas.List.{length-reverse, reverse-append}
 use Rattle.ifmap_elem.specs.declared.elements.Name as element
-use Rattle.ifmap_elem.specs.declared.tokens.Qualified.{Qualified}
 use Rattle.ifmap_reader.specs.declared.scoping.Scope.{Scope}
-use Rattle.ifmap_filter.specs.declared.filters.Predicate.{Predicate}
+use Rattle.ifmap_filter.specs.declared.filters.Predicate.{Predicate, Or}
 use Rattle.ifmap_filter.specs.declared.filters.Test.{Test}
 use Rattle.ifmap_filter.specs.declared.standing.OuterPart.{OuterPart}
 use Rattle.ifmap_filter.specs.declared.standing.OpenPart.{OpenPart}
 use Rattle.ifmap_filter.specs.declared.standing.Operand.{Operand}
-use Rattle.ifmap_filter.specs.declared.tokens.Token.{Token}
-use Rattle.ifmap_filter.specs.declared.tokens.Token.TheVariants.{Any, OpenBracket, CloseBracket, OpenParenthesis, CloseParenthesis, EqualsSign, At, Name, Literal}
+use Rattle.ifmap_filter.specs.declared.marks.Mark.{Mark}
+use Rattle.ifmap_filter.specs.declared.marks.Mark.TheVariants as mark
 use Rattle.ifmap_filter.specs.Grammar.{deepest}
+use Rattle.ifmap_filter.specs.Marks.{token_of}
 use Rattle.ifmap_filter.specs.Progress.{Context, FactorDue, context, join_parts, inner_context, inner_place, IsNotSingle, step_done, step_equals, step_factor, step_literal, step_local, step_named, step_test, step_tested, test_of}
 
 pub deepest_is : deepest ≡ 64
@@ -43,95 +43,111 @@ not_single join (p ∷ (q ∷ ps)) other = refl
 pub many_not_single : (parts : List Predicate) → length parts ≢ 1 → IsNotSingle parts
 many_not_single parts other p e = other (ap length e)
 
--- tokens that are not allowed at a place
+pub more_than_one : (ors : List Predicate) (p : Predicate) → ors ≢ [] → join_parts Or (ors ++ p ∷ []) ≡ Or (ors ++ p ∷ [])
+more_than_one [] p some = absurd (some refl)
+more_than_one (o ∷ []) p some = refl
+more_than_one (o ∷ (q ∷ os)) p some = refl
 
-pub test_refused : (scope : Scope) (done : List Test) (t : Token) → t ≢ Any → ((q : Qualified) → t ≢ Name q) → None ≡ step_test scope done t
-test_refused scope done Any no_Any no_name = absurd (no_Any refl)
-test_refused scope done OpenBracket no_Any no_name = refl
-test_refused scope done CloseBracket no_Any no_name = refl
-test_refused scope done OpenParenthesis no_Any no_name = refl
-test_refused scope done CloseParenthesis no_Any no_name = refl
-test_refused scope done EqualsSign no_Any no_name = refl
-test_refused scope done At no_Any no_name = refl
-test_refused scope done (Name q) no_Any no_name = absurd (no_name q refl)
-test_refused scope done (Literal v) no_Any no_name = refl
+-- marks that are not allowed at a place
 
-pub tested_refused : (done : List Test) (t : Token) → ((q : Qualified) → t ≢ Name q) → None ≡ step_tested done t
-tested_refused done Any no_name = refl
-tested_refused done OpenBracket no_name = refl
-tested_refused done CloseBracket no_name = refl
-tested_refused done OpenParenthesis no_name = refl
-tested_refused done CloseParenthesis no_name = refl
-tested_refused done EqualsSign no_name = refl
-tested_refused done At no_name = refl
-tested_refused done (Name q) no_name = absurd (no_name q refl)
-tested_refused done (Literal v) no_name = refl
+abbrev pub IsNoName : Mark → Type 0
+IsNoName m = (prefix local : _) → m ≢ mark.Name prefix local
 
-pub factor_refused : (scope : Scope) (c : Context) (t : Token) → t ≢ OpenParenthesis → t ≢ At → ((q : Qualified) → t ≢ Name q)
-    → None ≡ step_factor scope c t
-factor_refused scope c Any no_OpenParenthesis no_At no_name = refl
-factor_refused scope c OpenBracket no_OpenParenthesis no_At no_name = refl
-factor_refused scope c CloseBracket no_OpenParenthesis no_At no_name = refl
-factor_refused scope c OpenParenthesis no_OpenParenthesis no_At no_name = absurd (no_OpenParenthesis refl)
-factor_refused scope c CloseParenthesis no_OpenParenthesis no_At no_name = refl
-factor_refused scope c EqualsSign no_OpenParenthesis no_At no_name = refl
-factor_refused scope c At no_OpenParenthesis no_At no_name = absurd (no_At refl)
-factor_refused scope c (Name q) no_OpenParenthesis no_At no_name = absurd (no_name q refl)
-factor_refused scope c (Literal v) no_OpenParenthesis no_At no_name = refl
+abbrev pub IsNoLiteral : Mark → Type 0
+IsNoLiteral m = (value : _) → m ≢ mark.Literal value
 
-pub local_refused : (c : Context) (t : Token) → ((q : Qualified) → t ≢ Name q) → None ≡ step_local c t
-local_refused c Any no_name = refl
-local_refused c OpenBracket no_name = refl
-local_refused c CloseBracket no_name = refl
-local_refused c OpenParenthesis no_name = refl
-local_refused c CloseParenthesis no_name = refl
-local_refused c EqualsSign no_name = refl
-local_refused c At no_name = refl
-local_refused c (Name q) no_name = absurd (no_name q refl)
-local_refused c (Literal v) no_name = refl
+pub test_refused : (scope : Scope) (done : List Test) (m : Mark) → m ≢ mark.Any → IsNoName m
+    → None ≡ step_test scope done (token_of m)
+test_refused scope done mark.Any no_Any no_Name = absurd (no_Any refl)
+test_refused scope done mark.OpenBracket no_Any no_Name = refl
+test_refused scope done mark.CloseBracket no_Any no_Name = refl
+test_refused scope done mark.OpenParenthesis no_Any no_Name = refl
+test_refused scope done mark.CloseParenthesis no_Any no_Name = refl
+test_refused scope done mark.EqualsSign no_Any no_Name = refl
+test_refused scope done mark.At no_Any no_Name = refl
+test_refused scope done (mark.Name prefix local) no_Any no_Name = absurd (no_Name prefix local refl)
+test_refused scope done (mark.Literal value) no_Any no_Name = refl
 
-pub equals_refused : (c : Context) (a : Operand) (t : Token) → t ≢ EqualsSign → None ≡ step_equals c a t
-equals_refused c a Any no_EqualsSign = refl
-equals_refused c a OpenBracket no_EqualsSign = refl
-equals_refused c a CloseBracket no_EqualsSign = refl
-equals_refused c a OpenParenthesis no_EqualsSign = refl
-equals_refused c a CloseParenthesis no_EqualsSign = refl
-equals_refused c a EqualsSign no_EqualsSign = absurd (no_EqualsSign refl)
-equals_refused c a At no_EqualsSign = refl
-equals_refused c a (Name q) no_EqualsSign = refl
-equals_refused c a (Literal v) no_EqualsSign = refl
+pub tested_refused : (done : List Test) (m : Mark) → IsNoName m
+    → None ≡ step_tested done (token_of m)
+tested_refused done mark.Any no_Name = refl
+tested_refused done mark.OpenBracket no_Name = refl
+tested_refused done mark.CloseBracket no_Name = refl
+tested_refused done mark.OpenParenthesis no_Name = refl
+tested_refused done mark.CloseParenthesis no_Name = refl
+tested_refused done mark.EqualsSign no_Name = refl
+tested_refused done mark.At no_Name = refl
+tested_refused done (mark.Name prefix local) no_Name = absurd (no_Name prefix local refl)
+tested_refused done (mark.Literal value) no_Name = refl
 
-pub literal_refused : (c : Context) (a : Operand) (t : Token) → ((v : List ℕ) → t ≢ Literal v) → None ≡ step_literal c a t
-literal_refused c a Any no_literal = refl
-literal_refused c a OpenBracket no_literal = refl
-literal_refused c a CloseBracket no_literal = refl
-literal_refused c a OpenParenthesis no_literal = refl
-literal_refused c a CloseParenthesis no_literal = refl
-literal_refused c a EqualsSign no_literal = refl
-literal_refused c a At no_literal = refl
-literal_refused c a (Name q) no_literal = refl
-literal_refused c a (Literal v) no_literal = absurd (no_literal v refl)
+pub factor_refused : (scope : Scope) (c : Context) (m : Mark) → m ≢ mark.OpenParenthesis → m ≢ mark.At → IsNoName m
+    → None ≡ step_factor scope c (token_of m)
+factor_refused scope c mark.Any no_OpenParenthesis no_At no_Name = refl
+factor_refused scope c mark.OpenBracket no_OpenParenthesis no_At no_Name = refl
+factor_refused scope c mark.CloseBracket no_OpenParenthesis no_At no_Name = refl
+factor_refused scope c mark.OpenParenthesis no_OpenParenthesis no_At no_Name = absurd (no_OpenParenthesis refl)
+factor_refused scope c mark.CloseParenthesis no_OpenParenthesis no_At no_Name = refl
+factor_refused scope c mark.EqualsSign no_OpenParenthesis no_At no_Name = refl
+factor_refused scope c mark.At no_OpenParenthesis no_At no_Name = absurd (no_At refl)
+factor_refused scope c (mark.Name prefix local) no_OpenParenthesis no_At no_Name = absurd (no_Name prefix local refl)
+factor_refused scope c (mark.Literal value) no_OpenParenthesis no_At no_Name = refl
 
-pub done_refused : (c : Context) (t : Token) → ((q : Qualified) → t ≢ Name q) → t ≢ CloseParenthesis → t ≢ CloseBracket
-    → None ≡ step_done c t
-done_refused c Any no_name no_CloseParenthesis no_CloseBracket = refl
-done_refused c OpenBracket no_name no_CloseParenthesis no_CloseBracket = refl
-done_refused c CloseBracket no_name no_CloseParenthesis no_CloseBracket = absurd (no_CloseBracket refl)
-done_refused c OpenParenthesis no_name no_CloseParenthesis no_CloseBracket = refl
-done_refused c CloseParenthesis no_name no_CloseParenthesis no_CloseBracket = absurd (no_CloseParenthesis refl)
-done_refused c EqualsSign no_name no_CloseParenthesis no_CloseBracket = refl
-done_refused c At no_name no_CloseParenthesis no_CloseBracket = refl
-done_refused c (Name q) no_name no_CloseParenthesis no_CloseBracket = absurd (no_name q refl)
-done_refused c (Literal v) no_name no_CloseParenthesis no_CloseBracket = refl
+pub local_refused : (c : Context) (m : Mark) → IsNoName m
+    → None ≡ step_local c (token_of m)
+local_refused c mark.Any no_Name = refl
+local_refused c mark.OpenBracket no_Name = refl
+local_refused c mark.CloseBracket no_Name = refl
+local_refused c mark.OpenParenthesis no_Name = refl
+local_refused c mark.CloseParenthesis no_Name = refl
+local_refused c mark.EqualsSign no_Name = refl
+local_refused c mark.At no_Name = refl
+local_refused c (mark.Name prefix local) no_Name = absurd (no_Name prefix local refl)
+local_refused c (mark.Literal value) no_Name = refl
 
-pub named_other : (done : List Test) (name : Option element.Name) (t : Token) → t ≢ OpenBracket
-    → step_named done name t ≡ step_tested (done ++ test_of name None ∷ []) t
-named_other done name Any no_bracket = refl
-named_other done name OpenBracket no_bracket = absurd (no_bracket refl)
-named_other done name CloseBracket no_bracket = refl
-named_other done name OpenParenthesis no_bracket = refl
-named_other done name CloseParenthesis no_bracket = refl
-named_other done name EqualsSign no_bracket = refl
-named_other done name At no_bracket = refl
-named_other done name (Name q) no_bracket = refl
-named_other done name (Literal v) no_bracket = refl
+pub equals_refused : (c : Context) (a : Operand) (m : Mark) → m ≢ mark.EqualsSign
+    → None ≡ step_equals c a (token_of m)
+equals_refused c a mark.Any no_EqualsSign = refl
+equals_refused c a mark.OpenBracket no_EqualsSign = refl
+equals_refused c a mark.CloseBracket no_EqualsSign = refl
+equals_refused c a mark.OpenParenthesis no_EqualsSign = refl
+equals_refused c a mark.CloseParenthesis no_EqualsSign = refl
+equals_refused c a mark.EqualsSign no_EqualsSign = absurd (no_EqualsSign refl)
+equals_refused c a mark.At no_EqualsSign = refl
+equals_refused c a (mark.Name prefix local) no_EqualsSign = refl
+equals_refused c a (mark.Literal value) no_EqualsSign = refl
+
+pub literal_refused : (c : Context) (a : Operand) (m : Mark) → IsNoLiteral m
+    → None ≡ step_literal c a (token_of m)
+literal_refused c a mark.Any no_Literal = refl
+literal_refused c a mark.OpenBracket no_Literal = refl
+literal_refused c a mark.CloseBracket no_Literal = refl
+literal_refused c a mark.OpenParenthesis no_Literal = refl
+literal_refused c a mark.CloseParenthesis no_Literal = refl
+literal_refused c a mark.EqualsSign no_Literal = refl
+literal_refused c a mark.At no_Literal = refl
+literal_refused c a (mark.Name prefix local) no_Literal = refl
+literal_refused c a (mark.Literal value) no_Literal = absurd (no_Literal value refl)
+
+pub done_refused : (c : Context) (m : Mark) → IsNoName m → m ≢ mark.CloseParenthesis → m ≢ mark.CloseBracket
+    → None ≡ step_done c (token_of m)
+done_refused c mark.Any no_Name no_CloseParenthesis no_CloseBracket = refl
+done_refused c mark.OpenBracket no_Name no_CloseParenthesis no_CloseBracket = refl
+done_refused c mark.CloseBracket no_Name no_CloseParenthesis no_CloseBracket = absurd (no_CloseBracket refl)
+done_refused c mark.OpenParenthesis no_Name no_CloseParenthesis no_CloseBracket = refl
+done_refused c mark.CloseParenthesis no_Name no_CloseParenthesis no_CloseBracket = absurd (no_CloseParenthesis refl)
+done_refused c mark.EqualsSign no_Name no_CloseParenthesis no_CloseBracket = refl
+done_refused c mark.At no_Name no_CloseParenthesis no_CloseBracket = refl
+done_refused c (mark.Name prefix local) no_Name no_CloseParenthesis no_CloseBracket = absurd (no_Name prefix local refl)
+done_refused c (mark.Literal value) no_Name no_CloseParenthesis no_CloseBracket = refl
+
+pub named_other : (done : List Test) (name : Option element.Name) (m : Mark) → m ≢ mark.OpenBracket
+    → step_named done name (token_of m) ≡ step_tested (done ++ test_of name None ∷ []) (token_of m)
+named_other done name mark.Any no_OpenBracket = refl
+named_other done name mark.OpenBracket no_OpenBracket = absurd (no_OpenBracket refl)
+named_other done name mark.CloseBracket no_OpenBracket = refl
+named_other done name mark.OpenParenthesis no_OpenBracket = refl
+named_other done name mark.CloseParenthesis no_OpenBracket = refl
+named_other done name mark.EqualsSign no_OpenBracket = refl
+named_other done name mark.At no_OpenBracket = refl
+named_other done name (mark.Name prefix local) no_OpenBracket = refl
+named_other done name (mark.Literal value) no_OpenBracket = refl

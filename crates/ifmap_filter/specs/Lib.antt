@@ -7,6 +7,7 @@ pub mod Texts
 pub mod Spaces
 pub mod Printing
 pub mod Lexing
+pub mod Marks
 pub mod Laws
 pub mod Progress
 pub mod Reaching

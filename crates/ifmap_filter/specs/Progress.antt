@@ -1,6 +1,5 @@
 -- Where a reader of filters stands, how a filter goes on from there, and what one more token makes of it.
-use Rattle.std.specs.Prelude.{◌≡◌, ◌&&◌, ℕ, suc, Bool, if◌then◌else◌, nat_lt, List, [], ◌∷◌, ◌++◌, codes, length, reverse, Option, Some, None}
-use Rattle.std.specs.Option.{option_map}
+use Rattle.std.specs.Prelude.{◌≡◌, ◌&&◌, ℕ, suc, Bool, true, false, if◌then◌else◌, nat_lt, List, [], ◌∷◌, ◌++◌, codes, length, reverse, Option, Some, None}
 use Rattle.std.specs.Str.{bytes_eq}
 use Rattle.ifmap_elem.specs.declared.elements.Name as element
 use Rattle.ifmap_elem.specs.declared.tokens.Qualified.{Qualified}
@@ -14,8 +13,9 @@ use Rattle.ifmap_filter.specs.declared.standing.OuterPart.{OuterPart}
 use Rattle.ifmap_filter.specs.declared.standing.OpenPart.{OpenPart}
 use Rattle.ifmap_filter.specs.declared.standing.Operand.{Operand}
 use Rattle.ifmap_filter.specs.declared.standing.Operand.TheVariants as operand
+use Rattle.ifmap_filter.specs.declared.standing.Place.{Place}
+use Rattle.ifmap_filter.specs.declared.standing.Place.TheVariants as place
 use Rattle.ifmap_filter.specs.declared.standing.Standing.{Standing}
-use Rattle.ifmap_filter.specs.declared.standing.Standing.TheVariants as standing
 use Rattle.ifmap_filter.specs.Grammar.{IsFilter, TakesAnds, TakesFactor, TakesMore, TakesPredicate, TakesTest, and_word, bare_name, deepest, join_of, or_word, space_of}
 
 -- the open or-part in a test's brackets, or in parentheses there: the tests before it, the name of its own, the or-parts round it, the
@@ -42,20 +42,24 @@ pub data Where : Type 0 where
 abbrev pub context : OpenPart → Context
 context i = record { tests = i.tests; name = i.name; outer = reverse i.outer; ors = i.ors; ands = i.ands }
 
-abbrev pub where_is : Standing → Where
-where_is standing.Start = Start
-where_is (standing.TestDue tests) = TestDue tests
-where_is (standing.Named tests name) = Named tests name
-where_is (standing.Tested tests) = Tested tests
-where_is (standing.FactorDue i) = FactorDue (context i)
-where_is (standing.LocalDue i) = LocalDue (context i)
-where_is (standing.EqualsDue i a) = EqualsDue (context i) a
-where_is (standing.LiteralDue i a) = LiteralDue (context i) a
-where_is (standing.FactorDone i) = FactorDone (context i)
+abbrev pub where_at : Place → OpenPart → Operand → Where
+where_at place.Start i a = Start
+where_at place.TestDue i a = TestDue i.tests
+where_at place.Named i a = Named i.tests i.name
+where_at place.Tested i a = Tested i.tests
+where_at place.FactorDue i a = FactorDue (context i)
+where_at place.LocalDue i a = LocalDue (context i)
+where_at place.EqualsDue i a = EqualsDue (context i) a
+where_at place.LiteralDue i a = LiteralDue (context i) a
+where_at place.FactorDone i a = FactorDone (context i)
 
--- the reader stands at this place; or it stands nowhere and there is none
-abbrev pub StandsAt : Option Standing → Option Where → Type 0
-StandsAt standing place = option_map where_is standing ≡ place
+abbrev pub where_is : Standing → Where
+where_is s = where_at s.place s.open_part s.operand
+
+-- the reader stands at this place where the token is allowed; where it is not there is none
+abbrev pub StandsAt : Bool → Standing → Option Where → Type 0
+StandsAt true standing place = Some (where_is standing) ≡ place
+StandsAt false standing place = None ≡ place
 
 -- parts that are joined, of which there is one at least
 abbrev pub join_parts : (List Predicate → Predicate) → List Predicate → Predicate

@@ -1,33 +1,31 @@
 //! The token at the front of a text.
-ghost use Rattle.std.specs.Prelude.{◌≡◌, ◌∷◌, [], chars, IfNone, IfOk, IfSome, None};
+ghost use Rattle.std.specs.Prelude.{◌≡◌, ◌∷◌, [], chars, IfNone, IfSome, None};
+ghost use Rattle.std.specs.Option.{option_map};
 ghost use Rattle.ifmap_elem.specs.Chars.{is_white};
 ghost use Rattle.ifmap_elem.specs.Names.{is_name_character, is_name_start};
-ghost use Rattle.ifmap_filter.specs.Lexing.{Cuts, IsFrontToken};
-ghost use Rattle.ifmap_filter.specs.Tokens.{is_but, is_quote, literal_at, name_at, name_token, prefixed_name_at, symbol_of, token_at, without_white};
+ghost use Rattle.ifmap_filter.specs.Lexing.{Cuts};
+ghost use Rattle.ifmap_filter.specs.Marks.{IsFrontMark, token_of};
+ghost use Rattle.ifmap_filter.specs.Tokens.{is_but, is_quote, literal_at, name_at, prefixed_name_at, symbol_of, token_at, without_white};
 
-use crate::tokens::Token;
-use ifmap_elem::Text;
-use ifmap_elem::tokens::Qualified;
-use std::alloc::{AllocError as NoMemory, Global};
+use crate::marks::Mark;
 
 // The token at the front, and what is left; none where no token stands there.
-pub(crate) fn token_at(alloc: Global, text: &str) -> Result<Option<(Token, &str)>, NoMemory>
-    ensures found { IfOk result (λ o.
-        IfSome o (λ f. IsFrontToken (token_at (chars text.now)) f.0 f.1.now)) }
-    ensures none { IfOk result (λ o. IfNone o (token_at (chars text.now) ≡ None)) }
+pub(crate) fn token_at(text: &str) -> Option<(Mark<'_>, &str)>
+    ensures found { IfSome result (λ f. IsFrontMark (token_at (chars text.now)) f.0 f.1.now) }
+    ensures none { IfNone result (token_at (chars text.now) ≡ None) }
 {
     let Some((first, rest)) = first_character(text) else {
-        return Ok(None);
+        return None;
     };
     if is_quote(first) {
-        return literal_at(alloc, first, rest);
+        return literal_at(first, rest);
     }
     if is_name_start(first) {
-        return name_at(alloc, text);
+        return name_at(text);
     }
     match symbol_of(first) {
-        Some(token) => Ok(Some((token, rest))),
-        None => Ok(None),
+        Some(mark) => Some((mark, rest)),
+        None => None,
     }
 }
 
@@ -50,23 +48,23 @@ fn is_quote(character: char) -> bool
 }
 
 // The token that is one character.
-fn symbol_of(character: char) -> Option<Token>
-    ensures { result ≡ symbol_of character }
+fn symbol_of<'a>(character: char) -> Option<Mark<'a>>
+    ensures { option_map token_of result ≡ symbol_of character }
 {
     if character == '*' {
-        Some(Token::Any)
+        Some(Mark::Any)
     } else if character == '[' {
-        Some(Token::OpenBracket)
+        Some(Mark::OpenBracket)
     } else if character == ']' {
-        Some(Token::CloseBracket)
+        Some(Mark::CloseBracket)
     } else if character == '(' {
-        Some(Token::OpenParenthesis)
+        Some(Mark::OpenParenthesis)
     } else if character == ')' {
-        Some(Token::CloseParenthesis)
+        Some(Mark::CloseParenthesis)
     } else if character == '=' {
-        Some(Token::EqualsSign)
+        Some(Mark::EqualsSign)
     } else if character == '@' {
-        Some(Token::At)
+        Some(Mark::At)
     } else {
         None
     }
@@ -97,18 +95,15 @@ fn is_white(character: char) -> bool
 }
 
 // The literal after its first quote, and what is left.
-fn literal_at(alloc: Global, quote: char, text: &str) -> Result<Option<(Token, &str)>, NoMemory>
-    ensures found { IfOk result (λ o.
-        IfSome o (λ f. IsFrontToken (literal_at quote (chars text.now)) f.0 f.1.now)) }
-    ensures none { IfOk result (λ o. IfNone o (literal_at quote (chars text.now) ≡ None)) }
+fn literal_at(quote: char, text: &str) -> Option<(Mark<'_>, &str)>
+    ensures found { IfSome result (λ f.
+        IsFrontMark (literal_at quote (chars text.now)) f.0 f.1.now) }
+    ensures none { IfNone result (literal_at quote (chars text.now) ≡ None) }
 {
     let (own, closed) = split_literal(quote, text);
     match first_character(closed) {
-        Some((_quote, rest)) => {
-            let value = Text(String::from_str(alloc, own)?);
-            Ok(Some((Token::Literal(value), rest)))
-        }
-        None => Ok(None),
+        Some((_quote, rest)) => Some((Mark::Literal(own), rest)),
+        None => None,
     }
 }
 
@@ -123,61 +118,39 @@ fn split_literal(quote: char, text: &str) -> (&str, &str)
 }
 
 // The name at the front, and what is left: a colon after its first part makes that a prefix.
-fn name_at(alloc: Global, text: &str) -> Result<Option<(Token, &str)>, NoMemory>
-    ensures found { IfOk result (λ o.
-        IfSome o (λ f. IsFrontToken (name_at (chars text.now)) f.0 f.1.now)) }
-    ensures none { IfOk result (λ o. IfNone o (name_at (chars text.now) ≡ None)) }
+fn name_at(text: &str) -> Option<(Mark<'_>, &str)>
+    ensures found { IfSome result (λ f. IsFrontMark (name_at (chars text.now)) f.0 f.1.now) }
+    ensures none { IfNone result (name_at (chars text.now) ≡ None) }
 {
     let (part, after) = split_name(text);
     match first_character(after) {
         Some((next, rest)) => {
             if next == ':' {
-                prefixed_name_at(alloc, part, rest)
+                prefixed_name_at(part, rest)
             } else {
-                Ok(Some((bare_name_token(alloc, part)?, after)))
+                Some((Mark::Name("", part), after))
             }
         }
-        None => Ok(Some((bare_name_token(alloc, part)?, after))),
+        None => Some((Mark::Name("", part), after)),
     }
 }
 
-fn bare_name_token(alloc: Global, part: &str) -> Result<Token, NoMemory>
-    ensures { IfOk result (λ token. token ≡ name_token [] part.now) }
-{
-    let prefix = Text(String::new(alloc));
-    let local = Text(String::from_str(alloc, part)?);
-    Ok(Token::Name(Qualified { prefix, local }))
-}
-
-fn prefixed_name_token(alloc: Global, prefix: &str, part: &str) -> Result<Token, NoMemory>
-    ensures { IfOk result (λ token. token ≡ name_token prefix.now part.now) }
-{
-    let prefix = Text(String::from_str(alloc, prefix)?);
-    let local = Text(String::from_str(alloc, part)?);
-    Ok(Token::Name(Qualified { prefix, local }))
-}
-
 // The name of this prefix, after its colon, and what is left.
-fn prefixed_name_at<'a>(
-    alloc: Global,
-    prefix: &str,
-    text: &'a str,
-) -> Result<Option<(Token, &'a str)>, NoMemory>
-    ensures found { IfOk result (λ o.
-        IfSome o (λ f. IsFrontToken (prefixed_name_at prefix.now (chars text.now)) f.0 f.1.now)) }
-    ensures none { IfOk result (λ o.
-        IfNone o (prefixed_name_at prefix.now (chars text.now) ≡ None)) }
+fn prefixed_name_at<'a>(prefix: &'a str, text: &'a str) -> Option<(Mark<'a>, &'a str)>
+    ensures found { IfSome result (λ f.
+        IsFrontMark (prefixed_name_at prefix.now (chars text.now)) f.0 f.1.now) }
+    ensures none { IfNone result (prefixed_name_at prefix.now (chars text.now) ≡ None) }
 {
     match first_character(text) {
         Some((first, _rest)) => {
             if is_name_start(first) {
                 let (part, rest) = split_name(text);
-                Ok(Some((prefixed_name_token(alloc, prefix, part)?, rest)))
+                Some((Mark::Name(prefix, part), rest))
             } else {
-                Ok(None)
+                None
             }
         }
-        None => Ok(None),
+        None => None,
     }
 }
 

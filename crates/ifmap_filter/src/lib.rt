@@ -8,6 +8,7 @@ pub mod filters;
 pub mod holding;
 pub mod laws;
 mod lexing;
+mod marks;
 pub mod matching;
 mod naming;
 pub mod parsing;

@@ -2,10 +2,10 @@
 ghost use Rattle.std.specs.Prelude.{◌≡◌, IfOk};
 ghost use Rattle.std.specs.Option.{option_copied};
 ghost use Rattle.ifmap_filter.specs.Grammar.{space_of};
+ghost use Rattle.ifmap_filter.specs.Marks.{written_name};
 ghost use Rattle.ifmap_filter.specs.Progress.{is_word, name_of};
 
-use ifmap_elem::tokens::Qualified;
-use ifmap_elem::{Name, Text};
+use ifmap_elem::Name;
 use ifmap_prefixes::Prefixes;
 use std::alloc::{AllocError as NoMemory, Global};
 
@@ -15,16 +15,13 @@ pub(crate) const XML_SPACE: &str = "http://www.w3.org/XML/1998/namespace";
 pub(crate) fn name_of(
     alloc: Global,
     scope: &Prefixes<'_, '_>,
-    written: Qualified,
+    prefix: &str,
+    local: &str,
 ) -> Result<Option<Name>, NoMemory>
-    ensures { IfOk result (λ o. o ≡ name_of scope.now written) }
+    ensures { IfOk result (λ o. o ≡ name_of scope.now (written_name prefix.now local.now)) }
 {
-    let Qualified { prefix, local } = written;
-    match space_of(scope, prefix.as_str()) {
-        Some(space) => {
-            let space = Text(String::from_str(alloc, space)?);
-            Ok(Some(Name { space, local }))
-        }
+    match space_of(scope, prefix) {
+        Some(space) => Ok(Some(Name::new(alloc, space, local)?)),
         None => Ok(None),
     }
 }
@@ -43,8 +40,8 @@ fn space_of<'a>(scope: &'a Prefixes<'_, '_>, prefix: &str) -> Option<&'a str>
 }
 
 // Whether the name is this word without a prefix.
-pub(crate) fn is_word(word: &str, written: &Qualified) -> bool
-    ensures { result ≡ is_word word.now written.now }
+pub(crate) fn is_word(word: &str, prefix: &str, local: &str) -> bool
+    ensures { result ≡ is_word word.now (written_name prefix.now local.now) }
 {
-    written.prefix.is_empty() && written.local.as_str() == word
+    prefix.is_empty() && local == word
 }

@@ -54,37 +54,37 @@ impl Filter {
 fn read_filter(alloc: Global, text: &str, scope: &Prefixes<'_, '_>) -> Result<Filter, FilterError>
     ensures { IsParsed text.now scope.now result }
 {
-    let mut standing = Standing::Start;
+    let mut standing = Standing::new(alloc);
     let mut rest = without_white(text);
     while !rest.is_empty() {
         let at = (text.len() - rest.len()) as u64;
-        let (next, left) = read_token(alloc, scope, standing, rest, at)?;
-        standing = next;
+        let left = read_token(alloc, scope, &mut standing, rest, at)?;
         rest = left;
     }
     whole_filter(alloc, standing, text.len() as u64)
 }
 
-// Where the reader stands after the token at the front, which is at that place, and what is left
-// after white space.
+// Takes the token at the front, which is at that place; what is left after white space.
 fn read_token<'a>(
     alloc: Global,
     scope: &Prefixes<'_, '_>,
-    standing: Standing,
+    standing: &mut Standing,
     rest: &'a str,
     at: u64,
-) -> Result<(Standing, &'a str), FilterError>
-    ensures next { IfOk result (λ n.
-        StepsOn scope.now (where_is standing) rest.now (where_is n.0) n.1.now) }
-    ensures refused { IfErr result (λ e. IsRefused scope.now (where_is standing) rest.now at e) }
+) -> Result<&'a str, FilterError>
+    ensures next { IfOk result (λ left.
+        StepsOn scope.now (where_is standing.old) rest.now (where_is standing.new) left.now) }
+    ensures refused { IfErr result (λ e.
+        IsRefused scope.now (where_is standing.old) rest.now at e) }
 {
-    let Some((token, after)) = token_at(alloc, rest)? else {
+    let Some((mark, after)) = token_at(rest) else {
         return Err(FilterError::NotAFilter { at });
     };
-    let Some(next) = take_token(alloc, scope, standing, token)? else {
+    let allowed = take_token(alloc, scope, standing, mark)?;
+    if !allowed {
         return Err(FilterError::NotAFilter { at });
-    };
-    Ok((next, without_white(after)))
+    }
+    Ok(without_white(after))
 }
 
 // The filter, where the text may end here, at that place.

@@ -1,16 +1,17 @@
 //! Where a reader of filters stands, and what one more token makes of it.
-ghost use Rattle.std.specs.Prelude.{◌≡◌, ◌++◌, ◌∷◌, [], IfErr, IfOk};
-ghost use Rattle.ifmap_filter.specs.Progress.{IsNotSingle, StandsAt, comparison_of, context, done_part, join_parts, inner_place, next_part, step, step_done, step_equals, step_factor, step_joining, step_literal, step_local, step_named, step_test, step_tested, where_is, filter_at, with_factor};
+ghost use Rattle.std.specs.Prelude.{◌≡◌, ◌++◌, ◌∷◌, [], IfNone, IfOk, IfSome, OnOk};
+ghost use Rattle.ifmap_filter.specs.Marks.{token_of, written_name};
+ghost use Rattle.ifmap_filter.specs.Progress.{IsNotSingle, StandsAt, Start, comparison_of, context, done_part, join_parts, inner_place, step, step_done, step_equals, step_factor, step_joining, step_literal, step_local, step_named, step_test, step_tested, test_of, where_is, filter_at};
 ghost use Rattle.ifmap_filter.specs.declared.filters.Predicate.{And, Or};
 ghost use Rattle.ifmap_filter.specs.declared.tokens.Token.TheVariants.{CloseBracket, CloseParenthesis};
 
 use crate::filters::{Filter, Predicate, Test};
+use crate::marks::Mark;
 use crate::naming::{is_word, name_of};
-use crate::tokens::Token;
-use ifmap_elem::tokens::Qualified;
 use ifmap_elem::{Many, Name, Text};
 use ifmap_prefixes::Prefixes;
 use std::alloc::{AllocError as NoMemory, Global};
+use std::mem;
 
 // How deep parentheses may nest.
 const DEEPEST: usize = 64;
@@ -41,198 +42,247 @@ pub(crate) enum Operand {
     Child(Name),
 }
 
-#[derive(Drop)]
-pub(crate) enum Standing {
+#[derive(Clone, Copy)]
+pub(crate) enum Place {
     Start,
     // After an `or` between tests.
-    TestDue(Many<Test>),
+    TestDue,
     // After the name of a test.
-    Named(Many<Test>, Option<Name>),
+    Named,
     // After the brackets of a test.
-    Tested(Many<Test>),
-    FactorDue(OpenPart),
+    Tested,
+    FactorDue,
     // After `@`.
-    LocalDue(OpenPart),
-    EqualsDue(OpenPart, Operand),
-    LiteralDue(OpenPart, Operand),
-    FactorDone(OpenPart),
+    LocalDue,
+    EqualsDue,
+    LiteralDue,
+    FactorDone,
 }
 
-// What one more token makes of it; none where the token is not allowed there.
+// The place, and what was read before it. What is not there yet at this place (the parts of a test
+// before its name, an operand before a factor) may be anything: it is what was there before.
+#[derive(Drop)]
+pub(crate) struct Standing {
+    pub(crate) place: Place,
+    pub(crate) open_part: OpenPart,
+    pub(crate) operand: Operand,
+}
+
+impl Standing {
+    pub(crate) fn new(alloc: Global) -> Standing
+        ensures { where_is result ≡ Start }
+    {
+        Standing {
+            place: Place::Start,
+            open_part: OpenPart {
+                tests: Many(Vec::new(alloc)),
+                name: None,
+                outer: Many(Vec::new(alloc)),
+                ors: Many(Vec::new(alloc)),
+                ands: Many(Vec::new(alloc)),
+            },
+            operand: Operand::Attribute(Text::new(alloc)),
+        }
+    }
+}
+
+// Takes one more token, where it is allowed; whether it is.
 pub(crate) fn take_token(
     alloc: Global,
     scope: &Prefixes<'_, '_>,
-    standing: Standing,
-    token: Token,
-) -> Result<Option<Standing>, NoMemory>
-    ensures { IfOk result (λ o. StandsAt o (step scope.now (where_is standing) token)) }
+    standing: &mut Standing,
+    mark: Mark<'_>,
+) -> Result<bool, NoMemory>
+    ensures { IfOk result (λ allowed. StandsAt allowed standing.new
+        (step scope.now (where_is standing.old) (token_of mark.entry))) }
 {
-    match standing {
-        Standing::Start => take_test(alloc, scope, Many(Vec::new(alloc)), token),
-        Standing::TestDue(tests) => take_test(alloc, scope, tests, token),
-        Standing::Named(tests, name) => take_named(alloc, tests, name, token),
-        Standing::Tested(tests) => Ok(take_tested(tests, token)),
-        Standing::FactorDue(open_part) => take_factor(alloc, scope, open_part, token),
-        Standing::LocalDue(open_part) => Ok(take_local(open_part, token)),
-        Standing::EqualsDue(open_part, operand) => Ok(take_equals(open_part, operand, token)),
-        Standing::LiteralDue(open_part, operand) => take_literal(open_part, operand, token),
-        Standing::FactorDone(open_part) => take_done(alloc, open_part, token),
+    match standing.place {
+        Place::Start => {
+            standing.open_part.tests = Many(Vec::new(alloc));
+            take_test(alloc, scope, standing, mark)
+        }
+        Place::TestDue => take_test(alloc, scope, standing, mark),
+        Place::Named => take_named(standing, mark),
+        Place::Tested => Ok(take_tested(standing, mark)),
+        Place::FactorDue => take_factor(alloc, scope, standing, mark),
+        Place::LocalDue => take_local(alloc, standing, mark),
+        Place::EqualsDue => Ok(take_equals(standing, mark)),
+        Place::LiteralDue => take_literal(alloc, standing, mark),
+        Place::FactorDone => take_done(alloc, standing, mark),
     }
 }
 
 fn take_test(
     alloc: Global,
     scope: &Prefixes<'_, '_>,
-    tests: Many<Test>,
-    token: Token,
-) -> Result<Option<Standing>, NoMemory>
-    ensures { IfOk result (λ o. StandsAt o (step_test scope.now tests token)) }
+    standing: &mut Standing,
+    mark: Mark<'_>,
+) -> Result<bool, NoMemory>
+    ensures { IfOk result (λ allowed. StandsAt allowed standing.new
+        (step_test scope.now standing.old.open_part.tests (token_of mark.entry))) }
 {
-    match token {
-        Token::Any => Ok(Some(Standing::Named(tests, None))),
-        Token::Name(written) => match name_of(alloc, scope, written)? {
-            Some(name) => Ok(Some(Standing::Named(tests, Some(name)))),
-            None => Ok(None),
-        },
-        _ => Ok(None),
-    }
-}
-
-fn take_named(
-    alloc: Global,
-    tests: Many<Test>,
-    name: Option<Name>,
-    token: Token,
-) -> Result<Option<Standing>, NoMemory>
-    ensures { IfOk result (λ o. StandsAt o (step_named tests name token)) }
-{
-    match token {
-        Token::OpenBracket => {
-            let outer = Many(Vec::new(alloc));
-            let ors = Many(Vec::new(alloc));
-            let ands = Many(Vec::new(alloc));
-            Ok(Some(Standing::FactorDue(OpenPart {
-                tests,
-                name,
-                outer,
-                ors,
-                ands,
-            })))
+    match mark {
+        Mark::Any => {
+            standing.open_part.name = None;
+            standing.place = Place::Named;
+            Ok(true)
         }
-        token => {
-            let predicate = None;
-            let tests = with_test(tests, Test { name, predicate })?;
-            Ok(take_tested(tests, token))
-        }
-    }
-}
-
-fn with_test(tests: Many<Test>, test: Test) -> Result<Many<Test>, NoMemory>
-    ensures { IfOk result (λ made. made ≡ tests ++ test ∷ []) }
-{
-    let mut tests = tests;
-    tests.0.push(test)?;
-    Ok(tests)
-}
-
-fn take_tested(tests: Many<Test>, token: Token) -> Option<Standing>
-    ensures { StandsAt result (step_tested tests token) }
-{
-    match token {
-        Token::Name(written) => {
-            if is_word("or", &written) {
-                Some(Standing::TestDue(tests))
-            } else {
-                None
+        Mark::Name(prefix, local) => match name_of(alloc, scope, prefix, local)? {
+            Some(name) => {
+                standing.open_part.name = Some(name);
+                standing.place = Place::Named;
+                Ok(true)
             }
+            None => Ok(false),
+        },
+        _ => Ok(false),
+    }
+}
+
+fn take_named(standing: &mut Standing, mark: Mark<'_>) -> Result<bool, NoMemory>
+    ensures { IfOk result (λ allowed. StandsAt allowed standing.new
+        (step_named standing.old.open_part.tests standing.old.open_part.name
+        (token_of mark.entry))) }
+{
+    match mark {
+        Mark::OpenBracket => {
+            standing.open_part.outer.0.clear();
+            standing.open_part.ors.0.clear();
+            standing.open_part.ands.0.clear();
+            standing.place = Place::FactorDue;
+            Ok(true)
         }
-        _ => None,
+        _ => {
+            push_test(&mut standing.open_part, None)?;
+            Ok(take_tested(standing, mark))
+        }
+    }
+}
+
+// Puts the test of the name at hand and this predicate after the others. The name goes there.
+fn push_test(open_part: &mut OpenPart, predicate: Option<Predicate>) -> Result<(), NoMemory>
+    ensures { OnOk result (open_part.new.tests
+        ≡ open_part.old.tests ++ test_of open_part.old.name predicate ∷ []) }
+{
+    let name = open_part.name.take();
+    open_part.tests.0.push(Test { name, predicate })?;
+    Ok(())
+}
+
+fn take_tested(standing: &mut Standing, mark: Mark<'_>) -> bool
+    ensures { StandsAt result standing.new
+        (step_tested standing.old.open_part.tests (token_of mark.entry)) }
+{
+    match mark {
+        Mark::Name(prefix, local) => {
+            if !is_word("or", prefix, local) {
+                return false;
+            }
+            standing.place = Place::TestDue;
+            true
+        }
+        _ => false,
     }
 }
 
 fn take_factor(
     alloc: Global,
     scope: &Prefixes<'_, '_>,
-    open_part: OpenPart,
-    token: Token,
-) -> Result<Option<Standing>, NoMemory>
-    ensures { IfOk result (λ o. StandsAt o (step_factor scope.now (context open_part) token)) }
+    standing: &mut Standing,
+    mark: Mark<'_>,
+) -> Result<bool, NoMemory>
+    ensures { IfOk result (λ allowed. StandsAt allowed standing.new
+        (step_factor scope.now (context standing.old.open_part) (token_of mark.entry))) }
 {
-    match token {
-        Token::OpenParenthesis => open_group(alloc, open_part),
-        Token::At => Ok(Some(Standing::LocalDue(open_part))),
-        Token::Name(written) => match name_of(alloc, scope, written)? {
-            Some(name) => Ok(Some(Standing::EqualsDue(open_part, Operand::Child(name)))),
-            None => Ok(None),
+    match mark {
+        Mark::OpenParenthesis => open_group(alloc, standing),
+        Mark::At => {
+            standing.place = Place::LocalDue;
+            Ok(true)
+        }
+        Mark::Name(prefix, local) => match name_of(alloc, scope, prefix, local)? {
+            Some(name) => {
+                standing.operand = Operand::Child(name);
+                standing.place = Place::EqualsDue;
+                Ok(true)
+            }
+            None => Ok(false),
         },
-        _ => Ok(None),
+        _ => Ok(false),
     }
 }
 
-// After an opening parenthesis: none where it is one too deep.
+// After an opening parenthesis: not allowed where it is one too deep.
 #[tactic(auto, using(crate::proofs::StandingLaws::too_deep, crate::proofs::StandingLaws::goes_deeper, crate::proofs::StandingLaws::pushed))]
-fn open_group(alloc: Global, open_part: OpenPart) -> Result<Option<Standing>, NoMemory>
-    ensures { IfOk result (λ o. StandsAt o (inner_place (context open_part))) }
+fn open_group(alloc: Global, standing: &mut Standing) -> Result<bool, NoMemory>
+    ensures { IfOk result (λ allowed. StandsAt allowed standing.new
+        (inner_place (context standing.old.open_part))) }
 {
-    if open_part.outer.0.len() >= DEEPEST {
-        return Ok(None);
+    if standing.open_part.outer.0.len() >= DEEPEST {
+        return Ok(false);
     }
-    let OpenPart {
-        tests,
-        name,
-        mut outer,
-        ors,
-        ands,
-    } = open_part;
-    outer.0.push(OuterPart { ors, ands })?;
-    let ors = Many(Vec::new(alloc));
-    let ands = Many(Vec::new(alloc));
-    Ok(Some(Standing::FactorDue(OpenPart {
-        tests,
-        name,
-        outer,
-        ors,
-        ands,
-    })))
+    let ors = take_all(alloc, &mut standing.open_part.ors);
+    let ands = take_all(alloc, &mut standing.open_part.ands);
+    standing.open_part.outer.0.push(OuterPart { ors, ands })?;
+    standing.place = Place::FactorDue;
+    Ok(true)
 }
 
-fn take_local(open_part: OpenPart, token: Token) -> Option<Standing>
-    ensures { StandsAt result (step_local (context open_part) token) }
+// The parts, of which none is left there.
+fn take_all(alloc: Global, parts: &mut Many<Predicate>) -> Many<Predicate>
+    ensures all { result ≡ parts.old }
+    ensures none { parts.new ≡ [] }
 {
-    match token {
-        Token::Name(written) => {
-            if written.prefix.is_empty() {
-                Some(Standing::EqualsDue(open_part, Operand::Attribute(written.local)))
+    mem::replace(parts, Many(Vec::new(alloc)))
+}
+
+fn take_local(alloc: Global, standing: &mut Standing, mark: Mark<'_>) -> Result<bool, NoMemory>
+    ensures { IfOk result (λ allowed. StandsAt allowed standing.new
+        (step_local (context standing.old.open_part) (token_of mark.entry))) }
+{
+    match mark {
+        Mark::Name(prefix, local) => {
+            if prefix.is_empty() {
+                standing.operand = Operand::Attribute(Text(String::from_str(alloc, local)?));
+                standing.place = Place::EqualsDue;
+                Ok(true)
             } else {
-                None
+                Ok(false)
             }
         }
-        _ => None,
+        _ => Ok(false),
     }
 }
 
-fn take_equals(open_part: OpenPart, operand: Operand, token: Token) -> Option<Standing>
-    ensures { StandsAt result (step_equals (context open_part) operand token) }
+fn take_equals(standing: &mut Standing, mark: Mark<'_>) -> bool
+    ensures { StandsAt result standing.new
+        (step_equals (context standing.old.open_part) standing.old.operand (token_of mark.entry)) }
 {
-    match token {
-        Token::EqualsSign => Some(Standing::LiteralDue(open_part, operand)),
-        _ => None,
-    }
-}
-
-fn take_literal(
-    open_part: OpenPart,
-    operand: Operand,
-    token: Token,
-) -> Result<Option<Standing>, NoMemory>
-    ensures { IfOk result (λ o. StandsAt o (step_literal (context open_part) operand token)) }
-{
-    match token {
-        Token::Literal(value) => {
-            let open_part = with_factor(open_part, comparison_of(operand, value))?;
-            Ok(Some(Standing::FactorDone(open_part)))
+    match mark {
+        Mark::EqualsSign => {
+            standing.place = Place::LiteralDue;
+            true
         }
-        _ => Ok(None),
+        _ => false,
+    }
+}
+
+fn take_literal(alloc: Global, standing: &mut Standing, mark: Mark<'_>) -> Result<bool, NoMemory>
+    ensures { IfOk result (λ allowed. StandsAt allowed standing.new
+        (step_literal (context standing.old.open_part) standing.old.operand
+        (token_of mark.entry))) }
+{
+    match mark {
+        Mark::Literal(value) => {
+            let value = Text(String::from_str(alloc, value)?);
+            let none = Operand::Attribute(Text::new(alloc));
+            let operand = mem::replace(&mut standing.operand, none);
+            let factor = comparison_of(operand, value);
+            standing.open_part.ands.0.push(factor)?;
+            standing.place = Place::FactorDone;
+            Ok(true)
+        }
+        _ => Ok(false),
     }
 }
 
@@ -245,168 +295,151 @@ fn comparison_of(operand: Operand, value: Text) -> Predicate
     }
 }
 
-fn with_factor(open_part: OpenPart, factor: Predicate) -> Result<OpenPart, NoMemory>
-    ensures { IfOk result (λ made. context made ≡ with_factor (context open_part) factor) }
+fn take_done(alloc: Global, standing: &mut Standing, mark: Mark<'_>) -> Result<bool, NoMemory>
+    ensures { IfOk result (λ allowed. StandsAt allowed standing.new
+        (step_done (context standing.old.open_part) (token_of mark.entry))) }
 {
-    let mut open_part = open_part;
-    open_part.ands.0.push(factor)?;
-    Ok(open_part)
-}
-
-fn take_done(alloc: Global, open_part: OpenPart, token: Token) -> Result<Option<Standing>, NoMemory>
-    ensures { IfOk result (λ o. StandsAt o (step_done (context open_part) token)) }
-{
-    match token {
-        Token::Name(written) => take_joining(alloc, open_part, &written),
-        Token::CloseParenthesis => close_group(open_part),
-        Token::CloseBracket => close_test(open_part),
-        _ => Ok(None),
+    match mark {
+        Mark::Name(prefix, local) => take_joining(alloc, standing, prefix, local),
+        Mark::CloseParenthesis => close_group(alloc, standing),
+        Mark::CloseBracket => close_test(alloc, standing),
+        _ => Ok(false),
     }
 }
 
 // After a name that joins: `and`, or `or`, with which the next part begins.
 fn take_joining(
     alloc: Global,
-    open_part: OpenPart,
-    written: &Qualified,
-) -> Result<Option<Standing>, NoMemory>
-    ensures { IfOk result (λ o. StandsAt o (step_joining (context open_part) written.now)) }
+    standing: &mut Standing,
+    prefix: &str,
+    local: &str,
+) -> Result<bool, NoMemory>
+    ensures { IfOk result (λ allowed. StandsAt allowed standing.new
+        (step_joining (context standing.old.open_part) (written_name prefix.now local.now))) }
 {
-    if is_word("and", written) {
-        return Ok(Some(Standing::FactorDue(open_part)));
+    if is_word("and", prefix, local) {
+        standing.place = Place::FactorDue;
+        return Ok(true);
     }
-    if is_word("or", written) {
-        return Ok(Some(Standing::FactorDue(next_part(alloc, open_part)?)));
+    if is_word("or", prefix, local) {
+        let open_part = &mut standing.open_part;
+        next_part(alloc, &mut open_part.ors, &mut open_part.ands)?;
+        standing.place = Place::FactorDue;
+        return Ok(true);
     }
-    Ok(None)
+    Ok(false)
 }
 
-fn next_part(alloc: Global, open_part: OpenPart) -> Result<OpenPart, NoMemory>
-    ensures { IfOk result (λ made. context made ≡ next_part (context open_part)) }
+// Puts the factors after the and-parts that are done, as one of these.
+fn next_part(
+    alloc: Global,
+    ors: &mut Many<Predicate>,
+    ands: &mut Many<Predicate>,
+) -> Result<(), NoMemory>
+    ensures done { OnOk result (ors.new ≡ ors.old ++ join_parts And ands.old ∷ []) }
+    ensures none { OnOk result (ands.new ≡ []) }
 {
-    let OpenPart {
-        tests,
-        name,
-        outer,
-        mut ors,
-        ands,
-    } = open_part;
-    ors.0.push(all_of(ands))?;
-    let ands = Many(Vec::new(alloc));
-    Ok(OpenPart {
-        tests,
-        name,
-        outer,
-        ors,
-        ands,
-    })
+    ors.0.push(all_of(alloc, ands))?;
+    Ok(())
 }
 
-// After a closing parenthesis: none where none is open.
-fn close_group(open_part: OpenPart) -> Result<Option<Standing>, NoMemory>
-    ensures { IfOk result (λ o. StandsAt o (step_done (context open_part) CloseParenthesis)) }
+// After a closing parenthesis: not allowed where none is open.
+fn close_group(alloc: Global, standing: &mut Standing) -> Result<bool, NoMemory>
+    ensures { IfOk result (λ allowed. StandsAt allowed standing.new
+        (step_done (context standing.old.open_part) CloseParenthesis)) }
 {
-    let OpenPart {
-        tests,
-        name,
-        mut outer,
-        ors,
-        ands,
-    } = open_part;
-    let Some(outer_part) = outer.0.pop() else {
-        return Ok(None);
+    let open_part = &mut standing.open_part;
+    let Some(outer_part) = open_part.outer.0.pop() else {
+        return Ok(false);
     };
-    let part = done_part(ors, ands)?;
+    let part = close_part(alloc, &mut open_part.ors, &mut open_part.ands)?;
     let OuterPart { ors, mut ands } = outer_part;
     ands.0.push(part)?;
-    Ok(Some(Standing::FactorDone(OpenPart {
-        tests,
-        name,
-        outer,
-        ors,
-        ands,
-    })))
+    open_part.ors = ors;
+    open_part.ands = ands;
+    standing.place = Place::FactorDone;
+    Ok(true)
 }
 
-// After a closing bracket: none where parentheses are open.
-fn close_test(open_part: OpenPart) -> Result<Option<Standing>, NoMemory>
-    ensures { IfOk result (λ o. StandsAt o (step_done (context open_part) CloseBracket)) }
+// After a closing bracket: not allowed where parentheses are open.
+fn close_test(alloc: Global, standing: &mut Standing) -> Result<bool, NoMemory>
+    ensures { IfOk result (λ allowed. StandsAt allowed standing.new
+        (step_done (context standing.old.open_part) CloseBracket)) }
 {
-    let OpenPart {
-        tests,
-        name,
-        outer,
-        ors,
-        ands,
-    } = open_part;
-    if !outer.0.is_empty() {
-        return Ok(None);
+    if !standing.open_part.outer.0.is_empty() {
+        return Ok(false);
     }
-    let predicate = Some(done_part(ors, ands)?);
-    let tests = with_test(tests, Test { name, predicate })?;
-    Ok(Some(Standing::Tested(tests)))
+    let open_part = &mut standing.open_part;
+    let predicate = close_part(alloc, &mut open_part.ors, &mut open_part.ands)?;
+    push_test(open_part, Some(predicate))?;
+    standing.place = Place::Tested;
+    Ok(true)
 }
 
-// The predicate of an or-part, by its and-parts that are done and the factors of the last.
-fn done_part(ors: Many<Predicate>, ands: Many<Predicate>) -> Result<Predicate, NoMemory>
-    ensures { IfOk result (λ made. made ≡ done_part ors ands) }
+// The predicate of an or-part, by its and-parts that are done and the factors of the last. What was
+// in the lists is in it.
+#[tactic(auto, using(crate::proofs::StandingLaws::more_than_one))]
+fn close_part(
+    alloc: Global,
+    ors: &mut Many<Predicate>,
+    ands: &mut Many<Predicate>,
+) -> Result<Predicate, NoMemory>
+    ensures { IfOk result (λ part. part ≡ done_part ors.old ands.old) }
 {
-    let mut ors = ors;
-    ors.0.push(all_of(ands))?;
-    Ok(one_of(ors))
+    let last = all_of(alloc, ands);
+    if ors.0.is_empty() {
+        return Ok(last);
+    }
+    ors.0.push(last)?;
+    Ok(Predicate::Or(take_all(alloc, ors)))
 }
 
-// One part alone is that part.
+// One part alone is that part. None is left in the list.
 #[tactic(auto, using(crate::proofs::StandingLaws::not_single))]
-fn all_of(parts: Many<Predicate>) -> Predicate
-    ensures { result ≡ join_parts And parts }
+fn all_of(alloc: Global, parts: &mut Many<Predicate>) -> Predicate
+    ensures all { result ≡ join_parts And parts.old }
+    ensures none { parts.new ≡ [] }
 {
     match only_part(parts) {
-        Ok(part) => part,
-        Err(parts) => Predicate::And(parts),
+        Some(part) => part,
+        None => Predicate::And(take_all(alloc, parts)),
     }
 }
 
-#[tactic(auto, using(crate::proofs::StandingLaws::not_single))]
-fn one_of(parts: Many<Predicate>) -> Predicate
-    ensures { result ≡ join_parts Or parts }
-{
-    match only_part(parts) {
-        Ok(part) => part,
-        Err(parts) => Predicate::Or(parts),
-    }
-}
-
-// The only part, or all of them.
+// Takes out the only part; none where there are others or there is none.
 #[tactic(auto, using(crate::proofs::StandingLaws::many_not_single))]
-fn only_part(parts: Many<Predicate>) -> Result<Predicate, Many<Predicate>>
-    ensures one { IfOk result (λ part. parts ≡ part ∷ []) }
-    ensures all { IfErr result (λ others. (others ≡ parts) × IsNotSingle parts) }
+fn only_part(parts: &mut Many<Predicate>) -> Option<Predicate>
+    ensures one { IfSome result (λ part. (parts.old ≡ part ∷ []) × (parts.new ≡ [])) }
+    ensures others { IfNone result ((parts.new ≡ parts.old) × IsNotSingle parts.old) }
 {
-    let mut parts = parts;
     if parts.0.len() != 1 {
-        return Err(parts);
+        return None;
     }
-    match parts.0.pop() {
-        Some(part) => Ok(part),
-        None => Err(parts),
-    }
+    parts.0.pop()
 }
 
 // The filter, where the text may end here.
 pub(crate) fn filter_at(alloc: Global, standing: Standing) -> Result<Option<Filter>, NoMemory>
     ensures { IfOk result (λ o. o ≡ filter_at (where_is standing)) }
 {
-    match standing {
-        Standing::Start => Ok(Some(Filter {
+    let Standing {
+        place,
+        mut open_part,
+        operand: _,
+    } = standing;
+    match place {
+        Place::Start => Ok(Some(Filter {
             tests: Many(Vec::new(alloc)),
         })),
-        Standing::Named(tests, name) => {
-            let predicate = None;
-            let tests = with_test(tests, Test { name, predicate })?;
-            Ok(Some(Filter { tests }))
+        Place::Named => {
+            push_test(&mut open_part, None)?;
+            Ok(Some(Filter {
+                tests: open_part.tests,
+            }))
         }
-        Standing::Tested(tests) => Ok(Some(Filter { tests })),
+        Place::Tested => Ok(Some(Filter {
+            tests: open_part.tests,
+        })),
         _ => Ok(None),
     }
 }

@@ -7,7 +7,7 @@ use std::alloc::{AllocError as NoMemory, Global};
 use std::test::Fail;
 
 // How many cases agree, up to the first that does not.
-fn agreeing(alloc: Global, cases: &[(Comparison, bool)]) -> Result<usize, NoMemory> {
+fn count_right_cases(alloc: Global, cases: &[(Comparison, bool)]) -> Result<usize, NoMemory> {
     let element = role(alloc)?;
     for (i, (asked, wanted)) in cases.iter().enumerate() {
         let predicate = predicate_of(alloc, *asked)?;
@@ -41,7 +41,7 @@ fn comparisons_hold_as_judged_by_hand(rt: HostRuntime) -> Result<(), Fail> {
         (Child("m", "role", "x"), false),
         (Child("m", "inner", "c"), false),
     ];
-    assert_eq!(rt; agreeing(alloc, &cases)?, cases.len());
+    assert_eq!(rt; count_right_cases(alloc, &cases)?, cases.len());
     Ok(())
 }
 

@@ -24,14 +24,22 @@ pub(crate) fn scope(alloc: Global) -> Result<Scope, NoMemory> {
     Ok(Scope { rows: Many(rows) })
 }
 
-pub(crate) fn parsed(alloc: Global, text: &str, scope: &Scope) -> Result<Filter, FilterError> {
+pub(crate) fn parse_filter(
+    alloc: Global,
+    text: &str,
+    scope: &Scope,
+) -> Result<Filter, FilterError> {
     Filter::parse(alloc, &Text::from_str(alloc, text)?, scope)
 }
 
 // How many texts stop where they are to in this scope, up to the first that does not.
-fn stopping(alloc: Global, scope: &Scope, cases: &[(&str, u64)]) -> Result<usize, NoMemory> {
+fn count_right_stops(
+    alloc: Global,
+    scope: &Scope,
+    cases: &[(&str, u64)],
+) -> Result<usize, NoMemory> {
     for (i, (text, place)) in cases.iter().enumerate() {
-        match parsed(alloc, text, scope) {
+        match parse_filter(alloc, text, scope) {
             Err(FilterError::NotAFilter { at }) => {
                 if at != *place {
                     return Ok(i);
@@ -47,7 +55,7 @@ fn stopping(alloc: Global, scope: &Scope, cases: &[(&str, u64)]) -> Result<usize
 fn texts_stop_at_their_places(rt: HostRuntime) -> Result<(), Fail> {
     let alloc = rt.alloc();
     let scope = scope(alloc)?;
-    assert_eq!(rt; stopping(alloc, &scope, &STOPS)?, STOPS.len());
+    assert_eq!(rt; count_right_stops(alloc, &scope, &STOPS)?, STOPS.len());
     Ok(())
 }
 
@@ -58,14 +66,14 @@ fn texts_stop_at_their_places_without_prefixes(rt: HostRuntime) -> Result<(), Fa
         rows: Many(Vec::new(alloc)),
     };
     let cases = [("role(", 4), ("z:a", 0), ("xml:a z:a", 6), ("m:role", 0)];
-    assert_eq!(rt; stopping(alloc, &none, &cases)?, cases.len());
+    assert_eq!(rt; count_right_stops(alloc, &none, &cases)?, cases.len());
     Ok(())
 }
 
 #[test]
 fn an_or_of_a_comparison_and_an_and_is_read(rt: HostRuntime) -> Result<(), Fail> {
     let alloc = rt.alloc();
-    let filter = parsed(
+    let filter = parse_filter(
         alloc,
         "m:role[name='a' or @x='b' and c=\"d\"]",
         &scope(alloc)?,

@@ -1,6 +1,6 @@
 //! Filters that are printed and read back, and their namespaces.
 use crate::makers::filter_of;
-use crate::parsing::{parsed, row, scope};
+use crate::parsing::{parse_filter, row, scope};
 use crate::rows::{FILTERS, META, Spaces};
 use ifmap_elem::{Equals, Many, Name, Text};
 use ifmap_filter::{Filter, FilterError};
@@ -20,7 +20,7 @@ fn texts(alloc: Global, words: &[&str]) -> Result<Many<Text>, NoMemory> {
     Ok(Many(made))
 }
 
-fn listed(alloc: Global, spaces: Spaces) -> Result<Many<Text>, NoMemory> {
+fn list_spaces(alloc: Global, spaces: Spaces) -> Result<Many<Text>, NoMemory> {
     match spaces {
         Spaces::None => texts(alloc, &[]),
         Spaces::Meta => texts(alloc, &[META]),
@@ -75,13 +75,13 @@ fn agrees(
     row: &(&'static str, &'static str, Spaces),
 ) -> Result<bool, FilterError> {
     let (text, printed, spaces) = *row;
-    let filter = parsed(alloc, text, scope)?;
-    let spaces = listed(alloc, spaces)?;
+    let filter = parse_filter(alloc, text, scope)?;
+    let spaces = list_spaces(alloc, spaces)?;
     needs_and_prints(alloc, &filter, &spaces, printed)
 }
 
 // How many rows agree, up to the first that does not.
-fn agreeing(alloc: Global) -> Result<usize, FilterError> {
+fn count_right_rows(alloc: Global) -> Result<usize, FilterError> {
     let scope = scope(alloc)?;
     for (i, row) in FILTERS.iter().enumerate() {
         if !agrees(alloc, &scope, row)? {
@@ -93,7 +93,7 @@ fn agreeing(alloc: Global) -> Result<usize, FilterError> {
 
 #[test]
 fn filters_are_read_printed_and_read_back(rt: HostRuntime) -> Result<(), Fail> {
-    assert_eq!(rt; agreeing(rt.alloc())?, FILTERS.len());
+    assert_eq!(rt; count_right_rows(rt.alloc())?, FILTERS.len());
     Ok(())
 }
 
@@ -135,7 +135,7 @@ fn with_spaces_of(
     text: &str,
     spaces: Many<Text>,
 ) -> Result<Many<Text>, FilterError> {
-    let filter = parsed(alloc, text, &scope(alloc)?)?;
+    let filter = parse_filter(alloc, text, &scope(alloc)?)?;
     let all = filter.add_spaces(alloc, spaces)?;
     Ok(all)
 }
@@ -148,7 +148,7 @@ fn spaces_of_both(alloc: Global, one: &str, other: &str) -> Result<Many<Text>, F
 // Whether the namespaces of one text's filter serve the other's.
 fn serve(alloc: Global, one: &str, other: &str) -> Result<bool, FilterError> {
     let spaces = with_spaces_of(alloc, one, Many(Vec::new(alloc)))?;
-    let filter = parsed(alloc, other, &scope(alloc)?)?;
+    let filter = parse_filter(alloc, other, &scope(alloc)?)?;
     Ok(filter.has_spaces(&spaces))
 }
 
@@ -166,7 +166,7 @@ fn two_filters_share_a_list_of_namespaces(rt: HostRuntime) -> Result<(), Fail> {
     ];
     for (one, other, wanted) in cases {
         let both = spaces_of_both(alloc, one, other)?;
-        assert_eq!(rt; both.equals(&listed(alloc, wanted)?), true);
+        assert_eq!(rt; both.equals(&list_spaces(alloc, wanted)?), true);
     }
     Ok(())
 }

@@ -15,10 +15,10 @@ use Rattle.std.specs.declared.cmp.Ordering.TheVariants.{Less, Equal, Greater}
 use Rattle.ifmap_elem.specs.declared.readings.Declared.{Declared}
 use Rattle.ifmap_lemmas.specs.Orderings.{both_equal}
 use Rattle.ifmap_lemmas.specs.Texts.{same_texts, slice_cmp-same}
-use Rattle.ifmap_prefixes.specs.Rows.{HasLast, Indexes, IsDeclaredAt, IsTold, at_text, is_key}
+use Rattle.ifmap_prefixes.specs.Rows.{HasLast, Indexes, IsDeclaredAt, HasIndexFrom, at_text, is_key}
 
-abbrev pub Told : Type 0
-Told = List ℕ → List ℕ → Option ℕ
+abbrev pub Kept : Type 0
+Kept = List ℕ → List ℕ → Option ℕ
 
 still_there : (ds : List Declared) (d e : Declared) (i : ℕ) → slice_get ds i ≡ Some e → slice_get (ds ++ d ∷ []) i ≡ Some e
 still_there [] d e i is = cc
@@ -48,7 +48,7 @@ key_itself : (d : Declared) (prefix path : List ℕ) → d.prefix ≡ prefix →
 key_itself d prefix path p q =
     ap is_eq (ap (λ o. ordering_then o (slice_cmp nat_cmp d.path path)) (slice_cmp-same d.prefix prefix p) ∙ slice_cmp-same d.path path q)
 
-module _ (ds : List Declared) (d : Declared) (old new : Told) (at : HasLast old ds)
+module _ (ds : List Declared) (d : Declared) (old new : Kept) (at : HasLast old ds)
     (now : (prefix path : List ℕ) → new prefix path ≡ cond (is_key d prefix path) (Some (length ds)) (old prefix path)) where
   module _ (prefix path : List ℕ) where
     new_here : is_key d prefix path ≡ true → new prefix path ≡ Some (length ds)
@@ -76,13 +76,13 @@ module _ (ds : List Declared) (d : Declared) (old new : Told) (at : HasLast old 
       | inr e ↦ kept i (at.found prefix path i (sym (new_other e) ∙ is))
     ]
 
-    last_more : (i : ℕ) → IsDeclaredAt (ds ++ d ∷ []) prefix path i → IsTold (new prefix path) i
+    last_more : (i : ℕ) → IsDeclaredAt (ds ++ d ∷ []) prefix path i → HasIndexFrom (new prefix path) i
     last_more i is = elim (cases_Bool (is_key d prefix path)) [
       | inl e ↦ record { index = length ds; is = new_here e; late = within }
       | inr e ↦ elim (there_or_last ds d is.row i is.is) [
         | inl s ↦
-            let told = at.last prefix path i (record { row = is.row; is = s; prefix_is = is.prefix_is; path_is = is.path_is }) in
-            record { index = told.index; is = new_other e ∙ told.is; late = told.late }
+            let last = at.last prefix path i (record { row = is.row; is = s; prefix_is = is.prefix_is; path_is = is.path_is }) in
+            record { index = last.index; is = new_other e ∙ last.is; late = last.late }
         | inr s ↦ absurd (no s.1 e)
       ]
     ]
@@ -103,7 +103,7 @@ module _ (ds : List Declared) (d : Declared) (old new : Told) (at : HasLast old 
   added = record { found = found_more; last = last_more }
 
 -- a loop's step
-pub row_added : (rows : List Declared) (n : ℕ) (d : Declared) → n < length rows → d ≡ get_or rows n d → (old new : Told)
+pub row_added : (rows : List Declared) (n : ℕ) (d : Declared) → n < length rows → d ≡ get_or rows n d → (old new : Kept)
     → HasLast old (take n rows)
     → ((prefix path : List ℕ) → new prefix path ≡ cond (is_key d prefix path) (Some n) (old prefix path))
     → HasLast new (take (n + 1) rows)
@@ -112,8 +112,8 @@ row_added rows n d l is old new at now =
     subst (HasLast new) (sym (take_more rows n d l ∙ ap (λ (x : Declared). take n rows ++ x ∷ []) (sym is)))
     (added (take n rows) d old new at (λ prefix path. now prefix path ∙ ap (λ k. cond (is_key d prefix path) (Some k) (old prefix path)) (sym long)))
 
-pub no_rows : (told : Told) → ((prefix path : List ℕ) → told prefix path ≡ None) → HasLast told []
-no_rows told none = record {
+pub no_rows : (kept : Kept) → ((prefix path : List ℕ) → kept prefix path ≡ None) → HasLast kept []
+no_rows kept none = record {
   found = λ prefix path i is. let wrong : Some i ≡ None = sym is ∙ none prefix path in cc;
   last = λ prefix path i is. let gone : slice_get [] i ≡ Some is.row = is.is in cc;
 }
@@ -130,7 +130,7 @@ together Less p e = cc
 together Equal p e = refl
 together Greater p e = cc
 
-module _ (d : Declared) (n : ℕ) (prefix path : List ℕ) (old mid new : Option Indexes) (indexes : Indexes) (told_own : Option ℕ) where
+module _ (d : Declared) (n : ℕ) (prefix path : List ℕ) (old mid new : Option Indexes) (indexes : Indexes) (own_index : Option ℕ) where
   abbrev at_path : Option Indexes → Option ℕ
   at_path o = option_and_then (λ ns. get_by (at_text path) ns) o
 
@@ -141,7 +141,7 @@ module _ (d : Declared) (n : ℕ) (prefix path : List ℕ) (old mid new : Option
   is_path = is_eq (slice_cmp nat_cmp d.path path)
 
   pub table_added : new ≡ cond is_prefix (Some indexes) mid → mid ≡ cond is_prefix None old
-      → get_by (at_text path) indexes ≡ cond is_path (Some n) told_own → (d.prefix ≡ prefix → told_own ≡ at_path old)
+      → get_by (at_text path) indexes ≡ cond is_path (Some n) own_index → (d.prefix ≡ prefix → own_index ≡ at_path old)
       → at_path new ≡ cond (is_key d prefix path) (Some n) (at_path old)
   table_added e3 e2 e1 own = elim (cases_Bool is_prefix) [
     | inl e ↦

@@ -11,7 +11,7 @@ use Rattle.ifmap_elem.specs.InScope.{binding_told}
 use Rattle.ifmap_elem.specs.Scopes.{Binding}
 use Rattle.ifmap_elem.specs.declared.readings.Declared.{Declared}
 use Rattle.ifmap_prefixes.specs.InScope.{scope_by}
-use Rattle.ifmap_prefixes.specs.Rows.{IsLastOf, tells}
+use Rattle.ifmap_prefixes.specs.Rows.{IsLastOf, is_at_or_round}
 
 abbrev Row : Type 0
 Row = List ℕ × List ℕ
@@ -37,10 +37,10 @@ module _ (prefix path : List ℕ) where
   abbrev bindings_in : List Declared → List Binding
   bindings_in ds = map binding_told (filter stands ds)
 
-  -- the namespace of the last declaration that tells one
+  -- the namespace of the last declaration of the prefix at or round the path
   last_space : List Declared → Option (List ℕ)
   last_space [] = None
-  last_space (d ∷ ds) = option_or (last_space ds) (cond (tells prefix path d) (Some d.space) None)
+  last_space (d ∷ ds) = option_or (last_space ds) (cond (is_at_or_round prefix path d) (Some d.space) None)
 
   more : (ds : List Declared) (d : Declared) → stands d ≡ true
       → space_in (d ∷ ds) ≡ option_or (space_in ds) (cond (bytes_eq prefix d.prefix) (Some d.space) None)
@@ -66,38 +66,38 @@ module _ (prefix path : List ℕ) where
         ∙ ap (λ b. option_or (last_space ds) (cond (b && bytes_eq prefix d.prefix) (Some d.space) None)) (sym e)
   ]
 
-  none_tells : (ds : List Declared) → ((i : ℕ) (d : Declared) → slice_get ds i ≡ Some d → tells prefix path d ≡ true → ⊥)
+  none_at_or_round : (ds : List Declared) → ((i : ℕ) (d : Declared) → slice_get ds i ≡ Some d → is_at_or_round prefix path d ≡ true → ⊥)
       → last_space ds ≡ None
   unfolding last_space
-  none_tells [] f = refl
-  none_tells (d ∷ ds) f = elim (cases_Bool (tells prefix path d)) [
+  none_at_or_round [] f = refl
+  none_at_or_round (d ∷ ds) f = elim (cases_Bool (is_at_or_round prefix path d)) [
     | inl e ↦ absurd (f 0 d refl e)
     | inr e ↦
-        ap (λ o. option_or o (cond (tells prefix path d) (Some d.space) None)) (none_tells ds (λ i. f (suc i)))
+        ap (λ o. option_or o (cond (is_at_or_round prefix path d) (Some d.space) None)) (none_at_or_round ds (λ i. f (suc i)))
         ∙ ap (λ b. cond b (Some d.space) None) e
   ]
 
-  last_tells : (ds : List Declared) (i : ℕ) (d : Declared) → slice_get ds i ≡ Some d → tells prefix path d ≡ true
-      → ((j : ℕ) (e : Declared) → slice_get ds j ≡ Some e → tells prefix path e ≡ true → j ≤ i) → last_space ds ≡ Some d.space
+  last_at_or_round : (ds : List Declared) (i : ℕ) (d : Declared) → slice_get ds i ≡ Some d → is_at_or_round prefix path d ≡ true
+      → ((j : ℕ) (e : Declared) → slice_get ds j ≡ Some e → is_at_or_round prefix path e ≡ true → j ≤ i) → last_space ds ≡ Some d.space
   unfolding last_space
-  last_tells [] i d is t f = cc
-  last_tells (x ∷ xs) zero d is t f =
+  last_at_or_round [] i d is t f = cc
+  last_at_or_round (x ∷ xs) zero d is t f =
       let first : x ≡ d = cc in
-      ap (λ o. option_or o (cond (tells prefix path x) (Some x.space) None))
-      (none_tells xs (λ j e s u. let late = f (suc j) e s u in omega arith))
-      ∙ ap (λ (y : Declared). cond (tells prefix path y) (Some y.space) None) first
+      ap (λ o. option_or o (cond (is_at_or_round prefix path x) (Some x.space) None))
+      (none_at_or_round xs (λ j e s u. let late = f (suc j) e s u in omega arith))
+      ∙ ap (λ (y : Declared). cond (is_at_or_round prefix path y) (Some y.space) None) first
       ∙ ap (λ b. cond b (Some d.space) None) t
-  last_tells (x ∷ xs) (suc i) d is t f =
-      ap (λ o. option_or o (cond (tells prefix path x) (Some x.space) None))
-      (last_tells xs i d is t (λ j e s u. let late = f (suc j) e s u in omega arith))
+  last_at_or_round (x ∷ xs) (suc i) d is t f =
+      ap (λ o. option_or o (cond (is_at_or_round prefix path x) (Some x.space) None))
+      (last_at_or_round xs i d is t (λ j e s u. let late = f (suc j) e s u in omega arith))
 
-  module _ (rows : List Declared) (told : Option ℕ) (at : IsLastOf rows prefix path told) where
-    pub space_found : (i : ℕ) (d : Declared) → told ≡ Some i → slice_get rows i ≡ Some d → space_in rows ≡ Some d.space
+  module _ (rows : List Declared) (answer : Option ℕ) (at : IsLastOf rows prefix path answer) where
+    pub space_found : (i : ℕ) (d : Declared) → answer ≡ Some i → slice_get rows i ≡ Some d → space_in rows ≡ Some d.space
     space_found i d is there =
         let found = at.found i is in
         let same : Some found.0 ≡ Some d = sym found.1 ∙ there in
         let row : found.0 ≡ d = cc in
-        space_is_last rows ∙ last_tells rows i found.0 found.1 found.2
+        space_is_last rows ∙ last_at_or_round rows i found.0 found.1 found.2
         (λ j e s u.
         let last = at.last j e s u in
         let one : Some last.index ≡ Some i = sym last.is ∙ is in
@@ -106,7 +106,7 @@ module _ (prefix path : List ℕ) where
         omega arith)
         ∙ ap (λ (x : Declared). Some x.space) row
 
-    pub space_lacks : told ≡ None → space_in rows ≡ None
+    pub space_lacks : answer ≡ None → space_in rows ≡ None
     space_lacks is =
-        space_is_last rows ∙ none_tells rows
+        space_is_last rows ∙ none_at_or_round rows
         (λ i d s u. let last = at.last i d s u in let wrong : Some last.index ≡ None = sym last.is ∙ is in cc)

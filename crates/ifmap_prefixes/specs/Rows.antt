@@ -18,9 +18,9 @@ at_text text key = slice_cmp nat_cmp text key.now
 abbrev pub Indexes : Type 0
 Indexes = BTreeMap (Bor (List ℕ)) ℕ
 
--- what is kept for a prefix and a path
-abbrev pub told : BTreeMap (Bor (List ℕ)) Indexes → List ℕ → List ℕ → Option ℕ
-told kept prefix path = option_and_then (λ indexes. get_by (at_text path) indexes) (get_by (at_text prefix) kept)
+-- the index that is kept for a prefix and a path, where one is
+abbrev pub index_at : BTreeMap (Bor (List ℕ)) Indexes → List ℕ → List ℕ → Option ℕ
+index_at kept prefix path = option_and_then (λ indexes. get_by (at_text path) indexes) (get_by (at_text prefix) kept)
 
 -- whether the declaration is of this prefix, and stands at this path
 abbrev pub is_key : Declared → List ℕ → List ℕ → Bool
@@ -33,33 +33,33 @@ pub record IsDeclaredAt (rows : List Declared) (prefix path : List ℕ) (i : ℕ
   pub prefix_is : row.prefix ≡ prefix
   pub path_is : row.path ≡ path
 
--- the index is told, or one after it
-pub record IsTold (told : Option ℕ) (i : ℕ) : Type 0 where
+-- there is an index, which is this one or a later one
+pub record HasIndexFrom (answer : Option ℕ) (i : ℕ) : Type 0 where
   pub index : ℕ
-  pub is : told ≡ Some index
+  pub is : answer ≡ Some index
   pub late : i ≤ index
 
 -- what is kept for a prefix and a path is the index of the last declaration of it there
 pub record HasLast (kept : List ℕ → List ℕ → Option ℕ) (rows : List Declared) : Type 0 where
   pub found : (prefix path : List ℕ) (i : ℕ) → kept prefix path ≡ Some i → IsDeclaredAt rows prefix path i
-  pub last : (prefix path : List ℕ) (i : ℕ) → IsDeclaredAt rows prefix path i → IsTold (kept prefix path) i
+  pub last : (prefix path : List ℕ) (i : ℕ) → IsDeclaredAt rows prefix path i → HasIndexFrom (kept prefix path) i
 
 -- whether a declaration is of this prefix, and stands at or round the element at the path
-abbrev pub tells : List ℕ → List ℕ → Declared → Bool
-tells prefix path d = starts_with ◌==◌ path d.path && bytes_eq prefix d.prefix
+abbrev pub is_at_or_round : List ℕ → List ℕ → Declared → Bool
+is_at_or_round prefix path d = starts_with ◌==◌ path d.path && bytes_eq prefix d.prefix
 
 -- it is the index of the last declaration of the prefix at or round the path, or there is none
-pub record IsLastOf (rows : List Declared) (prefix path : List ℕ) (told : Option ℕ) : Type 0 where
-  pub found : (i : ℕ) → told ≡ Some i → (d : Declared) × (slice_get rows i ≡ Some d) × (tells prefix path d ≡ true)
-  pub last : (i : ℕ) (d : Declared) → slice_get rows i ≡ Some d → tells prefix path d ≡ true → IsTold told i
+pub record IsLastOf (rows : List Declared) (prefix path : List ℕ) (answer : Option ℕ) : Type 0 where
+  pub found : (i : ℕ) → answer ≡ Some i → (d : Declared) × (slice_get rows i ≡ Some d) × (is_at_or_round prefix path d ≡ true)
+  pub last : (i : ℕ) (d : Declared) → slice_get rows i ≡ Some d → is_at_or_round prefix path d ≡ true → HasIndexFrom answer i
 
--- of what is told at the levels of a path, from the root to its end, the greatest
-pub record IsLatest (told_at : List ℕ → Option ℕ) (path : List ℕ) (told : Option ℕ) : Type 0 where
-  pub found : (i : ℕ) → told ≡ Some i → (level : ℕ) × (level ≤ length path) × (told_at (take level path) ≡ Some i)
-  pub last : (level i : ℕ) → level ≤ length path → told_at (take level path) ≡ Some i → IsTold told i
+-- of what is kept at the levels of a path, from the root to its end, the greatest
+pub record IsLatest (kept_at : List ℕ → Option ℕ) (path : List ℕ) (answer : Option ℕ) : Type 0 where
+  pub found : (i : ℕ) → answer ≡ Some i → (level : ℕ) × (level ≤ length path) × (kept_at (take level path) ≡ Some i)
+  pub last : (level i : ℕ) → level ≤ length path → kept_at (take level path) ≡ Some i → HasIndexFrom answer i
 
 -- the greater of two indexes, where there are two
-pub record IsLater (one other told : Option ℕ) : Type 0 where
-  pub either : (i : ℕ) → told ≡ Some i → (one ≡ Some i) ⊎ (other ≡ Some i)
-  pub first : (i : ℕ) → one ≡ Some i → IsTold told i
-  pub second : (i : ℕ) → other ≡ Some i → IsTold told i
+pub record IsLater (one other answer : Option ℕ) : Type 0 where
+  pub either : (i : ℕ) → answer ≡ Some i → (one ≡ Some i) ⊎ (other ≡ Some i)
+  pub first : (i : ℕ) → one ≡ Some i → HasIndexFrom answer i
+  pub second : (i : ℕ) → other ≡ Some i → HasIndexFrom answer i

@@ -7,7 +7,7 @@ ghost use Rattle.std.specs.Option.{option_copied};
 ghost use Rattle.std.specs.Ordering.{nat_cmp};
 ghost use Rattle.std.specs.Str.{bytes_eq};
 ghost use Rattle.ifmap_prefixes.specs.InScope.{scope_by};
-ghost use Rattle.ifmap_prefixes.specs.Rows.{IsLastOf, IsLater, IsLatest, at_text, is_key, told};
+ghost use Rattle.ifmap_prefixes.specs.Rows.{IsLastOf, IsLater, IsLatest, at_text, is_key, index_at};
 
 use ifmap_elem::Declared;
 use std::alloc::{AllocError as NoMemory, Global};
@@ -27,13 +27,13 @@ pub struct Declarations<'a> {
 impl<'a> Model for Declarations<'a> {
     ghost use Rattle.std.specs.Prelude.{List};
     ghost use Rattle.ifmap_elem.specs.declared.readings.Declared.{Declared};
-    ghost use Rattle.ifmap_prefixes.specs.Rows.{HasLast, told};
+    ghost use Rattle.ifmap_prefixes.specs.Rows.{HasLast, index_at};
 
     ghost Value = { List Declared };
 
     ghost view = { λ d. d.rows.now };
 
-    ghost invariant = { λ d. HasLast (told d.last) d.rows.now };
+    ghost invariant = { λ d. HasLast (index_at d.last) d.rows.now };
 }
 
 impl<'a> Declarations<'a> {
@@ -77,8 +77,8 @@ fn put_row<'a>(
     index: usize,
 ) -> Result<(), NoMemory>
     ensures { OnOk result ((prefix : List ℕ) → (path : List ℕ) →
-        told last.new prefix path ≡
-        (if is_key row.now prefix path then Some index else told last.old prefix path)) }
+        index_at last.new prefix path ≡
+        (if is_key row.now prefix path then Some index else index_at last.old prefix path)) }
 {
     let prefix = row.prefix.as_str();
     let path = row.path.as_slice();
@@ -94,7 +94,7 @@ fn take_paths<'a>(
     last: &mut BTreeMap<&'a str, BTreeMap<&'a [u32], usize>>,
     prefix: &'a str,
 ) -> BTreeMap<&'a [u32], usize>
-    ensures paths { (path : List ℕ) → get_by (at_text path) result ≡ told last.old prefix.now path }
+    ensures paths { (path : List ℕ) → get_by (at_text path) result ≡ index_at last.old prefix.now path }
     ensures rest { UpdatesBy (λ x y. slice_cmp nat_cmp x.now y.now) (at_text prefix.now) last.old
         last.new None }
 {

@@ -1,7 +1,7 @@
 use Rattle.std.proofs.Common.{◌∙◌, ◌-◌, refl, subst, sym, length}
 use Rattle.std.proofs.lemmas.Result.{err_from_is_err_and}
 use Rattle.ifmap_filter.specs.Progress.{where_is}
-use Rattle.ifmap_filter.specs.Reaching.{IsRefused}
+use Rattle.ifmap_filter.specs.Reaching.{IsRefused, ReachesWhite}
 use Rattle.ifmap_filter.specs.Texts.{IsParsed}
 use Rattle.ifmap_filter.proofs.ParseLaws.{begin, ended, go_on, none_left, refused, shorter, some_left}
 use Rattle.ifmap_filter.proofs.parsing.read_filter.Goals as goal
@@ -9,21 +9,22 @@ use Rattle.ifmap_filter.proofs.parsing.read_filter.Goals as goal
 pub loop-rest-init : goal.loop-rest-init
 loop-rest-init c = (
   c.without_white-rest.utf8,
-  begin c.args.text.now c.args.scope.now c.utf8.text c.without_white-rest.result.now c.without_white-rest.utf8 c.without_white-rest.ensures,
+  subst (λ w. ReachesWhite c.args.text.now c.args.scope.now w c.without_white-rest.result.now) (sym c.new-standing.ensures)
+      (begin c.args.text.now c.args.scope.now c.utf8.text c.without_white-rest.result.now c.without_white-rest.utf8 c.without_white-rest.ensures),
 )
 
 pub loop-rest-preserved : goal.loop-rest-preserved
 loop-rest-preserved c =
-    let steps = c.in_ok-next.ensures.next in (
+    let steps = c.in_ok-left.ensures.next in (
       steps.is_text,
       go_on c.args.text.now c.args.scope.now c.utf8.text (where_is c.loop-rest.standing) c.loop-rest.rest.now c.loop-rest.invariant.0
-          c.loop-rest.invariant.1 (where_is c.in_ok-next.next) c.in_ok-next.left.now steps,
+          c.loop-rest.invariant.1 (where_is c.read_token.new.standing) c.in_ok-left.left.now steps,
     )
 
 pub loop-rest-smaller : goal.loop-rest-smaller
 loop-rest-smaller c =
-    shorter c.args.scope.now (where_is c.loop-rest.standing) (where_is c.in_ok-next.next) c.loop-rest.rest.now c.in_ok-next.left.now
-    c.loop-rest.invariant.0 c.in_ok-next.ensures.next
+    shorter c.args.scope.now (where_is c.loop-rest.standing) (where_is c.read_token.new.standing) c.loop-rest.rest.now
+    c.in_ok-left.left.now c.loop-rest.invariant.0 c.in_ok-left.ensures.next
 
 pub returns : goal.returns
 returns c =
@@ -31,12 +32,12 @@ returns c =
     c.loop-rest.invariant.1 (none_left c.loop-rest.rest.now (sym c.is_empty.ensures ∙ c.loop-rest-test.false)) (length c.args.text.now) refl
     c.whole_filter.result c.whole_filter.ensures
 
-pub returns-in_err-next : goal.returns-in_err-next
-returns-in_err-next c =
+pub returns-in_err-left : goal.returns-in_err-left
+returns-in_err-left c =
     let p = err_from_is_err_and c.from_residual.result c.from_residual.ensures.1 in
     let stuck : IsRefused c.args.scope.now (where_is c.loop-rest.standing) c.loop-rest.rest.now
-    (length c.args.text.now - length c.loop-rest.rest.now) c.in_err-next.field-0.0 =
-    c.in_err-next.ensures.refused in
+    (length c.args.text.now - length c.loop-rest.rest.now) c.in_err-left.field-0.0 =
+    c.in_err-left.ensures.refused in
     subst (IsParsed c.args.text.now c.args.scope.now) (sym p.1)
     (refused c.args.text.now c.args.scope.now c.utf8.text (where_is c.loop-rest.standing) c.loop-rest.rest.now c.loop-rest.invariant.0
     c.loop-rest.invariant.1 (some_left c.loop-rest.rest.now (sym c.is_empty.ensures ∙ c.loop-rest-test.true))

@@ -1,21 +1,21 @@
-use Rattle.std.proofs.Common.{◌≡◌, ◌∙◌, ap, inl, refl, subst, sym, Some, None}
+use Rattle.std.proofs.Common.{◌≡◌, inl, refl, subst, sym, None}
 use Rattle.std.specs.Prelude.{IfNone, IfSome, chars}
-use Rattle.std.specs.Option.{option_map}
-use Rattle.ifmap_filter.specs.Progress.{where_is}
-use Rattle.ifmap_filter.specs.Tokens.{front_token, token_at}
+use Rattle.ifmap_filter.specs.Progress.{StandsAt, step, where_is}
+use Rattle.ifmap_filter.specs.Marks.{IsFrontMark, token_of}
+use Rattle.ifmap_filter.specs.Tokens.{token_at}
 use Rattle.ifmap_filter.proofs.parsing.read_token.Goals as goal
 
 pub returns-clause-next : goal.returns-clause-next
 returns-clause-next c = record {
-  token = c.in-Some.token;
+  token = token_of c.in-Some.mark;
   after = chars c.in-Some.after.now;
-  is_there = subst (λ o. IfSome o (λ f. token_at (chars c.args.rest.now) ≡ Some (front_token f.0 (chars f.1.now)))) c.in-Some.is
-      c.in_ok-token.ensures.found;
-  steps = sym c.in_ok-next.ensures ∙ ap (option_map where_is) c.in-Some-2.is;
+  is_there = subst (λ o. IfSome o (λ f. IsFrontMark (token_at (chars c.args.rest.now)) f.0 f.1.now)) c.in-Some.is c.token_at.ensures.found;
+  steps = sym (subst (λ b. StandsAt b c.take_token.new.standing
+      (step c.args.scope.now (where_is c.args.standing.now) (token_of c.in-Some.mark))) c.if-not-allowed.false c.in_ok-allowed.ensures);
   left_is = c.without_white.ensures;
   is_text = c.without_white.utf8;
 }
 
 pub returns-in_default-clause-refused : goal.returns-in_default-clause-refused
 returns-in_default-clause-refused c =
-    (refl, inl (subst (λ o. IfNone o (token_at (chars c.args.rest.now) ≡ None)) c.in_default.is c.in_ok-token.ensures.none))
+    (refl, inl (subst (λ o. IfNone o (token_at (chars c.args.rest.now) ≡ None)) c.in_default.is c.token_at.ensures.none))

@@ -4,5 +4,5 @@ use Rattle.ifmap_filter.proofs.standing.take_done.Goals as goal
 
 pub returns-in_default : goal.returns-in_default
 returns-in_default c =
-    done_refused (context c.args.open_part) c.args.token c.in_default.not-Name c.in_default.not-CloseParenthesis
+    done_refused (context c.args.standing.now.open_part) c.args.mark c.in_default.not-Name c.in_default.not-CloseParenthesis
     c.in_default.not-CloseBracket
