@@ -5,6 +5,7 @@ ghost use Rattle.std.specs.Cmp.Rules.{comparing};
 ghost use Rattle.std.specs.Ordering.{as_partial_cmp};
 ghost use Rattle.std.proofs.Common.{rules};
 ghost use Rattle.ifmap_elem.specs.Fit.{IsFit};
+ghost use Rattle.ifmap_elem.specs.Outlines.{outline_element};
 ghost use Rattle.ifmap_ident.specs.Canon.{IsAnswer, IsIdentifier};
 ghost use Rattle.ifmap_ident.specs.Identifiers.{identifier_bytes, identifier_element, identifier_kind, identifier_order, same_identifier};
 
@@ -14,8 +15,8 @@ use crate::kinds::{IdentityType, Kind};
 use crate::ordering::compare_identifiers;
 use crate::reading::read_identifier;
 use crate::sizes::identifier_len;
-use crate::writing::write_identifier;
-use ifmap_elem::{Copied, Element, Equals, Text};
+use crate::writing::outline_identifier;
+use ifmap_elem::{Copied, Element, Equals, Outline, Text};
 use std::alloc::{AllocError as NoMemory, Global};
 use std::cmp::Ordering;
 
@@ -91,12 +92,21 @@ impl Identifier {
         }
     }
 
+    /// The identifier as an outline of its element, which borrows the texts of the identifier. The one
+    /// error is want of memory.
+    pub fn outline(&self, alloc: Global) -> Result<Outline<'_>, NoMemory>
+        ensures { IfOk result (λ outline. outline_element outline ≡ identifier_element self.now) }
+    {
+        outline_identifier(alloc, self)
+    }
+
     /// The identifier as an element, whose canonical bytes are the identifier's and which is read back
     /// as the same identifier. The one error is want of memory.
     pub fn element(&self, alloc: Global) -> Result<Element, NoMemory>
         ensures { IfOk result (λ element. element ≡ identifier_element self.now) }
     {
-        write_identifier(alloc, self)
+        let outline = self.outline(alloc)?;
+        outline.element(alloc)
     }
 
     /// Which of the five elements the identifier is. It takes no memory.

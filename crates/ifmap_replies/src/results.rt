@@ -1,5 +1,6 @@
 //! Results, as outlines of their elements.
 ghost use Rattle.std.specs.Prelude.{◌≡◌, ◌∷◌, [], codes, map, IfOk};
+ghost use Rattle.std.specs.Option.{option_copied};
 ghost use Rattle.ifmap_lemmas.specs.Numerals.{numeral};
 ghost use Rattle.ifmap_replies.specs.Results.{as_children, error_element, name_attribute, name_attributes, new_session_element, plain_element, poll_element, result_element, text_children, told_element};
 ghost use Rattle.ifmap_elem.specs.Building.{bare_attribute};
@@ -8,7 +9,7 @@ ghost use Rattle.ifmap_ident.specs.Codes.{code_name};
 
 use crate::replies::Reply;
 use crate::runs::entry_pieces;
-use ifmap_elem::{Attribute, Copied, Outline, Piece, Text};
+use ifmap_elem::{Outline, OutlineAttribute, Piece, Text};
 use ifmap_ident::Code;
 use ifmap_search::{Entry, PollItem};
 use itoa::Buffer;
@@ -37,7 +38,7 @@ pub(crate) fn result_of<'a>(alloc: Global, reply: &'a Reply) -> Result<Outline<'
             let pieces = poll_pieces(alloc, items.as_slice())?;
             Ok(plain_result(alloc, "pollResult", pieces))
         }
-        Reply::Error { code, note } => error_result(alloc, *code, &None, note),
+        Reply::Error { code, note } => error_result(alloc, *code, None, note),
     }
 }
 
@@ -57,17 +58,17 @@ fn plain_result<'a>(alloc: Global, local: &'a str, pieces: Vec<Piece<'a>>) -> Ou
 
 fn new_session_result<'a>(
     alloc: Global,
-    session: &Text,
-    publisher: &Text,
+    session: &'a Text,
+    publisher: &'a Text,
     limit: u32,
 ) -> Result<Outline<'a>, NoMemory>
     ensures { IfOk result (λ outline.
         outline_element outline ≡ new_session_element session.now publisher.now limit) }
 {
     let attributes = vec![in alloc;
-        Attribute::bare(alloc, "ifmap-publisher-id", publisher.copy(alloc)?)?,
-        Attribute::bare(alloc, "max-poll-result-size", decimal_text(alloc, limit)?)?,
-        Attribute::bare(alloc, "session-id", session.copy(alloc)?)?,
+        OutlineAttribute::from_str("ifmap-publisher-id", publisher.as_str()),
+        OutlineAttribute::from_text("max-poll-result-size", decimal_text(alloc, limit)?),
+        OutlineAttribute::from_str("session-id", session.as_str()),
     ]?;
     Ok(Outline::bare("newSessionResult", attributes, Vec::new(alloc)))
 }
@@ -108,7 +109,7 @@ fn poll_result<'a>(alloc: Global, item: &'a PollItem) -> Result<Outline<'a>, NoM
         PollItem::Notify { name, entries } => {
             told_result(alloc, "notifyResult", name, entries.as_slice())
         }
-        PollItem::Error { name, code, note } => error_result(alloc, *code, name, note),
+        PollItem::Error { name, code, note } => error_result(alloc, *code, name.as_ref(), note),
     }
 }
 
@@ -116,32 +117,32 @@ fn poll_result<'a>(alloc: Global, item: &'a PollItem) -> Result<Outline<'a>, NoM
 fn told_result<'a>(
     alloc: Global,
     local: &'a str,
-    name: &Text,
+    name: &'a Text,
     entries: &'a [Entry],
 ) -> Result<Outline<'a>, NoMemory>
     ensures { IfOk result (λ outline.
         outline_element outline ≡ told_element local.now name.now entries.now) }
 {
-    let attributes = vec![in alloc; name_attribute(alloc, name)?]?;
+    let attributes = vec![in alloc; name_attribute(name)]?;
     let pieces = entry_pieces(alloc, entries)?;
     Ok(Outline::bare(local, attributes, pieces))
 }
 
-fn name_attribute(alloc: Global, name: &Text) -> Result<Attribute, NoMemory>
-    ensures { IfOk result (λ attribute. attribute ≡ name_attribute name.now) }
+fn name_attribute<'a>(name: &'a Text) -> OutlineAttribute<'a>
+    ensures { result ≡ name_attribute name.now }
 {
-    Attribute::bare(alloc, "name", name.copy(alloc)?)
+    OutlineAttribute::from_str("name", name.as_str())
 }
 
 // The result of an error, under the name of a subscription where there is one.
 fn error_result<'a>(
     alloc: Global,
     code: Code,
-    name: &Option<Text>,
+    name: Option<&'a Text>,
     note: &'a Text,
 ) -> Result<Outline<'a>, NoMemory>
     ensures { IfOk result (λ outline.
-        outline_element outline ≡ error_element code name.now note.now) }
+        outline_element outline ≡ error_element code (option_copied name.entry) note.now) }
 {
     let attributes = error_attributes(alloc, code, name)?;
     let string = Outline::bare("errorString", Vec::new(alloc), text_pieces(alloc, note)?);
@@ -149,18 +150,19 @@ fn error_result<'a>(
     Ok(Outline::bare("errorResult", attributes, pieces))
 }
 
-fn error_attributes(
+fn error_attributes<'a>(
     alloc: Global,
     code: Code,
-    name: &Option<Text>,
-) -> Result<Vec<Attribute>, NoMemory>
+    name: Option<&'a Text>,
+) -> Result<Vec<OutlineAttribute<'a>>, NoMemory>
     ensures { IfOk result (λ attributes. attributes.items
-        ≡ bare_attribute (codes "errorCode") (code_name code) ∷ name_attributes name.now) }
+        ≡ bare_attribute (codes "errorCode") (code_name code)
+        ∷ name_attributes (option_copied name.entry)) }
 {
-    let code = Attribute::bare(alloc, "errorCode", Text::from_str(alloc, code.name())?)?;
-    let mut attributes = vec![in alloc; code]?;
+    let mut attributes = Vec::with_capacity(alloc, 2)?;
+    attributes.push(OutlineAttribute::from_str("errorCode", code.name()))?;
     if let Some(name) = name {
-        attributes.push(name_attribute(alloc, name)?)?;
+        attributes.push(name_attribute(name))?;
     }
     Ok(attributes)
 }

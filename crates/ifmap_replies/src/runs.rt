@@ -19,7 +19,8 @@ pub struct Run {
     pub elements: Many<SharedElement>,
 }
 
-// The `resultItem`s of entries. Each entry is compared with the one before it alone.
+// The `resultItem`s of entries, at most one for each. An entry is compared with the one before it
+// alone.
 pub(crate) fn entry_pieces<'a>(
     alloc: Global,
     entries: &'a [Entry],
@@ -27,7 +28,7 @@ pub(crate) fn entry_pieces<'a>(
     ensures { IfOk result (λ pieces.
         map outline_child pieces.items ≡ entry_children entries.now) }
 {
-    let mut pieces = Vec::new(alloc);
+    let mut pieces = Vec::with_capacity(alloc, entries.len())?;
     let mut rest = entries;
     while let Some((first, others)) = rest.split_first() {
         let length = run_length(first, others);
@@ -72,8 +73,7 @@ fn run_outline<'a>(
 {
     let elements = element_pieces(alloc, first, others)?;
     let metadata = Outline::bare("metadata", Vec::new(alloc), elements);
-    let mut pieces = identifier_pieces(alloc, first.item.item())?;
-    pieces.push(metadata.inside())?;
+    let pieces = item_pieces(alloc, first.item.item(), metadata)?;
     Ok(Outline::bare("resultItem", Vec::new(alloc), pieces))
 }
 
@@ -103,15 +103,25 @@ fn push_element<'a>(entry: &'a Entry, pieces: &mut Vec<Piece<'a>>) -> Result<(),
     Ok(())
 }
 
-fn identifier_pieces<'a>(alloc: Global, item: &Item) -> Result<Vec<Piece<'a>>, NoMemory>
+// The identifiers of an item, and `metadata` after them.
+fn item_pieces<'a>(
+    alloc: Global,
+    item: &'a Item,
+    metadata: Outline<'a>,
+) -> Result<Vec<Piece<'a>>, NoMemory>
     ensures { IfOk result (λ pieces. map outline_child pieces.items
-        ≡ as_children (map identifier_element (identifiers_of item.now))) }
+        ≡ as_children (map identifier_element (identifiers_of item.now)
+        ++ outline_element metadata.entry ∷ [])) }
 {
     match item {
-        Item::One(identifier) => Ok(vec![in alloc; Piece::own(identifier.element(alloc)?)]?),
-        Item::Pair(first, second) => Ok(vec![in alloc;
-            Piece::own(first.element(alloc)?),
-            Piece::own(second.element(alloc)?),
-        ]?),
+        Item::One(identifier) => {
+            let identifier = identifier.outline(alloc)?;
+            Ok(vec![in alloc; identifier.inside(), metadata.inside()]?)
+        }
+        Item::Pair(first, second) => {
+            let first = first.outline(alloc)?;
+            let second = second.outline(alloc)?;
+            Ok(vec![in alloc; first.inside(), second.inside(), metadata.inside()]?)
+        }
     }
 }

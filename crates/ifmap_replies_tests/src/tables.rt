@@ -19,7 +19,7 @@ fn body_of(alloc: Global, inner: &str) -> Result<String, NoMemory> {
 }
 
 // A root with the prefixes of the tables, and what stands after them.
-fn declaring(alloc: Global, root: &str, rest: &str) -> Result<String, NoMemory> {
+fn root_with(alloc: Global, root: &str, rest: &str) -> Result<String, NoMemory> {
     let mut body = String::from_str(alloc, root)?;
     body.push_str(DECLARATIONS)?;
     body.push_str(rest)?;
@@ -130,7 +130,7 @@ fn other_elements_are_no_replies(rt: HostRuntime) -> Result<(), Fail> {
 fn other_bodies_are_no_replies(rt: HostRuntime) -> Result<(), Fail> {
     let alloc = rt.alloc();
     for (root, rest) in &judged::NO_RESPONSE {
-        let body = declaring(alloc, root, rest)?;
+        let body = root_with(alloc, root, rest)?;
         assert!(rt; is_refused(alloc, body.as_str()), "{rest}");
     }
     Ok(())

@@ -42,7 +42,7 @@ fn role(alloc: Global) -> Result<Element, NoMemory> {
     })
 }
 
-fn found(alloc: Global) -> Result<Reply, NoMemory> {
+fn search_reply(alloc: Global) -> Result<Reply, NoMemory> {
     let item = Item::One(Identifier::MacAddress {
         value: [0, 0, 0x5e, 0, 0x53, 1],
         domain: Text::new(alloc),
@@ -54,7 +54,7 @@ fn found(alloc: Global) -> Result<Reply, NoMemory> {
     Ok(Reply::Found(Many(vec![in alloc; entry]?)))
 }
 
-fn begun(alloc: Global) -> Result<Reply, NoMemory> {
+fn session_reply(alloc: Global) -> Result<Reply, NoMemory> {
     Ok(Reply::NewSession {
         session: Text::from_str(alloc, SESSION)?,
         publisher: Text::from_str(alloc, "c1")?,
@@ -62,7 +62,7 @@ fn begun(alloc: Global) -> Result<Reply, NoMemory> {
     })
 }
 
-fn refused(alloc: Global) -> Result<Reply, NoMemory> {
+fn error_reply(alloc: Global) -> Result<Reply, NoMemory> {
     Ok(Reply::Error {
         code: Code::InvalidSessionID,
         note: Text::from_str(alloc, "InvalidSessionID")?,
@@ -92,7 +92,7 @@ fn is_written(alloc: Global, reply: &Reply, bytes: &str) -> Result<bool, NoMemor
 fn a_session_begins_in_311_bytes(rt: HostRuntime) -> Result<(), Fail> {
     let alloc = rt.alloc();
     assert_eq!(rt; BEGUN.len(), 311);
-    assert!(rt; is_written(alloc, &begun(alloc)?, BEGUN)?);
+    assert!(rt; is_written(alloc, &session_reply(alloc)?, BEGUN)?);
     Ok(())
 }
 
@@ -108,7 +108,7 @@ fn a_session_ends_in_204_bytes(rt: HostRuntime) -> Result<(), Fail> {
 fn an_unknown_session_is_refused_in_284_bytes(rt: HostRuntime) -> Result<(), Fail> {
     let alloc = rt.alloc();
     assert_eq!(rt; REFUSED.len(), 284);
-    assert!(rt; is_written(alloc, &refused(alloc)?, REFUSED)?);
+    assert!(rt; is_written(alloc, &error_reply(alloc)?, REFUSED)?);
     Ok(())
 }
 
@@ -116,6 +116,6 @@ fn an_unknown_session_is_refused_in_284_bytes(rt: HostRuntime) -> Result<(), Fai
 fn a_role_is_found_in_497_bytes(rt: HostRuntime) -> Result<(), Fail> {
     let alloc = rt.alloc();
     assert_eq!(rt; FOUND.len(), 497);
-    assert!(rt; is_written(alloc, &found(alloc)?, FOUND)?);
+    assert!(rt; is_written(alloc, &search_reply(alloc)?, FOUND)?);
     Ok(())
 }
