@@ -5,7 +5,7 @@ use Rattle.std.proofs.lemmas.Grind.{flat_map-append}
 use Rattle.std.proofs.lemmas.List.{append-nil, take_more}
 use Rattle.std.proofs.lemmas.List.Elements.{filter-append}
 use Rattle.ifmap_elem.specs.declared.elements.Attribute.{Attribute}
-use Rattle.ifmap_meta.specs.KeyWords.{attribute_characters, mix_all}
+use Rattle.ifmap_meta.specs.KeyWords.{attribute_parts, mix_all}
 use Rattle.ifmap_meta.specs.Stamps.{is_stamp, without_stamps}
 use Rattle.ifmap_meta.specs.laws.KeyWordLaws.{mix_append}
 
@@ -40,19 +40,19 @@ content_more xs i x l at =
     ap without_stamps (take_more xs i x l ∙ ap (λ y. take i xs ++ y ∷ []) (sym at)) ∙ filter-append is_content (take i xs) (x ∷ [])
 
 module _ (word : ℕ) (xs : List Attribute) (i : ℕ) (x : Attribute) (m n : ℕ) (l : i < length xs) (at : x ≡ get_or xs i x)
-    (e : m ≡ mix_all word (flat_map attribute_characters (without_stamps (take i xs)))) where
+    (e : m ≡ mix_all word (flat_map attribute_parts (without_stamps (take i xs)))) where
   abbrev IsMixed : ℕ → Type 0
-  IsMixed k = k ≡ mix_all word (flat_map attribute_characters (without_stamps (take (i + 1) xs)))
+  IsMixed k = k ≡ mix_all word (flat_map attribute_parts (without_stamps (take (i + 1) xs)))
 
-  pub content_mixed : is_stamp x ≡ false → n ≡ mix_all m (attribute_characters x) → IsMixed n
+  pub content_mixed : is_stamp x ≡ false → n ≡ mix_all m (attribute_parts x) → IsMixed n
   content_mixed not_stamp g =
       let one : without_stamps (x ∷ []) ≡ x ∷ [] = rw not_stamp refl in
-      goes_on attribute_characters word (without_stamps (take i xs)) x m n e g
-      ∙ ap (λ ys. mix_all word (flat_map attribute_characters ys))
+      goes_on attribute_parts word (without_stamps (take i xs)) x m n e g
+      ∙ ap (λ ys. mix_all word (flat_map attribute_parts ys))
       (sym (content_more xs i x l at ∙ ap (λ ys. without_stamps (take i xs) ++ ys) one))
 
   pub stamp_passed : is_stamp x ≡ true → n ≡ m → IsMixed n
   stamp_passed stamp g =
       let none : without_stamps (x ∷ []) ≡ [] = rw stamp refl in
-      g ∙ e ∙ ap (λ ys. mix_all word (flat_map attribute_characters ys))
+      g ∙ e ∙ ap (λ ys. mix_all word (flat_map attribute_parts ys))
       (sym (content_more xs i x l at ∙ ap (λ ys. without_stamps (take i xs) ++ ys) none ∙ append-nil (without_stamps (take i xs))))

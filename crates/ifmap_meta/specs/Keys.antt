@@ -1,12 +1,13 @@
 -- Which stored elements take each other's place on an item (IF-MAP binding for SOAP, version 2.2: `singleValue`
 -- and `multiValue`, and IF-MAP Metadata for Network Security, version 1.1, whose elements say one of them).
-use Rattle.std.specs.Prelude.{◌≡◌, ◌⊎◌, ℕ, List, Bool, IsTrue, ◌&&◌, ◌||◌}
+use Rattle.std.specs.Prelude.{◌≡◌, ◌⊎◌, ℕ, List, [], Bool, cond, IsTrue, ◌&&◌, ◌||◌}
 use Rattle.std.specs.Str.{bytes_eq}
 use Rattle.std.proofs.Math.Bool.{beq}
 use Rattle.ifmap_elem.specs.declared.elements.Element.{Element}
 use Rattle.ifmap_elem.specs.Canonical.{canonical_bytes}
 use Rattle.ifmap_meta.specs.declared.stored.Stored.{Stored}
 use Rattle.ifmap_meta.specs.Cardinality.{is_single}
+use Rattle.ifmap_meta.specs.KeyWords.{ended, key_word, mix_all}
 use Rattle.ifmap_meta.specs.Stamps.{content_of}
 
 -- the canonical bytes of an element's content
@@ -26,3 +27,7 @@ same_key a b = same_type a.element b.element && (is_single a.element ||
 abbrev pub HaveOneKey : Stored → Stored → Type 0
 HaveOneKey a b = IsTrue (same_type a.element b.element) × (IsTrue (is_single a.element)
     ⊎ ((a.publisher ≡ b.publisher) × (content_of a.element ≡ content_of b.element)))
+
+-- a number for each key: of the element's word, and where there may be many, of the publisher
+unfoldable pub word_of : Stored → ℕ
+word_of s = mix_all (key_word s.element) (cond (is_single s.element) [] (ended s.publisher))

@@ -2,10 +2,11 @@
 ghost use Rattle.std.specs.Prelude.{◌≡◌, ◌≢◌, ◌↔◌, ◌∷◌, IsTrue, List, MatchOption};
 ghost use Rattle.std.specs.List.{list_all};
 ghost use Rattle.ifmap_elem.specs.declared.elements.Attribute.{Attribute};
-ghost use Rattle.ifmap_meta.specs.Keys.{HaveOneKey, same_key, same_type};
+ghost use Rattle.ifmap_meta.specs.Keys.{HaveOneKey, same_key, same_type, word_of};
 ghost use Rattle.ifmap_meta.specs.Stamps.{content_of, is_stamp, without_stamps};
 ghost use Rattle.ifmap_meta.specs.Whole.{IsWhole};
 
+use crate::key_words::mix_text;
 use crate::metadata::is_single;
 use crate::stored::{Stored, is_stamp};
 use ifmap_elem::{Attribute, Element, Equals};
@@ -20,6 +21,18 @@ impl Stored {
             result ≡ same_key self.now other.now }
     {
         have_one_key(self, other)
+    }
+
+    /// A number that is the same for the same key. It takes no memory.
+    #[tactic(auto, unfolding(crate::specs::Keys::word_of))]
+    pub fn key_word(&self) -> u64
+        ensures { result ≡ word_of self.now }
+    {
+        let word = self.element.word();
+        if is_single(self.element.element()) {
+            return word;
+        }
+        mix_text(word, self.publisher.text().as_bytes())
     }
 }
 

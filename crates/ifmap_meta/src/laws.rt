@@ -6,9 +6,10 @@ ghost use Rattle.ifmap_elem.specs.Nesting.{nesting};
 ghost use Rattle.ifmap_elem.specs.declared.elements.Element.{Element};
 ghost use Rattle.ifmap_meta.specs.declared.metadata.Metadata.{Metadata};
 ghost use Rattle.ifmap_meta.specs.declared.stored.Life.{Life};
+ghost use Rattle.ifmap_meta.specs.declared.stored.Stored.{Stored};
 ghost use Rattle.ifmap_meta.specs.Cardinality.{cardinality_of};
 ghost use Rattle.ifmap_meta.specs.ClientNames.{IsClientName};
-ghost use Rattle.ifmap_meta.specs.Keys.{content_bytes};
+ghost use Rattle.ifmap_meta.specs.Keys.{HaveOneKey, content_bytes, word_of};
 ghost use Rattle.ifmap_meta.specs.Stamps.{is_stamp, stamp, stamps};
 ghost use Rattle.ifmap_meta.specs.Stored.{stored_as};
 ghost use Rattle.ifmap_meta.specs.Whole.{IsMadeOf, IsMetadata, IsWhole, level_limit};
@@ -42,4 +43,9 @@ pub fn stamping_keeps_what_keys_compare()
         → (stamp publisher moment element).name ≡ element.name }
     ensures cardinality { (publisher : List ℕ) (moment : ℕ) (element : Element)
         → cardinality_of (stamp publisher moment element) ≡ cardinality_of element }
+{}
+
+/// What has one key has one word.
+pub fn words_of_one_key_agree()
+    ensures { (one other : Stored) → HaveOneKey one other → word_of one ≡ word_of other }
 {}

@@ -14,7 +14,7 @@ use std::sync::Arc;
 struct Printed {
     element: Element,
     bytes: Many<u8>,
-    // The word of its key, where it is stored.
+    // The word of its key, where it is stored, but for its publisher.
     word: u64,
     ghost printed: { bytes ≡ canonical_bytes element },
     ghost worded: { word ≡ key_word element },
@@ -73,7 +73,7 @@ impl SharedElement {
         self.0.bytes.as_slice()
     }
 
-    // The word of its key, where it is stored. It takes no memory.
+    // The word of its key, where it is stored, but for its publisher. It takes no memory.
     pub(crate) fn word(&self) -> u64
         ensures { result ≡ key_word self.now }
     {

@@ -89,6 +89,21 @@ fn keys_are_of_type_and_for_many_of_publisher_and_content(rt: HostRuntime) -> Re
     Ok(())
 }
 
+fn have_one_word(alloc: Global, case: &Case) -> Option<bool> {
+    let one = stored_of(alloc, case.one, "c1")?;
+    let other = stored_of(alloc, case.other, case.client)?;
+    Some(one.key_word() == other.key_word())
+}
+
+#[test]
+fn these_keys_have_words_of_their_own(rt: HostRuntime) -> Result<(), Fail> {
+    let alloc = rt.alloc();
+    for (i, case) in CASES.iter().enumerate() {
+        assert!(rt; have_one_word(alloc, case) == Some(case.wanted), "{i}");
+    }
+    Ok(())
+}
+
 fn are_of_one_type(alloc: Global, one: &str, other: &str) -> Option<bool> {
     let one = element_of(alloc, one)?;
     let other = element_of(alloc, other)?;

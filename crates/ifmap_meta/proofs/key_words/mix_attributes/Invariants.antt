@@ -1,7 +1,7 @@
 use Rattle.std.proofs.Common.{◌≡◌, take}
 use Rattle.std.specs.List.{flat_map}
-use Rattle.ifmap_meta.specs.KeyWords.{attribute_characters, mix_all}
+use Rattle.ifmap_meta.specs.KeyWords.{attribute_parts, mix_all}
 use Rattle.ifmap_meta.proofs.key_words.mix_attributes.Given as goal
 
 abbrev pub invariant-loop-attribute : goal.invariant-loop-attribute
-invariant-loop-attribute l = l.mixed ≡ mix_all l.word (flat_map attribute_characters (take l.attribute-index l.attributes))
+invariant-loop-attribute l = l.mixed ≡ mix_all l.word (flat_map attribute_parts (take l.attribute-index l.attributes))
