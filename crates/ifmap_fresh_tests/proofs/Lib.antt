@@ -4,3 +4,4 @@ pub mod Finding
 pub mod Graphs
 pub mod Viewed
 pub mod NextItems
+pub mod Looked

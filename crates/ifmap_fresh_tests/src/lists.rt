@@ -7,10 +7,11 @@ ghost use Rattle.ifmap_fresh_tests.specs.Lists.{AreLists, links_in, rows_of};
 
 use crate::checking::are_sound;
 use crate::linking::{count_links, link_in, stored_linked};
-use crate::looking::{number_of, stored_on_one, stored_on_pair};
+use crate::looking::{number_of, row_with_key_among, stored_on_one, stored_on_pair};
 use crate::shelves::Shelf;
 use ifmap_ident::laws::bytes_tell_identifiers_apart;
 use ifmap_ident::{Identifier, Item};
+use ifmap_rows::Keyed;
 use ifmap_steps::Steps;
 use ifmap_view::{LinkSeen, Row, View};
 use std::marker::Model;
@@ -96,5 +97,11 @@ impl View for Lists {
 
     fn link_stored(&self, seen: LinkSeen) -> &[Row] {
         stored_linked(&self.names, &self.shelves, seen.at, seen.other)
+    }
+}
+
+impl Keyed for Lists {
+    fn row_with_key(&self, item: &Item, row: &Row) -> Option<&Row> {
+        row_with_key_among(self.stored_at(item), row)
     }
 }

@@ -1,8 +1,9 @@
 //! Looking for identifiers and shelves.
-ghost use Rattle.std.specs.Prelude.{◌≡◌, ℕ, true, Some, IfSome};
-ghost use Rattle.std.specs.List.{slice_get};
+ghost use Rattle.std.specs.Prelude.{◌≡◌, ℕ, true, Some, Contains, IfNone, IfSome};
+ghost use Rattle.std.specs.List.{AllByRecursion, slice_get};
 ghost use Rattle.ifmap_ident.specs.declared.items.Item.TheVariants.{One, Pair};
 ghost use Rattle.ifmap_ident.specs.Items.{same_item};
+ghost use Rattle.ifmap_meta.specs.Keys.{HaveOneKey};
 ghost use Rattle.ifmap_view.specs.Rows.{stored_on};
 ghost use Rattle.ifmap_fresh_tests.specs.Lists.{all_pairs, differ, item_below, rows_of};
 
@@ -75,4 +76,18 @@ fn is_pair(item: &Item, first: &Identifier, second: &Identifier) -> bool
         Item::One(_) => false,
         Item::Pair(a, b) => a == first && b == second,
     }
+}
+
+// The first row that has the key of this one.
+pub(crate) fn row_with_key_among<'a>(rows: &'a [Row], row: &Row) -> Option<&'a Row>
+    ensures found { IfSome result (λ found.
+        Contains rows.now found.now × HaveOneKey row.now found.now) }
+    ensures none { IfNone result (AllByRecursion (λ s. HaveOneKey row.now s → ⊥) rows.now) }
+{
+    for other in rows {
+        if row.stored().same_key(other.stored()) {
+            return Some(other);
+        }
+    }
+    None
 }

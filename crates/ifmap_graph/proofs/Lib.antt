@@ -5,6 +5,7 @@ pub mod Passing
 pub mod Following
 pub mod Alike
 pub mod Writes
+pub mod Again
 pub mod Graphs
 pub mod Viewed
 pub mod Leaving

@@ -14,7 +14,7 @@ use Rattle.ifmap_ident.specs.Items.{item_order, items_tie, same_item}
 use Rattle.ifmap_meta.specs.declared.stored.Stored.{Stored}
 use Rattle.ifmap_plans.specs.declared.plans.ItemChange.{ItemChange}
 use Rattle.ifmap_plans.specs.Lists.{next_on}
-use Rattle.ifmap_plans.specs.Plans.{Fits, FitsItem, IsAfter, after_on, change_of, changed_by}
+use Rattle.ifmap_plans.specs.Plans.{Fits, IsAfter, after_on, change_of, changed_by}
 use Rattle.ifmap_view.specs.declared.attachments.Attachment.{Attachment}
 use Rattle.ifmap_view.specs.Rows.{stored_on}
 use Rattle.ifmap_graph.specs.declared.shelves.Shelves.{Shelves}
@@ -145,9 +145,6 @@ module _ (changes : List ItemChange) (first : Shelves) where
         (subst (λ (x : ItemChange). IsSome (place_of first x.item)) (sym is)
         (all_at_place (λ (x : ItemChange). IsSome (place_of first x.item)) changes i c h
         (mapped_all (λ x. IsSome (place_of first x)) (λ (x : ItemChange). x.item) changes all)))
-
-    pub fits_at : Fits (rows_of now first) changes → FitsItem (rows_of now first) c
-    fits_at fits = subst (FitsItem (rows_of now first)) (sym is) (all_at_place (FitsItem (rows_of now first)) changes i c h fits.each)
 
     pub within_on : (t : Shelves) → ((x : Item) → HasDraft t x → HasDraft s x ⊎ (is_at (item_order c.item) x ≡ true))
         → DraftsWithin (items_of changes) t

@@ -1,5 +1,6 @@
 -- The inside of a graph, in reading order.
 pub mod Sides
+pub mod Lagging
 pub mod Shelved
 pub mod After
 pub mod Named

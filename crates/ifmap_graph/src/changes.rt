@@ -1,8 +1,9 @@
 //! Changes that are out, and changes that can be taken back.
+use crate::row_lists::RowList;
 use crate::ways::Way;
 use ifmap_elem::Many;
 use ifmap_plans::Plan;
-use ifmap_view::{LinkSeen, Row};
+use ifmap_view::LinkSeen;
 
 /// A change that is out: all memory that it needs is taken.
 #[derive(Drop)]
@@ -10,7 +11,7 @@ pub struct Ready {
     /// What changes.
     pub plan: Plan,
     /// Room for the list that gives way, for each item of the plan.
-    pub lists: Many<Many<Row>>,
+    pub lists: Many<RowList>,
     /// The numbers whose links come or go.
     pub ways: Many<Way<LinkSeen>>,
 }
@@ -21,7 +22,7 @@ pub struct Undo {
     /// What changed.
     pub plan: Plan,
     /// The list that was there, for each item of the plan.
-    pub lists: Many<Many<Row>>,
+    pub lists: Many<RowList>,
     /// The numbers whose links came or went, with those that were there.
     pub ways: Many<Way<LinkSeen>>,
 }

@@ -1,11 +1,12 @@
-//! What changes in one shelf: its draft, its list, and how often it is waited for. No call takes
-//! memory.
-ghost use Rattle.std.specs.Prelude.{◌≡◌, ◌⊎◌, ℕ, ◌+◌, ◌-◌, ◌<◌, ◌^◌, [], ◌∷◌, true, false, Some, None, IsSome, if◌then◌else◌};
+//! What changes in one shelf: its draft, its list, and how often it is waited for. Only `make_next`
+//! takes memory.
+ghost use Rattle.std.specs.Prelude.{◌≡◌, ◌⊎◌, ℕ, ◌+◌, ◌-◌, ◌<◌, ◌^◌, [], ◌∷◌, true, false, Some, None, IfOk, IsSome, if◌then◌else◌};
 ghost use Rattle.std.specs.BTreeMap.{is_at};
 ghost use Rattle.slab.specs.Slab.{get, with_value};
 ghost use Rattle.ifmap_ident.specs.declared.items.Item.{Item};
 ghost use Rattle.ifmap_ident.specs.Items.{item_order};
 ghost use Rattle.ifmap_meta.specs.declared.stored.Stored.{Stored};
+ghost use Rattle.ifmap_plans.specs.Lists.{next_on};
 ghost use Rattle.ifmap_view.specs.Rows.{stored_on};
 ghost use Rattle.ifmap_graph.specs.declared.shelves.Shelf.{Shelf};
 ghost use Rattle.ifmap_graph.specs.Drafted.{AreBare, ends_at};
@@ -13,27 +14,46 @@ ghost use Rattle.ifmap_graph.specs.Shelved.{AreShelved, HasDraft, HasNoDraft, pl
 ghost use Rattle.ifmap_graph.specs.Sides.{next, now};
 ghost use Rattle.ifmap_graph.specs.Waits.{WaitsFor, waits_on};
 
+use crate::row_lists::RowList;
 use crate::shelves::{Shelf, Shelves};
 use ifmap_ident::Item;
-use ifmap_view::Row;
+use ifmap_plans::ItemChange;
 use slab::Slab;
+use std::alloc::{AllocError as NoMemory, Global};
+
+// The slot's list after a change, for which what lags behind it may be used up.
+fn make_next_at(
+    slots: &mut Slab<Shelf>,
+    at: usize,
+    alloc: Global,
+    change: &ItemChange,
+) -> Result<Box<RowList>, NoMemory>
+    requires { IsSome (get slots.old at) }
+    ensures next { (s : Shelf) → get slots.old at ≡ Some s → IfOk result (λ list. list.value
+        ≡ next_on change.now.removed change.now.added s.stored.now) }
+    ensures slots { (s : Shelf) → get slots.old at ≡ Some s
+        → slots.new ≡ with_value slots.old at s }
+{
+    let shelf = &mut slots[at];
+    shelf.stored.make_next(alloc, change)
+}
 
 // The draft of a slot's list.
-fn propose_at(slots: &mut Slab<Shelf>, at: usize, list: Vec<Row>)
+fn propose_at(slots: &mut Slab<Shelf>, at: usize, list: Box<RowList>)
     requires { IsSome (get slots.old at) }
     ensures { (s : Shelf) → get slots.old at ≡ Some s → slots.new ≡ with_value slots.old at
-        (record s { stored = record s.stored { draft = Some list.items } }) }
+        (record s { stored = record s.stored { draft = Some list.value } }) }
 {
     let shelf = &mut slots[at];
     shelf.stored.propose(list);
 }
 
 // The slot's draft takes its list's place. Gives the list that was.
-fn accept_at(slots: &mut Slab<Shelf>, at: usize) -> Vec<Row>
+fn accept_at(slots: &mut Slab<Shelf>, at: usize) -> RowList
     requires { (s : Shelf) × (get slots.old at ≡ Some s) × IsSome s.stored.draft }
     ensures slots { (s : Shelf) → get slots.old at ≡ Some s → slots.new ≡ with_value slots.old at
         (record s { stored = record { now = next s.stored; draft = None } }) }
-    ensures old { (s : Shelf) → get slots.old at ≡ Some s → result.items ≡ s.stored.now }
+    ensures old { (s : Shelf) → get slots.old at ≡ Some s → result ≡ s.stored.now }
 {
     let shelf = &mut slots[at];
     shelf.stored.accept()
@@ -50,11 +70,11 @@ fn discard_at(slots: &mut Slab<Shelf>, at: usize)
 }
 
 // The slot's list changes places with another.
-fn exchange_at(slots: &mut Slab<Shelf>, at: usize, list: &mut Vec<Row>)
+fn exchange_at(slots: &mut Slab<Shelf>, at: usize, list: &mut RowList)
     requires { IsSome (get slots.old at) }
     ensures slots { (s : Shelf) → get slots.old at ≡ Some s → slots.new ≡ with_value slots.old at
-        (record s { stored = record s.stored { now = list.old.items } }) }
-    ensures old { (s : Shelf) → get slots.old at ≡ Some s → list.new.items ≡ s.stored.now }
+        (record s { stored = record s.stored { now = list.old } }) }
+    ensures old { (s : Shelf) → get slots.old at ≡ Some s → list.new ≡ s.stored.now }
 {
     let shelf = &mut slots[at];
     shelf.stored.exchange(list);
@@ -83,14 +103,31 @@ fn unwait_at(slots: &mut Slab<Shelf>, at: usize) -> u64
 }
 
 impl Shelves {
+    /// What is stored after a change on its item, which has a shelf. The one error is want of memory.
+    pub fn make_next(
+        &mut self,
+        alloc: Global,
+        change: &ItemChange,
+    ) -> Result<Box<RowList>, NoMemory>
+        requires shelved { AreShelved self.old }
+        requires there { IsSome (place_of self.old change.now.item) }
+        ensures next { IfOk result (λ list. list.value
+            ≡ next_on change.now.removed change.now.added
+            (stored_on change.now.item (rows_of now self.old))) }
+        ensures same { self.new ≡ self.old }
+    {
+        let at = self.places[&change.item];
+        make_next_at(&mut self.slots, at, alloc, change)
+    }
+
     /// What is to be stored on an item that has a shelf.
-    pub fn propose(&mut self, item: &Item, list: Vec<Row>)
+    pub fn propose(&mut self, item: &Item, list: Box<RowList>)
         requires shelved { AreShelved self.old }
         requires there { IsSome (place_of self.old item.now) }
         ensures shelved { AreShelved self.new }
         ensures now { rows_of now self.new ≡ rows_of now self.old }
         ensures next { (x : Item) → stored_on x (rows_of next self.new)
-            ≡ (if is_at (item_order item.now) x then list.items
+            ≡ (if is_at (item_order item.now) x then list.value
             else stored_on x (rows_of next self.old)) }
         ensures drafts { (x : Item) → HasDraft self.new x
             → HasDraft self.old x ⊎ (is_at (item_order item.now) x ≡ true) }
@@ -105,7 +142,7 @@ impl Shelves {
     }
 
     /// What was to be stored on an item that has a draft is stored. Gives the list that was.
-    pub fn accept(&mut self, item: &Item) -> Vec<Row>
+    pub fn accept(&mut self, item: &Item) -> RowList
         requires shelved { AreShelved self.old }
         requires drafted { HasDraft self.old item.now }
         ensures shelved { AreShelved self.new }
@@ -113,7 +150,7 @@ impl Shelves {
         ensures now { (x : Item) → stored_on x (rows_of now self.new)
             ≡ stored_on x (if is_at (item_order item.now) x then rows_of next self.old
             else rows_of now self.old) }
-        ensures old { result.items ≡ stored_on item.now (rows_of now self.old) }
+        ensures old { result ≡ stored_on item.now (rows_of now self.old) }
         ensures drafts { (x : Item) → HasDraft self.new x
             → HasDraft self.old x × (is_at (item_order item.now) x ≡ false) }
         ensures kept { (x : Item) → is_at (item_order item.now) x ≡ false → HasDraft self.old x
@@ -182,17 +219,17 @@ impl Shelves {
     }
 
     /// Exchanges what is stored on an item, whose shelf has no draft, with another list.
-    pub fn exchange(&mut self, item: &Item, list: &mut Vec<Row>)
+    pub fn exchange(&mut self, item: &Item, list: &mut RowList)
         requires shelved { AreShelved self.old }
         requires drafted { HasNoDraft self.old item.now }
         ensures shelved { AreShelved self.new }
         ensures now { (x : Item) → stored_on x (rows_of now self.new)
-            ≡ (if is_at (item_order item.now) x then list.old.items
+            ≡ (if is_at (item_order item.now) x then list.old
             else stored_on x (rows_of now self.old)) }
         ensures next { (x : Item) → stored_on x (rows_of next self.new)
-            ≡ (if is_at (item_order item.now) x then list.old.items
+            ≡ (if is_at (item_order item.now) x then list.old
             else stored_on x (rows_of next self.old)) }
-        ensures old { list.new.items ≡ stored_on item.now (rows_of now self.old) }
+        ensures old { list.new ≡ stored_on item.now (rows_of now self.old) }
         ensures bare { AreBare self.old → AreBare self.new }
         ensures ends { (at : ℕ) → ends_at self.new at ≡ ends_at self.old at }
         ensures waits { (x : Item) → waits_on self.new x ≡ waits_on self.old x }

@@ -2,7 +2,6 @@
 ghost use Rattle.std.specs.Prelude.{◌≡◌, ◌⊎◌, ℕ, true, None, IsSome, OnErr, OnOk, if◌then◌else◌};
 ghost use Rattle.std.specs.BTreeMap.{is_at};
 ghost use Rattle.std.specs.List.{AllByRecursion};
-ghost use Rattle.std.specs.List.Sorted.{IsStrictlySortedBy};
 ghost use Rattle.slab.specs.Slab.{get};
 ghost use Rattle.ifmap_ident.specs.declared.identifiers.Identifier.{Identifier};
 ghost use Rattle.ifmap_ident.specs.declared.items.Item.{Item};
@@ -10,7 +9,6 @@ ghost use Rattle.ifmap_ident.specs.Items.{item_order};
 ghost use Rattle.ifmap_plans.specs.Lists.{next_on};
 ghost use Rattle.ifmap_plans.specs.Plans.{Fits, IsAfter};
 ghost use Rattle.ifmap_pool.specs.Holdings.{Holdings};
-ghost use Rattle.ifmap_view.specs.Attachments.{stored_order};
 ghost use Rattle.ifmap_view.specs.Rows.{stored_on};
 ghost use Rattle.ifmap_graph.specs.Drafted.{AreBare, AreOut, DraftsWithin, ends_at};
 ghost use Rattle.ifmap_graph.specs.Held.{IsInside};
@@ -27,7 +25,7 @@ use crate::sided::Sided;
 use crate::turning::discard_changes;
 use crate::waiting::{can_wait, wait_for};
 use crate::ways::Way;
-use ifmap_plans::{ItemChange, next_list};
+use ifmap_plans::ItemChange;
 use ifmap_view::LinkSeen;
 use std::alloc::{AllocError as NoMemory, Global};
 
@@ -35,9 +33,6 @@ use std::alloc::{AllocError as NoMemory, Global};
 fn draft_one(shelves: &mut Shelves, alloc: Global, change: &ItemChange) -> Result<(), NoMemory>
     requires shelved { AreShelved shelves.old }
     requires there { IsSome (place_of shelves.old change.now.item) }
-    requires order { IsStrictlySortedBy stored_order change.now.removed }
-    requires list { IsStrictlySortedBy stored_order
-        (stored_on change.now.item (rows_of now shelves.old)) }
     ensures shelved { AreShelved shelves.new }
     ensures now { rows_of now shelves.new ≡ rows_of now shelves.old }
     ensures next { OnOk result ((x : Item) → stored_on x (rows_of next shelves.new)
@@ -53,7 +48,7 @@ fn draft_one(shelves: &mut Shelves, alloc: Global, change: &ItemChange) -> Resul
     ensures waits { (x : Item) → waits_on shelves.new x ≡ waits_on shelves.old x }
     ensures places { shelves.new.places ≡ shelves.old.places }
 {
-    let list = next_list(alloc, shelves.stored_at(&change.item), change)?;
+    let list = shelves.make_next(alloc, change)?;
     shelves.propose(&change.item, list);
     Ok(())
 }
@@ -69,8 +64,6 @@ pub(crate) fn draft_changes(
     requires bare { AreBare shelves.old }
     requires there { AllByRecursion (λ x. IsSome (place_of shelves.old x)) (items_of changes.now) }
     requires fits { Fits (rows_of now shelves.old) changes.now }
-    requires lists { (x : Item)
-        → IsStrictlySortedBy stored_order (stored_on x (rows_of now shelves.old)) }
     ensures shelved { AreShelved shelves.new }
     ensures now { rows_of now shelves.new ≡ rows_of now shelves.old }
     ensures next { OnOk result

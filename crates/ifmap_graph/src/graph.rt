@@ -18,6 +18,7 @@ use ifmap_ident::laws::bytes_tell_identifiers_apart;
 use ifmap_ident::{Identifier, Item};
 use ifmap_plans::Items;
 use ifmap_pool::Pool;
+use ifmap_rows::Keyed;
 use ifmap_steps::Steps;
 use ifmap_view::{LinkSeen, Row, View};
 use std::alloc::Global;
@@ -247,6 +248,12 @@ impl View for Graph {
 
     fn link_stored(&self, seen: LinkSeen) -> &[Row] {
         self.shelves.slots[seen.at as usize].stored.now()
+    }
+}
+
+impl Keyed for Graph {
+    fn row_with_key(&self, item: &Item, row: &Row) -> Option<&Row> {
+        self.shelves.row_with_key(item, row)
     }
 }
 

@@ -20,6 +20,7 @@ ghost use Rattle.ifmap_graph.specs.Waits.{waits_on};
 use crate::ends::{hold_ends, release_ends};
 use crate::shelves::{Shelf, Shelves};
 use crate::sided::Sided;
+use crate::stocks::Stock;
 use ifmap_ident::{Identifier, Item};
 use ifmap_pool::Pool;
 use ifmap_view::LinkSeen;
@@ -81,7 +82,7 @@ pub(crate) fn place_shelf(
     let ends = hold_ends(names, ends);
     shelves.slots.insert_reserved(Shelf {
         ends,
-        stored: Sided::new(alloc),
+        stored: Stock::new(),
         waits: 0,
     });
     Ok(())

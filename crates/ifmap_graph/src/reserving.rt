@@ -18,6 +18,7 @@ use crate::bringing::{place_items, take_shelves};
 use crate::changes::Ready;
 use crate::drafting::{draft_and_wait, drop_plan};
 use crate::graph::Graph;
+use crate::row_lists::RowList;
 use crate::shelves::Shelves;
 use crate::sided::Sided;
 use crate::ways::Way;
@@ -26,16 +27,16 @@ use ifmap_ident::Identifier;
 use ifmap_ident::laws::bytes_tell_identifiers_apart;
 use ifmap_plans::{ItemChange, Plan};
 use ifmap_pool::Pool;
-use ifmap_view::{LinkSeen, Row};
+use ifmap_view::LinkSeen;
 use std::alloc::{AllocError as NoMemory, Global};
 
 // Room for the list that gives way, for so many items.
-fn empty_lists(alloc: Global, n: usize) -> Result<Vec<Many<Row>>, NoMemory>
+fn empty_lists(alloc: Global, n: usize) -> Result<Vec<RowList>, NoMemory>
     ensures { IfOk result (λ lists. length lists.items ≡ n) }
 {
     let mut lists = Vec::with_capacity(alloc, n)?;
     'lists: while lists.len() < n {
-        lists.push(Many(Vec::new(alloc)))?;
+        lists.push(RowList::new())?;
     }
     Ok(lists)
 }

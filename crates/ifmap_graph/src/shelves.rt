@@ -1,12 +1,14 @@
 //! Shelves by item: what is stored on each, and what is to be.
-ghost use Rattle.std.specs.Prelude.{◌≡◌, ℕ, None, []};
+ghost use Rattle.std.specs.Prelude.{◌≡◌, ℕ, None, [], Contains, IfNone, IfSome};
+ghost use Rattle.std.specs.List.{AllByRecursion};
 ghost use Rattle.slab.specs.Slab.{get};
+ghost use Rattle.ifmap_meta.specs.Keys.{HaveOneKey};
 ghost use Rattle.ifmap_graph.specs.Shelved.{AreShelved, rows_of};
 ghost use Rattle.ifmap_graph.specs.Sides.{next, now};
 ghost use Rattle.ifmap_view.specs.Rows.{stored_on};
 
 use crate::ends::Ends;
-use crate::sided::Sided;
+use crate::stocks::Stock;
 use ifmap_ident::Item;
 use ifmap_view::Row;
 use slab::Slab;
@@ -18,7 +20,7 @@ use std::collections::BTreeMap;
 #[derive(Drop)]
 pub struct Shelf {
     pub ends: Ends,
-    pub stored: Sided<Row>,
+    pub stored: Stock,
     pub waits: u64,
 }
 
@@ -53,7 +55,22 @@ impl Shelves {
         }
     }
 
-    /// The same, as it is to be.
+    /// The row on an item that has the key of this one, where there is one.
+    pub fn row_with_key(&self, item: &Item, row: &Row) -> Option<&Row>
+        requires { AreShelved self.now }
+        ensures found { IfSome result (λ found.
+            Contains (stored_on item.now (rows_of now self.now)) found.now
+            × HaveOneKey row.now found.now) }
+        ensures none { IfNone result (AllByRecursion (λ s. HaveOneKey row.now s → ⊥)
+            (stored_on item.now (rows_of now self.now))) }
+    {
+        match self.places.get(item) {
+            Some(at) => self.slots[*at].stored.row_with_key(row),
+            None => None,
+        }
+    }
+
+    /// The same as what is stored, as it is to be.
     pub fn next_at(&self, item: &Item) -> &[Row]
         requires { AreShelved self.now }
         ensures { result.now ≡ stored_on item.now (rows_of next self.now) }

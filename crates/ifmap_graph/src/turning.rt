@@ -11,14 +11,13 @@ ghost use Rattle.ifmap_graph.specs.Shelved.{AreShelved, HasDraft, place_of, rows
 ghost use Rattle.ifmap_graph.specs.Sides.{next, now};
 ghost use Rattle.ifmap_graph.specs.Waits.{waits_on};
 
+use crate::row_lists::RowList;
 use crate::shelves::Shelves;
-use ifmap_elem::Many;
 use ifmap_ident::Item;
 use ifmap_plans::ItemChange;
-use ifmap_view::Row;
 
 // The draft of one item is accepted, and the list that was there comes in place of the one given.
-fn accept_one(shelves: &mut Shelves, item: &Item, list: &mut Many<Row>)
+fn accept_one(shelves: &mut Shelves, item: &Item, list: &mut RowList)
     requires shelved { AreShelved shelves.old }
     requires drafted { HasDraft shelves.old item.now }
     ensures shelved { AreShelved shelves.new }
@@ -33,11 +32,11 @@ fn accept_one(shelves: &mut Shelves, item: &Item, list: &mut Many<Row>)
     ensures waits { (x : Item) → waits_on shelves.new x ≡ waits_on shelves.old x }
     ensures places { shelves.new.places ≡ shelves.old.places }
 {
-    list.0 = shelves.accept(item);
+    *list = shelves.accept(item);
 }
 
 // The draft of the item at a place is accepted.
-fn accept_at(shelves: &mut Shelves, changes: &[ItemChange], lists: &mut Vec<Many<Row>>, i: usize)
+fn accept_at(shelves: &mut Shelves, changes: &[ItemChange], lists: &mut Vec<RowList>, i: usize)
     requires shelved { AreShelved shelves.old }
     requires place { i < length changes.now }
     requires room { i < length lists.old.items }
@@ -64,7 +63,7 @@ fn accept_at(shelves: &mut Shelves, changes: &[ItemChange], lists: &mut Vec<Many
 pub(crate) fn accept_changes(
     shelves: &mut Shelves,
     changes: &[ItemChange],
-    lists: &mut Vec<Many<Row>>,
+    lists: &mut Vec<RowList>,
 )
     requires shelved { AreShelved shelves.old }
     requires out { AreOut (map (λ c. c.item) changes.now) shelves.old }

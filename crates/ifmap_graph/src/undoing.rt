@@ -19,16 +19,15 @@ ghost use Rattle.ifmap_graph.specs.Waits.{waits_on};
 
 use crate::changes::Undo;
 use crate::graph::Graph;
+use crate::row_lists::RowList;
 use crate::shelves::Shelves;
 use crate::ways::restore_all;
-use ifmap_elem::Many;
 use ifmap_ident::Item;
 use ifmap_ident::laws::bytes_tell_identifiers_apart;
 use ifmap_plans::ItemChange;
-use ifmap_view::Row;
 
 // A list stands on an item, and the list that was there comes in its place.
-fn exchange_one(shelves: &mut Shelves, item: &Item, list: &mut Many<Row>)
+fn exchange_one(shelves: &mut Shelves, item: &Item, list: &mut RowList)
     requires shelved { AreShelved shelves.old }
     requires bare { AreBare shelves.old }
     requires there { IsSome (place_of shelves.old item.now) }
@@ -42,11 +41,11 @@ fn exchange_one(shelves: &mut Shelves, item: &Item, list: &mut Many<Row>)
     ensures waits { (x : Item) → waits_on shelves.new x ≡ waits_on shelves.old x }
     ensures places { shelves.new.places ≡ shelves.old.places }
 {
-    shelves.exchange(item, &mut list.0);
+    shelves.exchange(item, list);
 }
 
 // The list at a place stands on the item there.
-fn exchange_at(shelves: &mut Shelves, changes: &[ItemChange], lists: &mut Vec<Many<Row>>, i: usize)
+fn exchange_at(shelves: &mut Shelves, changes: &[ItemChange], lists: &mut Vec<RowList>, i: usize)
     requires shelved { AreShelved shelves.old }
     requires bare { AreBare shelves.old }
     requires place { i < length changes.now }
@@ -70,7 +69,7 @@ fn exchange_at(shelves: &mut Shelves, changes: &[ItemChange], lists: &mut Vec<Ma
 }
 
 // The lists stand on the items of the changes, one after the other.
-fn exchange_changes(shelves: &mut Shelves, changes: &[ItemChange], lists: &mut Vec<Many<Row>>)
+fn exchange_changes(shelves: &mut Shelves, changes: &[ItemChange], lists: &mut Vec<RowList>)
     requires shelved { AreShelved shelves.old }
     requires bare { AreBare shelves.old }
     requires there { AllByRecursion (λ x. IsSome (place_of shelves.old x))

@@ -1,8 +1,8 @@
 -- The changes of items on which something goes or comes.
 use Rattle.std.proofs.Common.{◌≡◌, ◌≢◌, ◌∙◌, refl, sym, ap, subst, Bool, true, false, cond, not, List, [], ◌∷◌, ◌++◌, ◌==◌, arith, length}
-use Rattle.std.proofs.Common.{map, Some, None, inl, inr}
+use Rattle.std.proofs.Common.{map, Option, Some, None, inl, inr}
 use Rattle.std.proofs.lemmas.Bool.{cases_Bool}
-use Rattle.std.proofs.lemmas.List.{append-nil, append_assoc}
+use Rattle.std.proofs.lemmas.List.{append-nil}
 use Rattle.std.proofs.lemmas.List.Kept.{IsStrictlySortedBy-filter}
 use Rattle.std.specs.BTreeMap.{is_at}
 use Rattle.std.specs.Bool.{OnFalse, OnTrue}
@@ -12,7 +12,7 @@ use Rattle.std.specs.Map.{keys_of, lookup}
 use Rattle.std.specs.Ordering.{is_eq}
 use Rattle.std.specs.declared.cmp.Ordering.TheVariants.{Less}
 use Rattle.ifmap_ident.specs.declared.items.Item.{Item}
-use Rattle.ifmap_ident.specs.Items.{item_order, same_item}
+use Rattle.ifmap_ident.specs.Items.{IsCanonItem, item_order, same_item}
 use Rattle.ifmap_lemmas.specs.Filters.{all_filter, all_weaker}
 use Rattle.ifmap_lemmas.specs.Having.{Has, filter_has}
 use Rattle.ifmap_lemmas.specs.Numbers.{is_number}
@@ -26,13 +26,31 @@ use Rattle.ifmap_plans.specs.laws.PlacingLaws.{greater_of_less}
 use Rattle.ifmap_view.specs.declared.attachments.Attachment.{Attachment}
 use Rattle.ifmap_view.specs.Attachments.{IsGraph, stored_order}
 use Rattle.ifmap_view.specs.Rows.{stored_on}
-use Rattle.ifmap_publish.specs.Working.{AreSound, IsSoundEntry, change_to, changes_to, kept_change, list_or, working}
+use Rattle.ifmap_publish.specs.declared.edits.Edit.{Edit}
+use Rattle.ifmap_publish.specs.Working.{AreEdits, IsEntry, IsRising, IsSound, change_by, change_to, changes_by, changes_to, edit_or, kept_change, list_by, working}
 use Rattle.ifmap_publish.proofs.Differing.{differences_make}
+use Rattle.ifmap_publish.proofs.Editing.{added_is, nothing_moved, put_sound, removed_is, taken_rises}
 use Rattle.ifmap_publish.proofs.Entries.{stored_alike}
 use Rattle.ifmap_publish.proofs.Graphs.{sound_on}
 
 abbrev Entry : Type 0
 Entry = Item × List Stored
+
+-- the item is one that elements are, and its list is sound
+pub record IsSoundEntry (e : Item × List Stored) : Type 0 where
+  pub canon : IsCanonItem e.0
+  pub sound : IsSound e.1
+
+abbrev pub AreSound : List (Item × List Stored) → Type 0
+AreSound entries = AllByRecursion IsSoundEntry entries
+
+-- what is to stand on an item: the list that is made, or what stands there
+abbrev pub list_or : Option (List Stored) → List Stored → List Stored
+list_or None list = list
+list_or (Some list) other = list
+
+abbrev pub standing : List Attachment → (Item → Option (List Stored)) → Item → List Stored
+standing rows made x = list_or (made x) (stored_on x rows)
 
 abbrev AllOver : Item → List Entry → Type 0
 AllOver k es = AllByRecursion (λ y. item_order k y ≡ Less) (keys_of es)
@@ -213,7 +231,7 @@ module _ (rows : List Attachment) where
 
     -- the attachments after the changes, where the lists are what stands on each item
     module _ (after : List Attachment) (es : List Entry) (sound : AreSound es) (up : IsStrictlySortedBy item_order (keys_of es))
-        (applied : (x : Item) → working rows (λ q. lookup (is_at (item_order q)) es) x ≡ stored_on x after) where
+        (applied : (x : Item) → standing rows (λ q. lookup (is_at (item_order q)) es) x ≡ stored_on x after) where
       pub is_after : IsAfter (changes_to rows es) rows after
       is_after x = sym (applied x) ∙ sym (changed x es sound up)
 
@@ -231,32 +249,28 @@ module _ (rows : List Attachment) where
               let is : y.1 ≡ stored_on y.0 after = ap (λ o. list_or o (stored_on y.0 rows)) (sym hit) ∙ applied y.0 in
               (ap (difference (stored_on y.0 rows)) is, ap (λ l. difference l (stored_on y.0 rows)) is)
 
--- one entry more
-module _ (rows : List Attachment) (item : Item) (list removed added : List Stored) (made : List ItemChange)
-    (gone : removed ≡ difference (stored_on item rows) list) (come : added ≡ difference list (stored_on item rows)) where
-  with_it : (r : List ItemChange) → ((c : ItemChange) → kept_change c (removed ++ added) ≡ r)
-      → changes_to rows ((item, list) ∷ []) ≡ r
-  with_it r is =
-      append-nil (kept_change (change_to rows (item, list)) ((change_to rows (item, list)).removed ++ (change_to rows (item, list)).added))
-      ∙ (λ i. kept_change (change_to rows (item, list)) (sym gone i ++ sym come i)) ∙ is (change_to rows (item, list))
+pub difference_of : (one other taken put made : List Stored) → made ≡ difference one other → one ≡ taken → other ≡ put
+    → made ≡ difference taken put
+difference_of one other taken put made is p q = is ∙ (λ i. difference (p i) (q i))
 
-  pub none_added : ((c : ItemChange) → kept_change c (removed ++ added) ≡ []) → made ≡ made ++ changes_to rows ((item, list) ∷ [])
+-- one change more, where something goes or comes
+module _ (c : ItemChange) (removed added : List Stored) (made : List ItemChange) (gone : removed ≡ c.removed)
+    (come : added ≡ c.added) where
+  with_it : (r : List ItemChange) → ((d : ItemChange) → kept_change d (removed ++ added) ≡ r)
+      → kept_change c (c.removed ++ c.added) ++ [] ≡ r
+  with_it r is = append-nil (kept_change c (c.removed ++ c.added)) ∙ (λ i. kept_change c (sym gone i ++ sym come i)) ∙ is c
+
+  pub none_added : ((d : ItemChange) → kept_change d (removed ++ added) ≡ [])
+      → made ≡ made ++ (kept_change c (c.removed ++ c.added) ++ [])
   none_added is = sym (ap (λ l. made ++ l) (with_it [] is) ∙ append-nil made)
 
-  pub one_added : ((c : ItemChange) → kept_change c (removed ++ added) ≡ c ∷ [])
-      → made ++ record { item = item; removed = removed; added = added } ∷ [] ≡ made ++ changes_to rows ((item, list) ∷ [])
+  pub one_added : ((d : ItemChange) → kept_change d (removed ++ added) ≡ d ∷ [])
+      → made ++ record { item = c.item; removed = removed; added = added } ∷ [] ≡ made ++ (kept_change c (c.removed ++ c.added) ++ [])
   one_added is =
-      (λ i. made ++ record { item = item; removed = gone i; added = come i } ∷ [])
+      (λ i. made ++ record { item = c.item; removed = gone i; added = come i } ∷ [])
       ∙ ap (λ l. made ++ l) (sym (
-      append-nil (kept_change (change_to rows (item, list)) ((change_to rows (item, list)).removed ++ (change_to rows (item, list)).added))
-      ∙ (λ i. kept_change (change_to rows (item, list)) (sym gone i ++ sym come i)) ∙ is (change_to rows (item, list))
+      append-nil (kept_change c (c.removed ++ c.added)) ∙ (λ i. kept_change c (sym gone i ++ sym come i)) ∙ is c
       ))
-
-pub entries_next : (rows : List Attachment) (made : List ItemChange) (e : Entry) (es : List Entry)
-    → (made ++ changes_to rows (e ∷ [])) ++ changes_to rows es ≡ made ++ changes_to rows (e ∷ es)
-entries_next rows made e es =
-    let kept = kept_change (change_to rows e) ((change_to rows e).removed ++ (change_to rows e).added) in
-    ap (λ l. (made ++ l) ++ changes_to rows es) (append-nil kept) ∙ append_assoc made kept (changes_to rows es)
 
 pub filled_first : (c : ItemChange) (xs ys : List Stored) → (length xs == 0) ≡ false → kept_change c (xs ++ ys) ≡ c ∷ []
 filled_first c [] ys e = let q : true ≡ false = e in cc
@@ -285,3 +299,69 @@ on_true_not false P f = f refl
 pub on_false_not : (r : Bool) (P : Type 0) → (r ≡ true → P) → OnFalse (not r) P
 on_false_not true P f = f refl
 on_false_not false P f = tt
+
+-- ---- edits tell what their lists do
+
+module _ (rows : List Attachment) where
+  -- the lists that edits mean
+  abbrev pub listed : List (Item × Edit) → List Entry
+  listed es = map (λ e. (e.0, list_by e.1 (stored_on e.0 rows))) es
+
+  pub listed_sound : (es : List (Item × Edit)) → AreEdits rows es → AreSound (listed es)
+  listed_sound [] all = tt
+  listed_sound (e ∷ es) all = (record { canon = all.0.canon; sound = all.0.edit.sound }, listed_sound es all.1)
+
+  keys : (es : List (Item × Edit)) → keys_of (listed es) ≡ keys_of es
+  keys [] = refl
+  keys (e ∷ es) = ap (λ l. e.0 ∷ l) (keys es)
+
+  pub listed_up : (es : List (Item × Edit)) → IsStrictlySortedBy item_order (keys_of es)
+      → IsStrictlySortedBy item_order (keys_of (listed es))
+  listed_up es up = subst (IsStrictlySortedBy item_order) (sym (keys es)) up
+
+  -- each item is found with its list
+  listed_found : (x : Item) (es : List (Item × Edit))
+      → standing rows (λ q. lookup (is_at (item_order q)) (listed es)) x ≡ working rows (λ q. lookup (is_at (item_order q)) es) x
+  listed_found x [] = sym (nothing_moved (stored_on x rows))
+  listed_found x (e ∷ es) = by (is_at (item_order x) e.0) refl (listed_found x es)
+    where
+      by : (b : Bool) → is_at (item_order x) e.0 ≡ b
+          → standing rows (λ q. lookup (is_at (item_order q)) (listed es)) x ≡ working rows (λ q. lookup (is_at (item_order q)) es) x
+          → list_or (cond b (Some (list_by e.1 (stored_on e.0 rows))) (lookup (is_at (item_order x)) (listed es))) (stored_on x rows)
+          ≡ list_by (edit_or (cond b (Some e.1) (lookup (is_at (item_order x)) es))) (stored_on x rows)
+      by true is rest =
+          ap (list_by e.1) (sym (stored_alike e.0 x (items_equiv.symm e.0 x ∙ items_tied x e.0 ∙ is) rows))
+      by false is rest = rest
+
+  pub listed_applied : (after : List Attachment) (es : List (Item × Edit))
+      → ((x : Item) → working rows (λ q. lookup (is_at (item_order q)) es) x ≡ stored_on x after)
+      → (x : Item) → standing rows (λ q. lookup (is_at (item_order q)) (listed es)) x ≡ stored_on x after
+  listed_applied after es applied x = listed_found x es ∙ applied x
+
+  module _ (graph : IsGraph rows) (whole : AreWhole rows) where
+    change_is : (e : Item × Edit) → IsEntry rows e → change_by e ≡ change_to rows (e.0, list_by e.1 (stored_on e.0 rows))
+    change_is e is =
+        let stored = stored_on e.0 rows in
+        let list = list_by e.1 stored in
+        let gone = removed_is stored list e.1 (sound_on e.0 rows graph whole).keyed.rising is.edit in
+        let come = added_is stored list e.1 is.edit in
+        (λ i. record { item = e.0; removed = gone i; added = come i })
+
+    pub listed_changes : (es : List (Item × Edit)) → AreEdits rows es → changes_by es ≡ changes_to rows (listed es)
+    listed_changes [] all = refl
+    listed_changes (e ∷ es) all =
+        let one = change_is e all.0 in
+        (λ i. kept_change (one i) ((one i).removed ++ (one i).added) ++ listed_changes es all.1 i)
+
+    -- what is taken and put stands in order
+    pub all_rising : (es : List (Item × Edit)) → AreEdits rows es → AllByRecursion IsRising es
+    all_rising [] all = tt
+    all_rising (e ∷ es) all =
+        let stored = stored_on e.0 rows in
+        let list = list_by e.1 stored in (
+          record {
+            taken = taken_rises stored list e.1 (sound_on e.0 rows graph whole).keyed.rising all.0.edit;
+            put = (put_sound stored list e.1 all.0.edit).keyed.rising;
+          },
+          all_rising es all.1,
+        )

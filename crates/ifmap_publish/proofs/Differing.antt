@@ -25,7 +25,7 @@ pub sorted_first : (s : Stored) (xs : List Stored) → IsStrictlySortedBy stored
 unfolding IsStrictlySortedBy
 sorted_first s xs up = up
 
-turned : (a b : Stored) → stored_order a b ≡ Less → stored_order b a ≡ Greater
+pub turned : (a b : Stored) → stored_order a b ≡ Less → stored_order b a ≡ Greater
 turned a b e = greater_of_less Stored stored_order stored_total a b e
 
 pub above_above : (a b : Stored) (xs : List Stored) → stored_order a b ≡ Less → AllAbove b xs → AllAbove a xs
@@ -67,7 +67,7 @@ tied_first o n os ns false e up over =
     ∙ ap (λ b. cond (not b) (o ∷ difference os (n ∷ ns)) (difference os (n ∷ ns))) (none_same o ns up)
     ∙ ap (λ xs. o ∷ xs) (other_passed n ns os over)
 
-itself : (s : Stored) → stored_order s s ≡ Equal
+pub itself : (s : Stored) → stored_order s s ≡ Equal
 itself s = tied_itself stored_total s
 
 -- the first goes, with those that go after it
@@ -81,7 +81,7 @@ first_gone o gone os all =
     (λ s. not (list_any (λ r. eq_by_cmp stored_order r s) (o ∷ gone)) ≡ not (list_any (λ r. eq_by_cmp stored_order r s) gone))
     (λ s l. ap (λ c. not (is_eq c || list_any (λ r. eq_by_cmp stored_order r s) gone)) l) os all)
 
-none_tied : (o : Stored) (gone : List Stored) → AllAbove o gone → list_any (λ r. eq_by_cmp stored_order r o) gone ≡ false
+pub none_tied : (o : Stored) (gone : List Stored) → AllAbove o gone → list_any (λ r. eq_by_cmp stored_order r o) gone ≡ false
 none_tied o [] all = refl
 none_tied o (g ∷ gone) all =
     ap (λ c. is_eq c || list_any (λ r. eq_by_cmp stored_order r o) gone) (turned o g all.0) ∙ none_tied o gone all.1
@@ -91,12 +91,12 @@ first_stays : (o : Stored) (gone os : List Stored) → AllAbove o gone → witho
 first_stays o gone os all = ap (λ b. cond (not b) (o ∷ without gone os) (without gone os)) (none_tied o gone all)
 
 -- what is put in above the first
-put_past : (x : Stored) (added list : List Stored) → AllAbove x added → put_each added (x ∷ list) ≡ x ∷ put_each added list
+pub put_past : (x : Stored) (added list : List Stored) → AllAbove x added → put_each added (x ∷ list) ≡ x ∷ put_each added list
 put_past x [] list all = refl
 put_past x (y ∷ ys) list all = ap (put_each ys) (put_less Stored stored_order stored_total y x list all.0)
     ∙ put_past x ys (put stored_order y list) all.1
 
-put_below : (n : Stored) (base : List Stored) → AllAbove n base → put stored_order n base ≡ n ∷ base
+pub put_below : (n : Stored) (base : List Stored) → AllAbove n base → put stored_order n base ≡ n ∷ base
 put_below n base all = put_front Stored stored_order stored_total n base
     (all_weaker (λ y. stored_order n y ≡ Less) (λ y. stored_order y n ≡ Greater) (λ y l. turned n y l) base all)
 

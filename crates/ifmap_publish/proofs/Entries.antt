@@ -1,9 +1,8 @@
--- Lists by item, as one operation after another is applied.
-use Rattle.std.proofs.Common.{◌≡◌, ◌∙◌, refl, sym, ap, subst, ℕ, ◌+◌, ◌<◌, Bool, true, false, cond, List, [], ◌∷◌, ◌++◌, Option, Some}
-use Rattle.std.proofs.Common.{Result, Ok, Err, IfOk, take, length, get_or, inl, inr}
+-- Edits by item, as one operation after another is applied.
+use Rattle.std.proofs.Common.{◌≡◌, ◌∙◌, refl, sym, ap, subst, ℕ, ◌+◌, ◌<◌, Bool, true, false, cond, List, [], ◌∷◌, ◌++◌, Option, Some, None}
+use Rattle.std.proofs.Common.{map, take, length, get_or, inl, inr}
 use Rattle.std.proofs.lemmas.Bool.{cases_Bool}
 use Rattle.std.proofs.lemmas.List.{take_more}
-use Rattle.std.proofs.lemmas.Option.{same_Some, none-some}
 use Rattle.std.specs.BTreeMap.{insert_entry, is_at}
 use Rattle.std.specs.Map.{lookup, remove_entry}
 use Rattle.std.specs.Ordering.{is_eq, match_ordering}
@@ -11,6 +10,7 @@ use Rattle.std.specs.declared.cmp.Ordering.{Ordering}
 use Rattle.std.specs.declared.cmp.Ordering.TheVariants.{Less, Equal, Greater}
 use Rattle.ifmap_ident.specs.declared.items.Item.{Item}
 use Rattle.ifmap_ident.specs.Items.{IsCanonItem, item_order, same_item}
+use Rattle.ifmap_meta.specs.declared.metadata.Metadata.{Metadata}
 use Rattle.ifmap_meta.specs.declared.stored.Stored.{Stored}
 use Rattle.ifmap_plans.specs.laws.KeyLaws.{items_equiv, items_tied, items_total}
 use Rattle.ifmap_requests.specs.declared.publishing.PublishOp.{PublishOp}
@@ -18,40 +18,16 @@ use Rattle.ifmap_requests.specs.declared.publishing.PublishOp.TheVariants.{Updat
 use Rattle.ifmap_requests.specs.Fit.{IsFitOp}
 use Rattle.ifmap_view.specs.declared.attachments.Attachment.{Attachment}
 use Rattle.ifmap_view.specs.Rows.{stored_on}
-use Rattle.ifmap_publish.specs.Apply.{Authorship, apply, apply_op}
-use Rattle.ifmap_publish.specs.OnItems.{apply_op_on, item_of, op_on}
-use Rattle.ifmap_publish.specs.Working.{AreSound, IsSound, list_or, working}
+use Rattle.ifmap_publish.specs.Apply.{Authorship, apply, apply_op, stored_of}
+use Rattle.ifmap_publish.specs.OnItems.{apply_op_on, attach_all, item_of, op_on}
+use Rattle.ifmap_publish.specs.Working.{AreEdits, IsEdit, IsSound, Makes, edit_or, list_by, working}
+use Rattle.ifmap_publish.specs.declared.edits.Edit.{Edit}
+use Rattle.ifmap_publish.proofs.Attaching.{attached_as_stored}
+use Rattle.ifmap_publish.proofs.Editing.{is_edit, makes_it, nothing_made, nothing_moved}
 use Rattle.ifmap_publish.proofs.Items.{op_told, tied, told_as}
 
 abbrev Entry : Type 0
-Entry = Item × List Stored
-
-pub sound_inserted : (es : List Entry) (k : Item) (v : List Stored) → IsCanonItem k → IsSound v → AreSound es
-    → AreSound (insert_entry item_order es k v)
-sound_inserted [] k v c s all = (record { canon = c; sound = s }, tt)
-sound_inserted (e ∷ es) k v c s all = by (item_order k e.0) (sound_inserted es k v c s all.1)
-  where
-    by : (o : Ordering) → AreSound (insert_entry item_order es k v)
-        → AreSound (match_ordering o ((k, v) ∷ e ∷ es) ((e.0, v) ∷ es) (e ∷ insert_entry item_order es k v))
-    by Less rest = (record { canon = c; sound = s }, all)
-    by Equal rest = (record { canon = all.0.canon; sound = s }, all.1)
-    by Greater rest = (all.0, rest)
-
-pub sound_removed : (test : Item → Bool) (es : List Entry) → AreSound es → AreSound (remove_entry test es)
-sound_removed test [] all = tt
-sound_removed test (e ∷ es) all = by (test e.0) (sound_removed test es all.1)
-  where
-    by : (b : Bool) → AreSound (remove_entry test es) → AreSound (cond b es (e ∷ remove_entry test es))
-    by true rest = all.1
-    by false rest = (all.0, rest)
-
-pub sound_found : (test : Item → Bool) (es : List Entry) (v : List Stored) → AreSound es → lookup test es ≡ Some v → IsSound v
-sound_found test [] v all e = absurd (none-some v e)
-sound_found test (f ∷ es) v all e = by (test f.0) e (λ q. sound_found test es v all.1 q)
-  where
-    by : (b : Bool) → cond b (Some f.1) (lookup test es) ≡ Some v → (lookup test es ≡ Some v → IsSound v) → IsSound v
-    by true q rest = subst IsSound (same_Some f.1 v q) all.0.sound
-    by false q rest = rest q
+Entry = Item × Edit
 
 -- one item finds what another of the same identifiers does
 module _ (item x : Item) (same : same_item item x ≡ true) where
@@ -72,14 +48,64 @@ module _ (item x : Item) (same : same_item item x ≡ true) where
 
   pub working_alike : (rows : List Attachment) (es : List Entry)
       → working rows (λ q. lookup (is_at (item_order q)) es) x ≡ working rows (λ q. lookup (is_at (item_order q)) es) item
-  working_alike rows es = λ i. list_or (found_alike es i) (stored_alike rows i)
+  working_alike rows es = λ i. list_by (edit_or (found_alike es i)) (stored_alike rows i)
+
+-- entries stay edits of what is stored on their items
+module _ (rows : List Attachment) where
+  pub edits_inserted : (es : List Entry) (k : Item) (v : Edit) → IsCanonItem k → IsEdit (stored_on k rows) v → AreEdits rows es
+      → AreEdits rows (insert_entry item_order es k v)
+  edits_inserted [] k v c s all = (record { canon = c; edit = s }, tt)
+  edits_inserted (e ∷ es) k v c s all = by (item_order k e.0) refl (edits_inserted es k v c s all.1)
+    where
+      by : (o : Ordering) → item_order k e.0 ≡ o → AreEdits rows (insert_entry item_order es k v)
+          → AreEdits rows (match_ordering o ((k, v) ∷ e ∷ es) ((e.0, v) ∷ es) (e ∷ insert_entry item_order es k v))
+      by Less is rest = (record { canon = c; edit = s }, all)
+      by Equal is rest = (
+        record {
+          canon = all.0.canon;
+          edit = subst (λ l. IsEdit l v) (sym (stored_alike k e.0 (items_tied k e.0 ∙ ap is_eq is) rows)) s;
+        },
+        all.1,
+      )
+      by Greater is rest = (all.0, rest)
+
+  pub edits_removed : (test : Item → Bool) (es : List Entry) → AreEdits rows es → AreEdits rows (remove_entry test es)
+  edits_removed test [] all = tt
+  edits_removed test (e ∷ es) all = by (test e.0) (edits_removed test es all.1)
+    where
+      by : (b : Bool) → AreEdits rows (remove_entry test es) → AreEdits rows (cond b es (e ∷ remove_entry test es))
+      by true rest = all.1
+      by false rest = (all.0, rest)
+
+  -- the edit of an item, where it has one and where it has none
+  pub edit_found : (x : Item) (es : List Entry) → IsSound (stored_on x rows) → AreEdits rows es
+      → IsEdit (stored_on x rows) (edit_or (lookup (is_at (item_order x)) es))
+  edit_found x [] s all = is_edit (stored_on x rows) (stored_on x rows) (edit_or None) (nothing_made (stored_on x rows) s)
+  edit_found x (e ∷ es) s all = by (is_at (item_order x) e.0) refl (edit_found x es s all.1)
+    where
+      by : (b : Bool) → is_at (item_order x) e.0 ≡ b → IsEdit (stored_on x rows) (edit_or (lookup (is_at (item_order x)) es))
+          → IsEdit (stored_on x rows) (edit_or (cond b (Some e.1) (lookup (is_at (item_order x)) es)))
+      by true is rest =
+          subst (λ l. IsEdit l e.1) (sym (stored_alike e.0 x (items_equiv.symm e.0 x ∙ items_tied x e.0 ∙ is) rows)) all.0.edit
+      by false is rest = rest
+
+-- an update makes of its item what its elements do, as they are stored
+pub update_made : (rows : List Attachment) (by : Authorship) (op : PublishOp) (item : Item) (elements : List Metadata) (forever : Bool)
+    (edit after : Edit) (made : List Stored) → op ≡ Update item elements forever → made ≡ map (stored_of by forever) elements
+    → Makes (stored_on item rows) after (attach_all (list_by edit (stored_on item rows)) made)
+    → Makes (stored_on (item_of op) rows) after (op_on by op (list_by edit (stored_on (item_of op) rows)))
+update_made rows by op item elements forever edit after made is so m =
+    let list = list_by edit (stored_on item rows) in
+    subst (λ (o : PublishOp). Makes (stored_on (item_of o) rows) after (op_on by o (list_by edit (stored_on (item_of o) rows)))) (sym is)
+    (subst (Makes (stored_on item rows) after) (ap (attach_all list) so ∙ attached_as_stored by forever elements list) m)
 
 -- one operation
-module _ (rows : List Attachment) (by : Authorship) (op : PublishOp) (es : List Entry) (mid new : Item → Option (List Stored))
-    (key : Item) (list after : List Stored) (is_key : key ≡ item_of op)
-    (taken : list ≡ working rows (λ q. lookup (is_at (item_order q)) es) (item_of op))
+module _ (rows : List Attachment) (by : Authorship) (op : PublishOp) (es : List Entry) (mid new : Item → Option Edit)
+    (key : Item) (edit after : Edit) (is_key : key ≡ item_of op)
+    (taken : edit ≡ edit_or (lookup (is_at (item_order (item_of op))) es))
     (others : (q : Item) → same_item (item_of op) q ≡ false → mid q ≡ lookup (is_at (item_order q)) es)
-    (put : (q : Item) → new q ≡ cond (is_eq (item_order key q)) (Some after) (mid q)) (made : after ≡ op_on by op list) where
+    (put : (q : Item) → new q ≡ cond (is_eq (item_order key q)) (Some after) (mid q))
+    (made : Makes (stored_on (item_of op) rows) after (op_on by op (list_by edit (stored_on (item_of op) rows)))) where
   pub op_applied : (x : Item)
       → working rows new x ≡ apply_op_on x by op (working rows (λ q. lookup (is_at (item_order q)) es) x)
   op_applied x =
@@ -88,12 +114,15 @@ module _ (rows : List Attachment) (by : Authorship) (op : PublishOp) (es : List 
       ∙ ap (λ b. cond b (Some after) (mid x)) (sym (items_tied (item_of op) x)) in
       elim (cases_Bool (same_item (item_of op) x)) [
         | inl is ↦
-            ap (λ o. list_or o (stored_on x rows)) (hit ∙ ap (λ b. cond b (Some after) (mid x)) is)
-            ∙ made ∙ ap (op_on by op) (taken ∙ sym (working_alike (item_of op) x is rows es))
+            ap (λ o. list_by (edit_or o) (stored_on x rows)) (hit ∙ ap (λ b. cond b (Some after) (mid x)) is)
+            ∙ ap (list_by after) (stored_alike (item_of op) x is rows)
+            ∙ makes_it (stored_on (item_of op) rows) (op_on by op (list_by edit (stored_on (item_of op) rows))) after made
+            ∙ ap (λ e. op_on by op (list_by e (stored_on (item_of op) rows))) taken
+            ∙ ap (op_on by op) (sym (working_alike (item_of op) x is rows es))
             ∙ ap (λ b. cond b (op_on by op (working rows (λ q. lookup (is_at (item_order q)) es) x))
             (working rows (λ q. lookup (is_at (item_order q)) es) x)) (sym is)
         | inr is ↦
-            ap (λ o. list_or o (stored_on x rows)) (hit ∙ ap (λ b. cond b (Some after) (mid x)) is ∙ others x is)
+            ap (λ o. list_by (edit_or o) (stored_on x rows)) (hit ∙ ap (λ b. cond b (Some after) (mid x)) is ∙ others x is)
             ∙ ap (λ b. cond b (op_on by op (working rows (λ q. lookup (is_at (item_order q)) es) x))
             (working rows (λ q. lookup (is_at (item_order q)) es) x)) (sym is)
       ]
@@ -123,19 +152,15 @@ unchanged by op x list stays = elim (cases_Bool (same_item (item_of op) x)) [
 ]
 
 -- before the first operation
-pub nothing_made : (rows : List Attachment) (by : Authorship) (ops : List PublishOp) (es : List Entry) → es ≡ []
+pub none_applied : (rows : List Attachment) (by : Authorship) (ops : List PublishOp) (es : List Entry) → es ≡ []
     → record {
-      sound : AreSound es;
+      edits : AreEdits rows es;
       applied : (x : Item) → working rows (λ q. lookup (is_at (item_order q)) es) x ≡ stored_on x (apply rows by (take 0 ops));
     }
-nothing_made rows by ops [] is = record { sound = tt; applied = λ x. refl }
-nothing_made rows by ops (e ∷ es) is = cc
+none_applied rows by ops [] is = record { edits = tt; applied = λ x. nothing_moved (stored_on x rows) }
+none_applied rows by ops (e ∷ es) is = cc
 
 pub fit_item : (op : PublishOp) → IsFitOp op → IsCanonItem (item_of op)
 fit_item (Update item elements forever) f = f.0
 fit_item (Notify item elements) f = f.0
 fit_item (Delete item f) fit = fit.0
-
-pub ok_weaker : {X E : Type 0} (r : Result X E) (P Q : X → Type 0) → ((x : X) → P x → Q x) → IfOk r P → IfOk r Q
-ok_weaker (Ok x) P Q f h = f x h
-ok_weaker (Err e) P Q f h = tt

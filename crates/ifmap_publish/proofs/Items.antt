@@ -26,7 +26,7 @@ use Rattle.ifmap_publish.specs.declared.who.Who.{Who}
 use Rattle.ifmap_publish.specs.Retract.{is_of, retract, retract_on}
 use Rattle.ifmap_publish.specs.OnItems.{apply_on, apply_op_on, attach_on, delete_on, update_on}
 
-is_equal : (o : Ordering) → is_eq o ≡ true → o ≡ Equal
+pub is_equal : (o : Ordering) → is_eq o ≡ true → o ≡ Equal
 is_equal Less e = cc
 is_equal Equal e = refl
 is_equal Greater e = cc

@@ -1,9 +1,11 @@
 pub mod Attaching
 pub mod Changing
 pub mod Differing
+pub mod Editing
 pub mod Entries
 pub mod Graphs
 pub mod Items
 pub mod Passing
 pub mod Retracted
+pub mod Rising
 pub mod Same

@@ -54,7 +54,7 @@ life_itself Forever = refl
 pub same_itself : (a : Stored) → same_stored a a ≡ true
 same_itself a = rw (eq_itself (stored_bytes a), eq_itself a.publisher, life_itself a.life) refl
 
-elements_one : (a b : Stored) → IsWhole a → IsWhole b → stored_bytes a ≡ stored_bytes b → a.element ≡ b.element
+pub elements_one : (a b : Stored) → IsWhole a → IsWhole b → stored_bytes a ≡ stored_bytes b → a.element ≡ b.element
 unfolding stored_bytes
 elements_one a b v w e =
     sym v.sent.arranged ∙ same_when_alike a.element b.element v.sent.fit w.sent.fit e ∙ w.sent.arranged

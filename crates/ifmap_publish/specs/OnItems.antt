@@ -18,6 +18,11 @@ use Rattle.ifmap_publish.specs.Apply.{Authorship, stored_of}
 abbrev pub attach_on : List Stored → Stored → List Stored
 attach_on list s = put stored_order s (filter (λ t. not (same_key s t)) list)
 
+-- some more, from left to right
+abbrev pub attach_all : List Stored → List Stored → List Stored
+attach_all list [] = list
+attach_all list (s ∷ more) = attach_all (attach_on list s) more
+
 -- elements from left to right
 abbrev pub update_on : List Stored → Authorship → Bool → List Metadata → List Stored
 update_on list by forever [] = list

@@ -1,50 +1,91 @@
--- What is to stand on each item while a publish is applied.
-use Rattle.std.specs.Prelude.{List, [], ◌∷◌, ◌++◌, Option, Some, None}
-use Rattle.std.specs.List.{AllByRecursion}
+-- What is taken from items and put there while a publish is applied, and what is to stand on them.
+use Rattle.std.specs.Prelude.{◌≡◌, Bool, List, [], ◌∷◌, ◌++◌, Option, Some, None}
+use Rattle.std.specs.List.{AllByRecursion, filter, list_any}
+use Rattle.std.specs.List.Sorted.{IsStrictlySortedBy}
+use Rattle.std.specs.Ordering.{eq_by_cmp}
 use Rattle.ifmap_ident.specs.declared.items.Item.{Item}
 use Rattle.ifmap_ident.specs.Items.{IsCanonItem}
 use Rattle.ifmap_meta.specs.declared.stored.Stored.{Stored}
 use Rattle.ifmap_meta.specs.Whole.{IsWhole}
 use Rattle.ifmap_plans.specs.declared.plans.ItemChange.{ItemChange}
-use Rattle.ifmap_plans.specs.Lists.{IsList, difference}
+use Rattle.ifmap_plans.specs.Lists.{IsList, difference, next_on, without}
 use Rattle.ifmap_view.specs.declared.attachments.Attachment.{Attachment}
+use Rattle.ifmap_view.specs.Attachments.{stored_order}
 use Rattle.ifmap_view.specs.Rows.{stored_on}
+use Rattle.ifmap_publish.specs.declared.edits.Edit.{Edit}
 
 -- a list of what is stored on an item, each whole
 pub record IsSound (list : List Stored) : Type 0 where
   pub keyed : IsList list
   pub whole : AllByRecursion IsWhole list
 
--- the list that is there, or another
-abbrev pub list_or : Option (List Stored) → List Stored → List Stored
-list_or None list = list
-list_or (Some list) other = list
+-- one of its canonical bytes is among these
+abbrev pub is_among : List Stored → Stored → Bool
+is_among list s = list_any (λ r. eq_by_cmp stored_order r s) list
 
--- what is to stand on an item, of the lists made so far: where none is, what stands there
-abbrev pub working : List Attachment → (Item → Option (List Stored)) → Item → List Stored
-working rows made x = list_or (made x) (stored_on x rows)
+-- an edit makes a list of what is stored on an item: what it takes is stored, what it puts is in the list, and all else is in both
+pub record Makes (stored : List Stored) (e : Edit) (list : List Stored) : Type 0 where
+  pub taken : e.taken ≡ filter (is_among e.taken) stored
+  pub put : e.put ≡ filter (is_among e.put) list
+  pub stays : without e.taken stored ≡ without e.put list
+  pub sound : IsSound list
 
--- the item is one that elements are, and its list is sound
-pub record IsSoundEntry (e : Item × List Stored) : Type 0 where
+-- the list that is meant by an edit
+abbrev pub list_by : Edit → List Stored → List Stored
+list_by e stored = next_on e.taken e.put stored
+
+-- an edit of what is stored makes the list that it means
+abbrev pub IsEdit : List Stored → Edit → Type 0
+IsEdit stored e = Makes stored e (list_by e stored)
+
+-- the edit that is there, or one that takes and puts nothing
+abbrev pub edit_or : Option Edit → Edit
+edit_or None = record { taken = []; put = [] }
+edit_or (Some e) = e
+
+-- what is to stand on an item, by the edits made so far
+abbrev pub working : List Attachment → (Item → Option Edit) → Item → List Stored
+working rows made x = list_by (edit_or (made x)) (stored_on x rows)
+
+-- the item is one that elements are, and its edit is one of what is stored there
+pub record IsEntry (rows : List Attachment) (e : Item × Edit) : Type 0 where
   pub canon : IsCanonItem e.0
-  pub sound : IsSound e.1
+  pub edit : IsEdit (stored_on e.0 rows) e.1
 
 -- all are
-abbrev pub AreSound : List (Item × List Stored) → Type 0
-AreSound entries = AllByRecursion IsSoundEntry entries
+abbrev pub AreEdits : List Attachment → List (Item × Edit) → Type 0
+AreEdits rows entries = AllByRecursion (IsEntry rows) entries
 
--- what goes and what comes on an item
+-- what an edit takes and what it puts stand in order
+pub record IsRising (e : Item × Edit) : Type 0 where
+  pub taken : IsStrictlySortedBy stored_order e.1.taken
+  pub put : IsStrictlySortedBy stored_order e.1.put
+
+-- a change where something goes or comes
+abbrev pub kept_change : ItemChange → List Stored → List ItemChange
+kept_change c [] = []
+kept_change c (s ∷ stored) = c ∷ []
+
+-- what goes and what comes by an edit: what it takes and does not put again, and what it puts and has not taken
+abbrev pub change_by : Item × Edit → ItemChange
+change_by e = record {
+  item = e.0;
+  removed = difference e.1.taken e.1.put;
+  added = difference e.1.put e.1.taken;
+}
+
+-- the changes of items on which something does
+abbrev pub changes_by : List (Item × Edit) → List ItemChange
+changes_by [] = []
+changes_by (e ∷ entries) = kept_change (change_by e) ((change_by e).removed ++ (change_by e).added) ++ changes_by entries
+
+-- what goes and what comes on an item where another list is to stand
 abbrev pub change_to : List Attachment → Item × List Stored → ItemChange
 change_to rows e = record {
   item = e.0;
   removed = difference (stored_on e.0 rows) e.1;
   added = difference e.1 (stored_on e.0 rows);
 }
-
--- a change where something goes or comes
-abbrev pub kept_change : ItemChange → List Stored → List ItemChange
-kept_change c [] = []
-kept_change c (s ∷ stored) = c ∷ []
 
 -- the changes of items on which something does
 abbrev pub changes_to : List Attachment → List (Item × List Stored) → List ItemChange

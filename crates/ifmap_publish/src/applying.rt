@@ -1,19 +1,21 @@
-//! One operation on what is stored on its item.
-ghost use Rattle.std.specs.Prelude.{◌≡◌, ◌<◌, ◌≤◌, not, IfOk, OnOk, MatchOption, length};
-ghost use Rattle.std.specs.List.{AllByRecursion, filter, remove};
-ghost use Rattle.ifmap_meta.specs.Keys.{same_key};
+//! One operation on its item.
+ghost use Rattle.std.specs.Prelude.{◌≡◌, IfOk, OnOk, map};
+ghost use Rattle.std.specs.List.{AllByRecursion};
 ghost use Rattle.ifmap_meta.specs.Whole.{IsMetadata, IsWhole};
+ghost use Rattle.ifmap_plans.specs.Plans.{AreWhole};
 ghost use Rattle.ifmap_requests.specs.Fit.{IsFitOp};
+ghost use Rattle.ifmap_view.specs.Attachments.{IsGraph};
+ghost use Rattle.ifmap_view.specs.Rows.{stored_on};
 ghost use Rattle.ifmap_publish.specs.Apply.{life_of, stored_of};
-ghost use Rattle.ifmap_publish.specs.OnItems.{attach_on, delete_on, item_of, op_on, update_on};
-ghost use Rattle.ifmap_publish.specs.Working.{IsSound};
+ghost use Rattle.ifmap_publish.specs.OnItems.{item_of, op_on};
+ghost use Rattle.ifmap_publish.specs.Working.{IsEdit, Makes, list_by};
 
 use crate::authors::Author;
-use ifmap_filter::{Filter, meets_optional};
+use crate::edits::{Edit, attach_each, delete};
 use ifmap_ident::Item;
 use ifmap_meta::{Life, Metadata};
-use ifmap_plans::put_row;
 use ifmap_requests::PublishOp;
+use ifmap_rows::Keyed;
 use ifmap_view::Row;
 use std::alloc::{AllocError as NoMemory, Global};
 
@@ -28,29 +30,34 @@ pub(crate) fn item_of(op: &PublishOp) -> &Item
     }
 }
 
-// An operation on the list of its item.
-pub(crate) fn apply_op(
+// An operation on its item.
+pub(crate) fn apply_op<V: Keyed>(
     alloc: Global,
+    view: &V,
     author: &Author,
     op: &PublishOp,
-    list: &mut Vec<Row>,
+    edit: &mut Edit,
 ) -> Result<(), NoMemory>
+    requires graph { IsGraph (V.rows view.now) }
+    requires whole { AreWhole (V.rows view.now) }
     requires fit { IsFitOp op.now }
-    requires sound { IsSound list.old.items }
-    ensures list { OnOk result (list.new.items ≡ op_on author.now op.now list.old.items) }
-    ensures sound { OnOk result (IsSound list.new.items) }
+    requires edit { IsEdit (stored_on (item_of op.now) (V.rows view.now)) edit.old }
+    ensures { OnOk result (Makes (stored_on (item_of op.now) (V.rows view.now)) edit.new
+        (op_on author.now op.now
+        (list_by edit.old (stored_on (item_of op.now) (V.rows view.now))))) }
 {
     match op {
         PublishOp::Update {
-            item: _,
+            item,
             elements,
             forever,
-        } => attach_each(alloc, author, *forever, &elements.0, list),
-        PublishOp::Notify { .. } => Ok(()),
-        PublishOp::Delete { item: _, filter } => {
-            delete(list, filter);
+        } => {
+            let rows = rows_of(alloc, author, *forever, &elements.0)?;
+            attach_each(view, item, &rows, edit)?;
             Ok(())
         }
+        PublishOp::Notify { .. } => Ok(()),
+        PublishOp::Delete { item, filter } => delete(alloc, view, item, filter, edit),
     }
 }
 
@@ -65,24 +72,23 @@ fn life_of(serial: u64, forever: bool) -> Life
     }
 }
 
-// Elements from left to right.
-fn attach_each(
+// Elements as they are stored.
+fn rows_of(
     alloc: Global,
     author: &Author,
     forever: bool,
     elements: &[Metadata],
-    list: &mut Vec<Row>,
-) -> Result<(), NoMemory>
-    requires fit { AllByRecursion IsMetadata elements.now }
-    requires sound { IsSound list.old.items }
-    ensures list { OnOk result
-        (list.new.items ≡ update_on list.old.items author.now forever elements.now) }
-    ensures sound { OnOk result (IsSound list.new.items) }
+) -> Result<Vec<Row>, NoMemory>
+    requires { AllByRecursion IsMetadata elements.now }
+    ensures rows { IfOk result (λ rows.
+        rows.items ≡ map (stored_of author.now forever) elements.now) }
+    ensures whole { IfOk result (λ rows. AllByRecursion IsWhole rows.items) }
 {
+    let mut rows = Vec::with_capacity(alloc, elements.len())?;
     for metadata in elements {
-        attach(list, row_of(alloc, author, forever, metadata)?)?;
+        rows.push(row_of(alloc, author, forever, metadata)?)?;
     }
-    Ok(())
+    Ok(rows)
 }
 
 // An element as it is stored.
@@ -100,63 +106,4 @@ fn row_of(
         alloc,
         metadata.stamp(alloc, author.client, author.moment, life)?,
     )
-}
-
-// One row more, instead of the one with its key.
-fn attach(list: &mut Vec<Row>, row: Row) -> Result<(), NoMemory>
-    requires whole { IsWhole row }
-    requires sound { IsSound list.old.items }
-    ensures list { OnOk result (list.new.items ≡ attach_on list.old.items row) }
-    ensures sound { OnOk result (IsSound list.new.items) }
-{
-    drop_key(list, &row);
-    put_row(list, row)?;
-    Ok(())
-}
-
-// Takes out the row with the key of this one.
-fn drop_key(list: &mut Vec<Row>, row: &Row)
-    requires whole { IsWhole row.now }
-    requires sound { IsSound list.old.items }
-    ensures { list.new.items ≡ filter (λ t. not (same_key row.now t)) list.old.items }
-{
-    let Some(place) = place_of_key(list, row) else {
-        return;
-    };
-    list.remove(place);
-}
-
-// Where the row with the key of this one stands.
-fn place_of_key(list: &[Row], row: &Row) -> Option<usize>
-    requires whole { IsWhole row.now }
-    requires sound { IsSound list.now }
-    ensures { MatchOption result
-        (filter (λ t. not (same_key row.now t)) list.now ≡ list.now)
-        (λ i. (i < length list.now)
-        × (remove list.now i ≡ filter (λ t. not (same_key row.now t)) list.now)) }
-{
-    for i in 0..list.len() {
-        if has_key_of(row, &list[i]) {
-            return Some(i);
-        }
-    }
-    None
-}
-
-// Whether both have one key: most are told apart by a word.
-fn has_key_of(one: &Row, other: &Row) -> bool
-    requires one { IsWhole one.now }
-    requires other { IsWhole other.now }
-    ensures { result ≡ same_key one.now other.now }
-{
-    one.stored().same_key(other.stored())
-}
-
-// Takes out what meets the filter.
-fn delete(list: &mut Vec<Row>, filter: &Option<Filter>)
-    requires { IsSound list.old.items }
-    ensures list { list.new.items ≡ delete_on list.old.items filter.now }
-    ensures sound { IsSound list.new.items }
-{
-    list.retain(|row| !meets_optional(filter, row.stored().element.element()));
 }

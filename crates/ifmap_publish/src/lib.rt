@@ -5,6 +5,7 @@
 mod applying;
 pub mod authors;
 mod differences;
+mod edits;
 pub mod laws;
 mod notes;
 pub mod publishing;

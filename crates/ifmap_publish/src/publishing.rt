@@ -11,24 +11,26 @@ ghost use Rattle.ifmap_requests.specs.Fit.{IsFitOp};
 ghost use Rattle.ifmap_view.specs.Attachments.{IsGraph};
 ghost use Rattle.ifmap_publish.specs.Apply.{apply};
 ghost use Rattle.ifmap_publish.specs.Notes.{notes_of};
-ghost use Rattle.ifmap_publish.specs.Working.{AreSound, IsSound, IsSoundEntry, changes_to, kept_change};
+ghost use Rattle.ifmap_publish.specs.Working.{IsRising, changes_by, kept_change};
 
 use crate::authors::Author;
 use crate::differences::difference;
+use crate::edits::Edit;
 use crate::notes::notes_of;
 use crate::working::apply_all;
 use ifmap_elem::Many;
 use ifmap_ident::Item;
 use ifmap_plans::{ItemChange, Plan};
 use ifmap_requests::PublishOp;
-use ifmap_view::{Row, View};
+use ifmap_rows::Keyed;
+use ifmap_view::Row;
 use std::alloc::{AllocError as NoMemory, Global};
 use std::collections::BTreeMap;
 
 /// What the operations of a publish change in a graph, and what they notify. Each item that changes is told
 /// once, with what goes and what comes after all operations; an item on which all stays is not told. All
 /// memory is taken here, and want of it is the one error.
-pub fn plan<V: View>(
+pub fn plan<V: Keyed>(
     alloc: Global,
     view: &V,
     ops: &Many<PublishOp>,
@@ -45,8 +47,8 @@ pub fn plan<V: View>(
     ensures changes { IfOk result (λ plan. AllByRecursion IsChange plan.changes) }
     ensures notes { IfOk result (λ plan. plan.notes ≡ notes_of author.now ops.now) }
 {
-    let lists = apply_all(alloc, view, author, &ops.0)?;
-    let changes = changes_to(alloc, view, lists)?;
+    let edits = apply_all(alloc, view, author, &ops.0)?;
+    let changes = changes_by(alloc, edits)?;
     let notes = notes_of(alloc, author, &ops.0)?;
     Ok(Plan {
         changes: Many(changes),
@@ -55,55 +57,31 @@ pub fn plan<V: View>(
 }
 
 // The changes of the items on which something goes or comes.
-fn changes_to<V: View>(
-    alloc: Global,
-    view: &V,
-    lists: BTreeMap<Item, Many<Row>>,
-) -> Result<Vec<ItemChange>, NoMemory>
-    requires graph { IsGraph (V.rows view.now) }
-    requires sound { AreSound lists.entries }
-    ensures changes { IfOk result (λ changes.
-        changes.items ≡ changes_to (V.rows view.now) lists.entries) }
-    ensures ordered { IsStrictlySortedBy item_order (keys_of lists.entries) }
+fn changes_by(alloc: Global, edits: BTreeMap<Item, Edit>) -> Result<Vec<ItemChange>, NoMemory>
+    requires { AllByRecursion IsRising edits.entries }
+    ensures changes { IfOk result (λ changes. changes.items ≡ changes_by edits.entries) }
+    ensures ordered { IsStrictlySortedBy item_order (keys_of edits.entries) }
 {
-    let mut changes = Vec::with_capacity(alloc, lists.len())?;
-    for entry in lists {
-        add_entry(alloc, view, entry, &mut changes)?;
+    let mut changes = Vec::with_capacity(alloc, edits.len())?;
+    for entry in edits {
+        add_change(alloc, entry, &mut changes)?;
     }
     Ok(changes)
 }
 
-// Appends the change of an item, where something goes or comes.
-fn add_entry<V: View>(
+// Appends the change of an item, where something goes or comes: what is taken and put again is in neither
+// list.
+fn add_change(
     alloc: Global,
-    view: &V,
-    entry: (Item, Many<Row>),
+    entry: (Item, Edit),
     changes: &mut Vec<ItemChange>,
 ) -> Result<(), NoMemory>
-    requires graph { IsGraph (V.rows view.now) }
-    requires sound { IsSoundEntry entry }
-    ensures { OnOk result (changes.new.items
-        ≡ changes.old.items ++ changes_to (V.rows view.now) (entry ∷ [])) }
+    requires { IsRising entry }
+    ensures { OnOk result (changes.new.items ≡ changes.old.items ++ changes_by (entry ∷ [])) }
 {
-    let (item, list) = entry;
-    add_change(alloc, view, item, &list.0, changes)
-}
-
-fn add_change<V: View>(
-    alloc: Global,
-    view: &V,
-    item: Item,
-    list: &[Row],
-    changes: &mut Vec<ItemChange>,
-) -> Result<(), NoMemory>
-    requires graph { IsGraph (V.rows view.now) }
-    requires sound { IsSound list.now }
-    ensures { OnOk result (changes.new.items
-        ≡ changes.old.items ++ changes_to (V.rows view.now) ((item, list.now) ∷ [])) }
-{
-    let stored = view.stored_at(&item);
-    let removed = difference(alloc, stored, list)?;
-    let added = difference(alloc, list, stored)?;
+    let (item, edit) = entry;
+    let removed = difference(alloc, &edit.taken.0, edit.put.as_slice())?;
+    let added = difference(alloc, edit.put.as_slice(), &edit.taken.0)?;
     if !moves_something(&removed, &added) {
         return Ok(());
     }

@@ -1,23 +1,21 @@
 //! What the tests make their cases of.
-ghost use Rattle.std.specs.Prelude.{◌≤◌, IfOk, IfSome};
+ghost use Rattle.std.specs.Prelude.{◌≤◌, IfOk};
 ghost use Rattle.std.specs.List.{AllByRecursion};
 ghost use Rattle.ifmap_elem.specs.Fit.{IsFit};
 ghost use Rattle.ifmap_elem.specs.Nesting.{nesting};
 ghost use Rattle.ifmap_ident.specs.Items.{IsCanonItem};
 ghost use Rattle.ifmap_meta.specs.Whole.{IsMetadata, IsWhole, level_limit};
 ghost use Rattle.ifmap_plans.specs.Plans.{AreWhole};
-ghost use Rattle.ifmap_requests.specs.Fit.{IsFitOp, IsFitRequest};
 ghost use Rattle.ifmap_fresh_tests.specs.Lists.{rows_of};
 
-use ifmap_elem::{Element, Many, Text};
+use crate::publishes::client_of;
+use ifmap_elem::Element;
 use ifmap_fresh_tests::lists::Lists;
 use ifmap_fresh_tests::places::{Place, addresses, item_at};
 use ifmap_fresh_tests::shelves::Shelf;
 use ifmap_io::Moment;
-use ifmap_meta::{ClientName, Life, Metadata, Stored};
+use ifmap_meta::{Life, Metadata, Stored};
 use ifmap_reader::read;
-use ifmap_requests::laws::bodies_mean_fit_requests;
-use ifmap_requests::{PublishOp, Request, read_request};
 use ifmap_view::Row;
 use std::alloc::{AllocError as NoMemory, Global};
 
@@ -34,10 +32,6 @@ pub(crate) struct Given {
 pub(crate) struct Spot {
     pub(crate) place: Place,
     pub(crate) rows: &'static [Given],
-}
-
-pub(crate) fn client_of(alloc: Global, name: &str) -> Result<ClientName, NoMemory> {
-    ClientName::new(Text::from_str(alloc, name)?).ok_or(NoMemory)
 }
 
 // The element that a text spells.
@@ -120,43 +114,4 @@ pub(crate) fn lists_of(alloc: Global, spots: &[Spot]) -> Result<Lists, NoMemory>
     let names = addresses(alloc, 9)?;
     let shelves = shelves_of(alloc, spots)?;
     Lists::new(names, shelves).ok_or(NoMemory)
-}
-
-// A publish with these operations, in an envelope that declares the prefix `u`.
-fn body_of(alloc: Global, ops: &str) -> Result<String, NoMemory> {
-    let mut body = String::from_str(
-        alloc,
-        "<Envelope xmlns='http://www.w3.org/2003/05/soap-envelope'><Body><i:publish xmlns='' xmlns:i='http://www.trustedcomputinggroup.org/2010/IFMAP/2' xmlns:u='u' session-id='s'>",
-    )?;
-    body.push_str(ops)?;
-    body.push_str("</i:publish></Body></Envelope>")?;
-    Ok(body)
-}
-
-fn request_in(alloc: Global, body: &[u8]) -> Option<Request>
-    ensures { IfSome result IsFitRequest }
-{
-    bodies_mean_fit_requests();
-    match read_request(alloc, body) {
-        Ok(request) => Some(request),
-        Err(_) => None,
-    }
-}
-
-fn ops_of(request: Request) -> Option<Many<PublishOp>>
-    requires { IsFitRequest request }
-    ensures { IfSome result (AllByRecursion IsFitOp) }
-{
-    match request {
-        Request::Publish { ops, .. } => Some(ops),
-        _ => None,
-    }
-}
-
-// The operations of a publish.
-pub(crate) fn ops_in(alloc: Global, ops: &str) -> Option<Many<PublishOp>>
-    ensures { IfSome result (AllByRecursion IsFitOp) }
-{
-    let body = body_of(alloc, ops).ok()?;
-    ops_of(request_in(alloc, body.as_bytes())?)
 }

@@ -4,8 +4,9 @@ ghost use Rattle.ifmap_plans.specs.Plans.{AreWhole};
 ghost use Rattle.ifmap_requests.specs.Fit.{IsFitOp};
 ghost use Rattle.ifmap_fresh_tests.specs.Lists.{rows_of};
 
-use crate::makers::{client_of, lists_of, ops_in};
+use crate::makers::lists_of;
 use crate::outside::{Case, PUBLISHED, STATE};
+use crate::publishes::{client_of, ops_in};
 use crate::telling::is_told;
 use ifmap_elem::Many;
 use ifmap_fresh_tests::lists::Lists;

@@ -3,8 +3,9 @@ ghost use Rattle.std.specs.Prelude.{◌≡◌, ◌<◌};
 ghost use Rattle.ifmap_plans.specs.Plans.{AreWhole};
 ghost use Rattle.ifmap_fresh_tests.specs.Lists.{rows_of};
 
-use crate::makers::{client_of, lists_of};
+use crate::makers::lists_of;
 use crate::outside::{Gone, RETRACTED, STATE, Whose};
+use crate::publishes::client_of;
 use crate::telling::is_told;
 use ifmap_elem::Many;
 use ifmap_fresh_tests::lists::Lists;

@@ -1,5 +1,6 @@
 //! Plans as texts.
-use ifmap_elem::{Attribute, Child, Element, Many};
+use crate::reading::{text_of, value_of};
+use ifmap_elem::{Element, Many};
 use ifmap_ident::{Identifier, Item};
 use ifmap_meta::Life;
 use ifmap_plans::{ItemChange, Note, Plan};
@@ -20,30 +21,13 @@ fn place_of(alloc: Global, item: &Item) -> Result<String, NoMemory> {
     }
 }
 
-fn text_of(element: &Element) -> &str {
-    match element.children.as_slice().first() {
-        Some(Child::Text(text)) => text.0.as_str(),
-        _ => "",
-    }
-}
-
-// The attribute of the moment, or nothing.
-fn time_of(attributes: &[Attribute]) -> &str {
-    for attribute in attributes {
-        if attribute.name.is_bare("ifmap-timestamp") {
-            return attribute.value.0.as_str();
-        }
-    }
-    ""
-}
-
 // The local name, the text and the moment of an element.
 fn element_text(alloc: Global, element: &Element) -> Result<String, NoMemory> {
     format!(in alloc;
         "{}({}) {}",
         element.name.local.0.as_str(),
         text_of(element),
-        time_of(element.attributes.as_slice())
+        value_of(element.attributes.as_slice(), "ifmap-timestamp")
     )
 }
 

@@ -1,7 +1,7 @@
 -- A core, what it is asked and what it answers can cross threads: each part of them can, from the bottom up.
 -- The modules named below `proofs` of other crates (`TheSendSync`, `TheKnot`) are made by the compiler: it writes there that a type can
 -- cross, and they stand nowhere else.
-use denote.Param.Send.{IsSend, sendable}
+use denote.Param.Send.{IsSend, IsSync, sendable}
 use Rattle.std.proofs.Crossing.{crosses}
 use Rattle.ifmap_elem.proofs.elements.Child.TheLaws.TheKnot as elements
 use Rattle.ifmap_filter.proofs.filters.Predicate.TheLaws.TheKnot as filters
@@ -24,6 +24,12 @@ use Rattle.ifmap_standing.specs.contracts.standing.Standing as the_standing
 use Rattle.ifmap_graph.specs.contracts.ends.Ends as the_ends
 use Rattle.ifmap_view.specs.contracts.rows.Row as the_row
 use Rattle.ifmap_view.specs.contracts.views.LinkSeen as the_link
+use Rattle.ifmap_rows.specs.contracts.index.Worded as the_worded
+use Rattle.ifmap_rows.specs.contracts.rows.Rows as the_rows
+use Rattle.ifmap_graph.specs.contracts.shared.SharedRows as the_shared
+use Rattle.ifmap_graph.specs.contracts.spares.Spare as the_spare
+use Rattle.ifmap_graph.specs.contracts.row_lists.RowList as the_list
+use Rattle.ifmap_graph.specs.contracts.stocks.Stock as the_stock
 use Rattle.ifmap_graph.specs.contracts.shelves.Shelf as the_shelf
 use Rattle.ifmap_graph.specs.contracts.shelves.Shelves as the_shelves
 use Rattle.ifmap_graph.specs.contracts.graph.Graph as the_graph
@@ -151,11 +157,38 @@ link_send = search (crosses, sendable) depth 60 fits 20000
 pub link_field : IsSend (the_link.the_field).row
 link_field = search (crosses, sendable) depth 60 fits 20000
 
+pub worded_send : IsSend the_worded.the_row
+worded_send = search (row_send, crosses, sendable) depth 60 fits 20000
+
+pub rows_send : IsSend the_rows.the_row
+rows_send = search (row_send, worded_send, crosses, sendable) depth 60 fits 20000
+
+pub row_sync : IsSync the_row.the_row
+row_sync = search (elements.crosses, crosses, sendable) depth 60 fits 20000
+
+pub worded_sync : IsSync the_worded.the_row
+worded_sync = search (row_sync, crosses, sendable) depth 60 fits 20000
+
+pub rows_sync : IsSync the_rows.the_row
+rows_sync = search (row_sync, worded_sync, crosses, sendable) depth 60 fits 20000
+
+pub shared_send : IsSend the_shared.the_row
+shared_send = search (rows_send, rows_sync, crosses, sendable) depth 60 fits 20000
+
+pub spare_send : IsSend the_spare.the_row
+spare_send = search (shared_send, row_send, crosses, sendable) depth 60 fits 20000
+
+pub list_send : IsSend the_list.the_row
+list_send = search (shared_send, spare_send, crosses, sendable) depth 60 fits 20000
+
+pub stock_send : IsSend the_stock.the_row
+stock_send = search (list_send, crosses, sendable) depth 60 fits 20000
+
 pub shelf_send : IsSend the_shelf.the_row
-shelf_send = search (ends_send, ends_field, row_send, row_field, Sided.the_send, crosses, sendable) depth 60 fits 20000
+shelf_send = search (ends_send, ends_field, stock_send, crosses, sendable) depth 60 fits 20000
 
 pub shelf_field : IsSend (the_shelf.the_field).row
-shelf_field = search (ends_send, ends_field, row_send, row_field, Sided.the_send, crosses, sendable) depth 60 fits 20000
+shelf_field = search (ends_send, ends_field, stock_send, crosses, sendable) depth 60 fits 20000
 
 pub shelves_send : IsSend the_shelves.the_row
 shelves_send = search (shelf_send, shelf_field, Item.the_send, Tree.the_send, Slab.the_send, crosses, sendable) depth 60 fits 20000

@@ -40,9 +40,10 @@ pub record OpensServer (v : View CoreMachine FitEvent Answer) : Type 0 where
 abbrev pub words_at : List ℕ → ℕ → ChaCha
 words_at key number = record (of_seed key) { stream = number }
 
--- a worker worked at a door by a pass that had asked nothing: each turn of the pass is one of its connections, in which the desk was
--- told all that the pass has said since, which is what the machine answered at the places of the pass's own entries; and no number was
--- left for an event only where all are used up
+-- a worker worked at a door, over a desk in the hall and from these words on. The desk had told nothing at first, and has told in the
+-- end all that the pass has said, which is what the machine answered at the places of the pass's own entries. The pass took as many
+-- turns as the connections have; where no number was left for one of them, the pass has seen 2^64 - 1 entries; and the status is that
+-- of how the work ended
 pub record WorksBy (gives : ℕ → Type 0) (hall : ServerHall) (words : ChaCha) (v : View CoreMachine FitEvent Answer) (door left : DoorSeen)
     (status : ℕ) : Type 0 where
   pub first : Worker ServerHall

@@ -1,8 +1,5 @@
-use Rattle.std.proofs.Common.{sym, subst, arith}
-use Rattle.std.specs.List.Sorted.{IsStrictlySortedBy}
-use Rattle.ifmap_view.specs.Attachments.{stored_order}
-use Rattle.ifmap_view.specs.Rows.{stored_on}
-use Rattle.ifmap_graph.proofs.Planned.{drafted_after, drafted_out, drafting, drafts_on, fits_at, there_at, within_on}
+use Rattle.std.proofs.Common.{arith}
+use Rattle.ifmap_graph.proofs.Planned.{drafted_after, drafted_out, drafting, drafts_on, there_at, within_on}
 use Rattle.ifmap_graph.proofs.drafting.draft_changes.Goals as goal
 
 pub loop-change-init : goal.loop-change-init
@@ -16,17 +13,6 @@ draft_one-requires-clause-there c =
     there_at c.args.changes.now c.args.shelves.now c.loop-change.shelves c.loop-change.change-index c.loop-change-test.true
     c.change-item.result c.change-item.is
     c.loop-change.invariant c.requires.there
-
-pub draft_one-requires-clause-order : goal.draft_one-requires-clause-order
-draft_one-requires-clause-order c =
-    (fits_at c.args.changes.now c.args.shelves.now c.loop-change.shelves c.loop-change.change-index c.loop-change-test.true
-    c.change-item.result c.change-item.is
-    c.loop-change.invariant c.requires.fits).order
-
-pub draft_one-requires-clause-list : goal.draft_one-requires-clause-list
-draft_one-requires-clause-list c =
-    subst (λ rows. IsStrictlySortedBy stored_order (stored_on c.change-item.result.item rows)) (sym c.loop-change.invariant.same)
-    (c.requires.lists c.change-item.result.item)
 
 pub loop-change-preserved : goal.loop-change-preserved
 loop-change-preserved c =

@@ -1,17 +1,12 @@
 use Rattle.std.proofs.Common.{ℕ, List, ap, ◌∙◌}
-use Rattle.ifmap_graph.specs.Sides.{now}
 use Rattle.ifmap_graph.specs.Touched.{draft_of}
 use Rattle.ifmap_graph.specs.Turning.{sides_at}
-use Rattle.ifmap_graph.proofs.Flipping.{flips_mapped, inside_drafted, pairs_after, stored_list}
+use Rattle.ifmap_graph.proofs.Flipping.{flips_mapped, inside_drafted, pairs_after}
 use Rattle.ifmap_graph.proofs.Joining.{on_ok}
 use Rattle.ifmap_graph.proofs.drafting.draft_plan.Goals as goal
 
 pub draft_changes-requires-clause-shelved : goal.draft_changes-requires-clause-shelved
 draft_changes-requires-clause-shelved c = c.requires.inside.1.placed
-
-pub draft_changes-requires-clause-lists : goal.draft_changes-requires-clause-lists
-draft_changes-requires-clause-lists c = λ x.
-    (stored_list now c.args.shelves.now c.requires.inside.1.placed c.requires.inside.1.side.lists x).rising
 
 pub touch_slots-requires-clause-pairs : goal.touch_slots-requires-clause-pairs
 touch_slots-requires-clause-pairs c =

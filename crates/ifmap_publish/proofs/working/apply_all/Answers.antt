@@ -1,23 +1,24 @@
 use Rattle.std.specs.BTreeMap.{get}
 use Rattle.ifmap_ident.specs.Items.{item_order}
+use Rattle.ifmap_requests.specs.Fit.{IsFitOp}
 use Rattle.ifmap_publish.specs.Working.{working}
-use Rattle.ifmap_publish.proofs.Attaching.{one_of_ops}
-use Rattle.ifmap_publish.proofs.Entries.{one_more, nothing_made}
+use Rattle.ifmap_publish.proofs.Attaching.{one_of}
+use Rattle.ifmap_publish.proofs.Entries.{none_applied, one_more}
 use Rattle.ifmap_publish.proofs.working.apply_all.Goals as goal
 
 pub loop-op-init : goal.loop-op-init
-loop-op-init g c = nothing_made (g.V.View.rows c.args.view.now) c.args.author.now c.args.ops.now c.new-lists.result.entries
-    c.new-lists.ensures.empty
+loop-op-init g c = none_applied (g.V.View.rows c.args.view.now) c.args.author.now c.args.ops.now c.new-edits.result.entries
+    c.new-edits.ensures.empty
 
 pub apply_one-requires-clause-fit : goal.apply_one-requires-clause-fit
 apply_one-requires-clause-fit g c =
-    one_of_ops c.args.ops.now c.loop-op.op-index c.op-item.result c.loop-op-test.true c.op-item.is c.requires.ops
+    one_of IsFitOp c.args.ops.now c.loop-op.op-index c.op-item.result c.loop-op-test.true c.op-item.is c.requires.ops
 
 pub loop-op-preserved : goal.loop-op-preserved
 loop-op-preserved g c = record {
-  sound = c.in_ok-apply_one.ensures.sound;
+  edits = c.in_ok-apply_one.ensures.edits;
   applied = one_more (g.V.View.rows c.args.view.now) c.args.author.now c.args.ops.now c.loop-op.op-index c.op-item.result
-      c.loop-op-test.true c.op-item.is (working (g.V.View.rows c.args.view.now) (get item_order c.loop-op.lists))
-      (working (g.V.View.rows c.args.view.now) (get item_order c.apply_one.new.lists)) c.loop-op.invariant.applied
+      c.loop-op-test.true c.op-item.is (working (g.V.View.rows c.args.view.now) (get item_order c.loop-op.edits))
+      (working (g.V.View.rows c.args.view.now) (get item_order c.apply_one.new.edits)) c.loop-op.invariant.applied
       c.in_ok-apply_one.ensures.applied;
 }

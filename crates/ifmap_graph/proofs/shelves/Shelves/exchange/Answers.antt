@@ -33,7 +33,7 @@ returns-clause-now c =
     ∙ c.requires.drafted.3
     in shows c.args.self.now.slots c.exchange_at.new.slots c.args.self.now.places.entries c.requires.shelved c.args.item.now
     c.index-at.result.now
-    c.index-at.ensures c.requires.drafted.1 _ had (c.exchange_at.ensures.slots c.requires.drafted.1 had) now c.args.list.now.items refl
+    c.index-at.ensures c.requires.drafted.1 _ had (c.exchange_at.ensures.slots c.requires.drafted.1 had) now c.args.list.now refl
 
 pub returns-clause-next : goal.returns-clause-next
 returns-clause-next c =
@@ -42,8 +42,8 @@ returns-clause-next c =
     ∙ c.requires.drafted.3
     in shows c.args.self.now.slots c.exchange_at.new.slots c.args.self.now.places.entries c.requires.shelved c.args.item.now
     c.index-at.result.now
-    c.index-at.ensures c.requires.drafted.1 _ had (c.exchange_at.ensures.slots c.requires.drafted.1 had) next c.args.list.now.items
-    (ap (λ o. unwrap_or o c.args.list.now.items) c.requires.drafted.4)
+    c.index-at.ensures c.requires.drafted.1 _ had (c.exchange_at.ensures.slots c.requires.drafted.1 had) next c.args.list.now
+    (ap (λ o. unwrap_or o c.args.list.now) c.requires.drafted.4)
 
 pub returns-clause-old : goal.returns-clause-old
 returns-clause-old c =

@@ -36,7 +36,7 @@ returns-clause-next c =
     c.index-at.ensures)
     in shows c.args.self.now.slots c.propose_at.new.slots c.args.self.now.places.entries c.requires.shelved c.args.item.now
     c.index-at.result.now
-    c.index-at.ensures s.0 _ s.1 (c.propose_at.ensures s.0 s.1) next c.args.list.items refl
+    c.index-at.ensures s.0 _ s.1 (c.propose_at.ensures s.0 s.1) next c.args.list.value refl
 
 pub returns-clause-ends : goal.returns-clause-ends
 returns-clause-ends c =

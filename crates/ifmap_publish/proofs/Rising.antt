@@ -1,0 +1,344 @@
+-- Members of lists that rise, found again in what a filter leaves of them.
+use Rattle.std.proofs.Common.{◌≡◌, ◌∙◌, refl, sym, ap, subst, Bool, true, false, cond, not, ◌||◌, ◌&&◌, List, [], ◌∷◌, ◌++◌, inl, inr}
+use Rattle.std.proofs.Math.Bool.{or-false, or-true}
+use Rattle.std.proofs.lemmas.Bool.{and_parts, cases_Bool}
+use Rattle.std.proofs.lemmas.List.Elements.{filter-append}
+use Rattle.std.proofs.lemmas.Map.Text.{is_eq-slice_cmp}
+use Rattle.std.specs.List.{AllByRecursion, IsDistinct, filter, list_any}
+use Rattle.std.specs.List.Sorted.{IsStrictlySortedBy}
+use Rattle.std.specs.Ordering.{eq_by_cmp, is_eq, is_gt, is_lt, ordering_reverse}
+use Rattle.std.specs.Str.{bytes_eq}
+use Rattle.std.specs.declared.cmp.Ordering.{Ordering}
+use Rattle.std.specs.declared.cmp.Ordering.TheVariants.{Less, Equal, Greater}
+use Rattle.ifmap_lemmas.specs.Filters.{all_filter, all_weaker, filter_all, filter_none}
+use Rattle.ifmap_lemmas.specs.Having.{Has, any_has, filter_has, has_any, has_filter}
+use Rattle.ifmap_meta.specs.declared.stored.Stored.{Stored}
+use Rattle.ifmap_meta.specs.Keys.{same_key}
+use Rattle.ifmap_plans.specs.Lists.{difference, put_each, same_life, same_stored, without}
+use Rattle.ifmap_plans.specs.Placing.{put}
+use Rattle.ifmap_plans.specs.laws.KeyLaws.{stored_equiv, stored_total}
+use Rattle.ifmap_plans.specs.laws.PlacingLaws.{less_of_greater, put_less}
+use Rattle.ifmap_view.specs.Attachments.{stored_bytes, stored_order}
+use Rattle.ifmap_publish.specs.Working.{is_among}
+use Rattle.ifmap_publish.proofs.Differing.{AllAbove, filter_alike, itself, none_tied, put_below, put_past, sorted_first, turned}
+use Rattle.ifmap_publish.proofs.Items.{is_equal}
+use Rattle.ifmap_publish.proofs.Same.{same_itself}
+
+-- ---- what a filter keeps
+
+pub each_of : {X : Type 0} (P : X → Type 0) (xs : List X) → ((x : X) → Has xs x → P x) → AllByRecursion P xs
+each_of P [] h = tt
+each_of P (x ∷ xs) h = (h x (inl refl), each_of P xs (λ y q. h y (inr q)))
+
+pub one_of_all : {X : Type 0} (P : X → Type 0) (xs : List X) (x : X) → AllByRecursion P xs → Has xs x → P x
+one_of_all P [] x all h = absurd h
+one_of_all P (y ∷ ys) x all (inl e) = subst P e all.0
+one_of_all P (y ∷ ys) x all (inr h) = one_of_all P ys x all.1 h
+
+pub filter_agrees : {X : Type 0} (p q : X → Bool) (xs : List X) → ((x : X) → Has xs x → p x ≡ q x) → filter p xs ≡ filter q xs
+filter_agrees p q xs h = filter_alike p q xs (each_of (λ x. p x ≡ q x) xs h)
+
+-- a member that is kept or not is filtered
+filter_cond : {X : Type 0} (p : X → Bool) (b : Bool) (x : X) (ys : List X)
+    → filter p (cond b (x ∷ ys) ys) ≡ cond b (cond (p x) (x ∷ filter p ys) (filter p ys)) (filter p ys)
+filter_cond p true x ys = refl
+filter_cond p false x ys = refl
+
+both_turned : {X : Type 0} (a b : Bool) (x : X) (xs ys : List X) → xs ≡ ys
+    → cond b (cond a (x ∷ xs) xs) xs ≡ cond a (cond b (x ∷ ys) ys) ys
+both_turned true true x xs ys e = ap (λ l. x ∷ l) e
+both_turned true false x xs ys e = e
+both_turned false true x xs ys e = e
+both_turned false false x xs ys e = e
+
+pub filter_turned : {X : Type 0} (p q : X → Bool) (xs : List X) → filter p (filter q xs) ≡ filter q (filter p xs)
+filter_turned p q [] = refl
+filter_turned p q (x ∷ xs) =
+    filter_cond p (q x) x (filter q xs)
+    ∙ both_turned (p x) (q x) x (filter p (filter q xs)) (filter q (filter p xs)) (filter_turned p q xs)
+    ∙ sym (filter_cond q (p x) x (filter p xs))
+
+kept_by_neither : {X : Type 0} (a b : Bool) (x : X) (xs ys : List X) → xs ≡ ys
+    → cond (not (a || b)) (x ∷ xs) xs ≡ cond (not a) (cond (not b) (x ∷ ys) ys) ys
+kept_by_neither true b x xs ys e = e
+kept_by_neither false true x xs ys e = e
+kept_by_neither false false x xs ys e = ap (λ l. x ∷ l) e
+
+-- what neither test passes
+pub filter_neither : {X : Type 0} (p q : X → Bool) (xs : List X)
+    → filter (λ x. not (p x || q x)) xs ≡ filter (λ x. not (q x)) (filter (λ x. not (p x)) xs)
+filter_neither p q [] = refl
+filter_neither p q (x ∷ xs) =
+    kept_by_neither (p x) (q x) x (filter (λ y. not (p y || q y)) xs) (filter (λ y. not (q y)) (filter (λ y. not (p y)) xs))
+    (filter_neither p q xs)
+    ∙ sym (filter_cond (λ y. not (q y)) (not (p x)) x (filter (λ y. not (p y)) xs))
+
+kept_by_both : {X : Type 0} (a b : Bool) (x : X) (xs ys : List X) → xs ≡ ys
+    → cond b (cond a (x ∷ xs) xs) xs ≡ cond (b && a) (x ∷ ys) ys
+kept_by_both true true x xs ys e = ap (λ l. x ∷ l) e
+kept_by_both false true x xs ys e = e
+kept_by_both a false x xs ys e = e
+
+-- what both pass
+pub filter_both : {X : Type 0} (p q : X → Bool) (xs : List X) → filter p (filter q xs) ≡ filter (λ x. q x && p x) xs
+filter_both p q [] = refl
+filter_both p q (x ∷ xs) =
+    filter_cond p (q x) x (filter q xs)
+    ∙ kept_by_both (p x) (q x) x (filter p (filter q xs)) (filter (λ y. q y && p y) xs) (filter_both p q xs)
+
+-- ---- members that tie
+
+-- those of one place are one
+pub one_place : (xs : List Stored) (a b : Stored) → IsStrictlySortedBy stored_order xs → Has xs a → Has xs b
+    → stored_order a b ≡ Equal → a ≡ b
+one_place [] a b up h k e = absurd h
+one_place (x ∷ xs) a b up (inl p) (inl q) e = sym p ∙ q
+one_place (x ∷ xs) a b up (inl p) (inr k) e =
+    let less : stored_order x b ≡ Less = one_of_all (λ y. stored_order x y ≡ Less) xs b (sorted_first x xs up).0 k in
+    let bad : Less ≡ Equal = sym less ∙ ap (λ y. stored_order y b) p ∙ e in cc
+one_place (x ∷ xs) a b up (inr h) (inl q) e =
+    let less : stored_order x a ≡ Less = one_of_all (λ y. stored_order x y ≡ Less) xs a (sorted_first x xs up).0 h in
+    let bad : Greater ≡ Equal = sym (turned x a less) ∙ ap (stored_order a) q ∙ e in cc
+one_place (x ∷ xs) a b up (inr h) (inr k) e = one_place xs a b (sorted_first x xs up).1 h k e
+
+-- and those of one key
+pub one_key : (xs : List Stored) (a b : Stored) → IsDistinct same_key xs → Has xs a → Has xs b → same_key a b ≡ true → a ≡ b
+unfolding IsDistinct
+one_key [] a b d h k e = absurd h
+one_key (x ∷ xs) a b d (inl p) (inl q) e = sym p ∙ q
+one_key (x ∷ xs) a b d (inl p) (inr k) e =
+    let differ : same_key x b ≡ false = one_of_all (λ y. same_key x y ≡ false) xs b d.0 k in
+    let bad : false ≡ true = sym differ ∙ ap (λ y. same_key y b) p ∙ e in cc
+one_key (x ∷ xs) a b d (inr h) (inl q) e =
+    let differ : same_key x a ≡ false = one_of_all (λ y. same_key x y ≡ false) xs a d.0 h in
+    let bad : false ≡ true = sym differ ∙ stored_equiv.symm x a ∙ ap (same_key a) q ∙ e in cc
+one_key (x ∷ xs) a b d (inr h) (inr k) e = one_key xs a b d.1 h k e
+
+-- where one of a list has a key, that of the key is that of its place
+pub keyed_ties : (row r : Stored) (xs : List Stored) → IsStrictlySortedBy stored_order xs → IsDistinct same_key xs → Has xs r
+    → same_key row r ≡ true → (s : Stored) → Has xs s → eq_by_cmp stored_order r s ≡ same_key row s
+keyed_ties row r xs up d h is s k = by (same_key row s) refl
+  where
+    by : (b : Bool) → same_key row s ≡ b → eq_by_cmp stored_order r s ≡ same_key row s
+    by true e =
+        let one : r ≡ s = one_key xs r s d h k (sym (stored_equiv.congr row r s is) ∙ e) in
+        ap is_eq (ap (stored_order r) (sym one) ∙ itself r) ∙ sym e
+    by false e = at (stored_order r s) refl ∙ sym e
+      where
+        at : (o : Ordering) → stored_order r s ≡ o → is_eq (stored_order r s) ≡ false
+        at Less t = ap is_eq t
+        at Equal t =
+            let one : r ≡ s = one_place xs r s up h k t in
+            let bad : true ≡ false = sym is ∙ ap (same_key row) one ∙ e in cc
+        at Greater t = ap is_eq t
+
+-- ---- what is among the members that a filter leaves
+
+pub among_filter : (q : Stored → Bool) (xs : List Stored) → IsStrictlySortedBy stored_order xs → (s : Stored) → Has xs s
+    → is_among (filter q xs) s ≡ q s
+among_filter q [] up s h = absurd h
+among_filter q (x ∷ xs) up s (inl e) =
+    subst (λ y. is_among (filter q (x ∷ xs)) y ≡ q y) e (by (q x) refl)
+  where
+    by : (b : Bool) → q x ≡ b → is_among (filter q (x ∷ xs)) x ≡ q x
+    by true t =
+        ap (λ b. is_among (cond b (x ∷ filter q xs) (filter q xs)) x) t
+        ∙ ap (λ o. is_eq o || is_among (filter q xs) x) (itself x) ∙ sym t
+    by false t =
+        ap (λ b. is_among (cond b (x ∷ filter q xs) (filter q xs)) x) t
+        ∙ none_tied x (filter q xs) (all_filter (λ y. stored_order x y ≡ Less) q xs (sorted_first x xs up).0) ∙ sym t
+among_filter q (x ∷ xs) up s (inr h) =
+    let less : stored_order x s ≡ Less = one_of_all (λ y. stored_order x y ≡ Less) xs s (sorted_first x xs up).0 h in
+    by (q x) less (among_filter q xs (sorted_first x xs up).1 s h)
+  where
+    by : (b : Bool) → stored_order x s ≡ Less → is_among (filter q xs) s ≡ q s
+        → is_among (cond b (x ∷ filter q xs) (filter q xs)) s ≡ q s
+    by true less rest = ap (λ o. is_eq o || is_among (filter q xs) s) less ∙ rest
+    by false less rest = rest
+
+-- ---- what is put
+
+-- a member is put over itself
+pub put_itself : (r : Stored) (xs : List Stored) → IsStrictlySortedBy stored_order xs → Has xs r → put stored_order r xs ≡ xs
+put_itself r [] up h = absurd h
+put_itself r (x ∷ xs) up (inl e) =
+    subst (λ y. put stored_order y (x ∷ xs) ≡ x ∷ xs) e
+    (ap (λ o. (cond (is_lt o) (x ∷ filter (λ y. is_lt (stored_order y x)) xs) (filter (λ y. is_lt (stored_order y x)) xs))
+    ++ x ∷ (cond (is_gt o) (x ∷ filter (λ y. is_gt (stored_order y x)) xs) (filter (λ y. is_gt (stored_order y x)) xs))) (itself x)
+    ∙ put_below x xs (sorted_first x xs up).0)
+put_itself r (x ∷ xs) up (inr h) =
+    let less : stored_order x r ≡ Less = one_of_all (λ y. stored_order x y ≡ Less) xs r (sorted_first x xs up).0 h in
+    put_less Stored stored_order stored_total r x xs less ∙ ap (λ l. x ∷ l) (put_itself r xs (sorted_first x xs up).1 h)
+
+not_tied : (q : Stored → Bool) (row : Stored) (s : Stored) (o : Ordering) → stored_order s row ≡ o → is_eq o ≡ false
+    → (q s || eq_by_cmp stored_order row s) ≡ q s
+not_tied q row s o is apart = by (stored_order row s) refl
+  where
+    by : (p : Ordering) → stored_order row s ≡ p → (q s || is_eq (stored_order row s)) ≡ q s
+    by Less e = ap (λ c. q s || is_eq c) e ∙ or-false (q s)
+    by Equal e =
+        let bad : true ≡ false = sym (ap is_eq (stored_total.antisymm s row ∙ ap ordering_reverse e)) ∙ ap is_eq is ∙ apart in cc
+    by Greater e = ap (λ c. q s || is_eq c) e ∙ or-false (q s)
+
+below_tests : (row s : Stored) → is_lt (stored_order s row) ≡ true → is_eq (stored_order s row) ≡ false
+below_tests row s e = at (stored_order s row) e
+  where
+    at : (o : Ordering) → is_lt o ≡ true → is_eq o ≡ false
+    at Less t = refl
+    at Equal t = cc
+    at Greater t = refl
+
+above_tests : (row s : Stored) → is_gt (stored_order s row) ≡ true → is_eq (stored_order s row) ≡ false
+above_tests row s e = at (stored_order s row) e
+  where
+    at : (o : Ordering) → is_gt o ≡ true → is_eq o ≡ false
+    at Less t = refl
+    at Equal t = cc
+    at Greater t = refl
+
+module _ (q : Stored → Bool) (row : Stored) (xs : List Stored) where
+  abbrev lower : List Stored
+  lower = filter (λ y. is_lt (stored_order y row)) xs
+
+  abbrev upper : List Stored
+  upper = filter (λ y. is_gt (stored_order y row)) xs
+
+  abbrev q2 : Stored → Bool
+  q2 s = q s || eq_by_cmp stored_order row s
+
+  lower_alike : (s : Stored) → Has lower s → q2 s ≡ q s
+  lower_alike s h = not_tied q row s (stored_order s row) refl
+      (below_tests row s (filter_has (λ y. is_lt (stored_order y row)) xs s h).1)
+
+  upper_alike : (s : Stored) → Has upper s → q2 s ≡ q s
+  upper_alike s h = not_tied q row s (stored_order s row) refl
+      (above_tests row s (filter_has (λ y. is_gt (stored_order y row)) xs s h).1)
+
+  own : q2 row ≡ true
+  own = ap (λ o. q row || is_eq o) (itself row) ∙ or-true (q row)
+
+  -- those that pass, or are put
+  pub put_filtered : filter q2 (put stored_order row xs) ≡ put stored_order row (filter q xs)
+  put_filtered =
+      filter-append q2 lower (row ∷ upper)
+      ∙ ap (λ b. filter q2 lower ++ cond b (row ∷ filter q2 upper) (filter q2 upper)) own
+      ∙ ap (λ l. l ++ row ∷ filter q2 upper)
+      (filter_agrees q2 q lower lower_alike ∙ filter_turned q (λ y. is_lt (stored_order y row)) xs)
+      ∙ ap (λ l. filter (λ y. is_lt (stored_order y row)) (filter q xs) ++ row ∷ l)
+      (filter_agrees q2 q upper upper_alike ∙ filter_turned q (λ y. is_gt (stored_order y row)) xs)
+
+  -- those that neither pass nor are put
+  pub put_unfiltered : filter (λ s. not (q2 s)) (put stored_order row xs) ≡ filter (λ s. not (q s)) (lower ++ upper)
+  put_unfiltered =
+      filter-append (λ s. not (q2 s)) lower (row ∷ upper)
+      ∙ ap (λ b. filter (λ s. not (q2 s)) lower
+      ++ cond (not b) (row ∷ filter (λ s. not (q2 s)) upper) (filter (λ s. not (q2 s)) upper)) own
+      ∙ ap (λ l. l ++ filter (λ s. not (q2 s)) upper)
+      (filter_agrees (λ s. not (q2 s)) (λ s. not (q s)) lower (λ s h. ap not (lower_alike s h)))
+      ∙ ap (λ l. filter (λ s. not (q s)) lower ++ l)
+      (filter_agrees (λ s. not (q2 s)) (λ s. not (q s)) upper (λ s h. ap not (upper_alike s h)))
+      ∙ sym (filter-append (λ s. not (q s)) lower upper)
+
+-- where none ties, all are below or above
+pub parted : (row : Stored) (xs : List Stored) → IsStrictlySortedBy stored_order xs
+    → AllByRecursion (λ s. is_eq (stored_order s row) ≡ false) xs
+    → filter (λ y. is_lt (stored_order y row)) xs ++ filter (λ y. is_gt (stored_order y row)) xs ≡ xs
+parted row [] up apart = refl
+parted row (x ∷ xs) up apart = by (stored_order x row) refl (parted row xs (sorted_first x xs up).1 apart.1)
+  where
+    greater : stored_order x row ≡ Greater → (y : Stored) → stored_order x y ≡ Less → stored_order y row ≡ Greater
+    greater e y l = turned row y (stored_total.trans row x y (less_of_greater Stored stored_order stored_total x row e) l)
+
+    above : stored_order x row ≡ Greater → AllByRecursion (λ y. stored_order y row ≡ Greater) xs
+    above e = all_weaker (λ y. stored_order x y ≡ Less) (λ y. stored_order y row ≡ Greater) (λ y l. greater e y l) xs
+        (sorted_first x xs up).0
+
+    by : (o : Ordering) → stored_order x row ≡ o
+        → filter (λ y. is_lt (stored_order y row)) xs ++ filter (λ y. is_gt (stored_order y row)) xs ≡ xs
+        → filter (λ y. is_lt (stored_order y row)) (x ∷ xs) ++ filter (λ y. is_gt (stored_order y row)) (x ∷ xs) ≡ x ∷ xs
+    by Less e rest = rw e (ap (λ l. x ∷ l) rest)
+    by Equal e rest = let bad : true ≡ false = sym (ap is_eq e) ∙ apart.0 in cc
+    by Greater e rest =
+        rw e (
+        ap (λ l. l ++ x ∷ filter (λ y. is_gt (stored_order y row)) xs)
+        (filter_none (λ y. is_lt (stored_order y row)) xs (all_weaker (λ y. stored_order y row ≡ Greater)
+        (λ y. is_lt (stored_order y row) ≡ false) (λ y g. ap is_lt g) xs (above e)))
+        ∙ ap (λ l. x ∷ l)
+        (filter_all (λ y. is_gt (stored_order y row)) xs (all_weaker (λ y. stored_order y row ≡ Greater)
+        (λ y. is_gt (stored_order y row) ≡ true) (λ y g. ap is_gt g) xs (above e)))
+        )
+
+-- what passes, put on what does not, is all
+pub put_back : (q : Stored → Bool) (xs : List Stored) → IsStrictlySortedBy stored_order xs
+    → put_each (filter q xs) (filter (λ s. not (q s)) xs) ≡ xs
+put_back q [] up = refl
+put_back q (x ∷ xs) up =
+    let over = (sorted_first x xs up).0 in
+    by (q x) over (put_back q xs (sorted_first x xs up).1)
+  where
+    by : (b : Bool) → AllAbove x xs → put_each (filter q xs) (filter (λ s. not (q s)) xs) ≡ xs
+        → put_each (cond b (x ∷ filter q xs) (filter q xs)) (cond (not b) (x ∷ filter (λ s. not (q s)) xs) (filter (λ s. not (q s)) xs))
+        ≡ x ∷ xs
+    by true over rest =
+        ap (put_each (filter q xs)) (put_below x (filter (λ s. not (q s)) xs)
+        (all_filter (λ y. stored_order x y ≡ Less) (λ s. not (q s)) xs over))
+        ∙ put_past x (filter q xs) (filter (λ s. not (q s)) xs) (all_filter (λ y. stored_order x y ≡ Less) q xs over)
+        ∙ ap (λ l. x ∷ l) rest
+    by false over rest =
+        put_past x (filter q xs) (filter (λ s. not (q s)) xs) (all_filter (λ y. stored_order x y ≡ Less) q xs over)
+        ∙ ap (λ l. x ∷ l) rest
+
+-- ---- what two lists have beside what stays in both
+
+same_ties : (a b : Stored) → same_stored a b ≡ true → stored_order a b ≡ Equal
+same_ties a b e =
+    let parts = and_parts (bytes_eq (stored_bytes a) (stored_bytes b) && bytes_eq a.publisher b.publisher) (same_life a.life b.life) e in
+    let texts = and_parts (bytes_eq (stored_bytes a) (stored_bytes b)) (bytes_eq a.publisher b.publisher) parts.0 in
+    is_equal (stored_order a b) (is_eq-slice_cmp (stored_bytes a) (stored_bytes b) ∙ texts.0)
+
+module _ (xs ys xt yt : List Stored) (up : IsStrictlySortedBy stored_order xs) (left : xt ≡ filter (is_among xt) xs)
+    (right : yt ≡ filter (is_among yt) ys) (stays : without xt xs ≡ without yt ys) where
+  -- one that stays is in both
+  stayed : (s : Stored) → Has xs s → is_among xt s ≡ false → Has ys s
+  stayed s h e =
+      (filter_has (λ t. not (is_among yt t)) ys s
+      (subst (λ l. Has l s) stays (has_filter (λ t. not (is_among xt t)) xs s h (ap not e)))).0
+
+  came : (s t : Stored) → Has xs s → is_among xt s ≡ true → Has ys t → same_stored s t ≡ true → Has yt t
+  came s t h e k same = by (is_among yt t) refl
+    where
+      by : (b : Bool) → is_among yt t ≡ b → Has yt t
+      by true a = subst (λ l. Has l t) (sym right) (has_filter (is_among yt) ys t k a)
+      by false a =
+          let back = filter_has (λ u. not (is_among xt u)) xs t
+          (subst (λ l. Has l t) (sym stays) (has_filter (λ u. not (is_among yt u)) ys t k (ap not a))) in
+          let one : s ≡ t = one_place xs s t up h back.0 (same_ties s t same) in
+          let bad : not true ≡ true = ap not (sym e ∙ ap (is_among xt) one) ∙ back.1 in cc
+
+  found_either : (s : Stored) → Has xs s → is_among xt s ≡ true → list_any (same_stored s) ys ≡ list_any (same_stored s) yt
+  found_either s h e = by (list_any (same_stored s) yt) refl
+    where
+      by : (b : Bool) → list_any (same_stored s) yt ≡ b → list_any (same_stored s) ys ≡ list_any (same_stored s) yt
+      by true a =
+          let t = any_has (same_stored s) yt a in
+          has_any (same_stored s) ys t.0 (filter_has (is_among yt) ys t.0 (subst (λ l. Has l t.0) right t.1)).0 t.2 ∙ sym a
+      by false a = elim (cases_Bool (list_any (same_stored s) ys)) [
+        | inl b ↦
+            let t = any_has (same_stored s) ys b in
+            let bad : true ≡ false = sym (has_any (same_stored s) yt t.0 (came s t.0 h e t.1 t.2) t.2) ∙ a in cc
+        | inr b ↦ b ∙ sym a
+      ]
+
+  told_alike : (s : Stored) → Has xs s
+      → (is_among xt s && not (list_any (same_stored s) yt)) ≡ not (list_any (same_stored s) ys)
+  told_alike s h = by (is_among xt s) refl
+    where
+      by : (b : Bool) → is_among xt s ≡ b → (b && not (list_any (same_stored s) yt)) ≡ not (list_any (same_stored s) ys)
+      by true e = ap not (sym (found_either s h e))
+      by false e = sym (ap not (has_any (same_stored s) ys s (stayed s h e) (same_itself s)))
+
+  pub moved : difference xt yt ≡ difference xs ys
+  moved =
+      ap (λ l. difference l yt) left
+      ∙ filter_both (λ s. not (list_any (same_stored s) yt)) (is_among xt) xs
+      ∙ filter_agrees (λ s. is_among xt s && not (list_any (same_stored s) yt)) (λ s. not (list_any (same_stored s) ys)) xs told_alike

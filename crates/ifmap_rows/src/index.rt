@@ -1,0 +1,205 @@
+//! The index: rows in the order of the words of their keys.
+ghost use Rattle.std.specs.Prelude.{◌≡◌, ◌<◌, ◌≤◌, Contains, IfNone, IfOk, IfSome, vec_capacity, vec_len};
+ghost use Rattle.std.specs.List.{AllByRecursion};
+ghost use Rattle.std.specs.List.Sorted.{IsStrictlySortedBy};
+ghost use Rattle.ifmap_meta.specs.Keys.{HaveOneKey, word_of};
+ghost use Rattle.ifmap_plans.specs.Lists.{without};
+ghost use Rattle.ifmap_plans.specs.Placing.{put};
+ghost use Rattle.ifmap_view.specs.Attachments.{stored_order};
+ghost use Rattle.ifmap_rows.specs.Indexed.{IsJoined, without_one, word_order};
+ghost use Rattle.ifmap_rows.specs.Spots.{IsSpot};
+
+use crate::lists::is_among;
+use ifmap_plans::row_order;
+use ifmap_view::Row;
+use std::alloc::{AllocError as NoMemory, Global};
+use std::cmp::Ordering;
+use std::marker::Model;
+
+// A row with the word of its key. Contracts see what is stored.
+#[derive(Drop)]
+pub(crate) struct Worded {
+    word: u64,
+    row: Row,
+}
+
+impl Model for Worded {
+    ghost use Rattle.std.specs.Prelude.{◌≡◌};
+    ghost use Rattle.ifmap_meta.specs.contracts.stored.Stored as the_stored;
+    ghost use Rattle.ifmap_meta.specs.declared.stored.Stored.{Stored};
+    ghost use Rattle.ifmap_meta.specs.Keys.{word_of};
+
+    ghost Value = { Stored };
+
+    ghost coded = { the_stored.the_row.coded };
+
+    ghost view = { λ worded. worded.row };
+
+    ghost invariant = { λ worded. worded.word ≡ word_of worded.row };
+}
+
+impl Worded {
+    pub(crate) fn new(row: Row) -> Worded
+        ensures { result ≡ row }
+    {
+        Worded {
+            word: row_word(&row),
+            row,
+        }
+    }
+
+    // The same row once more. The one error is that it is shared too often.
+    fn share(&self) -> Result<Worded, NoMemory>
+        ensures { IfOk result (λ worded. worded ≡ self.now) }
+    {
+        Ok(Worded {
+            word: self.word,
+            row: self.row.share()?,
+        })
+    }
+
+    fn word(&self) -> u64
+        ensures { result ≡ word_of self.now }
+    {
+        self.word
+    }
+
+    fn row(&self) -> &Row
+        ensures { result.now ≡ self.now }
+    {
+        &self.row
+    }
+}
+
+// The word of the row's key.
+fn row_word(row: &Row) -> u64
+    ensures { result ≡ word_of row.now }
+{
+    row.stored().key_word()
+}
+
+// How two rows stand to each other in the index.
+fn word_order(one: &Worded, other: &Worded) -> Ordering
+    ensures { result ≡ word_order one.now other.now }
+{
+    match one.word().cmp(&other.word()) {
+        Ordering::Equal => row_order(one.row(), other.row()),
+        unequal => unequal,
+    }
+}
+
+// Where a row stands in the index, or would.
+fn find_spot(index: &[Worded], worded: &Worded) -> Result<usize, usize>
+    requires { IsStrictlySortedBy word_order index.now }
+    ensures { IsSpot word_order worded.now index.now result }
+{
+    index.binary_search_by(|other| word_order(other, worded))
+}
+
+// Takes a row out of the index.
+pub(crate) fn take_worded(index: &mut Vec<Worded>, worded: &Worded)
+    requires { IsStrictlySortedBy word_order index.old.items }
+    ensures rows { index.new.items ≡ without_one word_order worded.now index.old.items }
+    ensures rising { IsStrictlySortedBy word_order index.new.items }
+    ensures len { vec_len index.new ≤ vec_len index.old }
+    ensures capacity { vec_capacity index.new ≡ vec_capacity index.old }
+{
+    if let Ok(spot) = find_spot(index, worded) {
+        index.remove(spot);
+    }
+}
+
+// Puts a row in its place in the index, where there is room for one more.
+pub(crate) fn put_worded(index: &mut Vec<Worded>, worded: Worded)
+    requires rising { IsStrictlySortedBy word_order index.old.items }
+    requires room { vec_len index.old < vec_capacity index.old }
+    ensures { index.new.items ≡ put word_order worded index.old.items }
+{
+    match find_spot(index, &worded) {
+        Ok(spot) => index[spot] = worded,
+        Err(spot) => index.insert(spot, worded).unwrap(),
+    }
+}
+
+// Puts a row in its place in the index, where there is room for one more, and the one that it
+// replaces goes.
+pub(crate) fn exchange_worded(index: &mut Vec<Worded>, replaced: Option<Row>, row: Row)
+    requires rising { IsStrictlySortedBy word_order index.old.items }
+    requires room { vec_len index.old < vec_capacity index.old }
+    ensures replaced { IfSome replaced (λ replaced. index.new.items
+        ≡ put word_order row (without_one word_order replaced index.old.items)) }
+    ensures none { IfNone replaced (index.new.items ≡ put word_order row index.old.items) }
+{
+    match replaced {
+        Some(replaced) => {
+            take_worded(index, &Worded::new(replaced));
+            put_worded(index, Worded::new(row));
+        }
+        None => put_worded(index, Worded::new(row)),
+    }
+}
+
+// Takes out of the index the rows that have the canonical bytes of one of some that rise: the index
+// is gone over once.
+pub(crate) fn take_worded_rows(index: &mut Vec<Worded>, removed: &[Row])
+    requires { IsStrictlySortedBy stored_order removed.now }
+    ensures { index.new.items ≡ without removed.now index.old.items }
+{
+    index.retain(|worded| !is_among(removed, worded.row()));
+}
+
+// An index with rows that rise by their bytes, in place of those of the same bytes. The one error
+// is want of memory.
+pub(crate) fn join_index(index: Vec<Worded>, added: &[Row]) -> Result<Vec<Worded>, NoMemory>
+    requires rising { IsStrictlySortedBy word_order index.items }
+    requires added { IsStrictlySortedBy stored_order added.now }
+    ensures { IfOk result (λ joined. IsJoined index.items added.now joined.items) }
+{
+    let mut joined = index;
+    let mut more = word_rows(*joined.allocator(), added)?;
+    take_worded_rows(&mut joined, added);
+    joined.append(&mut more)?;
+    joined.sort_by(|one, other| word_order(one, other))?;
+    Ok(joined)
+}
+
+// Rows with the words of their keys. The one error is want of memory.
+fn word_rows(alloc: Global, rows: &[Row]) -> Result<Vec<Worded>, NoMemory>
+    ensures { IfOk result (λ worded. worded.items ≡ rows.now) }
+{
+    let mut worded = Vec::with_capacity(alloc, rows.len())?;
+    for row in rows {
+        worded.push(Worded::new(row.share()?))?;
+    }
+    Ok(worded)
+}
+
+// The same index once more. The one error is want of memory.
+pub(crate) fn share_index(alloc: Global, index: &[Worded]) -> Result<Vec<Worded>, NoMemory>
+    ensures { IfOk result (λ shared. shared.items ≡ index.now) }
+{
+    let mut shared = Vec::with_capacity(alloc, index.len())?;
+    for worded in index {
+        shared.push(worded.share()?)?;
+    }
+    Ok(shared)
+}
+
+// The row in the index that has the key of this one: the first of those with its word is found by
+// halving.
+pub(crate) fn find_keyed<'a>(index: &'a [Worded], row: &Row) -> Option<&'a Row>
+    requires { IsStrictlySortedBy word_order index.now }
+    ensures found { IfSome result (λ found.
+        Contains index.now found.now × HaveOneKey row.now found.now) }
+    ensures none { IfNone result (AllByRecursion (λ s. HaveOneKey row.now s → ⊥) index.now) }
+{
+    let word = row_word(row);
+    let mut place = index.partition_point(|other| other.word() < word);
+    while place < index.len() && index[place].word() == word {
+        if row.stored().same_key(index[place].row().stored()) {
+            return Some(index[place].row());
+        }
+        place += 1;
+    }
+    None
+}

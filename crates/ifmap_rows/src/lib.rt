@@ -1,0 +1,11 @@
+//! What is stored on one item, in its order and with an index by key: it is changed in place, and
+//! what has a key is found without going along the rows.
+#![tactic(auto)]
+
+mod index;
+pub mod keyed;
+mod lists;
+pub mod rows;
+
+pub use keyed::Keyed;
+pub use rows::Rows;

@@ -1,0 +1,41 @@
+//! Rows go and come, few and many at once.
+use crate::makers::{numbered_rows, rows_of};
+use ifmap_plans::row_order;
+use ifmap_rows::Rows;
+use ifmap_view::Row;
+use std::alloc::Global;
+use std::test::Fail;
+
+// Whether rows are these, and each is found by its key.
+fn are_these(rows: &Rows, wanted: &[Row]) -> bool {
+    rows.as_slice().len() == wanted.len()
+        && rows.as_slice().iter().zip(wanted).all(|(row, wanted)| row_order(row, wanted).is_eq()
+            && rows.row_with_key(row).is_some())
+}
+
+// Every fourth of so many rows goes, and then every second is put, of which half are there.
+fn changes_well(alloc: Global, count: u32) -> Option<bool> {
+    let all = numbered_rows(alloc, count, 1)?;
+    let mut rows = rows_of(alloc, &all).ok()?;
+    let before = rows.share(alloc).ok()?;
+    let removed = numbered_rows(alloc, count, 4)?;
+    rows.carry_out(&removed, &[]).ok()?;
+    let left = rows.as_slice().len() + removed.len() == all.len();
+    let gone = removed.iter().all(|row| rows.row_with_key(row).is_none());
+    rows.carry_out(&[], &numbered_rows(alloc, count, 2)?).ok()?;
+    Some(
+        left && gone
+            && are_these(&before, &all)
+            && are_these(&rows, &all)
+            && rows.room() >= all.len(),
+    )
+}
+
+#[test]
+fn rows_go_and_come(rt: HostRuntime) -> Result<(), Fail> {
+    let alloc = rt.alloc();
+    for count in [0, 1, 40, 2400] {
+        assert!(rt; changes_well(alloc, count) == Some(true), "{count}");
+    }
+    Ok(())
+}
