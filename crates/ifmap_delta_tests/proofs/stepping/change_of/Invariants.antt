@@ -1,0 +1,4 @@
+use Rattle.ifmap_delta_tests.proofs.stepping.change_of.Given as goal
+
+abbrev pub ghosts-change_with : goal.ghosts-change_with
+ghosts-change_with a = record { name = a.blank.name; parts = a.blank.parts }
